@@ -1,0 +1,4 @@
+pub mod OctetLemmas
+pub mod Rows
+pub mod Pieces
+pub mod Behinds

@@ -1,0 +1,37 @@
+-- Parts of octets are octets, and so are octets joined.
+use Rattle.std.proofs.Common.{◌≡◌, ℕ, suc, ◌+◌, ◌-◌, ◌<◌, ◌≤◌, List, [], ◌∷◌, ◌++◌, length, get_or, take, drop, refl, arith, inl, inr}
+use Rattle.std.proofs.lemmas.Bool.{cases_lt}
+use Rattle.std.proofs.lemmas.List.{length-take, get_or-drop, get_or-take, get_or_past, get_or_append_left, get_or-append_right, get_or-append-add}
+use Rattle.bgp_wire.specs.Octets.{AreOctets}
+
+pub AreOctets-nil : AreOctets []
+AreOctets-nil i = omega arith
+
+pub AreOctets-drop : (n : ℕ) (b : List ℕ) → AreOctets b → AreOctets (drop n b)
+AreOctets-drop n b h i = rw get_or-drop (h (n + i))
+
+pub AreOctets-take : (n : ℕ) (b : List ℕ) → AreOctets b → AreOctets (take n b)
+AreOctets-take n b h i =
+    elim (cases_lt i n) [
+      | inl lt ↦ rw (get_or-take n b i 0 lt) (h i)
+      | inr le ↦ rw (get_or_past (take n b) i 0 (omega (arith, length-take n b))) (omega arith)
+    ]
+
+pub AreOctets-append : (a b : List ℕ) → AreOctets a → AreOctets b → AreOctets (a ++ b)
+AreOctets-append a b p q i =
+    elim (cases_lt i (length a)) [
+      | inl lt ↦ rw (get_or_append_left a b 0 i lt) (p i)
+      | inr le ↦ rw (get_or-append_right a b (length a) i 0 refl le) (q (i - length a))
+    ]
+
+pub AreOctets-front : (a b : List ℕ) → AreOctets (a ++ b) → AreOctets a
+AreOctets-front a b h i =
+    elim (cases_lt i (length a)) [
+      | inl lt ↦ rw (get_or_append_left a b 0 i lt) at (h i)
+      | inr le ↦ rw (get_or_past a i 0 le) (omega arith)
+    ]
+
+pub AreOctets-back : (a b : List ℕ) → AreOctets (a ++ b) → AreOctets b
+AreOctets-back a b h i =
+    let at : get_or (a ++ b) (length a + i) 0 < 256 = h (length a + i) in
+    rw (get_or-append-add a b i 0) at at

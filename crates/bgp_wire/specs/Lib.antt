@@ -1,0 +1,5 @@
+-- What any format of octets is told in: rows of spellings, and readers of them.
+pub mod Octets
+pub mod Row
+pub mod Reader
+pub mod Behind
