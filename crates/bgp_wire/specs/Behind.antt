@@ -1,5 +1,5 @@
 -- A row that stands behind its length in octets, or behind its count of values, and the readers of both.
-use Rattle.std.specs.Prelude.{◌≡◌, ◌==◌, ℕ, List, [], ◌∷◌, ◌++◌, length, take, drop, Option, None, Some, nat_le, if◌then◌else◌}
+use Rattle.std.specs.Prelude.{◌≡◌, ◌==◌, ℕ, List, [], ◌∷◌, length, take, drop, Option, None, Some, nat_le, if◌then◌else◌}
 use Rattle.bgp_wire.specs.Row.{Row}
 use Rattle.bgp_wire.specs.Reader.{pieces, pieces_within}
 

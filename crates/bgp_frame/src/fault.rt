@@ -1,0 +1,30 @@
+//! Faults of a header.
+
+use crate::notification::Notification;
+
+/// Why a header begins no message, by the first test that fails (RFC 4271, section 6.1).
+#[derive(Clone, Copy, Debug, PartialEq, Eq)]
+pub enum HeadFault {
+    /// An octet of the Marker isn't 255.
+    Marker,
+    /// The Length is out of bounds, or not allowed for the type.
+    Length(u16),
+    /// No message has this type.
+    Kind(u8),
+}
+
+impl HeadFault {
+    ghost use Rattle.std.specs.Prelude.{◌≡◌};
+    ghost use Rattle.bgp_frame.specs.Head.{notification_of};
+
+    /// The answer to the fault: code 1 (Message Header Error), the subcode, and as information the field that is at fault.
+    pub fn notification(self) -> Notification
+        ensures { result ≡ notification_of self }
+    {
+        match self {
+            HeadFault::Marker => Notification::new(1, 1, &[]),
+            HeadFault::Length(length) => Notification::new(1, 2, &length.to_be_bytes()),
+            HeadFault::Kind(code) => Notification::new(1, 3, &[code]),
+        }
+    }
+}

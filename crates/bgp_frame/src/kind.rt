@@ -1,0 +1,57 @@
+//! The kinds of message.
+
+/// What a message is, by the octet of its type (RFC 4271, section 4.1).
+#[derive(Clone, Copy, Debug, PartialEq, Eq, Hash)]
+pub enum Kind {
+    Open = 1,
+    Update = 2,
+    Notification = 3,
+    Keepalive = 4,
+}
+
+impl Kind {
+    ghost use Rattle.std.specs.Prelude.{◌≡◌};
+    ghost use Rattle.bgp_frame.specs.Kind.{code_of, kind_of, least_length, most_length};
+
+    /// The kind of a type octet, if there is one.
+    pub(crate) fn from_code(code: u8) -> Option<Kind>
+        ensures { result ≡ kind_of code }
+    {
+        match code {
+            1 => Some(Kind::Open),
+            2 => Some(Kind::Update),
+            3 => Some(Kind::Notification),
+            4 => Some(Kind::Keepalive),
+            _ => None,
+        }
+    }
+
+    /// The type octet.
+    pub(crate) fn code(self) -> u8
+        ensures { result ≡ code_of self }
+    {
+        self as u8
+    }
+
+    /// The least octets of a whole message of this kind.
+    pub(crate) fn least_length(self) -> u16
+        ensures { result ≡ least_length self }
+    {
+        match self {
+            Kind::Open => 29,
+            Kind::Update => 23,
+            Kind::Notification => 21,
+            Kind::Keepalive => 19,
+        }
+    }
+
+    /// The most octets of a whole message of this kind.
+    pub(crate) fn most_length(self) -> u16
+        ensures { result ≡ most_length self }
+    {
+        match self {
+            Kind::Keepalive => 19,
+            Kind::Open | Kind::Update | Kind::Notification => 4096,
+        }
+    }
+}
