@@ -1,1 +1,6 @@
 pub mod Headers
+pub mod HeadLemmas
+pub mod FrameLemmas
+pub mod Feeding
+pub mod Holding
+pub mod Streams

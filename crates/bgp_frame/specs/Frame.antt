@@ -3,7 +3,8 @@ use Rattle.std.specs.Prelude.{◌≡◌, ℕ, ◌+◌, ◌<◌, ◌⊎◌, List,
 use Rattle.bgp_frame.specs.declared.kind.Kind.{Kind}
 use Rattle.bgp_frame.specs.declared.fault.HeadFault.{HeadFault}
 use Rattle.bgp_frame.specs.Kind.{IsLength}
-use Rattle.bgp_frame.specs.Head.{Head, header, head_of}
+use Rattle.bgp_frame.specs.declared.header.Header.{Header}
+use Rattle.bgp_frame.specs.Head.{header, head_of}
 
 -- a message before its body is judged
 pub record Message : Type 0 where
@@ -27,7 +28,7 @@ abbrev pub IsFaulty : List ℕ → Type 0
 IsFaulty b = (length b ≡ 19) × ((f : HeadFault) × (head_of b ≡ Err f))
 
 -- how many octets are wanted where these are held: 19 for a header, and no more where it has a fault, else as its Length says
-abbrev pub wanted_by : Result Head HeadFault → ℕ
+abbrev pub wanted_by : Result Header HeadFault → ℕ
 wanted_by (Ok head) = head.len
 wanted_by (Err f) = 19
 

@@ -1,24 +1,24 @@
 -- A header of 19 octets: what it says, or its first fault (RFC 4271, sections 4.1 and 6.1).
-use Rattle.std.specs.Prelude.{ℕ, Bool, not, ◌||◌, ◌==◌, nat_lt, List, [], ◌∷◌, ◌++◌, take, replicate, slice_index, Option, None, Some, Result, Ok, Err, if◌then◌else◌}
-use Rattle.std.specs.List.{list_all}
+use Rattle.std.specs.Prelude.{ℕ, Bool, not, ◌||◌, nat_eq, nat_lt, List, [], ◌∷◌, ◌++◌, replicate, slice_index, Option, None, Some, Result, Ok, Err, if◌then◌else◌}
+use Rattle.std.specs.List.{starts_with}
 use Rattle.std.specs.Int.{w16, to_be_bytes, from_be_bytes}
 use Rattle.bgp_frame.specs.declared.kind.Kind.{Kind}
+use Rattle.bgp_frame.specs.declared.header.Header.{Header}
 use Rattle.bgp_frame.specs.declared.fault.HeadFault.{HeadFault}
 use Rattle.bgp_frame.specs.declared.fault.HeadFault.TheVariants as fault
 use Rattle.bgp_frame.specs.declared.notification.Notification.{Notification}
 use Rattle.bgp_frame.specs.Kind.{code_of, kind_of, is_length}
 
+-- sixteen octets 255
+abbrev pub marker : List ℕ
+marker = replicate 16 255
+
 -- the header of a message of n octets: the Marker, the Length and the Type
 abbrev pub header : Kind → ℕ → List ℕ
-header kind n = replicate 16 255 ++ (to_be_bytes w16 n ++ (code_of kind ∷ []))
-
--- what a header without fault says
-pub record Head : Type 0 where
-  pub kind : Kind
-  pub len : ℕ
+header kind n = marker ++ (to_be_bytes w16 n ++ (code_of kind ∷ []))
 
 abbrev pub has_marker : List ℕ → Bool
-has_marker h = list_all (λ octet. octet == 255) (take 16 h)
+has_marker h = starts_with nat_eq h marker
 
 abbrev pub length_field : List ℕ → ℕ
 length_field h = from_be_bytes w16 (slice_index h 16 ∷ slice_index h 17 ∷ [])
@@ -27,12 +27,12 @@ abbrev pub type_field : List ℕ → ℕ
 type_field h = slice_index h 18
 
 -- the tests that need the kind: that there is one, and that it may be so long
-abbrev pub head_for : Option Kind → ℕ → ℕ → Result Head HeadFault
+abbrev pub head_for : Option Kind → ℕ → ℕ → Result Header HeadFault
 head_for None code len = Err (fault.Kind code)
 head_for (Some kind) code len = if is_length kind len then Ok (record { kind = kind; len = len }) else Err (fault.Length len)
 
 -- the first 19 octets, by the tests in their order
-unfoldable pub head_of : List ℕ → Result Head HeadFault
+unfoldable pub head_of : List ℕ → Result Header HeadFault
 head_of h =
     if not (has_marker h) then Err fault.Marker else (
     if nat_lt (length_field h) 19 || nat_lt 4096 (length_field h) then Err (fault.Length (length_field h)) else

@@ -2,3 +2,7 @@
 pub mod Kind
 pub mod Head
 pub mod Frame
+pub mod Takes
+pub mod Framer
+pub mod Step
+pub mod Stream

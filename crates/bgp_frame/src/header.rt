@@ -1,11 +1,24 @@
-//! Headers.
+//! Headers: made, and read.
 
-ghost use Rattle.std.specs.Prelude.{◌≡◌, ◌+◌, ◌++◌, List, ℕ, length};
+ghost use Rattle.std.specs.Prelude.{◌≡◌, ◌+◌, ◌≤◌, ◌++◌, List, ℕ, length};
 ghost use Rattle.bgp_frame.specs.Kind.{IsLength};
-ghost use Rattle.bgp_frame.specs.Head.{header};
-ghost use Rattle.bgp_frame.specs.Frame.{IsFrame};
+ghost use Rattle.bgp_frame.specs.Head.{header, head_of};
+ghost use Rattle.bgp_frame.specs.Frame.{IsFrame, wanted};
 
+use crate::fault::HeadFault;
 use crate::kind::Kind;
+
+/// The octets of a header.
+pub(crate) const HEADER_LEN: usize = 19;
+
+const MARKER: [u8; 16] = [255; 16];
+
+/// What a header without fault says: the kind, and the octets of the whole message.
+#[derive(Clone, Copy)]
+pub(crate) struct Header {
+    pub(crate) kind: Kind,
+    pub(crate) len: u16,
+}
 
 /// The header of a message of this kind with a body of so many octets (RFC 4271, section 4.1).
 ///
@@ -22,4 +35,41 @@ pub fn head(kind: Kind, body_len: u16) -> [u8; 19]
     octets[17] = low;
     octets[18] = kind.code();
     octets
+}
+
+/// What the 19 octets at the front say, or the first fault in the order of RFC 4271, section 6.1.
+#[tactic(auto, unfolding(crate::specs::Head::head_of))]
+pub(crate) fn read_head(octets: &[u8]) -> Result<Header, HeadFault>
+    requires { 19 ≤ length octets.now }
+    ensures { result ≡ head_of octets.now }
+{
+    if !octets.starts_with(&MARKER) {
+        return Err(HeadFault::Marker);
+    }
+    let len = u16::from_be_bytes([octets[16], octets[17]]);
+    if len < 19 || len > 4096 {
+        return Err(HeadFault::Length(len));
+    }
+    let code = octets[18];
+    match Kind::from_code(code) {
+        None => Err(HeadFault::Kind(code)),
+        Some(kind) if len < kind.least_length() || len > kind.most_length() => {
+            Err(HeadFault::Length(len))
+        }
+        Some(kind) => Ok(Header { kind, len }),
+    }
+}
+
+/// How many octets are wanted where these are held: a header, and then its message unless it has a fault.
+#[tactic(auto, unfolding(crate::specs::Frame::wanted))]
+pub(crate) fn wanted(octets: &[u8]) -> usize
+    ensures { result ≡ wanted octets.now }
+{
+    if octets.len() < HEADER_LEN {
+        return HEADER_LEN;
+    }
+    match read_head(octets) {
+        Ok(head) => head.len as usize,
+        Err(_) => HEADER_LEN,
+    }
 }

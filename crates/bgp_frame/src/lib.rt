@@ -3,12 +3,20 @@
 
 mod end;
 mod fault;
+mod framer;
 mod header;
 mod kind;
+pub mod laws;
 mod notification;
+mod step;
 
 pub use end::End;
 pub use fault::HeadFault;
+pub use framer::Framer;
 pub use header::head;
 pub use kind::Kind;
 pub use notification::Notification;
+pub use step::{Frame, Step};
+
+#[cfg(test)]
+mod tests;

@@ -1,0 +1,5 @@
+-- IPv4 and IPv6 prefixes, and runs of them.
+pub mod Bits
+pub mod Prefix
+pub mod Run
+pub mod PrefixIter

@@ -1,2 +1,16 @@
-//! To be built.
+//! IPv4 and IPv6 prefixes, and runs of them (RFC 4271, section 4.3; RFC 4760, section 5).
 #![tactic(auto)]
+
+mod as_number;
+mod bits;
+mod fault;
+mod front;
+mod iter;
+mod prefix;
+mod run;
+
+pub use as_number::{AS_TRANS, AsNumber};
+pub use fault::RunFault;
+pub use iter::{PrefixIter, PrefixIter4, PrefixIter6};
+pub use prefix::{Prefix, Prefix4, Prefix6};
+pub use run::{check_run4, check_run6, read_run4, read_run6, write_run4, write_run6};

@@ -6,3 +6,6 @@ mod list;
 
 pub use copy::TryCopy;
 pub use list::List;
+
+#[cfg(test)]
+mod tests;

@@ -1,0 +1,5 @@
+use Rattle.bgp_frame.proofs.Streams.{IsFrame-prefix_free}
+use Rattle.bgp_frame.proofs.laws.frames_are_prefix_free.Goals as goal
+
+pub returns : goal.returns
+returns c = IsFrame-prefix_free

@@ -1,0 +1,5 @@
+use Rattle.bgp_frame.proofs.FrameLemmas.{header_iff}
+use Rattle.bgp_frame.proofs.laws.headers_begin_messages.Goals as goal
+
+pub returns : goal.returns
+returns c = header_iff

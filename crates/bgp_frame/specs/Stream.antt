@@ -1,0 +1,72 @@
+-- A stream of octets, what its messages come to, and how it ends (RFC 4271, sections 4.1 and 6).
+use Rattle.std.specs.Prelude.{◌≡◌, ℕ, ◌≤◌, Bool, true, false, List, [], ◌∷◌, ◌++◌, length, map, Result, Ok, Err}
+use Rattle.std.specs.List.{AllByRecursion}
+use Rattle.bgp_wire.specs.Row.{Row}
+use Rattle.bgp_frame.specs.declared.end.End.{End}
+use Rattle.bgp_frame.specs.declared.end.End.TheVariants as end
+use Rattle.bgp_frame.specs.declared.fault.HeadFault.{HeadFault}
+use Rattle.bgp_frame.specs.Head.{head_of}
+use Rattle.bgp_frame.specs.Frame.{Message, octets_of, IsFrame, Waits}
+
+-- how messages and faults are judged: what comes of each, and which of them ends the stream
+pub record Judgement (Outcome : Type 0) : Type 0 where
+  pub of_message : Message → Outcome
+  pub of_fault : HeadFault → Outcome
+  pub resets : Outcome → Bool
+
+module _ {Outcome : Type 0} (judgement : Judgement Outcome) where
+  -- a message's octets in number, and what comes of it
+  abbrev pub outcome_of : Message → ℕ × Outcome
+  outcome_of m = (length (octets_of m), judgement.of_message m)
+
+  -- the stream goes on behind the message
+  abbrev pub GoesOn : Message → Type 0
+  GoesOn m = judgement.resets (judgement.of_message m) ≡ false
+
+  -- all of the messages let the stream go on, but for the last
+  pub record EndsAtReset (messages : List Message) : Type 0 where
+    pub earlier : List Message
+    pub last : Message
+    pub in_order : messages ≡ earlier ++ last ∷ []
+    pub go_on : AllByRecursion GoesOn earlier
+    pub reset : judgement.resets (judgement.of_message last) ≡ true
+
+  -- all of the messages let the stream go on, and the header behind them has a fault
+  pub record EndsAtHead (messages : List Message) (rest : List ℕ) (outcomes : List (ℕ × Outcome)) : Type 0 where
+    pub go_on : AllByRecursion GoesOn messages
+    pub has_header : 19 ≤ length rest
+    pub fault : HeadFault
+    pub faulty : head_of rest ≡ Err fault
+    pub told : outcomes ≡ map outcome_of messages ++ (0, judgement.of_fault fault) ∷ []
+
+  -- all of the messages let the stream go on, and n octets behind them wait for the rest of theirs
+  pub record EndsWaiting (messages : List Message) (rest : List ℕ) (outcomes : List (ℕ × Outcome)) (n : ℕ) : Type 0 where
+    pub go_on : AllByRecursion GoesOn messages
+    pub waits : Waits rest
+    pub count : n ≡ length rest
+    pub told : outcomes ≡ map outcome_of messages
+
+  abbrev pub EndsBy : List Message → List ℕ → List (ℕ × Outcome) → End → Type 0
+  EndsBy messages rest outcomes end.Reset = EndsAtReset messages × (outcomes ≡ map outcome_of messages)
+  EndsBy messages rest outcomes end.Head = EndsAtHead messages rest outcomes
+  EndsBy messages rest outcomes (end.Wait n) = EndsWaiting messages rest outcomes n
+
+  -- the stream is messages and a rest: these come of it, and so it ends
+  pub record Gives (stream : List ℕ) (outcomes : List (ℕ × Outcome)) (end_of : End) : Type 0 where
+    pub messages : List Message
+    pub row : List ℕ
+    pub rest : List ℕ
+    pub whole : stream ≡ row ++ rest
+    pub frames : Row IsFrame messages row
+    pub ends : EndsBy messages rest outcomes end_of
+
+  -- one list of outcomes and one end are the stream's, and no others
+  pub record HasOneReading (stream : List ℕ) : Type 0 where
+    pub outcomes : List (ℕ × Outcome)
+    pub end_of : End
+    pub gives : Gives stream outcomes end_of
+    pub only : (others : List (ℕ × Outcome)) (other : End) → Gives stream others other → (others ≡ outcomes) × (other ≡ end_of)
+
+-- the judgement that hands on each message and each fault as it is: what comes of them by another judgement is a function of it
+abbrev pub as_it_is : (Result Message HeadFault → Bool) → Judgement (Result Message HeadFault)
+as_it_is resets = record { of_message = λ m. Ok m; of_fault = λ f. Err f; resets = resets }

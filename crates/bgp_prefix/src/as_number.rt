@@ -1,0 +1,17 @@
+//! Numbers of autonomous systems.
+
+use bgp_wire::TryCopy;
+use std::alloc::{AllocError, Global};
+
+/// The number of an autonomous system, of four octets (RFC 6793).
+#[derive(Clone, Copy, Debug, PartialEq, Eq, PartialOrd, Ord)]
+pub struct AsNumber(pub u32);
+
+/// What stands for a number above 65535 where there are only two octets for it (RFC 6793, section 9).
+pub const AS_TRANS: AsNumber = AsNumber(23456);
+
+impl TryCopy for AsNumber {
+    fn try_copy(&self, _alloc: Global) -> Result<AsNumber, AllocError> {
+        Ok(*self)
+    }
+}

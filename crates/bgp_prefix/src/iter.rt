@@ -1,0 +1,61 @@
+//! The prefixes of octets, one after another.
+
+use crate::front::{cut_front, skip_run};
+use crate::prefix::Prefix;
+use std::iter::FusedIterator;
+
+/// The prefixes that octets begin with, up to the end or the first fault. It takes no memory.
+#[derive(Clone, Copy, Debug)]
+pub struct PrefixIter<'a, const W: usize> {
+    rest: &'a [u8],
+}
+
+/// The IPv4 prefixes of octets.
+pub type PrefixIter4<'a> = PrefixIter<'a, 4>;
+
+/// The IPv6 prefixes of octets.
+pub type PrefixIter6<'a> = PrefixIter<'a, 16>;
+
+impl<'a, const W: usize> PrefixIter<'a, W> {
+    ghost use Rattle.std.specs.Prelude.{◌≡◌, length};
+    ghost use Rattle.bgp_prefix.specs.Run.{run_of};
+    ghost use Rattle.bgp_prefix.specs.PrefixIter.{prefixes_left};
+
+    /// The prefixes of these octets.
+    pub fn new(octets: &'a [u8]) -> PrefixIter<'a, W>
+        ensures { prefixes_left result ≡ (run_of W octets.now).0 }
+    {
+        PrefixIter { rest: octets }
+    }
+
+    /// How many prefixes are still to come.
+    pub fn left(&self) -> usize
+        ensures { result ≡ length (prefixes_left self.now) }
+    {
+        skip_run::<W>(self.rest).0
+    }
+}
+
+impl<'a, const W: usize> Iterator for PrefixIter<'a, W> {
+    ghost use Rattle.std.specs.Iterator.{YieldsFirst, item_count};
+    ghost use Rattle.bgp_prefix.specs.PrefixIter.{prefixes_left};
+
+    type Item = Prefix<W>;
+
+    ghost next_gives = { YieldsFirst prefixes_left };
+
+    ghost remaining = { item_count prefixes_left };
+
+    fn next(&mut self) -> Option<Prefix<W>> {
+        let front = cut_front::<W>(self.rest)?;
+        self.rest = front.after;
+        Some(Prefix::from_front(front))
+    }
+
+    /// Each prefix takes at least its length octet.
+    fn size_hint(&self) -> (usize, Option<usize>) {
+        (0, Some(self.rest.len()))
+    }
+}
+
+impl<'a, const W: usize> FusedIterator for PrefixIter<'a, W> {}

@@ -1,0 +1,95 @@
+//! A prefix: the first bits of the addresses that it stands for.
+
+ghost use Rattle.std.specs.Prelude.{◌≡◌, ℕ, ◌≤◌, ◌*◌, ◌↔◌, List, ◌++◌, IsSome, IfSome, OnOk, OnErr, length};
+ghost use Rattle.bgp_prefix.specs.Bits.{octets_for, HasNoBitPast};
+ghost use Rattle.bgp_prefix.specs.Prefix.{IsValid, prefix_of, spelling_of};
+
+use crate::bits::{address, is_allowed, is_clear, octets_for};
+use crate::front::Front;
+use bgp_wire::TryCopy;
+use std::alloc::{AllocError, Global};
+use std::marker::Model;
+
+/// The first `len` bits of addresses of `W` octets.
+#[derive(Clone, Copy, Debug, PartialEq, Eq, PartialOrd, Ord)]
+pub struct Prefix<const W: usize> {
+    addr: [u8; W],
+    len: u8,
+}
+
+/// An IPv4 prefix.
+pub type Prefix4 = Prefix<4>;
+
+/// An IPv6 prefix.
+pub type Prefix6 = Prefix<16>;
+
+impl<const W: usize> Model for Prefix<W> {
+    ghost use Rattle.bgp_prefix.specs.Prefix.{PrefixValue, IsValid};
+
+    ghost Value = { PrefixValue };
+
+    ghost view = { λ p. record { len = p.len; addr = p.addr } };
+
+    ghost invariant = { λ p. IsValid W (record { len = p.len; addr = p.addr }) };
+
+    ghost inverse = { λ p. record { addr = p.addr; len = p.len } };
+}
+
+impl<const W: usize> Prefix<W> {
+    /// The prefix of an address, of which it has the first `len` bits. None where the address hasn't as many, or a bit
+    /// past them is set.
+    pub fn new(len: u8, addr: [u8; W]) -> Option<Prefix<W>>
+        ensures made { IsSome result ↔ (len ≤ 8 * W) × HasNoBitPast len addr.entry }
+        ensures value { IfSome result (λ p. p ≡ record { len = len; addr = addr.entry }) }
+    {
+        if is_allowed::<W>(len) && is_clear(len, &addr) {
+            Some(Prefix { addr, len })
+        } else {
+            None
+        }
+    }
+
+    /// The length in bits: at most 32 for IPv4, and 128 for IPv6.
+    pub fn len(&self) -> u8
+        ensures { result ≡ self.now.len }
+    {
+        self.len
+    }
+
+    /// The address, highest octet first. Its bits past the length are 0.
+    pub fn addr(&self) -> [u8; W]
+        ensures { result ≡ self.now.addr }
+    {
+        self.addr
+    }
+
+    /// The prefix that the front of octets stands for. Bits past the length are ignored.
+    pub(crate) fn from_front(front: Front<'_>) -> Prefix<W>
+        requires allowed { front.len ≤ 8 * W }
+        requires held { length front.read.now ≡ octets_for front.len }
+        ensures { result ≡ prefix_of W front.entry.len front.entry.read.now }
+    {
+        let Front { len, read, .. } = front;
+        let addr = address(len, read);
+        Prefix { addr, len }
+    }
+
+    /// Adds the octets of the prefix, with 0 for each bit past the length.
+    #[tactic(auto, unfolding(crate::specs::Prefix::spelling_of))]
+    pub(crate) fn append_to(&self, out: &mut Vec<u8>) -> Result<(), AllocError>
+        ensures ok { OnOk result (out.new.items ≡ out.old.items ++ spelling_of self.now) }
+        ensures valid { IsValid W self.now }
+        ensures err { OnErr result ((more : List ℕ) × (out.new.items ≡ out.old.items ++ more)) }
+    {
+        let held = octets_for(self.len);
+        out.push(self.len)?;
+        out.extend_from_slice(&self.addr[..held])?;
+        Ok(())
+    }
+}
+
+impl<const W: usize> TryCopy for Prefix<W> {
+    fn try_copy(&self, _alloc: Global) -> Result<Prefix<W>, AllocError> {
+        Ok(*self)
+    }
+}

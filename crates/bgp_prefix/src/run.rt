@@ -1,0 +1,129 @@
+//! Runs: octets that are prefixes one after another, with nothing between or behind them.
+
+ghost use Rattle.std.specs.Prelude.{◌≡◌, ◌↔◌, ℕ, List, [], ◌++◌, IsTrue, OnOk, OnErr};
+ghost use Rattle.std.specs.List.{flat_map};
+ghost use Rattle.bgp_wire.specs.Row.{Row};
+ghost use Rattle.bgp_prefix.specs.Prefix.{IsPrefix, spelling_of};
+ghost use Rattle.bgp_prefix.specs.Run.{run_of, fault_at, Reading};
+
+use crate::bits::is_allowed;
+use crate::fault::RunFault;
+use crate::front::{cut_front, skip_run};
+use crate::prefix::{Prefix, Prefix4, Prefix6};
+use bgp_wire::List;
+use std::alloc::{AllocError, Global};
+
+/// Whether octets are a run of IPv4 prefixes. It takes no memory.
+pub fn check_run4(octets: &[u8]) -> bool
+    ensures { IsTrue result ↔ ((run_of 4 octets.now).1 ≡ []) }
+{
+    check_run::<4>(octets)
+}
+
+/// Whether octets are a run of IPv6 prefixes. It takes no memory.
+pub fn check_run6(octets: &[u8]) -> bool
+    ensures { IsTrue result ↔ ((run_of 16 octets.now).1 ≡ []) }
+{
+    check_run::<16>(octets)
+}
+
+fn check_run<const W: usize>(octets: &[u8]) -> bool
+    ensures { IsTrue result ↔ ((run_of W octets.now).1 ≡ []) }
+{
+    skip_run::<W>(octets).1.is_empty()
+}
+
+/// The IPv4 prefixes of a run.
+///
+/// # Errors
+/// The first fault from the left, or `Memory` where a growth was refused before that.
+pub fn read_run4(alloc: Global, octets: &[u8]) -> Result<List<Prefix4>, RunFault>
+    ensures { Reading 4 octets.now result }
+{
+    read_run(alloc, octets)
+}
+
+/// The IPv6 prefixes of a run.
+///
+/// # Errors
+/// The first fault from the left, or `Memory` where a growth was refused before that.
+pub fn read_run6(alloc: Global, octets: &[u8]) -> Result<List<Prefix6>, RunFault>
+    ensures { Reading 16 octets.now result }
+{
+    read_run(alloc, octets)
+}
+
+fn read_run<const W: usize>(alloc: Global, octets: &[u8]) -> Result<List<Prefix<W>>, RunFault>
+    ensures { Reading W octets.now result }
+{
+    let mut prefixes = List::new(alloc);
+    let mut rest = octets;
+    'run: while let Some(front) = cut_front::<W>(rest) {
+        prefixes.push(Prefix::from_front(front))?;
+        rest = front.after;
+    }
+    match rest.first() {
+        None => Ok(prefixes),
+        Some(len) => Err(fault_at::<W>(*len)),
+    }
+}
+
+/// Why no prefix stands where this length does.
+fn fault_at<const W: usize>(len: u8) -> RunFault
+    ensures { result ≡ fault_at W len }
+{
+    if is_allowed::<W>(len) {
+        RunFault::PastEnd
+    } else {
+        RunFault::TooLong
+    }
+}
+
+/// Adds the octets of the prefixes, each with 0 for the bits past its length.
+///
+/// # Errors
+/// `AllocError` where a growth was refused; the vector is then as it was.
+pub fn write_run4(prefixes: &[Prefix4], out: &mut Vec<u8>) -> Result<(), AllocError>
+    ensures ok { OnOk result (out.new.items ≡ out.old.items ++ flat_map spelling_of prefixes.now) }
+    ensures row { OnOk result (Row (IsPrefix 4) prefixes.now (flat_map spelling_of prefixes.now)) }
+    ensures err { OnErr result (out.new.items ≡ out.old.items) }
+{
+    write_run(prefixes, out)
+}
+
+/// Adds the octets of the prefixes, each with 0 for the bits past its length.
+///
+/// # Errors
+/// `AllocError` where a growth was refused; the vector is then as it was.
+pub fn write_run6(prefixes: &[Prefix6], out: &mut Vec<u8>) -> Result<(), AllocError>
+    ensures ok { OnOk result (out.new.items ≡ out.old.items ++ flat_map spelling_of prefixes.now) }
+    ensures row { OnOk result (Row (IsPrefix 16) prefixes.now (flat_map spelling_of prefixes.now)) }
+    ensures err { OnErr result (out.new.items ≡ out.old.items) }
+{
+    write_run(prefixes, out)
+}
+
+fn write_run<const W: usize>(prefixes: &[Prefix<W>], out: &mut Vec<u8>) -> Result<(), AllocError>
+    ensures ok { OnOk result (out.new.items ≡ out.old.items ++ flat_map spelling_of prefixes.now) }
+    ensures row { OnOk result (Row (IsPrefix W) prefixes.now (flat_map spelling_of prefixes.now)) }
+    ensures err { OnErr result (out.new.items ≡ out.old.items) }
+{
+    let start = out.len();
+    let written = append_run(prefixes, out);
+    if written.is_err() {
+        out.truncate(start);
+    }
+    written
+}
+
+/// Adds the octets of the prefixes; those of the first ones may stay where a growth was refused.
+fn append_run<const W: usize>(prefixes: &[Prefix<W>], out: &mut Vec<u8>) -> Result<(), AllocError>
+    ensures ok { OnOk result (out.new.items ≡ out.old.items ++ flat_map spelling_of prefixes.now) }
+    ensures row { OnOk result (Row (IsPrefix W) prefixes.now (flat_map spelling_of prefixes.now)) }
+    ensures err { OnErr result ((more : List ℕ) × (out.new.items ≡ out.old.items ++ more)) }
+{
+    for prefix in prefixes {
+        prefix.append_to(out)?;
+    }
+    Ok(())
+}
