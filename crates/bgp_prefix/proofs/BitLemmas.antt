@@ -1,5 +1,5 @@
 -- The first bits of octets: which bits they have, and how they are computed octet by octet.
-use Rattle.std.proofs.Common.{◌≡◌, ℕ, zero, suc, Bool, true, false, eqb, IsTrue, ◌+◌, ◌-◌, ◌*◌, ◌/◌, ◌%◌, ◌^◌, ◌<◌, ◌≤◌, List, [], ◌∷◌, ◌++◌, length, get_or, take, drop, set, replicate, refl, sym, ap, ◌∙◌, append_assoc, add-zero, arith, inl, inr, ap₂}
+use Rattle.std.proofs.Common.{◌≡◌, ℕ, zero, suc, Bool, eqb, IsTrue, ◌+◌, ◌-◌, ◌*◌, ◌/◌, ◌%◌, ◌^◌, ◌<◌, ◌≤◌, List, [], ◌∷◌, ◌++◌, length, get_or, take, drop, set, replicate, refl, sym, ap, ◌∙◌, append_assoc, add-zero, arith, inl, inr, ap₂}
 use Rattle.std.specs.Int.{bit_at}
 use Rattle.std.specs.Cmp.Lexicographic.{pointwise}
 use Rattle.std.proofs.Math.Nat.{div-div-eq-div-mul, div-mul-le_self}
@@ -106,12 +106,13 @@ pub leading_bits-whole : (b : List ℕ) (l : ℕ) → AreOctets b → HasNoBitPa
 leading_bits-whole b l octets none =
     same_lists _ _ (length-leading_bits b l) (λ q d lt. get_default (leading_bits l b) q d lt ∙ at_zero q ∙ sym (get_default b q d (omega (arith, length-leading_bits b l))))
   where
-  at_zero : (q : ℕ) → get_or (leading_bits l b) q 0 ≡ get_or b q 0
-  at_zero q =
-      get_or-leading_bits b l q
-      ∙ same_from_bits_below 8 _ _ (omega (arith, first_bits-le (l - 8 * q) (get_or b q 0), octets q)) (octets q) (λ j lt. same_octet b l q j none lt)
-  get_default : (xs : List ℕ) (i d : ℕ) → i < length xs → get_or xs i d ≡ get_or xs i 0
-  get_default xs i d lt = get_or_default xs i d 0 lt
+    at_zero : (q : ℕ) → get_or (leading_bits l b) q 0 ≡ get_or b q 0
+    at_zero q =
+        get_or-leading_bits b l q
+        ∙ same_from_bits_below 8 _ _ (omega (arith, first_bits-le (l - 8 * q) (get_or b q 0), octets q)) (octets q) (λ j lt. same_octet b l q j none lt)
+
+    get_default : (xs : List ℕ) (i d : ℕ) → i < length xs → get_or xs i d ≡ get_or xs i 0
+    get_default xs i d lt = get_or_default xs i d 0 lt
 
 -- ---- an address
 
@@ -178,8 +179,8 @@ address_more width l i left b addr x lt le left_is addr_is x_is =
     let filled : length (leading_bits l (take i b)) ≡ i = length-leading_bits (take i b) l ∙ front in
     let same : l - 8 * length (take i b) ≡ left = ap (λ (n : ℕ). l - 8 * n) front ∙ sym left_is in
     let pushed : leading_bits l (take (i + 1) b) ≡ leading_bits l (take i b) ++ x ∷ [] =
-        ap (leading_bits l) (take_more b i 0 lt) ∙ leading_bits-append (take i b) (get_or b i 0 ∷ []) l
-        ∙ ap (λ (n : ℕ). leading_bits l (take i b) ++ first_bits n (get_or b i 0) ∷ []) same ∙ ap (λ (n : ℕ). leading_bits l (take i b) ++ n ∷ []) (sym x_is) in
+    ap (leading_bits l) (take_more b i 0 lt) ∙ leading_bits-append (take i b) (get_or b i 0 ∷ []) l
+    ∙ ap (λ (n : ℕ). leading_bits l (take i b) ++ first_bits n (get_or b i 0) ∷ []) same ∙ ap (λ (n : ℕ). leading_bits l (take i b) ++ n ∷ []) (sym x_is) in
     ap (λ (c : List ℕ). set c i x) (addr_is ∙ ap (λ (n : ℕ). leading_bits l (take i b) ++ replicate {A = ℕ} n 0) more)
     ∙ set_at (leading_bits l (take i b)) 0 (replicate (width - (i + 1)) 0) x i filled
     ∙ sym (append_assoc (leading_bits l (take i b)) (x ∷ []) (replicate (width - (i + 1)) 0))
@@ -195,6 +196,7 @@ address_done width l i b addr le ge addr_is =
 pub is_clear_iff : (width l : ℕ) (b found : List ℕ) (t : Bool) → length b ≡ width → AreOctets b → found ≡ address_of width l b → t ≡ pointwise eqb found b → (IsTrue t → HasNoBitPast l b) × (HasNoBitPast l b → IsTrue t)
 is_clear_iff width l b found t wide octets found_is t_is =
     let same : found ≡ leading_bits l b = found_is ∙ address_of-whole width l b wide in
-    let tells = slice_eq-Decides Decides-eqb found b t t_is in
-    (λ yes. HasNoBitPast-whole b l (sym same ∙ tells.0 yes),
-     λ none. tells.1 (same ∙ leading_bits-whole b l octets none))
+    let tells = slice_eq-Decides Decides-eqb found b t t_is in (
+      λ yes. HasNoBitPast-whole b l (sym same ∙ tells.0 yes),
+      λ none. tells.1 (same ∙ leading_bits-whole b l octets none),
+    )

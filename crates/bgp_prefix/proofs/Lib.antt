@@ -1,3 +1,4 @@
 pub mod BitLemmas
 pub mod PrefixLemmas
 pub mod RunLemmas
+pub mod LawLemmas

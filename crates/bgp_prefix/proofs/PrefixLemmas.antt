@@ -1,14 +1,13 @@
 -- Prefixes are read as they are spelled, and what is written is one spelling.
-use Rattle.std.proofs.Common.{◌≡◌, ℕ, suc, ◌+◌, ◌*◌, ◌<◌, ◌≤◌, Bool, true, false, cond, leb, ◌&&◌, List, [], ◌∷◌, ◌++◌, length, get_or, take, drop, Option, Some, None, refl, sym, ap, ◌∙◌, subst, arith}
+use Rattle.std.proofs.Common.{◌≡◌, ℕ, suc, ◌*◌, ◌≤◌, Bool, true, false, cond, leb, ◌&&◌, List, [], ◌∷◌, ◌++◌, length, take, drop, Some, None, refl, sym, ap, ◌∙◌, subst, arith}
 use Rattle.std.proofs.lemmas.Bool.{leb-true, le-leb}
 use Rattle.std.proofs.lemmas.List.{length-append, length-take, take_at, drop_at, take-append-drop}
 use Rattle.bgp_wire.specs.Octets.{AreOctets}
 use Rattle.bgp_wire.specs.Reader.{Reads}
-use Rattle.bgp_wire.proofs.OctetLemmas.{AreOctets-take}
 use Rattle.bgp_wire.proofs.Pieces.{found, found_same, found_not}
-use Rattle.bgp_prefix.specs.Bits.{octets_for, bit_of, HasNoBitPast, leading_bits, address_of}
-use Rattle.bgp_prefix.specs.Prefix.{PrefixValue, IsValid, IsPrefix, HasFirstBits, prefix_of, one_prefix, spelling_of}
-use Rattle.bgp_prefix.proofs.BitLemmas.{length-address_of, AreOctets-address_of, bit_of-address_of, HasNoBitPast-address_of, leading_bits-whole, address_of-take}
+use Rattle.bgp_prefix.specs.Bits.{octets_for, address_of}
+use Rattle.bgp_prefix.specs.Prefix.{PrefixValue, IsValid, IsPrefix, prefix_of, one_prefix, spelling_of}
+use Rattle.bgp_prefix.proofs.BitLemmas.{length-address_of, AreOctets-address_of, HasNoBitPast-address_of, leading_bits-whole, address_of-take}
 
 both_true : (s t : Bool) → (s && t) ≡ true → (s ≡ true) × (t ≡ true)
 both_true true t e = (refl, e)
@@ -33,14 +32,17 @@ module _ (width : ℕ) where
       let tests = both_true (leb l (8 * width)) (leb k (length b)) both in
       let held : length (take k b) ≡ k = omega (arith, length-take k b, leb-true _ _ tests.1) in
       subst (λ (q : PrefixValue × List ℕ). (front : List ℕ) × (l ∷ b ≡ front ++ q.1) × IsPrefix width q.0 front)
-      (found_same PrefixValue (prefix_of width l (take k b), drop k b) (p, back) e)
-      (l ∷ take k b, ap (λ (x : List ℕ). l ∷ x) (sym (take-append-drop k b)), record {
-        read = take k b;
-        octets = refl;
-        allowed = leb-true _ _ tests.0;
-        least = held;
-        address = refl;
-      })
+      (found_same PrefixValue (prefix_of width l (take k b), drop k b) (p, back) e) (
+        l ∷ take k b,
+        ap (λ (x : List ℕ). l ∷ x) (sym (take-append-drop k b)),
+        record {
+          read = take k b;
+          octets = refl;
+          allowed = leb-true _ _ tests.0;
+          least = held;
+          address = refl;
+        },
+      )
   one_gives l b p back false both e = absurd (found_not PrefixValue (p, back) e)
 
   IsPrefix-gives : (b : List ℕ) (p : PrefixValue) (back : List ℕ) → one_prefix width b ≡ Some (p, back) → (front : List ℕ) × (b ≡ front ++ back) × IsPrefix width p front
@@ -69,6 +71,12 @@ module _ (width : ℕ) where
         octets = AreOctets-address_of width l b octets;
         zeros = leading_bits-whole (address_of width l b) l (AreOctets-address_of width l b octets) (HasNoBitPast-address_of width l b);
       }
+
+  -- the prefix that octets spell
+  pub IsPrefix-valid : (p : PrefixValue) (b : List ℕ) → AreOctets b → IsPrefix width p b → IsValid width p
+  IsPrefix-valid p b octets s =
+      let read : AreOctets s.read = λ i. subst AreOctets s.octets octets (suc i) in
+      subst (IsValid width) (sym s.address) (prefix_of-valid p.len s.read s.allowed s.least read)
 
   -- what is written is a spelling
   pub IsPrefix-spelling_of : (p : PrefixValue) → IsValid width p → IsPrefix width p (spelling_of p)

@@ -1,15 +1,15 @@
 -- A run step by step, as the code goes through it, and what is written as a row.
-use Rattle.std.proofs.Common.{◌≡◌, ℕ, zero, suc, ◌+◌, ◌*◌, ◌<◌, ◌≤◌, Bool, true, false, cond, ltb, List, [], ◌∷◌, ◌++◌, length, get_or, take, Option, Some, None, Result, Ok, Err, refl, sym, ap, ◌∙◌, subst, append_assoc, arith}
+use Rattle.std.proofs.Common.{◌≡◌, ℕ, ◌+◌, ◌*◌, ◌<◌, ◌≤◌, Bool, true, false, cond, ltb, List, [], ◌∷◌, ◌++◌, length, get_or, take, Some, None, Err, refl, sym, ap, ◌∙◌, subst, append_assoc, arith}
 use Rattle.std.specs.List.{flat_map, slice_get}
 use Rattle.std.proofs.lemmas.List.{append-nil, length-append, take_more}
 use Rattle.std.proofs.lemmas.List.Concat.{flat_map-append}
-use Rattle.bgp_wire.specs.Row.{Row, Splits}
+use Rattle.bgp_wire.specs.Row.{Row}
 use Rattle.bgp_wire.proofs.Rows.{Row-push}
 use Rattle.bgp_wire.proofs.Pieces.{pieces-some, pieces-none, shrinks, Splits-pieces}
 use Rattle.bgp_prefix.specs.declared.fault.RunFault.{RunFault}
 use Rattle.bgp_prefix.specs.declared.fault.RunFault.TheVariants.{TooLong, PastEnd, Memory}
 use Rattle.bgp_prefix.specs.Prefix.{PrefixValue, IsValid, IsPrefix, one_prefix, spelling_of}
-use Rattle.bgp_prefix.specs.Run.{run_of, fault_at, reading_of, Answers, Reading}
+use Rattle.bgp_prefix.specs.Run.{run_of, fault_at, fault_of, IsReading}
 use Rattle.bgp_prefix.proofs.PrefixLemmas.{IsPrefix-reads, IsPrefix-length, IsPrefix-spelling_of}
 
 -- ---- one step
@@ -75,19 +75,17 @@ pub read_done : (width : ℕ) (octets rest : List ℕ) (ps : List PrefixValue) �
 read_done width octets rest ps e so_far =
     so_far ∙ ap (λ (q : List PrefixValue × List ℕ). (ps ++ q.0, q.1)) (run_none width rest e) ∙ ap (λ (xs : List PrefixValue). (xs, rest)) (append-nil ps)
 
-is_fault : (found : List PrefixValue) (reading : Result (List PrefixValue) RunFault) (t : Bool) (fault : RunFault) → fault ≡ cond t TooLong PastEnd → reading ≡ Err (cond t TooLong PastEnd) → Answers found reading (Err fault)
-is_fault found reading true TooLong e r = r
-is_fault found reading true PastEnd e r = absurd cc
-is_fault found reading true Memory e r = absurd cc
-is_fault found reading false TooLong e r = absurd cc
-is_fault found reading false PastEnd e r = r
-is_fault found reading false Memory e r = absurd cc
+-- only the two faults of octets are a fault of the rest
+is_fault : (width : ℕ) (octets : List ℕ) (t : Bool) (fault : RunFault) → fault ≡ cond t TooLong PastEnd → fault_of width (run_of width octets).1 ≡ Some (cond t TooLong PastEnd) → IsReading width octets (Err fault)
+is_fault width octets true TooLong e r = r
+is_fault width octets true PastEnd e r = absurd cc
+is_fault width octets true Memory e r = absurd cc
+is_fault width octets false TooLong e r = absurd cc
+is_fault width octets false PastEnd e r = r
+is_fault width octets false Memory e r = absurd cc
 
-pub answers_fault : (width : ℕ) (octets : List ℕ) (ps : List PrefixValue) (l : ℕ) (rest : List ℕ) (fault : RunFault) → run_of width octets ≡ (ps, l ∷ rest) → fault ≡ fault_at width l → Reading width octets (Err fault)
-answers_fault width octets ps l rest fault e is = is_fault (run_of width octets).0 (reading_of width (run_of width octets)) (ltb (8 * width) l) fault is (ap (reading_of width) e)
-
-pub answers_all : (width : ℕ) (octets : List ℕ) (ps : List PrefixValue) → run_of width octets ≡ (ps, []) → Reading width octets (Ok ps)
-answers_all width octets ps e = ap (reading_of width) e
+pub reading_fault : (width : ℕ) (octets : List ℕ) (ps : List PrefixValue) (l : ℕ) (rest : List ℕ) (fault : RunFault) → run_of width octets ≡ (ps, l ∷ rest) → fault ≡ fault_at width l → IsReading width octets (Err fault)
+reading_fault width octets ps l rest fault e is = is_fault width octets (ltb (8 * width) l) fault is (ap (λ (q : List PrefixValue × List ℕ). fault_of width q.1) e)
 
 -- octets without a first one, and with one
 pub none_first : (b : List ℕ) → None ≡ slice_get b 0 → b ≡ []

@@ -3,3 +3,5 @@ pub mod Bits
 pub mod Prefix
 pub mod Run
 pub mod PrefixIter
+pub mod Text
+pub mod Half

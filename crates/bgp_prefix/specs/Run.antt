@@ -1,5 +1,5 @@
 -- Runs: octets that are a row of prefixes, and what is wrong with others (RFC 4271, section 4.3).
-use Rattle.std.specs.Prelude.{◌≡◌, ℕ, ◌*◌, ◌<◌, List, [], ◌∷◌, length, Result, Ok, Err, nat_lt, if◌then◌else◌}
+use Rattle.std.specs.Prelude.{◌≡◌, ℕ, ◌*◌, ◌<◌, List, [], ◌∷◌, length, Option, None, Some, Result, Ok, Err, nat_lt, if◌then◌else◌}
 use Rattle.bgp_wire.specs.Reader.{pieces}
 use Rattle.bgp_prefix.specs.declared.fault.RunFault.{RunFault}
 use Rattle.bgp_prefix.specs.declared.fault.RunFault.TheVariants.{TooLong, PastEnd, Memory}
@@ -9,22 +9,19 @@ use Rattle.bgp_prefix.specs.Prefix.{PrefixValue, one_prefix}
 abbrev pub run_of : ℕ → List ℕ → List PrefixValue × List ℕ
 run_of width b = pieces (one_prefix width) b
 
--- Why no prefix stands where a length does: the address hasn't as many bits, or the octets end too early.
+-- why no prefix stands where a length does: the address hasn't as many bits, or the octets end too early
 abbrev pub fault_at : ℕ → ℕ → RunFault
 fault_at width l = if nat_lt (8 * width) l then TooLong else PastEnd
 
--- the prefixes where nothing is left, and else the fault of what is left
-abbrev pub reading_of : ℕ → List PrefixValue × List ℕ → Result (List PrefixValue) RunFault
-reading_of width (prefixes, []) = Ok prefixes
-reading_of width (prefixes, l ∷ rest) = Err (fault_at width l)
+-- what is wrong with the rest, where there is one
+abbrev pub fault_of : ℕ → List ℕ → Option RunFault
+fault_of width [] = None
+fault_of width (l ∷ rest) = Some (fault_at width l)
 
--- A call answered what reading gives, or that there was no memory, which only prefixes take.
-abbrev pub Answers : List PrefixValue → Result (List PrefixValue) RunFault → Result (List PrefixValue) RunFault → Type 0
-Answers found reading (Ok prefixes) = reading ≡ Ok prefixes
-Answers found reading (Err TooLong) = reading ≡ Err TooLong
-Answers found reading (Err PastEnd) = reading ≡ Err PastEnd
-Answers found reading (Err Memory) = 0 < length found
-
--- what a call on octets may answer
-abbrev pub Reading : ℕ → List ℕ → Result (List PrefixValue) RunFault → Type 0
-Reading width b answer = Answers (run_of width b).0 (reading_of width (run_of width b)) answer
+-- What a call that reads octets as a run may answer: all the prefixes where nothing is left, else the fault of what is
+-- left; that there was no memory only where there is a prefix, since nothing else takes any.
+abbrev pub IsReading : ℕ → List ℕ → Result (List PrefixValue) RunFault → Type 0
+IsReading width b (Ok prefixes) = run_of width b ≡ (prefixes, [])
+IsReading width b (Err TooLong) = fault_of width (run_of width b).1 ≡ Some TooLong
+IsReading width b (Err PastEnd) = fault_of width (run_of width b).1 ≡ Some PastEnd
+IsReading width b (Err Memory) = 0 < length (run_of width b).0

@@ -7,7 +7,7 @@ use std::alloc::{AllocError, Global};
 #[derive(Clone, Copy, Debug, PartialEq, Eq, PartialOrd, Ord)]
 pub struct AsNumber(pub u32);
 
-/// What stands for a number above 65535 where there are only two octets for it (RFC 6793, section 9).
+/// What stands for a number above 65535 where there are two octets for it (RFC 6793, section 9).
 pub const AS_TRANS: AsNumber = AsNumber(23456);
 
 impl TryCopy for AsNumber {

@@ -3,7 +3,7 @@
 ghost use Rattle.std.specs.Prelude.{◌≡◌};
 ghost use Rattle.bgp_prefix.specs.declared.fault.RunFault.TheVariants.{Memory};
 
-use std::alloc::{AllocError, AllocFailed};
+use std::alloc::AllocError;
 
 /// Why octets are no run: the first fault from the left.
 #[derive(Clone, Copy, Debug, PartialEq, Eq)]
@@ -20,14 +20,6 @@ impl From<AllocError> for RunFault {
     ghost from_gives = { λ _ fault. fault ≡ Memory };
 
     fn from(_error: AllocError) -> RunFault {
-        RunFault::Memory
-    }
-}
-
-impl<T: Drop> From<AllocFailed<T>> for RunFault {
-    ghost from_gives = { λ _ fault. fault ≡ Memory };
-
-    fn from(_error: AllocFailed<T>) -> RunFault {
         RunFault::Memory
     }
 }

@@ -15,11 +15,12 @@ pub(crate) struct Front<'a> {
     pub(crate) after: &'a [u8],
 }
 
-/// The prefix at the front of octets, of addresses of `W` octets (RFC 4271, section 4.3). None where the length is too
-/// long, or the octets end before as many bits.
+/// The prefix at the front of octets, of addresses of `W` octets (RFC 4271, section 4.3). None
+/// where the length is too long, or the octets end before as many bits.
 #[tactic(auto, unfolding(crate::specs::Prefix::one_prefix))]
 pub(crate) fn cut_front<const W: usize>(octets: &[u8]) -> Option<Front<'_>>
-    ensures value { option_map (λ f. (prefix_of W f.len f.read.now, f.after.now)) result ≡ one_prefix W octets.now }
+    ensures value { option_map (λ f. (prefix_of W f.len f.read.now, f.after.now)) result
+        ≡ one_prefix W octets.now }
     ensures allowed { IfSome result (λ f. f.len ≤ 8 * W) }
     ensures held { IfSome result (λ f. length f.read.now ≡ octets_for f.len) }
 {
@@ -29,7 +30,11 @@ pub(crate) fn cut_front<const W: usize>(octets: &[u8]) -> Option<Front<'_>>
         return None;
     }
     let (read, after) = rest.split_at(held);
-    Some(Front { len: *len, read, after })
+    Some(Front {
+        len: *len,
+        read,
+        after,
+    })
 }
 
 /// How many prefixes octets begin with, and what is left behind them.

@@ -1,6 +1,7 @@
 //! A prefix: the first bits of the addresses that it stands for.
 
-ghost use Rattle.std.specs.Prelude.{◌≡◌, ℕ, ◌≤◌, ◌*◌, ◌↔◌, List, ◌++◌, IsSome, IfSome, OnOk, OnErr, length};
+ghost use Rattle.std.specs.Prelude.{◌≡◌, ℕ, ◌≤◌, ◌*◌, ◌↔◌, List, ◌++◌, length};
+ghost use Rattle.std.specs.Prelude.{IsSome, IfSome, OnOk, OnErr};
 ghost use Rattle.bgp_prefix.specs.Bits.{octets_for, HasNoBitPast};
 ghost use Rattle.bgp_prefix.specs.Prefix.{IsValid, prefix_of, spelling_of};
 
@@ -10,7 +11,8 @@ use bgp_wire::TryCopy;
 use std::alloc::{AllocError, Global};
 use std::marker::Model;
 
-/// The first `len` bits of addresses of `W` octets.
+/// The first `len` bits of addresses of `W` octets (RFC 4271, section 4.3; RFC 4760, section 5).
+/// Prefixes are in order of their addresses, and at one address of their lengths.
 #[derive(Clone, Copy, Debug, PartialEq, Eq, PartialOrd, Ord)]
 pub struct Prefix<const W: usize> {
     addr: [u8; W],
@@ -36,10 +38,10 @@ impl<const W: usize> Model for Prefix<W> {
 }
 
 impl<const W: usize> Prefix<W> {
-    /// The prefix of an address, of which it has the first `len` bits. None where the address hasn't as many, or a bit
-    /// past them is set.
+    /// The prefix of an address, of which it has the first `len` bits. None where the address
+    /// hasn't as many, or a bit past them is set.
     pub fn new(len: u8, addr: [u8; W]) -> Option<Prefix<W>>
-        ensures made { IsSome result ↔ (len ≤ 8 * W) × HasNoBitPast len addr.entry }
+        ensures made { IsSome result ↔ ((len ≤ 8 * W) × HasNoBitPast len addr.entry) }
         ensures value { IfSome result (λ p. p ≡ record { len = len; addr = addr.entry }) }
     {
         if is_allowed::<W>(len) && is_clear(len, &addr) {
@@ -51,14 +53,16 @@ impl<const W: usize> Prefix<W> {
 
     /// The length in bits: at most 32 for IPv4, and 128 for IPv6.
     pub fn len(&self) -> u8
-        ensures { result ≡ self.now.len }
+        ensures value { result ≡ self.now.len }
+        ensures allowed { result ≤ 8 * W }
     {
         self.len
     }
 
     /// The address, highest octet first. Its bits past the length are 0.
     pub fn addr(&self) -> [u8; W]
-        ensures { result ≡ self.now.addr }
+        ensures value { result ≡ self.now.addr }
+        ensures valid { IsValid W self.now }
     {
         self.addr
     }
@@ -81,9 +85,9 @@ impl<const W: usize> Prefix<W> {
         ensures valid { IsValid W self.now }
         ensures err { OnErr result ((more : List ℕ) × (out.new.items ≡ out.old.items ++ more)) }
     {
-        let held = octets_for(self.len);
-        out.push(self.len)?;
-        out.extend_from_slice(&self.addr[..held])?;
+        let Prefix { addr, len } = *self;
+        out.push(len)?;
+        out.extend_from_slice(&addr[..octets_for(len)])?;
         Ok(())
     }
 }

@@ -4,7 +4,7 @@ ghost use Rattle.std.specs.Prelude.{◌≡◌, ◌↔◌, ℕ, List, [], ◌++�
 ghost use Rattle.std.specs.List.{flat_map};
 ghost use Rattle.bgp_wire.specs.Row.{Row};
 ghost use Rattle.bgp_prefix.specs.Prefix.{IsPrefix, spelling_of};
-ghost use Rattle.bgp_prefix.specs.Run.{run_of, fault_at, Reading};
+ghost use Rattle.bgp_prefix.specs.Run.{run_of, fault_at, IsReading};
 
 use crate::bits::is_allowed;
 use crate::fault::RunFault;
@@ -13,14 +13,14 @@ use crate::prefix::{Prefix, Prefix4, Prefix6};
 use bgp_wire::List;
 use std::alloc::{AllocError, Global};
 
-/// Whether octets are a run of IPv4 prefixes. It takes no memory.
+/// Whether octets are a run of IPv4 prefixes (RFC 4271, section 4.3). It takes no memory.
 pub fn check_run4(octets: &[u8]) -> bool
     ensures { IsTrue result ↔ ((run_of 4 octets.now).1 ≡ []) }
 {
     check_run::<4>(octets)
 }
 
-/// Whether octets are a run of IPv6 prefixes. It takes no memory.
+/// Whether octets are a run of IPv6 prefixes (RFC 4760, section 5). It takes no memory.
 pub fn check_run6(octets: &[u8]) -> bool
     ensures { IsTrue result ↔ ((run_of 16 octets.now).1 ≡ []) }
 {
@@ -33,28 +33,28 @@ fn check_run<const W: usize>(octets: &[u8]) -> bool
     skip_run::<W>(octets).1.is_empty()
 }
 
-/// The IPv4 prefixes of a run.
+/// The IPv4 prefixes of a run (RFC 4271, section 4.3).
 ///
 /// # Errors
 /// The first fault from the left, or `Memory` where a growth was refused before that.
 pub fn read_run4(alloc: Global, octets: &[u8]) -> Result<List<Prefix4>, RunFault>
-    ensures { Reading 4 octets.now result }
+    ensures { IsReading 4 octets.now result }
 {
-    read_run(alloc, octets)
+    read_run::<4>(alloc, octets)
 }
 
-/// The IPv6 prefixes of a run.
+/// The IPv6 prefixes of a run (RFC 4760, section 5).
 ///
 /// # Errors
 /// The first fault from the left, or `Memory` where a growth was refused before that.
 pub fn read_run6(alloc: Global, octets: &[u8]) -> Result<List<Prefix6>, RunFault>
-    ensures { Reading 16 octets.now result }
+    ensures { IsReading 16 octets.now result }
 {
-    read_run(alloc, octets)
+    read_run::<16>(alloc, octets)
 }
 
 fn read_run<const W: usize>(alloc: Global, octets: &[u8]) -> Result<List<Prefix<W>>, RunFault>
-    ensures { Reading W octets.now result }
+    ensures { IsReading W octets.now result }
 {
     let mut prefixes = List::new(alloc);
     let mut rest = octets;
@@ -86,9 +86,11 @@ fn fault_at<const W: usize>(len: u8) -> RunFault
 pub fn write_run4(prefixes: &[Prefix4], out: &mut Vec<u8>) -> Result<(), AllocError>
     ensures ok { OnOk result (out.new.items ≡ out.old.items ++ flat_map spelling_of prefixes.now) }
     ensures row { OnOk result (Row (IsPrefix 4) prefixes.now (flat_map spelling_of prefixes.now)) }
+    ensures back { OnOk result (run_of 4 (flat_map spelling_of prefixes.now)
+        ≡ (prefixes.now, [])) }
     ensures err { OnErr result (out.new.items ≡ out.old.items) }
 {
-    write_run(prefixes, out)
+    write_run::<4>(prefixes, out)
 }
 
 /// Adds the octets of the prefixes, each with 0 for the bits past its length.
@@ -98,14 +100,18 @@ pub fn write_run4(prefixes: &[Prefix4], out: &mut Vec<u8>) -> Result<(), AllocEr
 pub fn write_run6(prefixes: &[Prefix6], out: &mut Vec<u8>) -> Result<(), AllocError>
     ensures ok { OnOk result (out.new.items ≡ out.old.items ++ flat_map spelling_of prefixes.now) }
     ensures row { OnOk result (Row (IsPrefix 16) prefixes.now (flat_map spelling_of prefixes.now)) }
+    ensures back { OnOk result (run_of 16 (flat_map spelling_of prefixes.now)
+        ≡ (prefixes.now, [])) }
     ensures err { OnErr result (out.new.items ≡ out.old.items) }
 {
-    write_run(prefixes, out)
+    write_run::<16>(prefixes, out)
 }
 
 fn write_run<const W: usize>(prefixes: &[Prefix<W>], out: &mut Vec<u8>) -> Result<(), AllocError>
     ensures ok { OnOk result (out.new.items ≡ out.old.items ++ flat_map spelling_of prefixes.now) }
     ensures row { OnOk result (Row (IsPrefix W) prefixes.now (flat_map spelling_of prefixes.now)) }
+    ensures back { OnOk result (run_of W (flat_map spelling_of prefixes.now)
+        ≡ (prefixes.now, [])) }
     ensures err { OnErr result (out.new.items ≡ out.old.items) }
 {
     let start = out.len();

@@ -1,5 +1,5 @@
 -- Parts of octets are octets, and so are octets joined.
-use Rattle.std.proofs.Common.{ℕ, ◌+◌, ◌-◌, ◌<◌, List, [], ◌++◌, length, get_or, take, drop, refl, arith, inl, inr}
+use Rattle.std.proofs.Common.{ℕ, zero, suc, ◌+◌, ◌-◌, ◌<◌, List, [], ◌∷◌, ◌++◌, length, get_or, take, drop, refl, arith, inl, inr}
 use Rattle.std.proofs.lemmas.Bool.{cases_lt}
 use Rattle.std.proofs.lemmas.List.{length-take, get_or-drop, get_or-take, get_or_past, get_or_append_left, get_or-append_right, get_or-append-add}
 use Rattle.bgp_wire.specs.Octets.{AreOctets}
@@ -35,3 +35,10 @@ pub AreOctets-back : (a b : List ℕ) → AreOctets (a ++ b) → AreOctets b
 AreOctets-back a b h i =
     let at : get_or (a ++ b) (length a + i) 0 < 256 = h (length a + i) in
     rw (get_or-append-add a b i 0) at at
+
+pub AreOctets-one : (n : ℕ) → n < 256 → AreOctets (n ∷ [])
+AreOctets-one n lt zero = lt
+AreOctets-one n lt (suc i) = omega arith
+
+pub AreOctets-push : (b : List ℕ) (n : ℕ) → AreOctets b → n < 256 → AreOctets (b ++ n ∷ [])
+AreOctets-push b n h lt = AreOctets-append b (n ∷ []) h (AreOctets-one n lt)

@@ -1,14 +1,13 @@
-use Rattle.std.proofs.Common.{◌≡◌, ℕ, ◌-◌, List, ◌++◌, length, get_or, take, set, replicate, sym, ap, ap₂, ◌∙◌, arith}
-use Rattle.std.proofs.lemmas.List.{take_all}
-use Rattle.bgp_prefix.specs.Bits.{first_bits, leading_bits, address_of}
+use Rattle.std.proofs.Common.{arith}
 use Rattle.bgp_prefix.proofs.BitLemmas.{address_more, address_done}
 use Rattle.bgp_prefix.proofs.bits.address.Goals as goal
 
 pub loop-i-preserved : goal.loop-i-preserved
-loop-i-preserved g c =
-    (omega arith,
-     address_more g.row.W c.args.len c.loop-i.i c.loop-i.left c.args.octets.now c.loop-i.addr c.first_bits.result c.loop-i-test.true c.requires
-         c.loop-i.invariant.0 c.loop-i.invariant.1 c.first_bits.ensures)
+loop-i-preserved g c = (
+  omega arith,
+  address_more g.row.W c.args.len c.loop-i.i c.loop-i.left c.args.octets.now c.loop-i.addr c.first_bits.result c.loop-i-test.true c.requires
+      c.loop-i.invariant.0 c.loop-i.invariant.1 c.first_bits.ensures,
+)
 
 pub returns : goal.returns
 returns g c = record {

@@ -10,7 +10,7 @@ returns-in_err-append_to-clause-err g c =
     let p = err_from_is_err_and c.from_residual.result c.from_residual.ensures.1 in
     let more = c.in_err-append_to.ensures.err in
     rw p.1 (begins c.args.out.now.items (flat_map spelling_of (take c.loop-prefix.prefix-index c.args.prefixes.now)) c.loop-prefix.out.items more.0 c.append_to.new.out.items
-        c.loop-prefix.invariant.0 more.1)
+    c.loop-prefix.invariant.0 more.1)
 
 pub loop-prefix-preserved : goal.loop-prefix-preserved
 loop-prefix-preserved g c =

@@ -1,8 +1,7 @@
-use Rattle.std.proofs.Common.{◌≡◌, ℕ, List, [], ◌∷◌, ◌++◌, ap, ◌∙◌}
+use Rattle.std.proofs.Common.{ℕ, List, [], ◌∷◌, ◌++◌, ap, ◌∙◌}
 use Rattle.std.proofs.lemmas.Result.{err_from_is_err_and}
 use Rattle.bgp_prefix.specs.Prefix.{PrefixValue}
-use Rattle.bgp_prefix.specs.Run.{run_of}
-use Rattle.bgp_prefix.proofs.RunLemmas.{run_shorter, read_more, read_some, read_done, none_first, some_first, answers_fault, answers_all}
+use Rattle.bgp_prefix.proofs.RunLemmas.{run_shorter, read_more, read_some, read_done, none_first, some_first, reading_fault}
 use Rattle.bgp_prefix.proofs.run.read_run.Goals as goal
 
 pub run-smaller : goal.run-smaller
@@ -21,12 +20,12 @@ run-preserved g c =
 pub returns-in-None : goal.returns-in-None
 returns-in-None g c =
     let nothing = none_first c.run.rest.now c.in-None.ensures.value in
-    answers_all g.row.W c.args.octets.now c.run.prefixes (rw (← nothing) (read_done g.row.W c.args.octets.now c.run.rest.now c.run.prefixes c.in_default.ensures.value c.run.invariant))
+    rw (← nothing) (read_done g.row.W c.args.octets.now c.run.rest.now c.run.prefixes c.in_default.ensures.value c.run.invariant)
 
 pub returns-in-Some-first : goal.returns-in-Some-first
 returns-in-Some-first g c =
     let l = c.in-Some-first.len.now in
     let rest = some_first c.run.rest.now l c.in-Some-first.ensures.value in
-    answers_fault g.row.W c.args.octets.now c.run.prefixes l rest.0 c.fault_at.result
+    reading_fault g.row.W c.args.octets.now c.run.prefixes l rest.0 c.fault_at.result
     (read_done g.row.W c.args.octets.now c.run.rest.now c.run.prefixes c.in_default.ensures.value c.run.invariant ∙ ap (λ (b : List ℕ). (c.run.prefixes, b)) rest.1)
     c.fault_at.ensures

@@ -1,0 +1,67 @@
+//! Laws of prefixes and runs, for addresses of any width: 4 octets are IPv4, 16 are IPv6.
+
+ghost use Rattle.std.specs.Prelude.{◌≡◌, ◌⊎◌, ℕ, ◌+◌, ◌*◌, ◌<◌, ◌≤◌, Some, All};
+ghost use Rattle.std.specs.Prelude.{List, [], ◌∷◌, ◌++◌, length};
+ghost use Rattle.std.specs.List.{flat_map};
+ghost use Rattle.bgp_wire.specs.Octets.{AreOctets};
+ghost use Rattle.bgp_wire.specs.Row.{Row, IsPrefixFree, Splits};
+ghost use Rattle.bgp_wire.specs.Reader.{Reads};
+ghost use Rattle.bgp_prefix.specs.declared.fault.RunFault.TheVariants.{TooLong, PastEnd};
+ghost use Rattle.bgp_prefix.specs.Bits.{octets_for};
+ghost use Rattle.bgp_prefix.specs.Prefix.{PrefixValue, IsValid, IsPrefix, HasFirstBits};
+ghost use Rattle.bgp_prefix.specs.Prefix.{one_prefix, spelling_of};
+ghost use Rattle.bgp_prefix.specs.Run.{run_of, fault_of};
+
+/// No spelling of a prefix is a proper front of another, and each has one value.
+pub fn spellings_are_prefix_free()
+    ensures { (width : ℕ) → IsPrefixFree (IsPrefix width) }
+{}
+
+/// The reader of one prefix finds each spelling at the front of octets, and nothing else.
+pub fn readings_are_spellings()
+    ensures { (width : ℕ) → Reads (IsPrefix width) (one_prefix width) }
+{}
+
+/// An address has the first bits of the octets behind the length octet, as many as the length
+/// says, and zeros past them; and octets of which it has these are a spelling.
+pub fn addresses_are_first_bits()
+    ensures kept { (width : ℕ) (p : PrefixValue) (b : List ℕ)
+        → IsPrefix width p b → HasFirstBits width p b }
+    ensures only { (width : ℕ) (p : PrefixValue) (read : List ℕ)
+        → AreOctets p.addr → AreOctets read → p.len ≤ 8 * width → length read ≡ octets_for p.len
+        → HasFirstBits width p (p.len ∷ read) → IsPrefix width p (p.len ∷ read) }
+{}
+
+/// Octets are their prefixes and a rest at whose front none stands, and have no other such split.
+pub fn octets_have_one_split()
+    ensures split { (width : ℕ) (b : List ℕ)
+        → Splits (IsPrefix width) b (run_of width b).0 (run_of width b).1 }
+    ensures only { (width : ℕ) (b : List ℕ) (prefixes : List PrefixValue) (rest : List ℕ)
+        → Splits (IsPrefix width) b prefixes rest → run_of width b ≡ (prefixes, rest) }
+{}
+
+/// A fault says what is wrong with the first length that has no prefix: it is above the bits of
+/// an address, or the octets end before as many bits.
+pub fn faults_say_why()
+    ensures { (width : ℕ) (b : List ℕ) (prefixes : List PrefixValue) (l : ℕ) (rest : List ℕ)
+        → run_of width b ≡ (prefixes, l ∷ rest)
+        → ((8 * width < l) × (fault_of width (l ∷ rest) ≡ Some TooLong))
+        ⊎ ((l ≤ 8 * width) × (length rest < octets_for l)
+        × (fault_of width (l ∷ rest) ≡ Some PastEnd)) }
+{}
+
+/// What is written is read back, and nothing is left.
+pub fn written_runs_are_read()
+    ensures { (width : ℕ) (prefixes : List PrefixValue) → All (IsValid width) prefixes
+        → run_of width (flat_map spelling_of prefixes) ≡ (prefixes, []) }
+{}
+
+/// The prefixes of a run, written again, are a run of as many octets with the same prefixes.
+pub fn runs_are_rewritten()
+    ensures row { (width : ℕ) (prefixes : List PrefixValue) (b : List ℕ)
+        → AreOctets b → Row (IsPrefix width) prefixes b
+        → Row (IsPrefix width) prefixes (flat_map spelling_of prefixes) }
+    ensures len { (width : ℕ) (prefixes : List PrefixValue) (b : List ℕ)
+        → AreOctets b → Row (IsPrefix width) prefixes b
+        → length (flat_map spelling_of prefixes) ≡ length b }
+{}

@@ -1,0 +1,145 @@
+use super::*;
+use bgp_wire::{List, TryCopy};
+use std::test::*;
+
+#[test]
+fn prefixes_of_four_octets(rt: HostRuntime) -> Result<(), Fail> {
+    let ten = Prefix4::new(8, [10, 0, 0, 0]).ok_or("8 bits")?;
+    assert_eq!(rt; ten.len(), 8);
+    assert_eq!(rt; ten.addr(), [10, 0, 0, 0]);
+    assert_eq!(rt; format!(in rt.alloc(); "{ten}")?.as_str(), "10.0.0.0/8");
+    assert_eq!(rt; ten.try_copy(rt.alloc())?, ten);
+    assert!(rt; Prefix4::new(9, [10, 255, 0, 0]).is_none());
+    assert!(rt; Prefix4::new(33, [0, 0, 0, 0]).is_none());
+    assert!(rt; Prefix4::new(0, [0, 0, 0, 1]).is_none());
+    assert!(rt; Prefix4::new(32, [255, 255, 255, 255]).is_some());
+    let eleven = Prefix4::new(8, [11, 0, 0, 0]).ok_or("8 bits")?;
+    assert!(rt; ten < eleven);
+    Ok(())
+}
+
+#[test]
+fn runs_of_four_octets(rt: HostRuntime) -> Result<(), Fail> {
+    // Octets, the prefix that they are, and its octets when it is written again.
+    let rows: [(&[u8], u8, [u8; 4], &[u8]); 4] = [
+        (&[0x09, 0x0a, 0xff], 9, [10, 128, 0, 0], &[0x09, 0x0a, 0x80]),
+        (&[0x00], 0, [0, 0, 0, 0], &[0x00]),
+        (&[0x08, 0x0a], 8, [10, 0, 0, 0], &[0x08, 0x0a]),
+        (
+            &[0x20, 192, 0, 2, 1],
+            32,
+            [192, 0, 2, 1],
+            &[0x20, 192, 0, 2, 1],
+        ),
+    ];
+    for (octets, len, addr, again) in rows {
+        assert!(rt; check_run4(octets));
+        let prefixes = read_run4(rt.alloc(), octets).ok().ok_or("a run")?;
+        let wanted = Prefix4::new(len, addr).ok_or("a prefix")?;
+        assert_eq!(rt; prefixes.as_slice(), [wanted].as_slice());
+        let mut out = vec![in rt.alloc(); 7u8]?;
+        write_run4(prefixes.as_slice(), &mut out)?;
+        assert_eq!(rt; &out[1..], again);
+        assert_eq!(rt; out[0], 7);
+    }
+    Ok(())
+}
+
+#[test]
+fn octets_that_are_no_run(rt: HostRuntime) {
+    let faults: [(&[u8], RunFault); 4] = [
+        (&[0x21], RunFault::TooLong),
+        (&[0x18, 0x0a, 0x00], RunFault::PastEnd),
+        (&[0x08, 0x0a, 0x21], RunFault::TooLong),
+        (&[0x18, 0x0a, 0x21], RunFault::PastEnd),
+    ];
+    for (octets, fault) in faults {
+        assert!(rt; !check_run4(octets));
+        assert!(rt; matches!(read_run4(rt.alloc(), octets), Err(found) if found == fault));
+    }
+    assert!(rt; !check_run6(&[0x81]));
+    assert!(rt; matches!(read_run6(rt.alloc(), &[0x81]), Err(RunFault::TooLong)));
+    assert!(rt; matches!(read_run6(rt.alloc(), &[0x80]), Err(RunFault::PastEnd)));
+}
+
+#[test]
+fn an_iterator_stops_at_the_first_fault(rt: HostRuntime) -> Result<(), Fail> {
+    let mut iter = PrefixIter4::new(&[0x08, 0x0a, 0x21]);
+    assert_eq!(rt; iter.left(), 1);
+    assert_eq!(rt; iter.next(), Prefix4::new(8, [10, 0, 0, 0]));
+    assert_eq!(rt; iter.left(), 0);
+    assert_eq!(rt; iter.next(), None);
+    assert_eq!(rt; iter.next(), None);
+    Ok(())
+}
+
+#[test]
+fn two_thousand_prefixes(rt: HostRuntime) -> Result<(), Fail> {
+    let mut octets = Vec::new(rt.alloc());
+    for _ in 0..2000 {
+        octets.extend_from_slice(&[0x18, 198, 51, 100])?;
+    }
+    assert_eq!(rt; PrefixIter4::new(&octets).left(), 2000);
+    assert_eq!(rt; PrefixIter4::new(&octets).count(), 2000);
+    Ok(())
+}
+
+#[test]
+fn runs_of_sixteen_octets(rt: HostRuntime) -> Result<(), Fail> {
+    let octets = [0x20u8, 0x20, 0x01, 0x0d, 0xb8];
+    assert!(rt; check_run6(&octets));
+    let prefixes = read_run6(rt.alloc(), &octets).ok().ok_or("a run")?;
+    assert_eq!(rt; prefixes.len(), 1);
+    for prefix in prefixes.iter() {
+        assert_eq!(rt;
+            format!(in rt.alloc(); "{prefix}")?.as_str(),
+            "2001:0db8:0000:0000:0000:0000:0000:0000/32"
+        );
+        assert_eq!(rt; PrefixIter6::new(&octets).next(), Some(*prefix));
+    }
+    let mut out = Vec::new(rt.alloc());
+    write_run6(prefixes.as_slice(), &mut out)?;
+    assert_eq!(rt; out.as_slice(), octets.as_slice());
+    let all = Prefix6::new(128, [255; 16]).ok_or("128 bits")?;
+    assert_eq!(rt;
+        format!(in rt.alloc(); "{all}")?.as_str(),
+        "ffff:ffff:ffff:ffff:ffff:ffff:ffff:ffff/128"
+    );
+    assert!(rt; Prefix6::new(129, [0; 16]).is_none());
+    Ok(())
+}
+
+#[test]
+fn numbers_of_systems(rt: HostRuntime) -> Result<(), Fail> {
+    assert_eq!(rt; AS_TRANS.0, 23456);
+    assert_eq!(rt; AS_TRANS.try_copy(rt.alloc())?, AS_TRANS);
+    let mut numbers = List::new(rt.alloc());
+    numbers.push(AsNumber(65536))?;
+    assert_eq!(rt; numbers.copy(rt.alloc())?, numbers);
+    Ok(())
+}
+
+// Under `rt try --test --fail-alloc N` growth N is refused: the answer says so, nothing has changed,
+// and the same call succeeds afterwards.
+#[test]
+fn a_refused_growth_changes_nothing(rt: HostRuntime) -> Result<(), Fail> {
+    let octets = [0x18u8, 198, 51, 100, 0x20, 192, 0, 2, 1, 0x00];
+    let read = match read_run4(rt.alloc(), &octets) {
+        Err(RunFault::Memory) => read_run4(rt.alloc(), &octets),
+        read => read,
+    };
+    let prefixes = read.ok().ok_or("a run")?;
+    let mut out = Vec::new(rt.alloc());
+    for _ in 0..4 {
+        let held = out.len();
+        if write_run4(prefixes.as_slice(), &mut out).is_err() {
+            assert_eq!(rt; out.len(), held);
+            write_run4(prefixes.as_slice(), &mut out)?;
+        }
+    }
+    assert_eq!(rt; out.len(), 4 * octets.len());
+    for part in out.chunks(10) {
+        assert_eq!(rt; part, octets.as_slice());
+    }
+    Ok(())
+}

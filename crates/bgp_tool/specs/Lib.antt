@@ -1,0 +1,9 @@
+-- What the program reads, prints and counts.
+pub mod Tally
+pub mod HexText
+pub mod HexSteps
+pub mod Print
+pub mod Printing
+pub mod Output
+pub mod Show
+pub mod Blocks

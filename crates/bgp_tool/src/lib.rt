@@ -1,0 +1,16 @@
+//! The program `bgp`: its engines over readers and writers, and its command line.
+#![tactic(auto)]
+
+mod fault;
+mod hex_text;
+pub mod laws;
+mod lines;
+mod output;
+mod printer;
+mod shown;
+mod tally;
+
+pub use bgp_frame::End;
+pub use fault::ToolFault;
+pub use shown::show;
+pub use tally::{Tally, status};
