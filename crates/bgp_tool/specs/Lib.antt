@@ -7,3 +7,4 @@ pub mod Printing
 pub mod Output
 pub mod Show
 pub mod Blocks
+pub mod Command

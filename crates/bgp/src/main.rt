@@ -1,0 +1,40 @@
+//! The program `bgp`: hands its words and its three streams to `bgp_tool`, and ends with the status of the answer.
+#![tactic(auto)]
+
+use std::alloc::AllocError;
+use std::env;
+use std::io;
+use std::process::ExitCode;
+
+// The words behind the program's name.
+fn words(rt: &HostRuntime) -> io::Result<Vec<String>> {
+    Ok(env::args(rt)?.skip(1).collect(rt.alloc())?)
+}
+
+// Runs the program, where there is memory to hold its words by reference.
+fn run(rt: &HostRuntime, words: &[String]) -> Result<u8, AllocError> {
+    let alloc = rt.alloc();
+    let words: Vec<&str> = words.iter().map(|word| word.as_str()).collect(alloc)?;
+    let input = &mut rt.stdin();
+    let output = &mut rt.stdout();
+    let errors = &mut rt.stderr();
+    Ok(bgp_tool::command(alloc, &words, input, output, errors))
+}
+
+fn main(rt: HostRuntime) -> ExitCode {
+    let status = match words(&rt) {
+        Ok(words) => run(&rt, &words).ok(),
+        Err(error) if error.kind() == io::ErrorKind::OutOfMemory => None,
+        Err(_) => {
+            let _ = eprintln!(rt; "bgp: the words of the command line are no text");
+            return ExitCode::from(2);
+        }
+    };
+    match status {
+        Some(status) => ExitCode::from(status),
+        None => {
+            let _ = eprintln!(rt; "bgp: memory");
+            ExitCode::from(3)
+        }
+    }
+}
