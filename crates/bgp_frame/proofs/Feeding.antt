@@ -97,8 +97,8 @@ module _ (held piece : List ℕ) (first second : ℕ) (f : Fills held piece firs
       elim (cases_lt (length headed) 19) [
         | inl short ↦ omega (arith, s.0)
         | inr long ↦
-          let same : wanted (held ++ take k piece) ≡ wanted headed = ap wanted (split_at k past) ∙ wanted_more (k - first) long in
-          omega (arith, s.1)
+            let same : wanted (held ++ take k piece) ≡ wanted headed = ap wanted (split_at k past) ∙ wanted_more (k - first) long in
+            omega (arith, s.1)
       ]
 
   all_or_stops : (first + second ≡ length piece) ⊎ Stops (held ++ take (first + second) piece)
@@ -109,10 +109,10 @@ module _ (held piece : List ℕ) (first second : ℕ) (f : Fills held piece firs
       let two = f.second_is in
       elim (cases_lt (first + second) (length piece)) [
         | inl less ↦
-          let long : 19 ≤ length headed = omega arith in
-          let same = wanted_more second long in
-          let fits = headed_within long in
-          inr (subst Stops filled_is (wanted-Stops filled octets_filled (omega arith) (omega arith)))
+            let long : 19 ≤ length headed = omega arith in
+            let same = wanted_more second long in
+            let fits = headed_within long in
+            inr (subst Stops filled_is (wanted-Stops filled octets_filled (omega arith) (omega arith)))
         | inr all ↦ inl (omega arith)
       ]
 

@@ -62,17 +62,17 @@ IsFrame-head_of b h octets e len =
     let field : to_be_bytes w16 (19 + length (drop 19 b)) ≡ two = be_bytes_2 two (19 + length (drop 19 b)) refl two_octets (body_len ∙ len ∙ sym s.len_is) in
     record {
       octets =
-        parts b long
-        ∙ ap (λ (x : List ℕ). x ++ (two ++ (get_or b 18 0 ∷ drop 19 b))) s.marked
-        ∙ ap (λ (n : ℕ). marker ++ (two ++ (n ∷ drop 19 b))) s.type_is
-        ∙ ap (λ (x : List ℕ). marker ++ (x ++ (code_of h.kind ∷ drop 19 b))) (sym field);
+          parts b long
+          ∙ ap (λ (x : List ℕ). x ++ (two ++ (get_or b 18 0 ∷ drop 19 b))) s.marked
+          ∙ ap (λ (n : ℕ). marker ++ (two ++ (n ∷ drop 19 b))) s.type_is
+          ∙ ap (λ (x : List ℕ). marker ++ (x ++ (code_of h.kind ∷ drop 19 b))) (sym field);
       allowed = subst (λ (n : ℕ). IsLength h.kind n) (sym len) s.fits;
     }
-    where
-      pair_octets : (x y : ℕ) → x < 256 → y < 256 → (i : ℕ) → get_or (x ∷ y ∷ []) i 0 < 256
-      pair_octets x y p q zero = p
-      pair_octets x y p q (suc zero) = q
-      pair_octets x y p q (suc (suc i)) = omega arith
+  where
+    pair_octets : (x y : ℕ) → x < 256 → y < 256 → (i : ℕ) → get_or (x ∷ y ∷ []) i 0 < 256
+    pair_octets x y p q zero = p
+    pair_octets x y p q (suc zero) = q
+    pair_octets x y p q (suc (suc i)) = omega arith
 
 -- ---- what is wanted
 
@@ -94,9 +94,9 @@ wanted-bounds b =
     elim (cases_lt (length b) 19) [
       | inl short ↦ let e = wanted_under b short in (omega arith, omega arith)
       | inr long ↦
-        let e = wanted_by_head b long in
-        let bounds = wanted_by_bounds (head_of b) (λ h is. (Says-head_of b h is).fits) in
-        (omega (arith, bounds.0), omega (arith, bounds.1))
+          let e = wanted_by_head b long in
+          let bounds = wanted_by_bounds (head_of b) (λ h is. (Says-head_of b h is).fits) in
+          (omega (arith, bounds.0), omega (arith, bounds.1))
     ]
 
 -- once the header is there, more octets want no more
@@ -136,11 +136,11 @@ header_begins b h len octets e =
     let count : length whole ≡ h.len = omega (arith, length-append b rest, length-replicate {A = ℕ} (h.len - 19) 0) in
     let says : head_of whole ≡ Ok h = head_of-append b rest (omega arith) ∙ e in
     (rest, (record { kind = h.kind; body = drop 19 whole }, IsFrame-head_of whole h (AreOctets-append b rest octets zeros) says count))
-    where
-      zero_octets : (n i : ℕ) → get_or (replicate n 0) i 0 < 256
-      zero_octets zero i = omega arith
-      zero_octets (suc n) zero = omega arith
-      zero_octets (suc n) (suc i) = zero_octets n i
+  where
+    zero_octets : (n i : ℕ) → get_or (replicate n 0) i 0 < 256
+    zero_octets zero i = omega arith
+    zero_octets (suc n) zero = omega arith
+    zero_octets (suc n) (suc i) = zero_octets n i
 
 whole_begins : (h rest : List ℕ) → length h ≡ 19 → IsWhole (h ++ rest) → (header : Header) × (head_of h ≡ Ok header)
 whole_begins h rest len w = (head_at w.0.kind (length (h ++ rest)), sym (head_of-append h rest (omega arith)) ∙ head_of-IsFrame w.0 (h ++ rest) w.1)

@@ -30,7 +30,7 @@ one_frame v w a b x y p q e =
     let len_a = length-IsFrame v a p in
     let len_b = length-IsFrame w b q in
     let same : head_at v.kind (length a) ≡ head_at w.kind (length b) = said_same (head_at v.kind (length a)) (head_at w.kind (length b))
-      (sym (head_of-IsFrame v a p) ∙ sym (head_of-append a x (omega arith)) ∙ ap head_of e ∙ head_of-append b y (omega arith) ∙ head_of-IsFrame w b q) in
+    (sym (head_of-IsFrame v a p) ∙ sym (head_of-append a x (omega arith)) ∙ ap head_of e ∙ head_of-append b y (omega arith) ∙ head_of-IsFrame w b q) in
     let kinds : v.kind ≡ w.kind = ap (λ (h : Header). h.kind) same in
     let lens : length a ≡ length b = ap (λ (h : Header). h.len) same in
     let whole : a ≡ b = sym (take_at a x (length a) refl) ∙ ap (take (length a)) e ∙ take_at b y (length a) (sym lens) in
@@ -128,12 +128,12 @@ module _ (Outcome : Type 0) (j : Judgement Outcome) where
       let says : head_of (frame ++ rest) ≡ Ok (head_at m.kind (length frame)) = head_of-append frame rest (omega arith) ∙ head_of-IsFrame m frame f in
       let body : drop 19 frame ≡ m.body = ap (drop 19) f.octets in
       let same : message_at (head_at m.kind (length frame)) (frame ++ rest) ≡ m =
-        ap (λ (x : List ℕ). record { kind = m.kind; body = drop 19 x }) (take_at frame rest (length frame) refl) ∙ ap (λ (x : List ℕ). record { kind = m.kind; body = x }) body in
+      ap (λ (x : List ℕ). record { kind = m.kind; body = drop 19 x }) (take_at frame rest (length frame) refl) ∙ ap (λ (x : List ℕ). record { kind = m.kind; body = x }) body in
       let count : length frame ≡ length (octets_of m) = ap length f.octets in
       rw (le-ltb (length (frame ++ rest)) (wanted (frame ++ rest)) enough, says) (
-        ap (λ (k : Message). cond (j.resets (j.of_message k)) ((length frame, j.of_message k) ∷ [], end.Reset) (with_outcome (length frame, j.of_message k) (read_within n (drop (length frame) (frame ++ rest))))) same
-        ∙ ap (λ (x : List ℕ). cond (j.resets (j.of_message m)) ((length frame, j.of_message m) ∷ [], end.Reset) (with_outcome (length frame, j.of_message m) (read_within n x))) (drop_at frame rest (length frame) refl)
-        ∙ ap (λ (k : ℕ). cond (j.resets (j.of_message m)) ((k, j.of_message m) ∷ [], end.Reset) (with_outcome (k, j.of_message m) (read_within n rest))) count)
+      ap (λ (k : Message). cond (j.resets (j.of_message k)) ((length frame, j.of_message k) ∷ [], end.Reset) (with_outcome (length frame, j.of_message k) (read_within n (drop (length frame) (frame ++ rest))))) same
+      ∙ ap (λ (x : List ℕ). cond (j.resets (j.of_message m)) ((length frame, j.of_message m) ∷ [], end.Reset) (with_outcome (length frame, j.of_message m) (read_within n x))) (drop_at frame rest (length frame) refl)
+      ∙ ap (λ (k : ℕ). cond (j.resets (j.of_message m)) ((k, j.of_message m) ∷ [], end.Reset) (with_outcome (k, j.of_message m) (read_within n rest))) count)
 
   -- ---- each reading is that of the function
 
@@ -199,9 +199,9 @@ module _ (Outcome : Type 0) (j : Judgement Outcome) where
       elim (tail_ends m ms rest os e ends) [
         | inl is ↦ ap (read_within (suc n)) regrouped ∙ read_reset n m frames.0 (frames.1 ++ rest) frames.3 is.0 ∙ ap (λ (xs : List (ℕ × Outcome)). (xs, end.Reset)) (sym is.1) ∙ ap (λ (d : End). (os, d)) (sym is.2)
         | inr t ↦
-          ap (read_within (suc n)) regrouped ∙ read_more n m frames.0 (frames.1 ++ rest) frames.3 t.on
-          ∙ ap (with_outcome (outcome_of j m)) (read_is n ms (frames.1 ++ rest) frames.1 rest t.tail e shorter refl frames.4 t.ends)
-          ∙ ap (λ (xs : List (ℕ × Outcome)). (xs, e)) t.told
+            ap (read_within (suc n)) regrouped ∙ read_more n m frames.0 (frames.1 ++ rest) frames.3 t.on
+            ∙ ap (with_outcome (outcome_of j m)) (read_is n ms (frames.1 ++ rest) frames.1 rest t.tail e shorter refl frames.4 t.ends)
+            ∙ ap (λ (xs : List (ℕ × Outcome)). (xs, e)) t.told
       ]
 
   -- a stream has one reading at the most

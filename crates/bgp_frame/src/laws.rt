@@ -13,23 +13,19 @@ ghost use Rattle.bgp_frame.specs.Stream.{HasOneReading, as_it_is};
 /// No message begins another, and the octets of one have one kind and one body.
 pub fn frames_are_prefix_free()
     ensures { IsPrefixFree IsFrame }
-{
-}
+{}
 
 /// 19 octets begin some message exactly where their header has no fault.
 pub fn headers_begin_messages()
     ensures { (h : List ℕ) → length h ≡ 19 → AreOctets h → ((header : Header) × (head_of h ≡ Ok header)) ↔ ((rest : List ℕ) × IsWhole (h ++ rest)) }
-{
-}
+{}
 
 /// How many octets a framer takes is one number.
 pub fn one_count_is_taken()
     ensures { (held piece : List ℕ) (n m : ℕ) → Takes held piece n → Takes held piece m → n ≡ m }
-{
-}
+{}
 
 /// Each stream of octets has exactly one list of messages and faults and one end, whichever of them end it.
 pub fn streams_have_one_reading()
     ensures { (resets : Result Message HeadFault → Bool) (stream : List ℕ) → AreOctets stream → HasOneReading (as_it_is resets) stream }
-{
-}
+{}

@@ -55,7 +55,10 @@ fn a_wrong_marker_waits_for_its_header(rt: HostRuntime) {
 #[test]
 fn two_keepalives(rt: HostRuntime) {
     let keepalive = head(Kind::Keepalive, 0);
-    assert_eq!(rt; keepalive.as_slice(), stream(0xff, &[0x00, 0x13, 4]).as_slice());
+    assert_eq!(rt;
+        keepalive.as_slice(),
+        stream(0xff, &[0x00, 0x13, 4]).as_slice()
+    );
     let mut framer = Framer::default();
     for _ in 0..2u8 {
         assert_eq!(rt; framer.feed(&keepalive), 19);

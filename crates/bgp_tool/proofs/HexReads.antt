@@ -26,11 +26,11 @@ module _ (old new : HexText) (c : ℕ) where
       → Continues old (c ∷ []) (octet ∷ []) new
   reads_pair high octet was is count some first second value = record {
     spells = λ later.
-      ap (λ (p : List ℕ). spelled (p ++ (c ∷ later))) (pending_is old (Some high) was) ∙ spelled-pair high c later first second
-      ∙ ap (λ (v : ℕ). v ∷ spelled later) (sym value) ∙ ap (λ (p : List ℕ). octet ∷ spelled (p ++ later)) (sym (pending_is new None is));
+        ap (λ (p : List ℕ). spelled (p ++ (c ∷ later))) (pending_is old (Some high) was) ∙ spelled-pair high c later first second
+        ∙ ap (λ (v : ℕ). v ∷ spelled later) (sym value) ∙ ap (λ (p : List ℕ). octet ∷ spelled (p ++ later)) (sym (pending_is new None is));
     is_bad = λ later.
-      ap (λ (p : List ℕ). bad_from (old.seen - length p) (p ++ (c ∷ later))) (pending_is old (Some high) was) ∙ bad_from-pair (old.seen - 1) high c later first second
-      ∙ bad_on (old.seen - 1 + 2) later (omega arith) is;
+        ap (λ (p : List ℕ). bad_from (old.seen - length p) (p ++ (c ∷ later))) (pending_is old (Some high) was) ∙ bad_from-pair (old.seen - 1) high c later first second
+        ∙ bad_on (old.seen - 1 + 2) later (omega arith) is;
     counts = count;
   }
 
@@ -39,18 +39,18 @@ module _ (old new : HexText) (c : ℕ) where
   breaks_pair high was some first second = record {
     spells = λ later. ap (λ (p : List ℕ). spelled (p ++ (c ∷ later))) (pending_is old (Some high) was) ∙ spelled-half high c later first second;
     is_bad = λ later.
-      ap (λ (p : List ℕ). bad_from (old.seen - length p) (p ++ (c ∷ later))) (pending_is old (Some high) was) ∙ bad_from-half (old.seen - 1) high c later first second
-      ∙ ap (λ (n : ℕ). Some n) (let same : old.seen - 1 + 1 ≡ old.seen = omega arith in same);
+        ap (λ (p : List ℕ). bad_from (old.seen - length p) (p ++ (c ∷ later))) (pending_is old (Some high) was) ∙ bad_from-half (old.seen - 1) high c later first second
+        ∙ ap (λ (n : ℕ). Some n) (let same : old.seen - 1 + 1 ≡ old.seen = omega arith in same);
   }
 
   -- a blank between pairs
   pub reads_blank : old.pending ≡ None → new.pending ≡ None → new.seen ≡ old.seen + 1 → is_blank c ≡ true → Continues old (c ∷ []) [] new
   reads_blank was is count blank = record {
     spells = λ later.
-      ap (λ (p : List ℕ). spelled (p ++ (c ∷ later))) (pending_is old None was) ∙ spelled-blank c later blank ∙ ap (λ (p : List ℕ). spelled (p ++ later)) (sym (pending_is new None is));
+        ap (λ (p : List ℕ). spelled (p ++ (c ∷ later))) (pending_is old None was) ∙ spelled-blank c later blank ∙ ap (λ (p : List ℕ). spelled (p ++ later)) (sym (pending_is new None is));
     is_bad = λ later.
-      ap (λ (p : List ℕ). bad_from (old.seen - length p) (p ++ (c ∷ later))) (pending_is old None was) ∙ from_seen (c ∷ later) ∙ bad_from-blank old.seen c later blank
-      ∙ bad_on (old.seen + 1) later (sym count) is;
+        ap (λ (p : List ℕ). bad_from (old.seen - length p) (p ++ (c ∷ later))) (pending_is old None was) ∙ from_seen (c ∷ later) ∙ bad_from-blank old.seen c later blank
+        ∙ bad_on (old.seen + 1) later (sym count) is;
     counts = count;
   }
 
@@ -58,11 +58,11 @@ module _ (old new : HexText) (c : ℕ) where
   pub reads_first : old.pending ≡ None → new.pending ≡ Some c → new.seen ≡ old.seen + 1 → Continues old (c ∷ []) [] new
   reads_first was is count = record {
     spells = λ later.
-      ap (λ (p : List ℕ). spelled (p ++ (c ∷ later))) (pending_is old None was) ∙ ap (λ (p : List ℕ). spelled (p ++ later)) (sym (pending_is new (Some c) is));
+        ap (λ (p : List ℕ). spelled (p ++ (c ∷ later))) (pending_is old None was) ∙ ap (λ (p : List ℕ). spelled (p ++ later)) (sym (pending_is new (Some c) is));
     is_bad = λ later.
-      ap (λ (p : List ℕ). bad_from (old.seen - length p) (p ++ (c ∷ later))) (pending_is old None was)
-      ∙ ap (λ (n : ℕ). bad_from n (c ∷ later)) (let same : old.seen - 0 ≡ new.seen - 1 = omega arith in same)
-      ∙ ap (λ (p : List ℕ). bad_from (new.seen - length p) (p ++ later)) (sym (pending_is new (Some c) is));
+        ap (λ (p : List ℕ). bad_from (old.seen - length p) (p ++ (c ∷ later))) (pending_is old None was)
+        ∙ ap (λ (n : ℕ). bad_from n (c ∷ later)) (let same : old.seen - 0 ≡ new.seen - 1 = omega arith in same)
+        ∙ ap (λ (p : List ℕ). bad_from (new.seen - length p) (p ++ later)) (sym (pending_is new (Some c) is));
     counts = count;
   }
 
@@ -77,7 +77,7 @@ module _ (old new : HexText) (c : ℕ) where
 pub Continues-then : (a b c : HexText) (text more octets others : List ℕ) → Continues a text octets b → Continues b more others c → Continues a (text ++ more) (octets ++ others) c
 Continues-then a b c text more octets others p q = record {
   spells = λ later.
-    ap (λ (x : List ℕ). spelled (pending a ++ x)) (append_assoc text more later) ∙ p.spells (more ++ later) ∙ ap (λ (x : List ℕ). octets ++ x) (q.spells later) ∙ sym (append_assoc octets others (spelled (pending c ++ later)));
+      ap (λ (x : List ℕ). spelled (pending a ++ x)) (append_assoc text more later) ∙ p.spells (more ++ later) ∙ ap (λ (x : List ℕ). octets ++ x) (q.spells later) ∙ sym (append_assoc octets others (spelled (pending c ++ later)));
   is_bad = λ later. ap (λ (x : List ℕ). bad_from (place a) (pending a ++ x)) (append_assoc text more later) ∙ p.is_bad (more ++ later) ∙ q.is_bad later;
   counts = q.counts ∙ ap (λ (n : ℕ). n + length more) p.counts ∙ (let same : a.seen + length text + length more ≡ a.seen + length (text ++ more) = omega (arith, length-append text more) in same);
 }

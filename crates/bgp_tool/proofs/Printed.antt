@@ -148,9 +148,9 @@ module _ (old mid fed new : Printer) (block rest : List ℕ) (n : ℕ) (p : Prin
       record {
         outcomes = p.outcomes ++ o ∷ [];
         goes_on = λ later others e g.
-          subst (λ (os : List (ℕ × Outcome)). Gives judgement (old.framer ++ (block ++ later)) os e) (sym (append_assoc p.outcomes (o ∷ []) others))
-          (p.goes_on later (o ∷ others) e (subst (λ (s : List ℕ). Gives judgement s (o ∷ others) e) (sym (whole later))
-          (gives_more Outcome judgement m.message fed.framer (drop n rest ++ later) others e m.is_held refl (subst (λ (h : List ℕ). Gives judgement (h ++ (drop n rest ++ later)) others e) m.held g))));
+            subst (λ (os : List (ℕ × Outcome)). Gives judgement (old.framer ++ (block ++ later)) os e) (sym (append_assoc p.outcomes (o ∷ []) others))
+            (p.goes_on later (o ∷ others) e (subst (λ (s : List ℕ). Gives judgement s (o ∷ others) e) (sym (whole later))
+            (gives_more Outcome judgement m.message fed.framer (drop n rest ++ later) others e m.is_held refl (subst (λ (h : List ℕ). Gives judgement (h ++ (drop n rest ++ later)) others e) m.held g))));
         waits = subst Waits (sym m.held) nothing_waits;
         are_octets = subst AreOctets (sym m.held) AreOctets-nil;
         text = next_text old fed new p.outcomes o (ap string_bytes same_text ∙ p.text) (same_place ∙ p.place) (m.text ∙ ap (λ (k : ℕ). string_bytes fed.text ++ message_line fed.place k m.message.kind) size);
@@ -173,10 +173,10 @@ module _ (old mid fed new : Printer) (block rest : List ℕ) (n : ℕ) (p : Prin
         over = tt;
         outcomes = p.outcomes ++ o ∷ [];
         gives = λ later.
-          let rest_of : List ℕ = drop n rest ++ later in
-          let long : 19 ≤ length (fed.framer ++ rest_of) = omega (arith, length-append fed.framer rest_of, f.has_header) in
-          let faulty : head_of (fed.framer ++ rest_of) ≡ Err f.fault = head_of-append fed.framer rest_of (omega (arith, f.has_header)) ∙ f.is_held in
-          p.goes_on later (o ∷ []) end.Head (subst (λ (s : List ℕ). Gives judgement s (o ∷ []) end.Head) (sym (whole later)) (gives_fault Outcome judgement (fed.framer ++ rest_of) f.fault long faulty));
+            let rest_of : List ℕ = drop n rest ++ later in
+            let long : 19 ≤ length (fed.framer ++ rest_of) = omega (arith, length-append fed.framer rest_of, f.has_header) in
+            let faulty : head_of (fed.framer ++ rest_of) ≡ Err f.fault = head_of-append fed.framer rest_of (omega (arith, f.has_header)) ∙ f.is_held in
+            p.goes_on later (o ∷ []) end.Head (subst (λ (s : List ℕ). Gives judgement s (o ∷ []) end.Head) (sym (whole later)) (gives_fault Outcome judgement (fed.framer ++ rest_of) f.fault long faulty));
         text = next_text old fed new p.outcomes o (ap string_bytes same_text ∙ p.text) (same_place ∙ p.place) f.text;
         tally = next_tally old.tally fed.tally new.tally p.outcomes o (same_tally ∙ p.tally) f.tally;
       }

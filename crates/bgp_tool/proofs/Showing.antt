@@ -92,23 +92,23 @@ module _ (hex : Bool) (r0 w0 : Option (List ℕ)) where
         read = Consumes-trans r0 r r1 s.text block s.read more;
         octets = s.octets ++ m.octets;
         stream = λ later.
-          ap (stream_of hex) (append_assoc s.text block later) ∙ s.stream (block ++ later) ∙ ap (λ (x : List ℕ). s.octets ++ x) (m.spells.stream later) ∙ sym (append_assoc s.octets m.octets (stream_of hex (pending reader1 ++ later)));
+            ap (stream_of hex) (append_assoc s.text block later) ∙ s.stream (block ++ later) ∙ ap (λ (x : List ℕ). s.octets ++ x) (m.spells.stream later) ∙ sym (append_assoc s.octets m.octets (stream_of hex (pending reader1 ++ later)));
         bad = λ later. ap (bad_of hex 0) (append_assoc s.text block later) ∙ s.bad (block ++ later) ∙ m.spells.bad later;
         raw = m.spells.raw;
         seen = omega (arith, m.spells.seen, s.seen);
         told = s.told;
         fresh = s.fresh ++ p.outcomes;
         goes_on = λ later others e g.
-          subst (λ (os : List (ℕ × Outcome)). Gives judgement ((s.octets ++ m.octets) ++ later) os e) (regroup s.told s.fresh p.outcomes others)
-          (subst (λ (x : List ℕ). Gives judgement x ((s.told ++ s.fresh) ++ (p.outcomes ++ others)) e) (sym (append_assoc s.octets m.octets later))
-          (s.goes_on (m.octets ++ later) (p.outcomes ++ others) e (p.goes_on later others e g)));
+            subst (λ (os : List (ℕ × Outcome)). Gives judgement ((s.octets ++ m.octets) ++ later) os e) (regroup s.told s.fresh p.outcomes others)
+            (subst (λ (x : List ℕ). Gives judgement x ((s.told ++ s.fresh) ++ (p.outcomes ++ others)) e) (sym (append_assoc s.octets m.octets later))
+            (s.goes_on (m.octets ++ later) (p.outcomes ++ others) e (p.goes_on later others e g)));
         waits = p.waits;
         are_octets = p.are_octets;
         wrote = s.wrote;
         collected =
-          p.text ∙ ap (λ (t : List ℕ). t ++ lines_from printer.place p.outcomes) s.collected
-          ∙ ap (λ (n : ℕ). lines_from (total s.told) s.fresh ++ lines_from n p.outcomes) (s.at ∙ total-append s.told s.fresh)
-          ∙ sym (lines_from-append (total s.told) s.fresh p.outcomes);
+            p.text ∙ ap (λ (t : List ℕ). t ++ lines_from printer.place p.outcomes) s.collected
+            ∙ ap (λ (n : ℕ). lines_from (total s.told) s.fresh ++ lines_from n p.outcomes) (s.at ∙ total-append s.told s.fresh)
+            ∙ sym (lines_from-append (total s.told) s.fresh p.outcomes);
         at = p.place ∙ ap (λ (n : ℕ). n + total p.outcomes) s.at ∙ sym (total-append (s.told ++ s.fresh) p.outcomes) ∙ ap total (append_assoc s.told s.fresh p.outcomes);
         tally = p.tally ∙ ap (λ (t : Tally). tally_from t p.outcomes) s.tally ∙ sym (tally_from-append no_tally (s.told ++ s.fresh) p.outcomes) ∙ ap (tally_from no_tally) (append_assoc s.told s.fresh p.outcomes);
         countable = p.countable;
@@ -136,8 +136,8 @@ module _ (hex : Bool) (r0 w0 : Option (List ℕ)) where
         told = s.told ++ s.fresh;
         fresh = [];
         goes_on = λ later others e g.
-          subst (λ (os : List (ℕ × Outcome)). Gives judgement (s.octets ++ later) (os ++ others) e) (sym (append-nil (s.told ++ s.fresh)))
-          (s.goes_on later others e (subst (λ (h : List ℕ). Gives judgement (h ++ later) others e) held g));
+            subst (λ (os : List (ℕ × Outcome)). Gives judgement (s.octets ++ later) (os ++ others) e) (sym (append-nil (s.told ++ s.fresh)))
+            (s.goes_on later others e (subst (λ (h : List ℕ). Gives judgement (h ++ later) others e) held g));
         waits = subst Waits (sym held) s.waits;
         are_octets = subst AreOctets (sym held) s.are_octets;
         wrote = subst (Appends w0 w1) (ap (λ (t : List ℕ). lines_from 0 s.told ++ t) s.collected ∙ sym (lines_from-all s.told s.fresh)) (Appends-trans w0 w w1 (lines_from 0 s.told) (string_bytes printer.text) s.wrote more);
@@ -184,14 +184,20 @@ module _ (hex : Bool) (r0 w0 : Option (List ℕ)) where
       gives = s.gives;
       written = lines_from 0 told ++ a.front;
       wrote = Appends-trans w0 w w1 (lines_from 0 told) a.front s.wrote a.appends;
-      is_fault = (a.is_front.0 ++ within.0,
+      is_fault = (
+        a.is_front.0 ++ within.0,
         all_printed ∙ ap (λ (t : List ℕ). lines_from 0 told ++ t) (within.1 ∙ ap (λ (t : List ℕ). t ++ within.0) a.is_front.1 ∙ append_assoc a.front a.is_front.0 within.0)
-        ∙ sym (append_assoc (lines_from 0 told) a.front (a.is_front.0 ++ within.0)));
+            ∙ sym (append_assoc (lines_from 0 told) a.front (a.is_front.0 ++ within.0)),
+      );
     }
 
     pub fails_to_finish : (f : ToolFault) → FailsToFinish w w1 (lines_from (total told) fresh ++ end_line e) f → Fails hex r0 r w0 w1 f
     fails_to_finish fault.Memory a = record {
-      text = text; read = s.read; outcomes = told ++ fresh; end_of = e; gives = s.gives;
+      text = text;
+      read = s.read;
+      outcomes = told ++ fresh;
+      end_of = e;
+      gives = s.gives;
       written = lines_from 0 told ++ [];
       wrote = Appends-trans w0 w w1 (lines_from 0 told) [] s.wrote a;
       is_fault = subst (λ (t : List ℕ). IsFront t (lines_from 0 (told ++ fresh))) (sym (append-nil (lines_from 0 told))) told_front;
@@ -243,10 +249,10 @@ module _ (hex : Bool) (r0 w0 : Option (List ℕ)) where
   Reached-rest r w reader printer turns k s count = record {
     read = s.read;
     gives =
-      subst (λ (n : ℕ). Gives judgement (stream_of hex s.text) (s.told ++ s.fresh) (end.Wait n)) (sym count)
-      (subst (λ (x : List ℕ). Gives judgement x (s.told ++ s.fresh) (end.Wait (length printer.framer))) (append-nil s.octets ∙ sym (all_spelled r w reader printer turns s))
-      (subst (λ (os : List (ℕ × Outcome)). Gives judgement (s.octets ++ []) os (end.Wait (length printer.framer))) (append-nil (s.told ++ s.fresh))
-      (s.goes_on [] [] (end.Wait (length printer.framer)) (subst (λ (x : List ℕ). Gives judgement x [] (end.Wait (length printer.framer))) (sym (append-nil printer.framer)) (gives_wait Outcome judgement printer.framer s.waits)))));
+        subst (λ (n : ℕ). Gives judgement (stream_of hex s.text) (s.told ++ s.fresh) (end.Wait n)) (sym count)
+        (subst (λ (x : List ℕ). Gives judgement x (s.told ++ s.fresh) (end.Wait (length printer.framer))) (append-nil s.octets ∙ sym (all_spelled r w reader printer turns s))
+        (subst (λ (os : List (ℕ × Outcome)). Gives judgement (s.octets ++ []) os (end.Wait (length printer.framer))) (append-nil (s.told ++ s.fresh))
+        (s.goes_on [] [] (end.Wait (length printer.framer)) (subst (λ (x : List ℕ). Gives judgement x [] (end.Wait (length printer.framer))) (sym (append-nil printer.framer)) (gives_wait Outcome judgement printer.framer s.waits)))));
     wrote = s.wrote;
   }
 
@@ -255,8 +261,8 @@ module _ (hex : Bool) (r0 w0 : Option (List ℕ)) where
       → IsBadAt hex s.text r (end.Wait k) n
   bad_digit r w reader printer turns n c k s ended is digit at = record {
     place =
-      ap (bad_of hex 0) (sym (append-nil s.text)) ∙ s.bad [] ∙ ap (λ (p : List ℕ). bad_of hex (reader.seen - length p) (p ++ [])) (ap option_to_list is)
-      ∙ digit_bad hex (reader.seen - 1) c s.raw is digit ∙ ap (λ (m : ℕ). Some m) (sym at);
+        ap (bad_of hex 0) (sym (append-nil s.text)) ∙ s.bad [] ∙ ap (λ (p : List ℕ). bad_of hex (reader.seen - length p) (p ++ [])) (ap option_to_list is)
+        ∙ digit_bad hex (reader.seen - 1) c s.raw is digit ∙ ap (λ (m : ℕ). Some m) (sym at);
     is_certain = inr ended;
     not_over = tt;
   }
@@ -308,10 +314,10 @@ module _ (hex : Bool) (r0 w0 : Option (List ℕ)) where
         record {
           read = more_read;
           gives = gives_all m.octets p.outcomes (end.Wait k) (ap (stream_of hex) (sym whole_text) ∙ streams [] ∙ ap (λ (x : List ℕ). s.octets ++ x) (m.spells.stream []))
-            (subst (λ (x : List ℕ). Gives judgement (old.framer ++ x) p.outcomes (end.Wait k)) (append-nil m.octets)
-            (subst (λ (os : List (ℕ × Outcome)). Gives judgement (old.framer ++ (m.octets ++ [])) os (end.Wait k)) (append-nil p.outcomes)
-            (p.goes_on [] [] (end.Wait k) (subst (λ (j : ℕ). Gives judgement (new.framer ++ []) [] (end.Wait j)) (sym count)
-            (subst (λ (x : List ℕ). Gives judgement x [] (end.Wait (length new.framer))) (sym (append-nil new.framer)) (gives_wait Outcome judgement new.framer p.waits))))));
+              (subst (λ (x : List ℕ). Gives judgement (old.framer ++ x) p.outcomes (end.Wait k)) (append-nil m.octets)
+              (subst (λ (os : List (ℕ × Outcome)). Gives judgement (old.framer ++ (m.octets ++ [])) os (end.Wait k)) (append-nil p.outcomes)
+              (p.goes_on [] [] (end.Wait k) (subst (λ (j : ℕ). Gives judgement (new.framer ++ []) [] (end.Wait j)) (sym count)
+              (subst (λ (x : List ℕ). Gives judgement x [] (end.Wait (length new.framer))) (sym (append-nil new.framer)) (gives_wait Outcome judgement new.framer p.waits))))));
           wrote = s.wrote;
         }
 
@@ -336,12 +342,15 @@ module _ (hex : Bool) (r0 w0 : Option (List ℕ)) where
     Reached-memory octets =
         let rest : List ℕ = stream_of hex (pending reader ++ (block ++ [])) in
         let all : AreOctets (old.framer ++ rest) = AreOctets-append old.framer rest s.are_octets (stream_octets hex s.raw octets) in
-        let some = some_reading Outcome judgement (old.framer ++ rest) all in
-        (some.0, some.1, record {
-          read = more_read;
-          gives = gives_all rest some.0 some.1 (ap (stream_of hex) (sym whole_text) ∙ streams []) some.2;
-          wrote = s.wrote;
-        })
+        let some = some_reading Outcome judgement (old.framer ++ rest) all in (
+          some.0,
+          some.1,
+          record {
+            read = more_read;
+            gives = gives_all rest some.0 some.1 (ap (stream_of hex) (sym whole_text) ∙ streams []) some.2;
+            wrote = s.wrote;
+          },
+        )
       where
         stream_octets : (h : Bool) → (h ≡ false → reader.pending ≡ None) → AreOctets block → AreOctets (stream_of h (pending reader ++ (block ++ [])))
         stream_octets true raw octets = spelled-octets (pending reader ++ (block ++ []))
@@ -350,8 +359,24 @@ module _ (hex : Bool) (r0 w0 : Option (List ℕ)) where
   -- the reader stands elsewhere, and no more of the text was read
   pub Showing-at : (r r1 w : Option (List ℕ)) (reader : HexText) (printer : Printer) (turns : ℕ) → Showing r w reader printer turns → ((t : List ℕ) → Consumes r0 r t → Consumes r0 r1 t) → Showing r1 w reader printer turns
   Showing-at r r1 w reader printer turns s move = record {
-    text = s.text; read = move s.text s.read; octets = s.octets; stream = s.stream; bad = s.bad; raw = s.raw; seen = s.seen; told = s.told; fresh = s.fresh;
-    goes_on = s.goes_on; waits = s.waits; are_octets = s.are_octets; wrote = s.wrote; collected = s.collected; at = s.at; tally = s.tally; countable = s.countable; bound = s.bound;
+    text = s.text;
+    read = move s.text s.read;
+    octets = s.octets;
+    stream = s.stream;
+    bad = s.bad;
+    raw = s.raw;
+    seen = s.seen;
+    told = s.told;
+    fresh = s.fresh;
+    goes_on = s.goes_on;
+    waits = s.waits;
+    are_octets = s.are_octets;
+    wrote = s.wrote;
+    collected = s.collected;
+    at = s.at;
+    tally = s.tally;
+    countable = s.countable;
+    bound = s.bound;
   }
 
   pub read_nothing : (r r1 : Option (List ℕ)) (n : ℕ) (buf t : List ℕ) → n ≡ 0 → Consumes r r1 (take n buf) → Consumes r0 r t → Consumes r0 r1 t
@@ -367,7 +392,13 @@ module _ (hex : Bool) (r0 w0 : Option (List ℕ)) where
     -- a bad character, behind which nothing was written
     pub fails_bad_early : (n : ℕ) → IsBadAt hex text r e n → Fails hex r0 r w0 w (fault.BadHex n)
     fails_bad_early n bad = record {
-      text = text; read = s.read; outcomes = told ++ fresh; end_of = e; gives = s.gives; written = lines_from 0 told; wrote = s.wrote;
+      text = text;
+      read = s.read;
+      outcomes = told ++ fresh;
+      end_of = e;
+      gives = s.gives;
+      written = lines_from 0 told;
+      wrote = s.wrote;
       is_fault = ((lines_from (total told) fresh, lines_from-all told fresh), bad);
     }
 

@@ -39,9 +39,11 @@ fn bgp<'a>(alloc: Global) -> Result<Command<'a>, AllocError> {
 
 fn parse<'a>(alloc: Global, words: &'a [&'a str]) -> Result<Option<Request>, Error> {
     let matches = bgp(alloc)?.try_get_matches_from(words)?;
-    Ok(matches.subcommand().map(|(_show, flags)| Request::Show {
-        hex: flags.get_flag("hex"),
-    }))
+    Ok(
+        matches.subcommand().map(|(_show, flags)| Request::Show {
+            hex: flags.get_flag("hex"),
+        }),
+    )
 }
 
 // Tells a fault. A write that fails changes nothing.

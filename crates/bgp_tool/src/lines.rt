@@ -63,7 +63,12 @@ pub(crate) fn put_message(text: &mut String, place: u64, frame: Frame<'_>) -> Re
 }
 
 /// The line of a header's fault.
-pub(crate) fn put_fault(alloc: Global, text: &mut String, place: u64, fault: HeadFault) -> Result<(), AllocError>
+pub(crate) fn put_fault(
+    alloc: Global,
+    text: &mut String,
+    place: u64,
+    fault: HeadFault,
+) -> Result<(), AllocError>
     ensures { OnOk result (string_bytes text.new ≡ string_bytes text.old ++ fault_line place fault) }
 {
     write!(text, "{place} 0 HEADER reset ")?;

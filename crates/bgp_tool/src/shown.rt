@@ -66,11 +66,7 @@ fn print_block(
 }
 
 // Writes the lines that are collected and the last one, and answers the counts.
-fn finish<W: Write>(
-    printer: &mut Printer,
-    end: End,
-    output: &mut W,
-) -> Result<Tally, ToolFault>
+fn finish<W: Write>(printer: &mut Printer, end: End, output: &mut W) -> Result<Tally, ToolFault>
     ensures { MatchResult result
         (λ tally. (tally ≡ record printer.old.tally { end = end }) × Appends (W.contents output.old) (W.contents output.new) (string_bytes printer.old.text ++ end_line end))
         (FailsToFinish (W.contents output.old) (W.contents output.new) (string_bytes printer.old.text ++ end_line end)) }

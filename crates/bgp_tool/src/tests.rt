@@ -17,7 +17,14 @@ fn octets_of(rt: &(impl Abort + AllocGlobal), text: &str) -> Vec<u8> {
     hex::decode(rt.alloc(), digits.as_slice()).expect(rt, "pairs of digits")
 }
 
-fn assert_shown(rt: &(impl Abort + AllocGlobal), hex: bool, input: &[u8], step: usize, text: &str, answer: u8) {
+fn assert_shown(
+    rt: &(impl Abort + AllocGlobal),
+    hex: bool,
+    input: &[u8],
+    step: usize,
+    text: &str,
+    answer: u8,
+) {
     let mut reader = Drip::new(input, step);
     let mut page = Page::new(rt.alloc());
     let outcome = show(rt.alloc(), hex, &mut reader, &mut page);
@@ -40,7 +47,15 @@ fn worked_streams(rt: HostRuntime) {
 
 #[test]
 fn bad_hexadecimal_text(rt: HostRuntime) {
-    for (text, place) in [("f f", 1), ("f\n", 1), ("ff f", 3), ("\t", 0), ("ff\n0g", 4), ("0x", 1), ("F", 0)] {
+    for (text, place) in [
+        ("f f", 1),
+        ("f\n", 1),
+        ("ff f", 3),
+        ("\t", 0),
+        ("ff\n0g", 4),
+        ("0x", 1),
+        ("F", 0),
+    ] {
         for step in [1, 4096] {
             let mut reader = Drip::new(text.as_bytes(), step);
             let mut page = Page::new(rt.alloc());
@@ -56,7 +71,12 @@ fn bad_hexadecimal_text(rt: HostRuntime) {
 fn a_tally(rt: HostRuntime) {
     let text = "ffffffffffffffffffffffffffffffff 0013 04 ffffffffffffffffffffffffffffffff 0017 05";
     let mut page = Page::new(rt.alloc());
-    let outcome = show(rt.alloc(), true, &mut Drip::new(text.as_bytes(), 5), &mut page);
+    let outcome = show(
+        rt.alloc(),
+        true,
+        &mut Drip::new(text.as_bytes(), 5),
+        &mut page,
+    );
     let tally = Tally {
         messages: 1,
         took: 1,
@@ -90,7 +110,12 @@ fn failing_writers(rt: HostRuntime) {
         for room in 0..60usize {
             for takes_nothing in [false, true] {
                 let mut page = Page::new(rt.alloc()).with_room(room, takes_nothing);
-                let outcome = show(rt.alloc(), true, &mut Drip::new(text.as_bytes(), 4096), &mut page);
+                let outcome = show(
+                    rt.alloc(),
+                    true,
+                    &mut Drip::new(text.as_bytes(), 4096),
+                    &mut page,
+                );
                 if lines.len() > room {
                     assert_eq!(rt; outcome, Err(ToolFault::Write));
                     assert_eq!(rt; status(&outcome), 4);
@@ -104,9 +129,18 @@ fn failing_writers(rt: HostRuntime) {
 
 #[test]
 fn a_block_is_written_in_one_go(rt: HostRuntime) {
-    let text = "ffffffffffffffffffffffffffffffff 0013 04\nffffffffffffffffffffffffffffffff 0013 04\n";
+    let text =
+        "ffffffffffffffffffffffffffffffff 0013 04\nffffffffffffffffffffffffffffffff 0013 04\n";
     let mut page = Page::new(rt.alloc());
-    assert!(rt; show(rt.alloc(), true, &mut Drip::new(text.as_bytes(), 4096), &mut page).is_ok());
+    assert!(rt;
+        show(
+            rt.alloc(),
+            true,
+            &mut Drip::new(text.as_bytes(), 4096),
+            &mut page
+        )
+        .is_ok()
+    );
     assert_eq!(rt; page.writes, 2, "the lines of the block, and the last line");
 }
 
@@ -124,10 +158,23 @@ fn texts_of_faults(rt: HostRuntime) -> Result<(), Fail> {
     Ok(())
 }
 
-fn assert_command(rt: &(impl Abort + AllocGlobal), words: &[&str], input: &str, output: &str, errors: &str, answer: u8) {
+fn assert_command(
+    rt: &(impl Abort + AllocGlobal),
+    words: &[&str],
+    input: &str,
+    output: &str,
+    errors: &str,
+    answer: u8,
+) {
     let mut page = Page::new(rt.alloc());
     let mut told = Page::new(rt.alloc());
-    let result = command(rt.alloc(), words, &mut Drip::new(input.as_bytes(), 4096), &mut page, &mut told);
+    let result = command(
+        rt.alloc(),
+        words,
+        &mut Drip::new(input.as_bytes(), 4096),
+        &mut page,
+        &mut told,
+    );
     assert_eq!(rt; result, answer);
     assert!(rt; page.text.as_slice().starts_with(output.as_bytes()));
     assert_eq!(rt; page.text.is_empty(), output.is_empty());
@@ -138,12 +185,26 @@ fn assert_command(rt: &(impl Abort + AllocGlobal), words: &[&str], input: &str, 
 #[test]
 fn command_lines(rt: HostRuntime) {
     let one = "ffffffffffffffffffffffffffffffff 0013 04";
-    assert_command(&rt, &["show", "--hex"], one, "0 19 KEEPALIVE\nend wait 0\n", "", 0);
+    assert_command(
+        &rt,
+        &["show", "--hex"],
+        one,
+        "0 19 KEEPALIVE\nend wait 0\n",
+        "",
+        0,
+    );
     assert_command(&rt, &["show", "--hex"], "f", "", "bgp: bad hex at 0\n", 1);
     assert_command(&rt, &["show"], "", "end wait 0\n", "", 0);
     assert_command(&rt, &["show"], "x", "end wait 1\n", "", 1);
     assert_command(&rt, &["--help"], "", "Show what BGP-4 speakers send", "", 0);
-    assert_command(&rt, &["show", "--help"], "", "Print the messages of a stream", "", 0);
+    assert_command(
+        &rt,
+        &["show", "--help"],
+        "",
+        "Print the messages of a stream",
+        "",
+        0,
+    );
     assert_command(&rt, &[], "", "", "error: ", 2);
     assert_command(&rt, &["shew"], "", "", "error: ", 2);
     assert_command(&rt, &["show", "--hexe"], "", "", "error: ", 2);
@@ -154,7 +215,13 @@ fn command_lines(rt: HostRuntime) {
 fn help_that_cannot_be_written(rt: HostRuntime) {
     let mut page = Page::new(rt.alloc()).with_room(3, false);
     let mut told = Page::new(rt.alloc());
-    let answer = command(rt.alloc(), &["--help"], &mut Drip::new(b"", 1), &mut page, &mut told);
+    let answer = command(
+        rt.alloc(),
+        &["--help"],
+        &mut Drip::new(b"", 1),
+        &mut page,
+        &mut told,
+    );
     assert_eq!(rt; answer, 4);
     assert!(rt; told.text.as_slice() == b"bgp: write failed\n".as_slice());
 }

@@ -7,5 +7,5 @@ abbrev pub invariant-loop-character : goal.invariant-loop-character
 invariant-loop-character l = record {
   so_far : Continues l.fn.self (take l.character-index l.text) l.octets.items l.self;
   few : 2 * length l.octets.items + length (pending l.self) ≤ l.character-index + length (pending l.fn.self);
-  octets : AreOctets l.octets.items
+  octets : AreOctets l.octets.items;
 }

@@ -5,9 +5,12 @@ use Rattle.bgp_tool.proofs.hex_text.HexText.take.Goals as goal
 
 pub returns-in-Some-pair : goal.returns-in-Some-pair
 returns-in-Some-pair c =
-    let old = c.args.self.now in
-    (reads_pair old _ c.args.character c.in-Some.high c.in-Some-pair.octet c.in-Some.is refl refl (old.is_seen c.in-Some.high c.in-Some.is) (old.is_digit c.in-Some.high c.in-Some.is)
-    (sym c.in-Some-pair.ensures.digit) c.in-Some-pair.ensures.value, ap (λ (o : Option ℕ). length (option_to_list o)) c.in-Some.is, refl)
+    let old = c.args.self.now in (
+      reads_pair old _ c.args.character c.in-Some.high c.in-Some-pair.octet c.in-Some.is refl refl (old.is_seen c.in-Some.high c.in-Some.is) (old.is_digit c.in-Some.high c.in-Some.is)
+          (sym c.in-Some-pair.ensures.digit) c.in-Some-pair.ensures.value,
+      ap (λ (o : Option ℕ). length (option_to_list o)) c.in-Some.is,
+      refl,
+    )
 
 pub returns-in-None-pair : goal.returns-in-None-pair
 returns-in-None-pair c =
