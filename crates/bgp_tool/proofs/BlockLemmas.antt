@@ -1,17 +1,15 @@
 -- One block of text: as it stands, or as hexadecimal text.
-use Rattle.std.proofs.Common.{◌≡◌, ℕ, zero, suc, ◌+◌, ◌-◌, ◌*◌, ◌<◌, ◌≤◌, ◌^◌, Bool, true, false, List, [], ◌∷◌, ◌++◌, length, Option, Some, None, refl, sym, ap, subst, ◌∙◌, append_assoc, arith}
+use Rattle.std.proofs.Common.{◌≡◌, ℕ, Bool, true, false, List, [], ◌++◌, Option, Some, None, refl, sym, ap, subst, ◌∙◌, arith}
 use Rattle.std.specs.Prelude.{option_to_list, MatchOption}
 use Rattle.std.proofs.lemmas.List.{append-nil}
 use Rattle.bgp_frame.specs.declared.end.End.{End}
-use Rattle.bgp_wire.specs.Octets.{AreOctets}
-use Rattle.bgp_frame.specs.Frame.{Waits}
 use Rattle.bgp_tool.specs.declared.hex_text.HexText.{HexText}
 use Rattle.bgp_tool.specs.declared.printer.Printer.{Printer}
-use Rattle.bgp_tool.specs.HexText.{spelled, bad_from}
-use Rattle.bgp_tool.specs.HexSteps.{pending, place, Continues, Breaks}
+use Rattle.bgp_tool.specs.HexText.{spelled}
+use Rattle.bgp_tool.specs.HexSteps.{pending, Continues, Breaks}
 use Rattle.bgp_tool.specs.Output.{IsFront}
 use Rattle.bgp_tool.specs.Printing.{PrintsAll, PrintsBlock}
-use Rattle.bgp_tool.specs.Show.{stream_of, bad_of}
+use Rattle.bgp_tool.specs.Show.{stream_of}
 use Rattle.bgp_tool.specs.Blocks.{Spells, SpellsNoMore, MeetsLast}
 
 nothing_pending : (reader : HexText) → reader.pending ≡ None → pending reader ≡ []

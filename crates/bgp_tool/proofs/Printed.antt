@@ -1,23 +1,22 @@
 -- One look after another at a stream prints what the stream gives.
-use Rattle.std.proofs.Common.{◌≡◌, ℕ, ◌+◌, ◌-◌, ◌<◌, ◌≤◌, ◌^◌, List, [], ◌∷◌, ◌++◌, length, take, drop, Result, Ok, Err, refl, sym, ap, subst, ◌∙◌, append_assoc, arith}
+use Rattle.std.proofs.Common.{◌≡◌, ℕ, ◌+◌, ◌-◌, ◌≤◌, false, List, [], ◌∷◌, ◌++◌, length, take, drop, Err, refl, sym, ap, subst, ◌∙◌, append_assoc, arith}
 use Rattle.std.specs.String.{string_bytes}
 use Rattle.std.proofs.lemmas.List.{append-nil, length-append, length-drop, length-take, take-append-drop}
 use Rattle.bgp_wire.specs.Octets.{AreOctets}
 use Rattle.bgp_wire.proofs.OctetLemmas.{AreOctets-nil, AreOctets-append, AreOctets-take}
 use Rattle.bgp_frame.specs.declared.end.End.{End}
 use Rattle.bgp_frame.specs.declared.end.End.TheVariants as end
-use Rattle.bgp_frame.specs.declared.fault.HeadFault.{HeadFault}
 use Rattle.bgp_frame.specs.Head.{head_of}
-use Rattle.bgp_frame.specs.Frame.{Message, octets_of, IsFrame, wanted, Waits}
+use Rattle.bgp_frame.specs.Frame.{Waits}
 use Rattle.bgp_frame.specs.Stream.{Gives, outcome_of}
 use Rattle.bgp_frame.proofs.FrameLemmas.{head_of-append, length-IsFrame, wanted-bounds}
-use Rattle.bgp_frame.proofs.Streams.{gives_fault, gives_more}
+use Rattle.bgp_frame.proofs.Streams.{gives_fault, gives_reset, gives_more}
 use Rattle.bgp_tool.specs.declared.printer.Printer.{Printer}
 use Rattle.bgp_tool.specs.declared.printer.Progress.{Progress}
 use Rattle.bgp_tool.specs.declared.printer.Progress.TheVariants as looks
 use Rattle.bgp_tool.specs.declared.tally.Tally.{Tally}
-use Rattle.bgp_tool.specs.Print.{Outcome, judgement, message_line, fault_line, outcome_line, lines_from, counted, tally_from}
-use Rattle.bgp_tool.specs.Printing.{IsCountable, PrintsMessage, PrintsFault, PrintsStep, total, Prints, PrintsAll}
+use Rattle.bgp_tool.specs.Print.{Outcome, judgement, message_lines, outcome_lines, lines_from, counted_message, counted, tally_from}
+use Rattle.bgp_tool.specs.Printing.{IsCountable, PrintsMessage, PrintsReset, PrintsFault, PrintsStep, total, Prints, PrintsAll}
 
 -- ---- one more outcome
 
@@ -25,8 +24,8 @@ pub lines_from-append : (place : ℕ) (xs ys : List (ℕ × Outcome)) → lines_
 unfolding lines_from
 lines_from-append place [] ys = ap (λ (n : ℕ). lines_from n ys) (let same : place ≡ place + 0 = omega arith in same)
 lines_from-append place (x ∷ xs) ys =
-    ap (λ (t : List ℕ). outcome_line place x.0 x.1 ++ t) (lines_from-append (place + x.0) xs ys) ∙ sym (append_assoc (outcome_line place x.0 x.1) (lines_from (place + x.0) xs) (lines_from (place + x.0 + total xs) ys))
-    ∙ ap (λ (n : ℕ). (outcome_line place x.0 x.1 ++ lines_from (place + x.0) xs) ++ lines_from n ys) (let same : place + x.0 + total xs ≡ place + (x.0 + total xs) = omega arith in same)
+    ap (λ (t : List ℕ). outcome_lines place x.0 x.1 ++ t) (lines_from-append (place + x.0) xs ys) ∙ sym (append_assoc (outcome_lines place x.0 x.1) (lines_from (place + x.0) xs) (lines_from (place + x.0 + total xs) ys))
+    ∙ ap (λ (n : ℕ). (outcome_lines place x.0 x.1 ++ lines_from (place + x.0) xs) ++ lines_from n ys) (let same : place + x.0 + total xs ≡ place + (x.0 + total xs) = omega arith in same)
 
 pub lines_from-all : (xs ys : List (ℕ × Outcome)) → lines_from 0 (xs ++ ys) ≡ lines_from 0 xs ++ lines_from (total xs) ys
 lines_from-all xs ys = lines_from-append 0 xs ys ∙ ap (λ (n : ℕ). lines_from 0 xs ++ lines_from n ys) (let same : 0 + total xs ≡ total xs = omega arith in same)
@@ -36,9 +35,9 @@ unfolding tally_from
 tally_from-append tally [] ys = refl
 tally_from-append tally (x ∷ xs) ys = tally_from-append (counted tally x.1) xs ys
 
-one_line : (place : ℕ) (o : ℕ × Outcome) → lines_from place (o ∷ []) ≡ outcome_line place o.0 o.1
+one_line : (place : ℕ) (o : ℕ × Outcome) → lines_from place (o ∷ []) ≡ outcome_lines place o.0 o.1
 unfolding lines_from
-one_line place o = append-nil (outcome_line place o.0 o.1)
+one_line place o = append-nil (outcome_lines place o.0 o.1)
 
 one_tally : (tally : Tally) (o : ℕ × Outcome) → tally_from tally (o ∷ []) ≡ counted tally o.1
 unfolding tally_from
@@ -77,10 +76,10 @@ Prints-none p block waits octets countable = record {
 
 -- one more outcome of the block
 next_text : (old mid new : Printer) (outcomes : List (ℕ × Outcome)) (o : ℕ × Outcome) → string_bytes mid.text ≡ string_bytes old.text ++ lines_from old.place outcomes → mid.place ≡ old.place + total outcomes
-    → string_bytes new.text ≡ string_bytes mid.text ++ outcome_line mid.place o.0 o.1 → string_bytes new.text ≡ string_bytes old.text ++ lines_from old.place (outcomes ++ o ∷ [])
+    → string_bytes new.text ≡ string_bytes mid.text ++ outcome_lines mid.place o.0 o.1 → string_bytes new.text ≡ string_bytes old.text ++ lines_from old.place (outcomes ++ o ∷ [])
 next_text old mid new outcomes o so_far at line =
-    line ∙ ap (λ (n : ℕ). string_bytes mid.text ++ outcome_line n o.0 o.1) at ∙ ap (λ (t : List ℕ). t ++ outcome_line (old.place + total outcomes) o.0 o.1) so_far
-    ∙ append_assoc (string_bytes old.text) (lines_from old.place outcomes) (outcome_line (old.place + total outcomes) o.0 o.1)
+    line ∙ ap (λ (n : ℕ). string_bytes mid.text ++ outcome_lines n o.0 o.1) at ∙ ap (λ (t : List ℕ). t ++ outcome_lines (old.place + total outcomes) o.0 o.1) so_far
+    ∙ append_assoc (string_bytes old.text) (lines_from old.place outcomes) (outcome_lines (old.place + total outcomes) o.0 o.1)
     ∙ ap (λ (t : List ℕ). string_bytes old.text ++ t) (ap (λ (t : List ℕ). lines_from old.place outcomes ++ t) (sym (one_line (old.place + total outcomes) o)) ∙ sym (lines_from-append old.place outcomes (o ∷ [])))
 
 next_tally : (old : Tally) (mid new : Tally) (outcomes : List (ℕ × Outcome)) (o : ℕ × Outcome) → mid ≡ tally_from old outcomes → new ≡ counted mid o.1 → new ≡ tally_from old (outcomes ++ o ∷ [])
@@ -144,25 +143,41 @@ module _ (old mid fed new : Printer) (block rest : List ℕ) (n : ℕ) (p : Prin
       let count = p.no_more in
       let c = fed_countable in
       let empty : length new.framer ≡ 0 = ap length m.held in
+      let tally_on : new.tally ≡ counted_message fed.tally false = m.tally ∙ ap (counted_message fed.tally) m.goes_on in
       let place_now : new.place ≡ fed.place + o.0 = m.place ∙ ap (λ (k : ℕ). fed.place + k) size in
       record {
         outcomes = p.outcomes ++ o ∷ [];
         goes_on = λ later others e g.
             subst (λ (os : List (ℕ × Outcome)). Gives judgement (old.framer ++ (block ++ later)) os e) (sym (append_assoc p.outcomes (o ∷ []) others))
             (p.goes_on later (o ∷ others) e (subst (λ (s : List ℕ). Gives judgement s (o ∷ others) e) (sym (whole later))
-            (gives_more Outcome judgement m.message fed.framer (drop n rest ++ later) others e m.is_held refl (subst (λ (h : List ℕ). Gives judgement (h ++ (drop n rest ++ later)) others e) m.held g))));
+            (gives_more Outcome judgement m.message fed.framer (drop n rest ++ later) others e m.is_held m.goes_on (subst (λ (h : List ℕ). Gives judgement (h ++ (drop n rest ++ later)) others e) m.held g))));
         waits = subst Waits (sym m.held) nothing_waits;
         are_octets = subst AreOctets (sym m.held) AreOctets-nil;
-        text = next_text old fed new p.outcomes o (ap string_bytes same_text ∙ p.text) (same_place ∙ p.place) (m.text ∙ ap (λ (k : ℕ). string_bytes fed.text ++ message_line fed.place k m.message.kind) size);
+        text = next_text old fed new p.outcomes o (ap string_bytes same_text ∙ p.text) (same_place ∙ p.place) (m.text ∙ ap (λ (k : ℕ). string_bytes fed.text ++ message_lines fed.place k m.message.kind m.message.body) size);
         tally = next_tally old.tally fed.tally new.tally p.outcomes o (same_tally ∙ p.tally) m.tally;
         place = (let all = total-append p.outcomes (o ∷ []) in let at = p.place in omega arith);
         countable = record {
           place = omega (arith, c.place);
-          messages = subst (λ (t : Tally). t.messages ≤ new.place) (sym m.tally) (omega (arith, c.messages));
-          took = subst (λ (t : Tally). t.took ≤ new.place) (sym m.tally) (omega (arith, c.took));
-          resets = subst (λ (t : Tally). t.resets ≡ 0) (sym m.tally) c.resets;
+          messages = subst (λ (t : Tally). t.messages ≤ new.place) (sym tally_on) (omega (arith, c.messages));
+          took = subst (λ (t : Tally). t.took ≤ new.place) (sym tally_on) (omega (arith, c.took));
+          resets = subst (λ (t : Tally). t.resets ≡ 0) (sym tally_on) c.resets;
         };
         no_more = omega arith;
+      }
+
+  -- a message that is answered by a reset was printed
+  pub Prints-reset : PrintsReset fed new → PrintsAll old block end.Reset new
+  Prints-reset m =
+      let o : ℕ × Outcome = outcome_of judgement m.message in
+      let size : length fed.framer ≡ o.0 = ap length m.is_held.octets in
+      record {
+        over = tt;
+        outcomes = p.outcomes ++ o ∷ [];
+        gives = λ later.
+            p.goes_on later (o ∷ []) end.Reset (subst (λ (s : List ℕ). Gives judgement s (o ∷ []) end.Reset) (sym (whole later))
+            (gives_reset Outcome judgement m.message fed.framer (drop n rest ++ later) m.is_held m.is_reset));
+        text = next_text old fed new p.outcomes o (ap string_bytes same_text ∙ p.text) (same_place ∙ p.place) (m.text ∙ ap (λ (k : ℕ). string_bytes fed.text ++ message_lines fed.place k m.message.kind m.message.body) size);
+        tally = next_tally old.tally fed.tally new.tally p.outcomes o (same_tally ∙ p.tally) m.tally;
       }
 
   -- a header's fault was printed
@@ -188,4 +203,6 @@ module _ (old mid fed new : Printer) (block rest : List ℕ) (n : ℕ) (p : Prin
   Prints-on (looks.Last e) goes step = absurd (goes e refl)
 
   pub Prints-last : (e : End) → PrintsStep fed (looks.Last e) new → PrintsAll old block e new
-  Prints-last e step = subst (λ (d : End). PrintsAll old block d new) (sym step.0) (Prints-fault step.1)
+  Prints-last end.Reset step = Prints-reset step
+  Prints-last end.Head step = Prints-fault step
+  Prints-last (end.Wait k) step = absurd step

@@ -1,12 +1,12 @@
 -- What `show` keeps from one block to the next, and what follows from it where it stops.
-use Rattle.std.proofs.Common.{◌≡◌, ℕ, zero, suc, ◌+◌, ◌-◌, ◌*◌, ◌<◌, ◌≤◌, ◌^◌, Bool, true, false, List, [], ◌∷◌, ◌++◌, length, take, Option, Some, None, refl, sym, ap, subst, ◌∙◌, append_assoc, arith, inl, inr, ◌⊎◌}
+use Rattle.std.proofs.Common.{◌≡◌, ℕ, ◌+◌, ◌-◌, ◌*◌, ◌≤◌, Bool, true, false, List, [], ◌∷◌, ◌++◌, length, take, Option, Some, None, refl, sym, ap, subst, ◌∙◌, append_assoc, arith, inl, inr, ◌⊎◌}
 use Rattle.std.specs.Prelude.{option_to_list}
 use Rattle.std.specs.String.{string_bytes}
 use Rattle.std.specs.Io.KnownBytes.{Consumes, Appends, IsAtEnd, Keeps}
 use Rattle.std.proofs.KnownBytes.{Consumes-nil, Consumes-trans, Consumes-kept, Appends-nil, Appends-trans}
 use Rattle.std.specs.Prelude.{Result, MatchResult}
 use Rattle.std.proofs.lemmas.Result.{MatchResult-weaker}
-use Rattle.std.proofs.lemmas.List.{append-nil, length-append}
+use Rattle.std.proofs.lemmas.List.{append-nil}
 use Rattle.bgp_wire.specs.Octets.{AreOctets}
 use Rattle.bgp_wire.proofs.OctetLemmas.{AreOctets-nil, AreOctets-append}
 use Rattle.bgp_frame.specs.declared.end.End.{End}
@@ -21,13 +21,12 @@ use Rattle.bgp_tool.specs.declared.hex_text.HexText.{HexText}
 use Rattle.bgp_tool.specs.declared.printer.Printer.{Printer}
 use Rattle.bgp_tool.specs.declared.tally.Tally.{Tally}
 use Rattle.bgp_tool.specs.Tally.{no_tally}
-use Rattle.bgp_tool.specs.HexText.{spelled, bad_from}
 use Rattle.bgp_tool.specs.HexSteps.{pending, place}
 use Rattle.bgp_tool.specs.Output.{IsFront, AppendsFront, FailsWithin}
-use Rattle.bgp_tool.specs.Print.{Outcome, judgement, lines_from, end_line, tally_from, IsOver, IsWaiting}
-use Rattle.bgp_tool.specs.Printing.{IsCountable, total, Prints, PrintsAll}
-use Rattle.bgp_tool.specs.Show.{stream_of, bad_of, printed, tally_of, Shows, IsBadAt, IsFaultOf, Fails}
-use Rattle.bgp_tool.specs.Blocks.{Spells, SpellsNoMore, MeetsBlock, MeetsBad, MeetsLast, FailsToFinish}
+use Rattle.bgp_tool.specs.Print.{Outcome, judgement, lines_from, end_line, tally_from, IsOver}
+use Rattle.bgp_tool.specs.Printing.{IsCountable, total}
+use Rattle.bgp_tool.specs.Show.{stream_of, bad_of, printed, tally_of, Shows, IsBadAt, Fails}
+use Rattle.bgp_tool.specs.Blocks.{MeetsBlock, MeetsBad, MeetsLast, FailsToFinish}
 use Rattle.bgp_tool.proofs.HexPairs.{spelled-nil, spelled-digit, spelled-octets, bad_from-nil, bad_from-digit}
 use Rattle.bgp_tool.proofs.Printed.{lines_from-append, lines_from-all, tally_from-append, total-append, no_lines, no_more_tally, nothing_waits}
 

@@ -1,5 +1,5 @@
 -- Texts joined.
-use Rattle.std.proofs.Common.{◌≡◌, ℕ, List, [], ◌++◌, refl, sym, ap, ◌∙◌, append_assoc}
+use Rattle.std.proofs.Common.{◌≡◌, ℕ, List, ◌++◌, ap, ◌∙◌, append_assoc}
 
 -- three additions to a text, the first of two parts, are one
 pub joined : (t0 a b t1 n t2 end t3 : List ℕ) → t1 ≡ t0 ++ (a ++ b) → t2 ≡ t1 ++ n → t3 ≡ t2 ++ end → t3 ≡ t0 ++ (a ++ (b ++ (n ++ end)))

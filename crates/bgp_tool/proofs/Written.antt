@@ -1,11 +1,11 @@
 -- A text that is written part by part.
-use Rattle.std.proofs.Common.{◌≡◌, ℕ, zero, suc, ◌+◌, ◌<◌, List, [], ◌∷◌, ◌++◌, length, take, drop, Option, Some, None, Result, Ok, Err, refl, sym, ap, subst, ◌∙◌, append_assoc, arith}
+use Rattle.std.proofs.Common.{◌≡◌, ℕ, List, [], ◌++◌, take, drop, Option, Some, None, Result, Ok, Err, refl, sym, ap, subst, ◌∙◌, append_assoc}
 use Rattle.std.specs.Result.{result_unwrap_or}
 use Rattle.std.specs.Io.KnownBytes.{Keeps, Appends, WriteAppends}
 use Rattle.std.proofs.KnownBytes.{Appends-nil, Appends-trans}
 use Rattle.std.proofs.lemmas.List.{append-nil, take-append-drop}
 use Rattle.bgp_tool.specs.declared.fault.ToolFault.TheVariants.{Write}
-use Rattle.bgp_tool.specs.Output.{IsFront, AppendsFront, FailsWithin}
+use Rattle.bgp_tool.specs.Output.{FailsWithin}
 
 -- what was written, and what is left of the text
 pub record HasWritten (old new : Option (List ℕ)) (text rest : List ℕ) : Type 0 where

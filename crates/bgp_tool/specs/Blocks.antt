@@ -1,6 +1,5 @@
 -- One block of text, from its characters to its lines.
 use Rattle.std.specs.Prelude.{◌≡◌, ℕ, ◌+◌, ◌≤◌, Bool, false, List, [], ◌++◌, length, Option, None, Some}
-use Rattle.std.specs.String.{string_bytes}
 use Rattle.std.specs.Io.KnownBytes.{Appends}
 use Rattle.bgp_wire.specs.Octets.{AreOctets}
 use Rattle.bgp_frame.specs.declared.end.End.{End}
@@ -12,7 +11,6 @@ use Rattle.bgp_tool.specs.declared.shown.Met.{Met}
 use Rattle.bgp_tool.specs.declared.shown.Met.TheVariants as met
 use Rattle.bgp_tool.specs.HexSteps.{pending, place}
 use Rattle.bgp_tool.specs.Output.{IsFront, AppendsFront}
-use Rattle.bgp_tool.specs.Print.{end_line}
 use Rattle.bgp_tool.specs.Printing.{Prints, PrintsAll}
 use Rattle.bgp_tool.specs.Show.{stream_of, bad_of}
 

@@ -1,5 +1,5 @@
 -- A reader of hexadecimal text, character by character.
-use Rattle.std.specs.Prelude.{◌≡◌, ℕ, ◌+◌, ◌-◌, ◌<◌, List, [], ◌∷◌, ◌++◌, length, Some, option_to_list}
+use Rattle.std.specs.Prelude.{◌≡◌, ℕ, ◌+◌, ◌-◌, List, [], ◌∷◌, ◌++◌, length, Some, option_to_list}
 use Rattle.bgp_tool.specs.declared.hex_text.HexText.{HexText}
 use Rattle.bgp_tool.specs.declared.hex_text.Taken.{Taken}
 use Rattle.bgp_tool.specs.declared.hex_text.Taken.TheVariants as taken

@@ -2,6 +2,8 @@
 pub mod Tally
 pub mod HexText
 pub mod HexSteps
+pub mod InfoText
+pub mod OpenText
 pub mod Print
 pub mod Printing
 pub mod Output

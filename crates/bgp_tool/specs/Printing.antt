@@ -1,5 +1,5 @@
 -- What a printer does with the octets that it is given.
-use Rattle.std.specs.Prelude.{◌≡◌, ℕ, ◌+◌, ◌*◌, ◌<◌, ◌≤◌, ◌^◌, List, [], ◌∷◌, ◌++◌, length, Option, None, Some, Ok, Err}
+use Rattle.std.specs.Prelude.{◌≡◌, ℕ, ◌+◌, ◌<◌, ◌≤◌, ◌^◌, true, false, List, [], ◌∷◌, ◌++◌, length, Option, None, Some, Ok, Err}
 use Rattle.std.specs.String.{string_bytes}
 use Rattle.bgp_wire.specs.Octets.{AreOctets}
 use Rattle.bgp_frame.specs.declared.end.End.{End}
@@ -11,7 +11,7 @@ use Rattle.bgp_frame.specs.Stream.{Gives}
 use Rattle.bgp_tool.specs.declared.printer.Printer.{Printer}
 use Rattle.bgp_tool.specs.declared.printer.Progress.{Progress}
 use Rattle.bgp_tool.specs.declared.printer.Progress.TheVariants as progress
-use Rattle.bgp_tool.specs.Print.{Outcome, judgement, message_line, fault_line, lines_from, counted, tally_from, IsOver}
+use Rattle.bgp_tool.specs.Print.{Outcome, resets, judgement, message_lines, fault_line, lines_from, counted, tally_from, IsOver}
 
 -- no number passes its type within n more octets
 pub record IsCountable (printer : Printer) (n : ℕ) : Type 0 where
@@ -24,10 +24,19 @@ pub record IsCountable (printer : Printer) (n : ℕ) : Type 0 where
 pub record PrintsMessage (old new : Printer) : Type 0 where
   pub message : Message
   pub is_held : IsFrame message old.framer
+  pub goes_on : resets (Ok message) ≡ false
   pub held : new.framer ≡ []
   pub place : new.place ≡ old.place + length old.framer
   pub tally : new.tally ≡ counted old.tally (Ok message)
-  pub text : string_bytes new.text ≡ string_bytes old.text ++ message_line old.place (length old.framer) message.kind
+  pub text : string_bytes new.text ≡ string_bytes old.text ++ message_lines old.place (length old.framer) message.kind message.body
+
+-- a message was held that is answered by a reset: its line is printed
+pub record PrintsReset (old new : Printer) : Type 0 where
+  pub message : Message
+  pub is_held : IsFrame message old.framer
+  pub is_reset : resets (Ok message) ≡ true
+  pub tally : new.tally ≡ counted old.tally (Ok message)
+  pub text : string_bytes new.text ≡ string_bytes old.text ++ message_lines old.place (length old.framer) message.kind message.body
 
 -- a header with a fault was held: its line is printed
 pub record PrintsFault (old new : Printer) : Type 0 where
@@ -40,7 +49,9 @@ pub record PrintsFault (old new : Printer) : Type 0 where
 abbrev pub PrintsStep : Printer → Progress → Printer → Type 0
 PrintsStep old progress.Waiting new = Waits old.framer × (new ≡ old)
 PrintsStep old progress.Line new = PrintsMessage old new
-PrintsStep old (progress.Last e) new = (e ≡ end.Head) × PrintsFault old new
+PrintsStep old (progress.Last end.Reset) new = PrintsReset old new
+PrintsStep old (progress.Last end.Head) new = PrintsFault old new
+PrintsStep old (progress.Last (end.Wait n)) new = ⊥
 
 -- how many octets the outcomes took
 abbrev pub total : List (ℕ × Outcome) → ℕ

@@ -1,5 +1,5 @@
 -- The counts of a run, and the status of the process.
-use Rattle.std.specs.Prelude.{ℕ, ◌+◌, Bool, true, false, ◌&&◌, ◌==◌, List, [], ◌∷◌, Result, Ok, Err, if◌then◌else◌}
+use Rattle.std.specs.Prelude.{ℕ, Bool, false, ◌&&◌, ◌==◌, Result, Ok, Err, if◌then◌else◌}
 use Rattle.bgp_tool.specs.declared.tally.Tally.{Tally}
 use Rattle.bgp_tool.specs.declared.fault.ToolFault.{ToolFault}
 use Rattle.bgp_tool.specs.declared.fault.ToolFault.TheVariants as fault

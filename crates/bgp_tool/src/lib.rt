@@ -4,8 +4,10 @@
 mod cli;
 mod fault;
 mod hex_text;
+mod info;
 pub mod laws;
 mod lines;
+mod open_lines;
 mod output;
 mod printer;
 mod shown;

@@ -1,10 +1,12 @@
 //! The lines that are printed, each at the end of a text.
 
-ghost use Rattle.std.specs.Prelude.{◌≡◌, ◌++◌, ◌∷◌, [], OnOk};
+ghost use Rattle.std.specs.Prelude.{◌≡◌, ◌≤◌, ◌++◌, length, OnOk, IfOk};
 ghost use Rattle.std.specs.String.{string_bytes};
-ghost use Rattle.bgp_tool.specs.Print.{name_of, info_text, notification_text, unread_line, message_line, fault_line, end_line};
+ghost use Rattle.bgp_tool.specs.Print.{name_of, is_faulty, unread_line, message_lines, fault_line, end_line};
 
-use bgp_frame::{End, Frame, HeadFault, Kind, Notification};
+use crate::info::notification_text;
+use crate::open_lines::put_open_body;
+use bgp_frame::{End, Frame, HeadFault, Kind};
 use std::alloc::{AllocError, Global};
 
 fn name(kind: Kind) -> &'static str
@@ -18,29 +20,6 @@ fn name(kind: Kind) -> &'static str
     }
 }
 
-// Information as hexadecimal text, or a dash where there is none.
-#[tactic(auto, unfolding(crate::specs::Print::info_text))]
-fn put_info(alloc: Global, text: &mut String, info: &[u8]) -> Result<(), AllocError>
-    ensures { OnOk result (string_bytes text.new ≡ string_bytes text.old ++ info_text info.now) }
-{
-    if info.is_empty() {
-        return text.push_str("-");
-    }
-    let digits = hex::encode(alloc, info)?;
-    text.push_str(digits.as_str())
-}
-
-// A code, a subcode and information.
-#[tactic(auto, unfolding(crate::specs::Print::notification_text))]
-fn put_notification(alloc: Global, text: &mut String, told: &Notification) -> Result<(), AllocError>
-    ensures { OnOk result (string_bytes text.new ≡ string_bytes text.old ++ notification_text told.now) }
-{
-    let code = told.code;
-    let subcode = told.subcode;
-    write!(text, "{code}/{subcode} ")?;
-    put_info(alloc, text, &told.info)
-}
-
 // Place, length and name of a message whose body isn't shown.
 fn put_unread(text: &mut String, place: u64, len: u16, kind: Kind) -> Result<(), AllocError>
     ensures { OnOk result (string_bytes text.new ≡ string_bytes text.old ++ unread_line place len kind) }
@@ -49,16 +28,33 @@ fn put_unread(text: &mut String, place: u64, len: u16, kind: Kind) -> Result<(),
     write!(text, "{place} {len} {name} unread\n")
 }
 
-/// The line of a whole message.
-pub(crate) fn put_message(text: &mut String, place: u64, frame: Frame<'_>) -> Result<(), AllocError>
-    ensures { OnOk result (string_bytes text.new ≡ string_bytes text.old ++ message_line place frame.entry.len frame.entry.kind) }
+/// The lines of a whole message. Answers whether it is answered by a reset.
+pub(crate) fn put_message(
+    alloc: Global,
+    text: &mut String,
+    place: u64,
+    frame: Frame<'_>,
+) -> Result<bool, AllocError>
+    requires { frame.kind ≡ Kind.Open → 10 ≤ length frame.body.now }
+    ensures text { OnOk result (string_bytes text.new
+        ≡ string_bytes text.old ++ message_lines place frame.entry.len frame.entry.kind frame.entry.body.now) }
+    ensures resets { IfOk result (λ resets. resets ≡ is_faulty frame.entry.kind frame.entry.body.now) }
 {
     let len = frame.len;
     match frame.kind {
-        Kind::Open => put_unread(text, place, len, Kind::Open),
-        Kind::Update => put_unread(text, place, len, Kind::Update),
-        Kind::Notification => put_unread(text, place, len, Kind::Notification),
-        Kind::Keepalive => write!(text, "{place} 19 KEEPALIVE\n"),
+        Kind::Open => put_open_body(alloc, text, place, len, frame.body),
+        Kind::Update => {
+            put_unread(text, place, len, Kind::Update)?;
+            Ok(false)
+        }
+        Kind::Notification => {
+            put_unread(text, place, len, Kind::Notification)?;
+            Ok(false)
+        }
+        Kind::Keepalive => {
+            write!(text, "{place} 19 KEEPALIVE\n")?;
+            Ok(false)
+        }
     }
 }
 
@@ -71,10 +67,8 @@ pub(crate) fn put_fault(
 ) -> Result<(), AllocError>
     ensures { OnOk result (string_bytes text.new ≡ string_bytes text.old ++ fault_line place fault) }
 {
-    write!(text, "{place} 0 HEADER reset ")?;
-    put_notification(alloc, text, &fault.notification())?;
-    text.push_str("\n")?;
-    Ok(())
+    let told = notification_text(alloc, &fault.notification())?;
+    write!(text, "{place} 0 HEADER reset {told}\n")
 }
 
 /// The last line, on how the stream ended.

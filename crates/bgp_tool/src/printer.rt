@@ -66,11 +66,16 @@ impl Printer {
         match self.framer.step() {
             Step::More => Ok(Progress::Waiting),
             Step::Frame(frame) => {
-                put_message(&mut self.text, self.place, frame)?;
-                self.place += u64::from(frame.len);
-                self.framer.take();
+                let len = frame.len;
+                let resets = put_message(self.alloc, &mut self.text, self.place, frame)?;
                 self.tally.messages += 1;
+                if resets {
+                    self.tally.resets += 1;
+                    return Ok(Progress::Last(End::Reset));
+                }
                 self.tally.took += 1;
+                self.place += u64::from(len);
+                self.framer.take();
                 Ok(Progress::Line)
             }
             Step::Fault(fault) => {

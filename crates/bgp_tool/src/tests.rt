@@ -1,8 +1,10 @@
 mod failing;
+mod opens;
 mod streams;
 
 use crate::*;
 use failing::{Drip, Page};
+use opens::{DAEMONS, OPENS};
 use std::process::Abort;
 use std::test::*;
 use streams::STREAMS;
@@ -32,17 +34,32 @@ fn assert_shown(
     assert_eq!(rt; status(&outcome), answer, "{text}");
 }
 
-#[test]
-fn worked_streams(rt: HostRuntime) {
-    for (text, lines, answer) in STREAMS {
+// However they are cut, and as octets too where they are octets.
+fn assert_rows(rt: &(impl Abort + AllocGlobal), rows: &[(&str, &str, u8)]) {
+    for (text, lines, answer) in rows {
         for step in [1, 7, 4096] {
-            assert_shown(&rt, true, text.as_bytes(), step, lines, answer);
+            assert_shown(rt, true, text.as_bytes(), step, lines, *answer);
             if !text.contains('z') {
-                let octets = octets_of(&rt, text);
-                assert_shown(&rt, false, octets.as_slice(), step, lines, answer);
+                let octets = octets_of(rt, text);
+                assert_shown(rt, false, octets.as_slice(), step, lines, *answer);
             }
         }
     }
+}
+
+#[test]
+fn worked_streams(rt: HostRuntime) {
+    assert_rows(&rt, &STREAMS);
+}
+
+#[test]
+fn worked_opens(rt: HostRuntime) {
+    assert_rows(&rt, &OPENS);
+}
+
+#[test]
+fn what_daemons_wrote(rt: HostRuntime) {
+    assert_rows(&rt, &DAEMONS);
 }
 
 #[test]

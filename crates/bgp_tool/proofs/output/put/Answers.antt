@@ -1,4 +1,4 @@
-use Rattle.std.proofs.Common.{ℕ, List, take, sym, subst}
+use Rattle.std.proofs.Common.{ℕ, take, sym, subst}
 use Rattle.std.specs.Io.KnownBytes.{Appends}
 use Rattle.std.proofs.lemmas.List.{take_rest}
 use Rattle.bgp_tool.proofs.Written.{HasWritten-more, appends_count}

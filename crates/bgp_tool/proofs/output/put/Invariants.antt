@@ -1,4 +1,4 @@
-use Rattle.std.proofs.Common.{◌≡◌, ℕ, List, ◌++◌, length}
+use Rattle.std.proofs.Common.{length}
 use Rattle.bgp_tool.proofs.Written.{HasWritten}
 use Rattle.bgp_tool.proofs.output.put.Given as goal
 

@@ -1,4 +1,4 @@
-use Rattle.std.proofs.Common.{◌≡◌, ◌+◌, ◌++◌, ℕ, length, take, List, Option, None, Some, refl, sym, ap, subst, inl, inr, ◌-◌, ◌∙◌, arith}
+use Rattle.std.proofs.Common.{◌+◌, ◌++◌, ℕ, length, take, List, refl, sym, subst, inl, inr, ◌-◌, ◌∙◌, arith}
 use Rattle.std.proofs.lemmas.Result.{err_from_is_err_and}
 use Rattle.std.specs.Io.KnownBytes.{Appends}
 use Rattle.std.proofs.lemmas.List.{length-take}
@@ -7,7 +7,7 @@ use Rattle.std.specs.String.{string_bytes}
 use Rattle.bgp_tool.specs.declared.shown.Met.{Met}
 use Rattle.bgp_tool.specs.Blocks.{Meets}
 use Rattle.bgp_tool.proofs.HexReads.{some_waits, none_waits}
-use Rattle.bgp_tool.proofs.Showing.{Showing, Showing-none, Showing-at, read_nothing, read_failed, Showing-block, Showing-written, Reached-rest, Reached-bad, Reached-last, Reached-memory, fails_read, fails_memory, fails_bad, fails_bad_early, fails_put, finished, bad_digit, none_bad, bad_block, collects, counts_all}
+use Rattle.bgp_tool.proofs.Showing.{Showing-none, Showing-at, read_nothing, read_failed, Showing-block, Showing-written, Reached-rest, Reached-bad, Reached-last, Reached-memory, fails_read, fails_memory, fails_bad, fails_bad_early, fails_put, finished, bad_digit, none_bad, bad_block, collects, counts_all}
 use Rattle.bgp_tool.proofs.shown.show.Goals as goal
 
 pub reading-init : goal.reading-init

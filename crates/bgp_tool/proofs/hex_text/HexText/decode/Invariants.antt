@@ -1,4 +1,4 @@
-use Rattle.std.proofs.Common.{◌≡◌, ℕ, ◌+◌, ◌*◌, ◌≤◌, length, take}
+use Rattle.std.proofs.Common.{◌+◌, ◌*◌, ◌≤◌, length, take}
 use Rattle.bgp_wire.specs.Octets.{AreOctets}
 use Rattle.bgp_tool.specs.HexSteps.{pending, Continues}
 use Rattle.bgp_tool.proofs.hex_text.HexText.decode.Given as goal

@@ -1,6 +1,6 @@
 use Rattle.std.proofs.Common.{ℕ, Option, length, refl, sym, ap, ◌∙◌}
 use Rattle.std.specs.Prelude.{option_to_list}
-use Rattle.bgp_tool.proofs.HexReads.{reads_pair, breaks_pair, reads_blank, reads_first, breaks_between}
+use Rattle.bgp_tool.proofs.HexReads.{reads_pair, breaks_pair, reads_blank, breaks_between}
 use Rattle.bgp_tool.proofs.hex_text.HexText.take.Goals as goal
 
 pub returns-in-Some-pair : goal.returns-in-Some-pair

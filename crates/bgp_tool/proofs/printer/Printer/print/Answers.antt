@@ -1,7 +1,6 @@
-use Rattle.std.proofs.Common.{length, drop, refl, sym, subst, arith}
+use Rattle.std.proofs.Common.{refl, subst, arith}
 use Rattle.std.proofs.lemmas.List.{take_rest}
 use Rattle.bgp_wire.proofs.OctetLemmas.{AreOctets-drop}
-use Rattle.bgp_frame.specs.Takes.{Takes}
 use Rattle.bgp_tool.specs.declared.printer.Progress.{Progress}
 use Rattle.bgp_tool.specs.Printing.{PrintsStep}
 use Rattle.bgp_tool.proofs.Printed.{Prints-none, Prints-on, Prints-last}

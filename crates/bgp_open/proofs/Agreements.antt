@@ -1,0 +1,121 @@
+-- The first AS number among capabilities, and that both sides of a session agree.
+use Rattle.std.proofs.Common.{◌≡◌, ℕ, suc, ◌+◌, ◌<◌, ◌≤◌, Bool, true, false, not, ◌&&◌, cond, eqb, ltb, List, ◌∷◌, ◌++◌, length, get_or, drop, Option, Some, None, Ok, Err, refl, sym, ap, ◌∙◌, add-one, inl, inr}
+use Rattle.std.specs.Prelude.{is_some, unwrap_or, min}
+use Rattle.std.specs.List.{list_any}
+use Rattle.std.proofs.lemmas.Bool.{eqb-true, eq-eqb, ne_eqb, true≢false}
+use Rattle.std.proofs.lemmas.Bool.Decides.{eqb_tells}
+use Rattle.std.proofs.Math.Bool.{and_comm}
+use Rattle.std.proofs.Math.Nat.{min_comm}
+use Rattle.std.proofs.Math.Seq.{drop-cons}
+use Rattle.std.proofs.lemmas.List.{drop_all}
+use Rattle.bgp_open.specs.declared.capability.Capability.{Capability}
+use Rattle.bgp_open.specs.declared.capability.Capability.TheVariants.{Multi, As4, Other}
+use Rattle.bgp_open.specs.declared.agreement.PeerFault.TheVariants as peer
+use Rattle.bgp_open.specs.declared.context.Context.{Context}
+use Rattle.bgp_open.specs.Config.{Settings, IsAllowed}
+use Rattle.bgp_open.specs.Own.{as_trans, field_for, offered, own_of}
+use Rattle.bgp_open.specs.Agreement.{first_as4, is_unicast, peer_as_of, same_id, context_of, agreement}
+use Rattle.bgp_open.proofs.Configs.{allowed-wide}
+
+-- ---- step by step
+
+pub first_as4-at : (cs : List Capability) (i : ℕ) (x : Capability) (n : ℕ) → i < length cs → x ≡ get_or cs i x → x ≡ As4 n → first_as4 cs ≡ first_as4 (drop i cs) → Some n ≡ first_as4 cs
+first_as4-at cs i x n lt is as4 left =
+    sym (left ∙ ap first_as4 (drop-cons cs i x lt) ∙ ap (λ (y : Capability). first_as4 (y ∷ drop (suc i) cs)) (sym is ∙ as4))
+
+skips : (x : Capability) (later : List Capability) → ((n : ℕ) → x ≡ As4 n → ⊥) → first_as4 (x ∷ later) ≡ first_as4 later
+skips (Multi family subsequent) later other = refl
+skips (As4 n) later other = absurd (other n refl)
+skips (Other code value) later other = refl
+
+pub first_as4-past : (cs : List Capability) (i : ℕ) (x : Capability) → i < length cs → x ≡ get_or cs i x → ((n : ℕ) → x ≡ As4 n → ⊥) → first_as4 cs ≡ first_as4 (drop i cs) → first_as4 cs ≡ first_as4 (drop (i + 1) cs)
+first_as4-past cs i x lt is other left =
+    rw add-one (left ∙ ap first_as4 (drop-cons cs i x lt) ∙ ap (λ (y : Capability). first_as4 (y ∷ drop (suc i) cs)) (sym is) ∙ skips x (drop (suc i) cs) other)
+
+pub first_as4-none : (cs : List Capability) (i : ℕ) → length cs ≤ i → first_as4 cs ≡ first_as4 (drop i cs) → None ≡ first_as4 cs
+first_as4-none cs i le left = sym (left ∙ ap first_as4 (drop_all i cs le))
+
+-- ---- both sides
+
+-- what a speaker offers is found again
+finds_as4 : (p q r : Bool) (n : ℕ) → first_as4 (offered p (Multi 1 1) ++ (offered q (Multi 2 1) ++ offered r (As4 n))) ≡ cond r (Some n) None
+finds_as4 false false false n = refl
+finds_as4 false false true n = refl
+finds_as4 false true false n = refl
+finds_as4 false true true n = refl
+finds_as4 true false false n = refl
+finds_as4 true false true n = refl
+finds_as4 true true false n = refl
+finds_as4 true true true n = refl
+
+finds_ip4 : (p q r : Bool) (n : ℕ) → list_any (is_unicast 1) (offered p (Multi 1 1) ++ (offered q (Multi 2 1) ++ offered r (As4 n))) ≡ p
+finds_ip4 false false false n = refl
+finds_ip4 false false true n = refl
+finds_ip4 false true false n = refl
+finds_ip4 false true true n = refl
+finds_ip4 true false false n = refl
+finds_ip4 true false true n = refl
+finds_ip4 true true false n = refl
+finds_ip4 true true true n = refl
+
+finds_ip6 : (p q r : Bool) (n : ℕ) → list_any (is_unicast 2) (offered p (Multi 1 1) ++ (offered q (Multi 2 1) ++ offered r (As4 n))) ≡ q
+finds_ip6 false false false n = refl
+finds_ip6 false false true n = refl
+finds_ip6 false true false n = refl
+finds_ip6 false true true n = refl
+finds_ip6 true false false n = refl
+finds_ip6 true false true n = refl
+finds_ip6 true true false n = refl
+finds_ip6 true true true n = refl
+
+is_some_of : (r : Bool) (n : ℕ) → is_some (cond r (Some n) None) ≡ r
+is_some_of true n = refl
+is_some_of false n = refl
+
+number_of : (as4 : Bool) (wide : Bool) (n : ℕ) → (wide && not as4) ≡ false → unwrap_or (cond as4 (Some n) None) (cond wide as_trans n) ≡ n
+number_of true wide n h = refl
+number_of false false n h = refl
+number_of false true n h = absurd (true≢false h)
+
+-- an allowed speaker's own AS number is what its peer finds
+pub peer_as-own : (s : Settings) → IsAllowed s → peer_as_of (own_of s) ≡ s.local_as
+peer_as-own s allowed =
+    ap (λ (o : Option ℕ). unwrap_or o (field_for s.local_as)) (finds_as4 s.ip4 s.ip6 s.as4 s.local_as)
+    ∙ number_of s.as4 (ltb 65535 s.local_as) s.local_as (allowed-wide s allowed)
+
+abbrev shared : Settings → Settings → Context
+shared s t = record { internal = eqb s.local_as s.peer_as; as4 = s.as4 && t.as4; ip4 = s.ip4 && t.ip4; ip6 = s.ip6 && t.ip6; hold = min s.hold t.hold }
+
+context-own : (s t : Settings) → context_of s (own_of t) ≡ shared s t
+context-own s t =
+    rw (finds_as4 t.ip4 t.ip6 t.as4 t.local_as, finds_ip4 t.ip4 t.ip6 t.as4 t.local_as, finds_ip6 t.ip4 t.ip6 t.as4 t.local_as, is_some_of t.as4 t.local_as) refl
+
+accepted : (other same : Bool) (x y : Context) → cond (not other) (Err peer.PeerAs) (cond same (Err peer.Identifier) (Ok x)) ≡ Ok y → (other ≡ true) × (x ≡ y)
+accepted false same x y e = absurd cc
+accepted true true x y e = absurd cc
+accepted true false x y e = (refl, cc)
+
+eqb_swaps : (m n : ℕ) → eqb m n ≡ eqb n m
+eqb_swaps m n =
+    elim (eqb_tells m n) [
+      | inl same ↦ same.0 ∙ sym (eq-eqb n m (sym same.1))
+      | inr other ↦ other.0 ∙ sym (ne_eqb n m (λ e. other.1 (sym e)))
+    ]
+
+same_context : (i j a b p q u v : Bool) (h k : ℕ) → i ≡ j → a ≡ b → p ≡ q → u ≡ v → h ≡ k
+    → (let x : Context = record { internal = i; as4 = a; ip4 = p; ip6 = u; hold = h } in let y : Context = record { internal = j; as4 = b; ip4 = q; ip6 = v; hold = k } in x ≡ y)
+same_context i j a b p q u v h k e f g l m = rw (e, f, g, l, m) refl
+
+shared_swaps : (s t : Settings) → s.peer_as ≡ t.local_as → t.peer_as ≡ s.local_as → shared s t ≡ shared t s
+shared_swaps s t p q =
+    same_context _ _ _ _ _ _ _ _ _ _
+    (ap (λ (n : ℕ). eqb s.local_as n) p ∙ eqb_swaps s.local_as t.local_as ∙ ap (λ (n : ℕ). eqb t.local_as n) (sym q))
+    (and_comm s.as4 t.as4) (and_comm s.ip4 t.ip4) (and_comm s.ip6 t.ip6) (min_comm s.hold t.hold)
+
+pub both_agree : (a b : Settings) (x y : Context) → IsAllowed a → IsAllowed b → agreement a (own_of b) ≡ Ok x → agreement b (own_of a) ≡ Ok y → x ≡ y
+both_agree a b x y allowed_a allowed_b ea eb =
+    let p = accepted (eqb (peer_as_of (own_of b)) a.peer_as) (eqb a.local_as a.peer_as && same_id (own_of b).id a.id) (context_of a (own_of b)) x ea in
+    let q = accepted (eqb (peer_as_of (own_of a)) b.peer_as) (eqb b.local_as b.peer_as && same_id (own_of a).id b.id) (context_of b (own_of a)) y eb in
+    let to_b : a.peer_as ≡ b.local_as = sym (eqb-true _ _ p.0) ∙ peer_as-own b allowed_b in
+    let to_a : b.peer_as ≡ a.local_as = sym (eqb-true _ _ q.0) ∙ peer_as-own a allowed_a in
+    sym p.1 ∙ context-own a b ∙ shared_swaps a b to_b to_a ∙ sym (context-own b a) ∙ q.1

@@ -1,0 +1,9 @@
+pub mod Capabilities
+pub mod Parameters
+pub mod Walks
+pub mod Readings
+pub mod Agreements
+pub mod WrittenRows
+pub mod Spellings
+pub mod Configs
+pub mod Owns

@@ -1,0 +1,69 @@
+-- A parameter is read by its reader.
+use Rattle.std.proofs.Common.{◌≡◌, ℕ, ◌<◌, Bool, true, false, cond, eqb, leb, suc, take, drop, List, [], ◌∷◌, ◌++◌, length, Option, Some, None, refl, ap, ◌∙◌, arith}
+use Rattle.std.proofs.lemmas.Bool.{eqb-true}
+use Rattle.std.proofs.Math.Dec.{eqb-suc-zero}
+use Rattle.bgp_wire.specs.Reader.{pieces}
+use Rattle.bgp_wire.specs.Reader.{Reads}
+use Rattle.bgp_wire.specs.Behind.{BehindLength, when_whole, behind_length}
+use Rattle.bgp_wire.proofs.Pieces.{found_not}
+use Rattle.bgp_wire.proofs.Behinds.{BehindLength-reads}
+use Rattle.bgp_open.specs.declared.capability.Capability.{Capability}
+use Rattle.bgp_open.specs.Capability.{IsCapability, one_capability}
+use Rattle.bgp_open.specs.Parameter.{IsParameter, one_parameter}
+use Rattle.bgp_open.proofs.Capabilities.{capability-reads}
+
+value_reads : Reads (BehindLength IsCapability) (behind_length one_capability)
+value_reads = BehindLength-reads Capability IsCapability one_capability capability-reads
+
+finds : (cs : List Capability) (front back : List ℕ) → IsParameter cs front → one_parameter (front ++ back) ≡ Some (cs, back)
+unfolding one_parameter
+finds cs front back p = ap (λ (x : List ℕ). one_parameter (x ++ back)) p.octets ∙ value_reads.finds cs p.value back p.holds
+
+gives_at : (kind : ℕ) (b : List ℕ) (cs : List Capability) (after : List ℕ) (t : Bool) → eqb kind 2 ≡ t → cond t (behind_length one_capability b) None ≡ Some (cs, after)
+    → (front : List ℕ) × (kind ∷ b ≡ front ++ after) × IsParameter cs front
+gives_at kind b cs after true two e =
+    let gave = value_reads.gives b cs after e in
+    (kind ∷ gave.0, ap (λ (x : List ℕ). kind ∷ x) gave.1, record { value = gave.0; octets = ap (λ (k : ℕ). k ∷ gave.0) (eqb-true kind 2 two); holds = gave.2 })
+gives_at kind b cs after false two e = absurd (found_not (List Capability) (cs, after) e)
+
+gives : (b : List ℕ) (cs : List Capability) (after : List ℕ) → one_parameter b ≡ Some (cs, after) → (front : List ℕ) × (b ≡ front ++ after) × IsParameter cs front
+unfolding one_parameter
+gives [] cs after e = absurd (found_not (List Capability) (cs, after) e)
+gives (kind ∷ b) cs after e = gives_at kind b cs after (eqb kind 2) refl e
+
+not_empty : (b : List ℕ) (kind : ℕ) (value : List ℕ) → b ≡ kind ∷ value → 0 < length b
+not_empty b kind value e = omega (arith, ap length e)
+
+pub parameter-reads : Reads IsParameter one_parameter
+parameter-reads = record {
+  not_empty = λ cs b p. not_empty b 2 p.value p.octets;
+  finds = finds;
+  gives = gives;
+}
+
+-- ---- the parameter at the front, test by test
+
+abbrev nothing : Option (List Capability × List ℕ)
+nothing = None
+
+none_both : (t : Bool) → cond t nothing nothing ≡ nothing
+none_both true = refl
+none_both false = refl
+
+whole_where : (back : List ℕ) (q : List Capability × List ℕ) → when_whole back q ≡ cond (eqb (length q.1) 0) (Some (q.0, back)) None
+whole_where back (cs, []) = refl
+whole_where back (cs, x ∷ rest) = let more : eqb (suc (length rest)) 0 ≡ false = eqb-suc-zero (length rest) in rw more refl
+
+pub one_parameter-short : (b : List ℕ) → length b < 2 → one_parameter b ≡ None
+unfolding one_parameter behind_length
+one_parameter-short [] short = refl
+one_parameter-short (kind ∷ []) short = none_both (eqb kind 2)
+one_parameter-short (kind ∷ n ∷ b) short = absurd (omega arith)
+
+pub one_parameter-tests : (kind n : ℕ) (b : List ℕ) → one_parameter (kind ∷ n ∷ b)
+    ≡ cond (eqb kind 2) (cond (leb n (length b)) (cond (eqb (length (pieces one_capability (take n b)).1) 0) (Some ((pieces one_capability (take n b)).0, drop n b)) None) None) None
+unfolding one_parameter behind_length
+one_parameter-tests kind n b =
+    ap (λ (o : Option (List Capability × List ℕ)). cond (eqb kind 2) (cond (leb n (length b)) o None) None) (whole_where (drop n b) (pieces one_capability (take n b)))
+
+pub ruleset steps = (one_parameter-short, one_parameter-tests)

@@ -1,0 +1,40 @@
+-- Capabilities as octets (RFC 5492, section 4): a code, the length of the value, the value.
+use Rattle.std.specs.Prelude.{◌≡◌, ℕ, ◌==◌, List, [], ◌∷◌, length, take, drop, Option, None, Some, nat_le, if◌then◌else◌}
+use Rattle.std.specs.Int.{w16, w32, from_be_bytes}
+use Rattle.bgp_open.specs.declared.capability.Capability.{Capability}
+use Rattle.bgp_open.specs.declared.capability.Capability.TheVariants.{Multi, As4, Other}
+
+-- an address family, a reserved octet that can be any, and a subsequent address family (RFC 4760, section 8)
+abbrev pub multi_of : List ℕ → Option Capability
+multi_of (high ∷ low ∷ reserved ∷ subsequent ∷ []) = Some (Multi (from_be_bytes w16 (high ∷ low ∷ [])) subsequent)
+multi_of _ = None
+
+-- an AS number of four octets (RFC 6793, sections 3 and 4.1)
+abbrev pub as4_of : List ℕ → Option Capability
+as4_of (a ∷ b ∷ c ∷ d ∷ []) = Some (As4 (from_be_bytes w32 (a ∷ b ∷ c ∷ d ∷ [])))
+as4_of _ = None
+
+-- what a value of this code means: codes 1 and 65 have values of four octets
+abbrev pub capability_of : ℕ → List ℕ → Option Capability
+capability_of code value =
+    if code == 1 then multi_of value else (
+    if code == 65 then as4_of value else
+    Some (Other code value))
+
+-- b is the capability c, whole
+pub record IsCapability (c : Capability) (b : List ℕ) : Type 0 where
+  pub code : ℕ
+  pub value : List ℕ
+  pub octets : b ≡ code ∷ length value ∷ value
+  pub means : capability_of code value ≡ Some c
+
+-- a capability, where there is one, and what follows it
+abbrev pub followed_by : List ℕ → Option Capability → Option (Capability × List ℕ)
+followed_by back None = None
+followed_by back (Some c) = Some (c, back)
+
+-- reads the capability at the front: none where it is cut off, or its length isn't that of its code
+unfoldable pub one_capability : List ℕ → Option (Capability × List ℕ)
+one_capability [] = None
+one_capability (code ∷ []) = None
+one_capability (code ∷ n ∷ b) = if nat_le n (length b) then followed_by (drop n b) (capability_of code (take n b)) else None

@@ -1,0 +1,10 @@
+-- The OPEN, its capabilities, and what two speakers agree on.
+pub mod Capability
+pub mod View
+pub mod Parameter
+pub mod Open
+pub mod OpenFault
+pub mod Config
+pub mod Own
+pub mod Agreement
+pub mod Written

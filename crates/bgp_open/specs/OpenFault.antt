@@ -1,0 +1,77 @@
+-- What is wrong with the body of an OPEN, and the answer (RFC 4271, sections 6.2 and 4.5). The order of the tests is this project's own.
+use Rattle.std.specs.Prelude.{◌≡◌, ◌==◌, ◌≢◌, ℕ, Bool, not, nat_lt, List, [], ◌∷◌, length, Option, None, Some, Result, Ok, Err, IsOk, if◌then◌else◌}
+use Rattle.bgp_wire.specs.Reader.{pieces}
+use Rattle.bgp_frame.specs.declared.notification.Notification.{Notification}
+use Rattle.bgp_open.specs.declared.message.Open.{Open}
+use Rattle.bgp_open.specs.declared.fault.OpenFault.{OpenFault}
+use Rattle.bgp_open.specs.declared.fault.OpenFault.TheVariants.{Version, Parameter, UnknownParameter, Hold, Identifier, Memory}
+use Rattle.bgp_open.specs.Parameter.{one_parameter}
+use Rattle.bgp_open.specs.Open.{version_of, as_field_of, hold_of, id_of, length_of, parameters_of, is_short_hold, is_zero_id, joined, IsOpen}
+
+-- the faults of tests in their order: the first one is the body's
+abbrev pub first_fault : List (Option OpenFault) → Option OpenFault
+first_fault [] = None
+first_fault (None ∷ later) = first_fault later
+first_fault (Some fault ∷ later) = Some fault
+
+abbrev pub fault_if : Bool → OpenFault → Option OpenFault
+fault_if failed fault = if failed then Some fault else None
+
+-- what is left behind the last parameter: nothing, or octets that begin no parameter. These are cut off, or of an unknown
+-- type, or hold capabilities that are cut off or of a wrong length
+abbrev pub rest_fault : List ℕ → Option OpenFault
+rest_fault [] = None
+rest_fault (kind ∷ []) = Some Parameter
+rest_fault (kind ∷ n ∷ value) =
+    if nat_lt (length value) n then Some Parameter else (
+    if not (kind == 2) then Some UnknownParameter else
+    Some Parameter)
+
+-- the first fault of a body of at least ten octets
+unfoldable pub fault_of : List ℕ → Option OpenFault
+fault_of body = first_fault (
+    fault_if (not (version_of body == 4)) Version ∷
+    fault_if (not (length_of body == length (parameters_of body))) Parameter ∷
+    rest_fault (pieces one_parameter (parameters_of body)).1 ∷
+    fault_if (is_short_hold (hold_of body)) Hold ∷
+    fault_if (is_zero_id (id_of body)) Identifier ∷ [])
+
+-- the value of a body without fault
+abbrev pub open_of : List ℕ → Open
+open_of body = record {
+  as_field = as_field_of body;
+  hold = hold_of body;
+  id = id_of body;
+  caps = joined (pieces one_parameter (parameters_of body)).0;
+}
+
+-- the value, or the first fault
+abbrev pub or_fault : Option OpenFault → Open → Result Open OpenFault
+or_fault None o = Ok o
+or_fault (Some fault) o = Err fault
+
+abbrev pub reading_of : List ℕ → Result Open OpenFault
+reading_of body = or_fault (fault_of body) (open_of body)
+
+-- what was answered is the reading, or memory ran out where there is a value
+abbrev pub FailsAs : OpenFault → Result Open OpenFault → Type 0
+FailsAs Memory reading = IsOk reading
+FailsAs fault reading = reading ≡ Err fault
+
+abbrev pub Gives : Result Open OpenFault → Result Open OpenFault → Type 0
+Gives (Ok o) reading = reading ≡ Ok o
+Gives (Err fault) reading = FailsAs fault reading
+
+-- a body has one value, or a fault and no value
+abbrev pub HasValueOrFault : List ℕ → Option OpenFault → Type 0
+HasValueOrFault body None = IsOpen (open_of body) body × ((o : Open) → IsOpen o body → o ≡ open_of body)
+HasValueOrFault body (Some fault) = (fault ≢ Memory) × ((o : Open) → IsOpen o body → ⊥)
+
+-- the notification of a fault: the version that is spoken here is the information of an unsupported one, and a refused growth has none
+abbrev pub notification_of : OpenFault → Option Notification
+notification_of Version = Some (record { code = 2; subcode = 1; info = record { items = 0 ∷ 4 ∷ [] } })
+notification_of Parameter = Some (record { code = 2; subcode = 0; info = record { items = [] } })
+notification_of UnknownParameter = Some (record { code = 2; subcode = 4; info = record { items = [] } })
+notification_of Hold = Some (record { code = 2; subcode = 6; info = record { items = [] } })
+notification_of Identifier = Some (record { code = 2; subcode = 3; info = record { items = [] } })
+notification_of Memory = None

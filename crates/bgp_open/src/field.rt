@@ -1,0 +1,18 @@
+//! Values that two fields of an OPEN never have.
+
+ghost use Rattle.std.specs.Prelude.{◌≡◌};
+ghost use Rattle.bgp_open.specs.Open.{is_short_hold, is_zero_id};
+
+/// Whether a Hold Time is 1 or 2 seconds (RFC 4271, section 4.2).
+pub(crate) fn is_short_hold(hold: u16) -> bool
+    ensures { result ≡ is_short_hold hold }
+{
+    hold == 1 || hold == 2
+}
+
+/// Whether a BGP Identifier is zero (RFC 6286, section 2.1).
+pub(crate) fn is_zero_id(id: [u8; 4]) -> bool
+    ensures { result ≡ is_zero_id id }
+{
+    id == [0; 4]
+}

@@ -1,0 +1,58 @@
+//! Laws over the definitions alone: these functions do nothing, and their contracts are what is proved.
+
+ghost use Rattle.std.specs.Prelude.{◌≡◌, ℕ, ◌≤◌, false, List, length, Ok};
+ghost use Rattle.bgp_wire.specs.Row.{IsPrefixFree, Splits};
+ghost use Rattle.bgp_wire.specs.Reader.{Reads, pieces};
+ghost use Rattle.bgp_open.specs.declared.capability.Capability.{Capability};
+ghost use Rattle.bgp_open.specs.declared.message.Open.{Open};
+ghost use Rattle.bgp_open.specs.Written.{canonical, is_bad, HasRanges};
+ghost use Rattle.bgp_open.specs.declared.context.Context.{Context};
+ghost use Rattle.bgp_open.specs.Config.{Settings, IsAllowed};
+ghost use Rattle.bgp_open.specs.Own.{own_of};
+ghost use Rattle.bgp_open.specs.Agreement.{agreement};
+ghost use Rattle.bgp_open.specs.Capability.{IsCapability, one_capability};
+ghost use Rattle.bgp_open.specs.Parameter.{IsParameter, one_parameter};
+ghost use Rattle.bgp_open.specs.OpenFault.{fault_of, reading_of, HasValueOrFault};
+
+/// No capability is a front of another, and the octets of each have one meaning (RFC 5492, section 4).
+pub fn capabilities_are_prefix_free()
+    ensures { IsPrefixFree IsCapability }
+{}
+
+/// The reader of capabilities finds each one that stands at the front, and nothing else.
+pub fn readings_are_capabilities()
+    ensures { Reads IsCapability one_capability }
+{}
+
+/// No parameter is a front of another, and the octets of each hold one list of capabilities (RFC 4271, section 4.2).
+pub fn parameters_are_prefix_free()
+    ensures { IsPrefixFree IsParameter }
+{}
+
+/// The reader of parameters finds each one that stands at the front, and nothing else.
+pub fn readings_are_parameters()
+    ensures { Reads IsParameter one_parameter }
+{}
+
+/// Octets split into parameters and a rest that begins with none in exactly one way, which is what the reader finds.
+pub fn parameters_split_in_one_way()
+    ensures splits { (b : List ℕ) → Splits IsParameter b (pieces one_parameter b).0 (pieces one_parameter b).1 }
+    ensures only { (b : List ℕ) (parameters : List (List Capability)) (rest : List ℕ)
+        → Splits IsParameter b parameters rest → pieces one_parameter b ≡ (parameters, rest) }
+{}
+
+/// Each body of at least ten octets is the spelling of one OPEN and has no fault, or has a fault and spells none.
+pub fn an_open_has_one_reading()
+    ensures { (body : List ℕ) → 10 ≤ length body → HasValueOrFault body (fault_of body) }
+{}
+
+/// What is written of an OPEN that isn't bad is read as this OPEN.
+pub fn a_written_open_is_read_back()
+    ensures { (o : Open) → HasRanges o → is_bad o ≡ false → reading_of (canonical o) ≡ Ok o }
+{}
+
+/// Where two speakers accept each other, both find one context.
+pub fn both_sides_agree()
+    ensures { (a b : Settings) (x y : Context) → IsAllowed a → IsAllowed b
+        → agreement a (own_of b) ≡ Ok x → agreement b (own_of a) ≡ Ok y → x ≡ y }
+{}

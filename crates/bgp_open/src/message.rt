@@ -1,0 +1,38 @@
+//! The OPEN.
+
+ghost use Rattle.std.specs.Prelude.{◌≡◌, IfOk};
+
+use crate::capability::Capability;
+use bgp_wire::List;
+use std::alloc::{AllocError, Global};
+
+/// What an OPEN of version 4 says (RFC 4271, section 4.2).
+#[derive(Debug, Drop, PartialEq)]
+pub struct Open {
+    /// My Autonomous System: the sender's AS number, or 23456 where that has more than two octets (RFC 6793, section 4.1).
+    pub as_field: u16,
+    /// Hold Time in seconds: 0 for none, and never 1 or 2 in what is read.
+    pub hold: u16,
+    /// BGP Identifier: never zero in what is read (RFC 6286, section 2.1).
+    pub id: [u8; 4],
+    /// The capabilities in their order, however they were grouped into parameters (RFC 5492, section 4).
+    pub caps: List<Capability>,
+}
+
+impl Open {
+    /// An equal OPEN, with memory of its own.
+    ///
+    /// # Errors
+    /// `AllocError` where a growth was refused.
+    pub fn copy(&self, alloc: Global) -> Result<Open, AllocError>
+        ensures { IfOk result (λ copy. copy ≡ self.now) }
+    {
+        let caps = self.caps.copy(alloc)?;
+        Ok(Open {
+            as_field: self.as_field,
+            hold: self.hold,
+            id: self.id,
+            caps,
+        })
+    }
+}

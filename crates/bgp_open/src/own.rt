@@ -1,0 +1,94 @@
+//! What a speaker says of itself.
+
+ghost use Rattle.std.specs.Prelude.{◌≡◌, IfOk};
+ghost use Rattle.bgp_frame.specs.Frame.{IsFrame};
+ghost use Rattle.bgp_frame.specs.declared.kind.Kind.TheVariants as kind;
+ghost use Rattle.bgp_open.specs.Open.{IsOpen};
+ghost use Rattle.bgp_open.specs.Own.{field_for, own_caps, own_of};
+ghost use Rattle.bgp_open.specs.Written.{row_octets, canonical};
+
+use crate::body::body_of;
+use crate::capability::Capability;
+use crate::config::Config;
+use crate::message::Open;
+use crate::row::put;
+use arrayvec::ArrayVec;
+use bgp_frame::{Kind, head};
+use bgp_wire::List;
+use std::alloc::{AllocError, Global};
+
+/// What stands in two octets for an AS number that needs four (RFC 6793, section 9).
+const AS_TRANS: u16 = 23456;
+
+/// The My Autonomous System field for an AS number.
+fn as_field(number: u32) -> u16
+    ensures { result ≡ field_for number }
+{
+    if number > 65535 {
+        AS_TRANS
+    } else {
+        number as u16
+    }
+}
+
+/// The OPEN of a speaker: its AS number, or 23456 where that is above 65535, and the capabilities that it offers, in the order
+/// IPv4 unicast, IPv6 unicast, AS numbers of four octets.
+///
+/// # Errors
+/// `AllocError` where a growth was refused.
+pub fn own_open(alloc: Global, config: &Config) -> Result<Open, AllocError>
+    ensures { IfOk result (λ o. o ≡ own_of config.now) }
+{
+    let mut caps = List::new(alloc);
+    if config.ip4() {
+        caps.push(Capability::Multi(1, 1))?;
+    }
+    if config.ip6() {
+        caps.push(Capability::Multi(2, 1))?;
+    }
+    if config.as4() {
+        caps.push(Capability::As4(config.local_as()))?;
+    }
+    Ok(Open {
+        as_field: as_field(config.local_as()),
+        hold: config.hold(),
+        id: config.id(),
+        caps,
+    })
+}
+
+/// The row of the capabilities that a speaker offers.
+fn own_row(config: &Config) -> ArrayVec<u8, 253>
+    ensures { result.items ≡ row_octets (own_caps config.now) }
+{
+    let mut row = ArrayVec::new();
+    if config.ip4() {
+        put(&Capability::Multi(1, 1), &mut row);
+    }
+    if config.ip6() {
+        put(&Capability::Multi(2, 1), &mut row);
+    }
+    if config.as4() {
+        put(&Capability::As4(config.local_as()), &mut row);
+    }
+    row
+}
+
+/// The whole message of a speaker's OPEN, header and body, without memory.
+pub fn own_frame(config: &Config) -> ArrayVec<u8, 49>
+    ensures framed { IsFrame (record { kind = kind.Open; body = canonical (own_of config.now) }) result.items }
+    // The body spells what the speaker says of itself.
+    ensures spelled { IsOpen (own_of config.now) (canonical (own_of config.now)) }
+{
+    let row = own_row(config);
+    let body = body_of(
+        as_field(config.local_as()),
+        config.hold(),
+        config.id(),
+        &row,
+    );
+    let mut frame = ArrayVec::new();
+    let _ = frame.try_extend_from_slice(&head(Kind::Open, body.len() as u16));
+    let _ = frame.try_extend_from_slice(&body);
+    frame
+}

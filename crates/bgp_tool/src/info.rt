@@ -1,0 +1,32 @@
+//! Information and notifications as text.
+
+ghost use Rattle.std.specs.Prelude.{◌≡◌, IfOk};
+ghost use Rattle.std.specs.String.{string_bytes};
+ghost use Rattle.bgp_tool.specs.InfoText.{info_text, notification_text};
+
+use bgp_frame::Notification;
+use std::alloc::{AllocError, Global};
+
+/// Information as hexadecimal text, or a dash where there is none.
+#[tactic(auto, unfolding(crate::specs::InfoText::info_text))]
+pub(crate) fn info_text(alloc: Global, info: &[u8]) -> Result<String, AllocError>
+    ensures { IfOk result (λ text. string_bytes text ≡ info_text info.now) }
+{
+    if info.is_empty() {
+        return "-".to_string(alloc);
+    }
+    hex::encode(alloc, info)
+}
+
+/// A code, a subcode and information.
+#[tactic(auto, unfolding(crate::specs::InfoText::notification_text))]
+pub(crate) fn notification_text(alloc: Global, told: &Notification) -> Result<String, AllocError>
+    ensures { IfOk result (λ text. string_bytes text ≡ notification_text told.now) }
+{
+    let code = told.code;
+    let subcode = told.subcode;
+    let info = info_text(alloc, &told.info)?;
+    let mut text = String::new(alloc);
+    write!(text, "{code}/{subcode} {info}")?;
+    Ok(text)
+}
