@@ -1,14 +1,14 @@
 -- Filling up to a header, and then up to what the header wants, takes as many octets as one after another.
-use Rattle.std.proofs.Common.{◌≡◌, ℕ, zero, suc, ◌+◌, ◌-◌, ◌<◌, ◌≤◌, min, List, [], ◌∷◌, ◌++◌, length, take, drop, refl, sym, ap, subst, ◌∙◌, append_assoc, arith, inl, inr, ◌⊎◌}
+use Rattle.std.proofs.Common.{◌≡◌, ℕ, zero, suc, ◌+◌, ◌-◌, ◌<◌, ◌≤◌, min, List, ◌++◌, length, take, drop, sym, ap, subst, ◌∙◌, append_assoc, arith, inl, inr, ◌⊎◌}
 use Rattle.std.proofs.Math.Seq.{take-add}
 use Rattle.std.proofs.lemmas.Bool.{cases_lt}
 use Rattle.std.proofs.lemmas.List.{append-nil, length-append, length-drop, length-take, take_rest}
 use Rattle.bgp_wire.specs.Octets.{AreOctets}
 use Rattle.bgp_wire.proofs.OctetLemmas.{AreOctets-append, AreOctets-take, AreOctets-drop}
-use Rattle.bgp_frame.specs.Frame.{IsWhole, IsFaulty, wanted, Waits}
+use Rattle.bgp_frame.specs.Frame.{wanted, Waits}
 use Rattle.bgp_frame.specs.Takes.{Stops, Takes}
 use Rattle.bgp_frame.specs.Framer.{IsHeld}
-use Rattle.bgp_frame.proofs.FrameLemmas.{wanted-bounds, wanted-append, wanted_under, Stops-wanted, wanted-Stops}
+use Rattle.bgp_frame.proofs.FrameLemmas.{wanted-bounds, wanted-append, Stops-wanted, wanted-Stops}
 
 -- what waits and is given an octet takes one
 pub takes_some : (held piece : List ℕ) (n : ℕ) → Takes held piece n → Waits held → 0 < length piece → 0 < n

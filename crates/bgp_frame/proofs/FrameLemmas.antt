@@ -1,21 +1,20 @@
 -- Frames and their headers: what is whole, what is faulty, and how much is wanted.
-use Rattle.std.proofs.Common.{◌≡◌, ℕ, zero, suc, ◌+◌, ◌-◌, ◌<◌, ◌≤◌, ◌^◌, Bool, true, false, cond, ltb, List, [], ◌∷◌, ◌++◌, length, take, drop, get_or, replicate, ◌↔◌, Result, Ok, Err, refl, sym, ap, subst, ◌∙◌, append_assoc, arith, inl, inr}
-use Rattle.std.specs.Int.{w16, to_be_bytes, from_be_bytes}
-use Rattle.std.proofs.lemmas.Bool.{cases_lt, cases_order, le-ltb, lt-ltb, ltb-true, ltb-false}
-use Rattle.std.proofs.lemmas.List.{length-replicate, append-nil, append_cancel_left, length-append, length-drop, length-take, take-append-le, take-append-drop, get_or_append_left, drop_more, take_at, drop_at}
+use Rattle.std.proofs.Common.{◌≡◌, ℕ, zero, suc, ◌+◌, ◌-◌, ◌<◌, ◌≤◌, ◌^◌, List, [], ◌∷◌, ◌++◌, length, take, drop, get_or, replicate, ◌↔◌, Result, Ok, Err, refl, sym, ap, subst, ◌∙◌, arith, inl, inr}
+use Rattle.std.specs.Int.{w16, to_be_bytes}
+use Rattle.std.proofs.lemmas.Bool.{cases_lt, cases_order, le-ltb, lt-ltb}
+use Rattle.std.proofs.lemmas.List.{length-replicate, length-append, length-drop, take-append-le, take-append-drop, get_or_append_left, drop_more}
 use Rattle.std.proofs.lemmas.Nat.{be_bytes_2, from_be_bytes-to_be_bytes_2}
 use Rattle.bgp_wire.specs.Octets.{AreOctets}
 use Rattle.bgp_wire.proofs.OctetLemmas.{AreOctets-append}
-use Rattle.bgp_wire.specs.Row.{IsPrefixFree}
 use Rattle.bgp_frame.specs.declared.kind.Kind.{Kind}
 use Rattle.bgp_frame.specs.declared.header.Header.{Header}
 use Rattle.bgp_frame.specs.declared.fault.HeadFault.{HeadFault}
 use Rattle.bgp_frame.specs.Kind.{code_of, IsLength}
 use Rattle.bgp_frame.specs.Head.{marker, header, length_field, type_field, head_of}
-use Rattle.bgp_frame.specs.Frame.{Message, octets_of, IsFrame, IsWhole, IsFaulty, wanted_by, wanted, Waits}
+use Rattle.bgp_frame.specs.Frame.{Message, octets_of, IsFrame, IsWhole, wanted_by, wanted}
 use Rattle.bgp_frame.specs.Takes.{Stops, Takes}
 use Rattle.bgp_frame.proofs.Headers.{below_4097, length-header}
-use Rattle.bgp_frame.proofs.HeadLemmas.{Says, Says-head_of, head_of-Says, above_18, said, said_same, said_not}
+use Rattle.bgp_frame.proofs.HeadLemmas.{Says-head_of, head_of-Says, above_18}
 
 -- ---- the first 19 octets decide
 

@@ -1,22 +1,15 @@
 -- What a header says, and what it is made of.
-use Rattle.std.proofs.Common.{◌≡◌, ℕ, zero, suc, ◌+◌, ◌<◌, ◌≤◌, ◌^◌, Bool, true, false, not, cond, ◌&&◌, ◌||◌, eqb, ltb, leb, List, [], ◌∷◌, ◌++◌, length, take, drop, get_or, replicate, Option, Some, None, Result, Ok, Err, refl, sym, ap, subst, ◌∙◌, arith, inl, inr}
-use Rattle.std.specs.Prelude.{nat_eq}
-use Rattle.std.specs.List.{starts_with}
-use Rattle.std.specs.Int.{w16, to_be_bytes, from_be_bytes}
-use Rattle.std.proofs.lemmas.Bool.{eqb-true, leb-true, ltb-false, le-leb, le-ltb, and_parts}
-use Rattle.std.proofs.lemmas.List.{length-append, length-drop, length-take, take-append-le, get_or_append_left, get_or-drop, take-append-drop, drop_more}
+use Rattle.std.proofs.Common.{◌≡◌, ℕ, ◌≤◌, Bool, true, false, not, cond, ◌||◌, eqb, ltb, leb, List, take, Option, Some, None, Result, Ok, Err, refl, sym, ap, subst, arith}
+use Rattle.std.proofs.lemmas.Bool.{eqb-true, leb-true, le-leb, le-ltb, and_parts}
 use Rattle.std.proofs.lemmas.Slice.Eq.{bytes_eq-Decides}
-use Rattle.std.proofs.lemmas.Nat.{be_bytes_2, from_be_bytes-to_be_bytes_2}
-use Rattle.bgp_wire.specs.Octets.{AreOctets}
 use Rattle.bgp_frame.specs.declared.kind.Kind.{Kind}
 use Rattle.bgp_frame.specs.declared.kind.Kind.TheVariants.{Open, Update, Notification, Keepalive}
 use Rattle.bgp_frame.specs.declared.header.Header.{Header}
 use Rattle.bgp_frame.specs.declared.fault.HeadFault.{HeadFault}
 use Rattle.bgp_frame.specs.declared.fault.HeadFault.TheVariants as fault
 use Rattle.bgp_frame.specs.Kind.{code_of, kind_of, least_length, most_length, IsLength, is_length}
-use Rattle.bgp_frame.specs.Head.{marker, header, has_marker, length_field, type_field, head_for, head_of}
-use Rattle.bgp_frame.specs.Frame.{Message, octets_of, IsFrame}
-use Rattle.bgp_frame.proofs.Headers.{below_4097, length-header}
+use Rattle.bgp_frame.specs.Head.{marker, has_marker, length_field, type_field, head_for, head_of}
+use Rattle.bgp_frame.proofs.Headers.{below_4097}
 
 -- ---- kinds
 

@@ -1,14 +1,13 @@
 -- What can be held, and what it shows.
-use Rattle.std.proofs.Common.{◌≡◌, ℕ, ◌+◌, ◌-◌, ◌<◌, ◌≤◌, List, [], ◌∷◌, ◌++◌, length, take, drop, Result, Ok, Err, refl, sym, ap, subst, ◌∙◌, arith}
+use Rattle.std.proofs.Common.{◌≡◌, ℕ, ◌-◌, ◌<◌, ◌≤◌, List, [], length, take, drop, Ok, Err, sym, ap, subst, ◌∙◌, arith}
 use Rattle.std.proofs.lemmas.List.{take_rest}
-use Rattle.bgp_wire.specs.Octets.{AreOctets}
 use Rattle.bgp_wire.proofs.OctetLemmas.{AreOctets-nil}
 use Rattle.bgp_frame.specs.declared.header.Header.{Header}
 use Rattle.bgp_frame.specs.declared.fault.HeadFault.{HeadFault}
 use Rattle.bgp_frame.specs.Head.{head_of}
-use Rattle.bgp_frame.specs.Frame.{IsFrame, wanted_by, wanted, Waits}
+use Rattle.bgp_frame.specs.Frame.{IsFrame, wanted_by, Waits}
 use Rattle.bgp_frame.specs.Framer.{IsHeld}
-use Rattle.bgp_frame.proofs.FrameLemmas.{wanted-bounds, wanted_under, wanted_by_head, IsFrame-head_of}
+use Rattle.bgp_frame.proofs.FrameLemmas.{wanted_under, wanted_by_head, IsFrame-head_of}
 
 pub IsHeld_nil : IsHeld []
 IsHeld_nil = record { octets = AreOctets-nil; within = omega arith }

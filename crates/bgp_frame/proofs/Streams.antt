@@ -1,7 +1,7 @@
 -- Each stream of octets has one reading, found message by message from its front.
-use Rattle.std.proofs.Common.{◌≡◌, ℕ, zero, suc, ◌+◌, ◌-◌, ◌<◌, ◌≤◌, Bool, true, false, cond, ltb, List, [], ◌∷◌, ◌++◌, length, map, take, drop, Result, Ok, Err, refl, sym, ap, subst, ◌∙◌, append_assoc, arith, inl, inr, ◌⊎◌}
+use Rattle.std.proofs.Common.{◌≡◌, ℕ, zero, suc, ◌+◌, ◌<◌, ◌≤◌, Bool, true, false, cond, ltb, List, [], ◌∷◌, ◌++◌, length, map, take, drop, Result, Ok, Err, refl, sym, ap, subst, ◌∙◌, append_assoc, arith, inl, inr, ◌⊎◌}
 use Rattle.std.specs.List.{AllByRecursion}
-use Rattle.std.proofs.lemmas.Bool.{cases_lt, lt-ltb, le-ltb, ltb-true, ltb-false}
+use Rattle.std.proofs.lemmas.Bool.{lt-ltb, le-ltb, ltb-true, ltb-false}
 use Rattle.std.proofs.lemmas.List.{append-nil, append_cancel_left, length-append, length-drop, length-take, take_at, drop_at, take-append-drop}
 use Rattle.bgp_wire.specs.Octets.{AreOctets}
 use Rattle.bgp_wire.specs.Row.{Row, IsPrefixFree}
@@ -11,12 +11,10 @@ use Rattle.bgp_frame.specs.declared.end.End.{End}
 use Rattle.bgp_frame.specs.declared.end.End.TheVariants as end
 use Rattle.bgp_frame.specs.declared.header.Header.{Header}
 use Rattle.bgp_frame.specs.declared.fault.HeadFault.{HeadFault}
-use Rattle.bgp_frame.specs.Kind.{code_of}
 use Rattle.bgp_frame.specs.Head.{header, head_of}
 use Rattle.bgp_frame.specs.Frame.{Message, octets_of, IsFrame, wanted_by, wanted, Waits}
-use Rattle.bgp_frame.specs.Stream.{Judgement, outcome_of, GoesOn, EndsAtReset, EndsAtHead, EndsWaiting, EndsBy, Gives, HasOneReading}
-use Rattle.bgp_frame.proofs.Headers.{length-header}
-use Rattle.bgp_frame.proofs.HeadLemmas.{said, said_same, said_not}
+use Rattle.bgp_frame.specs.Stream.{Judgement, outcome_of, GoesOn, EndsBy, Gives, HasOneReading}
+use Rattle.bgp_frame.proofs.HeadLemmas.{said_same}
 use Rattle.bgp_frame.proofs.FrameLemmas.{head_at, head_of-append, length-IsFrame, head_of-IsFrame, IsFrame-head_of, wanted_by_head, wanted-append, wanted-bounds, IsFrame-wanted}
 
 -- ---- frames are prefix free

@@ -3,7 +3,7 @@ use Rattle.std.specs.Prelude.{◌≡◌, ℕ, List, length, Err}
 use Rattle.bgp_frame.specs.declared.step.Step.{Step}
 use Rattle.bgp_frame.specs.declared.step.Step.TheVariants as step
 use Rattle.bgp_frame.specs.Head.{head_of}
-use Rattle.bgp_frame.specs.Frame.{Message, IsFrame, Waits}
+use Rattle.bgp_frame.specs.Frame.{IsFrame, Waits}
 
 abbrev pub Shows : List ℕ → Step → Type 0
 Shows held step.More = Waits held

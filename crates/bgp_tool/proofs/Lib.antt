@@ -5,3 +5,4 @@ pub mod Printed
 pub mod Written
 pub mod BlockLemmas
 pub mod Showing
+pub mod CommandLines

@@ -9,4 +9,5 @@ pub mod Printing
 pub mod Output
 pub mod Show
 pub mod Blocks
+pub mod CommandLine
 pub mod Command

@@ -1,50 +1,22 @@
 //! The command line of `bgp`.
 
-ghost use Rattle.std.specs.Prelude.{◌≤◌, ◌≢◌, MatchResult};
+ghost use Rattle.std.specs.Prelude.{MatchResult, map};
+ghost use Rattle.clap.specs.Words.{kind_of};
+ghost use Rattle.bgp_tool.specs.CommandLine.{IsExplained, IsQuiet};
 ghost use Rattle.bgp_tool.specs.Command.{is_hex, Answers};
 ghost use Rattle.bgp_tool.specs.Show.{Shows, Fails};
 
 use crate::fault::ToolFault;
+use crate::request::{Request, parse};
 use crate::shown::show;
 use crate::tally::{Tally, status};
+use clap::Error;
 use clap::error::ErrorKind;
-use clap::{Arg, ArgAction, Command, Error};
-use std::alloc::{AllocError, Global};
+use std::alloc::Global;
 use std::io::{Read, Write};
 
 /// The status of a fault of the command line.
 const MISUSE: u8 = 2;
-
-/// What the words ask for.
-#[derive(Clone, Copy)]
-enum Request {
-    Show { hex: bool },
-}
-
-fn bgp<'a>(alloc: Global) -> Result<Command<'a>, AllocError> {
-    let hex = Arg::new(alloc, "hex")
-        .long("hex")
-        .help("Read hexadecimal text in place of octets")
-        .action(ArgAction::SetTrue);
-    let show = Command::new(alloc, "show")
-        .about("Print the messages of a stream, one after another")
-        .arg(hex)?;
-    Command::new(alloc, "bgp")
-        .about("Show what BGP-4 speakers send each other")
-        .bin_name("bgp")?
-        .no_binary_name(true)
-        .subcommand_required(true)
-        .subcommand(show)
-}
-
-fn parse<'a>(alloc: Global, words: &'a [&'a str]) -> Result<Option<Request>, Error> {
-    let matches = bgp(alloc)?.try_get_matches_from(words)?;
-    Ok(
-        matches.subcommand().map(|(_show, flags)| Request::Show {
-            hex: flags.get_flag("hex"),
-        }),
-    )
-}
 
 // Tells a fault. A write that fails changes nothing.
 fn tell<E: Write>(errors: &mut E, fault: ToolFault) {
@@ -53,8 +25,8 @@ fn tell<E: Write>(errors: &mut E, fault: ToolFault) {
 
 // Prints the text of a command line that asks for nothing that can be done: help, or a fault.
 fn explain<W: Write, E: Write>(error: &Error, output: &mut W, errors: &mut E) -> u8
-    ensures no_result { result ≢ 1 }
-    ensures bound { result ≤ 4 }
+    ensures answer { IsExplained (kind_of error.now) result }
+    ensures quiet { IsQuiet (kind_of error.now) (W.contents output.old) (W.contents output.new) }
 {
     if error.kind() == ErrorKind::OutOfMemory {
         tell(errors, ToolFault::Memory);
@@ -103,7 +75,7 @@ pub fn command<R: Read, W: Write, E: Write>(
     output: &mut W,
     errors: &mut E,
 ) -> u8
-    ensures { Answers (R.remaining input.old) (R.remaining input.new) (W.contents output.old) (W.contents output.new) result }
+    ensures { Answers (map (λ w. w.now) words.now) (R.remaining input.old) (R.remaining input.new) (W.contents output.old) (W.contents output.new) result }
 {
     match parse(alloc, words) {
         Ok(Some(request)) => status(&run(alloc, request, input, output, errors)),

@@ -10,6 +10,7 @@ mod lines;
 mod open_lines;
 mod output;
 mod printer;
+mod request;
 mod shown;
 mod tally;
 

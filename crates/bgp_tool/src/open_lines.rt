@@ -75,13 +75,13 @@ fn put_taken(
     text: &mut String,
     place: u64,
     len: u16,
-    open: &Open,
+    message: &Open,
 ) -> Result<(), AllocError>
-    ensures { OnOk result (string_bytes text.new ≡ string_bytes text.old ++ taken_lines place len open.now) }
+    ensures { OnOk result (string_bytes text.new ≡ string_bytes text.old ++ taken_lines place len message.now) }
 {
-    put_numbers(text, place, len, open.as_field, open.hold)?;
-    put_id(text, open.id)?;
-    put_capabilities(alloc, text, &open.caps)
+    put_numbers(text, place, len, message.as_field, message.hold)?;
+    put_id(text, message.id)?;
+    put_capabilities(alloc, text, &message.caps)
 }
 
 // An OPEN that is answered by a reset.
@@ -111,8 +111,8 @@ pub(crate) fn put_open_body(
     ensures resets { IfOk result (λ resets. resets ≡ is_err (reading_of body.now)) }
 {
     match read_open(alloc, body) {
-        Ok(open) => {
-            put_taken(alloc, text, place, len, &open)?;
+        Ok(message) => {
+            put_taken(alloc, text, place, len, &message)?;
             Ok(false)
         }
         Err(fault) => match fault.notification() {

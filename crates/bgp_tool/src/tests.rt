@@ -144,6 +144,34 @@ fn failing_writers(rt: HostRuntime) {
     }
 }
 
+/// Passes too where any one allocation is refused: what was written is then a front of the lines, and the show can be run again.
+#[test]
+fn a_refused_growth_ends_the_show(rt: HostRuntime) {
+    for (text, lines, _) in DAEMONS {
+        let mut page = Page::new(rt.alloc());
+        let mut outcome = show(
+            rt.alloc(),
+            true,
+            &mut Drip::new(text.as_bytes(), 40),
+            &mut page,
+        );
+        if let Err(fault) = outcome {
+            // The page is the writer, and may be what was refused.
+            assert!(rt; fault == ToolFault::Memory || fault == ToolFault::Write);
+            assert!(rt; lines.as_bytes().starts_with(page.text.as_slice()));
+            page = Page::new(rt.alloc());
+            outcome = show(
+                rt.alloc(),
+                true,
+                &mut Drip::new(text.as_bytes(), 40),
+                &mut page,
+            );
+        }
+        assert!(rt; outcome.is_ok());
+        assert!(rt; page.text.as_slice() == lines.as_bytes());
+    }
+}
+
 #[test]
 fn a_block_is_written_in_one_go(rt: HostRuntime) {
     let text =
