@@ -1,5 +1,6 @@
 -- Frames, their headers and streams of them.
 pub mod Kind
+pub mod Notification
 pub mod Head
 pub mod Frame
 pub mod Takes

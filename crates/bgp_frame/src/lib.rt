@@ -15,7 +15,7 @@ pub use fault::HeadFault;
 pub use framer::Framer;
 pub use header::head;
 pub use kind::Kind;
-pub use notification::Notification;
+pub use notification::{Notification, NotificationView};
 pub use step::{Frame, Step};
 
 #[cfg(test)]

@@ -1,5 +1,7 @@
 //! What a NOTIFICATION says.
 
+ghost use Rattle.std.specs.Prelude.{◌≤◌, length};
+
 use arrayvec::ArrayVec;
 
 /// A NOTIFICATION (RFC 4271, section 4.5): an error's code and subcode, and at most 4075 octets of information.
@@ -11,7 +13,7 @@ pub struct Notification {
 }
 
 impl Notification {
-    ghost use Rattle.std.specs.Prelude.{◌≡◌, ◌≤◌, length};
+    ghost use Rattle.std.specs.Prelude.{◌≡◌};
 
     /// A notification with this information, of at most 4075 octets.
     pub fn new(code: u8, subcode: u8, info: &[u8]) -> Notification
@@ -25,5 +27,26 @@ impl Notification {
             subcode,
             info: copy,
         }
+    }
+}
+
+/// A NOTIFICATION whose information still lies in the octets that are at fault: a few words in place of 4 KB.
+#[derive(Clone, Copy, Debug)]
+pub struct NotificationView<'a> {
+    pub code: u8,
+    pub subcode: u8,
+    pub info: &'a [u8],
+    pub ghost fits: { length info.now ≤ 4075 },
+}
+
+impl NotificationView<'_> {
+    ghost use Rattle.std.specs.Prelude.{◌≡◌};
+    ghost use Rattle.bgp_frame.specs.Notification.{notification_of_view};
+
+    /// The notification, with a copy of its information.
+    pub fn own(self) -> Notification
+        ensures { result ≡ notification_of_view self.entry }
+    {
+        Notification::new(self.code, self.subcode, self.info)
     }
 }

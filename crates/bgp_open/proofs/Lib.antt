@@ -1,6 +1,5 @@
 pub mod Capabilities
 pub mod Parameters
-pub mod Walks
 pub mod Readings
 pub mod Agreements
 pub mod WrittenRows

@@ -1,6 +1,7 @@
 -- Capabilities as octets (RFC 5492, section 4): a code, the length of the value, the value.
 use Rattle.std.specs.Prelude.{◌≡◌, ℕ, ◌==◌, List, [], ◌∷◌, length, take, drop, Option, None, Some, nat_le, if◌then◌else◌}
 use Rattle.std.specs.Int.{w16, w32, from_be_bytes}
+use Rattle.bgp_numbers.specs.declared.capability.TheConstants.{MULTIPROTOCOL, FOUR_OCTET_AS}
 use Rattle.bgp_open.specs.declared.capability.Capability.{Capability}
 use Rattle.bgp_open.specs.declared.capability.Capability.TheVariants.{Multi, As4, Other}
 
@@ -17,8 +18,8 @@ as4_of _ = None
 -- what a value of this code means: codes 1 and 65 have values of four octets
 abbrev pub capability_of : ℕ → List ℕ → Option Capability
 capability_of code value =
-    if code == 1 then multi_of value else (
-    if code == 65 then as4_of value else
+    if code == MULTIPROTOCOL then multi_of value else (
+    if code == FOUR_OCTET_AS then as4_of value else
     Some (Other code value))
 
 -- b is the capability c, whole

@@ -5,6 +5,7 @@ ghost use Rattle.bgp_open.specs.Capability.{capability_of, one_capability};
 ghost use Rattle.bgp_open.specs.View.{value_of};
 
 use crate::capability::Capability;
+use bgp_numbers::capability;
 use bgp_wire::List;
 use std::alloc::{AllocError, Global};
 
@@ -37,14 +38,14 @@ fn meaning(code: u8, value: &[u8]) -> Option<View<'_>>
     ensures { option_map value_of result ≡ capability_of code value.now }
 {
     match code {
-        1 => match value {
+        capability::MULTIPROTOCOL => match value {
             [high, low, _, subsequent] => Some(View::Multi(
                 u16::from_be_bytes([*high, *low]),
                 *subsequent,
             )),
             _ => None,
         },
-        65 => match value {
+        capability::FOUR_OCTET_AS => match value {
             [a, b, c, d] => Some(View::As4(u32::from_be_bytes([*a, *b, *c, *d]))),
             _ => None,
         },

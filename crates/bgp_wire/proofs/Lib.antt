@@ -2,3 +2,4 @@ pub mod OctetLemmas
 pub mod Rows
 pub mod Pieces
 pub mod Behinds
+pub mod Walks

@@ -4,7 +4,7 @@ use Rattle.bgp_open.specs.declared.capability.Capability.{Capability}
 use Rattle.bgp_open.specs.Capability.{IsCapability, one_capability}
 use Rattle.bgp_open.specs.View.{value_of}
 use Rattle.bgp_open.proofs.Capabilities.{capability-reads}
-use Rattle.bgp_open.proofs.Walks.{shorter, same_rest, all_rest}
+use Rattle.bgp_wire.proofs.Walks.{shorter, same_rest, all_rest}
 use Rattle.bgp_open.proofs.parameter.are_capabilities.Goals as goal
 
 pub row-preserved : goal.row-preserved

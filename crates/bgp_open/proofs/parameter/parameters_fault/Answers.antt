@@ -5,7 +5,7 @@ use Rattle.bgp_open.specs.Capability.{one_capability}
 use Rattle.bgp_open.specs.Parameter.{IsParameter, one_parameter}
 use Rattle.bgp_open.specs.OpenFault.{rest_fault}
 use Rattle.bgp_open.proofs.Parameters.{parameter-reads}
-use Rattle.bgp_open.proofs.Walks.{shorter, same_rest, all_rest}
+use Rattle.bgp_wire.proofs.Walks.{shorter, same_rest, all_rest}
 use Rattle.bgp_open.proofs.parameter.parameters_fault.Goals as goal
 
 pub row-preserved : goal.row-preserved

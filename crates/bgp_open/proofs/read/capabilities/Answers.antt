@@ -4,7 +4,7 @@ use Rattle.bgp_open.specs.declared.capability.Capability.{Capability}
 use Rattle.bgp_open.specs.Capability.{one_capability}
 use Rattle.bgp_open.specs.Parameter.{IsParameter, one_parameter}
 use Rattle.bgp_open.proofs.Parameters.{parameter-reads}
-use Rattle.bgp_open.proofs.Walks.{shorter, adds, added}
+use Rattle.bgp_wire.proofs.Walks.{shorter, adds, added}
 use Rattle.bgp_open.proofs.read.capabilities.Goals as goal
 
 pub row-preserved : goal.row-preserved

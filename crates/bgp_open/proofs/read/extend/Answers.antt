@@ -3,7 +3,7 @@ use Rattle.bgp_open.specs.declared.capability.Capability.{Capability}
 use Rattle.bgp_open.specs.Capability.{IsCapability, one_capability}
 use Rattle.bgp_open.specs.View.{value_of}
 use Rattle.bgp_open.proofs.Capabilities.{capability-reads}
-use Rattle.bgp_open.proofs.Walks.{shorter, pushes, has_all}
+use Rattle.bgp_wire.proofs.Walks.{shorter, pushes, has_all}
 use Rattle.bgp_open.proofs.read.extend.Goals as goal
 
 pub row-preserved : goal.row-preserved

@@ -1,0 +1,7 @@
+//! Codes of capabilities (RFC 5492, section 4).
+
+/// Multiprotocol extensions: an address family (RFC 4760, section 8).
+pub const MULTIPROTOCOL: u8 = 1;
+
+/// AS numbers of four octets (RFC 6793, section 3).
+pub const FOUR_OCTET_AS: u8 = 65;

@@ -1,0 +1,54 @@
+use super::*;
+use std::test::*;
+
+// The values are those of the registries, written down again.
+#[test]
+fn numbers_are_those_of_the_registries(rt: HostRuntime) {
+    assert_eq!(rt; AS_TRANS, 23456);
+    assert_eq!(rt; [afi::IPV4, afi::IPV6], [1, 2]);
+    assert_eq!(rt; safi::UNICAST, 1);
+    assert_eq!(rt; parameter::CAPABILITIES, 2);
+    assert_eq!(rt;
+        [capability::MULTIPROTOCOL, capability::FOUR_OCTET_AS],
+        [1, 65]
+    );
+    assert_eq!(rt;
+        [
+            segment::SET,
+            segment::SEQUENCE,
+            segment::CONFED_SEQUENCE,
+            segment::CONFED_SET
+        ],
+        [1, 2, 3, 4]
+    );
+    assert_eq!(rt;
+        [
+            attribute::ORIGIN,
+            attribute::AS_PATH,
+            attribute::NEXT_HOP,
+            attribute::MULTI_EXIT_DISC
+        ],
+        [1, 2, 3, 4]
+    );
+    assert_eq!(rt;
+        [
+            attribute::LOCAL_PREF,
+            attribute::ATOMIC_AGGREGATE,
+            attribute::AGGREGATOR,
+            attribute::COMMUNITIES
+        ],
+        [5, 6, 7, 8]
+    );
+    assert_eq!(rt;
+        [attribute::MP_REACH_NLRI, attribute::MP_UNREACH_NLRI],
+        [14, 15]
+    );
+    assert_eq!(rt;
+        [
+            attribute::AS4_PATH,
+            attribute::AS4_AGGREGATOR,
+            attribute::LARGE_COMMUNITY
+        ],
+        [17, 18, 32]
+    );
+}
