@@ -25,3 +25,9 @@ impl TryCopy for u32 {
         Ok(*self)
     }
 }
+
+impl<const N: usize> TryCopy for [u32; N] {
+    fn try_copy(&self, _alloc: Global) -> Result<[u32; N], AllocError> {
+        Ok(*self)
+    }
+}

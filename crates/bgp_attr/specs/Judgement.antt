@@ -1,0 +1,168 @@
+-- The judgement of one attribute, the first of its type in a message (RFC 4271, section 6.3; RFC 7606, sections 3 to 7; RFC 7607).
+-- A row for each type: its tests in their order. The first that applies decides; where none does, the attribute is kept.
+use Rattle.std.specs.Prelude.{ℕ, ◌+◌, ◌%◌, Bool, not, ◌||◌, ◌==◌, nat_lt, List, [], ◌∷◌, length, take, slice_index, Option, None, Some, option_map, if◌then◌else◌}
+use Rattle.bgp_numbers.specs.declared.attribute.TheConstants.{ORIGIN, AS_PATH, NEXT_HOP, MULTI_EXIT_DISC, LOCAL_PREF, ATOMIC_AGGREGATE, AGGREGATOR, COMMUNITIES, MP_REACH_NLRI, MP_UNREACH_NLRI, AS4_PATH, AS4_AGGREGATOR, LARGE_COMMUNITY}
+use Rattle.bgp_numbers.specs.declared.error.TheConstants.{OPTIONAL_ATTRIBUTE, UNRECOGNIZED_WELL_KNOWN}
+use Rattle.bgp_open.specs.declared.context.Context.{Context}
+use Rattle.bgp_prefix.specs.Run.{run_of}
+use Rattle.bgp_attr.specs.declared.class.Class.{Class}
+use Rattle.bgp_attr.specs.declared.class.Class.TheVariants.{WellKnown, OptionalNonTransitive, OptionalTransitive}
+use Rattle.bgp_attr.specs.declared.attr.Attr.{Attr}
+use Rattle.bgp_attr.specs.declared.judged.Judged.{Judged}
+use Rattle.bgp_attr.specs.declared.judged.Judged.TheVariants as judged
+use Rattle.bgp_attr.specs.declared.path_form.PathForm.{PathForm}
+use Rattle.bgp_attr.specs.declared.why.Why.TheVariants as why
+use Rattle.bgp_attr.specs.Flags.{has_class, is_optional}
+use Rattle.bgp_attr.specs.Tlv.{TlvValue}
+use Rattle.bgp_attr.specs.Numbers.{number_width, number_in}
+use Rattle.bgp_attr.specs.Path.{path_of, path_fault, path_has_zero}
+use Rattle.bgp_attr.specs.Mp.{family_of, is_in_use, address_width, is_next_hop_length, next_hop_length, reached_of, withdrawn_of}
+use Rattle.bgp_attr.specs.Refusal.{Refusal, Discard, Withdraw, Reset, when, first_refusal, reset_with}
+use Rattle.bgp_attr.specs.Value.{as_path_form, as4_path_form, aggregator_of, value_of}
+
+-- ---- words of the table
+
+-- the Optional or the Transitive bit isn't that of the type
+abbrev pub has_other_flags : Class → TlvValue → Bool
+has_other_flags class t = not (has_class class t.flags)
+
+abbrev pub is_not_long : ℕ → TlvValue → Bool
+is_not_long n t = not (length t.value == n)
+
+abbrev pub is_shorter : ℕ → TlvValue → Bool
+is_shorter n t = nat_lt (length t.value) n
+
+-- no value at all, or not so many octets each
+abbrev pub is_no_row : ℕ → TlvValue → Bool
+is_no_row n t = (length t.value == 0) || not (length t.value % n == 0)
+
+-- the octets aren't prefixes alone: one is too long, or goes past the end
+abbrev pub has_bad_prefix : ℕ → List ℕ → Bool
+has_bad_prefix width b = not (length (run_of width b).1 == 0)
+
+abbrev pub is_as_zero : Bool → TlvValue → Bool
+is_as_zero wide t = number_in wide (take (number_width wide) t.value) == 0
+
+-- nothing is left of a path whose segments of confederations are dropped
+abbrev pub is_emptied : TlvValue → Bool
+is_emptied t = length (path_of as4_path_form t.value).segments == 0
+
+-- ---- the table
+
+abbrev pub origin_tests : TlvValue → List (Option Refusal)
+origin_tests t =
+    when (has_other_flags WellKnown t) (Withdraw why.Flags) ∷
+    when (is_not_long 1 t) (Withdraw why.Length) ∷
+    when (nat_lt 2 (slice_index t.value 0)) (Withdraw why.Value) ∷ []
+
+abbrev pub as_path_tests : Context → TlvValue → List (Option Refusal)
+as_path_tests ctx t =
+    when (has_other_flags WellKnown t) (Withdraw why.Flags) ∷
+    option_map (λ fault. Withdraw fault) (path_fault (as_path_form ctx) t.value) ∷
+    when (path_has_zero (as_path_form ctx) t.value) (Withdraw why.AsZero) ∷ []
+
+abbrev pub next_hop_tests : Bool → TlvValue → List (Option Refusal)
+next_hop_tests has_nlri t =
+    when (not has_nlri) (Discard why.Unneeded) ∷
+    when (has_other_flags WellKnown t) (Withdraw why.Flags) ∷
+    when (is_not_long 4 t) (Withdraw why.Length) ∷ []
+
+abbrev pub med_tests : TlvValue → List (Option Refusal)
+med_tests t =
+    when (has_other_flags OptionalNonTransitive t) (Withdraw why.Flags) ∷
+    when (is_not_long 4 t) (Withdraw why.Length) ∷ []
+
+abbrev pub local_pref_tests : Context → TlvValue → List (Option Refusal)
+local_pref_tests ctx t =
+    when (not ctx.internal) (Discard why.External) ∷
+    when (has_other_flags WellKnown t) (Withdraw why.Flags) ∷
+    when (is_not_long 4 t) (Withdraw why.Length) ∷ []
+
+abbrev pub atomic_tests : TlvValue → List (Option Refusal)
+atomic_tests t =
+    when (has_other_flags WellKnown t) (Withdraw why.Flags) ∷
+    when (is_not_long 0 t) (Discard why.Length) ∷ []
+
+abbrev pub aggregator_tests : Bool → TlvValue → List (Option Refusal)
+aggregator_tests wide t =
+    when (has_other_flags OptionalTransitive t) (Withdraw why.Flags) ∷
+    when (is_not_long (number_width wide + 4) t) (Discard why.Length) ∷
+    when (is_as_zero wide t) (Discard why.AsZero) ∷ []
+
+abbrev pub communities_tests : TlvValue → List (Option Refusal)
+communities_tests t =
+    when (has_other_flags OptionalTransitive t) (Withdraw why.Flags) ∷
+    when (is_no_row 4 t) (Withdraw why.Length) ∷ []
+
+abbrev pub mp_reach_tests : Context → TlvValue → List (Option Refusal)
+mp_reach_tests ctx t =
+    when (has_other_flags OptionalNonTransitive t) (reset_with OPTIONAL_ATTRIBUTE t) ∷
+    when (is_shorter 5 t) (reset_with OPTIONAL_ATTRIBUTE t) ∷
+    when (not (is_in_use ctx (family_of t.value))) (Discard why.Family) ∷
+    when (not (is_next_hop_length (family_of t.value) (next_hop_length t.value))) (reset_with OPTIONAL_ATTRIBUTE t) ∷
+    when (is_shorter (5 + next_hop_length t.value) t) (reset_with OPTIONAL_ATTRIBUTE t) ∷
+    when (has_bad_prefix (address_width (family_of t.value)) (reached_of t.value)) (reset_with OPTIONAL_ATTRIBUTE t) ∷ []
+
+abbrev pub mp_unreach_tests : Context → TlvValue → List (Option Refusal)
+mp_unreach_tests ctx t =
+    when (has_other_flags OptionalNonTransitive t) (reset_with OPTIONAL_ATTRIBUTE t) ∷
+    when (is_shorter 3 t) (reset_with OPTIONAL_ATTRIBUTE t) ∷
+    when (not (is_in_use ctx (family_of t.value))) (Discard why.Family) ∷
+    when (has_bad_prefix (address_width (family_of t.value)) (withdrawn_of t.value)) (reset_with OPTIONAL_ATTRIBUTE t) ∷ []
+
+abbrev pub as4_path_tests : Context → TlvValue → List (Option Refusal)
+as4_path_tests ctx t =
+    when ctx.as4 (Discard why.FourOctet) ∷
+    when (has_other_flags OptionalTransitive t) (Withdraw why.Flags) ∷
+    when (not (length t.value % 2 == 0) || is_shorter 6 t) (Discard why.Length) ∷
+    option_map (λ fault. Discard fault) (path_fault as4_path_form t.value) ∷
+    when (path_has_zero as4_path_form t.value) (Discard why.AsZero) ∷
+    when (is_emptied t) (Discard why.Emptied) ∷ []
+
+abbrev pub as4_aggregator_tests : Context → TlvValue → List (Option Refusal)
+as4_aggregator_tests ctx t =
+    when ctx.as4 (Discard why.FourOctet) ∷
+    aggregator_tests Bool.true t
+
+abbrev pub large_tests : TlvValue → List (Option Refusal)
+large_tests t =
+    when (has_other_flags OptionalTransitive t) (Withdraw why.Flags) ∷
+    when (is_no_row 12 t) (Withdraw why.Length) ∷ []
+
+-- a type that isn't recognised: each speaker ought to know it where it isn't optional
+abbrev pub other_tests : TlvValue → List (Option Refusal)
+other_tests t =
+    when (not (is_optional t.flags)) (reset_with UNRECOGNIZED_WELL_KNOWN t) ∷ []
+
+-- the row of a type; has_nlri says that the NLRI field of the message isn't empty
+unfoldable pub tests_of : Context → Bool → TlvValue → List (Option Refusal)
+tests_of ctx has_nlri t =
+    if t.kind == ORIGIN then origin_tests t else (
+    if t.kind == AS_PATH then as_path_tests ctx t else (
+    if t.kind == NEXT_HOP then next_hop_tests has_nlri t else (
+    if t.kind == MULTI_EXIT_DISC then med_tests t else (
+    if t.kind == LOCAL_PREF then local_pref_tests ctx t else (
+    if t.kind == ATOMIC_AGGREGATE then atomic_tests t else (
+    if t.kind == AGGREGATOR then aggregator_tests ctx.as4 t else (
+    if t.kind == COMMUNITIES then communities_tests t else (
+    if t.kind == MP_REACH_NLRI then mp_reach_tests ctx t else (
+    if t.kind == MP_UNREACH_NLRI then mp_unreach_tests ctx t else (
+    if t.kind == AS4_PATH then as4_path_tests ctx t else (
+    if t.kind == AS4_AGGREGATOR then as4_aggregator_tests ctx t else (
+    if t.kind == LARGE_COMMUNITY then large_tests t else
+    other_tests t))))))))))))
+
+-- ---- the answer
+
+abbrev pub unless_refused : Option Refusal → Attr → Judged
+unless_refused None a = judged.Keep a
+unless_refused (Some (Discard w)) a = judged.Discard w
+unless_refused (Some (Withdraw w)) a = judged.Withdraw w
+unless_refused (Some (Reset notification)) a = judged.Reset notification
+
+-- the answer of the first test that applies, else the value is kept
+abbrev pub decided : List (Option Refusal) → Attr → Judged
+decided tests a = unless_refused (first_refusal tests) a
+
+abbrev pub judgement : Context → Bool → TlvValue → Judged
+judgement ctx has_nlri t = decided (tests_of ctx has_nlri t) (value_of ctx t)

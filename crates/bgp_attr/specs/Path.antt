@@ -1,0 +1,80 @@
+-- AS paths (RFC 4271, section 4.3; RFC 6793, section 3). A segment is a type, a count, and as many AS numbers, one at least.
+use Rattle.std.specs.Prelude.{◌≡◌, ◌<◌, ℕ, Bool, not, ◌&&◌, ◌||◌, ◌==◌, List, [], ◌∷◌, ◌++◌, length, map, Option, None, Some, if◌then◌else◌}
+use Rattle.std.specs.List.{flat_map, list_any}
+use Rattle.bgp_numbers.specs.declared.segment.TheConstants.{SET, SEQUENCE, CONFED_SEQUENCE, CONFED_SET}
+use Rattle.bgp_prefix.specs.declared.as_number.AsNumber.{AsNumber}
+use Rattle.bgp_wire.specs.Reader.{pieces}
+use Rattle.bgp_wire.specs.Behind.{BehindCount, behind_count}
+use Rattle.bgp_attr.specs.declared.path.SegKind.{SegKind}
+use Rattle.bgp_attr.specs.declared.path.SegKind.TheVariants.{Set, Seq}
+use Rattle.bgp_attr.specs.declared.path.Segment.{Segment}
+use Rattle.bgp_attr.specs.declared.path.AsPath.{AsPath}
+use Rattle.bgp_attr.specs.declared.path_form.PathForm.{PathForm}
+use Rattle.bgp_attr.specs.declared.why.Why.{Why}
+use Rattle.bgp_attr.specs.declared.why.Why.TheVariants as why
+use Rattle.bgp_attr.specs.Numbers.{IsNumber, one_number, row_octets}
+
+-- a segment before it is known whether it is kept: the octet of its type, and its numbers
+pub record WireSegment : Type 0 where
+  pub code : ℕ
+  pub numbers : List ℕ
+
+-- which types of segment are read: those of confederations in an AS4_PATH alone
+abbrev pub is_known : PathForm → ℕ → Bool
+is_known form code = (code == SET) || ((code == SEQUENCE) || (form.confederations && ((code == CONFED_SEQUENCE) || (code == CONFED_SET))))
+
+-- b is the segment, whole
+pub record IsSegment (form : PathForm) (s : WireSegment) (b : List ℕ) : Type 0 where
+  pub behind : List ℕ
+  pub octets : b ≡ s.code ∷ behind
+  pub known : is_known form s.code ≡ Bool.true
+  pub some : 0 < length s.numbers
+  pub counted : BehindCount (IsNumber form.wide) s.numbers behind
+
+abbrev pub segment_of : ℕ → Option (List ℕ × List ℕ) → Option (WireSegment × List ℕ)
+segment_of code None = None
+segment_of code (Some ([], rest)) = None
+segment_of code (Some (n ∷ numbers, rest)) = Some (record { code = code; numbers = n ∷ numbers }, rest)
+
+-- the segment at the front of octets, and what follows it
+unfoldable pub one_segment : PathForm → List ℕ → Option (WireSegment × List ℕ)
+one_segment form [] = None
+one_segment form (code ∷ b) = if is_known form code then segment_of code (behind_count (one_number form.wide) b) else None
+
+-- the segments that octets begin with, and the rest, which begins with none
+abbrev pub segments_of : PathForm → List ℕ → List WireSegment × List ℕ
+segments_of form b = pieces (one_segment form) b
+
+abbrev pub as_number : ℕ → AsNumber
+as_number n = record { 0 = n }
+
+-- what is kept of a segment: those of confederations are dropped
+abbrev pub kept_segment : WireSegment → List Segment
+kept_segment s =
+    if s.code == SET then record { kind = Set; numbers = map as_number s.numbers } ∷ [] else (
+    if s.code == SEQUENCE then record { kind = Seq; numbers = map as_number s.numbers } ∷ [] else
+    [])
+
+-- the path that octets hold
+abbrev pub path_of : PathForm → List ℕ → AsPath
+path_of form b = record { segments = flat_map kept_segment (segments_of form b).0 }
+
+-- why no segment stands at the front of what is left, where something is
+abbrev pub segment_fault : PathForm → List ℕ → Option Why
+segment_fault form [] = None
+segment_fault form (code ∷ []) = Some why.SegmentEnd
+segment_fault form (code ∷ count ∷ b) =
+    if not (is_known form code) then Some why.SegmentType else (
+    if count == 0 then Some why.SegmentCount else
+    Some why.SegmentEnd)
+
+-- the first fault of a path
+abbrev pub path_fault : PathForm → List ℕ → Option Why
+path_fault form b = segment_fault form (segments_of form b).1
+
+-- an AS number 0 stands in a segment, also in one that is dropped (RFC 7607, section 2)
+abbrev pub has_zero : WireSegment → Bool
+has_zero s = list_any (λ n. n == 0) s.numbers
+
+abbrev pub path_has_zero : PathForm → List ℕ → Bool
+path_has_zero form b = list_any has_zero (segments_of form b).0

@@ -1,0 +1,74 @@
+-- An attribute as it lies in octets (RFC 4271, section 4.3): flags, type, length, value. The length has two octets where the
+-- Extended Length bit is set, else one.
+use Rattle.std.specs.Prelude.{◌≡◌, ℕ, ◌+◌, List, [], ◌∷◌, ◌++◌, length, take, drop, Option, None, Some, nat_le, if◌then◌else◌}
+use Rattle.std.specs.Int.{w16, to_be_bytes, from_be_bytes}
+use Rattle.bgp_wire.specs.Reader.{pieces}
+use Rattle.bgp_attr.specs.Flags.{is_extended}
+
+-- an attribute before it is judged: its flags, its type, all its octets, and those of its value
+pub record TlvValue : Type 0 where
+  pub flags : ℕ
+  pub kind : ℕ
+  pub whole : List ℕ
+  pub value : List ℕ
+
+-- how many octets the length has
+abbrev pub length_width : ℕ → ℕ
+length_width flags = if is_extended flags then 2 else 1
+
+-- what the octets of a length say
+abbrev pub number_of_length : List ℕ → ℕ
+number_of_length (n ∷ []) = n
+number_of_length b = from_be_bytes w16 b
+
+-- b is the attribute, whole
+pub record IsTlv (t : TlvValue) (b : List ℕ) : Type 0 where
+  pub size : List ℕ
+  pub octets : b ≡ t.flags ∷ t.kind ∷ (size ++ t.value)
+  pub wide : length size ≡ length_width t.flags
+  pub counted : length t.value ≡ number_of_length size
+  pub whole : t.whole ≡ b
+
+-- the length that is written: the octets that the flags ask for
+abbrev pub length_octets : ℕ → ℕ → List ℕ
+length_octets flags n = if is_extended flags then to_be_bytes w16 n else n ∷ []
+
+-- the octets of an attribute with these flags, of this type and value
+abbrev pub tlv_octets : ℕ → ℕ → List ℕ → List ℕ
+tlv_octets flags kind value = flags ∷ kind ∷ (length_octets flags (length value) ++ value)
+
+-- the attribute whose value is the first n octets of b, where b has as many
+abbrev pub with_value : ℕ → ℕ → List ℕ → ℕ → List ℕ → Option (TlvValue × List ℕ)
+with_value flags kind size n b =
+    if nat_le n (length b)
+    then Some (record { flags = flags; kind = kind; whole = flags ∷ kind ∷ (size ++ take n b); value = take n b }, drop n b)
+    else None
+
+abbrev pub behind_one_octet : ℕ → ℕ → List ℕ → Option (TlvValue × List ℕ)
+behind_one_octet flags kind [] = None
+behind_one_octet flags kind (n ∷ b) = with_value flags kind (n ∷ []) n b
+
+abbrev pub behind_two_octets : ℕ → ℕ → List ℕ → Option (TlvValue × List ℕ)
+behind_two_octets flags kind [] = None
+behind_two_octets flags kind (high ∷ []) = None
+behind_two_octets flags kind (high ∷ low ∷ b) = with_value flags kind (high ∷ low ∷ []) (from_be_bytes w16 (high ∷ low ∷ [])) b
+
+-- the attribute at the front of octets, and what follows it
+unfoldable pub one_tlv : List ℕ → Option (TlvValue × List ℕ)
+one_tlv [] = None
+one_tlv (flags ∷ []) = None
+one_tlv (flags ∷ kind ∷ b) = if is_extended flags then behind_two_octets flags kind b else behind_one_octet flags kind b
+
+-- the attributes that octets begin with, and the rest, which begins with none
+abbrev pub tlvs_of : List ℕ → List TlvValue × List ℕ
+tlvs_of b = pieces one_tlv b
+
+-- an attribute and the place of its flags
+pub record PlacedTlv : Type 0 where
+  pub at : ℕ
+  pub tlv : TlvValue
+
+-- attributes one behind the other, the first one at this place
+abbrev pub placed_from : ℕ → List TlvValue → List PlacedTlv
+placed_from at [] = []
+placed_from at (t ∷ ts) = record { at = at; tlv = t } ∷ placed_from (at + length t.whole) ts

@@ -1,0 +1,268 @@
+-- The one written form of an attribute: the shortest length, and 0 for all that is ignored. And what isn't written.
+use Rattle.std.specs.Prelude.{◌≡◌, ◌<◌, ◌^◌, ℕ, Bool, true, false, not, ◌&&◌, ◌||◌, ◌==◌, nat_lt, List, [], ◌∷◌, ◌++◌, length, map, Option, None, Some, is_none, if◌then◌else◌}
+use Rattle.std.specs.List.{flat_map, list_any, AllByRecursion}
+use Rattle.std.specs.Int.{w16, w32, to_be_bytes}
+use Rattle.bgp_numbers.specs.declared.afi.TheConstants.{IPV4, IPV6}
+use Rattle.bgp_numbers.specs.declared.safi.TheConstants.{UNICAST}
+use Rattle.bgp_numbers.specs.declared.segment.TheConstants.{SET, SEQUENCE}
+use Rattle.bgp_numbers.specs.declared.attribute.TheConstants.{ORIGIN, AS_PATH, NEXT_HOP, MULTI_EXIT_DISC, LOCAL_PREF, ATOMIC_AGGREGATE, AGGREGATOR, COMMUNITIES, MP_REACH_NLRI, MP_UNREACH_NLRI, AS4_PATH, AS4_AGGREGATOR, LARGE_COMMUNITY}
+use Rattle.bgp_open.specs.declared.context.Context.{Context}
+use Rattle.bgp_prefix.specs.declared.as_number.AsNumber.{AsNumber}
+use Rattle.bgp_prefix.specs.Prefix.{PrefixValue, IsValid, spelling_of}
+use Rattle.bgp_wire.specs.Octets.{AreOctets}
+use Rattle.bgp_attr.specs.declared.aggregator.Aggregator.{Aggregator}
+use Rattle.bgp_attr.specs.declared.attr.Attr.{Attr}
+use Rattle.bgp_attr.specs.declared.attr.Attr.TheVariants as attr
+use Rattle.bgp_attr.specs.declared.class.Class.{Class}
+use Rattle.bgp_attr.specs.declared.class.Class.TheVariants.{WellKnown, OptionalNonTransitive, OptionalTransitive}
+use Rattle.bgp_attr.specs.declared.mp.MpReach.{MpReach}
+use Rattle.bgp_attr.specs.declared.mp.MpReach.TheVariants as reach
+use Rattle.bgp_attr.specs.declared.mp.MpUnreach.{MpUnreach}
+use Rattle.bgp_attr.specs.declared.mp.MpUnreach.TheVariants as unreach
+use Rattle.bgp_attr.specs.declared.path.SegKind.{SegKind}
+use Rattle.bgp_attr.specs.declared.path.SegKind.TheVariants.{Set, Seq}
+use Rattle.bgp_attr.specs.declared.path.Segment.{Segment}
+use Rattle.bgp_attr.specs.declared.path.AsPath.{AsPath}
+use Rattle.bgp_attr.specs.declared.unwritable.Unwritable.{Unwritable}
+use Rattle.bgp_attr.specs.declared.unwritable.Unwritable.TheVariants.{AsWidth, As4, Empty, Recognised, AsZero, Twice, TooLong}
+use Rattle.bgp_attr.specs.Flags.{flags_octet}
+use Rattle.bgp_attr.specs.Tlv.{TlvValue, tlv_octets}
+use Rattle.bgp_attr.specs.Numbers.{number_octets, row_octets, triple_octets, same_triple}
+use Rattle.bgp_attr.specs.Path.{as_number}
+use Rattle.bgp_attr.specs.Spelling.{is_recognised, origin_code, link_octets}
+
+-- ---- the octets of values
+
+abbrev pub number_of : AsNumber → ℕ
+number_of n = n.0
+
+abbrev pub segment_code : SegKind → ℕ
+segment_code Set = SET
+segment_code Seq = SEQUENCE
+
+abbrev pub segment_octets : Bool → Segment → List ℕ
+segment_octets wide s = segment_code s.kind ∷ length s.numbers ∷ row_octets wide (map number_of s.numbers)
+
+abbrev pub path_octets : Bool → AsPath → List ℕ
+path_octets wide p = flat_map (segment_octets wide) p.segments
+
+abbrev pub aggregator_octets : Bool → Aggregator → List ℕ
+aggregator_octets wide a = number_octets wide (a.asn).0 ++ a.addr
+
+abbrev pub run_octets : List PrefixValue → List ℕ
+run_octets routes = flat_map spelling_of routes
+
+abbrev pub reach_row : ℕ → List ℕ → List PrefixValue → List ℕ
+reach_row afi hop routes = to_be_bytes w16 afi ++ (UNICAST ∷ length hop ∷ (hop ++ (0 ∷ run_octets routes)))
+
+abbrev pub reach_octets : MpReach → List ℕ
+reach_octets (reach.Ip4 hop routes) = reach_row IPV4 hop routes
+reach_octets (reach.Ip6 hop link routes) = reach_row IPV6 (hop ++ link_octets link) routes
+
+abbrev pub unreach_row : ℕ → List PrefixValue → List ℕ
+unreach_row afi routes = to_be_bytes w16 afi ++ (UNICAST ∷ run_octets routes)
+
+abbrev pub unreach_octets : MpUnreach → List ℕ
+unreach_octets (unreach.Ip4 routes) = unreach_row IPV4 routes
+unreach_octets (unreach.Ip6 routes) = unreach_row IPV6 routes
+
+abbrev pub value_octets : Context → Attr → List ℕ
+value_octets ctx (attr.Origin o) = origin_code o ∷ []
+value_octets ctx (attr.AsPath p) = path_octets ctx.as4 p
+value_octets ctx (attr.NextHop addr) = addr
+value_octets ctx (attr.Med n) = to_be_bytes w32 n
+value_octets ctx (attr.LocalPref n) = to_be_bytes w32 n
+value_octets ctx attr.Atomic = []
+value_octets ctx (attr.Aggregator a) = aggregator_octets ctx.as4 a
+value_octets ctx (attr.Communities c) = row_octets true c.values
+value_octets ctx (attr.MpReach r) = reach_octets r
+value_octets ctx (attr.MpUnreach r) = unreach_octets r
+value_octets ctx (attr.As4Path p) = path_octets true p.path
+value_octets ctx (attr.As4Aggregator a) = aggregator_octets true a
+value_octets ctx (attr.Large l) = flat_map triple_octets l.values
+value_octets ctx (attr.Opaque o) = o.value
+
+-- ---- type and flags
+
+abbrev pub type_of : Attr → ℕ
+type_of (attr.Origin o) = ORIGIN
+type_of (attr.AsPath p) = AS_PATH
+type_of (attr.NextHop addr) = NEXT_HOP
+type_of (attr.Med n) = MULTI_EXIT_DISC
+type_of (attr.LocalPref n) = LOCAL_PREF
+type_of attr.Atomic = ATOMIC_AGGREGATE
+type_of (attr.Aggregator a) = AGGREGATOR
+type_of (attr.Communities c) = COMMUNITIES
+type_of (attr.MpReach r) = MP_REACH_NLRI
+type_of (attr.MpUnreach r) = MP_UNREACH_NLRI
+type_of (attr.As4Path p) = AS4_PATH
+type_of (attr.As4Aggregator a) = AS4_AGGREGATOR
+type_of (attr.Large l) = LARGE_COMMUNITY
+type_of (attr.Opaque o) = o.kind
+
+abbrev pub class_of : Attr → Class
+class_of (attr.Origin o) = WellKnown
+class_of (attr.AsPath p) = WellKnown
+class_of (attr.NextHop addr) = WellKnown
+class_of (attr.Med n) = OptionalNonTransitive
+class_of (attr.LocalPref n) = WellKnown
+class_of attr.Atomic = WellKnown
+class_of (attr.Aggregator a) = OptionalTransitive
+class_of (attr.Communities c) = OptionalTransitive
+class_of (attr.MpReach r) = OptionalNonTransitive
+class_of (attr.MpUnreach r) = OptionalNonTransitive
+class_of (attr.As4Path p) = OptionalTransitive
+class_of (attr.As4Aggregator a) = OptionalTransitive
+class_of (attr.Large l) = OptionalTransitive
+class_of (attr.Opaque o) = if o.transitive then OptionalTransitive else OptionalNonTransitive
+
+-- the Partial bit: 0 where the type has none that means something
+abbrev pub partial_of : Attr → Bool
+partial_of (attr.Aggregator a) = a.partial
+partial_of (attr.Communities c) = c.partial
+partial_of (attr.As4Path p) = p.partial
+partial_of (attr.As4Aggregator a) = a.partial
+partial_of (attr.Large l) = l.partial
+partial_of (attr.Opaque o) = o.partial
+partial_of _ = false
+
+-- the second octet of the length stands exactly where the value has more than 255 octets
+abbrev pub made : Class → Bool → ℕ → List ℕ → TlvValue
+made class partial kind value = record {
+  flags = flags_octet class partial (nat_lt 255 (length value));
+  kind = kind;
+  whole = tlv_octets (flags_octet class partial (nat_lt 255 (length value))) kind value;
+  value = value;
+}
+
+-- the attribute as it is written
+abbrev pub written_tlv : Context → Attr → TlvValue
+written_tlv ctx a = made (class_of a) (partial_of a) (type_of a) (value_octets ctx a)
+
+abbrev pub canonical : Context → Attr → List ℕ
+canonical ctx a = (written_tlv ctx a).whole
+
+-- ---- what isn't written
+
+-- a test on each number of a path
+abbrev pub any_number : (ℕ → Bool) → AsPath → Bool
+any_number test p = list_any (λ s. list_any (λ n. test n.0) s.numbers) p.segments
+
+abbrev pub is_above_two_octets : ℕ → Bool
+is_above_two_octets n = nat_lt 65535 n
+
+abbrev pub is_zero : ℕ → Bool
+is_zero n = n == 0
+
+-- an AS number that two octets can't hold, where it has two
+abbrev pub is_too_wide : Context → Attr → Bool
+is_too_wide ctx (attr.AsPath p) = not ctx.as4 && any_number is_above_two_octets p
+is_too_wide ctx (attr.Aggregator a) = not ctx.as4 && is_above_two_octets (a.asn).0
+is_too_wide ctx _ = false
+
+abbrev pub is_as4 : Attr → Bool
+is_as4 (attr.As4Path p) = true
+is_as4 (attr.As4Aggregator a) = true
+is_as4 _ = false
+
+-- a segment that its count can't be
+abbrev pub is_bad_segment : Segment → Bool
+is_bad_segment s = (length s.numbers == 0) || nat_lt 255 (length s.numbers)
+
+abbrev pub is_empty : Attr → Bool
+is_empty (attr.AsPath p) = list_any is_bad_segment p.segments
+is_empty (attr.As4Path p) = (length p.path.segments == 0) || list_any is_bad_segment p.path.segments
+is_empty (attr.Communities c) = length c.values == 0
+is_empty (attr.Large l) = length l.values == 0
+is_empty _ = false
+
+abbrev pub is_misnamed : Attr → Bool
+is_misnamed (attr.Opaque o) = is_recognised o.kind
+is_misnamed _ = false
+
+abbrev pub has_as_zero : Attr → Bool
+has_as_zero (attr.AsPath p) = any_number is_zero p
+has_as_zero (attr.As4Path p) = any_number is_zero p.path
+has_as_zero (attr.Aggregator a) = is_zero (a.asn).0
+has_as_zero (attr.As4Aggregator a) = is_zero (a.asn).0
+has_as_zero _ = false
+
+-- one of the triples stands among those behind it too
+abbrev pub repeats : List (List ℕ) → Bool
+repeats [] = false
+repeats (x ∷ xs) = list_any (same_triple x) xs || repeats xs
+
+abbrev pub stands_twice : Attr → Bool
+stands_twice (attr.Large l) = repeats l.values
+stands_twice _ = false
+
+abbrev pub is_too_long : Context → Attr → Bool
+is_too_long ctx a = nat_lt 65535 (length (value_octets ctx a))
+
+abbrev pub why_unless : Bool → Unwritable → Option Unwritable → Option Unwritable
+why_unless applies why later = if applies then Some why else later
+
+-- the first reason why the attribute isn't written in a context
+abbrev pub unwritable : Context → Attr → Option Unwritable
+unwritable ctx a =
+    why_unless (is_too_wide ctx a) AsWidth (
+    why_unless (ctx.as4 && is_as4 a) As4 (
+    why_unless (is_empty a) Empty (
+    why_unless (is_misnamed a) Recognised (
+    why_unless (has_as_zero a) AsZero (
+    why_unless (stands_twice a) Twice (
+    why_unless (is_too_long ctx a) TooLong
+    None))))))
+
+abbrev pub is_writable : Context → Attr → Bool
+is_writable ctx a = is_none (unwritable ctx a)
+
+-- ---- where an attribute belongs, apart from how it is written
+
+-- What a message is for: NEXT_HOP serves its NLRI, LOCAL_PREF stays inside one system, routes are of a family in use. Each other
+-- attribute can stand in every message.
+abbrev pub Belongs : Context → Bool → Attr → Type 0
+Belongs ctx has_nlri (attr.NextHop addr) = has_nlri ≡ true
+Belongs ctx has_nlri (attr.LocalPref n) = ctx.internal ≡ true
+Belongs ctx has_nlri (attr.MpReach (reach.Ip4 hop routes)) = ctx.ip4 ≡ true
+Belongs ctx has_nlri (attr.MpReach (reach.Ip6 hop link routes)) = ctx.ip6 ≡ true
+Belongs ctx has_nlri (attr.MpUnreach (unreach.Ip4 routes)) = ctx.ip4 ≡ true
+Belongs ctx has_nlri (attr.MpUnreach (unreach.Ip6 routes)) = ctx.ip6 ≡ true
+Belongs ctx has_nlri _ = Unit {0}
+
+-- each number is within its field, and each address has its octets, as in each value of the program
+abbrev pub IsFourOctets : ℕ → Type 0
+IsFourOctets n = n < 2 ^ 32
+
+abbrev pub HasPathRanges : AsPath → Type 0
+HasPathRanges p = AllByRecursion (λ s. AllByRecursion (λ n. IsFourOctets n.0) s.numbers) p.segments
+
+pub record IsAddress (width : ℕ) (addr : List ℕ) : Type 0 where
+  pub wide : length addr ≡ width
+  pub octets : AreOctets addr
+
+pub record IsThreeNumbers (triple : List ℕ) : Type 0 where
+  pub three : length triple ≡ 3
+  pub small : AllByRecursion IsFourOctets triple
+
+abbrev pub HasLinkRange : Option (List ℕ) → Type 0
+HasLinkRange None = Unit {0}
+HasLinkRange (Some addr) = IsAddress 16 addr
+
+abbrev pub HasRanges : Attr → Type 0
+HasRanges (attr.Origin o) = Unit {0}
+HasRanges (attr.AsPath p) = HasPathRanges p
+HasRanges (attr.NextHop addr) = IsAddress 4 addr
+HasRanges (attr.Med n) = IsFourOctets n
+HasRanges (attr.LocalPref n) = IsFourOctets n
+HasRanges attr.Atomic = Unit {0}
+HasRanges (attr.Aggregator a) = IsFourOctets (a.asn).0 × IsAddress 4 a.addr
+HasRanges (attr.Communities c) = AllByRecursion IsFourOctets c.values
+HasRanges (attr.MpReach (reach.Ip4 hop routes)) = IsAddress 4 hop × AllByRecursion (IsValid 4) routes
+HasRanges (attr.MpReach (reach.Ip6 hop link routes)) = IsAddress 16 hop × HasLinkRange link × AllByRecursion (IsValid 16) routes
+HasRanges (attr.MpUnreach (unreach.Ip4 routes)) = AllByRecursion (IsValid 4) routes
+HasRanges (attr.MpUnreach (unreach.Ip6 routes)) = AllByRecursion (IsValid 16) routes
+HasRanges (attr.As4Path p) = HasPathRanges p.path
+HasRanges (attr.As4Aggregator a) = IsFourOctets (a.asn).0 × IsAddress 4 a.addr
+HasRanges (attr.Large l) = AllByRecursion IsThreeNumbers l.values
+HasRanges (attr.Opaque o) = (o.kind < 256) × AreOctets o.value

@@ -1,0 +1,14 @@
+//! AGGREGATOR and AS4_AGGREGATOR.
+
+use bgp_prefix::AsNumber;
+
+/// The speaker that made one route of several (RFC 4271, section 5.1.7; RFC 6793, section 3).
+#[derive(Clone, Copy, Debug, PartialEq, Eq)]
+pub struct Aggregator {
+    /// Its AS number.
+    pub asn: AsNumber,
+    /// Its address.
+    pub addr: [u8; 4],
+    /// The Partial bit.
+    pub partial: bool,
+}

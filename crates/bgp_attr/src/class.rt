@@ -1,0 +1,12 @@
+//! The classes of attributes.
+
+/// What an attribute's Optional and Transitive bits say of its type (RFC 4271, section 5).
+#[derive(Clone, Copy, Debug, PartialEq, Eq)]
+pub(crate) enum Class {
+    /// Each speaker knows it, and passes it on.
+    WellKnown = 1,
+    /// A speaker that doesn't know it drops it.
+    OptionalNonTransitive = 2,
+    /// A speaker that doesn't know it passes it on.
+    OptionalTransitive = 3,
+}

@@ -1,0 +1,43 @@
+//! Attributes of types that aren't recognised.
+
+ghost use Rattle.std.specs.Prelude.{◌≡◌, IfOk};
+
+use bgp_wire::{List, TryCopy};
+use std::alloc::{AllocError, Global};
+
+/// An optional attribute of a type that isn't recognised: its value is kept as it is (RFC 4271, section 5).
+#[derive(Debug, Drop, PartialEq)]
+pub struct Opaque {
+    /// The type.
+    pub kind: u8,
+    /// The Transitive bit: it is passed on.
+    pub transitive: bool,
+    /// The Partial bit.
+    pub partial: bool,
+    /// The octets of the value.
+    pub value: List<u8>,
+}
+
+impl Opaque {
+    /// An equal value, with memory of its own.
+    ///
+    /// # Errors
+    /// `AllocError` where a growth was refused.
+    pub fn copy(&self, alloc: Global) -> Result<Opaque, AllocError>
+        ensures { IfOk result (λ copy. copy ≡ self.now) }
+    {
+        let value = self.value.copy(alloc)?;
+        Ok(Opaque {
+            kind: self.kind,
+            transitive: self.transitive,
+            partial: self.partial,
+            value,
+        })
+    }
+}
+
+impl TryCopy for Opaque {
+    fn try_copy(&self, alloc: Global) -> Result<Opaque, AllocError> {
+        self.copy(alloc)
+    }
+}

@@ -1,0 +1,10 @@
+//! The two forms in which paths lie in octets.
+
+/// How a path lies in octets (RFC 6793, sections 3 and 4).
+#[derive(Clone, Copy, Debug, PartialEq, Eq)]
+pub(crate) struct PathForm {
+    /// Its AS numbers have four octets, not two.
+    pub(crate) wide: bool,
+    /// It may have segments of confederations, which are dropped (RFC 6793, section 3).
+    pub(crate) confederations: bool,
+}

@@ -1,0 +1,36 @@
+//! Why an attribute isn't kept.
+
+/// Why an attribute isn't kept, or a message has none of its type (RFC 7606, sections 3 and 7; RFC 7607).
+#[derive(Clone, Copy, Debug, PartialEq, Eq)]
+pub enum Why {
+    /// The Optional or the Transitive bit isn't that of the type.
+    Flags,
+    /// The value isn't as long as its type asks.
+    Length,
+    /// The value has no meaning.
+    Value,
+    /// A segment of a path has an unknown type.
+    SegmentType,
+    /// A segment of a path has no numbers.
+    SegmentCount,
+    /// A segment of a path goes past the end of the value.
+    SegmentEnd,
+    /// An attribute of the type stands before it.
+    Repeated,
+    /// LOCAL_PREF on an external session.
+    External,
+    /// AS4_PATH or AS4_AGGREGATOR on a session with AS numbers of four octets.
+    FourOctet,
+    /// Routes of an address family that isn't in use.
+    Family,
+    /// NEXT_HOP without NLRI that it could serve.
+    Unneeded,
+    /// An AS4_PATH of which nothing is left.
+    Emptied,
+    /// The attribute goes past the end of the attributes.
+    Cut,
+    /// No attribute of the type is there.
+    Missing,
+    /// An AS number 0 (RFC 7607).
+    AsZero,
+}
