@@ -9,3 +9,11 @@ pub mod Value
 pub mod Judgement
 pub mod Spelling
 pub mod Written
+pub mod NumberIter
+pub mod TlvView
+pub mod LengthField
+pub mod TlvIter
+pub mod SegmentView
+pub mod PathView
+pub mod LargeStep
+pub mod LargeIter

@@ -1,0 +1,55 @@
+-- The segments of a path one after the other, a step at a time.
+use Rattle.std.proofs.Common.{◌≡◌, ℕ, ◌<◌, Bool, true, false, ◌||◌, List, [], ◌∷◌, ◌++◌, length, map, Option, Some, None, sym, ap, ◌∙◌}
+use Rattle.std.specs.List.{flat_map, list_any}
+use Rattle.std.proofs.lemmas.List.Concat.{flat_map-cons}
+use Rattle.bgp_wire.proofs.Walks.{shorter, first_then, no_more, same_rest, all_rest}
+use Rattle.bgp_prefix.specs.declared.as_number.AsNumber.{AsNumber}
+use Rattle.bgp_attr.specs.declared.path.SegKind.{SegKind}
+use Rattle.bgp_attr.specs.declared.path_form.PathForm.{PathForm}
+use Rattle.bgp_attr.specs.Path.{WireSegment, IsSegment, one_segment, segments_of, kept_segment, has_zero, path_has_zero, as_number, kind_of_segment, segment_kept_as, kept_segments_of}
+use Rattle.bgp_attr.proofs.Readers.{IsSegment-reads}
+
+module _ (form : PathForm) (b : List ℕ) where
+  pub no_segment : None ≡ one_segment form b → (segments_of form b).0 ≡ []
+  no_segment e = no_more WireSegment (IsSegment form) (one_segment form) (IsSegment-reads form) b e
+
+  pub no_segment_rest : None ≡ one_segment form b → (segments_of form b).1 ≡ b
+  no_segment_rest e = all_rest WireSegment (IsSegment form) (one_segment form) (IsSegment-reads form) b e
+
+  pub no_zero : None ≡ one_segment form b → path_has_zero form b ≡ false
+  no_zero e = ap (list_any has_zero) (no_segment e)
+
+  pub none_kept : None ≡ one_segment form b → flat_map kept_segment (segments_of form b).0 ≡ []
+  none_kept e = ap (flat_map kept_segment) (no_segment e)
+
+  module _ (s : WireSegment) (rest : List ℕ) (e : Some (s, rest) ≡ one_segment form b) where
+    pub segment_then : (segments_of form b).0 ≡ s ∷ (segments_of form rest).0
+    segment_then = first_then WireSegment (IsSegment form) (one_segment form) (IsSegment-reads form) b s rest e
+
+    pub segment_rest : (segments_of form rest).1 ≡ (segments_of form b).1
+    segment_rest = same_rest WireSegment (IsSegment form) (one_segment form) (IsSegment-reads form) b s rest e
+
+    pub segment_shorter : length rest < length b
+    segment_shorter = shorter WireSegment (IsSegment form) (one_segment form) (IsSegment-reads form) b s rest e
+
+    pub zero_later : has_zero s ≡ false → path_has_zero form rest ≡ path_has_zero form b
+    zero_later none = sym (ap (list_any has_zero) segment_then ∙ ap (λ (t : Bool). t || list_any has_zero (segments_of form rest).0) none)
+
+    pub zero_first : has_zero s ≡ true → path_has_zero form b ≡ true
+    zero_first zero = ap (list_any has_zero) segment_then ∙ ap (λ (t : Bool). t || list_any has_zero (segments_of form rest).0) zero
+
+    -- what is kept of the path begins with what is kept of its first segment
+    pub kept_then : flat_map kept_segment (segments_of form b).0 ≡ kept_segment s ++ flat_map kept_segment (segments_of form rest).0
+    kept_then = ap (flat_map kept_segment) segment_then ∙ flat_map-cons kept_segment s (segments_of form rest).0
+
+    -- the first segment is kept as this kind
+    pub kept_first : (kind : SegKind) → Some kind ≡ kind_of_segment s.code → (numbers : List AsNumber) → numbers ≡ map as_number s.numbers
+        → kept_segments_of form b ≡ record { kind = kind; numbers = numbers } ∷ kept_segments_of form rest
+    kept_first kind known numbers are =
+        kept_then
+        ∙ ap (λ (o : Option SegKind). segment_kept_as o s.numbers ++ kept_segments_of form rest) (sym known)
+        ∙ ap (λ (ns : List AsNumber). record { kind = kind; numbers = ns } ∷ kept_segments_of form rest) (sym are)
+
+    -- the first segment is dropped
+    pub kept_later : None ≡ kind_of_segment s.code → kept_segments_of form b ≡ kept_segments_of form rest
+    kept_later dropped = kept_then ∙ ap (λ (o : Option SegKind). segment_kept_as o s.numbers ++ kept_segments_of form rest) (sym dropped)

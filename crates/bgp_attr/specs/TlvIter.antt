@@ -1,0 +1,19 @@
+-- What an iterator of attributes has left.
+use Rattle.std.specs.Prelude.{◌≡◌, ℕ, List, drop, Option}
+use Rattle.std.specs.Iterator.{YieldsFirstBy}
+use Rattle.bgp_attr.specs.declared.tlv.Tlv.{Tlv}
+use Rattle.bgp_attr.specs.declared.tlv_iter.TlvIter.{TlvIter}
+use Rattle.bgp_attr.specs.Tlv.{PlacedTlv, tlvs_of, placed_from}
+use Rattle.bgp_attr.specs.TlvView.{placed_tlv}
+
+-- the attributes still to come, with their places
+abbrev pub tlvs_left : TlvIter → List PlacedTlv
+tlvs_left it = placed_from it.at (tlvs_of (drop it.at it.field.now)).0
+
+-- what stands behind the last of them
+abbrev pub rest_left : TlvIter → List ℕ
+rest_left it = (tlvs_of (drop it.at it.field.now)).1
+
+-- a call gave the first attribute that was left, or none where none was, and what stands behind them all stayed
+abbrev pub GivesTlv : TlvIter → Option Tlv → TlvIter → Type 0
+GivesTlv s given t = YieldsFirstBy placed_tlv tlvs_left s given t × (rest_left s ≡ rest_left t)

@@ -1,0 +1,120 @@
+//! Segments of a path as they lie in octets.
+
+ghost use Rattle.std.specs.Prelude.{◌≡◌, ◌==◌, option_map};
+ghost use Rattle.std.specs.List.{list_any};
+ghost use Rattle.bgp_attr.specs.Numbers.{number_width, numbers_of};
+ghost use Rattle.bgp_attr.specs.Path.{is_known, one_segment, segment_fault, path_fault, path_has_zero, kind_of_segment};
+ghost use Rattle.bgp_attr.specs.SegmentView.{wire_segment};
+
+use crate::numbers::first_number;
+use crate::path::SegKind;
+use crate::path_form::PathForm;
+use crate::why::Why;
+use bgp_numbers::segment;
+
+/// A segment of any known type, as it lies in octets.
+#[derive(Clone, Copy)]
+pub(crate) struct RawSegment<'a> {
+    pub(crate) code: u8,
+    pub(crate) numbers: &'a [u8],
+}
+
+/// The octets of an AS number.
+fn number_width(wide: bool) -> usize
+    ensures { result ≡ number_width wide }
+{
+    if wide { 4 } else { 2 }
+}
+
+/// Whether segments of this type are read.
+fn is_known(form: PathForm, code: u8) -> bool
+    ensures { result ≡ is_known form code }
+{
+    match code {
+        segment::SET | segment::SEQUENCE => true,
+        segment::CONFED_SEQUENCE | segment::CONFED_SET => form.confederations,
+        _ => false,
+    }
+}
+
+/// What is kept of segments of this type: None for those of confederations.
+pub(crate) fn kind_of(code: u8) -> Option<SegKind>
+    ensures { result ≡ kind_of_segment code }
+{
+    match code {
+        segment::SET => Some(SegKind::Set),
+        segment::SEQUENCE => Some(SegKind::Seq),
+        _ => None,
+    }
+}
+
+/// The segment at the front, and what follows it.
+#[tactic(auto, using(crate::proofs::SegmentFronts::steps))]
+pub(crate) fn first_segment(form: PathForm, octets: &[u8]) -> Option<(RawSegment<'_>, &[u8])>
+    ensures { option_map (λ x. (wire_segment form.wide x.0, x.1.now)) result ≡ one_segment form octets.now }
+{
+    let (code, rest) = octets.split_first()?;
+    let (count, rest) = rest.split_first()?;
+    let len = usize::from(*count) * number_width(form.wide);
+    let (numbers, rest) = rest.split_at_checked(len)?;
+    if !is_known(form, *code) || *count == 0 {
+        return None;
+    }
+    let raw = RawSegment {
+        code: *code,
+        numbers,
+    };
+    Some((raw, rest))
+}
+
+/// Why no segment stands at the front of what is left.
+fn segment_fault(form: PathForm, rest: &[u8]) -> Option<Why>
+    ensures { result ≡ segment_fault form rest.now }
+{
+    let (code, rest) = rest.split_first()?;
+    match rest.first() {
+        None => Some(Why::SegmentEnd),
+        Some(_) if !is_known(form, *code) => Some(Why::SegmentType),
+        Some(0) => Some(Why::SegmentCount),
+        Some(_) => Some(Why::SegmentEnd),
+    }
+}
+
+/// The first fault of a path.
+pub(crate) fn path_fault(form: PathForm, octets: &[u8]) -> Option<Why>
+    ensures { result ≡ path_fault form octets.now }
+{
+    let mut rest = octets;
+    'path: while let Some((_, after)) = first_segment(form, rest) {
+        rest = after;
+    }
+    segment_fault(form, rest)
+}
+
+/// Whether one of the numbers is 0.
+fn has_zero(wide: bool, octets: &[u8]) -> bool
+    ensures { result ≡ list_any (λ n. n == 0) (numbers_of wide octets.now) }
+{
+    let mut rest = octets;
+    'row: while let Some((number, after)) = first_number(wide, rest) {
+        if number == 0 {
+            return true;
+        }
+        rest = after;
+    }
+    false
+}
+
+/// Whether an AS number 0 stands in a segment of a path, also in one that is dropped.
+pub(crate) fn path_has_zero(form: PathForm, octets: &[u8]) -> bool
+    ensures { result ≡ path_has_zero form octets.now }
+{
+    let mut rest = octets;
+    'path: while let Some((segment, after)) = first_segment(form, rest) {
+        if has_zero(form.wide, segment.numbers) {
+            return true;
+        }
+        rest = after;
+    }
+    false
+}

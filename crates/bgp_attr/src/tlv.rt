@@ -1,0 +1,30 @@
+//! Attributes as they lie in octets.
+
+ghost use Rattle.std.specs.Prelude.{◌≡◌};
+ghost use Rattle.bgp_attr.specs.Tlv.{tlv_octets};
+
+use crate::flags::Flags;
+
+/// An attribute before it is judged: its flags, its type, its value (RFC 4271, section 4.3).
+#[derive(Clone, Copy, Debug)]
+pub struct Tlv<'a> {
+    /// The place of its flags in the attribute field.
+    pub at: usize,
+    pub flags: Flags,
+    /// The type.
+    pub kind: u8,
+    /// All its octets, as they were received.
+    pub whole: &'a [u8],
+    /// The octets of its value.
+    pub value: &'a [u8],
+    pub ghost spelled: { whole.now ≡ tlv_octets flags.0 kind value.now },
+}
+
+/// What stands behind the last whole attribute of a field.
+#[derive(Clone, Copy, Debug, PartialEq, Eq)]
+pub enum Tail<'a> {
+    /// Nothing: the field ends there.
+    End,
+    /// Octets that begin an attribute, and end before it does.
+    Cut(&'a [u8]),
+}
