@@ -6,3 +6,5 @@ pub mod TlvSteps
 pub mod SegmentFronts
 pub mod SegmentSteps
 pub mod LargeSteps
+pub mod Aggregators
+pub mod Runs

@@ -18,7 +18,7 @@ number_width-some : (wide : Bool) → 0 < number_width wide
 number_width-some true = omega arith
 number_width-some false = omega arith
 
-number_there : (wide : Bool) (b : List ℕ) → number_width wide ≤ length b → one_number wide b ≡ Some (number_in wide (take (number_width wide) b), drop (number_width wide) b)
+pub number_there : (wide : Bool) (b : List ℕ) → number_width wide ≤ length b → one_number wide b ≡ Some (number_in wide (take (number_width wide) b), drop (number_width wide) b)
 unfolding one_number
 number_there true (a ∷ b ∷ c ∷ d ∷ rest) le = refl
 number_there true [] le = absurd (omega arith)
@@ -29,7 +29,7 @@ number_there false (a ∷ b ∷ rest) le = refl
 number_there false [] le = absurd (omega arith)
 number_there false (a ∷ []) le = absurd (omega arith)
 
-number_short : (wide : Bool) (b : List ℕ) → length b < number_width wide → one_number wide b ≡ None
+pub number_short : (wide : Bool) (b : List ℕ) → length b < number_width wide → one_number wide b ≡ None
 unfolding one_number
 number_short true [] lt = refl
 number_short true (a ∷ []) lt = refl

@@ -17,3 +17,7 @@ pub mod SegmentView
 pub mod PathView
 pub mod LargeStep
 pub mod LargeIter
+pub mod CommunitiesView
+pub mod MpView
+pub mod AttrView
+pub mod JudgedView

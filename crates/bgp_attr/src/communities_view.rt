@@ -1,0 +1,61 @@
+//! Communities that still lie in the octets that were read.
+
+ghost use Rattle.std.specs.Prelude.{◌≡◌, IfOk};
+
+use crate::communities::{Communities, LargeCommunities};
+use crate::large_iter::LargeCommIter;
+use crate::numbers::CommIter;
+use bgp_wire::List;
+use std::alloc::{AllocError, Global};
+
+/// COMMUNITIES, borrowed.
+#[derive(Clone, Copy, Debug)]
+pub struct CommunitiesView<'a> {
+    /// The Partial bit.
+    pub partial: bool,
+    pub values: CommIter<'a>,
+}
+
+impl CommunitiesView<'_> {
+    ghost use Rattle.bgp_attr.specs.CommunitiesView.{communities_value};
+
+    /// The communities, with memory of their own.
+    ///
+    /// # Errors
+    /// `AllocError` where a growth was refused.
+    pub fn own(self, alloc: Global) -> Result<Communities, AllocError>
+        ensures { IfOk result (λ c. c ≡ communities_value self.entry) }
+    {
+        let values = List::from_vec(self.values.collect(alloc)?);
+        Ok(Communities {
+            partial: self.partial,
+            values,
+        })
+    }
+}
+
+/// LARGE_COMMUNITY, borrowed.
+#[derive(Clone, Copy, Debug)]
+pub struct LargeView<'a> {
+    /// The Partial bit.
+    pub partial: bool,
+    pub values: LargeCommIter<'a>,
+}
+
+impl LargeView<'_> {
+    ghost use Rattle.bgp_attr.specs.CommunitiesView.{large_value};
+
+    /// The communities, with memory of their own.
+    ///
+    /// # Errors
+    /// `AllocError` where a growth was refused.
+    pub fn own(self, alloc: Global) -> Result<LargeCommunities, AllocError>
+        ensures { IfOk result (λ l. l ≡ large_value self.entry) }
+    {
+        let values = List::from_vec(self.values.collect(alloc)?);
+        Ok(LargeCommunities {
+            partial: self.partial,
+            values,
+        })
+    }
+}

@@ -1,0 +1,41 @@
+//! What one attribute comes to, with its value borrowed.
+
+ghost use Rattle.std.specs.Prelude.{◌≡◌, ◌≤◌, length, IfOk};
+
+use crate::attr_view::AttrView;
+use crate::judged::Judged;
+use crate::why::Why;
+use bgp_frame::NotificationView;
+use std::alloc::{AllocError, Global};
+
+/// What one attribute comes to (RFC 7606, section 2), with its value borrowed.
+#[derive(Clone, Copy, Debug)]
+pub enum JudgedView<'a> {
+    /// It is kept.
+    Keep(AttrView<'a>),
+    /// It is dropped, and the message goes on without it.
+    Discard(Why),
+    /// The routes of its message are withdrawn.
+    Withdraw(Why),
+    /// The session ends with this notification.
+    Reset(NotificationView<'a>),
+}
+
+impl JudgedView<'_> {
+    ghost use Rattle.bgp_attr.specs.JudgedView.{judged_value};
+
+    /// The judgement, with memory of its own.
+    ///
+    /// # Errors
+    /// `AllocError` where a growth was refused: only what is kept takes memory.
+    pub fn own(&self, alloc: Global) -> Result<Judged, AllocError>
+        ensures { IfOk result (λ j. j ≡ judged_value self.now) }
+    {
+        match self {
+            JudgedView::Keep(view) => Ok(Judged::Keep(view.own(alloc)?)),
+            JudgedView::Discard(why) => Ok(Judged::Discard(*why)),
+            JudgedView::Withdraw(why) => Ok(Judged::Withdraw(*why)),
+            JudgedView::Reset(notification) => Ok(Judged::Reset(notification.own())),
+        }
+    }
+}

@@ -1,0 +1,63 @@
+//! The judgement of one attribute.
+
+ghost use Rattle.std.specs.Prelude.{◌≡◌, ◌≤◌, length, IfOk};
+ghost use Rattle.bgp_attr.specs.TlvView.{tlv_value};
+ghost use Rattle.bgp_attr.specs.Judgement.{judgement};
+ghost use Rattle.bgp_attr.specs.JudgedView.{judged_value};
+
+use crate::judge_aggregator::{judge_aggregator, judge_as4_aggregator};
+use crate::judge_communities::{judge_communities, judge_large, judge_other};
+use crate::judge_fixed::{
+    judge_atomic, judge_local_pref, judge_med, judge_next_hop, judge_origin,
+};
+use crate::judge_mp::{judge_mp_reach, judge_mp_unreach};
+use crate::judge_path::{judge_as_path, judge_as4_path};
+use crate::judged::Judged;
+use crate::judged_view::JudgedView;
+use crate::tlv::Tlv;
+use bgp_numbers::attribute;
+use bgp_open::Context;
+use std::alloc::{AllocError, Global};
+
+/// What the first attribute of its type in a message comes to, without memory: by the first test of its type that applies
+/// (RFC 4271, section 6.3; RFC 7606, sections 3 to 7; RFC 7607). The attribute has at most 4075 octets, as each of a message has.
+///
+/// `has_nlri` says that the NLRI field of the message isn't empty.
+#[tactic(auto, unfolding(crate::specs::Judgement::tests_of, crate::specs::Value::value_of))]
+pub fn judge_view<'a>(ctx: &Context, has_nlri: bool, tlv: &Tlv<'a>) -> JudgedView<'a>
+    requires { length tlv.now.whole.now ≤ 4075 }
+    ensures { judged_value result ≡ judgement ctx.now has_nlri (tlv_value tlv.now) }
+{
+    match tlv.kind {
+        attribute::ORIGIN => judge_origin(tlv),
+        attribute::AS_PATH => judge_as_path(ctx, tlv),
+        attribute::NEXT_HOP => judge_next_hop(has_nlri, tlv),
+        attribute::MULTI_EXIT_DISC => judge_med(tlv),
+        attribute::LOCAL_PREF => judge_local_pref(ctx, tlv),
+        attribute::ATOMIC_AGGREGATE => judge_atomic(tlv),
+        attribute::AGGREGATOR => judge_aggregator(ctx, tlv),
+        attribute::COMMUNITIES => judge_communities(tlv),
+        attribute::MP_REACH_NLRI => judge_mp_reach(ctx, tlv),
+        attribute::MP_UNREACH_NLRI => judge_mp_unreach(ctx, tlv),
+        attribute::AS4_PATH => judge_as4_path(ctx, tlv),
+        attribute::AS4_AGGREGATOR => judge_as4_aggregator(ctx, tlv),
+        attribute::LARGE_COMMUNITY => judge_large(tlv),
+        _ => judge_other(tlv),
+    }
+}
+
+/// What the first attribute of its type in a message comes to, as [`judge_view`] says.
+///
+/// # Errors
+/// `AllocError` where a growth was refused: only where the attribute is kept.
+pub fn judge(
+    alloc: Global,
+    ctx: &Context,
+    has_nlri: bool,
+    tlv: &Tlv<'_>,
+) -> Result<Judged, AllocError>
+    requires { length tlv.now.whole.now ≤ 4075 }
+    ensures { IfOk result (λ j. j ≡ judgement ctx.now has_nlri (tlv_value tlv.now)) }
+{
+    judge_view(ctx, has_nlri, tlv).own(alloc)
+}

@@ -1,0 +1,87 @@
+//! Routes of other address families that still lie in the octets that were read.
+
+ghost use Rattle.std.specs.Prelude.{◌≡◌, IfOk};
+
+use crate::mp::{MpReach, MpUnreach};
+use bgp_prefix::{PrefixIter4, PrefixIter6};
+use bgp_wire::List;
+use std::alloc::{AllocError, Global};
+
+/// MP_REACH_NLRI, borrowed.
+#[derive(Clone, Copy, Debug)]
+pub enum MpReachView<'a> {
+    /// IPv4 unicast.
+    Ip4 {
+        next_hop: [u8; 4],
+        nlri: PrefixIter4<'a>,
+    },
+    /// IPv6 unicast.
+    Ip6 {
+        next_hop: [u8; 16],
+        link_local: Option<[u8; 16]>,
+        nlri: PrefixIter6<'a>,
+    },
+}
+
+impl MpReachView<'_> {
+    ghost use Rattle.bgp_attr.specs.MpView.{reach_value};
+
+    /// The routes, with memory of their own.
+    ///
+    /// # Errors
+    /// `AllocError` where a growth was refused.
+    pub fn own(self, alloc: Global) -> Result<MpReach, AllocError>
+        ensures { IfOk result (λ r. r ≡ reach_value self.entry) }
+    {
+        match self {
+            MpReachView::Ip4 { next_hop, nlri } => {
+                let nlri = List::from_vec(nlri.collect(alloc)?);
+                Ok(MpReach::Ip4 { next_hop, nlri })
+            }
+            MpReachView::Ip6 {
+                next_hop,
+                link_local,
+                nlri,
+            } => {
+                let nlri = List::from_vec(nlri.collect(alloc)?);
+                Ok(MpReach::Ip6 {
+                    next_hop,
+                    link_local,
+                    nlri,
+                })
+            }
+        }
+    }
+}
+
+/// MP_UNREACH_NLRI, borrowed.
+#[derive(Clone, Copy, Debug)]
+pub enum MpUnreachView<'a> {
+    /// IPv4 unicast.
+    Ip4(PrefixIter4<'a>),
+    /// IPv6 unicast.
+    Ip6(PrefixIter6<'a>),
+}
+
+impl MpUnreachView<'_> {
+    ghost use Rattle.bgp_attr.specs.MpView.{unreach_value};
+
+    /// The routes, with memory of their own.
+    ///
+    /// # Errors
+    /// `AllocError` where a growth was refused.
+    pub fn own(self, alloc: Global) -> Result<MpUnreach, AllocError>
+        ensures { IfOk result (λ r. r ≡ unreach_value self.entry) }
+    {
+        match self {
+            MpUnreachView::Ip4(routes) => {
+                let routes = List::from_vec(routes.collect(alloc)?);
+                Ok(MpUnreach::Ip4(routes))
+            }
+            MpUnreachView::Ip6(routes) => {
+                let routes = List::from_vec(routes.collect(alloc)?);
+                Ok(MpUnreach::Ip6(routes))
+            }
+        }
+    }
+}
