@@ -22,16 +22,16 @@ and_true : (t : Bool) → (t && true) ≡ t
 and_true true = refl
 and_true false = refl
 
-pub same_triple-pointwise : (x y : List ℕ) → length x ≡ 3 → length y ≡ 3 → same_triple x y ≡ pointwise eqb x y
-same_triple-pointwise (a ∷ b ∷ c ∷ []) (p ∷ q ∷ r ∷ []) e f = ap (λ (t : Bool). eqb a p && (eqb b q && t)) (sym (and_true (eqb c r)))
-same_triple-pointwise [] y e f = absurd (omega arith)
-same_triple-pointwise (a ∷ []) y e f = absurd (omega arith)
-same_triple-pointwise (a ∷ b ∷ []) y e f = absurd (omega arith)
-same_triple-pointwise (a ∷ b ∷ c ∷ d ∷ x) y e f = absurd (omega arith)
-same_triple-pointwise (a ∷ b ∷ c ∷ []) [] e f = absurd (omega arith)
-same_triple-pointwise (a ∷ b ∷ c ∷ []) (p ∷ []) e f = absurd (omega arith)
-same_triple-pointwise (a ∷ b ∷ c ∷ []) (p ∷ q ∷ []) e f = absurd (omega arith)
-same_triple-pointwise (a ∷ b ∷ c ∷ []) (p ∷ q ∷ r ∷ s ∷ y) e f = absurd (omega arith)
+pub same_triple_is : (x y : List ℕ) → length x ≡ 3 → length y ≡ 3 → same_triple x y ≡ pointwise eqb x y
+same_triple_is (a ∷ b ∷ c ∷ []) (p ∷ q ∷ r ∷ []) e f = ap (λ (t : Bool). eqb a p && (eqb b q && t)) (sym (and_true (eqb c r)))
+same_triple_is [] y e f = absurd (omega arith)
+same_triple_is (a ∷ []) y e f = absurd (omega arith)
+same_triple_is (a ∷ b ∷ []) y e f = absurd (omega arith)
+same_triple_is (a ∷ b ∷ c ∷ d ∷ x) y e f = absurd (omega arith)
+same_triple_is (a ∷ b ∷ c ∷ []) [] e f = absurd (omega arith)
+same_triple_is (a ∷ b ∷ c ∷ []) (p ∷ []) e f = absurd (omega arith)
+same_triple_is (a ∷ b ∷ c ∷ []) (p ∷ q ∷ []) e f = absurd (omega arith)
+same_triple_is (a ∷ b ∷ c ∷ []) (p ∷ q ∷ r ∷ s ∷ y) e f = absurd (omega arith)
 
 -- ---- a triple among those of octets
 

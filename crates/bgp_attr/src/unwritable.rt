@@ -1,5 +1,16 @@
 //! Why an attribute isn't written.
 
+ghost use Rattle.std.specs.Prelude.{◌≡◌};
+ghost use Rattle.std.specs.List.{list_any};
+ghost use Rattle.bgp_attr.specs.Numbers.{same_triple};
+ghost use Rattle.bgp_attr.specs.Spelling.{is_recognised};
+ghost use Rattle.bgp_attr.specs.Written.{any_number, is_above_two_octets, is_zero, is_too_wide, is_as4, is_bad_segment, is_empty, is_misnamed, has_as_zero, repeats, stands_twice};
+
+use crate::attr::Attr;
+use crate::path::{AsPath, Segment};
+use bgp_numbers::attribute;
+use bgp_open::Context;
+
 /// Why an attribute can't be written in a context: the first reason in this order.
 #[derive(Clone, Copy, Debug, PartialEq, Eq)]
 pub enum Unwritable {
@@ -17,4 +28,163 @@ pub enum Unwritable {
     Twice,
     /// A value of more than 65535 octets, which no length field can hold (RFC 4271, section 4.3).
     TooLong,
+}
+
+/// Whether a number of the segment needs more than two octets.
+fn has_wide_number(segment: &Segment) -> bool
+    ensures { result ≡ list_any (λ n. is_above_two_octets n.0) segment.now.numbers }
+{
+    segment.numbers.iter().any(|n| n.0 > 65535)
+}
+
+/// Whether a number of the path needs more than two octets.
+fn is_wide_path(path: &AsPath) -> bool
+    ensures { result ≡ any_number is_above_two_octets path.now }
+{
+    path.segments.iter().any(|segment| has_wide_number(segment))
+}
+
+/// Whether a number of the segment is 0.
+fn has_zero_number(segment: &Segment) -> bool
+    ensures { result ≡ list_any (λ n. is_zero n.0) segment.now.numbers }
+{
+    segment.numbers.iter().any(|n| n.0 == 0)
+}
+
+/// Whether a number of the path is 0.
+fn is_zero_path(path: &AsPath) -> bool
+    ensures { result ≡ any_number is_zero path.now }
+{
+    path.segments.iter().any(|segment| has_zero_number(segment))
+}
+
+/// Whether an AS number needs more octets than it has.
+pub(crate) fn is_too_wide(ctx: &Context, attr: &Attr) -> bool
+    ensures { result ≡ is_too_wide ctx.now attr.now }
+{
+    match attr {
+        Attr::AsPath(path) => !ctx.as4 && is_wide_path(path),
+        Attr::Aggregator(aggregator) => !ctx.as4 && aggregator.asn.0 > 65535,
+        _ => false,
+    }
+}
+
+/// Whether the attribute is for speakers with AS numbers of two octets.
+pub(crate) fn is_as4(attr: &Attr) -> bool
+    ensures { result ≡ is_as4 attr.now }
+{
+    match attr {
+        Attr::As4Path(_) | Attr::As4Aggregator(_) => true,
+        _ => false,
+    }
+}
+
+/// Whether the count of the segment's numbers can't be written.
+fn is_bad_segment(segment: &Segment) -> bool
+    ensures { result ≡ is_bad_segment segment.now }
+{
+    segment.numbers.is_empty() || segment.numbers.len() > 255
+}
+
+/// Whether the path has a segment whose count can't be written.
+fn has_bad_segment(path: &AsPath) -> bool
+    ensures { result ≡ list_any is_bad_segment path.now.segments }
+{
+    path.segments.iter().any(|segment| is_bad_segment(segment))
+}
+
+/// Whether nothing stands where something has to.
+pub(crate) fn is_empty(attr: &Attr) -> bool
+    ensures { result ≡ is_empty attr.now }
+{
+    match attr {
+        Attr::AsPath(path) => has_bad_segment(path),
+        Attr::As4Path(path) => path.path.segments.is_empty() || has_bad_segment(&path.path),
+        Attr::Communities(communities) => communities.values.is_empty(),
+        Attr::Large(communities) => communities.values.is_empty(),
+        _ => false,
+    }
+}
+
+/// Whether a type is recognised.
+fn is_recognised(kind: u8) -> bool
+    ensures { result ≡ is_recognised kind }
+{
+    match kind {
+        attribute::ORIGIN
+        | attribute::AS_PATH
+        | attribute::NEXT_HOP
+        | attribute::MULTI_EXIT_DISC
+        | attribute::LOCAL_PREF
+        | attribute::ATOMIC_AGGREGATE
+        | attribute::AGGREGATOR
+        | attribute::COMMUNITIES
+        | attribute::MP_REACH_NLRI
+        | attribute::MP_UNREACH_NLRI
+        | attribute::AS4_PATH
+        | attribute::AS4_AGGREGATOR
+        | attribute::LARGE_COMMUNITY => true,
+        _ => false,
+    }
+}
+
+/// Whether the attribute has the type of another.
+pub(crate) fn is_misnamed(attr: &Attr) -> bool
+    ensures { result ≡ is_misnamed attr.now }
+{
+    match attr {
+        Attr::Opaque(opaque) => is_recognised(opaque.kind),
+        _ => false,
+    }
+}
+
+/// Whether an AS number is 0.
+pub(crate) fn has_as_zero(attr: &Attr) -> bool
+    ensures { result ≡ has_as_zero attr.now }
+{
+    match attr {
+        Attr::AsPath(path) => is_zero_path(path),
+        Attr::As4Path(path) => is_zero_path(&path.path),
+        Attr::Aggregator(aggregator) | Attr::As4Aggregator(aggregator) => aggregator.asn.0 == 0,
+        _ => false,
+    }
+}
+
+/// Whether two triples are the same.
+#[tactic(auto, using(crate::proofs::LargeSteps::same_triple_is))]
+fn same_triple(a: &[u32; 3], b: &[u32; 3]) -> bool
+    ensures { result ≡ same_triple a.now b.now }
+{
+    *a == *b
+}
+
+/// Whether a triple is among others.
+fn is_among(triple: &[u32; 3], others: &[[u32; 3]]) -> bool
+    ensures { result ≡ list_any (same_triple triple.now) others.now }
+{
+    others.iter().any(|other| same_triple(triple, other))
+}
+
+/// Whether a triple stands among those behind it too.
+fn repeats(values: &[[u32; 3]]) -> bool
+    ensures { result ≡ repeats values.now }
+{
+    let mut rest = values;
+    'row: while let Some((first, later)) = rest.split_first() {
+        if is_among(first, later) {
+            return true;
+        }
+        rest = later;
+    }
+    false
+}
+
+/// Whether a large community stands twice.
+pub(crate) fn stands_twice(attr: &Attr) -> bool
+    ensures { result ≡ stands_twice attr.now }
+{
+    match attr {
+        Attr::Large(communities) => repeats(&communities.values),
+        _ => false,
+    }
 }
