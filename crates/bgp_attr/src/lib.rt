@@ -9,6 +9,7 @@ mod communities;
 mod family;
 mod flags;
 mod judged;
+pub mod laws;
 mod mp;
 mod opaque;
 mod origin;

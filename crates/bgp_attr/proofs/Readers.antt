@@ -1,0 +1,231 @@
+-- Attributes, numbers, triples and segments are read as they are spelled.
+use Rattle.std.proofs.Common.{◌≡◌, ℕ, ◌<◌, ◌≤◌, Bool, true, false, cond, leb, List, [], ◌∷◌, ◌++◌, length, take, drop, Option, Some, None, refl, sym, ap, subst, ◌∙◌, append_assoc, arith}
+use Rattle.std.specs.Int.{w16, w32, from_be_bytes}
+use Rattle.std.proofs.lemmas.Bool.{leb-true, le-leb}
+use Rattle.std.proofs.lemmas.List.{length-append, length-take, take_at, drop_at, take-append-drop}
+use Rattle.bgp_wire.specs.Reader.{Reads}
+use Rattle.bgp_wire.specs.Behind.{BehindCount, behind_count}
+use Rattle.bgp_wire.proofs.Pieces.{found, found_same, found_not}
+use Rattle.bgp_wire.proofs.Behinds.{BehindCount-reads}
+use Rattle.bgp_attr.specs.declared.path_form.PathForm.{PathForm}
+use Rattle.bgp_attr.specs.Flags.{is_extended}
+use Rattle.bgp_attr.specs.Tlv.{TlvValue, IsTlv, number_of_length, with_value, behind_one_octet, behind_two_octets, one_tlv}
+use Rattle.bgp_attr.specs.Numbers.{number_in, IsNumber, four_at, two_at, one_number, IsTriple, one_triple}
+use Rattle.bgp_attr.specs.Path.{WireSegment, is_known, IsSegment, segment_of, one_segment}
+
+-- ---- numbers
+
+four_finds : (n : ℕ) (front back : List ℕ) → length front ≡ 4 → n ≡ from_be_bytes w32 front → four_at (front ++ back) ≡ Some (n, back)
+four_finds n (a ∷ b ∷ c ∷ d ∷ []) back len e = ap (λ (m : ℕ). Some (m, back)) (sym e)
+four_finds n [] back len e = absurd (omega arith)
+four_finds n (a ∷ []) back len e = absurd (omega arith)
+four_finds n (a ∷ b ∷ []) back len e = absurd (omega arith)
+four_finds n (a ∷ b ∷ c ∷ []) back len e = absurd (omega arith)
+four_finds n (a ∷ b ∷ c ∷ d ∷ x ∷ front) back len e = absurd (omega arith)
+
+two_finds : (n : ℕ) (front back : List ℕ) → length front ≡ 2 → n ≡ from_be_bytes w16 front → two_at (front ++ back) ≡ Some (n, back)
+two_finds n (a ∷ b ∷ []) back len e = ap (λ (m : ℕ). Some (m, back)) (sym e)
+two_finds n [] back len e = absurd (omega arith)
+two_finds n (a ∷ []) back len e = absurd (omega arith)
+two_finds n (a ∷ b ∷ x ∷ front) back len e = absurd (omega arith)
+
+four_gives : (b : List ℕ) (n : ℕ) (back : List ℕ) → four_at b ≡ Some (n, back) → (front : List ℕ) × (b ≡ front ++ back) × IsNumber true n front
+four_gives (a ∷ b ∷ c ∷ d ∷ rest) n back e =
+    let same = found_same ℕ (from_be_bytes w32 (a ∷ b ∷ c ∷ d ∷ []), rest) (n, back) e in
+    (a ∷ b ∷ c ∷ d ∷ [], ap (λ (p : ℕ × List ℕ). a ∷ b ∷ c ∷ d ∷ p.1) same, record { as_wide = refl; value = ap (λ (p : ℕ × List ℕ). p.0) (sym same) })
+four_gives [] n back e = absurd (found_not ℕ (n, back) e)
+four_gives (a ∷ []) n back e = absurd (found_not ℕ (n, back) e)
+four_gives (a ∷ b ∷ []) n back e = absurd (found_not ℕ (n, back) e)
+four_gives (a ∷ b ∷ c ∷ []) n back e = absurd (found_not ℕ (n, back) e)
+
+two_gives : (b : List ℕ) (n : ℕ) (back : List ℕ) → two_at b ≡ Some (n, back) → (front : List ℕ) × (b ≡ front ++ back) × IsNumber false n front
+two_gives (a ∷ b ∷ rest) n back e =
+    let same = found_same ℕ (from_be_bytes w16 (a ∷ b ∷ []), rest) (n, back) e in
+    (a ∷ b ∷ [], ap (λ (p : ℕ × List ℕ). a ∷ b ∷ p.1) same, record { as_wide = refl; value = ap (λ (p : ℕ × List ℕ). p.0) (sym same) })
+two_gives [] n back e = absurd (found_not ℕ (n, back) e)
+two_gives (a ∷ []) n back e = absurd (found_not ℕ (n, back) e)
+
+number_finds : (wide : Bool) (n : ℕ) (front back : List ℕ) → IsNumber wide n front → one_number wide (front ++ back) ≡ Some (n, back)
+unfolding one_number
+number_finds true n front back p = four_finds n front back p.as_wide p.value
+number_finds false n front back p = two_finds n front back p.as_wide p.value
+
+number_gives : (wide : Bool) (b : List ℕ) (n : ℕ) (back : List ℕ) → one_number wide b ≡ Some (n, back) → (front : List ℕ) × (b ≡ front ++ back) × IsNumber wide n front
+unfolding one_number
+number_gives true b n back e = four_gives b n back e
+number_gives false b n back e = two_gives b n back e
+
+number_some : (wide : Bool) (b : List ℕ) → length b ≡ cond wide 4 2 → 0 < length b
+number_some true b e = omega arith
+number_some false b e = omega arith
+
+pub IsNumber-reads : (wide : Bool) → Reads (IsNumber wide) (one_number wide)
+IsNumber-reads wide = record {
+  not_empty = λ n b p. number_some wide b p.as_wide;
+  finds = number_finds wide;
+  gives = number_gives wide;
+}
+
+-- ---- triples
+
+triple_finds : (t front back : List ℕ) → IsTriple t front → one_triple (front ++ back) ≡ Some (t, back)
+unfolding one_triple
+triple_finds t (a ∷ b ∷ c ∷ d ∷ e ∷ f ∷ g ∷ h ∷ i ∷ j ∷ k ∷ l ∷ []) back p = ap (λ (m : List ℕ). Some (m, back)) (sym p.numbers)
+triple_finds t [] back p = let len : 0 ≡ 12 = p.twelve in absurd (omega arith)
+triple_finds t (a ∷ []) back p = let len : 1 ≡ 12 = p.twelve in absurd (omega arith)
+triple_finds t (a ∷ b ∷ []) back p = let len : 2 ≡ 12 = p.twelve in absurd (omega arith)
+triple_finds t (a ∷ b ∷ c ∷ []) back p = let len : 3 ≡ 12 = p.twelve in absurd (omega arith)
+triple_finds t (a ∷ b ∷ c ∷ d ∷ []) back p = let len : 4 ≡ 12 = p.twelve in absurd (omega arith)
+triple_finds t (a ∷ b ∷ c ∷ d ∷ e ∷ []) back p = let len : 5 ≡ 12 = p.twelve in absurd (omega arith)
+triple_finds t (a ∷ b ∷ c ∷ d ∷ e ∷ f ∷ []) back p = let len : 6 ≡ 12 = p.twelve in absurd (omega arith)
+triple_finds t (a ∷ b ∷ c ∷ d ∷ e ∷ f ∷ g ∷ []) back p = let len : 7 ≡ 12 = p.twelve in absurd (omega arith)
+triple_finds t (a ∷ b ∷ c ∷ d ∷ e ∷ f ∷ g ∷ h ∷ []) back p = let len : 8 ≡ 12 = p.twelve in absurd (omega arith)
+triple_finds t (a ∷ b ∷ c ∷ d ∷ e ∷ f ∷ g ∷ h ∷ i ∷ []) back p = let len : 9 ≡ 12 = p.twelve in absurd (omega arith)
+triple_finds t (a ∷ b ∷ c ∷ d ∷ e ∷ f ∷ g ∷ h ∷ i ∷ j ∷ []) back p = let len : 10 ≡ 12 = p.twelve in absurd (omega arith)
+triple_finds t (a ∷ b ∷ c ∷ d ∷ e ∷ f ∷ g ∷ h ∷ i ∷ j ∷ k ∷ []) back p = let len : 11 ≡ 12 = p.twelve in absurd (omega arith)
+triple_finds t (a ∷ b ∷ c ∷ d ∷ e ∷ f ∷ g ∷ h ∷ i ∷ j ∷ k ∷ l ∷ x ∷ front) back p =
+    let len : length (a ∷ b ∷ c ∷ d ∷ e ∷ f ∷ g ∷ h ∷ i ∷ j ∷ k ∷ l ∷ x ∷ front) ≡ 12 = p.twelve in absurd (omega arith)
+
+triple_gives : (b t back : List ℕ) → one_triple b ≡ Some (t, back) → (front : List ℕ) × (b ≡ front ++ back) × IsTriple t front
+unfolding one_triple
+triple_gives (a ∷ b ∷ c ∷ d ∷ e ∷ f ∷ g ∷ h ∷ i ∷ j ∷ k ∷ l ∷ rest) t back q =
+    let three : List ℕ = from_be_bytes w32 (a ∷ b ∷ c ∷ d ∷ []) ∷ from_be_bytes w32 (e ∷ f ∷ g ∷ h ∷ []) ∷ from_be_bytes w32 (i ∷ j ∷ k ∷ l ∷ []) ∷ [] in
+    let same = found_same (List ℕ) (three, rest) (t, back) q in (
+      a ∷ b ∷ c ∷ d ∷ e ∷ f ∷ g ∷ h ∷ i ∷ j ∷ k ∷ l ∷ [],
+      ap (λ (p : List ℕ × List ℕ). a ∷ b ∷ c ∷ d ∷ e ∷ f ∷ g ∷ h ∷ i ∷ j ∷ k ∷ l ∷ p.1) same,
+      record { twelve = refl; numbers = ap (λ (p : List ℕ × List ℕ). p.0) (sym same) },
+    )
+triple_gives [] t back q = absurd (found_not (List ℕ) (t, back) q)
+triple_gives (a ∷ []) t back q = absurd (found_not (List ℕ) (t, back) q)
+triple_gives (a ∷ b ∷ []) t back q = absurd (found_not (List ℕ) (t, back) q)
+triple_gives (a ∷ b ∷ c ∷ []) t back q = absurd (found_not (List ℕ) (t, back) q)
+triple_gives (a ∷ b ∷ c ∷ d ∷ []) t back q = absurd (found_not (List ℕ) (t, back) q)
+triple_gives (a ∷ b ∷ c ∷ d ∷ e ∷ []) t back q = absurd (found_not (List ℕ) (t, back) q)
+triple_gives (a ∷ b ∷ c ∷ d ∷ e ∷ f ∷ []) t back q = absurd (found_not (List ℕ) (t, back) q)
+triple_gives (a ∷ b ∷ c ∷ d ∷ e ∷ f ∷ g ∷ []) t back q = absurd (found_not (List ℕ) (t, back) q)
+triple_gives (a ∷ b ∷ c ∷ d ∷ e ∷ f ∷ g ∷ h ∷ []) t back q = absurd (found_not (List ℕ) (t, back) q)
+triple_gives (a ∷ b ∷ c ∷ d ∷ e ∷ f ∷ g ∷ h ∷ i ∷ []) t back q = absurd (found_not (List ℕ) (t, back) q)
+triple_gives (a ∷ b ∷ c ∷ d ∷ e ∷ f ∷ g ∷ h ∷ i ∷ j ∷ []) t back q = absurd (found_not (List ℕ) (t, back) q)
+triple_gives (a ∷ b ∷ c ∷ d ∷ e ∷ f ∷ g ∷ h ∷ i ∷ j ∷ k ∷ []) t back q = absurd (found_not (List ℕ) (t, back) q)
+
+pub IsTriple-reads : Reads IsTriple one_triple
+IsTriple-reads = record {
+  not_empty = λ t b p. let len : length b ≡ 12 = p.twelve in omega arith;
+  finds = triple_finds;
+  gives = triple_gives;
+}
+
+-- ---- segments
+
+segment_some : (code : ℕ) (numbers back : List ℕ) → 0 < length numbers → segment_of code (Some (numbers, back)) ≡ Some (record { code = code; numbers = numbers }, back)
+segment_some code [] back lt = absurd (omega arith)
+segment_some code (n ∷ numbers) back lt = refl
+
+segment_finds : (form : PathForm) (s : WireSegment) (front back : List ℕ) → IsSegment form s front → one_segment form (front ++ back) ≡ Some (s, back)
+unfolding one_segment
+segment_finds form s front back p =
+    ap (λ (x : List ℕ). one_segment form (x ++ back)) p.octets
+    ∙ rw (p.known, (BehindCount-reads ℕ (IsNumber form.wide) (one_number form.wide) (IsNumber-reads form.wide)).finds s.numbers p.behind back p.counted)
+    (segment_some s.code s.numbers back p.some)
+
+from_segment : (code : ℕ) (o : Option (List ℕ × List ℕ)) (s : WireSegment) (back : List ℕ) → segment_of code o ≡ Some (s, back)
+    → (o ≡ Some (s.numbers, back)) × (s.code ≡ code) × (0 < length s.numbers)
+from_segment code None s back e = absurd (found_not WireSegment (s, back) e)
+from_segment code (Some ([], rest)) s back e = absurd (found_not WireSegment (s, back) e)
+from_segment code (Some (n ∷ numbers, rest)) s back e =
+    let same = found_same WireSegment (record { code = code; numbers = n ∷ numbers }, rest) (s, back) e in
+    let row : n ∷ numbers ≡ s.numbers = ap (λ (p : WireSegment × List ℕ). p.0.numbers) same in
+    (ap (λ (p : WireSegment × List ℕ). Some (p.0.numbers, p.1)) same, ap (λ (p : WireSegment × List ℕ). p.0.code) (sym same), omega (arith, ap length row))
+
+gives_segment : (form : PathForm) (code : ℕ) (b : List ℕ) (s : WireSegment) (back : List ℕ) (t : Bool) → is_known form code ≡ t
+    → cond t (segment_of code (behind_count (one_number form.wide) b)) None ≡ Some (s, back)
+    → (front : List ℕ) × (code ∷ b ≡ front ++ back) × IsSegment form s front
+gives_segment form code b s back true known e =
+    let found = from_segment code (behind_count (one_number form.wide) b) s back e in
+    let gave = (BehindCount-reads ℕ (IsNumber form.wide) (one_number form.wide) (IsNumber-reads form.wide)).gives b s.numbers back found.0 in (
+      code ∷ gave.0,
+      ap (λ (x : List ℕ). code ∷ x) gave.1,
+      record { behind = gave.0; octets = ap (λ (n : ℕ). n ∷ gave.0) (sym found.1); known = ap (is_known form) found.1 ∙ known; some = found.2; counted = gave.2 },
+    )
+gives_segment form code b s back false known e = absurd (found_not WireSegment (s, back) e)
+
+segment_gives : (form : PathForm) (b : List ℕ) (s : WireSegment) (back : List ℕ) → one_segment form b ≡ Some (s, back)
+    → (front : List ℕ) × (b ≡ front ++ back) × IsSegment form s front
+unfolding one_segment
+segment_gives form [] s back e = absurd (found_not WireSegment (s, back) e)
+segment_gives form (code ∷ b) s back e = gives_segment form code b s back (is_known form code) refl e
+
+cons_some : (b : List ℕ) (x : ℕ) (later : List ℕ) → b ≡ x ∷ later → 0 < length b
+cons_some b x later e = omega (arith, ap length e)
+
+pub IsSegment-reads : (form : PathForm) → Reads (IsSegment form) (one_segment form)
+IsSegment-reads form = record {
+  not_empty = λ s b p. cons_some b s.code p.behind p.octets;
+  finds = segment_finds form;
+  gives = segment_gives form;
+}
+
+-- ---- attributes
+
+abbrev pub tlv_with : ℕ → ℕ → List ℕ → List ℕ → TlvValue
+tlv_with flags kind size value = record { flags = flags; kind = kind; whole = flags ∷ kind ∷ (size ++ value); value = value }
+
+with_value_finds : (flags kind n : ℕ) (size value back : List ℕ) → length value ≡ n → with_value flags kind size n (value ++ back) ≡ Some (tlv_with flags kind size value, back)
+with_value_finds flags kind n size value back len =
+    let fits : leb n (length (value ++ back)) ≡ true = le-leb _ _ (omega (arith, length-append value back)) in
+    rw (fits, take_at value back n len, drop_at value back n len) refl
+
+finds_tlv : (flags kind : ℕ) (size value back : List ℕ) (ext : Bool) → length size ≡ cond ext 2 1 → length value ≡ number_of_length size
+    → cond ext (behind_two_octets flags kind ((size ++ value) ++ back)) (behind_one_octet flags kind ((size ++ value) ++ back)) ≡ Some (tlv_with flags kind size value, back)
+finds_tlv flags kind (high ∷ low ∷ []) value back true wide counted = with_value_finds flags kind _ (high ∷ low ∷ []) value back counted
+finds_tlv flags kind [] value back true wide counted = absurd (omega arith)
+finds_tlv flags kind (high ∷ []) value back true wide counted = absurd (omega arith)
+finds_tlv flags kind (high ∷ low ∷ x ∷ size) value back true wide counted = absurd (omega arith)
+finds_tlv flags kind (n ∷ []) value back false wide counted = with_value_finds flags kind n (n ∷ []) value back counted
+finds_tlv flags kind [] value back false wide counted = absurd (omega arith)
+finds_tlv flags kind (n ∷ x ∷ size) value back false wide counted = absurd (omega arith)
+
+tlv_finds : (t : TlvValue) (front back : List ℕ) → IsTlv t front → one_tlv (front ++ back) ≡ Some (t, back)
+unfolding one_tlv
+tlv_finds t front back p =
+    let same : tlv_with t.flags t.kind p.size t.value ≡ t = ap (λ (w : List ℕ). record { flags = t.flags; kind = t.kind; whole = w; value = t.value }) (sym (p.whole ∙ p.octets)) in
+    ap (λ (x : List ℕ). one_tlv (x ++ back)) p.octets
+    ∙ finds_tlv t.flags t.kind p.size t.value back (is_extended t.flags) p.wide p.counted
+    ∙ ap (λ (u : TlvValue). Some (u, back)) same
+
+gives_value : (flags kind n : ℕ) (size b : List ℕ) (t : TlvValue) (back : List ℕ) (test : Bool) → leb n (length b) ≡ test → length size ≡ cond (is_extended flags) 2 1 → n ≡ number_of_length size
+    → cond test (found TlvValue (tlv_with flags kind size (take n b), drop n b)) None ≡ Some (t, back)
+    → (front : List ℕ) × (flags ∷ kind ∷ (size ++ b) ≡ front ++ back) × IsTlv t front
+gives_value flags kind n size b t back true fits wide n_is e =
+    let same = found_same TlvValue (tlv_with flags kind size (take n b), drop n b) (t, back) e in
+    let len : length (take n b) ≡ n = omega (arith, length-take n b, leb-true n (length b) fits) in
+    let split : size ++ b ≡ (size ++ take n b) ++ drop n b = ap (λ (x : List ℕ). size ++ x) (sym (take-append-drop n b)) ∙ sym (append_assoc size (take n b) (drop n b)) in
+    subst (λ (q : TlvValue × List ℕ). (front : List ℕ) × (flags ∷ kind ∷ (size ++ b) ≡ front ++ q.1) × IsTlv q.0 front) same (
+      flags ∷ kind ∷ (size ++ take n b),
+      ap (λ (x : List ℕ). flags ∷ kind ∷ x) split,
+      record { size = size; octets = refl; wide = wide; counted = len ∙ n_is; whole = refl },
+    )
+gives_value flags kind n size b t back false fits wide n_is e = absurd (found_not TlvValue (t, back) e)
+
+gives_tlv : (flags kind : ℕ) (b : List ℕ) (t : TlvValue) (back : List ℕ) (ext : Bool) → is_extended flags ≡ ext
+    → cond ext (behind_two_octets flags kind b) (behind_one_octet flags kind b) ≡ Some (t, back)
+    → (front : List ℕ) × (flags ∷ kind ∷ b ≡ front ++ back) × IsTlv t front
+gives_tlv flags kind (high ∷ low ∷ b) t back true is e =
+    gives_value flags kind (from_be_bytes w16 (high ∷ low ∷ [])) (high ∷ low ∷ []) b t back (leb (from_be_bytes w16 (high ∷ low ∷ [])) (length b)) refl (sym (ap (λ (x : Bool). cond x 2 1) is)) refl e
+gives_tlv flags kind [] t back true is e = absurd (found_not TlvValue (t, back) e)
+gives_tlv flags kind (high ∷ []) t back true is e = absurd (found_not TlvValue (t, back) e)
+gives_tlv flags kind (n ∷ b) t back false is e = gives_value flags kind n (n ∷ []) b t back (leb n (length b)) refl (sym (ap (λ (x : Bool). cond x 2 1) is)) refl e
+gives_tlv flags kind [] t back false is e = absurd (found_not TlvValue (t, back) e)
+
+tlv_gives : (b : List ℕ) (t : TlvValue) (back : List ℕ) → one_tlv b ≡ Some (t, back) → (front : List ℕ) × (b ≡ front ++ back) × IsTlv t front
+unfolding one_tlv
+tlv_gives [] t back e = absurd (found_not TlvValue (t, back) e)
+tlv_gives (flags ∷ []) t back e = absurd (found_not TlvValue (t, back) e)
+tlv_gives (flags ∷ kind ∷ b) t back e = gives_tlv flags kind b t back (is_extended flags) refl e
+
+pub IsTlv-reads : Reads IsTlv one_tlv
+IsTlv-reads = record {
+  not_empty = λ t b p. cons_some b t.flags (t.kind ∷ (p.size ++ t.value)) p.octets;
+  finds = tlv_finds;
+  gives = tlv_gives;
+}
