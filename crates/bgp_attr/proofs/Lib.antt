@@ -1,1 +1,4 @@
 pub mod Readers
+pub mod Tests
+pub mod FlagBits
+pub mod NumberRows
