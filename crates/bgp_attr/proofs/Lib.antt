@@ -2,3 +2,4 @@ pub mod Readers
 pub mod Tests
 pub mod FlagBits
 pub mod NumberRows
+pub mod OnceLemmas

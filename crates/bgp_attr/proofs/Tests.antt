@@ -75,9 +75,9 @@ pub data TypeCase (kind : ℕ) : Type 0 where
   OfOther : is_recognised kind ≡ false → TypeCase kind
 
 is_or_else : (P : Type 0) (kind k : ℕ) → (kind ≡ k → P) → (eqb kind k ≡ false → P) → P
-is_or_else P kind k yes no = elim (eqb_tells kind k) [
-  | inl same ↦ yes same.1
-  | inr other ↦ no other.0
+is_or_else P kind k so otherwise = elim (eqb_tells kind k) [
+  | inl same ↦ so same.1
+  | inr other ↦ otherwise other.0
 ]
 
 pub type_case : (kind : ℕ) → TypeCase kind

@@ -48,12 +48,20 @@ segments_of form b = pieces (one_segment form) b
 abbrev pub as_number : ℕ → AsNumber
 as_number n = record { 0 = n }
 
--- what is kept of a segment: those of confederations are dropped
+-- the types that are kept: segments of confederations are dropped
+abbrev pub kind_of_segment : ℕ → Option SegKind
+kind_of_segment code =
+    if code == SET then Some Set else (
+    if code == SEQUENCE then Some Seq else
+    None)
+
+abbrev pub segment_kept_as : Option SegKind → List ℕ → List Segment
+segment_kept_as None numbers = []
+segment_kept_as (Some kind) numbers = record { kind = kind; numbers = map as_number numbers } ∷ []
+
+-- what is kept of a segment
 abbrev pub kept_segment : WireSegment → List Segment
-kept_segment s =
-    if s.code == SET then record { kind = Set; numbers = map as_number s.numbers } ∷ [] else (
-    if s.code == SEQUENCE then record { kind = Seq; numbers = map as_number s.numbers } ∷ [] else
-    [])
+kept_segment s = segment_kept_as (kind_of_segment s.code) s.numbers
 
 -- the path that octets hold
 abbrev pub path_of : PathForm → List ℕ → AsPath
