@@ -3,3 +3,4 @@ pub mod Tests
 pub mod FlagBits
 pub mod NumberRows
 pub mod OnceLemmas
+pub mod SegmentRows
