@@ -1,7 +1,7 @@
 -- Rows of segments: what is written of a path is read back, and what is kept of a path that was read can be written.
 use Rattle.std.proofs.Common.{◌≡◌, ℕ, suc, ◌+◌, ◌*◌, ◌%◌, ◌^◌, ◌<◌, ◌≤◌, Bool, true, false, not, ◌||◌, ◌&&◌, cond, eqb, ltb, List, [], ◌∷◌, ◌++◌, length, map, Option, Some, None, refl, sym, ap, ap₂, subst, ◌∙◌, arith}
 use Rattle.std.specs.List.{flat_map, list_any, AllByRecursion}
-use Rattle.std.proofs.lemmas.Bool.{true≢false, or_parts, or_from, lt-ltb, le-ltb, ltb-false, eqb-false, ne_eqb}
+use Rattle.std.proofs.lemmas.Bool.{true≢false, or_parts, or_from, le-ltb, ltb-false, eqb-false, ne_eqb}
 use Rattle.std.proofs.lemmas.List.{length-append, length-map}
 use Rattle.std.proofs.lemmas.List.Concat.{flat_map-append}
 use Rattle.std.proofs.lemmas.List.Folds.{list_any-append}
@@ -19,7 +19,7 @@ use Rattle.bgp_attr.specs.declared.path_form.PathForm.{PathForm}
 use Rattle.bgp_attr.specs.declared.why.Why.{Why}
 use Rattle.bgp_attr.specs.declared.why.Why.TheVariants as why
 use Rattle.bgp_attr.specs.Numbers.{number_width, row_octets, IsNumber}
-use Rattle.bgp_attr.specs.Path.{WireSegment, is_known, IsSegment, one_segment, segments_of, as_number, kept_segment, path_of, segment_fault, path_fault, has_zero, path_has_zero}
+use Rattle.bgp_attr.specs.Path.{WireSegment, is_known, IsSegment, one_segment, segments_of, as_number, kind_of_segment, segment_kept_as, kept_segment, path_of, segment_fault, path_fault, has_zero, path_has_zero}
 use Rattle.bgp_attr.specs.Spelling.{IsPath}
 use Rattle.bgp_attr.specs.Written.{number_of, segment_code, segment_octets, path_octets, any_number, is_above_two_octets, is_zero, is_bad_segment, IsFourOctets, HasPathRanges}
 use Rattle.bgp_attr.proofs.Readers.{IsSegment-reads}
@@ -197,3 +197,84 @@ pub record Rewrites (wide : Bool) (ss : List Segment) (n : ℕ) : Type 0 where
   pub good : list_any is_bad_segment ss ≡ false
   pub nonzero : list_any (λ s. list_any (λ n. is_zero n.0) s.numbers) ss ≡ false
   pub shorter : length (flat_map (segment_octets wide) ss) ≤ n
+
+all-append : (P : Segment → Type 0) (xs ys : List Segment) → AllByRecursion P xs → AllByRecursion P ys → AllByRecursion P (xs ++ ys)
+all-append P [] ys p q = q
+all-append P (x ∷ xs) ys p q = (p.0, all-append P xs ys p.1 q)
+
+Rewrites-append : (wide : Bool) (xs ys : List Segment) (n m : ℕ) → Rewrites wide xs n → Rewrites wide ys m → Rewrites wide (xs ++ ys) (n + m)
+Rewrites-append wide xs ys n m p q = record {
+  ranges = all-append (λ (s : Segment). AllByRecursion (λ n. IsFourOctets n.0) s.numbers) xs ys p.ranges q.ranges;
+  low = λ e. list_any-append has_high xs ys ∙ or_from _ _ (p.low e) (q.low e);
+  good = list_any-append is_bad_segment xs ys ∙ or_from _ _ p.good q.good;
+  nonzero = list_any-append (λ (s : Segment). list_any (λ n. is_zero n.0) s.numbers) xs ys ∙ or_from _ _ p.nonzero q.nonzero;
+  shorter = omega (arith, ap length (flat_map-append (segment_octets wide) xs ys), length-append (flat_map (segment_octets wide) xs) (flat_map (segment_octets wide) ys), p.shorter, q.shorter);
+}
+
+Rewrites-none : (wide : Bool) (n : ℕ) → Rewrites wide [] n
+Rewrites-none wide n = record { ranges = tt; low = λ e. refl; good = refl; nonzero = refl; shorter = omega arith }
+
+four-octets : (wide : Bool) (ns : List ℕ) → AllByRecursion (Fits wide) ns → AllByRecursion (λ n. IsFourOctets n.0) (map as_number ns)
+four-octets wide [] fit = tt
+four-octets wide (n ∷ ns) fit = (Fits-four wide n fit.0, four-octets wide ns fit.1)
+
+none-high : (ns : List ℕ) → AllByRecursion (Fits false) ns → list_any (λ n. is_above_two_octets n.0) (map as_number ns) ≡ false
+none-high [] fit = refl
+none-high (n ∷ ns) fit =
+    let small : n < 2 ^ 16 = fit.0 in
+    or_from (ltb 65535 n) (list_any (λ (m : AsNumber). is_above_two_octets m.0) (map as_number ns)) (le-ltb 65535 n (omega arith)) (none-high ns fit.1)
+
+low-numbers : (wide : Bool) (ns : List ℕ) → AllByRecursion (Fits wide) ns → wide ≡ false → list_any (λ n. is_above_two_octets n.0) (map as_number ns) ≡ false
+low-numbers true ns fit e = absurd (true≢false e)
+low-numbers false ns fit e = none-high ns fit
+
+none-zero : (ns : List ℕ) → list_any (λ n. eqb n 0) ns ≡ list_any (λ n. is_zero n.0) (map as_number ns)
+none-zero [] = refl
+none-zero (n ∷ ns) = ap (λ (t : Bool). eqb n 0 || t) (none-zero ns)
+
+-- one segment, of a type that is kept
+rewritten-at : (form : PathForm) (s : WireSegment) (b : List ℕ) → AreOctets b → IsSegment form s b → has_zero s ≡ false → (kind : SegKind)
+    → Rewrites form.wide (record { kind = kind; numbers = map as_number s.numbers } ∷ []) (length b)
+rewritten-at form s b octets p zeros kind =
+    let seg : Segment = record { kind = kind; numbers = map as_number s.numbers } in
+    let behind : AreOctets p.behind = λ i. subst AreOctets p.octets octets (suc i) in
+    let counted : AreOctets (length s.numbers ∷ (p.counted).row) = subst AreOctets (p.counted).octets behind in
+    let row : AreOctets (p.counted).row = λ i. counted (suc i) in
+    let few : length s.numbers < 256 = counted 0 in
+    let fit : AllByRecursion (Fits form.wide) s.numbers = number_row-small form.wide s.numbers (p.counted).row row (p.counted).spelled in
+    let as_many : length (map as_number s.numbers) ≡ length s.numbers = length-map s.numbers as_number in
+    let some : 0 < length s.numbers = p.some in
+    let wide_row : length (p.counted).row ≡ number_width form.wide * length s.numbers = length-number_row form.wide s.numbers (p.counted).row (p.counted).spelled in
+    let whole : length b ≡ 2 + number_width form.wide * length s.numbers = ap length p.octets ∙ ap suc (ap length (p.counted).octets) ∙ omega (arith, wide_row) in
+    let again : length (segment_octets form.wide seg ++ []) ≡ 2 + number_width form.wide * length s.numbers =
+        length-append (segment_octets form.wide seg) [] ∙ omega (arith, length-segment form.wide seg, ap (λ (k : ℕ). number_width form.wide * k) as_many) in
+    record {
+      ranges = (four-octets form.wide s.numbers fit, tt);
+      low = λ e. or_from _ _ (low-numbers form.wide s.numbers fit e) refl;
+      good = or_from _ _ (or_from _ _ (ne_eqb _ 0 (λ (e : length (map as_number s.numbers) ≡ 0). absurd (omega arith))) (le-ltb 255 _ (omega arith))) refl;
+      nonzero = or_from _ _ (sym (none-zero s.numbers) ∙ zeros) refl;
+      shorter = omega (arith, again, whole);
+    }
+
+rewritten-as : (form : PathForm) (s : WireSegment) (b : List ℕ) → AreOctets b → IsSegment form s b → has_zero s ≡ false → (kept : Option SegKind)
+    → Rewrites form.wide (segment_kept_as kept s.numbers) (length b)
+rewritten-as form s b octets p zeros None = Rewrites-none form.wide (length b)
+rewritten-as form s b octets p zeros (Some kind) = rewritten-at form s b octets p zeros kind
+
+rewritten-one : (form : PathForm) (s : WireSegment) (b : List ℕ) → AreOctets b → IsSegment form s b → has_zero s ≡ false → Rewrites form.wide (kept_segment s) (length b)
+rewritten-one form s b octets p zeros = rewritten-as form s b octets p zeros (kind_of_segment s.code)
+
+pub row-rewrites : (form : PathForm) (segments : List WireSegment) (b : List ℕ) → AreOctets b → Row (IsSegment form) segments b → list_any has_zero segments ≡ false
+    → Rewrites form.wide (flat_map kept_segment segments) (length b)
+row-rewrites form [] b octets row zeros = Rewrites-none form.wide (length b)
+row-rewrites form (s ∷ segments) b octets row zeros =
+    let joined : AreOctets (row.0 ++ row.1) = subst AreOctets row.2 octets in
+    let p = or_parts (has_zero s) (list_any has_zero segments) zeros in
+    let both = Rewrites-append form.wide (kept_segment s) (flat_map kept_segment segments) (length row.0) (length row.1)
+        (rewritten-one form s row.0 (AreOctets-front row.0 row.1 joined) row.3 p.0) (row-rewrites form segments row.1 (AreOctets-back row.0 row.1 joined) row.4 p.1) in
+    let whole : length row.0 + length row.1 ≡ length b = sym (ap length row.2 ∙ length-append row.0 row.1) in
+    subst (λ (n : ℕ). Rewrites form.wide (kept_segment s ++ flat_map kept_segment segments) n) whole both
+
+-- the path that octets without a fault and without an AS number 0 hold
+pub path-rewrites : (form : PathForm) (b : List ℕ) → AreOctets b → path_fault form b ≡ None → path_has_zero form b ≡ false → Rewrites form.wide (path_of form b).segments (length b)
+path-rewrites form b octets fault zeros = row-rewrites form (segments_of form b).0 b octets (fault-row form b fault) zeros
