@@ -1,5 +1,5 @@
 -- The bits of a flags octet that is written.
-use Rattle.std.proofs.Common.{◌≡◌, ◌<◌, ◌^◌, ℕ, Bool, true, false, refl, lit<}
+use Rattle.std.proofs.Common.{◌≡◌, ◌<◌, ◌^◌, ℕ, Bool, true, false, cond, refl, lit<}
 use Rattle.bgp_attr.specs.declared.class.Class.{Class}
 use Rattle.bgp_attr.specs.declared.class.Class.TheVariants.{WellKnown, OptionalNonTransitive, OptionalTransitive}
 use Rattle.bgp_attr.specs.Flags.{is_optional, is_transitive, is_partial, is_extended, has_class, flags_octet}
@@ -62,8 +62,7 @@ flags_octet-small OptionalTransitive false false = lit< tt
 
 -- of an optional attribute: transitive or not
 abbrev pub optional_class : Bool → Class
-optional_class true = OptionalTransitive
-optional_class false = OptionalNonTransitive
+optional_class transitive = cond transitive OptionalTransitive OptionalNonTransitive
 
 pub is_optional-flags : (transitive partial extended : Bool) → is_optional (flags_octet (optional_class transitive) partial extended) ≡ true
 is_optional-flags true true true = refl

@@ -4,3 +4,4 @@ pub mod FlagBits
 pub mod NumberRows
 pub mod OnceLemmas
 pub mod SegmentRows
+pub mod ReadBack

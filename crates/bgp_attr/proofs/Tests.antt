@@ -2,7 +2,7 @@
 -- reasons why an attribute isn't written, in theirs.
 use Rattle.std.proofs.Common.{◌≡◌, ℕ, Bool, true, false, ◌||◌, ◌&&◌, cond, eqb, List, [], ◌∷◌, Option, Some, None, inl, inr, refl, sym, ap, ◌∙◌}
 use Rattle.std.specs.Prelude.{option_map, is_none}
-use Rattle.std.specs.List.{list_any}
+use Rattle.std.specs.List.{list_any, AllByRecursion}
 use Rattle.std.proofs.lemmas.Bool.{true≢false, false≢true, or_parts}
 use Rattle.std.proofs.lemmas.Bool.Decides.{eqb_tells}
 use Rattle.bgp_numbers.specs.declared.attribute.TheConstants.{ORIGIN, AS_PATH, NEXT_HOP, MULTI_EXIT_DISC, LOCAL_PREF, ATOMIC_AGGREGATE, AGGREGATOR, COMMUNITIES, MP_REACH_NLRI, MP_UNREACH_NLRI, AS4_PATH, AS4_AGGREGATOR, LARGE_COMMUNITY}
@@ -23,37 +23,39 @@ use Rattle.bgp_attr.specs.Written.{is_too_wide, is_as4, is_empty, is_misnamed, h
 
 -- ---- tests in their order
 
-module _ (tests : List (Option Refusal)) where
-  -- a test that doesn't apply is passed
-  pub pass : (b : Bool) (r : Refusal) → b ≡ false → first_refusal tests ≡ None → first_refusal (when b r ∷ tests) ≡ None
-  pass false r e more = more
-  pass true r e more = absurd (true≢false e)
+-- none of the tests applies
+abbrev pub NoneApplies : List (Option Refusal) → Type 0
+NoneApplies tests = AllByRecursion (λ o. o ≡ None) tests
 
-  pub passes : (b : Bool) (r : Refusal) → first_refusal (when b r ∷ tests) ≡ None → (b ≡ false) × (first_refusal tests ≡ None)
-  passes false r e = (refl, e)
-  passes true r e = absurd cc
+pub none-first : (tests : List (Option Refusal)) → NoneApplies tests → first_refusal tests ≡ None
+none-first [] none = refl
+none-first (None ∷ tests) none = none-first tests none.1
+none-first (Some r ∷ tests) none = absurd (let is : Some r ≡ None = none.0 in cc)
 
-  -- and so is one that finds no fault
-  pub pass_fault : (f : Why → Refusal) (o : Option Why) → o ≡ None → first_refusal tests ≡ None → first_refusal (option_map f o ∷ tests) ≡ None
-  pass_fault f None e more = more
-  pass_fault f (Some w) e more = absurd cc
+pub first-none : (tests : List (Option Refusal)) → first_refusal tests ≡ None → NoneApplies tests
+first-none [] e = tt
+first-none (None ∷ tests) e = (refl, first-none tests e)
+first-none (Some r ∷ tests) e = absurd cc
 
-  pub passes_fault : (f : Why → Refusal) (o : Option Why) → first_refusal (option_map f o ∷ tests) ≡ None → (o ≡ None) × (first_refusal tests ≡ None)
-  passes_fault f None e = (refl, e)
-  passes_fault f (Some w) e = absurd cc
+pub pass : (b : Bool) (r : Refusal) → b ≡ false → when b r ≡ None
+pass b r e = ap (λ (t : Bool). when t r) e
 
-  -- where all are passed the value is kept, and only there
-  pub decided-keep : (a : Attr) → first_refusal tests ≡ None → decided tests a ≡ judged.Keep a
-  decided-keep a e = ap (λ (r : Option Refusal). unless_refused r a) e
+pub passed : (b : Bool) (r : Refusal) → when b r ≡ None → b ≡ false
+passed false r e = refl
+passed true r e = absurd cc
+
+pub pass_fault : (f : Why → Refusal) (o : Option Why) → o ≡ None → option_map f o ≡ None
+pass_fault f o e = ap (λ (x : Option Why). option_map f x) e
+
+pub passed_fault : (f : Why → Refusal) (o : Option Why) → option_map f o ≡ None → o ≡ None
+passed_fault f None e = refl
+passed_fault f (Some w) e = absurd cc
 
 unless-keep : (r : Option Refusal) (a b : Attr) → unless_refused r a ≡ judged.Keep b → (r ≡ None) × (a ≡ b)
 unless-keep None a b e = (refl, cc)
 unless-keep (Some (Discard w)) a b e = absurd cc
 unless-keep (Some (Withdraw w)) a b e = absurd cc
 unless-keep (Some (Reset n)) a b e = absurd cc
-
-pub keep-decided : (tests : List (Option Refusal)) (a b : Attr) → decided tests a ≡ judged.Keep b → (first_refusal tests ≡ None) × (a ≡ b)
-keep-decided tests a b e = unless-keep (first_refusal tests) a b e
 
 -- ---- which type it is
 
@@ -235,16 +237,20 @@ module _ (ctx : Context) (t : TlvValue) where
     ∷ (eqb t.kind LARGE_COMMUNITY, attr.Large (large_of t)) ∷ []
   ) (attr.Opaque (opaque_of t)) e
 
--- the value is kept where its tests are passed, and only there
+-- the value is kept where none of its tests applies, and only there
 pub judgement-keep : (ctx : Context) (has_nlri : Bool) (t : TlvValue) (tests : List (Option Refusal)) (a : Attr) → tests_of ctx has_nlri t ≡ tests → value_of ctx t ≡ a
-    → first_refusal tests ≡ None → judgement ctx has_nlri t ≡ judged.Keep a
-judgement-keep ctx has_nlri t tests a ts v e =
-    ap (λ (x : Attr). decided (tests_of ctx has_nlri t) x) v ∙ ap (λ (x : List (Option Refusal)). decided x a) ts ∙ decided-keep tests a e
+    → NoneApplies tests → judgement ctx has_nlri t ≡ judged.Keep a
+judgement-keep ctx has_nlri t tests a ts v none =
+    ap (λ (x : Attr). decided (tests_of ctx has_nlri t) x) v ∙ ap (λ (x : List (Option Refusal)). decided x a) ts
+    ∙ ap (λ (r : Option Refusal). unless_refused r a) (none-first tests none)
 
-pub keep-judgement : (ctx : Context) (has_nlri : Bool) (t : TlvValue) (tests : List (Option Refusal)) (a b : Attr) → tests_of ctx has_nlri t ≡ tests → value_of ctx t ≡ a
-    → judgement ctx has_nlri t ≡ judged.Keep b → (first_refusal tests ≡ None) × (a ≡ b)
-keep-judgement ctx has_nlri t tests a b ts v e =
-    keep-decided tests a b (ap (λ (x : List (Option Refusal)). decided x a) (sym ts) ∙ ap (λ (x : Attr). decided (tests_of ctx has_nlri t) x) (sym v) ∙ e)
+pub keep-judgement : (ctx : Context) (has_nlri : Bool) (t : TlvValue) (tests : List (Option Refusal)) (a : Attr) → tests_of ctx has_nlri t ≡ tests
+    → judgement ctx has_nlri t ≡ judged.Keep a → NoneApplies tests
+keep-judgement ctx has_nlri t tests a ts e =
+    first-none tests (ap first_refusal (sym ts) ∙ (unless-keep (first_refusal (tests_of ctx has_nlri t)) (value_of ctx t) a e).0)
+
+pub keep-value : (ctx : Context) (has_nlri : Bool) (t : TlvValue) (a : Attr) → judgement ctx has_nlri t ≡ judged.Keep a → value_of ctx t ≡ a
+keep-value ctx has_nlri t a e = (unless-keep (first_refusal (tests_of ctx has_nlri t)) (value_of ctx t) a e).1
 
 -- ---- what is written
 

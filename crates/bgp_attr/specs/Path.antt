@@ -63,9 +63,13 @@ segment_kept_as (Some kind) numbers = record { kind = kind; numbers = map as_num
 abbrev pub kept_segment : WireSegment → List Segment
 kept_segment s = segment_kept_as (kind_of_segment s.code) s.numbers
 
+-- what is kept of the segments that octets begin with
+abbrev pub kept_segments_of : PathForm → List ℕ → List Segment
+kept_segments_of form b = flat_map kept_segment (segments_of form b).0
+
 -- the path that octets hold
 abbrev pub path_of : PathForm → List ℕ → AsPath
-path_of form b = record { segments = flat_map kept_segment (segments_of form b).0 }
+path_of form b = record { segments = kept_segments_of form b }
 
 -- why no segment stands at the front of what is left, where something is
 abbrev pub segment_fault : PathForm → List ℕ → Option Why
