@@ -5,3 +5,4 @@ pub mod NumberRows
 pub mod OnceLemmas
 pub mod SegmentRows
 pub mod ReadBack
+pub mod RouteRows
