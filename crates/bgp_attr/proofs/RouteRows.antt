@@ -126,3 +126,147 @@ pub reach4-value : (hop : List ℕ) (routes : List PrefixValue) (b : List ℕ) �
 reach4-value hop routes b four s =
     let first : take 4 (next_hop_of b) ≡ hop = ap (take 4) (reach-hop family.Ip4 4 hop routes b s) ∙ take_at hop (s.reserved ∷ s.row) 4 four in
     rw (reach-family family.Ip4 4 hop routes b s) (ap₂ (λ (x : List ℕ) (ps : List PrefixValue). reach.Ip4 x ps) first (reach-run family.Ip4 4 hop routes b s))
+
+-- the second address of a next hop
+link-back : (hop : List ℕ) (link : Option (List ℕ)) (rest : List ℕ) (n : ℕ) → length hop ≡ 16 → HasLink link → n ≡ length (hop ++ link_octets link)
+    → cond (eqb n 32) (Some (take 16 (drop 16 ((hop ++ link_octets link) ++ rest)))) None ≡ link
+link-back hop None rest n wide has is =
+    let other : eqb n 32 ≡ false = ne_eqb n 32 (λ (e : n ≡ 32). absurd (omega (arith, length-append hop []))) in
+    rw other refl
+link-back hop (Some addr) rest n wide has is =
+    let sixteen : length addr ≡ 16 = has.wide in
+    let both : eqb n 32 ≡ true = eq-eqb n 32 (omega (arith, length-append hop addr)) in
+    let behind : drop 16 ((hop ++ addr) ++ rest) ≡ addr ++ rest = ap (drop 16) (append_assoc hop addr rest) ∙ drop_at hop (addr ++ rest) 16 wide in
+    let second : take 16 (drop 16 ((hop ++ addr) ++ rest)) ≡ addr = ap (take 16) behind ∙ take_at addr rest 16 sixteen in
+    rw both (ap (λ (x : List ℕ). Some x) second)
+
+same-reach6 : (x y : List ℕ) (l m : Option (List ℕ)) (ps qs : List PrefixValue) → x ≡ y → l ≡ m → ps ≡ qs → reach.Ip6 x l ps ≡ reach.Ip6 y m qs
+same-reach6 x y l m ps qs e f g = rw (e, f, g) refl
+
+pub reach6-value : (hop : List ℕ) (link : Option (List ℕ)) (routes : List PrefixValue) (b : List ℕ) → length hop ≡ 16 → HasLink link → IsReach IPV6 16 (hop ++ link_octets link) routes b
+    → mp_reach_of b ≡ reach.Ip6 hop link routes
+reach6-value hop link routes b wide has s =
+    let all : List ℕ = hop ++ link_octets link in
+    let after : List ℕ = s.reserved ∷ s.row in
+    let behind : next_hop_of b ≡ (hop ++ link_octets link) ++ (s.reserved ∷ s.row) = reach-hop family.Ip6 16 (hop ++ link_octets link) routes b s in
+    let first : take 16 (next_hop_of b) ≡ hop =
+        ap (take 16) (behind ∙ append_assoc hop (link_octets link) (s.reserved ∷ s.row)) ∙ take_at hop (link_octets link ++ (s.reserved ∷ s.row)) 16 wide in
+    let second : cond (eqb (next_hop_length b) 32) (Some (take 16 (drop 16 (next_hop_of b)))) None ≡ link =
+        ap (λ (x : List ℕ). cond (eqb (next_hop_length b) 32) (Some (take 16 (drop 16 x))) None) behind
+        ∙ link-back hop link (s.reserved ∷ s.row) (next_hop_length b) wide has (reach-hop_length family.Ip6 16 (hop ++ link_octets link) routes b s) in
+    rw (reach-family family.Ip6 16 (hop ++ link_octets link) routes b s) (same-reach6 _ _ _ _ _ _ first second (reach-run family.Ip6 16 (hop ++ link_octets link) routes b s))
+
+-- the octets that are written spell the routes
+pub reach_row-spells : (f : Family) (width : ℕ) (hop : List ℕ) (routes : List PrefixValue) → AllByRecursion (IsValid width) routes → IsReach (afi_number f) width hop routes (reach_row (afi_number f) hop routes)
+reach_row-spells f width hop routes valid = record { reserved = 0; row = run_octets routes; octets = refl; prefixes = Row-prefixes width routes valid }
+
+-- ---- routes that are withdrawn
+
+module _ (f : Family) (width : ℕ) (routes : List PrefixValue) (b : List ℕ) (s : IsUnreach (afi_number f) width routes b) where
+  pub unreach-family : family_of b ≡ Some f
+  unreach-family = ap family_of s.octets ∙ at f
+    where
+      at : (f : Family) → family_of (to_be_bytes w16 (afi_number f) ++ (UNICAST ∷ s.row)) ≡ Some f
+      at family.Ip4 = refl
+      at family.Ip6 = refl
+
+  pub unreach-rest : withdrawn_of b ≡ s.row
+  unreach-rest = ap withdrawn_of s.octets
+
+  pub unreach-run : (run_of width (withdrawn_of b)).0 ≡ routes
+  unreach-run = ap (λ (x : List ℕ). (run_of width x).0) unreach-rest ∙ ap (λ (q : List PrefixValue × List ℕ). q.0) (row_is_run width routes s.row s.prefixes)
+
+  pub unreach-good : has_bad_prefix width (withdrawn_of b) ≡ false
+  unreach-good = ap (has_bad_prefix width) unreach-rest ∙ good-run width s.row routes s.prefixes
+
+  pub unreach-long : ltb (length b) 3 ≡ false
+  unreach-long = le-ltb _ 3 (omega (arith, ap length s.octets))
+
+pub unreach4-value : (routes : List PrefixValue) (b : List ℕ) → IsUnreach IPV4 4 routes b → mp_unreach_of b ≡ unreach.Ip4 routes
+unreach4-value routes b s = rw (unreach-family family.Ip4 4 routes b s) (ap (λ (ps : List PrefixValue). unreach.Ip4 ps) (unreach-run family.Ip4 4 routes b s))
+
+pub unreach6-value : (routes : List PrefixValue) (b : List ℕ) → IsUnreach IPV6 16 routes b → mp_unreach_of b ≡ unreach.Ip6 routes
+unreach6-value routes b s = rw (unreach-family family.Ip6 16 routes b s) (ap (λ (ps : List PrefixValue). unreach.Ip6 ps) (unreach-run family.Ip6 16 routes b s))
+
+pub unreach_row-spells : (f : Family) (width : ℕ) (routes : List PrefixValue) → AllByRecursion (IsValid width) routes → IsUnreach (afi_number f) width routes (unreach_row (afi_number f) routes)
+unreach_row-spells f width routes valid = record { row = run_octets routes; octets = refl; prefixes = Row-prefixes width routes valid }
+
+-- ---- from octets
+
+first_of : (l : List ℕ) → 0 < length l → (x : ℕ) × (xs : List ℕ) × (l ≡ x ∷ xs)
+first_of [] some = absurd (omega arith)
+first_of (x ∷ xs) some = (x, xs, refl)
+
+-- the octets behind the reserved one
+rest-at : (a b c : ℕ) (hop : List ℕ) (reserved : ℕ) (row : List ℕ) → drop (5 + length hop) (a ∷ b ∷ c ∷ length hop ∷ (hop ++ (reserved ∷ row))) ≡ row
+rest-at a b c hop reserved row =
+    let long : length (a ∷ b ∷ c ∷ length hop ∷ (hop ++ reserved ∷ [])) ≡ 5 + length hop = omega (arith, length-append hop (reserved ∷ [])) in
+    ap (λ (x : List ℕ). drop (5 + length hop) (a ∷ b ∷ c ∷ length hop ∷ x)) (sym (append_assoc hop (reserved ∷ []) row))
+    ∙ drop_at (a ∷ b ∷ c ∷ length hop ∷ (hop ++ reserved ∷ [])) row (5 + length hop) long
+
+-- the next hop, as many octets as its length says
+abbrev pub hop_in : List ℕ → List ℕ
+hop_in value = take (next_hop_length value) (next_hop_of value)
+
+pub hop_in-length : (value : List ℕ) → 5 + next_hop_length value ≤ length value → length (hop_in value) ≡ next_hop_length value
+hop_in-length value longer = omega (arith, length-take (next_hop_length value) (next_hop_of value), length-drop 4 value)
+
+pub octets-reach : (f : Family) (width : ℕ) (value : List ℕ) → AreOctets value → family_of value ≡ Some f → 5 ≤ length value → 5 + next_hop_length value ≤ length value
+    → has_bad_prefix width (reached_of value) ≡ false → IsReach (afi_number f) width (hop_in value) (run_of width (reached_of value)).0 value
+octets-reach f width (a ∷ b ∷ c ∷ d ∷ rest) octets e long longer good =
+    let wide : length (take d rest) ≡ d = omega (arith, length-take d rest) in
+    let more = first_of (drop d rest) (omega (arith, length-drop d rest)) in
+    let split : rest ≡ take d rest ++ (more.0 ∷ more.1) = sym (take-append-drop d rest) ∙ ap (λ (x : List ℕ). take d rest ++ x) more.2 in
+    let all : a ∷ b ∷ c ∷ d ∷ rest ≡ a ∷ b ∷ c ∷ length (take d rest) ∷ (take d rest ++ (more.0 ∷ more.1)) = ap₂ (λ (n : ℕ) (x : List ℕ). a ∷ b ∷ c ∷ n ∷ x) (sym wide) split in
+    let behind : reached_of (a ∷ b ∷ c ∷ d ∷ rest) ≡ more.1 =
+        ap (λ (n : ℕ). drop (5 + n) (a ∷ b ∷ c ∷ d ∷ rest)) (sym wide) ∙ ap (drop (5 + length (take d rest))) all ∙ rest-at a b c (take d rest) more.0 more.1 in
+    record {
+      reserved = more.0;
+      row = more.1;
+      octets = family-front a b c (d ∷ rest) f octets e ∙ ap₂ (λ (n : ℕ) (x : List ℕ). to_be_bytes w16 (afi_number f) ++ (UNICAST ∷ n ∷ x)) (sym wide) split;
+      prefixes = subst (λ (x : List ℕ). Row (IsPrefix width) (run_of width (reached_of (a ∷ b ∷ c ∷ d ∷ rest))).0 x) behind (run-whole width (reached_of (a ∷ b ∷ c ∷ d ∷ rest)) good);
+    }
+octets-reach f width [] octets e long longer good = absurd (omega arith)
+octets-reach f width (a ∷ []) octets e long longer good = absurd (omega arith)
+octets-reach f width (a ∷ b ∷ []) octets e long longer good = absurd (omega arith)
+octets-reach f width (a ∷ b ∷ c ∷ []) octets e long longer good = absurd (omega arith)
+
+pub octets-unreach : (f : Family) (width : ℕ) (value : List ℕ) → AreOctets value → family_of value ≡ Some f → 3 ≤ length value → has_bad_prefix width (withdrawn_of value) ≡ false
+    → IsUnreach (afi_number f) width (run_of width (withdrawn_of value)).0 value
+octets-unreach f width (a ∷ b ∷ c ∷ rest) octets e long good =
+    record { row = rest; octets = family-front a b c rest f octets e; prefixes = run-whole width rest good }
+octets-unreach f width [] octets e long good = absurd (omega arith)
+octets-unreach f width (a ∷ []) octets e long good = absurd (omega arith)
+octets-unreach f width (a ∷ b ∷ []) octets e long good = absurd (omega arith)
+
+-- ---- what is read can be written, in as many octets
+
+module _ (f : Family) (width : ℕ) (hop : List ℕ) (routes : List PrefixValue) (b : List ℕ) (octets : AreOctets b) (s : IsReach (afi_number f) width hop routes b) where
+  behind_hop : AreOctets (hop ++ (s.reserved ∷ s.row))
+  behind_hop = subst AreOctets (reach-hop f width hop routes b s) (AreOctets-drop 4 b octets)
+
+  row_octets : AreOctets s.row
+  row_octets i = AreOctets-back hop (s.reserved ∷ s.row) behind_hop (suc i)
+
+  pub reach-hop_octets : AreOctets hop
+  reach-hop_octets = AreOctets-front hop (s.reserved ∷ s.row) behind_hop
+
+  pub reach-valid : AllByRecursion (IsValid width) routes
+  reach-valid = prefixes-valid width routes s.row row_octets s.prefixes
+
+  pub reach-rewritten : length (reach_row (afi_number f) hop routes) ≡ length b
+  reach-rewritten =
+      let again : length (run_octets routes) ≡ length s.row = (Row-rewritten width routes s.row row_octets s.prefixes).1 in
+      omega (arith, length-append hop (0 ∷ run_octets routes), reach-length f width hop routes b s, again)
+
+module _ (f : Family) (width : ℕ) (routes : List PrefixValue) (b : List ℕ) (octets : AreOctets b) (s : IsUnreach (afi_number f) width routes b) where
+  gone_octets : AreOctets s.row
+  gone_octets = subst AreOctets (unreach-rest f width routes b s) (AreOctets-drop 3 b octets)
+
+  pub unreach-valid : AllByRecursion (IsValid width) routes
+  unreach-valid = prefixes-valid width routes s.row gone_octets s.prefixes
+
+  pub unreach-rewritten : length (unreach_row (afi_number f) routes) ≡ length b
+  unreach-rewritten =
+      let again : length (run_octets routes) ≡ length s.row = (Row-rewritten width routes s.row gone_octets s.prefixes).1 in
+      omega (arith, again, ap length s.octets)
