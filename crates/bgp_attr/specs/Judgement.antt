@@ -154,11 +154,14 @@ tests_of ctx has_nlri t =
 
 -- ---- the answer
 
+abbrev pub refusal_judged : Refusal → Judged
+refusal_judged (Discard w) = judged.Discard w
+refusal_judged (Withdraw w) = judged.Withdraw w
+refusal_judged (Reset notification) = judged.Reset notification
+
 abbrev pub unless_refused : Option Refusal → Attr → Judged
 unless_refused None a = judged.Keep a
-unless_refused (Some (Discard w)) a = judged.Discard w
-unless_refused (Some (Withdraw w)) a = judged.Withdraw w
-unless_refused (Some (Reset notification)) a = judged.Reset notification
+unless_refused (Some refusal) a = refusal_judged refusal
 
 -- the answer of the first test that applies, else the value is kept
 abbrev pub decided : List (Option Refusal) → Attr → Judged
