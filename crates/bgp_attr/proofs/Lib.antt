@@ -6,3 +6,4 @@ pub mod OnceLemmas
 pub mod SegmentRows
 pub mod ReadBack
 pub mod RouteRows
+pub mod Kept
