@@ -102,7 +102,7 @@ module _ (b : List ℕ) (at : ℕ) where
     step =
         ap (once_behind (triples_of (take at b))) (triple_then (drop at b) t rest e)
         ∙ ap₂ (λ (before : List (List ℕ)) (c : List ℕ). cond (list_any (same_triple t) (triples_of (take at b))) (once_behind before (triples_of c)) (t ∷ once_behind before (triples_of c)))
-            (ap (λ (q : List (List ℕ) × List ℕ). q.0) (sym row_more)) (sym dropped_more)
+        (ap (λ (q : List (List ℕ) × List ℕ). q.0) (sym row_more)) (sym dropped_more)
 
     pub seen_before : true ≡ list_any (same_triple t) (triples_of (take at b)) → new_from b at ≡ new_from b (at + 12)
     seen_before seen = step ∙ ap (λ (s : Bool). cond s (new_from b (at + 12)) (t ∷ new_from b (at + 12))) (sym seen)

@@ -8,3 +8,11 @@ pub mod SegmentSteps
 pub mod LargeSteps
 pub mod Aggregators
 pub mod Runs
+pub mod Tests
+pub mod FlagBits
+pub mod NumberRows
+pub mod OnceLemmas
+pub mod SegmentRows
+pub mod ReadBack
+pub mod RouteRows
+pub mod Kept

@@ -68,13 +68,12 @@ module _ (wide : Bool) where
       let len : length x ≡ k = omega (arith, length-take k b) in
       let later = counted n (n * k) y refl (omega (arith, length-drop k b)) in
       let front : take t b ≡ x ++ take (n * k) y =
-          ap₂ (λ (m : ℕ) (c : List ℕ). take m c) (more ∙ ap (λ (m : ℕ). m + n * k) (sym len)) (sym (take-append-drop k b)) ∙ take-append-add x y (n * k) in
+      ap₂ (λ (m : ℕ) (c : List ℕ). take m c) (more ∙ ap (λ (m : ℕ). m + n * k) (sym len)) (sym (take-append-drop k b)) ∙ take-append-add x y (n * k) in
       let numbers : numbers_of wide (take t b) ≡ number_in wide x ∷ numbers_of wide (take (n * k) y) = ap (numbers_of wide) front ∙ number_with x (take (n * k) y) len in
-      let back : drop (n * k) y ≡ drop t b = drop-drop (n * k) k b ∙ ap (λ (m : ℕ). drop m b) (sym more) in
-      (
+      let back : drop (n * k) y ≡ drop t b = drop-drop (n * k) k b ∙ ap (λ (m : ℕ). drop m b) (sym more) in (
         ap (then_pieces b (pieces_within n (one_number wide))) (number_there wide b (omega arith))
-        ∙ ap (λ (q : List ℕ × List ℕ). (number_in wide x ∷ q.0, q.1)) later.0
-        ∙ ap₂ (λ (ns c : List ℕ). (ns, c)) (sym numbers) back,
+            ∙ ap (λ (q : List ℕ × List ℕ). (number_in wide x ∷ q.0, q.1)) later.0
+            ∙ ap₂ (λ (ns c : List ℕ). (ns, c)) (sym numbers) back,
         ap length numbers ∙ ap suc later.1,
       )
 
@@ -86,7 +85,7 @@ module _ (wide : Bool) where
         | inr there ↦
             let later = too_few n (drop (number_width wide) b) (omega (arith, length-drop (number_width wide) b, one_more wide n)) in
             let one : length (pieces_within (suc n) (one_number wide) b).0 ≡ suc (length (pieces_within n (one_number wide) (drop (number_width wide) b)).0)
-                = ap (λ (o : Option (ℕ × List ℕ)). length (then_pieces b (pieces_within n (one_number wide)) o).0) (number_there wide b there) in
+            = ap (λ (o : Option (ℕ × List ℕ)). length (then_pieces b (pieces_within n (one_number wide)) o).0) (number_there wide b there) in
             omega arith
       ]
 

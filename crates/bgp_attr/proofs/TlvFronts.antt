@@ -48,7 +48,7 @@ module _ (flags kind : ℕ) where
       let same = found_same ℕ (from_be_bytes w16 (high ∷ low ∷ []), b) (n, rest) (sym e) in
       subst (λ (q : ℕ × List ℕ). q.0 ≤ length q.1 → one_tlv (flags ∷ kind ∷ high ∷ low ∷ b) ≡ Some (cut_tlv flags kind (high ∷ low ∷ b) q.0 q.1, drop q.0 q.1)) same
       (λ fits. one_tlv-ext high low b is ∙ with_value_taken flags kind _ (high ∷ low ∷ []) b fits
-          ∙ ap (λ (t : TlvValue). Some (t, drop (from_be_bytes w16 (high ∷ low ∷ [])) b)) (cut_whole (high ∷ low ∷ []) b _ fits))
+      ∙ ap (λ (t : TlvValue). Some (t, drop (from_be_bytes w16 (high ∷ low ∷ [])) b)) (cut_whole (high ∷ low ∷ []) b _ fits))
       le
   cut_at true is [] n rest e le = absurd (found_not ℕ (n, rest) (sym e))
   cut_at true is (high ∷ []) n rest e le = absurd (found_not ℕ (n, rest) (sym e))
@@ -108,9 +108,9 @@ module _ (flags kind : ℕ) where
       let same = found_same ℕ (from_be_bytes w16 (high ∷ low ∷ []), b) (n, rest) (sym e) in
       subst (λ (q : ℕ × List ℕ). q.0 ≤ length q.1 → (cut_tlv flags kind (high ∷ low ∷ b) q.0 q.1).whole ≡ tlv_octets flags kind (take q.0 q.1)) same
       (λ fits.
-          let len : length (take (from_be_bytes w16 (high ∷ low ∷ [])) b) ≡ from_be_bytes w16 (high ∷ low ∷ []) = omega (arith, length-take (from_be_bytes w16 (high ∷ low ∷ [])) b) in
-          let field : to_be_bytes w16 (length (take (from_be_bytes w16 (high ∷ low ∷ [])) b)) ≡ high ∷ low ∷ [] = be_bytes_2 (high ∷ low ∷ []) _ refl (AreOctets-take 2 (high ∷ low ∷ b) octets) len in
-          whole_cut (flags ∷ kind ∷ high ∷ low ∷ []) b _ fits ∙ ap (λ (s : List ℕ). flags ∷ kind ∷ (s ++ take (from_be_bytes w16 (high ∷ low ∷ [])) b)) (sym (two_octets _ (high ∷ low ∷ []) is field)))
+      let len : length (take (from_be_bytes w16 (high ∷ low ∷ [])) b) ≡ from_be_bytes w16 (high ∷ low ∷ []) = omega (arith, length-take (from_be_bytes w16 (high ∷ low ∷ [])) b) in
+      let field : to_be_bytes w16 (length (take (from_be_bytes w16 (high ∷ low ∷ [])) b)) ≡ high ∷ low ∷ [] = be_bytes_2 (high ∷ low ∷ []) _ refl (AreOctets-take 2 (high ∷ low ∷ b) octets) len in
+      whole_cut (flags ∷ kind ∷ high ∷ low ∷ []) b _ fits ∙ ap (λ (s : List ℕ). flags ∷ kind ∷ (s ++ take (from_be_bytes w16 (high ∷ low ∷ [])) b)) (sym (two_octets _ (high ∷ low ∷ []) is field)))
       le
   spelled_at true is [] n rest octets e le = absurd (found_not ℕ (n, rest) (sym e))
   spelled_at true is (high ∷ []) n rest octets e le = absurd (found_not ℕ (n, rest) (sym e))
@@ -118,8 +118,8 @@ module _ (flags kind : ℕ) where
       let same = found_same ℕ (m, b) (n, rest) (sym e) in
       subst (λ (q : ℕ × List ℕ). q.0 ≤ length q.1 → (cut_tlv flags kind (m ∷ b) q.0 q.1).whole ≡ tlv_octets flags kind (take q.0 q.1)) same
       (λ fits.
-          let len : length (take m b) ≡ m = omega (arith, length-take m b) in
-          whole_cut (flags ∷ kind ∷ m ∷ []) b m fits ∙ rw (is, len) refl)
+      let len : length (take m b) ≡ m = omega (arith, length-take m b) in
+      whole_cut (flags ∷ kind ∷ m ∷ []) b m fits ∙ rw (is, len) refl)
       le
   spelled_at false is [] n rest octets e le = absurd (found_not ℕ (n, rest) (sym e))
 

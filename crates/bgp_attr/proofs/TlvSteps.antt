@@ -11,7 +11,6 @@ module _ (field : List ℕ) (at : ℕ) where
   none_placed e = ap (placed_from at) (no_more TlvValue IsTlv one_tlv IsTlv-reads (drop at field) e)
 
   module _ (within : at ≤ length field) (t : TlvValue) (rest : List ℕ) (e : Some (t, rest) ≡ one_tlv (drop at field)) where
-
     pub rest_within : length rest ≤ length field
     rest_within = omega (arith, length-drop at field, shorter TlvValue IsTlv one_tlv IsTlv-reads (drop at field) t rest e)
 

@@ -7,9 +7,7 @@ ghost use Rattle.bgp_attr.specs.JudgedView.{judged_value};
 
 use crate::judge_aggregator::{judge_aggregator, judge_as4_aggregator};
 use crate::judge_communities::{judge_communities, judge_large, judge_other};
-use crate::judge_fixed::{
-    judge_atomic, judge_local_pref, judge_med, judge_next_hop, judge_origin,
-};
+use crate::judge_fixed::{judge_atomic, judge_local_pref, judge_med, judge_next_hop, judge_origin};
 use crate::judge_mp::{judge_mp_reach, judge_mp_unreach};
 use crate::judge_path::{judge_as_path, judge_as4_path};
 use crate::judged::Judged;

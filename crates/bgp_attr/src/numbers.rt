@@ -24,10 +24,7 @@ fn first_two(octets: &[u8]) -> Option<(u32, &[u8])>
     ensures { option_map (λ x. (x.0, x.1.now)) result ≡ two_at octets.now }
 {
     let (number, rest) = octets.split_at_checked(2)?;
-    Some((
-        u32::from(u16::from_be_bytes([number[0], number[1]])),
-        rest,
-    ))
+    Some((u32::from(u16::from_be_bytes([number[0], number[1]])), rest))
 }
 
 /// The number at the front, of four octets where `wide`, else of two, and what follows it.

@@ -11,7 +11,7 @@ pub returns-in-Some-kind_of : goal.returns-in-Some-kind_of
 returns-in-Some-kind_of c =
     sym c.path.invariant
     ∙ kept_first c.args.form c.path.rest.now (wire_segment c.args.form.wide c.in-Some.raw) c.in-Some.after.now c.in-Some.ensures c.in-Some-kind_of.kind c.in-Some-kind_of.ensures
-        (as_numbers_left c.new-numbers.result) c.new-numbers.ensures
+    (as_numbers_left c.new-numbers.result) c.new-numbers.ensures
 
 pub path-smaller : goal.path-smaller
 path-smaller c = segment_shorter c.args.form c.path.rest.now _ c.in-Some.after.now c.in-Some.ensures

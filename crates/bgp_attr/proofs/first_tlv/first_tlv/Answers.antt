@@ -12,12 +12,12 @@ returns-in_err-kind-clause-found c =
 pub returns-in_err-len-clause-found : goal.returns-in_err-len-clause-found
 returns-in_err-len-clause-found c =
     rw c.from_residual-in_err-len.ensures (sym (no_length c.args.octets.now c.in_ok-flags.rest.now c.in_ok-kind.rest.now c.in_ok-flags.flags.now c.in_ok-kind.kind.now
-        c.in_ok-flags.ensures.cases.0 c.in_ok-kind.ensures.cases.0 c.in_err-len.ensures))
+    c.in_ok-flags.ensures.cases.0 c.in_ok-kind.ensures.cases.0 c.in_err-len.ensures))
 
 pub returns-in_err-value-clause-found : goal.returns-in_err-value-clause-found
 returns-in_err-value-clause-found c =
     rw c.from_residual-in_err-value.ensures (sym (no_value c.args.octets.now c.in_ok-flags.rest.now c.in_ok-kind.rest.now c.in_ok-flags.flags.now c.in_ok-kind.kind.now
-        c.in_ok-flags.ensures.cases.0 c.in_ok-kind.ensures.cases.0 c.in_ok-len.len c.in_ok-len.rest.now c.in_ok-len.ensures c.in_err-value.ensures.cases))
+    c.in_ok-flags.ensures.cases.0 c.in_ok-kind.ensures.cases.0 c.in_ok-len.len c.in_ok-len.rest.now c.in_ok-len.ensures c.in_err-value.ensures.cases))
 
 pub overflow_sub-octets : goal.overflow_sub-octets
 overflow_sub-octets c =

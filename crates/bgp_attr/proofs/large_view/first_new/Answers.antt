@@ -11,8 +11,7 @@ returns-in_err-found c =
 pub returns-then-not-stands_in : goal.returns-then-not-stands_in
 returns-then-not-stands_in c =
     let found = c.in_ok-found.ensures ∙ ap one_triple c.split_at.ensures.back in
-    let new = c.if-not-stands_in.ensures ∙ ap (λ (b : List ℕ). list_any (same_triple c.in_ok-found.found.0) (triples_of b)) c.split_at.ensures.front in
-    (
+    let new = c.if-not-stands_in.ensures ∙ ap (λ (b : List ℕ). list_any (same_triple c.in_ok-found.found.0) (triples_of b)) c.split_at.ensures.front in (
       c.row.invariant.1 ∙ not_before c.args.octets.now c.row.at c.row.invariant.0 c.in_ok-found.found.0 c.in_ok-found.found.1.now found new,
       up_more c.args.octets.now c.row.at c.row.invariant.0 c.in_ok-found.found.0 c.in_ok-found.found.1.now found,
     )
@@ -20,8 +19,7 @@ returns-then-not-stands_in c =
 pub row-preserved : goal.row-preserved
 row-preserved c =
     let found = c.in_ok-found.ensures ∙ ap one_triple c.split_at.ensures.back in
-    let seen = c.if-not-stands_in.ensures ∙ ap (λ (b : List ℕ). list_any (same_triple c.in_ok-found.found.0) (triples_of b)) c.split_at.ensures.front in
-    (
+    let seen = c.if-not-stands_in.ensures ∙ ap (λ (b : List ℕ). list_any (same_triple c.in_ok-found.found.0) (triples_of b)) c.split_at.ensures.front in (
       up_more c.args.octets.now c.row.at c.row.invariant.0 c.in_ok-found.found.0 c.in_ok-found.found.1.now found,
       c.row.invariant.1 ∙ seen_before c.args.octets.now c.row.at c.row.invariant.0 c.in_ok-found.found.0 c.in_ok-found.found.1.now found seen,
     )

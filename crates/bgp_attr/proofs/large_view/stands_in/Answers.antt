@@ -6,7 +6,7 @@ use Rattle.bgp_attr.proofs.large_view.stands_in.Goals as goal
 pub returns-then-eq : goal.returns-then-eq
 returns-then-eq c =
     sym (any_triple_first c.row.rest.now (same_triple c.args.triple) c.in-Some.found.0 c.in-Some.found.1.now c.in-Some.ensures
-        (same_triple_is c.args.triple c.in-Some.found.0 (search rules) (search rules) ∙ sym c.if-eq.ensures))
+    (same_triple_is c.args.triple c.in-Some.found.0 (search rules) (search rules) ∙ sym c.if-eq.ensures))
     ∙ c.row.invariant
 
 pub row-smaller : goal.row-smaller
@@ -15,7 +15,7 @@ row-smaller c = triple_shorter c.row.rest.now c.in-Some.found.0 c.in-Some.found.
 pub row-preserved : goal.row-preserved
 row-preserved c =
     any_triple_later c.row.rest.now (same_triple c.args.triple) c.in-Some.found.0 c.in-Some.found.1.now c.in-Some.ensures
-        (same_triple_is c.args.triple c.in-Some.found.0 (search rules) (search rules) ∙ sym c.if-eq.ensures)
+    (same_triple_is c.args.triple c.in-Some.found.0 (search rules) (search rules) ∙ sym c.if-eq.ensures)
     ∙ c.row.invariant
 
 pub returns : goal.returns

@@ -1,0 +1,327 @@
+-- An attribute that is kept is spelled by its octets, and they spell no other.
+use Rattle.std.proofs.Common.{◌≡◌, ℕ, ◌+◌, ◌*◌, ◌%◌, ◌<◌, ◌≤◌, Bool, true, false, not, ◌||◌, cond, eqb, ltb, List, [], ◌∷◌, ◌++◌, length, get_or, take, drop, Option, Some, None, inl, inr, refl, sym, ap, ap₂, subst, ◌∙◌, arith}
+use Rattle.std.specs.List.{flat_map, AllByRecursion}
+use Rattle.std.proofs.lemmas.Bool.{true≢false, eqb-true, eqb-false, eq-eqb, ne_eqb, ltb-false, not-false, or_parts, or_cases, cond_both, false≢true}
+use Rattle.std.proofs.lemmas.List.{append-nil, length-append, length-take, length-drop, take_at, drop_at, take-append-drop, nil_from_length, drop-take, take-take}
+use Rattle.bgp_numbers.specs.declared.afi.TheConstants.{IPV4, IPV6}
+use Rattle.bgp_numbers.specs.declared.attribute.TheConstants.{ORIGIN, AS_PATH, NEXT_HOP, MULTI_EXIT_DISC, LOCAL_PREF, ATOMIC_AGGREGATE, AGGREGATOR, COMMUNITIES, MP_REACH_NLRI, MP_UNREACH_NLRI, AS4_PATH, AS4_AGGREGATOR, LARGE_COMMUNITY}
+use Rattle.bgp_open.specs.declared.context.Context.{Context}
+use Rattle.bgp_prefix.specs.Prefix.{PrefixValue}
+use Rattle.bgp_prefix.specs.Run.{run_of}
+use Rattle.bgp_wire.specs.Octets.{AreOctets}
+use Rattle.bgp_wire.specs.Row.{Row}
+use Rattle.bgp_wire.proofs.Behinds.{pieces-whole}
+use Rattle.bgp_attr.specs.declared.aggregator.Aggregator.{Aggregator}
+use Rattle.bgp_attr.specs.declared.attr.Attr.{Attr}
+use Rattle.bgp_attr.specs.declared.attr.Attr.TheVariants as attr
+use Rattle.bgp_attr.specs.declared.class.Class.{Class}
+use Rattle.bgp_attr.specs.declared.class.Class.TheVariants.{WellKnown, OptionalNonTransitive, OptionalTransitive}
+use Rattle.bgp_attr.specs.declared.communities.Communities.{Communities}
+use Rattle.bgp_attr.specs.declared.communities.LargeCommunities.{LargeCommunities}
+use Rattle.bgp_attr.specs.declared.family.Family.{Family}
+use Rattle.bgp_attr.specs.declared.family.Family.TheVariants as family
+use Rattle.bgp_attr.specs.declared.judged.Judged.TheVariants as judged
+use Rattle.bgp_attr.specs.declared.mp.MpReach.{MpReach}
+use Rattle.bgp_attr.specs.declared.mp.MpReach.TheVariants as reach
+use Rattle.bgp_attr.specs.declared.mp.MpUnreach.{MpUnreach}
+use Rattle.bgp_attr.specs.declared.mp.MpUnreach.TheVariants as unreach
+use Rattle.bgp_attr.specs.declared.opaque.Opaque.{Opaque}
+use Rattle.bgp_attr.specs.declared.origin.Origin.{Origin}
+use Rattle.bgp_attr.specs.declared.origin.Origin.TheVariants.{Igp, Egp, Incomplete}
+use Rattle.bgp_attr.specs.declared.path.As4Path.{As4Path}
+use Rattle.bgp_attr.specs.declared.path.AsPath.{AsPath}
+use Rattle.bgp_attr.specs.Flags.{has_class, is_partial, is_transitive}
+use Rattle.bgp_attr.specs.Tlv.{TlvValue}
+use Rattle.bgp_attr.specs.Numbers.{number_width, number_in, IsNumber, one_number, numbers_of, IsTriple, one_triple, triples_of, each_once}
+use Rattle.bgp_attr.specs.Path.{path_of}
+use Rattle.bgp_attr.specs.Mp.{family_of, is_in_use, address_width, is_next_hop_length, next_hop_length, next_hop_of, reached_of, reach_of_family, mp_reach_of, withdrawn_of, unreach_of_family, mp_unreach_of}
+use Rattle.bgp_attr.specs.Refusal.{Discard, Withdraw}
+use Rattle.bgp_attr.specs.Value.{origin_of, as_path_form, as4_path_form, four_of, aggregator_of, communities_of, large_of, as4_path_of, opaque_of, value_of}
+use Rattle.bgp_attr.specs.Judgement.{has_bad_prefix, origin_tests, as_path_tests, next_hop_tests, med_tests, local_pref_tests, atomic_tests, aggregator_tests, communities_tests, mp_reach_tests, mp_unreach_tests, as4_path_tests, as4_aggregator_tests, large_tests, other_tests, tests_of, judgement}
+use Rattle.bgp_attr.specs.Spelling.{is_recognised, IsOfType, origin_code, IsOrigin, IsAsPath, IsNextHop, IsMed, IsLocalPref, IsAtomic, IsAggregator, IsCommunities, IsLarge, IsReach, link_octets, HasLink, IsReachValue, IsMpReach, IsUnreachValue, IsMpUnreach, IsAs4Path, IsOpaque, Spells}
+use Rattle.bgp_attr.proofs.Readers.{IsNumber-reads, IsTriple-reads}
+use Rattle.bgp_attr.proofs.NumberRows.{number_row-whole, length-number_row, triple_row-whole, length-triple_row}
+use Rattle.bgp_attr.proofs.SegmentRows.{fault-path, path-only}
+use Rattle.bgp_attr.proofs.RouteRows.{hop_in, hop_in-length, octets-reach, octets-unreach, reach4-value, reach6-value, unreach4-value, unreach6-value}
+use Rattle.bgp_attr.proofs.Tests.{NoneApplies, passed, passed_fault, TypeCase, OfOrigin, OfAsPath, OfNextHop, OfMed, OfLocalPref, OfAtomic, OfAggregator, OfCommunities, OfMpReach, OfMpUnreach, OfAs4Path, OfAs4Aggregator, OfLarge, OfOther, type_case, keep-judgement, keep-value, tests-origin, tests-as_path, tests-next_hop, tests-med, tests-local_pref, tests-atomic, tests-aggregator, tests-communities, tests-mp_reach, tests-mp_unreach, tests-as4_path, tests-as4_aggregator, tests-large, tests-other, value-origin, value-as_path, value-next_hop, value-med, value-local_pref, value-atomic, value-aggregator, value-communities, value-mp_reach, value-mp_unreach, value-as4_path, value-as4_aggregator, value-large, value-other}
+
+-- ---- what is kept is spelled
+
+origin-value : (b : List ℕ) → length b ≡ 1 → get_or b 0 0 ≤ 2 → b ≡ origin_code (origin_of b) ∷ []
+origin-value [] one low = absurd (omega arith)
+origin-value (x ∷ []) one low =
+    let last : eqb x 0 ≡ false → eqb x 1 ≡ false → x ≡ 2 = λ e f. (let not0 : x ≡ 0 → ⊥ = eqb-false x 0 e in let not1 : x ≡ 1 → ⊥ = eqb-false x 1 f in omega arith) in
+    let code : x ≡ origin_code (origin_of (x ∷ [])) =
+    cond_both (eqb x 0) Igp (cond (eqb x 1) Egp Incomplete) (λ o. x ≡ origin_code o) (λ e. eqb-true x 0 e)
+    (λ e. cond_both (eqb x 1) Egp Incomplete (λ o. x ≡ origin_code o) (λ f. eqb-true x 1 f) (λ f. last e f)) in
+    ap (λ (n : ℕ). n ∷ []) code
+origin-value (x ∷ y ∷ b) one low = absurd (omega arith)
+
+-- a row of n octets each, and one at least
+row_parts : (n m : ℕ) → (eqb m 0 || not (eqb (m % n) 0)) ≡ false → (m ≡ 0 → ⊥) × (m % n ≡ 0)
+row_parts n m e =
+    let p = or_parts (eqb m 0) (not (eqb (m % n) 0)) e in
+    (eqb-false m 0 p.0, eqb-true (m % n) 0 (not-false _ p.1))
+
+module _ (ctx : Context) (t : TlvValue) where
+  of_type : (kind : ℕ) (class : Class) → t.kind ≡ kind → not (has_class class t.flags) ≡ false → IsOfType kind class t
+  of_type kind class e flags = record { kind_is = e; class_is = not-false _ flags }
+
+  as_long : (n : ℕ) → not (eqb (length t.value) n) ≡ false → length t.value ≡ n
+  as_long n e = eqb-true (length t.value) n (not-false _ e)
+
+  origin-spells : t.kind ≡ ORIGIN → NoneApplies (origin_tests t) → IsOrigin (origin_of t.value) t
+  origin-spells e none = record {
+    of_type = of_type ORIGIN WellKnown e (passed _ _ none.0);
+    value = origin-value t.value (as_long 1 (passed _ _ none.1.0)) (ltb-false 2 _ (passed _ _ none.1.1.0));
+  }
+
+  as_path-spells : t.kind ≡ AS_PATH → NoneApplies (as_path_tests ctx t) → IsAsPath ctx (path_of (as_path_form ctx) t.value) t
+  as_path-spells e none = record {
+    of_type = of_type AS_PATH WellKnown e (passed _ _ none.0);
+    path = fault-path (as_path_form ctx) t.value (passed_fault (λ fault. Withdraw fault) _ none.1.0);
+  }
+
+  next_hop-spells : (has_nlri : Bool) → t.kind ≡ NEXT_HOP → NoneApplies (next_hop_tests has_nlri t) → IsNextHop t.value t
+  next_hop-spells has_nlri e none = record {
+    of_type = of_type NEXT_HOP WellKnown e (passed _ _ none.1.0);
+    four = as_long 4 (passed _ _ none.1.1.0);
+    value = refl;
+  }
+
+  med-spells : t.kind ≡ MULTI_EXIT_DISC → NoneApplies (med_tests t) → IsMed (four_of t.value) t
+  med-spells e none = record {
+    of_type = of_type MULTI_EXIT_DISC OptionalNonTransitive e (passed _ _ none.0);
+    value = record { as_wide = as_long 4 (passed _ _ none.1.0); value = refl };
+  }
+
+  local_pref-spells : t.kind ≡ LOCAL_PREF → NoneApplies (local_pref_tests ctx t) → IsLocalPref (four_of t.value) t
+  local_pref-spells e none = record {
+    of_type = of_type LOCAL_PREF WellKnown e (passed _ _ none.1.0);
+    value = record { as_wide = as_long 4 (passed _ _ none.1.1.0); value = refl };
+  }
+
+  atomic-spells : t.kind ≡ ATOMIC_AGGREGATE → NoneApplies (atomic_tests t) → IsAtomic t
+  atomic-spells e none = record {
+    of_type = of_type ATOMIC_AGGREGATE WellKnown e (passed _ _ none.0);
+    value = nil_from_length t.value (as_long 0 (passed _ _ none.1.0));
+  }
+
+  aggregator-spells : (kind : ℕ) (wide : Bool) → t.kind ≡ kind → NoneApplies (aggregator_tests wide t) → IsAggregator kind wide (aggregator_of wide t) t
+  aggregator-spells kind wide e none =
+      let long : length t.value ≡ number_width wide + 4 = as_long (number_width wide + 4) (passed _ _ none.1.0) in
+      record {
+        of_type = of_type kind OptionalTransitive e (passed _ _ none.0);
+        number = take (number_width wide) t.value;
+        value = sym (take-append-drop (number_width wide) t.value);
+        asn = record { as_wide = omega (arith, length-take (number_width wide) t.value); value = refl };
+        four = omega (arith, length-drop (number_width wide) t.value);
+        partial = refl;
+      }
+
+  communities-spells : t.kind ≡ COMMUNITIES → NoneApplies (communities_tests t) → IsCommunities (communities_of t) t
+  communities-spells e none =
+      let parts = row_parts 4 (length t.value) (passed _ _ none.1.0) in
+      let row : Row (IsNumber true) (numbers_of true t.value) t.value = number_row-whole true t.value parts.1 in
+      record {
+        of_type = of_type COMMUNITIES OptionalTransitive e (passed _ _ none.0);
+        row = row;
+        some = omega (arith, length-number_row true (numbers_of true t.value) t.value row, parts.0);
+        partial = refl;
+      }
+
+  large-spells : t.kind ≡ LARGE_COMMUNITY → NoneApplies (large_tests t) → IsLarge (large_of t) t
+  large-spells e none =
+      let parts = row_parts 12 (length t.value) (passed _ _ none.1.0) in
+      let row : Row IsTriple (triples_of t.value) t.value = triple_row-whole t.value parts.1 in
+      record {
+        of_type = of_type LARGE_COMMUNITY OptionalTransitive e (passed _ _ none.0);
+        triples = triples_of t.value;
+        row = row;
+        some = omega (arith, length-triple_row (triples_of t.value) t.value row, parts.0);
+        values = refl;
+        partial = refl;
+      }
+
+  as4_path-spells : t.kind ≡ AS4_PATH → NoneApplies (as4_path_tests ctx t) → IsAs4Path (as4_path_of t) t
+  as4_path-spells e none = record {
+    of_type = of_type AS4_PATH OptionalTransitive e (passed _ _ none.1.0);
+    path = fault-path as4_path_form t.value (passed_fault (λ fault. Discard fault) _ none.1.1.1.0);
+    partial = refl;
+  }
+
+  other-spells : is_recognised t.kind ≡ false → NoneApplies (other_tests t) → IsOpaque (opaque_of t) t
+  other-spells e none = record { other = e; optional = not-false _ (passed _ _ none.0); kind = refl; transitive = refl; partial = refl; value = refl }
+
+  -- ---- routes
+
+  module _ (octets : AreOctets t.value) where
+    abbrev v : List ℕ
+    v = t.value
+
+    -- the next hop of IPv6: one address, or two
+    abbrev first_hop : List ℕ
+    first_hop = take 16 (next_hop_of v)
+
+    abbrev link_of : Option (List ℕ)
+    link_of = cond (eqb (next_hop_length v) 32) (Some (take 16 (drop 16 (next_hop_of v)))) None
+
+    abbrev routes6 : List PrefixValue
+    routes6 = (run_of 16 (reached_of v)).0
+
+    abbrev Ip6Value : Option (List ℕ) → Type 0
+    Ip6Value link = (length first_hop ≡ 16) × HasLink link × IsReach IPV6 16 (first_hop ++ link_octets link) routes6 v
+
+    one_hop : (n : ℕ) → next_hop_length v ≡ n → n ≡ 16 → length (hop_in v) ≡ next_hop_length v → IsReach IPV6 16 (hop_in v) routes6 v → Ip6Value None
+    one_hop n is e long s =
+        let sixteen : next_hop_length v ≡ 16 = is ∙ e in
+        let same : hop_in v ≡ first_hop = ap (λ (k : ℕ). take k (next_hop_of v)) sixteen in
+        (ap length (sym same) ∙ long ∙ sixteen, record { wide = tt }, subst (λ (h : List ℕ). IsReach IPV6 16 h routes6 v) (same ∙ sym (append-nil first_hop)) s)
+
+    two_hops : next_hop_length v ≡ 32 → length (hop_in v) ≡ next_hop_length v → IsReach IPV6 16 (hop_in v) routes6 v → Ip6Value (Some (take 16 (drop 16 (next_hop_of v))))
+    two_hops is long s =
+        let n : List ℕ = next_hop_of v in
+        let same : hop_in v ≡ take 32 (next_hop_of v) = ap (λ (k : ℕ). take k (next_hop_of v)) is in
+        let halves : take 32 (next_hop_of v) ≡ take 16 (next_hop_of v) ++ take 16 (drop 16 (next_hop_of v)) =
+        sym (take-append-drop 16 (take 32 (next_hop_of v))) ∙ ap₂ ◌++◌ (take-take 16 32 (next_hop_of v) (omega arith)) (drop-take 16 16 (next_hop_of v)) in
+        let there : 32 ≤ length (next_hop_of v) = omega (arith, ap length same, long, length-take 32 (next_hop_of v)) in
+        let behind : length (take 16 (drop 16 (next_hop_of v))) ≡ 16 = omega (arith, length-take 16 (drop 16 (next_hop_of v)), length-drop 16 (next_hop_of v)) in
+        (omega (arith, length-take 16 (next_hop_of v)), record { wide = behind }, subst (λ (h : List ℕ). IsReach IPV6 16 h routes6 v) (same ∙ halves) s)
+
+    reach-value : (o : Option Family) → family_of v ≡ o → 5 ≤ length v → 5 + next_hop_length v ≤ length v → is_in_use ctx o ≡ true → is_next_hop_length o (next_hop_length v) ≡ true
+        → has_bad_prefix (address_width o) (reached_of v) ≡ false → IsReachValue (reach_of_family o v) v
+    reach-value None e long longer used wide good = absurd (false≢true used)
+    reach-value (Some family.Ip4) e long longer used wide good =
+        let four : next_hop_length v ≡ 4 = eqb-true (next_hop_length v) 4 wide in
+        let s = octets-reach family.Ip4 4 v octets e long longer good in (
+          ap (λ (k : ℕ). length (take k (next_hop_of v))) (sym four) ∙ hop_in-length v longer ∙ four,
+          subst (λ (k : ℕ). IsReach IPV4 4 (take k (next_hop_of v)) (run_of 4 (reached_of v)).0 v) four s,
+        )
+    reach-value (Some family.Ip6) e long longer used wide good =
+        let s = octets-reach family.Ip6 16 v octets e long longer good in
+        let held = hop_in-length v longer in
+        elim (or_cases (eqb (next_hop_length v) 16) (eqb (next_hop_length v) 32) wide) [
+          | inl one ↦
+              let sixteen : next_hop_length v ≡ 16 = eqb-true (next_hop_length v) 16 one in
+              let other : eqb (next_hop_length v) 32 ≡ false = ne_eqb (next_hop_length v) 32 (λ (e : next_hop_length v ≡ 32). absurd (omega arith)) in
+              let none : link_of ≡ None = ap (λ (b : Bool). cond b (Some (take 16 (drop 16 (next_hop_of v)))) None) other in
+              subst Ip6Value (sym none) (one_hop (next_hop_length v) refl sixteen held s)
+          | inr both ↦
+              let some : link_of ≡ Some (take 16 (drop 16 (next_hop_of v))) = ap (λ (b : Bool). cond b (Some (take 16 (drop 16 (next_hop_of v)))) None) both in
+              subst Ip6Value (sym some) (two_hops (eqb-true (next_hop_length v) 32 both) held s)
+        ]
+
+    unreach-value : (o : Option Family) → family_of v ≡ o → 3 ≤ length v → is_in_use ctx o ≡ true → has_bad_prefix (address_width o) (withdrawn_of v) ≡ false → IsUnreachValue (unreach_of_family o v) v
+    unreach-value None e long used good = absurd (false≢true used)
+    unreach-value (Some family.Ip4) e long used good = octets-unreach family.Ip4 4 v octets e long good
+    unreach-value (Some family.Ip6) e long used good = octets-unreach family.Ip6 16 v octets e long good
+
+    mp_reach-spells : t.kind ≡ MP_REACH_NLRI → NoneApplies (mp_reach_tests ctx t) → IsMpReach (mp_reach_of t.value) t
+    mp_reach-spells e none = record {
+      of_type = of_type MP_REACH_NLRI OptionalNonTransitive e (passed _ _ none.0);
+      value = reach-value (family_of v) refl (ltb-false _ _ (passed _ _ none.1.0)) (ltb-false _ _ (passed _ _ none.1.1.1.1.0)) (not-false _ (passed _ _ none.1.1.0)) (not-false _ (passed _ _ none.1.1.1.0))
+          (passed _ _ none.1.1.1.1.1.0);
+    }
+
+    mp_unreach-spells : t.kind ≡ MP_UNREACH_NLRI → NoneApplies (mp_unreach_tests ctx t) → IsMpUnreach (mp_unreach_of t.value) t
+    mp_unreach-spells e none = record {
+      of_type = of_type MP_UNREACH_NLRI OptionalNonTransitive e (passed _ _ none.0);
+      value = unreach-value (family_of v) refl (ltb-false _ _ (passed _ _ none.1.0)) (not-false _ (passed _ _ none.1.1.0)) (passed _ _ none.1.1.1.0);
+    }
+
+-- ---- every type
+
+module _ (ctx : Context) (has_nlri : Bool) (t : TlvValue) (a : Attr) (octets : AreOctets t.value) (keeps : judgement ctx has_nlri t ≡ judged.Keep a) where
+  abbrev is_value : (x : Attr) → value_of ctx t ≡ x → Spells ctx t x → Spells ctx t a
+  is_value x e s = subst (λ (y : Attr). Spells ctx t y) (sym e ∙ keep-value ctx has_nlri t a keeps) s
+
+  spelled : TypeCase t.kind → Spells ctx t a
+  spelled (OfOrigin e) = is_value _ (value-origin ctx t e) (origin-spells ctx t e (keep-judgement ctx has_nlri t _ a (tests-origin ctx has_nlri t e) keeps))
+  spelled (OfAsPath e) = is_value _ (value-as_path ctx t e) (as_path-spells ctx t e (keep-judgement ctx has_nlri t _ a (tests-as_path ctx has_nlri t e) keeps))
+  spelled (OfNextHop e) = is_value _ (value-next_hop ctx t e) (next_hop-spells ctx t has_nlri e (keep-judgement ctx has_nlri t _ a (tests-next_hop ctx has_nlri t e) keeps))
+  spelled (OfMed e) = is_value _ (value-med ctx t e) (med-spells ctx t e (keep-judgement ctx has_nlri t _ a (tests-med ctx has_nlri t e) keeps))
+  spelled (OfLocalPref e) = is_value _ (value-local_pref ctx t e) (local_pref-spells ctx t e (keep-judgement ctx has_nlri t _ a (tests-local_pref ctx has_nlri t e) keeps))
+  spelled (OfAtomic e) = is_value _ (value-atomic ctx t e) (atomic-spells ctx t e (keep-judgement ctx has_nlri t _ a (tests-atomic ctx has_nlri t e) keeps))
+  spelled (OfAggregator e) = is_value _ (value-aggregator ctx t e) (aggregator-spells ctx t AGGREGATOR ctx.as4 e (keep-judgement ctx has_nlri t _ a (tests-aggregator ctx has_nlri t e) keeps))
+  spelled (OfCommunities e) = is_value _ (value-communities ctx t e) (communities-spells ctx t e (keep-judgement ctx has_nlri t _ a (tests-communities ctx has_nlri t e) keeps))
+  spelled (OfMpReach e) = is_value _ (value-mp_reach ctx t e) (mp_reach-spells ctx t octets e (keep-judgement ctx has_nlri t _ a (tests-mp_reach ctx has_nlri t e) keeps))
+  spelled (OfMpUnreach e) = is_value _ (value-mp_unreach ctx t e) (mp_unreach-spells ctx t octets e (keep-judgement ctx has_nlri t _ a (tests-mp_unreach ctx has_nlri t e) keeps))
+  spelled (OfAs4Path e) = is_value _ (value-as4_path ctx t e) (as4_path-spells ctx t e (keep-judgement ctx has_nlri t _ a (tests-as4_path ctx has_nlri t e) keeps))
+  spelled (OfAs4Aggregator e) = is_value _ (value-as4_aggregator ctx t e) (aggregator-spells ctx t AS4_AGGREGATOR true e (keep-judgement ctx has_nlri t _ a (tests-as4_aggregator ctx has_nlri t e) keeps).1)
+  spelled (OfLarge e) = is_value _ (value-large ctx t e) (large-spells ctx t e (keep-judgement ctx has_nlri t _ a (tests-large ctx has_nlri t e) keeps))
+  spelled (OfOther e) = is_value _ (value-other ctx t e) (other-spells ctx t e (keep-judgement ctx has_nlri t _ a (tests-other ctx has_nlri t e) keeps))
+
+  pub kept-spells : Spells ctx t a
+  kept-spells = spelled (type_case t.kind)
+
+-- ---- and nothing else
+
+module _ (ctx : Context) (t : TlvValue) where
+  origin-only : (o : Origin) (b : List ℕ) → b ≡ origin_code o ∷ [] → origin_of b ≡ o
+  origin-only Igp b e = ap origin_of e
+  origin-only Egp b e = ap origin_of e
+  origin-only Incomplete b e = ap origin_of e
+
+  aggregator-only : (kind : ℕ) (wide : Bool) (a : Aggregator) → IsAggregator kind wide a t → aggregator_of wide t ≡ a
+  aggregator-only kind wide a s =
+      let width : length s.number ≡ number_width wide = (s.asn).as_wide in
+      let front : take (number_width wide) t.value ≡ s.number = ap (take (number_width wide)) s.value ∙ take_at s.number a.addr (number_width wide) width in
+      let back : drop (number_width wide) t.value ≡ a.addr = ap (drop (number_width wide)) s.value ∙ drop_at s.number a.addr (number_width wide) width in
+      let value : number_in wide (take (number_width wide) t.value) ≡ (a.asn).0 = ap (λ (b : List ℕ). number_in wide b) front ∙ sym (s.asn).value in
+      same (number_in wide (take (number_width wide) t.value)) (drop (number_width wide) t.value) (is_partial t.flags) value back (sym s.partial)
+    where
+      same : (n : ℕ) (addr : List ℕ) (partial : Bool) → n ≡ (a.asn).0 → addr ≡ a.addr → partial ≡ a.partial
+          → (let b : Aggregator = record { asn = record { 0 = n }; addr = addr; partial = partial } in b ≡ a)
+      same n addr partial e f g = rw (e, f, g) refl
+
+  communities-only : (c : Communities) → IsCommunities c t → communities_of t ≡ c
+  communities-only c s =
+      same (is_partial t.flags) (numbers_of true t.value) (sym s.partial) (ap (λ (q : List ℕ × List ℕ). q.0) (pieces-whole ℕ (IsNumber true) (one_number true) (IsNumber-reads true) c.values t.value s.row))
+    where
+      same : (partial : Bool) (values : List ℕ) → partial ≡ c.partial → values ≡ c.values → (let d : Communities = record { partial = partial; values = values } in d ≡ c)
+      same partial values e f = rw (e, f) refl
+
+  large-only : (l : LargeCommunities) → IsLarge l t → large_of t ≡ l
+  large-only l s =
+      let row = pieces-whole (List ℕ) IsTriple one_triple IsTriple-reads s.triples t.value s.row in
+      same (is_partial t.flags) (each_once (triples_of t.value)) (sym s.partial) (ap (λ (q : List (List ℕ) × List ℕ). each_once q.0) row ∙ sym s.values)
+    where
+      same : (partial : Bool) (values : List (List ℕ)) → partial ≡ l.partial → values ≡ l.values → (let k : LargeCommunities = record { partial = partial; values = values } in k ≡ l)
+      same partial values e f = rw (e, f) refl
+
+  as4_path-only : (p : As4Path) → IsAs4Path p t → as4_path_of t ≡ p
+  as4_path-only p s = same (is_partial t.flags) (path_of as4_path_form t.value) (sym s.partial) (sym (path-only as4_path_form p.path t.value s.path))
+    where
+      same : (partial : Bool) (path : AsPath) → partial ≡ p.partial → path ≡ p.path → (let q : As4Path = record { partial = partial; path = path } in q ≡ p)
+      same partial path e f = rw (e, f) refl
+
+  opaque-only : (o : Opaque) → IsOpaque o t → opaque_of t ≡ o
+  opaque-only o s = same t.kind (is_transitive t.flags) (is_partial t.flags) t.value (sym s.kind) (sym s.transitive) (sym s.partial) (sym s.value)
+    where
+      same : (kind : ℕ) (transitive partial : Bool) (value : List ℕ) → kind ≡ o.kind → transitive ≡ o.transitive → partial ≡ o.partial → value ≡ o.value
+          → (let p : Opaque = record { kind = kind; transitive = transitive; partial = partial; value = value } in p ≡ o)
+      same kind transitive partial value e f g h = rw (e, f, g, h) refl
+
+  -- what is spelled is the value
+  pub spells-value : (b : Attr) → Spells ctx t b → value_of ctx t ≡ b
+  spells-value (attr.Origin o) s = value-origin ctx t (s.of_type).kind_is ∙ ap (λ (x : Origin). attr.Origin x) (origin-only o t.value s.value)
+  spells-value (attr.AsPath p) s = value-as_path ctx t (s.of_type).kind_is ∙ ap (λ (x : AsPath). attr.AsPath x) (sym (path-only (as_path_form ctx) p t.value s.path))
+  spells-value (attr.NextHop addr) s = value-next_hop ctx t (s.of_type).kind_is ∙ ap (λ (x : List ℕ). attr.NextHop x) s.value
+  spells-value (attr.Med n) s = value-med ctx t (s.of_type).kind_is ∙ ap (λ (x : ℕ). attr.Med x) (sym (s.value).value)
+  spells-value (attr.LocalPref n) s = value-local_pref ctx t (s.of_type).kind_is ∙ ap (λ (x : ℕ). attr.LocalPref x) (sym (s.value).value)
+  spells-value attr.Atomic s = value-atomic ctx t (s.of_type).kind_is
+  spells-value (attr.Aggregator a) s = value-aggregator ctx t (s.of_type).kind_is ∙ ap (λ (x : Aggregator). attr.Aggregator x) (aggregator-only AGGREGATOR ctx.as4 a s)
+  spells-value (attr.Communities c) s = value-communities ctx t (s.of_type).kind_is ∙ ap (λ (x : Communities). attr.Communities x) (communities-only c s)
+  spells-value (attr.MpReach (reach.Ip4 hop routes)) s =
+      value-mp_reach ctx t (s.of_type).kind_is ∙ ap (λ (x : MpReach). attr.MpReach x) (reach4-value hop routes t.value (s.value).0 (s.value).1)
+  spells-value (attr.MpReach (reach.Ip6 hop link routes)) s =
+      value-mp_reach ctx t (s.of_type).kind_is ∙ ap (λ (x : MpReach). attr.MpReach x) (reach6-value hop link routes t.value (s.value).0 (s.value).1 (s.value).2)
+  spells-value (attr.MpUnreach (unreach.Ip4 routes)) s = value-mp_unreach ctx t (s.of_type).kind_is ∙ ap (λ (x : MpUnreach). attr.MpUnreach x) (unreach4-value routes t.value s.value)
+  spells-value (attr.MpUnreach (unreach.Ip6 routes)) s = value-mp_unreach ctx t (s.of_type).kind_is ∙ ap (λ (x : MpUnreach). attr.MpUnreach x) (unreach6-value routes t.value s.value)
+  spells-value (attr.As4Path p) s = value-as4_path ctx t (s.of_type).kind_is ∙ ap (λ (x : As4Path). attr.As4Path x) (as4_path-only p s)
+  spells-value (attr.As4Aggregator a) s = value-as4_aggregator ctx t (s.of_type).kind_is ∙ ap (λ (x : Aggregator). attr.As4Aggregator x) (aggregator-only AS4_AGGREGATOR true a s)
+  spells-value (attr.Large l) s = value-large ctx t (s.of_type).kind_is ∙ ap (λ (x : LargeCommunities). attr.Large x) (large-only l s)
+  spells-value (attr.Opaque o) s = value-other ctx t s.other ∙ ap (λ (x : Opaque). attr.Opaque x) (opaque-only o s)
+
+pub kept-only : (ctx : Context) (has_nlri : Bool) (t : TlvValue) (a b : Attr) → judgement ctx has_nlri t ≡ judged.Keep a → Spells ctx t b → b ≡ a
+kept-only ctx has_nlri t a b keeps s = sym (spells-value ctx t b s) ∙ keep-value ctx has_nlri t a keeps

@@ -1,0 +1,379 @@
+-- What is written of an attribute is one whole attribute, and is kept as the value that was written.
+use Rattle.std.proofs.Common.{◌≡◌, ℕ, ◌+◌, ◌*◌, ◌%◌, ◌^◌, ◌<◌, ◌≤◌, Bool, true, false, not, ◌||◌, ◌&&◌, cond, eqb, ltb, List, [], ◌∷◌, ◌++◌, length, take, drop, Option, Some, None, refl, sym, ap, ap₂, subst, ◌∙◌, arith}
+use Rattle.std.specs.Int.{w16, w32, to_be_bytes, from_be_bytes}
+use Rattle.std.specs.List.{flat_map, list_any, AllByRecursion}
+use Rattle.std.proofs.lemmas.Bool.{true≢false, le-ltb, ltb-false, eqb-false, eq-eqb, ne_eqb, or_parts, or_from, or_left, or_right, and_parts}
+use Rattle.std.proofs.lemmas.Nat.{from_be_bytes-to_be_bytes_2, from_be_bytes-to_be_bytes_4}
+use Rattle.std.proofs.lemmas.List.{append-nil, length-append, take_at, drop_at}
+use Rattle.bgp_numbers.specs.declared.attribute.TheConstants.{AGGREGATOR, AS4_AGGREGATOR}
+use Rattle.bgp_numbers.specs.declared.afi.TheConstants.{IPV4, IPV6}
+use Rattle.bgp_prefix.specs.Prefix.{PrefixValue, IsValid}
+use Rattle.bgp_open.specs.declared.context.Context.{Context}
+use Rattle.bgp_wire.specs.Octets.{AreOctets}
+use Rattle.bgp_attr.specs.declared.aggregator.Aggregator.{Aggregator}
+use Rattle.bgp_attr.specs.declared.communities.Communities.{Communities}
+use Rattle.bgp_attr.specs.declared.communities.LargeCommunities.{LargeCommunities}
+use Rattle.bgp_attr.specs.declared.path.As4Path.{As4Path}
+use Rattle.bgp_attr.specs.declared.path.AsPath.{AsPath}
+use Rattle.bgp_attr.specs.declared.family.Family.{Family}
+use Rattle.bgp_attr.specs.declared.family.Family.TheVariants as family
+use Rattle.bgp_attr.specs.declared.mp.MpReach.{MpReach}
+use Rattle.bgp_attr.specs.declared.mp.MpReach.TheVariants as reach
+use Rattle.bgp_attr.specs.declared.mp.MpUnreach.{MpUnreach}
+use Rattle.bgp_attr.specs.declared.mp.MpUnreach.TheVariants as unreach
+use Rattle.bgp_attr.specs.Mp.{family_of, is_in_use, address_width, is_next_hop_length, next_hop_length, reached_of, mp_reach_of, withdrawn_of, mp_unreach_of}
+use Rattle.bgp_attr.specs.declared.class.Class.{Class}
+use Rattle.bgp_attr.specs.declared.class.Class.TheVariants.{WellKnown, OptionalNonTransitive, OptionalTransitive}
+use Rattle.bgp_attr.specs.declared.attr.Attr.{Attr}
+use Rattle.bgp_attr.specs.declared.attr.Attr.TheVariants as attr
+use Rattle.bgp_attr.specs.declared.judged.Judged.TheVariants as judged
+use Rattle.bgp_attr.specs.declared.opaque.Opaque.{Opaque}
+use Rattle.bgp_attr.specs.declared.origin.Origin.{Origin}
+use Rattle.bgp_attr.specs.declared.origin.Origin.TheVariants.{Igp, Egp, Incomplete}
+use Rattle.bgp_attr.specs.Flags.{is_extended, has_class, flags_octet}
+use Rattle.bgp_attr.specs.Tlv.{TlvValue, IsTlv, number_of_length, length_octets}
+use Rattle.bgp_attr.specs.Numbers.{number_width, number_in, number_octets, row_octets, triple_octets, each_once}
+use Rattle.bgp_attr.specs.Refusal.{Discard, Withdraw}
+use Rattle.bgp_attr.specs.Value.{origin_of, as_path_form, as4_path_form, aggregator_of, opaque_of}
+use Rattle.bgp_attr.specs.Path.{path_of}
+use Rattle.bgp_attr.specs.Judgement.{origin_tests, next_hop_tests, med_tests, local_pref_tests, atomic_tests, has_bad_prefix, mp_reach_tests, mp_unreach_tests, as_path_tests, as4_path_tests, communities_tests, large_tests, aggregator_tests, as4_aggregator_tests, other_tests, judgement}
+use Rattle.bgp_attr.specs.Spelling.{origin_code, is_recognised, IsReach, link_octets, HasLink, IsUnreach}
+use Rattle.bgp_attr.specs.Written.{made, written_tlv, canonical, aggregator_octets, reach_row, reach_octets, unreach_row, unreach_octets, any_number, is_above_two_octets, is_bad_segment, HasLinkRange, Belongs, path_octets, repeats, IsFourOctets, IsThreeNumbers, IsAddress, is_writable, HasRanges}
+use Rattle.bgp_attr.proofs.FlagBits.{has_class-flags, is_partial-flags, is_optional-flags, is_transitive-flags, optional_class}
+use Rattle.bgp_attr.proofs.NumberRows.{Fits, number_in-octets, length-number_octets, length-row_octets, numbers_of-row_octets, length-triples, triples_of-octets}
+use Rattle.bgp_attr.proofs.SegmentRows.{CanStand, path_of-octets, path_fault-octets, path_has_zero-octets, length-even, length-least}
+use Rattle.bgp_attr.proofs.OnceLemmas.{each_once-same}
+use Rattle.bgp_attr.proofs.RouteRows.{afi_number, reach-family, reach-hop_length, reach-long, reach-longer, reach-good, reach4-value, reach6-value, reach_row-spells, unreach-family, unreach-long, unreach-good, unreach4-value, unreach6-value, unreach_row-spells}
+use Rattle.bgp_attr.proofs.Tests.{NoneApplies, tests-mp_reach, value-mp_reach, tests-mp_unreach, value-mp_unreach, pass, pass_fault, tests-as_path, value-as_path, tests-as4_path, value-as4_path, tests-communities, value-communities, tests-large, value-large, judgement-keep, tests-origin, value-origin, tests-next_hop, value-next_hop, tests-med, value-med, tests-local_pref, value-local_pref, tests-atomic, value-atomic, tests-aggregator, value-aggregator, tests-as4_aggregator, value-as4_aggregator, tests-other, value-other, Writes, writable-Writes}
+
+-- ---- one whole attribute
+
+size-wide : (t : Bool) (n : ℕ) → length (cond t (to_be_bytes w16 n) (n ∷ [])) ≡ cond t 2 1
+size-wide true n = refl
+size-wide false n = refl
+
+size-counts : (t : Bool) (n : ℕ) → n < 2 ^ 16 → n ≡ number_of_length (cond t (to_be_bytes w16 n) (n ∷ []))
+size-counts true n small = sym (from_be_bytes-to_be_bytes_2 n small)
+size-counts false n small = refl
+
+pub made-spells : (class : Class) (partial : Bool) (kind : ℕ) (value : List ℕ) → length value < 2 ^ 16 → IsTlv (made class partial kind value) (made class partial kind value).whole
+made-spells class partial kind value small =
+    let flags : ℕ = flags_octet class partial (ltb 255 (length value)) in
+    record {
+      size = length_octets (flags_octet class partial (ltb 255 (length value))) (length value);
+      octets = refl;
+      wide = size-wide (is_extended (flags_octet class partial (ltb 255 (length value)))) (length value);
+      counted = size-counts (is_extended (flags_octet class partial (ltb 255 (length value)))) (length value) small;
+      whole = refl;
+    }
+
+pub written-spells : (ctx : Context) (a : Attr) → is_writable ctx a ≡ true → IsTlv (written_tlv ctx a) (canonical ctx a)
+written-spells ctx a e =
+    let w = writable-Writes ctx a e in
+    let small : length (written_tlv ctx a).value ≤ 65535 = ltb-false 65535 (length (written_tlv ctx a).value) w.fits in
+    made-spells _ _ _ _ (omega arith)
+
+-- ---- kept as it was written
+
+flags-right : (class : Class) (partial extended : Bool) → not (has_class class (flags_octet class partial extended)) ≡ false
+flags-right class partial extended = ap not (has_class-flags class partial extended)
+
+is_long : (n : ℕ) (value : List ℕ) → length value ≡ n → not (eqb (length value) n) ≡ false
+is_long n value e = ap not (eq-eqb (length value) n e)
+
+module _ (ctx : Context) (has_nlri : Bool) where
+  abbrev ThisKept : Attr → Type 0
+  ThisKept a = judgement ctx has_nlri (written_tlv ctx a) ≡ judged.Keep a
+
+  origin-back : (o : Origin) → origin_of (origin_code o ∷ []) ≡ o
+  origin-back Igp = refl
+  origin-back Egp = refl
+  origin-back Incomplete = refl
+
+  origin-low : (o : Origin) → ltb 2 (origin_code o) ≡ false
+  origin-low Igp = refl
+  origin-low Egp = refl
+  origin-low Incomplete = refl
+
+  pub kept-origin : (o : Origin) → ThisKept (attr.Origin o)
+  kept-origin o =
+      let t : TlvValue = written_tlv ctx (attr.Origin o) in
+      judgement-keep ctx has_nlri t (origin_tests t) (attr.Origin o) (tests-origin ctx has_nlri t refl) (value-origin ctx t refl ∙ ap (λ (x : Origin). attr.Origin x) (origin-back o))
+      (refl, (refl, (pass _ _ (origin-low o), tt)))
+
+  pub kept-next_hop : (addr : List ℕ) → length addr ≡ 4 → has_nlri ≡ true → ThisKept (attr.NextHop addr)
+  kept-next_hop addr four given =
+      let t : TlvValue = written_tlv ctx (attr.NextHop addr) in
+      judgement-keep ctx has_nlri t (next_hop_tests has_nlri t) (attr.NextHop addr) (tests-next_hop ctx has_nlri t refl) (value-next_hop ctx t refl)
+      (pass _ _ (ap not given), (pass _ _ (flags-right WellKnown false (ltb 255 (length addr))), (pass _ _ (is_long 4 addr four), tt)))
+
+  pub kept-med : (n : ℕ) → IsFourOctets n → ThisKept (attr.Med n)
+  kept-med n small =
+      let t : TlvValue = written_tlv ctx (attr.Med n) in
+      judgement-keep ctx has_nlri t (med_tests t) (attr.Med n) (tests-med ctx has_nlri t refl) (value-med ctx t refl ∙ ap (λ (x : ℕ). attr.Med x) (from_be_bytes-to_be_bytes_4 n small))
+      (refl, (refl, tt))
+
+  pub kept-local_pref : (n : ℕ) → IsFourOctets n → ctx.internal ≡ true → ThisKept (attr.LocalPref n)
+  kept-local_pref n small internal =
+      let t : TlvValue = written_tlv ctx (attr.LocalPref n) in
+      judgement-keep ctx has_nlri t (local_pref_tests ctx t) (attr.LocalPref n) (tests-local_pref ctx has_nlri t refl) (value-local_pref ctx t refl ∙ ap (λ (x : ℕ). attr.LocalPref x) (from_be_bytes-to_be_bytes_4 n small))
+      (pass _ _ (ap not internal), (refl, (refl, tt)))
+
+  pub kept-atomic : ThisKept attr.Atomic
+  kept-atomic =
+      let t : TlvValue = written_tlv ctx attr.Atomic in
+      judgement-keep ctx has_nlri t (atomic_tests t) attr.Atomic (tests-atomic ctx has_nlri t refl) (value-atomic ctx t refl) (refl, (refl, tt))
+
+  -- an AS number and an address
+  module _ (wide : Bool) (a : Aggregator) (small : Fits wide (a.asn).0) (nonzero : eqb (a.asn).0 0 ≡ false) (four : length a.addr ≡ 4) (kind : ℕ) where
+    front : take (number_width wide) (aggregator_octets wide a) ≡ number_octets wide (a.asn).0
+    front = take_at (number_octets wide (a.asn).0) a.addr (number_width wide) (length-number_octets wide (a.asn).0)
+
+    back : drop (number_width wide) (aggregator_octets wide a) ≡ a.addr
+    back = drop_at (number_octets wide (a.asn).0) a.addr (number_width wide) (length-number_octets wide (a.asn).0)
+
+    number-back : number_in wide (take (number_width wide) (aggregator_octets wide a)) ≡ (a.asn).0
+    number-back = ap (λ (b : List ℕ). number_in wide b) front ∙ number_in-octets wide (a.asn).0 small
+
+    abbrev written : TlvValue
+    written = made OptionalTransitive a.partial kind (aggregator_octets wide a)
+
+    aggregator-back : aggregator_of wide written ≡ a
+    aggregator-back =
+        same (number_in wide (take (number_width wide) (aggregator_octets wide a))) (drop (number_width wide) (aggregator_octets wide a)) _ number-back back
+        (is_partial-flags OptionalTransitive a.partial (ltb 255 (length (aggregator_octets wide a))))
+      where
+        same : (n : ℕ) (addr : List ℕ) (partial : Bool) → n ≡ (a.asn).0 → addr ≡ a.addr → partial ≡ a.partial
+            → (let b : Aggregator = record { asn = record { 0 = n }; addr = addr; partial = partial } in b ≡ a)
+        same n addr partial e f g = rw (e, f, g) refl
+
+    aggregator-passes : NoneApplies (aggregator_tests wide written)
+    aggregator-passes =
+        let length_is : length (aggregator_octets wide a) ≡ number_width wide + 4 = omega (arith, length-append (number_octets wide (a.asn).0) a.addr, length-number_octets wide (a.asn).0, four) in (
+          pass _ _ (flags-right OptionalTransitive a.partial (ltb 255 (length (aggregator_octets wide a)))),
+          (
+            pass _ _ (is_long (number_width wide + 4) (aggregator_octets wide a) length_is),
+            (pass _ _ (ap (λ (n : ℕ). eqb n 0) number-back ∙ nonzero), tt),
+          ),
+        )
+
+  pub kept-aggregator : (a : Aggregator) → Fits ctx.as4 (a.asn).0 → eqb (a.asn).0 0 ≡ false → length a.addr ≡ 4 → ThisKept (attr.Aggregator a)
+  kept-aggregator a small nonzero four =
+      let t : TlvValue = written_tlv ctx (attr.Aggregator a) in
+      judgement-keep ctx has_nlri t (aggregator_tests ctx.as4 t) (attr.Aggregator a) (tests-aggregator ctx has_nlri t refl)
+      (value-aggregator ctx t refl ∙ ap (λ (x : Aggregator). attr.Aggregator x) (aggregator-back ctx.as4 a small nonzero four AGGREGATOR))
+      (aggregator-passes ctx.as4 a small nonzero four AGGREGATOR)
+
+  pub kept-as4_aggregator : (a : Aggregator) → ctx.as4 ≡ false → Fits true (a.asn).0 → eqb (a.asn).0 0 ≡ false → length a.addr ≡ 4 → ThisKept (attr.As4Aggregator a)
+  kept-as4_aggregator a narrow small nonzero four =
+      let t : TlvValue = written_tlv ctx (attr.As4Aggregator a) in
+      judgement-keep ctx has_nlri t (as4_aggregator_tests ctx t) (attr.As4Aggregator a) (tests-as4_aggregator ctx has_nlri t refl)
+      (value-as4_aggregator ctx t refl ∙ ap (λ (x : Aggregator). attr.As4Aggregator x) (aggregator-back true a small nonzero four AS4_AGGREGATOR))
+      (pass _ _ narrow, aggregator-passes true a small nonzero four AS4_AGGREGATOR)
+
+  -- the value of a type that isn't recognised
+  pub kept-opaque : (o : Opaque) → is_recognised o.kind ≡ false → ThisKept (attr.Opaque o)
+  kept-opaque o other =
+      let t : TlvValue = written_tlv ctx (attr.Opaque o) in
+      judgement-keep ctx has_nlri t (other_tests t) (attr.Opaque o) (tests-other ctx has_nlri t other)
+      (value-other ctx t other ∙ ap (λ (x : Opaque). attr.Opaque x) (same _ _ (is_transitive-flags o.transitive o.partial (ltb 255 (length o.value))) (is_partial-flags (optional_class o.transitive) o.partial (ltb 255 (length o.value)))))
+      (pass _ _ (ap not (is_optional-flags o.transitive o.partial (ltb 255 (length o.value)))), tt)
+    where
+      same : (transitive partial : Bool) → transitive ≡ o.transitive → partial ≡ o.partial
+          → (let p : Opaque = record { kind = o.kind; transitive = transitive; partial = partial; value = o.value } in p ≡ o)
+      same transitive partial e f = rw (e, f) refl
+
+  -- ---- paths
+
+  pub kept-as_path : (p : AsPath) → CanStand ctx.as4 p → ThisKept (attr.AsPath p)
+  kept-as_path p c =
+      let t : TlvValue = written_tlv ctx (attr.AsPath p) in
+      judgement-keep ctx has_nlri t (as_path_tests ctx t) (attr.AsPath p) (tests-as_path ctx has_nlri t refl)
+      (value-as_path ctx t refl ∙ ap (λ (x : AsPath). attr.AsPath x) (path_of-octets (as_path_form ctx) p c)) (
+        pass _ _ (flags-right WellKnown false (ltb 255 (length (path_octets ctx.as4 p)))),
+        (
+          pass_fault (λ fault. Withdraw fault) _ (path_fault-octets (as_path_form ctx) p c),
+          (pass _ _ (path_has_zero-octets (as_path_form ctx) p c), tt),
+        ),
+      )
+
+  pub kept-as4_path : (p : As4Path) → ctx.as4 ≡ false → CanStand true p.path → 0 < length (p.path).segments → ThisKept (attr.As4Path p)
+  kept-as4_path p narrow c some =
+      let t : TlvValue = written_tlv ctx (attr.As4Path p) in
+      let octets : List ℕ = path_octets true p.path in
+      let back : path_of as4_path_form (path_octets true p.path) ≡ p.path = path_of-octets as4_path_form p.path c in
+      let even : eqb (length (path_octets true p.path) % 2) 0 ≡ true = eq-eqb _ 0 (length-even p.path) in
+      let long : ltb (length (path_octets true p.path)) 6 ≡ false = le-ltb _ 6 (length-least p.path some c.good) in
+      let left : eqb (length (path_of as4_path_form (path_octets true p.path)).segments) 0 ≡ false =
+      ap (λ (x : AsPath). eqb (length x.segments) 0) back ∙ ne_eqb (length (p.path).segments) 0 (λ e. omega arith) in
+      judgement-keep ctx has_nlri t (as4_path_tests ctx t) (attr.As4Path p) (tests-as4_path ctx has_nlri t refl)
+      (value-as4_path ctx t refl ∙ ap (λ (x : As4Path). attr.As4Path x) (same _ _ (is_partial-flags OptionalTransitive p.partial (ltb 255 (length (path_octets true p.path)))) back)) (
+        pass _ _ narrow,
+        (
+          pass _ _ (flags-right OptionalTransitive p.partial (ltb 255 (length (path_octets true p.path)))),
+          (
+            pass _ _ (or_from _ _ (ap not even) long),
+            (pass_fault (λ fault. Discard fault) _ (path_fault-octets as4_path_form p.path c), (pass _ _ (path_has_zero-octets as4_path_form p.path c), (pass _ _ left, tt))),
+          ),
+        ),
+      )
+    where
+      same : (partial : Bool) (path : AsPath) → partial ≡ p.partial → path ≡ p.path → (let q : As4Path = record { partial = partial; path = path } in q ≡ p)
+      same partial path e f = rw (e, f) refl
+
+  -- ---- communities
+
+  pub kept-communities : (c : Communities) → AllByRecursion IsFourOctets c.values → 0 < length c.values → ThisKept (attr.Communities c)
+  kept-communities c small some =
+      let t : TlvValue = written_tlv ctx (attr.Communities c) in
+      let long : length (row_octets true c.values) ≡ 4 * length c.values = length-row_octets true c.values in
+      let given : eqb (length (row_octets true c.values)) 0 ≡ false = ne_eqb _ 0 (λ (e : length (row_octets true c.values) ≡ 0). absurd (omega arith)) in
+      let whole : eqb (length (row_octets true c.values) % 4) 0 ≡ true = eq-eqb _ 0 (omega arith) in
+      judgement-keep ctx has_nlri t (communities_tests t) (attr.Communities c) (tests-communities ctx has_nlri t refl)
+      (value-communities ctx t refl ∙ ap (λ (x : Communities). attr.Communities x) (same _ _ (is_partial-flags OptionalTransitive c.partial (ltb 255 (length (row_octets true c.values)))) (numbers_of-row_octets true c.values small)))
+      (pass _ _ (flags-right OptionalTransitive c.partial (ltb 255 (length (row_octets true c.values)))), (pass _ _ (or_from _ _ given (ap not whole)), tt))
+    where
+      same : (partial : Bool) (values : List ℕ) → partial ≡ c.partial → values ≡ c.values → (let d : Communities = record { partial = partial; values = values } in d ≡ c)
+      same partial values e f = rw (e, f) refl
+
+  pub kept-large : (l : LargeCommunities) → AllByRecursion IsThreeNumbers l.values → 0 < length l.values → repeats l.values ≡ false → ThisKept (attr.Large l)
+  kept-large l small some once =
+      let t : TlvValue = written_tlv ctx (attr.Large l) in
+      let octets : List ℕ = flat_map triple_octets l.values in
+      let long : length (flat_map triple_octets l.values) ≡ 12 * length l.values = length-triples l.values small in
+      let given : eqb (length (flat_map triple_octets l.values)) 0 ≡ false = ne_eqb _ 0 (λ (e : length (flat_map triple_octets l.values) ≡ 0). absurd (omega arith)) in
+      let whole : eqb (length (flat_map triple_octets l.values) % 12) 0 ≡ true = eq-eqb _ 0 (omega arith) in
+      judgement-keep ctx has_nlri t (large_tests t) (attr.Large l) (tests-large ctx has_nlri t refl)
+      (value-large ctx t refl ∙ ap (λ (x : LargeCommunities). attr.Large x) (same _ _ (is_partial-flags OptionalTransitive l.partial (ltb 255 (length (flat_map triple_octets l.values))))
+      (ap each_once (triples_of-octets l.values small) ∙ each_once-same l.values once)))
+      (pass _ _ (flags-right OptionalTransitive l.partial (ltb 255 (length (flat_map triple_octets l.values)))), (pass _ _ (or_from _ _ given (ap not whole)), tt))
+    where
+      same : (partial : Bool) (values : List (List ℕ)) → partial ≡ l.partial → values ≡ l.values → (let k : LargeCommunities = record { partial = partial; values = values } in k ≡ l)
+      same partial values e f = rw (e, f) refl
+
+  -- ---- routes of other families
+
+  reach-passes : (f : Family) (hop : List ℕ) (routes : List PrefixValue) (t : TlvValue) → not (has_class OptionalNonTransitive t.flags) ≡ false
+      → IsReach (afi_number f) (address_width (Some f)) hop routes t.value → is_in_use ctx (Some f) ≡ true → is_next_hop_length (Some f) (length hop) ≡ true → NoneApplies (mp_reach_tests ctx t)
+  reach-passes f hop routes t flags s used long =
+      let of_family : family_of t.value ≡ Some f = reach-family f (address_width (Some f)) hop routes t.value s in
+      let hop_long : next_hop_length t.value ≡ length hop = reach-hop_length f (address_width (Some f)) hop routes t.value s in (
+        pass _ _ flags,
+        (
+          pass _ _ (reach-long f (address_width (Some f)) hop routes t.value s),
+          (
+            pass _ _ (ap (λ (o : Option Family). not (is_in_use ctx o)) of_family ∙ ap not used),
+            (
+              pass _ _ (ap₂ (λ (o : Option Family) (n : ℕ). not (is_next_hop_length o n)) of_family hop_long ∙ ap not long),
+              (
+                pass _ _ (reach-longer f (address_width (Some f)) hop routes t.value s),
+                (pass _ _ (ap (λ (o : Option Family). has_bad_prefix (address_width o) (reached_of t.value)) of_family ∙ reach-good f (address_width (Some f)) hop routes t.value s), tt),
+              ),
+            ),
+          ),
+        ),
+      )
+
+  unreach-passes : (f : Family) (routes : List PrefixValue) (t : TlvValue) → not (has_class OptionalNonTransitive t.flags) ≡ false
+      → IsUnreach (afi_number f) (address_width (Some f)) routes t.value → is_in_use ctx (Some f) ≡ true → NoneApplies (mp_unreach_tests ctx t)
+  unreach-passes f routes t flags s used =
+      let of_family : family_of t.value ≡ Some f = unreach-family f (address_width (Some f)) routes t.value s in (
+        pass _ _ flags,
+        (
+          pass _ _ (unreach-long f (address_width (Some f)) routes t.value s),
+          (
+            pass _ _ (ap (λ (o : Option Family). not (is_in_use ctx o)) of_family ∙ ap not used),
+            (pass _ _ (ap (λ (o : Option Family). has_bad_prefix (address_width o) (withdrawn_of t.value)) of_family ∙ unreach-good f (address_width (Some f)) routes t.value s), tt),
+          ),
+        ),
+      )
+
+  kept-reach : (r : MpReach) → NoneApplies (mp_reach_tests ctx (written_tlv ctx (attr.MpReach r))) → mp_reach_of (reach_octets r) ≡ r → ThisKept (attr.MpReach r)
+  kept-reach r none same =
+      let t : TlvValue = written_tlv ctx (attr.MpReach r) in
+      judgement-keep ctx has_nlri t (mp_reach_tests ctx t) (attr.MpReach r) (tests-mp_reach ctx has_nlri t refl) (value-mp_reach ctx t refl ∙ ap (λ (x : MpReach). attr.MpReach x) same) none
+
+  kept-unreach : (r : MpUnreach) → NoneApplies (mp_unreach_tests ctx (written_tlv ctx (attr.MpUnreach r))) → mp_unreach_of (unreach_octets r) ≡ r → ThisKept (attr.MpUnreach r)
+  kept-unreach r none same =
+      let t : TlvValue = written_tlv ctx (attr.MpUnreach r) in
+      judgement-keep ctx has_nlri t (mp_unreach_tests ctx t) (attr.MpUnreach r) (tests-mp_unreach ctx has_nlri t refl) (value-mp_unreach ctx t refl ∙ ap (λ (x : MpUnreach). attr.MpUnreach x) same) none
+
+  pub kept-reach4 : (hop : List ℕ) (routes : List PrefixValue) → length hop ≡ 4 → AllByRecursion (IsValid 4) routes → ctx.ip4 ≡ true → ThisKept (attr.MpReach (reach.Ip4 hop routes))
+  kept-reach4 hop routes four valid used =
+      let s : IsReach IPV4 4 hop routes (reach_row IPV4 hop routes) = reach_row-spells family.Ip4 4 hop routes valid in
+      kept-reach (reach.Ip4 hop routes) (reach-passes family.Ip4 hop routes (written_tlv ctx (attr.MpReach (reach.Ip4 hop routes)))
+      (flags-right OptionalNonTransitive false (ltb 255 (length (reach_row IPV4 hop routes)))) s used (eq-eqb _ 4 four)) (reach4-value hop routes (reach_row IPV4 hop routes) four s)
+
+  two_lengths : (hop : List ℕ) (link : Option (List ℕ)) → length hop ≡ 16 → HasLink link → is_next_hop_length (Some family.Ip6) (length (hop ++ link_octets link)) ≡ true
+  two_lengths hop None wide has = or_left _ _ (eq-eqb (length (hop ++ [])) 16 (omega (arith, length-append hop [])))
+  two_lengths hop (Some addr) wide has =
+      let sixteen : length addr ≡ 16 = has.wide in
+      or_right _ _ (eq-eqb (length (hop ++ addr)) 32 (omega (arith, length-append hop addr)))
+
+  pub kept-reach6 : (hop : List ℕ) (link : Option (List ℕ)) (routes : List PrefixValue) → length hop ≡ 16 → HasLink link → AllByRecursion (IsValid 16) routes → ctx.ip6 ≡ true
+      → ThisKept (attr.MpReach (reach.Ip6 hop link routes))
+  kept-reach6 hop link routes wide has valid used =
+      let s : IsReach IPV6 16 (hop ++ link_octets link) routes (reach_row IPV6 (hop ++ link_octets link) routes) = reach_row-spells family.Ip6 16 (hop ++ link_octets link) routes valid in
+      kept-reach (reach.Ip6 hop link routes) (reach-passes family.Ip6 (hop ++ link_octets link) routes (written_tlv ctx (attr.MpReach (reach.Ip6 hop link routes)))
+      (flags-right OptionalNonTransitive false (ltb 255 (length (reach_row IPV6 (hop ++ link_octets link) routes)))) s used (two_lengths hop link wide has))
+      (reach6-value hop link routes (reach_row IPV6 (hop ++ link_octets link) routes) wide has s)
+
+  pub kept-unreach4 : (routes : List PrefixValue) → AllByRecursion (IsValid 4) routes → ctx.ip4 ≡ true → ThisKept (attr.MpUnreach (unreach.Ip4 routes))
+  kept-unreach4 routes valid used =
+      let s : IsUnreach IPV4 4 routes (unreach_row IPV4 routes) = unreach_row-spells family.Ip4 4 routes valid in
+      kept-unreach (unreach.Ip4 routes) (unreach-passes family.Ip4 routes (written_tlv ctx (attr.MpUnreach (unreach.Ip4 routes)))
+      (flags-right OptionalNonTransitive false (ltb 255 (length (unreach_row IPV4 routes)))) s used) (unreach4-value routes (unreach_row IPV4 routes) s)
+
+  pub kept-unreach6 : (routes : List PrefixValue) → AllByRecursion (IsValid 16) routes → ctx.ip6 ≡ true → ThisKept (attr.MpUnreach (unreach.Ip6 routes))
+  kept-unreach6 routes valid used =
+      let s : IsUnreach IPV6 16 routes (unreach_row IPV6 routes) = unreach_row-spells family.Ip6 16 routes valid in
+      kept-unreach (unreach.Ip6 routes) (unreach-passes family.Ip6 routes (written_tlv ctx (attr.MpUnreach (unreach.Ip6 routes)))
+      (flags-right OptionalNonTransitive false (ltb 255 (length (unreach_row IPV6 routes)))) s used) (unreach6-value routes (unreach_row IPV6 routes) s)
+
+-- ---- every attribute
+
+not_both : (b x : Bool) → (not b && x) ≡ false → b ≡ false → x ≡ false
+not_both true x e is = absurd (true≢false is)
+not_both false x e is = e
+
+fits_where : (b : Bool) (n : ℕ) → IsFourOctets n → (not b && ltb 65535 n) ≡ false → Fits b n
+fits_where true n small e = small
+fits_where false n small e = let low : n ≤ 65535 = ltb-false 65535 n e in omega arith
+
+not_as4 : (b : Bool) → (b && true) ≡ false → b ≡ false
+not_as4 b e = sym (at b) ∙ e
+  where
+    at : (b : Bool) → (b && true) ≡ b
+    at true = refl
+    at false = refl
+
+some_from : {A : Type 0} (xs : List A) → eqb (length xs) 0 ≡ false → 0 < length xs
+some_from xs e = omega (arith, eqb-false (length xs) 0 e)
+
+link-has : (link : Option (List ℕ)) → HasLinkRange link → HasLink link
+link-has None range = record { wide = tt }
+link-has (Some addr) range = record { wide = range.wide }
+
+kept : (ctx : Context) (has_nlri : Bool) (a : Attr) → HasRanges a → Writes ctx a → Belongs ctx has_nlri a → judgement ctx has_nlri (written_tlv ctx a) ≡ judged.Keep a
+kept ctx has_nlri (attr.Origin o) r w in_place = kept-origin ctx has_nlri o
+kept ctx has_nlri (attr.AsPath p) r w in_place =
+    kept-as_path ctx has_nlri p (record { ranges = r; low = not_both ctx.as4 (any_number is_above_two_octets p) w.narrow; good = w.some; nonzero = w.nonzero })
+kept ctx has_nlri (attr.NextHop addr) r w in_place = kept-next_hop ctx has_nlri addr r.wide in_place
+kept ctx has_nlri (attr.Med n) r w in_place = kept-med ctx has_nlri n r
+kept ctx has_nlri (attr.LocalPref n) r w in_place = kept-local_pref ctx has_nlri n r in_place
+kept ctx has_nlri attr.Atomic r w in_place = kept-atomic ctx has_nlri
+kept ctx has_nlri (attr.Aggregator a) r w in_place = kept-aggregator ctx has_nlri a (fits_where ctx.as4 (a.asn).0 r.0 w.narrow) w.nonzero (r.1).wide
+kept ctx has_nlri (attr.Communities c) r w in_place = kept-communities ctx has_nlri c r (some_from c.values w.some)
+kept ctx has_nlri (attr.MpReach (reach.Ip4 hop routes)) r w in_place = kept-reach4 ctx has_nlri hop routes (r.0).wide r.1 in_place
+kept ctx has_nlri (attr.MpReach (reach.Ip6 hop link routes)) r w in_place = kept-reach6 ctx has_nlri hop link routes (r.0).wide (link-has link r.1) r.2 in_place
+kept ctx has_nlri (attr.MpUnreach (unreach.Ip4 routes)) r w in_place = kept-unreach4 ctx has_nlri routes r in_place
+kept ctx has_nlri (attr.MpUnreach (unreach.Ip6 routes)) r w in_place = kept-unreach6 ctx has_nlri routes r in_place
+kept ctx has_nlri (attr.As4Path p) r w in_place =
+    let some = or_parts (eqb (length (p.path).segments) 0) (list_any is_bad_segment (p.path).segments) w.some in
+    kept-as4_path ctx has_nlri p (not_as4 ctx.as4 w.allowed) (record { ranges = r; low = λ e. absurd (true≢false e); good = some.1; nonzero = w.nonzero }) (some_from (p.path).segments some.0)
+kept ctx has_nlri (attr.As4Aggregator a) r w in_place = kept-as4_aggregator ctx has_nlri a (not_as4 ctx.as4 w.allowed) r.0 w.nonzero (r.1).wide
+kept ctx has_nlri (attr.Large l) r w in_place = kept-large ctx has_nlri l r (some_from l.values w.some) w.once
+kept ctx has_nlri (attr.Opaque o) r w in_place = kept-opaque ctx has_nlri o w.named
+
+pub written-kept : (ctx : Context) (has_nlri : Bool) (a : Attr) → HasRanges a → is_writable ctx a ≡ true → Belongs ctx has_nlri a → judgement ctx has_nlri (written_tlv ctx a) ≡ judged.Keep a
+written-kept ctx has_nlri a r e in_place = kept ctx has_nlri a r (writable-Writes ctx a e) in_place
