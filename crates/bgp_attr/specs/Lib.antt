@@ -21,3 +21,4 @@ pub mod CommunitiesView
 pub mod MpView
 pub mod AttrView
 pub mod JudgedView
+pub mod Length

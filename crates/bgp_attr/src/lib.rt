@@ -23,6 +23,7 @@ mod judging;
 mod large_iter;
 mod large_view;
 pub mod laws;
+mod length;
 mod mp;
 mod mp_view;
 mod numbers;

@@ -20,7 +20,7 @@ pub(crate) struct RawSegment<'a> {
 }
 
 /// The octets of an AS number.
-fn number_width(wide: bool) -> usize
+pub(crate) fn number_width(wide: bool) -> usize
     ensures { result ≡ number_width wide }
 {
     if wide { 4 } else { 2 }
