@@ -1,5 +1,5 @@
 -- The laws of prefixes and runs.
-use Rattle.std.proofs.Common.{◌≡◌, ◌⊎◌, inl, inr, ℕ, suc, ◌+◌, ◌-◌, ◌*◌, ◌/◌, ◌%◌, ◌<◌, ◌≤◌, Bool, true, false, cond, leb, ltb, ◌&&◌, List, [], ◌∷◌, ◌++◌, length, get_or, take, drop, All, Option, Some, None, refl, sym, ap, ap₂, ◌∙◌, subst, arith}
+use Rattle.std.proofs.Common.{◌≡◌, ◌⊎◌, inl, inr, ℕ, suc, ◌+◌, ◌-◌, ◌*◌, ◌/◌, ◌%◌, ◌<◌, ◌≤◌, Bool, true, false, cond, leb, ltb, ◌&&◌, List, [], ◌∷◌, ◌++◌, length, get_or, take, drop, All, Some, None, refl, sym, ap, ap₂, ◌∙◌, subst, arith}
 use Rattle.std.specs.List.{flat_map}
 use Rattle.std.specs.Int.{bit_at}
 use Rattle.std.proofs.lemmas.Bool.{cases_lt, leb-true, leb-false, lt-ltb, le-ltb}
@@ -11,6 +11,7 @@ use Rattle.bgp_wire.specs.Row.{Row, IsPrefixFree, Splits}
 use Rattle.bgp_wire.proofs.OctetLemmas.{AreOctets-front, AreOctets-back}
 use Rattle.bgp_wire.proofs.Pieces.{found, found_not, Reads-prefix_free, Splits-pieces, pieces-Splits}
 use Rattle.bgp_wire.proofs.Behinds.{pieces-whole}
+use Rattle.bgp_wire.proofs.Walks.{nothing_at}
 use Rattle.bgp_prefix.specs.declared.fault.RunFault.TheVariants.{TooLong, PastEnd}
 use Rattle.bgp_prefix.specs.Bits.{octets_for, bit_of, address_of}
 use Rattle.bgp_prefix.specs.Prefix.{PrefixValue, IsValid, IsPrefix, HasFirstBits, prefix_of, one_prefix, spelling_of}
@@ -77,14 +78,8 @@ module _ (width : ℕ) where
 
   -- nothing stands at the front of the rest
   stuck_none : (b : List ℕ) (prefixes : List PrefixValue) (rest : List ℕ) → run_of width b ≡ (prefixes, rest) → one_prefix width rest ≡ None
-  stuck_none b prefixes rest e = at (one_prefix width rest) refl
-    where
-      at : (o : Option (PrefixValue × List ℕ)) → one_prefix width rest ≡ o → one_prefix width rest ≡ None
-      at None is = is
-      at (Some q) is =
-          let s = subst (λ (x : List PrefixValue × List ℕ). Splits (IsPrefix width) b x.0 x.1) e (run_splits b) in
-          let gave = (IsPrefix-reads width).gives rest q.0 q.1 is in
-          absurd (s.stuck q.0 gave.0 q.1 gave.2 gave.1)
+  stuck_none b prefixes rest e =
+      ap (λ (q : List PrefixValue × List ℕ). one_prefix width q.1) (sym e) ∙ nothing_at PrefixValue (IsPrefix width) (one_prefix width) (IsPrefix-reads width) b
 
   why : (l : ℕ) (rest : List ℕ) (s t : Bool) → leb l (8 * width) ≡ s → leb (octets_for l) (length rest) ≡ t
       → cond (s && t) (found PrefixValue (prefix_of width l (take (octets_for l) rest), drop (octets_for l) rest)) None ≡ None
