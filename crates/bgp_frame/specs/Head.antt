@@ -2,6 +2,7 @@
 use Rattle.std.specs.Prelude.{ℕ, Bool, not, ◌||◌, nat_eq, nat_lt, List, [], ◌∷◌, ◌++◌, replicate, slice_index, Option, None, Some, Result, Ok, Err, if◌then◌else◌}
 use Rattle.std.specs.List.{starts_with}
 use Rattle.std.specs.Int.{w16, to_be_bytes, from_be_bytes}
+use Rattle.bgp_numbers.specs.declared.error.TheConstants.{MESSAGE_HEADER, NOT_SYNCHRONIZED, BAD_MESSAGE_LENGTH, BAD_MESSAGE_TYPE}
 use Rattle.bgp_frame.specs.declared.kind.Kind.{Kind}
 use Rattle.bgp_frame.specs.declared.header.Header.{Header}
 use Rattle.bgp_frame.specs.declared.fault.HeadFault.{HeadFault}
@@ -40,6 +41,6 @@ head_of h =
 
 -- what a fault is answered by: the field that is at fault is the information
 abbrev pub notification_of : HeadFault → Notification
-notification_of fault.Marker = record { code = 1; subcode = 1; info = record { items = [] } }
-notification_of (fault.Length n) = record { code = 1; subcode = 2; info = record { items = to_be_bytes w16 n } }
-notification_of (fault.Kind code) = record { code = 1; subcode = 3; info = record { items = code ∷ [] } }
+notification_of fault.Marker = record { code = MESSAGE_HEADER; subcode = NOT_SYNCHRONIZED; info = record { items = [] } }
+notification_of (fault.Length n) = record { code = MESSAGE_HEADER; subcode = BAD_MESSAGE_LENGTH; info = record { items = to_be_bytes w16 n } }
+notification_of (fault.Kind code) = record { code = MESSAGE_HEADER; subcode = BAD_MESSAGE_TYPE; info = record { items = code ∷ [] } }

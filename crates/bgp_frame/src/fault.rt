@@ -1,6 +1,7 @@
 //! Faults of a header.
 
 use crate::notification::Notification;
+use bgp_numbers::error;
 
 /// Why a header begins no message, by the first test that fails (RFC 4271, section 6.1).
 #[derive(Clone, Copy, Debug, PartialEq, Eq)]
@@ -22,9 +23,17 @@ impl HeadFault {
         ensures { result ≡ notification_of self }
     {
         match self {
-            HeadFault::Marker => Notification::new(1, 1, &[]),
-            HeadFault::Length(length) => Notification::new(1, 2, &length.to_be_bytes()),
-            HeadFault::Kind(code) => Notification::new(1, 3, &[code]),
+            HeadFault::Marker => {
+                Notification::new(error::MESSAGE_HEADER, error::NOT_SYNCHRONIZED, &[])
+            }
+            HeadFault::Length(length) => Notification::new(
+                error::MESSAGE_HEADER,
+                error::BAD_MESSAGE_LENGTH,
+                &length.to_be_bytes(),
+            ),
+            HeadFault::Kind(code) => {
+                Notification::new(error::MESSAGE_HEADER, error::BAD_MESSAGE_TYPE, &[code])
+            }
         }
     }
 }

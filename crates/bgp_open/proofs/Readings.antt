@@ -4,6 +4,8 @@ use Rattle.std.specs.Prelude.{IfOk}
 use Rattle.std.proofs.lemmas.Bool.{eqb-true, eq-eqb, ne_eqb, true≢false}
 use Rattle.bgp_wire.specs.Reader.{pieces}
 use Rattle.bgp_wire.proofs.Behinds.{pieces-whole, Row-pieces}
+use Rattle.bgp_numbers.specs.declared.TheConstants.{VERSION}
+use Rattle.bgp_numbers.specs.declared.parameter.TheConstants.{CAPABILITIES}
 use Rattle.bgp_open.specs.declared.capability.Capability.{Capability}
 use Rattle.bgp_open.specs.declared.message.Open.{Open}
 use Rattle.bgp_open.specs.declared.fault.OpenFault.{OpenFault}
@@ -45,7 +47,7 @@ rest_some false false e = absurd cc
 rest_none : (rest : List ℕ) → rest_fault rest ≡ None → rest ≡ []
 rest_none [] e = refl
 rest_none (kind ∷ []) e = absurd cc
-rest_none (kind ∷ n ∷ value) e = absurd (rest_some (ltb (length value) n) (not (eqb kind 2)) e)
+rest_none (kind ∷ n ∷ value) e = absurd (rest_some (ltb (length value) n) (not (eqb kind CAPABILITIES)) e)
 
 -- ---- the tests together
 
@@ -77,7 +79,7 @@ not-false false e = absurd (true≢false e)
 -- ---- a body and its value
 
 abbrev body_tests : List ℕ → Option OpenFault
-body_tests body = tests (not (eqb (version_of body) 4)) (not (eqb (length_of body) (length (parameters_of body)))) (rest_fault (pieces one_parameter (parameters_of body)).1) (is_short_hold (hold_of body)) (is_zero_id (id_of body))
+body_tests body = tests (not (eqb (version_of body) VERSION)) (not (eqb (length_of body) (length (parameters_of body)))) (rest_fault (pieces one_parameter (parameters_of body)).1) (is_short_hold (hold_of body)) (is_zero_id (id_of body))
 
 -- what is spelled has no fault, and its row is what the pieces are
 row_found : (o : Open) (body : List ℕ) (p : IsOpen o body) → pieces one_parameter (parameters_of body) ≡ (p.parameters, [])
@@ -87,7 +89,7 @@ pub open-fault : (o : Open) (body : List ℕ) → IsOpen o body → fault_of bod
 unfolding fault_of
 open-fault o body p =
     let row = row_found o body p in
-    passes-none (not (eqb (version_of body) 4)) (not (eqb (length_of body) (length (parameters_of body)))) (rest_fault (pieces one_parameter (parameters_of body)).1) (is_short_hold (hold_of body)) (is_zero_id (id_of body)) record {
+    passes-none (not (eqb (version_of body) VERSION)) (not (eqb (length_of body) (length (parameters_of body)))) (rest_fault (pieces one_parameter (parameters_of body)).1) (is_short_hold (hold_of body)) (is_zero_id (id_of body)) record {
       version = ap not (eq-eqb _ _ p.version);
       counted = ap not (eq-eqb _ _ p.counted);
       row = ap (λ (q : List (List Capability) × List ℕ). rest_fault q.1) row;
@@ -108,7 +110,7 @@ open-value o body p =
 pub fault-open : (body : List ℕ) → 10 ≤ length body → fault_of body ≡ None → IsOpen (open_of body) body
 unfolding fault_of
 fault-open body long e =
-    let p = none-passes (not (eqb (version_of body) 4)) (not (eqb (length_of body) (length (parameters_of body)))) (rest_fault (pieces one_parameter (parameters_of body)).1) (is_short_hold (hold_of body)) (is_zero_id (id_of body)) e in
+    let p = none-passes (not (eqb (version_of body) VERSION)) (not (eqb (length_of body) (length (parameters_of body)))) (rest_fault (pieces one_parameter (parameters_of body)).1) (is_short_hold (hold_of body)) (is_zero_id (id_of body)) e in
     let empty = rest_none (pieces one_parameter (parameters_of body)).1 p.row in
     record {
       fixed = long;
@@ -160,11 +162,11 @@ not_memory false false [] true z fault e is = absurd cc
 not_memory false false [] false true fault e is = absurd cc
 not_memory false false [] false false fault e is = absurd cc
 not_memory false false (kind ∷ []) h z fault e is = absurd cc
-not_memory false false (kind ∷ n ∷ value) h z fault e is = rest_not_memory (ltb (length value) n) (not (eqb kind 2)) h z fault e is
+not_memory false false (kind ∷ n ∷ value) h z fault e is = rest_not_memory (ltb (length value) n) (not (eqb kind CAPABILITIES)) h z fault e is
 
 fault_not_memory : (body : List ℕ) (fault : OpenFault) → fault_of body ≡ Some fault → fault ≢ Memory
 unfolding fault_of
-fault_not_memory body fault e = not_memory (not (eqb (version_of body) 4)) (not (eqb (length_of body) (length (parameters_of body)))) (pieces one_parameter (parameters_of body)).1 (is_short_hold (hold_of body)) (is_zero_id (id_of body)) fault e
+fault_not_memory body fault e = not_memory (not (eqb (version_of body) VERSION)) (not (eqb (length_of body) (length (parameters_of body)))) (pieces one_parameter (parameters_of body)).1 (is_short_hold (hold_of body)) (is_zero_id (id_of body)) fault e
 
 no_value : (fault : OpenFault) (f : Option OpenFault) → f ≡ None → f ≡ Some fault → ⊥
 no_value fault f n s = absurd cc

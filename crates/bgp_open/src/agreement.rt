@@ -8,6 +8,7 @@ use crate::capability::Capability;
 use crate::config::Config;
 use crate::context::Context;
 use crate::message::Open;
+use bgp_numbers::{afi, safi};
 
 /// Why a peer isn't accepted: the first reason in this order (RFC 4271, section 6.2).
 #[derive(Clone, Copy, Debug, PartialEq, Eq)]
@@ -35,7 +36,7 @@ fn is_unicast(family: u16, capability: &Capability) -> bool
     ensures { result ≡ is_unicast family capability.now }
 {
     match capability {
-        Capability::Multi(of, subsequent) => *of == family && *subsequent == 1,
+        Capability::Multi(of, subsequent) => *of == family && *subsequent == safi::UNICAST,
         Capability::As4(_) | Capability::Other(_, _) => false,
     }
 }
@@ -67,8 +68,8 @@ pub fn agree(config: &Config, peer: &Open) -> Result<Context, PeerFault>
     Ok(Context {
         internal,
         as4: config.as4() && number.is_some(),
-        ip4: config.ip4() && offers_unicast(1, peer),
-        ip6: config.ip6() && offers_unicast(2, peer),
+        ip4: config.ip4() && offers_unicast(afi::IPV4, peer),
+        ip6: config.ip6() && offers_unicast(afi::IPV6, peer),
         hold: config.hold().min(peer.hold),
     })
 }

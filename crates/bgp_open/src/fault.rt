@@ -1,10 +1,11 @@
 //! Why the body of an OPEN isn't read.
 
-ghost use Rattle.std.specs.Prelude.{◌≡◌};
+ghost use Rattle.std.specs.Prelude.{◌≡◌, ◌≤◌, length};
 ghost use Rattle.bgp_open.specs.declared.fault.OpenFault.TheVariants.{Memory};
-ghost use Rattle.bgp_open.specs.OpenFault.{notification_of};
+ghost use Rattle.bgp_open.specs.OpenFault.{open_error, notification_of};
 
 use bgp_frame::Notification;
+use bgp_numbers::{VERSION, error};
 use std::alloc::AllocError;
 
 /// The first fault of the body of an OPEN (RFC 4271, section 6.2), or a refused growth.
@@ -24,17 +25,25 @@ pub enum OpenFault {
     Memory,
 }
 
+/// An answer of code 2, OPEN Message Error (RFC 4271, section 6.2).
+pub(crate) fn open_error(subcode: u8, info: &[u8]) -> Notification
+    requires { length info.now ≤ 4075 }
+    ensures { result ≡ open_error subcode info.now }
+{
+    Notification::new(error::OPEN_MESSAGE, subcode, info)
+}
+
 impl OpenFault {
     /// The answer to the fault, of code 2 (OPEN Message Error): none where memory ran out.
     pub fn notification(self) -> Option<Notification>
         ensures { result ≡ notification_of self }
     {
         match self {
-            OpenFault::Version => Some(Notification::new(2, 1, &[0, 4])),
-            OpenFault::Parameter => Some(Notification::new(2, 0, &[])),
-            OpenFault::UnknownParameter => Some(Notification::new(2, 4, &[])),
-            OpenFault::Hold => Some(Notification::new(2, 6, &[])),
-            OpenFault::Identifier => Some(Notification::new(2, 3, &[])),
+            OpenFault::Version => Some(open_error(error::UNSUPPORTED_VERSION, &[0, VERSION])),
+            OpenFault::Parameter => Some(open_error(error::UNSPECIFIC, &[])),
+            OpenFault::UnknownParameter => Some(open_error(error::UNSUPPORTED_PARAMETER, &[])),
+            OpenFault::Hold => Some(open_error(error::UNACCEPTABLE_HOLD_TIME, &[])),
+            OpenFault::Identifier => Some(open_error(error::BAD_IDENTIFIER, &[])),
             OpenFault::Memory => None,
         }
     }

@@ -10,21 +10,20 @@ ghost use Rattle.bgp_open.specs.Written.{row_octets, canonical};
 use crate::body::body_of;
 use crate::capability::Capability;
 use crate::config::Config;
+use crate::field::is_wide;
 use crate::message::Open;
 use crate::row::put;
 use arrayvec::ArrayVec;
 use bgp_frame::{Kind, head};
+use bgp_numbers::{AS_TRANS, afi, safi};
 use bgp_wire::List;
 use std::alloc::{AllocError, Global};
-
-/// What stands in two octets for an AS number that needs four (RFC 6793, section 9).
-const AS_TRANS: u16 = 23456;
 
 /// The My Autonomous System field for an AS number.
 fn as_field(number: u32) -> u16
     ensures { result ≡ field_for number }
 {
-    if number > 65535 {
+    if is_wide(number) {
         AS_TRANS
     } else {
         number as u16
@@ -41,10 +40,10 @@ pub fn own_open(alloc: Global, config: &Config) -> Result<Open, AllocError>
 {
     let mut caps = List::new(alloc);
     if config.ip4() {
-        caps.push(Capability::Multi(1, 1))?;
+        caps.push(Capability::Multi(afi::IPV4, safi::UNICAST))?;
     }
     if config.ip6() {
-        caps.push(Capability::Multi(2, 1))?;
+        caps.push(Capability::Multi(afi::IPV6, safi::UNICAST))?;
     }
     if config.as4() {
         caps.push(Capability::As4(config.local_as()))?;
@@ -63,10 +62,10 @@ fn own_row(config: &Config) -> ArrayVec<u8, 253>
 {
     let mut row = ArrayVec::new();
     if config.ip4() {
-        put(&Capability::Multi(1, 1), &mut row);
+        put(&Capability::Multi(afi::IPV4, safi::UNICAST), &mut row);
     }
     if config.ip6() {
-        put(&Capability::Multi(2, 1), &mut row);
+        put(&Capability::Multi(afi::IPV6, safi::UNICAST), &mut row);
     }
     if config.as4() {
         put(&Capability::As4(config.local_as()), &mut row);

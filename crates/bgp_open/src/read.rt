@@ -14,6 +14,7 @@ use crate::field::{is_short_hold, is_zero_id};
 use crate::message::Open;
 use crate::parameter::{first_parameter, parameters_fault};
 use crate::view::first_capability;
+use bgp_numbers::VERSION;
 use bgp_wire::List;
 use std::alloc::{AllocError, Global};
 
@@ -23,7 +24,7 @@ fn first_fault(body: &[u8]) -> Option<OpenFault>
     requires { 10 ≤ length body.now }
     ensures { result ≡ fault_of body.now }
 {
-    if body[0] != 4 {
+    if body[0] != VERSION {
         return Some(OpenFault::Version);
     }
     let parameters = &body[10..];
