@@ -12,6 +12,7 @@ use crate::capability::Capability;
 use crate::config::Config;
 use crate::field::is_wide;
 use crate::message::Open;
+use crate::read::extend;
 use crate::row::put;
 use arrayvec::ArrayVec;
 use bgp_frame::{Kind, head};
@@ -38,16 +39,9 @@ fn as_field(number: u32) -> u16
 pub fn own_open(alloc: Global, config: &Config) -> Result<Open, AllocError>
     ensures { IfOk result (λ o. o ≡ own_of config.now) }
 {
+    // What is offered is said once, by the row that is sent.
     let mut caps = List::new(alloc);
-    if config.ip4() {
-        caps.push(Capability::Multi(afi::IPV4, safi::UNICAST))?;
-    }
-    if config.ip6() {
-        caps.push(Capability::Multi(afi::IPV6, safi::UNICAST))?;
-    }
-    if config.as4() {
-        caps.push(Capability::As4(config.local_as()))?;
-    }
+    extend(alloc, &mut caps, &offered_row(config))?;
     Ok(Open {
         as_field: as_field(config.local_as()),
         hold: config.hold(),
@@ -56,8 +50,8 @@ pub fn own_open(alloc: Global, config: &Config) -> Result<Open, AllocError>
     })
 }
 
-/// The row of the capabilities that a speaker offers.
-fn own_row(config: &Config) -> ArrayVec<u8, 253>
+/// What a speaker offers, as the row of its capabilities.
+fn offered_row(config: &Config) -> ArrayVec<u8, 253>
     ensures { result.items ≡ row_octets (own_caps config.now) }
 {
     let mut row = ArrayVec::new();
@@ -79,7 +73,7 @@ pub fn own_frame(config: &Config) -> ArrayVec<u8, 49>
     // The body spells what the speaker says of itself.
     ensures spelled { IsOpen (own_of config.now) (canonical (own_of config.now)) }
 {
-    let row = own_row(config);
+    let row = offered_row(config);
     let body = body_of(
         as_field(config.local_as()),
         config.hold(),

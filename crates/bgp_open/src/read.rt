@@ -44,7 +44,11 @@ fn first_fault(body: &[u8]) -> Option<OpenFault>
 }
 
 /// Adds the capabilities from the front on.
-fn extend(alloc: Global, caps: &mut List<Capability>, octets: &[u8]) -> Result<(), AllocError>
+pub(crate) fn extend(
+    alloc: Global,
+    caps: &mut List<Capability>,
+    octets: &[u8],
+) -> Result<(), AllocError>
     ensures { OnOk result (caps.new ≡ caps.old ++ (pieces one_capability octets.now).0) }
 {
     let mut rest = octets;
