@@ -31,8 +31,8 @@ rest_fault (kind ∷ n ∷ value) =
     Some Parameter)
 
 -- the first fault of a body of at least ten octets
-unfoldable pub fault_of : List ℕ → Option OpenFault
-fault_of body = first_fault (
+unfoldable pub open_fault : List ℕ → Option OpenFault
+open_fault body = first_fault (
     fault_if (not (version_of body == VERSION)) Version ∷
     fault_if (not (length_of body == length (parameters_of body))) Parameter ∷
     rest_fault (pieces one_parameter (parameters_of body)).1 ∷
@@ -54,16 +54,16 @@ or_fault None o = Ok o
 or_fault (Some fault) o = Err fault
 
 abbrev pub reading_of : List ℕ → Result Open OpenFault
-reading_of body = or_fault (fault_of body) (open_of body)
+reading_of body = or_fault (open_fault body) (open_of body)
 
 -- what was answered is the reading, or memory ran out where there is a value
 abbrev pub FailsAs : OpenFault → Result Open OpenFault → Type 0
 FailsAs Memory reading = IsOk reading
 FailsAs fault reading = reading ≡ Err fault
 
-abbrev pub Gives : Result Open OpenFault → Result Open OpenFault → Type 0
-Gives (Ok o) reading = reading ≡ Ok o
-Gives (Err fault) reading = FailsAs fault reading
+abbrev pub IsReadAs : Result Open OpenFault → Result Open OpenFault → Type 0
+IsReadAs (Ok o) reading = reading ≡ Ok o
+IsReadAs (Err fault) reading = FailsAs fault reading
 
 -- a body has one value, or a fault and no value
 abbrev pub HasValueOrFault : List ℕ → Option OpenFault → Type 0
@@ -75,10 +75,10 @@ abbrev pub open_error : ℕ → List ℕ → Notification
 open_error subcode info = record { code = OPEN_MESSAGE; subcode = subcode; info = record { items = info } }
 
 -- the notification of a fault: the version that is spoken here is the information of an unsupported one, and a refused growth has none
-abbrev pub notification_of : OpenFault → Option Notification
-notification_of Version = Some (open_error UNSUPPORTED_VERSION (0 ∷ VERSION ∷ []))
-notification_of Parameter = Some (open_error UNSPECIFIC [])
-notification_of UnknownParameter = Some (open_error UNSUPPORTED_PARAMETER [])
-notification_of Hold = Some (open_error UNACCEPTABLE_HOLD_TIME [])
-notification_of Identifier = Some (open_error BAD_IDENTIFIER [])
-notification_of Memory = None
+abbrev pub open_notification : OpenFault → Option Notification
+open_notification Version = Some (open_error UNSUPPORTED_VERSION (0 ∷ VERSION ∷ []))
+open_notification Parameter = Some (open_error UNSPECIFIC [])
+open_notification UnknownParameter = Some (open_error UNSUPPORTED_PARAMETER [])
+open_notification Hold = Some (open_error UNACCEPTABLE_HOLD_TIME [])
+open_notification Identifier = Some (open_error BAD_IDENTIFIER [])
+open_notification Memory = None

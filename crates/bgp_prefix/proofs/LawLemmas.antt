@@ -15,7 +15,7 @@ use Rattle.bgp_wire.proofs.Walks.{nothing_at}
 use Rattle.bgp_prefix.specs.declared.fault.RunFault.TheVariants.{TooLong, PastEnd}
 use Rattle.bgp_prefix.specs.Bits.{octets_for, bit_of, address_of}
 use Rattle.bgp_prefix.specs.Prefix.{PrefixValue, IsValid, IsPrefix, HasFirstBits, prefix_of, one_prefix, spelling_of}
-use Rattle.bgp_prefix.specs.Run.{run_of, fault_of}
+use Rattle.bgp_prefix.specs.Run.{run_of, run_fault}
 use Rattle.bgp_prefix.proofs.BitLemmas.{length-address_of, AreOctets-address_of, bit_of-address_of, HasNoBitPast-address_of}
 use Rattle.bgp_prefix.proofs.PrefixLemmas.{IsPrefix-reads, IsPrefix-length, IsPrefix-spelling_of, IsPrefix-valid}
 
@@ -83,7 +83,7 @@ module _ (width : ℕ) where
 
   why : (l : ℕ) (rest : List ℕ) (s t : Bool) → leb l (8 * width) ≡ s → leb (octets_for l) (length rest) ≡ t
       → cond (s && t) (found PrefixValue (prefix_of width l (take (octets_for l) rest), drop (octets_for l) rest)) None ≡ None
-      → ((8 * width < l) × (fault_of width (l ∷ rest) ≡ Some TooLong)) ⊎ ((l ≤ 8 * width) × (length rest < octets_for l) × (fault_of width (l ∷ rest) ≡ Some PastEnd))
+      → ((8 * width < l) × (run_fault width (l ∷ rest) ≡ Some TooLong)) ⊎ ((l ≤ 8 * width) × (length rest < octets_for l) × (run_fault width (l ∷ rest) ≡ Some PastEnd))
   why l rest true true p q e = absurd (found_not PrefixValue _ (sym e))
   why l rest true false p q e =
       let small : ltb (8 * width) l ≡ false = le-ltb _ _ (leb-true _ _ p) in
@@ -93,7 +93,7 @@ module _ (width : ℕ) where
       inl (leb-false _ _ p, rw big refl)
 
   pub fault_why : (b : List ℕ) (prefixes : List PrefixValue) (l : ℕ) (rest : List ℕ) → run_of width b ≡ (prefixes, l ∷ rest)
-      → ((8 * width < l) × (fault_of width (l ∷ rest) ≡ Some TooLong)) ⊎ ((l ≤ 8 * width) × (length rest < octets_for l) × (fault_of width (l ∷ rest) ≡ Some PastEnd))
+      → ((8 * width < l) × (run_fault width (l ∷ rest) ≡ Some TooLong)) ⊎ ((l ≤ 8 * width) × (length rest < octets_for l) × (run_fault width (l ∷ rest) ≡ Some PastEnd))
   unfolding one_prefix
   fault_why b prefixes l rest e = why l rest (leb l (8 * width)) (leb (octets_for l) (length rest)) refl refl (stuck_none b prefixes (l ∷ rest) e)
 

@@ -8,13 +8,13 @@ use Rattle.bgp_wire.proofs.Rows.{Row-push}
 use Rattle.bgp_prefix.specs.declared.fault.RunFault.{RunFault}
 use Rattle.bgp_prefix.specs.declared.fault.RunFault.TheVariants.{TooLong, PastEnd, Memory}
 use Rattle.bgp_prefix.specs.Prefix.{PrefixValue, IsValid, IsPrefix, spelling_of}
-use Rattle.bgp_prefix.specs.Run.{run_of, fault_at, fault_of, IsReading}
+use Rattle.bgp_prefix.specs.Run.{run_of, fault_at, run_fault, IsReading}
 use Rattle.bgp_prefix.proofs.PrefixLemmas.{IsPrefix-spelling_of}
 
 -- ---- reading
 
 -- only the two faults of octets are a fault of the rest
-is_fault : (width : ℕ) (octets : List ℕ) (t : Bool) (fault : RunFault) → fault ≡ cond t TooLong PastEnd → fault_of width (run_of width octets).1 ≡ Some (cond t TooLong PastEnd) → IsReading width octets (Err fault)
+is_fault : (width : ℕ) (octets : List ℕ) (t : Bool) (fault : RunFault) → fault ≡ cond t TooLong PastEnd → run_fault width (run_of width octets).1 ≡ Some (cond t TooLong PastEnd) → IsReading width octets (Err fault)
 is_fault width octets true TooLong e r = r
 is_fault width octets true PastEnd e r = absurd cc
 is_fault width octets true Memory e r = absurd cc
@@ -23,7 +23,7 @@ is_fault width octets false PastEnd e r = r
 is_fault width octets false Memory e r = absurd cc
 
 pub reading_fault : (width : ℕ) (octets : List ℕ) (ps : List PrefixValue) (l : ℕ) (rest : List ℕ) (fault : RunFault) → run_of width octets ≡ (ps, l ∷ rest) → fault ≡ fault_at width l → IsReading width octets (Err fault)
-reading_fault width octets ps l rest fault e is = is_fault width octets (ltb (8 * width) l) fault is (ap (λ (q : List PrefixValue × List ℕ). fault_of width q.1) e)
+reading_fault width octets ps l rest fault e is = is_fault width octets (ltb (8 * width) l) fault is (ap (λ (q : List PrefixValue × List ℕ). run_fault width q.1) e)
 
 -- octets without a first one, and with one
 pub none_first : (b : List ℕ) → None ≡ slice_get b 0 → b ≡ []
