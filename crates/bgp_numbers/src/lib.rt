@@ -5,6 +5,7 @@ pub mod afi;
 pub mod attribute;
 pub mod capability;
 pub mod error;
+pub mod message;
 pub mod parameter;
 pub mod safi;
 pub mod segment;

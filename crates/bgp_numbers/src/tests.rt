@@ -6,6 +6,15 @@ use std::test::*;
 fn numbers_are_those_of_the_registries(rt: HostRuntime) {
     assert_eq!(rt; VERSION, 4);
     assert_eq!(rt; AS_TRANS, 23456);
+    assert_eq!(rt;
+        [
+            message::OPEN,
+            message::UPDATE,
+            message::NOTIFICATION,
+            message::KEEPALIVE
+        ],
+        [1, 2, 3, 4]
+    );
     assert_eq!(rt; [afi::IPV4, afi::IPV6], [1, 2]);
     assert_eq!(rt; safi::UNICAST, 1);
     assert_eq!(rt; parameter::CAPABILITIES, 2);
