@@ -39,7 +39,7 @@ fn as_field(number: u32) -> u16
 pub fn own_open(alloc: Global, config: &Config) -> Result<Open, AllocError>
     ensures { IfOk result (λ o. o ≡ own_of config.now) }
 {
-    // What is offered is said once, by the row that is sent.
+    // What is offered is said once, by the row that is sent; here it is read.
     let mut caps = List::new(alloc);
     extend(alloc, &mut caps, &offered_row(config))?;
     Ok(Open {
