@@ -2,6 +2,7 @@
 use Rattle.std.proofs.Common.{◌≡◌, ℕ, ◌≤◌, Bool, true, false, not, cond, ◌||◌, eqb, ltb, leb, List, take, Option, Some, None, Result, Ok, Err, refl, sym, ap, subst, arith}
 use Rattle.std.proofs.lemmas.Bool.{eqb-true, leb-true, le-leb, le-ltb, and_parts}
 use Rattle.std.proofs.lemmas.Slice.Eq.{bytes_eq-Decides}
+use Rattle.bgp_numbers.specs.declared.message.TheConstants.{OPEN, UPDATE, NOTIFICATION, KEEPALIVE}
 use Rattle.bgp_frame.specs.declared.kind.Kind.{Kind}
 use Rattle.bgp_frame.specs.declared.kind.Kind.TheVariants.{Open, Update, Notification, Keepalive}
 use Rattle.bgp_frame.specs.declared.header.Header.{Header}
@@ -22,15 +23,15 @@ kind_of-code_of Keepalive = refl
 abbrev kind_by : Bool → Bool → Bool → Bool → Option Kind
 kind_by b1 b2 b3 b4 = cond b1 (Some Open) (cond b2 (Some Update) (cond b3 (Some Notification) (cond b4 (Some Keepalive) None)))
 
-kind_tests : (n : ℕ) (kind : Kind) (b1 b2 b3 b4 : Bool) → eqb n 1 ≡ b1 → eqb n 2 ≡ b2 → eqb n 3 ≡ b3 → eqb n 4 ≡ b4 → kind_by b1 b2 b3 b4 ≡ Some kind → n ≡ code_of kind
-kind_tests n kind true b2 b3 b4 e1 e2 e3 e4 e = subst (λ (k : Kind). n ≡ code_of k) (let same : Open ≡ kind = cc in same) (eqb-true n 1 e1)
-kind_tests n kind false true b3 b4 e1 e2 e3 e4 e = subst (λ (k : Kind). n ≡ code_of k) (let same : Update ≡ kind = cc in same) (eqb-true n 2 e2)
-kind_tests n kind false false true b4 e1 e2 e3 e4 e = subst (λ (k : Kind). n ≡ code_of k) (let same : Notification ≡ kind = cc in same) (eqb-true n 3 e3)
-kind_tests n kind false false false true e1 e2 e3 e4 e = subst (λ (k : Kind). n ≡ code_of k) (let same : Keepalive ≡ kind = cc in same) (eqb-true n 4 e4)
+kind_tests : (n : ℕ) (kind : Kind) (b1 b2 b3 b4 : Bool) → eqb n OPEN ≡ b1 → eqb n UPDATE ≡ b2 → eqb n NOTIFICATION ≡ b3 → eqb n KEEPALIVE ≡ b4 → kind_by b1 b2 b3 b4 ≡ Some kind → n ≡ code_of kind
+kind_tests n kind true b2 b3 b4 e1 e2 e3 e4 e = subst (λ (k : Kind). n ≡ code_of k) (let same : Open ≡ kind = cc in same) (eqb-true n OPEN e1)
+kind_tests n kind false true b3 b4 e1 e2 e3 e4 e = subst (λ (k : Kind). n ≡ code_of k) (let same : Update ≡ kind = cc in same) (eqb-true n UPDATE e2)
+kind_tests n kind false false true b4 e1 e2 e3 e4 e = subst (λ (k : Kind). n ≡ code_of k) (let same : Notification ≡ kind = cc in same) (eqb-true n NOTIFICATION e3)
+kind_tests n kind false false false true e1 e2 e3 e4 e = subst (λ (k : Kind). n ≡ code_of k) (let same : Keepalive ≡ kind = cc in same) (eqb-true n KEEPALIVE e4)
 kind_tests n kind false false false false e1 e2 e3 e4 e = absurd cc
 
 pub code_of-kind_of : (n : ℕ) (kind : Kind) → kind_of n ≡ Some kind → n ≡ code_of kind
-code_of-kind_of n kind e = kind_tests n kind (eqb n 1) (eqb n 2) (eqb n 3) (eqb n 4) refl refl refl refl e
+code_of-kind_of n kind e = kind_tests n kind (eqb n OPEN) (eqb n UPDATE) (eqb n NOTIFICATION) (eqb n KEEPALIVE) refl refl refl refl e
 
 pub IsLength-test : (kind : Kind) (n : ℕ) → is_length kind n ≡ true → IsLength kind n
 IsLength-test kind n e =

@@ -2,6 +2,7 @@
 use Rattle.std.specs.Prelude.{ℕ, Bool, not, ◌||◌, nat_eq, nat_lt, List, [], ◌∷◌, ◌++◌, replicate, slice_index, Option, None, Some, Result, Ok, Err, if◌then◌else◌}
 use Rattle.std.specs.List.{starts_with}
 use Rattle.std.specs.Int.{w16, to_be_bytes, from_be_bytes}
+use Rattle.bgp_numbers.specs.declared.error.TheConstants.{MESSAGE_HEADER, NOT_SYNCHRONIZED, BAD_MESSAGE_LENGTH, BAD_MESSAGE_TYPE}
 use Rattle.bgp_frame.specs.declared.kind.Kind.{Kind}
 use Rattle.bgp_frame.specs.declared.header.Header.{Header}
 use Rattle.bgp_frame.specs.declared.fault.HeadFault.{HeadFault}
@@ -31,7 +32,7 @@ abbrev pub head_for : Option Kind → ℕ → ℕ → Result Header HeadFault
 head_for None code len = Err (fault.Kind code)
 head_for (Some kind) code len = if is_length kind len then Ok (record { kind = kind; len = len }) else Err (fault.Length len)
 
--- the first 19 octets, by the tests in their order
+-- the first 19 octets: the tests are those of RFC 4271, section 6.1, and their order this project's own
 unfoldable pub head_of : List ℕ → Result Header HeadFault
 head_of h =
     if not (has_marker h) then Err fault.Marker else (
@@ -39,7 +40,7 @@ head_of h =
     head_for (kind_of (type_field h)) (type_field h) (length_field h))
 
 -- what a fault is answered by: the field that is at fault is the information
-abbrev pub notification_of : HeadFault → Notification
-notification_of fault.Marker = record { code = 1; subcode = 1; info = record { items = [] } }
-notification_of (fault.Length n) = record { code = 1; subcode = 2; info = record { items = to_be_bytes w16 n } }
-notification_of (fault.Kind code) = record { code = 1; subcode = 3; info = record { items = code ∷ [] } }
+abbrev pub head_notification : HeadFault → Notification
+head_notification fault.Marker = record { code = MESSAGE_HEADER; subcode = NOT_SYNCHRONIZED; info = record { items = [] } }
+head_notification (fault.Length n) = record { code = MESSAGE_HEADER; subcode = BAD_MESSAGE_LENGTH; info = record { items = to_be_bytes w16 n } }
+head_notification (fault.Kind code) = record { code = MESSAGE_HEADER; subcode = BAD_MESSAGE_TYPE; info = record { items = code ∷ [] } }

@@ -1,22 +1,23 @@
 -- The kinds of message, their type octets and their lengths (RFC 4271, sections 4.1 to 4.5).
 use Rattle.std.specs.Prelude.{ℕ, ◌≤◌, Bool, ◌&&◌, ◌==◌, nat_le, Option, None, Some, if◌then◌else◌}
+use Rattle.bgp_numbers.specs.declared.message.TheConstants.{OPEN, UPDATE, NOTIFICATION, KEEPALIVE}
 use Rattle.bgp_frame.specs.declared.kind.Kind.{Kind}
 use Rattle.bgp_frame.specs.declared.kind.Kind.TheVariants.{Open, Update, Notification, Keepalive}
 
 -- the octet of a kind
 abbrev pub code_of : Kind → ℕ
-code_of Open = 1
-code_of Update = 2
-code_of Notification = 3
-code_of Keepalive = 4
+code_of Open = OPEN
+code_of Update = UPDATE
+code_of Notification = NOTIFICATION
+code_of Keepalive = KEEPALIVE
 
 -- the kind of an octet
 abbrev pub kind_of : ℕ → Option Kind
 kind_of n =
-    if n == 1 then Some Open else (
-    if n == 2 then Some Update else (
-    if n == 3 then Some Notification else (
-    if n == 4 then Some Keepalive else None)))
+    if n == OPEN then Some Open else (
+    if n == UPDATE then Some Update else (
+    if n == NOTIFICATION then Some Notification else (
+    if n == KEEPALIVE then Some Keepalive else None)))
 
 -- the least and the most octets of a whole message
 abbrev pub least_length : Kind → ℕ

@@ -1,8 +1,10 @@
 //! Faults of a header.
 
 use crate::notification::Notification;
+use bgp_numbers::error;
 
-/// Why a header begins no message, by the first test that fails (RFC 4271, section 6.1).
+/// Why a header begins no message, by the first test that fails: the Marker, the bounds of any Length, the type, the Length for that
+/// type. The tests are those of RFC 4271, section 6.1, and their order our own.
 #[derive(Clone, Copy, Debug, PartialEq, Eq)]
 pub enum HeadFault {
     /// An octet of the Marker isn't 255.
@@ -15,16 +17,24 @@ pub enum HeadFault {
 
 impl HeadFault {
     ghost use Rattle.std.specs.Prelude.{◌≡◌};
-    ghost use Rattle.bgp_frame.specs.Head.{notification_of};
+    ghost use Rattle.bgp_frame.specs.Head.{head_notification};
 
     /// The answer to the fault: code 1 (Message Header Error), the subcode, and as information the field that is at fault.
     pub fn notification(self) -> Notification
-        ensures { result ≡ notification_of self }
+        ensures { result ≡ head_notification self }
     {
         match self {
-            HeadFault::Marker => Notification::new(1, 1, &[]),
-            HeadFault::Length(length) => Notification::new(1, 2, &length.to_be_bytes()),
-            HeadFault::Kind(code) => Notification::new(1, 3, &[code]),
+            HeadFault::Marker => {
+                Notification::new(error::MESSAGE_HEADER, error::NOT_SYNCHRONIZED, &[])
+            }
+            HeadFault::Length(length) => Notification::new(
+                error::MESSAGE_HEADER,
+                error::BAD_MESSAGE_LENGTH,
+                &length.to_be_bytes(),
+            ),
+            HeadFault::Kind(code) => {
+                Notification::new(error::MESSAGE_HEADER, error::BAD_MESSAGE_TYPE, &[code])
+            }
         }
     }
 }

@@ -3,7 +3,7 @@
 ghost use Rattle.std.specs.Prelude.{◌≡◌, ◌+◌, ◌-◌, ◌<◌, ◌≤◌, min, [], ◌++◌, length, take};
 ghost use Rattle.bgp_frame.specs.Frame.{IsWhole, Waits};
 ghost use Rattle.bgp_frame.specs.Takes.{Takes};
-ghost use Rattle.bgp_frame.specs.Step.{Shows};
+ghost use Rattle.bgp_frame.specs.Step.{ShowsStep};
 
 use crate::header::{HEADER_LEN, wanted};
 use crate::step::{Step, shown};
@@ -64,7 +64,7 @@ impl Framer {
 
     /// What is held: less than a message, a message, or a header with a fault.
     pub fn step(&self) -> Step<'_>
-        ensures { Shows self.now result }
+        ensures { ShowsStep self.now result }
     {
         shown(&self.buffer)
     }

@@ -1,12 +1,14 @@
 //! The kinds of message.
 
+use bgp_numbers::message;
+
 /// What a message is, by the octet of its type (RFC 4271, section 4.1).
 #[derive(Clone, Copy, Debug, PartialEq, Eq, Hash)]
 pub enum Kind {
-    Open = 1,
-    Update = 2,
-    Notification = 3,
-    Keepalive = 4,
+    Open = message::OPEN as isize,
+    Update = message::UPDATE as isize,
+    Notification = message::NOTIFICATION as isize,
+    Keepalive = message::KEEPALIVE as isize,
 }
 
 impl Kind {
@@ -18,10 +20,10 @@ impl Kind {
         ensures { result ≡ kind_of code }
     {
         match code {
-            1 => Some(Kind::Open),
-            2 => Some(Kind::Update),
-            3 => Some(Kind::Notification),
-            4 => Some(Kind::Keepalive),
+            message::OPEN => Some(Kind::Open),
+            message::UPDATE => Some(Kind::Update),
+            message::NOTIFICATION => Some(Kind::Notification),
+            message::KEEPALIVE => Some(Kind::Keepalive),
             _ => None,
         }
     }

@@ -1,7 +1,7 @@
 //! What the octets at the front of a stream come to.
 
 ghost use Rattle.bgp_frame.specs.Framer.{IsHeld};
-ghost use Rattle.bgp_frame.specs.Step.{Shows};
+ghost use Rattle.bgp_frame.specs.Step.{ShowsStep};
 
 use crate::fault::HeadFault;
 use crate::header::{HEADER_LEN, read_head};
@@ -29,7 +29,7 @@ pub enum Step<'a> {
 #[tactic(auto, using(crate::proofs::Holding::shows_short, crate::proofs::Holding::shows_more, crate::proofs::Holding::shows_frame, crate::proofs::Holding::shows_fault))]
 pub(crate) fn shown(octets: &[u8]) -> Step<'_>
     requires { IsHeld octets.now }
-    ensures { Shows octets.now result }
+    ensures { ShowsStep octets.now result }
 {
     if octets.len() < HEADER_LEN {
         return Step::More;

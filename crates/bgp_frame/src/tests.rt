@@ -98,4 +98,10 @@ fn notifications(rt: HostRuntime) {
     assert_eq!(rt; told, Notification::new(6, 2, b"bye"));
     assert_ne!(rt; told, Notification::new(6, 2, &[]));
     assert_eq!(rt; told.info.as_slice(), b"bye".as_slice());
+    let borrowed = NotificationView {
+        code: 6,
+        subcode: 2,
+        info: b"bye",
+    };
+    assert_eq!(rt; borrowed.own(), told);
 }

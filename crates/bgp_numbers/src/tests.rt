@@ -4,7 +4,17 @@ use std::test::*;
 // The values are those of the registries, written down again.
 #[test]
 fn numbers_are_those_of_the_registries(rt: HostRuntime) {
+    assert_eq!(rt; VERSION, 4);
     assert_eq!(rt; AS_TRANS, 23456);
+    assert_eq!(rt;
+        [
+            message::OPEN,
+            message::UPDATE,
+            message::NOTIFICATION,
+            message::KEEPALIVE
+        ],
+        [1, 2, 3, 4]
+    );
     assert_eq!(rt; [afi::IPV4, afi::IPV6], [1, 2]);
     assert_eq!(rt; safi::UNICAST, 1);
     assert_eq!(rt; parameter::CAPABILITIES, 2);
@@ -50,5 +60,55 @@ fn numbers_are_those_of_the_registries(rt: HostRuntime) {
             attribute::LARGE_COMMUNITY
         ],
         [17, 18, 32]
+    );
+}
+
+#[test]
+fn errors_are_those_of_the_registries(rt: HostRuntime) {
+    assert_eq!(rt;
+        [
+            error::MESSAGE_HEADER,
+            error::OPEN_MESSAGE,
+            error::UPDATE_MESSAGE
+        ],
+        [1, 2, 3]
+    );
+    assert_eq!(rt;
+        [
+            error::HOLD_TIMER_EXPIRED,
+            error::FINITE_STATE_MACHINE,
+            error::CEASE
+        ],
+        [4, 5, 6]
+    );
+    assert_eq!(rt; error::UNSPECIFIC, 0);
+    assert_eq!(rt;
+        [
+            error::NOT_SYNCHRONIZED,
+            error::BAD_MESSAGE_LENGTH,
+            error::BAD_MESSAGE_TYPE
+        ],
+        [1, 2, 3]
+    );
+    assert_eq!(rt;
+        [
+            error::UNSUPPORTED_VERSION,
+            error::BAD_PEER_AS,
+            error::BAD_IDENTIFIER
+        ],
+        [1, 2, 3]
+    );
+    assert_eq!(rt;
+        [error::UNSUPPORTED_PARAMETER, error::UNACCEPTABLE_HOLD_TIME],
+        [4, 6]
+    );
+    assert_eq!(rt;
+        [
+            error::MALFORMED_ATTRIBUTE_LIST,
+            error::UNRECOGNIZED_WELL_KNOWN,
+            error::OPTIONAL_ATTRIBUTE,
+            error::INVALID_NETWORK_FIELD
+        ],
+        [1, 2, 9, 10]
     );
 }

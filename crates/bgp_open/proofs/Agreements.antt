@@ -1,5 +1,5 @@
 -- The first AS number among capabilities, and that both sides of a session agree.
-use Rattle.std.proofs.Common.{◌≡◌, ℕ, suc, ◌+◌, ◌<◌, ◌≤◌, Bool, true, false, not, ◌&&◌, cond, eqb, ltb, List, ◌∷◌, ◌++◌, length, get_or, drop, Option, Some, None, Ok, Err, refl, sym, ap, ◌∙◌, add-one, inl, inr}
+use Rattle.std.proofs.Common.{◌≡◌, ℕ, suc, ◌+◌, ◌<◌, ◌≤◌, Bool, true, false, not, ◌&&◌, cond, eqb, List, ◌∷◌, ◌++◌, length, get_or, drop, Option, Some, None, Ok, Err, refl, sym, ap, ◌∙◌, add-one, inl, inr}
 use Rattle.std.specs.Prelude.{is_some, unwrap_or, min}
 use Rattle.std.specs.List.{list_any}
 use Rattle.std.proofs.lemmas.Bool.{eqb-true, eq-eqb, ne_eqb, true≢false}
@@ -8,12 +8,16 @@ use Rattle.std.proofs.Math.Bool.{and_comm}
 use Rattle.std.proofs.Math.Nat.{min_comm}
 use Rattle.std.proofs.Math.Seq.{drop-cons}
 use Rattle.std.proofs.lemmas.List.{drop_all}
+use Rattle.bgp_numbers.specs.declared.TheConstants.{AS_TRANS}
+use Rattle.bgp_numbers.specs.declared.afi.TheConstants.{IPV4, IPV6}
+use Rattle.bgp_numbers.specs.declared.safi.TheConstants.{UNICAST}
 use Rattle.bgp_open.specs.declared.capability.Capability.{Capability}
 use Rattle.bgp_open.specs.declared.capability.Capability.TheVariants.{Multi, As4, Other}
 use Rattle.bgp_open.specs.declared.agreement.PeerFault.TheVariants as peer
 use Rattle.bgp_open.specs.declared.context.Context.{Context}
+use Rattle.bgp_open.specs.Open.{is_wide}
 use Rattle.bgp_open.specs.Config.{Settings, IsAllowed}
-use Rattle.bgp_open.specs.Own.{as_trans, field_for, offered, own_of}
+use Rattle.bgp_open.specs.Own.{field_for, offered, own_of}
 use Rattle.bgp_open.specs.Agreement.{first_as4, is_unicast, peer_as_of, same_id, context_of, agreement}
 use Rattle.bgp_open.proofs.Configs.{allowed-wide}
 
@@ -38,7 +42,7 @@ first_as4-none cs i le left = sym (left ∙ ap first_as4 (drop_all i cs le))
 -- ---- both sides
 
 -- what a speaker offers is found again
-finds_as4 : (p q r : Bool) (n : ℕ) → first_as4 (offered p (Multi 1 1) ++ (offered q (Multi 2 1) ++ offered r (As4 n))) ≡ cond r (Some n) None
+finds_as4 : (p q r : Bool) (n : ℕ) → first_as4 (offered p (Multi IPV4 UNICAST) ++ (offered q (Multi IPV6 UNICAST) ++ offered r (As4 n))) ≡ cond r (Some n) None
 finds_as4 false false false n = refl
 finds_as4 false false true n = refl
 finds_as4 false true false n = refl
@@ -48,7 +52,7 @@ finds_as4 true false true n = refl
 finds_as4 true true false n = refl
 finds_as4 true true true n = refl
 
-finds_ip4 : (p q r : Bool) (n : ℕ) → list_any (is_unicast 1) (offered p (Multi 1 1) ++ (offered q (Multi 2 1) ++ offered r (As4 n))) ≡ p
+finds_ip4 : (p q r : Bool) (n : ℕ) → list_any (is_unicast IPV4) (offered p (Multi IPV4 UNICAST) ++ (offered q (Multi IPV6 UNICAST) ++ offered r (As4 n))) ≡ p
 finds_ip4 false false false n = refl
 finds_ip4 false false true n = refl
 finds_ip4 false true false n = refl
@@ -58,7 +62,7 @@ finds_ip4 true false true n = refl
 finds_ip4 true true false n = refl
 finds_ip4 true true true n = refl
 
-finds_ip6 : (p q r : Bool) (n : ℕ) → list_any (is_unicast 2) (offered p (Multi 1 1) ++ (offered q (Multi 2 1) ++ offered r (As4 n))) ≡ q
+finds_ip6 : (p q r : Bool) (n : ℕ) → list_any (is_unicast IPV6) (offered p (Multi IPV4 UNICAST) ++ (offered q (Multi IPV6 UNICAST) ++ offered r (As4 n))) ≡ q
 finds_ip6 false false false n = refl
 finds_ip6 false false true n = refl
 finds_ip6 false true false n = refl
@@ -72,7 +76,7 @@ is_some_of : (r : Bool) (n : ℕ) → is_some (cond r (Some n) None) ≡ r
 is_some_of true n = refl
 is_some_of false n = refl
 
-number_of : (as4 : Bool) (wide : Bool) (n : ℕ) → (wide && not as4) ≡ false → unwrap_or (cond as4 (Some n) None) (cond wide as_trans n) ≡ n
+number_of : (as4 : Bool) (wide : Bool) (n : ℕ) → (wide && not as4) ≡ false → unwrap_or (cond as4 (Some n) None) (cond wide AS_TRANS n) ≡ n
 number_of true wide n h = refl
 number_of false false n h = refl
 number_of false true n h = absurd (true≢false h)
@@ -81,7 +85,7 @@ number_of false true n h = absurd (true≢false h)
 pub peer_as-own : (s : Settings) → IsAllowed s → peer_as_of (own_of s) ≡ s.local_as
 peer_as-own s allowed =
     ap (λ (o : Option ℕ). unwrap_or o (field_for s.local_as)) (finds_as4 s.ip4 s.ip6 s.as4 s.local_as)
-    ∙ number_of s.as4 (ltb 65535 s.local_as) s.local_as (allowed-wide s allowed)
+    ∙ number_of s.as4 (is_wide s.local_as) s.local_as (allowed-wide s allowed)
 
 abbrev shared : Settings → Settings → Context
 shared s t = record { internal = eqb s.local_as s.peer_as; as4 = s.as4 && t.as4; ip4 = s.ip4 && t.ip4; ip6 = s.ip6 && t.ip6; hold = min s.hold t.hold }

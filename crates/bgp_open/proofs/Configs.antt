@@ -1,7 +1,7 @@
 -- What an allowed configuration is.
-use Rattle.std.proofs.Common.{◌≡◌, Bool, true, false, not, ◌&&◌, cond, eqb, ltb, Some, None, refl}
+use Rattle.std.proofs.Common.{◌≡◌, Bool, true, false, not, ◌&&◌, cond, eqb, Some, None, refl}
 use Rattle.bgp_open.specs.declared.config.BadConfig.TheVariants.{LocalAs, PeerAs, Identifier, Hold, AsWidth}
-use Rattle.bgp_open.specs.Open.{is_short_hold, is_zero_id}
+use Rattle.bgp_open.specs.Open.{is_short_hold, is_wide, is_zero_id}
 use Rattle.bgp_open.specs.Config.{Settings, IsAllowed}
 
 record NoneApplies (a b c d e : Bool) : Type 0 where
@@ -19,8 +19,8 @@ none_applies false false false true e h = absurd cc
 none_applies false false false false true h = absurd cc
 none_applies false false false false false h = record { local_as = refl; peer_as = refl; id = refl; hold = refl; wide = refl }
 
-reasons : (s : Settings) → IsAllowed s → NoneApplies (eqb s.local_as 0) (eqb s.peer_as 0) (is_zero_id s.id) (is_short_hold s.hold) (ltb 65535 s.local_as && not s.as4)
-reasons s allowed = none_applies (eqb s.local_as 0) (eqb s.peer_as 0) (is_zero_id s.id) (is_short_hold s.hold) (ltb 65535 s.local_as && not s.as4) allowed
+reasons : (s : Settings) → IsAllowed s → NoneApplies (eqb s.local_as 0) (eqb s.peer_as 0) (is_zero_id s.id) (is_short_hold s.hold) (is_wide s.local_as && not s.as4)
+reasons s allowed = none_applies (eqb s.local_as 0) (eqb s.peer_as 0) (is_zero_id s.id) (is_short_hold s.hold) (is_wide s.local_as && not s.as4) allowed
 
 pub allowed-id : (s : Settings) → IsAllowed s → is_zero_id s.id ≡ false
 allowed-id s allowed = (reasons s allowed).id
@@ -28,5 +28,5 @@ allowed-id s allowed = (reasons s allowed).id
 pub allowed-hold : (s : Settings) → IsAllowed s → is_short_hold s.hold ≡ false
 allowed-hold s allowed = (reasons s allowed).hold
 
-pub allowed-wide : (s : Settings) → IsAllowed s → (ltb 65535 s.local_as && not s.as4) ≡ false
+pub allowed-wide : (s : Settings) → IsAllowed s → (is_wide s.local_as && not s.as4) ≡ false
 allowed-wide s allowed = (reasons s allowed).wide

@@ -7,6 +7,7 @@ use Rattle.bgp_wire.specs.Reader.{Reads}
 use Rattle.bgp_wire.specs.Behind.{BehindLength, when_whole, behind_length}
 use Rattle.bgp_wire.proofs.Pieces.{found_not}
 use Rattle.bgp_wire.proofs.Behinds.{BehindLength-reads}
+use Rattle.bgp_numbers.specs.declared.parameter.TheConstants.{CAPABILITIES}
 use Rattle.bgp_open.specs.declared.capability.Capability.{Capability}
 use Rattle.bgp_open.specs.Capability.{IsCapability, one_capability}
 use Rattle.bgp_open.specs.Parameter.{IsParameter, one_parameter}
@@ -19,24 +20,24 @@ finds : (cs : List Capability) (front back : List ℕ) → IsParameter cs front 
 unfolding one_parameter
 finds cs front back p = ap (λ (x : List ℕ). one_parameter (x ++ back)) p.octets ∙ value_reads.finds cs p.value back p.holds
 
-gives_at : (kind : ℕ) (b : List ℕ) (cs : List Capability) (after : List ℕ) (t : Bool) → eqb kind 2 ≡ t → cond t (behind_length one_capability b) None ≡ Some (cs, after)
+gives_at : (kind : ℕ) (b : List ℕ) (cs : List Capability) (after : List ℕ) (t : Bool) → eqb kind CAPABILITIES ≡ t → cond t (behind_length one_capability b) None ≡ Some (cs, after)
     → (front : List ℕ) × (kind ∷ b ≡ front ++ after) × IsParameter cs front
 gives_at kind b cs after true two e =
     let gave = value_reads.gives b cs after e in
-    (kind ∷ gave.0, ap (λ (x : List ℕ). kind ∷ x) gave.1, record { value = gave.0; octets = ap (λ (k : ℕ). k ∷ gave.0) (eqb-true kind 2 two); holds = gave.2 })
+    (kind ∷ gave.0, ap (λ (x : List ℕ). kind ∷ x) gave.1, record { value = gave.0; octets = ap (λ (k : ℕ). k ∷ gave.0) (eqb-true kind CAPABILITIES two); holds = gave.2 })
 gives_at kind b cs after false two e = absurd (found_not (List Capability) (cs, after) e)
 
 gives : (b : List ℕ) (cs : List Capability) (after : List ℕ) → one_parameter b ≡ Some (cs, after) → (front : List ℕ) × (b ≡ front ++ after) × IsParameter cs front
 unfolding one_parameter
 gives [] cs after e = absurd (found_not (List Capability) (cs, after) e)
-gives (kind ∷ b) cs after e = gives_at kind b cs after (eqb kind 2) refl e
+gives (kind ∷ b) cs after e = gives_at kind b cs after (eqb kind CAPABILITIES) refl e
 
 not_empty : (b : List ℕ) (kind : ℕ) (value : List ℕ) → b ≡ kind ∷ value → 0 < length b
 not_empty b kind value e = omega (arith, ap length e)
 
 pub parameter-reads : Reads IsParameter one_parameter
 parameter-reads = record {
-  not_empty = λ cs b p. not_empty b 2 p.value p.octets;
+  not_empty = λ cs b p. not_empty b CAPABILITIES p.value p.octets;
   finds = finds;
   gives = gives;
 }
@@ -57,13 +58,13 @@ whole_where back (cs, x ∷ rest) = let more : eqb (suc (length rest)) 0 ≡ fal
 pub one_parameter-short : (b : List ℕ) → length b < 2 → one_parameter b ≡ None
 unfolding one_parameter behind_length
 one_parameter-short [] short = refl
-one_parameter-short (kind ∷ []) short = none_both (eqb kind 2)
+one_parameter-short (kind ∷ []) short = none_both (eqb kind CAPABILITIES)
 one_parameter-short (kind ∷ n ∷ b) short = absurd (omega arith)
 
 pub one_parameter-tests : (kind n : ℕ) (b : List ℕ) → one_parameter (kind ∷ n ∷ b)
-    ≡ cond (eqb kind 2) (cond (leb n (length b)) (cond (eqb (length (pieces one_capability (take n b)).1) 0) (Some ((pieces one_capability (take n b)).0, drop n b)) None) None) None
+    ≡ cond (eqb kind CAPABILITIES) (cond (leb n (length b)) (cond (eqb (length (pieces one_capability (take n b)).1) 0) (Some ((pieces one_capability (take n b)).0, drop n b)) None) None) None
 unfolding one_parameter behind_length
 one_parameter-tests kind n b =
-    ap (λ (o : Option (List Capability × List ℕ)). cond (eqb kind 2) (cond (leb n (length b)) o None) None) (whole_where (drop n b) (pieces one_capability (take n b)))
+    ap (λ (o : Option (List Capability × List ℕ)). cond (eqb kind CAPABILITIES) (cond (leb n (length b)) o None) None) (whole_where (drop n b) (pieces one_capability (take n b)))
 
 pub ruleset steps = (one_parameter-short, one_parameter-tests)

@@ -4,13 +4,15 @@ use Rattle.std.specs.Prelude.{IfOk}
 use Rattle.std.proofs.lemmas.Bool.{eqb-true, eq-eqb, ne_eqb, true≢false}
 use Rattle.bgp_wire.specs.Reader.{pieces}
 use Rattle.bgp_wire.proofs.Behinds.{pieces-whole, Row-pieces}
+use Rattle.bgp_numbers.specs.declared.TheConstants.{VERSION}
+use Rattle.bgp_numbers.specs.declared.parameter.TheConstants.{CAPABILITIES}
 use Rattle.bgp_open.specs.declared.capability.Capability.{Capability}
 use Rattle.bgp_open.specs.declared.message.Open.{Open}
 use Rattle.bgp_open.specs.declared.fault.OpenFault.{OpenFault}
 use Rattle.bgp_open.specs.declared.fault.OpenFault.TheVariants.{Version, Parameter, UnknownParameter, Hold, Identifier, Memory}
 use Rattle.bgp_open.specs.Parameter.{IsParameter, one_parameter}
 use Rattle.bgp_open.specs.Open.{version_of, as_field_of, hold_of, id_of, length_of, parameters_of, IsHold, zero_id, is_short_hold, is_zero_id, joined, IsOpen}
-use Rattle.bgp_open.specs.OpenFault.{first_fault, fault_if, rest_fault, fault_of, open_of, or_fault, reading_of, FailsAs, Gives, HasValueOrFault}
+use Rattle.bgp_open.specs.OpenFault.{first_fault, fault_if, rest_fault, open_fault, open_of, or_fault, reading_of, FailsAs, IsReadAs, HasValueOrFault}
 use Rattle.bgp_open.proofs.Parameters.{parameter-reads}
 
 -- ---- the tests one by one
@@ -45,7 +47,7 @@ rest_some false false e = absurd cc
 rest_none : (rest : List ℕ) → rest_fault rest ≡ None → rest ≡ []
 rest_none [] e = refl
 rest_none (kind ∷ []) e = absurd cc
-rest_none (kind ∷ n ∷ value) e = absurd (rest_some (ltb (length value) n) (not (eqb kind 2)) e)
+rest_none (kind ∷ n ∷ value) e = absurd (rest_some (ltb (length value) n) (not (eqb kind CAPABILITIES)) e)
 
 -- ---- the tests together
 
@@ -77,17 +79,17 @@ not-false false e = absurd (true≢false e)
 -- ---- a body and its value
 
 abbrev body_tests : List ℕ → Option OpenFault
-body_tests body = tests (not (eqb (version_of body) 4)) (not (eqb (length_of body) (length (parameters_of body)))) (rest_fault (pieces one_parameter (parameters_of body)).1) (is_short_hold (hold_of body)) (is_zero_id (id_of body))
+body_tests body = tests (not (eqb (version_of body) VERSION)) (not (eqb (length_of body) (length (parameters_of body)))) (rest_fault (pieces one_parameter (parameters_of body)).1) (is_short_hold (hold_of body)) (is_zero_id (id_of body))
 
 -- what is spelled has no fault, and its row is what the pieces are
 row_found : (o : Open) (body : List ℕ) (p : IsOpen o body) → pieces one_parameter (parameters_of body) ≡ (p.parameters, [])
 row_found o body p = pieces-whole (List Capability) IsParameter one_parameter parameter-reads p.parameters (parameters_of body) p.row
 
-pub open-fault : (o : Open) (body : List ℕ) → IsOpen o body → fault_of body ≡ None
-unfolding fault_of
-open-fault o body p =
+pub open-no_fault : (o : Open) (body : List ℕ) → IsOpen o body → open_fault body ≡ None
+unfolding open_fault
+open-no_fault o body p =
     let row = row_found o body p in
-    passes-none (not (eqb (version_of body) 4)) (not (eqb (length_of body) (length (parameters_of body)))) (rest_fault (pieces one_parameter (parameters_of body)).1) (is_short_hold (hold_of body)) (is_zero_id (id_of body)) record {
+    passes-none (not (eqb (version_of body) VERSION)) (not (eqb (length_of body) (length (parameters_of body)))) (rest_fault (pieces one_parameter (parameters_of body)).1) (is_short_hold (hold_of body)) (is_zero_id (id_of body)) record {
       version = ap not (eq-eqb _ _ p.version);
       counted = ap not (eq-eqb _ _ p.counted);
       row = ap (λ (q : List (List Capability) × List ℕ). rest_fault q.1) row;
@@ -105,10 +107,10 @@ open-value o body p =
     let caps : o.caps ≡ joined (pieces one_parameter (parameters_of body)).0 = p.caps ∙ ap (λ (q : List (List Capability) × List ℕ). joined q.0) (sym row) in
     same_open o (as_field_of body) (hold_of body) (id_of body) (joined (pieces one_parameter (parameters_of body)).0) p.as_field p.hold p.id caps
 
-pub fault-open : (body : List ℕ) → 10 ≤ length body → fault_of body ≡ None → IsOpen (open_of body) body
-unfolding fault_of
-fault-open body long e =
-    let p = none-passes (not (eqb (version_of body) 4)) (not (eqb (length_of body) (length (parameters_of body)))) (rest_fault (pieces one_parameter (parameters_of body)).1) (is_short_hold (hold_of body)) (is_zero_id (id_of body)) e in
+pub no_fault-open : (body : List ℕ) → 10 ≤ length body → open_fault body ≡ None → IsOpen (open_of body) body
+unfolding open_fault
+no_fault-open body long e =
+    let p = none-passes (not (eqb (version_of body) VERSION)) (not (eqb (length_of body) (length (parameters_of body)))) (rest_fault (pieces one_parameter (parameters_of body)).1) (is_short_hold (hold_of body)) (is_zero_id (id_of body)) e in
     let empty = rest_none (pieces one_parameter (parameters_of body)).1 p.row in
     record {
       fixed = long;
@@ -132,19 +134,19 @@ or_fault-ok (Some fault) v o e = absurd cc
 
 pub reading-spells : (body : List ℕ) → 10 ≤ length body → (o : Open) → reading_of body ≡ Ok o → IsOpen o body
 reading-spells body long o e =
-    let parts = or_fault-ok (fault_of body) (open_of body) o e in
-    subst (λ (v : Open). IsOpen v body) parts.1 (fault-open body long parts.0)
+    let parts = or_fault-ok (open_fault body) (open_of body) o e in
+    subst (λ (v : Open). IsOpen v body) parts.1 (no_fault-open body long parts.0)
 
 pub spelling-reads : (body : List ℕ) (o : Open) → IsOpen o body → reading_of body ≡ Ok o
 spelling-reads body o p =
-    ap (λ (f : Option OpenFault). or_fault f (open_of body)) (open-fault o body p) ∙ ap (λ (v : Open). or_fault None v) (sym (open-value o body p))
+    ap (λ (f : Option OpenFault). or_fault f (open_of body)) (open-no_fault o body p) ∙ ap (λ (v : Open). or_fault None v) (sym (open-value o body p))
 
-pub Gives-found : (body : List ℕ) (r : Result Open OpenFault) → 10 ≤ length body → Gives r (reading_of body) → IfOk r (λ o. IsOpen o body)
-Gives-found body (Ok o) long given = reading-spells body long o given
-Gives-found body (Err fault) long given = tt
+pub IsReadAs-found : (body : List ℕ) (r : Result Open OpenFault) → 10 ≤ length body → IsReadAs r (reading_of body) → IfOk r (λ o. IsOpen o body)
+IsReadAs-found body (Ok o) long given = reading-spells body long o given
+IsReadAs-found body (Err fault) long given = tt
 
-pub Gives-only : (body : List ℕ) (r : Result Open OpenFault) → Gives r (reading_of body) → (o : Open) → IsOpen o body → Gives r (Ok o)
-Gives-only body r given o p = subst (λ (reading : Result Open OpenFault). Gives r reading) (spelling-reads body o p) given
+pub IsReadAs-only : (body : List ℕ) (r : Result Open OpenFault) → IsReadAs r (reading_of body) → (o : Open) → IsOpen o body → IsReadAs r (Ok o)
+IsReadAs-only body r given o p = subst (λ (reading : Result Open OpenFault). IsReadAs r reading) (spelling-reads body o p) given
 
 -- ---- a value or a fault
 
@@ -160,23 +162,23 @@ not_memory false false [] true z fault e is = absurd cc
 not_memory false false [] false true fault e is = absurd cc
 not_memory false false [] false false fault e is = absurd cc
 not_memory false false (kind ∷ []) h z fault e is = absurd cc
-not_memory false false (kind ∷ n ∷ value) h z fault e is = rest_not_memory (ltb (length value) n) (not (eqb kind 2)) h z fault e is
+not_memory false false (kind ∷ n ∷ value) h z fault e is = rest_not_memory (ltb (length value) n) (not (eqb kind CAPABILITIES)) h z fault e is
 
-fault_not_memory : (body : List ℕ) (fault : OpenFault) → fault_of body ≡ Some fault → fault ≢ Memory
-unfolding fault_of
-fault_not_memory body fault e = not_memory (not (eqb (version_of body) 4)) (not (eqb (length_of body) (length (parameters_of body)))) (pieces one_parameter (parameters_of body)).1 (is_short_hold (hold_of body)) (is_zero_id (id_of body)) fault e
+fault_not_memory : (body : List ℕ) (fault : OpenFault) → open_fault body ≡ Some fault → fault ≢ Memory
+unfolding open_fault
+fault_not_memory body fault e = not_memory (not (eqb (version_of body) VERSION)) (not (eqb (length_of body) (length (parameters_of body)))) (pieces one_parameter (parameters_of body)).1 (is_short_hold (hold_of body)) (is_zero_id (id_of body)) fault e
 
 no_value : (fault : OpenFault) (f : Option OpenFault) → f ≡ None → f ≡ Some fault → ⊥
 no_value fault f n s = absurd cc
 
-one_of_both : (body : List ℕ) → 10 ≤ length body → (f : Option OpenFault) → fault_of body ≡ f → HasValueOrFault body f
-one_of_both body long None e = (fault-open body long e, λ o p. open-value o body p)
-one_of_both body long (Some fault) e = (fault_not_memory body fault e, λ o p. no_value fault (fault_of body) (open-fault o body p) e)
+one_of_both : (body : List ℕ) → 10 ≤ length body → (f : Option OpenFault) → open_fault body ≡ f → HasValueOrFault body f
+one_of_both body long None e = (no_fault-open body long e, λ o p. open-value o body p)
+one_of_both body long (Some fault) e = (fault_not_memory body fault e, λ o p. no_value fault (open_fault body) (open-no_fault o body p) e)
 
-pub value_or_fault : (body : List ℕ) → 10 ≤ length body → HasValueOrFault body (fault_of body)
-value_or_fault body long = one_of_both body long (fault_of body) refl
+pub value_or_fault : (body : List ℕ) → 10 ≤ length body → HasValueOrFault body (open_fault body)
+value_or_fault body long = one_of_both body long (open_fault body) refl
 
-pub fault_reads : (body : List ℕ) (fault : OpenFault) → Some fault ≡ fault_of body → FailsAs fault (reading_of body)
+pub fault_reads : (body : List ℕ) (fault : OpenFault) → Some fault ≡ open_fault body → FailsAs fault (reading_of body)
 fault_reads body Version e = ap (λ (f : Option OpenFault). or_fault f (open_of body)) (sym e)
 fault_reads body Parameter e = ap (λ (f : Option OpenFault). or_fault f (open_of body)) (sym e)
 fault_reads body UnknownParameter e = ap (λ (f : Option OpenFault). or_fault f (open_of body)) (sym e)

@@ -7,6 +7,8 @@ use Rattle.std.proofs.lemmas.Bool.{true≢false}
 use Rattle.std.proofs.lemmas.Nat.{from_be_bytes-to_be_bytes_2, from_be_bytes-to_be_bytes_4}
 use Rattle.bgp_wire.specs.Row.{Row}
 use Rattle.bgp_wire.proofs.Rows.{Row-one}
+use Rattle.bgp_numbers.specs.declared.parameter.TheConstants.{CAPABILITIES}
+use Rattle.bgp_numbers.specs.declared.capability.TheConstants.{MULTIPROTOCOL, FOUR_OCTET_AS}
 use Rattle.bgp_open.specs.declared.capability.Capability.{Capability}
 use Rattle.bgp_open.specs.declared.capability.Capability.TheVariants.{Multi, As4, Other}
 use Rattle.bgp_open.specs.declared.message.Open.{Open}
@@ -34,7 +36,7 @@ held : (caps : List Capability) (row : List ℕ) → Row IsCapability caps row �
 held caps [] p = record { parameters = []; row = refl; caps_are = no_caps caps [] refl p }
 held caps (x ∷ row) p = record {
   parameters = caps ∷ [];
-  row = Row-one IsParameter caps (2 ∷ length (x ∷ row) ∷ x ∷ row) (record { value = length (x ∷ row) ∷ x ∷ row; octets = refl; holds = record { row = x ∷ row; octets = refl; spelled = p } });
+  row = Row-one IsParameter caps (CAPABILITIES ∷ length (x ∷ row) ∷ x ∷ row) (record { value = length (x ∷ row) ∷ x ∷ row; octets = refl; holds = record { row = x ∷ row; octets = refl; spelled = p } });
   caps_are = sym (append-nil caps);
 }
 
@@ -79,19 +81,19 @@ either_false false q e = (refl, e)
 
 capability-spells : (c : Capability) → HasRange c → is_misnamed c ≡ false → IsCapability c (capability_octets c)
 capability-spells (Multi family subsequent) small name = record {
-  code = 1;
+  code = MULTIPROTOCOL;
   value = to_be_bytes w16 family ++ (0 ∷ subsequent ∷ []);
   octets = refl;
   means = ap (λ (n : ℕ). Some (Multi n subsequent)) (from_be_bytes-to_be_bytes_2 family small.0);
 }
 capability-spells (As4 number) small name = record {
-  code = 65;
+  code = FOUR_OCTET_AS;
   value = to_be_bytes w32 number;
   octets = refl;
   means = ap (λ (n : ℕ). Some (As4 n)) (from_be_bytes-to_be_bytes_4 number small);
 }
 capability-spells (Other code value) small name =
-    let other = either_false (eqb code 1) (eqb code 65) name in
+    let other = either_false (eqb code MULTIPROTOCOL) (eqb code FOUR_OCTET_AS) name in
     record { code = code; value = value; octets = refl; means = rw (other.0, other.1) refl }
 
 pub ranges-spell : (caps : List Capability) → AllByRecursion HasRange caps → list_any is_misnamed caps ≡ false → Row IsCapability caps (row_octets caps)

@@ -1,12 +1,18 @@
--- What two speakers agree on, as one of them finds it from its settings and the peer's OPEN (RFC 4271, sections 4.2 and 6.2).
+-- What two speakers agree on, as one of them finds it from its settings and the peer's OPEN, and the answer to a peer that isn't
+-- accepted (RFC 4271, sections 4.2 and 6.2).
 use Rattle.std.specs.Prelude.{ℕ, Bool, false, not, ◌&&◌, ◌==◌, List, [], ◌∷◌, min, Option, None, Some, unwrap_or, is_some, Result, Ok, Err, if◌then◌else◌}
 use Rattle.std.specs.List.{list_any}
+use Rattle.bgp_numbers.specs.declared.afi.TheConstants.{IPV4, IPV6}
+use Rattle.bgp_numbers.specs.declared.safi.TheConstants.{UNICAST}
+use Rattle.bgp_numbers.specs.declared.error.TheConstants.{BAD_PEER_AS, BAD_IDENTIFIER}
+use Rattle.bgp_frame.specs.declared.notification.Notification.{Notification}
 use Rattle.bgp_open.specs.declared.agreement.PeerFault.{PeerFault}
 use Rattle.bgp_open.specs.declared.agreement.PeerFault.TheVariants.{PeerAs, Identifier}
 use Rattle.bgp_open.specs.declared.capability.Capability.{Capability}
 use Rattle.bgp_open.specs.declared.capability.Capability.TheVariants.{Multi, As4, Other}
 use Rattle.bgp_open.specs.declared.context.Context.{Context}
 use Rattle.bgp_open.specs.declared.message.Open.{Open}
+use Rattle.bgp_open.specs.OpenFault.{open_error}
 use Rattle.bgp_open.specs.Config.{Settings}
 
 -- the number of the first capability for AS numbers of four octets
@@ -22,7 +28,7 @@ peer_as_of o = unwrap_or (first_as4 o.caps) o.as_field
 
 -- unicast routes of this family (RFC 4760, section 8)
 abbrev pub is_unicast : ℕ → Capability → Bool
-is_unicast family (Multi f subsequent) = (f == family) && (subsequent == 1)
+is_unicast family (Multi f subsequent) = (f == family) && (subsequent == UNICAST)
 is_unicast family _ = false
 
 abbrev pub offers_as4 : Open → Bool
@@ -36,8 +42,8 @@ abbrev pub context_of : Settings → Open → Context
 context_of s o = record {
   internal = s.local_as == s.peer_as;
   as4 = s.as4 && offers_as4 o;
-  ip4 = s.ip4 && offers_unicast 1 o;
-  ip6 = s.ip6 && offers_unicast 2 o;
+  ip4 = s.ip4 && offers_unicast IPV4 o;
+  ip6 = s.ip6 && offers_unicast IPV6 o;
   hold = min s.hold o.hold;
 }
 
@@ -51,3 +57,8 @@ agreement s o =
     if not (peer_as_of o == s.peer_as) then Err PeerAs else (
     if (s.local_as == s.peer_as) && same_id o.id s.id then Err Identifier else
     Ok (context_of s o))
+
+-- the answer to a peer that isn't accepted
+abbrev pub peer_notification : PeerFault → Notification
+peer_notification PeerAs = open_error BAD_PEER_AS []
+peer_notification Identifier = open_error BAD_IDENTIFIER []

@@ -15,7 +15,7 @@ abbrev pub as4_of : List ℕ → Option Capability
 as4_of (a ∷ b ∷ c ∷ d ∷ []) = Some (As4 (from_be_bytes w32 (a ∷ b ∷ c ∷ d ∷ [])))
 as4_of _ = None
 
--- what a value of this code means: codes 1 and 65 have values of four octets
+-- what a value of this code means: the values of two codes have four octets
 abbrev pub capability_of : ℕ → List ℕ → Option Capability
 capability_of code value =
     if code == MULTIPROTOCOL then multi_of value else (

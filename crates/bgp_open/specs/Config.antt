@@ -1,8 +1,8 @@
 -- What a speaker is set to, and which settings are refused.
-use Rattle.std.specs.Prelude.{◌≡◌, ℕ, Bool, not, ◌&&◌, ◌==◌, nat_lt, List, Option, None, Some, Result, Ok, Err, if◌then◌else◌}
+use Rattle.std.specs.Prelude.{◌≡◌, ℕ, Bool, not, ◌&&◌, ◌==◌, List, Option, None, Some, Result, Ok, Err, if◌then◌else◌}
 use Rattle.bgp_open.specs.declared.config.BadConfig.{BadConfig}
 use Rattle.bgp_open.specs.declared.config.BadConfig.TheVariants.{LocalAs, PeerAs, Identifier, Hold, AsWidth}
-use Rattle.bgp_open.specs.Open.{is_short_hold, is_zero_id}
+use Rattle.bgp_open.specs.Open.{is_short_hold, is_wide, is_zero_id}
 
 pub record Settings : Type 0 where
   pub local_as : ℕ
@@ -20,7 +20,7 @@ refusal_of s =
     if s.peer_as == 0 then Some PeerAs else (
     if is_zero_id s.id then Some Identifier else (
     if is_short_hold s.hold then Some Hold else (
-    if nat_lt 65535 s.local_as && not s.as4 then Some AsWidth else
+    if is_wide s.local_as && not s.as4 then Some AsWidth else
     None))))
 
 abbrev pub IsAllowed : Settings → Type 0

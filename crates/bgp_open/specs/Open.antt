@@ -1,9 +1,10 @@
 -- The body of an OPEN (RFC 4271, section 4.2): Version in one octet, My Autonomous System in two, Hold Time in two,
 -- BGP Identifier in four, the length of the parameters in one, the parameters. It has at least ten octets.
-use Rattle.std.specs.Prelude.{◌≡◌, ◌≢◌, ◌≤◌, ◌==◌, ◌||◌, ◌&&◌, ℕ, Bool, false, List, [], ◌∷◌, length, drop, slice_index}
+use Rattle.std.specs.Prelude.{◌≡◌, ◌≢◌, ◌≤◌, ◌==◌, ◌||◌, ◌&&◌, ℕ, Bool, false, nat_lt, List, [], ◌∷◌, length, drop, slice_index}
 use Rattle.std.specs.List.{flat_map}
 use Rattle.std.specs.Int.{w16, from_be_bytes}
 use Rattle.bgp_wire.specs.Row.{Row}
+use Rattle.bgp_numbers.specs.declared.TheConstants.{VERSION}
 use Rattle.bgp_open.specs.declared.capability.Capability.{Capability}
 use Rattle.bgp_open.specs.declared.message.Open.{Open}
 use Rattle.bgp_open.specs.Parameter.{IsParameter}
@@ -42,6 +43,10 @@ abbrev pub is_zero_id : List ℕ → Bool
 is_zero_id (a ∷ b ∷ c ∷ d ∷ []) = (a == 0) && ((b == 0) && ((c == 0) && (d == 0)))
 is_zero_id _ = false
 
+-- the number needs more than the two octets of My Autonomous System (RFC 6793, section 4.1)
+abbrev pub is_wide : ℕ → Bool
+is_wide number = nat_lt 65535 number
+
 -- the capabilities of parameters, however they are grouped
 abbrev pub joined : List (List Capability) → List Capability
 joined parameters = flat_map (λ cs. cs) parameters
@@ -49,7 +54,7 @@ joined parameters = flat_map (λ cs. cs) parameters
 -- the body is the OPEN o, whole
 pub record IsOpen (o : Open) (body : List ℕ) : Type 0 where
   pub fixed : 10 ≤ length body
-  pub version : version_of body ≡ 4
+  pub version : version_of body ≡ VERSION
   pub as_field : o.as_field ≡ as_field_of body
   pub hold : o.hold ≡ hold_of body
   pub hold_allowed : IsHold o.hold

@@ -1,6 +1,9 @@
 -- What is wrong with the body of an OPEN, and the answer (RFC 4271, sections 6.2 and 4.5). The order of the tests is this project's own.
 use Rattle.std.specs.Prelude.{◌≡◌, ◌==◌, ◌≢◌, ℕ, Bool, not, nat_lt, List, [], ◌∷◌, length, Option, None, Some, Result, Ok, Err, IsOk, if◌then◌else◌}
 use Rattle.bgp_wire.specs.Reader.{pieces}
+use Rattle.bgp_numbers.specs.declared.TheConstants.{VERSION}
+use Rattle.bgp_numbers.specs.declared.parameter.TheConstants.{CAPABILITIES}
+use Rattle.bgp_numbers.specs.declared.error.TheConstants.{OPEN_MESSAGE, UNSPECIFIC, UNSUPPORTED_VERSION, BAD_IDENTIFIER, UNSUPPORTED_PARAMETER, UNACCEPTABLE_HOLD_TIME}
 use Rattle.bgp_frame.specs.declared.notification.Notification.{Notification}
 use Rattle.bgp_open.specs.declared.message.Open.{Open}
 use Rattle.bgp_open.specs.declared.fault.OpenFault.{OpenFault}
@@ -24,13 +27,13 @@ rest_fault [] = None
 rest_fault (kind ∷ []) = Some Parameter
 rest_fault (kind ∷ n ∷ value) =
     if nat_lt (length value) n then Some Parameter else (
-    if not (kind == 2) then Some UnknownParameter else
+    if not (kind == CAPABILITIES) then Some UnknownParameter else
     Some Parameter)
 
 -- the first fault of a body of at least ten octets
-unfoldable pub fault_of : List ℕ → Option OpenFault
-fault_of body = first_fault (
-    fault_if (not (version_of body == 4)) Version ∷
+unfoldable pub open_fault : List ℕ → Option OpenFault
+open_fault body = first_fault (
+    fault_if (not (version_of body == VERSION)) Version ∷
     fault_if (not (length_of body == length (parameters_of body))) Parameter ∷
     rest_fault (pieces one_parameter (parameters_of body)).1 ∷
     fault_if (is_short_hold (hold_of body)) Hold ∷
@@ -51,27 +54,31 @@ or_fault None o = Ok o
 or_fault (Some fault) o = Err fault
 
 abbrev pub reading_of : List ℕ → Result Open OpenFault
-reading_of body = or_fault (fault_of body) (open_of body)
+reading_of body = or_fault (open_fault body) (open_of body)
 
 -- what was answered is the reading, or memory ran out where there is a value
 abbrev pub FailsAs : OpenFault → Result Open OpenFault → Type 0
 FailsAs Memory reading = IsOk reading
 FailsAs fault reading = reading ≡ Err fault
 
-abbrev pub Gives : Result Open OpenFault → Result Open OpenFault → Type 0
-Gives (Ok o) reading = reading ≡ Ok o
-Gives (Err fault) reading = FailsAs fault reading
+abbrev pub IsReadAs : Result Open OpenFault → Result Open OpenFault → Type 0
+IsReadAs (Ok o) reading = reading ≡ Ok o
+IsReadAs (Err fault) reading = FailsAs fault reading
 
 -- a body has one value, or a fault and no value
 abbrev pub HasValueOrFault : List ℕ → Option OpenFault → Type 0
 HasValueOrFault body None = IsOpen (open_of body) body × ((o : Open) → IsOpen o body → o ≡ open_of body)
 HasValueOrFault body (Some fault) = (fault ≢ Memory) × ((o : Open) → IsOpen o body → ⊥)
 
+-- an answer of code 2, OPEN Message Error
+abbrev pub open_error : ℕ → List ℕ → Notification
+open_error subcode info = record { code = OPEN_MESSAGE; subcode = subcode; info = record { items = info } }
+
 -- the notification of a fault: the version that is spoken here is the information of an unsupported one, and a refused growth has none
-abbrev pub notification_of : OpenFault → Option Notification
-notification_of Version = Some (record { code = 2; subcode = 1; info = record { items = 0 ∷ 4 ∷ [] } })
-notification_of Parameter = Some (record { code = 2; subcode = 0; info = record { items = [] } })
-notification_of UnknownParameter = Some (record { code = 2; subcode = 4; info = record { items = [] } })
-notification_of Hold = Some (record { code = 2; subcode = 6; info = record { items = [] } })
-notification_of Identifier = Some (record { code = 2; subcode = 3; info = record { items = [] } })
-notification_of Memory = None
+abbrev pub open_notification : OpenFault → Option Notification
+open_notification Version = Some (open_error UNSUPPORTED_VERSION (0 ∷ VERSION ∷ []))
+open_notification Parameter = Some (open_error UNSPECIFIC [])
+open_notification UnknownParameter = Some (open_error UNSUPPORTED_PARAMETER [])
+open_notification Hold = Some (open_error UNACCEPTABLE_HOLD_TIME [])
+open_notification Identifier = Some (open_error BAD_IDENTIFIER [])
+open_notification Memory = None

@@ -3,14 +3,17 @@ use Rattle.std.specs.Prelude.{◌≡◌, ◌<◌, ◌^◌, ◌||◌, ◌==◌, �
 use Rattle.std.specs.List.{flat_map, list_any, AllByRecursion}
 use Rattle.std.specs.Int.{w16, w32, to_be_bytes}
 use Rattle.bgp_wire.specs.Octets.{AreOctets}
+use Rattle.bgp_numbers.specs.declared.TheConstants.{VERSION}
+use Rattle.bgp_numbers.specs.declared.parameter.TheConstants.{CAPABILITIES}
+use Rattle.bgp_numbers.specs.declared.capability.TheConstants.{MULTIPROTOCOL, FOUR_OCTET_AS}
 use Rattle.bgp_open.specs.declared.capability.Capability.{Capability}
 use Rattle.bgp_open.specs.declared.capability.Capability.TheVariants.{Multi, As4, Other}
 use Rattle.bgp_open.specs.declared.message.Open.{Open}
 use Rattle.bgp_open.specs.Open.{is_short_hold, is_zero_id}
 
 abbrev pub capability_octets : Capability → List ℕ
-capability_octets (Multi family subsequent) = 1 ∷ 4 ∷ (to_be_bytes w16 family ++ (0 ∷ subsequent ∷ []))
-capability_octets (As4 number) = 65 ∷ 4 ∷ to_be_bytes w32 number
+capability_octets (Multi family subsequent) = MULTIPROTOCOL ∷ 4 ∷ (to_be_bytes w16 family ++ (0 ∷ subsequent ∷ []))
+capability_octets (As4 number) = FOUR_OCTET_AS ∷ 4 ∷ to_be_bytes w32 number
 capability_octets (Other code value) = code ∷ length value ∷ value
 
 -- capabilities one after the other
@@ -20,11 +23,11 @@ row_octets caps = flat_map capability_octets caps
 -- the parameter that holds a row of capabilities. A row without octets has none: each capability has two or more
 abbrev pub parameter_octets : List ℕ → List ℕ
 parameter_octets [] = []
-parameter_octets (octet ∷ row) = 2 ∷ length (octet ∷ row) ∷ octet ∷ row
+parameter_octets (octet ∷ row) = CAPABILITIES ∷ length (octet ∷ row) ∷ octet ∷ row
 
 abbrev pub body_octets : ℕ → ℕ → List ℕ → List ℕ → List ℕ
 body_octets as_field hold id row =
-    4 ∷ (to_be_bytes w16 as_field ++ (to_be_bytes w16 hold ++ (id ++ (length (parameter_octets row) ∷ parameter_octets row))))
+    VERSION ∷ (to_be_bytes w16 as_field ++ (to_be_bytes w16 hold ++ (id ++ (length (parameter_octets row) ∷ parameter_octets row))))
 
 -- the body that is written for an OPEN
 abbrev pub canonical : Open → List ℕ
@@ -32,7 +35,7 @@ canonical o = body_octets o.as_field o.hold o.id (row_octets o.caps)
 
 -- another capability under the code of one that has a meaning here
 abbrev pub is_misnamed : Capability → Bool
-is_misnamed (Other code value) = (code == 1) || (code == 65)
+is_misnamed (Other code value) = (code == MULTIPROTOCOL) || (code == FOUR_OCTET_AS)
 is_misnamed _ = false
 
 -- capabilities that one parameter can't hold, since its length and its own two octets stand in one octet of length, or that would be read as others

@@ -7,7 +7,10 @@ ghost use Rattle.bgp_open.specs.Agreement.{first_as4, is_unicast, offers_unicast
 use crate::capability::Capability;
 use crate::config::Config;
 use crate::context::Context;
+use crate::fault::open_error;
 use crate::message::Open;
+use bgp_frame::Notification;
+use bgp_numbers::{afi, error, safi};
 
 /// Why a peer isn't accepted: the first reason in this order (RFC 4271, section 6.2).
 #[derive(Clone, Copy, Debug, PartialEq, Eq)]
@@ -16,6 +19,21 @@ pub enum PeerFault {
     PeerAs,
     /// It is in the speaker's own AS and has the speaker's own identifier (Bad BGP Identifier; RFC 6286, section 2.2).
     Identifier,
+}
+
+impl PeerFault {
+    ghost use Rattle.std.specs.Prelude.{◌≡◌};
+    ghost use Rattle.bgp_open.specs.Agreement.{peer_notification};
+
+    /// The answer to the fault, of code 2 (OPEN Message Error), without information.
+    pub fn notification(self) -> Notification
+        ensures { result ≡ peer_notification self }
+    {
+        match self {
+            PeerFault::PeerAs => open_error(error::BAD_PEER_AS, &[]),
+            PeerFault::Identifier => open_error(error::BAD_IDENTIFIER, &[]),
+        }
+    }
 }
 
 /// The AS number of the first capability that has one.
@@ -35,7 +53,7 @@ fn is_unicast(family: u16, capability: &Capability) -> bool
     ensures { result ≡ is_unicast family capability.now }
 {
     match capability {
-        Capability::Multi(of, subsequent) => *of == family && *subsequent == 1,
+        Capability::Multi(of, subsequent) => *of == family && *subsequent == safi::UNICAST,
         Capability::As4(_) | Capability::Other(_, _) => false,
     }
 }
@@ -67,8 +85,8 @@ pub fn agree(config: &Config, peer: &Open) -> Result<Context, PeerFault>
     Ok(Context {
         internal,
         as4: config.as4() && number.is_some(),
-        ip4: config.ip4() && offers_unicast(1, peer),
-        ip6: config.ip6() && offers_unicast(2, peer),
+        ip4: config.ip4() && offers_unicast(afi::IPV4, peer),
+        ip6: config.ip6() && offers_unicast(afi::IPV6, peer),
         hold: config.hold().min(peer.hold),
     })
 }

@@ -4,6 +4,7 @@ ghost use Rattle.std.specs.Prelude.{◌≡◌, ◌≤◌, length};
 ghost use Rattle.bgp_open.specs.Written.{body_octets};
 
 use arrayvec::ArrayVec;
+use bgp_numbers::{VERSION, parameter};
 
 /// The body with these fixed fields, and this row of capabilities in one parameter where there are any.
 pub(crate) fn body_of(as_field: u16, hold: u16, id: [u8; 4], row: &[u8]) -> ArrayVec<u8, 265>
@@ -13,13 +14,13 @@ pub(crate) fn body_of(as_field: u16, hold: u16, id: [u8; 4], row: &[u8]) -> Arra
     let mut body = ArrayVec::new();
     let [as_high, as_low] = as_field.to_be_bytes();
     let [hold_high, hold_low] = hold.to_be_bytes();
-    let _ = body.try_extend_from_slice(&[4, as_high, as_low, hold_high, hold_low]);
+    let _ = body.try_extend_from_slice(&[VERSION, as_high, as_low, hold_high, hold_low]);
     let _ = body.try_extend_from_slice(&id);
     let length = row.len() as u8;
     if length == 0 {
         let _ = body.try_push(0);
     } else {
-        let _ = body.try_extend_from_slice(&[length + 2, 2, length]);
+        let _ = body.try_extend_from_slice(&[length + 2, parameter::CAPABILITIES, length]);
         let _ = body.try_extend_from_slice(row);
     }
     body

@@ -1,6 +1,6 @@
 //! What a speaker is set to.
 
-use crate::field::{is_short_hold, is_zero_id};
+use crate::field::{is_short_hold, is_wide, is_zero_id};
 use std::marker::Model;
 
 /// Why a configuration is refused: the first reason in this order.
@@ -74,7 +74,7 @@ impl Config {
         if is_short_hold(hold) {
             return Err(BadConfig::Hold);
         }
-        if local_as > 65535 && !as4 {
+        if is_wide(local_as) && !as4 {
             return Err(BadConfig::AsWidth);
         }
         Ok(Config {

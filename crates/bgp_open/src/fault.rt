@@ -1,20 +1,23 @@
 //! Why the body of an OPEN isn't read.
 
-ghost use Rattle.std.specs.Prelude.{◌≡◌};
+ghost use Rattle.std.specs.Prelude.{◌≡◌, ◌≤◌, length};
 ghost use Rattle.bgp_open.specs.declared.fault.OpenFault.TheVariants.{Memory};
-ghost use Rattle.bgp_open.specs.OpenFault.{notification_of};
+ghost use Rattle.bgp_open.specs.OpenFault.{open_error, open_notification};
 
 use bgp_frame::Notification;
+use bgp_numbers::{VERSION, error};
 use std::alloc::AllocError;
 
-/// The first fault of the body of an OPEN (RFC 4271, section 6.2), or a refused growth.
+/// The first fault of the body of an OPEN (RFC 4271, section 6.2), or a refused growth. The order of the tests is our own: the version;
+/// the length of the parameters; the first parameter that isn't read, where it is asked whether it is cut off, then for its type, then
+/// for its capabilities; the Hold Time; the identifier.
 #[derive(Clone, Copy, Debug, PartialEq, Eq)]
 pub enum OpenFault {
     /// The version isn't 4.
     Version,
-    /// The parameters don't fill their length, or one is cut off, or a capability is cut off or of a wrong length.
+    /// The parameters don't fill their length; or one is cut off, whatever its type; or a capability is cut off or of a wrong length.
     Parameter,
-    /// A parameter is of a type other than 2.
+    /// A whole parameter is of a type other than 2.
     UnknownParameter,
     /// The Hold Time is 1 or 2.
     Hold,
@@ -24,17 +27,25 @@ pub enum OpenFault {
     Memory,
 }
 
+/// An answer of code 2, OPEN Message Error (RFC 4271, section 6.2).
+pub(crate) fn open_error(subcode: u8, info: &[u8]) -> Notification
+    requires { length info.now ≤ 4075 }
+    ensures { result ≡ open_error subcode info.now }
+{
+    Notification::new(error::OPEN_MESSAGE, subcode, info)
+}
+
 impl OpenFault {
     /// The answer to the fault, of code 2 (OPEN Message Error): none where memory ran out.
     pub fn notification(self) -> Option<Notification>
-        ensures { result ≡ notification_of self }
+        ensures { result ≡ open_notification self }
     {
         match self {
-            OpenFault::Version => Some(Notification::new(2, 1, &[0, 4])),
-            OpenFault::Parameter => Some(Notification::new(2, 0, &[])),
-            OpenFault::UnknownParameter => Some(Notification::new(2, 4, &[])),
-            OpenFault::Hold => Some(Notification::new(2, 6, &[])),
-            OpenFault::Identifier => Some(Notification::new(2, 3, &[])),
+            OpenFault::Version => Some(open_error(error::UNSUPPORTED_VERSION, &[0, VERSION])),
+            OpenFault::Parameter => Some(open_error(error::UNSPECIFIC, &[])),
+            OpenFault::UnknownParameter => Some(open_error(error::UNSUPPORTED_PARAMETER, &[])),
+            OpenFault::Hold => Some(open_error(error::UNACCEPTABLE_HOLD_TIME, &[])),
+            OpenFault::Identifier => Some(open_error(error::BAD_IDENTIFIER, &[])),
             OpenFault::Memory => None,
         }
     }

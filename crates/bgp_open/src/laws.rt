@@ -12,7 +12,7 @@ ghost use Rattle.bgp_open.specs.Own.{own_of};
 ghost use Rattle.bgp_open.specs.Agreement.{agreement};
 ghost use Rattle.bgp_open.specs.Capability.{IsCapability, one_capability};
 ghost use Rattle.bgp_open.specs.Parameter.{IsParameter, one_parameter};
-ghost use Rattle.bgp_open.specs.OpenFault.{fault_of, reading_of, HasValueOrFault};
+ghost use Rattle.bgp_open.specs.OpenFault.{open_fault, reading_of, HasValueOrFault};
 
 /// No capability is a front of another, and the octets of each have one meaning (RFC 5492, section 4).
 pub fn capabilities_are_prefix_free()
@@ -43,7 +43,7 @@ pub fn parameters_split_in_one_way()
 
 /// Each body of at least ten octets is the spelling of one OPEN and has no fault, or has a fault and spells none.
 pub fn an_open_has_one_reading()
-    ensures { (body : List ℕ) → 10 ≤ length body → HasValueOrFault body (fault_of body) }
+    ensures { (body : List ℕ) → 10 ≤ length body → HasValueOrFault body (open_fault body) }
 {}
 
 /// What is written of an OPEN that isn't bad is read as this OPEN.

@@ -10,21 +10,21 @@ ghost use Rattle.bgp_open.specs.Written.{row_octets, canonical};
 use crate::body::body_of;
 use crate::capability::Capability;
 use crate::config::Config;
+use crate::field::is_wide;
 use crate::message::Open;
+use crate::read::extend;
 use crate::row::put;
 use arrayvec::ArrayVec;
 use bgp_frame::{Kind, head};
+use bgp_numbers::{AS_TRANS, afi, safi};
 use bgp_wire::List;
 use std::alloc::{AllocError, Global};
-
-/// What stands in two octets for an AS number that needs four (RFC 6793, section 9).
-const AS_TRANS: u16 = 23456;
 
 /// The My Autonomous System field for an AS number.
 fn as_field(number: u32) -> u16
     ensures { result ≡ field_for number }
 {
-    if number > 65535 {
+    if is_wide(number) {
         AS_TRANS
     } else {
         number as u16
@@ -39,16 +39,9 @@ fn as_field(number: u32) -> u16
 pub fn own_open(alloc: Global, config: &Config) -> Result<Open, AllocError>
     ensures { IfOk result (λ o. o ≡ own_of config.now) }
 {
+    // What is offered is said once, by the row that is sent; here it is read.
     let mut caps = List::new(alloc);
-    if config.ip4() {
-        caps.push(Capability::Multi(1, 1))?;
-    }
-    if config.ip6() {
-        caps.push(Capability::Multi(2, 1))?;
-    }
-    if config.as4() {
-        caps.push(Capability::As4(config.local_as()))?;
-    }
+    extend(alloc, &mut caps, &offered_row(config))?;
     Ok(Open {
         as_field: as_field(config.local_as()),
         hold: config.hold(),
@@ -57,16 +50,16 @@ pub fn own_open(alloc: Global, config: &Config) -> Result<Open, AllocError>
     })
 }
 
-/// The row of the capabilities that a speaker offers.
-fn own_row(config: &Config) -> ArrayVec<u8, 253>
+/// What a speaker offers, as the row of its capabilities.
+fn offered_row(config: &Config) -> ArrayVec<u8, 253>
     ensures { result.items ≡ row_octets (own_caps config.now) }
 {
     let mut row = ArrayVec::new();
     if config.ip4() {
-        put(&Capability::Multi(1, 1), &mut row);
+        put(&Capability::Multi(afi::IPV4, safi::UNICAST), &mut row);
     }
     if config.ip6() {
-        put(&Capability::Multi(2, 1), &mut row);
+        put(&Capability::Multi(afi::IPV6, safi::UNICAST), &mut row);
     }
     if config.as4() {
         put(&Capability::As4(config.local_as()), &mut row);
@@ -80,7 +73,7 @@ pub fn own_frame(config: &Config) -> ArrayVec<u8, 49>
     // The body spells what the speaker says of itself.
     ensures spelled { IsOpen (own_of config.now) (canonical (own_of config.now)) }
 {
-    let row = own_row(config);
+    let row = offered_row(config);
     let body = body_of(
         as_field(config.local_as()),
         config.hold(),

@@ -8,6 +8,7 @@ ghost use Rattle.bgp_open.specs.OpenFault.{rest_fault};
 
 use crate::fault::OpenFault;
 use crate::view::first_capability;
+use bgp_numbers::parameter;
 
 /// Whether the octets are capabilities, each whole, and nothing else.
 fn are_capabilities(octets: &[u8]) -> bool
@@ -28,7 +29,7 @@ pub(crate) fn first_parameter(octets: &[u8]) -> Option<(&[u8], &[u8])>
     let (kind, rest) = octets.split_first()?;
     let (length, rest) = rest.split_first()?;
     let (value, rest) = rest.split_at_checked(*length as usize)?;
-    if *kind != 2 || !are_capabilities(value) {
+    if *kind != parameter::CAPABILITIES || !are_capabilities(value) {
         return None;
     }
     Some((value, rest))
@@ -42,7 +43,7 @@ fn rest_fault(rest: &[u8]) -> Option<OpenFault>
     match rest.split_first() {
         None => Some(OpenFault::Parameter),
         Some((length, value)) if value.len() < *length as usize => Some(OpenFault::Parameter),
-        Some(_) if *kind != 2 => Some(OpenFault::UnknownParameter),
+        Some(_) if *kind != parameter::CAPABILITIES => Some(OpenFault::UnknownParameter),
         Some(_) => Some(OpenFault::Parameter),
     }
 }

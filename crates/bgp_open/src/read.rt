@@ -6,7 +6,7 @@ ghost use Rattle.bgp_open.specs.declared.message.Open.{Open};
 ghost use Rattle.bgp_open.specs.Capability.{one_capability};
 ghost use Rattle.bgp_open.specs.Parameter.{one_parameter};
 ghost use Rattle.bgp_open.specs.Open.{IsOpen, joined};
-ghost use Rattle.bgp_open.specs.OpenFault.{fault_of, reading_of, Gives};
+ghost use Rattle.bgp_open.specs.OpenFault.{open_fault, reading_of, IsReadAs};
 
 use crate::capability::Capability;
 use crate::fault::OpenFault;
@@ -14,16 +14,17 @@ use crate::field::{is_short_hold, is_zero_id};
 use crate::message::Open;
 use crate::parameter::{first_parameter, parameters_fault};
 use crate::view::first_capability;
+use bgp_numbers::VERSION;
 use bgp_wire::List;
 use std::alloc::{AllocError, Global};
 
 /// The first fault of a body of at least 10 octets, without memory.
-#[tactic(auto, unfolding(crate::specs::OpenFault::fault_of))]
-fn first_fault(body: &[u8]) -> Option<OpenFault>
+#[tactic(auto, unfolding(crate::specs::OpenFault::open_fault))]
+fn open_fault(body: &[u8]) -> Option<OpenFault>
     requires { 10 ≤ length body.now }
-    ensures { result ≡ fault_of body.now }
+    ensures { result ≡ open_fault body.now }
 {
-    if body[0] != 4 {
+    if body[0] != VERSION {
         return Some(OpenFault::Version);
     }
     let parameters = &body[10..];
@@ -43,7 +44,11 @@ fn first_fault(body: &[u8]) -> Option<OpenFault>
 }
 
 /// Adds the capabilities from the front on.
-fn extend(alloc: Global, caps: &mut List<Capability>, octets: &[u8]) -> Result<(), AllocError>
+pub(crate) fn extend(
+    alloc: Global,
+    caps: &mut List<Capability>,
+    octets: &[u8],
+) -> Result<(), AllocError>
     ensures { OnOk result (caps.new ≡ caps.old ++ (pieces one_capability octets.now).0) }
 {
     let mut rest = octets;
@@ -70,9 +75,9 @@ fn capabilities(alloc: Global, octets: &[u8]) -> Result<List<Capability>, AllocE
 /// The value or the first fault, in one clause from which those of [`read_open`] follow.
 fn reading(alloc: Global, body: &[u8]) -> Result<Open, OpenFault>
     requires { 10 ≤ length body.now }
-    ensures { Gives result (reading_of body.now) }
+    ensures { IsReadAs result (reading_of body.now) }
 {
-    if let Some(fault) = first_fault(body) {
+    if let Some(fault) = open_fault(body) {
         return Err(fault);
     }
     let caps = capabilities(alloc, &body[10..])?;
@@ -87,15 +92,15 @@ fn reading(alloc: Global, body: &[u8]) -> Result<Open, OpenFault>
 /// Reads the body of an OPEN (RFC 4271, section 4.2): the octets behind the header, of which a whole OPEN has at least 10.
 ///
 /// # Errors
-/// The first fault, in the order of [`OpenFault`]; `Memory` only where there is none and a growth was refused.
+/// The first fault, by the tests in the order that [`OpenFault`] tells; `Memory` only where there is none and a growth was refused.
 pub fn read_open(alloc: Global, body: &[u8]) -> Result<Open, OpenFault>
     requires { 10 ≤ length body.now }
     // What is read is spelled so.
     ensures found { IfOk result (λ o. IsOpen o body.now) }
     // What is spelled so is read, unless memory runs out.
-    ensures only { (o : Open) → IsOpen o body.now → Gives result (Ok o) }
+    ensures only { (o : Open) → IsOpen o body.now → IsReadAs result (Ok o) }
     // Which fault it is, and that memory runs out only where there is a value.
-    ensures exact { Gives result (reading_of body.now) }
+    ensures exact { IsReadAs result (reading_of body.now) }
 {
     reading(alloc, body)
 }

@@ -8,13 +8,16 @@ ghost use Rattle.bgp_open.specs.Written.{capability_octets, row_octets, is_misna
 
 use crate::capability::Capability;
 use arrayvec::ArrayVec;
+use bgp_numbers::capability;
 
 /// Whether the capability would be read as another one.
 fn is_misnamed(capability: &Capability) -> bool
     ensures { result ≡ is_misnamed capability.now }
 {
     match capability {
-        Capability::Other(code, _) => *code == 1 || *code == 65,
+        Capability::Other(code, _) => {
+            *code == capability::MULTIPROTOCOL || *code == capability::FOUR_OCTET_AS
+        }
         Capability::Multi(_, _) | Capability::As4(_) => false,
     }
 }
@@ -28,12 +31,13 @@ pub(crate) fn put(capability: &Capability, row: &mut ArrayVec<u8, 253>) -> bool
     match capability {
         Capability::Multi(family, subsequent) => {
             let [high, low] = family.to_be_bytes();
-            row.try_extend_from_slice(&[1, 4, high, low, 0, *subsequent])
+            row.try_extend_from_slice(&[capability::MULTIPROTOCOL, 4, high, low, 0, *subsequent])
                 .is_ok()
         }
         Capability::As4(number) => {
             let [a, b, c, d] = number.to_be_bytes();
-            row.try_extend_from_slice(&[65, 4, a, b, c, d]).is_ok()
+            row.try_extend_from_slice(&[capability::FOUR_OCTET_AS, 4, a, b, c, d])
+                .is_ok()
         }
         Capability::Other(code, value) => {
             if value.len() > 251 {

@@ -387,6 +387,15 @@ fn what_two_speakers_agree_on(rt: HostRuntime) -> Result<(), Fail> {
     Ok(())
 }
 
+#[test]
+fn what_a_peer_is_told_that_is_not_accepted(rt: HostRuntime) {
+    for (fault, subcode) in [(PeerFault::PeerAs, 2u8), (PeerFault::Identifier, 3)] {
+        let told = fault.notification();
+        assert_eq!(rt; (told.code, told.subcode), (2, subcode));
+        assert!(rt; told.info.is_empty());
+    }
+}
+
 /// Reads a captured message, and agrees with its speaker as one that offers everything, or all but AS numbers of four octets.
 fn speaks(
     rt: &impl Abort,

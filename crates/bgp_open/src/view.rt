@@ -33,7 +33,7 @@ impl View<'_> {
     }
 }
 
-/// The capability of this code and value: codes 1 and 65 have four octets.
+/// The capability of this code and value: the values of two codes have four octets.
 fn meaning(code: u8, value: &[u8]) -> Option<View<'_>>
     ensures { option_map value_of result ≡ capability_of code value.now }
 {

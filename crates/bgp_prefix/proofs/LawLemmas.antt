@@ -1,5 +1,5 @@
 -- The laws of prefixes and runs.
-use Rattle.std.proofs.Common.{◌≡◌, ◌⊎◌, inl, inr, ℕ, suc, ◌+◌, ◌-◌, ◌*◌, ◌/◌, ◌%◌, ◌<◌, ◌≤◌, Bool, true, false, cond, leb, ltb, ◌&&◌, List, [], ◌∷◌, ◌++◌, length, get_or, take, drop, All, Option, Some, None, refl, sym, ap, ap₂, ◌∙◌, subst, arith}
+use Rattle.std.proofs.Common.{◌≡◌, ◌⊎◌, inl, inr, ℕ, suc, ◌+◌, ◌-◌, ◌*◌, ◌/◌, ◌%◌, ◌<◌, ◌≤◌, Bool, true, false, cond, leb, ltb, ◌&&◌, List, [], ◌∷◌, ◌++◌, length, get_or, take, drop, All, Some, None, refl, sym, ap, ap₂, ◌∙◌, subst, arith}
 use Rattle.std.specs.List.{flat_map}
 use Rattle.std.specs.Int.{bit_at}
 use Rattle.std.proofs.lemmas.Bool.{cases_lt, leb-true, leb-false, lt-ltb, le-ltb}
@@ -11,10 +11,11 @@ use Rattle.bgp_wire.specs.Row.{Row, IsPrefixFree, Splits}
 use Rattle.bgp_wire.proofs.OctetLemmas.{AreOctets-front, AreOctets-back}
 use Rattle.bgp_wire.proofs.Pieces.{found, found_not, Reads-prefix_free, Splits-pieces, pieces-Splits}
 use Rattle.bgp_wire.proofs.Behinds.{pieces-whole}
+use Rattle.bgp_wire.proofs.Walks.{nothing_at}
 use Rattle.bgp_prefix.specs.declared.fault.RunFault.TheVariants.{TooLong, PastEnd}
 use Rattle.bgp_prefix.specs.Bits.{octets_for, bit_of, address_of}
 use Rattle.bgp_prefix.specs.Prefix.{PrefixValue, IsValid, IsPrefix, HasFirstBits, prefix_of, one_prefix, spelling_of}
-use Rattle.bgp_prefix.specs.Run.{run_of, fault_of}
+use Rattle.bgp_prefix.specs.Run.{run_of, run_fault}
 use Rattle.bgp_prefix.proofs.BitLemmas.{length-address_of, AreOctets-address_of, bit_of-address_of, HasNoBitPast-address_of}
 use Rattle.bgp_prefix.proofs.PrefixLemmas.{IsPrefix-reads, IsPrefix-length, IsPrefix-spelling_of, IsPrefix-valid}
 
@@ -77,18 +78,12 @@ module _ (width : ℕ) where
 
   -- nothing stands at the front of the rest
   stuck_none : (b : List ℕ) (prefixes : List PrefixValue) (rest : List ℕ) → run_of width b ≡ (prefixes, rest) → one_prefix width rest ≡ None
-  stuck_none b prefixes rest e = at (one_prefix width rest) refl
-    where
-      at : (o : Option (PrefixValue × List ℕ)) → one_prefix width rest ≡ o → one_prefix width rest ≡ None
-      at None is = is
-      at (Some q) is =
-          let s = subst (λ (x : List PrefixValue × List ℕ). Splits (IsPrefix width) b x.0 x.1) e (run_splits b) in
-          let gave = (IsPrefix-reads width).gives rest q.0 q.1 is in
-          absurd (s.stuck q.0 gave.0 q.1 gave.2 gave.1)
+  stuck_none b prefixes rest e =
+      ap (λ (q : List PrefixValue × List ℕ). one_prefix width q.1) (sym e) ∙ nothing_at PrefixValue (IsPrefix width) (one_prefix width) (IsPrefix-reads width) b
 
   why : (l : ℕ) (rest : List ℕ) (s t : Bool) → leb l (8 * width) ≡ s → leb (octets_for l) (length rest) ≡ t
       → cond (s && t) (found PrefixValue (prefix_of width l (take (octets_for l) rest), drop (octets_for l) rest)) None ≡ None
-      → ((8 * width < l) × (fault_of width (l ∷ rest) ≡ Some TooLong)) ⊎ ((l ≤ 8 * width) × (length rest < octets_for l) × (fault_of width (l ∷ rest) ≡ Some PastEnd))
+      → ((8 * width < l) × (run_fault width (l ∷ rest) ≡ Some TooLong)) ⊎ ((l ≤ 8 * width) × (length rest < octets_for l) × (run_fault width (l ∷ rest) ≡ Some PastEnd))
   why l rest true true p q e = absurd (found_not PrefixValue _ (sym e))
   why l rest true false p q e =
       let small : ltb (8 * width) l ≡ false = le-ltb _ _ (leb-true _ _ p) in
@@ -98,7 +93,7 @@ module _ (width : ℕ) where
       inl (leb-false _ _ p, rw big refl)
 
   pub fault_why : (b : List ℕ) (prefixes : List PrefixValue) (l : ℕ) (rest : List ℕ) → run_of width b ≡ (prefixes, l ∷ rest)
-      → ((8 * width < l) × (fault_of width (l ∷ rest) ≡ Some TooLong)) ⊎ ((l ≤ 8 * width) × (length rest < octets_for l) × (fault_of width (l ∷ rest) ≡ Some PastEnd))
+      → ((8 * width < l) × (run_fault width (l ∷ rest) ≡ Some TooLong)) ⊎ ((l ≤ 8 * width) × (length rest < octets_for l) × (run_fault width (l ∷ rest) ≡ Some PastEnd))
   unfolding one_prefix
   fault_why b prefixes l rest e = why l rest (leb l (8 * width)) (leb (octets_for l) (length rest)) refl refl (stuck_none b prefixes (l ∷ rest) e)
 

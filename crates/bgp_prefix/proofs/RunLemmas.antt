@@ -1,82 +1,20 @@
--- A run step by step, as the code goes through it, and what is written as a row.
-use Rattle.std.proofs.Common.{◌≡◌, ℕ, ◌+◌, ◌*◌, ◌<◌, ◌≤◌, Bool, true, false, cond, ltb, List, [], ◌∷◌, ◌++◌, length, get_or, take, Some, None, Err, refl, sym, ap, ◌∙◌, subst, append_assoc, arith}
+-- Which fault a run has, and what is written as a row. How a run is gone through, prefix by prefix, stands in `Rattle.bgp_wire.proofs.Walks`.
+use Rattle.std.proofs.Common.{◌≡◌, ℕ, ◌+◌, ◌*◌, ◌<◌, Bool, true, false, cond, ltb, List, [], ◌∷◌, ◌++◌, length, get_or, take, Some, None, Err, refl, sym, ap, ◌∙◌, subst, append_assoc}
 use Rattle.std.specs.List.{flat_map, slice_get}
-use Rattle.std.proofs.lemmas.List.{append-nil, length-append, take_more}
+use Rattle.std.proofs.lemmas.List.{append-nil, take_more}
 use Rattle.std.proofs.lemmas.List.Concat.{flat_map-append}
 use Rattle.bgp_wire.specs.Row.{Row}
 use Rattle.bgp_wire.proofs.Rows.{Row-push}
-use Rattle.bgp_wire.proofs.Pieces.{pieces-some, pieces-none, shrinks, Splits-pieces}
 use Rattle.bgp_prefix.specs.declared.fault.RunFault.{RunFault}
 use Rattle.bgp_prefix.specs.declared.fault.RunFault.TheVariants.{TooLong, PastEnd, Memory}
-use Rattle.bgp_prefix.specs.Prefix.{PrefixValue, IsValid, IsPrefix, one_prefix, spelling_of}
-use Rattle.bgp_prefix.specs.Run.{run_of, fault_at, fault_of, IsReading}
-use Rattle.bgp_prefix.proofs.PrefixLemmas.{IsPrefix-reads, IsPrefix-length, IsPrefix-spelling_of}
-
--- ---- one step
-
-module _ (width : ℕ) (b : List ℕ) where
-  pub run_some : (p : PrefixValue) (back : List ℕ) → Some (p, back) ≡ one_prefix width b → run_of width b ≡ (p ∷ (run_of width back).0, (run_of width back).1)
-  run_some p back e = pieces-some PrefixValue (IsPrefix width) (one_prefix width) (IsPrefix-reads width) b p back (sym e)
-
-  pub run_none : None ≡ one_prefix width b → run_of width b ≡ ([], b)
-  run_none e = pieces-none PrefixValue (IsPrefix width) (one_prefix width) (IsPrefix-reads width) b (sym e)
-
-  pub run_shorter : (p : PrefixValue) (back : List ℕ) → Some (p, back) ≡ one_prefix width b → length back < length b
-  run_shorter p back e = shrinks PrefixValue (IsPrefix width) (one_prefix width) (IsPrefix-reads width) b p back (sym e)
-
--- a row has at least an octet for each prefix
-Row-longer : (width : ℕ) (ps : List PrefixValue) (b : List ℕ) → Row (IsPrefix width) ps b → length ps ≤ length b
-Row-longer width [] b r = omega arith
-Row-longer width (p ∷ ps) b r =
-    omega (arith, Row-longer width ps r.1 r.4, ap length r.2, length-append r.0 r.1, IsPrefix-length width p r.0 r.3)
-
-pub run_longer : (width : ℕ) (b : List ℕ) → length (run_of width b).0 ≤ length b
-run_longer width b =
-    let s = Splits-pieces PrefixValue (IsPrefix width) (one_prefix width) (IsPrefix-reads width) b in
-    omega (arith, Row-longer width (run_of width b).0 s.row s.spelled, ap length s.whole, length-append s.row (run_of width b).1)
-
--- ---- counting
-
--- the count so far and the prefixes of the rest are as many as those of the octets, and the same is left
-abbrev pub Counts : ℕ → List ℕ → ℕ → List ℕ → Type 0
-Counts width octets count rest = (count + length (run_of width rest).0 ≡ length (run_of width octets).0) × ((run_of width rest).1 ≡ (run_of width octets).1)
-
-pub count_more : (width count : ℕ) (octets rest after : List ℕ) (p : PrefixValue) → Some (p, after) ≡ one_prefix width rest → Counts width octets count rest → Counts width octets (count + 1) after
-count_more width count octets rest after p e so_far =
-    let one = run_some width rest p after e in
-    (omega (arith, so_far.0, ap (λ (q : List PrefixValue × List ℕ). length q.0) one), ap (λ (q : List PrefixValue × List ℕ). q.1) (sym one) ∙ so_far.1)
-
-pub count_fits : (width count : ℕ) (octets rest : List ℕ) → Counts width octets count rest → count ≤ length octets
-count_fits width count octets rest so_far = omega (arith, so_far.0, run_longer width octets)
-
-pub count_done : (width count : ℕ) (octets rest : List ℕ) → None ≡ one_prefix width rest → Counts width octets count rest → (count ≡ length (run_of width octets).0) × (rest ≡ (run_of width octets).1)
-count_done width count octets rest e so_far =
-    let nothing = run_none width rest e in
-    (omega (arith, so_far.0, ap (λ (q : List PrefixValue × List ℕ). length q.0) nothing), ap (λ (q : List PrefixValue × List ℕ). q.1) (sym nothing) ∙ so_far.1)
+use Rattle.bgp_prefix.specs.Prefix.{PrefixValue, IsValid, IsPrefix, spelling_of}
+use Rattle.bgp_prefix.specs.Run.{run_of, fault_at, run_fault, IsReading}
+use Rattle.bgp_prefix.proofs.PrefixLemmas.{IsPrefix-spelling_of}
 
 -- ---- reading
 
--- the prefixes so far, then those of the rest, are those of the octets
-abbrev pub HasRead : ℕ → List ℕ → List PrefixValue → List ℕ → Type 0
-HasRead width octets ps rest = run_of width octets ≡ (ps ++ (run_of width rest).0, (run_of width rest).1)
-
-pub read_more : (width : ℕ) (octets rest after : List ℕ) (ps qs : List PrefixValue) (p : PrefixValue) → Some (p, after) ≡ one_prefix width rest → qs ≡ ps ++ p ∷ []
-    → HasRead width octets ps rest → HasRead width octets qs after
-read_more width octets rest after ps qs p e pushed so_far =
-    so_far ∙ ap (λ (q : List PrefixValue × List ℕ). (ps ++ q.0, q.1)) (run_some width rest p after e)
-    ∙ ap (λ (xs : List PrefixValue). (xs, (run_of width after).1)) (sym (append_assoc ps (p ∷ []) (run_of width after).0) ∙ ap (λ (xs : List PrefixValue). xs ++ (run_of width after).0) (sym pushed))
-
--- no memory: there was a prefix to keep
-pub read_some : (width : ℕ) (octets rest after : List ℕ) (ps : List PrefixValue) (p : PrefixValue) → Some (p, after) ≡ one_prefix width rest → HasRead width octets ps rest → 0 < length (run_of width octets).0
-read_some width octets rest after ps p e so_far =
-    omega (arith, ap (λ (q : List PrefixValue × List ℕ). length q.0) so_far, length-append ps (run_of width rest).0, ap (λ (q : List PrefixValue × List ℕ). length q.0) (run_some width rest p after e))
-
-pub read_done : (width : ℕ) (octets rest : List ℕ) (ps : List PrefixValue) → None ≡ one_prefix width rest → HasRead width octets ps rest → run_of width octets ≡ (ps, rest)
-read_done width octets rest ps e so_far =
-    so_far ∙ ap (λ (q : List PrefixValue × List ℕ). (ps ++ q.0, q.1)) (run_none width rest e) ∙ ap (λ (xs : List PrefixValue). (xs, rest)) (append-nil ps)
-
 -- only the two faults of octets are a fault of the rest
-is_fault : (width : ℕ) (octets : List ℕ) (t : Bool) (fault : RunFault) → fault ≡ cond t TooLong PastEnd → fault_of width (run_of width octets).1 ≡ Some (cond t TooLong PastEnd) → IsReading width octets (Err fault)
+is_fault : (width : ℕ) (octets : List ℕ) (t : Bool) (fault : RunFault) → fault ≡ cond t TooLong PastEnd → run_fault width (run_of width octets).1 ≡ Some (cond t TooLong PastEnd) → IsReading width octets (Err fault)
 is_fault width octets true TooLong e r = r
 is_fault width octets true PastEnd e r = absurd cc
 is_fault width octets true Memory e r = absurd cc
@@ -85,7 +23,7 @@ is_fault width octets false PastEnd e r = r
 is_fault width octets false Memory e r = absurd cc
 
 pub reading_fault : (width : ℕ) (octets : List ℕ) (ps : List PrefixValue) (l : ℕ) (rest : List ℕ) (fault : RunFault) → run_of width octets ≡ (ps, l ∷ rest) → fault ≡ fault_at width l → IsReading width octets (Err fault)
-reading_fault width octets ps l rest fault e is = is_fault width octets (ltb (8 * width) l) fault is (ap (λ (q : List PrefixValue × List ℕ). fault_of width q.1) e)
+reading_fault width octets ps l rest fault e is = is_fault width octets (ltb (8 * width) l) fault is (ap (λ (q : List PrefixValue × List ℕ). run_fault width q.1) e)
 
 -- octets without a first one, and with one
 pub none_first : (b : List ℕ) → None ≡ slice_get b 0 → b ≡ []

@@ -14,14 +14,14 @@ abbrev pub fault_at : ℕ → ℕ → RunFault
 fault_at width l = if nat_lt (8 * width) l then TooLong else PastEnd
 
 -- what is wrong with the rest, where there is one
-abbrev pub fault_of : ℕ → List ℕ → Option RunFault
-fault_of width [] = None
-fault_of width (l ∷ rest) = Some (fault_at width l)
+abbrev pub run_fault : ℕ → List ℕ → Option RunFault
+run_fault width [] = None
+run_fault width (l ∷ rest) = Some (fault_at width l)
 
 -- What a call that reads octets as a run may answer: all the prefixes where nothing is left, else the fault of what is
 -- left; that there was no memory only where there is a prefix, since nothing else takes any.
 abbrev pub IsReading : ℕ → List ℕ → Result (List PrefixValue) RunFault → Type 0
 IsReading width b (Ok prefixes) = run_of width b ≡ (prefixes, [])
-IsReading width b (Err TooLong) = fault_of width (run_of width b).1 ≡ Some TooLong
-IsReading width b (Err PastEnd) = fault_of width (run_of width b).1 ≡ Some PastEnd
+IsReading width b (Err TooLong) = run_fault width (run_of width b).1 ≡ Some TooLong
+IsReading width b (Err PastEnd) = run_fault width (run_of width b).1 ≡ Some PastEnd
 IsReading width b (Err Memory) = 0 < length (run_of width b).0

@@ -8,7 +8,7 @@ use std::alloc::{AllocError, Global};
 pub struct AsNumber(pub u32);
 
 /// What stands for a number above 65535 where there are two octets for it (RFC 6793, section 9).
-pub const AS_TRANS: AsNumber = AsNumber(23456);
+pub const AS_TRANS: AsNumber = AsNumber(bgp_numbers::AS_TRANS as u32);
 
 impl TryCopy for AsNumber {
     fn try_copy(&self, _alloc: Global) -> Result<AsNumber, AllocError> {

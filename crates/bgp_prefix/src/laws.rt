@@ -10,7 +10,7 @@ ghost use Rattle.bgp_prefix.specs.declared.fault.RunFault.TheVariants.{TooLong, 
 ghost use Rattle.bgp_prefix.specs.Bits.{octets_for};
 ghost use Rattle.bgp_prefix.specs.Prefix.{PrefixValue, IsValid, IsPrefix, HasFirstBits};
 ghost use Rattle.bgp_prefix.specs.Prefix.{one_prefix, spelling_of};
-ghost use Rattle.bgp_prefix.specs.Run.{run_of, fault_of};
+ghost use Rattle.bgp_prefix.specs.Run.{run_of, run_fault};
 
 /// No spelling of a prefix is a proper front of another, and each has one value.
 pub fn spellings_are_prefix_free()
@@ -45,9 +45,9 @@ pub fn octets_have_one_split()
 pub fn faults_say_why()
     ensures { (width : ℕ) (b : List ℕ) (prefixes : List PrefixValue) (l : ℕ) (rest : List ℕ)
         → run_of width b ≡ (prefixes, l ∷ rest)
-        → ((8 * width < l) × (fault_of width (l ∷ rest) ≡ Some TooLong))
+        → ((8 * width < l) × (run_fault width (l ∷ rest) ≡ Some TooLong))
         ⊎ ((l ≤ 8 * width) × (length rest < octets_for l)
-        × (fault_of width (l ∷ rest) ≡ Some PastEnd)) }
+        × (run_fault width (l ∷ rest) ≡ Some PastEnd)) }
 {}
 
 /// What is written is read back, and nothing is left.

@@ -9,11 +9,12 @@ use crate::bits::{address, is_allowed, is_clear, octets_for};
 use crate::front::Front;
 use bgp_wire::TryCopy;
 use std::alloc::{AllocError, Global};
+use std::cmp::Ordering;
 use std::marker::Model;
 
 /// The first `len` bits of addresses of `W` octets (RFC 4271, section 4.3; RFC 4760, section 5).
-/// Prefixes are in order of their addresses, and at one address of their lengths.
-#[derive(Clone, Copy, Debug, PartialEq, Eq, PartialOrd, Ord)]
+/// Prefixes are in order of their addresses, octet by octet from the highest, and at one address of their lengths.
+#[derive(Clone, Copy, Debug, PartialEq, Eq)]
 pub struct Prefix<const W: usize> {
     addr: [u8; W],
     len: u8,
@@ -89,6 +90,41 @@ impl<const W: usize> Prefix<W> {
         out.push(len)?;
         out.extend_from_slice(&addr[..octets_for(len)])?;
         Ok(())
+    }
+}
+
+impl<const W: usize> Ord for Prefix<W> {
+    ghost use Rattle.std.proofs.Common.{rules};
+    ghost use Rattle.std.specs.Cmp.Rules.{comparing};
+    ghost use Rattle.bgp_prefix.specs.Order.{compare_prefixes};
+
+    ghost cmp = { compare_prefixes };
+
+    ghost total = { Prim.search (comparing, rules) };
+
+    ghost matches_partial_cmp = { Prim.search (comparing, rules) };
+
+    ghost matches_eq = { Prim.search (comparing, rules) };
+
+    fn cmp(&self, other: &Prefix<W>) -> Ordering {
+        let by_address = self.addr.cmp(&other.addr);
+        by_address.then(self.len.cmp(&other.len))
+    }
+}
+
+impl<const W: usize> PartialOrd for Prefix<W> {
+    ghost use Rattle.std.proofs.Common.{rules};
+    ghost use Rattle.std.specs.Cmp.{partial_order_from_own_ties};
+    ghost use Rattle.std.specs.Cmp.Rules.{comparing};
+    ghost use Rattle.std.specs.Ordering.{as_partial_cmp};
+    ghost use Rattle.bgp_prefix.specs.Order.{compare_prefixes};
+
+    ghost partial_cmp = { as_partial_cmp compare_prefixes };
+
+    ghost laws = { partial_order_from_own_ties (Prim.search (comparing, rules)) (Prim.search (comparing, rules)) };
+
+    fn partial_cmp(&self, other: &Prefix<W>) -> Option<Ordering> {
+        Some(self.cmp(other))
     }
 }
 

@@ -1,5 +1,6 @@
 use super::*;
 use bgp_wire::{List, TryCopy};
+use std::cmp::Ordering;
 use std::test::*;
 
 #[test]
@@ -13,8 +14,21 @@ fn prefixes_of_four_octets(rt: HostRuntime) -> Result<(), Fail> {
     assert!(rt; Prefix4::new(33, [0, 0, 0, 0]).is_none());
     assert!(rt; Prefix4::new(0, [0, 0, 0, 1]).is_none());
     assert!(rt; Prefix4::new(32, [255, 255, 255, 255]).is_some());
+    Ok(())
+}
+
+#[test]
+fn prefixes_in_order(rt: HostRuntime) -> Result<(), Fail> {
+    let ten = Prefix4::new(8, [10, 0, 0, 0]).ok_or("8 bits")?;
+    let longer = Prefix4::new(9, [10, 0, 0, 0]).ok_or("9 bits")?;
     let eleven = Prefix4::new(8, [11, 0, 0, 0]).ok_or("8 bits")?;
-    assert!(rt; ten < eleven);
+    assert!(rt; ten < longer);
+    assert!(rt; longer < eleven);
+    assert_eq!(rt; eleven.cmp(&longer), Ordering::Greater);
+    assert_eq!(rt; ten.cmp(&ten), Ordering::Equal);
+    let low = Prefix6::new(128, [1; 16]).ok_or("128 bits")?;
+    let high = Prefix6::new(1, [128, 0, 0, 0, 0, 0, 0, 0, 0, 0, 0, 0, 0, 0, 0, 0]).ok_or("1 bit")?;
+    assert!(rt; low < high);
     Ok(())
 }
 

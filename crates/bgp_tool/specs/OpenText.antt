@@ -7,7 +7,7 @@ use Rattle.bgp_open.specs.declared.capability.Capability.{Capability}
 use Rattle.bgp_open.specs.declared.capability.Capability.TheVariants.{Multi, As4, Other}
 use Rattle.bgp_open.specs.declared.message.Open.{Open}
 use Rattle.bgp_open.specs.declared.fault.OpenFault.{OpenFault}
-use Rattle.bgp_open.specs.OpenFault.{notification_of}
+use Rattle.bgp_open.specs.OpenFault.{open_notification}
 use Rattle.bgp_tool.specs.InfoText.{info_text, notification_text}
 
 -- four octets with dots between
@@ -45,4 +45,4 @@ reset_lines place len (Some told) = reset_line place len told
 -- what is printed of an OPEN, by its value or its first fault
 abbrev pub open_lines : ℕ → ℕ → Result Open OpenFault → List ℕ
 open_lines place len (Ok o) = taken_lines place len o
-open_lines place len (Err fault) = reset_lines place len (notification_of fault)
+open_lines place len (Err fault) = reset_lines place len (open_notification fault)

@@ -6,7 +6,7 @@ use Rattle.bgp_frame.specs.declared.kind.Kind.TheVariants as kind
 use Rattle.bgp_frame.specs.declared.end.End.{End}
 use Rattle.bgp_frame.specs.declared.end.End.TheVariants as end
 use Rattle.bgp_frame.specs.declared.fault.HeadFault.{HeadFault}
-use Rattle.bgp_frame.specs.Head.{notification_of}
+use Rattle.bgp_frame.specs.Head.{head_notification}
 use Rattle.bgp_frame.specs.Frame.{Message}
 use Rattle.bgp_frame.specs.Stream.{Judgement, as_it_is}
 use Rattle.bgp_open.specs.OpenFault.{reading_of}
@@ -53,7 +53,7 @@ message_lines place len kind.Notification body = unread_line place len kind.Noti
 message_lines place len kind.Keepalive body = keepalive_line place
 
 abbrev pub fault_line : ℕ → HeadFault → List ℕ
-fault_line place f = decimal place ++ (codes " 0 HEADER reset " ++ (notification_text (notification_of f) ++ 10 ∷ []))
+fault_line place f = decimal place ++ (codes " 0 HEADER reset " ++ (notification_text (head_notification f) ++ 10 ∷ []))
 
 abbrev pub outcome_lines : ℕ → ℕ → Outcome → List ℕ
 outcome_lines place len (Ok m) = message_lines place len m.kind m.body

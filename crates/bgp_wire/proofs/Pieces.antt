@@ -74,7 +74,7 @@ module _ (A : Type 0) (R : A → List ℕ → Type 0) (one : List ℕ → Option
   stuck_none : (rest : List ℕ) → one rest ≡ None → (v : A) (front back : List ℕ) → R v front → rest ≡ front ++ back → ⊥
   stuck_none rest e v front back p whole = found_not A (v, back) (sym e ∙ ap one whole ∙ reads.finds v front back p)
 
-  none_stuck : (rest : List ℕ) → ((v : A) (front back : List ℕ) → R v front → rest ≡ front ++ back → ⊥) → (o : Option (A × List ℕ)) → one rest ≡ o → one rest ≡ None
+  pub none_stuck : (rest : List ℕ) → ((v : A) (front back : List ℕ) → R v front → rest ≡ front ++ back → ⊥) → (o : Option (A × List ℕ)) → one rest ≡ o → one rest ≡ None
   none_stuck rest stuck None e = e
   none_stuck rest stuck (Some p) e = let gave = reads.gives rest p.0 p.1 e in absurd (stuck p.0 gave.0 p.1 gave.2 gave.1)
 

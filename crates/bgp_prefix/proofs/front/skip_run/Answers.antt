@@ -1,21 +1,26 @@
-use Rattle.std.proofs.Common.{◌+◌, ◌≤◌, length, rules}
-use Rattle.bgp_prefix.proofs.RunLemmas.{run_shorter, count_more, count_fits, count_done}
+use Rattle.std.proofs.Common.{◌+◌, ◌≤◌, length, sym, ◌∙◌, arith, rules}
+use Rattle.bgp_wire.proofs.Walks.{shorter, same_rest, all_rest, not_more, counts, counted}
+use Rattle.bgp_prefix.specs.Prefix.{PrefixValue, IsPrefix, one_prefix}
+use Rattle.bgp_prefix.proofs.PrefixLemmas.{IsPrefix-reads}
 use Rattle.bgp_prefix.proofs.front.skip_run.Goals as goal
 
 pub overflow_add-count : goal.overflow_add-count
 overflow_add-count g c =
-    let more = count_more g.row.W c.run.count c.args.octets.now c.run.rest.now c.in-Some.found.after.now _ c.in-Some.ensures.value c.run.invariant in
-    let fits : c.run.count + 1 ≤ length c.args.octets.now = count_fits g.row.W (c.run.count + 1) c.args.octets.now c.in-Some.found.after.now more in
+    let more = counts PrefixValue (IsPrefix g.row.W) (one_prefix g.row.W) (IsPrefix-reads g.row.W) c.run.rest.now _ c.in-Some.found.after.now c.run.count _ c.in-Some.ensures.value c.run.invariant.count in
+    let fits : c.run.count + 1 ≤ length c.args.octets.now = omega (arith, more, not_more PrefixValue (IsPrefix g.row.W) (one_prefix g.row.W) (IsPrefix-reads g.row.W) c.args.octets.now) in
     search rules
 
 pub run-smaller : goal.run-smaller
-run-smaller g c = run_shorter g.row.W c.run.rest.now _ c.in-Some.found.after.now c.in-Some.ensures.value
+run-smaller g c = shorter PrefixValue (IsPrefix g.row.W) (one_prefix g.row.W) (IsPrefix-reads g.row.W) c.run.rest.now _ c.in-Some.found.after.now c.in-Some.ensures.value
 
 pub run-preserved : goal.run-preserved
-run-preserved g c = count_more g.row.W c.run.count c.args.octets.now c.run.rest.now c.in-Some.found.after.now _ c.in-Some.ensures.value c.run.invariant
+run-preserved g c = record {
+  count = counts PrefixValue (IsPrefix g.row.W) (one_prefix g.row.W) (IsPrefix-reads g.row.W) c.run.rest.now _ c.in-Some.found.after.now c.run.count _ c.in-Some.ensures.value c.run.invariant.count;
+  rest = same_rest PrefixValue (IsPrefix g.row.W) (one_prefix g.row.W) (IsPrefix-reads g.row.W) c.run.rest.now _ c.in-Some.found.after.now c.in-Some.ensures.value ∙ c.run.invariant.rest;
+}
 
 pub returns-clause-count : goal.returns-clause-count
-returns-clause-count g c = (count_done g.row.W c.run.count c.args.octets.now c.run.rest.now c.in_default.ensures.value c.run.invariant).0
+returns-clause-count g c = counted PrefixValue (IsPrefix g.row.W) (one_prefix g.row.W) (IsPrefix-reads g.row.W) c.run.rest.now c.run.count _ c.in_default.ensures.value c.run.invariant.count
 
 pub returns-clause-rest : goal.returns-clause-rest
-returns-clause-rest g c = (count_done g.row.W c.run.count c.args.octets.now c.run.rest.now c.in_default.ensures.value c.run.invariant).1
+returns-clause-rest g c = sym (all_rest PrefixValue (IsPrefix g.row.W) (one_prefix g.row.W) (IsPrefix-reads g.row.W) c.run.rest.now c.in_default.ensures.value) ∙ c.run.invariant.rest

@@ -1,9 +1,13 @@
-use Rattle.std.proofs.Common.{length}
-use Rattle.bgp_prefix.proofs.RunLemmas.{HasRead}
+use Rattle.std.proofs.Common.{◌≡◌, ◌++◌, length}
+use Rattle.bgp_prefix.specs.Run.{run_of}
 use Rattle.bgp_prefix.proofs.run.read_run.Given as goal
 
+-- the prefixes so far and those of what is left are all the prefixes, and the same is left behind them
 abbrev pub invariant-run : goal.invariant-run
-invariant-run g l = HasRead g.row.W l.octets l.prefixes l.rest
+invariant-run g l = record {
+  prefixes : l.prefixes ++ (run_of g.row.W l.rest).0 ≡ (run_of g.row.W l.octets).0;
+  rest : (run_of g.row.W l.rest).1 ≡ (run_of g.row.W l.octets).1;
+}
 
 abbrev pub decreases-run : goal.decreases-run
 decreases-run g l = length l.rest
