@@ -107,7 +107,7 @@ module _ (ctx : Context) (t : TlvValue) where
     value = nil_from_length t.value (as_long 0 (passed _ _ none.1.0));
   }
 
-  aggregator-spells : (kind : ℕ) (wide : Bool) → t.kind ≡ kind → NoneApplies (aggregator_tests wide t) → IsAggregator kind wide (aggregator_of wide t) t
+  pub aggregator-spells : (kind : ℕ) (wide : Bool) → t.kind ≡ kind → NoneApplies (aggregator_tests wide t) → IsAggregator kind wide (aggregator_of wide t) t
   aggregator-spells kind wide e none =
       let long : length t.value ≡ number_width wide + 4 = as_long (number_width wide + 4) (passed _ _ none.1.0) in
       record {
@@ -119,7 +119,7 @@ module _ (ctx : Context) (t : TlvValue) where
         partial = refl;
       }
 
-  communities-spells : t.kind ≡ COMMUNITIES → NoneApplies (communities_tests t) → IsCommunities (communities_of t) t
+  pub communities-spells : t.kind ≡ COMMUNITIES → NoneApplies (communities_tests t) → IsCommunities (communities_of t) t
   communities-spells e none =
       let parts = row_parts 4 (length t.value) (passed _ _ none.1.0) in
       let row : Row (IsNumber true) (numbers_of true t.value) t.value = number_row-whole true t.value parts.1 in
@@ -130,7 +130,7 @@ module _ (ctx : Context) (t : TlvValue) where
         partial = refl;
       }
 
-  large-spells : t.kind ≡ LARGE_COMMUNITY → NoneApplies (large_tests t) → IsLarge (large_of t) t
+  pub large-spells : t.kind ≡ LARGE_COMMUNITY → NoneApplies (large_tests t) → IsLarge (large_of t) t
   large-spells e none =
       let parts = row_parts 12 (length t.value) (passed _ _ none.1.0) in
       let row : Row IsTriple (triples_of t.value) t.value = triple_row-whole t.value parts.1 in
@@ -215,14 +215,14 @@ module _ (ctx : Context) (t : TlvValue) where
     unreach-value (Some family.Ip4) e long used good = octets-unreach family.Ip4 4 v octets e long good
     unreach-value (Some family.Ip6) e long used good = octets-unreach family.Ip6 16 v octets e long good
 
-    mp_reach-spells : t.kind ≡ MP_REACH_NLRI → NoneApplies (mp_reach_tests ctx t) → IsMpReach (mp_reach_of t.value) t
+    pub mp_reach-spells : t.kind ≡ MP_REACH_NLRI → NoneApplies (mp_reach_tests ctx t) → IsMpReach (mp_reach_of t.value) t
     mp_reach-spells e none = record {
       of_type = of_type MP_REACH_NLRI OptionalNonTransitive e (passed _ _ none.0);
       value = reach-value (family_of v) refl (ltb-false _ _ (passed _ _ none.1.0)) (ltb-false _ _ (passed _ _ none.1.1.1.1.0)) (not-false _ (passed _ _ none.1.1.0)) (not-false _ (passed _ _ none.1.1.1.0))
           (passed _ _ none.1.1.1.1.1.0);
     }
 
-    mp_unreach-spells : t.kind ≡ MP_UNREACH_NLRI → NoneApplies (mp_unreach_tests ctx t) → IsMpUnreach (mp_unreach_of t.value) t
+    pub mp_unreach-spells : t.kind ≡ MP_UNREACH_NLRI → NoneApplies (mp_unreach_tests ctx t) → IsMpUnreach (mp_unreach_of t.value) t
     mp_unreach-spells e none = record {
       of_type = of_type MP_UNREACH_NLRI OptionalNonTransitive e (passed _ _ none.0);
       value = unreach-value (family_of v) refl (ltb-false _ _ (passed _ _ none.1.0)) (not-false _ (passed _ _ none.1.1.0)) (passed _ _ none.1.1.1.0);

@@ -7,3 +7,4 @@ pub mod SegmentRows
 pub mod ReadBack
 pub mod RouteRows
 pub mod Kept
+pub mod Rewriting

@@ -9,3 +9,4 @@ pub mod Value
 pub mod Judgement
 pub mod Spelling
 pub mod Written
+pub mod Laws
