@@ -8,3 +8,4 @@ pub mod ReadBack
 pub mod RouteRows
 pub mod Kept
 pub mod Rewriting
+pub mod WrittenOctets
