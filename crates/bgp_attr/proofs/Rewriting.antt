@@ -1,17 +1,16 @@
 -- An attribute that is kept can be written where it was read, in no more octets.
-use Rattle.std.proofs.Common.{◌≡◌, ℕ, suc, ◌+◌, ◌*◌, ◌%◌, ◌^◌, ◌<◌, ◌≤◌, Bool, true, false, not, ◌||◌, ◌&&◌, cond, eqb, ltb, List, [], ◌∷◌, ◌++◌, length, take, drop, Option, Some, None, inl, inr, refl, sym, ap, subst, ◌∙◌, arith}
+use Rattle.std.proofs.Common.{◌≡◌, ℕ, suc, ◌+◌, ◌^◌, ◌<◌, ◌≤◌, Bool, true, false, not, ◌&&◌, cond, eqb, ltb, List, [], ◌∷◌, ◌++◌, length, take, drop, Option, Some, None, refl, sym, ap, subst, ◌∙◌, arith}
 use Rattle.std.specs.List.{flat_map, AllByRecursion}
 use Rattle.std.specs.Int.{w16, to_be_bytes, from_be_bytes}
-use Rattle.std.proofs.lemmas.Bool.{eqb-true, eqb-false, ne_eqb, ltb-true, ltb-false, le-ltb, not-false, or_parts, or_from, and_left, and_right}
-use Rattle.std.proofs.lemmas.List.{append-nil, length-append, length-take, length-drop}
-use Rattle.bgp_numbers.specs.declared.attribute.TheConstants.{ORIGIN, AS_PATH, NEXT_HOP, MULTI_EXIT_DISC, LOCAL_PREF, ATOMIC_AGGREGATE, AGGREGATOR, COMMUNITIES, MP_REACH_NLRI, MP_UNREACH_NLRI, AS4_PATH, AS4_AGGREGATOR, LARGE_COMMUNITY}
+use Rattle.std.proofs.lemmas.Bool.{eqb-true, ne_eqb, ltb-true, le-ltb, not-false, or_from, and_left, and_right}
+use Rattle.std.proofs.lemmas.List.{length-append, length-drop}
+use Rattle.bgp_numbers.specs.declared.attribute.TheConstants.{COMMUNITIES, MP_REACH_NLRI, MP_UNREACH_NLRI, LARGE_COMMUNITY}
 use Rattle.bgp_open.specs.declared.context.Context.{Context}
 use Rattle.bgp_wire.specs.Octets.{AreOctets}
 use Rattle.bgp_wire.proofs.OctetLemmas.{AreOctets-front, AreOctets-back, AreOctets-take, AreOctets-drop}
 use Rattle.bgp_attr.specs.declared.attr.Attr.{Attr}
 use Rattle.bgp_attr.specs.declared.attr.Attr.TheVariants as attr
 use Rattle.bgp_attr.specs.declared.class.Class.{Class}
-use Rattle.bgp_attr.specs.declared.family.Family.{Family}
 use Rattle.bgp_attr.specs.declared.family.Family.TheVariants as family
 use Rattle.bgp_attr.specs.declared.judged.Judged.TheVariants as judged
 use Rattle.bgp_attr.specs.declared.mp.MpReach.{MpReach}
@@ -19,23 +18,23 @@ use Rattle.bgp_attr.specs.declared.mp.MpReach.TheVariants as reach
 use Rattle.bgp_attr.specs.declared.mp.MpUnreach.{MpUnreach}
 use Rattle.bgp_attr.specs.declared.mp.MpUnreach.TheVariants as unreach
 use Rattle.bgp_attr.specs.Flags.{is_extended, flags_octet}
-use Rattle.bgp_attr.specs.Tlv.{TlvValue, length_width, number_of_length, IsTlv}
-use Rattle.bgp_attr.specs.Numbers.{number_width, number_in, number_octets, row_octets, numbers_of, triples_of, each_once, triple_octets}
+use Rattle.bgp_attr.specs.Tlv.{TlvValue, number_of_length, IsTlv}
+use Rattle.bgp_attr.specs.Numbers.{number_width, number_in, number_octets, numbers_of, triples_of, each_once, triple_octets}
 use Rattle.bgp_attr.specs.Path.{path_of}
 use Rattle.bgp_attr.specs.Mp.{family_of, is_in_use, mp_reach_of, mp_unreach_of}
 use Rattle.bgp_attr.specs.Refusal.{Discard, Withdraw}
 use Rattle.bgp_attr.specs.Value.{origin_of, as_path_form, as4_path_form, four_of, aggregator_of, communities_of, large_of, as4_path_of, opaque_of, value_of}
-use Rattle.bgp_attr.specs.Judgement.{origin_tests, as_path_tests, next_hop_tests, med_tests, local_pref_tests, atomic_tests, aggregator_tests, communities_tests, mp_reach_tests, mp_unreach_tests, as4_path_tests, as4_aggregator_tests, large_tests, other_tests, judgement}
+use Rattle.bgp_attr.specs.Judgement.{origin_tests, as_path_tests, next_hop_tests, med_tests, local_pref_tests, aggregator_tests, communities_tests, mp_reach_tests, mp_unreach_tests, as4_path_tests, as4_aggregator_tests, large_tests, judgement}
 use Rattle.bgp_attr.specs.Spelling.{is_recognised, link_octets, HasLink, IsReachValue, IsUnreachValue}
-use Rattle.bgp_attr.specs.Written.{made, written_tlv, canonical, value_octets, class_of, partial_of, type_of, aggregator_octets, is_too_wide, is_as4, is_empty, is_misnamed, has_as_zero, stands_twice, is_too_long, is_writable, Belongs, IsFourOctets, IsThreeNumbers, IsAddress, HasLinkRange, HasRanges}
+use Rattle.bgp_attr.specs.Written.{made, value_octets, class_of, partial_of, type_of, aggregator_octets, is_too_wide, is_as4, is_empty, is_misnamed, has_as_zero, stands_twice, is_too_long, Belongs, IsThreeNumbers, IsAddress, HasLinkRange, HasRanges}
 use Rattle.bgp_attr.specs.Laws.{CanBeWritten}
 use Rattle.bgp_attr.proofs.FlagBits.{is_extended-flags}
 use Rattle.bgp_attr.proofs.NumberRows.{Fits, Fits-four, number_in-small, length-number_octets, length-row_octets, length-number_row, number_row-small, length-triple_row, triple_row-small, length-triples}
 use Rattle.bgp_attr.proofs.OnceLemmas.{each_once-repeats, each_once-all, each_once-shorter, each_once-some}
-use Rattle.bgp_attr.proofs.SegmentRows.{Rewrites, path-rewrites}
+use Rattle.bgp_attr.proofs.SegmentRows.{path-rewrites}
 use Rattle.bgp_attr.proofs.RouteRows.{reach-family, reach-hop_octets, reach-valid, reach-rewritten, unreach-family, unreach-valid, unreach-rewritten}
 use Rattle.bgp_attr.proofs.Kept.{communities-spells, large-spells, mp_reach-spells, mp_unreach-spells}
-use Rattle.bgp_attr.proofs.Tests.{NoneApplies, passed, passed_fault, Writes, Writes-writable, TypeCase, OfOrigin, OfAsPath, OfNextHop, OfMed, OfLocalPref, OfAtomic, OfAggregator, OfCommunities, OfMpReach, OfMpUnreach, OfAs4Path, OfAs4Aggregator, OfLarge, OfOther, type_case, keep-judgement, keep-value, tests-origin, tests-as_path, tests-next_hop, tests-med, tests-local_pref, tests-atomic, tests-aggregator, tests-communities, tests-mp_reach, tests-mp_unreach, tests-as4_path, tests-as4_aggregator, tests-large, tests-other, value-origin, value-as_path, value-next_hop, value-med, value-local_pref, value-atomic, value-aggregator, value-communities, value-mp_reach, value-mp_unreach, value-as4_path, value-as4_aggregator, value-large, value-other}
+use Rattle.bgp_attr.proofs.Tests.{NoneApplies, passed, passed_fault, Writes-writable, TypeCase, OfOrigin, OfAsPath, OfNextHop, OfMed, OfLocalPref, OfAtomic, OfAggregator, OfCommunities, OfMpReach, OfMpUnreach, OfAs4Path, OfAs4Aggregator, OfLarge, OfOther, type_case, keep-judgement, keep-value, tests-origin, tests-as_path, tests-next_hop, tests-med, tests-local_pref, tests-aggregator, tests-communities, tests-mp_reach, tests-mp_unreach, tests-as4_path, tests-as4_aggregator, tests-large, value-origin, value-as_path, value-next_hop, value-med, value-local_pref, value-atomic, value-aggregator, value-communities, value-mp_reach, value-mp_unreach, value-as4_path, value-as4_aggregator, value-large, value-other}
 
 -- ---- what each value needs, but for its length field
 
@@ -176,7 +175,6 @@ module _ (ctx : Context) (has_nlri : Bool) (t : TlvValue) (octets : AreOctets t.
   large-rewritten e none =
       let s = large-spells ctx t e none in
       let small = triple_row-small s.triples t.value octets s.row in
-      let values : List (List ℕ) = each_once s.triples in
       let some : 0 < length (each_once (triples_of t.value)) = subst (λ (xs : List (List ℕ)). 0 < length xs) (sym s.values) (each_once-some s.triples s.some) in
       record {
         narrow = refl;

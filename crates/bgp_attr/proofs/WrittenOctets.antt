@@ -1,5 +1,5 @@
 -- What is written of an attribute is octets.
-use Rattle.std.proofs.Common.{◌≡◌, ℕ, zero, suc, ◌+◌, ◌*◌, ◌/◌, ◌%◌, ◌^◌, ◌<◌, ◌≤◌, Bool, true, false, ◌||◌, cond, eqb, ltb, List, [], ◌∷◌, ◌++◌, length, take, map, Option, Some, None, refl, sym, ap, subst, ◌∙◌, lit<, arith}
+use Rattle.std.proofs.Common.{◌≡◌, ℕ, zero, suc, ◌/◌, ◌%◌, ◌^◌, ◌<◌, ◌≤◌, Bool, true, false, cond, eqb, ltb, List, [], ◌∷◌, ◌++◌, length, take, map, Option, Some, None, sym, lit<, arith}
 use Rattle.std.specs.List.{flat_map, list_any, AllByRecursion}
 use Rattle.std.specs.Int.{w16, w32, byte_at, bytes_high_first, to_be_bytes}
 use Rattle.std.proofs.lemmas.Bool.{ltb-false, or_parts}
@@ -15,9 +15,7 @@ use Rattle.bgp_attr.specs.declared.aggregator.Aggregator.{Aggregator}
 use Rattle.bgp_attr.specs.declared.attr.Attr.{Attr}
 use Rattle.bgp_attr.specs.declared.attr.Attr.TheVariants as attr
 use Rattle.bgp_attr.specs.declared.class.Class.{Class}
-use Rattle.bgp_attr.specs.declared.mp.MpReach.{MpReach}
 use Rattle.bgp_attr.specs.declared.mp.MpReach.TheVariants as reach
-use Rattle.bgp_attr.specs.declared.mp.MpUnreach.{MpUnreach}
 use Rattle.bgp_attr.specs.declared.mp.MpUnreach.TheVariants as unreach
 use Rattle.bgp_attr.specs.declared.origin.Origin.{Origin}
 use Rattle.bgp_attr.specs.declared.origin.Origin.TheVariants.{Igp, Egp, Incomplete}
@@ -28,7 +26,7 @@ use Rattle.bgp_attr.specs.Flags.{is_extended, flags_octet}
 use Rattle.bgp_attr.specs.Tlv.{length_octets, tlv_octets}
 use Rattle.bgp_attr.specs.Numbers.{number_octets, row_octets, triple_octets}
 use Rattle.bgp_attr.specs.Spelling.{origin_code, link_octets}
-use Rattle.bgp_attr.specs.Written.{made, written_tlv, canonical, value_octets, class_of, partial_of, type_of, number_of, segment_code, segment_octets, aggregator_octets, run_octets, reach_row, reach_octets, unreach_row, unreach_octets, is_bad_segment, is_writable, IsAddress, HasLinkRange, HasRanges}
+use Rattle.bgp_attr.specs.Written.{made, canonical, value_octets, class_of, partial_of, type_of, number_of, segment_code, segment_octets, aggregator_octets, run_octets, reach_row, unreach_row, is_bad_segment, is_writable, IsAddress, HasLinkRange, HasRanges}
 use Rattle.bgp_attr.proofs.FlagBits.{is_extended-flags, flags_octet-small}
 use Rattle.bgp_attr.proofs.Tests.{Writes, writable-Writes}
 

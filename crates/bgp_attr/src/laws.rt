@@ -57,9 +57,11 @@ pub fn kept_attributes_are_writable()
         → CanBeWritten ctx has_nlri a b }
 {}
 
-/// What is written of an attribute is one whole attribute, and is kept as this value in each
-/// message where it belongs.
+/// What is written of an attribute is one whole attribute, of octets, and is kept as this value in
+/// each message where it belongs.
 pub fn written_attributes_are_kept()
+    ensures octets { (ctx : Context) (a : Attr)
+        → HasRanges a → is_writable ctx a ≡ true → AreOctets (canonical ctx a) }
     ensures whole { (ctx : Context) (a : Attr)
         → is_writable ctx a ≡ true → IsTlv (written_tlv ctx a) (canonical ctx a) }
     ensures kept { (ctx : Context) (has_nlri : Bool) (a : Attr)
