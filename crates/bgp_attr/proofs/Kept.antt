@@ -51,8 +51,8 @@ origin-value [] one low = absurd (omega arith)
 origin-value (x ∷ []) one low =
     let last : eqb x 0 ≡ false → eqb x 1 ≡ false → x ≡ 2 = λ e f. (let not0 : x ≡ 0 → ⊥ = eqb-false x 0 e in let not1 : x ≡ 1 → ⊥ = eqb-false x 1 f in omega arith) in
     let code : x ≡ origin_code (origin_of (x ∷ [])) =
-        cond_both (eqb x 0) Igp (cond (eqb x 1) Egp Incomplete) (λ o. x ≡ origin_code o) (λ e. eqb-true x 0 e)
-        (λ e. cond_both (eqb x 1) Egp Incomplete (λ o. x ≡ origin_code o) (λ f. eqb-true x 1 f) (λ f. last e f)) in
+    cond_both (eqb x 0) Igp (cond (eqb x 1) Egp Incomplete) (λ o. x ≡ origin_code o) (λ e. eqb-true x 0 e)
+    (λ e. cond_both (eqb x 1) Egp Incomplete (λ o. x ≡ origin_code o) (λ f. eqb-true x 1 f) (λ f. last e f)) in
     ap (λ (n : ℕ). n ∷ []) code
 origin-value (x ∷ y ∷ b) one low = absurd (omega arith)
 
@@ -182,7 +182,7 @@ module _ (ctx : Context) (t : TlvValue) where
         let n : List ℕ = next_hop_of v in
         let same : hop_in v ≡ take 32 n = ap (λ (k : ℕ). take k n) is in
         let halves : take 32 n ≡ take 16 n ++ take 16 (drop 16 n) =
-            sym (take-append-drop 16 (take 32 n)) ∙ ap₂ ◌++◌ (take-take 16 32 n (omega arith)) (drop-take 16 16 n) in
+        sym (take-append-drop 16 (take 32 n)) ∙ ap₂ ◌++◌ (take-take 16 32 n (omega arith)) (drop-take 16 16 n) in
         let there : 32 ≤ length n = omega (arith, ap length same, long, length-take 32 n) in
         let behind : length (take 16 (drop 16 n)) ≡ 16 = omega (arith, length-take 16 (drop 16 n), length-drop 16 n) in
         (omega (arith, length-take 16 n), record { wide = behind }, subst (λ (h : List ℕ). IsReach IPV6 16 h routes6 v) (same ∙ halves) s)
@@ -192,9 +192,10 @@ module _ (ctx : Context) (t : TlvValue) where
     reach-value None e long longer used wide good = absurd (false≢true used)
     reach-value (Some family.Ip4) e long longer used wide good =
         let four : next_hop_length v ≡ 4 = eqb-true (next_hop_length v) 4 wide in
-        let s = octets-reach family.Ip4 4 v octets e long longer good in
-        (ap (λ (k : ℕ). length (take k (next_hop_of v))) (sym four) ∙ hop_in-length v longer ∙ four,
-            subst (λ (k : ℕ). IsReach IPV4 4 (take k (next_hop_of v)) (run_of 4 (reached_of v)).0 v) four s)
+        let s = octets-reach family.Ip4 4 v octets e long longer good in (
+          ap (λ (k : ℕ). length (take k (next_hop_of v))) (sym four) ∙ hop_in-length v longer ∙ four,
+          subst (λ (k : ℕ). IsReach IPV4 4 (take k (next_hop_of v)) (run_of 4 (reached_of v)).0 v) four s,
+        )
     reach-value (Some family.Ip6) e long longer used wide good =
         let s = octets-reach family.Ip6 16 v octets e long longer good in
         let held = hop_in-length v longer in

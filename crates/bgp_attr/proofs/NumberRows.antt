@@ -151,8 +151,13 @@ triples_of-octets ts all =
 triple_in-small : (b : List ℕ) → AreOctets b → IsThreeNumbers (triple_in b)
 triple_in-small b octets = record {
   three = refl;
-  small = (four_small (take 4 b) (AreOctets-take 4 b octets), (four_small (take 4 (drop 4 b)) (AreOctets-take 4 (drop 4 b) (AreOctets-drop 4 b octets)),
-    (four_small (take 4 (drop 8 b)) (AreOctets-take 4 (drop 8 b) (AreOctets-drop 8 b octets)), tt)));
+  small = (
+    four_small (take 4 b) (AreOctets-take 4 b octets),
+    (
+      four_small (take 4 (drop 4 b)) (AreOctets-take 4 (drop 4 b) (AreOctets-drop 4 b octets)),
+      (four_small (take 4 (drop 8 b)) (AreOctets-take 4 (drop 8 b) (AreOctets-drop 8 b octets)), tt),
+    ),
+  );
 }
 
 pub triple_row-small : (ts : List (List ℕ)) (b : List ℕ) → AreOctets b → Row IsTriple ts b → AllByRecursion IsThreeNumbers ts

@@ -64,7 +64,7 @@ not_first : (first more xs : List (List ℕ)) → NotAmong first (once_behind (f
 not_first first more [] = tt
 not_first first more (x ∷ xs) =
     let later : NotAmong first (once_behind ((first ++ more) ++ x ∷ []) xs) =
-        subst (λ (b : List (List ℕ)). NotAmong first (once_behind b xs)) (sym (append_assoc first more (x ∷ []))) (not_first first (more ++ x ∷ []) xs) in
+    subst (λ (b : List (List ℕ)). NotAmong first (once_behind b xs)) (sym (append_assoc first more (x ∷ []))) (not_first first (more ++ x ∷ []) xs) in
     cond_both (list_any (same_triple x) (first ++ more)) (once_behind ((first ++ more) ++ x ∷ []) xs) (x ∷ once_behind ((first ++ more) ++ x ∷ []) xs) (λ ys. NotAmong first ys)
     (λ e. later) (λ e. ((or_parts (list_any (same_triple x) first) (list_any (same_triple x) more) (sym (list_any-append (same_triple x) first more) ∙ e)).0, later))
 
@@ -80,7 +80,7 @@ once-repeats before [] = refl
 once-repeats before (x ∷ xs) =
     let ys : List (List ℕ) = once_behind (before ++ x ∷ []) xs in
     let apart : NotAmong (before ++ x ∷ []) ys =
-        subst (λ (b : List (List ℕ)). NotAmong (before ++ x ∷ []) (once_behind b xs)) (append-nil (before ++ x ∷ [])) (not_first (before ++ x ∷ []) [] xs) in
+    subst (λ (b : List (List ℕ)). NotAmong (before ++ x ∷ []) (once_behind b xs)) (append-nil (before ++ x ∷ [])) (not_first (before ++ x ∷ []) [] xs) in
     let later : repeats ys ≡ false = once-repeats (before ++ x ∷ []) xs in
     cond_both (list_any (same_triple x) before) ys (x ∷ ys) (λ zs. repeats zs ≡ false)
     (λ e. later) (λ e. or_from _ _ (other_from x before ys apart) later)

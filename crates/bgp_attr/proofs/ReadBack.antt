@@ -148,9 +148,13 @@ module _ (ctx : Context) (has_nlri : Bool) where
 
     aggregator-passes : NoneApplies (aggregator_tests wide written)
     aggregator-passes =
-        let length_is : length (aggregator_octets wide a) ≡ number_width wide + 4 = omega (arith, length-append (number_octets wide (a.asn).0) a.addr, length-number_octets wide (a.asn).0, four) in
-        (pass _ _ (flags-right OptionalTransitive a.partial (ltb 255 (length (aggregator_octets wide a)))), (pass _ _ (is_long (number_width wide + 4) (aggregator_octets wide a) length_is),
-            (pass _ _ (ap (λ (n : ℕ). eqb n 0) number-back ∙ nonzero), tt)))
+        let length_is : length (aggregator_octets wide a) ≡ number_width wide + 4 = omega (arith, length-append (number_octets wide (a.asn).0) a.addr, length-number_octets wide (a.asn).0, four) in (
+          pass _ _ (flags-right OptionalTransitive a.partial (ltb 255 (length (aggregator_octets wide a)))),
+          (
+            pass _ _ (is_long (number_width wide + 4) (aggregator_octets wide a) length_is),
+            (pass _ _ (ap (λ (n : ℕ). eqb n 0) number-back ∙ nonzero), tt),
+          ),
+        )
 
   pub kept-aggregator : (a : Aggregator) → Fits ctx.as4 (a.asn).0 → eqb (a.asn).0 0 ≡ false → length a.addr ≡ 4 → ThisKept (attr.Aggregator a)
   kept-aggregator a small nonzero four =
@@ -184,9 +188,13 @@ module _ (ctx : Context) (has_nlri : Bool) where
   kept-as_path p c =
       let t : TlvValue = written_tlv ctx (attr.AsPath p) in
       judgement-keep ctx has_nlri t (as_path_tests ctx t) (attr.AsPath p) (tests-as_path ctx has_nlri t refl)
-      (value-as_path ctx t refl ∙ ap (λ (x : AsPath). attr.AsPath x) (path_of-octets (as_path_form ctx) p c))
-      (pass _ _ (flags-right WellKnown false (ltb 255 (length (path_octets ctx.as4 p)))), (pass_fault (λ fault. Withdraw fault) _ (path_fault-octets (as_path_form ctx) p c),
-          (pass _ _ (path_has_zero-octets (as_path_form ctx) p c), tt)))
+      (value-as_path ctx t refl ∙ ap (λ (x : AsPath). attr.AsPath x) (path_of-octets (as_path_form ctx) p c)) (
+        pass _ _ (flags-right WellKnown false (ltb 255 (length (path_octets ctx.as4 p)))),
+        (
+          pass_fault (λ fault. Withdraw fault) _ (path_fault-octets (as_path_form ctx) p c),
+          (pass _ _ (path_has_zero-octets (as_path_form ctx) p c), tt),
+        ),
+      )
 
   pub kept-as4_path : (p : As4Path) → ctx.as4 ≡ false → CanStand true p.path → 0 < length (p.path).segments → ThisKept (attr.As4Path p)
   kept-as4_path p narrow c some =
@@ -196,11 +204,18 @@ module _ (ctx : Context) (has_nlri : Bool) where
       let even : eqb (length octets % 2) 0 ≡ true = eq-eqb _ 0 (length-even p.path) in
       let long : ltb (length octets) 6 ≡ false = le-ltb _ 6 (length-least p.path some c.good) in
       let left : eqb (length (path_of as4_path_form octets).segments) 0 ≡ false =
-          ap (λ (x : AsPath). eqb (length x.segments) 0) back ∙ ne_eqb (length (p.path).segments) 0 (λ e. omega arith) in
+      ap (λ (x : AsPath). eqb (length x.segments) 0) back ∙ ne_eqb (length (p.path).segments) 0 (λ e. omega arith) in
       judgement-keep ctx has_nlri t (as4_path_tests ctx t) (attr.As4Path p) (tests-as4_path ctx has_nlri t refl)
-      (value-as4_path ctx t refl ∙ ap (λ (x : As4Path). attr.As4Path x) (same _ _ (is_partial-flags OptionalTransitive p.partial (ltb 255 (length octets))) back))
-      (pass _ _ narrow, (pass _ _ (flags-right OptionalTransitive p.partial (ltb 255 (length octets))), (pass _ _ (or_from _ _ (ap not even) long),
-          (pass_fault (λ fault. Discard fault) _ (path_fault-octets as4_path_form p.path c), (pass _ _ (path_has_zero-octets as4_path_form p.path c), (pass _ _ left, tt))))))
+      (value-as4_path ctx t refl ∙ ap (λ (x : As4Path). attr.As4Path x) (same _ _ (is_partial-flags OptionalTransitive p.partial (ltb 255 (length octets))) back)) (
+        pass _ _ narrow,
+        (
+          pass _ _ (flags-right OptionalTransitive p.partial (ltb 255 (length octets))),
+          (
+            pass _ _ (or_from _ _ (ap not even) long),
+            (pass_fault (λ fault. Discard fault) _ (path_fault-octets as4_path_form p.path c), (pass _ _ (path_has_zero-octets as4_path_form p.path c), (pass _ _ left, tt))),
+          ),
+        ),
+      )
     where
       same : (partial : Bool) (path : AsPath) → partial ≡ p.partial → path ≡ p.path → (let q : As4Path = record { partial = partial; path = path } in q ≡ p)
       same partial path e f = rw (e, f) refl
@@ -230,7 +245,7 @@ module _ (ctx : Context) (has_nlri : Bool) where
       let whole : eqb (length octets % 12) 0 ≡ true = eq-eqb _ 0 (omega arith) in
       judgement-keep ctx has_nlri t (large_tests t) (attr.Large l) (tests-large ctx has_nlri t refl)
       (value-large ctx t refl ∙ ap (λ (x : LargeCommunities). attr.Large x) (same _ _ (is_partial-flags OptionalTransitive l.partial (ltb 255 (length octets)))
-          (ap each_once (triples_of-octets l.values small) ∙ each_once-same l.values once)))
+      (ap each_once (triples_of-octets l.values small) ∙ each_once-same l.values once)))
       (pass _ _ (flags-right OptionalTransitive l.partial (ltb 255 (length octets))), (pass _ _ (or_from _ _ given (ap not whole)), tt))
     where
       same : (partial : Bool) (values : List (List ℕ)) → partial ≡ l.partial → values ≡ l.values → (let k : LargeCommunities = record { partial = partial; values = values } in k ≡ l)
@@ -242,17 +257,36 @@ module _ (ctx : Context) (has_nlri : Bool) where
       → IsReach (afi_number f) (address_width (Some f)) hop routes t.value → is_in_use ctx (Some f) ≡ true → is_next_hop_length (Some f) (length hop) ≡ true → NoneApplies (mp_reach_tests ctx t)
   reach-passes f hop routes t flags s used long =
       let of_family : family_of t.value ≡ Some f = reach-family f (address_width (Some f)) hop routes t.value s in
-      let hop_long : next_hop_length t.value ≡ length hop = reach-hop_length f (address_width (Some f)) hop routes t.value s in
-      (pass _ _ flags, (pass _ _ (reach-long f (address_width (Some f)) hop routes t.value s), (pass _ _ (ap (λ (o : Option Family). not (is_in_use ctx o)) of_family ∙ ap not used),
-          (pass _ _ (ap₂ (λ (o : Option Family) (n : ℕ). not (is_next_hop_length o n)) of_family hop_long ∙ ap not long), (pass _ _ (reach-longer f (address_width (Some f)) hop routes t.value s),
-          (pass _ _ (ap (λ (o : Option Family). has_bad_prefix (address_width o) (reached_of t.value)) of_family ∙ reach-good f (address_width (Some f)) hop routes t.value s), tt))))))
+      let hop_long : next_hop_length t.value ≡ length hop = reach-hop_length f (address_width (Some f)) hop routes t.value s in (
+        pass _ _ flags,
+        (
+          pass _ _ (reach-long f (address_width (Some f)) hop routes t.value s),
+          (
+            pass _ _ (ap (λ (o : Option Family). not (is_in_use ctx o)) of_family ∙ ap not used),
+            (
+              pass _ _ (ap₂ (λ (o : Option Family) (n : ℕ). not (is_next_hop_length o n)) of_family hop_long ∙ ap not long),
+              (
+                pass _ _ (reach-longer f (address_width (Some f)) hop routes t.value s),
+                (pass _ _ (ap (λ (o : Option Family). has_bad_prefix (address_width o) (reached_of t.value)) of_family ∙ reach-good f (address_width (Some f)) hop routes t.value s), tt),
+              ),
+            ),
+          ),
+        ),
+      )
 
   unreach-passes : (f : Family) (routes : List PrefixValue) (t : TlvValue) → not (has_class OptionalNonTransitive t.flags) ≡ false
       → IsUnreach (afi_number f) (address_width (Some f)) routes t.value → is_in_use ctx (Some f) ≡ true → NoneApplies (mp_unreach_tests ctx t)
   unreach-passes f routes t flags s used =
-      let of_family : family_of t.value ≡ Some f = unreach-family f (address_width (Some f)) routes t.value s in
-      (pass _ _ flags, (pass _ _ (unreach-long f (address_width (Some f)) routes t.value s), (pass _ _ (ap (λ (o : Option Family). not (is_in_use ctx o)) of_family ∙ ap not used),
-          (pass _ _ (ap (λ (o : Option Family). has_bad_prefix (address_width o) (withdrawn_of t.value)) of_family ∙ unreach-good f (address_width (Some f)) routes t.value s), tt))))
+      let of_family : family_of t.value ≡ Some f = unreach-family f (address_width (Some f)) routes t.value s in (
+        pass _ _ flags,
+        (
+          pass _ _ (unreach-long f (address_width (Some f)) routes t.value s),
+          (
+            pass _ _ (ap (λ (o : Option Family). not (is_in_use ctx o)) of_family ∙ ap not used),
+            (pass _ _ (ap (λ (o : Option Family). has_bad_prefix (address_width o) (withdrawn_of t.value)) of_family ∙ unreach-good f (address_width (Some f)) routes t.value s), tt),
+          ),
+        ),
+      )
 
   kept-reach : (r : MpReach) → NoneApplies (mp_reach_tests ctx (written_tlv ctx (attr.MpReach r))) → mp_reach_of (reach_octets r) ≡ r → ThisKept (attr.MpReach r)
   kept-reach r none same =

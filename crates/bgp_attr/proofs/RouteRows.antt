@@ -103,7 +103,7 @@ module _ (f : Family) (width : ℕ) (hop : List ℕ) (routes : List PrefixValue)
       let front : List ℕ = to_be_bytes w16 (afi_number f) ++ (UNICAST ∷ length hop ∷ (hop ++ s.reserved ∷ [])) in
       let long : length front ≡ 5 + length hop = omega (arith, length-append hop (s.reserved ∷ [])) in
       let cut : b ≡ front ++ s.row =
-          s.octets ∙ ap (λ (x : List ℕ). to_be_bytes w16 (afi_number f) ++ (UNICAST ∷ length hop ∷ x)) (sym (append_assoc hop (s.reserved ∷ []) s.row)) in
+      s.octets ∙ ap (λ (x : List ℕ). to_be_bytes w16 (afi_number f) ++ (UNICAST ∷ length hop ∷ x)) (sym (append_assoc hop (s.reserved ∷ []) s.row)) in
       ap (λ (n : ℕ). drop (5 + n) b) reach-hop_length ∙ ap (λ (x : List ℕ). drop (5 + length hop) x) cut
       ∙ drop_at front s.row (5 + length hop) long
 
@@ -147,10 +147,10 @@ reach6-value hop link routes b wide has s =
     let after : List ℕ = s.reserved ∷ s.row in
     let behind : next_hop_of b ≡ all ++ after = reach-hop family.Ip6 16 all routes b s in
     let first : take 16 (next_hop_of b) ≡ hop =
-        ap (take 16) (behind ∙ append_assoc hop (link_octets link) after) ∙ take_at hop (link_octets link ++ after) 16 wide in
+    ap (take 16) (behind ∙ append_assoc hop (link_octets link) after) ∙ take_at hop (link_octets link ++ after) 16 wide in
     let second : cond (eqb (next_hop_length b) 32) (Some (take 16 (drop 16 (next_hop_of b)))) None ≡ link =
-        ap (λ (x : List ℕ). cond (eqb (next_hop_length b) 32) (Some (take 16 (drop 16 x))) None) behind
-        ∙ link-back hop link after (next_hop_length b) wide has (reach-hop_length family.Ip6 16 all routes b s) in
+    ap (λ (x : List ℕ). cond (eqb (next_hop_length b) 32) (Some (take 16 (drop 16 x))) None) behind
+    ∙ link-back hop link after (next_hop_length b) wide has (reach-hop_length family.Ip6 16 all routes b s) in
     rw (reach-family family.Ip6 16 all routes b s) (same-reach6 _ _ _ _ _ _ first second (reach-run family.Ip6 16 all routes b s))
 
 -- the octets that are written spell the routes
@@ -216,7 +216,7 @@ octets-reach f width (a ∷ b ∷ c ∷ d ∷ rest) octets e long longer good =
     let split : rest ≡ take d rest ++ (more.0 ∷ more.1) = sym (take-append-drop d rest) ∙ ap (λ (x : List ℕ). take d rest ++ x) more.2 in
     let all : a ∷ b ∷ c ∷ d ∷ rest ≡ a ∷ b ∷ c ∷ length (take d rest) ∷ (take d rest ++ (more.0 ∷ more.1)) = ap₂ (λ (n : ℕ) (x : List ℕ). a ∷ b ∷ c ∷ n ∷ x) (sym wide) split in
     let behind : reached_of (a ∷ b ∷ c ∷ d ∷ rest) ≡ more.1 =
-        ap (λ (n : ℕ). drop (5 + n) (a ∷ b ∷ c ∷ d ∷ rest)) (sym wide) ∙ ap (drop (5 + length (take d rest))) all ∙ rest-at a b c (take d rest) more.0 more.1 in
+    ap (λ (n : ℕ). drop (5 + n) (a ∷ b ∷ c ∷ d ∷ rest)) (sym wide) ∙ ap (drop (5 + length (take d rest))) all ∙ rest-at a b c (take d rest) more.0 more.1 in
     record {
       reserved = more.0;
       row = more.1;

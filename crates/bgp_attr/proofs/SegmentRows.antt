@@ -245,7 +245,7 @@ rewritten-at form s b octets p zeros kind =
     let wide_row : length (p.counted).row ≡ number_width form.wide * length s.numbers = length-number_row form.wide s.numbers (p.counted).row (p.counted).spelled in
     let whole : length b ≡ 2 + number_width form.wide * length s.numbers = ap length p.octets ∙ ap suc (ap length (p.counted).octets) ∙ omega (arith, wide_row) in
     let again : length (segment_octets form.wide seg ++ []) ≡ 2 + number_width form.wide * length s.numbers =
-        length-append (segment_octets form.wide seg) [] ∙ omega (arith, length-segment form.wide seg, ap (λ (k : ℕ). number_width form.wide * k) as_many) in
+    length-append (segment_octets form.wide seg) [] ∙ omega (arith, length-segment form.wide seg, ap (λ (k : ℕ). number_width form.wide * k) as_many) in
     record {
       ranges = (four-octets form.wide s.numbers fit, tt);
       low = λ e. or_from _ _ (low-numbers form.wide s.numbers fit e) refl;
@@ -269,7 +269,7 @@ row-rewrites form (s ∷ segments) b octets row zeros =
     let joined : AreOctets (row.0 ++ row.1) = subst AreOctets row.2 octets in
     let p = or_parts (has_zero s) (list_any has_zero segments) zeros in
     let both = Rewrites-append form.wide (kept_segment s) (flat_map kept_segment segments) (length row.0) (length row.1)
-        (rewritten-one form s row.0 (AreOctets-front row.0 row.1 joined) row.3 p.0) (row-rewrites form segments row.1 (AreOctets-back row.0 row.1 joined) row.4 p.1) in
+    (rewritten-one form s row.0 (AreOctets-front row.0 row.1 joined) row.3 p.0) (row-rewrites form segments row.1 (AreOctets-back row.0 row.1 joined) row.4 p.1) in
     let whole : length row.0 + length row.1 ≡ length b = sym (ap length row.2 ∙ length-append row.0 row.1) in
     subst (λ (n : ℕ). Rewrites form.wide (kept_segment s ++ flat_map kept_segment segments) n) whole both
 

@@ -167,12 +167,12 @@ module _ (ctx : Context) (has_nlri : Bool) (t : TlvValue) where
   pub tests-other : is_recognised t.kind ≡ false → tests_of ctx has_nlri t ≡ other_tests t
   unfolding tests_of
   tests-other e = chain_none (
-    (eqb t.kind ORIGIN, origin_tests t) ∷ (eqb t.kind AS_PATH, as_path_tests ctx t) ∷ (eqb t.kind NEXT_HOP, next_hop_tests has_nlri t)
-    ∷ (eqb t.kind MULTI_EXIT_DISC, med_tests t) ∷ (eqb t.kind LOCAL_PREF, local_pref_tests ctx t) ∷ (eqb t.kind ATOMIC_AGGREGATE, atomic_tests t)
-    ∷ (eqb t.kind AGGREGATOR, aggregator_tests ctx.as4 t) ∷ (eqb t.kind COMMUNITIES, communities_tests t) ∷ (eqb t.kind MP_REACH_NLRI, mp_reach_tests ctx t)
-    ∷ (eqb t.kind MP_UNREACH_NLRI, mp_unreach_tests ctx t) ∷ (eqb t.kind AS4_PATH, as4_path_tests ctx t) ∷ (eqb t.kind AS4_AGGREGATOR, as4_aggregator_tests ctx t)
-    ∷ (eqb t.kind LARGE_COMMUNITY, large_tests t) ∷ []
-  ) (other_tests t) e
+      (eqb t.kind ORIGIN, origin_tests t) ∷ (eqb t.kind AS_PATH, as_path_tests ctx t) ∷ (eqb t.kind NEXT_HOP, next_hop_tests has_nlri t)
+      ∷ (eqb t.kind MULTI_EXIT_DISC, med_tests t) ∷ (eqb t.kind LOCAL_PREF, local_pref_tests ctx t) ∷ (eqb t.kind ATOMIC_AGGREGATE, atomic_tests t)
+      ∷ (eqb t.kind AGGREGATOR, aggregator_tests ctx.as4 t) ∷ (eqb t.kind COMMUNITIES, communities_tests t) ∷ (eqb t.kind MP_REACH_NLRI, mp_reach_tests ctx t)
+      ∷ (eqb t.kind MP_UNREACH_NLRI, mp_unreach_tests ctx t) ∷ (eqb t.kind AS4_PATH, as4_path_tests ctx t) ∷ (eqb t.kind AS4_AGGREGATOR, as4_aggregator_tests ctx t)
+      ∷ (eqb t.kind LARGE_COMMUNITY, large_tests t) ∷ []
+      ) (other_tests t) e
 
 module _ (ctx : Context) (t : TlvValue) where
   pub value-origin : t.kind ≡ ORIGIN → value_of ctx t ≡ attr.Origin (origin_of t.value)
@@ -230,12 +230,12 @@ module _ (ctx : Context) (t : TlvValue) where
   pub value-other : is_recognised t.kind ≡ false → value_of ctx t ≡ attr.Opaque (opaque_of t)
   unfolding value_of
   value-other e = chain_none (
-    (eqb t.kind ORIGIN, attr.Origin (origin_of t.value)) ∷ (eqb t.kind AS_PATH, attr.AsPath (path_of (as_path_form ctx) t.value)) ∷ (eqb t.kind NEXT_HOP, attr.NextHop t.value)
-    ∷ (eqb t.kind MULTI_EXIT_DISC, attr.Med (four_of t.value)) ∷ (eqb t.kind LOCAL_PREF, attr.LocalPref (four_of t.value)) ∷ (eqb t.kind ATOMIC_AGGREGATE, attr.Atomic)
-    ∷ (eqb t.kind AGGREGATOR, attr.Aggregator (aggregator_of ctx.as4 t)) ∷ (eqb t.kind COMMUNITIES, attr.Communities (communities_of t)) ∷ (eqb t.kind MP_REACH_NLRI, attr.MpReach (mp_reach_of t.value))
-    ∷ (eqb t.kind MP_UNREACH_NLRI, attr.MpUnreach (mp_unreach_of t.value)) ∷ (eqb t.kind AS4_PATH, attr.As4Path (as4_path_of t)) ∷ (eqb t.kind AS4_AGGREGATOR, attr.As4Aggregator (aggregator_of true t))
-    ∷ (eqb t.kind LARGE_COMMUNITY, attr.Large (large_of t)) ∷ []
-  ) (attr.Opaque (opaque_of t)) e
+      (eqb t.kind ORIGIN, attr.Origin (origin_of t.value)) ∷ (eqb t.kind AS_PATH, attr.AsPath (path_of (as_path_form ctx) t.value)) ∷ (eqb t.kind NEXT_HOP, attr.NextHop t.value)
+      ∷ (eqb t.kind MULTI_EXIT_DISC, attr.Med (four_of t.value)) ∷ (eqb t.kind LOCAL_PREF, attr.LocalPref (four_of t.value)) ∷ (eqb t.kind ATOMIC_AGGREGATE, attr.Atomic)
+      ∷ (eqb t.kind AGGREGATOR, attr.Aggregator (aggregator_of ctx.as4 t)) ∷ (eqb t.kind COMMUNITIES, attr.Communities (communities_of t)) ∷ (eqb t.kind MP_REACH_NLRI, attr.MpReach (mp_reach_of t.value))
+      ∷ (eqb t.kind MP_UNREACH_NLRI, attr.MpUnreach (mp_unreach_of t.value)) ∷ (eqb t.kind AS4_PATH, attr.As4Path (as4_path_of t)) ∷ (eqb t.kind AS4_AGGREGATOR, attr.As4Aggregator (aggregator_of true t))
+      ∷ (eqb t.kind LARGE_COMMUNITY, attr.Large (large_of t)) ∷ []
+      ) (attr.Opaque (opaque_of t)) e
 
 -- the value is kept where none of its tests applies, and only there
 pub judgement-keep : (ctx : Context) (has_nlri : Bool) (t : TlvValue) (tests : List (Option Refusal)) (a : Attr) → tests_of ctx has_nlri t ≡ tests → value_of ctx t ≡ a

@@ -79,7 +79,7 @@ path-octets wide (s ∷ ss) good =
     let few : length s.numbers ≤ 255 = ltb-false 255 (length s.numbers) q.1 in
     AreOctets-append (segment_octets wide s) (flat_map (segment_octets wide) ss)
     (AreOctets-cons (segment_code s.kind) (length s.numbers ∷ row_octets wide (map number_of s.numbers)) (code_small s.kind)
-        (AreOctets-cons (length s.numbers) (row_octets wide (map number_of s.numbers)) (omega arith) (AreOctets-row wide (map number_of s.numbers))))
+    (AreOctets-cons (length s.numbers) (row_octets wide (map number_of s.numbers)) (omega arith) (AreOctets-row wide (map number_of s.numbers))))
     (path-octets wide ss p.1)
 
 pub spelling_of-octets : (width : ℕ) (p : PrefixValue) → width ≤ 16 → IsValid width p → AreOctets (spelling_of p)
