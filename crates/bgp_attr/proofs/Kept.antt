@@ -1,8 +1,7 @@
 -- An attribute that is kept is spelled by its octets, and they spell no other.
-use Rattle.std.proofs.Common.{◌≡◌, ℕ, ◌+◌, ◌*◌, ◌%◌, ◌<◌, ◌≤◌, Bool, true, false, not, ◌||◌, cond, eqb, ltb, List, [], ◌∷◌, ◌++◌, length, get_or, take, drop, Option, Some, None, inl, inr, refl, sym, ap, ap₂, subst, ◌∙◌, arith}
-use Rattle.std.specs.List.{flat_map, AllByRecursion}
-use Rattle.std.proofs.lemmas.Bool.{true≢false, eqb-true, eqb-false, eq-eqb, ne_eqb, ltb-false, not-false, or_parts, or_cases, cond_both, false≢true}
-use Rattle.std.proofs.lemmas.List.{append-nil, length-append, length-take, length-drop, take_at, drop_at, take-append-drop, nil_from_length, drop-take, take-take}
+use Rattle.std.proofs.Common.{◌≡◌, ℕ, ◌+◌, ◌%◌, ◌≤◌, Bool, true, false, not, ◌||◌, cond, eqb, List, [], ◌∷◌, ◌++◌, length, get_or, take, drop, Option, Some, None, inl, inr, refl, sym, ap, ap₂, subst, ◌∙◌, arith}
+use Rattle.std.proofs.lemmas.Bool.{eqb-true, eqb-false, ne_eqb, ltb-false, not-false, or_parts, or_cases, cond_both, false≢true}
+use Rattle.std.proofs.lemmas.List.{append-nil, length-take, length-drop, take_at, drop_at, take-append-drop, nil_from_length, drop-take, take-take}
 use Rattle.bgp_numbers.specs.declared.afi.TheConstants.{IPV4, IPV6}
 use Rattle.bgp_numbers.specs.declared.attribute.TheConstants.{ORIGIN, AS_PATH, NEXT_HOP, MULTI_EXIT_DISC, LOCAL_PREF, ATOMIC_AGGREGATE, AGGREGATOR, COMMUNITIES, MP_REACH_NLRI, MP_UNREACH_NLRI, AS4_PATH, AS4_AGGREGATOR, LARGE_COMMUNITY}
 use Rattle.bgp_open.specs.declared.context.Context.{Context}
@@ -37,7 +36,7 @@ use Rattle.bgp_attr.specs.Path.{path_of}
 use Rattle.bgp_attr.specs.Mp.{family_of, is_in_use, address_width, is_next_hop_length, next_hop_length, next_hop_of, reached_of, reach_of_family, mp_reach_of, withdrawn_of, unreach_of_family, mp_unreach_of}
 use Rattle.bgp_attr.specs.Refusal.{Discard, Withdraw}
 use Rattle.bgp_attr.specs.Value.{origin_of, as_path_form, as4_path_form, four_of, aggregator_of, communities_of, large_of, as4_path_of, opaque_of, value_of}
-use Rattle.bgp_attr.specs.Judgement.{has_bad_prefix, origin_tests, as_path_tests, next_hop_tests, med_tests, local_pref_tests, atomic_tests, aggregator_tests, communities_tests, mp_reach_tests, mp_unreach_tests, as4_path_tests, as4_aggregator_tests, large_tests, other_tests, tests_of, judgement}
+use Rattle.bgp_attr.specs.Judgement.{has_bad_prefix, origin_tests, as_path_tests, next_hop_tests, med_tests, local_pref_tests, atomic_tests, aggregator_tests, communities_tests, mp_reach_tests, mp_unreach_tests, as4_path_tests, large_tests, other_tests, judgement}
 use Rattle.bgp_attr.specs.Spelling.{is_recognised, IsOfType, origin_code, IsOrigin, IsAsPath, IsNextHop, IsMed, IsLocalPref, IsAtomic, IsAggregator, IsCommunities, IsLarge, IsReach, link_octets, HasLink, IsReachValue, IsMpReach, IsUnreachValue, IsMpUnreach, IsAs4Path, IsOpaque, Spells}
 use Rattle.bgp_attr.proofs.Readers.{IsNumber-reads, IsTriple-reads}
 use Rattle.bgp_attr.proofs.NumberRows.{number_row-whole, length-number_row, triple_row-whole, length-triple_row}
@@ -107,7 +106,7 @@ module _ (ctx : Context) (t : TlvValue) where
     value = nil_from_length t.value (as_long 0 (passed _ _ none.1.0));
   }
 
-  aggregator-spells : (kind : ℕ) (wide : Bool) → t.kind ≡ kind → NoneApplies (aggregator_tests wide t) → IsAggregator kind wide (aggregator_of wide t) t
+  pub aggregator-spells : (kind : ℕ) (wide : Bool) → t.kind ≡ kind → NoneApplies (aggregator_tests wide t) → IsAggregator kind wide (aggregator_of wide t) t
   aggregator-spells kind wide e none =
       let long : length t.value ≡ number_width wide + 4 = as_long (number_width wide + 4) (passed _ _ none.1.0) in
       record {
@@ -119,7 +118,7 @@ module _ (ctx : Context) (t : TlvValue) where
         partial = refl;
       }
 
-  communities-spells : t.kind ≡ COMMUNITIES → NoneApplies (communities_tests t) → IsCommunities (communities_of t) t
+  pub communities-spells : t.kind ≡ COMMUNITIES → NoneApplies (communities_tests t) → IsCommunities (communities_of t) t
   communities-spells e none =
       let parts = row_parts 4 (length t.value) (passed _ _ none.1.0) in
       let row : Row (IsNumber true) (numbers_of true t.value) t.value = number_row-whole true t.value parts.1 in
@@ -130,7 +129,7 @@ module _ (ctx : Context) (t : TlvValue) where
         partial = refl;
       }
 
-  large-spells : t.kind ≡ LARGE_COMMUNITY → NoneApplies (large_tests t) → IsLarge (large_of t) t
+  pub large-spells : t.kind ≡ LARGE_COMMUNITY → NoneApplies (large_tests t) → IsLarge (large_of t) t
   large-spells e none =
       let parts = row_parts 12 (length t.value) (passed _ _ none.1.0) in
       let row : Row IsTriple (triples_of t.value) t.value = triple_row-whole t.value parts.1 in
@@ -181,12 +180,12 @@ module _ (ctx : Context) (t : TlvValue) where
     two_hops : next_hop_length v ≡ 32 → length (hop_in v) ≡ next_hop_length v → IsReach IPV6 16 (hop_in v) routes6 v → Ip6Value (Some (take 16 (drop 16 (next_hop_of v))))
     two_hops is long s =
         let n : List ℕ = next_hop_of v in
-        let same : hop_in v ≡ take 32 (next_hop_of v) = ap (λ (k : ℕ). take k (next_hop_of v)) is in
-        let halves : take 32 (next_hop_of v) ≡ take 16 (next_hop_of v) ++ take 16 (drop 16 (next_hop_of v)) =
-        sym (take-append-drop 16 (take 32 (next_hop_of v))) ∙ ap₂ ◌++◌ (take-take 16 32 (next_hop_of v) (omega arith)) (drop-take 16 16 (next_hop_of v)) in
-        let there : 32 ≤ length (next_hop_of v) = omega (arith, ap length same, long, length-take 32 (next_hop_of v)) in
-        let behind : length (take 16 (drop 16 (next_hop_of v))) ≡ 16 = omega (arith, length-take 16 (drop 16 (next_hop_of v)), length-drop 16 (next_hop_of v)) in
-        (omega (arith, length-take 16 (next_hop_of v)), record { wide = behind }, subst (λ (h : List ℕ). IsReach IPV6 16 h routes6 v) (same ∙ halves) s)
+        let same : hop_in v ≡ take 32 n = ap (λ (k : ℕ). take k n) is in
+        let halves : take 32 n ≡ take 16 n ++ take 16 (drop 16 n) =
+        sym (take-append-drop 16 (take 32 n)) ∙ ap₂ ◌++◌ (take-take 16 32 n (omega arith)) (drop-take 16 16 n) in
+        let there : 32 ≤ length n = omega (arith, ap length same, long, length-take 32 n) in
+        let behind : length (take 16 (drop 16 n)) ≡ 16 = omega (arith, length-take 16 (drop 16 n), length-drop 16 n) in
+        (omega (arith, length-take 16 n), record { wide = behind }, subst (λ (h : List ℕ). IsReach IPV6 16 h routes6 v) (same ∙ halves) s)
 
     reach-value : (o : Option Family) → family_of v ≡ o → 5 ≤ length v → 5 + next_hop_length v ≤ length v → is_in_use ctx o ≡ true → is_next_hop_length o (next_hop_length v) ≡ true
         → has_bad_prefix (address_width o) (reached_of v) ≡ false → IsReachValue (reach_of_family o v) v
@@ -216,14 +215,14 @@ module _ (ctx : Context) (t : TlvValue) where
     unreach-value (Some family.Ip4) e long used good = octets-unreach family.Ip4 4 v octets e long good
     unreach-value (Some family.Ip6) e long used good = octets-unreach family.Ip6 16 v octets e long good
 
-    mp_reach-spells : t.kind ≡ MP_REACH_NLRI → NoneApplies (mp_reach_tests ctx t) → IsMpReach (mp_reach_of t.value) t
+    pub mp_reach-spells : t.kind ≡ MP_REACH_NLRI → NoneApplies (mp_reach_tests ctx t) → IsMpReach (mp_reach_of t.value) t
     mp_reach-spells e none = record {
       of_type = of_type MP_REACH_NLRI OptionalNonTransitive e (passed _ _ none.0);
       value = reach-value (family_of v) refl (ltb-false _ _ (passed _ _ none.1.0)) (ltb-false _ _ (passed _ _ none.1.1.1.1.0)) (not-false _ (passed _ _ none.1.1.0)) (not-false _ (passed _ _ none.1.1.1.0))
           (passed _ _ none.1.1.1.1.1.0);
     }
 
-    mp_unreach-spells : t.kind ≡ MP_UNREACH_NLRI → NoneApplies (mp_unreach_tests ctx t) → IsMpUnreach (mp_unreach_of t.value) t
+    pub mp_unreach-spells : t.kind ≡ MP_UNREACH_NLRI → NoneApplies (mp_unreach_tests ctx t) → IsMpUnreach (mp_unreach_of t.value) t
     mp_unreach-spells e none = record {
       of_type = of_type MP_UNREACH_NLRI OptionalNonTransitive e (passed _ _ none.0);
       value = unreach-value (family_of v) refl (ltb-false _ _ (passed _ _ none.1.0)) (not-false _ (passed _ _ none.1.1.0)) (passed _ _ none.1.1.1.0);

@@ -17,3 +17,5 @@ pub mod ReadBack
 pub mod RouteRows
 pub mod Kept
 pub mod Lengths
+pub mod Rewriting
+pub mod WrittenOctets

@@ -1,5 +1,5 @@
 -- Triples, each at its first place alone: nothing is dropped where none repeats, and what is left has no repeats.
-use Rattle.std.proofs.Common.{◌≡◌, ℕ, ◌<◌, ◌≤◌, Bool, true, false, ◌||◌, ◌&&◌, cond, eqb, List, [], ◌∷◌, ◌++◌, length, refl, sym, ap, subst, ◌∙◌, append_assoc, arith}
+use Rattle.std.proofs.Common.{◌≡◌, ℕ, ◌<◌, ◌≤◌, true, false, ◌||◌, ◌&&◌, eqb, List, [], ◌∷◌, ◌++◌, length, refl, sym, ap, subst, ◌∙◌, append_assoc, arith}
 use Rattle.std.specs.List.{list_any, AllByRecursion}
 use Rattle.std.proofs.lemmas.Bool.{false≢true, both_ways, eqb-true, and_parts, or_parts, or_from, cond-false, cond_both, false_from_ne_true}
 use Rattle.std.proofs.lemmas.List.{append-nil}
@@ -79,11 +79,11 @@ once-repeats : (before xs : List (List ℕ)) → repeats (once_behind before xs)
 once-repeats before [] = refl
 once-repeats before (x ∷ xs) =
     let ys : List (List ℕ) = once_behind (before ++ x ∷ []) xs in
-    let apart : NotAmong (before ++ x ∷ []) (once_behind (before ++ x ∷ []) xs) =
+    let apart : NotAmong (before ++ x ∷ []) ys =
     subst (λ (b : List (List ℕ)). NotAmong (before ++ x ∷ []) (once_behind b xs)) (append-nil (before ++ x ∷ [])) (not_first (before ++ x ∷ []) [] xs) in
-    let later : repeats (once_behind (before ++ x ∷ []) xs) ≡ false = once-repeats (before ++ x ∷ []) xs in
-    cond_both (list_any (same_triple x) before) (once_behind (before ++ x ∷ []) xs) (x ∷ once_behind (before ++ x ∷ []) xs) (λ zs. repeats zs ≡ false)
-    (λ e. later) (λ e. or_from _ _ (other_from x before (once_behind (before ++ x ∷ []) xs) apart) later)
+    let later : repeats ys ≡ false = once-repeats (before ++ x ∷ []) xs in
+    cond_both (list_any (same_triple x) before) ys (x ∷ ys) (λ zs. repeats zs ≡ false)
+    (λ e. later) (λ e. or_from _ _ (other_from x before ys apart) later)
 
 pub each_once-repeats : (xs : List (List ℕ)) → repeats (each_once xs) ≡ false
 each_once-repeats xs = once-repeats [] xs

@@ -1,15 +1,14 @@
 -- What is written of an attribute is one whole attribute, and is kept as the value that was written.
-use Rattle.std.proofs.Common.{◌≡◌, ℕ, ◌+◌, ◌*◌, ◌%◌, ◌^◌, ◌<◌, ◌≤◌, Bool, true, false, not, ◌||◌, ◌&&◌, cond, eqb, ltb, List, [], ◌∷◌, ◌++◌, length, take, drop, Option, Some, None, refl, sym, ap, ap₂, subst, ◌∙◌, arith}
-use Rattle.std.specs.Int.{w16, w32, to_be_bytes, from_be_bytes}
+use Rattle.std.proofs.Common.{◌≡◌, ℕ, ◌+◌, ◌*◌, ◌%◌, ◌^◌, ◌<◌, ◌≤◌, Bool, true, false, not, ◌&&◌, cond, eqb, ltb, List, [], ◌∷◌, ◌++◌, length, take, drop, Option, Some, None, refl, sym, ap, ap₂, ◌∙◌, arith}
+use Rattle.std.specs.Int.{w16, to_be_bytes}
 use Rattle.std.specs.List.{flat_map, list_any, AllByRecursion}
-use Rattle.std.proofs.lemmas.Bool.{true≢false, le-ltb, ltb-false, eqb-false, eq-eqb, ne_eqb, or_parts, or_from, or_left, or_right, and_parts}
+use Rattle.std.proofs.lemmas.Bool.{true≢false, le-ltb, ltb-false, eqb-false, eq-eqb, ne_eqb, or_parts, or_from, or_left, or_right}
 use Rattle.std.proofs.lemmas.Nat.{from_be_bytes-to_be_bytes_2, from_be_bytes-to_be_bytes_4}
-use Rattle.std.proofs.lemmas.List.{append-nil, length-append, take_at, drop_at}
+use Rattle.std.proofs.lemmas.List.{length-append, take_at, drop_at}
 use Rattle.bgp_numbers.specs.declared.attribute.TheConstants.{AGGREGATOR, AS4_AGGREGATOR}
 use Rattle.bgp_numbers.specs.declared.afi.TheConstants.{IPV4, IPV6}
 use Rattle.bgp_prefix.specs.Prefix.{PrefixValue, IsValid}
 use Rattle.bgp_open.specs.declared.context.Context.{Context}
-use Rattle.bgp_wire.specs.Octets.{AreOctets}
 use Rattle.bgp_attr.specs.declared.aggregator.Aggregator.{Aggregator}
 use Rattle.bgp_attr.specs.declared.communities.Communities.{Communities}
 use Rattle.bgp_attr.specs.declared.communities.LargeCommunities.{LargeCommunities}
@@ -34,11 +33,11 @@ use Rattle.bgp_attr.specs.Flags.{is_extended, has_class, flags_octet}
 use Rattle.bgp_attr.specs.Tlv.{TlvValue, IsTlv, number_of_length, length_octets}
 use Rattle.bgp_attr.specs.Numbers.{number_width, number_in, number_octets, row_octets, triple_octets, each_once}
 use Rattle.bgp_attr.specs.Refusal.{Discard, Withdraw}
-use Rattle.bgp_attr.specs.Value.{origin_of, as_path_form, as4_path_form, aggregator_of, opaque_of}
+use Rattle.bgp_attr.specs.Value.{origin_of, as_path_form, as4_path_form, aggregator_of}
 use Rattle.bgp_attr.specs.Path.{path_of}
 use Rattle.bgp_attr.specs.Judgement.{origin_tests, next_hop_tests, med_tests, local_pref_tests, atomic_tests, has_bad_prefix, mp_reach_tests, mp_unreach_tests, as_path_tests, as4_path_tests, communities_tests, large_tests, aggregator_tests, as4_aggregator_tests, other_tests, judgement}
 use Rattle.bgp_attr.specs.Spelling.{origin_code, is_recognised, IsReach, link_octets, HasLink, IsUnreach}
-use Rattle.bgp_attr.specs.Written.{made, written_tlv, canonical, aggregator_octets, reach_row, reach_octets, unreach_row, unreach_octets, any_number, is_above_two_octets, is_bad_segment, HasLinkRange, Belongs, path_octets, repeats, IsFourOctets, IsThreeNumbers, IsAddress, is_writable, HasRanges}
+use Rattle.bgp_attr.specs.Written.{made, written_tlv, canonical, aggregator_octets, reach_row, reach_octets, unreach_row, unreach_octets, any_number, is_above_two_octets, is_bad_segment, HasLinkRange, Belongs, path_octets, repeats, IsFourOctets, IsThreeNumbers, is_writable, HasRanges}
 use Rattle.bgp_attr.proofs.FlagBits.{has_class-flags, is_partial-flags, is_optional-flags, is_transitive-flags, optional_class}
 use Rattle.bgp_attr.proofs.NumberRows.{Fits, number_in-octets, length-number_octets, length-row_octets, numbers_of-row_octets, length-triples, triples_of-octets}
 use Rattle.bgp_attr.proofs.SegmentRows.{CanStand, path_of-octets, path_fault-octets, path_has_zero-octets, length-even, length-least}
@@ -60,10 +59,10 @@ pub made-spells : (class : Class) (partial : Bool) (kind : ℕ) (value : List �
 made-spells class partial kind value small =
     let flags : ℕ = flags_octet class partial (ltb 255 (length value)) in
     record {
-      size = length_octets (flags_octet class partial (ltb 255 (length value))) (length value);
+      size = length_octets flags (length value);
       octets = refl;
-      wide = size-wide (is_extended (flags_octet class partial (ltb 255 (length value)))) (length value);
-      counted = size-counts (is_extended (flags_octet class partial (ltb 255 (length value)))) (length value) small;
+      wide = size-wide (is_extended flags) (length value);
+      counted = size-counts (is_extended flags) (length value) small;
       whole = refl;
     }
 
@@ -201,16 +200,16 @@ module _ (ctx : Context) (has_nlri : Bool) where
   kept-as4_path p narrow c some =
       let t : TlvValue = written_tlv ctx (attr.As4Path p) in
       let octets : List ℕ = path_octets true p.path in
-      let back : path_of as4_path_form (path_octets true p.path) ≡ p.path = path_of-octets as4_path_form p.path c in
-      let even : eqb (length (path_octets true p.path) % 2) 0 ≡ true = eq-eqb _ 0 (length-even p.path) in
-      let long : ltb (length (path_octets true p.path)) 6 ≡ false = le-ltb _ 6 (length-least p.path some c.good) in
-      let left : eqb (length (path_of as4_path_form (path_octets true p.path)).segments) 0 ≡ false =
+      let back : path_of as4_path_form octets ≡ p.path = path_of-octets as4_path_form p.path c in
+      let even : eqb (length octets % 2) 0 ≡ true = eq-eqb _ 0 (length-even p.path) in
+      let long : ltb (length octets) 6 ≡ false = le-ltb _ 6 (length-least p.path some c.good) in
+      let left : eqb (length (path_of as4_path_form octets).segments) 0 ≡ false =
       ap (λ (x : AsPath). eqb (length x.segments) 0) back ∙ ne_eqb (length (p.path).segments) 0 (λ e. omega arith) in
       judgement-keep ctx has_nlri t (as4_path_tests ctx t) (attr.As4Path p) (tests-as4_path ctx has_nlri t refl)
-      (value-as4_path ctx t refl ∙ ap (λ (x : As4Path). attr.As4Path x) (same _ _ (is_partial-flags OptionalTransitive p.partial (ltb 255 (length (path_octets true p.path)))) back)) (
+      (value-as4_path ctx t refl ∙ ap (λ (x : As4Path). attr.As4Path x) (same _ _ (is_partial-flags OptionalTransitive p.partial (ltb 255 (length octets))) back)) (
         pass _ _ narrow,
         (
-          pass _ _ (flags-right OptionalTransitive p.partial (ltb 255 (length (path_octets true p.path)))),
+          pass _ _ (flags-right OptionalTransitive p.partial (ltb 255 (length octets))),
           (
             pass _ _ (or_from _ _ (ap not even) long),
             (pass_fault (λ fault. Discard fault) _ (path_fault-octets as4_path_form p.path c), (pass _ _ (path_has_zero-octets as4_path_form p.path c), (pass _ _ left, tt))),
@@ -226,12 +225,13 @@ module _ (ctx : Context) (has_nlri : Bool) where
   pub kept-communities : (c : Communities) → AllByRecursion IsFourOctets c.values → 0 < length c.values → ThisKept (attr.Communities c)
   kept-communities c small some =
       let t : TlvValue = written_tlv ctx (attr.Communities c) in
-      let long : length (row_octets true c.values) ≡ 4 * length c.values = length-row_octets true c.values in
-      let given : eqb (length (row_octets true c.values)) 0 ≡ false = ne_eqb _ 0 (λ (e : length (row_octets true c.values) ≡ 0). absurd (omega arith)) in
-      let whole : eqb (length (row_octets true c.values) % 4) 0 ≡ true = eq-eqb _ 0 (omega arith) in
+      let octets : List ℕ = row_octets true c.values in
+      let long : length octets ≡ 4 * length c.values = length-row_octets true c.values in
+      let given : eqb (length octets) 0 ≡ false = ne_eqb _ 0 (λ (e : length octets ≡ 0). absurd (omega arith)) in
+      let whole : eqb (length octets % 4) 0 ≡ true = eq-eqb _ 0 (omega arith) in
       judgement-keep ctx has_nlri t (communities_tests t) (attr.Communities c) (tests-communities ctx has_nlri t refl)
-      (value-communities ctx t refl ∙ ap (λ (x : Communities). attr.Communities x) (same _ _ (is_partial-flags OptionalTransitive c.partial (ltb 255 (length (row_octets true c.values)))) (numbers_of-row_octets true c.values small)))
-      (pass _ _ (flags-right OptionalTransitive c.partial (ltb 255 (length (row_octets true c.values)))), (pass _ _ (or_from _ _ given (ap not whole)), tt))
+      (value-communities ctx t refl ∙ ap (λ (x : Communities). attr.Communities x) (same _ _ (is_partial-flags OptionalTransitive c.partial (ltb 255 (length octets))) (numbers_of-row_octets true c.values small)))
+      (pass _ _ (flags-right OptionalTransitive c.partial (ltb 255 (length octets))), (pass _ _ (or_from _ _ given (ap not whole)), tt))
     where
       same : (partial : Bool) (values : List ℕ) → partial ≡ c.partial → values ≡ c.values → (let d : Communities = record { partial = partial; values = values } in d ≡ c)
       same partial values e f = rw (e, f) refl
@@ -240,13 +240,13 @@ module _ (ctx : Context) (has_nlri : Bool) where
   kept-large l small some once =
       let t : TlvValue = written_tlv ctx (attr.Large l) in
       let octets : List ℕ = flat_map triple_octets l.values in
-      let long : length (flat_map triple_octets l.values) ≡ 12 * length l.values = length-triples l.values small in
-      let given : eqb (length (flat_map triple_octets l.values)) 0 ≡ false = ne_eqb _ 0 (λ (e : length (flat_map triple_octets l.values) ≡ 0). absurd (omega arith)) in
-      let whole : eqb (length (flat_map triple_octets l.values) % 12) 0 ≡ true = eq-eqb _ 0 (omega arith) in
+      let long : length octets ≡ 12 * length l.values = length-triples l.values small in
+      let given : eqb (length octets) 0 ≡ false = ne_eqb _ 0 (λ (e : length octets ≡ 0). absurd (omega arith)) in
+      let whole : eqb (length octets % 12) 0 ≡ true = eq-eqb _ 0 (omega arith) in
       judgement-keep ctx has_nlri t (large_tests t) (attr.Large l) (tests-large ctx has_nlri t refl)
-      (value-large ctx t refl ∙ ap (λ (x : LargeCommunities). attr.Large x) (same _ _ (is_partial-flags OptionalTransitive l.partial (ltb 255 (length (flat_map triple_octets l.values))))
+      (value-large ctx t refl ∙ ap (λ (x : LargeCommunities). attr.Large x) (same _ _ (is_partial-flags OptionalTransitive l.partial (ltb 255 (length octets)))
       (ap each_once (triples_of-octets l.values small) ∙ each_once-same l.values once)))
-      (pass _ _ (flags-right OptionalTransitive l.partial (ltb 255 (length (flat_map triple_octets l.values)))), (pass _ _ (or_from _ _ given (ap not whole)), tt))
+      (pass _ _ (flags-right OptionalTransitive l.partial (ltb 255 (length octets))), (pass _ _ (or_from _ _ given (ap not whole)), tt))
     where
       same : (partial : Bool) (values : List (List ℕ)) → partial ≡ l.partial → values ≡ l.values → (let k : LargeCommunities = record { partial = partial; values = values } in k ≡ l)
       same partial values e f = rw (e, f) refl

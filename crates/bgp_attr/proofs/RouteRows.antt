@@ -1,11 +1,10 @@
 -- Routes of other address families as octets: what they spell is read back, and what is read is spelled and can be written.
-use Rattle.std.proofs.Common.{◌≡◌, ℕ, suc, ◌+◌, ◌-◌, ◌<◌, ◌≤◌, Bool, true, false, not, ◌||◌, cond, eqb, ltb, List, [], ◌∷◌, ◌++◌, length, get_or, take, drop, Option, Some, None, inl, inr, refl, sym, ap, ap₂, subst, ◌∙◌, append_assoc, arith}
-use Rattle.std.specs.Prelude.{IfSome}
-use Rattle.std.specs.List.{flat_map, AllByRecursion}
-use Rattle.std.specs.Int.{w16, to_be_bytes, from_be_bytes}
-use Rattle.std.proofs.lemmas.Bool.{true≢false, eqb-true, eq-eqb, ne_eqb, eqb-false, ltb-false, le-ltb, not-false, or_cases, or_left, or_right, cases_Bool}
+use Rattle.std.proofs.Common.{◌≡◌, ℕ, suc, ◌+◌, ◌<◌, ◌≤◌, Bool, true, false, not, cond, eqb, ltb, List, [], ◌∷◌, ◌++◌, length, take, drop, Option, Some, None, refl, sym, ap, ap₂, subst, ◌∙◌, append_assoc, arith}
+use Rattle.std.specs.List.{AllByRecursion}
+use Rattle.std.specs.Int.{w16, to_be_bytes}
+use Rattle.std.proofs.lemmas.Bool.{eqb-true, eq-eqb, ne_eqb, le-ltb, not-false}
 use Rattle.std.proofs.lemmas.Nat.{be_bytes_2}
-use Rattle.std.proofs.lemmas.List.{append-nil, length-append, length-take, length-drop, take_at, drop_at, take-append-drop, take-append-le, drop-append-le, nil_from_length}
+use Rattle.std.proofs.lemmas.List.{length-append, length-take, length-drop, take_at, drop_at, take-append-drop, nil_from_length}
 use Rattle.bgp_numbers.specs.declared.afi.TheConstants.{IPV4, IPV6}
 use Rattle.bgp_numbers.specs.declared.safi.TheConstants.{UNICAST}
 use Rattle.bgp_prefix.specs.Prefix.{PrefixValue, IsValid, IsPrefix, one_prefix, spelling_of}
@@ -14,17 +13,15 @@ use Rattle.bgp_prefix.proofs.PrefixLemmas.{IsPrefix-reads, IsPrefix-spelling_of,
 use Rattle.bgp_prefix.proofs.LawLemmas.{row_is_run, Row-rewritten}
 use Rattle.bgp_wire.specs.Octets.{AreOctets}
 use Rattle.bgp_wire.specs.Row.{Row}
-use Rattle.bgp_wire.proofs.OctetLemmas.{AreOctets-front, AreOctets-back, AreOctets-drop, AreOctets-take}
+use Rattle.bgp_wire.proofs.OctetLemmas.{AreOctets-front, AreOctets-back, AreOctets-drop}
 use Rattle.bgp_wire.proofs.Behinds.{Row-pieces}
 use Rattle.bgp_attr.specs.declared.family.Family.{Family}
 use Rattle.bgp_attr.specs.declared.family.Family.TheVariants as family
-use Rattle.bgp_attr.specs.declared.mp.MpReach.{MpReach}
 use Rattle.bgp_attr.specs.declared.mp.MpReach.TheVariants as reach
-use Rattle.bgp_attr.specs.declared.mp.MpUnreach.{MpUnreach}
 use Rattle.bgp_attr.specs.declared.mp.MpUnreach.TheVariants as unreach
-use Rattle.bgp_attr.specs.Mp.{afi_of, safi_of, family_of, is_next_hop_length, next_hop_length, next_hop_of, reached_of, mp_reach_of, withdrawn_of, mp_unreach_of}
+use Rattle.bgp_attr.specs.Mp.{afi_of, safi_of, family_of, next_hop_length, next_hop_of, reached_of, mp_reach_of, withdrawn_of, mp_unreach_of}
 use Rattle.bgp_attr.specs.Judgement.{has_bad_prefix}
-use Rattle.bgp_attr.specs.Spelling.{IsReach, link_octets, HasLink, IsReachValue, IsUnreach, IsUnreachValue}
+use Rattle.bgp_attr.specs.Spelling.{IsReach, link_octets, HasLink, IsUnreach}
 use Rattle.bgp_attr.specs.Written.{run_octets, reach_row, unreach_row}
 
 -- ---- rows of prefixes
@@ -104,11 +101,11 @@ module _ (f : Family) (width : ℕ) (hop : List ℕ) (routes : List PrefixValue)
   pub reach-rest : reached_of b ≡ s.row
   reach-rest =
       let front : List ℕ = to_be_bytes w16 (afi_number f) ++ (UNICAST ∷ length hop ∷ (hop ++ s.reserved ∷ [])) in
-      let long : length (to_be_bytes w16 (afi_number f) ++ (UNICAST ∷ length hop ∷ (hop ++ s.reserved ∷ []))) ≡ 5 + length hop = omega (arith, length-append hop (s.reserved ∷ [])) in
-      let cut : b ≡ (to_be_bytes w16 (afi_number f) ++ (UNICAST ∷ length hop ∷ (hop ++ s.reserved ∷ []))) ++ s.row =
+      let long : length front ≡ 5 + length hop = omega (arith, length-append hop (s.reserved ∷ [])) in
+      let cut : b ≡ front ++ s.row =
       s.octets ∙ ap (λ (x : List ℕ). to_be_bytes w16 (afi_number f) ++ (UNICAST ∷ length hop ∷ x)) (sym (append_assoc hop (s.reserved ∷ []) s.row)) in
       ap (λ (n : ℕ). drop (5 + n) b) reach-hop_length ∙ ap (λ (x : List ℕ). drop (5 + length hop) x) cut
-      ∙ drop_at (to_be_bytes w16 (afi_number f) ++ (UNICAST ∷ length hop ∷ (hop ++ s.reserved ∷ []))) s.row (5 + length hop) long
+      ∙ drop_at front s.row (5 + length hop) long
 
   pub reach-run : (run_of width (reached_of b)).0 ≡ routes
   reach-run = ap (λ (x : List ℕ). (run_of width x).0) reach-rest ∙ ap (λ (q : List PrefixValue × List ℕ). q.0) (row_is_run width routes s.row s.prefixes)
@@ -148,13 +145,13 @@ pub reach6-value : (hop : List ℕ) (link : Option (List ℕ)) (routes : List Pr
 reach6-value hop link routes b wide has s =
     let all : List ℕ = hop ++ link_octets link in
     let after : List ℕ = s.reserved ∷ s.row in
-    let behind : next_hop_of b ≡ (hop ++ link_octets link) ++ (s.reserved ∷ s.row) = reach-hop family.Ip6 16 (hop ++ link_octets link) routes b s in
+    let behind : next_hop_of b ≡ all ++ after = reach-hop family.Ip6 16 all routes b s in
     let first : take 16 (next_hop_of b) ≡ hop =
-    ap (take 16) (behind ∙ append_assoc hop (link_octets link) (s.reserved ∷ s.row)) ∙ take_at hop (link_octets link ++ (s.reserved ∷ s.row)) 16 wide in
+    ap (take 16) (behind ∙ append_assoc hop (link_octets link) after) ∙ take_at hop (link_octets link ++ after) 16 wide in
     let second : cond (eqb (next_hop_length b) 32) (Some (take 16 (drop 16 (next_hop_of b)))) None ≡ link =
     ap (λ (x : List ℕ). cond (eqb (next_hop_length b) 32) (Some (take 16 (drop 16 x))) None) behind
-    ∙ link-back hop link (s.reserved ∷ s.row) (next_hop_length b) wide has (reach-hop_length family.Ip6 16 (hop ++ link_octets link) routes b s) in
-    rw (reach-family family.Ip6 16 (hop ++ link_octets link) routes b s) (same-reach6 _ _ _ _ _ _ first second (reach-run family.Ip6 16 (hop ++ link_octets link) routes b s))
+    ∙ link-back hop link after (next_hop_length b) wide has (reach-hop_length family.Ip6 16 all routes b s) in
+    rw (reach-family family.Ip6 16 all routes b s) (same-reach6 _ _ _ _ _ _ first second (reach-run family.Ip6 16 all routes b s))
 
 -- the octets that are written spell the routes
 pub reach_row-spells : (f : Family) (width : ℕ) (hop : List ℕ) (routes : List PrefixValue) → AllByRecursion (IsValid width) routes → IsReach (afi_number f) width hop routes (reach_row (afi_number f) hop routes)

@@ -1,11 +1,10 @@
 -- Rows of segments: what is written of a path is read back, and what is kept of a path that was read can be written.
-use Rattle.std.proofs.Common.{◌≡◌, ℕ, suc, ◌+◌, ◌*◌, ◌%◌, ◌^◌, ◌<◌, ◌≤◌, Bool, true, false, not, ◌||◌, ◌&&◌, cond, eqb, ltb, List, [], ◌∷◌, ◌++◌, length, map, Option, Some, None, refl, sym, ap, ap₂, subst, ◌∙◌, arith}
+use Rattle.std.proofs.Common.{◌≡◌, ℕ, suc, ◌+◌, ◌*◌, ◌%◌, ◌^◌, ◌<◌, ◌≤◌, Bool, true, false, not, ◌||◌, cond, eqb, ltb, List, [], ◌∷◌, ◌++◌, length, map, Option, Some, None, refl, sym, ap, ap₂, subst, ◌∙◌, arith}
 use Rattle.std.specs.List.{flat_map, list_any, AllByRecursion}
 use Rattle.std.proofs.lemmas.Bool.{true≢false, or_parts, or_from, le-ltb, ltb-false, eqb-false, ne_eqb}
 use Rattle.std.proofs.lemmas.List.{length-append, length-map}
 use Rattle.std.proofs.lemmas.List.Concat.{flat_map-append}
 use Rattle.std.proofs.lemmas.List.Folds.{list_any-append}
-use Rattle.bgp_numbers.specs.declared.segment.TheConstants.{SET, SEQUENCE}
 use Rattle.bgp_prefix.specs.declared.as_number.AsNumber.{AsNumber}
 use Rattle.bgp_wire.specs.Octets.{AreOctets}
 use Rattle.bgp_wire.specs.Row.{Row}
@@ -16,9 +15,8 @@ use Rattle.bgp_attr.specs.declared.path.SegKind.TheVariants.{Set, Seq}
 use Rattle.bgp_attr.specs.declared.path.Segment.{Segment}
 use Rattle.bgp_attr.specs.declared.path.AsPath.{AsPath}
 use Rattle.bgp_attr.specs.declared.path_form.PathForm.{PathForm}
-use Rattle.bgp_attr.specs.declared.why.Why.{Why}
 use Rattle.bgp_attr.specs.declared.why.Why.TheVariants as why
-use Rattle.bgp_attr.specs.Numbers.{number_width, row_octets, IsNumber}
+use Rattle.bgp_attr.specs.Numbers.{number_width, row_octets}
 use Rattle.bgp_attr.specs.Path.{WireSegment, is_known, IsSegment, one_segment, segments_of, as_number, kind_of_segment, segment_kept_as, kept_segment, path_of, segment_fault, path_fault, has_zero, path_has_zero}
 use Rattle.bgp_attr.specs.Spelling.{IsPath}
 use Rattle.bgp_attr.specs.Written.{number_of, segment_code, segment_octets, path_octets, any_number, is_above_two_octets, is_zero, is_bad_segment, IsFourOctets, HasPathRanges}
@@ -61,13 +59,13 @@ segment-spells form s some fits =
     let same : length (map number_of s.numbers) ≡ length s.numbers = length-map s.numbers number_of in
     let row : List ℕ = row_octets form.wide (map number_of s.numbers) in
     record {
-      behind = length s.numbers ∷ row_octets form.wide (map number_of s.numbers);
+      behind = length s.numbers ∷ row;
       octets = refl;
       known = known-at form s.kind;
       some = omega arith;
       counted = record {
-        row = row_octets form.wide (map number_of s.numbers);
-        octets = ap (λ (k : ℕ). k ∷ row_octets form.wide (map number_of s.numbers)) (sym same);
+        row = row;
+        octets = ap (λ (k : ℕ). k ∷ row) (sym same);
         spelled = Row-numbers form.wide (map number_of s.numbers) fits;
       };
     }

@@ -22,3 +22,4 @@ pub mod MpView
 pub mod AttrView
 pub mod JudgedView
 pub mod Length
+pub mod Laws

@@ -1,12 +1,20 @@
 //! Laws over the definitions alone: these functions do nothing, and their contracts are what is proved.
 
-ghost use Rattle.std.specs.Prelude.{◌≡◌, ℕ, Bool, List};
+ghost use Rattle.std.specs.Prelude.{◌≡◌, ℕ, Bool, true, List};
+ghost use Rattle.bgp_wire.specs.Octets.{AreOctets};
 ghost use Rattle.bgp_wire.specs.Row.{IsPrefixFree, Splits};
 ghost use Rattle.bgp_wire.specs.Reader.{Reads};
+ghost use Rattle.bgp_open.specs.declared.context.Context.{Context};
+ghost use Rattle.bgp_attr.specs.declared.attr.Attr.{Attr};
+ghost use Rattle.bgp_attr.specs.declared.judged.Judged.TheVariants.{Keep};
 ghost use Rattle.bgp_attr.specs.declared.path_form.PathForm.{PathForm};
 ghost use Rattle.bgp_attr.specs.Tlv.{TlvValue, IsTlv, one_tlv, tlvs_of};
 ghost use Rattle.bgp_attr.specs.Numbers.{IsNumber, one_number, IsTriple, one_triple};
 ghost use Rattle.bgp_attr.specs.Path.{IsSegment, one_segment};
+ghost use Rattle.bgp_attr.specs.Judgement.{judgement};
+ghost use Rattle.bgp_attr.specs.Spelling.{Spells};
+ghost use Rattle.bgp_attr.specs.Written.{written_tlv, canonical, is_writable, Belongs, HasRanges};
+ghost use Rattle.bgp_attr.specs.Laws.{CanBeWritten};
 
 /// The readers of attributes, of segments of paths, of numbers and of large communities find each
 /// one that stands at the front, and nothing else.
@@ -32,4 +40,31 @@ pub fn fields_split_in_one_way()
     ensures splits { (b : List ℕ) → Splits IsTlv b (tlvs_of b).0 (tlvs_of b).1 }
     ensures only { (b : List ℕ) (tlvs : List TlvValue) (rest : List ℕ)
         → Splits IsTlv b tlvs rest → tlvs_of b ≡ (tlvs, rest) }
+{}
+
+/// An attribute that is kept is one that its octets spell, and they spell no other.
+pub fn what_is_kept_is_spelled()
+    ensures spelled { (ctx : Context) (has_nlri : Bool) (t : TlvValue) (a : Attr)
+        → AreOctets t.value → judgement ctx has_nlri t ≡ Keep a → Spells ctx t a }
+    ensures only { (ctx : Context) (has_nlri : Bool) (t : TlvValue) (a b : Attr)
+        → judgement ctx has_nlri t ≡ Keep a → Spells ctx t b → b ≡ a }
+{}
+
+/// An attribute that is kept can be written where it was read, in no more octets.
+pub fn kept_attributes_are_writable()
+    ensures { (ctx : Context) (has_nlri : Bool) (t : TlvValue) (a : Attr) (b : List ℕ)
+        → IsTlv t b → AreOctets b → judgement ctx has_nlri t ≡ Keep a
+        → CanBeWritten ctx has_nlri a b }
+{}
+
+/// What is written of an attribute is one whole attribute, of octets, and is kept as this value in
+/// each message where it belongs.
+pub fn written_attributes_are_kept()
+    ensures octets { (ctx : Context) (a : Attr)
+        → HasRanges a → is_writable ctx a ≡ true → AreOctets (canonical ctx a) }
+    ensures whole { (ctx : Context) (a : Attr)
+        → is_writable ctx a ≡ true → IsTlv (written_tlv ctx a) (canonical ctx a) }
+    ensures kept { (ctx : Context) (has_nlri : Bool) (a : Attr)
+        → HasRanges a → is_writable ctx a ≡ true → Belongs ctx has_nlri a
+        → judgement ctx has_nlri (written_tlv ctx a) ≡ Keep a }
 {}

@@ -1,0 +1,344 @@
+-- An attribute that is kept can be written where it was read, in no more octets.
+use Rattle.std.proofs.Common.{◌≡◌, ℕ, suc, ◌+◌, ◌^◌, ◌<◌, ◌≤◌, Bool, true, false, not, ◌&&◌, cond, eqb, ltb, List, [], ◌∷◌, ◌++◌, length, take, drop, Option, Some, None, refl, sym, ap, subst, ◌∙◌, arith}
+use Rattle.std.specs.List.{flat_map, AllByRecursion}
+use Rattle.std.specs.Int.{w16, to_be_bytes, from_be_bytes}
+use Rattle.std.proofs.lemmas.Bool.{eqb-true, ne_eqb, ltb-true, le-ltb, not-false, or_from, and_left, and_right}
+use Rattle.std.proofs.lemmas.List.{length-append, length-drop}
+use Rattle.bgp_numbers.specs.declared.attribute.TheConstants.{COMMUNITIES, MP_REACH_NLRI, MP_UNREACH_NLRI, LARGE_COMMUNITY}
+use Rattle.bgp_open.specs.declared.context.Context.{Context}
+use Rattle.bgp_wire.specs.Octets.{AreOctets}
+use Rattle.bgp_wire.proofs.OctetLemmas.{AreOctets-front, AreOctets-back, AreOctets-take, AreOctets-drop}
+use Rattle.bgp_attr.specs.declared.attr.Attr.{Attr}
+use Rattle.bgp_attr.specs.declared.attr.Attr.TheVariants as attr
+use Rattle.bgp_attr.specs.declared.class.Class.{Class}
+use Rattle.bgp_attr.specs.declared.family.Family.TheVariants as family
+use Rattle.bgp_attr.specs.declared.judged.Judged.TheVariants as judged
+use Rattle.bgp_attr.specs.declared.mp.MpReach.{MpReach}
+use Rattle.bgp_attr.specs.declared.mp.MpReach.TheVariants as reach
+use Rattle.bgp_attr.specs.declared.mp.MpUnreach.{MpUnreach}
+use Rattle.bgp_attr.specs.declared.mp.MpUnreach.TheVariants as unreach
+use Rattle.bgp_attr.specs.Flags.{is_extended, flags_octet}
+use Rattle.bgp_attr.specs.Tlv.{TlvValue, number_of_length, IsTlv}
+use Rattle.bgp_attr.specs.Numbers.{number_width, number_in, number_octets, numbers_of, triples_of, each_once, triple_octets}
+use Rattle.bgp_attr.specs.Path.{path_of}
+use Rattle.bgp_attr.specs.Mp.{family_of, is_in_use, mp_reach_of, mp_unreach_of}
+use Rattle.bgp_attr.specs.Refusal.{Discard, Withdraw}
+use Rattle.bgp_attr.specs.Value.{origin_of, as_path_form, as4_path_form, four_of, aggregator_of, communities_of, large_of, as4_path_of, opaque_of, value_of}
+use Rattle.bgp_attr.specs.Judgement.{origin_tests, as_path_tests, next_hop_tests, med_tests, local_pref_tests, aggregator_tests, communities_tests, mp_reach_tests, mp_unreach_tests, as4_path_tests, as4_aggregator_tests, large_tests, judgement}
+use Rattle.bgp_attr.specs.Spelling.{is_recognised, link_octets, HasLink, IsReachValue, IsUnreachValue}
+use Rattle.bgp_attr.specs.Written.{made, value_octets, class_of, partial_of, type_of, aggregator_octets, is_too_wide, is_as4, is_empty, is_misnamed, has_as_zero, stands_twice, is_too_long, Belongs, IsThreeNumbers, IsAddress, HasLinkRange, HasRanges}
+use Rattle.bgp_attr.specs.Laws.{CanBeWritten}
+use Rattle.bgp_attr.proofs.FlagBits.{is_extended-flags}
+use Rattle.bgp_attr.proofs.NumberRows.{Fits, Fits-four, number_in-small, length-number_octets, length-row_octets, length-number_row, number_row-small, length-triple_row, triple_row-small, length-triples}
+use Rattle.bgp_attr.proofs.OnceLemmas.{each_once-repeats, each_once-all, each_once-shorter, each_once-some}
+use Rattle.bgp_attr.proofs.SegmentRows.{path-rewrites}
+use Rattle.bgp_attr.proofs.RouteRows.{reach-family, reach-hop_octets, reach-valid, reach-rewritten, unreach-family, unreach-valid, unreach-rewritten}
+use Rattle.bgp_attr.proofs.Kept.{communities-spells, large-spells, mp_reach-spells, mp_unreach-spells}
+use Rattle.bgp_attr.proofs.Tests.{NoneApplies, passed, passed_fault, Writes-writable, TypeCase, OfOrigin, OfAsPath, OfNextHop, OfMed, OfLocalPref, OfAtomic, OfAggregator, OfCommunities, OfMpReach, OfMpUnreach, OfAs4Path, OfAs4Aggregator, OfLarge, OfOther, type_case, keep-judgement, keep-value, tests-origin, tests-as_path, tests-next_hop, tests-med, tests-local_pref, tests-aggregator, tests-communities, tests-mp_reach, tests-mp_unreach, tests-as4_path, tests-as4_aggregator, tests-large, value-origin, value-as_path, value-next_hop, value-med, value-local_pref, value-atomic, value-aggregator, value-communities, value-mp_reach, value-mp_unreach, value-as4_path, value-as4_aggregator, value-large, value-other}
+
+-- ---- what each value needs, but for its length field
+
+-- the attribute's value can be written, in no more octets than it had
+record Rewritten (ctx : Context) (has_nlri : Bool) (t : TlvValue) (a : Attr) : Type 0 where
+  narrow : is_too_wide ctx a ≡ false
+  allowed : (ctx.as4 && is_as4 a) ≡ false
+  some : is_empty a ≡ false
+  named : is_misnamed a ≡ false
+  nonzero : has_as_zero a ≡ false
+  once : stands_twice a ≡ false
+  in_place : Belongs ctx has_nlri a
+  ranges : HasRanges a
+  shorter : length (value_octets ctx a) ≤ length t.value
+
+narrow_where : (b x : Bool) → (b ≡ false → x ≡ false) → (not b && x) ≡ false
+narrow_where true x h = refl
+narrow_where false x h = h refl
+
+number_narrow : (wide : Bool) (n : ℕ) → Fits wide n → (not wide && ltb 65535 n) ≡ false
+number_narrow true n small = refl
+number_narrow false n small = le-ltb 65535 n (omega arith)
+
+module _ (ctx : Context) (has_nlri : Bool) (t : TlvValue) (octets : AreOctets t.value) where
+  none_as4 : (ctx.as4 && false) ≡ false
+  none_as4 = and_right ctx.as4 false refl
+
+  origin-rewritten : NoneApplies (origin_tests t) → Rewritten ctx has_nlri t (attr.Origin (origin_of t.value))
+  origin-rewritten none =
+      let long : length t.value ≡ 1 = eqb-true (length t.value) 1 (not-false _ (passed _ _ none.1.0)) in
+      record { narrow = refl; allowed = none_as4; some = refl; named = refl; nonzero = refl; once = refl; in_place = tt; ranges = tt; shorter = omega arith }
+
+  as_path-rewritten : NoneApplies (as_path_tests ctx t) → Rewritten ctx has_nlri t (attr.AsPath (path_of (as_path_form ctx) t.value))
+  as_path-rewritten none =
+      let r = path-rewrites (as_path_form ctx) t.value octets (passed_fault (λ fault. Withdraw fault) _ none.1.0) (passed _ _ none.1.1.0) in
+      record { narrow = narrow_where ctx.as4 _ r.low; allowed = none_as4; some = r.good; named = refl; nonzero = r.nonzero; once = refl; in_place = tt; ranges = r.ranges; shorter = r.shorter }
+
+  next_hop-rewritten : NoneApplies (next_hop_tests has_nlri t) → Rewritten ctx has_nlri t (attr.NextHop t.value)
+  next_hop-rewritten none = record {
+    narrow = refl;
+    allowed = none_as4;
+    some = refl;
+    named = refl;
+    nonzero = refl;
+    once = refl;
+    in_place = not-false _ (passed _ _ none.0);
+    ranges = record { wide = eqb-true (length t.value) 4 (not-false _ (passed _ _ none.1.1.0)); octets = octets };
+    shorter = omega arith;
+  }
+
+  med-rewritten : NoneApplies (med_tests t) → Rewritten ctx has_nlri t (attr.Med (four_of t.value))
+  med-rewritten none =
+      let long : length t.value ≡ 4 = eqb-true (length t.value) 4 (not-false _ (passed _ _ none.1.0)) in
+      record { narrow = refl; allowed = none_as4; some = refl; named = refl; nonzero = refl; once = refl; in_place = tt; ranges = number_in-small true t.value octets; shorter = omega arith }
+
+  local_pref-rewritten : NoneApplies (local_pref_tests ctx t) → Rewritten ctx has_nlri t (attr.LocalPref (four_of t.value))
+  local_pref-rewritten none =
+      let long : length t.value ≡ 4 = eqb-true (length t.value) 4 (not-false _ (passed _ _ none.1.1.0)) in
+      record {
+        narrow = refl;
+        allowed = none_as4;
+        some = refl;
+        named = refl;
+        nonzero = refl;
+        once = refl;
+        in_place = not-false _ (passed _ _ none.0);
+        ranges = number_in-small true t.value octets;
+        shorter = omega arith;
+      }
+
+  atomic-rewritten : Rewritten ctx has_nlri t attr.Atomic
+  atomic-rewritten = record { narrow = refl; allowed = none_as4; some = refl; named = refl; nonzero = refl; once = refl; in_place = tt; ranges = tt; shorter = omega arith }
+
+  -- the AS number and the address of an aggregator
+  module _ (wide : Bool) (none : NoneApplies (aggregator_tests wide t)) where
+    abbrev asn : ℕ
+    asn = number_in wide (take (number_width wide) t.value)
+
+    asn_fits : Fits wide asn
+    asn_fits = number_in-small wide (take (number_width wide) t.value) (AreOctets-take (number_width wide) t.value octets)
+
+    asn_nonzero : eqb asn 0 ≡ false
+    asn_nonzero = passed _ _ none.1.1.0
+
+    long_is : length t.value ≡ number_width wide + 4
+    long_is = eqb-true (length t.value) (number_width wide + 4) (not-false _ (passed _ _ none.1.0))
+
+    address : IsAddress 4 (drop (number_width wide) t.value)
+    address = record { wide = omega (arith, length-drop (number_width wide) t.value, long_is); octets = AreOctets-drop (number_width wide) t.value octets }
+
+    as_short : length (aggregator_octets wide (aggregator_of wide t)) ≤ length t.value
+    as_short =
+        omega (arith, length-append (number_octets wide asn) (drop (number_width wide) t.value), length-number_octets wide asn, length-drop (number_width wide) t.value, long_is)
+
+  aggregator-rewritten : NoneApplies (aggregator_tests ctx.as4 t) → Rewritten ctx has_nlri t (attr.Aggregator (aggregator_of ctx.as4 t))
+  aggregator-rewritten none = record {
+    narrow = number_narrow ctx.as4 (asn ctx.as4 none) (asn_fits ctx.as4 none);
+    allowed = none_as4;
+    some = refl;
+    named = refl;
+    nonzero = asn_nonzero ctx.as4 none;
+    once = refl;
+    in_place = tt;
+    ranges = (Fits-four ctx.as4 (asn ctx.as4 none) (asn_fits ctx.as4 none), address ctx.as4 none);
+    shorter = as_short ctx.as4 none;
+  }
+
+  as4_aggregator-rewritten : NoneApplies (as4_aggregator_tests ctx t) → Rewritten ctx has_nlri t (attr.As4Aggregator (aggregator_of true t))
+  as4_aggregator-rewritten none = record {
+    narrow = refl;
+    allowed = and_left ctx.as4 true (passed _ _ none.0);
+    some = refl;
+    named = refl;
+    nonzero = asn_nonzero true none.1;
+    once = refl;
+    in_place = tt;
+    ranges = (asn_fits true none.1, address true none.1);
+    shorter = as_short true none.1;
+  }
+
+  communities-rewritten : t.kind ≡ COMMUNITIES → NoneApplies (communities_tests t) → Rewritten ctx has_nlri t (attr.Communities (communities_of t))
+  communities-rewritten e none =
+      let s = communities-spells ctx t e none in
+      let some : 0 < length (numbers_of true t.value) = s.some in
+      record {
+        narrow = refl;
+        allowed = none_as4;
+        some = ne_eqb (length (numbers_of true t.value)) 0 (λ (e : length (numbers_of true t.value) ≡ 0). absurd (omega arith));
+        named = refl;
+        nonzero = refl;
+        once = refl;
+        in_place = tt;
+        ranges = number_row-small true (numbers_of true t.value) t.value octets s.row;
+        shorter = omega (arith, length-row_octets true (numbers_of true t.value), length-number_row true (numbers_of true t.value) t.value s.row);
+      }
+
+  large-rewritten : t.kind ≡ LARGE_COMMUNITY → NoneApplies (large_tests t) → Rewritten ctx has_nlri t (attr.Large (large_of t))
+  large-rewritten e none =
+      let s = large-spells ctx t e none in
+      let small = triple_row-small s.triples t.value octets s.row in
+      let some : 0 < length (each_once (triples_of t.value)) = subst (λ (xs : List (List ℕ)). 0 < length xs) (sym s.values) (each_once-some s.triples s.some) in
+      record {
+        narrow = refl;
+        allowed = none_as4;
+        some = ne_eqb (length (each_once (triples_of t.value))) 0 (λ (e : length (each_once (triples_of t.value)) ≡ 0). absurd (omega arith));
+        named = refl;
+        nonzero = refl;
+        once = each_once-repeats (triples_of t.value);
+        in_place = tt;
+        ranges = subst (λ (xs : List (List ℕ)). AllByRecursion IsThreeNumbers xs) (sym s.values) (each_once-all IsThreeNumbers s.triples small);
+        shorter = omega (arith, ap (λ (xs : List (List ℕ)). length (flat_map triple_octets xs)) s.values, length-triples (each_once s.triples) (each_once-all IsThreeNumbers s.triples small), each_once-shorter s.triples, length-triple_row s.triples t.value s.row);
+      }
+
+  as4_path-rewritten : NoneApplies (as4_path_tests ctx t) → Rewritten ctx has_nlri t (attr.As4Path (as4_path_of t))
+  as4_path-rewritten none =
+      let r = path-rewrites as4_path_form t.value octets (passed_fault (λ fault. Discard fault) _ none.1.1.1.0) (passed _ _ none.1.1.1.1.0) in
+      record {
+        narrow = refl;
+        allowed = and_left ctx.as4 true (passed _ _ none.0);
+        some = or_from _ _ (passed _ _ none.1.1.1.1.1.0) r.good;
+        named = refl;
+        nonzero = r.nonzero;
+        once = refl;
+        in_place = tt;
+        ranges = r.ranges;
+        shorter = r.shorter;
+      }
+
+  other-rewritten : is_recognised t.kind ≡ false → t.kind < 256 → Rewritten ctx has_nlri t (attr.Opaque (opaque_of t))
+  other-rewritten e small =
+      record { narrow = refl; allowed = none_as4; some = refl; named = e; nonzero = refl; once = refl; in_place = tt; ranges = (small, octets); shorter = omega arith }
+
+  -- ---- routes
+
+  link_range : (hop : List ℕ) (link : Option (List ℕ)) → HasLink link → AreOctets (hop ++ link_octets link) → HasLinkRange link
+  link_range hop None has both = tt
+  link_range hop (Some addr) has both = record { wide = has.wide; octets = AreOctets-back hop addr both }
+
+  reach-rewrites : (r : MpReach) → IsReachValue r t.value → is_in_use ctx (family_of t.value) ≡ true → Rewritten ctx has_nlri t (attr.MpReach r)
+  reach-rewrites (reach.Ip4 hop routes) s used = record {
+    narrow = refl;
+    allowed = none_as4;
+    some = refl;
+    named = refl;
+    nonzero = refl;
+    once = refl;
+    in_place = ap (is_in_use ctx) (sym (reach-family family.Ip4 4 hop routes t.value s.1)) ∙ used;
+    ranges = (record { wide = s.0; octets = reach-hop_octets family.Ip4 4 hop routes t.value octets s.1 }, reach-valid family.Ip4 4 hop routes t.value octets s.1);
+    shorter = omega (arith, reach-rewritten family.Ip4 4 hop routes t.value octets s.1);
+  }
+  reach-rewrites (reach.Ip6 hop link routes) s used =
+      let both : AreOctets (hop ++ link_octets link) = reach-hop_octets family.Ip6 16 (hop ++ link_octets link) routes t.value octets s.2 in
+      record {
+        narrow = refl;
+        allowed = none_as4;
+        some = refl;
+        named = refl;
+        nonzero = refl;
+        once = refl;
+        in_place = ap (is_in_use ctx) (sym (reach-family family.Ip6 16 (hop ++ link_octets link) routes t.value s.2)) ∙ used;
+        ranges = (record { wide = s.0; octets = AreOctets-front hop (link_octets link) both }, link_range hop link s.1 both, reach-valid family.Ip6 16 (hop ++ link_octets link) routes t.value octets s.2);
+        shorter = omega (arith, reach-rewritten family.Ip6 16 (hop ++ link_octets link) routes t.value octets s.2);
+      }
+
+  unreach-rewrites : (r : MpUnreach) → IsUnreachValue r t.value → is_in_use ctx (family_of t.value) ≡ true → Rewritten ctx has_nlri t (attr.MpUnreach r)
+  unreach-rewrites (unreach.Ip4 routes) s used = record {
+    narrow = refl;
+    allowed = none_as4;
+    some = refl;
+    named = refl;
+    nonzero = refl;
+    once = refl;
+    in_place = ap (is_in_use ctx) (sym (unreach-family family.Ip4 4 routes t.value s)) ∙ used;
+    ranges = unreach-valid family.Ip4 4 routes t.value octets s;
+    shorter = omega (arith, unreach-rewritten family.Ip4 4 routes t.value octets s);
+  }
+  unreach-rewrites (unreach.Ip6 routes) s used = record {
+    narrow = refl;
+    allowed = none_as4;
+    some = refl;
+    named = refl;
+    nonzero = refl;
+    once = refl;
+    in_place = ap (is_in_use ctx) (sym (unreach-family family.Ip6 16 routes t.value s)) ∙ used;
+    ranges = unreach-valid family.Ip6 16 routes t.value octets s;
+    shorter = omega (arith, unreach-rewritten family.Ip6 16 routes t.value octets s);
+  }
+
+  mp_reach-rewritten : t.kind ≡ MP_REACH_NLRI → NoneApplies (mp_reach_tests ctx t) → Rewritten ctx has_nlri t (attr.MpReach (mp_reach_of t.value))
+  mp_reach-rewritten e none = reach-rewrites (mp_reach_of t.value) (mp_reach-spells ctx t octets e none).value (not-false _ (passed _ _ none.1.1.0))
+
+  mp_unreach-rewritten : t.kind ≡ MP_UNREACH_NLRI → NoneApplies (mp_unreach_tests ctx t) → Rewritten ctx has_nlri t (attr.MpUnreach (mp_unreach_of t.value))
+  mp_unreach-rewritten e none = unreach-rewrites (mp_unreach_of t.value) (mp_unreach-spells ctx t octets e none).value (not-false _ (passed _ _ none.1.1.0))
+
+  -- ---- every type
+
+  module _ (a : Attr) (keeps : judgement ctx has_nlri t ≡ judged.Keep a) (small : t.kind < 256) where
+    is_value : (x : Attr) → value_of ctx t ≡ x → Rewritten ctx has_nlri t x → Rewritten ctx has_nlri t a
+    is_value x e r = subst (λ (y : Attr). Rewritten ctx has_nlri t y) (sym e ∙ keep-value ctx has_nlri t a keeps) r
+
+    rewritten-by : TypeCase t.kind → Rewritten ctx has_nlri t a
+    rewritten-by (OfOrigin e) = is_value _ (value-origin ctx t e) (origin-rewritten (keep-judgement ctx has_nlri t _ a (tests-origin ctx has_nlri t e) keeps))
+    rewritten-by (OfAsPath e) = is_value _ (value-as_path ctx t e) (as_path-rewritten (keep-judgement ctx has_nlri t _ a (tests-as_path ctx has_nlri t e) keeps))
+    rewritten-by (OfNextHop e) = is_value _ (value-next_hop ctx t e) (next_hop-rewritten (keep-judgement ctx has_nlri t _ a (tests-next_hop ctx has_nlri t e) keeps))
+    rewritten-by (OfMed e) = is_value _ (value-med ctx t e) (med-rewritten (keep-judgement ctx has_nlri t _ a (tests-med ctx has_nlri t e) keeps))
+    rewritten-by (OfLocalPref e) = is_value _ (value-local_pref ctx t e) (local_pref-rewritten (keep-judgement ctx has_nlri t _ a (tests-local_pref ctx has_nlri t e) keeps))
+    rewritten-by (OfAtomic e) = is_value _ (value-atomic ctx t e) atomic-rewritten
+    rewritten-by (OfAggregator e) = is_value _ (value-aggregator ctx t e) (aggregator-rewritten (keep-judgement ctx has_nlri t _ a (tests-aggregator ctx has_nlri t e) keeps))
+    rewritten-by (OfCommunities e) = is_value _ (value-communities ctx t e) (communities-rewritten e (keep-judgement ctx has_nlri t _ a (tests-communities ctx has_nlri t e) keeps))
+    rewritten-by (OfMpReach e) = is_value _ (value-mp_reach ctx t e) (mp_reach-rewritten e (keep-judgement ctx has_nlri t _ a (tests-mp_reach ctx has_nlri t e) keeps))
+    rewritten-by (OfMpUnreach e) = is_value _ (value-mp_unreach ctx t e) (mp_unreach-rewritten e (keep-judgement ctx has_nlri t _ a (tests-mp_unreach ctx has_nlri t e) keeps))
+    rewritten-by (OfAs4Path e) = is_value _ (value-as4_path ctx t e) (as4_path-rewritten (keep-judgement ctx has_nlri t _ a (tests-as4_path ctx has_nlri t e) keeps))
+    rewritten-by (OfAs4Aggregator e) = is_value _ (value-as4_aggregator ctx t e) (as4_aggregator-rewritten (keep-judgement ctx has_nlri t _ a (tests-as4_aggregator ctx has_nlri t e) keeps))
+    rewritten-by (OfLarge e) = is_value _ (value-large ctx t e) (large-rewritten e (keep-judgement ctx has_nlri t _ a (tests-large ctx has_nlri t e) keeps))
+    rewritten-by (OfOther e) = is_value _ (value-other ctx t e) (other-rewritten e small)
+
+-- ---- the length field
+
+-- what a length field of octets holds
+record Holds (size : List ℕ) : Type 0 where
+  some : 1 ≤ length size
+  few : length size ≡ 1 → number_of_length size < 256
+  low : number_of_length size < 2 ^ 16
+
+two-holds : (x y : ℕ) → AreOctets (x ∷ y ∷ []) → from_be_bytes w16 (x ∷ y ∷ []) < 2 ^ 16
+two-holds x y octets = number_in-small false (x ∷ y ∷ []) octets
+
+size-holds : (size : List ℕ) (extended : Bool) → AreOctets size → length size ≡ cond extended 2 1 → Holds size
+size-holds [] true octets wide = absurd (omega arith)
+size-holds [] false octets wide = absurd (omega arith)
+size-holds (x ∷ []) extended octets wide = let small : x < 256 = octets 0 in record { some = omega arith; few = λ e. small; low = omega arith }
+size-holds (x ∷ y ∷ []) extended octets wide = record { some = omega arith; few = λ (e : length (x ∷ y ∷ []) ≡ 1). absurd (omega arith); low = two-holds x y octets }
+size-holds (x ∷ y ∷ z ∷ size) true octets wide = absurd (omega arith)
+size-holds (x ∷ y ∷ z ∷ size) false octets wide = absurd (omega arith)
+
+-- a value of n octets behind its length field has no fewer octets than one of at most n behind the shortest
+field-shorter : (size : List ℕ) (n m : ℕ) (long : Bool) → Holds size → n ≡ number_of_length size → m ≤ n → ltb 255 m ≡ long → length (cond long (to_be_bytes w16 m) (m ∷ [])) + m ≤ length size + n
+field-shorter size n m false h is le e = omega (arith, h.some)
+field-shorter size n m true h is le e =
+    let big : 255 < m = ltb-true 255 m e in
+    let two : length size ≡ 1 → ⊥ = λ one. (let few : number_of_length size < 256 = h.few one in omega arith) in
+    omega (arith, h.some, two)
+
+length-made : (class : Class) (partial : Bool) (kind : ℕ) (value : List ℕ)
+    → length (made class partial kind value).whole ≡ suc (suc (length (cond (ltb 255 (length value)) (to_be_bytes w16 (length value)) (length value ∷ [])) + length value))
+length-made class partial kind value =
+    let extended : is_extended (flags_octet class partial (ltb 255 (length value))) ≡ ltb 255 (length value) = is_extended-flags class partial (ltb 255 (length value)) in
+    ap (λ (b : Bool). suc (suc (length (cond b (to_be_bytes w16 (length value)) (length value ∷ []) ++ value)))) extended
+    ∙ ap (λ (n : ℕ). suc (suc n)) (length-append (cond (ltb 255 (length value)) (to_be_bytes w16 (length value)) (length value ∷ [])) value)
+
+pub kept-rewritten : (ctx : Context) (has_nlri : Bool) (t : TlvValue) (a : Attr) (b : List ℕ) → IsTlv t b → AreOctets b → judgement ctx has_nlri t ≡ judged.Keep a → CanBeWritten ctx has_nlri a b
+kept-rewritten ctx has_nlri t a b s octets keeps =
+    let all : AreOctets (t.flags ∷ t.kind ∷ (s.size ++ t.value)) = subst AreOctets s.octets octets in
+    let behind : AreOctets (s.size ++ t.value) = λ i. all (suc (suc i)) in
+    let kind : t.kind < 256 = all 1 in
+    let r = rewritten-by ctx has_nlri t (AreOctets-back s.size t.value behind) a keeps kind (type_case t.kind) in
+    let h = size-holds s.size (is_extended t.flags) (AreOctets-front s.size t.value behind) s.wide in
+    let low : number_of_length s.size < 2 ^ 16 = h.low in
+    let shorter : length (value_octets ctx a) ≤ length t.value = r.shorter in
+    let field = field-shorter s.size (length t.value) (length (value_octets ctx a)) (ltb 255 (length (value_octets ctx a))) h s.counted shorter refl in
+    let fits : is_too_long ctx a ≡ false = le-ltb 65535 (length (value_octets ctx a)) (omega (arith, s.counted)) in
+    record {
+      writable = Writes-writable ctx a (record { narrow = r.narrow; allowed = r.allowed; some = r.some; named = r.named; nonzero = r.nonzero; once = r.once; fits = fits });
+      in_place = r.in_place;
+      ranges = r.ranges;
+      no_longer = omega (arith, length-made (class_of a) (partial_of a) (type_of a) (value_octets ctx a), field, ap length s.octets, length-append s.size t.value);
+    }

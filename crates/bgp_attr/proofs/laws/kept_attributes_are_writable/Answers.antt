@@ -1,0 +1,5 @@
+use Rattle.bgp_attr.proofs.Rewriting.{kept-rewritten}
+use Rattle.bgp_attr.proofs.laws.kept_attributes_are_writable.Goals as goal
+
+pub returns : goal.returns
+returns c = kept-rewritten
