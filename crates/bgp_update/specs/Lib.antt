@@ -1,0 +1,9 @@
+-- UPDATE: its parts, the verdict on it, and how it is written.
+pub mod Parts
+pub mod Marks
+pub mod Taken
+pub mod Notes
+pub mod Verdict
+pub mod Slots
+pub mod Written
+pub mod As4
