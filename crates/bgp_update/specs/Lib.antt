@@ -7,3 +7,7 @@ pub mod Verdict
 pub mod Slots
 pub mod Written
 pub mod As4
+pub mod Body
+pub mod Seen
+pub mod Small
+pub mod MarkIter

@@ -3,11 +3,15 @@
 #![tactic(auto)]
 
 mod attrs;
+mod body;
 mod invalid;
+mod malformed;
+mod mark;
 mod missing;
 mod note;
 mod path_info;
 mod routes;
+mod seen;
 mod update;
 mod verdict;
 
