@@ -1,1 +1,2 @@
 pub mod SmallLemmas
+pub mod Summaries

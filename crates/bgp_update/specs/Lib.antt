@@ -11,3 +11,4 @@ pub mod Body
 pub mod Seen
 pub mod Small
 pub mod MarkIter
+pub mod Summary

@@ -49,17 +49,20 @@ has_routes r = nat_lt 0 (length (reached_ip4 r)) || nat_lt 0 (length (reached_ip
 abbrev pub is_reachable : Parts → List Mark → Bool
 is_reachable p marks = has_nlri p || has_routes (first_in as_mp_reach (kept_of marks))
 
--- an attribute of this type stands in the field, whatever it comes to
-abbrev pub has_type : ℕ → Parts → Bool
-has_type kind p = list_any (λ q. q.tlv.kind == kind) (placed_tlvs p.attributes)
+-- whether an attribute of a type stands in a field, whatever it comes to
+abbrev pub types_of_field : List ℕ → ℕ → Bool
+types_of_field field = λ kind. list_any (λ q. q.tlv.kind == kind) (placed_tlvs field)
 
 -- which of ORIGIN, AS_PATH and NEXT_HOP a message that announces routes hasn't: NEXT_HOP is for NLRI alone
-abbrev pub missing_of : Parts → List Mark → Missing
-missing_of p marks = record {
-  origin = is_reachable p marks && not (has_type ORIGIN p);
-  as_path = is_reachable p marks && not (has_type AS_PATH p);
-  next_hop = has_nlri p && not (has_type NEXT_HOP p);
+abbrev pub missing_in : Bool → Bool → List ℕ → Missing
+missing_in reaches nlri field = record {
+  origin = reaches && not (types_of_field field ORIGIN);
+  as_path = reaches && not (types_of_field field AS_PATH);
+  next_hop = nlri && not (types_of_field field NEXT_HOP);
 }
+
+abbrev pub missing_of : Parts → List Mark → Missing
+missing_of p marks = missing_in (is_reachable p marks) (has_nlri p) p.attributes
 
 abbrev pub is_missing : Missing → Bool
 is_missing m = m.origin || (m.as_path || m.next_hop)

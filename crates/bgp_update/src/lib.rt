@@ -12,6 +12,7 @@ mod note;
 mod path_info;
 mod routes;
 mod seen;
+mod summary;
 mod update;
 mod verdict;
 
