@@ -1,2 +1,4 @@
 pub mod SmallLemmas
 pub mod Summaries
+pub mod Runs
+pub mod PartLengths

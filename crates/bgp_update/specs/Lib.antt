@@ -12,3 +12,4 @@ pub mod Seen
 pub mod Small
 pub mod MarkIter
 pub mod Summary
+pub mod View

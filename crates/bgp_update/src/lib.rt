@@ -5,6 +5,7 @@
 mod attrs;
 mod body;
 mod invalid;
+mod judge_body;
 mod malformed;
 mod mark;
 mod missing;
@@ -15,6 +16,7 @@ mod seen;
 mod summary;
 mod update;
 mod verdict;
+mod view;
 
 pub use attrs::Attrs;
 pub use invalid::Invalid;
@@ -22,4 +24,6 @@ pub use note::Note;
 pub use path_info::PathInfo;
 pub use routes::Routes;
 pub use update::Update;
+pub use judge_body::view_update;
 pub use verdict::Verdict;
+pub use view::{UpdateView, View};
