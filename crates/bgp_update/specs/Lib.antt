@@ -13,3 +13,5 @@ pub mod Small
 pub mod MarkIter
 pub mod Summary
 pub mod View
+pub mod Iters
+pub mod Gather

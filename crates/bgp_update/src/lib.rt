@@ -2,14 +2,17 @@
 //! (RFC 4271, sections 4.3, 5 and 6.3; RFC 6793).
 #![tactic(auto)]
 
+mod attr_iter;
 mod attrs;
 mod body;
+mod gather;
 mod invalid;
 mod judge_body;
 mod malformed;
 mod mark;
 mod missing;
 mod note;
+mod note_iter;
 mod path_info;
 mod routes;
 mod seen;
@@ -18,9 +21,11 @@ mod update;
 mod verdict;
 mod view;
 
+pub use attr_iter::AttrIter;
 pub use attrs::Attrs;
 pub use invalid::Invalid;
 pub use note::Note;
+pub use note_iter::NoteIter;
 pub use path_info::PathInfo;
 pub use routes::Routes;
 pub use update::Update;
