@@ -7,7 +7,7 @@ use Rattle.bgp_attr.specs.declared.attr.Attr.TheVariants as attr
 use Rattle.bgp_update.specs.declared.attrs.Attrs.{Attrs}
 use Rattle.bgp_update.specs.Taken.{first_in, as_origin, as_as_path, as_next_hop, as_med, as_local_pref, is_atomic, as_aggregator, as_communities, as_mp_reach, as_mp_unreach, as_as4_path, as_as4_aggregator, as_large, as_opaque, put_rising, rising_behind}
 use Rattle.bgp_update.specs.Gather.{put, attrs_behind}
-use Rattle.bgp_update.proofs.Summaries.{option_or-assoc}
+use Rattle.bgp_update.proofs.Summaries.{option_or-assoc, option_or-none}
 
 or_true : (t : Bool) (u : Bool) → (t || (true || u)) ≡ true
 or_true true u = refl
@@ -32,3 +32,28 @@ put_then a (attr.Opaque o) xs = refl
 
 pub gather_step : (a now all : Attrs) (x : Attr) (left later : List Attr) → now ≡ put a x → left ≡ x ∷ later → attrs_behind a left ≡ all → attrs_behind now later ≡ all
 gather_step a now all x left later e f whole = ap (λ (b : Attrs). attrs_behind b later) e ∙ put_then a x later ∙ ap (attrs_behind a) (sym f) ∙ whole
+
+or_false : (t : Bool) → (t || false) ≡ t
+or_false true = refl
+or_false false = refl
+
+none_behind : (a : Attrs) → attrs_behind a [] ≡ a
+none_behind a = λ i. record {
+  origin = option_or-none a.origin i;
+  as_path = option_or-none a.as_path i;
+  next_hop = option_or-none a.next_hop i;
+  med = option_or-none a.med i;
+  local_pref = option_or-none a.local_pref i;
+  atomic = or_false a.atomic i;
+  aggregator = option_or-none a.aggregator i;
+  communities = option_or-none a.communities i;
+  mp_reach = option_or-none a.mp_reach i;
+  mp_unreach = option_or-none a.mp_unreach i;
+  as4_path = option_or-none a.as4_path i;
+  as4_aggregator = option_or-none a.as4_aggregator i;
+  large = option_or-none a.large i;
+  others = a.others;
+}
+
+pub gather_all : (a all : Attrs) (left : List Attr) → left ≡ [] → attrs_behind a left ≡ all → a ≡ all
+gather_all a all left none whole = sym (none_behind a) ∙ ap (attrs_behind a) (sym none) ∙ whole

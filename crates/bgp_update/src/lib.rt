@@ -2,6 +2,7 @@
 //! (RFC 4271, sections 4.3, 5 and 6.3; RFC 6793).
 #![tactic(auto)]
 
+mod add_routes;
 mod attr_iter;
 mod attrs;
 mod body;
