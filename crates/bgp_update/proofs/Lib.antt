@@ -3,4 +3,4 @@ pub mod Summaries
 pub mod Runs
 pub mod PartLengths
 pub mod Gathering
-pub mod Rising
+pub mod Placing

@@ -68,3 +68,8 @@ of_parts ctx (Some p) = verdict_on p (marks_of ctx p)
 -- the verdict on a body in a context
 abbrev pub verdict_of : Context → List ℕ → Verdict
 verdict_of ctx body = of_parts ctx (parts_of body)
+
+-- a verdict that takes memory: it is no reset
+abbrev pub has_value : Verdict → Bool
+has_value (verdict.Reset n) = false
+has_value _ = true

@@ -51,7 +51,7 @@ fn place_of(kind: u8, others: &[Opaque]) -> usize
 }
 
 /// Adds an attribute of an unrecognised type, in its place by type.
-#[tactic(auto, using(crate::proofs::Rising::inserted))]
+#[tactic(auto, using(crate::proofs::Placing::inserted))]
 fn insert_rising(others: &mut List<Opaque>, opaque: Opaque) -> Result<(), AllocError>
     ensures { OnOk result (others.new ≡ put_rising opaque others.old) }
 {

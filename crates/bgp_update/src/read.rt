@@ -1,0 +1,69 @@
+//! Reading an UPDATE.
+
+ghost use Rattle.std.specs.Prelude.{◌≡◌, ◌≤◌, length, IfOk, OnErr, IsTrue};
+ghost use Rattle.bgp_update.specs.declared.verdict.Verdict.TheVariants as verdict;
+ghost use Rattle.bgp_update.specs.Verdict.{verdict_of, has_value};
+ghost use Rattle.bgp_update.specs.View.{update_value, routes_value, notes_value, view_value};
+
+use crate::judge_body::view_update;
+use crate::note::Note;
+use crate::verdict::Verdict;
+use crate::view::{UpdateView, View};
+use bgp_open::Context;
+use bgp_wire::List;
+use std::alloc::{AllocError, Global};
+
+/// The notes on a message, with memory of their own.
+fn own_notes(alloc: Global, view: &UpdateView<'_>) -> Result<List<Note>, AllocError>
+    ensures { IfOk result (λ n. n ≡ notes_value view.now) }
+{
+    let notes = view.notes().collect(alloc)?;
+    Ok(List::from_vec(notes))
+}
+
+/// A message that is taken.
+fn own_taken(alloc: Global, view: &UpdateView<'_>) -> Result<Verdict, AllocError>
+    ensures { IfOk result (λ v. v ≡ verdict.Take (update_value view.now) (notes_value view.now)) }
+{
+    let update = view.own(alloc)?;
+    let notes = own_notes(alloc, view)?;
+    Ok(Verdict::Take(update, notes))
+}
+
+/// A message whose routes are withdrawn.
+fn own_withdrawn(alloc: Global, view: &UpdateView<'_>) -> Result<Verdict, AllocError>
+    ensures { IfOk result (λ v. v ≡ verdict.Withdraw (routes_value view.now) (notes_value view.now)) }
+{
+    let routes = view.routes(alloc)?;
+    let notes = own_notes(alloc, view)?;
+    Ok(Verdict::Withdraw(routes, notes))
+}
+
+impl View<'_> {
+    /// The verdict, with memory of its own.
+    ///
+    /// # Errors
+    /// `AllocError` where a growth was refused: a reset takes no memory.
+    pub fn own(&self, alloc: Global) -> Result<Verdict, AllocError>
+        ensures value { IfOk result (λ v. v ≡ view_value self.now) }
+        ensures err { OnErr result (IsTrue (has_value (view_value self.now))) }
+    {
+        match self {
+            View::Take(view) => own_taken(alloc, view),
+            View::Withdraw(view) => own_withdrawn(alloc, view),
+            View::Reset(notification) => Ok(Verdict::Reset(notification.own())),
+        }
+    }
+}
+
+/// What the body of an UPDATE, of at most 4077 octets, comes to in a context (RFC 4271, section 6.3; RFC 7606).
+///
+/// # Errors
+/// `AllocError` where a growth was refused: never where the body is answered by a reset.
+pub fn read_update(alloc: Global, ctx: &Context, body: &[u8]) -> Result<Verdict, AllocError>
+    requires { length body.now ≤ 4077 }
+    ensures value { IfOk result (λ v. v ≡ verdict_of ctx.now body.now) }
+    ensures err { OnErr result (IsTrue (has_value (verdict_of ctx.now body.now))) }
+{
+    view_update(ctx, body).own(alloc)
+}
