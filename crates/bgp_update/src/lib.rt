@@ -4,6 +4,7 @@
 
 mod attrs;
 mod invalid;
+pub mod laws;
 mod missing;
 mod note;
 mod path_info;
