@@ -1,2 +1,4 @@
 pub mod Narrowing
 pub mod Bodies
+pub mod Lists
+pub mod Rising
