@@ -2,3 +2,4 @@ pub mod Narrowing
 pub mod Bodies
 pub mod Lists
 pub mod Rising
+pub mod TypeLemmas
