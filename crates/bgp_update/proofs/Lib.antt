@@ -3,3 +3,4 @@ pub mod Bodies
 pub mod Lists
 pub mod Rising
 pub mod TypeLemmas
+pub mod SlotLemmas
