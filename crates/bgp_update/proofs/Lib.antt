@@ -4,3 +4,5 @@ pub mod Lists
 pub mod Rising
 pub mod TypeLemmas
 pub mod SlotLemmas
+pub mod Validity
+pub mod MarkLemmas
