@@ -1,11 +1,12 @@
 -- A body is its parts in exactly one way.
-use Rattle.std.proofs.Common.{◌≡◌, ℕ, ◌<◌, ◌^◌, Bool, true, false, cond, leb, List, [], ◌∷◌, ◌++◌, length, take, drop, Option, Some, None, refl, sym, ap, subst, ◌∙◌, arith}
+use Rattle.std.proofs.Common.{◌≡◌, ℕ, ◌+◌, ◌<◌, ◌^◌, Bool, true, false, cond, leb, List, [], ◌∷◌, ◌++◌, length, take, drop, Option, Some, None, refl, sym, ap, subst, ◌∙◌, arith}
 use Rattle.std.specs.Int.{w16, byte_at, to_be_bytes, from_be_bytes}
 use Rattle.std.proofs.lemmas.Bool.{leb-true, le-leb}
 use Rattle.std.proofs.lemmas.Nat.{from_be_bytes-to_be_bytes_2, be_bytes_2}
 use Rattle.std.proofs.lemmas.List.{length-append, length-take, take_at, drop_at, take-append-drop}
 use Rattle.bgp_wire.specs.Octets.{AreOctets}
 use Rattle.bgp_wire.proofs.OctetLemmas.{AreOctets-front, AreOctets-back}
+use Rattle.bgp_update.specs.Written.{body_octets}
 use Rattle.bgp_update.specs.Parts.{Parts, IsBody, behind_two, with_attributes, with_withdrawn, parts_of}
 
 -- ---- a row behind its length in two octets
@@ -95,3 +96,8 @@ at_front body p octets (Some (withdrawn, rest)) found e =
 pub parts-body : (body : List ℕ) (p : Parts) → AreOctets body → parts_of body ≡ Some p → IsBody p body
 unfolding parts_of
 parts-body body p octets e = at_front body p octets (behind_two body) refl e
+
+pub length-body : (withdrawn attributes nlri : List ℕ) → length (body_octets withdrawn attributes nlri) ≡ 4 + (length withdrawn + (length attributes + length nlri))
+length-body withdrawn attributes nlri =
+    let size : List ℕ = to_be_bytes w16 (length attributes) in
+    omega (arith, length-append withdrawn (size ++ (attributes ++ nlri)), length-append attributes nlri)

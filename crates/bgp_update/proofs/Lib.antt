@@ -6,3 +6,4 @@ pub mod TypeLemmas
 pub mod SlotLemmas
 pub mod Validity
 pub mod MarkLemmas
+pub mod ReadBack

@@ -79,7 +79,7 @@ module _ (ctx : Context) (has_nlri : Bool) where
   written-keep [] at seen ready fresh = tt
   written-keep (x ∷ xs) at seen ready fresh = (
     cond-false (seen (type_of x)) (repeated (type_of x)) (judgement ctx has_nlri (written_tlv ctx x)) fresh.0
-    ∙ written-kept ctx has_nlri x (ready.0).ranges (ready.0).writable (ready.0).in_place,
+        ∙ written-kept ctx has_nlri x (ready.0).ranges (ready.0).writable (ready.0).in_place,
     written-keep xs (at + length (canonical ctx x)) (also (type_of x) seen) ready.1 fresh.1,
   )
 

@@ -289,8 +289,22 @@ attrs-same : (a : Attrs) (origin : Option Origin) (as_path : Option AsPath) (nex
     (communities : Option Communities) (mp_reach : Option MpReach) (mp_unreach : Option MpUnreach) (as4_path : Option As4Path) (as4_aggregator : Option Aggregator) (large : Option LargeCommunities) (others : List Opaque)
     → origin ≡ a.origin → as_path ≡ a.as_path → next_hop ≡ a.next_hop → med ≡ a.med → local_pref ≡ a.local_pref → atomic ≡ a.atomic → aggregator ≡ a.aggregator → communities ≡ a.communities
     → mp_reach ≡ a.mp_reach → mp_unreach ≡ a.mp_unreach → as4_path ≡ a.as4_path → as4_aggregator ≡ a.as4_aggregator → large ≡ a.large → others ≡ a.others
-    → (let b : Attrs = record { origin = origin; as_path = as_path; next_hop = next_hop; med = med; local_pref = local_pref; atomic = atomic; aggregator = aggregator; communities = communities;
-    mp_reach = mp_reach; mp_unreach = mp_unreach; as4_path = as4_path; as4_aggregator = as4_aggregator; large = large; others = others } in b ≡ a)
+    → (let b : Attrs = record {
+      origin = origin;
+      as_path = as_path;
+      next_hop = next_hop;
+      med = med;
+      local_pref = local_pref;
+      atomic = atomic;
+      aggregator = aggregator;
+      communities = communities;
+      mp_reach = mp_reach;
+      mp_unreach = mp_unreach;
+      as4_path = as4_path;
+      as4_aggregator = as4_aggregator;
+      large = large;
+      others = others;
+    } in b ≡ a)
 attrs-same a origin as_path next_hop med local_pref atomic aggregator communities mp_reach mp_unreach as4_path as4_aggregator large others e1 e2 e3 e4 e5 e6 e7 e8 e9 e10 e11 e12 e13 e14 =
     rw (e1, e2, e3, e4, e5, e6, e7, e8, e9, e10, e11, e12, e13, e14) refl
 

@@ -150,7 +150,6 @@ taken-large (attr.Large l) = Is l refl refl refl
 taken-large (attr.Opaque o) = Other refl (other_kind o.kind LARGE_COMMUNITY refl)
 taken-large _ = Other refl (λ named. refl)
 
-
 -- ---- the first of a type
 
 abbrev pub first_of_type : ℕ → List Attr → List Attr
@@ -213,3 +212,14 @@ module _ {A : Type 0} (as_value : Attr → Option A) (as_attr : A → Attr) (kin
   pub first-among : (slots : ℕ → List Attr) (ks : List ℕ) → ((k : ℕ) → OfType k (slots k)) → first_in as_value (flat_map slots ks) ≡ cond (list_any (λ j. eqb j kind) ks) (first_in as_value (slots kind)) None
   first-among slots [] of_type = refl
   first-among slots (k ∷ ks) of_type = first_in-append (slots k) (flat_map slots ks) ∙ among-by slots k ks (eqb k kind) refl (of_type k) (first-among slots ks of_type)
+
+  -- where none is of its type, a slot takes none
+  without-by : (x : Attr) (later : Option A) → eqb (type_of x) kind ≡ false → later ≡ None → Taken as_value as_attr kind x → option_or (as_value x) later ≡ None
+  without-by x later other rest (Is v is has same) = absurd (eqb-false (type_of x) kind other same)
+  without-by x later other rest (Other none apart) = ap (λ (o : Option A). option_or o later) none ∙ rest
+
+  pub type-none : (xs : List Attr) → list_any (λ x. eqb (type_of x) kind) xs ≡ false → first_in as_value xs ≡ None
+  type-none [] e = refl
+  type-none (x ∷ xs) e =
+      let p = or_parts (eqb (type_of x) kind) (list_any (λ x. eqb (type_of x) kind) xs) e in
+      without-by x (first_in as_value xs) p.0 (type-none xs p.1) (taken x)
