@@ -7,3 +7,5 @@ pub mod SlotLemmas
 pub mod Validity
 pub mod MarkLemmas
 pub mod ReadBack
+pub mod KeptSlots
+pub mod TakenLength
