@@ -9,3 +9,4 @@ pub mod MarkLemmas
 pub mod ReadBack
 pub mod KeptSlots
 pub mod TakenLength
+pub mod KeptMarks
