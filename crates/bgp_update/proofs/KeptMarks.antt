@@ -1,9 +1,9 @@
 -- What marks keep of a field: attributes that can be written, no type twice, in no more octets; and those that a message has to have.
-use Rattle.std.proofs.Common.{◌≡◌, ℕ, ◌+◌, ◌<◌, ◌≤◌, Bool, true, false, not, ◌||◌, cond, eqb, List, [], ◌∷◌, ◌++◌, length, map, Option, Some, None, refl, sym, ap, ap₂, subst, ◌∙◌, arith}
+use Rattle.std.proofs.Common.{◌≡◌, ℕ, ◌+◌, ◌≤◌, Bool, true, false, not, ◌||◌, cond, eqb, List, [], ◌∷◌, ◌++◌, length, map, Option, Some, None, refl, sym, ap, subst, ◌∙◌, arith}
 use Rattle.std.specs.Prelude.{option_map}
 use Rattle.std.specs.List.{flat_map, list_any, AllByRecursion}
 use Rattle.std.specs.Option.{option_or}
-use Rattle.std.proofs.lemmas.Bool.{true≢false, false≢true, both_ways, eqb-true, eq-eqb, or_parts, or_from, or_left, or_right}
+use Rattle.std.proofs.lemmas.Bool.{true≢false, false≢true, eqb-true, eq-eqb, or_parts, or_from, or_left, or_right}
 use Rattle.std.proofs.lemmas.List.{append-nil, length-append}
 use Rattle.std.proofs.lemmas.List.Concat.{flat_map-append}
 use Rattle.std.proofs.lemmas.List.Folds.{list_any-append}
@@ -19,13 +19,13 @@ use Rattle.bgp_attr.specs.declared.judged.Judged.TheVariants as judged
 use Rattle.bgp_attr.specs.declared.why.Why.{Why}
 use Rattle.bgp_attr.specs.declared.why.Why.TheVariants as why
 use Rattle.bgp_attr.specs.Refusal.{Refusal, Discard, Withdraw, Reset, when, first_refusal}
-use Rattle.bgp_attr.specs.Tlv.{TlvValue, IsTlv, PlacedTlv, placed_from}
+use Rattle.bgp_attr.specs.Tlv.{TlvValue, IsTlv, placed_from}
 use Rattle.bgp_attr.specs.Value.{value_of}
 use Rattle.bgp_attr.specs.Judgement.{origin_tests, as_path_tests, next_hop_tests, tests_of, unless_refused, judgement}
 use Rattle.bgp_attr.specs.Written.{canonical, type_of}
 use Rattle.bgp_attr.proofs.Tests.{OfOrigin, OfAsPath, OfNextHop, OfMed, OfLocalPref, OfAtomic, OfAggregator, OfCommunities, OfMpReach, OfMpUnreach, OfAs4Path, OfAs4Aggregator, OfLarge, OfOther, type_case, keep-value, tests-origin, tests-as_path, tests-next_hop, value-origin, value-as_path, value-next_hop, value-med, value-local_pref, value-atomic, value-aggregator, value-communities, value-mp_reach, value-mp_unreach, value-as4_path, value-as4_aggregator, value-large, value-other}
 use Rattle.bgp_attr.proofs.Rewriting.{kept-rewritten}
-use Rattle.bgp_update.specs.Marks.{Mark, malformed, carries_routes, repeated, also, marks_behind, cut_kind, cut, cut_mark}
+use Rattle.bgp_update.specs.Marks.{Mark, malformed, carries_routes, repeated, also, marks_behind, cut_mark}
 use Rattle.bgp_update.specs.Taken.{kept_by, kept_of}
 use Rattle.bgp_update.specs.Verdict.{reset_by, first_reset, withdraws}
 use Rattle.bgp_update.proofs.Lists.{eqb-swap}
@@ -110,7 +110,7 @@ pub record GoesOn (j : Judged) : Type 0 where
   pub no_reset : reset_by j ≡ None
   pub no_withdrawal : withdraws j ≡ false
 
-or-parts : (a b : Option Notification) → option_or a b ≡ None → (a ≡ None) × (b ≡ None)
+pub or-parts : (a b : Option Notification) → option_or a b ≡ None → (a ≡ None) × (b ≡ None)
 or-parts None b e = (refl, e)
 or-parts (Some n) b e = absurd cc
 

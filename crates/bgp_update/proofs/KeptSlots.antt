@@ -1,11 +1,8 @@
 -- The slots of what was kept: each has the first attribute of its type.
-use Rattle.std.proofs.Common.{◌≡◌, ℕ, ◌+◌, ◌<◌, ◌≤◌, Bool, true, false, not, ◌||◌, cond, eqb, List, [], ◌∷◌, ◌++◌, length, map, Option, Some, None, refl, sym, ap, ap₂, subst, ◌∙◌, arith}
-use Rattle.std.specs.Prelude.{is_some, is_none}
+use Rattle.std.proofs.Common.{◌≡◌, ℕ, Bool, true, false, not, cond, eqb, List, [], ◌∷◌, ◌++◌, map, Option, Some, None, refl, sym, ap, subst, ◌∙◌}
+use Rattle.std.specs.Prelude.{is_some}
 use Rattle.std.specs.List.{flat_map, list_any, AllByRecursion}
-use Rattle.std.specs.Option.{option_or}
-use Rattle.std.proofs.lemmas.Bool.{false≢true, both_ways, eqb-true, ne_eqb, or_parts, or_from, or_left, cond-false, not_from_true}
-use Rattle.std.proofs.lemmas.List.{length-append}
-use Rattle.std.proofs.lemmas.List.Concat.{flat_map-append}
+use Rattle.std.proofs.lemmas.Bool.{both_ways, ne_eqb, or_parts, or_from, cond-false, not_from_true}
 use Rattle.bgp_attr.specs.declared.aggregator.Aggregator.{Aggregator}
 use Rattle.bgp_attr.specs.declared.attr.Attr.{Attr}
 use Rattle.bgp_attr.specs.declared.attr.Attr.TheVariants as attr
@@ -21,12 +18,12 @@ use Rattle.bgp_numbers.specs.declared.attribute.TheConstants.{ORIGIN, AS_PATH, N
 use Rattle.bgp_attr.specs.Spelling.{is_recognised}
 use Rattle.bgp_attr.specs.Written.{type_of, is_misnamed}
 use Rattle.bgp_update.specs.Marks.{also, none_seen}
-use Rattle.bgp_update.specs.Taken.{first_in, is_atomic, as_opaque, rising_behind, attrs_of, as_origin, as_as_path, as_next_hop, as_med, as_local_pref, as_aggregator, as_communities, as_mp_reach, as_mp_unreach, as_as4_path, as_as4_aggregator, as_large}
+use Rattle.bgp_update.specs.Taken.{first_in, as_opaque, rising_behind, attrs_of, as_origin, as_as_path, as_next_hop, as_med, as_local_pref, as_aggregator, as_communities, as_mp_reach, as_mp_unreach, as_as4_path, as_as4_aggregator, as_large}
 use Rattle.bgp_update.specs.Slots.{present, slot, canonical_order, attr_list}
 use Rattle.bgp_update.specs.Written.{has_bad_others, rise}
-use Rattle.bgp_update.proofs.Lists.{all-none, all-append, flat_map-same, flat_map-none, all-flat_map}
+use Rattle.bgp_update.proofs.Lists.{all-none, all-append, flat_map-same, all-flat_map}
 use Rattle.bgp_update.proofs.Rising.{NoneTwice, kinds, of_kind, rising-find, rising-rises, rising-all, rises-rise}
-use Rattle.bgp_update.proofs.TypeLemmas.{order-fresh, fresh-none, fresh-fewer, as_atomic, atomic_attr, first_of_type, Named, slot-first, taken-origin, taken-as_path, taken-next_hop, taken-med, taken-local_pref, taken-atomic, taken-aggregator, taken-communities, taken-mp_reach, taken-mp_unreach, taken-as4_path, taken-as4_aggregator, taken-large}
+use Rattle.bgp_update.proofs.TypeLemmas.{fresh-fewer, as_atomic, atomic_attr, first_of_type, Named, slot-first, taken-origin, taken-as_path, taken-next_hop, taken-med, taken-local_pref, taken-atomic, taken-aggregator, taken-communities, taken-mp_reach, taken-mp_unreach, taken-as4_path, taken-as4_aggregator, taken-large}
 use Rattle.bgp_update.proofs.SlotLemmas.{by_type, any-atomic, atomic_slot, slot-origin, slot-as_path, slot-next_hop, slot-med, slot-local_pref, slot-atomic, slot-aggregator, slot-communities, slot-mp_reach, slot-mp_unreach, slot-as4_path, slot-as4_aggregator, slot-large, slot-other}
 
 -- ---- the unrecognised ones among attributes

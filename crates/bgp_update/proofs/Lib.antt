@@ -10,3 +10,4 @@ pub mod ReadBack
 pub mod KeptSlots
 pub mod TakenLength
 pub mod KeptMarks
+pub mod Taken

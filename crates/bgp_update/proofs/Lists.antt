@@ -1,8 +1,8 @@
 -- Lists that are joined, searched and tested: what the other lemmas say of attributes, for lists of anything.
-use Rattle.std.proofs.Common.{◌≡◌, ℕ, Bool, true, false, ◌||◌, cond, eqb, List, [], ◌∷◌, ◌++◌, Option, Some, None, inl, inr, refl, sym, ap, ap₂, ◌∙◌, append_assoc}
+use Rattle.std.proofs.Common.{◌≡◌, ℕ, Bool, true, false, cond, eqb, List, [], ◌∷◌, ◌++◌, Option, Some, None, inl, inr, refl, sym, ap, ap₂, ◌∙◌}
 use Rattle.std.specs.List.{flat_map, filter, find, list_any, AllByRecursion}
 use Rattle.std.specs.Option.{option_or}
-use Rattle.std.proofs.lemmas.Bool.{true≢false, ne_eqb, or_parts, or_from}
+use Rattle.std.proofs.lemmas.Bool.{ne_eqb, or_parts, or_from}
 use Rattle.std.proofs.lemmas.Bool.Decides.{eqb_tells}
 
 pub eqb-swap : (a b : ℕ) → eqb a b ≡ eqb b a

@@ -1,16 +1,16 @@
 -- Marks of which each keeps its attribute, and of attributes of which no type stands twice.
-use Rattle.std.proofs.Common.{◌≡◌, ℕ, ◌+◌, ◌-◌, ◌<◌, ◌≤◌, Bool, true, false, cond, eqb, List, [], ◌∷◌, ◌++◌, length, map, Option, Some, None, refl, sym, ap, ap₂, subst, ◌∙◌, arith}
+use Rattle.std.proofs.Common.{◌≡◌, ℕ, ◌+◌, ◌-◌, ◌≤◌, Bool, true, false, eqb, List, [], ◌∷◌, ◌++◌, length, map, None, refl, sym, ap, ap₂, subst, ◌∙◌, arith}
 use Rattle.std.specs.List.{flat_map, list_any, AllByRecursion}
 use Rattle.std.specs.Option.{option_or}
 use Rattle.std.proofs.lemmas.Bool.{cond-false, or_parts, or_from}
-use Rattle.std.proofs.lemmas.List.{append-nil, length-append}
+use Rattle.std.proofs.lemmas.List.{append-nil}
 use Rattle.bgp_wire.specs.Row.{Row}
 use Rattle.bgp_wire.proofs.Behinds.{pieces-whole}
 use Rattle.bgp_open.specs.declared.context.Context.{Context}
 use Rattle.bgp_attr.specs.declared.attr.Attr.{Attr}
 use Rattle.bgp_attr.specs.declared.judged.Judged.{Judged}
 use Rattle.bgp_attr.specs.declared.judged.Judged.TheVariants as judged
-use Rattle.bgp_attr.specs.Tlv.{TlvValue, IsTlv, one_tlv, tlvs_of, PlacedTlv, placed_from}
+use Rattle.bgp_attr.specs.Tlv.{TlvValue, IsTlv, one_tlv, tlvs_of, placed_from}
 use Rattle.bgp_attr.specs.Judgement.{judgement}
 use Rattle.bgp_attr.specs.Written.{written_tlv, canonical, type_of, is_writable, Belongs, HasRanges}
 use Rattle.bgp_attr.proofs.Readers.{IsTlv-reads}

@@ -1,12 +1,11 @@
 -- A valid UPDATE that is written is taken as itself.
-use Rattle.std.proofs.Common.{◌≡◌, ℕ, ◌+◌, ◌<◌, ◌≤◌, ◌^◌, Bool, true, false, not, ◌&&◌, ◌||◌, cond, eqb, ltb, List, [], ◌∷◌, ◌++◌, length, map, Option, Some, None, refl, sym, ap, ap₂, subst, ◌∙◌, arith}
+use Rattle.std.proofs.Common.{◌≡◌, ℕ, ◌+◌, ◌≤◌, Bool, true, false, not, ◌&&◌, ◌||◌, eqb, ltb, List, [], ◌∷◌, ◌++◌, length, map, Option, Some, None, refl, sym, ap, ap₂, subst, ◌∙◌, arith}
 use Rattle.std.specs.Prelude.{is_some, is_none}
-use Rattle.std.specs.Int.{w16, to_be_bytes}
 use Rattle.std.specs.List.{flat_map, list_any, AllByRecursion}
 use Rattle.std.specs.Option.{option_or}
-use Rattle.std.proofs.lemmas.Bool.{true≢false, both_ways, or_parts, or_from, and_from, and_left, and_right, and_cases, cond-false, le-ltb, lt-ltb, not-false, not_from_true}
+use Rattle.std.proofs.lemmas.Bool.{both_ways, or_parts, or_from, and_right, cond-false, le-ltb, lt-ltb, not-false}
 use Rattle.std.proofs.lemmas.List.{length-append}
-use Rattle.bgp_numbers.specs.declared.attribute.TheConstants.{ORIGIN, AS_PATH, NEXT_HOP, MULTI_EXIT_DISC, LOCAL_PREF, ATOMIC_AGGREGATE, AGGREGATOR, COMMUNITIES, MP_REACH_NLRI, MP_UNREACH_NLRI, AS4_PATH, AS4_AGGREGATOR, LARGE_COMMUNITY}
+use Rattle.bgp_numbers.specs.declared.attribute.TheConstants.{ORIGIN, AS_PATH, NEXT_HOP}
 use Rattle.bgp_frame.specs.declared.notification.Notification.{Notification}
 use Rattle.bgp_open.specs.declared.context.Context.{Context}
 use Rattle.bgp_prefix.specs.Prefix.{PrefixValue, IsValid, spelling_of}
@@ -25,28 +24,26 @@ use Rattle.bgp_attr.specs.declared.opaque.Opaque.{Opaque}
 use Rattle.bgp_attr.specs.declared.origin.Origin.{Origin}
 use Rattle.bgp_attr.specs.declared.path.As4Path.{As4Path}
 use Rattle.bgp_attr.specs.declared.path.AsPath.{AsPath}
-use Rattle.bgp_attr.specs.Spelling.{is_recognised}
-use Rattle.bgp_attr.specs.Tlv.{TlvValue, PlacedTlv, tlvs_of, placed_from, length_octets}
-use Rattle.bgp_attr.specs.Written.{written_tlv, canonical, value_octets, run_octets, type_of, is_too_wide, is_as4, is_empty, is_misnamed, has_as_zero, stands_twice, is_too_long, is_writable, Belongs, HasRanges}
-use Rattle.bgp_attr.proofs.Tests.{Writes, Writes-writable}
+use Rattle.bgp_attr.specs.Tlv.{TlvValue, placed_from, length_octets}
+use Rattle.bgp_attr.specs.Written.{written_tlv, canonical, value_octets, run_octets, type_of, is_too_wide, is_as4, is_empty, is_misnamed, has_as_zero, stands_twice, is_too_long, Belongs, HasRanges}
+use Rattle.bgp_attr.proofs.Tests.{Writes-writable}
 use Rattle.bgp_attr.proofs.RouteRows.{Row-prefixes}
 use Rattle.bgp_update.specs.declared.attrs.Attrs.{Attrs}
 use Rattle.bgp_update.specs.declared.note.Note.{Note}
 use Rattle.bgp_update.specs.declared.update.Update.{Update}
-use Rattle.bgp_update.specs.declared.verdict.Verdict.{Verdict}
 use Rattle.bgp_update.specs.declared.verdict.Verdict.TheVariants as verdict
-use Rattle.bgp_update.specs.Parts.{Parts, IsBody, parts_of, attributes_at, has_nlri}
-use Rattle.bgp_update.specs.Marks.{Mark, none_seen, placed_tlvs, marks_of}
-use Rattle.bgp_update.specs.Taken.{kept_of, attrs_of, update_of, first_in, as_mp_reach, as_origin, as_as_path, as_next_hop}
-use Rattle.bgp_update.specs.Notes.{has_routes, is_reachable, has_type, missing_of, is_missing, mark_notes, missing_note, missing_notes, notes_of}
+use Rattle.bgp_update.specs.Parts.{Parts, parts_of, attributes_at, has_nlri}
+use Rattle.bgp_update.specs.Marks.{Mark, none_seen, marks_of}
+use Rattle.bgp_update.specs.Taken.{kept_of, attrs_of, update_of, as_origin, as_as_path, as_next_hop}
+use Rattle.bgp_update.specs.Notes.{has_routes, is_reachable, has_type, missing_of, is_missing, missing_note, missing_notes, notes_of}
 use Rattle.bgp_update.specs.Slots.{present, slot, canonical_order, attr_list}
-use Rattle.bgp_update.specs.Verdict.{first_reset, reset_of_run, reset_of, withdraws, is_withdrawn, unless_reset, without_reset, verdict_on, of_parts, verdict_of}
+use Rattle.bgp_update.specs.Verdict.{reset_of_run, reset_of, is_withdrawn, unless_reset, without_reset, verdict_on, of_parts, verdict_of}
 use Rattle.bgp_update.specs.Written.{attributes_octets, written_body, announces, is_of_other_family, any_attr, invalid_of, HasUpdateRanges}
 use Rattle.bgp_update.specs.Written as written
 use Rattle.bgp_update.proofs.Bodies.{body-parts, length-body}
 use Rattle.bgp_update.proofs.Lists.{none-all, all-more, all-both, all-flat_map}
 use Rattle.bgp_update.proofs.Rising.{NoneTwice, of_kind}
-use Rattle.bgp_update.proofs.TypeLemmas.{order-fresh, Taken, taken-origin, taken-as_path, taken-next_hop, type-none}
+use Rattle.bgp_update.proofs.TypeLemmas.{order-fresh, taken-origin, taken-as_path, taken-next_hop, type-none}
 use Rattle.bgp_update.proofs.SlotLemmas.{by_type, present-all, atomic-all, atomic_slot, slot-other, slot-types, list-named, attrs-back}
 use Rattle.bgp_update.proofs.Validity.{IsAccepted, valid-accepted}
 use Rattle.bgp_update.proofs.MarkLemmas.{KeepsAll, keeps-kept, keeps-no_reset, keeps-no_withdrawal, keeps-no_note, IsReady, AreReady, written-tlvs, field-keep, slots-fresh}

@@ -1,10 +1,9 @@
 -- The slots of attributes: what each holds, those of what was kept, and that they give the attributes back.
-use Rattle.std.proofs.Common.{◌≡◌, ℕ, ◌+◌, ◌<◌, ◌≤◌, Bool, true, false, not, ◌||◌, cond, eqb, List, [], ◌∷◌, ◌++◌, length, map, Option, Some, None, inl, inr, subst, refl, sym, ap, ◌∙◌, arith}
+use Rattle.std.proofs.Common.{◌≡◌, ℕ, ◌+◌, ◌<◌, Bool, true, false, not, ◌||◌, cond, eqb, List, [], ◌∷◌, ◌++◌, Option, Some, None, inl, inr, subst, refl, sym, ap, ◌∙◌}
 use Rattle.std.specs.Prelude.{is_some}
-use Rattle.std.specs.List.{flat_map, filter, find, list_any, AllByRecursion}
+use Rattle.std.specs.List.{flat_map, filter, list_any, AllByRecursion}
 use Rattle.std.specs.Option.{option_or}
-use Rattle.std.proofs.lemmas.Bool.{true≢false, both_ways, eqb-true, eqb-false, ne_eqb, or_parts, or_left, or_right, or_cases, not-false, not_from_true}
-use Rattle.std.proofs.lemmas.List.{length-append}
+use Rattle.std.proofs.lemmas.Bool.{true≢false, both_ways, eqb-true, or_parts, or_cases, not-false}
 use Rattle.std.proofs.lemmas.List.Concat.{flat_map-append}
 use Rattle.bgp_numbers.specs.declared.attribute.TheConstants.{ORIGIN, AS_PATH, NEXT_HOP, MULTI_EXIT_DISC, LOCAL_PREF, ATOMIC_AGGREGATE, AGGREGATOR, COMMUNITIES, MP_REACH_NLRI, MP_UNREACH_NLRI, AS4_PATH, AS4_AGGREGATOR, LARGE_COMMUNITY}
 use Rattle.bgp_attr.specs.declared.aggregator.Aggregator.{Aggregator}
@@ -20,15 +19,15 @@ use Rattle.bgp_attr.specs.declared.path.As4Path.{As4Path}
 use Rattle.bgp_attr.specs.declared.path.AsPath.{AsPath}
 use Rattle.bgp_attr.specs.Spelling.{is_recognised}
 use Rattle.bgp_attr.specs.Written.{type_of, is_misnamed}
-use Rattle.bgp_attr.proofs.Tests.{TypeCase, OfOrigin, OfAsPath, OfNextHop, OfMed, OfLocalPref, OfAtomic, OfAggregator, OfCommunities, OfMpReach, OfMpUnreach, OfAs4Path, OfAs4Aggregator, OfLarge, OfOther, type_case}
+use Rattle.bgp_attr.proofs.Tests.{OfOrigin, OfAsPath, OfNextHop, OfMed, OfLocalPref, OfAtomic, OfAggregator, OfCommunities, OfMpReach, OfMpUnreach, OfAs4Path, OfAs4Aggregator, OfLarge, OfOther, type_case}
 use Rattle.bgp_update.specs.declared.attrs.Attrs.{Attrs}
-use Rattle.bgp_update.specs.Marks.{carries_routes, also, none_seen}
+use Rattle.bgp_update.specs.Marks.{carries_routes}
 use Rattle.bgp_update.specs.Taken.{first_in, is_atomic, as_opaque, rising_behind, attrs_of, as_origin, as_as_path, as_next_hop, as_med, as_local_pref, as_aggregator, as_communities, as_mp_reach, as_mp_unreach, as_as4_path, as_as4_aggregator, as_large}
 use Rattle.bgp_update.specs.Slots.{present, slot, types_from, canonical_order, attr_list}
 use Rattle.bgp_update.specs.Written.{has_bad_others, rise}
-use Rattle.bgp_update.proofs.Lists.{find-passes, find-none, none-all, all-none, all-more, all-append, flat_map-same, flat_map-filter, all-flat_map}
-use Rattle.bgp_update.proofs.Rising.{NoneTwice, kinds, has_kind, of_kind, HasSeen, rising-find, rising-same, rise-rises, types-find, listed}
-use Rattle.bgp_update.proofs.TypeLemmas.{order-fresh, fresh-none, fresh-fewer, in_order, Taken, other_kind, as_atomic, atomic_attr, first_of_type, Named, OfType, slot-first, first-among, taken-origin, taken-as_path, taken-next_hop, taken-med, taken-local_pref, taken-atomic, taken-aggregator, taken-communities, taken-mp_reach, taken-mp_unreach, taken-as4_path, taken-as4_aggregator, taken-large}
+use Rattle.bgp_update.proofs.Lists.{find-passes, find-none, none-all, all-none, all-more, flat_map-same, flat_map-filter, all-flat_map}
+use Rattle.bgp_update.proofs.Rising.{of_kind, rising-same, rise-rises, types-find, listed}
+use Rattle.bgp_update.proofs.TypeLemmas.{in_order, Taken, other_kind, as_atomic, atomic_attr, Named, OfType, first-among, taken-origin, taken-as_path, taken-next_hop, taken-med, taken-local_pref, taken-atomic, taken-aggregator, taken-communities, taken-mp_reach, taken-mp_unreach, taken-as4_path, taken-as4_aggregator, taken-large}
 
 -- ---- what a slot holds
 

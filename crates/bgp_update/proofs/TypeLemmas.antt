@@ -1,8 +1,9 @@
 -- The order of the types has each once, and what an attribute's type says of it.
-use Rattle.std.proofs.Common.{◌≡◌, ℕ, zero, suc, ◌+◌, ◌<◌, ◌≤◌, Bool, true, false, not, ◌||◌, cond, eqb, List, [], ◌∷◌, ◌++◌, map, Option, Some, None, inl, inr, refl, sym, ap, ◌∙◌, arith}
+use Rattle.std.proofs.Common.{◌≡◌, ℕ, zero, suc, ◌+◌, ◌≤◌, Bool, true, false, not, ◌||◌, cond, eqb, List, [], ◌∷◌, ◌++◌, Option, Some, None, refl, sym, ap, ◌∙◌, arith}
 use Rattle.std.specs.List.{flat_map, filter, list_any, AllByRecursion}
+use Rattle.std.specs.Prelude.{is_none}
 use Rattle.std.specs.Option.{option_or}
-use Rattle.std.proofs.lemmas.Bool.{both_ways, eqb-true, eqb-false, eq-eqb, ne_eqb, or_parts, or_from, or_left, or_right, not-true, not_from_true, not_from_false}
+use Rattle.std.proofs.lemmas.Bool.{false≢true, both_ways, eqb-true, eqb-false, eq-eqb, ne_eqb, or_parts, or_from, or_right, not-true}
 use Rattle.bgp_numbers.specs.declared.attribute.TheConstants.{ORIGIN, AS_PATH, NEXT_HOP, MULTI_EXIT_DISC, LOCAL_PREF, ATOMIC_AGGREGATE, AGGREGATOR, COMMUNITIES, MP_REACH_NLRI, MP_UNREACH_NLRI, AS4_PATH, AS4_AGGREGATOR, LARGE_COMMUNITY}
 use Rattle.bgp_attr.specs.declared.aggregator.Aggregator.{Aggregator}
 use Rattle.bgp_attr.specs.declared.attr.Attr.{Attr}
@@ -11,16 +12,14 @@ use Rattle.bgp_attr.specs.declared.communities.Communities.{Communities}
 use Rattle.bgp_attr.specs.declared.communities.LargeCommunities.{LargeCommunities}
 use Rattle.bgp_attr.specs.declared.mp.MpReach.{MpReach}
 use Rattle.bgp_attr.specs.declared.mp.MpUnreach.{MpUnreach}
-use Rattle.bgp_attr.specs.declared.opaque.Opaque.{Opaque}
 use Rattle.bgp_attr.specs.declared.origin.Origin.{Origin}
 use Rattle.bgp_attr.specs.declared.path.As4Path.{As4Path}
 use Rattle.bgp_attr.specs.declared.path.AsPath.{AsPath}
 use Rattle.bgp_attr.specs.Spelling.{is_recognised}
 use Rattle.bgp_attr.specs.Written.{type_of, is_misnamed}
 use Rattle.bgp_update.specs.Marks.{carries_routes, also, none_seen}
-use Rattle.bgp_update.specs.Taken.{first_in, as_origin, as_as_path, as_next_hop, as_med, as_local_pref, is_atomic, as_aggregator, as_communities, as_mp_reach, as_mp_unreach, as_as4_path, as_as4_aggregator, as_large, as_opaque}
+use Rattle.bgp_update.specs.Taken.{first_in, as_origin, as_as_path, as_next_hop, as_med, as_local_pref, as_aggregator, as_communities, as_mp_reach, as_mp_unreach, as_as4_path, as_as4_aggregator, as_large}
 use Rattle.bgp_update.specs.Slots.{present, types_from, canonical_order}
-use Rattle.bgp_update.proofs.Lists.{eqb-swap}
 use Rattle.bgp_update.proofs.Rising.{NoneTwice}
 
 -- ---- the order
@@ -223,3 +222,15 @@ module _ {A : Type 0} (as_value : Attr → Option A) (as_attr : A → Attr) (kin
   type-none (x ∷ xs) e =
       let p = or_parts (eqb (type_of x) kind) (list_any (λ x. eqb (type_of x) kind) xs) e in
       without-by x (first_in as_value xs) p.0 (type-none xs p.1) (taken x)
+
+  -- where one is of its type, a slot takes one
+  some-by : (x : Attr) (xs : List Attr) → is_misnamed x ≡ false → (list_any (λ y. eqb (type_of y) kind) xs ≡ true → is_none (first_in as_value xs) ≡ false) → (eqb (type_of x) kind || list_any (λ y. eqb (type_of y) kind) xs) ≡ true
+      → Taken as_value as_attr kind x → is_none (option_or (as_value x) (first_in as_value xs)) ≡ false
+  some-by x xs named later e (Is v is has same) = ap (λ (o : Option A). is_none (option_or o (first_in as_value xs))) has
+  some-by x xs named later e (Other none other) =
+      ap (λ (o : Option A). is_none (option_or o (first_in as_value xs))) none
+      ∙ later (ap (λ (t : Bool). t || list_any (λ y. eqb (type_of y) kind) xs) (sym (other named)) ∙ e)
+
+  pub some-type : (xs : List Attr) → Named xs → list_any (λ x. eqb (type_of x) kind) xs ≡ true → is_none (first_in as_value xs) ≡ false
+  some-type [] named e = absurd (false≢true e)
+  some-type (x ∷ xs) named e = some-by x xs named.0 (some-type xs named.1) e (taken x)

@@ -1,5 +1,5 @@
 -- What it means that an UPDATE isn't refused, test by test.
-use Rattle.std.proofs.Common.{◌≡◌, Bool, true, false, ◌&&◌, List, Option, Some, None, refl, sym, ap, ◌∙◌}
+use Rattle.std.proofs.Common.{◌≡◌, Bool, true, false, ◌&&◌, Option, None, refl, ap, ◌∙◌}
 use Rattle.bgp_open.specs.declared.context.Context.{Context}
 use Rattle.bgp_attr.specs.Written.{is_too_wide, is_as4, is_empty, has_as_zero, stands_twice}
 use Rattle.bgp_update.specs.declared.invalid.Invalid.{Invalid}

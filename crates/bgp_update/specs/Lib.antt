@@ -7,3 +7,4 @@ pub mod Verdict
 pub mod Slots
 pub mod Written
 pub mod As4
+pub mod Laws

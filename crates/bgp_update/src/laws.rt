@@ -4,11 +4,13 @@ ghost use Rattle.std.specs.Prelude.{◌≡◌, ◌≤◌, ℕ, List, [], length,
 ghost use Rattle.bgp_wire.specs.Octets.{AreOctets};
 ghost use Rattle.bgp_open.specs.declared.context.Context.{Context};
 ghost use Rattle.bgp_update.specs.declared.attrs.Attrs.{Attrs};
+ghost use Rattle.bgp_update.specs.declared.note.Note.{Note};
 ghost use Rattle.bgp_update.specs.declared.update.Update.{Update};
 ghost use Rattle.bgp_update.specs.declared.verdict.Verdict.TheVariants.{Take};
 ghost use Rattle.bgp_update.specs.Parts.{Parts, IsBody, parts_of};
 ghost use Rattle.bgp_update.specs.Verdict.{verdict_of};
 ghost use Rattle.bgp_update.specs.Written.{written_body, invalid_of, HasUpdateRanges};
+ghost use Rattle.bgp_update.specs.Laws.{CanBeWritten};
 ghost use Rattle.bgp_update.specs.As4.{HasNoAs4, narrowed, rebuilt};
 
 /// What a speaker with AS numbers of two octets is told gives the path and the aggregator back.
@@ -29,4 +31,10 @@ pub fn a_valid_update_is_taken_as_itself()
     ensures { (ctx : Context) (u : Update)
         → HasUpdateRanges u → invalid_of ctx u ≡ None → length (written_body ctx u) ≤ 4077
         → verdict_of ctx (written_body ctx u) ≡ Take u [] }
+{}
+
+/// An UPDATE that is taken can be written where it was read, in no more octets.
+pub fn a_taken_update_can_be_written()
+    ensures { (ctx : Context) (body : List ℕ) (u : Update) (notes : List Note)
+        → AreOctets body → verdict_of ctx body ≡ Take u notes → CanBeWritten ctx u body }
 {}
