@@ -4,3 +4,16 @@ pub mod Runs
 pub mod PartLengths
 pub mod Gathering
 pub mod Placing
+pub mod Narrowing
+pub mod Bodies
+pub mod Lists
+pub mod Rising
+pub mod TypeLemmas
+pub mod SlotLemmas
+pub mod Validity
+pub mod MarkLemmas
+pub mod ReadBack
+pub mod KeptSlots
+pub mod TakenLength
+pub mod KeptMarks
+pub mod Taken

@@ -43,7 +43,7 @@ module _ (m : Mark) (ms : List Mark) where
   slot_more {A = A} slot r =
       let one : kept_of (m ∷ []) ≡ kept_by m.judged = kept_of-cons m [] ∙ append-nil (kept_by m.judged) in
       let all : first_in slot (kept_of (m ∷ ms)) ≡ option_or (first_in slot (kept_by m.judged)) (first_in slot (kept_of ms)) =
-          ap (first_in slot) (kept_of-cons m ms) ∙ first_in-append slot (kept_by m.judged) (kept_of ms) in
+      ap (first_in slot) (kept_of-cons m ms) ∙ first_in-append slot (kept_by m.judged) (kept_of ms) in
       option_or-assoc r (first_in slot (kept_of (m ∷ []))) (first_in slot (kept_of ms))
       ∙ ap (λ (kept : List Attr). option_or r (option_or (first_in slot kept) (first_in slot (kept_of ms)))) one
       ∙ ap (option_or r) (sym all)

@@ -15,3 +15,4 @@ pub mod Summary
 pub mod View
 pub mod Iters
 pub mod Gather
+pub mod Laws

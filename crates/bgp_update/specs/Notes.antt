@@ -53,6 +53,9 @@ is_reachable p marks = has_nlri p || has_routes (first_in as_mp_reach (kept_of m
 abbrev pub types_of_field : List ℕ → ℕ → Bool
 types_of_field field = λ kind. list_any (λ q. q.tlv.kind == kind) (placed_tlvs field)
 
+abbrev pub has_type : ℕ → Parts → Bool
+has_type kind p = types_of_field p.attributes kind
+
 -- which of ORIGIN, AS_PATH and NEXT_HOP a message that announces routes hasn't: NEXT_HOP is for NLRI alone
 abbrev pub missing_in : Bool → Bool → List ℕ → Missing
 missing_in reaches nlri field = record {

@@ -1,0 +1,116 @@
+-- The slots of what was kept: each has the first attribute of its type.
+use Rattle.std.proofs.Common.{◌≡◌, ℕ, Bool, true, false, not, cond, eqb, List, [], ◌∷◌, ◌++◌, map, Option, Some, None, refl, sym, ap, subst, ◌∙◌}
+use Rattle.std.specs.Prelude.{is_some}
+use Rattle.std.specs.List.{flat_map, list_any, AllByRecursion}
+use Rattle.std.proofs.lemmas.Bool.{both_ways, ne_eqb, or_parts, or_from, cond-false, not_from_true}
+use Rattle.bgp_attr.specs.declared.aggregator.Aggregator.{Aggregator}
+use Rattle.bgp_attr.specs.declared.attr.Attr.{Attr}
+use Rattle.bgp_attr.specs.declared.attr.Attr.TheVariants as attr
+use Rattle.bgp_attr.specs.declared.communities.Communities.{Communities}
+use Rattle.bgp_attr.specs.declared.communities.LargeCommunities.{LargeCommunities}
+use Rattle.bgp_attr.specs.declared.mp.MpReach.{MpReach}
+use Rattle.bgp_attr.specs.declared.mp.MpUnreach.{MpUnreach}
+use Rattle.bgp_attr.specs.declared.opaque.Opaque.{Opaque}
+use Rattle.bgp_attr.specs.declared.origin.Origin.{Origin}
+use Rattle.bgp_attr.specs.declared.path.As4Path.{As4Path}
+use Rattle.bgp_attr.specs.declared.path.AsPath.{AsPath}
+use Rattle.bgp_numbers.specs.declared.attribute.TheConstants.{ORIGIN, AS_PATH, NEXT_HOP, MULTI_EXIT_DISC, LOCAL_PREF, ATOMIC_AGGREGATE, AGGREGATOR, COMMUNITIES, MP_REACH_NLRI, MP_UNREACH_NLRI, AS4_PATH, AS4_AGGREGATOR, LARGE_COMMUNITY}
+use Rattle.bgp_attr.specs.Spelling.{is_recognised}
+use Rattle.bgp_attr.specs.Written.{type_of, is_misnamed}
+use Rattle.bgp_update.specs.Marks.{also, none_seen}
+use Rattle.bgp_update.specs.Taken.{first_in, as_opaque, rising_behind, attrs_of, as_origin, as_as_path, as_next_hop, as_med, as_local_pref, as_aggregator, as_communities, as_mp_reach, as_mp_unreach, as_as4_path, as_as4_aggregator, as_large}
+use Rattle.bgp_update.specs.Slots.{present, slot, canonical_order, attr_list}
+use Rattle.bgp_update.specs.Written.{has_bad_others, rise}
+use Rattle.bgp_update.proofs.Lists.{all-none, all-append, flat_map-same, all-flat_map}
+use Rattle.bgp_update.proofs.Rising.{NoneTwice, kinds, of_kind, rising-find, rising-rises, rising-all, rises-rise}
+use Rattle.bgp_update.proofs.TypeLemmas.{fresh-fewer, as_atomic, atomic_attr, first_of_type, Named, slot-first, taken-origin, taken-as_path, taken-next_hop, taken-med, taken-local_pref, taken-atomic, taken-aggregator, taken-communities, taken-mp_reach, taken-mp_unreach, taken-as4_path, taken-as4_aggregator, taken-large}
+use Rattle.bgp_update.proofs.SlotLemmas.{by_type, any-atomic, atomic_slot, slot-origin, slot-as_path, slot-next_hop, slot-med, slot-local_pref, slot-atomic, slot-aggregator, slot-communities, slot-mp_reach, slot-mp_unreach, slot-as4_path, slot-as4_aggregator, slot-large, slot-other}
+
+-- ---- the unrecognised ones among attributes
+
+pub opaques-all : (P : Attr → Type 0) (Q : Opaque → Type 0) → ((o : Opaque) → P (attr.Opaque o) → Q o) → (xs : List Attr) → AllByRecursion P xs → AllByRecursion Q (flat_map as_opaque xs)
+opaques-all P Q each [] all = tt
+opaques-all P Q each (x ∷ xs) all = all-append Q (as_opaque x) (flat_map as_opaque xs) (one x all.0) (opaques-all P Q each xs all.1)
+  where
+    one : (x : Attr) → P x → AllByRecursion Q (as_opaque x)
+    one (attr.Opaque o) p = (each o p, tt)
+    one _ p = tt
+
+-- their types are among those of all
+opaques-by : (x : Attr) (os : List Opaque) (seen : ℕ → Bool) → seen (type_of x) ≡ false → NoneTwice (also (type_of x) seen) (kinds os) → NoneTwice seen (kinds (as_opaque x ++ os))
+opaques-by (attr.Opaque o) os seen new fresh = (new, fresh)
+opaques-by x os seen new fresh = fresh-fewer (also (type_of x) seen) seen (kinds os) (λ k e. (or_parts (eqb k (type_of x)) (seen k) e).1) fresh
+
+pub opaques-fresh : (xs : List Attr) (seen : ℕ → Bool) → NoneTwice seen (map type_of xs) → NoneTwice seen (kinds (flat_map as_opaque xs))
+opaques-fresh [] seen fresh = tt
+opaques-fresh (x ∷ xs) seen fresh = opaques-by x (flat_map as_opaque xs) seen fresh.0 (opaques-fresh xs (also (type_of x) seen) fresh.1)
+
+-- an attribute of an unrecognised type is found among them
+found-by : (k : ℕ) (x : Attr) (os : List Opaque) (later : List Attr) → is_recognised k ≡ false → present (λ (o : Opaque). attr.Opaque o) (of_kind k os) ≡ later
+    → present (λ (o : Opaque). attr.Opaque o) (of_kind k (as_opaque x ++ os)) ≡ cond (eqb (type_of x) k) (x ∷ []) later
+found-by k (attr.Opaque o) os later other rest = at (eqb o.kind k)
+  where
+    at : (t : Bool) → present (λ (p : Opaque). attr.Opaque p) (cond t (Some o) (of_kind k os)) ≡ cond t (attr.Opaque o ∷ []) later
+    at true = refl
+    at false = rest
+found-by k x os later other rest =
+    rest ∙ sym (cond-false (eqb (type_of x) k) (x ∷ []) later (ne_eqb (type_of x) k (λ (same : type_of x ≡ k). both_ways (is_recognised k) other (ap is_recognised (sym same)))))
+
+pub opaque-first : (k : ℕ) → is_recognised k ≡ false → (xs : List Attr) → present (λ (o : Opaque). attr.Opaque o) (of_kind k (flat_map as_opaque xs)) ≡ first_of_type k xs
+opaque-first k other [] = refl
+opaque-first k other (x ∷ xs) = found-by k x (flat_map as_opaque xs) (first_of_type k xs) other (opaque-first k other xs)
+
+-- ---- the slots
+
+atomic-first : (o : Option Bool) → atomic_slot (is_some o) ≡ present atomic_attr o
+atomic-first None = refl
+atomic-first (Some b) = refl
+
+module _ (xs : List Attr) (named : Named xs) (fresh : NoneTwice none_seen (map type_of xs)) where
+  pub slot-kept : (k : ℕ) → slot (attrs_of xs) k ≡ first_of_type k xs
+  slot-kept =
+      by_type (λ k. slot (attrs_of xs) k ≡ first_of_type k xs)
+      (slot-origin (attrs_of xs) ∙ slot-first as_origin (λ (o : Origin). attr.Origin o) ORIGIN taken-origin xs named)
+      (slot-as_path (attrs_of xs) ∙ slot-first as_as_path (λ (p : AsPath). attr.AsPath p) AS_PATH taken-as_path xs named)
+      (slot-next_hop (attrs_of xs) ∙ slot-first as_next_hop (λ (addr : List ℕ). attr.NextHop addr) NEXT_HOP taken-next_hop xs named)
+      (slot-med (attrs_of xs) ∙ slot-first as_med (λ (n : ℕ). attr.Med n) MULTI_EXIT_DISC taken-med xs named)
+      (slot-local_pref (attrs_of xs) ∙ slot-first as_local_pref (λ (n : ℕ). attr.LocalPref n) LOCAL_PREF taken-local_pref xs named)
+      (slot-atomic (attrs_of xs) ∙ ap atomic_slot (any-atomic xs) ∙ atomic-first (first_in as_atomic xs) ∙ slot-first as_atomic atomic_attr ATOMIC_AGGREGATE taken-atomic xs named)
+      (slot-aggregator (attrs_of xs) ∙ slot-first as_aggregator (λ (g : Aggregator). attr.Aggregator g) AGGREGATOR taken-aggregator xs named)
+      (slot-communities (attrs_of xs) ∙ slot-first as_communities (λ (c : Communities). attr.Communities c) COMMUNITIES taken-communities xs named)
+      (slot-mp_reach (attrs_of xs) ∙ slot-first as_mp_reach (λ (r : MpReach). attr.MpReach r) MP_REACH_NLRI taken-mp_reach xs named)
+      (slot-mp_unreach (attrs_of xs) ∙ slot-first as_mp_unreach (λ (r : MpUnreach). attr.MpUnreach r) MP_UNREACH_NLRI taken-mp_unreach xs named)
+      (slot-as4_path (attrs_of xs) ∙ slot-first as_as4_path (λ (p : As4Path). attr.As4Path p) AS4_PATH taken-as4_path xs named)
+      (slot-as4_aggregator (attrs_of xs) ∙ slot-first as_as4_aggregator (λ (g : Aggregator). attr.As4Aggregator g) AS4_AGGREGATOR taken-as4_aggregator xs named)
+      (slot-large (attrs_of xs) ∙ slot-first as_large (λ (l : LargeCommunities). attr.Large l) LARGE_COMMUNITY taken-large xs named)
+      (λ k other. slot-other (attrs_of xs) k other
+      ∙ ap (λ (o : Option Opaque). present (λ (p : Opaque). attr.Opaque p) o) (rising-find k (flat_map as_opaque xs) [] none_seen (λ j. refl) (opaques-fresh xs none_seen fresh))
+      ∙ opaque-first k other xs)
+
+  -- the attributes by type, in their order
+  pub kept-list : attr_list (attrs_of xs) ≡ flat_map (λ k. first_of_type k xs) canonical_order
+  kept-list = flat_map-same (slot (attrs_of xs)) (λ k. first_of_type k xs) canonical_order slot-kept
+
+  -- what holds of each that was kept holds of each of these
+  pub kept-all : (P : Attr → Type 0) → AllByRecursion P xs → AllByRecursion P (attr_list (attrs_of xs))
+  kept-all P all = subst (λ (ys : List Attr). AllByRecursion P ys) (sym kept-list) (all-flat_map P (λ k. first_of_type k xs) canonical_order (λ k. first-all k xs all))
+    where
+      first-by : (k : ℕ) (x : Attr) (later : List Attr) (t : Bool) → P x → AllByRecursion P later → AllByRecursion P (cond t (x ∷ []) later)
+      first-by k x later true this rest = (this, tt)
+      first-by k x later false this rest = rest
+
+      first-all : (k : ℕ) (ys : List Attr) → AllByRecursion P ys → AllByRecursion P (first_of_type k ys)
+      first-all k [] all = tt
+      first-all k (y ∷ ys) all = first-by k y (first_of_type k ys) (eqb (type_of y) k) all.0 (first-all k ys all.1)
+
+  pub kept-none : (test : Attr → Bool) → AllByRecursion (λ x. test x ≡ false) xs → list_any test (attr_list (attrs_of xs)) ≡ false
+  kept-none test all = all-none test (attr_list (attrs_of xs)) (kept-all (λ x. test x ≡ false) all)
+
+  -- the unrecognised ones rise, and are unrecognised
+  pub kept-others : has_bad_others (rising_behind [] (flat_map as_opaque xs)) ≡ false
+  kept-others =
+      let os : List Opaque = flat_map as_opaque xs in
+      let rises : rise (rising_behind [] os) ≡ true = rises-rise 0 (rising_behind [] os) (rising-rises os [] none_seen (λ j. refl) (opaques-fresh xs none_seen fresh) tt) in
+      let unrecognised = rising-all (λ o. is_recognised o.kind ≡ false) os [] tt (opaques-all (λ x. is_misnamed x ≡ false) (λ o. is_recognised o.kind ≡ false) (λ o e. e) xs named) in
+      or_from (not (rise (rising_behind [] os))) (list_any (λ o. is_recognised o.kind) (rising_behind [] os)) (not_from_true (rise (rising_behind [] os)) rises)
+      (all-none (λ o. is_recognised o.kind) (rising_behind [] os) unrecognised)

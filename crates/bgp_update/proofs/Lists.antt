@@ -1,0 +1,83 @@
+-- Lists that are joined, searched and tested: what the other lemmas say of attributes, for lists of anything.
+use Rattle.std.proofs.Common.{◌≡◌, ℕ, Bool, true, false, cond, eqb, List, [], ◌∷◌, ◌++◌, Option, Some, None, inl, inr, refl, sym, ap, ap₂, ◌∙◌}
+use Rattle.std.specs.List.{flat_map, filter, find, list_any, AllByRecursion}
+use Rattle.std.specs.Option.{option_or}
+use Rattle.std.proofs.lemmas.Bool.{ne_eqb, or_parts, or_from}
+use Rattle.std.proofs.lemmas.Bool.Decides.{eqb_tells}
+
+pub eqb-swap : (a b : ℕ) → eqb a b ≡ eqb b a
+eqb-swap a b = elim (eqb_tells a b) [
+  | inl same ↦ ap₂ eqb same.1 (sym same.1)
+  | inr other ↦ other.0 ∙ sym (ne_eqb b a (λ (e : b ≡ a). other.1 (sym e)))
+]
+
+module _ {A : Type 0} where
+  pub or-none : (o : Option A) → option_or o None ≡ o
+  or-none None = refl
+  or-none (Some x) = refl
+
+  pub find-none : (test : A → Bool) (xs : List A) → list_any test xs ≡ false → find test xs ≡ None
+  find-none test [] e = refl
+  find-none test (x ∷ xs) e =
+      let p = or_parts (test x) (list_any test xs) e in
+      ap (λ (t : Bool). cond t (Some x) (find test xs)) p.0 ∙ find-none test xs p.1
+
+  -- what was found passes, and has what each element has
+  find-by : (test : A → Bool) (x y : A) (xs : List A) (t : Bool) → test x ≡ t → (find test xs ≡ Some y → test y ≡ true) → cond t (Some x) (find test xs) ≡ Some y → test y ≡ true
+  find-by test x y xs true e later f = let same : x ≡ y = cc in ap test (sym same) ∙ e
+  find-by test x y xs false e later f = later f
+
+  pub find-passes : (test : A → Bool) (xs : List A) (y : A) → find test xs ≡ Some y → test y ≡ true
+  find-passes test [] y e = absurd cc
+  find-passes test (x ∷ xs) y e = find-by test x y xs (test x) refl (find-passes test xs y) e
+
+  pub all-none : (test : A → Bool) (xs : List A) → AllByRecursion (λ x. test x ≡ false) xs → list_any test xs ≡ false
+  all-none test [] all = refl
+  all-none test (x ∷ xs) all = or_from (test x) (list_any test xs) all.0 (all-none test xs all.1)
+
+  pub none-all : (test : A → Bool) (xs : List A) → list_any test xs ≡ false → AllByRecursion (λ x. test x ≡ false) xs
+  none-all test [] e = tt
+  none-all test (x ∷ xs) e = let p = or_parts (test x) (list_any test xs) e in (p.0, none-all test xs p.1)
+
+  pub all-append : (P : A → Type 0) (xs ys : List A) → AllByRecursion P xs → AllByRecursion P ys → AllByRecursion P (xs ++ ys)
+  all-append P [] ys p q = q
+  all-append P (x ∷ xs) ys p q = (p.0, all-append P xs ys p.1 q)
+
+  pub all-front : (P : A → Type 0) (xs ys : List A) → AllByRecursion P (xs ++ ys) → AllByRecursion P xs
+  all-front P [] ys p = tt
+  all-front P (x ∷ xs) ys p = (p.0, all-front P xs ys p.1)
+
+  pub all-back : (P : A → Type 0) (xs ys : List A) → AllByRecursion P (xs ++ ys) → AllByRecursion P ys
+  all-back P [] ys p = p
+  all-back P (x ∷ xs) ys p = all-back P xs ys p.1
+
+  pub all-more : (P Q : A → Type 0) (xs : List A) → ((x : A) → P x → Q x) → AllByRecursion P xs → AllByRecursion Q xs
+  all-more P Q [] more p = tt
+  all-more P Q (x ∷ xs) more p = (more x p.0, all-more P Q xs more p.1)
+
+  pub all-both : (P Q R : A → Type 0) (xs : List A) → ((x : A) → P x → Q x → R x) → AllByRecursion P xs → AllByRecursion Q xs → AllByRecursion R xs
+  all-both P Q R [] more p q = tt
+  all-both P Q R (x ∷ xs) more p q = (more x p.0 q.0, all-both P Q R xs more p.1 q.1)
+
+module _ {A B : Type 0} where
+  pub flat_map-same : (f g : A → List B) (xs : List A) → ((x : A) → f x ≡ g x) → flat_map f xs ≡ flat_map g xs
+  flat_map-same f g [] same = refl
+  flat_map-same f g (x ∷ xs) same = ap₂ (λ (a b : List B). a ++ b) (same x) (flat_map-same f g xs same)
+
+  pub flat_map-none : (f : A → List B) (xs : List A) → ((x : A) → f x ≡ []) → flat_map f xs ≡ []
+  flat_map-none f [] none = refl
+  flat_map-none f (x ∷ xs) none = ap₂ (λ (a b : List B). a ++ b) (none x) (flat_map-none f xs none)
+
+  -- what gives nothing can be filtered out
+  filter-by : (f : A → List B) (test : A → Bool) (x : A) (xs : List A) (t : Bool) → test x ≡ t → (t ≡ false → f x ≡ []) → flat_map f (filter test xs) ≡ flat_map f xs
+      → flat_map f (cond t (x ∷ filter test xs) (filter test xs)) ≡ f x ++ flat_map f xs
+  filter-by f test x xs true e none later = ap (λ (b : List B). f x ++ b) later
+  filter-by f test x xs false e none later = later ∙ ap (λ (b : List B). b ++ flat_map f xs) (sym (none refl))
+
+  pub flat_map-filter : (f : A → List B) (test : A → Bool) (xs : List A) → ((x : A) → test x ≡ false → f x ≡ []) → flat_map f (filter test xs) ≡ flat_map f xs
+  flat_map-filter f test [] none = refl
+  flat_map-filter f test (x ∷ xs) none = filter-by f test x xs (test x) refl (none x) (flat_map-filter f test xs none)
+
+  pub all-flat_map : (P : B → Type 0) (f : A → List B) (xs : List A) → ((x : A) → AllByRecursion P (f x)) → AllByRecursion P (flat_map f xs)
+  all-flat_map P f [] each = tt
+  all-flat_map P f (x ∷ xs) each = all-append P (f x) (flat_map f xs) (each x) (all-flat_map P f xs each)

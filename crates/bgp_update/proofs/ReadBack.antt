@@ -1,0 +1,323 @@
+-- A valid UPDATE that is written is taken as itself.
+use Rattle.std.proofs.Common.{◌≡◌, ℕ, ◌+◌, ◌≤◌, Bool, true, false, not, ◌&&◌, ◌||◌, eqb, ltb, List, [], ◌∷◌, ◌++◌, length, map, Option, Some, None, refl, sym, ap, ap₂, subst, ◌∙◌, arith}
+use Rattle.std.specs.Prelude.{is_some, is_none}
+use Rattle.std.specs.List.{flat_map, list_any, AllByRecursion}
+use Rattle.std.specs.Option.{option_or}
+use Rattle.std.proofs.lemmas.Bool.{both_ways, or_parts, or_from, and_right, cond-false, le-ltb, lt-ltb, not-false}
+use Rattle.std.proofs.lemmas.List.{length-append}
+use Rattle.bgp_numbers.specs.declared.attribute.TheConstants.{ORIGIN, AS_PATH, NEXT_HOP}
+use Rattle.bgp_frame.specs.declared.notification.Notification.{Notification}
+use Rattle.bgp_open.specs.declared.context.Context.{Context}
+use Rattle.bgp_prefix.specs.Prefix.{PrefixValue, IsValid, spelling_of}
+use Rattle.bgp_prefix.specs.Run.{run_of}
+use Rattle.bgp_prefix.proofs.LawLemmas.{row_is_run}
+use Rattle.bgp_attr.specs.declared.aggregator.Aggregator.{Aggregator}
+use Rattle.bgp_attr.specs.declared.attr.Attr.{Attr}
+use Rattle.bgp_attr.specs.declared.attr.Attr.TheVariants as attr
+use Rattle.bgp_attr.specs.declared.communities.Communities.{Communities}
+use Rattle.bgp_attr.specs.declared.communities.LargeCommunities.{LargeCommunities}
+use Rattle.bgp_attr.specs.declared.mp.MpReach.{MpReach}
+use Rattle.bgp_attr.specs.declared.mp.MpReach.TheVariants as reach
+use Rattle.bgp_attr.specs.declared.mp.MpUnreach.{MpUnreach}
+use Rattle.bgp_attr.specs.declared.mp.MpUnreach.TheVariants as unreach
+use Rattle.bgp_attr.specs.declared.opaque.Opaque.{Opaque}
+use Rattle.bgp_attr.specs.declared.origin.Origin.{Origin}
+use Rattle.bgp_attr.specs.declared.path.As4Path.{As4Path}
+use Rattle.bgp_attr.specs.declared.path.AsPath.{AsPath}
+use Rattle.bgp_attr.specs.Tlv.{TlvValue, placed_from, length_octets}
+use Rattle.bgp_attr.specs.Written.{written_tlv, canonical, value_octets, run_octets, type_of, is_too_wide, is_as4, is_empty, is_misnamed, has_as_zero, stands_twice, is_too_long, Belongs, HasRanges}
+use Rattle.bgp_attr.proofs.Tests.{Writes-writable}
+use Rattle.bgp_attr.proofs.RouteRows.{Row-prefixes}
+use Rattle.bgp_update.specs.declared.attrs.Attrs.{Attrs}
+use Rattle.bgp_update.specs.declared.note.Note.{Note}
+use Rattle.bgp_update.specs.declared.update.Update.{Update}
+use Rattle.bgp_update.specs.declared.verdict.Verdict.TheVariants as verdict
+use Rattle.bgp_update.specs.Parts.{Parts, parts_of, attributes_at, has_nlri}
+use Rattle.bgp_update.specs.Marks.{Mark, none_seen, marks_of}
+use Rattle.bgp_update.specs.Taken.{kept_of, attrs_of, update_of, as_origin, as_as_path, as_next_hop}
+use Rattle.bgp_update.specs.Notes.{has_routes, is_reachable, has_type, missing_of, is_missing, missing_note, missing_notes, notes_of}
+use Rattle.bgp_update.specs.Slots.{present, slot, canonical_order, attr_list}
+use Rattle.bgp_update.specs.Verdict.{reset_of_run, reset_of, is_withdrawn, unless_reset, without_reset, verdict_on, of_parts, verdict_of}
+use Rattle.bgp_update.specs.Written.{attributes_octets, written_body, announces, is_of_other_family, any_attr, invalid_of, HasUpdateRanges}
+use Rattle.bgp_update.specs.Written as written
+use Rattle.bgp_update.proofs.Bodies.{body-parts, length-body}
+use Rattle.bgp_update.proofs.Lists.{none-all, all-more, all-both, all-flat_map}
+use Rattle.bgp_update.proofs.Rising.{NoneTwice, of_kind}
+use Rattle.bgp_update.proofs.TypeLemmas.{order-fresh, taken-origin, taken-as_path, taken-next_hop, type-none}
+use Rattle.bgp_update.proofs.SlotLemmas.{by_type, present-all, atomic-all, atomic_slot, slot-other, slot-types, list-named, attrs-back}
+use Rattle.bgp_update.proofs.Validity.{IsAccepted, valid-accepted}
+use Rattle.bgp_update.proofs.MarkLemmas.{KeepsAll, keeps-kept, keeps-no_reset, keeps-no_withdrawal, keeps-no_note, IsReady, AreReady, written-tlvs, field-keep, slots-fresh}
+
+-- ---- attributes that belong where they stand
+
+-- NEXT_HOP where there is NLRI, LOCAL_PREF inside one system
+abbrev Placed : Context → Bool → Attr → Type 0
+Placed ctx nlri (attr.NextHop addr) = nlri ≡ true
+Placed ctx nlri (attr.LocalPref n) = ctx.internal ≡ true
+Placed ctx nlri _ = Unit {0}
+
+placed-slot : (ctx : Context) (nlri : Bool) (a : Attrs) → (is_some a.next_hop ≡ true → nlri ≡ true) → (is_some a.local_pref ≡ true → ctx.internal ≡ true)
+    → (k : ℕ) → AllByRecursion (Placed ctx nlri) (slot a k)
+unfolding slot
+placed-slot ctx nlri a hop pref =
+    by_type (λ k. AllByRecursion (Placed ctx nlri) (slot a k))
+    (present-all (Placed ctx nlri) (λ (o : Origin). attr.Origin o) a.origin (λ v e. tt))
+    (present-all (Placed ctx nlri) (λ (p : AsPath). attr.AsPath p) a.as_path (λ v e. tt))
+    (present-all (Placed ctx nlri) (λ (addr : List ℕ). attr.NextHop addr) a.next_hop (λ v e. hop (ap (λ (o : Option (List ℕ)). is_some o) e)))
+    (present-all (Placed ctx nlri) (λ (n : ℕ). attr.Med n) a.med (λ v e. tt))
+    (present-all (Placed ctx nlri) (λ (n : ℕ). attr.LocalPref n) a.local_pref (λ v e. pref (ap (λ (o : Option ℕ). is_some o) e)))
+    (atomic-all (Placed ctx nlri) a.atomic tt)
+    (present-all (Placed ctx nlri) (λ (g : Aggregator). attr.Aggregator g) a.aggregator (λ v e. tt))
+    (present-all (Placed ctx nlri) (λ (c : Communities). attr.Communities c) a.communities (λ v e. tt))
+    (present-all (Placed ctx nlri) (λ (r : MpReach). attr.MpReach r) a.mp_reach (λ v e. tt))
+    (present-all (Placed ctx nlri) (λ (r : MpUnreach). attr.MpUnreach r) a.mp_unreach (λ v e. tt))
+    (present-all (Placed ctx nlri) (λ (p : As4Path). attr.As4Path p) a.as4_path (λ v e. tt))
+    (present-all (Placed ctx nlri) (λ (g : Aggregator). attr.As4Aggregator g) a.as4_aggregator (λ v e. tt))
+    (present-all (Placed ctx nlri) (λ (l : LargeCommunities). attr.Large l) a.large (λ v e. tt))
+    (λ k other. subst (λ (xs : List Attr). AllByRecursion (Placed ctx nlri) xs) (sym (slot-other a k other)) (present-all (Placed ctx nlri) (λ (o : Opaque). attr.Opaque o) (of_kind k a.others) (λ o e. tt)))
+
+belongs : (ctx : Context) (nlri : Bool) (x : Attr) → Placed ctx nlri x → is_of_other_family ctx x ≡ false → Belongs ctx nlri x
+belongs ctx nlri (attr.NextHop addr) placed family = placed
+belongs ctx nlri (attr.LocalPref n) placed family = placed
+belongs ctx nlri (attr.MpReach (reach.Ip4 hop routes)) placed family = not-false ctx.ip4 family
+belongs ctx nlri (attr.MpReach (reach.Ip6 hop link routes)) placed family = not-false ctx.ip6 family
+belongs ctx nlri (attr.MpUnreach (unreach.Ip4 routes)) placed family = not-false ctx.ip4 family
+belongs ctx nlri (attr.MpUnreach (unreach.Ip6 routes)) placed family = not-false ctx.ip6 family
+belongs ctx nlri _ placed family = tt
+
+-- ---- a slot has at most one
+
+present-few : {A : Type 0} (as_attr : A → Attr) (o : Option A) → length (present as_attr o) ≤ 1
+present-few as_attr None = omega arith
+present-few as_attr (Some v) = omega arith
+
+atomic-few : (b : Bool) → length (atomic_slot b) ≤ 1
+atomic-few true = omega arith
+atomic-few false = omega arith
+
+pub slot-few : (a : Attrs) (k : ℕ) → length (slot a k) ≤ 1
+unfolding slot
+slot-few a =
+    by_type (λ k. length (slot a k) ≤ 1)
+    (present-few (λ (o : Origin). attr.Origin o) a.origin) (present-few (λ (p : AsPath). attr.AsPath p) a.as_path) (present-few (λ (addr : List ℕ). attr.NextHop addr) a.next_hop)
+    (present-few (λ (n : ℕ). attr.Med n) a.med) (present-few (λ (n : ℕ). attr.LocalPref n) a.local_pref) (atomic-few a.atomic) (present-few (λ (g : Aggregator). attr.Aggregator g) a.aggregator)
+    (present-few (λ (c : Communities). attr.Communities c) a.communities) (present-few (λ (r : MpReach). attr.MpReach r) a.mp_reach) (present-few (λ (r : MpUnreach). attr.MpUnreach r) a.mp_unreach)
+    (present-few (λ (p : As4Path). attr.As4Path p) a.as4_path) (present-few (λ (g : Aggregator). attr.As4Aggregator g) a.as4_aggregator) (present-few (λ (l : LargeCommunities). attr.Large l) a.large)
+    (λ k other. subst (λ (xs : List Attr). length xs ≤ 1) (sym (slot-other a k other)) (present-few (λ (o : Opaque). attr.Opaque o) (of_kind k a.others)))
+
+pub list-fresh : (a : Attrs) → NoneTwice none_seen (map type_of (attr_list a))
+list-fresh a = slots-fresh (slot a) (slot-types a) (slot-few a) canonical_order none_seen order-fresh
+
+-- ---- runs
+
+pub run-some : (ps : List PrefixValue) → ltb 0 (length (run_octets ps)) ≡ ltb 0 (length ps)
+unfolding spelling_of
+run-some [] = refl
+run-some (p ∷ ps) = lt-ltb 0 (length (run_octets (p ∷ ps))) (omega arith) ∙ sym (lt-ltb 0 (length {A = PrefixValue} (p ∷ ps)) (omega arith))
+
+pub written-run : (ps : List PrefixValue) → AllByRecursion (IsValid 4) ps → run_of 4 (run_octets ps) ≡ (ps, [])
+written-run ps valid = row_is_run 4 ps (run_octets ps) (Row-prefixes 4 ps valid)
+
+run-no_reset : (ps : List PrefixValue) (b : List ℕ) → run_of 4 b ≡ (ps, []) → reset_of_run b ≡ None
+run-no_reset ps b e = rw e refl
+
+-- ---- lengths
+
+within-all : (f : Attr → List ℕ) (xs : List Attr) (n : ℕ) → length (flat_map f xs) ≤ n → AllByRecursion (λ x. length (f x) ≤ n) xs
+within-all f [] n le = tt
+within-all f (x ∷ xs) n le =
+    let all : length (f x) + length (flat_map f xs) ≤ n = omega (arith, length-append (f x) (flat_map f xs)) in
+    (omega arith, within-all f xs n (omega arith))
+
+value-within : (ctx : Context) (x : Attr) (n : ℕ) → n ≤ 65535 → length (canonical ctx x) ≤ n → is_too_long ctx x ≡ false
+value-within ctx x n small le =
+    le-ltb 65535 (length (value_octets ctx x)) (omega (arith, length-append (length_octets (written_tlv ctx x).flags (length (value_octets ctx x))) (value_octets ctx x)))
+
+-- ---- ready to be written
+
+as4-each : (as4 any one : Bool) → (as4 && any) ≡ false → (any ≡ false → one ≡ false) → (as4 && one) ≡ false
+as4-each true any one e each = each e
+as4-each false any one e each = refl
+
+record AllPass (ctx : Context) (x : Attr) : Type 0 where
+  narrow : is_too_wide ctx x ≡ false
+  allowed : (ctx.as4 && is_as4 x) ≡ false
+  family : is_of_other_family ctx x ≡ false
+  some : is_empty x ≡ false
+  nonzero : has_as_zero x ≡ false
+  once : stands_twice x ≡ false
+
+allowed-all : (as4 : Bool) (xs : List Attr) → (as4 && list_any is_as4 xs) ≡ false → AllByRecursion (λ x. (as4 && is_as4 x) ≡ false) xs
+allowed-all true xs e = none-all is_as4 xs e
+allowed-all false [] e = tt
+allowed-all false (x ∷ xs) e = (refl, allowed-all false xs e)
+
+passes : (ctx : Context) (xs : List Attr) → list_any (is_too_wide ctx) xs ≡ false → AllByRecursion (λ x. (ctx.as4 && is_as4 x) ≡ false) xs → list_any (is_of_other_family ctx) xs ≡ false
+    → list_any is_empty xs ≡ false → list_any has_as_zero xs ≡ false → list_any stands_twice xs ≡ false → AllByRecursion (AllPass ctx) xs
+passes ctx [] a b c d e f = tt
+passes ctx (x ∷ xs) a b c d e f =
+    let p = or_parts (is_too_wide ctx x) (list_any (is_too_wide ctx) xs) a in
+    let q = or_parts (is_of_other_family ctx x) (list_any (is_of_other_family ctx) xs) c in
+    let r = or_parts (is_empty x) (list_any is_empty xs) d in
+    let s = or_parts (has_as_zero x) (list_any has_as_zero xs) e in
+    let t = or_parts (stands_twice x) (list_any stands_twice xs) f in
+    (record { narrow = p.0; allowed = b.0; family = q.0; some = r.0; nonzero = s.0; once = t.0 }, passes ctx xs p.1 b.1 q.1 r.1 s.1 t.1)
+
+record Rest (ctx : Context) (nlri : Bool) (x : Attr) : Type 0 where
+  placed : Placed ctx nlri x
+  named : is_misnamed x ≡ false
+  fits : is_too_long ctx x ≡ false
+  ranges : HasRanges x
+
+rest-all : (ctx : Context) (nlri : Bool) (xs : List Attr) → AllByRecursion (Placed ctx nlri) xs → AllByRecursion (λ x. is_misnamed x ≡ false) xs → AllByRecursion (λ x. is_too_long ctx x ≡ false) xs
+    → AllByRecursion HasRanges xs → AllByRecursion (Rest ctx nlri) xs
+rest-all ctx nlri [] a b c d = tt
+rest-all ctx nlri (x ∷ xs) a b c d = (record { placed = a.0; named = b.0; fits = c.0; ranges = d.0 }, rest-all ctx nlri xs a.1 b.1 c.1 d.1)
+
+ready : (ctx : Context) (nlri : Bool) (x : Attr) → AllPass ctx x → Rest ctx nlri x → IsReady ctx nlri x
+ready ctx nlri x p r = record {
+  writable = Writes-writable ctx x (record { narrow = p.narrow; allowed = p.allowed; some = p.some; named = r.named; nonzero = p.nonzero; once = p.once; fits = r.fits });
+  in_place = belongs ctx nlri x r.placed p.family;
+  ranges = r.ranges;
+}
+
+-- ---- nothing is missing
+
+some-then : (o p : Bool) → (o && not p) ≡ false → o ≡ true → p ≡ true
+some-then true p e is = not-false p e
+some-then false p e is = absurd (both_ways false refl is)
+
+-- an attribute of the type is among those that stand there
+has-by : (ctx : Context) (kind : ℕ) (xs : List Attr) (at : ℕ) → list_any (λ q. eqb q.tlv.kind kind) (placed_from at (map (written_tlv ctx) xs)) ≡ list_any (λ x. eqb (type_of x) kind) xs
+has-by ctx kind [] at = refl
+has-by ctx kind (x ∷ xs) at = ap (λ (b : Bool). eqb (type_of x) kind || b) (has-by ctx kind xs (at + length (canonical ctx x)))
+
+not-missing : (some has : Bool) (none : Bool) → (some && none) ≡ false → (has ≡ false → none ≡ true) → (some && not has) ≡ false
+not-missing some true none e so = and_right some false refl
+not-missing some false none e so = ap (λ (b : Bool). some && b) (sym (so refl)) ∙ e
+
+-- what a test of both says of each
+of-both : (b x y : Bool) → (b && (x || y)) ≡ false → ((b && x) ≡ false) × ((b && y) ≡ false)
+of-both true x y e = or_parts x y e
+of-both false x y e = (refl, refl)
+
+-- ---- the verdict
+
+-- with no reset, no withdrawal and no note, the message is taken
+take-as : (p : Parts) (marks : List Mark) (u : Update) → reset_of p marks ≡ None → is_withdrawn p marks ≡ false → update_of p marks ≡ u → notes_of p marks ≡ [] → verdict_on p marks ≡ verdict.Take u []
+take-as p marks u reset withdrawn update notes =
+    ap (λ (o : Option Notification). unless_reset o (without_reset p marks)) reset
+    ∙ cond-false (is_withdrawn p marks) _ (verdict.Take (update_of p marks) (notes_of p marks)) withdrawn
+    ∙ ap₂ (λ (v : Update) (ns : List Note). verdict.Take v ns) update notes
+
+update-same : (u : Update) (withdrawn : List PrefixValue) (attrs : Attrs) (nlri : List PrefixValue) → withdrawn ≡ u.withdrawn → attrs ≡ u.attrs → nlri ≡ u.nlri
+    → (let v : Update = record { withdrawn = withdrawn; attrs = attrs; nlri = nlri } in v ≡ u)
+update-same u withdrawn attrs nlri e f g = rw (e, f, g) refl
+
+module _ (ctx : Context) (u : Update) (ranges : HasUpdateRanges u) (valid : invalid_of ctx u ≡ None) (short : length (written_body ctx u) ≤ 4077) where
+  abbrev a : Attrs
+  a = u.attrs
+
+  abbrev xs : List Attr
+  xs = attr_list u.attrs
+
+  abbrev parts : Parts
+  parts = record { withdrawn = run_octets u.withdrawn; attributes = attributes_octets ctx u.attrs; nlri = run_octets u.nlri }
+
+  long : length (written_body ctx u) ≡ 4 + (length (run_octets u.withdrawn) + (length (attributes_octets ctx u.attrs) + length (run_octets u.nlri)))
+  long = length-body (run_octets u.withdrawn) (attributes_octets ctx u.attrs) (run_octets u.nlri)
+
+  parts-found : parts_of (written_body ctx u) ≡ Some parts
+  parts-found = body-parts (written_body ctx u) parts (record { octets = refl; withdrawn_fits = omega (arith, long, short); attributes_fit = omega (arith, long, short) })
+
+  acc : IsAccepted ctx u
+  acc = valid-accepted ctx u valid
+
+  nlri-same : has_nlri parts ≡ written.has_nlri u
+  nlri-same = run-some u.nlri
+
+  hop-placed : is_some a.next_hop ≡ true → has_nlri parts ≡ true
+  hop-placed is = nlri-same ∙ some-then (is_some a.next_hop) (written.has_nlri u) acc.next_hop is
+
+  are-ready : AreReady ctx (has_nlri parts) xs
+  are-ready =
+      let placed = all-flat_map (Placed ctx (has_nlri parts)) (slot u.attrs) canonical_order (placed-slot ctx (has_nlri parts) u.attrs hop-placed (some-then (is_some a.local_pref) ctx.internal acc.local_pref)) in
+      let within = within-all (canonical ctx) xs 4077 (omega (arith, long, short)) in
+      let fit = all-more (λ x. length (canonical ctx x) ≤ 4077) (λ x. is_too_long ctx x ≡ false) xs (λ x le. value-within ctx x 4077 (omega arith) le) within in
+      all-both (AllPass ctx) (Rest ctx (has_nlri parts)) (IsReady ctx (has_nlri parts)) xs (ready ctx (has_nlri parts))
+      (passes ctx xs acc.narrow (allowed-all ctx.as4 xs acc.allowed) acc.family acc.some acc.nonzero acc.once)
+      (rest-all ctx (has_nlri parts) xs placed (list-named u.attrs) fit ranges.attributes)
+
+  abbrev marks : List Mark
+  marks = marks_of ctx parts
+
+  all-keep : KeepsAll marks xs
+  all-keep = field-keep ctx (has_nlri parts) xs are-ready (list-fresh u.attrs)
+
+  list-back : attrs_of xs ≡ u.attrs
+  list-back = attrs-back u.attrs acc.others ranges.others
+
+  kept-back : attrs_of (kept_of marks) ≡ u.attrs
+  kept-back = ap attrs_of (keeps-kept marks xs all-keep) ∙ list-back
+
+  reachable-same : is_reachable parts marks ≡ announces u
+  reachable-same = ap₂ (λ (x y : Bool). x || y) nlri-same (ap (λ (b : Attrs). has_routes b.mp_reach) kept-back)
+
+  has-same : (kind : ℕ) → has_type kind parts ≡ list_any (λ x. eqb (type_of x) kind) xs
+  has-same kind =
+      ap (λ (q : List TlvValue × List ℕ). list_any (λ p. eqb p.tlv.kind kind) (placed_from 0 q.0)) (written-tlvs ctx (has_nlri parts) xs are-ready)
+      ∙ has-by ctx kind xs 0
+
+  no-origin : has_type ORIGIN parts ≡ false → is_none a.origin ≡ true
+  no-origin e = ap (λ (o : Option Origin). is_none o) (ap (λ (b : Attrs). b.origin) (sym list-back) ∙ type-none as_origin (λ (o : Origin). attr.Origin o) ORIGIN taken-origin xs (sym (has-same ORIGIN) ∙ e))
+
+  no-as_path : has_type AS_PATH parts ≡ false → is_none a.as_path ≡ true
+  no-as_path e = ap (λ (o : Option AsPath). is_none o) (ap (λ (b : Attrs). b.as_path) (sym list-back) ∙ type-none as_as_path (λ (p : AsPath). attr.AsPath p) AS_PATH taken-as_path xs (sym (has-same AS_PATH) ∙ e))
+
+  no-next_hop : has_type NEXT_HOP parts ≡ false → is_none a.next_hop ≡ true
+  no-next_hop e = ap (λ (o : Option (List ℕ)). is_none o) (ap (λ (b : Attrs). b.next_hop) (sym list-back) ∙ type-none as_next_hop (λ (addr : List ℕ). attr.NextHop addr) NEXT_HOP taken-next_hop xs (sym (has-same NEXT_HOP) ∙ e))
+
+  record Complete : Type 0 where
+    origin : (is_reachable parts marks && not (has_type ORIGIN parts)) ≡ false
+    as_path : (is_reachable parts marks && not (has_type AS_PATH parts)) ≡ false
+    next_hop : (has_nlri parts && not (has_type NEXT_HOP parts)) ≡ false
+
+  complete : Complete
+  complete =
+      let p = or_parts (announces u && (is_none a.origin || is_none a.as_path)) (written.has_nlri u && is_none a.next_hop) acc.complete in
+      let q = of-both (announces u) (is_none a.origin) (is_none a.as_path) p.0 in
+      record {
+        origin = not-missing (is_reachable parts marks) (has_type ORIGIN parts) (is_none a.origin) (ap (λ (b : Bool). b && is_none a.origin) reachable-same ∙ q.0) no-origin;
+        as_path = not-missing (is_reachable parts marks) (has_type AS_PATH parts) (is_none a.as_path) (ap (λ (b : Bool). b && is_none a.as_path) reachable-same ∙ q.1) no-as_path;
+        next_hop = not-missing (has_nlri parts) (has_type NEXT_HOP parts) (is_none a.next_hop) (ap (λ (b : Bool). b && is_none a.next_hop) nlri-same ∙ p.1) no-next_hop;
+      }
+
+  none-missing : is_missing (missing_of parts marks) ≡ false
+  none-missing = or_from _ _ complete.origin (or_from _ _ complete.as_path complete.next_hop)
+
+  no_missing-notes : missing_notes (missing_of parts marks) ≡ []
+  no_missing-notes =
+      ap₂ (λ (x y : List Note). x ++ y) (ap (λ (b : Bool). missing_note b ORIGIN) complete.origin)
+      (ap₂ (λ (x y : List Note). x ++ y) (ap (λ (b : Bool). missing_note b AS_PATH) complete.as_path) (ap (λ (b : Bool). missing_note b NEXT_HOP) complete.next_hop))
+
+  no-reset : reset_of parts marks ≡ None
+  no-reset =
+      ap (λ (o : Option Notification). option_or o (option_or (reset_of_run (run_octets u.withdrawn)) (reset_of_run (run_octets u.nlri)))) (keeps-no_reset marks xs all-keep)
+      ∙ ap (λ (o : Option Notification). option_or o (reset_of_run (run_octets u.nlri))) (run-no_reset u.withdrawn (run_octets u.withdrawn) (written-run u.withdrawn ranges.withdrawn))
+      ∙ run-no_reset u.nlri (run_octets u.nlri) (written-run u.nlri ranges.nlri)
+
+  update-back : update_of parts marks ≡ u
+  update-back =
+      update-same u _ _ _ (ap (λ (q : List PrefixValue × List ℕ). q.0) (written-run u.withdrawn ranges.withdrawn)) kept-back
+      (ap (λ (q : List PrefixValue × List ℕ). q.0) (written-run u.nlri ranges.nlri))
+
+  taken-back : verdict_of ctx (written_body ctx u) ≡ verdict.Take u []
+  taken-back =
+      ap (of_parts ctx) parts-found
+      ∙ take-as parts marks u no-reset
+      (or_from _ _ (keeps-no_withdrawal marks xs all-keep) none-missing)
+      update-back
+      (ap₂ (λ (x y : List Note). x ++ y) (keeps-no_note (attributes_at parts) marks xs all-keep) no_missing-notes)
+
+pub valid-taken : (ctx : Context) (u : Update) → HasUpdateRanges u → invalid_of ctx u ≡ None → length (written_body ctx u) ≤ 4077 → verdict_of ctx (written_body ctx u) ≡ verdict.Take u []
+valid-taken = taken-back

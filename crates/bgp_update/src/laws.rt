@@ -1,0 +1,40 @@
+//! Laws over the definitions alone: these functions do nothing, and their contracts are what is proved.
+
+ghost use Rattle.std.specs.Prelude.{◌≡◌, ◌≤◌, ℕ, List, [], length, Some, None};
+ghost use Rattle.bgp_wire.specs.Octets.{AreOctets};
+ghost use Rattle.bgp_open.specs.declared.context.Context.{Context};
+ghost use Rattle.bgp_update.specs.declared.attrs.Attrs.{Attrs};
+ghost use Rattle.bgp_update.specs.declared.note.Note.{Note};
+ghost use Rattle.bgp_update.specs.declared.update.Update.{Update};
+ghost use Rattle.bgp_update.specs.declared.verdict.Verdict.TheVariants.{Take};
+ghost use Rattle.bgp_update.specs.Parts.{Parts, IsBody, parts_of};
+ghost use Rattle.bgp_update.specs.Verdict.{verdict_of};
+ghost use Rattle.bgp_update.specs.Written.{written_body, invalid_of, HasUpdateRanges};
+ghost use Rattle.bgp_update.specs.Laws.{CanBeWritten};
+ghost use Rattle.bgp_update.specs.As4.{HasNoAs4, narrowed, rebuilt};
+
+/// What a speaker with AS numbers of two octets is told gives the path and the aggregator back.
+pub fn narrowed_paths_are_rebuilt()
+    ensures { (a : Attrs) → HasNoAs4 a
+        → rebuilt (narrowed a) ≡ record { path = a.as_path; aggregator = a.aggregator } }
+{}
+
+/// A body splits into its parts in exactly one way, which is what the reader finds.
+pub fn bodies_split_in_one_way()
+    ensures found { (body : List ℕ) (p : Parts)
+        → AreOctets body → parts_of body ≡ Some p → IsBody p body }
+    ensures only { (body : List ℕ) (p : Parts) → IsBody p body → parts_of body ≡ Some p }
+{}
+
+/// A valid UPDATE that is written, in no more octets than a message can have, is taken as itself.
+pub fn a_valid_update_is_taken_as_itself()
+    ensures { (ctx : Context) (u : Update)
+        → HasUpdateRanges u → invalid_of ctx u ≡ None → length (written_body ctx u) ≤ 4077
+        → verdict_of ctx (written_body ctx u) ≡ Take u [] }
+{}
+
+/// An UPDATE that is taken can be written where it was read, in no more octets.
+pub fn a_taken_update_can_be_written()
+    ensures { (ctx : Context) (body : List ℕ) (u : Update) (notes : List Note)
+        → AreOctets body → verdict_of ctx body ≡ Take u notes → CanBeWritten ctx u body }
+{}
