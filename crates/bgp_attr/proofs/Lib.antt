@@ -21,3 +21,4 @@ pub mod Rewriting
 pub mod WrittenOctets
 pub mod Writes
 pub mod WrittenTlv
+pub mod CanonicalLength

@@ -1,11 +1,11 @@
 //! How long written attributes are.
 
-ghost use Rattle.std.specs.Prelude.{◌≡◌, ◌+◌, ◌*◌, ◌≤◌, length};
+ghost use Rattle.std.specs.Prelude.{nat_lt, if◌then◌else◌, ◌≡◌, ◌+◌, ◌*◌, ◌≤◌, length};
 ghost use Rattle.std.specs.List.{flat_map};
 ghost use Rattle.bgp_attr.specs.AttrRef.{ref_value};
 ghost use Rattle.bgp_attr.specs.Numbers.{triple_octets};
 ghost use Rattle.bgp_prefix.specs.Prefix.{spelling_of};
-ghost use Rattle.bgp_attr.specs.Written.{segment_octets, aggregator_octets, run_octets, reach_octets, unreach_octets};
+ghost use Rattle.bgp_attr.specs.Written.{canonical, segment_octets, aggregator_octets, run_octets, reach_octets, unreach_octets};
 ghost use Rattle.bgp_attr.specs.Length.{within, value_len};
 
 use crate::aggregator::Aggregator;
@@ -61,8 +61,8 @@ fn prefix_len<const W: usize>(before: usize, prefix: &Prefix<W>) -> Option<usize
     more(before, 1, 1 + usize::from(prefix.len()).div_ceil(8))
 }
 
-/// The octets of prefixes, behind others.
-fn run_len<const W: usize>(before: usize, routes: &[Prefix<W>]) -> Option<usize>
+/// How many octets prefixes have, behind so many others: None where they are more than 65535. It takes no memory.
+pub fn run_len<const W: usize>(before: usize, routes: &[Prefix<W>]) -> Option<usize>
     requires { before ≤ 65535 }
     ensures { result ≡ within (before + length (run_octets routes.now)) }
 {
@@ -160,4 +160,23 @@ pub(crate) fn value_len(ctx: &Context, attr: AttrRef<'_>) -> Option<usize>
         AttrRef::Large(communities) => triples_len(&communities.values),
         AttrRef::Opaque(opaque) => more(0, opaque.value.len(), 1),
     }
+}
+
+/// The octets in front of a value: flags, type and a length of one octet or two.
+fn head_len(len: usize) -> usize
+    ensures value { result ≡ 2 + (if nat_lt 255 len then 2 else 1) }
+    ensures bound { result ≤ 4 }
+{
+    if len > 255 { 4 } else { 3 }
+}
+
+/// How many octets the written form of an attribute has, behind so many others: None where they are more than 65535. It takes no
+/// memory.
+#[tactic(auto, using(crate::proofs::CanonicalLength::heads))]
+pub fn attr_len(before: usize, ctx: &Context, attr: AttrRef<'_>) -> Option<usize>
+    requires { before ≤ 65535 }
+    ensures { result ≡ within (before + length (canonical ctx.now (ref_value attr.entry))) }
+{
+    let len = value_len(ctx, attr)?;
+    more(before, 1, head_len(len) + len)
 }

@@ -29,11 +29,7 @@ pub(crate) fn put_number(wide: bool, number: u32, out: &mut Vec<u8>) -> Result<(
 }
 
 /// Adds AS numbers.
-fn put_as_numbers(
-    wide: bool,
-    numbers: &[AsNumber],
-    out: &mut Vec<u8>,
-) -> Result<(), AllocError>
+fn put_as_numbers(wide: bool, numbers: &[AsNumber], out: &mut Vec<u8>) -> Result<(), AllocError>
     ensures ok { OnOk result (out.new.items ≡ out.old.items ++ flat_map (λ n. number_octets wide n.0) numbers.now) }
     ensures ranges { OnOk result (AllByRecursion (λ n. IsFourOctets n.0) numbers.now) }
     ensures err { OnErr result (Extends out.old.items out.new.items) }

@@ -60,7 +60,7 @@ fn is_zero_path(path: &AsPath) -> bool
 }
 
 /// Whether an AS number needs more octets than it has.
-pub(crate) fn is_too_wide(ctx: &Context, attr: AttrRef<'_>) -> bool
+pub fn is_too_wide(ctx: &Context, attr: AttrRef<'_>) -> bool
     ensures { result ≡ is_too_wide ctx.now (ref_value attr.entry) }
 {
     match attr {
@@ -71,7 +71,7 @@ pub(crate) fn is_too_wide(ctx: &Context, attr: AttrRef<'_>) -> bool
 }
 
 /// Whether the attribute is for speakers with AS numbers of two octets.
-pub(crate) fn is_as4(attr: AttrRef<'_>) -> bool
+pub fn is_as4(attr: AttrRef<'_>) -> bool
     ensures { result ≡ is_as4 (ref_value attr.entry) }
 {
     match attr {
@@ -94,8 +94,8 @@ fn has_bad_segment(path: &AsPath) -> bool
     path.segments.iter().any(|segment| is_bad_segment(segment))
 }
 
-/// Whether nothing stands where something has to.
-pub(crate) fn is_empty(attr: AttrRef<'_>) -> bool
+/// Whether nothing stands where something has to: a segment of no numbers (or of more than 255), no communities, an AS4_PATH of nothing.
+pub fn is_empty(attr: AttrRef<'_>) -> bool
     ensures { result ≡ is_empty (ref_value attr.entry) }
 {
     match attr {
@@ -130,7 +130,7 @@ fn is_recognised(kind: u8) -> bool
 }
 
 /// Whether the attribute has the type of another.
-pub(crate) fn is_misnamed(attr: AttrRef<'_>) -> bool
+pub fn is_misnamed(attr: AttrRef<'_>) -> bool
     ensures { result ≡ is_misnamed (ref_value attr.entry) }
 {
     match attr {
@@ -140,13 +140,14 @@ pub(crate) fn is_misnamed(attr: AttrRef<'_>) -> bool
 }
 
 /// Whether an AS number is 0.
-pub(crate) fn has_as_zero(attr: AttrRef<'_>) -> bool
+pub fn has_as_zero(attr: AttrRef<'_>) -> bool
     ensures { result ≡ has_as_zero (ref_value attr.entry) }
 {
     match attr {
         AttrRef::AsPath(path) => is_zero_path(path),
         AttrRef::As4Path(path) => is_zero_path(&path.path),
-        AttrRef::Aggregator(aggregator) | AttrRef::As4Aggregator(aggregator) => aggregator.asn.0 == 0,
+        AttrRef::Aggregator(aggregator) | AttrRef::As4Aggregator(aggregator) => aggregator.asn.0
+            == 0,
         _ => false,
     }
 }
@@ -181,7 +182,7 @@ fn repeats(values: &[[u32; 3]]) -> bool
 }
 
 /// Whether a large community stands twice.
-pub(crate) fn stands_twice(attr: AttrRef<'_>) -> bool
+pub fn stands_twice(attr: AttrRef<'_>) -> bool
     ensures { result ≡ stands_twice (ref_value attr.entry) }
 {
     match attr {

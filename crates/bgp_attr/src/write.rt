@@ -24,7 +24,9 @@ use crate::length::value_len;
 use crate::mp::{MpReach, MpUnreach};
 use crate::opaque::Opaque;
 use crate::origin::Origin;
-use crate::put::{put_address, put_number, put_numbers, put_octets, put_path, put_run, put_triples};
+use crate::put::{
+    put_address, put_number, put_numbers, put_octets, put_path, put_run, put_triples,
+};
 use bgp_numbers::{afi, attribute, safi};
 use bgp_open::Context;
 use bgp_prefix::Prefix;
@@ -100,7 +102,13 @@ fn type_of(attr: AttrRef<'_>) -> u8
 }
 
 /// Adds flags, type and length.
-fn put_head(flags: u8, kind: u8, extended: bool, len: usize, out: &mut Vec<u8>) -> Result<(), AllocError>
+fn put_head(
+    flags: u8,
+    kind: u8,
+    extended: bool,
+    len: usize,
+    out: &mut Vec<u8>,
+) -> Result<(), AllocError>
     requires long { len ≤ 65535 }
     requires short { extended ≡ false → len ≤ 255 }
     ensures ok { OnOk result (out.new.items ≡ out.old.items ++ flags ∷ kind ∷ (if extended then to_be_bytes w16 len else len ∷ [])) }
@@ -279,11 +287,7 @@ fn put_attr(
 ///
 /// # Errors
 /// `AllocError` where a growth was refused; the vector is then as it was.
-pub fn write_attr_ref(
-    ctx: &Context,
-    attr: AttrRef<'_>,
-    out: &mut Vec<u8>,
-) -> Result<(), AllocError>
+pub fn write_attr_ref(ctx: &Context, attr: AttrRef<'_>, out: &mut Vec<u8>) -> Result<(), AllocError>
     requires { is_writable ctx.now (ref_value attr) ≡ true }
     ensures ok { OnOk result (out.new.items ≡ out.old.items ++ canonical ctx.now (ref_value attr.entry)) }
     // Where it belongs, it is read as itself.
