@@ -53,7 +53,7 @@ module _ {X : Type 0} (octets : X → List ℕ) (xs : List X) (i : ℕ) (x : X) 
       let fits = within_fits m (len + length (octets x)) e in
       let one_more : take (i + 1) xs ≡ take i xs ++ x ∷ [] = take_more xs i x lt ∙ ap (λ (y : X). take i xs ++ y ∷ []) (sym is) in
       let added : length (flat_map octets (take (i + 1) xs)) ≡ length (flat_map octets (take i xs)) + length (octets x) =
-          ap (λ (ys : List X). length (flat_map octets ys)) one_more ∙ ap length (sym (flat_map_more octets [] (take i xs) x)) ∙ length-append (flat_map octets (take i xs)) (octets x) in
+      ap (λ (ys : List X). length (flat_map octets ys)) one_more ∙ ap length (sym (flat_map_more octets [] (take i xs) x)) ∙ length-append (flat_map octets (take i xs)) (octets x) in
       (omega arith, omega arith)
 
 pub all_gone : {X : Type 0} (octets : X → List ℕ) (xs : List X) (i : ℕ) (before len : ℕ) → length xs ≤ i → len ≡ before + length (flat_map octets (take i xs)) → len ≤ 65535

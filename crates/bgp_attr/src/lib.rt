@@ -60,3 +60,6 @@ pub use tlv::{Tail, Tlv};
 pub use tlv_iter::TlvIter;
 pub use unwritable::Unwritable;
 pub use why::Why;
+
+#[cfg(test)]
+mod tests;
