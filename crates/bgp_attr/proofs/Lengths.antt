@@ -1,8 +1,8 @@
 -- How long rows of octets are, as far as a length field can hold them.
-use Rattle.std.proofs.Common.{◌≡◌, ℕ, suc, ◌+◌, ◌-◌, ◌*◌, ◌/◌, ◌<◌, ◌≤◌, Bool, true, false, cond, leb, List, [], ◌∷◌, ◌++◌, length, get_or, take, Option, Some, None, refl, sym, ap, ap₂, ◌∙◌, inl, inr, zero-add, arith}
+use Rattle.std.proofs.Common.{◌≡◌, ℕ, suc, ◌+◌, ◌-◌, ◌*◌, ◌/◌, ◌<◌, ◌≤◌, Bool, true, false, cond, leb, ltb, List, [], ◌∷◌, ◌++◌, length, get_or, take, Option, Some, None, refl, sym, ap, ap₂, ◌∙◌, inl, inr, zero-add, arith}
 use Rattle.std.specs.List.{flat_map}
 use Rattle.std.proofs.Math.Nat.{mul_comm}
-use Rattle.std.proofs.lemmas.Bool.{cases_lt, leb-true, leb-false, le-leb, lt-leb}
+use Rattle.std.proofs.lemmas.Bool.{cases_lt, leb-true, leb-false, le-leb, lt-leb, lt-ltb, le-ltb}
 use Rattle.std.proofs.lemmas.List.{length-append, length-take, take_more, take_all, flat_map_more}
 use Rattle.std.proofs.lemmas.List.Folds.{length-flat_map-take}
 use Rattle.bgp_prefix.specs.Bits.{octets_for}
@@ -88,3 +88,11 @@ first_past octets xs i x len lt is so_far e =
 
 pub aggregator_added : (wide : Bool) (a : Aggregator) → length a.addr ≡ 4 → length (aggregator_octets wide a) ≡ number_width wide + 4
 aggregator_added wide a four = length-append (number_octets wide (a.asn).0) a.addr ∙ ap₂ ◌+◌ (length-number_octets wide (a.asn).0) four
+
+-- ---- the test for a value that is too long
+
+pub past_too_long : (n : ℕ) → None ≡ within n → ltb 65535 n ≡ true
+past_too_long n e = lt-ltb 65535 n (within_past n e)
+
+pub fits_too_long : (m n : ℕ) → Some m ≡ within n → ltb 65535 n ≡ false
+fits_too_long m n e = le-ltb 65535 n (within_fits m n e).1

@@ -19,3 +19,5 @@ pub mod Kept
 pub mod Lengths
 pub mod Rewriting
 pub mod WrittenOctets
+pub mod Writes
+pub mod WrittenTlv

@@ -1,4 +1,5 @@
 -- What borrowed judgements are.
+use Rattle.std.specs.Prelude.{Bool, true, false}
 use Rattle.bgp_frame.specs.Notification.{notification_of_view}
 use Rattle.bgp_attr.specs.declared.judged.Judged.{Judged}
 use Rattle.bgp_attr.specs.declared.judged.Judged.TheVariants as judged
@@ -11,3 +12,8 @@ judged_value (view.Keep v) = judged.Keep (attr_value v)
 judged_value (view.Discard w) = judged.Discard w
 judged_value (view.Withdraw w) = judged.Withdraw w
 judged_value (view.Reset n) = judged.Reset (notification_of_view n)
+
+-- only what is kept takes memory
+abbrev pub is_kept : Judged → Bool
+is_kept (judged.Keep a) = true
+is_kept _ = false

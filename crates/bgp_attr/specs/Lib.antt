@@ -23,3 +23,5 @@ pub mod AttrView
 pub mod JudgedView
 pub mod Length
 pub mod Laws
+pub mod AttrRef
+pub mod Appends

@@ -1,6 +1,6 @@
 //! What one attribute comes to, with its value borrowed.
 
-ghost use Rattle.std.specs.Prelude.{◌≡◌, ◌≤◌, length, IfOk};
+ghost use Rattle.std.specs.Prelude.{◌≡◌, ◌≤◌, length, IfOk, OnErr, IsTrue};
 
 use crate::attr_view::AttrView;
 use crate::judged::Judged;
@@ -22,14 +22,15 @@ pub enum JudgedView<'a> {
 }
 
 impl JudgedView<'_> {
-    ghost use Rattle.bgp_attr.specs.JudgedView.{judged_value};
+    ghost use Rattle.bgp_attr.specs.JudgedView.{judged_value, is_kept};
 
     /// The judgement, with memory of its own.
     ///
     /// # Errors
     /// `AllocError` where a growth was refused: only what is kept takes memory.
     pub fn own(&self, alloc: Global) -> Result<Judged, AllocError>
-        ensures { IfOk result (λ j. j ≡ judged_value self.now) }
+        ensures value { IfOk result (λ j. j ≡ judged_value self.now) }
+        ensures err { OnErr result (IsTrue (is_kept (judged_value self.now))) }
     {
         match self {
             JudgedView::Keep(view) => Ok(Judged::Keep(view.own(alloc)?)),

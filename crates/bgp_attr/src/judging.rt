@@ -1,9 +1,9 @@
 //! The judgement of one attribute.
 
-ghost use Rattle.std.specs.Prelude.{◌≡◌, ◌≤◌, length, IfOk};
+ghost use Rattle.std.specs.Prelude.{◌≡◌, ◌≤◌, length, IfOk, OnErr, IsTrue};
 ghost use Rattle.bgp_attr.specs.TlvView.{tlv_value};
 ghost use Rattle.bgp_attr.specs.Judgement.{judgement};
-ghost use Rattle.bgp_attr.specs.JudgedView.{judged_value};
+ghost use Rattle.bgp_attr.specs.JudgedView.{judged_value, is_kept};
 
 use crate::judge_aggregator::{judge_aggregator, judge_as4_aggregator};
 use crate::judge_communities::{judge_communities, judge_large, judge_other};
@@ -55,7 +55,8 @@ pub fn judge(
     tlv: &Tlv<'_>,
 ) -> Result<Judged, AllocError>
     requires { length tlv.now.whole.now ≤ 4075 }
-    ensures { IfOk result (λ j. j ≡ judgement ctx.now has_nlri (tlv_value tlv.now)) }
+    ensures value { IfOk result (λ j. j ≡ judgement ctx.now has_nlri (tlv_value tlv.now)) }
+    ensures err { OnErr result (IsTrue (is_kept (judgement ctx.now has_nlri (tlv_value tlv.now)))) }
 {
     judge_view(ctx, has_nlri, tlv).own(alloc)
 }

@@ -2,13 +2,14 @@
 
 ghost use Rattle.std.specs.Prelude.{◌≡◌, ◌+◌, ◌*◌, ◌≤◌, length};
 ghost use Rattle.std.specs.List.{flat_map};
+ghost use Rattle.bgp_attr.specs.AttrRef.{ref_value};
 ghost use Rattle.bgp_attr.specs.Numbers.{triple_octets};
 ghost use Rattle.bgp_prefix.specs.Prefix.{spelling_of};
 ghost use Rattle.bgp_attr.specs.Written.{segment_octets, aggregator_octets, run_octets, reach_octets, unreach_octets};
 ghost use Rattle.bgp_attr.specs.Length.{within, value_len};
 
 use crate::aggregator::Aggregator;
-use crate::attr::Attr;
+use crate::attr_ref::AttrRef;
 use crate::mp::{MpReach, MpUnreach};
 use crate::path::Segment;
 use crate::segment::number_width;
@@ -141,22 +142,22 @@ fn unreach_len(unreach: &MpUnreach) -> Option<usize>
 
 /// The octets of a value: None where a length field can't hold them.
 #[tactic(auto, using(crate::proofs::Lengths::numbers_added))]
-pub(crate) fn value_len(ctx: &Context, attr: &Attr) -> Option<usize>
-    ensures { result ≡ within (value_len ctx.now attr.now) }
+pub(crate) fn value_len(ctx: &Context, attr: AttrRef<'_>) -> Option<usize>
+    ensures { result ≡ within (value_len ctx.now (ref_value attr.entry)) }
 {
     match attr {
-        Attr::Origin(_) => Some(1),
-        Attr::AsPath(path) => path_len(ctx.as4, &path.segments),
-        Attr::NextHop(addr) => Some(address_len(addr)),
-        Attr::Med(_) | Attr::LocalPref(_) => Some(4),
-        Attr::Atomic => Some(0),
-        Attr::Aggregator(aggregator) => aggregator_len(ctx.as4, aggregator),
-        Attr::Communities(communities) => more(0, communities.values.len(), 4),
-        Attr::MpReach(reach) => reach_len(reach),
-        Attr::MpUnreach(unreach) => unreach_len(unreach),
-        Attr::As4Path(path) => path_len(true, &path.path.segments),
-        Attr::As4Aggregator(aggregator) => aggregator_len(true, aggregator),
-        Attr::Large(communities) => triples_len(&communities.values),
-        Attr::Opaque(opaque) => more(0, opaque.value.len(), 1),
+        AttrRef::Origin(_) => Some(1),
+        AttrRef::AsPath(path) => path_len(ctx.as4, &path.segments),
+        AttrRef::NextHop(addr) => Some(address_len(addr)),
+        AttrRef::Med(_) | AttrRef::LocalPref(_) => Some(4),
+        AttrRef::Atomic => Some(0),
+        AttrRef::Aggregator(aggregator) => aggregator_len(ctx.as4, aggregator),
+        AttrRef::Communities(communities) => more(0, communities.values.len(), 4),
+        AttrRef::MpReach(reach) => reach_len(reach),
+        AttrRef::MpUnreach(unreach) => unreach_len(unreach),
+        AttrRef::As4Path(path) => path_len(true, &path.path.segments),
+        AttrRef::As4Aggregator(aggregator) => aggregator_len(true, aggregator),
+        AttrRef::Large(communities) => triples_len(&communities.values),
+        AttrRef::Opaque(opaque) => more(0, opaque.value.len(), 1),
     }
 }

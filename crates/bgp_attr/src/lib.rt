@@ -4,6 +4,7 @@
 
 mod aggregator;
 mod attr;
+mod attr_ref;
 mod attr_view;
 mod class;
 mod communities;
@@ -32,15 +33,19 @@ mod origin;
 mod path;
 mod path_form;
 mod path_view;
+mod put;
 mod reset;
 mod segment;
 mod tlv;
 mod tlv_iter;
 mod unwritable;
 mod why;
+mod writability;
+mod write;
 
 pub use aggregator::Aggregator;
 pub use attr::Attr;
+pub use attr_ref::AttrRef;
 pub use attr_view::{As4PathView, AttrView, OpaqueView};
 pub use communities::{Communities, LargeCommunities};
 pub use communities_view::{CommunitiesView, LargeView};
@@ -60,6 +65,8 @@ pub use tlv::{Tail, Tlv};
 pub use tlv_iter::TlvIter;
 pub use unwritable::Unwritable;
 pub use why::Why;
+pub use writability::{why_unwritable, writable};
+pub use write::{write_attr, write_attr_ref};
 
 #[cfg(test)]
 mod tests;

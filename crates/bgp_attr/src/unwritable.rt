@@ -2,11 +2,12 @@
 
 ghost use Rattle.std.specs.Prelude.{◌≡◌};
 ghost use Rattle.std.specs.List.{list_any};
+ghost use Rattle.bgp_attr.specs.AttrRef.{ref_value};
 ghost use Rattle.bgp_attr.specs.Numbers.{same_triple};
 ghost use Rattle.bgp_attr.specs.Spelling.{is_recognised};
 ghost use Rattle.bgp_attr.specs.Written.{any_number, is_above_two_octets, is_zero, is_too_wide, is_as4, is_bad_segment, is_empty, is_misnamed, has_as_zero, repeats, stands_twice};
 
-use crate::attr::Attr;
+use crate::attr_ref::AttrRef;
 use crate::path::{AsPath, Segment};
 use bgp_numbers::attribute;
 use bgp_open::Context;
@@ -59,22 +60,22 @@ fn is_zero_path(path: &AsPath) -> bool
 }
 
 /// Whether an AS number needs more octets than it has.
-pub(crate) fn is_too_wide(ctx: &Context, attr: &Attr) -> bool
-    ensures { result ≡ is_too_wide ctx.now attr.now }
+pub(crate) fn is_too_wide(ctx: &Context, attr: AttrRef<'_>) -> bool
+    ensures { result ≡ is_too_wide ctx.now (ref_value attr.entry) }
 {
     match attr {
-        Attr::AsPath(path) => !ctx.as4 && is_wide_path(path),
-        Attr::Aggregator(aggregator) => !ctx.as4 && aggregator.asn.0 > 65535,
+        AttrRef::AsPath(path) => !ctx.as4 && is_wide_path(path),
+        AttrRef::Aggregator(aggregator) => !ctx.as4 && aggregator.asn.0 > 65535,
         _ => false,
     }
 }
 
 /// Whether the attribute is for speakers with AS numbers of two octets.
-pub(crate) fn is_as4(attr: &Attr) -> bool
-    ensures { result ≡ is_as4 attr.now }
+pub(crate) fn is_as4(attr: AttrRef<'_>) -> bool
+    ensures { result ≡ is_as4 (ref_value attr.entry) }
 {
     match attr {
-        Attr::As4Path(_) | Attr::As4Aggregator(_) => true,
+        AttrRef::As4Path(_) | AttrRef::As4Aggregator(_) => true,
         _ => false,
     }
 }
@@ -94,14 +95,14 @@ fn has_bad_segment(path: &AsPath) -> bool
 }
 
 /// Whether nothing stands where something has to.
-pub(crate) fn is_empty(attr: &Attr) -> bool
-    ensures { result ≡ is_empty attr.now }
+pub(crate) fn is_empty(attr: AttrRef<'_>) -> bool
+    ensures { result ≡ is_empty (ref_value attr.entry) }
 {
     match attr {
-        Attr::AsPath(path) => has_bad_segment(path),
-        Attr::As4Path(path) => path.path.segments.is_empty() || has_bad_segment(&path.path),
-        Attr::Communities(communities) => communities.values.is_empty(),
-        Attr::Large(communities) => communities.values.is_empty(),
+        AttrRef::AsPath(path) => has_bad_segment(path),
+        AttrRef::As4Path(path) => path.path.segments.is_empty() || has_bad_segment(&path.path),
+        AttrRef::Communities(communities) => communities.values.is_empty(),
+        AttrRef::Large(communities) => communities.values.is_empty(),
         _ => false,
     }
 }
@@ -129,23 +130,23 @@ fn is_recognised(kind: u8) -> bool
 }
 
 /// Whether the attribute has the type of another.
-pub(crate) fn is_misnamed(attr: &Attr) -> bool
-    ensures { result ≡ is_misnamed attr.now }
+pub(crate) fn is_misnamed(attr: AttrRef<'_>) -> bool
+    ensures { result ≡ is_misnamed (ref_value attr.entry) }
 {
     match attr {
-        Attr::Opaque(opaque) => is_recognised(opaque.kind),
+        AttrRef::Opaque(opaque) => is_recognised(opaque.kind),
         _ => false,
     }
 }
 
 /// Whether an AS number is 0.
-pub(crate) fn has_as_zero(attr: &Attr) -> bool
-    ensures { result ≡ has_as_zero attr.now }
+pub(crate) fn has_as_zero(attr: AttrRef<'_>) -> bool
+    ensures { result ≡ has_as_zero (ref_value attr.entry) }
 {
     match attr {
-        Attr::AsPath(path) => is_zero_path(path),
-        Attr::As4Path(path) => is_zero_path(&path.path),
-        Attr::Aggregator(aggregator) | Attr::As4Aggregator(aggregator) => aggregator.asn.0 == 0,
+        AttrRef::AsPath(path) => is_zero_path(path),
+        AttrRef::As4Path(path) => is_zero_path(&path.path),
+        AttrRef::Aggregator(aggregator) | AttrRef::As4Aggregator(aggregator) => aggregator.asn.0 == 0,
         _ => false,
     }
 }
@@ -180,11 +181,11 @@ fn repeats(values: &[[u32; 3]]) -> bool
 }
 
 /// Whether a large community stands twice.
-pub(crate) fn stands_twice(attr: &Attr) -> bool
-    ensures { result ≡ stands_twice attr.now }
+pub(crate) fn stands_twice(attr: AttrRef<'_>) -> bool
+    ensures { result ≡ stands_twice (ref_value attr.entry) }
 {
     match attr {
-        Attr::Large(communities) => repeats(&communities.values),
+        AttrRef::Large(communities) => repeats(&communities.values),
         _ => false,
     }
 }

@@ -107,7 +107,11 @@ pub fn write_run6(prefixes: &[Prefix6], out: &mut Vec<u8>) -> Result<(), AllocEr
     write_run::<16>(prefixes, out)
 }
 
-fn write_run<const W: usize>(prefixes: &[Prefix<W>], out: &mut Vec<u8>) -> Result<(), AllocError>
+/// Adds the octets of the prefixes of any family, each with 0 for the bits past its length.
+///
+/// # Errors
+/// `AllocError` where a growth was refused; the vector is then as it was.
+pub fn write_run<const W: usize>(prefixes: &[Prefix<W>], out: &mut Vec<u8>) -> Result<(), AllocError>
     ensures ok { OnOk result (out.new.items ≡ out.old.items ++ flat_map spelling_of prefixes.now) }
     ensures row { OnOk result (Row (IsPrefix W) prefixes.now (flat_map spelling_of prefixes.now)) }
     ensures back { OnOk result (run_of W (flat_map spelling_of prefixes.now)

@@ -79,6 +79,26 @@ impl<T> List<T> {
     }
 }
 
+impl<T> List<T> {
+    ghost use Rattle.std.specs.Prelude.{◌≤◌};
+    ghost use Rattle.std.specs.List.{insert};
+
+    /// Adds a value at a place: those from there on follow it.
+    ///
+    /// # Errors
+    /// `AllocError` where the growth was refused; the list is then as it was.
+    pub fn insert(&mut self, place: usize, value: T) -> Result<(), AllocError>
+    where
+        T: Drop,
+        requires { place ≤ length self.old }
+        ensures ok { OnOk result (self.new ≡ insert self.old place value) }
+        ensures err { OnErr result (self.new ≡ self.old) }
+    {
+        self.items.insert(place, value)?;
+        Ok(())
+    }
+}
+
 impl<T: TryCopy + Drop> List<T> {
     /// An equal list with memory of its own.
     ///

@@ -1,0 +1,5 @@
+use Rattle.std.proofs.Common.{arith}
+use Rattle.bgp_attr.proofs.put.put_octets.Goals as goal
+
+pub returns-clause-range : goal.returns-clause-range
+returns-clause-range c = λ i. omega (arith, c.type_inv.octets i)

@@ -1,0 +1,6 @@
+-- What writers leave in a vector.
+use Rattle.std.specs.Prelude.{◌≡◌, ℕ, List, ◌++◌}
+
+-- what was there, and some octets behind it
+abbrev pub Extends : List ℕ → List ℕ → Type 0
+Extends old new = (more : List ℕ) × (new ≡ old ++ more)

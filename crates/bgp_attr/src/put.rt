@@ -1,0 +1,152 @@
+//! Rows of numbers, segments and triples, written.
+
+ghost use Rattle.std.specs.Prelude.{◌≡◌, ◌≤◌, ℕ, List, ◌++◌, length, map, true, false, OnOk, OnErr};
+ghost use Rattle.std.specs.List.{flat_map, list_any, AllByRecursion};
+ghost use Rattle.bgp_wire.specs.Octets.{AreOctets};
+ghost use Rattle.bgp_attr.specs.Appends.{Extends};
+ghost use Rattle.bgp_attr.specs.Numbers.{number_octets, row_octets, triple_octets};
+ghost use Rattle.bgp_attr.specs.Written.{number_of, segment_code, segment_octets, is_bad_segment, IsFourOctets, IsThreeNumbers, IsAddress, run_octets};
+ghost use Rattle.bgp_prefix.specs.Prefix.{IsValid};
+
+use crate::path::{SegKind, Segment};
+use bgp_numbers::segment;
+use bgp_prefix::{AsNumber, Prefix, write_run};
+use std::alloc::AllocError;
+
+/// Adds a number, of four octets where `wide`, else its last two.
+pub(crate) fn put_number(wide: bool, number: u32, out: &mut Vec<u8>) -> Result<(), AllocError>
+    ensures ok { OnOk result (out.new.items ≡ out.old.items ++ number_octets wide number) }
+    ensures range { OnOk result (IsFourOctets number) }
+    ensures err { OnErr result (Extends out.old.items out.new.items) }
+{
+    let [a, b, c, d] = number.to_be_bytes();
+    if wide {
+        out.extend_from_slice(&[a, b, c, d])?;
+    } else {
+        out.extend_from_slice(&[c, d])?;
+    }
+    Ok(())
+}
+
+/// Adds AS numbers.
+fn put_as_numbers(
+    wide: bool,
+    numbers: &[AsNumber],
+    out: &mut Vec<u8>,
+) -> Result<(), AllocError>
+    ensures ok { OnOk result (out.new.items ≡ out.old.items ++ flat_map (λ n. number_octets wide n.0) numbers.now) }
+    ensures ranges { OnOk result (AllByRecursion (λ n. IsFourOctets n.0) numbers.now) }
+    ensures err { OnErr result (Extends out.old.items out.new.items) }
+{
+    'row: for number in numbers {
+        put_number(wide, number.0, out)?;
+    }
+    Ok(())
+}
+
+/// Adds numbers of four octets.
+pub(crate) fn put_numbers(numbers: &[u32], out: &mut Vec<u8>) -> Result<(), AllocError>
+    ensures ok { OnOk result (out.new.items ≡ out.old.items ++ row_octets true numbers.now) }
+    ensures ranges { OnOk result (AllByRecursion IsFourOctets numbers.now) }
+    ensures err { OnErr result (Extends out.old.items out.new.items) }
+{
+    'row: for number in numbers {
+        put_number(true, *number, out)?;
+    }
+    Ok(())
+}
+
+/// Adds a triple.
+fn put_triple(triple: &[u32; 3], out: &mut Vec<u8>) -> Result<(), AllocError>
+    ensures ok { OnOk result (out.new.items ≡ out.old.items ++ triple_octets triple.now) }
+    ensures ranges { OnOk result (IsThreeNumbers triple.now) }
+    ensures err { OnErr result (Extends out.old.items out.new.items) }
+{
+    put_numbers(triple, out)
+}
+
+/// Adds triples.
+pub(crate) fn put_triples(triples: &[[u32; 3]], out: &mut Vec<u8>) -> Result<(), AllocError>
+    ensures ok { OnOk result (out.new.items ≡ out.old.items ++ flat_map triple_octets triples.now) }
+    ensures ranges { OnOk result (AllByRecursion IsThreeNumbers triples.now) }
+    ensures err { OnErr result (Extends out.old.items out.new.items) }
+{
+    'row: for triple in triples {
+        put_triple(triple, out)?;
+    }
+    Ok(())
+}
+
+/// The octet of a segment's type.
+fn segment_code(kind: SegKind) -> u8
+    ensures { result ≡ segment_code kind }
+{
+    match kind {
+        SegKind::Set => segment::SET,
+        SegKind::Seq => segment::SEQUENCE,
+    }
+}
+
+/// Adds a segment.
+fn put_segment(wide: bool, segment: &Segment, out: &mut Vec<u8>) -> Result<(), AllocError>
+    requires { length segment.now.numbers ≤ 255 }
+    ensures ok { OnOk result (out.new.items ≡ out.old.items ++ segment_octets wide segment.now) }
+    ensures ranges { OnOk result (AllByRecursion (λ n. IsFourOctets n.0) segment.now.numbers) }
+    ensures err { OnErr result (Extends out.old.items out.new.items) }
+{
+    let count = segment.numbers.len() as u8;
+    out.extend_from_slice(&[segment_code(segment.kind), count])?;
+    put_as_numbers(wide, &segment.numbers, out)
+}
+
+/// Adds the segments of a path.
+pub(crate) fn put_path(
+    wide: bool,
+    segments: &[Segment],
+    out: &mut Vec<u8>,
+) -> Result<(), AllocError>
+    requires { list_any is_bad_segment segments.now ≡ false }
+    ensures ok { OnOk result (out.new.items ≡ out.old.items ++ flat_map (segment_octets wide) segments.now) }
+    ensures ranges { OnOk result (AllByRecursion (λ s. AllByRecursion (λ n. IsFourOctets n.0) s.numbers) segments.now) }
+    ensures err { OnErr result (Extends out.old.items out.new.items) }
+{
+    'path: for segment in segments {
+        put_segment(wide, segment, out)?;
+    }
+    Ok(())
+}
+
+/// Adds octets.
+pub(crate) fn put_octets(octets: &[u8], out: &mut Vec<u8>) -> Result<(), AllocError>
+    ensures ok { OnOk result (out.new.items ≡ out.old.items ++ octets.now) }
+    ensures range { OnOk result (AreOctets octets.now) }
+    ensures err { OnErr result (Extends out.old.items out.new.items) }
+{
+    out.extend_from_slice(octets)?;
+    Ok(())
+}
+
+/// Adds an address.
+pub(crate) fn put_address<const N: usize>(
+    addr: &[u8; N],
+    out: &mut Vec<u8>,
+) -> Result<(), AllocError>
+    ensures ok { OnOk result (out.new.items ≡ out.old.items ++ addr.now) }
+    ensures range { OnOk result (IsAddress N addr.now) }
+    ensures err { OnErr result (Extends out.old.items out.new.items) }
+{
+    put_octets(addr, out)
+}
+
+/// Adds prefixes.
+pub(crate) fn put_run<const W: usize>(
+    routes: &[Prefix<W>],
+    out: &mut Vec<u8>,
+) -> Result<(), AllocError>
+    ensures ok { OnOk result (out.new.items ≡ out.old.items ++ run_octets routes.now) }
+    ensures ranges { OnOk result (AllByRecursion (IsValid W) routes.now) }
+    ensures err { OnErr result (Extends out.old.items out.new.items) }
+{
+    write_run(routes, out)?;
+    Ok(())
+}

@@ -1,0 +1,317 @@
+//! Writing an attribute.
+
+ghost use Rattle.std.specs.Prelude.{◌≡◌, ◌≤◌, ◌+◌, [], ◌∷◌, ◌++◌, if◌then◌else◌, Bool, true, false, length, OnOk, OnErr};
+ghost use Rattle.std.specs.List.{AllByRecursion};
+ghost use Rattle.std.specs.Int.{w16, to_be_bytes};
+ghost use Rattle.bgp_attr.specs.declared.attr.Attr.TheVariants as attr;
+ghost use Rattle.bgp_attr.specs.declared.judged.Judged.TheVariants as judged;
+ghost use Rattle.bgp_prefix.specs.Prefix.{PrefixValue, IsValid};
+ghost use Rattle.bgp_wire.specs.Octets.{AreOctets};
+ghost use Rattle.bgp_attr.specs.Appends.{Extends};
+ghost use Rattle.bgp_attr.specs.AttrRef.{ref_value};
+ghost use Rattle.bgp_attr.specs.Flags.{flags_octet};
+ghost use Rattle.bgp_attr.specs.Tlv.{length_octets};
+ghost use Rattle.bgp_attr.specs.Judgement.{judgement};
+ghost use Rattle.bgp_attr.specs.Spelling.{origin_code};
+ghost use Rattle.bgp_attr.specs.Written.{aggregator_octets, reach_row, unreach_row, reach_octets, unreach_octets, value_octets, class_of, partial_of, type_of, written_tlv, canonical, is_empty, is_writable, Belongs, HasRanges, IsAddress, HasLinkRange, IsFourOctets};
+ghost use Rattle.bgp_attr.specs.Length.{value_len};
+
+use crate::aggregator::Aggregator;
+use crate::attr::Attr;
+use crate::attr_ref::AttrRef;
+use crate::class::Class;
+use crate::length::value_len;
+use crate::mp::{MpReach, MpUnreach};
+use crate::opaque::Opaque;
+use crate::origin::Origin;
+use crate::put::{put_address, put_number, put_numbers, put_octets, put_path, put_run, put_triples};
+use bgp_numbers::{afi, attribute, safi};
+use bgp_open::Context;
+use bgp_prefix::Prefix;
+use std::alloc::AllocError;
+
+/// The flags octet of a class.
+fn flags_octet(class: Class, partial: bool, extended: bool) -> u8
+    ensures { result ≡ flags_octet class partial extended }
+{
+    let partial_bit = if partial { 0x20 } else { 0 };
+    let extended_bit = if extended { 0x10 } else { 0 };
+    64 * (class as u8) + (partial_bit + extended_bit)
+}
+
+/// The class of an attribute.
+fn class_of(attr: AttrRef<'_>) -> Class
+    ensures { result ≡ class_of (ref_value attr.entry) }
+{
+    match attr {
+        AttrRef::Origin(_)
+        | AttrRef::AsPath(_)
+        | AttrRef::NextHop(_)
+        | AttrRef::LocalPref(_)
+        | AttrRef::Atomic => Class::WellKnown,
+        AttrRef::Med(_) | AttrRef::MpReach(_) | AttrRef::MpUnreach(_) => {
+            Class::OptionalNonTransitive
+        }
+        AttrRef::Aggregator(_)
+        | AttrRef::Communities(_)
+        | AttrRef::As4Path(_)
+        | AttrRef::As4Aggregator(_)
+        | AttrRef::Large(_) => Class::OptionalTransitive,
+        AttrRef::Opaque(opaque) if opaque.transitive => Class::OptionalTransitive,
+        AttrRef::Opaque(_) => Class::OptionalNonTransitive,
+    }
+}
+
+/// The Partial bit of an attribute: 0 where it means nothing.
+fn partial_of(attr: AttrRef<'_>) -> bool
+    ensures { result ≡ partial_of (ref_value attr.entry) }
+{
+    match attr {
+        AttrRef::Aggregator(aggregator) => aggregator.partial,
+        AttrRef::Communities(communities) => communities.partial,
+        AttrRef::As4Path(path) => path.partial,
+        AttrRef::As4Aggregator(aggregator) => aggregator.partial,
+        AttrRef::Large(communities) => communities.partial,
+        AttrRef::Opaque(opaque) => opaque.partial,
+        _ => false,
+    }
+}
+
+/// The type of an attribute.
+fn type_of(attr: AttrRef<'_>) -> u8
+    ensures { result ≡ type_of (ref_value attr.entry) }
+{
+    match attr {
+        AttrRef::Origin(_) => attribute::ORIGIN,
+        AttrRef::AsPath(_) => attribute::AS_PATH,
+        AttrRef::NextHop(_) => attribute::NEXT_HOP,
+        AttrRef::Med(_) => attribute::MULTI_EXIT_DISC,
+        AttrRef::LocalPref(_) => attribute::LOCAL_PREF,
+        AttrRef::Atomic => attribute::ATOMIC_AGGREGATE,
+        AttrRef::Aggregator(_) => attribute::AGGREGATOR,
+        AttrRef::Communities(_) => attribute::COMMUNITIES,
+        AttrRef::MpReach(_) => attribute::MP_REACH_NLRI,
+        AttrRef::MpUnreach(_) => attribute::MP_UNREACH_NLRI,
+        AttrRef::As4Path(_) => attribute::AS4_PATH,
+        AttrRef::As4Aggregator(_) => attribute::AS4_AGGREGATOR,
+        AttrRef::Large(_) => attribute::LARGE_COMMUNITY,
+        AttrRef::Opaque(opaque) => opaque.kind,
+    }
+}
+
+/// Adds flags, type and length.
+fn put_head(flags: u8, kind: u8, extended: bool, len: usize, out: &mut Vec<u8>) -> Result<(), AllocError>
+    requires long { len ≤ 65535 }
+    requires short { extended ≡ false → len ≤ 255 }
+    ensures ok { OnOk result (out.new.items ≡ out.old.items ++ flags ∷ kind ∷ (if extended then to_be_bytes w16 len else len ∷ [])) }
+    ensures err { OnErr result (Extends out.old.items out.new.items) }
+{
+    if extended {
+        let [high, low] = (len as u16).to_be_bytes();
+        out.extend_from_slice(&[flags, kind, high, low])?;
+    } else {
+        out.extend_from_slice(&[flags, kind, len as u8])?;
+    }
+    Ok(())
+}
+
+/// Adds an AS number and an address.
+fn put_aggregator(wide: bool, aggregator: &Aggregator, out: &mut Vec<u8>) -> Result<(), AllocError>
+    ensures ok { OnOk result (out.new.items ≡ out.old.items ++ aggregator_octets wide aggregator.now) }
+    ensures ranges { OnOk result (IsFourOctets (aggregator.now.asn).0 × IsAddress 4 aggregator.now.addr) }
+    ensures err { OnErr result (Extends out.old.items out.new.items) }
+{
+    put_number(wide, aggregator.asn.0, out)?;
+    let addr = aggregator.addr;
+    put_address(&addr, out)
+}
+
+/// Adds a family, a next hop of one or two addresses, and prefixes.
+fn put_reach_row<const W: usize>(
+    family: u16,
+    hop: &[u8],
+    link: &[u8],
+    routes: &[Prefix<W>],
+    out: &mut Vec<u8>,
+) -> Result<(), AllocError>
+    requires { length hop.now + length link.now ≤ 255 }
+    ensures ok { OnOk result (out.new.items ≡ out.old.items ++ reach_row family (hop.now ++ link.now) routes.now) }
+    ensures hop { OnOk result (AreOctets hop.now) }
+    ensures link { OnOk result (AreOctets link.now) }
+    ensures routes { OnOk result (AllByRecursion (IsValid W) routes.now) }
+    ensures err { OnErr result (Extends out.old.items out.new.items) }
+{
+    let [high, low] = family.to_be_bytes();
+    let len = (hop.len() + link.len()) as u8;
+    put_octets(&[high, low, safi::UNICAST, len], out)?;
+    put_octets(hop, out)?;
+    put_octets(link, out)?;
+    put_octets(&[0], out)?;
+    put_run(routes, out)
+}
+
+/// The octets of an address.
+fn address_octets<const N: usize>(addr: &[u8; N]) -> &[u8]
+    ensures value { result.now ≡ addr.now }
+    ensures wide { length addr.now ≡ N }
+{
+    addr.as_slice()
+}
+
+/// Adds MP_REACH_NLRI's value.
+fn put_reach(reach: &MpReach, out: &mut Vec<u8>) -> Result<(), AllocError>
+    ensures ok { OnOk result (out.new.items ≡ out.old.items ++ reach_octets reach.now) }
+    ensures ranges { OnOk result (HasRanges (attr.MpReach reach.now)) }
+    ensures err { OnErr result (Extends out.old.items out.new.items) }
+{
+    match reach {
+        MpReach::Ip4 { next_hop, nlri } => {
+            let hop = address_octets(next_hop);
+            put_reach_row(afi::IPV4, hop, &[], nlri, out)?;
+        }
+        MpReach::Ip6 {
+            next_hop,
+            link_local: None,
+            nlri,
+        } => {
+            let hop = address_octets(next_hop);
+            put_reach_row(afi::IPV6, hop, &[], nlri, out)?;
+        }
+        MpReach::Ip6 {
+            next_hop,
+            link_local: Some(link),
+            nlri,
+        } => {
+            let hop = address_octets(next_hop);
+            let link = address_octets(link);
+            put_reach_row(afi::IPV6, hop, link, nlri, out)?;
+        }
+    }
+    Ok(())
+}
+
+/// Adds a family and prefixes.
+fn put_unreach_row<const W: usize>(
+    family: u16,
+    routes: &[Prefix<W>],
+    out: &mut Vec<u8>,
+) -> Result<(), AllocError>
+    ensures ok { OnOk result (out.new.items ≡ out.old.items ++ unreach_row family routes.now) }
+    ensures routes { OnOk result (AllByRecursion (IsValid W) routes.now) }
+    ensures err { OnErr result (Extends out.old.items out.new.items) }
+{
+    let [high, low] = family.to_be_bytes();
+    put_octets(&[high, low, safi::UNICAST], out)?;
+    put_run(routes, out)
+}
+
+/// Adds MP_UNREACH_NLRI's value.
+fn put_unreach(unreach: &MpUnreach, out: &mut Vec<u8>) -> Result<(), AllocError>
+    ensures ok { OnOk result (out.new.items ≡ out.old.items ++ unreach_octets unreach.now) }
+    ensures ranges { OnOk result (HasRanges (attr.MpUnreach unreach.now)) }
+    ensures err { OnErr result (Extends out.old.items out.new.items) }
+{
+    match unreach {
+        MpUnreach::Ip4(routes) => put_unreach_row(afi::IPV4, routes, out)?,
+        MpUnreach::Ip6(routes) => put_unreach_row(afi::IPV6, routes, out)?,
+    }
+    Ok(())
+}
+
+/// Adds the value of an attribute that isn't recognised.
+fn put_opaque(opaque: &Opaque, out: &mut Vec<u8>) -> Result<(), AllocError>
+    ensures ok { OnOk result (out.new.items ≡ out.old.items ++ opaque.now.value) }
+    ensures ranges { OnOk result (HasRanges (attr.Opaque opaque.now)) }
+    ensures err { OnErr result (Extends out.old.items out.new.items) }
+{
+    // The type is read for its range alone.
+    let _kind = opaque.kind;
+    put_octets(&opaque.value, out)?;
+    Ok(())
+}
+
+/// Adds the value of an attribute.
+fn put_value(ctx: &Context, attr: AttrRef<'_>, out: &mut Vec<u8>) -> Result<(), AllocError>
+    requires { is_empty (ref_value attr) ≡ false }
+    ensures ok { OnOk result (out.new.items ≡ out.old.items ++ value_octets ctx.now (ref_value attr.entry)) }
+    ensures ranges { OnOk result (HasRanges (ref_value attr.entry)) }
+    ensures err { OnErr result (Extends out.old.items out.new.items) }
+{
+    match attr {
+        AttrRef::Origin(origin) => put_octets(&[origin as u8], out),
+        AttrRef::AsPath(path) => put_path(ctx.as4, &path.segments, out),
+        AttrRef::NextHop(addr) => put_address(addr, out),
+        AttrRef::Med(number) | AttrRef::LocalPref(number) => put_number(true, number, out),
+        AttrRef::Atomic => Ok(()),
+        AttrRef::Aggregator(aggregator) => put_aggregator(ctx.as4, aggregator, out),
+        AttrRef::Communities(communities) => put_numbers(&communities.values, out),
+        AttrRef::MpReach(reach) => put_reach(reach, out),
+        AttrRef::MpUnreach(unreach) => put_unreach(unreach, out),
+        AttrRef::As4Path(path) => put_path(true, &path.path.segments, out),
+        AttrRef::As4Aggregator(aggregator) => put_aggregator(true, aggregator, out),
+        AttrRef::Large(communities) => put_triples(&communities.values, out),
+        AttrRef::Opaque(opaque) => put_opaque(opaque, out),
+    }
+}
+
+/// Adds an attribute whose value has so many octets; a part of it may stay where a growth was refused.
+#[tactic(auto, using(crate::proofs::WrittenTlv::head_then_value))]
+fn put_attr(
+    ctx: &Context,
+    attr: AttrRef<'_>,
+    len: usize,
+    out: &mut Vec<u8>,
+) -> Result<(), AllocError>
+    requires filled { is_empty (ref_value attr) ≡ false }
+    requires len { len ≡ value_len ctx.now (ref_value attr) }
+    requires short { len ≤ 65535 }
+    ensures ok { OnOk result (out.new.items ≡ out.old.items ++ canonical ctx.now (ref_value attr.entry)) }
+    ensures ranges { OnOk result (HasRanges (ref_value attr.entry)) }
+    ensures err { OnErr result (Extends out.old.items out.new.items) }
+{
+    let extended = len > 255;
+    let flags = flags_octet(class_of(attr), partial_of(attr), extended);
+    put_head(flags, type_of(attr), extended, len, out)?;
+    put_value(ctx, attr, out)
+}
+
+/// Adds the one written form of an attribute: the shortest length, and 0 for all that is ignored.
+///
+/// # Errors
+/// `AllocError` where a growth was refused; the vector is then as it was.
+pub fn write_attr_ref(
+    ctx: &Context,
+    attr: AttrRef<'_>,
+    out: &mut Vec<u8>,
+) -> Result<(), AllocError>
+    requires { is_writable ctx.now (ref_value attr) ≡ true }
+    ensures ok { OnOk result (out.new.items ≡ out.old.items ++ canonical ctx.now (ref_value attr.entry)) }
+    // Where it belongs, it is read as itself.
+    ensures kept { OnOk result ((has_nlri : Bool) → Belongs ctx.now has_nlri (ref_value attr.entry)
+        → judgement ctx.now has_nlri (written_tlv ctx.now (ref_value attr.entry)) ≡ judged.Keep (ref_value attr.entry)) }
+    ensures ranges { OnOk result (HasRanges (ref_value attr.entry)) }
+    ensures err { OnErr result (out.new.items ≡ out.old.items) }
+{
+    let start = out.len();
+    let len = value_len(ctx, attr).unwrap_or(0);
+    let written = put_attr(ctx, attr, len, out);
+    if written.is_err() {
+        out.truncate(start);
+    }
+    written
+}
+
+/// Adds the one written form of an attribute, as [`write_attr_ref`] does.
+///
+/// # Errors
+/// `AllocError` where a growth was refused; the vector is then as it was.
+pub fn write_attr(ctx: &Context, attr: &Attr, out: &mut Vec<u8>) -> Result<(), AllocError>
+    requires { is_writable ctx.now attr.now ≡ true }
+    ensures ok { OnOk result (out.new.items ≡ out.old.items ++ canonical ctx.now attr.now) }
+    // Where it belongs, it is read as itself.
+    ensures kept { OnOk result ((has_nlri : Bool) → Belongs ctx.now has_nlri attr.now
+        → judgement ctx.now has_nlri (written_tlv ctx.now attr.now) ≡ judged.Keep attr.now) }
+    ensures err { OnErr result (out.new.items ≡ out.old.items) }
+{
+    write_attr_ref(ctx, AttrRef::from(attr), out)
+}

@@ -1,0 +1,8 @@
+use Rattle.std.proofs.Common.{◌≡◌}
+use Rattle.bgp_update.specs.MarkIter.{marks_left}
+use Rattle.bgp_update.specs.Taken.{kept_of}
+use Rattle.bgp_update.proofs.attr_iter.first_kept.Given as goal
+
+-- what is left keeps as much
+abbrev pub invariant-field : goal.invariant-field
+invariant-field l = kept_of (marks_left l.fn.marks) ≡ kept_of (marks_left l.marks)

@@ -1,0 +1,9 @@
+use Rattle.std.proofs.Common.{◌≡◌}
+use Rattle.std.specs.List.{flat_map}
+use Rattle.bgp_update.specs.MarkIter.{marks_left}
+use Rattle.bgp_update.specs.Notes.{mark_notes}
+use Rattle.bgp_update.proofs.note_iter.first_note.Given as goal
+
+-- what is left has as many notes
+abbrev pub invariant-field : goal.invariant-field
+invariant-field l = flat_map (mark_notes l.field_at) (marks_left l.fn.marks) ≡ flat_map (mark_notes l.field_at) (marks_left l.marks)

@@ -1,0 +1,10 @@
+use Rattle.bgp_update.specs.MarkIter.{mark_value, marks_left}
+use Rattle.bgp_update.specs.Marks.{field_marks}
+use Rattle.bgp_update.specs.Summary.{summary_value, summary_of}
+use Rattle.bgp_update.proofs.Summaries.{summary_step}
+use Rattle.bgp_update.proofs.summary.summarize.Goals as goal
+
+pub field-preserved : goal.field-preserved
+field-preserved c =
+    summary_step (summary_value c.field.summary) (summary_value c.add.new.self) (summary_of (field_marks c.args.ctx.now c.args.has_nlri c.args.field.now))
+    (mark_value c.in-Some.mark) (marks_left c.field.marks) (marks_left c.next.new.self) c.add.ensures c.in-Some.ensures.steps c.field.invariant

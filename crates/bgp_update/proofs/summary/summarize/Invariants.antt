@@ -1,0 +1,9 @@
+use Rattle.std.proofs.Common.{◌≡◌}
+use Rattle.bgp_update.specs.MarkIter.{marks_left}
+use Rattle.bgp_update.specs.Marks.{field_marks}
+use Rattle.bgp_update.specs.Summary.{summary_value, summary_behind, summary_of}
+use Rattle.bgp_update.proofs.summary.summarize.Given as goal
+
+-- those so far and those still to come are all
+abbrev pub invariant-field : goal.invariant-field
+invariant-field l = summary_behind (summary_value l.summary) (marks_left l.marks) ≡ summary_of (field_marks l.ctx l.has_nlri l.field)

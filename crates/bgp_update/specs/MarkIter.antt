@@ -1,0 +1,17 @@
+-- What borrowed marks are, and what an iterator of them has left.
+use Rattle.std.specs.Prelude.{ℕ, ◌-◌, List, [], ◌++◌, length, if◌then◌else◌}
+use Rattle.bgp_attr.specs.JudgedView.{judged_value}
+use Rattle.bgp_attr.specs.TlvIter.{tlvs_left, rest_left}
+use Rattle.bgp_update.specs.declared.mark.MarkView.{MarkView}
+use Rattle.bgp_update.specs.declared.mark.MarkIter.{MarkIter}
+use Rattle.bgp_update.specs.Marks.{Mark, marks_behind, cut_mark}
+use Rattle.bgp_update.specs.Seen.{seen_types}
+
+abbrev pub mark_value : MarkView → Mark
+mark_value m = record { at = m.at; kind = m.kind; judged = judged_value m.judged }
+
+-- the marks still to come
+abbrev pub marks_left : MarkIter → List Mark
+marks_left it =
+    marks_behind it.ctx it.has_nlri (seen_types it.seen) (tlvs_left it.tlvs)
+    ++ (if it.is_done then [] else cut_mark (it.len - length (rest_left it.tlvs)) (rest_left it.tlvs))

@@ -1,0 +1,100 @@
+-- Reachability, what is missing, the notes and the routes of a message (RFC 7606, sections 3, 5.2 and 6).
+use Rattle.std.specs.Prelude.{ℕ, ◌+◌, Bool, true, false, not, ◌&&◌, ◌||◌, ◌==◌, nat_lt, List, [], ◌∷◌, ◌++◌, length, map, Option, None, Some, if◌then◌else◌}
+use Rattle.std.specs.List.{flat_map, list_any}
+use Rattle.bgp_numbers.specs.declared.attribute.TheConstants.{ORIGIN, AS_PATH, NEXT_HOP}
+use Rattle.bgp_prefix.specs.Prefix.{PrefixValue}
+use Rattle.bgp_prefix.specs.Run.{run_of}
+use Rattle.bgp_attr.specs.declared.attr.Attr.{Attr}
+use Rattle.bgp_attr.specs.declared.judged.Judged.{Judged}
+use Rattle.bgp_attr.specs.declared.judged.Judged.TheVariants as judged
+use Rattle.bgp_attr.specs.declared.mp.MpReach.{MpReach}
+use Rattle.bgp_attr.specs.declared.mp.MpReach.TheVariants as reach
+use Rattle.bgp_attr.specs.declared.mp.MpUnreach.{MpUnreach}
+use Rattle.bgp_attr.specs.declared.mp.MpUnreach.TheVariants as unreach
+use Rattle.bgp_attr.specs.declared.why.Why.{Why}
+use Rattle.bgp_attr.specs.declared.why.Why.TheVariants as why
+use Rattle.bgp_attr.specs.Tlv.{PlacedTlv}
+use Rattle.bgp_update.specs.declared.missing.Missing.{Missing}
+use Rattle.bgp_update.specs.declared.note.Note.{Note}
+use Rattle.bgp_update.specs.declared.routes.Routes.{Routes}
+use Rattle.bgp_update.specs.Parts.{Parts, attributes_at, has_nlri}
+use Rattle.bgp_update.specs.Marks.{Mark, placed_tlvs}
+use Rattle.bgp_update.specs.Taken.{kept_of, first_in, as_mp_reach, as_mp_unreach}
+
+-- ---- routes of the multiprotocol attributes
+
+abbrev pub reached_ip4 : Option MpReach → List PrefixValue
+reached_ip4 (Some (reach.Ip4 hop routes)) = routes
+reached_ip4 _ = []
+
+abbrev pub reached_ip6 : Option MpReach → List PrefixValue
+reached_ip6 (Some (reach.Ip6 hop link routes)) = routes
+reached_ip6 _ = []
+
+abbrev pub gone_ip4 : Option MpUnreach → List PrefixValue
+gone_ip4 (Some (unreach.Ip4 routes)) = routes
+gone_ip4 _ = []
+
+abbrev pub gone_ip6 : Option MpUnreach → List PrefixValue
+gone_ip6 (Some (unreach.Ip6 routes)) = routes
+gone_ip6 _ = []
+
+-- whether an MP_REACH_NLRI has a route
+abbrev pub has_routes : Option MpReach → Bool
+has_routes r = nat_lt 0 (length (reached_ip4 r)) || nat_lt 0 (length (reached_ip6 r))
+
+-- ---- what is missing
+
+-- the message announces a route
+abbrev pub is_reachable : Parts → List Mark → Bool
+is_reachable p marks = has_nlri p || has_routes (first_in as_mp_reach (kept_of marks))
+
+-- whether an attribute of a type stands in a field, whatever it comes to
+abbrev pub types_of_field : List ℕ → ℕ → Bool
+types_of_field field = λ kind. list_any (λ q. q.tlv.kind == kind) (placed_tlvs field)
+
+-- which of ORIGIN, AS_PATH and NEXT_HOP a message that announces routes hasn't: NEXT_HOP is for NLRI alone
+abbrev pub missing_in : Bool → Bool → List ℕ → Missing
+missing_in reaches nlri field = record {
+  origin = reaches && not (types_of_field field ORIGIN);
+  as_path = reaches && not (types_of_field field AS_PATH);
+  next_hop = nlri && not (types_of_field field NEXT_HOP);
+}
+
+abbrev pub missing_of : Parts → List Mark → Missing
+missing_of p marks = missing_in (is_reachable p marks) (has_nlri p) p.attributes
+
+abbrev pub is_missing : Missing → Bool
+is_missing m = m.origin || (m.as_path || m.next_hop)
+
+-- ---- notes
+
+-- why a mark isn't kept, where the session goes on
+abbrev pub why_not : Judged → List Why
+why_not (judged.Discard w) = w ∷ []
+why_not (judged.Withdraw w) = w ∷ []
+why_not _ = []
+
+-- the note of a mark: its place in the body
+abbrev pub mark_notes : ℕ → Mark → List Note
+mark_notes field_at m = map (λ w. record { at = field_at + m.at; kind = m.kind; why = w }) (why_not m.judged)
+
+abbrev pub missing_note : Bool → ℕ → List Note
+missing_note missing kind = if missing then record { at = 0; kind = kind; why = why.Missing } ∷ [] else []
+
+-- rising in type
+abbrev pub missing_notes : Missing → List Note
+missing_notes m = missing_note m.origin ORIGIN ++ (missing_note m.as_path AS_PATH ++ missing_note m.next_hop NEXT_HOP)
+
+-- each attribute that wasn't kept, by place, the one that is cut off, and then what is missing
+abbrev pub notes_of : Parts → List Mark → List Note
+notes_of p marks = flat_map (mark_notes (attributes_at p)) marks ++ missing_notes (missing_of p marks)
+
+-- ---- routes
+
+-- all routes of the message, each family in its order
+abbrev pub routes_of : Parts → List Mark → Routes
+routes_of p marks = record {
+  ip4 = (run_of 4 p.withdrawn).0 ++ (gone_ip4 (first_in as_mp_unreach (kept_of marks)) ++ (reached_ip4 (first_in as_mp_reach (kept_of marks)) ++ (run_of 4 p.nlri).0));
+  ip6 = gone_ip6 (first_in as_mp_unreach (kept_of marks)) ++ reached_ip6 (first_in as_mp_reach (kept_of marks));
+}

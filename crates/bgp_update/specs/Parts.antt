@@ -1,0 +1,44 @@
+-- The parts of an UPDATE's body (RFC 4271, section 4.3): Withdrawn Routes behind their length, path attributes behind theirs,
+-- each length in two octets, and Network Layer Reachability Information up to the end.
+use Rattle.std.specs.Prelude.{◌≡◌, ◌<◌, ◌^◌, ◌+◌, ℕ, Bool, List, [], ◌∷◌, ◌++◌, length, take, drop, Option, None, Some, nat_le, nat_lt, if◌then◌else◌}
+use Rattle.std.specs.Int.{w16, to_be_bytes, from_be_bytes}
+
+pub record Parts : Type 0 where
+  pub withdrawn : List ℕ
+  pub attributes : List ℕ
+  pub nlri : List ℕ
+
+-- the body is these parts
+pub record IsBody (p : Parts) (body : List ℕ) : Type 0 where
+  pub octets : body ≡ to_be_bytes w16 (length p.withdrawn) ++ (p.withdrawn ++ (to_be_bytes w16 (length p.attributes) ++ (p.attributes ++ p.nlri)))
+  pub withdrawn_fits : length p.withdrawn < 2 ^ 16
+  pub attributes_fit : length p.attributes < 2 ^ 16
+
+-- a length in two octets, so many octets, and what follows them
+abbrev pub behind_two : List ℕ → Option (List ℕ × List ℕ)
+behind_two [] = None
+behind_two (high ∷ []) = None
+behind_two (high ∷ low ∷ b) =
+    if nat_le (from_be_bytes w16 (high ∷ low ∷ [])) (length b)
+    then Some (take (from_be_bytes w16 (high ∷ low ∷ [])) b, drop (from_be_bytes w16 (high ∷ low ∷ [])) b)
+    else None
+
+abbrev pub with_attributes : List ℕ → Option (List ℕ × List ℕ) → Option Parts
+with_attributes withdrawn None = None
+with_attributes withdrawn (Some found) = Some (record { withdrawn = withdrawn; attributes = found.0; nlri = found.1 })
+
+abbrev pub with_withdrawn : Option (List ℕ × List ℕ) → Option Parts
+with_withdrawn None = None
+with_withdrawn (Some found) = with_attributes found.0 (behind_two found.1)
+
+-- the parts of a body, where the lengths leave room for each other
+unfoldable pub parts_of : List ℕ → Option Parts
+parts_of body = with_withdrawn (behind_two body)
+
+-- the place of the path attributes in the body
+abbrev pub attributes_at : Parts → ℕ
+attributes_at p = 4 + length p.withdrawn
+
+-- the NLRI field isn't empty
+abbrev pub has_nlri : Parts → Bool
+has_nlri p = nat_lt 0 (length p.nlri)

@@ -1,0 +1,44 @@
+-- What all marks of a field come to.
+use Rattle.std.specs.Prelude.{ℕ, Bool, true, false, ◌||◌, List, [], ◌∷◌, Option, None, Some, option_map}
+use Rattle.std.specs.List.{list_any}
+use Rattle.std.specs.Option.{option_or}
+use Rattle.bgp_frame.specs.declared.notification.Notification.{Notification}
+use Rattle.bgp_frame.specs.Notification.{notification_of_view}
+use Rattle.bgp_attr.specs.declared.mp.MpReach.{MpReach}
+use Rattle.bgp_attr.specs.declared.mp.MpUnreach.{MpUnreach}
+use Rattle.bgp_attr.specs.MpView.{reach_value, unreach_value}
+use Rattle.bgp_update.specs.declared.summary.Summary.{Summary}
+use Rattle.bgp_update.specs.Marks.{Mark}
+use Rattle.bgp_update.specs.Taken.{kept_of, first_in, as_mp_reach, as_mp_unreach}
+use Rattle.bgp_update.specs.Verdict.{first_reset, withdraws}
+
+pub record SummaryValue : Type 0 where
+  pub reset : Option Notification
+  pub withdraws : Bool
+  pub reach : Option MpReach
+  pub unreach : Option MpUnreach
+
+abbrev pub summary_value : Summary → SummaryValue
+summary_value s = record {
+  reset = option_map notification_of_view s.reset;
+  withdraws = s.withdraws;
+  reach = option_map reach_value s.reach;
+  unreach = option_map unreach_value s.unreach;
+}
+
+-- with more marks behind those that it is of
+abbrev pub summary_behind : SummaryValue → List Mark → SummaryValue
+summary_behind s marks = record {
+  reset = option_or s.reset (first_reset marks);
+  withdraws = s.withdraws || list_any (λ m. withdraws m.judged) marks;
+  reach = option_or s.reach (first_in as_mp_reach (kept_of marks));
+  unreach = option_or s.unreach (first_in as_mp_unreach (kept_of marks));
+}
+
+abbrev pub summary_of : List Mark → SummaryValue
+summary_of marks = record {
+  reset = first_reset marks;
+  withdraws = list_any (λ m. withdraws m.judged) marks;
+  reach = first_in as_mp_reach (kept_of marks);
+  unreach = first_in as_mp_unreach (kept_of marks);
+}

@@ -1,0 +1,34 @@
+-- What a borrowed UPDATE is.
+use Rattle.std.specs.Prelude.{List}
+use Rattle.bgp_frame.specs.Notification.{notification_of_view}
+use Rattle.bgp_update.specs.declared.note.Note.{Note}
+use Rattle.bgp_update.specs.declared.routes.Routes.{Routes}
+use Rattle.bgp_update.specs.declared.update.Update.{Update}
+use Rattle.bgp_update.specs.declared.verdict.Verdict.{Verdict}
+use Rattle.bgp_update.specs.declared.verdict.Verdict.TheVariants as verdict
+use Rattle.bgp_update.specs.declared.view.UpdateView.{UpdateView}
+use Rattle.bgp_update.specs.declared.view.View.{View}
+use Rattle.bgp_update.specs.declared.view.View.TheVariants as view
+use Rattle.bgp_update.specs.Body.{parts_value}
+use Rattle.bgp_update.specs.Marks.{Mark, marks_of}
+use Rattle.bgp_update.specs.Notes.{notes_of, routes_of}
+use Rattle.bgp_update.specs.Taken.{update_of}
+
+-- the marks of its attributes
+abbrev pub view_marks : UpdateView → List Mark
+view_marks v = marks_of v.ctx (parts_value v.body)
+
+-- what it says with the attributes that are kept
+abbrev pub update_value : UpdateView → Update
+update_value v = update_of (parts_value v.body) (view_marks v)
+
+abbrev pub notes_value : UpdateView → List Note
+notes_value v = notes_of (parts_value v.body) (view_marks v)
+
+abbrev pub routes_value : UpdateView → Routes
+routes_value v = routes_of (parts_value v.body) (view_marks v)
+
+abbrev pub view_value : View → Verdict
+view_value (view.Take v) = verdict.Take (update_value v) (notes_value v)
+view_value (view.Withdraw v) = verdict.Withdraw (routes_value v) (notes_value v)
+view_value (view.Reset n) = verdict.Reset (notification_of_view n)

@@ -1,0 +1,37 @@
+//! The parts of an UPDATE's body.
+
+ghost use Rattle.std.specs.Prelude.{◌≡◌, option_map};
+ghost use Rattle.bgp_update.specs.Parts.{behind_two, parts_of};
+ghost use Rattle.bgp_update.specs.Body.{parts_value};
+
+/// The parts of a body (RFC 4271, section 4.3).
+#[derive(Clone, Copy, Debug)]
+pub(crate) struct Body<'a> {
+    pub(crate) withdrawn: &'a [u8],
+    pub(crate) attributes: &'a [u8],
+    pub(crate) nlri: &'a [u8],
+}
+
+/// The octets behind a length of two octets, and what follows them.
+fn split_behind(octets: &[u8]) -> Option<(&[u8], &[u8])>
+    ensures { option_map (λ x. (x.0.now, x.1.now)) result ≡ behind_two octets.now }
+{
+    let (high, rest) = octets.split_first()?;
+    let (low, rest) = rest.split_first()?;
+    let len = usize::from(u16::from_be_bytes([*high, *low]));
+    rest.split_at_checked(len)
+}
+
+/// The parts of a body, where the lengths leave room for each other.
+#[tactic(auto, unfolding(crate::specs::Parts::parts_of))]
+pub(crate) fn split_body(body: &[u8]) -> Option<Body<'_>>
+    ensures { option_map parts_value result ≡ parts_of body.now }
+{
+    let (withdrawn, rest) = split_behind(body)?;
+    let (attributes, nlri) = split_behind(rest)?;
+    Some(Body {
+        withdrawn,
+        attributes,
+        nlri,
+    })
+}

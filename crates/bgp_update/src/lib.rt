@@ -1,0 +1,35 @@
+//! UPDATE of BGP-4: the verdict on its body by RFC 7606, how it is written, and AS numbers of four octets among speakers that have two
+//! (RFC 4271, sections 4.3, 5 and 6.3; RFC 6793).
+#![tactic(auto)]
+
+mod add_routes;
+mod attr_iter;
+mod attrs;
+mod body;
+mod gather;
+mod invalid;
+mod judge_body;
+mod malformed;
+mod mark;
+mod missing;
+mod note;
+mod note_iter;
+mod path_info;
+mod routes;
+mod seen;
+mod summary;
+mod update;
+mod verdict;
+mod view;
+
+pub use attr_iter::AttrIter;
+pub use attrs::Attrs;
+pub use invalid::Invalid;
+pub use note::Note;
+pub use note_iter::NoteIter;
+pub use path_info::PathInfo;
+pub use routes::Routes;
+pub use update::Update;
+pub use judge_body::view_update;
+pub use verdict::Verdict;
+pub use view::{UpdateView, View};

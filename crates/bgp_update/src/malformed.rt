@@ -1,0 +1,58 @@
+//! Attributes that repeat, or that are cut off.
+
+ghost use Rattle.std.specs.Prelude.{◌≡◌, ◌<◌, length};
+ghost use Rattle.bgp_attr.specs.JudgedView.{judged_value};
+ghost use Rattle.bgp_frame.specs.Notification.{notification_of_view};
+ghost use Rattle.bgp_update.specs.Marks.{malformed, carries_routes, repeated, cut_kind, cut};
+
+use bgp_attr::{JudgedView, Why};
+use bgp_frame::NotificationView;
+use bgp_numbers::attribute::{MP_REACH_NLRI, MP_UNREACH_NLRI};
+use bgp_numbers::error::{MALFORMED_ATTRIBUTE_LIST, UPDATE_MESSAGE};
+
+/// A reset of code 3, subcode 1 (Malformed Attribute List), without information.
+pub(crate) fn malformed() -> NotificationView<'static>
+    ensures { notification_of_view result ≡ malformed }
+{
+    NotificationView {
+        code: UPDATE_MESSAGE,
+        subcode: MALFORMED_ATTRIBUTE_LIST,
+        info: &[],
+    }
+}
+
+/// Whether attributes of a type carry routes.
+fn carries_routes(kind: u8) -> bool
+    ensures { result ≡ carries_routes kind }
+{
+    kind == MP_REACH_NLRI || kind == MP_UNREACH_NLRI
+}
+
+/// What a second attribute of a type comes to.
+pub(crate) fn repeated(kind: u8) -> JudgedView<'static>
+    ensures { judged_value result ≡ repeated kind }
+{
+    if carries_routes(kind) {
+        JudgedView::Reset(malformed())
+    } else {
+        JudgedView::Discard(Why::Repeated)
+    }
+}
+
+/// The type of an attribute that is cut off: 0 where it is cut off before that.
+pub(crate) fn cut_kind(rest: &[u8]) -> u8
+    ensures { result ≡ cut_kind rest.now }
+{
+    if rest.len() < 2 { 0 } else { rest[1] }
+}
+
+/// What an attribute that is cut off comes to.
+pub(crate) fn cut(rest: &[u8]) -> JudgedView<'static>
+    ensures { judged_value result ≡ cut rest.now }
+{
+    if rest.len() > 1 && carries_routes(cut_kind(rest)) {
+        JudgedView::Reset(malformed())
+    } else {
+        JudgedView::Withdraw(Why::Cut)
+    }
+}

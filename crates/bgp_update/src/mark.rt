@@ -1,0 +1,97 @@
+//! What each attribute of a field comes to, one after another.
+
+ghost use Rattle.std.specs.Prelude.{◌≡◌, ◌≤◌, true, length};
+ghost use Rattle.std.specs.List.{list_all};
+ghost use Rattle.bgp_attr.specs.TlvIter.{tlvs_left};
+ghost use Rattle.bgp_update.specs.Small.{is_small};
+
+use crate::malformed::{cut, cut_kind, repeated};
+use crate::seen::Seen;
+use bgp_attr::{JudgedView, Tail, TlvIter, judge_view};
+use bgp_open::Context;
+use std::iter::FusedIterator;
+
+/// An attribute's place in the field, its type, and what it comes to.
+#[derive(Clone, Copy, Debug)]
+pub(crate) struct MarkView<'a> {
+    pub(crate) at: usize,
+    pub(crate) kind: u8,
+    pub(crate) judged: JudgedView<'a>,
+    pub(crate) ghost small: { at ≤ 4075 },
+}
+
+/// The marks of a field: of its attributes by place, then of one that is cut off. It takes no memory.
+#[derive(Clone, Copy, Debug)]
+pub(crate) struct MarkIter<'a> {
+    ctx: Context,
+    has_nlri: bool,
+    seen: Seen,
+    tlvs: TlvIter<'a>,
+    len: usize,
+    is_done: bool,
+    ghost short: { len ≤ 4075 },
+    ghost small: { list_all is_small (tlvs_left tlvs) ≡ true },
+}
+
+impl<'a> MarkIter<'a> {
+    ghost use Rattle.bgp_update.specs.Marks.{field_marks};
+    ghost use Rattle.bgp_update.specs.MarkIter.{marks_left};
+
+    /// The marks of a field of at most 4075 octets.
+    #[tactic(auto, using(crate::proofs::SmallLemmas::field_small), unfolding(crate::specs::Marks::field_marks))]
+    pub(crate) fn new(ctx: &Context, has_nlri: bool, field: &'a [u8]) -> MarkIter<'a>
+        requires { length field.now ≤ 4075 }
+        ensures { marks_left result ≡ field_marks ctx.now has_nlri field.now }
+    {
+        MarkIter {
+            ctx: *ctx,
+            has_nlri,
+            seen: Seen::new(),
+            tlvs: TlvIter::new(field),
+            len: field.len(),
+            is_done: false,
+        }
+    }
+}
+
+impl<'a> Iterator for MarkIter<'a> {
+    ghost use Rattle.std.specs.Iterator.{YieldsFirstBy, item_count};
+    ghost use Rattle.bgp_update.specs.MarkIter.{mark_value, marks_left};
+
+    type Item = MarkView<'a>;
+
+    ghost next_gives = { YieldsFirstBy mark_value marks_left };
+
+    ghost remaining = { item_count marks_left };
+
+    fn next(&mut self) -> Option<MarkView<'a>> {
+        if let Some(tlv) = self.tlvs.next() {
+            let kind = tlv.kind;
+            let judged = if self.seen.contains(kind) {
+                repeated(kind)
+            } else {
+                judge_view(&self.ctx, self.has_nlri, &tlv)
+            };
+            self.seen.insert(kind);
+            return Some(MarkView {
+                at: tlv.at,
+                kind,
+                judged,
+            });
+        }
+        if self.is_done {
+            return None;
+        }
+        self.is_done = true;
+        match self.tlvs.tail() {
+            Tail::End => None,
+            Tail::Cut(rest) => Some(MarkView {
+                at: self.len.saturating_sub(rest.len()),
+                kind: cut_kind(rest),
+                judged: cut(rest),
+            }),
+        }
+    }
+}
+
+impl<'a> FusedIterator for MarkIter<'a> {}

@@ -1,0 +1,32 @@
+//! The path of a route, and who aggregated it, as speakers with AS numbers of four octets see them.
+
+ghost use Rattle.std.specs.Prelude.{◌≡◌, IfOk};
+
+use bgp_attr::{Aggregator, AsPath};
+use std::alloc::{AllocError, Global};
+
+/// The path and the aggregator that AS4_PATH and AS4_AGGREGATOR give back (RFC 6793, section 4.2.3).
+#[derive(Debug, Drop, PartialEq)]
+pub struct PathInfo {
+    pub path: Option<AsPath>,
+    pub aggregator: Option<Aggregator>,
+}
+
+impl PathInfo {
+    /// An equal value, with memory of its own.
+    ///
+    /// # Errors
+    /// `AllocError` where a growth was refused.
+    pub fn copy(&self, alloc: Global) -> Result<PathInfo, AllocError>
+        ensures { IfOk result (λ copy. copy ≡ self.now) }
+    {
+        let path = match &self.path {
+            None => None,
+            Some(path) => Some(path.copy(alloc)?),
+        };
+        Ok(PathInfo {
+            path,
+            aggregator: self.aggregator,
+        })
+    }
+}

@@ -1,0 +1,30 @@
+//! The routes of a message that is treated as a withdrawal.
+
+ghost use Rattle.std.specs.Prelude.{◌≡◌, IfOk};
+
+use bgp_prefix::{Prefix4, Prefix6};
+use bgp_wire::List;
+use std::alloc::{AllocError, Global};
+
+/// All routes of a message, announced and withdrawn alike (RFC 7606, section 2). Repeats stay.
+#[derive(Debug, Drop, PartialEq)]
+pub struct Routes {
+    /// IPv4 unicast: of Withdrawn Routes, MP_UNREACH_NLRI, MP_REACH_NLRI and the NLRI field, in this order.
+    pub ip4: List<Prefix4>,
+    /// IPv6 unicast: of MP_UNREACH_NLRI and MP_REACH_NLRI, in this order.
+    pub ip6: List<Prefix6>,
+}
+
+impl Routes {
+    /// Equal routes, with memory of their own.
+    ///
+    /// # Errors
+    /// `AllocError` where a growth was refused.
+    pub fn copy(&self, alloc: Global) -> Result<Routes, AllocError>
+        ensures { IfOk result (λ copy. copy ≡ self.now) }
+    {
+        let ip4 = self.ip4.copy(alloc)?;
+        let ip6 = self.ip6.copy(alloc)?;
+        Ok(Routes { ip4, ip6 })
+    }
+}

@@ -1,0 +1,37 @@
+//! The UPDATE.
+
+ghost use Rattle.std.specs.Prelude.{◌≡◌, IfOk};
+
+use crate::attrs::Attrs;
+use bgp_prefix::Prefix4;
+use bgp_wire::List;
+use std::alloc::{AllocError, Global};
+
+/// What an UPDATE says (RFC 4271, section 4.3).
+#[derive(Debug, Drop, PartialEq)]
+pub struct Update {
+    /// Withdrawn Routes: IPv4 unicast.
+    pub withdrawn: List<Prefix4>,
+    pub attrs: Attrs,
+    /// Network Layer Reachability Information: IPv4 unicast.
+    pub nlri: List<Prefix4>,
+}
+
+impl Update {
+    /// An equal UPDATE, with memory of its own.
+    ///
+    /// # Errors
+    /// `AllocError` where a growth was refused.
+    pub fn copy(&self, alloc: Global) -> Result<Update, AllocError>
+        ensures { IfOk result (λ copy. copy ≡ self.now) }
+    {
+        let withdrawn = self.withdrawn.copy(alloc)?;
+        let attrs = self.attrs.copy(alloc)?;
+        let nlri = self.nlri.copy(alloc)?;
+        Ok(Update {
+            withdrawn,
+            attrs,
+            nlri,
+        })
+    }
+}

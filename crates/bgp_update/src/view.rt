@@ -1,0 +1,164 @@
+//! The verdict on an UPDATE, from borrowed octets.
+
+ghost use Rattle.std.specs.Prelude.{◌≡◌, ◌≤◌, ◌+◌, length, option_map};
+ghost use Rattle.bgp_attr.specs.MpView.{reach_value, unreach_value};
+ghost use Rattle.bgp_update.specs.Body.{parts_value};
+ghost use Rattle.bgp_update.specs.Marks.{marks_of};
+ghost use Rattle.bgp_update.specs.Notes.{missing_of};
+ghost use Rattle.bgp_update.specs.Taken.{kept_of, first_in, as_mp_reach, as_mp_unreach};
+
+use crate::add_routes::add_routes;
+use crate::attr_iter::AttrIter;
+use crate::body::Body;
+use crate::gather::gather;
+use crate::mark::MarkIter;
+use crate::missing::Missing;
+use crate::note_iter::NoteIter;
+use crate::routes::Routes;
+use crate::update::Update;
+use bgp_attr::{MpReachView, MpUnreachView};
+use bgp_frame::NotificationView;
+use bgp_open::Context;
+use bgp_prefix::PrefixIter4;
+use bgp_wire::List;
+use std::alloc::{AllocError, Global};
+
+/// The body of an UPDATE that is taken, or whose routes are withdrawn, borrowed. What it gives takes no memory.
+#[derive(Clone, Copy, Debug)]
+pub struct UpdateView<'a> {
+    ctx: Context,
+    body: Body<'a>,
+    missing: Missing,
+    reach: Option<MpReachView<'a>>,
+    unreach: Option<MpUnreachView<'a>>,
+    ghost short: { length body.withdrawn.now + length body.attributes.now ≤ 4073 },
+    ghost misses: { missing ≡ missing_of (parts_value body) (marks_of ctx (parts_value body)) },
+    ghost reaches: { option_map reach_value reach ≡ first_in as_mp_reach (kept_of (marks_of ctx (parts_value body))) },
+    ghost unreaches: { option_map unreach_value unreach ≡ first_in as_mp_unreach (kept_of (marks_of ctx (parts_value body))) },
+}
+
+/// What the body of an UPDATE comes to (RFC 7606, section 3), borrowed.
+#[derive(Clone, Copy, Debug)]
+pub enum View<'a> {
+    /// It is taken with the attributes that are kept.
+    Take(UpdateView<'a>),
+    /// All its routes are withdrawn.
+    Withdraw(UpdateView<'a>),
+    /// The session ends with this notification.
+    Reset(NotificationView<'a>),
+}
+
+impl<'a> UpdateView<'a> {
+    ghost use Rattle.bgp_prefix.specs.PrefixIter.{prefixes_left};
+    ghost use Rattle.bgp_update.specs.View.{update_value};
+
+    /// The view of a body whose marks come to this.
+    pub(crate) fn new(
+        ctx: &Context,
+        body: Body<'a>,
+        missing: Missing,
+        reach: Option<MpReachView<'a>>,
+        unreach: Option<MpUnreachView<'a>>,
+    ) -> UpdateView<'a>
+        requires short { length body.withdrawn.now + length body.attributes.now ≤ 4073 }
+        requires misses { missing ≡ missing_of (parts_value body) (marks_of ctx.now (parts_value body)) }
+        requires reaches { option_map reach_value reach ≡ first_in as_mp_reach (kept_of (marks_of ctx.now (parts_value body))) }
+        requires unreaches { option_map unreach_value unreach ≡ first_in as_mp_unreach (kept_of (marks_of ctx.now (parts_value body))) }
+        ensures ctx { result.ctx ≡ ctx.now }
+        ensures body { result.body ≡ body.entry }
+    {
+        UpdateView {
+            ctx: *ctx,
+            body,
+            missing,
+            reach,
+            unreach,
+        }
+    }
+
+    /// The prefixes of Withdrawn Routes.
+    pub fn withdrawn(&self) -> PrefixIter4<'a>
+        ensures { prefixes_left result ≡ (update_value self.now).withdrawn }
+    {
+        PrefixIter4::new(self.body.withdrawn)
+    }
+
+    /// The prefixes of the NLRI field.
+    pub fn nlri(&self) -> PrefixIter4<'a>
+        ensures { prefixes_left result ≡ (update_value self.now).nlri }
+    {
+        PrefixIter4::new(self.body.nlri)
+    }
+}
+
+impl<'a> UpdateView<'a> {
+    ghost use Rattle.std.specs.Prelude.{IfOk};
+    ghost use Rattle.bgp_update.specs.Iters.{attrs_left, notes_left};
+    ghost use Rattle.bgp_update.specs.MarkIter.{marks_left};
+    ghost use Rattle.bgp_update.specs.View.{view_marks, update_value, notes_value, routes_value};
+
+    /// The marks of the attributes.
+    fn marks(&self) -> MarkIter<'a>
+        ensures { marks_left result ≡ view_marks self.now }
+    {
+        MarkIter::new(&self.ctx, !self.body.nlri.is_empty(), self.body.attributes)
+    }
+
+    /// The attributes that are kept, by place.
+    pub fn attrs(&self) -> AttrIter<'a>
+        ensures { attrs_left result ≡ kept_of (view_marks self.now) }
+    {
+        AttrIter::new(self.marks())
+    }
+
+    /// The notes: each attribute that isn't kept, by place, the one that is cut off, then what is missing.
+    pub fn notes(&self) -> NoteIter<'a>
+        ensures { notes_left result ≡ notes_value self.now }
+    {
+        NoteIter::new(4 + self.body.withdrawn.len(), self.marks(), self.missing)
+    }
+
+    /// The UPDATE with the attributes that are kept, with memory of its own.
+    ///
+    /// # Errors
+    /// `AllocError` where a growth was refused.
+    pub fn own(&self, alloc: Global) -> Result<Update, AllocError>
+        ensures { IfOk result (λ u. u ≡ update_value self.now) }
+    {
+        let withdrawn = List::from_vec(self.withdrawn().collect(alloc)?);
+        let attrs = gather(alloc, self.attrs())?;
+        let nlri = List::from_vec(self.nlri().collect(alloc)?);
+        Ok(Update {
+            withdrawn,
+            attrs,
+            nlri,
+        })
+    }
+
+    /// All routes of the message, with memory of their own.
+    ///
+    /// # Errors
+    /// `AllocError` where a growth was refused.
+    pub fn routes(&self, alloc: Global) -> Result<Routes, AllocError>
+        ensures { IfOk result (λ r. r ≡ routes_value self.now) }
+    {
+        let mut ip4 = Vec::new(alloc);
+        let mut ip6 = Vec::new(alloc);
+        add_routes(self.withdrawn(), &mut ip4)?;
+        match self.unreach {
+            Some(MpUnreachView::Ip4(routes)) => add_routes(routes, &mut ip4)?,
+            Some(MpUnreachView::Ip6(routes)) => add_routes(routes, &mut ip6)?,
+            None => {}
+        }
+        match self.reach {
+            Some(MpReachView::Ip4 { nlri, .. }) => add_routes(nlri, &mut ip4)?,
+            Some(MpReachView::Ip6 { nlri, .. }) => add_routes(nlri, &mut ip6)?,
+            None => {}
+        }
+        add_routes(self.nlri(), &mut ip4)?;
+        Ok(Routes {
+            ip4: List::from_vec(ip4),
+            ip6: List::from_vec(ip6),
+        })
+    }
+}
