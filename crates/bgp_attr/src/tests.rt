@@ -7,6 +7,7 @@ mod memory;
 mod others;
 mod paths;
 mod routes;
+mod written;
 
 use crate::*;
 use bgp_frame::Notification;

@@ -8,7 +8,7 @@ use bgp_wire::{List, TryCopy};
 use std::alloc::{AllocError, Global};
 
 /// An attribute of each kind that takes memory, on a session with AS numbers of two octets.
-const OCTETS: [&[u8]; 9] = [
+pub(super) const OCTETS: [&[u8]; 9] = [
     &[0x40, 2, 8, 2, 3, 0, 1, 0, 2, 0, 3],
     &[0xc0, 8, 8, 0, 0, 0, 2, 0, 0, 0, 1],
     &[0x80, 14, 11, 0, 1, 1, 4, 192, 0, 2, 1, 0, 8, 10],
@@ -42,7 +42,7 @@ fn documented(alloc: Global) -> Result<List<Prefix6>, AllocError> {
 }
 
 /// The attribute of these octets.
-fn value(alloc: Global, place: usize) -> Result<Attr, AllocError> {
+pub(super) fn value(alloc: Global, place: usize) -> Result<Attr, AllocError> {
     match place {
         0 => Ok(Attr::AsPath(path(alloc, SegKind::Seq, &[1, 2, 3])?)),
         1 => Ok(Attr::Communities(Communities {
