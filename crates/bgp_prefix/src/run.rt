@@ -111,7 +111,10 @@ pub fn write_run6(prefixes: &[Prefix6], out: &mut Vec<u8>) -> Result<(), AllocEr
 ///
 /// # Errors
 /// `AllocError` where a growth was refused; the vector is then as it was.
-pub fn write_run<const W: usize>(prefixes: &[Prefix<W>], out: &mut Vec<u8>) -> Result<(), AllocError>
+pub fn write_run<const W: usize>(
+    prefixes: &[Prefix<W>],
+    out: &mut Vec<u8>,
+) -> Result<(), AllocError>
     ensures ok { OnOk result (out.new.items ≡ out.old.items ++ flat_map spelling_of prefixes.now) }
     ensures row { OnOk result (Row (IsPrefix W) prefixes.now (flat_map spelling_of prefixes.now)) }
     ensures back { OnOk result (run_of W (flat_map spelling_of prefixes.now)
