@@ -8,9 +8,11 @@ fn a_list_is_its_vector(rt: HostRuntime) -> Result<(), Fail> {
     assert_eq!(rt; list.len(), 3);
     assert!(rt; !list.is_empty());
     assert_eq!(rt; list.as_slice(), [1, 2, 3].as_slice());
+    list.insert(1, 9)?;
+    assert_eq!(rt; list.as_slice(), [1, 9, 2, 3].as_slice());
     let copy = list.copy(rt.alloc())?;
     assert_eq!(rt; copy, list);
-    assert_eq!(rt; copy.into_vec().as_slice(), [1, 2, 3].as_slice());
+    assert_eq!(rt; copy.into_vec().as_slice(), [1, 9, 2, 3].as_slice());
     assert!(rt; List::<u32>::new(rt.alloc()).copy(rt.alloc())?.is_empty());
     assert_eq!(rt; 7u32.try_copy(rt.alloc())?, 7);
     Ok(())
