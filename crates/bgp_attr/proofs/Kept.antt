@@ -42,7 +42,7 @@ use Rattle.bgp_attr.proofs.Readers.{IsNumber-reads, IsTriple-reads}
 use Rattle.bgp_attr.proofs.NumberRows.{number_row-whole, length-number_row, triple_row-whole, length-triple_row}
 use Rattle.bgp_attr.proofs.SegmentRows.{fault-path, path-only}
 use Rattle.bgp_attr.proofs.RouteRows.{hop_in, hop_in-length, octets-reach, octets-unreach, reach4-value, reach6-value, unreach4-value, unreach6-value}
-use Rattle.bgp_attr.proofs.Tests.{NoneApplies, passed, passed_fault, TypeCase, OfOrigin, OfAsPath, OfNextHop, OfMed, OfLocalPref, OfAtomic, OfAggregator, OfCommunities, OfMpReach, OfMpUnreach, OfAs4Path, OfAs4Aggregator, OfLarge, OfOther, type_case, keep-judgement, keep-value, tests-origin, tests-as_path, tests-next_hop, tests-med, tests-local_pref, tests-atomic, tests-aggregator, tests-communities, tests-mp_reach, tests-mp_unreach, tests-as4_path, tests-as4_aggregator, tests-large, tests-other, value-origin, value-as_path, value-next_hop, value-med, value-local_pref, value-atomic, value-aggregator, value-communities, value-mp_reach, value-mp_unreach, value-as4_path, value-as4_aggregator, value-large, value-other}
+use Rattle.bgp_attr.proofs.TestRows.{NoneApplies, passed, passed_fault, TypeCase, OfOrigin, OfAsPath, OfNextHop, OfMed, OfLocalPref, OfAtomic, OfAggregator, OfCommunities, OfMpReach, OfMpUnreach, OfAs4Path, OfAs4Aggregator, OfLarge, OfOther, type_case, keep-judgement, keep-value, tests-origin, tests-as_path, tests-next_hop, tests-med, tests-local_pref, tests-atomic, tests-aggregator, tests-communities, tests-mp_reach, tests-mp_unreach, tests-as4_path, tests-as4_aggregator, tests-large, tests-other, value-origin, value-as_path, value-next_hop, value-med, value-local_pref, value-atomic, value-aggregator, value-communities, value-mp_reach, value-mp_unreach, value-as4_path, value-as4_aggregator, value-large, value-other}
 
 -- ---- what is kept is spelled
 

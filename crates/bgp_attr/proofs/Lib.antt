@@ -8,7 +8,7 @@ pub mod SegmentSteps
 pub mod LargeSteps
 pub mod Aggregators
 pub mod Runs
-pub mod Tests
+pub mod TestRows
 pub mod FlagBits
 pub mod NumberRows
 pub mod OnceLemmas

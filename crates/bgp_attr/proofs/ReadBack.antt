@@ -43,7 +43,7 @@ use Rattle.bgp_attr.proofs.NumberRows.{Fits, number_in-octets, length-number_oct
 use Rattle.bgp_attr.proofs.SegmentRows.{CanStand, path_of-octets, path_fault-octets, path_has_zero-octets, length-even, length-least}
 use Rattle.bgp_attr.proofs.OnceLemmas.{each_once-same}
 use Rattle.bgp_attr.proofs.RouteRows.{afi_number, reach-family, reach-hop_length, reach-long, reach-longer, reach-good, reach4-value, reach6-value, reach_row-spells, unreach-family, unreach-long, unreach-good, unreach4-value, unreach6-value, unreach_row-spells}
-use Rattle.bgp_attr.proofs.Tests.{NoneApplies, tests-mp_reach, value-mp_reach, tests-mp_unreach, value-mp_unreach, pass, pass_fault, tests-as_path, value-as_path, tests-as4_path, value-as4_path, tests-communities, value-communities, tests-large, value-large, judgement-keep, tests-origin, value-origin, tests-next_hop, value-next_hop, tests-med, value-med, tests-local_pref, value-local_pref, tests-atomic, value-atomic, tests-aggregator, value-aggregator, tests-as4_aggregator, value-as4_aggregator, tests-other, value-other, Writes, writable-Writes}
+use Rattle.bgp_attr.proofs.TestRows.{NoneApplies, tests-mp_reach, value-mp_reach, tests-mp_unreach, value-mp_unreach, pass, pass_fault, tests-as_path, value-as_path, tests-as4_path, value-as4_path, tests-communities, value-communities, tests-large, value-large, judgement-keep, tests-origin, value-origin, tests-next_hop, value-next_hop, tests-med, value-med, tests-local_pref, value-local_pref, tests-atomic, value-atomic, tests-aggregator, value-aggregator, tests-as4_aggregator, value-as4_aggregator, tests-other, value-other, Writes, writable-Writes}
 
 -- ---- one whole attribute
 

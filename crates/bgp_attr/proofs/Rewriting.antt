@@ -34,7 +34,7 @@ use Rattle.bgp_attr.proofs.OnceLemmas.{each_once-repeats, each_once-all, each_on
 use Rattle.bgp_attr.proofs.SegmentRows.{path-rewrites}
 use Rattle.bgp_attr.proofs.RouteRows.{reach-family, reach-hop_octets, reach-valid, reach-rewritten, unreach-family, unreach-valid, unreach-rewritten}
 use Rattle.bgp_attr.proofs.Kept.{communities-spells, large-spells, mp_reach-spells, mp_unreach-spells}
-use Rattle.bgp_attr.proofs.Tests.{NoneApplies, passed, passed_fault, Writes-writable, TypeCase, OfOrigin, OfAsPath, OfNextHop, OfMed, OfLocalPref, OfAtomic, OfAggregator, OfCommunities, OfMpReach, OfMpUnreach, OfAs4Path, OfAs4Aggregator, OfLarge, OfOther, type_case, keep-judgement, keep-value, tests-origin, tests-as_path, tests-next_hop, tests-med, tests-local_pref, tests-aggregator, tests-communities, tests-mp_reach, tests-mp_unreach, tests-as4_path, tests-as4_aggregator, tests-large, value-origin, value-as_path, value-next_hop, value-med, value-local_pref, value-atomic, value-aggregator, value-communities, value-mp_reach, value-mp_unreach, value-as4_path, value-as4_aggregator, value-large, value-other}
+use Rattle.bgp_attr.proofs.TestRows.{NoneApplies, passed, passed_fault, Writes-writable, TypeCase, OfOrigin, OfAsPath, OfNextHop, OfMed, OfLocalPref, OfAtomic, OfAggregator, OfCommunities, OfMpReach, OfMpUnreach, OfAs4Path, OfAs4Aggregator, OfLarge, OfOther, type_case, keep-judgement, keep-value, tests-origin, tests-as_path, tests-next_hop, tests-med, tests-local_pref, tests-aggregator, tests-communities, tests-mp_reach, tests-mp_unreach, tests-as4_path, tests-as4_aggregator, tests-large, value-origin, value-as_path, value-next_hop, value-med, value-local_pref, value-atomic, value-aggregator, value-communities, value-mp_reach, value-mp_unreach, value-as4_path, value-as4_aggregator, value-large, value-other}
 
 -- ---- what each value needs, but for its length field
 

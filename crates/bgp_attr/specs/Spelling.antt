@@ -94,7 +94,7 @@ pub record IsCommunities (c : Communities) (t : TlvValue) : Type 0 where
   pub some : 0 < length c.values
   pub partial : c.partial ≡ is_partial t.flags
 
--- a row of triples, each kept at its first place alone (RFC 8092, section 5)
+-- a row of triples, each kept at its first place alone (RFC 8092, section 3)
 pub record IsLarge (l : LargeCommunities) (t : TlvValue) : Type 0 where
   pub of_type : IsOfType LARGE_COMMUNITY OptionalTransitive t
   pub triples : List (List ℕ)

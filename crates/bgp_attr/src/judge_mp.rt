@@ -154,7 +154,7 @@ fn unreach_of<'a>(family: Family, value: &'a [u8]) -> MpUnreachView<'a>
     }
 }
 
-/// MP_UNREACH_NLRI (RFC 7606, section 7.11; RFC 4760, section 7).
+/// MP_UNREACH_NLRI (RFC 7606, section 7.12; RFC 4760, section 7).
 pub(crate) fn judge_mp_unreach<'a>(ctx: &Context, tlv: &Tlv<'a>) -> JudgedView<'a>
     requires { length tlv.now.whole.now ≤ 4075 }
     ensures { judged_value result ≡ decided (mp_unreach_tests ctx.now (tlv_value tlv.now)) (attr.MpUnreach (mp_unreach_of tlv.now.value.now)) }

@@ -68,3 +68,6 @@ pub use unwritable::Unwritable;
 pub use why::Why;
 pub use writability::{why_unwritable, writable};
 pub use write::{write_attr, write_attr_ref};
+
+#[cfg(test)]
+mod tests;

@@ -5,6 +5,6 @@
 pub(crate) struct PathForm {
     /// Its AS numbers have four octets, not two.
     pub(crate) wide: bool,
-    /// It may have segments of confederations, which are dropped (RFC 6793, section 3).
+    /// It may have segments of confederations, which are dropped (RFC 6793, sections 3 and 6).
     pub(crate) confederations: bool,
 }
