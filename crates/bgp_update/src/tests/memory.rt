@@ -136,24 +136,34 @@ fn a_refused_growth_of_a_reading(rt: HostRuntime) -> Result<(), Fail> {
     Ok(())
 }
 
-/// The same of routes that are withdrawn: ORIGIN has a wrong value.
-#[test]
-fn a_refused_growth_of_a_withdrawal(rt: HostRuntime) -> Result<(), Fail> {
+/// A body read, and viewed and then owned: a call that is refused is made again.
+fn read_again(
+    rt: &(impl Abort + AllocGlobal),
+    ctx: &Context,
+    body: &[u8],
+) -> Result<Verdict, Fail> {
     let alloc = rt.alloc();
-    let ctx = session(true, true, true);
-    let mut body = MANY;
-    body[9] = 3;
-    let first = match read_update(alloc, &ctx, &body) {
-        Err(_) => read_update(alloc, &ctx, &body)?,
+    assert!(rt; body.len() <= 4077);
+    let first = match read_update(alloc, ctx, body) {
+        Err(_) => read_update(alloc, ctx, body)?,
         Ok(verdict) => verdict,
     };
-    let view = view_update(&ctx, &body);
+    let view = view_update(ctx, body);
     let second = match view.own(alloc) {
         Err(_) => view.own(alloc)?,
         Ok(verdict) => verdict,
     };
     assert!(rt; first == second);
-    let Verdict::Withdraw(routes, notes) = second else {
+    Ok(second)
+}
+
+/// The same of routes that are withdrawn: ORIGIN has a wrong value.
+#[test]
+fn a_refused_growth_of_a_withdrawal(rt: HostRuntime) -> Result<(), Fail> {
+    let mut body = MANY;
+    body[9] = 3;
+    let verdict = read_again(&rt, &session(true, true, true), &body)?;
+    let Verdict::Withdraw(routes, notes) = verdict else {
         return Err("withdrawn".into());
     };
     assert_eq!(rt; (routes.ip4.len(), routes.ip6.len()), (3, 1));
