@@ -25,7 +25,7 @@ pub enum Unwritable {
     Recognised,
     /// An AS number 0 (RFC 7607, section 2).
     AsZero,
-    /// A large community that stands twice (RFC 8092, section 5).
+    /// A large community that stands twice (RFC 8092, section 3).
     Twice,
     /// A value of more than 65535 octets, which no length field can hold (RFC 4271, section 4.3).
     TooLong,

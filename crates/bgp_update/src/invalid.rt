@@ -25,6 +25,6 @@ pub enum Invalid {
     BadOpen = 10,
     /// 11: an AS number 0 (RFC 7607, section 2).
     AsZero = 11,
-    /// 12: a large community that stands twice (RFC 8092, section 5).
+    /// 12: a large community that stands twice (RFC 8092, section 3).
     Twice = 12,
 }
