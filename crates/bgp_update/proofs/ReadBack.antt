@@ -26,7 +26,7 @@ use Rattle.bgp_attr.specs.declared.path.As4Path.{As4Path}
 use Rattle.bgp_attr.specs.declared.path.AsPath.{AsPath}
 use Rattle.bgp_attr.specs.Tlv.{TlvValue, placed_from, length_octets}
 use Rattle.bgp_attr.specs.Written.{written_tlv, canonical, value_octets, run_octets, type_of, is_too_wide, is_as4, is_empty, is_misnamed, has_as_zero, stands_twice, is_too_long, Belongs, HasRanges}
-use Rattle.bgp_attr.proofs.Tests.{Writes-writable}
+use Rattle.bgp_attr.proofs.TestRows.{Writes-writable}
 use Rattle.bgp_attr.proofs.RouteRows.{Row-prefixes}
 use Rattle.bgp_update.specs.declared.attrs.Attrs.{Attrs}
 use Rattle.bgp_update.specs.declared.note.Note.{Note}

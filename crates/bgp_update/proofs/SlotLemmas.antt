@@ -19,7 +19,7 @@ use Rattle.bgp_attr.specs.declared.path.As4Path.{As4Path}
 use Rattle.bgp_attr.specs.declared.path.AsPath.{AsPath}
 use Rattle.bgp_attr.specs.Spelling.{is_recognised}
 use Rattle.bgp_attr.specs.Written.{type_of, is_misnamed}
-use Rattle.bgp_attr.proofs.Tests.{OfOrigin, OfAsPath, OfNextHop, OfMed, OfLocalPref, OfAtomic, OfAggregator, OfCommunities, OfMpReach, OfMpUnreach, OfAs4Path, OfAs4Aggregator, OfLarge, OfOther, type_case}
+use Rattle.bgp_attr.proofs.TestRows.{OfOrigin, OfAsPath, OfNextHop, OfMed, OfLocalPref, OfAtomic, OfAggregator, OfCommunities, OfMpReach, OfMpUnreach, OfAs4Path, OfAs4Aggregator, OfLarge, OfOther, type_case}
 use Rattle.bgp_update.specs.declared.attrs.Attrs.{Attrs}
 use Rattle.bgp_update.specs.Marks.{carries_routes}
 use Rattle.bgp_update.specs.Taken.{first_in, is_atomic, as_opaque, rising_behind, attrs_of, as_origin, as_as_path, as_next_hop, as_med, as_local_pref, as_aggregator, as_communities, as_mp_reach, as_mp_unreach, as_as4_path, as_as4_aggregator, as_large}

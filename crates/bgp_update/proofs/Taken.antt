@@ -28,7 +28,7 @@ use Rattle.bgp_attr.specs.Tlv.{TlvValue, IsTlv, one_tlv, tlvs_of}
 use Rattle.bgp_attr.specs.Written.{canonical, run_octets, type_of, is_too_wide, is_as4, is_empty, is_misnamed, has_as_zero, stands_twice, Belongs, HasRanges}
 use Rattle.bgp_attr.proofs.Readers.{IsTlv-reads}
 use Rattle.bgp_attr.proofs.RouteRows.{prefixes-valid}
-use Rattle.bgp_attr.proofs.Tests.{Writes, writable-Writes}
+use Rattle.bgp_attr.proofs.TestRows.{Writes, writable-Writes}
 use Rattle.bgp_update.specs.declared.note.Note.{Note}
 use Rattle.bgp_update.specs.declared.update.Update.{Update}
 use Rattle.bgp_update.specs.declared.verdict.Verdict.{Verdict}
