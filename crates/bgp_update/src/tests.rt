@@ -68,9 +68,9 @@ fn body_of(
         field.extend_from_slice(attribute)?;
     }
     let mut body = Vec::new(alloc);
-    body.extend_from_slice(&(withdrawn.len() as u16).to_be_bytes())?;
+    body.extend_from_slice(&(withdrawn.len().min(4077) as u16).to_be_bytes())?;
     body.extend_from_slice(withdrawn)?;
-    body.extend_from_slice(&(field.len() as u16).to_be_bytes())?;
+    body.extend_from_slice(&(field.len().min(4077) as u16).to_be_bytes())?;
     body.extend_from_slice(&field)?;
     body.extend_from_slice(nlri)?;
     Ok(body)
