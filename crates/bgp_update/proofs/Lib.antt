@@ -17,3 +17,6 @@ pub mod KeptSlots
 pub mod TakenLength
 pub mod KeptMarks
 pub mod Taken
+pub mod SlotSteps
+pub mod FailedSteps
+pub mod Measures

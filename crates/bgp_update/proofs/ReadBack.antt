@@ -25,7 +25,7 @@ use Rattle.bgp_attr.specs.declared.origin.Origin.{Origin}
 use Rattle.bgp_attr.specs.declared.path.As4Path.{As4Path}
 use Rattle.bgp_attr.specs.declared.path.AsPath.{AsPath}
 use Rattle.bgp_attr.specs.Tlv.{TlvValue, placed_from, length_octets}
-use Rattle.bgp_attr.specs.Written.{written_tlv, canonical, value_octets, run_octets, type_of, is_too_wide, is_as4, is_empty, is_misnamed, has_as_zero, stands_twice, is_too_long, Belongs, HasRanges}
+use Rattle.bgp_attr.specs.Written.{written_tlv, canonical, value_octets, run_octets, type_of, is_too_wide, is_as4, is_empty, is_misnamed, has_as_zero, stands_twice, is_too_long, is_writable, Belongs, HasRanges}
 use Rattle.bgp_attr.proofs.TestRows.{Writes-writable}
 use Rattle.bgp_attr.proofs.RouteRows.{Row-prefixes}
 use Rattle.bgp_update.specs.declared.attrs.Attrs.{Attrs}
@@ -321,3 +321,27 @@ module _ (ctx : Context) (u : Update) (ranges : HasUpdateRanges u) (valid : inva
 
 pub valid-taken : (ctx : Context) (u : Update) → HasUpdateRanges u → invalid_of ctx u ≡ None → length (written_body ctx u) ≤ 4077 → verdict_of ctx (written_body ctx u) ≡ verdict.Take u []
 valid-taken = taken-back
+
+-- ---- what is valid and fits can be written
+
+record Fits (ctx : Context) (x : Attr) : Type 0 where
+  named : is_misnamed x ≡ false
+  fits : is_too_long ctx x ≡ false
+
+fits-all : (ctx : Context) (xs : List Attr) → AllByRecursion (λ x. is_misnamed x ≡ false) xs → AllByRecursion (λ x. is_too_long ctx x ≡ false) xs → AllByRecursion (Fits ctx) xs
+fits-all ctx [] named fit = tt
+fits-all ctx (x ∷ xs) named fit = (record { named = named.0; fits = fit.0 }, fits-all ctx xs named.1 fit.1)
+
+writable-by : (ctx : Context) (x : Attr) → AllPass ctx x → Fits ctx x → is_writable ctx x ≡ true
+writable-by ctx x p f =
+    Writes-writable ctx x (record { narrow = p.narrow; allowed = p.allowed; some = p.some; named = f.named; nonzero = p.nonzero; once = p.once; fits = f.fits })
+
+pub valid-writable : (ctx : Context) (u : Update) → invalid_of ctx u ≡ None → length (written_body ctx u) ≤ 4077 → AllByRecursion (λ x. is_writable ctx x ≡ true) (attr_list u.attrs)
+valid-writable ctx u valid short =
+    let acc : IsAccepted ctx u = valid-accepted ctx u valid in
+    let xs : List Attr = attr_list u.attrs in
+    let within = within-all (canonical ctx) xs 4077 (omega (arith, length-body (run_octets u.withdrawn) (attributes_octets ctx u.attrs) (run_octets u.nlri), short)) in
+    let fit = all-more (λ x. length (canonical ctx x) ≤ 4077) (λ x. is_too_long ctx x ≡ false) xs (λ x le. value-within ctx x 4077 (omega arith) le) within in
+    all-both (AllPass ctx) (Fits ctx) (λ x. is_writable ctx x ≡ true) xs (writable-by ctx)
+    (passes ctx xs acc.narrow (allowed-all ctx.as4 xs acc.allowed) acc.family acc.some acc.nonzero acc.once)
+    (fits-all ctx xs (list-named u.attrs) fit)

@@ -16,3 +16,5 @@ pub mod View
 pub mod Iters
 pub mod Gather
 pub mod Laws
+pub mod Failed
+pub mod Measured

@@ -1,0 +1,82 @@
+-- A walk over the types in order: the attributes so far, one type more, and all of them.
+use Rattle.std.proofs.Common.{◌≡◌, ℕ, ◌+◌, ◌<◌, ◌≤◌, List, [], ◌∷◌, ◌++◌, length, get_or, take, drop, None, Some, refl, sym, ap, subst, ◌∙◌, append_assoc, arith}
+use Rattle.std.specs.List.{flat_map, AllByRecursion}
+use Rattle.std.proofs.lemmas.Grind.{flat_map-append}
+use Rattle.std.proofs.lemmas.List.{append-nil, length-append, take_more, take_all, take-append-drop}
+use Rattle.bgp_attr.specs.Appends.{Extends}
+use Rattle.bgp_attr.specs.Length.{within}
+use Rattle.bgp_attr.proofs.Lengths.{within_past, past_within, within_fits}
+use Rattle.bgp_attr.proofs.Writes.{IsWritten}
+use Rattle.bgp_update.specs.Slots.{canonical_order}
+use Rattle.bgp_update.proofs.Lists.{all-append, all-front, all-back}
+
+pub order-length : length canonical_order ≡ 256
+unfolding canonical_order
+order-length = refl
+
+module _ {A : Type 0} (slots : ℕ → List A) (kinds : List ℕ) (i : ℕ) where
+  -- what the types so far have
+  abbrev pub so_far : List A
+  so_far = flat_map slots (take i kinds)
+
+  pub all_walked : length kinds ≤ i → so_far ≡ flat_map slots kinds
+  all_walked le = ap (flat_map slots) (take_all i kinds le)
+
+  module _ (kind : ℕ) (lt : i < length kinds) (is : get_or kinds i 0 ≡ kind) where
+    pub one_type : flat_map slots (take (i + 1) kinds) ≡ so_far ++ slots kind
+    one_type =
+        ap (flat_map slots) (take_more kinds i 0 lt ∙ ap (λ (k : ℕ). take i kinds ++ k ∷ []) is)
+        ∙ flat_map-append slots (take i kinds) (kind ∷ []) ∙ ap (λ (xs : List A). so_far ++ xs) (append-nil (slots kind))
+
+    -- what all types have begins so
+    pub still_to_come : flat_map slots kinds ≡ (so_far ++ slots kind) ++ flat_map slots (drop (i + 1) kinds)
+    still_to_come =
+        ap (flat_map slots) (sym (take-append-drop (i + 1) kinds))
+        ∙ flat_map-append slots (take (i + 1) kinds) (drop (i + 1) kinds)
+        ∙ ap (λ (xs : List A). xs ++ flat_map slots (drop (i + 1) kinds)) one_type
+
+    -- what holds of each holds of those of a type
+    pub all_of_type : (P : A → Type 0) → AllByRecursion P (flat_map slots kinds) → AllByRecursion P (slots kind)
+    all_of_type P all =
+        all-back P so_far (slots kind)
+        (all-front P (so_far ++ slots kind) (flat_map slots (drop (i + 1) kinds)) (subst (AllByRecursion P) still_to_come all))
+
+    -- ---- lengths
+
+    module _ (octets : A → List ℕ) where
+      length_added : length (flat_map octets (so_far ++ slots kind)) ≡ length (flat_map octets so_far) + length (flat_map octets (slots kind))
+      length_added = ap length (flat_map-append octets so_far (slots kind)) ∙ length-append (flat_map octets so_far) (flat_map octets (slots kind))
+
+      length_all : length (flat_map octets (flat_map slots kinds)) ≡ length (flat_map octets (so_far ++ slots kind)) + length (flat_map octets (flat_map slots (drop (i + 1) kinds)))
+      length_all =
+          ap (λ (xs : List A). length (flat_map octets xs)) still_to_come
+          ∙ ap length (flat_map-append octets (so_far ++ slots kind) (flat_map slots (drop (i + 1) kinds)))
+          ∙ length-append (flat_map octets (so_far ++ slots kind)) (flat_map octets (flat_map slots (drop (i + 1) kinds)))
+
+      pub type_past : (len : ℕ) → len ≡ length (flat_map octets so_far) → None ≡ within (len + length (flat_map octets (slots kind))) → None ≡ within (length (flat_map octets (flat_map slots kinds)))
+      type_past len e past = past_within _ (omega (arith, within_past _ past, length_added, length_all))
+
+      pub type_fits : (len m : ℕ) → len ≡ length (flat_map octets so_far) → Some m ≡ within (len + length (flat_map octets (slots kind)))
+          → (m ≡ length (flat_map octets (flat_map slots (take (i + 1) kinds)))) × (m ≤ 65535)
+      type_fits len m e fit =
+          let fits = within_fits m (len + length (flat_map octets (slots kind))) fit in
+          let added : length (flat_map octets (flat_map slots (take (i + 1) kinds))) ≡ length (flat_map octets so_far) + length (flat_map octets (slots kind)) =
+          ap (λ (xs : List A). length (flat_map octets xs)) one_type ∙ length_added in
+          (omega arith, omega arith)
+
+    -- ---- writing
+
+    module _ (octets : A → List ℕ) (P : A → Type 0) (before old : List ℕ) (written : IsWritten octets P so_far before old) where
+      pub type_written : (new : List ℕ) → new ≡ old ++ flat_map octets (slots kind) → AllByRecursion P (slots kind) → IsWritten octets P (flat_map slots (take (i + 1) kinds)) before new
+      type_written new more all =
+          subst (λ (xs : List A). IsWritten octets P xs before new) (sym one_type) (record {
+            items = more ∙ ap (λ (b : List ℕ). b ++ flat_map octets (slots kind)) written.items
+                ∙ append_assoc before (flat_map octets so_far) (flat_map octets (slots kind))
+                ∙ ap (λ (b : List ℕ). before ++ b) (sym (flat_map-append octets so_far (slots kind)));
+            ranges = all-append P so_far (slots kind) written.ranges all;
+          })
+
+-- what was there, some octets, and more of them
+pub written_more : {A : Type 0} (octets : A → List ℕ) (P : A → Type 0) (xs : List A) (before old new : List ℕ) → IsWritten octets P xs before old → Extends old new → Extends before new
+written_more octets P xs before old new written more =
+    (flat_map octets xs ++ more.0, more.1 ∙ ap (λ (b : List ℕ). b ++ more.0) written.items ∙ append_assoc before (flat_map octets xs) more.0)

@@ -1,0 +1,11 @@
+use Rattle.std.proofs.Common.{◌≡◌, ◌<◌, length}
+use Rattle.std.specs.List.{AllByRecursion}
+use Rattle.bgp_update.specs.Written.{rise}
+use Rattle.bgp_update.proofs.refusal.rise.Given as goal
+
+-- all types rise where those that are left do, and those in front are types
+abbrev pub invariant-types : goal.invariant-types
+invariant-types l = (rise l.others ≡ rise l.rest) × (AllByRecursion (λ o. o.kind < 256) l.rest → AllByRecursion (λ o. o.kind < 256) l.others)
+
+abbrev pub decreases-types : goal.decreases-types
+decreases-types l = length l.rest

@@ -1,0 +1,111 @@
+//! What keeps the attributes of a message from being written, found in one pass over them.
+
+ghost use Rattle.std.specs.Prelude.{◌≡◌, []};
+ghost use Rattle.bgp_attr.specs.AttrRef.{ref_value};
+ghost use Rattle.bgp_update.specs.Failed.{failed_by, also_failed, first_of};
+ghost use Rattle.bgp_update.specs.Slots.{attr_list};
+ghost use Rattle.bgp_update.specs.Written.{is_of_other_family};
+
+use crate::attrs::Attrs;
+use crate::invalid::Invalid;
+use crate::slot::{order, slot};
+use bgp_attr::unwritable::{has_as_zero, is_as4, is_empty, is_too_wide, stands_twice};
+use bgp_attr::{AttrRef, MpReach, MpUnreach};
+use bgp_open::Context;
+
+/// Which tests some attribute fails.
+#[derive(Clone, Copy, Debug)]
+pub(crate) struct Failed {
+    /// An AS number needs more octets than it has.
+    pub(crate) too_wide: bool,
+    /// AS4_PATH or AS4_AGGREGATOR is there.
+    pub(crate) as4: bool,
+    /// Routes are of an address family that isn't in use.
+    pub(crate) other_family: bool,
+    /// Something is empty that can't be.
+    pub(crate) empty: bool,
+    /// An AS number is 0.
+    pub(crate) as_zero: bool,
+    /// A large community stands twice.
+    pub(crate) twice: bool,
+}
+
+/// Whether routes are of an address family that isn't in use.
+fn is_of_other_family(ctx: &Context, attr: AttrRef<'_>) -> bool
+    ensures { result ≡ is_of_other_family ctx.now (ref_value attr.entry) }
+{
+    match attr {
+        AttrRef::MpReach(MpReach::Ip4 { .. }) => !ctx.ip4,
+        AttrRef::MpReach(MpReach::Ip6 { .. }) => !ctx.ip6,
+        AttrRef::MpUnreach(MpUnreach::Ip4(_)) => !ctx.ip4,
+        AttrRef::MpUnreach(MpUnreach::Ip6(_)) => !ctx.ip6,
+        _ => false,
+    }
+}
+
+impl Failed {
+    /// No attribute fails.
+    fn none(ctx: &Context) -> Failed
+        ensures { result ≡ failed_by ctx.now [] }
+    {
+        let _ = ctx;
+        Failed {
+            too_wide: false,
+            as4: false,
+            other_family: false,
+            empty: false,
+            as_zero: false,
+            twice: false,
+        }
+    }
+
+    /// The tests that fail with one more attribute.
+    fn also(&self, ctx: &Context, attr: AttrRef<'_>) -> Failed
+        ensures { result ≡ also_failed self.now ctx.now (ref_value attr.entry) }
+    {
+        Failed {
+            too_wide: self.too_wide || is_too_wide(ctx, attr),
+            as4: self.as4 || is_as4(attr),
+            other_family: self.other_family || is_of_other_family(ctx, attr),
+            empty: self.empty || is_empty(attr),
+            as_zero: self.as_zero || has_as_zero(attr),
+            twice: self.twice || stands_twice(attr),
+        }
+    }
+
+    /// The tests that the attributes of a message fail.
+    pub(crate) fn of(ctx: &Context, attrs: &Attrs) -> Failed
+        ensures { result ≡ failed_by ctx.now (attr_list attrs.now) }
+    {
+        let mut failed = Failed::none(ctx);
+        'types: for kind in &order() {
+            if let Some(attr) = slot(attrs, *kind) {
+                failed = failed.also(ctx, attr);
+            }
+        }
+        failed
+    }
+
+    /// The first reason among the tests that fail.
+    pub(crate) fn first(&self, as4: bool, bad_others: bool) -> Option<Invalid>
+        ensures { result ≡ first_of self.now as4 bad_others }
+    {
+        if self.too_wide {
+            Some(Invalid::AsWidth)
+        } else if as4 && self.as4 {
+            Some(Invalid::As4)
+        } else if self.other_family {
+            Some(Invalid::Family)
+        } else if self.empty {
+            Some(Invalid::Empty)
+        } else if bad_others {
+            Some(Invalid::Others)
+        } else if self.as_zero {
+            Some(Invalid::AsZero)
+        } else if self.twice {
+            Some(Invalid::Twice)
+        } else {
+            None
+        }
+    }
+}

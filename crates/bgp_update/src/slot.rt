@@ -1,0 +1,71 @@
+//! The attributes of a message in the order in which they are written.
+
+ghost use Rattle.std.specs.Prelude.{◌≡◌, ◌==◌, option_map};
+ghost use Rattle.std.specs.List.{find};
+ghost use Rattle.bgp_attr.specs.AttrRef.{ref_value};
+ghost use Rattle.bgp_update.specs.Slots.{present, slot, canonical_order};
+
+use crate::attrs::Attrs;
+use bgp_attr::{AttrRef, Opaque};
+use bgp_numbers::attribute;
+
+/// The types in the order in which they are written: the two that carry routes (RFC 7606, section 5.1), then all others, rising.
+const ORDER: [u8; 256] = [
+    14, 15, 0, 1, 2, 3, 4, 5, 6, 7, 8, 9, 10, 11, 12, 13, 16, 17, 18, 19, 20, 21, 22, 23, 24, 25,
+    26, 27, 28, 29, 30, 31, 32, 33, 34, 35, 36, 37, 38, 39, 40, 41, 42, 43, 44, 45, 46, 47, 48, 49,
+    50, 51, 52, 53, 54, 55, 56, 57, 58, 59, 60, 61, 62, 63, 64, 65, 66, 67, 68, 69, 70, 71, 72, 73,
+    74, 75, 76, 77, 78, 79, 80, 81, 82, 83, 84, 85, 86, 87, 88, 89, 90, 91, 92, 93, 94, 95, 96, 97,
+    98, 99, 100, 101, 102, 103, 104, 105, 106, 107, 108, 109, 110, 111, 112, 113, 114, 115, 116,
+    117, 118, 119, 120, 121, 122, 123, 124, 125, 126, 127, 128, 129, 130, 131, 132, 133, 134, 135,
+    136, 137, 138, 139, 140, 141, 142, 143, 144, 145, 146, 147, 148, 149, 150, 151, 152, 153, 154,
+    155, 156, 157, 158, 159, 160, 161, 162, 163, 164, 165, 166, 167, 168, 169, 170, 171, 172, 173,
+    174, 175, 176, 177, 178, 179, 180, 181, 182, 183, 184, 185, 186, 187, 188, 189, 190, 191, 192,
+    193, 194, 195, 196, 197, 198, 199, 200, 201, 202, 203, 204, 205, 206, 207, 208, 209, 210, 211,
+    212, 213, 214, 215, 216, 217, 218, 219, 220, 221, 222, 223, 224, 225, 226, 227, 228, 229, 230,
+    231, 232, 233, 234, 235, 236, 237, 238, 239, 240, 241, 242, 243, 244, 245, 246, 247, 248, 249,
+    250, 251, 252, 253, 254, 255,
+];
+
+/// The order of the types.
+#[tactic(auto, unfolding(crate::specs::Slots::canonical_order))]
+pub(crate) fn order() -> [u8; 256]
+    ensures { result ≡ canonical_order }
+{
+    ORDER
+}
+
+/// The attribute of a type that isn't recognised.
+fn other(others: &[Opaque], kind: u8) -> Option<&Opaque>
+    ensures { option_map (λ o. o.now) result ≡ find (λ o. o.kind == kind) others.now }
+{
+    'others: for other in others {
+        if other.kind == kind {
+            return Some(other);
+        }
+    }
+    None
+}
+
+/// The attribute of a type: at most one.
+#[tactic(auto, unfolding(crate::specs::Slots::slot))]
+pub(crate) fn slot(attrs: &Attrs, kind: u8) -> Option<AttrRef<'_>>
+    ensures { present ref_value result ≡ slot attrs.now kind }
+{
+    match kind {
+        attribute::ORIGIN => Some(AttrRef::Origin(attrs.origin?)),
+        attribute::AS_PATH => Some(AttrRef::AsPath(attrs.as_path.as_ref()?)),
+        attribute::NEXT_HOP => Some(AttrRef::NextHop(attrs.next_hop.as_ref()?)),
+        attribute::MULTI_EXIT_DISC => Some(AttrRef::Med(attrs.med?)),
+        attribute::LOCAL_PREF => Some(AttrRef::LocalPref(attrs.local_pref?)),
+        attribute::ATOMIC_AGGREGATE if attrs.atomic => Some(AttrRef::Atomic),
+        attribute::ATOMIC_AGGREGATE => None,
+        attribute::AGGREGATOR => Some(AttrRef::Aggregator(attrs.aggregator.as_ref()?)),
+        attribute::COMMUNITIES => Some(AttrRef::Communities(attrs.communities.as_ref()?)),
+        attribute::MP_REACH_NLRI => Some(AttrRef::MpReach(attrs.mp_reach.as_ref()?)),
+        attribute::MP_UNREACH_NLRI => Some(AttrRef::MpUnreach(attrs.mp_unreach.as_ref()?)),
+        attribute::AS4_PATH => Some(AttrRef::As4Path(attrs.as4_path.as_ref()?)),
+        attribute::AS4_AGGREGATOR => Some(AttrRef::As4Aggregator(attrs.as4_aggregator.as_ref()?)),
+        attribute::LARGE_COMMUNITY => Some(AttrRef::Large(attrs.large.as_ref()?)),
+        _ => Some(AttrRef::Opaque(other(&attrs.others, kind)?)),
+    }
+}
