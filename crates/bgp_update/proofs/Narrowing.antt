@@ -36,8 +36,8 @@ segments-same (s ∷ ss) e =
     let p = or_parts (list_any (λ n. is_above_two_octets n.0) s.numbers) (list_any (λ s. list_any (λ n. is_above_two_octets n.0) s.numbers) ss) e in
     ap₂ (λ (x : Segment) (xs : List Segment). x ∷ xs) (segment-same s p.0) (segments-same ss p.1)
 
-path-same : (p : AsPath) → any_number is_above_two_octets p ≡ false → narrow_path p ≡ p
-path-same p e = ap (λ (ss : List Segment). record { segments = ss }) (segments-same p.segments e)
+pub path_same : (p : AsPath) → any_number is_above_two_octets p ≡ false → narrow_path p ≡ p
+path_same p e = ap (λ (ss : List Segment). record { segments = ss }) (segments-same p.segments e)
 
 -- ---- items stay
 
@@ -66,7 +66,7 @@ joined-even path wide e =
 
 path-by : (p : AsPath) (t : Bool) → any_number is_above_two_octets p ≡ t → rebuilt_path (Some (narrow_path p)) (cond t (Some (record { partial = false; path = p })) None) ≡ Some p
 path-by p true e = ap (λ (q : AsPath). Some q) (joined-even (narrow_path p) p (items-same p.segments))
-path-by p false e = ap (λ (q : AsPath). Some q) (path-same p e)
+path-by p false e = ap (λ (q : AsPath). Some q) (path_same p e)
 
 path-back : (o : Option AsPath) → rebuilt_path (option_map narrow_path o) (wide_path o) ≡ o
 path-back None = refl

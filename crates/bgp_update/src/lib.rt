@@ -3,6 +3,7 @@
 #![tactic(auto)]
 
 mod add_routes;
+mod as4_items;
 mod attr_iter;
 mod attrs;
 mod body;
@@ -17,14 +18,17 @@ mod measure;
 mod missing;
 mod note;
 mod note_iter;
+mod passing_on;
 mod path_info;
 mod put;
 mod read;
+mod reconciliation;
 mod refusal;
 mod routes;
 mod seen;
 mod slot;
 mod summary;
+mod two_octets;
 mod update;
 mod verdict;
 mod view;
@@ -36,9 +40,12 @@ pub use invalid::Invalid;
 pub use judge_body::view_update;
 pub use note::Note;
 pub use note_iter::NoteIter;
+pub use passing_on::onward;
 pub use path_info::PathInfo;
 pub use read::read_update;
+pub use reconciliation::reconcile;
 pub use routes::Routes;
+pub use two_octets::narrow;
 pub use update::Update;
 pub use verdict::Verdict;
 pub use view::{UpdateView, View};

@@ -1,0 +1,30 @@
+//! What of an UPDATE is passed on.
+
+ghost use Rattle.std.specs.Prelude.{◌≡◌};
+ghost use Rattle.std.specs.List.{filter};
+ghost use Rattle.bgp_update.specs.As4.{onward_of};
+
+use crate::update::Update;
+use bgp_attr::Opaque;
+use bgp_wire::List;
+
+/// Those that are transitive, in place.
+fn transitive(others: List<Opaque>) -> List<Opaque>
+    ensures { result ≡ filter (λ o. o.transitive) others }
+{
+    let mut kept = others.into_vec();
+    kept.retain(|other| other.transitive);
+    List::from_vec(kept)
+}
+
+/// The UPDATE without the attributes that end here: those of unrecognised types go on only where they are transitive, and in their
+/// order (RFC 4271, section 5). It takes no memory.
+pub fn onward(update: Update) -> Update
+    ensures { result ≡ onward_of update }
+{
+    let mut told = update;
+    let mut attrs = told.attrs;
+    attrs.others = transitive(attrs.others);
+    told.attrs = attrs;
+    told
+}

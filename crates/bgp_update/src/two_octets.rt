@@ -1,0 +1,139 @@
+//! Attributes for speakers with AS numbers of two octets.
+
+ghost use Rattle.std.specs.Prelude.{◌≡◌, option_map, IfOk};
+ghost use Rattle.std.specs.List.{list_any};
+ghost use Rattle.bgp_attr.specs.Written.{any_number, is_above_two_octets};
+ghost use Rattle.bgp_update.specs.As4.{HasNoAs4, narrow_number, narrow_segment, narrow_path, wide_path, narrow_aggregator, wide_aggregator, narrowed};
+
+use crate::attrs::Attrs;
+use bgp_attr::{Aggregator, As4Path, AsPath, Segment};
+use bgp_numbers::AS_TRANS;
+use bgp_prefix::AsNumber;
+use bgp_wire::List;
+use std::alloc::{AllocError, Global};
+
+/// What stands for a number where there are two octets for it.
+fn narrow_number(number: AsNumber) -> AsNumber
+    ensures { result ≡ narrow_number number }
+{
+    if number.0 > 65535 {
+        AsNumber(u32::from(AS_TRANS))
+    } else {
+        number
+    }
+}
+
+/// A segment of such numbers.
+fn narrow_segment(alloc: Global, segment: &Segment) -> Result<Segment, AllocError>
+    ensures { IfOk result (λ narrow. narrow ≡ narrow_segment segment.now) }
+{
+    let mut numbers = List::new(alloc);
+    'row: for number in segment.numbers.iter() {
+        numbers.push(narrow_number(*number))?;
+    }
+    Ok(Segment {
+        kind: segment.kind,
+        numbers,
+    })
+}
+
+/// A path of such numbers.
+fn narrow_path(alloc: Global, path: &AsPath) -> Result<AsPath, AllocError>
+    ensures { IfOk result (λ narrow. narrow ≡ narrow_path path.now) }
+{
+    let mut segments = List::new(alloc);
+    'path: for segment in path.segments.iter() {
+        segments.push(narrow_segment(alloc, segment)?)?;
+    }
+    Ok(AsPath { segments })
+}
+
+/// Whether a number of the segment needs four octets.
+fn has_wide_number(segment: &Segment) -> bool
+    ensures { result ≡ list_any (λ n. is_above_two_octets n.0) segment.now.numbers }
+{
+    segment.numbers.iter().any(|n| n.0 > 65535)
+}
+
+/// Whether a number of the path needs four octets.
+fn is_wide_path(path: &AsPath) -> bool
+    ensures { result ≡ any_number is_above_two_octets path.now }
+{
+    path.segments.iter().any(|segment| has_wide_number(segment))
+}
+
+/// A path as two attributes.
+struct TwoPaths {
+    as_path: Option<AsPath>,
+    as4_path: Option<As4Path>,
+}
+
+/// AS_PATH, and AS4_PATH where a number needs four octets.
+#[tactic(auto, using(crate::proofs::Narrowing::path_same))]
+fn two_paths(alloc: Global, path: Option<AsPath>) -> Result<TwoPaths, AllocError>
+    ensures { IfOk result (λ both. both ≡ record { as_path = option_map narrow_path path; as4_path = wide_path path }) }
+{
+    let Some(path) = path else {
+        return Ok(TwoPaths {
+            as_path: None,
+            as4_path: None,
+        });
+    };
+    if !is_wide_path(&path) {
+        return Ok(TwoPaths {
+            as_path: Some(path),
+            as4_path: None,
+        });
+    }
+    let narrow = narrow_path(alloc, &path)?;
+    Ok(TwoPaths {
+        as_path: Some(narrow),
+        as4_path: Some(As4Path {
+            partial: false,
+            path,
+        }),
+    })
+}
+
+/// AGGREGATOR.
+fn narrow_aggregator(aggregator: Option<Aggregator>) -> Option<Aggregator>
+    ensures { result ≡ option_map narrow_aggregator aggregator }
+{
+    let whole = aggregator?;
+    let addr = whole.addr;
+    Some(Aggregator {
+        asn: narrow_number(whole.asn),
+        addr,
+        partial: whole.partial,
+    })
+}
+
+/// AS4_AGGREGATOR, where the number needs four octets.
+fn wide_aggregator(aggregator: Option<Aggregator>) -> Option<Aggregator>
+    ensures { result ≡ wide_aggregator aggregator }
+{
+    let whole = aggregator?;
+    if whole.asn.0 > 65535 {
+        Some(whole)
+    } else {
+        None
+    }
+}
+
+/// The attributes as a speaker with AS numbers of two octets is told them: 23456 stands for each number that needs four, and
+/// AS4_PATH and AS4_AGGREGATOR stand beside AS_PATH and AGGREGATOR exactly where one does (RFC 6793, section 4.2.2).
+///
+/// # Errors
+/// `AllocError` where a growth was refused.
+pub fn narrow(alloc: Global, attrs: &Attrs) -> Result<Attrs, AllocError>
+    requires { HasNoAs4 attrs.now }
+    ensures { IfOk result (λ it. it ≡ narrowed attrs.now) }
+{
+    let mut told = attrs.copy(alloc)?;
+    let TwoPaths { as_path, as4_path } = two_paths(alloc, told.as_path.take())?;
+    told.as_path = as_path;
+    told.as4_path = as4_path;
+    told.aggregator = narrow_aggregator(attrs.aggregator);
+    told.as4_aggregator = wide_aggregator(attrs.aggregator);
+    Ok(told)
+}
