@@ -1,6 +1,7 @@
 //! Attributes put into their slots.
 
-ghost use Rattle.std.specs.Prelude.{◌≡◌, ◌≤◌, [], length, OnOk, IfOk};
+ghost use Rattle.std.specs.Prelude.{◌≡◌, ◌≤◌, [], length, Some, OnOk, IfOk};
+ghost use Rattle.std.specs.Option.{option_or};
 ghost use Rattle.bgp_update.specs.Gather.{put, place_in};
 ghost use Rattle.bgp_update.specs.Iters.{attrs_left};
 ghost use Rattle.bgp_update.specs.Taken.{attrs_of, put_rising};
@@ -59,50 +60,33 @@ fn insert_rising(others: &mut List<Opaque>, opaque: Opaque) -> Result<(), AllocE
     others.insert(place, opaque)
 }
 
-/// Adds an attribute to those of a message: the first of a type stands.
+/// Puts a value where there is none yet: the first of a type stands.
+fn fill<T: Drop>(slot: &mut Option<T>, value: T)
+    ensures { slot.new ≡ option_or slot.old (Some value) }
+{
+    if slot.is_none() {
+        *slot = Some(value);
+    }
+}
+
+/// Adds an attribute to those of a message.
 fn put(attrs: &mut Attrs, attr: Attr) -> Result<(), AllocError>
     ensures { OnOk result (attrs.new ≡ put attrs.old attr) }
 {
     match attr {
-        Attr::Origin(origin) => attrs.origin = attrs.origin.or(Some(origin)),
-        Attr::AsPath(path) => {
-            if attrs.as_path.is_none() {
-                attrs.as_path = Some(path);
-            }
-        }
-        Attr::NextHop(addr) => attrs.next_hop = attrs.next_hop.or(Some(addr)),
-        Attr::Med(metric) => attrs.med = attrs.med.or(Some(metric)),
-        Attr::LocalPref(preference) => attrs.local_pref = attrs.local_pref.or(Some(preference)),
+        Attr::Origin(origin) => fill(&mut attrs.origin, origin),
+        Attr::AsPath(path) => fill(&mut attrs.as_path, path),
+        Attr::NextHop(addr) => fill(&mut attrs.next_hop, addr),
+        Attr::Med(metric) => fill(&mut attrs.med, metric),
+        Attr::LocalPref(preference) => fill(&mut attrs.local_pref, preference),
         Attr::Atomic => attrs.atomic = true,
-        Attr::Aggregator(aggregator) => attrs.aggregator = attrs.aggregator.or(Some(aggregator)),
-        Attr::Communities(communities) => {
-            if attrs.communities.is_none() {
-                attrs.communities = Some(communities);
-            }
-        }
-        Attr::MpReach(reach) => {
-            if attrs.mp_reach.is_none() {
-                attrs.mp_reach = Some(reach);
-            }
-        }
-        Attr::MpUnreach(unreach) => {
-            if attrs.mp_unreach.is_none() {
-                attrs.mp_unreach = Some(unreach);
-            }
-        }
-        Attr::As4Path(path) => {
-            if attrs.as4_path.is_none() {
-                attrs.as4_path = Some(path);
-            }
-        }
-        Attr::As4Aggregator(aggregator) => {
-            attrs.as4_aggregator = attrs.as4_aggregator.or(Some(aggregator));
-        }
-        Attr::Large(communities) => {
-            if attrs.large.is_none() {
-                attrs.large = Some(communities);
-            }
-        }
+        Attr::Aggregator(aggregator) => fill(&mut attrs.aggregator, aggregator),
+        Attr::Communities(communities) => fill(&mut attrs.communities, communities),
+        Attr::MpReach(reach) => fill(&mut attrs.mp_reach, reach),
+        Attr::MpUnreach(unreach) => fill(&mut attrs.mp_unreach, unreach),
+        Attr::As4Path(path) => fill(&mut attrs.as4_path, path),
+        Attr::As4Aggregator(aggregator) => fill(&mut attrs.as4_aggregator, aggregator),
+        Attr::Large(communities) => fill(&mut attrs.large, communities),
         Attr::Opaque(opaque) => insert_rising(&mut attrs.others, opaque)?,
     }
     Ok(())
