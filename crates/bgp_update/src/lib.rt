@@ -49,4 +49,4 @@ pub use two_octets::narrow;
 pub use update::Update;
 pub use verdict::Verdict;
 pub use view::{UpdateView, View};
-pub use write::{WriteUpdateFault, write_update};
+pub use write::{WriteFault, write_update};

@@ -8,7 +8,7 @@ ghost use Rattle.bgp_attr.specs.Written.{run_octets, is_writable};
 ghost use Rattle.bgp_prefix.specs.Prefix.{IsValid};
 ghost use Rattle.bgp_update.specs.declared.verdict.Verdict.TheVariants.{Take};
 ghost use Rattle.bgp_update.specs.declared.invalid.Invalid.{Invalid};
-ghost use Rattle.bgp_update.specs.declared.write.WriteUpdateFault.TheVariants.{NotValid, TooLong, Memory};
+ghost use Rattle.bgp_update.specs.declared.write.WriteFault.TheVariants.{NotValid, TooLong, Memory};
 ghost use Rattle.bgp_update.specs.Measured.{lengths_of, HasPartRanges};
 ghost use Rattle.bgp_update.specs.Slots.{attr_list};
 ghost use Rattle.bgp_update.specs.Verdict.{verdict_of};
@@ -23,9 +23,9 @@ use bgp_open::Context;
 use bgp_prefix::{Prefix4, write_run4};
 use std::alloc::AllocError;
 
-/// Why an UPDATE isn't written: the first of these that holds.
+/// Why a message isn't written: the first of these that holds.
 #[derive(Clone, Copy, Debug, PartialEq, Eq)]
-pub enum WriteUpdateFault {
+pub enum WriteFault {
     /// It isn't valid in the context, for the first of the reasons.
     NotValid(Invalid),
     /// The message would have more than 4096 octets (RFC 4271, section 4.1).
@@ -34,11 +34,11 @@ pub enum WriteUpdateFault {
     Memory,
 }
 
-impl From<AllocError> for WriteUpdateFault {
+impl From<AllocError> for WriteFault {
     ghost from_gives = { λ _ e. e ≡ Memory };
 
-    fn from(_refused: AllocError) -> WriteUpdateFault {
-        WriteUpdateFault::Memory
+    fn from(_refused: AllocError) -> WriteFault {
+        WriteFault::Memory
     }
 }
 
@@ -116,7 +116,7 @@ pub fn write_update(
     ctx: &Context,
     update: &Update,
     out: &mut Vec<u8>,
-) -> Result<(), WriteUpdateFault>
+) -> Result<(), WriteFault>
     ensures not_valid { (why : Invalid) → IsErrOf result (NotValid why) ↔ (invalid_of ctx.now update.now ≡ Some why) }
     ensures too_long { IsErrOf result TooLong ↔ (IsTrue (is_valid ctx.now update.now) × IsTrue (is_too_long ctx.now update.now)) }
     ensures ok { OnOk result (out.new.items ≡ out.old.items ++ written_body ctx.now update.now) }
@@ -125,10 +125,10 @@ pub fn write_update(
     ensures err { OnErr result (out.new.items ≡ out.old.items) }
 {
     if let Some(why) = why_invalid(ctx, update) {
-        return Err(WriteUpdateFault::NotValid(why));
+        return Err(WriteFault::NotValid(why));
     }
     let Some(lengths) = measure(ctx, update) else {
-        return Err(WriteUpdateFault::TooLong);
+        return Err(WriteFault::TooLong);
     };
     append_body(ctx, update, lengths, out)?;
     Ok(())
