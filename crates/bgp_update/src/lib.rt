@@ -36,3 +36,6 @@ pub use routes::Routes;
 pub use update::Update;
 pub use verdict::Verdict;
 pub use view::{UpdateView, View};
+
+#[cfg(test)]
+mod tests;
