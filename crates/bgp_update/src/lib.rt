@@ -50,3 +50,6 @@ pub use update::Update;
 pub use verdict::Verdict;
 pub use view::{UpdateView, View};
 pub use write::{WriteFault, write_update};
+
+#[cfg(test)]
+mod tests;

@@ -112,11 +112,7 @@ fn append_body(
 /// # Errors
 /// `NotValid` for the first reason why it isn't valid in the context, else `TooLong`, else `Memory` where a growth was refused; nothing
 /// is appended then.
-pub fn write_update(
-    ctx: &Context,
-    update: &Update,
-    out: &mut Vec<u8>,
-) -> Result<(), WriteFault>
+pub fn write_update(ctx: &Context, update: &Update, out: &mut Vec<u8>) -> Result<(), WriteFault>
     ensures not_valid { (why : Invalid) → IsErrOf result (NotValid why) ↔ (invalid_of ctx.now update.now ≡ Some why) }
     ensures too_long { IsErrOf result TooLong ↔ (IsTrue (is_valid ctx.now update.now) × IsTrue (is_too_long ctx.now update.now)) }
     ensures ok { OnOk result (out.new.items ≡ out.old.items ++ written_body ctx.now update.now) }
