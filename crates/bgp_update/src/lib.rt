@@ -43,3 +43,6 @@ pub use two_octets::narrow;
 pub use update::Update;
 pub use verdict::Verdict;
 pub use view::{UpdateView, View};
+
+#[cfg(test)]
+mod tests;
