@@ -1,7 +1,7 @@
 //! AS numbers of four octets among speakers that have two, and what is passed on: worked results (RFC 6793, sections 4.2.2 and
 //! 4.2.3; RFC 4271, section 5).
 
-ghost use Rattle.std.specs.Prelude.{◌≡◌, IfOk};
+ghost use Rattle.std.specs.Prelude.{IfOk};
 ghost use Rattle.bgp_update.specs.As4.{HasNoAs4};
 
 use crate::*;
@@ -288,5 +288,32 @@ fn refused_growths_leave_the_attributes_as_they_were(rt: HostRuntime) -> Result<
     };
     assert_eq!(rt; info.path, whole.as_path);
     assert_eq!(rt; info.aggregator, whole.aggregator);
+    Ok(())
+}
+
+/// Passes too where any one allocation is refused: each call is made again then, on what it was given.
+#[test]
+fn a_refused_growth_loses_no_item(rt: HostRuntime) -> Result<(), Fail> {
+    let alloc = rt.alloc();
+    let old: [Part<'_>; 2] = [(SegKind::Set, &[1, 2]), (SegKind::Seq, &[3, 23456])];
+    let new: [Part<'_>; 1] = [(SegKind::Seq, &[200000])];
+    let told = match two_paths(alloc, &old, &new) {
+        Err(_) => two_paths(alloc, &old, &new)?,
+        Ok(told) => told,
+    };
+    let info = match reconcile(alloc, &told) {
+        Err(_) => reconcile(alloc, &told)?,
+        Ok(info) => info,
+    };
+    let parts: [Part<'_>; 3] = [
+        (SegKind::Set, &[1, 2]),
+        (SegKind::Seq, &[3]),
+        (SegKind::Seq, &[200000]),
+    ];
+    let wanted = match path(alloc, &parts) {
+        Err(_) => path(alloc, &parts)?,
+        Ok(wanted) => wanted,
+    };
+    assert_eq!(rt; info.path, Some(wanted));
     Ok(())
 }
