@@ -1,5 +1,6 @@
 //! What no clause says: worked results of the standards' rules, and that calls succeed where there is memory.
 
+mod as4;
 mod memory;
 mod resets;
 mod taken;
