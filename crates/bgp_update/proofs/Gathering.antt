@@ -1,11 +1,10 @@
 -- Attributes that are put into their slots one after another are those of the whole.
-use Rattle.std.proofs.Common.{◌≡◌, Bool, true, false, ◌||◌, List, [], ◌∷◌, ◌++◌, Option, Some, None, refl, sym, ap, ◌∙◌}
-use Rattle.std.specs.List.{flat_map, list_any}
-use Rattle.std.specs.Option.{option_or}
+use Rattle.std.proofs.Common.{◌≡◌, Bool, true, false, ◌||◌, List, [], ◌∷◌, Some, refl, sym, ap, ◌∙◌}
+use Rattle.std.specs.List.{list_any}
 use Rattle.bgp_attr.specs.declared.attr.Attr.{Attr}
 use Rattle.bgp_attr.specs.declared.attr.Attr.TheVariants as attr
 use Rattle.bgp_update.specs.declared.attrs.Attrs.{Attrs}
-use Rattle.bgp_update.specs.Taken.{first_in, as_origin, as_as_path, as_next_hop, as_med, as_local_pref, is_atomic, as_aggregator, as_communities, as_mp_reach, as_mp_unreach, as_as4_path, as_as4_aggregator, as_large, as_opaque, put_rising, rising_behind}
+use Rattle.bgp_update.specs.Taken.{first_in, as_origin, as_as_path, as_next_hop, as_med, as_local_pref, is_atomic, as_aggregator, as_communities, as_mp_reach, as_mp_unreach, as_as4_path, as_as4_aggregator, as_large}
 use Rattle.bgp_update.specs.Gather.{put, attrs_behind}
 use Rattle.bgp_update.proofs.Summaries.{option_or-assoc, option_or-none}
 

@@ -1,5 +1,5 @@
 -- An attribute of an unrecognised type, put in its place by type.
-use Rattle.std.proofs.Common.{◌≡◌, ℕ, suc, Bool, true, false, cond, ltb, List, [], ◌∷◌, refl, sym, ap, ◌∙◌}
+use Rattle.std.proofs.Common.{◌≡◌, suc, Bool, true, false, cond, ltb, List, [], ◌∷◌, refl, ap}
 use Rattle.std.specs.List.{insert}
 use Rattle.bgp_attr.specs.declared.opaque.Opaque.{Opaque}
 use Rattle.bgp_update.specs.Taken.{put_rising}

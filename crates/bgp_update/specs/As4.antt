@@ -1,5 +1,5 @@
 -- AS numbers of four octets among speakers that have two (RFC 6793, section 4.2).
-use Rattle.std.specs.Prelude.{◌≡◌, ℕ, ◌+◌, ◌-◌, Bool, true, false, not, ◌&&◌, ◌==◌, nat_lt, nat_le, List, [], ◌∷◌, ◌++◌, length, take, map, Option, None, Some, option_map, if◌then◌else◌}
+use Rattle.std.specs.Prelude.{◌≡◌, ℕ, ◌-◌, Bool, false, ◌==◌, nat_lt, List, [], ◌∷◌, ◌++◌, length, take, map, Option, None, Some, option_map, if◌then◌else◌}
 use Rattle.std.specs.List.{filter, sum_by}
 use Rattle.bgp_numbers.specs.declared.TheConstants.{AS_TRANS}
 use Rattle.bgp_prefix.specs.declared.as_number.AsNumber.{AsNumber}

@@ -1,5 +1,5 @@
 -- Attributes that are put into their slots one after another.
-use Rattle.std.specs.Prelude.{ℕ, suc, Bool, true, ◌||◌, nat_lt, List, [], ◌∷◌, Option, Some, if◌then◌else◌}
+use Rattle.std.specs.Prelude.{ℕ, suc, true, ◌||◌, nat_lt, List, [], ◌∷◌, Some, if◌then◌else◌}
 use Rattle.std.specs.List.{flat_map, list_any}
 use Rattle.std.specs.Option.{option_or}
 use Rattle.bgp_attr.specs.declared.attr.Attr.{Attr}

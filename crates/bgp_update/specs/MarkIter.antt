@@ -1,5 +1,5 @@
 -- What borrowed marks are, and what an iterator of them has left.
-use Rattle.std.specs.Prelude.{ℕ, ◌-◌, List, [], ◌++◌, length, if◌then◌else◌}
+use Rattle.std.specs.Prelude.{◌-◌, List, [], ◌++◌, length, if◌then◌else◌}
 use Rattle.bgp_attr.specs.JudgedView.{judged_value}
 use Rattle.bgp_attr.specs.TlvIter.{tlvs_left, rest_left}
 use Rattle.bgp_update.specs.declared.mark.MarkView.{MarkView}

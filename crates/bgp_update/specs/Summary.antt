@@ -1,5 +1,5 @@
 -- What all marks of a field come to.
-use Rattle.std.specs.Prelude.{ℕ, Bool, true, false, ◌||◌, List, [], ◌∷◌, Option, None, Some, option_map}
+use Rattle.std.specs.Prelude.{Bool, ◌||◌, List, Option, option_map}
 use Rattle.std.specs.List.{list_any}
 use Rattle.std.specs.Option.{option_or}
 use Rattle.bgp_frame.specs.declared.notification.Notification.{Notification}

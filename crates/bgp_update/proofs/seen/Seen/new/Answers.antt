@@ -1,4 +1,4 @@
-use Rattle.std.proofs.Common.{◌≡◌, ℕ, zero, suc, Bool, false, replicate, get_or, refl}
+use Rattle.std.proofs.Common.{◌≡◌, ℕ, zero, suc, false, replicate, get_or, refl}
 use Rattle.bgp_update.proofs.seen.Seen.new.Goals as goal
 
 none_there : (n k : ℕ) → get_or (replicate n false) k false ≡ false
