@@ -1,0 +1,4 @@
+-- Lemmas on messages and streams.
+pub mod Nexts
+pub mod Encodings
+pub mod Decodings

@@ -1,0 +1,15 @@
+use Rattle.std.proofs.Common.{List, ℕ, Bool, Some, ap₂, subst}
+use Rattle.bgp_msg.specs.Decoder.{Decoding, IsNext}
+use Rattle.bgp_msg.proofs.Nexts.{at_hand, message_next}
+use Rattle.bgp_msg.proofs.decoder.Decoder.next.Goals as goal
+
+pub returns-in_ok-outcome-in-Frame-clause-ok : goal.returns-in_ok-outcome-in-Frame-clause-ok
+returns-in_ok-outcome-in-Frame-clause-ok c =
+    let ctx = c.self.inside.ctx in
+    let held = c.self.inside.framer in
+    let frame = c.in-Frame.frame in
+    let now : Decoding = record { ctx = ctx; held = c.clear.new.self; stopped = c.is_reset-self-inside.result } in
+    subst (λ (old : Decoding). IsNext old (Some (frame.len, c.in_ok-outcome-in-Frame.outcome)) now) c.self.view_is
+    (message_next ctx held c.self.inside.stopped (record { kind = frame.kind; body = frame.body.now }) frame.len c.in_ok-outcome-in-Frame.outcome now
+    c.if-self.false c.in-Frame.ensures.0 c.in-Frame.ensures.1 c.in_ok-outcome-in-Frame.ensures.value
+    (ap₂ (λ (h : List ℕ) (s : Bool). record { ctx = ctx; held = h; stopped = s }) c.clear.ensures c.is_reset-self-inside.ensures))

@@ -1,0 +1,100 @@
+//! What a whole stream comes to, in whatever pieces it comes.
+
+ghost use Rattle.std.specs.Prelude.{◌≡◌, ◌<◌, ◌≤◌, [], false, length, drop, IfOk};
+ghost use Rattle.std.specs.List.{flat_map};
+ghost use Rattle.bgp_frame.specs.Frame.{Waits};
+ghost use Rattle.bgp_msg.specs.Decoding.{Decodes, end_behind};
+ghost use Rattle.bgp_msg.specs.Seen.{IsSeen};
+
+use crate::decoder::Decoder;
+use crate::outcome::Outcome;
+use crate::seen::Seen;
+use bgp_frame::End;
+use bgp_open::Context;
+use bgp_wire::List;
+use std::alloc::{AllocError, Global};
+
+/// How a stream ends behind an outcome of so many octets, where it ends: a header's fault has none.
+fn end_behind(len: u16) -> End
+    ensures { result ≡ end_behind len }
+{
+    if len == 0 { End::Head } else { End::Reset }
+}
+
+/// Takes octets up to the end of a message, and adds what it comes to. Answers how many it took, and how the stream ended, where it did.
+fn step(
+    alloc: Global,
+    decoder: &mut Decoder,
+    octets: &[u8],
+    outs: &mut Vec<(u16, Outcome)>,
+) -> Result<(usize, Option<End>), AllocError>
+    requires going { decoder.old.stopped ≡ false }
+    requires waits { Waits decoder.old.held }
+    requires some { 0 < length octets.now }
+    ensures within { IfOk result (λ r. r.0 ≤ length octets.now) }
+    ensures progress { IfOk result (λ r. 0 < r.0) }
+    ensures decodes { IfOk result (λ r. Decodes decoder.old octets.now outs.old.items outs.new.items (drop r.0 octets.now) r.1 decoder.new) }
+{
+    let taken = decoder.feed(octets);
+    match decoder.next(alloc)? {
+        None => Ok((taken, None)),
+        Some((len, outcome)) => {
+            let resets = outcome.is_reset();
+            outs.push((len, outcome))?;
+            if resets {
+                Ok((taken, Some(end_behind(len))))
+            } else {
+                Ok((taken, None))
+            }
+        }
+    }
+}
+
+/// Adds what the messages in a piece of a stream come to. Answers how the stream ended, where it did.
+fn decode_piece(
+    alloc: Global,
+    decoder: &mut Decoder,
+    piece: &[u8],
+    outs: &mut Vec<(u16, Outcome)>,
+) -> Result<Option<End>, AllocError>
+    requires going { decoder.old.stopped ≡ false }
+    requires waits { Waits decoder.old.held }
+    ensures { IfOk result (λ ended. Decodes decoder.old piece.now outs.old.items outs.new.items [] ended decoder.new) }
+{
+    let mut rest = piece;
+    'piece: while !rest.is_empty() {
+        match step(alloc, decoder, rest, outs)? {
+            (_, Some(end)) => return Ok(Some(end)),
+            (taken, None) => {
+                let (_, later) = rest.split_at(taken);
+                rest = later;
+            }
+        }
+    }
+    Ok(None)
+}
+
+/// What a stream comes to in a context: each message's outcome in order, with its octets in number, up to the first reset; and how the
+/// stream ends. Where it was cut into pieces has no effect.
+///
+/// # Errors
+/// `AllocError` where a growth was refused.
+pub fn decode_all(alloc: Global, ctx: &Context, pieces: &[&[u8]]) -> Result<Seen, AllocError>
+    ensures { IfOk result (λ seen. IsSeen ctx.now (flat_map (λ piece. piece.now) pieces.now) seen) }
+{
+    let mut decoder = Decoder::new(*ctx);
+    let mut outs = Vec::new(alloc);
+    'pieces: for piece in pieces {
+        if let Some(end) = decode_piece(alloc, &mut decoder, piece, &mut outs)? {
+            return Ok(Seen {
+                outs: List::from_vec(outs),
+                end,
+            });
+        }
+    }
+    let end = End::Wait(decoder.held() as u16);
+    Ok(Seen {
+        outs: List::from_vec(outs),
+        end,
+    })
+}

@@ -1,0 +1,129 @@
+//! Writing a message.
+
+ghost use Rattle.std.specs.Prelude.{◌≡◌, ◌+◌, ◌≤◌, ◌++◌, ◌↔◌, [], Some, false, length, take, drop, IsTrue, IsErrOf, OnOk, OnErr};
+ghost use Rattle.bgp_frame.specs.Frame.{IsFrame};
+ghost use Rattle.bgp_frame.specs.Head.{header};
+ghost use Rattle.bgp_frame.specs.Kind.{IsLength};
+ghost use Rattle.bgp_open.specs.Open.{IsOpen};
+ghost use Rattle.bgp_open.specs.Written as opens;
+ghost use Rattle.bgp_update.specs.declared.invalid.Invalid.{Invalid};
+ghost use Rattle.bgp_update.specs.declared.write.WriteFault.TheVariants.{NotValid, TooLong};
+ghost use Rattle.bgp_msg.specs.declared.outcome.Outcome.TheVariants.{Took};
+ghost use Rattle.bgp_msg.specs.Outcome.{out_of};
+ghost use Rattle.bgp_msg.specs.Written.{kind_of, notification_octets, body_of, written, canonical, invalid_open, invalid_of, is_valid, is_too_long};
+
+use crate::message::Message;
+use bgp_frame::{Kind, Notification, head};
+use bgp_open::{Context, Open, WriteOpenFault, write_open};
+use bgp_update::{Invalid, WriteFault, write_update};
+use std::alloc::AllocError;
+
+/// The octets of a BGP Identifier.
+fn id_len(id: &[u8; 4]) -> usize
+    ensures value { result ≡ length id.now }
+    ensures fixed { result ≡ 4 }
+{
+    id.len()
+}
+
+/// A valid OPEN has a body of at most 265 octets.
+#[tactic(auto, using(crate::proofs::Encodings::open_short))]
+fn bound_open(said: &Open)
+    ensures { opens.is_bad said.now ≡ false → length (opens.canonical said.now) ≤ 265 }
+{
+    let _four = id_len(&said.id);
+}
+
+/// Appends the body of an OPEN.
+fn put_open(said: &Open, out: &mut Vec<u8>) -> Result<(), WriteFault>
+    ensures not_valid { (why : Invalid) → IsErrOf result (NotValid why) ↔ (invalid_open said.now ≡ Some why) }
+    ensures fits { IsErrOf result TooLong → ⊥ }
+    ensures ok { OnOk result (out.new.items ≡ out.old.items ++ opens.canonical said.now) }
+    ensures spelled { OnOk result (IsOpen said.now (opens.canonical said.now)) }
+    ensures short { opens.is_bad said.now ≡ false → length (opens.canonical said.now) ≤ 265 }
+    ensures err { OnErr result (out.new.items ≡ out.old.items) }
+{
+    bound_open(said);
+    match write_open(said, out) {
+        Ok(()) => Ok(()),
+        Err(WriteOpenFault::NotValid) => Err(WriteFault::NotValid(Invalid::BadOpen)),
+        Err(WriteOpenFault::Memory) => Err(WriteFault::Memory),
+    }
+}
+
+/// Appends the body of a NOTIFICATION.
+fn put_notification(notification: &Notification, out: &mut Vec<u8>) -> Result<(), AllocError>
+    ensures ok { OnOk result (out.new.items ≡ out.old.items ++ notification_octets notification.now) }
+    ensures fits { length notification.now.info.items ≤ 4075 }
+    ensures err { OnErr result (out.new.items ≡ out.old.items) }
+{
+    let start = out.len();
+    let info = notification.info.as_slice();
+    out.extend_from_slice(&[notification.code, notification.subcode])?;
+    let written = out.extend_from_slice(info);
+    if written.is_err() {
+        out.truncate(start);
+    }
+    written
+}
+
+/// Appends the body of a message.
+fn put_body(ctx: &Context, message: &Message, out: &mut Vec<u8>) -> Result<(), WriteFault>
+    ensures not_valid { (why : Invalid) → IsErrOf result (NotValid why) ↔ (invalid_of ctx.now message.now ≡ Some why) }
+    ensures too_long { IsErrOf result TooLong ↔ (IsTrue (is_valid ctx.now message.now) × IsTrue (is_too_long ctx.now message.now)) }
+    ensures ok { OnOk result (out.new.items ≡ out.old.items ++ body_of ctx.now message.now) }
+    ensures allowed { OnOk result (IsLength (kind_of message.now) (19 + length (body_of ctx.now message.now))) }
+    ensures taken { OnOk result (out_of ctx.now (written ctx.now message.now) ≡ Took message.now []) }
+    ensures err { OnErr result (out.new.items ≡ out.old.items) }
+{
+    match message {
+        Message::Open(open) => put_open(open, out),
+        Message::Update(update) => write_update(ctx, update, out),
+        Message::Notification(notification) => {
+            put_notification(notification, out)?;
+            Ok(())
+        }
+        Message::Keepalive => Ok(()),
+    }
+}
+
+/// Puts a header in front of the octets from a place on.
+fn put_header(kind: Kind, start: usize, out: &mut Vec<u8>) -> Result<(), AllocError>
+    requires start { start ≤ length out.old.items }
+    requires allowed { IsLength kind (19 + length (drop start out.old.items)) }
+    ensures ok { OnOk result (out.new.items ≡ take start out.old.items ++ (header kind (19 + length (drop start out.old.items)) ++ drop start out.old.items)) }
+    ensures err { OnErr result (out.new.items ≡ out.old.items) }
+{
+    let len = (out.len() - start) as u16;
+    let header = head(kind, len);
+    out.extend_from_slice(&header)?;
+    out[start..].rotate_right(header.len());
+    Ok(())
+}
+
+/// Appends a whole message in its one written form (RFC 4271, section 4).
+///
+/// # Errors
+/// `NotValid` for the first reason why it isn't valid in the context, else `TooLong`, else `Memory` where a growth was refused; nothing
+/// is appended then.
+pub fn encode(ctx: &Context, message: &Message, out: &mut Vec<u8>) -> Result<(), WriteFault>
+    ensures not_valid { (why : Invalid) → IsErrOf result (NotValid why) ↔ (invalid_of ctx.now message.now ≡ Some why) }
+    ensures too_long { IsErrOf result TooLong ↔ (IsTrue (is_valid ctx.now message.now) × IsTrue (is_too_long ctx.now message.now)) }
+    ensures ok { OnOk result (out.new.items ≡ out.old.items ++ canonical ctx.now message.now) }
+    // What is written is a whole message, which is taken as the one that was meant, without notes.
+    ensures whole { OnOk result (IsFrame (written ctx.now message.now) (canonical ctx.now message.now)) }
+    ensures taken { OnOk result (out_of ctx.now (written ctx.now message.now) ≡ Took message.now []) }
+    ensures err { OnErr result (out.new.items ≡ out.old.items) }
+{
+    let start = out.len();
+    match put_body(ctx, message, out) {
+        Err(fault) => Err(fault),
+        Ok(()) => match put_header(message.kind(), start, out) {
+            Ok(()) => Ok(()),
+            Err(_) => {
+                out.truncate(start);
+                Err(WriteFault::Memory)
+            }
+        },
+    }
+}

@@ -1,0 +1,21 @@
+//! The messages of BGP-4: what each comes to, how it is written, and streams of them in whatever pieces they come
+//! (RFC 4271, sections 4 and 6; RFC 7606).
+#![tactic(auto)]
+
+mod decoder;
+mod decoding;
+mod encoding;
+pub mod laws;
+mod message;
+mod outcome;
+mod seen;
+mod taking;
+
+pub use bgp_frame::{End, Frame, Framer, HeadFault, Kind, Step};
+pub use decoder::Decoder;
+pub use decoding::decode_all;
+pub use encoding::encode;
+pub use message::Message;
+pub use outcome::Outcome;
+pub use seen::Seen;
+pub use taking::out_frame;

@@ -1,0 +1,51 @@
+//! Messages.
+
+ghost use Rattle.std.specs.Prelude.{◌≡◌, IfOk};
+ghost use Rattle.bgp_msg.specs.Written.{kind_of};
+
+use bgp_frame::{Kind, Notification};
+use bgp_open::Open;
+use bgp_update::Update;
+use std::alloc::{AllocError, Global};
+
+/// A message (RFC 4271, section 4).
+#[derive(Debug, Drop, PartialEq)]
+pub enum Message {
+    Open(Open),
+    Update(Update),
+    Notification(Notification),
+    Keepalive,
+}
+
+impl Message {
+    /// The kind of the message.
+    pub fn kind(&self) -> Kind
+        ensures { result ≡ kind_of self.now }
+    {
+        match self {
+            Message::Open(_) => Kind::Open,
+            Message::Update(_) => Kind::Update,
+            Message::Notification(_) => Kind::Notification,
+            Message::Keepalive => Kind::Keepalive,
+        }
+    }
+
+    /// An equal message, with memory of its own.
+    ///
+    /// # Errors
+    /// `AllocError` where a growth was refused.
+    pub fn copy(&self, alloc: Global) -> Result<Message, AllocError>
+        ensures { IfOk result (λ copy. copy ≡ self.now) }
+    {
+        match self {
+            Message::Open(open) => Ok(Message::Open(open.copy(alloc)?)),
+            Message::Update(update) => Ok(Message::Update(update.copy(alloc)?)),
+            Message::Notification(notification) => Ok(Message::Notification(Notification::new(
+                notification.code,
+                notification.subcode,
+                &notification.info,
+            ))),
+            Message::Keepalive => Ok(Message::Keepalive),
+        }
+    }
+}

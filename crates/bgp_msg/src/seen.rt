@@ -1,0 +1,13 @@
+//! What a stream comes to.
+
+use crate::outcome::Outcome;
+use bgp_frame::End;
+use bgp_wire::List;
+
+/// What a stream of octets comes to: for each message its octets in number and its outcome, and how the stream ends. A header's fault
+/// is the last outcome, of no octets.
+#[derive(Debug, Drop, PartialEq)]
+pub struct Seen {
+    pub outs: List<(u16, Outcome)>,
+    pub end: End,
+}
