@@ -19,3 +19,6 @@ pub use message::Message;
 pub use outcome::Outcome;
 pub use seen::Seen;
 pub use taking::out_frame;
+
+#[cfg(test)]
+mod tests;
