@@ -2,3 +2,5 @@
 pub mod Nexts
 pub mod Encodings
 pub mod Decodings
+pub mod ReadOpens
+pub mod TakenMessages

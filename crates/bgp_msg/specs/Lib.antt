@@ -4,3 +4,4 @@ pub mod Written
 pub mod Seen
 pub mod Decoder
 pub mod Decoding
+pub mod Laws

@@ -1,12 +1,24 @@
 //! Laws of messages and streams. Each is the contract of a function that does nothing.
 
-ghost use Rattle.std.specs.Prelude.{List, ℕ};
+ghost use Rattle.std.specs.Prelude.{◌≡◌, List, ℕ};
 ghost use Rattle.bgp_wire.specs.Octets.{AreOctets};
+ghost use Rattle.bgp_frame.specs.Frame as frame;
+ghost use Rattle.bgp_frame.specs.Frame.{IsFrame};
 ghost use Rattle.bgp_frame.specs.Stream.{HasOneReading};
 ghost use Rattle.bgp_open.specs.declared.context.Context.{Context};
-ghost use Rattle.bgp_msg.specs.Outcome.{judgement};
+ghost use Rattle.bgp_update.specs.declared.note.Note.{Note};
+ghost use Rattle.bgp_msg.specs.declared.message.Message.{Message};
+ghost use Rattle.bgp_msg.specs.declared.outcome.Outcome.TheVariants.{Took};
+ghost use Rattle.bgp_msg.specs.Outcome.{out_of, judgement};
+ghost use Rattle.bgp_msg.specs.Laws.{CanBeWritten};
 
 /// Each stream of octets has exactly one list of outcomes and one end, in each context.
 pub fn streams_have_one_reading()
     ensures { (ctx : Context) (stream : List ℕ) → AreOctets stream → HasOneReading (judgement ctx) stream }
+{}
+
+/// A message that is taken can be written where it was read, in no more octets than it had.
+pub fn a_taken_message_can_be_written()
+    ensures { (ctx : Context) (m : frame.Message) (octets : List ℕ) (said : Message) (notes : List Note)
+        → AreOctets octets → IsFrame m octets → out_of ctx m ≡ Took said notes → CanBeWritten ctx said octets }
 {}
