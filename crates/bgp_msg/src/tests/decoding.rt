@@ -16,7 +16,7 @@ fn stream_of(alloc: Global, messages: &[&[u8]]) -> Result<Vec<u8>, AllocError> {
 /// The stream in pieces of so many octets.
 fn cut<'a>(alloc: Global, stream: &'a [u8], size: usize) -> Result<Vec<&'a [u8]>, AllocError> {
     let mut pieces = Vec::new(alloc);
-    for piece in stream.chunks(size) {
+    for piece in stream.chunks(size.max(1)) {
         pieces.push(piece)?;
     }
     Ok(pieces)

@@ -38,17 +38,28 @@ fn each_kind_is_written(rt: HostRuntime) -> Result<(), Fail> {
     assert_written(&rt, &Message::Keepalive, KEEPALIVE)
 }
 
+/// A message's copy is equal to it.
+fn assert_copied(rt: &(impl Abort + AllocGlobal), message: &Message) -> Result<(), Fail> {
+    assert!(rt; message.copy(rt.alloc())? == *message);
+    Ok(())
+}
+
 #[test]
 fn each_kind_is_copied(rt: HostRuntime) -> Result<(), Fail> {
     let alloc = rt.alloc();
-    let message = open(alloc)?;
-    assert!(rt; message.copy(alloc)? == message);
-    let message = plain(alloc)?;
-    assert!(rt; message.copy(alloc)? == message);
-    let message = shutdown();
-    assert!(rt; message.copy(alloc)? == message);
-    assert!(rt; Message::Keepalive.copy(alloc)? == Message::Keepalive);
-    assert_eq!(rt; message.kind(), Kind::Notification);
+    assert_copied(&rt, &open(alloc)?)?;
+    assert_copied(&rt, &plain(alloc)?)?;
+    assert_copied(&rt, &shutdown())?;
+    assert_copied(&rt, &Message::Keepalive)
+}
+
+#[test]
+fn each_message_has_its_kind(rt: HostRuntime) -> Result<(), Fail> {
+    let alloc = rt.alloc();
+    assert_eq!(rt; open(alloc)?.kind(), Kind::Open);
+    assert_eq!(rt; plain(alloc)?.kind(), Kind::Update);
+    assert_eq!(rt; shutdown().kind(), Kind::Notification);
+    assert_eq!(rt; Message::Keepalive.kind(), Kind::Keepalive);
     Ok(())
 }
 
