@@ -4,3 +4,4 @@ pub mod Encodings
 pub mod Decodings
 pub mod ReadOpens
 pub mod TakenMessages
+pub mod Itself

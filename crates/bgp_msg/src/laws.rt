@@ -1,6 +1,6 @@
 //! Laws of messages and streams. Each is the contract of a function that does nothing.
 
-ghost use Rattle.std.specs.Prelude.{◌≡◌, List, ℕ};
+ghost use Rattle.std.specs.Prelude.{◌≡◌, ◌≤◌, List, ℕ, length, None};
 ghost use Rattle.bgp_wire.specs.Octets.{AreOctets};
 ghost use Rattle.bgp_frame.specs.Frame as frame;
 ghost use Rattle.bgp_frame.specs.Frame.{IsFrame};
@@ -10,7 +10,8 @@ ghost use Rattle.bgp_update.specs.declared.note.Note.{Note};
 ghost use Rattle.bgp_msg.specs.declared.message.Message.{Message};
 ghost use Rattle.bgp_msg.specs.declared.outcome.Outcome.TheVariants.{Took};
 ghost use Rattle.bgp_msg.specs.Outcome.{out_of, judgement};
-ghost use Rattle.bgp_msg.specs.Laws.{CanBeWritten};
+ghost use Rattle.bgp_msg.specs.Written.{canonical, invalid_of};
+ghost use Rattle.bgp_msg.specs.Laws.{CanBeWritten, HasMessageRanges, IsTakenAsItself};
 
 /// Each stream of octets has exactly one list of outcomes and one end, in each context.
 pub fn streams_have_one_reading()
@@ -21,4 +22,10 @@ pub fn streams_have_one_reading()
 pub fn a_taken_message_can_be_written()
     ensures { (ctx : Context) (m : frame.Message) (octets : List ℕ) (said : Message) (notes : List Note)
         → AreOctets octets → IsFrame m octets → out_of ctx m ≡ Took said notes → CanBeWritten ctx said octets }
+{}
+
+/// A valid message that is written, in no more octets than a message can have, is taken as itself.
+pub fn a_valid_message_is_taken_as_itself()
+    ensures { (ctx : Context) (m : Message)
+        → HasMessageRanges m → invalid_of ctx m ≡ None → length (canonical ctx m) ≤ 4096 → IsTakenAsItself ctx m }
 {}
