@@ -1,5 +1,5 @@
 -- What a decoder gives next, from what it holds.
-use Rattle.std.proofs.Common.{◌≡◌, ℕ, Bool, false, List, [], length, Some, refl, subst, inl}
+use Rattle.std.proofs.Common.{◌≡◌, ℕ, Bool, false, List, [], length, Some, inl}
 use Rattle.bgp_frame.specs.Frame.{Message, IsFrame}
 use Rattle.bgp_open.specs.declared.context.Context.{Context}
 use Rattle.bgp_msg.specs.declared.outcome.Outcome.{Outcome}

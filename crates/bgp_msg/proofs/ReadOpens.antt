@@ -1,6 +1,6 @@
 -- An OPEN that was read can be written, in no more octets.
-use Rattle.std.proofs.Common.{◌≡◌, ℕ, zero, suc, ◌+◌, ◌<◌, ◌≤◌, Bool, true, false, ◌||◌, cond, eqb, ltb, List, [], ◌∷◌, ◌++◌, length, drop, Option, Some, None, refl, sym, ap, ap₂, subst, ◌∙◌, arith}
-use Rattle.std.specs.List.{flat_map, list_any}
+use Rattle.std.proofs.Common.{◌≡◌, ℕ, suc, ◌+◌, ◌≤◌, Bool, true, false, ◌||◌, cond, eqb, ltb, List, [], ◌∷◌, ◌++◌, length, Option, Some, None, refl, sym, ap, subst, ◌∙◌, arith}
+use Rattle.std.specs.List.{list_any}
 use Rattle.std.proofs.lemmas.Bool.{or_from, le-ltb}
 use Rattle.std.proofs.lemmas.Grind.{flat_map-append}
 use Rattle.std.proofs.lemmas.List.{length-append, length-drop}
@@ -9,11 +9,11 @@ use Rattle.bgp_wire.specs.Octets.{AreOctets}
 use Rattle.bgp_wire.specs.Row.{Row}
 use Rattle.bgp_numbers.specs.declared.capability.TheConstants.{MULTIPROTOCOL, FOUR_OCTET_AS}
 use Rattle.bgp_open.specs.declared.capability.Capability.{Capability}
-use Rattle.bgp_open.specs.declared.capability.Capability.TheVariants.{Multi, As4, Other}
+use Rattle.bgp_open.specs.declared.capability.Capability.TheVariants.{Other}
 use Rattle.bgp_open.specs.declared.message.Open.{Open}
-use Rattle.bgp_open.specs.Capability.{multi_of, as4_of, capability_of, IsCapability}
+use Rattle.bgp_open.specs.Capability.{multi_of, as4_of, IsCapability}
 use Rattle.bgp_open.specs.Parameter.{IsParameter}
-use Rattle.bgp_open.specs.Open.{is_short_hold, is_zero_id, hold_of, parameters_of, length_of, joined, IsOpen, IsHold}
+use Rattle.bgp_open.specs.Open.{is_short_hold, is_zero_id, parameters_of, joined, IsOpen}
 use Rattle.bgp_open.specs.Written.{capability_octets, row_octets, parameter_octets, canonical, is_misnamed, is_bad_row, is_bad}
 use Rattle.bgp_open.proofs.Readings.{short-hold, zero-id}
 

@@ -1,5 +1,5 @@
 -- A message that was taken can be written, in no more octets.
-use Rattle.std.proofs.Common.{◌≡◌, ℕ, ◌+◌, ◌≤◌, Bool, true, false, cond, List, [], ◌∷◌, length, drop, Option, Some, None, Result, Ok, Err, refl, sym, ap, subst, ◌∙◌, arith}
+use Rattle.std.proofs.Common.{◌≡◌, ℕ, ◌+◌, ◌≤◌, Bool, cond, List, [], length, Option, Some, None, Result, Ok, Err, refl, ap, subst, arith}
 use Rattle.std.proofs.lemmas.List.{length-drop}
 use Rattle.bgp_wire.specs.Octets.{AreOctets}
 use Rattle.bgp_wire.proofs.OctetLemmas.{AreOctets-back}
@@ -15,7 +15,6 @@ use Rattle.bgp_open.specs.declared.context.Context.{Context}
 use Rattle.bgp_open.specs.declared.fault.OpenFault.{OpenFault}
 use Rattle.bgp_open.specs.declared.message.Open.{Open}
 use Rattle.bgp_open.specs.OpenFault.{open_notification, reading_of}
-use Rattle.bgp_open.specs.Written as opens
 use Rattle.bgp_open.proofs.Readings.{reading-spells}
 use Rattle.bgp_update.specs.declared.invalid.Invalid.{Invalid}
 use Rattle.bgp_update.specs.declared.invalid.Invalid.TheVariants as invalid
@@ -29,7 +28,7 @@ use Rattle.bgp_msg.specs.declared.message.Message.TheVariants as message
 use Rattle.bgp_msg.specs.declared.outcome.Outcome.{Outcome}
 use Rattle.bgp_msg.specs.declared.outcome.Outcome.TheVariants as outcome
 use Rattle.bgp_msg.specs.Outcome.{of_open_fault, of_reading, of_verdict, notification_in, of_body, out_of}
-use Rattle.bgp_msg.specs.Written.{written, invalid_open, invalid_of, body_of, canonical}
+use Rattle.bgp_msg.specs.Written.{written, invalid_of, body_of}
 use Rattle.bgp_msg.specs.Laws.{CanBeWritten}
 use Rattle.bgp_msg.proofs.ReadOpens.{read-good, read-short}
 

@@ -1,6 +1,6 @@
 use Rattle.std.proofs.Common.{List, ℕ, Bool, Some, ap₂, subst}
 use Rattle.bgp_msg.specs.Decoder.{Decoding, IsNext}
-use Rattle.bgp_msg.proofs.Nexts.{at_hand, message_next}
+use Rattle.bgp_msg.proofs.Nexts.{message_next}
 use Rattle.bgp_msg.proofs.decoder.Decoder.next.Goals as goal
 
 pub returns-in_ok-outcome-in-Frame-clause-ok : goal.returns-in_ok-outcome-in-Frame-clause-ok
