@@ -1,13 +1,12 @@
 -- How long the written form of an attribute is.
-use Rattle.std.proofs.Common.{◌≡◌, ℕ, ◌+◌, ◌*◌, ◌<◌, ◌≤◌, Bool, true, false, cond, ltb, List, [], ◌∷◌, ◌++◌, length, Option, Some, None, refl, sym, ap, ◌∙◌, arith}
+use Rattle.std.proofs.Common.{◌≡◌, ℕ, ◌+◌, ◌*◌, ◌<◌, Bool, true, false, cond, ltb, [], ◌∷◌, length, Some, None, refl, sym, ap, ◌∙◌, arith}
 use Rattle.std.specs.Int.{w16, to_be_bytes}
-use Rattle.std.proofs.lemmas.Bool.{lt-ltb, le-ltb}
 use Rattle.std.proofs.lemmas.List.{length-append}
 use Rattle.bgp_open.specs.declared.context.Context.{Context}
 use Rattle.bgp_attr.specs.declared.attr.Attr.{Attr}
 use Rattle.bgp_attr.specs.Flags.{is_extended, flags_octet}
-use Rattle.bgp_attr.specs.Tlv.{length_octets, tlv_octets}
-use Rattle.bgp_attr.specs.Written.{class_of, partial_of, type_of, value_octets, canonical}
+use Rattle.bgp_attr.specs.Tlv.{length_octets}
+use Rattle.bgp_attr.specs.Written.{class_of, partial_of, value_octets, canonical}
 use Rattle.bgp_attr.specs.Length.{within, value_len}
 use Rattle.bgp_attr.proofs.FlagBits.{is_extended-flags}
 use Rattle.bgp_attr.proofs.Lengths.{within_past, past_within, within_fits}

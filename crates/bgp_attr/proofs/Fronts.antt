@@ -1,5 +1,5 @@
 -- A number at the front of octets, as the code cuts it off.
-use Rattle.std.proofs.Common.{◌≡◌, ℕ, ◌<◌, ◌≤◌, List, [], ◌∷◌, length, get_or, take, drop, Option, Some, None, refl, arith}
+use Rattle.std.proofs.Common.{◌≡◌, ℕ, ◌<◌, ◌≤◌, List, [], ◌∷◌, length, get_or, take, drop, Some, None, refl, arith}
 use Rattle.std.specs.Int.{w16, w32, from_be_bytes}
 use Rattle.bgp_attr.specs.Numbers.{four_at, two_at}
 

@@ -1,16 +1,16 @@
 -- Attributes, numbers, triples and segments are read as they are spelled.
-use Rattle.std.proofs.Common.{◌≡◌, ℕ, ◌<◌, ◌≤◌, Bool, true, false, cond, leb, List, [], ◌∷◌, ◌++◌, length, take, drop, Option, Some, None, refl, sym, ap, subst, ◌∙◌, append_assoc, arith}
+use Rattle.std.proofs.Common.{◌≡◌, ℕ, ◌<◌, Bool, true, false, cond, leb, List, [], ◌∷◌, ◌++◌, length, take, drop, Option, Some, None, refl, sym, ap, subst, ◌∙◌, append_assoc, arith}
 use Rattle.std.specs.Int.{w16, w32, from_be_bytes}
 use Rattle.std.proofs.lemmas.Bool.{leb-true, le-leb}
 use Rattle.std.proofs.lemmas.List.{length-append, length-take, take_at, drop_at, take-append-drop}
 use Rattle.bgp_wire.specs.Reader.{Reads}
-use Rattle.bgp_wire.specs.Behind.{BehindCount, behind_count}
+use Rattle.bgp_wire.specs.Behind.{behind_count}
 use Rattle.bgp_wire.proofs.Pieces.{found, found_same, found_not}
 use Rattle.bgp_wire.proofs.Behinds.{BehindCount-reads}
 use Rattle.bgp_attr.specs.declared.path_form.PathForm.{PathForm}
 use Rattle.bgp_attr.specs.Flags.{is_extended}
 use Rattle.bgp_attr.specs.Tlv.{TlvValue, IsTlv, number_of_length, with_value, behind_one_octet, behind_two_octets, one_tlv}
-use Rattle.bgp_attr.specs.Numbers.{number_in, IsNumber, four_at, two_at, one_number, IsTriple, one_triple}
+use Rattle.bgp_attr.specs.Numbers.{IsNumber, four_at, two_at, one_number, IsTriple, one_triple}
 use Rattle.bgp_attr.specs.Path.{WireSegment, is_known, IsSegment, segment_of, one_segment}
 
 -- ---- numbers

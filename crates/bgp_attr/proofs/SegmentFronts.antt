@@ -1,13 +1,12 @@
 -- A segment at the front of octets, as the code cuts it off.
-use Rattle.std.proofs.Common.{◌≡◌, ◌≢◌, ℕ, zero, suc, ◌+◌, ◌*◌, ◌<◌, ◌≤◌, Bool, true, false, cond, leb, eqb, not, ◌||◌, List, [], ◌∷◌, ◌++◌, length, get_or, take, drop, Option, Some, None, refl, sym, ap, ap₂, ◌∙◌, arith, inl, inr}
-use Rattle.std.proofs.lemmas.Bool.{le-leb, lt-leb, cases_lt, eq-eqb, ne_eqb}
-use Rattle.std.proofs.lemmas.List.{length-append, length-take, length-drop, take_at, drop_at, take-append-drop, drop-drop}
+use Rattle.std.proofs.Common.{◌≡◌, ◌≢◌, ℕ, zero, suc, ◌+◌, ◌*◌, ◌<◌, ◌≤◌, Bool, true, false, cond, eqb, not, ◌||◌, List, [], ◌∷◌, ◌++◌, length, take, drop, Option, Some, None, refl, sym, ap, ap₂, ◌∙◌, arith, inl, inr}
+use Rattle.std.proofs.lemmas.Bool.{cases_lt, eq-eqb, ne_eqb}
+use Rattle.std.proofs.lemmas.List.{length-take, length-drop, take-append-drop, drop-drop}
 use Rattle.std.proofs.Math.Seq.{take-append-add}
-use Rattle.bgp_wire.specs.Reader.{then_pieces, pieces_within, pieces}
+use Rattle.bgp_wire.specs.Reader.{then_pieces, pieces_within}
 use Rattle.bgp_wire.specs.Behind.{behind_count}
-use Rattle.bgp_wire.proofs.Pieces.{pieces-some, pieces-none, found_not}
 use Rattle.bgp_attr.specs.declared.path_form.PathForm.{PathForm}
-use Rattle.bgp_attr.specs.Numbers.{number_width, number_in, IsNumber, four_at, two_at, one_number, numbers_of}
+use Rattle.bgp_attr.specs.Numbers.{number_width, number_in, one_number, numbers_of}
 use Rattle.bgp_attr.specs.Path.{WireSegment, is_known, segment_of, one_segment}
 use Rattle.bgp_attr.proofs.Readers.{IsNumber-reads}
 use Rattle.bgp_attr.proofs.NumberSteps.{number_then, no_number}

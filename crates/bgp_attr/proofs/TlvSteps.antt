@@ -1,8 +1,8 @@
 -- The attributes of a field one after the other, a step at a time.
-use Rattle.std.proofs.Common.{◌≡◌, ℕ, ◌+◌, ◌-◌, ◌≤◌, List, [], ◌∷◌, ◌++◌, length, drop, Some, None, refl, sym, ap, ap₂, ◌∙◌, arith}
+use Rattle.std.proofs.Common.{◌≡◌, ℕ, ◌+◌, ◌-◌, ◌≤◌, List, [], ◌∷◌, length, drop, Some, None, refl, sym, ap, ap₂, ◌∙◌, arith}
 use Rattle.std.proofs.lemmas.List.{length-append, length-drop, drop_at, drop-drop}
 use Rattle.bgp_wire.proofs.Walks.{first_then, no_more, same_rest, shorter}
-use Rattle.bgp_attr.specs.Tlv.{TlvValue, PlacedTlv, IsTlv, one_tlv, tlvs_of, placed_from}
+use Rattle.bgp_attr.specs.Tlv.{TlvValue, IsTlv, one_tlv, tlvs_of, placed_from}
 use Rattle.bgp_attr.proofs.Readers.{IsTlv-reads}
 
 module _ (field : List ℕ) (at : ℕ) where

@@ -10,7 +10,6 @@ use Rattle.bgp_attr.specs.declared.class.Class.TheVariants.{WellKnown, OptionalN
 use Rattle.bgp_attr.specs.declared.attr.Attr.{Attr}
 use Rattle.bgp_attr.specs.declared.judged.Judged.{Judged}
 use Rattle.bgp_attr.specs.declared.judged.Judged.TheVariants as judged
-use Rattle.bgp_attr.specs.declared.path_form.PathForm.{PathForm}
 use Rattle.bgp_attr.specs.declared.why.Why.TheVariants as why
 use Rattle.bgp_attr.specs.Flags.{has_class, is_optional}
 use Rattle.bgp_attr.specs.Tlv.{TlvValue}
@@ -18,7 +17,7 @@ use Rattle.bgp_attr.specs.Numbers.{number_width, number_in}
 use Rattle.bgp_attr.specs.Path.{path_of, path_fault, path_has_zero}
 use Rattle.bgp_attr.specs.Mp.{family_of, is_in_use, address_width, is_next_hop_length, next_hop_length, reached_of, withdrawn_of}
 use Rattle.bgp_attr.specs.Refusal.{Refusal, Discard, Withdraw, Reset, when, first_refusal, reset_with}
-use Rattle.bgp_attr.specs.Value.{as_path_form, as4_path_form, aggregator_of, value_of}
+use Rattle.bgp_attr.specs.Value.{as_path_form, as4_path_form, value_of}
 
 -- ---- words of the table
 

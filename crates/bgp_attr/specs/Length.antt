@@ -2,7 +2,7 @@
 use Rattle.std.specs.Prelude.{ℕ, length, Option, None, Some, nat_le, if◌then◌else◌}
 use Rattle.bgp_open.specs.declared.context.Context.{Context}
 use Rattle.bgp_attr.specs.declared.attr.Attr.{Attr}
-use Rattle.bgp_attr.specs.Written.{value_octets, canonical}
+use Rattle.bgp_attr.specs.Written.{value_octets}
 
 -- a number of octets, where a length field can hold it
 abbrev pub within : ℕ → Option ℕ

@@ -1,5 +1,5 @@
 -- AS paths (RFC 4271, section 4.3; RFC 6793, section 3). A segment is a type, a count, and as many AS numbers, one at least.
-use Rattle.std.specs.Prelude.{◌≡◌, ◌<◌, ℕ, Bool, not, ◌&&◌, ◌||◌, ◌==◌, List, [], ◌∷◌, ◌++◌, length, map, Option, None, Some, if◌then◌else◌}
+use Rattle.std.specs.Prelude.{◌≡◌, ◌<◌, ℕ, Bool, not, ◌&&◌, ◌||◌, ◌==◌, List, [], ◌∷◌, length, map, Option, None, Some, if◌then◌else◌}
 use Rattle.std.specs.List.{flat_map, list_any}
 use Rattle.bgp_numbers.specs.declared.segment.TheConstants.{SET, SEQUENCE, CONFED_SEQUENCE, CONFED_SET}
 use Rattle.bgp_prefix.specs.declared.as_number.AsNumber.{AsNumber}
@@ -12,7 +12,7 @@ use Rattle.bgp_attr.specs.declared.path.AsPath.{AsPath}
 use Rattle.bgp_attr.specs.declared.path_form.PathForm.{PathForm}
 use Rattle.bgp_attr.specs.declared.why.Why.{Why}
 use Rattle.bgp_attr.specs.declared.why.Why.TheVariants as why
-use Rattle.bgp_attr.specs.Numbers.{IsNumber, one_number, row_octets}
+use Rattle.bgp_attr.specs.Numbers.{IsNumber, one_number}
 
 -- a segment before it is known whether it is kept: the octet of its type, and its numbers
 pub record WireSegment : Type 0 where

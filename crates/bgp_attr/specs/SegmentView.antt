@@ -1,5 +1,5 @@
 -- What a borrowed segment is.
-use Rattle.std.specs.Prelude.{ℕ, Bool}
+use Rattle.std.specs.Prelude.{Bool}
 use Rattle.bgp_attr.specs.declared.segment.RawSegment.{RawSegment}
 use Rattle.bgp_attr.specs.Numbers.{numbers_of}
 use Rattle.bgp_attr.specs.Path.{WireSegment}

@@ -1,5 +1,5 @@
 -- What a borrowed attribute is, what an iterator of attributes has left, and what stands behind them.
-use Rattle.std.specs.Prelude.{◌≡◌, ◌<◌, ℕ, List, [], length, drop}
+use Rattle.std.specs.Prelude.{◌≡◌, ◌<◌, ℕ, List, [], length}
 use Rattle.bgp_attr.specs.declared.tlv.Tlv.{Tlv}
 use Rattle.bgp_attr.specs.declared.tlv.Tail.{Tail}
 use Rattle.bgp_attr.specs.declared.tlv.Tail.TheVariants.{End, Cut}

@@ -28,7 +28,6 @@ use Rattle.bgp_attr.specs.declared.unwritable.Unwritable.TheVariants.{AsWidth, A
 use Rattle.bgp_attr.specs.Flags.{flags_octet}
 use Rattle.bgp_attr.specs.Tlv.{TlvValue, tlv_octets}
 use Rattle.bgp_attr.specs.Numbers.{number_octets, row_octets, triple_octets, same_triple}
-use Rattle.bgp_attr.specs.Path.{as_number}
 use Rattle.bgp_attr.specs.Spelling.{is_recognised, origin_code, link_octets}
 
 -- ---- the octets of values

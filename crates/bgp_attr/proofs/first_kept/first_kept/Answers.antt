@@ -1,7 +1,4 @@
-use Rattle.std.proofs.Common.{◌≡◌, ℕ, Some, None, List, ◌∷◌, ◌++◌, sym, ap, ◌∙◌}
-use Rattle.bgp_attr.specs.declared.path.SegKind.{SegKind}
-use Rattle.bgp_attr.specs.declared.path.Segment.{Segment}
-use Rattle.bgp_attr.specs.Path.{kept_segments_of, kind_of_segment, segment_kept_as}
+use Rattle.std.proofs.Common.{sym, ◌∙◌}
 use Rattle.bgp_attr.specs.NumberIter.{as_numbers_left}
 use Rattle.bgp_attr.specs.SegmentView.{wire_segment}
 use Rattle.bgp_attr.proofs.SegmentSteps.{segment_shorter, kept_first, kept_later, none_kept}

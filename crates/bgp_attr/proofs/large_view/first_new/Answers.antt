@@ -1,4 +1,4 @@
-use Rattle.std.proofs.Common.{◌≡◌, ℕ, List, Option, Some, None, length, take, drop, sym, ap, ◌∙◌}
+use Rattle.std.proofs.Common.{ℕ, List, ap, ◌∙◌}
 use Rattle.std.specs.List.{list_any}
 use Rattle.bgp_attr.specs.Numbers.{one_triple, triples_of, same_triple}
 use Rattle.bgp_attr.proofs.LargeSteps.{nothing_new, none_new, up_more, seen_before, not_before}
