@@ -2,6 +2,7 @@
 use Rattle.std.specs.Prelude.{◌≡◌, ◌<◌, ◌⊎◌, ℕ, Bool, true, false, List, [], ◌++◌, length, take, Option, None, Some, Err}
 use Rattle.bgp_frame.specs.declared.fault.HeadFault.{HeadFault}
 use Rattle.bgp_frame.specs.Head.{head_of}
+use Rattle.bgp_frame.specs.declared.kind.Kind.TheVariants as kind
 use Rattle.bgp_frame.specs.Frame as frame
 use Rattle.bgp_frame.specs.Frame.{IsFrame, Waits}
 use Rattle.bgp_frame.specs.Takes.{Takes}
@@ -49,3 +50,10 @@ behind old o = record { ctx = old.ctx; held = []; stopped = is_reset o }
 abbrev pub IsNext : Decoding → Option (ℕ × Outcome) → Decoding → Type 0
 IsNext old None new = ((old.stopped ≡ true) ⊎ Waits old.held) × (new ≡ old)
 IsNext old (Some (n, o)) new = (old.stopped ≡ false) × (GivesMessage old n o ⊎ GivesFault old n o) × (new ≡ behind old o)
+
+-- what can ask for memory: a message with routes or capabilities that is held, and doesn't end the session
+pub record TakesMemory (old : Decoding) : Type 0 where
+  pub message : frame.Message
+  pub is_held : IsFrame message old.held
+  pub holds_lists : (message.kind ≡ kind.Open) ⊎ (message.kind ≡ kind.Update)
+  pub goes_on : is_reset (out_of old.ctx message) ≡ false

@@ -1,7 +1,7 @@
 //! Messages of a stream that comes in pieces.
 
 ghost use Rattle.std.specs.Prelude.{◌≡◌, ◌≤◌, length, IfOk, OnErr};
-ghost use Rattle.bgp_msg.specs.Decoder.{fresh, IsFed, IsNext};
+ghost use Rattle.bgp_msg.specs.Decoder.{fresh, IsFed, IsNext, TakesMemory};
 
 use crate::outcome::Outcome;
 use crate::taking::out_frame;
@@ -73,10 +73,12 @@ impl Decoder {
     /// for more octets, and behind a reset.
     ///
     /// # Errors
-    /// `AllocError` where a growth was refused: only for an OPEN or an UPDATE. What is held stays then, and the call can be made again.
+    /// `AllocError` where a growth was refused: only for an OPEN or an UPDATE that doesn't end the session. What is held stays then, and the
+    /// call can be made again.
     pub fn next(&mut self, alloc: Global) -> Result<Option<(u16, Outcome)>, AllocError>
         ensures ok { IfOk result (λ found. IsNext self.old found self.new) }
         ensures err { OnErr result (self.new ≡ self.old) }
+        ensures memory { OnErr result (TakesMemory self.old) }
     {
         if self.stopped {
             return Ok(None);

@@ -1,5 +1,6 @@
 use Rattle.std.proofs.Common.{List, ℕ, Bool, Some, ap₂, subst}
-use Rattle.bgp_msg.specs.Decoder.{Decoding, IsNext}
+use Rattle.std.proofs.lemmas.Result.{err_from_is_err_and}
+use Rattle.bgp_msg.specs.Decoder.{Decoding, IsNext, TakesMemory}
 use Rattle.bgp_msg.proofs.Nexts.{message_next}
 use Rattle.bgp_msg.proofs.decoder.Decoder.next.Goals as goal
 
@@ -13,3 +14,14 @@ returns-in_ok-outcome-in-Frame-clause-ok c =
     (message_next ctx held c.self.inside.stopped (record { kind = frame.kind; body = frame.body.now }) frame.len c.in_ok-outcome-in-Frame.outcome now
     c.if-self.false c.in-Frame.ensures.0 c.in-Frame.ensures.1 c.in_ok-outcome-in-Frame.ensures.value
     (ap₂ (λ (h : List ℕ) (s : Bool). record { ctx = ctx; held = h; stopped = s }) c.clear.ensures c.is_reset-self-inside.ensures))
+
+pub returns-in_err-outcome-in-Frame-clause-memory : goal.returns-in_err-outcome-in-Frame-clause-memory
+returns-in_err-outcome-in-Frame-clause-memory c =
+    let p = err_from_is_err_and c.from_residual.result c.from_residual.ensures.1 in
+    let frame = c.in-Frame.frame in
+    rw p.1 (subst TakesMemory c.self.view_is (record {
+      message = record { kind = frame.kind; body = frame.body.now };
+      is_held = c.in-Frame.ensures.0;
+      holds_lists = c.in_err-outcome-in-Frame.ensures.kind;
+      goes_on = c.in_err-outcome-in-Frame.ensures.err;
+    }))
