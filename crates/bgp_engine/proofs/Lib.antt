@@ -1,0 +1,5 @@
+pub mod HexPairs
+pub mod HexReads
+pub mod Written
+pub mod BlockLemmas
+pub mod Reading

@@ -1,0 +1,81 @@
+-- One block of text, from its characters to what is written of it.
+use Rattle.std.specs.Prelude.{◌≡◌, ℕ, ◌+◌, ◌≤◌, Bool, true, false, List, [], ◌++◌, length, Option, None, Some, Result, Ok, Err}
+use Rattle.std.specs.Io.KnownBytes.{Appends}
+use Rattle.bgp_wire.specs.Octets.{AreOctets}
+use Rattle.bgp_engine.specs.declared.tally.Tally.{Tally}
+use Rattle.bgp_engine.specs.declared.fault.ToolFault.{ToolFault}
+use Rattle.bgp_engine.specs.declared.fault.ToolFault.TheVariants as fault
+use Rattle.bgp_engine.specs.declared.hex_text.HexText.{HexText}
+use Rattle.bgp_engine.specs.declared.running.Met.{Met}
+use Rattle.bgp_engine.specs.declared.running.Met.TheVariants as met
+use Rattle.bgp_engine.specs.HexSteps.{pending, place}
+use Rattle.bgp_engine.specs.Output.{IsFront, AppendsFront}
+use Rattle.bgp_engine.specs.Report.{Report}
+use Rattle.bgp_engine.specs.Engine.{Takes, ClosesBy}
+use Rattle.bgp_engine.specs.Run.{Reports, stream_of, bad_of}
+
+-- however the text goes on, from old on it is the octets, and then what it is from new on
+pub record Spells (hex : Bool) (old : HexText) (block octets : List ℕ) (new : HexText) : Type 0 where
+  pub stream : (later : List ℕ) → stream_of hex (pending old ++ (block ++ later)) ≡ octets ++ stream_of hex (pending new ++ later)
+  pub bad : (later : List ℕ) → bad_of hex (place old) (pending old ++ (block ++ later)) ≡ bad_of hex (place new) (pending new ++ later)
+  pub raw : hex ≡ false → new.pending ≡ None
+  pub seen : new.seen ≤ old.seen + length block
+
+-- however the text goes on, it is the octets and no others, and bad at place n
+pub record SpellsNoMore (hex : Bool) (old : HexText) (block octets : List ℕ) (n : ℕ) : Type 0 where
+  pub stream : (later : List ℕ) → stream_of hex (pending old ++ (block ++ later)) ≡ octets
+  pub bad : (later : List ℕ) → bad_of hex (place old) (pending old ++ (block ++ later)) ≡ Some n
+
+module _ (hex : Bool) (reader_old reader_new : HexText) (old new : Reports) (going : Type 0) (told_old told_new block : List ℕ) where
+  -- the block was read and taken, and the stream goes on
+  pub record MeetsBlock : Type 0 where
+    pub octets : List ℕ
+    pub spells : Spells hex reader_old block octets reader_new
+    pub takes : Takes old new going told_old told_new octets false
+
+  -- the block was read up to a bad character, and taken
+  pub record MeetsBad (n : ℕ) : Type 0 where
+    pub octets : List ℕ
+    pub spells : SpellsNoMore hex reader_old block octets n
+    pub takes : Takes old new going told_old told_new octets false
+
+  -- what was read of the block is all that is reported of the stream
+  pub record MeetsOver : Type 0 where
+    pub octets : List ℕ
+    pub spells : (later : List ℕ) → IsFront octets (stream_of hex (pending reader_old ++ (block ++ later)))
+    pub takes : Takes old new going told_old told_new octets true
+
+  abbrev pub Meets : Met → Type 0
+  Meets met.Block = MeetsBlock
+  Meets (met.Bad n) = MeetsBad n
+  Meets met.Over = MeetsOver
+
+-- all was written that was collected, and what is written last
+pub record WritesAll (reports : Reports) (told : List ℕ) (old new : Option (List ℕ)) (answer : Result Tally ToolFault) : Type 0 where
+  pub report : Report
+  pub reported : reports [] report
+  pub none : report.lines ≡ []
+  pub wrote : Appends old new (told ++ report.last)
+  pub answers : report.answer ≡ answer
+
+-- nothing was written
+pub record WritesNone (reports : Reports) (old new : Option (List ℕ)) : Type 0 where
+  pub report : Report
+  pub reported : reports [] report
+  pub none : report.lines ≡ []
+  pub wrote : Appends old new []
+
+-- a front of it was written
+pub record WritesFront (reports : Reports) (told : List ℕ) (old new : Option (List ℕ)) : Type 0 where
+  pub report : Report
+  pub reported : reports [] report
+  pub none : report.lines ≡ []
+  pub wrote : AppendsFront old new (told ++ report.last)
+
+abbrev pub Finished : Reports → List ℕ → Option (List ℕ) → Option (List ℕ) → Result Tally ToolFault → Type 0
+Finished reports told old new (Ok tally) = WritesAll reports told old new (Ok tally)
+Finished reports told old new (Err fault.Memory) = WritesNone reports old new
+Finished reports told old new (Err fault.Write) = WritesFront reports told old new
+Finished reports told old new (Err fault.Read) = ⊥
+Finished reports told old new (Err (fault.BadHex n)) = ⊥
+Finished reports told old new (Err (fault.Narrow n)) = WritesAll reports told old new (Err (fault.Narrow n))

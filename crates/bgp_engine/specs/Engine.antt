@@ -1,0 +1,58 @@
+-- Steps of an engine: what it makes of octets, and how it goes on behind them.
+use Rattle.std.specs.Prelude.{◌≡◌, ℕ, Bool, true, false, List, [], ◌++◌, Result, Ok, Err}
+use Rattle.bgp_wire.specs.Octets.{AreOctets}
+use Rattle.bgp_engine.specs.declared.tally.Tally.{Tally}
+use Rattle.bgp_engine.specs.declared.fault.ToolFault.{ToolFault}
+use Rattle.bgp_engine.specs.declared.fault.ToolFault.TheVariants as fault
+use Rattle.bgp_engine.specs.Report.{Report, behind, IsOver, IsWaiting}
+use Rattle.bgp_engine.specs.Run.{Reports}
+
+-- however the stream goes on behind the octets, what is reported of it from old on is what is reported from new on, behind the lines
+abbrev pub GoesOn : Reports → List ℕ → List ℕ → Reports → Type 0
+GoesOn old octets lines new = (later : List ℕ) (r : Report) → new later r → old (octets ++ later) (behind lines r)
+
+-- the stream may go on: if it doesn't, no more lines are written
+pub record Rests (reports : Reports) : Type 0 where
+  pub report : Report
+  pub reported : reports [] report
+  pub none : report.lines ≡ []
+  pub waiting : IsWaiting report.end_of
+
+-- the stream is over, whatever follows
+pub record IsFinal (reports : Reports) : Type 0 where
+  pub report : Report
+  pub reported : reports [] report
+  pub none : report.lines ≡ []
+  pub over : (r : Report) → reports [] r → IsOver r.end_of
+  pub always : (later : List ℕ) (r : Report) → reports [] r → reports later r
+
+abbrev pub Stands : Bool → Type 0 → Reports → Type 0
+Stands false going reports = going × Rests reports
+Stands true going reports = IsFinal reports
+
+-- octets were taken, and what is written of them was collected
+pub record Takes (old new : Reports) (going : Type 0) (told_old told_new octets : List ℕ) (over : Bool) : Type 0 where
+  pub lines : List ℕ
+  pub told : told_new ≡ told_old ++ lines
+  pub goes_on : GoesOn old octets lines new
+  pub stands : Stands over going new
+
+-- each stream of octets has a report
+abbrev pub IsTotal : Reports → Type 0
+IsTotal reports = (later : List ℕ) → AreOctets later → (r : Report) × reports later r
+
+-- the stream ends: what is written last was collected
+pub record ClosesBy (reports : Reports) (told_old told_new : List ℕ) (answer : Result Tally ToolFault) : Type 0 where
+  pub report : Report
+  pub reported : reports [] report
+  pub none : report.lines ≡ []
+  pub told : told_new ≡ told_old ++ report.last
+  pub answers : report.answer ≡ answer
+
+abbrev pub Closes : Reports → List ℕ → List ℕ → Result Tally ToolFault → Type 0
+Closes reports told_old told_new (Ok tally) = ClosesBy reports told_old told_new (Ok tally)
+Closes reports told_old told_new (Err fault.Memory) = (r : Report) × reports [] r × (r.lines ≡ [])
+Closes reports told_old told_new (Err fault.Read) = ⊥
+Closes reports told_old told_new (Err fault.Write) = ⊥
+Closes reports told_old told_new (Err (fault.BadHex n)) = ⊥
+Closes reports told_old told_new (Err (fault.Narrow n)) = ClosesBy reports told_old told_new (Err (fault.Narrow n))

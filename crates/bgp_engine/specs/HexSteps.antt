@@ -1,0 +1,30 @@
+-- A reader of hexadecimal text, character by character.
+use Rattle.std.specs.Prelude.{◌≡◌, ℕ, ◌+◌, ◌-◌, List, [], ◌∷◌, ◌++◌, length, Some, option_to_list}
+use Rattle.bgp_engine.specs.declared.hex_text.HexText.{HexText}
+use Rattle.bgp_engine.specs.declared.hex_text.Taken.{Taken}
+use Rattle.bgp_engine.specs.declared.hex_text.Taken.TheVariants as taken
+use Rattle.bgp_engine.specs.HexText.{spelled, bad_from}
+
+-- the digit that waits for its pair
+abbrev pub pending : HexText → List ℕ
+pending reader = option_to_list reader.pending
+
+-- the place of the text that isn't read yet, that digit included
+abbrev pub place : HexText → ℕ
+place reader = reader.seen - length (pending reader)
+
+-- however the text goes on, from old on it spells the octets and then what it spells from new on, and is bad where it is from new on
+pub record Continues (old : HexText) (text octets : List ℕ) (new : HexText) : Type 0 where
+  pub spells : (later : List ℕ) → spelled (pending old ++ (text ++ later)) ≡ octets ++ spelled (pending new ++ later)
+  pub is_bad : (later : List ℕ) → bad_from (place old) (pending old ++ (text ++ later)) ≡ bad_from (place new) (pending new ++ later)
+  pub counts : new.seen ≡ old.seen + length text
+
+-- however the text goes on, it spells the octets and no others, and its first bad character is at this place
+pub record Breaks (old : HexText) (text octets : List ℕ) (n : ℕ) : Type 0 where
+  pub spells : (later : List ℕ) → spelled (pending old ++ (text ++ later)) ≡ octets
+  pub is_bad : (later : List ℕ) → bad_from (place old) (pending old ++ (text ++ later)) ≡ Some n
+
+abbrev pub ReadsOn : HexText → ℕ → Taken → HexText → Type 0
+ReadsOn old c taken.Nothing new = Continues old (c ∷ []) [] new
+ReadsOn old c (taken.Octet octet) new = Continues old (c ∷ []) (octet ∷ []) new × (length (pending old) ≡ 1) × (length (pending new) ≡ 0)
+ReadsOn old c taken.Bad new = Breaks old (c ∷ []) [] new.seen

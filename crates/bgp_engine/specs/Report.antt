@@ -1,0 +1,28 @@
+-- What an engine writes of a stream of octets, and what it answers.
+use Rattle.std.specs.Prelude.{ℕ, List, ◌++◌, Result}
+use Rattle.bgp_frame.specs.declared.end.End.{End}
+use Rattle.bgp_frame.specs.declared.end.End.TheVariants as end
+use Rattle.bgp_engine.specs.declared.tally.Tally.{Tally}
+use Rattle.bgp_engine.specs.declared.fault.ToolFault.{ToolFault}
+
+-- what is written of the stream's messages, what is written last, how the stream ends, and the answer
+pub record Report : Type 0 where
+  pub lines : List ℕ
+  pub last : List ℕ
+  pub end_of : End
+  pub answer : Result Tally ToolFault
+
+-- the same behind lines that were written before
+abbrev pub behind : List ℕ → Report → Report
+behind lines r = record { lines = lines ++ r.lines; last = r.last; end_of = r.end_of; answer = r.answer }
+
+-- the stream goes no further, whatever follows
+abbrev pub IsOver : End → Type 0
+IsOver end.Reset = Unit {0}
+IsOver end.Head = Unit {0}
+IsOver (end.Wait n) = ⊥
+
+abbrev pub IsWaiting : End → Type 0
+IsWaiting end.Reset = ⊥
+IsWaiting end.Head = ⊥
+IsWaiting (end.Wait n) = Unit {0}

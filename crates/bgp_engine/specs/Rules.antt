@@ -1,0 +1,70 @@
+-- What an engine makes of the messages of a stream.
+use Rattle.std.specs.Prelude.{◌≡◌, ℕ, ◌+◌, ◌==◌, Bool, true, false, List, [], ◌∷◌, ◌++◌, drop, Result, if◌then◌else◌}
+use Rattle.bgp_frame.specs.declared.end.End.{End}
+use Rattle.bgp_frame.specs.declared.end.End.TheVariants as end
+use Rattle.bgp_frame.specs.Stream.{Judgement, Gives}
+use Rattle.bgp_engine.specs.declared.class.Class.{Class}
+use Rattle.bgp_engine.specs.declared.class.Class.TheVariants as class
+use Rattle.bgp_engine.specs.declared.tally.Tally.{Tally}
+use Rattle.bgp_engine.specs.declared.fault.ToolFault.{ToolFault}
+use Rattle.bgp_engine.specs.Report.{Report}
+
+-- How messages and headers are judged; what is written of an outcome, at its place, with its octets in number; what it counts as;
+-- what is written last, by the counts and the end, and of octets that wait; and the answer, by the counts, the end and the place behind
+-- all messages that let the stream go on.
+pub record Rules (Outcome : Type 0) : Type 0 where
+  pub judge : Judgement Outcome
+  pub line : ℕ → ℕ → Outcome → List ℕ
+  pub class : Outcome → Class
+  pub last : Tally → List ℕ
+  pub rest : List ℕ → List ℕ
+  pub answer : Tally → ℕ → Result Tally ToolFault
+
+-- a whole message is one message; a header's fault, of no octets, is none
+abbrev pub messages_in : ℕ → ℕ
+messages_in len = if len == 0 then 0 else 1
+
+abbrev pub counted : Tally → ℕ → Class → Tally
+counted tally len class.Took = record tally { messages = tally.messages + messages_in len; took = tally.took + 1 }
+counted tally len class.Withdrawn = record tally { messages = tally.messages + messages_in len; withdrawn = tally.withdrawn + 1 }
+counted tally len class.Reset = record tally { messages = tally.messages + messages_in len; resets = tally.resets + 1 }
+
+module _ {Outcome : Type 0} (rules : Rules Outcome) where
+  -- the octets of an outcome that lets the stream go on
+  abbrev pub passed : ℕ × Outcome → ℕ
+  passed o = if rules.judge.resets o.1 then 0 else o.0
+
+  abbrev pub total : List (ℕ × Outcome) → ℕ
+  total [] = 0
+  total (o ∷ outcomes) = passed o + total outcomes
+
+  -- what is written of each, each at the place behind those before it
+  abbrev pub lines_from : ℕ → List (ℕ × Outcome) → List ℕ
+  lines_from place [] = []
+  lines_from place (o ∷ outcomes) = rules.line place o.0 o.1 ++ lines_from (place + passed o) outcomes
+
+  abbrev pub tally_from : Tally → List (ℕ × Outcome) → Tally
+  tally_from tally [] = tally
+  tally_from tally (o ∷ outcomes) = tally_from (counted tally o.0 (rules.class o.1)) outcomes
+
+  -- what is written of the octets that wait
+  abbrev pub rest_of : List ℕ → End → List ℕ
+  rest_of waiting end.Reset = []
+  rest_of waiting end.Head = []
+  rest_of waiting (end.Wait n) = rules.rest waiting
+
+  -- the report of a stream behind what was counted before, from its place on
+  abbrev pub report_of : ℕ → Tally → List ℕ → List (ℕ × Outcome) → End → Report
+  report_of place tally stream outcomes e = record {
+    lines = lines_from place outcomes;
+    last = rules.last (record (tally_from tally outcomes) { end = e }) ++ rest_of (drop (total outcomes) stream) e;
+    end_of = e;
+    answer = rules.answer (record (tally_from tally outcomes) { end = e }) (place + total outcomes);
+  }
+
+  -- r is the report of what the stream gives
+  pub record IsReport (place : ℕ) (tally : Tally) (stream : List ℕ) (r : Report) : Type 0 where
+    pub outcomes : List (ℕ × Outcome)
+    pub end_of : End
+    pub gives : Gives rules.judge stream outcomes end_of
+    pub told : r ≡ report_of place tally stream outcomes end_of

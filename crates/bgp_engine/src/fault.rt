@@ -1,0 +1,43 @@
+//! What stops an engine before its stream ends.
+
+ghost use Rattle.std.specs.Prelude.{◌≡◌};
+ghost use Rattle.bgp_engine.specs.declared.fault.ToolFault.TheVariants.{Memory};
+
+use std::alloc::{AllocError, AllocFailed};
+use thiserror::Error;
+
+/// A fault of the tool itself. Its text follows `bgp: ` on standard error.
+#[derive(Clone, Copy, Debug, PartialEq, Eq, Error)]
+pub enum ToolFault {
+    /// A growth was refused.
+    #[error("memory")]
+    Memory,
+    /// A read failed, or the reader was asked too often.
+    #[error("read failed")]
+    Read,
+    /// A write failed, or took no octet.
+    #[error("write failed")]
+    Write,
+    /// A character of the hexadecimal text is bad: at this place, counted from 0.
+    #[error("bad hex at {0}")]
+    BadHex(u64),
+    /// The message, the faulty header or the rest at this place of the stream, counted from 0, can't be narrowed.
+    #[error("cannot narrow at {0}")]
+    Narrow(u64),
+}
+
+impl From<AllocError> for ToolFault {
+    ghost from_gives = { λ _ fault. fault ≡ Memory };
+
+    fn from(_error: AllocError) -> ToolFault {
+        ToolFault::Memory
+    }
+}
+
+impl<T: Drop> From<AllocFailed<T>> for ToolFault {
+    ghost from_gives = { λ _ fault. fault ≡ Memory };
+
+    fn from(_error: AllocFailed<T>) -> ToolFault {
+        ToolFault::Memory
+    }
+}

@@ -1,0 +1,129 @@
+//! Hexadecimal text, in whatever blocks it comes.
+
+ghost use Rattle.std.specs.Prelude.{◌≡◌, ◌+◌, ◌*◌, ◌≤◌, ◌<◌, ◌^◌, true, None, is_some, IfSome};
+ghost use Rattle.std.specs.Option.{ForSome};
+ghost use Rattle.hex.specs.Hex.{is_hex_digit};
+ghost use Rattle.bgp_engine.specs.HexText.{is_blank, digit_value};
+
+use arrayvec::ArrayVec;
+
+/// Where a reader of hexadecimal text stands.
+#[derive(Clone, Copy)]
+pub(crate) struct HexText {
+    /// The first digit of a pair whose second is still to come.
+    pub(crate) pending: Option<u8>,
+    /// How many characters were read.
+    pub(crate) seen: u64,
+    ghost is_digit: { ForSome pending (λ c. is_hex_digit c ≡ true) },
+    ghost is_seen: { ForSome pending (λ _. 0 < seen) },
+}
+
+/// What a character comes to.
+#[derive(Clone, Copy)]
+pub(crate) enum Taken {
+    /// A blank, or the first digit of a pair.
+    Nothing,
+    Octet(u8),
+    /// It is no part of hexadecimal text.
+    Bad,
+}
+
+fn is_digit(character: u8) -> bool
+    ensures { result ≡ is_hex_digit character }
+{
+    matches!(character, b'A'..=b'F' | b'a'..=b'f' | b'0'..=b'9')
+}
+
+fn is_blank(character: u8) -> bool
+    ensures { result ≡ is_blank character }
+{
+    matches!(character, b' ' | b'\r' | b'\n')
+}
+
+// The octet of a pair of digits, where the second is one.
+fn pair(high: u8, low: u8) -> Option<u8>
+    requires { is_hex_digit high ≡ true }
+    ensures digit { is_some result ≡ is_hex_digit low }
+    ensures value { IfSome result (λ octet. octet ≡ digit_value high * 16 + digit_value low) }
+{
+    let mut octet = [0];
+    match hex::decode_to_slice([high, low], &mut octet) {
+        Ok(()) => Some(octet[0]),
+        Err(_) => None,
+    }
+}
+
+impl HexText {
+    ghost use Rattle.std.specs.Prelude.{◌≡◌, ◌+◌, ◌-◌, ◌≤◌, ◌<◌, ◌^◌, [], None, length, MatchOption};
+    ghost use Rattle.std.specs.Option.{option_map};
+    ghost use Rattle.bgp_wire.specs.Octets.{AreOctets};
+    ghost use Rattle.bgp_engine.specs.HexSteps.{ReadsOn, Continues, Breaks};
+
+    /// A reader at the front of a text.
+    pub(crate) fn new() -> HexText
+        ensures pending { result.pending ≡ None }
+        ensures seen { result.seen ≡ 0 }
+    {
+        HexText {
+            pending: None,
+            seen: 0,
+        }
+    }
+
+    /// The place of a digit whose pair is still to come.
+    pub(crate) fn waiting_digit(&self) -> Option<u64>
+        ensures { result ≡ option_map (λ _. self.now.seen - 1) self.now.pending }
+    {
+        match self.pending {
+            None => None,
+            Some(_) => Some(self.seen - 1),
+        }
+    }
+
+    /// Reads the next character.
+    pub(crate) fn take(&mut self, character: u8) -> Taken
+        requires { self.old.seen + 1 < 2 ^ 64 }
+        ensures { ReadsOn self.old character result self.new }
+    {
+        match self.pending {
+            Some(high) => match pair(high, character) {
+                Some(octet) => {
+                    self.pending = None;
+                    self.seen += 1;
+                    Taken::Octet(octet)
+                }
+                None => Taken::Bad,
+            },
+            None if is_digit(character) => {
+                self.seen += 1;
+                self.pending = Some(character);
+                Taken::Nothing
+            }
+            None if is_blank(character) => {
+                self.seen += 1;
+                Taken::Nothing
+            }
+            None => Taken::Bad,
+        }
+    }
+
+    /// Reads a block of at most 4096 characters, and puts the octets of its pairs in order.
+    ///
+    /// Answers the place of the first bad character, if there is one; nothing behind it is read.
+    pub(crate) fn decode(&mut self, text: &[u8], octets: &mut ArrayVec<u8, 2048>) -> Option<u64>
+        requires none_yet { octets.old.items ≡ [] }
+        requires short { length text.now ≤ 4096 }
+        requires countable { self.old.seen + 4096 < 2 ^ 64 }
+        ensures decodes { MatchOption result (Continues self.old text.now octets.new.items self.new) (Breaks self.old text.now octets.new.items) }
+        ensures octets { AreOctets octets.new.items }
+    {
+        for character in text {
+            match self.take(*character) {
+                Taken::Nothing => {}
+                Taken::Octet(octet) => octets.push(octet),
+                Taken::Bad => return Some(self.seen),
+            }
+        }
+        None
+    }
+}

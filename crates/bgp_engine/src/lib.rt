@@ -1,0 +1,14 @@
+//! Engines over readers and writers: what they make of a stream of BGP messages, and what they answer.
+#![tactic(auto)]
+
+mod class;
+mod engine;
+mod fault;
+mod hex_text;
+mod output;
+mod running;
+mod tally;
+
+pub use bgp_frame::End;
+pub use fault::ToolFault;
+pub use tally::{Tally, status};

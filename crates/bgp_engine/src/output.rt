@@ -1,0 +1,27 @@
+//! Text to a writer.
+
+ghost use Rattle.std.specs.Prelude.{OnOk, IfErr};
+ghost use Rattle.std.specs.Io.KnownBytes.{Appends};
+ghost use Rattle.bgp_engine.specs.Output.{FailsWithin};
+
+use crate::fault::ToolFault;
+use std::io::Write;
+
+/// Writes the whole text, and tries nothing twice.
+///
+/// # Errors
+/// `Write` where a write fails or takes no octet; what was written before stands.
+pub(crate) fn put<W: Write>(output: &mut W, text: &[u8]) -> Result<(), ToolFault>
+    ensures ok { OnOk result (Appends (W.contents output.old) (W.contents output.new) text.now) }
+    ensures err { IfErr result (FailsWithin (W.contents output.old) (W.contents output.new) text.now) }
+{
+    let mut rest = text;
+    'text: while !rest.is_empty() {
+        let count = output.write(rest).unwrap_or(0);
+        if count == 0 {
+            return Err(ToolFault::Write);
+        }
+        rest = &rest[count..];
+    }
+    Ok(())
+}

@@ -1,0 +1,34 @@
+//! The counts of a run, and the status that they come to.
+
+ghost use Rattle.std.specs.Prelude.{◌≡◌};
+ghost use Rattle.bgp_engine.specs.Tally.{status_of};
+
+use crate::fault::ToolFault;
+use bgp_frame::End;
+
+/// What an engine met in its stream, and how that ended.
+#[derive(Clone, Copy, Debug, PartialEq, Eq)]
+pub struct Tally {
+    /// Whole messages, whatever came of them.
+    pub messages: u64,
+    /// Messages that were taken.
+    pub took: u64,
+    /// UPDATE messages whose routes were withdrawn.
+    pub withdrawn: u64,
+    /// Resets, by a message or by a header.
+    pub resets: u64,
+    pub end: End,
+}
+
+/// The status of the process: 0 where all was taken and nothing waits; 1 at a withdraw, a reset, a waiting rest, bad
+/// hexadecimal text or what can't be narrowed; 3 where memory ran out; 4 where a read or a write failed. (2 is a fault of the command line.)
+pub fn status(outcome: &Result<Tally, ToolFault>) -> u8
+    ensures { result ≡ status_of outcome.now }
+{
+    match outcome {
+        Ok(tally) if tally.withdrawn == 0 && tally.resets == 0 && tally.end == End::Wait(0) => 0,
+        Ok(_) | Err(ToolFault::BadHex(_) | ToolFault::Narrow(_)) => 1,
+        Err(ToolFault::Memory) => 3,
+        Err(ToolFault::Read | ToolFault::Write) => 4,
+    }
+}
