@@ -8,3 +8,5 @@ pub mod Run
 pub mod Rules
 pub mod Engine
 pub mod Blocks
+pub mod Pages
+pub mod Walking

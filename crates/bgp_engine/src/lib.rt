@@ -6,8 +6,10 @@ mod engine;
 mod fault;
 mod hex_text;
 mod output;
+mod page;
 mod running;
 mod tally;
+mod walk;
 
 pub use bgp_frame::End;
 pub use fault::ToolFault;

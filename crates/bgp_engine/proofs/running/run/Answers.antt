@@ -15,7 +15,7 @@ reading-init g c =
     let e = g.E.Engine in
     record {
       reading = Reading-none (e.reports (e.state c.args.engine.now)) c.args.hex (g.R.Read.remaining c.args.input.now) (g.W.Write.contents c.args.output.now) (e.going (e.state c.args.engine.now)) c.new-reader.result c.requires.going c.requires.rests
-      c.new-reader.ensures.pending c.new-reader.ensures.seen;
+          c.new-reader.ensures.pending c.new-reader.ensures.seen;
       told = c.requires.told;
       ready = c.requires.ready;
       room = omega (arith, c.requires.room);

@@ -1,0 +1,60 @@
+//! What an engine writes of the messages of a stream.
+
+ghost use Rattle.std.specs.Prelude.{ℕ, List, ◌≡◌, ◌+◌, ◌++◌, [], length, IfOk, OnOk};
+ghost use Rattle.bgp_frame.specs.Kind.{IsLength};
+ghost use Rattle.bgp_engine.specs.Rules.{Rules};
+ghost use Rattle.bgp_engine.specs.Pages.{Writes, WritesFault, IsAnswer};
+
+use crate::class::Class;
+use crate::fault::ToolFault;
+use crate::tally::Tally;
+use bgp_frame::{Frame, HeadFault};
+use std::alloc::AllocError;
+
+/// Judges message by message, and collects what is written of each.
+pub(crate) trait Page {
+    ghost use Rattle.std.specs.Prelude.{ℕ, List};
+    ghost use Rattle.bgp_engine.specs.Rules.{Rules};
+
+    /// What a message comes to.
+    ghost Outcome: { Type 0 };
+
+    ghost rules: { Self → Rules Outcome };
+    /// What isn't written yet.
+    ghost told: { Self → List ℕ };
+
+    /// Judges a whole message at a place of the stream, and collects what is written of it.
+    fn message(&mut self, place: u64, frame: Frame<'_>) -> Result<Class, AllocError>
+        requires { IsLength frame.kind (19 + length frame.body.now) }
+        ensures writes { IfOk result (λ class. Writes (rules self.old) (told self.old) (told self.new) place frame.entry.len (record { kind = frame.entry.kind; body = frame.entry.body.now }) class) }
+        ensures rules { rules self.new ≡ rules self.old };
+
+    /// Collects what is written of a header's fault.
+    fn fault(&mut self, place: u64, fault: HeadFault) -> Result<(), AllocError>
+        ensures writes { OnOk result (WritesFault (rules self.old) (told self.old) (told self.new) place fault) }
+        ensures rules { rules self.new ≡ rules self.old };
+
+    /// Collects what is written last, by the counts and the end.
+    fn last(&mut self, tally: &Tally) -> Result<(), AllocError>
+        ensures writes { OnOk result (told self.new ≡ told self.old ++ (rules self.old).last tally.now) }
+        ensures rules { rules self.new ≡ rules self.old };
+
+    /// Collects what is written of the octets that wait.
+    fn rest(&mut self, waiting: &[u8]) -> Result<(), AllocError>
+        ensures writes { OnOk result (told self.new ≡ told self.old ++ (rules self.old).rest waiting.now) }
+        ensures rules { rules self.new ≡ rules self.old };
+
+    /// The answer, by the counts and the end, and the place behind all messages that let the stream go on.
+    fn answer(&self, tally: Tally, place: u64) -> Result<Tally, ToolFault>
+        ensures value { result ≡ (rules self.now).answer tally place }
+        ensures kind { IsAnswer result };
+
+    /// What was collected, and isn't written yet.
+    fn told(&self) -> &[u8]
+        ensures { result.now ≡ told self.now };
+
+    /// Lets go of what was collected.
+    fn clear(&mut self)
+        ensures told { told self.new ≡ [] }
+        ensures rules { rules self.new ≡ rules self.old };
+}
