@@ -16,7 +16,7 @@ pub use framer::Framer;
 pub use header::head;
 pub use kind::Kind;
 pub use notification::{Notification, NotificationView};
-pub use step::{Frame, Step};
+pub use step::{Frame, Step, front};
 
 #[cfg(test)]
 mod tests;

@@ -1,10 +1,10 @@
 //! What the octets at the front of a stream come to.
 
 ghost use Rattle.bgp_frame.specs.Framer.{IsHeld};
-ghost use Rattle.bgp_frame.specs.Step.{ShowsStep};
+ghost use Rattle.bgp_frame.specs.Step.{ShowsFront, ShowsStep};
 
 use crate::fault::HeadFault;
-use crate::header::{HEADER_LEN, read_head};
+use crate::header::{HEADER_LEN, Header, read_head};
 use crate::kind::Kind;
 
 /// A whole message, with its body as it stands on the wire.
@@ -25,22 +25,29 @@ pub enum Step<'a> {
     Fault(HeadFault),
 }
 
-/// What octets show that a framer may hold.
-#[tactic(auto, using(crate::proofs::Holding::shows_short, crate::proofs::Holding::shows_more, crate::proofs::Holding::shows_frame, crate::proofs::Holding::shows_fault))]
+/// What stands at the front of a piece of a stream: what a new framer that is fed the piece shows, borrowed from the piece
+/// (RFC 4271, sections 4.1 and 6.1). Octets behind a whole message, or behind a header with a fault, have no effect.
+#[tactic(auto, using(crate::proofs::Holding::shows_short))]
+pub fn front(piece: &[u8]) -> Step<'_>
+    ensures { ShowsFront piece.now result }
+{
+    if piece.len() < HEADER_LEN {
+        return Step::More;
+    }
+    match read_head(piece) {
+        Err(fault) => Step::Fault(fault),
+        Ok(Header { kind, len }) => match piece.get(HEADER_LEN..len as usize) {
+            None => Step::More,
+            Some(body) => Step::Frame(Frame { kind, body, len }),
+        },
+    }
+}
+
+/// What octets show that a framer may hold: there are none behind their front.
+#[tactic(auto, using(crate::proofs::Holding::front_held))]
 pub(crate) fn shown(octets: &[u8]) -> Step<'_>
     requires { IsHeld octets.now }
     ensures { ShowsStep octets.now result }
 {
-    if octets.len() < HEADER_LEN {
-        return Step::More;
-    }
-    match read_head(octets) {
-        Err(fault) => Step::Fault(fault),
-        Ok(header) if octets.len() < header.len as usize => Step::More,
-        Ok(header) => Step::Frame(Frame {
-            kind: header.kind,
-            body: &octets[HEADER_LEN..],
-            len: header.len,
-        }),
-    }
+    front(octets)
 }

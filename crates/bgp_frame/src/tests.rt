@@ -12,7 +12,26 @@ fn stream(marker_end: u8, rest: &[u8]) -> ArrayVec<u8, 64> {
     octets
 }
 
+/// At the front of a piece stands what a framer holds of it: fewer octets wait, and octets behind have no effect.
+fn assert_front(rt: &impl Abort, octets: &[u8]) {
+    for len in 0..octets.len() {
+        assert_eq!(rt; front(&octets[..len]), Step::More);
+    }
+    let mut framer = Framer::new();
+    assert_eq!(rt; framer.feed(octets), octets.len());
+    assert_eq!(rt; front(octets), framer.step());
+    let mut longer: ArrayVec<u8, 128> = ArrayVec::new();
+    for octet in octets {
+        let _ = longer.try_push(*octet);
+    }
+    for octet in [0, 255, 4] {
+        let _ = longer.try_push(octet);
+        assert_eq!(rt; front(&longer), framer.step());
+    }
+}
+
 fn assert_fault(rt: &impl Abort, octets: &[u8], subcode: u8, info: &[u8]) {
+    assert_front(rt, octets);
     let mut whole = Framer::new();
     assert_eq!(rt; whole.feed(octets), 19);
     let mut one_by_one = Framer::new();
@@ -74,6 +93,26 @@ fn two_keepalives(rt: HostRuntime) {
         }
     }
     assert_eq!(rt; framer.held(), 0);
+}
+
+#[test]
+fn fronts_of_messages(rt: HostRuntime) {
+    let keepalive = stream(0xff, &[0x00, 0x13, 4]);
+    assert_front(&rt, &keepalive);
+    let shown = Frame {
+        kind: Kind::Keepalive,
+        body: &[],
+        len: 19,
+    };
+    assert_eq!(rt; front(&keepalive), Step::Frame(shown));
+    let shutdown = stream(0xff, &[0x00, 0x17, 3, 6, 2, 0x41, 0x42]);
+    assert_front(&rt, &shutdown);
+    let shown = Frame {
+        kind: Kind::Notification,
+        body: &[6, 2, 0x41, 0x42],
+        len: 23,
+    };
+    assert_eq!(rt; front(&shutdown), Step::Frame(shown));
 }
 
 #[test]
