@@ -3,3 +3,4 @@ pub mod HexReads
 pub mod Written
 pub mod BlockLemmas
 pub mod Reading
+pub mod Walks

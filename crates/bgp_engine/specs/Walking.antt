@@ -29,7 +29,20 @@ ended_by class.Took = None
 ended_by class.Withdrawn = None
 ended_by class.Reset = Some end.Reset
 
+-- nothing is missing for a last report
+abbrev pub IsReadyBy : Option End → List ℕ → Type 0
+IsReadyBy None held = Waits held
+IsReadyBy (Some e) held = IsOver e
+
+-- how many octets more can be counted
+abbrev pub room_by : Option End → ℕ → ℕ
+room_by None n = 2 ^ 60 - n
+room_by (Some e) n = 2 ^ 60
+
 module _ {Outcome : Type 0} where
+  abbrev pub walking : Rules Outcome → List ℕ → ℕ → Tally → Option End → Walking Outcome
+  walking rules held place tally ended = record { rules = rules; held = held; place = place; tally = tally; ended = ended }
+
   -- nothing more is written of a stream that has ended, but for the last
   abbrev pub closing : Rules Outcome → ℕ → Tally → End → Report
   closing rules place tally e = report_of rules place tally [] [] e
@@ -56,15 +69,11 @@ module _ {Outcome : Type 0} where
     pub counting : IsCounting w
     pub waits : Waits w.held
 
-  abbrev pub is_ready_by : Option End → List ℕ → Type 0
-  is_ready_by None held = Waits held
-  is_ready_by (Some e) held = IsOver e
-
   abbrev pub IsReady : Walking Outcome → Type 0
-  IsReady w = is_ready_by w.ended w.held
+  IsReady w = IsReadyBy w.ended w.held
 
   abbrev pub room_of : Walking Outcome → ℕ
-  room_of w = 2 ^ 60 - (w.place + length w.held)
+  room_of w = room_by w.ended (w.place + length w.held)
 
   abbrev pub StandsBy : Option End → Walking Outcome → ℕ → Type 0
   StandsBy None w n = IsGoing w × (w.place + length w.held ≡ n)

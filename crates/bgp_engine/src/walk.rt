@@ -1,16 +1,11 @@
 //! The messages of a stream that comes block by block.
 
-ghost use Rattle.std.specs.Prelude.{◌≡◌, ◌+◌, ◌<◌, ◌≤◌, ◌^◌, [], None, length, drop, IfOk, OnOk};
-ghost use Rattle.bgp_engine.specs.Rules.{counted};
-ghost use Rattle.bgp_engine.specs.Tally.{no_tally};
-ghost use Rattle.bgp_engine.specs.Walking.{Walking, IsCounting, IsGoing, Moves, place_behind, ended_by};
-
 use crate::class::Class;
 use crate::engine::Engine;
 use crate::fault::ToolFault;
 use crate::page::Page;
 use crate::tally::Tally;
-use bgp_frame::{End, Framer, Step, front};
+use bgp_frame::{End, Framer, HeadFault, Step, front};
 use std::alloc::AllocError;
 
 /// Finds the messages of a stream, counts them and hands them to a page. A message that is whole in a block is judged there.
@@ -24,10 +19,16 @@ pub(crate) struct Walk<P> {
 }
 
 impl<P: Page> Walk<P> {
-    ghost use Rattle.std.specs.Prelude.{◌≡◌, ◌+◌, ◌<◌, ◌≤◌, ◌^◌, [], None, length, drop, IfOk, OnOk};
+    ghost use Rattle.std.specs.Prelude.{◌≡◌, ◌+◌, ◌<◌, ◌≤◌, ◌^◌, [], None, Some, length, drop, IfOk, OnOk};
+    ghost use Rattle.bgp_frame.specs.declared.end.End.TheVariants as end;
+    ghost use Rattle.bgp_engine.specs.declared.class.Class.TheVariants as class;
+    ghost use Rattle.bgp_engine.specs.Pages.{WritesFault};
     ghost use Rattle.bgp_engine.specs.Rules.{counted};
     ghost use Rattle.bgp_engine.specs.Tally.{no_tally};
-    ghost use Rattle.bgp_engine.specs.Walking.{Walking, IsCounting, IsGoing, Moves, place_behind, ended_by};
+    ghost use Rattle.bgp_engine.specs.Walking.{Walking, IsCounting, IsGoing, Moves, place_behind, ended_by, reports_of, walking};
+    ghost use Rattle.bgp_frame.specs.Frame.{Waits};
+    ghost use Rattle.bgp_engine.specs.Engine.{Closes};
+    ghost use Rattle.bgp_engine.specs.Report.{IsOver};
 
     /// A walk at the front of a stream.
     pub(crate) fn new(page: P) -> Walk<P>
@@ -70,5 +71,177 @@ impl<P: Page> Walk<P> {
             }
         }
         self.place += u64::from(len);
+    }
+
+    // Collects the line of a header's fault, behind which nothing can be read.
+    fn fault(&mut self, fault: HeadFault) -> Result<(), AllocError>
+        requires { self.old.tally.resets ≡ 0 }
+        ensures ok { OnOk result (self.new ≡ record self.old { page = self.new.page; tally = counted self.old.tally 0 class.Reset; ended = Some end.Head }) }
+        ensures writes { OnOk result (WritesFault (P.rules self.old.page) (P.told self.old.page) (P.told self.new.page) self.old.place fault) }
+        ensures rules { P.rules self.new.page ≡ P.rules self.old.page }
+    {
+        self.page.fault(self.place, fault)?;
+        self.tally.resets += 1;
+        self.ended = Some(End::Head);
+        Ok(())
+    }
+
+    // Judges what is held, where it is a message or a header with a fault.
+    fn judge_held(&mut self) -> Result<(), AllocError>
+        requires { IsCounting (walking (P.rules self.old.page) self.old.framer self.old.place self.old.tally self.old.ended) }
+        ensures { OnOk result (Moves
+            (walking (P.rules self.old.page) self.old.framer self.old.place self.old.tally self.old.ended)
+            (walking (P.rules self.new.page) self.new.framer self.new.place self.new.tally self.new.ended)
+            (P.told self.old.page) (P.told self.new.page) [] []) }
+    {
+        match self.framer.step() {
+            Step::More => Ok(()),
+            Step::Frame(frame) => {
+                let len = frame.len;
+                let class = self.page.message(self.place, frame)?;
+                self.count(len, class);
+                self.framer.clear();
+                Ok(())
+            }
+            Step::Fault(fault) => {
+                self.fault(fault)?;
+                Ok(())
+            }
+        }
+    }
+
+    // Takes octets behind those that are held, up to the end of their message. Answers how many it took.
+    fn step_held(&mut self, octets: &[u8]) -> Result<usize, AllocError>
+        requires going { IsGoing (walking (P.rules self.old.page) self.old.framer self.old.place self.old.tally self.old.ended) }
+        requires some { 0 < length octets.now }
+        requires room { self.old.place + length self.old.framer + length octets.now ≤ 2 ^ 60 }
+        ensures within { IfOk result (λ n. n ≤ length octets.now) }
+        ensures some { IfOk result (λ n. 0 < n) }
+        ensures moves { IfOk result (λ n. Moves
+            (walking (P.rules self.old.page) self.old.framer self.old.place self.old.tally self.old.ended)
+            (walking (P.rules self.new.page) self.new.framer self.new.place self.new.tally self.new.ended)
+            (P.told self.old.page) (P.told self.new.page) octets.now (drop n octets.now)) }
+    {
+        let taken = self.framer.feed(octets);
+        self.judge_held()?;
+        Ok(taken)
+    }
+
+    // The same where nothing is held: a message that is whole in the octets is judged there.
+    fn step_front(&mut self, octets: &[u8]) -> Result<usize, AllocError>
+        requires going { IsGoing (walking (P.rules self.old.page) self.old.framer self.old.place self.old.tally self.old.ended) }
+        requires nothing { self.old.framer ≡ [] }
+        requires some { 0 < length octets.now }
+        requires room { self.old.place + length self.old.framer + length octets.now ≤ 2 ^ 60 }
+        ensures within { IfOk result (λ n. n ≤ length octets.now) }
+        ensures some { IfOk result (λ n. 0 < n) }
+        ensures moves { IfOk result (λ n. Moves
+            (walking (P.rules self.old.page) self.old.framer self.old.place self.old.tally self.old.ended)
+            (walking (P.rules self.new.page) self.new.framer self.new.place self.new.tally self.new.ended)
+            (P.told self.old.page) (P.told self.new.page) octets.now (drop n octets.now)) }
+    {
+        match front(octets) {
+            Step::More => self.step_held(octets),
+            Step::Frame(frame) => {
+                let len = frame.len;
+                let class = self.page.message(self.place, frame)?;
+                self.count(len, class);
+                Ok(usize::from(len))
+            }
+            Step::Fault(fault) => {
+                self.fault(fault)?;
+                Ok(19)
+            }
+        }
+    }
+
+    // Takes octets up to the end of a message. Answers how many it took.
+    fn step(&mut self, octets: &[u8]) -> Result<usize, AllocError>
+        requires going { IsGoing (walking (P.rules self.old.page) self.old.framer self.old.place self.old.tally self.old.ended) }
+        requires some { 0 < length octets.now }
+        requires room { self.old.place + length self.old.framer + length octets.now ≤ 2 ^ 60 }
+        ensures within { IfOk result (λ n. n ≤ length octets.now) }
+        ensures some { IfOk result (λ n. 0 < n) }
+        ensures moves { IfOk result (λ n. Moves
+            (walking (P.rules self.old.page) self.old.framer self.old.place self.old.tally self.old.ended)
+            (walking (P.rules self.new.page) self.new.framer self.new.place self.new.tally self.new.ended)
+            (P.told self.old.page) (P.told self.new.page) octets.now (drop n octets.now)) }
+    {
+        if self.framer.held() == 0 {
+            self.step_front(octets)
+        } else {
+            self.step_held(octets)
+        }
+    }
+
+    // The answer to a stream that goes no further.
+    fn close(&mut self, end: End) -> Result<Tally, ToolFault>
+        requires ended { self.old.ended ≡ Some end }
+        requires over { IsOver end }
+        ensures { Closes (reports_of (walking (P.rules self.old.page) self.old.framer self.old.place self.old.tally self.old.ended)) (P.told self.old.page) (P.told self.new.page) result }
+    {
+        let tally = Tally { end, ..self.tally };
+        self.page.last(&tally)?;
+        self.page.answer(tally, self.place)
+    }
+
+    // The answer to a stream of which the octets that are held wait.
+    fn close_waiting(&mut self) -> Result<Tally, ToolFault>
+        requires ended { self.old.ended ≡ None }
+        requires waits { Waits self.old.framer }
+        ensures { Closes (reports_of (walking (P.rules self.old.page) self.old.framer self.old.place self.old.tally self.old.ended)) (P.told self.old.page) (P.told self.new.page) result }
+    {
+        let end = End::Wait(self.framer.held() as u16);
+        let tally = Tally { end, ..self.tally };
+        self.page.last(&tally)?;
+        self.page.rest(self.framer.octets())?;
+        self.page.answer(tally, self.place)
+    }
+}
+
+impl<P: Page> Engine for Walk<P> {
+    ghost use Rattle.std.specs.Prelude.{◌≡◌, ◌+◌, ◌≤◌, [], None, length, IfOk, OnOk, OnErr};
+    ghost use Rattle.bgp_engine.specs.Walking.{Walking, IsGoing, IsReady, reports_of, room_of, walking};
+
+    ghost State = { Walking P.Outcome };
+
+    ghost state = { λ w. walking (P.rules w.page) w.framer w.place w.tally w.ended };
+
+    ghost told = { λ w. P.told w.page };
+
+    ghost reports = { λ w. reports_of w };
+
+    ghost going = { λ w. IsGoing w };
+
+    ghost ready = { λ w. IsReady w };
+
+    ghost room = { λ w. room_of w };
+
+    fn take(&mut self, octets: &[u8]) -> Result<bool, AllocError> {
+        let mut rest = octets;
+        'stream: while !rest.is_empty() {
+            let taken = self.step(rest)?;
+            if self.ended.is_some() {
+                return Ok(true);
+            }
+            let (_, later) = rest.split_at(taken);
+            rest = later;
+        }
+        Ok(false)
+    }
+
+    fn finish(&mut self) -> Result<Tally, ToolFault> {
+        match self.ended {
+            Some(end) => self.close(end),
+            None => self.close_waiting(),
+        }
+    }
+
+    fn told(&self) -> &[u8] {
+        self.page.told()
+    }
+
+    fn clear(&mut self) {
+        self.page.clear();
     }
 }

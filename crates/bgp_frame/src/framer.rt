@@ -49,6 +49,13 @@ impl Framer {
         self.buffer.len()
     }
 
+    /// The octets that are held.
+    pub fn octets(&self) -> &[u8]
+        ensures { result.now ≡ self.now }
+    {
+        &self.buffer
+    }
+
     /// Takes octets from the front of the piece until the piece ends, or a whole message or a header with a fault is held.
     ///
     /// Answers how many it took.

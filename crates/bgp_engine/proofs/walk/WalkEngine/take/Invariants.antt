@@ -1,0 +1,18 @@
+use Rattle.std.proofs.Common.{◌+◌, ◌≤◌, ◌^◌, length}
+use Rattle.bgp_engine.specs.Walking.{IsGoing, Moves, walking}
+use Rattle.bgp_engine.proofs.walk.WalkEngine.take.Given as goal
+
+abbrev pub invariant-stream : goal.invariant-stream
+invariant-stream g l =
+    let rules = g.P.Page.rules in
+    let told = g.P.Page.told in
+    let old = l.fn.self in
+    let now = l.self in
+    record {
+      moves : Moves (walking (rules old.page) old.framer old.place old.tally old.ended) (walking (rules now.page) now.framer now.place now.tally now.ended) (told old.page) (told now.page) l.fn.octets l.rest;
+      going : IsGoing (walking (rules now.page) now.framer now.place now.tally now.ended);
+      room : now.place + length now.framer + length l.rest ≤ 2 ^ 60;
+    }
+
+abbrev pub decreases-stream : goal.decreases-stream
+decreases-stream g l = length l.rest
