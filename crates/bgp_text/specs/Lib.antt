@@ -1,0 +1,3 @@
+-- The printed form of messages, routes, notes and ends of streams.
+pub mod Info
+pub mod End
