@@ -4,7 +4,7 @@ use Rattle.std.specs.Fmt.{decimal, digit_glyph}
 use Rattle.bgp_prefix.specs.Prefix.{PrefixValue}
 
 -- four numbers with dots between them, as in 192.0.2.1
-abbrev pub ipv4_address_text : List ℕ → List ℕ
+unfoldable pub ipv4_address_text : List ℕ → List ℕ
 ipv4_address_text addr =
     decimal (slice_index addr 0) ++ (codes "." ++ (decimal (slice_index addr 1) ++ (codes "."
     ++ (decimal (slice_index addr 2) ++ (codes "." ++ decimal (slice_index addr 3))))))
@@ -27,7 +27,7 @@ groups_text addr i =
     group_text addr i ++ (codes ":" ++ (group_text addr (i + 1) ++ (codes ":" ++ (group_text addr (i + 2) ++ (codes ":" ++ group_text addr (i + 3))))))
 
 -- all eight groups, none shortened, with colons between them
-abbrev pub ipv6_address_text : List ℕ → List ℕ
+unfoldable pub ipv6_address_text : List ℕ → List ℕ
 ipv6_address_text addr = groups_text addr 0 ++ (codes ":" ++ groups_text addr 4)
 
 -- an address, and the length behind a slash

@@ -13,6 +13,7 @@ pub struct Address<const W: usize>(pub [u8; W]);
 impl fmt::Display for Address<4> {
     ghost output = { λ a. Some (ipv4_address_text a.0) };
 
+    #[tactic(auto, unfolding(crate::specs::Text::ipv4_address_text))]
     fn fmt<W: fmt::Write>(&self, f: &mut fmt::Formatter<W>) -> fmt::Result {
         let [a, b, c, d] = self.0;
         write!(f, "{a}.{b}.{c}.{d}")
@@ -23,6 +24,7 @@ impl fmt::Display for Address<4> {
 impl fmt::Display for Address<16> {
     ghost output = { λ a. Some (ipv6_address_text a.0) };
 
+    #[tactic(auto, unfolding(crate::specs::Text::ipv6_address_text))]
     fn fmt<W: fmt::Write>(&self, f: &mut fmt::Formatter<W>) -> fmt::Result {
         let a = self.0;
         let first = Half(

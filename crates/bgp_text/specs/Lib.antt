@@ -1,3 +1,7 @@
 -- The printed form of messages, routes, notes and ends of streams.
 pub mod Info
 pub mod End
+pub mod Lines
+pub mod MpLines
+pub mod PathLine
+pub mod CommunityLines

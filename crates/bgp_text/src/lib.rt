@@ -1,8 +1,12 @@
 //! The printed form of messages, routes, notes and ends of streams: text alone.
 #![tactic(auto)]
 
+mod community_lines;
 mod end;
 mod info;
+mod lines;
+mod mp_lines;
+mod path_line;
 
 pub use end::put_end;
 pub use info::{info_text, notification_text};
