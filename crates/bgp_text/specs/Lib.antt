@@ -5,3 +5,5 @@ pub mod Lines
 pub mod MpLines
 pub mod PathLine
 pub mod CommunityLines
+pub mod AttributeLines
+pub mod NoteLines

@@ -1,11 +1,13 @@
 //! The printed form of messages, routes, notes and ends of streams: text alone.
 #![tactic(auto)]
 
+mod attribute_lines;
 mod community_lines;
 mod end;
 mod info;
 mod lines;
 mod mp_lines;
+mod note_lines;
 mod path_line;
 
 pub use end::put_end;
