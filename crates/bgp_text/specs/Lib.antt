@@ -7,3 +7,6 @@ pub mod PathLine
 pub mod CommunityLines
 pub mod AttributeLines
 pub mod NoteLines
+pub mod OpenLines
+pub mod UpdateLines
+pub mod Outcome
