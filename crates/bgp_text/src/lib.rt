@@ -16,3 +16,6 @@ mod update_lines;
 pub use end::put_end;
 pub use info::{info_text, notification_text};
 pub use outcome_lines::put_outcome;
+
+#[cfg(test)]
+mod tests;

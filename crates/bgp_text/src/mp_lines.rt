@@ -37,7 +37,6 @@ fn put_ip6_next(
 }
 
 /// Adds the lines of an MP_REACH_NLRI.
-#[tactic(auto, using(crate::proofs::Texts::followed))]
 pub(crate) fn put_reach(text: &mut String, reach: &MpReach) -> Result<(), AllocError>
     ensures { OnOk result (string_bytes text.new ≡ string_bytes text.old ++ reach_lines reach.now) }
 {
@@ -65,7 +64,6 @@ fn put_family(text: &mut String, family: &str) -> Result<(), AllocError>
 }
 
 /// Adds the lines of an MP_UNREACH_NLRI.
-#[tactic(auto, using(crate::proofs::Texts::followed))]
 pub(crate) fn put_unreach(text: &mut String, unreach: &MpUnreach) -> Result<(), AllocError>
     ensures { OnOk result (string_bytes text.new ≡ string_bytes text.old ++ unreach_lines unreach.now) }
 {
