@@ -1,7 +1,7 @@
 -- How half of an IPv6 address is printed.
 use Rattle.std.specs.Prelude.{ℕ, List, ◌++◌, codes}
-use Rattle.bgp_prefix.specs.declared.display.Group.{Group}
-use Rattle.bgp_prefix.specs.declared.display.Half.{Half}
+use Rattle.bgp_prefix.specs.declared.address.Group.{Group}
+use Rattle.bgp_prefix.specs.declared.address.Half.{Half}
 use Rattle.bgp_prefix.specs.Text.{hex_octet}
 
 abbrev pub one_group : Group → List ℕ

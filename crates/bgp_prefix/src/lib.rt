@@ -1,6 +1,7 @@
 //! IPv4 and IPv6 prefixes, and runs of them (RFC 4271, section 4.3; RFC 4760, section 5).
 #![tactic(auto)]
 
+mod address;
 mod as_number;
 mod bits;
 mod display;
@@ -11,6 +12,7 @@ pub mod laws;
 mod prefix;
 mod run;
 
+pub use address::Address;
 pub use as_number::{AS_TRANS, AsNumber};
 pub use fault::RunFault;
 pub use iter::{PrefixIter, PrefixIter4, PrefixIter6};

@@ -1,0 +1,14 @@
+-- Information and notifications as text.
+use Rattle.std.specs.Prelude.{ℕ, List, [], ◌∷◌, ◌++◌, codes}
+use Rattle.std.specs.Fmt.{decimal}
+use Rattle.hex.specs.Hex.{encode_lower}
+use Rattle.bgp_frame.specs.declared.notification.Notification.{Notification}
+
+-- information as lower case hexadecimal text, or a dash where there is none
+unfoldable pub info_text : List ℕ → List ℕ
+info_text [] = codes "-"
+info_text (octet ∷ octets) = encode_lower (octet ∷ octets)
+
+-- a notification's code, subcode and information
+unfoldable pub notification_text : Notification → List ℕ
+notification_text n = decimal n.code ++ (codes "/" ++ (decimal n.subcode ++ (codes " " ++ info_text n.info.items)))

@@ -1,0 +1,55 @@
+-- The lines of an outcome.
+use Rattle.std.specs.Prelude.{ℕ, ◌==◌, List, [], ◌∷◌, ◌++◌, codes, if◌then◌else◌}
+use Rattle.std.specs.List.{flat_map}
+use Rattle.std.specs.Fmt.{decimal}
+use Rattle.bgp_numbers.specs.declared.error.TheConstants.{MESSAGE_HEADER, OPEN_MESSAGE}
+use Rattle.bgp_frame.specs.declared.notification.Notification.{Notification}
+use Rattle.bgp_update.specs.declared.note.Note.{Note}
+use Rattle.bgp_update.specs.declared.routes.Routes.{Routes}
+use Rattle.bgp_msg.specs.declared.message.Message.{Message}
+use Rattle.bgp_msg.specs.declared.message.Message.TheVariants as message
+use Rattle.bgp_msg.specs.declared.outcome.Outcome.{Outcome}
+use Rattle.bgp_msg.specs.declared.outcome.Outcome.TheVariants as outcome
+use Rattle.bgp_text.specs.Info.{notification_text}
+use Rattle.bgp_text.specs.NoteLines.{note_line}
+use Rattle.bgp_text.specs.OpenLines.{open_lines}
+use Rattle.bgp_text.specs.UpdateLines.{update_lines, routes_lines}
+
+-- the place of a message in the stream, its octets in number, and what it is
+abbrev pub head_line : ℕ → ℕ → List ℕ → List ℕ
+head_line place len name = decimal place ++ (codes " " ++ (decimal len ++ (codes " " ++ (name ++ 10 ∷ []))))
+
+abbrev pub notification_line : ℕ → ℕ → Notification → List ℕ
+notification_line place len n = decimal place ++ (codes " " ++ (decimal len ++ (codes " NOTIFICATION " ++ (notification_text n ++ 10 ∷ []))))
+
+-- a message that is taken
+unfoldable pub message_lines : ℕ → ℕ → Message → List ℕ
+message_lines place len (message.Open o) = head_line place len (codes "OPEN") ++ open_lines o
+message_lines place len (message.Update u) = head_line place len (codes "UPDATE take") ++ update_lines u
+message_lines place len (message.Notification n) = notification_line place len n
+message_lines place len message.Keepalive = head_line place len (codes "KEEPALIVE")
+
+-- a message that is taken, and notes on what of it isn't kept
+abbrev pub took_lines : ℕ → ℕ → Message → List Note → List ℕ
+took_lines place len m notes = message_lines place len m ++ flat_map note_line notes
+
+-- an UPDATE whose routes are withdrawn, and notes on why
+abbrev pub withdraw_lines : ℕ → ℕ → Routes → List Note → List ℕ
+withdraw_lines place len routes notes = head_line place len (codes "UPDATE withdraw") ++ (routes_lines routes ++ flat_map note_line notes)
+
+-- What a notification answers, by its code: a header's fault, an OPEN's, and else an UPDATE's (RFC 4271, section 4.5). A
+-- judgement of messages gives no other codes, so that the lines are a function of the outcome alone.
+abbrev pub reset_name : ℕ → List ℕ
+reset_name code =
+    if code == MESSAGE_HEADER then codes "HEADER" else (
+    if code == OPEN_MESSAGE then codes "OPEN" else
+    codes "UPDATE")
+
+abbrev pub reset_line : ℕ → ℕ → Notification → List ℕ
+reset_line place len n = decimal place ++ (codes " " ++ (decimal len ++ (codes " " ++ (reset_name n.code ++ (codes " reset " ++ (notification_text n ++ 10 ∷ []))))))
+
+-- what an outcome prints, at its place in the stream and with the octets of its message in number, 0 for a header's fault
+unfoldable pub outcome_lines : ℕ → ℕ → Outcome → List ℕ
+outcome_lines place len (outcome.Took m notes) = took_lines place len m notes
+outcome_lines place len (outcome.Withdraw routes notes) = withdraw_lines place len routes notes
+outcome_lines place len (outcome.Reset n) = reset_line place len n

@@ -1,0 +1,78 @@
+//! The lines of COMMUNITIES and LARGE_COMMUNITY.
+
+ghost use Rattle.std.specs.Prelude.{◌≡◌, ◌++◌, OnOk};
+ghost use Rattle.std.specs.List.{flat_map};
+ghost use Rattle.std.specs.String.{string_bytes};
+ghost use Rattle.bgp_text.specs.CommunityLines.{community_text, communities_line, large_text, large_line, community_lines};
+
+use bgp_update::Attrs;
+use bgp_wire::List;
+use std::alloc::AllocError;
+
+/// Adds a community behind a space: its upper and its lower 16 bits.
+fn put_community(text: &mut String, community: u32) -> Result<(), AllocError>
+    ensures { OnOk result (string_bytes text.new ≡ string_bytes text.old ++ community_text community) }
+{
+    let high = community / 65536;
+    let low = community % 65536;
+    write!(text, " {high}:{low}")
+}
+
+/// Adds communities, each behind a space.
+fn put_each(text: &mut String, communities: &List<u32>) -> Result<(), AllocError>
+    ensures { OnOk result (string_bytes text.new ≡ string_bytes text.old ++ flat_map community_text communities.now) }
+{
+    for community in communities.iter() {
+        put_community(text, *community)?;
+    }
+    Ok(())
+}
+
+/// Adds the line of communities.
+fn put_communities(text: &mut String, communities: &List<u32>) -> Result<(), AllocError>
+    ensures { OnOk result (string_bytes text.new ≡ string_bytes text.old ++ communities_line communities.now) }
+{
+    text.push_str("  communities")?;
+    put_each(text, communities)?;
+    text.push_str("\n")
+}
+
+/// Adds a large community behind a space: its three numbers.
+fn put_large_community(text: &mut String, community: [u32; 3]) -> Result<(), AllocError>
+    ensures { OnOk result (string_bytes text.new ≡ string_bytes text.old ++ large_text community) }
+{
+    let [global, first, second] = community;
+    write!(text, " {global}:{first}:{second}")
+}
+
+/// Adds large communities, each behind a space.
+fn put_each_large(text: &mut String, communities: &List<[u32; 3]>) -> Result<(), AllocError>
+    ensures { OnOk result (string_bytes text.new ≡ string_bytes text.old ++ flat_map large_text communities.now) }
+{
+    for community in communities.iter() {
+        put_large_community(text, *community)?;
+    }
+    Ok(())
+}
+
+/// Adds the line of large communities.
+fn put_large(text: &mut String, communities: &List<[u32; 3]>) -> Result<(), AllocError>
+    ensures { OnOk result (string_bytes text.new ≡ string_bytes text.old ++ large_line communities.now) }
+{
+    text.push_str("  large")?;
+    put_each_large(text, communities)?;
+    text.push_str("\n")
+}
+
+/// Adds the lines of both, where they are there.
+pub(crate) fn put_community_lines(text: &mut String, attrs: &Attrs) -> Result<(), AllocError>
+    ensures { OnOk result (string_bytes text.new ≡ string_bytes text.old ++ community_lines attrs.now) }
+{
+    if let Some(communities) = &attrs.communities {
+        put_communities(text, &communities.values)?;
+    }
+    if let Some(large) = &attrs.large {
+        put_large(text, &large.values)?;
+    }
+    Ok(())
+}

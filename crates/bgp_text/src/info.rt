@@ -1,0 +1,38 @@
+//! Information and notifications as text.
+
+ghost use Rattle.std.specs.Prelude.{◌≡◌, IfOk};
+ghost use Rattle.std.specs.String.{string_bytes};
+ghost use Rattle.bgp_text.specs.Info.{info_text, notification_text};
+
+use bgp_frame::Notification;
+use std::alloc::{AllocError, Global};
+
+/// Octets as hexadecimal text, or a dash where there are none.
+///
+/// # Errors
+/// `AllocError` where a growth was refused.
+#[tactic(auto, unfolding(crate::specs::Info::info_text))]
+pub fn info_text(alloc: Global, info: &[u8]) -> Result<String, AllocError>
+    ensures { IfOk result (λ text. string_bytes text ≡ info_text info.now) }
+{
+    if info.is_empty() {
+        return "-".to_string(alloc);
+    }
+    hex::encode(alloc, info)
+}
+
+/// A notification's code, subcode and information, as in `1/2 0012`.
+///
+/// # Errors
+/// `AllocError` where a growth was refused.
+#[tactic(auto, unfolding(crate::specs::Info::notification_text))]
+pub fn notification_text(alloc: Global, told: &Notification) -> Result<String, AllocError>
+    ensures { IfOk result (λ text. string_bytes text ≡ notification_text told.now) }
+{
+    let code = told.code;
+    let subcode = told.subcode;
+    let info = info_text(alloc, &told.info)?;
+    let mut text = String::new(alloc);
+    write!(text, "{code}/{subcode} {info}")?;
+    Ok(text)
+}

@@ -1,0 +1,21 @@
+//! The printed form of messages, routes, notes and ends of streams: text alone.
+#![tactic(auto)]
+
+mod attribute_lines;
+mod community_lines;
+mod end;
+mod info;
+mod lines;
+mod mp_lines;
+mod note_lines;
+mod open_lines;
+mod outcome_lines;
+mod path_line;
+mod update_lines;
+
+pub use end::put_end;
+pub use info::{info_text, notification_text};
+pub use outcome_lines::put_outcome;
+
+#[cfg(test)]
+mod tests;

@@ -1,0 +1,93 @@
+//! The lines of MP_REACH_NLRI and MP_UNREACH_NLRI.
+
+ghost use Rattle.std.specs.Prelude.{◌≡◌, ◌++◌, OnOk};
+ghost use Rattle.std.specs.String.{string_bytes};
+ghost use Rattle.bgp_text.specs.MpLines.{ip4_next_line, ip6_next_line, family_line, reach_lines, unreach_lines, mp_lines};
+
+use crate::lines::{put_ip4_lines, put_ip6_lines};
+use bgp_attr::{MpReach, MpUnreach};
+use bgp_prefix::Address;
+use bgp_update::Attrs;
+use std::alloc::AllocError;
+
+/// The next hop of IPv4 routes.
+fn put_ip4_next(text: &mut String, next_hop: [u8; 4]) -> Result<(), AllocError>
+    ensures { OnOk result (string_bytes text.new ≡ string_bytes text.old ++ ip4_next_line next_hop) }
+{
+    let next_hop = Address(next_hop);
+    write!(text, "  mp_reach ip4 next {next_hop}\n")
+}
+
+/// The next hop of IPv6 routes: its global address, and its link-local one.
+fn put_ip6_next(
+    text: &mut String,
+    next_hop: [u8; 16],
+    link_local: Option<[u8; 16]>,
+) -> Result<(), AllocError>
+    ensures { OnOk result (string_bytes text.new ≡ string_bytes text.old ++ ip6_next_line next_hop link_local) }
+{
+    let next_hop = Address(next_hop);
+    match link_local {
+        None => write!(text, "  mp_reach ip6 next {next_hop}\n"),
+        Some(link_local) => {
+            let link_local = Address(link_local);
+            write!(text, "  mp_reach ip6 next {next_hop} link {link_local}\n")
+        }
+    }
+}
+
+/// Adds the lines of an MP_REACH_NLRI.
+pub(crate) fn put_reach(text: &mut String, reach: &MpReach) -> Result<(), AllocError>
+    ensures { OnOk result (string_bytes text.new ≡ string_bytes text.old ++ reach_lines reach.now) }
+{
+    match reach {
+        MpReach::Ip4 { next_hop, nlri } => {
+            put_ip4_next(text, *next_hop)?;
+            put_ip4_lines(text, "  mp_nlri ", nlri)
+        }
+        MpReach::Ip6 {
+            next_hop,
+            link_local,
+            nlri,
+        } => {
+            put_ip6_next(text, *next_hop, *link_local)?;
+            put_ip6_lines(text, "  mp_nlri ", nlri)
+        }
+    }
+}
+
+/// The family of routes that are gone.
+fn put_family(text: &mut String, family: &str) -> Result<(), AllocError>
+    ensures { OnOk result (string_bytes text.new ≡ string_bytes text.old ++ family_line family.now) }
+{
+    write!(text, "  mp_unreach {family}\n")
+}
+
+/// Adds the lines of an MP_UNREACH_NLRI.
+pub(crate) fn put_unreach(text: &mut String, unreach: &MpUnreach) -> Result<(), AllocError>
+    ensures { OnOk result (string_bytes text.new ≡ string_bytes text.old ++ unreach_lines unreach.now) }
+{
+    match unreach {
+        MpUnreach::Ip4(routes) => {
+            put_family(text, "ip4")?;
+            put_ip4_lines(text, "  mp_withdrawn ", routes)
+        }
+        MpUnreach::Ip6(routes) => {
+            put_family(text, "ip6")?;
+            put_ip6_lines(text, "  mp_withdrawn ", routes)
+        }
+    }
+}
+
+/// Adds the lines of the attributes that carry routes, where they are there.
+pub(crate) fn put_mp(text: &mut String, attrs: &Attrs) -> Result<(), AllocError>
+    ensures { OnOk result (string_bytes text.new ≡ string_bytes text.old ++ mp_lines attrs.now) }
+{
+    if let Some(reach) = &attrs.mp_reach {
+        put_reach(text, reach)?;
+    }
+    if let Some(unreach) = &attrs.mp_unreach {
+        put_unreach(text, unreach)?;
+    }
+    Ok(())
+}

@@ -1,0 +1,45 @@
+//! The details of an UPDATE, and routes that are withdrawn.
+
+ghost use Rattle.std.specs.Prelude.{◌≡◌, ◌++◌, OnOk};
+ghost use Rattle.std.specs.String.{string_bytes};
+ghost use Rattle.bgp_text.specs.UpdateLines.{attribute_lines, update_lines, routes_lines};
+
+use crate::attribute_lines::{put_as4_lines, put_choice_lines, put_others, put_route_lines};
+use crate::community_lines::put_community_lines;
+use crate::lines::{put_ip4_lines, put_ip6_lines};
+use crate::mp_lines::put_mp;
+use bgp_update::{Attrs, Routes, Update};
+use std::alloc::{AllocError, Global};
+
+/// Adds the lines of all attributes but those that carry routes.
+fn put_attributes(alloc: Global, text: &mut String, attrs: &Attrs) -> Result<(), AllocError>
+    ensures { OnOk result (string_bytes text.new ≡ string_bytes text.old ++ attribute_lines attrs.now) }
+{
+    put_route_lines(text, attrs)?;
+    put_choice_lines(text, attrs)?;
+    put_community_lines(text, attrs)?;
+    put_as4_lines(text, attrs)?;
+    put_others(alloc, text, &attrs.others)
+}
+
+/// Adds the details of an UPDATE.
+pub(crate) fn put_update(
+    alloc: Global,
+    text: &mut String,
+    update: &Update,
+) -> Result<(), AllocError>
+    ensures { OnOk result (string_bytes text.new ≡ string_bytes text.old ++ update_lines update.now) }
+{
+    put_ip4_lines(text, "  withdrawn ", &update.withdrawn)?;
+    put_mp(text, &update.attrs)?;
+    put_attributes(alloc, text, &update.attrs)?;
+    put_ip4_lines(text, "  nlri ", &update.nlri)
+}
+
+/// Adds a line for each route that is withdrawn.
+pub(crate) fn put_routes(text: &mut String, routes: &Routes) -> Result<(), AllocError>
+    ensures { OnOk result (string_bytes text.new ≡ string_bytes text.old ++ routes_lines routes.now) }
+{
+    put_ip4_lines(text, "  route ", &routes.ip4)?;
+    put_ip6_lines(text, "  route ", &routes.ip6)
+}
