@@ -16,6 +16,7 @@ use Rattle.bgp_engine.specs.declared.class.Class.{Class}
 use Rattle.bgp_engine.specs.declared.class.Class.TheVariants as class
 use Rattle.bgp_engine.specs.declared.tally.Tally.{Tally}
 use Rattle.bgp_engine.specs.declared.fault.ToolFault.{ToolFault}
+use Rattle.bgp_engine.specs.Tally.{no_tally}
 use Rattle.bgp_engine.specs.Report.{Report, behind, IsOver, IsWaiting}
 use Rattle.bgp_engine.specs.Rules.{Rules, messages_in, counted, passed, total, lines_from, tally_from, rest_of, report_of, IsReport}
 use Rattle.bgp_engine.specs.Pages.{is_last, Writes, WritesFault, IsAnswer}
@@ -432,3 +433,17 @@ module _ {Outcome : Type 0} where
       let before = room_open old was.counting.open_ended in
       let behind = room_open new going.counting.open_ended in
       omega (arith, p.count, stood.1)
+
+  -- ---- the front of a stream
+
+  abbrev pub front_of : Rules Outcome → Walking Outcome
+  front_of rules = walking rules [] 0 no_tally None
+
+  pub front_going : (rules : Rules Outcome) → IsGoing (front_of rules)
+  front_going rules = record {
+    counting = record { open_ended = refl; octets = AreOctets-nil; place = omega arith; messages = omega arith; took = omega arith; withdrawn = omega arith; resets = refl };
+    waits = nothing_waits;
+  }
+
+  pub front_rests : (rules : Rules Outcome) → Rests (reports_of (front_of rules))
+  front_rests rules = record { report = report_of rules 0 no_tally [] [] (end.Wait 0); reported = report_wait rules 0 no_tally [] nothing_waits; none = refl; waiting = tt }

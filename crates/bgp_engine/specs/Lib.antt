@@ -10,3 +10,6 @@ pub mod Engine
 pub mod Blocks
 pub mod Pages
 pub mod Walking
+pub mod Show
+pub mod Check
+pub mod ToHex

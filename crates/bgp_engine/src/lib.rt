@@ -8,9 +8,11 @@ mod hex_text;
 mod output;
 mod page;
 mod running;
+mod shown;
 mod tally;
 mod walk;
 
 pub use bgp_frame::End;
 pub use fault::ToolFault;
+pub use shown::{show, show_within};
 pub use tally::{Tally, status};

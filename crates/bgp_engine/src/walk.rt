@@ -1,14 +1,22 @@
 //! The messages of a stream that comes block by block.
 
+ghost use Rattle.std.specs.Prelude.{◌≡◌, []};
+ghost use Rattle.bgp_engine.specs.Rules.{IsReport};
+ghost use Rattle.bgp_engine.specs.Run.{Answers};
+ghost use Rattle.bgp_engine.specs.Tally.{no_tally};
+
 use crate::class::Class;
 use crate::engine::Engine;
 use crate::fault::ToolFault;
 use crate::page::Page;
+use crate::running::run;
 use crate::tally::Tally;
 use bgp_frame::{End, Framer, HeadFault, Step, front};
 use std::alloc::AllocError;
+use std::io::{Read, Write};
 
 /// Finds the messages of a stream, counts them and hands them to a page. A message that is whole in a block is judged there.
+#[derive(Drop)]
 pub(crate) struct Walk<P> {
     pub(crate) page: P,
     framer: Framer,
@@ -244,4 +252,19 @@ impl<P: Page> Engine for Walk<P> {
     fn clear(&mut self) {
         self.page.clear();
     }
+}
+
+/// Runs a page over the messages of a stream.
+pub(crate) fn walk_stream<P: Page + Drop, R: Read, W: Write>(
+    turns: u32,
+    hex: bool,
+    page: P,
+    input: &mut R,
+    output: &mut W,
+) -> Result<Tally, ToolFault>
+    requires { P.told page ≡ [] }
+    ensures { Answers (IsReport (P.rules page) 0 no_tally) hex (record { reader_old = R.remaining input.old; reader_new = R.remaining input.new; writer_old = W.contents output.old; writer_new = W.contents output.new }) result }
+{
+    let mut walk = Walk::new(page);
+    run(turns, hex, &mut walk, input, output)
 }

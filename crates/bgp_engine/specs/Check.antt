@@ -1,0 +1,31 @@
+-- What `check` prints.
+use Rattle.std.specs.Prelude.{ℕ, List, [], ◌∷◌, ◌++◌, codes, Ok}
+use Rattle.std.specs.Fmt.{decimal}
+use Rattle.bgp_open.specs.declared.context.Context.{Context}
+use Rattle.bgp_msg.specs.declared.outcome.Outcome.{Outcome}
+use Rattle.bgp_msg.specs.Outcome.{judgement}
+use Rattle.bgp_text.specs.End.{end_line}
+use Rattle.bgp_engine.specs.declared.tally.Tally.{Tally}
+use Rattle.bgp_engine.specs.Rules.{Rules, IsReport}
+use Rattle.bgp_engine.specs.Run.{Reports}
+use Rattle.bgp_engine.specs.Show.{class_of}
+use Rattle.bgp_engine.specs.Tally.{no_tally}
+
+-- the counts in one line
+abbrev pub counts_line : Tally → List ℕ
+counts_line t =
+    codes "messages " ++ (decimal t.messages ++ (codes " took " ++ (decimal t.took ++ (codes " withdraw " ++ (decimal t.withdrawn ++ (codes " reset " ++ (decimal t.resets ++ 10 ∷ [])))))))
+
+-- no line of a message: the counts, and the line of the end
+abbrev pub check_rules : Context → Rules Outcome
+check_rules ctx = record {
+  judge = judgement ctx;
+  line = λ _ _ _. [];
+  class = class_of;
+  last = λ tally. counts_line tally ++ end_line tally.end;
+  rest = λ _. [];
+  answer = λ tally _. Ok tally;
+}
+
+abbrev pub Checked : Context → Reports
+Checked ctx = IsReport (check_rules ctx) 0 no_tally

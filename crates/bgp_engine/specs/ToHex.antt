@@ -1,0 +1,49 @@
+-- What `to-hex` prints.
+use Rattle.std.specs.Prelude.{ℕ, List, [], ◌∷◌, ◌++◌, codes, Result, Ok, Err, is_err}
+use Rattle.hex.specs.Hex.{encode_lower}
+use Rattle.bgp_frame.specs.declared.fault.HeadFault.{HeadFault}
+use Rattle.bgp_frame.specs.Frame.{Message, octets_of}
+use Rattle.bgp_frame.specs.Head.{head_notification}
+use Rattle.bgp_frame.specs.Stream.{as_it_is}
+use Rattle.bgp_text.specs.Info.{notification_text}
+use Rattle.bgp_engine.specs.declared.class.Class.{Class}
+use Rattle.bgp_engine.specs.declared.class.Class.TheVariants as class
+use Rattle.bgp_engine.specs.Rules.{Rules, IsReport}
+use Rattle.bgp_engine.specs.Run.{Reports}
+use Rattle.bgp_engine.specs.Tally.{no_tally}
+
+-- a message, whose body isn't judged, or a header's fault
+abbrev pub Framed : Type 0
+Framed = Result Message HeadFault
+
+abbrev pub hex_line : Message → List ℕ
+hex_line m = encode_lower (octets_of m) ++ 10 ∷ []
+
+abbrev pub fault_line : HeadFault → List ℕ
+fault_line f = codes "fault " ++ (notification_text (head_notification f) ++ 10 ∷ [])
+
+abbrev pub framed_line : Framed → List ℕ
+framed_line (Ok m) = hex_line m
+framed_line (Err f) = fault_line f
+
+abbrev pub framed_class : Framed → Class
+framed_class (Ok m) = class.Took
+framed_class (Err f) = class.Reset
+
+-- the octets that wait, if there are any
+abbrev pub rest_line : List ℕ → List ℕ
+rest_line [] = []
+rest_line (octet ∷ octets) = codes "rest " ++ (encode_lower (octet ∷ octets) ++ 10 ∷ [])
+
+abbrev pub hex_rules : Rules Framed
+hex_rules = record {
+  judge = as_it_is is_err;
+  line = λ _ _ framed. framed_line framed;
+  class = framed_class;
+  last = λ _. [];
+  rest = rest_line;
+  answer = λ tally _. Ok tally;
+}
+
+abbrev pub Hexed : Reports
+Hexed = IsReport hex_rules 0 no_tally

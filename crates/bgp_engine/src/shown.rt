@@ -1,0 +1,112 @@
+//! The engine `show`.
+
+ghost use Rattle.std.specs.Prelude.{◌≡◌, []};
+ghost use Rattle.std.specs.String.{string_bytes};
+ghost use Rattle.bgp_engine.specs.Run.{Answers};
+ghost use Rattle.bgp_engine.specs.Show.{Shown};
+
+use crate::class::{Class, class_of};
+use crate::fault::ToolFault;
+use crate::page::Page;
+use crate::tally::Tally;
+use crate::walk::walk_stream;
+use bgp_frame::{Frame, HeadFault};
+use bgp_msg::{Outcome, out_frame};
+use bgp_open::Context;
+use bgp_text::{put_end, put_outcome};
+use std::alloc::{AllocError, Global};
+use std::io::{Read, Write};
+
+/// The lines of each message.
+#[derive(Drop)]
+struct ShowPage {
+    alloc: Global,
+    ctx: Context,
+    text: String,
+}
+
+impl Page for ShowPage {
+    ghost use Rattle.std.specs.String.{string_bytes};
+    ghost use Rattle.bgp_msg.specs.declared.outcome.Outcome as outcomes;
+    ghost use Rattle.bgp_engine.specs.Show.{show_rules};
+
+    ghost Outcome = { outcomes.Outcome };
+
+    ghost rules = { λ page. show_rules page.ctx };
+
+    ghost told = { λ page. string_bytes page.text };
+
+    fn message(&mut self, place: u64, frame: Frame<'_>) -> Result<Class, AllocError> {
+        let len = frame.len;
+        let outcome = out_frame(self.alloc, &self.ctx, frame)?;
+        put_outcome(self.alloc, &mut self.text, place, len, &outcome)?;
+        Ok(class_of(&outcome))
+    }
+
+    fn fault(&mut self, place: u64, fault: HeadFault) -> Result<(), AllocError> {
+        let outcome = Outcome::Reset(fault.notification());
+        put_outcome(self.alloc, &mut self.text, place, 0, &outcome)
+    }
+
+    fn last(&mut self, tally: &Tally) -> Result<(), AllocError> {
+        put_end(&mut self.text, tally.end)
+    }
+
+    fn rest(&mut self, _waiting: &[u8]) -> Result<(), AllocError> {
+        Ok(())
+    }
+
+    fn answer(&self, tally: Tally, _place: u64) -> Result<Tally, ToolFault> {
+        Ok(tally)
+    }
+
+    fn told(&self) -> &[u8] {
+        self.text.as_bytes()
+    }
+
+    fn clear(&mut self) {
+        self.text.clear();
+    }
+}
+
+/// Prints what the messages of a stream come to in a context. The stream stands as it is, or as hexadecimal text.
+///
+/// The reader is asked for at most 4096 octets at a time, and at most 4,294,967,295 times. What a block brought is
+/// written before the reader is asked again. Behind a reset it isn't asked.
+///
+/// # Errors
+/// `Memory`, `Read` and `Write` at once, without a second try; `BadHex` where the octets before a bad character didn't end
+/// the stream. What was written before a fault stands, and no end line follows it.
+pub fn show<R: Read, W: Write>(
+    alloc: Global,
+    ctx: &Context,
+    hex: bool,
+    input: &mut R,
+    output: &mut W,
+) -> Result<Tally, ToolFault>
+    ensures { Answers (Shown ctx.now) hex (record { reader_old = R.remaining input.old; reader_new = R.remaining input.new; writer_old = W.contents output.old; writer_new = W.contents output.new }) result }
+{
+    show_within(alloc, u32::MAX, ctx, hex, input, output)
+}
+
+/// [`show`], with a reader that is asked at most so many times.
+///
+/// # Errors
+/// As `show`; `Read` too where the reader was asked that often and hadn't ended.
+pub fn show_within<R: Read, W: Write>(
+    alloc: Global,
+    turns: u32,
+    ctx: &Context,
+    hex: bool,
+    input: &mut R,
+    output: &mut W,
+) -> Result<Tally, ToolFault>
+    ensures { Answers (Shown ctx.now) hex (record { reader_old = R.remaining input.old; reader_new = R.remaining input.new; writer_old = W.contents output.old; writer_new = W.contents output.new }) result }
+{
+    let page = ShowPage {
+        alloc,
+        ctx: *ctx,
+        text: String::new(alloc),
+    };
+    walk_stream(turns, hex, page, input, output)
+}
