@@ -4,3 +4,4 @@ pub mod Written
 pub mod BlockLemmas
 pub mod Reading
 pub mod Walks
+pub mod Digits

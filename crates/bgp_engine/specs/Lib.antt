@@ -13,3 +13,4 @@ pub mod Walking
 pub mod Show
 pub mod Check
 pub mod ToHex
+pub mod FromHex

@@ -1,10 +1,13 @@
 //! Engines over readers and writers: what they make of a stream of BGP messages, and what they answer.
 #![tactic(auto)]
 
+mod checked;
 mod class;
+mod copied;
 mod engine;
 mod fault;
 mod hex_text;
+mod hexed;
 mod output;
 mod page;
 mod running;
@@ -13,6 +16,9 @@ mod tally;
 mod walk;
 
 pub use bgp_frame::End;
+pub use checked::{check, check_within};
+pub use copied::{from_hex, from_hex_within};
 pub use fault::ToolFault;
+pub use hexed::{to_hex, to_hex_within};
 pub use shown::{show, show_within};
 pub use tally::{Tally, status};

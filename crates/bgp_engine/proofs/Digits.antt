@@ -1,0 +1,16 @@
+-- Octets as digits.
+use Rattle.std.proofs.Common.{◌≡◌, ℕ, ◌+◌, ◌/◌, ◌%◌, List, [], ◌∷◌, ◌++◌, length, refl, sym, ap, ◌∙◌, append_assoc}
+use Rattle.std.specs.Prelude.{slice_index}
+use Rattle.hex.specs.Hex.{encode_lower, encode_with, lower_digits}
+use Rattle.bgp_frame.specs.Head.{header}
+use Rattle.bgp_frame.specs.Frame.{Message}
+use Rattle.bgp_engine.specs.ToHex.{hex_line}
+
+pub encode_lower-append : (a b : List ℕ) → encode_lower (a ++ b) ≡ encode_lower a ++ encode_lower b
+unfolding encode_with
+encode_lower-append [] b = refl
+encode_lower-append (x ∷ a) b = ap (λ (t : List ℕ). slice_index lower_digits (x / 16) ∷ slice_index lower_digits (x % 16) ∷ t) (encode_lower-append a b)
+
+-- the digits of a header and of a body are those of their message
+pub hex_line_is : (m : Message) → encode_lower (header m.kind (19 + length m.body)) ++ (encode_lower m.body ++ 10 ∷ []) ≡ hex_line m
+hex_line_is m = sym (append_assoc (encode_lower (header m.kind (19 + length m.body))) (encode_lower m.body) (10 ∷ [])) ∙ ap (λ (t : List ℕ). t ++ 10 ∷ []) (sym (encode_lower-append (header m.kind (19 + length m.body)) m.body))

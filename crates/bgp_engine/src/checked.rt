@@ -1,0 +1,156 @@
+//! The engine `check`.
+
+ghost use Rattle.std.specs.Prelude.{◌≡◌, ◌+◌, ◌≤◌, ◌++◌, length, IfOk, OnOk};
+ghost use Rattle.std.specs.String.{string_bytes};
+ghost use Rattle.bgp_frame.specs.Kind.{IsLength};
+ghost use Rattle.bgp_msg.specs.Outcome.{of_verdict, out_of};
+ghost use Rattle.bgp_update.specs.View.{view_value};
+ghost use Rattle.bgp_update.specs.Verdict.{verdict_of};
+ghost use Rattle.bgp_engine.specs.Check.{Checked, counts_line};
+ghost use Rattle.bgp_engine.specs.Run.{Answers};
+ghost use Rattle.bgp_engine.specs.Show.{class_of};
+
+use crate::class::{Class, class_of};
+use crate::fault::ToolFault;
+use crate::page::Page;
+use crate::tally::Tally;
+use crate::walk::walk_stream;
+use bgp_frame::{Frame, HeadFault, Kind};
+use bgp_msg::out_frame;
+use bgp_open::Context;
+use bgp_text::put_end;
+use bgp_update::{View, view_update};
+use std::alloc::{AllocError, Global};
+use std::io::{Read, Write};
+
+// What the verdict on an UPDATE counts as.
+fn class_of_view(view: &View<'_>) -> Class
+    ensures { result ≡ class_of (of_verdict (view_value view.now)) }
+{
+    match view {
+        View::Take(_) => Class::Took,
+        View::Withdraw(_) => Class::Withdrawn,
+        View::Reset(_) => Class::Reset,
+    }
+}
+
+// What an UPDATE counts as. It takes no memory.
+fn class_of_update(ctx: &Context, body: &[u8]) -> Class
+    requires { length body.now ≤ 4077 }
+    ensures { result ≡ class_of (of_verdict (verdict_of ctx.now body.now)) }
+{
+    let view = view_update(ctx, body);
+    class_of_view(&view)
+}
+
+// What a message counts as. Only an OPEN's value takes memory.
+fn class_of_frame(alloc: Global, ctx: &Context, frame: Frame<'_>) -> Result<Class, AllocError>
+    requires { IsLength frame.kind (19 + length frame.body.now) }
+    ensures { IfOk result (λ class. class ≡ class_of (out_of ctx.now (record { kind = frame.entry.kind; body = frame.entry.body.now }))) }
+{
+    match frame.kind {
+        Kind::Update => Ok(class_of_update(ctx, frame.body)),
+        _ => Ok(class_of(&out_frame(alloc, ctx, frame)?)),
+    }
+}
+
+// The counts in one line.
+fn put_counts(text: &mut String, tally: &Tally) -> Result<(), AllocError>
+    ensures { OnOk result (string_bytes text.new ≡ string_bytes text.old ++ counts_line tally.now) }
+{
+    let messages = tally.messages;
+    let took = tally.took;
+    let withdrawn = tally.withdrawn;
+    let resets = tally.resets;
+    write!(
+        text,
+        "messages {messages} took {took} withdraw {withdrawn} reset {resets}\n"
+    )
+}
+
+/// The counts alone.
+#[derive(Drop)]
+struct CheckPage {
+    alloc: Global,
+    ctx: Context,
+    text: String,
+}
+
+impl Page for CheckPage {
+    ghost use Rattle.std.specs.String.{string_bytes};
+    ghost use Rattle.bgp_msg.specs.declared.outcome.Outcome as outcomes;
+    ghost use Rattle.bgp_engine.specs.Check.{check_rules};
+
+    ghost Outcome = { outcomes.Outcome };
+
+    ghost rules = { λ page. check_rules page.ctx };
+
+    ghost told = { λ page. string_bytes page.text };
+
+    fn message(&mut self, _place: u64, frame: Frame<'_>) -> Result<Class, AllocError> {
+        class_of_frame(self.alloc, &self.ctx, frame)
+    }
+
+    fn fault(&mut self, _place: u64, _fault: HeadFault) -> Result<(), AllocError> {
+        Ok(())
+    }
+
+    fn last(&mut self, tally: &Tally) -> Result<(), AllocError> {
+        put_counts(&mut self.text, tally)?;
+        put_end(&mut self.text, tally.end)
+    }
+
+    fn rest(&mut self, _waiting: &[u8]) -> Result<(), AllocError> {
+        Ok(())
+    }
+
+    fn answer(&self, tally: Tally, _place: u64) -> Result<Tally, ToolFault> {
+        Ok(tally)
+    }
+
+    fn told(&self) -> &[u8] {
+        self.text.as_bytes()
+    }
+
+    fn clear(&mut self) {
+        self.text.clear();
+    }
+}
+
+/// Counts what the messages of a stream come to in a context, and prints the counts and the end. It reads as `show` does.
+///
+/// # Errors
+/// As `show`; nothing is written before the last lines.
+pub fn check<R: Read, W: Write>(
+    alloc: Global,
+    ctx: &Context,
+    hex: bool,
+    input: &mut R,
+    output: &mut W,
+) -> Result<Tally, ToolFault>
+    ensures { Answers (Checked ctx.now) hex (record { reader_old = R.remaining input.old; reader_new = R.remaining input.new; writer_old = W.contents output.old; writer_new = W.contents output.new }) result }
+{
+    check_within(alloc, u32::MAX, ctx, hex, input, output)
+}
+
+/// [`check`], with a reader that is asked at most so many times.
+///
+/// # Errors
+/// As `check`; `Read` too where the reader was asked that often and hadn't ended.
+pub fn check_within<R: Read, W: Write>(
+    alloc: Global,
+    turns: u32,
+    ctx: &Context,
+    hex: bool,
+    input: &mut R,
+    output: &mut W,
+) -> Result<Tally, ToolFault>
+    ensures { Answers (Checked ctx.now) hex (record { reader_old = R.remaining input.old; reader_new = R.remaining input.new; writer_old = W.contents output.old; writer_new = W.contents output.new }) result }
+{
+    let page = CheckPage {
+        alloc,
+        ctx: *ctx,
+        text: String::new(alloc),
+    };
+    walk_stream(turns, hex, page, input, output)
+}

@@ -1,0 +1,127 @@
+//! The engine `to_hex`.
+
+ghost use Rattle.std.specs.Prelude.{◌≡◌, ◌+◌, ◌++◌, false, length, OnOk};
+ghost use Rattle.std.specs.String.{string_bytes};
+ghost use Rattle.bgp_frame.specs.Kind.{IsLength};
+ghost use Rattle.bgp_engine.specs.Run.{Answers};
+ghost use Rattle.bgp_engine.specs.ToHex.{Hexed, hex_line, fault_line, rest_line};
+
+use crate::class::Class;
+use crate::fault::ToolFault;
+use crate::page::Page;
+use crate::tally::Tally;
+use crate::walk::walk_stream;
+use bgp_frame::{Frame, HeadFault, head};
+use bgp_text::notification_text;
+use std::alloc::{AllocError, Global};
+use std::io::{Read, Write};
+
+// A whole message as digits.
+fn put_message(alloc: Global, text: &mut String, frame: Frame<'_>) -> Result<(), AllocError>
+    requires { IsLength frame.kind (19 + length frame.body.now) }
+    ensures { OnOk result (string_bytes text.new ≡ string_bytes text.old ++ hex_line (record { kind = frame.entry.kind; body = frame.entry.body.now })) }
+{
+    let header = hex::encode(alloc, head(frame.kind, frame.body.len() as u16))?;
+    let body = hex::encode(alloc, frame.body)?;
+    write!(text, "{header}{body}\n")
+}
+
+// A header's fault.
+fn put_fault(alloc: Global, text: &mut String, fault: HeadFault) -> Result<(), AllocError>
+    ensures { OnOk result (string_bytes text.new ≡ string_bytes text.old ++ fault_line fault) }
+{
+    let told = notification_text(alloc, &fault.notification())?;
+    write!(text, "fault {told}\n")
+}
+
+// The octets that wait, if there are any.
+fn put_rest(alloc: Global, text: &mut String, waiting: &[u8]) -> Result<(), AllocError>
+    ensures { OnOk result (string_bytes text.new ≡ string_bytes text.old ++ rest_line waiting.now) }
+{
+    if waiting.is_empty() {
+        return Ok(());
+    }
+    let digits = hex::encode(alloc, waiting)?;
+    write!(text, "rest {digits}\n")
+}
+
+/// The messages as digits.
+#[derive(Drop)]
+struct HexPage {
+    alloc: Global,
+    text: String,
+}
+
+impl Page for HexPage {
+    ghost use Rattle.std.specs.String.{string_bytes};
+    ghost use Rattle.bgp_engine.specs.ToHex.{Framed, hex_rules};
+
+    ghost Outcome = { Framed };
+
+    ghost rules = { λ _. hex_rules };
+
+    ghost told = { λ page. string_bytes page.text };
+
+    fn message(&mut self, _place: u64, frame: Frame<'_>) -> Result<Class, AllocError> {
+        put_message(self.alloc, &mut self.text, frame)?;
+        Ok(Class::Took)
+    }
+
+    fn fault(&mut self, _place: u64, fault: HeadFault) -> Result<(), AllocError> {
+        put_fault(self.alloc, &mut self.text, fault)
+    }
+
+    fn last(&mut self, _tally: &Tally) -> Result<(), AllocError> {
+        Ok(())
+    }
+
+    fn rest(&mut self, waiting: &[u8]) -> Result<(), AllocError> {
+        put_rest(self.alloc, &mut self.text, waiting)
+    }
+
+    fn answer(&self, tally: Tally, _place: u64) -> Result<Tally, ToolFault> {
+        Ok(tally)
+    }
+
+    fn told(&self) -> &[u8] {
+        self.text.as_bytes()
+    }
+
+    fn clear(&mut self) {
+        self.text.clear();
+    }
+}
+
+/// Prints each whole message of a stream as one line of hexadecimal digits, without judging its body; behind them a header's fault or the
+/// octets that wait. It reads as `show` does.
+///
+/// # Errors
+/// `Memory`, `Read` and `Write` at once, without a second try. What was written before a fault stands.
+pub fn to_hex<R: Read, W: Write>(
+    alloc: Global,
+    input: &mut R,
+    output: &mut W,
+) -> Result<Tally, ToolFault>
+    ensures { Answers Hexed false (record { reader_old = R.remaining input.old; reader_new = R.remaining input.new; writer_old = W.contents output.old; writer_new = W.contents output.new }) result }
+{
+    to_hex_within(alloc, u32::MAX, input, output)
+}
+
+/// [`to_hex`], with a reader that is asked at most so many times.
+///
+/// # Errors
+/// As `to_hex`; `Read` too where the reader was asked that often and hadn't ended.
+pub fn to_hex_within<R: Read, W: Write>(
+    alloc: Global,
+    turns: u32,
+    input: &mut R,
+    output: &mut W,
+) -> Result<Tally, ToolFault>
+    ensures { Answers Hexed false (record { reader_old = R.remaining input.old; reader_new = R.remaining input.new; writer_old = W.contents output.old; writer_new = W.contents output.new }) result }
+{
+    let page = HexPage {
+        alloc,
+        text: String::new(alloc),
+    };
+    walk_stream(turns, false, page, input, output)
+}
