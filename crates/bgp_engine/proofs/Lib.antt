@@ -5,3 +5,4 @@ pub mod BlockLemmas
 pub mod Reading
 pub mod Walks
 pub mod Digits
+pub mod Narrows

@@ -14,3 +14,4 @@ pub mod Show
 pub mod Check
 pub mod ToHex
 pub mod FromHex
+pub mod Narrow

@@ -1,0 +1,81 @@
+-- What `narrow` writes: the messages of a session with AS numbers of four octets, as a speaker with two octets is told them (RFC 6793).
+use Rattle.std.specs.Prelude.{◌≡◌, ℕ, Bool, false, not, ◌&&◌, ◌||◌, ◌==◌, List, [], ◌++◌, Option, None, Some, is_some, is_none, unwrap_or, Result, Ok, Err, if◌then◌else◌}
+use Rattle.bgp_frame.specs.declared.end.End.{End}
+use Rattle.bgp_frame.specs.declared.end.End.TheVariants as end
+use Rattle.bgp_frame.specs.Frame as frame
+use Rattle.bgp_frame.specs.Frame.{octets_of}
+use Rattle.bgp_open.specs.declared.context.Context.{Context}
+use Rattle.bgp_update.specs.declared.attrs.Attrs.{Attrs}
+use Rattle.bgp_update.specs.declared.update.Update.{Update}
+use Rattle.bgp_update.specs.As4.{narrowed}
+use Rattle.bgp_msg.specs.declared.message.Message.{Message}
+use Rattle.bgp_msg.specs.declared.message.Message.TheVariants as message
+use Rattle.bgp_msg.specs.declared.outcome.Outcome.{Outcome}
+use Rattle.bgp_msg.specs.declared.outcome.Outcome.TheVariants as outcome
+use Rattle.bgp_msg.specs.Outcome.{out_of}
+use Rattle.bgp_msg.specs.Written.{canonical, is_valid, is_too_long}
+use Rattle.bgp_engine.specs.declared.class.Class.{Class}
+use Rattle.bgp_engine.specs.declared.class.Class.TheVariants as class
+use Rattle.bgp_engine.specs.declared.fault.ToolFault.{ToolFault}
+use Rattle.bgp_engine.specs.declared.fault.ToolFault.TheVariants.{Narrow}
+use Rattle.bgp_engine.specs.declared.tally.Tally.{Tally}
+use Rattle.bgp_engine.specs.Rules.{Rules, IsReport}
+use Rattle.bgp_engine.specs.Run.{Reports}
+use Rattle.bgp_engine.specs.Tally.{no_tally}
+
+-- the same session, but for the width of its AS numbers
+abbrev pub two_octets : Context → Context
+two_octets ctx = record { internal = ctx.internal; as4 = false; ip4 = ctx.ip4; ip6 = ctx.ip6; hold = ctx.hold }
+
+-- the written form, where it can be written
+abbrev pub written_in : Context → Message → Option (List ℕ)
+written_in ctx m = if is_valid ctx m && not (is_too_long ctx m) then Some (canonical ctx m) else None
+
+-- an attribute that only speakers with two octets are told; where numbers have four octets, none is kept
+abbrev pub has_as4 : Attrs → Bool
+has_as4 a = is_some a.as4_path || is_some a.as4_aggregator
+
+abbrev pub narrowed_update : Update → Message
+narrowed_update u = message.Update (record { withdrawn = u.withdrawn; attrs = narrowed u.attrs; nlri = u.nlri })
+
+-- an UPDATE is narrowed, and every other message goes on octet for octet
+abbrev pub narrowed_message : Context → frame.Message → Message → Option (List ℕ)
+narrowed_message ctx m (message.Update u) = if has_as4 u.attrs then None else written_in (two_octets ctx) (narrowed_update u)
+narrowed_message ctx m (message.Open o) = Some (octets_of m)
+narrowed_message ctx m (message.Notification n) = Some (octets_of m)
+narrowed_message ctx m message.Keepalive = Some (octets_of m)
+
+-- only a message that is taken can be narrowed
+abbrev pub narrowed_outcome : Context → frame.Message → Outcome → Option (List ℕ)
+narrowed_outcome ctx m (outcome.Took said notes) = narrowed_message ctx m said
+narrowed_outcome ctx m (outcome.Withdraw routes notes) = None
+narrowed_outcome ctx m (outcome.Reset n) = None
+
+abbrev pub narrowed_class : Option (List ℕ) → Class
+narrowed_class None = class.Reset
+narrowed_class (Some octets) = class.Took
+
+-- the place where it can't go on, where there is one
+abbrev pub narrow_answer : End → Tally → ℕ → Result Tally ToolFault
+narrow_answer end.Reset tally place = Err (Narrow place)
+narrow_answer end.Head tally place = Err (Narrow place)
+narrow_answer (end.Wait n) tally place = if n == 0 then Ok tally else Err (Narrow place)
+
+-- it stops at the first message that can't be narrowed, and at a header's fault
+abbrev pub narrow_rules : Context → Rules (Option (List ℕ))
+narrow_rules ctx = record {
+  judge = record { of_message = λ m. narrowed_outcome ctx m (out_of ctx m); of_fault = λ _. None; resets = is_none };
+  line = λ _ _ o. unwrap_or o [];
+  class = narrowed_class;
+  last = λ _. [];
+  rest = λ _. [];
+  answer = λ tally place. narrow_answer tally.end tally place;
+}
+
+abbrev pub Narrowed : Context → Reports
+Narrowed ctx = IsReport (narrow_rules ctx) 0 no_tally
+
+-- a step: what is written of a message, if it can be, was appended
+pub record WritesNarrow (old new : List ℕ) (o : Option (List ℕ)) (class : Class) : Type 0 where
+  pub appended : new ≡ old ++ unwrap_or o []
+  pub counts : class ≡ narrowed_class o

@@ -1,0 +1,204 @@
+//! The engine `narrow_stream`.
+
+ghost use Rattle.std.specs.Prelude.{◌≡◌, ◌+◌, ◌++◌, true, false, length, None, Some, IfOk, OnOk, if◌then◌else◌};
+ghost use Rattle.bgp_frame.specs.Frame.{octets_of};
+ghost use Rattle.bgp_frame.specs.Kind.{IsLength};
+ghost use Rattle.bgp_msg.specs.Outcome.{out_of};
+ghost use Rattle.bgp_msg.specs.declared.message.Message.TheVariants as message;
+ghost use Rattle.bgp_update.specs.As4.{HasNoAs4};
+ghost use Rattle.bgp_engine.specs.Narrow.{Narrowed, WritesNarrow, two_octets, has_as4, written_in, narrowed_update, narrowed_message, narrowed_outcome, narrow_answer};
+ghost use Rattle.bgp_engine.specs.Run.{Answers};
+
+use crate::class::Class;
+use crate::fault::ToolFault;
+use crate::page::Page;
+use crate::tally::Tally;
+use crate::walk::walk_stream;
+use bgp_frame::{End, Frame, HeadFault, head};
+use bgp_msg::{Message, Outcome, encode, out_frame};
+use bgp_open::Context;
+use bgp_update::{Attrs, Update, WriteFault, narrow};
+use std::alloc::{AllocError, Global};
+use std::io::{Read, Write};
+
+// The same session, but for the width of its AS numbers.
+fn two_octets(ctx: &Context) -> Context
+    ensures { result ≡ two_octets ctx.now }
+{
+    Context { as4: false, ..*ctx }
+}
+
+// Appends a message as it came.
+fn put_frame(octets: &mut Vec<u8>, frame: Frame<'_>) -> Result<(), AllocError>
+    requires { IsLength frame.kind (19 + length frame.body.now) }
+    ensures { OnOk result (octets.new.items ≡ octets.old.items ++ octets_of (record { kind = frame.entry.kind; body = frame.entry.body.now })) }
+{
+    let header = head(frame.kind, frame.body.len() as u16);
+    octets.extend_from_slice(&header)?;
+    octets.extend_from_slice(frame.body)?;
+    Ok(())
+}
+
+// Appends a message's written form, where it can be written.
+fn put_written(ctx: &Context, octets: &mut Vec<u8>, message: &Message) -> Result<Class, AllocError>
+    ensures { IfOk result (λ class. WritesNarrow octets.old.items octets.new.items (written_in ctx.now message.now) class) }
+{
+    match encode(ctx, message, octets) {
+        Ok(()) => Ok(Class::Took),
+        Err(WriteFault::Memory) => Err(AllocError),
+        Err(WriteFault::NotValid(_why)) => Ok(Class::Reset),
+        Err(WriteFault::TooLong) => Ok(Class::Reset),
+    }
+}
+
+// Whether it has an attribute that only speakers with two octets are told.
+fn has_as4(attrs: &Attrs) -> bool
+    ensures { result ≡ has_as4 attrs.now }
+{
+    attrs.as4_path.is_some() || attrs.as4_aggregator.is_some()
+}
+
+// An UPDATE as a speaker with AS numbers of two octets is told it.
+fn narrow_update(alloc: Global, update: Update) -> Result<Message, AllocError>
+    requires { HasNoAs4 update.attrs }
+    ensures { IfOk result (λ told. told ≡ narrowed_update update) }
+{
+    let attrs = narrow(alloc, &update.attrs)?;
+    Ok(Message::Update(Update {
+        withdrawn: update.withdrawn,
+        attrs,
+        nlri: update.nlri,
+    }))
+}
+
+// Appends an UPDATE as a speaker with AS numbers of two octets is told it.
+fn put_narrowed(
+    alloc: Global,
+    ctx: &Context,
+    octets: &mut Vec<u8>,
+    update: Update,
+) -> Result<Class, AllocError>
+    ensures { IfOk result (λ class. WritesNarrow octets.old.items octets.new.items (if has_as4 update.attrs then None else written_in (two_octets ctx.now) (narrowed_update update)) class) }
+{
+    if has_as4(&update.attrs) {
+        return Ok(Class::Reset);
+    }
+    let told = narrow_update(alloc, update)?;
+    let narrow_ctx = two_octets(ctx);
+    put_written(&narrow_ctx, octets, &told)
+}
+
+// Appends a message that was taken.
+fn put_taken(
+    alloc: Global,
+    ctx: &Context,
+    octets: &mut Vec<u8>,
+    frame: Frame<'_>,
+    said: Message,
+) -> Result<Class, AllocError>
+    requires { IsLength frame.kind (19 + length frame.body.now) }
+    ensures { IfOk result (λ class. WritesNarrow octets.old.items octets.new.items (narrowed_message ctx.now (record { kind = frame.entry.kind; body = frame.entry.body.now }) said) class) }
+{
+    match said {
+        Message::Update(update) => put_narrowed(alloc, ctx, octets, update),
+        _ => {
+            put_frame(octets, frame)?;
+            Ok(Class::Took)
+        }
+    }
+}
+
+/// The octets that are handed on.
+#[derive(Drop)]
+struct NarrowPage {
+    alloc: Global,
+    ctx: Context,
+    octets: Vec<u8>,
+}
+
+impl Page for NarrowPage {
+    ghost use Rattle.std.specs.Prelude.{ℕ, List, Option};
+    ghost use Rattle.bgp_engine.specs.Narrow.{narrow_rules};
+
+    ghost Outcome = { Option (List ℕ) };
+
+    ghost rules = { λ page. narrow_rules page.ctx };
+
+    ghost told = { λ page. page.octets.items };
+
+    fn message(&mut self, _place: u64, frame: Frame<'_>) -> Result<Class, AllocError> {
+        match out_frame(self.alloc, &self.ctx, frame)? {
+            Outcome::Took(said, _notes) => {
+                put_taken(self.alloc, &self.ctx, &mut self.octets, frame, said)
+            }
+            _ => Ok(Class::Reset),
+        }
+    }
+
+    fn fault(&mut self, _place: u64, _fault: HeadFault) -> Result<(), AllocError> {
+        Ok(())
+    }
+
+    fn last(&mut self, _tally: &Tally) -> Result<(), AllocError> {
+        Ok(())
+    }
+
+    fn rest(&mut self, _waiting: &[u8]) -> Result<(), AllocError> {
+        Ok(())
+    }
+
+    fn answer(&self, tally: Tally, place: u64) -> Result<Tally, ToolFault> {
+        match tally.end {
+            End::Wait(0) => Ok(tally),
+            _ => Err(ToolFault::Narrow(place)),
+        }
+    }
+
+    fn told(&self) -> &[u8] {
+        self.octets.as_slice()
+    }
+
+    fn clear(&mut self) {
+        self.octets.clear();
+    }
+}
+
+/// Writes a stream of messages with AS numbers of four octets as one for a speaker with two (RFC 6793, section 4.2.2): each UPDATE narrowed,
+/// every other message octet for octet. It reads as `show` does, and each whole message counts as taken.
+///
+/// # Errors
+/// `Memory`, `Read` and `Write` at once, without a second try; `Narrow` with the place of the first message that isn't taken, or that can't
+/// be written, of a header with a fault, or of octets that wait. What was written before a fault stands.
+pub fn narrow_stream<R: Read, W: Write>(
+    alloc: Global,
+    ctx: &Context,
+    input: &mut R,
+    output: &mut W,
+) -> Result<Tally, ToolFault>
+    requires { ctx.now.as4 ≡ true }
+    ensures { Answers (Narrowed ctx.now) false (record { reader_old = R.remaining input.old; reader_new = R.remaining input.new; writer_old = W.contents output.old; writer_new = W.contents output.new }) result }
+{
+    narrow_within(alloc, u32::MAX, ctx, input, output)
+}
+
+/// [`narrow_stream`], with a reader that is asked at most so many times.
+///
+/// # Errors
+/// As `narrow_stream`; `Read` too where the reader was asked that often and hadn't ended.
+pub fn narrow_within<R: Read, W: Write>(
+    alloc: Global,
+    turns: u32,
+    ctx: &Context,
+    input: &mut R,
+    output: &mut W,
+) -> Result<Tally, ToolFault>
+    requires { ctx.now.as4 ≡ true }
+    ensures { Answers (Narrowed ctx.now) false (record { reader_old = R.remaining input.old; reader_new = R.remaining input.new; writer_old = W.contents output.old; writer_new = W.contents output.new }) result }
+{
+    let page = NarrowPage {
+        alloc,
+        ctx: *ctx,
+        octets: Vec::new(alloc),
+    };
+    walk_stream(turns, false, page, input, output)
+}
