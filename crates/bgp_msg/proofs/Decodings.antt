@@ -15,7 +15,7 @@ use Rattle.bgp_frame.proofs.Streams.{gives_wait, gives_fault, gives_reset, gives
 use Rattle.bgp_open.specs.declared.context.Context.{Context}
 use Rattle.bgp_msg.specs.declared.outcome.Outcome.{Outcome}
 use Rattle.bgp_msg.specs.Outcome.{out_of, of_fault, is_reset, judgement}
-use Rattle.bgp_msg.specs.Decoder.{Decoding, fresh, GivesMessage, GivesFault, IsNext}
+use Rattle.bgp_msg.specs.Decoder.{Decoding, fresh, holding, GivesMessage, GivesFault, IsNext}
 use Rattle.bgp_msg.specs.Decoding.{GoesOn, EndsBy, Continues, Ends, Decodes, end_behind}
 
 abbrev pub Outs : Type 0
@@ -91,8 +91,8 @@ nothing_waits = let bounds = wanted-bounds [] in omega arith
 
 -- ---- what a step shows
 
-abbrev pub after_feed : Decoding → List ℕ → ℕ → Decoding
-after_feed old octets n = record { ctx = old.ctx; held = old.held ++ take n octets; stopped = old.stopped }
+abbrev after_feed : Decoding → List ℕ → ℕ → Decoding
+after_feed old octets n = holding old (old.held ++ take n octets)
 
 module _ (old : Decoding) (octets : List ℕ) (n : ℕ) (before : Outs) (going : old.stopped ≡ false) where
   pub step_none : (new : Decoding) → IsNext (after_feed old octets n) None new → Continues old octets before before (drop n octets) new

@@ -1,5 +1,6 @@
 -- Lemmas on messages and streams.
 pub mod Nexts
+pub mod Pulls
 pub mod Encodings
 pub mod Decodings
 pub mod ReadOpens

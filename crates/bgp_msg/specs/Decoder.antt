@@ -1,5 +1,5 @@
 -- What a decoder holds, and what it gives.
-use Rattle.std.specs.Prelude.{◌≡◌, ◌<◌, ◌⊎◌, ℕ, Bool, true, false, List, [], ◌++◌, length, take, Option, None, Some, Err}
+use Rattle.std.specs.Prelude.{◌≡◌, ◌<◌, ◌≤◌, ◌⊎◌, ℕ, Bool, true, false, List, [], ◌++◌, length, take, Option, None, Some, Err}
 use Rattle.bgp_frame.specs.declared.fault.HeadFault.{HeadFault}
 use Rattle.bgp_frame.specs.Head.{head_of}
 use Rattle.bgp_frame.specs.declared.kind.Kind.TheVariants as kind
@@ -23,9 +23,13 @@ CountsFed false held piece n = Takes held piece n × (Waits held → 0 < length 
 abbrev pub fresh : Context → Decoding
 fresh ctx = record { ctx = ctx; held = []; stopped = false }
 
+-- the same decoder, holding these octets
+abbrev pub holding : Decoding → List ℕ → Decoding
+holding old held = record { ctx = old.ctx; held = held; stopped = old.stopped }
+
 -- it takes what a framer takes, and nothing where it is stopped
 abbrev pub IsFed : Decoding → List ℕ → ℕ → Decoding → Type 0
-IsFed old piece n new = CountsFed old.stopped old.held piece n × (new ≡ record { ctx = old.ctx; held = old.held ++ take n piece; stopped = old.stopped })
+IsFed old piece n new = CountsFed old.stopped old.held piece n × (new ≡ holding old (old.held ++ take n piece))
 
 -- what is held is this message, and comes to this
 pub record GivesMessage (old : Decoding) (n : ℕ) (o : Outcome) : Type 0 where
@@ -57,3 +61,52 @@ pub record TakesMemory (old : Decoding) : Type 0 where
   pub is_held : IsFrame message old.held
   pub holds_lists : (message.kind ≡ kind.Open) ⊎ (message.kind ≡ kind.Update)
   pub goes_on : is_reset (out_of old.ctx message) ≡ false
+
+-- a pull behind a reset: nothing is taken
+pub record PullsNothing (old : Decoding) (n : ℕ) (new : Decoding) : Type 0 where
+  pub over : old.stopped ≡ true
+  pub none : n ≡ 0
+  pub same : new ≡ old
+
+-- a pull that gives what is held: nothing is taken
+pub record PullsHeld (old : Decoding) (n : ℕ) (out : ℕ × Outcome) (new : Decoding) : Type 0 where
+  pub none : n ≡ 0
+  pub next : IsNext old (Some out) new
+
+-- a pull that feeds, as some octets are held that wait, or none are and the piece waits
+pub record PullsSome (old : Decoding) (piece : List ℕ) (n : ℕ) (new : Decoding) : Type 0 where
+  pub going : old.stopped ≡ false
+  pub waits : Waits old.held
+  pub no_front : (0 < length old.held) ⊎ Waits piece
+  pub fed : IsFed old piece n new
+
+-- a pull that gives what stands at the front of the piece, as nothing is held: these octets are taken, and what comes is what would be next
+-- if they were held
+pub record PullsFront (old : Decoding) (piece : List ℕ) (n : ℕ) (out : ℕ × Outcome) (new : Decoding) : Type 0 where
+  pub going : old.stopped ≡ false
+  pub none_held : old.held ≡ []
+  pub takes : Takes [] piece n
+  pub next : IsNext (holding old (take n piece)) (Some out) new
+
+-- what a decoder pulls from a piece: how many octets it takes, and what comes of them or of what was held
+abbrev pub IsPulled : Decoding → List ℕ → ℕ → Option (ℕ × Outcome) → Decoding → Type 0
+IsPulled old piece n None new = PullsNothing old n new ⊎ PullsSome old piece n new
+IsPulled old piece n (Some out) new = PullsHeld old n out new ⊎ PullsFront old piece n out new
+
+-- a decoder gives this next, where it gives something
+abbrev pub GivesNext : Decoding → Option (ℕ × Outcome) → Decoding → Type 0
+GivesNext old None new = new ≡ old
+GivesNext old (Some out) new = IsNext old (Some out) new
+
+-- what `feed` takes of the piece is taken, and then what comes is what `next` gives
+pub record IsFedAndNext (old : Decoding) (piece : List ℕ) (n : ℕ) (found : Option (ℕ × Outcome)) (new : Decoding) : Type 0 where
+  pub fed : IsFed old piece n (holding old (old.held ++ take n piece))
+  pub next : GivesNext (holding old (old.held ++ take n piece)) found new
+
+-- what can ask for memory where nothing is held: such a message at the front of the piece
+pub record FrontTakesMemory (old : Decoding) (piece : List ℕ) : Type 0 where
+  pub going : old.stopped ≡ false
+  pub none_held : old.held ≡ []
+  pub n : ℕ
+  pub within : n ≤ length piece
+  pub takes : TakesMemory (holding old (take n piece))

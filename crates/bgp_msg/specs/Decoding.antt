@@ -1,5 +1,5 @@
 -- Steps of decoding a stream: what octets that were taken come to, and how it goes on behind them.
-use Rattle.std.specs.Prelude.{◌≡◌, ◌==◌, ℕ, false, List, ◌++◌, Option, None, Some, if◌then◌else◌}
+use Rattle.std.specs.Prelude.{◌≡◌, ◌==◌, ◌<◌, ◌≤◌, ℕ, false, List, ◌++◌, length, take, Option, None, Some, if◌then◌else◌}
 use Rattle.bgp_frame.specs.declared.end.End.{End}
 use Rattle.bgp_frame.specs.declared.end.End.TheVariants as end
 use Rattle.bgp_frame.specs.Frame.{Waits}
@@ -7,7 +7,13 @@ use Rattle.bgp_frame.specs.Stream.{Gives}
 use Rattle.bgp_open.specs.declared.context.Context.{Context}
 use Rattle.bgp_msg.specs.declared.outcome.Outcome.{Outcome}
 use Rattle.bgp_msg.specs.Outcome.{judgement}
-use Rattle.bgp_msg.specs.Decoder.{Decoding}
+use Rattle.bgp_msg.specs.Decoder.{Decoding, holding, IsNext}
+
+-- some octets are taken up to the end of a message, and what is held then comes to this
+pub record IsTaken (old : Decoding) (octets : List ℕ) (n : ℕ) (found : Option (ℕ × Outcome)) (new : Decoding) : Type 0 where
+  pub some : 0 < n
+  pub within : n ≤ length octets
+  pub next : IsNext (holding old (old.held ++ take n octets)) found new
 
 -- what a stream comes to from the octets that are held on, it comes to from its front behind these outcomes
 abbrev pub GoesOn : Context → List ℕ → List (ℕ × Outcome) → List ℕ → List ℕ → Type 0

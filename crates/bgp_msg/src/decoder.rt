@@ -1,11 +1,11 @@
 //! Messages of a stream that comes in pieces.
 
-ghost use Rattle.std.specs.Prelude.{◌≡◌, ◌≤◌, length, IfOk, OnErr};
-ghost use Rattle.bgp_msg.specs.Decoder.{fresh, IsFed, IsNext, TakesMemory};
+ghost use Rattle.std.specs.Prelude.{◌≡◌, ◌≤◌, ◌⊎◌, false, [], length, IfOk, OnErr};
+ghost use Rattle.bgp_msg.specs.Decoder.{fresh, IsFed, IsNext, TakesMemory, IsPulled, IsFedAndNext, FrontTakesMemory};
 
 use crate::outcome::Outcome;
 use crate::taking::out_frame;
-use bgp_frame::{Framer, Step};
+use bgp_frame::{Framer, Step, front};
 use bgp_open::Context;
 use std::alloc::{AllocError, Global};
 use std::marker::Model;
@@ -96,6 +96,63 @@ impl Decoder {
                 self.stopped = true;
                 self.framer.clear();
                 Ok(Some((0, Outcome::Reset(fault.notification()))))
+            }
+        }
+    }
+
+    /// What is held comes to, or the message or the faulty header at the front of the piece, with its octets in number: it is judged where
+    /// it stands, and not copied. Answers first how many octets of the piece it took, and None where more octets are needed, and behind a
+    /// reset.
+    ///
+    /// What is held comes first, and then nothing is taken. Where octets are held that wait for more, or the piece waits for more, the piece
+    /// is fed. Else the front of the piece is taken: as many octets as its Length says, or the 19 of a header with a fault.
+    ///
+    /// # Errors
+    /// `AllocError` where a growth was refused: only for an OPEN or an UPDATE that doesn't end the session. Nothing is taken then, and the
+    /// call can be made again.
+    #[tactic(auto, using(crate::proofs::Pulls::pulls_as_fed))]
+    pub fn pull(
+        &mut self,
+        alloc: Global,
+        piece: &[u8],
+    ) -> Result<(usize, Option<(u16, Outcome)>), AllocError>
+        ensures ok { IfOk result (λ r. IsPulled self.old piece.now r.0 r.1 self.new) }
+        ensures as_fed { IfOk result (λ r. IsFedAndNext self.old piece.now r.0 r.1 self.new) }
+        ensures err { OnErr result (self.new ≡ self.old) }
+        ensures memory { OnErr result (TakesMemory self.old ⊎ FrontTakesMemory self.old piece.now) }
+    {
+        if let Some(found) = self.next(alloc)? {
+            return Ok((0, Some(found)));
+        }
+        if self.stopped || self.framer.held() > 0 {
+            return Ok((self.feed(piece), None));
+        }
+        self.pull_front(alloc, piece)
+    }
+
+    /// Pulls from a piece where nothing is held.
+    fn pull_front(
+        &mut self,
+        alloc: Global,
+        piece: &[u8],
+    ) -> Result<(usize, Option<(u16, Outcome)>), AllocError>
+        requires going { self.old.stopped ≡ false }
+        requires none_held { self.old.held ≡ [] }
+        ensures ok { IfOk result (λ r. IsPulled self.old piece.now r.0 r.1 self.new) }
+        ensures err { OnErr result (self.new ≡ self.old) }
+        ensures memory { OnErr result (FrontTakesMemory self.old piece.now) }
+    {
+        match front(piece) {
+            Step::More => Ok((self.feed(piece), None)),
+            Step::Frame(frame) => {
+                let len = frame.len;
+                let judged = out_frame(alloc, &self.ctx, frame)?;
+                self.stopped = judged.is_reset();
+                Ok((len as usize, Some((len, judged))))
+            }
+            Step::Fault(fault) => {
+                self.stopped = true;
+                Ok((19, Some((0, Outcome::Reset(fault.notification())))))
             }
         }
     }

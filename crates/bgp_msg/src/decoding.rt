@@ -3,7 +3,7 @@
 ghost use Rattle.std.specs.Prelude.{◌≡◌, ◌<◌, ◌≤◌, [], false, length, drop, IfOk};
 ghost use Rattle.std.specs.List.{flat_map};
 ghost use Rattle.bgp_frame.specs.Frame.{Waits};
-ghost use Rattle.bgp_msg.specs.Decoding.{Decodes, end_behind};
+ghost use Rattle.bgp_msg.specs.Decoding.{IsTaken, Decodes, end_behind};
 ghost use Rattle.bgp_msg.specs.Seen.{IsSeen};
 
 use crate::decoder::Decoder;
@@ -21,6 +21,23 @@ fn end_behind(len: u16) -> End
     if len == 0 { End::Head } else { End::Reset }
 }
 
+/// Takes octets up to the end of a message. Answers how many it took, and what the message comes to, where it was whole.
+fn pull_next(
+    alloc: Global,
+    decoder: &mut Decoder,
+    octets: &[u8],
+) -> Result<(usize, Option<(u16, Outcome)>), AllocError>
+    requires going { decoder.old.stopped ≡ false }
+    requires waits { Waits decoder.old.held }
+    requires some { 0 < length octets.now }
+    ensures { IfOk result (λ r. IsTaken decoder.old octets.now r.0 r.1 decoder.new) }
+{
+    match decoder.pull(alloc, octets)? {
+        (taken, None) => Ok((taken, decoder.next(alloc)?)),
+        (taken, found) => Ok((taken, found)),
+    }
+}
+
 /// Takes octets up to the end of a message, and adds what it comes to. Answers how many it took, and how the stream ended, where it did.
 fn step(
     alloc: Global,
@@ -35,8 +52,8 @@ fn step(
     ensures progress { IfOk result (λ r. 0 < r.0) }
     ensures decodes { IfOk result (λ r. Decodes decoder.old octets.now outs.old.items outs.new.items (drop r.0 octets.now) r.1 decoder.new) }
 {
-    let taken = decoder.feed(octets);
-    match decoder.next(alloc)? {
+    let (taken, found) = pull_next(alloc, decoder, octets)?;
+    match found {
         None => Ok((taken, None)),
         Some((len, outcome)) => {
             let resets = outcome.is_reset();

@@ -11,7 +11,7 @@ mod outcome;
 mod seen;
 mod taking;
 
-pub use bgp_frame::{End, Frame, Framer, HeadFault, Kind, Step};
+pub use bgp_frame::{End, Frame, Framer, HeadFault, Kind, Step, front};
 pub use decoder::Decoder;
 pub use decoding::decode_all;
 pub use encoding::encode;

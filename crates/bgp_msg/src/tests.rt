@@ -2,6 +2,7 @@
 
 mod decoding;
 mod encoding;
+mod pulling;
 
 use crate::*;
 use bgp_attr::{AsPath, Origin, SegKind, Segment};

@@ -1,11 +1,12 @@
 //! Streams, whole and in pieces.
 
+use super::pulling::assert_pulled;
 use super::*;
 use bgp_attr::Why;
 use bgp_update::{Note, Routes};
 
 /// A stream of these messages.
-fn stream_of(alloc: Global, messages: &[&[u8]]) -> Result<Vec<u8>, AllocError> {
+pub(super) fn stream_of(alloc: Global, messages: &[&[u8]]) -> Result<Vec<u8>, AllocError> {
     let mut stream = Vec::new(alloc);
     for message in messages {
         stream.extend_from_slice(message)?;
@@ -38,7 +39,9 @@ fn assert_seen(
     assert!(rt; decode_all(alloc, &ctx, &sevens)? == *wanted);
     // Empty pieces have no effect.
     assert!(rt; decode_all(alloc, &ctx, &[&[], &stream, &[]])? == *wanted);
-    Ok(())
+    assert_pulled(rt, &[&stream], wanted)?;
+    assert_pulled(rt, &octets, wanted)?;
+    assert_pulled(rt, &sevens, wanted)
 }
 
 /// One outcome of so many octets, and an end.

@@ -1,0 +1,133 @@
+-- What is pulled from a piece.
+use Rattle.std.proofs.Common.{◌≡◌, ℕ, ◌<◌, ◌≤◌, ◌⊎◌, Bool, true, false, List, [], ◌++◌, length, take, drop, Err, Option, Some, None, refl, sym, ap, subst, ◌∙◌, arith, inl, inr}
+use Rattle.std.proofs.lemmas.List.{length-take, take-append-drop, append-nil}
+use Rattle.bgp_frame.specs.declared.fault.HeadFault.{HeadFault}
+use Rattle.bgp_frame.specs.Head.{head_of}
+use Rattle.bgp_frame.specs.Frame.{Message, IsFrame, wanted, Waits}
+use Rattle.bgp_frame.specs.Takes.{Stops, Takes}
+use Rattle.bgp_frame.proofs.FrameLemmas.{head_of-append, Stops-wanted, wanted-append}
+use Rattle.bgp_open.specs.declared.context.Context.{Context}
+use Rattle.bgp_msg.specs.declared.outcome.Outcome.{Outcome}
+use Rattle.bgp_msg.specs.Outcome.{out_of, of_fault, is_reset}
+use Rattle.bgp_msg.specs.Decoder.{Decoding, CountsFed, holding, IsFed, GivesMessage, GivesFault, IsNext, PullsNothing, PullsSome, PullsHeld, PullsFront, IsPulled, IsFedAndNext}
+use Rattle.bgp_msg.proofs.Decodings.{nothing_waits}
+use Rattle.bgp_msg.proofs.Nexts.{at_hand, message_next}
+
+module _ (piece : List ℕ) where
+  -- what stops in front of a piece is as long as the piece wants
+  front_wanted : (n : ℕ) → n ≤ length piece → Stops (take n piece) → wanted piece ≡ n
+  front_wanted n within stops =
+      let long = Stops-wanted (take n piece) stops in
+      let count = length-take n piece in
+      let same : wanted piece ≡ wanted (take n piece) = ap wanted (sym (take-append-drop n piece)) ∙ wanted-append (take n piece) (drop n piece) long.0 in
+      omega (arith, long.1)
+
+  pub takes_front : (n : ℕ) → n ≤ length piece → Stops (take n piece) → Takes [] piece n
+  takes_front n within stops = record {
+    within = within;
+    no_sooner = λ k lt sooner.
+        let first = front_wanted k (omega arith) sooner in
+        let whole = front_wanted n within stops in
+        omega arith;
+    all_or_stops = inr stops;
+  }
+
+pub pulls_more : (old : Decoding) (piece : List ℕ) (n : ℕ) (new : Decoding) → old.stopped ≡ false → old.held ≡ [] → Waits piece → IsFed old piece n new → IsPulled old piece n None new
+pulls_more old piece n new going none waits fed = inr (record {
+  going = going;
+  waits = subst Waits (sym none) nothing_waits;
+  no_front = inr waits;
+  fed = fed;
+})
+
+module _ (ctx : Context) (held : List ℕ) (stopped : Bool) (piece : List ℕ) (going : stopped ≡ false) (none : held ≡ []) where
+  abbrev now : Decoding
+  now = at_hand ctx held stopped
+
+  behind_front : (o : Outcome) (last : Bool) → last ≡ is_reset o → at_hand ctx held last ≡ at_hand ctx [] (is_reset o)
+  behind_front o last is = ap (λ (h : List ℕ). at_hand ctx h last) none ∙ ap (λ (s : Bool). at_hand ctx [] s) is
+
+  pub pulls_message : (m : Message) (n : ℕ) (o : Outcome) (last : Bool) → (n ≤ length piece) × IsFrame m (take n piece) → o ≡ out_of ctx m → last ≡ is_reset o
+      → IsPulled now piece n (Some (n, o)) (at_hand ctx held last)
+  pulls_message m n o last front comes is =
+      let count = length-take n piece in
+      let within = front.0 in
+      inr (record {
+        going = going;
+        none_held = none;
+        takes = takes_front piece n within (inl (m, front.1));
+        next = message_next ctx (take n piece) stopped m n o (at_hand ctx held last) going front.1 (omega arith) comes (behind_front o last is);
+      })
+
+  pub pulls_fault : (f : HeadFault) (o : Outcome) → (19 ≤ length piece) × (head_of piece ≡ Err f) → o ≡ of_fault f → IsPulled now piece 19 (Some (0, o)) (at_hand ctx held true)
+  pulls_fault f o front comes =
+      let long = front.0 in
+      let count = length-take 19 piece in
+      let header : length (take 19 piece) ≡ 19 = omega arith in
+      let faulty : head_of (take 19 piece) ≡ Err f = sym (head_of-append (take 19 piece) (drop 19 piece) (omega arith)) ∙ ap head_of (take-append-drop 19 piece) ∙ front.1 in
+      inr (record {
+        going = going;
+        none_held = none;
+        takes = takes_front piece 19 long (inr (header, (f, faulty)));
+        next = (going, inr (record { header = header; fault = f; faulty = faulty; count = refl; comes_to = comes }), behind_front o true (sym (ap is_reset comes)));
+      })
+
+-- ---- a pull is a feed, and next where something comes
+
+takes_none : (held piece : List ℕ) → Stops held → Takes held piece 0
+takes_none held piece stops = record {
+  within = omega arith;
+  no_sooner = λ k lt sooner. absurd (omega arith);
+  all_or_stops = inr (subst Stops (sym (append-nil held)) stops);
+}
+
+next_stops : (old : Decoding) (k : ℕ) (o : Outcome) → GivesMessage old k o ⊎ GivesFault old k o → Stops old.held
+next_stops old k o (inl m) = inl (m.message, m.is_held)
+next_stops old k o (inr f) = inr (f.header, (f.fault, f.faulty))
+
+module _ (old : Decoding) (piece : List ℕ) (n : ℕ) (new : Decoding) where
+  abbrev behind_feed : Decoding
+  behind_feed = holding old (old.held ++ take n piece)
+
+  nothing_as_fed : PullsNothing old n new → IsFedAndNext old piece n None new
+  nothing_as_fed p =
+      let same : behind_feed ≡ old = ap (λ (k : ℕ). holding old (old.held ++ take k piece)) p.none ∙ ap (holding old) (append-nil old.held) in
+      record {
+        fed = (subst (λ (s : Bool). CountsFed s old.held piece n) (sym p.over) p.none, refl);
+        next = p.same ∙ sym same;
+      }
+
+  some_as_fed : PullsSome old piece n new → IsFedAndNext old piece n None new
+  some_as_fed p = record { fed = (p.fed.0, refl); next = p.fed.1 }
+
+  module _ (k : ℕ) (o : Outcome) where
+    held_as_fed : PullsHeld old n (k, o) new → IsFedAndNext old piece n (Some (k, o)) new
+    held_as_fed p =
+        let stops = next_stops old k o p.next.1 in
+        let long = Stops-wanted old.held stops in
+        let counts : CountsFed false old.held piece 0 = (takes_none old.held piece stops, λ waits some. absurd (omega (arith, long.1))) in
+        let same : old ≡ behind_feed = ap (holding old) (sym (append-nil old.held)) ∙ ap (λ (i : ℕ). holding old (old.held ++ take i piece)) (sym p.none) in
+        record {
+          fed = (subst (λ (i : ℕ). CountsFed old.stopped old.held piece i) (sym p.none) (subst (λ (s : Bool). CountsFed s old.held piece 0) (sym p.next.0) counts), refl);
+          next = subst (λ (d : Decoding). IsNext d (Some (k, o)) new) same p.next;
+        }
+
+    front_as_fed : PullsFront old piece n (k, o) new → IsFedAndNext old piece n (Some (k, o)) new
+    front_as_fed p =
+        let long = Stops-wanted (take n piece) (next_stops (holding old (take n piece)) k o p.next.1) in
+        let count = length-take n piece in
+        let counts : CountsFed false [] piece n = (p.takes, λ waits some. omega (arith, long.0)) in
+        let held : CountsFed false old.held piece n = subst (λ (h : List ℕ). CountsFed false h piece n) (sym p.none_held) counts in
+        record {
+          fed = (subst (λ (s : Bool). CountsFed s old.held piece n) (sym p.going) held, refl);
+          next = subst (λ (h : List ℕ). IsNext (holding old (h ++ take n piece)) (Some (k, o)) new) (sym p.none_held) p.next;
+        }
+
+pub pulls_as_fed : (old : Decoding) (piece : List ℕ) (n : ℕ) (found : Option (ℕ × Outcome)) (new : Decoding) → IsPulled old piece n found new → IsFedAndNext old piece n found new
+pulls_as_fed old piece n None new (inl p) = nothing_as_fed old piece n new p
+pulls_as_fed old piece n None new (inr p) = some_as_fed old piece n new p
+pulls_as_fed old piece n (Some (k, o)) new (inl p) = held_as_fed old piece n new k o p
+pulls_as_fed old piece n (Some (k, o)) new (inr p) = front_as_fed old piece n new k o p
+
+pub held_pulled : (old : Decoding) (piece : List ℕ) (k : ℕ) (o : Outcome) (new : Decoding) → IsNext old (Some (k, o)) new → IsFedAndNext old piece 0 (Some (k, o)) new
+held_pulled old piece k o new next = held_as_fed old piece 0 new k o (record { none = refl; next = next })
