@@ -18,6 +18,20 @@ fn prefixes_of_four_octets(rt: HostRuntime) -> Result<(), Fail> {
 }
 
 #[test]
+fn addresses_as_text(rt: HostRuntime) -> Result<(), Fail> {
+    let first = Address([192, 0, 2, 1]);
+    assert_eq!(rt; format!(in rt.alloc(); "{first}")?.as_str(), "192.0.2.1");
+    let second = Address([
+        0x20, 1, 0x0d, 0xb8, 0, 0, 0, 0, 0, 0, 0, 0, 0, 0, 0xab, 0xcd,
+    ]);
+    assert_eq!(rt;
+        format!(in rt.alloc(); "{second}")?.as_str(),
+        "2001:0db8:0000:0000:0000:0000:0000:abcd"
+    );
+    Ok(())
+}
+
+#[test]
 fn prefixes_in_order(rt: HostRuntime) -> Result<(), Fail> {
     let ten = Prefix4::new(8, [10, 0, 0, 0]).ok_or("8 bits")?;
     let longer = Prefix4::new(9, [10, 0, 0, 0]).ok_or("9 bits")?;

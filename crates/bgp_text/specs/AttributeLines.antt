@@ -1,5 +1,5 @@
 -- The lines of attributes other than communities and those that carry routes.
-use Rattle.std.specs.Prelude.{ℕ, Bool, true, false, List, [], ◌∷◌, ◌++◌, codes, if◌then◌else◌}
+use Rattle.std.specs.Prelude.{ℕ, Bool, true, false, List, [], ◌∷◌, ◌++◌, codes}
 use Rattle.std.specs.Fmt.{decimal}
 use Rattle.bgp_prefix.specs.Text.{ipv4_address_text}
 use Rattle.bgp_attr.specs.declared.aggregator.Aggregator.{Aggregator}

@@ -37,8 +37,8 @@ took_lines place len m notes = message_lines place len m ++ flat_map note_line n
 abbrev pub withdraw_lines : ℕ → ℕ → Routes → List Note → List ℕ
 withdraw_lines place len routes notes = head_line place len (codes "UPDATE withdraw") ++ (routes_lines routes ++ flat_map note_line notes)
 
--- What a notification answers, by its code: a header's fault, an OPEN's, and else an UPDATE's (RFC 4271, section 4.5). A
--- judgement of messages gives no other codes, so that the lines are a function of the outcome alone.
+-- What a notification answers, by its code: a header, an OPEN, or else an UPDATE (RFC 4271, section 4.5). The module `laws` has that
+-- no reset bears another name than that of what it answers; so the lines are a function of the outcome alone.
 abbrev pub reset_name : ℕ → List ℕ
 reset_name code =
     if code == MESSAGE_HEADER then codes "HEADER" else (

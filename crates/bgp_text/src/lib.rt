@@ -5,6 +5,7 @@ mod attribute_lines;
 mod community_lines;
 mod end;
 mod info;
+pub mod laws;
 mod lines;
 mod mp_lines;
 mod note_lines;

@@ -1,0 +1,246 @@
+-- The codes of resets: those of the body of an UPDATE are UPDATE Message Errors.
+use Rattle.std.proofs.Common.{◌≡◌, ℕ, ◌-◌, Bool, true, false, ◌&&◌, ◌==◌, nat_lt, List, [], ◌∷◌, ◌++◌, length, Option, None, Some, refl, subst, option_map, if◌then◌else◌}
+use Rattle.std.specs.Option.{option_or}
+use Rattle.bgp_numbers.specs.declared.attribute.TheConstants.{ORIGIN, AS_PATH, NEXT_HOP, MULTI_EXIT_DISC, LOCAL_PREF, ATOMIC_AGGREGATE, AGGREGATOR, COMMUNITIES, MP_REACH_NLRI, MP_UNREACH_NLRI, AS4_PATH, AS4_AGGREGATOR, LARGE_COMMUNITY}
+use Rattle.bgp_numbers.specs.declared.error.TheConstants.{UPDATE_MESSAGE}
+use Rattle.bgp_frame.specs.declared.notification.Notification.{Notification}
+use Rattle.bgp_open.specs.declared.context.Context.{Context}
+use Rattle.bgp_prefix.specs.Run.{run_of}
+use Rattle.bgp_attr.specs.declared.attr.Attr.{Attr}
+use Rattle.bgp_attr.specs.declared.judged.Judged.{Judged}
+use Rattle.bgp_attr.specs.declared.judged.Judged.TheVariants as judged
+use Rattle.bgp_attr.specs.declared.why.Why.{Why}
+use Rattle.bgp_attr.specs.declared.why.Why.TheVariants as why
+use Rattle.bgp_attr.specs.Judgement.{origin_tests, as_path_tests, next_hop_tests, med_tests, local_pref_tests, atomic_tests, aggregator_tests, communities_tests, mp_reach_tests, mp_unreach_tests, as4_path_tests, as4_aggregator_tests, large_tests, other_tests}
+use Rattle.bgp_attr.specs.Judgement.{judgement, tests_of, unless_refused}
+use Rattle.bgp_attr.specs.Refusal.{Refusal, Discard, Withdraw, Reset, when, first_refusal}
+use Rattle.bgp_attr.specs.Tlv.{TlvValue, PlacedTlv, tlvs_of}
+use Rattle.bgp_attr.specs.Value.{value_of}
+use Rattle.bgp_update.specs.declared.verdict.Verdict.{Verdict}
+use Rattle.bgp_update.specs.declared.verdict.Verdict.TheVariants as verdict
+use Rattle.bgp_update.specs.Marks.{Mark, malformed, carries_routes, repeated, also, none_seen, cut_kind, placed_tlvs, marks_behind, field_marks, cut_mark, marks_of}
+use Rattle.bgp_update.specs.Notes.{is_reachable, notes_of, routes_of}
+use Rattle.bgp_update.specs.Parts.{Parts, parts_of, has_nlri}
+use Rattle.bgp_update.specs.Taken.{update_of}
+use Rattle.bgp_update.specs.Verdict.{first_reset, reset_by, bad_network, reset_of_run, reset_of, is_withdrawn, without_reset, unless_reset, of_parts, verdict_of}
+use Rattle.bgp_msg.specs.declared.outcome.Outcome.TheVariants as outcome
+use Rattle.bgp_msg.specs.Outcome.{of_verdict}
+
+-- ---- what the tests of an attribute answer
+
+abbrev Refused : Refusal → Type 0
+Refused (Discard w) = Unit {0}
+Refused (Withdraw w) = Unit {0}
+Refused (Reset n) = n.code ≡ UPDATE_MESSAGE
+
+abbrev Answers : Option Refusal → Type 0
+Answers None = Unit {0}
+Answers (Some r) = Refused r
+
+abbrev EachAnswers : List (Option Refusal) → Type 0
+EachAnswers [] = Unit {0}
+EachAnswers (t ∷ ts) = Answers t × EachAnswers ts
+
+-- whatever they answer, a reset has the code
+record AllAnswer (ts : List (Option Refusal)) : Type 0 where
+  each : EachAnswers ts
+
+none : AllAnswer []
+none = record { each = tt }
+
+when_answers : (b : Bool) (r : Refusal) → Refused r → Answers (when b r)
+when_answers true r h = h
+when_answers false r h = tt
+
+test : {ts : List (Option Refusal)} (b : Bool) (r : Refusal) → Refused r → AllAnswer ts → AllAnswer (when b r ∷ ts)
+test b r h later = record { each = (when_answers b r h, later.each) }
+
+mapped_answers : (f : Why → Refusal) (o : Option Why) → ((w : Why) → Refused (f w)) → Answers (option_map f o)
+mapped_answers f None h = tt
+mapped_answers f (Some w) h = h w
+
+fault : {ts : List (Option Refusal)} (f : Why → Refusal) (o : Option Why) → ((w : Why) → Refused (f w)) → AllAnswer ts → AllAnswer (option_map f o ∷ ts)
+fault f o h later = record { each = (mapped_answers f o h, later.each) }
+
+first_answers : (ts : List (Option Refusal)) → EachAnswers ts → Answers (first_refusal ts)
+first_answers [] h = tt
+first_answers (None ∷ ts) h = first_answers ts h.1
+first_answers (Some r ∷ ts) h = h.0
+
+origin_answer : (t : TlvValue) → AllAnswer (origin_tests t)
+origin_answer t = test _ _ tt (test _ _ tt (test _ _ tt none))
+
+as_path_answer : (ctx : Context) (t : TlvValue) → AllAnswer (as_path_tests ctx t)
+as_path_answer ctx t = test _ _ tt (fault _ _ (λ w. tt) (test _ _ tt none))
+
+next_hop_answer : (has_nlri : Bool) (t : TlvValue) → AllAnswer (next_hop_tests has_nlri t)
+next_hop_answer has_nlri t = test _ _ tt (test _ _ tt (test _ _ tt none))
+
+med_answer : (t : TlvValue) → AllAnswer (med_tests t)
+med_answer t = test _ _ tt (test _ _ tt none)
+
+local_pref_answer : (ctx : Context) (t : TlvValue) → AllAnswer (local_pref_tests ctx t)
+local_pref_answer ctx t = test _ _ tt (test _ _ tt (test _ _ tt none))
+
+atomic_answer : (t : TlvValue) → AllAnswer (atomic_tests t)
+atomic_answer t = test _ _ tt (test _ _ tt none)
+
+aggregator_answer : (wide : Bool) (t : TlvValue) → AllAnswer (aggregator_tests wide t)
+aggregator_answer wide t = test _ _ tt (test _ _ tt (test _ _ tt none))
+
+communities_answer : (t : TlvValue) → AllAnswer (communities_tests t)
+communities_answer t = test _ _ tt (test _ _ tt none)
+
+mp_reach_answer : (ctx : Context) (t : TlvValue) → AllAnswer (mp_reach_tests ctx t)
+mp_reach_answer ctx t = test _ _ refl (test _ _ refl (test _ _ tt (test _ _ refl (test _ _ refl (test _ _ refl none)))))
+
+mp_unreach_answer : (ctx : Context) (t : TlvValue) → AllAnswer (mp_unreach_tests ctx t)
+mp_unreach_answer ctx t = test _ _ refl (test _ _ refl (test _ _ tt (test _ _ refl none)))
+
+as4_path_answer : (ctx : Context) (t : TlvValue) → AllAnswer (as4_path_tests ctx t)
+as4_path_answer ctx t = test _ _ tt (test _ _ tt (test _ _ tt (fault _ _ (λ w. tt) (test _ _ tt (test _ _ tt none)))))
+
+as4_aggregator_answer : (ctx : Context) (t : TlvValue) → AllAnswer (as4_aggregator_tests ctx t)
+as4_aggregator_answer ctx t = test _ _ tt (aggregator_answer true t)
+
+large_answer : (t : TlvValue) → AllAnswer (large_tests t)
+large_answer t = test _ _ tt (test _ _ tt none)
+
+other_answer : (t : TlvValue) → AllAnswer (other_tests t)
+other_answer t = test _ _ refl none
+
+chosen : (b : Bool) (x y : List (Option Refusal)) → AllAnswer x → AllAnswer y → AllAnswer (if b then x else y)
+chosen true x y p q = p
+chosen false x y p q = q
+
+tests_answer : (ctx : Context) (nlri : Bool) (t : TlvValue) → AllAnswer (tests_of ctx nlri t)
+unfolding tests_of
+tests_answer ctx nlri t =
+    chosen (t.kind == ORIGIN) _ _ (origin_answer t) (
+    chosen (t.kind == AS_PATH) _ _ (as_path_answer ctx t) (
+    chosen (t.kind == NEXT_HOP) _ _ (next_hop_answer nlri t) (
+    chosen (t.kind == MULTI_EXIT_DISC) _ _ (med_answer t) (
+    chosen (t.kind == LOCAL_PREF) _ _ (local_pref_answer ctx t) (
+    chosen (t.kind == ATOMIC_AGGREGATE) _ _ (atomic_answer t) (
+    chosen (t.kind == AGGREGATOR) _ _ (aggregator_answer ctx.as4 t) (
+    chosen (t.kind == COMMUNITIES) _ _ (communities_answer t) (
+    chosen (t.kind == MP_REACH_NLRI) _ _ (mp_reach_answer ctx t) (
+    chosen (t.kind == MP_UNREACH_NLRI) _ _ (mp_unreach_answer ctx t) (
+    chosen (t.kind == AS4_PATH) _ _ (as4_path_answer ctx t) (
+    chosen (t.kind == AS4_AGGREGATOR) _ _ (as4_aggregator_answer ctx t) (
+    chosen (t.kind == LARGE_COMMUNITY) _ _ (large_answer t) (other_answer t)))))))))))))
+
+-- ---- what an attribute comes to
+
+abbrev OfJudged : Judged → Type 0
+OfJudged (judged.Keep a) = Unit {0}
+OfJudged (judged.Discard w) = Unit {0}
+OfJudged (judged.Withdraw w) = Unit {0}
+OfJudged (judged.Reset n) = n.code ≡ UPDATE_MESSAGE
+
+of_refusal : (r : Option Refusal) (a : Attr) → Answers r → OfJudged (unless_refused r a)
+of_refusal None a h = tt
+of_refusal (Some (Discard w)) a h = tt
+of_refusal (Some (Withdraw w)) a h = tt
+of_refusal (Some (Reset n)) a h = h
+
+of_judgement : (ctx : Context) (nlri : Bool) (t : TlvValue) → OfJudged (judgement ctx nlri t)
+of_judgement ctx nlri t = of_refusal (first_refusal (tests_of ctx nlri t)) (value_of ctx t) (first_answers (tests_of ctx nlri t) (tests_answer ctx nlri t).each)
+
+either : (b : Bool) (x y : Judged) → OfJudged x → OfJudged y → OfJudged (if b then x else y)
+either true x y p q = p
+either false x y p q = q
+
+of_repeated : (kind : ℕ) → OfJudged (repeated kind)
+of_repeated kind = either (carries_routes kind) (judged.Reset malformed) (judged.Discard why.Repeated) refl tt
+
+abbrev OfMarks : List Mark → Type 0
+OfMarks [] = Unit {0}
+OfMarks (m ∷ ms) = OfJudged m.judged × OfMarks ms
+
+of_both : (ms ns : List Mark) → OfMarks ms → OfMarks ns → OfMarks (ms ++ ns)
+of_both [] ns p q = q
+of_both (m ∷ ms) ns p q = (p.0, of_both ms ns p.1 q)
+
+of_marks_behind : (ctx : Context) (nlri : Bool) (seen : ℕ → Bool) (ps : List PlacedTlv) → OfMarks (marks_behind ctx nlri seen ps)
+of_marks_behind ctx nlri seen [] = tt
+of_marks_behind ctx nlri seen (p ∷ ps) = (
+  either (seen p.tlv.kind) (repeated p.tlv.kind) (judgement ctx nlri p.tlv) (of_repeated p.tlv.kind) (of_judgement ctx nlri p.tlv),
+  of_marks_behind ctx nlri (also p.tlv.kind seen) ps,
+)
+
+of_cut_mark : (at : ℕ) (rest : List ℕ) → OfMarks (cut_mark at rest)
+of_cut_mark at [] = tt
+of_cut_mark at (flags ∷ rest) =
+    (either (nat_lt 1 (length (flags ∷ rest)) && carries_routes (cut_kind (flags ∷ rest))) (judged.Reset malformed) (judged.Withdraw why.Cut) refl tt, tt)
+
+of_field_marks : (ctx : Context) (nlri : Bool) (field : List ℕ) → OfMarks (field_marks ctx nlri field)
+unfolding field_marks
+of_field_marks ctx nlri field = of_both (marks_behind ctx nlri none_seen (placed_tlvs field)) (cut_mark (length field - length (tlvs_of field).1) (tlvs_of field).1)
+    (of_marks_behind ctx nlri none_seen (placed_tlvs field)) (of_cut_mark (length field - length (tlvs_of field).1) (tlvs_of field).1)
+
+-- ---- what a message comes to
+
+abbrev OfReset : Option Notification → Type 0
+OfReset None = Unit {0}
+OfReset (Some n) = n.code ≡ UPDATE_MESSAGE
+
+of_reset_by : (j : Judged) → OfJudged j → OfReset (reset_by j)
+of_reset_by (judged.Keep a) h = tt
+of_reset_by (judged.Discard w) h = tt
+of_reset_by (judged.Withdraw w) h = tt
+of_reset_by (judged.Reset n) h = h
+
+of_first_of : (o p : Option Notification) → OfReset o → OfReset p → OfReset (option_or o p)
+of_first_of None p h k = k
+of_first_of (Some n) p h k = h
+
+of_first_reset : (ms : List Mark) → OfMarks ms → OfReset (first_reset ms)
+of_first_reset [] h = tt
+of_first_reset (m ∷ ms) h = of_first_of (reset_by m.judged) (first_reset ms) (of_reset_by m.judged h.0) (of_first_reset ms h.1)
+
+of_run : (b : List ℕ) → OfReset (reset_of_run b)
+of_run b = of_some (length (run_of 4 b).1 == 0)
+  where
+    of_some : (whole : Bool) → OfReset (if whole then None else Some bad_network)
+    of_some true = tt
+    of_some false = refl
+
+abbrev OfVerdict : Verdict → Type 0
+OfVerdict (verdict.Take u notes) = Unit {0}
+OfVerdict (verdict.Withdraw routes notes) = Unit {0}
+OfVerdict (verdict.Reset n) = n.code ≡ UPDATE_MESSAGE
+
+of_unless : (o : Option Notification) (v : Verdict) → OfReset o → OfVerdict v → OfVerdict (unless_reset o v)
+of_unless None v h k = k
+of_unless (Some n) v h k = h
+
+one_of : (b : Bool) (x y : Verdict) → OfVerdict x → OfVerdict y → OfVerdict (if b then x else y)
+one_of true x y p q = p
+one_of false x y p q = q
+
+of_reset_of : (p : Parts) (ms : List Mark) → OfMarks ms → OfReset (reset_of p ms)
+of_reset_of p ms h =
+    of_first_of (first_reset ms) (option_or (reset_of_run p.withdrawn) (reset_of_run p.nlri)) (of_first_reset ms h)
+    (of_first_of (reset_of_run p.withdrawn) (reset_of_run p.nlri) (of_run p.withdrawn) (of_run p.nlri))
+
+of_without_reset : (p : Parts) (ms : List Mark) → OfVerdict (without_reset p ms)
+of_without_reset p ms =
+    one_of (is_withdrawn p ms)
+    (if is_reachable p ms then verdict.Withdraw (routes_of p ms) (notes_of p ms) else verdict.Reset malformed) (verdict.Take (update_of p ms) (notes_of p ms))
+    (one_of (is_reachable p ms) (verdict.Withdraw (routes_of p ms) (notes_of p ms)) (verdict.Reset malformed) tt refl) tt
+
+of_known : (ctx : Context) (p : Option Parts) → OfVerdict (of_parts ctx p)
+of_known ctx None = refl
+of_known ctx (Some p) =
+    of_unless (reset_of p (marks_of ctx p)) (without_reset p (marks_of ctx p))
+    (of_reset_of p (marks_of ctx p) (of_field_marks ctx (has_nlri p) p.attributes)) (of_without_reset p (marks_of ctx p))
+
+has_its_code : (v : Verdict) (n : Notification) → OfVerdict v → of_verdict v ≡ outcome.Reset n → n.code ≡ UPDATE_MESSAGE
+has_its_code (verdict.Take u notes) n h is = absurd cc
+has_its_code (verdict.Withdraw routes notes) n h is = absurd cc
+has_its_code (verdict.Reset m) n h is = subst (λ (x : Notification). x.code ≡ UPDATE_MESSAGE) (let e : m ≡ n = cc in e) h
+
+-- a reset by the body of an UPDATE is an UPDATE Message Error
+pub update_resets : (ctx : Context) (body : List ℕ) (n : Notification) → of_verdict (verdict_of ctx body) ≡ outcome.Reset n → n.code ≡ UPDATE_MESSAGE
+update_resets ctx body n is = has_its_code (verdict_of ctx body) n (of_known ctx (parts_of body)) is
