@@ -1,37 +1,78 @@
 -- What the program does with its words.
-use Rattle.std.specs.Prelude.{◌≡◌, ◌⊎◌, ℕ, Bool, List, [], Option, Some, Result, MatchResult}
+use Rattle.std.specs.Prelude.{◌≡◌, ◌≢◌, ◌⊎◌, ℕ, Bool, true, false, List, [], Option, Some, Result}
 use Rattle.std.specs.Io.KnownBytes.{Keeps}
 use Rattle.clap.specs.Words.{IsAmong, Text}
 use Rattle.clap.specs.declared.error.kind.ErrorKind.{ErrorKind}
 use Rattle.clap.specs.declared.error.kind.ErrorKind.TheVariants as error
+use Rattle.bgp_engine.specs.declared.fault.ToolFault.{ToolFault}
+use Rattle.bgp_engine.specs.declared.tally.Tally.{Tally}
+use Rattle.bgp_engine.specs.Run as engine
+use Rattle.bgp_engine.specs.Run.{Io, Reports}
+use Rattle.bgp_engine.specs.Show.{Shown}
+use Rattle.bgp_engine.specs.Check.{Checked}
+use Rattle.bgp_engine.specs.ToHex.{Hexed}
+use Rattle.bgp_engine.specs.FromHex.{Copied}
+use Rattle.bgp_engine.specs.Narrow.{Narrowed}
+use Rattle.bgp_engine.specs.Tally.{status_of}
 use Rattle.bgp_tool.specs.declared.request.Request.{Request}
-use Rattle.bgp_tool.specs.declared.request.Request.TheVariants.{Show}
-use Rattle.bgp_tool.specs.declared.fault.ToolFault.{ToolFault}
-use Rattle.bgp_tool.specs.declared.tally.Tally.{Tally}
-use Rattle.bgp_tool.specs.CommandLine.{Asks, IsExplained, IsQuiet, faults_of}
-use Rattle.bgp_tool.specs.Show.{Shows, Fails}
-use Rattle.bgp_tool.specs.Tally.{status_of}
+use Rattle.bgp_tool.specs.declared.request.Request.TheVariants.{Show, Check, Narrow, ToHex, FromHex}
+use Rattle.bgp_tool.specs.CommandLine.{faults_of, request_of}
 
--- what a request asks of `show`
-abbrev pub is_hex : Request → Bool
-is_hex (Show hex) = hex
+-- the engine that a request asks for
+abbrev pub reports_of : Request → Reports
+reports_of (Show ctx hex) = Shown ctx
+reports_of (Check ctx hex) = Checked ctx
+reports_of (Narrow ctx) = Narrowed ctx
+reports_of ToHex = Hexed
+reports_of FromHex = Copied
 
--- The words ask for a stream to be shown. It was shown, as the outcome says, and the answer is its status.
-pub record RunsShow (words : List Text) (reader_old reader_new writer_old writer_new : Option (List ℕ)) (answer : ℕ) : Type 0 where
-  pub request : Request
-  pub asked : Asks words (Some request)
-  pub without_fault : faults_of words ≡ []
+-- whether it reads hexadecimal text
+abbrev pub reads_hex : Request → Bool
+reads_hex (Show ctx hex) = hex
+reads_hex (Check ctx hex) = hex
+reads_hex (Narrow ctx) = false
+reads_hex ToHex = false
+reads_hex FromHex = true
+
+-- the engine of a request ran, with this outcome
+abbrev pub Runs : Request → Io → Result Tally ToolFault → Type 0
+Runs request io outcome = engine.Answers (reports_of request) (reads_hex request) io outcome
+
+-- the engine of a request ran, and the answer is the status of its outcome
+pub record HasRun (request : Request) (io : Io) (answer : ℕ) : Type 0 where
   pub outcome : Result Tally ToolFault
-  pub shown : MatchResult outcome (Shows (is_hex request) reader_old reader_new writer_old writer_new) (Fails (is_hex request) reader_old reader_new writer_old writer_new)
+  pub ran : Runs request io outcome
   pub is_status : answer ≡ status_of outcome
 
+-- what is narrowed has AS numbers of four octets
+abbrev pub IsWide : Request → Type 0
+IsWide (Narrow ctx) = ctx.as4 ≡ true
+IsWide _ = Unit {0}
+
+-- The words ask for an engine. It ran, as the outcome says, and the answer is its status.
+pub record RunsEngine (words : List Text) (io : Io) (answer : ℕ) : Type 0 where
+  pub request : Request
+  pub asked : request_of words ≡ Some request
+  pub without_fault : faults_of words ≡ []
+  pub has_run : HasRun request io answer
+
+-- 3 where memory ran out; 0 where help was asked for, and 4 where it couldn't be written; 2 else
+pub record IsExplained (kind : ErrorKind) (answer : ℕ) : Type 0 where
+  pub memory : kind ≡ error.OutOfMemory → answer ≡ 3
+  pub help : (kind ≡ error.DisplayHelp) ⊎ (kind ≡ error.DisplayVersion) → (answer ≡ 0) ⊎ (answer ≡ 4)
+  pub misuse : kind ≢ error.OutOfMemory → kind ≢ error.DisplayHelp → kind ≢ error.DisplayVersion → answer ≡ 2
+
+-- nothing is written to the output, but for help
+abbrev pub IsQuiet : ErrorKind → Option (List ℕ) → Option (List ℕ) → Type 0
+IsQuiet kind writer_old writer_new = kind ≢ error.DisplayHelp → kind ≢ error.DisplayVersion → Keeps writer_old writer_new
+
 -- Nothing was read: the words meet an error, or memory ran out.
-pub record Explains (words : List Text) (reader_old reader_new writer_old writer_new : Option (List ℕ)) (answer : ℕ) : Type 0 where
-  pub unread : Keeps reader_old reader_new
+pub record Explains (words : List Text) (io : Io) (answer : ℕ) : Type 0 where
+  pub unread : Keeps io.reader_old io.reader_new
   pub kind : ErrorKind
   pub is_met : (kind ≡ error.OutOfMemory) ⊎ IsAmong kind (faults_of words)
   pub explained : IsExplained kind answer
-  pub quiet : IsQuiet kind writer_old writer_new
+  pub quiet : IsQuiet kind io.writer_old io.writer_new
 
-abbrev pub Answers : List Text → Option (List ℕ) → Option (List ℕ) → Option (List ℕ) → Option (List ℕ) → ℕ → Type 0
-Answers words reader_old reader_new writer_old writer_new answer = RunsShow words reader_old reader_new writer_old writer_new answer ⊎ Explains words reader_old reader_new writer_old writer_new answer
+abbrev pub Answers : List Text → Io → ℕ → Type 0
+Answers words io answer = RunsEngine words io answer ⊎ Explains words io answer

@@ -1,20 +1,30 @@
 -- What the words of a command line ask for, in the words of `clap`, which parses them.
-use Rattle.std.specs.Prelude.{◌≡◌, ◌≢◌, ◌⊎◌, ℕ, Bool, true, false, List, codes, Option, None, Some, option_map, option_and_then}
-use Rattle.std.specs.Io.KnownBytes.{Keeps}
-use Rattle.clap.specs.Words.{App, Kinds, Row, Rule, Text, fault_of, new_app, new_rule, one_of, subcommand_of, with_rule, with_subcommand}
+use Rattle.std.specs.Prelude.{◌≡◌, ℕ, Bool, true, false, List, codes, Option, None, Some, option_map, if◌then◌else◌}
+use Rattle.std.specs.Str.{bytes_eq}
+use Rattle.clap.specs.Words.{App, Kinds, Row, Rule, Text, fault_of, first_of, new_app, new_rule, subcommand_of, with_rule, with_subcommand}
 use Rattle.clap.specs.declared.builder.action.ArgAction.TheVariants.{SetTrue}
-use Rattle.clap.specs.declared.error.kind.ErrorKind.{ErrorKind}
-use Rattle.clap.specs.declared.error.kind.ErrorKind.TheVariants as error
+use Rattle.bgp_open.specs.declared.context.Context.{Context}
 use Rattle.bgp_tool.specs.declared.request.Request.{Request}
-use Rattle.bgp_tool.specs.declared.request.Request.TheVariants.{Show}
+use Rattle.bgp_tool.specs.declared.request.Request.TheVariants.{Show, Check, Narrow, ToHex, FromHex}
 
--- ---- the command line: `show`, with the flag `--hex`
+-- ---- the command line: five commands, three of them with flags
 
-abbrev pub hex_flag : Rule
-hex_flag = record (new_rule (codes "hex")) { long = Some (codes "hex"); action = Some SetTrue }
+abbrev pub flag_rule : Text → Rule
+flag_rule name = record (new_rule name) { long = Some name; action = Some SetTrue }
 
-abbrev pub show_command : App
-show_command = with_rule (new_app (codes "show")) hex_flag
+abbrev pub with_flag : App → Text → App
+with_flag a name = with_rule a (flag_rule name)
+
+-- the flags of a session: the families in use, and whether it is internal
+abbrev pub with_session : App → App
+with_session a = with_flag (with_flag (with_flag a (codes "ip4")) (codes "ip6")) (codes "internal")
+
+-- the flags of a command that shows or checks
+abbrev pub with_judging : App → App
+with_judging a = with_session (with_flag (with_flag a (codes "hex")) (codes "as4"))
+
+abbrev pub with_command : App → App → App
+with_command a sub = with_subcommand a sub.top
 
 -- words begin behind the program's name, and one of them has to be a command
 abbrev pub with_settings : App → App
@@ -23,8 +33,11 @@ with_settings a = record a { top = record a.top { no_binary_name = true; subcomm
 abbrev pub bare_command : App
 bare_command = with_settings (new_app (codes "bgp"))
 
+abbrev pub judging_commands : App
+judging_commands = with_command (with_command bare_command (with_judging (new_app (codes "show")))) (with_judging (new_app (codes "check")))
+
 abbrev pub bgp_command : App
-bgp_command = with_subcommand bare_command show_command.top
+bgp_command = with_command (with_command (with_command judging_commands (with_session (new_app (codes "narrow")))) (new_app (codes "to-hex"))) (new_app (codes "from-hex"))
 
 -- the errors that words may meet, help that was asked for among them: none where they ask for something that can be done
 abbrev pub faults_of : List Text → Kinds
@@ -32,31 +45,34 @@ faults_of words = fault_of bgp_command words
 
 -- ---- what is asked for
 
--- the flag `--hex` of words that can be done: "true" or "false"
-abbrev pub hex_of_rows : Option (List Row) → Option Text
-hex_of_rows = option_and_then (one_of (codes "hex"))
+-- a flag is set where its value is "true"
+abbrev pub is_true : Option Text → Bool
+is_true None = false
+is_true (Some value) = bytes_eq value (codes "true")
 
-abbrev pub hex_of : List Text → Option Text
-hex_of words = hex_of_rows (option_map (λ p. p.1) (subcommand_of bgp_command words))
+abbrev pub is_set : Text → List Row → Bool
+is_set name rows = is_true (first_of name rows)
 
--- what a flag of this text is
-pub record IsFlag (text : Option Text) (flag : Bool) : Type 0 where
-  pub absent : text ≡ None → flag ≡ false
-  pub set : text ≡ Some (codes "true") → flag ≡ true
-  pub unset : text ≡ Some (codes "false") → flag ≡ false
+-- the context that the flags make; no Hold Time is agreed on
+abbrev pub context_of : Bool → List Row → Context
+context_of as4 rows = record { internal = is_set (codes "internal") rows; as4 = as4; ip4 = is_set (codes "ip4") rows; ip6 = is_set (codes "ip6") rows; hold = 0 }
 
+abbrev pub judged_in : List Row → Context
+judged_in rows = context_of (is_set (codes "as4") rows) rows
+
+-- what a command with these flags asks for
+abbrev pub request_by : Text → List Row → Request
+request_by name rows =
+    if bytes_eq name (codes "show") then Show (judged_in rows) (is_set (codes "hex") rows) else (
+    if bytes_eq name (codes "check") then Check (judged_in rows) (is_set (codes "hex") rows) else (
+    if bytes_eq name (codes "narrow") then Narrow (context_of true rows) else (
+    if bytes_eq name (codes "to-hex") then ToHex else
+    FromHex)))
+
+abbrev pub request_of : List Text → Option Request
+request_of words = option_map (λ p. request_by p.0 p.1) (subcommand_of bgp_command words)
+
+-- what a parse found is what is asked for; where it fails with no error, it found something
 abbrev pub Asks : List Text → Option Request → Type 0
 Asks words None = ⊥
-Asks words (Some (Show hex)) = IsFlag (hex_of words) hex
-
--- ---- the answer to words that ask for nothing that can be done
-
--- 3 where memory ran out; 0 where help was asked for, and 4 where it couldn't be written; 2 else
-pub record IsExplained (kind : ErrorKind) (answer : ℕ) : Type 0 where
-  pub memory : kind ≡ error.OutOfMemory → answer ≡ 3
-  pub help : (kind ≡ error.DisplayHelp) ⊎ (kind ≡ error.DisplayVersion) → (answer ≡ 0) ⊎ (answer ≡ 4)
-  pub misuse : kind ≢ error.OutOfMemory → kind ≢ error.DisplayHelp → kind ≢ error.DisplayVersion → answer ≡ 2
-
--- nothing is written to the output, but for help
-abbrev pub IsQuiet : ErrorKind → Option (List ℕ) → Option (List ℕ) → Type 0
-IsQuiet kind writer_old writer_new = kind ≢ error.DisplayHelp → kind ≢ error.DisplayVersion → Keeps writer_old writer_new
+Asks words (Some request) = request_of words ≡ Some request

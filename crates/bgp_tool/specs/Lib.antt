@@ -1,13 +1,4 @@
--- What the program reads, prints and counts.
-pub mod Tally
-pub mod HexText
-pub mod HexSteps
-pub mod InfoText
-pub mod OpenText
-pub mod Print
-pub mod Printing
-pub mod Output
-pub mod Show
-pub mod Blocks
+-- What the words of the command line ask for, and what the program does.
 pub mod CommandLine
 pub mod Command
+pub mod Laws

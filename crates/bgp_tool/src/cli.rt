@@ -1,15 +1,11 @@
 //! The command line of `bgp`.
 
-ghost use Rattle.std.specs.Prelude.{MatchResult, map};
+ghost use Rattle.std.specs.Prelude.{map};
 ghost use Rattle.clap.specs.Words.{kind_of};
-ghost use Rattle.bgp_tool.specs.CommandLine.{IsExplained, IsQuiet};
-ghost use Rattle.bgp_tool.specs.Command.{is_hex, Answers};
-ghost use Rattle.bgp_tool.specs.Show.{Shows, Fails};
+ghost use Rattle.bgp_tool.specs.Command.{Answers, HasRun, IsExplained, IsQuiet, IsWide, Runs};
 
-use crate::fault::ToolFault;
 use crate::request::{Request, parse};
-use crate::shown::show;
-use crate::tally::{Tally, status};
+use bgp_engine::{Tally, ToolFault, check, from_hex, narrow_stream, show, status, to_hex};
 use clap::Error;
 use clap::error::ErrorKind;
 use std::alloc::Global;
@@ -45,24 +41,41 @@ fn explain<W: Write, E: Write>(error: &Error, output: &mut W, errors: &mut E) ->
     }
 }
 
-fn run<R: Read, W: Write, E: Write>(
+// Runs the engine of a request.
+fn run<R: Read, W: Write>(
+    alloc: Global,
+    request: Request,
+    input: &mut R,
+    output: &mut W,
+) -> Result<Tally, ToolFault>
+    requires { IsWide request }
+    ensures { Runs request (record { reader_old = R.remaining input.old; reader_new = R.remaining input.new; writer_old = W.contents output.old; writer_new = W.contents output.new }) result }
+{
+    match request {
+        Request::Show { ctx, hex } => show(alloc, &ctx, hex, input, output),
+        Request::Check { ctx, hex } => check(alloc, &ctx, hex, input, output),
+        Request::Narrow { ctx } => narrow_stream(alloc, &ctx, input, output),
+        Request::ToHex => to_hex(alloc, input, output),
+        Request::FromHex => from_hex(alloc, input, output),
+    }
+}
+
+// Runs the engine of a request, tells its fault, and gives its status.
+fn answer<R: Read, W: Write, E: Write>(
     alloc: Global,
     request: Request,
     input: &mut R,
     output: &mut W,
     errors: &mut E,
-) -> Result<Tally, ToolFault>
-    ensures { MatchResult result
-        (Shows (is_hex request) (R.remaining input.old) (R.remaining input.new) (W.contents output.old) (W.contents output.new))
-        (Fails (is_hex request) (R.remaining input.old) (R.remaining input.new) (W.contents output.old) (W.contents output.new)) }
+) -> u8
+    requires { IsWide request }
+    ensures { HasRun request (record { reader_old = R.remaining input.old; reader_new = R.remaining input.new; writer_old = W.contents output.old; writer_new = W.contents output.new }) result }
 {
-    let outcome = match request {
-        Request::Show { hex } => show(alloc, hex, input, output),
-    };
+    let outcome = run(alloc, request, input, output);
     if let Err(fault) = outcome {
         tell(errors, fault);
     }
-    outcome
+    status(&outcome)
 }
 
 /// The whole program: does what the words ask, which stand without the program's name, and answers its status.
@@ -75,10 +88,10 @@ pub fn command<R: Read, W: Write, E: Write>(
     output: &mut W,
     errors: &mut E,
 ) -> u8
-    ensures { Answers (map (λ w. w.now) words.now) (R.remaining input.old) (R.remaining input.new) (W.contents output.old) (W.contents output.new) result }
+    ensures { Answers (map (λ w. w.now) words.now) (record { reader_old = R.remaining input.old; reader_new = R.remaining input.new; writer_old = W.contents output.old; writer_new = W.contents output.new }) result }
 {
     match parse(alloc, words) {
-        Ok(Some(request)) => status(&run(alloc, request, input, output, errors)),
+        Ok(Some(request)) => answer(alloc, request, input, output, errors),
         Ok(None) => MISUSE,
         Err(error) => explain(&error, output, errors),
     }

@@ -1,28 +1,26 @@
-//! Laws of what is shown. Each is the contract of a function that does nothing.
+//! Laws of the command line. Each is the contract of a function that does nothing.
 
-ghost use Rattle.std.specs.Prelude.{◌≡◌, ℕ, List, [], ◌∷◌, codes, Some};
+ghost use Rattle.std.specs.Prelude.{◌≡◌, [], ◌∷◌, codes, true, false, Some};
 ghost use Rattle.clap.specs.declared.error.kind.ErrorKind.TheVariants as error;
-ghost use Rattle.bgp_wire.specs.Octets.{AreOctets};
-ghost use Rattle.bgp_frame.specs.Stream.{HasOneReading};
-ghost use Rattle.bgp_tool.specs.Print.{judgement};
-ghost use Rattle.bgp_tool.specs.HexText.{spelled};
-ghost use Rattle.bgp_tool.specs.CommandLine.{faults_of, hex_of};
+ghost use Rattle.bgp_tool.specs.declared.request.Request.TheVariants.{Show, Check, Narrow, ToHex, FromHex};
+ghost use Rattle.bgp_tool.specs.CommandLine.{faults_of, request_of};
+ghost use Rattle.bgp_tool.specs.Laws.{CanBeDone, flags};
 
-/// Each stream of octets has exactly one list of outcomes and one end: so `show` has one text to print for it.
-pub fn streams_have_one_reading()
-    ensures { (stream : List ℕ) → AreOctets stream → HasOneReading judgement stream }
-{}
-
-/// Hexadecimal text spells octets.
-pub fn text_spells_octets()
-    ensures { (text : List ℕ) → AreOctets (spelled text) }
-{}
-
-/// `show` and `show --hex` can be done, and ask for octets and for hexadecimal text. No word is too few, and `--help` asks for help.
+/// What a user types for each command, without flags and with all of them.
 pub fn words_have_one_meaning()
-    ensures octets { (faults_of (codes "show" ∷ []) ≡ []) × (hex_of (codes "show" ∷ []) ≡ Some (codes "false")) }
-    ensures hexadecimal { (faults_of (codes "show" ∷ codes "--hex" ∷ []) ≡ [])
-        × (hex_of (codes "show" ∷ codes "--hex" ∷ []) ≡ Some (codes "true")) }
+    ensures show { CanBeDone (codes "show" ∷ []) (Show (flags false false) false) }
+    ensures show_hex { CanBeDone (codes "show" ∷ codes "--hex" ∷ codes "--as4" ∷ codes "--ip4" ∷ codes "--ip6" ∷ codes "--internal" ∷ []) (Show (flags true true) true) }
+    ensures check { CanBeDone (codes "check" ∷ []) (Check (flags false false) false) }
+    ensures check_hex { CanBeDone (codes "check" ∷ codes "--internal" ∷ codes "--ip6" ∷ codes "--ip4" ∷ codes "--as4" ∷ codes "--hex" ∷ []) (Check (flags true true) true) }
+    ensures narrow { CanBeDone (codes "narrow" ∷ []) (Narrow (flags true false)) }
+    ensures narrow_all { CanBeDone (codes "narrow" ∷ codes "--ip4" ∷ codes "--ip6" ∷ codes "--internal" ∷ []) (Narrow (flags true true)) }
+    ensures to_hex { CanBeDone (codes "to-hex" ∷ []) ToHex }
+    ensures from_hex { CanBeDone (codes "from-hex" ∷ []) FromHex }
+{}
+
+/// No word is too few, `--help` asks for help, and a flag belongs to its commands.
+pub fn words_can_be_wrong()
     ensures nothing { faults_of [] ≡ error.MissingSubcommand ∷ [] }
     ensures help { faults_of (codes "--help" ∷ []) ≡ error.DisplayHelp ∷ [] }
+    ensures no_flag { faults_of (codes "narrow" ∷ codes "--hex" ∷ []) ≡ error.UnknownArgument ∷ [] }
 {}

@@ -1,24 +1,16 @@
-//! The program `bgp`: its engines over readers and writers, and its command line.
+//! The program `bgp`: its command line over the engines.
 #![tactic(auto)]
 
 mod cli;
-mod fault;
-mod hex_text;
-mod info;
+mod commands;
 pub mod laws;
-mod lines;
-mod open_lines;
-mod output;
-mod printer;
 mod request;
-mod shown;
-mod tally;
 
-pub use bgp_frame::End;
+pub use bgp_engine::{
+    End, Tally, ToolFault, check, check_within, from_hex, from_hex_within, narrow_stream,
+    narrow_within, show, show_within, status, to_hex, to_hex_within,
+};
 pub use cli::command;
-pub use fault::ToolFault;
-pub use shown::show;
-pub use tally::{Tally, status};
 
 #[cfg(test)]
 mod tests;

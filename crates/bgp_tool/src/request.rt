@@ -1,34 +1,81 @@
 //! What the words of the command line ask for.
 
-ghost use Rattle.std.specs.Prelude.{◌≡◌, IfOk, true, false, map};
-ghost use Rattle.clap.specs.Words.{FailsBy, app_of};
-ghost use Rattle.bgp_tool.specs.CommandLine.{Asks, bgp_command, faults_of};
+ghost use Rattle.std.specs.Prelude.{◌≡◌, codes, map, true, Some, IfOk};
+ghost use Rattle.clap.specs.Words.{FailsBy, found_of, rows_of};
+ghost use Rattle.bgp_tool.specs.CommandLine.{Asks, context_of, faults_of, is_set, judged_in, request_by};
 
-use clap::{Arg, ArgAction, Command, Error};
-use std::alloc::{AllocError, Global};
+use crate::commands::bgp;
+use bgp_open::Context;
+use clap::{ArgMatches, Error};
+use std::alloc::Global;
 
 /// What the words ask for.
 #[derive(Clone, Copy)]
 pub(crate) enum Request {
-    Show { hex: bool },
+    Show { ctx: Context, hex: bool },
+    Check { ctx: Context, hex: bool },
+    Narrow { ctx: Context },
+    ToHex,
+    FromHex,
 }
 
-fn bgp<'a>(alloc: Global) -> Result<Command<'a>, AllocError>
-    ensures { IfOk result (λ c. app_of c ≡ bgp_command) }
+// Whether a flag is set.
+fn is_set(flags: &ArgMatches<'_>, name: &str) -> bool
+    ensures { result ≡ is_set name.now (rows_of (found_of flags.now)) }
 {
-    let hex = Arg::new(alloc, "hex")
-        .long("hex")
-        .help("Read hexadecimal text in place of octets")
-        .action(ArgAction::SetTrue);
-    let show = Command::new(alloc, "show")
-        .about("Print the messages of a stream, one after another")
-        .arg(hex)?;
-    Command::new(alloc, "bgp")
-        .about("Show what BGP-4 speakers send each other")
-        .bin_name("bgp")?
-        .no_binary_name(true)
-        .subcommand_required(true)
-        .subcommand(show)
+    match flags.get_str(name) {
+        Some(value) => value == "true",
+        None => false,
+    }
+}
+
+// The context that the flags make.
+fn context(flags: &ArgMatches<'_>, as4: bool) -> Context
+    ensures { result ≡ context_of as4 (rows_of (found_of flags.now)) }
+{
+    Context {
+        internal: is_set(flags, "internal"),
+        as4,
+        ip4: is_set(flags, "ip4"),
+        ip6: is_set(flags, "ip6"),
+        hold: 0,
+    }
+}
+
+// The context that the flags of a command make that shows or checks.
+fn judged_in(flags: &ArgMatches<'_>) -> Context
+    ensures { result ≡ judged_in (rows_of (found_of flags.now)) }
+{
+    let as4 = is_set(flags, "as4");
+    context(flags, as4)
+}
+
+// What a command asks for with these flags.
+fn asked_by(name: &str, flags: &ArgMatches<'_>) -> Request
+    ensures { result ≡ request_by name.now (rows_of (found_of flags.now)) }
+{
+    if name == "show" {
+        return Request::Show {
+            ctx: judged_in(flags),
+            hex: is_set(flags, "hex"),
+        };
+    }
+    if name == "check" {
+        return Request::Check {
+            ctx: judged_in(flags),
+            hex: is_set(flags, "hex"),
+        };
+    }
+    if name == "narrow" {
+        return Request::Narrow {
+            ctx: context(flags, true),
+        };
+    }
+    if name == "to-hex" {
+        Request::ToHex
+    } else {
+        Request::FromHex
+    }
 }
 
 /// The request of the words, which stand without the program's name.
@@ -38,9 +85,7 @@ pub(crate) fn parse<'a>(alloc: Global, words: &'a [&'a str]) -> Result<Option<Re
 {
     let matches = bgp(alloc)?.try_get_matches_from(words)?;
     match matches.subcommand() {
-        Some((_show, flags)) => Ok(Some(Request::Show {
-            hex: flags.get_flag("hex"),
-        })),
+        Some((name, flags)) => Ok(Some(asked_by(name, flags))),
         None => Ok(None),
     }
 }

@@ -2,18 +2,34 @@ use Rattle.std.proofs.Common.{refl}
 use Rattle.clap.proofs.OnLiterals.{clap_on_literals}
 use Rattle.bgp_tool.proofs.laws.words_have_one_meaning.Goals as goal
 
-pub returns-clause-octets : goal.returns-clause-octets
+pub returns-clause-show : goal.returns-clause-show
 unfolding clap_on_literals
-returns-clause-octets c = (refl, refl)
+returns-clause-show c = record { without_fault = refl; asked = refl }
 
-pub returns-clause-hexadecimal : goal.returns-clause-hexadecimal
+pub returns-clause-show_hex : goal.returns-clause-show_hex
 unfolding clap_on_literals
-returns-clause-hexadecimal c = (refl, refl)
+returns-clause-show_hex c = record { without_fault = refl; asked = refl }
 
-pub returns-clause-nothing : goal.returns-clause-nothing
+pub returns-clause-check : goal.returns-clause-check
 unfolding clap_on_literals
-returns-clause-nothing c = refl
+returns-clause-check c = record { without_fault = refl; asked = refl }
 
-pub returns-clause-help : goal.returns-clause-help
+pub returns-clause-check_hex : goal.returns-clause-check_hex
 unfolding clap_on_literals
-returns-clause-help c = refl
+returns-clause-check_hex c = record { without_fault = refl; asked = refl }
+
+pub returns-clause-narrow : goal.returns-clause-narrow
+unfolding clap_on_literals
+returns-clause-narrow c = record { without_fault = refl; asked = refl }
+
+pub returns-clause-narrow_all : goal.returns-clause-narrow_all
+unfolding clap_on_literals
+returns-clause-narrow_all c = record { without_fault = refl; asked = refl }
+
+pub returns-clause-to_hex : goal.returns-clause-to_hex
+unfolding clap_on_literals
+returns-clause-to_hex c = record { without_fault = refl; asked = refl }
+
+pub returns-clause-from_hex : goal.returns-clause-from_hex
+unfolding clap_on_literals
+returns-clause-from_hex c = record { without_fault = refl; asked = refl }

@@ -1,9 +1,0 @@
-use Rattle.std.proofs.Common.{◌≡◌, ◌++◌, take}
-use Rattle.std.specs.List.{flat_map}
-use Rattle.std.specs.String.{string_bytes}
-use Rattle.bgp_tool.specs.OpenText.{capability_line}
-use Rattle.bgp_tool.proofs.open_lines.put_capabilities.Given as goal
-
--- the lines so far are those of the capabilities so far
-abbrev pub invariant-loop-capability : goal.invariant-loop-capability
-invariant-loop-capability l = string_bytes l.text ≡ string_bytes l.initial.text ++ flat_map capability_line (take l.capability-index l.caps)

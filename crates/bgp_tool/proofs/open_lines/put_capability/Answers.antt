@@ -1,4 +1,0 @@
-use Rattle.bgp_tool.proofs.open_lines.put_capability.Goals as goal
-
-pub returns-in-Multi : goal.returns-in-Multi
-returns-in-Multi c = rw c.in-Multi.is c.write.ensures.bytes
