@@ -1,4 +1,4 @@
-use Rattle.std.proofs.Common.{ℕ, true, Some, ap, subst, ◌∙◌}
+use Rattle.std.proofs.Common.{true, Some, ap, subst, ◌∙◌}
 use Rattle.bgp_msg.specs.declared.outcome.Outcome.TheVariants as outcome
 use Rattle.bgp_msg.specs.Decoder.{Decoding, IsPulled}
 use Rattle.bgp_msg.proofs.Nexts.{at_hand}
