@@ -1,259 +1,238 @@
 mod failing;
-mod opens;
-mod streams;
 
 use crate::*;
 use failing::{Drip, Page};
-use opens::{DAEMONS, OPENS};
 use std::process::Abort;
 use std::test::*;
-use streams::STREAMS;
 
-fn octets_of(rt: &(impl Abort + AllocGlobal), text: &str) -> Vec<u8> {
-    let mut digits = Vec::new(rt.alloc());
-    for character in text.bytes() {
-        if character.is_ascii_hexdigit() {
-            assert!(rt; digits.push(character).is_ok());
-        }
-    }
-    hex::decode(rt.alloc(), digits.as_slice()).expect(rt, "pairs of digits")
-}
+/// A KEEPALIVE.
+const KEEPALIVE: &str = "ffffffffffffffffffffffffffffffff 0013 04\n";
 
-fn assert_shown(
-    rt: &(impl Abort + AllocGlobal),
-    hex: bool,
-    input: &[u8],
-    step: usize,
-    text: &str,
-    answer: u8,
-) {
-    let mut reader = Drip::new(input, step);
-    let mut page = Page::new(rt.alloc());
-    let outcome = show(rt.alloc(), hex, &mut reader, &mut page);
-    assert!(rt; page.text.as_slice() == text.as_bytes(), "{text}");
-    assert_eq!(rt; status(&outcome), answer, "{text}");
-}
+/// An UPDATE of AS 65000, with AS numbers of four octets.
+const UPDATE: &str =
+    "ffffffffffffffffffffffffffffffff 002d02 0000 0014 40010100 40020602010000fde8 400304c0000201 080a";
 
-// However they are cut, and as octets too where they are octets.
-fn assert_rows(rt: &(impl Abort + AllocGlobal), rows: &[(&str, &str, u8)]) {
-    for (text, lines, answer) in rows {
-        for step in [1, 7, 4096] {
-            assert_shown(rt, true, text.as_bytes(), step, lines, *answer);
-            if !text.contains('z') {
-                let octets = octets_of(rt, text);
-                assert_shown(rt, false, octets.as_slice(), step, lines, *answer);
-            }
-        }
-    }
-}
+/// An UPDATE of AS 200000.
+const WIDE: &str =
+    "ffffffffffffffffffffffffffffffff 002d02 0000 0014 40010100 400206020100030d40 400304c0000201 080a";
 
-#[test]
-fn worked_streams(rt: HostRuntime) {
-    assert_rows(&rt, &STREAMS);
-}
+/// The same with numbers of two octets, in digits.
+const NARROWED: &str =
+    "ffffffffffffffffffffffffffffffff0034020000001b4001010040020402015ba0400304c0000201c01106020100030d40080a\n";
 
-#[test]
-fn worked_opens(rt: HostRuntime) {
-    assert_rows(&rt, &OPENS);
-}
+/// Words, text in, text out, what standard error begins with, and the status.
+type Run<'a> = (&'a [&'a str], &'a str, &'a str, &'a str, u8);
 
-#[test]
-fn what_daemons_wrote(rt: HostRuntime) {
-    assert_rows(&rt, &DAEMONS);
-}
-
-#[test]
-fn bad_hexadecimal_text(rt: HostRuntime) {
-    for (text, place) in [
-        ("f f", 1),
-        ("f\n", 1),
-        ("ff f", 3),
-        ("\t", 0),
-        ("ff\n0g", 4),
-        ("0x", 1),
-        ("F", 0),
-    ] {
-        for step in [1, 4096] {
-            let mut reader = Drip::new(text.as_bytes(), step);
-            let mut page = Page::new(rt.alloc());
-            let outcome = show(rt.alloc(), true, &mut reader, &mut page);
-            assert_eq!(rt; outcome, Err(ToolFault::BadHex(place)), "{text}");
-            assert!(rt; page.text.is_empty());
-            assert_eq!(rt; status(&outcome), 1);
-        }
-    }
-}
-
-#[test]
-fn a_tally(rt: HostRuntime) {
-    let text = "ffffffffffffffffffffffffffffffff 0013 04 ffffffffffffffffffffffffffffffff 0017 05";
-    let mut page = Page::new(rt.alloc());
-    let outcome = show(
-        rt.alloc(),
-        true,
-        &mut Drip::new(text.as_bytes(), 5),
-        &mut page,
-    );
-    let tally = Tally {
-        messages: 1,
-        took: 1,
-        withdrawn: 0,
-        resets: 1,
-        end: End::Head,
-    };
-    assert_eq!(rt; outcome, Ok(tally));
-}
-
-#[test]
-fn failing_readers(rt: HostRuntime) {
-    for (text, lines, _) in STREAMS {
-        for calls in 0..13u32 {
-            let mut reader = Drip::new(text.as_bytes(), 9).failing_after(calls);
-            let mut page = Page::new(rt.alloc());
-            let outcome = show(rt.alloc(), true, &mut reader, &mut page);
-            if reader.has_failed() {
-                assert_eq!(rt; outcome, Err(ToolFault::Read));
-                assert_eq!(rt; status(&outcome), 4);
-                assert!(rt; page.text.len() <= lines.find("end ").unwrap_or(0));
-                assert!(rt; lines.as_bytes().starts_with(page.text.as_slice()));
-            }
-        }
-    }
-}
-
-#[test]
-fn failing_writers(rt: HostRuntime) {
-    for (text, lines, _) in STREAMS {
-        for room in 0..60usize {
-            for takes_nothing in [false, true] {
-                let mut page = Page::new(rt.alloc()).with_room(room, takes_nothing);
-                let outcome = show(
-                    rt.alloc(),
-                    true,
-                    &mut Drip::new(text.as_bytes(), 4096),
-                    &mut page,
-                );
-                if lines.len() > room {
-                    assert_eq!(rt; outcome, Err(ToolFault::Write));
-                    assert_eq!(rt; status(&outcome), 4);
-                    assert_eq!(rt; page.text.len(), room);
-                }
-                assert!(rt; lines.as_bytes().starts_with(page.text.as_slice()));
-            }
-        }
-    }
-}
-
-/// Passes too where any one allocation is refused: what was written is then a front of the lines, and the show can be run again.
-#[test]
-fn a_refused_growth_ends_the_show(rt: HostRuntime) {
-    for (text, lines, _) in DAEMONS {
-        let mut page = Page::new(rt.alloc());
-        let mut outcome = show(
-            rt.alloc(),
-            true,
-            &mut Drip::new(text.as_bytes(), 40),
-            &mut page,
-        );
-        if let Err(fault) = outcome {
-            // The page is the writer, and may be what was refused.
-            assert!(rt; fault == ToolFault::Memory || fault == ToolFault::Write);
-            assert!(rt; lines.as_bytes().starts_with(page.text.as_slice()));
-            page = Page::new(rt.alloc());
-            outcome = show(
-                rt.alloc(),
-                true,
-                &mut Drip::new(text.as_bytes(), 40),
-                &mut page,
-            );
-        }
-        assert!(rt; outcome.is_ok());
-        assert!(rt; page.text.as_slice() == lines.as_bytes());
-    }
-}
-
-#[test]
-fn a_block_is_written_in_one_go(rt: HostRuntime) {
-    let text =
-        "ffffffffffffffffffffffffffffffff 0013 04\nffffffffffffffffffffffffffffffff 0013 04\n";
-    let mut page = Page::new(rt.alloc());
-    assert!(rt;
-        show(
-            rt.alloc(),
-            true,
-            &mut Drip::new(text.as_bytes(), 4096),
-            &mut page
-        )
-        .is_ok()
-    );
-    assert_eq!(rt; page.writes, 2, "the lines of the block, and the last line");
-}
-
-#[test]
-fn texts_of_faults(rt: HostRuntime) -> Result<(), Fail> {
-    for (fault, text, answer) in [
-        (ToolFault::Memory, "memory", 3),
-        (ToolFault::Read, "read failed", 4),
-        (ToolFault::Write, "write failed", 4),
-        (ToolFault::BadHex(7), "bad hex at 7", 1),
-    ] {
-        assert_eq!(rt; fault.to_string(rt.alloc())?.as_str(), text);
-        assert_eq!(rt; status(&Err(fault)), answer);
-    }
-    Ok(())
-}
-
-fn assert_command(
-    rt: &(impl Abort + AllocGlobal),
-    words: &[&str],
-    input: &str,
-    output: &str,
-    errors: &str,
-    answer: u8,
-) {
+fn assert_run(rt: &(impl Abort + AllocGlobal), run: &Run<'_>) {
+    let (words, input, output, errors, status) = run;
     let mut page = Page::new(rt.alloc());
     let mut told = Page::new(rt.alloc());
-    let result = command(
+    let answer = command(
         rt.alloc(),
         words,
         &mut Drip::new(input.as_bytes(), 4096),
         &mut page,
         &mut told,
     );
-    assert_eq!(rt; result, answer);
-    assert!(rt; page.text.as_slice().starts_with(output.as_bytes()));
-    assert_eq!(rt; page.text.is_empty(), output.is_empty());
-    assert!(rt; told.text.as_slice().starts_with(errors.as_bytes()));
+    assert!(rt; page.text.as_slice() == output.as_bytes(), "{output}");
+    assert!(rt;
+        told.text.as_slice().starts_with(errors.as_bytes()),
+        "{errors}"
+    );
     assert_eq!(rt; told.text.is_empty(), errors.is_empty());
+    assert_eq!(rt; answer, *status);
+}
+
+fn assert_runs(rt: &(impl Abort + AllocGlobal), runs: &[Run<'_>]) {
+    for run in runs {
+        assert_run(rt, run);
+    }
 }
 
 #[test]
-fn command_lines(rt: HostRuntime) {
-    let one = "ffffffffffffffffffffffffffffffff 0013 04";
-    assert_command(
+fn show_and_check(rt: HostRuntime) {
+    let shown =
+        "0 45 UPDATE take\n  origin IGP\n  as_path seq 65000\n  next_hop 192.0.2.1\n  nlri 10.0.0.0/8\nend wait 0\n";
+    let withdrawn = "0 45 UPDATE withdraw\n  route 10.0.0.0/8\n  note 8 2 SegmentEnd\nend wait 0\n";
+    assert_runs(
         &rt,
-        &["show", "--hex"],
-        one,
-        "0 19 KEEPALIVE\nend wait 0\n",
-        "",
-        0,
+        &[
+            (&["show", "--hex", "--as4"], UPDATE, shown, "", 0),
+            (&["show", "--as4", "--hex"], UPDATE, shown, "", 0),
+            (&["show", "--hex"], UPDATE, withdrawn, "", 1),
+            (
+                &["check", "--hex", "--as4"],
+                UPDATE,
+                "messages 1 took 1 withdraw 0 reset 0\nend wait 0\n",
+                "",
+                0,
+            ),
+            (
+                &["check", "--hex"],
+                UPDATE,
+                "messages 1 took 0 withdraw 1 reset 0\nend wait 0\n",
+                "",
+                1,
+            ),
+            (&["show"], "", "end wait 0\n", "", 0),
+            (&["show"], "x", "end wait 1\n", "", 1),
+            (
+                &["check"],
+                "x",
+                "messages 0 took 0 withdraw 0 reset 0\nend wait 1\n",
+                "",
+                1,
+            ),
+            (&["show", "--hex"], "f", "", "bgp: bad hex at 0\n", 1),
+            (&["check", "--hex"], "fg", "", "bgp: bad hex at 1\n", 1),
+        ],
     );
-    assert_command(&rt, &["show", "--hex"], "f", "", "bgp: bad hex at 0\n", 1);
-    assert_command(&rt, &["show"], "", "end wait 0\n", "", 0);
-    assert_command(&rt, &["show"], "x", "end wait 1\n", "", 1);
-    assert_command(&rt, &["--help"], "", "Show what BGP-4 speakers send", "", 0);
-    assert_command(
+}
+
+#[test]
+fn families_and_internal_sessions(rt: HostRuntime) {
+    let family = "  note 4 14 Family\n";
+    let reach =
+        "  mp_reach ip6 next 2001:0db8:0000:0000:0000:0000:0000:0001\n  mp_nlri 2001:0db8:0000:0000:0000:0000:0000:0000/32\n";
+    for (words, is_family, is_internal) in [
+        (["show", "--hex", "--as4"].as_slice(), false, false),
+        (&["show", "--hex", "--as4", "--ip4"], false, false),
+        (&["show", "--hex", "--as4", "--ip6"], true, false),
+        (&["show", "--hex", "--as4", "--internal"], false, true),
+        (
+            &["show", "--hex", "--as4", "--ip6", "--internal"],
+            true,
+            true,
+        ),
+    ] {
+        let mut page = Page::new(rt.alloc());
+        let mut told = Page::new(rt.alloc());
+        let stream =
+            "ffffffffffffffffffffffffffffffff 0042 02 0000 002b 800e1a 0002 01 10 20010db8000000000000000000000001 00 2020010db8 40010100 400200 40050400000064";
+        let status = command(
+            rt.alloc(),
+            words,
+            &mut Drip::new(stream.as_bytes(), 4096),
+            &mut page,
+            &mut told,
+        );
+        assert_eq!(rt; status, 0, "it is taken in each context");
+        let text = str_of(&rt, &page);
+        assert_eq!(rt; text.contains(reach), is_family);
+        assert_eq!(rt; text.contains(family), !is_family);
+        assert_eq!(rt; text.contains("  local_pref 100\n"), is_internal);
+        assert_eq!(rt; text.contains(" 5 External\n"), !is_internal);
+    }
+}
+
+fn str_of<'a>(rt: &(impl Abort + AllocGlobal), page: &'a Page) -> &'a str {
+    str::from_utf8(page.text.as_slice()).expect(rt, "text")
+}
+
+#[test]
+fn octets_and_digits(rt: HostRuntime) {
+    let line = "ffffffffffffffffffffffffffffffff001304\n";
+    assert_runs(
         &rt,
-        &["show", "--help"],
-        "",
-        "Print the messages of a stream",
-        "",
-        0,
+        &[
+            (&["from-hex"], "41 42\r\n43", "ABC", "", 0),
+            (&["from-hex"], "4", "", "bgp: bad hex at 0\n", 1),
+            (&["to-hex"], "", "", "", 0),
+            (&["to-hex"], "AB", "rest 4142\n", "", 1),
+            (&["to-hex"], "AAAAAAAAAAAAAAAAAAAA", "fault 1/1 -\n", "", 1),
+            (&["narrow"], "", "", "", 0),
+            (&["narrow"], "A", "", "bgp: cannot narrow at 0\n", 1),
+        ],
     );
-    assert_command(&rt, &[], "", "", "error: ", 2);
-    assert_command(&rt, &["shew"], "", "", "error: ", 2);
-    assert_command(&rt, &["show", "--hexe"], "", "", "error: ", 2);
-    assert_command(&rt, &["show", "more"], "", "", "error: ", 2);
+    let octets = piped(&rt, &["from-hex"], KEEPALIVE.as_bytes(), 0);
+    assert_eq!(rt; octets.len(), 19);
+    assert!(rt; piped(&rt, &["to-hex"], &octets, 0).as_slice() == line.as_bytes());
+}
+
+/// What a command writes, which ends with this status.
+fn piped(rt: &(impl Abort + AllocGlobal), words: &[&str], input: &[u8], status: u8) -> Vec<u8> {
+    let mut page = Page::new(rt.alloc());
+    let mut told = Page::new(rt.alloc());
+    let answer = command(
+        rt.alloc(),
+        words,
+        &mut Drip::new(input, 4096),
+        &mut page,
+        &mut told,
+    );
+    assert_eq!(rt; answer, status);
+    page.text
+}
+
+#[test]
+fn a_session_is_narrowed(rt: HostRuntime) {
+    let octets = piped(&rt, &["from-hex"], WIDE.as_bytes(), 0);
+    let narrowed = piped(&rt, &["narrow", "--ip4", "--ip6"], &octets, 0);
+    assert_eq!(rt; narrowed.len(), 52);
+    let digits = piped(&rt, &["to-hex"], &narrowed, 0);
+    assert!(rt; digits.as_slice() == NARROWED.as_bytes());
+}
+
+#[test]
+fn faults_of_the_command_line(rt: HostRuntime) {
+    assert_runs(
+        &rt,
+        &[
+            (&[], "", "", "error: ", 2),
+            (&["shew"], "", "", "error: ", 2),
+            (&["show", "--hexe"], "", "", "error: ", 2),
+            (&["show", "more"], "", "", "error: ", 2),
+            (&["show", "--hex", "--hex"], "", "", "error: ", 2),
+            (&["show", "--hex=true"], "", "", "error: ", 2),
+            (&["narrow", "--as4"], "", "", "error: ", 2),
+            (&["narrow", "--hex"], "", "", "error: ", 2),
+            (&["to-hex", "--hex"], "", "", "error: ", 2),
+            (&["from-hex", "--ip4"], "", "", "error: ", 2),
+            (&["--version"], "", "", "error: ", 2),
+        ],
+    );
+}
+
+#[test]
+fn help(rt: HostRuntime) {
+    for (words, front, example) in [
+        (
+            ["--help"].as_slice(),
+            "Show, check and convert",
+            "| bgp show --hex",
+        ),
+        (&["help"], "Show, check and convert", "| bgp show --hex"),
+        (
+            &["show", "--help"],
+            "Print what each message comes to",
+            "| bgp show --hex",
+        ),
+        (
+            &["check", "--help"],
+            "Count what the messages come to",
+            "| bgp check --hex",
+        ),
+        (
+            &["narrow", "-h"],
+            "Rewrite a session",
+            "| bgp narrow | bgp to-hex",
+        ),
+        (
+            &["help", "to-hex"],
+            "Print each message as one line",
+            "| bgp to-hex",
+        ),
+        (
+            &["from-hex", "--help"],
+            "Write the octets",
+            "| bgp from-hex | bgp show",
+        ),
+    ] {
+        let text = piped(&rt, words, b"", 0);
+        assert!(rt; text.as_slice().starts_with(front.as_bytes()), "{front}");
+        let text = str::from_utf8(text.as_slice()).expect(&rt, "text");
+        assert!(rt; text.contains(example), "{example}");
+    }
 }
 
 #[test]
@@ -269,4 +248,26 @@ fn help_that_cannot_be_written(rt: HostRuntime) {
     );
     assert_eq!(rt; answer, 4);
     assert!(rt; told.text.as_slice() == b"bgp: write failed\n".as_slice());
+}
+
+#[test]
+fn a_fault_is_told_once(rt: HostRuntime) {
+    for word in ["show", "check", "narrow", "to-hex", "from-hex"] {
+        let mut page = Page::new(rt.alloc());
+        let mut told = Page::new(rt.alloc());
+        let mut reader = Drip::new(b"", 1).failing_after(0);
+        let answer = command(rt.alloc(), &[word], &mut reader, &mut page, &mut told);
+        assert_eq!(rt; answer, 4);
+        assert!(rt; told.text.as_slice() == b"bgp: read failed\n".as_slice());
+        assert!(rt; page.text.is_empty());
+    }
+}
+
+#[test]
+fn standard_error_that_cannot_be_written(rt: HostRuntime) {
+    let mut page = Page::new(rt.alloc());
+    let mut told = Page::new(rt.alloc()).with_room(0, true);
+    let mut reader = Drip::new(b"g", 1);
+    let answer = command(rt.alloc(), &["from-hex"], &mut reader, &mut page, &mut told);
+    assert_eq!(rt; answer, 1);
 }

@@ -63,6 +63,19 @@ fn assert_message(
     message: &[u8],
 ) -> Result<(), Fail> {
     for at in 0..message.len() {
+        assert_place(rt, ctx, message, at)?;
+    }
+    Ok(())
+}
+
+/// The front of a message up to a place, and each change of the octet there.
+fn assert_place(
+    rt: &(impl Abort + AllocGlobal),
+    ctx: &Context,
+    message: &[u8],
+    at: usize,
+) -> Result<(), Fail> {
+    if at < message.len() {
         assert_front(rt, ctx, &message[..at])?;
         assert_changes_at(rt, ctx, message, at)?;
     }
@@ -90,8 +103,19 @@ fn changes_of_an_extended_length(rt: HostRuntime) -> Result<(), Fail> {
 }
 
 #[test]
-fn changes_of_ipv6_routes_twice(rt: HostRuntime) -> Result<(), Fail> {
-    assert_message(&rt, &wide(), TWICE)
+fn changes_of_ipv6_routes_twice_in_front(rt: HostRuntime) -> Result<(), Fail> {
+    for at in 0..43usize {
+        assert_place(&rt, &wide(), TWICE, at)?;
+    }
+    Ok(())
+}
+
+#[test]
+fn changes_of_ipv6_routes_twice_behind(rt: HostRuntime) -> Result<(), Fail> {
+    for at in 43..85usize {
+        assert_place(&rt, &wide(), TWICE, at)?;
+    }
+    Ok(())
 }
 
 #[test]
