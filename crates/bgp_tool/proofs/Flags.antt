@@ -1,6 +1,6 @@
 -- What a parse found of a command and its flags.
-use Rattle.std.proofs.Common.{◌≡◌, ℕ, List, Option, None, Some, option_map, refl, sym, ap, ◌∙◌}
-use Rattle.clap.specs.Words.{Row, Text, found_of, rows_of, first_of, first_value, subcommand_name_of, subcommand_rows, subcommand_rows_of}
+use Rattle.std.proofs.Common.{◌≡◌, List, Option, None, Some, option_map, refl, sym, ap}
+use Rattle.clap.specs.Words.{Row, Text, found_of, rows_of, first_value, subcommand_name_of, subcommand_rows, subcommand_rows_of}
 use Rattle.std.proofs.Common.{Box, Global}
 use Rattle.std.specs.Box.{box_value}
 use Rattle.clap.specs.declared.parser.matches.ArgMatches.{ArgMatches}

@@ -53,7 +53,8 @@ fn assert_runs(rt: &(impl Abort + AllocGlobal), runs: &[Run<'_>]) {
 fn show_and_check(rt: HostRuntime) {
     let shown =
         "0 45 UPDATE take\n  origin IGP\n  as_path seq 65000\n  next_hop 192.0.2.1\n  nlri 10.0.0.0/8\nend wait 0\n";
-    let withdrawn = "0 45 UPDATE withdraw\n  route 10.0.0.0/8\n  note 8 2 SegmentType\nend wait 0\n";
+    let withdrawn =
+        "0 45 UPDATE withdraw\n  route 10.0.0.0/8\n  note 8 2 SegmentType\nend wait 0\n";
     assert_runs(
         &rt,
         &[

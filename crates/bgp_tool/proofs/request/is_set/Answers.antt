@@ -1,4 +1,4 @@
-use Rattle.std.proofs.Common.{Option, Some, None, refl, sym, ap, ◌∙◌}
+use Rattle.std.proofs.Common.{ap, ◌∙◌}
 use Rattle.bgp_tool.specs.CommandLine.{is_true}
 use Rattle.bgp_tool.proofs.Flags.{is_set-rows}
 use Rattle.bgp_tool.proofs.request.is_set.Goals as goal

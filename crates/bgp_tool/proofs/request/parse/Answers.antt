@@ -1,5 +1,5 @@
-use Rattle.std.proofs.Common.{◌≡◌, codes, map, option_map, List, Some, refl, sym, ap, ◌∙◌}
-use Rattle.clap.specs.Words.{App, Row, Text, app_of, fault_of, found_of, rows_of, is_simple, is_simple_and_free, subcommand_of, subcommand_rows_of}
+use Rattle.std.proofs.Common.{◌≡◌, map, option_map, List, Some, sym, ap, ◌∙◌}
+use Rattle.clap.specs.Words.{App, Text, app_of, fault_of, found_of, rows_of, is_simple, is_simple_and_free, subcommand_of, subcommand_rows_of}
 use Rattle.bgp_tool.specs.CommandLine.{bgp_command, request_by}
 use Rattle.bgp_tool.specs.declared.request.Request.{Request}
 use Rattle.bgp_tool.proofs.Flags.{found_both, name-rows}
