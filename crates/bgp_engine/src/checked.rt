@@ -43,6 +43,15 @@ fn class_of_update(ctx: &Context, body: &[u8]) -> Class
     class_of_view(&view)
 }
 
+// What an OPEN counts as, which takes memory. Its outcome is large, so it has a place of its own.
+#[inline(never)]
+fn class_of_open(alloc: Global, ctx: &Context, frame: Frame<'_>) -> Result<Class, AllocError>
+    requires { IsLength frame.kind (19 + length frame.body.now) }
+    ensures { IfOk result (λ class. class ≡ class_of (out_of ctx.now (record { kind = frame.entry.kind; body = frame.entry.body.now }))) }
+{
+    Ok(class_of(&out_frame(alloc, ctx, frame)?))
+}
+
 // What a message counts as. Only an OPEN's value takes memory.
 fn class_of_frame(alloc: Global, ctx: &Context, frame: Frame<'_>) -> Result<Class, AllocError>
     requires { IsLength frame.kind (19 + length frame.body.now) }
@@ -50,7 +59,8 @@ fn class_of_frame(alloc: Global, ctx: &Context, frame: Frame<'_>) -> Result<Clas
 {
     match frame.kind {
         Kind::Update => Ok(class_of_update(ctx, frame.body)),
-        _ => Ok(class_of(&out_frame(alloc, ctx, frame)?)),
+        Kind::Open => class_of_open(alloc, ctx, frame),
+        Kind::Notification | Kind::Keepalive => Ok(Class::Took),
     }
 }
 

@@ -1,21 +1,155 @@
 //! The engine `show`.
 
-ghost use Rattle.std.specs.Prelude.{◌≡◌, []};
+ghost use Rattle.std.specs.Prelude.{◌≡◌, ◌+◌, ◌≤◌, [], length, IfOk};
 ghost use Rattle.std.specs.String.{string_bytes};
+ghost use Rattle.bgp_frame.specs.Kind.{IsLength};
+ghost use Rattle.bgp_frame.specs.Notification.{notification_of_view};
+ghost use Rattle.bgp_msg.specs.Outcome.{of_verdict, out_of};
+ghost use Rattle.bgp_msg.specs.declared.message.Message.TheVariants as message;
+ghost use Rattle.bgp_msg.specs.declared.outcome.Outcome.TheVariants as outcome;
+ghost use Rattle.bgp_update.specs.Verdict.{verdict_of};
+ghost use Rattle.bgp_update.specs.View.{notes_value, routes_value, update_value, view_value};
 ghost use Rattle.bgp_engine.specs.Run.{Answers};
-ghost use Rattle.bgp_engine.specs.Show.{Shown};
+ghost use Rattle.bgp_engine.specs.Show.{Shown, WritesOutcome};
 
 use crate::class::{Class, class_of};
 use crate::fault::ToolFault;
 use crate::page::Page;
 use crate::tally::Tally;
 use crate::walk::walk_stream;
-use bgp_frame::{Frame, HeadFault};
+use bgp_frame::{Frame, HeadFault, Kind, NotificationView};
 use bgp_msg::{Outcome, out_frame};
 use bgp_open::Context;
-use bgp_text::{put_end, put_outcome};
+use bgp_text::{put_end, put_keepalive, put_outcome, put_update_taken, put_update_withdrawn};
+use bgp_update::{Note, UpdateView, View, view_update};
+use bgp_wire::List;
 use std::alloc::{AllocError, Global};
 use std::io::{Read, Write};
+
+// The notes on an UPDATE, with memory of their own.
+fn own_notes(alloc: Global, view: &UpdateView<'_>) -> Result<List<Note>, AllocError>
+    ensures { IfOk result (λ notes. notes ≡ notes_value view.now) }
+{
+    let notes = view.notes().collect(alloc)?;
+    Ok(List::from_vec(notes))
+}
+
+// Adds the lines of an UPDATE that is taken.
+fn put_taken(
+    alloc: Global,
+    text: &mut String,
+    place: u64,
+    len: u16,
+    view: &UpdateView<'_>,
+) -> Result<Class, AllocError>
+    ensures { IfOk result (λ class. WritesOutcome (string_bytes text.old) (string_bytes text.new) place len (outcome.Took (message.Update (update_value view.now)) (notes_value view.now)) class) }
+{
+    let update = view.own(alloc)?;
+    let notes = own_notes(alloc, view)?;
+    put_update_taken(alloc, text, place, len, &update, &notes)?;
+    Ok(Class::Took)
+}
+
+// Adds the lines of an UPDATE whose routes are withdrawn.
+fn put_withdrawn(
+    alloc: Global,
+    text: &mut String,
+    place: u64,
+    len: u16,
+    view: &UpdateView<'_>,
+) -> Result<Class, AllocError>
+    ensures { IfOk result (λ class. WritesOutcome (string_bytes text.old) (string_bytes text.new) place len (outcome.Withdraw (routes_value view.now) (notes_value view.now)) class) }
+{
+    let routes = view.routes(alloc)?;
+    let notes = own_notes(alloc, view)?;
+    put_update_withdrawn(text, place, len, &routes, &notes)?;
+    Ok(Class::Withdrawn)
+}
+
+// Adds the lines of an outcome. One is large, so it has a place of its own.
+#[inline(never)]
+fn put_whole(
+    alloc: Global,
+    text: &mut String,
+    place: u64,
+    len: u16,
+    outcome: &Outcome,
+) -> Result<Class, AllocError>
+    ensures { IfOk result (λ class. WritesOutcome (string_bytes text.old) (string_bytes text.new) place len outcome.now class) }
+{
+    put_outcome(alloc, text, place, len, outcome)?;
+    Ok(class_of(outcome))
+}
+
+// Adds the line of a reset.
+#[inline(never)]
+fn put_reset(
+    alloc: Global,
+    text: &mut String,
+    place: u64,
+    len: u16,
+    told: NotificationView<'_>,
+) -> Result<Class, AllocError>
+    ensures { IfOk result (λ class. WritesOutcome (string_bytes text.old) (string_bytes text.new) place len (outcome.Reset (notification_of_view told.entry)) class) }
+{
+    put_whole(alloc, text, place, len, &Outcome::Reset(told.own()))
+}
+
+// Adds the lines of an UPDATE, without its outcome as a whole.
+fn put_update(
+    alloc: Global,
+    ctx: &Context,
+    text: &mut String,
+    place: u64,
+    frame: Frame<'_>,
+) -> Result<Class, AllocError>
+    requires { length frame.body.now ≤ 4077 }
+    ensures { IfOk result (λ class. WritesOutcome (string_bytes text.old) (string_bytes text.new) place frame.entry.len (of_verdict (verdict_of ctx.now frame.entry.body.now)) class) }
+{
+    match view_update(ctx, frame.body) {
+        View::Take(view) => put_taken(alloc, text, place, frame.len, &view),
+        View::Withdraw(view) => put_withdrawn(alloc, text, place, frame.len, &view),
+        View::Reset(told) => put_reset(alloc, text, place, frame.len, told),
+    }
+}
+
+// Adds the lines of an OPEN or a NOTIFICATION.
+#[inline(never)]
+fn put_rare(
+    alloc: Global,
+    ctx: &Context,
+    text: &mut String,
+    place: u64,
+    frame: Frame<'_>,
+) -> Result<Class, AllocError>
+    requires { IsLength frame.kind (19 + length frame.body.now) }
+    ensures { IfOk result (λ class. WritesOutcome (string_bytes text.old) (string_bytes text.new) place frame.entry.len (out_of ctx.now (record { kind = frame.entry.kind; body = frame.entry.body.now })) class) }
+{
+    let len = frame.len;
+    let outcome = out_frame(alloc, ctx, frame)?;
+    put_whole(alloc, text, place, len, &outcome)
+}
+
+// Adds the lines of a message.
+fn put_frame(
+    alloc: Global,
+    ctx: &Context,
+    text: &mut String,
+    place: u64,
+    frame: Frame<'_>,
+) -> Result<Class, AllocError>
+    requires { IsLength frame.kind (19 + length frame.body.now) }
+    ensures { IfOk result (λ class. WritesOutcome (string_bytes text.old) (string_bytes text.new) place frame.entry.len (out_of ctx.now (record { kind = frame.entry.kind; body = frame.entry.body.now })) class) }
+{
+    match frame.kind {
+        Kind::Update => put_update(alloc, ctx, text, place, frame),
+        Kind::Keepalive => {
+            put_keepalive(text, place, frame.len)?;
+            Ok(Class::Took)
+        }
+        Kind::Open | Kind::Notification => put_rare(alloc, ctx, text, place, frame),
+    }
+}
 
 /// The lines of each message.
 #[derive(Drop)]
@@ -37,10 +171,7 @@ impl Page for ShowPage {
     ghost told = { λ page. string_bytes page.text };
 
     fn message(&mut self, place: u64, frame: Frame<'_>) -> Result<Class, AllocError> {
-        let len = frame.len;
-        let outcome = out_frame(self.alloc, &self.ctx, frame)?;
-        put_outcome(self.alloc, &mut self.text, place, len, &outcome)?;
-        Ok(class_of(&outcome))
+        put_frame(self.alloc, &self.ctx, &mut self.text, place, frame)
     }
 
     fn fault(&mut self, place: u64, fault: HeadFault) -> Result<(), AllocError> {

@@ -16,7 +16,7 @@ mod update_lines;
 
 pub use end::put_end;
 pub use info::{info_text, notification_text};
-pub use outcome_lines::put_outcome;
+pub use outcome_lines::{put_keepalive, put_outcome, put_update_taken, put_update_withdrawn};
 
 #[cfg(test)]
 mod tests;

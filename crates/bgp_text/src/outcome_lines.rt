@@ -1,7 +1,9 @@
 //! The lines of an outcome.
 
-ghost use Rattle.std.specs.Prelude.{◌≡◌, ◌++◌, OnOk};
+ghost use Rattle.std.specs.Prelude.{◌≡◌, ◌++◌, [], OnOk};
 ghost use Rattle.std.specs.String.{string_bytes};
+ghost use Rattle.bgp_msg.specs.declared.message.Message.TheVariants as message;
+ghost use Rattle.bgp_msg.specs.declared.outcome.Outcome.TheVariants as outcome;
 ghost use Rattle.bgp_text.specs.Outcome.{head_line, notification_line, reset_name, reset_line, message_lines, took_lines};
 ghost use Rattle.bgp_text.specs.Outcome.{withdraw_lines, outcome_lines};
 
@@ -12,7 +14,7 @@ use crate::update_lines::{put_routes, put_update};
 use bgp_frame::Notification;
 use bgp_msg::{Message, Outcome};
 use bgp_numbers::error;
-use bgp_update::{Note, Routes};
+use bgp_update::{Note, Routes, Update};
 use bgp_wire::List;
 use std::alloc::{AllocError, Global};
 
@@ -61,6 +63,21 @@ fn put_reset(
     write!(text, "{place} {len} {name} reset {told}\n")
 }
 
+/// The lines of an UPDATE that is taken, but those of its notes.
+#[tactic(auto, unfolding(crate::specs::Outcome::message_lines))]
+fn put_update_lines(
+    alloc: Global,
+    text: &mut String,
+    place: u64,
+    len: u16,
+    update: &Update,
+) -> Result<(), AllocError>
+    ensures { OnOk result (string_bytes text.new ≡ string_bytes text.old ++ message_lines place len (message.Update update.now)) }
+{
+    put_head(text, place, len, "UPDATE take")?;
+    put_update(alloc, text, update)
+}
+
 /// The lines of a message that is taken, but those of its notes.
 #[tactic(auto, unfolding(crate::specs::Outcome::message_lines))]
 fn put_message(
@@ -77,10 +94,7 @@ fn put_message(
             put_head(text, place, len, "OPEN")?;
             put_open(alloc, text, open)
         }
-        Message::Update(update) => {
-            put_head(text, place, len, "UPDATE take")?;
-            put_update(alloc, text, update)
-        }
+        Message::Update(update) => put_update_lines(alloc, text, place, len, update),
         Message::Notification(told) => put_notification(alloc, text, place, len, told),
         Message::Keepalive => put_head(text, place, len, "KEEPALIVE"),
     }
@@ -112,6 +126,54 @@ fn put_withdraw(
     put_head(text, place, len, "UPDATE withdraw")?;
     put_routes(text, routes)?;
     put_notes(text, notes)
+}
+
+/// Adds the lines of an UPDATE that is taken: its place in the stream, its octets in number, what it says, and notes on what of it isn't
+/// kept. They are those of its outcome, which needn't be made.
+///
+/// # Errors
+/// `AllocError` where a growth was refused.
+#[tactic(auto, unfolding(crate::specs::Outcome::outcome_lines))]
+pub fn put_update_taken(
+    alloc: Global,
+    text: &mut String,
+    place: u64,
+    len: u16,
+    update: &Update,
+    notes: &List<Note>,
+) -> Result<(), AllocError>
+    ensures { OnOk result (string_bytes text.new ≡ string_bytes text.old ++ outcome_lines place len (outcome.Took (message.Update update.now) notes.now)) }
+{
+    put_update_lines(alloc, text, place, len, update)?;
+    put_notes(text, notes)
+}
+
+/// Adds the lines of an UPDATE whose routes are withdrawn, as [`put_update_taken`] does.
+///
+/// # Errors
+/// `AllocError` where a growth was refused.
+#[tactic(auto, unfolding(crate::specs::Outcome::outcome_lines))]
+pub fn put_update_withdrawn(
+    text: &mut String,
+    place: u64,
+    len: u16,
+    routes: &Routes,
+    notes: &List<Note>,
+) -> Result<(), AllocError>
+    ensures { OnOk result (string_bytes text.new ≡ string_bytes text.old ++ outcome_lines place len (outcome.Withdraw routes.now notes.now)) }
+{
+    put_withdraw(text, place, len, routes, notes)
+}
+
+/// Adds the line of a KEEPALIVE, as [`put_update_taken`] does.
+///
+/// # Errors
+/// `AllocError` where a growth was refused.
+#[tactic(auto, unfolding(crate::specs::Outcome::message_lines, crate::specs::Outcome::outcome_lines))]
+pub fn put_keepalive(text: &mut String, place: u64, len: u16) -> Result<(), AllocError>
+    ensures { OnOk result (string_bytes text.new ≡ string_bytes text.old ++ outcome_lines place len (outcome.Took message.Keepalive [])) }
+{
+    put_head(text, place, len, "KEEPALIVE")
 }
 
 /// Adds the lines of what a message, or the header of one, comes to: its place in the stream, its octets in number (0 for a header's

@@ -10,7 +10,7 @@ ghost use Rattle.bgp_update.specs.Slots.{present, attr_list};
 ghost use Rattle.bgp_update.specs.Written.{attributes_octets};
 
 use crate::attrs::Attrs;
-use crate::slot::{order, slot};
+use crate::slot::{order, slot_at_once};
 use bgp_attr::{AttrRef, attr_len, write_attr_ref};
 use bgp_open::Context;
 use std::alloc::AllocError;
@@ -32,7 +32,7 @@ pub(crate) fn attributes_len(ctx: &Context, attrs: &Attrs) -> Option<usize>
 {
     let mut len = 0;
     'types: for kind in &order() {
-        len = present_len(len, ctx, slot(attrs, *kind))?;
+        len = present_len(len, ctx, slot_at_once(attrs, *kind))?;
     }
     Some(len)
 }
@@ -66,7 +66,7 @@ pub(crate) fn put_attributes(
     ensures err { OnErr result (Extends out.old.items out.new.items) }
 {
     'types: for kind in &order() {
-        put_present(ctx, slot(attrs, *kind), out)?;
+        put_present(ctx, slot_at_once(attrs, *kind), out)?;
     }
     Ok(())
 }

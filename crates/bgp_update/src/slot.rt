@@ -69,3 +69,15 @@ pub(crate) fn slot(attrs: &Attrs, kind: u8) -> Option<AttrRef<'_>>
         _ => Some(AttrRef::Opaque(other(&attrs.others, kind)?)),
     }
 }
+
+/// The attribute of a type: at most one. It looks no further for a type that isn't recognised where no attribute is of such a type.
+#[tactic(auto, using(crate::proofs::FarSlots::slot_none))]
+#[inline]
+pub(crate) fn slot_at_once(attrs: &Attrs, kind: u8) -> Option<AttrRef<'_>>
+    ensures { present ref_value result ≡ slot attrs.now kind }
+{
+    if kind > attribute::LARGE_COMMUNITY && attrs.others.is_empty() {
+        return None;
+    }
+    slot(attrs, kind)
+}

@@ -11,4 +11,4 @@ returns-in_err-len c =
     let lt : c.types.kind-index < length canonical_order = omega (arith, order-length, c.types-test.true) in
     rw c.from_residual.ensures (type_past (slot c.args.attrs.now) canonical_order c.types.kind-index (get_or c.order.result c.types.kind-index 0) lt (ap (λ o. get_or o c.types.kind-index 0) (sym c.order.ensures))
     (canonical c.args.ctx.now) c.types.len c.types.invariant.0
-    (c.in_err-len.ensures ∙ ap (λ xs. within (c.types.len + length (flat_map (canonical c.args.ctx.now) xs))) c.slot.ensures))
+    (c.in_err-len.ensures ∙ ap (λ xs. within (c.types.len + length (flat_map (canonical c.args.ctx.now) xs))) c.slot_at_once.ensures))

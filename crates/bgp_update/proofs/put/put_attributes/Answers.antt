@@ -10,7 +10,7 @@ use Rattle.bgp_update.proofs.put.put_attributes.Goals as goal
 pub put_present-requires : goal.put_present-requires
 put_present-requires c =
     let lt : c.types.kind-index < length canonical_order = omega (arith, order-length, c.types-test.true) in
-    subst (λ (xs : List Attr). AllByRecursion (λ a. is_writable c.args.ctx.now a ≡ true) xs) (sym c.slot.ensures)
+    subst (λ (xs : List Attr). AllByRecursion (λ a. is_writable c.args.ctx.now a ≡ true) xs) (sym c.slot_at_once.ensures)
     (all_of_type (slot c.args.attrs.now) canonical_order c.types.kind-index (get_or c.order.result c.types.kind-index 0) lt (ap (λ o. get_or o c.types.kind-index 0) (sym c.order.ensures))
     (λ a. is_writable c.args.ctx.now a ≡ true) c.requires)
 
