@@ -8,37 +8,6 @@ use Rattle.bgp_wire.proofs.OctetLemmas.{AreOctets-nil}
 use Rattle.hex.specs.declared.error.FromHexError.{FromHexError}
 use Rattle.bgp_engine.specs.HexText.{is_blank, digit_value, spelled, bad_from}
 
--- ---- decoding two characters
-
-abbrev decoded : ℕ → ℕ → Option ℕ → Option ℕ → Result (List ℕ) FromHexError
-decoded high low h l = (digit_or_error high 0 h >>= λ x. digit_or_error low 1 l >>= λ y. Ok (x * 16 + y)) >>= λ octet. Ok (octet ∷ [])
-
-abbrev Decodes : Option ℕ → Option ℕ → Result ⊤ FromHexError → List ℕ → Type 0
-Decodes h l (Ok u) out = (is_some l ≡ true) × (get_or out 0 0 ≡ unwrap_or h 0 * 16 + unwrap_or l 0)
-Decodes h l (Err e) out = is_some l ≡ false
-
-decodes_at : (high low : ℕ) (h l : Option ℕ) (r : Result ⊤ FromHexError) (out : List ℕ) → is_some h ≡ true
-    → MatchResult (decoded high low h l) (λ bytes. (r ≡ Ok tt) × (out ≡ bytes)) (λ e. r ≡ Err e) → Decodes h l r out
-decodes_at high low None l r out digit m = absurd (false≢true digit)
-decodes_at high low (Some x) None (Ok u) out digit m = absurd cc
-decodes_at high low (Some x) None (Err e) out digit m = refl
-decodes_at high low (Some x) (Some y) (Ok u) out digit m = (refl, ap (λ (o : List ℕ). get_or o 0 0) m.1)
-decodes_at high low (Some x) (Some y) (Err e) out digit m = let bad = m.0 in absurd cc
-
--- what decoding two characters says of the second, where the first is a digit
-abbrev pub DecodesPair : ℕ → ℕ → Result ⊤ FromHexError → List ℕ → Type 0
-DecodesPair high low (Ok u) out = (is_hex_digit low ≡ true) × (get_or out 0 0 ≡ digit_value high * 16 + digit_value low)
-DecodesPair high low (Err e) out = is_hex_digit low ≡ false
-
-by_result : (high low : ℕ) (r : Result ⊤ FromHexError) (out : List ℕ) → Decodes (hex_digit_value high) (hex_digit_value low) r out → DecodesPair high low r out
-by_result high low (Ok u) out d = d
-by_result high low (Err e) out d = d
-
-pub decodes_pair : (high low : ℕ) (r : Result ⊤ FromHexError) (out : List ℕ) → is_hex_digit high ≡ true
-    → MatchResult (decode_sized (high ∷ low ∷ []) 1) (λ bytes. (r ≡ Ok tt) × (out ≡ bytes)) (λ e. r ≡ Err e) → DecodesPair high low r out
-unfolding decode_pairs
-decodes_pair high low r out digit m = by_result high low r out (decodes_at high low (hex_digit_value high) (hex_digit_value low) r out digit m)
-
 -- ---- one character at the front of a text
 
 blank_is_no_digit : (c : ℕ) → is_blank c ≡ true → is_hex_digit c ≡ false

@@ -2,7 +2,7 @@
 
 ghost use Rattle.std.specs.Prelude.{◌≡◌, ◌+◌, ◌*◌, ◌≤◌, ◌<◌, ◌^◌, true, None, is_some, IfSome};
 ghost use Rattle.std.specs.Option.{ForSome};
-ghost use Rattle.hex.specs.Hex.{is_hex_digit};
+ghost use Rattle.hex.specs.Hex.{hex_digit_value, is_hex_digit};
 ghost use Rattle.bgp_engine.specs.HexText.{is_blank, digit_value};
 
 use arrayvec::ArrayVec;
@@ -40,17 +40,27 @@ fn is_blank(character: u8) -> bool
     matches!(character, b' ' | b'\r' | b'\n')
 }
 
+// The value of a digit of either case.
+fn digit_value(character: u8) -> Option<u8>
+    ensures { result ≡ hex_digit_value character }
+{
+    match character {
+        b'A'..=b'F' => Some(character - 55),
+        b'a'..=b'f' => Some(character - 87),
+        b'0'..=b'9' => Some(character - 48),
+        _ => None,
+    }
+}
+
 // The octet of a pair of digits, where the second is one.
 fn pair(high: u8, low: u8) -> Option<u8>
     requires { is_hex_digit high ≡ true }
     ensures digit { is_some result ≡ is_hex_digit low }
     ensures value { IfSome result (λ octet. octet ≡ digit_value high * 16 + digit_value low) }
 {
-    let mut octet = [0];
-    match hex::decode_to_slice([high, low], &mut octet) {
-        Ok(()) => Some(octet[0]),
-        Err(_) => None,
-    }
+    let high = digit_value(high).unwrap_or(0) % 16;
+    let low = digit_value(low)?;
+    Some(high * 16 + low % 16)
 }
 
 impl HexText {

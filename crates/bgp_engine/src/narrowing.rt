@@ -1,11 +1,13 @@
 //! The engine `narrow_stream`.
 
-ghost use Rattle.std.specs.Prelude.{◌≡◌, ◌+◌, ◌++◌, true, false, length, None, Some, IfOk, OnOk, if◌then◌else◌};
+ghost use Rattle.std.specs.Prelude.{◌≡◌, ◌+◌, ◌≤◌, ◌++◌, true, false, length, None, Some, IfOk, OnOk, if◌then◌else◌};
 ghost use Rattle.bgp_frame.specs.Frame.{octets_of};
 ghost use Rattle.bgp_frame.specs.Kind.{IsLength};
-ghost use Rattle.bgp_msg.specs.Outcome.{out_of};
+ghost use Rattle.bgp_msg.specs.Outcome.{of_verdict, out_of};
 ghost use Rattle.bgp_msg.specs.declared.message.Message.TheVariants as message;
 ghost use Rattle.bgp_update.specs.As4.{HasNoAs4};
+ghost use Rattle.bgp_update.specs.Verdict.{verdict_of};
+ghost use Rattle.bgp_update.specs.View.{update_value};
 ghost use Rattle.bgp_engine.specs.Narrow.{Narrowed, WritesNarrow, two_octets, has_as4, written_in, narrowed_update, narrowed_message, narrowed_outcome, narrow_answer};
 ghost use Rattle.bgp_engine.specs.Run.{Answers};
 
@@ -14,10 +16,10 @@ use crate::fault::ToolFault;
 use crate::page::Page;
 use crate::tally::Tally;
 use crate::walk::walk_stream;
-use bgp_frame::{End, Frame, HeadFault, head};
-use bgp_msg::{Message, Outcome, encode, out_frame};
+use bgp_frame::{End, Frame, HeadFault, Kind, head};
+use bgp_msg::{Message, Outcome, encode_update, out_frame};
 use bgp_open::Context;
-use bgp_update::{Attrs, Update, WriteFault, narrow};
+use bgp_update::{Attrs, Update, UpdateView, View, WriteFault, narrow, view_update};
 use std::alloc::{AllocError, Global};
 use std::io::{Read, Write};
 
@@ -39,11 +41,11 @@ fn put_frame(octets: &mut Vec<u8>, frame: Frame<'_>) -> Result<(), AllocError>
     Ok(())
 }
 
-// Appends a message's written form, where it can be written.
-fn put_written(ctx: &Context, octets: &mut Vec<u8>, message: &Message) -> Result<Class, AllocError>
-    ensures { IfOk result (λ class. WritesNarrow octets.old.items octets.new.items (written_in ctx.now message.now) class) }
+// Appends an UPDATE's written form, where it can be written.
+fn put_written(ctx: &Context, octets: &mut Vec<u8>, update: &Update) -> Result<Class, AllocError>
+    ensures { IfOk result (λ class. WritesNarrow octets.old.items octets.new.items (written_in ctx.now (message.Update update.now)) class) }
 {
-    match encode(ctx, message, octets) {
+    match encode_update(ctx, update, octets) {
         Ok(()) => Ok(Class::Took),
         Err(WriteFault::Memory) => Err(AllocError),
         Err(WriteFault::NotValid(_why)) => Ok(Class::Reset),
@@ -59,16 +61,16 @@ fn has_as4(attrs: &Attrs) -> bool
 }
 
 // An UPDATE as a speaker with AS numbers of two octets is told it.
-fn narrow_update(alloc: Global, update: Update) -> Result<Message, AllocError>
+fn narrow_update(alloc: Global, update: Update) -> Result<Update, AllocError>
     requires { HasNoAs4 update.attrs }
-    ensures { IfOk result (λ told. told ≡ narrowed_update update) }
+    ensures { IfOk result (λ told. message.Update told ≡ narrowed_update update) }
 {
     let attrs = narrow(alloc, &update.attrs)?;
-    Ok(Message::Update(Update {
+    Ok(Update {
         withdrawn: update.withdrawn,
         attrs,
         nlri: update.nlri,
-    }))
+    })
 }
 
 // Appends an UPDATE as a speaker with AS numbers of two octets is told it.
@@ -88,6 +90,36 @@ fn put_narrowed(
     put_written(&narrow_ctx, octets, &told)
 }
 
+// Appends an UPDATE that is taken as a speaker with AS numbers of two octets is told it.
+fn put_view(
+    alloc: Global,
+    ctx: &Context,
+    octets: &mut Vec<u8>,
+    view: &UpdateView<'_>,
+) -> Result<Class, AllocError>
+    ensures { IfOk result (λ class. WritesNarrow octets.old.items octets.new.items (if has_as4 (update_value view.now).attrs then None else written_in (two_octets ctx.now) (narrowed_update (update_value view.now))) class) }
+{
+    let update = view.own(alloc)?;
+    put_narrowed(alloc, ctx, octets, update)
+}
+
+// Appends an UPDATE, where it is taken.
+fn put_update(
+    alloc: Global,
+    ctx: &Context,
+    octets: &mut Vec<u8>,
+    frame: Frame<'_>,
+) -> Result<Class, AllocError>
+    requires { length frame.body.now ≤ 4077 }
+    ensures { IfOk result (λ class. WritesNarrow octets.old.items octets.new.items (narrowed_outcome ctx.now (record { kind = frame.entry.kind; body = frame.entry.body.now }) (of_verdict (verdict_of ctx.now frame.entry.body.now))) class) }
+{
+    match view_update(ctx, frame.body) {
+        View::Take(view) => put_view(alloc, ctx, octets, &view),
+        View::Withdraw(_) => Ok(Class::Reset),
+        View::Reset(_) => Ok(Class::Reset),
+    }
+}
+
 // Appends a message that was taken.
 fn put_taken(
     alloc: Global,
@@ -102,6 +134,43 @@ fn put_taken(
     match said {
         Message::Update(update) => put_narrowed(alloc, ctx, octets, update),
         _ => {
+            put_frame(octets, frame)?;
+            Ok(Class::Took)
+        }
+    }
+}
+
+// Appends a message by its whole outcome, which is large, and so has a place of its own.
+#[inline(never)]
+fn put_rare(
+    alloc: Global,
+    ctx: &Context,
+    octets: &mut Vec<u8>,
+    frame: Frame<'_>,
+) -> Result<Class, AllocError>
+    requires { IsLength frame.kind (19 + length frame.body.now) }
+    ensures { IfOk result (λ class. WritesNarrow octets.old.items octets.new.items (narrowed_outcome ctx.now (record { kind = frame.entry.kind; body = frame.entry.body.now }) (out_of ctx.now (record { kind = frame.entry.kind; body = frame.entry.body.now }))) class) }
+{
+    match out_frame(alloc, ctx, frame)? {
+        Outcome::Took(said, _notes) => put_taken(alloc, ctx, octets, frame, said),
+        _ => Ok(Class::Reset),
+    }
+}
+
+// Appends a message as it is handed on.
+fn put_told(
+    alloc: Global,
+    ctx: &Context,
+    octets: &mut Vec<u8>,
+    frame: Frame<'_>,
+) -> Result<Class, AllocError>
+    requires { IsLength frame.kind (19 + length frame.body.now) }
+    ensures { IfOk result (λ class. WritesNarrow octets.old.items octets.new.items (narrowed_outcome ctx.now (record { kind = frame.entry.kind; body = frame.entry.body.now }) (out_of ctx.now (record { kind = frame.entry.kind; body = frame.entry.body.now }))) class) }
+{
+    match frame.kind {
+        Kind::Update => put_update(alloc, ctx, octets, frame),
+        Kind::Open => put_rare(alloc, ctx, octets, frame),
+        Kind::Notification | Kind::Keepalive => {
             put_frame(octets, frame)?;
             Ok(Class::Took)
         }
@@ -127,12 +196,7 @@ impl Page for NarrowPage {
     ghost told = { λ page. page.octets.items };
 
     fn message(&mut self, _place: u64, frame: Frame<'_>) -> Result<Class, AllocError> {
-        match out_frame(self.alloc, &self.ctx, frame)? {
-            Outcome::Took(said, _notes) => {
-                put_taken(self.alloc, &self.ctx, &mut self.octets, frame, said)
-            }
-            _ => Ok(Class::Reset),
-        }
+        put_told(self.alloc, &self.ctx, &mut self.octets, frame)
     }
 
     fn fault(&mut self, _place: u64, _fault: HeadFault) -> Result<(), AllocError> {

@@ -88,7 +88,7 @@ fn put_body(ctx: &Context, message: &Message, out: &mut Vec<u8>) -> Result<(), W
 }
 
 /// Puts a header in front of the octets from a place on.
-fn put_header(kind: Kind, start: usize, out: &mut Vec<u8>) -> Result<(), AllocError>
+pub(crate) fn put_header(kind: Kind, start: usize, out: &mut Vec<u8>) -> Result<(), AllocError>
     requires start { start ≤ length out.old.items }
     requires allowed { IsLength kind (19 + length (drop start out.old.items)) }
     ensures ok { OnOk result (out.new.items ≡ take start out.old.items ++ (header kind (19 + length (drop start out.old.items)) ++ drop start out.old.items)) }

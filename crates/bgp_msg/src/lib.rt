@@ -10,6 +10,7 @@ mod message;
 mod outcome;
 mod seen;
 mod taking;
+mod update_encoding;
 
 pub use bgp_frame::{End, Frame, Framer, HeadFault, Kind, Step, front};
 pub use decoder::Decoder;
@@ -19,6 +20,7 @@ pub use message::Message;
 pub use outcome::Outcome;
 pub use seen::Seen;
 pub use taking::out_frame;
+pub use update_encoding::encode_update;
 
 #[cfg(test)]
 mod tests;

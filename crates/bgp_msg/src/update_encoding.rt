@@ -1,0 +1,47 @@
+//! Writing an UPDATE that no message holds.
+
+ghost use Rattle.std.specs.Prelude.{◌≡◌, ◌+◌, ◌++◌, ◌↔◌, Some, length, IsTrue, IsErrOf, OnOk, OnErr};
+ghost use Rattle.bgp_frame.specs.Kind.{IsLength};
+ghost use Rattle.bgp_update.specs.declared.invalid.Invalid.{Invalid};
+ghost use Rattle.bgp_update.specs.declared.write.WriteFault.TheVariants.{NotValid, TooLong};
+ghost use Rattle.bgp_msg.specs.declared.message.Message.TheVariants as message;
+ghost use Rattle.bgp_msg.specs.Written.{body_of, canonical, invalid_of, is_valid, is_too_long};
+
+use crate::encoding::put_header;
+use bgp_frame::Kind;
+use bgp_open::Context;
+use bgp_update::{Invalid, Update, WriteFault, write_update};
+
+/// Appends the body of an UPDATE.
+fn put_update(ctx: &Context, update: &Update, out: &mut Vec<u8>) -> Result<(), WriteFault>
+    ensures not_valid { (why : Invalid) → IsErrOf result (NotValid why) ↔ (invalid_of ctx.now (message.Update update.now) ≡ Some why) }
+    ensures too_long { IsErrOf result TooLong ↔ (IsTrue (is_valid ctx.now (message.Update update.now)) × IsTrue (is_too_long ctx.now (message.Update update.now))) }
+    ensures ok { OnOk result (out.new.items ≡ out.old.items ++ body_of ctx.now (message.Update update.now)) }
+    ensures allowed { OnOk result (IsLength Kind.Update (19 + length (body_of ctx.now (message.Update update.now)))) }
+    ensures err { OnErr result (out.new.items ≡ out.old.items) }
+{
+    write_update(ctx, update, out)
+}
+
+/// Appends an UPDATE as `encode` does, without a message that holds it.
+///
+/// # Errors
+/// As `encode`.
+pub fn encode_update(ctx: &Context, update: &Update, out: &mut Vec<u8>) -> Result<(), WriteFault>
+    ensures not_valid { (why : Invalid) → IsErrOf result (NotValid why) ↔ (invalid_of ctx.now (message.Update update.now) ≡ Some why) }
+    ensures too_long { IsErrOf result TooLong ↔ (IsTrue (is_valid ctx.now (message.Update update.now)) × IsTrue (is_too_long ctx.now (message.Update update.now))) }
+    ensures ok { OnOk result (out.new.items ≡ out.old.items ++ canonical ctx.now (message.Update update.now)) }
+    ensures err { OnErr result (out.new.items ≡ out.old.items) }
+{
+    let start = out.len();
+    match put_update(ctx, update, out) {
+        Err(fault) => Err(fault),
+        Ok(()) => match put_header(Kind::Update, start, out) {
+            Ok(()) => Ok(()),
+            Err(_) => {
+                out.truncate(start);
+                Err(WriteFault::Memory)
+            }
+        },
+    }
+}
