@@ -14,6 +14,8 @@ mod page;
 mod running;
 mod shown;
 mod tally;
+#[cfg(test)]
+mod tests;
 mod walk;
 
 pub use bgp_frame::End;
