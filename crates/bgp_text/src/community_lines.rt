@@ -5,6 +5,7 @@ ghost use Rattle.std.specs.List.{flat_map};
 ghost use Rattle.std.specs.String.{string_bytes};
 ghost use Rattle.bgp_text.specs.CommunityLines.{community_text, communities_line, large_text, large_line, community_lines};
 
+use crate::decimal::{put_decimal, put_spaced};
 use bgp_update::Attrs;
 use bgp_wire::List;
 use std::alloc::AllocError;
@@ -15,7 +16,9 @@ fn put_community(text: &mut String, community: u32) -> Result<(), AllocError>
 {
     let high = community / 65536;
     let low = community % 65536;
-    write!(text, " {high}:{low}")
+    put_spaced(text, high)?;
+    text.push_str(":")?;
+    put_decimal(text, low)
 }
 
 /// Adds communities, each behind a space.

@@ -3,6 +3,7 @@
 
 mod attribute_lines;
 mod community_lines;
+mod decimal;
 mod end;
 mod info;
 pub mod laws;

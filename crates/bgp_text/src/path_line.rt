@@ -5,6 +5,7 @@ ghost use Rattle.std.specs.List.{flat_map};
 ghost use Rattle.std.specs.String.{string_bytes};
 ghost use Rattle.bgp_text.specs.PathLine.{kind_name, number_text, segment_text, path_text, path_line};
 
+use crate::decimal::put_spaced;
 use bgp_attr::{AsPath, SegKind, Segment};
 use bgp_prefix::AsNumber;
 use bgp_wire::List;
@@ -26,7 +27,7 @@ fn put_numbers(text: &mut String, numbers: &List<AsNumber>) -> Result<(), AllocE
 {
     for number in numbers.iter() {
         let AsNumber(number) = *number;
-        write!(text, " {number}")?;
+        put_spaced(text, number)?;
     }
     Ok(())
 }
