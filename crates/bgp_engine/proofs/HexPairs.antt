@@ -86,7 +86,7 @@ value_bound false false false c p q r = omega arith
 above : (a b c : ℕ) → (leb a c && leb c b) ≡ true → c ≤ b
 above a b c e = leb-true c b (and_parts (leb a c) (leb c b) e).1
 
-digit_value_bound : (c : ℕ) → digit_value c < 16
+pub digit_value_bound : (c : ℕ) → digit_value c < 16
 digit_value_bound c = value_bound (leb 65 c && leb c 70) (leb 97 c && leb c 102) (leb 48 c && leb c 57) c (above 65 70 c) (above 97 102 c) (above 48 57 c)
 
 AreOctets-cons : (n : ℕ) (b : List ℕ) → n < 256 → AreOctets b → AreOctets (n ∷ b)
