@@ -1,11 +1,10 @@
 -- Pairs of digits, and text behind them.
-use Rattle.std.proofs.Common.{◌≡◌, ℕ, zero, suc, ◌+◌, ◌-◌, ◌*◌, ◌<◌, ◌≤◌, Bool, true, false, cond, ◌&&◌, ◌||◌, eqb, leb, List, [], ◌∷◌, get_or, Option, Some, None, Result, Ok, Err, MatchResult, refl, sym, ap, subst, ◌∙◌, arith, inl, inr}
-use Rattle.std.specs.Prelude.{⊤, is_some, unwrap_or}
+use Rattle.std.proofs.Common.{◌≡◌, ℕ, zero, suc, ◌+◌, ◌-◌, ◌*◌, ◌<◌, ◌≤◌, Bool, true, false, cond, ◌&&◌, ◌||◌, eqb, leb, List, [], ◌∷◌, Some, None, refl, sym, subst, ◌∙◌, arith, inl, inr}
+use Rattle.std.specs.Prelude.{unwrap_or}
 use Rattle.std.proofs.lemmas.Bool.{leb-true, and_parts, eqb-true, or_cases, false_from_ne_true, false≢true}
-use Rattle.hex.specs.Hex.{◌>>=◌, hex_digit_value, is_hex_digit, digit_or_error, decode_pairs, decode_sized}
+use Rattle.hex.specs.Hex.{is_hex_digit}
 use Rattle.bgp_wire.specs.Octets.{AreOctets}
 use Rattle.bgp_wire.proofs.OctetLemmas.{AreOctets-nil}
-use Rattle.hex.specs.declared.error.FromHexError.{FromHexError}
 use Rattle.bgp_engine.specs.HexText.{is_blank, digit_value, spelled, bad_from}
 
 -- ---- one character at the front of a text

@@ -1,4 +1,4 @@
-use Rattle.std.proofs.Common.{ℕ, map, get_or, ap, sym, ◌∙◌, slice_index_or, arith}
+use Rattle.std.proofs.Common.{ℕ, map, ap, ◌∙◌, slice_index_or, arith}
 use Rattle.std.specs.List.{range_with_len}
 use Rattle.bgp_engine.specs.HexText.{value_or_none}
 use Rattle.bgp_engine.proofs.DigitTable.{in_table}
