@@ -1,11 +1,10 @@
 -- Pairs of digits, and text behind them.
-use Rattle.std.proofs.Common.{◌≡◌, ℕ, zero, suc, ◌+◌, ◌-◌, ◌*◌, ◌<◌, ◌≤◌, Bool, true, false, cond, ◌&&◌, ◌||◌, eqb, leb, List, [], ◌∷◌, get_or, Option, Some, None, Result, Ok, Err, MatchResult, refl, sym, ap, subst, ◌∙◌, arith, inl, inr}
-use Rattle.std.specs.Prelude.{⊤, is_some, unwrap_or}
+use Rattle.std.proofs.Common.{◌≡◌, ℕ, zero, suc, ◌+◌, ◌-◌, ◌*◌, ◌<◌, ◌≤◌, Bool, true, false, cond, ◌&&◌, ◌||◌, eqb, leb, List, [], ◌∷◌, Some, None, refl, sym, subst, ◌∙◌, arith, inl, inr}
+use Rattle.std.specs.Prelude.{unwrap_or}
 use Rattle.std.proofs.lemmas.Bool.{leb-true, and_parts, eqb-true, or_cases, false_from_ne_true, false≢true}
-use Rattle.hex.specs.Hex.{◌>>=◌, hex_digit_value, is_hex_digit, digit_or_error, decode_pairs, decode_sized}
+use Rattle.hex.specs.Hex.{is_hex_digit}
 use Rattle.bgp_wire.specs.Octets.{AreOctets}
 use Rattle.bgp_wire.proofs.OctetLemmas.{AreOctets-nil}
-use Rattle.hex.specs.declared.error.FromHexError.{FromHexError}
 use Rattle.bgp_engine.specs.HexText.{is_blank, digit_value, spelled, bad_from}
 
 -- ---- one character at the front of a text
@@ -86,7 +85,7 @@ value_bound false false false c p q r = omega arith
 above : (a b c : ℕ) → (leb a c && leb c b) ≡ true → c ≤ b
 above a b c e = leb-true c b (and_parts (leb a c) (leb c b) e).1
 
-digit_value_bound : (c : ℕ) → digit_value c < 16
+pub digit_value_bound : (c : ℕ) → digit_value c < 16
 digit_value_bound c = value_bound (leb 65 c && leb c 70) (leb 97 c && leb c 102) (leb 48 c && leb c 57) c (above 65 70 c) (above 97 102 c) (above 48 57 c)
 
 AreOctets-cons : (n : ℕ) (b : List ℕ) → n < 256 → AreOctets b → AreOctets (n ∷ b)

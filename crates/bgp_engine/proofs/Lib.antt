@@ -1,4 +1,5 @@
 pub mod HexPairs
+pub mod DigitTable
 pub mod HexReads
 pub mod Written
 pub mod BlockLemmas

@@ -9,6 +9,10 @@ is_blank c = c == 32 || c == 13 || c == 10
 abbrev pub digit_value : ℕ → ℕ
 digit_value c = unwrap_or (hex_digit_value c) 0
 
+-- the value of a digit of either case: 255 where it is none
+abbrev pub value_or_none : ℕ → ℕ
+value_or_none c = unwrap_or (hex_digit_value c) 255
+
 -- the octets of the pairs, up to the first character that is bad
 unfoldable pub spelled : List ℕ → List ℕ
 spelled [] = []

@@ -3,7 +3,7 @@
 ghost use Rattle.std.specs.Prelude.{◌≡◌, ◌+◌, ◌*◌, ◌≤◌, ◌<◌, ◌^◌, true, None, is_some, IfSome};
 ghost use Rattle.std.specs.Option.{ForSome};
 ghost use Rattle.hex.specs.Hex.{hex_digit_value, is_hex_digit};
-ghost use Rattle.bgp_engine.specs.HexText.{is_blank, digit_value};
+ghost use Rattle.bgp_engine.specs.HexText.{is_blank, digit_value, value_or_none};
 
 use arrayvec::ArrayVec;
 
@@ -31,7 +31,7 @@ pub(crate) enum Taken {
 fn is_digit(character: u8) -> bool
     ensures { result ≡ is_hex_digit character }
 {
-    matches!(character, b'A'..=b'F' | b'a'..=b'f' | b'0'..=b'9')
+    digit_value(character).is_some()
 }
 
 fn is_blank(character: u8) -> bool
@@ -40,16 +40,39 @@ fn is_blank(character: u8) -> bool
     matches!(character, b' ' | b'\r' | b'\n')
 }
 
+// The value of each character as a digit of either case: 255 where it is none. Which digit comes next can't be foreseen, and so a table is
+// faster than comparisons.
+static VALUES: [u8; 256] = [
+    255, 255, 255, 255, 255, 255, 255, 255, 255, 255, 255, 255, 255, 255, 255, 255, 255, 255, 255,
+    255, 255, 255, 255, 255, 255, 255, 255, 255, 255, 255, 255, 255, 255, 255, 255, 255, 255, 255,
+    255, 255, 255, 255, 255, 255, 255, 255, 255, 255, 0, 1, 2, 3, 4, 5, 6, 7, 8, 9, 255, 255, 255,
+    255, 255, 255, 255, 10, 11, 12, 13, 14, 15, 255, 255, 255, 255, 255, 255, 255, 255, 255, 255,
+    255, 255, 255, 255, 255, 255, 255, 255, 255, 255, 255, 255, 255, 255, 255, 255, 10, 11, 12, 13,
+    14, 15, 255, 255, 255, 255, 255, 255, 255, 255, 255, 255, 255, 255, 255, 255, 255, 255, 255,
+    255, 255, 255, 255, 255, 255, 255, 255, 255, 255, 255, 255, 255, 255, 255, 255, 255, 255, 255,
+    255, 255, 255, 255, 255, 255, 255, 255, 255, 255, 255, 255, 255, 255, 255, 255, 255, 255, 255,
+    255, 255, 255, 255, 255, 255, 255, 255, 255, 255, 255, 255, 255, 255, 255, 255, 255, 255, 255,
+    255, 255, 255, 255, 255, 255, 255, 255, 255, 255, 255, 255, 255, 255, 255, 255, 255, 255, 255,
+    255, 255, 255, 255, 255, 255, 255, 255, 255, 255, 255, 255, 255, 255, 255, 255, 255, 255, 255,
+    255, 255, 255, 255, 255, 255, 255, 255, 255, 255, 255, 255, 255, 255, 255, 255, 255, 255, 255,
+    255, 255, 255, 255, 255, 255, 255, 255, 255, 255, 255, 255, 255, 255, 255, 255, 255, 255, 255,
+    255, 255, 255,
+];
+
+// The value of a character as a digit: 255 where it is none.
+fn value(character: u8) -> u8
+    ensures { result ≡ value_or_none character }
+{
+    VALUES[usize::from(character)]
+}
+
 // The value of a digit of either case.
+#[tactic(auto, using(crate::proofs::DigitTable::small_is_digit, crate::proofs::DigitTable::large_is_none))]
 fn digit_value(character: u8) -> Option<u8>
     ensures { result ≡ hex_digit_value character }
 {
-    match character {
-        b'A'..=b'F' => Some(character - 55),
-        b'a'..=b'f' => Some(character - 87),
-        b'0'..=b'9' => Some(character - 48),
-        _ => None,
-    }
+    let value = value(character);
+    if value < 16 { Some(value) } else { None }
 }
 
 // The octet of a pair of digits, where the second is one.

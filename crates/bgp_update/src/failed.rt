@@ -8,7 +8,7 @@ ghost use Rattle.bgp_update.specs.Written.{is_of_other_family};
 
 use crate::attrs::Attrs;
 use crate::invalid::Invalid;
-use crate::slot::{order, slot};
+use crate::slot::{order, slot_at_once};
 use bgp_attr::unwritable::{has_as_zero, is_as4, is_empty, is_too_wide, stands_twice};
 use bgp_attr::{AttrRef, MpReach, MpUnreach};
 use bgp_open::Context;
@@ -79,7 +79,7 @@ impl Failed {
     {
         let mut failed = Failed::none(ctx);
         'types: for kind in &order() {
-            if let Some(attr) = slot(attrs, *kind) {
+            if let Some(attr) = slot_at_once(attrs, *kind) {
                 failed = failed.also(ctx, attr);
             }
         }

@@ -48,6 +48,7 @@ fn other(others: &[Opaque], kind: u8) -> Option<&Opaque>
 
 /// The attribute of a type: at most one.
 #[tactic(auto, unfolding(crate::specs::Slots::slot))]
+#[inline(never)]
 pub(crate) fn slot(attrs: &Attrs, kind: u8) -> Option<AttrRef<'_>>
     ensures { present ref_value result ≡ slot attrs.now kind }
 {
@@ -72,7 +73,7 @@ pub(crate) fn slot(attrs: &Attrs, kind: u8) -> Option<AttrRef<'_>>
 
 /// The attribute of a type: at most one. It looks no further for a type that isn't recognised where no attribute is of such a type.
 #[tactic(auto, using(crate::proofs::FarSlots::slot_none))]
-#[inline]
+#[inline(always)]
 pub(crate) fn slot_at_once(attrs: &Attrs, kind: u8) -> Option<AttrRef<'_>>
     ensures { present ref_value result ≡ slot attrs.now kind }
 {

@@ -1,4 +1,4 @@
-use Rattle.std.proofs.Common.{IfOk, Option, None, List, ℕ, subst}
+use Rattle.std.proofs.Common.{IfOk, None, subst}
 use Rattle.std.specs.Prelude.{if◌then◌else◌}
 use Rattle.bgp_update.specs.declared.update.Update.{Update}
 use Rattle.bgp_engine.specs.Narrow.{WritesNarrow, two_octets, has_as4, narrowed_update, written_in}

@@ -16,7 +16,7 @@ types-preserved c =
     let kind = get_or c.order.result i 0 in
     let lt : i < length canonical_order = omega (arith, order-length, c.types-test.true) in
     let are = one_type slots canonical_order i kind lt (ap (λ o. get_or o i 0) (sym c.order.ensures)) in
-    elim c.match-slot.branch [
+    elim c.match-slot_at_once.branch [
       | in-Some w ↦
           w.failed-is ∙ w.also-failed.ensures ∙ ap (λ (f : Failed). also_failed f c.args.ctx.now (ref_value w.in-Some.attr)) c.types.invariant
           ∙ with_one c.args.ctx.now (so_far slots canonical_order i) (slots kind) (flat_map slots (take (i + 1) canonical_order)) are (ref_value w.in-Some.attr) w.in-Some.ensures
