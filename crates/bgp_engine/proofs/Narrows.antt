@@ -1,6 +1,6 @@
 -- What is written of an UPDATE that is narrowed.
-use Rattle.std.proofs.Common.{◌≡◌, ℕ, Bool, true, false, ◌&&◌, ◌||◌, List, [], ◌++◌, Option, Some, None, refl, sym, ap, subst, ◌∙◌}
-use Rattle.std.specs.Prelude.{not, is_some, is_none, IsTrue}
+use Rattle.std.proofs.Common.{◌≡◌, ℕ, Bool, true, false, ◌||◌, List, ◌++◌, Option, Some, None, refl, sym, ap, ◌∙◌}
+use Rattle.std.specs.Prelude.{is_some, is_none, IsTrue}
 use Rattle.std.proofs.lemmas.List.{append-nil}
 use Rattle.bgp_open.specs.declared.context.Context.{Context}
 use Rattle.bgp_update.specs.declared.attrs.Attrs.{Attrs}

@@ -1,6 +1,6 @@
 -- What a run keeps from one block to the next, and what follows from it where it stops.
-use Rattle.std.proofs.Common.{◌≡◌, ℕ, ◌+◌, ◌-◌, ◌*◌, ◌≤◌, ◌^◌, Bool, true, false, List, [], ◌∷◌, ◌++◌, length, take, Option, Some, None, refl, sym, ap, subst, ◌∙◌, append_assoc, arith, inl, inr, ◌⊎◌}
-use Rattle.std.specs.Prelude.{option_to_list, Result, Ok, Err, MatchResult}
+use Rattle.std.proofs.Common.{◌≡◌, ℕ, ◌+◌, ◌-◌, ◌*◌, ◌≤◌, Bool, true, false, List, [], ◌∷◌, ◌++◌, length, take, Option, Some, None, refl, sym, ap, subst, ◌∙◌, append_assoc, arith, inl, inr}
+use Rattle.std.specs.Prelude.{option_to_list, Result, Ok, Err}
 use Rattle.std.specs.Io.KnownBytes.{Consumes, Appends, IsAtEnd, Keeps}
 use Rattle.std.proofs.KnownBytes.{Consumes-nil, Consumes-trans, Consumes-kept, Appends-nil, Appends-trans}
 use Rattle.std.proofs.lemmas.List.{append-nil}
@@ -13,10 +13,10 @@ use Rattle.bgp_engine.specs.declared.hex_text.HexText.{HexText}
 use Rattle.bgp_engine.specs.declared.tally.Tally.{Tally}
 use Rattle.bgp_engine.specs.HexSteps.{pending, place}
 use Rattle.bgp_engine.specs.Output.{IsFront, AppendsFront, FailsWithin}
-use Rattle.bgp_engine.specs.Report.{Report, behind, IsOver, IsWaiting}
-use Rattle.bgp_engine.specs.Engine.{GoesOn, Rests, IsFinal, Takes, IsTotal}
+use Rattle.bgp_engine.specs.Report.{Report, behind, IsWaiting}
+use Rattle.bgp_engine.specs.Engine.{GoesOn, Rests, IsTotal}
 use Rattle.bgp_engine.specs.Run.{Io, Reports, stream_of, bad_of, IsAllRead, Finishes, IsBadAt, Fails, Answers}
-use Rattle.bgp_engine.specs.Blocks.{MeetsBlock, MeetsBad, MeetsOver, WritesAll, WritesNone, WritesFront, Finished}
+use Rattle.bgp_engine.specs.Blocks.{MeetsBlock, MeetsBad, MeetsOver, WritesAll, WritesNone, Finished}
 use Rattle.bgp_engine.proofs.HexPairs.{spelled-nil, spelled-digit, spelled-octets, bad_from-nil, bad_from-digit}
 
 module _ (reports0 : Reports) (hex : Bool) (r0 w0 : Option (List ℕ)) where

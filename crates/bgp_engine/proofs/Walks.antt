@@ -1,5 +1,5 @@
 -- Reports of a stream, built from the front; and the steps of a walk over it.
-use Rattle.std.proofs.Common.{◌≡◌, ℕ, zero, suc, ◌+◌, ◌-◌, ◌<◌, ◌≤◌, ◌^◌, Bool, true, false, cond, List, [], ◌∷◌, ◌++◌, length, take, drop, Option, Some, None, Result, Ok, Err, refl, sym, ap, subst, ◌∙◌, append_assoc, arith}
+use Rattle.std.proofs.Common.{◌≡◌, ℕ, suc, ◌+◌, ◌-◌, ◌≤◌, ◌^◌, Bool, true, false, cond, List, [], ◌∷◌, ◌++◌, length, take, drop, Option, Some, None, Result, Ok, Err, refl, sym, ap, subst, ◌∙◌, append_assoc, arith}
 use Rattle.std.specs.Prelude.{◌==◌, if◌then◌else◌, is_some}
 use Rattle.std.proofs.lemmas.List.{append-nil, length-append, length-drop, length-take, take-append-drop}
 use Rattle.bgp_wire.specs.Octets.{AreOctets}
@@ -9,7 +9,7 @@ use Rattle.bgp_frame.specs.declared.end.End.TheVariants as end
 use Rattle.bgp_frame.specs.declared.fault.HeadFault.{HeadFault}
 use Rattle.bgp_frame.specs.Head.{head_of}
 use Rattle.bgp_frame.specs.Frame.{Message, octets_of, IsFrame, Waits}
-use Rattle.bgp_frame.specs.Stream.{Gives, outcome_of}
+use Rattle.bgp_frame.specs.Stream.{Gives}
 use Rattle.bgp_frame.proofs.FrameLemmas.{head_of-append, length-IsFrame, wanted-bounds}
 use Rattle.bgp_frame.proofs.Streams.{gives_wait, gives_fault, gives_reset, gives_more, some_reading}
 use Rattle.bgp_engine.specs.declared.class.Class.{Class}
@@ -17,10 +17,10 @@ use Rattle.bgp_engine.specs.declared.class.Class.TheVariants as class
 use Rattle.bgp_engine.specs.declared.tally.Tally.{Tally}
 use Rattle.bgp_engine.specs.declared.fault.ToolFault.{ToolFault}
 use Rattle.bgp_engine.specs.Tally.{no_tally}
-use Rattle.bgp_engine.specs.Report.{Report, behind, IsOver, IsWaiting}
+use Rattle.bgp_engine.specs.Report.{Report, behind, IsOver}
 use Rattle.bgp_engine.specs.Rules.{Rules, messages_in, counted, passed, total, lines_from, tally_from, rest_of, report_of, IsReport}
-use Rattle.bgp_engine.specs.Pages.{is_last, Writes, WritesFault, IsAnswer}
-use Rattle.bgp_engine.specs.Engine.{GoesOn, Rests, IsFinal, Stands, Takes, ClosesBy, Closes}
+use Rattle.bgp_engine.specs.Pages.{Writes, WritesFault, IsAnswer}
+use Rattle.bgp_engine.specs.Engine.{Rests, Takes, ClosesBy, Closes}
 use Rattle.bgp_engine.specs.Run.{Reports}
 use Rattle.bgp_engine.specs.declared.fault.ToolFault.TheVariants as fault
 use Rattle.bgp_engine.specs.Walking.{Walking, closing, reports_by, reports_of, IsCounting, IsGoing, IsReady, IsReadyBy, StandsBy, Moves, place_behind, ended_by, room_by, room_of, walking}

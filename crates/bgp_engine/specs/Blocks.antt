@@ -1,7 +1,6 @@
 -- One block of text, from its characters to what is written of it.
 use Rattle.std.specs.Prelude.{◌≡◌, ℕ, ◌+◌, ◌≤◌, Bool, true, false, List, [], ◌++◌, length, Option, None, Some, Result, Ok, Err}
 use Rattle.std.specs.Io.KnownBytes.{Appends}
-use Rattle.bgp_wire.specs.Octets.{AreOctets}
 use Rattle.bgp_engine.specs.declared.tally.Tally.{Tally}
 use Rattle.bgp_engine.specs.declared.fault.ToolFault.{ToolFault}
 use Rattle.bgp_engine.specs.declared.fault.ToolFault.TheVariants as fault
@@ -11,7 +10,7 @@ use Rattle.bgp_engine.specs.declared.running.Met.TheVariants as met
 use Rattle.bgp_engine.specs.HexSteps.{pending, place}
 use Rattle.bgp_engine.specs.Output.{IsFront, AppendsFront}
 use Rattle.bgp_engine.specs.Report.{Report}
-use Rattle.bgp_engine.specs.Engine.{Takes, ClosesBy}
+use Rattle.bgp_engine.specs.Engine.{Takes}
 use Rattle.bgp_engine.specs.Run.{Reports, stream_of, bad_of}
 
 -- however the text goes on, from old on it is the octets, and then what it is from new on

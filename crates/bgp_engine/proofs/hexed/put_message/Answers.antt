@@ -1,4 +1,4 @@
-use Rattle.std.proofs.Common.{◌++◌, List, ℕ, ap, ◌∙◌, refl, sym}
+use Rattle.std.proofs.Common.{sym}
 use Rattle.bgp_frame.specs.Frame.{Message}
 use Rattle.bgp_engine.proofs.Digits.{hex_line_is}
 use Rattle.bgp_engine.proofs.hexed.put_message.Goals as goal

@@ -1,4 +1,4 @@
-use Rattle.std.proofs.Common.{IfOk, refl, sym, subst, ◌∙◌}
+use Rattle.std.proofs.Common.{IfOk, sym, subst, ◌∙◌}
 use Rattle.bgp_open.specs.declared.context.Context.{Context}
 use Rattle.bgp_msg.specs.declared.message.Message.{Message}
 use Rattle.bgp_engine.specs.Narrow.{WritesNarrow, two_octets, written_in}

@@ -1,4 +1,4 @@
-use Rattle.std.proofs.Common.{refl, sym, ap, ◌∙◌, Result, Err}
+use Rattle.std.proofs.Common.{ap, ◌∙◌, Result, Err}
 use Rattle.bgp_update.specs.declared.write.WriteFault.{WriteFault}
 use Rattle.bgp_engine.proofs.Narrows.{writes_all, writes_nothing}
 use Rattle.bgp_engine.proofs.narrowing.put_written.Goals as goal

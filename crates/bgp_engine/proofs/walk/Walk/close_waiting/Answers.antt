@@ -1,4 +1,4 @@
-use Rattle.std.proofs.Common.{refl, sym, subst, ◌∙◌}
+use Rattle.std.proofs.Common.{sym}
 use Rattle.std.proofs.lemmas.Result.{err_from_is_err_and}
 use Rattle.bgp_engine.specs.Walking.{walking}
 use Rattle.bgp_engine.proofs.Walks.{some_closing, closes_waiting}

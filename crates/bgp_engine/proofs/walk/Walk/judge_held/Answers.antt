@@ -1,7 +1,7 @@
-use Rattle.std.proofs.Common.{◌≡◌, ◌+◌, ◌≤◌, ℕ, [], length, List, refl, sym, subst, arith}
+use Rattle.std.proofs.Common.{◌+◌, ◌≤◌, ℕ, [], length, refl, subst, arith}
 use Rattle.bgp_frame.specs.Frame.{Message}
 use Rattle.bgp_engine.specs.Pages.{Writes}
-use Rattle.bgp_engine.specs.Walking.{Walking, Moves, walking}
+use Rattle.bgp_engine.specs.Walking.{walking}
 use Rattle.bgp_engine.proofs.Walks.{Moves-none, Moves-message, Moves-fault}
 use Rattle.bgp_engine.proofs.walk.Walk.judge_held.Goals as goal
 

@@ -1,6 +1,5 @@
-use Rattle.std.proofs.Common.{◌++◌, ℕ, List, take, refl, sym, subst, arith}
 use Rattle.bgp_frame.specs.Frame.{Message}
-use Rattle.bgp_engine.specs.Walking.{Moves, walking}
+use Rattle.bgp_engine.specs.Walking.{walking}
 use Rattle.bgp_engine.proofs.Walks.{Moves-front, Moves-front-fault}
 use Rattle.bgp_engine.proofs.walk.Walk.step_front.Goals as goal
 

@@ -1,5 +1,5 @@
-use Rattle.std.proofs.Common.{◌++◌, ℕ, List, [], take, refl, sym, subst, arith}
-use Rattle.bgp_engine.specs.Walking.{IsCounting, Moves, walking}
+use Rattle.std.proofs.Common.{ℕ, List, [], subst, arith}
+use Rattle.bgp_engine.specs.Walking.{Moves, walking}
 use Rattle.bgp_engine.proofs.Walks.{fed_counting, Moves-fed}
 use Rattle.bgp_engine.proofs.walk.Walk.step_held.Goals as goal
 
