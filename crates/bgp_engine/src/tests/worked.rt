@@ -6,6 +6,7 @@ use super::rows::{BAD_TEXTS, CHECKED, COPIED, HEXED};
 use super::show_rows::{DAEMONS, SHOWN};
 use super::{Tool, input_of, octets_of, output_of, run_tool};
 use crate::*;
+use std::alloc::Global;
 use std::process::Abort;
 use std::test::*;
 
@@ -100,19 +101,59 @@ fn octets_of_narrow(rt: HostRuntime) -> Result<(), Fail> {
     Ok(())
 }
 
+/// An UPDATE by its octets before the routes, with 2026 times 10.0.0.0/8.
+fn longest_of(alloc: Global, digits: &str) -> Result<Vec<u8>, Fail> {
+    let mut octets = octets_of(alloc, digits)?;
+    for _ in 0..2026u32 {
+        octets.extend_from_slice(&[8, 10])?;
+    }
+    Ok(octets)
+}
+
 /// 4095 octets that would be 4102 once the path is told twice.
 #[test]
 fn what_would_pass_4096_octets_is_not_narrowed(rt: HostRuntime) -> Result<(), Fail> {
-    let head = "M 0fff02 0000 0014 40010100 400206020100030d40 400304c0000201";
-    let mut input = octets_of(rt.alloc(), head)?;
-    for _ in 0..2026u32 {
-        input.extend_from_slice(&[8, 10])?;
-    }
+    let wide = "M 0fff02 0000 0014 40010100 400206020100030d40 400304c0000201";
+    let input = longest_of(rt.alloc(), wide)?;
     let mut reader = Drip::new(input.as_slice(), 4096);
     let mut sheet = Sheet::new();
     let outcome = run_tool(rt.alloc(), Tool::Narrow, "", &mut reader, &mut sheet);
     assert_eq!(rt; outcome, Err(ToolFault::Narrow(0)));
     assert!(rt; sheet.text.is_empty());
+    Ok(())
+}
+
+/// 4096 octets, of which a length has one octet too many, and a path of two octets more than are needed.
+#[test]
+fn the_longest_update_is_narrowed(rt: HostRuntime) -> Result<(), Fail> {
+    let long = "M 100002 0000 0015 5001000100 40020602010000fde8 400304c0000201";
+    let short = "M 0ffd02 0000 0012 40010100 4002040201fde8 400304c0000201";
+    let input = longest_of(rt.alloc(), long)?;
+    let output = longest_of(rt.alloc(), short)?;
+    for step in [1000, 4096] {
+        let mut reader = Drip::new(input.as_slice(), step);
+        let mut sheet = Sheet::new();
+        let outcome = run_tool(rt.alloc(), Tool::Narrow, "", &mut reader, &mut sheet);
+        assert_eq!(rt; status(&outcome), 0);
+        assert!(rt; sheet.text.as_slice() == output.as_slice());
+    }
+    Ok(())
+}
+
+/// 4096 octets and a message behind them.
+#[test]
+fn the_longest_update_is_counted(rt: HostRuntime) -> Result<(), Fail> {
+    let long = "M 100002 0000 0015 5001000100 40020602010000fde8 400304c0000201";
+    let mut input = longest_of(rt.alloc(), long)?;
+    input.extend_from_slice(octets_of(rt.alloc(), "M 0013 04")?.as_slice())?;
+    let wanted = b"messages 2 took 2 withdraw 0 reset 0\nend wait 0\n";
+    for step in [1000, 4096] {
+        let mut reader = Drip::new(input.as_slice(), step);
+        let mut sheet = Sheet::new();
+        let outcome = run_tool(rt.alloc(), Tool::Check, "as4", &mut reader, &mut sheet);
+        assert_eq!(rt; status(&outcome), 0);
+        assert!(rt; sheet.text.as_slice() == wanted.as_slice());
+    }
     Ok(())
 }
 
