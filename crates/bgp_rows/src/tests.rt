@@ -3,6 +3,7 @@
 mod changes;
 mod headers;
 mod messages;
+mod updates;
 mod vectors;
 
 use bgp_frame::Notification;
