@@ -56,3 +56,12 @@ pub const OPTIONAL_ATTRIBUTE: u8 = 9;
 
 /// UPDATE Message Error: Invalid Network Field.
 pub const INVALID_NETWORK_FIELD: u8 = 10;
+
+/// Finite State Machine Error: Unexpected Message in OpenSent State (RFC 6608, section 3).
+pub const UNEXPECTED_IN_OPEN_SENT: u8 = 1;
+
+/// Finite State Machine Error: Unexpected Message in OpenConfirm State (RFC 6608, section 3).
+pub const UNEXPECTED_IN_OPEN_CONFIRM: u8 = 2;
+
+/// Finite State Machine Error: Unexpected Message in Established State (RFC 6608, section 3).
+pub const UNEXPECTED_IN_ESTABLISHED: u8 = 3;

@@ -111,4 +111,12 @@ fn errors_are_those_of_the_registries(rt: HostRuntime) {
         ],
         [1, 2, 9, 10]
     );
+    assert_eq!(rt;
+        [
+            error::UNEXPECTED_IN_OPEN_SENT,
+            error::UNEXPECTED_IN_OPEN_CONFIRM,
+            error::UNEXPECTED_IN_ESTABLISHED
+        ],
+        [1, 2, 3]
+    );
 }
