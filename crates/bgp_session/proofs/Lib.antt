@@ -1,0 +1,4 @@
+-- Lemmas of the session.
+pub mod Contents
+pub mod Steps
+pub mod Pulls
