@@ -12,6 +12,7 @@ pub mod TypeLemmas
 pub mod SlotLemmas
 pub mod FarSlots
 pub mod Validity
+pub mod Widths
 pub mod MarkLemmas
 pub mod ReadBack
 pub mod KeptSlots

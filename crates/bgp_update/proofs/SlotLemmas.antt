@@ -179,7 +179,7 @@ list-named a = all-flat_map (λ x. is_misnamed x ≡ false) (slot a) canonical_o
 
 -- ---- the attributes in order give the attributes back
 
-recognised-stands : (k : ℕ) → is_recognised k ≡ true → in_order k ≡ true
+pub recognised-stands : (k : ℕ) → is_recognised k ≡ true → in_order k ≡ true
 unfolding canonical_order
 recognised-stands =
     by_type (λ k. is_recognised k ≡ true → in_order k ≡ true) (λ e. refl) (λ e. refl) (λ e. refl) (λ e. refl) (λ e. refl) (λ e. refl) (λ e. refl) (λ e. refl) (λ e. refl) (λ e. refl) (λ e. refl) (λ e. refl) (λ e. refl)

@@ -119,6 +119,10 @@ narrowed a = record {
   others = a.others;
 }
 
+-- the UPDATE as a speaker with AS numbers of two octets is told it
+abbrev pub narrowed_update : Update → Update
+narrowed_update u = record { withdrawn = u.withdrawn; attrs = narrowed u.attrs; nlri = u.nlri }
+
 -- neither AS4_PATH nor AS4_AGGREGATOR is there
 pub record HasNoAs4 (a : Attrs) : Type 0 where
   pub path : a.as4_path ≡ None

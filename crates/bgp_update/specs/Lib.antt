@@ -7,6 +7,7 @@ pub mod Verdict
 pub mod Slots
 pub mod Written
 pub mod As4
+pub mod Widths
 pub mod Body
 pub mod Seen
 pub mod Small

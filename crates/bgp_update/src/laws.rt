@@ -1,6 +1,6 @@
 //! Laws over the definitions alone: these functions do nothing, and their contracts are what is proved.
 
-ghost use Rattle.std.specs.Prelude.{◌≡◌, ◌≤◌, ℕ, List, [], length, Some, None};
+ghost use Rattle.std.specs.Prelude.{◌≡◌, ◌≤◌, ℕ, true, false, List, [], length, Some, None};
 ghost use Rattle.bgp_wire.specs.Octets.{AreOctets};
 ghost use Rattle.bgp_open.specs.declared.context.Context.{Context};
 ghost use Rattle.bgp_update.specs.declared.attrs.Attrs.{Attrs};
@@ -11,7 +11,8 @@ ghost use Rattle.bgp_update.specs.Parts.{Parts, IsBody, parts_of};
 ghost use Rattle.bgp_update.specs.Verdict.{verdict_of};
 ghost use Rattle.bgp_update.specs.Written.{written_body, invalid_of, HasUpdateRanges};
 ghost use Rattle.bgp_update.specs.Laws.{CanBeWritten};
-ghost use Rattle.bgp_update.specs.As4.{HasNoAs4, narrowed, rebuilt};
+ghost use Rattle.bgp_update.specs.As4.{HasNoAs4, narrowed, narrowed_update, rebuilt};
+ghost use Rattle.bgp_update.specs.Widths.{with_as4};
 
 /// What a speaker with AS numbers of two octets is told gives the path and the aggregator back.
 pub fn narrowed_paths_are_rebuilt()
@@ -37,4 +38,17 @@ pub fn a_valid_update_is_taken_as_itself()
 pub fn a_taken_update_can_be_written()
     ensures { (ctx : Context) (body : List ℕ) (u : Update) (notes : List Note)
         → AreOctets body → verdict_of ctx body ≡ Take u notes → CanBeWritten ctx u body }
+{}
+
+/// A valid UPDATE of a session with AS numbers of four octets has neither AS4_PATH nor AS4_AGGREGATOR.
+pub fn an_update_with_four_octets_has_no_as4()
+    ensures { (ctx : Context) (u : Update)
+        → ctx.as4 ≡ true → invalid_of ctx u ≡ None → HasNoAs4 u.attrs }
+{}
+
+/// What a speaker with AS numbers of two octets is told of a valid UPDATE is valid in the same session with two octets.
+pub fn a_narrowed_update_is_valid()
+    ensures { (ctx : Context) (u : Update)
+        → ctx.as4 ≡ true → invalid_of ctx u ≡ None
+        → invalid_of (with_as4 false ctx) (narrowed_update u) ≡ None }
 {}

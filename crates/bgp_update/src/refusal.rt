@@ -81,8 +81,8 @@ fn has_bad_others(others: &[Opaque]) -> bool
     !rise(others) || has_recognised(others)
 }
 
-/// The first reason why a message isn't written, without memory.
-pub(crate) fn why_invalid(ctx: &Context, update: &Update) -> Option<Invalid>
+/// The first reason why a message isn't written; where there is none, each attribute has a type that fits its octet.
+pub(crate) fn first_reason(ctx: &Context, update: &Update) -> Option<Invalid>
     ensures why { result ≡ invalid_of ctx.now update.now }
     ensures kinds { result ≡ None → AllByRecursion (λ o. o.kind < 256) update.now.attrs.others }
 {
@@ -99,4 +99,11 @@ pub(crate) fn why_invalid(ctx: &Context, update: &Update) -> Option<Invalid>
     let failed = Failed::of(ctx, attrs);
     let others = has_bad_others(&attrs.others);
     failed.first(ctx.as4, others)
+}
+
+/// Why an UPDATE isn't written in a context: the first reason in the order of their numbers, or `None` where it is valid. It takes no memory.
+pub fn why_invalid(ctx: &Context, update: &Update) -> Option<Invalid>
+    ensures { result ≡ invalid_of ctx.now update.now }
+{
+    first_reason(ctx, update)
 }

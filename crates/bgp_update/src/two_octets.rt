@@ -3,9 +3,10 @@
 ghost use Rattle.std.specs.Prelude.{◌≡◌, option_map, IfOk};
 ghost use Rattle.std.specs.List.{list_any};
 ghost use Rattle.bgp_attr.specs.Written.{any_number, is_above_two_octets};
-ghost use Rattle.bgp_update.specs.As4.{HasNoAs4, narrow_number, narrow_segment, narrow_path, wide_path, narrow_aggregator, wide_aggregator, narrowed};
+ghost use Rattle.bgp_update.specs.As4.{HasNoAs4, narrow_number, narrow_segment, narrow_path, wide_path, narrow_aggregator, wide_aggregator, narrowed, narrowed_update};
 
 use crate::attrs::Attrs;
+use crate::update::Update;
 use bgp_attr::{Aggregator, As4Path, AsPath, Segment};
 use bgp_numbers::AS_TRANS;
 use bgp_prefix::AsNumber;
@@ -136,4 +137,22 @@ pub fn narrow(alloc: Global, attrs: &Attrs) -> Result<Attrs, AllocError>
     told.aggregator = narrow_aggregator(attrs.aggregator);
     told.as4_aggregator = wide_aggregator(attrs.aggregator);
     Ok(told)
+}
+
+/// The UPDATE as a speaker with AS numbers of two octets is told it: its attributes as by [`narrow`], and its routes as they are.
+///
+/// # Errors
+/// `AllocError` where a growth was refused.
+pub fn narrow_update(alloc: Global, update: &Update) -> Result<Update, AllocError>
+    requires { HasNoAs4 update.now.attrs }
+    ensures { IfOk result (λ it. it ≡ narrowed_update update.now) }
+{
+    let withdrawn = update.withdrawn.copy(alloc)?;
+    let attrs = narrow(alloc, &update.attrs)?;
+    let nlri = update.nlri.copy(alloc)?;
+    Ok(Update {
+        withdrawn,
+        attrs,
+        nlri,
+    })
 }

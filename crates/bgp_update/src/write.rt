@@ -17,7 +17,7 @@ ghost use Rattle.bgp_update.specs.Written.{written_body, invalid_of, is_valid, i
 use crate::invalid::Invalid;
 use crate::measure::{Lengths, measure};
 use crate::put::put_attributes;
-use crate::refusal::why_invalid;
+use crate::refusal::first_reason;
 use crate::update::Update;
 use bgp_open::Context;
 use bgp_prefix::{Prefix4, write_run4};
@@ -120,7 +120,7 @@ pub fn write_update(ctx: &Context, update: &Update, out: &mut Vec<u8>) -> Result
     ensures taken { OnOk result (verdict_of ctx.now (written_body ctx.now update.now) ≡ Take update.now []) }
     ensures err { OnErr result (out.new.items ≡ out.old.items) }
 {
-    if let Some(why) = why_invalid(ctx, update) {
+    if let Some(why) = first_reason(ctx, update) {
         return Err(WriteFault::NotValid(why));
     }
     let Some(lengths) = measure(ctx, update) else {

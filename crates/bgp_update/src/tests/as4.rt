@@ -5,8 +5,8 @@ ghost use Rattle.std.specs.Prelude.{IfOk};
 ghost use Rattle.bgp_update.specs.As4.{HasNoAs4};
 
 use crate::*;
-use bgp_attr::{Aggregator, As4Path, AsPath, Opaque, SegKind, Segment};
-use bgp_prefix::AsNumber;
+use bgp_attr::{Aggregator, As4Path, AsPath, Opaque, Origin, SegKind, Segment};
+use bgp_prefix::{AsNumber, Prefix4};
 use bgp_wire::List;
 use std::alloc::{AllocError, Global};
 use std::process::Abort;
@@ -230,6 +230,44 @@ fn a_wide_aggregator_is_told_in_two_attributes(rt: HostRuntime) -> Result<(), Fa
         assert!(rt; told.as_path.is_none());
         assert!(rt; told.as4_path.is_none());
     }
+    Ok(())
+}
+
+/// 10.0.0.0/8, or 10.0.0.0/16.
+fn ten(alloc: Global, len: u8) -> Result<List<Prefix4>, Fail> {
+    let prefix = Prefix4::new(len, [10, 0, 0, 0]).ok_or("a prefix")?;
+    Ok(List::from_vec(vec![in alloc; prefix]?))
+}
+
+/// An UPDATE that withdraws 10.0.0.0/16 and announces 10.0.0.0/8 by way of AS 1 and this one.
+fn by_way_of(alloc: Global, number: u32) -> Result<Update, Fail>
+    ensures { IfOk result (λ update. HasNoAs4 update.attrs) }
+{
+    let withdrawn = ten(alloc, 16)?;
+    let nlri = ten(alloc, 8)?;
+    let as_path = path(alloc, &[(SegKind::Seq, &[1, number])])?;
+    let mut attrs = attrs(alloc, Some(as_path), None);
+    attrs.origin = Some(Origin::Igp);
+    attrs.next_hop = Some([192, 0, 2, 1]);
+    Ok(Update {
+        withdrawn,
+        attrs,
+        nlri,
+    })
+}
+
+#[test]
+fn an_update_with_a_wide_number_is_told_in_two_attributes(rt: HostRuntime) -> Result<(), Fail> {
+    let alloc = rt.alloc();
+    let told = narrow_update(alloc, &by_way_of(alloc, 200000)?)?;
+    let mut wanted = by_way_of(alloc, 23456)?;
+    wanted.attrs.as4_path = Some(As4Path {
+        partial: false,
+        path: path(alloc, &[(SegKind::Seq, &[1, 200000])])?,
+    });
+    assert!(rt; told == wanted);
+    let whole = by_way_of(alloc, 65535)?;
+    assert!(rt; narrow_update(alloc, &whole)? == whole);
     Ok(())
 }
 

@@ -234,6 +234,22 @@ fn numbers_need_their_octets(rt: HostRuntime) -> Result<(), Fail> {
     assert_not_valid(&rt, &narrow, attrs, Invalid::AsZero)
 }
 
+/// A number above 65535 is told as it is only where AS numbers have four octets (RFC 6793, section 4.2.2).
+#[test]
+fn reasons_are_told_without_writing(rt: HostRuntime) -> Result<(), Fail> {
+    let alloc = rt.alloc();
+    let mut attrs = plain_attrs(alloc)?;
+    attrs.as_path = Some(path(alloc, SegKind::Seq, &[200000])?);
+    let mut update = announced(alloc, attrs)?;
+    let narrow = session(false, false, false);
+    assert_eq!(rt; why_invalid(&session(true, false, false), &update), None);
+    assert_eq!(rt; why_invalid(&narrow, &update), Some(Invalid::AsWidth));
+    // The first of two reasons is told.
+    update.attrs.local_pref = Some(100);
+    assert_eq!(rt; why_invalid(&narrow, &update), Some(Invalid::LocalPref));
+    Ok(())
+}
+
 #[test]
 fn families_are_those_in_use(rt: HostRuntime) -> Result<(), Fail> {
     let alloc = rt.alloc();
