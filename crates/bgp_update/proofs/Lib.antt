@@ -10,7 +10,7 @@ pub mod Lists
 pub mod Rising
 pub mod TypeLemmas
 pub mod SlotLemmas
-pub mod FarSlots
+pub mod SlotTypes
 pub mod Validity
 pub mod MarkLemmas
 pub mod ReadBack
