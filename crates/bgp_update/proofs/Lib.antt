@@ -1,3 +1,4 @@
+pub mod SeenWords
 pub mod SmallLemmas
 pub mod Summaries
 pub mod Runs
