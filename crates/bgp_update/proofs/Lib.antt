@@ -1,3 +1,4 @@
+pub mod SeenWords
 pub mod SmallLemmas
 pub mod Summaries
 pub mod Runs
@@ -10,7 +11,7 @@ pub mod Lists
 pub mod Rising
 pub mod TypeLemmas
 pub mod SlotLemmas
-pub mod FarSlots
+pub mod SlotTypes
 pub mod Validity
 pub mod Widths
 pub mod MarkLemmas

@@ -1,5 +1,5 @@
 -- A walk over the types in order: the attributes so far, one type more, and all of them.
-use Rattle.std.proofs.Common.{◌≡◌, ℕ, ◌+◌, ◌<◌, ◌≤◌, List, [], ◌∷◌, ◌++◌, length, get_or, take, drop, None, Some, refl, sym, ap, subst, ◌∙◌, append_assoc, arith}
+use Rattle.std.proofs.Common.{◌≡◌, ℕ, ◌+◌, ◌<◌, ◌≤◌, List, [], ◌∷◌, ◌++◌, length, get_or, take, drop, None, Some, sym, ap, subst, ◌∙◌, append_assoc, arith}
 use Rattle.std.specs.List.{flat_map, AllByRecursion}
 use Rattle.std.proofs.lemmas.Grind.{flat_map-append}
 use Rattle.std.proofs.lemmas.List.{append-nil, length-append, take_more, take_all, take-append-drop}
@@ -7,12 +7,7 @@ use Rattle.bgp_attr.specs.Appends.{Extends}
 use Rattle.bgp_attr.specs.Length.{within}
 use Rattle.bgp_attr.proofs.Lengths.{within_past, past_within, within_fits}
 use Rattle.bgp_attr.proofs.Writes.{IsWritten}
-use Rattle.bgp_update.specs.Slots.{canonical_order}
 use Rattle.bgp_update.proofs.Lists.{all-append, all-front, all-back}
-
-pub order-length : length canonical_order ≡ 256
-unfolding canonical_order
-order-length = refl
 
 module _ {A : Type 0} (slots : ℕ → List A) (kinds : List ℕ) (i : ℕ) where
   -- what the types so far have

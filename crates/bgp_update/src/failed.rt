@@ -8,7 +8,7 @@ ghost use Rattle.bgp_update.specs.Written.{is_of_other_family};
 
 use crate::attrs::Attrs;
 use crate::invalid::Invalid;
-use crate::slot::{order, slot_at_once};
+use crate::slot::{slot, types_of};
 use bgp_attr::unwritable::{has_as_zero, is_as4, is_empty, is_too_wide, stands_twice};
 use bgp_attr::{AttrRef, MpReach, MpUnreach};
 use bgp_open::Context;
@@ -78,8 +78,9 @@ impl Failed {
         ensures { result ≡ failed_by ctx.now (attr_list attrs.now) }
     {
         let mut failed = Failed::none(ctx);
-        'types: for kind in &order() {
-            if let Some(attr) = slot_at_once(attrs, *kind) {
+        let kinds = types_of(attrs);
+        'types: for kind in kinds {
+            if let Some(attr) = slot(attrs, *kind) {
                 failed = failed.also(ctx, attr);
             }
         }

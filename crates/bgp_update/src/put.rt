@@ -10,7 +10,7 @@ ghost use Rattle.bgp_update.specs.Slots.{present, attr_list};
 ghost use Rattle.bgp_update.specs.Written.{attributes_octets};
 
 use crate::attrs::Attrs;
-use crate::slot::{order, slot_at_once};
+use crate::slot::{slot, types_of};
 use bgp_attr::{AttrRef, attr_len, write_attr_ref};
 use bgp_open::Context;
 use std::alloc::AllocError;
@@ -31,8 +31,9 @@ pub(crate) fn attributes_len(ctx: &Context, attrs: &Attrs) -> Option<usize>
     ensures { result ≡ within (length (attributes_octets ctx.now attrs.now)) }
 {
     let mut len = 0;
-    'types: for kind in &order() {
-        len = present_len(len, ctx, slot_at_once(attrs, *kind))?;
+    let kinds = types_of(attrs);
+    'types: for kind in kinds {
+        len = present_len(len, ctx, slot(attrs, *kind))?;
     }
     Some(len)
 }
@@ -65,8 +66,9 @@ pub(crate) fn put_attributes(
     ensures ranges { OnOk result (AllByRecursion HasRanges (attr_list attrs.now)) }
     ensures err { OnErr result (Extends out.old.items out.new.items) }
 {
-    'types: for kind in &order() {
-        put_present(ctx, slot_at_once(attrs, *kind), out)?;
+    let kinds = types_of(attrs);
+    'types: for kind in kinds {
+        put_present(ctx, slot(attrs, *kind), out)?;
     }
     Ok(())
 }

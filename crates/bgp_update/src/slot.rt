@@ -1,9 +1,9 @@
 //! The attributes of a message in the order in which they are written.
 
 ghost use Rattle.std.specs.Prelude.{◌≡◌, ◌==◌, option_map};
-ghost use Rattle.std.specs.List.{find};
+ghost use Rattle.std.specs.List.{find, flat_map};
 ghost use Rattle.bgp_attr.specs.AttrRef.{ref_value};
-ghost use Rattle.bgp_update.specs.Slots.{present, slot, canonical_order};
+ghost use Rattle.bgp_update.specs.Slots.{present, slot, canonical_order, attr_list};
 
 use crate::attrs::Attrs;
 use bgp_attr::{AttrRef, Opaque};
@@ -28,10 +28,25 @@ const ORDER: [u8; 256] = [
 
 /// The order of the types.
 #[tactic(auto, unfolding(crate::specs::Slots::canonical_order))]
-pub(crate) fn order() -> [u8; 256]
-    ensures { result ≡ canonical_order }
+fn order() -> &'static [u8]
+    ensures { result.now ≡ canonical_order }
 {
-    ORDER
+    &ORDER
+}
+
+/// The recognised types, in that order.
+const RECOGNISED: [u8; 13] = [14, 15, 1, 2, 3, 4, 5, 6, 7, 8, 17, 18, 32];
+
+/// The types that attributes can have, in the order in which they are written: where none is of another type, the recognised ones.
+#[tactic(auto, using(crate::proofs::SlotTypes::recognised_types))]
+pub(crate) fn types_of(attrs: &Attrs) -> &'static [u8]
+    ensures { flat_map (slot attrs.now) result.now ≡ attr_list attrs.now }
+{
+    if attrs.others.is_empty() {
+        &RECOGNISED
+    } else {
+        order()
+    }
 }
 
 /// The attribute of a type that isn't recognised.
@@ -69,16 +84,4 @@ pub(crate) fn slot(attrs: &Attrs, kind: u8) -> Option<AttrRef<'_>>
         attribute::LARGE_COMMUNITY => Some(AttrRef::Large(attrs.large.as_ref()?)),
         _ => Some(AttrRef::Opaque(other(&attrs.others, kind)?)),
     }
-}
-
-/// The attribute of a type: at most one. It looks no further for a type that isn't recognised where no attribute is of such a type.
-#[tactic(auto, using(crate::proofs::FarSlots::slot_none))]
-#[inline(always)]
-pub(crate) fn slot_at_once(attrs: &Attrs, kind: u8) -> Option<AttrRef<'_>>
-    ensures { present ref_value result ≡ slot attrs.now kind }
-{
-    if kind > attribute::LARGE_COMMUNITY && attrs.others.is_empty() {
-        return None;
-    }
-    slot(attrs, kind)
 }

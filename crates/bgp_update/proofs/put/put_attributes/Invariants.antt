@@ -1,9 +1,9 @@
 use Rattle.bgp_attr.specs.Written.{canonical, HasRanges}
 use Rattle.bgp_attr.proofs.Writes.{IsWritten}
-use Rattle.bgp_update.specs.Slots.{slot, canonical_order}
+use Rattle.bgp_update.specs.Slots.{slot}
 use Rattle.bgp_update.proofs.SlotSteps.{so_far}
 use Rattle.bgp_update.proofs.put.put_attributes.Given as goal
 
 -- the attributes so far are written
 abbrev pub invariant-types : goal.invariant-types
-invariant-types l = IsWritten (canonical l.ctx) HasRanges (so_far (slot l.attrs) canonical_order l.kind-index) l.initial.out.items l.out.items
+invariant-types l = IsWritten (canonical l.ctx) HasRanges (so_far (slot l.attrs) l.kinds l.kind-index) l.initial.out.items l.out.items

@@ -1,9 +1,9 @@
 use Rattle.std.proofs.Common.{◌≡◌}
 use Rattle.bgp_update.specs.Failed.{failed_by}
-use Rattle.bgp_update.specs.Slots.{slot, canonical_order}
+use Rattle.bgp_update.specs.Slots.{slot}
 use Rattle.bgp_update.proofs.SlotSteps.{so_far}
 use Rattle.bgp_update.proofs.failed.Failed.of.Given as goal
 
 -- the tests that the attributes so far fail
 abbrev pub invariant-types : goal.invariant-types
-invariant-types l = l.failed ≡ failed_by l.ctx (so_far (slot l.attrs) canonical_order l.kind-index)
+invariant-types l = l.failed ≡ failed_by l.ctx (so_far (slot l.attrs) l.kinds l.kind-index)
