@@ -1,11 +1,12 @@
 -- What octets come to: a message, a header with a fault, or nothing yet.
-use Rattle.std.proofs.Common.{◌≡◌, ℕ, ◌≤◌, List, length, drop, Some, None, Ok, Err, refl, ap, ◌∙◌, arith}
+use Rattle.std.proofs.Common.{◌≡◌, ℕ, ◌+◌, ◌<◌, ◌≤◌, ◌⊎◌, Bool, true, false, List, ◌++◌, length, drop, nat_lt, Option, Some, None, Result, Ok, Err, refl, sym, ap, subst, ◌∙◌, arith, inl, inr, if◌then◌else◌}
 use Rattle.std.specs.Result.{result_map_both}
-use Rattle.std.proofs.lemmas.Bool.{le-ltb, lt-ltb}
+use Rattle.std.proofs.lemmas.Bool.{cases_lt, le-ltb, lt-ltb}
 use Rattle.bgp_frame.specs.declared.fault.HeadFault.{HeadFault}
 use Rattle.bgp_frame.specs.Frame.{Message, IsFrame, wanted_by, wanted, Waits}
+use Rattle.bgp_frame.specs.Framer.{IsHeld}
 use Rattle.bgp_frame.specs.Head.{head_of}
-use Rattle.bgp_frame.proofs.FrameLemmas.{head_of-IsFrame, IsFrame-wanted, wanted_by_head}
+use Rattle.bgp_frame.proofs.FrameLemmas.{head_of-IsFrame, IsFrame-wanted, wanted_by_head, wanted-bounds, IsFrame-head_of}
 use Rattle.bgp_session.specs.Session.{content, content_of}
 
 -- enough octets come to their content
@@ -30,3 +31,37 @@ content_of-fault b f len e =
     let wants = wanted_by_head b (omega arith) ∙ ap wanted_by e in
     enough b (omega arith)
     ∙ ap (λ r. Some (result_map_both (λ head. record { kind = head.kind; body = drop 19 b }) (λ fault. fault) r)) e
+
+-- ---- the message that what is held comes to
+
+cases_of : {T E : Type 0} (r : Result T E) → ((v : T) × (r ≡ Ok v)) ⊎ ((e : E) × (r ≡ Err e))
+cases_of (Ok v) = inl (v, refl)
+cases_of (Err e) = inr (e, refl)
+
+same_message : (a b : Message) (r : Result Message HeadFault) → r ≡ Ok a → r ≡ Ok b → a ≡ b
+same_message a b r is says = cc
+
+neither : (r : Result Message HeadFault) (f : HeadFault) (m : Message) → r ≡ Err f → r ≡ Ok m → ⊥
+neither r f m faulty fine = cc
+
+content-frame : (m : Message) (b : List ℕ) → IsHeld b → wanted b ≤ length b → content b ≡ Ok m → IsFrame m b
+content-frame m b held long is =
+    let bounds = wanted-bounds b in
+    let header : 19 ≤ length b = omega (arith, bounds.0) in
+    elim (cases_of (head_of b)) [
+      | inl found ↦
+          let wants = wanted_by_head b header ∙ ap wanted_by found.1 in
+          let frame = IsFrame-head_of b found.0 held.octets found.1 (omega (arith, held.within)) in
+          let says = ap (result_map_both (λ head. record { kind = head.kind; body = drop 19 b }) (λ fault. fault)) found.1 in
+          subst (λ (x : Message). IsFrame x b) (same_message (record { kind = found.0.kind; body = drop 19 b }) m (content b) says is) frame
+      | inr fault ↦
+          let says = ap (result_map_both (λ head. record { kind = head.kind; body = drop 19 b }) (λ fault. fault)) fault.1 in
+          absurd (neither (content b) fault.0 m says is)
+    ]
+
+pub content_of-message : (m : Message) (b : List ℕ) → IsHeld b → content_of b ≡ Some (Ok m) → IsFrame m b
+content_of-message m b held is =
+    elim (cases_lt (length b) (wanted b)) [
+      | inl waits ↦ absurd (let not : None ≡ Some (Ok m) = sym (content_of-waits b waits) ∙ is in cc)
+      | inr long ↦ content-frame m b held long (let same : Some (content b) ≡ Some (Ok m) = sym (enough b long) ∙ is in cc)
+    ]

@@ -2,3 +2,6 @@
 pub mod Contents
 pub mod Steps
 pub mod Pulls
+pub mod Held
+pub mod Lives
+pub mod Sendings

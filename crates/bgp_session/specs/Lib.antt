@@ -3,3 +3,5 @@ pub mod Standing
 pub mod Table
 pub mod Session
 pub mod Pulling
+pub mod Sending
+pub mod Life

@@ -78,6 +78,10 @@ judged x = option_map (hears x.settings x.standing) (content_of x.held)
 abbrev pub after_step : Machine → Step → Machine
 after_step x step = record { settings = x.settings; standing = step.next; held = [] }
 
+abbrev pub after_judged : Machine → Option Step → Machine
+after_judged x None = x
+after_judged x (Some step) = after_step x step
+
 -- what is held is whole: these actions are done, and the session is what they leave
 pub record Does (old : Machine) (actions : List Action) (new : Machine) : Type 0 where
   pub whole : Stops old.held

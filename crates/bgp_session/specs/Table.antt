@@ -1,7 +1,7 @@
 -- The state table: what is done on each event and each message in each state, and the state behind it (RFC 4271, section 8.2.2).
 -- What isn't listed does nothing.
 use Rattle.std.specs.Prelude.{ℕ, ◌/◌, Bool, true, false, nat_lt, List, [], ◌∷◌, ◌++◌, Option, None, Some, Result, Ok, Err, if◌then◌else◌}
-use Rattle.bgp_numbers.specs.declared.error.TheConstants.{HOLD_TIMER_EXPIRED, FINITE_STATE_MACHINE, CEASE, UNSPECIFIC, UNEXPECTED_IN_OPEN_SENT, UNEXPECTED_IN_OPEN_CONFIRM, UNEXPECTED_IN_ESTABLISHED}
+use Rattle.bgp_numbers.specs.declared.error.TheConstants.{OPEN_MESSAGE, HOLD_TIMER_EXPIRED, FINITE_STATE_MACHINE, CEASE, UNSPECIFIC, UNEXPECTED_IN_OPEN_SENT, UNEXPECTED_IN_OPEN_CONFIRM, UNEXPECTED_IN_ESTABLISHED}
 use Rattle.bgp_frame.specs.declared.fault.HeadFault.{HeadFault}
 use Rattle.bgp_frame.specs.declared.kind.Kind.{Kind}
 use Rattle.bgp_frame.specs.declared.kind.Kind.TheVariants as kind
@@ -139,10 +139,10 @@ abbrev pub on_agreement : Standing → Result Context PeerFault → Step
 on_agreement x (Ok ctx) = accepted x ctx
 on_agreement x (Err fault) = reset x (peer_notification fault)
 
--- each fault of an OPEN has an answer
+-- the answer to a fault of an OPEN: only a refused growth has none, which is no fault of a body
 abbrev pub answered : Standing → Option Notification → Step
 answered x (Some why) = reset x why
-answered x None = nothing x
+answered x None = reset x (error OPEN_MESSAGE UNSPECIFIC [])
 
 abbrev pub on_open : Settings → Standing → Result Open OpenFault → Step
 on_open s x (Ok o) = on_agreement x (agreement s o)

@@ -85,11 +85,10 @@ impl Standing {
                 Err(fault) => self.reset(fault.notification(), actions),
             },
             Err(OpenFault::Memory) => return Err(AllocError),
-            Err(fault) => {
-                if let Some(why) = fault.notification() {
-                    self.reset(why, actions);
-                }
-            }
+            Err(fault) => match fault.notification() {
+                Some(why) => self.reset(why, actions),
+                None => return Err(AllocError),
+            },
         }
         Ok(())
     }

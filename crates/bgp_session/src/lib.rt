@@ -6,8 +6,10 @@ mod action;
 mod event;
 mod events;
 mod hearing;
+pub mod laws;
 mod phase;
 mod send_fault;
+mod sending;
 mod session;
 mod standing;
 mod state;
@@ -20,3 +22,6 @@ pub use send_fault::SendFault;
 pub use session::Session;
 pub use state::State;
 pub use timer::{OPEN_HOLD_SECONDS, RETRY_SECONDS, Timer};
+
+#[cfg(test)]
+mod tests;

@@ -86,10 +86,10 @@ impl Session {
         let mut actions = ArrayVec::new();
         match front(piece) {
             Step::More => Ok((self.feed(piece), None)),
-            Step::Frame(frame) => {
+            Step::Frame(message) => {
                 self.standing
-                    .hear(alloc, &self.config, frame, &mut actions)?;
-                Ok((frame.len as usize, Some(actions)))
+                    .hear(alloc, &self.config, message, &mut actions)?;
+                Ok((message.len as usize, Some(actions)))
             }
             Step::Fault(fault) => {
                 self.standing.hear_fault(fault, &mut actions);

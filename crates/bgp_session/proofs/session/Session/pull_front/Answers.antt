@@ -6,9 +6,9 @@ pub returns-in_err-hear-in-Frame-clause-memory : goal.returns-in_err-hear-in-Fra
 returns-in_err-hear-in-Frame-clause-memory c =
     let p = err_from_is_err_and c.from_residual.result c.from_residual.ensures.1 in
     let inside = c.self.inside in
-    let frame = c.in-Frame.frame in
+    let message = c.in-Frame.message in
     rw p.1 (front_memory inside.config inside.standing inside.framer c.args.piece.now c.args.self.now c.self.view_is c.requires.hears c.requires.none_held
-    (record { kind = frame.kind; body = frame.body.now }) frame.len c.in-Frame.ensures c.in_err-hear-in-Frame.ensures.memory)
+    (record { kind = message.kind; body = message.body.now }) message.len c.in-Frame.ensures c.in_err-hear-in-Frame.ensures.memory)
 
 pub returns-in-More-clause-ok : goal.returns-in-More-clause-ok
 returns-in-More-clause-ok c =
@@ -17,9 +17,9 @@ returns-in-More-clause-ok c =
 pub returns-in_ok-hear-in-Frame-clause-ok : goal.returns-in_ok-hear-in-Frame-clause-ok
 returns-in_ok-hear-in-Frame-clause-ok c =
     let inside = c.self.inside in
-    let frame = c.in-Frame.frame in
+    let message = c.in-Frame.message in
     pulls_message inside.config inside.standing inside.framer c.args.piece.now c.args.self.now c.self.view_is c.requires.hears c.requires.none_held
-    (record { kind = frame.kind; body = frame.body.now }) frame.len c.hear.new.actions c.hear.new.self c.in-Frame.ensures
+    (record { kind = message.kind; body = message.body.now }) message.len c.hear.new.actions c.hear.new.self c.in-Frame.ensures
     c.in_ok-hear-in-Frame.ensures.actions c.in_ok-hear-in-Frame.ensures.after
 
 pub returns-in-Fault-clause-ok : goal.returns-in-Fault-clause-ok
