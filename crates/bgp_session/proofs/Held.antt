@@ -1,5 +1,5 @@
 -- What is held stays what can be held.
-use Rattle.std.proofs.Common.{◌≡◌, ℕ, ◌+◌, ◌-◌, ◌<◌, ◌≤◌, List, [], ◌++◌, length, take, drop, refl, sym, ap, subst, ◌∙◌, append_assoc, arith, inl, inr}
+use Rattle.std.proofs.Common.{◌≡◌, ℕ, ◌+◌, ◌-◌, ◌<◌, ◌≤◌, List, ◌++◌, length, take, drop, sym, ap, ◌∙◌, append_assoc, arith, inl, inr}
 use Rattle.std.proofs.lemmas.Bool.{cases_lt}
 use Rattle.std.proofs.lemmas.List.{length-append, length-take, take-append-drop, take-take}
 use Rattle.bgp_wire.specs.Octets.{AreOctets}
@@ -7,7 +7,7 @@ use Rattle.bgp_wire.proofs.OctetLemmas.{AreOctets-append, AreOctets-take}
 use Rattle.bgp_frame.specs.Frame.{wanted}
 use Rattle.bgp_frame.specs.Framer.{IsHeld}
 use Rattle.bgp_frame.specs.Takes.{Takes}
-use Rattle.bgp_frame.proofs.FrameLemmas.{wanted-append, wanted-bounds, wanted_under, wanted-Stops}
+use Rattle.bgp_frame.proofs.FrameLemmas.{wanted-append, wanted-bounds, wanted-Stops}
 
 module _ (held piece : List ℕ) (n : ℕ) (is : IsHeld held) (octets : AreOctets piece) (takes : Takes held piece n) where
   abbrev fed : List ℕ

@@ -1,5 +1,5 @@
 -- What is kept through a whole life: what the octets that were taken are, in each state.
-use Rattle.std.proofs.Common.{◌≡◌, ℕ, ◌+◌, ◌-◌, ◌<◌, ◌≤◌, Bool, true, false, List, [], ◌∷◌, ◌++◌, length, take, drop, Option, Some, None, Result, Ok, Err, option_map, refl, sym, ap, subst, ap₂, ◌∙◌, append_assoc, arith, inl, inr, if◌then◌else◌}
+use Rattle.std.proofs.Common.{◌≡◌, ℕ, Bool, true, false, List, [], ◌∷◌, ◌++◌, take, Option, Some, None, Result, Ok, Err, option_map, refl, sym, ap, subst, ap₂, ◌∙◌, append_assoc, arith, if◌then◌else◌}
 use Rattle.std.proofs.lemmas.List.{append-nil, nil_from_length}
 use Rattle.bgp_wire.specs.Octets.{AreOctets}
 use Rattle.bgp_frame.specs.declared.fault.HeadFault.{HeadFault}
@@ -28,8 +28,8 @@ use Rattle.bgp_session.specs.declared.timer.Timer.TheVariants as timer
 use Rattle.bgp_session.specs.declared.timer.Timers.{Timers}
 use Rattle.bgp_session.specs.Standing.{Standing, runs, listens}
 use Rattle.bgp_session.specs.Table.{Step, on_agreement, answered, on_open, on_verdict, on_update, on_message, hears, happens}
-use Rattle.bgp_session.specs.Session.{Machine, kept, CountsFed, holding, content_of, judged, after_judged}
-use Rattle.bgp_session.specs.Life.{Call, Told, Fed, Stepped, Life, born, connects, taken_behind, told, stepped, Eats, Goes, Lives, BeginsByOpenAndKeepalive}
+use Rattle.bgp_session.specs.Session.{Machine, kept, CountsFed, holding, content_of, after_judged}
+use Rattle.bgp_session.specs.Life.{Call, Told, Fed, Stepped, Life, born, connects, taken_behind, told, Eats, Goes, Lives, BeginsByOpenAndKeepalive}
 use Rattle.bgp_session.proofs.Contents.{content_of-message}
 use Rattle.bgp_session.proofs.Held.{IsHeld-fed}
 

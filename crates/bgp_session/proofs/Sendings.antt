@@ -1,5 +1,5 @@
 -- An UPDATE that may be sent is valid as it is told.
-use Rattle.std.proofs.Common.{◌≡◌, Bool, true, false, Option, Some, None, refl, sym, ap, subst, ◌∙◌}
+use Rattle.std.proofs.Common.{◌≡◌, Bool, true, false, Option, Some, None, refl, sym, ap, subst}
 use Rattle.bgp_open.specs.declared.context.Context.{Context}
 use Rattle.bgp_update.specs.declared.invalid.Invalid.{Invalid}
 use Rattle.bgp_update.specs.declared.invalid.Invalid.TheVariants as invalid
