@@ -6,8 +6,8 @@ use Rattle.bgp_frame.specs.Frame as frame
 use Rattle.bgp_frame.specs.Frame.{octets_of}
 use Rattle.bgp_open.specs.declared.context.Context.{Context}
 use Rattle.bgp_update.specs.declared.attrs.Attrs.{Attrs}
-use Rattle.bgp_update.specs.declared.update.Update.{Update}
-use Rattle.bgp_update.specs.As4.{narrowed}
+use Rattle.bgp_update.specs.As4.{narrowed_update}
+use Rattle.bgp_update.specs.Widths.{with_as4}
 use Rattle.bgp_msg.specs.declared.message.Message.{Message}
 use Rattle.bgp_msg.specs.declared.message.Message.TheVariants as message
 use Rattle.bgp_msg.specs.declared.outcome.Outcome.{Outcome}
@@ -23,10 +23,6 @@ use Rattle.bgp_engine.specs.Rules.{Rules, IsReport}
 use Rattle.bgp_engine.specs.Run.{Reports}
 use Rattle.bgp_engine.specs.Tally.{no_tally}
 
--- the same session, but for the width of its AS numbers
-abbrev pub two_octets : Context → Context
-two_octets ctx = record { internal = ctx.internal; as4 = false; ip4 = ctx.ip4; ip6 = ctx.ip6; hold = ctx.hold }
-
 -- the written form, where it can be written
 abbrev pub written_in : Context → Message → Option (List ℕ)
 written_in ctx m = if is_valid ctx m && not (is_too_long ctx m) then Some (canonical ctx m) else None
@@ -35,12 +31,9 @@ written_in ctx m = if is_valid ctx m && not (is_too_long ctx m) then Some (canon
 abbrev pub has_as4 : Attrs → Bool
 has_as4 a = is_some a.as4_path || is_some a.as4_aggregator
 
-abbrev pub narrowed_update : Update → Message
-narrowed_update u = message.Update (record { withdrawn = u.withdrawn; attrs = narrowed u.attrs; nlri = u.nlri })
-
 -- an UPDATE is narrowed, and every other message goes on octet for octet
 abbrev pub narrowed_message : Context → frame.Message → Message → Option (List ℕ)
-narrowed_message ctx m (message.Update u) = if has_as4 u.attrs then None else written_in (two_octets ctx) (narrowed_update u)
+narrowed_message ctx m (message.Update u) = if has_as4 u.attrs then None else written_in (with_as4 false ctx) (message.Update (narrowed_update u))
 narrowed_message ctx m (message.Open o) = Some (octets_of m)
 narrowed_message ctx m (message.Notification n) = Some (octets_of m)
 narrowed_message ctx m message.Keepalive = Some (octets_of m)

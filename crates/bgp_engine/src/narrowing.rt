@@ -5,10 +5,11 @@ ghost use Rattle.bgp_frame.specs.Frame.{octets_of};
 ghost use Rattle.bgp_frame.specs.Kind.{IsLength};
 ghost use Rattle.bgp_msg.specs.Outcome.{of_verdict, out_of};
 ghost use Rattle.bgp_msg.specs.declared.message.Message.TheVariants as message;
-ghost use Rattle.bgp_update.specs.As4.{HasNoAs4};
+ghost use Rattle.bgp_update.specs.As4.{HasNoAs4, narrowed_update};
 ghost use Rattle.bgp_update.specs.Verdict.{verdict_of};
 ghost use Rattle.bgp_update.specs.View.{update_value};
-ghost use Rattle.bgp_engine.specs.Narrow.{Narrowed, WritesNarrow, two_octets, has_as4, written_in, narrowed_update, narrowed_message, narrowed_outcome, narrow_answer};
+ghost use Rattle.bgp_update.specs.Widths.{with_as4};
+ghost use Rattle.bgp_engine.specs.Narrow.{Narrowed, WritesNarrow, has_as4, written_in, narrowed_message, narrowed_outcome, narrow_answer};
 ghost use Rattle.bgp_engine.specs.Run.{Answers};
 
 use crate::class::Class;
@@ -25,7 +26,7 @@ use std::io::{Read, Write};
 
 // The same session, but for the width of its AS numbers.
 fn two_octets(ctx: &Context) -> Context
-    ensures { result ≡ two_octets ctx.now }
+    ensures { result ≡ with_as4 false ctx.now }
 {
     Context { as4: false, ..*ctx }
 }
@@ -60,10 +61,10 @@ fn has_as4(attrs: &Attrs) -> bool
     attrs.as4_path.is_some() || attrs.as4_aggregator.is_some()
 }
 
-// An UPDATE as a speaker with AS numbers of two octets is told it.
+// An UPDATE as a speaker with AS numbers of two octets is told it: its routes are moved, not copied.
 fn narrow_update(alloc: Global, update: Update) -> Result<Update, AllocError>
     requires { HasNoAs4 update.attrs }
-    ensures { IfOk result (λ told. message.Update told ≡ narrowed_update update) }
+    ensures { IfOk result (λ told. told ≡ narrowed_update update) }
 {
     let attrs = narrow(alloc, &update.attrs)?;
     Ok(Update {
@@ -80,7 +81,7 @@ fn put_narrowed(
     octets: &mut Vec<u8>,
     update: Update,
 ) -> Result<Class, AllocError>
-    ensures { IfOk result (λ class. WritesNarrow octets.old.items octets.new.items (if has_as4 update.attrs then None else written_in (two_octets ctx.now) (narrowed_update update)) class) }
+    ensures { IfOk result (λ class. WritesNarrow octets.old.items octets.new.items (if has_as4 update.attrs then None else written_in (with_as4 false ctx.now) (message.Update (narrowed_update update))) class) }
 {
     if has_as4(&update.attrs) {
         return Ok(Class::Reset);
@@ -97,7 +98,7 @@ fn put_view(
     octets: &mut Vec<u8>,
     view: &UpdateView<'_>,
 ) -> Result<Class, AllocError>
-    ensures { IfOk result (λ class. WritesNarrow octets.old.items octets.new.items (if has_as4 (update_value view.now).attrs then None else written_in (two_octets ctx.now) (narrowed_update (update_value view.now))) class) }
+    ensures { IfOk result (λ class. WritesNarrow octets.old.items octets.new.items (if has_as4 (update_value view.now).attrs then None else written_in (with_as4 false ctx.now) (message.Update (narrowed_update (update_value view.now)))) class) }
 {
     let update = view.own(alloc)?;
     put_narrowed(alloc, ctx, octets, update)

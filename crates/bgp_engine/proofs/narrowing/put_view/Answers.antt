@@ -1,11 +1,14 @@
-use Rattle.std.proofs.Common.{IfOk, None, subst}
+use Rattle.std.proofs.Common.{IfOk, false, None, subst}
 use Rattle.std.specs.Prelude.{if◌then◌else◌}
 use Rattle.bgp_update.specs.declared.update.Update.{Update}
-use Rattle.bgp_engine.specs.Narrow.{WritesNarrow, two_octets, has_as4, narrowed_update, written_in}
+use Rattle.bgp_update.specs.As4.{narrowed_update}
+use Rattle.bgp_update.specs.Widths.{with_as4}
+use Rattle.bgp_msg.specs.declared.message.Message.TheVariants as message
+use Rattle.bgp_engine.specs.Narrow.{WritesNarrow, has_as4, written_in}
 use Rattle.bgp_engine.proofs.narrowing.put_view.Goals as goal
 
 pub returns : goal.returns
 returns c =
     let old = c.args.octets.now.items in
     let new = c.put_narrowed.new.octets.items in
-    subst (λ (u : Update). IfOk c.put_narrowed.result (λ class. WritesNarrow old new (if has_as4 u.attrs then None else written_in (two_octets c.args.ctx.now) (narrowed_update u)) class)) c.in_ok-update.ensures c.put_narrowed.ensures
+    subst (λ (u : Update). IfOk c.put_narrowed.result (λ class. WritesNarrow old new (if has_as4 u.attrs then None else written_in (with_as4 false c.args.ctx.now) (message.Update (narrowed_update u))) class)) c.in_ok-update.ensures c.put_narrowed.ensures
