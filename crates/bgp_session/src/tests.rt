@@ -1,6 +1,7 @@
 //! What no clause says: worked results of the standard's rules, and that calls succeed where there is memory.
 
 mod lives;
+mod memory;
 mod sending;
 mod states;
 mod values;
