@@ -20,11 +20,11 @@ use Rattle.bgp_session.proofs.Held.{IsHeld-fed}
 -- ---- at rest
 
 -- what waits has nothing to do
-idles : (x : Machine) → Waits x.held → judged x ≡ None
+pub idles : (x : Machine) → Waits x.held → judged x ≡ None
 idles x waits = ap (option_map (hears x.settings x.standing)) (content_of-waits x.held waits)
 
 -- what has nothing to do waits
-waits_at : (x : Machine) → judged x ≡ None → Waits x.held
+pub waits_at : (x : Machine) → judged x ≡ None → Waits x.held
 waits_at x none =
     elim (cases_lt (length x.held) (wanted x.held)) [
       | inl waits ↦ waits
@@ -117,14 +117,14 @@ pub until_settled : (n : ℕ) (x : Machine) (actions : List Action) (y : Machine
 until_settled zero x actions y u = rests x u.0.0 ∙ same_done [] actions x y (sym u.1) (sym u.0.1)
 until_settled (suc n) x actions y u = settled_by x actions y (behind_first n x actions y u)
 
-rests_empty : (x : Machine) → x.held ≡ [] → IsAtRest x
+pub rests_empty : (x : Machine) → x.held ≡ [] → IsAtRest x
 rests_empty x none = record {
   can_hold = subst IsHeld (sym none) IsHeld_nil;
   nothing_to_do = idles x (subst Waits (sym none) nothing_waits);
   holds_none = λ deaf. none;
 }
 
-not_both : (b : Bool) → b ≡ true → b ≡ false → ⊥
+pub not_both : (b : Bool) → b ≡ true → b ≡ false → ⊥
 not_both b up deaf = cc
 
 pub until_rests : (n : ℕ) (x : Machine) (actions : List Action) (y : Machine) → listens x.standing.state ≡ true → IsHeld x.held → Until n x actions y → IsAtRest y

@@ -6,3 +6,4 @@ pub mod Held
 pub mod Lives
 pub mod Sendings
 pub mod Cuttings
+pub mod Feedings

@@ -1,5 +1,5 @@
 -- Octets that are fed to a session in pieces, with all that is to be done behind each feed.
-use Rattle.std.specs.Prelude.{◌≡◌, ◌<◌, ℕ, zero, suc, Bool, true, false, List, [], ◌∷◌, ◌++◌, drop, Option, None, Some}
+use Rattle.std.specs.Prelude.{◌≡◌, ◌<◌, ℕ, zero, suc, Bool, true, false, List, [], ◌∷◌, ◌++◌, map, drop, Option, None, Some}
 use Rattle.std.specs.List.{flat_map}
 use Rattle.bgp_frame.specs.Framer.{IsHeld}
 use Rattle.bgp_session.specs.declared.action.Action.{Action}
@@ -74,6 +74,14 @@ pub record PiecesOn (later : Machine → List Action → Machine → Type 0) (pi
 abbrev pub Cuts : List Piece → Machine → List Action → Machine → Type 0
 Cuts [] x actions y = (actions ≡ []) × (y ≡ x)
 Cuts (piece ∷ later) x actions y = PiecesOn (Cuts later) piece x actions y
+
+-- octets that come in these pieces can be fed in some turns
+pub record CanBeFed (x : Machine) (pieces : List (List ℕ)) : Type 0 where
+  pub cut : List Piece
+  pub are : map (λ p. p.octets) cut ≡ pieces
+  pub actions : List Action
+  pub session : Machine
+  pub cuts : Cuts cut x actions session
 
 -- ---- octet by octet
 
