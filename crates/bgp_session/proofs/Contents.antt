@@ -10,7 +10,7 @@ use Rattle.bgp_frame.proofs.FrameLemmas.{head_of-IsFrame, IsFrame-wanted, wanted
 use Rattle.bgp_session.specs.Session.{content, content_of}
 
 -- enough octets come to their content
-enough : (b : List ℕ) → wanted b ≤ length b → content_of b ≡ Some (content b)
+pub enough : (b : List ℕ) → wanted b ≤ length b → content_of b ≡ Some (content b)
 enough b long = rw (le-ltb (length b) (wanted b) long) refl
 
 pub content_of-waits : (b : List ℕ) → Waits b → content_of b ≡ None

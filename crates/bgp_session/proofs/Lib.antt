@@ -5,3 +5,5 @@ pub mod Pulls
 pub mod Held
 pub mod Lives
 pub mod Sendings
+pub mod Cuttings
+pub mod Feedings

@@ -5,3 +5,4 @@ pub mod Session
 pub mod Pulling
 pub mod Sending
 pub mod Life
+pub mod Cutting
