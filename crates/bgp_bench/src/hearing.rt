@@ -1,0 +1,119 @@
+//! A session that hears a stream.
+
+use crate::stream::PIECE;
+use arrayvec::ArrayVec;
+use bgp_attr::{MpReach, MpUnreach};
+use bgp_frame::head;
+use bgp_msg::Kind;
+use bgp_open::{BadConfig, Config, own_frame};
+use bgp_session::{Action, Event, Session};
+use bgp_update::{Routes, Update};
+use std::alloc::{AllocError, Global};
+use std::io;
+
+/// What a session wants done: actions in number, and the routes that they announce and withdraw.
+#[derive(Clone, Copy)]
+struct Heard {
+    actions: u64,
+    announced: u64,
+    withdrawn: u64,
+}
+
+fn announced_by(update: &Update) -> usize {
+    let reached = match &update.attrs.mp_reach {
+        Some(MpReach::Ip4 { nlri, .. }) => nlri.len(),
+        Some(MpReach::Ip6 { nlri, .. }) => nlri.len(),
+        None => 0,
+    };
+    reached.saturating_add(update.nlri.len())
+}
+
+fn withdrawn_by(update: &Update) -> usize {
+    let unreached = match &update.attrs.mp_unreach {
+        Some(MpUnreach::Ip4(routes)) => routes.len(),
+        Some(MpUnreach::Ip6(routes)) => routes.len(),
+        None => 0,
+    };
+    unreached.saturating_add(update.withdrawn.len())
+}
+
+fn withdrawn_with(routes: &Routes) -> usize {
+    routes.ip4.len().saturating_add(routes.ip6.len())
+}
+
+impl Heard {
+    fn new() -> Heard {
+        Heard {
+            actions: 0,
+            announced: 0,
+            withdrawn: 0,
+        }
+    }
+
+    fn count(&mut self, action: &Action) {
+        let (announced, withdrawn) = match action {
+            Action::Announce(update, _) => (announced_by(update), withdrawn_by(update)),
+            Action::Withdraw(routes) => (0, withdrawn_with(routes)),
+            _ => (0, 0),
+        };
+        self.actions = self.actions.saturating_add(1);
+        self.announced = self.announced.saturating_add(announced as u64);
+        self.withdrawn = self.withdrawn.saturating_add(withdrawn as u64);
+    }
+}
+
+/// Lets the session hear a piece.
+#[tactic(auto, using(crate::proofs::Taken::session_takes_within))]
+fn hear_piece(
+    alloc: Global,
+    session: &mut Session,
+    piece: &[u8],
+    heard: &mut Heard,
+) -> Result<(), AllocError> {
+    let mut rest = piece;
+    for _turn in 0..u64::MAX {
+        let (taken, found) = session.pull(alloc, rest)?;
+        rest = &rest[taken..];
+        match &found {
+            Some(actions) => {
+                for action in actions.as_slice() {
+                    heard.count(action);
+                }
+            }
+            None if taken == 0 => break,
+            None => {}
+        }
+    }
+    Ok(())
+}
+
+/// A session of AS 65002 that is Established with AS 65001. Both offer AS numbers of four octets, IPv4 and IPv6.
+fn established(alloc: Global) -> Result<Session, AllocError> {
+    let own = Config::new(65002, 65001, [192, 0, 2, 2], 90, true, true, true).unwrap();
+    let peer = Config::new(65001, 65002, [192, 0, 2, 1], 90, true, true, true).unwrap();
+    let mut session = Session::new(own);
+    session.event(Event::Start);
+    session.event(Event::Connected);
+    let mut heard = Heard::new();
+    hear_piece(alloc, &mut session, &own_frame(&peer), &mut heard)?;
+    hear_piece(alloc, &mut session, &head(Kind::Keepalive, 0), &mut heard)?;
+    Ok(session)
+}
+
+/// Lets an Established session hear the stream so many times, and prints what one time came to, and where the session stood behind it.
+pub(crate) fn run(rt: &(impl Print + AllocGlobal), octets: &[u8], rounds: u32) -> io::Result<()> {
+    let mut session = established(rt.alloc())?;
+    let mut heard = Heard::new();
+    for _round in 0..rounds {
+        session = established(rt.alloc())?;
+        heard = Heard::new();
+        for piece in octets.chunks(PIECE) {
+            hear_piece(rt.alloc(), &mut session, piece, &mut heard)?;
+        }
+    }
+    println!(rt;
+        "actions {} announced {} withdrawn {}",
+        heard.actions, heard.announced, heard.withdrawn
+    )?;
+    println!(rt; "state {:?}", session.state())
+}

@@ -1,0 +1,68 @@
+//! The program `bgp_bench`: drives the library's own calls over the stream on standard input, which it reads whole first, for
+//! `bench/run` to measure. It has no clock.
+#![tactic(auto)]
+
+mod decoding;
+mod encoding;
+mod hearing;
+mod request;
+mod stream;
+
+use request::{Request, Work};
+use std::io::Read;
+use std::process::ExitCode;
+use std::{env, io};
+
+/// The status of words that ask for nothing that it does, of refused memory, and of a read or a write that failed.
+const MISUSE: u8 = 2;
+
+const MEMORY: u8 = 3;
+
+const IO: u8 = 4;
+
+/// What the words behind the program's name ask for.
+fn asked(rt: &HostRuntime) -> io::Result<Option<Request>> {
+    let words: Vec<String> = env::args(rt)?.skip(1).collect(rt.alloc())?;
+    let words: Vec<&str> = words.iter().map(|word| word.as_str()).collect(rt.alloc())?;
+    Ok(Request::parse(&words))
+}
+
+/// Does the work, and prints what one round of it came to.
+fn work(rt: &HostRuntime, request: Request) -> io::Result<()> {
+    let mut octets = Vec::new(rt.alloc());
+    rt.stdin().read_to_end(&mut octets)?;
+    match request.work {
+        Work::Decode => decoding::run(rt, &octets, request.rounds),
+        Work::Encode => encoding::run(rt, &octets, request.rounds),
+        Work::Session => hearing::run(rt, &octets, request.rounds),
+    }
+}
+
+/// Does what the words ask for, and answers the status.
+fn run(rt: &HostRuntime) -> io::Result<u8> {
+    match asked(rt)? {
+        Some(request) => {
+            work(rt, request)?;
+            Ok(0)
+        }
+        None => {
+            eprintln!(rt;
+                "bgp_bench: the words are decode, encode or session, and how many times"
+            )?;
+            Ok(MISUSE)
+        }
+    }
+}
+
+fn main(rt: HostRuntime) -> ExitCode {
+    match run(&rt) {
+        Ok(status) => ExitCode::from(status),
+        Err(fault) => {
+            let _ = eprintln!(rt; "bgp_bench: {fault}");
+            match fault.kind() {
+                io::ErrorKind::OutOfMemory => ExitCode::from(MEMORY),
+                _ => ExitCode::from(IO),
+            }
+        }
+    }
+}

@@ -1,0 +1,43 @@
+//! What the command line asks for.
+
+/// What is done with the stream.
+#[derive(Clone, Copy)]
+pub(crate) enum Work {
+    /// Its messages are decoded.
+    Decode,
+    /// Its messages are decoded once, and encoded.
+    Encode,
+    /// A session hears it.
+    Session,
+}
+
+/// What is done, and how many times.
+#[derive(Clone, Copy)]
+pub(crate) struct Request {
+    pub(crate) work: Work,
+    pub(crate) rounds: u32,
+}
+
+impl Work {
+    fn parse(word: &str) -> Option<Work> {
+        match word {
+            "decode" => Some(Work::Decode),
+            "encode" => Some(Work::Encode),
+            "session" => Some(Work::Session),
+            _ => None,
+        }
+    }
+}
+
+impl Request {
+    /// What these words ask for: the work, and behind it the rounds, which are one where nothing is said.
+    pub(crate) fn parse(words: &[&str]) -> Option<Request> {
+        let (work, rounds) = match words.len() {
+            1 => (words[0], 1),
+            2 => (words[0], words[1].parse::<u32>().ok()?),
+            _ => return None,
+        };
+        let work = Work::parse(work)?;
+        Some(Request { work, rounds })
+    }
+}

@@ -1,0 +1,53 @@
+//! A stream that a decoder takes in pieces.
+
+use bgp_msg::{Decoder, Outcome};
+use bgp_open::Context;
+use std::alloc::{AllocError, Global};
+
+/// How many octets a piece has.
+pub(crate) const PIECE: usize = 65536;
+
+/// What the speakers of the stream agreed on.
+pub(crate) const CONTEXT: Context = Context {
+    internal: false,
+    as4: true,
+    ip4: true,
+    ip6: true,
+    hold: 90,
+};
+
+/// Who is shown what the messages of a stream come to.
+pub(crate) trait See {
+    /// Sees what a message of so many octets comes to.
+    fn see(&mut self, alloc: Global, len: u16, outcome: &Outcome) -> Result<(), AllocError>;
+}
+
+/// Shows what comes of a piece.
+#[tactic(auto, using(crate::proofs::Taken::decoder_takes_within))]
+fn decode_piece<S: See>(
+    alloc: Global,
+    decoder: &mut Decoder,
+    piece: &[u8],
+    seer: &mut S,
+) -> Result<(), AllocError> {
+    let mut rest = piece;
+    for _turn in 0..u64::MAX {
+        let (taken, found) = decoder.pull(alloc, rest)?;
+        rest = &rest[taken..];
+        match &found {
+            Some((len, outcome)) => seer.see(alloc, *len, outcome)?,
+            None if taken == 0 => break,
+            None => {}
+        }
+    }
+    Ok(())
+}
+
+/// Shows what comes of a stream.
+pub(crate) fn decode<S: See>(alloc: Global, octets: &[u8], seer: &mut S) -> Result<(), AllocError> {
+    let mut decoder = Decoder::new(CONTEXT);
+    for piece in octets.chunks(PIECE) {
+        decode_piece(alloc, &mut decoder, piece, seer)?;
+    }
+    Ok(())
+}
