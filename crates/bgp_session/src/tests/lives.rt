@@ -111,9 +111,9 @@ fn pulled(
         let piece = &rest[..size.min(rest.len())];
         let (taken, found) = session.pull(rt.alloc(), piece)?;
         rest = &rest[taken..];
-        if let Some(mut actions) = found {
-            while !actions.is_empty() {
-                done.push(actions.remove(0))?;
+        if let Some(actions) = found {
+            for action in actions {
+                done.push(action)?;
             }
         } else if taken == 0 {
             break;
@@ -121,9 +121,9 @@ fn pulled(
     }
     let (taken, found) = session.pull(rt.alloc(), &[])?;
     assert_eq!(rt; taken, 0);
-    if let Some(mut actions) = found {
-        while !actions.is_empty() {
-            done.push(actions.remove(0))?;
+    if let Some(actions) = found {
+        for action in actions {
+            done.push(action)?;
         }
     }
     Ok((done, session.state()))
