@@ -22,16 +22,17 @@ impl Session {
         ensures err { OnErr result (self.new ≡ self.old) }
         ensures memory { OnErr result (HeldTakesMemory self.old) }
     {
-        let mut actions = ArrayVec::new();
         match self.framer.step() {
             Step::More => Ok(None),
             Step::Frame(frame) => {
+                let mut actions = ArrayVec::new();
                 self.standing
                     .hear(alloc, &self.config, frame, &mut actions)?;
                 self.framer.clear();
                 Ok(Some(actions))
             }
             Step::Fault(fault) => {
+                let mut actions = ArrayVec::new();
                 self.standing.hear_fault(fault, &mut actions);
                 self.framer.clear();
                 Ok(Some(actions))
@@ -62,13 +63,13 @@ impl Session {
         if !self.standing.listens() {
             return Ok((0, None));
         }
+        if self.framer.held() == 0 {
+            return self.pull_front(alloc, piece);
+        }
         if let Some(actions) = self.step(alloc)? {
             return Ok((0, Some(actions)));
         }
-        if self.framer.held() > 0 {
-            return Ok((self.feed(piece), None));
-        }
-        self.pull_front(alloc, piece)
+        Ok((self.feed(piece), None))
     }
 
     /// Pulls from a piece where nothing is held.
@@ -83,15 +84,16 @@ impl Session {
         ensures err { OnErr result (self.new ≡ self.old) }
         ensures memory { OnErr result (FrontTakesMemory self.old piece.now) }
     {
-        let mut actions = ArrayVec::new();
         match front(piece) {
             Step::More => Ok((self.feed(piece), None)),
             Step::Frame(message) => {
+                let mut actions = ArrayVec::new();
                 self.standing
                     .hear(alloc, &self.config, message, &mut actions)?;
                 Ok((message.len as usize, Some(actions)))
             }
             Step::Fault(fault) => {
+                let mut actions = ArrayVec::new();
                 self.standing.hear_fault(fault, &mut actions);
                 Ok((19, Some(actions)))
             }
