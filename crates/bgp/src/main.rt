@@ -17,7 +17,7 @@ fn run(rt: &HostRuntime, words: &[String]) -> Result<u8, AllocError> {
     let input = &mut rt.stdin();
     let output = &mut rt.stdout();
     let errors = &mut rt.stderr();
-    Ok(bgp_tool::command(alloc, &words, input, output, errors))
+    Ok(bgp_tool::command(rt, alloc, &words, input, output, errors))
 }
 
 fn main(rt: HostRuntime) -> ExitCode {

@@ -131,6 +131,8 @@ module _ (reports0 : Reports) (hex : Bool) (r0 w0 : Option (List ℕ)) where
     finished (Err fault.Write) all_read a = fails_write a.report a.reported a.none a.wrote
     finished (Err fault.Read) all_read a = absurd a
     finished (Err (fault.BadHex n)) all_read a = absurd a
+    finished (Err (fault.Script n)) all_read a = absurd a
+    finished (Err fault.Net) all_read a = absurd a
     finished (Err (fault.Narrow n)) all_read a = fails_narrow n all_read a
 
   -- nothing was read yet

@@ -139,6 +139,8 @@ closes_by reports t0 t1 (Err fault.Memory) is c = absurd is
 closes_by reports t0 t1 (Err fault.Read) is c = absurd is
 closes_by reports t0 t1 (Err fault.Write) is c = absurd is
 closes_by reports t0 t1 (Err (fault.BadHex n)) is c = absurd is
+closes_by reports t0 t1 (Err (fault.Script n)) is c = absurd is
+closes_by reports t0 t1 (Err fault.Net) is c = absurd is
 
 module _ {Outcome : Type 0} where
   -- what is reported where nothing has ended yet

@@ -77,4 +77,6 @@ Finished reports told old new (Err fault.Memory) = WritesNone reports old new
 Finished reports told old new (Err fault.Write) = WritesFront reports told old new
 Finished reports told old new (Err fault.Read) = ⊥
 Finished reports told old new (Err (fault.BadHex n)) = ⊥
+Finished reports told old new (Err (fault.Script n)) = ⊥
+Finished reports told old new (Err fault.Net) = ⊥
 Finished reports told old new (Err (fault.Narrow n)) = WritesAll reports told old new (Err (fault.Narrow n))

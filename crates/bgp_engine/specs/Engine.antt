@@ -55,4 +55,6 @@ Closes reports told_old told_new (Err fault.Memory) = (r : Report) × reports []
 Closes reports told_old told_new (Err fault.Read) = ⊥
 Closes reports told_old told_new (Err fault.Write) = ⊥
 Closes reports told_old told_new (Err (fault.BadHex n)) = ⊥
+Closes reports told_old told_new (Err (fault.Script n)) = ⊥
+Closes reports told_old told_new (Err fault.Net) = ⊥
 Closes reports told_old told_new (Err (fault.Narrow n)) = ClosesBy reports told_old told_new (Err (fault.Narrow n))

@@ -60,6 +60,8 @@ IsFaultOf hex text reader_new report written fault.Write = IsFront written (repo
 IsFaultOf hex text reader_new report written (fault.BadHex n) = (written ≡ report.lines) × IsBadAt hex text reader_new report.end_of n
 IsFaultOf hex text reader_new report written (fault.Narrow n) =
     (written ≡ report.lines ++ report.last) × (report.answer ≡ Err (fault.Narrow n)) × IsAllRead hex text reader_new report.end_of
+IsFaultOf hex text reader_new report written (fault.Script n) = ⊥
+IsFaultOf hex text reader_new report written fault.Net = ⊥
 
 -- A text was read, and what was written is of the report of its stream.
 pub record Fails (reports : Reports) (hex : Bool) (io : Io) (f : ToolFault) : Type 0 where

@@ -24,6 +24,12 @@ pub enum ToolFault {
     /// The message, the faulty header or the rest at this place of the stream, counted from 0, can't be narrowed.
     #[error("cannot narrow at {0}")]
     Narrow(u64),
+    /// This line of a script is the first at fault, counted from 1.
+    #[error("script line {0}")]
+    Script(u32),
+    /// The listener of a wire over TCP couldn't be set up.
+    #[error("net failed")]
+    Net,
 }
 
 impl From<AllocError> for ToolFault {

@@ -24,5 +24,6 @@ pub use copied::{from_hex, from_hex_within};
 pub use fault::ToolFault;
 pub use hexed::{to_hex, to_hex_within};
 pub use narrowing::{narrow_stream, narrow_within};
+pub use output::put;
 pub use shown::{show, show_within};
 pub use tally::{Tally, status};

@@ -11,7 +11,7 @@ use std::io::Write;
 ///
 /// # Errors
 /// `Write` where a write fails or takes no octet; what was written before stands.
-pub(crate) fn put<W: Write>(output: &mut W, text: &[u8]) -> Result<(), ToolFault>
+pub fn put<W: Write>(output: &mut W, text: &[u8]) -> Result<(), ToolFault>
     ensures ok { OnOk result (Appends (W.contents output.old) (W.contents output.new) text.now) }
     ensures err { IfErr result (FailsWithin (W.contents output.old) (W.contents output.new) text.now) }
 {

@@ -21,14 +21,15 @@ pub struct Tally {
 }
 
 /// The status of the process: 0 where all was taken and nothing waits; 1 at a withdraw, a reset, a waiting rest, bad
-/// hexadecimal text or what can't be narrowed; 3 where memory ran out; 4 where a read or a write failed. (2 is a fault of the command line.)
+/// hexadecimal text, what can't be narrowed, or a faulty script; 3 where memory ran out; 4 where a read, a write or the set-up of a
+/// listener failed. (2 is a fault of the command line.)
 pub fn status(outcome: &Result<Tally, ToolFault>) -> u8
     ensures { result ≡ status_of outcome.now }
 {
     match outcome {
         Ok(tally) if tally.withdrawn == 0 && tally.resets == 0 && tally.end == End::Wait(0) => 0,
-        Ok(_) | Err(ToolFault::BadHex(_) | ToolFault::Narrow(_)) => 1,
+        Ok(_) | Err(ToolFault::BadHex(_) | ToolFault::Narrow(_) | ToolFault::Script(_)) => 1,
         Err(ToolFault::Memory) => 3,
-        Err(ToolFault::Read | ToolFault::Write) => 4,
+        Err(ToolFault::Read | ToolFault::Write | ToolFault::Net) => 4,
     }
 }

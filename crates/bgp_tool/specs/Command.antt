@@ -1,5 +1,5 @@
 -- What the program does with its words.
-use Rattle.std.specs.Prelude.{◌≡◌, ◌≢◌, ◌⊎◌, ℕ, Bool, true, false, List, [], Option, Some, Result}
+use Rattle.std.specs.Prelude.{◌≡◌, ◌≢◌, ◌⊎◌, ℕ, true, false, List, [], Option, Some, Result}
 use Rattle.std.specs.Io.KnownBytes.{Keeps}
 use Rattle.clap.specs.Words.{IsAmong, Text}
 use Rattle.clap.specs.declared.error.kind.ErrorKind.{ErrorKind}
@@ -7,7 +7,7 @@ use Rattle.clap.specs.declared.error.kind.ErrorKind.TheVariants as error
 use Rattle.bgp_engine.specs.declared.fault.ToolFault.{ToolFault}
 use Rattle.bgp_engine.specs.declared.tally.Tally.{Tally}
 use Rattle.bgp_engine.specs.Run as engine
-use Rattle.bgp_engine.specs.Run.{Io, Reports}
+use Rattle.bgp_engine.specs.Run.{Io}
 use Rattle.bgp_engine.specs.Show.{Shown}
 use Rattle.bgp_engine.specs.Check.{Checked}
 use Rattle.bgp_engine.specs.ToHex.{Hexed}
@@ -15,28 +15,23 @@ use Rattle.bgp_engine.specs.FromHex.{Copied}
 use Rattle.bgp_engine.specs.Narrow.{Narrowed}
 use Rattle.bgp_engine.specs.Tally.{status_of}
 use Rattle.bgp_tool.specs.declared.request.Request.{Request}
-use Rattle.bgp_tool.specs.declared.request.Request.TheVariants.{Show, Check, Narrow, ToHex, FromHex}
+use Rattle.bgp_tool.specs.declared.request.Request.TheVariants.{Show, Check, Narrow, ToHex, FromHex, Loop}
+use Rattle.bgp_loop.specs.Loop.{RunsFile}
 use Rattle.bgp_tool.specs.CommandLine.{faults_of, request_of}
 
--- the engine that a request asks for
-abbrev pub reports_of : Request → Reports
-reports_of (Show ctx hex) = Shown ctx
-reports_of (Check ctx hex) = Checked ctx
-reports_of (Narrow ctx) = Narrowed ctx
-reports_of ToHex = Hexed
-reports_of FromHex = Copied
+-- a script ran: nothing was read of the reader
+pub record RunsScript (io : Io) (outcome : Result Tally ToolFault) : Type 0 where
+  pub unread : Keeps io.reader_old io.reader_new
+  pub ran : RunsFile io.writer_old io.writer_new outcome
 
--- whether it reads hexadecimal text
-abbrev pub reads_hex : Request → Bool
-reads_hex (Show ctx hex) = hex
-reads_hex (Check ctx hex) = hex
-reads_hex (Narrow ctx) = false
-reads_hex ToHex = false
-reads_hex FromHex = true
-
--- the engine of a request ran, with this outcome
+-- the engine of a request ran, with this outcome: which one, and whether it read hexadecimal text
 abbrev pub Runs : Request → Io → Result Tally ToolFault → Type 0
-Runs request io outcome = engine.Answers (reports_of request) (reads_hex request) io outcome
+Runs (Show ctx hex) io outcome = engine.Answers (Shown ctx) hex io outcome
+Runs (Check ctx hex) io outcome = engine.Answers (Checked ctx) hex io outcome
+Runs (Narrow ctx) io outcome = engine.Answers (Narrowed ctx) false io outcome
+Runs ToHex io outcome = engine.Answers Hexed false io outcome
+Runs FromHex io outcome = engine.Answers Copied true io outcome
+Runs (Loop tcp) io outcome = RunsScript io outcome
 
 -- the engine of a request ran, and the answer is the status of its outcome
 pub record HasRun (request : Request) (io : Io) (answer : ℕ) : Type 0 where
@@ -52,7 +47,8 @@ IsWide _ = Unit {0}
 -- The words ask for an engine. It ran, as the outcome says, and the answer is its status.
 pub record RunsEngine (words : List Text) (io : Io) (answer : ℕ) : Type 0 where
   pub request : Request
-  pub asked : request_of words ≡ Some request
+  pub file : Text
+  pub asked : request_of words ≡ Some (request, file)
   pub without_fault : faults_of words ≡ []
   pub has_run : HasRun request io answer
 

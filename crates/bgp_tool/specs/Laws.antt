@@ -5,10 +5,13 @@ use Rattle.bgp_open.specs.declared.context.Context.{Context}
 use Rattle.bgp_tool.specs.declared.request.Request.{Request}
 use Rattle.bgp_tool.specs.CommandLine.{faults_of, request_of}
 
--- the words meet no error, and ask for this
-pub record CanBeDone (words : List Text) (request : Request) : Type 0 where
+-- the words meet no error, and ask for this, with this file
+pub record CanBeDoneWith (words : List Text) (request : Request) (file : Text) : Type 0 where
   pub without_fault : faults_of words ≡ []
-  pub asked : request_of words ≡ Some request
+  pub asked : request_of words ≡ Some (request, file)
+
+abbrev pub CanBeDone : List Text → Request → Type 0
+CanBeDone words request = CanBeDoneWith words request []
 
 -- a context with and without all of the other flags
 abbrev pub flags : Bool → Bool → Context

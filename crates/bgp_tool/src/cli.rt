@@ -4,12 +4,15 @@ ghost use Rattle.std.specs.Prelude.{map};
 ghost use Rattle.clap.specs.Words.{kind_of};
 ghost use Rattle.bgp_tool.specs.Command.{Answers, HasRun, IsExplained, IsQuiet, IsWide, Runs};
 
-use crate::request::{Request, parse};
+use crate::request::{Asked, Request, parse};
 use bgp_engine::{Tally, ToolFault, check, from_hex, narrow_stream, show, status, to_hex};
+use bgp_loop::run_file;
 use clap::Error;
 use clap::error::ErrorKind;
 use std::alloc::Global;
+use std::fs::Files;
 use std::io::{Read, Write};
+use std::net::Net;
 
 /// The status of a fault of the command line.
 const MISUSE: u8 = 2;
@@ -42,46 +45,51 @@ fn explain<W: Write, E: Write>(error: &Error, output: &mut W, errors: &mut E) ->
 }
 
 // Runs the engine of a request.
-fn run<R: Read, W: Write>(
+fn run<H: Files + Net, R: Read, W: Write>(
+    rt: &H,
     alloc: Global,
-    request: Request,
+    asked: Asked<'_>,
     input: &mut R,
     output: &mut W,
 ) -> Result<Tally, ToolFault>
-    requires { IsWide request }
-    ensures { Runs request (record { reader_old = R.remaining input.old; reader_new = R.remaining input.new; writer_old = W.contents output.old; writer_new = W.contents output.new }) result }
+    requires { IsWide asked.request }
+    ensures { Runs asked.entry.request (record { reader_old = R.remaining input.old; reader_new = R.remaining input.new; writer_old = W.contents output.old; writer_new = W.contents output.new }) result }
 {
-    match request {
+    match asked.request {
         Request::Show { ctx, hex } => show(alloc, &ctx, hex, input, output),
         Request::Check { ctx, hex } => check(alloc, &ctx, hex, input, output),
         Request::Narrow { ctx } => narrow_stream(alloc, &ctx, input, output),
         Request::ToHex => to_hex(alloc, input, output),
         Request::FromHex => from_hex(alloc, input, output),
+        Request::Loop { tcp } => run_file(rt, alloc, asked.file, tcp, output),
     }
 }
 
 // Runs the engine of a request, tells its fault, and gives its status.
-fn answer<R: Read, W: Write, E: Write>(
+fn answer<H: Files + Net, R: Read, W: Write, E: Write>(
+    rt: &H,
     alloc: Global,
-    request: Request,
+    asked: Asked<'_>,
     input: &mut R,
     output: &mut W,
     errors: &mut E,
 ) -> u8
-    requires { IsWide request }
-    ensures { HasRun request (record { reader_old = R.remaining input.old; reader_new = R.remaining input.new; writer_old = W.contents output.old; writer_new = W.contents output.new }) result }
+    requires { IsWide asked.request }
+    ensures { HasRun asked.entry.request (record { reader_old = R.remaining input.old; reader_new = R.remaining input.new; writer_old = W.contents output.old; writer_new = W.contents output.new }) result }
 {
-    let outcome = run(alloc, request, input, output);
+    let outcome = run(rt, alloc, asked, input, output);
     if let Err(fault) = outcome {
         tell(errors, fault);
     }
     status(&outcome)
 }
 
-/// The whole program: does what the words ask, which stand without the program's name, and answers its status.
+/// The whole program: does what the words ask, which stand without the program's name, and answers its status. `rt` opens the file of a
+/// script, and the sockets of a wire over TCP.
 ///
 /// A failed write to `errors` changes nothing.
-pub fn command<R: Read, W: Write, E: Write>(
+pub fn command<H: Files + Net, R: Read, W: Write, E: Write>(
+    rt: &H,
     alloc: Global,
     words: &[&str],
     input: &mut R,
@@ -91,7 +99,7 @@ pub fn command<R: Read, W: Write, E: Write>(
     ensures { Answers (map (λ w. w.now) words.now) (record { reader_old = R.remaining input.old; reader_new = R.remaining input.new; writer_old = W.contents output.old; writer_new = W.contents output.new }) result }
 {
     match parse(alloc, words) {
-        Ok(Some(request)) => answer(alloc, request, input, output, errors),
+        Ok(Some(asked)) => answer(rt, alloc, asked, input, output, errors),
         Ok(None) => MISUSE,
         Err(error) => explain(&error, output, errors),
     }

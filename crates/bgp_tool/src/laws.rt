@@ -2,9 +2,9 @@
 
 ghost use Rattle.std.specs.Prelude.{◌≡◌, [], ◌∷◌, codes, true, false, Some};
 ghost use Rattle.clap.specs.declared.error.kind.ErrorKind.TheVariants as error;
-ghost use Rattle.bgp_tool.specs.declared.request.Request.TheVariants.{Show, Check, Narrow, ToHex, FromHex};
+ghost use Rattle.bgp_tool.specs.declared.request.Request.TheVariants.{Show, Check, Narrow, ToHex, FromHex, Loop};
 ghost use Rattle.bgp_tool.specs.CommandLine.{faults_of, request_of};
-ghost use Rattle.bgp_tool.specs.Laws.{CanBeDone, flags};
+ghost use Rattle.bgp_tool.specs.Laws.{CanBeDone, CanBeDoneWith, flags};
 
 /// What a user types for each command, without flags and with all of them.
 pub fn words_have_one_meaning()
@@ -16,6 +16,8 @@ pub fn words_have_one_meaning()
     ensures narrow_all { CanBeDone (codes "narrow" ∷ codes "--ip4" ∷ codes "--ip6" ∷ codes "--internal" ∷ []) (Narrow (flags true true)) }
     ensures to_hex { CanBeDone (codes "to-hex" ∷ []) ToHex }
     ensures from_hex { CanBeDone (codes "from-hex" ∷ []) FromHex }
+    ensures runs { CanBeDoneWith (codes "loop" ∷ codes "two.script" ∷ []) (Loop false) (codes "two.script") }
+    ensures runs_tcp { CanBeDoneWith (codes "loop" ∷ codes "--tcp" ∷ codes "two.script" ∷ []) (Loop true) (codes "two.script") }
 {}
 
 /// No word is too few, `--help` asks for help, and a flag belongs to its commands.
@@ -23,4 +25,5 @@ pub fn words_can_be_wrong()
     ensures nothing { faults_of [] ≡ error.MissingSubcommand ∷ [] }
     ensures help { faults_of (codes "--help" ∷ []) ≡ error.DisplayHelp ∷ [] }
     ensures no_flag { faults_of (codes "narrow" ∷ codes "--hex" ∷ []) ≡ error.UnknownArgument ∷ [] }
+    ensures no_file { faults_of (codes "loop" ∷ []) ≡ error.MissingRequiredArgument ∷ [] }
 {}

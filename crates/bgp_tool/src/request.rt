@@ -1,10 +1,10 @@
 //! What the words of the command line ask for.
 
-ghost use Rattle.std.specs.Prelude.{◌≡◌, codes, map, true, Some, IfOk};
+ghost use Rattle.std.specs.Prelude.{◌≡◌, codes, map, true, Some, option_map, IfOk};
 ghost use Rattle.clap.specs.Words.{FailsBy, found_of, rows_of};
-ghost use Rattle.bgp_tool.specs.CommandLine.{Asks, context_of, faults_of, is_set, judged_in, request_by};
+ghost use Rattle.bgp_tool.specs.CommandLine.{Asks, context_of, faults_of, file_in, is_set, judged_in, request_by};
 
-use crate::commands::bgp;
+use crate::commands::{FILE, bgp};
 use bgp_open::Context;
 use clap::{ArgMatches, Error};
 use std::alloc::Global;
@@ -17,6 +17,14 @@ pub(crate) enum Request {
     Narrow { ctx: Context },
     ToHex,
     FromHex,
+    Loop { tcp: bool },
+}
+
+/// What the words ask for, and the file that they name: empty where they name none.
+#[derive(Clone, Copy)]
+pub(crate) struct Asked<'a> {
+    pub(crate) request: Request,
+    pub(crate) file: &'a str,
 }
 
 // Whether a flag is set.
@@ -72,20 +80,37 @@ fn asked_by(name: &str, flags: &ArgMatches<'_>) -> Request
         };
     }
     if name == "to-hex" {
-        Request::ToHex
-    } else {
-        Request::FromHex
+        return Request::ToHex;
+    }
+    if name == "from-hex" {
+        return Request::FromHex;
+    }
+    Request::Loop {
+        tcp: is_set(flags, "tcp"),
+    }
+}
+
+// The file that the flags name.
+fn file_of<'a>(flags: &ArgMatches<'a>) -> &'a str
+    ensures { result.now ≡ file_in (rows_of (found_of flags.now)) }
+{
+    match flags.get_str(FILE) {
+        Some(file) => file,
+        None => "",
     }
 }
 
 /// The request of the words, which stand without the program's name.
-pub(crate) fn parse<'a>(alloc: Global, words: &'a [&'a str]) -> Result<Option<Request>, Error>
+pub(crate) fn parse<'a>(alloc: Global, words: &'a [&'a str]) -> Result<Option<Asked<'a>>, Error>
     ensures faults { FailsBy (faults_of (map (λ w. w.now) words.now)) result }
-    ensures asked { IfOk result (Asks (map (λ w. w.now) words.now)) }
+    ensures asked { IfOk result (λ found. Asks (map (λ w. w.now) words.now) (option_map (λ asked. (asked.request, asked.file.now)) found)) }
 {
     let matches = bgp(alloc)?.try_get_matches_from(words)?;
     match matches.subcommand() {
-        Some((name, flags)) => Ok(Some(asked_by(name, flags))),
+        Some((name, flags)) => Ok(Some(Asked {
+            request: asked_by(name, flags),
+            file: file_of(flags),
+        })),
         None => Ok(None),
     }
 }

@@ -2,6 +2,8 @@ mod failing;
 
 use crate::*;
 use failing::{Drip, Page};
+use std::fs::Files;
+use std::net::Net;
 use std::process::Abort;
 use std::test::*;
 
@@ -23,11 +25,12 @@ const NARROWED: &str =
 /// Words, text in, text out, what standard error begins with, and the status.
 type Run<'a> = (&'a [&'a str], &'a str, &'a str, &'a str, u8);
 
-fn assert_run(rt: &(impl Abort + AllocGlobal), run: &Run<'_>) {
+fn assert_run(rt: &(impl Abort + AllocGlobal + Files + Net), run: &Run<'_>) {
     let (words, input, output, errors, status) = run;
     let mut page = Page::new(rt.alloc());
     let mut told = Page::new(rt.alloc());
     let answer = command(
+        rt,
         rt.alloc(),
         words,
         &mut Drip::new(input.as_bytes(), 4096),
@@ -43,7 +46,7 @@ fn assert_run(rt: &(impl Abort + AllocGlobal), run: &Run<'_>) {
     assert_eq!(rt; answer, *status);
 }
 
-fn assert_runs(rt: &(impl Abort + AllocGlobal), runs: &[Run<'_>]) {
+fn assert_runs(rt: &(impl Abort + AllocGlobal + Files + Net), runs: &[Run<'_>]) {
     for run in runs {
         assert_run(rt, run);
     }
@@ -111,6 +114,7 @@ fn families_and_internal_sessions(rt: HostRuntime) {
         let stream =
             "ffffffffffffffffffffffffffffffff 0042 02 0000 002b 800e1a 0002 01 10 20010db8000000000000000000000001 00 2020010db8 40010100 400200 40050400000064";
         let status = command(
+            &rt,
             rt.alloc(),
             words,
             &mut Drip::new(stream.as_bytes(), 4096),
@@ -126,7 +130,7 @@ fn families_and_internal_sessions(rt: HostRuntime) {
     }
 }
 
-fn str_of<'a>(rt: &(impl Abort + AllocGlobal), page: &'a Page) -> &'a str {
+fn str_of<'a>(rt: &(impl Abort + AllocGlobal + Files + Net), page: &'a Page) -> &'a str {
     str::from_utf8(page.text.as_slice()).expect(rt, "text")
 }
 
@@ -151,10 +155,16 @@ fn octets_and_digits(rt: HostRuntime) {
 }
 
 /// What a command writes, which ends with this status.
-fn piped(rt: &(impl Abort + AllocGlobal), words: &[&str], input: &[u8], status: u8) -> Vec<u8> {
+fn piped(
+    rt: &(impl Abort + AllocGlobal + Files + Net),
+    words: &[&str],
+    input: &[u8],
+    status: u8,
+) -> Vec<u8> {
     let mut page = Page::new(rt.alloc());
     let mut told = Page::new(rt.alloc());
     let answer = command(
+        rt,
         rt.alloc(),
         words,
         &mut Drip::new(input, 4096),
@@ -189,6 +199,10 @@ fn faults_of_the_command_line(rt: HostRuntime) {
             (&["narrow", "--hex"], "", "", "error: ", 2),
             (&["to-hex", "--hex"], "", "", "error: ", 2),
             (&["from-hex", "--ip4"], "", "", "error: ", 2),
+            (&["loop"], "", "", "error: ", 2),
+            (&["loop", "--tcp"], "", "", "error: ", 2),
+            (&["loop", "a", "b"], "", "", "error: ", 2),
+            (&["loop", "--hex", "a"], "", "", "error: ", 2),
             (&["--version"], "", "", "error: ", 2),
         ],
     );
@@ -224,6 +238,11 @@ fn help(rt: HostRuntime) {
             "| bgp to-hex",
         ),
         (
+            &["loop", "--help"],
+            "Run two speakers against each other",
+            "bgp loop examples/two-speakers.script",
+        ),
+        (
             &["from-hex", "--help"],
             "Write the octets",
             "| bgp from-hex | bgp show",
@@ -241,6 +260,7 @@ fn help_that_cannot_be_written(rt: HostRuntime) {
     let mut page = Page::new(rt.alloc()).with_room(3, false);
     let mut told = Page::new(rt.alloc());
     let answer = command(
+        &rt,
         rt.alloc(),
         &["--help"],
         &mut Drip::new(b"", 1),
@@ -257,7 +277,7 @@ fn a_fault_is_told_once(rt: HostRuntime) {
         let mut page = Page::new(rt.alloc());
         let mut told = Page::new(rt.alloc());
         let mut reader = Drip::new(b"", 1).failing_after(0);
-        let answer = command(rt.alloc(), &[word], &mut reader, &mut page, &mut told);
+        let answer = command(&rt, rt.alloc(), &[word], &mut reader, &mut page, &mut told);
         assert_eq!(rt; answer, 4);
         assert!(rt; told.text.as_slice() == b"bgp: read failed\n".as_slice());
         assert!(rt; page.text.is_empty());
@@ -265,10 +285,36 @@ fn a_fault_is_told_once(rt: HostRuntime) {
 }
 
 #[test]
+fn a_script_that_is_not_there(rt: HostRuntime) {
+    assert_runs(
+        &rt,
+        &[
+            (&["loop", "no such file"], "x", "", "bgp: read failed\n", 4),
+            (
+                &["loop", "--tcp", "no such file"],
+                "x",
+                "",
+                "bgp: read failed\n",
+                4,
+            ),
+            (&["loop", ""], "", "", "bgp: read failed\n", 4),
+            (&["loop", "/"], "", "", "bgp: read failed\n", 4),
+        ],
+    );
+}
+
+#[test]
 fn standard_error_that_cannot_be_written(rt: HostRuntime) {
     let mut page = Page::new(rt.alloc());
     let mut told = Page::new(rt.alloc()).with_room(0, true);
     let mut reader = Drip::new(b"g", 1);
-    let answer = command(rt.alloc(), &["from-hex"], &mut reader, &mut page, &mut told);
+    let answer = command(
+        &rt,
+        rt.alloc(),
+        &["from-hex"],
+        &mut reader,
+        &mut page,
+        &mut told,
+    );
     assert_eq!(rt; answer, 1);
 }

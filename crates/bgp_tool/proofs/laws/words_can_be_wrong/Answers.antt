@@ -13,3 +13,7 @@ returns-clause-help c = refl
 pub returns-clause-no_flag : goal.returns-clause-no_flag
 unfolding clap_on_literals
 returns-clause-no_flag c = refl
+
+pub returns-clause-no_file : goal.returns-clause-no_file
+unfolding clap_on_literals
+returns-clause-no_file c = refl

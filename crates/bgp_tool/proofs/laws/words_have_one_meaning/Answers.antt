@@ -33,3 +33,11 @@ returns-clause-to_hex c = record { without_fault = refl; asked = refl }
 pub returns-clause-from_hex : goal.returns-clause-from_hex
 unfolding clap_on_literals
 returns-clause-from_hex c = record { without_fault = refl; asked = refl }
+
+pub returns-clause-runs : goal.returns-clause-runs
+unfolding clap_on_literals
+returns-clause-runs c = record { without_fault = refl; asked = refl }
+
+pub returns-clause-runs_tcp : goal.returns-clause-runs_tcp
+unfolding clap_on_literals
+returns-clause-runs_tcp c = record { without_fault = refl; asked = refl }

@@ -1,0 +1,2 @@
+-- A script that is run: what is written of it.
+pub mod Loop

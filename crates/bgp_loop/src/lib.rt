@@ -1,0 +1,13 @@
+//! Scripts that are run: two speakers against each other, over memory or over TCP.
+#![tactic(auto)]
+
+mod file;
+mod running;
+mod tcp;
+
+pub use file::run_file;
+pub use running::run_loop;
+pub use tcp::TcpWire;
+
+#[cfg(test)]
+mod tests;

@@ -1,0 +1,22 @@
+-- Lemmas of two ends.
+pub mod Acts
+pub mod Feeds
+pub mod Plays
+pub mod Resting
+pub mod Sayings
+pub mod Narrowed
+pub mod Facts
+pub mod Streams
+pub mod Ways
+pub mod Ends
+pub mod Events
+pub mod Hearings
+pub mod Octets
+pub mod Sends
+pub mod Losses
+pub mod Joins
+pub mod Worlds
+pub mod Begun
+pub mod Agreements
+pub mod Outcomes
+pub mod Reports

@@ -1,0 +1,22 @@
+-- What is reported of a schedule.
+use Rattle.std.specs.Prelude.{◌≡◌, Bool, List, ◌++◌}
+use Rattle.bgp_open.specs.Config.{Settings}
+use Rattle.bgp_pair.specs.declared.moves.Move.{Move}
+use Rattle.bgp_pair.specs.declared.report.Report.{Report}
+use Rattle.bgp_pair.specs.World.{World, begins, rounds_of, ran, all_moved}
+
+-- the report of a world, for these answers of the wire
+abbrev pub report_of : World → List Bool → Report
+report_of w answers = record {
+  rounds = rounds_of w;
+  refused = w.refused;
+  states = (w.a.session.standing.state, w.b.session.standing.state);
+  answers = answers;
+}
+
+-- the report is that of the world that these moves make of two new sessions. They used up the answers that it has, one for each call of the
+-- wire, and no more: whatever answers had come later are left over
+pub record IsReported (a b : Settings) (moves : List Move) (report : Report) : Type 0 where
+  pub world : World
+  pub moved_so : (later : List Bool) → all_moved moves (begins a b) (report.answers ++ later) ≡ ran world later
+  pub reports : report ≡ report_of world report.answers

@@ -1,0 +1,8 @@
+//! The two sides of a pair.
+
+/// One of the two speakers of a pair.
+#[derive(Clone, Copy, Debug, PartialEq, Eq, Hash)]
+pub enum Side {
+    A,
+    B,
+}

@@ -1,0 +1,13 @@
+-- Scripts for a pair of speakers, and reports of what came of them.
+pub mod Steps
+pub mod Lines
+pub mod Pieces
+pub mod Number
+pub mod Speaker
+pub mod Move
+pub mod Script
+pub mod ScriptFault
+pub mod NoteList
+pub mod ReportText
+pub mod Faults
+pub mod Cursor

@@ -1,0 +1,23 @@
+//! Scripts for a pair of speakers, and the printed form of what came of them.
+#![tactic(auto)]
+
+mod cut;
+pub mod laws;
+mod lines;
+mod moves;
+mod note_list;
+mod number;
+mod pieces;
+mod report_text;
+mod script;
+mod script_fault;
+mod sent;
+mod speaker;
+mod speakers;
+
+pub use report_text::put_report;
+pub use script::{SCRIPT_MAX, Script, read_script};
+pub use script_fault::ScriptFault;
+
+#[cfg(test)]
+mod tests;
