@@ -68,6 +68,3 @@ pub use unwritable::Unwritable;
 pub use why::Why;
 pub use writability::{why_unwritable, writable};
 pub use write::{write_attr, write_attr_ref};
-
-#[cfg(test)]
-mod tests;

@@ -14,8 +14,6 @@ mod page;
 mod running;
 mod shown;
 mod tally;
-#[cfg(test)]
-mod tests;
 mod walk;
 
 pub use bgp_frame::End;

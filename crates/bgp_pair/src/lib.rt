@@ -17,6 +17,3 @@ pub use playing::run_pair;
 pub use report::{Report, Round};
 pub use side::Side;
 pub use wire::{MemoryWire, Wire};
-
-#[cfg(test)]
-mod tests;

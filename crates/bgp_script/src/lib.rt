@@ -18,6 +18,3 @@ mod speakers;
 pub use report_text::put_report;
 pub use script::{SCRIPT_MAX, Script, read_script};
 pub use script_fault::ScriptFault;
-
-#[cfg(test)]
-mod tests;

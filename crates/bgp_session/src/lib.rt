@@ -22,6 +22,3 @@ pub use send_fault::SendFault;
 pub use session::Session;
 pub use state::State;
 pub use timer::{OPEN_HOLD_SECONDS, RETRY_SECONDS, Timer};
-
-#[cfg(test)]
-mod tests;

@@ -51,6 +51,3 @@ pub use update::Update;
 pub use verdict::Verdict;
 pub use view::{UpdateView, View};
 pub use write::{WriteFault, write_update};
-
-#[cfg(test)]
-mod tests;
