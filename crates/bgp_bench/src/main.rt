@@ -7,6 +7,7 @@ mod encoding;
 mod hearing;
 mod request;
 mod stream;
+mod viewing;
 
 use request::{Request, Work};
 use std::io::Read;
@@ -33,6 +34,7 @@ fn work(rt: &HostRuntime, request: Request) -> io::Result<()> {
     rt.stdin().read_to_end(&mut octets)?;
     match request.work {
         Work::Decode => decoding::run(rt, &octets, request.rounds),
+        Work::View => viewing::run(rt, &octets, request.rounds),
         Work::Encode => encoding::run(rt, &octets, request.rounds),
         Work::Session => hearing::run(rt, &octets, request.rounds),
     }
@@ -47,7 +49,7 @@ fn run(rt: &HostRuntime) -> io::Result<u8> {
         }
         None => {
             eprintln!(rt;
-                "bgp_bench: the words are decode, encode or session, and how many times"
+                "bgp_bench: the words are decode, view, encode or session, and how many times"
             )?;
             Ok(MISUSE)
         }

@@ -5,6 +5,8 @@
 pub(crate) enum Work {
     /// Its messages are decoded.
     Decode,
+    /// Its messages are judged where they stand.
+    View,
     /// Its messages are decoded once, and encoded.
     Encode,
     /// A session hears it.
@@ -22,6 +24,7 @@ impl Work {
     fn parse(word: &str) -> Option<Work> {
         match word {
             "decode" => Some(Work::Decode),
+            "view" => Some(Work::View),
             "encode" => Some(Work::Encode),
             "session" => Some(Work::Session),
             _ => None,

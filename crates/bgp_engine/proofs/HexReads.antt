@@ -1,12 +1,14 @@
 -- What a reader of hexadecimal text makes of one character.
-use Rattle.std.proofs.Common.{◌≡◌, ℕ, ◌+◌, ◌-◌, ◌*◌, ◌<◌, ◌≤◌, true, false, List, [], ◌∷◌, ◌++◌, length, take, drop, get_or, Option, Some, None, refl, sym, ap, subst, ◌∙◌, append_assoc, add-zero, arith}
-use Rattle.std.proofs.lemmas.List.{append-nil, length-append, take_more, take-append-drop}
+use Rattle.std.proofs.Common.{◌≡◌, ℕ, ◌+◌, ◌-◌, ◌*◌, ◌<◌, ◌≤◌, true, false, List, [], ◌∷◌, ◌++◌, length, Option, Some, None, refl, sym, ap, subst, ◌∙◌, append_assoc, add-zero, arith}
+use Rattle.std.proofs.lemmas.List.{append-nil, length-append}
 use Rattle.std.specs.Prelude.{option_to_list}
 use Rattle.std.specs.Option.{option_map}
 use Rattle.hex.specs.Hex.{is_hex_digit}
 use Rattle.bgp_engine.specs.declared.hex_text.HexText.{HexText}
-use Rattle.bgp_engine.specs.HexText.{is_blank, digit_value, spelled, bad_from}
-use Rattle.bgp_engine.specs.HexSteps.{pending, place, Continues, Breaks}
+use Rattle.bgp_engine.specs.HexText.{is_blank, digit_value, FirstPair, IsPair, spelled, bad_from}
+use Rattle.bgp_wire.specs.Octets.{AreOctets}
+use Rattle.bgp_wire.proofs.OctetLemmas.{AreOctets-nil, AreOctets-push, AreOctets-append}
+use Rattle.bgp_engine.specs.HexSteps.{pending, place, Continues, Breaks, ReadsPairs}
 use Rattle.bgp_engine.proofs.HexPairs.{spelled-pair, spelled-half, spelled-blank, spelled-bad, bad_from-pair, bad_from-half, bad_from-blank, bad_from-bad}
 
 module _ (old new : HexText) (c : ℕ) where
@@ -31,6 +33,19 @@ module _ (old new : HexText) (c : ℕ) where
     is_bad = λ later.
         ap (λ (p : List ℕ). bad_from (old.seen - length p) (p ++ (c ∷ later))) (pending_is old (Some high) was) ∙ bad_from-pair (old.seen - 1) high c later first second
         ∙ bad_on (old.seen - 1 + 2) later (omega arith) is;
+    counts = count;
+  }
+
+  -- both digits of a pair
+  pub reads_both : (d octet : ℕ) → old.pending ≡ None → new.pending ≡ None → new.seen ≡ old.seen + 2 → is_hex_digit c ≡ true → is_hex_digit d ≡ true → octet ≡ digit_value c * 16 + digit_value d
+      → Continues old (c ∷ d ∷ []) (octet ∷ []) new
+  reads_both d octet was is count first second value = record {
+    spells = λ later.
+        ap (λ (p : List ℕ). spelled (p ++ (c ∷ d ∷ later))) (pending_is old None was) ∙ spelled-pair c d later first second
+        ∙ ap (λ (v : ℕ). v ∷ spelled later) (sym value) ∙ ap (λ (p : List ℕ). octet ∷ spelled (p ++ later)) (sym (pending_is new None is));
+    is_bad = λ later.
+        ap (λ (p : List ℕ). bad_from (old.seen - length p) (p ++ (c ∷ d ∷ later))) (pending_is old None was) ∙ from_seen (c ∷ d ∷ later) ∙ bad_from-pair old.seen c d later first second
+        ∙ bad_on (old.seen + 2) later (sym count) is;
     counts = count;
   }
 
@@ -98,17 +113,95 @@ Breaks-longer a text more octets n p = record {
   is_bad = λ later. ap (λ (x : List ℕ). bad_from (place a) (pending a ++ x)) (append_assoc text more later) ∙ p.is_bad (more ++ later);
 }
 
+-- ---- pairs from the front of a text
+
+pub ReadsPairs-none : (a : HexText) (text was : List ℕ) → ReadsPairs a text text was was a
+ReadsPairs-none a text was = record {
+  front = [];
+  added = [];
+  splits = refl;
+  puts = sym (append-nil was);
+  continues = Continues-none a;
+  waits = refl;
+  even = refl;
+  are_octets = AreOctets-nil;
+}
+
+pub first_pair_of : (text after rest : List ℕ) (high low octet : ℕ) → text ≡ high ∷ after → after ≡ low ∷ rest → IsPair high low octet → FirstPair text rest octet
+first_pair_of text after rest high low octet first second p = record { high = high; low = low; splits = first ∙ ap (λ (t : List ℕ). high ∷ t) second; is_pair = p }
+
+pub ReadsPairs-next : (a b c : HexText) (text rest behind was octets last : List ℕ) (octet : ℕ) → ReadsPairs a text rest was octets b → a.pending ≡ None
+    → FirstPair rest behind octet → c.pending ≡ b.pending → c.seen ≡ b.seen + 2 → octet < 256 → last ≡ octets ++ octet ∷ [] → ReadsPairs a text behind was last c
+ReadsPairs-next a b c text rest behind was octets last octet p none f same count lt put =
+    let both : List ℕ = f.high ∷ f.low ∷ [] in
+    let read = reads_both b c f.high f.low octet (p.waits ∙ none) (same ∙ p.waits ∙ none) count f.is_pair.first f.is_pair.second f.is_pair.value in
+    record {
+      front = p.front ++ both;
+      added = p.added ++ octet ∷ [];
+      splits = p.splits ∙ ap (λ (t : List ℕ). p.front ++ t) f.splits ∙ sym (append_assoc p.front both behind);
+      puts = put ∙ ap (λ (o : List ℕ). o ++ octet ∷ []) p.puts ∙ append_assoc was p.added (octet ∷ []);
+      continues = Continues-then a b c p.front both p.added (octet ∷ []) p.continues read;
+      waits = same ∙ p.waits;
+      even = omega (arith, length-append p.front both, length-append p.added (octet ∷ []), p.even);
+      are_octets = AreOctets-push p.added octet p.are_octets lt;
+    }
+
+-- what the octets of the pairs need, and what is left
+pub ReadsPairs-sizes : (a b : HexText) (text rest was octets : List ℕ) → ReadsPairs a text rest was octets b → 2 * length octets + length rest ≡ 2 * length was + length text
+ReadsPairs-sizes a b text rest was octets p = omega (arith, ap length p.splits, length-append p.front rest, ap length p.puts, length-append was p.added, p.even)
+
+pub ReadsPairs-seen : (a b : HexText) (text rest was octets : List ℕ) → ReadsPairs a text rest was octets b → b.seen + length rest ≡ a.seen + length text
+ReadsPairs-seen a b text rest was octets p = omega (arith, ap length p.splits, length-append p.front rest, p.continues.counts)
+
 -- ---- the characters of a block in turn
 
-pub Continues-next : (a b c : HexText) (text octets more : List ℕ) (i : ℕ) → i < length text → Continues a (take i text) octets b → Continues b (get_or text i 0 ∷ []) more c → Continues a (take (i + 1) text) (octets ++ more) c
-Continues-next a b c text octets more i lt p q =
-    subst (λ (t : List ℕ). Continues a t (octets ++ more) c) (sym (take_more text i 0 lt)) (Continues-then a b c (take i text) (get_or text i 0 ∷ []) octets more p q)
+-- what is read of a text so far
+pub record Decodes (start : HexText) (text rest octets : List ℕ) (now : HexText) : Type 0 where
+  pub front : List ℕ
+  pub splits : text ≡ front ++ rest
+  pub so_far : Continues start front octets now
+  pub few : 2 * length octets + length (pending now) ≤ length front + length (pending start)
+  pub are_octets : AreOctets octets
 
-pub Breaks-next : (a b : HexText) (text octets : List ℕ) (i n : ℕ) → i < length text → Continues a (take i text) octets b → Breaks b (get_or text i 0 ∷ []) [] n → Breaks a text octets n
-Breaks-next a b text octets i n lt p q =
-    let front : Breaks a (take (i + 1) text) (octets ++ []) n = subst (λ (t : List ℕ). Breaks a t (octets ++ []) n) (sym (take_more text i 0 lt)) (Continues-breaks a b (take i text) (get_or text i 0 ∷ []) octets [] n p q) in
-    let all = Breaks-longer a (take (i + 1) text) (drop (i + 1) text) (octets ++ []) n front in
-    subst (λ (o : List ℕ). Breaks a text o n) (append-nil octets) (subst (λ (t : List ℕ). Breaks a t (octets ++ []) n) (take-append-drop (i + 1) text) all)
+pub Decodes-none : (start : HexText) (text octets : List ℕ) → octets ≡ [] → Decodes start text text octets start
+Decodes-none start text octets none = subst (λ (o : List ℕ). Decodes start text text o start) (sym none) record {
+  front = [];
+  splits = refl;
+  so_far = Continues-none start;
+  few = omega arith;
+  are_octets = AreOctets-nil;
+}
+
+-- a character and then pairs
+pub Decodes-next : (start b m c : HexText) (text rest behind later octets more middle last : List ℕ) (ch : ℕ) → Decodes start text rest octets b → rest ≡ ch ∷ behind
+    → Continues b (ch ∷ []) more m → 2 * length more + length (pending m) ≤ 1 + length (pending b) → AreOctets more → middle ≡ octets ++ more → ReadsPairs m behind later middle last c → Decodes start text later last c
+Decodes-next start b m c text rest behind later octets more middle last ch d next read size small same p =
+    let one = Continues-then start b m d.front (ch ∷ []) octets more d.so_far read in
+    let all = Continues-then start m c (d.front ++ ch ∷ []) p.front (octets ++ more) p.added one p.continues in
+    let put : last ≡ (octets ++ more) ++ p.added = p.puts ∙ ap (λ (o : List ℕ). o ++ p.added) same in
+    record {
+      front = (d.front ++ ch ∷ []) ++ p.front;
+      splits = d.splits ∙ ap (λ (t : List ℕ). d.front ++ t) (next ∙ ap (λ (t : List ℕ). ch ∷ t) p.splits) ∙ sym (append_assoc d.front (ch ∷ []) (p.front ++ later)) ∙ sym (append_assoc (d.front ++ ch ∷ []) p.front later);
+      so_far = subst (λ (o : List ℕ). Continues start ((d.front ++ ch ∷ []) ++ p.front) o c) (sym put) all;
+      few = omega (arith, d.few, size, p.even, ap length put, length-append (octets ++ more) p.added, length-append octets more, length-append (d.front ++ ch ∷ []) p.front, length-append d.front (ch ∷ []), ap (λ (o : Option ℕ). length (option_to_list o)) p.waits);
+      are_octets = subst AreOctets (sym put) (AreOctets-append (octets ++ more) p.added (AreOctets-append octets more d.are_octets small) p.are_octets);
+    }
+
+pub Decodes-breaks : (start b : HexText) (text rest behind octets : List ℕ) (ch n : ℕ) → Decodes start text rest octets b → rest ≡ ch ∷ behind → Breaks b (ch ∷ []) [] n → Breaks start text octets n
+Decodes-breaks start b text rest behind octets ch n d next bad =
+    let front : Breaks start (d.front ++ ch ∷ []) (octets ++ []) n = Continues-breaks start b d.front (ch ∷ []) octets [] n d.so_far bad in
+    let all = Breaks-longer start (d.front ++ ch ∷ []) behind (octets ++ []) n front in
+    let whole : (d.front ++ ch ∷ []) ++ behind ≡ text = append_assoc d.front (ch ∷ []) behind ∙ ap (λ (t : List ℕ). d.front ++ t) (sym next) ∙ sym d.splits in
+    subst (λ (o : List ℕ). Breaks start text o n) (append-nil octets) (subst (λ (t : List ℕ). Breaks start t (octets ++ []) n) whole all)
+
+empty : (rest : List ℕ) → length rest ≡ 0 → rest ≡ []
+empty [] none = refl
+empty (x ∷ rest) none = absurd cc
+
+pub Decodes-all : (start b : HexText) (text rest octets : List ℕ) → Decodes start text rest octets b → length rest ≡ 0 → Continues start text octets b
+Decodes-all start b text rest octets d none =
+    let whole : text ≡ d.front = d.splits ∙ ap (λ (t : List ℕ). d.front ++ t) (empty rest none) ∙ append-nil d.front in
+    subst (λ (t : List ℕ). Continues start t octets b) (sym whole) d.so_far
 
 option_short : (o : Option ℕ) → length (option_to_list o) ≤ 1
 option_short None = omega arith

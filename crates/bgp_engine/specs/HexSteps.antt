@@ -1,5 +1,6 @@
 -- A reader of hexadecimal text, character by character.
-use Rattle.std.specs.Prelude.{◌≡◌, ℕ, ◌+◌, ◌-◌, List, [], ◌∷◌, ◌++◌, length, Some, option_to_list}
+use Rattle.std.specs.Prelude.{◌≡◌, ℕ, ◌+◌, ◌-◌, ◌*◌, List, [], ◌∷◌, ◌++◌, length, Some, option_to_list}
+use Rattle.bgp_wire.specs.Octets.{AreOctets}
 use Rattle.bgp_engine.specs.declared.hex_text.HexText.{HexText}
 use Rattle.bgp_engine.specs.declared.hex_text.Taken.{Taken}
 use Rattle.bgp_engine.specs.declared.hex_text.Taken.TheVariants as taken
@@ -28,3 +29,14 @@ abbrev pub ReadsOn : HexText → ℕ → Taken → HexText → Type 0
 ReadsOn old c taken.Nothing new = Continues old (c ∷ []) [] new
 ReadsOn old c (taken.Octet octet) new = Continues old (c ∷ []) (octet ∷ []) new × (length (pending old) ≡ 1) × (length (pending new) ≡ 0)
 ReadsOn old c taken.Bad new = Breaks old (c ∷ []) [] new.seen
+
+-- pairs of digits were read from the front of a text: what is left of it, and their octets stand behind those that were there
+pub record ReadsPairs (old : HexText) (text rest was octets : List ℕ) (new : HexText) : Type 0 where
+  pub front : List ℕ
+  pub added : List ℕ
+  pub splits : text ≡ front ++ rest
+  pub puts : octets ≡ was ++ added
+  pub continues : Continues old front added new
+  pub waits : new.pending ≡ old.pending
+  pub even : length front ≡ 2 * length added
+  pub are_octets : AreOctets added

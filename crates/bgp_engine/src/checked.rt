@@ -2,67 +2,20 @@
 
 ghost use Rattle.std.specs.Prelude.{◌≡◌, ◌+◌, ◌≤◌, ◌++◌, length, IfOk, OnOk};
 ghost use Rattle.std.specs.String.{string_bytes};
-ghost use Rattle.bgp_frame.specs.Kind.{IsLength};
-ghost use Rattle.bgp_msg.specs.Outcome.{of_verdict, out_of};
-ghost use Rattle.bgp_update.specs.View.{view_value};
-ghost use Rattle.bgp_update.specs.Verdict.{verdict_of};
 ghost use Rattle.bgp_engine.specs.Check.{Checked, counts_line};
 ghost use Rattle.bgp_engine.specs.Run.{Answers};
-ghost use Rattle.bgp_engine.specs.Show.{class_of};
 
 use crate::class::{Class, class_of};
 use crate::fault::ToolFault;
 use crate::page::Page;
 use crate::tally::Tally;
 use crate::walk::walk_stream;
-use bgp_frame::{Frame, HeadFault, Kind};
-use bgp_msg::out_frame;
+use bgp_frame::{Frame, HeadFault};
+use bgp_msg::view_frame;
 use bgp_open::Context;
 use bgp_text::put_end;
-use bgp_update::{View, view_update};
 use std::alloc::{AllocError, Global};
 use std::io::{Read, Write};
-
-// What the verdict on an UPDATE counts as.
-fn class_of_view(view: &View<'_>) -> Class
-    ensures { result ≡ class_of (of_verdict (view_value view.now)) }
-{
-    match view {
-        View::Take(_) => Class::Took,
-        View::Withdraw(_) => Class::Withdrawn,
-        View::Reset(_) => Class::Reset,
-    }
-}
-
-// What an UPDATE counts as. It takes no memory.
-fn class_of_update(ctx: &Context, body: &[u8]) -> Class
-    requires { length body.now ≤ 4077 }
-    ensures { result ≡ class_of (of_verdict (verdict_of ctx.now body.now)) }
-{
-    let view = view_update(ctx, body);
-    class_of_view(&view)
-}
-
-// What an OPEN counts as, which takes memory. Its outcome is large, so it has a place of its own.
-#[inline(never)]
-fn class_of_open(alloc: Global, ctx: &Context, frame: Frame<'_>) -> Result<Class, AllocError>
-    requires { IsLength frame.kind (19 + length frame.body.now) }
-    ensures { IfOk result (λ class. class ≡ class_of (out_of ctx.now (record { kind = frame.entry.kind; body = frame.entry.body.now }))) }
-{
-    Ok(class_of(&out_frame(alloc, ctx, frame)?))
-}
-
-// What a message counts as. Only an OPEN's value takes memory.
-fn class_of_frame(alloc: Global, ctx: &Context, frame: Frame<'_>) -> Result<Class, AllocError>
-    requires { IsLength frame.kind (19 + length frame.body.now) }
-    ensures { IfOk result (λ class. class ≡ class_of (out_of ctx.now (record { kind = frame.entry.kind; body = frame.entry.body.now }))) }
-{
-    match frame.kind {
-        Kind::Update => Ok(class_of_update(ctx, frame.body)),
-        Kind::Open => class_of_open(alloc, ctx, frame),
-        Kind::Notification | Kind::Keepalive => Ok(Class::Took),
-    }
-}
 
 // The counts in one line.
 fn put_counts(text: &mut String, tally: &Tally) -> Result<(), AllocError>
@@ -81,7 +34,6 @@ fn put_counts(text: &mut String, tally: &Tally) -> Result<(), AllocError>
 /// The counts alone.
 #[derive(Drop)]
 struct CheckPage {
-    alloc: Global,
     ctx: Context,
     text: String,
 }
@@ -98,7 +50,7 @@ impl Page for CheckPage {
     ghost told = { λ page. string_bytes page.text };
 
     fn message(&mut self, _place: u64, frame: Frame<'_>) -> Result<Class, AllocError> {
-        class_of_frame(self.alloc, &self.ctx, frame)
+        Ok(class_of(&view_frame(&self.ctx, frame)))
     }
 
     fn fault(&mut self, _place: u64, _fault: HeadFault) -> Result<(), AllocError> {
@@ -158,7 +110,6 @@ pub fn check_within<R: Read, W: Write>(
     ensures { Answers (Checked ctx.now) hex (record { reader_old = R.remaining input.old; reader_new = R.remaining input.new; writer_old = W.contents output.old; writer_new = W.contents output.new }) result }
 {
     let page = CheckPage {
-        alloc,
         ctx: *ctx,
         text: String::new(alloc),
     };

@@ -1,9 +1,10 @@
 //! What a message counts as.
 
 ghost use Rattle.std.specs.Prelude.{◌≡◌};
+ghost use Rattle.bgp_msg.specs.OutcomeView.{outcome_value};
 ghost use Rattle.bgp_engine.specs.Show.{class_of};
 
-use bgp_msg::Outcome;
+use bgp_msg::OutcomeView;
 
 /// What an outcome is, for the counts and for what follows it.
 #[derive(Clone, Copy, Debug, PartialEq, Eq)]
@@ -17,12 +18,12 @@ pub(crate) enum Class {
 }
 
 /// What an outcome counts as.
-pub(crate) fn class_of(outcome: &Outcome) -> Class
-    ensures { result ≡ class_of outcome.now }
+pub(crate) fn class_of(outcome: &OutcomeView<'_>) -> Class
+    ensures { result ≡ class_of (outcome_value outcome.now) }
 {
     match outcome {
-        Outcome::Took(_, _) => Class::Took,
-        Outcome::Withdraw(_, _) => Class::Withdrawn,
-        Outcome::Reset(_) => Class::Reset,
+        OutcomeView::Withdraw(_) => Class::Withdrawn,
+        OutcomeView::Reset(_) => Class::Reset,
+        _ => Class::Took,
     }
 }

@@ -3,7 +3,7 @@
 ghost use Rattle.std.specs.Prelude.{◌≡◌, ◌+◌, ◌*◌, ◌≤◌, ◌<◌, ◌^◌, true, None, is_some, IfSome};
 ghost use Rattle.std.specs.Option.{ForSome};
 ghost use Rattle.hex.specs.Hex.{hex_digit_value, is_hex_digit};
-ghost use Rattle.bgp_engine.specs.HexText.{is_blank, digit_value, value_or_none};
+ghost use Rattle.bgp_engine.specs.HexText.{is_blank, digit_value, value_or_none, FirstPair, IsPair};
 
 use arrayvec::ArrayVec;
 
@@ -86,11 +86,36 @@ fn pair(high: u8, low: u8) -> Option<u8>
     Some(high * 16 + low % 16)
 }
 
+// The octet of two characters, where both are digits.
+#[tactic(auto, using(crate::proofs::DigitTable::small_is_digit))]
+fn octet_of(high: u8, low: u8) -> Option<u8>
+    ensures { IfSome result (λ octet. IsPair high low octet) }
+{
+    let high = value(high);
+    let low = value(low);
+    if high < 16 && low < 16 {
+        Some(high * 16 + low)
+    } else {
+        None
+    }
+}
+
+// The octet of the pair of digits at the front, and what stands behind it.
+#[tactic(auto, using(crate::proofs::HexReads::first_pair_of))]
+fn first_pair(text: &[u8]) -> Option<(u8, &[u8])>
+    ensures { IfSome result (λ r. FirstPair text.entry.now r.1.now r.0) }
+{
+    let (high, after) = text.split_first()?;
+    let (low, behind) = after.split_first()?;
+    let octet = octet_of(*high, *low)?;
+    Some((octet, behind))
+}
+
 impl HexText {
     ghost use Rattle.std.specs.Prelude.{◌≡◌, ◌+◌, ◌-◌, ◌≤◌, ◌<◌, ◌^◌, [], None, length, MatchOption};
     ghost use Rattle.std.specs.Option.{option_map};
     ghost use Rattle.bgp_wire.specs.Octets.{AreOctets};
-    ghost use Rattle.bgp_engine.specs.HexSteps.{ReadsOn, Continues, Breaks};
+    ghost use Rattle.bgp_engine.specs.HexSteps.{ReadsOn, Continues, Breaks, ReadsPairs};
 
     /// A reader at the front of a text.
     pub(crate) fn new() -> HexText
@@ -140,6 +165,24 @@ impl HexText {
         }
     }
 
+    /// Reads pairs of digits from the front, where none waits for its pair. Answers what is left of the text.
+    fn take_pairs<'a>(&mut self, text: &'a [u8], octets: &mut ArrayVec<u8, 2048>) -> &'a [u8]
+        requires room { 2 * length octets.old.items + length text.now ≤ 4097 }
+        requires countable { self.old.seen + length text.now < 2 ^ 64 }
+        ensures { ReadsPairs self.old text.entry.now result.now octets.old.items octets.new.items self.new }
+    {
+        let mut rest = text;
+        if self.pending.is_some() {
+            return rest;
+        }
+        'pairs: while let Some((octet, behind)) = first_pair(rest) {
+            octets.push(octet);
+            self.seen += 2;
+            rest = behind;
+        }
+        rest
+    }
+
     /// Reads a block of at most 4096 characters, and puts the octets of its pairs in order.
     ///
     /// Answers the place of the first bad character, if there is one; nothing behind it is read.
@@ -150,12 +193,14 @@ impl HexText {
         ensures decodes { MatchOption result (Continues self.old text.now octets.new.items self.new) (Breaks self.old text.now octets.new.items) }
         ensures octets { AreOctets octets.new.items }
     {
-        for character in text {
+        let mut rest = text;
+        'text: while let Some((character, behind)) = rest.split_first() {
             match self.take(*character) {
                 Taken::Nothing => {}
                 Taken::Octet(octet) => octets.push(octet),
                 Taken::Bad => return Some(self.seen),
             }
+            rest = self.take_pairs(behind, octets);
         }
         None
     }

@@ -3,13 +3,12 @@
 ghost use Rattle.std.specs.Prelude.{◌≡◌, ◌+◌, ◌≤◌, ◌++◌, true, false, length, None, Some, IfOk, OnOk, if◌then◌else◌};
 ghost use Rattle.bgp_frame.specs.Frame.{octets_of};
 ghost use Rattle.bgp_frame.specs.Kind.{IsLength};
-ghost use Rattle.bgp_msg.specs.Outcome.{of_verdict, out_of};
+ghost use Rattle.bgp_msg.specs.Outcome.{out_of};
 ghost use Rattle.bgp_msg.specs.declared.message.Message.TheVariants as message;
 ghost use Rattle.bgp_update.specs.As4.{HasNoAs4, narrowed_update};
-ghost use Rattle.bgp_update.specs.Verdict.{verdict_of};
 ghost use Rattle.bgp_update.specs.View.{update_value};
 ghost use Rattle.bgp_update.specs.Widths.{with_as4};
-ghost use Rattle.bgp_engine.specs.Narrow.{Narrowed, WritesNarrow, has_as4, written_in, narrowed_message, narrowed_outcome, narrow_answer};
+ghost use Rattle.bgp_engine.specs.Narrow.{Narrowed, WritesNarrow, has_as4, written_in, narrowed_outcome, narrow_answer};
 ghost use Rattle.bgp_engine.specs.Run.{Answers};
 
 use crate::class::Class;
@@ -17,10 +16,10 @@ use crate::fault::ToolFault;
 use crate::page::Page;
 use crate::tally::Tally;
 use crate::walk::walk_stream;
-use bgp_frame::{End, Frame, HeadFault, Kind, head};
-use bgp_msg::{Message, Outcome, encode_update, out_frame};
+use bgp_frame::{End, Frame, HeadFault, head};
+use bgp_msg::{OutcomeView, encode_update, view_frame};
 use bgp_open::Context;
-use bgp_update::{Attrs, Update, UpdateView, View, WriteFault, narrow, view_update};
+use bgp_update::{Attrs, Update, UpdateView, WriteFault, narrow};
 use std::alloc::{AllocError, Global};
 use std::io::{Read, Write};
 
@@ -104,60 +103,6 @@ fn put_view(
     put_narrowed(alloc, ctx, octets, update)
 }
 
-// Appends an UPDATE, where it is taken.
-fn put_update(
-    alloc: Global,
-    ctx: &Context,
-    octets: &mut Vec<u8>,
-    frame: Frame<'_>,
-) -> Result<Class, AllocError>
-    requires { length frame.body.now ≤ 4077 }
-    ensures { IfOk result (λ class. WritesNarrow octets.old.items octets.new.items (narrowed_outcome ctx.now (record { kind = frame.entry.kind; body = frame.entry.body.now }) (of_verdict (verdict_of ctx.now frame.entry.body.now))) class) }
-{
-    match view_update(ctx, frame.body) {
-        View::Take(view) => put_view(alloc, ctx, octets, &view),
-        View::Withdraw(_) => Ok(Class::Reset),
-        View::Reset(_) => Ok(Class::Reset),
-    }
-}
-
-// Appends a message that was taken.
-fn put_taken(
-    alloc: Global,
-    ctx: &Context,
-    octets: &mut Vec<u8>,
-    frame: Frame<'_>,
-    said: Message,
-) -> Result<Class, AllocError>
-    requires { IsLength frame.kind (19 + length frame.body.now) }
-    ensures { IfOk result (λ class. WritesNarrow octets.old.items octets.new.items (narrowed_message ctx.now (record { kind = frame.entry.kind; body = frame.entry.body.now }) said) class) }
-{
-    match said {
-        Message::Update(update) => put_narrowed(alloc, ctx, octets, update),
-        _ => {
-            put_frame(octets, frame)?;
-            Ok(Class::Took)
-        }
-    }
-}
-
-// Appends a message by its whole outcome, which is large, and so has a place of its own.
-#[inline(never)]
-fn put_rare(
-    alloc: Global,
-    ctx: &Context,
-    octets: &mut Vec<u8>,
-    frame: Frame<'_>,
-) -> Result<Class, AllocError>
-    requires { IsLength frame.kind (19 + length frame.body.now) }
-    ensures { IfOk result (λ class. WritesNarrow octets.old.items octets.new.items (narrowed_outcome ctx.now (record { kind = frame.entry.kind; body = frame.entry.body.now }) (out_of ctx.now (record { kind = frame.entry.kind; body = frame.entry.body.now }))) class) }
-{
-    match out_frame(alloc, ctx, frame)? {
-        Outcome::Took(said, _notes) => put_taken(alloc, ctx, octets, frame, said),
-        _ => Ok(Class::Reset),
-    }
-}
-
 // Appends a message as it is handed on.
 fn put_told(
     alloc: Global,
@@ -168,10 +113,10 @@ fn put_told(
     requires { IsLength frame.kind (19 + length frame.body.now) }
     ensures { IfOk result (λ class. WritesNarrow octets.old.items octets.new.items (narrowed_outcome ctx.now (record { kind = frame.entry.kind; body = frame.entry.body.now }) (out_of ctx.now (record { kind = frame.entry.kind; body = frame.entry.body.now }))) class) }
 {
-    match frame.kind {
-        Kind::Update => put_update(alloc, ctx, octets, frame),
-        Kind::Open => put_rare(alloc, ctx, octets, frame),
-        Kind::Notification | Kind::Keepalive => {
+    match view_frame(ctx, frame) {
+        OutcomeView::Update(view) => put_view(alloc, ctx, octets, &view),
+        OutcomeView::Withdraw(_) | OutcomeView::Reset(_) => Ok(Class::Reset),
+        OutcomeView::Open(_) | OutcomeView::Notification(_) | OutcomeView::Keepalive => {
             put_frame(octets, frame)?;
             Ok(Class::Took)
         }

@@ -3,12 +3,11 @@
 ghost use Rattle.std.specs.Prelude.{◌≡◌, ◌+◌, ◌≤◌, [], length, IfOk};
 ghost use Rattle.std.specs.String.{string_bytes};
 ghost use Rattle.bgp_frame.specs.Kind.{IsLength};
-ghost use Rattle.bgp_frame.specs.Notification.{notification_of_view};
-ghost use Rattle.bgp_msg.specs.Outcome.{of_verdict, out_of};
+ghost use Rattle.bgp_msg.specs.Outcome.{out_of};
+ghost use Rattle.bgp_msg.specs.OutcomeView.{outcome_value};
 ghost use Rattle.bgp_msg.specs.declared.message.Message.TheVariants as message;
 ghost use Rattle.bgp_msg.specs.declared.outcome.Outcome.TheVariants as outcome;
-ghost use Rattle.bgp_update.specs.Verdict.{verdict_of};
-ghost use Rattle.bgp_update.specs.View.{notes_value, routes_value, update_value, view_value};
+ghost use Rattle.bgp_update.specs.View.{notes_value, routes_value, update_value};
 ghost use Rattle.bgp_engine.specs.Run.{Answers};
 ghost use Rattle.bgp_engine.specs.Show.{Shown, WritesOutcome};
 
@@ -17,11 +16,11 @@ use crate::fault::ToolFault;
 use crate::page::Page;
 use crate::tally::Tally;
 use crate::walk::walk_stream;
-use bgp_frame::{Frame, HeadFault, Kind, NotificationView};
-use bgp_msg::{Outcome, out_frame};
+use bgp_frame::{Frame, HeadFault};
+use bgp_msg::{Outcome, OutcomeView, view_frame};
 use bgp_open::Context;
 use bgp_text::{put_end, put_keepalive, put_outcome, put_update_taken, put_update_withdrawn};
-use bgp_update::{Note, UpdateView, View, view_update};
+use bgp_update::{Note, UpdateView};
 use bgp_wire::List;
 use std::alloc::{AllocError, Global};
 use std::io::{Read, Write};
@@ -66,68 +65,20 @@ fn put_withdrawn(
     Ok(Class::Withdrawn)
 }
 
-// Adds the lines of an outcome. One is large, so it has a place of its own.
+// Adds the lines of an outcome by its value, which is large, and so has a place of its own.
 #[inline(never)]
 fn put_whole(
     alloc: Global,
     text: &mut String,
     place: u64,
     len: u16,
-    outcome: &Outcome,
+    outcome: &OutcomeView<'_>,
 ) -> Result<Class, AllocError>
-    ensures { IfOk result (λ class. WritesOutcome (string_bytes text.old) (string_bytes text.new) place len outcome.now class) }
+    ensures { IfOk result (λ class. WritesOutcome (string_bytes text.old) (string_bytes text.new) place len (outcome_value outcome.now) class) }
 {
-    put_outcome(alloc, text, place, len, outcome)?;
+    let value = outcome.own(alloc)?;
+    put_outcome(alloc, text, place, len, &value)?;
     Ok(class_of(outcome))
-}
-
-// Adds the line of a reset.
-#[inline(never)]
-fn put_reset(
-    alloc: Global,
-    text: &mut String,
-    place: u64,
-    len: u16,
-    told: NotificationView<'_>,
-) -> Result<Class, AllocError>
-    ensures { IfOk result (λ class. WritesOutcome (string_bytes text.old) (string_bytes text.new) place len (outcome.Reset (notification_of_view told.entry)) class) }
-{
-    put_whole(alloc, text, place, len, &Outcome::Reset(told.own()))
-}
-
-// Adds the lines of an UPDATE, without its outcome as a whole.
-fn put_update(
-    alloc: Global,
-    ctx: &Context,
-    text: &mut String,
-    place: u64,
-    frame: Frame<'_>,
-) -> Result<Class, AllocError>
-    requires { length frame.body.now ≤ 4077 }
-    ensures { IfOk result (λ class. WritesOutcome (string_bytes text.old) (string_bytes text.new) place frame.entry.len (of_verdict (verdict_of ctx.now frame.entry.body.now)) class) }
-{
-    match view_update(ctx, frame.body) {
-        View::Take(view) => put_taken(alloc, text, place, frame.len, &view),
-        View::Withdraw(view) => put_withdrawn(alloc, text, place, frame.len, &view),
-        View::Reset(told) => put_reset(alloc, text, place, frame.len, told),
-    }
-}
-
-// Adds the lines of an OPEN or a NOTIFICATION.
-#[inline(never)]
-fn put_rare(
-    alloc: Global,
-    ctx: &Context,
-    text: &mut String,
-    place: u64,
-    frame: Frame<'_>,
-) -> Result<Class, AllocError>
-    requires { IsLength frame.kind (19 + length frame.body.now) }
-    ensures { IfOk result (λ class. WritesOutcome (string_bytes text.old) (string_bytes text.new) place frame.entry.len (out_of ctx.now (record { kind = frame.entry.kind; body = frame.entry.body.now })) class) }
-{
-    let len = frame.len;
-    let outcome = out_frame(alloc, ctx, frame)?;
-    put_whole(alloc, text, place, len, &outcome)
 }
 
 // Adds the lines of a message.
@@ -141,13 +92,15 @@ fn put_frame(
     requires { IsLength frame.kind (19 + length frame.body.now) }
     ensures { IfOk result (λ class. WritesOutcome (string_bytes text.old) (string_bytes text.new) place frame.entry.len (out_of ctx.now (record { kind = frame.entry.kind; body = frame.entry.body.now })) class) }
 {
-    match frame.kind {
-        Kind::Update => put_update(alloc, ctx, text, place, frame),
-        Kind::Keepalive => {
-            put_keepalive(text, place, frame.len)?;
+    let len = frame.len;
+    match view_frame(ctx, frame) {
+        OutcomeView::Update(view) => put_taken(alloc, text, place, len, &view),
+        OutcomeView::Withdraw(view) => put_withdrawn(alloc, text, place, len, &view),
+        OutcomeView::Keepalive => {
+            put_keepalive(text, place, len)?;
             Ok(Class::Took)
         }
-        Kind::Open | Kind::Notification => put_rare(alloc, ctx, text, place, frame),
+        rare => put_whole(alloc, text, place, len, &rare),
     }
 }
 

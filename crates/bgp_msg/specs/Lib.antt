@@ -1,5 +1,6 @@
 -- Messages: what each comes to, how it is written, and streams of them.
 pub mod Outcome
+pub mod OutcomeView
 pub mod Written
 pub mod Seen
 pub mod Decoder

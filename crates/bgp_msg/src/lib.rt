@@ -8,6 +8,7 @@ mod encoding;
 pub mod laws;
 mod message;
 mod outcome;
+mod outcome_view;
 mod seen;
 mod taking;
 mod update_encoding;
@@ -18,8 +19,9 @@ pub use decoding::decode_all;
 pub use encoding::encode;
 pub use message::Message;
 pub use outcome::Outcome;
+pub use outcome_view::OutcomeView;
 pub use seen::Seen;
-pub use taking::out_frame;
+pub use taking::{out_frame, view_frame};
 pub use update_encoding::encode_update;
 
 #[cfg(test)]

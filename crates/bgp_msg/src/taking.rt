@@ -2,73 +2,93 @@
 
 ghost use Rattle.std.specs.Prelude.{◌≡◌, ◌+◌, ◌≤◌, ◌⊎◌, false, length, IfOk, OnErr};
 ghost use Rattle.bgp_frame.specs.Kind.{IsLength};
-ghost use Rattle.bgp_open.specs.OpenFault.{reading_of};
+ghost use Rattle.bgp_frame.specs.Notification.{notification_of_view};
+ghost use Rattle.bgp_open.specs.OpenFault.{open_notification, reading_of};
 ghost use Rattle.bgp_update.specs.Verdict.{verdict_of};
-ghost use Rattle.bgp_msg.specs.Outcome.{of_reading, of_verdict, notification_in, out_of, is_reset};
+ghost use Rattle.bgp_msg.specs.Outcome.{of_open_fault, of_reading, of_verdict, notification_in, out_of, is_reset};
+ghost use Rattle.bgp_msg.specs.OutcomeView.{outcome_value};
 
-use crate::message::Message;
 use crate::outcome::Outcome;
-use bgp_frame::{Frame, Kind, Notification};
-use bgp_open::{Context, OpenFault, read_open};
-use bgp_update::{Verdict, read_update};
-use bgp_wire::List;
+use crate::outcome_view::OutcomeView;
+use bgp_frame::{Frame, Kind, NotificationView};
+use bgp_numbers::error;
+use bgp_open::{Context, OpenFault, view_open};
+use bgp_update::{View, view_update};
 use std::alloc::{AllocError, Global};
 
-/// What the body of an OPEN comes to.
-fn open_outcome(alloc: Global, body: &[u8]) -> Result<Outcome, AllocError>
-    requires { 10 ≤ length body.now }
-    ensures value { IfOk result (λ o. o ≡ of_reading (reading_of body.now)) }
-    ensures err { OnErr result (is_reset (of_reading (reading_of body.now)) ≡ false) }
+/// How an OPEN with this fault ends the session.
+fn view_of_fault(fault: OpenFault) -> OutcomeView<'static>
+    ensures { outcome_value result ≡ of_open_fault (open_notification fault) }
 {
-    match read_open(alloc, body) {
-        Ok(open) => Ok(Outcome::Took(Message::Open(open), List::new(alloc))),
-        Err(OpenFault::Memory) => Err(AllocError),
-        Err(fault) => match fault.notification() {
-            Some(notification) => Ok(Outcome::Reset(notification)),
-            None => Err(AllocError),
-        },
+    match fault.answer() {
+        Some(why) => OutcomeView::Reset(why),
+        None => OutcomeView::Reset(NotificationView {
+            code: error::OPEN_MESSAGE,
+            subcode: error::UNSPECIFIC,
+            info: &[],
+        }),
+    }
+}
+
+/// What the body of an OPEN comes to.
+fn view_of_open(body: &[u8]) -> OutcomeView<'_>
+    requires { 10 ≤ length body.now }
+    ensures { outcome_value result ≡ of_reading (reading_of body.entry.now) }
+{
+    match view_open(body) {
+        Ok(view) => OutcomeView::Open(view),
+        Err(fault) => view_of_fault(fault),
     }
 }
 
 /// What the body of an UPDATE comes to.
-fn update_outcome(alloc: Global, ctx: &Context, body: &[u8]) -> Result<Outcome, AllocError>
+fn view_of_update<'a>(ctx: &Context, body: &'a [u8]) -> OutcomeView<'a>
     requires { length body.now ≤ 4077 }
-    ensures value { IfOk result (λ o. o ≡ of_verdict (verdict_of ctx.now body.now)) }
-    ensures err { OnErr result (is_reset (of_verdict (verdict_of ctx.now body.now)) ≡ false) }
+    ensures { outcome_value result ≡ of_verdict (verdict_of ctx.now body.entry.now) }
 {
-    match read_update(alloc, ctx, body)? {
-        Verdict::Take(update, notes) => Ok(Outcome::Took(Message::Update(update), notes)),
-        Verdict::Withdraw(routes, notes) => Ok(Outcome::Withdraw(routes, notes)),
-        Verdict::Reset(notification) => Ok(Outcome::Reset(notification)),
+    match view_update(ctx, body) {
+        View::Take(view) => OutcomeView::Update(view),
+        View::Withdraw(view) => OutcomeView::Withdraw(view),
+        View::Reset(why) => OutcomeView::Reset(why),
     }
 }
 
 /// What the body of a NOTIFICATION says.
-fn notification_in(body: &[u8]) -> Notification
+fn notification_in(body: &[u8]) -> NotificationView<'_>
     requires least { 2 ≤ length body.now }
     requires most { length body.now ≤ 4077 }
-    ensures { result ≡ notification_in body.now }
+    ensures { notification_of_view result ≡ notification_in body.entry.now }
 {
-    Notification::new(body[0], body[1], &body[2..])
+    NotificationView {
+        code: body[0],
+        subcode: body[1],
+        info: &body[2..],
+    }
 }
 
-/// What a whole message comes to in a context.
+/// What a whole message comes to in a context, without memory.
+pub fn view_frame<'a>(ctx: &Context, frame: Frame<'a>) -> OutcomeView<'a>
+    requires { IsLength frame.kind (19 + length frame.body.now) }
+    ensures { outcome_value result ≡ out_of ctx.now (record { kind = frame.entry.kind; body = frame.entry.body.now }) }
+{
+    match frame.kind {
+        Kind::Open => view_of_open(frame.body),
+        Kind::Update => view_of_update(ctx, frame.body),
+        Kind::Notification => OutcomeView::Notification(notification_in(frame.body)),
+        Kind::Keepalive => OutcomeView::Keepalive,
+    }
+}
+
+/// What a whole message comes to in a context, with memory of its own.
 ///
 /// # Errors
 /// `AllocError` where a growth was refused: only for an OPEN or an UPDATE that doesn't end the session.
+#[tactic(auto, using(crate::proofs::Lists::lists_have_kinds, crate::proofs::Lists::lists_go_on))]
 pub fn out_frame(alloc: Global, ctx: &Context, frame: Frame<'_>) -> Result<Outcome, AllocError>
     requires { IsLength frame.kind (19 + length frame.body.now) }
     ensures value { IfOk result (λ o. o ≡ out_of ctx.now (record { kind = frame.entry.kind; body = frame.entry.body.now })) }
     ensures kind { OnErr result ((frame.entry.kind ≡ Kind.Open) ⊎ (frame.entry.kind ≡ Kind.Update)) }
     ensures err { OnErr result (is_reset (out_of ctx.now (record { kind = frame.entry.kind; body = frame.entry.body.now })) ≡ false) }
 {
-    match frame.kind {
-        Kind::Open => open_outcome(alloc, frame.body),
-        Kind::Update => update_outcome(alloc, ctx, frame.body),
-        Kind::Notification => Ok(Outcome::Took(
-            Message::Notification(notification_in(frame.body)),
-            List::new(alloc),
-        )),
-        Kind::Keepalive => Ok(Outcome::Took(Message::Keepalive, List::new(alloc))),
-    }
+    view_frame(ctx, frame).own(alloc)
 }

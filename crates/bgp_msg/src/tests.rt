@@ -3,6 +3,7 @@
 mod decoding;
 mod encoding;
 mod pulling;
+mod viewing;
 
 use crate::*;
 use bgp_attr::{AsPath, Origin, SegKind, Segment};

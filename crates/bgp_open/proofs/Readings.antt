@@ -164,7 +164,7 @@ not_memory false false [] false false fault e is = absurd cc
 not_memory false false (kind ∷ []) h z fault e is = absurd cc
 not_memory false false (kind ∷ n ∷ value) h z fault e is = rest_not_memory (ltb (length value) n) (not (eqb kind CAPABILITIES)) h z fault e is
 
-fault_not_memory : (body : List ℕ) (fault : OpenFault) → open_fault body ≡ Some fault → fault ≢ Memory
+pub fault_not_memory : (body : List ℕ) (fault : OpenFault) → open_fault body ≡ Some fault → fault ≢ Memory
 unfolding open_fault
 fault_not_memory body fault e = not_memory (not (eqb (version_of body) VERSION)) (not (eqb (length_of body) (length (parameters_of body)))) (pieces one_parameter (parameters_of body)).1 (is_short_hold (hold_of body)) (is_zero_id (id_of body)) fault e
 
@@ -178,10 +178,10 @@ one_of_both body long (Some fault) e = (fault_not_memory body fault e, λ o p. n
 pub value_or_fault : (body : List ℕ) → 10 ≤ length body → HasValueOrFault body (open_fault body)
 value_or_fault body long = one_of_both body long (open_fault body) refl
 
-pub fault_reads : (body : List ℕ) (fault : OpenFault) → Some fault ≡ open_fault body → FailsAs fault (reading_of body)
-fault_reads body Version e = ap (λ (f : Option OpenFault). or_fault f (open_of body)) (sym e)
-fault_reads body Parameter e = ap (λ (f : Option OpenFault). or_fault f (open_of body)) (sym e)
-fault_reads body UnknownParameter e = ap (λ (f : Option OpenFault). or_fault f (open_of body)) (sym e)
-fault_reads body Hold e = ap (λ (f : Option OpenFault). or_fault f (open_of body)) (sym e)
-fault_reads body Identifier e = ap (λ (f : Option OpenFault). or_fault f (open_of body)) (sym e)
-fault_reads body Memory e = absurd (fault_not_memory body Memory (sym e) refl)
+pub fails_as : (fault : OpenFault) (reading : Result Open OpenFault) → reading ≡ Err fault → fault ≢ Memory → FailsAs fault reading
+fails_as Version reading e known = e
+fails_as Parameter reading e known = e
+fails_as UnknownParameter reading e known = e
+fails_as Hold reading e known = e
+fails_as Identifier reading e known = e
+fails_as Memory reading e known = absurd (known refl)

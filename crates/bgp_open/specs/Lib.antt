@@ -4,6 +4,7 @@ pub mod View
 pub mod Parameter
 pub mod Open
 pub mod OpenFault
+pub mod OpenView
 pub mod Config
 pub mod Own
 pub mod Agreement

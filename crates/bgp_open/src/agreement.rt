@@ -30,8 +30,8 @@ impl PeerFault {
         ensures { result ≡ peer_notification self }
     {
         match self {
-            PeerFault::PeerAs => open_error(error::BAD_PEER_AS, &[]),
-            PeerFault::Identifier => open_error(error::BAD_IDENTIFIER, &[]),
+            PeerFault::PeerAs => open_error(error::BAD_PEER_AS, &[]).own(),
+            PeerFault::Identifier => open_error(error::BAD_IDENTIFIER, &[]).own(),
         }
     }
 }

@@ -1,10 +1,11 @@
 //! Why the body of an OPEN isn't read.
 
-ghost use Rattle.std.specs.Prelude.{◌≡◌, ◌≤◌, length};
+ghost use Rattle.std.specs.Prelude.{◌≡◌, ◌≤◌, length, option_map};
 ghost use Rattle.bgp_open.specs.declared.fault.OpenFault.TheVariants.{Memory};
+ghost use Rattle.bgp_frame.specs.Notification.{notification_of_view};
 ghost use Rattle.bgp_open.specs.OpenFault.{open_error, open_notification};
 
-use bgp_frame::Notification;
+use bgp_frame::{Notification, NotificationView};
 use bgp_numbers::{VERSION, error};
 use std::alloc::AllocError;
 
@@ -27,12 +28,19 @@ pub enum OpenFault {
     Memory,
 }
 
+/// The version that is spoken here, as the information of an answer.
+const SPOKEN: [u8; 2] = [0, VERSION];
+
 /// An answer of code 2, OPEN Message Error (RFC 4271, section 6.2).
-pub(crate) fn open_error(subcode: u8, info: &[u8]) -> Notification
+pub(crate) fn open_error(subcode: u8, info: &[u8]) -> NotificationView<'_>
     requires { length info.now ≤ 4075 }
-    ensures { result ≡ open_error subcode info.now }
+    ensures { notification_of_view result ≡ open_error subcode info.entry.now }
 {
-    Notification::new(error::OPEN_MESSAGE, subcode, info)
+    NotificationView {
+        code: error::OPEN_MESSAGE,
+        subcode,
+        info,
+    }
 }
 
 impl OpenFault {
@@ -40,8 +48,15 @@ impl OpenFault {
     pub fn notification(self) -> Option<Notification>
         ensures { result ≡ open_notification self }
     {
+        Some(self.answer()?.own())
+    }
+
+    /// The same, with its information borrowed.
+    pub fn answer(self) -> Option<NotificationView<'static>>
+        ensures { option_map notification_of_view result ≡ open_notification self }
+    {
         match self {
-            OpenFault::Version => Some(open_error(error::UNSUPPORTED_VERSION, &[0, VERSION])),
+            OpenFault::Version => Some(open_error(error::UNSUPPORTED_VERSION, &SPOKEN)),
             OpenFault::Parameter => Some(open_error(error::UNSPECIFIC, &[])),
             OpenFault::UnknownParameter => Some(open_error(error::UNSUPPORTED_PARAMETER, &[])),
             OpenFault::Hold => Some(open_error(error::UNACCEPTABLE_HOLD_TIME, &[])),

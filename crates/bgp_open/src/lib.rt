@@ -10,6 +10,7 @@ mod fault;
 mod field;
 pub mod laws;
 mod message;
+mod open_view;
 mod own;
 mod parameter;
 mod read;
@@ -23,8 +24,9 @@ pub use config::{BadConfig, Config};
 pub use context::Context;
 pub use fault::OpenFault;
 pub use message::Open;
+pub use open_view::OpenView;
 pub use own::{own_frame, own_open};
-pub use read::read_open;
+pub use read::{read_open, view_open};
 pub use write::{WriteOpenFault, write_open};
 
 #[cfg(test)]

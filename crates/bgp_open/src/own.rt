@@ -12,7 +12,7 @@ use crate::capability::Capability;
 use crate::config::Config;
 use crate::field::is_wide;
 use crate::message::Open;
-use crate::read::extend;
+use crate::open_view::extend;
 use crate::row::put;
 use arrayvec::ArrayVec;
 use bgp_frame::{Kind, head};

@@ -224,6 +224,7 @@ fn bodies_with_a_fault(rt: HostRuntime) -> Result<(), Fail> {
         assert!(rt; body.len() >= 10);
         let fault = read_open(rt.alloc(), body).err().ok_or("a fault")?;
         assert_eq!(rt; fault, wanted);
+        assert_eq!(rt; view_open(body).err(), Some(wanted));
         let answer = fault.notification().ok_or("an answer")?;
         assert_eq!(rt; answer.code, 2);
         assert_eq!(rt; answer.subcode, subcode);

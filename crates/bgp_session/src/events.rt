@@ -28,6 +28,7 @@ fn cease() -> Notification
 }
 
 impl Standing {
+    /// The owner starts the session: a connection is tried.
     fn start(&mut self, actions: &mut Actions)
         requires { actions.old.items ≡ [] }
         ensures actions { actions.new.items ≡ (happens self.old event.Start).actions }
@@ -41,6 +42,7 @@ impl Standing {
         }
     }
 
+    /// The connection stands: the OPEN is sent.
     fn connected(&mut self, actions: &mut Actions)
         requires { actions.old.items ≡ [] }
         ensures actions { actions.new.items ≡ (happens self.old event.Connected).actions }
@@ -61,6 +63,7 @@ impl Standing {
         }
     }
 
+    /// The connection failed, or is gone.
     fn failed(&mut self, actions: &mut Actions)
         requires { actions.old.items ≡ [] }
         ensures actions { actions.new.items ≡ (happens self.old event.Failed).actions }
@@ -81,6 +84,7 @@ impl Standing {
         }
     }
 
+    /// The owner stops the session: the peer is told, where there is one.
     fn stopped(&mut self, actions: &mut Actions)
         requires { actions.old.items ≡ [] }
         ensures actions { actions.new.items ≡ (happens self.old event.Stop).actions }

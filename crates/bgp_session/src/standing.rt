@@ -20,9 +20,9 @@ pub(crate) struct Standing {
 
 impl Model for Standing {
     ghost use Rattle.std.specs.Prelude.{◌≡◌, true, false};
-    ghost use Rattle.bgp_session.specs.Standing.{Standing as Value_, state_in, context_in, listens};
+    ghost use Rattle.bgp_session.specs.Standing.{Standing as StandingValue, state_in, context_in, listens};
 
-    ghost Value = { Value_ };
+    ghost Value = { StandingValue };
 
     ghost view = { λ s. record { state = state_in s.phase; context = context_in s.phase; running = s.timers } };
 

@@ -1,11 +1,9 @@
-use Rattle.std.proofs.Common.{◌+◌, ◌*◌, ◌≤◌, length, take}
-use Rattle.bgp_wire.specs.Octets.{AreOctets}
-use Rattle.bgp_engine.specs.HexSteps.{pending, Continues}
+use Rattle.std.proofs.Common.{length}
+use Rattle.bgp_engine.proofs.HexReads.{Decodes}
 use Rattle.bgp_engine.proofs.hex_text.HexText.decode.Given as goal
 
-abbrev pub invariant-loop-character : goal.invariant-loop-character
-invariant-loop-character l = record {
-  so_far : Continues l.fn.self (take l.character-index l.text) l.octets.items l.self;
-  few : 2 * length l.octets.items + length (pending l.self) ≤ l.character-index + length (pending l.fn.self);
-  octets : AreOctets l.octets.items;
-}
+abbrev pub invariant-text : goal.invariant-text
+invariant-text l = Decodes l.fn.self l.text l.rest l.octets.items l.self
+
+abbrev pub decreases-text : goal.decreases-text
+decreases-text l = length l.rest

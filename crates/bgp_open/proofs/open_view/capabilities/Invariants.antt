@@ -2,7 +2,7 @@ use Rattle.std.proofs.Common.{◌≡◌, ◌++◌, length}
 use Rattle.bgp_wire.specs.Reader.{pieces}
 use Rattle.bgp_open.specs.Parameter.{one_parameter}
 use Rattle.bgp_open.specs.Open.{joined}
-use Rattle.bgp_open.proofs.read.capabilities.Given as goal
+use Rattle.bgp_open.proofs.open_view.capabilities.Given as goal
 
 -- the list so far and what is left are all
 abbrev pub invariant-row : goal.invariant-row

@@ -1,7 +1,7 @@
 use Rattle.std.proofs.Common.{◌≡◌, ◌++◌, length}
 use Rattle.bgp_wire.specs.Reader.{pieces}
 use Rattle.bgp_open.specs.Capability.{one_capability}
-use Rattle.bgp_open.proofs.read.extend.Given as goal
+use Rattle.bgp_open.proofs.open_view.extend.Given as goal
 
 -- the list so far and what is left are all
 abbrev pub invariant-row : goal.invariant-row

@@ -1,0 +1,12 @@
+use Rattle.std.proofs.Common.{◌≡◌, length, None}
+use Rattle.bgp_engine.specs.HexSteps.{ReadsPairs}
+use Rattle.bgp_engine.proofs.hex_text.HexText.take_pairs.Given as goal
+
+abbrev pub invariant-pairs : goal.invariant-pairs
+invariant-pairs l = record {
+  so_far : ReadsPairs l.fn.self l.text l.rest l.fn.octets.items l.octets.items l.self;
+  none : l.fn.self.pending ≡ None;
+}
+
+abbrev pub decreases-pairs : goal.decreases-pairs
+decreases-pairs l = length l.rest

@@ -1,0 +1,83 @@
+//! What a message comes to, from borrowed octets.
+
+ghost use Rattle.std.specs.Prelude.{◌≡◌, true, IfOk, OnErr};
+ghost use Rattle.bgp_update.specs.View.{update_value, notes_value, routes_value};
+
+use crate::message::Message;
+use crate::outcome::Outcome;
+use bgp_frame::NotificationView;
+use bgp_open::OpenView;
+use bgp_update::{Note, UpdateView};
+use bgp_wire::List;
+use std::alloc::{AllocError, Global};
+
+/// What a message, or the header of one, comes to: some words that point into its octets, in place of an [`Outcome`] with memory of its own.
+#[derive(Clone, Copy, Debug)]
+pub enum OutcomeView<'a> {
+    /// An OPEN is taken.
+    Open(OpenView<'a>),
+    /// An UPDATE is taken, with notes on what of it isn't kept.
+    Update(UpdateView<'a>),
+    /// A NOTIFICATION is taken.
+    Notification(NotificationView<'a>),
+    /// A KEEPALIVE is taken.
+    Keepalive,
+    /// An UPDATE whose routes are all withdrawn (RFC 7606, section 2), with notes on why.
+    Withdraw(UpdateView<'a>),
+    /// The session ends with this notification.
+    Reset(NotificationView<'a>),
+}
+
+/// The notes on an UPDATE, with memory of their own.
+fn own_notes(alloc: Global, view: &UpdateView<'_>) -> Result<List<Note>, AllocError>
+    ensures { IfOk result (λ notes. notes ≡ notes_value view.now) }
+{
+    Ok(List::from_vec(view.notes().collect(alloc)?))
+}
+
+impl OutcomeView<'_> {
+    ghost use Rattle.bgp_msg.specs.Outcome.{is_reset};
+    ghost use Rattle.bgp_msg.specs.OutcomeView.{outcome_value, has_lists};
+
+    /// Whether the session ends. A NOTIFICATION that was received is taken, and is no reset.
+    pub fn is_reset(&self) -> bool
+        ensures { result ≡ is_reset (outcome_value self.now) }
+    {
+        match self {
+            OutcomeView::Reset(_) => true,
+            _ => false,
+        }
+    }
+
+    /// The outcome, with memory of its own.
+    ///
+    /// # Errors
+    /// `AllocError` where a growth was refused: only for an OPEN that is taken, or an UPDATE that doesn't end the session.
+    pub fn own(&self, alloc: Global) -> Result<Outcome, AllocError>
+        ensures value { IfOk result (λ o. o ≡ outcome_value self.now) }
+        ensures err { OnErr result (has_lists (outcome_value self.now) ≡ true) }
+    {
+        match self {
+            OutcomeView::Open(view) => {
+                let open = view.own(alloc)?;
+                Ok(Outcome::Took(Message::Open(open), List::new(alloc)))
+            }
+            OutcomeView::Update(view) => {
+                let update = view.own(alloc)?;
+                let notes = own_notes(alloc, view)?;
+                Ok(Outcome::Took(Message::Update(update), notes))
+            }
+            OutcomeView::Notification(said) => Ok(Outcome::Took(
+                Message::Notification(said.own()),
+                List::new(alloc),
+            )),
+            OutcomeView::Keepalive => Ok(Outcome::Took(Message::Keepalive, List::new(alloc))),
+            OutcomeView::Withdraw(view) => {
+                let routes = view.routes(alloc)?;
+                let notes = own_notes(alloc, view)?;
+                Ok(Outcome::Withdraw(routes, notes))
+            }
+            OutcomeView::Reset(why) => Ok(Outcome::Reset(why.own())),
+        }
+    }
+}
