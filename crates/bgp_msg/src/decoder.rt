@@ -121,13 +121,16 @@ impl Decoder {
         ensures err { OnErr result (self.new ≡ self.old) }
         ensures memory { OnErr result (TakesMemory self.old ⊎ FrontTakesMemory self.old piece.now) }
     {
+        if self.stopped {
+            return Ok((0, None));
+        }
+        if self.framer.held() == 0 {
+            return self.pull_front(alloc, piece);
+        }
         if let Some(found) = self.next(alloc)? {
             return Ok((0, Some(found)));
         }
-        if self.stopped || self.framer.held() > 0 {
-            return Ok((self.feed(piece), None));
-        }
-        self.pull_front(alloc, piece)
+        Ok((self.feed(piece), None))
     }
 
     /// Pulls from a piece where nothing is held.
