@@ -68,8 +68,8 @@ fn assert_judged(
     let mut field = TlvIter::new(octets);
     let tlv = field.next().ok_or("an attribute")?;
     assert!(rt; field.next().is_none());
-    assert_eq!(rt; field.tail(), Tail::End);
-    assert_eq!(rt; tlv.whole, octets);
+    assert!(rt; field.tail() == Tail::End);
+    assert!(rt; tlv.whole == octets);
     assert!(rt; tlv.whole.len() <= 4075);
     let mut judgements = 0u8;
     for number in 0..16u8 {

@@ -15,38 +15,38 @@ fn stream(marker_end: u8, rest: &[u8]) -> ArrayVec<u8, 64> {
 /// At the front of a piece stands what a framer holds of it: fewer octets wait, and octets behind have no effect.
 fn assert_front(rt: &impl Abort, octets: &[u8]) {
     for len in 0..octets.len() {
-        assert_eq!(rt; front(&octets[..len]), Step::More);
+        assert!(rt; front(&octets[..len]) == Step::More);
     }
     let mut framer = Framer::new();
-    assert_eq!(rt; framer.feed(octets), octets.len());
-    assert_eq!(rt; front(octets), framer.step());
+    assert!(rt; framer.feed(octets) == octets.len());
+    assert!(rt; front(octets) == framer.step());
     let mut longer: ArrayVec<u8, 128> = ArrayVec::new();
     for octet in octets {
         let _ = longer.try_push(*octet);
     }
     for octet in [0, 255, 4] {
         let _ = longer.try_push(octet);
-        assert_eq!(rt; front(&longer), framer.step());
+        assert!(rt; front(&longer) == framer.step());
     }
 }
 
 fn assert_fault(rt: &impl Abort, octets: &[u8], subcode: u8, info: &[u8]) {
     assert_front(rt, octets);
     let mut whole = Framer::new();
-    assert_eq!(rt; whole.feed(octets), 19);
+    assert!(rt; whole.feed(octets) == 19);
     let mut one_by_one = Framer::new();
     for octet in octets {
         if matches!(one_by_one.step(), Step::More) {
-            assert_eq!(rt; one_by_one.feed(&[*octet]), 1);
+            assert!(rt; one_by_one.feed(&[*octet]) == 1);
         }
     }
-    assert_eq!(rt; whole.step(), one_by_one.step());
+    assert!(rt; whole.step() == one_by_one.step());
     match whole.step() {
         Step::Fault(fault) => {
             let told = fault.notification();
-            assert_eq!(rt; told.code, 1);
-            assert_eq!(rt; told.subcode, subcode);
-            assert_eq!(rt; told.info.as_slice(), info);
+            assert!(rt; told.code == 1);
+            assert!(rt; told.subcode == subcode);
+            assert!(rt; told.info.as_slice() == info);
         }
         Step::More | Step::Frame(_) => assert!(rt; false, "the header has a fault"),
     }
@@ -64,35 +64,32 @@ fn header_faults(rt: HostRuntime) {
 #[test]
 fn a_wrong_marker_waits_for_its_header(rt: HostRuntime) {
     let mut framer = Framer::new();
-    assert_eq!(rt; framer.feed(&stream(0xfe, &[0x00, 0x12])), 18);
-    assert_eq!(rt; framer.held(), 18);
-    assert_eq!(rt; framer.step(), Step::More);
+    assert!(rt; framer.feed(&stream(0xfe, &[0x00, 0x12])) == 18);
+    assert!(rt; framer.held() == 18);
+    assert!(rt; framer.step() == Step::More);
     framer.clear();
-    assert_eq!(rt; framer.held(), 0);
+    assert!(rt; framer.held() == 0);
 }
 
 #[test]
 fn two_keepalives(rt: HostRuntime) {
     let keepalive = head(Kind::Keepalive, 0);
-    assert_eq!(rt;
-        keepalive.as_slice(),
-        stream(0xff, &[0x00, 0x13, 4]).as_slice()
-    );
+    assert!(rt; keepalive.as_slice() == stream(0xff, &[0x00, 0x13, 4]).as_slice());
     let mut framer = Framer::default();
     for _ in 0..2u8 {
-        assert_eq!(rt; framer.feed(&keepalive), 19);
+        assert!(rt; framer.feed(&keepalive) == 19);
         assert_eq!(rt; framer.feed(&keepalive), 0, "a message is held");
         match framer.step() {
             Step::Frame(frame) => {
-                assert_eq!(rt; frame.kind, Kind::Keepalive);
-                assert_eq!(rt; frame.len, 19);
+                assert!(rt; frame.kind == Kind::Keepalive);
+                assert!(rt; frame.len == 19);
                 assert!(rt; frame.body.is_empty());
                 framer.take();
             }
             Step::More | Step::Fault(_) => assert!(rt; false, "a message is held"),
         }
     }
-    assert_eq!(rt; framer.held(), 0);
+    assert!(rt; framer.held() == 0);
 }
 
 #[test]
@@ -104,7 +101,7 @@ fn fronts_of_messages(rt: HostRuntime) {
         body: &[],
         len: 19,
     };
-    assert_eq!(rt; front(&keepalive), Step::Frame(shown));
+    assert!(rt; front(&keepalive) == Step::Frame(shown));
     let shutdown = stream(0xff, &[0x00, 0x17, 3, 6, 2, 0x41, 0x42]);
     assert_front(&rt, &shutdown);
     let shown = Frame {
@@ -112,21 +109,21 @@ fn fronts_of_messages(rt: HostRuntime) {
         body: &[6, 2, 0x41, 0x42],
         len: 23,
     };
-    assert_eq!(rt; front(&shutdown), Step::Frame(shown));
+    assert!(rt; front(&shutdown) == Step::Frame(shown));
 }
 
 #[test]
 fn an_update_of_4096_octets(rt: HostRuntime) {
     let header = head(Kind::Update, 4077);
-    assert_eq!(rt; &header[16..], [0x10, 0x00, 2].as_slice());
+    assert!(rt; &header[16..] == [0x10, 0x00, 2].as_slice());
     let mut framer = Framer::new();
-    assert_eq!(rt; framer.feed(&header), 19);
-    assert_eq!(rt; framer.feed(&[0; 4076]), 4076);
-    assert_eq!(rt; framer.step(), Step::More);
-    assert_eq!(rt; framer.feed(&[0; 20]), 1);
-    assert_eq!(rt; framer.held(), 4096);
+    assert!(rt; framer.feed(&header) == 19);
+    assert!(rt; framer.feed(&[0; 4076]) == 4076);
+    assert!(rt; framer.step() == Step::More);
+    assert!(rt; framer.feed(&[0; 20]) == 1);
+    assert!(rt; framer.held() == 4096);
     match framer.step() {
-        Step::Frame(frame) => assert_eq!(rt; frame.body.len(), 4077),
+        Step::Frame(frame) => assert!(rt; frame.body.len() == 4077),
         Step::More | Step::Fault(_) => assert!(rt; false, "a message is held"),
     }
 }
@@ -134,13 +131,13 @@ fn an_update_of_4096_octets(rt: HostRuntime) {
 #[test]
 fn notifications(rt: HostRuntime) {
     let told = Notification::new(6, 2, b"bye");
-    assert_eq!(rt; told, Notification::new(6, 2, b"bye"));
-    assert_ne!(rt; told, Notification::new(6, 2, &[]));
-    assert_eq!(rt; told.info.as_slice(), b"bye".as_slice());
+    assert!(rt; told == Notification::new(6, 2, b"bye"));
+    assert!(rt; told != Notification::new(6, 2, &[]));
+    assert!(rt; told.info.as_slice() == b"bye".as_slice());
     let borrowed = NotificationView {
         code: 6,
         subcode: 2,
         info: b"bye",
     };
-    assert_eq!(rt; borrowed.own(), told);
+    assert!(rt; borrowed.own() == told);
 }

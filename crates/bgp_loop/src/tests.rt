@@ -72,17 +72,17 @@ fn scripts_over_memory(rt: HostRuntime) {
     ] {
         let (text, outcome) = run(&rt, script, &mut MemoryWire);
         assert!(rt; text.as_slice() == wanted.as_bytes());
-        assert_eq!(rt;
-            outcome,
-            Ok(Tally {
-                messages: 0,
-                took: 0,
-                withdrawn: 0,
-                resets: 0,
-                end: End::Wait(0),
-            })
+        assert!(rt;
+            outcome
+                == Ok(Tally {
+                    messages: 0,
+                    took: 0,
+                    withdrawn: 0,
+                    resets: 0,
+                    end: End::Wait(0),
+                })
         );
-        assert_eq!(rt; status(&outcome), 0);
+        assert!(rt; status(&outcome) == 0);
     }
 }
 
@@ -96,7 +96,7 @@ fn scripts_over_tcp(rt: HostRuntime) -> Result<(), Fail> {
         let (text, outcome) = run(&rt, script, &mut wire);
         assert!(rt; text.as_slice() == wanted.as_bytes());
         assert!(rt; outcome.is_ok());
-        assert_eq!(rt; wire.failures(), 0);
+        assert!(rt; wire.failures() == 0);
     }
     Ok(())
 }
@@ -109,16 +109,16 @@ fn a_wire_over_tcp(rt: HostRuntime) -> Result<(), Fail> {
         !wire.pass(Side::A, &mut octets),
         "nothing passes without a connection"
     );
-    assert_eq!(rt; wire.failures(), 1);
+    assert!(rt; wire.failures() == 1);
     assert!(rt; wire.join());
     for side in [Side::A, Side::B, Side::A] {
         assert!(rt; wire.pass(side, &mut octets));
-        assert_eq!(rt; octets, [7; 4096]);
+        assert!(rt; octets == [7; 4096]);
     }
     wire.cut();
     assert!(rt; !wire.pass(Side::B, &mut octets));
     assert!(rt; wire.join() && wire.pass(Side::B, &mut octets[..1]));
-    assert_eq!(rt; wire.failures(), 2);
+    assert!(rt; wire.failures() == 2);
     Ok(())
 }
 
@@ -137,8 +137,8 @@ fn a_faulty_script_writes_nothing(rt: HostRuntime) {
     ] {
         let (text, outcome) = run(&rt, script, &mut MemoryWire);
         assert!(rt; text.is_empty());
-        assert_eq!(rt; outcome, Err(ToolFault::Script(line)));
-        assert_eq!(rt; status(&outcome), 1);
+        assert!(rt; outcome == Err(ToolFault::Script(line)));
+        assert!(rt; status(&outcome) == 1);
     }
 }
 
@@ -158,7 +158,7 @@ fn writers_that_fail(rt: HostRuntime) {
                 &mut MemoryWire,
                 &mut full,
             );
-            assert_eq!(rt; outcome, Err(ToolFault::Write));
+            assert!(rt; outcome == Err(ToolFault::Write));
             assert!(rt; full.text.as_slice() == &TWO_SPEAKERS_TEXT.as_bytes()[..room]);
         }
     }
@@ -169,8 +169,8 @@ fn a_file_that_is_not_there(rt: HostRuntime) {
     for tcp in [false, true] {
         let mut text = Vec::new(rt.alloc());
         let outcome = run_file(&rt, rt.alloc(), "no such file", tcp, &mut text);
-        assert_eq!(rt; outcome, Err(ToolFault::Read));
-        assert_eq!(rt; status(&outcome), 4);
+        assert!(rt; outcome == Err(ToolFault::Read));
+        assert!(rt; status(&outcome) == 4);
         assert!(rt; text.is_empty());
     }
 }

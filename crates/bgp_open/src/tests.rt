@@ -99,14 +99,14 @@ fn two_spellings_of_one_open(rt: HostRuntime) -> Result<(), Fail> {
     let bodies: [&[u8]; 2] = [&OPEN_ONE_PARAMETER, &OPEN_FOUR_PARAMETERS];
     for body in bodies {
         assert!(rt; body.len() >= 10);
-        assert_eq!(rt; read_open(alloc, body)?, wanted);
+        assert!(rt; read_open(alloc, body)? == wanted);
     }
     let mut out = vec![in alloc; 7u8]?;
     write_open(&wanted, &mut out)?;
-    assert_eq!(rt; out.len(), 29);
-    assert_eq!(rt; out[0], 7);
-    assert_eq!(rt; &out[1..], OPEN_ONE_PARAMETER.as_slice());
-    assert_eq!(rt; wanted.copy(alloc)?, wanted);
+    assert!(rt; out.len() == 29);
+    assert!(rt; out[0] == 7);
+    assert!(rt; &out[1..] == OPEN_ONE_PARAMETER.as_slice());
+    assert!(rt; wanted.copy(alloc)? == wanted);
     Ok(())
 }
 
@@ -122,7 +122,7 @@ fn a_refused_growth_changes_nothing(rt: HostRuntime) -> Result<(), Fail> {
         Err(_) => read.copy(alloc)?,
         Ok(copy) => copy,
     };
-    assert_eq!(rt; copy, read);
+    assert!(rt; copy == read);
     let mut out = Vec::new(alloc);
     match write_open(&copy, &mut out) {
         Err(WriteOpenFault::Memory) => {
@@ -131,7 +131,7 @@ fn a_refused_growth_changes_nothing(rt: HostRuntime) -> Result<(), Fail> {
         }
         answer => answer?,
     }
-    assert_eq!(rt; out.as_slice(), OPEN_ONE_PARAMETER.as_slice());
+    assert!(rt; out.as_slice() == OPEN_ONE_PARAMETER.as_slice());
     let config = Config::new(65001, 65002, [192, 0, 2, 1], 90, true, true, true)
         .ok()
         .ok_or("allowed")?;
@@ -139,7 +139,7 @@ fn a_refused_growth_changes_nothing(rt: HostRuntime) -> Result<(), Fail> {
         Err(_) => own_open(alloc, &config)?,
         Ok(own) => own,
     };
-    assert_eq!(rt; own.caps.len(), 3);
+    assert!(rt; own.caps.len() == 3);
     Ok(())
 }
 
@@ -223,12 +223,12 @@ fn bodies_with_a_fault(rt: HostRuntime) -> Result<(), Fail> {
     for (body, wanted, subcode, info) in rows {
         assert!(rt; body.len() >= 10);
         let fault = read_open(rt.alloc(), body).err().ok_or("a fault")?;
-        assert_eq!(rt; fault, wanted);
-        assert_eq!(rt; view_open(body).err(), Some(wanted));
+        assert!(rt; fault == wanted);
+        assert!(rt; view_open(body).err() == Some(wanted));
         let answer = fault.notification().ok_or("an answer")?;
-        assert_eq!(rt; answer.code, 2);
-        assert_eq!(rt; answer.subcode, subcode);
-        assert_eq!(rt; answer.info.as_slice(), info);
+        assert!(rt; answer.code == 2);
+        assert!(rt; answer.subcode == subcode);
+        assert!(rt; answer.info.as_slice() == info);
     }
     assert!(rt; OpenFault::Memory.notification().is_none());
     Ok(())
@@ -261,11 +261,11 @@ fn opens_that_are_not_valid(rt: HostRuntime) -> Result<(), Fail> {
         };
         let mut out = Vec::new(alloc);
         let result = write_open(&open, &mut out);
-        assert_eq!(rt; result.is_ok(), written);
+        assert!(rt; result.is_ok() == written);
         if written {
-            assert_eq!(rt; out.len(), octets.wrapping_add(14));
+            assert!(rt; out.len() == octets.wrapping_add(14));
         } else {
-            assert_eq!(rt; result, Err(WriteOpenFault::NotValid));
+            assert!(rt; result == Err(WriteOpenFault::NotValid));
             assert!(rt; out.is_empty());
         }
     }
@@ -279,7 +279,7 @@ fn opens_that_are_not_valid(rt: HostRuntime) -> Result<(), Fail> {
         caps: List::from_vec(vec![in alloc; long, short]?),
     };
     let mut out = Vec::new(alloc);
-    assert_eq!(rt; write_open(&open, &mut out), Err(WriteOpenFault::NotValid));
+    assert!(rt; write_open(&open, &mut out) == Err(WriteOpenFault::NotValid));
     Ok(())
 }
 
@@ -290,16 +290,16 @@ fn a_speaker_with_a_wide_number(rt: HostRuntime) -> Result<(), Fail> {
         .ok()
         .ok_or("allowed")?;
     let open = own_open(rt.alloc(), &config)?;
-    assert_eq!(rt; open.as_field, 23456);
-    assert_eq!(rt; open.caps.as_slice(), [Capability::As4(200000)].as_slice());
+    assert!(rt; open.as_field == 23456);
+    assert!(rt; open.caps.as_slice() == [Capability::As4(200000)].as_slice());
     let body = [
         4, 0x5b, 0xa0, 0, 0x5a, 192, 0, 2, 1, 8, 2, 6, 0x41, 4, 0, 3, 0x0d, 0x40,
     ];
     let frame = own_frame(&config);
-    assert_eq!(rt; frame.len(), 37);
-    assert_eq!(rt; &frame[..16], [255; 16].as_slice());
-    assert_eq!(rt; &frame[16..19], [0, 0x25, 1].as_slice());
-    assert_eq!(rt; &frame[19..], body.as_slice());
+    assert!(rt; frame.len() == 37);
+    assert!(rt; &frame[..16] == [255; 16].as_slice());
+    assert!(rt; &frame[16..19] == [0, 0x25, 1].as_slice());
+    assert!(rt; &frame[19..] == body.as_slice());
     Ok(())
 }
 
@@ -321,14 +321,14 @@ fn configurations_that_are_refused(rt: HostRuntime) {
     for (local_as, peer_as, last, hold, as4, wanted) in rows {
         let made = Config::new(local_as, peer_as, [0, 0, 0, last], hold, as4, true, false);
         match made {
-            Err(reason) => assert_eq!(rt; Some(reason), wanted),
+            Err(reason) => assert!(rt; Some(reason) == wanted),
             Ok(config) => {
                 assert!(rt; wanted.is_none());
-                assert_eq!(rt; config.local_as(), local_as);
-                assert_eq!(rt; config.peer_as(), peer_as);
-                assert_eq!(rt; config.id(), [0, 0, 0, last]);
-                assert_eq!(rt; config.hold(), hold);
-                assert_eq!(rt; config.as4(), as4);
+                assert!(rt; config.local_as() == local_as);
+                assert!(rt; config.peer_as() == peer_as);
+                assert!(rt; config.id() == [0, 0, 0, last]);
+                assert!(rt; config.hold() == hold);
+                assert!(rt; config.as4() == as4);
                 assert!(rt; config.ip4());
                 assert!(rt; !config.ip6());
             }
@@ -349,33 +349,24 @@ fn what_two_speakers_agree_on(rt: HostRuntime) -> Result<(), Fail> {
         ip6: false,
         hold: 30,
     };
-    assert_eq!(rt; agree(&first, &spelled_twice(alloc)?), Ok(wanted));
+    assert!(rt; agree(&first, &spelled_twice(alloc)?) == Ok(wanted));
     let second = Config::new(65001, 65002, [192, 0, 2, 1], 90, true, true, true)
         .ok()
         .ok_or("allowed")?;
-    assert_eq!(rt; agree(&first, &own_open(alloc, &second)?), Ok(wanted));
-    assert_eq!(rt; agree(&second, &own_open(alloc, &first)?), Ok(wanted));
+    assert!(rt; agree(&first, &own_open(alloc, &second)?) == Ok(wanted));
+    assert!(rt; agree(&second, &own_open(alloc, &first)?) == Ok(wanted));
     let stranger = Config::new(65002, 65009, [192, 0, 2, 2], 30, true, true, false)
         .ok()
         .ok_or("allowed")?;
-    assert_eq!(rt;
-        agree(&stranger, &own_open(alloc, &second)?),
-        Err(PeerFault::PeerAs)
-    );
+    assert!(rt; agree(&stranger, &own_open(alloc, &second)?) == Err(PeerFault::PeerAs));
     let inside = Config::new(65001, 65001, [192, 0, 2, 1], 30, true, true, false)
         .ok()
         .ok_or("allowed")?;
-    assert_eq!(rt;
-        agree(&inside, &own_open(alloc, &second)?),
-        Err(PeerFault::Identifier)
-    );
+    assert!(rt; agree(&inside, &own_open(alloc, &second)?) == Err(PeerFault::Identifier));
     let other = Config::new(65001, 65001, [192, 0, 2, 2], 30, true, true, false)
         .ok()
         .ok_or("allowed")?;
-    assert_eq!(rt;
-        agree(&other, &own_open(alloc, &second)?).map(|c| c.internal),
-        Ok(true)
-    );
+    assert!(rt; agree(&other, &own_open(alloc, &second)?).map(|c| c.internal) == Ok(true));
     // The first of two capabilities with an AS number counts.
     let twice = Open {
         as_field: 7,
@@ -383,8 +374,8 @@ fn what_two_speakers_agree_on(rt: HostRuntime) -> Result<(), Fail> {
         id: [192, 0, 2, 9],
         caps: List::from_vec(vec![in alloc; Capability::As4(65001), Capability::As4(65009)]?),
     };
-    assert_eq!(rt; agree(&first, &twice).map(|c| c.hold), Ok(0));
-    assert_eq!(rt; agree(&stranger, &twice), Err(PeerFault::PeerAs));
+    assert!(rt; agree(&first, &twice).map(|c| c.hold) == Ok(0));
+    assert!(rt; agree(&stranger, &twice) == Err(PeerFault::PeerAs));
     Ok(())
 }
 
@@ -392,7 +383,7 @@ fn what_two_speakers_agree_on(rt: HostRuntime) -> Result<(), Fail> {
 fn what_a_peer_is_told_that_is_not_accepted(rt: HostRuntime) {
     for (fault, subcode) in [(PeerFault::PeerAs, 2u8), (PeerFault::Identifier, 3)] {
         let told = fault.notification();
-        assert_eq!(rt; (told.code, told.subcode), (2, subcode));
+        assert!(rt; (told.code, told.subcode) == (2, subcode));
         assert!(rt; told.info.is_empty());
     }
 }
@@ -417,7 +408,7 @@ fn speaks(
     assert!(rt; frame.len() >= 29);
     let body = &frame[19..];
     let read = read_open(alloc, body)?;
-    assert_eq!(rt; read, wanted);
+    assert!(rt; read == wanted);
     let config = Config::new(64512, number, [192, 0, 2, 3], 180, as4, true, true)
         .ok()
         .ok_or("allowed")?;
@@ -428,7 +419,7 @@ fn speaks(
         ip6: true,
         hold: 90,
     };
-    assert_eq!(rt; agree(&config, &read), Ok(context));
+    assert!(rt; agree(&config, &read) == Ok(context));
     Ok(())
 }
 

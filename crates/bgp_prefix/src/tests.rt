@@ -6,10 +6,10 @@ use std::test::*;
 #[test]
 fn prefixes_of_four_octets(rt: HostRuntime) -> Result<(), Fail> {
     let ten = Prefix4::new(8, [10, 0, 0, 0]).ok_or("8 bits")?;
-    assert_eq!(rt; ten.len(), 8);
-    assert_eq!(rt; ten.addr(), [10, 0, 0, 0]);
-    assert_eq!(rt; format!(in rt.alloc(); "{ten}")?.as_str(), "10.0.0.0/8");
-    assert_eq!(rt; ten.try_copy(rt.alloc())?, ten);
+    assert!(rt; ten.len() == 8);
+    assert!(rt; ten.addr() == [10, 0, 0, 0]);
+    assert!(rt; format!(in rt.alloc(); "{ten}")?.as_str() == "10.0.0.0/8");
+    assert!(rt; ten.try_copy(rt.alloc())? == ten);
     assert!(rt; Prefix4::new(9, [10, 255, 0, 0]).is_none());
     assert!(rt; Prefix4::new(33, [0, 0, 0, 0]).is_none());
     assert!(rt; Prefix4::new(0, [0, 0, 0, 1]).is_none());
@@ -20,13 +20,12 @@ fn prefixes_of_four_octets(rt: HostRuntime) -> Result<(), Fail> {
 #[test]
 fn addresses_as_text(rt: HostRuntime) -> Result<(), Fail> {
     let first = Address([192, 0, 2, 1]);
-    assert_eq!(rt; format!(in rt.alloc(); "{first}")?.as_str(), "192.0.2.1");
+    assert!(rt; format!(in rt.alloc(); "{first}")?.as_str() == "192.0.2.1");
     let second = Address([
         0x20, 1, 0x0d, 0xb8, 0, 0, 0, 0, 0, 0, 0, 0, 0, 0, 0xab, 0xcd,
     ]);
-    assert_eq!(rt;
-        format!(in rt.alloc(); "{second}")?.as_str(),
-        "2001:0db8:0000:0000:0000:0000:0000:abcd"
+    assert!(rt;
+        format!(in rt.alloc(); "{second}")?.as_str() == "2001:0db8:0000:0000:0000:0000:0000:abcd"
     );
     Ok(())
 }
@@ -38,8 +37,8 @@ fn prefixes_in_order(rt: HostRuntime) -> Result<(), Fail> {
     let eleven = Prefix4::new(8, [11, 0, 0, 0]).ok_or("8 bits")?;
     assert!(rt; ten < longer);
     assert!(rt; longer < eleven);
-    assert_eq!(rt; eleven.cmp(&longer), Ordering::Greater);
-    assert_eq!(rt; ten.cmp(&ten), Ordering::Equal);
+    assert!(rt; eleven.cmp(&longer) == Ordering::Greater);
+    assert!(rt; ten.cmp(&ten) == Ordering::Equal);
     let low = Prefix6::new(128, [1; 16]).ok_or("128 bits")?;
     let high = Prefix6::new(1, [128, 0, 0, 0, 0, 0, 0, 0, 0, 0, 0, 0, 0, 0, 0, 0]).ok_or("1 bit")?;
     assert!(rt; low < high);
@@ -64,11 +63,11 @@ fn runs_of_four_octets(rt: HostRuntime) -> Result<(), Fail> {
         assert!(rt; check_run4(octets));
         let prefixes = read_run4(rt.alloc(), octets).ok().ok_or("a run")?;
         let wanted = Prefix4::new(len, addr).ok_or("a prefix")?;
-        assert_eq!(rt; prefixes.as_slice(), [wanted].as_slice());
+        assert!(rt; prefixes.as_slice() == [wanted].as_slice());
         let mut out = vec![in rt.alloc(); 7u8]?;
         write_run4(prefixes.as_slice(), &mut out)?;
-        assert_eq!(rt; &out[1..], again);
-        assert_eq!(rt; out[0], 7);
+        assert!(rt; &out[1..] == again);
+        assert!(rt; out[0] == 7);
     }
     Ok(())
 }
@@ -93,11 +92,11 @@ fn octets_that_are_no_run(rt: HostRuntime) {
 #[test]
 fn an_iterator_stops_at_the_first_fault(rt: HostRuntime) -> Result<(), Fail> {
     let mut iter = PrefixIter4::new(&[0x08, 0x0a, 0x21]);
-    assert_eq!(rt; iter.left(), 1);
-    assert_eq!(rt; iter.next(), Prefix4::new(8, [10, 0, 0, 0]));
-    assert_eq!(rt; iter.left(), 0);
-    assert_eq!(rt; iter.next(), None);
-    assert_eq!(rt; iter.next(), None);
+    assert!(rt; iter.left() == 1);
+    assert!(rt; iter.next() == Prefix4::new(8, [10, 0, 0, 0]));
+    assert!(rt; iter.left() == 0);
+    assert!(rt; iter.next() == None);
+    assert!(rt; iter.next() == None);
     Ok(())
 }
 
@@ -107,8 +106,8 @@ fn two_thousand_prefixes(rt: HostRuntime) -> Result<(), Fail> {
     for _ in 0..2000 {
         octets.extend_from_slice(&[0x18, 198, 51, 100])?;
     }
-    assert_eq!(rt; PrefixIter4::new(&octets).left(), 2000);
-    assert_eq!(rt; PrefixIter4::new(&octets).count(), 2000);
+    assert!(rt; PrefixIter4::new(&octets).left() == 2000);
+    assert!(rt; PrefixIter4::new(&octets).count() == 2000);
     Ok(())
 }
 
@@ -117,21 +116,20 @@ fn runs_of_sixteen_octets(rt: HostRuntime) -> Result<(), Fail> {
     let octets = [0x20u8, 0x20, 0x01, 0x0d, 0xb8];
     assert!(rt; check_run6(&octets));
     let prefixes = read_run6(rt.alloc(), &octets).ok().ok_or("a run")?;
-    assert_eq!(rt; prefixes.len(), 1);
+    assert!(rt; prefixes.len() == 1);
     for prefix in prefixes.iter() {
-        assert_eq!(rt;
-            format!(in rt.alloc(); "{prefix}")?.as_str(),
-            "2001:0db8:0000:0000:0000:0000:0000:0000/32"
+        assert!(rt;
+            format!(in rt.alloc(); "{prefix}")?.as_str()
+                == "2001:0db8:0000:0000:0000:0000:0000:0000/32"
         );
-        assert_eq!(rt; PrefixIter6::new(&octets).next(), Some(*prefix));
+        assert!(rt; PrefixIter6::new(&octets).next() == Some(*prefix));
     }
     let mut out = Vec::new(rt.alloc());
     write_run6(prefixes.as_slice(), &mut out)?;
-    assert_eq!(rt; out.as_slice(), octets.as_slice());
+    assert!(rt; out.as_slice() == octets.as_slice());
     let all = Prefix6::new(128, [255; 16]).ok_or("128 bits")?;
-    assert_eq!(rt;
-        format!(in rt.alloc(); "{all}")?.as_str(),
-        "ffff:ffff:ffff:ffff:ffff:ffff:ffff:ffff/128"
+    assert!(rt;
+        format!(in rt.alloc(); "{all}")?.as_str() == "ffff:ffff:ffff:ffff:ffff:ffff:ffff:ffff/128"
     );
     assert!(rt; Prefix6::new(129, [0; 16]).is_none());
     Ok(())
@@ -139,11 +137,11 @@ fn runs_of_sixteen_octets(rt: HostRuntime) -> Result<(), Fail> {
 
 #[test]
 fn numbers_of_systems(rt: HostRuntime) -> Result<(), Fail> {
-    assert_eq!(rt; AS_TRANS.0, 23456);
-    assert_eq!(rt; AS_TRANS.try_copy(rt.alloc())?, AS_TRANS);
+    assert!(rt; AS_TRANS.0 == 23456);
+    assert!(rt; AS_TRANS.try_copy(rt.alloc())? == AS_TRANS);
     let mut numbers = List::new(rt.alloc());
     numbers.push(AsNumber(65536))?;
-    assert_eq!(rt; numbers.copy(rt.alloc())?, numbers);
+    assert!(rt; numbers.copy(rt.alloc())? == numbers);
     Ok(())
 }
 
@@ -161,13 +159,13 @@ fn a_refused_growth_changes_nothing(rt: HostRuntime) -> Result<(), Fail> {
     for _ in 0..4 {
         let held = out.len();
         if write_run4(prefixes.as_slice(), &mut out).is_err() {
-            assert_eq!(rt; out.len(), held);
+            assert!(rt; out.len() == held);
             write_run4(prefixes.as_slice(), &mut out)?;
         }
     }
-    assert_eq!(rt; out.len(), 4 * octets.len());
+    assert!(rt; out.len() == 4 * octets.len());
     for part in out.chunks(10) {
-        assert_eq!(rt; part, octets.as_slice());
+        assert!(rt; part == octets.as_slice());
     }
     Ok(())
 }

@@ -113,7 +113,7 @@ fn session_in(rt: &(impl Abort + AllocGlobal), state: State) -> Result<Session, 
     if state == State::Established {
         hear(rt, &mut session, KEEPALIVE)?;
     }
-    assert_eq!(rt; session.state(), state);
+    assert!(rt; session.state() == state);
     Ok(session)
 }
 
@@ -123,9 +123,9 @@ fn hear(
     session: &mut Session,
     octets: &[u8],
 ) -> Result<Actions, Fail> {
-    assert_eq!(rt; session.feed(octets), octets.len());
+    assert!(rt; session.feed(octets) == octets.len());
     let actions = session.step(rt.alloc())?.ok_or("a message")?;
-    assert_eq!(rt; session.held(), 0);
+    assert!(rt; session.held() == 0);
     Ok(actions)
 }
 

@@ -96,7 +96,7 @@ fn assert_note(rt: &(impl Abort + AllocGlobal), why: Why, name: &str) -> Result<
     let alloc = rt.alloc();
     let text = lines_of_note(alloc, why)?;
     let wanted = format!(in alloc; "9 52 UPDATE withdraw\n  note 24 7 {name}\n")?;
-    assert_eq!(rt; text.as_str(), wanted.as_str());
+    assert!(rt; text.as_str() == wanted.as_str());
     Ok(())
 }
 
@@ -131,10 +131,10 @@ fn ends_and_information(rt: HostRuntime) -> Result<(), Fail> {
     put_end(&mut text, End::Reset)?;
     put_end(&mut text, End::Head)?;
     put_end(&mut text, End::Wait(4095))?;
-    assert_eq!(rt; text.as_str(), "end reset\nend head\nend wait 4095\n");
-    assert_eq!(rt; info_text(alloc, &[])?.as_str(), "-");
-    assert_eq!(rt; info_text(alloc, &[0, 0x1b, 0xff])?.as_str(), "001bff");
+    assert!(rt; text.as_str() == "end reset\nend head\nend wait 4095\n");
+    assert!(rt; info_text(alloc, &[])?.as_str() == "-");
+    assert!(rt; info_text(alloc, &[0, 0x1b, 0xff])?.as_str() == "001bff");
     let told = Notification::new(1, 2, &[0x10, 1]);
-    assert_eq!(rt; notification_text(alloc, &told)?.as_str(), "1/2 1001");
+    assert!(rt; notification_text(alloc, &told)?.as_str() == "1/2 1001");
     Ok(())
 }

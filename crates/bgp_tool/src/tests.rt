@@ -42,8 +42,8 @@ fn assert_run(rt: &(impl Abort + AllocGlobal + Files + Net), run: &Run<'_>) {
         told.text.as_slice().starts_with(errors.as_bytes()),
         "{errors}"
     );
-    assert_eq!(rt; told.text.is_empty(), errors.is_empty());
-    assert_eq!(rt; answer, *status);
+    assert!(rt; told.text.is_empty() == errors.is_empty());
+    assert!(rt; answer == *status);
 }
 
 fn assert_runs(rt: &(impl Abort + AllocGlobal + Files + Net), runs: &[Run<'_>]) {
@@ -123,10 +123,10 @@ fn families_and_internal_sessions(rt: HostRuntime) {
         );
         assert_eq!(rt; status, 0, "it is taken in each context");
         let text = str_of(&rt, &page);
-        assert_eq!(rt; text.contains(reach), is_family);
-        assert_eq!(rt; text.contains(family), !is_family);
-        assert_eq!(rt; text.contains("  local_pref 100\n"), is_internal);
-        assert_eq!(rt; text.contains(" 5 External\n"), !is_internal);
+        assert!(rt; text.contains(reach) == is_family);
+        assert!(rt; text.contains(family) == !is_family);
+        assert!(rt; text.contains("  local_pref 100\n") == is_internal);
+        assert!(rt; text.contains(" 5 External\n") == !is_internal);
     }
 }
 
@@ -150,7 +150,7 @@ fn octets_and_digits(rt: HostRuntime) {
         ],
     );
     let octets = piped(&rt, &["from-hex"], KEEPALIVE.as_bytes(), 0);
-    assert_eq!(rt; octets.len(), 19);
+    assert!(rt; octets.len() == 19);
     assert!(rt; piped(&rt, &["to-hex"], &octets, 0).as_slice() == line.as_bytes());
 }
 
@@ -171,7 +171,7 @@ fn piped(
         &mut page,
         &mut told,
     );
-    assert_eq!(rt; answer, status);
+    assert!(rt; answer == status);
     page.text
 }
 
@@ -179,7 +179,7 @@ fn piped(
 fn a_session_is_narrowed(rt: HostRuntime) {
     let octets = piped(&rt, &["from-hex"], WIDE.as_bytes(), 0);
     let narrowed = piped(&rt, &["narrow", "--ip4", "--ip6"], &octets, 0);
-    assert_eq!(rt; narrowed.len(), 52);
+    assert!(rt; narrowed.len() == 52);
     let digits = piped(&rt, &["to-hex"], &narrowed, 0);
     assert!(rt; digits.as_slice() == NARROWED.as_bytes());
 }
@@ -267,7 +267,7 @@ fn help_that_cannot_be_written(rt: HostRuntime) {
         &mut page,
         &mut told,
     );
-    assert_eq!(rt; answer, 4);
+    assert!(rt; answer == 4);
     assert!(rt; told.text.as_slice() == b"bgp: write failed\n".as_slice());
 }
 
@@ -278,7 +278,7 @@ fn a_fault_is_told_once(rt: HostRuntime) {
         let mut told = Page::new(rt.alloc());
         let mut reader = Drip::new(b"", 1).failing_after(0);
         let answer = command(&rt, rt.alloc(), &[word], &mut reader, &mut page, &mut told);
-        assert_eq!(rt; answer, 4);
+        assert!(rt; answer == 4);
         assert!(rt; told.text.as_slice() == b"bgp: read failed\n".as_slice());
         assert!(rt; page.text.is_empty());
     }
@@ -316,5 +316,5 @@ fn standard_error_that_cannot_be_written(rt: HostRuntime) {
         &mut page,
         &mut told,
     );
-    assert_eq!(rt; answer, 1);
+    assert!(rt; answer == 1);
 }

@@ -138,7 +138,7 @@ fn assert_routes(
 fn assert_notes(rt: &impl Abort, view: &UpdateView<'_>, wanted: &[Note]) -> Result<(), Fail> {
     let mut notes = view.notes();
     for note in wanted {
-        assert_eq!(rt; notes.next(), Some(*note));
+        assert!(rt; notes.next() == Some(*note));
     }
     assert!(rt; notes.next().is_none());
     assert!(rt; notes.next().is_none());

@@ -5,15 +5,15 @@ use std::test::*;
 fn a_list_is_its_vector(rt: HostRuntime) -> Result<(), Fail> {
     let mut list = List::from_vec(vec![in rt.alloc(); 1u8, 2]?);
     list.push(3)?;
-    assert_eq!(rt; list.len(), 3);
+    assert!(rt; list.len() == 3);
     assert!(rt; !list.is_empty());
-    assert_eq!(rt; list.as_slice(), [1, 2, 3].as_slice());
+    assert!(rt; list.as_slice() == [1, 2, 3].as_slice());
     list.insert(1, 9)?;
-    assert_eq!(rt; list.as_slice(), [1, 9, 2, 3].as_slice());
+    assert!(rt; list.as_slice() == [1, 9, 2, 3].as_slice());
     let copy = list.copy(rt.alloc())?;
-    assert_eq!(rt; copy, list);
-    assert_eq!(rt; copy.into_vec().as_slice(), [1, 9, 2, 3].as_slice());
+    assert!(rt; copy == list);
+    assert!(rt; copy.into_vec().as_slice() == [1, 9, 2, 3].as_slice());
     assert!(rt; List::<u32>::new(rt.alloc()).copy(rt.alloc())?.is_empty());
-    assert_eq!(rt; 7u32.try_copy(rt.alloc())?, 7);
+    assert!(rt; 7u32.try_copy(rt.alloc())? == 7);
     Ok(())
 }

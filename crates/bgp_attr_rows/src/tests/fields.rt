@@ -23,16 +23,16 @@ fn fields_and_their_tails(rt: HostRuntime) -> Result<(), Fail> {
     ];
     for (field, wanted, tail) in rows {
         let mut tlvs = TlvIter::new(field);
-        assert_eq!(rt; tlvs.tail(), tail);
+        assert!(rt; tlvs.tail() == tail);
         for (at, value) in wanted {
             let tlv = tlvs.next().ok_or("an attribute")?;
-            assert_eq!(rt; tlv.at, *at);
-            assert_eq!(rt; tlv.value, *value);
-            assert_eq!(rt; tlvs.tail(), tail);
+            assert!(rt; tlv.at == *at);
+            assert!(rt; tlv.value == *value);
+            assert!(rt; tlvs.tail() == tail);
         }
         for _ in 0..2 {
             assert!(rt; tlvs.next().is_none());
-            assert_eq!(rt; tlvs.tail(), tail);
+            assert!(rt; tlvs.tail() == tail);
         }
     }
     Ok(())
@@ -42,15 +42,15 @@ fn fields_and_their_tails(rt: HostRuntime) -> Result<(), Fail> {
 fn parts_of_an_attribute(rt: HostRuntime) -> Result<(), Fail> {
     let mut tlvs = TlvIter::new(&[0x40, 6, 0, 0x50, 1, 0, 1, 0]);
     let atomic = tlvs.next().ok_or("the first")?;
-    assert_eq!(rt; atomic.kind, 6);
-    assert_eq!(rt; atomic.whole, [0x40, 6, 0].as_slice());
+    assert!(rt; atomic.kind == 6);
+    assert!(rt; atomic.whole == [0x40, 6, 0].as_slice());
     assert!(rt; atomic.value.is_empty());
     let origin = tlvs.next().ok_or("the second")?;
-    assert_eq!(rt; origin.at, 3);
-    assert_eq!(rt; origin.flags, Flags(0x50));
-    assert_eq!(rt; origin.kind, 1);
-    assert_eq!(rt; origin.whole, [0x50, 1, 0, 1, 0].as_slice());
-    assert_eq!(rt; origin.value, [0].as_slice());
+    assert!(rt; origin.at == 3);
+    assert!(rt; origin.flags == Flags(0x50));
+    assert!(rt; origin.kind == 1);
+    assert!(rt; origin.whole == [0x50, 1, 0, 1, 0].as_slice());
+    assert!(rt; origin.value == [0].as_slice());
     Ok(())
 }
 
@@ -67,10 +67,10 @@ fn bits_of_flags(rt: HostRuntime) {
     ];
     for (octet, bits) in rows {
         let flags = Flags(octet);
-        assert_eq!(rt; flags.is_optional(), bits[0]);
-        assert_eq!(rt; flags.is_transitive(), bits[1]);
-        assert_eq!(rt; flags.is_partial(), bits[2]);
-        assert_eq!(rt; flags.is_extended(), bits[3]);
+        assert!(rt; flags.is_optional() == bits[0]);
+        assert!(rt; flags.is_transitive() == bits[1]);
+        assert!(rt; flags.is_partial() == bits[2]);
+        assert!(rt; flags.is_extended() == bits[3]);
     }
 }
 
@@ -96,13 +96,13 @@ fn segments_and_their_numbers(rt: HostRuntime) -> Result<(), Fail> {
     let rows: [(SegKind, &[u32]); 2] = [(SegKind::Seq, &[1, 2]), (SegKind::Set, &[3])];
     for (kind, wanted) in rows {
         let segment = segments.next().ok_or("a segment")?;
-        assert_eq!(rt; segment.kind, kind);
+        assert!(rt; segment.kind == kind);
         let mut numbers = segment.numbers;
         for number in wanted {
-            assert_eq!(rt; numbers.next(), Some(AsNumber(*number)));
+            assert!(rt; numbers.next() == Some(AsNumber(*number)));
         }
-        assert_eq!(rt; numbers.next(), None);
-        assert_eq!(rt; numbers.next(), None);
+        assert!(rt; numbers.next() == None);
+        assert!(rt; numbers.next() == None);
     }
     assert!(rt; segments.next().is_none());
     assert!(rt; segments.next().is_none());
@@ -120,8 +120,8 @@ fn segments_of_confederations_are_passed_over(rt: HostRuntime) -> Result<(), Fai
     };
     let mut segments = path.ok_or("a path")?.segments();
     let mut numbers = segments.next().ok_or("a segment")?.numbers;
-    assert_eq!(rt; numbers.next(), Some(AsNumber(2)));
-    assert_eq!(rt; numbers.next(), None);
+    assert!(rt; numbers.next() == Some(AsNumber(2)));
+    assert!(rt; numbers.next() == None);
     assert!(rt; segments.next().is_none());
     assert!(rt; segments.next().is_none());
     Ok(())
@@ -134,10 +134,10 @@ fn communities_in_order(rt: HostRuntime) -> Result<(), Fail> {
         _ => None,
     };
     let mut values = communities.ok_or("communities")?.values;
-    assert_eq!(rt; values.next(), Some(2));
-    assert_eq!(rt; values.next(), Some(1));
-    assert_eq!(rt; values.next(), None);
-    assert_eq!(rt; values.next(), None);
+    assert!(rt; values.next() == Some(2));
+    assert!(rt; values.next() == Some(1));
+    assert!(rt; values.next() == None);
+    assert!(rt; values.next() == None);
     // Two triples, and the first of them again.
     let octets = &[
         0xc0, 32, 36, 0, 0, 0, 9, 0, 0, 0, 1, 0, 0, 0, 2, 0, 0, 0, 8, 0, 0, 0, 1, 0, 0, 0, 2, 0, 0,
@@ -148,9 +148,9 @@ fn communities_in_order(rt: HostRuntime) -> Result<(), Fail> {
         _ => None,
     };
     let mut values = large.ok_or("large communities")?.values;
-    assert_eq!(rt; values.next(), Some([9, 1, 2]));
-    assert_eq!(rt; values.next(), Some([8, 1, 2]));
-    assert_eq!(rt; values.next(), None);
-    assert_eq!(rt; values.next(), None);
+    assert!(rt; values.next() == Some([9, 1, 2]));
+    assert!(rt; values.next() == Some([8, 1, 2]));
+    assert!(rt; values.next() == None);
+    assert!(rt; values.next() == None);
     Ok(())
 }

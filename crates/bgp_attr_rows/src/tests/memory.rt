@@ -101,8 +101,8 @@ fn copies_are_equal(rt: HostRuntime) -> Result<(), Fail> {
     }
     let path = path(alloc, SegKind::Set, &[1, 2])?;
     for segment in path.segments.iter() {
-        assert_eq!(rt; segment.copy(alloc)?, *segment);
-        assert_eq!(rt; segment.try_copy(alloc)?, *segment);
+        assert!(rt; segment.copy(alloc)? == *segment);
+        assert!(rt; segment.try_copy(alloc)? == *segment);
     }
     let plain = [
         Attr::Origin(Origin::Egp),
@@ -112,7 +112,7 @@ fn copies_are_equal(rt: HostRuntime) -> Result<(), Fail> {
         Attr::Atomic,
     ];
     for attr in plain.iter() {
-        assert_eq!(rt; attr.copy(alloc)?, *attr);
+        assert!(rt; attr.copy(alloc)? == *attr);
     }
     Ok(())
 }
@@ -145,6 +145,6 @@ fn a_refused_growth_changes_nothing(rt: HostRuntime) -> Result<(), Fail> {
 /// A reset is a few words until a judgement of its own memory is asked for.
 #[test]
 fn how_large_judgements_are(rt: HostRuntime) {
-    assert_eq!(rt; size_of::<JudgedView<'static>>(), 72);
-    assert_eq!(rt; size_of::<Judged>(), 4104);
+    assert!(rt; size_of::<JudgedView<'static>>() == 72);
+    assert!(rt; size_of::<Judged>() == 4104);
 }

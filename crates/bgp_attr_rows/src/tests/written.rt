@@ -33,7 +33,7 @@ fn what_is_written_is_what_was_read(rt: HostRuntime) -> Result<(), Fail> {
             assert!(rt; out.is_empty());
             write_attr(&ctx, &attr, &mut out)?;
         }
-        assert_eq!(rt; out.as_slice(), OCTETS[place]);
+        assert!(rt; out.as_slice() == OCTETS[place]);
     }
     Ok(())
 }
@@ -52,7 +52,7 @@ fn lengths_of_one_octet_and_of_two(rt: HostRuntime) -> Result<(), Fail> {
         assert!(rt; writable(&ctx, &attr));
         let mut out = Vec::new(alloc);
         write_attr_ref(&ctx, AttrRef::from(&attr), &mut out)?;
-        assert_eq!(rt; out.len(), head.len().wrapping_add(count));
+        assert!(rt; out.len() == head.len().wrapping_add(count));
         assert!(rt; out.starts_with(head));
     }
     Ok(())
@@ -66,8 +66,8 @@ fn assert_unwritable(
     wide: Option<Unwritable>,
 ) {
     for (ctx, reason) in [(context(0), narrow), (context(2), wide)] {
-        assert_eq!(rt; why_unwritable(&ctx, AttrRef::from(attr)), reason);
-        assert_eq!(rt; writable(&ctx, attr), reason.is_none());
+        assert!(rt; why_unwritable(&ctx, AttrRef::from(attr)) == reason);
+        assert!(rt; writable(&ctx, attr) == reason.is_none());
     }
 }
 

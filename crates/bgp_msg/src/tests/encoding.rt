@@ -10,10 +10,10 @@ fn assert_written(
     wanted: &[u8],
 ) -> Result<(), Fail> {
     let mut out = vec![in rt.alloc(); 1, 2]?;
-    assert_eq!(rt; encode(&session(), message, &mut out), Ok(()));
+    assert!(rt; encode(&session(), message, &mut out) == Ok(()));
     assert!(rt; out.len() >= 2);
-    assert_eq!(rt; &out[..2], [1, 2].as_slice());
-    assert_eq!(rt; &out[2..], wanted);
+    assert!(rt; &out[..2] == [1, 2].as_slice());
+    assert!(rt; &out[2..] == wanted);
     Ok(())
 }
 
@@ -24,8 +24,8 @@ fn assert_refused(
     wanted: WriteFault,
 ) -> Result<(), Fail> {
     let mut out = vec![in rt.alloc(); 1, 2]?;
-    assert_eq!(rt; encode(&session(), message, &mut out), Err(wanted));
-    assert_eq!(rt; out.as_slice(), [1, 2].as_slice());
+    assert!(rt; encode(&session(), message, &mut out) == Err(wanted));
+    assert!(rt; out.as_slice() == [1, 2].as_slice());
     Ok(())
 }
 
@@ -56,10 +56,10 @@ fn each_kind_is_copied(rt: HostRuntime) -> Result<(), Fail> {
 #[test]
 fn each_message_has_its_kind(rt: HostRuntime) -> Result<(), Fail> {
     let alloc = rt.alloc();
-    assert_eq!(rt; open(alloc)?.kind(), Kind::Open);
-    assert_eq!(rt; plain(alloc)?.kind(), Kind::Update);
-    assert_eq!(rt; shutdown().kind(), Kind::Notification);
-    assert_eq!(rt; Message::Keepalive.kind(), Kind::Keepalive);
+    assert!(rt; open(alloc)?.kind() == Kind::Open);
+    assert!(rt; plain(alloc)?.kind() == Kind::Update);
+    assert!(rt; shutdown().kind() == Kind::Notification);
+    assert!(rt; Message::Keepalive.kind() == Kind::Keepalive);
     Ok(())
 }
 
@@ -93,11 +93,11 @@ fn a_refused_growth_appends_nothing(rt: HostRuntime) -> Result<(), Fail> {
     let mut out = Vec::new(rt.alloc());
     let message = shutdown();
     if let Err(fault) = encode(&session(), &message, &mut out) {
-        assert_eq!(rt; fault, WriteFault::Memory);
+        assert!(rt; fault == WriteFault::Memory);
         assert!(rt; out.is_empty());
-        assert_eq!(rt; encode(&session(), &message, &mut out), Ok(()));
+        assert!(rt; encode(&session(), &message, &mut out) == Ok(()));
     }
-    assert_eq!(rt; out.as_slice(), SHUTDOWN);
+    assert!(rt; out.as_slice() == SHUTDOWN);
     Ok(())
 }
 
@@ -107,8 +107,8 @@ fn the_longest_notification_is_written(rt: HostRuntime) -> Result<(), Fail> {
     let alloc = rt.alloc();
     let message = Message::Notification(Notification::new(6, 2, &[7; 4075]));
     let mut out = Vec::new(alloc);
-    assert_eq!(rt; encode(&session(), &message, &mut out), Ok(()));
-    assert_eq!(rt; out.len(), 4096);
+    assert!(rt; encode(&session(), &message, &mut out) == Ok(()));
+    assert!(rt; out.len() == 4096);
     let wanted = took(alloc, message);
     let seen = decode_all(alloc, &session(), &[&out])?;
     assert!(rt; seen.outs.as_slice() == [(4096, wanted)].as_slice());

@@ -38,11 +38,10 @@ pub(super) fn assert_pulled(
     }
     assert!(rt; outs.as_slice() == wanted.outs.as_slice());
     match wanted.end {
-        End::Wait(count) => assert_eq!(rt;
-            (decoder.held(), decoder.stopped()),
-            (count as usize, false)
+        End::Wait(count) => assert!(rt;
+            (decoder.held(), decoder.stopped()) == (count as usize, false)
         ),
-        End::Reset | End::Head => assert_eq!(rt; (decoder.held(), decoder.stopped()), (0, true)),
+        End::Reset | End::Head => assert!(rt; (decoder.held(), decoder.stopped()) == (0, true)),
     }
     Ok(())
 }
@@ -80,7 +79,7 @@ fn assert_pulls(
     wanted: (usize, Option<(u16, usize)>),
 ) -> Result<(), Fail> {
     let (taken, found) = decoder.pull(rt.alloc(), piece)?;
-    assert_eq!(rt; (taken, routes_in(&found)), wanted);
+    assert!(rt; (taken, routes_in(&found)) == wanted);
     Ok(())
 }
 
@@ -107,7 +106,7 @@ fn assert_waits(rt: &(impl Abort + AllocGlobal), message: &[u8]) -> Result<(), F
     for len in 0..message.len() {
         let mut decoder = Decoder::new(session());
         assert!(rt; decoder.pull(rt.alloc(), &message[..len])? == (len, None));
-        assert_eq!(rt; (decoder.held(), decoder.stopped()), (len, false));
+        assert!(rt; (decoder.held(), decoder.stopped()) == (len, false));
         assert!(rt; decoder.pull(rt.alloc(), &[])? == (0, None));
     }
     Ok(())
@@ -128,7 +127,7 @@ fn nothing_is_pulled_behind_a_reset(rt: HostRuntime) -> Result<(), Fail> {
     let stream = stream_of(alloc, &[BAD_PARTS, KEEPALIVE])?;
     let wanted = Outcome::Reset(Notification::new(3, 1, &[]));
     assert!(rt; decoder.pull(alloc, &stream)? == (23, Some((23, wanted))));
-    assert_eq!(rt; (decoder.held(), decoder.stopped()), (0, true));
+    assert!(rt; (decoder.held(), decoder.stopped()) == (0, true));
     assert!(rt; decoder.pull(alloc, KEEPALIVE)? == (0, None));
     Ok(())
 }
@@ -140,7 +139,7 @@ fn a_header_with_a_fault_is_pulled(rt: HostRuntime) -> Result<(), Fail> {
     let stream = stream_of(alloc, &[BAD_MARKER, KEEPALIVE])?;
     let wanted = Outcome::Reset(Notification::new(1, 1, &[]));
     assert!(rt; decoder.pull(alloc, &stream)? == (19, Some((0, wanted))));
-    assert_eq!(rt; (decoder.held(), decoder.stopped()), (0, true));
+    assert!(rt; (decoder.held(), decoder.stopped()) == (0, true));
     Ok(())
 }
 
@@ -152,11 +151,11 @@ fn a_refused_growth_takes_nothing(rt: HostRuntime) -> Result<(), Fail> {
     let pulled = match decoder.pull(alloc, PLAIN) {
         Ok((taken, found)) => (taken, routes_in(&found)),
         Err(_) => {
-            assert_eq!(rt; (decoder.held(), decoder.stopped()), (0, false));
+            assert!(rt; (decoder.held(), decoder.stopped()) == (0, false));
             let (taken, found) = decoder.pull(alloc, PLAIN)?;
             (taken, routes_in(&found))
         }
     };
-    assert_eq!(rt; pulled, (45, Some((45, 1))));
+    assert!(rt; pulled == (45, Some((45, 1))));
     assert_pulls(&rt, &mut decoder, &[], (0, None))
 }

@@ -14,7 +14,7 @@ fn assert_viewed(
         return Err("a whole message".into());
     };
     let view = view_frame(&session(), frame);
-    assert_eq!(rt; view.is_reset(), wanted.is_reset());
+    assert!(rt; view.is_reset() == wanted.is_reset());
     assert!(rt; view.own(rt.alloc())? == *wanted);
     Ok(())
 }

@@ -112,13 +112,10 @@ fn a_connection_that_is_refused(rt: HostRuntime) -> Result<(), Fail> {
     let mut wire = Flaky::new(0);
     let report = run(&rt, &mut wire)?;
     assert!(rt; report.rounds.is_empty());
-    assert_eq!(rt;
-        report.refused.as_slice(),
-        &[(Side::A, SendFault::NotEstablished)][..]
-    );
-    assert_eq!(rt; report.states, (State::Idle, State::Idle));
-    assert_eq!(rt; report.answers.as_slice(), &[false][..]);
-    assert_eq!(rt; (wire.failures, wire.cuts), (1, 0));
+    assert!(rt; report.refused.as_slice() == &[(Side::A, SendFault::NotEstablished)][..]);
+    assert!(rt; report.states == (State::Idle, State::Idle));
+    assert!(rt; report.answers.as_slice() == &[false][..]);
+    assert!(rt; (wire.failures, wire.cuts) == (1, 0));
     Ok(())
 }
 
@@ -130,15 +127,12 @@ fn a_piece_before_the_session_is_up_is_lost(rt: HostRuntime) -> Result<(), Fail>
         let [round] = report.rounds.as_slice() else {
             return Err("one round".into());
         };
-        assert_eq!(rt; counts(round), [0; 6]);
+        assert!(rt; counts(round) == [0; 6]);
         assert!(rt; round.notes.is_empty());
-        assert_eq!(rt;
-            report.refused.as_slice(),
-            &[(Side::A, SendFault::NotEstablished)][..]
-        );
-        assert_eq!(rt; report.states, (State::Idle, state));
-        assert_eq!(rt; report.answers.len(), failing as usize + 1);
-        assert_eq!(rt; (wire.failures, wire.cuts), (1, 1));
+        assert!(rt; report.refused.as_slice() == &[(Side::A, SendFault::NotEstablished)][..]);
+        assert!(rt; report.states == (State::Idle, state));
+        assert!(rt; report.answers.len() == failing as usize + 1);
+        assert!(rt; (wire.failures, wire.cuts) == (1, 1));
     }
     Ok(())
 }
@@ -150,14 +144,11 @@ fn the_piece_with_the_update_is_lost(rt: HostRuntime) -> Result<(), Fail> {
     let [round] = report.rounds.as_slice() else {
         return Err("one round".into());
     };
-    assert_eq!(rt; counts(round), [1, 0, 0, 0, 0, 0]);
+    assert!(rt; counts(round) == [1, 0, 0, 0, 0, 0]);
     assert!(rt; round.notes.is_empty());
     assert!(rt; report.refused.is_empty());
-    assert_eq!(rt; report.states, (State::Idle, State::Idle));
-    assert_eq!(rt;
-        report.answers.as_slice(),
-        &[true, true, true, true, false][..]
-    );
+    assert!(rt; report.states == (State::Idle, State::Idle));
+    assert!(rt; report.answers.as_slice() == &[true, true, true, true, false][..]);
     Ok(())
 }
 
@@ -168,10 +159,10 @@ fn the_piece_with_the_notification_is_lost(rt: HostRuntime) -> Result<(), Fail> 
     let [round] = report.rounds.as_slice() else {
         return Err("one round".into());
     };
-    assert_eq!(rt; counts(round), [1, 0, 0, 0, 1, 0]);
-    assert_eq!(rt; round.notes.as_slice(), &[(Side::A, 6, 0)][..]);
-    assert_eq!(rt; report.states, (State::Idle, State::Idle));
-    assert_eq!(rt; (report.answers.len(), wire.failures, wire.cuts), (6, 1, 1));
+    assert!(rt; counts(round) == [1, 0, 0, 0, 1, 0]);
+    assert!(rt; round.notes.as_slice() == &[(Side::A, 6, 0)][..]);
+    assert!(rt; report.states == (State::Idle, State::Idle));
+    assert!(rt; (report.answers.len(), wire.failures, wire.cuts) == (6, 1, 1));
     Ok(())
 }
 
@@ -179,8 +170,8 @@ fn the_piece_with_the_notification_is_lost(rt: HostRuntime) -> Result<(), Fail> 
 fn a_wire_without_failures_is_cut_once(rt: HostRuntime) -> Result<(), Fail> {
     let mut wire = Flaky::new(u32::MAX);
     let report = run(&rt, &mut wire)?;
-    assert_eq!(rt; report.answers.as_slice(), &[true; 6][..]);
-    assert_eq!(rt; (wire.calls, wire.failures, wire.cuts), (6, 0, 1));
+    assert!(rt; report.answers.as_slice() == &[true; 6][..]);
+    assert!(rt; (wire.calls, wire.failures, wire.cuts) == (6, 0, 1));
     Ok(())
 }
 
@@ -197,13 +188,10 @@ fn a_wire_that_lies_is_a_peer_out_of_step(rt: HostRuntime) -> Result<(), Fail> {
     let [round] = report.rounds.as_slice() else {
         return Err("one round".into());
     };
-    assert_eq!(rt; counts(round), [0; 6]);
-    assert_eq!(rt; round.notes.as_slice(), &[(Side::B, 5, 1)][..]);
-    assert_eq!(rt;
-        report.refused.as_slice(),
-        &[(Side::A, SendFault::NotEstablished)][..]
-    );
-    assert_eq!(rt; report.states, (State::Idle, State::Idle));
+    assert!(rt; counts(round) == [0; 6]);
+    assert!(rt; round.notes.as_slice() == &[(Side::B, 5, 1)][..]);
+    assert!(rt; report.refused.as_slice() == &[(Side::A, SendFault::NotEstablished)][..]);
+    assert!(rt; report.states == (State::Idle, State::Idle));
     Ok(())
 }
 
@@ -212,7 +200,7 @@ fn a_wire_within_the_program(rt: HostRuntime) {
     let mut wire = MemoryWire;
     let mut octets = [1, 2, 3];
     assert!(rt; wire.join() && wire.pass(Side::B, &mut octets));
-    assert_eq!(rt; octets, [1, 2, 3]);
+    assert!(rt; octets == [1, 2, 3]);
     wire.cut();
-    assert_eq!(rt; wire.failures(), 0);
+    assert!(rt; wire.failures() == 0);
 }

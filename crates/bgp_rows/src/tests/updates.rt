@@ -137,10 +137,7 @@ fn two_spellings_of_one_update(rt: HostRuntime) -> Result<(), Fail> {
         assert_one(&rt, &wide(), octets, said)?;
     }
     let mut out = Vec::new(alloc);
-    assert_eq!(&rt;
-        encode(&wide(), &Message::Update(plain(alloc)?), &mut out),
-        Ok(())
-    );
+    assert!(&rt; encode(&wide(), &Message::Update(plain(alloc)?), &mut out) == Ok(()));
     assert!(&rt; out.as_slice() == PLAIN);
     Ok(())
 }
@@ -280,15 +277,15 @@ fn the_longest_update(rt: HostRuntime) -> Result<(), Fail> {
     }
     let mut out = vec![in alloc; 1]?;
     let answer = encode(&wide(), &Message::Update(said), &mut out);
-    assert_eq!(&rt; answer, Err(WriteFault::TooLong));
+    assert!(&rt; answer == Err(WriteFault::TooLong));
     assert!(&rt; out.as_slice() == [1].as_slice());
     let mut said = plain(alloc)?;
     for _ in 1..2025 {
         said.nlri.push(ten)?;
     }
     said.nlri.push(prefix(16, [10, 1, 0, 0])?)?;
-    assert_eq!(&rt; encode(&wide(), &Message::Update(said), &mut out), Ok(()));
-    assert_eq!(&rt; out.len(), 4097);
+    assert!(&rt; encode(&wide(), &Message::Update(said), &mut out) == Ok(()));
+    assert!(&rt; out.len() == 4097);
     Ok(())
 }
 
@@ -301,10 +298,7 @@ fn a_path_for_two_octets(rt: HostRuntime) -> Result<(), Fail> {
     said.attrs.as4_aggregator = None;
     said.attrs = narrow(alloc, &said.attrs)?;
     let mut out = Vec::new(alloc);
-    assert_eq!(&rt;
-        encode(&narrow_ctx(), &Message::Update(said), &mut out),
-        Ok(())
-    );
+    assert!(&rt; encode(&narrow_ctx(), &Message::Update(said), &mut out) == Ok(()));
     assert!(&rt; out.as_slice() == NARROWED);
     Ok(())
 }

@@ -63,9 +63,9 @@ fn one_round(rt: HostRuntime) -> Result<(), Fail> {
         answers: List::new(alloc),
     };
     let text = text_of(alloc, &report)?;
-    assert_eq!(rt;
-        text.as_str(),
-        "round 1\na sent 1 got 0 gone 0 notes 6/0\nb sent 0 got 1 gone 0 notes -\nstate a Idle\nstate b Idle\n"
+    assert!(rt;
+        text.as_str()
+            == "round 1\na sent 1 got 0 gone 0 notes 6/0\nb sent 0 got 1 gone 0 notes -\nstate a Idle\nstate b Idle\n"
     );
     Ok(())
 }
@@ -85,9 +85,9 @@ fn no_round(rt: HostRuntime) -> Result<(), Fail> {
         answers: List::new(alloc),
     };
     let text = text_of(alloc, &report)?;
-    assert_eq!(rt;
-        text.as_str(),
-        "refused b 1\nrefused a 2\nrefused a 3\nrefused b 4\nstate a Connect\nstate b Active\n"
+    assert!(rt;
+        text.as_str()
+            == "refused b 1\nrefused a 2\nrefused a 3\nrefused b 4\nstate a Connect\nstate b Active\n"
     );
     Ok(())
 }
@@ -115,9 +115,9 @@ fn rounds_and_notes_of_both(rt: HostRuntime) -> Result<(), Fail> {
         answers: List::new(alloc),
     };
     let text = text_of(alloc, &report)?;
-    assert_eq!(rt;
-        text.as_str(),
-        "round 1\na sent 0 got 0 gone 0 notes 3/10,6/4\nb sent 0 got 0 gone 0 notes 2/2,255/0\nround 2\na sent 0 got 1 gone 1 notes -\nb sent 1 got 0 gone 0 notes -\nrefused a 3\nstate a OpenSent\nstate b Established\n"
+    assert!(rt;
+        text.as_str()
+            == "round 1\na sent 0 got 0 gone 0 notes 3/10,6/4\nb sent 0 got 0 gone 0 notes 2/2,255/0\nround 2\na sent 0 got 1 gone 1 notes -\nb sent 1 got 0 gone 0 notes -\nrefused a 3\nstate a OpenSent\nstate b Established\n"
     );
     Ok(())
 }

@@ -10,12 +10,12 @@ fn step_again(
     octets: &[u8],
 ) -> Result<Actions, Fail> {
     let before = (session.state(), session.context().copied());
-    assert_eq!(rt; session.feed(octets), octets.len());
+    assert!(rt; session.feed(octets) == octets.len());
     let found = match session.step(rt.alloc()) {
         Ok(found) => found,
         Err(_) => {
             assert!(rt; (session.state(), session.context().copied()) == before);
-            assert_eq!(rt; session.held(), octets.len());
+            assert!(rt; session.held() == octets.len());
             session.step(rt.alloc())?
         }
     };
@@ -33,11 +33,11 @@ fn pull_again(
         Ok(pulled) => pulled,
         Err(_) => {
             assert!(rt; (session.state(), session.context().copied()) == before);
-            assert_eq!(rt; session.held(), 0);
+            assert!(rt; session.held() == 0);
             session.pull(rt.alloc(), octets)?
         }
     };
-    assert_eq!(rt; taken, octets.len());
+    assert!(rt; taken == octets.len());
     Ok(found.ok_or("a message")?)
 }
 
@@ -73,26 +73,26 @@ fn open_sent() -> Result<Session, Fail> {
 #[test]
 fn a_refused_growth_leaves_what_is_held(rt: HostRuntime) -> Result<(), Fail> {
     let mut session = open_sent()?;
-    assert_eq!(rt; step_again(&rt, &mut session, OPEN)?.len(), 3);
-    assert_eq!(rt; step_again(&rt, &mut session, KEEPALIVE)?.len(), 1);
-    assert_eq!(rt; session.state(), State::Established);
-    assert_eq!(rt; step_again(&rt, &mut session, PLAIN)?.len(), 2);
-    assert_eq!(rt; step_again(&rt, &mut session, BAD_ORIGIN)?.len(), 2);
+    assert!(rt; step_again(&rt, &mut session, OPEN)?.len() == 3);
+    assert!(rt; step_again(&rt, &mut session, KEEPALIVE)?.len() == 1);
+    assert!(rt; session.state() == State::Established);
+    assert!(rt; step_again(&rt, &mut session, PLAIN)?.len() == 2);
+    assert!(rt; step_again(&rt, &mut session, BAD_ORIGIN)?.len() == 2);
     // What ends the session asks for no memory.
-    assert_eq!(rt; session.feed(BAD_ORIGIN_ALONE), BAD_ORIGIN_ALONE.len());
+    assert!(rt; session.feed(BAD_ORIGIN_ALONE) == BAD_ORIGIN_ALONE.len());
     let actions = session.step(rt.alloc())?.ok_or("a message")?;
-    assert_eq!(rt; actions.len(), 5);
+    assert!(rt; actions.len() == 5);
     Ok(())
 }
 
 #[test]
 fn a_refused_growth_takes_nothing(rt: HostRuntime) -> Result<(), Fail> {
     let mut session = open_sent()?;
-    assert_eq!(rt; pull_again(&rt, &mut session, OPEN)?.len(), 3);
-    assert_eq!(rt; pull_again(&rt, &mut session, KEEPALIVE)?.len(), 1);
-    assert_eq!(rt; pull_again(&rt, &mut session, PLAIN)?.len(), 2);
-    assert_eq!(rt; pull_again(&rt, &mut session, BAD_ORIGIN)?.len(), 2);
-    assert_eq!(rt; session.state(), State::Established);
+    assert!(rt; pull_again(&rt, &mut session, OPEN)?.len() == 3);
+    assert!(rt; pull_again(&rt, &mut session, KEEPALIVE)?.len() == 1);
+    assert!(rt; pull_again(&rt, &mut session, PLAIN)?.len() == 2);
+    assert!(rt; pull_again(&rt, &mut session, BAD_ORIGIN)?.len() == 2);
+    assert!(rt; session.state() == State::Established);
     Ok(())
 }
 
@@ -110,14 +110,14 @@ fn a_refused_growth_sends_nothing(rt: HostRuntime) -> Result<(), Fail> {
         let sent = match session.send(rt.alloc(), &update, &mut out) {
             Ok(actions) => Ok(actions),
             Err(fault) => {
-                assert_eq!(rt; fault, SendFault::Memory);
+                assert!(rt; fault == SendFault::Memory);
                 assert!(rt; out.is_empty());
                 session.send(rt.alloc(), &update, &mut out)
             }
         };
-        assert_eq!(rt; sent.map_err(|_| "memory")?.len(), 1);
+        assert!(rt; sent.map_err(|_| "memory")?.len() == 1);
         assert!(rt; !out.is_empty());
-        assert_eq!(rt; session.state(), State::Established);
+        assert!(rt; session.state() == State::Established);
     }
     Ok(())
 }

@@ -19,13 +19,10 @@ fn an_update_is_sent_as_it_is(rt: HostRuntime) -> Result<(), Fail> {
     let mut out = vec![in rt.alloc(); 7]?;
     let actions = session.send(rt.alloc(), &plain(rt.alloc())?, &mut out);
     let actions = actions.map_err(|_| "memory")?;
-    assert_eq!(rt;
-        actions.as_slice(),
-        &[Action::Arm(Timer::Keepalive, 10)][..]
-    );
+    assert!(rt; actions.as_slice() == &[Action::Arm(Timer::Keepalive, 10)][..]);
     let (first, told) = out.split_first().ok_or("octets")?;
-    assert_eq!(rt; *first, 7);
-    assert_eq!(rt; told, PLAIN);
+    assert!(rt; *first == 7);
+    assert!(rt; told == PLAIN);
     Ok(())
 }
 
@@ -41,11 +38,8 @@ fn a_speaker_of_two_octets_is_told_narrowed_attributes(rt: HostRuntime) -> Resul
     let mut out = Vec::new(rt.alloc());
     let actions = session.send(rt.alloc(), &update, &mut out);
     let actions = actions.map_err(|_| "memory")?;
-    assert_eq!(rt;
-        actions.as_slice(),
-        &[Action::Arm(Timer::Keepalive, 10)][..]
-    );
-    assert_eq!(rt; out.as_slice(), NARROWED);
+    assert!(rt; actions.as_slice() == &[Action::Arm(Timer::Keepalive, 10)][..]);
+    assert!(rt; out.as_slice() == NARROWED);
     Ok(())
 }
 
@@ -72,7 +66,7 @@ fn refused(
     let mut out = Vec::new(rt.alloc());
     match session.send(rt.alloc(), update, &mut out) {
         Ok(_) => assert!(rt; false),
-        Err(fault) => assert_eq!(rt; fault, wanted),
+        Err(fault) => assert!(rt; fault == wanted),
     }
     assert!(rt; out.is_empty());
     Ok(())

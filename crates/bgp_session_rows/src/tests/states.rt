@@ -13,8 +13,8 @@ fn on_event(
 ) -> Result<(), Fail> {
     let mut session = session_in(rt, state)?;
     let actions = session.event(event);
-    assert_eq!(rt; actions.as_slice(), wanted);
-    assert_eq!(rt; session.state(), then);
+    assert!(rt; actions.as_slice() == wanted);
+    assert!(rt; session.state() == then);
     Ok(())
 }
 
@@ -28,8 +28,8 @@ fn on_message(
 ) -> Result<(), Fail> {
     let mut session = session_in(rt, state)?;
     let actions = hear(rt, &mut session, octets)?;
-    assert_eq!(rt; actions.as_slice(), wanted);
-    assert_eq!(rt; session.state(), then);
+    assert!(rt; actions.as_slice() == wanted);
+    assert!(rt; session.state() == then);
     Ok(())
 }
 
@@ -52,8 +52,8 @@ fn on_reset(
     if state == State::Established {
         wanted.push(Action::Flush);
     }
-    assert_eq!(rt; actions.as_slice(), wanted.as_slice());
-    assert_eq!(rt; session.state(), State::Idle);
+    assert!(rt; actions.as_slice() == wanted.as_slice());
+    assert!(rt; session.state() == State::Idle);
     assert!(rt; session.context().is_none());
     Ok(())
 }
@@ -261,8 +261,8 @@ fn on_common(rt: &(impl Abort + AllocGlobal), state: State) -> Result<(), Fail> 
     if state == State::Established {
         wanted.push(Action::Flush);
     }
-    assert_eq!(rt; actions.as_slice(), wanted.as_slice());
-    assert_eq!(rt; session.state(), State::Idle);
+    assert!(rt; actions.as_slice() == wanted.as_slice());
+    assert!(rt; session.state() == State::Idle);
     assert!(rt; session.event(Event::Expired(Timer::Hold)).is_empty());
     Ok(())
 }

@@ -216,7 +216,7 @@ fn copies_of_paths(rt: HostRuntime) -> Result<(), Fail> {
 #[test]
 fn copies_of_notes(rt: HostRuntime) -> Result<(), Fail> {
     let note = values::note(24, 8, Why::Cut);
-    assert_eq!(rt; note.try_copy(rt.alloc())?, note);
+    assert!(rt; note.try_copy(rt.alloc())? == note);
     Ok(())
 }
 
@@ -259,7 +259,7 @@ fn routes_again(alloc: Global, view: &UpdateView<'_>) -> Result<Routes, AllocErr
 
 /// Three routes of IPv4 and one of IPv6.
 fn assert_four_routes(rt: &impl Abort, routes: &Routes) {
-    assert_eq!(rt; (routes.ip4.len(), routes.ip6.len()), (3, 1));
+    assert!(rt; (routes.ip4.len(), routes.ip6.len()) == (3, 1));
 }
 
 /// What a view gives, copied.
@@ -301,10 +301,7 @@ fn assert_withdrawal(rt: &impl Abort, verdict: &Verdict) -> Result<(), Fail> {
         return Err("withdrawn".into());
     };
     assert_four_routes(rt, routes);
-    assert_eq!(rt;
-        notes.as_slice(),
-        [values::note(6, 1, Why::Value)].as_slice()
-    );
+    assert!(rt; notes.as_slice() == [values::note(6, 1, Why::Value)].as_slice());
     Ok(())
 }
 

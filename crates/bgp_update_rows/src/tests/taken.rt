@@ -73,7 +73,7 @@ fn assert_attributes(
 /// One prefix, and then no more.
 fn assert_one_prefix(rt: &impl Abort, prefixes: PrefixIter4<'_>, wanted: Option<Prefix4>) {
     let mut prefixes = prefixes;
-    assert_eq!(rt; prefixes.next(), wanted);
+    assert!(rt; prefixes.next() == wanted);
     assert!(rt; prefixes.next().is_none());
 }
 
@@ -293,7 +293,7 @@ fn the_longest_bodies(rt: HostRuntime) -> Result<(), Fail> {
     }
     withdrawn.push(Prefix4::new(0, [0; 4]).ok_or("no bits")?)?;
     let body = longest(alloc, &[0x0f, 0xe9], 2036, TEN, &[0, 0, 0])?;
-    assert_eq!(rt; body.len(), 4077);
+    assert!(rt; body.len() == 4077);
     let update = Update {
         withdrawn,
         attrs: no_attrs(alloc),
@@ -306,7 +306,7 @@ fn the_longest_bodies(rt: HostRuntime) -> Result<(), Fail> {
     }
     let front = body_of(alloc, &[], &[&[0x50, 1, 0, 1, 0], PATH, HOP], &[])?;
     let body = longest(alloc, &front, 2026, TEN, &[])?;
-    assert_eq!(rt; body.len(), 4077);
+    assert!(rt; body.len() == 4077);
     let update = Update {
         withdrawn: List::new(alloc),
         attrs: plain_attrs(alloc)?,
