@@ -5,7 +5,8 @@ use Rattle.std.specs.Prelude.{option_to_list}
 use Rattle.std.specs.Option.{option_map}
 use Rattle.hex.specs.Hex.{is_hex_digit}
 use Rattle.bgp_engine.specs.declared.hex_text.HexText.{HexText}
-use Rattle.bgp_engine.specs.HexText.{is_blank, digit_value, FirstPair, IsPair, spelled, bad_from}
+use Rattle.bgp_engine.specs.HexText.{is_blank, digit_value, spelled, bad_from}
+use Rattle.bgp_engine.specs.HexDigits.{FirstPair, IsPair}
 use Rattle.bgp_wire.specs.Octets.{AreOctets}
 use Rattle.bgp_wire.proofs.OctetLemmas.{AreOctets-nil, AreOctets-push, AreOctets-append}
 use Rattle.bgp_engine.specs.HexSteps.{pending, place, Continues, Breaks, ReadsPairs}

@@ -9,7 +9,8 @@ use Rattle.bgp_update.specs.As4.{HasNoAs4}
 use Rattle.bgp_msg.specs.declared.message.Message.{Message}
 use Rattle.bgp_msg.specs.Written.{canonical, invalid_of, is_valid, is_too_long}
 use Rattle.bgp_engine.specs.declared.class.Class.TheVariants as class
-use Rattle.bgp_engine.specs.Narrow.{written_in, has_as4, WritesNarrow}
+use Rattle.bgp_engine.specs.Narrow.{written_in, has_as4}
+use Rattle.bgp_engine.specs.PageSteps.{WritesNarrow}
 
 none_of : {A : Type 0} (o : Option A) → is_some o ≡ false → o ≡ None
 none_of None e = refl

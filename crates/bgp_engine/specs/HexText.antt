@@ -1,5 +1,5 @@
 -- Hexadecimal text: pairs of digits of either case, with spaces, CR and LF between pairs.
-use Rattle.std.specs.Prelude.{◌≡◌, true, ℕ, ◌+◌, ◌*◌, ◌<◌, Bool, ◌||◌, ◌==◌, List, [], ◌∷◌, Option, None, Some, unwrap_or, if◌then◌else◌}
+use Rattle.std.specs.Prelude.{ℕ, ◌+◌, ◌*◌, Bool, ◌||◌, ◌==◌, List, [], ◌∷◌, Option, None, Some, unwrap_or, if◌then◌else◌}
 use Rattle.hex.specs.Hex.{hex_digit_value, is_hex_digit}
 
 -- a space, a CR or a LF
@@ -8,24 +8,6 @@ is_blank c = c == 32 || c == 13 || c == 10
 
 abbrev pub digit_value : ℕ → ℕ
 digit_value c = unwrap_or (hex_digit_value c) 0
-
--- the value of a digit of either case: 255 where it is none
-abbrev pub value_or_none : ℕ → ℕ
-value_or_none c = unwrap_or (hex_digit_value c) 255
-
--- two digits, and their octet
-pub record IsPair (high low octet : ℕ) : Type 0 where
-  pub first : is_hex_digit high ≡ true
-  pub second : is_hex_digit low ≡ true
-  pub value : octet ≡ digit_value high * 16 + digit_value low
-  pub small : octet < 256
-
--- a pair of digits stands at the front of a text, and this behind it
-pub record FirstPair (text rest : List ℕ) (octet : ℕ) : Type 0 where
-  pub high : ℕ
-  pub low : ℕ
-  pub splits : text ≡ high ∷ low ∷ rest
-  pub is_pair : IsPair high low octet
 
 -- the octets of the pairs, up to the first character that is bad
 unfoldable pub spelled : List ℕ → List ℕ

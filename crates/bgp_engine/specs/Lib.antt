@@ -1,6 +1,7 @@
 -- What the engines read, write and count.
 pub mod Tally
 pub mod HexText
+pub mod HexDigits
 pub mod HexSteps
 pub mod Output
 pub mod Report
@@ -15,3 +16,4 @@ pub mod Check
 pub mod ToHex
 pub mod FromHex
 pub mod Narrow
+pub mod PageSteps

@@ -1,5 +1,5 @@
 -- What `narrow` writes: the messages of a session with AS numbers of four octets, as a speaker with two octets is told them (RFC 6793).
-use Rattle.std.specs.Prelude.{◌≡◌, ℕ, Bool, false, not, ◌&&◌, ◌||◌, ◌==◌, List, [], ◌++◌, Option, None, Some, is_some, is_none, unwrap_or, Result, Ok, Err, if◌then◌else◌}
+use Rattle.std.specs.Prelude.{ℕ, Bool, false, not, ◌&&◌, ◌||◌, ◌==◌, List, [], Option, None, Some, is_some, is_none, unwrap_or, Result, Ok, Err, if◌then◌else◌}
 use Rattle.bgp_frame.specs.declared.end.End.{End}
 use Rattle.bgp_frame.specs.declared.end.End.TheVariants as end
 use Rattle.bgp_frame.specs.Frame as frame
@@ -67,8 +67,3 @@ narrow_rules ctx = record {
 
 abbrev pub Narrowed : Context → Reports
 Narrowed ctx = IsReport (narrow_rules ctx) 0 no_tally
-
--- a step: what is written of a message, if it can be, was appended
-pub record WritesNarrow (old new : List ℕ) (o : Option (List ℕ)) (class : Class) : Type 0 where
-  pub appended : new ≡ old ++ unwrap_or o []
-  pub counts : class ≡ narrowed_class o

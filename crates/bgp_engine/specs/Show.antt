@@ -1,14 +1,13 @@
 -- What `show` prints.
-use Rattle.std.specs.Prelude.{◌≡◌, ℕ, List, [], ◌++◌, Ok}
+use Rattle.std.specs.Prelude.{[], Ok}
 use Rattle.bgp_open.specs.declared.context.Context.{Context}
 use Rattle.bgp_msg.specs.declared.outcome.Outcome.{Outcome}
 use Rattle.bgp_msg.specs.declared.outcome.Outcome.TheVariants as outcome
-use Rattle.bgp_msg.specs.Outcome.{is_reset, judgement}
+use Rattle.bgp_msg.specs.Outcome.{judgement}
 use Rattle.bgp_text.specs.Outcome.{outcome_lines}
 use Rattle.bgp_text.specs.End.{end_line}
 use Rattle.bgp_engine.specs.declared.class.Class.{Class}
 use Rattle.bgp_engine.specs.declared.class.Class.TheVariants as class
-use Rattle.bgp_engine.specs.Pages.{is_last}
 use Rattle.bgp_engine.specs.Rules.{Rules, IsReport}
 use Rattle.bgp_engine.specs.Run.{Reports}
 use Rattle.bgp_engine.specs.Tally.{no_tally}
@@ -32,9 +31,3 @@ show_rules ctx = record {
 
 abbrev pub Shown : Context → Reports
 Shown ctx = IsReport (show_rules ctx) 0 no_tally
-
--- a step: the lines of an outcome were added, and it counts as this
-pub record WritesOutcome (old new : List ℕ) (place len : ℕ) (o : Outcome) (class : Class) : Type 0 where
-  pub told : new ≡ old ++ outcome_lines place len o
-  pub counts : class ≡ class_of o
-  pub ends : is_reset o ≡ is_last class

@@ -3,7 +3,8 @@
 ghost use Rattle.std.specs.Prelude.{◌≡◌, ◌+◌, ◌*◌, ◌≤◌, ◌<◌, ◌^◌, true, None, is_some, IfSome};
 ghost use Rattle.std.specs.Option.{ForSome};
 ghost use Rattle.hex.specs.Hex.{hex_digit_value, is_hex_digit};
-ghost use Rattle.bgp_engine.specs.HexText.{is_blank, digit_value, value_or_none, FirstPair, IsPair};
+ghost use Rattle.bgp_engine.specs.HexText.{is_blank, digit_value};
+ghost use Rattle.bgp_engine.specs.HexDigits.{value_or_none, FirstPair, IsPair};
 
 use arrayvec::ArrayVec;
 

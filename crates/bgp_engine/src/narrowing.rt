@@ -8,7 +8,8 @@ ghost use Rattle.bgp_msg.specs.declared.message.Message.TheVariants as message;
 ghost use Rattle.bgp_update.specs.As4.{HasNoAs4, narrowed_update};
 ghost use Rattle.bgp_update.specs.View.{update_value};
 ghost use Rattle.bgp_update.specs.Widths.{with_as4};
-ghost use Rattle.bgp_engine.specs.Narrow.{Narrowed, WritesNarrow, has_as4, written_in, narrowed_outcome, narrow_answer};
+ghost use Rattle.bgp_engine.specs.PageSteps.{WritesNarrow};
+ghost use Rattle.bgp_engine.specs.Narrow.{Narrowed, has_as4, written_in, narrowed_outcome, narrow_answer};
 ghost use Rattle.bgp_engine.specs.Run.{Answers};
 
 use crate::class::Class;

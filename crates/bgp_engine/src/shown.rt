@@ -9,7 +9,8 @@ ghost use Rattle.bgp_msg.specs.declared.message.Message.TheVariants as message;
 ghost use Rattle.bgp_msg.specs.declared.outcome.Outcome.TheVariants as outcome;
 ghost use Rattle.bgp_update.specs.View.{notes_value, routes_value, update_value};
 ghost use Rattle.bgp_engine.specs.Run.{Answers};
-ghost use Rattle.bgp_engine.specs.Show.{Shown, WritesOutcome};
+ghost use Rattle.bgp_engine.specs.PageSteps.{WritesOutcome};
+ghost use Rattle.bgp_engine.specs.Show.{Shown};
 
 use crate::class::{Class, class_of};
 use crate::fault::ToolFault;

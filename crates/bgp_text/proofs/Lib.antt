@@ -1,1 +1,2 @@
 pub mod ResetCodes
+pub mod Words

@@ -7,8 +7,10 @@ ghost use Rattle.bgp_text.specs.Lines.{where_there};
 ghost use Rattle.bgp_text.specs.AttributeLines.{origin_name, origin_line, as_path_line, next_hop_line, number_line, atomic_line, aggregator_line, as4_path_line};
 ghost use Rattle.bgp_text.specs.AttributeLines.{flags_text, opaque_line, route_lines, choice_lines, as4_lines};
 
+use crate::addresses::put_ip4_end;
 use crate::info::info_text;
 use crate::path_line::put_path_line;
+use crate::word::Word;
 use bgp_attr::{Aggregator, Opaque, Origin};
 use bgp_prefix::{Address, AsNumber};
 use bgp_update::Attrs;
@@ -33,8 +35,9 @@ fn put_origin(text: &mut String, origin: Option<Origin>) -> Result<(), AllocErro
     match origin {
         None => Ok(()),
         Some(origin) => {
-            let origin = origin_name(origin);
-            write!(text, "  origin {origin}\n")
+            text.push_str("  origin ")?;
+            text.push_str(origin_name(origin))?;
+            text.push_str("\n")
         }
     }
 }
@@ -56,8 +59,8 @@ fn put_next_hop(text: &mut String, next_hop: Option<[u8; 4]>) -> Result<(), Allo
     match next_hop {
         None => Ok(()),
         Some(next_hop) => {
-            let next_hop = Address(next_hop);
-            write!(text, "  next_hop {next_hop}\n")
+            text.push_str("  next_hop ")?;
+            put_ip4_end(text, next_hop)
         }
     }
 }
@@ -68,7 +71,13 @@ fn put_number(text: &mut String, label: &str, number: Option<u32>) -> Result<(),
 {
     match number {
         None => Ok(()),
-        Some(number) => write!(text, "{label}{number}\n"),
+        Some(number) => {
+            let mut word = Word::new();
+            word.character(b'\n');
+            word.number(number);
+            text.push_str(label)?;
+            text.push_str(word.text())
+        }
     }
 }
 

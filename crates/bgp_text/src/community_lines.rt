@@ -5,7 +5,7 @@ ghost use Rattle.std.specs.List.{flat_map};
 ghost use Rattle.std.specs.String.{string_bytes};
 ghost use Rattle.bgp_text.specs.CommunityLines.{community_text, communities_line, large_text, large_line, community_lines};
 
-use crate::decimal::{put_decimal, put_spaced};
+use crate::word::Word;
 use bgp_update::Attrs;
 use bgp_wire::List;
 use std::alloc::AllocError;
@@ -14,11 +14,12 @@ use std::alloc::AllocError;
 fn put_community(text: &mut String, community: u32) -> Result<(), AllocError>
     ensures { OnOk result (string_bytes text.new ≡ string_bytes text.old ++ community_text community) }
 {
-    let high = community / 65536;
-    let low = community % 65536;
-    put_spaced(text, high)?;
-    text.push_str(":")?;
-    put_decimal(text, low)
+    let mut word = Word::new();
+    word.number(community % 65536);
+    word.character(b':');
+    word.number(community / 65536);
+    word.character(b' ');
+    text.push_str(word.text())
 }
 
 /// Adds communities, each behind a space.
@@ -45,7 +46,14 @@ fn put_large_community(text: &mut String, community: [u32; 3]) -> Result<(), All
     ensures { OnOk result (string_bytes text.new ≡ string_bytes text.old ++ large_text community) }
 {
     let [global, first, second] = community;
-    write!(text, " {global}:{first}:{second}")
+    let mut word = Word::new();
+    word.number(second);
+    word.character(b':');
+    word.number(first);
+    word.character(b':');
+    word.number(global);
+    word.character(b' ');
+    text.push_str(word.text())
 }
 
 /// Adds large communities, each behind a space.

@@ -1,6 +1,7 @@
 //! The printed form of messages, routes, notes and ends of streams: text alone.
 #![tactic(auto)]
 
+mod addresses;
 mod attribute_lines;
 mod community_lines;
 mod decimal;
@@ -14,6 +15,7 @@ mod open_lines;
 mod outcome_lines;
 mod path_line;
 mod update_lines;
+mod word;
 
 pub use end::put_end;
 pub use info::{info_text, notification_text};

@@ -1,63 +1,54 @@
-//! A line for each of some values.
+//! A line for each of some prefixes.
 
-ghost use Rattle.std.specs.Prelude.{◌≡◌, ◌++◌, [], IsSome, OnOk, codes, unwrap_or};
+ghost use Rattle.std.specs.Prelude.{◌≡◌, ◌≤◌, ◌∷◌, ◌++◌, [], length, OnOk, codes};
 ghost use Rattle.std.specs.Fmt.{decimal};
 ghost use Rattle.std.specs.List.{flat_map};
 ghost use Rattle.std.specs.String.{string_bytes};
-ghost use Rattle.bgp_prefix.specs.Text.{ipv4_address_text, ipv4_text, ipv6_text};
+ghost use Rattle.bgp_prefix.specs.Text.{ipv4_text, ipv6_text};
 ghost use Rattle.bgp_text.specs.Lines.{line_of};
 
-use crate::decimal::put_decimal;
+use crate::addresses::{put_ip4_address, put_ip6_address};
+use crate::word::Word;
 use bgp_prefix::{Prefix4, Prefix6};
 use bgp_wire::List;
 use std::alloc::AllocError;
-use std::fmt;
 
-/// Adds a line for each value: a label, and the value's text.
-fn put_lines<T: fmt::Display>(
-    text: &mut String,
-    label: &str,
-    values: &List<T>,
-) -> Result<(), AllocError>
-    requires { (value : T) → IsSome (T.output value) }
-    ensures { OnOk result (string_bytes text.new
-        ≡ string_bytes text.old ++ flat_map (line_of label.now (λ value. unwrap_or (T.output value) [])) values.now) }
+/// Adds a label, and a word behind it.
+fn put_labelled(text: &mut String, label: &str, word: &Word) -> Result<(), AllocError>
+    ensures { OnOk result (string_bytes text.new ≡ string_bytes text.old ++ (label.now ++ word.now)) }
 {
-    for value in values.iter() {
-        write!(text, "{label}{value}\n")?;
-    }
-    Ok(())
+    text.push_str(label)?;
+    text.push_str(word.text())
 }
 
-/// Adds a number behind a dot.
-fn put_behind_dot(text: &mut String, number: u8) -> Result<(), AllocError>
-    ensures { OnOk result (string_bytes text.new ≡ string_bytes text.old ++ (codes "." ++ decimal number)) }
+/// The length of a prefix behind a slash, and the end of its line.
+fn length_word(len: u8) -> Word
+    ensures value { result ≡ codes "/" ++ (decimal len ++ 10 ∷ []) }
+    ensures len { length result ≤ 12 }
 {
-    text.push_str(".")?;
-    put_decimal(text, u32::from(number))
-}
-
-/// Adds an IPv4 address.
-#[tactic(auto, unfolding(bgp_prefix::specs::Text::ipv4_address_text))]
-fn put_ip4_address(text: &mut String, address: [u8; 4]) -> Result<(), AllocError>
-    ensures { OnOk result (string_bytes text.new ≡ string_bytes text.old ++ ipv4_address_text address) }
-{
-    let [a, b, c, d] = address;
-    put_decimal(text, u32::from(a))?;
-    put_behind_dot(text, b)?;
-    put_behind_dot(text, c)?;
-    put_behind_dot(text, d)
+    let mut word = Word::new();
+    word.character(b'\n');
+    word.number(u32::from(len));
+    word.character(b'/');
+    word
 }
 
 /// Adds a line of an IPv4 prefix, behind a label.
 fn put_ip4_line(text: &mut String, label: &str, prefix: Prefix4) -> Result<(), AllocError>
     ensures { OnOk result (string_bytes text.new ≡ string_bytes text.old ++ line_of label.now ipv4_text prefix) }
 {
-    text.push_str(label)?;
-    put_ip4_address(text, prefix.addr())?;
-    text.push_str("/")?;
-    put_decimal(text, u32::from(prefix.len()))?;
-    text.push_str("\n")
+    let mut word = length_word(prefix.len());
+    put_ip4_address(&mut word, prefix.addr());
+    put_labelled(text, label, &word)
+}
+
+/// Adds a line of an IPv6 prefix, behind a label.
+fn put_ip6_line(text: &mut String, label: &str, prefix: &Prefix6) -> Result<(), AllocError>
+    ensures { OnOk result (string_bytes text.new ≡ string_bytes text.old ++ line_of label.now ipv6_text prefix.now) }
+{
+    let mut word = length_word(prefix.len());
+    put_ip6_address(&mut word, &prefix.addr());
+    put_labelled(text, label, &word)
 }
 
 /// Adds a line for each IPv4 prefix, behind a label.
@@ -82,5 +73,8 @@ pub(crate) fn put_ip6_lines(
 ) -> Result<(), AllocError>
     ensures { OnOk result (string_bytes text.new ≡ string_bytes text.old ++ flat_map (line_of label.now ipv6_text) prefixes.now) }
 {
-    put_lines(text, label, prefixes)
+    for prefix in prefixes.iter() {
+        put_ip6_line(text, label, prefix)?;
+    }
+    Ok(())
 }

@@ -4,9 +4,9 @@ ghost use Rattle.std.specs.Prelude.{◌≡◌, ◌++◌, OnOk};
 ghost use Rattle.std.specs.String.{string_bytes};
 ghost use Rattle.bgp_text.specs.MpLines.{ip4_next_line, ip6_next_line, family_line, reach_lines, unreach_lines, mp_lines};
 
+use crate::addresses::{put_ip4_end, put_ip6, put_ip6_end};
 use crate::lines::{put_ip4_lines, put_ip6_lines};
 use bgp_attr::{MpReach, MpUnreach};
-use bgp_prefix::Address;
 use bgp_update::Attrs;
 use std::alloc::AllocError;
 
@@ -14,8 +14,8 @@ use std::alloc::AllocError;
 fn put_ip4_next(text: &mut String, next_hop: [u8; 4]) -> Result<(), AllocError>
     ensures { OnOk result (string_bytes text.new ≡ string_bytes text.old ++ ip4_next_line next_hop) }
 {
-    let next_hop = Address(next_hop);
-    write!(text, "  mp_reach ip4 next {next_hop}\n")
+    text.push_str("  mp_reach ip4 next ")?;
+    put_ip4_end(text, next_hop)
 }
 
 /// The next hop of IPv6 routes: its global address, and its link-local one.
@@ -26,14 +26,13 @@ fn put_ip6_next(
 ) -> Result<(), AllocError>
     ensures { OnOk result (string_bytes text.new ≡ string_bytes text.old ++ ip6_next_line next_hop link_local) }
 {
-    let next_hop = Address(next_hop);
-    match link_local {
-        None => write!(text, "  mp_reach ip6 next {next_hop}\n"),
-        Some(link_local) => {
-            let link_local = Address(link_local);
-            write!(text, "  mp_reach ip6 next {next_hop} link {link_local}\n")
-        }
-    }
+    text.push_str("  mp_reach ip6 next ")?;
+    let Some(link_local) = link_local else {
+        return put_ip6_end(text, next_hop);
+    };
+    put_ip6(text, next_hop)?;
+    text.push_str(" link ")?;
+    put_ip6_end(text, link_local)
 }
 
 /// Adds the lines of an MP_REACH_NLRI.

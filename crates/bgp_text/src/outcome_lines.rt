@@ -11,6 +11,7 @@ use crate::info::notification_text;
 use crate::note_lines::put_notes;
 use crate::open_lines::put_open;
 use crate::update_lines::{put_routes, put_update};
+use crate::word::Word;
 use bgp_frame::Notification;
 use bgp_msg::{Message, Outcome};
 use bgp_numbers::error;
@@ -22,7 +23,14 @@ use std::alloc::{AllocError, Global};
 fn put_head(text: &mut String, place: u64, len: u16, name: &str) -> Result<(), AllocError>
     ensures { OnOk result (string_bytes text.new ≡ string_bytes text.old ++ head_line place len name.now) }
 {
-    write!(text, "{place} {len} {name}\n")
+    let mut word = Word::new();
+    word.character(b' ');
+    word.number(u32::from(len));
+    word.character(b' ');
+    word.wide_number(place);
+    text.push_str(word.text())?;
+    text.push_str(name)?;
+    text.push_str("\n")
 }
 
 fn put_notification(

@@ -36,8 +36,8 @@ fn put_numbers(text: &mut String, numbers: &List<AsNumber>) -> Result<(), AllocE
 fn put_segment(text: &mut String, segment: &Segment) -> Result<(), AllocError>
     ensures { OnOk result (string_bytes text.new ≡ string_bytes text.old ++ segment_text segment.now) }
 {
-    let kind = kind_name(segment.kind);
-    write!(text, " {kind}")?;
+    text.push_str(" ")?;
+    text.push_str(kind_name(segment.kind))?;
     put_numbers(text, &segment.numbers)
 }
 

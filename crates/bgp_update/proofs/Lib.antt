@@ -14,6 +14,8 @@ pub mod SlotLemmas
 pub mod SlotTypes
 pub mod Validity
 pub mod Widths
+pub mod MarkTypes
+pub mod QuietMarks
 pub mod MarkLemmas
 pub mod ReadBack
 pub mod KeptSlots

@@ -7,6 +7,7 @@ use Rattle.std.proofs.lemmas.List.Concat.{flat_map-cons}
 use Rattle.bgp_frame.specs.declared.notification.Notification.{Notification}
 use Rattle.bgp_attr.specs.declared.attr.Attr.{Attr}
 use Rattle.bgp_update.specs.Marks.{Mark}
+use Rattle.bgp_update.specs.Notes.{is_noted}
 use Rattle.bgp_update.specs.Taken.{kept_by, kept_of, first_in, as_mp_reach, as_mp_unreach}
 use Rattle.bgp_update.specs.Verdict.{reset_by, first_reset, withdraws}
 use Rattle.bgp_update.specs.Summary.{SummaryValue, summary_behind}
@@ -50,6 +51,7 @@ module _ (m : Mark) (ms : List Mark) where
   summary_more s = λ i. record {
     reset = reset_more s.reset i;
     withdraws = or_one s.withdraws (withdraws m.judged) (list_any (λ (n : Mark). withdraws n.judged) ms) i;
+    notes = or_one s.notes (is_noted m.judged) (list_any (λ (n : Mark). is_noted n.judged) ms) i;
     reach = slot_more as_mp_reach s.reach i;
     unreach = slot_more as_mp_unreach s.unreach i;
   }

@@ -1,5 +1,6 @@
 -- What borrowed marks are, and what an iterator of them has left.
-use Rattle.std.specs.Prelude.{◌-◌, List, [], ◌++◌, length, if◌then◌else◌}
+use Rattle.std.specs.Prelude.{◌≡◌, ℕ, ◌-◌, Bool, ◌||◌, ◌==◌, List, [], ◌++◌, length, if◌then◌else◌}
+use Rattle.std.specs.List.{list_any}
 use Rattle.bgp_attr.specs.JudgedView.{judged_value}
 use Rattle.bgp_attr.specs.TlvIter.{tlvs_left, rest_left}
 use Rattle.bgp_update.specs.declared.mark.MarkView.{MarkView}
@@ -15,3 +16,7 @@ abbrev pub marks_left : MarkIter → List Mark
 marks_left it =
     marks_behind it.ctx it.has_nlri (seen_types it.seen) (tlvs_left it.tlvs)
     ++ (if it.is_done then [] else cut_mark (it.len - length (rest_left it.tlvs)) (rest_left it.tlvs))
+
+-- a step: the types that were seen, and those of the whole attributes still to come, are these
+abbrev pub HasTypes : MarkIter → (ℕ → Bool) → Type 0
+HasTypes it types = (kind : ℕ) → (seen_types it.seen kind || list_any (λ q. q.tlv.kind == kind) (tlvs_left it.tlvs)) ≡ types kind

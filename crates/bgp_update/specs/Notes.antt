@@ -1,5 +1,5 @@
 -- Reachability, what is missing, the notes and the routes of a message (RFC 7606, sections 3, 5.2 and 6).
-use Rattle.std.specs.Prelude.{ℕ, ◌+◌, Bool, not, ◌&&◌, ◌||◌, ◌==◌, nat_lt, List, [], ◌∷◌, ◌++◌, length, map, Option, Some, if◌then◌else◌}
+use Rattle.std.specs.Prelude.{ℕ, ◌+◌, Bool, true, false, not, ◌&&◌, ◌||◌, ◌==◌, nat_lt, List, [], ◌∷◌, ◌++◌, length, map, Option, Some, if◌then◌else◌}
 use Rattle.std.specs.List.{flat_map, list_any}
 use Rattle.bgp_numbers.specs.declared.attribute.TheConstants.{ORIGIN, AS_PATH, NEXT_HOP}
 use Rattle.bgp_prefix.specs.Prefix.{PrefixValue}
@@ -55,15 +55,15 @@ abbrev pub has_type : ℕ → Parts → Bool
 has_type kind p = types_of_field p.attributes kind
 
 -- which of ORIGIN, AS_PATH and NEXT_HOP a message that announces routes hasn't: NEXT_HOP is for NLRI alone
-abbrev pub missing_in : Bool → Bool → List ℕ → Missing
-missing_in reaches nlri field = record {
-  origin = reaches && not (types_of_field field ORIGIN);
-  as_path = reaches && not (types_of_field field AS_PATH);
-  next_hop = nlri && not (types_of_field field NEXT_HOP);
+abbrev pub missing_in : Bool → Bool → (ℕ → Bool) → Missing
+missing_in reaches nlri types = record {
+  origin = reaches && not (types ORIGIN);
+  as_path = reaches && not (types AS_PATH);
+  next_hop = nlri && not (types NEXT_HOP);
 }
 
 abbrev pub missing_of : Parts → List Mark → Missing
-missing_of p marks = missing_in (is_reachable p marks) (has_nlri p) p.attributes
+missing_of p marks = missing_in (is_reachable p marks) (has_nlri p) (types_of_field p.attributes)
 
 abbrev pub is_missing : Missing → Bool
 is_missing m = m.origin || (m.as_path || m.next_hop)
@@ -75,6 +75,12 @@ abbrev pub why_not : Judged → List Why
 why_not (judged.Discard w) = w ∷ []
 why_not (judged.Withdraw w) = w ∷ []
 why_not _ = []
+
+-- a mark has a note
+abbrev pub is_noted : Judged → Bool
+is_noted (judged.Discard w) = true
+is_noted (judged.Withdraw w) = true
+is_noted _ = false
 
 -- the note of a mark: its place in the body
 abbrev pub mark_notes : ℕ → Mark → List Note

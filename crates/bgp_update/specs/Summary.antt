@@ -9,12 +9,14 @@ use Rattle.bgp_attr.specs.declared.mp.MpUnreach.{MpUnreach}
 use Rattle.bgp_attr.specs.MpView.{reach_value, unreach_value}
 use Rattle.bgp_update.specs.declared.summary.Summary.{Summary}
 use Rattle.bgp_update.specs.Marks.{Mark}
+use Rattle.bgp_update.specs.Notes.{is_noted}
 use Rattle.bgp_update.specs.Taken.{kept_of, first_in, as_mp_reach, as_mp_unreach}
 use Rattle.bgp_update.specs.Verdict.{first_reset, withdraws}
 
 pub record SummaryValue : Type 0 where
   pub reset : Option Notification
   pub withdraws : Bool
+  pub notes : Bool
   pub reach : Option MpReach
   pub unreach : Option MpUnreach
 
@@ -22,6 +24,7 @@ abbrev pub summary_value : Summary → SummaryValue
 summary_value s = record {
   reset = option_map notification_of_view s.reset;
   withdraws = s.withdraws;
+  notes = s.notes;
   reach = option_map reach_value s.reach;
   unreach = option_map unreach_value s.unreach;
 }
@@ -31,6 +34,7 @@ abbrev pub summary_behind : SummaryValue → List Mark → SummaryValue
 summary_behind s marks = record {
   reset = option_or s.reset (first_reset marks);
   withdraws = s.withdraws || list_any (λ m. withdraws m.judged) marks;
+  notes = s.notes || list_any (λ m. is_noted m.judged) marks;
   reach = option_or s.reach (first_in as_mp_reach (kept_of marks));
   unreach = option_or s.unreach (first_in as_mp_unreach (kept_of marks));
 }
@@ -39,6 +43,7 @@ abbrev pub summary_of : List Mark → SummaryValue
 summary_of marks = record {
   reset = first_reset marks;
   withdraws = list_any (λ m. withdraws m.judged) marks;
+  notes = list_any (λ m. is_noted m.judged) marks;
   reach = first_in as_mp_reach (kept_of marks);
   unreach = first_in as_mp_unreach (kept_of marks);
 }

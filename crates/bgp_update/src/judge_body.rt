@@ -67,7 +67,7 @@ fn judge_body<'a>(ctx: &Context, body: Body<'a>) -> View<'a>
     ensures { view_value result ≡ verdict_on (parts_value body.entry) (marks_of ctx.now (parts_value body.entry)) }
 {
     let has_nlri = !body.nlri.is_empty();
-    let summary = summarize(ctx, has_nlri, body.attributes);
+    let (summary, types) = summarize(ctx, has_nlri, body.attributes);
     if let Some(reset) = summary.reset {
         return View::Reset(reset);
     }
@@ -78,8 +78,8 @@ fn judge_body<'a>(ctx: &Context, body: Body<'a>) -> View<'a>
         return View::Reset(reset);
     }
     let reaches = has_nlri || has_routes(summary.reach);
-    let missing = missing_in(reaches, has_nlri, body.attributes);
-    let view = UpdateView::new(ctx, body, missing, summary.reach, summary.unreach);
+    let missing = missing_in(reaches, has_nlri, &types);
+    let view = UpdateView::new(ctx, body, missing, &summary);
     if !summary.withdraws && !is_missing(missing) {
         return View::Take(view);
     }

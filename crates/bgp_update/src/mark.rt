@@ -34,14 +34,19 @@ pub(crate) struct MarkIter<'a> {
 }
 
 impl<'a> MarkIter<'a> {
+    ghost use Rattle.std.specs.Prelude.{ℕ, Bool, [], IfNone};
+    ghost use Rattle.std.specs.Iterator.{YieldsFirstBy};
     ghost use Rattle.bgp_update.specs.Marks.{field_marks};
-    ghost use Rattle.bgp_update.specs.MarkIter.{marks_left};
+    ghost use Rattle.bgp_update.specs.MarkIter.{mark_value, marks_left, HasTypes};
+    ghost use Rattle.bgp_update.specs.Notes.{types_of_field};
+    ghost use Rattle.bgp_update.specs.Seen.{seen_types};
 
     /// The marks of a field of at most 4075 octets.
     #[tactic(auto, using(crate::proofs::SmallLemmas::field_small), unfolding(crate::specs::Marks::field_marks))]
     pub(crate) fn new(ctx: &Context, has_nlri: bool, field: &'a [u8]) -> MarkIter<'a>
         requires { length field.now ≤ 4075 }
-        ensures { marks_left result ≡ field_marks ctx.now has_nlri field.now }
+        ensures marks { marks_left result ≡ field_marks ctx.now has_nlri field.now }
+        ensures types { HasTypes result (types_of_field field.now) }
     {
         MarkIter {
             ctx: *ctx,
@@ -52,19 +57,13 @@ impl<'a> MarkIter<'a> {
             is_done: false,
         }
     }
-}
 
-impl<'a> Iterator for MarkIter<'a> {
-    ghost use Rattle.std.specs.Iterator.{YieldsFirstBy, item_count};
-    ghost use Rattle.bgp_update.specs.MarkIter.{mark_value, marks_left};
-
-    type Item = MarkView<'a>;
-
-    ghost next_gives = { YieldsFirstBy mark_value marks_left };
-
-    ghost remaining = { item_count marks_left };
-
-    fn next(&mut self) -> Option<MarkView<'a>> {
+    /// The next mark. The types that were seen and those still to come stay the same.
+    pub(crate) fn next_mark(&mut self) -> Option<MarkView<'a>>
+        ensures steps { YieldsFirstBy mark_value marks_left self.old result self.new }
+        ensures types { (types : ℕ → Bool) → HasTypes self.old types → HasTypes self.new types }
+        ensures last { IfNone result (tlvs_left self.new.tlvs ≡ []) }
+    {
         if let Some(tlv) = self.tlvs.next() {
             let kind = tlv.kind;
             let judged = if self.seen.contains(kind) {
@@ -91,6 +90,29 @@ impl<'a> Iterator for MarkIter<'a> {
                 judged: cut(rest),
             }),
         }
+    }
+
+    /// The types of the whole attributes, where all marks were given.
+    pub(crate) fn types(&self) -> Seen
+        requires { tlvs_left self.now.tlvs ≡ [] }
+        ensures { HasTypes self.now (seen_types result) }
+    {
+        self.seen
+    }
+}
+
+impl<'a> Iterator for MarkIter<'a> {
+    ghost use Rattle.std.specs.Iterator.{YieldsFirstBy, item_count};
+    ghost use Rattle.bgp_update.specs.MarkIter.{mark_value, marks_left};
+
+    type Item = MarkView<'a>;
+
+    ghost next_gives = { YieldsFirstBy mark_value marks_left };
+
+    ghost remaining = { item_count marks_left };
+
+    fn next(&mut self) -> Option<MarkView<'a>> {
+        self.next_mark()
     }
 }
 

@@ -1,10 +1,12 @@
 //! The verdict on an UPDATE, from borrowed octets.
 
 ghost use Rattle.std.specs.Prelude.{◌≡◌, ◌≤◌, ◌+◌, length, option_map};
+ghost use Rattle.std.specs.List.{list_any};
 ghost use Rattle.bgp_attr.specs.MpView.{reach_value, unreach_value};
 ghost use Rattle.bgp_update.specs.Body.{parts_value};
 ghost use Rattle.bgp_update.specs.Marks.{marks_of};
-ghost use Rattle.bgp_update.specs.Notes.{missing_of};
+ghost use Rattle.bgp_update.specs.Notes.{is_noted, missing_of};
+ghost use Rattle.bgp_update.specs.Summary.{summary_value, summary_of};
 ghost use Rattle.bgp_update.specs.Taken.{kept_of, first_in, as_mp_reach, as_mp_unreach};
 
 use crate::add_routes::add_routes;
@@ -15,6 +17,7 @@ use crate::mark::MarkIter;
 use crate::missing::Missing;
 use crate::note_iter::NoteIter;
 use crate::routes::Routes;
+use crate::summary::Summary;
 use crate::update::Update;
 use bgp_attr::{MpReachView, MpUnreachView};
 use bgp_frame::NotificationView;
@@ -31,10 +34,12 @@ pub struct UpdateView<'a> {
     missing: Missing,
     reach: Option<MpReachView<'a>>,
     unreach: Option<MpUnreachView<'a>>,
+    has_notes: bool,
     ghost short: { length body.withdrawn.now + length body.attributes.now ≤ 4073 },
     ghost misses: { missing ≡ missing_of (parts_value body) (marks_of ctx (parts_value body)) },
     ghost reaches: { option_map reach_value reach ≡ first_in as_mp_reach (kept_of (marks_of ctx (parts_value body))) },
     ghost unreaches: { option_map unreach_value unreach ≡ first_in as_mp_unreach (kept_of (marks_of ctx (parts_value body))) },
+    ghost noted: { has_notes ≡ list_any (λ m. is_noted m.judged) (marks_of ctx (parts_value body)) },
 }
 
 /// What the body of an UPDATE comes to (RFC 7606, section 3), borrowed.
@@ -57,13 +62,11 @@ impl<'a> UpdateView<'a> {
         ctx: &Context,
         body: Body<'a>,
         missing: Missing,
-        reach: Option<MpReachView<'a>>,
-        unreach: Option<MpUnreachView<'a>>,
+        summary: &Summary<'a>,
     ) -> UpdateView<'a>
         requires short { length body.withdrawn.now + length body.attributes.now ≤ 4073 }
         requires misses { missing ≡ missing_of (parts_value body) (marks_of ctx.now (parts_value body)) }
-        requires reaches { option_map reach_value reach ≡ first_in as_mp_reach (kept_of (marks_of ctx.now (parts_value body))) }
-        requires unreaches { option_map unreach_value unreach ≡ first_in as_mp_unreach (kept_of (marks_of ctx.now (parts_value body))) }
+        requires sums { summary_value summary.now ≡ summary_of (marks_of ctx.now (parts_value body)) }
         ensures ctx { result.ctx ≡ ctx.now }
         ensures body { result.body ≡ body.entry }
     {
@@ -71,8 +74,9 @@ impl<'a> UpdateView<'a> {
             ctx: *ctx,
             body,
             missing,
-            reach,
-            unreach,
+            reach: summary.reach,
+            unreach: summary.unreach,
+            has_notes: summary.notes,
         }
     }
 
@@ -92,9 +96,11 @@ impl<'a> UpdateView<'a> {
 }
 
 impl<'a> UpdateView<'a> {
-    ghost use Rattle.std.specs.Prelude.{IfOk};
+    ghost use Rattle.std.specs.Prelude.{ℕ, IfOk};
+    ghost use Rattle.std.specs.List.{flat_map};
     ghost use Rattle.bgp_update.specs.Iters.{attrs_left, notes_left};
     ghost use Rattle.bgp_update.specs.MarkIter.{marks_left};
+    ghost use Rattle.bgp_update.specs.Notes.{mark_notes};
     ghost use Rattle.bgp_update.specs.View.{view_marks, update_value, notes_value, routes_value};
 
     /// The marks of the attributes.
@@ -102,6 +108,17 @@ impl<'a> UpdateView<'a> {
         ensures { marks_left result ≡ view_marks self.now }
     {
         MarkIter::new(&self.ctx, !self.body.nlri.is_empty(), self.body.attributes)
+    }
+
+    /// The marks that have notes, and perhaps others: none of a message without a note, whose attributes needn't be walked again.
+    fn noted_marks(&self) -> MarkIter<'a>
+        ensures { (at : ℕ) → flat_map (mark_notes at) (marks_left result) ≡ flat_map (mark_notes at) (view_marks self.now) }
+    {
+        if self.has_notes {
+            self.marks()
+        } else {
+            MarkIter::new(&self.ctx, false, &[])
+        }
     }
 
     /// The attributes that are kept, by place.
@@ -115,7 +132,11 @@ impl<'a> UpdateView<'a> {
     pub fn notes(&self) -> NoteIter<'a>
         ensures { notes_left result ≡ notes_value self.now }
     {
-        NoteIter::new(4 + self.body.withdrawn.len(), self.marks(), self.missing)
+        NoteIter::new(
+            4 + self.body.withdrawn.len(),
+            self.noted_marks(),
+            self.missing,
+        )
     }
 
     /// The UPDATE with the attributes that are kept, with memory of its own.

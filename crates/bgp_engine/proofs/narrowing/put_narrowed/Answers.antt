@@ -3,7 +3,8 @@ use Rattle.bgp_open.specs.declared.context.Context.{Context}
 use Rattle.bgp_update.specs.declared.update.Update.{Update}
 use Rattle.bgp_update.specs.Widths.{with_as4}
 use Rattle.bgp_msg.specs.declared.message.Message.TheVariants as message
-use Rattle.bgp_engine.specs.Narrow.{WritesNarrow, written_in}
+use Rattle.bgp_engine.specs.Narrow.{written_in}
+use Rattle.bgp_engine.specs.PageSteps.{WritesNarrow}
 use Rattle.bgp_engine.proofs.narrowing.put_narrowed.Goals as goal
 
 pub returns : goal.returns

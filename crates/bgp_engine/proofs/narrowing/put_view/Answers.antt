@@ -4,7 +4,8 @@ use Rattle.bgp_update.specs.declared.update.Update.{Update}
 use Rattle.bgp_update.specs.As4.{narrowed_update}
 use Rattle.bgp_update.specs.Widths.{with_as4}
 use Rattle.bgp_msg.specs.declared.message.Message.TheVariants as message
-use Rattle.bgp_engine.specs.Narrow.{WritesNarrow, has_as4, written_in}
+use Rattle.bgp_engine.specs.Narrow.{has_as4, written_in}
+use Rattle.bgp_engine.specs.PageSteps.{WritesNarrow}
 use Rattle.bgp_engine.proofs.narrowing.put_view.Goals as goal
 
 pub returns : goal.returns

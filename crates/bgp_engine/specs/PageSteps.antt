@@ -1,0 +1,20 @@
+-- Steps of two pages, which only private functions cite.
+use Rattle.std.specs.Prelude.{◌≡◌, ℕ, List, [], ◌++◌, Option, unwrap_or}
+use Rattle.bgp_msg.specs.declared.outcome.Outcome.{Outcome}
+use Rattle.bgp_msg.specs.Outcome.{is_reset}
+use Rattle.bgp_text.specs.Outcome.{outcome_lines}
+use Rattle.bgp_engine.specs.declared.class.Class.{Class}
+use Rattle.bgp_engine.specs.Narrow.{narrowed_class}
+use Rattle.bgp_engine.specs.Pages.{is_last}
+use Rattle.bgp_engine.specs.Show.{class_of}
+
+-- the lines of an outcome were added, and it counts as this
+pub record WritesOutcome (old new : List ℕ) (place len : ℕ) (o : Outcome) (class : Class) : Type 0 where
+  pub told : new ≡ old ++ outcome_lines place len o
+  pub counts : class ≡ class_of o
+  pub ends : is_reset o ≡ is_last class
+
+-- what is written of a message, if it can be, was appended
+pub record WritesNarrow (old new : List ℕ) (o : Option (List ℕ)) (class : Class) : Type 0 where
+  pub appended : new ≡ old ++ unwrap_or o []
+  pub counts : class ≡ narrowed_class o

@@ -1,0 +1,27 @@
+-- Marks without notes.
+use Rattle.std.proofs.Common.{◌≡◌, ℕ, Bool, false, List, [], ◌∷◌, ◌++◌, refl, ap₂, ◌∙◌, true≢false}
+use Rattle.std.specs.List.{flat_map, list_any}
+use Rattle.std.proofs.lemmas.Bool.{or_parts}
+use Rattle.std.proofs.lemmas.List.Concat.{flat_map-cons}
+use Rattle.bgp_wire.specs.Reader as reader
+use Rattle.bgp_attr.specs.declared.judged.Judged.{Judged}
+use Rattle.bgp_attr.specs.declared.judged.Judged.TheVariants as judged
+use Rattle.bgp_open.specs.declared.context.Context.{Context}
+use Rattle.bgp_update.specs.Marks.{Mark, field_marks}
+use Rattle.bgp_update.specs.Notes.{is_noted, mark_notes}
+
+no_note : (at place kind : ℕ) (j : Judged) → is_noted j ≡ false → mark_notes at (record { at = place; kind = kind; judged = j }) ≡ []
+no_note at place kind (judged.Keep a) quiet = refl
+no_note at place kind (judged.Reset n) quiet = refl
+no_note at place kind (judged.Discard w) quiet = absurd (true≢false quiet)
+no_note at place kind (judged.Withdraw w) quiet = absurd (true≢false quiet)
+
+pub quiet_marks : (at : ℕ) (marks : List Mark) → list_any (λ m. is_noted m.judged) marks ≡ false → flat_map (mark_notes at) marks ≡ []
+quiet_marks at [] quiet = refl
+quiet_marks at (m ∷ ms) quiet =
+    let parts = or_parts (is_noted m.judged) (list_any (λ (n : Mark). is_noted n.judged) ms) quiet in
+    flat_map-cons (mark_notes at) m ms ∙ ap₂ (λ (a b : List _). a ++ b) (no_note at m.at m.kind m.judged parts.0) (quiet_marks at ms parts.1)
+
+pub no_marks : (ctx : Context) (nlri : Bool) → field_marks ctx nlri [] ≡ []
+unfolding field_marks reader.pieces
+no_marks ctx nlri = refl

@@ -1,0 +1,12 @@
+use Rattle.std.proofs.Common.{false, sym, ap, ◌∙◌}
+use Rattle.std.specs.List.{flat_map}
+use Rattle.bgp_update.specs.Notes.{mark_notes}
+use Rattle.bgp_update.specs.View.{view_marks}
+use Rattle.bgp_update.proofs.QuietMarks.{quiet_marks, no_marks}
+use Rattle.bgp_update.proofs.view.UpdateView.noted_marks.Goals as goal
+
+pub returns-else-self : goal.returns-else-self
+returns-else-self c at =
+    let view = c.args.self.now in
+    ap (flat_map (mark_notes at)) (c.new.ensures.marks ∙ no_marks view.ctx false)
+    ∙ sym (quiet_marks at (view_marks view) (sym view.noted ∙ c.if-self.false))
