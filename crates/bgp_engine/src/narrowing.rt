@@ -20,7 +20,7 @@ use crate::walk::walk_stream;
 use bgp_frame::{End, Frame, HeadFault, head};
 use bgp_msg::{OutcomeView, encode_update, view_frame};
 use bgp_open::Context;
-use bgp_update::{Attrs, Update, UpdateView, WriteFault, narrow};
+use bgp_update::{Attrs, Update, UpdateView, WriteFault, into_narrowed};
 use std::alloc::{AllocError, Global};
 use std::io::{Read, Write};
 
@@ -61,12 +61,12 @@ fn has_as4(attrs: &Attrs) -> bool
     attrs.as4_path.is_some() || attrs.as4_aggregator.is_some()
 }
 
-// An UPDATE as a speaker with AS numbers of two octets is told it: its routes are moved, not copied.
+// An UPDATE as a speaker with AS numbers of two octets is told it: what stays the same is moved, not copied.
 fn narrow_update(alloc: Global, update: Update) -> Result<Update, AllocError>
     requires { HasNoAs4 update.attrs }
     ensures { IfOk result (λ told. told ≡ narrowed_update update) }
 {
-    let attrs = narrow(alloc, &update.attrs)?;
+    let attrs = into_narrowed(alloc, update.attrs)?;
     Ok(Update {
         withdrawn: update.withdrawn,
         attrs,

@@ -8,6 +8,7 @@ mod memory;
 mod narrow_rows;
 mod rows;
 mod show_rows;
+mod verdict_rows;
 mod worked;
 
 use bgp_engine::*;

@@ -23,6 +23,3 @@ pub use outcome_view::OutcomeView;
 pub use seen::Seen;
 pub use taking::{out_frame, view_frame};
 pub use update_encoding::encode_update;
-
-#[cfg(test)]
-mod tests;

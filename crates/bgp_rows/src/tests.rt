@@ -1,7 +1,10 @@
 //! What streams come to, and that it is the same however they are cut and whichever call reads them.
 
 mod changes;
+mod encoding;
 mod headers;
+mod longest;
+mod memory;
 mod messages;
 mod updates;
 mod vectors;

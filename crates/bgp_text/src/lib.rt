@@ -4,7 +4,6 @@
 mod addresses;
 mod attribute_lines;
 mod community_lines;
-mod decimal;
 mod end;
 mod info;
 pub mod laws;

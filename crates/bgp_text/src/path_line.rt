@@ -1,11 +1,12 @@
 //! The lines of AS paths.
 
-ghost use Rattle.std.specs.Prelude.{◌≡◌, ◌++◌, OnOk};
+ghost use Rattle.std.specs.Prelude.{◌≡◌, ◌++◌, OnOk, codes};
+ghost use Rattle.std.specs.Fmt.{decimal};
 ghost use Rattle.std.specs.List.{flat_map};
 ghost use Rattle.std.specs.String.{string_bytes};
 ghost use Rattle.bgp_text.specs.PathLine.{kind_name, number_text, segment_text, path_text, path_line};
 
-use crate::decimal::put_spaced;
+use crate::word::Word;
 use bgp_attr::{AsPath, SegKind, Segment};
 use bgp_prefix::AsNumber;
 use bgp_wire::List;
@@ -19,6 +20,16 @@ fn kind_name(kind: SegKind) -> &'static str
         SegKind::Set => "set",
         SegKind::Seq => "seq",
     }
+}
+
+/// Adds the digits of a number behind a space.
+fn put_spaced(text: &mut String, number: u32) -> Result<(), AllocError>
+    ensures { OnOk result (string_bytes text.new ≡ string_bytes text.old ++ (codes " " ++ decimal number)) }
+{
+    let mut word = Word::new();
+    word.number(number);
+    word.character(b' ');
+    text.push_str(word.text())
 }
 
 /// Adds AS numbers, each behind a space.

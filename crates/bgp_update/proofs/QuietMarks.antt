@@ -8,7 +8,8 @@ use Rattle.bgp_attr.specs.declared.judged.Judged.{Judged}
 use Rattle.bgp_attr.specs.declared.judged.Judged.TheVariants as judged
 use Rattle.bgp_open.specs.declared.context.Context.{Context}
 use Rattle.bgp_update.specs.Marks.{Mark, field_marks}
-use Rattle.bgp_update.specs.Notes.{is_noted, mark_notes}
+use Rattle.bgp_update.specs.Notes.{mark_notes}
+use Rattle.bgp_update.specs.Summary.{is_noted}
 
 no_note : (at place kind : ℕ) (j : Judged) → is_noted j ≡ false → mark_notes at (record { at = place; kind = kind; judged = j }) ≡ []
 no_note at place kind (judged.Keep a) quiet = refl

@@ -7,10 +7,9 @@ use Rattle.std.proofs.lemmas.List.Concat.{flat_map-cons}
 use Rattle.bgp_frame.specs.declared.notification.Notification.{Notification}
 use Rattle.bgp_attr.specs.declared.attr.Attr.{Attr}
 use Rattle.bgp_update.specs.Marks.{Mark}
-use Rattle.bgp_update.specs.Notes.{is_noted}
 use Rattle.bgp_update.specs.Taken.{kept_by, kept_of, first_in, as_mp_reach, as_mp_unreach}
 use Rattle.bgp_update.specs.Verdict.{reset_by, first_reset, withdraws}
-use Rattle.bgp_update.specs.Summary.{SummaryValue, summary_behind}
+use Rattle.bgp_update.specs.Summary.{SummaryValue, is_noted, summary_behind}
 
 module _ {A : Type 0} where
   pub option_or-assoc : (a b c : Option A) → option_or (option_or a b) c ≡ option_or a (option_or b c)

@@ -1,5 +1,5 @@
 -- Reachability, what is missing, the notes and the routes of a message (RFC 7606, sections 3, 5.2 and 6).
-use Rattle.std.specs.Prelude.{ℕ, ◌+◌, Bool, true, false, not, ◌&&◌, ◌||◌, ◌==◌, nat_lt, List, [], ◌∷◌, ◌++◌, length, map, Option, Some, if◌then◌else◌}
+use Rattle.std.specs.Prelude.{ℕ, ◌+◌, Bool, not, ◌&&◌, ◌||◌, ◌==◌, nat_lt, List, [], ◌∷◌, ◌++◌, length, map, Option, Some, if◌then◌else◌}
 use Rattle.std.specs.List.{flat_map, list_any}
 use Rattle.bgp_numbers.specs.declared.attribute.TheConstants.{ORIGIN, AS_PATH, NEXT_HOP}
 use Rattle.bgp_prefix.specs.Prefix.{PrefixValue}
@@ -75,12 +75,6 @@ abbrev pub why_not : Judged → List Why
 why_not (judged.Discard w) = w ∷ []
 why_not (judged.Withdraw w) = w ∷ []
 why_not _ = []
-
--- a mark has a note
-abbrev pub is_noted : Judged → Bool
-is_noted (judged.Discard w) = true
-is_noted (judged.Withdraw w) = true
-is_noted _ = false
 
 -- the note of a mark: its place in the body
 abbrev pub mark_notes : ℕ → Mark → List Note

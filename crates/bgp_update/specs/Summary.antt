@@ -1,17 +1,24 @@
--- What all marks of a field come to.
-use Rattle.std.specs.Prelude.{Bool, ◌||◌, List, Option, option_map}
+-- What all marks of a field come to: steps of the verdict, which private functions cite.
+use Rattle.std.specs.Prelude.{Bool, true, false, ◌||◌, List, Option, option_map}
 use Rattle.std.specs.List.{list_any}
 use Rattle.std.specs.Option.{option_or}
 use Rattle.bgp_frame.specs.declared.notification.Notification.{Notification}
 use Rattle.bgp_frame.specs.Notification.{notification_of_view}
+use Rattle.bgp_attr.specs.declared.judged.Judged.{Judged}
+use Rattle.bgp_attr.specs.declared.judged.Judged.TheVariants as judged
 use Rattle.bgp_attr.specs.declared.mp.MpReach.{MpReach}
 use Rattle.bgp_attr.specs.declared.mp.MpUnreach.{MpUnreach}
 use Rattle.bgp_attr.specs.MpView.{reach_value, unreach_value}
 use Rattle.bgp_update.specs.declared.summary.Summary.{Summary}
 use Rattle.bgp_update.specs.Marks.{Mark}
-use Rattle.bgp_update.specs.Notes.{is_noted}
 use Rattle.bgp_update.specs.Taken.{kept_of, first_in, as_mp_reach, as_mp_unreach}
 use Rattle.bgp_update.specs.Verdict.{first_reset, withdraws}
+
+-- what it comes to has a note
+abbrev pub is_noted : Judged → Bool
+is_noted (judged.Discard w) = true
+is_noted (judged.Withdraw w) = true
+is_noted _ = false
 
 pub record SummaryValue : Type 0 where
   pub reset : Option Notification

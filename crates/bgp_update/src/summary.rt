@@ -4,9 +4,9 @@ ghost use Rattle.std.specs.Prelude.{◌≡◌, ℕ, ◌≤◌, [], ◌∷◌, le
 ghost use Rattle.bgp_attr.specs.JudgedView.{judged_value};
 ghost use Rattle.bgp_update.specs.MarkIter.{mark_value};
 ghost use Rattle.bgp_update.specs.Marks.{field_marks};
-ghost use Rattle.bgp_update.specs.Notes.{is_noted, types_of_field};
+ghost use Rattle.bgp_update.specs.Notes.{types_of_field};
 ghost use Rattle.bgp_update.specs.Seen.{seen_types};
-ghost use Rattle.bgp_update.specs.Summary.{summary_value, summary_behind, summary_of};
+ghost use Rattle.bgp_update.specs.Summary.{is_noted, summary_value, summary_behind, summary_of};
 
 use crate::mark::{MarkIter, MarkView};
 use crate::seen::Seen;

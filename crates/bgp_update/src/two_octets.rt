@@ -122,7 +122,25 @@ fn wide_aggregator(aggregator: Option<Aggregator>) -> Option<Aggregator>
 }
 
 /// The attributes as a speaker with AS numbers of two octets is told them: 23456 stands for each number that needs four, and
-/// AS4_PATH and AS4_AGGREGATOR stand beside AS_PATH and AGGREGATOR exactly where one does (RFC 6793, section 4.2.2).
+/// AS4_PATH and AS4_AGGREGATOR stand beside AS_PATH and AGGREGATOR exactly where one does (RFC 6793, section 4.2.2). All else is moved.
+///
+/// # Errors
+/// `AllocError` where a growth was refused.
+pub fn into_narrowed(alloc: Global, attrs: Attrs) -> Result<Attrs, AllocError>
+    requires { HasNoAs4 attrs }
+    ensures { IfOk result (λ it. it ≡ narrowed attrs) }
+{
+    let mut told = attrs;
+    let aggregator = told.aggregator;
+    let TwoPaths { as_path, as4_path } = two_paths(alloc, told.as_path.take())?;
+    told.as_path = as_path;
+    told.as4_path = as4_path;
+    told.aggregator = narrow_aggregator(aggregator);
+    told.as4_aggregator = wide_aggregator(aggregator);
+    Ok(told)
+}
+
+/// [`into_narrowed`] of a copy.
 ///
 /// # Errors
 /// `AllocError` where a growth was refused.
@@ -130,13 +148,7 @@ pub fn narrow(alloc: Global, attrs: &Attrs) -> Result<Attrs, AllocError>
     requires { HasNoAs4 attrs.now }
     ensures { IfOk result (λ it. it ≡ narrowed attrs.now) }
 {
-    let mut told = attrs.copy(alloc)?;
-    let TwoPaths { as_path, as4_path } = two_paths(alloc, told.as_path.take())?;
-    told.as_path = as_path;
-    told.as4_path = as4_path;
-    told.aggregator = narrow_aggregator(attrs.aggregator);
-    told.as4_aggregator = wide_aggregator(attrs.aggregator);
-    Ok(told)
+    into_narrowed(alloc, attrs.copy(alloc)?)
 }
 
 /// The UPDATE as a speaker with AS numbers of two octets is told it: its attributes as by [`narrow`], and its routes as they are.

@@ -5,8 +5,8 @@ ghost use Rattle.std.specs.List.{list_any};
 ghost use Rattle.bgp_attr.specs.MpView.{reach_value, unreach_value};
 ghost use Rattle.bgp_update.specs.Body.{parts_value};
 ghost use Rattle.bgp_update.specs.Marks.{marks_of};
-ghost use Rattle.bgp_update.specs.Notes.{is_noted, missing_of};
-ghost use Rattle.bgp_update.specs.Summary.{summary_value, summary_of};
+ghost use Rattle.bgp_update.specs.Notes.{missing_of};
+ghost use Rattle.bgp_update.specs.Summary.{is_noted, summary_value, summary_of};
 ghost use Rattle.bgp_update.specs.Taken.{kept_of, first_in, as_mp_reach, as_mp_unreach};
 
 use crate::add_routes::add_routes;

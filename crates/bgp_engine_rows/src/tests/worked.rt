@@ -4,6 +4,7 @@ use super::failing::{Drip, Sheet};
 use super::narrow_rows::NARROWED;
 use super::rows::{BAD_TEXTS, CHECKED, COPIED, HEXED};
 use super::show_rows::{DAEMONS, SHOWN};
+use super::verdict_rows::VERDICTS;
 use super::{Tool, input_of, octets_of, output_of, run_tool};
 use bgp_engine::*;
 use std::alloc::Global;
@@ -36,6 +37,14 @@ fn lines_of_show(rt: HostRuntime) -> Result<(), Fail> {
     for (words, digits, lines, answer) in SHOWN {
         assert_run(&rt, Tool::Show, words, digits, lines, answer)?;
         assert_run(&rt, Tool::ShowText, words, digits, lines, answer)?;
+    }
+    Ok(())
+}
+
+#[test]
+fn verdicts_on_updates(rt: HostRuntime) -> Result<(), Fail> {
+    for (words, digits, lines, answer) in VERDICTS {
+        assert_run(&rt, Tool::Show, words, digits, lines, answer)?;
     }
     Ok(())
 }

@@ -41,3 +41,20 @@ fn two_unreadable_parts_end_the_session(rt: HostRuntime) -> Result<(), Fail> {
     )?;
     assert_seen(&rt, &wide(), TWICE, &wanted)
 }
+
+/// A KEEPALIVE, and a reset behind which nothing is read.
+#[test]
+fn nothing_is_read_behind_a_reset(rt: HostRuntime) -> Result<(), Fail> {
+    let alloc = rt.alloc();
+    let mut stream = Vec::new(alloc);
+    for message in [KEEPALIVE, BAD_PARTS, KEEPALIVE] {
+        stream.extend_from_slice(message)?;
+    }
+    let kept = (19, took(alloc, Message::Keepalive));
+    let told = (23, Outcome::Reset(Notification::new(3, 1, &[])));
+    let wanted = Seen {
+        outs: List::from_vec(vec![in alloc; kept, told]?),
+        end: End::Reset,
+    };
+    assert_seen(&rt, &wide(), &stream, &wanted)
+}

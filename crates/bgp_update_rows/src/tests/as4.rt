@@ -74,6 +74,24 @@ fn two_paths(alloc: Global, old: &[Part<'_>], new: &[Part<'_>]) -> Result<Attrs,
     Ok(both)
 }
 
+/// What AS_PATH and AS4_PATH give.
+fn rebuilt(alloc: Global, old: &[Part<'_>], new: &[Part<'_>]) -> Result<PathInfo, AllocError> {
+    let told = two_paths(alloc, old, new)?;
+    reconcile(alloc, &told)
+}
+
+/// A path, and perhaps an aggregator.
+fn info_of(
+    alloc: Global,
+    parts: &[Part<'_>],
+    aggregator: Option<Aggregator>,
+) -> Result<PathInfo, AllocError> {
+    Ok(PathInfo {
+        path: Some(path(alloc, parts)?),
+        aggregator,
+    })
+}
+
 /// AS_PATH and AS4_PATH give a path.
 fn assert_rebuilt(
     rt: &(impl Abort + AllocGlobal),
@@ -81,13 +99,8 @@ fn assert_rebuilt(
     new: &[Part<'_>],
     wanted: &[Part<'_>],
 ) -> Result<(), Fail> {
-    let alloc = rt.alloc();
-    let info = reconcile(alloc, &two_paths(alloc, old, new)?)?;
-    let wanted = PathInfo {
-        path: Some(path(alloc, wanted)?),
-        aggregator: None,
-    };
-    assert!(rt; info == wanted, "{old:?} {new:?}");
+    let wanted = info_of(rt.alloc(), wanted, None)?;
+    assert!(rt; rebuilt(rt.alloc(), old, new)? == wanted);
     Ok(())
 }
 
@@ -137,6 +150,15 @@ fn no_path_is_rebuilt_where_there_is_none(rt: HostRuntime) -> Result<(), Fail> {
     Ok(())
 }
 
+/// Attributes of two paths and of an AS4_AGGREGATOR, beside this AGGREGATOR.
+fn two_aggregators(alloc: Global, old: Option<Aggregator>) -> Result<Attrs, AllocError> {
+    let old_path: [Part<'_>; 1] = [(SegKind::Seq, &[1, 23456])];
+    let mut told = two_paths(alloc, &old_path, &[(SegKind::Seq, &[200000])])?;
+    told.aggregator = old;
+    told.as4_aggregator = Some(aggregator(300000, true));
+    Ok(told)
+}
+
 /// AGGREGATOR and AS4_AGGREGATOR give an aggregator, beside this path.
 fn assert_aggregator(
     rt: &(impl Abort + AllocGlobal),
@@ -144,17 +166,9 @@ fn assert_aggregator(
     wanted: Option<Aggregator>,
     wanted_path: &[Part<'_>],
 ) -> Result<(), Fail> {
-    let alloc = rt.alloc();
-    let mut told = two_paths(
-        alloc,
-        &[(SegKind::Seq, &[1, 23456])],
-        &[(SegKind::Seq, &[200000])],
-    )?;
-    told.aggregator = old;
-    told.as4_aggregator = Some(aggregator(300000, true));
-    let info = reconcile(alloc, &told)?;
-    assert!(rt; info.aggregator == wanted);
-    assert!(rt; info.path == Some(path(alloc, wanted_path)?));
+    let told = two_aggregators(rt.alloc(), old)?;
+    let wanted = info_of(rt.alloc(), wanted_path, wanted)?;
+    assert!(rt; reconcile(rt.alloc(), &told)? == wanted);
     Ok(())
 }
 
@@ -188,18 +202,25 @@ fn an_as4_aggregator_alone_gives_none(rt: HostRuntime) -> Result<(), Fail> {
     )
 }
 
+/// Attributes of AS_PATH, and of AS4_PATH as this speaker makes it.
+fn told_in_two(alloc: Global, narrow: &[Part<'_>], wide: &[Part<'_>]) -> Result<Attrs, AllocError> {
+    let mut told = two_paths(alloc, narrow, wide)?;
+    if let Some(as4_path) = &mut told.as4_path {
+        as4_path.partial = false;
+    }
+    Ok(told)
+}
+
 #[test]
 fn a_wide_number_is_told_in_two_attributes(rt: HostRuntime) -> Result<(), Fail> {
-    let alloc = rt.alloc();
-    let wide = path(alloc, &[(SegKind::Seq, &[200000])])?;
-    let told = narrow(alloc, &attrs(alloc, Some(wide), None))?;
-    assert!(rt; told.as_path == Some(path(alloc, &[(SegKind::Seq, &[23456])])?));
-    let as4_path = As4Path {
-        partial: false,
-        path: path(alloc, &[(SegKind::Seq, &[200000])])?,
-    };
-    assert!(rt; told.as4_path == Some(as4_path));
-    assert!(rt; told.as4_aggregator.is_none());
+    let wide = path(rt.alloc(), &[(SegKind::Seq, &[200000])])?;
+    let whole = attrs(rt.alloc(), Some(wide), None);
+    let wanted = told_in_two(
+        rt.alloc(),
+        &[(SegKind::Seq, &[23456])],
+        &[(SegKind::Seq, &[200000])],
+    )?;
+    assert!(rt; narrow(rt.alloc(), &whole)? == wanted);
     Ok(())
 }
 
@@ -253,19 +274,32 @@ fn by_way_of(alloc: Global, number: u32) -> Result<Update, Fail>
     })
 }
 
+/// An UPDATE is told to a speaker with two octets as this one.
+fn assert_update_told(
+    rt: &(impl Abort + AllocGlobal),
+    number: u32,
+    wanted: &Update,
+) -> Result<(), Fail> {
+    let update = by_way_of(rt.alloc(), number)?;
+    assert!(rt; narrow_update(rt.alloc(), &update)? == *wanted);
+    Ok(())
+}
+
 #[test]
 fn an_update_with_a_wide_number_is_told_in_two_attributes(rt: HostRuntime) -> Result<(), Fail> {
-    let alloc = rt.alloc();
-    let told = narrow_update(alloc, &by_way_of(alloc, 200000)?)?;
-    let mut wanted = by_way_of(alloc, 23456)?;
+    let mut wanted = by_way_of(rt.alloc(), 23456)?;
+    let wide = path(rt.alloc(), &[(SegKind::Seq, &[1, 200000])])?;
     wanted.attrs.as4_path = Some(As4Path {
         partial: false,
-        path: path(alloc, &[(SegKind::Seq, &[1, 200000])])?,
+        path: wide,
     });
-    assert!(rt; told == wanted);
-    let whole = by_way_of(alloc, 65535)?;
-    assert!(rt; narrow_update(alloc, &whole)? == whole);
-    Ok(())
+    assert_update_told(&rt, 200000, &wanted)
+}
+
+#[test]
+fn an_update_of_narrow_numbers_is_told_as_it_is(rt: HostRuntime) -> Result<(), Fail> {
+    let whole = by_way_of(rt.alloc(), 65535)?;
+    assert_update_told(&rt, 65535, &whole)
 }
 
 /// Attributes of unrecognised types.
@@ -305,22 +339,30 @@ fn full(alloc: Global) -> Result<Attrs, AllocError>
     Ok(attrs(alloc, Some(whole), Some(aggregator(200000, false))))
 }
 
-/// Passes too where any one allocation is refused: each call is made again then, on what it was given.
-#[test]
-fn refused_growths_leave_the_attributes_as_they_were(rt: HostRuntime) -> Result<(), Fail> {
-    let alloc = rt.alloc();
-    let whole = match full(alloc) {
-        Err(_) => full(alloc)?,
-        Ok(whole) => whole,
-    };
-    let told = match narrow(alloc, &whole) {
-        Err(_) => narrow(alloc, &whole)?,
-        Ok(told) => told,
-    };
-    let info = match reconcile(alloc, &told) {
-        Err(_) => reconcile(alloc, &told)?,
-        Ok(info) => info,
-    };
+/// Attributes narrowed: a call that is refused is made again.
+fn narrow_again(alloc: Global, whole: &Attrs) -> Result<Attrs, AllocError>
+    requires { HasNoAs4 whole.now }
+{
+    match narrow(alloc, whole) {
+        Err(_) => narrow(alloc, whole),
+        Ok(told) => Ok(told),
+    }
+}
+
+/// A path and an aggregator rebuilt: a call that is refused is made again.
+fn reconcile_again(alloc: Global, told: &Attrs) -> Result<PathInfo, AllocError> {
+    match reconcile(alloc, told) {
+        Err(_) => reconcile(alloc, told),
+        Ok(info) => Ok(info),
+    }
+}
+
+/// The attributes told to a speaker with two octets give back their path and aggregator.
+fn assert_told_back(rt: &(impl Abort + AllocGlobal), whole: &Attrs) -> Result<(), Fail>
+    requires { HasNoAs4 whole.now }
+{
+    let told = narrow_again(rt.alloc(), whole)?;
+    let info = reconcile_again(rt.alloc(), &told)?;
     assert!(rt; info.path == whole.as_path);
     assert!(rt; info.aggregator == whole.aggregator);
     Ok(())
@@ -328,27 +370,48 @@ fn refused_growths_leave_the_attributes_as_they_were(rt: HostRuntime) -> Result<
 
 /// Passes too where any one allocation is refused: each call is made again then, on what it was given.
 #[test]
+fn refused_growths_leave_the_attributes_as_they_were(rt: HostRuntime) -> Result<(), Fail> {
+    let whole = match full(rt.alloc()) {
+        Err(_) => full(rt.alloc())?,
+        Ok(whole) => whole,
+    };
+    assert_told_back(&rt, &whole)
+}
+
+/// A path: where memory is refused, it is made again.
+fn path_again(alloc: Global, parts: &[Part<'_>]) -> Result<AsPath, AllocError> {
+    match path(alloc, parts) {
+        Err(_) => path(alloc, parts),
+        Ok(made) => Ok(made),
+    }
+}
+
+/// Attributes of two paths: where memory is refused, they are made again.
+fn two_paths_again(alloc: Global, old: &[Part<'_>], new: &[Part<'_>]) -> Result<Attrs, AllocError> {
+    match two_paths(alloc, old, new) {
+        Err(_) => two_paths(alloc, old, new),
+        Ok(made) => Ok(made),
+    }
+}
+
+/// Passes too where any one allocation is refused: each call is made again then, on what it was given.
+#[test]
 fn a_refused_growth_loses_no_item(rt: HostRuntime) -> Result<(), Fail> {
     let alloc = rt.alloc();
-    let old: [Part<'_>; 2] = [(SegKind::Set, &[1, 2]), (SegKind::Seq, &[3, 23456])];
-    let new: [Part<'_>; 1] = [(SegKind::Seq, &[200000])];
-    let told = match two_paths(alloc, &old, &new) {
-        Err(_) => two_paths(alloc, &old, &new)?,
-        Ok(told) => told,
-    };
-    let info = match reconcile(alloc, &told) {
-        Err(_) => reconcile(alloc, &told)?,
-        Ok(info) => info,
-    };
-    let parts: [Part<'_>; 3] = [
-        (SegKind::Set, &[1, 2]),
-        (SegKind::Seq, &[3]),
-        (SegKind::Seq, &[200000]),
-    ];
-    let wanted = match path(alloc, &parts) {
-        Err(_) => path(alloc, &parts)?,
-        Ok(wanted) => wanted,
-    };
+    let told = two_paths_again(
+        alloc,
+        &[(SegKind::Set, &[1, 2]), (SegKind::Seq, &[3, 23456])],
+        &[(SegKind::Seq, &[200000])],
+    )?;
+    let info = reconcile_again(alloc, &told)?;
+    let wanted = path_again(
+        alloc,
+        &[
+            (SegKind::Set, &[1, 2]),
+            (SegKind::Seq, &[3]),
+            (SegKind::Seq, &[200000]),
+        ],
+    )?;
     assert!(rt; info.path == Some(wanted));
     Ok(())
 }

@@ -1,11 +1,8 @@
 //! Copies, growths that are refused, and what takes no memory.
 
-use super::values::{no_attrs, path, plain, routes_of, six, ten};
+use super::values::{no_attrs, of_each_type, path};
 use super::*;
-use bgp_attr::{
-    Aggregator, As4Path, Communities, LargeCommunities, MpReach, MpUnreach, Opaque, Origin,
-    SegKind, Why,
-};
+use bgp_attr::{Aggregator, SegKind, Why};
 use bgp_prefix::AsNumber;
 use bgp_wire::TryCopy;
 
@@ -24,107 +21,11 @@ const TWICE: [u8; 66] = [
 ];
 
 /// An aggregator.
-fn aggregator() -> Option<Aggregator> {
-    Some(Aggregator {
-        asn: AsNumber(65000),
-        addr: [192, 0, 2, 1],
-        partial: true,
-    })
-}
-
-/// Two communities.
-fn communities(alloc: Global) -> Result<Communities, AllocError> {
-    Ok(Communities {
-        partial: false,
-        values: List::from_vec(vec![in alloc; 2, 1]?),
-    })
-}
-
-/// One large community.
-fn large(alloc: Global) -> Result<LargeCommunities, AllocError> {
-    Ok(LargeCommunities {
-        partial: false,
-        values: List::from_vec(vec![in alloc; [9, 1, 2]]?),
-    })
-}
-
-/// An attribute of a type that isn't recognised.
-fn others(alloc: Global) -> Result<List<Opaque>, AllocError> {
-    let opaque = Opaque {
-        kind: 99,
-        transitive: true,
-        partial: false,
-        value: List::from_vec(vec![in alloc; 7, 8]?),
-    };
-    Ok(List::from_vec(vec![in alloc; opaque]?))
-}
-
-/// The path of AS numbers that two octets can't hold.
-fn as4_path(alloc: Global) -> Result<As4Path, AllocError> {
-    Ok(As4Path {
-        partial: true,
-        path: path(alloc, SegKind::Seq, &[200_000])?,
-    })
-}
-
-/// 10.0.0.0/8 by way of 192.0.2.1.
-fn reach(alloc: Global) -> Result<MpReach, Fail> {
-    Ok(MpReach::Ip4 {
-        next_hop: [192, 0, 2, 1],
-        nlri: ten(alloc)?,
-    })
-}
-
-/// 2001:db8::/32.
-fn documented(alloc: Global) -> Result<List<Prefix6>, Fail> {
-    six(alloc, [0x20, 0x01, 0x0d, 0xb8])
-}
-
-/// Attributes of each type that takes no memory.
-fn small_attributes(alloc: Global) -> Attrs {
-    Attrs {
-        origin: Some(Origin::Egp),
-        next_hop: Some([192, 0, 2, 1]),
-        med: Some(7),
-        local_pref: Some(100),
-        atomic: true,
-        aggregator: aggregator(),
-        as4_aggregator: aggregator(),
-        ..no_attrs(alloc)
-    }
-}
-
-/// These attributes, with paths.
-fn with_paths(alloc: Global, attrs: Attrs) -> Result<Attrs, AllocError> {
-    let mut attrs = attrs;
-    attrs.as_path = Some(path(alloc, SegKind::Set, &[1, 2])?);
-    attrs.as4_path = Some(as4_path(alloc)?);
-    Ok(attrs)
-}
-
-/// These attributes, with routes.
-fn with_routes(alloc: Global, attrs: Attrs) -> Result<Attrs, Fail> {
-    let mut attrs = attrs;
-    attrs.mp_reach = Some(reach(alloc)?);
-    attrs.mp_unreach = Some(MpUnreach::Ip6(documented(alloc)?));
-    Ok(attrs)
-}
-
-/// These attributes, with communities and others.
-fn with_communities(alloc: Global, attrs: Attrs) -> Result<Attrs, AllocError> {
-    let mut attrs = attrs;
-    attrs.communities = Some(communities(alloc)?);
-    attrs.large = Some(large(alloc)?);
-    attrs.others = others(alloc)?;
-    Ok(attrs)
-}
-
-/// Attributes of every type.
-fn every_attribute(alloc: Global) -> Result<Attrs, Fail> {
-    let attrs = with_paths(alloc, small_attributes(alloc))?;
-    let attrs = with_routes(alloc, attrs)?;
-    Ok(with_communities(alloc, attrs)?)
-}
+const AGGREGATOR: Aggregator = Aggregator {
+    asn: AsNumber(65000),
+    addr: [192, 0, 2, 1],
+    partial: true,
+};
 
 /// A copy of attributes is equal to them; a copy that is refused is made again.
 fn assert_attrs_copied(rt: &(impl Abort + AllocGlobal), attrs: &Attrs) -> Result<(), Fail> {
@@ -170,40 +71,19 @@ fn assert_info_copied(rt: &(impl Abort + AllocGlobal), info: &PathInfo) -> Resul
     Ok(())
 }
 
+/// Attributes of every type, and none.
 #[test]
 fn copies_of_attributes(rt: HostRuntime) -> Result<(), Fail> {
-    let alloc = rt.alloc();
-    let attrs = every_attribute(alloc)?;
-    assert_attrs_copied(&rt, &attrs)?;
-    let none = no_attrs(alloc);
-    assert_attrs_copied(&rt, &none)?;
-    assert!(rt; none != attrs);
-    Ok(())
-}
-
-#[test]
-fn copies_of_updates(rt: HostRuntime) -> Result<(), Fail> {
-    let update = plain(rt.alloc())?;
-    assert_update_copied(&rt, &update)
-}
-
-#[test]
-fn copies_of_routes(rt: HostRuntime) -> Result<(), Fail> {
-    let alloc = rt.alloc();
-    let routes = Routes {
-        ip4: ten(alloc)?,
-        ip6: documented(alloc)?,
-    };
-    assert_routes_copied(&rt, &routes)?;
-    assert!(rt; routes != routes_of(alloc, ten(alloc)?));
-    Ok(())
+    let update = of_each_type(&rt)?;
+    assert_attrs_copied(&rt, &update.attrs)?;
+    assert_attrs_copied(&rt, &no_attrs(rt.alloc()))
 }
 
 #[test]
 fn copies_of_paths(rt: HostRuntime) -> Result<(), Fail> {
     let info = PathInfo {
         path: Some(path(rt.alloc(), SegKind::Seq, &[1, 2])?),
-        aggregator: aggregator(),
+        aggregator: Some(AGGREGATOR),
     };
     assert_info_copied(&rt, &info)?;
     let none = PathInfo {
@@ -215,13 +95,17 @@ fn copies_of_paths(rt: HostRuntime) -> Result<(), Fail> {
 
 #[test]
 fn copies_of_notes(rt: HostRuntime) -> Result<(), Fail> {
-    let note = values::note(24, 8, Why::Cut);
+    let note = Note {
+        at: 24,
+        kind: 8,
+        why: Why::Cut,
+    };
     assert!(rt; note.try_copy(rt.alloc())? == note);
     Ok(())
 }
 
 /// A body read, and viewed and then owned: a call that is refused is made again.
-fn read_again(
+pub(super) fn read_again(
     rt: &(impl Abort + AllocGlobal),
     ctx: &Context,
     body: &[u8],
@@ -301,7 +185,12 @@ fn assert_withdrawal(rt: &impl Abort, verdict: &Verdict) -> Result<(), Fail> {
         return Err("withdrawn".into());
     };
     assert_four_routes(rt, routes);
-    assert!(rt; notes.as_slice() == [values::note(6, 1, Why::Value)].as_slice());
+    let wanted = Note {
+        at: 6,
+        kind: 1,
+        why: Why::Value,
+    };
+    assert!(rt; notes.as_slice() == [wanted].as_slice());
     Ok(())
 }
 
@@ -314,8 +203,21 @@ fn a_refused_growth_of_a_withdrawal(rt: HostRuntime) -> Result<(), Fail> {
     assert_withdrawal(&rt, &verdict)
 }
 
+/// A reset of code 3, subcode 1, without information.
+fn assert_malformed(rt: &impl Abort, view: &View<'_>) -> Result<(), Fail> {
+    let View::Reset(told) = view else {
+        return Err("a reset".into());
+    };
+    assert!(rt; (told.code, told.subcode) == (3, 1));
+    assert!(rt; told.info.is_empty());
+    Ok(())
+}
+
 /// Passes too where every allocation is refused.
 #[test]
 fn a_reset_takes_no_memory(rt: HostRuntime) -> Result<(), Fail> {
-    assert_reset(&rt, &session(true, false, true), &TWICE, 1, &[])
+    let view = view_update(&session(true, false, true), &TWICE);
+    assert_malformed(&rt, &view)?;
+    assert!(rt; matches!(view.own(rt.alloc())?, Verdict::Reset(_)));
+    Ok(())
 }

@@ -1,12 +1,46 @@
 //! Values that tests compare with.
 
 use super::*;
-use bgp_attr::{AsPath, Origin, SegKind, Segment, Why};
+use bgp_attr::{AsPath, Origin, SegKind, Segment};
 use bgp_prefix::AsNumber;
 
-/// A note.
-pub(super) fn note(at: u16, kind: u8, why: Why) -> Note {
-    Note { at, kind, why }
+/// An UPDATE of each type of attribute, and of two types that aren't recognised, on a session with AS numbers of two octets.
+pub(super) const EACH_TYPE: &[u8] = &[
+    0, 2, 8, 9, 0, 125, // Withdrawn Routes, and the length of what follows
+    0x80, 14, 11, 0, 1, 1, 4, 192, 0, 2, 1, 0, 8, 10, // MP_REACH_NLRI
+    0x80, 15, 8, 0, 2, 1, 32, 0x20, 0x01, 0x0d, 0xb8, // MP_UNREACH_NLRI
+    0x40, 1, 1, 1, // ORIGIN
+    0x40, 2, 6, 1, 2, 0, 1, 0, 2, // AS_PATH
+    0x40, 3, 4, 192, 0, 2, 1, // NEXT_HOP
+    0x80, 4, 4, 0, 0, 0, 7, // MULTI_EXIT_DISC
+    0x40, 5, 4, 0, 0, 0, 100, // LOCAL_PREF
+    0x40, 6, 0, // ATOMIC_AGGREGATE
+    0xe0, 7, 6, 0xfd, 0xe8, 192, 0, 2, 1, // AGGREGATOR
+    0xc0, 8, 8, 0, 0, 0, 2, 0, 0, 0, 1, // COMMUNITIES
+    0x80, 13, 0, // one that isn't recognised
+    0xe0, 17, 6, 2, 1, 0, 3, 0x0d, 0x40, // AS4_PATH
+    0xe0, 18, 8, 0, 0, 0xfd, 0xe8, 192, 0, 2, 1, // AS4_AGGREGATOR
+    0xc0, 32, 12, 0, 0, 0, 9, 0, 0, 0, 1, 0, 0, 0, 2, // LARGE_COMMUNITY
+    0xc0, 99, 2, 7, 8, // another
+    8, 10,
+];
+
+/// A session inside an AS, with AS numbers of two octets and both families.
+pub(super) const NARROW: Context = Context {
+    internal: true,
+    as4: false,
+    ip4: true,
+    ip6: true,
+    hold: 90,
+};
+
+/// The UPDATE of each type: a reading that is refused is made again.
+pub(super) fn of_each_type(rt: &(impl Abort + AllocGlobal)) -> Result<Update, Fail> {
+    let verdict = super::memory::read_again(rt, &NARROW, EACH_TYPE)?;
+    let Verdict::Take(update, _) = verdict else {
+        return Err("taken".into());
+    };
+    Ok(update)
 }
 
 /// A path of one segment.
@@ -24,37 +58,10 @@ pub(super) fn path(alloc: Global, kind: SegKind, numbers: &[u32]) -> Result<AsPa
     })
 }
 
-/// IPv4 prefixes.
-pub(super) fn four(alloc: Global, wanted: &[(u8, [u8; 4])]) -> Result<List<Prefix4>, Fail> {
-    let mut prefixes = List::new(alloc);
-    for (len, addr) in wanted {
-        prefixes.push(Prefix4::new(*len, *addr).ok_or("a prefix")?)?;
-    }
-    Ok(prefixes)
-}
-
 /// 10.0.0.0/8.
 pub(super) fn ten(alloc: Global) -> Result<List<Prefix4>, Fail> {
-    four(alloc, &[(8, [10, 0, 0, 0])])
-}
-
-/// An IPv6 prefix of 32 bits.
-pub(super) fn six(alloc: Global, high: [u8; 4]) -> Result<List<Prefix6>, Fail> {
-    let mut addr = [0u8; 16];
-    addr[0] = high[0];
-    addr[1] = high[1];
-    addr[2] = high[2];
-    addr[3] = high[3];
-    let prefix = Prefix6::new(32, addr).ok_or("a prefix")?;
+    let prefix = Prefix4::new(8, [10, 0, 0, 0]).ok_or("a prefix")?;
     Ok(List::from_vec(vec![in alloc; prefix]?))
-}
-
-/// Routes of IPv4 alone.
-pub(super) fn routes_of(alloc: Global, ip4: List<Prefix4>) -> Routes {
-    Routes {
-        ip4,
-        ip6: List::new(alloc),
-    }
 }
 
 /// No attributes.

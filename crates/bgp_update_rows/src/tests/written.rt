@@ -1,41 +1,11 @@
 //! What is written, and what isn't.
 
-use super::values::{announced, four, no_attrs, path, plain, plain_attrs, six, ten};
+use super::values::{
+    EACH_TYPE, NARROW, announced, no_attrs, of_each_type, path, plain, plain_attrs,
+};
 use super::*;
-use bgp_attr::{
-    Aggregator, As4Path, Communities, LargeCommunities, MpReach, MpUnreach, Opaque, Origin, SegKind,
-};
+use bgp_attr::{Aggregator, Communities, LargeCommunities, MpUnreach, Opaque, SegKind};
 use bgp_prefix::AsNumber;
-
-/// An UPDATE of each type of attribute, and of two types that aren't recognised, on a session with AS numbers of two octets.
-const EACH_TYPE: &[u8] = &[
-    0, 2, 8, 9, 0, 125, // Withdrawn Routes, and the length of what follows
-    0x80, 14, 11, 0, 1, 1, 4, 192, 0, 2, 1, 0, 8, 10, // MP_REACH_NLRI
-    0x80, 15, 8, 0, 2, 1, 32, 0x20, 0x01, 0x0d, 0xb8, // MP_UNREACH_NLRI
-    0x40, 1, 1, 1, // ORIGIN
-    0x40, 2, 6, 1, 2, 0, 1, 0, 2, // AS_PATH
-    0x40, 3, 4, 192, 0, 2, 1, // NEXT_HOP
-    0x80, 4, 4, 0, 0, 0, 7, // MULTI_EXIT_DISC
-    0x40, 5, 4, 0, 0, 0, 100, // LOCAL_PREF
-    0x40, 6, 0, // ATOMIC_AGGREGATE
-    0xe0, 7, 6, 0xfd, 0xe8, 192, 0, 2, 1, // AGGREGATOR
-    0xc0, 8, 8, 0, 0, 0, 2, 0, 0, 0, 1, // COMMUNITIES
-    0x80, 13, 0, // one that isn't recognised
-    0xe0, 17, 6, 2, 1, 0, 3, 0x0d, 0x40, // AS4_PATH
-    0xe0, 18, 8, 0, 0, 0xfd, 0xe8, 192, 0, 2, 1, // AS4_AGGREGATOR
-    0xc0, 32, 12, 0, 0, 0, 9, 0, 0, 0, 1, 0, 0, 0, 2, // LARGE_COMMUNITY
-    0xc0, 99, 2, 7, 8, // another
-    8, 10,
-];
-
-/// A session inside an AS, with AS numbers of two octets and both families.
-const NARROW: Context = Context {
-    internal: true,
-    as4: false,
-    ip4: true,
-    ip6: true,
-    hold: 90,
-};
 
 /// An aggregator whose Partial bit is set.
 fn aggregator(asn: u32) -> Option<Aggregator> {
@@ -56,77 +26,19 @@ fn opaque(alloc: Global, kind: u8, transitive: bool, value: &[u8]) -> Result<Opa
     })
 }
 
-/// These attributes, with those of small values.
-fn with_small(attrs: Attrs) -> Attrs {
-    let mut attrs = attrs;
-    attrs.origin = Some(Origin::Egp);
-    attrs.next_hop = Some([192, 0, 2, 1]);
-    attrs.med = Some(7);
-    attrs.local_pref = Some(100);
-    attrs.atomic = true;
-    attrs.aggregator = aggregator(65000);
-    attrs.as4_aggregator = aggregator(65000);
-    attrs
-}
-
-/// These attributes, with paths and routes.
-fn with_rows(alloc: Global, attrs: Attrs) -> Result<Attrs, Fail> {
-    let mut attrs = attrs;
-    attrs.as_path = Some(path(alloc, SegKind::Set, &[1, 2])?);
-    attrs.as4_path = Some(As4Path {
-        partial: true,
-        path: path(alloc, SegKind::Seq, &[200_000])?,
-    });
-    attrs.mp_reach = Some(MpReach::Ip4 {
-        next_hop: [192, 0, 2, 1],
-        nlri: ten(alloc)?,
-    });
-    attrs.mp_unreach = Some(MpUnreach::Ip6(six(alloc, [0x20, 0x01, 0x0d, 0xb8])?));
-    Ok(attrs)
-}
-
-/// These attributes, with communities and two of types that aren't recognised.
-fn with_lists(alloc: Global, attrs: Attrs) -> Result<Attrs, AllocError> {
-    let mut attrs = attrs;
-    attrs.communities = Some(Communities {
-        partial: false,
-        values: List::from_vec(vec![in alloc; 2, 1]?),
-    });
-    attrs.large = Some(LargeCommunities {
-        partial: false,
-        values: List::from_vec(vec![in alloc; [9, 1, 2]]?),
-    });
-    let low = opaque(alloc, 13, false, &[])?;
-    let high = opaque(alloc, 99, true, &[7, 8])?;
-    attrs.others = List::from_vec(vec![in alloc; low, high]?);
-    Ok(attrs)
-}
-
-/// The UPDATE of each type.
-fn of_each_type(alloc: Global) -> Result<Update, Fail> {
-    let attrs = with_rows(alloc, with_small(no_attrs(alloc)))?;
-    let attrs = with_lists(alloc, attrs)?;
-    Ok(Update {
-        withdrawn: four(alloc, &[(8, [9, 0, 0, 0])])?,
-        attrs,
-        nlri: ten(alloc)?,
-    })
-}
-
-/// An UPDATE is written behind what is there, as these octets, which are taken as itself.
+/// An UPDATE is written behind what is there, as these octets.
 fn assert_written(
     rt: &(impl Abort + AllocGlobal),
     ctx: &Context,
-    update: Update,
+    update: &Update,
     wanted: &[u8],
 ) -> Result<(), Fail> {
-    let alloc = rt.alloc();
-    let mut out = vec![in alloc; 1, 2]?;
-    assert!(rt; write_update(ctx, &update, &mut out) == Ok(()));
+    let mut out = vec![in rt.alloc(); 1, 2]?;
+    assert!(rt; write_update(ctx, update, &mut out) == Ok(()));
     assert!(rt; out.len() >= 2);
     assert!(rt; &out[..2] == [1, 2].as_slice());
     assert!(rt; &out[2..] == wanted);
-    assert_taken(rt, ctx, wanted, update, &[])
+    Ok(())
 }
 
 /// An UPDATE is refused, and nothing is appended.
@@ -162,14 +74,14 @@ fn the_plain_update_is_written(rt: HostRuntime) -> Result<(), Fail> {
     assert_written(
         &rt,
         &session(true, false, false),
-        plain(rt.alloc())?,
+        &plain(rt.alloc())?,
         &wanted,
     )
 }
 
 #[test]
 fn each_type_is_written_in_its_place(rt: HostRuntime) -> Result<(), Fail> {
-    assert_written(&rt, &NARROW, of_each_type(rt.alloc())?, EACH_TYPE)
+    assert_written(&rt, &NARROW, &of_each_type(&rt)?, EACH_TYPE)
 }
 
 #[test]
@@ -180,58 +92,87 @@ fn an_end_of_rib_is_written(rt: HostRuntime) -> Result<(), Fail> {
         attrs: no_attrs(alloc),
         nlri: List::new(alloc),
     };
-    assert_written(&rt, &session(true, false, false), update, &[0, 0, 0, 0])
+    assert_written(&rt, &session(true, false, false), &update, &[0, 0, 0, 0])
 }
 
 #[test]
-fn routes_need_attributes(rt: HostRuntime) -> Result<(), Fail> {
-    let alloc = rt.alloc();
-    let ctx = session(true, false, false);
-    let mut attrs = plain_attrs(alloc)?;
+fn routes_need_an_origin(rt: HostRuntime) -> Result<(), Fail> {
+    let mut attrs = plain_attrs(rt.alloc())?;
     attrs.origin = None;
-    assert_not_valid(&rt, &ctx, attrs, Invalid::Missing)?;
-    let mut attrs = plain_attrs(alloc)?;
-    attrs.as_path = None;
-    assert_not_valid(&rt, &ctx, attrs, Invalid::Missing)?;
-    let mut attrs = plain_attrs(alloc)?;
-    attrs.next_hop = None;
-    assert_not_valid(&rt, &ctx, attrs, Invalid::Missing)
+    assert_not_valid(&rt, &session(true, false, false), attrs, Invalid::Missing)
 }
 
+#[test]
+fn routes_need_a_path(rt: HostRuntime) -> Result<(), Fail> {
+    let mut attrs = plain_attrs(rt.alloc())?;
+    attrs.as_path = None;
+    assert_not_valid(&rt, &session(true, false, false), attrs, Invalid::Missing)
+}
+
+#[test]
+fn routes_need_a_next_hop(rt: HostRuntime) -> Result<(), Fail> {
+    let mut attrs = plain_attrs(rt.alloc())?;
+    attrs.next_hop = None;
+    assert_not_valid(&rt, &session(true, false, false), attrs, Invalid::Missing)
+}
+
+/// The plain attributes with a LOCAL_PREF.
+fn preferred(alloc: Global) -> Result<Attrs, AllocError> {
+    let mut attrs = plain_attrs(alloc)?;
+    attrs.local_pref = Some(100);
+    Ok(attrs)
+}
+
+/// The first of two reasons is told.
 #[test]
 fn next_hop_needs_routes(rt: HostRuntime) -> Result<(), Fail> {
     let alloc = rt.alloc();
-    let ctx = session(true, false, false);
-    let mut attrs = plain_attrs(alloc)?;
-    // The first of two reasons is told.
-    attrs.local_pref = Some(100);
     let update = Update {
         withdrawn: List::new(alloc),
-        attrs,
+        attrs: preferred(alloc)?,
         nlri: List::new(alloc),
     };
-    assert_refused(&rt, &ctx, &update, WriteFault::NotValid(Invalid::NextHop))?;
-    let mut attrs = plain_attrs(alloc)?;
-    attrs.local_pref = Some(100);
-    assert_not_valid(&rt, &ctx, attrs, Invalid::LocalPref)
+    let ctx = session(true, false, false);
+    assert_refused(&rt, &ctx, &update, WriteFault::NotValid(Invalid::NextHop))
+}
+
+#[test]
+fn a_preference_stays_inside_an_as(rt: HostRuntime) -> Result<(), Fail> {
+    let attrs = preferred(rt.alloc())?;
+    assert_not_valid(&rt, &session(true, false, false), attrs, Invalid::LocalPref)
+}
+
+/// A path of this number alone isn't written on a session.
+fn assert_path_refused(
+    rt: &(impl Abort + AllocGlobal),
+    as4: bool,
+    number: u32,
+    why: Invalid,
+) -> Result<(), Fail> {
+    let mut attrs = plain_attrs(rt.alloc())?;
+    attrs.as_path = Some(path(rt.alloc(), SegKind::Seq, &[number])?);
+    assert_not_valid(rt, &session(as4, false, false), attrs, why)
 }
 
 #[test]
 fn numbers_need_their_octets(rt: HostRuntime) -> Result<(), Fail> {
-    let alloc = rt.alloc();
-    let narrow = session(false, false, false);
-    let mut attrs = plain_attrs(alloc)?;
-    attrs.as_path = Some(path(alloc, SegKind::Seq, &[65536])?);
-    assert_not_valid(&rt, &narrow, attrs, Invalid::AsWidth)?;
-    let mut attrs = plain_attrs(alloc)?;
+    assert_path_refused(&rt, false, 65536, Invalid::AsWidth)?;
+    assert_path_refused(&rt, false, 0, Invalid::AsZero)?;
+    assert_path_refused(&rt, true, 0, Invalid::AsZero)
+}
+
+#[test]
+fn an_aggregator_needs_its_octets(rt: HostRuntime) -> Result<(), Fail> {
+    let mut attrs = plain_attrs(rt.alloc())?;
     attrs.aggregator = aggregator(65536);
-    assert_not_valid(&rt, &narrow, attrs, Invalid::AsWidth)?;
-    let mut attrs = plain_attrs(alloc)?;
+    assert_not_valid(&rt, &session(false, false, false), attrs, Invalid::AsWidth)
+}
+
+#[test]
+fn speakers_with_four_octets_are_told_no_as4_aggregator(rt: HostRuntime) -> Result<(), Fail> {
+    let mut attrs = plain_attrs(rt.alloc())?;
     attrs.as4_aggregator = aggregator(65536);
-    assert_not_valid(&rt, &session(true, false, false), attrs, Invalid::As4)?;
-    let mut attrs = plain_attrs(alloc)?;
-    attrs.as_path = Some(path(alloc, SegKind::Seq, &[0])?);
-    assert_not_valid(&rt, &narrow, attrs, Invalid::AsZero)
+    assert_not_valid(&rt, &session(true, false, false), attrs, Invalid::As4)
 }
 
 /// A number above 65535 is told as it is only where AS numbers have four octets (RFC 6793, section 4.2.2).
@@ -315,16 +256,30 @@ fn long(alloc: Global, defaults: usize) -> Result<Update, Fail> {
 }
 
 #[test]
-fn a_message_has_at_most_4096_octets(rt: HostRuntime) -> Result<(), Fail> {
-    let alloc = rt.alloc();
-    let ctx = session(true, false, false);
-    let mut out = Vec::new(alloc);
-    assert!(rt; write_update(&ctx, &long(alloc, 1)?, &mut out) == Ok(()));
+fn a_message_of_4096_octets_is_written(rt: HostRuntime) -> Result<(), Fail> {
+    let update = long(rt.alloc(), 1)?;
+    let mut out = Vec::new(rt.alloc());
+    assert!(rt; write_update(&session(true, false, false), &update, &mut out) == Ok(()));
     assert!(rt; out.len() == 4077);
-    assert_refused(&rt, &ctx, &long(alloc, 2)?, WriteFault::TooLong)?;
-    // What isn't valid is told first.
-    let mut update = long(alloc, 2)?;
+    Ok(())
+}
+
+#[test]
+fn a_message_of_4097_octets_is_too_long(rt: HostRuntime) -> Result<(), Fail> {
+    let update = long(rt.alloc(), 2)?;
+    assert_refused(
+        &rt,
+        &session(true, false, false),
+        &update,
+        WriteFault::TooLong,
+    )
+}
+
+#[test]
+fn what_is_not_valid_is_told_before_what_is_too_long(rt: HostRuntime) -> Result<(), Fail> {
+    let mut update = long(rt.alloc(), 2)?;
     update.attrs.next_hop = Some([192, 0, 2, 1]);
+    let ctx = session(true, false, false);
     assert_refused(&rt, &ctx, &update, WriteFault::NotValid(Invalid::NextHop))
 }
 
@@ -332,14 +287,7 @@ fn a_message_has_at_most_4096_octets(rt: HostRuntime) -> Result<(), Fail> {
 #[test]
 fn a_refused_growth_appends_nothing(rt: HostRuntime) -> Result<(), Fail> {
     let alloc = rt.alloc();
-    assert!(rt; EACH_TYPE.len() <= 4077);
-    let verdict = match read_update(alloc, &NARROW, EACH_TYPE) {
-        Err(_) => read_update(alloc, &NARROW, EACH_TYPE)?,
-        Ok(verdict) => verdict,
-    };
-    let Verdict::Take(update, _) = verdict else {
-        return Err("taken".into());
-    };
+    let update = of_each_type(&rt)?;
     let mut out = Vec::new(alloc);
     if let Err(fault) = write_update(&NARROW, &update, &mut out) {
         assert!(rt; fault == WriteFault::Memory);
