@@ -22,6 +22,7 @@ use std::alloc::{AllocError, Global};
 ///
 /// `has_nlri` says that the NLRI field of the message isn't empty.
 #[tactic(auto, unfolding(crate::specs::Judgement::tests_of, crate::specs::Value::value_of))]
+#[inline(always)]
 pub fn judge_view<'a>(ctx: &Context, has_nlri: bool, tlv: &Tlv<'a>) -> JudgedView<'a>
     requires { length tlv.now.whole.now ≤ 4075 }
     ensures { judged_value result ≡ judgement ctx.now has_nlri (tlv_value tlv.now) }

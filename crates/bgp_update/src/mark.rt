@@ -59,6 +59,7 @@ impl<'a> MarkIter<'a> {
     }
 
     /// The next mark. The types that were seen and those still to come stay the same.
+    #[inline(always)]
     pub(crate) fn next_mark(&mut self) -> Option<MarkView<'a>>
         ensures steps { YieldsFirstBy mark_value marks_left self.old result self.new }
         ensures types { (types : ℕ → Bool) → HasTypes self.old types → HasTypes self.new types }

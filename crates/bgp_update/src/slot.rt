@@ -63,7 +63,7 @@ fn other(others: &[Opaque], kind: u8) -> Option<&Opaque>
 
 /// The attribute of a type: at most one.
 #[tactic(auto, unfolding(crate::specs::Slots::slot))]
-#[inline(never)]
+#[inline(always)]
 pub(crate) fn slot(attrs: &Attrs, kind: u8) -> Option<AttrRef<'_>>
     ensures { present ref_value result ≡ slot attrs.now kind }
 {
