@@ -164,6 +164,32 @@ fn writers_that_fail(rt: HostRuntime) {
     }
 }
 
+/// Passes too where any one allocation is refused: what was written then is a front of the report, and the same run can be made again.
+#[test]
+fn a_refused_growth_ends_a_run(rt: HostRuntime) -> Result<(), Fail> {
+    for (script, wanted) in [
+        (TWO_SPEAKERS, TWO_SPEAKERS_TEXT),
+        (DISAGREEMENT, DISAGREEMENT_TEXT),
+    ] {
+        assert!(rt; script.len() <= SCRIPT_MAX);
+        // (room for all of it, so that no growth of the writer's is refused)
+        let Ok(mut text) = Vec::with_capacity(rt.alloc(), wanted.len()) else {
+            return Ok(());
+        };
+        let outcome = run_loop(rt.alloc(), script.as_bytes(), &mut MemoryWire, &mut text);
+        if outcome.is_err() {
+            assert!(rt; outcome == Err(ToolFault::Memory));
+            assert!(rt; status(&outcome) == 3);
+            assert!(rt; wanted.as_bytes().starts_with(text.as_slice()));
+            text.clear();
+            let again = run_loop(rt.alloc(), script.as_bytes(), &mut MemoryWire, &mut text);
+            assert!(rt; again.is_ok());
+        }
+        assert!(rt; text.as_slice() == wanted.as_bytes());
+    }
+    Ok(())
+}
+
 #[test]
 fn a_file_that_is_not_there(rt: HostRuntime) {
     for tcp in [false, true] {
