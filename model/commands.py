@@ -1,0 +1,181 @@
+"""What the commands of bgp print: each gives what is written, what is told on standard error, and the status."""
+from wire import *
+
+NAMES = {OPEN: "OPEN", UPDATE: "UPDATE", NOTIFICATION: "NOTIFICATION", KEEPALIVE: "KEEPALIVE"}
+DIGITS = b"0123456789abcdefABCDEF"
+
+
+def ip4(octets):
+    return ".".join(map(str, octets))
+
+
+def ip6(octets):
+    return ":".join(octets[at : at + 2].hex() for at in range(0, 16, 2))
+
+
+def prefix(it):
+    width, length, address = it
+    return f"{(ip4 if width == 32 else ip6)(spelled(width // 8, address))}/{length}"
+
+
+def info(octets):
+    return octets.hex() or "-"
+
+
+def path_text(path):
+    return " ".join(" ".join(["set" if kind == 1 else "seq", *map(str, numbers)]) for kind, numbers in path) or "-"
+
+
+def note_lines(notes):
+    return [f"  note {at} {kind} {why}" for at, kind, why in notes]
+
+
+def mp_lines(kept):
+    lines = []
+    if MP_REACH in kept:
+        family, hop, prefixes = kept[MP_REACH]
+        link = f" link {ip6(hop[16:])}" if len(hop) == 32 else ""
+        lines.append(f"  mp_reach ip4 next {ip4(hop)}" if family == 1 else f"  mp_reach ip6 next {ip6(hop[:16])}{link}")
+        lines += [f"  mp_nlri {prefix(it)}" for it in prefixes]
+    if MP_UNREACH in kept:
+        lines.append(f"  mp_unreach {'ip4' if kept[MP_UNREACH][0] == 1 else 'ip6'}")
+        lines += [f"  mp_withdrawn {prefix(it)}" for it in kept[MP_UNREACH][2]]
+    return lines
+
+
+def attribute_line(kind, it):
+    if kind == ORIGIN:
+        return f"  origin {('IGP', 'EGP', 'INCOMPLETE')[it]}"
+    if kind in (AS_PATH, AS4_PATH):
+        return f"  as_path {path_text(it)}" if kind == AS_PATH else f"  as4_path {path_text(it[0])}"
+    if kind == NEXT_HOP:
+        return f"  next_hop {ip4(it)}"
+    if kind in (MED, LOCAL_PREF):
+        return f"  {'med' if kind == MED else 'local_pref'} {it}"
+    if kind == ATOMIC:
+        return "  atomic"
+    if kind in (AGGREGATOR, AS4_AGGREGATOR):
+        return f"  {'aggregator' if kind == AGGREGATOR else 'as4_aggregator'} {it[0]} {ip4(it[1])}"
+    if kind == COMMUNITIES:
+        return "  communities" + "".join(f" {part[0] >> 16}:{part[0] & 65535}" for part in it[0])
+    if kind == LARGE:
+        return "  large" + "".join(f" {':'.join(map(str, part))}" for part in it[0])
+    flags = "t" * it[0] + "p" * it[1] or "-"
+    return f"  attr {kind} {flags} {info(it[2])}"
+
+
+def update_lines(withdrawn, kept, nlri, notes):
+    order = [*range(ORIGIN, COMMUNITIES + 1), LARGE, AS4_PATH, AS4_AGGREGATOR, *sorted(it for it in kept if it not in FLAGS)]
+    lines = [f"  withdrawn {prefix(it)}" for it in withdrawn] + mp_lines(kept)
+    lines += [attribute_line(kind, kept[kind]) for kind in order if kind in kept]
+    return lines + [f"  nlri {prefix(it)}" for it in nlri] + note_lines(notes)
+
+
+def open_lines(field, hold, identifier, capabilities):
+    lines = [f"  as {field}", f"  hold {hold}", f"  id {ip4(identifier)}"]
+    for name, *parts in capabilities:
+        lines.append(f"  cap {parts[0]} {info(parts[1])}" if name == "other" else f"  cap {name} {' '.join(map(str, parts))}")
+    return lines
+
+
+def outcome_lines(at, octets, answer):
+    name, *parts = answer
+    if not octets:
+        return [f"{at} 0 HEADER reset {parts[0]}/{parts[1]} {info(parts[2])}"]
+    first = f"{at} {len(octets)} {NAMES[octets[18]]}"
+    if name == "reset":
+        return [f"{first} reset {parts[0]}/{parts[1]} {info(parts[2])}"]
+    if name == "told":
+        return [f"{first} {parts[0]}/{parts[1]} {info(parts[2])}"]
+    if name == "open":
+        return [first, *open_lines(*parts)]
+    if name == "take":
+        return [f"{first} take", *update_lines(*parts)]
+    if name == "withdraw":
+        return [f"{first} withdraw", *(f"  route {prefix(it)}" for it in parts[0]), *note_lines(parts[1])]
+    return [first]
+
+
+def end_line(end):
+    return f"end {end}" if isinstance(end, str) else f"end wait {end}"
+
+
+def text(lines):
+    return "".join(f"{it}\n" for it in lines).encode()
+
+
+def octets_in(digits):
+    """The octets of the pairs before the first bad character, and its place, or None."""
+    found, at = bytearray(), 0
+    while at < len(digits):
+        if digits[at] in b" \r\n":
+            at += 1
+        elif digits[at] not in DIGITS or at + 1 == len(digits):
+            return bytes(found), at
+        elif digits[at + 1] not in DIGITS:
+            return bytes(found), at + 1
+        else:
+            found.append(int(digits[at : at + 2], 16))
+            at += 2
+    return bytes(found), None
+
+
+def told(words):
+    return f"bgp: {words}\n".encode()
+
+
+def report(context, given, is_hex, lines_of):
+    """What show or check comes to: lines_of gives the lines in front of the end's, and those that a bad character leaves standing."""
+    octets, bad = octets_in(given) if is_hex else (given, None)
+    outcomes, end = seen(context, octets)
+    lines, standing = lines_of(outcomes)
+    if bad is not None and not isinstance(end, str):
+        return text(standing), told(f"bad hex at {bad}"), 1
+    is_clean = end == 0 and all(it[2][0] not in ("withdraw", "reset") for it in outcomes)
+    return text([*lines, end_line(end)]), b"", int(not is_clean)
+
+
+def show(context, given, is_hex=False):
+    def lines_of(outcomes):
+        lines = [line for it in outcomes for line in outcome_lines(*it)]
+        return lines, lines
+
+    return report(context, given, is_hex, lines_of)
+
+
+def check(context, given, is_hex=False):
+    def lines_of(outcomes):
+        names = [answer[0] for _, _, answer in outcomes]
+        withdrawn, resets = names.count("withdraw"), names.count("reset")
+        messages = sum(1 for _, octets, _ in outcomes if octets)
+        return [f"messages {messages} took {len(names) - withdrawn - resets} withdraw {withdrawn} reset {resets}"], []
+
+    return report(context, given, is_hex, lines_of)
+
+
+def to_hex(given):
+    found, rest, fault = frames(given)
+    lines = [octets.hex() for _, octets in found]
+    if fault:
+        lines.append(f"fault {fault[1]}/{fault[2]} {info(fault[3])}")
+    elif given[rest:]:
+        lines.append(f"rest {given[rest:].hex()}")
+    return text(lines), b"", int(bool(given[rest:]))
+
+
+def from_hex(given):
+    octets, bad = octets_in(given)
+    return (octets, b"", 0) if bad is None else (octets, told(f"bad hex at {bad}"), 1)
+
+
+def narrow(context, given):
+    """The context has AS numbers of four octets."""
+    outcomes, end = seen(context, given)
+    target, written = Context(context.internal, False, context.ip4, context.ip6), b""
+    for at, octets, (name, *parts) in outcomes:
+        if name == "take":
+            octets = write_update(target, parts[0], narrowed(parts[1]), parts[2])
+        if name in ("reset", "withdraw") or octets is None:
+            return written, told(f"cannot narrow at {at}"), 1
+        written += octets
+    return (written, told(f"cannot narrow at {len(given) - end}"), 1) if end else (written, b"", 0)

@@ -1,0 +1,285 @@
+"""Two speakers that are joined by two pipes, and the scripts of `bgp loop`. A model, for comparison."""
+import re
+
+from commands import text, told
+from wire import *
+
+UP = ("OpenSent", "OpenConfirm", "Established")
+RETRY_TIME, OPEN_HOLD_TIME = 120, 240
+
+
+class Config:
+    def __init__(self, local, peer, identifier, hold, families):
+        self.local, self.peer, self.identifier, self.hold = local, peer, identifier, hold
+        self.as4, self.ip4, self.ip6 = families
+
+    def is_refused(self):
+        is_wide = self.local > 65535 and not self.as4
+        return 0 in (self.local, self.peer) or self.identifier == bytes(4) or self.hold in (1, 2) or is_wide
+
+    def own_open(self):
+        """The whole message of the speaker's own OPEN."""
+        inside = [b"\1\4\0\1\0\1"] * self.ip4 + [b"\1\4\0\2\0\1"] * self.ip6 + [b"\x41\4" + spelled(4, self.local)] * self.as4
+        capabilities = b"".join(inside)
+        parameters = bytes([2, len(capabilities)]) + capabilities if capabilities else b""
+        field = self.local if self.local < 65536 else AS_TRANS
+        return message(OPEN, b"\4" + spelled(2, field) + spelled(2, self.hold) + self.identifier + bytes([len(parameters)]) + parameters)
+
+    def agree(self, field, hold, identifier, capabilities):
+        """The context with a peer of this OPEN, or a reset."""
+        wide = [it[1] for it in capabilities if it[0] == "as4"]
+        if (wide or [field])[0] != self.peer:
+            return reset(2, 2)
+        if self.local == self.peer and identifier == self.identifier:
+            return reset(2, 3)
+        offers = [("multi", afi, 1) in capabilities for afi in (1, 2)]
+        return Context(self.local == self.peer, self.as4 and bool(wide), self.ip4 and offers[0], self.ip6 and offers[1], min(self.hold, hold))
+
+
+class Session:
+    """One end. Each call gives its actions: of ("say", octets), ("told", code, subcode), "close", "heard", "withdrawn"."""
+
+    def __init__(self, config):
+        self.config, self.state, self.context, self.timers, self.held = config, "Idle", None, set(), b""
+
+    def leave(self):
+        self.state, self.context, self.timers, self.held = "Idle", None, set(), b""
+        return []
+
+    def end(self, fault):
+        _, code, subcode, octets = fault
+        self.leave()
+        return [("told", code, subcode), ("say", message(NOTIFICATION, bytes([code, subcode]) + octets)), "close"]
+
+    def event(self, name, timer=None):
+        if name == "expired":
+            if timer not in self.timers:
+                return []
+            self.timers.discard(timer)
+        if self.state == "Idle":
+            if name == "start":
+                self.state, self.timers = "Connect", {"retry"}
+            return []
+        return self.up_event(name, timer) if self.state in UP else self.early_event(name, timer)
+
+    def early_event(self, name, timer):
+        """In Connect and Active."""
+        if name == "connected":
+            self.state, self.timers = "OpenSent", {"hold"}
+            return [("say", self.config.own_open())]
+        if name == "expired" and timer == "retry":
+            closes = ["close"] * (self.state == "Connect")
+            self.state, self.timers = "Connect", {"retry"}
+            return closes
+        if name in ("failed", "stop"):
+            return ["close"] * (name == "stop") + self.leave()
+        return []
+
+    def up_event(self, name, timer):
+        if name == "failed":
+            if self.state != "OpenSent":
+                return self.leave()
+            self.state, self.timers, self.held = "Active", {"retry"}, b""
+            return []
+        if name == "stop":
+            return self.end(reset(6, 0))
+        if name == "expired" and timer == "hold":
+            return self.end(reset(4, 0))
+        if name == "expired" and timer == "keepalive" and self.state != "OpenSent":
+            self.timers.add("keepalive")
+            return [("say", message(KEEPALIVE, b""))]
+        return []
+
+    def hear(self, octet):
+        """Takes an octet, and judges what is held where it is whole."""
+        if self.state not in UP:
+            return []
+        self.held += octet
+        found, rest, fault = frames(self.held)
+        if fault:
+            return self.end(fault)
+        if not found:
+            return []
+        self.held = b""
+        kind, body = found[0][1][18], found[0][1][19:]
+        if kind == NOTIFICATION:
+            self.leave()
+            return ["close"]
+        if (self.state, kind) == ("OpenSent", OPEN):
+            return self.hear_open(read_open(body))
+        if (self.state, kind) == ("OpenConfirm", KEEPALIVE):
+            self.state = "Established"
+        elif (self.state, kind) == ("Established", UPDATE):
+            answer = verdict(self.context, body)
+            if answer[0] == "reset":
+                return self.end(answer)
+            return ["heard" if answer[0] == "take" else "withdrawn"]
+        elif (self.state, kind) != ("Established", KEEPALIVE):
+            return self.end(reset(5, 1 + UP.index(self.state), bytes([kind])))
+        return []
+
+    def hear_open(self, answer):
+        agreed = answer if answer[0] == "reset" else self.config.agree(*answer[1:])
+        if not isinstance(agreed, Context):
+            return self.end(agreed)
+        self.state, self.context = "OpenConfirm", agreed
+        self.timers = {"hold", "keepalive"} if agreed.hold else set()
+        return [("say", message(KEEPALIVE, b""))]
+
+    def send(self, update):
+        """The number of the refusal and nothing, or 0 and the message."""
+        if self.state != "Established":
+            return 1, b""
+        _, withdrawn, kept, nlri, _ = update
+        families = [kept[it][0] for it in (MP_REACH, MP_UNREACH) if it in kept]
+        if not all(self.context.uses((it, 1)) for it in families) or bool(withdrawn) + bool(nlri) + len(families) > 1:
+            return 2, b""
+        octets = write_update(self.context, withdrawn, kept if self.context.as4 else narrowed(kept), nlri)
+        return (3, b"") if octets is None else (0, octets)
+
+
+class Pair:
+    """Two sessions, at most one connection, and the octets in flight towards each. A side that isn't in `here` has left."""
+
+    def __init__(self, a, b):
+        self.sessions, self.here, self.flight = {"a": Session(a), "b": Session(b)}, set(), {"a": b"", "b": b""}
+        self.rounds, self.refused = [], []
+
+    def leave(self, side):
+        self.here.discard(side)
+        self.flight[side] = b""
+        if not self.here:
+            self.flight = {"a": b"", "b": b""}
+
+    def count(self, side, what, it=1):
+        self.rounds[-1][side][what] += [it]
+
+    def do(self, side, actions):
+        other = "b" if side == "a" else "a"
+        for action in actions:
+            if action == "close":
+                self.leave(side)
+            elif action in ("heard", "withdrawn"):
+                self.count(side, action)
+            elif action[0] == "told":
+                self.count(side, "notes", f"{action[1]}/{action[2]}")
+            elif other in self.here:
+                self.flight[other] += action[1]
+
+    def tell(self, side, *event):
+        self.do(side, self.sessions[side].event(*event))
+
+    def join(self):
+        if self.here or any(it.state not in ("Connect", "Active") for it in self.sessions.values()):
+            return
+        self.here = {"a", "b"}
+        self.rounds.append({side: {"sent": [], "heard": [], "withdrawn": [], "notes": []} for side in "ab"})
+        for side in "ab":
+            self.tell(side, "connected")
+
+    def refuse(self, side):
+        if self.sessions[side].state in ("Connect", "Active"):
+            self.leave(side)
+            self.tell(side, "failed")
+
+    def deliver(self, side, count):
+        octets, self.flight[side] = self.flight[side][:count], self.flight[side][count:]
+        for at in range(len(octets)):
+            self.do(side, self.sessions[side].hear(octets[at : at + 1]))
+
+    def lose(self):
+        if not self.here:
+            return
+        self.here, self.flight = set(), {"a": b"", "b": b""}
+        for side in "ab":
+            if self.sessions[side].state in UP:
+                self.tell(side, "failed")
+
+    def send(self, side, update):
+        number_of, octets = self.sessions[side].send(update)
+        if number_of:
+            self.refused.append(f"refused {side} {number_of}")
+            return
+        self.count(side, "sent")
+        self.do(side, [("say", octets)])
+
+    def report(self):
+        lines = []
+        for at, sides in enumerate(self.rounds):
+            lines.append(f"round {at + 1}")
+            for side in "ab":
+                sent, got, gone, notes = sides[side].values()
+                lines.append(f"{side} sent {len(sent)} got {len(got)} gone {len(gone)} notes {','.join(notes) or '-'}")
+        return lines + self.refused + [f"state {side} {self.sessions[side].state}" for side in "ab"]
+
+
+def decimal(word, most):
+    return int(word) if re.fullmatch("0|[1-9][0-9]*", word) and int(word) <= most else None
+
+
+def config_of(words):
+    """The configuration behind a side's letter, or None."""
+    found = re.fullmatch("as ([0-9]+) peer ([0-9]+) id ([0-9.]+) hold ([0-9]+)( as4)?( ip4)?( ip6)?", words)
+    if not found:
+        return None
+    local, peer, hold = decimal(found[1], 2**32 - 1), decimal(found[2], 2**32 - 1), decimal(found[4], 65535)
+    parts = [decimal(it, 255) for it in found[3].split(".")]
+    if None in (local, peer, hold, *parts) or len(parts) != 4:
+        return None
+    config = Config(local, peer, bytes(parts), hold, [bool(found[it]) for it in (5, 6, 7)])
+    return None if config.is_refused() else config
+
+
+def update_of(config, digits):
+    """The UPDATE that a script sends, or None."""
+    if not re.fullmatch("([0-9a-fA-F]{2}){4,4077}", digits):
+        return None
+    answer = verdict(Context(config.local == config.peer, True, True, True), bytes.fromhex(digits))
+    return answer if answer[0] == "take" and not answer[4] else None
+
+
+def move_of(configs, line):
+    """A call of Pair with its arguments, or None."""
+    if line in ("join", "lose"):
+        return (line,)
+    name, side, word = [*line.split(" ", 2), "", ""][:3]
+    if side not in ("a", "b") or line.count(" ") > 2:
+        return None
+    if name in ("start", "stop", "refuse"):
+        return None if line != f"{name} {side}" else (name, side) if name == "refuse" else ("tell", side, name)
+    if name == "expire":
+        return ("tell", side, "expired", word) if word in ("retry", "hold", "keepalive") else None
+    if name == "deliver":
+        count = decimal(word, 65535)
+        return ("deliver", side, count) if count else None
+    update = update_of(configs["ab".index(side)], word) if name == "send" else None
+    return ("send", side, update) if update else None
+
+
+def read_script(given):
+    """The two configurations and the moves, or the number of the lowest faulty line."""
+    lines = given.decode("latin-1").split("\n")
+    lines = lines[:-1] if lines[-1] == "" else lines
+    configs, moves = [], []
+    for at, line in enumerate(lines):
+        if line == "" or line.startswith("#"):
+            continue
+        if len(configs) < 2:
+            found = config_of(line[2:]) if line[:2] == "ab"[len(configs)] + " " else None
+            configs.append(found)
+        else:
+            found = move_of(configs, line)
+            moves.append(found)
+        if found is None:
+            return at + 1
+    return (configs, moves) if len(configs) == 2 else len(lines) + 1
+
+
+def loop(given):
+    found = read_script(given)
+    if isinstance(found, int):
+        return b"", told(f"script line {found}"), 1
+    pair = Pair(*found[0])
+    for name, *arguments in found[1]:
+        getattr(pair, name)(*arguments)
+    return text(pair.report()), b"", 0
