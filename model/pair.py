@@ -5,7 +5,6 @@ from commands import text, told
 from wire import *
 
 UP = ("OpenSent", "OpenConfirm", "Established")
-RETRY_TIME, OPEN_HOLD_TIME = 120, 240
 
 
 class Config:
