@@ -1,11 +1,10 @@
 -- What `narrow` writes: the messages of a session with AS numbers of four octets, as a speaker with two octets is told them (RFC 6793).
-use Rattle.std.specs.Prelude.{ℕ, Bool, false, not, ◌&&◌, ◌||◌, ◌==◌, List, [], Option, None, Some, is_some, is_none, unwrap_or, Result, Ok, Err, if◌then◌else◌}
+use Rattle.std.specs.Prelude.{ℕ, false, not, ◌&&◌, ◌==◌, List, [], Option, None, Some, is_none, unwrap_or, Result, Ok, Err, if◌then◌else◌}
 use Rattle.bgp_frame.specs.declared.end.End.{End}
 use Rattle.bgp_frame.specs.declared.end.End.TheVariants as end
 use Rattle.bgp_frame.specs.Frame as frame
 use Rattle.bgp_frame.specs.Frame.{octets_of}
 use Rattle.bgp_open.specs.declared.context.Context.{Context}
-use Rattle.bgp_update.specs.declared.attrs.Attrs.{Attrs}
 use Rattle.bgp_update.specs.As4.{narrowed_update}
 use Rattle.bgp_update.specs.Widths.{with_as4}
 use Rattle.bgp_msg.specs.declared.message.Message.{Message}
@@ -27,13 +26,9 @@ use Rattle.bgp_engine.specs.Tally.{no_tally}
 abbrev pub written_in : Context → Message → Option (List ℕ)
 written_in ctx m = if is_valid ctx m && not (is_too_long ctx m) then Some (canonical ctx m) else None
 
--- an attribute that only speakers with two octets are told; where numbers have four octets, none is kept
-abbrev pub has_as4 : Attrs → Bool
-has_as4 a = is_some a.as4_path || is_some a.as4_aggregator
-
 -- an UPDATE is narrowed, and every other message goes on octet for octet
 abbrev pub narrowed_message : Context → frame.Message → Message → Option (List ℕ)
-narrowed_message ctx m (message.Update u) = if has_as4 u.attrs then None else written_in (with_as4 false ctx) (message.Update (narrowed_update u))
+narrowed_message ctx m (message.Update u) = written_in (with_as4 false ctx) (message.Update (narrowed_update u))
 narrowed_message ctx m (message.Open o) = Some (octets_of m)
 narrowed_message ctx m (message.Notification n) = Some (octets_of m)
 narrowed_message ctx m message.Keepalive = Some (octets_of m)

@@ -1,6 +1,7 @@
 //! The engine `narrow_stream`.
 
-ghost use Rattle.std.specs.Prelude.{◌≡◌, ◌+◌, ◌≤◌, ◌++◌, true, false, length, None, Some, IfOk, OnOk, if◌then◌else◌};
+ghost use Rattle.std.specs.Prelude.{◌≡◌, ◌+◌, ◌≤◌, ◌++◌, true, false, length, None, Some, IfOk, OnOk};
+ghost use Rattle.bgp_wire.specs.Octets.{AreOctets};
 ghost use Rattle.bgp_frame.specs.Frame.{octets_of};
 ghost use Rattle.bgp_frame.specs.Kind.{IsLength};
 ghost use Rattle.bgp_msg.specs.Outcome.{out_of};
@@ -9,7 +10,7 @@ ghost use Rattle.bgp_update.specs.As4.{HasNoAs4, narrowed_update};
 ghost use Rattle.bgp_update.specs.View.{update_value};
 ghost use Rattle.bgp_update.specs.Widths.{with_as4};
 ghost use Rattle.bgp_engine.specs.PageSteps.{WritesNarrow};
-ghost use Rattle.bgp_engine.specs.Narrow.{Narrowed, has_as4, written_in, narrowed_outcome, narrow_answer};
+ghost use Rattle.bgp_engine.specs.Narrow.{Narrowed, written_in, narrowed_outcome, narrow_answer};
 ghost use Rattle.bgp_engine.specs.Run.{Answers};
 
 use crate::class::Class;
@@ -20,7 +21,7 @@ use crate::walk::walk_stream;
 use bgp_frame::{End, Frame, HeadFault, head};
 use bgp_msg::{OutcomeView, encode_update, view_frame};
 use bgp_open::Context;
-use bgp_update::{Attrs, Update, UpdateView, WriteFault, into_narrowed};
+use bgp_update::{Update, UpdateView, WriteFault, into_narrowed};
 use std::alloc::{AllocError, Global};
 use std::io::{Read, Write};
 
@@ -54,13 +55,6 @@ fn put_written(ctx: &Context, octets: &mut Vec<u8>, update: &Update) -> Result<C
     }
 }
 
-// Whether it has an attribute that only speakers with two octets are told.
-fn has_as4(attrs: &Attrs) -> bool
-    ensures { result ≡ has_as4 attrs.now }
-{
-    attrs.as4_path.is_some() || attrs.as4_aggregator.is_some()
-}
-
 // An UPDATE as a speaker with AS numbers of two octets is told it: what stays the same is moved, not copied.
 fn narrow_update(alloc: Global, update: Update) -> Result<Update, AllocError>
     requires { HasNoAs4 update.attrs }
@@ -81,11 +75,9 @@ fn put_narrowed(
     octets: &mut Vec<u8>,
     update: Update,
 ) -> Result<Class, AllocError>
-    ensures { IfOk result (λ class. WritesNarrow octets.old.items octets.new.items (if has_as4 update.attrs then None else written_in (with_as4 false ctx.now) (message.Update (narrowed_update update))) class) }
+    requires { HasNoAs4 update.attrs }
+    ensures { IfOk result (λ class. WritesNarrow octets.old.items octets.new.items (written_in (with_as4 false ctx.now) (message.Update (narrowed_update update))) class) }
 {
-    if has_as4(&update.attrs) {
-        return Ok(Class::Reset);
-    }
     let told = narrow_update(alloc, update)?;
     let narrow_ctx = two_octets(ctx);
     put_written(&narrow_ctx, octets, &told)
@@ -98,22 +90,32 @@ fn put_view(
     octets: &mut Vec<u8>,
     view: &UpdateView<'_>,
 ) -> Result<Class, AllocError>
-    ensures { IfOk result (λ class. WritesNarrow octets.old.items octets.new.items (if has_as4 (update_value view.now).attrs then None else written_in (with_as4 false ctx.now) (message.Update (narrowed_update (update_value view.now)))) class) }
+    requires { HasNoAs4 (update_value view.now).attrs }
+    ensures { IfOk result (λ class. WritesNarrow octets.old.items octets.new.items (written_in (with_as4 false ctx.now) (message.Update (narrowed_update (update_value view.now)))) class) }
 {
     let update = view.own(alloc)?;
     put_narrowed(alloc, ctx, octets, update)
 }
 
-// Appends a message as it is handed on.
+// What a body has are octets: nothing is done.
+fn are_octets(body: &[u8])
+    ensures { AreOctets body.now }
+{
+    let _len = body.len();
+}
+
+// Appends a message as it is handed on. An UPDATE that is taken where numbers have four octets has none of the attributes for two.
 fn put_told(
     alloc: Global,
     ctx: &Context,
     octets: &mut Vec<u8>,
     frame: Frame<'_>,
 ) -> Result<Class, AllocError>
-    requires { IsLength frame.kind (19 + length frame.body.now) }
+    requires wide { ctx.now.as4 ≡ true }
+    requires long { IsLength frame.kind (19 + length frame.body.now) }
     ensures { IfOk result (λ class. WritesNarrow octets.old.items octets.new.items (narrowed_outcome ctx.now (record { kind = frame.entry.kind; body = frame.entry.body.now }) (out_of ctx.now (record { kind = frame.entry.kind; body = frame.entry.body.now }))) class) }
 {
+    are_octets(frame.body);
     match view_frame(ctx, frame) {
         OutcomeView::Update(view) => put_view(alloc, ctx, octets, &view),
         OutcomeView::Withdraw(_) | OutcomeView::Reset(_) => Ok(Class::Reset),
@@ -124,12 +126,13 @@ fn put_told(
     }
 }
 
-/// The octets that are handed on.
+/// The octets that are handed on, in a session with AS numbers of four octets.
 #[derive(Drop)]
 struct NarrowPage {
     alloc: Global,
     ctx: Context,
     octets: Vec<u8>,
+    ghost wide: { ctx.as4 ≡ true },
 }
 
 impl Page for NarrowPage {

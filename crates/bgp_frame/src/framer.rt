@@ -2,6 +2,7 @@
 
 ghost use Rattle.std.specs.Prelude.{◌≡◌, ◌+◌, ◌-◌, ◌<◌, ◌≤◌, min, [], ◌++◌, length, take};
 ghost use Rattle.bgp_frame.specs.Frame.{IsWhole, Waits};
+ghost use Rattle.bgp_frame.specs.Framer.{IsHeld};
 ghost use Rattle.bgp_frame.specs.Takes.{Takes};
 ghost use Rattle.bgp_frame.specs.Step.{ShowsStep};
 
@@ -45,6 +46,7 @@ impl Framer {
     pub fn held(&self) -> usize
         ensures value { result ≡ length self.now }
         ensures bound { result ≤ 4096 }
+        ensures can_hold { IsHeld self.now }
     {
         self.buffer.len()
     }
@@ -63,6 +65,7 @@ impl Framer {
         ensures takes { Takes self.old piece.now result }
         ensures appends { self.new ≡ self.old ++ take result piece.now }
         ensures progress { Waits self.old → 0 < length piece.now → 0 < result }
+        ensures can_hold { IsHeld self.new }
     {
         let first = fill(&mut self.buffer, HEADER_LEN, piece);
         let len = wanted(&self.buffer);

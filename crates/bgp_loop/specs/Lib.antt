@@ -1,2 +1,3 @@
 -- A script that is run: what is written of it.
 pub mod Loop
+pub mod Carried

@@ -1,8 +1,9 @@
 //! A wire over TCP, within one process.
 
-ghost use Rattle.std.specs.Prelude.{◌≡◌, IfOk, IfErr};
+ghost use Rattle.std.specs.Prelude.{◌≡◌, true, IfOk, IfErr};
 ghost use Rattle.bgp_engine.specs.declared.fault.ToolFault.TheVariants.{Net};
 ghost use Rattle.bgp_pair.specs.Wire.{failed_after};
+ghost use Rattle.bgp_loop.specs.Carried.{IsCarried, IsPassed};
 
 use bgp_engine::ToolFault;
 use bgp_pair::{Side, Wire};
@@ -19,9 +20,9 @@ const PIECE: usize = 4096;
 
 /// Both ends of one connection.
 #[derive(Drop)]
-struct Ends<R: Net> {
-    a: R::Stream,
-    b: R::Stream,
+struct Ends<S: Drop> {
+    a: S,
+    b: S,
 }
 
 /// A wire over TCP on 127.0.0.1, whose ends are both in this process: it listens, connects and accepts. What doesn't come as it went hasn't
@@ -30,7 +31,7 @@ struct Ends<R: Net> {
 pub struct TcpWire<'a, R: Net> {
     net: &'a R,
     listener: R::Listener,
-    ends: Option<Ends<R>>,
+    ends: Option<Ends<R::Stream>>,
     failures: u32,
 }
 
@@ -40,13 +41,48 @@ fn set_up<S: OpenStream>(end: &S) -> io::Result<()> {
     end.set_read_timeout(Some(Duration::from_secs(PATIENCE_SECONDS)))
 }
 
-// Sends octets from one end to the other. Answers whether they came as they went.
-fn carry<S: Read + Write>(from: &mut S, to: &mut S, octets: &[u8]) -> bool {
+// Sends octets from one end to the other, and puts what came in their place. Answers whether they came as they went: then they were appended
+// at the one end and consumed at the other.
+fn carry<S: Read + Write>(from: &mut S, to: &mut S, octets: &mut [u8]) -> bool
+    ensures { result ≡ true → IsCarried octets.old octets.new (S.contents from.old) (S.contents from.new) (S.remaining to.old) (S.remaining to.new) }
+{
     let mut came = [0; PIECE];
     let Some(came) = came.get_mut(..octets.len()) else {
         return false;
     };
-    from.write_all(octets).is_ok() && to.read_exact(came).is_ok() && *came == *octets
+    if from.write_all(octets).is_err() {
+        return false;
+    }
+    if to.read_exact(came).is_err() {
+        return false;
+    }
+    let same = *came == *octets;
+    octets.copy_from_slice(came);
+    same
+}
+
+// Counts an answer.
+fn count(failures: &mut u32, answer: bool)
+    ensures { failures.new ≡ failed_after failures.old answer }
+{
+    if !answer {
+        *failures = failures.saturating_add(1);
+    }
+}
+
+// Passes octets to an end from the other, where there is a connection.
+fn pass_between<S: Read + Write + Drop>(
+    ends: &mut Option<Ends<S>>,
+    to: Side,
+    octets: &mut [u8],
+) -> bool
+    ensures { result ≡ true → IsPassed (record { contents = S.contents; remaining = S.remaining }) to ends.old ends.new octets.old octets.new }
+{
+    match (ends, to) {
+        (Some(ends), Side::A) => carry(&mut ends.b, &mut ends.a, octets),
+        (Some(ends), Side::B) => carry(&mut ends.a, &mut ends.b, octets),
+        (None, _) => false,
+    }
 }
 
 impl<'a, R: Net> TcpWire<'a, R> {
@@ -70,7 +106,7 @@ impl<'a, R: Net> TcpWire<'a, R> {
     }
 
     // Connects to its own listener.
-    fn connect(&self) -> io::Result<Ends<R>> {
+    fn connect(&self) -> io::Result<Ends<R::Stream>> {
         let a = TcpStream::connect(self.net, self.listener.local_addr()?)?;
         let (b, peer) = self.listener.accept()?;
         if a.local_addr()? != peer {
@@ -79,15 +115,6 @@ impl<'a, R: Net> TcpWire<'a, R> {
         set_up(&a)?;
         set_up(&b)?;
         Ok(Ends { a, b })
-    }
-
-    // Counts an answer.
-    fn count(&mut self, answer: bool)
-        ensures { self.new.failures ≡ failed_after self.old.failures answer }
-    {
-        if !answer {
-            self.failures = self.failures.saturating_add(1);
-        }
     }
 }
 
@@ -101,17 +128,17 @@ impl<R: Net> Wire for TcpWire<'_, R> {
     fn join(&mut self) -> bool {
         self.ends = self.connect().ok();
         let joined = self.ends.is_some();
-        self.count(joined);
+        count(&mut self.failures, joined);
         joined
     }
 
-    fn pass(&mut self, to: Side, octets: &mut [u8]) -> bool {
-        let passed = match (&mut self.ends, to) {
-            (Some(ends), Side::A) => carry(&mut ends.b, &mut ends.a, octets),
-            (Some(ends), Side::B) => carry(&mut ends.a, &mut ends.b, octets),
-            (None, _) => false,
-        };
-        self.count(passed);
+    fn pass(&mut self, to: Side, octets: &mut [u8]) -> bool
+        ensures passed { result ≡ true → IsPassed (record { contents = R.Stream.contents; remaining = R.Stream.remaining }) to self.old.ends self.new.ends octets.old octets.new }
+        ensures same { result ≡ true → octets.new ≡ octets.old }
+        ensures failed { self.new.failures ≡ failed_after self.old.failures result }
+    {
+        let passed = pass_between(&mut self.ends, to, octets);
+        count(&mut self.failures, passed);
         passed
     }
 

@@ -4,6 +4,7 @@ ghost use Rattle.std.specs.Prelude.{◌≡◌, ◌+◌, ◌++◌, ◌↔◌, Som
 ghost use Rattle.bgp_frame.specs.Kind.{IsLength};
 ghost use Rattle.bgp_update.specs.declared.invalid.Invalid.{Invalid};
 ghost use Rattle.bgp_update.specs.declared.write.WriteFault.TheVariants.{NotValid, TooLong};
+ghost use Rattle.bgp_update.specs.Written.{HasUpdateRanges};
 ghost use Rattle.bgp_msg.specs.declared.message.Message.TheVariants as message;
 ghost use Rattle.bgp_msg.specs.Written.{body_of, canonical, invalid_of, is_valid, is_too_long};
 
@@ -18,6 +19,7 @@ fn put_update(ctx: &Context, update: &Update, out: &mut Vec<u8>) -> Result<(), W
     ensures too_long { IsErrOf result TooLong ↔ (IsTrue (is_valid ctx.now (message.Update update.now)) × IsTrue (is_too_long ctx.now (message.Update update.now))) }
     ensures ok { OnOk result (out.new.items ≡ out.old.items ++ body_of ctx.now (message.Update update.now)) }
     ensures allowed { OnOk result (IsLength Kind.Update (19 + length (body_of ctx.now (message.Update update.now)))) }
+    ensures ranges { OnOk result (HasUpdateRanges update.now) }
     ensures err { OnErr result (out.new.items ≡ out.old.items) }
 {
     write_update(ctx, update, out)
@@ -31,6 +33,8 @@ pub fn encode_update(ctx: &Context, update: &Update, out: &mut Vec<u8>) -> Resul
     ensures not_valid { (why : Invalid) → IsErrOf result (NotValid why) ↔ (invalid_of ctx.now (message.Update update.now) ≡ Some why) }
     ensures too_long { IsErrOf result TooLong ↔ (IsTrue (is_valid ctx.now (message.Update update.now)) × IsTrue (is_too_long ctx.now (message.Update update.now))) }
     ensures ok { OnOk result (out.new.items ≡ out.old.items ++ canonical ctx.now (message.Update update.now)) }
+    // Each number of it is within its field.
+    ensures ranges { OnOk result (HasUpdateRanges update.now) }
     ensures err { OnErr result (out.new.items ≡ out.old.items) }
 {
     let start = out.len();

@@ -1,11 +1,13 @@
 use super::*;
 use std::test::*;
 
-// The values are those of the registries, written down again.
+// The values are those of the IANA registries, written down again; each registry's name stands above its numbers.
 #[test]
 fn numbers_are_those_of_the_registries(rt: HostRuntime) {
+    // The version in an OPEN (RFC 4271); Special-Purpose AS Numbers: AS_TRANS (RFC 6793).
     assert!(rt; VERSION == 4);
     assert!(rt; AS_TRANS == 23456);
+    // BGP Message Types (RFC 4271).
     assert!(rt;
         [
             message::OPEN,
@@ -14,10 +16,13 @@ fn numbers_are_those_of_the_registries(rt: HostRuntime) {
             message::KEEPALIVE
         ] == [1, 2, 3, 4]
     );
+    // Address Family Numbers; Subsequent Address Family Identifiers (RFC 4760).
     assert!(rt; [afi::IPV4, afi::IPV6] == [1, 2]);
     assert!(rt; safi::UNICAST == 1);
+    // BGP OPEN Optional Parameter Types (RFC 5492); Capability Codes (RFC 4760, RFC 6793).
     assert!(rt; parameter::CAPABILITIES == 2);
     assert!(rt; [capability::MULTIPROTOCOL, capability::FOUR_OCTET_AS] == [1, 65]);
+    // BGP AS_PATH Segment Types (RFC 4271, RFC 5065).
     assert!(rt;
         [
             segment::SET,
@@ -26,6 +31,7 @@ fn numbers_are_those_of_the_registries(rt: HostRuntime) {
             segment::CONFED_SET
         ] == [1, 2, 3, 4]
     );
+    // BGP Path Attributes (RFC 4271, RFC 1997, RFC 4760, RFC 6793, RFC 8092).
     assert!(rt;
         [
             attribute::ORIGIN,
@@ -54,6 +60,7 @@ fn numbers_are_those_of_the_registries(rt: HostRuntime) {
 
 #[test]
 fn errors_are_those_of_the_registries(rt: HostRuntime) {
+    // BGP Error (Notification) Codes (RFC 4271).
     assert!(rt;
         [
             error::MESSAGE_HEADER,
@@ -68,6 +75,7 @@ fn errors_are_those_of_the_registries(rt: HostRuntime) {
             error::CEASE
         ] == [4, 5, 6]
     );
+    // Message Header Error subcodes (RFC 4271); 0 is Unspecific in each registry of subcodes.
     assert!(rt; error::UNSPECIFIC == 0);
     assert!(rt;
         [
@@ -76,6 +84,7 @@ fn errors_are_those_of_the_registries(rt: HostRuntime) {
             error::BAD_MESSAGE_TYPE
         ] == [1, 2, 3]
     );
+    // OPEN Message Error subcodes (RFC 4271).
     assert!(rt;
         [
             error::UNSUPPORTED_VERSION,
@@ -84,6 +93,7 @@ fn errors_are_those_of_the_registries(rt: HostRuntime) {
         ] == [1, 2, 3]
     );
     assert!(rt; [error::UNSUPPORTED_PARAMETER, error::UNACCEPTABLE_HOLD_TIME] == [4, 6]);
+    // UPDATE Message Error subcodes (RFC 4271).
     assert!(rt;
         [
             error::MALFORMED_ATTRIBUTE_LIST,
@@ -92,6 +102,7 @@ fn errors_are_those_of_the_registries(rt: HostRuntime) {
             error::INVALID_NETWORK_FIELD
         ] == [1, 2, 9, 10]
     );
+    // BGP Finite State Machine Error Subcodes (RFC 6608).
     assert!(rt;
         [
             error::UNEXPECTED_IN_OPEN_SENT,

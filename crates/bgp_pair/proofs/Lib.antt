@@ -2,6 +2,8 @@
 pub mod Acts
 pub mod Feeds
 pub mod Plays
+pub mod Ranges
+pub mod Handed
 pub mod Resting
 pub mod Sayings
 pub mod Narrowed

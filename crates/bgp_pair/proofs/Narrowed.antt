@@ -1,8 +1,7 @@
 -- Each number of an UPDATE that is told to a speaker with AS numbers of two octets is within its field.
-use Rattle.std.proofs.Common.{◌≡◌, ℕ, Bool, true, false, cond, eqb, List, [], ◌∷◌, map, Option, Some, None, inl, inr, subst, refl, sym, ◌∙◌, arith}
+use Rattle.std.proofs.Common.{◌≡◌, ℕ, Bool, true, false, cond, List, [], ◌∷◌, map, Option, Some, None, subst, refl, sym, ◌∙◌, arith}
 use Rattle.std.specs.Prelude.{option_map}
-use Rattle.std.specs.List.{flat_map, list_any, AllByRecursion}
-use Rattle.std.proofs.lemmas.Bool.{false≢true, eqb-true, or_cases}
+use Rattle.std.specs.List.{flat_map, AllByRecursion}
 use Rattle.bgp_numbers.specs.declared.TheConstants.{AS_TRANS}
 use Rattle.bgp_numbers.specs.declared.attribute.TheConstants.{AS_PATH, AGGREGATOR}
 use Rattle.bgp_prefix.specs.declared.as_number.AsNumber.{AsNumber}
@@ -21,6 +20,7 @@ use Rattle.bgp_update.specs.Slots.{present, slot, canonical_order, attr_list}
 use Rattle.bgp_update.specs.Written.{HasUpdateRanges}
 use Rattle.bgp_update.proofs.Lists.{all-append, all-front, all-back}
 use Rattle.bgp_update.proofs.SlotLemmas.{by_type, recognised-stands, slot-other}
+use Rattle.bgp_session.proofs.Widened.{AllFit, slot_among}
 
 -- ---- numbers and segments
 
@@ -41,9 +41,6 @@ segments_fit [] all = tt
 segments_fit (s ∷ ss) all = (numbers_fit s.numbers all.0, segments_fit ss all.1)
 
 -- ---- attributes
-
-abbrev AllFit : List Attr → Type 0
-AllFit xs = AllByRecursion HasRanges xs
 
 path_fits : (o : Option AsPath) → AllFit (present (λ (p : AsPath). attr.AsPath p) o) → AllFit (present (λ (p : AsPath). attr.AsPath p) (option_map narrow_path o))
 path_fits None all = tt
@@ -100,16 +97,9 @@ module _ (a : Attrs) where
     slots_fit (k ∷ ks) all =
         all-append HasRanges (slot (narrowed a) k) (flat_map (slot (narrowed a)) ks) (slot_fits k (all-front HasRanges (slot a k) (flat_map (slot a) ks) all)) (slots_fit ks (all-back HasRanges (slot a k) (flat_map (slot a) ks) all))
 
-  slot_among : (kind : ℕ) (ks : List ℕ) → list_any (λ k. eqb k kind) ks ≡ true → AllFit (flat_map (slot a) ks) → AllFit (slot a kind)
-  slot_among kind [] e all = absurd (false≢true e)
-  slot_among kind (k ∷ ks) e all = elim (or_cases (eqb k kind) (list_any (λ j. eqb j kind) ks) e) [
-    | inl same ↦ subst (λ (j : ℕ). AllFit (slot a j)) (eqb-true k kind same) (all-front HasRanges (slot a k) (flat_map (slot a) ks) all)
-    | inr later ↦ slot_among kind ks later (all-back HasRanges (slot a k) (flat_map (slot a) ks) all)
-  ]
-
   attrs_fit : AllFit (attr_list a) → AllFit (attr_list (narrowed a))
   attrs_fit all =
-      slots_fit (slot_among AS_PATH canonical_order (recognised-stands AS_PATH refl) all) (slot_among AGGREGATOR canonical_order (recognised-stands AGGREGATOR refl) all) canonical_order all
+      slots_fit (slot_among a AS_PATH canonical_order (recognised-stands AS_PATH refl) all) (slot_among a AGGREGATOR canonical_order (recognised-stands AGGREGATOR refl) all) canonical_order all
 
 pub narrowed_ranges : (u : Update) → HasUpdateRanges u → HasUpdateRanges (narrowed_update u)
 narrowed_ranges u r = record { withdrawn = r.withdrawn; attributes = attrs_fit u.attrs r.attributes; others = r.others; nlri = r.nlri }

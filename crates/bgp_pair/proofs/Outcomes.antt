@@ -20,7 +20,7 @@ use Rattle.bgp_pair.specs.declared.moves.Move.TheVariants as move
 use Rattle.bgp_pair.specs.declared.report.Round.{Round}
 use Rattle.bgp_pair.specs.declared.side.Side.{Side}
 use Rattle.bgp_pair.specs.declared.side.Side.TheVariants.{A, B}
-use Rattle.bgp_pair.specs.Laws.{CanBeSet, HasMoveRanges, world_behind, context_at, BothAgree, NoteHasReason, RoundHasReasons, both_wide, heard, HearsFronts, HeardAll}
+use Rattle.bgp_pair.specs.Laws.{CanBeSet, HaveSentRanges, world_behind, context_at, BothAgree, NoteHasReason, RoundHasReasons, both_wide, heard, HearsFronts, HeardAll}
 use Rattle.bgp_pair.specs.Pair.{Note}
 use Rattle.bgp_pair.specs.World.{World, begins, end_of, round_of, with_round, rounds_of}
 use Rattle.bgp_pair.proofs.Agreements.{agreed_width, wide_swaps, refused_for}
@@ -33,7 +33,7 @@ use Rattle.bgp_pair.proofs.Streams.{no_frame}
 use Rattle.bgp_pair.proofs.Ways.{IsHearing, Goes}
 use Rattle.bgp_pair.proofs.Worlds.{RoundKeeps, BothKnow, IsSoundWorld, rounds_keep, Permits, all_moved_keep, begins_sound}
 
-module _ (a b : Settings) (moves : List Move) (answers : List Bool) (can_a : CanBeSet a) (can_b : CanBeSet b) (ranges : All HasMoveRanges moves) where
+module _ (a b : Settings) (moves : List Move) (answers : List Bool) (can_a : CanBeSet a) (can_b : CanBeSet b) (ranges : HaveSentRanges a b moves answers) where
   abbrev allowed : Note → Type 0
   allowed n = NoteHasReason a b moves n
 
@@ -51,21 +51,21 @@ module _ (a b : Settings) (moves : List Move) (answers : List Bool) (can_a : Can
   abbrev May : Move → Type 0
   May one = Permits (both_wide a b) a b allowed know one
 
-  may : (one : Move) → Contains moves one → HasMoveRanges one → May one
-  may (move.Start side) is range = tt
-  may (move.Stop side) is range = inr (inr (inr (record { code_is = refl; subcode_is = refl; stops = is })))
-  may move.Join is range = tt
-  may (move.Refuse side) is range = tt
-  may (move.Deliver side k) is range = tt
-  may move.Lose is range = tt
-  may (move.Expire side timer.Hold) is range = inr (inr (inl (record { code_is = refl; subcode_is = refl; expires = is })))
-  may (move.Expire side timer.Retry) is range = tt
-  may (move.Expire side timer.Keepalive) is range = tt
-  may (move.Send side u) is range = range
+  may : (one : Move) → Contains moves one → May one
+  may (move.Start side) is = tt
+  may (move.Stop side) is = inr (inr (inr (record { code_is = refl; subcode_is = refl; stops = is })))
+  may move.Join is = tt
+  may (move.Refuse side) is = tt
+  may (move.Deliver side k) is = tt
+  may move.Lose is = tt
+  may (move.Expire side timer.Hold) is = inr (inr (inl (record { code_is = refl; subcode_is = refl; expires = is })))
+  may (move.Expire side timer.Retry) is = tt
+  may (move.Expire side timer.Keepalive) is = tt
+  may (move.Send side u) is = tt
 
-  all_may : (later : List Move) → AllByRecursion (Contains moves) later → AllByRecursion HasMoveRanges later → AllByRecursion May later
-  all_may [] are all = tt
-  all_may (one ∷ later) are all = (may one are.0 all.0, all_may later are.1 all.1)
+  all_may : (later : List Move) → AllByRecursion (Contains moves) later → AllByRecursion May later
+  all_may [] are = tt
+  all_may (one ∷ later) are = (may one are.0, all_may later are.1)
 
   abbrev world : World
   world = world_behind a b moves answers
@@ -73,7 +73,7 @@ module _ (a b : Settings) (moves : List Move) (answers : List Bool) (can_a : Can
   world_sound : IsSoundWorld (both_wide a b) a b allowed know world
   world_sound =
       all_moved_keep (both_wide a b) a b allowed know moves (begins a b) answers
-      (all_may moves (recursion_from_All (Contains moves) moves (All-contains_itself moves)) (recursion_from_All HasMoveRanges moves ranges))
+      (all_may moves (recursion_from_All (Contains moves) moves (All-contains_itself moves))) ranges
       (begins_sound (both_wide a b) a b allowed know)
 
   -- ---- both agree

@@ -23,7 +23,7 @@ use Rattle.bgp_pair.specs.declared.moves.Move.TheVariants as move
 use Rattle.bgp_pair.specs.declared.report.Round.{Round}
 use Rattle.bgp_pair.specs.declared.side.Side.{Side}
 use Rattle.bgp_pair.specs.declared.side.Side.TheVariants.{A, B}
-use Rattle.bgp_pair.specs.Laws.{IsFrontHeard, HearsFronts}
+use Rattle.bgp_pair.specs.Laws.{IsFrontHeard, HearsFronts, HasRangesUnless, SendsRanges, AllSendRanges}
 use Rattle.bgp_pair.specs.Pair.{End, with_flight, towards, Note, Pair, pair, told, sent}
 use Rattle.bgp_pair.specs.World.{World, begins, end_of, seen_by, with_pair, tells, feeds, stands, tells_if, state_of, fails_up, emptied, lost_if, lost, seeks, round_of, with_round, rounds_of, new_round, ran, answer_of, later_of, can_join, joins, joined_if, delivers_on, delivered, drawn, delivers, sent_or, moved, all_moved}
 use Rattle.bgp_pair.proofs.Sayings.{WantsOpen, WantsKeepalive, Runs}
@@ -332,33 +332,34 @@ module _ (wide : Bool) (a b : Settings) (allowed : Note → Type 0) (know : Both
   sends_pair A w u ranges s none = sends_keep wide a b allowed know.width_a [] (seen_by A w) u ranges s none
   sends_pair B w u ranges s none = sends_keep wide b a allowed know.width_b [] (seen_by B w) u ranges s none
 
-  sent_keeps : (refusal : Option SendFault) (side : Side) (u : Update) (w : World) → refusal_of (end_of side w).session u ≡ refusal → HasUpdateRanges u → IsSoundWorld w
+  sent_keeps : (refusal : Option SendFault) (side : Side) (u : Update) (w : World) → refusal_of (end_of side w).session u ≡ refusal → HasRangesUnless refusal u → IsSoundWorld w
       → IsSoundWorld (sent_or refusal side u w)
   sent_keeps None side u w is ranges s = back side w (sent (seen_by side w) u) (sends_pair side w u ranges (seen side w s.both) is) s.over
   sent_keeps (Some fault) side u w is ranges s = record { both = s.both; over = s.over }
 
   -- ---- each move
 
-  -- what a move needs: its notes are allowed, and its UPDATE has numbers within their fields
+  -- what a move needs: its notes are allowed
   abbrev pub Permits : Move → Type 0
   Permits (move.Stop side) = MayNote allowed side event.Stop
   Permits (move.Expire side timer) = MayNote allowed side (event.Expired timer)
-  Permits (move.Send side u) = HasUpdateRanges u
   Permits _ = Unit {0}
 
-  moved_keeps : (one : Move) (w : World) (answers : List Bool) → Permits one → IsSoundWorld w → IsSoundWorld (moved one w answers).world
-  moved_keeps (move.Start side) w answers may s = tells_keep side event.Start w tt s
-  moved_keeps (move.Stop side) w answers may s = tells_keep side event.Stop w may s
-  moved_keeps move.Join w answers may s = joined_keeps (can_join w) w answers refl s
-  moved_keeps (move.Refuse side) w answers may s = fails_keep (seeks (state_of side w)) side w s
-  moved_keeps (move.Deliver side k) w answers may s = delivers_keep side k w answers s
-  moved_keeps move.Lose w answers may s = lost_keeps A [] w s.both s.over
-  moved_keeps (move.Expire side timer) w answers may s = tells_keep side (event.Expired timer) w may s
-  moved_keeps (move.Send side u) w answers may s = sent_keeps (refusal_of (end_of side w).session u) side u w refl may s
+  moved_keeps : (one : Move) (w : World) (answers : List Bool) → Permits one → SendsRanges w one → IsSoundWorld w → IsSoundWorld (moved one w answers).world
+  moved_keeps (move.Start side) w answers may ranges s = tells_keep side event.Start w tt s
+  moved_keeps (move.Stop side) w answers may ranges s = tells_keep side event.Stop w may s
+  moved_keeps move.Join w answers may ranges s = joined_keeps (can_join w) w answers refl s
+  moved_keeps (move.Refuse side) w answers may ranges s = fails_keep (seeks (state_of side w)) side w s
+  moved_keeps (move.Deliver side k) w answers may ranges s = delivers_keep side k w answers s
+  moved_keeps move.Lose w answers may ranges s = lost_keeps A [] w s.both s.over
+  moved_keeps (move.Expire side timer) w answers may ranges s = tells_keep side (event.Expired timer) w may s
+  moved_keeps (move.Send side u) w answers may ranges s = sent_keeps (refusal_of (end_of side w).session u) side u w refl ranges s
 
-  pub all_moved_keep : (moves : List Move) (w : World) (answers : List Bool) → AllByRecursion Permits moves → IsSoundWorld w → IsSoundWorld (all_moved moves w answers).world
-  all_moved_keep [] w answers may s = s
-  all_moved_keep (one ∷ later) w answers may s = all_moved_keep later (moved one w answers).world (moved one w answers).answers may.1 (moved_keeps one w answers may.0 s)
+  pub all_moved_keep : (moves : List Move) (w : World) (answers : List Bool) → AllByRecursion Permits moves → AllSendRanges moves w answers → IsSoundWorld w
+      → IsSoundWorld (all_moved moves w answers).world
+  all_moved_keep [] w answers may ranges s = s
+  all_moved_keep (one ∷ later) w answers may ranges s =
+      all_moved_keep later (moved one w answers).world (moved one w answers).answers may.1 ranges.1 (moved_keeps one w answers may.0 ranges.0 s)
 
   pub begins_sound : IsSoundWorld (begins a b)
   begins_sound = record {

@@ -1,5 +1,5 @@
 -- What comes of two ends, whatever is done: the words of the laws.
-use Rattle.std.specs.Prelude.{◌≡◌, ◌≢◌, ◌<◌, ◌^◌, ◌⊎◌, ◌&&◌, ℕ, Bool, List, [], ◌∷◌, ◌++◌, length, map, Option, Some, Ok}
+use Rattle.std.specs.Prelude.{◌≡◌, ◌≢◌, ◌<◌, ◌^◌, ◌⊎◌, ◌&&◌, ℕ, Bool, List, [], ◌∷◌, ◌++◌, length, map, Option, None, Some, Ok}
 use Rattle.std.specs.List.{All, Contains}
 use Rattle.bgp_numbers.specs.declared.error.TheConstants.{OPEN_MESSAGE, BAD_PEER_AS, BAD_IDENTIFIER, HOLD_TIMER_EXPIRED, UNSPECIFIC, CEASE}
 use Rattle.bgp_open.specs.declared.context.Context.{Context}
@@ -7,7 +7,8 @@ use Rattle.bgp_open.specs.Agreement.{agreement}
 use Rattle.bgp_open.specs.Config.{Settings, IsAllowed}
 use Rattle.bgp_open.specs.Own.{own_of}
 use Rattle.bgp_session.specs.declared.timer.Timer.TheVariants.{Hold}
-use Rattle.bgp_session.specs.Sending.{told_with}
+use Rattle.bgp_session.specs.declared.send_fault.SendFault.{SendFault}
+use Rattle.bgp_session.specs.Sending.{told_with, refusal_of}
 use Rattle.bgp_update.specs.declared.path_info.PathInfo.{PathInfo}
 use Rattle.bgp_update.specs.declared.update.Update.{Update}
 use Rattle.bgp_update.specs.As4.{onward_of}
@@ -18,7 +19,7 @@ use Rattle.bgp_pair.specs.declared.report.Round.{Round}
 use Rattle.bgp_pair.specs.declared.side.Side.{Side}
 use Rattle.bgp_pair.specs.declared.side.Side.TheVariants.{A, B}
 use Rattle.bgp_pair.specs.Pair.{Note}
-use Rattle.bgp_pair.specs.World.{World, begins, end_of, rounds_of, all_moved}
+use Rattle.bgp_pair.specs.World.{World, begins, end_of, rounds_of, moved, all_moved}
 
 -- ---- what there can be
 
@@ -29,10 +30,24 @@ pub record CanBeSet (s : Settings) : Type 0 where
   pub hold : s.hold < 2 ^ 16
   pub id : length s.id ≡ 4
 
--- each number of the move is within its field
-abbrev pub HasMoveRanges : Move → Type 0
-HasMoveRanges (move.Send side u) = HasUpdateRanges u
-HasMoveRanges _ = Unit {0}
+-- each number of an UPDATE that isn't refused is within its field
+abbrev pub HasRangesUnless : Option SendFault → Update → Type 0
+HasRangesUnless None u = HasUpdateRanges u
+HasRangesUnless (Some fault) u = Unit {0}
+
+-- each number of what the move sends in this world
+abbrev pub SendsRanges : World → Move → Type 0
+SendsRanges w (move.Send side u) = HasRangesUnless (refusal_of (end_of side w).session u) u
+SendsRanges w _ = Unit {0}
+
+-- and of what each of these moves sends, made on what those before it left
+abbrev pub AllSendRanges : List Move → World → List Bool → Type 0
+AllSendRanges [] w answers = Unit {0}
+AllSendRanges (one ∷ later) w answers = SendsRanges w one × AllSendRanges later (moved one w answers).world (moved one w answers).answers
+
+-- each number of what the moves send is within its field
+abbrev pub HaveSentRanges : Settings → Settings → List Move → List Bool → Type 0
+HaveSentRanges a b moves answers = AllSendRanges moves (begins a b) answers
 
 -- ---- what comes of it
 

@@ -4,10 +4,12 @@ use Rattle.bgp_session.specs.Cutting.{IsAtRest}
 use Rattle.bgp_session.specs.Sending.{refusal_of}
 use Rattle.bgp_session.specs.declared.send_fault.SendFault.{SendFault}
 use Rattle.bgp_update.specs.declared.update.Update.{Update}
+use Rattle.bgp_pair.specs.declared.moves.Move.{Move}
 use Rattle.bgp_pair.specs.declared.side.Side.{Side}
+use Rattle.bgp_pair.specs.Laws.{AllSendRanges}
 use Rattle.bgp_pair.specs.Pair.{End, pair, sent}
-use Rattle.bgp_pair.specs.Wire.{failed_behind}
-use Rattle.bgp_pair.specs.World.{World, end_of, seen_by, with_pair, feeds, lost, Ran, ran, delivered}
+use Rattle.bgp_pair.specs.Wire.{failed_behind, Call, Handed, Grows, answers_in, Trace}
+use Rattle.bgp_pair.specs.World.{World, end_of, seen_by, with_pair, feeds, lost, Ran, ran, asked, delivered}
 
 -- both sessions have nothing left to do
 abbrev pub Rests : World → Type 0
@@ -18,19 +20,23 @@ pub record Wired : Type 0 where
   pub honest : Bool
   pub old : List Bool
   pub new : List Bool
-  pub failed_old : ℕ
-  pub failed_new : ℕ
+  pub trace_old : Trace
+  pub trace_new : Trace
 
--- these answers were given
-pub record Gives (wired : Wired) (given : List Bool) : Type 0 where
+-- these answers were given, to these calls
+pub record Gives (wired : Wired) (given : List Bool) (calls : List Call) : Type 0 where
   pub told : wired.new ≡ wired.old ++ given
-  pub counted : wired.failed_new ≡ failed_behind wired.failed_old given
+  pub counted : wired.trace_new.failed ≡ failed_behind wired.trace_old.failed given
+  pub kept : Grows wired.trace_old.calls wired.trace_new.calls calls
+  pub gave : answers_in calls ≡ given
 
--- a turn was played up to what another turn is: where the wire is honest, the turn used up the answers that were given, and left all later ones
+-- a turn was played up to what another turn is: where the wire is honest, the turn used up the answers that were given, and left all later ones,
+-- and asked the wire for what it was asked
 pub record PlaysOn (wired : Wired) (turn rest : List Bool → Ran) : Type 0 where
   pub given : List Bool
-  pub answers : Gives wired given
-  pub goes_on : wired.honest ≡ true → (later : List Bool) → turn (given ++ later) ≡ rest later
+  pub calls : List Call
+  pub answers : Gives wired given calls
+  pub goes_on : wired.honest ≡ true → (later : List Bool) → turn (given ++ later) ≡ asked calls (rest later)
 
 -- a turn was played, and made this world
 abbrev pub Plays : Wired → (List Bool → Ran) → World → Type 0
@@ -48,7 +54,7 @@ passed true side piece w = feeds side piece w
 passed false side piece w = lost w
 
 pub record Passes (wired : Wired) (answer : Bool) (side : Side) (piece : List ℕ) (w v : World) : Type 0 where
-  pub answers : Gives wired (answer ∷ [])
+  pub answers : Gives wired (answer ∷ []) (Handed side piece answer ∷ [])
   pub passes : wired.honest ≡ true → v ≡ passed answer side piece w
 
 -- an UPDATE was sent, or refused
@@ -64,3 +70,7 @@ sent_if (Some fault) side u w = w
 
 abbrev pub IsTried : Side → Update → World → Option SendFault → World → Type 0
 IsTried side u w found v = (refusal_of (end_of side w).session u ≡ found) × (v ≡ sent_if found side u w)
+
+-- each number of what these moves sent is within its field, for the answers that were given, whatever later ones come
+abbrev pub HaveSoFar : Bool → List Move → World → List Bool → Type 0
+HaveSoFar honest moves w answers = honest ≡ true → (later : List Bool) → AllSendRanges moves w (answers ++ later)

@@ -3,7 +3,8 @@ use Rattle.std.specs.Prelude.{◌≡◌, Bool, List, ◌++◌}
 use Rattle.bgp_open.specs.Config.{Settings}
 use Rattle.bgp_pair.specs.declared.moves.Move.{Move}
 use Rattle.bgp_pair.specs.declared.report.Report.{Report}
-use Rattle.bgp_pair.specs.World.{World, begins, rounds_of, ran, all_moved}
+use Rattle.bgp_pair.specs.Wire.{Call}
+use Rattle.bgp_pair.specs.World.{World, begins, rounds_of, ran, asked, all_moved}
 
 -- the report of a world, for these answers of the wire
 abbrev pub report_of : World → List Bool → Report
@@ -18,5 +19,10 @@ report_of w answers = record {
 -- wire, and no more: whatever answers had come later are left over
 pub record IsReported (a b : Settings) (moves : List Move) (report : Report) : Type 0 where
   pub world : World
-  pub moved_so : (later : List Bool) → all_moved moves (begins a b) (report.answers ++ later) ≡ ran world later
+  pub calls : List Call
+  pub moved_so : (later : List Bool) → all_moved moves (begins a b) (report.answers ++ later) ≡ asked calls (ran world later)
   pub reports : report ≡ report_of world report.answers
+
+-- what these moves ask of a wire that gives these answers
+abbrev pub calls_behind : Settings → Settings → List Move → List Bool → List Call
+calls_behind a b moves answers = (all_moved moves (begins a b) answers).calls

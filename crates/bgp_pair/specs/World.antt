@@ -14,6 +14,7 @@ use Rattle.bgp_pair.specs.declared.moves.Move.TheVariants as move
 use Rattle.bgp_pair.specs.declared.report.Round.{Round}
 use Rattle.bgp_pair.specs.declared.side.Side.{Side}
 use Rattle.bgp_pair.specs.declared.side.Side.TheVariants.{A, B}
+use Rattle.bgp_pair.specs.Wire.{Call, Joined, Handed, Cut}
 use Rattle.bgp_pair.specs.Pair.{End, fresh_end, with_flight, Note, Pair, pair, told, fed, sent}
 
 -- both ends and the NOTIFICATIONs of this round, the rounds that are over, whether one has begun, and what wasn't sent
@@ -127,13 +128,18 @@ new_round w = record { a = joined_end w.a; b = joined_end w.b; notes = []; over 
 
 -- ---- moves that the wire answers
 
--- the world, and the answers of the wire that are left
+-- the world, the answers of the wire that are left, and what the wire was asked
 pub record Ran : Type 0 where
   pub world : World
   pub answers : List Bool
+  pub calls : List Call
 
 abbrev pub ran : World → List Bool → Ran
-ran w answers = record { world = w; answers = answers }
+ran w answers = record { world = w; answers = answers; calls = [] }
+
+-- what comes behind these calls
+abbrev pub asked : List Call → Ran → Ran
+asked calls r = record { world = r.world; answers = r.answers; calls = calls ++ r.calls }
 
 -- the next answer
 abbrev pub answer_of : List Bool → Bool
@@ -154,13 +160,13 @@ joins true w = tells B event.Connected (tells A event.Connected (new_round w))
 joins false w = tells B event.Failed (tells A event.Failed w)
 
 abbrev pub joined_if : Bool → World → List Bool → Ran
-joined_if true w answers = ran (joins (answer_of answers) w) (later_of answers)
+joined_if true w answers = asked (Joined (answer_of answers) ∷ []) (ran (joins (answer_of answers) w) (later_of answers))
 joined_if false w answers = ran w answers
 
 -- a piece passes and comes to the side, and then the others; or it doesn't, and the connection is lost
 abbrev pub delivers_on : Bool → (World → List Bool → Ran) → Side → List ℕ → World → List Bool → Ran
-delivers_on true on side piece w answers = on (feeds side piece w) answers
-delivers_on false on side piece w answers = ran (lost w) answers
+delivers_on true on side piece w answers = asked (Handed side piece true ∷ []) (on (feeds side piece w) answers)
+delivers_on false on side piece w answers = asked (Handed side piece false ∷ []) (ran (lost w) answers)
 
 -- octets pass in pieces of 4096, until the side has left: no more pieces than octets
 abbrev pub delivered : ℕ → Side → List ℕ → World → List Bool → Ran
@@ -202,6 +208,17 @@ moved move.Lose w answers = ran (lost w) answers
 moved (move.Expire side timer) w answers = ran (tells side (event.Expired timer) w) answers
 moved (move.Send side u) w answers = ran (sends side u w) answers
 
+-- the wire is cut behind the move that ends the connection
+abbrev pub cut_behind : Bool → Bool → List Call
+cut_behind true false = Cut ∷ []
+cut_behind _ _ = []
+
+abbrev pub cut_if : Bool → Ran → Ran
+cut_if stood r = record { world = r.world; answers = r.answers; calls = r.calls ++ cut_behind stood (stands r.world) }
+
+abbrev pub played : Move → World → List Bool → Ran
+played one w answers = cut_if (stands w) (moved one w answers)
+
 abbrev pub all_moved : List Move → World → List Bool → Ran
 all_moved [] w answers = ran w answers
-all_moved (one ∷ later) w answers = all_moved later (moved one w answers).world (moved one w answers).answers
+all_moved (one ∷ later) w answers = asked (played one w answers).calls (all_moved later (moved one w answers).world (moved one w answers).answers)

@@ -4,6 +4,7 @@ ghost use Rattle.std.specs.Prelude.{◌≡◌, IfOk, OnOk};
 ghost use Rattle.bgp_session.specs.Cutting.{IsAtRest};
 ghost use Rattle.bgp_pair.specs.Pair.{pair, acted, all_acted, told, fed};
 ghost use Rattle.bgp_pair.specs.Feeding.{IsReady, Feeds};
+ghost use Rattle.bgp_pair.specs.Laws.{HasRangesUnless};
 ghost use Rattle.bgp_pair.specs.Playing.{Sends};
 
 use crate::side::Side;
@@ -132,7 +133,8 @@ pub(crate) fn send(
     other: &mut Speaker,
     update: &Update,
 ) -> Result<Option<SendFault>, AllocError>
-    ensures { IfOk result (Sends this.old other.old update.now this.new other.new) }
+    ensures sent { IfOk result (Sends this.old other.old update.now this.new other.new) }
+    ensures ranges { IfOk result (λ found. HasRangesUnless found update.now) }
 {
     let mut octets = Vec::new(alloc);
     match this.session.send(alloc, update, &mut octets) {

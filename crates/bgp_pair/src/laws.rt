@@ -8,40 +8,40 @@ ghost use Rattle.bgp_pair.specs.declared.report.Report.{Report};
 ghost use Rattle.bgp_pair.specs.declared.side.Side.{Side};
 ghost use Rattle.bgp_pair.specs.Report.{IsReported};
 ghost use Rattle.bgp_pair.specs.World.{rounds_of, end_of};
-ghost use Rattle.bgp_pair.specs.Laws.{CanBeSet, HasMoveRanges, world_behind, BothAgree, RoundHasReasons, HearsFronts, HeardAll, both_wide};
+ghost use Rattle.bgp_pair.specs.Laws.{CanBeSet, HaveSentRanges, world_behind, BothAgree, RoundHasReasons, HearsFronts, HeardAll, both_wide};
 
 /// Whatever is done, and whatever the wire answers: a session that has a context has the one that its speaker agrees on with what the other
 /// says of itself, and where both have one, it is the same.
 pub fn both_sides_agree()
-    ensures { (a b : Settings) (moves : List Move) (answers : List Bool) → CanBeSet a → CanBeSet b → All HasMoveRanges moves
+    ensures { (a b : Settings) (moves : List Move) (answers : List Bool) → CanBeSet a → CanBeSet b → HaveSentRanges a b moves answers
         → BothAgree a b (world_behind a b moves answers) }
 {}
 
 /// A side sends a NOTIFICATION for one of four reasons alone: the other has another AS number than the one that is configured, or the same
 /// identifier inside one AS; or a move stops the side, or lets its Hold Timer expire.
 pub fn only_these_notifications()
-    ensures { (a b : Settings) (moves : List Move) (answers : List Bool) → CanBeSet a → CanBeSet b → All HasMoveRanges moves
+    ensures { (a b : Settings) (moves : List Move) (answers : List Bool) → CanBeSet a → CanBeSet b → HaveSentRanges a b moves answers
         → All (RoundHasReasons a b moves) (rounds_of (world_behind a b moves answers)) }
 {}
 
 /// In each round, what a side got is what is heard of a front of what the other sent, in order, and no routes were lost to a message that was
 /// treated as a withdrawal.
 pub fn what_is_heard_was_said()
-    ensures { (a b : Settings) (moves : List Move) (answers : List Bool) → CanBeSet a → CanBeSet b → All HasMoveRanges moves
+    ensures { (a b : Settings) (moves : List Move) (answers : List Bool) → CanBeSet a → CanBeSet b → HaveSentRanges a b moves answers
         → All (HearsFronts (both_wide a b)) (rounds_of (world_behind a b moves answers)) }
 {}
 
 /// A side that hasn't left the connection, and towards which nothing is in flight, has heard all that the other sent in the last round.
 pub fn all_is_heard()
-    ensures { (a b : Settings) (moves : List Move) (answers : List Bool) (side : Side) → CanBeSet a → CanBeSet b → All HasMoveRanges moves
+    ensures { (a b : Settings) (moves : List Move) (answers : List Bool) (side : Side) → CanBeSet a → CanBeSet b → HaveSentRanges a b moves answers
         → (end_of side (world_behind a b moves answers)).left ≡ false → (end_of side (world_behind a b moves answers)).flight ≡ []
         → HeardAll (both_wide a b) side (world_behind a b moves answers) }
 {}
 
 /// What is reported of a schedule keeps to these laws: each NOTIFICATION has its reason, and what was heard is a front of what was said.
 pub fn reports_keep_to_the_laws()
-    ensures notifications { (a b : Settings) (moves : List Move) (report : Report) → CanBeSet a → CanBeSet b → All HasMoveRanges moves
+    ensures notifications { (a b : Settings) (moves : List Move) (report : Report) → CanBeSet a → CanBeSet b → HaveSentRanges a b moves report.answers
         → IsReported a b moves report → All (RoundHasReasons a b moves) report.rounds }
-    ensures updates { (a b : Settings) (moves : List Move) (report : Report) → CanBeSet a → CanBeSet b → All HasMoveRanges moves
+    ensures updates { (a b : Settings) (moves : List Move) (report : Report) → CanBeSet a → CanBeSet b → HaveSentRanges a b moves report.answers
         → IsReported a b moves report → All (HearsFronts (both_wide a b)) report.rounds }
 {}

@@ -2,6 +2,8 @@
 
 ghost use Rattle.std.specs.Prelude.{◌≡◌, take, IfOk, OnOk};
 ghost use Rattle.bgp_session.specs.Standing.{listens};
+ghost use Rattle.bgp_session.specs.Sending.{refusal_of};
+ghost use Rattle.bgp_pair.specs.Laws.{HasRangesUnless};
 ghost use Rattle.bgp_pair.specs.Playing.{Rests, IsTried};
 ghost use Rattle.bgp_pair.specs.World.{begins, tells, feeds, stands, state_of, seeks, fails_up, lost, refused_at, round_of, forgotten, round_over, new_round, can_join, joins, sends, drawn, end_of};
 ghost use Rattle.bgp_pair.specs.Report.{report_of};
@@ -253,6 +255,7 @@ impl Pairing {
         update: &Update,
     ) -> Result<Option<SendFault>, AllocError>
         ensures sent { IfOk result (λ found. IsTried side update.now self.old found self.new) }
+        ensures ranges { IfOk result (λ found. HasRangesUnless found update.now) }
         ensures rests { Rests self.old → OnOk result (Rests self.new) }
     {
         match side {
@@ -269,6 +272,7 @@ impl Pairing {
         update: &Update,
     ) -> Result<(), AllocError>
         ensures sent { OnOk result (self.new ≡ sends side update.now self.old) }
+        ensures ranges { OnOk result (HasRangesUnless (refusal_of (end_of side self.old).session update.now) update.now) }
         ensures rests { Rests self.old → OnOk result (Rests self.new) }
     {
         match self.try_send(alloc, side, update)? {

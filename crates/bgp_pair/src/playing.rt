@@ -1,12 +1,12 @@
 //! The moves of a schedule.
 
-ghost use Rattle.std.specs.Prelude.{◌≡◌, true, IfOk, OnOk};
+ghost use Rattle.std.specs.Prelude.{◌≡◌, true, [], ◌∷◌, IfOk, OnOk};
 ghost use Rattle.std.specs.List.{All};
-ghost use Rattle.bgp_pair.specs.Laws.{CanBeSet, HasMoveRanges, RoundHasReasons, HearsFronts, both_wide};
+ghost use Rattle.bgp_pair.specs.Laws.{CanBeSet, SendsRanges, HaveSentRanges, RoundHasReasons, HearsFronts, both_wide};
 ghost use Rattle.bgp_pair.specs.Playing.{Rests, Plays, Passes};
-ghost use Rattle.bgp_pair.specs.Report.{IsReported};
-ghost use Rattle.bgp_pair.specs.Wire.{failed_after, failed_behind};
-ghost use Rattle.bgp_pair.specs.World.{joined_if, can_join, delivers, moved};
+ghost use Rattle.bgp_pair.specs.Report.{IsReported, calls_behind};
+ghost use Rattle.bgp_pair.specs.Wire.{failed_after, failed_behind, Handed, Grows, HasAnswered, trace};
+ghost use Rattle.bgp_pair.specs.World.{joined_if, can_join, delivers, moved, cut_behind, played};
 
 use crate::moves::Move;
 use crate::pairing::Pairing;
@@ -29,7 +29,7 @@ fn join<W: Wire>(
     wire: &mut W,
     answers: &mut List<bool>,
 ) -> Result<(), AllocError>
-    ensures plays { OnOk result (Plays (record { honest = W.honest wire.old; old = answers.old; new = answers.new; failed_old = W.failed wire.old; failed_new = W.failed wire.new })
+    ensures plays { OnOk result (Plays (record { honest = W.honest wire.old; old = answers.old; new = answers.new; trace_old = trace (W.failed wire.old) (W.calls wire.old); trace_new = trace (W.failed wire.new) (W.calls wire.new) })
         (joined_if (can_join pairing.old) pairing.old) pairing.new) }
     ensures rests { Rests pairing.old → OnOk result (Rests pairing.new) }
     ensures honest { W.honest wire.new ≡ W.honest wire.old }
@@ -47,6 +47,7 @@ fn pass_octets<W: Wire>(side: Side, octets: &mut Vec<u8>, wire: &mut W) -> bool
     ensures same { W.honest wire.old ≡ true → result ≡ true → octets.new.items ≡ octets.old.items }
     ensures honest { W.honest wire.new ≡ W.honest wire.old }
     ensures failed { W.failed wire.new ≡ failed_after (W.failed wire.old) result }
+    ensures kept { Grows (W.calls wire.old) (W.calls wire.new) (Handed side octets.old.items result ∷ []) }
 {
     wire.pass(side, octets.as_mut_slice())
 }
@@ -61,7 +62,7 @@ fn pass<W: Wire>(
     answers: &mut List<bool>,
 ) -> Result<bool, AllocError>
     requires rests { Rests pairing.old }
-    ensures passes { IfOk result (λ passed. Passes (record { honest = W.honest wire.old; old = answers.old; new = answers.new; failed_old = W.failed wire.old; failed_new = W.failed wire.new })
+    ensures passes { IfOk result (λ passed. Passes (record { honest = W.honest wire.old; old = answers.old; new = answers.new; trace_old = trace (W.failed wire.old) (W.calls wire.old); trace_new = trace (W.failed wire.new) (W.calls wire.new) })
         passed side piece.old.items pairing.old pairing.new) }
     ensures rests { OnOk result (Rests pairing.new) }
     ensures honest { W.honest wire.new ≡ W.honest wire.old }
@@ -86,7 +87,7 @@ fn deliver<W: Wire>(
     answers: &mut List<bool>,
 ) -> Result<(), AllocError>
     requires rests { Rests pairing.old }
-    ensures plays { OnOk result (Plays (record { honest = W.honest wire.old; old = answers.old; new = answers.new; failed_old = W.failed wire.old; failed_new = W.failed wire.new })
+    ensures plays { OnOk result (Plays (record { honest = W.honest wire.old; old = answers.old; new = answers.new; trace_old = trace (W.failed wire.old) (W.calls wire.old); trace_new = trace (W.failed wire.new) (W.calls wire.new) })
         (delivers side count pairing.old) pairing.new) }
     ensures rests { OnOk result (Rests pairing.new) }
     ensures honest { W.honest wire.new ≡ W.honest wire.old }
@@ -110,8 +111,9 @@ fn make<W: Wire>(
     answers: &mut List<bool>,
 ) -> Result<(), AllocError>
     requires rests { Rests pairing.old }
-    ensures plays { OnOk result (Plays (record { honest = W.honest wire.old; old = answers.old; new = answers.new; failed_old = W.failed wire.old; failed_new = W.failed wire.new })
+    ensures plays { OnOk result (Plays (record { honest = W.honest wire.old; old = answers.old; new = answers.new; trace_old = trace (W.failed wire.old) (W.calls wire.old); trace_new = trace (W.failed wire.new) (W.calls wire.new) })
         (moved one.now pairing.old) pairing.new) }
+    ensures ranges { OnOk result (SendsRanges pairing.old one.now) }
     ensures rests { OnOk result (Rests pairing.new) }
     ensures honest { W.honest wire.new ≡ W.honest wire.old }
 {
@@ -127,6 +129,18 @@ fn make<W: Wire>(
     }
 }
 
+/// Cuts the wire where a connection that stood doesn't any more.
+#[tactic(auto, using(crate::proofs::Plays::grows_none))]
+fn cut_behind<W: Wire>(stood: bool, stands: bool, wire: &mut W)
+    ensures failed { W.failed wire.new ≡ W.failed wire.old }
+    ensures honest { W.honest wire.new ≡ W.honest wire.old }
+    ensures kept { Grows (W.calls wire.old) (W.calls wire.new) (cut_behind stood stands) }
+{
+    if stood && !stands {
+        wire.cut();
+    }
+}
+
 /// Makes a move, and cuts the wire where that ends the connection.
 fn play<W: Wire>(
     alloc: Global,
@@ -136,16 +150,15 @@ fn play<W: Wire>(
     answers: &mut List<bool>,
 ) -> Result<(), AllocError>
     requires rests { Rests pairing.old }
-    ensures plays { OnOk result (Plays (record { honest = W.honest wire.old; old = answers.old; new = answers.new; failed_old = W.failed wire.old; failed_new = W.failed wire.new })
-        (moved one.now pairing.old) pairing.new) }
+    ensures plays { OnOk result (Plays (record { honest = W.honest wire.old; old = answers.old; new = answers.new; trace_old = trace (W.failed wire.old) (W.calls wire.old); trace_new = trace (W.failed wire.new) (W.calls wire.new) })
+        (played one.now pairing.old) pairing.new) }
+    ensures ranges { OnOk result (SendsRanges pairing.old one.now) }
     ensures rests { OnOk result (Rests pairing.new) }
     ensures honest { W.honest wire.new ≡ W.honest wire.old }
 {
     let stood = pairing.stands();
     make(alloc, pairing, one, wire, answers)?;
-    if stood && !pairing.stands() {
-        wire.cut();
-    }
+    cut_behind(stood, pairing.stands(), wire);
     Ok(())
 }
 
@@ -158,7 +171,10 @@ fn run<W: Wire>(
     wire: &mut W,
 ) -> Result<Report, AllocError>
     ensures reported { W.honest wire.old ≡ true → IfOk result (IsReported a b moves.now) }
+    ensures ranges { W.honest wire.old ≡ true → IfOk result (λ report. HaveSentRanges a b moves.now report.answers) }
     ensures failures { IfOk result (λ report. W.failed wire.new ≡ failed_behind (W.failed wire.old) report.answers) }
+    ensures asked { IfOk result (λ report. HasAnswered (W.calls wire.old) (W.calls wire.new) report.answers) }
+    ensures handed { W.honest wire.old ≡ true → IfOk result (λ report. Grows (W.calls wire.old) (W.calls wire.new) (calls_behind a b moves.now report.answers)) }
     ensures honest { W.honest wire.new ≡ W.honest wire.old }
 {
     let mut pairing = Pairing::new(alloc, a, b);
@@ -167,6 +183,15 @@ fn run<W: Wire>(
         play(alloc, &mut pairing, one, wire, &mut answers)?;
     }
     pairing.report(alloc, answers)
+}
+
+/// A configuration is one that can be made.
+fn know(config: &Config)
+    ensures { CanBeSet config.now }
+{
+    let _local_as = config.local_as();
+    let _hold = config.hold();
+    let _id = config.id();
 }
 
 /// Runs two speakers against each other over a wire: what comes of the moves, each made on what those before it left. Both sessions begin in
@@ -186,11 +211,17 @@ pub fn run_pair<W: Wire>(
     // Over an honest wire the report is that of these moves with the answers that the wire gave.
     ensures reported { W.honest wire.old ≡ true → IfOk result (IsReported a b moves.now) }
     // Then each NOTIFICATION has one of four reasons, and what was heard is a front of what was said.
-    ensures notifications { CanBeSet a → CanBeSet b → All HasMoveRanges moves.now → W.honest wire.old ≡ true → IfOk result (λ report. All (RoundHasReasons a b moves.now) report.rounds) }
-    ensures updates { CanBeSet a → CanBeSet b → All HasMoveRanges moves.now → W.honest wire.old ≡ true → IfOk result (λ report. All (HearsFronts (both_wide a b)) report.rounds) }
+    ensures notifications { W.honest wire.old ≡ true → IfOk result (λ report. All (RoundHasReasons a b moves.now) report.rounds) }
+    ensures updates { W.honest wire.old ≡ true → IfOk result (λ report. All (HearsFronts (both_wide a b)) report.rounds) }
     // Whatever the wire, its failures rose by the answers that are false.
     ensures failures { IfOk result (λ report. W.failed wire.new ≡ failed_behind (W.failed wire.old) report.answers) }
+    // Where the wire keeps its calls, they are those that gave the answers of the report.
+    ensures asked { IfOk result (λ report. HasAnswered (W.calls wire.old) (W.calls wire.new) report.answers) }
+    // Over an honest wire it was asked for just what these moves ask, with these octets.
+    ensures handed { W.honest wire.old ≡ true → IfOk result (λ report. Grows (W.calls wire.old) (W.calls wire.new) (calls_behind a b moves.now report.answers)) }
     ensures honest { W.honest wire.new ≡ W.honest wire.old }
 {
+    know(&a);
+    know(&b);
     run(alloc, a, b, moves, wire)
 }

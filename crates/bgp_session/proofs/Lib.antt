@@ -5,5 +5,6 @@ pub mod Pulls
 pub mod Held
 pub mod Lives
 pub mod Sendings
+pub mod Widened
 pub mod Cuttings
 pub mod Feedings

@@ -1,6 +1,8 @@
 -- Octets that are fed to a session in pieces, with all that is to be done behind each feed.
 use Rattle.std.specs.Prelude.{◌≡◌, ◌<◌, ℕ, zero, suc, Bool, true, false, List, [], ◌∷◌, ◌++◌, map, drop, Option, None, Some}
 use Rattle.std.specs.List.{flat_map}
+use Rattle.arrayvec.specs.ArrayVec.{ArrayVec}
+use Rattle.bgp_frame.specs.Frame.{Waits}
 use Rattle.bgp_frame.specs.Framer.{IsHeld}
 use Rattle.bgp_session.specs.declared.action.Action.{Action}
 use Rattle.bgp_session.specs.Standing.{listens}
@@ -12,6 +14,20 @@ pub record IsAtRest (x : Machine) : Type 0 where
   pub can_hold : IsHeld x.held
   pub nothing_to_do : judged x ≡ None
   pub holds_none : listens x.standing.state ≡ false → x.held ≡ []
+
+-- where a step does nothing, the session is at rest
+abbrev pub RestsUnless : Option (ArrayVec Action) → Machine → Type 0
+RestsUnless None x = IsAtRest x
+RestsUnless (Some actions) x = Unit {0}
+
+-- where a pull does nothing, the session is at rest, unless octets were taken that made what is held whole
+pub record CanRest (n : ℕ) (x : Machine) : Type 0 where
+  pub none_taken : n ≡ 0 → IsAtRest x
+  pub waiting : Waits x.held → IsAtRest x
+
+abbrev pub RestsBehind : ℕ → Option (ArrayVec Action) → Machine → Type 0
+RestsBehind n None x = CanRest n x
+RestsBehind n (Some actions) x = Unit {0}
 
 -- ---- the pieces of a cutting
 

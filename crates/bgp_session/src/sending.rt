@@ -2,7 +2,7 @@
 
 ghost use Rattle.std.specs.Prelude.{◌≡◌, ◌⊎◌, ◌++◌, true, false, None, Some, IfOk, IfErr, OnOk, OnErr};
 ghost use Rattle.bgp_update.specs.As4.{HasNoAs4, narrowed_update};
-ghost use Rattle.bgp_update.specs.Written.{invalid_of};
+ghost use Rattle.bgp_update.specs.Written.{invalid_of, HasUpdateRanges};
 ghost use Rattle.bgp_msg.specs.declared.message.Message.TheVariants as message;
 ghost use Rattle.bgp_msg.specs.Written.{canonical, is_too_long};
 ghost use Rattle.bgp_session.specs.Sending.{is_mixed, why_unsent, told_octets, is_told_too_long, keepalive_on, IsSent, IsRefused, IsPutFault, IsTellFault};
@@ -52,6 +52,7 @@ fn put(context: &Context, update: &Update, out: &mut Vec<u8>) -> Result<(), Send
     requires { invalid_of context.now update.now ≡ None }
     ensures ok { OnOk result (out.new.items ≡ out.old.items ++ canonical context.now (message.Update update.now)) }
     ensures fits { OnOk result (is_too_long context.now (message.Update update.now) ≡ false) }
+    ensures ranges { OnOk result (HasUpdateRanges update.now) }
     ensures fault { IfErr result (IsPutFault (is_too_long context.now (message.Update update.now))) }
     ensures err { OnErr result (out.new.items ≡ out.old.items) }
 {
@@ -73,6 +74,7 @@ fn tell(
     requires { why_unsent context.now update.now ≡ None }
     ensures ok { OnOk result (out.new.items ≡ out.old.items ++ told_octets context.now update.now) }
     ensures fits { OnOk result (is_told_too_long context.now update.now ≡ false) }
+    ensures ranges { OnOk result (HasUpdateRanges update.now) }
     ensures fault { IfErr result (IsTellFault context.now.as4 (is_told_too_long context.now update.now)) }
     ensures err { OnErr result (out.new.items ≡ out.old.items) }
 {
@@ -100,6 +102,8 @@ impl Session {
         out: &mut Vec<u8>,
     ) -> Result<Actions, SendFault>
         ensures ok { IfOk result (λ actions. IsSent self.now update.now actions.items out.old.items out.new.items) }
+        // Each number of what is sent is within its field.
+        ensures ranges { OnOk result (HasUpdateRanges update.now) }
         ensures fault { IfErr result (IsRefused self.now update.now) }
         ensures err { OnErr result (out.new.items ≡ out.old.items) }
     {

@@ -1,6 +1,8 @@
 //! The session of one connection.
 
 ghost use Rattle.std.specs.Prelude.{◌≡◌, ◌≤◌, length, option_map};
+ghost use Rattle.bgp_frame.specs.Frame.{Waits};
+ghost use Rattle.bgp_session.specs.Cutting.{IsAtRest};
 ghost use Rattle.bgp_session.specs.Standing.{runs};
 ghost use Rattle.bgp_session.specs.Table.{happens};
 ghost use Rattle.bgp_session.specs.Session.{fresh, own_octets, after_event, IsFed};
@@ -83,6 +85,8 @@ impl Session {
     pub fn held(&self) -> usize
         ensures value { result ≡ length self.now.held }
         ensures bound { result ≤ 4096 }
+        // Where what is held waits for more, nothing is left to do.
+        ensures rests { Waits self.now.held → IsAtRest self.now }
     {
         self.framer.held()
     }
@@ -103,7 +107,9 @@ impl Session {
     /// Takes octets from the front of the piece until the piece ends, or a whole message or a header with a fault is held. Answers how
     /// many it took: none before the connection stands.
     pub fn feed(&mut self, piece: &[u8]) -> usize
-        ensures { IsFed self.old piece.now result self.new }
+        ensures fed { IsFed self.old piece.now result self.new }
+        // Where what is held waits for more, nothing is left to do.
+        ensures rests { Waits self.new.held → IsAtRest self.new }
     {
         if self.standing.listens() {
             self.framer.feed(piece)

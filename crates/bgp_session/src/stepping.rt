@@ -2,6 +2,7 @@
 
 ghost use Rattle.std.specs.Prelude.{◌≡◌, ◌⊎◌, [], false, true, IfOk, OnOk, OnErr};
 ghost use Rattle.bgp_session.specs.Standing.{listens};
+ghost use Rattle.bgp_session.specs.Cutting.{RestsUnless, RestsBehind};
 ghost use Rattle.bgp_session.specs.Session.{IsJudged, HeldTakesMemory};
 ghost use Rattle.bgp_session.specs.Pulling.{IsPulled, IsFedAndStepped, FrontTakesMemory};
 
@@ -19,11 +20,16 @@ impl Session {
     /// Established. Nothing is changed then, and the call can be made again.
     pub fn step(&mut self, alloc: Global) -> Result<Option<Actions>, AllocError>
         ensures ok { IfOk result (λ found. IsJudged self.old found self.new) }
+        // Where it gives None, the session is at rest: the laws on cutting begin there.
+        ensures rests { IfOk result (λ found. RestsUnless found self.new) }
         ensures err { OnErr result (self.new ≡ self.old) }
         ensures memory { OnErr result (HeldTakesMemory self.old) }
     {
         match self.framer.step() {
-            Step::More => Ok(None),
+            Step::More => {
+                let _waiting = self.held();
+                Ok(None)
+            }
             Step::Frame(frame) => {
                 let mut actions = ArrayVec::new();
                 self.standing
@@ -57,6 +63,8 @@ impl Session {
     ) -> Result<(usize, Option<Actions>), AllocError>
         ensures ok { IfOk result (λ r. IsPulled self.old piece.now r.0 r.1 self.new) }
         ensures as_fed { IfOk result (λ r. IsFedAndStepped self.old piece.now r.0 r.1 self.new) }
+        // So it is where a pull takes nothing and gives None, and where one gives None and what is held waits.
+        ensures rests { IfOk result (λ r. RestsBehind r.0 r.1 self.new) }
         ensures err { OnErr result (self.new ≡ self.old) }
         ensures memory { OnErr result (HeldTakesMemory self.old ⊎ FrontTakesMemory self.old piece.now) }
     {
@@ -81,6 +89,7 @@ impl Session {
         requires hears { listens self.old.standing.state ≡ true }
         requires none_held { self.old.held ≡ [] }
         ensures ok { IfOk result (λ r. IsPulled self.old piece.now r.0 r.1 self.new) }
+        ensures rests { IfOk result (λ r. RestsBehind r.0 r.1 self.new) }
         ensures err { OnErr result (self.new ≡ self.old) }
         ensures memory { OnErr result (FrontTakesMemory self.old piece.now) }
     {

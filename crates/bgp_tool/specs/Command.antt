@@ -14,10 +14,10 @@ use Rattle.bgp_engine.specs.ToHex.{Hexed}
 use Rattle.bgp_engine.specs.FromHex.{Copied}
 use Rattle.bgp_engine.specs.Narrow.{Narrowed}
 use Rattle.bgp_engine.specs.Tally.{status_of}
-use Rattle.bgp_tool.specs.declared.request.Request.{Request}
-use Rattle.bgp_tool.specs.declared.request.Request.TheVariants.{Show, Check, Narrow, ToHex, FromHex, Loop}
+use Rattle.bgp_words.specs.declared.request.Request.{Request}
+use Rattle.bgp_words.specs.declared.request.Request.TheVariants.{Show, Check, Narrow, ToHex, FromHex, Loop}
 use Rattle.bgp_loop.specs.Loop.{RunsFile}
-use Rattle.bgp_tool.specs.CommandLine.{faults_of, request_of}
+use Rattle.bgp_words.specs.CommandLine.{faults_of, request_of}
 
 -- a script ran: nothing was read of the reader
 pub record RunsScript (io : Io) (outcome : Result Tally ToolFault) : Type 0 where

@@ -1,4 +1,2 @@
--- What the words of the command line ask for, and what the program does.
-pub mod CommandLine
+-- What the program does with its words.
 pub mod Command
-pub mod Laws

@@ -4,9 +4,9 @@ ghost use Rattle.std.specs.Prelude.{map};
 ghost use Rattle.clap.specs.Words.{kind_of};
 ghost use Rattle.bgp_tool.specs.Command.{Answers, HasRun, IsExplained, IsQuiet, IsWide, Runs};
 
-use crate::request::{Asked, Request, parse};
 use bgp_engine::{Tally, ToolFault, check, from_hex, narrow_stream, show, status, to_hex};
 use bgp_loop::run_file;
+use bgp_words::{Asked, Request, parse};
 use clap::Error;
 use clap::error::ErrorKind;
 use std::alloc::Global;

@@ -12,7 +12,7 @@ ghost use Rattle.bgp_update.specs.declared.write.WriteFault.TheVariants.{NotVali
 ghost use Rattle.bgp_update.specs.Measured.{lengths_of, HasPartRanges};
 ghost use Rattle.bgp_update.specs.Slots.{attr_list};
 ghost use Rattle.bgp_update.specs.Verdict.{verdict_of};
-ghost use Rattle.bgp_update.specs.Written.{written_body, invalid_of, is_valid, is_too_long};
+ghost use Rattle.bgp_update.specs.Written.{written_body, invalid_of, is_valid, is_too_long, HasUpdateRanges};
 
 use crate::invalid::Invalid;
 use crate::measure::{Lengths, measure};
@@ -118,6 +118,8 @@ pub fn write_update(ctx: &Context, update: &Update, out: &mut Vec<u8>) -> Result
     ensures ok { OnOk result (out.new.items ≡ out.old.items ++ written_body ctx.now update.now) }
     // What is written is taken as the UPDATE, without notes.
     ensures taken { OnOk result (verdict_of ctx.now (written_body ctx.now update.now) ≡ Take update.now []) }
+    // Each number of it is within its field.
+    ensures ranges { OnOk result (HasUpdateRanges update.now) }
     ensures err { OnErr result (out.new.items ≡ out.old.items) }
 {
     if let Some(why) = first_reason(ctx, update) {

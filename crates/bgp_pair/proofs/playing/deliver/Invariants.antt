@@ -1,6 +1,7 @@
 use Rattle.std.proofs.Common.{◌≡◌, length}
 use Rattle.bgp_pair.specs.Playing.{Rests, Delivers}
 use Rattle.bgp_pair.specs.World.{delivers}
+use Rattle.bgp_pair.specs.Wire.{trace}
 use Rattle.bgp_pair.proofs.playing.deliver.Given as goal
 
 -- the pieces so far have passed, and the others are left
@@ -8,7 +9,7 @@ abbrev pub invariant-pieces : goal.invariant-pieces
 invariant-pieces g l =
     Rests l.pairing
     × Delivers
-    (record { honest = g.W.Wire.honest l.initial.wire; old = l.initial.answers; new = l.answers; failed_old = g.W.Wire.failed l.initial.wire; failed_new = g.W.Wire.failed l.wire })
+    (record { honest = g.W.Wire.honest l.initial.wire; old = l.initial.answers; new = l.answers; trace_old = trace (g.W.Wire.failed l.initial.wire) (g.W.Wire.calls l.initial.wire); trace_new = trace (g.W.Wire.failed l.wire) (g.W.Wire.calls l.wire) })
     (delivers l.fn.side l.fn.count l.fn.pairing) l.fn.side l.octets.items l.pairing
     × (g.W.Wire.honest l.wire ≡ g.W.Wire.honest l.initial.wire)
 

@@ -1,6 +1,7 @@
 use Rattle.std.proofs.Common.{◌≡◌, take}
-use Rattle.bgp_pair.specs.Playing.{Rests, Plays}
+use Rattle.bgp_pair.specs.Playing.{Rests, Plays, HaveSoFar}
 use Rattle.bgp_pair.specs.World.{begins, all_moved}
+use Rattle.bgp_pair.specs.Wire.{trace}
 use Rattle.bgp_pair.proofs.playing.run.Given as goal
 
 -- the moves so far were played
@@ -8,6 +9,7 @@ abbrev pub invariant-moves : goal.invariant-moves
 invariant-moves g l =
     Rests l.pairing
     × Plays
-    (record { honest = g.W.Wire.honest l.initial.wire; old = l.initial.answers; new = l.answers; failed_old = g.W.Wire.failed l.initial.wire; failed_new = g.W.Wire.failed l.wire })
+    (record { honest = g.W.Wire.honest l.initial.wire; old = l.initial.answers; new = l.answers; trace_old = trace (g.W.Wire.failed l.initial.wire) (g.W.Wire.calls l.initial.wire); trace_new = trace (g.W.Wire.failed l.wire) (g.W.Wire.calls l.wire) })
     (all_moved (take l.one-index l.moves) (begins l.fn.a l.fn.b)) l.pairing
     × (g.W.Wire.honest l.wire ≡ g.W.Wire.honest l.initial.wire)
+    × HaveSoFar (g.W.Wire.honest l.initial.wire) (take l.one-index l.moves) (begins l.fn.a l.fn.b) l.answers

@@ -7,6 +7,14 @@ pub append_body-requires-clause-writable : goal.append_body-requires-clause-writ
 append_body-requires-clause-writable c =
     valid-writable c.args.ctx.now c.args.update.now (sym c.in_default.ensures.why) (measured_fits c.args.ctx.now c.args.update.now c.in-Some-measure.lengths c.in-Some-measure.ensures)
 
+pub returns-clause-ranges : goal.returns-clause-ranges
+returns-clause-ranges c = record {
+  withdrawn = (c.in_ok-append_body.ensures.ranges).withdrawn;
+  attributes = (c.in_ok-append_body.ensures.ranges).attributes;
+  others = c.in_default.ensures.kinds refl;
+  nlri = (c.in_ok-append_body.ensures.ranges).nlri;
+}
+
 pub returns-clause-taken : goal.returns-clause-taken
 returns-clause-taken c =
     valid-taken c.args.ctx.now c.args.update.now

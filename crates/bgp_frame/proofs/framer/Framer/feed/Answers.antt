@@ -24,3 +24,6 @@ returns-clause-appends c = (fed c).appends
 
 pub returns-clause-progress : goal.returns-clause-progress
 returns-clause-progress c = takes_some c.args.self.now c.args.piece.now _ (fed c).takes
+
+pub returns-clause-can_hold : goal.returns-clause-can_hold
+returns-clause-can_hold c = (fed c).holds

@@ -12,7 +12,7 @@ returns-in_err-hear-in-Frame-clause-memory c =
 
 pub returns-in-More-clause-ok : goal.returns-in-More-clause-ok
 returns-in-More-clause-ok c =
-    pulls_more c.args.self.now c.args.piece.now c.feed.result c.feed.new.self c.requires.hears c.requires.none_held c.in-More.ensures c.feed.ensures
+    pulls_more c.args.self.now c.args.piece.now c.feed.result c.feed.new.self c.requires.hears c.requires.none_held c.in-More.ensures c.feed.ensures.fed
 
 pub returns-in_ok-hear-in-Frame-clause-ok : goal.returns-in_ok-hear-in-Frame-clause-ok
 returns-in_ok-hear-in-Frame-clause-ok c =

@@ -1,0 +1,166 @@
+//! What the attributes of a field come to, each as the first of its type.
+
+use crate::page::Page;
+use crate::trouble::Trouble;
+use bgp_attr::{Attr, Judged, Opaque, Tail, Tlv, TlvIter, judge, judge_view};
+use bgp_open::Context;
+use bgp_update::{Attrs, Update};
+use bgp_wire::List;
+use std::alloc::{AllocError, Global};
+
+const TOO_LONG: Trouble = Trouble::Row("an attribute of more than 4075 octets");
+
+/// No attributes.
+pub(crate) fn no_attrs(alloc: Global) -> Attrs {
+    Attrs {
+        origin: None,
+        as_path: None,
+        next_hop: None,
+        med: None,
+        local_pref: None,
+        atomic: false,
+        aggregator: None,
+        communities: None,
+        mp_reach: None,
+        mp_unreach: None,
+        as4_path: None,
+        as4_aggregator: None,
+        large: None,
+        others: List::new(alloc),
+    }
+}
+
+/// Whether an attribute's Partial bit is kept and set.
+fn is_partial(attr: &Attr) -> bool {
+    match attr {
+        Attr::Aggregator(value) => value.partial,
+        Attr::Communities(value) => value.partial,
+        Attr::As4Path(value) => value.partial,
+        Attr::As4Aggregator(value) => value.partial,
+        Attr::Large(value) => value.partial,
+        _ => false,
+    }
+}
+
+/// A vector of one attribute.
+fn vec_of(alloc: Global, value: Opaque) -> Result<Vec<Opaque>, AllocError> {
+    let mut others = match Vec::with_capacity(alloc, 1) {
+        Err(_) => Vec::with_capacity(alloc, 1)?,
+        Ok(others) => others,
+    };
+    others.push(value)?;
+    Ok(others)
+}
+
+/// The attributes of one attribute.
+fn attrs_of(alloc: Global, attr: Attr) -> Result<Attrs, Trouble> {
+    let mut attrs = no_attrs(alloc);
+    match attr {
+        Attr::Origin(value) => attrs.origin = Some(value),
+        Attr::AsPath(value) => attrs.as_path = Some(value),
+        Attr::NextHop(value) => attrs.next_hop = Some(value),
+        Attr::Med(value) => attrs.med = Some(value),
+        Attr::LocalPref(value) => attrs.local_pref = Some(value),
+        Attr::Atomic => attrs.atomic = true,
+        Attr::Aggregator(value) => attrs.aggregator = Some(value),
+        Attr::Communities(value) => attrs.communities = Some(value),
+        Attr::MpReach(value) => attrs.mp_reach = Some(value),
+        Attr::MpUnreach(value) => attrs.mp_unreach = Some(value),
+        Attr::As4Path(value) => attrs.as4_path = Some(value),
+        Attr::As4Aggregator(value) => attrs.as4_aggregator = Some(value),
+        Attr::Large(value) => attrs.large = Some(value),
+        Attr::Opaque(value) => attrs.others = List::from_vec(vec_of(alloc, value)?),
+    }
+    Ok(attrs)
+}
+
+/// Adds the lines of a kept attribute.
+fn put_kept(alloc: Global, page: &mut Page, attr: Attr) -> Result<(), Trouble> {
+    page.put(if is_partial(&attr) {
+        "keep partial\n"
+    } else {
+        "keep\n"
+    })?;
+    let update = Update {
+        withdrawn: List::new(alloc),
+        attrs: attrs_of(alloc, attr)?,
+        nlri: List::new(alloc),
+    };
+    page.put_update(alloc, &update)
+}
+
+/// Adds what an attribute comes to.
+fn put_judged(alloc: Global, page: &mut Page, judged: Judged) -> Result<(), Trouble> {
+    match judged {
+        Judged::Keep(attr) => return put_kept(alloc, page, attr),
+        Judged::Discard(why) => {
+            page.put("discard ")?;
+            page.put_name(alloc, &why)?;
+        }
+        Judged::Withdraw(why) => {
+            page.put("withdraw ")?;
+            page.put_name(alloc, &why)?;
+        }
+        Judged::Reset(told) => {
+            page.put("reset ")?;
+            page.put_notification(alloc, &told)?;
+        }
+    }
+    page.put("\n")
+}
+
+/// Adds what an attribute comes to, behind its place and type; the view and the owned value have to agree.
+fn put_attribute(
+    alloc: Global,
+    page: &mut Page,
+    ctx: &Context,
+    has_nlri: bool,
+    tlv: &Tlv<'_>,
+) -> Result<(), Trouble> {
+    if tlv.whole.len() > 4075 {
+        return Err(TOO_LONG);
+    }
+    page.put_value(alloc, &tlv.at)?;
+    page.put(" ")?;
+    page.put_value(alloc, &tlv.kind)?;
+    page.put(" ")?;
+    let judged = match judge(alloc, ctx, has_nlri, tlv) {
+        Err(_) => judge(alloc, ctx, has_nlri, tlv)?,
+        Ok(judged) => judged,
+    };
+    let view = judge_view(ctx, has_nlri, tlv);
+    let viewed = match view.own(alloc) {
+        Err(_) => view.own(alloc)?,
+        Ok(viewed) => viewed,
+    };
+    if judged != viewed {
+        page.put("otherwise as a view: ")?;
+        put_judged(alloc, page, viewed)?;
+    }
+    put_judged(alloc, page, judged)
+}
+
+/// What the attributes of a field come to, and what is left where no attribute begins.
+pub(crate) fn put_attributes(
+    alloc: Global,
+    ctx: &Context,
+    has_nlri: bool,
+    field: &[u8],
+) -> Result<Page, Trouble> {
+    let mut page = Page::new(alloc);
+    let mut tlvs = TlvIter::new(field);
+    let tail = tlvs.tail();
+    for tlv in TlvIter::new(field) {
+        put_attribute(alloc, &mut page, ctx, has_nlri, &tlv)?;
+        let _same = tlvs.next();
+    }
+    if tlvs.next().is_some() || tlvs.next().is_some() || tlvs.tail() != tail {
+        page.put("the field goes on behind its end\n")?;
+    }
+    if let Tail::Cut(octets) = tail {
+        page.put("cut ")?;
+        page.put_digits(alloc, octets)?;
+        page.put("\n")?;
+    }
+    Ok(page)
+}

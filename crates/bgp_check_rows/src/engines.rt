@@ -1,0 +1,184 @@
+//! The engines of the program's commands, from a reader that gives one octet, seven or all at once.
+
+use crate::page::Page;
+use crate::row::Row;
+use crate::sheet::{Drip, Sheet};
+use crate::trouble::Trouble;
+use bgp_engine::{Tally, ToolFault, check, from_hex, narrow_stream, show, status, to_hex};
+use bgp_open::Context;
+use std::alloc::Global;
+
+/// Runs an engine.
+fn run_engine(
+    alloc: Global,
+    row: &Row<'_>,
+    ctx: &Context,
+    input: &mut Drip<'_>,
+    output: &mut Sheet,
+) -> Result<Tally, ToolFault> {
+    let hex = row.settings == "hex";
+    match row.kind {
+        "show" => show(alloc, ctx, hex, input, output),
+        "check" => check(alloc, ctx, hex, input, output),
+        "to-hex" => to_hex(alloc, input, output),
+        "from-hex" => from_hex(alloc, input, output),
+        _ => narrow_stream(alloc, &Context { as4: true, ..*ctx }, input, output),
+    }
+}
+
+/// Runs an engine, and again where allocation failed: what was written then has to be a front of the output.
+fn run_again(
+    alloc: Global,
+    row: &Row<'_>,
+    ctx: &Context,
+    octets: &[u8],
+    step: usize,
+    sheet: &mut Sheet,
+) -> Result<Result<Tally, ToolFault>, Trouble> {
+    let answer = run_engine(alloc, row, ctx, &mut Drip::new(octets, step), sheet);
+    if answer != Err(ToolFault::Memory) {
+        return Ok(answer);
+    }
+    if status(&answer) != 3 {
+        return Err(Trouble::Row("a status of 3 where allocation failed"));
+    }
+    let mut again = Sheet::new();
+    let answer = run_engine(alloc, row, ctx, &mut Drip::new(octets, step), &mut again);
+    if !again.octets.as_slice().starts_with(sheet.octets.as_slice()) {
+        return Err(Trouble::Row("a front of the output where allocation failed"));
+    }
+    sheet.octets.clear();
+    let _fits = sheet.octets.try_extend_from_slice(again.octets.as_slice());
+    Ok(answer)
+}
+
+/// Adds what was written: text as it is, octets as digits.
+fn put_output(alloc: Global, page: &mut Page, row: &Row<'_>, octets: &[u8]) -> Result<(), Trouble> {
+    if row.kind == "from-hex" || row.kind == "narrow" {
+        page.put_digits(alloc, octets)?;
+        return page.put("\n");
+    }
+    match std::str::from_utf8(octets) {
+        Ok(text) => page.put(text),
+        Err(_) => Err(Trouble::Row("output that is text")),
+    }
+}
+
+/// One run: what was written, the fault if there is one, and the status.
+fn put_run(
+    alloc: Global,
+    row: &Row<'_>,
+    ctx: &Context,
+    octets: &[u8],
+    step: usize,
+) -> Result<Page, Trouble> {
+    let mut page = Page::new(alloc);
+    let mut sheet = Sheet::new();
+    let answer = run_again(alloc, row, ctx, octets, step, &mut sheet)?;
+    put_output(alloc, &mut page, row, sheet.octets.as_slice())?;
+    if let Err(fault) = &answer {
+        page.put("bgp: ")?;
+        page.put_value(alloc, fault)?;
+        page.put("\n")?;
+    }
+    page.put("status ")?;
+    page.put_value(alloc, &status(&answer))?;
+    page.put("\n")?;
+    Ok(page)
+}
+
+/// A row that asks for `show`.
+const SHOW: Row<'static> = Row {
+    name: "",
+    kind: "show",
+    settings: "",
+    given: "",
+    want: "",
+    file: "",
+};
+
+/// What `show` writes of a stream, from a reader that gives so many octets at a time.
+pub(crate) fn put_shown(
+    alloc: Global,
+    ctx: &Context,
+    stream: &[u8],
+    step: usize,
+) -> Result<Page, Trouble> {
+    let mut page = Page::new(alloc);
+    let mut sheet = Sheet::new();
+    if run_again(alloc, &SHOW, ctx, stream, step, &mut sheet)?.is_err() {
+        page.put("a fault\n")?;
+    }
+    put_output(alloc, &mut page, &SHOW, sheet.octets.as_slice())?;
+    Ok(page)
+}
+
+/// What an engine does of octets, from each of three readers.
+fn put_runs(alloc: Global, row: &Row<'_>, ctx: &Context, input: &[u8]) -> Result<Page, Trouble> {
+    let page = put_run(alloc, row, ctx, input, 4096)?;
+    for step in [1, 7] {
+        let other = put_run(alloc, row, ctx, input, step)?;
+        if other.text != page.text {
+            return Ok(other);
+        }
+    }
+    Ok(page)
+}
+
+/// The text of a row's lines `text`.
+fn given_text(alloc: Global, row: &Row<'_>) -> Result<Page, Trouble> {
+    let mut text = Page::new(alloc);
+    for line in row.given.split('\n') {
+        if let Some(line) = line.strip_prefix("text ") {
+            put_text(&mut text, line)?;
+        }
+    }
+    Ok(text)
+}
+
+/// What an engine does of octets, or where there are none of the row's text.
+pub(crate) fn put_engine(
+    alloc: Global,
+    row: &Row<'_>,
+    ctx: &Context,
+    octets: &[u8],
+) -> Result<Page, Trouble> {
+    if !octets.is_empty() {
+        return put_runs(alloc, row, ctx, octets);
+    }
+    let text = given_text(alloc, row)?;
+    put_runs(alloc, row, ctx, text.text.as_str().as_bytes())
+}
+
+/// Adds a line of text: `\n`, `\r` and `\t` stand for what they do in C, and `M` for a Marker's digits.
+fn put_text(text: &mut Page, line: &str) -> Result<(), Trouble> {
+    let mut is_escaped = false;
+    for character in line.bytes() {
+        if is_escaped {
+            is_escaped = false;
+            text.put(match character {
+                b'n' => "\n",
+                b'r' => "\r",
+                b't' => "\t",
+                _ => return Err(Trouble::Row("text with \\n, \\r and \\t")),
+            })?;
+        } else if character == b'\\' {
+            is_escaped = true;
+        } else {
+            put_character(text, character)?;
+        }
+    }
+    Ok(())
+}
+
+/// Adds a character that isn't escaped.
+fn put_character(text: &mut Page, character: u8) -> Result<(), Trouble> {
+    if character == b'M' {
+        return text.put("ffffffffffffffffffffffffffffffff");
+    }
+    let one = [character];
+    match std::str::from_utf8(&one) {
+        Ok(one) => text.put(one),
+        Err(_) => Err(Trouble::Row("text of ASCII")),
+    }
+}

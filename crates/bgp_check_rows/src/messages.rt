@@ -1,0 +1,194 @@
+//! What a stream of messages comes to: whole, octet by octet, by `pull` in the caller's piece, and as views.
+
+use crate::engines::put_shown;
+use crate::page::Page;
+use crate::trouble::Trouble;
+use bgp_msg::{Decoder, End, Outcome, OutcomeView, Seen, Step, decode_all, front, view_frame};
+use bgp_open::Context;
+use std::alloc::{AllocError, Global};
+
+/// What a refused call of a decoder left otherwise than it was.
+const CHANGED: &str = "a decoder that lacked memory isn't as it was\n";
+
+/// Adds the lines of all outcomes and of the end.
+fn put_seen(alloc: Global, page: &mut Page, seen: &Seen) -> Result<(), Trouble> {
+    for (len, outcome) in seen.outs.iter() {
+        page.put_outcome(alloc, *len, outcome)?;
+    }
+    page.put_end(alloc, seen.end)
+}
+
+/// The stream handed over in one piece.
+fn whole(alloc: Global, ctx: &Context, stream: &[u8]) -> Result<Page, Trouble> {
+    let mut page = Page::new(alloc);
+    let seen = match decode_all(alloc, ctx, &[stream]) {
+        Err(_) => decode_all(alloc, ctx, &[stream])?,
+        Ok(seen) => seen,
+    };
+    put_seen(alloc, &mut page, &seen)?;
+    Ok(page)
+}
+
+/// How a stream ended whose last outcome is of so many octets.
+fn end_of(decoder: &Decoder, last: Option<u16>) -> End {
+    match last {
+        Some(0) => End::Head,
+        _ if decoder.stopped() => End::Reset,
+        _ => End::Wait(u16::try_from(decoder.held()).unwrap_or(u16::MAX)),
+    }
+}
+
+/// Adds what is held comes to, where it is whole.
+fn put_next(
+    alloc: Global,
+    decoder: &mut Decoder,
+    page: &mut Page,
+    last: &mut Option<u16>,
+) -> Result<(), Trouble> {
+    let before = (decoder.held(), decoder.stopped());
+    let found = match decoder.next(alloc) {
+        Err(_) => {
+            if (decoder.held(), decoder.stopped()) != before {
+                page.put(CHANGED)?;
+            }
+            decoder.next(alloc)?
+        }
+        Ok(found) => found,
+    };
+    if let Some((len, outcome)) = found {
+        *last = Some(len);
+        page.put_outcome(alloc, len, &outcome)?;
+    }
+    Ok(())
+}
+
+/// The stream octet by octet, by `feed` and `next`: an octet that isn't taken stands behind a message.
+fn by_octets(alloc: Global, ctx: &Context, stream: &[u8]) -> Result<Page, Trouble> {
+    let mut page = Page::new(alloc);
+    let mut decoder = Decoder::new(*ctx);
+    let mut last = None;
+    for octet in stream {
+        if decoder.feed(&[*octet]) == 0 {
+            put_next(alloc, &mut decoder, &mut page, &mut last)?;
+            let _taken = decoder.feed(&[*octet]);
+        }
+    }
+    put_next(alloc, &mut decoder, &mut page, &mut last)?;
+    page.put_end(alloc, end_of(&decoder, last))?;
+    Ok(page)
+}
+
+/// What `pull` answers.
+type Pulled = (usize, Option<(u16, Outcome)>);
+
+/// One pull, which is made again where it lacked memory.
+fn pull_again(
+    alloc: Global,
+    decoder: &mut Decoder,
+    piece: &[u8],
+    page: &mut Page,
+) -> Result<Pulled, Trouble> {
+    let before = (decoder.held(), decoder.stopped());
+    match decoder.pull(alloc, piece) {
+        Err(_) => {
+            if (decoder.held(), decoder.stopped()) != before {
+                page.put(CHANGED)?;
+            }
+            Ok(decoder.pull(alloc, piece)?)
+        }
+        Ok(pulled) => Ok(pulled),
+    }
+}
+
+/// The stream by `pull`, in pieces of so many octets.
+fn by_pull(alloc: Global, ctx: &Context, stream: &[u8], size: usize) -> Result<Page, Trouble> {
+    let mut page = Page::new(alloc);
+    let mut decoder = Decoder::new(*ctx);
+    let mut last = None;
+    let mut rest = stream;
+    for _ in 0..u16::MAX {
+        let piece = rest.get(..size).unwrap_or(rest);
+        let (taken, found) = pull_again(alloc, &mut decoder, piece, &mut page)?;
+        rest = rest.get(taken..).unwrap_or(&[]);
+        match found {
+            Some((len, outcome)) => {
+                last = Some(len);
+                page.put_outcome(alloc, len, &outcome)?;
+            }
+            None if taken == 0 => break,
+            None => {}
+        }
+    }
+    page.put_end(alloc, end_of(&decoder, last))?;
+    Ok(page)
+}
+
+/// The value of a view.
+fn own_again(alloc: Global, view: &OutcomeView<'_>) -> Result<Outcome, AllocError> {
+    match view.own(alloc) {
+        Err(_) => view.own(alloc),
+        Ok(outcome) => Ok(outcome),
+    }
+}
+
+/// The stream as views, each message judged where it stands.
+fn by_views(alloc: Global, ctx: &Context, stream: &[u8]) -> Result<Page, Trouble> {
+    let mut page = Page::new(alloc);
+    let mut rest = stream;
+    for _ in 0..u16::MAX {
+        match front(rest) {
+            Step::More => break,
+            Step::Fault(fault) => {
+                page.put_outcome(alloc, 0, &Outcome::Reset(fault.notification()))?;
+                page.put_end(alloc, End::Head)?;
+                return Ok(page);
+            }
+            Step::Frame(frame) => {
+                let len = frame.len;
+                let view = view_frame(ctx, frame);
+                page.put_outcome(alloc, len, &own_again(alloc, &view)?)?;
+                if view.is_reset() {
+                    page.put_end(alloc, End::Reset)?;
+                    return Ok(page);
+                }
+                rest = rest.get(usize::from(len)..).unwrap_or(&[]);
+            }
+        }
+    }
+    let left = u16::try_from(rest.len()).unwrap_or(u16::MAX);
+    page.put_end(alloc, End::Wait(left))?;
+    Ok(page)
+}
+
+/// Adds what came another way, where it isn't the same.
+fn compare(page: &mut Page, way: &str, other: &Page) -> Result<(), Trouble> {
+    if page.text != other.text {
+        page.put(way)?;
+        page.put(other.text.as_str())?;
+    }
+    Ok(())
+}
+
+/// What a stream comes to, and what `show` writes of it from a reader that gives one octet or all at once.
+pub(crate) fn put_messages(alloc: Global, ctx: &Context, stream: &[u8]) -> Result<Page, Trouble> {
+    let mut page = put_ways(alloc, ctx, stream)?;
+    let shown = put_shown(alloc, ctx, stream, 4096)?;
+    let shown_by_octets = put_shown(alloc, ctx, stream, 1)?;
+    compare(&mut page, "by show:\n", &shown)?;
+    compare(&mut page, "by show, octet by octet:\n", &shown_by_octets)?;
+    Ok(page)
+}
+
+/// What a stream comes to, all ways that the library reads it: where one differs, its lines are added under its name.
+pub(crate) fn put_ways(alloc: Global, ctx: &Context, stream: &[u8]) -> Result<Page, Trouble> {
+    let mut page = whole(alloc, ctx, stream)?;
+    let octets = by_octets(alloc, ctx, stream)?;
+    let pulled = by_pull(alloc, ctx, stream, stream.len())?;
+    let pulled_in_pieces = by_pull(alloc, ctx, stream, 20)?;
+    let viewed = by_views(alloc, ctx, stream)?;
+    compare(&mut page, "octet by octet:\n", &octets)?;
+    compare(&mut page, "by pull:\n", &pulled)?;
+    compare(&mut page, "by pull, in pieces of 20:\n", &pulled_in_pieces)?;
+    compare(&mut page, "as views:\n", &viewed)?;
+    Ok(page)
+}

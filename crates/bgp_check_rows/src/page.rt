@@ -1,0 +1,143 @@
+//! The lines that come of a row.
+
+use crate::trouble::Trouble;
+use bgp_frame::{End, Notification};
+use bgp_msg::Outcome;
+use bgp_text::{put_end, put_outcome};
+use bgp_update::Update;
+use bgp_wire::List;
+use std::alloc::{AllocError, Global};
+use std::fmt::{Debug, Display};
+
+/// The lines that came, and the place in the stream that they have reached. A line that meets a failed allocation is made again.
+#[derive(Drop)]
+pub(crate) struct Page {
+    pub(crate) text: String,
+    place: u64,
+}
+
+/// The lines of an outcome.
+fn outcome_lines(
+    alloc: Global,
+    place: u64,
+    len: u16,
+    outcome: &Outcome,
+) -> Result<String, AllocError> {
+    let mut text = String::new(alloc);
+    put_outcome(alloc, &mut text, place, len, outcome)?;
+    Ok(text)
+}
+
+/// The line of a stream's end.
+fn end_lines(alloc: Global, end: End) -> Result<String, AllocError> {
+    let mut text = String::new(alloc);
+    put_end(&mut text, end)?;
+    Ok(text)
+}
+
+/// The lines of what an UPDATE says, behind the line of the message.
+fn update_lines(alloc: Global, update: &Update) -> Result<String, AllocError> {
+    let mut text = String::new(alloc);
+    let notes = List::new(alloc);
+    bgp_text::put_update_taken(alloc, &mut text, 0, 0, update, &notes)?;
+    let (_head, lines) = text.as_str().split_once('\n').unwrap_or(("", ""));
+    lines.to_string(alloc)
+}
+
+fn name_of<T: Debug>(alloc: Global, value: &T) -> Result<String, AllocError> {
+    format!(in alloc; "{value:?}")
+}
+
+impl Page {
+    pub(crate) fn new(alloc: Global) -> Page {
+        Page {
+            text: String::new(alloc),
+            place: 0,
+        }
+    }
+
+    /// Adds text.
+    pub(crate) fn put(&mut self, text: &str) -> Result<(), Trouble> {
+        if self.text.push_str(text).is_err() {
+            self.text.push_str(text)?;
+        }
+        Ok(())
+    }
+
+    /// Adds the lines of an outcome of so many octets.
+    pub(crate) fn put_outcome(
+        &mut self,
+        alloc: Global,
+        len: u16,
+        outcome: &Outcome,
+    ) -> Result<(), Trouble> {
+        let lines = match outcome_lines(alloc, self.place, len, outcome) {
+            Err(_) => outcome_lines(alloc, self.place, len, outcome)?,
+            Ok(lines) => lines,
+        };
+        self.place = self.place.saturating_add(u64::from(len));
+        self.put(lines.as_str())
+    }
+
+    /// Adds the line of a stream's end.
+    pub(crate) fn put_end(&mut self, alloc: Global, end: End) -> Result<(), Trouble> {
+        let lines = match end_lines(alloc, end) {
+            Err(_) => end_lines(alloc, end)?,
+            Ok(lines) => lines,
+        };
+        self.put(lines.as_str())
+    }
+
+    /// Adds the lines of what an UPDATE says.
+    pub(crate) fn put_update(&mut self, alloc: Global, update: &Update) -> Result<(), Trouble> {
+        let lines = match update_lines(alloc, update) {
+            Err(_) => update_lines(alloc, update)?,
+            Ok(lines) => lines,
+        };
+        self.put(lines.as_str())
+    }
+
+    /// Adds octets as digits, and `-` where there are none.
+    pub(crate) fn put_digits(&mut self, alloc: Global, octets: &[u8]) -> Result<(), Trouble> {
+        let digits = match bgp_text::info_text(alloc, octets) {
+            Err(_) => bgp_text::info_text(alloc, octets)?,
+            Ok(digits) => digits,
+        };
+        self.put(digits.as_str())
+    }
+
+    /// Adds a notification as `CODE/SUBCODE INFO`.
+    pub(crate) fn put_notification(
+        &mut self,
+        alloc: Global,
+        told: &Notification,
+    ) -> Result<(), Trouble> {
+        let text = match bgp_text::notification_text(alloc, told) {
+            Err(_) => bgp_text::notification_text(alloc, told)?,
+            Ok(text) => text,
+        };
+        self.put(text.as_str())
+    }
+
+    /// Adds what a value prints.
+    pub(crate) fn put_value<T: Display>(
+        &mut self,
+        alloc: Global,
+        value: &T,
+    ) -> Result<(), Trouble> {
+        let text = match value.to_string(alloc) {
+            Err(_) => value.to_string(alloc)?,
+            Ok(text) => text,
+        };
+        self.put(text.as_str())
+    }
+
+    /// Adds a value's name, as `Debug` prints it.
+    pub(crate) fn put_name<T: Debug>(&mut self, alloc: Global, value: &T) -> Result<(), Trouble> {
+        let text = match name_of(alloc, value) {
+            Err(_) => name_of(alloc, value)?,
+            Ok(text) => text,
+        };
+        self.put(text.as_str())
+    }
+}

@@ -1,0 +1,39 @@
+//! The path and the aggregator of an UPDATE, put together from what speakers of two octets passed on (RFC 6793, section 4.2.3).
+
+use crate::attributes::no_attrs;
+use crate::page::Page;
+use crate::trouble::Trouble;
+use crate::written::message_of;
+use bgp_msg::Message;
+use bgp_open::Context;
+use bgp_update::{PathInfo, Update, reconcile};
+use bgp_wire::List;
+use std::alloc::Global;
+
+/// Adds a path and an aggregator, as an UPDATE shows them.
+pub(crate) fn put_path(alloc: Global, page: &mut Page, info: PathInfo) -> Result<(), Trouble> {
+    let mut attrs = no_attrs(alloc);
+    attrs.as_path = info.path;
+    attrs.aggregator = info.aggregator;
+    let update = Update {
+        withdrawn: List::new(alloc),
+        attrs,
+        nlri: List::new(alloc),
+    };
+    page.put_update(alloc, &update)
+}
+
+/// What the attributes of an UPDATE give.
+pub(crate) fn put_paths(alloc: Global, ctx: &Context, stream: &[u8]) -> Result<Page, Trouble> {
+    let Message::Update(update) = message_of(alloc, ctx, stream)? else {
+        return Err(Trouble::Row("an UPDATE"));
+    };
+    let mut page = Page::new(alloc);
+    page.put("path\n")?;
+    let info = match reconcile(alloc, &update.attrs) {
+        Err(_) => reconcile(alloc, &update.attrs)?,
+        Ok(info) => info,
+    };
+    put_path(alloc, &mut page, info)?;
+    Ok(page)
+}

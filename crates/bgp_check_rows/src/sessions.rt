@@ -1,0 +1,248 @@
+//! A session's events, octets and sends, and what it does of each.
+
+use crate::octets::{Octets, add_octets};
+use crate::page::Page;
+use crate::row::{Row, split_word};
+use crate::scripts::config_of;
+use crate::steps::{put_actions, put_standing};
+use crate::trouble::Trouble;
+use crate::written::message_of;
+use bgp_frame::head;
+use bgp_msg::{Kind, Message};
+use bgp_open::Context;
+use bgp_session::{Actions, Event, SendFault, Session, Timer};
+use bgp_update::Update;
+use std::alloc::Global;
+
+/// What a refused call of a session left otherwise than it was.
+const CHANGED: &str = "a session that lacked memory isn't as it was\n";
+
+/// How octets are handed to a session.
+#[derive(Clone, Copy)]
+enum Way {
+    /// Fed in one piece, and again while octets are left, with steps until nothing comes.
+    Whole,
+    /// Fed octet by octet.
+    Octets,
+    /// Pulled from the piece.
+    Pulled,
+}
+
+const WAYS: [(Way, &str); 3] = [
+    (Way::Whole, ""),
+    (Way::Octets, "octet by octet:\n"),
+    (Way::Pulled, "by pull:\n"),
+];
+
+/// The event of a word and what follows it.
+fn event_of(word: &str, rest: &str) -> Option<Event> {
+    match (word, rest) {
+        ("start", "") => Some(Event::Start),
+        ("stop", "") => Some(Event::Stop),
+        ("connected", "") => Some(Event::Connected),
+        ("failed", "") => Some(Event::Failed),
+        ("expire", "retry") => Some(Event::Expired(Timer::Retry)),
+        ("expire", "hold") => Some(Event::Expired(Timer::Hold)),
+        ("expire", "keepalive") => Some(Event::Expired(Timer::Keepalive)),
+        _ => None,
+    }
+}
+
+/// Judges what is held, and again where allocation failed.
+fn step_again(
+    alloc: Global,
+    session: &mut Session,
+    page: &mut Page,
+) -> Result<Option<Actions>, Trouble> {
+    let before = (session.state(), session.context().copied(), session.held());
+    match session.step(alloc) {
+        Err(_) => {
+            if (session.state(), session.context().copied(), session.held()) != before {
+                page.put(CHANGED)?;
+            }
+            Ok(session.step(alloc)?)
+        }
+        Ok(found) => Ok(found),
+    }
+}
+
+/// Feeds octets, with steps until nothing comes, and what is left again while any is taken.
+fn feed(
+    alloc: Global,
+    session: &mut Session,
+    octets: &[u8],
+    page: &mut Page,
+) -> Result<(), Trouble> {
+    let mut rest = octets;
+    for _ in 0..u16::MAX {
+        let taken = session.feed(rest);
+        rest = rest.get(taken..).unwrap_or(&[]);
+        match step_again(alloc, session, page)? {
+            Some(actions) => put_actions(alloc, page, &actions)?,
+            None if taken == 0 => break,
+            None => {}
+        }
+    }
+    Ok(())
+}
+
+/// Pulls octets, and again where allocation failed.
+fn pull(
+    alloc: Global,
+    session: &mut Session,
+    octets: &[u8],
+    page: &mut Page,
+) -> Result<(), Trouble> {
+    let mut rest = octets;
+    for _ in 0..u16::MAX {
+        let before = (session.state(), session.context().copied(), session.held());
+        let (taken, found) = match session.pull(alloc, rest) {
+            Err(_) => {
+                if (session.state(), session.context().copied(), session.held()) != before {
+                    page.put(CHANGED)?;
+                }
+                session.pull(alloc, rest)?
+            }
+            Ok(pulled) => pulled,
+        };
+        rest = rest.get(taken..).unwrap_or(&[]);
+        match found {
+            Some(actions) => put_actions(alloc, page, &actions)?,
+            None if taken == 0 => break,
+            None => {}
+        }
+    }
+    Ok(())
+}
+
+/// Hands octets over.
+fn hear(
+    alloc: Global,
+    session: &mut Session,
+    octets: &[u8],
+    way: Way,
+    page: &mut Page,
+) -> Result<(), Trouble> {
+    match way {
+        Way::Whole => feed(alloc, session, octets, page),
+        Way::Octets => {
+            for octet in octets {
+                feed(alloc, session, &[*octet], page)?;
+            }
+            Ok(())
+        }
+        Way::Pulled => pull(alloc, session, octets, page),
+    }
+}
+
+/// In which context the body of an UPDATE that is to be sent is read.
+const SENT: Context = Context {
+    internal: true,
+    as4: true,
+    ip4: true,
+    ip6: true,
+    hold: 0,
+};
+
+/// The UPDATE of a body.
+fn update_of(alloc: Global, body: &[u8]) -> Result<Update, Trouble> {
+    if body.len() < 4 || body.len() > 4077 {
+        return Err(Trouble::Row("the body of an UPDATE"));
+    }
+    let mut octets = Octets::new();
+    let header = head(Kind::Update, body.len() as u16);
+    let _fits = octets.try_extend_from_slice(&header);
+    let _fits = octets.try_extend_from_slice(body);
+    match message_of(alloc, &SENT, octets.as_slice())? {
+        Message::Update(update) => Ok(update),
+        _ => Err(Trouble::Row("an UPDATE")),
+    }
+}
+
+/// Sends an UPDATE, and again where allocation failed: the octets behind one that stays, and the actions, or why it isn't sent.
+fn send(alloc: Global, session: &Session, body: &[u8], page: &mut Page) -> Result<(), Trouble> {
+    let update = update_of(alloc, body)?;
+    let mut out = match Vec::from_slice(alloc, &[7]) {
+        Err(_) => Vec::from_slice(alloc, &[7])?,
+        Ok(out) => out,
+    };
+    let mut answer = session.send(alloc, &update, &mut out);
+    if let Err(SendFault::Memory) = answer {
+        if out.len() != 1 {
+            page.put(CHANGED)?;
+        }
+        answer = session.send(alloc, &update, &mut out);
+    }
+    let (_first, octets) = out.as_slice().split_at(1.min(out.len()));
+    match answer {
+        Ok(actions) => {
+            page.put("sends ")?;
+            page.put_digits(alloc, octets)?;
+            page.put("\n")?;
+            put_actions(alloc, page, &actions)
+        }
+        Err(fault) => {
+            page.put("refuses ")?;
+            page.put_name(alloc, &fault)?;
+            page.put(if octets.is_empty() {
+                "\n"
+            } else {
+                " and appends octets\n"
+            })
+        }
+    }
+}
+
+/// Does what a line says.
+fn make(
+    alloc: Global,
+    row: &Row<'_>,
+    session: &mut Session,
+    line: &str,
+    way: Way,
+    page: &mut Page,
+) -> Result<(), Trouble> {
+    let (word, rest) = split_word(line);
+    if let Some(event) = event_of(word, rest) {
+        let actions = session.event(event);
+        return put_actions(alloc, page, &actions);
+    }
+    let mut octets = Octets::new();
+    add_octets(row, rest, &mut octets)?;
+    match word {
+        "hear" => hear(alloc, session, octets.as_slice(), way, page),
+        "send" => send(alloc, session, octets.as_slice(), page),
+        _ => Err(Trouble::Row("an event, hear or send")),
+    }
+}
+
+/// What a session does of a row's lines, where octets come one way: of the lines `after` nothing is told.
+fn put_life(alloc: Global, row: &Row<'_>, way: Way) -> Result<Page, Trouble> {
+    let mut session = match config_of(alloc, row.settings) {
+        Ok(config) => Session::new(config),
+        Err(trouble) => return Err(trouble),
+    };
+    let mut page = Page::new(alloc);
+    for line in row.given.split('\n') {
+        if let Some(line) = line.strip_prefix("after ") {
+            make(alloc, row, &mut session, line, way, &mut Page::new(alloc))?;
+        } else if let Some(line) = line.strip_prefix("do ") {
+            make(alloc, row, &mut session, line, way, &mut page)?;
+            put_standing(alloc, &mut page, &session)?;
+        }
+    }
+    Ok(page)
+}
+
+/// What a session does of a row's lines, all ways that octets can come.
+pub(crate) fn put_session(alloc: Global, row: &Row<'_>) -> Result<Page, Trouble> {
+    let mut page = put_life(alloc, row, Way::Whole)?;
+    for (way, name) in WAYS {
+        let other = put_life(alloc, row, way)?;
+        if other.text != page.text {
+            page.put(name)?;
+            page.put(other.text.as_str())?;
+        }
+    }
+    Ok(page)
+}

@@ -1,0 +1,18 @@
+//! Why a row comes to nothing.
+
+use std::alloc::AllocError;
+
+/// Why nothing can be said of a row.
+#[derive(Clone, Copy, Debug, PartialEq, Eq)]
+pub(crate) enum Trouble {
+    /// The row isn't written as rows are: what is wrong with it.
+    Row(&'static str),
+    /// Allocation failed twice.
+    Memory,
+}
+
+impl From<AllocError> for Trouble {
+    fn from(_failed: AllocError) -> Trouble {
+        Trouble::Memory
+    }
+}

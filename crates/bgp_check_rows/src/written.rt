@@ -1,0 +1,104 @@
+//! A message that is read in one context and written in another.
+
+use crate::contexts::{CASES, Case, Contexts};
+use crate::page::Page;
+use crate::row::Row;
+use crate::trouble::Trouble;
+use bgp_msg::{Message, Outcome, decode_all, encode};
+use bgp_open::Context;
+use bgp_update::WriteFault;
+use std::alloc::Global;
+
+/// What a refused or failed writing left otherwise than it was.
+const CHANGED: &str = "octets were appended by a call that failed\n";
+
+/// Writes a message, and again where allocation failed.
+fn encode_again(
+    page: &mut Page,
+    ctx: &Context,
+    message: &Message,
+    out: &mut Vec<u8>,
+) -> Result<Result<(), WriteFault>, Trouble> {
+    let before = out.len();
+    match encode(ctx, message, out) {
+        Err(WriteFault::Memory) => {
+            if out.len() != before {
+                page.put(CHANGED)?;
+            }
+            Ok(encode(ctx, message, out))
+        }
+        answer => Ok(answer),
+    }
+}
+
+/// Adds why a message isn't written.
+fn put_refusal(alloc: Global, page: &mut Page, fault: WriteFault) -> Result<(), Trouble> {
+    match fault {
+        WriteFault::NotValid(why) => {
+            page.put("not valid: ")?;
+            page.put_name(alloc, &why)?;
+        }
+        WriteFault::TooLong => page.put("too long")?,
+        WriteFault::Memory => return Err(Trouble::Memory),
+    }
+    page.put("\n")
+}
+
+/// The octets that a message is written as, behind an octet that stays, or why it isn't.
+fn write_message(alloc: Global, ctx: &Context, message: &Message) -> Result<Page, Trouble> {
+    let mut page = Page::new(alloc);
+    let mut out = match Vec::from_slice(alloc, &[7]) {
+        Err(_) => Vec::from_slice(alloc, &[7])?,
+        Ok(out) => out,
+    };
+    match encode_again(&mut page, ctx, message, &mut out)? {
+        Ok(()) => {
+            let (_first, octets) = out.as_slice().split_at(1.min(out.len()));
+            page.put_digits(alloc, octets)?;
+            page.put("\n")?;
+        }
+        Err(fault) => {
+            if out.as_slice() != &[7][..] {
+                page.put(CHANGED)?;
+            }
+            put_refusal(alloc, &mut page, fault)?;
+        }
+    }
+    Ok(page)
+}
+
+/// The first message of a stream, which is taken.
+pub(crate) fn message_of(alloc: Global, ctx: &Context, stream: &[u8]) -> Result<Message, Trouble> {
+    let seen = match decode_all(alloc, ctx, &[stream]) {
+        Err(_) => decode_all(alloc, ctx, &[stream])?,
+        Ok(seen) => seen,
+    };
+    for (_len, outcome) in seen.outs.into_vec() {
+        if let Outcome::Took(message, _notes) = outcome {
+            return Ok(message);
+        }
+    }
+    Err(Trouble::Row("a message that is taken where it is read"))
+}
+
+/// What a message that was read in a context comes to where it is written in those of the row's line `write`.
+pub(crate) fn put_written(
+    alloc: Global,
+    row: &Row<'_>,
+    ctx: &Context,
+    stream: &[u8],
+) -> Result<Page, Trouble> {
+    let contexts = Contexts::read(row.told("write").unwrap_or(""))?;
+    let message = message_of(alloc, ctx, stream)?;
+    let mut page = Page::new(alloc);
+    for number in 0..CASES / 2 {
+        let case = Case::new(number);
+        if contexts.allows(&case.context) {
+            page = write_message(alloc, &case.context, &message)?;
+            if page.text.as_str().trim_end_matches('\n') != row.want {
+                break;
+            }
+        }
+    }
+    Ok(page)
+}

@@ -1,0 +1,114 @@
+-- Each number of an UPDATE is within its field where each number is of what a speaker with AS numbers of two octets is told of it.
+use Rattle.std.proofs.Common.{◌≡◌, ℕ, Bool, true, false, cond, eqb, List, [], ◌∷◌, Option, Some, None, inl, inr, subst, refl, sym, ◌∙◌, arith}
+use Rattle.std.specs.Prelude.{option_map}
+use Rattle.std.specs.List.{flat_map, list_any, AllByRecursion}
+use Rattle.std.proofs.lemmas.Bool.{false≢true, eqb-true, ltb-false, or_cases, or_parts}
+use Rattle.bgp_numbers.specs.declared.attribute.TheConstants.{AS4_PATH, AS4_AGGREGATOR}
+use Rattle.bgp_prefix.specs.declared.as_number.AsNumber.{AsNumber}
+use Rattle.bgp_attr.specs.declared.aggregator.Aggregator.{Aggregator}
+use Rattle.bgp_attr.specs.declared.attr.Attr.{Attr}
+use Rattle.bgp_attr.specs.declared.attr.Attr.TheVariants as attr
+use Rattle.bgp_attr.specs.declared.path.Segment.{Segment}
+use Rattle.bgp_attr.specs.declared.path.AsPath.{AsPath}
+use Rattle.bgp_attr.specs.declared.path.As4Path.{As4Path}
+use Rattle.bgp_attr.specs.Written.{any_number, is_above_two_octets, IsFourOctets, HasPathRanges, HasRanges}
+use Rattle.bgp_update.specs.declared.attrs.Attrs.{Attrs}
+use Rattle.bgp_update.specs.declared.update.Update.{Update}
+use Rattle.bgp_update.specs.As4.{narrow_aggregator, wide_path, wide_aggregator, narrowed, narrowed_update, HasNoAs4}
+use Rattle.bgp_update.specs.Slots.{present, slot, canonical_order, attr_list}
+use Rattle.bgp_update.specs.Written.{HasUpdateRanges}
+use Rattle.bgp_update.proofs.Lists.{all-append, all-front, all-back}
+use Rattle.bgp_update.proofs.SlotLemmas.{by_type, recognised-stands, slot-other}
+
+-- ---- numbers that need no four octets
+
+numbers_small : (ns : List AsNumber) → list_any (λ n. is_above_two_octets n.0) ns ≡ false → AllByRecursion (λ n. IsFourOctets n.0) ns
+numbers_small [] none = tt
+numbers_small (n ∷ ns) none =
+    let parts = or_parts (is_above_two_octets n.0) (list_any (λ m. is_above_two_octets m.0) ns) none in
+    let small = ltb-false 65535 n.0 parts.0 in
+    (omega arith, numbers_small ns parts.1)
+
+segments_small : (ss : List Segment) → list_any (λ s. list_any (λ n. is_above_two_octets n.0) s.numbers) ss ≡ false
+    → AllByRecursion (λ s. AllByRecursion (λ n. IsFourOctets n.0) s.numbers) ss
+segments_small [] none = tt
+segments_small (s ∷ ss) none =
+    let parts = or_parts (list_any (λ n. is_above_two_octets n.0) s.numbers) (list_any (λ t. list_any (λ n. is_above_two_octets n.0) t.numbers) ss) none in
+    (numbers_small s.numbers parts.0, segments_small ss parts.1)
+
+-- ---- attributes
+
+abbrev pub AllFit : List Attr → Type 0
+AllFit xs = AllByRecursion HasRanges xs
+
+-- a path that needs four octets is told as it is
+path_by : (p : AsPath) (t : Bool) → any_number is_above_two_octets p ≡ t → AllFit (present (λ (w : As4Path). attr.As4Path w) (cond t (Some (record { partial = false; path = p })) None)) → HasPathRanges p
+path_by p true is all = all.0
+path_by p false is all = segments_small p.segments is
+
+path_back : (o : Option AsPath) → AllFit (present (λ (w : As4Path). attr.As4Path w) (wide_path o)) → AllFit (present (λ (p : AsPath). attr.AsPath p) o)
+path_back None all = tt
+path_back (Some p) all = (path_by p (any_number is_above_two_octets p) refl all, tt)
+
+number_by : (g : Aggregator) (t : Bool) → is_above_two_octets (g.asn).0 ≡ t → AllFit (present (λ (w : Aggregator). attr.As4Aggregator w) (cond t (Some g) None)) → IsFourOctets (g.asn).0
+number_by g true is all = all.0.0
+number_by g false is all = let small = ltb-false 65535 (g.asn).0 is in omega arith
+
+aggregator_back : (o : Option Aggregator) → AllFit (present (λ (g : Aggregator). attr.Aggregator g) (option_map narrow_aggregator o))
+    → AllFit (present (λ (w : Aggregator). attr.As4Aggregator w) (wide_aggregator o)) → AllFit (present (λ (g : Aggregator). attr.Aggregator g) o)
+aggregator_back None told wide = tt
+aggregator_back (Some g) told wide = ((number_by g (is_above_two_octets (g.asn).0) refl wide, told.0.1), tt)
+
+-- ---- all of them
+
+module _ (a : Attrs) where
+  -- the attribute of a type is one of all
+  pub slot_among : (kind : ℕ) (ks : List ℕ) → list_any (λ k. eqb k kind) ks ≡ true → AllFit (flat_map (slot a) ks) → AllFit (slot a kind)
+  slot_among kind [] e all = absurd (false≢true e)
+  slot_among kind (k ∷ ks) e all = elim (or_cases (eqb k kind) (list_any (λ j. eqb j kind) ks) e) [
+    | inl same ↦ subst (λ (j : ℕ). AllFit (slot a j)) (eqb-true k kind same) (all-front HasRanges (slot a k) (flat_map (slot a) ks) all)
+    | inr later ↦ slot_among kind ks later (all-back HasRanges (slot a k) (flat_map (slot a) ks) all)
+  ]
+
+  same_back : (k : ℕ) → slot (narrowed a) k ≡ slot a k → AllFit (slot (narrowed a) k) → AllFit (slot a k)
+  same_back k same all = subst (λ (xs : List Attr). AllFit xs) same all
+
+  module _ (none : HasNoAs4 a) (paths : AllFit (slot (narrowed a) AS4_PATH)) (aggregators : AllFit (slot (narrowed a) AS4_AGGREGATOR)) where
+    no_path : AllFit (present (λ (w : As4Path). attr.As4Path w) a.as4_path)
+    no_path = subst (λ (o : Option As4Path). AllFit (present (λ (w : As4Path). attr.As4Path w) o)) (sym none.path) tt
+
+    no_aggregator : AllFit (present (λ (g : Aggregator). attr.As4Aggregator g) a.as4_aggregator)
+    no_aggregator = subst (λ (o : Option Aggregator). AllFit (present (λ (g : Aggregator). attr.As4Aggregator g) o)) (sym none.aggregator) tt
+
+    slot_back : (k : ℕ) → AllFit (slot (narrowed a) k) → AllFit (slot a k)
+    unfolding slot
+    slot_back =
+        by_type (λ k. AllFit (slot (narrowed a) k) → AllFit (slot a k))
+        (same_back 1 refl)
+        (λ all. path_back a.as_path paths)
+        (same_back 3 refl)
+        (same_back 4 refl)
+        (same_back 5 refl)
+        (same_back 6 refl)
+        (λ all. aggregator_back a.aggregator all aggregators)
+        (same_back 8 refl)
+        (same_back 14 refl)
+        (same_back 15 refl)
+        (λ all. no_path)
+        (λ all. no_aggregator)
+        (same_back 32 refl)
+        (λ k other. same_back k (slot-other (narrowed a) k other ∙ sym (slot-other a k other)))
+
+    slots_back : (ks : List ℕ) → AllFit (flat_map (slot (narrowed a)) ks) → AllFit (flat_map (slot a) ks)
+    slots_back [] all = tt
+    slots_back (k ∷ ks) all =
+        all-append HasRanges (slot a k) (flat_map (slot a) ks) (slot_back k (all-front HasRanges (slot (narrowed a) k) (flat_map (slot (narrowed a)) ks) all))
+        (slots_back ks (all-back HasRanges (slot (narrowed a) k) (flat_map (slot (narrowed a)) ks) all))
+
+attrs_back : (a : Attrs) → HasNoAs4 a → AllFit (attr_list (narrowed a)) → AllFit (attr_list a)
+attrs_back a none all =
+    slots_back a none (slot_among (narrowed a) AS4_PATH canonical_order (recognised-stands AS4_PATH refl) all)
+    (slot_among (narrowed a) AS4_AGGREGATOR canonical_order (recognised-stands AS4_AGGREGATOR refl) all) canonical_order all
+
+pub widened_ranges : (u : Update) → HasNoAs4 u.attrs → HasUpdateRanges (narrowed_update u) → HasUpdateRanges u
+widened_ranges u none r = record { withdrawn = r.withdrawn; attributes = attrs_back u.attrs none r.attributes; others = r.others; nlri = r.nlri }

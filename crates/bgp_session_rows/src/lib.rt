@@ -1,5 +1,0 @@
-//! Tests of `bgp_session` by its public calls alone.
-#![tactic(auto)]
-
-#[cfg(test)]
-mod tests;

@@ -1,0 +1,184 @@
+//! Values that no reading gives, and why they aren't written (RFC 4271, 5; RFC 7606; RFC 7607; RFC 8092).
+
+use super::*;
+use bgp_attr::{
+    As4Path, Attr, AttrRef, Communities, LargeCommunities, Opaque, Unwritable, why_unwritable,
+    writable,
+};
+use bgp_msg::{Message, encode};
+use bgp_open::Open;
+use bgp_prefix::Prefix4;
+use bgp_update::{Invalid, WriteFault};
+use std::process::Abort;
+
+/// A message is refused, and nothing is appended.
+fn assert_refused(
+    rt: &(impl Abort + AllocGlobal),
+    ctx: &Context,
+    message: &Message,
+    wanted: WriteFault,
+) -> Result<(), Fail> {
+    let mut out = vec![in rt.alloc(); 1, 2]?;
+    assert!(rt; encode(ctx, message, &mut out) == Err(wanted));
+    assert!(rt; out.as_slice() == [1, 2].as_slice());
+    Ok(())
+}
+
+/// An UPDATE isn't valid, for this reason.
+fn assert_not_valid(
+    rt: &(impl Abort + AllocGlobal),
+    as4: bool,
+    update: Update,
+    why: Invalid,
+) -> Result<(), Fail> {
+    let message = Message::Update(update);
+    assert_refused(rt, &session(as4), &message, WriteFault::NotValid(why))
+}
+
+#[test]
+fn routes_need_three_attributes(rt: HostRuntime) -> Result<(), Fail> {
+    let mut update = plain(rt.alloc())?;
+    update.attrs.origin = None;
+    assert_not_valid(&rt, true, update, Invalid::Missing)?;
+    let mut update = plain(rt.alloc())?;
+    update.attrs.as_path = None;
+    assert_not_valid(&rt, true, update, Invalid::Missing)?;
+    let mut update = plain(rt.alloc())?;
+    update.attrs.next_hop = None;
+    assert_not_valid(&rt, true, update, Invalid::Missing)
+}
+
+/// The first of two reasons is told.
+#[test]
+fn a_next_hop_needs_routes(rt: HostRuntime) -> Result<(), Fail> {
+    let mut update = plain(rt.alloc())?;
+    update.nlri = List::new(rt.alloc());
+    update.attrs.local_pref = Some(100);
+    assert_not_valid(&rt, true, update, Invalid::NextHop)
+}
+
+#[test]
+fn a_path_has_no_as_0(rt: HostRuntime) -> Result<(), Fail> {
+    for as4 in [false, true] {
+        let mut update = plain(rt.alloc())?;
+        update.attrs.as_path = Some(path(rt.alloc(), &[0])?);
+        assert_not_valid(&rt, as4, update, Invalid::AsZero)?;
+    }
+    Ok(())
+}
+
+#[test]
+fn segments_have_1_to_255_numbers(rt: HostRuntime) -> Result<(), Fail> {
+    for numbers in [&[][..], &[7; 256][..]] {
+        let mut update = plain(rt.alloc())?;
+        update.attrs.as_path = Some(path(rt.alloc(), numbers)?);
+        assert_not_valid(&rt, true, update, Invalid::Empty)?;
+    }
+    Ok(())
+}
+
+#[test]
+fn an_as4_path_has_segments(rt: HostRuntime) -> Result<(), Fail> {
+    let mut update = plain(rt.alloc())?;
+    let path = AsPath {
+        segments: List::new(rt.alloc()),
+    };
+    update.attrs.as4_path = Some(As4Path {
+        partial: false,
+        path,
+    });
+    assert_not_valid(&rt, false, update, Invalid::Empty)
+}
+
+#[test]
+fn communities_are_some_and_none_twice(rt: HostRuntime) -> Result<(), Fail> {
+    let alloc = rt.alloc();
+    let mut update = plain(alloc)?;
+    update.attrs.communities = Some(Communities {
+        partial: false,
+        values: List::new(alloc),
+    });
+    assert_not_valid(&rt, true, update, Invalid::Empty)?;
+    let mut update = plain(alloc)?;
+    update.attrs.large = Some(LargeCommunities {
+        partial: false,
+        values: List::from_vec(vec![in alloc; [9, 1, 2], [9, 1, 3], [9, 1, 2]]?),
+    });
+    assert_not_valid(&rt, true, update, Invalid::Twice)
+}
+
+/// An attribute of a type that isn't recognised, of so many zeros.
+fn opaque(alloc: Global, kind: u8, count: usize) -> Result<Opaque, AllocError> {
+    Ok(Opaque {
+        kind,
+        transitive: true,
+        partial: false,
+        value: List::from_vec(vec![in alloc; 0u8; count]?),
+    })
+}
+
+#[test]
+fn others_rise_and_are_not_recognised(rt: HostRuntime) -> Result<(), Fail> {
+    let alloc = rt.alloc();
+    let mut update = plain(alloc)?;
+    let twice = vec![in alloc; opaque(alloc, 99, 0)?, opaque(alloc, 99, 0)?]?;
+    update.attrs.others = List::from_vec(twice);
+    assert_not_valid(&rt, true, update, Invalid::Others)?;
+    let mut update = plain(alloc)?;
+    update.attrs.others = List::from_vec(vec![in alloc; opaque(alloc, 3, 0)?]?);
+    assert_not_valid(&rt, true, update, Invalid::Others)
+}
+
+/// One attribute isn't written for this reason; None where it is.
+#[test]
+fn attributes_alone(rt: HostRuntime) -> Result<(), Fail> {
+    for (kind, count, reason) in [
+        (32, 12, Some(Unwritable::Recognised)),
+        (99, 65536, Some(Unwritable::TooLong)),
+        (99, 65535, None),
+    ] {
+        let attr = Attr::Opaque(opaque(rt.alloc(), kind, count)?);
+        assert!(&rt; why_unwritable(&session(true), AttrRef::from(&attr)) == reason);
+        assert!(&rt; writable(&session(true), &attr) == reason.is_none());
+    }
+    Ok(())
+}
+
+#[test]
+fn an_open_has_a_hold_time_of_0_or_3_seconds(rt: HostRuntime) -> Result<(), Fail> {
+    let said = Message::Open(Open {
+        as_field: 65001,
+        hold: 2,
+        id: [192, 0, 2, 9],
+        caps: List::new(rt.alloc()),
+    });
+    assert_refused(
+        &rt,
+        &session(true),
+        &said,
+        WriteFault::NotValid(Invalid::BadOpen),
+    )
+}
+
+/// An UPDATE of 2027 prefixes, which makes 4097 octets.
+fn long_update(alloc: Global) -> Result<Update, Fail> {
+    let ten = Prefix4::new(8, [10, 0, 0, 0]).ok_or("a prefix")?;
+    let mut update = plain(alloc)?;
+    for _ in 1..2027u16 {
+        update.nlri.push(ten)?;
+    }
+    Ok(update)
+}
+
+#[test]
+fn a_message_has_4096_octets(rt: HostRuntime) -> Result<(), Fail> {
+    let message = Message::Update(long_update(rt.alloc())?);
+    assert_refused(&rt, &session(true), &message, WriteFault::TooLong)
+}
+
+#[test]
+fn what_is_not_valid_is_told_before_what_is_too_long(rt: HostRuntime) -> Result<(), Fail> {
+    let mut update = long_update(rt.alloc())?;
+    update.attrs.local_pref = Some(100);
+    assert_not_valid(&rt, true, update, Invalid::LocalPref)
+}

@@ -1,0 +1,19 @@
+use Rattle.std.proofs.Common.{refl}
+use Rattle.clap.proofs.OnLiterals.{clap_on_literals}
+use Rattle.bgp_words.proofs.laws.words_can_be_wrong.Goals as goal
+
+pub returns-clause-nothing : goal.returns-clause-nothing
+unfolding clap_on_literals
+returns-clause-nothing c = refl
+
+pub returns-clause-help : goal.returns-clause-help
+unfolding clap_on_literals
+returns-clause-help c = refl
+
+pub returns-clause-no_flag : goal.returns-clause-no_flag
+unfolding clap_on_literals
+returns-clause-no_flag c = refl
+
+pub returns-clause-no_file : goal.returns-clause-no_file
+unfolding clap_on_literals
+returns-clause-no_file c = refl

@@ -1,0 +1,43 @@
+use Rattle.std.proofs.Common.{refl}
+use Rattle.clap.proofs.OnLiterals.{clap_on_literals}
+use Rattle.bgp_words.proofs.laws.words_have_one_meaning.Goals as goal
+
+pub returns-clause-show : goal.returns-clause-show
+unfolding clap_on_literals
+returns-clause-show c = record { without_fault = refl; asked = refl }
+
+pub returns-clause-show_hex : goal.returns-clause-show_hex
+unfolding clap_on_literals
+returns-clause-show_hex c = record { without_fault = refl; asked = refl }
+
+pub returns-clause-check : goal.returns-clause-check
+unfolding clap_on_literals
+returns-clause-check c = record { without_fault = refl; asked = refl }
+
+pub returns-clause-check_hex : goal.returns-clause-check_hex
+unfolding clap_on_literals
+returns-clause-check_hex c = record { without_fault = refl; asked = refl }
+
+pub returns-clause-narrow : goal.returns-clause-narrow
+unfolding clap_on_literals
+returns-clause-narrow c = record { without_fault = refl; asked = refl }
+
+pub returns-clause-narrow_all : goal.returns-clause-narrow_all
+unfolding clap_on_literals
+returns-clause-narrow_all c = record { without_fault = refl; asked = refl }
+
+pub returns-clause-to_hex : goal.returns-clause-to_hex
+unfolding clap_on_literals
+returns-clause-to_hex c = record { without_fault = refl; asked = refl }
+
+pub returns-clause-from_hex : goal.returns-clause-from_hex
+unfolding clap_on_literals
+returns-clause-from_hex c = record { without_fault = refl; asked = refl }
+
+pub returns-clause-runs : goal.returns-clause-runs
+unfolding clap_on_literals
+returns-clause-runs c = record { without_fault = refl; asked = refl }
+
+pub returns-clause-runs_tcp : goal.returns-clause-runs_tcp
+unfolding clap_on_literals
+returns-clause-runs_tcp c = record { without_fault = refl; asked = refl }

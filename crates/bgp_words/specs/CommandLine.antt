@@ -1,0 +1,98 @@
+-- What the words of a command line ask for, in the words of `clap`, which parses them.
+use Rattle.std.specs.Prelude.{◌≡◌, Bool, true, false, List, [], codes, Option, None, Some, option_map, if◌then◌else◌}
+use Rattle.std.specs.Str.{bytes_eq}
+use Rattle.clap.specs.Words.{App, Kinds, Row, Rule, Text, fault_of, first_of, new_app, new_rule, subcommand_of, with_rule, with_subcommand}
+use Rattle.clap.specs.declared.builder.action.ArgAction.TheVariants.{SetTrue}
+use Rattle.bgp_open.specs.declared.context.Context.{Context}
+use Rattle.bgp_words.specs.declared.request.Request.{Request}
+use Rattle.bgp_words.specs.declared.request.Request.TheVariants.{Show, Check, Narrow, ToHex, FromHex, Loop}
+
+-- ---- the command line: six commands, four of them with flags
+
+abbrev pub flag_rule : Text → Rule
+flag_rule name = record (new_rule name) { long = Some name; action = Some SetTrue }
+
+abbrev pub with_flag : App → Text → App
+with_flag a name = with_rule a (flag_rule name)
+
+-- the flags of a session: the families in use, and whether it is internal
+abbrev pub with_session : App → App
+with_session a = with_flag (with_flag (with_flag a (codes "ip4")) (codes "ip6")) (codes "internal")
+
+-- the flags of a command that shows or checks
+abbrev pub with_judging : App → App
+with_judging a = with_session (with_flag (with_flag a (codes "hex")) (codes "as4"))
+
+-- the file of a script has to be named
+abbrev pub file_rule : Rule
+file_rule = record (new_rule (codes "SCRIPT")) { required = true }
+
+abbrev pub loop_command : App
+loop_command = with_flag (with_rule (new_app (codes "loop")) file_rule) (codes "tcp")
+
+abbrev pub with_command : App → App → App
+with_command a sub = with_subcommand a sub.top
+
+-- words begin behind the program's name, and one of them has to be a command
+abbrev pub with_settings : App → App
+with_settings a = record a { top = record a.top { no_binary_name = true; subcommand_required = true } }
+
+abbrev pub bare_command : App
+bare_command = with_settings (new_app (codes "bgp"))
+
+abbrev pub judging_commands : App
+judging_commands = with_command (with_command bare_command (with_judging (new_app (codes "show")))) (with_judging (new_app (codes "check")))
+
+-- the commands that read a stream
+abbrev pub stream_commands : App
+stream_commands = with_command (with_command (with_command judging_commands (with_session (new_app (codes "narrow")))) (new_app (codes "to-hex"))) (new_app (codes "from-hex"))
+
+abbrev pub bgp_command : App
+bgp_command = with_command stream_commands loop_command
+
+-- the errors that words may meet, help that was asked for among them: none where they ask for something that can be done
+abbrev pub faults_of : List Text → Kinds
+faults_of words = fault_of bgp_command words
+
+-- ---- what is asked for
+
+-- a flag is set where its value is "true"
+abbrev pub is_true : Option Text → Bool
+is_true None = false
+is_true (Some value) = bytes_eq value (codes "true")
+
+abbrev pub is_set : Text → List Row → Bool
+is_set name rows = is_true (first_of name rows)
+
+-- the context that the flags make; no Hold Time is agreed on
+abbrev pub context_of : Bool → List Row → Context
+context_of as4 rows = record { internal = is_set (codes "internal") rows; as4 = as4; ip4 = is_set (codes "ip4") rows; ip6 = is_set (codes "ip6") rows; hold = 0 }
+
+abbrev pub judged_in : List Row → Context
+judged_in rows = context_of (is_set (codes "as4") rows) rows
+
+-- what a command with these flags asks for
+abbrev pub request_by : Text → List Row → Request
+request_by name rows =
+    if bytes_eq name (codes "show") then Show (judged_in rows) (is_set (codes "hex") rows) else (
+    if bytes_eq name (codes "check") then Check (judged_in rows) (is_set (codes "hex") rows) else (
+    if bytes_eq name (codes "narrow") then Narrow (context_of true rows) else (
+    if bytes_eq name (codes "to-hex") then ToHex else (
+    if bytes_eq name (codes "from-hex") then FromHex else
+    Loop (is_set (codes "tcp") rows)))))
+
+-- the file that is named
+abbrev pub text_or_empty : Option Text → Text
+text_or_empty None = []
+text_or_empty (Some text) = text
+
+abbrev pub file_in : List Row → Text
+file_in rows = text_or_empty (first_of (codes "SCRIPT") rows)
+
+abbrev pub request_of : List Text → Option (Request × Text)
+request_of words = option_map (λ p. (request_by p.0 p.1, file_in p.1)) (subcommand_of bgp_command words)
+
+-- what a parse found is what is asked for; where it fails with no error, it found something
+abbrev pub Asks : List Text → Option (Request × Text) → Type 0
+Asks words None = ⊥
+Asks words (Some asked) = request_of words ≡ Some asked

@@ -1,0 +1,29 @@
+//! Laws of the command line. Each is the contract of a function that does nothing.
+
+ghost use Rattle.std.specs.Prelude.{◌≡◌, [], ◌∷◌, codes, true, false, Some};
+ghost use Rattle.clap.specs.declared.error.kind.ErrorKind.TheVariants as error;
+ghost use Rattle.bgp_words.specs.declared.request.Request.TheVariants.{Show, Check, Narrow, ToHex, FromHex, Loop};
+ghost use Rattle.bgp_words.specs.CommandLine.{faults_of, request_of};
+ghost use Rattle.bgp_words.specs.Laws.{CanBeDone, CanBeDoneWith, flags};
+
+/// What a user types for each command, without flags and with all of them.
+pub fn words_have_one_meaning()
+    ensures show { CanBeDone (codes "show" ∷ []) (Show (flags false false) false) }
+    ensures show_hex { CanBeDone (codes "show" ∷ codes "--hex" ∷ codes "--as4" ∷ codes "--ip4" ∷ codes "--ip6" ∷ codes "--internal" ∷ []) (Show (flags true true) true) }
+    ensures check { CanBeDone (codes "check" ∷ []) (Check (flags false false) false) }
+    ensures check_hex { CanBeDone (codes "check" ∷ codes "--internal" ∷ codes "--ip6" ∷ codes "--ip4" ∷ codes "--as4" ∷ codes "--hex" ∷ []) (Check (flags true true) true) }
+    ensures narrow { CanBeDone (codes "narrow" ∷ []) (Narrow (flags true false)) }
+    ensures narrow_all { CanBeDone (codes "narrow" ∷ codes "--ip4" ∷ codes "--ip6" ∷ codes "--internal" ∷ []) (Narrow (flags true true)) }
+    ensures to_hex { CanBeDone (codes "to-hex" ∷ []) ToHex }
+    ensures from_hex { CanBeDone (codes "from-hex" ∷ []) FromHex }
+    ensures runs { CanBeDoneWith (codes "loop" ∷ codes "two.script" ∷ []) (Loop false) (codes "two.script") }
+    ensures runs_tcp { CanBeDoneWith (codes "loop" ∷ codes "--tcp" ∷ codes "two.script" ∷ []) (Loop true) (codes "two.script") }
+{}
+
+/// No word is too few, `--help` asks for help, and a flag belongs to its commands.
+pub fn words_can_be_wrong()
+    ensures nothing { faults_of [] ≡ error.MissingSubcommand ∷ [] }
+    ensures help { faults_of (codes "--help" ∷ []) ≡ error.DisplayHelp ∷ [] }
+    ensures no_flag { faults_of (codes "narrow" ∷ codes "--hex" ∷ []) ≡ error.UnknownArgument ∷ [] }
+    ensures no_file { faults_of (codes "loop" ∷ []) ≡ error.MissingRequiredArgument ∷ [] }
+{}

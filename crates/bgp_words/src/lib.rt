@@ -1,0 +1,8 @@
+//! The words of the command line of `bgp`, and what they ask for. Nothing is read or written here.
+#![tactic(auto)]
+
+mod commands;
+pub mod laws;
+mod request;
+
+pub use request::{Asked, Request, parse};
