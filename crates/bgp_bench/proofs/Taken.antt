@@ -3,9 +3,9 @@ use Rattle.std.proofs.Common.{◌≤◌, ℕ, List, length, Bool, true, false, O
 use Rattle.arrayvec.specs.ArrayVec.{ArrayVec}
 use Rattle.bgp_msg.specs.Decoder as decoder
 use Rattle.bgp_msg.specs.declared.outcome.Outcome.{Outcome}
-use Rattle.bgp_session.specs.Pulling as pulling
-use Rattle.bgp_session.specs.Session as session
-use Rattle.bgp_session.specs.declared.action.Action.{Action}
+use Rattle.bgp_machine.specs.Pulling as pulling
+use Rattle.bgp_machine.specs.Session as session
+use Rattle.bgp_machine.specs.declared.action.Action.{Action}
 
 decoder_counts : (stopped : Bool) (held piece : List ℕ) (n : ℕ) → decoder.CountsFed stopped held piece n → n ≤ length piece
 decoder_counts true held piece n none = omega (arith, none)

@@ -4,8 +4,8 @@ use crate::page::Page;
 use crate::row::Row;
 use crate::trouble::Trouble;
 use bgp_open::Config;
-use bgp_pair::{MemoryWire, Report, run_pair};
 use bgp_script::{SCRIPT_MAX, Script, ScriptFault, put_report, read_script};
+use bgp_session::{MemoryWire, Report, run_pair};
 use std::alloc::{AllocError, Global};
 
 /// The script of a row: its lines that begin with `|` and a blank, without these.

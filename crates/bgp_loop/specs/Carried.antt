@@ -1,8 +1,8 @@
 -- What it is that octets were carried from one end of a connection to the other.
 use Rattle.std.specs.Prelude.{◌≡◌, ℕ, List, Option, Some}
 use Rattle.std.specs.Io.KnownBytes.{Appends, Consumes}
-use Rattle.bgp_pair.specs.declared.side.Side.{Side}
-use Rattle.bgp_pair.specs.declared.side.Side.TheVariants.{A, B}
+use Rattle.bgp_session.specs.declared.side.Side.{Side}
+use Rattle.bgp_session.specs.declared.side.Side.TheVariants.{A, B}
 use Rattle.bgp_loop.specs.declared.tcp.Ends.{Ends}
 
 -- the octets that went were appended at the one end, those that came were consumed at the other, and they are the same

@@ -6,9 +6,9 @@ use Rattle.bgp_engine.specs.declared.fault.ToolFault.{ToolFault}
 use Rattle.bgp_engine.specs.declared.fault.ToolFault.TheVariants as fault
 use Rattle.bgp_engine.specs.Output.{AppendsFront}
 use Rattle.bgp_engine.specs.Tally.{no_tally}
-use Rattle.bgp_pair.specs.declared.report.Report.{Report}
-use Rattle.bgp_pair.specs.Report.{IsReported}
-use Rattle.bgp_pair.specs.Wire.{failed_behind}
+use Rattle.bgp_session.specs.declared.report.Report.{Report}
+use Rattle.bgp_session.specs.Report.{IsReported}
+use Rattle.bgp_session.specs.Wire.{failed_behind}
 use Rattle.bgp_script.specs.declared.script.Script.{Script}
 use Rattle.bgp_script.specs.ReportText.{report_text}
 use Rattle.bgp_script.specs.Script.{script_of}

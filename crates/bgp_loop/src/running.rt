@@ -6,8 +6,8 @@ ghost use Rattle.bgp_script.specs.ReportText.{report_text};
 ghost use Rattle.bgp_loop.specs.Loop.{Answers, IsRun};
 
 use bgp_engine::{End, Tally, ToolFault, put};
-use bgp_pair::{Report, Wire, run_pair};
 use bgp_script::{SCRIPT_MAX, ScriptFault, put_report, read_script};
+use bgp_session::{Report, Wire, run_pair};
 use std::alloc::{AllocError, Global};
 use std::io::Write;
 

@@ -2,11 +2,11 @@
 
 ghost use Rattle.std.specs.Prelude.{◌≡◌, true, IfOk, IfErr};
 ghost use Rattle.bgp_engine.specs.declared.fault.ToolFault.TheVariants.{Net};
-ghost use Rattle.bgp_pair.specs.Wire.{failed_after};
+ghost use Rattle.bgp_session.specs.Wire.{failed_after};
 ghost use Rattle.bgp_loop.specs.Carried.{IsCarried, IsPassed};
 
 use bgp_engine::ToolFault;
-use bgp_pair::{Side, Wire};
+use bgp_session::{Side, Wire};
 use std::io;
 use std::io::{ErrorKind, Read, Write};
 use std::net::{Net, OpenListener, OpenStream, TcpListener, TcpStream};

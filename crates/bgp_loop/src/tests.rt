@@ -2,8 +2,8 @@
 
 use crate::*;
 use bgp_engine::{End, Tally, ToolFault, status};
-use bgp_pair::{MemoryWire, Side, Wire};
 use bgp_script::SCRIPT_MAX;
+use bgp_session::{MemoryWire, Side, Wire};
 use std::io;
 use std::io::{ErrorKind, Write};
 use std::net::Net;

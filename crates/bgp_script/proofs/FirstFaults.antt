@@ -1,6 +1,6 @@
 -- The first line that is no move.
 use Rattle.std.proofs.Common.{◌≡◌, ℕ, List, [], ◌∷◌, ◌++◌, Option, Some, None, Result, Ok, Err, refl, sym, ap, ◌∙◌}
-use Rattle.bgp_pair.specs.declared.moves.Move.{Move}
+use Rattle.bgp_session.specs.declared.moves.Move.{Move}
 use Rattle.bgp_script.specs.declared.speakers.Speakers.{Speakers}
 use Rattle.bgp_script.specs.Faults.{IsFirstFault}
 use Rattle.bgp_script.specs.Lines.{Told}

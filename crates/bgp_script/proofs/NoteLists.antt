@@ -1,6 +1,6 @@
 -- The notes of a side, one after another.
 use Rattle.std.proofs.Common.{ℕ, Bool, true, false, List}
-use Rattle.bgp_pair.specs.declared.side.Side.{Side}
+use Rattle.bgp_session.specs.declared.side.Side.{Side}
 use Rattle.bgp_script.specs.NoteList.{later_notes, notes_text}
 
 -- what notes add, where none or some were written

@@ -1,6 +1,6 @@
 -- The faulty line of a schedule, told without its reading.
 use Rattle.std.specs.Prelude.{◌≡◌, ℕ, List, ◌∷◌, ◌++◌, None, Ok}
-use Rattle.bgp_pair.specs.declared.moves.Move.{Move}
+use Rattle.bgp_session.specs.declared.moves.Move.{Move}
 use Rattle.bgp_script.specs.declared.speakers.Speakers.{Speakers}
 use Rattle.bgp_script.specs.Lines.{Told}
 use Rattle.bgp_script.specs.Pieces.{words_of}

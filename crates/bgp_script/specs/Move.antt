@@ -9,12 +9,12 @@ use Rattle.bgp_update.specs.declared.update.Update.{Update}
 use Rattle.bgp_update.specs.declared.verdict.Verdict.{Verdict}
 use Rattle.bgp_update.specs.declared.verdict.Verdict.TheVariants.{Take, Withdraw, Reset}
 use Rattle.bgp_update.specs.Verdict.{verdict_of}
-use Rattle.bgp_session.specs.declared.timer.Timer.{Timer}
-use Rattle.bgp_session.specs.declared.timer.Timer.TheVariants as timer
-use Rattle.bgp_pair.specs.declared.moves.Move.{Move}
-use Rattle.bgp_pair.specs.declared.moves.Move.TheVariants as move
-use Rattle.bgp_pair.specs.declared.side.Side.{Side}
-use Rattle.bgp_pair.specs.declared.side.Side.TheVariants.{A, B}
+use Rattle.bgp_machine.specs.declared.timer.Timer.{Timer}
+use Rattle.bgp_machine.specs.declared.timer.Timer.TheVariants as timer
+use Rattle.bgp_session.specs.declared.moves.Move.{Move}
+use Rattle.bgp_session.specs.declared.moves.Move.TheVariants as move
+use Rattle.bgp_session.specs.declared.side.Side.{Side}
+use Rattle.bgp_session.specs.declared.side.Side.TheVariants.{A, B}
 use Rattle.bgp_script.specs.declared.speakers.Speakers.{Speakers}
 use Rattle.bgp_script.specs.Steps.{◌>>=◌}
 use Rattle.bgp_script.specs.Pieces.{one_piece, if_done}

@@ -1,8 +1,8 @@
 -- The notifications of one side, as a list in a line.
 use Rattle.std.specs.Prelude.{ℕ, Bool, true, false, List, [], ◌∷◌, ◌++◌, codes, if◌then◌else◌}
 use Rattle.std.specs.Fmt.{decimal}
-use Rattle.bgp_pair.specs.declared.side.Side.{Side}
-use Rattle.bgp_pair.specs.declared.side.Side.TheVariants.{A, B}
+use Rattle.bgp_session.specs.declared.side.Side.{Side}
+use Rattle.bgp_session.specs.declared.side.Side.TheVariants.{A, B}
 
 abbrev pub side_name : Side → List ℕ
 side_name A = codes "a"

@@ -2,14 +2,14 @@
 use Rattle.std.specs.Prelude.{ℕ, ◌+◌, List, [], ◌∷◌, ◌++◌, length, codes}
 use Rattle.std.specs.Fmt.{decimal}
 use Rattle.std.specs.List.{flat_map}
-use Rattle.bgp_session.specs.declared.send_fault.SendFault.{SendFault}
-use Rattle.bgp_session.specs.declared.send_fault.SendFault.TheVariants as send_fault
-use Rattle.bgp_session.specs.declared.state.State.{State}
-use Rattle.bgp_session.specs.declared.state.State.TheVariants as state
-use Rattle.bgp_pair.specs.declared.report.Report.{Report}
-use Rattle.bgp_pair.specs.declared.report.Round.{Round}
-use Rattle.bgp_pair.specs.declared.side.Side.{Side}
-use Rattle.bgp_pair.specs.declared.side.Side.TheVariants.{A, B}
+use Rattle.bgp_machine.specs.declared.send_fault.SendFault.{SendFault}
+use Rattle.bgp_machine.specs.declared.send_fault.SendFault.TheVariants as send_fault
+use Rattle.bgp_machine.specs.declared.state.State.{State}
+use Rattle.bgp_machine.specs.declared.state.State.TheVariants as state
+use Rattle.bgp_session.specs.declared.report.Report.{Report}
+use Rattle.bgp_session.specs.declared.report.Round.{Round}
+use Rattle.bgp_session.specs.declared.side.Side.{Side}
+use Rattle.bgp_session.specs.declared.side.Side.TheVariants.{A, B}
 use Rattle.bgp_script.specs.NoteList.{side_name, own_notes, notes_text}
 
 -- how many UPDATEs a side sent, how many were announced to it, how many messages took routes from it, and what it sent in notifications

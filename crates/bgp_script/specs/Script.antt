@@ -1,7 +1,7 @@
 -- A script: two speakers and the moves of a schedule.
 use Rattle.std.specs.Prelude.{ℕ, List, [], ◌∷◌, Option, Some, None, Result, Ok, Err, codes}
 use Rattle.bgp_open.specs.Config.{Settings}
-use Rattle.bgp_pair.specs.declared.moves.Move.{Move}
+use Rattle.bgp_session.specs.declared.moves.Move.{Move}
 use Rattle.bgp_script.specs.declared.script.Script.{Script}
 use Rattle.bgp_script.specs.declared.speakers.Speakers.{Speakers}
 use Rattle.bgp_script.specs.Lines.{Told, Left, left_behind, next_told}

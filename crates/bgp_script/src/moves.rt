@@ -8,8 +8,7 @@ ghost use Rattle.bgp_script.specs.Move.{side_of, timer_of, one_side, last_side, 
 use crate::pieces::Pieces;
 use crate::sent::read_sent;
 use crate::speakers::Speakers;
-use bgp_pair::{Move, Side};
-use bgp_session::Timer;
+use bgp_session::{Move, Side, Timer};
 use std::alloc::{AllocError, Global};
 
 fn is_word(word: &[u8], other: &[u8]) -> bool

@@ -5,7 +5,7 @@ ghost use Rattle.std.specs.Fmt.{decimal};
 ghost use Rattle.std.specs.String.{string_bytes};
 ghost use Rattle.bgp_script.specs.NoteList.{side_name, is_same, mark_of, own_notes, notes_text};
 
-use bgp_pair::Side;
+use bgp_session::Side;
 use std::alloc::AllocError;
 
 /// The name of a side.

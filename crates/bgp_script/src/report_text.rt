@@ -6,8 +6,7 @@ ghost use Rattle.std.specs.String.{string_bytes};
 ghost use Rattle.bgp_script.specs.ReportText.{side_line, round_lines, rounds_from, fault_number, refused_line, state_name, state_line, report_text};
 
 use crate::note_list::{put_notes, side_name};
-use bgp_pair::{Report, Round, Side};
-use bgp_session::{SendFault, State};
+use bgp_session::{Report, Round, SendFault, Side, State};
 use std::alloc::AllocError;
 
 // Adds the line of a side in a round.

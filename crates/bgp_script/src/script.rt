@@ -11,7 +11,7 @@ use crate::script_fault::ScriptFault;
 use crate::speaker::read_speaker;
 use crate::speakers::Speakers;
 use bgp_open::Config;
-use bgp_pair::Move;
+use bgp_session::Move;
 use bgp_wire::List;
 use std::alloc::Global;
 

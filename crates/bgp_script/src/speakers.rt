@@ -4,7 +4,7 @@ ghost use Rattle.std.specs.Prelude.{◌≡◌};
 ghost use Rattle.bgp_script.specs.Move.{context_of, speaker_at};
 
 use bgp_open::{Config, Context};
-use bgp_pair::Side;
+use bgp_session::Side;
 
 /// Both speakers.
 #[derive(Clone, Copy)]

@@ -1,10 +1,24 @@
--- Lemmas of the session.
-pub mod Contents
-pub mod Steps
-pub mod Pulls
-pub mod Held
-pub mod Lives
-pub mod Sendings
-pub mod Widened
-pub mod Cuttings
-pub mod Feedings
+-- Lemmas of two ends.
+pub mod Acts
+pub mod Feeds
+pub mod Plays
+pub mod Ranges
+pub mod Handed
+pub mod Resting
+pub mod Sayings
+pub mod Narrowed
+pub mod Facts
+pub mod Streams
+pub mod Ways
+pub mod Ends
+pub mod Events
+pub mod Hearings
+pub mod Octets
+pub mod Sends
+pub mod Losses
+pub mod Joins
+pub mod Worlds
+pub mod Begun
+pub mod Agreements
+pub mod Outcomes
+pub mod Reports

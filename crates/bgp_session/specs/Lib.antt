@@ -1,8 +1,8 @@
--- One session of BGP-4: where it stands, what each event and each message does, and what follows for whole lives.
-pub mod Standing
-pub mod Table
-pub mod Session
-pub mod Pulling
-pub mod Sending
-pub mod Life
-pub mod Cutting
+-- Two sessions that are joined by two pipes: what each move does, and what comes of a schedule.
+pub mod Pair
+pub mod World
+pub mod Wire
+pub mod Report
+pub mod Feeding
+pub mod Playing
+pub mod Laws

@@ -1,44 +1,53 @@
-//! Laws of whole lives, and of how octets are cut into pieces. Each is the contract of a function that does nothing.
+//! Laws of one session, handed on, and of all that can come of two that are joined by two pipes. Each is the contract of a function that does
+//! nothing.
 
-ghost use Rattle.std.specs.Prelude.{◌≡◌, ℕ, List};
-ghost use Rattle.std.specs.List.{flat_map};
-ghost use Rattle.bgp_wire.specs.Octets.{AreOctets};
+ghost use Rattle.std.specs.Prelude.{◌≡◌, Bool, true, false, List, []};
+ghost use Rattle.std.specs.List.{All};
 ghost use Rattle.bgp_open.specs.Config.{Settings};
-ghost use Rattle.bgp_session.specs.declared.action.Action.{Action};
-ghost use Rattle.bgp_session.specs.declared.event.Event.{Event};
-ghost use Rattle.bgp_session.specs.declared.state.State.TheVariants as state;
-ghost use Rattle.bgp_session.specs.Session.{Machine, fresh, after_event};
-ghost use Rattle.bgp_session.specs.Cutting.{IsAtRest, Piece, joined, Cuts, CanBeFed, by_octets};
-ghost use Rattle.bgp_session.specs.Life.{Call, Life, born, Lives, BeginsByOpenAndKeepalive};
+ghost use Rattle.bgp_session.specs.declared.moves.Move.{Move};
+ghost use Rattle.bgp_session.specs.declared.report.Report.{Report};
+ghost use Rattle.bgp_session.specs.declared.side.Side.{Side};
+ghost use Rattle.bgp_session.specs.Report.{IsReported};
+ghost use Rattle.bgp_session.specs.World.{rounds_of, end_of};
+ghost use Rattle.bgp_session.specs.Laws.{CanBeSet, HaveSentRanges, world_behind, BothAgree, RoundHasReasons, HearsFronts, HeardAll, both_wide};
 
-/// Whatever is called for, in whatever order: where a session is Established, the octets that it has taken since its connection stands begin
-/// with an OPEN that it accepted, from which it has its context, and then a KEEPALIVE.
-pub fn established_is_behind_open_and_keepalive()
-    ensures { (s : Settings) (calls : List Call) (life : Life) → Lives (born s) calls life
-        → life.session.standing.state ≡ state.Established → BeginsByOpenAndKeepalive s life.session.standing.context life.taken }
+pub use bgp_machine::laws::{
+    any_pieces_can_be_fed, cuts_change_nothing, cuts_do_as_octet_by_octet,
+    established_is_behind_open_and_keepalive, events_leave_nothing_to_do,
+};
+
+/// Whatever is done, and whatever the wire answers: a session that has a context has the one that its speaker agrees on with what the other
+/// says of itself, and where both have one, it is the same.
+pub fn both_sides_agree()
+    ensures { (a b : Settings) (moves : List Move) (answers : List Bool) → CanBeSet a → CanBeSet b → HaveSentRanges a b moves answers
+        → BothAgree a b (world_behind a b moves answers) }
 {}
 
-/// Octets that are fed in pieces, with `step` behind each `feed` until it gives nothing, do what they do one by one: the same actions in the same
-/// order, and the same session behind them, with nothing left to do.
-pub fn cuts_do_as_octet_by_octet()
-    ensures { (x : Machine) (pieces : List Piece) (actions : List Action) (y : Machine) → IsAtRest x → AreOctets (joined pieces)
-        → Cuts pieces x actions y → (by_octets x (joined pieces) ≡ record { actions = actions; session = y }) × IsAtRest y }
+/// A side sends a NOTIFICATION for one of four reasons alone: the other has another AS number than the one that is configured, or the same
+/// identifier inside one AS; or a move stops the side, or lets its Hold Timer expire.
+pub fn only_these_notifications()
+    ensures { (a b : Settings) (moves : List Move) (answers : List Bool) → CanBeSet a → CanBeSet b → HaveSentRanges a b moves answers
+        → All (RoundHasReasons a b moves) (rounds_of (world_behind a b moves answers)) }
 {}
 
-/// How octets are cut into pieces changes nothing: where the same octets are fed in two cuttings, with `step` behind each `feed` until it gives
-/// nothing, the same actions are done in the same order, and the session is the same behind them.
-pub fn cuts_change_nothing()
-    ensures { (x : Machine) (pieces others : List Piece) (actions others_actions : List Action) (y z : Machine) → IsAtRest x → AreOctets (joined pieces)
-        → joined pieces ≡ joined others → Cuts pieces x actions y → Cuts others x others_actions z → (actions ≡ others_actions) × (y ≡ z) }
+/// In each round, what a side got is what is heard of a front of what the other sent, in order, and no routes were lost to a message that was
+/// treated as a withdrawal.
+pub fn what_is_heard_was_said()
+    ensures { (a b : Settings) (moves : List Move) (answers : List Bool) → CanBeSet a → CanBeSet b → HaveSentRanges a b moves answers
+        → All (HearsFronts (both_wide a b)) (rounds_of (world_behind a b moves answers)) }
 {}
 
-/// A new session has nothing left to do, and an event leaves a session so.
-pub fn events_leave_nothing_to_do()
-    ensures fresh { (s : Settings) → IsAtRest (fresh s) }
-    ensures event { (x : Machine) (event : Event) → IsAtRest x → IsAtRest (after_event x event) }
+/// A side that hasn't left the connection, and towards which nothing is in flight, has heard all that the other sent in the last round.
+pub fn all_is_heard()
+    ensures { (a b : Settings) (moves : List Move) (answers : List Bool) (side : Side) → CanBeSet a → CanBeSet b → HaveSentRanges a b moves answers
+        → (end_of side (world_behind a b moves answers)).left ≡ false → (end_of side (world_behind a b moves answers)).flight ≡ []
+        → HeardAll (both_wide a b) side (world_behind a b moves answers) }
 {}
 
-/// Octets can be fed in whatever pieces they come: each `feed` takes a number of octets, and then so many steps give something.
-pub fn any_pieces_can_be_fed()
-    ensures { (x : Machine) (pieces : List (List ℕ)) → IsAtRest x → AreOctets (flat_map (λ piece. piece) pieces) → CanBeFed x pieces }
+/// What is reported of a schedule keeps to these laws: each NOTIFICATION has its reason, and what was heard is a front of what was said.
+pub fn reports_keep_to_the_laws()
+    ensures notifications { (a b : Settings) (moves : List Move) (report : Report) → CanBeSet a → CanBeSet b → HaveSentRanges a b moves report.answers
+        → IsReported a b moves report → All (RoundHasReasons a b moves) report.rounds }
+    ensures updates { (a b : Settings) (moves : List Move) (report : Report) → CanBeSet a → CanBeSet b → HaveSentRanges a b moves report.answers
+        → IsReported a b moves report → All (HearsFronts (both_wide a b)) report.rounds }
 {}

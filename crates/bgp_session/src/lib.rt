@@ -1,24 +1,23 @@
-//! One session of BGP-4: the state machine of a connection (RFC 4271, section 8), without IO and without a clock. Events and octets go
-//! in, and what is to be done comes out.
+//! A session of BGP-4 (RFC 4271, section 8), which `bgp_machine` has and this crate hands on; and two of them that are joined by two pipes:
+//! what each says comes to the other in order, in whatever pieces, until the connection is lost. Each cut, expiry, stop and loss is a move of
+//! a list.
 #![tactic(auto)]
 
-mod action;
-mod event;
-mod events;
-mod hearing;
+mod acting;
 pub mod laws;
-mod phase;
-mod send_fault;
-mod sending;
-mod session;
-mod standing;
-mod state;
-mod stepping;
-mod timer;
+mod moves;
+mod pairing;
+mod playing;
+mod report;
+mod side;
+mod speaker;
+mod wire;
 
-pub use action::{Action, Actions};
-pub use event::Event;
-pub use send_fault::SendFault;
-pub use session::Session;
-pub use state::State;
-pub use timer::{OPEN_HOLD_SECONDS, RETRY_SECONDS, Timer};
+pub use bgp_machine::{
+    Action, Actions, Event, OPEN_HOLD_SECONDS, RETRY_SECONDS, SendFault, Session, State, Timer,
+};
+pub use moves::Move;
+pub use playing::run_pair;
+pub use report::{Report, Round};
+pub use side::Side;
+pub use wire::{MemoryWire, Wire};

@@ -1,12 +1,12 @@
 //! Wires that fail at a call, that change what they are given, and that record it: what `run_loop` writes then.
 
 ghost use Rattle.std.specs.Prelude.{◌≡◌, ◌+◌, true, false, nat_lt, if◌then◌else◌};
-ghost use Rattle.bgp_pair.specs.Wire.{failed_after};
+ghost use Rattle.bgp_session.specs.Wire.{failed_after};
 
 use super::*;
 use bgp_loop::run_loop;
-use bgp_pair::{MemoryWire, Side, Wire};
 use bgp_script::SCRIPT_MAX;
+use bgp_session::{MemoryWire, Side, Wire};
 use std::process::Abort;
 
 /// Two speakers come up, A announces a route, and then stops.

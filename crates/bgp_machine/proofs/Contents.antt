@@ -1,0 +1,67 @@
+-- What octets come to: a message, a header with a fault, or nothing yet.
+use Rattle.std.proofs.Common.{◌≡◌, ℕ, ◌≤◌, ◌⊎◌, List, length, drop, Some, None, Result, Ok, Err, refl, sym, ap, subst, ◌∙◌, arith, inl, inr}
+use Rattle.std.specs.Result.{result_map_both}
+use Rattle.std.proofs.lemmas.Bool.{cases_lt, le-ltb, lt-ltb}
+use Rattle.bgp_frame.specs.declared.fault.HeadFault.{HeadFault}
+use Rattle.bgp_frame.specs.Frame.{Message, IsFrame, wanted_by, wanted, Waits}
+use Rattle.bgp_frame.specs.Framer.{IsHeld}
+use Rattle.bgp_frame.specs.Head.{head_of}
+use Rattle.bgp_frame.proofs.FrameLemmas.{head_of-IsFrame, IsFrame-wanted, wanted_by_head, wanted-bounds, IsFrame-head_of}
+use Rattle.bgp_machine.specs.Session.{content, content_of}
+
+-- enough octets come to their content
+pub enough : (b : List ℕ) → wanted b ≤ length b → content_of b ≡ Some (content b)
+enough b long = rw (le-ltb (length b) (wanted b) long) refl
+
+pub content_of-waits : (b : List ℕ) → Waits b → content_of b ≡ None
+content_of-waits b waits = rw (lt-ltb (length b) (wanted b) waits) refl
+
+body_of : (m : Message) (b : List ℕ) → IsFrame m b → drop 19 b ≡ m.body
+body_of m b f = ap (drop 19) f.octets
+
+pub content_of-frame : (m : Message) (b : List ℕ) → IsFrame m b → content_of b ≡ Some (Ok m)
+content_of-frame m b f =
+    let wants = IsFrame-wanted m b f in
+    enough b (omega arith)
+    ∙ ap Some (ap (result_map_both (λ head. record { kind = head.kind; body = drop 19 b }) (λ fault. fault)) (head_of-IsFrame m b f)
+    ∙ ap (λ (body : List ℕ). Ok (record { kind = m.kind; body = body })) (body_of m b f))
+
+pub content_of-fault : (b : List ℕ) (f : HeadFault) → length b ≡ 19 → head_of b ≡ Err f → content_of b ≡ Some (Err f)
+content_of-fault b f len e =
+    let wants = wanted_by_head b (omega arith) ∙ ap wanted_by e in
+    enough b (omega arith)
+    ∙ ap (λ r. Some (result_map_both (λ head. record { kind = head.kind; body = drop 19 b }) (λ fault. fault) r)) e
+
+-- ---- the message that what is held comes to
+
+cases_of : {T E : Type 0} (r : Result T E) → ((v : T) × (r ≡ Ok v)) ⊎ ((e : E) × (r ≡ Err e))
+cases_of (Ok v) = inl (v, refl)
+cases_of (Err e) = inr (e, refl)
+
+same_message : (a b : Message) (r : Result Message HeadFault) → r ≡ Ok a → r ≡ Ok b → a ≡ b
+same_message a b r is says = cc
+
+neither : (r : Result Message HeadFault) (f : HeadFault) (m : Message) → r ≡ Err f → r ≡ Ok m → ⊥
+neither r f m faulty fine = cc
+
+content-frame : (m : Message) (b : List ℕ) → IsHeld b → wanted b ≤ length b → content b ≡ Ok m → IsFrame m b
+content-frame m b held long is =
+    let bounds = wanted-bounds b in
+    let header : 19 ≤ length b = omega (arith, bounds.0) in
+    elim (cases_of (head_of b)) [
+      | inl found ↦
+          let wants = wanted_by_head b header ∙ ap wanted_by found.1 in
+          let frame = IsFrame-head_of b found.0 held.octets found.1 (omega (arith, held.within)) in
+          let says = ap (result_map_both (λ head. record { kind = head.kind; body = drop 19 b }) (λ fault. fault)) found.1 in
+          subst (λ (x : Message). IsFrame x b) (same_message (record { kind = found.0.kind; body = drop 19 b }) m (content b) says is) frame
+      | inr fault ↦
+          let says = ap (result_map_both (λ head. record { kind = head.kind; body = drop 19 b }) (λ fault. fault)) fault.1 in
+          absurd (neither (content b) fault.0 m says is)
+    ]
+
+pub content_of-message : (m : Message) (b : List ℕ) → IsHeld b → content_of b ≡ Some (Ok m) → IsFrame m b
+content_of-message m b held is =
+    elim (cases_lt (length b) (wanted b)) [
+      | inl waits ↦ absurd (let not : None ≡ Some (Ok m) = sym (content_of-waits b waits) ∙ is in cc)
+      | inr long ↦ content-frame m b held long (let same : Some (content b) ≡ Some (Ok m) = sym (enough b long) ∙ is in cc)
+    ]

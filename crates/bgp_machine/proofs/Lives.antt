@@ -1,0 +1,299 @@
+-- What is kept through a whole life: what the octets that were taken are, in each state.
+use Rattle.std.proofs.Common.{◌≡◌, ℕ, Bool, true, false, List, [], ◌∷◌, ◌++◌, take, Option, Some, None, Result, Ok, Err, option_map, refl, sym, ap, subst, ap₂, ◌∙◌, append_assoc, arith, if◌then◌else◌}
+use Rattle.std.proofs.lemmas.List.{append-nil, nil_from_length}
+use Rattle.bgp_wire.specs.Octets.{AreOctets}
+use Rattle.bgp_frame.specs.declared.fault.HeadFault.{HeadFault}
+use Rattle.bgp_frame.specs.declared.notification.Notification.{Notification}
+use Rattle.bgp_frame.specs.declared.kind.Kind.{Kind}
+use Rattle.bgp_frame.specs.declared.kind.Kind.TheVariants as kind
+use Rattle.bgp_frame.specs.Frame.{Message, IsFrame}
+use Rattle.bgp_frame.specs.Framer.{IsHeld}
+use Rattle.bgp_frame.proofs.FrameLemmas.{length-IsFrame}
+use Rattle.bgp_frame.proofs.Holding.{IsHeld_nil}
+use Rattle.bgp_open.specs.declared.agreement.PeerFault.{PeerFault}
+use Rattle.bgp_open.specs.declared.context.Context.{Context}
+use Rattle.bgp_open.specs.declared.fault.OpenFault.{OpenFault}
+use Rattle.bgp_open.specs.declared.message.Open.{Open}
+use Rattle.bgp_open.specs.Agreement.{agreement}
+use Rattle.bgp_open.specs.Config.{Settings}
+use Rattle.bgp_open.specs.OpenFault.{open_notification, reading_of}
+use Rattle.bgp_update.specs.declared.verdict.Verdict.{Verdict}
+use Rattle.bgp_update.specs.declared.verdict.Verdict.TheVariants as verdict
+use Rattle.bgp_update.specs.Verdict.{verdict_of}
+use Rattle.bgp_machine.specs.declared.event.Event.{Event}
+use Rattle.bgp_machine.specs.declared.event.Event.TheVariants as event
+use Rattle.bgp_machine.specs.declared.state.State.{State}
+use Rattle.bgp_machine.specs.declared.state.State.TheVariants as state
+use Rattle.bgp_machine.specs.declared.timer.Timer.TheVariants as timer
+use Rattle.bgp_machine.specs.declared.timer.Timers.{Timers}
+use Rattle.bgp_machine.specs.Standing.{Standing, runs, listens}
+use Rattle.bgp_machine.specs.Table.{Step, on_agreement, answered, on_open, on_verdict, on_update, on_message, hears, happens}
+use Rattle.bgp_machine.specs.Session.{Machine, kept, CountsFed, holding, content_of, after_judged}
+use Rattle.bgp_machine.specs.Life.{Call, Told, Fed, Stepped, Life, born, connects, taken_behind, told, Eats, Goes, Lives, BeginsByOpenAndKeepalive}
+use Rattle.bgp_machine.proofs.Contents.{content_of-message}
+use Rattle.bgp_machine.proofs.Held.{IsHeld-fed}
+
+-- the octets are an OPEN that was accepted and gave the context, and what is held
+record BeginsByOpen (s : Settings) (context : Option Context) (held octets : List ℕ) : Type 0 where
+  body : List ℕ
+  spelled : List ℕ
+  is_open : IsFrame (record { kind = kind.Open; body = body }) spelled
+  said : Open
+  is_read : reading_of body ≡ Ok said
+  agreed : Context
+  accepted : agreement s said ≡ Ok agreed
+  gave : context ≡ Some agreed
+  in_order : octets ≡ spelled ++ held
+
+-- what the octets are that were taken, in each state
+abbrev Stands : Settings → State → Option Context → List ℕ → List ℕ → Type 0
+Stands s state.OpenSent ctx held taken = taken ≡ held
+Stands s state.OpenConfirm ctx held taken = BeginsByOpen s ctx held taken
+Stands s state.Established ctx held taken = BeginsByOpenAndKeepalive s ctx taken
+Stands s _ ctx held taken = held ≡ []
+
+by_if : {A : Type 0} (P : A → Type 0) (b : Bool) (x y : A) → P x → P y → P (if b then x else y)
+by_if P true x y p q = p
+by_if P false x y p q = q
+
+-- ---- events
+
+module _ (s : Settings) (ctx : Option Context) (running : Timers) (held : List ℕ) where
+  abbrev StandsBehind : List ℕ → List ℕ → Step → Type 0
+  StandsBehind now taken x = Stands s x.next.state x.next.context (kept (listens x.next.state) now) taken
+
+  event_keeps : (st : State) (e : Event) (taken : List ℕ) → Stands s st ctx held taken
+      → StandsBehind held (taken_behind (connects st e) taken) (happens (record { state = st; context = ctx; running = running }) e)
+  event_keeps state.Idle event.Start taken h = refl
+  event_keeps state.Idle event.Stop taken h = refl
+  event_keeps state.Idle event.Connected taken h = refl
+  event_keeps state.Idle event.Failed taken h = refl
+  event_keeps state.Idle (event.Expired timer.Retry) taken h = by_if (λ (x : Step). StandsBehind held taken x) (runs running timer.Retry) _ _ refl refl
+  event_keeps state.Idle (event.Expired timer.Hold) taken h = by_if (λ (x : Step). StandsBehind held taken x) (runs running timer.Hold) _ _ refl refl
+  event_keeps state.Idle (event.Expired timer.Keepalive) taken h = by_if (λ (x : Step). StandsBehind held taken x) (runs running timer.Keepalive) _ _ refl refl
+  event_keeps state.Connect event.Start taken h = refl
+  event_keeps state.Connect event.Stop taken h = refl
+  event_keeps state.Connect event.Connected taken h = sym h
+  event_keeps state.Connect event.Failed taken h = refl
+  event_keeps state.Connect (event.Expired timer.Retry) taken h = by_if (λ (x : Step). StandsBehind held taken x) (runs running timer.Retry) _ _ refl refl
+  event_keeps state.Connect (event.Expired timer.Hold) taken h = by_if (λ (x : Step). StandsBehind held taken x) (runs running timer.Hold) _ _ refl refl
+  event_keeps state.Connect (event.Expired timer.Keepalive) taken h = by_if (λ (x : Step). StandsBehind held taken x) (runs running timer.Keepalive) _ _ refl refl
+  event_keeps state.Active event.Start taken h = refl
+  event_keeps state.Active event.Stop taken h = refl
+  event_keeps state.Active event.Connected taken h = sym h
+  event_keeps state.Active event.Failed taken h = refl
+  event_keeps state.Active (event.Expired timer.Retry) taken h = by_if (λ (x : Step). StandsBehind held taken x) (runs running timer.Retry) _ _ refl refl
+  event_keeps state.Active (event.Expired timer.Hold) taken h = by_if (λ (x : Step). StandsBehind held taken x) (runs running timer.Hold) _ _ refl refl
+  event_keeps state.Active (event.Expired timer.Keepalive) taken h = by_if (λ (x : Step). StandsBehind held taken x) (runs running timer.Keepalive) _ _ refl refl
+  event_keeps state.OpenSent event.Start taken h = h
+  event_keeps state.OpenSent event.Stop taken h = refl
+  event_keeps state.OpenSent event.Connected taken h = h
+  event_keeps state.OpenSent event.Failed taken h = refl
+  event_keeps state.OpenSent (event.Expired timer.Retry) taken h = by_if (λ (x : Step). StandsBehind held taken x) (runs running timer.Retry) _ _ h h
+  event_keeps state.OpenSent (event.Expired timer.Hold) taken h = by_if (λ (x : Step). StandsBehind held taken x) (runs running timer.Hold) _ _ refl h
+  event_keeps state.OpenSent (event.Expired timer.Keepalive) taken h = by_if (λ (x : Step). StandsBehind held taken x) (runs running timer.Keepalive) _ _ h h
+  event_keeps state.OpenConfirm event.Start taken h = h
+  event_keeps state.OpenConfirm event.Stop taken h = refl
+  event_keeps state.OpenConfirm event.Connected taken h = h
+  event_keeps state.OpenConfirm event.Failed taken h = refl
+  event_keeps state.OpenConfirm (event.Expired timer.Retry) taken h = by_if (λ (x : Step). StandsBehind held taken x) (runs running timer.Retry) _ _ h h
+  event_keeps state.OpenConfirm (event.Expired timer.Hold) taken h = by_if (λ (x : Step). StandsBehind held taken x) (runs running timer.Hold) _ _ refl h
+  event_keeps state.OpenConfirm (event.Expired timer.Keepalive) taken h = by_if (λ (x : Step). StandsBehind held taken x) (runs running timer.Keepalive) _ _ h h
+  event_keeps state.Established event.Start taken h = h
+  event_keeps state.Established event.Stop taken h = refl
+  event_keeps state.Established event.Connected taken h = h
+  event_keeps state.Established event.Failed taken h = refl
+  event_keeps state.Established (event.Expired timer.Retry) taken h = by_if (λ (x : Step). StandsBehind held taken x) (runs running timer.Retry) _ _ h h
+  event_keeps state.Established (event.Expired timer.Hold) taken h = by_if (λ (x : Step). StandsBehind held taken x) (runs running timer.Hold) _ _ refl h
+  event_keeps state.Established (event.Expired timer.Keepalive) taken h = by_if (λ (x : Step). StandsBehind held taken x) (runs running timer.Keepalive) _ _ h h
+
+  -- ---- messages
+
+  abbrev StandsEmptied : List ℕ → Step → Type 0
+  StandsEmptied taken x = Stands s x.next.state x.next.context [] taken
+
+  abbrev at : State → Standing
+  at st = record { state = st; context = ctx; running = running }
+
+  agreement_keeps : (body : List ℕ) (said : Open) (r : Result Context PeerFault) (taken : List ℕ) → IsFrame (record { kind = kind.Open; body = body }) held
+      → reading_of body ≡ Ok said → agreement s said ≡ r → taken ≡ held → StandsEmptied taken (on_agreement (at state.OpenSent) r)
+  agreement_keeps body said (Ok agreed) taken frame read is h = record {
+    body = body;
+    spelled = held;
+    is_open = frame;
+    said = said;
+    is_read = read;
+    agreed = agreed;
+    accepted = is;
+    gave = refl;
+    in_order = h ∙ sym (append-nil held);
+  }
+  agreement_keeps body said (Err fault) taken frame read is h = refl
+
+  answer_keeps : (why : Option Notification) (taken : List ℕ) → StandsEmptied taken (answered (at state.OpenSent) why)
+  answer_keeps (Some why) taken = refl
+  answer_keeps None taken = refl
+
+  open_keeps : (body : List ℕ) (r : Result Open OpenFault) (taken : List ℕ) → IsFrame (record { kind = kind.Open; body = body }) held
+      → reading_of body ≡ r → taken ≡ held → StandsEmptied taken (on_open s (at state.OpenSent) r)
+  open_keeps body (Ok said) taken frame read h = agreement_keeps body said (agreement s said) taken frame read refl h
+  open_keeps body (Err fault) taken frame read h = answer_keeps (open_notification fault) taken
+
+  verdict_keeps : (v : Verdict) (taken : List ℕ) → BeginsByOpenAndKeepalive s ctx taken → StandsEmptied taken (on_verdict (at state.Established) v)
+  verdict_keeps (verdict.Take u notes) taken h = h
+  verdict_keeps (verdict.Withdraw routes notes) taken h = h
+  verdict_keeps (verdict.Reset why) taken h = refl
+
+  update_keeps : (c : Option Context) (body taken : List ℕ) → BeginsByOpenAndKeepalive s ctx taken → StandsEmptied taken (on_update (at state.Established) c body)
+  update_keeps (Some c) body taken h = verdict_keeps (verdict_of c body) taken h
+  update_keeps None body taken h = h
+
+  no_body : (body : List ℕ) → IsFrame (record { kind = kind.Keepalive; body = body }) held → body ≡ []
+  no_body body frame =
+      let long = length-IsFrame (record { kind = kind.Keepalive; body = body }) held frame in
+      let most = frame.allowed.most in
+      nil_from_length body (omega arith)
+
+  keepalive_keeps : (body taken : List ℕ) → IsFrame (record { kind = kind.Keepalive; body = body }) held → BeginsByOpen s ctx held taken → BeginsByOpenAndKeepalive s ctx taken
+  keepalive_keeps body taken frame o = record {
+    open_body = o.body;
+    open_octets = o.spelled;
+    is_open = o.is_open;
+    said = o.said;
+    is_read = o.is_read;
+    agreed = o.agreed;
+    accepted = o.accepted;
+    gave = o.gave;
+    keepalive_octets = held;
+    is_keepalive = subst (λ (b : List ℕ). IsFrame (record { kind = kind.Keepalive; body = b }) held) (no_body body frame) frame;
+    rest = [];
+    in_order = o.in_order ∙ ap (λ (k : List ℕ). o.spelled ++ k) (sym (append-nil held));
+  }
+
+  message_keeps : (st : State) (k : Kind) (body taken : List ℕ) → IsFrame (record { kind = k; body = body }) held
+      → Stands s st ctx held taken → StandsEmptied taken (on_message s (at st) st k body)
+  message_keeps state.Idle k body taken frame h = refl
+  message_keeps state.Connect k body taken frame h = refl
+  message_keeps state.Active k body taken frame h = refl
+  message_keeps state.OpenSent kind.Open body taken frame h = open_keeps body (reading_of body) taken frame refl h
+  message_keeps state.OpenSent kind.Update body taken frame h = refl
+  message_keeps state.OpenSent kind.Notification body taken frame h = refl
+  message_keeps state.OpenSent kind.Keepalive body taken frame h = refl
+  message_keeps state.OpenConfirm kind.Open body taken frame h = refl
+  message_keeps state.OpenConfirm kind.Update body taken frame h = refl
+  message_keeps state.OpenConfirm kind.Notification body taken frame h = refl
+  message_keeps state.OpenConfirm kind.Keepalive body taken frame h = keepalive_keeps body taken frame h
+  message_keeps state.Established kind.Open body taken frame h = refl
+  message_keeps state.Established kind.Update body taken frame h = update_keeps ctx body taken h
+  message_keeps state.Established kind.Notification body taken frame h = refl
+  message_keeps state.Established kind.Keepalive body taken frame h = h
+
+  hears_keeps : (st : State) (what : Result Message HeadFault) (taken : List ℕ) → IsHeld held → content_of held ≡ Some what
+      → Stands s st ctx held taken → StandsEmptied taken (hears s (at st) what)
+  hears_keeps st (Ok m) taken is content h = message_keeps st m.kind m.body taken (content_of-message m held is content) h
+  hears_keeps state.Idle (Err f) taken is content h = refl
+  hears_keeps state.Connect (Err f) taken is content h = refl
+  hears_keeps state.Active (Err f) taken is content h = refl
+  hears_keeps state.OpenSent (Err f) taken is content h = refl
+  hears_keeps state.OpenConfirm (Err f) taken is content h = refl
+  hears_keeps state.Established (Err f) taken is content h = refl
+
+-- ---- calls
+
+-- what is kept of a whole life
+record Sound (s : Settings) (a : Life) : Type 0 where
+  settings : a.session.settings ≡ s
+  can_hold : IsHeld a.session.held
+  stands : Stands s a.session.standing.state a.session.standing.context a.session.held a.taken
+
+kept_held : (up : Bool) (held : List ℕ) → IsHeld held → IsHeld (kept up held)
+kept_held true held is = is
+kept_held false held is = IsHeld_nil
+
+told_keeps : (s : Settings) (a : Life) (e : Event) → Sound s a → Sound s (told a e)
+told_keeps s a e sound =
+    let x = a.session.standing in
+    record {
+      settings = sound.settings;
+      can_hold = kept_held (listens (happens x e).next.state) a.session.held sound.can_hold;
+      stands = event_keeps s x.context x.running a.session.held x.state e a.taken sound.stands;
+    }
+
+judged_keeps : (s : Settings) (a : Life) (what : Option (Result Message HeadFault)) → Sound s a → content_of a.session.held ≡ what
+    → Sound s (record { session = after_judged a.session (option_map (hears a.session.settings a.session.standing) what); taken = a.taken })
+judged_keeps s a None sound is = sound
+judged_keeps s a (Some what) sound is =
+    let x = a.session.standing in
+    record {
+      settings = sound.settings;
+      can_hold = IsHeld_nil;
+      stands = subst (λ (t : Settings). Stands s (hears t x what).next.state (hears t x what).next.context [] a.taken) (sym sound.settings)
+          (hears_keeps s x.context x.running a.session.held x.state what a.taken sound.can_hold is sound.stands);
+    }
+
+fed_stands : (s : Settings) (st : State) (ctx : Option Context) (held piece taken : List ℕ) (n : ℕ) → CountsFed (listens st) held piece n
+    → Stands s st ctx held taken → Stands s st ctx (held ++ take n piece) (taken ++ take n piece)
+fed_stands s state.Idle ctx held piece taken n counts h = ap (λ (k : ℕ). held ++ take k piece) counts ∙ append-nil held ∙ h
+fed_stands s state.Connect ctx held piece taken n counts h = ap (λ (k : ℕ). held ++ take k piece) counts ∙ append-nil held ∙ h
+fed_stands s state.Active ctx held piece taken n counts h = ap (λ (k : ℕ). held ++ take k piece) counts ∙ append-nil held ∙ h
+fed_stands s state.OpenSent ctx held piece taken n counts h = ap (λ (t : List ℕ). t ++ take n piece) h
+fed_stands s state.OpenConfirm ctx held piece taken n counts o = record {
+  body = o.body;
+  spelled = o.spelled;
+  is_open = o.is_open;
+  said = o.said;
+  is_read = o.is_read;
+  agreed = o.agreed;
+  accepted = o.accepted;
+  gave = o.gave;
+  in_order = ap (λ (t : List ℕ). t ++ take n piece) o.in_order ∙ append_assoc o.spelled held (take n piece);
+}
+fed_stands s state.Established ctx held piece taken n counts o = record {
+  open_body = o.open_body;
+  open_octets = o.open_octets;
+  is_open = o.is_open;
+  said = o.said;
+  is_read = o.is_read;
+  agreed = o.agreed;
+  accepted = o.accepted;
+  gave = o.gave;
+  keepalive_octets = o.keepalive_octets;
+  is_keepalive = o.is_keepalive;
+  rest = o.rest ++ take n piece;
+  in_order =
+      ap (λ (t : List ℕ). t ++ take n piece) o.in_order
+      ∙ append_assoc o.open_octets (o.keepalive_octets ++ o.rest) (take n piece)
+      ∙ ap (λ (t : List ℕ). o.open_octets ++ t) (append_assoc o.keepalive_octets o.rest (take n piece));
+}
+
+fed_holds : (up : Bool) (held piece : List ℕ) (n : ℕ) → AreOctets piece → CountsFed up held piece n → IsHeld held → IsHeld (held ++ take n piece)
+fed_holds true held piece n octets counts is = IsHeld-fed held piece n is octets counts.0
+fed_holds false held piece n octets counts is = subst IsHeld (sym (ap (λ (k : ℕ). held ++ take k piece) counts ∙ append-nil held)) is
+
+eats_keeps : (s : Settings) (a : Life) (piece : List ℕ) (b : Life) → Sound s a → Eats a piece b → Sound s b
+eats_keeps s a piece b sound eats =
+    let x = a.session.standing in
+    let n = eats.count in
+    let now : Life = record { session = holding a.session (a.session.held ++ take n piece); taken = a.taken ++ take n piece } in
+    let same : now ≡ b = ap₂ (λ (m : Machine) (t : List ℕ). record { session = m; taken = t }) (sym eats.fed.1) (sym eats.took) in
+    subst (λ (l : Life). Sound s l) same (record {
+      settings = sound.settings;
+      can_hold = fed_holds (listens x.state) a.session.held piece n eats.octets eats.fed.0 sound.can_hold;
+      stands = fed_stands s x.state x.context a.session.held piece a.taken n eats.fed.0 sound.stands;
+    })
+
+goes_keeps : (s : Settings) (a : Life) (call : Call) (b : Life) → Sound s a → Goes a call b → Sound s b
+goes_keeps s a (Told e) b sound goes = subst (λ (l : Life). Sound s l) (sym goes) (told_keeps s a e sound)
+goes_keeps s a (Fed piece) b sound goes = eats_keeps s a piece b sound goes
+goes_keeps s a Stepped b sound goes = subst (λ (l : Life). Sound s l) (sym goes) (judged_keeps s a (content_of a.session.held) sound refl)
+
+lives_keep : (s : Settings) (a : Life) (calls : List Call) (b : Life) → Sound s a → Lives a calls b → Sound s b
+lives_keep s a [] b sound lives = subst (λ (l : Life). Sound s l) (sym lives) sound
+lives_keep s a (call ∷ later) b sound lives = lives_keep s lives.0 later b (goes_keeps s a call lives.0 sound lives.1) lives.2
+
+pub established_behind : (s : Settings) (calls : List Call) (life : Life) → Lives (born s) calls life
+    → life.session.standing.state ≡ state.Established → BeginsByOpenAndKeepalive s life.session.standing.context life.taken
+established_behind s calls life lives up =
+    let sound = lives_keep s (born s) calls life (record { settings = refl; can_hold = IsHeld_nil; stands = refl }) lives in
+    let x = life.session in
+    subst (λ (st : State). Stands s st x.standing.context x.held life.taken) up sound.stands

@@ -1,0 +1,55 @@
+-- What a session makes of a piece whose messages are judged where they stand.
+use Rattle.std.specs.Prelude.{◌≡◌, ◌<◌, ◌≤◌, ◌⊎◌, ℕ, true, false, List, [], ◌++◌, length, take, Option, None, Some}
+use Rattle.arrayvec.specs.ArrayVec.{ArrayVec}
+use Rattle.bgp_frame.specs.Frame.{Waits}
+use Rattle.bgp_frame.specs.Takes.{Takes}
+use Rattle.bgp_machine.specs.declared.action.Action.{Action}
+use Rattle.bgp_machine.specs.Standing.{listens}
+use Rattle.bgp_machine.specs.Session.{Machine, holding, IsFed, IsJudged, HeldTakesMemory}
+
+-- before the connection stands nothing is taken
+pub record PullsNothing (old : Machine) (n : ℕ) (new : Machine) : Type 0 where
+  pub deaf : listens old.standing.state ≡ false
+  pub none : n ≡ 0
+  pub same : new ≡ old
+
+-- what is held is judged: nothing is taken
+pub record PullsHeld (old : Machine) (n : ℕ) (actions : ArrayVec Action) (new : Machine) : Type 0 where
+  pub none : n ≡ 0
+  pub step : IsJudged old (Some actions) new
+
+-- the piece is fed, as some octets are held that wait, or none are and the piece waits
+pub record PullsSome (old : Machine) (piece : List ℕ) (n : ℕ) (new : Machine) : Type 0 where
+  pub hears : listens old.standing.state ≡ true
+  pub waits : Waits old.held
+  pub no_front : (0 < length old.held) ⊎ Waits piece
+  pub fed : IsFed old piece n new
+
+-- what stands at the front of the piece is judged, as nothing is held: these octets are taken, and what is done is what would be
+-- done if they were held
+pub record PullsFront (old : Machine) (piece : List ℕ) (n : ℕ) (actions : ArrayVec Action) (new : Machine) : Type 0 where
+  pub hears : listens old.standing.state ≡ true
+  pub none_held : old.held ≡ []
+  pub takes : Takes [] piece n
+  pub step : IsJudged (holding old (take n piece)) (Some actions) new
+
+abbrev pub IsPulled : Machine → List ℕ → ℕ → Option (ArrayVec Action) → Machine → Type 0
+IsPulled old piece n None new = PullsNothing old n new ⊎ PullsSome old piece n new
+IsPulled old piece n (Some actions) new = PullsHeld old n actions new ⊎ PullsFront old piece n actions new
+
+-- what a step does, where it does something
+abbrev pub GivesStep : Machine → Option (ArrayVec Action) → Machine → Type 0
+GivesStep old None new = new ≡ old
+GivesStep old (Some actions) new = IsJudged old (Some actions) new
+
+-- what `feed` takes of the piece is taken, and then what is done is what `step` does
+pub record IsFedAndStepped (old : Machine) (piece : List ℕ) (n : ℕ) (found : Option (ArrayVec Action)) (new : Machine) : Type 0 where
+  pub fed : IsFed old piece n (holding old (old.held ++ take n piece))
+  pub step : GivesStep (holding old (old.held ++ take n piece)) found new
+
+-- what can ask for memory where nothing is held: such a message at the front of the piece
+pub record FrontTakesMemory (old : Machine) (piece : List ℕ) : Type 0 where
+  pub none_held : old.held ≡ []
+  pub n : ℕ
+  pub within : n ≤ length piece
+  pub takes : HeldTakesMemory (holding old (take n piece))

@@ -1,0 +1,117 @@
+-- What a session holds, and what each event and each octet does (RFC 4271, sections 4.1 and 8.2.2).
+use Rattle.std.specs.Prelude.{◌≡◌, ◌<◌, ◌⊎◌, ℕ, Bool, true, false, nat_lt, List, [], ◌++◌, length, take, drop, Option, None, Some, option_map, Result, Ok, if◌then◌else◌}
+use Rattle.std.specs.Result.{result_map_both}
+use Rattle.arrayvec.specs.ArrayVec.{ArrayVec}
+use Rattle.bgp_frame.specs.declared.fault.HeadFault.{HeadFault}
+use Rattle.bgp_frame.specs.declared.kind.Kind.TheVariants as kind
+use Rattle.bgp_frame.specs.Frame.{Message, octets_of, wanted, Waits}
+use Rattle.bgp_frame.specs.Head.{head_of}
+use Rattle.bgp_frame.specs.Takes.{Stops, Takes}
+use Rattle.bgp_open.specs.declared.context.Context.{Context}
+use Rattle.bgp_open.specs.Config.{Settings}
+use Rattle.bgp_open.specs.OpenFault.{open_fault}
+use Rattle.bgp_open.specs.Own.{own_of}
+use Rattle.bgp_open.specs.Written as opens
+use Rattle.bgp_update.specs.Verdict.{verdict_of, has_value}
+use Rattle.bgp_machine.specs.declared.action.Action.{Action}
+use Rattle.bgp_machine.specs.declared.event.Event.{Event}
+use Rattle.bgp_machine.specs.declared.state.State.TheVariants as state
+use Rattle.bgp_machine.specs.Standing.{Standing, idle, listens}
+use Rattle.bgp_machine.specs.Table.{Step, happens, hears}
+
+-- what the speaker is set to, where the session stands, and the octets that are held
+pub record Machine : Type 0 where
+  pub settings : Settings
+  pub standing : Standing
+  pub held : List ℕ
+
+abbrev pub fresh : Settings → Machine
+fresh s = record { settings = s; standing = idle; held = [] }
+
+-- the same session, with these octets held
+abbrev pub holding : Machine → List ℕ → Machine
+holding x held = record { settings = x.settings; standing = x.standing; held = held }
+
+-- the whole message of the speaker's own OPEN
+unfoldable pub own_octets : Settings → List ℕ
+own_octets s = octets_of (record { kind = kind.Open; body = opens.canonical (own_of s) })
+
+-- ---- events
+
+-- what is held is kept while the connection stands
+abbrev pub kept : Bool → List ℕ → List ℕ
+kept true held = held
+kept false held = []
+
+abbrev pub after_event : Machine → Event → Machine
+after_event x event = record {
+  settings = x.settings;
+  standing = (happens x.standing event).next;
+  held = kept (listens (happens x.standing event).next.state) x.held;
+}
+
+-- ---- feed
+
+-- an octet is taken after another until a message is whole, or a header has a fault; and none before the connection stands
+abbrev pub CountsFed : Bool → List ℕ → List ℕ → ℕ → Type 0
+CountsFed true held piece n = Takes held piece n × (Waits held → 0 < length piece → 0 < n)
+CountsFed false held piece n = n ≡ 0
+
+abbrev pub IsFed : Machine → List ℕ → ℕ → Machine → Type 0
+IsFed old piece n new = CountsFed (listens old.standing.state) old.held piece n × (new ≡ holding old (old.held ++ take n piece))
+
+-- ---- step
+
+-- the message that octets are, as their header says, or the header's fault
+abbrev pub content : List ℕ → Result Message HeadFault
+content b = result_map_both (λ head. record { kind = head.kind; body = drop 19 b }) (λ fault. fault) (head_of b)
+
+-- octets come to nothing while they are fewer than are wanted
+abbrev pub content_of : List ℕ → Option (Result Message HeadFault)
+content_of b = if nat_lt (length b) (wanted b) then None else Some (content b)
+
+-- what is done on what is held, where it is whole
+abbrev pub judged : Machine → Option Step
+judged x = option_map (hears x.settings x.standing) (content_of x.held)
+
+-- what is held is taken out with that
+abbrev pub after_step : Machine → Step → Machine
+after_step x step = record { settings = x.settings; standing = step.next; held = [] }
+
+abbrev pub after_judged : Machine → Option Step → Machine
+after_judged x None = x
+after_judged x (Some step) = after_step x step
+
+-- what is held is whole: these actions are done, and the session is what they leave
+pub record Does (old : Machine) (actions : List Action) (new : Machine) : Type 0 where
+  pub whole : Stops old.held
+  pub step : Step
+  pub judged_so : judged old ≡ Some step
+  pub does : actions ≡ step.actions
+  pub leaves : new ≡ after_step old step
+
+-- nothing is done where what is held waits for more
+abbrev pub IsJudged : Machine → Option (ArrayVec Action) → Machine → Type 0
+IsJudged old None new = Waits old.held × (new ≡ old)
+IsJudged old (Some actions) new = Does old actions.items new
+
+-- what can ask for memory: an OPEN without fault in OpenSent, or an UPDATE that doesn't end the session in Established
+pub record OpenTakesMemory (x : Standing) (m : Message) : Type 0 where
+  pub in_open_sent : x.state ≡ state.OpenSent
+  pub is_open : m.kind ≡ kind.Open
+  pub no_fault : open_fault m.body ≡ None
+
+pub record UpdateTakesMemory (x : Standing) (m : Message) : Type 0 where
+  pub in_established : x.state ≡ state.Established
+  pub is_update : m.kind ≡ kind.Update
+  pub context : Context
+  pub has_context : x.context ≡ Some context
+  pub no_reset : has_value (verdict_of context m.body) ≡ true
+
+abbrev pub TakesMemory : Standing → Message → Type 0
+TakesMemory x m = OpenTakesMemory x m ⊎ UpdateTakesMemory x m
+
+pub record HeldTakesMemory (old : Machine) : Type 0 where
+  pub message : Message
+  pub is_held : content_of old.held ≡ Some (Ok message)
+  pub takes : TakesMemory old.standing message

@@ -1,0 +1,46 @@
+//! What a session wants done.
+
+use crate::timer::Timer;
+use arrayvec::ArrayVec;
+use bgp_frame::Notification;
+use bgp_update::{PathInfo, Routes, Update};
+
+/// What the one who runs a session has to do.
+#[derive(Debug, Drop, PartialEq)]
+pub enum Action {
+    /// Seek a connection to the peer.
+    Connect,
+    /// Close the connection, or give up the one that is sought.
+    Close,
+    /// Send the session's own OPEN: its octets are `Session::own_frame`.
+    SendOpen,
+    /// Send a KEEPALIVE.
+    SendKeepalive,
+    /// Send this NOTIFICATION.
+    SendNotification(Notification),
+    /// Start the timer, or start it anew, with this many seconds.
+    Arm(Timer, u16),
+    /// Stop the timer.
+    Disarm(Timer),
+    /// The peer announces and withdraws routes, without the attributes that end here; beside them stand the path and the aggregator that
+    /// AS numbers of four octets give.
+    Announce(Update, PathInfo),
+    /// The peer's message is treated as a withdrawal of its routes (RFC 7606, section 2).
+    Withdraw(Routes),
+    /// All routes of the peer are gone with the session.
+    Flush,
+}
+
+/// What is to be done, in order: at most five things.
+pub type Actions = ArrayVec<Action, 5>;
+
+impl Default for Action {
+    ghost use Rattle.std.specs.Prelude.{◌≡◌};
+    ghost use Rattle.bgp_machine.specs.declared.action.Action.TheVariants.{Close};
+
+    ghost is_default = { λ action. action ≡ Close };
+
+    fn default() -> Action {
+        Action::Close
+    }
+}

@@ -1,0 +1,120 @@
+//! The session of one connection.
+
+ghost use Rattle.std.specs.Prelude.{◌≡◌, ◌≤◌, length, option_map};
+ghost use Rattle.bgp_frame.specs.Frame.{Waits};
+ghost use Rattle.bgp_machine.specs.Cutting.{IsAtRest};
+ghost use Rattle.bgp_machine.specs.Standing.{runs};
+ghost use Rattle.bgp_machine.specs.Table.{happens};
+ghost use Rattle.bgp_machine.specs.Session.{fresh, own_octets, after_event, IsFed};
+
+use crate::action::Actions;
+use crate::event::Event;
+use crate::standing::Standing;
+use crate::state::State;
+use crate::timer::Timer;
+use arrayvec::ArrayVec;
+use bgp_frame::Framer;
+use bgp_open::{Config, Context, own_frame};
+use std::marker::Model;
+
+/// One speaker's end of one connection (RFC 4271, section 8). It does no IO and knows no time: its owner tells it what happens and feeds it
+/// the octets that come, and does what it answers. It holds at most one message, of at most 4096 octets.
+#[derive(Debug, Drop)]
+pub struct Session {
+    pub(crate) config: Config,
+    pub(crate) standing: Standing,
+    pub(crate) framer: Framer,
+    own: ArrayVec<u8, 49>,
+}
+
+impl Model for Session {
+    ghost use Rattle.std.specs.Prelude.{◌≡◌, false, []};
+    ghost use Rattle.bgp_machine.specs.Standing.{listens};
+    ghost use Rattle.bgp_machine.specs.Session.{Machine, own_octets};
+
+    ghost Value = { Machine };
+
+    ghost view = { λ s. record { settings = s.config; standing = s.standing; held = s.framer } };
+
+    ghost invariant = { λ s. (listens s.standing.state ≡ false → s.framer ≡ []) × (s.own.items ≡ own_octets s.config) };
+}
+
+impl Session {
+    /// A session in Idle, of a speaker with these settings.
+    #[tactic(auto, unfolding(crate::specs::Session::own_octets))]
+    pub fn new(config: Config) -> Session
+        ensures { result ≡ fresh config }
+    {
+        Session {
+            config,
+            standing: Standing::new(),
+            framer: Framer::new(),
+            own: own_frame(&config),
+        }
+    }
+
+    /// Where the session stands.
+    pub fn state(&self) -> State
+        ensures { result ≡ self.now.standing.state }
+    {
+        self.standing.phase.state()
+    }
+
+    /// What both agreed on: in OpenConfirm and in Established alone.
+    pub fn context(&self) -> Option<&Context>
+        ensures { option_map (λ ctx. ctx.now) result ≡ self.now.standing.context }
+    {
+        self.standing.phase.context()
+    }
+
+    /// Whether the timer runs.
+    pub fn running(&self, timer: Timer) -> bool
+        ensures { result ≡ runs self.now.standing.running timer }
+    {
+        self.standing.timers.runs(timer)
+    }
+
+    /// The octets of the speaker's own OPEN, header and body: what `Action::SendOpen` is to send.
+    pub fn own_frame(&self) -> &[u8]
+        ensures { result.now ≡ own_octets self.now.settings }
+    {
+        &self.own
+    }
+
+    /// How many octets are held.
+    pub fn held(&self) -> usize
+        ensures value { result ≡ length self.now.held }
+        ensures bound { result ≤ 4096 }
+        // Where what is held waits for more, nothing is left to do.
+        ensures rests { Waits self.now.held → IsAtRest self.now }
+    {
+        self.framer.held()
+    }
+
+    /// What is to be done on an event. What doesn't belong in the state does nothing, nor does a timer that doesn't run.
+    pub fn event(&mut self, event: Event) -> Actions
+        ensures actions { result.items ≡ (happens self.old.standing event).actions }
+        ensures after { self.new ≡ after_event self.old event }
+    {
+        let mut actions = ArrayVec::new();
+        self.standing.happens(event, &mut actions);
+        if !self.standing.listens() {
+            self.framer.clear();
+        }
+        actions
+    }
+
+    /// Takes octets from the front of the piece until the piece ends, or a whole message or a header with a fault is held. Answers how
+    /// many it took: none before the connection stands.
+    pub fn feed(&mut self, piece: &[u8]) -> usize
+        ensures fed { IsFed self.old piece.now result self.new }
+        // Where what is held waits for more, nothing is left to do.
+        ensures rests { Waits self.new.held → IsAtRest self.new }
+    {
+        if self.standing.listens() {
+            self.framer.feed(piece)
+        } else {
+            0
+        }
+    }
+}

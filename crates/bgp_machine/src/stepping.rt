@@ -1,0 +1,111 @@
+//! What a session does with the octets that it is fed.
+
+ghost use Rattle.std.specs.Prelude.{◌≡◌, ◌⊎◌, [], false, true, IfOk, OnOk, OnErr};
+ghost use Rattle.bgp_machine.specs.Standing.{listens};
+ghost use Rattle.bgp_machine.specs.Cutting.{RestsUnless, RestsBehind};
+ghost use Rattle.bgp_machine.specs.Session.{IsJudged, HeldTakesMemory};
+ghost use Rattle.bgp_machine.specs.Pulling.{IsPulled, IsFedAndStepped, FrontTakesMemory};
+
+use crate::action::Actions;
+use crate::session::Session;
+use arrayvec::ArrayVec;
+use bgp_frame::{Step, front};
+use std::alloc::{AllocError, Global};
+
+impl Session {
+    /// What is to be done on the message, or the header with a fault, that is held: it is let go with that. None where neither is held.
+    ///
+    /// # Errors
+    /// `AllocError` where a growth was refused: only for an OPEN without fault in OpenSent, and for an UPDATE that doesn't end the session in
+    /// Established. Nothing is changed then, and the call can be made again.
+    pub fn step(&mut self, alloc: Global) -> Result<Option<Actions>, AllocError>
+        ensures ok { IfOk result (λ found. IsJudged self.old found self.new) }
+        // Where it gives None, the session is at rest: the laws on cutting begin there.
+        ensures rests { IfOk result (λ found. RestsUnless found self.new) }
+        ensures err { OnErr result (self.new ≡ self.old) }
+        ensures memory { OnErr result (HeldTakesMemory self.old) }
+    {
+        match self.framer.step() {
+            Step::More => {
+                let _waiting = self.held();
+                Ok(None)
+            }
+            Step::Frame(frame) => {
+                let mut actions = ArrayVec::new();
+                self.standing
+                    .hear(alloc, &self.config, frame, &mut actions)?;
+                self.framer.clear();
+                Ok(Some(actions))
+            }
+            Step::Fault(fault) => {
+                let mut actions = ArrayVec::new();
+                self.standing.hear_fault(fault, &mut actions);
+                self.framer.clear();
+                Ok(Some(actions))
+            }
+        }
+    }
+
+    /// What is to be done on what is held, or on the message or the faulty header at the front of the piece: it is judged where it stands, and
+    /// not copied. Answers first how many octets of the piece were taken, and None where more octets are needed, and before the connection
+    /// stands.
+    ///
+    /// What is held comes first, and then nothing is taken. Where octets are held that wait for more, or the piece waits for more, the piece
+    /// is fed. Else the front of the piece is taken: as many octets as its Length says, or the 19 of a header with a fault.
+    ///
+    /// # Errors
+    /// As `step`. Nothing is taken then, and the call can be made again.
+    #[tactic(auto, using(crate::proofs::Pulls::pulls_as_fed))]
+    pub fn pull(
+        &mut self,
+        alloc: Global,
+        piece: &[u8],
+    ) -> Result<(usize, Option<Actions>), AllocError>
+        ensures ok { IfOk result (λ r. IsPulled self.old piece.now r.0 r.1 self.new) }
+        ensures as_fed { IfOk result (λ r. IsFedAndStepped self.old piece.now r.0 r.1 self.new) }
+        // So it is where a pull takes nothing and gives None, and where one gives None and what is held waits.
+        ensures rests { IfOk result (λ r. RestsBehind r.0 r.1 self.new) }
+        ensures err { OnErr result (self.new ≡ self.old) }
+        ensures memory { OnErr result (HeldTakesMemory self.old ⊎ FrontTakesMemory self.old piece.now) }
+    {
+        if !self.standing.listens() {
+            return Ok((0, None));
+        }
+        if self.framer.held() == 0 {
+            return self.pull_front(alloc, piece);
+        }
+        if let Some(actions) = self.step(alloc)? {
+            return Ok((0, Some(actions)));
+        }
+        Ok((self.feed(piece), None))
+    }
+
+    /// Pulls from a piece where nothing is held.
+    fn pull_front(
+        &mut self,
+        alloc: Global,
+        piece: &[u8],
+    ) -> Result<(usize, Option<Actions>), AllocError>
+        requires hears { listens self.old.standing.state ≡ true }
+        requires none_held { self.old.held ≡ [] }
+        ensures ok { IfOk result (λ r. IsPulled self.old piece.now r.0 r.1 self.new) }
+        ensures rests { IfOk result (λ r. RestsBehind r.0 r.1 self.new) }
+        ensures err { OnErr result (self.new ≡ self.old) }
+        ensures memory { OnErr result (FrontTakesMemory self.old piece.now) }
+    {
+        match front(piece) {
+            Step::More => Ok((self.feed(piece), None)),
+            Step::Frame(message) => {
+                let mut actions = ArrayVec::new();
+                self.standing
+                    .hear(alloc, &self.config, message, &mut actions)?;
+                Ok((message.len as usize, Some(actions)))
+            }
+            Step::Fault(fault) => {
+                let mut actions = ArrayVec::new();
+                self.standing.hear_fault(fault, &mut actions);
+                Ok((19, Some(actions)))
+            }
+        }
+    }
+}

@@ -1,5 +1,0 @@
-use Rattle.bgp_pair.proofs.Outcomes.{all_heard}
-use Rattle.bgp_pair.proofs.laws.all_is_heard.Goals as goal
-
-pub returns : goal.returns
-returns c = λ a b moves answers side can_a can_b ranges. all_heard a b moves answers can_a can_b ranges side

@@ -1,8 +1,0 @@
--- Two sessions that are joined by two pipes: what each move does, and what comes of a schedule.
-pub mod Pair
-pub mod World
-pub mod Wire
-pub mod Report
-pub mod Feeding
-pub mod Playing
-pub mod Laws

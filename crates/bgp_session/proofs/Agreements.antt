@@ -1,0 +1,91 @@
+-- What both sides agree on, and why one refuses the other.
+use Rattle.std.proofs.Common.{◌≡◌, ◌≢◌, ◌⊎◌, ℕ, Bool, true, false, not, ◌&&◌, cond, eqb, List, [], ◌∷◌, ◌++◌, Ok, Err, refl, sym, ap, ◌∙◌, inl, inr}
+use Rattle.std.specs.Prelude.{is_some}
+use Rattle.std.proofs.lemmas.Bool.{eqb-true, eq-eqb, true≢false, false≢true}
+use Rattle.std.proofs.Math.Bool.{and_comm}
+use Rattle.bgp_numbers.specs.declared.afi.TheConstants.{IPV4, IPV6}
+use Rattle.bgp_numbers.specs.declared.safi.TheConstants.{UNICAST}
+use Rattle.bgp_open.specs.declared.agreement.PeerFault.{PeerFault}
+use Rattle.bgp_open.specs.declared.agreement.PeerFault.TheVariants as peer
+use Rattle.bgp_open.specs.declared.capability.Capability.TheVariants.{Multi, As4}
+use Rattle.bgp_open.specs.declared.context.Context.{Context}
+use Rattle.bgp_open.specs.Config.{Settings}
+use Rattle.bgp_open.specs.Own.{offered, own_of}
+use Rattle.bgp_open.specs.Agreement.{first_as4, peer_as_of, same_id, context_of, agreement, peer_notification}
+use Rattle.bgp_open.proofs.Agreements.{peer_as-own}
+use Rattle.bgp_session.specs.declared.moves.Move.{Move}
+use Rattle.bgp_session.specs.declared.side.Side.{Side}
+use Rattle.bgp_session.specs.Laws.{CanBeSet, HasReason, both_wide}
+
+-- ---- both offer AS numbers of four octets
+
+finds_as4 : (p q r : Bool) (n : ℕ) → is_some (first_as4 (offered p (Multi IPV4 UNICAST) ++ (offered q (Multi IPV6 UNICAST) ++ offered r (As4 n)))) ≡ r
+finds_as4 false false false n = refl
+finds_as4 false false true n = refl
+finds_as4 false true false n = refl
+finds_as4 false true true n = refl
+finds_as4 true false false n = refl
+finds_as4 true false true n = refl
+finds_as4 true true false n = refl
+finds_as4 true true true n = refl
+
+accepted : (other same : Bool) (x y : Context) → cond (not other) (Err peer.PeerAs) (cond same (Err peer.Identifier) (Ok x)) ≡ Ok y → x ≡ y
+accepted false same x y e = absurd (let no : Err peer.PeerAs ≡ Ok y = e in cc)
+accepted true true x y e = absurd (let no : Err peer.Identifier ≡ Ok y = e in cc)
+accepted true false x y e = let is : Ok x ≡ Ok y = e in cc
+
+-- the test of a peer's AS number, and that of its identifier
+abbrev is_peer : Settings → Settings → Bool
+is_peer s t = eqb (peer_as_of (own_of t)) s.peer_as
+
+abbrev has_own_id : Settings → Settings → Bool
+has_own_id s t = eqb s.local_as s.peer_as && same_id t.id s.id
+
+pub agreed_width : (s t : Settings) (c : Context) → agreement s (own_of t) ≡ Ok c → c.as4 ≡ both_wide s t
+agreed_width s t c is =
+    let same = accepted (is_peer s t) (has_own_id s t) (context_of s (own_of t)) c is in
+    ap (λ (x : Context). x.as4) (sym same) ∙ ap (λ (b : Bool). s.as4 && b) (finds_as4 t.ip4 t.ip6 t.as4 t.local_as)
+
+pub wide_swaps : (s t : Settings) → both_wide s t ≡ both_wide t s
+wide_swaps s t = and_comm s.as4 t.as4
+
+-- ---- why a peer is refused
+
+abbrev IsRefusal : Bool → Bool → PeerFault → Type 0
+IsRefusal other same fault = ((fault ≡ peer.PeerAs) × (other ≡ false)) ⊎ ((fault ≡ peer.Identifier) × (same ≡ true))
+
+refused : (other same : Bool) (x : Context) (fault : PeerFault) → cond (not other) (Err peer.PeerAs) (cond same (Err peer.Identifier) (Ok x)) ≡ Err fault → IsRefusal other same fault
+refused false same x fault e = inl (let is : Err peer.PeerAs ≡ Err fault = e in cc, refl)
+refused true true x fault e = inr (let is : Err peer.Identifier ≡ Err fault = e in cc, refl)
+refused true false x fault e = absurd (let no : Ok x ≡ Err fault = e in cc)
+
+both_true : (p q : Bool) → (p && q) ≡ true → (p ≡ true) × (q ≡ true)
+both_true true q e = (refl, e)
+both_true false q e = absurd (false≢true e)
+
+same_id_is : (x y : List ℕ) → same_id x y ≡ true → x ≡ y
+same_id_is (a ∷ b ∷ c ∷ d ∷ []) (e ∷ f ∷ g ∷ h ∷ []) is =
+    let one = both_true (eqb a e) (eqb b f && (eqb c g && eqb d h)) is in
+    let two = both_true (eqb b f) (eqb c g && eqb d h) one.1 in
+    let three = both_true (eqb c g) (eqb d h) two.1 in
+    let p : a ≡ e = eqb-true a e one.0 in
+    let q : b ≡ f = eqb-true b f two.0 in
+    let r : c ≡ g = eqb-true c g three.0 in
+    let s : d ≡ h = eqb-true d h three.1 in
+    cc
+same_id_is _ _ is = absurd (false≢true is)
+
+module _ (side : Side) (moves : List Move) (s t : Settings) (can : CanBeSet t) where
+  wrong_as : is_peer s t ≡ false → t.local_as ≢ s.peer_as
+  wrong_as other is = true≢false (sym (eq-eqb (peer_as_of (own_of t)) s.peer_as (peer_as-own t can.allowed ∙ is)) ∙ other)
+
+  reason_by : (fault : PeerFault) → IsRefusal (is_peer s t) (has_own_id s t) fault → HasReason s t side moves (peer_notification fault).code (peer_notification fault).subcode
+  reason_by peer.PeerAs (inl r) = inl (record { code_is = refl; subcode_is = refl; other_as = wrong_as r.1 })
+  reason_by peer.PeerAs (inr r) = absurd (let no : peer.PeerAs ≡ peer.Identifier = r.0 in cc)
+  reason_by peer.Identifier (inl r) = absurd (let no : peer.Identifier ≡ peer.PeerAs = r.0 in cc)
+  reason_by peer.Identifier (inr r) =
+      let both = both_true (eqb s.local_as s.peer_as) (same_id t.id s.id) r.1 in
+      inr (inl (record { code_is = refl; subcode_is = refl; one_as = eqb-true s.local_as s.peer_as both.0; same_id = same_id_is t.id s.id both.1 }))
+
+  pub refused_for : (fault : PeerFault) → agreement s (own_of t) ≡ Err fault → HasReason s t side moves (peer_notification fault).code (peer_notification fault).subcode
+  refused_for fault is = reason_by fault (refused (is_peer s t) (has_own_id s t) (context_of s (own_of t)) fault is)

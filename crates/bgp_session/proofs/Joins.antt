@@ -1,0 +1,108 @@
+-- A connection that is made: both ends are told, and each has an OPEN in flight towards it.
+use Rattle.std.proofs.Common.{◌≡◌, ℕ, Bool, true, false, List, [], ◌∷◌, ◌++◌, refl, sym, ap, subst, ◌∙◌}
+use Rattle.std.proofs.lemmas.List.{append-nil}
+use Rattle.bgp_frame.specs.Frame.{Waits}
+use Rattle.bgp_msg.proofs.Decodings.{nothing_waits}
+use Rattle.bgp_open.specs.Config.{Settings}
+use Rattle.bgp_machine.specs.declared.action.Action.TheVariants as action
+use Rattle.bgp_machine.specs.declared.event.Event.TheVariants as event
+use Rattle.bgp_machine.specs.declared.state.State.{State}
+use Rattle.bgp_machine.specs.declared.state.State.TheVariants as state
+use Rattle.bgp_machine.specs.declared.timer.Timer.TheVariants as timer
+use Rattle.bgp_machine.specs.declared.timer.TheConstants.{OPEN_HOLD_SECONDS}
+use Rattle.bgp_machine.specs.declared.timer.Timers.{Timers}
+use Rattle.bgp_machine.specs.Session.{Machine, own_octets}
+use Rattle.bgp_machine.specs.Table.{timers_behind}
+use Rattle.bgp_session.specs.declared.side.Side.{Side}
+use Rattle.bgp_session.specs.Pair.{End, with_session, towards, Note, Pair, pair, told}
+use Rattle.bgp_session.specs.World.{seeks, joined_end}
+use Rattle.bgp_session.proofs.Facts.{open_spelled}
+use Rattle.bgp_session.proofs.Sayings.{SaidOpen, spelling, WantsOpen, WantsKeepalive}
+use Rattle.bgp_session.proofs.Ways.{IsHearing}
+use Rattle.bgp_session.proofs.Ends.{IsEnd, IsSound, IsOut, connect_out, active_out, in_state}
+
+-- ---- what each end does
+
+abbrev opening_timers : Timers → Timers
+opening_timers t = timers_behind (action.Disarm timer.Retry ∷ action.SendOpen ∷ action.Arm timer.Hold OPEN_HOLD_SECONDS ∷ []) t
+
+abbrev opened_session : Machine → Machine
+opened_session x = record {
+  settings = x.settings;
+  standing = record { state = state.OpenSent; context = x.standing.context; running = opening_timers x.standing.running };
+  held = x.held;
+}
+
+-- it is in OpenSent
+abbrev pub opened : End → End
+opened e = with_session e (opened_session e.session)
+
+seeker : (st : State) → seeks st ≡ true → (P : State → Type 0) → P state.Connect → P state.Active → P st
+seeker state.Connect is P c a = c
+seeker state.Active is P c a = a
+seeker state.Idle is P c a = absurd (let not : false ≡ true = is in cc)
+seeker state.OpenSent is P c a = absurd (let not : false ≡ true = is in cc)
+seeker state.OpenConfirm is P c a = absurd (let not : false ≡ true = is in cc)
+seeker state.Established is P c a = absurd (let not : false ≡ true = is in cc)
+
+pub seeker_out : (st : State) → seeks st ≡ true → IsOut st
+seeker_out st is = seeker st is (λ (x : State). IsOut x) connect_out active_out
+
+pub connected : (side : Side) (p : Pair) → seeks p.this.session.standing.state ≡ true
+    → told side p event.Connected ≡ pair (opened p.this) (towards p.other (own_octets p.this.session.settings)) p.notes
+connected side p is =
+    seeker p.this.session.standing.state is
+    (λ (st : State). told side (pair (in_state p.this st p.this.session.standing.running) p.other p.notes) event.Connected
+    ≡ pair (opened (in_state p.this st p.this.session.standing.running)) (towards p.other (own_octets p.this.session.settings)) p.notes)
+    refl refl
+
+-- ---- both ends in a new round
+
+-- it is in OpenSent, and the other's OPEN is in flight towards it
+abbrev pub begun_end : End → Settings → End
+begun_end e other = towards (opened (joined_end e)) (own_octets other)
+
+-- what is needed of an end that is joined
+pub record CanJoin (mine theirs : Settings) (e : End) : Type 0 where
+  pub end : IsEnd mine theirs e
+  pub out : IsOut e.session.standing.state
+  pub holds_none : e.session.held ≡ []
+
+module _ (wide : Bool) where
+  begun_is : (mine theirs : Settings) (e : End) (other : Settings) → CanJoin mine theirs e → IsEnd mine theirs (begun_end e other)
+  begun_is mine theirs e other c = record {
+    settings = c.end.settings;
+    context = c.out.none mine theirs e.session.standing.context c.end.context;
+    left = refl;
+    none_gone = refl;
+  }
+
+  begun_hears : (mine theirs : Settings) (e : End) (other : Settings) → other ≡ theirs → CanJoin mine theirs e → IsHearing wide theirs mine WantsOpen e.session.held (own_octets other) state.OpenSent [] []
+  begun_hears mine theirs e other is c = record {
+    waits = subst Waits (sym c.holds_none) nothing_waits;
+    coming = record {
+      pending = SaidOpen ∷ [];
+      last = WantsKeepalive;
+      spelled =
+          ap (λ (h : List ℕ). h ++ own_octets other) c.holds_none
+          ∙ ap own_octets is
+          ∙ open_spelled theirs
+          ∙ sym (append-nil (spelling theirs SaidOpen));
+      follows = refl;
+      ends = refl;
+      fit = (tt, tt);
+      front = [];
+      got_so = refl;
+      sent_so = refl;
+    };
+  }
+
+  pub begun_sound : (mine theirs : Settings) (allowed : Note → Type 0) (this other : End) → CanJoin mine theirs this → CanJoin theirs mine other
+      → IsSound wide mine theirs allowed [] (pair (begun_end this other.session.settings) (begun_end other this.session.settings) [])
+  begun_sound mine theirs allowed this other t o = record {
+    this = begun_is mine theirs this other.session.settings t;
+    other = begun_is theirs mine other this.session.settings o;
+    to_this = begun_hears mine theirs this other.session.settings o.end.settings t;
+    to_other = begun_hears theirs mine other this.session.settings t.end.settings o;
+    notes = tt;
+  }

@@ -1,0 +1,136 @@
+-- Both sessions have nothing left to do behind each move.
+use Rattle.std.proofs.Common.{◌≡◌, ℕ, List, [], ◌∷◌, Option, None, Some, Result, Ok, Err, refl, sym, ap, ap₂, subst, ◌∙◌}
+use Rattle.std.specs.Result.{IfOk, OnOk}
+use Rattle.bgp_machine.specs.declared.action.Action.{Action}
+use Rattle.bgp_machine.specs.declared.action.Action.TheVariants as action
+use Rattle.bgp_machine.specs.declared.event.Event.{Event}
+use Rattle.bgp_machine.specs.declared.event.Event.TheVariants as event
+use Rattle.bgp_machine.specs.declared.send_fault.SendFault.{SendFault}
+use Rattle.bgp_machine.specs.Cutting.{IsAtRest, by_octets}
+use Rattle.bgp_machine.specs.Session.{after_event}
+use Rattle.bgp_machine.specs.Table.{happens}
+use Rattle.bgp_machine.proofs.Feedings.{event_rests}
+use Rattle.bgp_update.specs.declared.update.Update.{Update}
+use Rattle.bgp_session.specs.declared.side.Side.{Side}
+use Rattle.bgp_session.specs.declared.side.Side.TheVariants.{A, B}
+use Rattle.bgp_session.specs.Pair.{End, with_session, before_event, Pair, pair, acted, all_acted, told, fed}
+use Rattle.bgp_session.specs.Playing.{Rests, Sends, IsTried}
+use Rattle.bgp_session.specs.World.{World, seen_by, with_pair, tells, new_round}
+use Rattle.bgp_session.proofs.Acts.{all_keeps}
+
+module _ (side : Side) where
+  -- the other session stays as it is
+  acted_spares : (p : Pair) (a : Action) → (acted side p a).other.session ≡ p.other.session
+  acted_spares p action.Connect = refl
+  acted_spares p action.Close = refl
+  acted_spares p action.SendOpen = refl
+  acted_spares p action.SendKeepalive = refl
+  acted_spares p (action.SendNotification why) = refl
+  acted_spares p (action.Arm timer seconds) = refl
+  acted_spares p (action.Disarm timer) = refl
+  acted_spares p (action.Announce u info) = refl
+  acted_spares p (action.Withdraw routes) = refl
+  acted_spares p action.Flush = refl
+
+  pub all_spare : (p : Pair) (actions : List Action) → (all_acted side p actions).other.session ≡ p.other.session
+  all_spare p [] = refl
+  all_spare p (a ∷ later) = all_spare (acted side p a) later ∙ acted_spares p a
+
+  before_keeps : (e : End) (event : Event) → (before_event e event).session ≡ e.session
+  before_keeps e event.Start = refl
+  before_keeps e event.Stop = refl
+  before_keeps e event.Connected = refl
+  before_keeps e event.Failed = refl
+  before_keeps e (event.Expired timer) = refl
+
+  told_rests : (p : Pair) (event : Event) → IsAtRest p.this.session → IsAtRest (told side p event).this.session
+  told_rests p event rest =
+      subst IsAtRest
+      (sym (all_keeps side (pair (with_session (before_event p.this event) (after_event p.this.session event)) p.other p.notes) (happens p.this.session.standing event).actions))
+      (event_rests p.this.session event rest)
+
+  told_spares : (p : Pair) (event : Event) → (told side p event).other.session ≡ p.other.session
+  told_spares p event = all_spare (pair (with_session (before_event p.this event) (after_event p.this.session event)) p.other p.notes) (happens p.this.session.standing event).actions
+
+  pub fed_spares : (p : Pair) (octets : List ℕ) → (fed side p octets).other.session ≡ p.other.session
+  fed_spares p octets = all_spare (pair (with_session p.this (by_octets p.this.session octets).session) p.other p.notes) (by_octets p.this.session octets).actions
+
+pub tells_rests : (side : Side) (event : Event) (w : World) → Rests w → Rests (tells side event w)
+tells_rests A event w rests =
+    (told_rests A (seen_by A w) event rests.0, subst IsAtRest (sym (told_spares A (seen_by A w) event)) rests.1)
+tells_rests B event w rests =
+    (subst IsAtRest (sym (told_spares B (seen_by B w) event)) rests.0, told_rests B (seen_by B w) event rests.1)
+
+-- a round that begins leaves the sessions as they are
+pub round_rests : (w : World) → Rests w → Rests (new_round w)
+round_rests w rests = rests
+
+-- ---- what the code has of it
+
+pub on_ok : {T E P Q : Type 0} → (P → Q) → (r : Result T E) → OnOk r P → OnOk r Q
+on_ok f (Ok v) p = f p
+on_ok f (Err e) p = p
+
+-- a world was made of this one: where the call succeeded
+pub rests_then : {T E : Type 0} (made : World → World) → ((w : World) → Rests w → Rests (made w)) → (r : Result T E) (w v : World) → OnOk r (v ≡ made w) → Rests w → OnOk r (Rests v)
+rests_then made keeps r w v is rests = on_ok (λ same. subst Rests (sym same) (keeps w rests)) r is
+
+module _ (side : Side) (p q : Pair) where
+  abbrev BothRest : Pair → Type 0
+  BothRest r = IsAtRest r.this.session × IsAtRest r.other.session
+
+  pub told_both : (event : Event) → told side p event ≡ q → BothRest p → BothRest q
+  told_both event is rests = subst BothRest is (told_rests side p event rests.0, subst IsAtRest (sym (told_spares side p event)) rests.1)
+
+  pub fed_both : (octets : List ℕ) → fed side p octets ≡ q → IsAtRest q.this.session → IsAtRest p.other.session → IsAtRest q.other.session
+  fed_both octets is this other = subst IsAtRest (sym (fed_spares side p octets) ∙ ap (λ (r : Pair). r.other.session) is) other
+
+pub on_ok_both : {T E P Q R : Type 0} → (P → Q → R) → (r : Result T E) → OnOk r P → OnOk r Q → OnOk r R
+on_ok_both f (Ok v) p q = f p q
+on_ok_both f (Err e) p q = p
+
+if_ok : {T E : Type 0} {P Q : T → Type 0} → ((v : T) → P v → Q v) → (r : Result T E) → IfOk r P → IfOk r Q
+if_ok f (Ok v) p = f v p
+if_ok f (Err e) p = p
+
+if_on : {T E : Type 0} {P : T → Type 0} {Q : Type 0} → ((v : T) → P v → Q) → (r : Result T E) → IfOk r P → OnOk r Q
+if_on f (Ok v) p = f v p
+if_on f (Err e) p = p
+
+-- ---- what was tried to be sent
+
+module _ (this other x y : End) (u : Update) where
+  sends_rest : (found : Option SendFault) → Sends this other u x y found → IsAtRest this.session → IsAtRest other.session → IsAtRest x.session × IsAtRest y.session
+  sends_rest None s a b = (
+    subst IsAtRest (ap (λ (p : Pair). p.this.session) (s.1 [])) a,
+    subst IsAtRest (ap (λ (p : Pair). p.other.session) (s.1 [])) b,
+  )
+  sends_rest (Some fault) s a b = (subst (λ (e : End). IsAtRest e.session) (sym s.1) a, subst (λ (e : End). IsAtRest e.session) (sym s.2) b)
+
+module _ (w : World) (u : Update) (x y : End) where
+  abbrev pub made_a : World
+  made_a = record { a = x; b = y; notes = w.notes; over = w.over; begun = w.begun; refused = w.refused }
+
+  abbrev pub made_b : World
+  made_b = record { a = y; b = x; notes = w.notes; over = w.over; begun = w.begun; refused = w.refused }
+
+  tried_a : (found : Option SendFault) → Sends w.a w.b u x y found → IsTried A u w found made_a
+  tried_a None s = (s.0, ap (with_pair A w) (sym (s.1 w.notes)))
+  tried_a (Some fault) s = (s.0, ap₂ (λ (a b : End). record { a = a; b = b; notes = w.notes; over = w.over; begun = w.begun; refused = w.refused }) s.1 s.2)
+
+  tried_b : (found : Option SendFault) → Sends w.b w.a u x y found → IsTried B u w found made_b
+  tried_b None s = (s.0, ap (with_pair B w) (sym (s.1 w.notes)))
+  tried_b (Some fault) s = (s.0, ap₂ (λ (a b : End). record { a = b; b = a; notes = w.notes; over = w.over; begun = w.begun; refused = w.refused }) s.1 s.2)
+
+  module _ {E : Type 0} (side : Side) (r : Result (Option SendFault) E) where
+    pub tries_a : side ≡ A → IfOk r (Sends w.a w.b u x y) → IfOk r (λ found. IsTried side u w found made_a)
+    tries_a is s = subst (λ (z : Side). IfOk r (λ found. IsTried z u w found made_a)) (sym is) (if_ok tried_a r s)
+
+    pub tries_b : side ≡ B → IfOk r (Sends w.b w.a u x y) → IfOk r (λ found. IsTried side u w found made_b)
+    tries_b is s = subst (λ (z : Side). IfOk r (λ found. IsTried z u w found made_b)) (sym is) (if_ok tried_b r s)
+
+    pub tries_rest_a : Rests w → IfOk r (Sends w.a w.b u x y) → OnOk r (Rests made_a)
+    tries_rest_a rests s = if_on (λ found f. sends_rest w.a w.b x y u found f rests.0 rests.1) r s
+
+    pub tries_rest_b : Rests w → IfOk r (Sends w.b w.a u x y) → OnOk r (Rests made_b)
+    tries_rest_b rests s = if_on (λ found f. let both = sends_rest w.b w.a x y u found f rests.1 rests.0 in (both.1, both.0)) r s

@@ -1,0 +1,178 @@
+-- One way of a connection: what was said on it, what is in flight, and what was heard.
+use Rattle.std.proofs.Common.{◌≡◌, ℕ, Bool, true, false, not, List, [], ◌∷◌, ◌++◌, map, Option, None, Some, refl, sym, ap, subst, ◌∙◌, append_assoc}
+use Rattle.std.specs.List.{AllByRecursion}
+use Rattle.std.proofs.lemmas.List.{append-nil}
+use Rattle.bgp_frame.specs.Frame.{Waits}
+use Rattle.bgp_open.specs.Config.{Settings}
+use Rattle.bgp_machine.specs.declared.state.State.{State}
+use Rattle.bgp_machine.specs.declared.state.State.TheVariants as state
+use Rattle.bgp_machine.specs.Standing.{listens}
+use Rattle.bgp_update.specs.declared.path_info.PathInfo.{PathInfo}
+use Rattle.bgp_update.specs.declared.update.Update.{Update}
+use Rattle.bgp_session.specs.Laws.{heard, IsFrontHeard}
+use Rattle.bgp_session.specs.Pair.{flying}
+use Rattle.bgp_session.proofs.Sayings.{Said, spelling, spellings, updates_of, updates_in, Fits, Stage, WantsOpen, WantsKeepalive, Runs, next, Follows, EndsAt}
+
+-- ---- what is kept
+
+-- messages of a speaker of the settings s come to one of the settings t, which wants them from this stage on
+pub record Coming (wide : Bool) (s t : Settings) (from : Stage) (sender : State) (octets : List ℕ) (sent : List Update) (got : List (Update × PathInfo)) : Type 0 where
+  pub pending : List Said
+  pub last : Stage
+  pub spelled : octets ≡ spellings s pending
+  pub follows : Follows (Some from) pending last
+  pub ends : EndsAt sender last
+  pub fit : AllByRecursion (Fits wide s t) pending
+  pub front : List Update
+  pub got_so : got ≡ map (heard wide) front
+  pub sent_so : sent ≡ front ++ updates_in pending
+
+-- the hearer takes octets: what it holds waits
+pub record IsHearing (wide : Bool) (s t : Settings) (from : Stage) (held rest : List ℕ) (sender : State) (sent : List Update) (got : List (Update × PathInfo)) : Type 0 where
+  pub waits : Waits held
+  pub coming : Coming wide s t from sender (held ++ rest) sent got
+
+-- it has left: nothing is held or in flight
+pub record IsDeaf (wide : Bool) (held flight : List ℕ) (sent : List Update) (got : List (Update × PathInfo)) : Type 0 where
+  pub holds_none : held ≡ []
+  pub none_flies : flight ≡ []
+  pub hears : IsFrontHeard wide sent got
+
+-- by the hearer's state. Octets can be in hand that were drawn from the flight and not yet fed
+abbrev pub Goes : Bool → Settings → Settings → State → List ℕ → List ℕ → List ℕ → State → List Update → List (Update × PathInfo) → Type 0
+Goes wide s t state.OpenSent held hand flight sender sent got = IsHearing wide s t WantsOpen held (hand ++ flight) sender sent got
+Goes wide s t state.OpenConfirm held hand flight sender sent got = IsHearing wide s t WantsKeepalive held (hand ++ flight) sender sent got
+Goes wide s t state.Established held hand flight sender sent got = IsHearing wide s t Runs held (hand ++ flight) sender sent got
+Goes wide s t _ held hand flight sender sent got = IsDeaf wide held flight sent got
+
+-- a message may be said behind what was said in the old state, and then all is said of the new one
+pub record MaySay (old new : State) (m : Said) (last : Stage) : Type 0 where
+  pub behind : Stage
+  pub is_next : next last m ≡ Some behind
+  pub ends : EndsAt new behind
+
+-- ---- messages in a row
+
+follows_more : (o : Option Stage) (ms : List Said) (m : Said) (last behind : Stage) → Follows o ms last → next last m ≡ Some behind → Follows o (ms ++ m ∷ []) behind
+follows_more None ms m last behind f is = f
+follows_more (Some from) [] m last behind f is = subst (λ (o : Option Stage). Follows o [] behind) (sym is ∙ ap (λ (st : Stage). next st m) f) refl
+follows_more (Some from) (x ∷ ms) m last behind f is = follows_more (next from x) ms m last behind f is
+
+spellings_more : (s : Settings) (ms : List Said) (m : Said) → spellings s (ms ++ m ∷ []) ≡ spellings s ms ++ spelling s m
+spellings_more s [] m = append-nil (spelling s m)
+spellings_more s (x ∷ ms) m =
+    ap (λ (l : List ℕ). spelling s x ++ l) (spellings_more s ms m) ∙ sym (append_assoc (spelling s x) (spellings s ms) (spelling s m))
+
+updates_more : (ms : List Said) (m : Said) → updates_in (ms ++ m ∷ []) ≡ updates_in ms ++ updates_of m
+updates_more [] m = append-nil (updates_of m)
+updates_more (x ∷ ms) m =
+    ap (λ (l : List Update). updates_of x ++ l) (updates_more ms m) ∙ sym (append_assoc (updates_of x) (updates_in ms) (updates_of m))
+
+fit_more : (P : Said → Type 0) (ms : List Said) (m : Said) → AllByRecursion P ms → P m → AllByRecursion P (ms ++ m ∷ [])
+fit_more P [] m all fits = (fits, tt)
+fit_more P (x ∷ ms) m all fits = (all.0, fit_more P ms m all.1 fits)
+
+module _ (wide : Bool) (s t : Settings) where
+  -- ---- the front
+
+  coming_front : (from : Stage) (sender : State) (octets : List ℕ) (sent : List Update) (got : List (Update × PathInfo))
+      → Coming wide s t from sender octets sent got → IsFrontHeard wide sent got
+  coming_front from sender octets sent got c = record { front = c.front; later = updates_in c.pending; in_order = c.sent_so; hears = c.got_so }
+
+  pub front_of : (hearer : State) (held hand flight : List ℕ) (sender : State) (sent : List Update) (got : List (Update × PathInfo))
+      → Goes wide s t hearer held hand flight sender sent got → IsFrontHeard wide sent got
+  front_of state.OpenSent held hand flight sender sent got g = coming_front WantsOpen sender (held ++ (hand ++ flight)) sent got g.coming
+  front_of state.OpenConfirm held hand flight sender sent got g = coming_front WantsKeepalive sender (held ++ (hand ++ flight)) sent got g.coming
+  front_of state.Established held hand flight sender sent got g = coming_front Runs sender (held ++ (hand ++ flight)) sent got g.coming
+  front_of state.Idle held hand flight sender sent got g = g.hears
+  front_of state.Connect held hand flight sender sent got g = g.hears
+  front_of state.Active held hand flight sender sent got g = g.hears
+
+  -- ---- the sender goes to another state, and says nothing
+
+  module _ (from : Stage) (held rest : List ℕ) (old new : State) (sent : List Update) (got : List (Update × PathInfo)) (goes : (last : Stage) → EndsAt old last → EndsAt new last) where
+    hearing_goes : IsHearing wide s t from held rest old sent got → IsHearing wide s t from held rest new sent got
+    hearing_goes h =
+        let c = h.coming in
+        record {
+          waits = h.waits;
+          coming = record {
+            pending = c.pending;
+            last = c.last;
+            spelled = c.spelled;
+            follows = c.follows;
+            ends = goes c.last c.ends;
+            fit = c.fit;
+            front = c.front;
+            got_so = c.got_so;
+            sent_so = c.sent_so;
+          };
+        }
+
+  pub sender_goes : (hearer : State) (held hand flight : List ℕ) (old new : State) (sent : List Update) (got : List (Update × PathInfo))
+      → ((last : Stage) → EndsAt old last → EndsAt new last) → Goes wide s t hearer held hand flight old sent got → Goes wide s t hearer held hand flight new sent got
+  sender_goes state.OpenSent held hand flight old new sent got goes g = hearing_goes WantsOpen held (hand ++ flight) old new sent got goes g
+  sender_goes state.OpenConfirm held hand flight old new sent got goes g = hearing_goes WantsKeepalive held (hand ++ flight) old new sent got goes g
+  sender_goes state.Established held hand flight old new sent got goes g = hearing_goes Runs held (hand ++ flight) old new sent got goes g
+  sender_goes state.Idle held hand flight old new sent got goes g = g
+  sender_goes state.Connect held hand flight old new sent got goes g = g
+  sender_goes state.Active held hand flight old new sent got goes g = g
+
+  -- ---- the sender says a message
+
+  module _ (old new : State) (m : Said) (may : (last : Stage) → EndsAt old last → MaySay old new m last) (fits : Fits wide s t m)
+      (octets : List ℕ) (spelled : octets ≡ spelling s m) (sent sent_new : List Update) (sends : sent_new ≡ sent ++ updates_of m) (got : List (Update × PathInfo)) where
+    hearing_says : (from : Stage) (held rest : List ℕ) → IsHearing wide s t from held rest old sent got → IsHearing wide s t from held (rest ++ octets) new sent_new got
+    hearing_says from held rest h =
+        let c = h.coming in
+        let says = may c.last c.ends in
+        record {
+          waits = h.waits;
+          coming = record {
+            pending = c.pending ++ m ∷ [];
+            last = says.behind;
+            spelled =
+                sym (append_assoc held rest octets)
+                ∙ ap (λ (l : List ℕ). l ++ octets) c.spelled
+                ∙ ap (λ (l : List ℕ). spellings s c.pending ++ l) spelled
+                ∙ sym (spellings_more s c.pending m);
+            follows = follows_more (Some from) c.pending m c.last says.behind c.follows says.is_next;
+            ends = says.ends;
+            fit = fit_more (Fits wide s t) c.pending m c.fit fits;
+            front = c.front;
+            got_so = c.got_so;
+            sent_so =
+                sends
+                ∙ ap (λ (l : List Update). l ++ updates_of m) c.sent_so
+                ∙ append_assoc c.front (updates_in c.pending) (updates_of m)
+                ∙ ap (λ (l : List Update). c.front ++ l) (sym (updates_more c.pending m));
+          };
+        }
+
+    hearing_flies : (from : Stage) (held hand flight : List ℕ) (left : Bool) → left ≡ false → IsHearing wide s t from held (hand ++ flight) old sent got
+        → IsHearing wide s t from held (hand ++ flying left flight octets) new sent_new got
+    hearing_flies from held hand flight true is h = absurd (let not : true ≡ false = is in cc)
+    hearing_flies from held hand flight false is h =
+        subst (λ (rest : List ℕ). IsHearing wide s t from held rest new sent_new got) (append_assoc hand flight octets) (hearing_says from held (hand ++ flight) h)
+
+    deaf_flies : (held flight : List ℕ) (left : Bool) → left ≡ true → IsDeaf wide held flight sent got → IsDeaf wide held (flying left flight octets) sent_new got
+    deaf_flies held flight false is d = absurd (let not : false ≡ true = is in cc)
+    deaf_flies held flight true is d = record {
+      holds_none = d.holds_none;
+      none_flies = d.none_flies;
+      hears = record {
+        front = d.hears.front;
+        later = d.hears.later ++ updates_of m;
+        in_order = sends ∙ ap (λ (l : List Update). l ++ updates_of m) d.hears.in_order ∙ append_assoc d.hears.front d.hears.later (updates_of m);
+        hears = d.hears.hears;
+      };
+    }
+
+    pub sender_says : (hearer : State) (held hand flight : List ℕ) (left : Bool) → left ≡ not (listens hearer) → Goes wide s t hearer held hand flight old sent got
+        → Goes wide s t hearer held hand (flying left flight octets) new sent_new got
+    sender_says state.OpenSent held hand flight left is g = hearing_flies WantsOpen held hand flight left is g
+    sender_says state.OpenConfirm held hand flight left is g = hearing_flies WantsKeepalive held hand flight left is g
+    sender_says state.Established held hand flight left is g = hearing_flies Runs held hand flight left is g
+    sender_says state.Idle held hand flight left is g = deaf_flies held flight left is g
+    sender_says state.Connect held hand flight left is g = deaf_flies held flight left is g
+    sender_says state.Active held hand flight left is g = deaf_flies held flight left is g

@@ -1,0 +1,9 @@
+use Rattle.std.proofs.Common.{◌≡◌}
+use Rattle.bgp_session.specs.Pair.{pair, all_acted}
+use Rattle.bgp_session.proofs.acting.act_all.Given as goal
+
+-- what is left to be done is done on what the actions so far made
+abbrev pub invariant-actions : goal.invariant-actions
+invariant-actions l =
+    all_acted l.fn.side (pair l.initial.this l.initial.other l.initial.notes) l.fn.actions.items
+    ≡ all_acted l.fn.side (pair l.this l.other l.notes) l.action-iterator

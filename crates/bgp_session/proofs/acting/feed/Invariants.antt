@@ -1,0 +1,13 @@
+use Rattle.std.proofs.Common.{◌≡◌}
+use Rattle.bgp_session.specs.Feeding.{IsReady, fed_on, weight}
+use Rattle.bgp_session.specs.Pair.{pair, fed}
+use Rattle.bgp_session.proofs.acting.feed.Given as goal
+
+-- what the piece does is what its rest does on what was made so far
+abbrev pub invariant-piece : goal.invariant-piece
+invariant-piece l =
+    IsReady l.this.session
+    × (fed l.fn.side (pair l.initial.this l.initial.other l.initial.notes) l.fn.piece ≡ fed_on l.fn.side (pair l.this l.other l.notes) l.rest)
+
+abbrev pub decreases-piece : goal.decreases-piece
+decreases-piece l = weight l.this.session l.rest

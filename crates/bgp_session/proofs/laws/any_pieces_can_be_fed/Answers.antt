@@ -1,5 +1,0 @@
-use Rattle.bgp_session.proofs.Feedings.{can_be_fed}
-use Rattle.bgp_session.proofs.laws.any_pieces_can_be_fed.Goals as goal
-
-pub returns : goal.returns
-returns c = can_be_fed

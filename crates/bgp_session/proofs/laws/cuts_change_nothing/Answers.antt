@@ -1,5 +1,0 @@
-use Rattle.bgp_session.proofs.Cuttings.{cuts_agree}
-use Rattle.bgp_session.proofs.laws.cuts_change_nothing.Goals as goal
-
-pub returns : goal.returns
-returns c = cuts_agree

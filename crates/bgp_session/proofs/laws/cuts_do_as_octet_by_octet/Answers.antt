@@ -1,5 +1,0 @@
-use Rattle.bgp_session.proofs.Cuttings.{cuts_settle}
-use Rattle.bgp_session.proofs.laws.cuts_do_as_octet_by_octet.Goals as goal
-
-pub returns : goal.returns
-returns c = cuts_settle

@@ -1,0 +1,17 @@
+use Rattle.std.proofs.Common.{◌≡◌, length}
+use Rattle.bgp_session.specs.Playing.{Rests, Delivers}
+use Rattle.bgp_session.specs.World.{delivers}
+use Rattle.bgp_session.specs.Wire.{trace}
+use Rattle.bgp_session.proofs.playing.deliver.Given as goal
+
+-- the pieces so far have passed, and the others are left
+abbrev pub invariant-pieces : goal.invariant-pieces
+invariant-pieces g l =
+    Rests l.pairing
+    × Delivers
+    (record { honest = g.W.Wire.honest l.initial.wire; old = l.initial.answers; new = l.answers; trace_old = trace (g.W.Wire.failed l.initial.wire) (g.W.Wire.calls l.initial.wire); trace_new = trace (g.W.Wire.failed l.wire) (g.W.Wire.calls l.wire) })
+    (delivers l.fn.side l.fn.count l.fn.pairing) l.fn.side l.octets.items l.pairing
+    × (g.W.Wire.honest l.wire ≡ g.W.Wire.honest l.initial.wire)
+
+abbrev pub decreases-pieces : goal.decreases-pieces
+decreases-pieces g l = length l.octets.items

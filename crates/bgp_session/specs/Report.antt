@@ -1,0 +1,28 @@
+-- What is reported of a schedule.
+use Rattle.std.specs.Prelude.{◌≡◌, Bool, List, ◌++◌}
+use Rattle.bgp_open.specs.Config.{Settings}
+use Rattle.bgp_session.specs.declared.moves.Move.{Move}
+use Rattle.bgp_session.specs.declared.report.Report.{Report}
+use Rattle.bgp_session.specs.Wire.{Call}
+use Rattle.bgp_session.specs.World.{World, begins, rounds_of, ran, asked, all_moved}
+
+-- the report of a world, for these answers of the wire
+abbrev pub report_of : World → List Bool → Report
+report_of w answers = record {
+  rounds = rounds_of w;
+  refused = w.refused;
+  states = (w.a.session.standing.state, w.b.session.standing.state);
+  answers = answers;
+}
+
+-- the report is that of the world that these moves make of two new sessions. They used up the answers that it has, one for each call of the
+-- wire, and no more: whatever answers had come later are left over
+pub record IsReported (a b : Settings) (moves : List Move) (report : Report) : Type 0 where
+  pub world : World
+  pub calls : List Call
+  pub moved_so : (later : List Bool) → all_moved moves (begins a b) (report.answers ++ later) ≡ asked calls (ran world later)
+  pub reports : report ≡ report_of world report.answers
+
+-- what these moves ask of a wire that gives these answers
+abbrev pub calls_behind : Settings → Settings → List Move → List Bool → List Call
+calls_behind a b moves answers = (all_moved moves (begins a b) answers).calls

@@ -1,0 +1,48 @@
+-- What a wire answers, and what it was asked.
+use Rattle.std.specs.Prelude.{◌≡◌, ℕ, ◌+◌, Bool, true, false, nat_lt, List, [], ◌∷◌, ◌++◌, Option, None, Some, if◌then◌else◌}
+use Rattle.bgp_session.specs.declared.side.Side.{Side}
+
+-- the failures of a wire behind one more answer: the greatest number stays
+abbrev pub failed_after : ℕ → Bool → ℕ
+failed_after n true = n
+failed_after n false = if nat_lt n 4294967295 then n + 1 else n
+
+-- and behind a list of them
+abbrev pub failed_behind : ℕ → List Bool → ℕ
+failed_behind n [] = n
+failed_behind n (answer ∷ later) = failed_behind (failed_after n answer) later
+
+-- ---- what it was asked
+
+-- to connect both sides, to pass these octets to a side, each with what it answered, and to end the connection
+pub data Call : Type 0 where
+  Joined : Bool → Call
+  Handed : Side → List ℕ → Bool → Call
+  Cut : Call
+
+-- the calls so far are kept, and these came behind them; nothing is said where none are kept
+abbrev pub Grows : Option (List Call) → Option (List Call) → List Call → Type 0
+Grows None new calls = Unit {0}
+Grows (Some old) None calls = ⊥
+Grows (Some old) (Some new) calls = new ≡ old ++ calls
+
+-- the answers that calls have
+abbrev pub answers_in : List Call → List Bool
+answers_in [] = []
+answers_in (Joined answer ∷ later) = answer ∷ answers_in later
+answers_in (Handed to octets answer ∷ later) = answer ∷ answers_in later
+answers_in (Cut ∷ later) = answers_in later
+
+-- a wire was asked, and gave these answers
+pub record HasAnswered (old new : Option (List Call)) (answers : List Bool) : Type 0 where
+  pub calls : List Call
+  pub grew : Grows old new calls
+  pub gave : answers_in calls ≡ answers
+
+-- what a contract sees of a wire besides: its failures, and its calls
+pub record Trace : Type 0 where
+  pub failed : ℕ
+  pub calls : Option (List Call)
+
+abbrev pub trace : ℕ → Option (List Call) → Trace
+trace failed calls = record { failed = failed; calls = calls }

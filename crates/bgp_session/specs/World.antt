@@ -1,0 +1,224 @@
+-- Two sessions, the connection between them, and what each move of a schedule does.
+use Rattle.std.specs.Prelude.{ℕ, zero, suc, Bool, true, false, List, [], ◌∷◌, ◌++◌, take, drop, Option, None, Some, if◌then◌else◌}
+use Rattle.bgp_open.specs.Config.{Settings}
+use Rattle.bgp_update.specs.declared.update.Update.{Update}
+use Rattle.bgp_machine.specs.declared.event.Event.{Event}
+use Rattle.bgp_machine.specs.declared.event.Event.TheVariants as event
+use Rattle.bgp_machine.specs.declared.send_fault.SendFault.{SendFault}
+use Rattle.bgp_machine.specs.declared.state.State.{State}
+use Rattle.bgp_machine.specs.declared.state.State.TheVariants as state
+use Rattle.bgp_machine.specs.Sending.{refusal_of}
+use Rattle.bgp_machine.specs.Standing.{listens}
+use Rattle.bgp_session.specs.declared.moves.Move.{Move}
+use Rattle.bgp_session.specs.declared.moves.Move.TheVariants as move
+use Rattle.bgp_session.specs.declared.report.Round.{Round}
+use Rattle.bgp_session.specs.declared.side.Side.{Side}
+use Rattle.bgp_session.specs.declared.side.Side.TheVariants.{A, B}
+use Rattle.bgp_session.specs.Wire.{Call, Joined, Handed, Cut}
+use Rattle.bgp_session.specs.Pair.{End, fresh_end, with_flight, Note, Pair, pair, told, fed, sent}
+
+-- both ends and the NOTIFICATIONs of this round, the rounds that are over, whether one has begun, and what wasn't sent
+pub record World : Type 0 where
+  pub a : End
+  pub b : End
+  pub notes : List Note
+  pub over : List Round
+  pub begun : Bool
+  pub refused : List (Side × SendFault)
+
+abbrev pub begins : Settings → Settings → World
+begins a b = record { a = fresh_end a; b = fresh_end b; notes = []; over = []; begun = false; refused = [] }
+
+-- ---- the ends as one side sees them
+
+abbrev pub end_of : Side → World → End
+end_of A w = w.a
+end_of B w = w.b
+
+abbrev pub seen_by : Side → World → Pair
+seen_by A w = pair w.a w.b w.notes
+seen_by B w = pair w.b w.a w.notes
+
+abbrev pub with_pair : Side → World → Pair → World
+with_pair A w p = record { a = p.this; b = p.other; notes = p.notes; over = w.over; begun = w.begun; refused = w.refused }
+with_pair B w p = record { a = p.other; b = p.this; notes = p.notes; over = w.over; begun = w.begun; refused = w.refused }
+
+-- an event comes to a side, and octets
+abbrev pub tells : Side → Event → World → World
+tells side event w = with_pair side w (told side (seen_by side w) event)
+
+abbrev pub feeds : Side → List ℕ → World → World
+feeds side octets w = with_pair side w (fed side (seen_by side w) octets)
+
+-- ---- the connection
+
+-- the connection stands until both have left it
+abbrev pub stands : World → Bool
+stands w = if w.a.left then (if w.b.left then false else true) else true
+
+abbrev pub tells_if : Bool → Side → Event → World → World
+tells_if true side event w = tells side event w
+tells_if false side event w = w
+
+abbrev pub state_of : Side → World → State
+state_of side w = (end_of side w).session.standing.state
+
+-- a side for which a connection stands is told that it failed
+abbrev pub fails_up : Side → World → World
+fails_up side w = tells_if (listens (state_of side w)) side event.Failed w
+
+-- nothing is in flight
+abbrev pub emptied : World → World
+emptied w = record { a = with_flight w.a []; b = with_flight w.b []; notes = w.notes; over = w.over; begun = w.begun; refused = w.refused }
+
+-- the connection is lost, where there is one
+abbrev pub lost_if : Bool → World → World
+lost_if true w = fails_up B (fails_up A (emptied w))
+lost_if false w = w
+
+abbrev pub lost : World → World
+lost w = lost_if (stands w) w
+
+-- a side seeks a connection
+abbrev pub seeks : State → Bool
+seeks state.Connect = true
+seeks state.Active = true
+seeks _ = false
+
+abbrev pub refused_at : Side → World → World
+refused_at side w = tells_if (seeks (state_of side w)) side event.Failed w
+
+-- ---- rounds
+
+-- what was said and heard in this round
+abbrev pub round_of : World → Round
+round_of w = record {
+  sent_a = w.a.sent;
+  sent_b = w.b.sent;
+  got_a = w.a.got;
+  got_b = w.b.got;
+  gone_a = w.a.gone;
+  gone_b = w.b.gone;
+  notes = w.notes;
+}
+
+abbrev pub with_round : Bool → List Round → Round → List Round
+with_round true over round = over ++ round ∷ []
+with_round false over round = over
+
+abbrev pub rounds_of : World → List Round
+rounds_of w = with_round w.begun w.over (round_of w)
+
+-- an end at the beginning of a round
+abbrev pub joined_end : End → End
+joined_end e = record { session = e.session; left = false; flight = []; sent = []; got = []; gone = [] }
+
+-- nothing was said or heard yet
+abbrev pub forgetful : End → End
+forgetful e = record { session = e.session; left = e.left; flight = e.flight; sent = []; got = []; gone = [] }
+
+abbrev pub forgotten : World → World
+forgotten w = record { a = forgetful w.a; b = forgetful w.b; notes = []; over = w.over; begun = w.begun; refused = w.refused }
+
+abbrev pub round_over : World → World
+round_over w = record { a = forgetful w.a; b = forgetful w.b; notes = []; over = rounds_of w; begun = w.begun; refused = w.refused }
+
+abbrev pub new_round : World → World
+new_round w = record { a = joined_end w.a; b = joined_end w.b; notes = []; over = rounds_of w; begun = true; refused = w.refused }
+
+-- ---- moves that the wire answers
+
+-- the world, the answers of the wire that are left, and what the wire was asked
+pub record Ran : Type 0 where
+  pub world : World
+  pub answers : List Bool
+  pub calls : List Call
+
+abbrev pub ran : World → List Bool → Ran
+ran w answers = record { world = w; answers = answers; calls = [] }
+
+-- what comes behind these calls
+abbrev pub asked : List Call → Ran → Ran
+asked calls r = record { world = r.world; answers = r.answers; calls = calls ++ r.calls }
+
+-- the next answer
+abbrev pub answer_of : List Bool → Bool
+answer_of [] = false
+answer_of (answer ∷ later) = answer
+
+abbrev pub later_of : List Bool → List Bool
+later_of [] = []
+later_of (answer ∷ later) = later
+
+-- both seek a connection, and there is none
+abbrev pub can_join : World → Bool
+can_join w = if seeks w.a.session.standing.state then (if seeks w.b.session.standing.state then (if stands w then false else true) else false) else false
+
+-- both are told whether they are connected, A first
+abbrev pub joins : Bool → World → World
+joins true w = tells B event.Connected (tells A event.Connected (new_round w))
+joins false w = tells B event.Failed (tells A event.Failed w)
+
+abbrev pub joined_if : Bool → World → List Bool → Ran
+joined_if true w answers = asked (Joined (answer_of answers) ∷ []) (ran (joins (answer_of answers) w) (later_of answers))
+joined_if false w answers = ran w answers
+
+-- a piece passes and comes to the side, and then the others; or it doesn't, and the connection is lost
+abbrev pub delivers_on : Bool → (World → List Bool → Ran) → Side → List ℕ → World → List Bool → Ran
+delivers_on true on side piece w answers = asked (Handed side piece true ∷ []) (on (feeds side piece w) answers)
+delivers_on false on side piece w answers = asked (Handed side piece false ∷ []) (ran (lost w) answers)
+
+-- octets pass in pieces of 4096, until the side has left: no more pieces than octets
+abbrev pub delivered : ℕ → Side → List ℕ → World → List Bool → Ran
+delivered zero side octets w answers = ran w answers
+delivered (suc n) side [] w answers = ran w answers
+delivered (suc n) side octets w answers =
+    if (end_of side w).left then ran w answers
+    else delivers_on (answer_of answers) (delivered n side (drop 4096 octets)) side (take 4096 octets) w (later_of answers)
+
+-- so many octets are drawn out of the flight towards a side
+abbrev pub drawn : Side → ℕ → World → World
+drawn side k w = with_pair side w (pair (with_flight (end_of side w) (drop k (end_of side w).flight)) (seen_by side w).other w.notes)
+
+abbrev pub delivers : Side → ℕ → World → List Bool → Ran
+delivers side k w answers = delivered k side (take k (end_of side w).flight) (drawn side k w) answers
+
+-- ---- sending
+
+abbrev pub with_refused : World → Side → SendFault → World
+with_refused w side fault = record { a = w.a; b = w.b; notes = w.notes; over = w.over; begun = w.begun; refused = w.refused ++ (side, fault) ∷ [] }
+
+abbrev pub sent_or : Option SendFault → Side → Update → World → World
+sent_or None side u w = with_pair side w (sent (seen_by side w) u)
+sent_or (Some fault) side u w = with_refused w side fault
+
+abbrev pub sends : Side → Update → World → World
+sends side u w = sent_or (refusal_of (end_of side w).session u) side u w
+
+-- ---- a schedule
+
+-- what a move does; the answers of the wire are used up from the front
+abbrev pub moved : Move → World → List Bool → Ran
+moved (move.Start side) w answers = ran (tells side event.Start w) answers
+moved (move.Stop side) w answers = ran (tells side event.Stop w) answers
+moved move.Join w answers = joined_if (can_join w) w answers
+moved (move.Refuse side) w answers = ran (refused_at side w) answers
+moved (move.Deliver side k) w answers = delivers side k w answers
+moved move.Lose w answers = ran (lost w) answers
+moved (move.Expire side timer) w answers = ran (tells side (event.Expired timer) w) answers
+moved (move.Send side u) w answers = ran (sends side u w) answers
+
+-- the wire is cut behind the move that ends the connection
+abbrev pub cut_behind : Bool → Bool → List Call
+cut_behind true false = Cut ∷ []
+cut_behind _ _ = []
+
+abbrev pub cut_if : Bool → Ran → Ran
+cut_if stood r = record { world = r.world; answers = r.answers; calls = r.calls ++ cut_behind stood (stands r.world) }
+
+abbrev pub played : Move → World → List Bool → Ran
+played one w answers = cut_if (stands w) (moved one w answers)
+
+abbrev pub all_moved : List Move → World → List Bool → Ran
+all_moved [] w answers = ran w answers
+all_moved (one ∷ later) w answers = asked (played one w answers).calls (all_moved later (moved one w answers).world (moved one w answers).answers)

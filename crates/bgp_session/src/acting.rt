@@ -1,0 +1,149 @@
+//! What one end does, and what the other has of it.
+
+ghost use Rattle.std.specs.Prelude.{◌≡◌, IfOk, OnOk};
+ghost use Rattle.bgp_machine.specs.Cutting.{IsAtRest};
+ghost use Rattle.bgp_session.specs.Pair.{pair, acted, all_acted, told, fed};
+ghost use Rattle.bgp_session.specs.Feeding.{IsReady, Feeds};
+ghost use Rattle.bgp_session.specs.Laws.{HasRangesUnless};
+ghost use Rattle.bgp_session.specs.Playing.{Sends};
+
+use crate::side::Side;
+use crate::speaker::{Speaker, notification};
+use bgp_frame::{Kind, head};
+use bgp_machine::{Action, Actions, Event, SendFault};
+use bgp_update::Update;
+use bgp_wire::List;
+use std::alloc::{AllocError, Global};
+
+/// Who sent a NOTIFICATION, its code and its subcode.
+pub(crate) type Note = (Side, u8, u8);
+
+/// Does one thing that the session of `this` wants done.
+fn act(
+    alloc: Global,
+    side: Side,
+    this: &mut Speaker,
+    other: &mut Speaker,
+    notes: &mut List<Note>,
+    action: Action,
+) -> Result<(), AllocError>
+    ensures { OnOk result (acted side (pair this.old other.old notes.old) action ≡ pair this.new other.new notes.new) }
+{
+    match action {
+        Action::Close => {
+            this.leave();
+            Ok(())
+        }
+        Action::SendOpen => other.await_octets(this.session.own_frame()),
+        Action::SendKeepalive => other.await_octets(&head(Kind::Keepalive, 0)),
+        Action::SendNotification(why) => {
+            notes.push((side, why.code, why.subcode))?;
+            other.await_octets(&notification(alloc, &why)?)
+        }
+        Action::Announce(update, info) => this.got.push((update, info)),
+        Action::Withdraw(routes) => this.gone.push(routes),
+        Action::Connect | Action::Arm(_, _) | Action::Disarm(_) | Action::Flush => Ok(()),
+    }
+}
+
+/// Does all that the session of `this` wants done.
+fn act_all(
+    alloc: Global,
+    side: Side,
+    this: &mut Speaker,
+    other: &mut Speaker,
+    notes: &mut List<Note>,
+    actions: Actions,
+) -> Result<(), AllocError>
+    ensures { OnOk result (all_acted side (pair this.old other.old notes.old) actions.items ≡ pair this.new other.new notes.new) }
+{
+    'actions: for action in actions {
+        act(alloc, side, this, other, notes, action)?;
+    }
+    Ok(())
+}
+
+/// Tells `this` what happens.
+pub(crate) fn tell(
+    alloc: Global,
+    side: Side,
+    this: &mut Speaker,
+    other: &mut Speaker,
+    notes: &mut List<Note>,
+    event: Event,
+) -> Result<(), AllocError>
+    ensures { OnOk result (told side (pair this.old other.old notes.old) event ≡ pair this.new other.new notes.new) }
+{
+    if let Event::Failed = event {
+        this.leave();
+    }
+    let actions = this.session.event(event);
+    act_all(alloc, side, this, other, notes, actions)
+}
+
+/// Lets `this` take octets from the front of a piece, or do what is to be done on what it holds. Answers how many it took, and None where
+/// nothing is left to do.
+fn pull(
+    alloc: Global,
+    side: Side,
+    this: &mut Speaker,
+    other: &mut Speaker,
+    notes: &mut List<Note>,
+    piece: &[u8],
+) -> Result<Option<usize>, AllocError>
+    requires ready { IsReady this.old.session }
+    ensures { IfOk result (Feeds side (pair this.old other.old notes.old) piece.now (pair this.new other.new notes.new)) }
+{
+    let (taken, found) = this.session.pull(alloc, piece)?;
+    match found {
+        Some(actions) => {
+            act_all(alloc, side, this, other, notes, actions)?;
+            Ok(Some(taken))
+        }
+        None if taken == 0 => Ok(None),
+        None => Ok(Some(taken)),
+    }
+}
+
+/// Feeds a piece to `this`, and does all that it wants done.
+pub(crate) fn feed(
+    alloc: Global,
+    side: Side,
+    this: &mut Speaker,
+    other: &mut Speaker,
+    notes: &mut List<Note>,
+    piece: &[u8],
+) -> Result<(), AllocError>
+    requires rests { IsAtRest this.old.session }
+    ensures fed { OnOk result (fed side (pair this.old other.old notes.old) piece.now ≡ pair this.new other.new notes.new) }
+    ensures rests { OnOk result (IsAtRest this.new.session) }
+{
+    let mut rest = piece;
+    'piece: while let Some(taken) = pull(alloc, side, this, other, notes, rest)? {
+        let (_, later) = rest.split_at(taken);
+        rest = later;
+    }
+    Ok(())
+}
+
+/// Lets `this` send an UPDATE. Answers why it isn't sent, where it isn't.
+pub(crate) fn send(
+    alloc: Global,
+    this: &mut Speaker,
+    other: &mut Speaker,
+    update: &Update,
+) -> Result<Option<SendFault>, AllocError>
+    ensures sent { IfOk result (Sends this.old other.old update.now this.new other.new) }
+    ensures ranges { IfOk result (λ found. HasRangesUnless found update.now) }
+{
+    let mut octets = Vec::new(alloc);
+    match this.session.send(alloc, update, &mut octets) {
+        Ok(_actions) => {
+            this.sent.push(update.copy(alloc)?)?;
+            other.await_octets(&octets)?;
+            Ok(None)
+        }
+        Err(SendFault::Memory) => Err(AllocError),
+        Err(fault) => Ok(Some(fault)),
+    }
+}

@@ -1,0 +1,27 @@
+//! What moves a pair.
+
+use crate::side::Side;
+use bgp_machine::Timer;
+use bgp_update::Update;
+
+/// One move of a schedule: what happens to one side, or to the connection.
+#[derive(Debug, Drop, PartialEq)]
+pub enum Move {
+    /// The operator starts the session of this side.
+    Start(Side),
+    /// The operator stops it.
+    Stop(Side),
+    /// The sides are connected, where both seek a connection and there is none: a round begins. Where the wire refuses, both are told that the
+    /// connection failed.
+    Join,
+    /// The side is told that its connection failed, where it seeks one.
+    Refuse(Side),
+    /// Up to so many of the octets in flight towards the side come to it.
+    Deliver(Side, u16),
+    /// The connection is lost, and what is in flight with it.
+    Lose,
+    /// The timer of this side expires, where it runs.
+    Expire(Side, Timer),
+    /// The side sends this UPDATE, where its session lets it.
+    Send(Side, Update),
+}

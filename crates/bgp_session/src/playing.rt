@@ -1,0 +1,227 @@
+//! The moves of a schedule.
+
+ghost use Rattle.std.specs.Prelude.{◌≡◌, true, [], ◌∷◌, IfOk, OnOk};
+ghost use Rattle.std.specs.List.{All};
+ghost use Rattle.bgp_session.specs.Laws.{CanBeSet, SendsRanges, HaveSentRanges, RoundHasReasons, HearsFronts, both_wide};
+ghost use Rattle.bgp_session.specs.Playing.{Rests, Plays, Passes};
+ghost use Rattle.bgp_session.specs.Report.{IsReported, calls_behind};
+ghost use Rattle.bgp_session.specs.Wire.{failed_after, failed_behind, Handed, Grows, HasAnswered, trace};
+ghost use Rattle.bgp_session.specs.World.{joined_if, can_join, delivers, moved, cut_behind, played};
+
+use crate::moves::Move;
+use crate::pairing::Pairing;
+use crate::report::Report;
+use crate::side::Side;
+use crate::speaker::take_front;
+use crate::wire::Wire;
+use bgp_machine::Event;
+use bgp_open::Config;
+use bgp_wire::List;
+use std::alloc::{AllocError, Global};
+
+/// The octets that pass a wire at once.
+const PIECE: usize = 4096;
+
+/// Connects both sides, where both seek a connection and there is none.
+fn join<W: Wire>(
+    alloc: Global,
+    pairing: &mut Pairing,
+    wire: &mut W,
+    answers: &mut List<bool>,
+) -> Result<(), AllocError>
+    ensures plays { OnOk result (Plays (record { honest = W.honest wire.old; old = answers.old; new = answers.new; trace_old = trace (W.failed wire.old) (W.calls wire.old); trace_new = trace (W.failed wire.new) (W.calls wire.new) })
+        (joined_if (can_join pairing.old) pairing.old) pairing.new) }
+    ensures rests { Rests pairing.old → OnOk result (Rests pairing.new) }
+    ensures honest { W.honest wire.new ≡ W.honest wire.old }
+{
+    if !pairing.can_join() {
+        return Ok(());
+    }
+    let joined = wire.join();
+    answers.push(joined)?;
+    pairing.connect(alloc, joined)
+}
+
+/// Lets the wire pass octets in their place.
+fn pass_octets<W: Wire>(side: Side, octets: &mut Vec<u8>, wire: &mut W) -> bool
+    ensures same { W.honest wire.old ≡ true → result ≡ true → octets.new.items ≡ octets.old.items }
+    ensures honest { W.honest wire.new ≡ W.honest wire.old }
+    ensures failed { W.failed wire.new ≡ failed_after (W.failed wire.old) result }
+    ensures kept { Grows (W.calls wire.old) (W.calls wire.new) (Handed side octets.old.items result ∷ []) }
+{
+    wire.pass(side, octets.as_mut_slice())
+}
+
+/// Passes a piece to a side. Answers whether it passed; where it didn't, the connection is lost.
+fn pass<W: Wire>(
+    alloc: Global,
+    pairing: &mut Pairing,
+    side: Side,
+    piece: &mut Vec<u8>,
+    wire: &mut W,
+    answers: &mut List<bool>,
+) -> Result<bool, AllocError>
+    requires rests { Rests pairing.old }
+    ensures passes { IfOk result (λ passed. Passes (record { honest = W.honest wire.old; old = answers.old; new = answers.new; trace_old = trace (W.failed wire.old) (W.calls wire.old); trace_new = trace (W.failed wire.new) (W.calls wire.new) })
+        passed side piece.old.items pairing.old pairing.new) }
+    ensures rests { OnOk result (Rests pairing.new) }
+    ensures honest { W.honest wire.new ≡ W.honest wire.old }
+{
+    let passed = pass_octets(side, piece, wire);
+    answers.push(passed)?;
+    if passed {
+        pairing.feed(alloc, side, piece)?;
+    } else {
+        pairing.lose(alloc)?;
+    }
+    Ok(passed)
+}
+
+/// Delivers so many of the octets in flight towards a side, piece by piece, until it has left.
+fn deliver<W: Wire>(
+    alloc: Global,
+    pairing: &mut Pairing,
+    side: Side,
+    count: u16,
+    wire: &mut W,
+    answers: &mut List<bool>,
+) -> Result<(), AllocError>
+    requires rests { Rests pairing.old }
+    ensures plays { OnOk result (Plays (record { honest = W.honest wire.old; old = answers.old; new = answers.new; trace_old = trace (W.failed wire.old) (W.calls wire.old); trace_new = trace (W.failed wire.new) (W.calls wire.new) })
+        (delivers side count pairing.old) pairing.new) }
+    ensures rests { OnOk result (Rests pairing.new) }
+    ensures honest { W.honest wire.new ≡ W.honest wire.old }
+{
+    let mut octets = pairing.draw(side, count as usize)?;
+    'pieces: while !octets.is_empty() && !pairing.has_left(side) {
+        let mut piece = take_front(&mut octets, PIECE)?;
+        if !pass(alloc, pairing, side, &mut piece, wire, answers)? {
+            return Ok(());
+        }
+    }
+    Ok(())
+}
+
+/// Makes a move.
+fn make<W: Wire>(
+    alloc: Global,
+    pairing: &mut Pairing,
+    one: &Move,
+    wire: &mut W,
+    answers: &mut List<bool>,
+) -> Result<(), AllocError>
+    requires rests { Rests pairing.old }
+    ensures plays { OnOk result (Plays (record { honest = W.honest wire.old; old = answers.old; new = answers.new; trace_old = trace (W.failed wire.old) (W.calls wire.old); trace_new = trace (W.failed wire.new) (W.calls wire.new) })
+        (moved one.now pairing.old) pairing.new) }
+    ensures ranges { OnOk result (SendsRanges pairing.old one.now) }
+    ensures rests { OnOk result (Rests pairing.new) }
+    ensures honest { W.honest wire.new ≡ W.honest wire.old }
+{
+    match one {
+        Move::Start(side) => pairing.tell(alloc, *side, Event::Start),
+        Move::Stop(side) => pairing.tell(alloc, *side, Event::Stop),
+        Move::Join => join(alloc, pairing, wire, answers),
+        Move::Refuse(side) => pairing.refuse(alloc, *side),
+        Move::Deliver(side, count) => deliver(alloc, pairing, *side, *count, wire, answers),
+        Move::Lose => pairing.lose(alloc),
+        Move::Expire(side, timer) => pairing.tell(alloc, *side, Event::Expired(*timer)),
+        Move::Send(side, update) => pairing.send(alloc, *side, update),
+    }
+}
+
+/// Cuts the wire where a connection that stood doesn't any more.
+#[tactic(auto, using(crate::proofs::Plays::grows_none))]
+fn cut_behind<W: Wire>(stood: bool, stands: bool, wire: &mut W)
+    ensures failed { W.failed wire.new ≡ W.failed wire.old }
+    ensures honest { W.honest wire.new ≡ W.honest wire.old }
+    ensures kept { Grows (W.calls wire.old) (W.calls wire.new) (cut_behind stood stands) }
+{
+    if stood && !stands {
+        wire.cut();
+    }
+}
+
+/// Makes a move, and cuts the wire where that ends the connection.
+fn play<W: Wire>(
+    alloc: Global,
+    pairing: &mut Pairing,
+    one: &Move,
+    wire: &mut W,
+    answers: &mut List<bool>,
+) -> Result<(), AllocError>
+    requires rests { Rests pairing.old }
+    ensures plays { OnOk result (Plays (record { honest = W.honest wire.old; old = answers.old; new = answers.new; trace_old = trace (W.failed wire.old) (W.calls wire.old); trace_new = trace (W.failed wire.new) (W.calls wire.new) })
+        (played one.now pairing.old) pairing.new) }
+    ensures ranges { OnOk result (SendsRanges pairing.old one.now) }
+    ensures rests { OnOk result (Rests pairing.new) }
+    ensures honest { W.honest wire.new ≡ W.honest wire.old }
+{
+    let stood = pairing.stands();
+    make(alloc, pairing, one, wire, answers)?;
+    cut_behind(stood, pairing.stands(), wire);
+    Ok(())
+}
+
+/// Makes all moves, and reports.
+fn run<W: Wire>(
+    alloc: Global,
+    a: Config,
+    b: Config,
+    moves: &[Move],
+    wire: &mut W,
+) -> Result<Report, AllocError>
+    ensures reported { W.honest wire.old ≡ true → IfOk result (IsReported a b moves.now) }
+    ensures ranges { W.honest wire.old ≡ true → IfOk result (λ report. HaveSentRanges a b moves.now report.answers) }
+    ensures failures { IfOk result (λ report. W.failed wire.new ≡ failed_behind (W.failed wire.old) report.answers) }
+    ensures asked { IfOk result (λ report. HasAnswered (W.calls wire.old) (W.calls wire.new) report.answers) }
+    ensures handed { W.honest wire.old ≡ true → IfOk result (λ report. Grows (W.calls wire.old) (W.calls wire.new) (calls_behind a b moves.now report.answers)) }
+    ensures honest { W.honest wire.new ≡ W.honest wire.old }
+{
+    let mut pairing = Pairing::new(alloc, a, b);
+    let mut answers = List::new(alloc);
+    'moves: for one in moves {
+        play(alloc, &mut pairing, one, wire, &mut answers)?;
+    }
+    pairing.report(alloc, answers)
+}
+
+/// A configuration is one that can be made.
+fn know(config: &Config)
+    ensures { CanBeSet config.now }
+{
+    let _local_as = config.local_as();
+    let _hold = config.hold();
+    let _id = config.id();
+}
+
+/// Runs two speakers against each other over a wire: what comes of the moves, each made on what those before it left. Both sessions begin in
+/// Idle.
+///
+/// Octets pass in pieces of 4096. A connection ends when both sides have left it, and the wire is cut then.
+///
+/// # Errors
+/// `AllocError` where a growth was refused.
+pub fn run_pair<W: Wire>(
+    alloc: Global,
+    a: Config,
+    b: Config,
+    moves: &[Move],
+    wire: &mut W,
+) -> Result<Report, AllocError>
+    // Over an honest wire the report is that of these moves with the answers that the wire gave.
+    ensures reported { W.honest wire.old ≡ true → IfOk result (IsReported a b moves.now) }
+    // Then each NOTIFICATION has one of four reasons, and what was heard is a front of what was said.
+    ensures notifications { W.honest wire.old ≡ true → IfOk result (λ report. All (RoundHasReasons a b moves.now) report.rounds) }
+    ensures updates { W.honest wire.old ≡ true → IfOk result (λ report. All (HearsFronts (both_wide a b)) report.rounds) }
+    // Whatever the wire, its failures rose by the answers that are false.
+    ensures failures { IfOk result (λ report. W.failed wire.new ≡ failed_behind (W.failed wire.old) report.answers) }
+    // Where the wire keeps its calls, they are those that gave the answers of the report.
+    ensures asked { IfOk result (λ report. HasAnswered (W.calls wire.old) (W.calls wire.new) report.answers) }
+    // Over an honest wire it was asked for just what these moves ask, with these octets.
+    ensures handed { W.honest wire.old ≡ true → IfOk result (λ report. Grows (W.calls wire.old) (W.calls wire.new) (calls_behind a b moves.now report.answers)) }
+    ensures honest { W.honest wire.new ≡ W.honest wire.old }
+{
+    know(&a);
+    know(&b);
+    run(alloc, a, b, moves, wire)
+}
