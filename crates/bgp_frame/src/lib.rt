@@ -17,6 +17,3 @@ pub use header::head;
 pub use kind::Kind;
 pub use notification::{Notification, NotificationView};
 pub use step::{Frame, Step, front};
-
-#[cfg(test)]
-mod tests;

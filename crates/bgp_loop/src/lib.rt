@@ -8,6 +8,3 @@ mod tcp;
 pub use file::run_file;
 pub use running::run_loop;
 pub use tcp::TcpWire;
-
-#[cfg(test)]
-mod tests;

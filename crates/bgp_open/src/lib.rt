@@ -28,6 +28,3 @@ pub use open_view::OpenView;
 pub use own::{own_frame, own_open};
 pub use read::{read_open, view_open};
 pub use write::{WriteOpenFault, write_open};
-
-#[cfg(test)]
-mod tests;

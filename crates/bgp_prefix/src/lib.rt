@@ -18,6 +18,3 @@ pub use fault::RunFault;
 pub use iter::{PrefixIter, PrefixIter4, PrefixIter6};
 pub use prefix::{Prefix, Prefix4, Prefix6};
 pub use run::{check_run4, check_run6, read_run4, read_run6, write_run, write_run4, write_run6};
-
-#[cfg(test)]
-mod tests;

@@ -5,6 +5,7 @@ mod copies;
 mod engines;
 mod failing;
 mod faults;
+mod loops;
 mod refusals;
 mod sending;
 mod views;

@@ -19,6 +19,3 @@ mod word;
 pub use end::put_end;
 pub use info::{info_text, notification_text};
 pub use outcome_lines::{put_keepalive, put_outcome, put_update_taken, put_update_withdrawn};
-
-#[cfg(test)]
-mod tests;

@@ -10,6 +10,3 @@ pub use bgp_engine::{
 pub use bgp_loop::{TcpWire, run_file, run_loop};
 pub use bgp_words::laws;
 pub use cli::command;
-
-#[cfg(test)]
-mod tests;

@@ -1,4 +1,6 @@
-use super::*;
+//! Headers, framers and NOTIFICATIONs.
+
+use bgp_frame::*;
 use arrayvec::ArrayVec;
 use std::process::Abort;
 use std::test::*;

@@ -1,6 +1,6 @@
 //! What no clause says: the format's worked results, and OPENs that daemons wrote.
 
-use super::*;
+use bgp_open::*;
 use bgp_wire::List;
 use std::alloc::{AllocError, Global};
 use std::process::Abort;

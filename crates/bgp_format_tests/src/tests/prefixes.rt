@@ -1,4 +1,6 @@
-use super::*;
+//! Prefixes, runs and their text.
+
+use bgp_prefix::*;
 use bgp_wire::{List, TryCopy};
 use std::cmp::Ordering;
 use std::test::*;

@@ -1,0 +1,3 @@
+mod frames;
+mod opens;
+mod prefixes;
