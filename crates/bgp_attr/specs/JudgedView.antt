@@ -1,6 +1,5 @@
 -- What borrowed judgements are.
 use Rattle.std.specs.Prelude.{Bool, true, false}
-use Rattle.bgp_frame.specs.Notification.{notification_of_view}
 use Rattle.bgp_attr.specs.declared.judged.Judged.{Judged}
 use Rattle.bgp_attr.specs.declared.judged.Judged.TheVariants as judged
 use Rattle.bgp_attr.specs.declared.judged_view.JudgedView.{JudgedView}
@@ -11,7 +10,7 @@ abbrev pub judged_value : JudgedView → Judged
 judged_value (view.Keep v) = judged.Keep (attr_value v)
 judged_value (view.Discard w) = judged.Discard w
 judged_value (view.Withdraw w) = judged.Withdraw w
-judged_value (view.Reset n) = judged.Reset (notification_of_view n)
+judged_value (view.Reset n) = judged.Reset n
 
 -- only what is kept takes memory
 abbrev pub is_kept : Judged → Bool

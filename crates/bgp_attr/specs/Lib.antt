@@ -20,6 +20,7 @@ pub mod LargeIter
 pub mod CommunitiesView
 pub mod MpView
 pub mod AttrView
+pub mod FoundAttr
 pub mod JudgedView
 pub mod Length
 pub mod Laws

@@ -6,13 +6,13 @@ ghost use Rattle.bgp_attr.specs.TlvView.{tlv_value};
 ghost use Rattle.bgp_attr.specs.Mp.{family_of, is_in_use, address_width, is_next_hop_length, next_hop_length, reach_of_family, unreach_of_family, mp_reach_of, mp_unreach_of};
 ghost use Rattle.bgp_attr.specs.Judgement.{decided, has_bad_prefix, mp_reach_tests, mp_unreach_tests};
 ghost use Rattle.bgp_attr.specs.MpView.{reach_value, unreach_value};
-ghost use Rattle.bgp_attr.specs.JudgedView.{judged_value};
+ghost use Rattle.bgp_attr.specs.FoundAttr.{found_attr_value};
 
 use crate::attr_view::AttrView;
 use crate::class::Class;
 use crate::family::Family;
+use crate::found_attr::FoundAttr;
 use crate::judge_fixed::address;
-use crate::judged_view::JudgedView;
 use crate::mp_view::{MpReachView, MpUnreachView};
 use crate::reset::reset;
 use crate::tlv::Tlv;
@@ -111,9 +111,9 @@ fn reach_of<'a>(family: Family, value: &'a [u8]) -> MpReachView<'a>
 }
 
 /// MP_REACH_NLRI (RFC 7606, section 7.11; RFC 4760, section 7).
-pub(crate) fn judge_mp_reach<'a>(ctx: &Context, tlv: &Tlv<'a>) -> JudgedView<'a>
+pub(crate) fn judge_mp_reach<'a>(ctx: &Context, tlv: &Tlv<'a>) -> FoundAttr<'a>
     requires { length tlv.now.whole.now ≤ 4075 }
-    ensures { judged_value result ≡ decided (mp_reach_tests ctx.now (tlv_value tlv.now)) (attr.MpReach (mp_reach_of tlv.now.value.now)) }
+    ensures { found_attr_value result ≡ decided (mp_reach_tests ctx.now (tlv_value tlv.now)) (attr.MpReach (mp_reach_of tlv.now.value.now)) }
 {
     let value = tlv.value;
     if !tlv.flags.has_class(Class::OptionalNonTransitive) {
@@ -123,10 +123,10 @@ pub(crate) fn judge_mp_reach<'a>(ctx: &Context, tlv: &Tlv<'a>) -> JudgedView<'a>
         return reset(OPTIONAL_ATTRIBUTE, tlv);
     }
     let Some(family) = family_of(value) else {
-        return JudgedView::Discard(Why::Family);
+        return FoundAttr::Discard(Why::Family);
     };
     if !is_in_use(ctx, family) {
-        return JudgedView::Discard(Why::Family);
+        return FoundAttr::Discard(Why::Family);
     }
     let len = usize::from(value[3]);
     if !is_next_hop_length(family, len) {
@@ -139,7 +139,7 @@ pub(crate) fn judge_mp_reach<'a>(ctx: &Context, tlv: &Tlv<'a>) -> JudgedView<'a>
     if !is_run(family, routes) {
         return reset(OPTIONAL_ATTRIBUTE, tlv);
     }
-    JudgedView::Keep(AttrView::MpReach(reach_of(family, value)))
+    FoundAttr::Keep(AttrView::MpReach(reach_of(family, value)))
 }
 
 /// The routes, of a value without fault.
@@ -155,9 +155,9 @@ fn unreach_of<'a>(family: Family, value: &'a [u8]) -> MpUnreachView<'a>
 }
 
 /// MP_UNREACH_NLRI (RFC 7606, section 7.12; RFC 4760, section 7).
-pub(crate) fn judge_mp_unreach<'a>(ctx: &Context, tlv: &Tlv<'a>) -> JudgedView<'a>
+pub(crate) fn judge_mp_unreach<'a>(ctx: &Context, tlv: &Tlv<'a>) -> FoundAttr<'a>
     requires { length tlv.now.whole.now ≤ 4075 }
-    ensures { judged_value result ≡ decided (mp_unreach_tests ctx.now (tlv_value tlv.now)) (attr.MpUnreach (mp_unreach_of tlv.now.value.now)) }
+    ensures { found_attr_value result ≡ decided (mp_unreach_tests ctx.now (tlv_value tlv.now)) (attr.MpUnreach (mp_unreach_of tlv.now.value.now)) }
 {
     let value = tlv.value;
     if !tlv.flags.has_class(Class::OptionalNonTransitive) {
@@ -167,14 +167,14 @@ pub(crate) fn judge_mp_unreach<'a>(ctx: &Context, tlv: &Tlv<'a>) -> JudgedView<'
         return reset(OPTIONAL_ATTRIBUTE, tlv);
     }
     let Some(family) = family_of(value) else {
-        return JudgedView::Discard(Why::Family);
+        return FoundAttr::Discard(Why::Family);
     };
     if !is_in_use(ctx, family) {
-        return JudgedView::Discard(Why::Family);
+        return FoundAttr::Discard(Why::Family);
     }
     let (_, routes) = value.split_at(3);
     if !is_run(family, routes) {
         return reset(OPTIONAL_ATTRIBUTE, tlv);
     }
-    JudgedView::Keep(AttrView::MpUnreach(unreach_of(family, value)))
+    FoundAttr::Keep(AttrView::MpUnreach(unreach_of(family, value)))
 }

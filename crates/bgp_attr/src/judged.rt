@@ -1,8 +1,11 @@
 //! What one attribute comes to.
 
+ghost use Rattle.std.specs.Prelude.{◌≡◌, IfOk};
+
 use crate::attr::Attr;
 use crate::why::Why;
 use bgp_frame::Notification;
+use std::alloc::{AllocError, Global};
 
 /// What one attribute comes to (RFC 7606, section 2).
 #[derive(Debug, Drop, PartialEq)]
@@ -15,4 +18,21 @@ pub enum Judged {
     Withdraw(Why),
     /// The session ends with this notification.
     Reset(Notification),
+}
+
+impl Judged {
+    /// An equal judgement, with memory of its own.
+    ///
+    /// # Errors
+    /// `AllocError` where an allocation failed.
+    pub fn copy(&self, alloc: Global) -> Result<Judged, AllocError>
+        ensures { IfOk result (λ copy. copy ≡ self.now) }
+    {
+        match self {
+            Judged::Keep(attr) => Ok(Judged::Keep(attr.copy(alloc)?)),
+            Judged::Discard(why) => Ok(Judged::Discard(*why)),
+            Judged::Withdraw(why) => Ok(Judged::Withdraw(*why)),
+            Judged::Reset(notification) => Ok(Judged::Reset(notification.copy())),
+        }
+    }
 }

@@ -1,15 +1,15 @@
 //! What one attribute comes to, with its value borrowed.
 
-ghost use Rattle.std.specs.Prelude.{◌≡◌, ◌≤◌, length, IfOk, OnErr, IsTrue};
+ghost use Rattle.std.specs.Prelude.{◌≡◌, IfOk, OnErr, IsTrue};
 
 use crate::attr_view::AttrView;
 use crate::judged::Judged;
 use crate::why::Why;
-use bgp_frame::NotificationView;
+use bgp_frame::Notification;
 use std::alloc::{AllocError, Global};
 
 /// What one attribute comes to (RFC 7606, section 2), with its value borrowed.
-#[derive(Clone, Copy, Debug)]
+#[derive(Debug, Drop)]
 pub enum JudgedView<'a> {
     /// It is kept.
     Keep(AttrView<'a>),
@@ -18,7 +18,7 @@ pub enum JudgedView<'a> {
     /// The routes of its message are withdrawn.
     Withdraw(Why),
     /// The session ends with this notification.
-    Reset(NotificationView<'a>),
+    Reset(Notification),
 }
 
 impl JudgedView<'_> {
@@ -27,7 +27,7 @@ impl JudgedView<'_> {
     /// The judgement, with memory of its own.
     ///
     /// # Errors
-    /// `AllocError` where a growth was refused: only what is kept takes memory.
+    /// `AllocError` where an allocation failed: only what is kept takes memory.
     pub fn own(&self, alloc: Global) -> Result<Judged, AllocError>
         ensures value { IfOk result (λ j. j ≡ judged_value self.now) }
         ensures err { OnErr result (IsTrue (is_kept (judged_value self.now))) }
@@ -36,7 +36,7 @@ impl JudgedView<'_> {
             JudgedView::Keep(view) => Ok(Judged::Keep(view.own(alloc)?)),
             JudgedView::Discard(why) => Ok(Judged::Discard(*why)),
             JudgedView::Withdraw(why) => Ok(Judged::Withdraw(*why)),
-            JudgedView::Reset(notification) => Ok(Judged::Reset(notification.own())),
+            JudgedView::Reset(notification) => Ok(Judged::Reset(notification.copy())),
         }
     }
 }

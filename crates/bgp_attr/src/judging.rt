@@ -3,8 +3,10 @@
 ghost use Rattle.std.specs.Prelude.{◌≡◌, ◌≤◌, length, IfOk, OnErr, IsTrue};
 ghost use Rattle.bgp_attr.specs.TlvView.{tlv_value};
 ghost use Rattle.bgp_attr.specs.Judgement.{judgement};
+ghost use Rattle.bgp_attr.specs.FoundAttr.{found_attr_value};
 ghost use Rattle.bgp_attr.specs.JudgedView.{judged_value, is_kept};
 
+use crate::found_attr::FoundAttr;
 use crate::judge_aggregator::{judge_aggregator, judge_as4_aggregator};
 use crate::judge_communities::{judge_communities, judge_large, judge_other};
 use crate::judge_fixed::{judge_atomic, judge_local_pref, judge_med, judge_next_hop, judge_origin};
@@ -23,9 +25,9 @@ use std::alloc::{AllocError, Global};
 /// `has_nlri` says that the NLRI field of the message isn't empty.
 #[tactic(auto, unfolding(crate::specs::Judgement::tests_of, crate::specs::Value::value_of))]
 #[inline(always)]
-pub fn judge_view<'a>(ctx: &Context, has_nlri: bool, tlv: &Tlv<'a>) -> JudgedView<'a>
+pub fn judge_attribute<'a>(ctx: &Context, has_nlri: bool, tlv: &Tlv<'a>) -> FoundAttr<'a>
     requires { length tlv.now.whole.now ≤ 4075 }
-    ensures { judged_value result ≡ judgement ctx.now has_nlri (tlv_value tlv.now) }
+    ensures { found_attr_value result ≡ judgement ctx.now has_nlri (tlv_value tlv.now) }
 {
     match tlv.kind {
         attribute::ORIGIN => judge_origin(tlv),
@@ -45,10 +47,18 @@ pub fn judge_view<'a>(ctx: &Context, has_nlri: bool, tlv: &Tlv<'a>) -> JudgedVie
     }
 }
 
+/// What the first attribute of its type in a message comes to, as [`judge_attribute`] says, with a notification of its own.
+pub fn judge_view<'a>(ctx: &Context, has_nlri: bool, tlv: &Tlv<'a>) -> JudgedView<'a>
+    requires { length tlv.now.whole.now ≤ 4075 }
+    ensures { judged_value result ≡ judgement ctx.now has_nlri (tlv_value tlv.now) }
+{
+    judge_attribute(ctx, has_nlri, tlv).into_view()
+}
+
 /// What the first attribute of its type in a message comes to, as [`judge_view`] says.
 ///
 /// # Errors
-/// `AllocError` where a growth was refused: only where the attribute is kept.
+/// `AllocError` where an allocation failed: only where the attribute is kept.
 pub fn judge(
     alloc: Global,
     ctx: &Context,

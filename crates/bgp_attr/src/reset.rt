@@ -3,20 +3,20 @@
 ghost use Rattle.std.specs.Prelude.{◌≡◌, ◌≤◌, length, Some};
 ghost use Rattle.bgp_attr.specs.TlvView.{tlv_value};
 ghost use Rattle.bgp_attr.specs.Refusal.{reset_with};
-ghost use Rattle.bgp_attr.specs.JudgedView.{judged_value};
+ghost use Rattle.bgp_attr.specs.FoundAttr.{found_attr_value};
 ghost use Rattle.bgp_attr.specs.Judgement.{refusal_judged};
 
-use crate::judged_view::JudgedView;
+use crate::found_attr::FoundAttr;
 use crate::tlv::Tlv;
 use bgp_frame::NotificationView;
 use bgp_numbers::error::UPDATE_MESSAGE;
 
 /// The reset of this subcode, with the whole attribute as it was received (RFC 4271, section 6.3).
-pub(crate) fn reset<'a>(subcode: u8, tlv: &Tlv<'a>) -> JudgedView<'a>
+pub(crate) fn reset<'a>(subcode: u8, tlv: &Tlv<'a>) -> FoundAttr<'a>
     requires { length tlv.now.whole.now ≤ 4075 }
-    ensures { judged_value result ≡ refusal_judged (reset_with subcode (tlv_value tlv.now)) }
+    ensures { found_attr_value result ≡ refusal_judged (reset_with subcode (tlv_value tlv.now)) }
 {
-    JudgedView::Reset(NotificationView {
+    FoundAttr::Reset(NotificationView {
         code: UPDATE_MESSAGE,
         subcode,
         info: tlv.whole,

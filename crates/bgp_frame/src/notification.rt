@@ -28,6 +28,13 @@ impl Notification {
             info: copy,
         }
     }
+
+    /// An equal notification. It takes no memory.
+    pub fn copy(&self) -> Notification
+        ensures { result ≡ self.now }
+    {
+        Notification::new(self.code, self.subcode, &self.info)
+    }
 }
 
 /// A NOTIFICATION whose information still lies in the octets that are at fault: a few words in place of 4 KB.

@@ -1,9 +1,12 @@
 //! What a session wants done.
 
+ghost use Rattle.std.specs.Prelude.{◌≡◌, IfOk};
+
 use crate::timer::Timer;
 use arrayvec::ArrayVec;
 use bgp_frame::Notification;
 use bgp_update::{PathInfo, Routes, Update};
+use std::alloc::{AllocError, Global};
 
 /// What the one who runs a session has to do.
 #[derive(Debug, Drop, PartialEq)]
@@ -42,5 +45,33 @@ impl Default for Action {
 
     fn default() -> Action {
         Action::Close
+    }
+}
+
+impl Action {
+    /// An equal action, with memory of its own.
+    ///
+    /// # Errors
+    /// `AllocError` where an allocation failed.
+    pub fn copy(&self, alloc: Global) -> Result<Action, AllocError>
+        ensures { IfOk result (λ copy. copy ≡ self.now) }
+    {
+        match self {
+            Action::Connect => Ok(Action::Connect),
+            Action::Close => Ok(Action::Close),
+            Action::SendOpen => Ok(Action::SendOpen),
+            Action::SendKeepalive => Ok(Action::SendKeepalive),
+            Action::SendNotification(notification) => {
+                Ok(Action::SendNotification(notification.copy()))
+            }
+            Action::Arm(timer, seconds) => Ok(Action::Arm(*timer, *seconds)),
+            Action::Disarm(timer) => Ok(Action::Disarm(*timer)),
+            Action::Announce(update, info) => {
+                let update = update.copy(alloc)?;
+                Ok(Action::Announce(update, info.copy(alloc)?))
+            }
+            Action::Withdraw(routes) => Ok(Action::Withdraw(routes.copy(alloc)?)),
+            Action::Flush => Ok(Action::Flush),
+        }
     }
 }

@@ -18,7 +18,7 @@ use crate::timer::Timer;
 use bgp_frame::{Frame, HeadFault, Kind, Notification};
 use bgp_numbers::error;
 use bgp_open::{Config, Context, OpenFault, agree, read_open};
-use bgp_update::{View, onward, reconcile, view_update};
+use bgp_update::{Found, judge_update, onward, reconcile};
 use std::alloc::{AllocError, Global};
 
 /// The NOTIFICATION of a message whose type doesn't belong in the state: its information is the type (RFC 6608, section 3).
@@ -110,19 +110,19 @@ impl Standing {
         ensures err { OnErr result (self.new ≡ self.old) }
         ensures memory { OnErr result (has_value (verdict_of context.now body.now) ≡ true) }
     {
-        match view_update(context, body) {
-            View::Take(view) => {
+        match judge_update(context, body) {
+            Found::Take(view) => {
                 let update = view.own(alloc)?;
                 let info = reconcile(alloc, &update.attrs)?;
                 actions.push(Action::Announce(onward(update), info));
                 self.hold_on(*context, actions);
             }
-            View::Withdraw(view) => {
+            Found::Withdraw(view) => {
                 let routes = view.routes(alloc)?;
                 actions.push(Action::Withdraw(routes));
                 self.hold_on(*context, actions);
             }
-            View::Reset(why) => self.reset(why.own(), actions),
+            Found::Reset(why) => self.reset(why.own(), actions),
         }
         Ok(())
     }

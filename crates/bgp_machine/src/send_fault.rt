@@ -1,6 +1,8 @@
 //! Why an UPDATE isn't sent.
 
 use bgp_update::Invalid;
+use bgp_wire::TryCopy;
+use std::alloc::{AllocError, Global};
 
 /// Why an UPDATE isn't sent: the first reason in this order.
 #[derive(Clone, Copy, Debug, PartialEq, Eq)]
@@ -13,4 +15,10 @@ pub enum SendFault {
     TooLong,
     /// 4: a growth was refused.
     Memory,
+}
+
+impl TryCopy for SendFault {
+    fn try_copy(&self, _alloc: Global) -> Result<SendFault, AllocError> {
+        Ok(*self)
+    }
 }

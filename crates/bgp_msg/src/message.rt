@@ -40,11 +40,7 @@ impl Message {
         match self {
             Message::Open(open) => Ok(Message::Open(open.copy(alloc)?)),
             Message::Update(update) => Ok(Message::Update(update.copy(alloc)?)),
-            Message::Notification(notification) => Ok(Message::Notification(Notification::new(
-                notification.code,
-                notification.subcode,
-                &notification.info,
-            ))),
+            Message::Notification(notification) => Ok(Message::Notification(notification.copy())),
             Message::Keepalive => Ok(Message::Keepalive),
         }
     }

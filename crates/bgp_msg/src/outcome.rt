@@ -1,12 +1,13 @@
 //! What a message comes to.
 
-ghost use Rattle.std.specs.Prelude.{◌≡◌};
+ghost use Rattle.std.specs.Prelude.{◌≡◌, IfOk};
 ghost use Rattle.bgp_msg.specs.Outcome.{is_reset};
 
 use crate::message::Message;
 use bgp_frame::Notification;
 use bgp_update::{Note, Routes};
-use bgp_wire::List;
+use bgp_wire::{List, TryCopy};
+use std::alloc::{AllocError, Global};
 
 /// What a message, or the header of one, comes to.
 #[derive(Debug, Drop, PartialEq)]
@@ -28,5 +29,30 @@ impl Outcome {
             Outcome::Reset(_) => true,
             _ => false,
         }
+    }
+    /// An equal outcome, with memory of its own.
+    ///
+    /// # Errors
+    /// `AllocError` where an allocation failed.
+    pub fn copy(&self, alloc: Global) -> Result<Outcome, AllocError>
+        ensures { IfOk result (λ copy. copy ≡ self.now) }
+    {
+        match self {
+            Outcome::Took(message, notes) => {
+                let message = message.copy(alloc)?;
+                Ok(Outcome::Took(message, notes.copy(alloc)?))
+            }
+            Outcome::Withdraw(routes, notes) => {
+                let routes = routes.copy(alloc)?;
+                Ok(Outcome::Withdraw(routes, notes.copy(alloc)?))
+            }
+            Outcome::Reset(notification) => Ok(Outcome::Reset(notification.copy())),
+        }
+    }
+}
+
+impl TryCopy for Outcome {
+    fn try_copy(&self, alloc: Global) -> Result<Outcome, AllocError> {
+        self.copy(alloc)
     }
 }

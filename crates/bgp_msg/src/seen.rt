@@ -1,8 +1,11 @@
 //! What a stream comes to.
 
+ghost use Rattle.std.specs.Prelude.{◌≡◌, IfOk};
+
 use crate::outcome::Outcome;
 use bgp_frame::End;
 use bgp_wire::List;
+use std::alloc::{AllocError, Global};
 
 /// What a stream of octets comes to: for each message its octets in number and its outcome, and how the stream ends. A header's fault
 /// is the last outcome, of no octets.
@@ -10,4 +13,20 @@ use bgp_wire::List;
 pub struct Seen {
     pub outs: List<(u16, Outcome)>,
     pub end: End,
+}
+
+impl Seen {
+    /// An equal value, with memory of its own.
+    ///
+    /// # Errors
+    /// `AllocError` where an allocation failed.
+    pub fn copy(&self, alloc: Global) -> Result<Seen, AllocError>
+        ensures { IfOk result (λ copy. copy ≡ self.now) }
+    {
+        let outs = self.outs.copy(alloc)?;
+        Ok(Seen {
+            outs,
+            end: self.end,
+        })
+    }
 }

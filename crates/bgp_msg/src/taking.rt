@@ -13,7 +13,7 @@ use crate::outcome_view::OutcomeView;
 use bgp_frame::{Frame, Kind, NotificationView};
 use bgp_numbers::error;
 use bgp_open::{Context, OpenFault, view_open};
-use bgp_update::{View, view_update};
+use bgp_update::{Found, judge_update};
 use std::alloc::{AllocError, Global};
 
 /// How an OPEN with this fault ends the session.
@@ -46,10 +46,10 @@ fn view_of_update<'a>(ctx: &Context, body: &'a [u8]) -> OutcomeView<'a>
     requires { length body.now ≤ 4077 }
     ensures { outcome_value result ≡ of_verdict (verdict_of ctx.now body.entry.now) }
 {
-    match view_update(ctx, body) {
-        View::Take(view) => OutcomeView::Update(view),
-        View::Withdraw(view) => OutcomeView::Withdraw(view),
-        View::Reset(why) => OutcomeView::Reset(why),
+    match judge_update(ctx, body) {
+        Found::Take(view) => OutcomeView::Update(view),
+        Found::Withdraw(view) => OutcomeView::Withdraw(view),
+        Found::Reset(why) => OutcomeView::Reset(why),
     }
 }
 

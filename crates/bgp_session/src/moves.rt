@@ -1,8 +1,11 @@
 //! What moves a pair.
 
+ghost use Rattle.std.specs.Prelude.{◌≡◌, IfOk};
+
 use crate::side::Side;
 use bgp_machine::Timer;
 use bgp_update::Update;
+use std::alloc::{AllocError, Global};
 
 /// One move of a schedule: what happens to one side, or to the connection.
 #[derive(Debug, Drop, PartialEq)]
@@ -24,4 +27,25 @@ pub enum Move {
     Expire(Side, Timer),
     /// The side sends this UPDATE, where its session lets it.
     Send(Side, Update),
+}
+
+impl Move {
+    /// An equal move, with memory of its own.
+    ///
+    /// # Errors
+    /// `AllocError` where an allocation failed.
+    pub fn copy(&self, alloc: Global) -> Result<Move, AllocError>
+        ensures { IfOk result (λ copy. copy ≡ self.now) }
+    {
+        match self {
+            Move::Start(side) => Ok(Move::Start(*side)),
+            Move::Stop(side) => Ok(Move::Stop(*side)),
+            Move::Join => Ok(Move::Join),
+            Move::Refuse(side) => Ok(Move::Refuse(*side)),
+            Move::Deliver(side, count) => Ok(Move::Deliver(*side, *count)),
+            Move::Lose => Ok(Move::Lose),
+            Move::Expire(side, timer) => Ok(Move::Expire(*side, *timer)),
+            Move::Send(side, update) => Ok(Move::Send(*side, update.copy(alloc)?)),
+        }
+    }
 }

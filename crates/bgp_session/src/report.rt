@@ -1,9 +1,12 @@
 //! What comes of a schedule.
 
+ghost use Rattle.std.specs.Prelude.{◌≡◌, IfOk};
+
 use crate::side::Side;
 use bgp_machine::{SendFault, State};
 use bgp_update::{PathInfo, Routes, Update};
-use bgp_wire::List;
+use bgp_wire::{List, TryCopy};
+use std::alloc::{AllocError, Global};
 
 /// What both sides said and heard over one connection, each in order.
 #[derive(Debug, Drop, PartialEq)]
@@ -32,4 +35,57 @@ pub struct Report {
     pub states: (State, State),
     /// What the wire answered to each `join` and `pass`, in order.
     pub answers: List<bool>,
+}
+
+impl Round {
+    /// An equal round, with memory of its own.
+    ///
+    /// # Errors
+    /// `AllocError` where an allocation failed.
+    pub fn copy(&self, alloc: Global) -> Result<Round, AllocError>
+        ensures { IfOk result (λ copy. copy ≡ self.now) }
+    {
+        let sent_a = self.sent_a.copy(alloc)?;
+        let sent_b = self.sent_b.copy(alloc)?;
+        let got_a = self.got_a.copy(alloc)?;
+        let got_b = self.got_b.copy(alloc)?;
+        let gone_a = self.gone_a.copy(alloc)?;
+        let gone_b = self.gone_b.copy(alloc)?;
+        let notes = self.notes.copy(alloc)?;
+        Ok(Round {
+            sent_a,
+            sent_b,
+            got_a,
+            got_b,
+            gone_a,
+            gone_b,
+            notes,
+        })
+    }
+}
+
+impl TryCopy for Round {
+    fn try_copy(&self, alloc: Global) -> Result<Round, AllocError> {
+        self.copy(alloc)
+    }
+}
+
+impl Report {
+    /// An equal report, with memory of its own.
+    ///
+    /// # Errors
+    /// `AllocError` where an allocation failed.
+    pub fn copy(&self, alloc: Global) -> Result<Report, AllocError>
+        ensures { IfOk result (λ copy. copy ≡ self.now) }
+    {
+        let rounds = self.rounds.copy(alloc)?;
+        let refused = self.refused.copy(alloc)?;
+        let answers = self.answers.copy(alloc)?;
+        Ok(Report {
+            rounds,
+            refused,
+            states: self.states,
+            answers,
+        })
+    }
 }

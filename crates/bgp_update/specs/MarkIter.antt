@@ -1,7 +1,7 @@
 -- What borrowed marks are, and what an iterator of them has left.
 use Rattle.std.specs.Prelude.{◌≡◌, ℕ, ◌-◌, Bool, ◌||◌, ◌==◌, List, [], ◌++◌, length, if◌then◌else◌}
 use Rattle.std.specs.List.{list_any}
-use Rattle.bgp_attr.specs.JudgedView.{judged_value}
+use Rattle.bgp_attr.specs.FoundAttr.{found_attr_value}
 use Rattle.bgp_attr.specs.TlvIter.{tlvs_left, rest_left}
 use Rattle.bgp_update.specs.declared.mark.MarkView.{MarkView}
 use Rattle.bgp_update.specs.declared.mark.MarkIter.{MarkIter}
@@ -9,7 +9,7 @@ use Rattle.bgp_update.specs.Marks.{Mark, marks_behind, cut_mark}
 use Rattle.bgp_update.specs.Seen.{seen_types}
 
 abbrev pub mark_value : MarkView → Mark
-mark_value m = record { at = m.at; kind = m.kind; judged = judged_value m.judged }
+mark_value m = record { at = m.at; kind = m.kind; judged = found_attr_value m.judged }
 
 -- the marks still to come
 abbrev pub marks_left : MarkIter → List Mark

@@ -7,6 +7,8 @@ use Rattle.bgp_update.specs.declared.update.Update.{Update}
 use Rattle.bgp_update.specs.declared.verdict.Verdict.{Verdict}
 use Rattle.bgp_update.specs.declared.verdict.Verdict.TheVariants as verdict
 use Rattle.bgp_update.specs.declared.view.UpdateView.{UpdateView}
+use Rattle.bgp_update.specs.declared.found.Found.{Found}
+use Rattle.bgp_update.specs.declared.found.Found.TheVariants as found
 use Rattle.bgp_update.specs.declared.view.View.{View}
 use Rattle.bgp_update.specs.declared.view.View.TheVariants as view
 use Rattle.bgp_update.specs.Body.{parts_value}
@@ -31,4 +33,9 @@ routes_value v = routes_of (parts_value v.body) (view_marks v)
 abbrev pub view_value : View → Verdict
 view_value (view.Take v) = verdict.Take (update_value v) (notes_value v)
 view_value (view.Withdraw v) = verdict.Withdraw (routes_value v) (notes_value v)
-view_value (view.Reset n) = verdict.Reset (notification_of_view n)
+view_value (view.Reset n) = verdict.Reset n
+
+abbrev pub found_value : Found → Verdict
+found_value (found.Take v) = verdict.Take (update_value v) (notes_value v)
+found_value (found.Withdraw v) = verdict.Withdraw (routes_value v) (notes_value v)
+found_value (found.Reset n) = verdict.Reset (notification_of_view n)

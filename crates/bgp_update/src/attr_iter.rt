@@ -6,7 +6,7 @@ ghost use Rattle.bgp_update.specs.MarkIter.{marks_left};
 ghost use Rattle.bgp_update.specs.Taken.{kept_of};
 
 use crate::mark::MarkIter;
-use bgp_attr::{AttrView, JudgedView};
+use bgp_attr::{AttrView, FoundAttr};
 use std::iter::FusedIterator;
 
 /// The attributes of a message that are kept, by place. It takes no memory.
@@ -32,7 +32,7 @@ fn first_kept<'a>(marks: &mut MarkIter<'a>) -> Option<AttrView<'a>>
         (λ a. kept_of (marks_left marks.old) ≡ attr_value a ∷ kept_of (marks_left marks.new)) }
 {
     'field: while let Some(mark) = marks.next() {
-        if let JudgedView::Keep(attr) = mark.judged {
+        if let FoundAttr::Keep(attr) = mark.judged {
             return Some(attr);
         }
     }

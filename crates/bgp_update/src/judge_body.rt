@@ -7,9 +7,10 @@ ghost use Rattle.bgp_update.specs.Body.{parts_value};
 ghost use Rattle.bgp_update.specs.Marks.{marks_of};
 ghost use Rattle.bgp_update.specs.Notes.{has_routes, is_missing};
 ghost use Rattle.bgp_update.specs.Verdict.{bad_network, reset_of_run, verdict_on, verdict_of};
-ghost use Rattle.bgp_update.specs.View.{view_value};
+ghost use Rattle.bgp_update.specs.View.{view_value, found_value};
 
 use crate::body::{Body, split_body};
+use crate::found::Found;
 use crate::malformed::malformed;
 use crate::missing::{Missing, missing_in};
 use crate::summary::summarize;
@@ -62,41 +63,49 @@ fn is_missing(missing: Missing) -> bool
 }
 
 /// The verdict on parts of a body.
-fn judge_body<'a>(ctx: &Context, body: Body<'a>) -> View<'a>
+fn judge_body<'a>(ctx: &Context, body: Body<'a>) -> Found<'a>
     requires { length body.withdrawn.now + length body.attributes.now ≤ 4073 }
-    ensures { view_value result ≡ verdict_on (parts_value body.entry) (marks_of ctx.now (parts_value body.entry)) }
+    ensures { found_value result ≡ verdict_on (parts_value body.entry) (marks_of ctx.now (parts_value body.entry)) }
 {
     let has_nlri = !body.nlri.is_empty();
     let (summary, types) = summarize(ctx, has_nlri, body.attributes);
     if let Some(reset) = summary.reset {
-        return View::Reset(reset);
+        return Found::Reset(reset);
     }
     if let Some(reset) = reset_of_run(body.withdrawn) {
-        return View::Reset(reset);
+        return Found::Reset(reset);
     }
     if let Some(reset) = reset_of_run(body.nlri) {
-        return View::Reset(reset);
+        return Found::Reset(reset);
     }
     let reaches = has_nlri || has_routes(summary.reach);
     let missing = missing_in(reaches, has_nlri, &types);
     let view = UpdateView::new(ctx, body, missing, &summary);
     if !summary.withdraws && !is_missing(missing) {
-        return View::Take(view);
+        return Found::Take(view);
     }
     if reaches {
-        View::Withdraw(view)
+        Found::Withdraw(view)
     } else {
-        View::Reset(malformed())
+        Found::Reset(malformed())
     }
 }
 
 /// What the body of an UPDATE, of at most 4077 octets, comes to in a context, without memory (RFC 4271, section 6.3; RFC 7606).
+pub fn judge_update<'a>(ctx: &Context, body: &'a [u8]) -> Found<'a>
+    requires { length body.now ≤ 4077 }
+    ensures { found_value result ≡ verdict_of ctx.now body.now }
+{
+    match split_body(body) {
+        None => Found::Reset(malformed()),
+        Some(parts) => judge_body(ctx, parts),
+    }
+}
+
+/// What the body of an UPDATE comes to, as [`judge_update`] says, with a notification of its own.
 pub fn view_update<'a>(ctx: &Context, body: &'a [u8]) -> View<'a>
     requires { length body.now ≤ 4077 }
     ensures { view_value result ≡ verdict_of ctx.now body.now }
 {
-    match split_body(body) {
-        None => View::Reset(malformed()),
-        Some(parts) => judge_body(ctx, parts),
-    }
+    judge_update(ctx, body).into_view()
 }

@@ -8,6 +8,7 @@ mod attr_iter;
 mod attrs;
 mod body;
 mod failed;
+mod found;
 mod gather;
 mod invalid;
 mod judge_body;
@@ -36,8 +37,9 @@ mod write;
 
 pub use attr_iter::AttrIter;
 pub use attrs::Attrs;
+pub use found::Found;
 pub use invalid::Invalid;
-pub use judge_body::view_update;
+pub use judge_body::{judge_update, view_update};
 pub use note::Note;
 pub use note_iter::NoteIter;
 pub use passing_on::onward;

@@ -1,11 +1,11 @@
 //! Attributes that repeat, or that are cut off.
 
 ghost use Rattle.std.specs.Prelude.{◌≡◌, ◌<◌, length};
-ghost use Rattle.bgp_attr.specs.JudgedView.{judged_value};
+ghost use Rattle.bgp_attr.specs.FoundAttr.{found_attr_value};
 ghost use Rattle.bgp_frame.specs.Notification.{notification_of_view};
 ghost use Rattle.bgp_update.specs.Marks.{malformed, carries_routes, repeated, cut_kind, cut};
 
-use bgp_attr::{JudgedView, Why};
+use bgp_attr::{FoundAttr, Why};
 use bgp_frame::NotificationView;
 use bgp_numbers::attribute::{MP_REACH_NLRI, MP_UNREACH_NLRI};
 use bgp_numbers::error::{MALFORMED_ATTRIBUTE_LIST, UPDATE_MESSAGE};
@@ -29,13 +29,13 @@ fn carries_routes(kind: u8) -> bool
 }
 
 /// What a second attribute of a type comes to.
-pub(crate) fn repeated(kind: u8) -> JudgedView<'static>
-    ensures { judged_value result ≡ repeated kind }
+pub(crate) fn repeated(kind: u8) -> FoundAttr<'static>
+    ensures { found_attr_value result ≡ repeated kind }
 {
     if carries_routes(kind) {
-        JudgedView::Reset(malformed())
+        FoundAttr::Reset(malformed())
     } else {
-        JudgedView::Discard(Why::Repeated)
+        FoundAttr::Discard(Why::Repeated)
     }
 }
 
@@ -47,12 +47,12 @@ pub(crate) fn cut_kind(rest: &[u8]) -> u8
 }
 
 /// What an attribute that is cut off comes to.
-pub(crate) fn cut(rest: &[u8]) -> JudgedView<'static>
-    ensures { judged_value result ≡ cut rest.now }
+pub(crate) fn cut(rest: &[u8]) -> FoundAttr<'static>
+    ensures { found_attr_value result ≡ cut rest.now }
 {
     if rest.len() > 1 && carries_routes(cut_kind(rest)) {
-        JudgedView::Reset(malformed())
+        FoundAttr::Reset(malformed())
     } else {
-        JudgedView::Withdraw(Why::Cut)
+        FoundAttr::Withdraw(Why::Cut)
     }
 }

@@ -7,7 +7,7 @@ ghost use Rattle.bgp_update.specs.Small.{is_small};
 
 use crate::malformed::{cut, cut_kind, repeated};
 use crate::seen::Seen;
-use bgp_attr::{JudgedView, Tail, TlvIter, judge_view};
+use bgp_attr::{FoundAttr, Tail, TlvIter, judge_attribute};
 use bgp_open::Context;
 use std::iter::FusedIterator;
 
@@ -16,7 +16,7 @@ use std::iter::FusedIterator;
 pub(crate) struct MarkView<'a> {
     pub(crate) at: usize,
     pub(crate) kind: u8,
-    pub(crate) judged: JudgedView<'a>,
+    pub(crate) judged: FoundAttr<'a>,
     pub(crate) ghost small: { at ≤ 4075 },
 }
 
@@ -70,7 +70,7 @@ impl<'a> MarkIter<'a> {
             let judged = if self.seen.contains(kind) {
                 repeated(kind)
             } else {
-                judge_view(&self.ctx, self.has_nlri, &tlv)
+                judge_attribute(&self.ctx, self.has_nlri, &tlv)
             };
             self.seen.insert(kind);
             return Some(MarkView {

@@ -8,7 +8,7 @@ ghost use Rattle.bgp_update.specs.Notes.{mark_notes, missing_notes};
 use crate::mark::MarkIter;
 use crate::missing::Missing;
 use crate::note::Note;
-use bgp_attr::{JudgedView, Why};
+use bgp_attr::{FoundAttr, Why};
 use bgp_numbers::attribute::{AS_PATH, NEXT_HOP, ORIGIN};
 use std::iter::FusedIterator;
 
@@ -45,7 +45,7 @@ fn first_note(field_at: usize, marks: &mut MarkIter<'_>) -> Option<Note>
         (λ n. flat_map (mark_notes field_at) (marks_left marks.old) ≡ n ∷ flat_map (mark_notes field_at) (marks_left marks.new)) }
 {
     'field: while let Some(mark) = marks.next() {
-        if let JudgedView::Discard(why) | JudgedView::Withdraw(why) = mark.judged {
+        if let FoundAttr::Discard(why) | FoundAttr::Withdraw(why) = mark.judged {
             return Some(Note {
                 at: (field_at + mark.at) as u16,
                 kind: mark.kind,

@@ -3,6 +3,7 @@
 ghost use Rattle.std.specs.Prelude.{◌≡◌, IfOk};
 
 use bgp_attr::{Aggregator, AsPath};
+use bgp_wire::TryCopy;
 use std::alloc::{AllocError, Global};
 
 /// The path and the aggregator that AS4_PATH and AS4_AGGREGATOR give back (RFC 6793, section 4.2.3).
@@ -28,5 +29,11 @@ impl PathInfo {
             path,
             aggregator: self.aggregator,
         })
+    }
+}
+
+impl TryCopy for PathInfo {
+    fn try_copy(&self, alloc: Global) -> Result<PathInfo, AllocError> {
+        self.copy(alloc)
     }
 }

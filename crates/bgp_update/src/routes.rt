@@ -3,7 +3,7 @@
 ghost use Rattle.std.specs.Prelude.{◌≡◌, IfOk};
 
 use bgp_prefix::{Prefix4, Prefix6};
-use bgp_wire::List;
+use bgp_wire::{List, TryCopy};
 use std::alloc::{AllocError, Global};
 
 /// All routes of a message, announced and withdrawn alike (RFC 7606, section 2). Repeats stay.
@@ -26,5 +26,11 @@ impl Routes {
         let ip4 = self.ip4.copy(alloc)?;
         let ip6 = self.ip6.copy(alloc)?;
         Ok(Routes { ip4, ip6 })
+    }
+}
+
+impl TryCopy for Routes {
+    fn try_copy(&self, alloc: Global) -> Result<Routes, AllocError> {
+        self.copy(alloc)
     }
 }

@@ -1,7 +1,7 @@
 //! What all marks of a field come to.
 
 ghost use Rattle.std.specs.Prelude.{◌≡◌, ℕ, ◌≤◌, [], ◌∷◌, length};
-ghost use Rattle.bgp_attr.specs.JudgedView.{judged_value};
+ghost use Rattle.bgp_attr.specs.FoundAttr.{found_attr_value};
 ghost use Rattle.bgp_update.specs.MarkIter.{mark_value};
 ghost use Rattle.bgp_update.specs.Marks.{field_marks};
 ghost use Rattle.bgp_update.specs.Notes.{types_of_field};
@@ -10,7 +10,7 @@ ghost use Rattle.bgp_update.specs.Summary.{is_noted, summary_value, summary_behi
 
 use crate::mark::{MarkIter, MarkView};
 use crate::seen::Seen;
-use bgp_attr::{AttrView, JudgedView, MpReachView, MpUnreachView};
+use bgp_attr::{AttrView, FoundAttr, MpReachView, MpUnreachView};
 use bgp_frame::NotificationView;
 use bgp_open::Context;
 
@@ -30,12 +30,12 @@ pub(crate) struct Summary<'a> {
 }
 
 /// Whether what an attribute comes to has a note.
-fn is_noted(judged: &JudgedView<'_>) -> bool
-    ensures { result ≡ is_noted (judged_value judged.now) }
+fn is_noted(judged: &FoundAttr<'_>) -> bool
+    ensures { result ≡ is_noted (found_attr_value judged.now) }
 {
     match judged {
-        JudgedView::Discard(_) | JudgedView::Withdraw(_) => true,
-        JudgedView::Keep(_) | JudgedView::Reset(_) => false,
+        FoundAttr::Discard(_) | FoundAttr::Withdraw(_) => true,
+        FoundAttr::Keep(_) | FoundAttr::Reset(_) => false,
     }
 }
 
@@ -59,13 +59,13 @@ impl<'a> Summary<'a> {
     {
         self.notes |= is_noted(&mark.judged);
         match mark.judged {
-            JudgedView::Reset(found) => self.reset = self.reset.or(Some(found)),
-            JudgedView::Withdraw(_) => self.withdraws = true,
-            JudgedView::Keep(AttrView::MpReach(found)) => self.reach = self.reach.or(Some(found)),
-            JudgedView::Keep(AttrView::MpUnreach(found)) => {
+            FoundAttr::Reset(found) => self.reset = self.reset.or(Some(found)),
+            FoundAttr::Withdraw(_) => self.withdraws = true,
+            FoundAttr::Keep(AttrView::MpReach(found)) => self.reach = self.reach.or(Some(found)),
+            FoundAttr::Keep(AttrView::MpUnreach(found)) => {
                 self.unreach = self.unreach.or(Some(found));
             }
-            JudgedView::Keep(_) | JudgedView::Discard(_) => {}
+            FoundAttr::Keep(_) | FoundAttr::Discard(_) => {}
         }
     }
 }

@@ -4,7 +4,7 @@ ghost use Rattle.std.specs.Prelude.{◌≡◌, IfOk};
 
 use crate::attrs::Attrs;
 use bgp_prefix::Prefix4;
-use bgp_wire::List;
+use bgp_wire::{List, TryCopy};
 use std::alloc::{AllocError, Global};
 
 /// What an UPDATE says (RFC 4271, section 4.3).
@@ -33,5 +33,11 @@ impl Update {
             attrs,
             nlri,
         })
+    }
+}
+
+impl TryCopy for Update {
+    fn try_copy(&self, alloc: Global) -> Result<Update, AllocError> {
+        self.copy(alloc)
     }
 }

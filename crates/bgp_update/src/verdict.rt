@@ -1,10 +1,13 @@
 //! What an UPDATE comes to.
 
+ghost use Rattle.std.specs.Prelude.{◌≡◌, IfOk};
+
 use crate::note::Note;
 use crate::routes::Routes;
 use crate::update::Update;
 use bgp_frame::Notification;
 use bgp_wire::List;
+use std::alloc::{AllocError, Global};
 
 /// What the body of an UPDATE comes to (RFC 7606, section 3).
 #[derive(Debug, Drop, PartialEq)]
@@ -15,4 +18,26 @@ pub enum Verdict {
     Withdraw(Routes, List<Note>),
     /// The session ends with this notification.
     Reset(Notification),
+}
+
+impl Verdict {
+    /// An equal verdict, with memory of its own.
+    ///
+    /// # Errors
+    /// `AllocError` where an allocation failed.
+    pub fn copy(&self, alloc: Global) -> Result<Verdict, AllocError>
+        ensures { IfOk result (λ copy. copy ≡ self.now) }
+    {
+        match self {
+            Verdict::Take(update, notes) => {
+                let update = update.copy(alloc)?;
+                Ok(Verdict::Take(update, notes.copy(alloc)?))
+            }
+            Verdict::Withdraw(routes, notes) => {
+                let routes = routes.copy(alloc)?;
+                Ok(Verdict::Withdraw(routes, notes.copy(alloc)?))
+            }
+            Verdict::Reset(notification) => Ok(Verdict::Reset(notification.copy())),
+        }
+    }
 }

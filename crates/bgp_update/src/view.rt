@@ -20,7 +20,7 @@ use crate::routes::Routes;
 use crate::summary::Summary;
 use crate::update::Update;
 use bgp_attr::{MpReachView, MpUnreachView};
-use bgp_frame::NotificationView;
+use bgp_frame::Notification;
 use bgp_open::Context;
 use bgp_prefix::PrefixIter4;
 use bgp_wire::List;
@@ -43,14 +43,14 @@ pub struct UpdateView<'a> {
 }
 
 /// What the body of an UPDATE comes to (RFC 7606, section 3), borrowed.
-#[derive(Clone, Copy, Debug)]
+#[derive(Debug, Drop)]
 pub enum View<'a> {
     /// It is taken with the attributes that are kept.
     Take(UpdateView<'a>),
     /// All its routes are withdrawn.
     Withdraw(UpdateView<'a>),
     /// The session ends with this notification.
-    Reset(NotificationView<'a>),
+    Reset(Notification),
 }
 
 impl<'a> UpdateView<'a> {

@@ -1,7 +1,7 @@
 //! Headers, framers and NOTIFICATIONs.
 
-use bgp_frame::*;
 use arrayvec::ArrayVec;
+use bgp_frame::*;
 use std::process::Abort;
 use std::test::*;
 

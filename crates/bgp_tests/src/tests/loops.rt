@@ -1,7 +1,7 @@
 //! What no clause says: worked scripts over memory and over TCP, and writers that fail.
 
-use bgp_loop::*;
 use bgp_engine::{End, Tally, ToolFault, status};
+use bgp_loop::*;
 use bgp_script::SCRIPT_MAX;
 use bgp_session::{MemoryWire, Side, Wire};
 use std::io;

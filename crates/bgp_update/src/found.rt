@@ -1,0 +1,32 @@
+//! What an UPDATE comes to, in some words that point into its octets.
+
+ghost use Rattle.std.specs.Prelude.{◌≡◌};
+ghost use Rattle.bgp_update.specs.View.{view_value, found_value};
+
+use crate::view::{UpdateView, View};
+use bgp_frame::NotificationView;
+
+/// What the body of an UPDATE comes to, as [`View`] says, with the information of a NOTIFICATION borrowed too: those to whom time matters
+/// match on this, since a `View` has room for 4 KB.
+#[derive(Clone, Copy, Debug)]
+pub enum Found<'a> {
+    /// It is taken with the attributes that are kept.
+    Take(UpdateView<'a>),
+    /// All its routes are withdrawn.
+    Withdraw(UpdateView<'a>),
+    /// The session ends with this notification.
+    Reset(NotificationView<'a>),
+}
+
+impl<'a> Found<'a> {
+    /// The same, with a notification of its own.
+    pub fn into_view(self) -> View<'a>
+        ensures { view_value result ≡ found_value self.entry }
+    {
+        match self {
+            Found::Take(view) => View::Take(view),
+            Found::Withdraw(view) => View::Withdraw(view),
+            Found::Reset(notification) => View::Reset(notification.own()),
+        }
+    }
+}
