@@ -1,19 +1,19 @@
 //! All rows of a file.
 
-use crate::attributes::put_attributes;
-use crate::changes::put_changes;
-use crate::contexts::{CASES, Case, Contexts};
-use crate::engines::put_engine;
-use crate::messages::put_messages;
-use crate::octets::{Octets, add_given};
-use crate::page::Page;
-use crate::paths::put_paths;
-use crate::row::Row;
 use crate::scripts::put_script;
 use crate::sessions::put_session;
 use crate::speakers::put_speaker;
-use crate::trouble::Trouble;
-use crate::written::put_written;
+use bgp_rows::attributes::put_attributes;
+use bgp_rows::changes::put_changes;
+use bgp_rows::contexts::{CASES, Case, Contexts};
+use bgp_rows::engines::put_engine;
+use bgp_rows::messages::put_messages;
+use bgp_rows::octets::{Octets, add_given};
+use bgp_rows::page::Page;
+use bgp_rows::paths::put_paths;
+use bgp_rows::row::Row;
+use bgp_rows::trouble::Trouble;
+use bgp_rows::written::put_written;
 use std::alloc::Global;
 use std::io;
 

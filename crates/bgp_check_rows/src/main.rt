@@ -2,23 +2,11 @@
 //! The words name the files; with no word the rows come on standard input. Prints each row that fails, and how many there were.
 #![tactic(auto)]
 
-mod attributes;
-mod changes;
-mod contexts;
-mod engines;
 mod file;
-mod messages;
-mod octets;
-mod page;
-mod paths;
-mod row;
 mod scripts;
 mod sessions;
-mod sheet;
 mod speakers;
 mod steps;
-mod trouble;
-mod written;
 
 use file::check_file;
 use std::fs::{self, Files};

@@ -1,9 +1,9 @@
 //! Two speakers that make a script's moves over memory.
 
-use crate::page::Page;
-use crate::row::Row;
-use crate::trouble::Trouble;
 use bgp_open::Config;
+use bgp_rows::page::Page;
+use bgp_rows::row::Row;
+use bgp_rows::trouble::Trouble;
 use bgp_script::{SCRIPT_MAX, Script, ScriptFault, put_report, read_script};
 use bgp_session::{MemoryWire, Report, run_pair};
 use std::alloc::{AllocError, Global};

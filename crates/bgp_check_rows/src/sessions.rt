@@ -1,15 +1,15 @@
 //! A session's events, octets and sends, and what it does of each.
 
-use crate::octets::{Octets, add_octets};
-use crate::page::Page;
-use crate::row::{Row, split_word};
 use crate::scripts::config_of;
 use crate::steps::{put_actions, put_standing};
-use crate::trouble::Trouble;
-use crate::written::message_of;
 use bgp_frame::head;
 use bgp_msg::{Kind, Message};
 use bgp_open::Context;
+use bgp_rows::octets::{Octets, add_octets};
+use bgp_rows::page::Page;
+use bgp_rows::row::{Row, split_word};
+use bgp_rows::trouble::Trouble;
+use bgp_rows::written::message_of;
 use bgp_session::{Actions, Event, SendFault, Session, Timer};
 use bgp_update::Update;
 use std::alloc::Global;

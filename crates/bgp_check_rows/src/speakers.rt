@@ -1,13 +1,13 @@
 //! What a speaker says of itself, and what it agrees on with a peer's OPEN.
 
-use crate::octets::{Octets, add_given};
-use crate::page::Page;
-use crate::row::Row;
 use crate::scripts::config_of;
-use crate::trouble::Trouble;
-use crate::written::message_of;
 use bgp_msg::Message;
 use bgp_open::{Context, Open, agree, own_frame, own_open};
+use bgp_rows::octets::{Octets, add_given};
+use bgp_rows::page::Page;
+use bgp_rows::row::Row;
+use bgp_rows::trouble::Trouble;
+use bgp_rows::written::message_of;
 use std::alloc::Global;
 
 /// In which context the messages of a pair are read: an OPEN is the same in each.

@@ -1,10 +1,10 @@
 //! What a session does, as lines.
 
-use crate::page::Page;
-use crate::paths::put_path;
 use crate::speakers::put_context;
-use crate::trouble::Trouble;
 use bgp_msg::Outcome;
+use bgp_rows::page::Page;
+use bgp_rows::paths::put_path;
+use bgp_rows::trouble::Trouble;
 use bgp_session::{Action, Actions, Session, Timer};
 use bgp_update::Routes;
 use bgp_wire::List;

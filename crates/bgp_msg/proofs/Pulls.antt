@@ -9,7 +9,7 @@ use Rattle.bgp_frame.proofs.FrameLemmas.{head_of-append, Stops-wanted, wanted-ap
 use Rattle.bgp_open.specs.declared.context.Context.{Context}
 use Rattle.bgp_msg.specs.declared.outcome.Outcome.{Outcome}
 use Rattle.bgp_msg.specs.Outcome.{out_of, of_fault, is_reset}
-use Rattle.bgp_msg.specs.Decoder.{Decoding, CountsFed, holding, IsFed, GivesMessage, GivesFault, IsNext, PullsNothing, PullsSome, PullsHeld, PullsFront, IsPulled, IsFedAndNext}
+use Rattle.bgp_msg.specs.Decoder.{Decoding, CountsFed, holding, behind, IsFed, GivesMessage, GivesFault, IsNext, PullsNothing, PullsSome, PullsHeld, PullsFront, IsPulled, IsFedAndNext}
 use Rattle.bgp_msg.proofs.Decodings.{nothing_waits}
 use Rattle.bgp_msg.proofs.Nexts.{at_hand, message_next}
 
@@ -71,6 +71,19 @@ module _ (ctx : Context) (held : List ℕ) (stopped : Bool) (piece : List ℕ) (
         takes = takes_front piece 19 long (inr (header, (f, faulty)));
         next = (going, inr (record { header = header; fault = f; faulty = faulty; count = refl; comes_to = comes }), behind_front o true (sym (ap is_reset comes)));
       })
+
+-- a message at the front that comes to what doesn't end the session
+pub pulls_front_message : (old new : Decoding) (piece : List ℕ) (m : Message) (n : ℕ) (o : Outcome) → old.stopped ≡ false → old.held ≡ []
+    → (n ≤ length piece) × IsFrame m (take n piece) → o ≡ out_of old.ctx m → new ≡ behind old o → IsPulled old piece n (Some (n, o)) new
+pulls_front_message old new piece m n o going none front comes is =
+    let count = length-take n piece in
+    let within = front.0 in
+    inr (record {
+      going = going;
+      none_held = none;
+      takes = takes_front piece n within (inl (m, front.1));
+      next = message_next old.ctx (take n piece) old.stopped m n o new going front.1 (omega arith) comes is;
+    })
 
 -- ---- a pull is a feed, and next where something comes
 

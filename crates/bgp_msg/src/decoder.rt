@@ -1,10 +1,12 @@
 //! Messages of a stream that comes in pieces.
 
-ghost use Rattle.std.specs.Prelude.{◌≡◌, ◌≤◌, ◌⊎◌, false, [], length, IfOk, OnErr};
-ghost use Rattle.bgp_msg.specs.Decoder.{fresh, IsFed, IsNext, TakesMemory, IsPulled, IsFedAndNext, FrontTakesMemory};
+ghost use Rattle.std.specs.Prelude.{◌≡◌, ◌<◌, ◌≤◌, ◌⊎◌, true, false, [], Some, length, IfOk, OnErr};
+ghost use Rattle.bgp_msg.specs.Decoder.{fresh, behind, IsFed, IsNext, TakesMemory, IsPulled, IsFedAndNext, FrontTakesMemory};
+ghost use Rattle.bgp_msg.specs.OutcomeView.{outcome_value, has_lists};
 
 use crate::outcome::Outcome;
-use crate::taking::out_frame;
+use crate::outcome_view::{OutcomeView, own_update};
+use crate::taking::{out_frame, view_frame};
 use bgp_frame::{Framer, Step, front};
 use bgp_open::Context;
 use std::alloc::{AllocError, Global};
@@ -127,6 +129,22 @@ impl Decoder {
         if self.framer.held() == 0 {
             return self.pull_front(alloc, piece);
         }
+        self.pull_held(alloc, piece)
+    }
+
+    /// Pulls where octets are held. An outcome is large, and so this stands apart from what is called for each message.
+    #[inline(never)]
+    fn pull_held(
+        &mut self,
+        alloc: Global,
+        piece: &[u8],
+    ) -> Result<(usize, Option<(u16, Outcome)>), AllocError>
+        requires going { self.old.stopped ≡ false }
+        requires some_held { 0 < length self.old.held }
+        ensures ok { IfOk result (λ r. IsPulled self.old piece.now r.0 r.1 self.new) }
+        ensures err { OnErr result (self.new ≡ self.old) }
+        ensures memory { OnErr result (TakesMemory self.old) }
+    {
         if let Some(found) = self.next(alloc)? {
             return Ok((0, Some(found)));
         }
@@ -134,6 +152,7 @@ impl Decoder {
     }
 
     /// Pulls from a piece where nothing is held.
+    #[inline(always)]
     fn pull_front(
         &mut self,
         alloc: Global,
@@ -149,14 +168,37 @@ impl Decoder {
             Step::More => Ok((self.feed(piece), None)),
             Step::Frame(frame) => {
                 let len = frame.len;
-                let judged = out_frame(alloc, &self.ctx, frame)?;
-                self.stopped = judged.is_reset();
-                Ok((len as usize, Some((len, judged))))
+                match view_frame(&self.ctx, frame) {
+                    OutcomeView::Update(view) => {
+                        let judged = own_update(alloc, &view)?;
+                        Ok((len as usize, Some((len, judged))))
+                    }
+                    rare => self.pull_rare(alloc, len, &rare),
+                }
             }
             Step::Fault(fault) => {
                 self.stopped = true;
                 Ok((19, Some((0, Outcome::Reset(fault.notification())))))
             }
         }
+    }
+
+    /// Takes a message of this length, which comes to this, from the front of a piece.
+    #[inline(never)]
+    fn pull_rare(
+        &mut self,
+        alloc: Global,
+        len: u16,
+        found: &OutcomeView<'_>,
+    ) -> Result<(usize, Option<(u16, Outcome)>), AllocError>
+        requires none_held { self.old.held ≡ [] }
+        ensures ok { IfOk result (λ r. (r ≡ (len, Some (len, outcome_value found.now)))
+            × (self.new ≡ behind self.old (outcome_value found.now))) }
+        ensures err { OnErr result (self.new ≡ self.old) }
+        ensures memory { OnErr result (has_lists (outcome_value found.now) ≡ true) }
+    {
+        let judged = found.own(alloc)?;
+        self.stopped = judged.is_reset();
+        Ok((len as usize, Some((len, judged))))
     }
 }

@@ -2,6 +2,8 @@
 
 ghost use Rattle.std.specs.Prelude.{◌≡◌, true, IfOk, OnErr};
 ghost use Rattle.bgp_update.specs.View.{update_value, notes_value, routes_value};
+ghost use Rattle.bgp_msg.specs.declared.message.Message.TheVariants as message;
+ghost use Rattle.bgp_msg.specs.declared.outcome.Outcome.TheVariants as outcome;
 
 use crate::message::Message;
 use crate::outcome::Outcome;
@@ -35,6 +37,16 @@ fn own_notes(alloc: Global, view: &UpdateView<'_>) -> Result<List<Note>, AllocEr
     Ok(List::from_vec(view.notes().collect(alloc)?))
 }
 
+/// An UPDATE that is taken, with memory of its own.
+#[inline(always)]
+pub(crate) fn own_update(alloc: Global, view: &UpdateView<'_>) -> Result<Outcome, AllocError>
+    ensures { IfOk result (λ o. o ≡ outcome.Took (message.Update (update_value view.now)) (notes_value view.now)) }
+{
+    let update = view.own(alloc)?;
+    let notes = own_notes(alloc, view)?;
+    Ok(Outcome::Took(Message::Update(update), notes))
+}
+
 impl OutcomeView<'_> {
     ghost use Rattle.bgp_msg.specs.Outcome.{is_reset};
     ghost use Rattle.bgp_msg.specs.OutcomeView.{outcome_value, has_lists};
@@ -62,11 +74,7 @@ impl OutcomeView<'_> {
                 let open = view.own(alloc)?;
                 Ok(Outcome::Took(Message::Open(open), List::new(alloc)))
             }
-            OutcomeView::Update(view) => {
-                let update = view.own(alloc)?;
-                let notes = own_notes(alloc, view)?;
-                Ok(Outcome::Took(Message::Update(update), notes))
-            }
+            OutcomeView::Update(view) => own_update(alloc, view),
             OutcomeView::Notification(said) => Ok(Outcome::Took(
                 Message::Notification(said.own()),
                 List::new(alloc),

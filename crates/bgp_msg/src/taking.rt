@@ -42,6 +42,7 @@ fn view_of_open(body: &[u8]) -> OutcomeView<'_>
 }
 
 /// What the body of an UPDATE comes to.
+#[inline(always)]
 fn view_of_update<'a>(ctx: &Context, body: &'a [u8]) -> OutcomeView<'a>
     requires { length body.now ≤ 4077 }
     ensures { outcome_value result ≡ of_verdict (verdict_of ctx.now body.entry.now) }
@@ -67,6 +68,7 @@ fn notification_in(body: &[u8]) -> NotificationView<'_>
 }
 
 /// What a whole message comes to in a context, without memory.
+#[inline(always)]
 pub fn view_frame<'a>(ctx: &Context, frame: Frame<'a>) -> OutcomeView<'a>
     requires { IsLength frame.kind (19 + length frame.body.now) }
     ensures { outcome_value result ≡ out_of ctx.now (record { kind = frame.entry.kind; body = frame.entry.body.now }) }

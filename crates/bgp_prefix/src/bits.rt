@@ -23,8 +23,10 @@ pub(crate) fn is_allowed<const W: usize>(len: u8) -> bool
 fn first_bits(len: u8, octet: u8) -> u8
     ensures { result ≡ first_bits len octet }
 {
-    let spare = 8u8.saturating_sub(len);
-    let unit = 1u16 << spare;
+    if len >= 8 {
+        return octet;
+    }
+    let unit = 1u16 << (8 - len);
     (u16::from(octet) / unit * unit) as u8
 }
 

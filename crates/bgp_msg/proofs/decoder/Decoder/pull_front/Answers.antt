@@ -2,23 +2,12 @@ use Rattle.std.proofs.Common.{true, Some, ap, subst, ◌∙◌}
 use Rattle.bgp_msg.specs.declared.outcome.Outcome.TheVariants as outcome
 use Rattle.bgp_msg.specs.Decoder.{Decoding, IsPulled}
 use Rattle.bgp_msg.proofs.Nexts.{at_hand}
-use Rattle.bgp_msg.proofs.Pulls.{pulls_more, pulls_message, pulls_fault}
+use Rattle.bgp_msg.proofs.Pulls.{pulls_more, pulls_fault}
 use Rattle.bgp_msg.proofs.decoder.Decoder.pull_front.Goals as goal
 
 pub returns-in-More-clause-ok : goal.returns-in-More-clause-ok
 returns-in-More-clause-ok c =
     pulls_more c.args.self.now c.args.piece.now c.feed.result c.feed.new.self c.requires.going c.requires.none_held c.in-More.ensures c.feed.ensures
-
-pub returns-in_ok-judged-in-Frame-clause-ok : goal.returns-in_ok-judged-in-Frame-clause-ok
-returns-in_ok-judged-in-Frame-clause-ok c =
-    let inside = c.self.inside in
-    let frame = c.in-Frame.frame in
-    let o = c.in_ok-judged-in-Frame.judged in
-    let last = c.is_reset-self-inside.result in
-    subst (λ (old : Decoding). IsPulled old c.args.piece.now frame.len (Some (frame.len, o)) (at_hand inside.ctx inside.framer last)) c.self.view_is
-    (pulls_message inside.ctx inside.framer inside.stopped c.args.piece.now
-    (ap (λ (d : Decoding). d.stopped) c.self.view_is ∙ c.requires.going) (ap (λ (d : Decoding). d.held) c.self.view_is ∙ c.requires.none_held)
-    (record { kind = frame.kind; body = frame.body.now }) frame.len o last c.in-Frame.ensures c.in_ok-judged-in-Frame.ensures.value c.is_reset-self-inside.ensures)
 
 pub returns-in-Fault-clause-ok : goal.returns-in-Fault-clause-ok
 returns-in-Fault-clause-ok c =

@@ -62,7 +62,7 @@ fn count_fronts(alloc: Global, ctx: &Context, message: &[u8]) -> Result<u64, Tro
 }
 
 /// How many fronts of a message wait, and how many changes of one octet come to the same however they are read.
-pub(crate) fn put_changes(alloc: Global, ctx: &Context, message: &[u8]) -> Result<Page, Trouble> {
+pub fn put_changes(alloc: Global, ctx: &Context, message: &[u8]) -> Result<Page, Trouble> {
     let mut octets = Octets::new();
     if octets.try_extend_from_slice(message).is_err() {
         return Err(Trouble::Row("a message that is too long"));

@@ -5,13 +5,13 @@ use std::io::{self, ErrorKind, Read, Write};
 
 /// Gives at most `step` octets a call.
 #[derive(Drop)]
-pub(crate) struct Drip<'a> {
+pub struct Drip<'a> {
     octets: &'a [u8],
     step: usize,
 }
 
 impl<'a> Drip<'a> {
-    pub(crate) fn new(octets: &'a [u8], step: usize) -> Drip<'a> {
+    pub fn new(octets: &'a [u8], step: usize) -> Drip<'a> {
         Drip { octets, step }
     }
 }
@@ -28,12 +28,12 @@ impl Read for Drip<'_> {
 
 /// Holds what is written.
 #[derive(Drop)]
-pub(crate) struct Sheet {
-    pub(crate) octets: ArrayVec<u8, 65536>,
+pub struct Sheet {
+    pub octets: ArrayVec<u8, 65536>,
 }
 
 impl Sheet {
-    pub(crate) fn new() -> Sheet {
+    pub fn new() -> Sheet {
         Sheet {
             octets: ArrayVec::new(),
         }

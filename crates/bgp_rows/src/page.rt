@@ -11,8 +11,8 @@ use std::fmt::{Debug, Display};
 
 /// The lines that came, and the place in the stream that they have reached. A line that meets a failed allocation is made again.
 #[derive(Drop)]
-pub(crate) struct Page {
-    pub(crate) text: String,
+pub struct Page {
+    pub text: String,
     place: u64,
 }
 
@@ -49,7 +49,7 @@ fn name_of<T: Debug>(alloc: Global, value: &T) -> Result<String, AllocError> {
 }
 
 impl Page {
-    pub(crate) fn new(alloc: Global) -> Page {
+    pub fn new(alloc: Global) -> Page {
         Page {
             text: String::new(alloc),
             place: 0,
@@ -57,7 +57,7 @@ impl Page {
     }
 
     /// Adds text.
-    pub(crate) fn put(&mut self, text: &str) -> Result<(), Trouble> {
+    pub fn put(&mut self, text: &str) -> Result<(), Trouble> {
         if self.text.push_str(text).is_err() {
             self.text.push_str(text)?;
         }
@@ -65,7 +65,7 @@ impl Page {
     }
 
     /// Adds the lines of an outcome of so many octets.
-    pub(crate) fn put_outcome(
+    pub fn put_outcome(
         &mut self,
         alloc: Global,
         len: u16,
@@ -80,7 +80,7 @@ impl Page {
     }
 
     /// Adds the line of a stream's end.
-    pub(crate) fn put_end(&mut self, alloc: Global, end: End) -> Result<(), Trouble> {
+    pub fn put_end(&mut self, alloc: Global, end: End) -> Result<(), Trouble> {
         let lines = match end_lines(alloc, end) {
             Err(_) => end_lines(alloc, end)?,
             Ok(lines) => lines,
@@ -89,7 +89,7 @@ impl Page {
     }
 
     /// Adds the lines of what an UPDATE says.
-    pub(crate) fn put_update(&mut self, alloc: Global, update: &Update) -> Result<(), Trouble> {
+    pub fn put_update(&mut self, alloc: Global, update: &Update) -> Result<(), Trouble> {
         let lines = match update_lines(alloc, update) {
             Err(_) => update_lines(alloc, update)?,
             Ok(lines) => lines,
@@ -98,7 +98,7 @@ impl Page {
     }
 
     /// Adds octets as digits, and `-` where there are none.
-    pub(crate) fn put_digits(&mut self, alloc: Global, octets: &[u8]) -> Result<(), Trouble> {
+    pub fn put_digits(&mut self, alloc: Global, octets: &[u8]) -> Result<(), Trouble> {
         let digits = match bgp_text::info_text(alloc, octets) {
             Err(_) => bgp_text::info_text(alloc, octets)?,
             Ok(digits) => digits,
@@ -107,11 +107,7 @@ impl Page {
     }
 
     /// Adds a notification as `CODE/SUBCODE INFO`.
-    pub(crate) fn put_notification(
-        &mut self,
-        alloc: Global,
-        told: &Notification,
-    ) -> Result<(), Trouble> {
+    pub fn put_notification(&mut self, alloc: Global, told: &Notification) -> Result<(), Trouble> {
         let text = match bgp_text::notification_text(alloc, told) {
             Err(_) => bgp_text::notification_text(alloc, told)?,
             Ok(text) => text,
@@ -120,11 +116,7 @@ impl Page {
     }
 
     /// Adds what a value prints.
-    pub(crate) fn put_value<T: Display>(
-        &mut self,
-        alloc: Global,
-        value: &T,
-    ) -> Result<(), Trouble> {
+    pub fn put_value<T: Display>(&mut self, alloc: Global, value: &T) -> Result<(), Trouble> {
         let text = match value.to_string(alloc) {
             Err(_) => value.to_string(alloc)?,
             Ok(text) => text,
@@ -133,7 +125,7 @@ impl Page {
     }
 
     /// Adds a value's name, as `Debug` prints it.
-    pub(crate) fn put_name<T: Debug>(&mut self, alloc: Global, value: &T) -> Result<(), Trouble> {
+    pub fn put_name<T: Debug>(&mut self, alloc: Global, value: &T) -> Result<(), Trouble> {
         let text = match name_of(alloc, value) {
             Err(_) => name_of(alloc, value)?,
             Ok(text) => text,

@@ -170,7 +170,7 @@ fn compare(page: &mut Page, way: &str, other: &Page) -> Result<(), Trouble> {
 }
 
 /// What a stream comes to, and what `show` writes of it from a reader that gives one octet or all at once.
-pub(crate) fn put_messages(alloc: Global, ctx: &Context, stream: &[u8]) -> Result<Page, Trouble> {
+pub fn put_messages(alloc: Global, ctx: &Context, stream: &[u8]) -> Result<Page, Trouble> {
     let mut page = put_ways(alloc, ctx, stream)?;
     let shown = put_shown(alloc, ctx, stream, 4096)?;
     let shown_by_octets = put_shown(alloc, ctx, stream, 1)?;
@@ -180,7 +180,7 @@ pub(crate) fn put_messages(alloc: Global, ctx: &Context, stream: &[u8]) -> Resul
 }
 
 /// What a stream comes to, all ways that the library reads it: where one differs, its lines are added under its name.
-pub(crate) fn put_ways(alloc: Global, ctx: &Context, stream: &[u8]) -> Result<Page, Trouble> {
+pub fn put_ways(alloc: Global, ctx: &Context, stream: &[u8]) -> Result<Page, Trouble> {
     let mut page = whole(alloc, ctx, stream)?;
     let octets = by_octets(alloc, ctx, stream)?;
     let pulled = by_pull(alloc, ctx, stream, stream.len())?;

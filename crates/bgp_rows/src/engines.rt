@@ -98,7 +98,7 @@ const SHOW: Row<'static> = Row {
 };
 
 /// What `show` writes of a stream, from a reader that gives so many octets at a time.
-pub(crate) fn put_shown(
+pub fn put_shown(
     alloc: Global,
     ctx: &Context,
     stream: &[u8],
@@ -137,7 +137,7 @@ fn given_text(alloc: Global, row: &Row<'_>) -> Result<Page, Trouble> {
 }
 
 /// What an engine does of octets, or where there are none of the row's text.
-pub(crate) fn put_engine(
+pub fn put_engine(
     alloc: Global,
     row: &Row<'_>,
     ctx: &Context,

@@ -11,7 +11,7 @@ use std::alloc::{AllocError, Global};
 const TOO_LONG: Trouble = Trouble::Row("an attribute of more than 4075 octets");
 
 /// No attributes.
-pub(crate) fn no_attrs(alloc: Global) -> Attrs {
+pub fn no_attrs(alloc: Global) -> Attrs {
     Attrs {
         origin: None,
         as_path: None,
@@ -141,7 +141,7 @@ fn put_attribute(
 }
 
 /// What the attributes of a field come to, and what is left where no attribute begins.
-pub(crate) fn put_attributes(
+pub fn put_attributes(
     alloc: Global,
     ctx: &Context,
     has_nlri: bool,

@@ -2,19 +2,19 @@
 
 /// A row: a paragraph of lines. The first is `row` and a name, the second its kind with settings; behind `want` stand the wanted lines.
 #[derive(Clone, Copy)]
-pub(crate) struct Row<'a> {
-    pub(crate) name: &'a str,
-    pub(crate) kind: &'a str,
-    pub(crate) settings: &'a str,
+pub struct Row<'a> {
+    pub name: &'a str,
+    pub kind: &'a str,
+    pub settings: &'a str,
     /// The lines between the kind and `want`.
-    pub(crate) given: &'a str,
-    pub(crate) want: &'a str,
+    pub given: &'a str,
+    pub want: &'a str,
     /// The whole file, for the octets that it names.
-    pub(crate) file: &'a str,
+    pub file: &'a str,
 }
 
 /// A line's first word, and what follows it.
-pub(crate) fn split_word(line: &str) -> (&str, &str) {
+pub fn split_word(line: &str) -> (&str, &str) {
     line.split_once(' ').unwrap_or((line, ""))
 }
 
@@ -25,7 +25,7 @@ fn split_line(text: &str) -> (&str, &str) {
 
 impl<'a> Row<'a> {
     /// The row of a paragraph; None where the paragraph is none.
-    pub(crate) fn read(paragraph: &'a str, file: &'a str) -> Option<Row<'a>> {
+    pub fn read(paragraph: &'a str, file: &'a str) -> Option<Row<'a>> {
         let (given, want) = paragraph.split_once("\nwant\n")?;
         let (first, rest) = split_line(given);
         let (second, given) = split_line(rest);
@@ -42,7 +42,7 @@ impl<'a> Row<'a> {
     }
 
     /// What stands behind this word in the first of the given lines that begins with it.
-    pub(crate) fn told(&self, word: &str) -> Option<&'a str> {
+    pub fn told(&self, word: &str) -> Option<&'a str> {
         for line in self.given.split('\n') {
             let (first, rest) = split_word(line);
             if first == word {

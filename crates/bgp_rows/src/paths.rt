@@ -11,7 +11,7 @@ use bgp_wire::List;
 use std::alloc::Global;
 
 /// Adds a path and an aggregator, as an UPDATE shows them.
-pub(crate) fn put_path(alloc: Global, page: &mut Page, info: PathInfo) -> Result<(), Trouble> {
+pub fn put_path(alloc: Global, page: &mut Page, info: PathInfo) -> Result<(), Trouble> {
     let mut attrs = no_attrs(alloc);
     attrs.as_path = info.path;
     attrs.aggregator = info.aggregator;
@@ -24,7 +24,7 @@ pub(crate) fn put_path(alloc: Global, page: &mut Page, info: PathInfo) -> Result
 }
 
 /// What the attributes of an UPDATE give.
-pub(crate) fn put_paths(alloc: Global, ctx: &Context, stream: &[u8]) -> Result<Page, Trouble> {
+pub fn put_paths(alloc: Global, ctx: &Context, stream: &[u8]) -> Result<Page, Trouble> {
     let Message::Update(update) = message_of(alloc, ctx, stream)? else {
         return Err(Trouble::Row("an UPDATE"));
     };

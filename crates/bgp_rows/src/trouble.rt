@@ -4,7 +4,7 @@ use std::alloc::AllocError;
 
 /// Why nothing can be said of a row.
 #[derive(Clone, Copy, Debug, PartialEq, Eq)]
-pub(crate) enum Trouble {
+pub enum Trouble {
     /// The row isn't written as rows are: what is wrong with it.
     Row(&'static str),
     /// Allocation failed twice.

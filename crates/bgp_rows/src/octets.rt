@@ -5,7 +5,7 @@ use crate::trouble::Trouble;
 use arrayvec::ArrayVec;
 
 /// The octets of a row. They take no memory, so that a row can be tried with each allocation failing in turn.
-pub(crate) type Octets = ArrayVec<u8, 16384>;
+pub type Octets = ArrayVec<u8, 16384>;
 
 const TOO_MANY: Trouble = Trouble::Row("more than 16384 octets");
 
@@ -86,7 +86,7 @@ fn named<'a>(file: &'a str, name: &str) -> Option<&'a str> {
 }
 
 /// Adds the octets of words.
-pub(crate) fn add_octets(row: &Row<'_>, words: &str, octets: &mut Octets) -> Result<(), Trouble> {
+pub fn add_octets(row: &Row<'_>, words: &str, octets: &mut Octets) -> Result<(), Trouble> {
     for word in words.split_whitespace() {
         match named(row.file, word) {
             Some(words) => add_plain(words, octets)?,
@@ -97,7 +97,7 @@ pub(crate) fn add_octets(row: &Row<'_>, words: &str, octets: &mut Octets) -> Res
 }
 
 /// Adds the octets of a row's lines `octets`.
-pub(crate) fn add_given(row: &Row<'_>, octets: &mut Octets) -> Result<(), Trouble> {
+pub fn add_given(row: &Row<'_>, octets: &mut Octets) -> Result<(), Trouble> {
     for line in row.given.split('\n') {
         if let Some(words) = line.strip_prefix("octets ") {
             add_octets(row, words, octets)?;

@@ -68,7 +68,7 @@ fn write_message(alloc: Global, ctx: &Context, message: &Message) -> Result<Page
 }
 
 /// The first message of a stream, which is taken.
-pub(crate) fn message_of(alloc: Global, ctx: &Context, stream: &[u8]) -> Result<Message, Trouble> {
+pub fn message_of(alloc: Global, ctx: &Context, stream: &[u8]) -> Result<Message, Trouble> {
     let seen = match decode_all(alloc, ctx, &[stream]) {
         Err(_) => decode_all(alloc, ctx, &[stream])?,
         Ok(seen) => seen,
@@ -82,7 +82,7 @@ pub(crate) fn message_of(alloc: Global, ctx: &Context, stream: &[u8]) -> Result<
 }
 
 /// What a message that was read in a context comes to where it is written in those of the row's line `write`.
-pub(crate) fn put_written(
+pub fn put_written(
     alloc: Global,
     row: &Row<'_>,
     ctx: &Context,

@@ -5,7 +5,7 @@ use bgp_open::Context;
 
 /// What a row says of contexts, and of whether there are routes in the NLRI field.
 #[derive(Clone, Copy)]
-pub(crate) struct Contexts {
+pub struct Contexts {
     internal: Option<bool>,
     as4: Option<bool>,
     ip4: Option<bool>,
@@ -14,18 +14,18 @@ pub(crate) struct Contexts {
 }
 
 /// How many cases there are of the five.
-pub(crate) const CASES: u8 = 32;
+pub const CASES: u8 = 32;
 
 /// One of the cases.
 #[derive(Clone, Copy)]
-pub(crate) struct Case {
-    pub(crate) context: Context,
-    pub(crate) has_nlri: bool,
+pub struct Case {
+    pub context: Context,
+    pub has_nlri: bool,
 }
 
 impl Case {
     /// A case by the bits of a number.
-    pub(crate) fn new(number: u8) -> Case {
+    pub fn new(number: u8) -> Case {
         Case {
             context: Context {
                 internal: number & 1 != 0,
@@ -49,7 +49,7 @@ fn is_as_told(told: Option<bool>, flag: bool) -> bool {
 
 impl Contexts {
     /// What a row's words say.
-    pub(crate) fn read(words: &str) -> Result<Contexts, Trouble> {
+    pub fn read(words: &str) -> Result<Contexts, Trouble> {
         let mut told = Contexts {
             internal: None,
             as4: None,
@@ -81,7 +81,7 @@ impl Contexts {
     }
 
     /// Whether a row speaks of this context.
-    pub(crate) fn allows(&self, ctx: &Context) -> bool {
+    pub fn allows(&self, ctx: &Context) -> bool {
         is_as_told(self.internal, ctx.internal)
             && is_as_told(self.as4, ctx.as4)
             && is_as_told(self.ip4, ctx.ip4)
@@ -89,7 +89,7 @@ impl Contexts {
     }
 
     /// Whether a row speaks of this case.
-    pub(crate) fn allows_case(&self, case: &Case) -> bool {
+    pub fn allows_case(&self, case: &Case) -> bool {
         self.allows(&case.context) && is_as_told(self.nlri, case.has_nlri)
     }
 }

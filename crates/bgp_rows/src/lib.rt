@@ -1,0 +1,16 @@
+//! Rows of text about formats, messages and engines: how a row is written, and what the library makes of what it gives
+//! (docs/ROWS.md). Rows about sessions and scripts, and the program, stand in `bgp_check_rows`.
+#![tactic(auto)]
+
+pub mod attributes;
+pub mod changes;
+pub mod contexts;
+pub mod engines;
+pub mod messages;
+pub mod octets;
+pub mod page;
+pub mod paths;
+pub mod row;
+pub mod sheet;
+pub mod trouble;
+pub mod written;
