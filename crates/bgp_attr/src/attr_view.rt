@@ -18,6 +18,7 @@ use std::alloc::{AllocError, Global};
 pub struct As4PathView<'a> {
     /// The Partial bit.
     pub partial: bool,
+    /// The path, of at least one segment in what is read.
     pub path: PathView<'a>,
 }
 

@@ -13,6 +13,7 @@ use std::alloc::{AllocError, Global};
 pub struct CommunitiesView<'a> {
     /// The Partial bit.
     pub partial: bool,
+    /// The communities, of 4 octets each: at least one in what is read.
     pub values: CommIter<'a>,
 }
 
@@ -39,6 +40,7 @@ impl CommunitiesView<'_> {
 pub struct LargeView<'a> {
     /// The Partial bit.
     pub partial: bool,
+    /// The communities, of 12 octets each: at least one and each once in what is read.
     pub values: LargeCommIter<'a>,
 }
 

@@ -11,13 +11,18 @@ use std::alloc::{AllocError, Global};
 pub enum MpReach {
     /// IPv4 unicast.
     Ip4 {
+        /// The next hop: an IPv4 address.
         next_hop: [u8; 4],
+        /// The announced prefixes, in their order.
         nlri: List<Prefix4>,
     },
     /// IPv6 unicast: a global address, and a link-local one where it was given (RFC 2545, section 3).
     Ip6 {
+        /// The global address of the next hop.
         next_hop: [u8; 16],
+        /// The link-local address of the next hop, where the attribute has both.
         link_local: Option<[u8; 16]>,
+        /// The announced prefixes, in their order.
         nlri: List<Prefix6>,
     },
 }

@@ -12,13 +12,18 @@ use std::alloc::{AllocError, Global};
 pub enum MpReachView<'a> {
     /// IPv4 unicast.
     Ip4 {
+        /// The next hop: an IPv4 address.
         next_hop: [u8; 4],
+        /// The announced prefixes, in their order.
         nlri: PrefixIter4<'a>,
     },
     /// IPv6 unicast.
     Ip6 {
+        /// The global address of the next hop.
         next_hop: [u8; 16],
+        /// The link-local address of the next hop, where the attribute has both.
         link_local: Option<[u8; 16]>,
+        /// The announced prefixes, in their order.
         nlri: PrefixIter6<'a>,
     },
 }

@@ -18,6 +18,7 @@ pub enum SegKind {
 /// A part of a path (RFC 4271, section 4.3).
 #[derive(Debug, Drop, PartialEq)]
 pub struct Segment {
+    /// Whether its numbers are in order.
     pub kind: SegKind,
     /// The AS numbers: 1 to 255 in what is read.
     pub numbers: List<AsNumber>,

@@ -14,6 +14,7 @@ use std::iter::FusedIterator;
 /// A segment whose numbers are borrowed.
 #[derive(Clone, Copy, Debug)]
 pub struct SegmentView<'a> {
+    /// Whether its numbers are in order.
     pub kind: SegKind,
     /// The AS numbers: 1 to 255.
     pub numbers: AsNumberIter<'a>,

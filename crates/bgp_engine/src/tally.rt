@@ -17,6 +17,7 @@ pub struct Tally {
     pub withdrawn: u64,
     /// Resets, by a message or by a header.
     pub resets: u64,
+    /// How the stream ended.
     pub end: End,
 }
 

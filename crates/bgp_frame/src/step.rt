@@ -10,7 +10,9 @@ use crate::kind::Kind;
 /// A whole message, with its body as it stands on the wire.
 #[derive(Clone, Copy, Debug, PartialEq, Eq)]
 pub struct Frame<'a> {
+    /// The type of the message.
     pub kind: Kind,
+    /// The octets behind the header: at most 4077.
     pub body: &'a [u8],
     /// The octets of the whole message, as its header says: the body's and 19 more.
     pub len: u16,
@@ -21,7 +23,9 @@ pub struct Frame<'a> {
 pub enum Step<'a> {
     /// The message needs more octets.
     More,
+    /// A whole message.
     Frame(Frame<'a>),
+    /// A header that begins no message: nothing behind it can be read.
     Fault(HeadFault),
 }
 

@@ -8,6 +8,8 @@ use bgp_wire::List;
 /// is the last outcome, of no octets.
 #[derive(Debug, Drop, PartialEq)]
 pub struct Seen {
+    /// Each outcome in order, behind the octets of its message in number: 19 to 4096, or 0 for a header with a fault.
     pub outs: List<(u16, Outcome)>,
+    /// How the stream ends.
     pub end: End,
 }

@@ -21,8 +21,11 @@ pub const SCRIPT_MAX: usize = 1_048_576;
 /// Two speakers, and the moves of a schedule.
 #[derive(Debug, Drop, PartialEq)]
 pub struct Script {
+    /// What the speaker A is set to.
     pub a: Config,
+    /// What the speaker B is set to.
     pub b: Config,
+    /// The moves, in the order of their lines.
     pub moves: List<Move>,
 }
 

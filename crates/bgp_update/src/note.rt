@@ -11,6 +11,7 @@ pub struct Note {
     pub at: u16,
     /// Its type: 0 for one that is cut off before its type.
     pub kind: u8,
+    /// What is wrong with it.
     pub why: Why,
 }
 

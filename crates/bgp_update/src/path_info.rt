@@ -8,7 +8,9 @@ use std::alloc::{AllocError, Global};
 /// The path and the aggregator that AS4_PATH and AS4_AGGREGATOR give back (RFC 6793, section 4.2.3).
 #[derive(Debug, Drop, PartialEq)]
 pub struct PathInfo {
+    /// The path: none without AS_PATH.
     pub path: Option<AsPath>,
+    /// The aggregator: none without AGGREGATOR.
     pub aggregator: Option<Aggregator>,
 }
 

@@ -12,6 +12,7 @@ use std::alloc::{AllocError, Global};
 pub struct Update {
     /// Withdrawn Routes: IPv4 unicast.
     pub withdrawn: List<Prefix4>,
+    /// Path Attributes.
     pub attrs: Attrs,
     /// Network Layer Reachability Information: IPv4 unicast.
     pub nlri: List<Prefix4>,
