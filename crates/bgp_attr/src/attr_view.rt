@@ -106,7 +106,7 @@ impl AttrView<'_> {
     /// The attribute, with memory of its own.
     ///
     /// # Errors
-    /// `AllocError` where a growth was refused.
+    /// `AllocError` where an allocation failed.
     pub fn own(&self, alloc: Global) -> Result<Attr, AllocError>
         ensures { IfOk result (λ a. a ≡ attr_value self.now) }
     {

@@ -23,7 +23,7 @@ impl CommunitiesView<'_> {
     /// The communities, with memory of their own.
     ///
     /// # Errors
-    /// `AllocError` where a growth was refused.
+    /// `AllocError` where an allocation failed.
     pub fn own(self, alloc: Global) -> Result<Communities, AllocError>
         ensures { IfOk result (λ c. c ≡ communities_value self.entry) }
     {
@@ -50,7 +50,7 @@ impl LargeView<'_> {
     /// The communities, with memory of their own.
     ///
     /// # Errors
-    /// `AllocError` where a growth was refused.
+    /// `AllocError` where an allocation failed.
     pub fn own(self, alloc: Global) -> Result<LargeCommunities, AllocError>
         ensures { IfOk result (λ l. l ≡ large_value self.entry) }
     {

@@ -31,7 +31,7 @@ impl MpReach {
     /// An equal value, with memory of its own.
     ///
     /// # Errors
-    /// `AllocError` where a growth was refused.
+    /// `AllocError` where an allocation failed.
     pub fn copy(&self, alloc: Global) -> Result<MpReach, AllocError>
         ensures { IfOk result (λ copy. copy ≡ self.now) }
     {
@@ -66,7 +66,7 @@ impl MpUnreach {
     /// An equal value, with memory of its own.
     ///
     /// # Errors
-    /// `AllocError` where a growth was refused.
+    /// `AllocError` where an allocation failed.
     pub fn copy(&self, alloc: Global) -> Result<MpUnreach, AllocError>
         ensures { IfOk result (λ copy. copy ≡ self.now) }
     {

@@ -34,7 +34,7 @@ impl MpReachView<'_> {
     /// The routes, with memory of their own.
     ///
     /// # Errors
-    /// `AllocError` where a growth was refused.
+    /// `AllocError` where an allocation failed.
     pub fn own(self, alloc: Global) -> Result<MpReach, AllocError>
         ensures { IfOk result (λ r. r ≡ reach_value self.entry) }
     {
@@ -74,7 +74,7 @@ impl MpUnreachView<'_> {
     /// The routes, with memory of their own.
     ///
     /// # Errors
-    /// `AllocError` where a growth was refused.
+    /// `AllocError` where an allocation failed.
     pub fn own(self, alloc: Global) -> Result<MpUnreach, AllocError>
         ensures { IfOk result (λ r. r ≡ unreach_value self.entry) }
     {

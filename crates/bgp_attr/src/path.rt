@@ -28,7 +28,7 @@ impl Segment {
     /// An equal segment, with memory of its own.
     ///
     /// # Errors
-    /// `AllocError` where a growth was refused.
+    /// `AllocError` where an allocation failed.
     pub fn copy(&self, alloc: Global) -> Result<Segment, AllocError>
         ensures { IfOk result (λ copy. copy ≡ self.now) }
     {
@@ -57,7 +57,7 @@ impl AsPath {
     /// An equal path, with memory of its own.
     ///
     /// # Errors
-    /// `AllocError` where a growth was refused.
+    /// `AllocError` where an allocation failed.
     pub fn copy(&self, alloc: Global) -> Result<AsPath, AllocError>
         ensures { IfOk result (λ copy. copy ≡ self.now) }
     {
@@ -79,7 +79,7 @@ impl As4Path {
     /// An equal value, with memory of its own.
     ///
     /// # Errors
-    /// `AllocError` where a growth was refused.
+    /// `AllocError` where an allocation failed.
     pub fn copy(&self, alloc: Global) -> Result<As4Path, AllocError>
         ensures { IfOk result (λ copy. copy ≡ self.now) }
     {

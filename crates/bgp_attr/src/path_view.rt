@@ -26,7 +26,7 @@ impl<'a> SegmentView<'a> {
     /// The segment, with memory of its own.
     ///
     /// # Errors
-    /// `AllocError` where a growth was refused.
+    /// `AllocError` where an allocation failed.
     pub fn own(self, alloc: Global) -> Result<Segment, AllocError>
         ensures { IfOk result (λ s. s ≡ segment_value self.entry) }
     {
@@ -68,7 +68,7 @@ impl<'a> PathView<'a> {
     /// The path, with memory of its own.
     ///
     /// # Errors
-    /// `AllocError` where a growth was refused.
+    /// `AllocError` where an allocation failed.
     pub fn own(self, alloc: Global) -> Result<AsPath, AllocError>
         ensures { IfOk result (λ p. p ≡ path_value self.entry) }
     {

@@ -8,7 +8,7 @@ use crate::flags::Flags;
 /// An attribute before it is judged: its flags, its type, its value (RFC 4271, section 4.3).
 #[derive(Clone, Copy, Debug)]
 pub struct Tlv<'a> {
-    /// The place of its flags in the attribute field.
+    /// The offset of its flags in the attribute field.
     pub at: usize,
     /// The flags octet.
     pub flags: Flags,

@@ -1,4 +1,4 @@
-//! What the octets at the front of a stream come to.
+//! What the first octets of a stream are.
 
 ghost use Rattle.bgp_frame.specs.Framer.{IsHeld};
 ghost use Rattle.bgp_frame.specs.Step.{ShowsFront, ShowsStep};
@@ -29,7 +29,7 @@ pub enum Step<'a> {
     Fault(HeadFault),
 }
 
-/// What stands at the front of a piece of a stream: what a new framer that is fed the piece shows, borrowed from the piece
+/// What a piece of a stream begins with: what a new framer that is fed the piece shows, borrowed from the piece
 /// (RFC 4271, sections 4.1 and 6.1). Octets behind a whole message, or behind a header with a fault, have no effect.
 #[tactic(auto, using(crate::proofs::Holding::shows_short))]
 pub fn front(piece: &[u8]) -> Step<'_>

@@ -1,10 +1,10 @@
-//! What a stream comes to.
+//! What a stream has: the outcomes of its messages, and an end.
 
 use crate::outcome::Outcome;
 use bgp_frame::End;
 use bgp_wire::List;
 
-/// What a stream of octets comes to: for each message its octets in number and its outcome, and how the stream ends. A header's fault
+/// What a stream of octets has: for each message its octets in number and its outcome, and how the stream ends. A header's fault
 /// is the last outcome, of no octets.
 #[derive(Debug, Drop, PartialEq)]
 pub struct Seen {

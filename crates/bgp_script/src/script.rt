@@ -61,7 +61,7 @@ fn read_moves(
 /// Reads a script.
 ///
 /// # Errors
-/// `Line` with the number of the lowest faulty line, counted from 1; `Memory` where a growth was refused.
+/// `Line` with the number of the lowest faulty line, counted from 1; `Memory` where an allocation failed.
 #[tactic(auto, unfolding(crate::specs::Script::script_of))]
 pub fn read_script(alloc: Global, text: &[u8]) -> Result<Script, ScriptFault>
     requires { length text.now ≤ SCRIPT_MAX }

@@ -55,7 +55,7 @@ impl Attrs {
     /// Equal attributes, with memory of their own.
     ///
     /// # Errors
-    /// `AllocError` where a growth was refused.
+    /// `AllocError` where an allocation failed.
     pub fn copy(&self, alloc: Global) -> Result<Attrs, AllocError>
         ensures { IfOk result (λ copy. copy ≡ self.now) }
     {

@@ -18,7 +18,7 @@ impl PathInfo {
     /// An equal value, with memory of its own.
     ///
     /// # Errors
-    /// `AllocError` where a growth was refused.
+    /// `AllocError` where an allocation failed.
     pub fn copy(&self, alloc: Global) -> Result<PathInfo, AllocError>
         ensures { IfOk result (λ copy. copy ≡ self.now) }
     {

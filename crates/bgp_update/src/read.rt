@@ -43,7 +43,7 @@ impl View<'_> {
     /// The verdict, with memory of its own.
     ///
     /// # Errors
-    /// `AllocError` where a growth was refused: a reset takes no memory.
+    /// `AllocError` where an allocation failed: a reset takes no memory.
     pub fn own(&self, alloc: Global) -> Result<Verdict, AllocError>
         ensures value { IfOk result (λ v. v ≡ view_value self.now) }
         ensures err { OnErr result (IsTrue (has_value (view_value self.now))) }
@@ -56,10 +56,10 @@ impl View<'_> {
     }
 }
 
-/// What the body of an UPDATE, of at most 4077 octets, comes to in a context (RFC 4271, section 6.3; RFC 7606).
+/// The verdict on the body of an UPDATE, of at most 4077 octets, in a context (RFC 4271, section 6.3; RFC 7606).
 ///
 /// # Errors
-/// `AllocError` where a growth was refused: never where the body is answered by a reset.
+/// `AllocError` where an allocation failed: never where the body is answered by a reset.
 pub fn read_update(alloc: Global, ctx: &Context, body: &[u8]) -> Result<Verdict, AllocError>
     requires { length body.now ≤ 4077 }
     ensures value { IfOk result (λ v. v ≡ verdict_of ctx.now body.now) }

@@ -22,7 +22,7 @@ impl Update {
     /// An equal UPDATE, with memory of its own.
     ///
     /// # Errors
-    /// `AllocError` where a growth was refused.
+    /// `AllocError` where an allocation failed.
     pub fn copy(&self, alloc: Global) -> Result<Update, AllocError>
         ensures { IfOk result (λ copy. copy ≡ self.now) }
     {

@@ -70,7 +70,7 @@ impl<T> List<T> {
     /// Adds a value at the end.
     ///
     /// # Errors
-    /// `AllocError` where the growth was refused; the list is then as it was.
+    /// `AllocError` where the allocation failed; the list is then as it was.
     pub fn push(&mut self, value: T) -> Result<(), AllocError>
     where
         T: Drop,
@@ -89,7 +89,7 @@ impl<T> List<T> {
     /// Adds a value at a place: those from there on follow it.
     ///
     /// # Errors
-    /// `AllocError` where the growth was refused; the list is then as it was.
+    /// `AllocError` where the allocation failed; the list is then as it was.
     pub fn insert(&mut self, place: usize, value: T) -> Result<(), AllocError>
     where
         T: Drop,
@@ -106,7 +106,7 @@ impl<T: TryCopy + Drop> List<T> {
     /// An equal list with memory of its own.
     ///
     /// # Errors
-    /// `AllocError` where a growth was refused.
+    /// `AllocError` where an allocation failed.
     pub fn copy(&self, alloc: Global) -> Result<List<T>, AllocError>
         ensures { IfOk result (λ copy. copy ≡ self.now) }
     {
