@@ -47,7 +47,7 @@ impl Attr {
     /// An equal attribute, with memory of its own.
     ///
     /// # Errors
-    /// `AllocError` where a growth was refused.
+    /// `AllocError` where an allocation failed.
     pub fn copy(&self, alloc: Global) -> Result<Attr, AllocError>
         ensures { IfOk result (λ copy. copy ≡ self.now) }
     {

@@ -18,6 +18,7 @@ use std::alloc::{AllocError, Global};
 pub struct As4PathView<'a> {
     /// The Partial bit.
     pub partial: bool,
+    /// The path, of at least one segment in what is read.
     pub path: PathView<'a>,
 }
 
@@ -105,7 +106,7 @@ impl AttrView<'_> {
     /// The attribute, with memory of its own.
     ///
     /// # Errors
-    /// `AllocError` where a growth was refused.
+    /// `AllocError` where an allocation failed.
     pub fn own(&self, alloc: Global) -> Result<Attr, AllocError>
         ensures { IfOk result (λ a. a ≡ attr_value self.now) }
     {

@@ -18,7 +18,7 @@ impl Communities {
     /// An equal value, with memory of its own.
     ///
     /// # Errors
-    /// `AllocError` where a growth was refused.
+    /// `AllocError` where an allocation failed.
     pub fn copy(&self, alloc: Global) -> Result<Communities, AllocError>
         ensures { IfOk result (λ copy. copy ≡ self.now) }
     {
@@ -43,7 +43,7 @@ impl LargeCommunities {
     /// An equal value, with memory of its own.
     ///
     /// # Errors
-    /// `AllocError` where a growth was refused.
+    /// `AllocError` where an allocation failed.
     pub fn copy(&self, alloc: Global) -> Result<LargeCommunities, AllocError>
         ensures { IfOk result (λ copy. copy ≡ self.now) }
     {

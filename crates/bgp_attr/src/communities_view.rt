@@ -13,6 +13,7 @@ use std::alloc::{AllocError, Global};
 pub struct CommunitiesView<'a> {
     /// The Partial bit.
     pub partial: bool,
+    /// The communities, of 4 octets each: at least one in what is read.
     pub values: CommIter<'a>,
 }
 
@@ -22,7 +23,7 @@ impl CommunitiesView<'_> {
     /// The communities, with memory of their own.
     ///
     /// # Errors
-    /// `AllocError` where a growth was refused.
+    /// `AllocError` where an allocation failed.
     pub fn own(self, alloc: Global) -> Result<Communities, AllocError>
         ensures { IfOk result (λ c. c ≡ communities_value self.entry) }
     {
@@ -39,6 +40,7 @@ impl CommunitiesView<'_> {
 pub struct LargeView<'a> {
     /// The Partial bit.
     pub partial: bool,
+    /// The communities, of 12 octets each: at least one and each once in what is read.
     pub values: LargeCommIter<'a>,
 }
 
@@ -48,7 +50,7 @@ impl LargeView<'_> {
     /// The communities, with memory of their own.
     ///
     /// # Errors
-    /// `AllocError` where a growth was refused.
+    /// `AllocError` where an allocation failed.
     pub fn own(self, alloc: Global) -> Result<LargeCommunities, AllocError>
         ensures { IfOk result (λ l. l ≡ large_value self.entry) }
     {

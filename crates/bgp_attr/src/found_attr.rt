@@ -1,4 +1,4 @@
-//! What one attribute comes to, in a few words that point into its octets.
+//! The judgement of one attribute, in a few words that point into its octets.
 
 ghost use Rattle.std.specs.Prelude.{◌≡◌};
 
@@ -7,7 +7,7 @@ use crate::judged_view::JudgedView;
 use crate::why::Why;
 use bgp_frame::NotificationView;
 
-/// What one attribute comes to, as [`JudgedView`] says, with the information of a NOTIFICATION borrowed too: an UPDATE is judged by these,
+/// The judgement of one attribute, as [`JudgedView`] says, with the information of a NOTIFICATION borrowed too: an UPDATE is judged by these,
 /// since each is small.
 #[derive(Clone, Copy, Debug)]
 pub enum FoundAttr<'a> {
@@ -15,7 +15,7 @@ pub enum FoundAttr<'a> {
     Keep(AttrView<'a>),
     /// It is dropped, and the message goes on without it.
     Discard(Why),
-    /// The routes of its message are withdrawn.
+    /// Its message is treated as a withdrawal (treat-as-withdraw).
     Withdraw(Why),
     /// The session ends with this notification.
     Reset(NotificationView<'a>),

@@ -1,4 +1,4 @@
-//! What one attribute comes to.
+//! The judgement of one attribute.
 
 ghost use Rattle.std.specs.Prelude.{◌≡◌, IfOk};
 
@@ -7,14 +7,14 @@ use crate::why::Why;
 use bgp_frame::Notification;
 use std::alloc::{AllocError, Global};
 
-/// What one attribute comes to (RFC 7606, section 2).
+/// The judgement of one attribute (RFC 7606, section 2).
 #[derive(Debug, Drop, PartialEq)]
 pub enum Judged {
     /// It is kept.
     Keep(Attr),
     /// It is dropped, and the message goes on without it.
     Discard(Why),
-    /// The routes of its message are withdrawn.
+    /// Its message is treated as a withdrawal (treat-as-withdraw).
     Withdraw(Why),
     /// The session ends with this notification.
     Reset(Notification),

@@ -1,4 +1,4 @@
-//! What one attribute comes to, with its value borrowed.
+//! The judgement of one attribute, with its value borrowed.
 
 ghost use Rattle.std.specs.Prelude.{◌≡◌, IfOk, OnErr, IsTrue};
 
@@ -8,14 +8,14 @@ use crate::why::Why;
 use bgp_frame::Notification;
 use std::alloc::{AllocError, Global};
 
-/// What one attribute comes to (RFC 7606, section 2), with its value borrowed.
+/// The judgement of one attribute (RFC 7606, section 2), with its value borrowed.
 #[derive(Debug, Drop)]
 pub enum JudgedView<'a> {
     /// It is kept.
     Keep(AttrView<'a>),
     /// It is dropped, and the message goes on without it.
     Discard(Why),
-    /// The routes of its message are withdrawn.
+    /// Its message is treated as a withdrawal (treat-as-withdraw).
     Withdraw(Why),
     /// The session ends with this notification.
     Reset(Notification),

@@ -19,7 +19,7 @@ use bgp_numbers::attribute;
 use bgp_open::Context;
 use std::alloc::{AllocError, Global};
 
-/// What the first attribute of its type in a message comes to, without memory: by the first test of its type that applies
+/// The judgement of the first attribute of its type in a message, without memory: by the first test of its type that applies
 /// (RFC 4271, section 6.3; RFC 7606, sections 3 to 7; RFC 7607). The attribute has at most 4075 octets, as each of a message has.
 ///
 /// `has_nlri` says that the NLRI field of the message isn't empty.
@@ -47,7 +47,7 @@ pub fn judge_attribute<'a>(ctx: &Context, has_nlri: bool, tlv: &Tlv<'a>) -> Foun
     }
 }
 
-/// What the first attribute of its type in a message comes to, as [`judge_attribute`] says, with a notification of its own.
+/// The judgement of the first attribute of its type in a message, as [`judge_attribute`] says, with a notification of its own.
 pub fn judge_view<'a>(ctx: &Context, has_nlri: bool, tlv: &Tlv<'a>) -> JudgedView<'a>
     requires { length tlv.now.whole.now ≤ 4075 }
     ensures { judged_value result ≡ judgement ctx.now has_nlri (tlv_value tlv.now) }
@@ -55,7 +55,7 @@ pub fn judge_view<'a>(ctx: &Context, has_nlri: bool, tlv: &Tlv<'a>) -> JudgedVie
     judge_attribute(ctx, has_nlri, tlv).into_view()
 }
 
-/// What the first attribute of its type in a message comes to, as [`judge_view`] says.
+/// The judgement of the first attribute of its type in a message, as [`judge_view`] says.
 ///
 /// # Errors
 /// `AllocError` where an allocation failed: only where the attribute is kept.

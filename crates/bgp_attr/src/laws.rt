@@ -25,7 +25,7 @@ pub fn readings_are_spellings()
     ensures triples { Reads IsTriple one_triple }
 {}
 
-/// No attribute is a proper front of another, and the octets of each have one value; and so it is
+/// No attribute begins another one, and the octets of each have one value; and so it is
 /// with segments of paths, numbers and large communities.
 pub fn spellings_are_prefix_free()
     ensures attributes { IsPrefixFree IsTlv }

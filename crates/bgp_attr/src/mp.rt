@@ -11,13 +11,18 @@ use std::alloc::{AllocError, Global};
 pub enum MpReach {
     /// IPv4 unicast.
     Ip4 {
+        /// The next hop: an IPv4 address.
         next_hop: [u8; 4],
+        /// The announced prefixes, in their order.
         nlri: List<Prefix4>,
     },
     /// IPv6 unicast: a global address, and a link-local one where it was given (RFC 2545, section 3).
     Ip6 {
+        /// The global address of the next hop.
         next_hop: [u8; 16],
+        /// The link-local address of the next hop, where the attribute has both.
         link_local: Option<[u8; 16]>,
+        /// The announced prefixes, in their order.
         nlri: List<Prefix6>,
     },
 }
@@ -26,7 +31,7 @@ impl MpReach {
     /// An equal value, with memory of its own.
     ///
     /// # Errors
-    /// `AllocError` where a growth was refused.
+    /// `AllocError` where an allocation failed.
     pub fn copy(&self, alloc: Global) -> Result<MpReach, AllocError>
         ensures { IfOk result (λ copy. copy ≡ self.now) }
     {
@@ -61,7 +66,7 @@ impl MpUnreach {
     /// An equal value, with memory of its own.
     ///
     /// # Errors
-    /// `AllocError` where a growth was refused.
+    /// `AllocError` where an allocation failed.
     pub fn copy(&self, alloc: Global) -> Result<MpUnreach, AllocError>
         ensures { IfOk result (λ copy. copy ≡ self.now) }
     {

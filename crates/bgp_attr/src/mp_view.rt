@@ -12,13 +12,18 @@ use std::alloc::{AllocError, Global};
 pub enum MpReachView<'a> {
     /// IPv4 unicast.
     Ip4 {
+        /// The next hop: an IPv4 address.
         next_hop: [u8; 4],
+        /// The announced prefixes, in their order.
         nlri: PrefixIter4<'a>,
     },
     /// IPv6 unicast.
     Ip6 {
+        /// The global address of the next hop.
         next_hop: [u8; 16],
+        /// The link-local address of the next hop, where the attribute has both.
         link_local: Option<[u8; 16]>,
+        /// The announced prefixes, in their order.
         nlri: PrefixIter6<'a>,
     },
 }
@@ -29,7 +34,7 @@ impl MpReachView<'_> {
     /// The routes, with memory of their own.
     ///
     /// # Errors
-    /// `AllocError` where a growth was refused.
+    /// `AllocError` where an allocation failed.
     pub fn own(self, alloc: Global) -> Result<MpReach, AllocError>
         ensures { IfOk result (λ r. r ≡ reach_value self.entry) }
     {
@@ -69,7 +74,7 @@ impl MpUnreachView<'_> {
     /// The routes, with memory of their own.
     ///
     /// # Errors
-    /// `AllocError` where a growth was refused.
+    /// `AllocError` where an allocation failed.
     pub fn own(self, alloc: Global) -> Result<MpUnreach, AllocError>
         ensures { IfOk result (λ r. r ≡ unreach_value self.entry) }
     {

@@ -22,7 +22,7 @@ impl Opaque {
     /// An equal value, with memory of its own.
     ///
     /// # Errors
-    /// `AllocError` where a growth was refused.
+    /// `AllocError` where an allocation failed.
     pub fn copy(&self, alloc: Global) -> Result<Opaque, AllocError>
         ensures { IfOk result (λ copy. copy ≡ self.now) }
     {

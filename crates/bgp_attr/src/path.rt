@@ -18,6 +18,7 @@ pub enum SegKind {
 /// A part of a path (RFC 4271, section 4.3).
 #[derive(Debug, Drop, PartialEq)]
 pub struct Segment {
+    /// Whether its numbers are in order.
     pub kind: SegKind,
     /// The AS numbers: 1 to 255 in what is read.
     pub numbers: List<AsNumber>,
@@ -27,7 +28,7 @@ impl Segment {
     /// An equal segment, with memory of its own.
     ///
     /// # Errors
-    /// `AllocError` where a growth was refused.
+    /// `AllocError` where an allocation failed.
     pub fn copy(&self, alloc: Global) -> Result<Segment, AllocError>
         ensures { IfOk result (λ copy. copy ≡ self.now) }
     {
@@ -56,7 +57,7 @@ impl AsPath {
     /// An equal path, with memory of its own.
     ///
     /// # Errors
-    /// `AllocError` where a growth was refused.
+    /// `AllocError` where an allocation failed.
     pub fn copy(&self, alloc: Global) -> Result<AsPath, AllocError>
         ensures { IfOk result (λ copy. copy ≡ self.now) }
     {
@@ -78,7 +79,7 @@ impl As4Path {
     /// An equal value, with memory of its own.
     ///
     /// # Errors
-    /// `AllocError` where a growth was refused.
+    /// `AllocError` where an allocation failed.
     pub fn copy(&self, alloc: Global) -> Result<As4Path, AllocError>
         ensures { IfOk result (λ copy. copy ≡ self.now) }
     {

@@ -14,6 +14,7 @@ use std::iter::FusedIterator;
 /// A segment whose numbers are borrowed.
 #[derive(Clone, Copy, Debug)]
 pub struct SegmentView<'a> {
+    /// Whether its numbers are in order.
     pub kind: SegKind,
     /// The AS numbers: 1 to 255.
     pub numbers: AsNumberIter<'a>,
@@ -25,7 +26,7 @@ impl<'a> SegmentView<'a> {
     /// The segment, with memory of its own.
     ///
     /// # Errors
-    /// `AllocError` where a growth was refused.
+    /// `AllocError` where an allocation failed.
     pub fn own(self, alloc: Global) -> Result<Segment, AllocError>
         ensures { IfOk result (λ s. s ≡ segment_value self.entry) }
     {
@@ -67,7 +68,7 @@ impl<'a> PathView<'a> {
     /// The path, with memory of its own.
     ///
     /// # Errors
-    /// `AllocError` where a growth was refused.
+    /// `AllocError` where an allocation failed.
     pub fn own(self, alloc: Global) -> Result<AsPath, AllocError>
         ensures { IfOk result (λ p. p ≡ path_value self.entry) }
     {

@@ -8,8 +8,9 @@ use crate::flags::Flags;
 /// An attribute before it is judged: its flags, its type, its value (RFC 4271, section 4.3).
 #[derive(Clone, Copy, Debug)]
 pub struct Tlv<'a> {
-    /// The place of its flags in the attribute field.
+    /// The offset of its flags in the attribute field.
     pub at: usize,
+    /// The flags octet.
     pub flags: Flags,
     /// The type.
     pub kind: u8,
@@ -17,6 +18,7 @@ pub struct Tlv<'a> {
     pub whole: &'a [u8],
     /// The octets of its value.
     pub value: &'a [u8],
+    /// `whole` is the spelling of these flags, this type and this value.
     pub ghost spelled: { whole.now ≡ tlv_octets flags.0 kind value.now },
 }
 

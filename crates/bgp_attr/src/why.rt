@@ -1,6 +1,6 @@
-//! Why an attribute isn't kept.
+//! Why an attribute is discarded, or its message treated as a withdrawal.
 
-/// Why an attribute isn't kept, or a message has none of its type (RFC 7606, sections 3 and 7; RFC 7607).
+/// Why an attribute is discarded, or its message treated as a withdrawal (RFC 7606, sections 3 and 7; RFC 7607).
 #[derive(Clone, Copy, Debug, PartialEq, Eq)]
 pub enum Why {
     /// The Optional or the Transitive bit isn't that of the type.

@@ -262,7 +262,7 @@ fn put_value(ctx: &Context, attr: AttrRef<'_>, out: &mut Vec<u8>) -> Result<(), 
     }
 }
 
-/// Adds an attribute whose value has so many octets; a part of it may stay where a growth was refused.
+/// Adds an attribute whose value has so many octets; a part of it may stay where an allocation failed.
 #[tactic(auto, using(crate::proofs::WrittenTlv::head_then_value))]
 fn put_attr(
     ctx: &Context,
@@ -286,7 +286,7 @@ fn put_attr(
 /// Adds the one written form of an attribute: the shortest length, and 0 for all that is ignored.
 ///
 /// # Errors
-/// `AllocError` where a growth was refused; the vector is then as it was.
+/// `AllocError` where an allocation failed; the vector is then as it was.
 pub fn write_attr_ref(ctx: &Context, attr: AttrRef<'_>, out: &mut Vec<u8>) -> Result<(), AllocError>
     requires { is_writable ctx.now (ref_value attr) ≡ true }
     ensures ok { OnOk result (out.new.items ≡ out.old.items ++ canonical ctx.now (ref_value attr.entry)) }
@@ -308,7 +308,7 @@ pub fn write_attr_ref(ctx: &Context, attr: AttrRef<'_>, out: &mut Vec<u8>) -> Re
 /// Adds the one written form of an attribute, as [`write_attr_ref`] does.
 ///
 /// # Errors
-/// `AllocError` where a growth was refused; the vector is then as it was.
+/// `AllocError` where an allocation failed; the vector is then as it was.
 pub fn write_attr(ctx: &Context, attr: &Attr, out: &mut Vec<u8>) -> Result<(), AllocError>
     requires { is_writable ctx.now attr.now ≡ true }
     ensures ok { OnOk result (out.new.items ≡ out.old.items ++ canonical ctx.now attr.now) }

@@ -1,11 +1,11 @@
-//! Counts what the messages of a stream come to.
+//! Counts the outcomes of a stream's messages.
 
 use crate::stream::{See, decode};
 use bgp_msg::{Kind, Outcome};
 use std::alloc::{AllocError, Global};
 use std::io;
 
-/// How many messages came to each kind of outcome, and their octets.
+/// How many messages had each kind of outcome, and their octets.
 #[derive(Clone, Copy)]
 struct Tally {
     opens: u64,
@@ -67,7 +67,7 @@ impl See for Tally {
     }
 }
 
-/// Decodes the stream so many times, and prints what one time came to.
+/// Decodes the stream so many times, and prints the counts of one time.
 pub(crate) fn run(rt: &(impl Print + AllocGlobal), octets: &[u8], rounds: u32) -> io::Result<()> {
     let mut tally = Tally::new();
     for _round in 0..rounds {

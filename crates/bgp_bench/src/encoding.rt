@@ -1,4 +1,4 @@
-//! Encodes the messages that are taken of a stream.
+//! Encodes the messages of a stream that are accepted.
 
 use crate::stream::{CONTEXT, See, decode};
 use bgp_msg::{Message, Outcome, encode};
@@ -6,7 +6,7 @@ use bgp_update::WriteFault;
 use std::alloc::{AllocError, Global};
 use std::io;
 
-/// The messages that are taken.
+/// The messages that are accepted.
 #[derive(Drop)]
 struct Kept {
     messages: Vec<Message>,
@@ -48,7 +48,7 @@ fn encode_each(messages: &[Message], buffer: &mut Vec<u8>) -> Result<Written, Al
     Ok(written)
 }
 
-/// Encodes the messages of the stream so many times, and prints what one time came to.
+/// Encodes the messages of the stream so many times, and prints the counts of one time.
 pub(crate) fn run(rt: &(impl Print + AllocGlobal), octets: &[u8], rounds: u32) -> io::Result<()> {
     let mut kept = Kept {
         messages: Vec::new(rt.alloc()),

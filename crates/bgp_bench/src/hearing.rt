@@ -100,7 +100,7 @@ fn established(alloc: Global) -> Result<Session, AllocError> {
     Ok(session)
 }
 
-/// Lets an Established session hear the stream so many times, and prints what one time came to, and where the session stood behind it.
+/// Lets an Established session hear the stream so many times, and prints the counts of one time, and where the session stood then.
 pub(crate) fn run(rt: &(impl Print + AllocGlobal), octets: &[u8], rounds: u32) -> io::Result<()> {
     let mut session = established(rt.alloc())?;
     let mut heard = Heard::new();

@@ -14,7 +14,7 @@ use std::io::Read;
 use std::process::ExitCode;
 use std::{env, io};
 
-/// The status of words that ask for nothing that it does, of refused memory, and of a read or a write that failed.
+/// The status of words that ask for nothing that it does, of an allocation that failed, and of a read or a write that failed.
 const MISUSE: u8 = 2;
 
 const MEMORY: u8 = 3;
@@ -28,7 +28,7 @@ fn asked(rt: &HostRuntime) -> io::Result<Option<Request>> {
     Ok(Request::parse(&words))
 }
 
-/// Does the work, and prints what one round of it came to.
+/// Does the work, and prints the counts of one round.
 fn work(rt: &HostRuntime, request: Request) -> io::Result<()> {
     let mut octets = Vec::new(rt.alloc());
     rt.stdin().read_to_end(&mut octets)?;

@@ -1,4 +1,4 @@
-//! A stream that a decoder takes in pieces.
+//! A stream that a decoder reads in pieces.
 
 use bgp_msg::{Decoder, Outcome};
 use bgp_open::Context;
@@ -16,13 +16,13 @@ pub(crate) const CONTEXT: Context = Context {
     hold: 90,
 };
 
-/// Who is shown what the messages of a stream come to.
+/// Who is shown the outcomes of a stream's messages.
 pub(crate) trait See {
-    /// Sees what a message of so many octets comes to.
+    /// Sees the outcome of a message of so many octets.
     fn see(&mut self, alloc: Global, len: u16, outcome: &Outcome) -> Result<(), AllocError>;
 }
 
-/// Shows what comes of a piece.
+/// Shows the outcomes of a piece.
 #[tactic(auto, using(crate::proofs::Taken::decoder_takes_within))]
 fn decode_piece<S: See>(
     alloc: Global,
@@ -43,7 +43,7 @@ fn decode_piece<S: See>(
     Ok(())
 }
 
-/// Shows what comes of a stream.
+/// Shows the outcomes of a stream.
 pub(crate) fn decode<S: See>(alloc: Global, octets: &[u8], seer: &mut S) -> Result<(), AllocError> {
     let mut decoder = Decoder::new(CONTEXT);
     for piece in octets.chunks(PIECE) {

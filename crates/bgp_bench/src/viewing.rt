@@ -1,10 +1,10 @@
-//! Counts what the messages of a stream come to where they stand, without memory.
+//! Counts the outcomes of a stream's messages as views, without memory.
 
 use crate::stream::CONTEXT;
 use bgp_msg::{OutcomeView, Step, front, view_frame};
 use std::io;
 
-/// How many messages came to each kind of outcome, and their octets.
+/// How many messages had each kind of outcome, and their octets.
 #[derive(Clone, Copy)]
 struct Viewed {
     taken: u64,
@@ -60,7 +60,7 @@ fn view(octets: &[u8]) -> Viewed {
     viewed
 }
 
-/// Views the stream so many times, and prints what one time came to.
+/// Views the stream so many times, and prints the counts of one time.
 pub(crate) fn run(rt: &impl Print, octets: &[u8], rounds: u32) -> io::Result<()> {
     let mut viewed = view(&[]);
     for _round in 0..rounds {

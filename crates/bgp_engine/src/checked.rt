@@ -79,7 +79,7 @@ impl Page for CheckPage {
     }
 }
 
-/// Counts what the messages of a stream come to in a context, and prints the counts and the end. It reads as `show` does.
+/// Counts the outcomes of a stream's messages in a context, and prints the counts and the end. It reads as `show` does.
 ///
 /// # Errors
 /// As `show`; nothing is written before the last lines.

@@ -9,19 +9,19 @@ use thiserror::Error;
 /// A fault of the tool itself. Its text follows `bgp: ` on standard error.
 #[derive(Clone, Copy, Debug, PartialEq, Eq, Error)]
 pub enum ToolFault {
-    /// A growth was refused.
+    /// An allocation failed.
     #[error("memory")]
     Memory,
     /// A read failed, or the reader was asked too often.
     #[error("read failed")]
     Read,
-    /// A write failed, or took no octet.
+    /// A write failed, or wrote no octet.
     #[error("write failed")]
     Write,
-    /// A character of the hexadecimal text is bad: at this place, counted from 0.
+    /// A character of the hexadecimal text is bad: at this offset, counted from 0.
     #[error("bad hex at {0}")]
     BadHex(u64),
-    /// The message, the faulty header or the rest at this place of the stream, counted from 0, can't be narrowed.
+    /// The message, the faulty header or the incomplete message at this offset of the stream, counted from 0, can't be narrowed.
     #[error("cannot narrow at {0}")]
     Narrow(u64),
     /// This line of a script is the first at fault, counted from 1.

@@ -92,8 +92,8 @@ impl Page for HexPage {
     }
 }
 
-/// Prints each whole message of a stream as one line of hexadecimal digits, without judging its body; behind them a header's fault or the
-/// octets that wait. It reads as `show` does.
+/// Prints each whole message of a stream as one line of hexadecimal digits, without judging its body; behind them a header's fault or an
+/// incomplete message. It reads as `show` does.
 ///
 /// # Errors
 /// `Memory`, `Read` and `Write` at once, without a second try. What was written before a fault stands.

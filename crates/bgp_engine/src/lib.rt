@@ -1,4 +1,4 @@
-//! Engines over readers and writers: what they make of a stream of BGP messages, and what they answer.
+//! The engines of the commands, each from a reader to a writer: what they print of a stream of BGP messages, and what they answer.
 #![tactic(auto)]
 
 mod checked;

@@ -178,11 +178,11 @@ impl Page for NarrowPage {
 }
 
 /// Writes a stream of messages with AS numbers of four octets as one for a speaker with two (RFC 6793, section 4.2.2): each UPDATE narrowed,
-/// every other message octet for octet. It reads as `show` does, and each whole message counts as taken.
+/// every other message octet for octet. It reads as `show` does, and each whole message counts as accepted.
 ///
 /// # Errors
-/// `Memory`, `Read` and `Write` at once, without a second try; `Narrow` with the place of the first message that isn't taken, or that can't
-/// be written, of a header with a fault, or of octets that wait. What was written before a fault stands.
+/// `Memory`, `Read` and `Write` at once, without a second try; `Narrow` with the offset of the first message that isn't accepted, or that can't
+/// be written, of a header with a fault, or of an incomplete message. What was written before a fault stands.
 pub fn narrow_stream<R: Read, W: Write>(
     alloc: Global,
     ctx: &Context,

@@ -10,7 +10,7 @@ use std::io::Write;
 /// Writes the whole text, and tries nothing twice.
 ///
 /// # Errors
-/// `Write` where a write fails or takes no octet; what was written before stands.
+/// `Write` where a write fails or writes no octet; what was written before stands.
 pub fn put<W: Write>(output: &mut W, text: &[u8]) -> Result<(), ToolFault>
     ensures ok { OnOk result (Appends (W.contents output.old) (W.contents output.new) text.now) }
     ensures err { IfErr result (FailsWithin (W.contents output.old) (W.contents output.new) text.now) }

@@ -16,7 +16,7 @@ pub(crate) trait Page {
     ghost use Rattle.std.specs.Prelude.{ℕ, List};
     ghost use Rattle.bgp_engine.specs.Rules.{Rules};
 
-    /// What a message comes to.
+    /// The outcome of a message.
     ghost Outcome: { Type 0 };
 
     ghost rules: { Self → Rules Outcome };

@@ -154,7 +154,7 @@ impl Page for ShowPage {
     }
 }
 
-/// Prints what the messages of a stream come to in a context. The stream stands as it is, or as hexadecimal text.
+/// Prints the outcome of each message of a stream in a context. The stream stands as it is, or as hexadecimal text.
 ///
 /// The reader is asked for at most 4096 octets at a time, and at most 4,294,967,295 times. What a block brought is
 /// written before the reader is asked again. Behind a reset it isn't asked.

@@ -1,4 +1,4 @@
-//! The counts of a run, and the status that they come to.
+//! The counts of a run, and the status that follows from them.
 
 ghost use Rattle.std.specs.Prelude.{◌≡◌};
 ghost use Rattle.bgp_engine.specs.Tally.{status_of};
@@ -11,16 +11,17 @@ use bgp_frame::End;
 pub struct Tally {
     /// Whole messages, whatever came of them.
     pub messages: u64,
-    /// Messages that were taken.
+    /// Messages that were accepted.
     pub took: u64,
-    /// UPDATE messages whose routes were withdrawn.
+    /// UPDATE messages that were treated as withdrawals.
     pub withdrawn: u64,
     /// Resets, by a message or by a header.
     pub resets: u64,
+    /// How the stream ended.
     pub end: End,
 }
 
-/// The status of the process: 0 where all was taken and nothing waits; 1 at a withdraw, a reset, a waiting rest, bad
+/// The status of the process: 0 where each message was accepted and none is incomplete; 1 at treat-as-withdraw, a reset, an incomplete message, bad
 /// hexadecimal text, what can't be narrowed, or a faulty script; 3 where memory ran out; 4 where a read, a write or the set-up of a
 /// listener failed. (2 is a fault of the command line.)
 pub fn status(outcome: &Result<Tally, ToolFault>) -> u8

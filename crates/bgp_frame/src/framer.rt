@@ -11,7 +11,7 @@ use crate::step::{Step, shown};
 use arrayvec::ArrayVec;
 use std::marker::Model;
 
-/// Takes the octets of a stream, in whatever pieces they come, and holds at most one message (RFC 4271, section 4.1).
+/// Reads the octets of a stream, in whatever pieces they come, and holds at most one message (RFC 4271, section 4.1).
 ///
 /// A header is judged once its 19 octets are there, and not before. At most 4096 octets are held, and no call takes memory.
 #[derive(Debug, Drop)]
@@ -58,9 +58,9 @@ impl Framer {
         &self.buffer
     }
 
-    /// Takes octets from the front of the piece until the piece ends, or a whole message or a header with a fault is held.
+    /// Consumes octets of the piece until it ends, or a whole message or a header with a fault is held.
     ///
-    /// Answers how many it took.
+    /// Answers how many it consumed.
     pub fn feed(&mut self, piece: &[u8]) -> usize
         ensures takes { Takes self.old piece.now result }
         ensures appends { self.new ≡ self.old ++ take result piece.now }

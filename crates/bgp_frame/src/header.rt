@@ -37,7 +37,7 @@ pub fn head(kind: Kind, body_len: u16) -> [u8; 19]
     octets
 }
 
-/// What the 19 octets at the front say, or the first fault. The tests are those of RFC 4271, section 6.1, and their order our own.
+/// What the first 19 octets say, or the first fault. The tests are those of RFC 4271, section 6.1, and their order our own.
 #[tactic(auto, unfolding(crate::specs::Head::head_of))]
 pub(crate) fn read_head(octets: &[u8]) -> Result<Header, HeadFault>
     requires { 19 ≤ length octets.now }

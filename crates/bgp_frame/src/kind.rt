@@ -5,9 +5,13 @@ use bgp_numbers::message;
 /// What a message is, by the octet of its type (RFC 4271, section 4.1).
 #[derive(Clone, Copy, Debug, PartialEq, Eq, Hash)]
 pub enum Kind {
+    /// OPEN, type 1: 29 octets or more (RFC 4271, section 4.2).
     Open = message::OPEN as isize,
+    /// UPDATE, type 2: 23 octets or more (RFC 4271, section 4.3).
     Update = message::UPDATE as isize,
+    /// NOTIFICATION, type 3: 21 octets or more (RFC 4271, section 4.5).
     Notification = message::NOTIFICATION as isize,
+    /// KEEPALIVE, type 4: 19 octets (RFC 4271, section 4.4).
     Keepalive = message::KEEPALIVE as isize,
 }
 

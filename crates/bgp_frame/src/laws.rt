@@ -20,7 +20,7 @@ pub fn headers_begin_messages()
     ensures { (h : List ℕ) → length h ≡ 19 → AreOctets h → ((header : Header) × (head_of h ≡ Ok header)) ↔ ((rest : List ℕ) × IsWhole (h ++ rest)) }
 {}
 
-/// How many octets a framer takes is one number.
+/// How many octets a framer consumes is one number.
 pub fn one_count_is_taken()
     ensures { (held piece : List ℕ) (n m : ℕ) → Takes held piece n → Takes held piece m → n ≡ m }
 {}

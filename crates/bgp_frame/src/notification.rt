@@ -7,8 +7,11 @@ use arrayvec::ArrayVec;
 /// A NOTIFICATION (RFC 4271, section 4.5): an error's code and subcode, and at most 4075 octets of information.
 #[derive(Debug, Drop, PartialEq, Eq)]
 pub struct Notification {
+    /// The error code.
     pub code: u8,
+    /// The error subcode: 0 where the code has none.
     pub subcode: u8,
+    /// The Data field.
     pub info: ArrayVec<u8, 4075>,
 }
 
@@ -40,9 +43,13 @@ impl Notification {
 /// A NOTIFICATION whose information still lies in the octets that are at fault: a few words in place of 4 KB.
 #[derive(Clone, Copy, Debug)]
 pub struct NotificationView<'a> {
+    /// The error code.
     pub code: u8,
+    /// The error subcode: 0 where the code has none.
     pub subcode: u8,
+    /// The Data field: at most 4075 octets.
     pub info: &'a [u8],
+    /// The Data field fits in a message.
     pub ghost fits: { length info.now ≤ 4075 },
 }
 

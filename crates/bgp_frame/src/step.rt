@@ -1,4 +1,4 @@
-//! What the octets at the front of a stream come to.
+//! What the first octets of a stream are.
 
 ghost use Rattle.bgp_frame.specs.Framer.{IsHeld};
 ghost use Rattle.bgp_frame.specs.Step.{ShowsFront, ShowsStep};
@@ -10,7 +10,9 @@ use crate::kind::Kind;
 /// A whole message, with its body as it stands on the wire.
 #[derive(Clone, Copy, Debug, PartialEq, Eq)]
 pub struct Frame<'a> {
+    /// The type of the message.
     pub kind: Kind,
+    /// The octets behind the header: at most 4077.
     pub body: &'a [u8],
     /// The octets of the whole message, as its header says: the body's and 19 more.
     pub len: u16,
@@ -21,11 +23,13 @@ pub struct Frame<'a> {
 pub enum Step<'a> {
     /// The message needs more octets.
     More,
+    /// A whole message.
     Frame(Frame<'a>),
+    /// A header that begins no message: nothing behind it can be read.
     Fault(HeadFault),
 }
 
-/// What stands at the front of a piece of a stream: what a new framer that is fed the piece shows, borrowed from the piece
+/// What a piece of a stream begins with: what a new framer that is fed the piece shows, borrowed from the piece
 /// (RFC 4271, sections 4.1 and 6.1). Octets behind a whole message, or behind a header with a fault, have no effect.
 #[tactic(auto, using(crate::proofs::Holding::shows_short))]
 pub fn front(piece: &[u8]) -> Step<'_>

@@ -34,7 +34,7 @@ fn text_of(alloc: Global, report: &Report) -> Result<String, AllocError>
 ///
 /// # Errors
 /// `Script` with the number of the lowest faulty line: the whole script is read before the first move, so nothing is written then. `Write`
-/// where a write fails or takes no octet: what was written before stands. `Memory` where a growth was refused: nothing is written then.
+/// where a write fails or writes no octet: what was written before stands. `Memory` where an allocation failed: nothing is written then.
 pub fn run_loop<W: Wire, O: Write>(
     alloc: Global,
     script: &[u8],

@@ -25,8 +25,8 @@ pub enum Action {
     Arm(Timer, u16),
     /// Stop the timer.
     Disarm(Timer),
-    /// The peer announces and withdraws routes, without the attributes that end here; beside them stand the path and the aggregator that
-    /// AS numbers of four octets give.
+    /// The peer announces and withdraws routes: the UPDATE without the attributes that aren't passed on, and beside it the path and the
+    /// aggregator in AS numbers of four octets.
     Announce(Update, PathInfo),
     /// The peer's message is treated as a withdrawal of its routes (RFC 7606, section 2).
     Withdraw(Routes),

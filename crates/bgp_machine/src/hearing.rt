@@ -219,7 +219,7 @@ impl Standing {
     /// What a whole message does.
     ///
     /// # Errors
-    /// `AllocError` where a growth was refused: nothing is changed then.
+    /// `AllocError` where an allocation failed: nothing is changed then.
     pub(crate) fn hear(
         &mut self,
         alloc: Global,

@@ -11,7 +11,7 @@ ghost use Rattle.bgp_machine.specs.Session.{Machine, fresh, after_event};
 ghost use Rattle.bgp_machine.specs.Cutting.{IsAtRest, Piece, joined, Cuts, CanBeFed, by_octets};
 ghost use Rattle.bgp_machine.specs.Life.{Call, Life, born, Lives, BeginsByOpenAndKeepalive};
 
-/// Whatever is called for, in whatever order: where a session is Established, the octets that it has taken since its connection stands begin
+/// Whatever is called for, in whatever order: where a session is Established, the octets that it has read since its connection stands begin
 /// with an OPEN that it accepted, from which it has its context, and then a KEEPALIVE.
 pub fn established_is_behind_open_and_keepalive()
     ensures { (s : Settings) (calls : List Call) (life : Life) → Lives (born s) calls life
@@ -38,7 +38,7 @@ pub fn events_leave_nothing_to_do()
     ensures event { (x : Machine) (event : Event) → IsAtRest x → IsAtRest (after_event x event) }
 {}
 
-/// Octets can be fed in whatever pieces they come: each `feed` takes a number of octets, and then so many steps give something.
+/// Octets can be fed in whatever pieces they come: each `feed` consumes some of them, and then so many steps give something.
 pub fn any_pieces_can_be_fed()
     ensures { (x : Machine) (pieces : List (List ℕ)) → IsAtRest x → AreOctets (flat_map (λ piece. piece) pieces) → CanBeFed x pieces }
 {}

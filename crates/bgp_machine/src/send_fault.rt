@@ -13,7 +13,7 @@ pub enum SendFault {
     NotValid(Invalid),
     /// 3: the message would have more than 4096 octets (RFC 4271, section 4.1).
     TooLong,
-    /// 4: a growth was refused.
+    /// 4: an allocation failed.
     Memory,
 }
 

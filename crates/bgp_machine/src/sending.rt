@@ -93,7 +93,7 @@ impl Session {
     ///
     /// # Errors
     /// `NotEstablished` where the session isn't; else `NotValid` for the first reason in the order of their numbers, by the rules of a session with
-    /// AS numbers of four octets; else `TooLong`; `Memory` where a growth was refused, on a session with AS numbers of two octets also in the
+    /// AS numbers of four octets; else `TooLong`; `Memory` where an allocation failed, on a session with AS numbers of two octets also in the
     /// place of `TooLong`. Nothing is appended then.
     pub fn send(
         &self,

@@ -104,8 +104,8 @@ impl Session {
         actions
     }
 
-    /// Takes octets from the front of the piece until the piece ends, or a whole message or a header with a fault is held. Answers how
-    /// many it took: none before the connection stands.
+    /// Consumes octets of the piece until it ends, or a whole message or a header with a fault is held. Answers how many it consumed: none
+    /// before the connection stands.
     pub fn feed(&mut self, piece: &[u8]) -> usize
         ensures fed { IsFed self.old piece.now result self.new }
         // Where what is held waits for more, nothing is left to do.

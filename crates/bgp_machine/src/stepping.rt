@@ -16,7 +16,7 @@ impl Session {
     /// What is to be done on the message, or the header with a fault, that is held: it is let go with that. None where neither is held.
     ///
     /// # Errors
-    /// `AllocError` where a growth was refused: only for an OPEN without fault in OpenSent, and for an UPDATE that doesn't end the session in
+    /// `AllocError` where an allocation failed: only for an OPEN without fault in OpenSent, and for an UPDATE that doesn't end the session in
     /// Established. Nothing is changed then, and the call can be made again.
     pub fn step(&mut self, alloc: Global) -> Result<Option<Actions>, AllocError>
         ensures ok { IfOk result (λ found. IsJudged self.old found self.new) }
@@ -46,15 +46,15 @@ impl Session {
         }
     }
 
-    /// What is to be done on what is held, or on the message or the faulty header at the front of the piece: it is judged where it stands, and
-    /// not copied. Answers first how many octets of the piece were taken, and None where more octets are needed, and before the connection
-    /// stands.
+    /// What is to be done on what is held, or on the message or the faulty header that the piece begins with: it is judged where it stands,
+    /// and not copied. Answers first how many octets of the piece were consumed, and None where more octets are needed, and before the
+    /// connection stands.
     ///
-    /// What is held comes first, and then nothing is taken. Where octets are held that wait for more, or the piece waits for more, the piece
-    /// is fed. Else the front of the piece is taken: as many octets as its Length says, or the 19 of a header with a fault.
+    /// What is held comes first, and then nothing of the piece is consumed. Where an incomplete message is held, or the piece has less than a
+    /// message, the piece is fed. Else one message of the piece is consumed: as many octets as its Length says, or the 19 of a faulty header.
     ///
     /// # Errors
-    /// As `step`. Nothing is taken then, and the call can be made again.
+    /// As `step`. Nothing of the piece is consumed then, and the call can be made again.
     #[tactic(auto, using(crate::proofs::Pulls::pulls_as_fed))]
     pub fn pull(
         &mut self,

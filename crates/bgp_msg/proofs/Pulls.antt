@@ -1,5 +1,7 @@
 -- What is pulled from a piece.
-use Rattle.std.proofs.Common.{◌≡◌, ℕ, ◌≤◌, ◌⊎◌, Bool, true, false, List, [], ◌++◌, length, take, drop, Err, Option, Some, None, refl, sym, ap, subst, ◌∙◌, arith, inl, inr}
+use Rattle.std.proofs.Common.{◌≡◌, ℕ, ◌≤◌, ◌⊎◌, Bool, true, false, List, [], ◌++◌, length, take, drop, Result, Err, OnErr, Option, Some, None, refl, sym, ap, subst, ◌∙◌, arith, inl, inr}
+use Rattle.std.specs.Result.{IfOk}
+use Rattle.std.proofs.lemmas.Result.{IfOk-weaker, on_err_weaker}
 use Rattle.std.proofs.lemmas.List.{length-take, take-append-drop, append-nil}
 use Rattle.bgp_frame.specs.declared.fault.HeadFault.{HeadFault}
 use Rattle.bgp_frame.specs.Head.{head_of}
@@ -9,7 +11,9 @@ use Rattle.bgp_frame.proofs.FrameLemmas.{head_of-append, Stops-wanted, wanted-ap
 use Rattle.bgp_open.specs.declared.context.Context.{Context}
 use Rattle.bgp_msg.specs.declared.outcome.Outcome.{Outcome}
 use Rattle.bgp_msg.specs.Outcome.{out_of, of_fault, is_reset}
-use Rattle.bgp_msg.specs.Decoder.{Decoding, CountsFed, holding, behind, IsFed, GivesMessage, GivesFault, IsNext, PullsNothing, PullsSome, PullsHeld, PullsFront, IsPulled, IsFedAndNext}
+use Rattle.bgp_msg.specs.OutcomeView.{has_lists}
+use Rattle.bgp_msg.proofs.Lists.{lists_have_kinds, lists_go_on}
+use Rattle.bgp_msg.specs.Decoder.{Decoding, FrontTakesMemory, CountsFed, holding, behind, IsFed, GivesMessage, GivesFault, IsNext, PullsNothing, PullsSome, PullsHeld, PullsFront, IsPulled, IsFedAndNext}
 use Rattle.bgp_msg.proofs.Decodings.{nothing_waits}
 use Rattle.bgp_msg.proofs.Nexts.{at_hand, message_next}
 
@@ -84,6 +88,25 @@ pulls_front_message old new piece m n o going none front comes is =
       takes = takes_front piece n within (inl (m, front.1));
       next = message_next old.ctx (take n piece) old.stopped m n o new going front.1 (omega arith) comes is;
     })
+
+module _ (old new : Decoding) (piece : List ℕ) (m : Message) (n : ℕ) (o : Outcome) (going : old.stopped ≡ false) (none : old.held ≡ [])
+    (front : (n ≤ length piece) × IsFrame m (take n piece)) (comes : o ≡ out_of old.ctx m) where
+  pub whole_pulled : {E : Type 0} (r : Result (ℕ × Option (ℕ × Outcome)) E) → IfOk r (λ x. (x ≡ (n, Some (n, o))) × (new ≡ behind old o))
+      → IfOk r (λ x. IsPulled old piece x.0 x.1 new)
+  whole_pulled r gives =
+      IfOk-weaker r (λ x. (x ≡ (n, Some (n, o))) × (new ≡ behind old o)) (λ x. IsPulled old piece x.0 x.1 new)
+      (λ x p. subst (λ (y : ℕ × Option (ℕ × Outcome)). IsPulled old piece y.0 y.1 new) (sym p.0) (pulls_front_message old new piece m n o going none front comes p.1)) gives
+
+  pub whole_takes_memory : {T E : Type 0} (r : Result T E) → OnErr r (has_lists o ≡ true) → OnErr r (FrontTakesMemory old piece)
+  whole_takes_memory r refused = on_err_weaker r (λ e.
+      let lists : has_lists (out_of old.ctx m) ≡ true = ap has_lists (sym comes) ∙ e in
+      record {
+        going = going;
+        none_held = none;
+        n = n;
+        within = front.0;
+        takes = record { message = m; is_held = front.1; holds_lists = lists_have_kinds old.ctx m lists; goes_on = lists_go_on (out_of old.ctx m) lists };
+      }) refused
 
 -- ---- a pull is a feed, and next where something comes
 

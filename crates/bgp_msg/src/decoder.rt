@@ -12,8 +12,8 @@ use bgp_open::Context;
 use std::alloc::{AllocError, Global};
 use std::marker::Model;
 
-/// Takes the octets of a stream, in whatever pieces they come, and hands out what each message comes to. It holds at most one
-/// message, of at most 4096 octets; behind a reset it holds and takes nothing.
+/// Reads the octets of a stream, in whatever pieces they come, and hands out the outcome of each message. It holds at most one
+/// message, of at most 4096 octets; behind a reset it holds and reads nothing.
 #[derive(Debug, Drop)]
 pub struct Decoder {
     ctx: Context,
@@ -33,7 +33,7 @@ impl Model for Decoder {
 }
 
 impl Decoder {
-    /// A decoder of the messages of a session in this context, at the front of a stream.
+    /// A decoder of the messages of a session in this context, at the beginning of a stream.
     pub fn new(ctx: Context) -> Decoder
         ensures { result ≡ fresh ctx }
     {
@@ -44,7 +44,7 @@ impl Decoder {
         }
     }
 
-    /// Whether a reset was handed out: nothing behind it is taken.
+    /// Whether a reset was handed out: nothing behind it is read.
     pub fn stopped(&self) -> bool
         ensures { result ≡ self.now.stopped }
     {
@@ -59,8 +59,8 @@ impl Decoder {
         self.framer.held()
     }
 
-    /// Takes octets from the front of the piece until the piece ends, or a whole message or a header with a fault is held. Answers how
-    /// many it took: none behind a reset.
+    /// Consumes octets of the piece until it ends, or a whole message or a header with a fault is held. Answers how many it consumed: none
+    /// behind a reset.
     pub fn feed(&mut self, piece: &[u8]) -> usize
         ensures { IsFed self.old piece.now result self.new }
     {
@@ -71,11 +71,11 @@ impl Decoder {
         }
     }
 
-    /// What the message or the header that is held comes to, with the octets of the message, 0 for a header's fault. None where it waits
-    /// for more octets, and behind a reset.
+    /// The outcome of the message or the header that is held, with the octets of the message, 0 for a header's fault. None where the message
+    /// is incomplete, and behind a reset.
     ///
     /// # Errors
-    /// `AllocError` where a growth was refused: only for an OPEN or an UPDATE that doesn't end the session. What is held stays then, and the
+    /// `AllocError` where an allocation failed: only for an OPEN or an UPDATE that doesn't end the session. What is held stays then, and the
     /// call can be made again.
     pub fn next(&mut self, alloc: Global) -> Result<Option<(u16, Outcome)>, AllocError>
         ensures ok { IfOk result (λ found. IsNext self.old found self.new) }
@@ -102,16 +102,16 @@ impl Decoder {
         }
     }
 
-    /// What is held comes to, or the message or the faulty header at the front of the piece, with its octets in number: it is judged where
-    /// it stands, and not copied. Answers first how many octets of the piece it took, and None where more octets are needed, and behind a
-    /// reset.
+    /// The outcome of what is held, or of the message or the faulty header that the piece begins with, with its octets in number: it is
+    /// judged where it stands, and not copied. Answers first how many octets of the piece were consumed, and None where more octets are
+    /// needed, and behind a reset.
     ///
-    /// What is held comes first, and then nothing is taken. Where octets are held that wait for more, or the piece waits for more, the piece
-    /// is fed. Else the front of the piece is taken: as many octets as its Length says, or the 19 of a header with a fault.
+    /// What is held comes first, and then nothing of the piece is consumed. Where an incomplete message is held, or the piece has less than a
+    /// message, the piece is fed. Else one message of the piece is consumed: as many octets as its Length says, or the 19 of a faulty header.
     ///
     /// # Errors
-    /// `AllocError` where a growth was refused: only for an OPEN or an UPDATE that doesn't end the session. Nothing is taken then, and the
-    /// call can be made again.
+    /// `AllocError` where an allocation failed: only for an OPEN or an UPDATE that doesn't end the session. Nothing is consumed then, and
+    /// the call can be made again.
     #[tactic(auto, using(crate::proofs::Pulls::pulls_as_fed))]
     pub fn pull(
         &mut self,

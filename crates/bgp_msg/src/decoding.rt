@@ -1,4 +1,4 @@
-//! What a whole stream comes to, in whatever pieces it comes.
+//! The outcomes of a whole stream, in whatever pieces it comes.
 
 ghost use Rattle.std.specs.Prelude.{◌≡◌, ◌<◌, ◌≤◌, [], false, length, drop, IfOk};
 ghost use Rattle.std.specs.List.{flat_map};
@@ -91,11 +91,11 @@ fn decode_piece(
     Ok(None)
 }
 
-/// What a stream comes to in a context: each message's outcome in order, with its octets in number, up to the first reset; and how the
+/// The outcomes of a stream in a context: each message's in order, with its octets in number, up to the first reset; and how the
 /// stream ends. Where it was cut into pieces has no effect.
 ///
 /// # Errors
-/// `AllocError` where a growth was refused.
+/// `AllocError` where an allocation failed.
 pub fn decode_all(alloc: Global, ctx: &Context, pieces: &[&[u8]]) -> Result<Seen, AllocError>
     ensures { IfOk result (λ seen. IsSeen ctx.now (flat_map (λ piece. piece.now) pieces.now) seen) }
 {

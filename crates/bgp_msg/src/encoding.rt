@@ -104,7 +104,7 @@ pub(crate) fn put_header(kind: Kind, start: usize, out: &mut Vec<u8>) -> Result<
 /// Appends a whole message in its one written form (RFC 4271, section 4).
 ///
 /// # Errors
-/// `NotValid` for the first reason why it isn't valid in the context, else `TooLong`, else `Memory` where a growth was refused; nothing
+/// `NotValid` for the first reason why it isn't valid in the context, else `TooLong`, else `Memory` where an allocation failed; nothing
 /// is appended then.
 pub fn encode(ctx: &Context, message: &Message, out: &mut Vec<u8>) -> Result<(), WriteFault>
     ensures not_valid { (why : Invalid) → IsErrOf result (NotValid why) ↔ (invalid_of ctx.now message.now ≡ Some why) }

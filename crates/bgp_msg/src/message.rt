@@ -11,9 +11,13 @@ use std::alloc::{AllocError, Global};
 /// A message (RFC 4271, section 4).
 #[derive(Debug, Drop, PartialEq)]
 pub enum Message {
+    /// OPEN (RFC 4271, section 4.2).
     Open(Open),
+    /// UPDATE (RFC 4271, section 4.3).
     Update(Update),
+    /// NOTIFICATION (RFC 4271, section 4.5).
     Notification(Notification),
+    /// KEEPALIVE (RFC 4271, section 4.4).
     Keepalive,
 }
 
@@ -33,7 +37,7 @@ impl Message {
     /// An equal message, with memory of its own.
     ///
     /// # Errors
-    /// `AllocError` where a growth was refused.
+    /// `AllocError` where an allocation failed.
     pub fn copy(&self, alloc: Global) -> Result<Message, AllocError>
         ensures { IfOk result (λ copy. copy ≡ self.now) }
     {

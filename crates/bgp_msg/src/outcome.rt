@@ -1,4 +1,4 @@
-//! What a message comes to.
+//! The outcome of a message.
 
 ghost use Rattle.std.specs.Prelude.{◌≡◌, IfOk};
 ghost use Rattle.bgp_msg.specs.Outcome.{is_reset};
@@ -9,19 +9,19 @@ use bgp_update::{Note, Routes};
 use bgp_wire::{List, TryCopy};
 use std::alloc::{AllocError, Global};
 
-/// What a message, or the header of one, comes to.
+/// The outcome of a message, or of the header of one.
 #[derive(Debug, Drop, PartialEq)]
 pub enum Outcome {
-    /// It is taken, with notes on what of an UPDATE isn't kept.
+    /// It is accepted, with notes on attributes of an UPDATE that are discarded.
     Took(Message, List<Note>),
-    /// An UPDATE whose routes are all withdrawn (RFC 7606, section 2), with notes on why.
+    /// An UPDATE that is treated as a withdrawal of all its routes (RFC 7606, section 2), with notes on why.
     Withdraw(Routes, List<Note>),
     /// The session ends with this notification.
     Reset(Notification),
 }
 
 impl Outcome {
-    /// Whether the session ends. A NOTIFICATION that was received is taken, and is no reset.
+    /// Whether the session ends. A NOTIFICATION that was received is accepted, and is no reset.
     pub fn is_reset(&self) -> bool
         ensures { result ≡ is_reset self.now }
     {

@@ -1,4 +1,4 @@
-//! What a message comes to, from borrowed octets.
+//! The outcome of a message, from borrowed octets.
 
 ghost use Rattle.std.specs.Prelude.{◌≡◌, true, IfOk, OnErr};
 ghost use Rattle.bgp_update.specs.View.{update_value, notes_value, routes_value};
@@ -13,18 +13,18 @@ use bgp_update::{Note, UpdateView};
 use bgp_wire::List;
 use std::alloc::{AllocError, Global};
 
-/// What a message, or the header of one, comes to: some words that point into its octets, in place of an [`Outcome`] with memory of its own.
+/// The outcome of a message, or of the header of one: some words that point into its octets, in place of an [`Outcome`] with memory of its own.
 #[derive(Clone, Copy, Debug)]
 pub enum OutcomeView<'a> {
-    /// An OPEN is taken.
+    /// An OPEN is accepted.
     Open(OpenView<'a>),
-    /// An UPDATE is taken, with notes on what of it isn't kept.
+    /// An UPDATE is accepted, with notes on attributes that are discarded.
     Update(UpdateView<'a>),
-    /// A NOTIFICATION is taken.
+    /// A NOTIFICATION is accepted.
     Notification(NotificationView<'a>),
-    /// A KEEPALIVE is taken.
+    /// A KEEPALIVE is accepted.
     Keepalive,
-    /// An UPDATE whose routes are all withdrawn (RFC 7606, section 2), with notes on why.
+    /// An UPDATE that is treated as a withdrawal of all its routes (RFC 7606, section 2), with notes on why.
     Withdraw(UpdateView<'a>),
     /// The session ends with this notification.
     Reset(NotificationView<'a>),
@@ -51,7 +51,7 @@ impl OutcomeView<'_> {
     ghost use Rattle.bgp_msg.specs.Outcome.{is_reset};
     ghost use Rattle.bgp_msg.specs.OutcomeView.{outcome_value, has_lists};
 
-    /// Whether the session ends. A NOTIFICATION that was received is taken, and is no reset.
+    /// Whether the session ends. A NOTIFICATION that was received is accepted, and is no reset.
     pub fn is_reset(&self) -> bool
         ensures { result ≡ is_reset (outcome_value self.now) }
     {
@@ -64,7 +64,7 @@ impl OutcomeView<'_> {
     /// The outcome, with memory of its own.
     ///
     /// # Errors
-    /// `AllocError` where a growth was refused: only for an OPEN that is taken, or an UPDATE that doesn't end the session.
+    /// `AllocError` where an allocation failed: only for an OPEN that is accepted, or an UPDATE that doesn't end the session.
     pub fn own(&self, alloc: Global) -> Result<Outcome, AllocError>
         ensures value { IfOk result (λ o. o ≡ outcome_value self.now) }
         ensures err { OnErr result (has_lists (outcome_value self.now) ≡ true) }

@@ -1,4 +1,4 @@
-//! What a stream comes to.
+//! What a stream has: the outcomes of its messages, and an end.
 
 ghost use Rattle.std.specs.Prelude.{◌≡◌, IfOk};
 
@@ -7,11 +7,13 @@ use bgp_frame::End;
 use bgp_wire::List;
 use std::alloc::{AllocError, Global};
 
-/// What a stream of octets comes to: for each message its octets in number and its outcome, and how the stream ends. A header's fault
+/// What a stream of octets has: for each message its octets in number and its outcome, and how the stream ends. A header's fault
 /// is the last outcome, of no octets.
 #[derive(Debug, Drop, PartialEq)]
 pub struct Seen {
+    /// Each outcome in order, behind the octets of its message in number: 19 to 4096, or 0 for a header with a fault.
     pub outs: List<(u16, Outcome)>,
+    /// How the stream ends.
     pub end: End,
 }
 

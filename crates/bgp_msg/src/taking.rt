@@ -1,4 +1,4 @@
-//! What a whole message comes to.
+//! The outcome of a whole message.
 
 ghost use Rattle.std.specs.Prelude.{◌≡◌, ◌+◌, ◌≤◌, ◌⊎◌, false, length, IfOk, OnErr};
 ghost use Rattle.bgp_frame.specs.Kind.{IsLength};
@@ -67,7 +67,7 @@ fn notification_in(body: &[u8]) -> NotificationView<'_>
     }
 }
 
-/// What a whole message comes to in a context, without memory.
+/// The outcome of a whole message in a context, without memory.
 #[inline(always)]
 pub fn view_frame<'a>(ctx: &Context, frame: Frame<'a>) -> OutcomeView<'a>
     requires { IsLength frame.kind (19 + length frame.body.now) }
@@ -81,10 +81,10 @@ pub fn view_frame<'a>(ctx: &Context, frame: Frame<'a>) -> OutcomeView<'a>
     }
 }
 
-/// What a whole message comes to in a context, with memory of its own.
+/// The outcome of a whole message in a context, with memory of its own.
 ///
 /// # Errors
-/// `AllocError` where a growth was refused: only for an OPEN or an UPDATE that doesn't end the session.
+/// `AllocError` where an allocation failed: only for an OPEN or an UPDATE that doesn't end the session.
 #[tactic(auto, using(crate::proofs::Lists::lists_have_kinds, crate::proofs::Lists::lists_go_on))]
 pub fn out_frame(alloc: Global, ctx: &Context, frame: Frame<'_>) -> Result<Outcome, AllocError>
     requires { IsLength frame.kind (19 + length frame.body.now) }

@@ -20,7 +20,7 @@ impl Capability {
     /// An equal capability, with memory of its own.
     ///
     /// # Errors
-    /// `AllocError` where a growth was refused.
+    /// `AllocError` where an allocation failed.
     pub fn copy(&self, alloc: Global) -> Result<Capability, AllocError>
         ensures { IfOk result (λ copy. copy ≡ self.now) }
     {

@@ -9,7 +9,7 @@ use bgp_frame::{Notification, NotificationView};
 use bgp_numbers::{VERSION, error};
 use std::alloc::AllocError;
 
-/// The first fault of the body of an OPEN (RFC 4271, section 6.2), or a refused growth. The order of the tests is our own: the version;
+/// The first fault of the body of an OPEN (RFC 4271, section 6.2), or an allocation that failed. The order of the tests is our own: the version;
 /// the length of the parameters; the first parameter that isn't read, where it is asked whether it is cut off, then for its type, then
 /// for its capabilities; the Hold Time; the identifier.
 #[derive(Clone, Copy, Debug, PartialEq, Eq)]
@@ -24,7 +24,7 @@ pub enum OpenFault {
     Hold,
     /// The BGP Identifier is zero.
     Identifier,
-    /// A growth was refused: nothing is wrong with the body.
+    /// An allocation failed: nothing is wrong with the body.
     Memory,
 }
 

@@ -14,7 +14,7 @@ ghost use Rattle.bgp_open.specs.Capability.{IsCapability, one_capability};
 ghost use Rattle.bgp_open.specs.Parameter.{IsParameter, one_parameter};
 ghost use Rattle.bgp_open.specs.OpenFault.{open_fault, reading_of, HasValueOrFault};
 
-/// No capability is a front of another, and the octets of each have one meaning (RFC 5492, section 4).
+/// No capability begins another one, and the octets of each have one meaning (RFC 5492, section 4).
 pub fn capabilities_are_prefix_free()
     ensures { IsPrefixFree IsCapability }
 {}
@@ -24,7 +24,7 @@ pub fn readings_are_capabilities()
     ensures { Reads IsCapability one_capability }
 {}
 
-/// No parameter is a front of another, and the octets of each hold one list of capabilities (RFC 4271, section 4.2).
+/// No parameter begins another one, and the octets of each hold one list of capabilities (RFC 4271, section 4.2).
 pub fn parameters_are_prefix_free()
     ensures { IsPrefixFree IsParameter }
 {}

@@ -23,7 +23,7 @@ impl Open {
     /// An equal OPEN, with memory of its own.
     ///
     /// # Errors
-    /// `AllocError` where a growth was refused.
+    /// `AllocError` where an allocation failed.
     pub fn copy(&self, alloc: Global) -> Result<Open, AllocError>
         ensures { IfOk result (λ copy. copy ≡ self.now) }
     {

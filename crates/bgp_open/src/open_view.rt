@@ -66,7 +66,7 @@ impl<'a> OpenView<'a> {
     /// The OPEN, with memory of its own.
     ///
     /// # Errors
-    /// `AllocError` where a growth was refused.
+    /// `AllocError` where an allocation failed.
     pub fn own(self, alloc: Global) -> Result<Open, AllocError>
         ensures { IfOk result (λ o. o ≡ open_value self.entry) }
     {

@@ -35,7 +35,7 @@ fn as_field(number: u32) -> u16
 /// IPv4 unicast, IPv6 unicast, AS numbers of four octets.
 ///
 /// # Errors
-/// `AllocError` where a growth was refused.
+/// `AllocError` where an allocation failed.
 pub fn own_open(alloc: Global, config: &Config) -> Result<Open, AllocError>
     ensures { IfOk result (λ o. o ≡ own_of config.now) }
 {

@@ -68,7 +68,7 @@ fn reading(alloc: Global, body: &[u8]) -> Result<Open, OpenFault>
 /// Reads the body of an OPEN (RFC 4271, section 4.2): the octets behind the header, of which a whole OPEN has at least 10.
 ///
 /// # Errors
-/// The first fault, by the tests in the order that [`OpenFault`] tells; `Memory` only where there is none and a growth was refused.
+/// The first fault, by the tests in the order that [`OpenFault`] tells; `Memory` only where there is none and an allocation failed.
 pub fn read_open(alloc: Global, body: &[u8]) -> Result<Open, OpenFault>
     requires { 10 ≤ length body.now }
     // What is read is spelled so.

@@ -17,7 +17,7 @@ pub enum WriteOpenFault {
     /// The Hold Time is 1 or 2, or the identifier zero, or the capabilities have more than 253 octets together, or a
     /// [`Capability::Other`](crate::Capability::Other) has the code 1 or 65.
     NotValid,
-    /// A growth was refused.
+    /// An allocation failed.
     Memory,
 }
 
@@ -32,7 +32,7 @@ impl From<AllocError> for WriteOpenFault {
 /// Appends the body of an OPEN (RFC 4271, section 4.2): its capabilities in one parameter, no parameter where there are none.
 ///
 /// # Errors
-/// `NotValid` exactly where the OPEN isn't valid, else `Memory` where a growth was refused; nothing is appended then.
+/// `NotValid` exactly where the OPEN isn't valid, else `Memory` where an allocation failed; nothing is appended then.
 pub fn write_open(message: &Open, out: &mut Vec<u8>) -> Result<(), WriteOpenFault>
     ensures not_valid { IsErrOf result NotValid ↔ IsTrue (is_bad message.now) }
     ensures ok { OnOk result (out.new.items ≡ out.old.items ++ canonical message.now) }

@@ -12,7 +12,7 @@ ghost use Rattle.bgp_prefix.specs.Prefix.{PrefixValue, IsValid, IsPrefix, HasFir
 ghost use Rattle.bgp_prefix.specs.Prefix.{one_prefix, spelling_of};
 ghost use Rattle.bgp_prefix.specs.Run.{run_of, run_fault};
 
-/// No spelling of a prefix is a proper front of another, and each has one value.
+/// No spelling of a prefix begins another one, and each has one value.
 pub fn spellings_are_prefix_free()
     ensures { (width : ℕ) → IsPrefixFree (IsPrefix width) }
 {}

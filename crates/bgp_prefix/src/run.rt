@@ -36,7 +36,7 @@ fn check_run<const W: usize>(octets: &[u8]) -> bool
 /// The IPv4 prefixes of a run (RFC 4271, section 4.3).
 ///
 /// # Errors
-/// The first fault from the left, or `Memory` where a growth was refused before that.
+/// The first fault from the left, or `Memory` where an allocation failed before that.
 pub fn read_run4(alloc: Global, octets: &[u8]) -> Result<List<Prefix4>, RunFault>
     ensures { IsReading 4 octets.now result }
 {
@@ -46,7 +46,7 @@ pub fn read_run4(alloc: Global, octets: &[u8]) -> Result<List<Prefix4>, RunFault
 /// The IPv6 prefixes of a run (RFC 4760, section 5).
 ///
 /// # Errors
-/// The first fault from the left, or `Memory` where a growth was refused before that.
+/// The first fault from the left, or `Memory` where an allocation failed before that.
 pub fn read_run6(alloc: Global, octets: &[u8]) -> Result<List<Prefix6>, RunFault>
     ensures { IsReading 16 octets.now result }
 {
@@ -82,7 +82,7 @@ fn fault_at<const W: usize>(len: u8) -> RunFault
 /// Adds the octets of the prefixes, each with 0 for the bits past its length.
 ///
 /// # Errors
-/// `AllocError` where a growth was refused; the vector is then as it was.
+/// `AllocError` where an allocation failed; the vector is then as it was.
 pub fn write_run4(prefixes: &[Prefix4], out: &mut Vec<u8>) -> Result<(), AllocError>
     ensures ok { OnOk result (out.new.items ≡ out.old.items ++ flat_map spelling_of prefixes.now) }
     ensures row { OnOk result (Row (IsPrefix 4) prefixes.now (flat_map spelling_of prefixes.now)) }
@@ -96,7 +96,7 @@ pub fn write_run4(prefixes: &[Prefix4], out: &mut Vec<u8>) -> Result<(), AllocEr
 /// Adds the octets of the prefixes, each with 0 for the bits past its length.
 ///
 /// # Errors
-/// `AllocError` where a growth was refused; the vector is then as it was.
+/// `AllocError` where an allocation failed; the vector is then as it was.
 pub fn write_run6(prefixes: &[Prefix6], out: &mut Vec<u8>) -> Result<(), AllocError>
     ensures ok { OnOk result (out.new.items ≡ out.old.items ++ flat_map spelling_of prefixes.now) }
     ensures row { OnOk result (Row (IsPrefix 16) prefixes.now (flat_map spelling_of prefixes.now)) }
@@ -110,7 +110,7 @@ pub fn write_run6(prefixes: &[Prefix6], out: &mut Vec<u8>) -> Result<(), AllocEr
 /// Adds the octets of the prefixes of any family, each with 0 for the bits past its length.
 ///
 /// # Errors
-/// `AllocError` where a growth was refused; the vector is then as it was.
+/// `AllocError` where an allocation failed; the vector is then as it was.
 pub fn write_run<const W: usize>(
     prefixes: &[Prefix<W>],
     out: &mut Vec<u8>,
@@ -129,7 +129,7 @@ pub fn write_run<const W: usize>(
     written
 }
 
-/// Adds the octets of the prefixes; those of the first ones may stay where a growth was refused.
+/// Adds the octets of the prefixes; those of the first ones may stay where an allocation failed.
 fn append_run<const W: usize>(prefixes: &[Prefix<W>], out: &mut Vec<u8>) -> Result<(), AllocError>
     ensures ok { OnOk result (out.new.items ≡ out.old.items ++ flat_map spelling_of prefixes.now) }
     ensures row { OnOk result (Row (IsPrefix W) prefixes.now (flat_map spelling_of prefixes.now)) }

@@ -1,4 +1,4 @@
-//! What the attributes of a field come to, each as the first of its type.
+//! The judgement of each attribute of a field, as the first of its type.
 
 use crate::page::Page;
 use crate::trouble::Trouble;

@@ -1,4 +1,4 @@
-//! Each front of a message, and each change of one of its octets.
+//! Each proper prefix of a message, and each change of one of its octets.
 
 use crate::messages::put_ways;
 use crate::octets::Octets;

@@ -1,4 +1,4 @@
-//! What a stream of messages comes to: whole, octet by octet, by `pull` in the caller's piece, and as views.
+//! The outcomes of a stream of messages: whole, octet by octet, by `pull` in the caller's piece, and as views.
 
 use crate::engines::put_shown;
 use crate::page::Page;

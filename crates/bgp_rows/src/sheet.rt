@@ -1,4 +1,4 @@
-//! A reader and a writer over memory that take none.
+//! A reader and a writer over memory that allocate nothing.
 
 use arrayvec::ArrayVec;
 use std::io::{self, ErrorKind, Read, Write};

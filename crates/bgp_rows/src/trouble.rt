@@ -1,4 +1,4 @@
-//! Why a row comes to nothing.
+//! Why a row can't be tried.
 
 use std::alloc::AllocError;
 

@@ -1,4 +1,4 @@
-//! Scripts for a pair of speakers, and the printed form of what came of them.
+//! Scripts for a pair of speakers, and the printed form of their reports.
 #![tactic(auto)]
 
 mod cut;

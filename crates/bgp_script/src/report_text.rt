@@ -115,7 +115,7 @@ fn put_state(text: &mut String, side: Side, state: State) -> Result<(), AllocErr
 /// sides stand.
 ///
 /// # Errors
-/// `AllocError` where a growth was refused: a front of the lines stands then.
+/// `AllocError` where an allocation failed: the first lines may stand then.
 pub fn put_report(text: &mut String, report: &Report) -> Result<(), AllocError>
     ensures { OnOk result (string_bytes text.new ≡ string_bytes text.old ++ report_text report.now) }
 {

@@ -21,8 +21,11 @@ pub const SCRIPT_MAX: usize = 1_048_576;
 /// Two speakers, and the moves of a schedule.
 #[derive(Debug, Drop, PartialEq)]
 pub struct Script {
+    /// What the speaker A is set to.
     pub a: Config,
+    /// What the speaker B is set to.
     pub b: Config,
+    /// The moves, in the order of their lines.
     pub moves: List<Move>,
 }
 
@@ -58,7 +61,7 @@ fn read_moves(
 /// Reads a script.
 ///
 /// # Errors
-/// `Line` with the number of the lowest faulty line, counted from 1; `Memory` where a growth was refused.
+/// `Line` with the number of the lowest faulty line, counted from 1; `Memory` where an allocation failed.
 #[tactic(auto, unfolding(crate::specs::Script::script_of))]
 pub fn read_script(alloc: Global, text: &[u8]) -> Result<Script, ScriptFault>
     requires { length text.now ≤ SCRIPT_MAX }

@@ -10,7 +10,7 @@ use std::alloc::AllocError;
 pub enum ScriptFault {
     /// This line is the first that is at fault, counted from 1: where a speaker is missing, the line after the last.
     Line(u32),
-    /// A growth was refused.
+    /// An allocation failed.
     Memory,
 }
 

@@ -30,7 +30,7 @@ pub fn only_these_notifications()
         → All (RoundHasReasons a b moves) (rounds_of (world_behind a b moves answers)) }
 {}
 
-/// In each round, what a side got is what is heard of a front of what the other sent, in order, and no routes were lost to a message that was
+/// In each round, what a side got is what is heard of the first UPDATEs that the other sent, in order, and no routes were lost to a message that was
 /// treated as a withdrawal.
 pub fn what_is_heard_was_said()
     ensures { (a b : Settings) (moves : List Move) (answers : List Bool) → CanBeSet a → CanBeSet b → HaveSentRanges a b moves answers
@@ -44,7 +44,7 @@ pub fn all_is_heard()
         → HeardAll (both_wide a b) side (world_behind a b moves answers) }
 {}
 
-/// What is reported of a schedule keeps to these laws: each NOTIFICATION has its reason, and what was heard is a front of what was said.
+/// What is reported of a schedule keeps to these laws: each NOTIFICATION has its reason, and what was heard is what was said first.
 pub fn reports_keep_to_the_laws()
     ensures notifications { (a b : Settings) (moves : List Move) (report : Report) → CanBeSet a → CanBeSet b → HaveSentRanges a b moves report.answers
         → IsReported a b moves report → All (RoundHasReasons a b moves) report.rounds }

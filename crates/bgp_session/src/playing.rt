@@ -194,13 +194,12 @@ fn know(config: &Config)
     let _id = config.id();
 }
 
-/// Runs two speakers against each other over a wire: what comes of the moves, each made on what those before it left. Both sessions begin in
-/// Idle.
+/// Runs two speakers against each other over a wire, move by move, and reports what each said and heard. Both sessions begin in Idle.
 ///
 /// Octets pass in pieces of 4096. A connection ends when both sides have left it, and the wire is cut then.
 ///
 /// # Errors
-/// `AllocError` where a growth was refused.
+/// `AllocError` where an allocation failed.
 pub fn run_pair<W: Wire>(
     alloc: Global,
     a: Config,

@@ -13,12 +13,15 @@ use std::alloc::{AllocError, Global};
 pub struct Round {
     /// The UPDATEs that were sent by A, as they were given.
     pub sent_a: List<Update>,
+    /// The UPDATEs that were sent by B, as they were given.
     pub sent_b: List<Update>,
     /// What was announced to A.
     pub got_a: List<(Update, PathInfo)>,
+    /// What was announced to B.
     pub got_b: List<(Update, PathInfo)>,
     /// The routes that A lost to messages that are treated as withdrawals.
     pub gone_a: List<Routes>,
+    /// The routes that B lost to messages that are treated as withdrawals.
     pub gone_b: List<Routes>,
     /// The NOTIFICATIONs: who sent it, its code and its subcode.
     pub notes: List<(Side, u8, u8)>,

@@ -5,8 +5,8 @@ ghost use Rattle.bgp_session.specs.Wire.{failed_after, Call, Joined, Handed, Cut
 
 use crate::side::Side;
 
-/// What octets pass through between two speakers. It is honest where each piece that passes comes as it went; no call changes whether it is.
-/// It may keep what it was asked and what it answered, call by call.
+/// The connection between two speakers. It is honest where each piece that passes arrives unchanged; no call changes whether it is.
+/// It may keep a record of its calls and their answers.
 pub trait Wire {
     ghost honest: { Self → Bool };
 
@@ -38,7 +38,7 @@ pub trait Wire {
         ensures { result ≡ failed self.now };
 }
 
-/// A wire within the program: what is sent comes, and nothing fails.
+/// A wire in memory: what is sent arrives, and nothing fails.
 #[derive(Clone, Copy, Debug)]
 pub struct MemoryWire;
 

@@ -1,5 +1,5 @@
 //! Tests of what no row can say: values that no reading gives, copies, and readers, writers and wires that fail. What octets, scripts and
-//! events come to stands in the rows of `bgp_check_rows`.
+//! events have to give stands in the rows of `bgp_check_rows`.
 #![tactic(auto)]
 
 #[cfg(test)]

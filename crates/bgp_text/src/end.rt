@@ -10,7 +10,7 @@ use std::alloc::AllocError;
 /// Adds the line of how a stream ended.
 ///
 /// # Errors
-/// `AllocError` where a growth was refused.
+/// `AllocError` where an allocation failed.
 pub fn put_end(text: &mut String, end: End) -> Result<(), AllocError>
     ensures { OnOk result (string_bytes text.new ≡ string_bytes text.old ++ end_line end) }
 {

@@ -10,7 +10,7 @@ use std::alloc::{AllocError, Global};
 /// Octets as hexadecimal text, or a dash where there are none.
 ///
 /// # Errors
-/// `AllocError` where a growth was refused.
+/// `AllocError` where an allocation failed.
 #[tactic(auto, unfolding(crate::specs::Info::info_text))]
 pub fn info_text(alloc: Global, info: &[u8]) -> Result<String, AllocError>
     ensures { IfOk result (λ text. string_bytes text ≡ info_text info.now) }
@@ -24,7 +24,7 @@ pub fn info_text(alloc: Global, info: &[u8]) -> Result<String, AllocError>
 /// A notification's code, subcode and information, as in `1/2 0012`.
 ///
 /// # Errors
-/// `AllocError` where a growth was refused.
+/// `AllocError` where an allocation failed.
 #[tactic(auto, unfolding(crate::specs::Info::notification_text))]
 pub fn notification_text(alloc: Global, told: &Notification) -> Result<String, AllocError>
     ensures { IfOk result (λ text. string_bytes text ≡ notification_text told.now) }

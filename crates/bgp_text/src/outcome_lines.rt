@@ -19,7 +19,7 @@ use bgp_update::{Note, Routes, Update};
 use bgp_wire::List;
 use std::alloc::{AllocError, Global};
 
-/// A message's place in the stream, its octets in number, and what it is.
+/// A message's offset in the stream, its octets in number, and what it is.
 fn put_head(text: &mut String, place: u64, len: u16, name: &str) -> Result<(), AllocError>
     ensures { OnOk result (string_bytes text.new ≡ string_bytes text.old ++ head_line place len name.now) }
 {
@@ -71,7 +71,7 @@ fn put_reset(
     write!(text, "{place} {len} {name} reset {told}\n")
 }
 
-/// The lines of an UPDATE that is taken, but those of its notes.
+/// The lines of an UPDATE that is accepted, but those of its notes.
 #[tactic(auto, unfolding(crate::specs::Outcome::message_lines))]
 fn put_update_lines(
     alloc: Global,
@@ -86,7 +86,7 @@ fn put_update_lines(
     put_update(alloc, text, update)
 }
 
-/// The lines of a message that is taken, but those of its notes.
+/// The lines of a message that is accepted, but those of its notes.
 #[tactic(auto, unfolding(crate::specs::Outcome::message_lines))]
 fn put_message(
     alloc: Global,
@@ -136,11 +136,11 @@ fn put_withdraw(
     put_notes(text, notes)
 }
 
-/// Adds the lines of an UPDATE that is taken: its place in the stream, its octets in number, what it says, and notes on what of it isn't
-/// kept. They are those of its outcome, which needn't be made.
+/// Adds the lines of an UPDATE that is accepted: its offset in the stream, its octets in number, what it says, and notes on attributes
+/// that are discarded. They are those of its outcome, which needn't be made.
 ///
 /// # Errors
-/// `AllocError` where a growth was refused.
+/// `AllocError` where an allocation failed.
 #[tactic(auto, unfolding(crate::specs::Outcome::outcome_lines))]
 pub fn put_update_taken(
     alloc: Global,
@@ -156,10 +156,10 @@ pub fn put_update_taken(
     put_notes(text, notes)
 }
 
-/// Adds the lines of an UPDATE whose routes are withdrawn, as [`put_update_taken`] does.
+/// Adds the lines of an UPDATE that is treated as a withdrawal, as [`put_update_taken`] does.
 ///
 /// # Errors
-/// `AllocError` where a growth was refused.
+/// `AllocError` where an allocation failed.
 #[tactic(auto, unfolding(crate::specs::Outcome::outcome_lines))]
 pub fn put_update_withdrawn(
     text: &mut String,
@@ -176,7 +176,7 @@ pub fn put_update_withdrawn(
 /// Adds the line of a KEEPALIVE, as [`put_update_taken`] does.
 ///
 /// # Errors
-/// `AllocError` where a growth was refused.
+/// `AllocError` where an allocation failed.
 #[tactic(auto, unfolding(crate::specs::Outcome::message_lines, crate::specs::Outcome::outcome_lines))]
 pub fn put_keepalive(text: &mut String, place: u64, len: u16) -> Result<(), AllocError>
     ensures { OnOk result (string_bytes text.new ≡ string_bytes text.old ++ outcome_lines place len (outcome.Took message.Keepalive [])) }
@@ -184,11 +184,11 @@ pub fn put_keepalive(text: &mut String, place: u64, len: u16) -> Result<(), Allo
     put_head(text, place, len, "KEEPALIVE")
 }
 
-/// Adds the lines of what a message, or the header of one, comes to: its place in the stream, its octets in number (0 for a header's
+/// Adds the lines of the outcome of a message, or of the header of one: its offset in the stream, its octets in number (0 for a header's
 /// fault), and what it says.
 ///
 /// # Errors
-/// `AllocError` where a growth was refused.
+/// `AllocError` where an allocation failed.
 #[tactic(auto, unfolding(crate::specs::Outcome::outcome_lines))]
 pub fn put_outcome(
     alloc: Global,

@@ -1,4 +1,4 @@
-//! The details of an UPDATE, and routes that are withdrawn.
+//! The details of an UPDATE, and the routes of one that is treated as a withdrawal.
 
 ghost use Rattle.std.specs.Prelude.{◌≡◌, ◌++◌, OnOk};
 ghost use Rattle.std.specs.String.{string_bytes};
@@ -36,7 +36,7 @@ pub(crate) fn put_update(
     put_ip4_lines(text, "  nlri ", &update.nlri)
 }
 
-/// Adds a line for each route that is withdrawn.
+/// Adds a line for each route of an UPDATE that is treated as a withdrawal.
 pub(crate) fn put_routes(text: &mut String, routes: &Routes) -> Result<(), AllocError>
     ensures { OnOk result (string_bytes text.new ≡ string_bytes text.old ++ routes_lines routes.now) }
 {

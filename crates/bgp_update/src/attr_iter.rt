@@ -9,7 +9,7 @@ use crate::mark::MarkIter;
 use bgp_attr::{AttrView, FoundAttr};
 use std::iter::FusedIterator;
 
-/// The attributes of a message that are kept, by place. It takes no memory.
+/// The attributes of a message that are kept, by offset. It takes no memory.
 #[derive(Clone, Copy, Debug)]
 pub struct AttrIter<'a> {
     marks: MarkIter<'a>,

@@ -11,20 +11,29 @@ use std::alloc::{AllocError, Global};
 /// The path attributes of an UPDATE, at most one of each type (RFC 4271, section 5).
 #[derive(Debug, Drop, PartialEq)]
 pub struct Attrs {
+    /// ORIGIN (RFC 4271, section 5.1.1).
     pub origin: Option<Origin>,
+    /// AS_PATH (RFC 4271, section 5.1.2).
     pub as_path: Option<AsPath>,
     /// NEXT_HOP: an IPv4 address.
     pub next_hop: Option<[u8; 4]>,
     /// MULTI_EXIT_DISC.
     pub med: Option<u32>,
+    /// LOCAL_PREF (RFC 4271, section 5.1.5).
     pub local_pref: Option<u32>,
     /// ATOMIC_AGGREGATE.
     pub atomic: bool,
+    /// AGGREGATOR (RFC 4271, section 5.1.7).
     pub aggregator: Option<Aggregator>,
+    /// COMMUNITIES (RFC 1997).
     pub communities: Option<Communities>,
+    /// MP_REACH_NLRI (RFC 4760, section 3).
     pub mp_reach: Option<MpReach>,
+    /// MP_UNREACH_NLRI (RFC 4760, section 4).
     pub mp_unreach: Option<MpUnreach>,
+    /// AS4_PATH (RFC 6793, section 3).
     pub as4_path: Option<As4Path>,
+    /// AS4_AGGREGATOR (RFC 6793, section 3).
     pub as4_aggregator: Option<Aggregator>,
     /// LARGE_COMMUNITY.
     pub large: Option<LargeCommunities>,
@@ -46,7 +55,7 @@ impl Attrs {
     /// Equal attributes, with memory of their own.
     ///
     /// # Errors
-    /// `AllocError` where a growth was refused.
+    /// `AllocError` where an allocation failed.
     pub fn copy(&self, alloc: Global) -> Result<Attrs, AllocError>
         ensures { IfOk result (λ copy. copy ≡ self.now) }
     {

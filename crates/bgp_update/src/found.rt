@@ -1,4 +1,4 @@
-//! What an UPDATE comes to, in some words that point into its octets.
+//! The verdict on an UPDATE, in some words that point into its octets.
 
 ghost use Rattle.std.specs.Prelude.{◌≡◌};
 ghost use Rattle.bgp_update.specs.View.{view_value, found_value};
@@ -6,13 +6,13 @@ ghost use Rattle.bgp_update.specs.View.{view_value, found_value};
 use crate::view::{UpdateView, View};
 use bgp_frame::NotificationView;
 
-/// What the body of an UPDATE comes to, as [`View`] says, with the information of a NOTIFICATION borrowed too: those to whom time matters
+/// The verdict on the body of an UPDATE, as [`View`] says, with the information of a NOTIFICATION borrowed too: those to whom time matters
 /// match on this, since a `View` has room for 4 KB.
 #[derive(Clone, Copy, Debug)]
 pub enum Found<'a> {
-    /// It is taken with the attributes that are kept.
+    /// It is accepted with the attributes that are kept.
     Take(UpdateView<'a>),
-    /// All its routes are withdrawn.
+    /// It is treated as a withdrawal of all its routes (treat-as-withdraw).
     Withdraw(UpdateView<'a>),
     /// The session ends with this notification.
     Reset(NotificationView<'a>),

@@ -91,7 +91,7 @@ fn judge_body<'a>(ctx: &Context, body: Body<'a>) -> Found<'a>
     }
 }
 
-/// What the body of an UPDATE, of at most 4077 octets, comes to in a context, without memory (RFC 4271, section 6.3; RFC 7606).
+/// The verdict on the body of an UPDATE, of at most 4077 octets, in a context, without memory (RFC 4271, section 6.3; RFC 7606).
 #[inline(always)]
 pub fn judge_update<'a>(ctx: &Context, body: &'a [u8]) -> Found<'a>
     requires { length body.now ≤ 4077 }
@@ -103,7 +103,7 @@ pub fn judge_update<'a>(ctx: &Context, body: &'a [u8]) -> Found<'a>
     }
 }
 
-/// What the body of an UPDATE comes to, as [`judge_update`] says, with a notification of its own.
+/// The verdict on the body of an UPDATE, as [`judge_update`] says, with a notification of its own.
 pub fn view_update<'a>(ctx: &Context, body: &'a [u8]) -> View<'a>
     requires { length body.now ≤ 4077 }
     ensures { view_value result ≡ verdict_of ctx.now body.now }

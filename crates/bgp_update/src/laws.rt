@@ -27,14 +27,14 @@ pub fn bodies_split_in_one_way()
     ensures only { (body : List ℕ) (p : Parts) → IsBody p body → parts_of body ≡ Some p }
 {}
 
-/// A valid UPDATE that is written, in no more octets than a message can have, is taken as itself.
+/// A valid UPDATE that is written, in no more octets than a message can have, is accepted as itself.
 pub fn a_valid_update_is_taken_as_itself()
     ensures { (ctx : Context) (u : Update)
         → HasUpdateRanges u → invalid_of ctx u ≡ None → length (written_body ctx u) ≤ 4077
         → verdict_of ctx (written_body ctx u) ≡ Take u [] }
 {}
 
-/// An UPDATE that is taken can be written where it was read, in no more octets.
+/// An UPDATE that is accepted can be written where it was read, in no more octets.
 pub fn a_taken_update_can_be_written()
     ensures { (ctx : Context) (body : List ℕ) (u : Update) (notes : List Note)
         → AreOctets body → verdict_of ctx body ≡ Take u notes → CanBeWritten ctx u body }

@@ -1,4 +1,4 @@
-//! What each attribute of a field comes to, one after another.
+//! The judgement of each attribute of a field, one after another.
 
 ghost use Rattle.std.specs.Prelude.{◌≡◌, ◌≤◌, true, length};
 ghost use Rattle.std.specs.List.{list_all};

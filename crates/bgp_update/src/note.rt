@@ -1,16 +1,17 @@
-//! What an operator is told of a message that is taken or withdrawn.
+//! What an operator is told of a message that is accepted or treated as a withdrawal.
 
 use bgp_attr::Why;
 use bgp_wire::TryCopy;
 use std::alloc::{AllocError, Global};
 
-/// An attribute that wasn't kept, or that is missing, and why (RFC 7606, section 6).
+/// An attribute that was discarded, for which its message is treated as a withdrawal, or that is missing (RFC 7606, section 6).
 #[derive(Clone, Copy, Debug, PartialEq, Eq)]
 pub struct Note {
-    /// The place of its flags in the body: 0 for a missing one.
+    /// The offset of its flags in the body: 0 for a missing one.
     pub at: u16,
     /// Its type: 0 for one that is cut off before its type.
     pub kind: u8,
+    /// What is wrong with it.
     pub why: Why,
 }
 

@@ -9,7 +9,9 @@ use std::alloc::{AllocError, Global};
 /// The path and the aggregator that AS4_PATH and AS4_AGGREGATOR give back (RFC 6793, section 4.2.3).
 #[derive(Debug, Drop, PartialEq)]
 pub struct PathInfo {
+    /// The path: none without AS_PATH.
     pub path: Option<AsPath>,
+    /// The aggregator: none without AGGREGATOR.
     pub aggregator: Option<Aggregator>,
 }
 
@@ -17,7 +19,7 @@ impl PathInfo {
     /// An equal value, with memory of its own.
     ///
     /// # Errors
-    /// `AllocError` where a growth was refused.
+    /// `AllocError` where an allocation failed.
     pub fn copy(&self, alloc: Global) -> Result<PathInfo, AllocError>
         ensures { IfOk result (λ copy. copy ≡ self.now) }
     {

@@ -55,7 +55,7 @@ fn put_present(
     }
 }
 
-/// Adds the attributes of a message; the first of them may stay where a growth was refused.
+/// Adds the attributes of a message; the first of them may stay where an allocation failed.
 pub(crate) fn put_attributes(
     ctx: &Context,
     attrs: &Attrs,

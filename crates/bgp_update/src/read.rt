@@ -56,7 +56,7 @@ impl View<'_> {
     }
 }
 
-/// What the body of an UPDATE, of at most 4077 octets, comes to in a context (RFC 4271, section 6.3; RFC 7606).
+/// The verdict on the body of an UPDATE, of at most 4077 octets, in a context (RFC 4271, section 6.3; RFC 7606).
 ///
 /// # Errors
 /// `AllocError` where an allocation failed: never where the body is answered by a reset.

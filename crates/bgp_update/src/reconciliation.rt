@@ -58,7 +58,7 @@ fn is_as_trans(aggregator: Aggregator) -> bool
 /// AS4_PATH and AS4_AGGREGATOR say, since a speaker of two octets aggregated behind them.
 ///
 /// # Errors
-/// `AllocError` where a growth was refused.
+/// `AllocError` where an allocation failed.
 pub fn reconcile(alloc: Global, attrs: &Attrs) -> Result<PathInfo, AllocError>
     ensures { IfOk result (λ info. info ≡ rebuilt attrs.now) }
 {

@@ -19,7 +19,7 @@ impl Routes {
     /// Equal routes, with memory of their own.
     ///
     /// # Errors
-    /// `AllocError` where a growth was refused.
+    /// `AllocError` where an allocation failed.
     pub fn copy(&self, alloc: Global) -> Result<Routes, AllocError>
         ensures { IfOk result (λ copy. copy ≡ self.now) }
     {

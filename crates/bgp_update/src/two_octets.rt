@@ -125,7 +125,7 @@ fn wide_aggregator(aggregator: Option<Aggregator>) -> Option<Aggregator>
 /// AS4_PATH and AS4_AGGREGATOR stand beside AS_PATH and AGGREGATOR exactly where one does (RFC 6793, section 4.2.2). All else is moved.
 ///
 /// # Errors
-/// `AllocError` where a growth was refused.
+/// `AllocError` where an allocation failed.
 pub fn into_narrowed(alloc: Global, attrs: Attrs) -> Result<Attrs, AllocError>
     requires { HasNoAs4 attrs }
     ensures { IfOk result (λ it. it ≡ narrowed attrs) }
@@ -143,7 +143,7 @@ pub fn into_narrowed(alloc: Global, attrs: Attrs) -> Result<Attrs, AllocError>
 /// [`into_narrowed`] of a copy.
 ///
 /// # Errors
-/// `AllocError` where a growth was refused.
+/// `AllocError` where an allocation failed.
 pub fn narrow(alloc: Global, attrs: &Attrs) -> Result<Attrs, AllocError>
     requires { HasNoAs4 attrs.now }
     ensures { IfOk result (λ it. it ≡ narrowed attrs.now) }
@@ -154,7 +154,7 @@ pub fn narrow(alloc: Global, attrs: &Attrs) -> Result<Attrs, AllocError>
 /// The UPDATE as a speaker with AS numbers of two octets is told it: its attributes as by [`narrow`], and its routes as they are.
 ///
 /// # Errors
-/// `AllocError` where a growth was refused.
+/// `AllocError` where an allocation failed.
 pub fn narrow_update(alloc: Global, update: &Update) -> Result<Update, AllocError>
     requires { HasNoAs4 update.now.attrs }
     ensures { IfOk result (λ it. it ≡ narrowed_update update.now) }

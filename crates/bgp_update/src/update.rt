@@ -12,6 +12,7 @@ use std::alloc::{AllocError, Global};
 pub struct Update {
     /// Withdrawn Routes: IPv4 unicast.
     pub withdrawn: List<Prefix4>,
+    /// Path Attributes.
     pub attrs: Attrs,
     /// Network Layer Reachability Information: IPv4 unicast.
     pub nlri: List<Prefix4>,
@@ -21,7 +22,7 @@ impl Update {
     /// An equal UPDATE, with memory of its own.
     ///
     /// # Errors
-    /// `AllocError` where a growth was refused.
+    /// `AllocError` where an allocation failed.
     pub fn copy(&self, alloc: Global) -> Result<Update, AllocError>
         ensures { IfOk result (λ copy. copy ≡ self.now) }
     {

@@ -1,4 +1,4 @@
-//! What an UPDATE comes to.
+//! The verdict on an UPDATE.
 
 ghost use Rattle.std.specs.Prelude.{◌≡◌, IfOk};
 
@@ -9,12 +9,12 @@ use bgp_frame::Notification;
 use bgp_wire::List;
 use std::alloc::{AllocError, Global};
 
-/// What the body of an UPDATE comes to (RFC 7606, section 3).
+/// The verdict on the body of an UPDATE (RFC 7606, section 3).
 #[derive(Debug, Drop, PartialEq)]
 pub enum Verdict {
-    /// It is taken with the attributes that are kept.
+    /// It is accepted with the attributes that are kept.
     Take(Update, List<Note>),
-    /// All its routes are withdrawn.
+    /// It is treated as a withdrawal of all its routes (treat-as-withdraw).
     Withdraw(Routes, List<Note>),
     /// The session ends with this notification.
     Reset(Notification),

@@ -26,7 +26,7 @@ use bgp_prefix::PrefixIter4;
 use bgp_wire::List;
 use std::alloc::{AllocError, Global};
 
-/// The body of an UPDATE that is taken, or whose routes are withdrawn, borrowed. What it gives takes no memory.
+/// The body of an UPDATE that is accepted or treated as a withdrawal, borrowed. What it gives takes no memory.
 #[derive(Clone, Copy, Debug)]
 pub struct UpdateView<'a> {
     ctx: Context,
@@ -42,12 +42,12 @@ pub struct UpdateView<'a> {
     ghost noted: { has_notes ≡ list_any (λ m. is_noted m.judged) (marks_of ctx (parts_value body)) },
 }
 
-/// What the body of an UPDATE comes to (RFC 7606, section 3), borrowed.
+/// The verdict on the body of an UPDATE (RFC 7606, section 3), borrowed.
 #[derive(Debug, Drop)]
 pub enum View<'a> {
-    /// It is taken with the attributes that are kept.
+    /// It is accepted with the attributes that are kept.
     Take(UpdateView<'a>),
-    /// All its routes are withdrawn.
+    /// It is treated as a withdrawal of all its routes (treat-as-withdraw).
     Withdraw(UpdateView<'a>),
     /// The session ends with this notification.
     Reset(Notification),
@@ -121,14 +121,14 @@ impl<'a> UpdateView<'a> {
         }
     }
 
-    /// The attributes that are kept, by place.
+    /// The attributes that are kept, by offset.
     pub fn attrs(&self) -> AttrIter<'a>
         ensures { attrs_left result ≡ kept_of (view_marks self.now) }
     {
         AttrIter::new(self.marks())
     }
 
-    /// The notes: each attribute that isn't kept, by place, the one that is cut off, then what is missing.
+    /// The notes: each attribute that isn't kept, by offset, the one that is cut off, then what is missing.
     pub fn notes(&self) -> NoteIter<'a>
         ensures { notes_left result ≡ notes_value self.now }
     {
@@ -142,7 +142,7 @@ impl<'a> UpdateView<'a> {
     /// The UPDATE with the attributes that are kept, with memory of its own.
     ///
     /// # Errors
-    /// `AllocError` where a growth was refused.
+    /// `AllocError` where an allocation failed.
     pub fn own(&self, alloc: Global) -> Result<Update, AllocError>
         ensures { IfOk result (λ u. u ≡ update_value self.now) }
     {
@@ -159,7 +159,7 @@ impl<'a> UpdateView<'a> {
     /// All routes of the message, with memory of their own.
     ///
     /// # Errors
-    /// `AllocError` where a growth was refused.
+    /// `AllocError` where an allocation failed.
     pub fn routes(&self, alloc: Global) -> Result<Routes, AllocError>
         ensures { IfOk result (λ r. r ≡ routes_value self.now) }
     {

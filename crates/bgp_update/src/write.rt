@@ -30,7 +30,7 @@ pub enum WriteFault {
     NotValid(Invalid),
     /// The message would have more than 4096 octets (RFC 4271, section 4.1).
     TooLong,
-    /// A growth was refused.
+    /// An allocation failed.
     Memory,
 }
 
@@ -63,7 +63,7 @@ fn put_routes(routes: &[Prefix4], out: &mut Vec<u8>) -> Result<(), AllocError>
     Ok(())
 }
 
-/// Adds a body whose parts have these lengths; the first of them may stay where a growth was refused.
+/// Adds a body whose parts have these lengths; the first of them may stay where an allocation failed.
 fn put_body(
     ctx: &Context,
     update: &Update,
@@ -110,7 +110,7 @@ fn append_body(
 /// MP_UNREACH_NLRI first (RFC 7606, section 5.1), all other attributes rising in type.
 ///
 /// # Errors
-/// `NotValid` for the first reason why it isn't valid in the context, else `TooLong`, else `Memory` where a growth was refused; nothing
+/// `NotValid` for the first reason why it isn't valid in the context, else `TooLong`, else `Memory` where an allocation failed; nothing
 /// is appended then.
 pub fn write_update(ctx: &Context, update: &Update, out: &mut Vec<u8>) -> Result<(), WriteFault>
     ensures not_valid { (why : Invalid) → IsErrOf result (NotValid why) ↔ (invalid_of ctx.now update.now ≡ Some why) }

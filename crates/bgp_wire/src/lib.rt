@@ -1,4 +1,4 @@
-//! What any format of octets is told in, with nothing of BGP in it.
+//! What any format of octets is defined in, with nothing of BGP in it: spellings, rows of them, and readers.
 #![tactic(auto)]
 
 mod copy;

@@ -46,18 +46,21 @@ impl<T> List<T> {
         items
     }
 
+    /// The elements, borrowed.
     pub fn as_slice(&self) -> &[T]
         ensures { result.now ≡ self.now }
     {
         self.items.as_slice()
     }
 
+    /// How many elements there are.
     pub fn len(&self) -> usize
         ensures { result ≡ length self.now }
     {
         self.items.len()
     }
 
+    /// Whether there are no elements.
     pub fn is_empty(&self) -> bool
         ensures { IsTrue result ↔ (self.now ≡ []) }
     {
@@ -67,7 +70,7 @@ impl<T> List<T> {
     /// Adds a value at the end.
     ///
     /// # Errors
-    /// `AllocError` where the growth was refused; the list is then as it was.
+    /// `AllocError` where the allocation failed; the list is then as it was.
     pub fn push(&mut self, value: T) -> Result<(), AllocError>
     where
         T: Drop,
@@ -86,7 +89,7 @@ impl<T> List<T> {
     /// Adds a value at a place: those from there on follow it.
     ///
     /// # Errors
-    /// `AllocError` where the growth was refused; the list is then as it was.
+    /// `AllocError` where the allocation failed; the list is then as it was.
     pub fn insert(&mut self, place: usize, value: T) -> Result<(), AllocError>
     where
         T: Drop,
@@ -103,7 +106,7 @@ impl<T: TryCopy + Drop> List<T> {
     /// An equal list with memory of its own.
     ///
     /// # Errors
-    /// `AllocError` where a growth was refused.
+    /// `AllocError` where an allocation failed.
     pub fn copy(&self, alloc: Global) -> Result<List<T>, AllocError>
         ensures { IfOk result (λ copy. copy ≡ self.now) }
     {

@@ -12,18 +12,26 @@ use std::alloc::Global;
 /// What the words ask for.
 #[derive(Clone, Copy)]
 pub enum Request {
+    /// `show`, in the context that the flags make, of octets or, where `hex` is set, of hexadecimal text.
     Show { ctx: Context, hex: bool },
+    /// `check`, with the context and the form of input as in `Show`.
     Check { ctx: Context, hex: bool },
+    /// `narrow`, in the context that the flags make, with AS numbers of four octets.
     Narrow { ctx: Context },
+    /// `to-hex`.
     ToHex,
+    /// `from-hex`.
     FromHex,
+    /// `loop`, over TCP where `tcp` is set, else in memory.
     Loop { tcp: bool },
 }
 
 /// What the words ask for, and the file that they name: empty where they name none.
 #[derive(Clone, Copy)]
 pub struct Asked<'a> {
+    /// The command and its flags.
     pub request: Request,
+    /// The name of the script of `loop`.
     pub file: &'a str,
 }
 
