@@ -1,10 +1,23 @@
 //! Copies equal their source. Each test passes too where any one allocation is refused: the call is made again then.
 
 use super::*;
-use bgp_attr::{Attr, AttrView, JudgedView, TlvIter, judge_view};
-use bgp_msg::Message;
+use bgp_attr::{Attr, AttrView, Judged, JudgedView, TlvIter, judge, judge_view};
+use bgp_frame::{Notification, head};
+use bgp_msg::{Kind, Message, decode_all};
+use bgp_open::Config;
+use bgp_session::{Action, MemoryWire, Move, Side, Timer, run_pair};
 use bgp_update::{Attrs, PathInfo, View, reconcile, view_update};
 use std::process::Abort;
+
+/// The value of a call; where it lacks memory, it is made again.
+macro_rules! again {
+    ($call:expr) => {
+        match $call {
+            Err(_) => $call?,
+            Ok(value) => value,
+        }
+    };
+}
 
 /// An UPDATE of each type of attribute, and of two that aren't recognised, on a session inside an AS with AS numbers of two octets.
 const EACH_TYPE: &[u8] = &[
@@ -139,5 +152,121 @@ fn paths_and_routes(rt: HostRuntime) -> Result<(), Fail> {
     };
     assert!(&rt; copy == routes);
     assert!(&rt; (routes.ip4.len(), routes.ip6.len()) == (3, 1));
+    Ok(())
+}
+
+/// A NOTIFICATION with information.
+fn ceased() -> Notification {
+    Notification::new(6, 2, b"down")
+}
+
+#[test]
+fn judgements(rt: HostRuntime) -> Result<(), Fail> {
+    let alloc = rt.alloc();
+    // An ORIGIN, one of 3, a NEXT_HOP where the NLRI field is empty, and a well-known attribute that isn't known.
+    let field = [
+        0x40, 1, 1, 0, 0x40, 1, 1, 3, 0x40, 3, 4, 192, 0, 2, 1, 0, 99, 0,
+    ];
+    let mut kinds = (0u8, 0u8, 0u8, 0u8);
+    for tlv in TlvIter::new(&field) {
+        assert!(&rt; tlv.whole.len() <= 4075);
+        let judged = again!(judge(alloc, &INSIDE, false, &tlv));
+        assert!(&rt; again!(judged.copy(alloc)) == judged);
+        match judged {
+            Judged::Keep(_) => kinds.0 = kinds.0.wrapping_add(1),
+            Judged::Discard(_) => kinds.1 = kinds.1.wrapping_add(1),
+            Judged::Withdraw(_) => kinds.2 = kinds.2.wrapping_add(1),
+            Judged::Reset(_) => kinds.3 = kinds.3.wrapping_add(1),
+        }
+    }
+    assert!(&rt; kinds == (1, 1, 1, 1));
+    Ok(())
+}
+
+/// The plain UPDATE that is taken, one that is treated as a withdrawal, and one that resets; with a KEEPALIVE before them, as a stream.
+#[test]
+fn verdicts_and_outcomes(rt: HostRuntime) -> Result<(), Fail> {
+    let alloc = rt.alloc();
+    let mut stream = again!(Vec::from_slice(alloc, &head(Kind::Keepalive, 0)));
+    for (place, octet) in [(7usize, 0u8), (7, 3), (0, 9)] {
+        let mut body = again!(Vec::from_slice(alloc, PLAIN));
+        if place < body.len() {
+            body[place] = octet;
+        }
+        assert!(&rt; body.len() <= 4077);
+        let verdict = again!(read_update(alloc, &session(true), body.as_slice()));
+        assert!(&rt; again!(verdict.copy(alloc)) == verdict);
+        again!(stream.extend_from_slice(&head(Kind::Update, 26)));
+        again!(stream.extend_from_slice(body.as_slice()));
+    }
+    let seen = again!(decode_all(alloc, &session(true), &[stream.as_slice()]));
+    assert!(&rt; seen.outs.len() == 4);
+    assert!(&rt; again!(seen.copy(alloc)) == seen);
+    for (_len, outcome) in seen.outs.iter() {
+        assert!(&rt; again!(outcome.copy(alloc)) == *outcome);
+    }
+    Ok(())
+}
+
+#[test]
+fn actions_and_moves(rt: HostRuntime) -> Result<(), Fail> {
+    let alloc = rt.alloc();
+    let update = plain(alloc)?;
+    let info = again!(reconcile(alloc, &update.attrs));
+    for action in [
+        Action::Connect,
+        Action::Close,
+        Action::SendOpen,
+        Action::SendKeepalive,
+        Action::SendNotification(ceased()),
+        Action::Arm(Timer::Hold, 90),
+        Action::Disarm(Timer::Retry),
+        Action::Announce(update, info),
+        Action::Flush,
+    ] {
+        assert!(&rt; again!(action.copy(alloc)) == action);
+    }
+    for one in [
+        Move::Start(Side::A),
+        Move::Stop(Side::B),
+        Move::Join,
+        Move::Refuse(Side::A),
+        Move::Deliver(Side::B, 9),
+        Move::Lose,
+        Move::Expire(Side::A, Timer::Keepalive),
+        Move::Send(Side::B, plain(alloc)?),
+    ] {
+        assert!(&rt; again!(one.copy(alloc)) == one);
+    }
+    Ok(())
+}
+
+/// What came of a schedule in which an UPDATE is sent and heard, one isn't sent, and a side is stopped.
+#[test]
+fn reports(rt: HostRuntime) -> Result<(), Fail> {
+    let alloc = rt.alloc();
+    let a = Config::new(65001, 65002, [192, 0, 2, 1], 90, true, true, false);
+    let b = Config::new(65002, 65001, [192, 0, 2, 2], 30, true, true, false);
+    let (a, b) = (a.map_err(|_| "settings")?, b.map_err(|_| "settings")?);
+    let moves = [
+        Move::Send(Side::B, plain(alloc)?),
+        Move::Start(Side::A),
+        Move::Start(Side::B),
+        Move::Join,
+        Move::Deliver(Side::B, 9999),
+        Move::Deliver(Side::A, 9999),
+        Move::Deliver(Side::B, 9999),
+        Move::Send(Side::A, plain(alloc)?),
+        Move::Deliver(Side::B, 9999),
+        Move::Stop(Side::A),
+        Move::Deliver(Side::B, 9999),
+    ];
+    let report = again!(run_pair(alloc, a, b, &moves, &mut MemoryWire));
+    assert!(&rt; (report.rounds.len(), report.refused.len()) == (1, 1));
+    assert!(&rt; again!(report.copy(alloc)) == report);
+    for round in report.rounds.iter() {
+        assert!(&rt; (round.got_b.len(), round.notes.len()) == (1, 1));
+        assert!(&rt; again!(round.copy(alloc)) == *round);
+    }
     Ok(())
 }
