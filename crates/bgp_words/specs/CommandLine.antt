@@ -33,9 +33,9 @@ loop_command = with_flag (with_rule (new_app (codes "loop")) file_rule) (codes "
 abbrev pub with_command : App → App → App
 with_command a sub = with_subcommand a sub.top
 
--- words begin behind the program's name, and one of them has to be a command
+-- words begin behind the program's name, one of them has to be a command, and there is a version to ask for
 abbrev pub with_settings : App → App
-with_settings a = record a { top = record a.top { no_binary_name = true; subcommand_required = true } }
+with_settings a = record a { top = record a.top { no_binary_name = true; subcommand_required = true; has_version = true } }
 
 abbrev pub bare_command : App
 bare_command = with_settings (new_app (codes "bgp"))

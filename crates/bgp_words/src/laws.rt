@@ -20,10 +20,11 @@ pub fn words_have_one_meaning()
     ensures runs_tcp { CanBeDoneWith (codes "loop" ∷ codes "--tcp" ∷ codes "two.script" ∷ []) (Loop true) (codes "two.script") }
 {}
 
-/// No word is too few, `--help` asks for help, and a flag belongs to its commands.
+/// No word is too few, `--help` asks for help and `--version` for the version, and a flag belongs to its commands.
 pub fn words_can_be_wrong()
     ensures nothing { faults_of [] ≡ error.MissingSubcommand ∷ [] }
     ensures help { faults_of (codes "--help" ∷ []) ≡ error.DisplayHelp ∷ [] }
+    ensures version { faults_of (codes "--version" ∷ []) ≡ error.DisplayVersion ∷ [] }
     ensures no_flag { faults_of (codes "narrow" ∷ codes "--hex" ∷ []) ≡ error.UnknownArgument ∷ [] }
     ensures no_file { faults_of (codes "loop" ∷ []) ≡ error.MissingRequiredArgument ∷ [] }
 {}

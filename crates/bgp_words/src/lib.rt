@@ -2,6 +2,7 @@
 #![tactic(auto)]
 
 mod commands;
+mod help;
 pub mod laws;
 mod request;
 
