@@ -7,7 +7,6 @@ ghost use Rattle.bgp_open.specs.OpenView.{open_value};
 ghost use Rattle.bgp_update.specs.View.{update_value, notes_value, routes_value};
 ghost use Rattle.bgp_msg.specs.OutcomeView.{outcome_value};
 ghost use Rattle.bgp_msg.specs.declared.message.Message.TheVariants as message;
-ghost use Rattle.bgp_msg.specs.declared.outcome.Outcome.TheVariants as outcome;
 ghost use Rattle.bgp_text.specs.Outcome.{message_lines, took_lines, withdraw_lines, notification_line, reset_line, outcome_lines};
 
 use crate::info::told_text;
