@@ -4,10 +4,6 @@ ghost use Rattle.std.specs.Prelude.{◌≡◌, ◌+◌, ◌≤◌, [], length, I
 ghost use Rattle.std.specs.String.{string_bytes};
 ghost use Rattle.bgp_frame.specs.Kind.{IsLength};
 ghost use Rattle.bgp_msg.specs.Outcome.{out_of};
-ghost use Rattle.bgp_msg.specs.OutcomeView.{outcome_value};
-ghost use Rattle.bgp_msg.specs.declared.message.Message.TheVariants as message;
-ghost use Rattle.bgp_msg.specs.declared.outcome.Outcome.TheVariants as outcome;
-ghost use Rattle.bgp_update.specs.View.{notes_value, routes_value, update_value};
 ghost use Rattle.bgp_engine.specs.Run.{Answers};
 ghost use Rattle.bgp_engine.specs.PageSteps.{WritesOutcome};
 ghost use Rattle.bgp_engine.specs.Show.{Shown};
@@ -18,69 +14,11 @@ use crate::page::Page;
 use crate::tally::Tally;
 use crate::walk::walk_stream;
 use bgp_frame::{Frame, HeadFault};
-use bgp_msg::{Outcome, OutcomeView, view_frame};
+use bgp_msg::{Outcome, view_frame};
 use bgp_open::Context;
-use bgp_text::{put_end, put_keepalive, put_outcome, put_update_taken, put_update_withdrawn};
-use bgp_update::{Note, UpdateView};
-use bgp_wire::List;
+use bgp_text::{put_end, put_outcome, put_viewed_outcome};
 use std::alloc::{AllocError, Global};
 use std::io::{Read, Write};
-
-// The notes on an UPDATE, with memory of their own.
-fn own_notes(alloc: Global, view: &UpdateView<'_>) -> Result<List<Note>, AllocError>
-    ensures { IfOk result (λ notes. notes ≡ notes_value view.now) }
-{
-    let notes = view.notes().collect(alloc)?;
-    Ok(List::from_vec(notes))
-}
-
-// Adds the lines of an UPDATE that is taken.
-fn put_taken(
-    alloc: Global,
-    text: &mut String,
-    place: u64,
-    len: u16,
-    view: &UpdateView<'_>,
-) -> Result<Class, AllocError>
-    ensures { IfOk result (λ class. WritesOutcome (string_bytes text.old) (string_bytes text.new) place len (outcome.Took (message.Update (update_value view.now)) (notes_value view.now)) class) }
-{
-    let update = view.own(alloc)?;
-    let notes = own_notes(alloc, view)?;
-    put_update_taken(alloc, text, place, len, &update, &notes)?;
-    Ok(Class::Took)
-}
-
-// Adds the lines of an UPDATE whose routes are withdrawn.
-fn put_withdrawn(
-    alloc: Global,
-    text: &mut String,
-    place: u64,
-    len: u16,
-    view: &UpdateView<'_>,
-) -> Result<Class, AllocError>
-    ensures { IfOk result (λ class. WritesOutcome (string_bytes text.old) (string_bytes text.new) place len (outcome.Withdraw (routes_value view.now) (notes_value view.now)) class) }
-{
-    let routes = view.routes(alloc)?;
-    let notes = own_notes(alloc, view)?;
-    put_update_withdrawn(text, place, len, &routes, &notes)?;
-    Ok(Class::Withdrawn)
-}
-
-// Adds the lines of an outcome by its value, which is large, and so has a place of its own.
-#[inline(never)]
-fn put_whole(
-    alloc: Global,
-    text: &mut String,
-    place: u64,
-    len: u16,
-    outcome: &OutcomeView<'_>,
-) -> Result<Class, AllocError>
-    ensures { IfOk result (λ class. WritesOutcome (string_bytes text.old) (string_bytes text.new) place len (outcome_value outcome.now) class) }
-{
-    let value = outcome.own(alloc)?;
-    put_outcome(alloc, text, place, len, &value)?;
-    Ok(class_of(outcome))
-}
 
 // Adds the lines of a message.
 fn put_frame(
@@ -94,15 +32,9 @@ fn put_frame(
     ensures { IfOk result (λ class. WritesOutcome (string_bytes text.old) (string_bytes text.new) place frame.entry.len (out_of ctx.now (record { kind = frame.entry.kind; body = frame.entry.body.now })) class) }
 {
     let len = frame.len;
-    match view_frame(ctx, frame) {
-        OutcomeView::Update(view) => put_taken(alloc, text, place, len, &view),
-        OutcomeView::Withdraw(view) => put_withdrawn(alloc, text, place, len, &view),
-        OutcomeView::Keepalive => {
-            put_keepalive(text, place, len)?;
-            Ok(Class::Took)
-        }
-        rare => put_whole(alloc, text, place, len, &rare),
-    }
+    let outcome = view_frame(ctx, frame);
+    put_viewed_outcome(alloc, text, place, len, &outcome)?;
+    Ok(class_of(&outcome))
 }
 
 /// The lines of each message.

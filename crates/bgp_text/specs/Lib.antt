@@ -10,3 +10,4 @@ pub mod NoteLines
 pub mod OpenLines
 pub mod UpdateLines
 pub mod Outcome
+pub mod Slots

@@ -3,6 +3,7 @@
 ghost use Rattle.std.specs.Prelude.{◌≡◌, ◌++◌, OnOk};
 ghost use Rattle.std.specs.List.{flat_map};
 ghost use Rattle.std.specs.String.{string_bytes};
+ghost use Rattle.bgp_attr.specs.AttrView.{opaque_value};
 ghost use Rattle.bgp_text.specs.Lines.{where_there};
 ghost use Rattle.bgp_text.specs.AttributeLines.{origin_name, origin_line, as_path_line, next_hop_line, number_line, atomic_line, aggregator_line, as4_path_line};
 ghost use Rattle.bgp_text.specs.AttributeLines.{flags_text, opaque_line, route_lines, choice_lines, as4_lines};
@@ -11,7 +12,7 @@ use crate::addresses::put_ip4_end;
 use crate::info::info_text;
 use crate::path_line::put_path_line;
 use crate::word::Word;
-use bgp_attr::{Aggregator, Opaque, Origin};
+use bgp_attr::{Aggregator, Opaque, OpaqueView, Origin};
 use bgp_prefix::{Address, AsNumber};
 use bgp_update::Attrs;
 use bgp_wire::List;
@@ -29,7 +30,7 @@ fn origin_name(origin: Origin) -> &'static str
 }
 
 /// ORIGIN.
-fn put_origin(text: &mut String, origin: Option<Origin>) -> Result<(), AllocError>
+pub(crate) fn put_origin(text: &mut String, origin: Option<Origin>) -> Result<(), AllocError>
     ensures { OnOk result (string_bytes text.new ≡ string_bytes text.old ++ where_there origin_line origin) }
 {
     match origin {
@@ -53,7 +54,7 @@ fn put_as_path(text: &mut String, attrs: &Attrs) -> Result<(), AllocError>
 }
 
 /// NEXT_HOP.
-fn put_next_hop(text: &mut String, next_hop: Option<[u8; 4]>) -> Result<(), AllocError>
+pub(crate) fn put_next_hop(text: &mut String, next_hop: Option<[u8; 4]>) -> Result<(), AllocError>
     ensures { OnOk result (string_bytes text.new ≡ string_bytes text.old ++ where_there next_hop_line next_hop) }
 {
     match next_hop {
@@ -66,7 +67,11 @@ fn put_next_hop(text: &mut String, next_hop: Option<[u8; 4]>) -> Result<(), Allo
 }
 
 /// A number behind a label.
-fn put_number(text: &mut String, label: &str, number: Option<u32>) -> Result<(), AllocError>
+pub(crate) fn put_number(
+    text: &mut String,
+    label: &str,
+    number: Option<u32>,
+) -> Result<(), AllocError>
     ensures { OnOk result (string_bytes text.new ≡ string_bytes text.old ++ where_there (number_line label.now) number) }
 {
     match number {
@@ -82,7 +87,7 @@ fn put_number(text: &mut String, label: &str, number: Option<u32>) -> Result<(),
 }
 
 /// ATOMIC_AGGREGATE.
-fn put_atomic(text: &mut String, atomic: bool) -> Result<(), AllocError>
+pub(crate) fn put_atomic(text: &mut String, atomic: bool) -> Result<(), AllocError>
     ensures { OnOk result (string_bytes text.new ≡ string_bytes text.old ++ atomic_line atomic) }
 {
     if atomic {
@@ -93,7 +98,7 @@ fn put_atomic(text: &mut String, atomic: bool) -> Result<(), AllocError>
 }
 
 /// An aggregator's AS number and address behind a label.
-fn put_aggregator(
+pub(crate) fn put_aggregator(
     text: &mut String,
     label: &str,
     aggregator: Option<Aggregator>,
@@ -159,12 +164,17 @@ fn flags_text(transitive: bool, partial: bool) -> &'static str
     }
 }
 
-fn put_opaque(alloc: Global, text: &mut String, opaque: &Opaque) -> Result<(), AllocError>
-    ensures { OnOk result (string_bytes text.new ≡ string_bytes text.old ++ opaque_line opaque.now) }
+/// Adds the line of an attribute whose type isn't recognised.
+pub(crate) fn put_opaque(
+    alloc: Global,
+    text: &mut String,
+    opaque: &OpaqueView<'_>,
+) -> Result<(), AllocError>
+    ensures { OnOk result (string_bytes text.new ≡ string_bytes text.old ++ opaque_line (opaque_value opaque.now)) }
 {
     let kind = opaque.kind;
     let flags = flags_text(opaque.transitive, opaque.partial);
-    let value = info_text(alloc, opaque.value.as_slice())?;
+    let value = info_text(alloc, opaque.value)?;
     write!(text, "  attr {kind} {flags} {value}\n")
 }
 
@@ -177,7 +187,13 @@ pub(crate) fn put_others(
     ensures { OnOk result (string_bytes text.new ≡ string_bytes text.old ++ flat_map opaque_line others.now) }
 {
     for opaque in others.iter() {
-        put_opaque(alloc, text, opaque)?;
+        let view = OpaqueView {
+            kind: opaque.kind,
+            transitive: opaque.transitive,
+            partial: opaque.partial,
+            value: opaque.value.as_slice(),
+        };
+        put_opaque(alloc, text, &view)?;
     }
     Ok(())
 }

@@ -5,9 +5,9 @@ ghost use Rattle.std.specs.List.{flat_map};
 ghost use Rattle.std.specs.String.{string_bytes};
 ghost use Rattle.bgp_text.specs.CommunityLines.{community_text, communities_line, large_text, large_line, community_lines};
 
+use crate::source::Source;
 use crate::word::Word;
 use bgp_update::Attrs;
-use bgp_wire::List;
 use std::alloc::AllocError;
 
 /// Adds a community behind a space: its upper and its lower 16 bits.
@@ -23,18 +23,22 @@ fn put_community(text: &mut String, community: u32) -> Result<(), AllocError>
 }
 
 /// Adds communities, each behind a space.
-fn put_each(text: &mut String, communities: &List<u32>) -> Result<(), AllocError>
-    ensures { OnOk result (string_bytes text.new ≡ string_bytes text.old ++ flat_map community_text communities.now) }
+fn put_each<S: Source<Item = u32>>(text: &mut String, communities: S) -> Result<(), AllocError>
+    ensures { OnOk result (string_bytes text.new ≡ string_bytes text.old ++ flat_map community_text (S.left communities)) }
 {
-    for community in communities.iter() {
-        put_community(text, *community)?;
+    let mut left = communities;
+    'row: while let Some(community) = left.step() {
+        put_community(text, community)?;
     }
     Ok(())
 }
 
 /// Adds the line of communities.
-fn put_communities(text: &mut String, communities: &List<u32>) -> Result<(), AllocError>
-    ensures { OnOk result (string_bytes text.new ≡ string_bytes text.old ++ communities_line communities.now) }
+pub(crate) fn put_communities<S: Source<Item = u32>>(
+    text: &mut String,
+    communities: S,
+) -> Result<(), AllocError>
+    ensures { OnOk result (string_bytes text.new ≡ string_bytes text.old ++ communities_line (S.left communities)) }
 {
     text.push_str("  communities")?;
     put_each(text, communities)?;
@@ -57,18 +61,25 @@ fn put_large_community(text: &mut String, community: [u32; 3]) -> Result<(), All
 }
 
 /// Adds large communities, each behind a space.
-fn put_each_large(text: &mut String, communities: &List<[u32; 3]>) -> Result<(), AllocError>
-    ensures { OnOk result (string_bytes text.new ≡ string_bytes text.old ++ flat_map large_text communities.now) }
+fn put_each_large<S: Source<Item = [u32; 3]>>(
+    text: &mut String,
+    communities: S,
+) -> Result<(), AllocError>
+    ensures { OnOk result (string_bytes text.new ≡ string_bytes text.old ++ flat_map large_text (S.left communities)) }
 {
-    for community in communities.iter() {
-        put_large_community(text, *community)?;
+    let mut left = communities;
+    'row: while let Some(community) = left.step() {
+        put_large_community(text, community)?;
     }
     Ok(())
 }
 
 /// Adds the line of large communities.
-fn put_large(text: &mut String, communities: &List<[u32; 3]>) -> Result<(), AllocError>
-    ensures { OnOk result (string_bytes text.new ≡ string_bytes text.old ++ large_line communities.now) }
+pub(crate) fn put_large<S: Source<Item = [u32; 3]>>(
+    text: &mut String,
+    communities: S,
+) -> Result<(), AllocError>
+    ensures { OnOk result (string_bytes text.new ≡ string_bytes text.old ++ large_line (S.left communities)) }
 {
     text.push_str("  large")?;
     put_each_large(text, communities)?;
@@ -80,10 +91,10 @@ pub(crate) fn put_community_lines(text: &mut String, attrs: &Attrs) -> Result<()
     ensures { OnOk result (string_bytes text.new ≡ string_bytes text.old ++ community_lines attrs.now) }
 {
     if let Some(communities) = &attrs.communities {
-        put_communities(text, &communities.values)?;
+        put_communities(text, communities.values.as_slice())?;
     }
     if let Some(large) = &attrs.large {
-        put_large(text, &large.values)?;
+        put_large(text, large.values.as_slice())?;
     }
     Ok(())
 }

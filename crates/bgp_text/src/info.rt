@@ -21,18 +21,28 @@ pub fn info_text(alloc: Global, info: &[u8]) -> Result<String, AllocError>
     hex::encode(alloc, info)
 }
 
-/// A notification's code, subcode and information, as in `1/2 0012`.
-///
-/// # Errors
-/// `AllocError` where an allocation failed.
+/// A notification's code, subcode and information, while they lie in octets.
 #[tactic(auto, unfolding(crate::specs::Info::notification_text))]
-pub fn notification_text(alloc: Global, told: &Notification) -> Result<String, AllocError>
-    ensures { IfOk result (λ text. string_bytes text ≡ notification_text told.now) }
+pub(crate) fn told_text(
+    alloc: Global,
+    code: u8,
+    subcode: u8,
+    info: &[u8],
+) -> Result<String, AllocError>
+    ensures { IfOk result (λ text. string_bytes text ≡ notification_text (record { code = code; subcode = subcode; info = record { items = info.now } })) }
 {
-    let code = told.code;
-    let subcode = told.subcode;
-    let info = info_text(alloc, &told.info)?;
+    let info = info_text(alloc, info)?;
     let mut text = String::new(alloc);
     write!(text, "{code}/{subcode} {info}")?;
     Ok(text)
+}
+
+/// A notification's code, subcode and information, as in `1/2 0012`.
+///
+/// # Errors
+/// `AllocError` where a growth was refused.
+pub fn notification_text(alloc: Global, told: &Notification) -> Result<String, AllocError>
+    ensures { IfOk result (λ text. string_bytes text ≡ notification_text told.now) }
+{
+    told_text(alloc, told.code, told.subcode, &told.info)
 }

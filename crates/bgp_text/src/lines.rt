@@ -8,9 +8,9 @@ ghost use Rattle.bgp_prefix.specs.Text.{ipv4_text, ipv6_text};
 ghost use Rattle.bgp_text.specs.Lines.{line_of};
 
 use crate::addresses::{put_ip4_address, put_ip6_address};
+use crate::source::Source;
 use crate::word::Word;
 use bgp_prefix::{Prefix4, Prefix6};
-use bgp_wire::List;
 use std::alloc::AllocError;
 
 /// Adds a label, and a word behind it.
@@ -52,29 +52,31 @@ fn put_ip6_line(text: &mut String, label: &str, prefix: &Prefix6) -> Result<(), 
 }
 
 /// Adds a line for each IPv4 prefix, behind a label.
-pub(crate) fn put_ip4_lines(
+pub(crate) fn put_ip4_lines<S: Source<Item = Prefix4>>(
     text: &mut String,
     label: &str,
-    prefixes: &List<Prefix4>,
+    prefixes: S,
 ) -> Result<(), AllocError>
-    ensures { OnOk result (string_bytes text.new ≡ string_bytes text.old ++ flat_map (line_of label.now ipv4_text) prefixes.now) }
+    ensures { OnOk result (string_bytes text.new ≡ string_bytes text.old ++ flat_map (line_of label.now ipv4_text) (S.left prefixes)) }
 {
-    for prefix in prefixes.iter() {
-        put_ip4_line(text, label, *prefix)?;
+    let mut left = prefixes;
+    'run: while let Some(prefix) = left.step() {
+        put_ip4_line(text, label, prefix)?;
     }
     Ok(())
 }
 
 /// Adds a line for each IPv6 prefix, behind a label.
-pub(crate) fn put_ip6_lines(
+pub(crate) fn put_ip6_lines<S: Source<Item = Prefix6>>(
     text: &mut String,
     label: &str,
-    prefixes: &List<Prefix6>,
+    prefixes: S,
 ) -> Result<(), AllocError>
-    ensures { OnOk result (string_bytes text.new ≡ string_bytes text.old ++ flat_map (line_of label.now ipv6_text) prefixes.now) }
+    ensures { OnOk result (string_bytes text.new ≡ string_bytes text.old ++ flat_map (line_of label.now ipv6_text) (S.left prefixes)) }
 {
-    for prefix in prefixes.iter() {
-        put_ip6_line(text, label, prefix)?;
+    let mut left = prefixes;
+    'run: while let Some(prefix) = left.step() {
+        put_ip6_line(text, label, &prefix)?;
     }
     Ok(())
 }

@@ -5,9 +5,9 @@ ghost use Rattle.std.specs.List.{flat_map};
 ghost use Rattle.std.specs.String.{string_bytes};
 ghost use Rattle.bgp_text.specs.NoteLines.{why_name, note_line};
 
+use crate::source::Source;
 use bgp_attr::Why;
 use bgp_update::Note;
-use bgp_wire::List;
 use std::alloc::AllocError;
 
 /// The name of a reason.
@@ -43,11 +43,15 @@ fn put_note(text: &mut String, note: Note) -> Result<(), AllocError>
 }
 
 /// Adds the lines of notes.
-pub(crate) fn put_notes(text: &mut String, notes: &List<Note>) -> Result<(), AllocError>
-    ensures { OnOk result (string_bytes text.new ≡ string_bytes text.old ++ flat_map note_line notes.now) }
+pub(crate) fn put_notes<S: Source<Item = Note>>(
+    text: &mut String,
+    notes: S,
+) -> Result<(), AllocError>
+    ensures { OnOk result (string_bytes text.new ≡ string_bytes text.old ++ flat_map note_line (S.left notes)) }
 {
-    for note in notes.iter() {
-        put_note(text, *note)?;
+    let mut left = notes;
+    'row: while let Some(note) = left.step() {
+        put_note(text, note)?;
     }
     Ok(())
 }

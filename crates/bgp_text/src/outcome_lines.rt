@@ -1,10 +1,11 @@
 //! The lines of an outcome.
 
-ghost use Rattle.std.specs.Prelude.{◌≡◌, ◌++◌, [], OnOk};
+ghost use Rattle.std.specs.Prelude.{◌≡◌, ◌∷◌, ◌++◌, [], codes, OnOk};
+ghost use Rattle.std.specs.Fmt.{decimal};
 ghost use Rattle.std.specs.String.{string_bytes};
 ghost use Rattle.bgp_msg.specs.declared.message.Message.TheVariants as message;
 ghost use Rattle.bgp_msg.specs.declared.outcome.Outcome.TheVariants as outcome;
-ghost use Rattle.bgp_text.specs.Outcome.{head_line, notification_line, reset_name, reset_line, message_lines, took_lines};
+ghost use Rattle.bgp_text.specs.Outcome.{head_line, reset_name, message_lines, took_lines};
 ghost use Rattle.bgp_text.specs.Outcome.{withdraw_lines, outcome_lines};
 
 use crate::info::notification_text;
@@ -12,7 +13,6 @@ use crate::note_lines::put_notes;
 use crate::open_lines::put_open;
 use crate::update_lines::{put_routes, put_update};
 use crate::word::Word;
-use bgp_frame::Notification;
 use bgp_msg::{Message, Outcome};
 use bgp_numbers::error;
 use bgp_update::{Note, Routes, Update};
@@ -20,7 +20,12 @@ use bgp_wire::List;
 use std::alloc::{AllocError, Global};
 
 /// A message's offset in the stream, its octets in number, and what it is.
-fn put_head(text: &mut String, place: u64, len: u16, name: &str) -> Result<(), AllocError>
+pub(crate) fn put_head(
+    text: &mut String,
+    place: u64,
+    len: u16,
+    name: &str,
+) -> Result<(), AllocError>
     ensures { OnOk result (string_bytes text.new ≡ string_bytes text.old ++ head_line place len name.now) }
 {
     let mut word = Word::new();
@@ -33,16 +38,16 @@ fn put_head(text: &mut String, place: u64, len: u16, name: &str) -> Result<(), A
     text.push_str("\n")
 }
 
-fn put_notification(
-    alloc: Global,
+/// The line of a NOTIFICATION of which this is the text.
+pub(crate) fn put_notification(
     text: &mut String,
     place: u64,
     len: u16,
-    told: &Notification,
+    told: &str,
 ) -> Result<(), AllocError>
-    ensures { OnOk result (string_bytes text.new ≡ string_bytes text.old ++ notification_line place len told.now) }
+    ensures { OnOk result (string_bytes text.new ≡ string_bytes text.old
+        ++ (decimal place ++ (codes " " ++ (decimal len ++ (codes " NOTIFICATION " ++ (told.now ++ 10 ∷ [])))))) }
 {
-    let told = notification_text(alloc, told)?;
     write!(text, "{place} {len} NOTIFICATION {told}\n")
 }
 
@@ -57,17 +62,18 @@ fn reset_name(code: u8) -> &'static str
     }
 }
 
-fn put_reset(
-    alloc: Global,
+/// The line of a reset by a notification of this code, and of which this is the text.
+pub(crate) fn put_reset(
     text: &mut String,
     place: u64,
     len: u16,
-    told: &Notification,
+    code: u8,
+    told: &str,
 ) -> Result<(), AllocError>
-    ensures { OnOk result (string_bytes text.new ≡ string_bytes text.old ++ reset_line place len told.now) }
+    ensures { OnOk result (string_bytes text.new ≡ string_bytes text.old
+        ++ (decimal place ++ (codes " " ++ (decimal len ++ (codes " " ++ (reset_name code ++ (codes " reset " ++ (told.now ++ 10 ∷ [])))))))) }
 {
-    let name = reset_name(told.code);
-    let told = notification_text(alloc, told)?;
+    let name = reset_name(code);
     write!(text, "{place} {len} {name} reset {told}\n")
 }
 
@@ -103,7 +109,10 @@ fn put_message(
             put_open(alloc, text, open)
         }
         Message::Update(update) => put_update_lines(alloc, text, place, len, update),
-        Message::Notification(told) => put_notification(alloc, text, place, len, told),
+        Message::Notification(told) => {
+            let told = notification_text(alloc, told)?;
+            put_notification(text, place, len, told.as_str())
+        }
         Message::Keepalive => put_head(text, place, len, "KEEPALIVE"),
     }
 }
@@ -119,7 +128,7 @@ fn put_took(
     ensures { OnOk result (string_bytes text.new ≡ string_bytes text.old ++ took_lines place len message.now notes.now) }
 {
     put_message(alloc, text, place, len, message)?;
-    put_notes(text, notes)
+    put_notes(text, notes.as_slice())
 }
 
 fn put_withdraw(
@@ -133,7 +142,7 @@ fn put_withdraw(
 {
     put_head(text, place, len, "UPDATE withdraw")?;
     put_routes(text, routes)?;
-    put_notes(text, notes)
+    put_notes(text, notes.as_slice())
 }
 
 /// Adds the lines of an UPDATE that is accepted: its offset in the stream, its octets in number, what it says, and notes on attributes
@@ -153,35 +162,7 @@ pub fn put_update_taken(
     ensures { OnOk result (string_bytes text.new ≡ string_bytes text.old ++ outcome_lines place len (outcome.Took (message.Update update.now) notes.now)) }
 {
     put_update_lines(alloc, text, place, len, update)?;
-    put_notes(text, notes)
-}
-
-/// Adds the lines of an UPDATE that is treated as a withdrawal, as [`put_update_taken`] does.
-///
-/// # Errors
-/// `AllocError` where an allocation failed.
-#[tactic(auto, unfolding(crate::specs::Outcome::outcome_lines))]
-pub fn put_update_withdrawn(
-    text: &mut String,
-    place: u64,
-    len: u16,
-    routes: &Routes,
-    notes: &List<Note>,
-) -> Result<(), AllocError>
-    ensures { OnOk result (string_bytes text.new ≡ string_bytes text.old ++ outcome_lines place len (outcome.Withdraw routes.now notes.now)) }
-{
-    put_withdraw(text, place, len, routes, notes)
-}
-
-/// Adds the line of a KEEPALIVE, as [`put_update_taken`] does.
-///
-/// # Errors
-/// `AllocError` where an allocation failed.
-#[tactic(auto, unfolding(crate::specs::Outcome::message_lines, crate::specs::Outcome::outcome_lines))]
-pub fn put_keepalive(text: &mut String, place: u64, len: u16) -> Result<(), AllocError>
-    ensures { OnOk result (string_bytes text.new ≡ string_bytes text.old ++ outcome_lines place len (outcome.Took message.Keepalive [])) }
-{
-    put_head(text, place, len, "KEEPALIVE")
+    put_notes(text, notes.as_slice())
 }
 
 /// Adds the lines of the outcome of a message, or of the header of one: its offset in the stream, its octets in number (0 for a header's
@@ -202,6 +183,10 @@ pub fn put_outcome(
     match outcome {
         Outcome::Took(message, notes) => put_took(alloc, text, place, len, message, notes),
         Outcome::Withdraw(routes, notes) => put_withdraw(text, place, len, routes, notes),
-        Outcome::Reset(told) => put_reset(alloc, text, place, len, told),
+        Outcome::Reset(told) => {
+            let code = told.code;
+            let told = notification_text(alloc, told)?;
+            put_reset(text, place, len, code, told.as_str())
+        }
     }
 }

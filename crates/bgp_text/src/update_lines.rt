@@ -30,16 +30,16 @@ pub(crate) fn put_update(
 ) -> Result<(), AllocError>
     ensures { OnOk result (string_bytes text.new ≡ string_bytes text.old ++ update_lines update.now) }
 {
-    put_ip4_lines(text, "  withdrawn ", &update.withdrawn)?;
+    put_ip4_lines(text, "  withdrawn ", update.withdrawn.as_slice())?;
     put_mp(text, &update.attrs)?;
     put_attributes(alloc, text, &update.attrs)?;
-    put_ip4_lines(text, "  nlri ", &update.nlri)
+    put_ip4_lines(text, "  nlri ", update.nlri.as_slice())
 }
 
 /// Adds a line for each route of an UPDATE that is treated as a withdrawal.
 pub(crate) fn put_routes(text: &mut String, routes: &Routes) -> Result<(), AllocError>
     ensures { OnOk result (string_bytes text.new ≡ string_bytes text.old ++ routes_lines routes.now) }
 {
-    put_ip4_lines(text, "  route ", &routes.ip4)?;
-    put_ip6_lines(text, "  route ", &routes.ip6)
+    put_ip4_lines(text, "  route ", routes.ip4.as_slice())?;
+    put_ip6_lines(text, "  route ", routes.ip6.as_slice())
 }

@@ -1,0 +1,12 @@
+use Rattle.std.proofs.Common.{◌≡◌, ◌++◌}
+use Rattle.std.specs.List.{flat_map}
+use Rattle.std.specs.String.{string_bytes}
+use Rattle.bgp_attr.specs.PathView.{segments_left}
+use Rattle.bgp_text.specs.PathLine.{segment_text}
+use Rattle.bgp_text.proofs.path_line.put_viewed_segments.Given as goal
+
+-- the text so far, and that of the segments still to come, are all
+abbrev pub invariant-path : goal.invariant-path
+invariant-path l =
+    string_bytes l.text ++ flat_map segment_text (segments_left l.left)
+    ≡ string_bytes l.initial.text ++ flat_map segment_text (segments_left l.fn.segments)
