@@ -208,37 +208,54 @@ fn verdicts_and_outcomes(rt: HostRuntime) -> Result<(), Fail> {
     Ok(())
 }
 
+fn assert_action_copied(rt: &(impl Abort + AllocGlobal), action: Action) -> Result<(), Fail> {
+    let copy = again!(action.copy(rt.alloc()));
+    assert!(rt; copy == action);
+    Ok(())
+}
+
 #[test]
-fn actions_and_moves(rt: HostRuntime) -> Result<(), Fail> {
+fn actions(rt: HostRuntime) -> Result<(), Fail> {
+    assert_action_copied(&rt, Action::Connect)?;
+    assert_action_copied(&rt, Action::Close)?;
+    assert_action_copied(&rt, Action::SendOpen)?;
+    assert_action_copied(&rt, Action::SendKeepalive)?;
+    assert_action_copied(&rt, Action::SendNotification(ceased()))?;
+    assert_action_copied(&rt, Action::Arm(Timer::Hold, 90))?;
+    assert_action_copied(&rt, Action::Disarm(Timer::Retry))?;
+    assert_action_copied(&rt, Action::Flush)
+}
+
+#[test]
+fn actions_of_an_update(rt: HostRuntime) -> Result<(), Fail> {
     let alloc = rt.alloc();
+    let View::Take(view) = view_update(&session(true), PLAIN) else {
+        return Err("taken".into());
+    };
+    let routes = again!(view.routes(alloc));
+    assert_action_copied(&rt, Action::Withdraw(routes))?;
     let update = plain(alloc)?;
     let info = again!(reconcile(alloc, &update.attrs));
-    for action in [
-        Action::Connect,
-        Action::Close,
-        Action::SendOpen,
-        Action::SendKeepalive,
-        Action::SendNotification(ceased()),
-        Action::Arm(Timer::Hold, 90),
-        Action::Disarm(Timer::Retry),
-        Action::Announce(update, info),
-        Action::Flush,
-    ] {
-        assert!(&rt; again!(action.copy(alloc)) == action);
-    }
-    for one in [
-        Move::Start(Side::A),
-        Move::Stop(Side::B),
-        Move::Join,
-        Move::Refuse(Side::A),
-        Move::Deliver(Side::B, 9),
-        Move::Lose,
-        Move::Expire(Side::A, Timer::Keepalive),
-        Move::Send(Side::B, plain(alloc)?),
-    ] {
-        assert!(&rt; again!(one.copy(alloc)) == one);
-    }
+    assert_action_copied(&rt, Action::Announce(update, info))
+}
+
+fn assert_move_copied(rt: &(impl Abort + AllocGlobal), one: Move) -> Result<(), Fail> {
+    let copy = again!(one.copy(rt.alloc()));
+    assert!(rt; copy == one);
     Ok(())
+}
+
+#[test]
+fn moves(rt: HostRuntime) -> Result<(), Fail> {
+    assert_move_copied(&rt, Move::Start(Side::A))?;
+    assert_move_copied(&rt, Move::Stop(Side::B))?;
+    assert_move_copied(&rt, Move::Join)?;
+    assert_move_copied(&rt, Move::Refuse(Side::A))?;
+    assert_move_copied(&rt, Move::Deliver(Side::B, 9))?;
+    assert_move_copied(&rt, Move::Lose)?;
+    assert_move_copied(&rt, Move::Expire(Side::A, Timer::Keepalive))?;
+    let update = plain(rt.alloc())?;
+    assert_move_copied(&rt, Move::Send(Side::B, update))
 }
 
 /// What came of a schedule in which an UPDATE is sent and heard, one isn't sent, and a side is stopped.
