@@ -1,6 +1,9 @@
 //! The program `bgp`: hands its words and its three streams to `bgp_tool`, and ends with the status of the answer.
 #![tactic(auto)]
 
+mod progress;
+
+use crate::progress::Watched;
 use std::alloc::AllocError;
 use std::process::ExitCode;
 use std::{env, io};
@@ -14,7 +17,7 @@ fn words(rt: &HostRuntime) -> io::Result<Vec<String>> {
 fn run(rt: &HostRuntime, words: &[String]) -> Result<u8, AllocError> {
     let alloc = rt.alloc();
     let words: Vec<&str> = words.iter().map(|word| word.as_str()).collect(alloc)?;
-    let input = &mut rt.stdin();
+    let input = &mut Watched::new(rt, rt.stdin());
     let output = &mut rt.stdout();
     let errors = &mut rt.stderr();
     Ok(bgp_tool::command(rt, alloc, &words, input, output, errors))

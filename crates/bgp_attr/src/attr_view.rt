@@ -72,7 +72,10 @@ impl As4PathView<'_> {
     ghost use Rattle.bgp_attr.specs.AttrView.{as4_path_value};
 
     /// The value, with memory of its own.
-    fn own(self, alloc: Global) -> Result<As4Path, AllocError>
+    ///
+    /// # Errors
+    /// `AllocError` where an allocation failed.
+    pub fn own(self, alloc: Global) -> Result<As4Path, AllocError>
         ensures { IfOk result (λ p. p ≡ as4_path_value self.entry) }
     {
         let path = self.path.own(alloc)?;
@@ -87,7 +90,10 @@ impl OpaqueView<'_> {
     ghost use Rattle.bgp_attr.specs.AttrView.{opaque_value};
 
     /// The value, with memory of its own.
-    fn own(self, alloc: Global) -> Result<Opaque, AllocError>
+    ///
+    /// # Errors
+    /// `AllocError` where an allocation failed.
+    pub fn own(self, alloc: Global) -> Result<Opaque, AllocError>
         ensures { IfOk result (λ o. o ≡ opaque_value self.entry) }
     {
         let value = List::from_vec(Vec::from_slice(alloc, self.value)?);

@@ -2,6 +2,7 @@
 pub mod Nexts
 pub mod Pulls
 pub mod Encodings
+pub mod Rooms
 pub mod Lists
 pub mod Decodings
 pub mod ReadOpens

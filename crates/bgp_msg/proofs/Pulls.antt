@@ -1,5 +1,5 @@
 -- What is pulled from a piece.
-use Rattle.std.proofs.Common.{◌≡◌, ℕ, ◌≤◌, ◌⊎◌, Bool, true, false, List, [], ◌++◌, length, take, drop, Result, Err, OnErr, Option, Some, None, refl, sym, ap, subst, ◌∙◌, arith, inl, inr}
+use Rattle.std.proofs.Common.{◌≡◌, ℕ, ◌≤◌, ◌⊎◌, Bool, true, false, List, [], ◌++◌, length, take, drop, Result, Ok, Err, OnErr, Option, Some, None, refl, sym, ap, subst, ◌∙◌, arith, inl, inr}
 use Rattle.std.specs.Result.{IfOk}
 use Rattle.std.proofs.lemmas.Result.{IfOk-weaker, on_err_weaker}
 use Rattle.std.proofs.lemmas.List.{length-take, take-append-drop, append-nil}
@@ -107,6 +107,10 @@ module _ (old new : Decoding) (piece : List ℕ) (m : Message) (n : ℕ) (o : Ou
         within = front.0;
         takes = record { message = m; is_held = front.1; holds_lists = lists_have_kinds old.ctx m lists; goes_on = lists_go_on (out_of old.ctx m) lists };
       }) refused
+
+pub on_err_any : {T E P : Type 0} (r : Result T E) → P → OnErr r P
+on_err_any (Ok x) p = tt
+on_err_any (Err e) p = p
 
 -- ---- a pull is a feed, and next where something comes
 

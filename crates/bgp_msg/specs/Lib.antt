@@ -2,6 +2,7 @@
 pub mod Outcome
 pub mod OutcomeView
 pub mod Written
+pub mod Room
 pub mod Seen
 pub mod Decoder
 pub mod Decoding

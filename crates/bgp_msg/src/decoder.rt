@@ -4,8 +4,9 @@ ghost use Rattle.std.specs.Prelude.{◌≡◌, ◌<◌, ◌≤◌, ◌⊎◌, tr
 ghost use Rattle.bgp_msg.specs.Decoder.{fresh, behind, IsFed, IsNext, TakesMemory, IsPulled, IsFedAndNext, FrontTakesMemory};
 ghost use Rattle.bgp_msg.specs.OutcomeView.{outcome_value, has_lists};
 
+use crate::message::Message;
 use crate::outcome::Outcome;
-use crate::outcome_view::{OutcomeView, own_update};
+use crate::outcome_view::OutcomeView;
 use crate::taking::{out_frame, view_frame};
 use bgp_frame::{Framer, Step, front};
 use bgp_open::Context;
@@ -170,7 +171,9 @@ impl Decoder {
                 let len = frame.len;
                 match view_frame(&self.ctx, frame) {
                     OutcomeView::Update(view) => {
-                        let judged = own_update(alloc, &view)?;
+                        let update = view.own(alloc)?;
+                        let notes = view.own_notes(alloc)?;
+                        let judged = Outcome::Took(Message::Update(update), notes);
                         Ok((len as usize, Some((len, judged))))
                     }
                     rare => self.pull_rare(alloc, len, &rare),

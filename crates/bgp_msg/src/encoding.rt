@@ -1,8 +1,7 @@
 //! Writing a message.
 
-ghost use Rattle.std.specs.Prelude.{◌≡◌, ◌+◌, ◌≤◌, ◌++◌, ◌↔◌, [], Some, false, length, take, drop, IsTrue, IsErrOf, OnOk, OnErr};
+ghost use Rattle.std.specs.Prelude.{◌≡◌, ◌+◌, ◌≤◌, ◌++◌, ◌↔◌, [], Some, false, length, IsTrue, IsErrOf, OnOk, OnErr};
 ghost use Rattle.bgp_frame.specs.Frame.{IsFrame};
-ghost use Rattle.bgp_frame.specs.Head.{header};
 ghost use Rattle.bgp_frame.specs.Kind.{IsLength};
 ghost use Rattle.bgp_open.specs.Open.{IsOpen};
 ghost use Rattle.bgp_open.specs.Written as opens;
@@ -12,8 +11,9 @@ ghost use Rattle.bgp_msg.specs.declared.outcome.Outcome.TheVariants.{Took};
 ghost use Rattle.bgp_msg.specs.Outcome.{out_of};
 ghost use Rattle.bgp_msg.specs.Written.{kind_of, notification_octets, body_of, written, canonical, invalid_open, invalid_of, is_valid, is_too_long};
 
+use crate::header::{give_up, put_header, put_room};
 use crate::message::Message;
-use bgp_frame::{Kind, Notification, head};
+use bgp_frame::Notification;
 use bgp_open::{Context, Open, WriteOpenFault, write_open};
 use bgp_update::{Invalid, WriteFault, write_update};
 use std::alloc::AllocError;
@@ -87,20 +87,6 @@ fn put_body(ctx: &Context, message: &Message, out: &mut Vec<u8>) -> Result<(), W
     }
 }
 
-/// Puts a header in front of the octets from a place on.
-pub(crate) fn put_header(kind: Kind, start: usize, out: &mut Vec<u8>) -> Result<(), AllocError>
-    requires start { start ≤ length out.old.items }
-    requires allowed { IsLength kind (19 + length (drop start out.old.items)) }
-    ensures ok { OnOk result (out.new.items ≡ take start out.old.items ++ (header kind (19 + length (drop start out.old.items)) ++ drop start out.old.items)) }
-    ensures err { OnErr result (out.new.items ≡ out.old.items) }
-{
-    let len = (out.len() - start) as u16;
-    let header = head(kind, len);
-    out.extend_from_slice(&header)?;
-    out[start..].rotate_right(header.len());
-    Ok(())
-}
-
 /// Appends a whole message in its one written form (RFC 4271, section 4).
 ///
 /// # Errors
@@ -116,14 +102,11 @@ pub fn encode(ctx: &Context, message: &Message, out: &mut Vec<u8>) -> Result<(),
     ensures err { OnErr result (out.new.items ≡ out.old.items) }
 {
     let start = out.len();
-    match put_body(ctx, message, out) {
-        Err(fault) => Err(fault),
-        Ok(()) => match put_header(message.kind(), start, out) {
-            Ok(()) => Ok(()),
-            Err(_) => {
-                out.truncate(start);
-                Err(WriteFault::Memory)
-            }
-        },
+    let has_room = put_room(out);
+    let written = put_body(ctx, message, out);
+    if has_room && written.is_ok() {
+        put_header(message.kind(), start, out);
+        return Ok(());
     }
+    Err(give_up(written, start, out))
 }

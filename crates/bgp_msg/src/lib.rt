@@ -5,6 +5,7 @@
 mod decoder;
 mod decoding;
 mod encoding;
+mod header;
 pub mod laws;
 mod message;
 mod outcome;

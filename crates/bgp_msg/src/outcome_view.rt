@@ -9,7 +9,7 @@ use crate::message::Message;
 use crate::outcome::Outcome;
 use bgp_frame::NotificationView;
 use bgp_open::OpenView;
-use bgp_update::{Note, UpdateView};
+use bgp_update::UpdateView;
 use bgp_wire::List;
 use std::alloc::{AllocError, Global};
 
@@ -28,23 +28,6 @@ pub enum OutcomeView<'a> {
     Withdraw(UpdateView<'a>),
     /// The session ends with this notification.
     Reset(NotificationView<'a>),
-}
-
-/// The notes on an UPDATE, with memory of their own.
-fn own_notes(alloc: Global, view: &UpdateView<'_>) -> Result<List<Note>, AllocError>
-    ensures { IfOk result (λ notes. notes ≡ notes_value view.now) }
-{
-    Ok(List::from_vec(view.notes().collect(alloc)?))
-}
-
-/// An UPDATE that is taken, with memory of its own.
-#[inline(always)]
-pub(crate) fn own_update(alloc: Global, view: &UpdateView<'_>) -> Result<Outcome, AllocError>
-    ensures { IfOk result (λ o. o ≡ outcome.Took (message.Update (update_value view.now)) (notes_value view.now)) }
-{
-    let update = view.own(alloc)?;
-    let notes = own_notes(alloc, view)?;
-    Ok(Outcome::Took(Message::Update(update), notes))
 }
 
 impl OutcomeView<'_> {
@@ -74,7 +57,11 @@ impl OutcomeView<'_> {
                 let open = view.own(alloc)?;
                 Ok(Outcome::Took(Message::Open(open), List::new(alloc)))
             }
-            OutcomeView::Update(view) => own_update(alloc, view),
+            OutcomeView::Update(view) => {
+                let update = view.own(alloc)?;
+                let notes = view.own_notes(alloc)?;
+                Ok(Outcome::Took(Message::Update(update), notes))
+            }
             OutcomeView::Notification(said) => Ok(Outcome::Took(
                 Message::Notification(said.own()),
                 List::new(alloc),
@@ -82,7 +69,7 @@ impl OutcomeView<'_> {
             OutcomeView::Keepalive => Ok(Outcome::Took(Message::Keepalive, List::new(alloc))),
             OutcomeView::Withdraw(view) => {
                 let routes = view.routes(alloc)?;
-                let notes = own_notes(alloc, view)?;
+                let notes = view.own_notes(alloc)?;
                 Ok(Outcome::Withdraw(routes, notes))
             }
             OutcomeView::Reset(why) => Ok(Outcome::Reset(why.own())),

@@ -8,7 +8,7 @@ ghost use Rattle.bgp_update.specs.Written.{HasUpdateRanges};
 ghost use Rattle.bgp_msg.specs.declared.message.Message.TheVariants as message;
 ghost use Rattle.bgp_msg.specs.Written.{body_of, canonical, invalid_of, is_valid, is_too_long};
 
-use crate::encoding::put_header;
+use crate::header::{give_up, put_header, put_room};
 use bgp_frame::Kind;
 use bgp_open::Context;
 use bgp_update::{Invalid, Update, WriteFault, write_update};
@@ -38,14 +38,11 @@ pub fn encode_update(ctx: &Context, update: &Update, out: &mut Vec<u8>) -> Resul
     ensures err { OnErr result (out.new.items ≡ out.old.items) }
 {
     let start = out.len();
-    match put_update(ctx, update, out) {
-        Err(fault) => Err(fault),
-        Ok(()) => match put_header(Kind::Update, start, out) {
-            Ok(()) => Ok(()),
-            Err(_) => {
-                out.truncate(start);
-                Err(WriteFault::Memory)
-            }
-        },
+    let has_room = put_room(out);
+    let written = put_update(ctx, update, out);
+    if has_room && written.is_ok() {
+        put_header(Kind::Update, start, out);
+        return Ok(());
     }
+    Err(give_up(written, start, out))
 }

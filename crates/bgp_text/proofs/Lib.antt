@@ -1,3 +1,2 @@
 pub mod ResetCodes
 pub mod Words
-pub mod Filling

@@ -54,29 +54,29 @@ fn put_as4_path(text: &mut String, path: Option<As4PathView<'_>>) -> Result<(), 
 fn put_route_lines(text: &mut String, slots: &Slots<'_>) -> Result<(), AllocError>
     ensures { OnOk result (string_bytes text.new ≡ string_bytes text.old ++ route_lines (slots_value slots.now)) }
 {
-    put_origin(text, slots.origin)?;
-    put_as_path(text, slots.as_path)?;
-    put_next_hop(text, slots.next_hop)
+    put_origin(text, slots.kept.origin)?;
+    put_as_path(text, slots.kept.as_path)?;
+    put_next_hop(text, slots.kept.next_hop)
 }
 
 /// MULTI_EXIT_DISC, LOCAL_PREF, ATOMIC_AGGREGATE and AGGREGATOR.
 fn put_choice_lines(text: &mut String, slots: &Slots<'_>) -> Result<(), AllocError>
     ensures { OnOk result (string_bytes text.new ≡ string_bytes text.old ++ choice_lines (slots_value slots.now)) }
 {
-    put_number(text, "  med ", slots.med)?;
-    put_number(text, "  local_pref ", slots.local_pref)?;
-    put_atomic(text, slots.atomic)?;
-    put_aggregator(text, "  aggregator ", slots.aggregator)
+    put_number(text, "  med ", slots.kept.med)?;
+    put_number(text, "  local_pref ", slots.kept.local_pref)?;
+    put_atomic(text, slots.kept.atomic)?;
+    put_aggregator(text, "  aggregator ", slots.kept.aggregator)
 }
 
 /// COMMUNITIES and LARGE_COMMUNITY.
 fn put_community_lines(text: &mut String, slots: &Slots<'_>) -> Result<(), AllocError>
     ensures { OnOk result (string_bytes text.new ≡ string_bytes text.old ++ community_lines (slots_value slots.now)) }
 {
-    if let Some(communities) = slots.communities {
+    if let Some(communities) = slots.kept.communities {
         put_communities(text, communities.values)?;
     }
-    if let Some(large) = slots.large {
+    if let Some(large) = slots.kept.large {
         put_large(text, large.values)?;
     }
     Ok(())
@@ -86,8 +86,8 @@ fn put_community_lines(text: &mut String, slots: &Slots<'_>) -> Result<(), Alloc
 fn put_as4_lines(text: &mut String, slots: &Slots<'_>) -> Result<(), AllocError>
     ensures { OnOk result (string_bytes text.new ≡ string_bytes text.old ++ as4_lines (slots_value slots.now)) }
 {
-    put_as4_path(text, slots.as4_path)?;
-    put_aggregator(text, "  as4_aggregator ", slots.as4_aggregator)
+    put_as4_path(text, slots.kept.as4_path)?;
+    put_aggregator(text, "  as4_aggregator ", slots.kept.as4_aggregator)
 }
 
 /// Attributes whose type isn't recognised.
@@ -115,8 +115,8 @@ fn put_attributes(alloc: Global, text: &mut String, slots: &Slots<'_>) -> Result
 fn put_mp(text: &mut String, slots: &Slots<'_>) -> Result<(), AllocError>
     ensures { OnOk result (string_bytes text.new ≡ string_bytes text.old ++ mp_lines (slots_value slots.now)) }
 {
-    put_viewed_reach(text, slots.reach)?;
-    put_viewed_unreach(text, slots.unreach)
+    put_viewed_reach(text, slots.kept.reach)?;
+    put_viewed_unreach(text, slots.kept.unreach)
 }
 
 /// Adds the details of an UPDATE.
@@ -135,48 +135,53 @@ pub(crate) fn put_viewed_update(
 }
 
 /// The IPv4 routes of attributes.
-fn put_ip4_routes(text: &mut String, slots: &Slots<'_>) -> Result<(), AllocError>
+fn put_ip4_routes(
+    text: &mut String,
+    unreach: Option<MpUnreachView<'_>>,
+    reach: Option<MpReachView<'_>>,
+) -> Result<(), AllocError>
     ensures { OnOk result (string_bytes text.new ≡ string_bytes text.old
-        ++ (flat_map (line_of (codes "  route ") ipv4_text) (gone_ip4 (option_map unreach_value slots.now.unreach))
-        ++ flat_map (line_of (codes "  route ") ipv4_text) (reached_ip4 (option_map reach_value slots.now.reach)))) }
+        ++ (flat_map (line_of (codes "  route ") ipv4_text) (gone_ip4 (option_map unreach_value unreach.entry))
+        ++ flat_map (line_of (codes "  route ") ipv4_text) (reached_ip4 (option_map reach_value reach.entry)))) }
 {
-    if let Some(MpUnreachView::Ip4(routes)) = slots.unreach {
+    if let Some(MpUnreachView::Ip4(routes)) = unreach {
         put_ip4_lines(text, "  route ", routes)?;
     }
-    if let Some(MpReachView::Ip4 { nlri, .. }) = slots.reach {
+    if let Some(MpReachView::Ip4 { nlri, .. }) = reach {
         put_ip4_lines(text, "  route ", nlri)?;
     }
     Ok(())
 }
 
 /// The IPv6 routes of attributes.
-fn put_ip6_routes(text: &mut String, slots: &Slots<'_>) -> Result<(), AllocError>
+fn put_ip6_routes(
+    text: &mut String,
+    unreach: Option<MpUnreachView<'_>>,
+    reach: Option<MpReachView<'_>>,
+) -> Result<(), AllocError>
     ensures { OnOk result (string_bytes text.new ≡ string_bytes text.old
-        ++ (flat_map (line_of (codes "  route ") ipv6_text) (gone_ip6 (option_map unreach_value slots.now.unreach))
-        ++ flat_map (line_of (codes "  route ") ipv6_text) (reached_ip6 (option_map reach_value slots.now.reach)))) }
+        ++ (flat_map (line_of (codes "  route ") ipv6_text) (gone_ip6 (option_map unreach_value unreach.entry))
+        ++ flat_map (line_of (codes "  route ") ipv6_text) (reached_ip6 (option_map reach_value reach.entry)))) }
 {
-    if let Some(MpUnreachView::Ip6(routes)) = slots.unreach {
+    if let Some(MpUnreachView::Ip6(routes)) = unreach {
         put_ip6_lines(text, "  route ", routes)?;
     }
-    if let Some(MpReachView::Ip6 { nlri, .. }) = slots.reach {
+    if let Some(MpReachView::Ip6 { nlri, .. }) = reach {
         put_ip6_lines(text, "  route ", nlri)?;
     }
     Ok(())
 }
 
 /// Adds a line for each route that is withdrawn.
-pub(crate) fn put_viewed_routes(
-    alloc: Global,
-    text: &mut String,
-    view: &UpdateView<'_>,
-) -> Result<(), AllocError>
+pub(crate) fn put_viewed_routes(text: &mut String, view: &UpdateView<'_>) -> Result<(), AllocError>
     ensures { OnOk result (string_bytes text.new ≡ string_bytes text.old ++ routes_lines (routes_value view.now)) }
 {
-    let slots = Slots::of(alloc, view)?;
+    let unreach = view.unreach();
+    let reach = view.reach();
     put_ip4_lines(text, "  route ", view.withdrawn())?;
-    put_ip4_routes(text, &slots)?;
+    put_ip4_routes(text, unreach, reach)?;
     put_ip4_lines(text, "  route ", view.nlri())?;
-    put_ip6_routes(text, &slots)
+    put_ip6_routes(text, unreach, reach)
 }
 
 /// Adds the lines of the notes on an UPDATE.

@@ -66,7 +66,6 @@ fn put_taken(
 
 /// An UPDATE whose routes are withdrawn.
 fn put_withdrawn(
-    alloc: Global,
     text: &mut String,
     place: u64,
     len: u16,
@@ -75,7 +74,7 @@ fn put_withdrawn(
     ensures { OnOk result (string_bytes text.new ≡ string_bytes text.old ++ withdraw_lines place len (routes_value view.now) (notes_value view.now)) }
 {
     put_head(text, place, len, "UPDATE withdraw")?;
-    put_viewed_routes(alloc, text, view)?;
+    put_viewed_routes(text, view)?;
     put_viewed_notes(text, view)
 }
 
@@ -123,7 +122,7 @@ pub fn put_viewed_outcome(
 {
     match outcome {
         OutcomeView::Update(view) => put_taken(alloc, text, place, len, view),
-        OutcomeView::Withdraw(view) => put_withdrawn(alloc, text, place, len, view),
+        OutcomeView::Withdraw(view) => put_withdrawn(text, place, len, view),
         OutcomeView::Keepalive => put_head(text, place, len, "KEEPALIVE"),
         OutcomeView::Open(view) => put_opened(alloc, text, place, len, view),
         OutcomeView::Notification(said) => put_received(alloc, text, place, len, said),

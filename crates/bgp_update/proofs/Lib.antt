@@ -1,9 +1,10 @@
 pub mod SeenWords
 pub mod SmallLemmas
+pub mod Options
+pub mod KeptViews
 pub mod Summaries
 pub mod Runs
 pub mod PartLengths
-pub mod Gathering
 pub mod Placing
 pub mod Narrowing
 pub mod Bodies

@@ -12,10 +12,11 @@ pub mod Body
 pub mod Seen
 pub mod Small
 pub mod MarkIter
+pub mod KeptView
+pub mod Others
 pub mod Summary
 pub mod View
 pub mod Iters
-pub mod Gather
 pub mod Laws
 pub mod Failed
 pub mod Measured

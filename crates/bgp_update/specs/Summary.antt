@@ -6,12 +6,10 @@ use Rattle.bgp_frame.specs.declared.notification.Notification.{Notification}
 use Rattle.bgp_frame.specs.Notification.{notification_of_view}
 use Rattle.bgp_attr.specs.declared.judged.Judged.{Judged}
 use Rattle.bgp_attr.specs.declared.judged.Judged.TheVariants as judged
-use Rattle.bgp_attr.specs.declared.mp.MpReach.{MpReach}
-use Rattle.bgp_attr.specs.declared.mp.MpUnreach.{MpUnreach}
-use Rattle.bgp_attr.specs.MpView.{reach_value, unreach_value}
 use Rattle.bgp_update.specs.declared.summary.Summary.{Summary}
+use Rattle.bgp_update.specs.KeptView.{Kept, kept_value, kept_in, kept_behind}
 use Rattle.bgp_update.specs.Marks.{Mark}
-use Rattle.bgp_update.specs.Taken.{kept_of, first_in, as_mp_reach, as_mp_unreach}
+use Rattle.bgp_update.specs.Taken.{kept_of}
 use Rattle.bgp_update.specs.Verdict.{first_reset, withdraws}
 
 -- what it comes to has a note
@@ -24,16 +22,14 @@ pub record SummaryValue : Type 0 where
   pub reset : Option Notification
   pub withdraws : Bool
   pub notes : Bool
-  pub reach : Option MpReach
-  pub unreach : Option MpUnreach
+  pub kept : Kept
 
 abbrev pub summary_value : Summary → SummaryValue
 summary_value s = record {
   reset = option_map notification_of_view s.reset;
   withdraws = s.withdraws;
   notes = s.notes;
-  reach = option_map reach_value s.reach;
-  unreach = option_map unreach_value s.unreach;
+  kept = kept_value s.kept;
 }
 
 -- with more marks behind those that it is of
@@ -42,8 +38,7 @@ summary_behind s marks = record {
   reset = option_or s.reset (first_reset marks);
   withdraws = s.withdraws || list_any (λ m. withdraws m.judged) marks;
   notes = s.notes || list_any (λ m. is_noted m.judged) marks;
-  reach = option_or s.reach (first_in as_mp_reach (kept_of marks));
-  unreach = option_or s.unreach (first_in as_mp_unreach (kept_of marks));
+  kept = kept_behind s.kept (kept_of marks);
 }
 
 abbrev pub summary_of : List Mark → SummaryValue
@@ -51,6 +46,5 @@ summary_of marks = record {
   reset = first_reset marks;
   withdraws = list_any (λ m. withdraws m.judged) marks;
   notes = list_any (λ m. is_noted m.judged) marks;
-  reach = first_in as_mp_reach (kept_of marks);
-  unreach = first_in as_mp_unreach (kept_of marks);
+  kept = kept_in (kept_of marks);
 }

@@ -13,7 +13,7 @@ use crate::body::{Body, split_body};
 use crate::found::Found;
 use crate::malformed::malformed;
 use crate::missing::{Missing, missing_in};
-use crate::summary::summarize;
+use crate::summary::{Summary, summarize};
 use crate::view::{UpdateView, View};
 use bgp_attr::MpReachView;
 use bgp_frame::NotificationView;
@@ -63,12 +63,14 @@ fn is_missing(missing: Missing) -> bool
 }
 
 /// The verdict on parts of a body.
+#[inline(always)]
 fn judge_body<'a>(ctx: &Context, body: Body<'a>) -> Found<'a>
     requires { length body.withdrawn.now + length body.attributes.now ≤ 4073 }
     ensures { found_value result ≡ verdict_on (parts_value body.entry) (marks_of ctx.now (parts_value body.entry)) }
 {
     let has_nlri = !body.nlri.is_empty();
-    let (summary, types) = summarize(ctx, has_nlri, body.attributes);
+    let mut summary = Summary::new();
+    let types = summarize(ctx, has_nlri, body.attributes, &mut summary);
     if let Some(reset) = summary.reset {
         return Found::Reset(reset);
     }
@@ -78,7 +80,7 @@ fn judge_body<'a>(ctx: &Context, body: Body<'a>) -> Found<'a>
     if let Some(reset) = reset_of_run(body.nlri) {
         return Found::Reset(reset);
     }
-    let reaches = has_nlri || has_routes(summary.reach);
+    let reaches = has_nlri || has_routes(summary.kept.reach);
     let missing = missing_in(reaches, has_nlri, &types);
     let view = UpdateView::new(ctx, body, missing, &summary);
     if !summary.withdraws && !is_missing(missing) {

@@ -6,27 +6,17 @@ ghost use Rattle.bgp_update.specs.Verdict.{verdict_of, has_value};
 ghost use Rattle.bgp_update.specs.View.{update_value, routes_value, notes_value, view_value};
 
 use crate::judge_body::view_update;
-use crate::note::Note;
 use crate::verdict::Verdict;
 use crate::view::{UpdateView, View};
 use bgp_open::Context;
-use bgp_wire::List;
 use std::alloc::{AllocError, Global};
-
-/// The notes on a message, with memory of their own.
-fn own_notes(alloc: Global, view: &UpdateView<'_>) -> Result<List<Note>, AllocError>
-    ensures { IfOk result (λ n. n ≡ notes_value view.now) }
-{
-    let notes = view.notes().collect(alloc)?;
-    Ok(List::from_vec(notes))
-}
 
 /// A message that is taken.
 fn own_taken(alloc: Global, view: &UpdateView<'_>) -> Result<Verdict, AllocError>
     ensures { IfOk result (λ v. v ≡ verdict.Take (update_value view.now) (notes_value view.now)) }
 {
     let update = view.own(alloc)?;
-    let notes = own_notes(alloc, view)?;
+    let notes = view.own_notes(alloc)?;
     Ok(Verdict::Take(update, notes))
 }
 
@@ -35,7 +25,7 @@ fn own_withdrawn(alloc: Global, view: &UpdateView<'_>) -> Result<Verdict, AllocE
     ensures { IfOk result (λ v. v ≡ verdict.Withdraw (routes_value view.now) (notes_value view.now)) }
 {
     let routes = view.routes(alloc)?;
-    let notes = own_notes(alloc, view)?;
+    let notes = view.own_notes(alloc)?;
     Ok(Verdict::Withdraw(routes, notes))
 }
 

@@ -8,9 +8,10 @@ ghost use Rattle.bgp_update.specs.Notes.{types_of_field};
 ghost use Rattle.bgp_update.specs.Seen.{seen_types};
 ghost use Rattle.bgp_update.specs.Summary.{is_noted, summary_value, summary_behind, summary_of};
 
+use crate::kept_view::KeptView;
 use crate::mark::{MarkIter, MarkView};
 use crate::seen::Seen;
-use bgp_attr::{AttrView, FoundAttr, MpReachView, MpUnreachView};
+use bgp_attr::FoundAttr;
 use bgp_frame::NotificationView;
 use bgp_open::Context;
 
@@ -23,10 +24,8 @@ pub(crate) struct Summary<'a> {
     pub(crate) withdraws: bool,
     /// An attribute has a note.
     pub(crate) notes: bool,
-    /// The MP_REACH_NLRI that is kept.
-    pub(crate) reach: Option<MpReachView<'a>>,
-    /// The MP_UNREACH_NLRI that is kept.
-    pub(crate) unreach: Option<MpUnreachView<'a>>,
+    /// The attributes that are kept.
+    pub(crate) kept: KeptView<'a>,
 }
 
 /// Whether what an attribute comes to has a note.
@@ -41,15 +40,14 @@ fn is_noted(judged: &FoundAttr<'_>) -> bool
 
 impl<'a> Summary<'a> {
     /// Of no marks.
-    fn new() -> Summary<'a>
+    pub(crate) fn new() -> Summary<'a>
         ensures { summary_value result ≡ summary_of [] }
     {
         Summary {
             reset: None,
             withdraws: false,
             notes: false,
-            reach: None,
-            unreach: None,
+            kept: KeptView::new(),
         }
     }
 
@@ -61,26 +59,31 @@ impl<'a> Summary<'a> {
         match mark.judged {
             FoundAttr::Reset(found) => self.reset = self.reset.or(Some(found)),
             FoundAttr::Withdraw(_) => self.withdraws = true,
-            FoundAttr::Keep(AttrView::MpReach(found)) => self.reach = self.reach.or(Some(found)),
-            FoundAttr::Keep(AttrView::MpUnreach(found)) => {
-                self.unreach = self.unreach.or(Some(found));
-            }
-            FoundAttr::Keep(_) | FoundAttr::Discard(_) => {}
+            FoundAttr::Keep(attr) => self.kept.put(attr),
+            FoundAttr::Discard(_) => {}
         }
     }
 }
 
-/// What the marks of a field of at most 4075 octets come to, and the types of its whole attributes.
-pub(crate) fn summarize<'a>(ctx: &Context, has_nlri: bool, field: &'a [u8]) -> (Summary<'a>, Seen)
-    requires { length field.now ≤ 4075 }
-    ensures marks { summary_value result.0 ≡ summary_of (field_marks ctx.now has_nlri field.now) }
-    ensures types { (kind : ℕ) → seen_types result.1 kind ≡ types_of_field field.now kind }
+/// Adds what the marks of a field of at most 4075 octets come to, where nothing was added yet. Answers the types of its whole attributes.
+///
+/// A summary has room for all slots, and so this one is a place of the caller's.
+#[inline(never)]
+pub(crate) fn summarize<'a>(
+    ctx: &Context,
+    has_nlri: bool,
+    field: &'a [u8],
+    summary: &mut Summary<'a>,
+) -> Seen
+    requires short { length field.now ≤ 4075 }
+    requires none { summary_value summary.old ≡ summary_of [] }
+    ensures marks { summary_value summary.new ≡ summary_of (field_marks ctx.now has_nlri field.now) }
+    ensures types { (kind : ℕ) → seen_types result kind ≡ types_of_field field.now kind }
 {
     let mut marks = MarkIter::new(ctx, has_nlri, field);
-    let mut summary = Summary::new();
     'field: loop {
         let Some(mark) = marks.next_mark() else {
-            return (summary, marks.types());
+            return marks.types();
         };
         summary.add(mark);
     }

@@ -1,25 +1,28 @@
 //! The verdict on an UPDATE, from borrowed octets.
 
-ghost use Rattle.std.specs.Prelude.{◌≡◌, ◌≤◌, ◌+◌, length, option_map};
+ghost use Rattle.std.specs.Prelude.{◌≡◌, ◌≤◌, ◌+◌, length};
 ghost use Rattle.std.specs.List.{list_any};
-ghost use Rattle.bgp_attr.specs.MpView.{reach_value, unreach_value};
 ghost use Rattle.bgp_update.specs.Body.{parts_value};
+ghost use Rattle.bgp_update.specs.KeptView.{kept_value, kept_in};
 ghost use Rattle.bgp_update.specs.Marks.{marks_of};
 ghost use Rattle.bgp_update.specs.Notes.{missing_of};
 ghost use Rattle.bgp_update.specs.Summary.{is_noted, summary_value, summary_of};
-ghost use Rattle.bgp_update.specs.Taken.{kept_of, first_in, as_mp_reach, as_mp_unreach};
+ghost use Rattle.bgp_update.specs.Taken.{kept_of};
 
 use crate::add_routes::add_routes;
 use crate::attr_iter::AttrIter;
+use crate::attrs::Attrs;
 use crate::body::Body;
-use crate::gather::gather;
+use crate::kept_view::KeptView;
 use crate::mark::MarkIter;
 use crate::missing::Missing;
+use crate::note::Note;
 use crate::note_iter::NoteIter;
+use crate::others::{others_in, own_others};
 use crate::routes::Routes;
 use crate::summary::Summary;
 use crate::update::Update;
-use bgp_attr::{MpReachView, MpUnreachView};
+use bgp_attr::{MpReachView, MpUnreachView, OpaqueView};
 use bgp_frame::Notification;
 use bgp_open::Context;
 use bgp_prefix::PrefixIter4;
@@ -32,13 +35,11 @@ pub struct UpdateView<'a> {
     ctx: Context,
     body: Body<'a>,
     missing: Missing,
-    reach: Option<MpReachView<'a>>,
-    unreach: Option<MpUnreachView<'a>>,
+    kept: KeptView<'a>,
     has_notes: bool,
     ghost short: { length body.withdrawn.now + length body.attributes.now ≤ 4073 },
     ghost misses: { missing ≡ missing_of (parts_value body) (marks_of ctx (parts_value body)) },
-    ghost reaches: { option_map reach_value reach ≡ first_in as_mp_reach (kept_of (marks_of ctx (parts_value body))) },
-    ghost unreaches: { option_map unreach_value unreach ≡ first_in as_mp_unreach (kept_of (marks_of ctx (parts_value body))) },
+    ghost keeps: { kept_value kept ≡ kept_in (kept_of (marks_of ctx (parts_value body))) },
     ghost noted: { has_notes ≡ list_any (λ m. is_noted m.judged) (marks_of ctx (parts_value body)) },
 }
 
@@ -74,8 +75,7 @@ impl<'a> UpdateView<'a> {
             ctx: *ctx,
             body,
             missing,
-            reach: summary.reach,
-            unreach: summary.unreach,
+            kept: summary.kept,
             has_notes: summary.notes,
         }
     }
@@ -96,8 +96,11 @@ impl<'a> UpdateView<'a> {
 }
 
 impl<'a> UpdateView<'a> {
-    ghost use Rattle.std.specs.Prelude.{ℕ, IfOk};
+    ghost use Rattle.std.specs.Prelude.{ℕ, map, option_map, IfOk};
     ghost use Rattle.std.specs.List.{flat_map};
+    ghost use Rattle.bgp_attr.specs.AttrView.{opaque_value};
+    ghost use Rattle.bgp_attr.specs.MpView.{reach_value, unreach_value};
+    ghost use Rattle.bgp_update.specs.KeptView.{known_value, known_of, is_opaque};
     ghost use Rattle.bgp_update.specs.Iters.{attrs_left, notes_left};
     ghost use Rattle.bgp_update.specs.MarkIter.{marks_left};
     ghost use Rattle.bgp_update.specs.Notes.{mark_notes};
@@ -139,6 +142,61 @@ impl<'a> UpdateView<'a> {
         )
     }
 
+    /// The notes, with memory of their own.
+    ///
+    /// # Errors
+    /// `AllocError` where an allocation failed.
+    pub fn own_notes(&self, alloc: Global) -> Result<List<Note>, AllocError>
+        ensures { IfOk result (λ notes. notes ≡ notes_value self.now) }
+    {
+        Ok(List::from_vec(self.notes().collect(alloc)?))
+    }
+
+    /// The attributes that are kept, each in the slot of its type.
+    pub fn kept(&self) -> &KeptView<'a>
+        ensures known { known_value result.now ≡ known_of (update_value self.now).attrs }
+        ensures others { result.now.others ≡ list_any is_opaque (kept_of (view_marks self.now)) }
+    {
+        &self.kept
+    }
+
+    /// The MP_REACH_NLRI that is kept.
+    pub fn reach(&self) -> Option<MpReachView<'a>>
+        ensures { option_map reach_value result ≡ (update_value self.now).attrs.mp_reach }
+    {
+        self.kept.reach
+    }
+
+    /// The MP_UNREACH_NLRI that is kept.
+    pub fn unreach(&self) -> Option<MpUnreachView<'a>>
+        ensures { option_map unreach_value result ≡ (update_value self.now).attrs.mp_unreach }
+    {
+        self.kept.unreach
+    }
+
+    /// The kept attributes of types that aren't recognised, rising in type.
+    ///
+    /// # Errors
+    /// `AllocError` where an allocation failed: never where there is none.
+    pub fn others(&self, alloc: Global) -> Result<List<OpaqueView<'a>>, AllocError>
+        ensures { IfOk result (λ os. map opaque_value os ≡ (update_value self.now).attrs.others) }
+    {
+        if self.kept.others {
+            others_in(alloc, self.attrs())
+        } else {
+            Ok(List::new(alloc))
+        }
+    }
+
+    /// The attributes that are kept, with memory of their own.
+    fn own_attrs(&self, alloc: Global) -> Result<Attrs, AllocError>
+        ensures { IfOk result (λ a. a ≡ (update_value self.now).attrs) }
+    {
+        let others = self.others(alloc)?;
+        let owned = own_others(alloc, others.as_slice())?;
+        self.kept.own(alloc, owned)
+    }
+
     /// The UPDATE with the attributes that are kept, with memory of its own.
     ///
     /// # Errors
@@ -147,7 +205,7 @@ impl<'a> UpdateView<'a> {
         ensures { IfOk result (λ u. u ≡ update_value self.now) }
     {
         let withdrawn = List::from_vec(self.withdrawn().collect(alloc)?);
-        let attrs = gather(alloc, self.attrs())?;
+        let attrs = self.own_attrs(alloc)?;
         let nlri = List::from_vec(self.nlri().collect(alloc)?);
         Ok(Update {
             withdrawn,
@@ -166,12 +224,12 @@ impl<'a> UpdateView<'a> {
         let mut ip4 = Vec::new(alloc);
         let mut ip6 = Vec::new(alloc);
         add_routes(self.withdrawn(), &mut ip4)?;
-        match self.unreach {
+        match self.unreach() {
             Some(MpUnreachView::Ip4(routes)) => add_routes(routes, &mut ip4)?,
             Some(MpUnreachView::Ip6(routes)) => add_routes(routes, &mut ip6)?,
             None => {}
         }
-        match self.reach {
+        match self.reach() {
             Some(MpReachView::Ip4 { nlri, .. }) => add_routes(nlri, &mut ip4)?,
             Some(MpReachView::Ip6 { nlri, .. }) => add_routes(nlri, &mut ip6)?,
             None => {}

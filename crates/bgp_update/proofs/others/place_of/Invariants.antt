@@ -1,7 +1,7 @@
 use Rattle.std.proofs.Common.{◌≡◌, ◌+◌, length, map}
 use Rattle.bgp_attr.specs.AttrView.{opaque_value}
-use Rattle.bgp_update.specs.Gather.{place_in}
-use Rattle.bgp_text.proofs.slots.place_of.Given as goal
+use Rattle.bgp_update.specs.Others.{place_in}
+use Rattle.bgp_update.proofs.others.place_of.Given as goal
 
 -- those so far are lower
 abbrev pub invariant-row : goal.invariant-row

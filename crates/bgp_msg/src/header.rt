@@ -1,0 +1,44 @@
+//! The header of a message that is written: room for it comes first, then the body, then the header, which says how long both are.
+
+ghost use Rattle.std.specs.Prelude.{◌≡◌, ◌+◌, ◌≤◌, ◌++◌, length, take, drop};
+ghost use Rattle.bgp_frame.specs.Head.{header};
+ghost use Rattle.bgp_frame.specs.Kind.{IsLength};
+ghost use Rattle.bgp_msg.specs.Room.{room_of, refusal_of};
+
+use bgp_frame::{Kind, head};
+use bgp_update::WriteFault;
+
+/// Appends room for a header. Answers whether there was memory for it; a body is written in any case, since it may have a fault that is told
+/// first.
+pub(crate) fn put_room(out: &mut Vec<u8>) -> bool
+    ensures { out.new.items ≡ out.old.items ++ room_of result }
+{
+    out.extend_from_slice(&[255; 19]).is_ok()
+}
+
+/// Puts a header into the room for it at a place, in front of a body.
+pub(crate) fn put_header(kind: Kind, start: usize, out: &mut Vec<u8>)
+    requires room { start + 19 ≤ length out.old.items }
+    requires allowed { IsLength kind (length (drop start out.old.items)) }
+    ensures { out.new.items ≡ take start out.old.items ++ (header kind (length (drop start out.old.items)) ++ drop (start + 19) out.old.items) }
+{
+    let end = start + 19;
+    let body_len = (out.len() - end) as u16;
+    out[start..end].copy_from_slice(&head(kind, body_len));
+}
+
+/// Takes back what was appended from a place on, of a message that isn't written. Answers why it isn't.
+pub(crate) fn give_up(
+    written: Result<(), WriteFault>,
+    start: usize,
+    out: &mut Vec<u8>,
+) -> WriteFault
+    ensures fault { result ≡ refusal_of written }
+    ensures rest { out.new.items ≡ take start out.old.items }
+{
+    out.truncate(start);
+    match written {
+        Ok(()) => WriteFault::Memory,
+        Err(fault) => fault,
+    }
+}

@@ -1,0 +1,17 @@
+use Rattle.std.proofs.Common.{[], map}
+use Rattle.std.specs.List.{flat_map}
+use Rattle.bgp_attr.specs.AttrView.{opaque_value}
+use Rattle.bgp_update.specs.Iters.{attrs_left}
+use Rattle.bgp_update.specs.Taken.{as_opaque, rising_behind}
+use Rattle.bgp_update.proofs.Placing.{others_step, others_all}
+use Rattle.bgp_update.proofs.others.others_in.Goals as goal
+
+pub field-preserved : goal.field-preserved
+field-preserved c =
+    others_step (map opaque_value c.field.others) (map opaque_value c.add_other.new.others) (rising_behind [] (flat_map as_opaque (attrs_left c.args.kept))) _
+    (attrs_left c.field.left) (attrs_left c.next.new.self) c.in_ok-add_other.ensures c.in-Some.ensures.steps c.field.invariant
+
+pub returns : goal.returns
+returns c =
+    others_all (map opaque_value c.field.others) (rising_behind [] (flat_map as_opaque (attrs_left c.args.kept))) (attrs_left c.field.left)
+    c.in_default.ensures.steps.0 c.field.invariant

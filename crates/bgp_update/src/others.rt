@@ -1,0 +1,91 @@
+//! Attributes of types that aren't recognised, rising in type.
+
+ghost use Rattle.std.specs.Prelude.{◌≡◌, ◌≤◌, [], length, map, IfOk, OnOk};
+ghost use Rattle.std.specs.Iterator.{YieldsFirst};
+ghost use Rattle.std.specs.List.{flat_map};
+ghost use Rattle.bgp_attr.specs.AttrView.{attr_value, opaque_value};
+ghost use Rattle.bgp_update.specs.Iters.{attrs_left};
+ghost use Rattle.bgp_update.specs.Others.{place_in};
+ghost use Rattle.bgp_update.specs.Taken.{as_opaque, put_rising, rising_behind};
+
+use crate::attr_iter::AttrIter;
+use bgp_attr::{AttrView, Opaque, OpaqueView};
+use bgp_wire::List;
+use std::alloc::{AllocError, Global};
+
+/// The first of a row, which goes on behind it.
+fn step<T: Copy>(row: &mut &[T]) -> Option<T>
+    ensures { YieldsFirst (λ r. r.now) row.old result row.new }
+{
+    let (first, rest) = row.split_first()?;
+    *row = rest;
+    Some(*first)
+}
+
+/// The place of a type among attributes that rise in type.
+fn place_of(kind: u8, others: &[OpaqueView<'_>]) -> usize
+    ensures value { result ≡ place_in kind (map opaque_value others.now) }
+    ensures within { result ≤ length others.now }
+{
+    let mut at = 0;
+    let mut left = others;
+    'row: while let Some(first) = step(&mut left) {
+        if first.kind >= kind {
+            return at;
+        }
+        at += 1;
+    }
+    at
+}
+
+/// Adds an attribute in its place by type.
+#[tactic(auto, using(crate::proofs::Placing::inserted))]
+fn insert_rising<'a>(
+    others: &mut List<OpaqueView<'a>>,
+    opaque: OpaqueView<'a>,
+) -> Result<(), AllocError>
+    ensures { OnOk result (map opaque_value others.new ≡ put_rising (opaque_value opaque.entry) (map opaque_value others.old)) }
+{
+    let place = place_of(opaque.kind, others.as_slice());
+    others.insert(place, opaque)
+}
+
+/// Adds an attribute where its type isn't recognised.
+fn add_other<'a>(others: &mut List<OpaqueView<'a>>, attr: AttrView<'a>) -> Result<(), AllocError>
+    ensures { OnOk result (map opaque_value others.new ≡ rising_behind (map opaque_value others.old) (as_opaque (attr_value attr.entry))) }
+{
+    match attr {
+        AttrView::Opaque(opaque) => insert_rising(others, opaque),
+        _ => Ok(()),
+    }
+}
+
+/// Those among attributes that are kept.
+pub(crate) fn others_in<'a>(
+    alloc: Global,
+    kept: AttrIter<'a>,
+) -> Result<List<OpaqueView<'a>>, AllocError>
+    ensures { IfOk result (λ os. map opaque_value os ≡ rising_behind [] (flat_map as_opaque (attrs_left kept.entry))) }
+{
+    let mut others = List::new(alloc);
+    let mut left = kept;
+    'field: while let Some(attr) = left.next() {
+        add_other(&mut others, attr)?;
+    }
+    Ok(others)
+}
+
+/// The same, with memory of their own.
+pub(crate) fn own_others(
+    alloc: Global,
+    others: &[OpaqueView<'_>],
+) -> Result<List<Opaque>, AllocError>
+    ensures { IfOk result (λ os. os ≡ map opaque_value others.now) }
+{
+    let mut owned = List::new(alloc);
+    let mut left = others;
+    'row: while let Some(first) = step(&mut left) {
+        owned.push(first.own(alloc)?)?;
+    }
+    Ok(owned)
+}
