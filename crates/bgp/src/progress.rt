@@ -1,10 +1,10 @@
 //! Progress of long work.
 
 use std::io::{self, IsTerminal, Read};
-use std::time::{Duration, Instant};
+use std::time::Instant;
 
-/// How long it takes until progress is told again.
-const PAUSE: Duration = Duration::from_secs(1);
+/// After how many seconds progress is told again.
+const PAUSE: u64 = 1;
 
 /// A reader that tells how far it is, a line each second: how many octets came, and how many of them a second. It tells it on standard error
 /// where that is a terminal, and nothing where it isn't.
@@ -40,7 +40,7 @@ impl<'a, R: Read> Watched<'a, R> {
         let Ok(now) = Instant::now(self.rt) else {
             return;
         };
-        if now.duration_since(told) < PAUSE {
+        if now.duration_since(told).as_secs() < PAUSE {
             return;
         }
         self.times = Some((began, now));

@@ -4,7 +4,7 @@ use crate::stream::PIECE;
 use arrayvec::ArrayVec;
 use bgp_attr::{MpReach, MpUnreach};
 use bgp_frame::head;
-use bgp_machine::{Action, Event, Session};
+use bgp_machine::{Action, Actions, Event, Session};
 use bgp_msg::Kind;
 use bgp_open::{BadConfig, Config, own_frame};
 use bgp_update::{Routes, Update};
@@ -87,6 +87,29 @@ fn hear_piece(
     Ok(())
 }
 
+/// Lets the session hear a piece, by way of one set of actions.
+#[tactic(auto, using(crate::proofs::Taken::session_takes_within))]
+fn hear_piece_into(
+    alloc: Global,
+    session: &mut Session,
+    piece: &[u8],
+    actions: &mut Actions,
+    heard: &mut Heard,
+) -> Result<(), AllocError> {
+    let mut rest = piece;
+    for _turn in 0..u64::MAX {
+        let (taken, found) = session.pull_into(alloc, rest, actions)?;
+        rest = &rest[taken..];
+        for action in actions.as_slice() {
+            heard.count(action);
+        }
+        if taken == 0 && !found {
+            break;
+        }
+    }
+    Ok(())
+}
+
 /// A session of AS 65002 that is Established with AS 65001. Both offer AS numbers of four octets, IPv4 and IPv6.
 fn established(alloc: Global) -> Result<Session, AllocError> {
     let own = Config::new(65002, 65001, [192, 0, 2, 2], 90, true, true, true).unwrap();
@@ -100,15 +123,26 @@ fn established(alloc: Global) -> Result<Session, AllocError> {
     Ok(session)
 }
 
-/// Lets an Established session hear the stream so many times, and prints the counts of one time, and where the session stood then.
-pub(crate) fn run(rt: &(impl Print + AllocGlobal), octets: &[u8], rounds: u32) -> io::Result<()> {
+/// Lets an Established session hear the stream so many times, by way of one set of actions where `into` is set, and prints the counts of one
+/// time, and where the session stood then.
+pub(crate) fn run(
+    rt: &(impl Print + AllocGlobal),
+    octets: &[u8],
+    rounds: u32,
+    into: bool,
+) -> io::Result<()> {
     let mut session = established(rt.alloc())?;
     let mut heard = Heard::new();
+    let mut actions = ArrayVec::new();
     for _round in 0..rounds {
         session = established(rt.alloc())?;
         heard = Heard::new();
         for piece in octets.chunks(PIECE) {
-            hear_piece(rt.alloc(), &mut session, piece, &mut heard)?;
+            if into {
+                hear_piece_into(rt.alloc(), &mut session, piece, &mut actions, &mut heard)?;
+            } else {
+                hear_piece(rt.alloc(), &mut session, piece, &mut heard)?;
+            }
         }
     }
     println!(rt;

@@ -36,7 +36,8 @@ fn work(rt: &HostRuntime, request: Request) -> io::Result<()> {
         Work::Decode => decoding::run(rt, &octets, request.rounds),
         Work::View => viewing::run(rt, &octets, request.rounds),
         Work::Encode => encoding::run(rt, &octets, request.rounds),
-        Work::Session => hearing::run(rt, &octets, request.rounds),
+        Work::Session => hearing::run(rt, &octets, request.rounds, false),
+        Work::SessionInto => hearing::run(rt, &octets, request.rounds, true),
     }
 }
 
@@ -49,7 +50,7 @@ fn run(rt: &HostRuntime) -> io::Result<u8> {
         }
         None => {
             eprintln!(rt;
-                "bgp_bench: the words are decode, view, encode or session, and how many times"
+                "bgp_bench: the words are decode, view, encode, session or session-into, and how many times"
             )?;
             Ok(MISUSE)
         }

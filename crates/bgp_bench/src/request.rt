@@ -11,6 +11,8 @@ pub(crate) enum Work {
     Encode,
     /// A session hears it.
     Session,
+    /// A session hears it, and puts what is to be done into one set of actions.
+    SessionInto,
 }
 
 /// What is done, and how many times.
@@ -27,6 +29,7 @@ impl Work {
             "view" => Some(Work::View),
             "encode" => Some(Work::Encode),
             "session" => Some(Work::Session),
+            "session-into" => Some(Work::SessionInto),
             _ => None,
         }
     }

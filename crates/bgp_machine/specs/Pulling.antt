@@ -1,5 +1,5 @@
 -- What a session makes of a piece whose messages are judged where they stand.
-use Rattle.std.specs.Prelude.{◌≡◌, ◌<◌, ◌≤◌, ◌⊎◌, ℕ, true, false, List, [], ◌++◌, length, take, Option, None, Some}
+use Rattle.std.specs.Prelude.{◌≡◌, ◌<◌, ◌≤◌, ◌⊎◌, ℕ, Bool, true, false, List, [], ◌++◌, length, take, Option, None, Some}
 use Rattle.arrayvec.specs.ArrayVec.{ArrayVec}
 use Rattle.bgp_frame.specs.Frame.{Waits}
 use Rattle.bgp_frame.specs.Takes.{Takes}
@@ -32,6 +32,11 @@ pub record PullsFront (old : Machine) (piece : List ℕ) (n : ℕ) (actions : Ar
   pub none_held : old.held ≡ []
   pub takes : Takes [] piece n
   pub step : IsJudged (holding old (take n piece)) (Some actions) new
+
+-- a set of actions, where there is something to be done
+abbrev pub where_found : Bool → ArrayVec Action → Option (ArrayVec Action)
+where_found true actions = Some actions
+where_found false actions = None
 
 abbrev pub IsPulled : Machine → List ℕ → ℕ → Option (ArrayVec Action) → Machine → Type 0
 IsPulled old piece n None new = PullsNothing old n new ⊎ PullsSome old piece n new

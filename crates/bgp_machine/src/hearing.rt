@@ -78,6 +78,7 @@ impl Standing {
         ensures after { OnOk result (self.new ≡ (on_open config.now self.old (reading_of body.now)).next) }
         ensures err { OnErr result (self.new ≡ self.old) }
         ensures memory { OnErr result (open_fault body.now ≡ None) }
+        ensures empty { OnErr result (actions.new.items ≡ []) }
     {
         match read_open(alloc, body) {
             Ok(open) => match agree(config, &open) {
@@ -109,6 +110,7 @@ impl Standing {
         ensures after { OnOk result (self.new ≡ (on_verdict self.old (verdict_of context.now body.now)).next) }
         ensures err { OnErr result (self.new ≡ self.old) }
         ensures memory { OnErr result (has_value (verdict_of context.now body.now) ≡ true) }
+        ensures empty { OnErr result (actions.new.items ≡ []) }
     {
         match judge_update(context, body) {
             Found::Take(view) => {
@@ -153,6 +155,7 @@ impl Standing {
         ensures err { OnErr result (self.new ≡ self.old) }
         ensures kind { OnErr result (frame.entry.kind ≡ kind.Open) }
         ensures memory { OnErr result (open_fault frame.entry.body.now ≡ None) }
+        ensures empty { OnErr result (actions.new.items ≡ []) }
     {
         match frame.kind {
             Kind::Open => self.hear_open(alloc, config, frame.body, actions)?,
@@ -203,6 +206,7 @@ impl Standing {
         ensures err { OnErr result (self.new ≡ self.old) }
         ensures kind { OnErr result (frame.entry.kind ≡ kind.Update) }
         ensures memory { OnErr result (has_value (verdict_of context frame.entry.body.now) ≡ true) }
+        ensures empty { OnErr result (actions.new.items ≡ []) }
     {
         match frame.kind {
             Kind::Update => self.hear_update(alloc, &context, frame.body, actions)?,
@@ -233,6 +237,7 @@ impl Standing {
         ensures after { OnOk result (self.new ≡ (hears config.now self.old (Ok (record { kind = frame.entry.kind; body = frame.entry.body.now }))).next) }
         ensures err { OnErr result (self.new ≡ self.old) }
         ensures memory { OnErr result (TakesMemory self.old (record { kind = frame.entry.kind; body = frame.entry.body.now })) }
+        ensures empty { OnErr result (actions.new.items ≡ []) }
     {
         match self.phase {
             Phase::OpenSent => self.hear_in_open_sent(alloc, config, frame, actions),

@@ -4,7 +4,7 @@ ghost use Rattle.std.specs.Prelude.{◌≡◌, ◌⊎◌, [], false, true, IfOk,
 ghost use Rattle.bgp_machine.specs.Standing.{listens};
 ghost use Rattle.bgp_machine.specs.Cutting.{RestsUnless, RestsBehind};
 ghost use Rattle.bgp_machine.specs.Session.{IsJudged, HeldTakesMemory};
-ghost use Rattle.bgp_machine.specs.Pulling.{IsPulled, IsFedAndStepped, FrontTakesMemory};
+ghost use Rattle.bgp_machine.specs.Pulling.{IsPulled, IsFedAndStepped, FrontTakesMemory, where_found};
 
 use crate::action::Actions;
 use crate::session::Session;
@@ -25,23 +25,38 @@ impl Session {
         ensures err { OnErr result (self.new ≡ self.old) }
         ensures memory { OnErr result (HeldTakesMemory self.old) }
     {
+        let mut actions = ArrayVec::new();
+        if self.step_into(alloc, &mut actions)? {
+            Ok(Some(actions))
+        } else {
+            Ok(None)
+        }
+    }
+
+    /// Puts what is to be done on what is held into a set. Answers whether a message, or a header with a fault, was held.
+    fn step_into(&mut self, alloc: Global, actions: &mut Actions) -> Result<bool, AllocError>
+        requires none { actions.old.items ≡ [] }
+        ensures ok { IfOk result (λ found. IsJudged self.old (where_found found actions.new) self.new) }
+        ensures rests { IfOk result (λ found. RestsUnless (where_found found actions.new) self.new) }
+        ensures quiet { IfOk result (λ found. found ≡ false → actions.new.items ≡ []) }
+        ensures empty { OnErr result (actions.new.items ≡ []) }
+        ensures err { OnErr result (self.new ≡ self.old) }
+        ensures memory { OnErr result (HeldTakesMemory self.old) }
+    {
         match self.framer.step() {
             Step::More => {
                 let _waiting = self.held();
-                Ok(None)
+                Ok(false)
             }
             Step::Frame(frame) => {
-                let mut actions = ArrayVec::new();
-                self.standing
-                    .hear(alloc, &self.config, frame, &mut actions)?;
+                self.standing.hear(alloc, &self.config, frame, actions)?;
                 self.framer.clear();
-                Ok(Some(actions))
+                Ok(true)
             }
             Step::Fault(fault) => {
-                let mut actions = ArrayVec::new();
-                self.standing.hear_fault(fault, &mut actions);
+                self.standing.hear_fault(fault, actions);
                 self.framer.clear();
-                Ok(Some(actions))
+                Ok(true)
             }
         }
     }
@@ -55,7 +70,6 @@ impl Session {
     ///
     /// # Errors
     /// As `step`. Nothing of the piece is consumed then, and the call can be made again.
-    #[tactic(auto, using(crate::proofs::Pulls::pulls_as_fed))]
     pub fn pull(
         &mut self,
         alloc: Global,
@@ -68,16 +82,46 @@ impl Session {
         ensures err { OnErr result (self.new ≡ self.old) }
         ensures memory { OnErr result (HeldTakesMemory self.old ⊎ FrontTakesMemory self.old piece.now) }
     {
+        let mut actions = ArrayVec::new();
+        match self.pull_into(alloc, piece, &mut actions)? {
+            (count, true) => Ok((count, Some(actions))),
+            (count, false) => Ok((count, None)),
+        }
+    }
+
+    /// As [`pull`](Session::pull), into a set of the caller's; what was in it before is gone. Answers first how many octets of the piece were
+    /// consumed, and then whether a message or a faulty header was judged: the set is empty where none was.
+    ///
+    /// A set of actions has room for 20 KB. Who pulls message after message into one set doesn't move that room for each.
+    ///
+    /// # Errors
+    /// As `step`. Nothing of the piece is consumed then, the set is empty, and the call can be made again.
+    #[tactic(auto, using(crate::proofs::Pulls::pulls_as_fed))]
+    pub fn pull_into(
+        &mut self,
+        alloc: Global,
+        piece: &[u8],
+        actions: &mut Actions,
+    ) -> Result<(usize, bool), AllocError>
+        ensures ok { IfOk result (λ r. IsPulled self.old piece.now r.0 (where_found r.1 actions.new) self.new) }
+        ensures as_fed { IfOk result (λ r. IsFedAndStepped self.old piece.now r.0 (where_found r.1 actions.new) self.new) }
+        ensures rests { IfOk result (λ r. RestsBehind r.0 (where_found r.1 actions.new) self.new) }
+        ensures quiet { IfOk result (λ r. r.1 ≡ false → actions.new.items ≡ []) }
+        ensures empty { OnErr result (actions.new.items ≡ []) }
+        ensures err { OnErr result (self.new ≡ self.old) }
+        ensures memory { OnErr result (HeldTakesMemory self.old ⊎ FrontTakesMemory self.old piece.now) }
+    {
+        actions.clear();
         if !self.standing.listens() {
-            return Ok((0, None));
+            return Ok((0, false));
         }
         if self.framer.held() == 0 {
-            return self.pull_front(alloc, piece);
+            return self.pull_front(alloc, piece, actions);
         }
-        if let Some(actions) = self.step(alloc)? {
-            return Ok((0, Some(actions)));
+        if self.step_into(alloc, actions)? {
+            return Ok((0, true));
         }
-        Ok((self.feed(piece), None))
+        Ok((self.feed(piece), false))
     }
 
     /// Pulls from a piece where nothing is held.
@@ -85,26 +129,27 @@ impl Session {
         &mut self,
         alloc: Global,
         piece: &[u8],
-    ) -> Result<(usize, Option<Actions>), AllocError>
+        actions: &mut Actions,
+    ) -> Result<(usize, bool), AllocError>
         requires hears { listens self.old.standing.state ≡ true }
         requires none_held { self.old.held ≡ [] }
-        ensures ok { IfOk result (λ r. IsPulled self.old piece.now r.0 r.1 self.new) }
-        ensures rests { IfOk result (λ r. RestsBehind r.0 r.1 self.new) }
+        requires none { actions.old.items ≡ [] }
+        ensures ok { IfOk result (λ r. IsPulled self.old piece.now r.0 (where_found r.1 actions.new) self.new) }
+        ensures rests { IfOk result (λ r. RestsBehind r.0 (where_found r.1 actions.new) self.new) }
+        ensures quiet { IfOk result (λ r. r.1 ≡ false → actions.new.items ≡ []) }
+        ensures empty { OnErr result (actions.new.items ≡ []) }
         ensures err { OnErr result (self.new ≡ self.old) }
         ensures memory { OnErr result (FrontTakesMemory self.old piece.now) }
     {
         match front(piece) {
-            Step::More => Ok((self.feed(piece), None)),
+            Step::More => Ok((self.feed(piece), false)),
             Step::Frame(message) => {
-                let mut actions = ArrayVec::new();
-                self.standing
-                    .hear(alloc, &self.config, message, &mut actions)?;
-                Ok((message.len as usize, Some(actions)))
+                self.standing.hear(alloc, &self.config, message, actions)?;
+                Ok((message.len as usize, true))
             }
             Step::Fault(fault) => {
-                let mut actions = ArrayVec::new();
-                self.standing.hear_fault(fault, &mut actions);
-                Ok((19, Some(actions)))
+                self.standing.hear_fault(fault, actions);
+                Ok((19, true))
             }
         }
     }

@@ -3,7 +3,7 @@ use Rattle.bgp_machine.specs.contracts.session.Session.{the_view}
 use Rattle.bgp_machine.specs.Cutting.{IsAtRest, CanRest}
 use Rattle.bgp_machine.specs.Session.{Machine}
 use Rattle.bgp_machine.proofs.Cuttings.{rests_empty}
-use Rattle.bgp_machine.proofs.session.Session.pull.Goals as goal
+use Rattle.bgp_machine.proofs.session.Session.pull_into.Goals as goal
 
 pub returns-then-not-listens-clause-rests : goal.returns-then-not-listens-clause-rests
 returns-then-not-listens-clause-rests c =

@@ -1,6 +1,6 @@
 use Rattle.std.proofs.lemmas.Result.{err_from_is_err_and}
 use Rattle.bgp_machine.proofs.Steps.{stepped_message, stepped_fault, memory_for}
-use Rattle.bgp_machine.proofs.session.Session.step.Goals as goal
+use Rattle.bgp_machine.proofs.session.Session.step_into.Goals as goal
 
 pub returns-in_err-hear-in-Frame-clause-memory : goal.returns-in_err-hear-in-Frame-clause-memory
 returns-in_err-hear-in-Frame-clause-memory c =
