@@ -6,34 +6,32 @@ use std::time::Instant;
 /// After how many seconds progress is told again.
 const PAUSE: u64 = 1;
 
-/// A reader that tells how far it is, a line each second: how many octets came, and how many of them a second. It tells it on standard error
-/// where that is a terminal, and nothing where it isn't.
+/// Counts octets, and tells each second how many there were, and how many of them a second. It tells it on standard error where that is a
+/// terminal, and nothing where it isn't.
 #[derive(Drop)]
-pub(crate) struct Watched<'a, R> {
+struct Meter<'a> {
     rt: &'a HostRuntime,
-    input: R,
     octets: u64,
     // When it began, and when it told something: none where it tells nothing.
     times: Option<(Instant, Instant)>,
 }
 
-impl<'a, R: Read> Watched<'a, R> {
-    /// A reader of these octets.
-    pub(crate) fn new(rt: &'a HostRuntime, input: R) -> Watched<'a, R> {
+impl<'a> Meter<'a> {
+    fn new(rt: &'a HostRuntime) -> Meter<'a> {
         let times = match Instant::now(rt) {
             Ok(now) if rt.stderr().is_terminal() => Some((now, now)),
             _ => None,
         };
-        Watched {
+        Meter {
             rt,
-            input,
             octets: 0,
             times,
         }
     }
 
-    // Tells how far it is, where that wasn't told for a while. That it can't be told has no effect.
-    fn tell(&mut self) {
+    // Counts octets, and tells how many there are, where that wasn't told for a while. That it can't be told has no effect.
+    fn count(&mut self, more: usize) {
+        self.octets = self.octets.saturating_add(more as u64);
         let Some((began, told)) = self.times else {
             return;
         };
@@ -50,13 +48,29 @@ impl<'a, R: Read> Watched<'a, R> {
     }
 }
 
+/// A reader that tells how far it is.
+#[derive(Drop)]
+pub(crate) struct Watched<'a, R> {
+    input: R,
+    meter: Meter<'a>,
+}
+
+impl<'a, R: Read> Watched<'a, R> {
+    /// A reader of these octets.
+    pub(crate) fn new(rt: &'a HostRuntime, input: R) -> Watched<'a, R> {
+        Watched {
+            input,
+            meter: Meter::new(rt),
+        }
+    }
+}
+
 impl<R: Read> Read for Watched<'_, R> {
     ghost remaining = { λ w. R.remaining w.input };
 
     fn read(&mut self, buf: &mut [u8]) -> io::Result<usize> {
         let count = self.input.read(buf)?;
-        self.octets = self.octets.saturating_add(count as u64);
-        self.tell();
+        self.meter.count(count);
         Ok(count)
     }
 }
