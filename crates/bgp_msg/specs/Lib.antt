@@ -5,5 +5,6 @@ pub mod Written
 pub mod Room
 pub mod Seen
 pub mod Decoder
+pub mod Look
 pub mod Decoding
 pub mod Laws

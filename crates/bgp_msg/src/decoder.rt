@@ -2,8 +2,10 @@
 
 ghost use Rattle.std.specs.Prelude.{◌≡◌, ◌<◌, ◌≤◌, ◌⊎◌, true, false, [], Some, length, IfOk, OnErr};
 ghost use Rattle.bgp_msg.specs.Decoder.{fresh, behind, IsFed, IsNext, TakesMemory, IsPulled, IsFedAndNext, FrontTakesMemory};
+ghost use Rattle.bgp_msg.specs.Look.{IsLook};
 ghost use Rattle.bgp_msg.specs.OutcomeView.{outcome_value, has_lists};
 
+use crate::look::Look;
 use crate::message::Message;
 use crate::outcome::Outcome;
 use crate::outcome_view::OutcomeView;
@@ -124,6 +126,53 @@ impl Decoder {
         ensures err { OnErr result (self.new ≡ self.old) }
         ensures memory { OnErr result (TakesMemory self.old ⊎ FrontTakesMemory self.old piece.now) }
     {
+        match self.look(alloc, piece)? {
+            Look::Update(len, update, notes) => Ok((
+                len as usize,
+                Some((len, Outcome::Took(Message::Update(update), notes))),
+            )),
+            other => self.pull_other(alloc, piece, &other),
+        }
+    }
+
+    /// What stands at the front of a piece, where nothing is held: an UPDATE that is accepted with memory of its own.
+    fn look<'a>(&self, alloc: Global, piece: &'a [u8]) -> Result<Look<'a>, AllocError>
+        ensures ok { IfOk result (λ found. IsLook self.now piece.entry.now found) }
+        ensures memory { OnErr result (FrontTakesMemory self.now piece.entry.now) }
+    {
+        if self.stopped || self.framer.held() > 0 {
+            return Ok(Look::Other);
+        }
+        let Step::Frame(frame) = front(piece) else {
+            return Ok(Look::Other);
+        };
+        let len = frame.len;
+        match view_frame(&self.ctx, frame) {
+            OutcomeView::Update(view) => {
+                let update = view.own(alloc)?;
+                let notes = view.own_notes(alloc)?;
+                Ok(Look::Update(len, update, notes))
+            }
+            rare => Ok(Look::Rare(len, rare)),
+        }
+    }
+
+    /// Pulls what isn't an UPDATE at the front of a piece that is accepted.
+    #[inline(never)]
+    fn pull_other(
+        &mut self,
+        alloc: Global,
+        piece: &[u8],
+        found: &Look<'_>,
+    ) -> Result<(usize, Option<(u16, Outcome)>), AllocError>
+        requires { IsLook self.old piece.now found.now }
+        ensures ok { IfOk result (λ r. IsPulled self.old piece.now r.0 r.1 self.new) }
+        ensures err { OnErr result (self.new ≡ self.old) }
+        ensures memory { OnErr result (TakesMemory self.old ⊎ FrontTakesMemory self.old piece.now) }
+    {
+        if let Look::Rare(len, view) = found {
+            return self.pull_rare(alloc, *len, view);
+        }
         if self.stopped {
             return Ok((0, None));
         }
@@ -133,8 +182,7 @@ impl Decoder {
         self.pull_held(alloc, piece)
     }
 
-    /// Pulls where octets are held. An outcome is large, and so this stands apart from what is called for each message.
-    #[inline(never)]
+    /// Pulls where octets are held.
     fn pull_held(
         &mut self,
         alloc: Global,
@@ -153,7 +201,6 @@ impl Decoder {
     }
 
     /// Pulls from a piece where nothing is held.
-    #[inline(always)]
     fn pull_front(
         &mut self,
         alloc: Global,
@@ -169,15 +216,8 @@ impl Decoder {
             Step::More => Ok((self.feed(piece), None)),
             Step::Frame(frame) => {
                 let len = frame.len;
-                match view_frame(&self.ctx, frame) {
-                    OutcomeView::Update(view) => {
-                        let update = view.own(alloc)?;
-                        let notes = view.own_notes(alloc)?;
-                        let judged = Outcome::Took(Message::Update(update), notes);
-                        Ok((len as usize, Some((len, judged))))
-                    }
-                    rare => self.pull_rare(alloc, len, &rare),
-                }
+                let found = view_frame(&self.ctx, frame);
+                self.pull_rare(alloc, len, &found)
             }
             Step::Fault(fault) => {
                 self.stopped = true;
@@ -187,7 +227,6 @@ impl Decoder {
     }
 
     /// Takes a message of this length, which comes to this, from the front of a piece.
-    #[inline(never)]
     fn pull_rare(
         &mut self,
         alloc: Global,

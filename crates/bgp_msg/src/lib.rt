@@ -7,6 +7,7 @@ mod decoding;
 mod encoding;
 mod header;
 pub mod laws;
+mod look;
 mod message;
 mod outcome;
 mod outcome_view;
