@@ -1,15 +1,9 @@
 //! Values that several tests speak of.
 
-mod bounds;
 mod copies;
-mod engines;
-mod failing;
-mod faults;
-mod loops;
 mod refusals;
 mod sending;
 mod views;
-mod wires;
 
 use bgp_attr::{AsPath, SegKind, Segment};
 use bgp_open::Context;

@@ -3,11 +3,11 @@
 ghost use Rattle.std.specs.Prelude.{◌≡◌, ◌+◌, true, false, nat_lt, if◌then◌else◌};
 ghost use Rattle.bgp_session.specs.Wire.{failed_after};
 
-use super::*;
 use bgp_loop::run_loop;
 use bgp_script::SCRIPT_MAX;
 use bgp_session::{MemoryWire, Side, Wire};
 use std::process::Abort;
+use std::test::*;
 
 /// Two speakers come up, A announces a route, and then stops.
 const TWO_SPEAKERS: &str =
