@@ -14,19 +14,18 @@ struct Viewed {
 }
 
 impl Viewed {
-    /// The count that an outcome belongs to.
-    fn count_of(&mut self, outcome: &OutcomeView<'_>) -> &mut u64 {
-        match outcome {
-            OutcomeView::Withdraw(_) => &mut self.withdrawn,
-            OutcomeView::Reset(_) => &mut self.resets,
-            _ => &mut self.taken,
-        }
-    }
-
-    fn add(&mut self, len: u16, outcome: &OutcomeView<'_>) {
+    /// Counts an outcome. Answers whether the stream goes on behind it.
+    fn add(&mut self, len: u16, outcome: &OutcomeView<'_>) -> bool {
         self.octets = self.octets.saturating_add(len as u64);
-        let count = self.count_of(outcome);
-        *count = count.saturating_add(1);
+        match outcome {
+            OutcomeView::Withdraw(_) => self.withdrawn = self.withdrawn.saturating_add(1),
+            OutcomeView::Reset(_) => {
+                self.resets = self.resets.saturating_add(1);
+                return false;
+            }
+            _ => self.taken = self.taken.saturating_add(1),
+        }
+        true
     }
 
     fn messages(&self) -> u64 {
@@ -50,10 +49,9 @@ fn view(octets: &[u8]) -> Viewed {
             break;
         };
         let len = frame.len;
-        let outcome = view_frame(&CONTEXT, frame);
-        viewed.add(len, &outcome);
+        let goes_on = viewed.add(len, &view_frame(&CONTEXT, frame));
         match rest.get(len as usize..) {
-            Some(behind) if !outcome.is_reset() => rest = behind,
+            Some(behind) if goes_on => rest = behind,
             _ => break,
         }
     }
