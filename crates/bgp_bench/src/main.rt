@@ -5,6 +5,7 @@
 mod decoding;
 mod encoding;
 mod hearing;
+mod owning;
 mod request;
 mod stream;
 mod viewing;
@@ -35,6 +36,7 @@ fn work(rt: &HostRuntime, request: Request) -> io::Result<()> {
     match request.work {
         Work::Decode => decoding::run(rt, &octets, request.rounds),
         Work::View => viewing::run(rt, &octets, request.rounds),
+        Work::Own => owning::run(rt, &octets, request.rounds),
         Work::Encode => encoding::run(rt, &octets, request.rounds),
         Work::Session => hearing::run(rt, &octets, request.rounds, false),
         Work::SessionInto => hearing::run(rt, &octets, request.rounds, true),
@@ -50,7 +52,7 @@ fn run(rt: &HostRuntime) -> io::Result<u8> {
         }
         None => {
             eprintln!(rt;
-                "bgp_bench: the words are decode, view, encode, session or session-into, and how many times"
+                "bgp_bench: the words are decode, view, own, encode, session or session-into, and how many times"
             )?;
             Ok(MISUSE)
         }

@@ -7,6 +7,8 @@ pub(crate) enum Work {
     Decode,
     /// Its messages are judged where they stand.
     View,
+    /// Its messages are owned by way of their views.
+    Own,
     /// Its messages are decoded once, and encoded.
     Encode,
     /// A session hears it.
@@ -27,6 +29,7 @@ impl Work {
         match word {
             "decode" => Some(Work::Decode),
             "view" => Some(Work::View),
+            "own" => Some(Work::Own),
             "encode" => Some(Work::Encode),
             "session" => Some(Work::Session),
             "session-into" => Some(Work::SessionInto),

@@ -14,7 +14,8 @@ struct Viewed {
 }
 
 impl Viewed {
-    /// Counts an outcome. Answers whether the stream goes on behind it.
+    /// Counts an outcome. Answers whether the stream goes on behind it. It is inlined, as a call would have the view built in memory.
+    #[inline(always)]
     fn add(&mut self, len: u16, outcome: &OutcomeView<'_>) -> bool {
         self.octets = self.octets.saturating_add(len as u64);
         match outcome {

@@ -21,7 +21,7 @@ use crate::walk::walk_stream;
 use bgp_frame::{End, Frame, HeadFault, head};
 use bgp_msg::{OutcomeView, encode_update, view_frame};
 use bgp_open::Context;
-use bgp_update::{Update, UpdateView, WriteFault, into_narrowed};
+use bgp_update::{Update, UpdateView, WriteFault, narrow_in_place};
 use std::alloc::{AllocError, Global};
 use std::io::{Read, Write};
 
@@ -55,34 +55,6 @@ fn put_written(ctx: &Context, octets: &mut Vec<u8>, update: &Update) -> Result<C
     }
 }
 
-// An UPDATE as a speaker with AS numbers of two octets is told it: what stays the same is moved, not copied.
-fn narrow_update(alloc: Global, update: Update) -> Result<Update, AllocError>
-    requires { HasNoAs4 update.attrs }
-    ensures { IfOk result (λ told. told ≡ narrowed_update update) }
-{
-    let attrs = into_narrowed(alloc, update.attrs)?;
-    Ok(Update {
-        withdrawn: update.withdrawn,
-        attrs,
-        nlri: update.nlri,
-    })
-}
-
-// Appends an UPDATE as a speaker with AS numbers of two octets is told it.
-fn put_narrowed(
-    alloc: Global,
-    ctx: &Context,
-    octets: &mut Vec<u8>,
-    update: Update,
-) -> Result<Class, AllocError>
-    requires { HasNoAs4 update.attrs }
-    ensures { IfOk result (λ class. WritesNarrow octets.old.items octets.new.items (written_in (with_as4 false ctx.now) (message.Update (narrowed_update update))) class) }
-{
-    let told = narrow_update(alloc, update)?;
-    let narrow_ctx = two_octets(ctx);
-    put_written(&narrow_ctx, octets, &told)
-}
-
 // Appends an UPDATE that is taken as a speaker with AS numbers of two octets is told it.
 fn put_view(
     alloc: Global,
@@ -93,8 +65,10 @@ fn put_view(
     requires { HasNoAs4 (update_value view.now).attrs }
     ensures { IfOk result (λ class. WritesNarrow octets.old.items octets.new.items (written_in (with_as4 false ctx.now) (message.Update (narrowed_update (update_value view.now)))) class) }
 {
-    let update = view.own(alloc)?;
-    put_narrowed(alloc, ctx, octets, update)
+    let mut update = view.own(alloc)?;
+    narrow_in_place(alloc, &mut update.attrs)?;
+    let narrow_ctx = two_octets(ctx);
+    put_written(&narrow_ctx, octets, &update)
 }
 
 // What a body has are octets: nothing is done.

@@ -1,24 +1,26 @@
 //! What messages do: a message's type is tested against the state before its body is judged.
 
 ghost use Rattle.std.specs.Prelude.{◌≡◌, ◌+◌, ◌<◌, ◌≤◌, ◌++◌, ℕ, List, [], ◌∷◌, length, Ok, Err, Some, None, true, OnOk, OnErr};
-ghost use Rattle.bgp_machine.specs.declared.action.Action.TheVariants.{Close};
+ghost use Rattle.bgp_machine.specs.declared.action.Action.TheVariants.{Close, Withdraw};
 ghost use Rattle.bgp_frame.specs.declared.kind.Kind.TheVariants as kind;
 ghost use Rattle.bgp_frame.specs.Kind.{IsLength};
+ghost use Rattle.bgp_frame.specs.Notification.{notification_of_view};
 ghost use Rattle.bgp_open.specs.Config.{Settings};
 ghost use Rattle.bgp_open.specs.OpenFault.{open_fault, reading_of};
 ghost use Rattle.bgp_update.specs.Verdict.{verdict_of, has_value};
+ghost use Rattle.bgp_update.specs.View.{routes_value};
 ghost use Rattle.bgp_machine.specs.declared.state.State.TheVariants as state;
-ghost use Rattle.bgp_machine.specs.Table.{go, leave, hold_on, unexpected, accepted, on_open, on_verdict, on_message, hears};
+ghost use Rattle.bgp_machine.specs.Table.{go, leave, reset, hold_on, unexpected, accepted, on_open, on_verdict, on_message, hears};
 ghost use Rattle.bgp_machine.specs.Session.{TakesMemory};
 
 use crate::action::{Action, Actions};
 use crate::phase::Phase;
 use crate::standing::Standing;
 use crate::timer::Timer;
-use bgp_frame::{Frame, HeadFault, Kind, Notification};
+use bgp_frame::{Frame, HeadFault, Kind, Notification, NotificationView};
 use bgp_numbers::error;
 use bgp_open::{Config, Context, OpenFault, agree, read_open};
-use bgp_update::{Found, judge_update, onward, reconcile};
+use bgp_update::{Found, UpdateView, judge_update, onward, reconcile};
 use std::alloc::{AllocError, Global};
 
 /// The NOTIFICATION of a message whose type doesn't belong in the state: its information is the type (RFC 6608, section 3).
@@ -30,6 +32,7 @@ fn unexpected(subcode: u8, kind: Kind) -> Notification
 
 impl Standing {
     /// The Hold Timer begins anew, where there is one.
+    #[inline(never)]
     fn hold_on(&mut self, context: Context, actions: &mut Actions)
         requires { length actions.old.items < 5 }
         ensures actions { actions.new.items ≡ actions.old.items ++ hold_on (Some context) }
@@ -64,6 +67,7 @@ impl Standing {
     }
 
     /// The peer's OPEN.
+    #[inline(never)]
     fn hear_open(
         &mut self,
         alloc: Global,
@@ -94,7 +98,49 @@ impl Standing {
         Ok(())
     }
 
+    /// Ends the session by a NOTIFICATION that points into the message.
+    #[inline(never)]
+    fn reset_by(&mut self, why: &NotificationView<'_>, actions: &mut Actions)
+        requires { actions.old.items ≡ [] }
+        ensures actions { actions.new.items ≡ (reset self.old (notification_of_view why.now)).actions }
+        ensures after { self.new ≡ (reset self.old (notification_of_view why.now)).next }
+    {
+        self.reset(why.own(), actions);
+    }
+
+    /// Ends the session, since a message of this type doesn't belong in its state.
+    #[inline(never)]
+    fn refuse(&mut self, subcode: u8, kind: Kind, actions: &mut Actions)
+        requires { actions.old.items ≡ [] }
+        ensures actions { actions.new.items ≡ (reset self.old (unexpected subcode kind)).actions }
+        ensures after { self.new ≡ (reset self.old (unexpected subcode kind)).next }
+    {
+        self.reset(unexpected(subcode, kind), actions);
+    }
+
+    /// An UPDATE in Established that is treated as a withdrawal.
+    #[inline(never)]
+    fn hear_withdrawal(
+        &mut self,
+        alloc: Global,
+        context: Context,
+        view: &UpdateView<'_>,
+        actions: &mut Actions,
+    ) -> Result<(), AllocError>
+        requires none { actions.old.items ≡ [] }
+        ensures actions { OnOk result (actions.new.items ≡ Withdraw (routes_value view.now) ∷ hold_on (Some context)) }
+        ensures after { OnOk result (self.new ≡ (go self.old (hold_on (Some context)) self.old.state).next) }
+        ensures err { OnErr result (self.new ≡ self.old) }
+        ensures empty { OnErr result (actions.new.items ≡ []) }
+    {
+        let routes = view.routes(alloc)?;
+        actions.push(Action::Withdraw(routes));
+        self.hold_on(context, actions);
+        Ok(())
+    }
+
     /// An UPDATE in Established.
+    #[inline(never)]
     fn hear_update(
         &mut self,
         alloc: Global,
@@ -119,17 +165,14 @@ impl Standing {
                 actions.push(Action::Announce(onward(update), info));
                 self.hold_on(*context, actions);
             }
-            Found::Withdraw(view) => {
-                let routes = view.routes(alloc)?;
-                actions.push(Action::Withdraw(routes));
-                self.hold_on(*context, actions);
-            }
-            Found::Reset(why) => self.reset(why.own(), actions),
+            Found::Withdraw(view) => self.hear_withdrawal(alloc, *context, &view, actions)?,
+            Found::Reset(why) => self.reset_by(&why, actions),
         }
         Ok(())
     }
 
     /// The peer ends the session.
+    #[inline(never)]
     fn closed(&mut self, actions: &mut Actions)
         requires { actions.old.items ≡ [] }
         ensures actions { actions.new.items ≡ (leave self.old (Close ∷ [])).actions }
@@ -140,6 +183,7 @@ impl Standing {
     }
 
     /// What a message does in OpenSent.
+    #[inline(never)]
     fn hear_in_open_sent(
         &mut self,
         alloc: Global,
@@ -182,10 +226,9 @@ impl Standing {
                 self.hold_on(context, actions);
             }
             Kind::Notification => self.closed(actions),
-            Kind::Open | Kind::Update => self.reset(
-                unexpected(error::UNEXPECTED_IN_OPEN_CONFIRM, kind),
-                actions,
-            ),
+            Kind::Open | Kind::Update => {
+                self.refuse(error::UNEXPECTED_IN_OPEN_CONFIRM, kind, actions)
+            }
         }
     }
 
@@ -212,10 +255,7 @@ impl Standing {
             Kind::Update => self.hear_update(alloc, &context, frame.body, actions)?,
             Kind::Keepalive => self.hold_on(context, actions),
             Kind::Notification => self.closed(actions),
-            Kind::Open => self.reset(
-                unexpected(error::UNEXPECTED_IN_ESTABLISHED, Kind::Open),
-                actions,
-            ),
+            Kind::Open => self.refuse(error::UNEXPECTED_IN_ESTABLISHED, Kind::Open, actions),
         }
         Ok(())
     }

@@ -1,6 +1,7 @@
 -- Lemmas on messages and streams.
 pub mod Nexts
 pub mod Pulls
+pub mod Fronts
 pub mod Looks
 pub mod Encodings
 pub mod Rooms

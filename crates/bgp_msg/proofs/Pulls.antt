@@ -36,14 +36,6 @@ module _ (piece : List ℕ) where
     all_or_stops = inr stops;
   }
 
-pub pulls_more : (old : Decoding) (piece : List ℕ) (n : ℕ) (new : Decoding) → old.stopped ≡ false → old.held ≡ [] → Waits piece → IsFed old piece n new → IsPulled old piece n None new
-pulls_more old piece n new going none waits fed = inr (record {
-  going = going;
-  waits = subst Waits (sym none) nothing_waits;
-  no_front = inr waits;
-  fed = fed;
-})
-
 module _ (ctx : Context) (held : List ℕ) (stopped : Bool) (piece : List ℕ) (going : stopped ≡ false) (none : held ≡ []) where
   abbrev now : Decoding
   now = at_hand ctx held stopped
@@ -61,19 +53,6 @@ module _ (ctx : Context) (held : List ℕ) (stopped : Bool) (piece : List ℕ) (
         none_held = none;
         takes = takes_front piece n within (inl (m, front.1));
         next = message_next ctx (take n piece) stopped m n o (at_hand ctx held last) going front.1 (omega arith) comes (behind_front o last is);
-      })
-
-  pub pulls_fault : (f : HeadFault) (o : Outcome) → (19 ≤ length piece) × (head_of piece ≡ Err f) → o ≡ of_fault f → IsPulled now piece 19 (Some (0, o)) (at_hand ctx held true)
-  pulls_fault f o front comes =
-      let long = front.0 in
-      let count = length-take 19 piece in
-      let header : length (take 19 piece) ≡ 19 = omega arith in
-      let faulty : head_of (take 19 piece) ≡ Err f = sym (head_of-append (take 19 piece) (drop 19 piece) (omega arith)) ∙ ap head_of (take-append-drop 19 piece) ∙ front.1 in
-      inr (record {
-        going = going;
-        none_held = none;
-        takes = takes_front piece 19 long (inr (header, (f, faulty)));
-        next = (going, inr (record { header = header; fault = f; faulty = faulty; count = refl; comes_to = comes }), behind_front o true (sym (ap is_reset comes)));
       })
 
 -- a message at the front that comes to what doesn't end the session

@@ -6,5 +6,6 @@ pub mod Room
 pub mod Seen
 pub mod Decoder
 pub mod Look
+pub mod Early
 pub mod Decoding
 pub mod Laws

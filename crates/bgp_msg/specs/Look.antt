@@ -1,26 +1,19 @@
--- What stands at the front of a piece: what private functions cite.
-use Rattle.std.specs.Prelude.{◌≡◌, ◌≤◌, ℕ, false, List, [], length, take}
-use Rattle.bgp_frame.specs.Frame as frame
-use Rattle.bgp_frame.specs.Frame.{IsFrame}
+-- What a look at a decoder and a piece finds.
+use Rattle.std.specs.Prelude.{ℕ, Bool, List, [], Option, None, Some}
 use Rattle.bgp_msg.specs.declared.look.Look.{Look}
 use Rattle.bgp_msg.specs.declared.look.Look.TheVariants as look
-use Rattle.bgp_msg.specs.declared.message.Message.TheVariants as message
 use Rattle.bgp_msg.specs.declared.outcome.Outcome.{Outcome}
-use Rattle.bgp_msg.specs.declared.outcome.Outcome.TheVariants as outcome
-use Rattle.bgp_msg.specs.Outcome.{out_of}
+use Rattle.bgp_msg.specs.Outcome.{of_fault}
 use Rattle.bgp_msg.specs.OutcomeView.{outcome_value}
-use Rattle.bgp_msg.specs.Decoder.{Decoding}
+use Rattle.bgp_msg.specs.Decoder.{Decoding, behind, IsFed, IsPulled}
 
--- nothing is held, and the piece begins with a whole message, which comes to this
-pub record IsAtFront (d : Decoding) (piece : List ℕ) (n : ℕ) (o : Outcome) : Type 0 where
-  pub going : d.stopped ≡ false
-  pub none_held : d.held ≡ []
-  pub message : frame.Message
-  pub within : n ≤ length piece
-  pub is_whole : IsFrame message (take n piece)
-  pub comes_to : o ≡ out_of d.ctx message
+-- a decoder behind what it held or what stood at the front of a piece: it is stopped where that is a reset
+abbrev pub gone : Decoding → Bool → Decoding
+gone d resets = record { ctx = d.ctx; held = []; stopped = resets }
 
+-- What a pull gives is found: the octets that it takes, and what comes of them or of what is held. Where nothing comes, a feed is what a
+-- pull does.
 abbrev pub IsLook : Decoding → List ℕ → Look → Type 0
-IsLook d piece (look.Update n u notes) = IsAtFront d piece n (outcome.Took (message.Update u) notes)
-IsLook d piece (look.Rare n v) = IsAtFront d piece n (outcome_value v)
-IsLook d piece look.Other = Unit {0}
+IsLook d piece (look.Message n k v) = IsPulled d piece n (Some (k, outcome_value v)) (behind d (outcome_value v))
+IsLook d piece (look.Fault n f) = IsPulled d piece n (Some (0, of_fault f)) (behind d (of_fault f))
+IsLook d piece look.Feed = (n : ℕ) (new : Decoding) → IsFed d piece n new → IsPulled d piece n None new

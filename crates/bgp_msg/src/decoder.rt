@@ -2,9 +2,11 @@
 
 ghost use Rattle.std.specs.Prelude.{◌≡◌, ◌<◌, ◌≤◌, ◌⊎◌, true, false, [], Some, length, IfOk, OnErr};
 ghost use Rattle.bgp_msg.specs.Decoder.{fresh, behind, IsFed, IsNext, TakesMemory, IsPulled, IsFedAndNext, FrontTakesMemory};
-ghost use Rattle.bgp_msg.specs.Look.{IsLook};
+ghost use Rattle.bgp_msg.specs.Early.{IsEarly};
+ghost use Rattle.bgp_msg.specs.Look.{IsLook, gone};
 ghost use Rattle.bgp_msg.specs.OutcomeView.{outcome_value, has_lists};
 
+use crate::early::Early;
 use crate::look::Look;
 use crate::message::Message;
 use crate::outcome::Outcome;
@@ -126,8 +128,8 @@ impl Decoder {
         ensures err { OnErr result (self.new ≡ self.old) }
         ensures memory { OnErr result (TakesMemory self.old ⊎ FrontTakesMemory self.old piece.now) }
     {
-        match self.look(alloc, piece)? {
-            Look::Update(len, update, notes) => Ok((
+        match self.early(alloc, piece)? {
+            Early::Update(len, update, notes) => Ok((
                 len as usize,
                 Some((len, Outcome::Took(Message::Update(update), notes))),
             )),
@@ -135,25 +137,80 @@ impl Decoder {
         }
     }
 
-    /// What stands at the front of a piece, where nothing is held: an UPDATE that is accepted with memory of its own.
-    fn look<'a>(&self, alloc: Global, piece: &'a [u8]) -> Result<Look<'a>, AllocError>
-        ensures ok { IfOk result (λ found. IsLook self.now piece.entry.now found) }
+    /// What [`pull`](Decoder::pull) would give for a piece, as a view, without memory and without a change. Who goes on behind it consumes as many
+    /// octets of the piece as it says, and calls [`go`](Decoder::go); where it gives `Feed`, who goes on calls [`feed`](Decoder::feed).
+    pub fn look<'a>(&'a self, piece: &'a [u8]) -> Look<'a>
+        ensures { IsLook self.now piece.entry.now result }
+    {
+        if self.stopped {
+            return Look::Feed;
+        }
+        if self.framer.held() == 0 {
+            return self.look_front(piece);
+        }
+        self.look_held(piece)
+    }
+
+    /// Goes on behind a message or a faulty header that [`look`](Decoder::look) gave: nothing is held any more, and the decoder stops where that
+    /// was a reset, as each faulty header is.
+    pub fn go(&mut self, resets: bool)
+        ensures { self.new ≡ gone self.old resets }
+    {
+        self.framer.clear();
+        self.stopped = resets;
+    }
+
+    /// What stands at the front of a piece, where nothing is held.
+    fn look_front<'a>(&self, piece: &'a [u8]) -> Look<'a>
+        requires going { self.now.stopped ≡ false }
+        requires none_held { self.now.held ≡ [] }
+        ensures { IsLook self.now piece.entry.now result }
+    {
+        match front(piece) {
+            Step::More => Look::Feed,
+            Step::Frame(frame) => {
+                let len = frame.len;
+                Look::Message(len as usize, len, view_frame(&self.ctx, frame))
+            }
+            Step::Fault(fault) => Look::Fault(19, fault),
+        }
+    }
+
+    /// What is held, where octets are.
+    fn look_held<'a>(&'a self, piece: &[u8]) -> Look<'a>
+        requires going { self.now.stopped ≡ false }
+        requires some_held { 0 < length self.now.held }
+        ensures { IsLook self.now piece.now result }
+    {
+        match self.framer.step() {
+            Step::More => Look::Feed,
+            Step::Frame(frame) => {
+                let len = frame.len;
+                Look::Message(0, len, view_frame(&self.ctx, frame))
+            }
+            Step::Fault(fault) => Look::Fault(0, fault),
+        }
+    }
+
+    /// An UPDATE that is accepted at the front of a piece, where nothing is held, with memory of its own.
+    fn early<'a>(&self, alloc: Global, piece: &'a [u8]) -> Result<Early<'a>, AllocError>
+        ensures ok { IfOk result (λ found. IsEarly self.now piece.entry.now found) }
         ensures memory { OnErr result (FrontTakesMemory self.now piece.entry.now) }
     {
         if self.stopped || self.framer.held() > 0 {
-            return Ok(Look::Other);
+            return Ok(Early::Other);
         }
         let Step::Frame(frame) = front(piece) else {
-            return Ok(Look::Other);
+            return Ok(Early::Other);
         };
         let len = frame.len;
         match view_frame(&self.ctx, frame) {
             OutcomeView::Update(view) => {
                 let update = view.own(alloc)?;
                 let notes = view.own_notes(alloc)?;
-                Ok(Look::Update(len, update, notes))
+                Ok(Early::Update(len, update, notes))
             }
-            rare => Ok(Look::Rare(len, rare)),
+            rare => Ok(Early::Rare(len, rare)),
         }
     }
 
@@ -163,65 +220,26 @@ impl Decoder {
         &mut self,
         alloc: Global,
         piece: &[u8],
-        found: &Look<'_>,
+        found: &Early<'_>,
     ) -> Result<(usize, Option<(u16, Outcome)>), AllocError>
-        requires { IsLook self.old piece.now found.now }
+        requires { IsEarly self.old piece.now found.now }
         ensures ok { IfOk result (λ r. IsPulled self.old piece.now r.0 r.1 self.new) }
         ensures err { OnErr result (self.new ≡ self.old) }
         ensures memory { OnErr result (TakesMemory self.old ⊎ FrontTakesMemory self.old piece.now) }
     {
-        if let Look::Rare(len, view) = found {
+        if let Early::Rare(len, view) = found {
             return self.pull_rare(alloc, *len, view);
         }
-        if self.stopped {
-            return Ok((0, None));
-        }
-        if self.framer.held() == 0 {
-            return self.pull_front(alloc, piece);
-        }
-        self.pull_held(alloc, piece)
-    }
-
-    /// Pulls where octets are held.
-    fn pull_held(
-        &mut self,
-        alloc: Global,
-        piece: &[u8],
-    ) -> Result<(usize, Option<(u16, Outcome)>), AllocError>
-        requires going { self.old.stopped ≡ false }
-        requires some_held { 0 < length self.old.held }
-        ensures ok { IfOk result (λ r. IsPulled self.old piece.now r.0 r.1 self.new) }
-        ensures err { OnErr result (self.new ≡ self.old) }
-        ensures memory { OnErr result (TakesMemory self.old) }
-    {
-        if let Some(found) = self.next(alloc)? {
-            return Ok((0, Some(found)));
-        }
-        Ok((self.feed(piece), None))
-    }
-
-    /// Pulls from a piece where nothing is held.
-    fn pull_front(
-        &mut self,
-        alloc: Global,
-        piece: &[u8],
-    ) -> Result<(usize, Option<(u16, Outcome)>), AllocError>
-        requires going { self.old.stopped ≡ false }
-        requires none_held { self.old.held ≡ [] }
-        ensures ok { IfOk result (λ r. IsPulled self.old piece.now r.0 r.1 self.new) }
-        ensures err { OnErr result (self.new ≡ self.old) }
-        ensures memory { OnErr result (FrontTakesMemory self.old piece.now) }
-    {
-        match front(piece) {
-            Step::More => Ok((self.feed(piece), None)),
-            Step::Frame(frame) => {
-                let len = frame.len;
-                let found = view_frame(&self.ctx, frame);
-                self.pull_rare(alloc, len, &found)
+        match self.look(piece) {
+            Look::Feed => Ok((self.feed(piece), None)),
+            Look::Message(taken, len, view) => {
+                let outcome = view.own(alloc)?;
+                self.go(outcome.is_reset());
+                Ok((taken, Some((len, outcome))))
             }
-            Step::Fault(fault) => {
-                self.stopped = true;
-                Ok((19, Some((0, Outcome::Reset(fault.notification())))))
+            Look::Fault(taken, fault) => {
+                self.go(true);
+                Ok((taken, Some((0, Outcome::Reset(fault.notification())))))
             }
         }
     }

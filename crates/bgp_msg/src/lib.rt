@@ -4,6 +4,7 @@
 
 mod decoder;
 mod decoding;
+mod early;
 mod encoding;
 mod header;
 pub mod laws;
@@ -19,6 +20,7 @@ pub use bgp_frame::{End, Frame, Framer, HeadFault, Kind, Step, front};
 pub use decoder::Decoder;
 pub use decoding::decode_all;
 pub use encoding::encode;
+pub use look::Look;
 pub use message::Message;
 pub use outcome::Outcome;
 pub use outcome_view::OutcomeView;

@@ -1,17 +1,16 @@
-//! What stands at the front of a piece.
+//! What a decoder finds without a change.
 
 use crate::outcome_view::OutcomeView;
-use bgp_update::{Note, Update};
-use bgp_wire::List;
+use bgp_frame::HeadFault;
 
-/// What stands at the front of a piece, where nothing is held. It is small, as an outcome isn't, which has room for 4 KB: so little is cleared
-/// and copied for each UPDATE.
-#[derive(Drop)]
-pub(crate) enum Look<'a> {
-    /// An UPDATE of so many octets that is accepted, with notes.
-    Update(u16, Update, List<Note>),
-    /// A message of so many octets that comes to something else.
-    Rare(u16, OutcomeView<'a>),
-    /// Anything else, or something is held.
-    Other,
+/// What a pull from a piece would give, as a view that takes no memory: it points into the piece, or into what the decoder holds.
+#[derive(Clone, Copy, Debug)]
+pub enum Look<'a> {
+    /// A whole message: how many octets of the piece a pull would consume (none where the message is held), how many octets the message has,
+    /// and what it comes to.
+    Message(usize, u16, OutcomeView<'a>),
+    /// A header with a fault, and how many octets of the piece a pull would consume.
+    Fault(usize, HeadFault),
+    /// Nothing yet: a pull would feed the piece, and consume nothing behind a reset.
+    Feed,
 }

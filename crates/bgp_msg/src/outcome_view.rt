@@ -35,6 +35,7 @@ impl OutcomeView<'_> {
     ghost use Rattle.bgp_msg.specs.OutcomeView.{outcome_value, has_lists};
 
     /// Whether the session ends. A NOTIFICATION that was received is accepted, and is no reset.
+    #[inline(always)]
     pub fn is_reset(&self) -> bool
         ensures { result ≡ is_reset (outcome_value self.now) }
     {

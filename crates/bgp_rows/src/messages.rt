@@ -3,7 +3,7 @@
 use crate::engines::put_shown;
 use crate::page::Page;
 use crate::trouble::Trouble;
-use bgp_msg::{Decoder, End, Outcome, OutcomeView, Seen, Step, decode_all, front, view_frame};
+use bgp_msg::{Decoder, End, Look, Outcome, OutcomeView, Seen, decode_all};
 use bgp_open::Context;
 use std::alloc::{AllocError, Global};
 
@@ -78,49 +78,31 @@ fn by_octets(alloc: Global, ctx: &Context, stream: &[u8]) -> Result<Page, Troubl
     Ok(page)
 }
 
-/// What `pull` answers.
-type Pulled = (usize, Option<(u16, Outcome)>);
+/// What one call answers: how many octets of the piece it took, and those of the message that it gave, where it gave one.
+type Taken = (usize, Option<u16>);
 
-/// One pull, which is made again where it lacked memory.
-fn pull_again(
+/// Adds what one pull gives. It is made again where it lacked memory.
+fn put_pulled(
     alloc: Global,
     decoder: &mut Decoder,
     piece: &[u8],
     page: &mut Page,
-) -> Result<Pulled, Trouble> {
+) -> Result<Taken, Trouble> {
     let before = (decoder.held(), decoder.stopped());
-    match decoder.pull(alloc, piece) {
+    let (taken, found) = match decoder.pull(alloc, piece) {
         Err(_) => {
             if (decoder.held(), decoder.stopped()) != before {
                 page.put(CHANGED)?;
             }
-            Ok(decoder.pull(alloc, piece)?)
+            decoder.pull(alloc, piece)?
         }
-        Ok(pulled) => Ok(pulled),
-    }
-}
-
-/// The stream by `pull`, in pieces of so many octets.
-fn by_pull(alloc: Global, ctx: &Context, stream: &[u8], size: usize) -> Result<Page, Trouble> {
-    let mut page = Page::new(alloc);
-    let mut decoder = Decoder::new(*ctx);
-    let mut last = None;
-    let mut rest = stream;
-    for _ in 0..u16::MAX {
-        let piece = rest.get(..size).unwrap_or(rest);
-        let (taken, found) = pull_again(alloc, &mut decoder, piece, &mut page)?;
-        rest = rest.get(taken..).unwrap_or(&[]);
-        match found {
-            Some((len, outcome)) => {
-                last = Some(len);
-                page.put_outcome(alloc, len, &outcome)?;
-            }
-            None if taken == 0 => break,
-            None => {}
-        }
-    }
-    page.put_end(alloc, end_of(&decoder, last))?;
-    Ok(page)
+        Ok(pulled) => pulled,
+    };
+    let Some((len, outcome)) = found else {
+        return Ok((taken, None));
+    };
+    page.put_outcome(alloc, len, &outcome)?;
+    Ok((taken, Some(len)))
 }
 
 /// The value of a view.
@@ -131,32 +113,55 @@ fn own_again(alloc: Global, view: &OutcomeView<'_>) -> Result<Outcome, AllocErro
     }
 }
 
-/// The stream as views, each message judged where it stands.
-fn by_views(alloc: Global, ctx: &Context, stream: &[u8]) -> Result<Page, Trouble> {
+/// Adds what a look finds, as a view, and goes on behind it.
+fn put_looked(
+    alloc: Global,
+    decoder: &mut Decoder,
+    piece: &[u8],
+    page: &mut Page,
+) -> Result<Taken, Trouble> {
+    let (taken, len, resets) = match decoder.look(piece) {
+        Look::Message(taken, len, view) => {
+            page.put_outcome(alloc, len, &own_again(alloc, &view)?)?;
+            (taken, len, view.is_reset())
+        }
+        Look::Fault(taken, fault) => {
+            page.put_outcome(alloc, 0, &Outcome::Reset(fault.notification()))?;
+            (taken, 0, true)
+        }
+        Look::Feed => return Ok((decoder.feed(piece), None)),
+    };
+    decoder.go(resets);
+    Ok((taken, Some(len)))
+}
+
+/// The stream in pieces of so many octets: by `pull`, or as views by `look` and `go`.
+fn in_pieces(
+    alloc: Global,
+    ctx: &Context,
+    stream: &[u8],
+    size: usize,
+    as_views: bool,
+) -> Result<Page, Trouble> {
     let mut page = Page::new(alloc);
+    let mut decoder = Decoder::new(*ctx);
+    let mut last = None;
     let mut rest = stream;
     for _ in 0..u16::MAX {
-        match front(rest) {
-            Step::More => break,
-            Step::Fault(fault) => {
-                page.put_outcome(alloc, 0, &Outcome::Reset(fault.notification()))?;
-                page.put_end(alloc, End::Head)?;
-                return Ok(page);
-            }
-            Step::Frame(frame) => {
-                let len = frame.len;
-                let view = view_frame(ctx, frame);
-                page.put_outcome(alloc, len, &own_again(alloc, &view)?)?;
-                if view.is_reset() {
-                    page.put_end(alloc, End::Reset)?;
-                    return Ok(page);
-                }
-                rest = rest.get(usize::from(len)..).unwrap_or(&[]);
-            }
+        let piece = rest.get(..size).unwrap_or(rest);
+        let (taken, found) = if as_views {
+            put_looked(alloc, &mut decoder, piece, &mut page)?
+        } else {
+            put_pulled(alloc, &mut decoder, piece, &mut page)?
+        };
+        rest = rest.get(taken..).unwrap_or(&[]);
+        match found {
+            Some(_) => last = found,
+            None if taken == 0 => break,
+            None => {}
         }
     }
-    let left = u16::try_from(rest.len()).unwrap_or(u16::MAX);
-    page.put_end(alloc, End::Wait(left))?;
+    page.put_end(alloc, end_of(&decoder, last))?;
     Ok(page)
 }
 
@@ -183,12 +188,14 @@ pub fn put_messages(alloc: Global, ctx: &Context, stream: &[u8]) -> Result<Page,
 pub fn put_ways(alloc: Global, ctx: &Context, stream: &[u8]) -> Result<Page, Trouble> {
     let mut page = whole(alloc, ctx, stream)?;
     let octets = by_octets(alloc, ctx, stream)?;
-    let pulled = by_pull(alloc, ctx, stream, stream.len())?;
-    let pulled_in_pieces = by_pull(alloc, ctx, stream, 20)?;
-    let viewed = by_views(alloc, ctx, stream)?;
+    let pulled = in_pieces(alloc, ctx, stream, stream.len(), false)?;
+    let pulled_in_pieces = in_pieces(alloc, ctx, stream, 20, false)?;
+    let viewed = in_pieces(alloc, ctx, stream, stream.len(), true)?;
+    let viewed_in_pieces = in_pieces(alloc, ctx, stream, 20, true)?;
     compare(&mut page, "octet by octet:\n", &octets)?;
     compare(&mut page, "by pull:\n", &pulled)?;
     compare(&mut page, "by pull, in pieces of 20:\n", &pulled_in_pieces)?;
     compare(&mut page, "as views:\n", &viewed)?;
+    compare(&mut page, "as views, in pieces of 20:\n", &viewed_in_pieces)?;
     Ok(page)
 }

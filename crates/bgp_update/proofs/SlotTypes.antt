@@ -1,12 +1,13 @@
 -- Which types a walk over the attributes has to look at.
-use Rattle.std.proofs.Common.{◌≡◌, ℕ, false, List, [], ◌∷◌, ap, refl, ◌∙◌}
-use Rattle.std.specs.List.{flat_map, filter}
+use Rattle.std.proofs.Common.{◌≡◌, ℕ, ◌<◌, Bool, false, not, eqb, ltb, List, [], ◌∷◌, take, ap, refl, ◌∙◌, arith}
+use Rattle.std.specs.List.{flat_map, filter, list_any}
+use Rattle.std.proofs.lemmas.Bool.{ltb-true, ltb-false, ne_eqb, not-false}
 use Rattle.bgp_attr.specs.declared.attr.Attr.TheVariants as attr
 use Rattle.bgp_attr.specs.declared.opaque.Opaque.{Opaque}
 use Rattle.bgp_attr.specs.Spelling.{is_recognised}
 use Rattle.bgp_update.specs.declared.attrs.Attrs.{Attrs}
 use Rattle.bgp_update.specs.Slots.{present, slot, canonical_order, attr_list}
-use Rattle.bgp_update.proofs.Lists.{flat_map-filter}
+use Rattle.bgp_update.proofs.Lists.{flat_map-filter, find-none, all-none, all-more, none-all}
 use Rattle.bgp_update.proofs.Rising.{of_kind}
 use Rattle.bgp_update.proofs.SlotLemmas.{slot-other}
 
@@ -24,3 +25,30 @@ module _ (a : Attrs) (none : a.others ≡ []) where
   -- where no attribute is of a type that isn't recognised
   pub recognised_types : flat_map (slot a) recognised ≡ attr_list a
   recognised_types = ap (flat_map (slot a)) are-recognised ∙ flat_map-filter (slot a) is_recognised canonical_order unrecognised
+
+-- the first types of the order are those up to 40
+are-common : take 41 canonical_order ≡ filter (λ k. not (ltb 40 k)) canonical_order
+unfolding canonical_order
+are-common = refl
+
+unrecognised-above : (k : ℕ) → 40 < k → is_recognised k ≡ false
+unrecognised-above k high =
+    let other : (j : ℕ) → j < 41 → eqb k j ≡ false = λ j low. ne_eqb k j (λ (e : k ≡ j). absurd (omega (arith, high, low))) in
+    all-none (λ (j : ℕ). eqb k j) (1 ∷ 2 ∷ 3 ∷ 4 ∷ 5 ∷ 6 ∷ 7 ∷ 8 ∷ 14 ∷ 15 ∷ 17 ∷ 18 ∷ 32 ∷ [])
+    (other 1 (omega arith), other 2 (omega arith), other 3 (omega arith), other 4 (omega arith), other 5 (omega arith), other 6 (omega arith), other 7 (omega arith),
+    other 8 (omega arith), other 14 (omega arith), other 15 (omega arith), other 17 (omega arith), other 18 (omega arith), other 32 (omega arith), tt)
+
+module _ (a : Attrs) (low : list_any (λ o. ltb 40 o.kind) a.others ≡ false) where
+  none-above : (k : ℕ) → 40 < k → slot a k ≡ []
+  none-above k high =
+      let differ = all-more (λ (o : Opaque). ltb 40 o.kind ≡ false) (λ (o : Opaque). eqb o.kind k ≡ false) a.others
+          (λ (o : Opaque) (e : ltb 40 o.kind ≡ false). ne_eqb o.kind k (λ (same : o.kind ≡ k). absurd (omega (arith, ltb-false 40 o.kind e, high, same))))
+          (none-all (λ (o : Opaque). ltb 40 o.kind) a.others low) in
+      slot-other a k (unrecognised-above k high)
+      ∙ ap (present (λ (o : Opaque). attr.Opaque o)) (find-none (λ (o : Opaque). eqb o.kind k) a.others (all-none (λ (o : Opaque). eqb o.kind k) a.others differ))
+
+  -- where no attribute is of a type above 40
+  pub common_types : flat_map (slot a) (take 41 canonical_order) ≡ attr_list a
+  common_types =
+      ap (flat_map (slot a)) are-common
+      ∙ flat_map-filter (slot a) (λ k. not (ltb 40 k)) canonical_order (λ k e. none-above k (ltb-true 40 k (not-false (ltb 40 k) e)))

@@ -113,7 +113,8 @@ impl<'a> KeptView<'a> {
         }
     }
 
-    /// The attributes with memory of their own, and these others.
+    /// The attributes with memory of their own, and these others. It is inlined, since it is built where it is to stand then.
+    #[inline(always)]
     pub(crate) fn own(&self, alloc: Global, others: List<Opaque>) -> Result<Attrs, AllocError>
         ensures { IfOk result (λ a. a ≡ record (known_value self.now) { others = others }) }
     {

@@ -50,7 +50,7 @@ pub use read::read_update;
 pub use reconciliation::reconcile;
 pub use refusal::why_invalid;
 pub use routes::Routes;
-pub use two_octets::{into_narrowed, narrow, narrow_update};
+pub use two_octets::{into_narrowed, narrow, narrow_in_place, narrow_update};
 pub use update::Update;
 pub use verdict::Verdict;
 pub use view::{UpdateView, View};

@@ -1,7 +1,7 @@
 //! The attributes of a message in the order in which they are written.
 
-ghost use Rattle.std.specs.Prelude.{◌≡◌, ◌==◌, option_map};
-ghost use Rattle.std.specs.List.{find, flat_map};
+ghost use Rattle.std.specs.Prelude.{◌≡◌, ◌==◌, nat_lt, option_map};
+ghost use Rattle.std.specs.List.{find, flat_map, list_any};
 ghost use Rattle.bgp_attr.specs.AttrRef.{ref_value};
 ghost use Rattle.bgp_update.specs.Slots.{present, slot, canonical_order, attr_list};
 
@@ -37,15 +37,27 @@ fn order() -> &'static [u8]
 /// The recognised types, in that order.
 const RECOGNISED: [u8; 13] = [14, 15, 1, 2, 3, 4, 5, 6, 7, 8, 17, 18, 32];
 
-/// The types that attributes can have, in the order in which they are written: where none is of another type, the recognised ones.
-#[tactic(auto, using(crate::proofs::SlotTypes::recognised_types))]
+/// The highest type that is common: BGP Prefix-SID (RFC 8669).
+const COMMON: u8 = 40;
+
+/// Whether some type is above those that are common.
+fn are_uncommon(others: &[Opaque]) -> bool
+    ensures { result ≡ list_any (λ o. nat_lt 40 o.kind) others.now }
+{
+    others.iter().any(|other| other.kind > COMMON)
+}
+
+/// The types that attributes can have, in the order in which they are written: no more than need be looked at.
+#[tactic(auto, using(crate::proofs::SlotTypes::recognised_types, crate::proofs::SlotTypes::common_types))]
 pub(crate) fn types_of(attrs: &Attrs) -> &'static [u8]
     ensures { flat_map (slot attrs.now) result.now ≡ attr_list attrs.now }
 {
     if attrs.others.is_empty() {
         &RECOGNISED
-    } else {
+    } else if are_uncommon(&attrs.others) {
         order()
+    } else {
+        &order()[..41]
     }
 }
 

@@ -1,6 +1,6 @@
 //! Attributes for speakers with AS numbers of two octets.
 
-ghost use Rattle.std.specs.Prelude.{◌≡◌, option_map, IfOk};
+ghost use Rattle.std.specs.Prelude.{◌≡◌, option_map, IfOk, OnOk, OnErr};
 ghost use Rattle.std.specs.List.{list_any};
 ghost use Rattle.bgp_attr.specs.Written.{any_number, is_above_two_octets};
 ghost use Rattle.bgp_update.specs.As4.{HasNoAs4, narrow_number, narrow_segment, narrow_path, wide_path, narrow_aggregator, wide_aggregator, narrowed, narrowed_update};
@@ -12,6 +12,7 @@ use bgp_numbers::AS_TRANS;
 use bgp_prefix::AsNumber;
 use bgp_wire::List;
 use std::alloc::{AllocError, Global};
+use std::mem;
 
 /// What stands for a number where there are two octets for it.
 fn narrow_number(number: AsNumber) -> AsNumber
@@ -63,37 +64,29 @@ fn is_wide_path(path: &AsPath) -> bool
     path.segments.iter().any(|segment| has_wide_number(segment))
 }
 
-/// A path as two attributes.
-struct TwoPaths {
-    as_path: Option<AsPath>,
-    as4_path: Option<As4Path>,
-}
-
-/// AS_PATH, and AS4_PATH where a number needs four octets.
-#[tactic(auto, using(crate::proofs::Narrowing::path_same))]
-fn two_paths(alloc: Global, path: Option<AsPath>) -> Result<TwoPaths, AllocError>
-    ensures { IfOk result (λ both. both ≡ record { as_path = option_map narrow_path path; as4_path = wide_path path }) }
+/// Leaves a path of AS numbers of two octets, and gives the AS4_PATH that stands beside it: one exactly where a number needs four.
+///
+/// # Errors
+/// `AllocError` where an allocation failed: nothing has changed then.
+fn split_path(
+    alloc: Global,
+    path: &mut Option<AsPath>,
+) -> Result<Option<As4Path>, AllocError>
+    ensures wide { IfOk result (λ wide. wide ≡ wide_path path.old) }
+    ensures narrow { OnOk result (path.new ≡ option_map narrow_path path.old) }
+    ensures err { OnErr result (path.new ≡ path.old) }
 {
-    let Some(path) = path else {
-        return Ok(TwoPaths {
-            as_path: None,
-            as4_path: None,
-        });
+    let narrow = match path {
+        Some(whole) if is_wide_path(whole) => narrow_path(alloc, whole)?,
+        _ => return Ok(None),
     };
-    if !is_wide_path(&path) {
-        return Ok(TwoPaths {
-            as_path: Some(path),
-            as4_path: None,
-        });
-    }
-    let narrow = narrow_path(alloc, &path)?;
-    Ok(TwoPaths {
-        as_path: Some(narrow),
-        as4_path: Some(As4Path {
+    match mem::replace(path, Some(narrow)) {
+        None => Ok(None),
+        Some(path) => Ok(Some(As4Path {
             partial: false,
             path,
-        }),
-    })
+        })),
+    }
 }
 
 /// AGGREGATOR.
@@ -121,8 +114,24 @@ fn wide_aggregator(aggregator: Option<Aggregator>) -> Option<Aggregator>
     }
 }
 
-/// The attributes as a speaker with AS numbers of two octets is told them: 23456 stands for each number that needs four, and
-/// AS4_PATH and AS4_AGGREGATOR stand beside AS_PATH and AGGREGATOR exactly where one does (RFC 6793, section 4.2.2). All else is moved.
+/// Makes the attributes those that a speaker with AS numbers of two octets is told: 23456 stands for each number that needs four, and
+/// AS4_PATH and AS4_AGGREGATOR stand beside AS_PATH and AGGREGATOR exactly where one does (RFC 6793, section 4.2.2). All else stays.
+///
+/// # Errors
+/// `AllocError` where an allocation failed: nothing has changed then.
+pub fn narrow_in_place(alloc: Global, attrs: &mut Attrs) -> Result<(), AllocError>
+    requires { HasNoAs4 attrs.old }
+    ensures ok { OnOk result (attrs.new ≡ narrowed attrs.old) }
+    ensures err { OnErr result (attrs.new ≡ attrs.old) }
+{
+    let aggregator = attrs.aggregator;
+    attrs.as4_path = split_path(alloc, &mut attrs.as_path)?;
+    attrs.aggregator = narrow_aggregator(aggregator);
+    attrs.as4_aggregator = wide_aggregator(aggregator);
+    Ok(())
+}
+
+/// [`narrow_in_place`] of attributes that are given up.
 ///
 /// # Errors
 /// `AllocError` where an allocation failed.
@@ -131,16 +140,11 @@ pub fn into_narrowed(alloc: Global, attrs: Attrs) -> Result<Attrs, AllocError>
     ensures { IfOk result (λ it. it ≡ narrowed attrs) }
 {
     let mut told = attrs;
-    let aggregator = told.aggregator;
-    let TwoPaths { as_path, as4_path } = two_paths(alloc, told.as_path.take())?;
-    told.as_path = as_path;
-    told.as4_path = as4_path;
-    told.aggregator = narrow_aggregator(aggregator);
-    told.as4_aggregator = wide_aggregator(aggregator);
+    narrow_in_place(alloc, &mut told)?;
     Ok(told)
 }
 
-/// [`into_narrowed`] of a copy.
+/// [`narrow_in_place`] of a copy.
 ///
 /// # Errors
 /// `AllocError` where an allocation failed.

@@ -96,7 +96,7 @@ impl<'a> UpdateView<'a> {
 }
 
 impl<'a> UpdateView<'a> {
-    ghost use Rattle.std.specs.Prelude.{ℕ, map, option_map, IfOk};
+    ghost use Rattle.std.specs.Prelude.{ℕ, true, map, option_map, IfOk, OnErr};
     ghost use Rattle.std.specs.List.{flat_map};
     ghost use Rattle.bgp_attr.specs.AttrView.{opaque_value};
     ghost use Rattle.bgp_attr.specs.MpView.{reach_value, unreach_value};
@@ -179,7 +179,8 @@ impl<'a> UpdateView<'a> {
     /// # Errors
     /// `AllocError` where an allocation failed: never where there is none.
     pub fn others(&self, alloc: Global) -> Result<List<OpaqueView<'a>>, AllocError>
-        ensures { IfOk result (λ os. map opaque_value os ≡ (update_value self.now).attrs.others) }
+        ensures value { IfOk result (λ os. map opaque_value os ≡ (update_value self.now).attrs.others) }
+        ensures err { OnErr result (list_any is_opaque (kept_of (view_marks self.now)) ≡ true) }
     {
         if self.kept.others {
             others_in(alloc, self.attrs())
@@ -189,6 +190,7 @@ impl<'a> UpdateView<'a> {
     }
 
     /// The attributes that are kept, with memory of their own.
+    #[inline(always)]
     fn own_attrs(&self, alloc: Global) -> Result<Attrs, AllocError>
         ensures { IfOk result (λ a. a ≡ (update_value self.now).attrs) }
     {

@@ -1,16 +1,16 @@
 use Rattle.std.proofs.Common.{Some, subst}
-use Rattle.bgp_msg.specs.Look.{IsLook}
-use Rattle.bgp_msg.specs.declared.look.Look.{Look}
+use Rattle.bgp_msg.specs.Early.{IsEarly}
+use Rattle.bgp_msg.specs.declared.early.Early.{Early}
 use Rattle.bgp_msg.specs.declared.message.Message.TheVariants as message
 use Rattle.bgp_msg.specs.declared.outcome.Outcome.TheVariants as outcome
-use Rattle.bgp_msg.proofs.Looks.{update_pulled}
+use Rattle.bgp_msg.proofs.Fronts.{update_pulled}
 use Rattle.bgp_msg.proofs.Pulls.{pulls_as_fed}
 use Rattle.bgp_msg.proofs.decoder.Decoder.pull.Goals as goal
 
 pub returns-in-Update-clause-ok : goal.returns-in-Update-clause-ok
 returns-in-Update-clause-ok c =
     let old = c.args.self.now in
-    let front = subst (λ (found : Look). IsLook old c.args.piece.now found) c.in-Update.is c.in_ok-other.ensures.ok in
+    let front = subst (λ (found : Early). IsEarly old c.args.piece.now found) c.in-Update.is c.in_ok-other.ensures.ok in
     update_pulled old c.args.piece.now c.in-Update.len c.in-Update.update c.in-Update.notes front
 
 pub returns-in-Update-clause-as_fed : goal.returns-in-Update-clause-as_fed

@@ -5,8 +5,8 @@ use Rattle.bgp_msg.specs.Outcome.{out_of}
 use Rattle.bgp_msg.specs.OutcomeView.{outcome_value, has_lists}
 use Rattle.bgp_msg.specs.Decoder.{Decoding}
 use Rattle.bgp_msg.proofs.Pulls.{whole_takes_memory, on_err_any}
-use Rattle.bgp_msg.proofs.Looks.{none_held}
-use Rattle.bgp_msg.proofs.decoder.Decoder.look.Goals as goal
+use Rattle.bgp_msg.proofs.Fronts.{none_held}
+use Rattle.bgp_msg.proofs.decoder.Decoder.early.Goals as goal
 
 pub returns-in_err-notes-in-Update-clause-memory : goal.returns-in_err-notes-in-Update-clause-memory
 returns-in_err-notes-in-Update-clause-memory c =

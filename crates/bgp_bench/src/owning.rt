@@ -1,0 +1,97 @@
+//! Owns the UPDATEs of a stream by way of their views: no outcome is built on the way.
+
+use crate::stream::{CONTEXT, PIECE};
+use bgp_msg::{Decoder, Look, OutcomeView};
+use std::alloc::{AllocError, Global};
+use std::io;
+
+/// How many messages and routes there were.
+#[derive(Clone, Copy)]
+struct Owned {
+    messages: u64,
+    routes: u64,
+}
+
+impl Owned {
+    fn none() -> Owned {
+        Owned {
+            messages: 0,
+            routes: 0,
+        }
+    }
+
+    fn add_routes(&mut self, count: usize) {
+        self.routes = self.routes.saturating_add(count as u64);
+    }
+
+    /// Owns what a message comes to, and lets go of it.
+    fn own(&mut self, alloc: Global, outcome: &OutcomeView<'_>) -> Result<(), AllocError> {
+        self.messages = self.messages.saturating_add(1);
+        match outcome {
+            OutcomeView::Update(view) => {
+                let update = view.own(alloc)?;
+                let _notes = view.own_notes(alloc)?;
+                self.add_routes(update.nlri.len());
+            }
+            OutcomeView::Withdraw(view) => {
+                let routes = view.routes(alloc)?;
+                let _notes = view.own_notes(alloc)?;
+                self.add_routes(routes.ip4.len());
+            }
+            _ => {}
+        }
+        Ok(())
+    }
+
+    /// Takes what is held, or stands at the front of a piece. Answers how many octets of the piece that took, where there was something.
+    fn step(
+        &mut self,
+        alloc: Global,
+        decoder: &mut Decoder,
+        piece: &[u8],
+    ) -> Result<Option<usize>, AllocError> {
+        let (taken, resets) = match decoder.look(piece) {
+            Look::Message(taken, _len, outcome) => {
+                self.own(alloc, &outcome)?;
+                (taken, outcome.is_reset())
+            }
+            Look::Fault(taken, _fault) => (taken, true),
+            Look::Feed => match decoder.feed(piece) {
+                0 => return Ok(None),
+                taken => return Ok(Some(taken)),
+            },
+        };
+        decoder.go(resets);
+        Ok(Some(taken))
+    }
+}
+
+/// Owns the messages of a piece.
+fn own_piece(
+    alloc: Global,
+    decoder: &mut Decoder,
+    piece: &[u8],
+    owned: &mut Owned,
+) -> Result<(), AllocError> {
+    let mut rest = piece;
+    for _turn in 0..u64::MAX {
+        match owned.step(alloc, decoder, rest)? {
+            Some(taken) => rest = rest.get(taken..).unwrap_or(&[]),
+            None => break,
+        }
+    }
+    Ok(())
+}
+
+/// Owns the stream's messages so many times, and prints the counts of one time.
+pub(crate) fn run(rt: &(impl Print + AllocGlobal), octets: &[u8], rounds: u32) -> io::Result<()> {
+    let mut owned = Owned::none();
+    for _round in 0..rounds {
+        owned = Owned::none();
+        let mut decoder = Decoder::new(CONTEXT);
+        for piece in octets.chunks(PIECE) {
+            own_piece(rt.alloc(), &mut decoder, piece, &mut owned)?;
+        }
+    }
+    println!(rt; "messages {} routes {}", owned.messages, owned.routes)
+}
