@@ -1,10 +1,11 @@
 //! Prefixes, collected.
 
-ghost use Rattle.std.specs.Prelude.{◌≡◌, ◌++◌, OnOk};
+ghost use Rattle.std.specs.Prelude.{◌≡◌, ◌++◌, IfOk, OnOk};
 ghost use Rattle.bgp_prefix.specs.PrefixIter.{prefixes_left};
 
 use bgp_prefix::{Prefix, PrefixIter};
-use std::alloc::AllocError;
+use bgp_wire::List;
+use std::alloc::{AllocError, Global};
 
 /// Adds prefixes.
 pub(crate) fn add_routes<const W: usize>(
@@ -18,4 +19,16 @@ pub(crate) fn add_routes<const W: usize>(
         to.push(prefix)?;
     }
     Ok(())
+}
+
+/// Prefixes in a list of their own, which has room for these alone.
+pub(crate) fn own_routes<const W: usize>(
+    alloc: Global,
+    routes: PrefixIter<'_, W>,
+) -> Result<List<Prefix<W>>, AllocError>
+    ensures { IfOk result (λ owned. owned ≡ prefixes_left routes.entry) }
+{
+    let mut owned = Vec::with_capacity(alloc, routes.left())?;
+    owned.extend(routes)?;
+    Ok(List::from_vec(owned))
 }

@@ -9,7 +9,7 @@ ghost use Rattle.bgp_update.specs.Notes.{missing_of};
 ghost use Rattle.bgp_update.specs.Summary.{is_noted, summary_value, summary_of};
 ghost use Rattle.bgp_update.specs.Taken.{kept_of};
 
-use crate::add_routes::add_routes;
+use crate::add_routes::{add_routes, own_routes};
 use crate::attr_iter::AttrIter;
 use crate::attrs::Attrs;
 use crate::body::Body;
@@ -206,9 +206,9 @@ impl<'a> UpdateView<'a> {
     pub fn own(&self, alloc: Global) -> Result<Update, AllocError>
         ensures { IfOk result (λ u. u ≡ update_value self.now) }
     {
-        let withdrawn = List::from_vec(self.withdrawn().collect(alloc)?);
+        let withdrawn = own_routes(alloc, self.withdrawn())?;
         let attrs = self.own_attrs(alloc)?;
-        let nlri = List::from_vec(self.nlri().collect(alloc)?);
+        let nlri = own_routes(alloc, self.nlri())?;
         Ok(Update {
             withdrawn,
             attrs,
