@@ -1,5 +1,5 @@
 -- Which types a walk over the attributes has to look at.
-use Rattle.std.proofs.Common.{◌≡◌, ℕ, ◌<◌, Bool, false, not, eqb, ltb, List, [], ◌∷◌, take, ap, refl, ◌∙◌, arith}
+use Rattle.std.proofs.Common.{◌≡◌, ℕ, ◌<◌, Bool, false, not, eqb, ltb, List, [], ◌∷◌, length, take, ap, refl, ◌∙◌, arith}
 use Rattle.std.specs.List.{flat_map, filter, list_any}
 use Rattle.std.proofs.lemmas.Bool.{ltb-true, ltb-false, ne_eqb, not-false}
 use Rattle.bgp_attr.specs.declared.attr.Attr.TheVariants as attr
@@ -26,6 +26,10 @@ module _ (a : Attrs) (none : a.others ≡ []) where
   pub recognised_types : flat_map (slot a) recognised ≡ attr_list a
   recognised_types = ap (flat_map (slot a)) are-recognised ∙ flat_map-filter (slot a) is_recognised canonical_order unrecognised
 
+pub order_long : length canonical_order ≡ 256
+unfolding canonical_order
+order_long = refl
+
 -- the first types of the order are those up to 40
 are-common : take 41 canonical_order ≡ filter (λ k. not (ltb 40 k)) canonical_order
 unfolding canonical_order
@@ -35,8 +39,8 @@ unrecognised-above : (k : ℕ) → 40 < k → is_recognised k ≡ false
 unrecognised-above k high =
     let other : (j : ℕ) → j < 41 → eqb k j ≡ false = λ j low. ne_eqb k j (λ (e : k ≡ j). absurd (omega (arith, high, low))) in
     all-none (λ (j : ℕ). eqb k j) (1 ∷ 2 ∷ 3 ∷ 4 ∷ 5 ∷ 6 ∷ 7 ∷ 8 ∷ 14 ∷ 15 ∷ 17 ∷ 18 ∷ 32 ∷ [])
-    (other 1 (omega arith), other 2 (omega arith), other 3 (omega arith), other 4 (omega arith), other 5 (omega arith), other 6 (omega arith), other 7 (omega arith),
-    other 8 (omega arith), other 14 (omega arith), other 15 (omega arith), other 17 (omega arith), other 18 (omega arith), other 32 (omega arith), tt)
+    (other 1 (omega arith), (other 2 (omega arith), (other 3 (omega arith), (other 4 (omega arith), (other 5 (omega arith), (other 6 (omega arith), (other 7 (omega arith),
+    (other 8 (omega arith), (other 14 (omega arith), (other 15 (omega arith), (other 17 (omega arith), (other 18 (omega arith), (other 32 (omega arith), tt)))))))))))))
 
 module _ (a : Attrs) (low : list_any (λ o. ltb 40 o.kind) a.others ≡ false) where
   none-above : (k : ℕ) → 40 < k → slot a k ≡ []

@@ -29,6 +29,6 @@ pub(crate) fn own_routes<const W: usize>(
     ensures { IfOk result (λ owned. owned ≡ prefixes_left routes.entry) }
 {
     let mut owned = Vec::with_capacity(alloc, routes.left())?;
-    owned.extend(routes)?;
+    add_routes(routes, &mut owned)?;
     Ok(List::from_vec(owned))
 }

@@ -68,6 +68,7 @@ fn is_wide_path(path: &AsPath) -> bool
 ///
 /// # Errors
 /// `AllocError` where an allocation failed: nothing has changed then.
+#[tactic(auto, using(crate::proofs::Narrowing::path_same))]
 fn split_path(
     alloc: Global,
     path: &mut Option<AsPath>,
@@ -77,8 +78,9 @@ fn split_path(
     ensures err { OnErr result (path.new ≡ path.old) }
 {
     let narrow = match path {
+        None => return Ok(None),
         Some(whole) if is_wide_path(whole) => narrow_path(alloc, whole)?,
-        _ => return Ok(None),
+        Some(_) => return Ok(None),
     };
     match mem::replace(path, Some(narrow)) {
         None => Ok(None),

@@ -12,4 +12,7 @@ pub returns-else-self : goal.returns-else-self
 returns-else-self c =
     let view = c.args.self.now in
     let none = no_others (kept_of (view_marks view)) (sym (ap (λ (k : Kept). k.others) view.keeps) ∙ c.if-self.false) in
-    ap (λ (os : List OpaqueView). map opaque_value os) c.new.ensures ∙ sym (ap (λ (os : List Opaque). rising_behind [] os) none)
+    record {
+      value = ap (λ (os : List OpaqueView). map opaque_value os) c.new.ensures ∙ sym (ap (λ (os : List Opaque). rising_behind [] os) none);
+      err = tt;
+    }
