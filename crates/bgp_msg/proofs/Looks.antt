@@ -59,7 +59,7 @@ module _ (d : Decoding) (piece : List ℕ) where
   given_takes_memory e k o lists (inl m) =
       let some : has_lists (out_of e.ctx m.message) ≡ true = ap has_lists (sym m.comes_to) ∙ lists in
       record { message = m.message; is_held = m.is_held; holds_lists = lists_have_kinds e.ctx m.message some; goes_on = lists_go_on (out_of e.ctx m.message) some }
-  given_takes_memory e k o lists (inr f) = absurd (both_ways (has_lists o) lists (ap has_lists f.comes_to))
+  given_takes_memory e k o lists (inr f) = absurd (both_ways (has_lists o) (ap has_lists f.comes_to) lists)
 
   -- what is pulled takes memory only where it has lists
   pub pulled_takes_memory : (n k : ℕ) (o : Outcome) (new : Decoding) → has_lists o ≡ true → IsPulled d piece n (Some (k, o)) new → TakesMemory d ⊎ FrontTakesMemory d piece
