@@ -12,6 +12,7 @@ pub mod Blocks
 pub mod Pages
 pub mod Walking
 pub mod Show
+pub mod ShowJson
 pub mod Check
 pub mod ToHex
 pub mod FromHex

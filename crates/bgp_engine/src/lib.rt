@@ -13,6 +13,7 @@ mod output;
 mod page;
 mod running;
 mod shown;
+mod shown_json;
 mod tally;
 mod walk;
 
@@ -24,4 +25,5 @@ pub use hexed::{to_hex, to_hex_within};
 pub use narrowing::{narrow_stream, narrow_within};
 pub use output::put;
 pub use shown::{show, show_within};
+pub use shown_json::{show_json, show_json_within};
 pub use tally::{Tally, status};

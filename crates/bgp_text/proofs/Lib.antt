@@ -1,2 +1,3 @@
 pub mod ResetCodes
 pub mod Words
+pub mod JsonLists

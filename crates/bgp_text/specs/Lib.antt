@@ -11,3 +11,13 @@ pub mod OpenLines
 pub mod UpdateLines
 pub mod Outcome
 pub mod Slots
+pub mod Json
+pub mod JsonAddress
+pub mod JsonPath
+pub mod JsonMp
+pub mod JsonAttributes
+pub mod JsonNotes
+pub mod JsonOpen
+pub mod JsonUpdate
+pub mod JsonOutcome
+pub mod JsonEnd

@@ -19,7 +19,7 @@ use bgp_wire::List;
 use std::alloc::{AllocError, Global};
 
 /// The name of an origin.
-fn origin_name(origin: Origin) -> &'static str
+pub(crate) fn origin_name(origin: Origin) -> &'static str
     ensures { result.now ≡ origin_name origin }
 {
     match origin {

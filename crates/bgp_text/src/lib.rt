@@ -1,4 +1,4 @@
-//! The printed form of messages, routes, notes and ends of streams: text alone.
+//! The printed form of messages, routes, notes and ends of streams, as text and as JSON: text alone.
 #![tactic(auto)]
 
 mod addresses;
@@ -6,6 +6,17 @@ mod attribute_lines;
 mod community_lines;
 mod end;
 mod info;
+mod json;
+mod json_addresses;
+mod json_attributes;
+mod json_end;
+mod json_list;
+mod json_mp;
+mod json_notes;
+mod json_open;
+mod json_outcome;
+mod json_path;
+mod json_update;
 pub mod laws;
 mod lines;
 mod mp_lines;
@@ -22,5 +33,7 @@ mod word;
 
 pub use end::put_end;
 pub use info::{info_text, notification_text};
+pub use json_end::put_end_json;
+pub use json_outcome::put_viewed_json;
 pub use outcome_lines::{put_outcome, put_update_taken};
 pub use viewed_outcome::put_viewed_outcome;

@@ -11,7 +11,7 @@ use bgp_update::Note;
 use std::alloc::AllocError;
 
 /// The name of a reason.
-fn why_name(why: Why) -> &'static str
+pub(crate) fn why_name(why: Why) -> &'static str
     ensures { result.now ≡ why_name why }
 {
     match why {

@@ -52,7 +52,7 @@ pub(crate) fn put_notification(
 }
 
 /// What a notification of this code answers.
-fn reset_name(code: u8) -> &'static str
+pub(crate) fn reset_name(code: u8) -> &'static str
     ensures { result.now ≡ reset_name code }
 {
     match code {

@@ -1,0 +1,26 @@
+-- An OPEN as JSON.
+use Rattle.std.specs.Prelude.{ℕ, List, ◌++◌, codes}
+use Rattle.std.specs.Fmt.{decimal}
+use Rattle.bgp_numbers.specs.declared.capability.TheConstants.{MULTIPROTOCOL, FOUR_OCTET_AS}
+use Rattle.bgp_open.specs.declared.capability.Capability.{Capability}
+use Rattle.bgp_open.specs.declared.capability.Capability.TheVariants.{Multi, As4, Other}
+use Rattle.bgp_open.specs.declared.message.Open.{Open}
+use Rattle.bgp_text.specs.Json.{octets_json, member, listed}
+use Rattle.bgp_text.specs.JsonAddress.{ip4_json}
+
+-- the beginning of an object: the code of a capability
+unfoldable pub code_json : ℕ → List ℕ
+code_json code = codes "{\"code\":" ++ decimal code
+
+-- a family, an AS number, or else the octets of the value
+unfoldable pub capability_json : Capability → List ℕ
+capability_json (Multi family subsequent) =
+    code_json MULTIPROTOCOL ++ (member (codes "afi") decimal family ++ (member (codes "safi") decimal subsequent ++ codes "}"))
+capability_json (As4 number) = code_json FOUR_OCTET_AS ++ (member (codes "as") decimal number ++ codes "}")
+capability_json (Other code value) = code_json code ++ (member (codes "value") octets_json value ++ codes "}")
+
+-- My Autonomous System as it stands, the hold time, the identifier and the capabilities
+abbrev pub open_members : Open → List ℕ
+open_members o =
+    member (codes "as") decimal o.as_field ++ (member (codes "hold") decimal o.hold ++ (member (codes "id") ip4_json o.id
+    ++ member (codes "capabilities") (listed capability_json) o.caps))

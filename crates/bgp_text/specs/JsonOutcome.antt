@@ -1,0 +1,49 @@
+-- An outcome as a line of JSON: an object.
+use Rattle.std.specs.Prelude.{ℕ, List, ◌++◌, codes}
+use Rattle.std.specs.Fmt.{decimal}
+use Rattle.bgp_frame.specs.declared.notification.Notification.{Notification}
+use Rattle.bgp_update.specs.declared.note.Note.{Note}
+use Rattle.bgp_update.specs.declared.routes.Routes.{Routes}
+use Rattle.bgp_msg.specs.declared.message.Message.{Message}
+use Rattle.bgp_msg.specs.declared.message.Message.TheVariants as message
+use Rattle.bgp_msg.specs.declared.outcome.Outcome.{Outcome}
+use Rattle.bgp_msg.specs.declared.outcome.Outcome.TheVariants as outcome
+use Rattle.bgp_text.specs.Json.{quoted, octets_json, member, line_end}
+use Rattle.bgp_text.specs.JsonNotes.{notes_member}
+use Rattle.bgp_text.specs.JsonOpen.{open_members}
+use Rattle.bgp_text.specs.JsonUpdate.{update_members, routes_json}
+use Rattle.bgp_text.specs.Outcome.{reset_name}
+
+-- the beginning of each object: the offset of a message in the stream, its octets in number, its kind and the verdict on it
+unfoldable pub judged : ℕ → ℕ → List ℕ → List ℕ → List ℕ
+judged place len kind verdict =
+    codes "{\"place\":" ++ (decimal place ++ (member (codes "length") decimal len ++ (member (codes "kind") quoted kind
+    ++ member (codes "verdict") quoted verdict)))
+
+abbrev pub notification_members : Notification → List ℕ
+notification_members n =
+    member (codes "code") decimal n.code ++ (member (codes "subcode") decimal n.subcode ++ member (codes "data") octets_json n.info.items)
+
+-- a message that is accepted; an UPDATE with notes on attributes that are discarded: other messages have none
+unfoldable pub took_json : ℕ → ℕ → Message → List Note → List ℕ
+took_json place len (message.Open o) notes = judged place len (codes "OPEN") (codes "take") ++ (open_members o ++ line_end)
+took_json place len (message.Update u) notes =
+    judged place len (codes "UPDATE") (codes "take") ++ (update_members u ++ (notes_member notes ++ line_end))
+took_json place len (message.Notification n) notes =
+    judged place len (codes "NOTIFICATION") (codes "take") ++ (notification_members n ++ line_end)
+took_json place len message.Keepalive notes = judged place len (codes "KEEPALIVE") (codes "take") ++ line_end
+
+-- an UPDATE that is treated as a withdrawal, and notes on why
+abbrev pub withdraw_json : ℕ → ℕ → Routes → List Note → List ℕ
+withdraw_json place len routes notes =
+    judged place len (codes "UPDATE") (codes "withdraw") ++ (member (codes "routes") routes_json routes ++ (notes_member notes ++ line_end))
+
+-- a reset, under the name of what it answers
+abbrev pub reset_json : ℕ → ℕ → Notification → List ℕ
+reset_json place len n = judged place len (reset_name n.code) (codes "reset") ++ (notification_members n ++ line_end)
+
+-- the object of an outcome, at its offset in the stream and with the octets of its message in number, 0 for a header's fault
+unfoldable pub outcome_json : ℕ → ℕ → Outcome → List ℕ
+outcome_json place len (outcome.Took m notes) = took_json place len m notes
+outcome_json place len (outcome.Withdraw routes notes) = withdraw_json place len routes notes
+outcome_json place len (outcome.Reset n) = reset_json place len n

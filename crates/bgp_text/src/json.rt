@@ -1,0 +1,127 @@
+//! Parts of JSON text.
+
+ghost use Rattle.std.specs.Prelude.{◌≡◌, ◌++◌, OnOk};
+ghost use Rattle.std.specs.Fmt.{decimal};
+ghost use Rattle.std.specs.List.{flat_map};
+ghost use Rattle.std.specs.String.{string_bytes};
+ghost use Rattle.bgp_prefix.specs.Text.{hex_octet};
+ghost use Rattle.bgp_text.specs.Json.{quoted, octets_json, boolean, named, member, line_end};
+
+use crate::word::Word;
+use std::alloc::AllocError;
+
+/// Adds a string of characters that need no escape.
+#[tactic(auto, unfolding(crate::specs::Json::quoted))]
+pub(crate) fn put_quoted(text: &mut String, characters: &str) -> Result<(), AllocError>
+    ensures { OnOk result (string_bytes text.new ≡ string_bytes text.old ++ quoted characters.now) }
+{
+    text.push_str("\"")?;
+    text.push_str(characters)?;
+    text.push_str("\"")
+}
+
+/// Adds a number.
+pub(crate) fn put_decimal(text: &mut String, number: u32) -> Result<(), AllocError>
+    ensures { OnOk result (string_bytes text.new ≡ string_bytes text.old ++ decimal number) }
+{
+    let mut word = Word::new();
+    word.number(number);
+    text.push_str(word.text())
+}
+
+/// Adds an octet's two digits.
+fn put_octet(text: &mut String, octet: u8) -> Result<(), AllocError>
+    ensures { OnOk result (string_bytes text.new ≡ string_bytes text.old ++ hex_octet octet) }
+{
+    let mut word = Word::new();
+    word.hex_octet(octet);
+    text.push_str(word.text())
+}
+
+/// Adds the digits of octets.
+fn put_digits(text: &mut String, octets: &[u8]) -> Result<(), AllocError>
+    ensures { OnOk result (string_bytes text.new ≡ string_bytes text.old ++ flat_map hex_octet octets.now) }
+{
+    for octet in octets {
+        put_octet(text, *octet)?;
+    }
+    Ok(())
+}
+
+/// Adds octets as a string of hexadecimal digits.
+#[tactic(auto, unfolding(crate::specs::Json::octets_json, crate::specs::Json::quoted))]
+pub(crate) fn put_octets(text: &mut String, octets: &[u8]) -> Result<(), AllocError>
+    ensures { OnOk result (string_bytes text.new ≡ string_bytes text.old ++ octets_json octets.now) }
+{
+    text.push_str("\"")?;
+    put_digits(text, octets)?;
+    text.push_str("\"")
+}
+
+/// Adds the name of a further member, behind a comma.
+#[tactic(auto, unfolding(crate::specs::Json::named))]
+pub(crate) fn put_name(text: &mut String, name: &str) -> Result<(), AllocError>
+    ensures { OnOk result (string_bytes text.new ≡ string_bytes text.old ++ named name.now) }
+{
+    text.push_str(",\"")?;
+    text.push_str(name)?;
+    text.push_str("\":")
+}
+
+/// Adds a member that is a number.
+pub(crate) fn put_number_member(
+    text: &mut String,
+    name: &str,
+    number: u32,
+) -> Result<(), AllocError>
+    ensures { OnOk result (string_bytes text.new ≡ string_bytes text.old ++ member name.now decimal number) }
+{
+    put_name(text, name)?;
+    put_decimal(text, number)
+}
+
+/// Adds a member that is a string.
+pub(crate) fn put_word_member(
+    text: &mut String,
+    name: &str,
+    characters: &str,
+) -> Result<(), AllocError>
+    ensures { OnOk result (string_bytes text.new ≡ string_bytes text.old ++ member name.now quoted characters.now) }
+{
+    put_name(text, name)?;
+    put_quoted(text, characters)
+}
+
+/// Adds a member that is octets.
+pub(crate) fn put_octets_member(
+    text: &mut String,
+    name: &str,
+    octets: &[u8],
+) -> Result<(), AllocError>
+    ensures { OnOk result (string_bytes text.new ≡ string_bytes text.old ++ member name.now octets_json octets.now) }
+{
+    put_name(text, name)?;
+    put_octets(text, octets)
+}
+
+/// The word for whether something is so.
+fn boolean(is_so: bool) -> &'static str
+    ensures { result.now ≡ boolean is_so }
+{
+    if is_so { "true" } else { "false" }
+}
+
+/// Adds a member that tells whether something is so.
+pub(crate) fn put_flag_member(text: &mut String, name: &str, is_so: bool) -> Result<(), AllocError>
+    ensures { OnOk result (string_bytes text.new ≡ string_bytes text.old ++ member name.now boolean is_so) }
+{
+    put_name(text, name)?;
+    text.push_str(boolean(is_so))
+}
+
+/// Adds the end of an object and of its line.
+pub(crate) fn put_line_end(text: &mut String) -> Result<(), AllocError>
+    ensures { OnOk result (string_bytes text.new ≡ string_bytes text.old ++ line_end) }
+{
+    text.push_str("}\n")
+}

@@ -1,0 +1,89 @@
+//! Addresses and prefixes as JSON strings.
+
+ghost use Rattle.std.specs.Prelude.{◌≡◌, ◌++◌, OnOk};
+ghost use Rattle.std.specs.String.{string_bytes};
+ghost use Rattle.bgp_text.specs.Json.{member};
+ghost use Rattle.bgp_text.specs.JsonAddress.{ip4_json, ip6_json, prefix4_json, prefix6_json};
+
+use crate::addresses::put_ip4_address;
+use crate::json::put_name;
+use crate::json_list::Element;
+use crate::word::Word;
+use bgp_prefix::Prefix;
+use std::alloc::AllocError;
+use std::net::Ipv6Addr;
+
+/// Adds an IPv4 address.
+#[tactic(auto, unfolding(crate::specs::Json::quoted))]
+fn put_ip4(text: &mut String, address: [u8; 4]) -> Result<(), AllocError>
+    ensures { OnOk result (string_bytes text.new ≡ string_bytes text.old ++ ip4_json address) }
+{
+    let mut word = Word::new();
+    word.character(b'"');
+    put_ip4_address(&mut word, address);
+    word.character(b'"');
+    text.push_str(word.text())
+}
+
+/// Adds an IPv6 address.
+#[tactic(auto, unfolding(crate::specs::Json::quoted, crate::specs::JsonAddress::ip6_text))]
+fn put_ip6(text: &mut String, address: [u8; 16]) -> Result<(), AllocError>
+    ensures { OnOk result (string_bytes text.new ≡ string_bytes text.old ++ ip6_json address) }
+{
+    let groups = Ipv6Addr::from_octets(address).hex_groups();
+    write!(text, "\"{groups}\"")
+}
+
+/// Adds a member that is an IPv4 address.
+pub(crate) fn put_ip4_member(
+    text: &mut String,
+    name: &str,
+    address: [u8; 4],
+) -> Result<(), AllocError>
+    ensures { OnOk result (string_bytes text.new ≡ string_bytes text.old ++ member name.now ip4_json address) }
+{
+    put_name(text, name)?;
+    put_ip4(text, address)
+}
+
+/// Adds a member that is an IPv6 address.
+pub(crate) fn put_ip6_member(
+    text: &mut String,
+    name: &str,
+    address: [u8; 16],
+) -> Result<(), AllocError>
+    ensures { OnOk result (string_bytes text.new ≡ string_bytes text.old ++ member name.now ip6_json address) }
+{
+    put_name(text, name)?;
+    put_ip6(text, address)
+}
+
+impl Element for Prefix<4> {
+    ghost use Rattle.bgp_text.specs.JsonAddress.{prefix4_json};
+
+    ghost json = { prefix4_json };
+
+    #[tactic(auto, unfolding(crate::specs::Json::quoted))]
+    fn put_json(&self, text: &mut String) -> Result<(), AllocError> {
+        let mut word = Word::new();
+        word.character(b'"');
+        word.number(u32::from(self.len()));
+        word.character(b'/');
+        put_ip4_address(&mut word, self.addr());
+        word.character(b'"');
+        text.push_str(word.text())
+    }
+}
+
+impl Element for Prefix<16> {
+    ghost use Rattle.bgp_text.specs.JsonAddress.{prefix6_json};
+
+    ghost json = { prefix6_json };
+
+    #[tactic(auto, unfolding(crate::specs::Json::quoted, crate::specs::JsonAddress::ip6_text))]
+    fn put_json(&self, text: &mut String) -> Result<(), AllocError> {
+        let groups = Ipv6Addr::from_octets(self.addr()).hex_groups();
+        let len = self.len();
+        write!(text, "\"{groups}/{len}\"")
+    }
+}

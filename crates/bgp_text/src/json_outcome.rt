@@ -1,0 +1,175 @@
+//! An outcome as a line of JSON, while it lies in octets.
+
+ghost use Rattle.std.specs.Prelude.{◌≡◌, ◌++◌, [], OnOk};
+ghost use Rattle.std.specs.Fmt.{decimal};
+ghost use Rattle.std.specs.String.{string_bytes};
+ghost use Rattle.bgp_frame.specs.Notification.{notification_of_view};
+ghost use Rattle.bgp_open.specs.OpenView.{open_value};
+ghost use Rattle.bgp_update.specs.View.{update_value, notes_value, routes_value};
+ghost use Rattle.bgp_msg.specs.OutcomeView.{outcome_value};
+ghost use Rattle.bgp_msg.specs.declared.message.Message.TheVariants as message;
+ghost use Rattle.bgp_text.specs.JsonOutcome.{judged, notification_members, took_json, withdraw_json, reset_json, outcome_json};
+
+use crate::json::{put_line_end, put_number_member, put_octets_member, put_word_member};
+use crate::json_notes::put_notes_member;
+use crate::json_open::put_open_members;
+use crate::json_update::{put_routes_member, put_update_members};
+use crate::outcome_lines::reset_name;
+use crate::word::Word;
+use bgp_frame::NotificationView;
+use bgp_msg::OutcomeView;
+use bgp_open::OpenView;
+use bgp_update::UpdateView;
+use std::alloc::{AllocError, Global};
+
+/// Adds a number of 64 bits.
+fn put_wide(text: &mut String, number: u64) -> Result<(), AllocError>
+    ensures { OnOk result (string_bytes text.new ≡ string_bytes text.old ++ decimal number) }
+{
+    let mut word = Word::new();
+    word.wide_number(number);
+    text.push_str(word.text())
+}
+
+/// Adds the beginning of an object: where a message stands, how long it is, what it is, and the verdict on it.
+#[tactic(auto, unfolding(crate::specs::JsonOutcome::judged))]
+fn put_judged(
+    text: &mut String,
+    place: u64,
+    len: u16,
+    kind: &str,
+    verdict: &str,
+) -> Result<(), AllocError>
+    ensures { OnOk result (string_bytes text.new ≡ string_bytes text.old ++ judged place len kind.now verdict.now) }
+{
+    text.push_str("{\"place\":")?;
+    put_wide(text, place)?;
+    put_number_member(text, "length", u32::from(len))?;
+    put_word_member(text, "kind", kind)?;
+    put_word_member(text, "verdict", verdict)
+}
+
+/// Adds what a NOTIFICATION says.
+fn put_notification_members(
+    text: &mut String,
+    said: &NotificationView<'_>,
+) -> Result<(), AllocError>
+    ensures { OnOk result (string_bytes text.new ≡ string_bytes text.old ++ notification_members (notification_of_view said.now)) }
+{
+    put_number_member(text, "code", u32::from(said.code))?;
+    put_number_member(text, "subcode", u32::from(said.subcode))?;
+    put_octets_member(text, "data", said.info)
+}
+
+/// An OPEN.
+#[tactic(auto, unfolding(crate::specs::JsonOutcome::took_json))]
+fn put_opened(
+    alloc: Global,
+    text: &mut String,
+    place: u64,
+    len: u16,
+    view: &OpenView<'_>,
+) -> Result<(), AllocError>
+    ensures { OnOk result (string_bytes text.new ≡ string_bytes text.old ++ took_json place len (message.Open (open_value view.now)) []) }
+{
+    let open = view.own(alloc)?;
+    put_judged(text, place, len, "OPEN", "take")?;
+    put_open_members(text, &open)?;
+    put_line_end(text)
+}
+
+/// An UPDATE that is accepted.
+#[tactic(auto, unfolding(crate::specs::JsonOutcome::took_json))]
+fn put_taken(
+    alloc: Global,
+    text: &mut String,
+    place: u64,
+    len: u16,
+    view: &UpdateView<'_>,
+) -> Result<(), AllocError>
+    ensures { OnOk result (string_bytes text.new ≡ string_bytes text.old ++ took_json place len (message.Update (update_value view.now)) (notes_value view.now)) }
+{
+    put_judged(text, place, len, "UPDATE", "take")?;
+    put_update_members(alloc, text, view)?;
+    put_notes_member(text, view)?;
+    put_line_end(text)
+}
+
+/// An UPDATE that is treated as a withdrawal.
+fn put_withdrawn(
+    alloc: Global,
+    text: &mut String,
+    place: u64,
+    len: u16,
+    view: &UpdateView<'_>,
+) -> Result<(), AllocError>
+    ensures { OnOk result (string_bytes text.new ≡ string_bytes text.old ++ withdraw_json place len (routes_value view.now) (notes_value view.now)) }
+{
+    put_judged(text, place, len, "UPDATE", "withdraw")?;
+    put_routes_member(alloc, text, view)?;
+    put_notes_member(text, view)?;
+    put_line_end(text)
+}
+
+/// A NOTIFICATION.
+#[tactic(auto, unfolding(crate::specs::JsonOutcome::took_json))]
+fn put_received(
+    text: &mut String,
+    place: u64,
+    len: u16,
+    said: &NotificationView<'_>,
+) -> Result<(), AllocError>
+    ensures { OnOk result (string_bytes text.new ≡ string_bytes text.old ++ took_json place len (message.Notification (notification_of_view said.now)) []) }
+{
+    put_judged(text, place, len, "NOTIFICATION", "take")?;
+    put_notification_members(text, said)?;
+    put_line_end(text)
+}
+
+/// A KEEPALIVE.
+#[tactic(auto, unfolding(crate::specs::JsonOutcome::took_json))]
+fn put_keepalive(text: &mut String, place: u64, len: u16) -> Result<(), AllocError>
+    ensures { OnOk result (string_bytes text.new ≡ string_bytes text.old ++ took_json place len message.Keepalive []) }
+{
+    put_judged(text, place, len, "KEEPALIVE", "take")?;
+    put_line_end(text)
+}
+
+/// A reset.
+fn put_answer(
+    text: &mut String,
+    place: u64,
+    len: u16,
+    why: &NotificationView<'_>,
+) -> Result<(), AllocError>
+    ensures { OnOk result (string_bytes text.new ≡ string_bytes text.old ++ reset_json place len (notification_of_view why.now)) }
+{
+    put_judged(text, place, len, reset_name(why.code), "reset")?;
+    put_notification_members(text, why)?;
+    put_line_end(text)
+}
+
+/// Adds the outcome of a message, or of the header of one, as a JSON object on a line: its offset in the stream, its octets in number (0 for
+/// a header's fault), and what [`put_viewed_outcome`](crate::put_viewed_outcome) prints.
+///
+/// # Errors
+/// `AllocError` where an allocation failed.
+#[tactic(auto, unfolding(crate::specs::JsonOutcome::outcome_json))]
+pub fn put_viewed_json(
+    alloc: Global,
+    text: &mut String,
+    place: u64,
+    len: u16,
+    outcome: &OutcomeView<'_>,
+) -> Result<(), AllocError>
+    ensures { OnOk result (string_bytes text.new ≡ string_bytes text.old ++ outcome_json place len (outcome_value outcome.now)) }
+{
+    match outcome {
+        OutcomeView::Update(view) => put_taken(alloc, text, place, len, view),
+        OutcomeView::Withdraw(view) => put_withdrawn(alloc, text, place, len, view),
+        OutcomeView::Keepalive => put_keepalive(text, place, len),
+        OutcomeView::Open(view) => put_opened(alloc, text, place, len, view),
+        OutcomeView::Notification(said) => put_received(text, place, len, said),
+        OutcomeView::Reset(why) => put_answer(text, place, len, why),
+    }
+}

@@ -1,0 +1,60 @@
+//! An UPDATE, and routes that are withdrawn, as JSON.
+
+ghost use Rattle.std.specs.Prelude.{◌≡◌, ◌++◌, codes, map, OnOk};
+ghost use Rattle.std.specs.List.{flat_map};
+ghost use Rattle.std.specs.String.{string_bytes};
+ghost use Rattle.bgp_update.specs.View.{update_value, routes_value};
+ghost use Rattle.bgp_text.specs.Json.{member, behind_comma, joined};
+ghost use Rattle.bgp_text.specs.JsonAddress.{prefix4_json, prefix6_json};
+ghost use Rattle.bgp_text.specs.JsonUpdate.{update_members, routes_json};
+
+use crate::json::put_name;
+use crate::json_attributes::put_attribute_members;
+use crate::json_list::{put_further, put_joined, put_list_member};
+use crate::json_mp::put_mp_members;
+use crate::slots::Slots;
+use bgp_update::{Routes, UpdateView};
+use std::alloc::{AllocError, Global};
+
+/// Adds the members of an UPDATE.
+pub(crate) fn put_update_members(
+    alloc: Global,
+    text: &mut String,
+    view: &UpdateView<'_>,
+) -> Result<(), AllocError>
+    ensures { OnOk result (string_bytes text.new ≡ string_bytes text.old ++ update_members (update_value view.now)) }
+{
+    let slots = Slots::of(alloc, view)?;
+    put_list_member(text, "withdrawn", view.withdrawn())?;
+    put_mp_members(text, &slots)?;
+    put_attribute_members(text, &slots)?;
+    put_list_member(text, "nlri", view.nlri())
+}
+
+/// Adds routes of both families, IPv4 first, with commas between them.
+fn put_joined_routes(text: &mut String, routes: &Routes) -> Result<(), AllocError>
+    ensures { OnOk result (string_bytes text.new ≡ string_bytes text.old ++ joined (λ route. route) (map prefix4_json routes.now.ip4 ++ map prefix6_json routes.now.ip6)) }
+{
+    let ip6 = routes.ip6.as_slice();
+    if routes.ip4.is_empty() {
+        return put_joined(text, ip6);
+    }
+    put_joined(text, routes.ip4.as_slice())?;
+    put_further(text, ip6)
+}
+
+/// Adds the routes of an UPDATE that is treated as a withdrawal. They are made for it: such an UPDATE is rare.
+#[tactic(auto, unfolding(crate::specs::JsonUpdate::routes_json))]
+pub(crate) fn put_routes_member(
+    alloc: Global,
+    text: &mut String,
+    view: &UpdateView<'_>,
+) -> Result<(), AllocError>
+    ensures { OnOk result (string_bytes text.new ≡ string_bytes text.old ++ member (codes "routes") routes_json (routes_value view.now)) }
+{
+    let routes = view.routes(alloc)?;
+    put_name(text, "routes")?;
+    text.push_str("[")?;
+    put_joined_routes(text, &routes)?;
+    text.push_str("]")
+}
