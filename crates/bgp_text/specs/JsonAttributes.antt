@@ -1,5 +1,5 @@
 -- Attributes other than those that carry routes as JSON.
-use Rattle.std.specs.Prelude.{ℕ, ◌/◌, ◌%◌, Bool, true, false, List, [], ◌∷◌, ◌++◌, slice_index, codes}
+use Rattle.std.specs.Prelude.{ℕ, ◌/◌, ◌%◌, Bool, true, false, List, [], ◌++◌, slice_index, codes}
 use Rattle.std.specs.Fmt.{decimal}
 use Rattle.bgp_attr.specs.declared.aggregator.Aggregator.{Aggregator}
 use Rattle.bgp_attr.specs.declared.communities.Communities.{Communities}
@@ -8,7 +8,7 @@ use Rattle.bgp_attr.specs.declared.opaque.Opaque.{Opaque}
 use Rattle.bgp_attr.specs.declared.origin.Origin.{Origin}
 use Rattle.bgp_update.specs.declared.attrs.Attrs.{Attrs}
 use Rattle.bgp_text.specs.AttributeLines.{origin_name}
-use Rattle.bgp_text.specs.Json.{quoted, octets_json, boolean, named, member, listed}
+use Rattle.bgp_text.specs.Json.{quoted, octets_json, boolean, member, listed}
 use Rattle.bgp_text.specs.JsonAddress.{ip4_json}
 use Rattle.bgp_text.specs.JsonPath.{path_json}
 use Rattle.bgp_text.specs.Lines.{where_there}
