@@ -3,18 +3,15 @@ use Rattle.std.proofs.Common.{◌≡◌, ℕ, ◌≤◌, ◌⊎◌, Bool, true, 
 use Rattle.std.specs.Result.{IfOk}
 use Rattle.std.proofs.lemmas.Result.{IfOk-weaker, on_err_weaker}
 use Rattle.std.proofs.lemmas.List.{length-take, take-append-drop, append-nil}
-use Rattle.bgp_frame.specs.declared.fault.HeadFault.{HeadFault}
-use Rattle.bgp_frame.specs.Head.{head_of}
-use Rattle.bgp_frame.specs.Frame.{Message, IsFrame, wanted, Waits}
+use Rattle.bgp_frame.specs.Frame.{Message, IsFrame, wanted}
 use Rattle.bgp_frame.specs.Takes.{Stops, Takes}
-use Rattle.bgp_frame.proofs.FrameLemmas.{head_of-append, Stops-wanted, wanted-append}
+use Rattle.bgp_frame.proofs.FrameLemmas.{Stops-wanted, wanted-append}
 use Rattle.bgp_open.specs.declared.context.Context.{Context}
 use Rattle.bgp_msg.specs.declared.outcome.Outcome.{Outcome}
-use Rattle.bgp_msg.specs.Outcome.{out_of, of_fault, is_reset}
+use Rattle.bgp_msg.specs.Outcome.{out_of, is_reset}
 use Rattle.bgp_msg.specs.OutcomeView.{has_lists}
 use Rattle.bgp_msg.proofs.Lists.{lists_have_kinds, lists_go_on}
-use Rattle.bgp_msg.specs.Decoder.{Decoding, FrontTakesMemory, CountsFed, holding, behind, IsFed, GivesMessage, GivesFault, IsNext, PullsNothing, PullsSome, PullsHeld, PullsFront, IsPulled, IsFedAndNext}
-use Rattle.bgp_msg.proofs.Decodings.{nothing_waits}
+use Rattle.bgp_msg.specs.Decoder.{Decoding, FrontTakesMemory, CountsFed, holding, behind, GivesMessage, GivesFault, IsNext, PullsNothing, PullsSome, PullsHeld, PullsFront, IsPulled, IsFedAndNext}
 use Rattle.bgp_msg.proofs.Nexts.{at_hand, message_next}
 
 module _ (piece : List ℕ) where

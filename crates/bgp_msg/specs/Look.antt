@@ -1,8 +1,7 @@
 -- What a look at a decoder and a piece finds.
-use Rattle.std.specs.Prelude.{ℕ, Bool, List, [], Option, None, Some}
+use Rattle.std.specs.Prelude.{ℕ, Bool, List, [], None, Some}
 use Rattle.bgp_msg.specs.declared.look.Look.{Look}
 use Rattle.bgp_msg.specs.declared.look.Look.TheVariants as look
-use Rattle.bgp_msg.specs.declared.outcome.Outcome.{Outcome}
 use Rattle.bgp_msg.specs.Outcome.{of_fault}
 use Rattle.bgp_msg.specs.OutcomeView.{outcome_value}
 use Rattle.bgp_msg.specs.Decoder.{Decoding, behind, IsFed, IsPulled}

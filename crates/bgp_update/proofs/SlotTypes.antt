@@ -1,5 +1,5 @@
 -- Which types a walk over the attributes has to look at.
-use Rattle.std.proofs.Common.{◌≡◌, ℕ, ◌<◌, Bool, false, not, eqb, ltb, List, [], ◌∷◌, length, take, ap, refl, ◌∙◌, arith}
+use Rattle.std.proofs.Common.{◌≡◌, ℕ, ◌<◌, false, not, eqb, ltb, List, [], ◌∷◌, length, take, ap, refl, ◌∙◌, arith}
 use Rattle.std.specs.List.{flat_map, filter, list_any}
 use Rattle.std.proofs.lemmas.Bool.{ltb-true, ltb-false, ne_eqb, not-false}
 use Rattle.bgp_attr.specs.declared.attr.Attr.TheVariants as attr
@@ -38,16 +38,35 @@ are-common = refl
 unrecognised-above : (k : ℕ) → 40 < k → is_recognised k ≡ false
 unrecognised-above k high =
     let other : (j : ℕ) → j < 41 → eqb k j ≡ false = λ j low. ne_eqb k j (λ (e : k ≡ j). absurd (omega (arith, high, low))) in
-    all-none (λ (j : ℕ). eqb k j) (1 ∷ 2 ∷ 3 ∷ 4 ∷ 5 ∷ 6 ∷ 7 ∷ 8 ∷ 14 ∷ 15 ∷ 17 ∷ 18 ∷ 32 ∷ [])
-    (other 1 (omega arith), (other 2 (omega arith), (other 3 (omega arith), (other 4 (omega arith), (other 5 (omega arith), (other 6 (omega arith), (other 7 (omega arith),
-    (other 8 (omega arith), (other 14 (omega arith), (other 15 (omega arith), (other 17 (omega arith), (other 18 (omega arith), (other 32 (omega arith), tt)))))))))))))
+    all-none (λ (j : ℕ). eqb k j) (1 ∷ 2 ∷ 3 ∷ 4 ∷ 5 ∷ 6 ∷ 7 ∷ 8 ∷ 14 ∷ 15 ∷ 17 ∷ 18 ∷ 32 ∷ []) (
+      other 1 (omega arith),
+      (
+        other 2 (omega arith),
+        (
+          other 3 (omega arith),
+          (
+            other 4 (omega arith),
+            (
+              other 5 (omega arith),
+              (
+                other 6 (omega arith),
+                (
+                  other 7 (omega arith),
+                  (other 8 (omega arith), (other 14 (omega arith), (other 15 (omega arith), (other 17 (omega arith), (other 18 (omega arith), (other 32 (omega arith), tt)))))),
+                ),
+              ),
+            ),
+          ),
+        ),
+      ),
+    )
 
 module _ (a : Attrs) (low : list_any (λ o. ltb 40 o.kind) a.others ≡ false) where
   none-above : (k : ℕ) → 40 < k → slot a k ≡ []
   none-above k high =
       let differ = all-more (λ (o : Opaque). ltb 40 o.kind ≡ false) (λ (o : Opaque). eqb o.kind k ≡ false) a.others
-          (λ (o : Opaque) (e : ltb 40 o.kind ≡ false). ne_eqb o.kind k (λ (same : o.kind ≡ k). absurd (omega (arith, ltb-false 40 o.kind e, high, same))))
-          (none-all (λ (o : Opaque). ltb 40 o.kind) a.others low) in
+      (λ (o : Opaque) (e : ltb 40 o.kind ≡ false). ne_eqb o.kind k (λ (same : o.kind ≡ k). absurd (omega (arith, ltb-false 40 o.kind e, high, same))))
+      (none-all (λ (o : Opaque). ltb 40 o.kind) a.others low) in
       slot-other a k (unrecognised-above k high)
       ∙ ap (present (λ (o : Opaque). attr.Opaque o)) (find-none (λ (o : Opaque). eqb o.kind k) a.others (all-none (λ (o : Opaque). eqb o.kind k) a.others differ))
 

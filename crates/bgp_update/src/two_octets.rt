@@ -69,10 +69,7 @@ fn is_wide_path(path: &AsPath) -> bool
 /// # Errors
 /// `AllocError` where an allocation failed: nothing has changed then.
 #[tactic(auto, using(crate::proofs::Narrowing::path_same))]
-fn split_path(
-    alloc: Global,
-    path: &mut Option<AsPath>,
-) -> Result<Option<As4Path>, AllocError>
+fn split_path(alloc: Global, path: &mut Option<AsPath>) -> Result<Option<As4Path>, AllocError>
     ensures wide { IfOk result (λ wide. wide ≡ wide_path path.old) }
     ensures narrow { OnOk result (path.new ≡ option_map narrow_path path.old) }
     ensures err { OnErr result (path.new ≡ path.old) }

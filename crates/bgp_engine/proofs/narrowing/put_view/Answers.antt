@@ -17,6 +17,6 @@ returns c =
     let owned = c.in_ok-update.update in
     let told : Update = record { withdrawn = owned.withdrawn; attrs = c.narrow_in_place.new.attrs; nlri = owned.nlri } in
     let same : told ≡ narrowed_update (update_value c.args.view.now) =
-        ap (λ (a : Attrs). record { withdrawn = owned.withdrawn; attrs = a; nlri = owned.nlri }) c.in_ok-narrow_in_place.ensures.ok ∙ ap narrowed_update c.in_ok-update.ensures in
+    ap (λ (a : Attrs). record { withdrawn = owned.withdrawn; attrs = a; nlri = owned.nlri }) c.in_ok-narrow_in_place.ensures.ok ∙ ap narrowed_update c.in_ok-update.ensures in
     subst (λ (u : Update). IfOk c.put_written.result (λ class. WritesNarrow old new (written_in (with_as4 false c.args.ctx.now) (message.Update u)) class)) same
     (subst (λ (x : Context). IfOk c.put_written.result (λ class. WritesNarrow old new (written_in x (message.Update told)) class)) c.two_octets-narrow_ctx.ensures c.put_written.ensures)
