@@ -9,6 +9,7 @@ use Rattle.bgp_engine.specs.declared.tally.Tally.{Tally}
 use Rattle.bgp_engine.specs.Run as engine
 use Rattle.bgp_engine.specs.Run.{Io}
 use Rattle.bgp_engine.specs.Show.{Shown}
+use Rattle.bgp_engine.specs.ShowJson.{ShownJson}
 use Rattle.bgp_engine.specs.Check.{Checked}
 use Rattle.bgp_engine.specs.ToHex.{Hexed}
 use Rattle.bgp_engine.specs.FromHex.{Copied}
@@ -26,7 +27,8 @@ pub record RunsScript (io : Io) (outcome : Result Tally ToolFault) : Type 0 wher
 
 -- the engine of a request ran, with this outcome: which one, and whether it read hexadecimal text
 abbrev pub Runs : Request → Io → Result Tally ToolFault → Type 0
-Runs (Show ctx hex) io outcome = engine.Answers (Shown ctx) hex io outcome
+Runs (Show ctx hex false) io outcome = engine.Answers (Shown ctx) hex io outcome
+Runs (Show ctx hex true) io outcome = engine.Answers (ShownJson ctx) hex io outcome
 Runs (Check ctx hex) io outcome = engine.Answers (Checked ctx) hex io outcome
 Runs (Narrow ctx) io outcome = engine.Answers (Narrowed ctx) false io outcome
 Runs ToHex io outcome = engine.Answers Hexed false io outcome

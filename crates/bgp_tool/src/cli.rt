@@ -4,7 +4,9 @@ ghost use Rattle.std.specs.Prelude.{map};
 ghost use Rattle.clap.specs.Words.{kind_of};
 ghost use Rattle.bgp_tool.specs.Command.{Answers, HasRun, IsExplained, IsQuiet, IsWide, Runs};
 
-use bgp_engine::{Tally, ToolFault, check, from_hex, narrow_stream, show, status, to_hex};
+use bgp_engine::{
+    Tally, ToolFault, check, from_hex, narrow_stream, show, show_json, status, to_hex,
+};
 use bgp_loop::run_file;
 use bgp_words::{Asked, Request, parse};
 use clap::Error;
@@ -56,7 +58,8 @@ fn run<H: Files + Net, R: Read, W: Write>(
     ensures { Runs asked.entry.request (record { reader_old = R.remaining input.old; reader_new = R.remaining input.new; writer_old = W.contents output.old; writer_new = W.contents output.new }) result }
 {
     match asked.request {
-        Request::Show { ctx, hex } => show(alloc, &ctx, hex, input, output),
+        Request::Show { ctx, hex, json } if json => show_json(alloc, &ctx, hex, input, output),
+        Request::Show { ctx, hex, .. } => show(alloc, &ctx, hex, input, output),
         Request::Check { ctx, hex } => check(alloc, &ctx, hex, input, output),
         Request::Narrow { ctx } => narrow_stream(alloc, &ctx, input, output),
         Request::ToHex => to_hex(alloc, input, output),

@@ -5,7 +5,7 @@ mod cli;
 
 pub use bgp_engine::{
     End, Tally, ToolFault, check, check_within, from_hex, from_hex_within, narrow_stream,
-    narrow_within, show, show_within, status, to_hex, to_hex_within,
+    narrow_within, show, show_json, show_json_within, show_within, status, to_hex, to_hex_within,
 };
 pub use bgp_loop::{TcpWire, run_file, run_loop};
 pub use bgp_words::laws;

@@ -40,8 +40,12 @@ with_settings a = record a { top = record a.top { no_binary_name = true; subcomm
 abbrev pub bare_command : App
 bare_command = with_settings (new_app (codes "bgp"))
 
+-- what shows can do so in JSON
+abbrev pub show_command : App
+show_command = with_flag (with_judging (new_app (codes "show"))) (codes "json")
+
 abbrev pub judging_commands : App
-judging_commands = with_command (with_command bare_command (with_judging (new_app (codes "show")))) (with_judging (new_app (codes "check")))
+judging_commands = with_command (with_command bare_command show_command) (with_judging (new_app (codes "check")))
 
 -- the commands that read a stream
 abbrev pub stream_commands : App
@@ -74,7 +78,7 @@ judged_in rows = context_of (is_set (codes "as4") rows) rows
 -- what a command with these flags asks for
 abbrev pub request_by : Text → List Row → Request
 request_by name rows =
-    if bytes_eq name (codes "show") then Show (judged_in rows) (is_set (codes "hex") rows) else (
+    if bytes_eq name (codes "show") then Show (judged_in rows) (is_set (codes "hex") rows) (is_set (codes "json") rows) else (
     if bytes_eq name (codes "check") then Check (judged_in rows) (is_set (codes "hex") rows) else (
     if bytes_eq name (codes "narrow") then Narrow (context_of true rows) else (
     if bytes_eq name (codes "to-hex") then ToHex else (

@@ -156,7 +156,13 @@ fn judging<'a>(alloc: Global) -> Result<Command<'a>, AllocError>
         "Count what the messages come to",
         CHECK_HELP,
     );
-    let command = with_command(bare(alloc)?, with_judging(alloc, show)?)?;
+    let show = with_flag(
+        alloc,
+        with_judging(alloc, show)?,
+        "json",
+        "Print each message as an object of JSON",
+    )?;
+    let command = with_command(bare(alloc)?, show)?;
     with_command(command, with_judging(alloc, check)?)
 }
 

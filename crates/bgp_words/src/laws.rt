@@ -8,8 +8,9 @@ ghost use Rattle.bgp_words.specs.Laws.{CanBeDone, CanBeDoneWith, flags};
 
 /// What a user types for each command, without flags and with all of them.
 pub fn words_have_one_meaning()
-    ensures show { CanBeDone (codes "show" ∷ []) (Show (flags false false) false) }
-    ensures show_hex { CanBeDone (codes "show" ∷ codes "--hex" ∷ codes "--as4" ∷ codes "--ip4" ∷ codes "--ip6" ∷ codes "--internal" ∷ []) (Show (flags true true) true) }
+    ensures show { CanBeDone (codes "show" ∷ []) (Show (flags false false) false false) }
+    ensures show_hex { CanBeDone (codes "show" ∷ codes "--hex" ∷ codes "--as4" ∷ codes "--ip4" ∷ codes "--ip6" ∷ codes "--internal" ∷ []) (Show (flags true true) true false) }
+    ensures show_json { CanBeDone (codes "show" ∷ codes "--json" ∷ codes "--hex" ∷ []) (Show (flags false false) true true) }
     ensures check { CanBeDone (codes "check" ∷ []) (Check (flags false false) false) }
     ensures check_hex { CanBeDone (codes "check" ∷ codes "--internal" ∷ codes "--ip6" ∷ codes "--ip4" ∷ codes "--as4" ∷ codes "--hex" ∷ []) (Check (flags true true) true) }
     ensures narrow { CanBeDone (codes "narrow" ∷ []) (Narrow (flags true false)) }
@@ -26,5 +27,6 @@ pub fn words_can_be_wrong()
     ensures help { faults_of (codes "--help" ∷ []) ≡ error.DisplayHelp ∷ [] }
     ensures version { faults_of (codes "--version" ∷ []) ≡ error.DisplayVersion ∷ [] }
     ensures no_flag { faults_of (codes "narrow" ∷ codes "--hex" ∷ []) ≡ error.UnknownArgument ∷ [] }
+    ensures no_json { faults_of (codes "check" ∷ codes "--json" ∷ []) ≡ error.UnknownArgument ∷ [] }
     ensures no_file { faults_of (codes "loop" ∷ []) ≡ error.MissingRequiredArgument ∷ [] }
 {}

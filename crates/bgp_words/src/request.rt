@@ -12,8 +12,9 @@ use std::alloc::Global;
 /// What the words ask for.
 #[derive(Clone, Copy)]
 pub enum Request {
-    /// `show`, in the context that the flags make, of octets or, where `hex` is set, of hexadecimal text.
-    Show { ctx: Context, hex: bool },
+    /// `show`, in the context that the flags make, of octets or, where `hex` is set, of hexadecimal text; in lines of text or, where `json` is
+    /// set, of JSON.
+    Show { ctx: Context, hex: bool, json: bool },
     /// `check`, with the context and the form of input as in `Show`.
     Check { ctx: Context, hex: bool },
     /// `narrow`, in the context that the flags make, with AS numbers of four octets.
@@ -74,6 +75,7 @@ fn asked_by(name: &str, flags: &ArgMatches<'_>) -> Request
         return Request::Show {
             ctx: judged_in(flags),
             hex: is_set(flags, "hex"),
+            json: is_set(flags, "json"),
         };
     }
     if name == "check" {

@@ -18,6 +18,10 @@ pub returns-clause-no_flag : goal.returns-clause-no_flag
 unfolding clap_on_literals
 returns-clause-no_flag c = refl
 
+pub returns-clause-no_json : goal.returns-clause-no_json
+unfolding clap_on_literals
+returns-clause-no_json c = refl
+
 pub returns-clause-no_file : goal.returns-clause-no_file
 unfolding clap_on_literals
 returns-clause-no_file c = refl

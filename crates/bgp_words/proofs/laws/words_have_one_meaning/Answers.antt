@@ -10,6 +10,10 @@ pub returns-clause-show_hex : goal.returns-clause-show_hex
 unfolding clap_on_literals
 returns-clause-show_hex c = record { without_fault = refl; asked = refl }
 
+pub returns-clause-show_json : goal.returns-clause-show_json
+unfolding clap_on_literals
+returns-clause-show_json c = record { without_fault = refl; asked = refl }
+
 pub returns-clause-check : goal.returns-clause-check
 unfolding clap_on_literals
 returns-clause-check c = record { without_fault = refl; asked = refl }
