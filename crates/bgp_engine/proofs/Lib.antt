@@ -7,3 +7,5 @@ pub mod Reading
 pub mod Walks
 pub mod Digits
 pub mod Narrows
+pub mod FirstOpens
+pub mod Openings

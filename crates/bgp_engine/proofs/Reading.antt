@@ -114,6 +114,17 @@ module _ (reports0 : Reports) (hex : Bool) (r0 w0 : Option (List ℕ)) where
       is_fault = (all_of a.report a.none, a.answers, all_read a.report a.reported);
     }
 
+    pub fails_no_open : ((q : Report) → reports [] q → IsAllRead hex text r q.end_of) → WritesAll reports told w w1 (Err fault.NoOpen) → Fails reports0 hex (io r w1) fault.NoOpen
+    fails_no_open all_read a = record {
+      text = text;
+      read = s.read;
+      report = behind (written ++ told) a.report;
+      reported = s.lifts a.report a.reported;
+      written = written ++ (told ++ a.report.last);
+      wrote = Appends-trans w0 w w1 written (told ++ a.report.last) s.wrote a.wrote;
+      is_fault = (all_of a.report a.none, a.answers, all_read a.report a.reported);
+    }
+
     pub fails_memory : WritesNone reports w w1 → Fails reports0 hex (io r w1) fault.Memory
     fails_memory a = record {
       text = text;
@@ -134,6 +145,7 @@ module _ (reports0 : Reports) (hex : Bool) (r0 w0 : Option (List ℕ)) where
     finished (Err (fault.Script n)) all_read a = absurd a
     finished (Err fault.Net) all_read a = absurd a
     finished (Err (fault.Narrow n)) all_read a = fails_narrow n all_read a
+    finished (Err fault.NoOpen) all_read a = fails_no_open all_read a
 
   -- nothing was read yet
   pub Reading-none : (going : Type 0) (reader : HexText) → going → Rests reports0 → reader.pending ≡ None → reader.seen ≡ 0 → Reading reports0 going r0 w0 reader 0
@@ -230,7 +242,7 @@ module _ (reports0 : Reports) (hex : Bool) (r0 w0 : Option (List ℕ)) where
           record {
             read = more_read;
             wrote = s.wrote;
-            lifts = λ q g. lifts m.octets m.takes.lines front.0 m.takes.goes_on m.takes.told (all_octets ∙ ap (λ (x : List ℕ). s.octets ++ x) front.1 ∙ sym (append_assoc s.octets m.octets front.0)) q (m.takes.stands.always front.0 q g);
+            lifts = λ q g. lifts m.octets m.takes.lines front.0 m.takes.goes_on m.takes.told (all_octets ∙ ap (λ (x : List ℕ). s.octets ++ x) front.1 ∙ sym (append_assoc s.octets m.octets front.0)) q (m.takes.stands.always [] front.0 q g);
           }
 
       pub bad_block : (n : ℕ) (e : End) → IsWaiting e → MeetsBad hex reader reader1 reports reports1 going1 told told1 block n → IsBadAt hex (s.text ++ block) r1 e n

@@ -135,6 +135,7 @@ some_end (Some e) is = (e, refl)
 closes_by : (reports : Reports) (t0 t1 : List ℕ) (answer : Result Tally ToolFault) → IsAnswer answer → ClosesBy reports t0 t1 answer → Closes reports t0 t1 answer
 closes_by reports t0 t1 (Ok tally) is c = c
 closes_by reports t0 t1 (Err (fault.Narrow n)) is c = c
+closes_by reports t0 t1 (Err fault.NoOpen) is c = absurd is
 closes_by reports t0 t1 (Err fault.Memory) is c = absurd is
 closes_by reports t0 t1 (Err fault.Read) is c = absurd is
 closes_by reports t0 t1 (Err fault.Write) is c = absurd is
@@ -412,7 +413,7 @@ module _ {Outcome : Type 0} where
           reported = subst (λ (o : Option End). reports_by o new.rules new.place new.tally (new.held ++ []) (closing new.rules new.place new.tally e)) (sym ended) refl;
           none = refl;
           over = λ r q. let is : r ≡ closing new.rules new.place new.tally e = subst (λ (o : Option End). reports_by o new.rules new.place new.tally (new.held ++ []) r) ended q in subst (λ (x : Report). IsOver x.end_of) (sym is) over;
-          always = λ later r q. same [] (new.held ++ later) r q;
+          always = λ later more r q. same later (new.held ++ more) r q;
         };
       }
 

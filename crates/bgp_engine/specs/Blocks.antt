@@ -80,3 +80,4 @@ Finished reports told old new (Err (fault.BadHex n)) = ⊥
 Finished reports told old new (Err (fault.Script n)) = ⊥
 Finished reports told old new (Err fault.Net) = ⊥
 Finished reports told old new (Err (fault.Narrow n)) = WritesAll reports told old new (Err (fault.Narrow n))
+Finished reports told old new (Err fault.NoOpen) = WritesAll reports told old new (Err fault.NoOpen)

@@ -24,7 +24,7 @@ pub record IsFinal (reports : Reports) : Type 0 where
   pub reported : reports [] report
   pub none : report.lines ≡ []
   pub over : (r : Report) → reports [] r → IsOver r.end_of
-  pub always : (later : List ℕ) (r : Report) → reports [] r → reports later r
+  pub always : (later more : List ℕ) (r : Report) → reports later r → reports more r
 
 abbrev pub Stands : Bool → Type 0 → Reports → Type 0
 Stands false going reports = going × Rests reports
@@ -58,3 +58,4 @@ Closes reports told_old told_new (Err (fault.BadHex n)) = ⊥
 Closes reports told_old told_new (Err (fault.Script n)) = ⊥
 Closes reports told_old told_new (Err fault.Net) = ⊥
 Closes reports told_old told_new (Err (fault.Narrow n)) = ClosesBy reports told_old told_new (Err (fault.Narrow n))
+Closes reports told_old told_new (Err fault.NoOpen) = ClosesBy reports told_old told_new (Err fault.NoOpen)

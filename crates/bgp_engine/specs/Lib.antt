@@ -18,3 +18,7 @@ pub mod ToHex
 pub mod FromHex
 pub mod Narrow
 pub mod PageSteps
+pub mod File
+pub mod Agree
+pub mod Opens
+pub mod Opening

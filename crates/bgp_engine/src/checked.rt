@@ -33,12 +33,13 @@ fn put_counts(text: &mut String, tally: &Tally) -> Result<(), AllocError>
 
 /// The counts alone.
 #[derive(Drop)]
-struct CheckPage {
-    ctx: Context,
-    text: String,
+pub(crate) struct CheckPage {
+    pub(crate) ctx: Context,
+    pub(crate) text: String,
 }
 
 impl Page for CheckPage {
+    ghost use Rattle.std.specs.Prelude.{true};
     ghost use Rattle.std.specs.String.{string_bytes};
     ghost use Rattle.bgp_msg.specs.declared.outcome.Outcome as outcomes;
     ghost use Rattle.bgp_engine.specs.Check.{check_rules};
@@ -48,6 +49,15 @@ impl Page for CheckPage {
     ghost rules = { λ page. check_rules page.ctx };
 
     ghost told = { λ page. string_bytes page.text };
+
+    ghost fits = { λ _. true };
+
+    ghost rules_in = { λ ctx. check_rules ctx };
+
+    fn agree(&mut self, ctx: &Context) -> bool {
+        self.ctx = *ctx;
+        true
+    }
 
     fn message(&mut self, _place: u64, frame: Frame<'_>) -> Result<Class, AllocError> {
         Ok(class_of(&view_frame(&self.ctx, frame)))

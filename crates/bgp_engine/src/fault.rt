@@ -24,6 +24,9 @@ pub enum ToolFault {
     /// The message, the faulty header or the incomplete message at this offset of the stream, counted from 0, can't be narrowed.
     #[error("cannot narrow at {0}")]
     Narrow(u64),
+    /// The first message of the stream, or of the other direction, is no OPEN that is taken, or what both agree on doesn't do.
+    #[error("no OPEN to agree with")]
+    NoOpen,
     /// This line of a script is the first at fault, counted from 1.
     #[error("script line {0}")]
     Script(u32),

@@ -12,6 +12,7 @@ use crate::page::Page;
 use crate::tally::Tally;
 use crate::walk::walk_stream;
 use bgp_frame::{Frame, HeadFault, head};
+use bgp_open::Context;
 use bgp_text::notification_text;
 use std::alloc::{AllocError, Global};
 use std::io::{Read, Write};
@@ -53,6 +54,7 @@ struct HexPage {
 }
 
 impl Page for HexPage {
+    ghost use Rattle.std.specs.Prelude.{true};
     ghost use Rattle.std.specs.String.{string_bytes};
     ghost use Rattle.bgp_engine.specs.ToHex.{Framed, hex_rules};
 
@@ -61,6 +63,14 @@ impl Page for HexPage {
     ghost rules = { λ _. hex_rules };
 
     ghost told = { λ page. string_bytes page.text };
+
+    ghost fits = { λ _. true };
+
+    ghost rules_in = { λ _. hex_rules };
+
+    fn agree(&mut self, _ctx: &Context) -> bool {
+        true
+    }
 
     fn message(&mut self, _place: u64, frame: Frame<'_>) -> Result<Class, AllocError> {
         put_message(self.alloc, &mut self.text, frame)?;

@@ -1,14 +1,18 @@
 //! The engines of the commands, each from a reader to a writer: what they print of a stream of BGP messages, and what they answer.
 #![tactic(auto)]
 
+mod agreeing;
 mod checked;
 mod class;
 mod copied;
 mod engine;
 mod fault;
+mod file;
 mod hex_text;
 mod hexed;
 mod narrowing;
+mod opening;
+mod opens;
 mod output;
 mod page;
 mod running;
@@ -23,6 +27,10 @@ pub use copied::{from_hex, from_hex_within};
 pub use fault::ToolFault;
 pub use hexed::{to_hex, to_hex_within};
 pub use narrowing::{narrow_stream, narrow_within};
+pub use opens::{
+    check_by_opens, check_by_opens_within, narrow_by_opens, narrow_by_opens_within, show_by_opens,
+    show_by_opens_within, show_json_by_opens, show_json_by_opens_within,
+};
 pub use output::put;
 pub use shown::{show, show_within};
 pub use shown_json::{show_json, show_json_within};

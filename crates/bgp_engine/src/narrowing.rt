@@ -102,10 +102,10 @@ fn put_told(
 
 /// The octets that are handed on, in a session with AS numbers of four octets.
 #[derive(Drop)]
-struct NarrowPage {
-    alloc: Global,
-    ctx: Context,
-    octets: Vec<u8>,
+pub(crate) struct NarrowPage {
+    pub(crate) alloc: Global,
+    pub(crate) ctx: Context,
+    pub(crate) octets: Vec<u8>,
     ghost wide: { ctx.as4 ≡ true },
 }
 
@@ -118,6 +118,18 @@ impl Page for NarrowPage {
     ghost rules = { λ page. narrow_rules page.ctx };
 
     ghost told = { λ page. page.octets.items };
+
+    ghost fits = { λ ctx. ctx.as4 };
+
+    ghost rules_in = { λ ctx. narrow_rules ctx };
+
+    fn agree(&mut self, ctx: &Context) -> bool {
+        if !ctx.as4 {
+            return false;
+        }
+        self.ctx = *ctx;
+        true
+    }
 
     fn message(&mut self, _place: u64, frame: Frame<'_>) -> Result<Class, AllocError> {
         put_told(self.alloc, &self.ctx, &mut self.octets, frame)

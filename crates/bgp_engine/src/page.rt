@@ -1,7 +1,8 @@
 //! What an engine writes of the messages of a stream.
 
-ghost use Rattle.std.specs.Prelude.{ℕ, List, ◌≡◌, ◌+◌, ◌++◌, [], length, IfOk, OnOk};
+ghost use Rattle.std.specs.Prelude.{ℕ, Bool, true, List, ◌≡◌, ◌+◌, ◌++◌, [], length, IfOk, OnOk};
 ghost use Rattle.bgp_frame.specs.Kind.{IsLength};
+ghost use Rattle.bgp_open.specs.declared.context.Context.{Context};
 ghost use Rattle.bgp_engine.specs.Rules.{Rules};
 ghost use Rattle.bgp_engine.specs.Pages.{Writes, WritesFault, IsAnswer};
 
@@ -9,11 +10,13 @@ use crate::class::Class;
 use crate::fault::ToolFault;
 use crate::tally::Tally;
 use bgp_frame::{Frame, HeadFault};
+use bgp_open::Context;
 use std::alloc::AllocError;
 
 /// Judges message by message, and collects what is written of each.
 pub(crate) trait Page {
-    ghost use Rattle.std.specs.Prelude.{ℕ, List};
+    ghost use Rattle.std.specs.Prelude.{ℕ, Bool, List};
+    ghost use Rattle.bgp_open.specs.declared.context.Context.{Context};
     ghost use Rattle.bgp_engine.specs.Rules.{Rules};
 
     /// The outcome of a message.
@@ -22,6 +25,16 @@ pub(crate) trait Page {
     ghost rules: { Self → Rules Outcome };
     /// What isn't written yet.
     ghost told: { Self → List ℕ };
+    /// Whether it can be written in a context.
+    ghost fits: { Context → Bool };
+    /// What it is written by in a context.
+    ghost rules_in: { Context → Rules Outcome };
+
+    /// Takes the context of the stream, before its first message. Answers whether the page can be written in it.
+    fn agree(&mut self, ctx: &Context) -> bool
+        ensures fits { result ≡ fits ctx.now }
+        ensures rules { result ≡ true → rules self.new ≡ rules_in ctx.now }
+        ensures told { told self.new ≡ told self.old };
 
     /// Judges a whole message at a place of the stream, and collects what is written of it.
     fn message(&mut self, place: u64, frame: Frame<'_>) -> Result<Class, AllocError>

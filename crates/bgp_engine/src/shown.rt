@@ -39,13 +39,14 @@ fn put_frame(
 
 /// The lines of each message.
 #[derive(Drop)]
-struct ShowPage {
-    alloc: Global,
-    ctx: Context,
-    text: String,
+pub(crate) struct ShowPage {
+    pub(crate) alloc: Global,
+    pub(crate) ctx: Context,
+    pub(crate) text: String,
 }
 
 impl Page for ShowPage {
+    ghost use Rattle.std.specs.Prelude.{true};
     ghost use Rattle.std.specs.String.{string_bytes};
     ghost use Rattle.bgp_msg.specs.declared.outcome.Outcome as outcomes;
     ghost use Rattle.bgp_engine.specs.Show.{show_rules};
@@ -55,6 +56,15 @@ impl Page for ShowPage {
     ghost rules = { λ page. show_rules page.ctx };
 
     ghost told = { λ page. string_bytes page.text };
+
+    ghost fits = { λ _. true };
+
+    ghost rules_in = { λ ctx. show_rules ctx };
+
+    fn agree(&mut self, ctx: &Context) -> bool {
+        self.ctx = *ctx;
+        true
+    }
 
     fn message(&mut self, place: u64, frame: Frame<'_>) -> Result<Class, AllocError> {
         put_frame(self.alloc, &self.ctx, &mut self.text, place, frame)

@@ -57,13 +57,14 @@ fn put_fault(
 
 /// The line of each message.
 #[derive(Drop)]
-struct JsonPage {
-    alloc: Global,
-    ctx: Context,
-    text: String,
+pub(crate) struct JsonPage {
+    pub(crate) alloc: Global,
+    pub(crate) ctx: Context,
+    pub(crate) text: String,
 }
 
 impl Page for JsonPage {
+    ghost use Rattle.std.specs.Prelude.{true};
     ghost use Rattle.std.specs.String.{string_bytes};
     ghost use Rattle.bgp_msg.specs.declared.outcome.Outcome as outcomes;
     ghost use Rattle.bgp_engine.specs.ShowJson.{json_rules};
@@ -73,6 +74,15 @@ impl Page for JsonPage {
     ghost rules = { λ page. json_rules page.ctx };
 
     ghost told = { λ page. string_bytes page.text };
+
+    ghost fits = { λ _. true };
+
+    ghost rules_in = { λ ctx. json_rules ctx };
+
+    fn agree(&mut self, ctx: &Context) -> bool {
+        self.ctx = *ctx;
+        true
+    }
 
     fn message(&mut self, place: u64, frame: Frame<'_>) -> Result<Class, AllocError> {
         put_frame(self.alloc, &self.ctx, &mut self.text, place, frame)

@@ -1,0 +1,18 @@
+use Rattle.std.proofs.Common.{ℕ, ◌≤◌, length, subst}
+use Rattle.bgp_engine.specs.declared.opening.Stage.{Stage}
+use Rattle.bgp_engine.specs.Opening.{GoesAt, opening, room_at, terms_of}
+use Rattle.bgp_engine.specs.Walking.{walking}
+use Rattle.bgp_engine.proofs.Openings.{first_fits}
+use Rattle.bgp_engine.proofs.opening.OpeningEngine.take.Goals as goal
+
+pub take_first-requires-clause-room : goal.take_first-requires-clause-room
+take_first-requires-clause-room g c =
+    let self = c.args.self.now in
+    let a = self.walk in
+    let t = terms_of g.P.Page.fits g.P.Page.rules_in self.theirs.now in
+    let w = walking (g.P.Page.rules a.page) a.framer a.place a.tally a.ended in
+    let first = subst (λ (s : Stage). GoesAt s (opening t s self.framer w)) c.in-First.is c.requires.going in
+    first_fits self.framer (length c.args.octets.now) first.waits (subst (λ (s : Stage). length c.args.octets.now ≤ room_at s (opening t s self.framer w)) c.in-First.is c.requires.room)
+
+pub returns-in-Agreed-clause-takes : goal.returns-in-Agreed-clause-takes
+returns-in-Agreed-clause-takes g c = rw c.in-Agreed.is c.take.ensures.takes

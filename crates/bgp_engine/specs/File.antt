@@ -1,0 +1,39 @@
+-- The OPEN that octets begin with. An OPEN is judged alike in every context.
+use Rattle.std.specs.Prelude.{ℕ, Bool, nat_lt, List, length, drop, take, Option, None, Some, option_map, Result, Ok, Err, if◌then◌else◌}
+use Rattle.std.specs.Result.{result_ok}
+use Rattle.bgp_frame.specs.declared.kind.Kind.{Kind}
+use Rattle.bgp_frame.specs.declared.kind.Kind.TheVariants as kind
+use Rattle.bgp_frame.specs.Frame.{Message, wanted}
+use Rattle.bgp_frame.specs.Head.{head_of}
+use Rattle.bgp_open.specs.declared.fault.OpenFault.{OpenFault}
+use Rattle.bgp_open.specs.declared.message.Open.{Open}
+use Rattle.bgp_open.specs.OpenFault.{reading_of}
+
+-- the first message isn't whole
+abbrev pub is_part : List ℕ → Bool
+is_part octets = nat_lt (length octets) (wanted octets)
+
+-- the first message, where it is whole and its header has no fault
+abbrev pub first_message : List ℕ → Option Message
+first_message octets =
+    if is_part octets then None else
+    option_map (λ head. record { kind = head.kind; body = drop 19 (take head.len octets) }) (result_ok (head_of octets))
+
+abbrev pub open_by : Result Open OpenFault → Option Open
+open_by (Ok o) = Some o
+open_by (Err fault) = None
+
+-- a message of this kind and body is an OPEN that is taken
+abbrev pub open_in : Kind → List ℕ → Option Open
+open_in kind.Open body = open_by (reading_of body)
+open_in kind.Update body = None
+open_in kind.Notification body = None
+open_in kind.Keepalive body = None
+
+abbrev pub open_at : Option Message → Option Open
+open_at None = None
+open_at (Some m) = open_in m.kind m.body
+
+-- the first message, where it is an OPEN that is taken
+abbrev pub first_open : List ℕ → Option Open
+first_open octets = open_at (first_message octets)

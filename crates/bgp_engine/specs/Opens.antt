@@ -1,0 +1,52 @@
+-- What an engine makes of a stream in the context that its first OPEN and that of the other direction agree on.
+use Rattle.std.specs.Prelude.{◌≡◌, ℕ, Bool, true, List, [], length, Option, None, Some, Err, if◌then◌else◌}
+use Rattle.bgp_frame.specs.declared.end.End.{End}
+use Rattle.bgp_frame.specs.declared.end.End.TheVariants as end
+use Rattle.bgp_open.specs.declared.context.Context.{Context}
+use Rattle.bgp_engine.specs.declared.fault.ToolFault.TheVariants.{NoOpen}
+use Rattle.bgp_engine.specs.Agree.{agreed}
+use Rattle.bgp_engine.specs.Check.{Checked}
+use Rattle.bgp_engine.specs.File.{first_open, is_part}
+use Rattle.bgp_engine.specs.Narrow.{Narrowed}
+use Rattle.bgp_engine.specs.Report.{Report}
+use Rattle.bgp_engine.specs.Run.{Reports}
+use Rattle.bgp_engine.specs.Show.{Shown}
+use Rattle.bgp_engine.specs.ShowJson.{ShownJson}
+
+-- nothing is written where there is no context
+abbrev pub unagreed : End → Report
+unagreed e = record { lines = []; last = []; end_of = e; answer = Err NoOpen }
+
+-- the octets of the first message wait, or it is there, and whatever follows it isn't read
+abbrev pub unagreed_end : List ℕ → End
+unagreed_end stream = if is_part stream then end.Wait (length stream) else end.Reset
+
+abbrev pub ReportedIn : Option Context → (Context → Reports) → List ℕ → Report → Type 0
+ReportedIn (Some ctx) reports stream r = reports ctx stream r
+ReportedIn None reports stream r = r ≡ unagreed (unagreed_end stream)
+
+-- the context that a stream and the octets of the other direction agree on
+abbrev pub context_by : List ℕ → List ℕ → Option Context
+context_by theirs stream = agreed (first_open stream) (first_open theirs)
+
+-- a context, where it will do
+abbrev pub fit_of : (Context → Bool) → Option Context → Option Context
+fit_of fits None = None
+fit_of fits (Some ctx) = if fits ctx then Some ctx else None
+
+-- what a stream comes to in the context that it and the octets of the other direction agree on, where that will do
+abbrev pub ReportedBy : (Context → Bool) → List ℕ → (Context → Reports) → Reports
+ReportedBy fits theirs reports stream r = ReportedIn (fit_of fits (context_by theirs stream)) reports stream r
+
+abbrev pub ShownBy : List ℕ → Reports
+ShownBy theirs = ReportedBy (λ ctx. true) theirs Shown
+
+abbrev pub ShownJsonBy : List ℕ → Reports
+ShownJsonBy theirs = ReportedBy (λ ctx. true) theirs ShownJson
+
+abbrev pub CheckedBy : List ℕ → Reports
+CheckedBy theirs = ReportedBy (λ ctx. true) theirs Checked
+
+-- what is narrowed has AS numbers of four octets
+abbrev pub NarrowedBy : List ℕ → Reports
+NarrowedBy theirs = ReportedBy (λ ctx. ctx.as4) theirs Narrowed

@@ -1,0 +1,176 @@
+//! The engines that judge a stream in the context that its own OPEN and that of the other direction agree on.
+
+ghost use Rattle.std.specs.Prelude.{◌≡◌, true, false};
+ghost use Rattle.bgp_engine.specs.Opens.{CheckedBy, NarrowedBy, ShownBy, ShownJsonBy};
+ghost use Rattle.bgp_engine.specs.Run.{Answers};
+
+use crate::checked::CheckPage;
+use crate::fault::ToolFault;
+use crate::narrowing::NarrowPage;
+use crate::opening::open_stream;
+use crate::shown::ShowPage;
+use crate::shown_json::JsonPage;
+use crate::tally::Tally;
+use bgp_open::Context;
+use std::alloc::Global;
+use std::io::{Read, Write};
+
+/// What a page has for a context before one is agreed on: nothing is judged in it.
+const UNKNOWN: Context = Context {
+    internal: false,
+    as4: true,
+    ip4: false,
+    ip6: false,
+    hold: 0,
+};
+
+/// [`show`](crate::show) in the context that the stream's first OPEN and that of the other direction agree on, of which `theirs` has the
+/// octets, from its first one on: the first message is enough.
+///
+/// # Errors
+/// As `show`; `NoOpen` where the first message of the stream, or of `theirs`, is no OPEN that is taken, or isn't whole: nothing is written
+/// then. The stream's first message is read before that is told.
+pub fn show_by_opens<R: Read, W: Write>(
+    alloc: Global,
+    theirs: &[u8],
+    hex: bool,
+    input: &mut R,
+    output: &mut W,
+) -> Result<Tally, ToolFault>
+    ensures { Answers (ShownBy theirs.now) hex (record { reader_old = R.remaining input.old; reader_new = R.remaining input.new; writer_old = W.contents output.old; writer_new = W.contents output.new }) result }
+{
+    show_by_opens_within(alloc, u32::MAX, theirs, hex, input, output)
+}
+
+/// [`show_by_opens`], with a reader that is asked at most so many times.
+///
+/// # Errors
+/// As `show_by_opens`; `Read` too where the reader was asked that often and hadn't ended.
+pub fn show_by_opens_within<R: Read, W: Write>(
+    alloc: Global,
+    turns: u32,
+    theirs: &[u8],
+    hex: bool,
+    input: &mut R,
+    output: &mut W,
+) -> Result<Tally, ToolFault>
+    ensures { Answers (ShownBy theirs.now) hex (record { reader_old = R.remaining input.old; reader_new = R.remaining input.new; writer_old = W.contents output.old; writer_new = W.contents output.new }) result }
+{
+    let page = ShowPage {
+        alloc,
+        ctx: UNKNOWN,
+        text: String::new(alloc),
+    };
+    open_stream(alloc, turns, theirs, hex, page, input, output)
+}
+
+/// [`show_json`](crate::show_json) in the context that both OPENs agree on, as in [`show_by_opens`].
+///
+/// # Errors
+/// As `show_by_opens`.
+pub fn show_json_by_opens<R: Read, W: Write>(
+    alloc: Global,
+    theirs: &[u8],
+    hex: bool,
+    input: &mut R,
+    output: &mut W,
+) -> Result<Tally, ToolFault>
+    ensures { Answers (ShownJsonBy theirs.now) hex (record { reader_old = R.remaining input.old; reader_new = R.remaining input.new; writer_old = W.contents output.old; writer_new = W.contents output.new }) result }
+{
+    show_json_by_opens_within(alloc, u32::MAX, theirs, hex, input, output)
+}
+
+/// [`show_json_by_opens`], with a reader that is asked at most so many times.
+///
+/// # Errors
+/// As `show_json_by_opens`; `Read` too where the reader was asked that often and hadn't ended.
+pub fn show_json_by_opens_within<R: Read, W: Write>(
+    alloc: Global,
+    turns: u32,
+    theirs: &[u8],
+    hex: bool,
+    input: &mut R,
+    output: &mut W,
+) -> Result<Tally, ToolFault>
+    ensures { Answers (ShownJsonBy theirs.now) hex (record { reader_old = R.remaining input.old; reader_new = R.remaining input.new; writer_old = W.contents output.old; writer_new = W.contents output.new }) result }
+{
+    let page = JsonPage {
+        alloc,
+        ctx: UNKNOWN,
+        text: String::new(alloc),
+    };
+    open_stream(alloc, turns, theirs, hex, page, input, output)
+}
+
+/// [`check`](crate::check) in the context that both OPENs agree on, as in [`show_by_opens`].
+///
+/// # Errors
+/// As `show_by_opens`.
+pub fn check_by_opens<R: Read, W: Write>(
+    alloc: Global,
+    theirs: &[u8],
+    hex: bool,
+    input: &mut R,
+    output: &mut W,
+) -> Result<Tally, ToolFault>
+    ensures { Answers (CheckedBy theirs.now) hex (record { reader_old = R.remaining input.old; reader_new = R.remaining input.new; writer_old = W.contents output.old; writer_new = W.contents output.new }) result }
+{
+    check_by_opens_within(alloc, u32::MAX, theirs, hex, input, output)
+}
+
+/// [`check_by_opens`], with a reader that is asked at most so many times.
+///
+/// # Errors
+/// As `check_by_opens`; `Read` too where the reader was asked that often and hadn't ended.
+pub fn check_by_opens_within<R: Read, W: Write>(
+    alloc: Global,
+    turns: u32,
+    theirs: &[u8],
+    hex: bool,
+    input: &mut R,
+    output: &mut W,
+) -> Result<Tally, ToolFault>
+    ensures { Answers (CheckedBy theirs.now) hex (record { reader_old = R.remaining input.old; reader_new = R.remaining input.new; writer_old = W.contents output.old; writer_new = W.contents output.new }) result }
+{
+    let page = CheckPage {
+        ctx: UNKNOWN,
+        text: String::new(alloc),
+    };
+    open_stream(alloc, turns, theirs, hex, page, input, output)
+}
+
+/// [`narrow_stream`](crate::narrow_stream) in the context that both OPENs agree on, as in [`show_by_opens`]: with AS numbers of four octets.
+///
+/// # Errors
+/// As `narrow_stream`; `NoOpen` as in `show_by_opens`, and where they don't agree on AS numbers of four octets.
+pub fn narrow_by_opens<R: Read, W: Write>(
+    alloc: Global,
+    theirs: &[u8],
+    input: &mut R,
+    output: &mut W,
+) -> Result<Tally, ToolFault>
+    ensures { Answers (NarrowedBy theirs.now) false (record { reader_old = R.remaining input.old; reader_new = R.remaining input.new; writer_old = W.contents output.old; writer_new = W.contents output.new }) result }
+{
+    narrow_by_opens_within(alloc, u32::MAX, theirs, input, output)
+}
+
+/// [`narrow_by_opens`], with a reader that is asked at most so many times.
+///
+/// # Errors
+/// As `narrow_by_opens`; `Read` too where the reader was asked that often and hadn't ended.
+pub fn narrow_by_opens_within<R: Read, W: Write>(
+    alloc: Global,
+    turns: u32,
+    theirs: &[u8],
+    input: &mut R,
+    output: &mut W,
+) -> Result<Tally, ToolFault>
+    ensures { Answers (NarrowedBy theirs.now) false (record { reader_old = R.remaining input.old; reader_new = R.remaining input.new; writer_old = W.contents output.old; writer_new = W.contents output.new }) result }
+{
+    let page = NarrowPage {
+        alloc,
+        ctx: UNKNOWN,
+        octets: Vec::new(alloc),
+    };
+    open_stream(alloc, turns, theirs, false, page, input, output)
+}
