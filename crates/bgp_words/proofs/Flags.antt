@@ -1,21 +1,22 @@
 -- What a parse found of a command and its flags.
-use Rattle.std.proofs.Common.{◌≡◌, List, Option, None, Some, option_map, codes, refl, sym, ap}
-use Rattle.clap.specs.Words.{Row, Text, found_of, rows_of, first_value, subcommand_name_of, subcommand_rows, subcommand_rows_of}
+use Rattle.std.proofs.Common.{◌≡◌, List, [], ◌∷◌, Option, None, Some, Result, option_map, refl, sym, subst, inl, inr}
+use Rattle.clap.specs.Words.{FailsBy, HasKind, Kinds, Row, Text, subcommand_name_of, subcommand_rows, subcommand_rows_of}
 use Rattle.std.proofs.Common.{Box, Global}
 use Rattle.std.specs.Box.{box_value}
 use Rattle.clap.specs.declared.parser.matches.ArgMatches.{ArgMatches}
 use Rattle.clap.specs.declared.parser.matches.ArgMatches.TheViews.{out-ArgMatches, out-SubCommand}
 use Rattle.clap.specs.declared.parser.matches.SubCommand.{SubCommand}
-use Rattle.clap.proofs.WalkLemmas.{first_value-rows}
-use Rattle.bgp_words.specs.CommandLine.{is_true, is_set, text_or_empty, file_in}
+use Rattle.clap.specs.declared.error.Error.{Error}
+use Rattle.bgp_words.specs.CommandLine.{first_kinds}
 
--- a flag's value, by the rows
-pub is_set-rows : (m : ArgMatches) (name : Text) → is_true (first_value (found_of m) name) ≡ is_set name (rows_of (found_of m))
-is_set-rows m name = ap is_true (first_value-rows (found_of m) name)
+-- what was found to be wrong behind a parse without an error
+pub fails_behind : {T : Type 0} (r : Result T Error) (kinds later : Kinds) → kinds ≡ [] → FailsBy later r → FailsBy (first_kinds kinds later) r
+fails_behind r kinds later none f = subst (λ (k : Kinds). FailsBy (first_kinds k later) r) (sym none) f
 
--- the file, by the rows
-pub file_in-rows : (m : ArgMatches) → text_or_empty (first_value (found_of m) (codes "SCRIPT")) ≡ file_in (rows_of (found_of m))
-file_in-rows m = ap text_or_empty (first_value-rows (found_of m) (codes "SCRIPT"))
+pub has_kind-first : (kinds later : Kinds) (e : Error) → HasKind kinds e → HasKind (first_kinds kinds later) e
+has_kind-first [] later e (inl memory) = inl memory
+has_kind-first [] later e (inr is) = absurd is
+has_kind-first (kind ∷ kinds) later e h = h
 
 -- a command is found with its name and its rows
 pub found_both : (o : Option (Text × List Row)) (name : Text) (rows : List Row) → Some name ≡ option_map (λ p. p.0) o → Some rows ≡ option_map (λ p. p.1) o → o ≡ Some (name, rows)

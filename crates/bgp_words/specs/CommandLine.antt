@@ -1,11 +1,14 @@
 -- What the words of a command line ask for, in the words of `clap`, which parses them.
-use Rattle.std.specs.Prelude.{◌≡◌, Bool, true, false, List, [], codes, Option, None, Some, option_map, if◌then◌else◌}
+use Rattle.std.specs.Prelude.{◌≡◌, Bool, true, false, ◌&&◌, ◌||◌, List, [], ◌∷◌, codes, Option, None, Some, is_some, option_map, if◌then◌else◌}
 use Rattle.std.specs.Str.{bytes_eq}
 use Rattle.clap.specs.Words.{App, Kinds, Row, Rule, Text, fault_of, first_of, new_app, new_rule, subcommand_of, with_rule, with_subcommand}
 use Rattle.clap.specs.declared.builder.action.ArgAction.TheVariants.{SetTrue}
+use Rattle.clap.specs.declared.error.kind.ErrorKind.TheVariants as error
 use Rattle.bgp_open.specs.declared.context.Context.{Context}
 use Rattle.bgp_words.specs.declared.request.Request.{Request}
 use Rattle.bgp_words.specs.declared.request.Request.TheVariants.{Show, Check, Narrow, ToHex, FromHex, Loop}
+use Rattle.bgp_words.specs.declared.request.Session.{Session}
+use Rattle.bgp_words.specs.declared.request.Session.TheVariants.{Flags, Opens}
 
 -- ---- the command line: six commands, four of them with flags
 
@@ -15,9 +18,17 @@ flag_rule name = record (new_rule name) { long = Some name; action = Some SetTru
 abbrev pub with_flag : App → Text → App
 with_flag a name = with_rule a (flag_rule name)
 
--- the flags of a session: the families in use, and whether it is internal
+-- the file with the octets of the other direction
+abbrev pub opens_rule : Rule
+opens_rule = record (new_rule (codes "opens")) { long = Some (codes "opens"); value_names = 1 }
+
+-- the families in use, and whether a session is internal
+abbrev pub with_families : App → App
+with_families a = with_flag (with_flag (with_flag a (codes "ip4")) (codes "ip6")) (codes "internal")
+
+-- that, or the file with the octets of the other direction
 abbrev pub with_session : App → App
-with_session a = with_flag (with_flag (with_flag a (codes "ip4")) (codes "ip6")) (codes "internal")
+with_session a = with_rule (with_families a) opens_rule
 
 -- the flags of a command that shows or checks
 abbrev pub with_judging : App → App
@@ -54,10 +65,6 @@ stream_commands = with_command (with_command (with_command judging_commands (wit
 abbrev pub bgp_command : App
 bgp_command = with_command stream_commands loop_command
 
--- the errors that words may meet, help that was asked for among them: none where they ask for something that can be done
-abbrev pub faults_of : List Text → Kinds
-faults_of words = fault_of bgp_command words
-
 -- ---- what is asked for
 
 -- a flag is set where its value is "true"
@@ -72,15 +79,23 @@ is_set name rows = is_true (first_of name rows)
 abbrev pub context_of : Bool → List Row → Context
 context_of as4 rows = record { internal = is_set (codes "internal") rows; as4 = as4; ip4 = is_set (codes "ip4") rows; ip6 = is_set (codes "ip6") rows; hold = 0 }
 
-abbrev pub judged_in : List Row → Context
-judged_in rows = context_of (is_set (codes "as4") rows) rows
+-- it is what the flags say, unless a file is named for it
+abbrev pub session_by : Option Text → Context → Session
+session_by None ctx = Flags ctx
+session_by (Some file) ctx = Opens
+
+abbrev pub session_of : Bool → List Row → Session
+session_of as4 rows = session_by (first_of (codes "opens") rows) (context_of as4 rows)
+
+abbrev pub judged_in : List Row → Session
+judged_in rows = session_of (is_set (codes "as4") rows) rows
 
 -- what a command with these flags asks for
 abbrev pub request_by : Text → List Row → Request
 request_by name rows =
     if bytes_eq name (codes "show") then Show (judged_in rows) (is_set (codes "hex") rows) (is_set (codes "json") rows) else (
     if bytes_eq name (codes "check") then Check (judged_in rows) (is_set (codes "hex") rows) else (
-    if bytes_eq name (codes "narrow") then Narrow (context_of true rows) else (
+    if bytes_eq name (codes "narrow") then Narrow (session_of true rows) else (
     if bytes_eq name (codes "to-hex") then ToHex else (
     if bytes_eq name (codes "from-hex") then FromHex else
     Loop (is_set (codes "tcp") rows)))))
@@ -90,8 +105,17 @@ abbrev pub text_or_empty : Option Text → Text
 text_or_empty None = []
 text_or_empty (Some text) = text
 
+-- the other direction's, or a script
+abbrev pub first_file : Option Text → Option Text → Option Text
+first_file None script = script
+first_file (Some file) script = Some file
+
 abbrev pub file_in : List Row → Text
-file_in rows = text_or_empty (first_of (codes "SCRIPT") rows)
+file_in rows = text_or_empty (first_file (first_of (codes "opens") rows) (first_of (codes "SCRIPT") rows))
+
+-- what a command with these flags asks for, and its file
+abbrev pub IsAsked : Text → List Row → Option (Request × Text) → Type 0
+IsAsked name rows asked = asked ≡ Some (request_by name rows, file_in rows)
 
 abbrev pub request_of : List Text → Option (Request × Text)
 request_of words = option_map (λ p. (request_by p.0 p.1, file_in p.1)) (subcommand_of bgp_command words)
@@ -100,3 +124,26 @@ request_of words = option_map (λ p. (request_by p.0 p.1, file_in p.1)) (subcomm
 abbrev pub Asks : List Text → Option (Request × Text) → Type 0
 Asks words None = ⊥
 Asks words (Some asked) = request_of words ≡ Some asked
+
+-- ---- the errors that words may meet
+
+-- one of the flags is set that both OPENs tell
+abbrev pub has_session_flag : List Row → Bool
+has_session_flag rows = is_set (codes "as4") rows || (is_set (codes "ip4") rows || (is_set (codes "ip6") rows || is_set (codes "internal") rows))
+
+-- what both OPENs tell isn't told by flags too
+abbrev pub conflict_in : List Row → Kinds
+conflict_in rows = if is_some (first_of (codes "opens") rows) && has_session_flag rows then error.ArgumentConflict ∷ [] else []
+
+abbrev pub conflict_of : Option (Text × List Row) → Kinds
+conflict_of None = []
+conflict_of (Some p) = conflict_in p.1
+
+-- those of a parse come first
+abbrev pub first_kinds : Kinds → Kinds → Kinds
+first_kinds [] later = later
+first_kinds (kind ∷ kinds) later = kind ∷ kinds
+
+-- the errors that words may meet, help that was asked for among them: none where they ask for something that can be done
+abbrev pub faults_of : List Text → Kinds
+faults_of words = first_kinds (fault_of bgp_command words) (conflict_of (subcommand_of bgp_command words))

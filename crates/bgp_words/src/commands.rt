@@ -1,9 +1,9 @@
 //! The commands of the program, with their flags and their help.
 
 ghost use Rattle.std.specs.Prelude.{◌≡◌, codes, false, IfOk};
-ghost use Rattle.clap.specs.Words.{app_of, rule_of, new_app};
+ghost use Rattle.clap.specs.Words.{app_of, rule_of, new_app, with_rule};
 ghost use Rattle.clap.specs.declared.builder.command.Command.TheViews.{out-Command};
-ghost use Rattle.bgp_words.specs.CommandLine.{flag_rule, with_flag, with_session, with_judging, with_command, bare_command, judging_commands, file_rule, loop_command, stream_commands, bgp_command};
+ghost use Rattle.bgp_words.specs.CommandLine.{flag_rule, with_flag, opens_rule, with_families, with_session, with_judging, show_command, with_command, bare_command, judging_commands, file_rule, loop_command, stream_commands, bgp_command};
 
 use crate::help::{
     CHECK_HELP, FROM_HEX_HELP, HELP, LOOP_HELP, NARROW_HELP, SHOW_HELP, TO_HEX_HELP,
@@ -35,9 +35,23 @@ fn with_flag<'a>(
     command.arg(flag(alloc, name, help))
 }
 
-// A command with the flags of a session.
-fn with_session<'a>(alloc: Global, command: Command<'a>) -> Result<Command<'a>, AllocError>
-    ensures shape { IfOk result (λ c. app_of c ≡ with_session (app_of command.entry)) }
+/// The flag that names the file with the octets of the other direction.
+pub(crate) const OPENS: &str = "opens";
+
+// The file with the octets of the other direction.
+fn opens<'a>(alloc: Global) -> Arg<'a>
+    ensures rule { rule_of result ≡ opens_rule }
+    ensures local { result.global ≡ false }
+{
+    Arg::new(alloc, OPENS)
+        .long(OPENS)
+        .value_name("FILE")
+        .help("Agree by both OPENs: FILE has the other direction's octets")
+}
+
+// A command with the flags that families and kind of a session have.
+fn with_families<'a>(alloc: Global, command: Command<'a>) -> Result<Command<'a>, AllocError>
+    ensures shape { IfOk result (λ c. app_of c ≡ with_families (app_of command.entry)) }
     ensures local { IfOk result (λ c. (out-Command c).has_globals ≡ (out-Command command.entry).has_globals) }
 {
     let command = with_flag(
@@ -53,6 +67,22 @@ fn with_session<'a>(alloc: Global, command: Command<'a>) -> Result<Command<'a>, 
         "IPv6 routes may stand in multiprotocol attributes",
     )?;
     with_flag(alloc, command, "internal", "Both speakers are of one AS")
+}
+
+// A command with the file of the other direction.
+fn with_opens<'a>(alloc: Global, command: Command<'a>) -> Result<Command<'a>, AllocError>
+    ensures shape { IfOk result (λ c. app_of c ≡ with_rule (app_of command.entry) opens_rule) }
+    ensures local { IfOk result (λ c. (out-Command c).has_globals ≡ (out-Command command.entry).has_globals) }
+{
+    command.arg(opens(alloc))
+}
+
+// A command with what tells of a session.
+fn with_session<'a>(alloc: Global, command: Command<'a>) -> Result<Command<'a>, AllocError>
+    ensures shape { IfOk result (λ c. app_of c ≡ with_session (app_of command.entry)) }
+    ensures local { IfOk result (λ c. (out-Command c).has_globals ≡ (out-Command command.entry).has_globals) }
+{
+    with_opens(alloc, with_families(alloc, command)?)
 }
 
 // A command with the flags of one that shows or checks.
@@ -145,30 +175,38 @@ fn with_command<'a>(command: Command<'a>, sub: Command<'a>) -> Result<Command<'a
     command.subcommand(sub)
 }
 
-// The commands that judge messages.
-fn judging<'a>(alloc: Global) -> Result<Command<'a>, AllocError>
-    ensures { IfOk result (λ c. app_of c ≡ judging_commands) }
+/// The command that shows.
+pub(crate) fn show<'a>(alloc: Global) -> Result<Command<'a>, AllocError>
+    ensures shape { IfOk result (λ c. app_of c ≡ show_command) }
+    ensures local { IfOk result (λ c. (out-Command c).has_globals ≡ false) }
 {
     let show = named(alloc, "show", "Print what each message comes to", SHOW_HELP);
+    with_flag(
+        alloc,
+        with_judging(alloc, show)?,
+        "json",
+        "Print each message as an object of JSON",
+    )
+}
+
+/// The command that checks.
+pub(crate) fn check<'a>(alloc: Global) -> Result<Command<'a>, AllocError>
+    ensures shape { IfOk result (λ c. app_of c ≡ with_judging (new_app (codes "check"))) }
+    ensures local { IfOk result (λ c. (out-Command c).has_globals ≡ false) }
+{
     let check = named(
         alloc,
         "check",
         "Count what the messages come to",
         CHECK_HELP,
     );
-    let show = with_flag(
-        alloc,
-        with_judging(alloc, show)?,
-        "json",
-        "Print each message as an object of JSON",
-    )?;
-    let command = with_command(bare(alloc)?, show)?;
-    with_command(command, with_judging(alloc, check)?)
+    with_judging(alloc, check)
 }
 
-// The commands that read a stream.
-fn streaming<'a>(alloc: Global) -> Result<Command<'a>, AllocError>
-    ensures { IfOk result (λ c. app_of c ≡ stream_commands) }
+/// The command that narrows.
+pub(crate) fn narrow<'a>(alloc: Global) -> Result<Command<'a>, AllocError>
+    ensures shape { IfOk result (λ c. app_of c ≡ with_session (new_app (codes "narrow"))) }
+    ensures local { IfOk result (λ c. (out-Command c).has_globals ≡ false) }
 {
     let narrow = named(
         alloc,
@@ -176,6 +214,21 @@ fn streaming<'a>(alloc: Global) -> Result<Command<'a>, AllocError>
         "Rewrite a session for a speaker with two octets for an AS number",
         NARROW_HELP,
     );
+    with_session(alloc, narrow)
+}
+
+// The commands that judge messages.
+fn judging<'a>(alloc: Global) -> Result<Command<'a>, AllocError>
+    ensures { IfOk result (λ c. app_of c ≡ judging_commands) }
+{
+    let command = with_command(bare(alloc)?, show(alloc)?)?;
+    with_command(command, check(alloc)?)
+}
+
+// The commands that read a stream.
+fn streaming<'a>(alloc: Global) -> Result<Command<'a>, AllocError>
+    ensures { IfOk result (λ c. app_of c ≡ stream_commands) }
+{
     let to_hex = named(
         alloc,
         "to-hex",
@@ -188,7 +241,7 @@ fn streaming<'a>(alloc: Global) -> Result<Command<'a>, AllocError>
         "Write the octets of hexadecimal text",
         FROM_HEX_HELP,
     );
-    let command = with_command(judging(alloc)?, with_session(alloc, narrow)?)?;
+    let command = with_command(judging(alloc)?, narrow(alloc)?)?;
     let command = with_command(command, to_hex)?;
     with_command(command, from_hex)
 }

@@ -3,30 +3,39 @@
 ghost use Rattle.std.specs.Prelude.{◌≡◌, [], ◌∷◌, codes, true, false, Some};
 ghost use Rattle.clap.specs.declared.error.kind.ErrorKind.TheVariants as error;
 ghost use Rattle.bgp_words.specs.declared.request.Request.TheVariants.{Show, Check, Narrow, ToHex, FromHex, Loop};
+ghost use Rattle.bgp_words.specs.declared.request.Session.TheVariants.{Flags, Opens};
 ghost use Rattle.bgp_words.specs.CommandLine.{faults_of, request_of};
 ghost use Rattle.bgp_words.specs.Laws.{CanBeDone, CanBeDoneWith, flags};
 
 /// What a user types for each command, without flags and with all of them.
 pub fn words_have_one_meaning()
-    ensures show { CanBeDone (codes "show" ∷ []) (Show (flags false false) false false) }
-    ensures show_hex { CanBeDone (codes "show" ∷ codes "--hex" ∷ codes "--as4" ∷ codes "--ip4" ∷ codes "--ip6" ∷ codes "--internal" ∷ []) (Show (flags true true) true false) }
-    ensures show_json { CanBeDone (codes "show" ∷ codes "--json" ∷ codes "--hex" ∷ []) (Show (flags false false) true true) }
-    ensures check { CanBeDone (codes "check" ∷ []) (Check (flags false false) false) }
-    ensures check_hex { CanBeDone (codes "check" ∷ codes "--internal" ∷ codes "--ip6" ∷ codes "--ip4" ∷ codes "--as4" ∷ codes "--hex" ∷ []) (Check (flags true true) true) }
-    ensures narrow { CanBeDone (codes "narrow" ∷ []) (Narrow (flags true false)) }
-    ensures narrow_all { CanBeDone (codes "narrow" ∷ codes "--ip4" ∷ codes "--ip6" ∷ codes "--internal" ∷ []) (Narrow (flags true true)) }
+    ensures show { CanBeDone (codes "show" ∷ []) (Show (Flags (flags false false)) false false) }
+    ensures show_hex { CanBeDone (codes "show" ∷ codes "--hex" ∷ codes "--as4" ∷ codes "--ip4" ∷ codes "--ip6" ∷ codes "--internal" ∷ []) (Show (Flags (flags true true)) true false) }
+    ensures show_json { CanBeDone (codes "show" ∷ codes "--json" ∷ codes "--hex" ∷ []) (Show (Flags (flags false false)) true true) }
+    ensures check { CanBeDone (codes "check" ∷ []) (Check (Flags (flags false false)) false) }
+    ensures check_hex { CanBeDone (codes "check" ∷ codes "--internal" ∷ codes "--ip6" ∷ codes "--ip4" ∷ codes "--as4" ∷ codes "--hex" ∷ []) (Check (Flags (flags true true)) true) }
+    ensures narrow { CanBeDone (codes "narrow" ∷ []) (Narrow (Flags (flags true false))) }
+    ensures narrow_all { CanBeDone (codes "narrow" ∷ codes "--ip4" ∷ codes "--ip6" ∷ codes "--internal" ∷ []) (Narrow (Flags (flags true true))) }
+    ensures show_opens { CanBeDoneWith (codes "show" ∷ codes "--opens" ∷ codes "theirs" ∷ codes "--hex" ∷ []) (Show Opens true false) (codes "theirs") }
+    ensures check_opens { CanBeDoneWith (codes "check" ∷ codes "--opens=theirs" ∷ []) (Check Opens false) (codes "theirs") }
+    ensures narrow_opens { CanBeDoneWith (codes "narrow" ∷ codes "--opens" ∷ codes "theirs" ∷ []) (Narrow Opens) (codes "theirs") }
+    ensures no_name { CanBeDoneWith (codes "show" ∷ codes "--opens" ∷ [] ∷ []) (Show Opens false false) [] }
     ensures to_hex { CanBeDone (codes "to-hex" ∷ []) ToHex }
     ensures from_hex { CanBeDone (codes "from-hex" ∷ []) FromHex }
     ensures runs { CanBeDoneWith (codes "loop" ∷ codes "two.script" ∷ []) (Loop false) (codes "two.script") }
     ensures runs_tcp { CanBeDoneWith (codes "loop" ∷ codes "--tcp" ∷ codes "two.script" ∷ []) (Loop true) (codes "two.script") }
 {}
 
-/// No word is too few, `--help` asks for help and `--version` for the version, and a flag belongs to its commands.
+/// No word is too few, `--help` asks for help and `--version` for the version, a flag belongs to its commands, and what both OPENs tell isn't
+/// told by flags too.
 pub fn words_can_be_wrong()
     ensures nothing { faults_of [] ≡ error.MissingSubcommand ∷ [] }
     ensures help { faults_of (codes "--help" ∷ []) ≡ error.DisplayHelp ∷ [] }
     ensures version { faults_of (codes "--version" ∷ []) ≡ error.DisplayVersion ∷ [] }
     ensures no_flag { faults_of (codes "narrow" ∷ codes "--hex" ∷ []) ≡ error.UnknownArgument ∷ [] }
     ensures no_json { faults_of (codes "check" ∷ codes "--json" ∷ []) ≡ error.UnknownArgument ∷ [] }
+    ensures both { faults_of (codes "show" ∷ codes "--opens" ∷ codes "theirs" ∷ codes "--as4" ∷ []) ≡ error.ArgumentConflict ∷ [] }
+    ensures both_narrow { faults_of (codes "narrow" ∷ codes "--internal" ∷ codes "--opens" ∷ codes "theirs" ∷ []) ≡ error.ArgumentConflict ∷ [] }
+    ensures no_value { faults_of (codes "check" ∷ codes "--opens" ∷ []) ≡ error.InvalidValue ∷ [] }
     ensures no_file { faults_of (codes "loop" ∷ []) ≡ error.MissingRequiredArgument ∷ [] }
 {}

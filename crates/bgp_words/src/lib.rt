@@ -2,8 +2,10 @@
 #![tactic(auto)]
 
 mod commands;
+mod conflict;
+mod given;
 mod help;
 pub mod laws;
 mod request;
 
-pub use request::{Asked, Request, parse};
+pub use request::{Asked, Request, Session, parse};

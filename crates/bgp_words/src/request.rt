@@ -1,24 +1,38 @@
 //! What the words of the command line ask for.
 
-ghost use Rattle.std.specs.Prelude.{◌≡◌, codes, map, true, Some, option_map, IfOk};
-ghost use Rattle.clap.specs.Words.{FailsBy, found_of, rows_of};
-ghost use Rattle.bgp_words.specs.CommandLine.{Asks, context_of, faults_of, file_in, is_set, judged_in, request_by};
+ghost use Rattle.std.specs.Prelude.{◌≡◌, ◌&&◌, codes, map, true, Some, is_some, option_map, IfOk};
+ghost use Rattle.clap.specs.Words.{FailsBy, first_of, found_of, rows_of};
+ghost use Rattle.bgp_words.specs.CommandLine.{Asks, IsAsked, conflict_in, context_of, faults_of, file_in, has_session_flag, judged_in, request_by, session_of, text_or_empty};
 
-use crate::commands::{FILE, bgp};
+use crate::commands::{FILE, OPENS, bgp};
+use crate::conflict::{conflict, has_session_flag};
+use crate::given::{is_set, value_of};
 use bgp_open::Context;
 use clap::{ArgMatches, Error};
 use std::alloc::Global;
 
+/// What tells the context of a session.
+#[derive(Clone, Copy)]
+pub enum Session {
+    /// The flags, which make this context.
+    Flags(Context),
+    /// The OPENs of both directions: a file has the octets of the other one.
+    Opens,
+}
+
 /// What the words ask for.
 #[derive(Clone, Copy)]
 pub enum Request {
-    /// `show`, in the context that the flags make, of octets or, where `hex` is set, of hexadecimal text; in lines of text or, where `json` is
-    /// set, of JSON.
-    Show { ctx: Context, hex: bool, json: bool },
-    /// `check`, with the context and the form of input as in `Show`.
-    Check { ctx: Context, hex: bool },
-    /// `narrow`, in the context that the flags make, with AS numbers of four octets.
-    Narrow { ctx: Context },
+    /// `show`, of octets or, where `hex` is set, of hexadecimal text; in lines of text or, where `json` is set, of JSON.
+    Show {
+        session: Session,
+        hex: bool,
+        json: bool,
+    },
+    /// `check`, with the form of input as in `Show`.
+    Check { session: Session, hex: bool },
+    /// `narrow`, with AS numbers of four octets.
+    Narrow { session: Session },
     /// `to-hex`.
     ToHex,
     /// `from-hex`.
@@ -32,18 +46,8 @@ pub enum Request {
 pub struct Asked<'a> {
     /// The command and its flags.
     pub request: Request,
-    /// The name of the script of `loop`.
+    /// The name of the script of `loop`, or of the file with the octets of the other direction.
     pub file: &'a str,
-}
-
-// Whether a flag is set.
-fn is_set(flags: &ArgMatches<'_>, name: &str) -> bool
-    ensures { result ≡ is_set name.now (rows_of (found_of flags.now)) }
-{
-    match flags.get_str(name) {
-        Some(value) => value == "true",
-        None => false,
-    }
 }
 
 // The context that the flags make.
@@ -59,12 +63,22 @@ fn context(flags: &ArgMatches<'_>, as4: bool) -> Context
     }
 }
 
-// The context that the flags of a command make that shows or checks.
-fn judged_in(flags: &ArgMatches<'_>) -> Context
+// What tells the context: the flags, unless a file is named for it.
+fn session_of(flags: &ArgMatches<'_>, as4: bool) -> Session
+    ensures { result ≡ session_of as4 (rows_of (found_of flags.now)) }
+{
+    match value_of(flags, OPENS) {
+        Some(_) => Session::Opens,
+        None => Session::Flags(context(flags, as4)),
+    }
+}
+
+// What tells the context of a command that shows or checks.
+fn judged_in(flags: &ArgMatches<'_>) -> Session
     ensures { result ≡ judged_in (rows_of (found_of flags.now)) }
 {
     let as4 = is_set(flags, "as4");
-    context(flags, as4)
+    session_of(flags, as4)
 }
 
 // What a command asks for with these flags.
@@ -73,20 +87,20 @@ fn asked_by(name: &str, flags: &ArgMatches<'_>) -> Request
 {
     if name == "show" {
         return Request::Show {
-            ctx: judged_in(flags),
+            session: judged_in(flags),
             hex: is_set(flags, "hex"),
             json: is_set(flags, "json"),
         };
     }
     if name == "check" {
         return Request::Check {
-            ctx: judged_in(flags),
+            session: judged_in(flags),
             hex: is_set(flags, "hex"),
         };
     }
     if name == "narrow" {
         return Request::Narrow {
-            ctx: context(flags, true),
+            session: session_of(flags, true),
         };
     }
     if name == "to-hex" {
@@ -100,14 +114,49 @@ fn asked_by(name: &str, flags: &ArgMatches<'_>) -> Request
     }
 }
 
-// The file that the flags name.
+// The script that the words name.
+fn script_of<'a>(flags: &ArgMatches<'a>) -> &'a str
+    ensures { result.now ≡ text_or_empty (first_of (codes "SCRIPT") (rows_of (found_of flags.now))) }
+{
+    match value_of(flags, FILE) {
+        Some(script) => script,
+        None => "",
+    }
+}
+
+// The file that the words name.
 fn file_of<'a>(flags: &ArgMatches<'a>) -> &'a str
     ensures { result.now ≡ file_in (rows_of (found_of flags.now)) }
 {
-    match flags.get_str(FILE) {
+    match value_of(flags, OPENS) {
         Some(file) => file,
-        None => "",
+        None => script_of(flags),
     }
+}
+
+// Whether the context is told twice.
+fn is_told_twice(flags: &ArgMatches<'_>) -> bool
+    ensures { result ≡ (is_some (first_of (codes "opens") (rows_of (found_of flags.now))) && has_session_flag (rows_of (found_of flags.now))) }
+{
+    value_of(flags, OPENS).is_some() && has_session_flag(flags)
+}
+
+// What the words of a command ask for, where the context is told once.
+fn ask<'a>(
+    alloc: Global,
+    name: &str,
+    flags: &ArgMatches<'a>,
+) -> Result<Option<Asked<'a>>, Error>
+    ensures faults { FailsBy (conflict_in (rows_of (found_of flags.now))) result }
+    ensures asked { IfOk result (λ found. IsAsked name.now (rows_of (found_of flags.now)) (option_map (λ asked. (asked.request, asked.file.now)) found)) }
+{
+    if is_told_twice(flags) {
+        return Err(conflict(alloc, name, flags)?);
+    }
+    Ok(Some(Asked {
+        request: asked_by(name, flags),
+        file: file_of(flags),
+    }))
 }
 
 /// The request of the words, which stand without the program's name.
@@ -117,10 +166,7 @@ pub fn parse<'a>(alloc: Global, words: &'a [&'a str]) -> Result<Option<Asked<'a>
 {
     let matches = bgp(alloc)?.try_get_matches_from(words)?;
     match matches.subcommand() {
-        Some((name, flags)) => Ok(Some(Asked {
-            request: asked_by(name, flags),
-            file: file_of(flags),
-        })),
+        Some((name, flags)) => ask(alloc, name, flags),
         None => Ok(None),
     }
 }

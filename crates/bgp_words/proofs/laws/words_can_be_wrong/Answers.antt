@@ -25,3 +25,15 @@ returns-clause-no_json c = refl
 pub returns-clause-no_file : goal.returns-clause-no_file
 unfolding clap_on_literals
 returns-clause-no_file c = refl
+
+pub returns-clause-both : goal.returns-clause-both
+unfolding clap_on_literals
+returns-clause-both c = refl
+
+pub returns-clause-both_narrow : goal.returns-clause-both_narrow
+unfolding clap_on_literals
+returns-clause-both_narrow c = refl
+
+pub returns-clause-no_value : goal.returns-clause-no_value
+unfolding clap_on_literals
+returns-clause-no_value c = refl

@@ -45,3 +45,19 @@ returns-clause-runs c = record { without_fault = refl; asked = refl }
 pub returns-clause-runs_tcp : goal.returns-clause-runs_tcp
 unfolding clap_on_literals
 returns-clause-runs_tcp c = record { without_fault = refl; asked = refl }
+
+pub returns-clause-show_opens : goal.returns-clause-show_opens
+unfolding clap_on_literals
+returns-clause-show_opens c = record { without_fault = refl; asked = refl }
+
+pub returns-clause-check_opens : goal.returns-clause-check_opens
+unfolding clap_on_literals
+returns-clause-check_opens c = record { without_fault = refl; asked = refl }
+
+pub returns-clause-narrow_opens : goal.returns-clause-narrow_opens
+unfolding clap_on_literals
+returns-clause-narrow_opens c = record { without_fault = refl; asked = refl }
+
+pub returns-clause-no_name : goal.returns-clause-no_name
+unfolding clap_on_literals
+returns-clause-no_name c = record { without_fault = refl; asked = refl }

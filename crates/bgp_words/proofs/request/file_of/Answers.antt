@@ -1,10 +1,11 @@
-use Rattle.std.proofs.Common.{ap, ◌∙◌}
-use Rattle.bgp_words.specs.CommandLine.{text_or_empty}
-use Rattle.bgp_words.proofs.Flags.{file_in-rows}
+use Rattle.std.proofs.Common.{codes, Option, ap, ◌∙◌}
+use Rattle.clap.specs.Words.{Text, first_of, found_of, rows_of}
+use Rattle.bgp_words.specs.CommandLine.{first_file, text_or_empty}
 use Rattle.bgp_words.proofs.request.file_of.Goals as goal
 
 pub returns-in-Some : goal.returns-in-Some
-returns-in-Some c = ap text_or_empty c.in-Some.ensures ∙ file_in-rows c.args.flags.now
+returns-in-Some c = ap (λ (o : Option Text). text_or_empty (first_file o (first_of (codes "SCRIPT") (rows_of (found_of c.args.flags.now))))) c.in-Some.ensures
 
 pub returns-in-None : goal.returns-in-None
-returns-in-None c = ap text_or_empty c.in-None.ensures ∙ file_in-rows c.args.flags.now
+returns-in-None c =
+    c.script_of.ensures ∙ ap (λ (o : Option Text). text_or_empty (first_file o (first_of (codes "SCRIPT") (rows_of (found_of c.args.flags.now))))) c.in-None.ensures

@@ -1,0 +1,64 @@
+//! The error where the session is told twice: by both OPENs, and by flags.
+
+ghost use Rattle.std.specs.Prelude.{◌≡◌, IfOk};
+ghost use Rattle.clap.specs.Words.{found_of, kind_of, rows_of};
+ghost use Rattle.clap.specs.declared.error.kind.ErrorKind.TheVariants as error;
+ghost use Rattle.bgp_words.specs.CommandLine.{has_session_flag};
+
+use crate::commands::{check, narrow, show};
+use crate::given::is_set;
+use clap::error::ErrorKind;
+use clap::{ArgMatches, Command, Error};
+use std::alloc::{AllocError, Global};
+
+/// Whether one of the flags is set that both OPENs tell.
+pub(crate) fn has_session_flag(flags: &ArgMatches<'_>) -> bool
+    ensures { result ≡ has_session_flag (rows_of (found_of flags.now)) }
+{
+    is_set(flags, "as4")
+        || is_set(flags, "ip4")
+        || is_set(flags, "ip6")
+        || is_set(flags, "internal")
+}
+
+// The names of these flags that are set, each on a line of its own where there are more.
+fn names(alloc: Global, flags: &ArgMatches<'_>) -> Result<String, AllocError> {
+    let mut lines = String::new(alloc);
+    let mut count = 0_u8;
+    let mut last = "";
+    for name in ["as4", "ip4", "ip6", "internal"] {
+        if is_set(flags, name) {
+            write!(lines, "\n  --{name}")?;
+            count = count.saturating_add(1);
+            last = name;
+        }
+    }
+    if count == 1 {
+        return format!(in alloc; " '--{last}'");
+    }
+    format!(in alloc; ":{lines}")
+}
+
+// The command of this name, as the words name it.
+fn command_of<'a>(alloc: Global, name: &str) -> Result<Command<'a>, AllocError> {
+    if name == "show" {
+        return show(alloc)?.bin_name("bgp show");
+    }
+    if name == "check" {
+        return check(alloc)?.bin_name("bgp check");
+    }
+    narrow(alloc)?.bin_name("bgp narrow")
+}
+
+/// The error of a command whose words have a file for both OPENs, and flags beside it.
+pub(crate) fn conflict(
+    alloc: Global,
+    name: &str,
+    flags: &ArgMatches<'_>,
+) -> Result<Error, AllocError>
+    ensures { IfOk result (λ e. kind_of e ≡ error.ArgumentConflict) }
+{
+    let others = names(alloc, flags)?;
+    let text = format!(in alloc; "the argument '--opens <FILE>' cannot be used with{others}")?;
+    command_of(alloc, name)?.error(ErrorKind::ArgumentConflict, &text)
+}
