@@ -1,5 +1,5 @@
 -- Steps of an engine that learns its context from the first message of its stream.
-use Rattle.std.proofs.Common.{◌≡◌, ℕ, ◌+◌, ◌-◌, ◌<◌, ◌≤◌, ◌^◌, ◌⊎◌, Bool, true, false, List, [], ◌++◌, length, take, drop, Option, Some, None, Result, Ok, Err, refl, sym, ap, subst, ◌∙◌, append_assoc, arith, inl, inr}
+use Rattle.std.proofs.Common.{◌≡◌, ℕ, ◌+◌, ◌-◌, ◌≤◌, ◌^◌, ◌⊎◌, Bool, true, false, List, [], ◌++◌, length, take, drop, Option, Some, None, Result, Ok, Err, refl, sym, ap, subst, ◌∙◌, append_assoc, arith, inl, inr}
 use Rattle.std.specs.Prelude.{if◌then◌else◌, OnErr}
 use Rattle.std.proofs.lemmas.List.{append-nil, length-append, take-append-drop, take_all}
 use Rattle.bgp_wire.specs.Octets.{AreOctets}
@@ -20,7 +20,7 @@ use Rattle.bgp_engine.specs.declared.opening.Stage.TheVariants as stage
 use Rattle.bgp_engine.specs.Agree.{agreed}
 use Rattle.bgp_engine.specs.Engine.{ClosesBy, Rests, Takes}
 use Rattle.bgp_engine.specs.File.{is_part, first_open, open_in}
-use Rattle.bgp_engine.specs.Opening.{AgreesBy, GoesOn, IsFirst, IsFresh, Opening, ReadyAt, Settles, SettlesAt, Terms, opening, reports_for, reports_in}
+use Rattle.bgp_engine.specs.Opening.{AgreesBy, GoesOn, IsFirst, IsFresh, ReadyAt, Settles, SettlesAt, Terms, opening, reports_for, reports_in}
 use Rattle.bgp_engine.specs.Opens.{ReportedIn, context_by, fit_of, unagreed, unagreed_end}
 use Rattle.bgp_engine.specs.Report.{Report, behind, IsOver}
 use Rattle.bgp_engine.specs.Rules.{Rules, IsReport}

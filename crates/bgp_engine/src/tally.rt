@@ -31,10 +31,7 @@ pub fn status(outcome: &Result<Tally, ToolFault>) -> u8
         Ok(tally) if tally.withdrawn == 0 && tally.resets == 0 && tally.end == End::Wait(0) => 0,
         Ok(_)
         | Err(
-            ToolFault::BadHex(_)
-            | ToolFault::Narrow(_)
-            | ToolFault::NoOpen
-            | ToolFault::Script(_),
+            ToolFault::BadHex(_) | ToolFault::Narrow(_) | ToolFault::NoOpen | ToolFault::Script(_),
         ) => 1,
         Err(ToolFault::Memory) => 3,
         Err(ToolFault::Read | ToolFault::Write | ToolFault::Net) => 4,

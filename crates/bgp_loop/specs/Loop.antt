@@ -56,6 +56,7 @@ Answers text io (Err (fault.Script n)) = IsFaulty text io n
 Answers text io (Err fault.Read) = ⊥
 Answers text io (Err (fault.BadHex n)) = ⊥
 Answers text io (Err (fault.Narrow n)) = ⊥
+Answers text io (Err fault.NoOpen) = ⊥
 Answers text io (Err fault.Net) = ⊥
 
 -- ---- a script in a file
@@ -65,6 +66,12 @@ pub record IsOfText (writer_old writer_new : Option (List ℕ)) (outcome : Resul
   pub text : List ℕ
   pub failures : ℕ
   pub answers : Answers text (record { honest = true; failed_old = 0; failed_new = failures; writer_old = writer_old; writer_new = writer_new }) outcome
+
+-- memory ran out, or the file couldn't be read
+abbrev pub IsOfFile : ToolFault → Type 0
+IsOfFile fault.Memory = Unit {0}
+IsOfFile fault.Read = Unit {0}
+IsOfFile _ = ⊥
 
 -- memory ran out, the file couldn't be read or has too many octets, or the listener couldn't be set up
 abbrev pub IsOfSetUp : ToolFault → Type 0

@@ -1,7 +1,7 @@
-//! Running a script that stands in a file.
+//! What stands in a file: its octets, and a script that is run.
 
 ghost use Rattle.std.specs.Prelude.{◌≤◌, length, IfOk, IfErr};
-ghost use Rattle.bgp_loop.specs.Loop.{IsOfSetUp, RunsFile};
+ghost use Rattle.bgp_loop.specs.Loop.{IsOfFile, RunsFile};
 
 use crate::running::run_loop;
 use crate::tcp::TcpWire;
@@ -14,19 +14,38 @@ use std::fs::Files;
 use std::io::{ErrorKind, Read, Write};
 use std::net::Net;
 
-// The text of a file, where a script may have so many octets.
-fn text_of_file<R: Files>(rt: &R, alloc: Global, path: &str) -> Result<Vec<u8>, ToolFault>
-    ensures ok { IfOk result (λ text. length text.items ≤ SCRIPT_MAX) }
-    ensures fault { IfErr result IsOfSetUp }
+/// The octets of a file from its front on, at most so many.
+///
+/// # Errors
+/// `Read` where the file can't be opened or read, and `Memory` where an allocation failed.
+pub fn read_file<R: Files>(
+    rt: &R,
+    alloc: Global,
+    path: &str,
+    most: u64,
+) -> Result<Vec<u8>, ToolFault>
+    ensures { IfErr result IsOfFile }
 {
     let Ok(file) = fs::open(rt, path) else {
         return Err(ToolFault::Read);
     };
-    let mut text = Vec::new(alloc);
-    match file.take(SCRIPT_MAX as u64 + 1).read_to_end(&mut text) {
-        Ok(_) if text.len() <= SCRIPT_MAX => Ok(text),
+    let mut octets = Vec::new(alloc);
+    match file.take(most).read_to_end(&mut octets) {
+        Ok(_) => Ok(octets),
         Err(error) if error.kind() == ErrorKind::OutOfMemory => Err(ToolFault::Memory),
-        _ => Err(ToolFault::Read),
+        Err(_) => Err(ToolFault::Read),
+    }
+}
+
+// The text of a file, where a script may have so many octets.
+fn text_of_file<R: Files>(rt: &R, alloc: Global, path: &str) -> Result<Vec<u8>, ToolFault>
+    ensures ok { IfOk result (λ text. length text.items ≤ SCRIPT_MAX) }
+    ensures fault { IfErr result IsOfFile }
+{
+    match read_file(rt, alloc, path, SCRIPT_MAX as u64 + 1) {
+        Ok(text) if text.len() <= SCRIPT_MAX => Ok(text),
+        Ok(_) => Err(ToolFault::Read),
+        Err(fault) => Err(fault),
     }
 }
 

@@ -5,6 +5,6 @@ mod file;
 mod running;
 mod tcp;
 
-pub use file::run_file;
+pub use file::{read_file, run_file};
 pub use running::run_loop;
 pub use tcp::TcpWire;

@@ -1,4 +1,3 @@
-use Rattle.std.proofs.Common.{List}
 use Rattle.bgp_frame.specs.Frame.{Message}
 use Rattle.bgp_engine.specs.Opening.{terms_of}
 use Rattle.bgp_engine.specs.Walking.{walking}

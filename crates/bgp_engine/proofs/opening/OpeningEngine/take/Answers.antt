@@ -1,4 +1,4 @@
-use Rattle.std.proofs.Common.{ℕ, ◌≤◌, length, subst}
+use Rattle.std.proofs.Common.{◌≤◌, length, subst}
 use Rattle.bgp_engine.specs.declared.opening.Stage.{Stage}
 use Rattle.bgp_engine.specs.Opening.{GoesAt, opening, room_at, terms_of}
 use Rattle.bgp_engine.specs.Walking.{walking}
