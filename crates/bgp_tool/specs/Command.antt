@@ -1,5 +1,5 @@
 -- What the program does with its words.
-use Rattle.std.specs.Prelude.{◌≡◌, ◌≢◌, ◌⊎◌, ℕ, true, false, List, [], Option, Some, Result}
+use Rattle.std.specs.Prelude.{◌≡◌, ◌≢◌, ◌⊎◌, ℕ, Bool, true, false, List, [], Option, Some, Result, Err}
 use Rattle.std.specs.Io.KnownBytes.{Keeps}
 use Rattle.clap.specs.Words.{IsAmong, Text}
 use Rattle.clap.specs.declared.error.kind.ErrorKind.{ErrorKind}
@@ -7,7 +7,8 @@ use Rattle.clap.specs.declared.error.kind.ErrorKind.TheVariants as error
 use Rattle.bgp_engine.specs.declared.fault.ToolFault.{ToolFault}
 use Rattle.bgp_engine.specs.declared.tally.Tally.{Tally}
 use Rattle.bgp_engine.specs.Run as engine
-use Rattle.bgp_engine.specs.Run.{Io}
+use Rattle.bgp_engine.specs.Run.{Io, Reports}
+use Rattle.bgp_engine.specs.Opens.{CheckedBy, NarrowedBy, ShownBy, ShownJsonBy}
 use Rattle.bgp_engine.specs.Show.{Shown}
 use Rattle.bgp_engine.specs.ShowJson.{ShownJson}
 use Rattle.bgp_engine.specs.Check.{Checked}
@@ -17,7 +18,8 @@ use Rattle.bgp_engine.specs.Narrow.{Narrowed}
 use Rattle.bgp_engine.specs.Tally.{status_of}
 use Rattle.bgp_words.specs.declared.request.Request.{Request}
 use Rattle.bgp_words.specs.declared.request.Request.TheVariants.{Show, Check, Narrow, ToHex, FromHex, Loop}
-use Rattle.bgp_loop.specs.Loop.{RunsFile}
+use Rattle.bgp_words.specs.declared.request.Session.TheVariants.{Flags, Opens}
+use Rattle.bgp_loop.specs.Loop.{IsOfFile, RunsFile}
 use Rattle.bgp_words.specs.CommandLine.{faults_of, request_of}
 
 -- a script ran: nothing was read of the reader
@@ -25,12 +27,36 @@ pub record RunsScript (io : Io) (outcome : Result Tally ToolFault) : Type 0 wher
   pub unread : Keeps io.reader_old io.reader_new
   pub ran : RunsFile io.writer_old io.writer_new outcome
 
+-- the file of the other direction had some octets, and the engine ran by these
+pub record RanBy (reports : List ℕ → Reports) (hex : Bool) (io : Io) (outcome : Result Tally ToolFault) : Type 0 where
+  pub theirs : List ℕ
+  pub answers : engine.Answers (reports theirs) hex io outcome
+
+-- memory ran out, or that file couldn't be read: nothing was read of the reader, and nothing written
+pub record HasNoFile (io : Io) (outcome : Result Tally ToolFault) : Type 0 where
+  pub fault : ToolFault
+  pub fails : outcome ≡ Err fault
+  pub of_file : IsOfFile fault
+  pub unread : Keeps io.reader_old io.reader_new
+  pub unwritten : Keeps io.writer_old io.writer_new
+
+abbrev pub RunsBy : (List ℕ → Reports) → Bool → Io → Result Tally ToolFault → Type 0
+RunsBy reports hex io outcome = RanBy reports hex io outcome ⊎ HasNoFile io outcome
+
+-- in lines of text, or of JSON
+abbrev pub shown_by : Bool → List ℕ → Reports
+shown_by false theirs = ShownBy theirs
+shown_by true theirs = ShownJsonBy theirs
+
 -- the engine of a request ran, with this outcome: which one, and whether it read hexadecimal text
 abbrev pub Runs : Request → Io → Result Tally ToolFault → Type 0
-Runs (Show ctx hex false) io outcome = engine.Answers (Shown ctx) hex io outcome
-Runs (Show ctx hex true) io outcome = engine.Answers (ShownJson ctx) hex io outcome
-Runs (Check ctx hex) io outcome = engine.Answers (Checked ctx) hex io outcome
-Runs (Narrow ctx) io outcome = engine.Answers (Narrowed ctx) false io outcome
+Runs (Show (Flags ctx) hex false) io outcome = engine.Answers (Shown ctx) hex io outcome
+Runs (Show (Flags ctx) hex true) io outcome = engine.Answers (ShownJson ctx) hex io outcome
+Runs (Show Opens hex json) io outcome = RunsBy (shown_by json) hex io outcome
+Runs (Check (Flags ctx) hex) io outcome = engine.Answers (Checked ctx) hex io outcome
+Runs (Check Opens hex) io outcome = RunsBy CheckedBy hex io outcome
+Runs (Narrow (Flags ctx)) io outcome = engine.Answers (Narrowed ctx) false io outcome
+Runs (Narrow Opens) io outcome = RunsBy NarrowedBy false io outcome
 Runs ToHex io outcome = engine.Answers Hexed false io outcome
 Runs FromHex io outcome = engine.Answers Copied true io outcome
 Runs (Loop tcp) io outcome = RunsScript io outcome
@@ -43,7 +69,7 @@ pub record HasRun (request : Request) (io : Io) (answer : ℕ) : Type 0 where
 
 -- what is narrowed has AS numbers of four octets
 abbrev pub IsWide : Request → Type 0
-IsWide (Narrow ctx) = ctx.as4 ≡ true
+IsWide (Narrow (Flags ctx)) = ctx.as4 ≡ true
 IsWide _ = Unit {0}
 
 -- The words ask for an engine. It ran, as the outcome says, and the answer is its status.

@@ -1,14 +1,16 @@
 //! The command line of `bgp`.
 
-ghost use Rattle.std.specs.Prelude.{map};
+ghost use Rattle.std.specs.Prelude.{false, map};
 ghost use Rattle.clap.specs.Words.{kind_of};
-ghost use Rattle.bgp_tool.specs.Command.{Answers, HasRun, IsExplained, IsQuiet, IsWide, Runs};
+ghost use Rattle.bgp_tool.specs.Command.{Answers, HasRun, IsExplained, IsQuiet, IsWide, Runs, RunsBy, shown_by};
+ghost use Rattle.bgp_engine.specs.Opens.{CheckedBy, NarrowedBy};
 
 use bgp_engine::{
-    Tally, ToolFault, check, from_hex, narrow_stream, show, show_json, status, to_hex,
+    Tally, ToolFault, check, check_by_opens, from_hex, narrow_by_opens, narrow_stream, show,
+    show_by_opens, show_json, show_json_by_opens, status, to_hex,
 };
-use bgp_loop::run_file;
-use bgp_words::{Asked, Request, parse};
+use bgp_loop::{read_file, run_file};
+use bgp_words::{Asked, Request, Session, parse};
 use clap::Error;
 use clap::error::ErrorKind;
 use std::alloc::Global;
@@ -18,6 +20,9 @@ use std::net::Net;
 
 /// The status of a fault of the command line.
 const MISUSE: u8 = 2;
+
+/// The octets of the longest message: a file's first one is all that is read of the other direction.
+const MESSAGE_MAX: u64 = 4096;
 
 // Tells a fault. A write that fails changes nothing.
 fn tell<E: Write>(errors: &mut E, fault: ToolFault) {
@@ -46,6 +51,61 @@ fn explain<W: Write, E: Write>(error: &Error, output: &mut W, errors: &mut E) ->
     }
 }
 
+// Shows by the OPENs of both directions, of which a file has the other one.
+fn show_opened<H: Files, R: Read, W: Write>(
+    rt: &H,
+    alloc: Global,
+    file: &str,
+    hex: bool,
+    json: bool,
+    input: &mut R,
+    output: &mut W,
+) -> Result<Tally, ToolFault>
+    ensures { RunsBy (shown_by json) hex (record { reader_old = R.remaining input.old; reader_new = R.remaining input.new; writer_old = W.contents output.old; writer_new = W.contents output.new }) result }
+{
+    let theirs = match read_file(rt, alloc, file, MESSAGE_MAX) {
+        Ok(theirs) => theirs,
+        Err(fault) => return Err(fault),
+    };
+    if json {
+        return show_json_by_opens(alloc, &theirs, hex, input, output);
+    }
+    show_by_opens(alloc, &theirs, hex, input, output)
+}
+
+// Checks by the OPENs of both directions.
+fn check_opened<H: Files, R: Read, W: Write>(
+    rt: &H,
+    alloc: Global,
+    file: &str,
+    hex: bool,
+    input: &mut R,
+    output: &mut W,
+) -> Result<Tally, ToolFault>
+    ensures { RunsBy CheckedBy hex (record { reader_old = R.remaining input.old; reader_new = R.remaining input.new; writer_old = W.contents output.old; writer_new = W.contents output.new }) result }
+{
+    match read_file(rt, alloc, file, MESSAGE_MAX) {
+        Ok(theirs) => check_by_opens(alloc, &theirs, hex, input, output),
+        Err(fault) => Err(fault),
+    }
+}
+
+// Narrows by the OPENs of both directions.
+fn narrow_opened<H: Files, R: Read, W: Write>(
+    rt: &H,
+    alloc: Global,
+    file: &str,
+    input: &mut R,
+    output: &mut W,
+) -> Result<Tally, ToolFault>
+    ensures { RunsBy NarrowedBy false (record { reader_old = R.remaining input.old; reader_new = R.remaining input.new; writer_old = W.contents output.old; writer_new = W.contents output.new }) result }
+{
+    match read_file(rt, alloc, file, MESSAGE_MAX) {
+        Ok(theirs) => narrow_by_opens(alloc, &theirs, input, output),
+        Err(fault) => Err(fault),
+    }
+}
+
 // Runs the engine of a request.
 fn run<H: Files + Net, R: Read, W: Write>(
     rt: &H,
@@ -58,10 +118,19 @@ fn run<H: Files + Net, R: Read, W: Write>(
     ensures { Runs asked.entry.request (record { reader_old = R.remaining input.old; reader_new = R.remaining input.new; writer_old = W.contents output.old; writer_new = W.contents output.new }) result }
 {
     match asked.request {
-        Request::Show { ctx, hex, json } if json => show_json(alloc, &ctx, hex, input, output),
-        Request::Show { ctx, hex, .. } => show(alloc, &ctx, hex, input, output),
-        Request::Check { ctx, hex } => check(alloc, &ctx, hex, input, output),
-        Request::Narrow { ctx } => narrow_stream(alloc, &ctx, input, output),
+        Request::Show { session, hex, json } => match session {
+            Session::Flags(ctx) if json => show_json(alloc, &ctx, hex, input, output),
+            Session::Flags(ctx) => show(alloc, &ctx, hex, input, output),
+            Session::Opens => show_opened(rt, alloc, asked.file, hex, json, input, output),
+        },
+        Request::Check { session, hex } => match session {
+            Session::Flags(ctx) => check(alloc, &ctx, hex, input, output),
+            Session::Opens => check_opened(rt, alloc, asked.file, hex, input, output),
+        },
+        Request::Narrow { session } => match session {
+            Session::Flags(ctx) => narrow_stream(alloc, &ctx, input, output),
+            Session::Opens => narrow_opened(rt, alloc, asked.file, input, output),
+        },
         Request::ToHex => to_hex(alloc, input, output),
         Request::FromHex => from_hex(alloc, input, output),
         Request::Loop { tcp } => run_file(rt, alloc, asked.file, tcp, output),
@@ -88,7 +157,7 @@ fn answer<H: Files + Net, R: Read, W: Write, E: Write>(
 }
 
 /// The whole program: does what the words ask, which stand without the program's name, and answers its status. `rt` opens the file of a
-/// script, and the sockets of a wire over TCP.
+/// script or of the other direction, and the sockets of a wire over TCP.
 ///
 /// A failed write to `errors` changes nothing.
 pub fn command<H: Files + Net, R: Read, W: Write, E: Write>(
