@@ -179,3 +179,32 @@ def narrow(context, given):
             return written, told(f"cannot narrow at {at}"), 1
         written += octets
     return (written, told(f"cannot narrow at {len(given) - end}"), 1) if end else (written, b"", 0)
+
+
+def first_open(octets):
+    """What the OPEN says that octets begin with, or None: their first message isn't whole, or no OPEN that is taken."""
+    found, _, _ = frames(octets)
+    answer = read_open(found[0][1][19:]) if found and found[0][1][18] == OPEN else ("none",)
+    return answer[1:] if answer[0] == "open" else None
+
+
+def agreed(ours, theirs):
+    """The context that two speakers of these OPENs agree on, or None where one is lacking."""
+    if ours is None or theirs is None:
+        return None
+    wide = [[it[1] for it in said[3] if it[0] == "as4"] for said in (ours, theirs)]
+    numbers = [(its or [said[0]])[0] for its, said in zip(wide, (ours, theirs))]
+    families = [all(("multi", afi, 1) in said[3] for said in (ours, theirs)) for afi in (1, 2)]
+    return Context(numbers[0] == numbers[1], all(wide), *families)
+
+
+def by_opens(command, theirs, given, is_hex=False):
+    """What a command comes to in the context that both OPENs agree on; `theirs` is the other direction."""
+    octets, bad = octets_in(given) if is_hex else (given, None)
+    found, _, fault = frames(octets)
+    if bad is not None and not found and not fault:
+        return b"", told(f"bad hex at {bad}"), 1
+    context = agreed(first_open(octets), first_open(theirs))
+    if context is None or (command == narrow and not context.as4):
+        return b"", told("no OPEN to agree with"), 1
+    return command(context, given, True) if is_hex else command(context, given)

@@ -4,3 +4,4 @@ mod bounds;
 mod engines;
 mod failing;
 mod faults;
+mod opens;

@@ -43,10 +43,9 @@ fn opens<'a>(alloc: Global) -> Arg<'a>
     ensures rule { rule_of result ≡ opens_rule }
     ensures local { result.global ≡ false }
 {
-    Arg::new(alloc, OPENS)
-        .long(OPENS)
-        .value_name("FILE")
-        .help("Agree by both OPENs: FILE has the other direction's octets")
+    Arg::new(alloc, OPENS).long(OPENS).value_name("FILE").help(
+        "Agree by both OPENs: FILE has the other direction's octets",
+    )
 }
 
 // A command with the flags that families and kind of a session have.

@@ -30,15 +30,22 @@ pub enum Request {
         json: bool,
     },
     /// `check`, with the form of input as in `Show`.
-    Check { session: Session, hex: bool },
+    Check {
+        session: Session,
+        hex: bool,
+    },
     /// `narrow`, with AS numbers of four octets.
-    Narrow { session: Session },
+    Narrow {
+        session: Session,
+    },
     /// `to-hex`.
     ToHex,
     /// `from-hex`.
     FromHex,
     /// `loop`, over TCP where `tcp` is set, else in memory.
-    Loop { tcp: bool },
+    Loop {
+        tcp: bool,
+    },
 }
 
 /// What the words ask for, and the file that they name: empty where they name none.
@@ -142,11 +149,7 @@ fn is_told_twice(flags: &ArgMatches<'_>) -> bool
 }
 
 // What the words of a command ask for, where the context is told once.
-fn ask<'a>(
-    alloc: Global,
-    name: &str,
-    flags: &ArgMatches<'a>,
-) -> Result<Option<Asked<'a>>, Error>
+fn ask<'a>(alloc: Global, name: &str, flags: &ArgMatches<'a>) -> Result<Option<Asked<'a>>, Error>
     ensures faults { FailsBy (conflict_in (rows_of (found_of flags.now))) result }
     ensures asked { IfOk result (λ found. IsAsked name.now (rows_of (found_of flags.now)) (option_map (λ asked. (asked.request, asked.file.now)) found)) }
 {

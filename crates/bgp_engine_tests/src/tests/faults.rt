@@ -183,6 +183,7 @@ fn texts_of_faults(rt: HostRuntime) -> Result<(), Fail> {
         (ToolFault::Write, "write failed", 4),
         (ToolFault::BadHex(7), "bad hex at 7", 1),
         (ToolFault::Narrow(19), "cannot narrow at 19", 1),
+        (ToolFault::NoOpen, "no OPEN to agree with", 1),
     ] {
         assert!(rt; fault.to_string(rt.alloc())?.as_str() == text);
         assert!(rt; status(&Err(fault)) == answer);

@@ -1,4 +1,4 @@
-use Rattle.std.proofs.Common.{◌≡◌, map, option_map, List, [], Option, Some, sym, ap, subst, ◌∙◌}
+use Rattle.std.proofs.Common.{◌≡◌, map, option_map, List, [], Option, sym, ap, subst, ◌∙◌}
 use Rattle.std.proofs.lemmas.Result.{IfOk-weaker, err_from_is_err_and}
 use Rattle.clap.specs.Words.{App, FailsBy, HasKind, Kinds, Text, app_of, fault_of, found_of, rows_of, is_simple, is_simple_and_free, subcommand_of, subcommand_rows_of}
 use Rattle.bgp_words.specs.CommandLine.{Asks, bgp_command, conflict_of, request_by, file_in}
