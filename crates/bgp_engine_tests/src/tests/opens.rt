@@ -10,11 +10,13 @@ use std::test::*;
 
 /// AS 65001 and AS 65002, with AS numbers of four octets and both families.
 const OURS: &str = "M 003101 04 fde9 005a c0000201 14 0212 010400010001 010400020001 41040000fde9";
+
 const THEIRS: &str =
     "M 003101 04 fdea 005a c0000202 14 0212 010400010001 010400020001 41040000fdea";
 
 /// AS 65001 without AS numbers of four octets, and AS 65001 without a capability.
 const NARROW: &str = "M 002b01 04 fde9 005a c0000202 0e 020c 010400010001 010400020001";
+
 const PLAIN: &str = "M 001d01 04 fde9 005a c0000202 00";
 
 /// OPENs that are no OPEN that is taken, or not whole: of version 3, cut off, behind a KEEPALIVE, with a fault in the header, and none.
@@ -112,7 +114,10 @@ fn assert_agreed(
         let mut reader = Drip::new(stream.as_slice(), step);
         let found = by_opens(rt.alloc(), way, other.as_slice(), &mut reader, &mut opened);
         assert_eq!(rt; found, wanted, "{way:?} {theirs}");
-        assert!(rt; opened.text.as_slice() == flagged.text.as_slice(), "{way:?} {theirs}");
+        assert!(rt;
+            opened.text.as_slice() == flagged.text.as_slice(),
+            "{way:?} {theirs}"
+        );
         assert_eq!(rt; opened.writes, flagged.writes, "{way:?} {theirs}");
     }
     Ok(())
@@ -156,7 +161,10 @@ fn assert_no_open(
         assert_eq!(rt; outcome, Err(ToolFault::NoOpen), "{way:?}");
         assert!(rt; status(&outcome) == 1);
         assert!(rt; sheet.text.is_empty(), "{way:?}");
-        assert!(rt; step == 1 || input.is_empty() || reader.calls <= 2, "{way:?}");
+        assert!(rt;
+            step == 1 || input.is_empty() || reader.calls <= 2,
+            "{way:?}"
+        );
     }
     Ok(())
 }
@@ -194,8 +202,13 @@ fn a_read_that_fails_is_told_first(rt: HostRuntime) -> Result<(), Fail> {
                 assert_eq!(rt; outcome, Err(ToolFault::Read), "{way:?} {digits}");
                 assert!(rt; sheet.text.is_empty(), "{way:?}");
                 let mut reader = Drip::new(open.as_slice(), 10);
-                let outcome =
-                    by_opens_within(rt.alloc(), calls, way, theirs.as_slice(), &mut reader);
+                let outcome = by_opens_within(
+                    rt.alloc(),
+                    calls,
+                    way,
+                    theirs.as_slice(),
+                    &mut reader,
+                );
                 assert_eq!(rt; outcome, Err(ToolFault::Read), "{way:?} {digits}");
                 assert_eq!(rt; reader.calls, calls, "{way:?} {digits}");
             }
