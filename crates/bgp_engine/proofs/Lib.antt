@@ -9,3 +9,4 @@ pub mod Digits
 pub mod Narrows
 pub mod FirstOpens
 pub mod Openings
+pub mod Speakers

@@ -10,6 +10,7 @@ mod fault;
 mod file;
 mod hex_text;
 mod hexed;
+pub mod laws;
 mod narrowing;
 mod opening;
 mod opens;

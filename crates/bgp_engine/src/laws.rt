@@ -1,0 +1,13 @@
+//! Laws of what two OPENs agree on. Each is the contract of a function that does nothing.
+
+ghost use Rattle.std.specs.Prelude.{◌≡◌, Ok};
+ghost use Rattle.bgp_open.specs.declared.context.Context.{Context};
+ghost use Rattle.bgp_open.specs.Agreement.{agreement};
+ghost use Rattle.bgp_open.specs.Config.{Settings, IsAllowed};
+ghost use Rattle.bgp_open.specs.Own.{own_of};
+ghost use Rattle.bgp_engine.specs.Agree.{agreed_context};
+
+/// Where a speaker accepts another's OPEN, the context that it finds is what its own OPEN and the other's agree on.
+pub fn opens_agree_as_speakers_do()
+    ensures { (a b : Settings) (x : Context) → IsAllowed a → agreement a (own_of b) ≡ Ok x → agreed_context (own_of a) (own_of b) ≡ x }
+{}
