@@ -1,0 +1,2 @@
+-- Lemmas on what is told in numbers.
+pub mod Wanted

@@ -1,0 +1,3 @@
+-- What the calls for C write: the libraries' values in numbers.
+pub mod Span
+pub mod Front

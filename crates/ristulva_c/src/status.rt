@@ -1,0 +1,16 @@
+//! What a call answers.
+
+/// The call did what it says.
+pub const OK: u32 = 0;
+
+/// An allocation failed: nothing has changed, and the call can be made again.
+pub const MEMORY: u32 = 2;
+
+/// An argument is out of its range.
+pub const RANGE: u32 = 3;
+
+/// The octets are less than a message.
+pub const INCOMPLETE: u32 = 4;
+
+/// There is less room than is needed.
+pub const ROOM: u32 = 5;
