@@ -1,3 +1,6 @@
 -- What the calls for C write: the libraries' values in numbers.
 pub mod Span
+pub mod Copied
 pub mod Front
+pub mod Context
+pub mod Prefixes

@@ -4,7 +4,7 @@ ghost use Rattle.std.specs.Prelude.{◌≡◌};
 ghost use Rattle.bgp_frame.specs.Frame.{wanted, Waits};
 ghost use Rattle.bgp_frame.specs.Step.{ShowsFront};
 ghost use Rattle.ristulva_c.specs.declared.status.TheConstants.{OK};
-ghost use Rattle.ristulva_c.specs.Front.{fault_told, step_told, IsFront};
+ghost use Rattle.ristulva_c.specs.Front.{fault_told, step_told, IsFound};
 
 use crate::span::Span;
 use crate::status::OK;
@@ -23,7 +23,7 @@ pub const FAULT: u8 = 2;
 /// What stands at the front of octets (RFC 4271, sections 4.1 and 6.1).
 #[repr(C)]
 #[derive(Clone, Copy)]
-pub struct Front {
+pub struct Found {
     /// `MORE`, `MESSAGE` or `FAULT`.
     pub what: u8,
     /// The type of the message, 1 to 4, where it is one; else 0.
@@ -39,7 +39,7 @@ pub struct Front {
     pub info: Span,
 }
 
-fn fault_told(fault: HeadFault) -> Front
+fn fault_told(fault: HeadFault) -> Found
     ensures { result ≡ fault_told fault }
 {
     let (subcode, at, len) = match fault {
@@ -47,7 +47,7 @@ fn fault_told(fault: HeadFault) -> Front
         HeadFault::Length(_) => (error::BAD_MESSAGE_LENGTH, 16, 2),
         HeadFault::Kind(_) => (error::BAD_MESSAGE_TYPE, 18, 1),
     };
-    Front {
+    Found {
         what: FAULT,
         kind: 0,
         code: error::MESSAGE_HEADER,
@@ -69,12 +69,12 @@ fn wanted(octets: &[u8]) -> u32
     u32::from(u16::from_be_bytes([octets[16], octets[17]]))
 }
 
-fn step_told(octets: &[u8], step: Step<'_>) -> Front
+fn step_told(octets: &[u8], step: Step<'_>) -> Found
     requires { ShowsFront octets.now step }
     ensures { result ≡ step_told octets.now step.entry }
 {
     match step {
-        Step::More => Front {
+        Step::More => Found {
             what: MORE,
             kind: 0,
             code: 0,
@@ -82,7 +82,7 @@ fn step_told(octets: &[u8], step: Step<'_>) -> Front
             len: wanted(octets),
             info: Span { at: 0, len: 0 },
         },
-        Step::Frame(frame) => Front {
+        Step::Frame(frame) => Found {
             what: MESSAGE,
             kind: frame.kind as u8,
             code: 0,
@@ -96,9 +96,9 @@ fn step_told(octets: &[u8], step: Step<'_>) -> Front
 
 /// What octets begin with: less than a message, a message, or a header with a fault. What stands behind a message has no effect.
 #[unsafe(no_mangle)]
-pub extern "C" fn ristulva_front(octets: &[u8], out: &mut Front) -> u32
+pub extern "C" fn ristulva_front(octets: &[u8], out: &mut Found) -> u32
     ensures status { result ≡ OK }
-    ensures front { IsFront octets.now out.new }
+    ensures found { IsFound octets.now out.new }
 {
     *out = step_told(octets, front(octets));
     OK

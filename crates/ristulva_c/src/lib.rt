@@ -1,6 +1,9 @@
 //! Ristulva for C: what `include/ristulva.h` declares. Each call is one of the libraries' calls, with its result told in numbers.
 #![tactic(auto)]
 
+mod context;
+mod copied;
 mod front;
+mod prefixes;
 mod span;
 pub mod status;

@@ -14,3 +14,6 @@ pub const INCOMPLETE: u32 = 4;
 
 /// There is less room than is needed.
 pub const ROOM: u32 = 5;
+
+/// Nothing is left.
+pub const END: u32 = 6;
