@@ -3,3 +3,4 @@ pub mod Wanted
 pub mod Steps
 pub mod PrefixSteps
 pub mod Between
+pub mod TlvSteps

@@ -1,6 +1,6 @@
 -- From the first piece of octets to those behind it, by its octets in number.
-use Rattle.std.proofs.Common.{◌≡◌, ℕ, ◌+◌, ◌≤◌, List, [], ◌∷◌, ◌++◌, length, drop, Option, Some, None, refl, sym, ap, ◌∙◌, subst, arith}
-use Rattle.std.proofs.lemmas.List.{length-append, drop_at}
+use Rattle.std.proofs.Common.{◌≡◌, ℕ, ◌+◌, ◌≤◌, List, [], ◌∷◌, ◌++◌, length, take, drop, Option, Some, None, refl, sym, ap, ◌∙◌, subst, arith}
+use Rattle.std.proofs.lemmas.List.{length-append, take_at, drop_at}
 use Rattle.bgp_wire.specs.Reader.{Reads, pieces}
 use Rattle.bgp_wire.proofs.Walks.{first_then, no_more}
 
@@ -10,6 +10,7 @@ module _ (A : Type 0) (R : A → List ℕ → Type 0) (one : List ℕ → Option
     pub front : List ℕ
     pub spelled : R v front
     pub within : length front ≤ length b
+    pub begins : take (length front) b ≡ front
     pub behind : vs ≡ (pieces one (drop (length front) b)).0
 
   abbrev StepsTo : List ℕ → List A → Type 0
@@ -26,6 +27,7 @@ module _ (A : Type 0) (R : A → List ℕ → Type 0) (one : List ℕ → Option
         front = g.0;
         spelled = g.2;
         within = omega arith;
+        begins = ap (take (length g.0)) g.1 ∙ take_at g.0 back (length g.0) refl;
         behind = ap (λ (x : List ℕ). (pieces one x).0) (sym dropped);
       })
 

@@ -4,3 +4,5 @@ pub mod Copied
 pub mod Front
 pub mod Context
 pub mod Prefixes
+pub mod Attributes
+pub mod Parts

@@ -1,9 +1,11 @@
 //! Ristulva for C: what `include/ristulva.h` declares. Each call is one of the libraries' calls, with its result told in numbers.
 #![tactic(auto)]
 
+mod attributes;
 mod context;
 mod copied;
 mod front;
+mod parts;
 mod prefixes;
 mod span;
 pub mod status;
