@@ -6,3 +6,4 @@ pub mod Context
 pub mod Prefixes
 pub mod Attributes
 pub mod Parts
+pub mod Judge
