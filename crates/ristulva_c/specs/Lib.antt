@@ -7,3 +7,4 @@ pub mod Prefixes
 pub mod Attributes
 pub mod Parts
 pub mod Judge
+pub mod Text

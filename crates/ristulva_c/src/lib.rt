@@ -10,4 +10,5 @@ mod parts;
 mod prefixes;
 mod span;
 pub mod status;
+mod text;
 mod version;
