@@ -12,7 +12,7 @@
  *  - What a call writes (`out`, `cursor`, a buffer, a length) overlaps nothing else that it is handed.
  *  - Octets are `const uint8_t *octets, size_t len`. A message has at most 4096 of them (RFC 4271, section 4.1).
  *  - It answers a status. Where that isn't RISTULVA_OK, what it says of each status holds.
- *  - 64 KB of stack are enough.
+ *  - 32 KB of stack are enough.
  *
  * A place in octets is an offset in those that were handed in. So views of a message are offsets into the caller's own buffer.
  */
