@@ -4,3 +4,5 @@ pub mod Steps
 pub mod PrefixSteps
 pub mod Between
 pub mod TlvSteps
+pub mod NumberSteps
+pub mod SegmentSteps

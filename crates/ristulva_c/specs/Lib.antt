@@ -8,3 +8,5 @@ pub mod Attributes
 pub mod Parts
 pub mod Judge
 pub mod Text
+pub mod Numbers
+pub mod Segments
