@@ -6,3 +6,4 @@ pub mod Between
 pub mod TlvSteps
 pub mod NumberSteps
 pub mod SegmentSteps
+pub mod RouteSpans

@@ -10,3 +10,4 @@ pub mod Judge
 pub mod Text
 pub mod Numbers
 pub mod Segments
+pub mod Routes

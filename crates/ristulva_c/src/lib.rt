@@ -9,6 +9,7 @@ mod judge;
 mod numbers;
 mod parts;
 mod prefixes;
+mod routes;
 mod segments;
 mod span;
 pub mod status;
