@@ -172,6 +172,76 @@ static void walk_prefixes(const uint8_t *octets, size_t len, ristulva_prefixes c
     }
 }
 
+static void walk_numbers(const uint8_t *octets, size_t len, ristulva_numbers cursor)
+{
+    for (;;) {
+        ristulva_numbers old = cursor;
+        uint32_t number = 0;
+        ristulva_status status = ristulva_next_number(octets, len, &cursor, &number);
+        calls++;
+        WANT(cursor.end == old.end && cursor.width == old.width);
+        WANT((status == RISTULVA_RANGE) == (old.at > old.end || old.end > len || (old.width != 2 && old.width != 4)));
+        if (status != RISTULVA_OK) {
+            WANT(status == RISTULVA_END || status == RISTULVA_RANGE);
+            WANT(cursor.at == old.at && number == 0);
+            return;
+        }
+        WANT(cursor.at == old.at + old.width && cursor.at <= cursor.end && (number & 255) == octets[cursor.at - 1]);
+    }
+}
+
+static void walk_segments(const uint8_t *octets, size_t len, ristulva_segments cursor)
+{
+    for (;;) {
+        ristulva_segments old = cursor;
+        ristulva_segment segment;
+        ristulva_numbers numbers;
+        ristulva_status status = ristulva_next_segment(octets, len, &cursor, &segment);
+        calls++;
+        WANT(cursor.end == old.end && cursor.wide == old.wide && cursor.confederations == old.confederations);
+        WANT((status == RISTULVA_RANGE) == (old.at > old.end || old.end > len));
+        if (status != RISTULVA_OK) {
+            WANT(status == RISTULVA_END || status == RISTULVA_RANGE);
+            WANT(cursor.at == old.at);
+            return;
+        }
+        WANT(segment.kind >= 1 && segment.kind <= (old.confederations ? 4 : 2) && segment.kind == octets[old.at]);
+        WANT(segment.numbers.at == old.at + 2 && segment.numbers.at + segment.numbers.len == cursor.at && cursor.at <= cursor.end);
+        WANT(segment.numbers.len == octets[old.at + 1] * (old.wide ? 4u : 2u) && segment.numbers.len > 0);
+        numbers.at = segment.numbers.at;
+        numbers.end = cursor.at;
+        numbers.width = old.wide ? 4 : 2;
+        walk_numbers(octets, len, numbers);
+    }
+}
+
+/* A value as MP_REACH_NLRI, MP_UNREACH_NLRI and as a path. */
+static void walk_value(const uint8_t *octets, size_t len, ristulva_span value)
+{
+    ristulva_prefixes reached = {1, 2, 3}, unreached = {1, 2, 3};
+    ristulva_span hop = {5, 6};
+    ristulva_segments path;
+    ristulva_status of_reach = ristulva_reached(octets, len, &value, &hop, &reached);
+    ristulva_status of_unreach = ristulva_unreached(octets, len, &value, &unreached);
+    calls += 2;
+    WANT(of_reach == RISTULVA_OK || (of_reach == RISTULVA_RANGE && hop.at == 5 && reached.at == 1));
+    WANT(of_unreach == RISTULVA_OK || (of_unreach == RISTULVA_RANGE && unreached.at == 1));
+    if (of_reach == RISTULVA_OK) {
+        WANT(hop.at == value.at + 4 && hop.len == octets[value.at + 3] && reached.at == hop.at + hop.len + 1);
+        WANT(reached.end == value.at + value.len && reached.afi == octets[value.at + 1]);
+        walk_prefixes(octets, len, reached);
+    }
+    if (of_unreach == RISTULVA_OK) {
+        WANT(unreached.at == value.at + 3 && unreached.end == value.at + value.len && unreached.afi == octets[value.at + 1]);
+        walk_prefixes(octets, len, unreached);
+    }
+    path.at = value.at;
+    path.end = value.at + value.len;
+    path.wide = (uint8_t)below(2);
+    path.confederations = (uint8_t)below(2);
+    walk_segments(octets, len, path);
+}
+
 static void walk_attributes(const uint8_t *octets, size_t len, ristulva_attributes cursor)
 {
     for (;;) {
@@ -188,6 +258,7 @@ static void walk_attributes(const uint8_t *octets, size_t len, ristulva_attribut
         }
         WANT(attribute.at == old.at && attribute.flags == octets[old.at] && attribute.kind == octets[old.at + 1]);
         WANT(attribute.value.at + attribute.value.len == cursor.at && cursor.at <= cursor.end);
+        walk_value(octets, len, attribute.value);
     }
 }
 
@@ -235,8 +306,14 @@ static void try_all(const uint8_t *from, size_t len)
     for (i = 0; i < 4; i++) {
         ristulva_prefixes prefixes = {some_offset(len), some_offset(len), (uint16_t)below(4)};
         ristulva_attributes attributes = {some_offset(len), some_offset(len)};
+        ristulva_segments segments = {some_offset(len), some_offset(len), (uint8_t)below(3), (uint8_t)below(3)};
+        ristulva_numbers numbers = {some_offset(len), some_offset(len), (uint8_t)(below(3) * 2)};
+        ristulva_span value = {some_offset(len), some_offset(len)};
         walk_prefixes(octets, len, prefixes);
         walk_attributes(octets, len, attributes);
+        walk_segments(octets, len, segments);
+        walk_numbers(octets, len, numbers);
+        walk_value(octets, len, value);
     }
 }
 

@@ -179,6 +179,47 @@ typedef struct {
  * neither 1 nor 2. */
 ristulva_status ristulva_next_prefix(const uint8_t *octets, size_t len, ristulva_prefixes *cursor, ristulva_prefix *out);
 
+/* Begins a cursor at the prefixes of MP_REACH_NLRI (type 14; RFC 4760, section 3), of which `value` is the value, and tells where the
+ * next hop lies: 4 octets for IPv4; 16 for IPv6, or 32 where a link-local address stands behind the global one (RFC 2545).
+ *
+ * RISTULVA_RANGE, and nothing is written: the value isn't within the octets, has no room for what stands in front of the prefixes, or isn't
+ * of IPv4 or IPv6 unicast. Whether the family is in use, and the next hop of a length that it may have, is the verdict's to say: both are
+ * so where the UPDATE is accepted, and no note of it tells of this attribute. */
+ristulva_status ristulva_reached(const uint8_t *octets, size_t len, const ristulva_span *value, ristulva_span *next_hop,
+                                 ristulva_prefixes *cursor);
+
+/* The same for MP_UNREACH_NLRI (type 15; RFC 4760, section 4), which has no next hop. */
+ristulva_status ristulva_unreached(const uint8_t *octets, size_t len, const ristulva_span *value, ristulva_prefixes *cursor);
+
+typedef struct {
+    uint32_t at;
+    uint32_t end;
+    uint8_t wide;           /* whether AS numbers have four octets: 0 for no. For AS_PATH it is the context's `as4`, for AS4_PATH 1 */
+    uint8_t confederations; /* whether segments of confederations are read: 0 for no, as for AS_PATH; 1 for AS4_PATH (RFC 6793) */
+} ristulva_segments;
+
+/* A segment of a path (RFC 4271, section 4.3). */
+typedef struct {
+    uint8_t kind;          /* 1 AS_SET, 2 AS_SEQUENCE; of a confederation 3 and 4, which AS4_PATH drops */
+    ristulva_span numbers; /* its AS numbers, one at least */
+} ristulva_segment;
+
+/* Gives the segments of a path one after another, the nearest first: begin at the value of AS_PATH (type 2) or AS4_PATH (type 17).
+ * RISTULVA_END: no whole segment is left. RISTULVA_RANGE: `at` is above `end`, or `end` above `len`. */
+ristulva_status ristulva_next_segment(const uint8_t *octets, size_t len, ristulva_segments *cursor, ristulva_segment *out);
+
+typedef struct {
+    uint32_t at;
+    uint32_t end;
+    uint8_t width; /* how many octets each number has: 2 or 4 */
+} ristulva_numbers;
+
+/* Gives the numbers of a field one after another, highest octet first: begin at the numbers of a segment, with the width that its path
+ * has; or, with the width 4, at the value of COMMUNITIES (type 8; RFC 1997) or LARGE_COMMUNITY (type 32; RFC 8092), which has three
+ * for each community. RISTULVA_END: no whole number is left. RISTULVA_RANGE: `at` is above `end`, `end` above `len`, or `width` neither 2
+ * nor 4. */
+ristulva_status ristulva_next_number(const uint8_t *octets, size_t len, ristulva_numbers *cursor, uint32_t *out);
+
 #ifdef __cplusplus
 }
 #endif
