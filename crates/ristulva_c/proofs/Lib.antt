@@ -7,3 +7,4 @@ pub mod TlvSteps
 pub mod NumberSteps
 pub mod SegmentSteps
 pub mod RouteSpans
+pub mod Encodings

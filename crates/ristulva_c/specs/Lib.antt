@@ -11,3 +11,4 @@ pub mod Text
 pub mod Numbers
 pub mod Segments
 pub mod Routes
+pub mod Encode

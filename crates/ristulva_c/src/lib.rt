@@ -4,6 +4,7 @@
 mod attributes;
 mod context;
 mod copied;
+mod encode;
 mod front;
 mod judge;
 mod numbers;

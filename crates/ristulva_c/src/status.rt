@@ -17,3 +17,9 @@ pub const ROOM: u32 = 5;
 
 /// Nothing is left.
 pub const END: u32 = 6;
+
+/// The UPDATE isn't accepted whole.
+pub const REFUSED: u32 = 7;
+
+/// The UPDATE can't be written.
+pub const UNWRITABLE: u32 = 8;

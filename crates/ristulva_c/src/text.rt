@@ -65,7 +65,7 @@ fn lines(
 }
 
 /// Copies a text to the front of a buffer, and tells how long it is.
-fn write(text: &[u8], buffer: &mut [u8], len: &mut usize) -> u32
+pub(crate) fn write(text: &[u8], buffer: &mut [u8], len: &mut usize) -> u32
     ensures { IsWritten text.now (record { status = result; before = buffer.old; behind = buffer.new; len_before = len.old; len_behind = len.new }) }
 {
     *len = text.len();
