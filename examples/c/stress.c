@@ -262,6 +262,44 @@ static void walk_attributes(const uint8_t *octets, size_t len, ristulva_attribut
     }
 }
 
+/* A body as an UPDATE to send: what is written has to be read again, and to be its own written form. */
+static void try_encode(const ristulva_context *context, const uint8_t *body, size_t len, int narrow)
+{
+    size_t room = below(3) == 0 ? below(100) : RISTULVA_MESSAGE, written = 77, again = 0;
+    uint8_t message[RISTULVA_MESSAGE], other[RISTULVA_MESSAGE], data[1];
+    ristulva_context read = *context;
+    ristulva_verdict verdict;
+    ristulva_status status;
+    memset(message, 0x5a, sizeof message);
+    refused = below(4) == 0 ? 1 : 0;
+    for (;;) {
+        allocations = 0;
+        status = (narrow ? ristulva_narrow : ristulva_encode)(context, body, len, message, room, &written);
+        WANT(live == 0);
+        calls++;
+        if (status != RISTULVA_MEMORY)
+            break;
+        WANT(refused != 0 && written == 77 && message[0] == 0x5a);
+        refused++;
+    }
+    refused = 0;
+    WANT((status == RISTULVA_RANGE) == (len > RISTULVA_BODY));
+    if (status != RISTULVA_OK) {
+        WANT(message[0] == 0x5a);
+        WANT(status == RISTULVA_ROOM ? written > room && written <= RISTULVA_MESSAGE : written == 77);
+        WANT(status == RISTULVA_ROOM || status == RISTULVA_RANGE || status == RISTULVA_REFUSED || status == RISTULVA_UNWRITABLE);
+        return;
+    }
+    WANT(written <= room && (written == sizeof message || message[written] == 0x5a));
+    if (narrow)
+        read.as4 = 0;
+    WANT(ristulva_judge(&read, message, written, data, 0, &verdict) == RISTULVA_OK);
+    WANT(verdict.verdict == RISTULVA_UPDATE && verdict.len == written);
+    WANT(ristulva_encode(&read, message + 19, written - 19, other, sizeof other, &again) == RISTULVA_OK);
+    WANT(again == written && memcmp(message, other, written) == 0);
+    calls += 2;
+}
+
 static uint32_t some_offset(size_t len)
 {
     return below(20) == 0 ? (uint32_t)state : below((uint32_t)len + 3);
@@ -302,7 +340,10 @@ static void try_all(const uint8_t *from, size_t len)
         walk_prefixes(octets, len, gone);
         walk_prefixes(octets, len, nlri);
         walk_attributes(octets, len, field);
+        try_encode(&context, octets + 19, found.len - 19, 0);
+        try_encode(&context, octets + 19, found.len - 19, 1);
     }
+    try_encode(&context, octets, len, (int)below(2));
     for (i = 0; i < 4; i++) {
         ristulva_prefixes prefixes = {some_offset(len), some_offset(len), (uint16_t)below(4)};
         ristulva_attributes attributes = {some_offset(len), some_offset(len)};

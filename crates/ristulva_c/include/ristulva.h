@@ -44,6 +44,8 @@ typedef uint32_t ristulva_status;
 #define RISTULVA_INCOMPLETE 4u /* the octets are less than a message: nothing has changed */
 #define RISTULVA_ROOM 5u       /* a buffer has less room than is needed */
 #define RISTULVA_END 6u        /* nothing is left: nothing has changed */
+#define RISTULVA_REFUSED 7u    /* an UPDATE that isn't accepted whole: nothing has changed */
+#define RISTULVA_UNWRITABLE 8u /* an UPDATE that can't be written: nothing has changed */
 
 /* ---- octets ---- */
 
@@ -137,6 +139,28 @@ ristulva_status ristulva_judge(const ristulva_context *context, const uint8_t *o
  * RISTULVA_MEMORY, RISTULVA_INCOMPLETE: nothing is written. RISTULVA_ROOM: `written` is, and says how much room is needed. */
 ristulva_status ristulva_text(const ristulva_context *context, uint64_t place, const uint8_t *octets, size_t len, char *text, size_t room,
                               size_t *written);
+
+/* ---- sending (RFC 4271, section 4.3) ---- */
+
+/* The most octets of a message, and of the body of one. */
+#define RISTULVA_MESSAGE 4096u
+#define RISTULVA_BODY 4077u
+
+/* Writes the message of an UPDATE in its one written form to the front of `message`, which has room for `room` octets; those behind it
+ * stay. `body` is the body of that UPDATE in any valid spelling, without the header: its attributes may stand in any order, with lengths of
+ * one octet or of two. It is judged as if it had been received in this context. `written` is how many octets the message has: never
+ * more than RISTULVA_MESSAGE. It allocates.
+ *
+ * RISTULVA_MEMORY; RISTULVA_RANGE, the body has more than RISTULVA_BODY octets; RISTULVA_REFUSED, it isn't accepted, or some of it is
+ * discarded; RISTULVA_UNWRITABLE, it can't be written or would be too long: nothing is written. RISTULVA_ROOM: `written` is. */
+ristulva_status ristulva_encode(const ristulva_context *context, const uint8_t *body, size_t len, uint8_t *message, size_t room,
+                                size_t *written);
+
+/* The same for a speaker with AS numbers of two octets (RFC 6793, section 4.2.2): 23456 stands for each number that needs four, and AS4_PATH
+ * and AS4_AGGREGATOR beside AS_PATH and AGGREGATOR where one does. `body` has AS numbers of four octets, whatever `as4` of the context says.
+ * RISTULVA_UNWRITABLE: as above, or there are more of these than a message has room for. */
+ristulva_status ristulva_narrow(const ristulva_context *context, const uint8_t *body, size_t len, uint8_t *message, size_t room,
+                                size_t *written);
 
 /* ---- cursors ----
  *

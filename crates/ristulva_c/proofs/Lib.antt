@@ -8,3 +8,4 @@ pub mod NumberSteps
 pub mod SegmentSteps
 pub mod RouteSpans
 pub mod Encodings
+pub mod Narrowings

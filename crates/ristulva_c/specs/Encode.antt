@@ -1,11 +1,13 @@
 -- The one written form of an UPDATE that is handed in in some spelling.
-use Rattle.std.specs.Prelude.{◌≡◌, ◌<◌, ◌≤◌, ◌⊎◌, not, ◌&&◌, ℕ, List, [], ◌∷◌, length, Option, Some, None, option_map, if◌then◌else◌}
+use Rattle.std.specs.Prelude.{◌≡◌, ◌<◌, ◌≤◌, ◌⊎◌, not, ◌&&◌, false, ℕ, List, [], ◌∷◌, length, Option, Some, None, option_map, if◌then◌else◌}
 use Rattle.bgp_open.specs.declared.context.Context.{Context}
 use Rattle.bgp_update.specs.declared.note.Note.{Note}
 use Rattle.bgp_update.specs.declared.update.Update.{Update}
 use Rattle.bgp_update.specs.declared.verdict.Verdict.{Verdict}
 use Rattle.bgp_update.specs.declared.verdict.Verdict.TheVariants as verdict
+use Rattle.bgp_update.specs.As4.{narrowed_update}
 use Rattle.bgp_update.specs.Verdict.{verdict_of}
+use Rattle.bgp_update.specs.Widths.{with_as4}
 use Rattle.bgp_msg.specs.declared.message.Message.TheVariants as message
 use Rattle.bgp_msg.specs.Written.{canonical, is_valid, is_too_long}
 use Rattle.ristulva_c.specs.declared.encode.Coded.{Coded}
@@ -30,6 +32,10 @@ written_of ctx u =
     then Some (canonical ctx (message.Update u))
     else None
 
+-- the same as a speaker with AS numbers of two octets is told it (RFC 6793)
+abbrev pub narrowed_of : Context → Update → Option (List ℕ)
+narrowed_of ctx u = written_of (with_as4 false ctx) (narrowed_update u)
+
 -- what the code calls it
 abbrev pub IsCoded : Coded → Option (Option (List ℕ)) → Type 0
 IsCoded coded.Refused found = found ≡ None
@@ -43,8 +49,11 @@ Writes (Some None) w = IsLeft UNWRITABLE w
 Writes (Some (Some octets)) w = IsWritten octets w
 
 -- a body is too long to be one, or this comes of it; or memory ran out
+abbrev pub Comes : List ℕ → Option (Option (List ℕ)) → Writing → Type 0
+Comes body found w = ((4077 < length body) × IsLeft RANGE w) ⊎ (((length body ≤ 4077) × Writes found w) ⊎ IsLeft MEMORY w)
+
 abbrev pub IsEncoded : Context → List ℕ → Writing → Type 0
-IsEncoded ctx body w =
-    ((4077 < length body) × IsLeft RANGE w)
-    ⊎ (((length body ≤ 4077) × Writes (option_map (written_of ctx) (taken_of (verdict_of ctx body))) w)
-    ⊎ IsLeft MEMORY w)
+IsEncoded ctx body w = Comes body (option_map (written_of ctx) (taken_of (verdict_of ctx body))) w
+
+abbrev pub IsNarrowed : Context → List ℕ → Writing → Type 0
+IsNarrowed ctx body w = Comes body (option_map (narrowed_of ctx) (taken_of (verdict_of ctx body))) w
