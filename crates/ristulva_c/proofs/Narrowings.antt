@@ -1,5 +1,5 @@
 -- What is narrowed.
-use Rattle.std.proofs.Common.{◌≡◌, Bool, true, ℕ, List}
+use Rattle.std.proofs.Common.{◌≡◌, true, ℕ, List}
 use Rattle.bgp_wire.specs.Octets.{AreOctets}
 use Rattle.bgp_open.specs.declared.context.Context.{Context}
 use Rattle.bgp_update.specs.declared.note.Note.{Note}

@@ -1,5 +1,5 @@
 -- From a number to those behind it.
-use Rattle.std.proofs.Common.{◌≡◌, ℕ, ◌+◌, ◌-◌, ◌<◌, ◌≤◌, Bool, true, false, List, [], ◌∷◌, length, get_or, take, drop, refl, sym, ap, ◌∙◌, arith}
+use Rattle.std.proofs.Common.{◌≡◌, ℕ, ◌+◌, ◌-◌, ◌<◌, ◌≤◌, Bool, true, false, List, [], ◌∷◌, length, get_or, take, drop, sym, ap, ◌∙◌, arith}
 use Rattle.std.specs.Int.{w16, w32, from_be_bytes}
 use Rattle.bgp_attr.specs.Numbers.{number_width, number_in, numbers_of}
 use Rattle.bgp_attr.proofs.NumberSteps.{number_then, no_number}
@@ -10,8 +10,11 @@ use Rattle.ristulva_c.proofs.Between.{between_later, length_between}
 
 first_is : (wide : Bool) (b : List ℕ) (n : ℕ) → number_width wide ≤ length b → number_in wide (take (number_width wide) b) ≡ n → FirstIs wide b n
 first_is wide b n le is =
-    record { first = number_then wide b (number_in wide (take (number_width wide) b)) (drop (number_width wide) b) (sym (number_there wide b le))
-    ∙ ap (λ (k : ℕ). k ∷ numbers_of wide (drop (number_width wide) b)) is; within = le }
+    record {
+      first = number_then wide b (number_in wide (take (number_width wide) b)) (drop (number_width wide) b) (sym (number_there wide b le))
+          ∙ ap (λ (k : ℕ). k ∷ numbers_of wide (drop (number_width wide) b)) is;
+      within = le;
+    }
 
 pub first_four : (b : List ℕ) (n : ℕ) → 4 ≤ length b → n ≡ from_be_bytes w32 (get_or b 0 0 ∷ get_or b 1 0 ∷ get_or b 2 0 ∷ get_or b 3 0 ∷ []) → FirstIs true b n
 first_four (a ∷ b ∷ c ∷ d ∷ rest) n le is = first_is true (a ∷ b ∷ c ∷ d ∷ rest) n le (sym is)
@@ -34,6 +37,6 @@ pub numbers_behind : (b field : List ℕ) (wide : Bool) (at end n k : ℕ) → f
 numbers_behind b field wide at end n k is order within width first =
     let fits : at + k ≤ end = omega (arith, first.within, width, ap length is, length_between b at end order within) in
     let later : drop (number_width wide) field ≡ between b (at + k) end =
-        ap (λ (m : ℕ). drop m field) (let e : number_width wide ≡ (at + k) - at = omega (arith, width) in e)
-        ∙ ap (drop ((at + k) - at)) is ∙ between_later b at (at + k) end (omega arith) fits in
+    ap (λ (m : ℕ). drop m field) (let e : number_width wide ≡ (at + k) - at = omega (arith, width) in e)
+    ∙ ap (drop ((at + k) - at)) is ∙ between_later b at (at + k) end (omega arith) fits in
     ap (numbers_of wide) (sym is) ∙ first.first ∙ ap (λ (x : List ℕ). n ∷ numbers_of wide x) later

@@ -1,17 +1,16 @@
 -- The prefixes of MP_REACH_NLRI and MP_UNREACH_NLRI, by a cursor.
-use Rattle.std.proofs.Common.{◌≡◌, ◌≢◌, ℕ, ◌+◌, ◌-◌, ◌≤◌, ◌⊎◌, List, length, take, drop, eqb, inl, inr, refl, sym, ap, ap₂, ◌∙◌, subst, arith, length-drop}
+use Rattle.std.proofs.Common.{◌≡◌, ◌≢◌, ℕ, ◌+◌, ◌-◌, ◌≤◌, ◌⊎◌, List, length, take, drop, inl, inr, refl, sym, ap, ◌∙◌, arith, length-drop}
 use Rattle.std.proofs.lemmas.Bool.{eq-eqb, ne_eqb}
 use Rattle.std.proofs.lemmas.List.{length-take}
 use Rattle.bgp_numbers.specs.declared.afi.TheConstants.{IPV4, IPV6}
 use Rattle.bgp_numbers.specs.declared.safi.TheConstants.{UNICAST}
-use Rattle.bgp_prefix.specs.Prefix.{PrefixValue}
 use Rattle.bgp_prefix.specs.Run.{run_of}
-use Rattle.bgp_attr.specs.Mp.{afi_of, safi_of, next_hop_length, next_hop_of, reached_of, withdrawn_of, mp_reach_of, mp_unreach_of}
+use Rattle.bgp_attr.specs.Mp.{afi_of, safi_of, next_hop_length, reached_of, withdrawn_of, mp_reach_of, mp_unreach_of}
 use Rattle.ristulva_c.specs.declared.span.Span.{Span}
 use Rattle.ristulva_c.specs.declared.prefixes.Prefixes.{Prefixes}
 use Rattle.ristulva_c.specs.Span.{octets_in}
 use Rattle.ristulva_c.specs.Prefixes.{width_of, between, prefixes_left}
-use Rattle.ristulva_c.specs.Routes.{reach_prefixes, unreach_prefixes, hop_of, LiesIn, HasFamily, IsReachValue}
+use Rattle.ristulva_c.specs.Routes.{reach_prefixes, unreach_prefixes, LiesIn, HasFamily, IsReachValue}
 use Rattle.ristulva_c.proofs.Between.{between_later}
 
 -- six isn't four
@@ -43,9 +42,9 @@ module _ (v : List ℕ) (unicast : safi_of v ≡ UNICAST) where
 behind_in : (octets : List ℕ) (span : Span) (n : ℕ) → n ≤ span.len → between octets (span.at + n) (span.at + span.len) ≡ drop n (octets_in span octets)
 behind_in octets span n le =
     sym (
-        ap (λ (k : ℕ). drop n (take k (drop span.at octets))) (let e : span.len ≡ (span.at + span.len) - span.at = omega arith in e)
-        ∙ ap (λ (k : ℕ). drop k (between octets span.at (span.at + span.len))) (let e : n ≡ (span.at + n) - span.at = omega arith in e)
-        ∙ between_later octets span.at (span.at + n) (span.at + span.len) (omega arith) (omega arith)
+    ap (λ (k : ℕ). drop n (take k (drop span.at octets))) (let e : span.len ≡ (span.at + span.len) - span.at = omega arith in e)
+    ∙ ap (λ (k : ℕ). drop k (between octets span.at (span.at + span.len))) (let e : n ≡ (span.at + n) - span.at = omega arith in e)
+    ∙ between_later octets span.at (span.at + n) (span.at + span.len) (omega arith) (omega arith)
     )
 
 long_in : (octets : List ℕ) (span : Span) → LiesIn span octets → length (octets_in span octets) ≡ span.len

@@ -3,7 +3,7 @@ use Rattle.std.proofs.Common.{◌≡◌, ◌≢◌, ℕ, ◌+◌, ◌-◌, ◌*�
 use Rattle.std.proofs.lemmas.Bool.{eq-eqb, ne_eqb}
 use Rattle.std.proofs.lemmas.List.{drop-take, drop-drop, take-take}
 use Rattle.bgp_attr.specs.Numbers.{number_width, numbers_of}
-use Rattle.bgp_attr.specs.Path.{WireSegment, is_known, segments_of}
+use Rattle.bgp_attr.specs.Path.{WireSegment, is_known}
 use Rattle.bgp_attr.proofs.SegmentFronts.{one_segment-short, one_segment-there, one_segment-past}
 use Rattle.bgp_attr.proofs.SegmentSteps.{no_segment, segment_then}
 use Rattle.ristulva_c.specs.Prefixes.{between}
@@ -72,8 +72,8 @@ module _ (wide confederations : Bool) where
       let more : drop (2 + len) (code ∷ n ∷ rest) ≡ drop len rest = sym (drop-drop len 2 (code ∷ n ∷ rest)) in
       record {
         first = taken code n rest (omega (arith, is)) test
-          ∙ ap (λ (k : ℕ). record { code = code; numbers = numbers_of wide (take k rest) } ∷ path_segments wide confederations (drop k rest)) (sym is)
-          ∙ ap (λ (x : List ℕ). record { code = code; numbers = numbers_of wide (take len rest) } ∷ path_segments wide confederations x) (sym more);
+            ∙ ap (λ (k : ℕ). record { code = code; numbers = numbers_of wide (take k rest) } ∷ path_segments wide confederations (drop k rest)) (sym is)
+            ∙ ap (λ (x : List ℕ). record { code = code; numbers = numbers_of wide (take len rest) } ∷ path_segments wide confederations x) (sym more);
         within = long;
       }
   first_segment [] len le is long known some = absurd (omega arith)
@@ -82,18 +82,18 @@ module _ (wide confederations : Bool) where
   -- what is left behind a segment, by the cursor
   pub segments_behind : (b field : List ℕ) (at end code len : ℕ) → field ≡ between b at end → at ≤ end → end ≤ length b → IsFirstSegment wide confederations field code len
       → path_segments wide confederations (between b at end)
-        ≡ record { code = code; numbers = numbers_of wide (take len (drop (at + 2) b)) } ∷ path_segments wide confederations (between b (at + (2 + len)) end)
+      ≡ record { code = code; numbers = numbers_of wide (take len (drop (at + 2) b)) } ∷ path_segments wide confederations (between b (at + (2 + len)) end)
   segments_behind b field at end code len is order within first =
       let fits : at + (2 + len) ≤ end = omega (arith, first.within, ap length is, length_between b at end order within) in
       let later : drop (2 + len) field ≡ between b (at + (2 + len)) end =
-          ap (λ (m : ℕ). drop m field) (let e : 2 + len ≡ (at + (2 + len)) - at = omega arith in e)
-          ∙ ap (drop ((at + (2 + len)) - at)) is ∙ between_later b at (at + (2 + len)) end (omega arith) fits in
+      ap (λ (m : ℕ). drop m field) (let e : 2 + len ≡ (at + (2 + len)) - at = omega arith in e)
+      ∙ ap (drop ((at + (2 + len)) - at)) is ∙ between_later b at (at + (2 + len)) end (omega arith) fits in
       let numbers : take len (drop 2 field) ≡ take len (drop (at + 2) b) =
-          ap (λ (x : List ℕ). take len (drop 2 x)) is
-          ∙ ap (λ (m : ℕ). take len (drop 2 (take m (drop at b)))) (let e : end - at ≡ 2 + (end - at - 2) = omega (arith, fits) in e)
-          ∙ ap (take len) (drop-take 2 (end - at - 2) (drop at b))
-          ∙ take-take len (end - at - 2) (drop 2 (drop at b)) (omega (arith, fits))
-          ∙ ap (take len) (drop-drop 2 at b) in
+      ap (λ (x : List ℕ). take len (drop 2 x)) is
+      ∙ ap (λ (m : ℕ). take len (drop 2 (take m (drop at b)))) (let e : end - at ≡ 2 + (end - at - 2) = omega (arith, fits) in e)
+      ∙ ap (take len) (drop-take 2 (end - at - 2) (drop at b))
+      ∙ take-take len (end - at - 2) (drop 2 (drop at b)) (omega (arith, fits))
+      ∙ ap (take len) (drop-drop 2 at b) in
       ap (path_segments wide confederations) (sym is) ∙ first.first
       ∙ ap (λ (x : List ℕ). record { code = code; numbers = numbers_of wide x } ∷ path_segments wide confederations (drop (2 + len) field)) numbers
       ∙ ap (λ (x : List ℕ). record { code = code; numbers = numbers_of wide (take len (drop (at + 2) b)) } ∷ path_segments wide confederations x) later

@@ -1,5 +1,5 @@
 -- The outcome of a message, in numbers.
-use Rattle.std.specs.Prelude.{◌≡◌, ℕ, List, [], length, nat_le, Option, Some, None, if◌then◌else◌}
+use Rattle.std.specs.Prelude.{◌≡◌, ℕ, List, [], length, nat_le, None, if◌then◌else◌}
 use Rattle.bgp_frame.specs.declared.kind.Kind.{Kind}
 use Rattle.bgp_frame.specs.declared.kind.Kind.TheVariants as kind
 use Rattle.bgp_frame.specs.declared.notification.Notification.{Notification}

@@ -2,7 +2,6 @@
 use Rattle.std.specs.Prelude.{◌≡◌, ◌+◌, ℕ, List, length, Option, Some, None}
 use Rattle.bgp_update.specs.Parts as update
 use Rattle.ristulva_c.specs.declared.parts.Parts.{Parts}
-use Rattle.ristulva_c.specs.declared.span.Span.{Span}
 use Rattle.ristulva_c.specs.Span.{octets_in, no_span}
 
 abbrev pub lengths_of : update.Parts → ℕ × ℕ × ℕ

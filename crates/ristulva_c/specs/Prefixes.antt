@@ -1,5 +1,5 @@
 -- Prefixes one after another, by a cursor.
-use Rattle.std.specs.Prelude.{◌≡◌, ◌==◌, ◌≤◌, ◌-◌, ◌⊎◌, ℕ, List, length, take, drop, replicate, if◌then◌else◌}
+use Rattle.std.specs.Prelude.{◌≡◌, ◌==◌, ◌≤◌, ◌-◌, ◌⊎◌, ℕ, List, length, take, drop, if◌then◌else◌}
 use Rattle.bgp_numbers.specs.declared.afi.TheConstants.{IPV4, IPV6}
 use Rattle.bgp_prefix.specs.Prefix.{PrefixValue}
 use Rattle.bgp_prefix.specs.Run.{run_of}

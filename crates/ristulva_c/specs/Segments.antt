@@ -1,5 +1,5 @@
 -- Segments of a path one after another, by a cursor.
-use Rattle.std.specs.Prelude.{◌≡◌, ◌==◌, ◌+◌, ◌≤◌, not, ◌∷◌, ℕ, Bool, List, length, take, drop}
+use Rattle.std.specs.Prelude.{◌≡◌, ◌+◌, ◌≤◌, ◌∷◌, ℕ, Bool, List, length, take, drop}
 use Rattle.bgp_attr.specs.Numbers.{numbers_of}
 use Rattle.bgp_attr.specs.Path.{WireSegment, segments_of}
 use Rattle.ristulva_c.specs.declared.segments.Segments.{Segments}

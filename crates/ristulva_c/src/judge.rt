@@ -123,12 +123,7 @@ fn parts_at(frame: &Frame<'_>) -> Parts
 }
 
 /// Tells the outcome of a whole message.
-fn tell_frame(
-    ctx: &SessionContext,
-    frame: Frame<'_>,
-    info: &mut [u8],
-    out: &mut Verdict,
-) -> u32
+fn tell_frame(ctx: &SessionContext, frame: Frame<'_>, info: &mut [u8], out: &mut Verdict) -> u32
     requires { IsLength frame.kind (19 + length frame.body.now) }
     ensures { Answers (context_of ctx.now) (step.Frame frame.entry) (record { status = result; before = out.old; behind = out.new; info_before = info.old; info_behind = info.new }) }
 {

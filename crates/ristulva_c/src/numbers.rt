@@ -34,9 +34,7 @@ fn first_four(octets: &[u8]) -> Option<u32>
     if octets.len() < 4 {
         return None;
     }
-    Some(u32::from_be_bytes([
-        octets[0], octets[1], octets[2], octets[3],
-    ]))
+    Some(u32::from_be_bytes([octets[0], octets[1], octets[2], octets[3]]))
 }
 
 /// The number of two octets at the front.

@@ -1,4 +1,4 @@
-use Rattle.std.proofs.Common.{◌≡◌, ◌+◌, ◌-◌, length, refl, sym, ◌∙◌}
+use Rattle.std.proofs.Common.{◌-◌, length, refl, sym, ◌∙◌}
 use Rattle.bgp_attr.specs.Tlv.{tlvs_of}
 use Rattle.ristulva_c.proofs.TlvSteps.{tlv_steps, placed_front, placed_none, whole_long}
 use Rattle.ristulva_c.proofs.attributes.first_attribute.Goals as goal

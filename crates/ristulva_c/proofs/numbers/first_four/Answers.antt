@@ -1,4 +1,4 @@
-use Rattle.std.proofs.Common.{true, false, ◌∙◌}
+use Rattle.std.proofs.Common.{true}
 use Rattle.ristulva_c.proofs.NumberSteps.{first_four, no_first}
 use Rattle.ristulva_c.proofs.numbers.first_four.Goals as goal
 

@@ -1,4 +1,4 @@
-use Rattle.std.proofs.Common.{true, false, ◌∙◌}
+use Rattle.std.proofs.Common.{false, ◌∙◌}
 use Rattle.ristulva_c.proofs.NumberSteps.{first_two, no_first}
 use Rattle.ristulva_c.proofs.numbers.first_two.Goals as goal
 

@@ -1,4 +1,4 @@
-use Rattle.std.proofs.Common.{◌≡◌, ℕ, ◌∷◌, List, ap, sym, subst, drop, ◌-◌}
+use Rattle.std.proofs.Common.{◌≡◌, ℕ, ◌∷◌, ap, sym, subst, drop, ◌-◌}
 use Rattle.bgp_prefix.specs.Run.{run_of}
 use Rattle.ristulva_c.specs.Prefixes.{width_of, prefix_told}
 use Rattle.ristulva_c.proofs.Between.{left_behind}

@@ -1,4 +1,4 @@
-use Rattle.std.proofs.Common.{◌≡◌, ℕ, ◌+◌, ap, ap₂, refl}
+use Rattle.std.proofs.Common.{ℕ, ◌+◌, ap₂}
 use Rattle.ristulva_c.specs.declared.prefixes.Prefixes.{Prefixes}
 use Rattle.ristulva_c.proofs.RouteSpans.{reach_left}
 use Rattle.ristulva_c.proofs.routes.ristulva_reached.Goals as goal

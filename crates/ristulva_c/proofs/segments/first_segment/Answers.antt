@@ -1,5 +1,4 @@
-use Rattle.std.proofs.Common.{◌≡◌, ℕ, ◌*◌, get_or, ap, sym, ◌∙◌}
-use Rattle.bgp_attr.specs.Numbers.{number_width}
+use Rattle.std.proofs.Common.{◌≡◌, ℕ, ◌*◌, ap, sym, ◌∙◌}
 use Rattle.ristulva_c.proofs.SegmentSteps.{short_segment, past_segment, unknown_segment, empty_segment, first_segment}
 use Rattle.ristulva_c.proofs.segments.first_segment.Goals as goal
 

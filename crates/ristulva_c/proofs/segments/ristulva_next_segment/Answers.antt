@@ -1,4 +1,3 @@
-use Rattle.std.proofs.Common.{◌≡◌}
 use Rattle.ristulva_c.specs.Context.{is_set}
 use Rattle.ristulva_c.proofs.SegmentSteps.{segments_behind}
 use Rattle.ristulva_c.proofs.segments.ristulva_next_segment.Goals as goal
