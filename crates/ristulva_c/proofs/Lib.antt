@@ -9,3 +9,4 @@ pub mod SegmentSteps
 pub mod RouteSpans
 pub mod Encodings
 pub mod Narrowings
+pub mod PartPlaces

@@ -1,5 +1,5 @@
 -- The outcome of a message, in numbers.
-use Rattle.std.specs.Prelude.{◌≡◌, ℕ, List, [], length, nat_le, None, if◌then◌else◌}
+use Rattle.std.specs.Prelude.{◌≡◌, Some, ℕ, List, [], length, nat_le, None, if◌then◌else◌}
 use Rattle.bgp_frame.specs.declared.kind.Kind.{Kind}
 use Rattle.bgp_frame.specs.declared.kind.Kind.TheVariants as kind
 use Rattle.bgp_frame.specs.declared.notification.Notification.{Notification}
@@ -9,6 +9,7 @@ use Rattle.bgp_frame.specs.Kind.{code_of}
 use Rattle.bgp_frame.specs.Step.{ShowsFront}
 use Rattle.bgp_open.specs.declared.context.Context.{Context}
 use Rattle.bgp_update.specs.Parts.{parts_of}
+use Rattle.bgp_update.specs.Parts as update
 use Rattle.bgp_msg.specs.declared.message.Message.TheVariants as message
 use Rattle.bgp_msg.specs.declared.outcome.Outcome.{Outcome}
 use Rattle.bgp_msg.specs.declared.outcome.Outcome.TheVariants as outcome
@@ -18,7 +19,7 @@ use Rattle.ristulva_c.specs.declared.judge.TheConstants.{OPEN, UPDATE, NOTIFICAT
 use Rattle.ristulva_c.specs.declared.parts.Parts.{Parts}
 use Rattle.ristulva_c.specs.declared.status.TheConstants.{INCOMPLETE, OK, ROOM}
 use Rattle.ristulva_c.specs.Copied.{copied}
-use Rattle.ristulva_c.specs.Parts.{parts_told}
+use Rattle.ristulva_c.specs.Parts.{parts_told, Lie}
 
 -- the number of an outcome
 abbrev pub number_of : Outcome → ℕ
@@ -85,7 +86,14 @@ Answers ctx (step.Frame f) j = IsTold (verdict_told (code_of f.kind) f.len (part
     (out_of ctx (record { kind = f.kind; body = f.body.now })) j
 Answers ctx (step.Fault fault) j = IsTold (verdict_told 0 0 (parts_told None) (of_fault fault)) (of_fault fault) j
 
+-- the octets at the offsets that are told of an UPDATE's parts are these parts
+abbrev pub PartsLie : List ℕ → Step → Type 0
+PartsLie octets (step.Frame f) = (p : update.Parts) → parts_of f.body.now ≡ Some p → Lie octets p (parts_told (Some p))
+PartsLie octets step.More = Unit {0}
+PartsLie octets (step.Fault fault) = Unit {0}
+
 pub record IsJudged (ctx : Context) (octets : List ℕ) (j : Judging) : Type 0 where
   pub found : Step
   pub shows : ShowsFront octets found
   pub answers : Answers ctx found j
+  pub lie : PartsLie octets found

@@ -1,6 +1,7 @@
 //! The outcome of a message.
 
 ghost use Rattle.std.specs.Prelude.{◌≡◌, ◌+◌, ◌≤◌, length, nat_le, if◌then◌else◌};
+ghost use Rattle.bgp_wire.specs.Octets.{AreOctets};
 ghost use Rattle.bgp_frame.specs.Notification.{notification_of_view};
 ghost use Rattle.bgp_frame.specs.Kind.{IsLength};
 ghost use Rattle.bgp_frame.specs.declared.step.Step.TheVariants as step;
@@ -147,6 +148,13 @@ fn tell_fault(fault: HeadFault, info: &mut [u8], out: &mut Verdict) -> u32
     tell(0, 0, no_parts(), &outcome, info, out)
 }
 
+/// What is handed in are octets: nothing is done.
+fn are_octets(octets: &[u8])
+    ensures { AreOctets octets.now }
+{
+    let _len = octets.len();
+}
+
 /// Judges the message that octets begin with, in the context of its session. What stands behind it has no effect.
 #[unsafe(no_mangle)]
 pub extern "C" fn ristulva_judge(
@@ -157,6 +165,7 @@ pub extern "C" fn ristulva_judge(
 ) -> u32
     ensures { IsJudged (context_of ctx.now) octets.now (record { status = result; before = out.old; behind = out.new; info_before = info.old; info_behind = info.new }) }
 {
+    are_octets(octets);
     match front(octets) {
         Step::More => INCOMPLETE,
         Step::Frame(frame) => tell_frame(ctx, frame, info, out),
