@@ -1,0 +1,251 @@
+"""Ristulva for Python: BGP-4 messages, read and judged by the library for C (dist/libristulva.so, which `./library` makes).
+
+    for message in ristulva.messages(octets, ristulva.Context(as4=True)):
+        print(message, end="")
+        for prefix in message.announced():
+            ...
+
+A Message keeps the octets that it was read from; what it gives is read from them when it is asked for."""
+
+import ctypes
+import dataclasses
+import ipaddress
+import os
+import pathlib
+from ctypes import POINTER, Structure, c_size_t, c_uint8, c_uint16, c_uint32, c_uint64
+
+MEMORY, RANGE, INCOMPLETE, ROOM, END, REFUSED, UNWRITABLE = 2, 3, 4, 5, 6, 7, 8
+VERSION = 1000
+DATA, MESSAGE = 4075, 4096
+VERDICTS = {1: "open", 2: "update", 3: "notification", 4: "keepalive", 5: "withdraw", 6: "reset"}
+
+
+class Span(Structure):
+    _fields_ = [("at", c_uint32), ("len", c_uint32)]
+
+
+class Said(Structure):
+    """What both speakers agreed on, as C has it."""
+
+    _fields_ = [("internal", c_uint8), ("as4", c_uint8), ("ip4", c_uint8), ("ip6", c_uint8)]
+
+
+class Verdict(Structure):
+    _fields_ = [("verdict", c_uint8), ("kind", c_uint8), ("code", c_uint8), ("subcode", c_uint8), ("len", c_uint32), ("data_len", c_uint32),
+                ("withdrawn", Span), ("attributes", Span), ("nlri", Span)]
+
+
+class Attributes(Structure):
+    _fields_ = [("at", c_uint32), ("end", c_uint32)]
+
+
+class CAttribute(Structure):
+    _fields_ = [("at", c_uint32), ("flags", c_uint8), ("kind", c_uint8), ("value", Span)]
+
+
+class Prefixes(Structure):
+    _fields_ = [("at", c_uint32), ("end", c_uint32), ("afi", c_uint16)]
+
+
+class CPrefix(Structure):
+    _fields_ = [("afi", c_uint16), ("len", c_uint8), ("addr", c_uint8 * 16)]
+
+
+class Segments(Structure):
+    _fields_ = [("at", c_uint32), ("end", c_uint32), ("wide", c_uint8), ("confederations", c_uint8)]
+
+
+class CSegment(Structure):
+    _fields_ = [("kind", c_uint8), ("numbers", Span)]
+
+
+class Numbers(Structure):
+    _fields_ = [("at", c_uint32), ("end", c_uint32), ("width", c_uint8)]
+
+
+def load():
+    """The shared library: that of the environment's RISTULVA, or of dist/."""
+    place = os.environ.get("RISTULVA", pathlib.Path(__file__).resolve().parents[2] / "dist/libristulva.so")
+    library = ctypes.CDLL(str(place))
+    octets = [ctypes.c_char_p, c_size_t]
+    # A buffer and its room come before what is written beside it.
+    buffer = [ctypes.c_char_p, c_size_t]
+    takes = {
+        "version": [],
+        "judge": [POINTER(Said), *octets, *buffer, POINTER(Verdict)],
+        "text": [POINTER(Said), c_uint64, *octets, *buffer, POINTER(c_size_t)],
+        "encode": [POINTER(Said), *octets, *buffer, POINTER(c_size_t)],
+        "narrow": [POINTER(Said), *octets, *buffer, POINTER(c_size_t)],
+        "next_attribute": [*octets, POINTER(Attributes), POINTER(CAttribute)],
+        "next_prefix": [*octets, POINTER(Prefixes), POINTER(CPrefix)],
+        "next_segment": [*octets, POINTER(Segments), POINTER(CSegment)],
+        "next_number": [*octets, POINTER(Numbers), POINTER(c_uint32)],
+        "reached": [*octets, POINTER(Span), POINTER(Span), POINTER(Prefixes)],
+        "unreached": [*octets, POINTER(Span), POINTER(Prefixes)],
+    }
+    for name, arguments in takes.items():
+        call = getattr(library, f"ristulva_{name}")
+        call.argtypes, call.restype = arguments, c_uint32
+    if library.ristulva_version() != VERSION:
+        raise ImportError(f"{place} has another version")
+    return library
+
+
+LIBRARY = load()
+
+
+@dataclasses.dataclass(frozen=True)
+class Context:
+    """What both speakers of a session agreed on."""
+
+    internal: bool = False
+    as4: bool = False
+    ip4: bool = False
+    ip6: bool = False
+
+    def said(self):
+        return Said(self.internal, self.as4, self.ip4, self.ip6)
+
+
+class Refused(Exception):
+    """An UPDATE that isn't accepted whole, or that can't be written."""
+
+
+@dataclasses.dataclass(frozen=True)
+class Attribute:
+    """A path attribute as it lies in its field."""
+
+    flags: int
+    kind: int
+    value: bytes
+    span: Span = dataclasses.field(repr=False, compare=False)
+
+
+def each(call, octets, cursor, out):
+    """What a cursor gives, one after another: always the same place, written anew."""
+    while getattr(LIBRARY, f"ristulva_{call}")(octets, len(octets), cursor, out) == 0:
+        yield out
+
+
+class Message:
+    """A message that was judged, or a header with a fault."""
+
+    def __init__(self, octets, context, place, verdict, data):
+        self.octets, self.context, self.place = octets, context, place
+        self.found, self.data = verdict, data
+
+    @property
+    def verdict(self):
+        """One of VERDICTS."""
+        return VERDICTS[self.found.verdict]
+
+    @property
+    def notification(self):
+        """Code, subcode and data of the NOTIFICATION that came, or that ends the session; else None."""
+        said = self.verdict in ("notification", "reset")
+        return (self.found.code, self.found.subcode, self.data) if said else None
+
+    def __str__(self):
+        """The lines that `bgp show` prints."""
+        room, written = 4096, c_size_t()
+        while True:
+            text = ctypes.create_string_buffer(room)
+            status = LIBRARY.ristulva_text(self.context.said(), self.place, self.octets, len(self.octets), text, room, written)
+            if status == MEMORY:
+                raise MemoryError
+            if status != ROOM:
+                return text.raw[: written.value].decode("ascii")
+            room = written.value
+
+    def attributes(self):
+        """The attributes of an UPDATE, kept or not, in their order."""
+        field = self.found.attributes
+        for it in each("next_attribute", self.octets, Attributes(field.at, field.at + field.len), CAttribute()):
+            value = Span(it.value.at, it.value.len)
+            yield Attribute(it.flags, it.kind, self.octets[value.at : value.at + value.len], value)
+
+    def first(self, kind):
+        """The first attribute of a type, which decides; None where there is none."""
+        return next((it for it in self.attributes() if it.kind == kind), None)
+
+    def prefixes(self, cursor):
+        for it in each("next_prefix", self.octets, cursor, CPrefix()):
+            address = bytes(it.addr)[: 4 if it.afi == 1 else 16]
+            yield ipaddress.ip_network((address, it.len))
+
+    def field(self, span):
+        return self.prefixes(Prefixes(span.at, span.at + span.len, 1))
+
+    def is_in_use(self, afi):
+        return self.context.ip4 if afi == 1 else self.context.ip6
+
+    def announced(self):
+        """The prefixes of MP_REACH_NLRI and then of the NLRI field."""
+        reach, hop, cursor = self.first(14), Span(), Prefixes()
+        if reach and LIBRARY.ristulva_reached(self.octets, len(self.octets), reach.span, hop, cursor) == 0 and self.is_in_use(cursor.afi):
+            yield from self.prefixes(cursor)
+        yield from self.field(self.found.nlri)
+
+    def withdrawn(self):
+        """The prefixes of Withdrawn Routes and then of MP_UNREACH_NLRI."""
+        yield from self.field(self.found.withdrawn)
+        unreach, cursor = self.first(15), Prefixes()
+        if unreach and LIBRARY.ristulva_unreached(self.octets, len(self.octets), unreach.span, cursor) == 0 and self.is_in_use(cursor.afi):
+            yield from self.prefixes(cursor)
+
+    def as_path(self):
+        """The segments of AS_PATH, each its type and its AS numbers; None where there is no AS_PATH."""
+        path = self.first(2)
+        if path is None:
+            return None
+        at, end = path.span.at, path.span.at + path.span.len
+        segments = each("next_segment", self.octets, Segments(at, end, self.context.as4, 0), CSegment())
+        return [(it.kind, self.numbers(it.numbers, 4 if self.context.as4 else 2)) for it in segments]
+
+    def numbers(self, span, width):
+        return [it.value for it in each("next_number", self.octets, Numbers(span.at, span.at + span.len, width), c_uint32())]
+
+    def communities(self):
+        """The numbers of COMMUNITIES."""
+        value = self.first(8)
+        return self.numbers(value.span, 4) if value else []
+
+
+def judge(octets, context, place=0):
+    """The message that octets begin with, or None where they are less than one."""
+    octets = bytes(octets[:MESSAGE])
+    verdict, data = Verdict(), ctypes.create_string_buffer(DATA)
+    if LIBRARY.ristulva_judge(context.said(), octets, len(octets), data, DATA, verdict) == INCOMPLETE:
+        return None
+    return Message(octets[: verdict.len or len(octets)], context, place, verdict, data.raw[: verdict.data_len])
+
+
+def messages(octets, context):
+    """The messages of a stream, up to the first that ends the session."""
+    place, message = 0, judge(octets, context)
+    while message is not None:
+        yield message
+        if message.verdict == "reset":
+            return
+        place += message.found.len
+        message = judge(octets[place:], context, place)
+
+
+def rewritten(call, body, context):
+    message, written = ctypes.create_string_buffer(MESSAGE), c_size_t()
+    status = getattr(LIBRARY, f"ristulva_{call}")(context.said(), body, len(body), message, MESSAGE, written)
+    if status == MEMORY:
+        raise MemoryError
+    if status != 0:
+        raise Refused({RANGE: "too long a body", REFUSED: "not accepted whole", UNWRITABLE: "can't be written"}[status])
+    return message.raw[: written.value]
+
+
+def encode(body, context):
+    """The message of the UPDATE that a body is, in its one written form."""
+    return rewritten("encode", bytes(body), context)
+
+
+def narrow(body, context):
+    """The same for a speaker with AS numbers of two octets."""
+    return rewritten("narrow", bytes(body), context)

@@ -1,0 +1,77 @@
+"""Tests of ristulva.py on the captures of examples/: `python3 -m unittest` in this folder, after `./library`."""
+
+import ipaddress
+import pathlib
+import unittest
+
+import ristulva
+
+EXAMPLES = pathlib.Path(__file__).resolve().parents[2] / "examples"
+MARKER = b"\xff" * 16
+
+
+def message(kind, body):
+    return MARKER + (19 + len(body)).to_bytes(2, "big") + bytes([kind]) + body
+
+
+# 10.0.0.0/8 by way of AS 65000 and 200000, and of 192.0.2.1.
+BODY = bytes.fromhex("0000" + "001f" + "40010100" + "40020a02020000fde800030d40" + "400304c0000201" + "c0080400010002" + "080a")
+
+
+class Captures(unittest.TestCase):
+    def test_lines(self):
+        """The lines of each capture are those beside it."""
+        for path in sorted(EXAMPLES.glob("*.hex")):
+            flags = path.with_suffix(".flags")
+            said = {flag[2:]: True for flag in flags.read_text().split()} if flags.exists() else {}
+            context = ristulva.Context(**said)
+            lines = "".join(str(it) for it in ristulva.messages(bytes.fromhex(path.read_text()), context))
+            with self.subTest(path.name):
+                wanted = path.with_suffix(".txt").read_text()
+                self.assertEqual(lines, wanted[: wanted.rindex("end ")])
+
+
+class Updates(unittest.TestCase):
+    context = ristulva.Context(as4=True)
+
+    def test_fields(self):
+        it = ristulva.judge(message(2, BODY), self.context)
+        self.assertEqual(it.verdict, "update")
+        self.assertEqual(list(it.announced()), [ipaddress.ip_network("10.0.0.0/8")])
+        self.assertEqual(list(it.withdrawn()), [])
+        self.assertEqual(it.as_path(), [(2, [65000, 200000])])
+        self.assertEqual(it.communities(), [0x00010002])
+        self.assertEqual([a.kind for a in it.attributes()], [1, 2, 3, 8])
+
+    def test_incomplete(self):
+        for count in range(len(message(2, BODY))):
+            self.assertIsNone(ristulva.judge(message(2, BODY)[:count], self.context))
+
+    def test_reset(self):
+        it = ristulva.judge(MARKER + bytes.fromhex("001304".replace("13", "12")), self.context)
+        self.assertEqual((it.verdict, it.notification), ("reset", (1, 2, b"\x00\x12")))
+
+    def test_notification(self):
+        it = ristulva.judge(message(3, b"\x06\x02\x03bye"), self.context)
+        self.assertEqual((it.verdict, it.notification), ("notification", (6, 2, b"\x03bye")))
+
+    def test_encode(self):
+        """ORIGIN behind AS_PATH, its length in two octets, is written in front of it in one."""
+        mixed = bytes.fromhex("0000" + "0020" + "40020a02020000fde800030d40" + "5001000100" + "400304c0000201" + "c0080400010002" + "080a")
+        self.assertEqual(ristulva.encode(mixed, self.context), message(2, BODY))
+        self.assertEqual(ristulva.encode(BODY, self.context), message(2, BODY))
+
+    def test_narrow(self):
+        """23456 stands for 200000, and AS4_PATH has it (RFC 6793, section 4.2.2)."""
+        body = bytes.fromhex("0000" + "0028" + "40010100" + "4002060202fde85ba0" + "400304c0000201" + "c0080400010002" + "c0110a02020000fde800030d40" + "080a")
+        self.assertEqual(ristulva.narrow(BODY, self.context), message(2, body))
+
+    def test_refused(self):
+        with self.assertRaises(ristulva.Refused):
+            ristulva.encode(BODY[:-2] + b"\x21\x0a", self.context)
+        with self.assertRaises(ristulva.Refused):
+            ristulva.encode(bytes(4078), self.context)
+
+
+if __name__ == "__main__":
+    unittest.main()

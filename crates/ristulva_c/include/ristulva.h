@@ -1,0 +1,251 @@
+/* Ristulva for C: BGP-4 messages, read and judged as RFC 4271 and RFC 7606 say.
+ *
+ * Each function is proved to do what its contract says, for every input; the comments below say the same in words.
+ *
+ * The caller owns every octet. No call keeps a pointer, gives one back, calls back, reads outside of what it is handed, or writes
+ * elsewhere than through the pointers that it is handed. A call only allocates where its comment says so, and frees what it took
+ * before it returns. There is no state but what the caller holds, so calls of several threads don't meet, as long as no two of them
+ * are handed the same place to write.
+ *
+ * Of every call:
+ *  - Pointers aren't null, also where the length beside them is 0.
+ *  - What a call writes (`out`, `cursor`, a buffer, a length) overlaps nothing else that it is handed.
+ *  - Octets are `const uint8_t *octets, size_t len`. A message has at most 4096 of them (RFC 4271, section 4.1).
+ *  - It answers a status. Where that isn't RISTULVA_OK, what it says of each status holds.
+ *  - 32 KB of stack are enough.
+ *
+ * A place in octets is an offset in those that were handed in. So views of a message are offsets into the caller's own buffer.
+ */
+#ifndef RISTULVA_H
+#define RISTULVA_H
+
+#include <stddef.h>
+#include <stdint.h>
+
+#ifdef __cplusplus
+extern "C" {
+#endif
+
+/* ---- version ---- */
+
+/* The version of this header, as ristulva_version() answers it: 1000000 times the first number, 1000 times the second, and the third. */
+#define RISTULVA_VERSION 1000u
+
+/* The version of the library that is linked. */
+uint32_t ristulva_version(void);
+
+/* ---- statuses ---- */
+
+typedef uint32_t ristulva_status;
+
+#define RISTULVA_OK 0u         /* the call did what it says */
+#define RISTULVA_MEMORY 2u     /* an allocation failed: nothing has changed, and the call can be made again */
+#define RISTULVA_RANGE 3u      /* an argument is out of its range: nothing has changed */
+#define RISTULVA_INCOMPLETE 4u /* the octets are less than a message: nothing has changed */
+#define RISTULVA_ROOM 5u       /* a buffer has less room than is needed */
+#define RISTULVA_END 6u        /* nothing is left: nothing has changed */
+#define RISTULVA_REFUSED 7u    /* an UPDATE that isn't accepted whole: nothing has changed */
+#define RISTULVA_UNWRITABLE 8u /* an UPDATE that can't be written: nothing has changed */
+
+/* ---- octets ---- */
+
+/* `len` octets from the offset `at` on. */
+typedef struct {
+    uint32_t at;
+    uint32_t len;
+} ristulva_span;
+
+/* ---- what stands at the front of octets (RFC 4271, sections 4.1 and 6.1) ---- */
+
+#define RISTULVA_MORE 0u  /* less than a message */
+#define RISTULVA_FOUND 1u /* a whole message */
+#define RISTULVA_FAULT 2u /* a header that begins no message: nothing behind it can be read */
+
+typedef struct {
+    uint8_t what; /* RISTULVA_MORE, RISTULVA_FOUND or RISTULVA_FAULT */
+    /* RISTULVA_FOUND: the type, 1 OPEN, 2 UPDATE, 3 NOTIFICATION, 4 KEEPALIVE. Else 0. */
+    uint8_t kind;
+    /* RISTULVA_FAULT: code and subcode of the NOTIFICATION that answers it, 1 and 1 to 3. Else 0. */
+    uint8_t code;
+    uint8_t subcode;
+    /* RISTULVA_FOUND: the message's octets, header included. RISTULVA_MORE: how many octets the message will have at least: 19 until
+     * its header is there, then what that says. RISTULVA_FAULT: 0. */
+    uint32_t len;
+    /* RISTULVA_FAULT: where the data of that NOTIFICATION lie, the field that is at fault: `len` is 0 for a Marker, 2 for a Length,
+     * 1 for a type. Else of no octets. */
+    ristulva_span data;
+} ristulva_found;
+
+/* Tells what octets of a stream begin with. What stands behind a message has no effect. Always RISTULVA_OK. */
+ristulva_status ristulva_front(const uint8_t *octets, size_t len, ristulva_found *out);
+
+/* ---- the outcome of a message (RFC 4271, section 6; RFC 7606) ---- */
+
+/* What both speakers of the session agreed on. Each is 0 for no, and any other number for yes. */
+typedef struct {
+    uint8_t internal; /* both have the same AS number */
+    uint8_t as4;      /* both offer AS numbers of four octets (RFC 6793) */
+    uint8_t ip4;      /* both offer IPv4 unicast (RFC 4760, section 8) */
+    uint8_t ip6;      /* both offer IPv6 unicast */
+} ristulva_context;
+
+#define RISTULVA_OPEN 1u         /* an OPEN is accepted */
+#define RISTULVA_UPDATE 2u       /* an UPDATE is accepted */
+#define RISTULVA_NOTIFICATION 3u /* a NOTIFICATION came: the peer has ended the session */
+#define RISTULVA_KEEPALIVE 4u    /* a KEEPALIVE is accepted */
+#define RISTULVA_WITHDRAW 5u     /* an UPDATE is treated as a withdrawal of all its routes (RFC 7606, section 2) */
+#define RISTULVA_RESET 6u        /* the session ends, by a NOTIFICATION to the peer */
+
+/* Where the parts of an UPDATE lie (RFC 4271, section 4.3). */
+typedef struct {
+    ristulva_span withdrawn;  /* Withdrawn Routes */
+    ristulva_span attributes; /* Path Attributes */
+    ristulva_span nlri;       /* Network Layer Reachability Information */
+} ristulva_parts;
+
+typedef struct {
+    uint8_t verdict; /* RISTULVA_OPEN to RISTULVA_RESET */
+    uint8_t kind;    /* the message's type, 1 to 4; 0 where its header has a fault */
+    /* RISTULVA_NOTIFICATION and RISTULVA_RESET: code and subcode of the NOTIFICATION that came, or is to be sent (RFC 4271,
+     * section 4.5). Else 0. */
+    uint8_t code;
+    uint8_t subcode;
+    uint32_t len; /* the message's octets; 0 where its header has a fault */
+    /* How many octets that NOTIFICATION's Data field has: at most RISTULVA_DATA. */
+    uint32_t data_len;
+    /* Of an UPDATE, where its lengths leave room for each other; else of no octets, at 0. */
+    ristulva_parts parts;
+} ristulva_verdict;
+
+/* The most octets of a NOTIFICATION's Data field. */
+#define RISTULVA_DATA 4075u
+
+/* Judges the message that octets begin with, in the context of its session. What stands behind it has no effect. No verdict depends on
+ * other messages, nor on memory.
+ *
+ * The Data field of the NOTIFICATION that came or that is to be sent is copied to the front of `data`, which has room for `room` octets;
+ * the octets behind it stay. RISTULVA_DATA octets of room are always enough.
+ *
+ * RISTULVA_INCOMPLETE: nothing is written. RISTULVA_ROOM: `out` is written, with the `data_len` that is needed; `data` isn't. */
+ristulva_status ristulva_judge(const ristulva_context *context, const uint8_t *octets, size_t len, uint8_t *data, size_t room,
+                               ristulva_verdict *out);
+
+/* ---- text ---- */
+
+/* Writes the lines that `bgp show` prints of what octets begin with, a message or a header with a fault, to the front of `text`, which has
+ * room for `room` octets; no zero stands behind them, and the octets behind them stay. `place` is the offset in the stream that the first
+ * line tells. `written` is how many octets the lines have. It allocates.
+ *
+ * RISTULVA_MEMORY, RISTULVA_INCOMPLETE: nothing is written. RISTULVA_ROOM: `written` is, and says how much room is needed. */
+ristulva_status ristulva_text(const ristulva_context *context, uint64_t place, const uint8_t *octets, size_t len, char *text, size_t room,
+                              size_t *written);
+
+/* ---- sending (RFC 4271, section 4.3) ---- */
+
+/* The most octets of a message, and of the body of one. */
+#define RISTULVA_MESSAGE 4096u
+#define RISTULVA_BODY 4077u
+
+/* Writes the message of an UPDATE in its one written form to the front of `message`, which has room for `room` octets; those behind it
+ * stay. `body` is the body of that UPDATE in any valid spelling, without the header: its attributes may stand in any order, with lengths of
+ * one octet or of two. It is judged as if it had been received in this context. `written` is how many octets the message has: never
+ * more than RISTULVA_MESSAGE. It allocates.
+ *
+ * RISTULVA_MEMORY; RISTULVA_RANGE, the body has more than RISTULVA_BODY octets; RISTULVA_REFUSED, it isn't accepted, or some of it is
+ * discarded; RISTULVA_UNWRITABLE, it can't be written or would be too long: nothing is written. RISTULVA_ROOM: `written` is. */
+ristulva_status ristulva_encode(const ristulva_context *context, const uint8_t *body, size_t len, uint8_t *message, size_t room,
+                                size_t *written);
+
+/* The same for a speaker with AS numbers of two octets (RFC 6793, section 4.2.2): 23456 stands for each number that needs four, and AS4_PATH
+ * and AS4_AGGREGATOR beside AS_PATH and AGGREGATOR where one does. `body` has AS numbers of four octets, whatever `as4` of the context says.
+ * RISTULVA_UNWRITABLE: as above, or there are more of these than a message has room for. */
+ristulva_status ristulva_narrow(const ristulva_context *context, const uint8_t *body, size_t len, uint8_t *message, size_t room,
+                                size_t *written);
+
+/* ---- cursors ----
+ *
+ * A cursor is a few numbers that a call moves over octets. To begin, set `at` and `end` to a span's first and last offset, and hand in the
+ * octets that the span lies in, the same at each call. The call gives what the cursor stands at, and moves it behind that. A cursor that
+ * points anywhere else gives other answers, RISTULVA_RANGE where it leaves the octets, and never a read outside of them.
+ */
+
+typedef struct {
+    uint32_t at;
+    uint32_t end;
+} ristulva_attributes;
+
+/* A path attribute as it lies in octets (RFC 4271, section 4.3). */
+typedef struct {
+    uint32_t at;   /* where its flags stand */
+    uint8_t flags; /* 128 optional, 64 transitive, 32 partial, 16 extended length */
+    uint8_t kind;  /* the type */
+    ristulva_span value;
+} ristulva_attribute;
+
+/* Gives the attributes of a field one after another, kept or not, up to the end or to one that is cut off: begin at the span `attributes`
+ * of a verdict. RISTULVA_END: no whole attribute is left. RISTULVA_RANGE: `at` is above `end`, or `end` above `len`. */
+ristulva_status ristulva_next_attribute(const uint8_t *octets, size_t len, ristulva_attributes *cursor, ristulva_attribute *out);
+
+typedef struct {
+    uint32_t at;
+    uint32_t end;
+    uint16_t afi; /* 1 for IPv4, 2 for IPv6 */
+} ristulva_prefixes;
+
+typedef struct {
+    uint16_t afi;
+    uint8_t len;      /* the length in bits: at most 32 for IPv4, and 128 for IPv6 */
+    uint8_t addr[16]; /* the address, highest octet first: four octets for IPv4. Bits behind the length are 0 */
+} ristulva_prefix;
+
+/* Gives the prefixes of a field one after another, up to the end or to the first fault: begin at the span `withdrawn` or `nlri` of a
+ * verdict with the family 1. RISTULVA_END: no whole prefix is left. RISTULVA_RANGE: `at` is above `end`, `end` above `len`, or `afi`
+ * neither 1 nor 2. */
+ristulva_status ristulva_next_prefix(const uint8_t *octets, size_t len, ristulva_prefixes *cursor, ristulva_prefix *out);
+
+/* Begins a cursor at the prefixes of MP_REACH_NLRI (type 14; RFC 4760, section 3), of which `value` is the value, and tells where the
+ * next hop lies: 4 octets for IPv4; 16 for IPv6, or 32 where a link-local address stands behind the global one (RFC 2545).
+ *
+ * RISTULVA_RANGE, and nothing is written: the value isn't within the octets, has no room for what stands in front of the prefixes, or isn't
+ * of IPv4 or IPv6 unicast. Whether the family is in use, and the next hop of a length that it may have, is the verdict's to say: both are
+ * so where the UPDATE is accepted, and no note of it tells of this attribute. */
+ristulva_status ristulva_reached(const uint8_t *octets, size_t len, const ristulva_span *value, ristulva_span *next_hop,
+                                 ristulva_prefixes *cursor);
+
+/* The same for MP_UNREACH_NLRI (type 15; RFC 4760, section 4), which has no next hop. */
+ristulva_status ristulva_unreached(const uint8_t *octets, size_t len, const ristulva_span *value, ristulva_prefixes *cursor);
+
+typedef struct {
+    uint32_t at;
+    uint32_t end;
+    uint8_t wide;           /* whether AS numbers have four octets: 0 for no. For AS_PATH it is the context's `as4`, for AS4_PATH 1 */
+    uint8_t confederations; /* whether segments of confederations are read: 0 for no, as for AS_PATH; 1 for AS4_PATH (RFC 6793) */
+} ristulva_segments;
+
+/* A segment of a path (RFC 4271, section 4.3). */
+typedef struct {
+    uint8_t kind;          /* 1 AS_SET, 2 AS_SEQUENCE; of a confederation 3 and 4, which AS4_PATH drops */
+    ristulva_span numbers; /* its AS numbers, one at least */
+} ristulva_segment;
+
+/* Gives the segments of a path one after another, the nearest first: begin at the value of AS_PATH (type 2) or AS4_PATH (type 17).
+ * RISTULVA_END: no whole segment is left. RISTULVA_RANGE: `at` is above `end`, or `end` above `len`. */
+ristulva_status ristulva_next_segment(const uint8_t *octets, size_t len, ristulva_segments *cursor, ristulva_segment *out);
+
+typedef struct {
+    uint32_t at;
+    uint32_t end;
+    uint8_t width; /* how many octets each number has: 2 or 4 */
+} ristulva_numbers;
+
+/* Gives the numbers of a field one after another, highest octet first: begin at the numbers of a segment, with the width that its path
+ * has; or, with the width 4, at the value of COMMUNITIES (type 8; RFC 1997) or LARGE_COMMUNITY (type 32; RFC 8092), which has three
+ * for each community. RISTULVA_END: no whole number is left. RISTULVA_RANGE: `at` is above `end`, `end` above `len`, or `width` neither 2
+ * nor 4. */
+ristulva_status ristulva_next_number(const uint8_t *octets, size_t len, ristulva_numbers *cursor, uint32_t *out);
+
+#ifdef __cplusplus
+}
+#endif
+
+#endif

@@ -1,0 +1,14 @@
+-- How many octets are wanted.
+use Rattle.std.proofs.Common.{◌≡◌, ℕ, ◌≤◌, List, length, Ok, Err, refl, sym, ap, ◌∙◌, arith}
+use Rattle.bgp_frame.specs.Head.{length_field, head_of}
+use Rattle.bgp_frame.specs.Frame.{wanted_by, wanted, Waits}
+use Rattle.bgp_frame.proofs.HeadLemmas.{Says-head_of}
+use Rattle.bgp_frame.proofs.FrameLemmas.{wanted_by_head}
+
+by_head : (b : List ℕ) (r : _) → head_of b ≡ r → 19 ≤ length b → Waits b → wanted b ≡ length_field b
+by_head b (Ok h) e long waits = (wanted_by_head b long ∙ ap wanted_by e) ∙ sym (Says-head_of b h e).len_is
+by_head b (Err f) e long waits = let is : wanted b ≡ 19 = wanted_by_head b long ∙ ap wanted_by e in absurd (omega arith)
+
+-- a header that is there, and less than its message: as many as its Length says
+pub wanted_is_length : (b : List ℕ) → 19 ≤ length b → Waits b → wanted b ≡ length_field b
+wanted_is_length b long waits = by_head b (head_of b) refl long waits

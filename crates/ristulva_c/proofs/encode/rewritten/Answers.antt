@@ -1,0 +1,7 @@
+use Rattle.std.proofs.Common.{Some, IfOk, subst}
+use Rattle.bgp_update.specs.declared.update.Update.{Update}
+use Rattle.ristulva_c.specs.Encode.{written_of, IsCoded}
+use Rattle.ristulva_c.proofs.encode.rewritten.Goals as goal
+
+pub returns : goal.returns
+returns c = subst (λ (u : Update). IfOk c.written.result (λ it. IsCoded it (Some (written_of c.args.ctx.now u)))) c.in_ok-update.ensures c.written.ensures

@@ -1,0 +1,59 @@
+-- The one written form of an UPDATE that is handed in in some spelling.
+use Rattle.std.specs.Prelude.{◌≡◌, ◌<◌, ◌≤◌, ◌⊎◌, not, ◌&&◌, false, ℕ, List, [], ◌∷◌, length, Option, Some, None, option_map, if◌then◌else◌}
+use Rattle.bgp_open.specs.declared.context.Context.{Context}
+use Rattle.bgp_update.specs.declared.note.Note.{Note}
+use Rattle.bgp_update.specs.declared.update.Update.{Update}
+use Rattle.bgp_update.specs.declared.verdict.Verdict.{Verdict}
+use Rattle.bgp_update.specs.declared.verdict.Verdict.TheVariants as verdict
+use Rattle.bgp_update.specs.As4.{narrowed_update}
+use Rattle.bgp_update.specs.Verdict.{verdict_of}
+use Rattle.bgp_update.specs.Widths.{with_as4}
+use Rattle.bgp_msg.specs.declared.message.Message.TheVariants as message
+use Rattle.bgp_msg.specs.Written.{canonical, is_valid, is_too_long}
+use Rattle.ristulva_c.specs.declared.encode.Coded.{Coded}
+use Rattle.ristulva_c.specs.declared.encode.Coded.TheVariants as coded
+use Rattle.ristulva_c.specs.declared.status.TheConstants.{MEMORY, RANGE, REFUSED, UNWRITABLE}
+use Rattle.ristulva_c.specs.Text.{Writing, IsLeft, IsWritten}
+
+abbrev pub without_notes : Update → List Note → Option Update
+without_notes u [] = Some u
+without_notes u (n ∷ ns) = None
+
+-- the UPDATE that is accepted whole: without a note
+abbrev pub taken_of : Verdict → Option Update
+taken_of (verdict.Take u notes) = without_notes u notes
+taken_of (verdict.Withdraw routes notes) = None
+taken_of (verdict.Reset n) = None
+
+-- the message of an UPDATE, where it can be written and isn't too long
+abbrev pub written_of : Context → Update → Option (List ℕ)
+written_of ctx u =
+    if is_valid ctx (message.Update u) && not (is_too_long ctx (message.Update u))
+    then Some (canonical ctx (message.Update u))
+    else None
+
+-- the same as a speaker with AS numbers of two octets is told it (RFC 6793)
+abbrev pub narrowed_of : Context → Update → Option (List ℕ)
+narrowed_of ctx u = written_of (with_as4 false ctx) (narrowed_update u)
+
+-- what the code calls it
+abbrev pub IsCoded : Coded → Option (Option (List ℕ)) → Type 0
+IsCoded coded.Refused found = found ≡ None
+IsCoded coded.Unwritable found = found ≡ Some None
+IsCoded (coded.Octets octets) found = found ≡ Some (Some octets.items)
+
+-- by what comes of a body: it isn't accepted whole, it can't be written, or its written form
+abbrev pub Writes : Option (Option (List ℕ)) → Writing → Type 0
+Writes None w = IsLeft REFUSED w
+Writes (Some None) w = IsLeft UNWRITABLE w
+Writes (Some (Some octets)) w = IsWritten octets w
+
+-- a body is too long to be one, or this comes of it; or memory ran out
+abbrev pub Comes : List ℕ → Option (Option (List ℕ)) → Writing → Type 0
+Comes body found w = ((4077 < length body) × IsLeft RANGE w) ⊎ (((length body ≤ 4077) × Writes found w) ⊎ IsLeft MEMORY w)
+
+abbrev pub IsEncoded : Context → List ℕ → Writing → Type 0
+IsEncoded ctx body w = Comes body (option_map (written_of ctx) (taken_of (verdict_of ctx body))) w
+
+abbrev pub IsNarrowed : Context → List ℕ → Writing → Type 0
+IsNarrowed ctx body w = Comes body (option_map (narrowed_of ctx) (taken_of (verdict_of ctx body))) w

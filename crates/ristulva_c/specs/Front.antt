@@ -1,0 +1,43 @@
+-- What stands at the front of octets, in numbers (RFC 4271, sections 4.1 and 6.1).
+use Rattle.std.specs.Prelude.{◌≡◌, List, ℕ}
+use Rattle.bgp_frame.specs.declared.fault.HeadFault.{HeadFault}
+use Rattle.bgp_frame.specs.declared.fault.HeadFault.TheVariants as fault
+use Rattle.bgp_frame.specs.declared.step.Step.{Step}
+use Rattle.bgp_frame.specs.declared.step.Step.TheVariants as step
+use Rattle.bgp_frame.specs.Frame.{wanted}
+use Rattle.bgp_frame.specs.Head.{head_notification}
+use Rattle.bgp_frame.specs.Kind.{code_of}
+use Rattle.bgp_frame.specs.Step.{ShowsFront}
+use Rattle.ristulva_c.specs.declared.front.Found.{Found}
+use Rattle.ristulva_c.specs.declared.front.TheConstants.{MORE, MESSAGE, FAULT}
+use Rattle.ristulva_c.specs.declared.span.Span.{Span}
+use Rattle.ristulva_c.specs.Span.{no_span}
+
+-- where the field of a header lies that is at fault: the Length, or the Type; of a Marker none is told
+abbrev pub fault_span : HeadFault → Span
+fault_span fault.Marker = no_span
+fault_span (fault.Length n) = record { at = 16; len = 2 }
+fault_span (fault.Kind code) = record { at = 18; len = 1 }
+
+-- a fault: the code and the subcode that answer it
+abbrev pub fault_told : HeadFault → Found
+fault_told f = record {
+  what = FAULT;
+  kind = 0;
+  code = (head_notification f).code;
+  subcode = (head_notification f).subcode;
+  len = 0;
+  info = fault_span f;
+}
+
+-- of less than a message, how many octets are wanted
+abbrev pub step_told : List ℕ → Step → Found
+step_told octets step.More = record { what = MORE; kind = 0; code = 0; subcode = 0; len = wanted octets; info = no_span }
+step_told octets (step.Frame frame) = record { what = MESSAGE; kind = code_of frame.kind; code = 0; subcode = 0; len = frame.len; info = no_span }
+step_told octets (step.Fault f) = fault_told f
+
+-- the numbers are those of what the octets begin with
+pub record IsFound (octets : List ℕ) (told : Found) : Type 0 where
+  pub step : Step
+  pub shows : ShowsFront octets step
+  pub numbers : told ≡ step_told octets step

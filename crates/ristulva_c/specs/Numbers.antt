@@ -1,0 +1,20 @@
+-- Numbers one after another, by a cursor.
+use Rattle.std.specs.Prelude.{◌≡◌, ◌==◌, ◌≤◌, ◌⊎◌, ◌∷◌, ℕ, Bool, List, length, drop}
+use Rattle.bgp_attr.specs.Numbers.{number_width, numbers_of}
+use Rattle.ristulva_c.specs.declared.numbers.Numbers.{Numbers}
+use Rattle.ristulva_c.specs.Prefixes.{between}
+
+-- the cursor's offsets lie in the octets, and its numbers have two or four of them
+pub record IsNumbers (octets : List ℕ) (cursor : Numbers) : Type 0 where
+  pub in_order : cursor.at ≤ cursor.end
+  pub within : cursor.end ≤ length octets
+  pub known : (cursor.width ≡ 2) ⊎ (cursor.width ≡ 4)
+
+-- the numbers still to come
+abbrev pub numbers_left : List ℕ → Numbers → List ℕ
+numbers_left octets cursor = numbers_of (cursor.width == 4) (between octets cursor.at cursor.end)
+
+-- octets begin with a number, of four octets where it is wide, else of two
+pub record FirstIs (wide : Bool) (b : List ℕ) (n : ℕ) : Type 0 where
+  pub first : numbers_of wide b ≡ n ∷ numbers_of wide (drop (number_width wide) b)
+  pub within : number_width wide ≤ length b

@@ -1,0 +1,31 @@
+-- Segments of a path one after another, by a cursor.
+use Rattle.std.specs.Prelude.{◌≡◌, ◌+◌, ◌≤◌, ◌∷◌, ℕ, Bool, List, length, take, drop}
+use Rattle.bgp_attr.specs.Numbers.{numbers_of}
+use Rattle.bgp_attr.specs.Path.{WireSegment, segments_of}
+use Rattle.ristulva_c.specs.declared.segments.Segments.{Segments}
+use Rattle.ristulva_c.specs.declared.segments.PathSegment.{PathSegment}
+use Rattle.ristulva_c.specs.Context.{is_set}
+use Rattle.ristulva_c.specs.Prefixes.{between}
+use Rattle.ristulva_c.specs.Span.{octets_in}
+
+-- the cursor's offsets lie in the octets
+pub record IsSegments (octets : List ℕ) (cursor : Segments) : Type 0 where
+  pub in_order : cursor.at ≤ cursor.end
+  pub within : cursor.end ≤ length octets
+
+-- the segments of octets, by the octets of an AS number and by whether segments of confederations are read
+abbrev pub path_segments : Bool → Bool → List ℕ → List WireSegment
+path_segments wide confederations b = (segments_of (record { wide = wide; confederations = confederations }) b).0
+
+-- the segments still to come
+abbrev pub segments_left : List ℕ → Segments → List WireSegment
+segments_left octets cursor = path_segments (is_set cursor.wide) (is_set cursor.confederations) (between octets cursor.at cursor.end)
+
+-- the segment that is told, with AS numbers of four octets where they are wide
+abbrev pub segment_told : Bool → List ℕ → PathSegment → WireSegment
+segment_told wide octets out = record { code = out.kind; numbers = numbers_of wide (octets_in out.numbers octets) }
+
+-- octets begin with a segment whose numbers have so many octets
+pub record IsFirstSegment (wide confederations : Bool) (b : List ℕ) (code len : ℕ) : Type 0 where
+  pub first : path_segments wide confederations b ≡ record { code = code; numbers = numbers_of wide (take len (drop 2 b)) } ∷ path_segments wide confederations (drop (2 + len) b)
+  pub within : 2 + len ≤ length b

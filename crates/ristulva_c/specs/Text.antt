@@ -1,0 +1,54 @@
+-- The printed form of a message, in a buffer of the caller's.
+use Rattle.std.specs.Prelude.{◌≡◌, ◌⊎◌, ℕ, List, length, nat_le, Option, Some, None, if◌then◌else◌}
+use Rattle.bgp_frame.specs.declared.step.Step.{Step}
+use Rattle.bgp_frame.specs.declared.step.Step.TheVariants as step
+use Rattle.bgp_frame.specs.Step.{ShowsFront}
+use Rattle.bgp_open.specs.declared.context.Context.{Context}
+use Rattle.bgp_msg.specs.Outcome.{out_of, of_fault}
+use Rattle.bgp_text.specs.Outcome.{outcome_lines}
+use Rattle.ristulva_c.specs.declared.status.TheConstants.{INCOMPLETE, MEMORY, OK, ROOM}
+use Rattle.ristulva_c.specs.Copied.{copied}
+
+-- the lines of what octets begin with: none of less than a message
+abbrev pub lines_of : Context → ℕ → Step → Option (List ℕ)
+lines_of ctx place step.More = None
+lines_of ctx place (step.Frame f) = Some (outcome_lines place f.len (out_of ctx (record { kind = f.kind; body = f.body.now })))
+lines_of ctx place (step.Fault fault) = Some (outcome_lines place 0 (of_fault fault))
+
+pub record HasLines (ctx : Context) (place : ℕ) (octets : List ℕ) (lines : Option (List ℕ)) : Type 0 where
+  pub found : Step
+  pub shows : ShowsFront octets found
+  pub are : lines ≡ lines_of ctx place found
+
+-- what a call has: its status, and what stands in the caller's places before and behind it
+pub record Writing : Type 0 where
+  pub status : ℕ
+  pub before : List ℕ
+  pub behind : List ℕ
+  pub len_before : ℕ
+  pub len_behind : ℕ
+
+-- nothing is changed
+pub record IsLeft (answer : ℕ) (w : Writing) : Type 0 where
+  pub status : w.status ≡ answer
+  pub buffer : w.behind ≡ w.before
+  pub len : w.len_behind ≡ w.len_before
+
+-- the text stands at the buffer's front where there is room; its length is told either way
+pub record IsWritten (text : List ℕ) (w : Writing) : Type 0 where
+  pub status : w.status ≡ (if nat_le (length text) (length w.before) then OK else ROOM)
+  pub buffer : w.behind ≡ copied text w.before
+  pub len : w.len_behind ≡ length text
+
+abbrev pub Prints : Option (List ℕ) → Writing → Type 0
+Prints None w = IsLeft INCOMPLETE w
+Prints (Some text) w = IsWritten text w
+
+pub record IsShown (ctx : Context) (place : ℕ) (octets : List ℕ) (w : Writing) : Type 0 where
+  pub lines : Option (List ℕ)
+  pub has : HasLines ctx place octets lines
+  pub prints : Prints lines w
+
+-- memory ran out, and nothing is changed; or the lines of what the octets begin with are written
+abbrev pub IsPrinted : Context → ℕ → List ℕ → Writing → Type 0
+IsPrinted ctx place octets w = IsLeft MEMORY w ⊎ IsShown ctx place octets w

@@ -1,0 +1,166 @@
+//! UPDATEs in their written form.
+
+ghost use Rattle.std.specs.Prelude.{◌≡◌, ◌≤◌, true, false, Some, length, option_map, IfOk};
+ghost use Rattle.bgp_wire.specs.Octets.{AreOctets};
+ghost use Rattle.bgp_update.specs.As4.{HasNoAs4};
+ghost use Rattle.bgp_update.specs.Widths.{with_as4};
+ghost use Rattle.bgp_update.specs.Verdict.{verdict_of};
+ghost use Rattle.bgp_update.specs.View.{update_value, notes_value};
+ghost use Rattle.ristulva_c.specs.Context.{context_of};
+ghost use Rattle.ristulva_c.specs.Encode.{taken_of, without_notes, written_of, narrowed_of, IsCoded, IsEncoded, IsNarrowed};
+
+use crate::context::{SessionContext, context_of};
+use crate::status::{MEMORY, RANGE, REFUSED, UNWRITABLE};
+use crate::text::write;
+use bgp_msg::encode_update;
+use bgp_open::Context;
+use bgp_update::{Found, Update, UpdateView, WriteFault, judge_update, narrow_in_place};
+use std::alloc::{AllocError, Global};
+
+/// What comes of a body.
+#[derive(Drop)]
+enum Coded {
+    /// It isn't accepted whole.
+    Refused,
+    /// It can't be written.
+    Unwritable,
+    /// Its message in its written form.
+    Octets(Vec<u8>),
+}
+
+/// The message of an UPDATE in its written form, where it can be written.
+fn written(alloc: Global, ctx: &Context, update: &Update) -> Result<Coded, AllocError>
+    ensures { IfOk result (λ it. IsCoded it (Some (written_of ctx.now update.now))) }
+{
+    let mut octets = Vec::new(alloc);
+    match encode_update(ctx, update, &mut octets) {
+        Ok(()) => Ok(Coded::Octets(octets)),
+        Err(WriteFault::Memory) => Err(AllocError),
+        Err(WriteFault::NotValid(_why)) => Ok(Coded::Unwritable),
+        Err(WriteFault::TooLong) => Ok(Coded::Unwritable),
+    }
+}
+
+/// The message of an UPDATE that is accepted, where it can be written.
+fn rewritten(alloc: Global, ctx: &Context, view: &UpdateView<'_>) -> Result<Coded, AllocError>
+    ensures { IfOk result (λ it. IsCoded it (Some (written_of ctx.now (update_value view.now)))) }
+{
+    let update = view.own(alloc)?;
+    written(alloc, ctx, &update)
+}
+
+/// The same, where it has no note.
+fn whole(alloc: Global, ctx: &Context, view: &UpdateView<'_>) -> Result<Coded, AllocError>
+    ensures { IfOk result (λ it. IsCoded it (option_map (written_of ctx.now) (without_notes (update_value view.now) (notes_value view.now)))) }
+{
+    match view.notes().next() {
+        Some(_) => Ok(Coded::Refused),
+        None => rewritten(alloc, ctx, view),
+    }
+}
+
+/// What comes of a body.
+fn encoded(alloc: Global, ctx: &Context, body: &[u8]) -> Result<Coded, AllocError>
+    requires { length body.now ≤ 4077 }
+    ensures { IfOk result (λ it. IsCoded it (option_map (written_of ctx.now) (taken_of (verdict_of ctx.now body.now)))) }
+{
+    match judge_update(ctx, body) {
+        Found::Take(view) => whole(alloc, ctx, &view),
+        Found::Withdraw(_) | Found::Reset(_) => Ok(Coded::Refused),
+    }
+}
+
+/// Writes the one written form of the UPDATE that a body is in some spelling, as a whole message.
+#[unsafe(no_mangle)]
+pub extern "C" fn ristulva_encode(
+    alloc: Global,
+    ctx: &SessionContext,
+    body: &[u8],
+    buffer: &mut [u8],
+    len: &mut usize,
+) -> u32
+    ensures { IsEncoded (context_of ctx.now) body.now (record { status = result; before = buffer.old; behind = buffer.new; len_before = len.old; len_behind = len.new }) }
+{
+    if body.len() > 4077 {
+        return RANGE;
+    }
+    match encoded(alloc, &context_of(ctx), body) {
+        Err(_) => MEMORY,
+        Ok(Coded::Refused) => REFUSED,
+        Ok(Coded::Unwritable) => UNWRITABLE,
+        Ok(Coded::Octets(octets)) => write(&octets, buffer, len),
+    }
+}
+
+/// The same session, but for the width of its AS numbers.
+fn with_as4(as4: bool, ctx: &Context) -> Context
+    ensures { result ≡ with_as4 as4 ctx.now }
+{
+    Context { as4, ..*ctx }
+}
+
+/// The message of an UPDATE that is accepted, as a speaker with AS numbers of two octets is told it, where it can be written.
+fn renarrowed(alloc: Global, ctx: &Context, view: &UpdateView<'_>) -> Result<Coded, AllocError>
+    requires { HasNoAs4 (update_value view.now).attrs }
+    ensures { IfOk result (λ it. IsCoded it (Some (narrowed_of ctx.now (update_value view.now)))) }
+{
+    let mut update = view.own(alloc)?;
+    narrow_in_place(alloc, &mut update.attrs)?;
+    let narrow_ctx = with_as4(false, ctx);
+    written(alloc, &narrow_ctx, &update)
+}
+
+/// The same, where it has no note.
+fn whole_narrowed(alloc: Global, ctx: &Context, view: &UpdateView<'_>) -> Result<Coded, AllocError>
+    requires { HasNoAs4 (update_value view.now).attrs }
+    ensures { IfOk result (λ it. IsCoded it (option_map (narrowed_of ctx.now) (without_notes (update_value view.now) (notes_value view.now)))) }
+{
+    match view.notes().next() {
+        Some(_) => Ok(Coded::Refused),
+        None => renarrowed(alloc, ctx, view),
+    }
+}
+
+/// What comes of a body of a session with AS numbers of four octets.
+fn narrowed(alloc: Global, ctx: &Context, body: &[u8]) -> Result<Coded, AllocError>
+    requires wide { ctx.now.as4 ≡ true }
+    requires long { length body.now ≤ 4077 }
+    ensures { IfOk result (λ it. IsCoded it (option_map (narrowed_of ctx.now) (taken_of (verdict_of ctx.now body.now)))) }
+{
+    are_octets(body);
+    match judge_update(ctx, body) {
+        Found::Take(view) => whole_narrowed(alloc, ctx, &view),
+        Found::Withdraw(_) | Found::Reset(_) => Ok(Coded::Refused),
+    }
+}
+
+/// What a body has are octets: nothing is done.
+fn are_octets(body: &[u8])
+    ensures { AreOctets body.now }
+{
+    let _len = body.len();
+}
+
+/// Writes the UPDATE that a body is in some spelling, of a session with AS numbers of four octets, as a speaker with two is told it
+/// (RFC 6793), as a whole message.
+#[unsafe(no_mangle)]
+pub extern "C" fn ristulva_narrow(
+    alloc: Global,
+    ctx: &SessionContext,
+    body: &[u8],
+    buffer: &mut [u8],
+    len: &mut usize,
+) -> u32
+    ensures { IsNarrowed (with_as4 true (context_of ctx.now)) body.now (record { status = result; before = buffer.old; behind = buffer.new; len_before = len.old; len_behind = len.new }) }
+{
+    if body.len() > 4077 {
+        return RANGE;
+    }
+    let wide = with_as4(true, &context_of(ctx));
+    match narrowed(alloc, &wide, body) {
+        Err(_) => MEMORY,
+        Ok(Coded::Refused) => REFUSED,
+        Ok(Coded::Unwritable) => UNWRITABLE,
+        Ok(Coded::Octets(octets)) => write(&octets, buffer, len),
+    }
+}

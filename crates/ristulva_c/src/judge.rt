@@ -1,0 +1,174 @@
+//! The outcome of a message.
+
+ghost use Rattle.std.specs.Prelude.{◌≡◌, ◌+◌, ◌≤◌, length, nat_le, if◌then◌else◌};
+ghost use Rattle.bgp_wire.specs.Octets.{AreOctets};
+ghost use Rattle.bgp_frame.specs.Notification.{notification_of_view};
+ghost use Rattle.bgp_frame.specs.Kind.{IsLength};
+ghost use Rattle.bgp_frame.specs.declared.step.Step.TheVariants as step;
+ghost use Rattle.bgp_open.specs.declared.context.Context.{Context};
+ghost use Rattle.bgp_msg.specs.OutcomeView.{outcome_value};
+ghost use Rattle.ristulva_c.specs.Context.{context_of};
+ghost use Rattle.ristulva_c.specs.Copied.{copied};
+ghost use Rattle.ristulva_c.specs.Judge.{number_of, said_by, verdict_told, parts_at, Answers, IsJudged};
+ghost use Rattle.ristulva_c.specs.declared.status.TheConstants.{INCOMPLETE, OK, ROOM};
+
+use crate::context::{SessionContext, context_of};
+use crate::copied::copy_into;
+use crate::parts::{Parts, no_parts, parts_in};
+use crate::status::{INCOMPLETE, OK, ROOM};
+use bgp_frame::{Frame, HeadFault, Kind, NotificationView, Step, front};
+use bgp_msg::{OutcomeView, view_frame};
+
+/// An OPEN is accepted.
+pub const OPEN: u8 = 1;
+
+/// An UPDATE is accepted.
+pub const UPDATE: u8 = 2;
+
+/// A NOTIFICATION came.
+pub const NOTIFICATION: u8 = 3;
+
+/// A KEEPALIVE is accepted.
+pub const KEEPALIVE: u8 = 4;
+
+/// An UPDATE is treated as a withdrawal of all its routes (RFC 7606, section 2).
+pub const WITHDRAW: u8 = 5;
+
+/// The session ends, by a NOTIFICATION to the peer.
+pub const RESET: u8 = 6;
+
+/// The outcome of a message.
+#[repr(C)]
+#[derive(Clone, Copy)]
+pub struct Verdict {
+    /// `OPEN`, `UPDATE`, `NOTIFICATION`, `KEEPALIVE`, `WITHDRAW` or `RESET`.
+    pub verdict: u8,
+    /// The type of the message, 1 to 4; 0 where its header has a fault.
+    pub kind: u8,
+    /// The code of the NOTIFICATION that came or that ends the session; else 0.
+    pub code: u8,
+    /// Its subcode.
+    pub subcode: u8,
+    /// The octets of the message; 0 where its header has a fault.
+    pub len: u32,
+    /// The octets of that NOTIFICATION's data.
+    pub info_len: u32,
+    /// Where the parts of an UPDATE lie, where its lengths leave room for each other.
+    pub parts: Parts,
+}
+
+/// The number of an outcome.
+fn number_of(outcome: &OutcomeView<'_>) -> u8
+    ensures { result ≡ number_of (outcome_value outcome.now) }
+{
+    match outcome {
+        OutcomeView::Open(_) => OPEN,
+        OutcomeView::Update(_) => UPDATE,
+        OutcomeView::Notification(_) => NOTIFICATION,
+        OutcomeView::Keepalive => KEEPALIVE,
+        OutcomeView::Withdraw(_) => WITHDRAW,
+        OutcomeView::Reset(_) => RESET,
+    }
+}
+
+/// The NOTIFICATION that came or that ends the session: nothing where there is none.
+fn said_by<'a>(outcome: &OutcomeView<'a>) -> NotificationView<'a>
+    ensures { notification_of_view result ≡ said_by (outcome_value outcome.now) }
+{
+    match outcome {
+        OutcomeView::Notification(said) => *said,
+        OutcomeView::Reset(why) => *why,
+        _ => NotificationView {
+            code: 0,
+            subcode: 0,
+            info: &[],
+        },
+    }
+}
+
+/// Tells an outcome, and copies the data of its NOTIFICATION.
+fn tell(
+    kind: u8,
+    len: u16,
+    parts: Parts,
+    outcome: &OutcomeView<'_>,
+    info: &mut [u8],
+    out: &mut Verdict,
+) -> u32
+    ensures status { result ≡ (if nat_le (length (said_by (outcome_value outcome.now)).info.items) (length info.old) then OK else ROOM) }
+    ensures info { info.new ≡ copied (said_by (outcome_value outcome.now)).info.items info.old }
+    ensures out { out.new ≡ verdict_told kind len parts (outcome_value outcome.now) }
+{
+    let said = said_by(outcome);
+    *out = Verdict {
+        verdict: number_of(outcome),
+        kind,
+        code: said.code,
+        subcode: said.subcode,
+        len: u32::from(len),
+        info_len: said.info.len() as u32,
+        parts,
+    };
+    if copy_into(said.info, info) { OK } else { ROOM }
+}
+
+/// Where the parts of a message lie.
+fn parts_at(frame: &Frame<'_>) -> Parts
+    requires { length frame.now.body.now ≤ 4077 }
+    ensures { result ≡ parts_at frame.now.kind frame.now.body.now }
+{
+    match frame.kind {
+        Kind::Update => parts_in(frame.body),
+        Kind::Open | Kind::Notification | Kind::Keepalive => no_parts(),
+    }
+}
+
+/// Tells the outcome of a whole message.
+fn tell_frame(ctx: &SessionContext, frame: Frame<'_>, info: &mut [u8], out: &mut Verdict) -> u32
+    requires { IsLength frame.kind (19 + length frame.body.now) }
+    ensures { Answers (context_of ctx.now) (step.Frame frame.entry) (record { status = result; before = out.old; behind = out.new; info_before = info.old; info_behind = info.new }) }
+{
+    let kind = frame.kind as u8;
+    let len = frame.len;
+    let parts = parts_at(&frame);
+    let outcome = view_frame(&context_of(ctx), frame);
+    tell(kind, len, parts, &outcome, info, out)
+}
+
+/// Tells the outcome of a header with a fault.
+fn tell_fault(fault: HeadFault, info: &mut [u8], out: &mut Verdict) -> u32
+    ensures { (ctx : Context) → Answers ctx (step.Fault fault) (record { status = result; before = out.old; behind = out.new; info_before = info.old; info_behind = info.new }) }
+{
+    let why = fault.notification();
+    let outcome = OutcomeView::Reset(NotificationView {
+        code: why.code,
+        subcode: why.subcode,
+        info: &why.info,
+    });
+    tell(0, 0, no_parts(), &outcome, info, out)
+}
+
+/// What is handed in are octets: nothing is done.
+fn are_octets(octets: &[u8])
+    ensures { AreOctets octets.now }
+{
+    let _len = octets.len();
+}
+
+/// Judges the message that octets begin with, in the context of its session. What stands behind it has no effect.
+#[unsafe(no_mangle)]
+pub extern "C" fn ristulva_judge(
+    ctx: &SessionContext,
+    octets: &[u8],
+    info: &mut [u8],
+    out: &mut Verdict,
+) -> u32
+    ensures { IsJudged (context_of ctx.now) octets.now (record { status = result; before = out.old; behind = out.new; info_before = info.old; info_behind = info.new }) }
+{
+    are_octets(octets);
+    match front(octets) {
+        Step::More => INCOMPLETE,
+        Step::Frame(frame) => tell_frame(ctx, frame, info, out),
+        Step::Fault(fault) => tell_fault(fault, info, out),
+    }
+}

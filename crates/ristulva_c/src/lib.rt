@@ -1,0 +1,18 @@
+//! Ristulva for C: what `include/ristulva.h` declares. Each call is one of the libraries' calls, with its result told in numbers.
+#![tactic(auto)]
+
+mod attributes;
+mod context;
+mod copied;
+mod encode;
+mod front;
+mod judge;
+mod numbers;
+mod parts;
+mod prefixes;
+mod routes;
+mod segments;
+mod span;
+pub mod status;
+mod text;
+mod version;

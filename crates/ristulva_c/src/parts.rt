@@ -1,0 +1,77 @@
+//! The parts of an UPDATE.
+
+ghost use Rattle.std.specs.Prelude.{◌≡◌, ◌+◌, ◌≤◌, None, length, option_map, IfSome};
+ghost use Rattle.bgp_update.specs.Parts.{behind_two, parts_of};
+ghost use Rattle.ristulva_c.specs.Parts.{parts_told, lengths_of};
+
+use crate::span::Span;
+
+/// Where the three parts of an UPDATE lie in its message (RFC 4271, section 4.3).
+#[repr(C)]
+#[derive(Clone, Copy)]
+pub struct Parts {
+    /// Withdrawn Routes.
+    pub withdrawn: Span,
+    /// Path Attributes.
+    pub attributes: Span,
+    /// Network Layer Reachability Information.
+    pub nlri: Span,
+}
+
+/// No part lies anywhere.
+pub(crate) fn no_parts() -> Parts
+    ensures { result ≡ parts_told None }
+{
+    let nothing = Span { at: 0, len: 0 };
+    Parts {
+        withdrawn: nothing,
+        attributes: nothing,
+        nlri: nothing,
+    }
+}
+
+/// The octets behind a length of two octets, and what follows them.
+fn split_behind(octets: &[u8]) -> Option<(&[u8], &[u8])>
+    ensures value { option_map (λ x. (x.0.now, x.1.now)) result ≡ behind_two octets.now }
+    ensures long { IfSome result (λ x. 2 + length x.0.now + length x.1.now ≡ length octets.now) }
+{
+    let (high, rest) = octets.split_first()?;
+    let (low, rest) = rest.split_first()?;
+    let len = usize::from(u16::from_be_bytes([*high, *low]));
+    rest.split_at_checked(len)
+}
+
+/// How long the three parts of a body are, where its lengths leave room for each other.
+#[tactic(auto, unfolding(bgp_update::specs::Parts::parts_of))]
+fn lengths_of(body: &[u8]) -> Option<(usize, usize, usize)>
+    ensures value { result ≡ option_map lengths_of (parts_of body.now) }
+    ensures long { IfSome result (λ x. 4 + x.0 + x.1 + x.2 ≡ length body.now) }
+{
+    let (withdrawn, rest) = split_behind(body)?;
+    let (attributes, nlri) = split_behind(rest)?;
+    Some((withdrawn.len(), attributes.len(), nlri.len()))
+}
+
+/// Where the parts lie in the message that has this body.
+pub(crate) fn parts_in(body: &[u8]) -> Parts
+    requires { length body.now ≤ 4077 }
+    ensures { result ≡ parts_told (parts_of body.now) }
+{
+    match lengths_of(body) {
+        None => no_parts(),
+        Some((withdrawn, attributes, nlri)) => Parts {
+            withdrawn: Span {
+                at: 21,
+                len: withdrawn as u32,
+            },
+            attributes: Span {
+                at: (23 + withdrawn) as u32,
+                len: attributes as u32,
+            },
+            nlri: Span {
+                at: (23 + withdrawn + attributes) as u32,
+                len: nlri as u32,
+            },
+        },
+    }
+}

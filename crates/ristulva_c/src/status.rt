@@ -1,0 +1,25 @@
+//! What a call answers.
+
+/// The call did what it says.
+pub const OK: u32 = 0;
+
+/// An allocation failed: nothing has changed, and the call can be made again.
+pub const MEMORY: u32 = 2;
+
+/// An argument is out of its range.
+pub const RANGE: u32 = 3;
+
+/// The octets are less than a message.
+pub const INCOMPLETE: u32 = 4;
+
+/// There is less room than is needed.
+pub const ROOM: u32 = 5;
+
+/// Nothing is left.
+pub const END: u32 = 6;
+
+/// The UPDATE isn't accepted whole.
+pub const REFUSED: u32 = 7;
+
+/// The UPDATE can't be written.
+pub const UNWRITABLE: u32 = 8;

@@ -1,0 +1,92 @@
+//! The printed form of a message.
+
+ghost use Rattle.std.specs.Prelude.{◌≡◌, ◌+◌, ◌≤◌, None, Some, length, option_map, IfOk};
+ghost use Rattle.std.specs.String.{string_bytes};
+ghost use Rattle.bgp_frame.specs.Kind.{IsLength};
+ghost use Rattle.bgp_msg.specs.Outcome.{out_of, of_fault};
+ghost use Rattle.bgp_text.specs.Outcome.{outcome_lines};
+ghost use Rattle.ristulva_c.specs.Context.{context_of};
+ghost use Rattle.ristulva_c.specs.Text.{HasLines, IsWritten, IsPrinted};
+
+use crate::context::{SessionContext, context_of};
+use crate::copied::copy_into;
+use crate::status::{INCOMPLETE, MEMORY, OK, ROOM};
+use bgp_frame::{Frame, HeadFault, NotificationView, Step, front};
+use bgp_msg::{OutcomeView, view_frame};
+use bgp_text::put_viewed_outcome;
+use std::alloc::{AllocError, Global};
+
+/// The lines of a whole message.
+fn frame_lines(
+    alloc: Global,
+    ctx: &SessionContext,
+    place: u64,
+    frame: Frame<'_>,
+) -> Result<String, AllocError>
+    requires { IsLength frame.kind (19 + length frame.body.now) }
+    ensures { IfOk result (λ text. string_bytes text ≡ outcome_lines place frame.entry.len (out_of (context_of ctx.now) (record { kind = frame.entry.kind; body = frame.entry.body.now }))) }
+{
+    let len = frame.len;
+    let outcome = view_frame(&context_of(ctx), frame);
+    let mut text = String::new(alloc);
+    put_viewed_outcome(alloc, &mut text, place, len, &outcome)?;
+    Ok(text)
+}
+
+/// The line of a header's fault.
+fn fault_line(alloc: Global, place: u64, fault: HeadFault) -> Result<String, AllocError>
+    ensures { IfOk result (λ text. string_bytes text ≡ outcome_lines place 0 (of_fault fault)) }
+{
+    let why = fault.notification();
+    let outcome = OutcomeView::Reset(NotificationView {
+        code: why.code,
+        subcode: why.subcode,
+        info: &why.info,
+    });
+    let mut text = String::new(alloc);
+    put_viewed_outcome(alloc, &mut text, place, 0, &outcome)?;
+    Ok(text)
+}
+
+/// The lines of what octets begin with: none where that is less than a message.
+fn lines(
+    alloc: Global,
+    ctx: &SessionContext,
+    place: u64,
+    octets: &[u8],
+) -> Result<Option<String>, AllocError>
+    ensures { IfOk result (λ text. HasLines (context_of ctx.now) place octets.now (option_map string_bytes text)) }
+{
+    match front(octets) {
+        Step::More => Ok(None),
+        Step::Frame(frame) => Ok(Some(frame_lines(alloc, ctx, place, frame)?)),
+        Step::Fault(fault) => Ok(Some(fault_line(alloc, place, fault)?)),
+    }
+}
+
+/// Copies a text to the front of a buffer, and tells how long it is.
+pub(crate) fn write(text: &[u8], buffer: &mut [u8], len: &mut usize) -> u32
+    ensures { IsWritten text.now (record { status = result; before = buffer.old; behind = buffer.new; len_before = len.old; len_behind = len.new }) }
+{
+    *len = text.len();
+    if copy_into(text, buffer) { OK } else { ROOM }
+}
+
+/// Writes the lines that `bgp show` prints of the message that octets begin with, where it stands at this place of its stream.
+#[unsafe(no_mangle)]
+pub extern "C" fn ristulva_text(
+    alloc: Global,
+    ctx: &SessionContext,
+    place: u64,
+    octets: &[u8],
+    buffer: &mut [u8],
+    len: &mut usize,
+) -> u32
+    ensures { IsPrinted (context_of ctx.now) place octets.now (record { status = result; before = buffer.old; behind = buffer.new; len_before = len.old; len_behind = len.new }) }
+{
+    match lines(alloc, ctx, place, octets) {
+        Err(_) => MEMORY,
+        Ok(None) => INCOMPLETE,
+        Ok(Some(text)) => write(text.as_bytes(), buffer, len),
+    }
+}

@@ -1,0 +1,431 @@
+/* Calls everything of the library with random octets, random cursors and little room, and lets each allocation fail in turn:
+ *
+ *     stress SEED ROUNDS FILE..
+ *
+ * The files have streams of octets, of which some are changed at random. Built with the sanitizers it also shows that nothing is
+ * written outside of what a call is handed; octets lie beside memory that can't be read. It runs on 32 KB of stack, or on STACK of them. It prints how many calls it made, and
+ * ends with 1 at the first answer that the header doesn't allow. */
+#include "ristulva.h"
+#include <pthread.h>
+#include <stdio.h>
+#include <stdlib.h>
+#include <string.h>
+#include <sys/mman.h>
+
+#ifndef STACK
+#define STACK (32 * 1024)
+#endif
+
+#define WANT(fact) ((fact) ? (void)0 : wrong(#fact, __LINE__))
+
+static _Noreturn void wrong(const char *fact, int line)
+{
+    fprintf(stderr, "stress: line %d: not %s\n", line, fact);
+    exit(1);
+}
+
+/* ---- memory: in place of the three functions that the library has ---- */
+
+static long allocations, live, refused;
+
+struct tried {
+    _Bool there;
+    void *at;
+};
+
+struct tried rattle_alloc(size_t size, size_t align);
+struct tried rattle_realloc(void *at, size_t old, size_t size, size_t align);
+void rattle_dealloc(void *at);
+
+struct tried rattle_alloc(size_t size, size_t align)
+{
+    struct tried none = {0, &live}, made;
+    if (++allocations == refused)
+        return none;
+    made.at = malloc(size == 0 ? align : size);
+    made.there = made.at != NULL;
+    live += made.there;
+    return made.there ? made : none;
+}
+
+struct tried rattle_realloc(void *at, size_t old, size_t size, size_t align)
+{
+    struct tried none = {0, &live}, made;
+    (void)old;
+    if (++allocations == refused)
+        return none;
+    made.at = realloc(at, size == 0 ? align : size);
+    made.there = made.at != NULL;
+    return made.there ? made : none;
+}
+
+void rattle_dealloc(void *at)
+{
+    live--;
+    free(at);
+}
+
+/* ---- chance ---- */
+
+static uint64_t state;
+
+static uint32_t below(uint32_t bound)
+{
+    state = state * 6364136223846793005u + 1442695040888963407u;
+    return (uint32_t)((state >> 33) % bound);
+}
+
+/* ---- calls ---- */
+
+static unsigned long calls;
+
+static void try_front(const uint8_t *octets, size_t len, ristulva_found *found)
+{
+    WANT(ristulva_front(octets, len, found) == RISTULVA_OK);
+    WANT(found->what <= RISTULVA_FAULT);
+    WANT(found->what != RISTULVA_MORE || (len < found->len && found->len <= 4096));
+    WANT(found->what != RISTULVA_FOUND || (found->len <= len && found->kind >= 1 && found->kind <= 4));
+    WANT(found->what != RISTULVA_FAULT || (found->code == 1 && (size_t)found->data.at + found->data.len <= 19));
+    calls++;
+}
+
+static void try_judge(const ristulva_context *context, const uint8_t *octets, size_t len, const ristulva_found *found, ristulva_verdict *verdict)
+{
+    size_t room = below(3) == 0 ? below(64) : RISTULVA_DATA;
+    uint8_t *data = malloc(room + 1), *old = malloc(room + 1);
+    ristulva_status status;
+    memset(verdict, 0xa5, sizeof *verdict);
+    memset(data, 0x5a, room + 1);
+    memcpy(old, data, room + 1);
+    status = ristulva_judge(context, octets, len, data, room, verdict);
+    WANT((status == RISTULVA_INCOMPLETE) == (found->what == RISTULVA_MORE));
+    if (status == RISTULVA_INCOMPLETE) {
+        WANT(verdict->verdict == 0xa5 && verdict->data_len == 0xa5a5a5a5u);
+        WANT(memcmp(data, old, room + 1) == 0);
+    } else {
+        WANT(verdict->verdict >= RISTULVA_OPEN && verdict->verdict <= RISTULVA_RESET);
+        WANT(verdict->len == found->len && verdict->kind == found->kind);
+        WANT(verdict->data_len <= RISTULVA_DATA);
+        WANT((status == RISTULVA_OK) == (verdict->data_len <= room));
+        WANT(memcmp(data + (status == RISTULVA_OK ? verdict->data_len : 0), old, room + 1 - (status == RISTULVA_OK ? verdict->data_len : 0)) == 0);
+        WANT((size_t)verdict->parts.nlri.at + verdict->parts.nlri.len <= len);
+        if (verdict->verdict == RISTULVA_NOTIFICATION && status == RISTULVA_OK)
+            WANT(memcmp(data, octets + 21, verdict->data_len) == 0);
+        if (found->what == RISTULVA_FAULT && status == RISTULVA_OK)
+            WANT(verdict->code == found->code && verdict->subcode == found->subcode && verdict->data_len == found->data.len
+                 && memcmp(data, octets + found->data.at, verdict->data_len) == 0);
+    }
+    free(data);
+    free(old);
+    calls++;
+}
+
+/* With room for all and for less, and with each allocation failing in turn. */
+static void try_text(const ristulva_context *context, const uint8_t *octets, size_t len, const ristulva_found *found)
+{
+    size_t room = below(2) == 0 ? below(200) : 100000, written = 77;
+    char *text = malloc(room + 1), *old = malloc(room + 1);
+    ristulva_status status;
+    memset(text, 0x5a, room + 1);
+    memcpy(old, text, room + 1);
+    refused = below(4) == 0 ? 1 : 0;
+    for (;;) {
+        allocations = 0;
+        status = ristulva_text(context, below(1000), octets, len, text, room, &written);
+        WANT(live == 0);
+        calls++;
+        if (status != RISTULVA_MEMORY)
+            break;
+        WANT(refused != 0 && memcmp(text, old, room + 1) == 0 && written == 77);
+        refused++;
+    }
+    refused = 0;
+    WANT((status == RISTULVA_INCOMPLETE) == (found->what == RISTULVA_MORE));
+    if (status == RISTULVA_INCOMPLETE || status == RISTULVA_ROOM)
+        WANT(memcmp(text, old, room + 1) == 0);
+    if (status == RISTULVA_INCOMPLETE)
+        WANT(written == 77);
+    if (status == RISTULVA_ROOM)
+        WANT(written > room);
+    if (status == RISTULVA_OK)
+        WANT(written <= room && text[written - 1] == '\n' && memcmp(text + written, old + written, room + 1 - written) == 0);
+    free(text);
+    free(old);
+}
+
+static void walk_prefixes(const uint8_t *octets, size_t len, ristulva_prefixes cursor)
+{
+    for (;;) {
+        ristulva_prefixes old = cursor;
+        ristulva_prefix prefix;
+        ristulva_status status = ristulva_next_prefix(octets, len, &cursor, &prefix);
+        calls++;
+        WANT(cursor.end == old.end && cursor.afi == old.afi);
+        WANT((status == RISTULVA_RANGE) == (old.at > old.end || old.end > len || old.afi < 1 || old.afi > 2));
+        if (status != RISTULVA_OK) {
+            WANT(status == RISTULVA_END || status == RISTULVA_RANGE);
+            WANT(cursor.at == old.at);
+            return;
+        }
+        WANT(prefix.afi == old.afi && prefix.len <= (prefix.afi == 1 ? 32 : 128));
+        WANT(cursor.at == old.at + 1 + (prefix.len + 7u) / 8 && cursor.at <= cursor.end && octets[old.at] == prefix.len);
+    }
+}
+
+static void walk_numbers(const uint8_t *octets, size_t len, ristulva_numbers cursor)
+{
+    for (;;) {
+        ristulva_numbers old = cursor;
+        uint32_t number = 0;
+        ristulva_status status = ristulva_next_number(octets, len, &cursor, &number);
+        calls++;
+        WANT(cursor.end == old.end && cursor.width == old.width);
+        WANT((status == RISTULVA_RANGE) == (old.at > old.end || old.end > len || (old.width != 2 && old.width != 4)));
+        if (status != RISTULVA_OK) {
+            WANT(status == RISTULVA_END || status == RISTULVA_RANGE);
+            WANT(cursor.at == old.at && number == 0);
+            return;
+        }
+        WANT(cursor.at == old.at + old.width && cursor.at <= cursor.end && (number & 255) == octets[cursor.at - 1]);
+    }
+}
+
+static void walk_segments(const uint8_t *octets, size_t len, ristulva_segments cursor)
+{
+    for (;;) {
+        ristulva_segments old = cursor;
+        ristulva_segment segment;
+        ristulva_numbers numbers;
+        ristulva_status status = ristulva_next_segment(octets, len, &cursor, &segment);
+        calls++;
+        WANT(cursor.end == old.end && cursor.wide == old.wide && cursor.confederations == old.confederations);
+        WANT((status == RISTULVA_RANGE) == (old.at > old.end || old.end > len));
+        if (status != RISTULVA_OK) {
+            WANT(status == RISTULVA_END || status == RISTULVA_RANGE);
+            WANT(cursor.at == old.at);
+            return;
+        }
+        WANT(segment.kind >= 1 && segment.kind <= (old.confederations ? 4 : 2) && segment.kind == octets[old.at]);
+        WANT(segment.numbers.at == old.at + 2 && segment.numbers.at + segment.numbers.len == cursor.at && cursor.at <= cursor.end);
+        WANT(segment.numbers.len == octets[old.at + 1] * (old.wide ? 4u : 2u) && segment.numbers.len > 0);
+        numbers.at = segment.numbers.at;
+        numbers.end = cursor.at;
+        numbers.width = old.wide ? 4 : 2;
+        walk_numbers(octets, len, numbers);
+    }
+}
+
+/* A value as MP_REACH_NLRI, MP_UNREACH_NLRI and as a path. */
+static void walk_value(const uint8_t *octets, size_t len, ristulva_span value)
+{
+    ristulva_prefixes reached = {1, 2, 3}, unreached = {1, 2, 3};
+    ristulva_span hop = {5, 6};
+    ristulva_segments path;
+    ristulva_status of_reach = ristulva_reached(octets, len, &value, &hop, &reached);
+    ristulva_status of_unreach = ristulva_unreached(octets, len, &value, &unreached);
+    calls += 2;
+    WANT(of_reach == RISTULVA_OK || (of_reach == RISTULVA_RANGE && hop.at == 5 && reached.at == 1));
+    WANT(of_unreach == RISTULVA_OK || (of_unreach == RISTULVA_RANGE && unreached.at == 1));
+    if (of_reach == RISTULVA_OK) {
+        WANT(hop.at == value.at + 4 && hop.len == octets[value.at + 3] && reached.at == hop.at + hop.len + 1);
+        WANT(reached.end == value.at + value.len && reached.afi == octets[value.at + 1]);
+        walk_prefixes(octets, len, reached);
+    }
+    if (of_unreach == RISTULVA_OK) {
+        WANT(unreached.at == value.at + 3 && unreached.end == value.at + value.len && unreached.afi == octets[value.at + 1]);
+        walk_prefixes(octets, len, unreached);
+    }
+    path.at = value.at;
+    path.end = value.at + value.len;
+    path.wide = (uint8_t)below(2);
+    path.confederations = (uint8_t)below(2);
+    walk_segments(octets, len, path);
+}
+
+static void walk_attributes(const uint8_t *octets, size_t len, ristulva_attributes cursor)
+{
+    for (;;) {
+        ristulva_attributes old = cursor;
+        ristulva_attribute attribute;
+        ristulva_status status = ristulva_next_attribute(octets, len, &cursor, &attribute);
+        calls++;
+        WANT(cursor.end == old.end);
+        WANT((status == RISTULVA_RANGE) == (old.at > old.end || old.end > len));
+        if (status != RISTULVA_OK) {
+            WANT(status == RISTULVA_END || status == RISTULVA_RANGE);
+            WANT(cursor.at == old.at);
+            return;
+        }
+        WANT(attribute.at == old.at && attribute.flags == octets[old.at] && attribute.kind == octets[old.at + 1]);
+        WANT(attribute.value.at + attribute.value.len == cursor.at && cursor.at <= cursor.end);
+        walk_value(octets, len, attribute.value);
+    }
+}
+
+/* A body as an UPDATE to send: what is written has to be read again, and to be its own written form. */
+static void try_encode(const ristulva_context *context, const uint8_t *body, size_t len, int narrow)
+{
+    size_t room = below(3) == 0 ? below(100) : RISTULVA_MESSAGE, written = 77, again = 0;
+    uint8_t message[RISTULVA_MESSAGE], other[RISTULVA_MESSAGE], data[1];
+    ristulva_context read = *context;
+    ristulva_verdict verdict;
+    ristulva_status status;
+    memset(message, 0x5a, sizeof message);
+    refused = below(4) == 0 ? 1 : 0;
+    for (;;) {
+        allocations = 0;
+        status = (narrow ? ristulva_narrow : ristulva_encode)(context, body, len, message, room, &written);
+        WANT(live == 0);
+        calls++;
+        if (status != RISTULVA_MEMORY)
+            break;
+        WANT(refused != 0 && written == 77 && message[0] == 0x5a);
+        refused++;
+    }
+    refused = 0;
+    WANT((status == RISTULVA_RANGE) == (len > RISTULVA_BODY));
+    if (status != RISTULVA_OK) {
+        WANT(message[0] == 0x5a);
+        WANT(status == RISTULVA_ROOM ? written > room && written <= RISTULVA_MESSAGE : written == 77);
+        WANT(status == RISTULVA_ROOM || status == RISTULVA_RANGE || status == RISTULVA_REFUSED || status == RISTULVA_UNWRITABLE);
+        return;
+    }
+    WANT(written <= room && (written == sizeof message || message[written] == 0x5a));
+    if (narrow)
+        read.as4 = 0;
+    WANT(ristulva_judge(&read, message, written, data, 0, &verdict) == RISTULVA_OK);
+    WANT(verdict.verdict == RISTULVA_UPDATE && verdict.len == written);
+    WANT(ristulva_encode(&read, message + 19, written - 19, other, sizeof other, &again) == RISTULVA_OK);
+    WANT(again == written && memcmp(message, other, written) == 0);
+    calls += 2;
+}
+
+static uint32_t some_offset(size_t len)
+{
+    return below(20) == 0 ? (uint32_t)state : below((uint32_t)len + 3);
+}
+
+/* A place of which the first and the last octet lie beside memory that can't be touched. */
+static uint8_t *place;
+#define PLACE 8192u
+
+static void make_place(void)
+{
+    uint8_t *pages = mmap(NULL, PLACE * 3, PROT_NONE, MAP_PRIVATE | MAP_ANONYMOUS, -1, 0);
+    WANT(pages != MAP_FAILED);
+    place = pages + PLACE;
+    WANT(mprotect(place, PLACE, PROT_READ | PROT_WRITE) == 0);
+}
+
+/* All calls on some octets, which lie at one end of that place. */
+static void try_all(const uint8_t *from, size_t len)
+{
+    ristulva_context context;
+    ristulva_found found;
+    ristulva_verdict verdict;
+    uint8_t *octets = below(4) == 0 ? place : place + PLACE - len;
+    int i;
+    memcpy(octets, from, len);
+    context.internal = (uint8_t)below(2);
+    context.as4 = (uint8_t)below(2);
+    context.ip4 = (uint8_t)(below(3) * 100);
+    context.ip6 = (uint8_t)below(2);
+    try_front(octets, len, &found);
+    try_judge(&context, octets, len, &found, &verdict);
+    try_text(&context, octets, len, &found);
+    if (found.what == RISTULVA_FOUND && verdict.kind == 2) {
+        ristulva_prefixes gone = {verdict.parts.withdrawn.at, verdict.parts.withdrawn.at + verdict.parts.withdrawn.len, 1};
+        ristulva_prefixes nlri = {verdict.parts.nlri.at, verdict.parts.nlri.at + verdict.parts.nlri.len, 1};
+        ristulva_attributes field = {verdict.parts.attributes.at, verdict.parts.attributes.at + verdict.parts.attributes.len};
+        walk_prefixes(octets, len, gone);
+        walk_prefixes(octets, len, nlri);
+        walk_attributes(octets, len, field);
+        try_encode(&context, octets + 19, found.len - 19, 0);
+        try_encode(&context, octets + 19, found.len - 19, 1);
+    }
+    try_encode(&context, octets, len, (int)below(2));
+    for (i = 0; i < 4; i++) {
+        ristulva_prefixes prefixes = {some_offset(len), some_offset(len), (uint16_t)below(4)};
+        ristulva_attributes attributes = {some_offset(len), some_offset(len)};
+        ristulva_segments segments = {some_offset(len), some_offset(len), (uint8_t)below(3), (uint8_t)below(3)};
+        ristulva_numbers numbers = {some_offset(len), some_offset(len), (uint8_t)(below(3) * 2)};
+        ristulva_span value = {some_offset(len), some_offset(len)};
+        walk_prefixes(octets, len, prefixes);
+        walk_attributes(octets, len, attributes);
+        walk_segments(octets, len, segments);
+        walk_numbers(octets, len, numbers);
+        walk_value(octets, len, value);
+    }
+}
+
+/* ---- octets ---- */
+
+static uint8_t streams[1 << 20];
+static size_t size;
+
+static void load(const char *name)
+{
+    FILE *file = fopen(name, "rb");
+    WANT(file != NULL);
+    size += fread(streams + size, 1, sizeof streams - size, file);
+    fclose(file);
+}
+
+/* A message of a stream, changed at some places, or octets behind a header. */
+static size_t some_octets(uint8_t *octets)
+{
+    size_t len = below(4096), i;
+    if (below(2) == 0 && size > 4200) {
+        size_t at = below((uint32_t)size - 4200), step;
+        for (step = 0; step < 4096 && memcmp(streams + at, "\377\377\377\377\377\377\377\377\377\377\377\377\377\377\377\377", 16) != 0; step++)
+            at++;
+        if (at + len > size)
+            len = size - at;
+        memcpy(octets, streams + at, len);
+        for (i = below(5); i > 0 && len > 19; i--)
+            octets[19 + below((uint32_t)len - 19)] = (uint8_t)below(256);
+        return len;
+    }
+    if (below(4) != 0)
+        len = below(200);
+    for (i = 0; i < len; i++)
+        octets[i] = (uint8_t)(below(3) == 0 ? below(5) : below(256));
+    if (len >= 19 && below(8) != 0) {
+        memset(octets, 255, 16);
+        octets[16] = (uint8_t)(len >> 8);
+        octets[17] = (uint8_t)len;
+        octets[18] = (uint8_t)(1 + below(below(10) == 0 ? 6 : 3));
+    }
+    return len;
+}
+
+static unsigned long rounds;
+
+static void *work(void *unused)
+{
+    static uint8_t octets[4096];
+    unsigned long i;
+    for (i = 0; i < rounds; i++) {
+        size_t len = some_octets(octets);
+        try_all(octets, len);
+    }
+    return unused;
+}
+
+int main(int argc, char **argv)
+{
+    pthread_attr_t how;
+    pthread_t thread;
+    int i;
+    WANT(argc >= 3);
+    WANT(ristulva_version() == RISTULVA_VERSION);
+    state = strtoull(argv[1], NULL, 10);
+    rounds = strtoul(argv[2], NULL, 10);
+    for (i = 3; i < argc; i++)
+        load(argv[i]);
+    make_place();
+    WANT(pthread_attr_init(&how) == 0 && pthread_attr_setstacksize(&how, STACK) == 0);
+    WANT(pthread_create(&thread, &how, work, NULL) == 0 && pthread_join(thread, NULL) == 0);
+    printf("%lu calls\n", calls);
+    return 0;
+}
