@@ -1,7 +1,7 @@
 //! The engine `to_hex`.
 
-ghost use Rattle.std.specs.Prelude.{◌≡◌, ◌+◌, ◌++◌, false, length, OnOk};
-ghost use Rattle.std.specs.String.{string_bytes};
+ghost use Rattle.std.specs.Prelude.{◌≡◌, ◌+◌, ◌≤◌, ◌++◌, false, length, OnOk};
+ghost use Rattle.hex.specs.Hex.{encode_lower};
 ghost use Rattle.bgp_frame.specs.Kind.{IsLength};
 ghost use Rattle.bgp_engine.specs.Run.{Answers};
 ghost use Rattle.bgp_engine.specs.ToHex.{Hexed, hex_line, fault_line, rest_line};
@@ -14,55 +14,70 @@ use crate::walk::walk_stream;
 use bgp_frame::{Frame, HeadFault, head};
 use bgp_open::Context;
 use bgp_text::notification_text;
+use hex::encode_to_slice;
 use std::alloc::{AllocError, Global};
 use std::io::{Read, Write};
 
-// A whole message as digits.
-fn put_message(alloc: Global, text: &mut String, frame: Frame<'_>) -> Result<(), AllocError>
-    requires { IsLength frame.kind (19 + length frame.body.now) }
-    ensures { OnOk result (string_bytes text.new ≡ string_bytes text.old ++ hex_line (record { kind = frame.entry.kind; body = frame.entry.body.now })) }
+// Octets as digits, in their place.
+fn put_digits(text: &mut Vec<u8>, octets: &[u8]) -> Result<(), AllocError>
+    requires { length octets.now ≤ 4096 }
+    ensures { OnOk result (text.new.items ≡ text.old.items ++ encode_lower octets.now) }
 {
-    let header = hex::encode(alloc, head(frame.kind, frame.body.len() as u16))?;
-    let body = hex::encode(alloc, frame.body)?;
-    write!(text, "{header}{body}\n")
+    let from = text.len();
+    text.resize(from + 2 * octets.len(), 0)?;
+    let _fits = encode_to_slice(octets, &mut text[from..]);
+    Ok(())
+}
+
+// A whole message as digits.
+fn put_message(text: &mut Vec<u8>, frame: Frame<'_>) -> Result<(), AllocError>
+    requires { IsLength frame.kind (19 + length frame.body.now) }
+    ensures { OnOk result (text.new.items ≡ text.old.items ++ hex_line (record { kind = frame.entry.kind; body = frame.entry.body.now })) }
+{
+    put_digits(text, &head(frame.kind, frame.body.len() as u16))?;
+    put_digits(text, frame.body)?;
+    text.extend_from_slice(b"\n")
 }
 
 // A header's fault.
-fn put_fault(alloc: Global, text: &mut String, fault: HeadFault) -> Result<(), AllocError>
-    ensures { OnOk result (string_bytes text.new ≡ string_bytes text.old ++ fault_line fault) }
+fn put_fault(alloc: Global, text: &mut Vec<u8>, fault: HeadFault) -> Result<(), AllocError>
+    ensures { OnOk result (text.new.items ≡ text.old.items ++ fault_line fault) }
 {
     let told = notification_text(alloc, &fault.notification())?;
-    write!(text, "fault {told}\n")
+    text.extend_from_slice(b"fault ")?;
+    text.extend_from_slice(told.as_bytes())?;
+    text.extend_from_slice(b"\n")
 }
 
 // The octets that wait, if there are any.
-fn put_rest(alloc: Global, text: &mut String, waiting: &[u8]) -> Result<(), AllocError>
-    ensures { OnOk result (string_bytes text.new ≡ string_bytes text.old ++ rest_line waiting.now) }
+fn put_rest(alloc: Global, text: &mut Vec<u8>, waiting: &[u8]) -> Result<(), AllocError>
+    ensures { OnOk result (text.new.items ≡ text.old.items ++ rest_line waiting.now) }
 {
     if waiting.is_empty() {
         return Ok(());
     }
     let digits = hex::encode(alloc, waiting)?;
-    write!(text, "rest {digits}\n")
+    text.extend_from_slice(b"rest ")?;
+    text.extend_from_slice(digits.as_bytes())?;
+    text.extend_from_slice(b"\n")
 }
 
 /// The messages as digits.
 #[derive(Drop)]
 struct HexPage {
     alloc: Global,
-    text: String,
+    text: Vec<u8>,
 }
 
 impl Page for HexPage {
     ghost use Rattle.std.specs.Prelude.{true};
-    ghost use Rattle.std.specs.String.{string_bytes};
     ghost use Rattle.bgp_engine.specs.ToHex.{Framed, hex_rules};
 
     ghost Outcome = { Framed };
 
     ghost rules = { λ _. hex_rules };
 
-    ghost told = { λ page. string_bytes page.text };
+    ghost told = { λ page. page.text.items };
 
     ghost fits = { λ _. true };
 
@@ -73,7 +88,7 @@ impl Page for HexPage {
     }
 
     fn message(&mut self, _place: u64, frame: Frame<'_>) -> Result<Class, AllocError> {
-        put_message(self.alloc, &mut self.text, frame)?;
+        put_message(&mut self.text, frame)?;
         Ok(Class::Took)
     }
 
@@ -94,7 +109,7 @@ impl Page for HexPage {
     }
 
     fn told(&self) -> &[u8] {
-        self.text.as_bytes()
+        self.text.as_slice()
     }
 
     fn clear(&mut self) {
@@ -131,7 +146,7 @@ pub fn to_hex_within<R: Read, W: Write>(
 {
     let page = HexPage {
         alloc,
-        text: String::new(alloc),
+        text: Vec::new(alloc),
     };
     walk_stream(turns, false, page, input, output)
 }

@@ -1,9 +1,10 @@
-use Rattle.std.proofs.Common.{sym}
 use Rattle.bgp_frame.specs.Frame.{Message}
-use Rattle.bgp_engine.proofs.Digits.{hex_line_is}
+use Rattle.bgp_engine.proofs.Digits.{ok_hex_line}
 use Rattle.bgp_engine.proofs.hexed.put_message.Goals as goal
 
 pub returns : goal.returns
 returns c =
     let m : Message = record { kind = c.args.frame.kind; body = c.args.frame.body.now } in
-    rw (sym (hex_line_is m), sym c.head.ensures.header, sym c.in_ok-header.ensures, sym c.in_ok-body.ensures) c.write.ensures.bytes
+    let last = c.extend_from_slice in
+    ok_hex_line last.result m c.args.text.now.items c.head.result c.put_digits.new.text.items c.put_digits-2.new.text.items last.new.self.items
+        c.head.ensures.header c.in_ok-put_digits.ensures c.in_ok-put_digits-2.ensures last.ensures.items
