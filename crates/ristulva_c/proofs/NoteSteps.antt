@@ -1,5 +1,5 @@
 -- Notes one after another.
-use Rattle.std.proofs.Common.{◌≡◌, ℕ, zero, suc, ◌-◌, ◌<◌, List, [], ◌∷◌, drop, None, refl, ap, ◌∙◌, sym, arith}
+use Rattle.std.proofs.Common.{◌≡◌, ℕ, zero, suc, ◌-◌, ◌<◌, List, [], ◌∷◌, drop, None, refl, ap, ◌∙◌, arith}
 use Rattle.bgp_update.specs.declared.note.Note.{Note}
 use Rattle.ristulva_c.specs.Notes.{first_of}
 
