@@ -17,6 +17,8 @@ from ctypes import POINTER, Structure, c_size_t, c_uint8, c_uint16, c_uint32, c_
 MEMORY, RANGE, INCOMPLETE, ROOM, END, REFUSED, UNWRITABLE = 2, 3, 4, 5, 6, 7, 8
 VERSION = 1000
 DATA, MESSAGE = 4075, 4096
+WHYS = ("Flags", "Length", "Value", "SegmentType", "SegmentCount", "SegmentEnd", "Repeated", "External", "FourOctet", "Family", "Unneeded", "Emptied",
+        "Cut", "Missing", "AsZero")
 VERDICTS = {1: "open", 2: "update", 3: "notification", 4: "keepalive", 5: "withdraw", 6: "reset"}
 
 
@@ -59,6 +61,10 @@ class CSegment(Structure):
     _fields_ = [("kind", c_uint8), ("numbers", Span)]
 
 
+class CNote(Structure):
+    _fields_ = [("at", c_uint32), ("kind", c_uint8), ("why", c_uint8)]
+
+
 class Numbers(Structure):
     _fields_ = [("at", c_uint32), ("end", c_uint32), ("width", c_uint8)]
 
@@ -73,6 +79,7 @@ def load():
     takes = {
         "version": [],
         "judge": [POINTER(Said), *octets, *buffer, POINTER(Verdict)],
+        "note": [POINTER(Said), *octets, c_uint32, POINTER(CNote)],
         "text": [POINTER(Said), c_uint64, *octets, *buffer, POINTER(c_size_t)],
         "encode": [POINTER(Said), *octets, *buffer, POINTER(c_size_t)],
         "narrow": [POINTER(Said), *octets, *buffer, POINTER(c_size_t)],
@@ -156,6 +163,13 @@ class Message:
             if status != ROOM:
                 return text.raw[: written.value].decode("ascii")
             room = written.value
+
+    def notes(self):
+        """What RFC 7606 found: of each note the attribute's place in the message (0 where it is missing), its type, and one of WHYS."""
+        index, note = 0, CNote()
+        while LIBRARY.ristulva_note(self.context.said(), self.octets, len(self.octets), index, note) == 0:
+            yield note.at, note.kind, WHYS[note.why - 1]
+            index += 1
 
     def attributes(self):
         """The attributes of an UPDATE, kept or not, in their order."""

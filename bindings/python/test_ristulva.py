@@ -66,6 +66,17 @@ class Updates(unittest.TestCase):
         body = bytes.fromhex("0000" + "0028" + "40010100" + "4002060202fde85ba0" + "400304c0000201" + "c0080400010002" + "c0110a02020000fde800030d40" + "080a")
         self.assertEqual(ristulva.narrow(BODY, self.context), message(2, body))
 
+    def test_notes(self):
+        """The notes are those of the lines, which have offsets in the body."""
+        for path in sorted(EXAMPLES.glob("*.hex")):
+            flags = path.with_suffix(".flags")
+            said = {flag[2:]: True for flag in flags.read_text().split()} if flags.exists() else {}
+            for it in ristulva.messages(bytes.fromhex(path.read_text()), ristulva.Context(**said)):
+                lines = [line.split() for line in str(it).splitlines() if line.startswith("  note ")]
+                wanted = [(int(at) and int(at) + 19, int(kind), why) for _, at, kind, why in lines]
+                with self.subTest(path.name):
+                    self.assertEqual(list(it.notes()), wanted)
+
     def test_refused(self):
         with self.assertRaises(ristulva.Refused):
             ristulva.encode(BODY[:-2] + b"\x21\x0a", self.context)

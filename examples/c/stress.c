@@ -120,6 +120,31 @@ static void try_judge(const ristulva_context *context, const uint8_t *octets, si
     calls++;
 }
 
+/* All notes: an accepted UPDATE may have some, and one that is treated as a withdrawal has one at least. */
+static void try_notes(const ristulva_context *context, const uint8_t *octets, size_t len, const ristulva_found *found, const ristulva_verdict *verdict)
+{
+    uint32_t index = 0;
+    for (;;) {
+        ristulva_note_found note = {0xa5a5, 0xa5, 0xa5};
+        ristulva_status status = ristulva_note(context, octets, len, index, &note);
+        calls++;
+        WANT((status == RISTULVA_INCOMPLETE) == (found->what == RISTULVA_MORE));
+        if (status != RISTULVA_OK) {
+            WANT(status == RISTULVA_INCOMPLETE || status == RISTULVA_END);
+            WANT(note.at == 0xa5a5 && note.why == 0xa5);
+            break;
+        }
+        WANT(verdict->verdict == RISTULVA_UPDATE || verdict->verdict == RISTULVA_WITHDRAW);
+        WANT(note.why >= RISTULVA_WHY_FLAGS && note.why <= RISTULVA_WHY_AS_ZERO);
+        WANT((note.at == 0) == (note.why == RISTULVA_WHY_MISSING));
+        WANT(note.at == 0 || (note.at >= verdict->parts.attributes.at && note.at < verdict->parts.nlri.at));
+        WANT(note.at == 0 || note.kind == 0 || note.kind == octets[note.at + 1]);
+        index++;
+    }
+    WANT(found->what != RISTULVA_FOUND || verdict->verdict != RISTULVA_WITHDRAW || index > 0);
+    WANT(ristulva_note(context, octets, len, (uint32_t)state | 0x80000000u, &(ristulva_note_found){0, 0, 0}) != RISTULVA_OK);
+}
+
 /* With room for all and for less, and with each allocation failing in turn. */
 static void try_text(const ristulva_context *context, const uint8_t *octets, size_t len, const ristulva_found *found)
 {
@@ -332,6 +357,7 @@ static void try_all(const uint8_t *from, size_t len)
     context.ip6 = (uint8_t)below(2);
     try_front(octets, len, &found);
     try_judge(&context, octets, len, &found, &verdict);
+    try_notes(&context, octets, len, &found, &verdict);
     try_text(&context, octets, len, &found);
     if (found.what == RISTULVA_FOUND && verdict.kind == 2) {
         ristulva_prefixes gone = {verdict.parts.withdrawn.at, verdict.parts.withdrawn.at + verdict.parts.withdrawn.len, 1};

@@ -130,6 +130,40 @@ typedef struct {
 ristulva_status ristulva_judge(const ristulva_context *context, const uint8_t *octets, size_t len, uint8_t *data, size_t room,
                                ristulva_verdict *out);
 
+/* ---- notes (RFC 7606, section 6) ---- */
+
+/* What is wrong with an attribute. */
+#define RISTULVA_WHY_FLAGS 1u         /* the Optional or the Transitive bit isn't that of the type */
+#define RISTULVA_WHY_LENGTH 2u        /* the value isn't as long as its type asks */
+#define RISTULVA_WHY_VALUE 3u         /* the value has no meaning */
+#define RISTULVA_WHY_SEGMENT_TYPE 4u  /* a segment of a path has an unknown type */
+#define RISTULVA_WHY_SEGMENT_COUNT 5u /* a segment of a path has no numbers */
+#define RISTULVA_WHY_SEGMENT_END 6u   /* a segment of a path goes past the end of the value */
+#define RISTULVA_WHY_REPEATED 7u      /* an attribute of the type stands before it */
+#define RISTULVA_WHY_EXTERNAL 8u      /* LOCAL_PREF on an external session */
+#define RISTULVA_WHY_FOUR_OCTET 9u    /* AS4_PATH or AS4_AGGREGATOR on a session with AS numbers of four octets */
+#define RISTULVA_WHY_FAMILY 10u       /* routes of an address family that isn't in use */
+#define RISTULVA_WHY_UNNEEDED 11u     /* NEXT_HOP without NLRI that it could serve */
+#define RISTULVA_WHY_EMPTIED 12u      /* an AS4_PATH of which nothing is left */
+#define RISTULVA_WHY_CUT 13u          /* the attribute goes past the end of the attributes */
+#define RISTULVA_WHY_MISSING 14u      /* no attribute of the type is there */
+#define RISTULVA_WHY_AS_ZERO 15u      /* an AS number 0 (RFC 7607) */
+
+typedef struct {
+    uint32_t at;  /* where the attribute's flags stand in the message; 0 for one that is missing */
+    uint8_t kind; /* its type; 0 for one that is cut off before its type */
+    uint8_t why;  /* RISTULVA_WHY_FLAGS to RISTULVA_WHY_AS_ZERO */
+} ristulva_note_found;
+
+/* Tells the note number `index`, from 0 on, of the message that octets begin with: each attribute that is discarded, or for which the UPDATE
+ * is treated as a withdrawal, by its place, the one that is cut off, and then what is missing. Each call judges the message and reads the
+ * notes before this one anew: a message has few.
+ *
+ * RISTULVA_INCOMPLETE, or RISTULVA_END where there are no more notes: nothing is written. Only UPDATEs that are accepted or treated as a
+ * withdrawal have some. */
+ristulva_status ristulva_note(const ristulva_context *context, const uint8_t *octets, size_t len, uint32_t index,
+                              ristulva_note_found *out);
+
 /* ---- text ---- */
 
 /* Writes the lines that `bgp show` prints of what octets begin with, a message or a header with a fault, to the front of `text`, which has

@@ -10,3 +10,4 @@ pub mod RouteSpans
 pub mod Encodings
 pub mod Narrowings
 pub mod PartPlaces
+pub mod NoteSteps

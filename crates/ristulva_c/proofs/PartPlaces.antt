@@ -1,5 +1,5 @@
 -- The octets of an UPDATE's parts.
-use Rattle.std.proofs.Common.{◌≡◌, ℕ, ◌+◌, ◌≤◌, List, ◌++◌, length, take, drop, Some, append_assoc, refl, sym, ap, subst, ◌∙◌, arith}
+use Rattle.std.proofs.Common.{◌≡◌, ℕ, ◌+◌, List, ◌++◌, length, take, drop, Some, append_assoc, refl, sym, ap, subst, ◌∙◌, arith}
 use Rattle.std.specs.Int.{w16, to_be_bytes}
 use Rattle.std.proofs.lemmas.List.{drop-drop, drop_at, take_at, take-append-drop}
 use Rattle.bgp_wire.specs.Octets.{AreOctets}
@@ -34,11 +34,11 @@ lie octets n m p are frame is =
     let body : IsBody p m.body = parts-body m.body p (AreOctets-back head m.body (subst AreOctets frame.octets (AreOctets-take n octets are))) is in
     let whole : octets ≡ head ++ (m.body ++ rest) = sym (take-append-drop n octets) ∙ ap (λ (x : List ℕ). x ++ rest) frame.octets ∙ append_assoc head m.body rest in
     let spread : m.body ++ rest ≡ w2 ++ (w ++ (a2 ++ (a ++ (nlri ++ rest)))) =
-        ap (λ (x : List ℕ). x ++ rest) body.octets
-        ∙ append_assoc w2 (w ++ (a2 ++ (a ++ nlri))) rest
-        ∙ ap (λ (x : List ℕ). w2 ++ x) (append_assoc w (a2 ++ (a ++ nlri)) rest)
-        ∙ ap (λ (x : List ℕ). w2 ++ (w ++ x)) (append_assoc a2 (a ++ nlri) rest)
-        ∙ ap (λ (x : List ℕ). w2 ++ (w ++ (a2 ++ x))) (append_assoc a nlri rest) in
+    ap (λ (x : List ℕ). x ++ rest) body.octets
+    ∙ append_assoc w2 (w ++ (a2 ++ (a ++ nlri))) rest
+    ∙ ap (λ (x : List ℕ). w2 ++ x) (append_assoc w (a2 ++ (a ++ nlri)) rest)
+    ∙ ap (λ (x : List ℕ). w2 ++ (w ++ x)) (append_assoc a2 (a ++ nlri) rest)
+    ∙ ap (λ (x : List ℕ). w2 ++ (w ++ (a2 ++ x))) (append_assoc a nlri rest) in
     let at19 : drop 19 octets ≡ w2 ++ (w ++ (a2 ++ (a ++ (nlri ++ rest)))) = behind octets head (m.body ++ rest) 0 19 whole (sym (length-header m.kind (19 + length m.body))) ∙ spread in
     let at21 : drop 21 octets ≡ w ++ (a2 ++ (a ++ (nlri ++ rest))) = behind octets w2 (w ++ (a2 ++ (a ++ (nlri ++ rest)))) 19 21 at19 (omega (arith, two (length w))) in
     let past : drop (21 + length w) octets ≡ a2 ++ (a ++ (nlri ++ rest)) = behind octets w (a2 ++ (a ++ (nlri ++ rest))) 21 (21 + length w) at21 refl in

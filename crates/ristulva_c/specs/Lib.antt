@@ -12,3 +12,4 @@ pub mod Numbers
 pub mod Segments
 pub mod Routes
 pub mod Encode
+pub mod Notes

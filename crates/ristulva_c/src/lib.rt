@@ -7,6 +7,7 @@ mod copied;
 mod encode;
 mod front;
 mod judge;
+mod notes;
 mod numbers;
 mod parts;
 mod prefixes;
