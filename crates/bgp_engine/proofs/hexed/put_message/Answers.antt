@@ -7,4 +7,4 @@ returns c =
     let m : Message = record { kind = c.args.frame.kind; body = c.args.frame.body.now } in
     let last = c.extend_from_slice in
     ok_hex_line last.result m c.args.text.now.items c.head.result c.put_digits.new.text.items c.put_digits-2.new.text.items last.new.self.items
-        c.head.ensures.header c.in_ok-put_digits.ensures c.in_ok-put_digits-2.ensures last.ensures.items
+    c.head.ensures.header c.in_ok-put_digits.ensures c.in_ok-put_digits-2.ensures last.ensures.items
