@@ -83,6 +83,7 @@ def load():
         "text": [POINTER(Said), c_uint64, *octets, *buffer, POINTER(c_size_t)],
         "encode": [POINTER(Said), *octets, *buffer, POINTER(c_size_t)],
         "narrow": [POINTER(Said), *octets, *buffer, POINTER(c_size_t)],
+        "reconcile": [POINTER(Said), *octets, *buffer, POINTER(c_size_t)],
         "next_attribute": [*octets, POINTER(Attributes), POINTER(CAttribute)],
         "next_prefix": [*octets, POINTER(Prefixes), POINTER(CPrefix)],
         "next_segment": [*octets, POINTER(Segments), POINTER(CSegment)],
@@ -263,3 +264,8 @@ def encode(body, context):
 def narrow(body, context):
     """The same for a speaker with AS numbers of two octets."""
     return rewritten("narrow", bytes(body), context)
+
+
+def reconcile(body, context):
+    """The UPDATE of a session with AS numbers of two octets, as speakers with four see it."""
+    return rewritten("reconcile", bytes(body), context)

@@ -66,6 +66,11 @@ class Updates(unittest.TestCase):
         body = bytes.fromhex("0000" + "0028" + "40010100" + "4002060202fde85ba0" + "400304c0000201" + "c0080400010002" + "c0110a02020000fde800030d40" + "080a")
         self.assertEqual(ristulva.narrow(BODY, self.context), message(2, body))
 
+    def test_reconcile(self):
+        """200000 stands in AS4_PATH, and comes back in the place of 23456 (RFC 6793, section 4.2.3)."""
+        body = bytes.fromhex("0000" + "0028" + "40010100" + "4002060202fde85ba0" + "400304c0000201" + "c0080400010002" + "c0110a02020000fde800030d40" + "080a")
+        self.assertEqual(ristulva.reconcile(body, self.context), message(2, BODY))
+
     def test_notes(self):
         """The notes are those of the lines, which have offsets in the body."""
         for path in sorted(EXAMPLES.glob("*.hex")):

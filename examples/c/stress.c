@@ -287,8 +287,10 @@ static void walk_attributes(const uint8_t *octets, size_t len, ristulva_attribut
     }
 }
 
-/* A body as an UPDATE to send: what is written has to be read again, and to be its own written form. */
-static void try_encode(const ristulva_context *context, const uint8_t *body, size_t len, int narrow)
+typedef ristulva_status rewriting(const ristulva_context *, const uint8_t *, size_t, uint8_t *, size_t, size_t *);
+
+/* A body as an UPDATE to send, with AS numbers as wide as `as4` says: what is written has to be read again, and to be its own written form. */
+static void try_encode(const ristulva_context *context, const uint8_t *body, size_t len, rewriting *rewrite, uint8_t as4)
 {
     size_t room = below(3) == 0 ? below(100) : RISTULVA_MESSAGE, written = 77, again = 0;
     uint8_t message[RISTULVA_MESSAGE], other[RISTULVA_MESSAGE], data[1];
@@ -299,7 +301,7 @@ static void try_encode(const ristulva_context *context, const uint8_t *body, siz
     refused = below(4) == 0 ? 1 : 0;
     for (;;) {
         allocations = 0;
-        status = (narrow ? ristulva_narrow : ristulva_encode)(context, body, len, message, room, &written);
+        status = rewrite(context, body, len, message, room, &written);
         WANT(live == 0);
         calls++;
         if (status != RISTULVA_MEMORY)
@@ -316,8 +318,7 @@ static void try_encode(const ristulva_context *context, const uint8_t *body, siz
         return;
     }
     WANT(written <= room && (written == sizeof message || message[written] == 0x5a));
-    if (narrow)
-        read.as4 = 0;
+    read.as4 = as4;
     WANT(ristulva_judge(&read, message, written, data, 0, &verdict) == RISTULVA_OK);
     WANT(verdict.verdict == RISTULVA_UPDATE && verdict.len == written);
     WANT(ristulva_encode(&read, message + 19, written - 19, other, sizeof other, &again) == RISTULVA_OK);
@@ -366,10 +367,12 @@ static void try_all(const uint8_t *from, size_t len)
         walk_prefixes(octets, len, gone);
         walk_prefixes(octets, len, nlri);
         walk_attributes(octets, len, field);
-        try_encode(&context, octets + 19, found.len - 19, 0);
-        try_encode(&context, octets + 19, found.len - 19, 1);
+        try_encode(&context, octets + 19, found.len - 19, ristulva_encode, context.as4);
+        try_encode(&context, octets + 19, found.len - 19, ristulva_narrow, 0);
+        try_encode(&context, octets + 19, found.len - 19, ristulva_reconcile, 1);
     }
-    try_encode(&context, octets, len, (int)below(2));
+    try_encode(&context, octets, len, ristulva_encode, context.as4);
+    try_encode(&context, octets, len, ristulva_reconcile, 1);
     for (i = 0; i < 4; i++) {
         ristulva_prefixes prefixes = {some_offset(len), some_offset(len), (uint16_t)below(4)};
         ristulva_attributes attributes = {some_offset(len), some_offset(len)};

@@ -196,6 +196,12 @@ ristulva_status ristulva_encode(const ristulva_context *context, const uint8_t *
 ristulva_status ristulva_narrow(const ristulva_context *context, const uint8_t *body, size_t len, uint8_t *message, size_t room,
                                 size_t *written);
 
+/* The other way round (RFC 6793, section 4.2.3): the UPDATE of a session with AS numbers of two octets as speakers with four see it. The
+ * path and the aggregator that AS4_PATH and AS4_AGGREGATOR give back stand in the place of all four. `body` has AS numbers of two octets,
+ * whatever `as4` of the context says, and the message has them of four. */
+ristulva_status ristulva_reconcile(const ristulva_context *context, const uint8_t *body, size_t len, uint8_t *message, size_t room,
+                                   size_t *written);
+
 /* ---- cursors ----
  *
  * A cursor is a few numbers that a call moves over octets. To begin, set `at` and `end` to a span's first and last offset, and hand in the

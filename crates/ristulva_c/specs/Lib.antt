@@ -12,4 +12,5 @@ pub mod Numbers
 pub mod Segments
 pub mod Routes
 pub mod Encode
+pub mod Reconcile
 pub mod Notes

@@ -19,7 +19,7 @@ use std::alloc::{AllocError, Global};
 
 /// What comes of a body.
 #[derive(Drop)]
-enum Coded {
+pub(crate) enum Coded {
     /// It isn't accepted whole.
     Refused,
     /// It can't be written.
@@ -29,7 +29,7 @@ enum Coded {
 }
 
 /// The message of an UPDATE in its written form, where it can be written.
-fn written(alloc: Global, ctx: &Context, update: &Update) -> Result<Coded, AllocError>
+pub(crate) fn written(alloc: Global, ctx: &Context, update: &Update) -> Result<Coded, AllocError>
     ensures { IfOk result (λ it. IsCoded it (Some (written_of ctx.now update.now))) }
 {
     let mut octets = Vec::new(alloc);
@@ -93,7 +93,7 @@ pub extern "C" fn ristulva_encode(
 }
 
 /// The same session, but for the width of its AS numbers.
-fn with_as4(as4: bool, ctx: &Context) -> Context
+pub(crate) fn with_as4(as4: bool, ctx: &Context) -> Context
     ensures { result ≡ with_as4 as4 ctx.now }
 {
     Context { as4, ..*ctx }

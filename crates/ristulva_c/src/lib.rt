@@ -11,6 +11,7 @@ mod notes;
 mod numbers;
 mod parts;
 mod prefixes;
+mod reconcile;
 mod routes;
 mod segments;
 mod span;

@@ -1,0 +1,84 @@
+//! UPDATEs of a session with AS numbers of two octets, as speakers with four see them.
+
+ghost use Rattle.std.specs.Prelude.{◌≡◌, ◌≤◌, false, Some, length, option_map, IfOk, OnOk};
+ghost use Rattle.bgp_update.specs.Verdict.{verdict_of};
+ghost use Rattle.bgp_update.specs.View.{update_value, notes_value};
+ghost use Rattle.bgp_update.specs.Widths.{with_as4};
+ghost use Rattle.ristulva_c.specs.Context.{context_of};
+ghost use Rattle.ristulva_c.specs.Encode.{taken_of, without_notes, IsCoded};
+ghost use Rattle.ristulva_c.specs.Reconcile.{rebuilt_attrs, reconciled_of, IsReconciled};
+
+use crate::context::{SessionContext, context_of};
+use crate::encode::{Coded, with_as4, written};
+use crate::status::{MEMORY, RANGE, REFUSED, UNWRITABLE};
+use crate::text::write;
+use bgp_open::Context;
+use bgp_update::{Attrs, Found, UpdateView, judge_update, reconcile};
+use std::alloc::{AllocError, Global};
+
+/// Puts the path and the aggregator that AS4_PATH and AS4_AGGREGATOR give back in the place of all four.
+fn rebuild(alloc: Global, attrs: &mut Attrs) -> Result<(), AllocError>
+    ensures { OnOk result (attrs.new ≡ rebuilt_attrs attrs.old) }
+{
+    let info = reconcile(alloc, attrs)?;
+    attrs.as_path = info.path;
+    attrs.aggregator = info.aggregator;
+    attrs.as4_path = None;
+    attrs.as4_aggregator = None;
+    Ok(())
+}
+
+/// The message of an UPDATE that is accepted, with AS numbers of four octets, where it can be written.
+fn rebuilt(alloc: Global, ctx: &Context, view: &UpdateView<'_>) -> Result<Coded, AllocError>
+    ensures { IfOk result (λ it. IsCoded it (Some (reconciled_of ctx.now (update_value view.now)))) }
+{
+    let mut update = view.own(alloc)?;
+    rebuild(alloc, &mut update.attrs)?;
+    let wide = with_as4(true, ctx);
+    written(alloc, &wide, &update)
+}
+
+/// The same, where it has no note.
+fn whole_rebuilt(alloc: Global, ctx: &Context, view: &UpdateView<'_>) -> Result<Coded, AllocError>
+    ensures { IfOk result (λ it. IsCoded it (option_map (reconciled_of ctx.now) (without_notes (update_value view.now) (notes_value view.now)))) }
+{
+    match view.notes().next() {
+        Some(_) => Ok(Coded::Refused),
+        None => rebuilt(alloc, ctx, view),
+    }
+}
+
+/// What comes of a body of a session with AS numbers of two octets.
+fn reconciled(alloc: Global, ctx: &Context, body: &[u8]) -> Result<Coded, AllocError>
+    requires { length body.now ≤ 4077 }
+    ensures { IfOk result (λ it. IsCoded it (option_map (reconciled_of ctx.now) (taken_of (verdict_of (with_as4 false ctx.now) body.now)))) }
+{
+    let narrow = with_as4(false, ctx);
+    match judge_update(&narrow, body) {
+        Found::Take(view) => whole_rebuilt(alloc, ctx, &view),
+        Found::Withdraw(_) | Found::Reset(_) => Ok(Coded::Refused),
+    }
+}
+
+/// Writes the UPDATE that a body is in some spelling, of a session with AS numbers of two octets, as speakers with four see it
+/// (RFC 6793, section 4.2.3), as a whole message.
+#[unsafe(no_mangle)]
+pub extern "C" fn ristulva_reconcile(
+    alloc: Global,
+    ctx: &SessionContext,
+    body: &[u8],
+    buffer: &mut [u8],
+    len: &mut usize,
+) -> u32
+    ensures { IsReconciled (context_of ctx.now) body.now (record { status = result; before = buffer.old; behind = buffer.new; len_before = len.old; len_behind = len.new }) }
+{
+    if body.len() > 4077 {
+        return RANGE;
+    }
+    match reconciled(alloc, &context_of(ctx), body) {
+        Err(_) => MEMORY,
+        Ok(Coded::Refused) => REFUSED,
+        Ok(Coded::Unwritable) => UNWRITABLE,
+        Ok(Coded::Octets(octets)) => write(&octets, buffer, len),
+    }
+}
