@@ -308,6 +308,24 @@ fn families() {
     assert_eq!(whys, [(14, Why::Family), (15, Why::Family)]);
 }
 
+/// RFC 4760, section 3, and RFC 4271, section 5.1.3: IPv4 routes have a next hop of four octets.
+#[test]
+fn family_of_ip4() {
+    let reach = attribute(0x80, 14, &[0, 1, 1, 4, 192, 0, 2, 2, 0, 16, 10, 1]);
+    let octets = message(2, &body(&[], &[origin(), path(), reach], &[]));
+    let it = taken(&Context { ip4: true, ..AS4 }, &octets);
+    assert_eq!(told(it.reached()), ["10.1.0.0/16"]);
+    let hop = NextHop {
+        address: "192.0.2.2".parse().unwrap(),
+        link_local: None,
+    };
+    assert_eq!(it.reached_by(), Some(hop));
+
+    let it = taken(&Context { ip6: true, ..AS4 }, &octets);
+    assert_eq!(it.reached().count(), 0);
+    assert_eq!(it.notes().next().unwrap().why, Why::Family);
+}
+
 /// RFC 7606, sections 3 and 7.1: an ORIGIN without a meaning withdraws the routes.
 #[test]
 fn withdrawal() {
