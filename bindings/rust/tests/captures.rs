@@ -176,3 +176,35 @@ fn offsets() {
         }
     }
 }
+
+/// Walks all that an UPDATE has. How many steps that took.
+fn walk(update: &Update<'_>) -> usize {
+    let paths = update.as_path().into_iter().chain(update.as4_path());
+    let numbers = paths.flatten().flat_map(|segment| segment.numbers());
+    update.attributes().count()
+        + update.prefixes().count()
+        + numbers.count()
+        + update.communities().count()
+        + update.large_communities().count()
+        + update.reached_by().iter().count()
+        + update.notes().count()
+}
+
+/// Whatever one octet is, what is there is judged, printed and walked, and no more of it than there is.
+#[test]
+fn changed_octets() {
+    for mut it in captures() {
+        for at in 0..it.octets.len() {
+            let kept = it.octets[at];
+            for octet in [0, kept ^ 1, 0xff] {
+                it.octets[at] = octet;
+                for message in messages(&it.context, &it.octets) {
+                    assert!(message.to_string().ends_with('\n'), "{}", it.name);
+                    let steps = update(&message).map_or(0, |update| walk(&update));
+                    assert!(steps <= 2 * message.octets().len(), "{} {at}", it.name);
+                }
+            }
+            it.octets[at] = kept;
+        }
+    }
+}

@@ -381,6 +381,17 @@ fn repeated() {
     assert_eq!(it.notes().next().unwrap().why.to_string(), "Repeated");
 }
 
+/// The lines of a message with as many prefixes as there is room for.
+#[test]
+fn long_lines() {
+    let nlri = [8, 10].repeat(2000);
+    let octets = message(2, &body(&[], &[origin(), path(), next_hop()], &nlri));
+    let lines = judge(&AS4, &octets).unwrap().lines().unwrap();
+    let nlri = lines.lines().filter(|line| *line == "  nlri 10.0.0.0/8");
+    assert_eq!(nlri.count(), 2000);
+    assert_eq!(lines.lines().count(), 2004);
+}
+
 /// ORIGIN behind AS_PATH, its length in two octets, is written in front of it in one.
 #[test]
 fn one_written_form() {
