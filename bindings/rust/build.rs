@@ -1,5 +1,5 @@
-//! Links the static library that `./library` makes: that of the folder RISTULVA_DIST, or of dist/ two folders up. A path in
-//! RISTULVA_DIST that isn't absolute begins at the folder of this file.
+//! Links the static library that `./library` makes: that of the folder RISTULVA_DIST, or of dist/
+//! two folders up. A path in RISTULVA_DIST that isn't absolute begins at the folder of this file.
 
 use std::path::{Path, PathBuf};
 use std::{env, fs};

@@ -1,4 +1,5 @@
-//! Prints the outcome of each message of a stream on standard input, and how the stream ends, as `bgp show` does:
+//! Prints the outcome of each message of a stream on standard input, and how the stream ends, as
+//! `bgp show` does:
 //!
 //!     show [--as4] [--ip4] [--ip6] [--internal] < STREAM
 //!

@@ -11,7 +11,8 @@ pub enum Error {
     TooLong,
     /// An UPDATE isn't accepted, or some of it would be discarded.
     Refused,
-    /// An UPDATE can't be written, or its message would have more than [`MESSAGE`](crate::MESSAGE) octets.
+    /// An UPDATE can't be written, or its message would have more than [`MESSAGE`](crate::MESSAGE)
+    /// octets.
     Unwritable,
 }
 

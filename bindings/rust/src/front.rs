@@ -30,7 +30,8 @@ impl Kind {
 pub enum Front<'a> {
     /// Less than a message.
     More {
-        /// How many octets the message will have at least: 19 until its header is there, then what that says.
+        /// How many octets the message will have at least: 19 until its header is there, then what
+        /// that says.
         wanted: usize,
     },
     /// A whole message.

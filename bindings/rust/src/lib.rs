@@ -1,8 +1,9 @@
 //! BGP-4 messages (RFC 4271), read and judged (RFC 7606) by proved code.
 //!
-//! This is the library for C, `dist/libristulva.a`, with types that a Rust programmer expects. It reads one direction of a
-//! session as octets, and has no session. What it gives borrows the caller's octets: only the data of a [`Outcome::Reset`],
-//! lines of text and messages that are written are copied.
+//! This is the library for C, `dist/libristulva.a`, with types that a Rust programmer expects. It
+//! reads one direction of a session as octets, and has no session. What it gives borrows the
+//! caller's octets: only the data of a [`Outcome::Reset`], lines of text and messages that are
+//! written are copied.
 //!
 //! ```
 //! use ristulva::{Context, Outcome};
@@ -58,7 +59,8 @@ pub const MESSAGE: usize = 4096;
 /// The most octets of a message's body.
 pub const BODY: usize = 4077;
 
-/// The version of the library that is linked: 1000000 times the first number, 1000 times the second, and the third.
+/// The version of the library that is linked: 1000000 times the first number, 1000 times the
+/// second, and the third.
 pub fn version() -> u32 {
     raw::version()
 }

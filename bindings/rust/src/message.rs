@@ -54,8 +54,8 @@ pub struct Message<'a> {
 }
 
 impl<'a> Message<'a> {
-    /// Its octets, header included: 19 to [`MESSAGE`](crate::MESSAGE), or none where its header has a fault. The next message
-    /// of the stream stands behind them.
+    /// Its octets, header included: 19 to [`MESSAGE`](crate::MESSAGE), or none where its header has
+    /// a fault. The next message of the stream stands behind them.
     pub fn octets(&self) -> &'a [u8] {
         &self.octets[..self.len]
     }
@@ -140,11 +140,11 @@ fn outcome<'a>(context: &Context, octets: &'a [u8], verdict: &raw::Verdict) -> O
     }
 }
 
-/// Judges the message that octets begin with, in the context of its session; `None` where they are less than a message, and
-/// [`front`](crate::front) tells how many octets are wanted.
+/// Judges the message that octets begin with, in the context of its session; `None` where they are
+/// less than a message, and [`front`](crate::front) tells how many octets are wanted.
 ///
-/// What stands behind the message has no effect, and no outcome depends on other messages. Only a reset takes memory, for its
-/// data.
+/// What stands behind the message has no effect, and no outcome depends on other messages. Only a
+/// reset takes memory, for its data.
 ///
 /// ```
 /// let keepalive = [[0xff; 16].as_slice(), &[0, 19, 4]].concat();
@@ -155,7 +155,8 @@ fn outcome<'a>(context: &Context, octets: &'a [u8], verdict: &raw::Verdict) -> O
 /// assert_eq!(ristulva::judge(&context, &keepalive[..18]), None);
 /// ```
 pub fn judge<'a>(context: &Context, octets: &'a [u8]) -> Option<Message<'a>> {
-    // Without room the verdict is written all the same. The data of a NOTIFICATION that came stand in it.
+    // Without room the verdict is written all the same, and the data of a NOTIFICATION that came
+    // stand in its octets.
     let (status, verdict) = raw::judge(&context.said(), octets, &mut []);
     if status == raw::INCOMPLETE {
         return None;
@@ -171,7 +172,8 @@ pub fn judge<'a>(context: &Context, octets: &'a [u8]) -> Option<Message<'a>> {
     })
 }
 
-/// The messages of a stream, one after another, up to the first that ends the session by a reset: see [`messages`].
+/// The messages of a stream, one after another, up to the first that ends the session by a reset:
+/// see [`messages`].
 #[derive(Clone, Debug)]
 pub struct Messages<'a> {
     context: Context,
@@ -181,7 +183,8 @@ pub struct Messages<'a> {
 }
 
 impl<'a> Messages<'a> {
-    /// What stands behind the messages so far: an incomplete message, where all that are whole were given and none was a reset.
+    /// What stands behind the messages so far: an incomplete message, where all that are whole were
+    /// given and none was a reset.
     pub fn rest(&self) -> &'a [u8] {
         self.rest
     }

@@ -62,7 +62,8 @@ impl fmt::Display for Why {
     }
 }
 
-/// An attribute that is discarded, or for which its UPDATE is treated as a withdrawal (RFC 7606, section 6).
+/// An attribute that is discarded, or for which its UPDATE is treated as a withdrawal (RFC 7606,
+/// section 6).
 #[derive(Clone, Copy, Debug, PartialEq, Eq, Hash)]
 pub struct Note {
     /// Where the attribute's flags stand in the message, in octets; `None` where it is missing.
@@ -73,7 +74,8 @@ pub struct Note {
     pub why: Why,
 }
 
-/// The notes on an UPDATE: the attributes by their places, the one that is cut off, and then what is missing.
+/// The notes on an UPDATE: the attributes by their places, the one that is cut off, and then what
+/// is missing.
 ///
 /// Each step judges the message anew: a message has few notes.
 #[derive(Clone, Debug)]

@@ -49,7 +49,8 @@ pub struct Segments<'a> {
 }
 
 impl<'a> Segments<'a> {
-    /// Those of a path's value: whether AS numbers have four octets, and whether segments of confederations are read.
+    /// Those of a path's value: whether AS numbers have four octets, and whether segments of
+    /// confederations are read.
     pub(crate) fn new(value: &'a [u8], wide: bool, confederations: bool) -> Segments<'a> {
         let cursor = raw::Segments {
             at: 0,

@@ -1,8 +1,9 @@
 //! The calls of `ristulva.h`, and each as a safe function: the only file with `unsafe`.
 //!
-//! What makes them safe is the same everywhere. A slice's pointer isn't null, also where the slice is empty, and its length goes
-//! with it. What a call writes is behind a `&mut`, so it overlaps nothing else. No call keeps a pointer, and for any octets,
-//! cursor and span it reads nothing outside of what it is handed.
+//! What makes them safe is the same everywhere. A slice's pointer isn't null, also where the slice
+//! is empty, and its length goes with it. What a call writes is behind a `&mut`, so it overlaps
+//! nothing else. No call keeps a pointer, and for any octets, cursor and span it reads nothing
+//! outside of what it is handed.
 
 use std::os::raw::c_char;
 

@@ -12,8 +12,8 @@ const LARGE_COMMUNITY: u8 = 32;
 
 /// An UPDATE (RFC 4271, section 4.3). What it gives is read from its octets when it is asked for.
 ///
-/// Of attributes of one type the first decides (RFC 7606, section 3, item g), also one that is discarded, of which the
-/// [notes](Update::notes) tell.
+/// Of attributes of one type the first decides (RFC 7606, section 3, item g), also one that is
+/// discarded, of which the [notes](Update::notes) tell.
 #[derive(Clone, Copy, Debug, PartialEq, Eq)]
 pub struct Update<'a> {
     /// The message.
@@ -55,7 +55,8 @@ impl<'a> Update<'a> {
         Prefixes::of_field(self.parts.nlri.of(self.octets))
     }
 
-    /// The prefixes of MP_REACH_NLRI (RFC 4760, section 3): none where it isn't there, or of a family that isn't in use.
+    /// The prefixes of MP_REACH_NLRI (RFC 4760, section 3): none where it isn't there, or of a
+    /// family that isn't in use.
     pub fn reached(&self) -> Prefixes<'a> {
         self.reach()
             .map_or(Prefixes::none(), |(_, prefixes)| prefixes)
@@ -74,7 +75,8 @@ impl<'a> Update<'a> {
             .then(|| (hop.of(value), Prefixes::new(value, cursor)))
     }
 
-    /// The prefixes of MP_UNREACH_NLRI (RFC 4760, section 4): none where it isn't there, or of a family that isn't in use.
+    /// The prefixes of MP_UNREACH_NLRI (RFC 4760, section 4): none where it isn't there, or of a
+    /// family that isn't in use.
     pub fn unreached(&self) -> Prefixes<'a> {
         self.unreach().unwrap_or(Prefixes::none())
     }
@@ -85,8 +87,9 @@ impl<'a> Update<'a> {
         self.in_use(&cursor).then(|| Prefixes::new(value, cursor))
     }
 
-    /// All of its prefixes: those of Withdrawn Routes, MP_UNREACH_NLRI, MP_REACH_NLRI and Network Layer Reachability Information.
-    /// An UPDATE that is treated as a withdrawal withdraws them all (RFC 7606, section 2).
+    /// All of its prefixes: those of Withdrawn Routes, MP_UNREACH_NLRI, MP_REACH_NLRI and Network
+    /// Layer Reachability Information. An UPDATE that is treated as a withdrawal withdraws them all
+    /// (RFC 7606, section 2).
     pub fn prefixes(&self) -> impl Iterator<Item = Prefix> + 'a {
         self.withdrawn()
             .chain(self.unreached())
@@ -108,13 +111,15 @@ impl<'a> Update<'a> {
             .map(|value| Segments::new(value, self.context.as4, false))
     }
 
-    /// The segments of AS4_PATH (RFC 6793, section 3); `None` where there is none. Those of a confederation have no meaning.
+    /// The segments of AS4_PATH (RFC 6793, section 3); `None` where there is none. Those of a
+    /// confederation have no meaning.
     pub fn as4_path(&self) -> Option<Segments<'a>> {
         self.value(AS4_PATH)
             .map(|value| Segments::new(value, true, true))
     }
 
-    /// The values of COMMUNITIES (RFC 1997), each 65536 times an AS number and a number of that AS; none where it isn't there.
+    /// The values of COMMUNITIES (RFC 1997), each 65536 times an AS number and a number of that AS;
+    /// none where it isn't there.
     pub fn communities(&self) -> Numbers<'a> {
         Numbers::new(self.value(COMMUNITIES).unwrap_or_default(), 4)
     }

@@ -1,4 +1,5 @@
-//! The captures of examples/: their lines, and what iterators give of them, are what the texts beside them say.
+//! The captures of examples/: their lines, and what iterators give of them, are what the texts
+//! beside them say.
 
 use ristulva::{messages, Context, Message, Outcome, Update};
 use std::collections::BTreeMap;
@@ -57,7 +58,8 @@ fn update<'a>(message: &Message<'a>) -> Option<Update<'a>> {
     }
 }
 
-/// The words of the lines that begin with `  NAME `, by their names; those of one name in their order.
+/// The words of the lines that begin with `  NAME `, by their names; those of one name in their
+/// order.
 fn words(lines: &str) -> BTreeMap<&str, Vec<&str>> {
     let mut words: BTreeMap<_, Vec<_>> = BTreeMap::new();
     for line in lines.lines().filter_map(|line| line.strip_prefix("  ")) {
@@ -190,7 +192,8 @@ fn walk(update: &Update<'_>) -> usize {
         + update.notes().count()
 }
 
-/// Whatever one octet is, what is there is judged, printed and walked, and no more of it than there is.
+/// Whatever one octet is, what is there is judged, printed and walked, and no more of it than there
+/// is.
 #[test]
 fn changed_octets() {
     for mut it in captures() {

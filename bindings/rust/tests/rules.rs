@@ -99,7 +99,8 @@ fn front_of_octets() {
     assert_eq!(front(&more), found);
 }
 
-/// RFC 4271, section 6.1: not synchronized without data, a bad length with the Length field, a bad type with the Type.
+/// RFC 4271, section 6.1: not synchronized without data, a bad length with the Length field, a bad
+/// type with the Type.
 #[test]
 fn faults_of_headers() {
     let mut marker = message(4, &[]);
@@ -137,7 +138,8 @@ fn incomplete() {
     assert_eq!(messages(&AS4, &octets[..30]).rest().len(), 30);
 }
 
-/// RFC 4271, section 4.2: version, AS, hold time, identifier, no parameters. Section 6.2: the highest version is answered.
+/// RFC 4271, section 4.2: version, AS, hold time, identifier, no parameters. Section 6.2: the
+/// highest version is answered.
 #[test]
 fn opens() {
     let good = message(1, &[4, 0xfd, 0xe8, 0, 90, 192, 0, 2, 1, 0]);
@@ -188,7 +190,8 @@ fn stream() {
     assert_eq!(offsets, [0, 19, 38]);
     assert_eq!(stream.rest(), good);
     assert!(stream.next().is_none());
-    // Withdrawn Routes that are longer than the message: Malformed Attribute List (RFC 4271, section 6.3).
+    // Withdrawn Routes that are longer than the message: Malformed Attribute List (RFC 4271,
+    // section 6.3).
     let last = messages(&PLAIN, &octets).last().unwrap();
     assert_eq!(last.outcome(), &reset(3, 1, &[]));
 }
