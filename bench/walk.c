@@ -1,0 +1,150 @@
+/* Judges each message of a stream by the library for C and walks all that stands in its UPDATEs by cursors: attributes, the prefixes of the
+ * four fields, and the numbers of the AS path. Prints the sums of one round, as baseline.rs does, and the best time of the rounds.
+ *
+ * usage: walk FILE ROUNDS      the session has AS numbers of four octets and both families */
+#define _POSIX_C_SOURCE 200809L
+#include "ristulva.h"
+#include <stdio.h>
+#include <stdlib.h>
+#include <time.h>
+
+/* The types of attributes that are walked further. */
+enum { AS_PATH = 2, MP_REACH = 14, MP_UNREACH = 15 };
+
+static const ristulva_context context = {0, 1, 1, 1};
+
+/* Numbers of what was found. `path` is the sum of the numbers of paths, so that no step can be left out. */
+struct sums {
+    unsigned long messages, attributes, announced, withdrawn, bad, numbers;
+    unsigned long long path;
+};
+
+/* A message that was judged. */
+struct message {
+    const uint8_t *octets;
+    size_t len;
+    ristulva_parts parts;
+};
+
+static unsigned long count_prefixes(const struct message *m, ristulva_prefixes cursor)
+{
+    ristulva_prefix prefix;
+    unsigned long count = 0;
+    while (ristulva_next_prefix(m->octets, m->len, &cursor, &prefix) == RISTULVA_OK)
+        count++;
+    return count;
+}
+
+static unsigned long count_field(const struct message *m, ristulva_span field)
+{
+    ristulva_prefixes cursor = {field.at, field.at + field.len, 1};
+    return count_prefixes(m, cursor);
+}
+
+static void walk_path(const struct message *m, ristulva_span value, struct sums *sums)
+{
+    ristulva_segments segments = {value.at, value.at + value.len, 1, 0};
+    ristulva_segment segment;
+    while (ristulva_next_segment(m->octets, m->len, &segments, &segment) == RISTULVA_OK) {
+        ristulva_numbers numbers = {segment.numbers.at, segment.numbers.at + segment.numbers.len, 4};
+        uint32_t number;
+        while (ristulva_next_number(m->octets, m->len, &numbers, &number) == RISTULVA_OK) {
+            sums->numbers++;
+            sums->path += number;
+        }
+    }
+}
+
+static void walk_attribute(const struct message *m, const ristulva_attribute *attribute, struct sums *sums)
+{
+    ristulva_span next_hop;
+    ristulva_prefixes cursor;
+    sums->attributes++;
+    if (attribute->kind == AS_PATH)
+        walk_path(m, attribute->value, sums);
+    else if (attribute->kind == MP_REACH && ristulva_reached(m->octets, m->len, &attribute->value, &next_hop, &cursor) == RISTULVA_OK)
+        sums->announced += count_prefixes(m, cursor);
+    else if (attribute->kind == MP_UNREACH && ristulva_unreached(m->octets, m->len, &attribute->value, &cursor) == RISTULVA_OK)
+        sums->withdrawn += count_prefixes(m, cursor);
+}
+
+static void walk_update(const struct message *m, struct sums *sums)
+{
+    ristulva_attributes cursor = {m->parts.attributes.at, m->parts.attributes.at + m->parts.attributes.len};
+    ristulva_attribute attribute;
+    while (ristulva_next_attribute(m->octets, m->len, &cursor, &attribute) == RISTULVA_OK)
+        walk_attribute(m, &attribute, sums);
+    sums->withdrawn += count_field(m, m->parts.withdrawn);
+    sums->announced += count_field(m, m->parts.nlri);
+}
+
+/* Walks a stream up to its end or to the first message that ends the session. */
+static struct sums walk(const uint8_t *octets, size_t len)
+{
+    static uint8_t data[RISTULVA_DATA];
+    struct sums sums = {0};
+    ristulva_verdict verdict;
+    while (ristulva_judge(&context, octets, len, data, sizeof data, &verdict) != RISTULVA_INCOMPLETE) {
+        sums.messages++;
+        sums.bad += verdict.verdict == RISTULVA_WITHDRAW || verdict.verdict == RISTULVA_RESET;
+        if (verdict.verdict == RISTULVA_RESET)
+            break;
+        if (verdict.kind == 2) {
+            struct message m = {octets, verdict.len, verdict.parts};
+            walk_update(&m, &sums);
+        }
+        octets += verdict.len;
+        len -= verdict.len;
+    }
+    return sums;
+}
+
+/* All octets of a file, which may be a pipe. NULL where they can't be read. */
+static uint8_t *read_all(const char *name, size_t *len)
+{
+    size_t room = 1 << 20, got;
+    uint8_t *octets = malloc(room);
+    FILE *file = fopen(name, "rb");
+    *len = 0;
+    while (file != NULL && octets != NULL && (got = fread(octets + *len, 1, room - *len, file)) > 0) {
+        *len += got;
+        if (*len == room)
+            octets = realloc(octets, room *= 2);
+    }
+    return file == NULL || ferror(file) ? NULL : octets;
+}
+
+static unsigned long long nanoseconds(void)
+{
+    struct timespec now;
+    clock_gettime(CLOCK_MONOTONIC, &now);
+    return 1000000000ull * (unsigned long long)now.tv_sec + (unsigned long long)now.tv_nsec;
+}
+
+int main(int argc, char **argv)
+{
+    unsigned long long best = -1ull;
+    struct sums sums = {0};
+    size_t len;
+    long rounds;
+    uint8_t *octets;
+    if (argc != 3) {
+        fprintf(stderr, "usage: walk FILE ROUNDS\n");
+        return 2;
+    }
+    octets = read_all(argv[1], &len);
+    if (octets == NULL) {
+        perror(argv[1]);
+        return 4;
+    }
+    for (rounds = atol(argv[2]); rounds > 0; rounds--) {
+        unsigned long long start = nanoseconds(), took;
+        sums = walk(octets, len);
+        took = nanoseconds() - start;
+        best = took < best ? took : best;
+    }
+    printf("RESULT messages=%lu attributes=%lu announced=%lu withdrawn=%lu numbers=%lu path=%llu bad=%lu octets=%zu best_ns=%llu\n", sums.messages,
+           sums.attributes, sums.announced, sums.withdrawn, sums.numbers, sums.path, sums.bad, len, best);
+    free(octets);
+    return 0;
+}

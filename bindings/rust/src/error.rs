@@ -1,0 +1,43 @@
+use crate::raw;
+use std::fmt;
+
+/// Why a call gives nothing.
+#[derive(Clone, Copy, Debug, PartialEq, Eq, Hash)]
+#[non_exhaustive]
+pub enum Error {
+    /// An allocation failed. The call can be made again.
+    Memory,
+    /// A body has more than [`BODY`](crate::BODY) octets.
+    TooLong,
+    /// An UPDATE isn't accepted, or some of it would be discarded.
+    Refused,
+    /// An UPDATE can't be written, or its message would have more than [`MESSAGE`](crate::MESSAGE)
+    /// octets.
+    Unwritable,
+}
+
+impl Error {
+    /// The error that a status tells, of those that the calls with errors answer.
+    pub(crate) fn of(status: u32) -> Error {
+        match status {
+            raw::MEMORY => Error::Memory,
+            raw::RANGE => Error::TooLong,
+            raw::REFUSED => Error::Refused,
+            raw::UNWRITABLE => Error::Unwritable,
+            _ => unreachable!("status {status} of a call that doesn't answer it"),
+        }
+    }
+}
+
+impl fmt::Display for Error {
+    fn fmt(&self, f: &mut fmt::Formatter<'_>) -> fmt::Result {
+        f.write_str(match self {
+            Error::Memory => "an allocation failed",
+            Error::TooLong => "the body is longer than that of a message",
+            Error::Refused => "the UPDATE isn't accepted whole",
+            Error::Unwritable => "the UPDATE can't be written",
+        })
+    }
+}
+
+impl std::error::Error for Error {}

@@ -1,0 +1,66 @@
+//! BGP-4 messages (RFC 4271), read and judged (RFC 7606) by proved code.
+//!
+//! This is the library for C, `dist/libristulva.a`, with types that a Rust programmer expects. It
+//! reads one direction of a session as octets, and has no session. What it gives borrows the
+//! caller's octets: only the data of a [`Outcome::Reset`], lines of text and messages that are
+//! written are copied.
+//!
+//! ```
+//! use ristulva::{Context, Outcome};
+//!
+//! // 10.0.0.0/8 by way of AS 65000, and of 192.0.2.1.
+//! let body = [
+//!     &[0, 0, 0, 20][..],
+//!     &[0x40, 1, 1, 0, 0x40, 2, 6, 2, 1, 0, 0, 0xfd, 0xe8, 0x40, 3, 4, 192, 0, 2, 1],
+//!     &[8, 10],
+//! ]
+//! .concat();
+//! let context = Context { as4: true, ..Context::default() };
+//! let octets = ristulva::encode(&context, &body)?;
+//! for message in ristulva::messages(&context, &octets) {
+//!     if let Outcome::Update(update) = message.outcome() {
+//!         for prefix in update.nlri() {
+//!             assert_eq!(prefix.to_string(), "10.0.0.0/8");
+//!         }
+//!     }
+//! }
+//! # Ok::<(), ristulva::Error>(())
+//! ```
+
+#![deny(unsafe_code, missing_docs)]
+
+mod attribute;
+mod context;
+mod error;
+mod front;
+mod message;
+mod note;
+mod path;
+mod prefix;
+#[allow(unsafe_code)]
+mod raw;
+mod update;
+mod write;
+
+pub use attribute::{Attribute, Attributes};
+pub use context::Context;
+pub use error::Error;
+pub use front::{front, Front, Kind};
+pub use message::{judge, messages, Message, Messages, Outcome};
+pub use note::{Note, Notes, Why};
+pub use path::{Numbers, Segment, SegmentKind, Segments};
+pub use prefix::{NextHop, Prefix, Prefixes};
+pub use update::Update;
+pub use write::{encode, narrow};
+
+/// The most octets of a message, its header of 19 included (RFC 4271, section 4.1).
+pub const MESSAGE: usize = 4096;
+
+/// The most octets of a message's body.
+pub const BODY: usize = 4077;
+
+/// The version of the library that is linked: 1000000 times the first number, 1000 times the
+/// second, and the third.
+pub fn version() -> u32 {
+    raw::version()
+}

@@ -1,0 +1,218 @@
+use crate::{raw, Context, Error, Update};
+use std::fmt;
+use std::iter::FusedIterator;
+
+/// The octets of a NOTIFICATION in front of its data: the header, its code and its subcode.
+const NOTIFICATION: usize = 21;
+
+/// How many octets of text most messages have room in.
+const LINES: usize = 4096;
+
+/// What a message means for its session (RFC 4271, section 6; RFC 7606).
+#[derive(Clone, Debug, PartialEq, Eq)]
+pub enum Outcome<'a> {
+    /// An OPEN is accepted.
+    Open,
+    /// An UPDATE is accepted. Attributes that its [notes](Update::notes) tell of are discarded.
+    Update(Update<'a>),
+    /// An UPDATE is treated as a withdrawal of all its routes (RFC 7606, section 2).
+    Withdraw(Update<'a>),
+    /// A NOTIFICATION came: the peer has ended the session.
+    Notification {
+        /// Its code (RFC 4271, section 4.5).
+        code: u8,
+        /// Its subcode.
+        subcode: u8,
+        /// Its data: at most 4075 octets.
+        data: &'a [u8],
+    },
+    /// A KEEPALIVE is accepted.
+    Keepalive,
+    /// The session ends, by a NOTIFICATION to the peer.
+    Reset {
+        /// The code of that NOTIFICATION (RFC 4271, section 4.5).
+        code: u8,
+        /// Its subcode.
+        subcode: u8,
+        /// Its data: at most 4075 octets.
+        data: Vec<u8>,
+    },
+}
+
+/// A message that was judged, or a header with a fault.
+///
+/// It is printed as the lines that `bgp show` prints of it.
+#[derive(Clone, Debug, PartialEq, Eq)]
+pub struct Message<'a> {
+    /// The message, or all that was there where its header has a fault.
+    octets: &'a [u8],
+    /// How many octets the message has; 0 where its header has a fault.
+    len: usize,
+    context: Context,
+    offset: u64,
+    outcome: Outcome<'a>,
+}
+
+impl<'a> Message<'a> {
+    /// Its octets, header included: 19 to [`MESSAGE`](crate::MESSAGE), or none where its header has
+    /// a fault. The next message of the stream stands behind them.
+    pub fn octets(&self) -> &'a [u8] {
+        &self.octets[..self.len]
+    }
+
+    /// The octets behind its header.
+    pub fn body(&self) -> &'a [u8] {
+        self.octets().get(19..).unwrap_or_default()
+    }
+
+    /// What it means for the session.
+    pub fn outcome(&self) -> &Outcome<'a> {
+        &self.outcome
+    }
+
+    /// The same as a value of its own.
+    pub fn into_outcome(self) -> Outcome<'a> {
+        self.outcome
+    }
+
+    /// Its offset in the stream, in octets.
+    pub fn offset(&self) -> u64 {
+        self.offset
+    }
+
+    /// The same message at another offset of its stream, which the first of its lines tells.
+    pub fn at(self, offset: u64) -> Message<'a> {
+        Message { offset, ..self }
+    }
+
+    /// The lines that `bgp show` prints of it, each with its end of line.
+    ///
+    /// # Errors
+    ///
+    /// [`Error::Memory`].
+    pub fn lines(&self) -> Result<String, Error> {
+        let mut text = vec![0; LINES];
+        loop {
+            let context = self.context.said();
+            let (status, written) = raw::text(&context, self.offset, self.octets, &mut text);
+            match status {
+                raw::OK => {
+                    text.truncate(written);
+                    return Ok(String::from_utf8(text).expect("the lines are ASCII"));
+                }
+                raw::ROOM => text.resize(written, 0),
+                _ => return Err(Error::of(status)),
+            }
+        }
+    }
+}
+
+impl fmt::Display for Message<'_> {
+    fn fmt(&self, f: &mut fmt::Formatter<'_>) -> fmt::Result {
+        f.write_str(&self.lines().map_err(|_| fmt::Error)?)
+    }
+}
+
+/// The outcome that a verdict tells.
+fn outcome<'a>(context: &Context, octets: &'a [u8], verdict: &raw::Verdict) -> Outcome<'a> {
+    let update = || Update::new(octets, *context, verdict.parts);
+    let (code, subcode) = (verdict.code, verdict.subcode);
+    match verdict.verdict {
+        raw::OPEN => Outcome::Open,
+        raw::UPDATE => Outcome::Update(update()),
+        raw::WITHDRAW => Outcome::Withdraw(update()),
+        raw::KEEPALIVE => Outcome::Keepalive,
+        raw::NOTIFICATION => Outcome::Notification {
+            code,
+            subcode,
+            data: &octets[NOTIFICATION..],
+        },
+        raw::RESET => {
+            let mut data = vec![0; verdict.data_len as usize];
+            raw::judge(&context.said(), octets, &mut data);
+            Outcome::Reset {
+                code,
+                subcode,
+                data,
+            }
+        }
+        other => unreachable!("verdict {other}"),
+    }
+}
+
+/// Judges the message that octets begin with, in the context of its session; `None` where they are
+/// less than a message, and [`front`](crate::front) tells how many octets are wanted.
+///
+/// What stands behind the message has no effect, and no outcome depends on other messages. Only a
+/// reset takes memory, for its data.
+///
+/// ```
+/// let keepalive = [[0xff; 16].as_slice(), &[0, 19, 4]].concat();
+/// let context = ristulva::Context::default();
+/// let message = ristulva::judge(&context, &keepalive).unwrap();
+/// assert_eq!(message.outcome(), &ristulva::Outcome::Keepalive);
+/// assert_eq!(message.to_string(), "0 19 KEEPALIVE\n");
+/// assert_eq!(ristulva::judge(&context, &keepalive[..18]), None);
+/// ```
+pub fn judge<'a>(context: &Context, octets: &'a [u8]) -> Option<Message<'a>> {
+    // Without room the verdict is written all the same, and the data of a NOTIFICATION that came
+    // stand in its octets.
+    let (status, verdict) = raw::judge(&context.said(), octets, &mut []);
+    if status == raw::INCOMPLETE {
+        return None;
+    }
+    let len = verdict.len as usize;
+    let octets = if len == 0 { octets } else { &octets[..len] };
+    Some(Message {
+        octets,
+        len,
+        context: *context,
+        offset: 0,
+        outcome: outcome(context, octets, &verdict),
+    })
+}
+
+/// The messages of a stream, one after another, up to the first that ends the session by a reset:
+/// see [`messages`].
+#[derive(Clone, Debug)]
+pub struct Messages<'a> {
+    context: Context,
+    rest: &'a [u8],
+    offset: u64,
+    ended: bool,
+}
+
+impl<'a> Messages<'a> {
+    /// What stands behind the messages so far: an incomplete message, where all that are whole were
+    /// given and none was a reset.
+    pub fn rest(&self) -> &'a [u8] {
+        self.rest
+    }
+}
+
+impl<'a> Iterator for Messages<'a> {
+    type Item = Message<'a>;
+
+    fn next(&mut self) -> Option<Message<'a>> {
+        if self.ended {
+            return None;
+        }
+        let message = judge(&self.context, self.rest)?.at(self.offset);
+        self.ended = matches!(message.outcome, Outcome::Reset { .. });
+        self.rest = &self.rest[message.len..];
+        self.offset += message.len as u64;
+        Some(message)
+    }
+}
+
+impl FusedIterator for Messages<'_> {}
+
+/// Judges the messages of a stream, the first of which stands at the offset 0.
+pub fn messages<'a>(context: &Context, octets: &'a [u8]) -> Messages<'a> {
+    Messages {
+        context: *context,
+        rest: octets,
+        offset: 0,
+        ended: false,
+    }
+}

@@ -1,0 +1,281 @@
+//! The calls of `ristulva.h`, and each as a safe function: the only file with `unsafe`.
+//!
+//! What makes them safe is the same everywhere. A slice's pointer isn't null, also where the slice
+//! is empty, and its length goes with it. What a call writes is behind a `&mut`, so it overlaps
+//! nothing else. No call keeps a pointer, and for any octets, cursor and span it reads nothing
+//! outside of what it is handed.
+
+use std::os::raw::c_char;
+
+/// The statuses that calls answer.
+pub const OK: u32 = 0;
+pub const MEMORY: u32 = 2;
+pub const RANGE: u32 = 3;
+pub const INCOMPLETE: u32 = 4;
+pub const ROOM: u32 = 5;
+pub const REFUSED: u32 = 7;
+pub const UNWRITABLE: u32 = 8;
+
+/// What [`Found`] tells.
+pub const MORE: u8 = 0;
+pub const FOUND: u8 = 1;
+
+/// The verdicts.
+pub const OPEN: u8 = 1;
+pub const UPDATE: u8 = 2;
+pub const NOTIFICATION: u8 = 3;
+pub const KEEPALIVE: u8 = 4;
+pub const WITHDRAW: u8 = 5;
+pub const RESET: u8 = 6;
+
+/// The address family of IPv4.
+pub const AFI_IP4: u16 = 1;
+
+#[repr(C)]
+#[derive(Clone, Copy, Debug, Default, PartialEq, Eq)]
+pub struct Span {
+    pub at: u32,
+    pub len: u32,
+}
+
+impl Span {
+    /// Its octets, of those that it lies in.
+    pub fn of(self, octets: &[u8]) -> &[u8] {
+        let at = self.at as usize;
+        &octets[at..at + self.len as usize]
+    }
+}
+
+#[repr(C)]
+#[derive(Default)]
+pub struct Found {
+    pub what: u8,
+    pub kind: u8,
+    pub code: u8,
+    pub subcode: u8,
+    pub len: u32,
+    pub data: Span,
+}
+
+#[repr(C)]
+pub struct Context {
+    pub internal: u8,
+    pub as4: u8,
+    pub ip4: u8,
+    pub ip6: u8,
+}
+
+#[repr(C)]
+#[derive(Clone, Copy, Debug, Default, PartialEq, Eq)]
+pub struct Parts {
+    pub withdrawn: Span,
+    pub attributes: Span,
+    pub nlri: Span,
+}
+
+#[repr(C)]
+#[derive(Default)]
+pub struct Verdict {
+    pub verdict: u8,
+    pub kind: u8,
+    pub code: u8,
+    pub subcode: u8,
+    pub len: u32,
+    pub data_len: u32,
+    pub parts: Parts,
+}
+
+#[repr(C)]
+#[derive(Default)]
+pub struct Note {
+    pub at: u32,
+    pub kind: u8,
+    pub why: u8,
+}
+
+#[repr(C)]
+#[derive(Clone, Debug)]
+pub struct Attributes {
+    pub at: u32,
+    pub end: u32,
+}
+
+#[repr(C)]
+#[derive(Default)]
+pub struct Attribute {
+    pub at: u32,
+    pub flags: u8,
+    pub kind: u8,
+    pub value: Span,
+}
+
+#[repr(C)]
+#[derive(Clone, Debug, Default)]
+pub struct Prefixes {
+    pub at: u32,
+    pub end: u32,
+    pub afi: u16,
+}
+
+#[repr(C)]
+#[derive(Default)]
+pub struct Prefix {
+    pub afi: u16,
+    pub len: u8,
+    pub addr: [u8; 16],
+}
+
+#[repr(C)]
+#[derive(Clone, Debug)]
+pub struct Segments {
+    pub at: u32,
+    pub end: u32,
+    pub wide: u8,
+    pub confederations: u8,
+}
+
+#[repr(C)]
+#[derive(Default)]
+pub struct Segment {
+    pub kind: u8,
+    pub numbers: Span,
+}
+
+#[repr(C)]
+#[derive(Clone, Debug)]
+pub struct Numbers {
+    pub at: u32,
+    pub end: u32,
+    pub width: u8,
+}
+
+#[rustfmt::skip]
+extern "C" {
+    fn ristulva_version() -> u32;
+    fn ristulva_front(octets: *const u8, len: usize, out: *mut Found) -> u32;
+    fn ristulva_judge(context: *const Context, octets: *const u8, len: usize, data: *mut u8, room: usize, out: *mut Verdict) -> u32;
+    fn ristulva_note(context: *const Context, octets: *const u8, len: usize, index: u32, out: *mut Note) -> u32;
+    fn ristulva_text(context: *const Context, place: u64, octets: *const u8, len: usize, text: *mut c_char, room: usize, written: *mut usize) -> u32;
+    fn ristulva_encode(context: *const Context, body: *const u8, len: usize, message: *mut u8, room: usize, written: *mut usize) -> u32;
+    fn ristulva_narrow(context: *const Context, body: *const u8, len: usize, message: *mut u8, room: usize, written: *mut usize) -> u32;
+    fn ristulva_next_attribute(octets: *const u8, len: usize, cursor: *mut Attributes, out: *mut Attribute) -> u32;
+    fn ristulva_next_prefix(octets: *const u8, len: usize, cursor: *mut Prefixes, out: *mut Prefix) -> u32;
+    fn ristulva_next_segment(octets: *const u8, len: usize, cursor: *mut Segments, out: *mut Segment) -> u32;
+    fn ristulva_next_number(octets: *const u8, len: usize, cursor: *mut Numbers, out: *mut u32) -> u32;
+    fn ristulva_reached(octets: *const u8, len: usize, value: *const Span, next_hop: *mut Span, cursor: *mut Prefixes) -> u32;
+    fn ristulva_unreached(octets: *const u8, len: usize, value: *const Span, cursor: *mut Prefixes) -> u32;
+}
+
+pub fn version() -> u32 {
+    // SAFETY: it takes nothing.
+    unsafe { ristulva_version() }
+}
+
+pub fn front(octets: &[u8]) -> Found {
+    let mut out = Found::default();
+    // SAFETY: see above. The status is always OK.
+    unsafe { ristulva_front(octets.as_ptr(), octets.len(), &mut out) };
+    out
+}
+
+/// The status, and the verdict, which is none where the octets are incomplete.
+pub fn judge(context: &Context, octets: &[u8], data: &mut [u8]) -> (u32, Verdict) {
+    let mut out = Verdict::default();
+    let (at, len) = (octets.as_ptr(), octets.len());
+    // SAFETY: see above.
+    let status =
+        unsafe { ristulva_judge(context, at, len, data.as_mut_ptr(), data.len(), &mut out) };
+    (status, out)
+}
+
+pub fn note(context: &Context, octets: &[u8], index: u32) -> Option<Note> {
+    let mut out = Note::default();
+    // SAFETY: see above.
+    let status = unsafe { ristulva_note(context, octets.as_ptr(), octets.len(), index, &mut out) };
+    (status == OK).then_some(out)
+}
+
+/// The status, and how many octets the lines have where that is OK or ROOM.
+pub fn text(context: &Context, place: u64, octets: &[u8], text: &mut [u8]) -> (u32, usize) {
+    let mut written = 0;
+    let (at, len) = (octets.as_ptr(), octets.len());
+    let (into, room) = (text.as_mut_ptr().cast(), text.len());
+    // SAFETY: see above.
+    let status = unsafe { ristulva_text(context, place, at, len, into, room, &mut written) };
+    (status, written)
+}
+
+/// The status, and how many octets the message has where that is OK or ROOM.
+pub fn encode(context: &Context, body: &[u8], message: &mut [u8]) -> (u32, usize) {
+    let mut written = 0;
+    let (at, len) = (body.as_ptr(), body.len());
+    let (into, room) = (message.as_mut_ptr(), message.len());
+    // SAFETY: see above.
+    let status = unsafe { ristulva_encode(context, at, len, into, room, &mut written) };
+    (status, written)
+}
+
+/// As [`encode`].
+pub fn narrow(context: &Context, body: &[u8], message: &mut [u8]) -> (u32, usize) {
+    let mut written = 0;
+    let (at, len) = (body.as_ptr(), body.len());
+    let (into, room) = (message.as_mut_ptr(), message.len());
+    // SAFETY: see above.
+    let status = unsafe { ristulva_narrow(context, at, len, into, room, &mut written) };
+    (status, written)
+}
+
+pub fn next_attribute(octets: &[u8], cursor: &mut Attributes) -> Option<Attribute> {
+    let mut out = Attribute::default();
+    // SAFETY: see above.
+    let status =
+        unsafe { ristulva_next_attribute(octets.as_ptr(), octets.len(), cursor, &mut out) };
+    (status == OK).then_some(out)
+}
+
+pub fn next_prefix(octets: &[u8], cursor: &mut Prefixes) -> Option<Prefix> {
+    let mut out = Prefix::default();
+    // SAFETY: see above.
+    let status = unsafe { ristulva_next_prefix(octets.as_ptr(), octets.len(), cursor, &mut out) };
+    (status == OK).then_some(out)
+}
+
+pub fn next_segment(octets: &[u8], cursor: &mut Segments) -> Option<Segment> {
+    let mut out = Segment::default();
+    // SAFETY: see above.
+    let status = unsafe { ristulva_next_segment(octets.as_ptr(), octets.len(), cursor, &mut out) };
+    (status == OK).then_some(out)
+}
+
+pub fn next_number(octets: &[u8], cursor: &mut Numbers) -> Option<u32> {
+    let mut out = 0;
+    // SAFETY: see above.
+    let status = unsafe { ristulva_next_number(octets.as_ptr(), octets.len(), cursor, &mut out) };
+    (status == OK).then_some(out)
+}
+
+/// The span of all octets, which are those of a value.
+fn whole(value: &[u8]) -> Span {
+    Span {
+        at: 0,
+        len: value.len() as u32,
+    }
+}
+
+/// Where the next hop of a value of MP_REACH_NLRI lies, and a cursor over its prefixes.
+pub fn reached(value: &[u8]) -> Option<(Span, Prefixes)> {
+    let (mut hop, mut cursor) = (Span::default(), Prefixes::default());
+    let (at, len) = (value.as_ptr(), value.len());
+    // SAFETY: see above.
+    let status = unsafe { ristulva_reached(at, len, &whole(value), &mut hop, &mut cursor) };
+    (status == OK).then_some((hop, cursor))
+}
+
+/// A cursor over the prefixes of a value of MP_UNREACH_NLRI.
+pub fn unreached(value: &[u8]) -> Option<Prefixes> {
+    let mut cursor = Prefixes::default();
+    let (at, len) = (value.as_ptr(), value.len());
+    // SAFETY: see above.
+    let status = unsafe { ristulva_unreached(at, len, &whole(value), &mut cursor) };
+    (status == OK).then_some(cursor)
+}
