@@ -51,7 +51,7 @@ pub use note::{Note, Notes, Why};
 pub use path::{Numbers, Segment, SegmentKind, Segments};
 pub use prefix::{NextHop, Prefix, Prefixes};
 pub use update::Update;
-pub use write::{encode, narrow};
+pub use write::{encode, narrow, reconcile};
 
 /// The most octets of a message, its header of 19 included (RFC 4271, section 4.1).
 pub const MESSAGE: usize = 4096;

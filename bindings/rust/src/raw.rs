@@ -158,6 +158,7 @@ extern "C" {
     fn ristulva_text(context: *const Context, place: u64, octets: *const u8, len: usize, text: *mut c_char, room: usize, written: *mut usize) -> u32;
     fn ristulva_encode(context: *const Context, body: *const u8, len: usize, message: *mut u8, room: usize, written: *mut usize) -> u32;
     fn ristulva_narrow(context: *const Context, body: *const u8, len: usize, message: *mut u8, room: usize, written: *mut usize) -> u32;
+    fn ristulva_reconcile(context: *const Context, body: *const u8, len: usize, message: *mut u8, room: usize, written: *mut usize) -> u32;
     fn ristulva_next_attribute(octets: *const u8, len: usize, cursor: *mut Attributes, out: *mut Attribute) -> u32;
     fn ristulva_next_prefix(octets: *const u8, len: usize, cursor: *mut Prefixes, out: *mut Prefix) -> u32;
     fn ristulva_next_segment(octets: *const u8, len: usize, cursor: *mut Segments, out: *mut Segment) -> u32;
@@ -222,6 +223,16 @@ pub fn narrow(context: &Context, body: &[u8], message: &mut [u8]) -> (u32, usize
     let (into, room) = (message.as_mut_ptr(), message.len());
     // SAFETY: see above.
     let status = unsafe { ristulva_narrow(context, at, len, into, room, &mut written) };
+    (status, written)
+}
+
+/// As [`encode`].
+pub fn reconcile(context: &Context, body: &[u8], message: &mut [u8]) -> (u32, usize) {
+    let mut written = 0;
+    let (at, len) = (body.as_ptr(), body.len());
+    let (into, room) = (message.as_mut_ptr(), message.len());
+    // SAFETY: see above.
+    let status = unsafe { ristulva_reconcile(context, at, len, into, room, &mut written) };
     (status, written)
 }
 

@@ -39,3 +39,17 @@ pub fn encode(context: &Context, body: &[u8]) -> Result<Vec<u8>, Error> {
 pub fn narrow(context: &Context, body: &[u8]) -> Result<Vec<u8>, Error> {
     written(|message| raw::narrow(&context.said(), body, message))
 }
+
+/// The UPDATE of a session with AS numbers of two octets as speakers with four see it (RFC 6793,
+/// section 4.2.3): the path and the aggregator that AS4_PATH and AS4_AGGREGATOR give back stand in
+/// the place of all four.
+///
+/// `body` has AS numbers of two octets, whatever `as4` of the context says, and the message has them
+/// of four.
+///
+/// # Errors
+///
+/// Those of [`encode`].
+pub fn reconcile(context: &Context, body: &[u8]) -> Result<Vec<u8>, Error> {
+    written(|message| raw::reconcile(&context.said(), body, message))
+}

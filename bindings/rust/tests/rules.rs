@@ -1,8 +1,8 @@
 //! Worked examples of the rules of the RFCs, written by hand.
 
 use ristulva::{
-    encode, front, judge, messages, narrow, Context, Error, Front, Kind, NextHop, Note, Outcome,
-    SegmentKind, Update, Why,
+    encode, front, judge, messages, narrow, reconcile, Context, Error, Front, Kind, NextHop, Note,
+    Outcome, SegmentKind, Update, Why,
 };
 
 const PLAIN: Context = Context {
@@ -412,6 +412,7 @@ fn narrowed() {
     let wanted = body(&[], &[origin(), two, next_hop(), four], &[8, 10]);
     assert_eq!(narrow(&AS4, &simple()), Ok(message(2, &wanted)));
     assert_eq!(narrow(&PLAIN, &simple()), Ok(message(2, &wanted)));
+    assert_eq!(reconcile(&AS4, &wanted), Ok(message(2, &simple())));
 }
 
 #[test]
