@@ -8,7 +8,8 @@ use Rattle.bgp_numbers.specs.declared.safi.TheConstants.{UNICAST}
 use Rattle.bgp_open.specs.declared.capability.Capability.TheVariants.{Multi, As4}
 use Rattle.bgp_open.specs.declared.agreement.PeerFault.TheVariants as peer
 use Rattle.bgp_open.specs.declared.context.Context.{Context}
-use Rattle.bgp_open.specs.Agreement.{agreement, context_of, first_as4, is_unicast, peer_as_of, same_id}
+use Rattle.bgp_open.specs.Agreement.{agreement, context_of, peer_as_of, same_id}
+use Rattle.bgp_open.specs.Peer.{first_as4, is_unicast}
 use Rattle.bgp_open.specs.Config.{Settings, IsAllowed}
 use Rattle.bgp_open.specs.Own.{offered, own_of}
 use Rattle.bgp_open.proofs.Agreements.{peer_as-own}

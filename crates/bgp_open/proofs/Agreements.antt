@@ -1,43 +1,23 @@
 -- The first AS number among capabilities, and that both sides of a session agree.
-use Rattle.std.proofs.Common.{◌≡◌, ℕ, suc, ◌+◌, ◌<◌, ◌≤◌, Bool, true, false, not, ◌&&◌, cond, eqb, List, ◌∷◌, ◌++◌, length, get_or, drop, Option, Some, None, Ok, Err, refl, sym, ap, ◌∙◌, add-one, inl, inr}
+use Rattle.std.proofs.Common.{◌≡◌, ℕ, Bool, true, false, not, ◌&&◌, cond, eqb, ◌++◌, Option, Some, None, Ok, Err, refl, sym, ap, ◌∙◌, inl, inr}
 use Rattle.std.specs.Prelude.{is_some, unwrap_or, min}
 use Rattle.std.specs.List.{list_any}
 use Rattle.std.proofs.lemmas.Bool.{eqb-true, eq-eqb, ne_eqb, true≢false}
 use Rattle.std.proofs.lemmas.Bool.Decides.{eqb_tells}
 use Rattle.std.proofs.Math.Bool.{and_comm}
 use Rattle.std.proofs.Math.Nat.{min_comm}
-use Rattle.std.proofs.Math.Seq.{drop-cons}
-use Rattle.std.proofs.lemmas.List.{drop_all}
 use Rattle.bgp_numbers.specs.declared.TheConstants.{AS_TRANS}
 use Rattle.bgp_numbers.specs.declared.afi.TheConstants.{IPV4, IPV6}
 use Rattle.bgp_numbers.specs.declared.safi.TheConstants.{UNICAST}
-use Rattle.bgp_open.specs.declared.capability.Capability.{Capability}
-use Rattle.bgp_open.specs.declared.capability.Capability.TheVariants.{Multi, As4, Other}
+use Rattle.bgp_open.specs.declared.capability.Capability.TheVariants.{Multi, As4}
 use Rattle.bgp_open.specs.declared.agreement.PeerFault.TheVariants as peer
 use Rattle.bgp_open.specs.declared.context.Context.{Context}
 use Rattle.bgp_open.specs.Open.{is_wide}
 use Rattle.bgp_open.specs.Config.{Settings, IsAllowed}
 use Rattle.bgp_open.specs.Own.{field_for, offered, own_of}
-use Rattle.bgp_open.specs.Agreement.{first_as4, is_unicast, peer_as_of, same_id, context_of, agreement}
+use Rattle.bgp_open.specs.Agreement.{peer_as_of, same_id, context_of, agreement}
+use Rattle.bgp_open.specs.Peer.{first_as4, is_unicast}
 use Rattle.bgp_open.proofs.Configs.{allowed-wide}
-
--- ---- step by step
-
-pub first_as4-at : (cs : List Capability) (i : ℕ) (x : Capability) (n : ℕ) → i < length cs → x ≡ get_or cs i x → x ≡ As4 n → first_as4 cs ≡ first_as4 (drop i cs) → Some n ≡ first_as4 cs
-first_as4-at cs i x n lt is as4 left =
-    sym (left ∙ ap first_as4 (drop-cons cs i x lt) ∙ ap (λ (y : Capability). first_as4 (y ∷ drop (suc i) cs)) (sym is ∙ as4))
-
-skips : (x : Capability) (later : List Capability) → ((n : ℕ) → x ≡ As4 n → ⊥) → first_as4 (x ∷ later) ≡ first_as4 later
-skips (Multi family subsequent) later other = refl
-skips (As4 n) later other = absurd (other n refl)
-skips (Other code value) later other = refl
-
-pub first_as4-past : (cs : List Capability) (i : ℕ) (x : Capability) → i < length cs → x ≡ get_or cs i x → ((n : ℕ) → x ≡ As4 n → ⊥) → first_as4 cs ≡ first_as4 (drop i cs) → first_as4 cs ≡ first_as4 (drop (i + 1) cs)
-first_as4-past cs i x lt is other left =
-    rw add-one (left ∙ ap first_as4 (drop-cons cs i x lt) ∙ ap (λ (y : Capability). first_as4 (y ∷ drop (suc i) cs)) (sym is) ∙ skips x (drop (suc i) cs) other)
-
-pub first_as4-none : (cs : List Capability) (i : ℕ) → length cs ≤ i → first_as4 cs ≡ first_as4 (drop i cs) → None ≡ first_as4 cs
-first_as4-none cs i le left = sym (left ∙ ap first_as4 (drop_all i cs le))
 
 -- ---- both sides
 

@@ -5,4 +5,6 @@ pub mod Agreements
 pub mod WrittenRows
 pub mod Spellings
 pub mod Configs
+pub mod Peers
+pub mod CapabilityIters
 pub mod Owns

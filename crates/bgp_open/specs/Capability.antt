@@ -22,6 +22,12 @@ capability_of code value =
     if code == FOUR_OCTET_AS then as4_of value else
     Some (Other code value))
 
+-- the code of a capability
+abbrev pub code_of : Capability → ℕ
+code_of (Multi family subsequent) = MULTIPROTOCOL
+code_of (As4 number) = FOUR_OCTET_AS
+code_of (Other code value) = code
+
 -- b is the capability c, whole
 pub record IsCapability (c : Capability) (b : List ℕ) : Type 0 where
   pub code : ℕ

@@ -1,7 +1,9 @@
 //! Capabilities.
 
 ghost use Rattle.std.specs.Prelude.{◌≡◌, IfOk};
+ghost use Rattle.bgp_open.specs.CapabilityView.{capability_value};
 
+use crate::capability_view::CapabilityView;
 use bgp_wire::{List, TryCopy};
 use std::alloc::{AllocError, Global};
 
@@ -17,6 +19,17 @@ pub enum Capability {
 }
 
 impl Capability {
+    /// The capability, borrowed.
+    pub fn view(&self) -> CapabilityView<'_>
+        ensures { capability_value result ≡ self.now }
+    {
+        match self {
+            Capability::Multi(family, subsequent) => CapabilityView::Multi(*family, *subsequent),
+            Capability::As4(number) => CapabilityView::As4(*number),
+            Capability::Other(code, value) => CapabilityView::Other(*code, value),
+        }
+    }
+
     /// An equal capability, with memory of its own.
     ///
     /// # Errors

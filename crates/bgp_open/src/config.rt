@@ -18,6 +18,25 @@ pub enum BadConfig {
     AsWidth,
 }
 
+/// What a speaker is to be set to, by names: a [`Config`] is one of these that was accepted.
+#[derive(Clone, Copy, Debug, PartialEq, Eq)]
+pub struct Speaker {
+    /// Its own AS number.
+    pub local_as: u32,
+    /// The AS number that the peer has to have.
+    pub peer_as: u32,
+    /// Its BGP Identifier.
+    pub id: [u8; 4],
+    /// The Hold Time that it proposes, in seconds: 0 for none.
+    pub hold: u16,
+    /// Whether it offers AS numbers of four octets (RFC 6793).
+    pub as4: bool,
+    /// Whether it offers IPv4 unicast (RFC 4760, section 8).
+    pub ip4: bool,
+    /// Whether it offers IPv6 unicast (RFC 4760, section 8).
+    pub ip6: bool,
+}
+
 /// What one speaker of a session is set to.
 #[derive(Clone, Copy, Debug, PartialEq, Eq)]
 pub struct Config {
@@ -86,6 +105,24 @@ impl Config {
             ip4,
             ip6,
         })
+    }
+
+    /// As [`new`](Config::new), from values with names.
+    ///
+    /// # Errors
+    /// The first [`BadConfig`] that applies.
+    pub fn of(speaker: Speaker) -> Result<Config, BadConfig>
+        ensures { result ≡ config_of (record { local_as = speaker.local_as; peer_as = speaker.peer_as; id = speaker.id; hold = speaker.hold; as4 = speaker.as4; ip4 = speaker.ip4; ip6 = speaker.ip6 }) }
+    {
+        Config::new(
+            speaker.local_as,
+            speaker.peer_as,
+            speaker.id,
+            speaker.hold,
+            speaker.as4,
+            speaker.ip4,
+            speaker.ip6,
+        )
     }
 
     /// The speaker's own AS number.

@@ -1,8 +1,10 @@
 //! The OPEN.
 
 ghost use Rattle.std.specs.Prelude.{◌≡◌, IfOk};
+ghost use Rattle.bgp_open.specs.Peer.{said_by, said_of};
 
 use crate::capability::Capability;
+use crate::peer::Peer;
 use bgp_wire::List;
 use std::alloc::{AllocError, Global};
 
@@ -20,6 +22,17 @@ pub struct Open {
 }
 
 impl Open {
+    /// What it tells of the speaker that sends it.
+    pub fn peer(&self) -> Peer
+        ensures { said_of result ≡ said_by self.now }
+    {
+        let mut peer = Peer::new(self.as_field, self.hold, self.id);
+        for capability in self.caps.iter() {
+            peer.offer(capability.view());
+        }
+        peer
+    }
+
     /// An equal OPEN, with memory of its own.
     ///
     /// # Errors

@@ -1,17 +1,11 @@
 //! An OPEN that still lies in the octets that were read.
 
-ghost use Rattle.std.specs.Prelude.{◌≡◌, ◌≤◌, ◌++◌, None, length, IfOk, OnOk};
-ghost use Rattle.bgp_wire.specs.Reader.{pieces};
-ghost use Rattle.bgp_open.specs.Capability.{one_capability};
-ghost use Rattle.bgp_open.specs.Parameter.{one_parameter};
-ghost use Rattle.bgp_open.specs.Open.{joined};
+ghost use Rattle.std.specs.Prelude.{◌≡◌, ◌≤◌, None, length, IfOk};
 ghost use Rattle.bgp_open.specs.OpenFault.{open_fault, open_of};
 
-use crate::capability::Capability;
+use crate::capability_iter::CapabilityIter;
 use crate::message::Open;
-use crate::parameter::first_parameter;
-use crate::view::first_capability;
-use bgp_wire::List;
+use crate::peer::Peer;
 use std::alloc::{AllocError, Global};
 
 /// The body of an OPEN without a fault, borrowed (RFC 4271, section 4.2).
@@ -22,37 +16,10 @@ pub struct OpenView<'a> {
     ghost sound: { open_fault body.now ≡ None },
 }
 
-/// Adds the capabilities from the front on.
-pub(crate) fn extend(
-    alloc: Global,
-    caps: &mut List<Capability>,
-    octets: &[u8],
-) -> Result<(), AllocError>
-    ensures { OnOk result (caps.new ≡ caps.old ++ (pieces one_capability octets.now).0) }
-{
-    let mut rest = octets;
-    'row: while let Some((view, after)) = first_capability(rest) {
-        caps.push(view.own(alloc)?)?;
-        rest = after;
-    }
-    Ok(())
-}
-
-/// The capabilities of all parameters.
-fn capabilities(alloc: Global, octets: &[u8]) -> Result<List<Capability>, AllocError>
-    ensures { IfOk result (λ caps. caps ≡ joined (pieces one_parameter octets.now).0) }
-{
-    let mut caps = List::new(alloc);
-    let mut rest = octets;
-    'row: while let Some((value, after)) = first_parameter(rest) {
-        extend(alloc, &mut caps, value)?;
-        rest = after;
-    }
-    Ok(caps)
-}
-
 impl<'a> OpenView<'a> {
+    ghost use Rattle.bgp_open.specs.CapabilityIter.{capabilities_left};
     ghost use Rattle.bgp_open.specs.OpenView.{open_value};
+    ghost use Rattle.bgp_open.specs.Peer.{said_by, said_of};
 
     /// The view of a body without a fault.
     pub(crate) fn new(body: &'a [u8]) -> OpenView<'a>
@@ -63,6 +30,45 @@ impl<'a> OpenView<'a> {
         OpenView { body }
     }
 
+    /// My Autonomous System: the sender's AS number, or 23456 where that has more than two octets (RFC 6793, section 4.1).
+    pub fn as_field(&self) -> u16
+        ensures { result ≡ (open_value self.now).as_field }
+    {
+        u16::from_be_bytes([self.body[1], self.body[2]])
+    }
+
+    /// The Hold Time that is proposed, in seconds: 0 for none, and never 1 or 2.
+    pub fn hold(&self) -> u16
+        ensures { result ≡ (open_value self.now).hold }
+    {
+        u16::from_be_bytes([self.body[3], self.body[4]])
+    }
+
+    /// The BGP Identifier: never zero (RFC 6286, section 2.1).
+    pub fn id(&self) -> [u8; 4]
+        ensures { result ≡ (open_value self.now).id }
+    {
+        [self.body[5], self.body[6], self.body[7], self.body[8]]
+    }
+
+    /// The capabilities in their order, however they are grouped into parameters (RFC 5492, section 4).
+    pub fn capabilities(&self) -> CapabilityIter<'a>
+        ensures { capabilities_left result ≡ (open_value self.now).caps }
+    {
+        CapabilityIter::new(&self.body[10..])
+    }
+
+    /// What the OPEN tells of the speaker that sent it.
+    pub fn peer(&self) -> Peer
+        ensures { said_of result ≡ said_by (open_value self.now) }
+    {
+        let mut peer = Peer::new(self.as_field(), self.hold(), self.id());
+        for capability in self.capabilities() {
+            peer.offer(capability);
+        }
+        peer
+    }
+
     /// The OPEN, with memory of its own.
     ///
     /// # Errors
@@ -70,12 +76,11 @@ impl<'a> OpenView<'a> {
     pub fn own(self, alloc: Global) -> Result<Open, AllocError>
         ensures { IfOk result (λ o. o ≡ open_value self.entry) }
     {
-        let body = self.body;
-        let caps = capabilities(alloc, &body[10..])?;
+        let caps = self.capabilities().own(alloc)?;
         Ok(Open {
-            as_field: u16::from_be_bytes([body[1], body[2]]),
-            hold: u16::from_be_bytes([body[3], body[4]]),
-            id: [body[5], body[6], body[7], body[8]],
+            as_field: self.as_field(),
+            hold: self.hold(),
+            id: self.id(),
             caps,
         })
     }

@@ -9,15 +9,14 @@ ghost use Rattle.bgp_open.specs.Written.{row_octets, canonical};
 
 use crate::body::body_of;
 use crate::capability::Capability;
+use crate::capability_iter::CapabilityIter;
 use crate::config::Config;
 use crate::field::is_wide;
 use crate::message::Open;
-use crate::open_view::extend;
 use crate::row::put;
 use arrayvec::ArrayVec;
 use bgp_frame::{Kind, head};
 use bgp_numbers::{AS_TRANS, afi, safi};
-use bgp_wire::List;
 use std::alloc::{AllocError, Global};
 
 /// The My Autonomous System field for an AS number.
@@ -40,8 +39,7 @@ pub fn own_open(alloc: Global, config: &Config) -> Result<Open, AllocError>
     ensures { IfOk result (λ o. o ≡ own_of config.now) }
 {
     // What is offered is said once, by the row that is sent; here it is read.
-    let mut caps = List::new(alloc);
-    extend(alloc, &mut caps, &offered_row(config))?;
+    let caps = CapabilityIter::of_row(&offered_row(config)).own(alloc)?;
     Ok(Open {
         as_field: as_field(config.local_as()),
         hold: config.hold(),

@@ -6,8 +6,8 @@ ghost use Rattle.bgp_open.specs.Capability.{one_capability};
 ghost use Rattle.bgp_open.specs.Parameter.{one_parameter};
 ghost use Rattle.bgp_open.specs.OpenFault.{rest_fault};
 
+use crate::capability_view::first_capability;
 use crate::fault::OpenFault;
-use crate::view::first_capability;
 use bgp_numbers::parameter;
 
 /// Whether the octets are capabilities, each whole, and nothing else.

@@ -11,7 +11,8 @@ use Rattle.bgp_open.specs.declared.capability.Capability.TheVariants.{Multi, As4
 use Rattle.bgp_open.specs.declared.context.Context.{Context}
 use Rattle.bgp_open.specs.Config.{Settings}
 use Rattle.bgp_open.specs.Own.{offered, own_of}
-use Rattle.bgp_open.specs.Agreement.{first_as4, peer_as_of, same_id, context_of, agreement, peer_notification}
+use Rattle.bgp_open.specs.Agreement.{peer_as_of, same_id, context_of, agreement, peer_notification}
+use Rattle.bgp_open.specs.Peer.{first_as4}
 use Rattle.bgp_open.proofs.Agreements.{peer_as-own}
 use Rattle.bgp_session.specs.declared.moves.Move.{Move}
 use Rattle.bgp_session.specs.declared.side.Side.{Side}

@@ -25,7 +25,8 @@ use Rattle.bgp_attr.specs.Judgement.{origin_tests, as_path_tests, next_hop_tests
 use Rattle.bgp_attr.specs.Written.{canonical, type_of}
 use Rattle.bgp_attr.proofs.TestRows.{OfOrigin, OfAsPath, OfNextHop, OfMed, OfLocalPref, OfAtomic, OfAggregator, OfCommunities, OfMpReach, OfMpUnreach, OfAs4Path, OfAs4Aggregator, OfLarge, OfOther, type_case, keep-value, tests-origin, tests-as_path, tests-next_hop, value-origin, value-as_path, value-next_hop, value-med, value-local_pref, value-atomic, value-aggregator, value-communities, value-mp_reach, value-mp_unreach, value-as4_path, value-as4_aggregator, value-large, value-other}
 use Rattle.bgp_attr.proofs.Rewriting.{kept-rewritten}
-use Rattle.bgp_update.specs.Marks.{Mark, malformed, carries_routes, repeated, also, marks_behind, cut_mark}
+use Rattle.bgp_wire.specs.OctetSet.{also}
+use Rattle.bgp_update.specs.Marks.{Mark, malformed, carries_routes, repeated, marks_behind, cut_mark}
 use Rattle.bgp_update.specs.Taken.{kept_by, kept_of}
 use Rattle.bgp_update.specs.Verdict.{reset_by, first_reset, withdraws}
 use Rattle.bgp_update.proofs.Lists.{eqb-swap}

@@ -17,7 +17,7 @@ use Rattle.bgp_attr.specs.declared.path.AsPath.{AsPath}
 use Rattle.bgp_numbers.specs.declared.attribute.TheConstants.{ORIGIN, AS_PATH, NEXT_HOP, MULTI_EXIT_DISC, LOCAL_PREF, ATOMIC_AGGREGATE, AGGREGATOR, COMMUNITIES, MP_REACH_NLRI, MP_UNREACH_NLRI, AS4_PATH, AS4_AGGREGATOR, LARGE_COMMUNITY}
 use Rattle.bgp_attr.specs.Spelling.{is_recognised}
 use Rattle.bgp_attr.specs.Written.{type_of, is_misnamed}
-use Rattle.bgp_update.specs.Marks.{also, none_seen}
+use Rattle.bgp_wire.specs.OctetSet.{also, none_of_them}
 use Rattle.bgp_update.specs.Taken.{first_in, as_opaque, rising_behind, attrs_of, as_origin, as_as_path, as_next_hop, as_med, as_local_pref, as_aggregator, as_communities, as_mp_reach, as_mp_unreach, as_as4_path, as_as4_aggregator, as_large}
 use Rattle.bgp_update.specs.Slots.{present, slot, canonical_order, attr_list}
 use Rattle.bgp_update.specs.Written.{has_bad_others, rise}
@@ -66,7 +66,7 @@ atomic-first : (o : Option Bool) → atomic_slot (is_some o) ≡ present atomic_
 atomic-first None = refl
 atomic-first (Some b) = refl
 
-module _ (xs : List Attr) (named : Named xs) (fresh : NoneTwice none_seen (map type_of xs)) where
+module _ (xs : List Attr) (named : Named xs) (fresh : NoneTwice none_of_them (map type_of xs)) where
   pub slot-kept : (k : ℕ) → slot (attrs_of xs) k ≡ first_of_type k xs
   slot-kept =
       by_type (λ k. slot (attrs_of xs) k ≡ first_of_type k xs)
@@ -84,7 +84,7 @@ module _ (xs : List Attr) (named : Named xs) (fresh : NoneTwice none_seen (map t
       (slot-as4_aggregator (attrs_of xs) ∙ slot-first as_as4_aggregator (λ (g : Aggregator). attr.As4Aggregator g) AS4_AGGREGATOR taken-as4_aggregator xs named)
       (slot-large (attrs_of xs) ∙ slot-first as_large (λ (l : LargeCommunities). attr.Large l) LARGE_COMMUNITY taken-large xs named)
       (λ k other. slot-other (attrs_of xs) k other
-      ∙ ap (λ (o : Option Opaque). present (λ (p : Opaque). attr.Opaque p) o) (rising-find k (flat_map as_opaque xs) [] none_seen (λ j. refl) (opaques-fresh xs none_seen fresh))
+      ∙ ap (λ (o : Option Opaque). present (λ (p : Opaque). attr.Opaque p) o) (rising-find k (flat_map as_opaque xs) [] none_of_them (λ j. refl) (opaques-fresh xs none_of_them fresh))
       ∙ opaque-first k other xs)
 
   -- the attributes by type, in their order
@@ -110,7 +110,7 @@ module _ (xs : List Attr) (named : Named xs) (fresh : NoneTwice none_seen (map t
   pub kept-others : has_bad_others (rising_behind [] (flat_map as_opaque xs)) ≡ false
   kept-others =
       let os : List Opaque = flat_map as_opaque xs in
-      let rises : rise (rising_behind [] os) ≡ true = rises-rise 0 (rising_behind [] os) (rising-rises os [] none_seen (λ j. refl) (opaques-fresh xs none_seen fresh) tt) in
+      let rises : rise (rising_behind [] os) ≡ true = rises-rise 0 (rising_behind [] os) (rising-rises os [] none_of_them (λ j. refl) (opaques-fresh xs none_of_them fresh) tt) in
       let unrecognised = rising-all (λ o. is_recognised o.kind ≡ false) os [] tt (opaques-all (λ x. is_misnamed x ≡ false) (λ o. is_recognised o.kind ≡ false) (λ o e. e) xs named) in
       or_from (not (rise (rising_behind [] os))) (list_any (λ o. is_recognised o.kind) (rising_behind [] os)) (not_from_true (rise (rising_behind [] os)) rises)
       (all-none (λ o. is_recognised o.kind) (rising_behind [] os) unrecognised)

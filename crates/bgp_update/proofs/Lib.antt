@@ -1,4 +1,3 @@
-pub mod SeenWords
 pub mod SmallLemmas
 pub mod Options
 pub mod KeptViews

@@ -15,7 +15,8 @@ use Rattle.bgp_attr.specs.Judgement.{judgement}
 use Rattle.bgp_attr.specs.Written.{written_tlv, canonical, type_of, is_writable, Belongs, HasRanges}
 use Rattle.bgp_attr.proofs.Readers.{IsTlv-reads}
 use Rattle.bgp_attr.proofs.ReadBack.{written-spells, written-kept}
-use Rattle.bgp_update.specs.Marks.{Mark, repeated, also, none_seen, marks_behind, cut_mark, field_marks}
+use Rattle.bgp_wire.specs.OctetSet.{also, none_of_them}
+use Rattle.bgp_update.specs.Marks.{Mark, repeated, marks_behind, cut_mark, field_marks}
 use Rattle.bgp_update.specs.Taken.{kept_by, kept_of}
 use Rattle.bgp_update.specs.Notes.{mark_notes}
 use Rattle.bgp_update.specs.Verdict.{first_reset, reset_by, withdraws}
@@ -84,14 +85,14 @@ module _ (ctx : Context) (has_nlri : Bool) where
   )
 
   -- the marks of a field of written attributes keep them all
-  pub field-keep : (xs : List Attr) → AreReady xs → NoneTwice none_seen (map type_of xs) → KeepsAll (field_marks ctx has_nlri (flat_map (canonical ctx) xs)) xs
+  pub field-keep : (xs : List Attr) → AreReady xs → NoneTwice none_of_them (map type_of xs) → KeepsAll (field_marks ctx has_nlri (flat_map (canonical ctx) xs)) xs
   unfolding field_marks
   field-keep xs ready fresh =
       let field : List ℕ = flat_map (canonical ctx) xs in
-      let marks : List Mark = marks_behind ctx has_nlri none_seen (placed_from 0 (map (written_tlv ctx) xs)) in
-      let from : List TlvValue × List ℕ → List Mark = λ q. marks_behind ctx has_nlri none_seen (placed_from 0 q.0) ++ cut_mark (length field - length q.1) q.1 in
+      let marks : List Mark = marks_behind ctx has_nlri none_of_them (placed_from 0 (map (written_tlv ctx) xs)) in
+      let from : List TlvValue × List ℕ → List Mark = λ q. marks_behind ctx has_nlri none_of_them (placed_from 0 q.0) ++ cut_mark (length field - length q.1) q.1 in
       let is : from (tlvs_of field) ≡ marks = ap from (written-tlvs xs ready) ∙ append-nil marks in
-      subst (λ (ms : List Mark). KeepsAll ms xs) (sym is) (written-keep xs 0 none_seen ready fresh)
+      subst (λ (ms : List Mark). KeepsAll ms xs) (sym is) (written-keep xs 0 none_of_them ready fresh)
 
 -- ---- no type twice
 

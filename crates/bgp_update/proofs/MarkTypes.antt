@@ -2,7 +2,7 @@
 use Rattle.std.proofs.Common.{◌≡◌, ℕ, Bool, true, false, ◌||◌, eqb, List, ◌∷◌, refl, sym, ap, ◌∙◌}
 use Rattle.std.specs.List.{list_any}
 use Rattle.bgp_attr.specs.Tlv.{PlacedTlv}
-use Rattle.bgp_update.specs.Marks.{also}
+use Rattle.bgp_wire.specs.OctetSet.{also}
 use Rattle.bgp_update.proofs.Lists.{eqb-swap}
 
 or_past : (a b c : Bool) → ((a || b) || c) ≡ (b || (a || c))

@@ -33,7 +33,8 @@ use Rattle.bgp_update.specs.declared.note.Note.{Note}
 use Rattle.bgp_update.specs.declared.update.Update.{Update}
 use Rattle.bgp_update.specs.declared.verdict.Verdict.TheVariants as verdict
 use Rattle.bgp_update.specs.Parts.{Parts, parts_of, attributes_at, has_nlri}
-use Rattle.bgp_update.specs.Marks.{Mark, none_seen, marks_of}
+use Rattle.bgp_wire.specs.OctetSet.{none_of_them}
+use Rattle.bgp_update.specs.Marks.{Mark, marks_of}
 use Rattle.bgp_update.specs.Taken.{kept_of, attrs_of, update_of, as_origin, as_as_path, as_next_hop}
 use Rattle.bgp_update.specs.Notes.{has_routes, is_reachable, has_type, missing_of, is_missing, missing_note, missing_notes, notes_of}
 use Rattle.bgp_update.specs.Slots.{present, slot, canonical_order, attr_list}
@@ -105,8 +106,8 @@ slot-few a =
     (present-few (λ (p : As4Path). attr.As4Path p) a.as4_path) (present-few (λ (g : Aggregator). attr.As4Aggregator g) a.as4_aggregator) (present-few (λ (l : LargeCommunities). attr.Large l) a.large)
     (λ k other. subst (λ (xs : List Attr). length xs ≤ 1) (sym (slot-other a k other)) (present-few (λ (o : Opaque). attr.Opaque o) (of_kind k a.others)))
 
-pub list-fresh : (a : Attrs) → NoneTwice none_seen (map type_of (attr_list a))
-list-fresh a = slots-fresh (slot a) (slot-types a) (slot-few a) canonical_order none_seen order-fresh
+pub list-fresh : (a : Attrs) → NoneTwice none_of_them (map type_of (attr_list a))
+list-fresh a = slots-fresh (slot a) (slot-types a) (slot-few a) canonical_order none_of_them order-fresh
 
 -- ---- runs
 

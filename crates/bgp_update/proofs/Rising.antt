@@ -5,7 +5,7 @@ use Rattle.std.specs.Option.{option_or}
 use Rattle.std.proofs.lemmas.Bool.{both_ways, ltb-true, ltb-false, eqb-true, eqb-false, lt-ltb, ne_eqb, and_parts, and_from, or_parts}
 use Rattle.std.proofs.lemmas.List.{append-nil}
 use Rattle.bgp_attr.specs.declared.opaque.Opaque.{Opaque}
-use Rattle.bgp_update.specs.Marks.{also}
+use Rattle.bgp_wire.specs.OctetSet.{also}
 use Rattle.bgp_update.specs.Taken.{put_rising, rising_behind}
 use Rattle.bgp_update.specs.Slots.{types_from}
 use Rattle.bgp_update.specs.Written.{rise_behind, rise}

@@ -34,7 +34,8 @@ use Rattle.bgp_update.specs.declared.update.Update.{Update}
 use Rattle.bgp_update.specs.declared.verdict.Verdict.{Verdict}
 use Rattle.bgp_update.specs.declared.verdict.Verdict.TheVariants as verdict
 use Rattle.bgp_update.specs.Parts.{Parts, IsBody, parts_of, has_nlri}
-use Rattle.bgp_update.specs.Marks.{Mark, malformed, none_seen, marks_behind, cut_mark, placed_tlvs, field_marks, marks_of}
+use Rattle.bgp_wire.specs.OctetSet.{none_of_them}
+use Rattle.bgp_update.specs.Marks.{Mark, malformed, marks_behind, cut_mark, placed_tlvs, field_marks, marks_of}
 use Rattle.bgp_update.specs.Taken.{kept_of, first_in, as_origin, as_as_path, as_next_hop, as_local_pref, as_mp_reach, as_opaque, attrs_of, update_of}
 use Rattle.bgp_update.specs.Notes.{has_routes, is_reachable, has_type, missing_of, is_missing, notes_of, routes_of}
 use Rattle.bgp_update.specs.Slots.{canonical_order, attr_list}
@@ -125,7 +126,7 @@ module _ (ctx : Context) (p : Parts) (octets_w : AreOctets p.withdrawn) (octets_
   nlri = has_nlri p
 
   abbrev whole : List Mark
-  whole = marks_behind ctx (has_nlri p) none_seen (placed_tlvs p.attributes)
+  whole = marks_behind ctx (has_nlri p) none_of_them (placed_tlvs p.attributes)
 
   abbrev end : List Mark
   end = cut_mark (length p.attributes - length (tlvs_of p.attributes).1) (tlvs_of p.attributes).1
@@ -161,8 +162,8 @@ module _ (ctx : Context) (p : Parts) (octets_w : AreOctets p.withdrawn) (octets_
   splits : Splits IsTlv p.attributes (tlvs_of p.attributes).0 (tlvs_of p.attributes).1
   splits = Splits-pieces TlvValue IsTlv one_tlv IsTlv-reads p.attributes
 
-  is-kept : IsKept ctx nlri none_seen kept (length splits.row)
-  is-kept = row-kept ctx nlri (tlvs_of p.attributes).0 splits.row 0 none_seen splits.spelled (AreOctets-front splits.row (tlvs_of p.attributes).1 (subst AreOctets splits.whole octets_a))
+  is-kept : IsKept ctx nlri none_of_them kept (length splits.row)
+  is-kept = row-kept ctx nlri (tlvs_of p.attributes).0 splits.row 0 none_of_them splits.spelled (AreOctets-front splits.row (tlvs_of p.attributes).1 (subst AreOctets splits.whole octets_a))
 
   each : (P : Attr → Type 0) → ((x : Attr) → Writes ctx x → Belongs ctx nlri x → HasRanges x → P x) → AllByRecursion P kept
   each P so = all-more (IsReady ctx nlri) P kept (λ x r. so x (writable-Writes ctx x r.writable) r.in_place r.ranges) is-kept.ready
@@ -170,7 +171,7 @@ module _ (ctx : Context) (p : Parts) (octets_w : AreOctets p.withdrawn) (octets_
   named : Named kept
   named = each (λ x. is_misnamed x ≡ false) (λ x w b r. w.named)
 
-  fresh : NoneTwice none_seen (map type_of kept)
+  fresh : NoneTwice none_of_them (map type_of kept)
   fresh = is-kept.fresh
 
   abbrev taken : Update
@@ -184,16 +185,16 @@ module _ (ctx : Context) (p : Parts) (octets_w : AreOctets p.withdrawn) (octets_
 
   has-origin : has_type ORIGIN p ≡ true → is_none (first_in as_origin kept) ≡ false
   has-origin has =
-      some-type as_origin (λ (o : Origin). attr.Origin o) ORIGIN taken-origin kept named (has-kept ctx nlri ORIGIN (origin-not_dropped ctx nlri) (tlvs_of p.attributes).0 0 none_seen refl all-go_on has)
+      some-type as_origin (λ (o : Origin). attr.Origin o) ORIGIN taken-origin kept named (has-kept ctx nlri ORIGIN (origin-not_dropped ctx nlri) (tlvs_of p.attributes).0 0 none_of_them refl all-go_on has)
 
   has-as_path : has_type AS_PATH p ≡ true → is_none (first_in as_as_path kept) ≡ false
   has-as_path has =
-      some-type as_as_path (λ (q : AsPath). attr.AsPath q) AS_PATH taken-as_path kept named (has-kept ctx nlri AS_PATH (as_path-not_dropped ctx nlri) (tlvs_of p.attributes).0 0 none_seen refl all-go_on has)
+      some-type as_as_path (λ (q : AsPath). attr.AsPath q) AS_PATH taken-as_path kept named (has-kept ctx nlri AS_PATH (as_path-not_dropped ctx nlri) (tlvs_of p.attributes).0 0 none_of_them refl all-go_on has)
 
   has-next_hop : has_nlri p ≡ true → has_type NEXT_HOP p ≡ true → is_none (first_in as_next_hop kept) ≡ false
   has-next_hop given has =
       some-type as_next_hop (λ (addr : List ℕ). attr.NextHop addr) NEXT_HOP taken-next_hop kept named
-      (has-kept ctx nlri NEXT_HOP (next_hop-not_dropped ctx nlri given) (tlvs_of p.attributes).0 0 none_seen refl all-go_on has)
+      (has-kept ctx nlri NEXT_HOP (next_hop-not_dropped ctx nlri given) (tlvs_of p.attributes).0 0 none_of_them refl all-go_on has)
 
   complete : lacks_some taken ≡ false
   complete =
@@ -235,7 +236,7 @@ module _ (ctx : Context) (p : Parts) (octets_w : AreOctets p.withdrawn) (octets_
   attributes-shorter =
       let firsts : List Attr = flat_map (λ k. first_of_type k kept) canonical_order in
       let is : length (attributes_octets ctx (attrs_of kept)) ≡ length (flat_map (canonical ctx) firsts) = ap (λ (xs : List Attr). length (flat_map (canonical ctx) xs)) (kept-list kept named fresh) in
-      let fewer : length (flat_map (canonical ctx) firsts) ≤ length (flat_map (canonical ctx) kept) = firsts-shorter (canonical ctx) kept canonical_order none_seen order-fresh in
+      let fewer : length (flat_map (canonical ctx) firsts) ≤ length (flat_map (canonical ctx) kept) = firsts-shorter (canonical ctx) kept canonical_order none_of_them order-fresh in
       let row : length (flat_map (canonical ctx) kept) ≤ length splits.row = is-kept.shorter in
       omega (arith, ap length splits.whole, length-append splits.row (tlvs_of p.attributes).1)
 

@@ -6,7 +6,7 @@ use Rattle.std.proofs.lemmas.List.{length-append}
 use Rattle.std.proofs.lemmas.List.Concat.{flat_map-append}
 use Rattle.bgp_attr.specs.declared.attr.Attr.{Attr}
 use Rattle.bgp_attr.specs.Written.{type_of}
-use Rattle.bgp_update.specs.Marks.{also}
+use Rattle.bgp_wire.specs.OctetSet.{also}
 use Rattle.bgp_update.proofs.Lists.{eqb-swap, flat_map-none}
 use Rattle.bgp_update.proofs.Rising.{NoneTwice}
 use Rattle.bgp_update.proofs.TypeLemmas.{fresh-none, first_of_type}

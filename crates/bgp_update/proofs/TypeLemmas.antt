@@ -17,7 +17,8 @@ use Rattle.bgp_attr.specs.declared.path.As4Path.{As4Path}
 use Rattle.bgp_attr.specs.declared.path.AsPath.{AsPath}
 use Rattle.bgp_attr.specs.Spelling.{is_recognised}
 use Rattle.bgp_attr.specs.Written.{type_of, is_misnamed}
-use Rattle.bgp_update.specs.Marks.{carries_routes, also, none_seen}
+use Rattle.bgp_wire.specs.OctetSet.{also, none_of_them}
+use Rattle.bgp_update.specs.Marks.{carries_routes}
 use Rattle.bgp_update.specs.Taken.{first_in, as_origin, as_as_path, as_next_hop, as_med, as_local_pref, as_aggregator, as_communities, as_mp_reach, as_mp_unreach, as_as4_path, as_as4_aggregator, as_large}
 use Rattle.bgp_update.specs.Slots.{present, types_from, canonical_order}
 use Rattle.bgp_update.proofs.Rising.{NoneTwice}
@@ -36,15 +37,15 @@ pub filtered-fresh : (test : ℕ → Bool) (n low : ℕ) (seen : ℕ → Bool) �
 filtered-fresh test zero low seen new = tt
 filtered-fresh test (suc n) low seen new = fresh-by test low n seen (test low) refl new (filtered-fresh test n (low + 1))
 
-carrying : (k : ℕ) → not (carries_routes k) ≡ true → (also MP_UNREACH_NLRI (also MP_REACH_NLRI none_seen)) k ≡ false
+carrying : (k : ℕ) → not (carries_routes k) ≡ true → (also MP_UNREACH_NLRI (also MP_REACH_NLRI none_of_them)) k ≡ false
 carrying k e =
     let p = or_parts (eqb k MP_REACH_NLRI) (eqb k MP_UNREACH_NLRI) (not-true (carries_routes k) e) in
     or_from (eqb k MP_UNREACH_NLRI) (eqb k MP_REACH_NLRI || false) p.1 (or_from (eqb k MP_REACH_NLRI) false p.0 refl)
 
-order-by : (n : ℕ) → NoneTwice none_seen (MP_REACH_NLRI ∷ MP_UNREACH_NLRI ∷ filter (λ kind. not (carries_routes kind)) (types_from 0 n))
-order-by n = (refl, (refl, filtered-fresh (λ kind. not (carries_routes kind)) n 0 (also MP_UNREACH_NLRI (also MP_REACH_NLRI none_seen)) (λ k le e. carrying k e)))
+order-by : (n : ℕ) → NoneTwice none_of_them (MP_REACH_NLRI ∷ MP_UNREACH_NLRI ∷ filter (λ kind. not (carries_routes kind)) (types_from 0 n))
+order-by n = (refl, (refl, filtered-fresh (λ kind. not (carries_routes kind)) n 0 (also MP_UNREACH_NLRI (also MP_REACH_NLRI none_of_them)) (λ k le e. carrying k e)))
 
-pub order-fresh : NoneTwice none_seen canonical_order
+pub order-fresh : NoneTwice none_of_them canonical_order
 unfolding canonical_order
 order-fresh = order-by 256
 

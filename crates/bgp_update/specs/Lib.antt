@@ -9,7 +9,6 @@ pub mod Written
 pub mod As4
 pub mod Widths
 pub mod Body
-pub mod Seen
 pub mod Small
 pub mod MarkIter
 pub mod KeptView

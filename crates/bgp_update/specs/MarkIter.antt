@@ -6,7 +6,7 @@ use Rattle.bgp_attr.specs.TlvIter.{tlvs_left, rest_left}
 use Rattle.bgp_update.specs.declared.mark.MarkView.{MarkView}
 use Rattle.bgp_update.specs.declared.mark.MarkIter.{MarkIter}
 use Rattle.bgp_update.specs.Marks.{Mark, marks_behind, cut_mark}
-use Rattle.bgp_update.specs.Seen.{seen_types}
+use Rattle.bgp_wire.specs.OctetSet.{has_octet}
 
 abbrev pub mark_value : MarkView → Mark
 mark_value m = record { at = m.at; kind = m.kind; judged = found_attr_value m.judged }
@@ -14,9 +14,9 @@ mark_value m = record { at = m.at; kind = m.kind; judged = found_attr_value m.ju
 -- the marks still to come
 abbrev pub marks_left : MarkIter → List Mark
 marks_left it =
-    marks_behind it.ctx it.has_nlri (seen_types it.seen) (tlvs_left it.tlvs)
+    marks_behind it.ctx it.has_nlri (has_octet it.seen) (tlvs_left it.tlvs)
     ++ (if it.is_done then [] else cut_mark (it.len - length (rest_left it.tlvs)) (rest_left it.tlvs))
 
 -- a step: the types that were seen, and those of the whole attributes still to come, are these
 abbrev pub HasTypes : MarkIter → (ℕ → Bool) → Type 0
-HasTypes it types = (kind : ℕ) → (seen_types it.seen kind || list_any (λ q. q.tlv.kind == kind) (tlvs_left it.tlvs)) ≡ types kind
+HasTypes it types = (kind : ℕ) → (has_octet it.seen kind || list_any (λ q. q.tlv.kind == kind) (tlvs_left it.tlvs)) ≡ types kind

@@ -1,5 +1,6 @@
 -- What each attribute of a field comes to, by place (RFC 4271, section 6.3; RFC 7606, sections 3 to 5).
-use Rattle.std.specs.Prelude.{ℕ, ◌-◌, Bool, false, ◌&&◌, ◌||◌, ◌==◌, nat_lt, List, [], ◌∷◌, ◌++◌, length, if◌then◌else◌}
+use Rattle.std.specs.Prelude.{ℕ, ◌-◌, Bool, ◌&&◌, ◌||◌, ◌==◌, nat_lt, List, [], ◌∷◌, ◌++◌, length, if◌then◌else◌}
+use Rattle.bgp_wire.specs.OctetSet.{also, none_of_them}
 use Rattle.bgp_numbers.specs.declared.attribute.TheConstants.{MP_REACH_NLRI, MP_UNREACH_NLRI}
 use Rattle.bgp_numbers.specs.declared.error.TheConstants.{UPDATE_MESSAGE, MALFORMED_ATTRIBUTE_LIST}
 use Rattle.bgp_frame.specs.declared.notification.Notification.{Notification}
@@ -28,13 +29,6 @@ carries_routes kind = (kind == MP_REACH_NLRI) || (kind == MP_UNREACH_NLRI)
 -- a second attribute of a type: the first stands (RFC 7606, section 3, item g)
 abbrev pub repeated : ℕ → Judged
 repeated kind = if carries_routes kind then judged.Reset malformed else judged.Discard why.Repeated
-
--- the types that were seen, and one more
-abbrev pub also : ℕ → (ℕ → Bool) → ℕ → Bool
-also kind seen = λ k. (k == kind) || seen k
-
-abbrev pub none_seen : ℕ → Bool
-none_seen kind = false
 
 -- the marks of attributes behind others of which these types were seen
 abbrev pub marks_behind : Context → Bool → (ℕ → Bool) → List PlacedTlv → List Mark
@@ -65,7 +59,7 @@ placed_tlvs field = placed_from 0 (tlvs_of field).0
 -- the marks of a field: of the attributes by place, then of one that is cut off
 unfoldable pub field_marks : Context → Bool → List ℕ → List Mark
 field_marks ctx nlri field =
-    marks_behind ctx nlri none_seen (placed_tlvs field) ++ cut_mark (length field - length (tlvs_of field).1) (tlvs_of field).1
+    marks_behind ctx nlri none_of_them (placed_tlvs field) ++ cut_mark (length field - length (tlvs_of field).1) (tlvs_of field).1
 
 -- the marks of the attributes of a message
 abbrev pub marks_of : Context → Parts → List Mark

@@ -27,7 +27,6 @@ mod read;
 mod reconciliation;
 mod refusal;
 mod routes;
-mod seen;
 mod slot;
 mod summary;
 mod two_octets;

@@ -6,7 +6,7 @@ ghost use Rattle.bgp_attr.specs.TlvIter.{tlvs_left};
 ghost use Rattle.bgp_update.specs.Small.{is_small};
 
 use crate::malformed::{cut, cut_kind, repeated};
-use crate::seen::Seen;
+use bgp_wire::OctetSet;
 use bgp_attr::{FoundAttr, Tail, TlvIter, judge_attribute};
 use bgp_open::Context;
 use std::iter::FusedIterator;
@@ -25,7 +25,7 @@ pub(crate) struct MarkView<'a> {
 pub(crate) struct MarkIter<'a> {
     ctx: Context,
     has_nlri: bool,
-    seen: Seen,
+    seen: OctetSet,
     tlvs: TlvIter<'a>,
     len: usize,
     is_done: bool,
@@ -39,7 +39,7 @@ impl<'a> MarkIter<'a> {
     ghost use Rattle.bgp_update.specs.Marks.{field_marks};
     ghost use Rattle.bgp_update.specs.MarkIter.{mark_value, marks_left, HasTypes};
     ghost use Rattle.bgp_update.specs.Notes.{types_of_field};
-    ghost use Rattle.bgp_update.specs.Seen.{seen_types};
+    ghost use Rattle.bgp_wire.specs.OctetSet.{has_octet};
 
     /// The marks of a field of at most 4075 octets.
     #[tactic(auto, using(crate::proofs::SmallLemmas::field_small), unfolding(crate::specs::Marks::field_marks))]
@@ -51,7 +51,7 @@ impl<'a> MarkIter<'a> {
         MarkIter {
             ctx: *ctx,
             has_nlri,
-            seen: Seen::new(),
+            seen: OctetSet::new(),
             tlvs: TlvIter::new(field),
             len: field.len(),
             is_done: false,
@@ -94,9 +94,9 @@ impl<'a> MarkIter<'a> {
     }
 
     /// The types of the whole attributes, where all marks were given.
-    pub(crate) fn types(&self) -> Seen
+    pub(crate) fn types(&self) -> OctetSet
         requires { tlvs_left self.now.tlvs ≡ [] }
-        ensures { HasTypes self.now (seen_types result) }
+        ensures { HasTypes self.now (has_octet result) }
     {
         self.seen
     }

@@ -3,9 +3,9 @@
 ghost use Rattle.std.specs.Prelude.{◌≡◌, ◌&&◌, not};
 ghost use Rattle.bgp_numbers.specs.declared.attribute.TheConstants.{ORIGIN, AS_PATH, NEXT_HOP};
 ghost use Rattle.bgp_update.specs.Notes.{missing_in};
-ghost use Rattle.bgp_update.specs.Seen.{seen_types};
+ghost use Rattle.bgp_wire.specs.OctetSet.{has_octet};
 
-use crate::seen::Seen;
+use bgp_wire::OctetSet;
 use bgp_numbers::attribute;
 
 /// Which of the attributes that a message with routes has to have are missing (RFC 4271, section 5).
@@ -17,8 +17,8 @@ pub(crate) struct Missing {
 }
 
 /// What is missing of a message whose attributes have these types, where it `reaches`, and in its NLRI field where it `has_nlri`.
-pub(crate) fn missing_in(reaches: bool, has_nlri: bool, types: &Seen) -> Missing
-    ensures { result ≡ missing_in reaches has_nlri (seen_types types.now) }
+pub(crate) fn missing_in(reaches: bool, has_nlri: bool, types: &OctetSet) -> Missing
+    ensures { result ≡ missing_in reaches has_nlri (has_octet types.now) }
 {
     Missing {
         origin: reaches && !types.contains(attribute::ORIGIN),

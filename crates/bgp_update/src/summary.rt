@@ -5,12 +5,12 @@ ghost use Rattle.bgp_attr.specs.FoundAttr.{found_attr_value};
 ghost use Rattle.bgp_update.specs.MarkIter.{mark_value};
 ghost use Rattle.bgp_update.specs.Marks.{field_marks};
 ghost use Rattle.bgp_update.specs.Notes.{types_of_field};
-ghost use Rattle.bgp_update.specs.Seen.{seen_types};
+ghost use Rattle.bgp_wire.specs.OctetSet.{has_octet};
 ghost use Rattle.bgp_update.specs.Summary.{is_noted, summary_value, summary_behind, summary_of};
 
 use crate::kept_view::KeptView;
 use crate::mark::{MarkIter, MarkView};
-use crate::seen::Seen;
+use bgp_wire::OctetSet;
 use bgp_attr::FoundAttr;
 use bgp_frame::NotificationView;
 use bgp_open::Context;
@@ -74,11 +74,11 @@ pub(crate) fn summarize<'a>(
     has_nlri: bool,
     field: &'a [u8],
     summary: &mut Summary<'a>,
-) -> Seen
+) -> OctetSet
     requires short { length field.now ≤ 4075 }
     requires none { summary_value summary.old ≡ summary_of [] }
     ensures marks { summary_value summary.new ≡ summary_of (field_marks ctx.now has_nlri field.now) }
-    ensures types { (kind : ℕ) → seen_types result kind ≡ types_of_field field.now kind }
+    ensures types { (kind : ℕ) → has_octet result kind ≡ types_of_field field.now kind }
 {
     let mut marks = MarkIter::new(ctx, has_nlri, field);
     'field: loop {

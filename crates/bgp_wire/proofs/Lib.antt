@@ -3,3 +3,4 @@ pub mod Rows
 pub mod Pieces
 pub mod Behinds
 pub mod Walks
+pub mod SetWords

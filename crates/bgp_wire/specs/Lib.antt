@@ -3,3 +3,4 @@ pub mod Octets
 pub mod Row
 pub mod Reader
 pub mod Behind
+pub mod OctetSet

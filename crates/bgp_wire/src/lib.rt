@@ -3,9 +3,11 @@
 
 mod copy;
 mod list;
+mod octet_set;
 
 pub use copy::TryCopy;
 pub use list::List;
+pub use octet_set::OctetSet;
 
 #[cfg(test)]
 mod tests;

@@ -1,0 +1,78 @@
+//! What is kept of a peer's OPEN.
+
+ghost use Rattle.std.specs.Prelude.{◌≡◌};
+ghost use Rattle.bgp_open.specs.Peer.{is_unicast};
+ghost use Rattle.bgp_open.specs.CapabilityView.{capability_value};
+
+use crate::capability_view::CapabilityView;
+use bgp_numbers::{afi, safi};
+use bgp_wire::OctetSet;
+
+/// What an OPEN tells of the speaker that sent it: all but the values of capabilities that have no effect here (RFC 4271, section 4.2).
+/// It takes no memory, and stays when the octets are gone.
+#[derive(Clone, Copy, Debug)]
+pub struct Peer {
+    /// My Autonomous System, as it stands in the OPEN.
+    pub as_field: u16,
+    /// The number of the first capability for AS numbers of four octets, where there is one (RFC 6793, section 3).
+    pub as4: Option<u32>,
+    /// Its BGP Identifier.
+    pub id: [u8; 4],
+    /// The Hold Time that it proposes, in seconds: 0 for none.
+    pub hold: u16,
+    /// Whether it offers IPv4 unicast (RFC 4760, section 8).
+    pub ip4: bool,
+    /// Whether it offers IPv6 unicast (RFC 4760, section 8).
+    pub ip6: bool,
+    /// The codes of all its capabilities, whatever their values (RFC 5492, section 4).
+    pub codes: OctetSet,
+}
+
+/// Whether the capability is for unicast routes of this address family.
+fn is_unicast(family: u16, capability: CapabilityView<'_>) -> bool
+    ensures { result ≡ is_unicast family (capability_value capability.entry) }
+{
+    match capability {
+        CapabilityView::Multi(of, subsequent) => of == family && subsequent == safi::UNICAST,
+        CapabilityView::As4(_) | CapabilityView::Other(_, _) => false,
+    }
+}
+
+impl Peer {
+    ghost use Rattle.std.specs.Prelude.{◌≡◌};
+    ghost use Rattle.bgp_open.specs.Peer.{also_offers, number_of, plain, said_of};
+
+    /// A speaker that offers nothing yet.
+    pub(crate) fn new(as_field: u16, hold: u16, id: [u8; 4]) -> Peer
+        ensures { said_of result ≡ plain as_field hold id }
+    {
+        Peer {
+            as_field,
+            as4: None,
+            id,
+            hold,
+            ip4: false,
+            ip6: false,
+            codes: OctetSet::new(),
+        }
+    }
+
+    /// It offers this too.
+    pub(crate) fn offer(&mut self, capability: CapabilityView<'_>)
+        ensures { said_of self.new ≡ also_offers (said_of self.old) (capability_value capability.entry) }
+    {
+        if let (None, CapabilityView::As4(number)) = (self.as4, capability) {
+            self.as4 = Some(number);
+        }
+        self.ip4 = self.ip4 || is_unicast(afi::IPV4, capability);
+        self.ip6 = self.ip6 || is_unicast(afi::IPV6, capability);
+        self.codes.insert(capability.code());
+    }
+
+    /// Its AS number: that of the first capability for AS numbers of four octets, else My Autonomous System (RFC 6793, section 4.1).
+    pub fn as_number(&self) -> u32
+        ensures { result ≡ number_of (said_of self.now) }
+    {
+        self.as4.unwrap_or(u32::from(self.as_field))
+    }
+}

@@ -1,0 +1,17 @@
+-- Sets of octets, as tests: bit k of the words is octet k.
+use Rattle.std.specs.Prelude.{ℕ, ◌/◌, ◌%◌, Bool, false, ◌==◌, ◌||◌}
+use Rattle.std.specs.Int.{bit_at}
+use Rattle.std.specs.List.{slice_index_or}
+use Rattle.bgp_wire.specs.declared.octet_set.OctetSet.{OctetSet}
+
+-- what a set has
+abbrev pub has_octet : OctetSet → ℕ → Bool
+has_octet s = λ octet. bit_at (slice_index_or s.words (octet / 64) 0) (octet % 64) == 1
+
+-- the set with nothing in it
+abbrev pub none_of_them : ℕ → Bool
+none_of_them octet = false
+
+-- a set with an octet more
+abbrev pub also : ℕ → (ℕ → Bool) → ℕ → Bool
+also octet set = λ k. (k == octet) || set k
