@@ -6,9 +6,9 @@ ghost use Rattle.bgp_attr.specs.TlvIter.{tlvs_left};
 ghost use Rattle.bgp_update.specs.Small.{is_small};
 
 use crate::malformed::{cut, cut_kind, repeated};
-use bgp_wire::OctetSet;
 use bgp_attr::{FoundAttr, Tail, TlvIter, judge_attribute};
 use bgp_open::Context;
+use bgp_wire::OctetSet;
 use std::iter::FusedIterator;
 
 /// An attribute's place in the field, its type, and what it comes to.

@@ -5,8 +5,8 @@ ghost use Rattle.bgp_numbers.specs.declared.attribute.TheConstants.{ORIGIN, AS_P
 ghost use Rattle.bgp_update.specs.Notes.{missing_in};
 ghost use Rattle.bgp_wire.specs.OctetSet.{has_octet};
 
-use bgp_wire::OctetSet;
 use bgp_numbers::attribute;
+use bgp_wire::OctetSet;
 
 /// Which of the attributes that a message with routes has to have are missing (RFC 4271, section 5).
 #[derive(Clone, Copy, Debug, PartialEq, Eq)]

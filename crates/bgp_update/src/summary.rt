@@ -10,10 +10,10 @@ ghost use Rattle.bgp_update.specs.Summary.{is_noted, summary_value, summary_behi
 
 use crate::kept_view::KeptView;
 use crate::mark::{MarkIter, MarkView};
-use bgp_wire::OctetSet;
 use bgp_attr::FoundAttr;
 use bgp_frame::NotificationView;
 use bgp_open::Context;
+use bgp_wire::OctetSet;
 
 /// What the marks of a field come to.
 #[derive(Clone, Copy, Debug)]
