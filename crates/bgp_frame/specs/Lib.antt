@@ -1,6 +1,7 @@
 -- Frames, their headers and streams of them.
 pub mod Kind
 pub mod Notification
+pub mod ShortNotification
 pub mod Head
 pub mod Frame
 pub mod Takes

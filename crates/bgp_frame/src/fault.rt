@@ -1,6 +1,7 @@
 //! Faults of a header.
 
 use crate::notification::Notification;
+use crate::short_notification::ShortNotification;
 use bgp_numbers::error;
 
 /// Why a header begins no message, by the first test that fails: the Marker, the bounds of any Length, the type, the Length for that
@@ -18,23 +19,33 @@ pub enum HeadFault {
 impl HeadFault {
     ghost use Rattle.std.specs.Prelude.{◌≡◌};
     ghost use Rattle.bgp_frame.specs.Head.{head_notification};
+    ghost use Rattle.bgp_frame.specs.ShortNotification.{short_value};
 
     /// The answer to the fault: code 1 (Message Header Error), the subcode, and as information the field that is at fault.
     pub fn notification(self) -> Notification
         ensures { result ≡ head_notification self }
     {
+        self.answer().view().own()
+    }
+
+    /// The same, in some words.
+    pub fn answer(self) -> ShortNotification
+        ensures { short_value result ≡ head_notification self }
+    {
         match self {
             HeadFault::Marker => {
-                Notification::new(error::MESSAGE_HEADER, error::NOT_SYNCHRONIZED, &[])
+                ShortNotification::plain(error::MESSAGE_HEADER, error::NOT_SYNCHRONIZED)
             }
-            HeadFault::Length(length) => Notification::new(
+            HeadFault::Length(length) => ShortNotification::with_two(
                 error::MESSAGE_HEADER,
                 error::BAD_MESSAGE_LENGTH,
-                &length.to_be_bytes(),
+                length.to_be_bytes(),
             ),
-            HeadFault::Kind(code) => {
-                Notification::new(error::MESSAGE_HEADER, error::BAD_MESSAGE_TYPE, &[code])
-            }
+            HeadFault::Kind(code) => ShortNotification::with_octet(
+                error::MESSAGE_HEADER,
+                error::BAD_MESSAGE_TYPE,
+                code,
+            ),
         }
     }
 }

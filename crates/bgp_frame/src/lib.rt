@@ -8,6 +8,7 @@ mod header;
 mod kind;
 pub mod laws;
 mod notification;
+mod short_notification;
 mod step;
 
 pub use end::End;
@@ -16,4 +17,5 @@ pub use framer::Framer;
 pub use header::head;
 pub use kind::Kind;
 pub use notification::{Notification, NotificationView};
+pub use short_notification::ShortNotification;
 pub use step::{Frame, Step, front};

@@ -1,0 +1,69 @@
+//! A NOTIFICATION that fits some words.
+
+ghost use Rattle.std.specs.Prelude.{◌≤◌};
+
+use crate::notification::NotificationView;
+
+/// A NOTIFICATION with at most two octets of information of its own, as a header's fault and a message out of place have: a few words in place of
+/// 4 KB.
+#[derive(Clone, Copy, Debug)]
+pub struct ShortNotification {
+    code: u8,
+    subcode: u8,
+    info: [u8; 2],
+    len: u8,
+    ghost fits: { len ≤ 2 },
+}
+
+impl ShortNotification {
+    ghost use Rattle.std.specs.Prelude.{◌≡◌, ◌∷◌, []};
+    ghost use Rattle.bgp_frame.specs.Notification.{notification_of_view};
+    ghost use Rattle.bgp_frame.specs.ShortNotification.{notification_with, short_value};
+
+    /// A NOTIFICATION without information.
+    pub fn plain(code: u8, subcode: u8) -> ShortNotification
+        ensures { short_value result ≡ notification_with code subcode [] }
+    {
+        ShortNotification {
+            code,
+            subcode,
+            info: [0, 0],
+            len: 0,
+        }
+    }
+
+    /// One whose information is an octet.
+    pub fn with_octet(code: u8, subcode: u8, octet: u8) -> ShortNotification
+        ensures { short_value result ≡ notification_with code subcode (octet ∷ []) }
+    {
+        ShortNotification {
+            code,
+            subcode,
+            info: [octet, 0],
+            len: 1,
+        }
+    }
+
+    /// One whose information is two octets.
+    pub fn with_two(code: u8, subcode: u8, octets: [u8; 2]) -> ShortNotification
+        ensures { short_value result ≡ notification_with code subcode octets }
+    {
+        ShortNotification {
+            code,
+            subcode,
+            info: octets,
+            len: 2,
+        }
+    }
+
+    /// The same, with its information borrowed.
+    pub fn view(&self) -> NotificationView<'_>
+        ensures { notification_of_view result ≡ short_value self.now }
+    {
+        NotificationView {
+            code: self.code,
+            subcode: self.subcode,
+            info: &self.info[..usize::from(self.len)],
+        }
+    }
+}
