@@ -9,7 +9,7 @@ use crate::context::Context;
 use crate::fault::open_error;
 use crate::message::Open;
 use crate::peer::Peer;
-use bgp_frame::Notification;
+use bgp_frame::{Notification, NotificationView};
 use bgp_numbers::error;
 
 /// Why a peer isn't accepted: the first reason in this order (RFC 4271, section 6.2).
@@ -23,15 +23,23 @@ pub enum PeerFault {
 
 impl PeerFault {
     ghost use Rattle.std.specs.Prelude.{◌≡◌};
+    ghost use Rattle.bgp_frame.specs.Notification.{notification_of_view};
     ghost use Rattle.bgp_open.specs.Agreement.{peer_notification};
 
     /// The answer to the fault, of code 2 (OPEN Message Error), without information.
     pub fn notification(self) -> Notification
         ensures { result ≡ peer_notification self }
     {
+        self.answer().own()
+    }
+
+    /// The same, in some words.
+    pub fn answer(self) -> NotificationView<'static>
+        ensures { notification_of_view result ≡ peer_notification self }
+    {
         match self {
-            PeerFault::PeerAs => open_error(error::BAD_PEER_AS, &[]).own(),
-            PeerFault::Identifier => open_error(error::BAD_IDENTIFIER, &[]).own(),
+            PeerFault::PeerAs => open_error(error::BAD_PEER_AS, &[]),
+            PeerFault::Identifier => open_error(error::BAD_IDENTIFIER, &[]),
         }
     }
 }
