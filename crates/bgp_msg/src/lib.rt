@@ -25,5 +25,5 @@ pub use message::Message;
 pub use outcome::Outcome;
 pub use outcome_view::OutcomeView;
 pub use seen::Seen;
-pub use taking::{out_frame, view_frame};
+pub use taking::{notification_in, out_frame, view_frame};
 pub use update_encoding::encode_update;

@@ -54,8 +54,8 @@ fn view_of_update<'a>(ctx: &Context, body: &'a [u8]) -> OutcomeView<'a>
     }
 }
 
-/// What the body of a NOTIFICATION says.
-fn notification_in(body: &[u8]) -> NotificationView<'_>
+/// What the body of a NOTIFICATION says (RFC 4271, section 4.5): the octets behind the header, of which a whole NOTIFICATION has at least 2.
+pub fn notification_in(body: &[u8]) -> NotificationView<'_>
     requires least { 2 ≤ length body.now }
     requires most { length body.now ≤ 4077 }
     ensures { notification_of_view result ≡ notification_in body.entry.now }
