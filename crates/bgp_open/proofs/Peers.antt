@@ -7,7 +7,7 @@ use Rattle.bgp_open.specs.declared.capability.Capability.{Capability}
 use Rattle.bgp_open.specs.declared.capability.Capability.TheVariants.{Multi, As4, Other}
 use Rattle.bgp_open.specs.declared.message.Open.{Open}
 use Rattle.bgp_open.specs.Capability.{code_of}
-use Rattle.bgp_open.specs.Peer.{Said, first_as4, is_unicast, codes_of, said_by, plain, also_offers, offering}
+use Rattle.bgp_open.specs.Peer.{Told, first_as4, is_unicast, codes_of, told_by, plain, also_offers, offering}
 
 or_none : (p : Bool) → (p || false) ≡ p
 or_none true = refl
@@ -34,7 +34,7 @@ number-both None (As4 k) later = refl
 number-both None (Other code value) later = refl
 
 -- what was told, and what these capabilities tell
-abbrev with : Said → List Capability → Said
+abbrev with : Told → List Capability → Told
 with p caps = record {
   as_field = p.as_field;
   as4 = option_or p.as4 (first_as4 caps);
@@ -46,11 +46,11 @@ with p caps = record {
 }
 
 same : (f h : ℕ) (i : List ℕ) (m n : Option ℕ) (a b d e : Bool) (s t : ℕ → Bool) → m ≡ n → a ≡ b → d ≡ e → s ≡ t
-    → (let x : Said = record { as_field = f; as4 = m; id = i; hold = h; ip4 = a; ip6 = d; codes = s } in
-    let y : Said = record { as_field = f; as4 = n; id = i; hold = h; ip4 = b; ip6 = e; codes = t } in x ≡ y)
+    → (let x : Told = record { as_field = f; as4 = m; id = i; hold = h; ip4 = a; ip6 = d; codes = s } in
+    let y : Told = record { as_field = f; as4 = n; id = i; hold = h; ip4 = b; ip6 = e; codes = t } in x ≡ y)
 same f h i m n a b d e s t p q r u = rw (p, q, r, u) refl
 
-offering-with : (p : Said) (caps : List Capability) → offering p caps ≡ with p caps
+offering-with : (p : Told) (caps : List Capability) → offering p caps ≡ with p caps
 offering-with p [] =
     sym (same p.as_field p.hold p.id _ p.as4 _ p.ip4 _ p.ip6 (λ code. p.codes code || false) p.codes
     (number-none p.as4) (or_none p.ip4) (or_none p.ip6) (λ i code. or_none (p.codes code) i))
@@ -61,9 +61,9 @@ offering-with p (c ∷ later) =
     (λ i code. or_turned (p.codes code) (eqb code (code_of c)) (codes_of later code) i)
 
 -- an OPEN tells what its capabilities tell one by one
-pub offering-open : (o : Open) → offering (plain o.as_field o.hold o.id) o.caps ≡ said_by o
+pub offering-open : (o : Open) → offering (plain o.as_field o.hold o.id) o.caps ≡ told_by o
 offering-open o = offering-with (plain o.as_field o.hold o.id) o.caps
 
-pub told : (p : Said) (caps : List Capability) (as_field hold : ℕ) (id : List ℕ) (o : Open) → p ≡ plain as_field hold id → as_field ≡ o.as_field → hold ≡ o.hold → id ≡ o.id
-    → caps ≡ o.caps → offering p caps ≡ said_by o
+pub told : (p : Told) (caps : List Capability) (as_field hold : ℕ) (id : List ℕ) (o : Open) → p ≡ plain as_field hold id → as_field ≡ o.as_field → hold ≡ o.hold → id ≡ o.id
+    → caps ≡ o.caps → offering p caps ≡ told_by o
 told p caps as_field hold id o is f h i c = rw (is, f, h, i, c) (offering-open o)

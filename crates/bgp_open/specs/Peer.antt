@@ -1,6 +1,6 @@
 -- What an OPEN tells of the speaker that sent it, as far as a session keeps it (RFC 4271, section 4.2; RFC 5492).
 use Rattle.std.specs.Prelude.{ℕ, Bool, false, ◌&&◌, ◌||◌, ◌==◌, List, [], ◌∷◌, Option, None, Some, unwrap_or}
-use Rattle.std.specs.List.{list_any}
+use Rattle.std.specs.List.{filter, list_any, range_with_len}
 use Rattle.std.specs.Option.{option_or}
 use Rattle.bgp_wire.specs.OctetSet.{also, has_octet, none_of_them}
 use Rattle.bgp_numbers.specs.declared.afi.TheConstants.{IPV4, IPV6}
@@ -27,6 +27,10 @@ is_unicast family _ = false
 abbrev pub codes_of : List Capability → ℕ → Bool
 codes_of caps = λ code. list_any (λ c. code == code_of c) caps
 
+-- the octets that pass a test, rising
+unfoldable pub rising : (ℕ → Bool) → List ℕ
+rising test = filter test (range_with_len 0 256)
+
 -- My Autonomous System, the number of the first capability for AS numbers of four octets, the identifier and the Hold Time, whether unicast routes of
 -- the two families are offered, and the codes of all capabilities
 pub record Said : Type 0 where
@@ -36,15 +40,20 @@ pub record Said : Type 0 where
   pub hold : ℕ
   pub ip4 : Bool
   pub ip6 : Bool
+  pub codes : List ℕ
+
+-- the same, with a test for the codes
+pub record Told : Type 0 where
+  pub as_field : ℕ
+  pub as4 : Option ℕ
+  pub id : List ℕ
+  pub hold : ℕ
+  pub ip4 : Bool
+  pub ip6 : Bool
   pub codes : ℕ → Bool
 
--- what a record keeps
-abbrev pub said_of : Peer → Said
-said_of p = record { as_field = p.as_field; as4 = p.as4; id = p.id; hold = p.hold; ip4 = p.ip4; ip6 = p.ip6; codes = has_octet p.codes }
-
--- what an OPEN says
-abbrev pub said_by : Open → Said
-said_by o = record {
+abbrev pub told_by : Open → Told
+told_by o = record {
   as_field = o.as_field;
   as4 = first_as4 o.caps;
   id = o.id;
@@ -54,16 +63,31 @@ said_by o = record {
   codes = codes_of o.caps;
 }
 
+abbrev pub told_of : Peer → Told
+told_of p = record { as_field = p.as_field; as4 = p.as4; id = p.id; hold = p.hold; ip4 = p.ip4; ip6 = p.ip6; codes = has_octet p.codes }
+
+-- the codes of the test, rising
+abbrev pub said_with : Told → Said
+said_with p = record { as_field = p.as_field; as4 = p.as4; id = p.id; hold = p.hold; ip4 = p.ip4; ip6 = p.ip6; codes = rising p.codes }
+
+-- what an OPEN says
+abbrev pub said_by : Open → Said
+said_by o = said_with (told_by o)
+
+-- what a record keeps
+abbrev pub said_of : Peer → Said
+said_of p = said_with (told_of p)
+
 -- the AS number of a speaker: that number, else its My Autonomous System (RFC 6793, section 4.1)
 abbrev pub number_of : Said → ℕ
 number_of p = unwrap_or p.as4 p.as_field
 
 -- ---- how it is found: from nothing that is offered, capability by capability
 
-abbrev pub plain : ℕ → ℕ → List ℕ → Said
+abbrev pub plain : ℕ → ℕ → List ℕ → Told
 plain as_field hold id = record { as_field = as_field; as4 = None; id = id; hold = hold; ip4 = false; ip6 = false; codes = none_of_them }
 
-abbrev pub also_offers : Said → Capability → Said
+abbrev pub also_offers : Told → Capability → Told
 also_offers p c = record {
   as_field = p.as_field;
   as4 = option_or p.as4 (first_as4 (c ∷ []));
@@ -74,6 +98,6 @@ also_offers p c = record {
   codes = also (code_of c) p.codes;
 }
 
-abbrev pub offering : Said → List Capability → Said
+abbrev pub offering : Told → List Capability → Told
 offering p [] = p
 offering p (c ∷ later) = offering (also_offers p c) later

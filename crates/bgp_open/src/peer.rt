@@ -40,11 +40,11 @@ fn is_unicast(family: u16, capability: CapabilityView<'_>) -> bool
 
 impl Peer {
     ghost use Rattle.std.specs.Prelude.{◌≡◌};
-    ghost use Rattle.bgp_open.specs.Peer.{also_offers, number_of, plain, said_of};
+    ghost use Rattle.bgp_open.specs.Peer.{also_offers, number_of, plain, said_of, told_of};
 
     /// A speaker that offers nothing yet.
     pub(crate) fn new(as_field: u16, hold: u16, id: [u8; 4]) -> Peer
-        ensures { said_of result ≡ plain as_field hold id }
+        ensures { told_of result ≡ plain as_field hold id }
     {
         Peer {
             as_field,
@@ -59,7 +59,7 @@ impl Peer {
 
     /// It offers this too.
     pub(crate) fn offer(&mut self, capability: CapabilityView<'_>)
-        ensures { said_of self.new ≡ also_offers (said_of self.old) (capability_value capability.entry) }
+        ensures { told_of self.new ≡ also_offers (told_of self.old) (capability_value capability.entry) }
     {
         if let (None, CapabilityView::As4(number)) = (self.as4, capability) {
             self.as4 = Some(number);

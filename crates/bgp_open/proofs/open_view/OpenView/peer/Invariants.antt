@@ -1,9 +1,9 @@
 use Rattle.std.proofs.Common.{◌≡◌}
 use Rattle.bgp_open.specs.CapabilityIter.{capabilities_left}
 use Rattle.bgp_open.specs.OpenView.{open_value}
-use Rattle.bgp_open.specs.Peer.{said_by, said_of, offering}
+use Rattle.bgp_open.specs.Peer.{told_by, told_of, offering}
 use Rattle.bgp_open.proofs.open_view.OpenView.peer.Given as goal
 
 -- with what is left, all is told
 abbrev pub invariant-loop-capability : goal.invariant-loop-capability
-invariant-loop-capability l = offering (said_of l.peer) (capabilities_left l.capability-iterator) ≡ said_by (open_value l.self)
+invariant-loop-capability l = offering (told_of l.peer) (capabilities_left l.capability-iterator) ≡ told_by (open_value l.self)
