@@ -16,6 +16,7 @@ use Rattle.bgp_open.specs.declared.fault.OpenFault.{OpenFault}
 use Rattle.bgp_open.specs.declared.message.Open.{Open}
 use Rattle.bgp_open.specs.Agreement.{agreement}
 use Rattle.bgp_open.specs.Config.{Settings}
+use Rattle.bgp_open.specs.Peer.{Said, said_by}
 use Rattle.bgp_open.specs.OpenFault.{open_notification, reading_of}
 use Rattle.bgp_update.specs.declared.verdict.Verdict.{Verdict}
 use Rattle.bgp_update.specs.declared.verdict.Verdict.TheVariants as verdict
@@ -58,12 +59,12 @@ by_if P false x y p q = q
 
 -- ---- events
 
-module _ (s : Settings) (ctx : Option Context) (running : Timers) (held : List ℕ) where
+module _ (s : Settings) (ctx : Option Context) (peer : Option Said) (running : Timers) (held : List ℕ) where
   abbrev StandsBehind : List ℕ → List ℕ → Step → Type 0
   StandsBehind now taken x = Stands s x.next.state x.next.context (kept (listens x.next.state) now) taken
 
   event_keeps : (st : State) (e : Event) (taken : List ℕ) → Stands s st ctx held taken
-      → StandsBehind held (taken_behind (connects st e) taken) (happens (record { state = st; context = ctx; running = running }) e)
+      → StandsBehind held (taken_behind (connects st e) taken) (happens (record { state = st; context = ctx; peer = peer; running = running }) e)
   event_keeps state.Idle event.Start taken h = refl
   event_keeps state.Idle event.Stop taken h = refl
   event_keeps state.Idle event.Connected taken h = refl
@@ -113,10 +114,10 @@ module _ (s : Settings) (ctx : Option Context) (running : Timers) (held : List �
   StandsEmptied taken x = Stands s x.next.state x.next.context [] taken
 
   abbrev at : State → Standing
-  at st = record { state = st; context = ctx; running = running }
+  at st = record { state = st; context = ctx; peer = peer; running = running }
 
   agreement_keeps : (body : List ℕ) (said : Open) (r : Result Context PeerFault) (taken : List ℕ) → IsFrame (record { kind = kind.Open; body = body }) held
-      → reading_of body ≡ Ok said → agreement s said ≡ r → taken ≡ held → StandsEmptied taken (on_agreement (at state.OpenSent) r)
+      → reading_of body ≡ Ok said → agreement s said ≡ r → taken ≡ held → StandsEmptied taken (on_agreement (at state.OpenSent) (said_by said) r)
   agreement_keeps body said (Ok agreed) taken frame read is h = record {
     body = body;
     spelled = held;
@@ -216,7 +217,7 @@ told_keeps s a e sound =
     record {
       settings = sound.settings;
       can_hold = kept_held (listens (happens x e).next.state) a.session.held sound.can_hold;
-      stands = event_keeps s x.context x.running a.session.held x.state e a.taken sound.stands;
+      stands = event_keeps s x.context x.peer x.running a.session.held x.state e a.taken sound.stands;
     }
 
 judged_keeps : (s : Settings) (a : Life) (what : Option (Result Message HeadFault)) → Sound s a → content_of a.session.held ≡ what
@@ -228,7 +229,7 @@ judged_keeps s a (Some what) sound is =
       settings = sound.settings;
       can_hold = IsHeld_nil;
       stands = subst (λ (t : Settings). Stands s (hears t x what).next.state (hears t x what).next.context [] a.taken) (sym sound.settings)
-          (hears_keeps s x.context x.running a.session.held x.state what a.taken sound.can_hold is sound.stands);
+          (hears_keeps s x.context x.peer x.running a.session.held x.state what a.taken sound.can_hold is sound.stands);
     }
 
 fed_stands : (s : Settings) (st : State) (ctx : Option Context) (held piece taken : List ℕ) (n : ℕ) → CountsFed (listens st) held piece n

@@ -42,7 +42,7 @@ module _ (s : Settings) (x : Standing) (held piece : List ℕ) (old : Machine) (
         step = stepped_message s x (take n piece) (front n) refl m actions next held empty frame.1 acts goes;
       }))
 
-  faulty_front : (f : HeadFault) → (19 ≤ length piece) × (head_of piece ≡ Err f) → (length (take 19 piece) ≡ 19) × (head_of (take 19 piece) ≡ Err f)
+  pub faulty_front : (f : HeadFault) → (19 ≤ length piece) × (head_of piece ≡ Err f) → (length (take 19 piece) ≡ 19) × (head_of (take 19 piece) ≡ Err f)
   faulty_front f front =
       let long = front.0 in
       let count = length-take 19 piece in (

@@ -6,3 +6,6 @@ pub mod Pulling
 pub mod Sending
 pub mod Life
 pub mod Cutting
+pub mod ActionView
+pub mod Heard
+pub mod Look

@@ -14,6 +14,7 @@ use Rattle.bgp_open.specs.declared.context.Context.{Context}
 use Rattle.bgp_open.specs.declared.message.Open.{Open}
 use Rattle.bgp_open.specs.Config.{Settings}
 use Rattle.bgp_open.specs.Agreement.{agreement, peer_notification}
+use Rattle.bgp_open.specs.Peer.{Said, said_by}
 use Rattle.bgp_open.specs.declared.fault.OpenFault.{OpenFault}
 use Rattle.bgp_open.specs.OpenFault.{open_notification, reading_of}
 use Rattle.bgp_update.specs.declared.verdict.Verdict.{Verdict}
@@ -53,7 +54,7 @@ timers_behind (_ ∷ later) t = timers_behind later t
 abbrev pub go : Standing → List Action → State → Step
 go x actions state = record {
   actions = actions;
-  next = record { state = state; context = x.context; running = timers_behind actions x.running };
+  next = record { state = state; context = x.context; peer = x.peer; running = timers_behind actions x.running };
 }
 
 abbrev pub only_if : Bool → Action → List Action
@@ -129,15 +130,15 @@ happens x event = on_event x x.state event
 -- ---- messages: the type is tested against the state first, and then the body judged
 
 -- a peer is accepted, and the session goes on with what both agreed on
-abbrev pub accepted : Standing → Context → Step
-accepted x ctx =
-    go (agreed x ctx)
+abbrev pub accepted : Standing → Said → Context → Step
+accepted x peer ctx =
+    go (agreed x peer ctx)
     (if nat_lt 0 ctx.hold then SendKeepalive ∷ Arm Hold ctx.hold ∷ Arm Keepalive (ctx.hold / 3) ∷ [] else SendKeepalive ∷ Disarm Hold ∷ [])
     OpenConfirm
 
-abbrev pub on_agreement : Standing → Result Context PeerFault → Step
-on_agreement x (Ok ctx) = accepted x ctx
-on_agreement x (Err fault) = reset x (peer_notification fault)
+abbrev pub on_agreement : Standing → Said → Result Context PeerFault → Step
+on_agreement x peer (Ok ctx) = accepted x peer ctx
+on_agreement x peer (Err fault) = reset x (peer_notification fault)
 
 -- the answer to a fault of an OPEN: only a refused growth has none, which is no fault of a body
 abbrev pub answered : Standing → Option Notification → Step
@@ -145,7 +146,7 @@ answered x (Some why) = reset x why
 answered x None = reset x (error OPEN_MESSAGE UNSPECIFIC [])
 
 abbrev pub on_open : Settings → Standing → Result Open OpenFault → Step
-on_open s x (Ok o) = on_agreement x (agreement s o)
+on_open s x (Ok o) = on_agreement x (said_by o) (agreement s o)
 on_open s x (Err fault) = answered x (open_notification fault)
 
 abbrev pub on_verdict : Standing → Verdict → Step

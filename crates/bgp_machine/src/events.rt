@@ -1,58 +1,68 @@
 //! What events do.
 
 ghost use Rattle.std.specs.Prelude.{◌≡◌, []};
+ghost use Rattle.bgp_frame.specs.Notification.{notification_of_view};
 ghost use Rattle.bgp_machine.specs.declared.event.Event.TheVariants as event;
 ghost use Rattle.bgp_machine.specs.Standing.{expired};
 ghost use Rattle.bgp_machine.specs.Table.{on_event, happens, held_too_long, cease};
 
-use crate::action::{Action, Actions};
+use crate::action_view::ActionView;
+use crate::action_views::ActionViews;
 use crate::event::Event;
 use crate::phase::Phase;
 use crate::standing::Standing;
 use crate::timer::{OPEN_HOLD_SECONDS, RETRY_SECONDS, Timer};
-use bgp_frame::Notification;
+use bgp_frame::NotificationView;
 use bgp_numbers::error;
 
 /// The NOTIFICATION of a peer that was silent for too long.
-fn held_too_long() -> Notification
-    ensures { result ≡ held_too_long }
+fn held_too_long() -> NotificationView<'static>
+    ensures { notification_of_view result ≡ held_too_long }
 {
-    Notification::new(error::HOLD_TIMER_EXPIRED, error::UNSPECIFIC, &[])
+    NotificationView {
+        code: error::HOLD_TIMER_EXPIRED,
+        subcode: error::UNSPECIFIC,
+        info: &[],
+    }
 }
 
 /// The NOTIFICATION of a session that is stopped.
-fn cease() -> Notification
-    ensures { result ≡ cease }
+fn cease() -> NotificationView<'static>
+    ensures { notification_of_view result ≡ cease }
 {
-    Notification::new(error::CEASE, error::UNSPECIFIC, &[])
+    NotificationView {
+        code: error::CEASE,
+        subcode: error::UNSPECIFIC,
+        info: &[],
+    }
 }
 
 impl Standing {
     /// The owner starts the session: a connection is tried.
-    fn start(&mut self, actions: &mut Actions)
-        requires { actions.old.items ≡ [] }
-        ensures actions { actions.new.items ≡ (happens self.old event.Start).actions }
+    fn start(&mut self, actions: &mut ActionViews<'_>)
+        requires { actions.old ≡ [] }
+        ensures actions { actions.new ≡ (happens self.old event.Start).actions }
         ensures after { self.new ≡ (happens self.old event.Start).next }
     {
         if let Phase::Idle = self.phase {
-            actions.push(Action::Arm(Timer::Retry, RETRY_SECONDS));
-            actions.push(Action::Connect);
+            actions.push(ActionView::Arm(Timer::Retry, RETRY_SECONDS));
+            actions.push(ActionView::Connect);
             self.phase = Phase::Connect;
             self.timers = self.timers.with(Timer::Retry, true);
         }
     }
 
     /// The connection stands: the OPEN is sent.
-    fn connected(&mut self, actions: &mut Actions)
-        requires { actions.old.items ≡ [] }
-        ensures actions { actions.new.items ≡ (happens self.old event.Connected).actions }
+    fn connected(&mut self, actions: &mut ActionViews<'_>)
+        requires { actions.old ≡ [] }
+        ensures actions { actions.new ≡ (happens self.old event.Connected).actions }
         ensures after { self.new ≡ (happens self.old event.Connected).next }
     {
         match self.phase {
             Phase::Connect | Phase::Active => {
-                actions.push(Action::Disarm(Timer::Retry));
-                actions.push(Action::SendOpen);
-                actions.push(Action::Arm(Timer::Hold, OPEN_HOLD_SECONDS));
+                actions.push(ActionView::Disarm(Timer::Retry));
+                actions.push(ActionView::SendOpen);
+                actions.push(ActionView::Arm(Timer::Hold, OPEN_HOLD_SECONDS));
                 self.phase = Phase::OpenSent;
                 self.timers = self
                     .timers
@@ -64,16 +74,16 @@ impl Standing {
     }
 
     /// The connection failed, or is gone.
-    fn failed(&mut self, actions: &mut Actions)
-        requires { actions.old.items ≡ [] }
-        ensures actions { actions.new.items ≡ (happens self.old event.Failed).actions }
+    fn failed(&mut self, actions: &mut ActionViews<'_>)
+        requires { actions.old ≡ [] }
+        ensures actions { actions.new ≡ (happens self.old event.Failed).actions }
         ensures after { self.new ≡ (happens self.old event.Failed).next }
     {
         match self.phase {
             Phase::Idle => {}
             Phase::OpenSent => {
-                actions.push(Action::Disarm(Timer::Hold));
-                actions.push(Action::Arm(Timer::Retry, RETRY_SECONDS));
+                actions.push(ActionView::Disarm(Timer::Hold));
+                actions.push(ActionView::Arm(Timer::Retry, RETRY_SECONDS));
                 self.phase = Phase::Active;
                 self.timers = self
                     .timers
@@ -85,15 +95,15 @@ impl Standing {
     }
 
     /// The owner stops the session: the peer is told, where there is one.
-    fn stopped(&mut self, actions: &mut Actions)
-        requires { actions.old.items ≡ [] }
-        ensures actions { actions.new.items ≡ (happens self.old event.Stop).actions }
+    fn stopped(&mut self, actions: &mut ActionViews<'_>)
+        requires { actions.old ≡ [] }
+        ensures actions { actions.new ≡ (happens self.old event.Stop).actions }
         ensures after { self.new ≡ (happens self.old event.Stop).next }
     {
         match self.phase {
             Phase::Idle => {}
             Phase::Connect | Phase::Active => {
-                actions.push(Action::Close);
+                actions.push(ActionView::Close);
                 self.leave(actions);
             }
             _ => self.reset(cease(), actions),
@@ -101,26 +111,26 @@ impl Standing {
     }
 
     /// A connection is tried again, where none stands.
-    fn retry_expired(&mut self, actions: &mut Actions)
-        requires { actions.old.items ≡ [] }
-        ensures actions { actions.new.items ≡ (on_event self.old self.old.state (event.Expired Timer.Retry)).actions }
+    fn retry_expired(&mut self, actions: &mut ActionViews<'_>)
+        requires { actions.old ≡ [] }
+        ensures actions { actions.new ≡ (on_event self.old self.old.state (event.Expired Timer.Retry)).actions }
         ensures after { self.new ≡ (on_event self.old self.old.state (event.Expired Timer.Retry)).next }
     {
         match self.phase {
-            Phase::Connect => actions.push(Action::Close),
+            Phase::Connect => actions.push(ActionView::Close),
             Phase::Active => {}
             _ => return,
         }
-        actions.push(Action::Arm(Timer::Retry, RETRY_SECONDS));
-        actions.push(Action::Connect);
+        actions.push(ActionView::Arm(Timer::Retry, RETRY_SECONDS));
+        actions.push(ActionView::Connect);
         self.phase = Phase::Connect;
         self.timers = self.timers.with(Timer::Retry, true);
     }
 
     /// The peer was silent for too long, where a connection stands.
-    fn hold_expired(&mut self, actions: &mut Actions)
-        requires { actions.old.items ≡ [] }
-        ensures actions { actions.new.items ≡ (on_event self.old self.old.state (event.Expired Timer.Hold)).actions }
+    fn hold_expired(&mut self, actions: &mut ActionViews<'_>)
+        requires { actions.old ≡ [] }
+        ensures actions { actions.new ≡ (on_event self.old self.old.state (event.Expired Timer.Hold)).actions }
         ensures after { self.new ≡ (on_event self.old self.old.state (event.Expired Timer.Hold)).next }
     {
         match self.phase {
@@ -130,22 +140,22 @@ impl Standing {
     }
 
     /// The peer has to hear something, where it is accepted.
-    fn keepalive_expired(&mut self, actions: &mut Actions)
-        requires { actions.old.items ≡ [] }
-        ensures actions { actions.new.items ≡ (on_event self.old self.old.state (event.Expired Timer.Keepalive)).actions }
+    fn keepalive_expired(&mut self, actions: &mut ActionViews<'_>)
+        requires { actions.old ≡ [] }
+        ensures actions { actions.new ≡ (on_event self.old self.old.state (event.Expired Timer.Keepalive)).actions }
         ensures after { self.new ≡ (on_event self.old self.old.state (event.Expired Timer.Keepalive)).next }
     {
         if let Some(context) = self.phase.context() {
             let seconds = context.hold / 3;
-            actions.push(Action::SendKeepalive);
-            actions.push(Action::Arm(Timer::Keepalive, seconds));
+            actions.push(ActionView::SendKeepalive);
+            actions.push(ActionView::Arm(Timer::Keepalive, seconds));
             self.timers = self.timers.with(Timer::Keepalive, true);
         }
     }
 
-    fn expired(&mut self, timer: Timer, actions: &mut Actions)
-        requires { actions.old.items ≡ [] }
-        ensures actions { actions.new.items ≡ (happens self.old (event.Expired timer)).actions }
+    fn expired(&mut self, timer: Timer, actions: &mut ActionViews<'_>)
+        requires { actions.old ≡ [] }
+        ensures actions { actions.new ≡ (happens self.old (event.Expired timer)).actions }
         ensures after { self.new ≡ (happens self.old (event.Expired timer)).next }
     {
         if !self.timers.runs(timer) {
@@ -160,9 +170,9 @@ impl Standing {
     }
 
     /// What an event does.
-    pub(crate) fn happens(&mut self, event: Event, actions: &mut Actions)
-        requires { actions.old.items ≡ [] }
-        ensures actions { actions.new.items ≡ (happens self.old event).actions }
+    pub(crate) fn happens(&mut self, event: Event, actions: &mut ActionViews<'_>)
+        requires { actions.old ≡ [] }
+        ensures actions { actions.new ≡ (happens self.old event).actions }
         ensures after { self.new ≡ (happens self.old event).next }
     {
         match event {

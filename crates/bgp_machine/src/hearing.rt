@@ -1,306 +1,158 @@
-//! What messages do: a message's type is tested against the state before its body is judged.
+//! What is heard: a message's type is tested against the state before its body is judged.
 
-ghost use Rattle.std.specs.Prelude.{◌≡◌, ◌+◌, ◌<◌, ◌≤◌, ◌++◌, ℕ, List, [], ◌∷◌, length, Ok, Err, Some, None, true, OnOk, OnErr};
-ghost use Rattle.bgp_machine.specs.declared.action.Action.TheVariants.{Close, Withdraw};
+ghost use Rattle.std.specs.Prelude.{◌≡◌, ◌+◌, ◌≤◌, length, true, Some};
 ghost use Rattle.bgp_frame.specs.declared.kind.Kind.TheVariants as kind;
 ghost use Rattle.bgp_frame.specs.Kind.{IsLength};
 ghost use Rattle.bgp_frame.specs.Notification.{notification_of_view};
+ghost use Rattle.bgp_frame.specs.ShortNotification.{short_value};
 ghost use Rattle.bgp_open.specs.Config.{Settings};
-ghost use Rattle.bgp_open.specs.OpenFault.{open_fault, reading_of};
-ghost use Rattle.bgp_update.specs.Verdict.{verdict_of, has_value};
-ghost use Rattle.bgp_update.specs.View.{routes_value};
+ghost use Rattle.bgp_open.specs.OpenFault.{open_notification, reading_of};
+ghost use Rattle.bgp_update.specs.Verdict.{has_value, verdict_of};
 ghost use Rattle.bgp_machine.specs.declared.state.State.TheVariants as state;
-ghost use Rattle.bgp_machine.specs.Table.{go, leave, reset, hold_on, unexpected, accepted, on_open, on_verdict, on_message, hears};
-ghost use Rattle.bgp_machine.specs.Session.{TakesMemory};
+ghost use Rattle.bgp_machine.specs.Heard.{has_routes, on_heard, suits, IsFaultOf, IsHeardOf, IsSaid, SaysVerdict};
+ghost use Rattle.bgp_machine.specs.Standing.{Standing};
+ghost use Rattle.bgp_machine.specs.Table.{answered, on_message, on_open, on_verdict, reset, unexpected};
 
-use crate::action::{Action, Actions};
+use crate::heard::Heard;
 use crate::phase::Phase;
 use crate::standing::Standing;
-use crate::timer::Timer;
-use bgp_frame::{Frame, HeadFault, Kind, Notification, NotificationView};
+use bgp_frame::{Frame, HeadFault, Kind, NotificationView, ShortNotification};
+use bgp_msg::notification_in;
 use bgp_numbers::error;
-use bgp_open::{Config, Context, OpenFault, agree, read_open};
-use bgp_update::{Found, UpdateView, judge_update, onward, reconcile};
-use std::alloc::{AllocError, Global};
+use bgp_open::{Config, Context, OpenFault, agree_with, view_open};
+use bgp_update::{Found, judge_update};
 
 /// The NOTIFICATION of a message whose type doesn't belong in the state: its information is the type (RFC 6608, section 3).
-fn unexpected(subcode: u8, kind: Kind) -> Notification
-    ensures { result ≡ unexpected subcode kind }
+fn unexpected(subcode: u8, kind: Kind) -> ShortNotification
+    ensures { short_value result ≡ unexpected subcode kind }
 {
-    Notification::new(error::FINITE_STATE_MACHINE, subcode, &[kind as u8])
+    ShortNotification::with_octet(error::FINITE_STATE_MACHINE, subcode, kind as u8)
+}
+
+/// The answer to a fault of an OPEN.
+fn answer_to(fault: OpenFault) -> NotificationView<'static>
+    ensures { (x : Standing) → reset x (notification_of_view result) ≡ answered x (open_notification fault) }
+{
+    match fault.answer() {
+        Some(why) => why,
+        // Only memory has none, and no view asks for memory.
+        None => NotificationView {
+            code: error::OPEN_MESSAGE,
+            subcode: error::UNSPECIFIC,
+            info: &[],
+        },
+    }
+}
+
+/// An OPEN in OpenSent.
+#[inline(never)]
+fn hear_open<'a>(config: &Config, body: &'a [u8]) -> Heard<'a>
+    requires { 10 ≤ length body.now }
+    ensures does { (x : Standing) → on_heard x result ≡ on_open config.now x (reading_of body.entry.now) }
+    ensures suits { suits state.OpenSent result ≡ true }
+    ensures said { (x : Standing) → IsSaid config.now x (record { kind = kind.Open; body = body.entry.now }) result }
+{
+    match view_open(body) {
+        Ok(open) => match agree_with(config, &open.peer()) {
+            Ok(context) => Heard::Open(open, context),
+            Err(fault) => Heard::Reset(fault.answer()),
+        },
+        Err(fault) => Heard::Reset(answer_to(fault)),
+    }
+}
+
+/// A message in OpenSent.
+#[inline(never)]
+fn hear_in_open_sent<'a>(config: &Config, frame: Frame<'a>) -> Heard<'a>
+    requires { IsLength frame.kind (19 + length frame.body.now) }
+    ensures does { (x : Standing) → on_heard x result ≡ on_message config.now x state.OpenSent frame.entry.kind frame.entry.body.now }
+    ensures suits { suits state.OpenSent result ≡ true }
+    ensures said { (x : Standing) → IsSaid config.now x (record { kind = frame.entry.kind; body = frame.entry.body.now }) result }
+{
+    match frame.kind {
+        Kind::Open => hear_open(config, frame.body),
+        Kind::Notification => Heard::Notification(notification_in(frame.body)),
+        Kind::Update | Kind::Keepalive => {
+            Heard::Refused(unexpected(error::UNEXPECTED_IN_OPEN_SENT, frame.kind))
+        }
+    }
+}
+
+/// A message in OpenConfirm.
+#[inline(never)]
+fn hear_in_open_confirm<'a>(frame: Frame<'a>) -> Heard<'a>
+    requires { IsLength frame.kind (19 + length frame.body.now) }
+    ensures does { (s : Settings) (x : Standing) → on_heard x result ≡ on_message s x state.OpenConfirm frame.entry.kind frame.entry.body.now }
+    ensures suits { suits state.OpenConfirm result ≡ true }
+    ensures said { (s : Settings) (x : Standing) → IsSaid s x (record { kind = frame.entry.kind; body = frame.entry.body.now }) result }
+{
+    match frame.kind {
+        Kind::Keepalive => Heard::Keepalive,
+        Kind::Notification => Heard::Notification(notification_in(frame.body)),
+        Kind::Open | Kind::Update => {
+            Heard::Refused(unexpected(error::UNEXPECTED_IN_OPEN_CONFIRM, frame.kind))
+        }
+    }
+}
+
+/// An UPDATE in Established.
+#[inline(always)]
+fn hear_update<'a>(context: &Context, body: &'a [u8]) -> Heard<'a>
+    requires { length body.now ≤ 4077 }
+    ensures does { (x : Standing) → on_heard x result ≡ on_verdict x (verdict_of context.now body.entry.now) }
+    ensures suits { suits state.Established result ≡ true }
+    ensures said { SaysVerdict (verdict_of context.now body.entry.now) result }
+    ensures value { has_routes result ≡ true → has_value (verdict_of context.now body.entry.now) ≡ true }
+{
+    match judge_update(context, body) {
+        Found::Take(view) => Heard::Update(view),
+        Found::Withdraw(view) => Heard::Withdraw(view),
+        Found::Reset(why) => Heard::Reset(why),
+    }
+}
+
+/// A message in Established.
+#[inline(always)]
+fn hear_in_established<'a>(context: &Context, frame: Frame<'a>) -> Heard<'a>
+    requires { IsLength frame.kind (19 + length frame.body.now) }
+    ensures does { (s : Settings) (x : Standing) → x.context ≡ Some context.now → on_heard x result ≡ on_message s x state.Established frame.entry.kind frame.entry.body.now }
+    ensures suits { suits state.Established result ≡ true }
+    ensures said { (s : Settings) (x : Standing) → x.context ≡ Some context.now → IsSaid s x (record { kind = frame.entry.kind; body = frame.entry.body.now }) result }
+    ensures update { has_routes result ≡ true → frame.entry.kind ≡ kind.Update }
+    ensures value { has_routes result ≡ true → has_value (verdict_of context.now frame.entry.body.now) ≡ true }
+{
+    match frame.kind {
+        Kind::Update => hear_update(context, frame.body),
+        Kind::Keepalive => Heard::Keepalive,
+        Kind::Notification => Heard::Notification(notification_in(frame.body)),
+        Kind::Open => { Heard::Refused(unexpected(error::UNEXPECTED_IN_ESTABLISHED, Kind::Open)) }
+    }
 }
 
 impl Standing {
-    /// The Hold Timer begins anew, where there is one.
-    #[inline(never)]
-    fn hold_on(&mut self, context: Context, actions: &mut Actions)
-        requires { length actions.old.items < 5 }
-        ensures actions { actions.new.items ≡ actions.old.items ++ hold_on (Some context) }
-        ensures after { self.new ≡ (go self.old (hold_on (Some context)) self.old.state).next }
+    /// What a whole message comes to: nothing before the connection stands.
+    #[inline(always)]
+    pub(crate) fn hear<'a>(&self, config: &Config, frame: Frame<'a>) -> Option<Heard<'a>>
+        requires { IsLength frame.kind (19 + length frame.body.now) }
+        ensures { IsHeardOf config.now self.now (record { kind = frame.entry.kind; body = frame.entry.body.now }) result }
     {
-        if context.hold > 0 {
-            actions.push(Action::Arm(Timer::Hold, context.hold));
-            self.timers = self.timers.with(Timer::Hold, true);
+        match &self.phase {
+            Phase::OpenSent => Some(hear_in_open_sent(config, frame)),
+            Phase::OpenConfirm(_, _) => Some(hear_in_open_confirm(frame)),
+            Phase::Established(context, _) => Some(hear_in_established(context, frame)),
+            Phase::Idle | Phase::Connect | Phase::Active => None,
         }
     }
 
-    /// Goes on with a peer that is accepted.
-    fn accept(&mut self, context: Context, actions: &mut Actions)
-        requires none { actions.old.items ≡ [] }
-        requires sent { self.old.state ≡ state.OpenSent }
-        ensures actions { actions.new.items ≡ (accepted self.old context).actions }
-        ensures after { self.new ≡ (accepted self.old context).next }
+    /// What a header with a fault comes to: nothing before the connection stands.
+    #[inline(never)]
+    pub(crate) fn hear_fault<'a>(&self, fault: HeadFault) -> Option<Heard<'a>>
+        ensures { IsFaultOf self.now fault result }
     {
-        actions.push(Action::SendKeepalive);
-        if context.hold > 0 {
-            actions.push(Action::Arm(Timer::Hold, context.hold));
-            actions.push(Action::Arm(Timer::Keepalive, context.hold / 3));
-            self.timers = self
-                .timers
-                .with(Timer::Hold, true)
-                .with(Timer::Keepalive, true);
+        if self.listens() {
+            Some(Heard::Refused(fault.answer()))
         } else {
-            actions.push(Action::Disarm(Timer::Hold));
-            self.timers = self.timers.with(Timer::Hold, false);
-        }
-        self.phase = Phase::OpenConfirm(context);
-    }
-
-    /// The peer's OPEN.
-    #[inline(never)]
-    fn hear_open(
-        &mut self,
-        alloc: Global,
-        config: &Config,
-        body: &[u8],
-        actions: &mut Actions,
-    ) -> Result<(), AllocError>
-        requires none { actions.old.items ≡ [] }
-        requires sent { self.old.state ≡ state.OpenSent }
-        requires long { 10 ≤ length body.now }
-        ensures actions { OnOk result (actions.new.items ≡ (on_open config.now self.old (reading_of body.now)).actions) }
-        ensures after { OnOk result (self.new ≡ (on_open config.now self.old (reading_of body.now)).next) }
-        ensures err { OnErr result (self.new ≡ self.old) }
-        ensures memory { OnErr result (open_fault body.now ≡ None) }
-        ensures empty { OnErr result (actions.new.items ≡ []) }
-    {
-        match read_open(alloc, body) {
-            Ok(open) => match agree(config, &open) {
-                Ok(context) => self.accept(context, actions),
-                Err(fault) => self.reset(fault.notification(), actions),
-            },
-            Err(OpenFault::Memory) => return Err(AllocError),
-            Err(fault) => match fault.notification() {
-                Some(why) => self.reset(why, actions),
-                None => return Err(AllocError),
-            },
-        }
-        Ok(())
-    }
-
-    /// Ends the session by a NOTIFICATION that points into the message.
-    #[inline(never)]
-    fn reset_by(&mut self, why: &NotificationView<'_>, actions: &mut Actions)
-        requires { actions.old.items ≡ [] }
-        ensures actions { actions.new.items ≡ (reset self.old (notification_of_view why.now)).actions }
-        ensures after { self.new ≡ (reset self.old (notification_of_view why.now)).next }
-    {
-        self.reset(why.own(), actions);
-    }
-
-    /// Ends the session, since a message of this type doesn't belong in its state.
-    #[inline(never)]
-    fn refuse(&mut self, subcode: u8, kind: Kind, actions: &mut Actions)
-        requires { actions.old.items ≡ [] }
-        ensures actions { actions.new.items ≡ (reset self.old (unexpected subcode kind)).actions }
-        ensures after { self.new ≡ (reset self.old (unexpected subcode kind)).next }
-    {
-        self.reset(unexpected(subcode, kind), actions);
-    }
-
-    /// An UPDATE in Established that is treated as a withdrawal.
-    #[inline(never)]
-    fn hear_withdrawal(
-        &mut self,
-        alloc: Global,
-        context: Context,
-        view: &UpdateView<'_>,
-        actions: &mut Actions,
-    ) -> Result<(), AllocError>
-        requires none { actions.old.items ≡ [] }
-        ensures actions { OnOk result (actions.new.items ≡ Withdraw (routes_value view.now) ∷ hold_on (Some context)) }
-        ensures after { OnOk result (self.new ≡ (go self.old (hold_on (Some context)) self.old.state).next) }
-        ensures err { OnErr result (self.new ≡ self.old) }
-        ensures empty { OnErr result (actions.new.items ≡ []) }
-    {
-        let routes = view.routes(alloc)?;
-        actions.push(Action::Withdraw(routes));
-        self.hold_on(context, actions);
-        Ok(())
-    }
-
-    /// An UPDATE in Established.
-    #[inline(never)]
-    fn hear_update(
-        &mut self,
-        alloc: Global,
-        context: &Context,
-        body: &[u8],
-        actions: &mut Actions,
-    ) -> Result<(), AllocError>
-        requires none { actions.old.items ≡ [] }
-        requires established { self.old.state ≡ state.Established }
-        requires agreed { self.old.context ≡ Some context.now }
-        requires short { length body.now ≤ 4077 }
-        ensures actions { OnOk result (actions.new.items ≡ (on_verdict self.old (verdict_of context.now body.now)).actions) }
-        ensures after { OnOk result (self.new ≡ (on_verdict self.old (verdict_of context.now body.now)).next) }
-        ensures err { OnErr result (self.new ≡ self.old) }
-        ensures memory { OnErr result (has_value (verdict_of context.now body.now) ≡ true) }
-        ensures empty { OnErr result (actions.new.items ≡ []) }
-    {
-        match judge_update(context, body) {
-            Found::Take(view) => {
-                let update = view.own(alloc)?;
-                let info = reconcile(alloc, &update.attrs)?;
-                actions.push(Action::Announce(onward(update), info));
-                self.hold_on(*context, actions);
-            }
-            Found::Withdraw(view) => self.hear_withdrawal(alloc, *context, &view, actions)?,
-            Found::Reset(why) => self.reset_by(&why, actions),
-        }
-        Ok(())
-    }
-
-    /// The peer ends the session.
-    #[inline(never)]
-    fn closed(&mut self, actions: &mut Actions)
-        requires { actions.old.items ≡ [] }
-        ensures actions { actions.new.items ≡ (leave self.old (Close ∷ [])).actions }
-        ensures after { self.new ≡ (leave self.old (Close ∷ [])).next }
-    {
-        actions.push(Action::Close);
-        self.leave(actions);
-    }
-
-    /// What a message does in OpenSent.
-    #[inline(never)]
-    fn hear_in_open_sent(
-        &mut self,
-        alloc: Global,
-        config: &Config,
-        frame: Frame<'_>,
-        actions: &mut Actions,
-    ) -> Result<(), AllocError>
-        requires none { actions.old.items ≡ [] }
-        requires sent { self.old.state ≡ state.OpenSent }
-        requires allowed { IsLength frame.kind (19 + length frame.body.now) }
-        ensures actions { OnOk result (actions.new.items ≡ (on_message config.now self.old state.OpenSent frame.entry.kind frame.entry.body.now).actions) }
-        ensures after { OnOk result (self.new ≡ (on_message config.now self.old state.OpenSent frame.entry.kind frame.entry.body.now).next) }
-        ensures err { OnErr result (self.new ≡ self.old) }
-        ensures kind { OnErr result (frame.entry.kind ≡ kind.Open) }
-        ensures memory { OnErr result (open_fault frame.entry.body.now ≡ None) }
-        ensures empty { OnErr result (actions.new.items ≡ []) }
-    {
-        match frame.kind {
-            Kind::Open => self.hear_open(alloc, config, frame.body, actions)?,
-            Kind::Notification => self.closed(actions),
-            Kind::Update | Kind::Keepalive => self.reset(
-                unexpected(error::UNEXPECTED_IN_OPEN_SENT, frame.kind),
-                actions,
-            ),
-        }
-        Ok(())
-    }
-
-    /// What a message does in OpenConfirm.
-    fn hear_in_open_confirm(&mut self, context: Context, kind: Kind, actions: &mut Actions)
-        requires none { actions.old.items ≡ [] }
-        requires confirms { self.old.state ≡ state.OpenConfirm }
-        requires agreed { self.old.context ≡ Some context }
-        ensures actions { (s : Settings) (body : List ℕ) → actions.new.items ≡ (on_message s self.old state.OpenConfirm kind body).actions }
-        ensures after { (s : Settings) (body : List ℕ) → self.new ≡ (on_message s self.old state.OpenConfirm kind body).next }
-    {
-        match kind {
-            Kind::Keepalive => {
-                self.phase = Phase::Established(context);
-                self.hold_on(context, actions);
-            }
-            Kind::Notification => self.closed(actions),
-            Kind::Open | Kind::Update => {
-                self.refuse(error::UNEXPECTED_IN_OPEN_CONFIRM, kind, actions)
-            }
-        }
-    }
-
-    /// What a message does in Established.
-    fn hear_in_established(
-        &mut self,
-        alloc: Global,
-        context: Context,
-        frame: Frame<'_>,
-        actions: &mut Actions,
-    ) -> Result<(), AllocError>
-        requires none { actions.old.items ≡ [] }
-        requires established { self.old.state ≡ state.Established }
-        requires agreed { self.old.context ≡ Some context }
-        requires allowed { IsLength frame.kind (19 + length frame.body.now) }
-        ensures actions { (s : Settings) → OnOk result (actions.new.items ≡ (on_message s self.old state.Established frame.entry.kind frame.entry.body.now).actions) }
-        ensures after { (s : Settings) → OnOk result (self.new ≡ (on_message s self.old state.Established frame.entry.kind frame.entry.body.now).next) }
-        ensures err { OnErr result (self.new ≡ self.old) }
-        ensures kind { OnErr result (frame.entry.kind ≡ kind.Update) }
-        ensures memory { OnErr result (has_value (verdict_of context frame.entry.body.now) ≡ true) }
-        ensures empty { OnErr result (actions.new.items ≡ []) }
-    {
-        match frame.kind {
-            Kind::Update => self.hear_update(alloc, &context, frame.body, actions)?,
-            Kind::Keepalive => self.hold_on(context, actions),
-            Kind::Notification => self.closed(actions),
-            Kind::Open => self.refuse(error::UNEXPECTED_IN_ESTABLISHED, Kind::Open, actions),
-        }
-        Ok(())
-    }
-
-    /// What a whole message does.
-    ///
-    /// # Errors
-    /// `AllocError` where an allocation failed: nothing is changed then.
-    pub(crate) fn hear(
-        &mut self,
-        alloc: Global,
-        config: &Config,
-        frame: Frame<'_>,
-        actions: &mut Actions,
-    ) -> Result<(), AllocError>
-        requires none { actions.old.items ≡ [] }
-        requires allowed { IsLength frame.kind (19 + length frame.body.now) }
-        ensures actions { OnOk result (actions.new.items ≡ (hears config.now self.old (Ok (record { kind = frame.entry.kind; body = frame.entry.body.now }))).actions) }
-        ensures after { OnOk result (self.new ≡ (hears config.now self.old (Ok (record { kind = frame.entry.kind; body = frame.entry.body.now }))).next) }
-        ensures err { OnErr result (self.new ≡ self.old) }
-        ensures memory { OnErr result (TakesMemory self.old (record { kind = frame.entry.kind; body = frame.entry.body.now })) }
-        ensures empty { OnErr result (actions.new.items ≡ []) }
-    {
-        match self.phase {
-            Phase::OpenSent => self.hear_in_open_sent(alloc, config, frame, actions),
-            Phase::OpenConfirm(context) => {
-                self.hear_in_open_confirm(context, frame.kind, actions);
-                Ok(())
-            }
-            Phase::Established(context) => {
-                self.hear_in_established(alloc, context, frame, actions)
-            }
-            _ => Ok(()),
-        }
-    }
-
-    /// What a header with a fault does.
-    pub(crate) fn hear_fault(&mut self, fault: HeadFault, actions: &mut Actions)
-        requires { actions.old.items ≡ [] }
-        ensures actions { (s : Settings) → actions.new.items ≡ (hears s self.old (Err fault)).actions }
-        ensures after { (s : Settings) → self.new ≡ (hears s self.old (Err fault)).next }
-    {
-        match self.phase {
-            Phase::Idle | Phase::Connect | Phase::Active => {}
-            _ => self.reset(fault.notification(), actions),
+            None
         }
     }
 }

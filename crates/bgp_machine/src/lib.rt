@@ -2,11 +2,16 @@
 //! in, and what is to be done comes out.
 #![tactic(auto)]
 
+mod acting;
 mod action;
+mod action_view;
+mod action_views;
 mod event;
 mod events;
+mod heard;
 mod hearing;
 pub mod laws;
+mod look;
 mod phase;
 mod send_fault;
 mod sending;
@@ -17,7 +22,11 @@ mod stepping;
 mod timer;
 
 pub use action::{Action, Actions};
+pub use action_view::ActionView;
+pub use action_views::ActionViews;
 pub use event::Event;
+pub use heard::Heard;
+pub use look::{Look, Next};
 pub use send_fault::SendFault;
 pub use session::Session;
 pub use state::State;

@@ -1,20 +1,21 @@
 //! The state of a session, with what belongs to it.
 
 ghost use Rattle.std.specs.Prelude.{◌≡◌, option_map};
-ghost use Rattle.bgp_machine.specs.Standing.{state_in, context_in};
+ghost use Rattle.bgp_open.specs.Peer.{said_of};
+ghost use Rattle.bgp_machine.specs.Standing.{state_in, context_in, peer_in};
 
 use crate::state::State;
-use bgp_open::Context;
+use bgp_open::{Context, Peer};
 
-/// The state of a session: where the peer is accepted, with what both agreed on.
-#[derive(Clone, Copy, Debug, PartialEq, Eq)]
+/// The state of a session: where the peer is accepted, with what both agreed on and what it said of itself.
+#[derive(Clone, Copy, Debug)]
 pub(crate) enum Phase {
     Idle,
     Connect,
     Active,
     OpenSent,
-    OpenConfirm(Context),
-    Established(Context),
+    OpenConfirm(Context, Peer),
+    Established(Context, Peer),
 }
 
 impl Phase {
@@ -27,8 +28,8 @@ impl Phase {
             Phase::Connect => State::Connect,
             Phase::Active => State::Active,
             Phase::OpenSent => State::OpenSent,
-            Phase::OpenConfirm(_) => State::OpenConfirm,
-            Phase::Established(_) => State::Established,
+            Phase::OpenConfirm(_, _) => State::OpenConfirm,
+            Phase::Established(_, _) => State::Established,
         }
     }
 
@@ -37,8 +38,19 @@ impl Phase {
         ensures { option_map (λ ctx. ctx.now) result ≡ context_in self.now }
     {
         match self {
-            Phase::OpenConfirm(context) => Some(context),
-            Phase::Established(context) => Some(context),
+            Phase::OpenConfirm(context, _) => Some(context),
+            Phase::Established(context, _) => Some(context),
+            _ => None,
+        }
+    }
+
+    /// What the peer said of itself.
+    pub(crate) fn peer(&self) -> Option<&Peer>
+        ensures { option_map (λ peer. said_of peer.now) result ≡ peer_in self.now }
+    {
+        match self {
+            Phase::OpenConfirm(_, peer) => Some(peer),
+            Phase::Established(_, peer) => Some(peer),
             _ => None,
         }
     }

@@ -8,7 +8,6 @@ ghost use Rattle.bgp_msg.specs.Written.{canonical, is_too_long};
 ghost use Rattle.bgp_machine.specs.Sending.{is_mixed, why_unsent, told_octets, is_told_too_long, keepalive_on, IsSent, IsRefused, IsPutFault, IsTellFault};
 
 use crate::action::{Action, Actions};
-use crate::phase::Phase;
 use crate::send_fault::SendFault;
 use crate::session::Session;
 use crate::timer::Timer;
@@ -107,7 +106,7 @@ impl Session {
         ensures fault { IfErr result (IsRefused self.now update.now) }
         ensures err { OnErr result (out.new.items ≡ out.old.items) }
     {
-        let Phase::Established(context) = self.standing.phase else {
+        let Some(context) = self.standing.established() else {
             return Err(SendFault::NotEstablished);
         };
         if let Some(why) = why_unsent(&context, update) {

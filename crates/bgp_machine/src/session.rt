@@ -1,20 +1,24 @@
 //! The session of one connection.
 
-ghost use Rattle.std.specs.Prelude.{◌≡◌, ◌≤◌, length, option_map};
+ghost use Rattle.std.specs.Prelude.{◌≡◌, ◌≤◌, ◌<◌, [], false, length, option_map};
 ghost use Rattle.bgp_frame.specs.Frame.{Waits};
+ghost use Rattle.bgp_open.specs.Peer.{said_of};
 ghost use Rattle.bgp_machine.specs.Cutting.{IsAtRest};
-ghost use Rattle.bgp_machine.specs.Standing.{runs};
+ghost use Rattle.bgp_machine.specs.Look.{gone, IsLook};
+ghost use Rattle.bgp_machine.specs.Standing.{listens, runs};
 ghost use Rattle.bgp_machine.specs.Table.{happens};
 ghost use Rattle.bgp_machine.specs.Session.{fresh, own_octets, after_event, IsFed};
 
 use crate::action::Actions;
+use crate::action_views::ActionViews;
 use crate::event::Event;
+use crate::look::{Look, Next};
 use crate::standing::Standing;
 use crate::state::State;
 use crate::timer::Timer;
 use arrayvec::ArrayVec;
-use bgp_frame::Framer;
-use bgp_open::{Config, Context, own_frame};
+use bgp_frame::{Framer, Step, front};
+use bgp_open::{Config, Context, Peer, own_frame};
 use std::marker::Model;
 
 /// One speaker's end of one connection (RFC 4271, section 8). It does no IO and knows no time: its owner tells it what happens and feeds it
@@ -67,6 +71,13 @@ impl Session {
         self.standing.phase.context()
     }
 
+    /// What the peer said of itself in the OPEN that was accepted: in OpenConfirm and in Established alone.
+    pub fn peer(&self) -> Option<&Peer>
+        ensures { option_map (λ peer. said_of peer.now) result ≡ self.now.standing.peer }
+    {
+        self.standing.phase.peer()
+    }
+
     /// Whether the timer runs.
     pub fn running(&self, timer: Timer) -> bool
         ensures { result ≡ runs self.now.standing.running timer }
@@ -87,6 +98,7 @@ impl Session {
         ensures bound { result ≤ 4096 }
         // Where what is held waits for more, nothing is left to do.
         ensures rests { Waits self.now.held → IsAtRest self.now }
+        ensures deaf { listens self.now.standing.state ≡ false → self.now.held ≡ [] }
     {
         self.framer.held()
     }
@@ -97,6 +109,16 @@ impl Session {
         ensures after { self.new ≡ after_event self.old event }
     {
         let mut actions = ArrayVec::new();
+        self.event_view(event).own_plain(&mut actions);
+        actions
+    }
+
+    /// The same, in some words.
+    pub fn event_view(&mut self, event: Event) -> ActionViews<'static>
+        ensures actions { result ≡ (happens self.old.standing event).actions }
+        ensures after { self.new ≡ after_event self.old event }
+    {
+        let mut actions = ActionViews::new();
         self.standing.happens(event, &mut actions);
         if !self.standing.listens() {
             self.framer.clear();
@@ -110,11 +132,72 @@ impl Session {
         ensures fed { IsFed self.old piece.now result self.new }
         // Where what is held waits for more, nothing is left to do.
         ensures rests { Waits self.new.held → IsAtRest self.new }
+        ensures deaf { listens self.new.standing.state ≡ false → self.new.held ≡ [] }
     {
         if self.standing.listens() {
             self.framer.feed(piece)
         } else {
             0
+        }
+    }
+
+    /// What a pull from a piece would do, without memory and without a change: none where it would feed the piece. Who goes on behind it does what
+    /// it says, and calls [`go`](Session::go) with where it leads, before the octets of the piece that it takes are passed.
+    #[inline(always)]
+    pub fn look<'a>(&'a self, piece: &'a [u8]) -> Option<Look<'a>>
+        ensures { IsLook self.now piece.entry.now result }
+    {
+        if self.framer.held() == 0 {
+            self.look_front(piece)
+        } else {
+            self.look_held(piece)
+        }
+    }
+
+    /// Goes on behind a look: what is held is let go.
+    pub fn go(&mut self, next: Next)
+        ensures { self.new ≡ gone self.old next }
+    {
+        self.standing = next.standing;
+        self.framer.clear();
+    }
+
+    /// What stands at the front of a piece, where nothing is held.
+    #[inline(always)]
+    fn look_front<'a>(&self, piece: &'a [u8]) -> Option<Look<'a>>
+        requires { self.now.held ≡ [] }
+        ensures { IsLook self.now piece.entry.now result }
+    {
+        match front(piece) {
+            Step::More => None,
+            Step::Frame(frame) => {
+                let len = frame.len;
+                let heard = self.standing.hear(&self.config, frame)?;
+                Some(Look::new(len as usize, self.standing.copy(), heard))
+            }
+            Step::Fault(fault) => {
+                let heard = self.standing.hear_fault(fault)?;
+                Some(Look::new(19, self.standing.copy(), heard))
+            }
+        }
+    }
+
+    /// What is held, where octets are.
+    #[inline(never)]
+    pub(crate) fn look_held<'a>(&'a self, piece: &[u8]) -> Option<Look<'a>>
+        requires { 0 < length self.now.held }
+        ensures { IsLook self.now piece.now result }
+    {
+        match self.framer.step() {
+            Step::More => None,
+            Step::Frame(frame) => {
+                let heard = self.standing.hear(&self.config, frame)?;
+                Some(Look::new(0, self.standing.copy(), heard))
+            }
+            Step::Fault(fault) => {
+                let heard = self.standing.hear_fault(fault)?;
+                Some(Look::new(0, self.standing.copy(), heard))
+            }
         }
     }
 }

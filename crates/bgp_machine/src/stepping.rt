@@ -1,7 +1,6 @@
 //! What a session does with the octets that it is fed.
 
 ghost use Rattle.std.specs.Prelude.{◌≡◌, ◌⊎◌, [], false, true, IfOk, OnOk, OnErr};
-ghost use Rattle.bgp_machine.specs.Standing.{listens};
 ghost use Rattle.bgp_machine.specs.Cutting.{RestsUnless, RestsBehind};
 ghost use Rattle.bgp_machine.specs.Session.{IsJudged, HeldTakesMemory};
 ghost use Rattle.bgp_machine.specs.Pulling.{IsPulled, IsFedAndStepped, FrontTakesMemory, where_found};
@@ -9,7 +8,6 @@ ghost use Rattle.bgp_machine.specs.Pulling.{IsPulled, IsFedAndStepped, FrontTake
 use crate::action::Actions;
 use crate::session::Session;
 use arrayvec::ArrayVec;
-use bgp_frame::{Step, front};
 use std::alloc::{AllocError, Global};
 
 impl Session {
@@ -25,40 +23,15 @@ impl Session {
         ensures err { OnErr result (self.new ≡ self.old) }
         ensures memory { OnErr result (HeldTakesMemory self.old) }
     {
+        let Some(look) = self.look(&[]) else {
+            let _waiting = self.held();
+            return Ok(None);
+        };
         let mut actions = ArrayVec::new();
-        if self.step_into(alloc, &mut actions)? {
-            Ok(Some(actions))
-        } else {
-            Ok(None)
-        }
-    }
-
-    /// Puts what is to be done on what is held into a set. Answers whether a message, or a header with a fault, was held.
-    fn step_into(&mut self, alloc: Global, actions: &mut Actions) -> Result<bool, AllocError>
-        requires none { actions.old.items ≡ [] }
-        ensures ok { IfOk result (λ found. IsJudged self.old (where_found found actions.new) self.new) }
-        ensures rests { IfOk result (λ found. RestsUnless (where_found found actions.new) self.new) }
-        ensures quiet { IfOk result (λ found. found ≡ false → actions.new.items ≡ []) }
-        ensures empty { OnErr result (actions.new.items ≡ []) }
-        ensures err { OnErr result (self.new ≡ self.old) }
-        ensures memory { OnErr result (HeldTakesMemory self.old) }
-    {
-        match self.framer.step() {
-            Step::More => {
-                let _waiting = self.held();
-                Ok(false)
-            }
-            Step::Frame(frame) => {
-                self.standing.hear(alloc, &self.config, frame, actions)?;
-                self.framer.clear();
-                Ok(true)
-            }
-            Step::Fault(fault) => {
-                self.standing.hear_fault(fault, actions);
-                self.framer.clear();
-                Ok(true)
-            }
-        }
+        look.own(alloc, &mut actions)?;
+        let next = look.next();
+        self.go(next);
+        Ok(Some(actions))
     }
 
     /// What is to be done on what is held, or on the message or the faulty header that the piece begins with: it is judged where it stands,
@@ -111,46 +84,14 @@ impl Session {
         ensures err { OnErr result (self.new ≡ self.old) }
         ensures memory { OnErr result (HeldTakesMemory self.old ⊎ FrontTakesMemory self.old piece.now) }
     {
-        actions.clear();
-        if !self.standing.listens() {
-            return Ok((0, false));
-        }
-        if self.framer.held() == 0 {
-            return self.pull_front(alloc, piece, actions);
-        }
-        if self.step_into(alloc, actions)? {
-            return Ok((0, true));
-        }
-        Ok((self.feed(piece), false))
-    }
-
-    /// Pulls from a piece where nothing is held.
-    fn pull_front(
-        &mut self,
-        alloc: Global,
-        piece: &[u8],
-        actions: &mut Actions,
-    ) -> Result<(usize, bool), AllocError>
-        requires hears { listens self.old.standing.state ≡ true }
-        requires none_held { self.old.held ≡ [] }
-        requires none { actions.old.items ≡ [] }
-        ensures ok { IfOk result (λ r. IsPulled self.old piece.now r.0 (where_found r.1 actions.new) self.new) }
-        ensures rests { IfOk result (λ r. RestsBehind r.0 (where_found r.1 actions.new) self.new) }
-        ensures quiet { IfOk result (λ r. r.1 ≡ false → actions.new.items ≡ []) }
-        ensures empty { OnErr result (actions.new.items ≡ []) }
-        ensures err { OnErr result (self.new ≡ self.old) }
-        ensures memory { OnErr result (FrontTakesMemory self.old piece.now) }
-    {
-        match front(piece) {
-            Step::More => Ok((self.feed(piece), false)),
-            Step::Frame(message) => {
-                self.standing.hear(alloc, &self.config, message, actions)?;
-                Ok((message.len as usize, true))
-            }
-            Step::Fault(fault) => {
-                self.standing.hear_fault(fault, actions);
-                Ok((19, true))
-            }
-        }
+        let Some(look) = self.look(piece) else {
+            actions.clear();
+            return Ok((self.feed(piece), false));
+        };
+        look.own(alloc, actions)?;
+        let taken = look.taken();
+        let next = look.next();
+        self.go(next);
+        Ok((taken, true))
     }
 }

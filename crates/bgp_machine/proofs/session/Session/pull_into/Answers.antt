@@ -1,12 +1,12 @@
-use Rattle.std.proofs.Common.{sym, subst, ◌∙◌}
-use Rattle.bgp_machine.specs.contracts.session.Session.{the_view}
-use Rattle.bgp_machine.specs.Cutting.{IsAtRest, CanRest}
-use Rattle.bgp_machine.specs.Session.{Machine}
-use Rattle.bgp_machine.proofs.Cuttings.{rests_empty}
+use Rattle.bgp_machine.proofs.Looks.{looked_pulls, fed_rests}
+use Rattle.bgp_machine.proofs.Pulls.{pulls_as_fed}
 use Rattle.bgp_machine.proofs.session.Session.pull_into.Goals as goal
 
-pub returns-then-not-listens-clause-rests : goal.returns-then-not-listens-clause-rests
-returns-then-not-listens-clause-rests c =
-    let x : Machine = the_view c.self.inside in
-    let rest : IsAtRest x = rests_empty x (c.self.invariant.0 (sym c.listens.ensures ∙ c.if-not-listens.true)) in
-    subst (λ (y : Machine). CanRest 0 y) c.self.view_is (record { none_taken = λ zero. rest; waiting = λ waits. rest })
+pub returns-in_default-clause-rests : goal.returns-in_default-clause-rests
+returns-in_default-clause-rests c =
+    fed_rests c.args.self.now c.args.piece.now c.feed.result c.feed.new.self c.feed.ensures.rests c.feed.ensures.deaf (c.in_default.ensures c.feed.result c.feed.new.self c.feed.ensures.fed)
+
+pub returns-clause-as_fed : goal.returns-clause-as_fed
+returns-clause-as_fed c =
+    pulls_as_fed _ _ _ _ _ (looked_pulls c.args.self.now c.args.piece.now c.in-Some.look c.own.new.actions c.taken-taken.result c.next-next.result c.go.new.self
+    c.in-Some.ensures c.in_ok-own.ensures.ok c.taken-taken.ensures c.next-next.ensures c.go.ensures)

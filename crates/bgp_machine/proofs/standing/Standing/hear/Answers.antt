@@ -1,27 +1,27 @@
 -- The state is that of the arm.
-use Rattle.std.proofs.Common.{◌≡◌, sym, subst, ap, ◌∙◌}
-use Rattle.std.specs.Result.{OnOk}
-use Rattle.bgp_machine.specs.declared.state.State.{State}
-use Rattle.bgp_machine.specs.Standing.{Standing, state_in}
-use Rattle.bgp_machine.specs.Table.{on_message}
+use Rattle.std.proofs.Common.{◌≡◌, Some, sym, ap, ◌∙◌}
+use Rattle.bgp_machine.specs.declared.state.State.TheVariants as state
+use Rattle.bgp_machine.specs.Standing.{Standing, state_in, context_in}
+use Rattle.bgp_machine.proofs.Hearings.{hears_in_open_sent, hears_in_open_confirm, hears_in_established}
 use Rattle.bgp_machine.proofs.standing.Standing.hear.Goals as goal
 
-pub returns-in-OpenConfirm-clause-actions : goal.returns-in-OpenConfirm-clause-actions
-returns-in-OpenConfirm-clause-actions c =
-    let arm = ap (λ (x : Standing). x.state) (sym c.self.view_is) ∙ ap state_in c.in-OpenConfirm.is in
-    subst (λ (st : State). c.hear_in_open_confirm.new.actions.items ≡ (on_message c.args.config.now c.args.self.now st c.args.frame.kind c.args.frame.body.now).actions) (sym arm) (c.hear_in_open_confirm.ensures.actions c.args.config.now c.args.frame.body.now)
+pub returns-in-OpenSent : goal.returns-in-OpenSent
+returns-in-OpenSent c =
+    let heard = c.hear_in_open_sent in
+    let arm : c.args.self.now.state ≡ state.OpenSent = ap (λ (x : Standing). x.state) (sym c.self.view_is) ∙ ap state_in c.in-OpenSent.is in
+    hears_in_open_sent c.args.config.now c.args.self.now _ heard.result (heard.ensures.said c.args.self.now) arm (heard.ensures.does c.args.self.now) heard.ensures.suits
 
-pub returns-in-OpenConfirm-clause-after : goal.returns-in-OpenConfirm-clause-after
-returns-in-OpenConfirm-clause-after c =
-    let arm = ap (λ (x : Standing). x.state) (sym c.self.view_is) ∙ ap state_in c.in-OpenConfirm.is in
-    subst (λ (st : State). c.hear_in_open_confirm.new.self ≡ (on_message c.args.config.now c.args.self.now st c.args.frame.kind c.args.frame.body.now).next) (sym arm) (c.hear_in_open_confirm.ensures.after c.args.config.now c.args.frame.body.now)
+pub returns-in-OpenConfirm : goal.returns-in-OpenConfirm
+returns-in-OpenConfirm c =
+    let heard = c.hear_in_open_confirm in
+    let arm : c.args.self.now.state ≡ state.OpenConfirm = ap (λ (x : Standing). x.state) (sym c.self.view_is) ∙ ap state_in c.in-OpenConfirm.is in
+    hears_in_open_confirm c.args.config.now c.args.self.now _ heard.result (heard.ensures.said c.args.config.now c.args.self.now) arm
+    (heard.ensures.does c.args.config.now c.args.self.now) heard.ensures.suits
 
-pub returns-in-Established-clause-actions : goal.returns-in-Established-clause-actions
-returns-in-Established-clause-actions c =
-    let arm = ap (λ (x : Standing). x.state) (sym c.self.view_is) ∙ ap state_in c.in-Established.is in
-    subst (λ (st : State). OnOk c.hear_in_established.result (c.hear_in_established.new.actions.items ≡ (on_message c.args.config.now c.args.self.now st c.args.frame.kind c.args.frame.body.now).actions)) (sym arm) (c.hear_in_established.ensures.actions c.args.config.now)
-
-pub returns-in-Established-clause-after : goal.returns-in-Established-clause-after
-returns-in-Established-clause-after c =
-    let arm = ap (λ (x : Standing). x.state) (sym c.self.view_is) ∙ ap state_in c.in-Established.is in
-    subst (λ (st : State). OnOk c.hear_in_established.result (c.hear_in_established.new.self ≡ (on_message c.args.config.now c.args.self.now st c.args.frame.kind c.args.frame.body.now).next)) (sym arm) (c.hear_in_established.ensures.after c.args.config.now)
+pub returns-in-Established : goal.returns-in-Established
+returns-in-Established c =
+    let heard = c.hear_in_established in
+    let arm : c.args.self.now.state ≡ state.Established = ap (λ (x : Standing). x.state) (sym c.self.view_is) ∙ ap state_in c.in-Established.is in
+    let agreed : c.args.self.now.context ≡ Some c.in-Established.context = ap (λ (x : Standing). x.context) (sym c.self.view_is) ∙ ap context_in c.in-Established.is in
+    hears_in_established c.args.config.now c.args.self.now _ heard.result (heard.ensures.said c.args.config.now c.args.self.now agreed) c.in-Established.context arm agreed
+    (heard.ensures.does c.args.config.now c.args.self.now agreed) heard.ensures.suits heard.ensures.update heard.ensures.value

@@ -1,0 +1,7 @@
+use Rattle.std.proofs.Common.{◌≡◌, ◌++◌, map, drop}
+use Rattle.bgp_machine.specs.ActionView.{action_of}
+use Rattle.bgp_machine.proofs.action_views.ActionViews.own_plain.Given as goal
+
+-- what is there and what is left are all
+abbrev pub invariant-loop-action : goal.invariant-loop-action
+invariant-loop-action l = l.actions.items ++ map action_of (drop l.action-index l.action-items) ≡ l.self

@@ -1,0 +1,95 @@
+-- What a session makes of what it hears, as views of it.
+use Rattle.std.specs.Prelude.{◌≡◌, Bool, true, false, [], ◌∷◌, Option, None, Some, Ok, Err}
+use Rattle.bgp_frame.specs.declared.fault.HeadFault.{HeadFault}
+use Rattle.bgp_frame.specs.declared.kind.Kind.TheVariants as kind
+use Rattle.bgp_frame.specs.Frame.{Message}
+use Rattle.bgp_frame.specs.Notification.{notification_of_view}
+use Rattle.bgp_frame.specs.ShortNotification.{short_value}
+use Rattle.bgp_open.specs.declared.context.Context.{Context}
+use Rattle.bgp_open.specs.Agreement.{agreement}
+use Rattle.bgp_open.specs.Config.{Settings}
+use Rattle.bgp_open.specs.OpenFault.{reading_of}
+use Rattle.bgp_open.specs.OpenView.{open_value}
+use Rattle.bgp_open.specs.Peer.{said_by}
+use Rattle.bgp_update.specs.declared.verdict.Verdict.{Verdict}
+use Rattle.bgp_update.specs.declared.verdict.Verdict.TheVariants as verdict
+use Rattle.bgp_update.specs.As4.{onward_of, rebuilt}
+use Rattle.bgp_update.specs.Verdict.{verdict_of}
+use Rattle.bgp_update.specs.View.{notes_value, routes_value, update_value}
+use Rattle.bgp_msg.specs.Outcome.{notification_in}
+use Rattle.bgp_machine.specs.declared.action.Action.TheVariants.{Close, Announce, Withdraw}
+use Rattle.bgp_machine.specs.declared.heard.Heard.{Heard}
+use Rattle.bgp_machine.specs.declared.heard.Heard.TheVariants as heard
+use Rattle.bgp_machine.specs.declared.state.State.{State}
+use Rattle.bgp_machine.specs.declared.state.State.TheVariants.{OpenSent, OpenConfirm, Established}
+use Rattle.bgp_machine.specs.Session.{TakesMemory}
+use Rattle.bgp_machine.specs.Standing.{Standing, listens}
+use Rattle.bgp_machine.specs.Table.{Step, accepted, go, hears, hold_on, leave, reset}
+
+-- what is done on it
+abbrev pub on_heard : Standing → Heard → Step
+on_heard x (heard.Open v ctx) = accepted x (said_by (open_value v)) ctx
+on_heard x heard.Keepalive = go x (hold_on x.context) Established
+on_heard x (heard.Update v) = go x (Announce (onward_of (update_value v)) (rebuilt (update_value v).attrs) ∷ hold_on x.context) Established
+on_heard x (heard.Withdraw v) = go x (Withdraw (routes_value v) ∷ hold_on x.context) Established
+on_heard x (heard.Notification n) = leave x (Close ∷ [])
+on_heard x (heard.Reset n) = reset x (notification_of_view n)
+on_heard x (heard.Refused n) = reset x (short_value n)
+
+-- in which state it can be heard
+abbrev pub suits : State → Heard → Bool
+suits OpenSent (heard.Open v ctx) = true
+suits OpenConfirm heard.Keepalive = true
+suits Established heard.Keepalive = true
+suits Established (heard.Update v) = true
+suits Established (heard.Withdraw v) = true
+suits _ (heard.Notification n) = true
+suits _ (heard.Reset n) = true
+suits _ (heard.Refused n) = true
+suits _ _ = false
+
+-- it has routes
+abbrev pub has_routes : Heard → Bool
+has_routes (heard.Update v) = true
+has_routes (heard.Withdraw v) = true
+has_routes _ = false
+
+-- the views are those of a verdict
+abbrev pub SaysVerdict : Verdict → Heard → Type 0
+SaysVerdict says (heard.Update v) = says ≡ verdict.Take (update_value v) (notes_value v)
+SaysVerdict says (heard.Withdraw v) = says ≡ verdict.Withdraw (routes_value v) (notes_value v)
+SaysVerdict says (heard.Reset n) = says ≡ verdict.Reset (notification_of_view n)
+SaysVerdict says _ = ⊥
+
+-- the views are those of a message's body
+abbrev pub IsSaid : Settings → Standing → Message → Heard → Type 0
+IsSaid s x m (heard.Open v ctx) = (m.kind ≡ kind.Open) × (reading_of m.body ≡ Ok (open_value v)) × (agreement s (open_value v) ≡ Ok ctx)
+IsSaid s x m heard.Keepalive = m.kind ≡ kind.Keepalive
+IsSaid s x m (heard.Update v) = (ctx : Context) → x.context ≡ Some ctx → SaysVerdict (verdict_of ctx m.body) (heard.Update v)
+IsSaid s x m (heard.Withdraw v) = (ctx : Context) → x.context ≡ Some ctx → SaysVerdict (verdict_of ctx m.body) (heard.Withdraw v)
+IsSaid s x m (heard.Notification n) = (m.kind ≡ kind.Notification) × (notification_of_view n ≡ notification_in m.body)
+IsSaid s x m (heard.Reset n) = Unit {0}
+IsSaid s x m (heard.Refused n) = Unit {0}
+
+-- what a session makes of a message that it hears
+pub record Hears (s : Settings) (x : Standing) (m : Message) (h : Heard) : Type 0 where
+  pub up : listens x.state ≡ true
+  pub does : on_heard x h ≡ hears s x (Ok m)
+  pub suits : suits x.state h ≡ true
+  pub said : IsSaid s x m h
+  pub memory : has_routes h ≡ true → TakesMemory x m
+
+abbrev pub IsHeardOf : Settings → Standing → Message → Option Heard → Type 0
+IsHeardOf s x m (Some h) = Hears s x m h
+IsHeardOf s x m None = listens x.state ≡ false
+
+-- what it makes of a header with a fault
+pub record HearsFault (x : Standing) (fault : HeadFault) (h : Heard) : Type 0 where
+  pub up : listens x.state ≡ true
+  pub does : (s : Settings) → on_heard x h ≡ hears s x (Err fault)
+  pub suits : suits x.state h ≡ true
+  pub none : has_routes h ≡ false
+
+abbrev pub IsFaultOf : Standing → HeadFault → Option Heard → Type 0
+IsFaultOf x fault (Some h) = HearsFault x fault h
+IsFaultOf x fault None = listens x.state ≡ false

@@ -1,0 +1,36 @@
+-- What a look at a session and a piece finds.
+use Rattle.std.specs.Prelude.{◌≡◌, ◌⊎◌, ◌++◌, ℕ, true, List, [], take, Option, None, Some, Ok}
+use Rattle.arrayvec.specs.ArrayVec.{ArrayVec}
+use Rattle.bgp_frame.specs.Frame.{Message}
+use Rattle.bgp_machine.specs.declared.action.Action.{Action}
+use Rattle.bgp_machine.specs.declared.heard.Heard.{Heard}
+use Rattle.bgp_machine.specs.Heard.{has_routes, on_heard, IsSaid}
+use Rattle.bgp_machine.specs.Pulling.{FrontTakesMemory, IsPulled}
+use Rattle.bgp_machine.specs.Session.{Machine, content_of, IsFed, HeldTakesMemory}
+use Rattle.bgp_machine.specs.Standing.{Standing}
+use Rattle.bgp_machine.specs.Table.{Step}
+
+-- how many octets of the piece are taken, where the session stands, and what it hears
+pub record Looked : Type 0 where
+  pub taken : ℕ
+  pub was : Standing
+  pub heard : Heard
+
+-- a session that goes on so, with nothing held
+abbrev pub gone : Machine → Standing → Machine
+gone old next = record { settings = old.settings; standing = next; held = [] }
+
+abbrev pub step_of : Looked → Step
+step_of l = on_heard l.was l.heard
+
+-- A pull takes as many octets, and gives what is to be done; the session goes on so then. Where a message is heard, the views are those of its
+-- octets
+pub record Finds (old : Machine) (piece : List ℕ) (l : Looked) : Type 0 where
+  pub pulls : (actions : ArrayVec Action) → actions.items ≡ (step_of l).actions → IsPulled old piece l.taken (Some actions) (gone old (step_of l).next)
+  pub memory : has_routes l.heard ≡ true → HeldTakesMemory old ⊎ FrontTakesMemory old piece
+  pub said : (m : Message) → content_of (old.held ++ take l.taken piece) ≡ Some (Ok m) → IsSaid old.settings old.standing m l.heard
+
+-- where nothing is heard, a feed is what a pull does
+abbrev pub IsLook : Machine → List ℕ → Option Looked → Type 0
+IsLook old piece (Some l) = Finds old piece l
+IsLook old piece None = (n : ℕ) (new : Machine) → IsFed old piece n new → IsPulled old piece n None new

@@ -1,0 +1,125 @@
+//! What is to be done, in order.
+
+ghost use Rattle.std.specs.Prelude.{◌≡◌, ◌<◌, ◌++◌, ◌∷◌, [], length, true, false, OnOk, OnErr};
+ghost use Rattle.bgp_machine.specs.ActionView.{action_of, takes_memory};
+
+use crate::action::{Action, Actions};
+use crate::action_view::ActionView;
+use arrayvec::ArrayVec;
+use bgp_update::{onward, reconcile};
+use std::alloc::{AllocError, Global};
+use std::marker::Model;
+
+/// What is to be done, in order: at most five things, in some words each and without memory.
+#[derive(Debug, Drop)]
+pub struct ActionViews<'a> {
+    list: ArrayVec<ActionView<'a>, 5>,
+}
+
+impl<'a> Model for ActionViews<'a> {
+    ghost use Rattle.std.specs.Prelude.{List, map};
+    ghost use Rattle.bgp_machine.specs.declared.action.Action.{Action};
+    ghost use Rattle.bgp_machine.specs.ActionView.{action_of};
+
+    ghost Value = { List Action };
+
+    ghost view = { λ v. map action_of v.list.items };
+}
+
+/// Puts an action that asks for no memory into a set.
+#[inline(always)]
+fn put_plain(action: &ActionView<'_>, actions: &mut Actions)
+    requires room { length actions.old.items < 5 }
+    requires plain { takes_memory (action_of action.now) ≡ false }
+    ensures { actions.new.items ≡ actions.old.items ++ action_of action.now ∷ [] }
+{
+    match action {
+        ActionView::Connect => actions.push(Action::Connect),
+        ActionView::Close => actions.push(Action::Close),
+        ActionView::SendOpen => actions.push(Action::SendOpen),
+        ActionView::SendKeepalive => actions.push(Action::SendKeepalive),
+        ActionView::SendNotification(why) => actions.push(Action::SendNotification(why.own())),
+        ActionView::Arm(timer, seconds) => actions.push(Action::Arm(*timer, *seconds)),
+        ActionView::Disarm(timer) => actions.push(Action::Disarm(*timer)),
+        ActionView::Flush => actions.push(Action::Flush),
+        ActionView::Announce(_) | ActionView::Withdraw(_) => {}
+    }
+}
+
+/// Puts an action into a set, with memory of its own.
+#[inline(always)]
+fn put(alloc: Global, action: &ActionView<'_>, actions: &mut Actions) -> Result<(), AllocError>
+    requires { length actions.old.items < 5 }
+    ensures ok { OnOk result (actions.new.items ≡ actions.old.items ++ action_of action.now ∷ []) }
+    ensures memory { OnErr result (takes_memory (action_of action.now) ≡ true) }
+{
+    match action {
+        ActionView::Announce(view) => {
+            let update = view.own(alloc)?;
+            let info = reconcile(alloc, &update.attrs)?;
+            actions.push(Action::Announce(onward(update), info));
+        }
+        ActionView::Withdraw(view) => actions.push(Action::Withdraw(view.routes(alloc)?)),
+        plain => put_plain(plain, actions),
+    }
+    Ok(())
+}
+
+impl<'a> ActionViews<'a> {
+    ghost use Rattle.std.specs.Prelude.{true, false, map};
+    ghost use Rattle.std.specs.List.{list_any};
+
+    /// Nothing is to be done.
+    pub(crate) fn new() -> ActionViews<'a>
+        ensures { result ≡ [] }
+    {
+        ActionViews {
+            list: ArrayVec::new(),
+        }
+    }
+
+    /// This too is to be done.
+    pub(crate) fn push(&mut self, action: ActionView<'a>)
+        requires { length self.old < 5 }
+        ensures { self.new ≡ self.old ++ action_of action.entry ∷ [] }
+    {
+        self.list.push(action);
+    }
+
+    /// The list.
+    pub fn as_slice(&self) -> &[ActionView<'a>]
+        ensures { map action_of result.now ≡ self.now }
+    {
+        &self.list
+    }
+
+    /// Puts the actions into a set, each with memory of its own; what was in it before is gone.
+    ///
+    /// # Errors
+    /// `AllocError` where an allocation failed: only for an announcement or a withdrawal. The set is empty then.
+    pub fn own(&self, alloc: Global, actions: &mut Actions) -> Result<(), AllocError>
+        ensures ok { OnOk result (actions.new.items ≡ self.now) }
+        ensures err { OnErr result (actions.new.items ≡ []) }
+        ensures memory { OnErr result (list_any takes_memory self.now ≡ true) }
+    {
+        actions.clear();
+        for action in self.list.iter() {
+            if put(alloc, action, actions).is_err() {
+                actions.clear();
+                return Err(AllocError);
+            }
+        }
+        Ok(())
+    }
+
+    /// Puts actions that ask for no memory into an empty set.
+    pub(crate) fn own_plain(&self, actions: &mut Actions)
+        requires none { actions.old.items ≡ [] }
+        requires plain { list_any takes_memory self.now ≡ false }
+        ensures { actions.new.items ≡ self.now }
+    {
+        for action in self.list.iter() {
+            put_plain(action, actions);
+        }
+    }
+}

@@ -1,0 +1,102 @@
+//! What a session makes of what is held, or of what a piece begins with, before anything is changed.
+
+use crate::action::Actions;
+use crate::action_views::ActionViews;
+use crate::heard::Heard;
+use crate::standing::Standing;
+use std::alloc::{AllocError, Global};
+use std::marker::Model;
+
+/// Where a session goes on: what [`Session::go`](crate::Session::go) takes.
+#[derive(Debug, Drop)]
+pub struct Next {
+    pub(crate) standing: Standing,
+}
+
+impl Model for Next {
+    ghost use Rattle.bgp_machine.specs.Standing.{Standing};
+
+    ghost Value = { Standing };
+
+    ghost view = { λ n. n.standing };
+}
+
+/// A message, or a header with a fault, as a session hears it; what is to be done on it, and where the session goes on. It takes no memory: it
+/// points into the piece, or into what the session holds.
+#[derive(Debug, Drop)]
+pub struct Look<'a> {
+    taken: usize,
+    was: Standing,
+    heard: Heard<'a>,
+}
+
+impl<'a> Model for Look<'a> {
+    ghost use Rattle.std.specs.Prelude.{◌≡◌, true};
+    ghost use Rattle.bgp_machine.specs.Heard.{suits};
+    ghost use Rattle.bgp_machine.specs.Look.{Looked};
+
+    ghost Value = { Looked };
+
+    ghost view = { λ l. record { taken = l.taken; was = l.was; heard = l.heard } };
+
+    ghost invariant = { λ l. suits l.was.state l.heard ≡ true };
+}
+
+impl<'a> Look<'a> {
+    ghost use Rattle.std.specs.Prelude.{◌≡◌, true, [], IfErr, OnOk, OnErr};
+    ghost use Rattle.bgp_machine.specs.Heard.{has_routes, on_heard, suits};
+
+    /// What was heard.
+    pub(crate) fn new(taken: usize, was: Standing, heard: Heard<'a>) -> Look<'a>
+        requires { suits was.state heard ≡ true }
+        ensures { result ≡ record { taken = taken; was = was; heard = heard.entry } }
+    {
+        Look { taken, was, heard }
+    }
+
+    /// How many octets of the piece are taken: none where what is held was heard.
+    pub fn taken(&self) -> usize
+        ensures { result ≡ self.now.taken }
+    {
+        self.taken
+    }
+
+    /// What is heard: who wants to know what the peer says reads it here.
+    pub fn heard(&self) -> &Heard<'a>
+        ensures { result.now ≡ self.now.heard }
+    {
+        &self.heard
+    }
+
+    /// What is to be done, in order.
+    pub fn actions(&'a self) -> ActionViews<'a>
+        ensures { result ≡ (on_heard self.now.was self.now.heard).actions }
+    {
+        let mut standing = self.was.copy();
+        let mut actions = ActionViews::new();
+        standing.act(&self.heard, &mut actions);
+        actions
+    }
+
+    /// Where the session goes on.
+    pub fn next(&self) -> Next
+        ensures { result ≡ (on_heard self.now.was self.now.heard).next }
+    {
+        let mut standing = self.was.copy();
+        let mut actions = ActionViews::new();
+        standing.act(&self.heard, &mut actions);
+        Next { standing }
+    }
+
+    /// Puts what is to be done into a set, each action with memory of its own; what was in it before is gone.
+    ///
+    /// # Errors
+    /// `AllocError` where an allocation failed: only for an UPDATE that doesn't end the session. The set is empty then.
+    pub fn own(&self, alloc: Global, actions: &mut Actions) -> Result<(), AllocError>
+        ensures ok { OnOk result (actions.new.items ≡ (on_heard self.now.was self.now.heard).actions) }
+        ensures err { OnErr result (actions.new.items ≡ []) }
+        ensures memory { OnErr result (has_routes self.now.heard ≡ true) }
+    {
+        self.actions().own(alloc, actions)
+    }
+}
