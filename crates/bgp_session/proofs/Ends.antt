@@ -133,7 +133,7 @@ established_notifies last is why = ap (λ (st : Stage). next st (SaidNotificatio
 abbrev pub in_state : End → State → Timers → End
 in_state e st now = with_session e (record {
   settings = e.session.settings;
-  standing = record { state = st; context = e.session.standing.context; running = now };
+  standing = record { state = st; context = e.session.standing.context; peer = e.session.standing.peer; running = now };
   held = e.session.held;
 })
 
@@ -141,7 +141,7 @@ in_state e st now = with_session e (record {
 abbrev pub gone_to : End → State → Timers → End
 gone_to e st now = away (with_session e (record {
   settings = e.session.settings;
-  standing = record { state = st; context = None; running = now };
+  standing = record { state = st; context = None; peer = None; running = now };
   held = [];
 }))
 
@@ -149,7 +149,7 @@ gone_to e st now = away (with_session e (record {
 abbrev pub idle_in : End → State → Timers → End
 idle_in e st now = with_session e (record {
   settings = e.session.settings;
-  standing = record { state = st; context = e.session.standing.context; running = now };
+  standing = record { state = st; context = e.session.standing.context; peer = e.session.standing.peer; running = now };
   held = [];
 })
 

@@ -9,6 +9,7 @@ use Rattle.bgp_open.specs.declared.context.Context.{Context}
 use Rattle.bgp_open.specs.declared.fault.OpenFault.{OpenFault}
 use Rattle.bgp_open.specs.declared.message.Open.{Open}
 use Rattle.bgp_open.specs.Agreement.{agreement, peer_notification}
+use Rattle.bgp_open.specs.Peer.{said_by}
 use Rattle.bgp_open.specs.Config.{Settings}
 use Rattle.bgp_open.specs.Own.{own_of}
 use Rattle.bgp_open.specs.OpenFault.{reading_of}
@@ -73,7 +74,7 @@ module _ (wide : Bool) (mine theirs : Settings) (allowed : Note → Type 0) (sid
   HearsNow from m = Hears wide mine theirs e other hand from m
 
   abbrev standing : State → Standing
-  standing st = record { state = st; context = e.session.standing.context; running = running }
+  standing st = record { state = st; context = e.session.standing.context; peer = e.session.standing.peer; running = running }
 
   -- what a step on a message makes of the pair: nothing is held behind it
   abbrev by_heard : Step → Pair
@@ -89,7 +90,7 @@ module _ (wide : Bool) (mine theirs : Settings) (allowed : Note → Type 0) (sid
 
   -- a session in OpenConfirm
   abbrev confirmed : Context → Timers → End
-  confirmed c now = with_session e (record { settings = e.session.settings; standing = record { state = state.OpenConfirm; context = Some c; running = now }; held = [] })
+  confirmed c now = with_session e (record { settings = e.session.settings; standing = record { state = state.OpenConfirm; context = Some c; peer = Some (said_by (own_of theirs)); running = now }; held = [] })
 
   module _ (was : Was state.OpenSent) (h : HearsNow WantsOpen SaidOpen) where
     accepts : (c : Context) → agreement e.session.settings (own_of theirs) ≡ Ok c → (now : Timers) → Sound (pair (confirmed c now) (towards other keepalive_octets) notes)
@@ -128,12 +129,12 @@ module _ (wide : Bool) (mine theirs : Settings) (allowed : Note → Type 0) (sid
         (short_fault fault) (know.refuses fault (ap (λ (s : Settings). agreement s (own_of theirs)) (sym was.this.settings) ∙ is))
 
     -- with timers, or without
-    accepted_with : (c : Context) → agreement e.session.settings (own_of theirs) ≡ Ok c → (timed : Bool) → Behind (go (agreed (standing state.OpenSent) c)
+    accepted_with : (c : Context) → agreement e.session.settings (own_of theirs) ≡ Ok c → (timed : Bool) → Behind (go (agreed (standing state.OpenSent) (said_by (own_of theirs)) c)
         (if timed then action.SendKeepalive ∷ action.Arm timer.Hold c.hold ∷ action.Arm timer.Keepalive (c.hold / 3) ∷ [] else action.SendKeepalive ∷ action.Disarm timer.Hold ∷ []) state.OpenConfirm)
     accepted_with c is true = accepts c is _
     accepted_with c is false = accepts c is _
 
-    agreement_heard : (r : Result Context PeerFault) → agreement e.session.settings (own_of theirs) ≡ r → Behind (on_agreement (standing state.OpenSent) r)
+    agreement_heard : (r : Result Context PeerFault) → agreement e.session.settings (own_of theirs) ≡ r → Behind (on_agreement (standing state.OpenSent) (said_by (own_of theirs)) r)
     agreement_heard (Ok c) is = accepted_with c is (nat_lt 0 c.hold)
     agreement_heard (Err fault) is = quietly side Sound running state.OpenSent _ (refuses fault is _)
 
@@ -148,7 +149,7 @@ module _ (wide : Bool) (mine theirs : Settings) (allowed : Note → Type 0) (sid
   established now got = record {
     session = record {
       settings = e.session.settings;
-      standing = record { state = state.Established; context = e.session.standing.context; running = now };
+      standing = record { state = state.Established; context = e.session.standing.context; peer = e.session.standing.peer; running = now };
       held = [];
     };
     left = e.left;

@@ -29,7 +29,7 @@ opening_timers t = timers_behind (action.Disarm timer.Retry ∷ action.SendOpen 
 abbrev opened_session : Machine → Machine
 opened_session x = record {
   settings = x.settings;
-  standing = record { state = state.OpenSent; context = x.standing.context; running = opening_timers x.standing.running };
+  standing = record { state = state.OpenSent; context = x.standing.context; peer = x.standing.peer; running = opening_timers x.standing.running };
   held = x.held;
 }
 
