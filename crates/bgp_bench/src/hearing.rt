@@ -2,12 +2,12 @@
 
 use crate::stream::PIECE;
 use arrayvec::ArrayVec;
-use bgp_attr::{MpReach, MpUnreach};
+use bgp_attr::{MpReach, MpReachView, MpUnreach, MpUnreachView};
 use bgp_frame::head;
-use bgp_machine::{Action, Actions, Event, Session};
+use bgp_machine::{Action, ActionView, Actions, Event, Session};
 use bgp_msg::Kind;
-use bgp_open::{BadConfig, Config, own_frame};
-use bgp_update::{Routes, Update};
+use bgp_open::{Config, own_frame};
+use bgp_update::{Routes, Update, UpdateView};
 use std::alloc::{AllocError, Global};
 use std::io;
 
@@ -17,6 +17,17 @@ struct Heard {
     actions: u64,
     announced: u64,
     withdrawn: u64,
+}
+
+/// How a session is let hear.
+#[derive(Clone, Copy)]
+pub(crate) enum By {
+    /// By sets of its own.
+    Sets,
+    /// By way of one set of actions.
+    OneSet,
+    /// By views, without memory.
+    Views,
 }
 
 fn announced_by(update: &Update) -> usize {
@@ -41,6 +52,24 @@ fn withdrawn_with(routes: &Routes) -> usize {
     routes.ip4.len().saturating_add(routes.ip6.len())
 }
 
+fn announced_in(view: &UpdateView<'_>) -> usize {
+    let reached = match view.reach() {
+        Some(MpReachView::Ip4 { nlri, .. }) => nlri.left(),
+        Some(MpReachView::Ip6 { nlri, .. }) => nlri.left(),
+        None => 0,
+    };
+    reached.saturating_add(view.nlri().left())
+}
+
+fn withdrawn_in(view: &UpdateView<'_>) -> usize {
+    let unreached = match view.unreach() {
+        Some(MpUnreachView::Ip4(routes)) => routes.left(),
+        Some(MpUnreachView::Ip6(routes)) => routes.left(),
+        None => 0,
+    };
+    unreached.saturating_add(view.withdrawn().left())
+}
+
 impl Heard {
     fn new() -> Heard {
         Heard {
@@ -56,6 +85,22 @@ impl Heard {
             Action::Withdraw(routes) => (0, withdrawn_with(routes)),
             _ => (0, 0),
         };
+        self.add(announced, withdrawn);
+    }
+
+    fn count_view(&mut self, action: &ActionView<'_>) {
+        let (announced, withdrawn) = match action {
+            ActionView::Announce(view) => (announced_in(view), withdrawn_in(view)),
+            ActionView::Withdraw(view) => (
+                0,
+                announced_in(view).saturating_add(withdrawn_in(view)),
+            ),
+            _ => (0, 0),
+        };
+        self.add(announced, withdrawn);
+    }
+
+    fn add(&mut self, announced: usize, withdrawn: usize) {
         self.actions = self.actions.saturating_add(1);
         self.announced = self.announced.saturating_add(announced as u64);
         self.withdrawn = self.withdrawn.saturating_add(withdrawn as u64);
@@ -110,6 +155,32 @@ fn hear_piece_into(
     Ok(())
 }
 
+/// Lets the session hear a piece, by views.
+fn hear_piece_by_views(session: &mut Session, piece: &[u8], heard: &mut Heard) {
+    let mut rest = piece;
+    for _turn in 0..u64::MAX {
+        let taken = match session.look(rest) {
+            Some(look) => {
+                for action in look.actions().as_slice() {
+                    heard.count_view(action);
+                }
+                let taken = look.taken();
+                let next = look.next();
+                session.go(next);
+                taken
+            }
+            None => {
+                let fed = session.feed(rest);
+                if fed == 0 {
+                    break;
+                }
+                fed
+            }
+        };
+        rest = &rest[taken..];
+    }
+}
+
 /// A session of AS 65002 that is Established with AS 65001. Both offer AS numbers of four octets, IPv4 and IPv6.
 fn established(alloc: Global) -> Result<Session, AllocError> {
     let own = Config::new(65002, 65001, [192, 0, 2, 2], 90, true, true, true).unwrap();
@@ -123,13 +194,12 @@ fn established(alloc: Global) -> Result<Session, AllocError> {
     Ok(session)
 }
 
-/// Lets an Established session hear the stream so many times, by way of one set of actions where `into` is set, and prints the counts of one
-/// time, and where the session stood then.
+/// Lets an Established session hear the stream so many times, and prints the counts of one time, and where the session stood then.
 pub(crate) fn run(
     rt: &(impl Print + AllocGlobal),
     octets: &[u8],
     rounds: u32,
-    into: bool,
+    by: By,
 ) -> io::Result<()> {
     let mut session = established(rt.alloc())?;
     let mut heard = Heard::new();
@@ -138,10 +208,12 @@ pub(crate) fn run(
         session = established(rt.alloc())?;
         heard = Heard::new();
         for piece in octets.chunks(PIECE) {
-            if into {
-                hear_piece_into(rt.alloc(), &mut session, piece, &mut actions, &mut heard)?;
-            } else {
-                hear_piece(rt.alloc(), &mut session, piece, &mut heard)?;
+            match by {
+                By::Sets => hear_piece(rt.alloc(), &mut session, piece, &mut heard)?,
+                By::OneSet => {
+                    hear_piece_into(rt.alloc(), &mut session, piece, &mut actions, &mut heard)?
+                }
+                By::Views => hear_piece_by_views(&mut session, piece, &mut heard),
             }
         }
     }

@@ -10,6 +10,7 @@ mod request;
 mod stream;
 mod viewing;
 
+use hearing::By;
 use request::{Request, Work};
 use std::io::Read;
 use std::process::ExitCode;
@@ -38,8 +39,9 @@ fn work(rt: &HostRuntime, request: Request) -> io::Result<()> {
         Work::View => viewing::run(rt, &octets, request.rounds),
         Work::Own => owning::run(rt, &octets, request.rounds),
         Work::Encode => encoding::run(rt, &octets, request.rounds),
-        Work::Session => hearing::run(rt, &octets, request.rounds, false),
-        Work::SessionInto => hearing::run(rt, &octets, request.rounds, true),
+        Work::Session => hearing::run(rt, &octets, request.rounds, By::Sets),
+        Work::SessionInto => hearing::run(rt, &octets, request.rounds, By::OneSet),
+        Work::SessionView => hearing::run(rt, &octets, request.rounds, By::Views),
     }
 }
 
@@ -52,7 +54,7 @@ fn run(rt: &HostRuntime) -> io::Result<u8> {
         }
         None => {
             eprintln!(rt;
-                "bgp_bench: the words are decode, view, own, encode, session or session-into, and how many times"
+                "bgp_bench: the words are decode, view, own, encode, session, session-into or session-view, and how many times"
             )?;
             Ok(MISUSE)
         }

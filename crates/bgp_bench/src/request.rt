@@ -15,6 +15,8 @@ pub(crate) enum Work {
     Session,
     /// A session hears it, and puts what is to be done into one set of actions.
     SessionInto,
+    /// A session hears it by views.
+    SessionView,
 }
 
 /// What is done, and how many times.
@@ -33,6 +35,7 @@ impl Work {
             "encode" => Some(Work::Encode),
             "session" => Some(Work::Session),
             "session-into" => Some(Work::SessionInto),
+            "session-view" => Some(Work::SessionView),
             _ => None,
         }
     }

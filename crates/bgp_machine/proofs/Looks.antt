@@ -43,6 +43,7 @@ module _ (s : Settings) (x : Standing) (held piece : List ℕ) where
   finds_message m n h none frame is = record {
     pulls = λ actions acts. subst (λ (hs : List ℕ). IsPulled me piece n (Some actions) (of_parts s (on_heard x h).next hs)) none
         (pulls_message s x held piece me refl is.up none m n actions (on_heard x h).next frame (acts ∙ ap (λ (t : Step). t.actions) is.does) (ap (λ (t : Step). t.next) is.does));
+    within = frame.0;
     memory = λ has. inr (front_memory s x held piece me refl is.up none m n frame (is.memory has));
     said = λ other content. said_of_content m other h (held ++ take n piece) (ap (λ (hs : List ℕ). content_of (hs ++ take n piece)) none ∙ content_of-frame m (take n piece) frame.1) content is.said;
   }
@@ -51,6 +52,7 @@ module _ (s : Settings) (x : Standing) (held piece : List ℕ) where
   finds_fault f h none faulty is = record {
     pulls = λ actions acts. subst (λ (hs : List ℕ). IsPulled me piece 19 (Some actions) (of_parts s (on_heard x h).next hs)) none
         (pulls_fault s x held piece me refl is.up none f actions (on_heard x h).next faulty (acts ∙ ap (λ (t : Step). t.actions) (is.does s)) (ap (λ (t : Step). t.next) (is.does s)));
+    within = faulty.0;
     memory = λ has. absurd (true_not (has_routes h) is.none has);
     said = λ other content. let front = faulty_front s x held piece me refl is.up none f faulty in
         absurd (not_both other f (held ++ take 19 piece) (ap (λ (hs : List ℕ). content_of (hs ++ take 19 piece)) none ∙ content_of-fault (take 19 piece) f front.0 front.1) content);
@@ -62,6 +64,7 @@ module _ (s : Settings) (x : Standing) (held piece : List ℕ) where
       none = refl;
       step = stepped_message s x held me refl m actions (on_heard x h).next [] refl frame (acts ∙ ap (λ (t : Step). t.actions) is.does) (ap (λ (t : Step). t.next) is.does);
     });
+    within = omega arith;
     memory = λ has. inl (memory_for s x held me refl m frame (is.memory has));
     said = λ other content. said_of_content m other h (held ++ []) (ap content_of (append-nil held) ∙ content_of-frame m held frame) content is.said;
   }
@@ -72,6 +75,7 @@ module _ (s : Settings) (x : Standing) (held piece : List ℕ) where
       none = refl;
       step = stepped_fault s x held me refl f actions (on_heard x h).next [] refl faulty (acts ∙ ap (λ (t : Step). t.actions) (is.does s)) (ap (λ (t : Step). t.next) (is.does s));
     });
+    within = omega arith;
     memory = λ has. absurd (true_not (has_routes h) is.none has);
     said = λ other content. absurd (not_both other f (held ++ []) (ap content_of (append-nil held) ∙ content_of-fault held f faulty.0 faulty.1) content);
   }

@@ -1,5 +1,5 @@
 -- What a look at a session and a piece finds.
-use Rattle.std.specs.Prelude.{◌≡◌, ◌⊎◌, ◌++◌, ℕ, true, List, [], take, Option, None, Some, Ok}
+use Rattle.std.specs.Prelude.{◌≡◌, ◌≤◌, ◌⊎◌, ◌++◌, ℕ, true, List, [], length, take, Option, None, Some, Ok}
 use Rattle.arrayvec.specs.ArrayVec.{ArrayVec}
 use Rattle.bgp_frame.specs.Frame.{Message}
 use Rattle.bgp_machine.specs.declared.action.Action.{Action}
@@ -27,6 +27,7 @@ step_of l = on_heard l.was l.heard
 -- octets
 pub record Finds (old : Machine) (piece : List ℕ) (l : Looked) : Type 0 where
   pub pulls : (actions : ArrayVec Action) → actions.items ≡ (step_of l).actions → IsPulled old piece l.taken (Some actions) (gone old (step_of l).next)
+  pub within : l.taken ≤ length piece
   pub memory : has_routes l.heard ≡ true → HeldTakesMemory old ⊎ FrontTakesMemory old piece
   pub said : (m : Message) → content_of (old.held ++ take l.taken piece) ≡ Some (Ok m) → IsSaid old.settings old.standing m l.heard
 

@@ -18,7 +18,8 @@ use Rattle.bgp_attr.specs.Tlv.{TlvValue, PlacedTlv, tlvs_of}
 use Rattle.bgp_attr.specs.Value.{value_of}
 use Rattle.bgp_update.specs.declared.verdict.Verdict.{Verdict}
 use Rattle.bgp_update.specs.declared.verdict.Verdict.TheVariants as verdict
-use Rattle.bgp_update.specs.Marks.{Mark, malformed, carries_routes, repeated, also, none_seen, cut_kind, placed_tlvs, marks_behind, field_marks, cut_mark, marks_of}
+use Rattle.bgp_wire.specs.OctetSet.{also, none_of_them}
+use Rattle.bgp_update.specs.Marks.{Mark, malformed, carries_routes, repeated, cut_kind, placed_tlvs, marks_behind, field_marks, cut_mark, marks_of}
 use Rattle.bgp_update.specs.Notes.{is_reachable, notes_of, routes_of}
 use Rattle.bgp_update.specs.Parts.{Parts, parts_of, has_nlri}
 use Rattle.bgp_update.specs.Taken.{update_of}
@@ -176,8 +177,8 @@ of_cut_mark at (flags ∷ rest) =
 
 of_field_marks : (ctx : Context) (nlri : Bool) (field : List ℕ) → OfMarks (field_marks ctx nlri field)
 unfolding field_marks
-of_field_marks ctx nlri field = of_both (marks_behind ctx nlri none_seen (placed_tlvs field)) (cut_mark (length field - length (tlvs_of field).1) (tlvs_of field).1)
-    (of_marks_behind ctx nlri none_seen (placed_tlvs field)) (of_cut_mark (length field - length (tlvs_of field).1) (tlvs_of field).1)
+of_field_marks ctx nlri field = of_both (marks_behind ctx nlri none_of_them (placed_tlvs field)) (cut_mark (length field - length (tlvs_of field).1) (tlvs_of field).1)
+    (of_marks_behind ctx nlri none_of_them (placed_tlvs field)) (of_cut_mark (length field - length (tlvs_of field).1) (tlvs_of field).1)
 
 -- ---- what a message comes to
 
