@@ -36,7 +36,7 @@ struct Conversation<'a> {
     /// UPDATEs that are to be sent, and how many were.
     updates: Vec<Update>,
     sent: usize,
-    /// An UPDATE couldn't be sent, the peer was silent for too long, or the connection was lost.
+    /// An UPDATE couldn't be sent, or the connection was lost.
     faulty: bool,
     messages: Option<u64>,
     until: Option<Instant>,
@@ -169,7 +169,11 @@ impl<'a> Conversation<'a> {
 
     // The status of the run.
     fn status(&self) -> u8 {
-        if self.faulty || self.ear.faulty || !self.host.observer.established {
+        if self.faulty
+            || self.ear.faulty
+            || self.host.connection.blamed
+            || !self.host.observer.established
+        {
             UNCLEAN
         } else {
             CLEAN

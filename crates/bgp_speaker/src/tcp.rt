@@ -1,8 +1,10 @@
 //! The connection to the peer, over TCP.
 
-use crate::voice::Voice;
+use crate::voice::{Voice, told_in};
+use bgp_frame::{Step, front};
 use bgp_host::Connection;
 use bgp_machine::RETRY_SECONDS;
+use bgp_numbers::error::CEASE;
 use std::io::{ErrorKind, Read, Write};
 use std::net::{TcpListener, TcpStream};
 use std::time::{Duration, Instant};
@@ -23,6 +25,8 @@ pub(crate) struct TcpConnection<'a> {
     /// When the program ends, at the latest.
     until: Option<Instant>,
     stream: Option<TcpStream>,
+    /// A NOTIFICATION was sent that isn't a Cease: the peer was at fault, or silent.
+    pub(crate) blamed: bool,
     /// A write to the output failed.
     pub(crate) mute: bool,
 }
@@ -46,6 +50,17 @@ fn set_up(stream: TcpStream) -> io::Result<TcpStream> {
     Ok(stream)
 }
 
+// Whether octets are a NOTIFICATION, but for a Cease.
+fn blames(octets: &[u8]) -> bool {
+    match front(octets) {
+        Step::Frame(frame) => match told_in(frame) {
+            Some((code, _)) => code != CEASE,
+            None => false,
+        },
+        _ => false,
+    }
+}
+
 impl<'a> TcpConnection<'a> {
     /// No connection.
     pub(crate) fn new(
@@ -60,6 +75,7 @@ impl<'a> TcpConnection<'a> {
             listens,
             until,
             stream: None,
+            blamed: false,
             mute: false,
         }
     }
@@ -149,6 +165,9 @@ impl Connection for TcpConnection<'_> {
         };
         if stream.write_all(octets).is_err() {
             return false;
+        }
+        if blames(octets) {
+            self.blamed = true;
         }
         if self.voice.sent(octets).is_err() {
             self.mute = true;

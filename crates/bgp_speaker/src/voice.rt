@@ -23,8 +23,8 @@ fn name_of(kind: Kind) -> &'static str {
     }
 }
 
-// The code and the subcode of a NOTIFICATION.
-fn told_in(frame: Frame<'_>) -> Option<(u8, u8)> {
+/// The code and the subcode of a NOTIFICATION.
+pub(crate) fn told_in(frame: Frame<'_>) -> Option<(u8, u8)> {
     match (frame.kind, frame.body) {
         (Kind::Notification, [code, subcode, ..]) => Some((*code, *subcode)),
         _ => None,
