@@ -99,7 +99,7 @@ class Bird(Daemon):
 
 class Frr(Daemon):
     name, command, package = "FRR", "/usr/lib/frr/bgpd", "frr"
-    # It reads the NLRI of an UPDATE that it treats as a withdrawal from where it stopped among the attributes, and ends the session.
+    # Version 8.4.4 ends the session so, where RFC 7606 asks for a withdrawal.
     origin_answer = "3/10"
 
     def configure(self):
@@ -158,7 +158,7 @@ class Frr(Daemon):
 
 class OpenBgpd(Daemon):
     name, command, package = "OpenBGPD", "bgpctl", "openbgpd"
-    # It ends the session as RFC 4271 (section 6.3) has it, without RFC 7606.
+    # Version 7.7 ends the session as RFC 4271, section 6.3, has it, where RFC 7606 asks for a withdrawal.
     origin_answer = "3/6"
 
     def configure(self):
