@@ -1,6 +1,7 @@
 //! The owner of a session.
 
-ghost use Rattle.std.specs.Prelude.{◌≡◌, [], ◌∷◌, IfOk, OnOk, OnErr};
+ghost use Rattle.std.specs.Prelude.{◌≡◌, [], ◌∷◌, IfOk, IfErr, OnOk, OnErr};
+ghost use Rattle.bgp_machine.specs.Sending.{IsRefused};
 ghost use Rattle.bgp_machine.specs.Session.{fresh, own_octets};
 ghost use Rattle.bgp_host.specs.declared.link.Link.TheVariants.{Same};
 ghost use Rattle.bgp_host.specs.Turns.{Told, hosted, RunsFrom, Runs, Hears, HearsSome, SendsOne};
@@ -183,6 +184,7 @@ impl<C: Connection + Drop, K: Clock + Drop, O: Observer + Drop> Host<C, K, O> {
     pub fn send(&mut self, alloc: Global, update: &Update) -> Result<(), SendFault>
         ensures ok { OnOk result (SendsOne (hosted self.old.session (C.calls self.old.connection) (K.ticks self.old.clock) (O.notices self.old.observer)) update.now
             (hosted self.new.session (C.calls self.new.connection) (K.ticks self.new.clock) (O.notices self.new.observer))) }
+        ensures fault { IfErr result (IsRefused self.old.session update.now) }
         ensures err { OnErr result (Runs (hosted self.old.session (C.calls self.old.connection) (K.ticks self.old.clock) (O.notices self.old.observer))
             [] (hosted self.new.session (C.calls self.new.connection) (K.ticks self.new.clock) (O.notices self.new.observer))) }
     {

@@ -215,14 +215,19 @@ fn run(rt: &HostRuntime, request: &Request<'_>, updates: Vec<Update>) -> io::Res
     Ok(run.status())
 }
 
-// The UPDATEs of a file, or the status where it has others.
+// The UPDATEs of a file, or the status where it can't be read or has others.
 fn updates_of(rt: &HostRuntime, file: Option<&str>) -> io::Result<Result<Vec<Update>, u8>> {
     let Some(file) = file else {
         return Ok(Ok(Vec::new(rt.alloc())));
     };
-    match read_updates(rt, file)? {
-        Found::Updates(updates) => Ok(Ok(updates)),
-        Found::Bad(at) => {
+    match read_updates(rt, file) {
+        Ok(Found::Updates(updates)) => Ok(Ok(updates)),
+        Err(error) if error.kind() == ErrorKind::OutOfMemory => Err(error),
+        Err(error) => {
+            let _ = eprintln!(rt; "bgp_speaker: {file}: {error}");
+            Ok(Err(BROKEN))
+        }
+        Ok(Found::Bad(at)) => {
             let _ = eprintln!(rt; "bgp_speaker: {file}: no UPDATE that can be sent at {at}");
             Ok(Err(UNCLEAN))
         }
