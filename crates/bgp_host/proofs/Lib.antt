@@ -1,0 +1,5 @@
+pub mod Records
+pub mod Deeds
+pub mod Turns
+pub mod Quiet
+pub mod Pulls

@@ -1,0 +1,4 @@
+//! Hosts over connections, clocks and observers that are made here.
+
+mod fakes;
+mod hosts;

@@ -1,0 +1,107 @@
+//! What the words of the command line ask for.
+
+ghost use Rattle.std.specs.Prelude.{◌≤◌, IfOk, IfSome};
+
+use crate::commands::speaker;
+use bgp_open::{BadConfig, Config};
+use clap::error::ErrorKind;
+use clap::{ArgMatches, Error};
+use std::alloc::Global;
+use std::net::Ipv4Addr;
+
+/// What the words ask for.
+#[derive(Clone, Copy)]
+pub(crate) struct Request<'a> {
+    pub(crate) config: Config,
+    /// Where the peer listens, or where it is waited for.
+    pub(crate) address: &'a str,
+    /// The peer connects.
+    pub(crate) listens: bool,
+    /// The file of the UPDATEs that are sent.
+    pub(crate) file: Option<&'a str>,
+    /// After how many messages of the peer the session is stopped.
+    pub(crate) messages: Option<u64>,
+    /// After how many seconds the session is stopped.
+    pub(crate) seconds: Option<u64>,
+    pub(crate) json: bool,
+}
+
+// An error of a value.
+fn bad(alloc: Global, text: &str) -> Error {
+    match speaker(alloc) {
+        Ok(mut command) => match command.error(ErrorKind::ValueValidation, text) {
+            Ok(error) => error,
+            Err(error) => Error::from(error),
+        },
+        Err(error) => Error::from(error),
+    }
+}
+
+// The number that an argument has, where it has one.
+fn number(
+    alloc: Global,
+    found: &ArgMatches<'_>,
+    name: &str,
+    most: u64,
+) -> Result<Option<u64>, Error>
+    ensures { IfOk result (λ found. IfSome found (λ number. number ≤ most)) }
+{
+    let Some(text) = found.get_str(name) else {
+        return Ok(None);
+    };
+    match text.parse::<u64>() {
+        Ok(number) if number <= most => Ok(Some(number)),
+        _ => {
+            let text = format!(in alloc; "--{name} needs a number of at most {most}")?;
+            Err(bad(alloc, &text))
+        }
+    }
+}
+
+// The BGP Identifier.
+fn identifier(alloc: Global, found: &ArgMatches<'_>) -> Result<[u8; 4], Error> {
+    match found.get_str("id").unwrap_or("").parse::<Ipv4Addr>() {
+        Ok(id) => Ok(id.octets()),
+        Err(_) => Err(bad(alloc, "--id needs an IPv4 address")),
+    }
+}
+
+// Why a configuration is refused.
+fn text_of(why: BadConfig) -> &'static str {
+    match why {
+        BadConfig::LocalAs => "--local-as is 0",
+        BadConfig::PeerAs => "--peer-as is 0",
+        BadConfig::Identifier => "--id is 0.0.0.0",
+        BadConfig::Hold => "--hold is 1 or 2: it is 0, or at least 3",
+        BadConfig::AsWidth => "--local-as is above 65535, and --as4 isn't offered",
+    }
+}
+
+// What the speaker is set to.
+fn config(alloc: Global, found: &ArgMatches<'_>) -> Result<Config, Error> {
+    let local_as = number(alloc, found, "local-as", u32::MAX as u64)?.unwrap_or(0) as u32;
+    let peer_as = number(alloc, found, "peer-as", u32::MAX as u64)?.unwrap_or(0) as u32;
+    let hold = number(alloc, found, "hold", u16::MAX as u64)?.unwrap_or(90) as u16;
+    let id = identifier(alloc, found)?;
+    let as4 = found.get_flag("as4");
+    let ip4 = found.get_flag("ip4");
+    let ip6 = found.get_flag("ip6");
+    match Config::new(local_as, peer_as, id, hold, as4, ip4, ip6) {
+        Ok(config) => Ok(config),
+        Err(why) => Err(bad(alloc, text_of(why))),
+    }
+}
+
+/// What the words, which stand without the program's name, ask for.
+pub(crate) fn parse<'a>(alloc: Global, words: &'a [&'a str]) -> Result<Request<'a>, Error> {
+    let found = speaker(alloc)?.try_get_matches_from(words)?;
+    Ok(Request {
+        config: config(alloc, &found)?,
+        address: found.get_str("ADDRESS").unwrap_or(""),
+        listens: found.get_flag("listen"),
+        file: found.get_str("send"),
+        messages: number(alloc, &found, "messages", u64::MAX)?,
+        seconds: number(alloc, &found, "seconds", u32::MAX as u64)?,
+        json: found.get_flag("json"),
+    })
+}
