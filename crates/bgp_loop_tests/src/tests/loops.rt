@@ -180,12 +180,7 @@ fn a_trace_to_writers_that_fail(rt: HostRuntime) {
             takes_nothing: false,
         };
         assert!(rt; REFUSED.len() <= SCRIPT_MAX);
-        let outcome = trace_loop(
-            rt.alloc(),
-            REFUSED.as_bytes(),
-            &mut MemoryWire,
-            &mut full,
-        );
+        let outcome = trace_loop(rt.alloc(), REFUSED.as_bytes(), &mut MemoryWire, &mut full);
         assert!(rt; outcome.is_ok() == (room == REFUSED_TRACE.len()));
         assert!(rt; full.text.as_slice() == &REFUSED_TRACE.as_bytes()[..room]);
     }
