@@ -1,4 +1,4 @@
-//! Scripts for a pair of speakers, and the printed form of their reports.
+//! Scripts for a pair of speakers, and the printed form of their reports and of what comes of each move.
 #![tactic(auto)]
 
 mod cut;

@@ -19,9 +19,9 @@ use Rattle.bgp_machine.specs.Standing.{listens}
 use Rattle.bgp_machine.proofs.Cuttings.{idles, waits_at, front_by_octets}
 use Rattle.bgp_machine.proofs.Held.{IsHeld-fed}
 use Rattle.bgp_session.specs.declared.side.Side.{Side}
-use Rattle.bgp_session.specs.Feeding.{IsReady, with_machine}
+use Rattle.bgp_session.specs.Feeding.{IsReady, with_machine, left_seen}
 use Rattle.bgp_session.specs.Pair.{Pair, all_acted}
-use Rattle.bgp_session.specs.Sight.{Sight, Came, Heard, observed, step_seen, settled_seen, came_if, octet_seen, octets_seen, left_seen}
+use Rattle.bgp_session.specs.Sight.{Sight, Came, Heard, observed, step_seen, settled_seen, came_if, octet_seen, octets_seen}
 use Rattle.bgp_session.proofs.Acts.{all_keeps}
 use Rattle.bgp_session.proofs.Feeds.{rests, settled_by, emptied, empty_waits, taken_up, none_left}
 use Rattle.bgp_session.proofs.Plays.{observed_both}

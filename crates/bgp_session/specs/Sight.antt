@@ -1,11 +1,11 @@
 -- What an observer of a run is told, and what comes of it in which order.
-use Rattle.std.specs.Prelude.{◌≡◌, ℕ, Bool, true, false, List, [], ◌∷◌, ◌++◌, drop, Option, None, Some}
+use Rattle.std.specs.Prelude.{ℕ, Bool, true, false, List, [], ◌∷◌, ◌++◌, Option, None, Some}
 use Rattle.bgp_open.specs.declared.context.Context.{Context}
 use Rattle.bgp_machine.specs.declared.action.Action.{Action}
 use Rattle.bgp_machine.specs.declared.event.Event.{Event}
 use Rattle.bgp_machine.specs.declared.send_fault.SendFault.{SendFault}
 use Rattle.bgp_machine.specs.declared.state.State.{State}
-use Rattle.bgp_machine.specs.Cutting.{with_octet, settled, by_octet}
+use Rattle.bgp_machine.specs.Cutting.{with_octet, by_octet}
 use Rattle.bgp_machine.specs.Sending.{refusal_of, keepalive_on}
 use Rattle.bgp_machine.specs.Session.{Machine, holding, judged}
 use Rattle.bgp_machine.specs.Standing.{listens}
@@ -69,13 +69,3 @@ tried_actions (Some fault) ctx = []
 
 abbrev pub tried_seen : Side → Machine → Update → Sight
 tried_seen side x u = Tried side (refusal_of x u) x.standing.state (tried_actions (refusal_of x u) x.standing.context)
-
--- ---- steps of the proof: what pulling a piece shows, with what is held judged first
-
-abbrev pub left_seen : Side → Machine → List ℕ → List Sight
-left_seen side x rest = settled_seen side x ++ octets_seen side (settled x).session rest
-
--- between two pulls, an observer was told what it is to be told of what was taken
-abbrev pub SeesPull : {S : Type 0} → (S → Sight → S) → S → S → Side → Machine → Machine → List ℕ → Option ℕ → Type 0
-SeesPull after s t side x y piece None = observed after s (left_seen side x piece) ≡ t
-SeesPull after s t side x y piece (Some n) = observed after s (left_seen side x piece) ≡ observed after t (left_seen side y (drop n piece))

@@ -1,7 +1,7 @@
 use Rattle.std.proofs.Common.{◌≡◌}
-use Rattle.bgp_session.specs.Feeding.{IsReady, fed_on, weight}
+use Rattle.bgp_session.specs.Feeding.{IsReady, fed_on, weight, left_seen}
 use Rattle.bgp_session.specs.Pair.{pair, fed}
-use Rattle.bgp_session.specs.Sight.{observed, octets_seen, left_seen}
+use Rattle.bgp_session.specs.Sight.{observed, octets_seen}
 use Rattle.bgp_session.proofs.acting.feed.Given as goal
 
 -- what the piece does is what its rest does on what was made so far
