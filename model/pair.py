@@ -1,7 +1,7 @@
 """Two speakers that are joined by two pipes, and the scripts of `bgp loop`. A model, for comparison."""
 import re
 
-from commands import text, told
+from commands import outcome_lines, text, told
 from wire import *
 
 UP = ("OpenSent", "OpenConfirm", "Established")
@@ -36,19 +36,26 @@ class Config:
 
 
 class Session:
-    """One end. Each call gives its actions: of ("say", octets), ("told", code, subcode), "close", "heard", "withdrawn"."""
+    """One end. Each call gives its actions: of ("say", octets), ("told", code, subcode), "close", "heard", "withdrawn", and ("does", words) for what
+    changes nothing of the pair. `judged` has the message that was judged last, and its context."""
 
     def __init__(self, config):
         self.config, self.state, self.context, self.timers, self.held = config, "Idle", None, set(), b""
+        self.judged = None
 
     def leave(self):
+        flushes = [("does", "flush")] * (self.state == "Established")
+        stops = [("does", f"disarm {it}") for it in ("retry", "hold", "keepalive") if it in self.timers]
         self.state, self.context, self.timers, self.held = "Idle", None, set(), b""
-        return []
+        return stops + flushes
+
+    def hold_on(self):
+        """The hold timer begins anew, where there is one."""
+        return [("does", f"arm hold {self.context.hold}")] * bool(self.context.hold)
 
     def end(self, fault):
         _, code, subcode, octets = fault
-        self.leave()
-        return [("told", code, subcode), ("say", message(NOTIFICATION, bytes([code, subcode]) + octets)), "close"]
+        return [("told", code, subcode), ("say", message(NOTIFICATION, bytes([code, subcode]) + octets)), "close", *self.leave()]
 
     def event(self, name, timer=None):
         if name == "expired":
@@ -58,6 +65,7 @@ class Session:
         if self.state == "Idle":
             if name == "start":
                 self.state, self.timers = "Connect", {"retry"}
+                return [("does", "arm retry 120"), ("does", "connect")]
             return []
         return self.up_event(name, timer) if self.state in UP else self.early_event(name, timer)
 
@@ -65,11 +73,11 @@ class Session:
         """In Connect and Active."""
         if name == "connected":
             self.state, self.timers = "OpenSent", {"hold"}
-            return [("say", self.config.own_open())]
+            return [("does", "disarm retry"), ("say", self.config.own_open()), ("does", "arm hold 240")]
         if name == "expired" and timer == "retry":
             closes = ["close"] * (self.state == "Connect")
             self.state, self.timers = "Connect", {"retry"}
-            return closes
+            return [*closes, ("does", "arm retry 120"), ("does", "connect")]
         if name in ("failed", "stop"):
             return ["close"] * (name == "stop") + self.leave()
         return []
@@ -79,14 +87,14 @@ class Session:
             if self.state != "OpenSent":
                 return self.leave()
             self.state, self.timers, self.held = "Active", {"retry"}, b""
-            return []
+            return [("does", "disarm hold"), ("does", "arm retry 120")]
         if name == "stop":
             return self.end(reset(6, 0))
         if name == "expired" and timer == "hold":
             return self.end(reset(4, 0))
         if name == "expired" and timer == "keepalive" and self.state != "OpenSent":
             self.timers.add("keepalive")
-            return [("say", message(KEEPALIVE, b""))]
+            return [("say", message(KEEPALIVE, b"")), ("does", f"arm keepalive {self.context.hold // 3}")]
         return []
 
     def hear(self, octet):
@@ -95,27 +103,28 @@ class Session:
             return []
         self.held += octet
         found, rest, fault = frames(self.held)
+        if fault or found:
+            self.judged, self.held = (self.held, self.context), b""
         if fault:
             return self.end(fault)
         if not found:
             return []
-        self.held = b""
         kind, body = found[0][1][18], found[0][1][19:]
         if kind == NOTIFICATION:
-            self.leave()
-            return ["close"]
+            return ["close", *self.leave()]
         if (self.state, kind) == ("OpenSent", OPEN):
             return self.hear_open(read_open(body))
         if (self.state, kind) == ("OpenConfirm", KEEPALIVE):
             self.state = "Established"
-        elif (self.state, kind) == ("Established", UPDATE):
+            return self.hold_on()
+        if (self.state, kind) == ("Established", UPDATE):
             answer = verdict(self.context, body)
             if answer[0] == "reset":
                 return self.end(answer)
-            return ["heard" if answer[0] == "take" else "withdrawn"]
-        elif (self.state, kind) != ("Established", KEEPALIVE):
-            return self.end(reset(5, 1 + UP.index(self.state), bytes([kind])))
-        return []
+            return ["heard" if answer[0] == "take" else "withdrawn", *self.hold_on()]
+        if (self.state, kind) == ("Established", KEEPALIVE):
+            return self.hold_on()
+        return self.end(reset(5, 1 + UP.index(self.state), bytes([kind])))
 
     def hear_open(self, answer):
         agreed = answer if answer[0] == "reset" else self.config.agree(*answer[1:])
@@ -123,7 +132,8 @@ class Session:
             return self.end(agreed)
         self.state, self.context = "OpenConfirm", agreed
         self.timers = {"hold", "keepalive"} if agreed.hold else set()
-        return [("say", message(KEEPALIVE, b""))]
+        arms = [f"arm hold {agreed.hold}", f"arm keepalive {agreed.hold // 3}"] if agreed.hold else ["disarm hold"]
+        return [("say", message(KEEPALIVE, b"")), *(("does", it) for it in arms)]
 
     def send(self, update):
         """The number of the refusal and nothing, or 0 and the message."""
@@ -137,12 +147,36 @@ class Session:
         return (3, b"") if octets is None else (0, octets)
 
 
+def words_of(action):
+    """An action as a trace has it; the octets of a NOTIFICATION go with its code."""
+    if isinstance(action, str):
+        return {"close": "close", "heard": "announce", "withdrawn": "withdraw"}[action]
+    if action[0] == "told":
+        return f"send NOTIFICATION {action[1]}/{action[2]}"
+    if action[0] == "does":
+        return action[1]
+    return {OPEN: "send OPEN", KEEPALIVE: "send KEEPALIVE"}.get(action[1][18])
+
+
 class Pair:
     """Two sessions, at most one connection, and the octets in flight towards each. A side that isn't in `here` has left."""
 
     def __init__(self, a, b):
         self.sessions, self.here, self.flight = {"a": Session(a), "b": Session(b)}, set(), {"a": b"", "b": b""}
         self.rounds, self.refused = [], []
+        self.trace, self.places = [], {"a": 0, "b": 0}
+
+    def made(self, words, name, *arguments):
+        """Makes a move of these words, and traces it."""
+        self.trace.append("move " + (words if name != "send" else f"send {arguments[0]}"))
+        stood = bool(self.here)
+        getattr(self, name)(*arguments)
+        if stood and not self.here:
+            self.trace.append("cut")
+
+    def shows(self, side, cause, actions):
+        """A line of the trace."""
+        self.trace.append("; ".join([f"{side} {cause}: {self.sessions[side].state}", *filter(None, map(words_of, actions))]))
 
     def leave(self, side):
         self.here.discard(side)
@@ -162,17 +196,20 @@ class Pair:
                 self.count(side, action)
             elif action[0] == "told":
                 self.count(side, "notes", f"{action[1]}/{action[2]}")
-            elif other in self.here:
+            elif action[0] == "say" and other in self.here:
                 self.flight[other] += action[1]
 
     def tell(self, side, *event):
-        self.do(side, self.sessions[side].event(*event))
+        actions = self.sessions[side].event(*event)
+        self.shows(side, " ".join(event), actions)
+        self.do(side, actions)
 
     def join(self):
         if self.here or any(it.state not in ("Connect", "Active") for it in self.sessions.values()):
             return
         self.here = {"a", "b"}
         self.rounds.append({side: {"sent": [], "heard": [], "withdrawn": [], "notes": []} for side in "ab"})
+        self.places = {"a": 0, "b": 0}
         for side in "ab":
             self.tell(side, "connected")
 
@@ -183,8 +220,21 @@ class Pair:
 
     def deliver(self, side, count):
         octets, self.flight[side] = self.flight[side][:count], self.flight[side][count:]
+        session = self.sessions[side]
         for at in range(len(octets)):
-            self.do(side, self.sessions[side].hear(octets[at : at + 1]))
+            session.judged = None
+            actions = session.hear(octets[at : at + 1])
+            if session.judged:
+                self.hears(side, *session.judged, actions)
+            self.do(side, actions)
+
+    def hears(self, side, octets, context, actions):
+        """A message was judged."""
+        _, framed, answer = seen(context or Context(), octets)[0][0]
+        first, *later = outcome_lines(self.places[side], framed, answer)
+        self.trace += [f"{side} {first}", *later]
+        self.places[side] += len(octets)
+        self.shows(side, "heard", actions)
 
     def lose(self):
         if not self.here:
@@ -196,6 +246,8 @@ class Pair:
 
     def send(self, side, update):
         number_of, octets = self.sessions[side].send(update)
+        hold = number_of == 0 and self.sessions[side].context.hold
+        self.shows(side, f"refused {number_of}" if number_of else "sends", [("does", f"arm keepalive {hold // 3}")] if hold else [])
         if number_of:
             self.refused.append(f"refused {side} {number_of}")
             return
@@ -256,7 +308,7 @@ def move_of(configs, line):
 
 
 def read_script(given):
-    """The two configurations and the moves, or the number of the lowest faulty line."""
+    """The two configurations, and the moves with their words, or the number of the lowest faulty line."""
     lines = given.decode("latin-1").split("\n")
     lines = lines[:-1] if lines[-1] == "" else lines
     configs, moves = [], []
@@ -268,17 +320,17 @@ def read_script(given):
             configs.append(found)
         else:
             found = move_of(configs, line)
-            moves.append(found)
+            moves.append((line, *(found or ())))
         if found is None:
             return at + 1
     return (configs, moves) if len(configs) == 2 else len(lines) + 1
 
 
-def loop(given):
+def loop(given, is_traced=False):
     found = read_script(given)
     if isinstance(found, int):
         return b"", told(f"script line {found}"), 1
     pair = Pair(*found[0])
-    for name, *arguments in found[1]:
-        getattr(pair, name)(*arguments)
-    return text(pair.report()), b"", 0
+    for move in found[1]:
+        pair.made(*move)
+    return text(pair.trace * is_traced + pair.report()), b"", 0

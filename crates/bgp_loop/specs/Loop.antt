@@ -1,5 +1,5 @@
 -- What running a script writes and answers.
-use Rattle.std.specs.Prelude.{◌≡◌, ◌⊎◌, ℕ, Bool, true, List, Option, Result, Ok, Err}
+use Rattle.std.specs.Prelude.{◌≡◌, ◌⊎◌, ℕ, Bool, true, List, ◌++◌, Option, Result, Ok, Err}
 use Rattle.std.specs.Io.KnownBytes.{Keeps, Appends}
 use Rattle.bgp_engine.specs.declared.tally.Tally.{Tally}
 use Rattle.bgp_engine.specs.declared.fault.ToolFault.{ToolFault}
@@ -12,6 +12,7 @@ use Rattle.bgp_session.specs.Wire.{failed_behind}
 use Rattle.bgp_script.specs.declared.script.Script.{Script}
 use Rattle.bgp_script.specs.ReportText.{report_text}
 use Rattle.bgp_script.specs.Script.{script_of}
+use Rattle.bgp_loop.specs.Trace.{trace_text}
 
 -- a wire and a writer, before a run and behind it: whether the wire is honest, its failures, and what the writer holds
 pub record Io : Type 0 where
@@ -59,6 +60,35 @@ Answers text io (Err (fault.Narrow n)) = ⊥
 Answers text io (Err fault.NoOpen) = ⊥
 Answers text io (Err fault.Net) = ⊥
 
+-- ---- what came of each move is written before the report
+
+-- what was written of the moves: over an honest wire all that an observer of them is told, and nothing else
+pub record IsTraced (text : List ℕ) (io : Io) (report : Report) (trace : List ℕ) : Type 0 where
+  pub ran : IsRun text io report
+  pub traced : io.honest ≡ true → trace ≡ trace_text ran.script report
+
+-- all of it was written, and all of the report
+pub record FinishesTrace (text : List ℕ) (io : Io) (tally : Tally) : Type 0 where
+  pub report : Report
+  pub trace : List ℕ
+  pub traced : IsTraced text io report trace
+  pub wrote : Appends io.writer_old io.writer_new (trace ++ report_text report)
+  pub counts : tally ≡ no_tally
+
+-- a front of both was written
+pub record FailsToTrace (text : List ℕ) (io : Io) : Type 0 where
+  pub report : Report
+  pub trace : List ℕ
+  pub traced : IsTraced text io report trace
+  pub wrote : AppendsFront io.writer_old io.writer_new (trace ++ report_text report)
+
+abbrev pub AnswersTrace : List ℕ → Io → Result Tally ToolFault → Type 0
+AnswersTrace text io (Ok tally) = FinishesTrace text io tally
+AnswersTrace text io (Err fault.Memory) = Keeps io.writer_old io.writer_new
+AnswersTrace text io (Err fault.Write) = FailsToTrace text io
+AnswersTrace text io (Err (fault.Script n)) = IsFaulty text io n
+AnswersTrace text io (Err _) = ⊥
+
 -- ---- a script in a file
 
 -- the file had some text, and its script was run over a wire that is honest and had not failed
@@ -83,3 +113,13 @@ IsOfSetUp _ = ⊥
 abbrev pub RunsFile : Option (List ℕ) → Option (List ℕ) → Result Tally ToolFault → Type 0
 RunsFile writer_old writer_new outcome =
     IsOfText writer_old writer_new outcome ⊎ (((fault : ToolFault) × (outcome ≡ Err fault) × IsOfSetUp fault) × Keeps writer_old writer_new)
+
+-- the same with what came of each move
+pub record IsOfTextTraced (writer_old writer_new : Option (List ℕ)) (outcome : Result Tally ToolFault) : Type 0 where
+  pub text : List ℕ
+  pub failures : ℕ
+  pub answers : AnswersTrace text (record { honest = true; failed_old = 0; failed_new = failures; writer_old = writer_old; writer_new = writer_new }) outcome
+
+abbrev pub TracesFile : Option (List ℕ) → Option (List ℕ) → Result Tally ToolFault → Type 0
+TracesFile writer_old writer_new outcome =
+    IsOfTextTraced writer_old writer_new outcome ⊎ (((fault : ToolFault) × (outcome ≡ Err fault) × IsOfSetUp fault) × Keeps writer_old writer_new)

@@ -1,10 +1,11 @@
 //! What stands in a file: its octets, and a script that is run.
 
 ghost use Rattle.std.specs.Prelude.{◌≤◌, length, IfOk, IfErr};
-ghost use Rattle.bgp_loop.specs.Loop.{IsOfFile, RunsFile};
+ghost use Rattle.bgp_loop.specs.Loop.{IsOfFile, RunsFile, TracesFile};
 
 use crate::running::run_loop;
 use crate::tcp::TcpWire;
+use crate::tracing::trace_loop;
 use bgp_engine::{Tally, ToolFault};
 use bgp_script::SCRIPT_MAX;
 use bgp_session::MemoryWire;
@@ -72,6 +73,32 @@ pub fn run_file<R: Files + Net, W: Write>(
     }
     match TcpWire::new(rt) {
         Ok(mut wire) => run_loop(alloc, &text, &mut wire, output),
+        Err(fault) => Err(fault),
+    }
+}
+
+/// As [`run_file`], with what came of each move before the report, as [`trace_loop`] writes it.
+///
+/// # Errors
+/// As `run_file`.
+pub fn trace_file<R: Files + Net, W: Write>(
+    rt: &R,
+    alloc: Global,
+    path: &str,
+    tcp: bool,
+    output: &mut W,
+) -> Result<Tally, ToolFault>
+    ensures { TracesFile (W.contents output.old) (W.contents output.new) result }
+{
+    let text = match text_of_file(rt, alloc, path) {
+        Ok(text) => text,
+        Err(fault) => return Err(fault),
+    };
+    if !tcp {
+        return trace_loop(alloc, &text, &mut MemoryWire, output);
+    }
+    match TcpWire::new(rt) {
+        Ok(mut wire) => trace_loop(alloc, &text, &mut wire, output),
         Err(fault) => Err(fault),
     }
 }

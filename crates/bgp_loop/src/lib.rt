@@ -4,7 +4,10 @@
 mod file;
 mod running;
 mod tcp;
+mod tracer;
+mod tracing;
 
-pub use file::{read_file, run_file};
+pub use file::{read_file, run_file, trace_file};
 pub use running::run_loop;
 pub use tcp::TcpWire;
+pub use tracing::trace_loop;

@@ -3,7 +3,7 @@
 ghost use Rattle.std.specs.Prelude.{◌≡◌, ◌≤◌, length, IfOk};
 ghost use Rattle.std.specs.String.{string_bytes};
 ghost use Rattle.bgp_script.specs.ReportText.{report_text};
-ghost use Rattle.bgp_loop.specs.Loop.{Answers, IsRun};
+ghost use Rattle.bgp_loop.specs.Loop.{Answers};
 
 use bgp_engine::{End, Tally, ToolFault, put};
 use bgp_script::{SCRIPT_MAX, ScriptFault, put_report, read_script};
@@ -12,7 +12,7 @@ use std::alloc::{AllocError, Global};
 use std::io::Write;
 
 /// Nothing is counted where a script is run.
-const NO_TALLY: Tally = Tally {
+pub(crate) const NO_TALLY: Tally = Tally {
     messages: 0,
     took: 0,
     withdrawn: 0,

@@ -9,5 +9,6 @@ pub mod Script
 pub mod ScriptFault
 pub mod NoteList
 pub mod ReportText
+pub mod TraceText
 pub mod Faults
 pub mod Cursor

@@ -8,8 +8,8 @@ ghost use Rattle.bgp_script.specs.NoteList.{side_name, is_same, mark_of, own_not
 use bgp_session::Side;
 use std::alloc::AllocError;
 
-/// The name of a side.
-pub(crate) fn side_name(side: Side) -> &'static str
+/// The name of a side, as scripts and reports have it.
+pub fn side_name(side: Side) -> &'static str
     ensures { result.now ≡ side_name side }
 {
     match side {

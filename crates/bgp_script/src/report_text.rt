@@ -59,8 +59,8 @@ fn put_rounds(text: &mut String, rounds: &[Round]) -> Result<(), AllocError>
     Ok(())
 }
 
-// The number of a fault.
-fn fault_number(fault: &SendFault) -> u8
+/// The number of a fault.
+pub(crate) fn fault_number(fault: &SendFault) -> u8
     ensures { result ≡ fault_number fault.now }
 {
     match fault {
@@ -89,8 +89,8 @@ fn put_all_refused(text: &mut String, refused: &[(Side, SendFault)]) -> Result<(
     Ok(())
 }
 
-// The name of a state.
-fn state_name(state: State) -> &'static str
+/// The name of a state.
+pub(crate) fn state_name(state: State) -> &'static str
     ensures { result.now ≡ state_name state }
 {
     match state {

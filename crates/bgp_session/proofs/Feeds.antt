@@ -44,16 +44,16 @@ left_settings x rest = octets_settings (settled x).session rest ∙ settled_sett
 abbrev done : List Action → Machine → Done
 done actions x = record { actions = actions; session = x }
 
-rests : (x : Machine) → Waits x.held → settled x ≡ done [] x
+pub rests : (x : Machine) → Waits x.held → settled x ≡ done [] x
 rests x waits = ap (done_by x) (idles x waits)
 
-settled_by : (x : Machine) (actions : List Action) (y : Machine) → Does x actions y → settled x ≡ done actions y
+pub settled_by : (x : Machine) (actions : List Action) (y : Machine) → Does x actions y → settled x ≡ done actions y
 settled_by x actions y d = ap (done_by x) d.judged_so ∙ ap (λ (acts : List Action). done acts (after_step x d.step)) (sym d.does) ∙ ap (done actions) (sym d.leaves)
 
-emptied : (x : Machine) (actions : List Action) (y : Machine) → Does x actions y → y.held ≡ []
+pub emptied : (x : Machine) (actions : List Action) (y : Machine) → Does x actions y → y.held ≡ []
 emptied x actions y d = ap (λ (m : Machine). m.held) d.leaves
 
-empty_waits : (x : Machine) → x.held ≡ [] → Waits x.held
+pub empty_waits : (x : Machine) → x.held ≡ [] → Waits x.held
 empty_waits x none = subst Waits (sym none) nothing_waits
 
 ready_empty : (x : Machine) → x.held ≡ [] → IsReady x
@@ -125,11 +125,11 @@ some_taken zero piece some = absurd (omega arith)
 some_taken (suc n) piece some = omega arith
 
 -- the count of a session that listens
-taken_up : (up : Bool) (held piece : List ℕ) (n : ℕ) → up ≡ true → CountsFed up held piece n → CountsFed true held piece n
+pub taken_up : (up : Bool) (held piece : List ℕ) (n : ℕ) → up ≡ true → CountsFed up held piece n → CountsFed true held piece n
 taken_up true held piece n is counts = counts
 taken_up false held piece n is counts = absurd (let not : false ≡ true = is in cc)
 
-none_left : (piece : List ℕ) → (0 < length piece → 0 < 0) → piece ≡ []
+pub none_left : (piece : List ℕ) → (0 < length piece → 0 < 0) → piece ≡ []
 none_left [] none = refl
 none_left (octet ∷ piece) none = absurd (let not : 0 < 0 = none (omega arith) in omega arith)
 

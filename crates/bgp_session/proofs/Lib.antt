@@ -2,6 +2,7 @@
 pub mod Acts
 pub mod Feeds
 pub mod Plays
+pub mod Sights
 pub mod Ranges
 pub mod Handed
 pub mod Resting

@@ -1,17 +1,18 @@
 -- How turns over a wire are put together.
-use Rattle.std.proofs.Common.{◌≡◌, ℕ, zero, suc, ◌+◌, ◌<◌, ◌≤◌, Bool, true, false, List, [], ◌∷◌, ◌++◌, length, take, drop, get_or, if◌then◌else◌, ◌==◌, refl, sym, ap, ap₂, Option, None, Some, Result, Ok, Err, subst, ◌∙◌, append_assoc, arith}
+use Rattle.std.proofs.Common.{◌≡◌, ℕ, zero, suc, ◌+◌, ◌<◌, ◌≤◌, Bool, true, false, List, [], ◌∷◌, ◌++◌, length, map, take, drop, get_or, if◌then◌else◌, ◌==◌, refl, sym, ap, ap₂, Option, None, Some, Result, Ok, Err, subst, ◌∙◌, append_assoc, arith}
 use Rattle.std.specs.Result.{OnOk}
 use Rattle.std.proofs.lemmas.List.{append-nil, length-drop, length-take}
 use Rattle.std.proofs.Math.Dec.{eqb-suc-zero}
 use Rattle.std.proofs.Math.Seq.{take-suc}
 use Rattle.bgp_session.specs.declared.moves.Move.{Move}
 use Rattle.bgp_session.specs.declared.side.Side.{Side}
-use Rattle.bgp_session.specs.Playing.{Wired, Gives, PlaysOn, Plays, Delivers, Passes}
-use Rattle.bgp_session.specs.Wire.{failed_after, failed_behind, Call, Joined, Handed, Cut, Grows, answers_in, Trace}
-use Rattle.bgp_session.specs.World.{World, end_of, stands, Ran, ran, asked, answer_of, later_of, delivers_on, delivered, drawn, delivers, moved, cut_behind, cut_if, played, all_moved}
+use Rattle.bgp_session.specs.Playing.{Wired, Gives, Observes, PlaysOn, Plays, Delivers, passed_seen, Passes}
+use Rattle.bgp_session.specs.Sight.{Sight, Begun, observed}
+use Rattle.bgp_session.specs.Wire.{failed_after, failed_behind, Call, Joined, Handed, Cut, Grows, answers_in, Trace, trace}
+use Rattle.bgp_session.specs.World.{World, end_of, stands, feeds_seen, lost_seen, Turn, Asks, Shows, calls_in, sights_in, Ran, ran, behind, shown, asked, answer_of, later_of, joins, joins_seen, joined_if, delivers_on, delivered, drawn, delivers, moved, cut_behind, cut_if, played, all_moved}
 
-abbrev pub wired : Bool → List Bool → List Bool → Trace → Trace → Wired
-wired honest old new trace_old trace_new = record { honest = honest; old = old; new = new; trace_old = trace_old; trace_new = trace_new }
+abbrev pub wired : {S : Type 0} → Bool → (S → Sight → S) → List Bool → List Bool → Trace S → Trace S → Wired S
+wired honest after old new trace_old trace_new = record { honest = honest; after = after; old = old; new = new; trace_old = trace_old; trace_new = trace_new }
 
 failed_both : (n : ℕ) (a b : List Bool) → failed_behind n (a ++ b) ≡ failed_behind (failed_behind n a) b
 failed_both n [] b = refl
@@ -35,77 +36,181 @@ answers_both (Joined answer ∷ a) b = ap (λ (l : List Bool). answer ∷ l) (an
 answers_both (Handed to octets answer ∷ a) b = ap (λ (l : List Bool). answer ∷ l) (answers_both a b)
 answers_both (Cut ∷ a) b = answers_both a b
 
-no_answer : (stood stays : Bool) → answers_in (cut_behind stood stays) ≡ []
+-- the calls of turns behind turns, and what they show
+pub calls_both : (a b : List Turn) → calls_in (a ++ b) ≡ calls_in a ++ calls_in b
+calls_both [] b = refl
+calls_both (Asks call ∷ a) b = ap (λ (l : List Call). call ∷ l) (calls_both a b)
+calls_both (Shows sight ∷ a) b = calls_both a b
+
+sights_both : (a b : List Turn) → sights_in (a ++ b) ≡ sights_in a ++ sights_in b
+sights_both [] b = refl
+sights_both (Asks call ∷ a) b = sights_both a b
+sights_both (Shows sight ∷ a) b = ap (λ (l : List Sight). sight ∷ l) (sights_both a b)
+
+pub calls_shown : (sights : List Sight) → calls_in (map Shows sights) ≡ []
+calls_shown [] = refl
+calls_shown (sight ∷ later) = calls_shown later
+
+pub sights_shown : (sights : List Sight) → sights_in (map Shows sights) ≡ sights
+sights_shown [] = refl
+sights_shown (sight ∷ later) = ap (λ (l : List Sight). sight ∷ l) (sights_shown later)
+
+pub observed_both : {S : Type 0} (after : S → Sight → S) (s : S) (a b : List Sight) → observed after s (a ++ b) ≡ observed after (observed after s a) b
+observed_both after s [] b = refl
+observed_both after s (sight ∷ a) b = observed_both after (after s sight) a b
+
+no_answer : (stood stays : Bool) → answers_in (calls_in (cut_behind stood stays)) ≡ []
 no_answer true true = refl
 no_answer true false = refl
 no_answer false stays = refl
 
--- calls behind calls
-asked_both : (a b : List Call) (r : Ran) → asked a (asked b r) ≡ asked (a ++ b) r
-asked_both a b r = ap (λ (calls : List Call). let all : Ran = record { world = r.world; answers = r.answers; calls = calls } in all) (sym (append_assoc a b r.calls))
+abbrev with_turns : Ran → List Turn → Ran
+with_turns r turns = record { world = r.world; answers = r.answers; turns = turns }
 
-module _ (honest : Bool) where
+-- turns behind turns
+behind_both : (a b : List Turn) (r : Ran) → behind a (behind b r) ≡ behind (a ++ b) r
+behind_both a b r = ap (with_turns r) (sym (append_assoc a b r.turns))
+
+module _ {S : Type 0} (honest : Bool) (after : S → Sight → S) where
   -- no answer was given
-  pub gives_none : (answers : List Bool) (at : Trace) → Gives (wired honest answers answers at at) [] []
+  pub gives_none : (answers : List Bool) (at : Trace S) → Gives (wired honest after answers answers at at) [] []
   gives_none answers at = record { told = sym (append-nil answers); counted = refl; kept = grows_none at.calls; gave = refl }
 
-  module _ (old mid new : List Bool) (trace_old trace_mid trace_new : Trace) where
-    pub gives_both : (a b : List Bool) (c d : List Call) → Gives (wired honest old mid trace_old trace_mid) a c → Gives (wired honest mid new trace_mid trace_new) b d
-        → Gives (wired honest old new trace_old trace_new) (a ++ b) (c ++ d)
+  -- no answer was given, and this was shown
+  pub gives_shown : (answers : List Bool) (old new : Trace S) (sights : List Sight) → new.failed ≡ old.failed → Grows old.calls new.calls []
+      → Gives (wired honest after answers answers old new) [] (map Shows sights)
+  gives_shown answers old new sights same kept = record {
+    told = sym (append-nil answers);
+    counted = same;
+    kept = subst (λ (calls : List Call). Grows old.calls new.calls calls) (sym (calls_shown sights)) kept;
+    gave = ap answers_in (calls_shown sights);
+  }
+
+  module _ (old mid new : List Bool) (trace_old trace_mid trace_new : Trace S) where
+    pub gives_both : (a b : List Bool) (c d : List Turn) → Gives (wired honest after old mid trace_old trace_mid) a c → Gives (wired honest after mid new trace_mid trace_new) b d
+        → Gives (wired honest after old new trace_old trace_new) (a ++ b) (c ++ d)
     gives_both a b c d first second = record {
       told = second.told ∙ ap (λ (l : List Bool). l ++ b) first.told ∙ append_assoc old a b;
       counted = second.counted ∙ ap (λ (n : ℕ). failed_behind n b) first.counted ∙ sym (failed_both trace_old.failed a b);
-      kept = grows_both trace_old.calls trace_mid.calls trace_new.calls c d first.kept second.kept;
-      gave = answers_both c d ∙ ap₂ (λ (l m : List Bool). l ++ m) first.gave second.gave;
+      kept = subst (λ (calls : List Call). Grows trace_old.calls trace_new.calls calls) (sym (calls_both c d))
+          (grows_both trace_old.calls trace_mid.calls trace_new.calls (calls_in c) (calls_in d) first.kept second.kept);
+      gave = ap answers_in (calls_both c d) ∙ answers_both (calls_in c) (calls_in d) ∙ ap₂ (λ (l m : List Bool). l ++ m) first.gave second.gave;
     }
 
+    pub observes_both : (c d : List Turn) → Observes (wired honest after old mid trace_old trace_mid) c → Observes (wired honest after mid new trace_mid trace_new) d
+        → Observes (wired honest after old new trace_old trace_new) (c ++ d)
+    observes_both c d first second =
+        second ∙ ap (λ (s : S). observed after s (sights_in d)) first ∙ sym (observed_both after trace_old.seen (sights_in c) (sights_in d))
+        ∙ ap (observed after trace_old.seen) (sym (sights_both c d))
+
     -- a part of a turn was played, and then the rest of it
-    pub plays_both : (turn between rest : List Bool → Ran) → PlaysOn (wired honest old mid trace_old trace_mid) turn between
-        → PlaysOn (wired honest mid new trace_mid trace_new) between rest → PlaysOn (wired honest old new trace_old trace_new) turn rest
+    pub plays_both : (turn between rest : List Bool → Ran) → PlaysOn (wired honest after old mid trace_old trace_mid) turn between
+        → PlaysOn (wired honest after mid new trace_mid trace_new) between rest → PlaysOn (wired honest after old new trace_old trace_new) turn rest
     plays_both turn between rest first second = record {
       given = first.given ++ second.given;
-      calls = first.calls ++ second.calls;
-      answers = gives_both first.given second.given first.calls second.calls first.answers second.answers;
+      turns = first.turns ++ second.turns;
+      answers = gives_both first.given second.given first.turns second.turns first.answers second.answers;
+      observes = λ is. observes_both first.turns second.turns (first.observes is) (second.observes is);
       goes_on = λ is later.
           ap turn (append_assoc first.given second.given later)
           ∙ first.goes_on is (second.given ++ later)
-          ∙ ap (asked first.calls) (second.goes_on is later)
-          ∙ asked_both first.calls second.calls (rest later);
+          ∙ ap (behind first.turns) (second.goes_on is later)
+          ∙ behind_both first.turns second.turns (rest later);
     }
 
-  -- a turn that asks nothing of the wire
-  pub plays_quietly : (answers : List Bool) (at : Trace) (turn rest : List Bool → Ran) → ((later : List Bool) → turn later ≡ rest later)
-      → PlaysOn (wired honest answers answers at at) turn rest
-  plays_quietly answers at turn rest same = record { given = []; calls = []; answers = gives_none answers at; goes_on = λ is later. same later }
+  -- a turn that asks nothing of the wire, and shows nothing
+  pub plays_quietly : (answers : List Bool) (at : Trace S) (turn rest : List Bool → Ran) → ((later : List Bool) → turn later ≡ rest later)
+      → PlaysOn (wired honest after answers answers at at) turn rest
+  plays_quietly answers at turn rest same = record {
+    given = [];
+    turns = [];
+    answers = gives_none answers at;
+    observes = λ is. refl;
+    goes_on = λ is later. same later;
+  }
+
+-- where a call succeeds, the rest of it holds too
+both_ok : {T E P Q R : Type 0} → (P → Q → R) → (r : Result T E) → OnOk r P → OnOk r Q → OnOk r R
+both_ok f (Ok v) p q = f p q
+both_ok f (Err e) p q = tt
+
+-- what a call ensures where it succeeds is enough
+pub ok_so : {T E P Q : Type 0} → (P → Q) → (r : Result T E) → OnOk r P → OnOk r Q
+ok_so f (Ok v) p = f p
+ok_so f (Err e) p = tt
 
 -- a move that asks nothing of the wire was made
-pub moves_quietly : {T E : Type 0} (honest : Bool) (answers : List Bool) (at : Trace) (one two : Move) (w v made : World) (r : Result T E) → one ≡ two
-    → ((later : List Bool) → moved two w later ≡ ran made later) → OnOk r (v ≡ made) → OnOk r (Plays (wired honest answers answers at at) (moved one w) v)
-moves_quietly honest answers at one two w v made (Ok x) is same told =
-    plays_quietly honest answers at (moved one w) (ran v) (λ later. ap (λ (m : Move). moved m w later) is ∙ same later ∙ sym (ap (λ (x : World). ran x later) told))
-moves_quietly honest answers at one two w v made (Err e) is same told = tt
+pub moves_shown : {S : Type 0} (honest : Bool) (after : S → Sight → S) (answers : List Bool) (old new : Trace S) (one two : Move) (w v made : World) (sights : List Sight) → one ≡ two
+    → ((later : List Bool) → moved two w later ≡ shown sights (ran made later)) → new.failed ≡ old.failed → Grows old.calls new.calls []
+    → v ≡ made → new.seen ≡ observed after old.seen sights → Plays (wired honest after answers answers old new) (moved one w) v
+moves_shown honest after answers old new one two w v made sights is same failed kept told seen = record {
+  given = [];
+  turns = map Shows sights;
+  answers = gives_shown honest after answers old new sights failed kept;
+  observes = λ fair. seen ∙ ap (observed after old.seen) (sym (sights_shown sights));
+  goes_on = λ fair later. ap (λ (m : Move). moved m w later) is ∙ same later ∙ ap (λ (x : World). shown sights (ran x later)) (sym told);
+}
+
+pub moves_quietly : {S T E : Type 0} (honest : Bool) (after : S → Sight → S) (answers : List Bool) (failed : ℕ) (calls : Option (List Call)) (s t : S) (one two : Move) (w v made : World)
+    (sights : List Sight) (r : Result T E) → one ≡ two → ((later : List Bool) → moved two w later ≡ shown sights (ran made later))
+    → OnOk r (v ≡ made) → OnOk r (t ≡ observed after s sights) → OnOk r (Plays (wired honest after answers answers (trace failed calls s) (trace failed calls t)) (moved one w) v)
+moves_quietly honest after answers failed calls s t one two w v made sights r is same told seen =
+    both_ok (moves_shown honest after answers (trace failed calls s) (trace failed calls t) one two w v made sights is same refl (grows_none calls)) r told seen
+
+-- both sides were told what the wire answered
+pub joins_asked : {S T E : Type 0} (honest : Bool) (after : S → Sight → S) (old new : List Bool) (trace_old trace_new : Trace S) (w v : World) (can answer : Bool) (r : Result T E)
+    → can ≡ true → new ≡ old ++ answer ∷ [] → trace_new.failed ≡ failed_after trace_old.failed answer → Grows trace_old.calls trace_new.calls (Joined answer ∷ [])
+    → OnOk r (v ≡ joins answer w) → OnOk r (trace_new.seen ≡ observed after trace_old.seen (joins_seen answer w))
+    → OnOk r (Plays (wired honest after old new trace_old trace_new) (joined_if can w) v)
+joins_asked honest after old new trace_old trace_new w v can answer r is told counted kept made seen =
+    both_ok (λ same sees. record {
+      given = answer ∷ [];
+      turns = Asks (Joined answer) ∷ map Shows (joins_seen answer w);
+      answers = record {
+        told = told;
+        counted = counted;
+        kept = subst (λ (calls : List Call). Grows trace_old.calls trace_new.calls (Joined answer ∷ calls)) (sym (calls_shown (joins_seen answer w))) kept;
+        gave = ap (λ (calls : List Call). answer ∷ answers_in calls) (calls_shown (joins_seen answer w));
+      };
+      observes = λ fair. sees ∙ ap (observed after trace_old.seen) (sym (sights_shown (joins_seen answer w)));
+      goes_on = λ fair later.
+          ap (λ (b : Bool). joined_if b w (answer ∷ later)) is
+          ∙ ap (λ (x : World). asked (Joined answer) (joins_seen answer w) (ran x later)) (sym same);
+    }) r made seen
 
 -- a move was made, and the wire cut where that ended the connection
-pub plays_cut : (honest : Bool) (old new : List Bool) (trace_old trace_mid trace_new : Trace) (one : Move) (w v : World) (stood stays : Bool) → stood ≡ stands w → stays ≡ stands v
-    → Plays (wired honest old new trace_old trace_mid) (moved one w) v → trace_new.failed ≡ trace_mid.failed → Grows trace_mid.calls trace_new.calls (cut_behind stood stays)
-    → Plays (wired honest old new trace_old trace_new) (played one w) v
-plays_cut honest old new trace_old trace_mid trace_new one w v stood stays stood_is stays_is made same cut =
-    let last : List Call = cut_behind (stands w) (stands v) in
-    let grew : Grows trace_mid.calls trace_new.calls last = subst (λ (calls : List Call). Grows trace_mid.calls trace_new.calls calls) (ap₂ cut_behind stood_is stays_is) cut in
-    record {
-      given = made.given;
-      calls = made.calls ++ last;
-      answers = record {
-        told = made.answers.told;
-        counted = same ∙ made.answers.counted;
-        kept = grows_both trace_old.calls trace_mid.calls trace_new.calls made.calls last made.answers.kept grew;
-        gave = answers_both made.calls last ∙ ap₂ (λ (l m : List Bool). l ++ m) made.answers.gave (no_answer (stands w) (stands v)) ∙ append-nil made.given;
-      };
-      goes_on = λ is later.
-          ap (cut_if (stands w)) (made.goes_on is later)
-          ∙ ap (λ (calls : List Call). let all : Ran = record { world = v; answers = later; calls = calls } in all)
-          (ap (λ (calls : List Call). calls ++ last) (append-nil made.calls) ∙ sym (append-nil (made.calls ++ last)));
-    }
+module _ {S : Type 0} (honest : Bool) (after : S → Sight → S) (old new : List Bool) (trace_old trace_first trace_mid trace_new : Trace S) (one : Move) (w v : World) where
+  pub plays_cut : (stood stays : Bool) → stood ≡ stands w → stays ≡ stands v → trace_first.failed ≡ trace_old.failed → Grows trace_old.calls trace_first.calls []
+      → trace_first.seen ≡ after trace_old.seen (Begun one) → Plays (wired honest after old new trace_first trace_mid) (moved one w) v → trace_new.failed ≡ trace_mid.failed
+      → Grows trace_mid.calls trace_new.calls (calls_in (cut_behind stood stays)) → trace_new.seen ≡ observed after trace_mid.seen (sights_in (cut_behind stood stays))
+      → Plays (wired honest after old new trace_old trace_new) (played one w) v
+  plays_cut stood stays stood_is stays_is first_same first_kept first_seen made same cut cut_seen =
+      let last : List Turn = cut_behind (stands w) (stands v) in
+      let last_is : cut_behind stood stays ≡ last = ap₂ cut_behind stood_is stays_is in
+      let grew : Grows trace_mid.calls trace_new.calls (calls_in last) = subst (λ (turns : List Turn). Grows trace_mid.calls trace_new.calls (calls_in turns)) last_is cut in
+      let saw : trace_new.seen ≡ observed after trace_mid.seen (sights_in last) = cut_seen ∙ ap (λ (turns : List Turn). observed after trace_mid.seen (sights_in turns)) last_is in
+      record {
+        given = made.given;
+        turns = Shows (Begun one) ∷ (made.turns ++ last);
+        answers = record {
+          told = made.answers.told;
+          counted = same ∙ made.answers.counted ∙ ap (λ (n : ℕ). failed_behind n made.given) first_same;
+          kept = subst (λ (calls : List Call). Grows trace_old.calls trace_new.calls calls) (sym (calls_both made.turns last))
+              (grows_both trace_old.calls trace_first.calls trace_new.calls [] (calls_in made.turns ++ calls_in last) first_kept
+              (grows_both trace_first.calls trace_mid.calls trace_new.calls (calls_in made.turns) (calls_in last) made.answers.kept grew));
+          gave = ap answers_in (calls_both made.turns last) ∙ answers_both (calls_in made.turns) (calls_in last)
+              ∙ ap₂ (λ (l m : List Bool). l ++ m) made.answers.gave (no_answer (stands w) (stands v)) ∙ append-nil made.given;
+        };
+        observes = λ is.
+            saw
+            ∙ ap (λ (s : S). observed after s (sights_in last)) (made.observes is ∙ ap (λ (s : S). observed after s (sights_in made.turns)) first_seen)
+            ∙ sym (observed_both after (after trace_old.seen (Begun one)) (sights_in made.turns) (sights_in last))
+            ∙ ap (observed after (after trace_old.seen (Begun one))) (sym (sights_both made.turns last));
+        goes_on = λ is later.
+            ap (λ (r : Ran). shown (Begun one ∷ []) (cut_if (stands w) r)) (made.goes_on is later)
+            ∙ ap (λ (turns : List Turn). with_turns (ran v later) (Shows (Begun one) ∷ turns))
+            (ap (λ (turns : List Turn). turns ++ last) (append-nil made.turns) ∙ sym (append-nil (made.turns ++ last)));
+      }
 
 -- ---- a delivery
 
@@ -132,123 +237,142 @@ delivered_piece : (n : ℕ) (side : Side) (octets : List ℕ) (w : World) (answe
 delivered_piece n side [] w answers some is = absurd (omega arith)
 delivered_piece n side (octet ∷ octets) w answers some is = if_not_left (end_of side w).left _ _ is
 
-module _ (honest : Bool) (side : Side) (turn : List Bool → Ran) (old mid new : List Bool) (trace_old trace_mid trace_new : Trace) (octets : List ℕ) (w v : World) where
+module _ {S : Type 0} (honest : Bool) (after : S → Sight → S) (side : Side) (turn : List Bool → Ran) (old mid new : List Bool) (trace_old trace_mid trace_new : Trace S) (octets : List ℕ) (w v : World) where
   abbrev Before : ℕ → Type 0
-  Before n = PlaysOn (wired honest old mid trace_old trace_mid) turn (delivered n side octets w)
+  Before n = PlaysOn (wired honest after old mid trace_old trace_mid) turn (delivered n side octets w)
 
   module _ (some : 0 < length octets) (stays : (end_of side w).left ≡ false) where
     -- one piece more was answered
-    further : (n : ℕ) (answer : Bool) → PlaysOn (wired honest old mid trace_old trace_mid) turn (delivered (suc n) side octets w)
-        → Passes (wired honest mid new trace_mid trace_new) answer side (take 4096 octets) w v
-        → (rest : List Bool → Ran) → (honest ≡ true → (later : List Bool) → delivers_on answer (delivered n side (drop 4096 octets)) side (take 4096 octets) w later ≡ asked (Handed side (take 4096 octets) answer ∷ []) (rest later))
-        → PlaysOn (wired honest old new trace_old trace_new) turn rest
-    further n answer so_far passes rest same = record {
-      given = so_far.given ++ answer ∷ [];
-      calls = so_far.calls ++ Handed side (take 4096 octets) answer ∷ [];
-      answers = gives_both honest old mid new trace_old trace_mid trace_new so_far.given (answer ∷ []) so_far.calls (Handed side (take 4096 octets) answer ∷ []) so_far.answers passes.answers;
-      goes_on = λ is later.
-          ap turn (append_assoc so_far.given (answer ∷ []) later)
-          ∙ so_far.goes_on is (answer ∷ later)
-          ∙ ap (asked so_far.calls) (delivered_piece n side octets w (answer ∷ later) some stays ∙ same is later)
-          ∙ asked_both so_far.calls (Handed side (take 4096 octets) answer ∷ []) (rest later);
-    }
+    further : (n : ℕ) (answer : Bool) → PlaysOn (wired honest after old mid trace_old trace_mid) turn (delivered (suc n) side octets w)
+        → Passes (wired honest after mid new trace_mid trace_new) answer side (take 4096 octets) w v
+        → (rest : List Bool → Ran)
+        → (honest ≡ true → (later : List Bool) → delivers_on answer (delivered n side (drop 4096 octets)) side (take 4096 octets) w later
+        ≡ asked (Handed side (take 4096 octets) answer) (passed_seen answer side (take 4096 octets) w) (rest later))
+        → PlaysOn (wired honest after old new trace_old trace_new) turn rest
+    further n answer so_far passes rest same =
+        let sights : List Sight = passed_seen answer side (take 4096 octets) w in
+        let call : Call = Handed side (take 4096 octets) answer in
+        let turns : List Turn = Asks call ∷ map Shows sights in
+        let none : calls_in turns ≡ call ∷ [] = ap (λ (calls : List Call). call ∷ calls) (calls_shown sights) in
+        let gives : Gives (wired honest after mid new trace_mid trace_new) (answer ∷ []) turns =
+        record {
+          told = passes.answers.told;
+          counted = passes.answers.counted;
+          kept = subst (λ (calls : List Call). Grows trace_mid.calls trace_new.calls calls) (sym none) passes.answers.kept;
+          gave = ap answers_in none;
+        } in
+        record {
+          given = so_far.given ++ answer ∷ [];
+          turns = so_far.turns ++ turns;
+          answers = gives_both honest after old mid new trace_old trace_mid trace_new so_far.given (answer ∷ []) so_far.turns turns so_far.answers gives;
+          observes = λ is. observes_both honest after old mid new trace_old trace_mid trace_new so_far.turns turns (so_far.observes is)
+              (passes.observes is ∙ ap (observed after trace_mid.seen) (sym (sights_shown sights)));
+          goes_on = λ is later.
+              ap turn (append_assoc so_far.given (answer ∷ []) later)
+              ∙ so_far.goes_on is (answer ∷ later)
+              ∙ ap (behind so_far.turns) (delivered_piece n side octets w (answer ∷ later) some stays ∙ same is later)
+              ∙ behind_both so_far.turns turns (rest later);
+        }
 
-    piece_passes : (pieces : ℕ) → length octets ≤ pieces → Before pieces → Passes (wired honest mid new trace_mid trace_new) true side (take 4096 octets) w v
-        → Delivers (wired honest old new trace_old trace_new) turn side (drop 4096 octets) v
+    piece_passes : (pieces : ℕ) → length octets ≤ pieces → Before pieces → Passes (wired honest after mid new trace_mid trace_new) true side (take 4096 octets) w v
+        → Delivers (wired honest after old new trace_old trace_new) turn side (drop 4096 octets) v
     piece_passes zero enough so_far passes = absurd (omega arith)
     piece_passes (suc n) enough so_far passes = record {
       pieces = n;
       enough = let left = length-drop 4096 octets in omega arith;
       so_far = further n true so_far passes (delivered n side (drop 4096 octets) v)
-          (λ is later. ap (λ (x : World). asked (Handed side (take 4096 octets) true ∷ []) (delivered n side (drop 4096 octets) x later)) (sym (passes.passes is)));
+          (λ is later. ap (λ (x : World). asked (Handed side (take 4096 octets) true) (feeds_seen side (take 4096 octets) w) (delivered n side (drop 4096 octets) x later)) (sym (passes.passes is)));
     }
 
-    piece_lost : (pieces : ℕ) → length octets ≤ pieces → Before pieces → Passes (wired honest mid new trace_mid trace_new) false side (take 4096 octets) w v
-        → Plays (wired honest old new trace_old trace_new) turn v
+    piece_lost : (pieces : ℕ) → length octets ≤ pieces → Before pieces → Passes (wired honest after mid new trace_mid trace_new) false side (take 4096 octets) w v
+        → Plays (wired honest after old new trace_old trace_new) turn v
     piece_lost zero enough so_far passes = absurd (omega arith)
-    piece_lost (suc n) enough so_far passes = further n false so_far passes (ran v) (λ is later. ap (λ (x : World). asked (Handed side (take 4096 octets) false ∷ []) (ran x later)) (sym (passes.passes is)))
+    piece_lost (suc n) enough so_far passes =
+        further n false so_far passes (ran v) (λ is later. ap (λ (x : World). asked (Handed side (take 4096 octets) false) (lost_seen w) (ran x later)) (sym (passes.passes is)))
 
     pub delivers_piece : (pieces : ℕ) → length octets ≤ pieces → Before pieces → (answer : Bool) → answer ≡ true
-        → Passes (wired honest mid new trace_mid trace_new) answer side (take 4096 octets) w v
-        → Delivers (wired honest old new trace_old trace_new) turn side (drop 4096 octets) v
+        → Passes (wired honest after mid new trace_mid trace_new) answer side (take 4096 octets) w v
+        → Delivers (wired honest after old new trace_old trace_new) turn side (drop 4096 octets) v
     delivers_piece pieces enough so_far true is passes = piece_passes pieces enough so_far passes
     delivers_piece pieces enough so_far false is passes = absurd (let not : false ≡ true = is in cc)
 
     pub loses_piece : (pieces : ℕ) → length octets ≤ pieces → Before pieces → (answer : Bool) → answer ≡ false
-        → Passes (wired honest mid new trace_mid trace_new) answer side (take 4096 octets) w v
-        → Plays (wired honest old new trace_old trace_new) turn v
+        → Passes (wired honest after mid new trace_mid trace_new) answer side (take 4096 octets) w v
+        → Plays (wired honest after old new trace_old trace_new) turn v
     loses_piece pieces enough so_far false is passes = piece_lost pieces enough so_far passes
     loses_piece pieces enough so_far true is passes = absurd (let not : true ≡ false = is in cc)
 
 -- what the code has of a piece
-module _ (honest h : Bool) (same : h ≡ honest) (side : Side) (turn : List Bool → Ran) (old mid new : List Bool) (trace_old trace_mid trace_new : Trace) (octets piece rest : List ℕ) (w v : World)
-    (d : Delivers (wired honest old mid trace_old trace_mid) turn side octets w) (some : 0 < length octets) (stays : (end_of side w).left ≡ false)
-    (front : piece ≡ take 4096 octets) (back : rest ≡ drop 4096 octets) (answer : Bool) (passes : Passes (wired h mid new trace_mid trace_new) answer side piece w v) where
-  passes_so : Passes (wired honest mid new trace_mid trace_new) answer side (take 4096 octets) w v
-  passes_so = subst (λ (p : List ℕ). Passes (wired honest mid new trace_mid trace_new) answer side p w v) front (subst (λ (b : Bool). Passes (wired b mid new trace_mid trace_new) answer side piece w v) same passes)
+module _ {S : Type 0} (honest h : Bool) (same : h ≡ honest) (after : S → Sight → S) (side : Side) (turn : List Bool → Ran) (old mid new : List Bool) (trace_old trace_mid trace_new : Trace S) (octets piece rest : List ℕ) (w v : World)
+    (d : Delivers (wired honest after old mid trace_old trace_mid) turn side octets w) (some : 0 < length octets) (stays : (end_of side w).left ≡ false)
+    (front : piece ≡ take 4096 octets) (back : rest ≡ drop 4096 octets) (answer : Bool) (passes : Passes (wired h after mid new trace_mid trace_new) answer side piece w v) where
+  passes_so : Passes (wired honest after mid new trace_mid trace_new) answer side (take 4096 octets) w v
+  passes_so = subst (λ (p : List ℕ). Passes (wired honest after mid new trace_mid trace_new) answer side p w v) front (subst (λ (b : Bool). Passes (wired b after mid new trace_mid trace_new) answer side piece w v) same passes)
 
-  pub goes_further : answer ≡ true → Delivers (wired honest old new trace_old trace_new) turn side rest v
+  pub goes_further : answer ≡ true → Delivers (wired honest after old new trace_old trace_new) turn side rest v
   goes_further is =
-      subst (λ (o : List ℕ). Delivers (wired honest old new trace_old trace_new) turn side o v) (sym back)
-      (delivers_piece honest side turn old mid new trace_old trace_mid trace_new octets w v some stays d.pieces d.enough d.so_far answer is passes_so)
+      subst (λ (o : List ℕ). Delivers (wired honest after old new trace_old trace_new) turn side o v) (sym back)
+      (delivers_piece honest after side turn old mid new trace_old trace_mid trace_new octets w v some stays d.pieces d.enough d.so_far answer is passes_so)
 
-  pub stops_there : answer ≡ false → Plays (wired honest old new trace_old trace_new) turn v
-  stops_there is = loses_piece honest side turn old mid new trace_old trace_mid trace_new octets w v some stays d.pieces d.enough d.so_far answer is passes_so
+  pub stops_there : answer ≡ false → Plays (wired honest after old new trace_old trace_new) turn v
+  stops_there is = loses_piece honest after side turn old mid new trace_old trace_mid trace_new octets w v some stays d.pieces d.enough d.so_far answer is passes_so
 
 -- the octets are drawn, and none of them has passed
-pub delivers_first : (honest : Bool) (answers : List Bool) (at : Trace) (side : Side) (count : ℕ) (w v : World) (octets : List ℕ) → octets ≡ take count (end_of side w).flight → v ≡ drawn side count w
-    → Delivers (wired honest answers answers at at) (delivers side count w) side octets v
-delivers_first honest answers at side count w v octets front drawn_so = record {
+pub delivers_first : {S : Type 0} (honest : Bool) (after : S → Sight → S) (answers : List Bool) (at : Trace S) (side : Side) (count : ℕ) (w v : World) (octets : List ℕ) → octets ≡ take count (end_of side w).flight → v ≡ drawn side count w
+    → Delivers (wired honest after answers answers at at) (delivers side count w) side octets v
+delivers_first honest after answers at side count w v octets front drawn_so = record {
   pieces = count;
   enough = let long = length-take count (end_of side w).flight in let same = ap length front in omega arith;
-  so_far = plays_quietly honest answers at (delivers side count w) (delivered count side octets v)
+  so_far = plays_quietly honest after answers at (delivers side count w) (delivered count side octets v)
       (λ later. ap (λ (o : List ℕ). delivered count side o (drawn side count w) later) (sym front) ∙ ap (λ (x : World). delivered count side octets x later) (sym drawn_so));
 }
 
 -- a delivery ends where nothing is left to pass, or the side has left
-module _ (wires : Wired) (turn : List Bool → Ran) (side : Side) (octets : List ℕ) (w : World) (d : Delivers wires turn side octets w) where
+module _ {S : Type 0} (wires : Wired S) (turn : List Bool → Ran) (side : Side) (octets : List ℕ) (w : World) (d : Delivers wires turn side octets w) where
   pub ends_empty : octets ≡ [] → Plays wires turn w
   ends_empty none = record {
     given = d.so_far.given;
-    calls = d.so_far.calls;
+    turns = d.so_far.turns;
     answers = d.so_far.answers;
-    goes_on = λ is later. d.so_far.goes_on is later ∙ ap (asked d.so_far.calls) (ap (λ (o : List ℕ). delivered d.pieces side o w later) none ∙ delivered_empty d.pieces side w later);
+    observes = d.so_far.observes;
+    goes_on = λ is later. d.so_far.goes_on is later ∙ ap (behind d.so_far.turns) (ap (λ (o : List ℕ). delivered d.pieces side o w later) none ∙ delivered_empty d.pieces side w later);
   }
 
   pub ends_left : (end_of side w).left ≡ true → Plays wires turn w
   ends_left left = record {
     given = d.so_far.given;
-    calls = d.so_far.calls;
+    turns = d.so_far.turns;
     answers = d.so_far.answers;
-    goes_on = λ is later. d.so_far.goes_on is later ∙ ap (asked d.so_far.calls) (delivered_left d.pieces side octets w later left);
+    observes = d.so_far.observes;
+    goes_on = λ is later. d.so_far.goes_on is later ∙ ap (behind d.so_far.turns) (delivered_left d.pieces side octets w later left);
   }
 
 -- ---- one move behind the others
 
 moved_last : (moves : List Move) (one : Move) (w : World) (answers : List Bool)
-    → all_moved (moves ++ one ∷ []) w answers ≡ asked (all_moved moves w answers).calls (played one (all_moved moves w answers).world (all_moved moves w answers).answers)
+    → all_moved (moves ++ one ∷ []) w answers ≡ behind (all_moved moves w answers).turns (played one (all_moved moves w answers).world (all_moved moves w answers).answers)
 moved_last [] one w answers =
-    ap (λ (calls : List Call). let all : Ran = record { world = (moved one w answers).world; answers = (moved one w answers).answers; calls = calls } in all)
-    (append-nil (played one w answers).calls)
+    ap (with_turns (moved one w answers)) (append-nil (played one w answers).turns)
 moved_last (m ∷ moves) one w answers =
     let x : Ran = all_moved moves (moved m w answers).world (moved m w answers).answers in
-    ap (asked (played m w answers).calls) (moved_last moves one (moved m w answers).world (moved m w answers).answers)
-    ∙ asked_both (played m w answers).calls x.calls (played one x.world x.answers)
+    ap (behind (played m w answers).turns) (moved_last moves one (moved m w answers).world (moved m w answers).answers)
+    ∙ behind_both (played m w answers).turns x.turns (played one x.world x.answers)
 
-module _ (honest : Bool) (begin : World) (old mid new : List Bool) (trace_old trace_mid trace_new : Trace) (w v : World) where
-  pub one_more : (moves : List Move) (one : Move) → Plays (wired honest old mid trace_old trace_mid) (all_moved moves begin) w
-      → Plays (wired honest mid new trace_mid trace_new) (played one w) v → Plays (wired honest old new trace_old trace_new) (all_moved (moves ++ one ∷ []) begin) v
+module _ {S : Type 0} (honest : Bool) (after : S → Sight → S) (begin : World) (old mid new : List Bool) (trace_old trace_mid trace_new : Trace S) (w v : World) where
+  pub one_more : (moves : List Move) (one : Move) → Plays (wired honest after old mid trace_old trace_mid) (all_moved moves begin) w
+      → Plays (wired honest after mid new trace_mid trace_new) (played one w) v → Plays (wired honest after old new trace_old trace_new) (all_moved (moves ++ one ∷ []) begin) v
   one_more moves one first second = record {
     given = first.given ++ second.given;
-    calls = first.calls ++ second.calls;
-    answers = gives_both honest old mid new trace_old trace_mid trace_new first.given second.given first.calls second.calls first.answers second.answers;
+    turns = first.turns ++ second.turns;
+    answers = gives_both honest after old mid new trace_old trace_mid trace_new first.given second.given first.turns second.turns first.answers second.answers;
+    observes = λ is. observes_both honest after old mid new trace_old trace_mid trace_new first.turns second.turns (first.observes is) (second.observes is);
     goes_on = λ is later.
         ap (all_moved (moves ++ one ∷ []) begin) (append_assoc first.given second.given later)
         ∙ moved_last moves one begin (first.given ++ (second.given ++ later))
-        ∙ ap (λ (r : Ran). asked r.calls (played one r.world r.answers)) (first.goes_on is (second.given ++ later))
-        ∙ ap (λ (calls : List Call). asked calls (played one w (second.given ++ later))) (append-nil first.calls)
-        ∙ ap (asked first.calls) (second.goes_on is later)
-        ∙ asked_both first.calls second.calls (ran v later);
+        ∙ ap (λ (r : Ran). behind r.turns (played one r.world r.answers)) (first.goes_on is (second.given ++ later))
+        ∙ ap (λ (turns : List Turn). behind turns (played one w (second.given ++ later))) (append-nil first.turns)
+        ∙ ap (behind first.turns) (second.goes_on is later)
+        ∙ behind_both first.turns second.turns (ran v later);
   }
 
 -- ---- whether a vector is empty
@@ -263,12 +387,12 @@ none_left empty zero (x ∷ items) says is same = absurd (omega arith)
 none_left empty (suc n) (x ∷ items) says is same = absurd (let not : false ≡ true = sym (eqb-suc-zero n) ∙ sym says ∙ is in cc)
 
 -- what the code has of a move
-module _ (honest h : Bool) (same : h ≡ honest) (begin : World) (old mid new : List Bool) (trace_old trace_mid trace_new : Trace) (w v : World) where
-  pub plays_next : (moves : List Move) (i : ℕ) (one : Move) → i < length moves → one ≡ get_or moves i one → Plays (wired honest old mid trace_old trace_mid) (all_moved (take i moves) begin) w
-      → Plays (wired h mid new trace_mid trace_new) (played one w) v → Plays (wired honest old new trace_old trace_new) (all_moved (take (i + 1) moves) begin) v
+module _ {S : Type 0} (honest h : Bool) (same : h ≡ honest) (after : S → Sight → S) (begin : World) (old mid new : List Bool) (trace_old trace_mid trace_new : Trace S) (w v : World) where
+  pub plays_next : (moves : List Move) (i : ℕ) (one : Move) → i < length moves → one ≡ get_or moves i one → Plays (wired honest after old mid trace_old trace_mid) (all_moved (take i moves) begin) w
+      → Plays (wired h after mid new trace_mid trace_new) (played one w) v → Plays (wired honest after old new trace_old trace_new) (all_moved (take (i + 1) moves) begin) v
   plays_next moves i one lt is first second =
       let next : i + 1 ≡ suc i = omega arith in
       let more : take (i + 1) moves ≡ take i moves ++ one ∷ [] = ap (λ (k : ℕ). take k moves) next ∙ take-suc moves i one lt ∙ ap (λ (m : Move). take i moves ++ m ∷ []) (sym is) in
-      subst (λ (ms : List Move). Plays (wired honest old new trace_old trace_new) (all_moved ms begin) v) (sym more)
-      (one_more honest begin old mid new trace_old trace_mid trace_new w v (take i moves) one first
-      (subst (λ (b : Bool). Plays (wired b mid new trace_mid trace_new) (played one w) v) same second))
+      subst (λ (ms : List Move). Plays (wired honest after old new trace_old trace_new) (all_moved ms begin) v) (sym more)
+      (one_more honest after begin old mid new trace_old trace_mid trace_new w v (take i moves) one first
+      (subst (λ (b : Bool). Plays (wired b after mid new trace_mid trace_new) (played one w) v) same second))

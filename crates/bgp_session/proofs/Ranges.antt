@@ -8,6 +8,7 @@ use Rattle.bgp_session.specs.declared.report.Report.{Report}
 use Rattle.bgp_session.specs.Laws.{SendsRanges, AllSendRanges}
 use Rattle.bgp_session.specs.Playing.{Plays, HaveSoFar}
 use Rattle.bgp_session.specs.Report.{report_of}
+use Rattle.bgp_session.specs.Sight.{Sight}
 use Rattle.bgp_session.specs.Wire.{Trace}
 use Rattle.bgp_session.specs.World.{World, Ran, moved, played, all_moved}
 use Rattle.bgp_session.proofs.Plays.{wired}
@@ -17,10 +18,10 @@ sends_last : (moves : List Move) (one : Move) (w : World) (answers : List Bool) 
 sends_last [] one w answers all is = (is, tt)
 sends_last (m ∷ moves) one w answers all is = (all.0, sends_last moves one (moved m w answers).world (moved m w answers).answers all.1 is)
 
-module _ (honest h : Bool) (begin : World) (start mid new : List Bool) (none : start ≡ []) (trace_old trace_mid trace_new : Trace) (w v : World) where
+module _ {S : Type 0} (honest h : Bool) (after : S → Sight → S) (begin : World) (start mid new : List Bool) (none : start ≡ []) (trace_old trace_mid trace_new : Trace S) (w v : World) where
   -- one move more, which asked the wire for what it needs
-  one_more : (moves : List Move) (one : Move) → Plays (wired honest start mid trace_old trace_mid) (all_moved moves begin) w
-      → Plays (wired h mid new trace_mid trace_new) (played one w) v → SendsRanges w one → HaveSoFar honest moves begin mid → HaveSoFar honest (moves ++ one ∷ []) begin new
+  one_more : (moves : List Move) (one : Move) → Plays (wired honest after start mid trace_old trace_mid) (all_moved moves begin) w
+      → Plays (wired h after mid new trace_mid trace_new) (played one w) v → SendsRanges w one → HaveSoFar honest moves begin mid → HaveSoFar honest (moves ++ one ∷ []) begin new
   one_more moves one first second sends so_far = λ is later.
       let given : List Bool = second.given in
       let all : mid ++ (given ++ later) ≡ new ++ later = sym (append_assoc mid given later) ∙ ap (λ (l : List Bool). l ++ later) (sym second.answers.told) in
@@ -31,8 +32,8 @@ module _ (honest h : Bool) (begin : World) (start mid new : List Bool) (none : s
       (sends_last moves one begin (mid ++ (given ++ later)) (so_far is (given ++ later)) (subst (λ (x : World). SendsRanges x one) (sym here) sends))
 
   -- what the code has of it
-  pub sends_next : (moves : List Move) (i : ℕ) (one : Move) → i < length moves → one ≡ get_or moves i one → Plays (wired honest start mid trace_old trace_mid) (all_moved (take i moves) begin) w
-      → Plays (wired h mid new trace_mid trace_new) (played one w) v → SendsRanges w one → HaveSoFar honest (take i moves) begin mid → HaveSoFar honest (take (i + 1) moves) begin new
+  pub sends_next : (moves : List Move) (i : ℕ) (one : Move) → i < length moves → one ≡ get_or moves i one → Plays (wired honest after start mid trace_old trace_mid) (all_moved (take i moves) begin) w
+      → Plays (wired h after mid new trace_mid trace_new) (played one w) v → SendsRanges w one → HaveSoFar honest (take i moves) begin mid → HaveSoFar honest (take (i + 1) moves) begin new
   sends_next moves i one lt is first second sends so_far =
       let next : i + 1 ≡ suc i = omega arith in
       let more : take (i + 1) moves ≡ take i moves ++ one ∷ [] = ap (λ (k : ℕ). take k moves) next ∙ take-suc moves i one lt ∙ ap (λ (m : Move). take i moves ++ m ∷ []) (sym is) in

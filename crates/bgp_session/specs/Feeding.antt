@@ -1,11 +1,12 @@
--- Steps of the proof that pulling a piece does what its octets do one by one. Only private functions cite them.
-use Rattle.std.specs.Prelude.{◌≡◌, ◌<◌, ◌≤◌, ℕ, ◌+◌, false, List, [], ◌∷◌, length, drop, Option, None, Some}
+-- Steps of the proof that pulling a piece does, and shows, what its octets do one by one. Only private functions cite them.
+use Rattle.std.specs.Prelude.{◌≡◌, ◌<◌, ◌≤◌, ℕ, ◌+◌, false, List, [], ◌∷◌, ◌++◌, length, drop, Option, None, Some}
 use Rattle.bgp_frame.specs.Framer.{IsHeld}
 use Rattle.bgp_machine.specs.Cutting.{IsAtRest, Done, settled, behind, by_octets}
 use Rattle.bgp_machine.specs.Session.{Machine}
 use Rattle.bgp_machine.specs.Standing.{listens}
 use Rattle.bgp_session.specs.declared.side.Side.{Side}
 use Rattle.bgp_session.specs.Pair.{with_session, Pair, pair, all_acted}
+use Rattle.bgp_session.specs.Sight.{Sight, observed, settled_seen, octets_seen}
 
 -- what holds of a session between two pulls
 pub record IsReady (x : Machine) : Type 0 where
@@ -41,3 +42,13 @@ pub record FeedsOn (side : Side) (p : Pair) (piece : List ℕ) (n : ℕ) (q : Pa
 abbrev pub Feeds : Side → Pair → List ℕ → Pair → Option ℕ → Type 0
 Feeds side p piece q None = (fed_on side p piece ≡ q) × IsAtRest q.this.session
 Feeds side p piece q (Some n) = FeedsOn side p piece n q
+
+-- ---- what a pull shows, with what is held judged first
+
+abbrev pub left_seen : Side → Machine → List ℕ → List Sight
+left_seen side x rest = settled_seen side x ++ octets_seen side (settled x).session rest
+
+-- between two pulls, an observer was told what it is to be told of what was taken
+abbrev pub SeesPull : {S : Type 0} → (S → Sight → S) → S → S → Side → Machine → Machine → List ℕ → Option ℕ → Type 0
+SeesPull after s t side x y piece None = observed after s (left_seen side x piece) ≡ t
+SeesPull after s t side x y piece (Some n) = observed after s (left_seen side x piece) ≡ observed after t (left_seen side y (drop n piece))

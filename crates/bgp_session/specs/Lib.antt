@@ -2,6 +2,7 @@
 pub mod Pair
 pub mod World
 pub mod Wire
+pub mod Sight
 pub mod Report
 pub mod Feeding
 pub mod Playing

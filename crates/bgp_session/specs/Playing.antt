@@ -8,42 +8,49 @@ use Rattle.bgp_session.specs.declared.moves.Move.{Move}
 use Rattle.bgp_session.specs.declared.side.Side.{Side}
 use Rattle.bgp_session.specs.Laws.{AllSendRanges}
 use Rattle.bgp_session.specs.Pair.{End, pair, sent}
-use Rattle.bgp_session.specs.Wire.{failed_behind, Call, Handed, Grows, answers_in, Trace}
-use Rattle.bgp_session.specs.World.{World, end_of, seen_by, with_pair, feeds, lost, Ran, ran, asked, delivered}
+use Rattle.bgp_session.specs.Sight.{Sight, observed}
+use Rattle.bgp_session.specs.Wire.{failed_behind, Handed, Grows, answers_in, Trace}
+use Rattle.bgp_session.specs.World.{World, end_of, seen_by, with_pair, feeds, feeds_seen, lost, lost_seen, Turn, Asks, calls_in, sights_in, Ran, ran, behind, delivered}
 
 -- both sessions have nothing left to do
 abbrev pub Rests : World → Type 0
 Rests w = IsAtRest w.a.session × IsAtRest w.b.session
 
--- a wire and its answers, before and behind a turn
-pub record Wired : Type 0 where
+-- a wire and its answers, and an observer, before and behind a turn
+pub record Wired (S : Type 0) : Type 0 where
   pub honest : Bool
+  pub after : S → Sight → S
   pub old : List Bool
   pub new : List Bool
-  pub trace_old : Trace
-  pub trace_new : Trace
+  pub trace_old : Trace S
+  pub trace_new : Trace S
 
--- these answers were given, to these calls
-pub record Gives (wired : Wired) (given : List Bool) (calls : List Call) : Type 0 where
+-- these answers were given, in these turns, and the observer was told what they show
+pub record Gives {S : Type 0} (wired : Wired S) (given : List Bool) (turns : List Turn) : Type 0 where
   pub told : wired.new ≡ wired.old ++ given
   pub counted : wired.trace_new.failed ≡ failed_behind wired.trace_old.failed given
-  pub kept : Grows wired.trace_old.calls wired.trace_new.calls calls
-  pub gave : answers_in calls ≡ given
+  pub kept : Grows wired.trace_old.calls wired.trace_new.calls (calls_in turns)
+  pub gave : answers_in (calls_in turns) ≡ given
+
+-- what the observer was told is what these turns show
+abbrev pub Observes : {S : Type 0} → Wired S → List Turn → Type 0
+Observes wired turns = wired.trace_new.seen ≡ observed wired.after wired.trace_old.seen (sights_in turns)
 
 -- a turn was played up to what another turn is: where the wire is honest, the turn used up the answers that were given, and left all later ones,
--- and asked the wire for what it was asked
-pub record PlaysOn (wired : Wired) (turn rest : List Bool → Ran) : Type 0 where
+-- and asked the wire for what it was asked, and told the observer of all that it shows
+pub record PlaysOn {S : Type 0} (wired : Wired S) (turn rest : List Bool → Ran) : Type 0 where
   pub given : List Bool
-  pub calls : List Call
-  pub answers : Gives wired given calls
-  pub goes_on : wired.honest ≡ true → (later : List Bool) → turn (given ++ later) ≡ asked calls (rest later)
+  pub turns : List Turn
+  pub answers : Gives wired given turns
+  pub observes : wired.honest ≡ true → Observes wired turns
+  pub goes_on : wired.honest ≡ true → (later : List Bool) → turn (given ++ later) ≡ behind turns (rest later)
 
 -- a turn was played, and made this world
-abbrev pub Plays : Wired → (List Bool → Ran) → World → Type 0
+abbrev pub Plays : {S : Type 0} → Wired S → (List Bool → Ran) → World → Type 0
 Plays wired turn w = PlaysOn wired turn (ran w)
 
 -- a part of a delivery was played: these octets are left to pass
-pub record Delivers (wired : Wired) (turn : List Bool → Ran) (side : Side) (octets : List ℕ) (w : World) : Type 0 where
+pub record Delivers {S : Type 0} (wired : Wired S) (turn : List Bool → Ran) (side : Side) (octets : List ℕ) (w : World) : Type 0 where
   pub pieces : ℕ
   pub enough : length octets ≤ pieces
   pub so_far : PlaysOn wired turn (delivered pieces side octets w)
@@ -53,8 +60,13 @@ abbrev pub passed : Bool → Side → List ℕ → World → World
 passed true side piece w = feeds side piece w
 passed false side piece w = lost w
 
-pub record Passes (wired : Wired) (answer : Bool) (side : Side) (piece : List ℕ) (w v : World) : Type 0 where
-  pub answers : Gives wired (answer ∷ []) (Handed side piece answer ∷ [])
+abbrev pub passed_seen : Bool → Side → List ℕ → World → List Sight
+passed_seen true side piece w = feeds_seen side piece w
+passed_seen false side piece w = lost_seen w
+
+pub record Passes {S : Type 0} (wired : Wired S) (answer : Bool) (side : Side) (piece : List ℕ) (w v : World) : Type 0 where
+  pub answers : Gives wired (answer ∷ []) (Asks (Handed side piece answer) ∷ [])
+  pub observes : wired.honest ≡ true → wired.trace_new.seen ≡ observed wired.after wired.trace_old.seen (passed_seen answer side piece w)
   pub passes : wired.honest ≡ true → v ≡ passed answer side piece w
 
 -- an UPDATE was sent, or refused

@@ -3,8 +3,9 @@ use Rattle.std.specs.Prelude.{◌≡◌, Bool, List, ◌++◌}
 use Rattle.bgp_open.specs.Config.{Settings}
 use Rattle.bgp_session.specs.declared.moves.Move.{Move}
 use Rattle.bgp_session.specs.declared.report.Report.{Report}
+use Rattle.bgp_session.specs.Sight.{Sight}
 use Rattle.bgp_session.specs.Wire.{Call}
-use Rattle.bgp_session.specs.World.{World, begins, rounds_of, ran, asked, all_moved}
+use Rattle.bgp_session.specs.World.{World, begins, rounds_of, Turn, calls_in, sights_in, ran, behind, all_moved}
 
 -- the report of a world, for these answers of the wire
 abbrev pub report_of : World → List Bool → Report
@@ -19,10 +20,14 @@ report_of w answers = record {
 -- wire, and no more: whatever answers had come later are left over
 pub record IsReported (a b : Settings) (moves : List Move) (report : Report) : Type 0 where
   pub world : World
-  pub calls : List Call
-  pub moved_so : (later : List Bool) → all_moved moves (begins a b) (report.answers ++ later) ≡ asked calls (ran world later)
+  pub turns : List Turn
+  pub moved_so : (later : List Bool) → all_moved moves (begins a b) (report.answers ++ later) ≡ behind turns (ran world later)
   pub reports : report ≡ report_of world report.answers
 
 -- what these moves ask of a wire that gives these answers
 abbrev pub calls_behind : Settings → Settings → List Move → List Bool → List Call
-calls_behind a b moves answers = (all_moved moves (begins a b) answers).calls
+calls_behind a b moves answers = calls_in (all_moved moves (begins a b) answers).turns
+
+-- what an observer of these moves is told, where a wire gives these answers
+abbrev pub sights_behind : Settings → Settings → List Move → List Bool → List Sight
+sights_behind a b moves answers = sights_in (all_moved moves (begins a b) answers).turns

@@ -39,10 +39,11 @@ pub record HasAnswered (old new : Option (List Call)) (answers : List Bool) : Ty
   pub grew : Grows old new calls
   pub gave : answers_in calls ≡ answers
 
--- what a contract sees of a wire besides: its failures, and its calls
-pub record Trace : Type 0 where
+-- what a contract sees of a wire besides, its failures and its calls; and of an observer
+pub record Trace (S : Type 0) : Type 0 where
   pub failed : ℕ
   pub calls : Option (List Call)
+  pub seen : S
 
-abbrev pub trace : ℕ → Option (List Call) → Trace
-trace failed calls = record { failed = failed; calls = calls }
+abbrev pub trace : {S : Type 0} → ℕ → Option (List Call) → S → Trace S
+trace failed calls seen = record { failed = failed; calls = calls; seen = seen }

@@ -1,5 +1,5 @@
 -- Two sessions, the connection between them, and what each move of a schedule does.
-use Rattle.std.specs.Prelude.{ℕ, zero, suc, Bool, true, false, List, [], ◌∷◌, ◌++◌, take, drop, Option, None, Some, if◌then◌else◌}
+use Rattle.std.specs.Prelude.{ℕ, zero, suc, Bool, true, false, List, [], ◌∷◌, ◌++◌, map, take, drop, Option, None, Some, if◌then◌else◌}
 use Rattle.bgp_open.specs.Config.{Settings}
 use Rattle.bgp_update.specs.declared.update.Update.{Update}
 use Rattle.bgp_machine.specs.declared.event.Event.{Event}
@@ -14,6 +14,7 @@ use Rattle.bgp_session.specs.declared.moves.Move.TheVariants as move
 use Rattle.bgp_session.specs.declared.report.Round.{Round}
 use Rattle.bgp_session.specs.declared.side.Side.{Side}
 use Rattle.bgp_session.specs.declared.side.Side.TheVariants.{A, B}
+use Rattle.bgp_session.specs.Sight.{Sight, Begun, Ended, event_seen, octets_seen, tried_seen}
 use Rattle.bgp_session.specs.Wire.{Call, Joined, Handed, Cut}
 use Rattle.bgp_session.specs.Pair.{End, fresh_end, with_flight, Note, Pair, pair, told, fed, sent}
 
@@ -60,6 +61,17 @@ abbrev pub tells_if : Bool → Side → Event → World → World
 tells_if true side event w = tells side event w
 tells_if false side event w = w
 
+-- what an observer is told of an event, and of octets
+abbrev pub tells_seen : Side → Event → World → List Sight
+tells_seen side event w = event_seen side (end_of side w).session event ∷ []
+
+abbrev pub feeds_seen : Side → List ℕ → World → List Sight
+feeds_seen side octets w = octets_seen side (end_of side w).session octets
+
+abbrev pub tells_if_seen : Bool → Side → Event → World → List Sight
+tells_if_seen true side event w = tells_seen side event w
+tells_if_seen false side event w = []
+
 abbrev pub state_of : Side → World → State
 state_of side w = (end_of side w).session.standing.state
 
@@ -79,6 +91,16 @@ lost_if false w = w
 abbrev pub lost : World → World
 lost w = lost_if (stands w) w
 
+abbrev pub fails_up_seen : Side → World → List Sight
+fails_up_seen side w = tells_if_seen (listens (state_of side w)) side event.Failed w
+
+abbrev pub lost_if_seen : Bool → World → List Sight
+lost_if_seen true w = fails_up_seen A (emptied w) ++ fails_up_seen B (fails_up A (emptied w))
+lost_if_seen false w = []
+
+abbrev pub lost_seen : World → List Sight
+lost_seen w = lost_if_seen (stands w) w
+
 -- a side seeks a connection
 abbrev pub seeks : State → Bool
 seeks state.Connect = true
@@ -87,6 +109,9 @@ seeks _ = false
 
 abbrev pub refused_at : Side → World → World
 refused_at side w = tells_if (seeks (state_of side w)) side event.Failed w
+
+abbrev pub refused_seen : Side → World → List Sight
+refused_seen side w = tells_if_seen (seeks (state_of side w)) side event.Failed w
 
 -- ---- rounds
 
@@ -128,18 +153,43 @@ new_round w = record { a = joined_end w.a; b = joined_end w.b; notes = []; over 
 
 -- ---- moves that the wire answers
 
--- the world, the answers of the wire that are left, and what the wire was asked
+-- a call of the wire, or what an observer is told
+pub data Turn : Type 0 where
+  Asks : Call → Turn
+  Shows : Sight → Turn
+
+-- what the wire was asked in these turns
+abbrev pub calls_in : List Turn → List Call
+calls_in [] = []
+calls_in (Asks call ∷ later) = call ∷ calls_in later
+calls_in (Shows sight ∷ later) = calls_in later
+
+-- and what an observer was told
+abbrev pub sights_in : List Turn → List Sight
+sights_in [] = []
+sights_in (Asks call ∷ later) = sights_in later
+sights_in (Shows sight ∷ later) = sight ∷ sights_in later
+
+-- the world, the answers of the wire that are left, and the turns that led there
 pub record Ran : Type 0 where
   pub world : World
   pub answers : List Bool
-  pub calls : List Call
+  pub turns : List Turn
 
 abbrev pub ran : World → List Bool → Ran
-ran w answers = record { world = w; answers = answers; calls = [] }
+ran w answers = record { world = w; answers = answers; turns = [] }
 
--- what comes behind these calls
-abbrev pub asked : List Call → Ran → Ran
-asked calls r = record { world = r.world; answers = r.answers; calls = calls ++ r.calls }
+-- what comes behind these turns
+abbrev pub behind : List Turn → Ran → Ran
+behind turns r = record { world = r.world; answers = r.answers; turns = turns ++ r.turns }
+
+-- it is shown
+abbrev pub shown : List Sight → Ran → Ran
+shown sights r = behind (map Shows sights) r
+
+-- the wire is asked, and then this is shown
+abbrev pub asked : Call → List Sight → Ran → Ran
+asked call sights r = behind (Asks call ∷ map Shows sights) r
 
 -- the next answer
 abbrev pub answer_of : List Bool → Bool
@@ -159,14 +209,18 @@ abbrev pub joins : Bool → World → World
 joins true w = tells B event.Connected (tells A event.Connected (new_round w))
 joins false w = tells B event.Failed (tells A event.Failed w)
 
+abbrev pub joins_seen : Bool → World → List Sight
+joins_seen true w = tells_seen A event.Connected (new_round w) ++ tells_seen B event.Connected (tells A event.Connected (new_round w))
+joins_seen false w = tells_seen A event.Failed w ++ tells_seen B event.Failed (tells A event.Failed w)
+
 abbrev pub joined_if : Bool → World → List Bool → Ran
-joined_if true w answers = asked (Joined (answer_of answers) ∷ []) (ran (joins (answer_of answers) w) (later_of answers))
+joined_if true w answers = asked (Joined (answer_of answers)) (joins_seen (answer_of answers) w) (ran (joins (answer_of answers) w) (later_of answers))
 joined_if false w answers = ran w answers
 
 -- a piece passes and comes to the side, and then the others; or it doesn't, and the connection is lost
 abbrev pub delivers_on : Bool → (World → List Bool → Ran) → Side → List ℕ → World → List Bool → Ran
-delivers_on true on side piece w answers = asked (Handed side piece true ∷ []) (on (feeds side piece w) answers)
-delivers_on false on side piece w answers = asked (Handed side piece false ∷ []) (ran (lost w) answers)
+delivers_on true on side piece w answers = asked (Handed side piece true) (feeds_seen side piece w) (on (feeds side piece w) answers)
+delivers_on false on side piece w answers = asked (Handed side piece false) (lost_seen w) (ran (lost w) answers)
 
 -- octets pass in pieces of 4096, until the side has left: no more pieces than octets
 abbrev pub delivered : ℕ → Side → List ℕ → World → List Bool → Ran
@@ -195,30 +249,33 @@ sent_or (Some fault) side u w = with_refused w side fault
 abbrev pub sends : Side → Update → World → World
 sends side u w = sent_or (refusal_of (end_of side w).session u) side u w
 
+abbrev pub sends_seen : Side → Update → World → List Sight
+sends_seen side u w = tried_seen side (end_of side w).session u ∷ []
+
 -- ---- a schedule
 
 -- what a move does; the answers of the wire are used up from the front
 abbrev pub moved : Move → World → List Bool → Ran
-moved (move.Start side) w answers = ran (tells side event.Start w) answers
-moved (move.Stop side) w answers = ran (tells side event.Stop w) answers
+moved (move.Start side) w answers = shown (tells_seen side event.Start w) (ran (tells side event.Start w) answers)
+moved (move.Stop side) w answers = shown (tells_seen side event.Stop w) (ran (tells side event.Stop w) answers)
 moved move.Join w answers = joined_if (can_join w) w answers
-moved (move.Refuse side) w answers = ran (refused_at side w) answers
+moved (move.Refuse side) w answers = shown (refused_seen side w) (ran (refused_at side w) answers)
 moved (move.Deliver side k) w answers = delivers side k w answers
-moved move.Lose w answers = ran (lost w) answers
-moved (move.Expire side timer) w answers = ran (tells side (event.Expired timer) w) answers
-moved (move.Send side u) w answers = ran (sends side u w) answers
+moved move.Lose w answers = shown (lost_seen w) (ran (lost w) answers)
+moved (move.Expire side timer) w answers = shown (tells_seen side (event.Expired timer) w) (ran (tells side (event.Expired timer) w) answers)
+moved (move.Send side u) w answers = shown (sends_seen side u w) (ran (sends side u w) answers)
 
 -- the wire is cut behind the move that ends the connection
-abbrev pub cut_behind : Bool → Bool → List Call
-cut_behind true false = Cut ∷ []
+abbrev pub cut_behind : Bool → Bool → List Turn
+cut_behind true false = Asks Cut ∷ Shows Ended ∷ []
 cut_behind _ _ = []
 
 abbrev pub cut_if : Bool → Ran → Ran
-cut_if stood r = record { world = r.world; answers = r.answers; calls = r.calls ++ cut_behind stood (stands r.world) }
+cut_if stood r = record { world = r.world; answers = r.answers; turns = r.turns ++ cut_behind stood (stands r.world) }
 
 abbrev pub played : Move → World → List Bool → Ran
-played one w answers = cut_if (stands w) (moved one w answers)
+played one w answers = shown (Begun one ∷ []) (cut_if (stands w) (moved one w answers))
 
 abbrev pub all_moved : List Move → World → List Bool → Ran
 all_moved [] w answers = ran w answers
-all_moved (one ∷ later) w answers = asked (played one w answers).calls (all_moved later (moved one w answers).world (moved one w answers).answers)
+all_moved (one ∷ later) w answers = behind (played one w answers).turns (all_moved later (moved one w answers).world (moved one w answers).answers)

@@ -1,12 +1,14 @@
 //! What one end does, and what the other has of it.
 
-ghost use Rattle.std.specs.Prelude.{◌≡◌, IfOk, OnOk};
+ghost use Rattle.std.specs.Prelude.{◌≡◌, [], ◌∷◌, IfOk, OnOk};
 ghost use Rattle.bgp_machine.specs.Cutting.{IsAtRest};
 ghost use Rattle.bgp_session.specs.Pair.{pair, acted, all_acted, told, fed};
-ghost use Rattle.bgp_session.specs.Feeding.{IsReady, Feeds};
+ghost use Rattle.bgp_session.specs.Feeding.{IsReady, Feeds, SeesPull};
 ghost use Rattle.bgp_session.specs.Laws.{HasRangesUnless};
 ghost use Rattle.bgp_session.specs.Playing.{Sends};
+ghost use Rattle.bgp_session.specs.Sight.{observed, event_seen, octets_seen, tried_seen};
 
+use crate::observer::Observer;
 use crate::side::Side;
 use crate::speaker::{Speaker, notification};
 use bgp_frame::{Kind, head};
@@ -64,39 +66,48 @@ fn act_all(
 }
 
 /// Tells `this` what happens.
-pub(crate) fn tell(
+pub(crate) fn tell<O: Observer>(
     alloc: Global,
     side: Side,
     this: &mut Speaker,
     other: &mut Speaker,
     notes: &mut List<Note>,
     event: Event,
+    observer: &mut O,
 ) -> Result<(), AllocError>
-    ensures { OnOk result (told side (pair this.old other.old notes.old) event ≡ pair this.new other.new notes.new) }
+    ensures told { OnOk result (told side (pair this.old other.old notes.old) event ≡ pair this.new other.new notes.new) }
+    ensures seen { OnOk result (O.seen observer.new ≡ observed O.after (O.seen observer.old) (event_seen side this.old.session event ∷ [])) }
 {
     if let Event::Failed = event {
         this.leave();
     }
     let actions = this.session.event(event);
+    observer.told(side, event, this.session.state(), &actions)?;
     act_all(alloc, side, this, other, notes, actions)
 }
 
 /// Lets `this` take octets from the front of a piece, or do what is to be done on what it holds. Answers how many it took, and None where
 /// nothing is left to do.
-fn pull(
+fn pull<O: Observer>(
     alloc: Global,
     side: Side,
     this: &mut Speaker,
     other: &mut Speaker,
     notes: &mut List<Note>,
     piece: &[u8],
+    observer: &mut O,
 ) -> Result<Option<usize>, AllocError>
     requires ready { IsReady this.old.session }
-    ensures { IfOk result (Feeds side (pair this.old other.old notes.old) piece.now (pair this.new other.new notes.new)) }
+    ensures feeds { IfOk result (Feeds side (pair this.old other.old notes.old) piece.now (pair this.new other.new notes.new)) }
+    ensures seen { IfOk result (SeesPull O.after (O.seen observer.old) (O.seen observer.new) side this.old.session this.new.session piece.now) }
 {
+    let context = this.session.context().copied();
     let (taken, found) = this.session.pull(alloc, piece)?;
+    let (front, _) = piece.split_at(taken);
+    observer.came(side, front)?;
     match found {
         Some(actions) => {
+            observer.heard(side, context, this.session.state(), &actions)?;
             act_all(alloc, side, this, other, notes, actions)?;
             Ok(Some(taken))
         }
@@ -106,20 +117,22 @@ fn pull(
 }
 
 /// Feeds a piece to `this`, and does all that it wants done.
-pub(crate) fn feed(
+pub(crate) fn feed<O: Observer>(
     alloc: Global,
     side: Side,
     this: &mut Speaker,
     other: &mut Speaker,
     notes: &mut List<Note>,
     piece: &[u8],
+    observer: &mut O,
 ) -> Result<(), AllocError>
     requires rests { IsAtRest this.old.session }
     ensures fed { OnOk result (fed side (pair this.old other.old notes.old) piece.now ≡ pair this.new other.new notes.new) }
+    ensures seen { OnOk result (O.seen observer.new ≡ observed O.after (O.seen observer.old) (octets_seen side this.old.session piece.now)) }
     ensures rests { OnOk result (IsAtRest this.new.session) }
 {
     let mut rest = piece;
-    'piece: while let Some(taken) = pull(alloc, side, this, other, notes, rest)? {
+    'piece: while let Some(taken) = pull(alloc, side, this, other, notes, rest, observer)? {
         let (_, later) = rest.split_at(taken);
         rest = later;
     }
@@ -127,23 +140,31 @@ pub(crate) fn feed(
 }
 
 /// Lets `this` send an UPDATE. Answers why it isn't sent, where it isn't.
-pub(crate) fn send(
+pub(crate) fn send<O: Observer>(
     alloc: Global,
+    side: Side,
     this: &mut Speaker,
     other: &mut Speaker,
     update: &Update,
+    observer: &mut O,
 ) -> Result<Option<SendFault>, AllocError>
     ensures sent { IfOk result (Sends this.old other.old update.now this.new other.new) }
+    ensures seen { OnOk result (O.seen observer.new ≡ observed O.after (O.seen observer.old) (tried_seen side this.old.session update.now ∷ [])) }
     ensures ranges { IfOk result (λ found. HasRangesUnless found update.now) }
 {
     let mut octets = Vec::new(alloc);
+    let state = this.session.state();
     match this.session.send(alloc, update, &mut octets) {
-        Ok(_actions) => {
+        Ok(actions) => {
+            observer.tried(side, None, state, &actions)?;
             this.sent.push(update.copy(alloc)?)?;
             other.await_octets(&octets)?;
             Ok(None)
         }
         Err(SendFault::Memory) => Err(AllocError),
-        Err(fault) => Ok(Some(fault)),
+        Err(fault) => {
+            observer.tried(side, Some(fault), state, &[])?;
+            Ok(Some(fault))
+        }
     }
 }

@@ -6,6 +6,7 @@
 mod acting;
 pub mod laws;
 mod moves;
+mod observer;
 mod pairing;
 mod playing;
 mod report;
@@ -17,7 +18,8 @@ pub use bgp_machine::{
     Action, Actions, Event, OPEN_HOLD_SECONDS, RETRY_SECONDS, SendFault, Session, State, Timer,
 };
 pub use moves::Move;
-pub use playing::run_pair;
+pub use observer::Observer;
+pub use playing::{observe_pair, run_pair};
 pub use report::{Report, Round};
 pub use side::Side;
 pub use wire::{MemoryWire, Wire};

@@ -5,10 +5,13 @@ ghost use Rattle.bgp_machine.specs.Standing.{listens};
 ghost use Rattle.bgp_machine.specs.Sending.{refusal_of};
 ghost use Rattle.bgp_session.specs.Laws.{HasRangesUnless};
 ghost use Rattle.bgp_session.specs.Playing.{Rests, IsTried};
+ghost use Rattle.bgp_session.specs.Sight.{observed};
+ghost use Rattle.bgp_session.specs.World.{tells_seen, feeds_seen, fails_up_seen, lost_seen, refused_seen, joins_seen, sends_seen};
 ghost use Rattle.bgp_session.specs.World.{begins, tells, feeds, stands, state_of, seeks, fails_up, lost, refused_at, round_of, forgotten, round_over, new_round, can_join, joins, sends, drawn, end_of};
 ghost use Rattle.bgp_session.specs.Report.{report_of};
 
 use crate::acting::{Note, feed, send, tell};
+use crate::observer::Observer;
 use crate::report::{Report, Round};
 use crate::side::Side;
 use crate::speaker::Speaker;
@@ -108,8 +111,15 @@ impl Pairing {
     }
 
     /// Tells a side what happens.
-    pub(crate) fn tell(&mut self, alloc: Global, side: Side, event: Event) -> Result<(), AllocError>
+    pub(crate) fn tell<O: Observer>(
+        &mut self,
+        alloc: Global,
+        side: Side,
+        event: Event,
+        observer: &mut O,
+    ) -> Result<(), AllocError>
         ensures told { OnOk result (self.new ≡ tells side event self.old) }
+        ensures seen { OnOk result (O.seen observer.new ≡ observed O.after (O.seen observer.old) (tells_seen side event self.old)) }
         ensures rests { Rests self.old → OnOk result (Rests self.new) }
     {
         match side {
@@ -120,6 +130,7 @@ impl Pairing {
                 &mut self.b,
                 &mut self.notes,
                 event,
+                observer,
             ),
             Side::B => tell(
                 alloc,
@@ -128,14 +139,22 @@ impl Pairing {
                 &mut self.a,
                 &mut self.notes,
                 event,
+                observer,
             ),
         }
     }
 
     /// Octets come to a side.
-    pub(crate) fn feed(&mut self, alloc: Global, side: Side, piece: &[u8]) -> Result<(), AllocError>
+    pub(crate) fn feed<O: Observer>(
+        &mut self,
+        alloc: Global,
+        side: Side,
+        piece: &[u8],
+        observer: &mut O,
+    ) -> Result<(), AllocError>
         requires rests { Rests self.old }
         ensures fed { OnOk result (self.new ≡ feeds side piece.now self.old) }
+        ensures seen { OnOk result (O.seen observer.new ≡ observed O.after (O.seen observer.old) (feeds_seen side piece.now self.old)) }
         ensures rests { OnOk result (Rests self.new) }
     {
         match side {
@@ -146,6 +165,7 @@ impl Pairing {
                 &mut self.b,
                 &mut self.notes,
                 piece,
+                observer,
             ),
             Side::B => feed(
                 alloc,
@@ -154,24 +174,36 @@ impl Pairing {
                 &mut self.a,
                 &mut self.notes,
                 piece,
+                observer,
             ),
         }
     }
 
     /// Tells a side for which a connection stands that it failed.
-    fn fail_up(&mut self, alloc: Global, side: Side) -> Result<(), AllocError>
+    fn fail_up<O: Observer>(
+        &mut self,
+        alloc: Global,
+        side: Side,
+        observer: &mut O,
+    ) -> Result<(), AllocError>
         ensures told { OnOk result (self.new ≡ fails_up side self.old) }
+        ensures seen { OnOk result (O.seen observer.new ≡ observed O.after (O.seen observer.old) (fails_up_seen side self.old)) }
         ensures rests { Rests self.old → OnOk result (Rests self.new) }
     {
         if listens(self.state(side)) {
-            return self.tell(alloc, side, Event::Failed);
+            return self.tell(alloc, side, Event::Failed, observer);
         }
         Ok(())
     }
 
     /// Loses the connection, where there is one.
-    pub(crate) fn lose(&mut self, alloc: Global) -> Result<(), AllocError>
+    pub(crate) fn lose<O: Observer>(
+        &mut self,
+        alloc: Global,
+        observer: &mut O,
+    ) -> Result<(), AllocError>
         ensures lost { OnOk result (self.new ≡ lost self.old) }
+        ensures seen { OnOk result (O.seen observer.new ≡ observed O.after (O.seen observer.old) (lost_seen self.old)) }
         ensures rests { Rests self.old → OnOk result (Rests self.new) }
     {
         if !self.stands() {
@@ -179,17 +211,23 @@ impl Pairing {
         }
         self.a.flight.clear();
         self.b.flight.clear();
-        self.fail_up(alloc, Side::A)?;
-        self.fail_up(alloc, Side::B)
+        self.fail_up(alloc, Side::A, observer)?;
+        self.fail_up(alloc, Side::B, observer)
     }
 
     /// Tells a side that seeks a connection that it failed.
-    pub(crate) fn refuse(&mut self, alloc: Global, side: Side) -> Result<(), AllocError>
+    pub(crate) fn refuse<O: Observer>(
+        &mut self,
+        alloc: Global,
+        side: Side,
+        observer: &mut O,
+    ) -> Result<(), AllocError>
         ensures told { OnOk result (self.new ≡ refused_at side self.old) }
+        ensures seen { OnOk result (O.seen observer.new ≡ observed O.after (O.seen observer.old) (refused_seen side self.old)) }
         ensures rests { Rests self.old → OnOk result (Rests self.new) }
     {
         if seeks(self.state(side)) {
-            return self.tell(alloc, side, Event::Failed);
+            return self.tell(alloc, side, Event::Failed, observer);
         }
         Ok(())
     }
@@ -248,51 +286,61 @@ impl Pairing {
     }
 
     /// Lets a side send an UPDATE. Answers why it isn't sent, where it isn't.
-    fn try_send(
+    fn try_send<O: Observer>(
         &mut self,
         alloc: Global,
         side: Side,
         update: &Update,
+        observer: &mut O,
     ) -> Result<Option<SendFault>, AllocError>
         ensures sent { IfOk result (λ found. IsTried side update.now self.old found self.new) }
+        ensures seen { OnOk result (O.seen observer.new ≡ observed O.after (O.seen observer.old) (sends_seen side update.now self.old)) }
         ensures ranges { IfOk result (λ found. HasRangesUnless found update.now) }
         ensures rests { Rests self.old → OnOk result (Rests self.new) }
     {
         match side {
-            Side::A => send(alloc, &mut self.a, &mut self.b, update),
-            Side::B => send(alloc, &mut self.b, &mut self.a, update),
+            Side::A => send(alloc, side, &mut self.a, &mut self.b, update, observer),
+            Side::B => send(alloc, side, &mut self.b, &mut self.a, update, observer),
         }
     }
 
     /// Lets a side send an UPDATE, where its session lets it.
-    pub(crate) fn send(
+    pub(crate) fn send<O: Observer>(
         &mut self,
         alloc: Global,
         side: Side,
         update: &Update,
+        observer: &mut O,
     ) -> Result<(), AllocError>
         ensures sent { OnOk result (self.new ≡ sends side update.now self.old) }
+        ensures seen { OnOk result (O.seen observer.new ≡ observed O.after (O.seen observer.old) (sends_seen side update.now self.old)) }
         ensures ranges { OnOk result (HasRangesUnless (refusal_of (end_of side self.old).session update.now) update.now) }
         ensures rests { Rests self.old → OnOk result (Rests self.new) }
     {
-        match self.try_send(alloc, side, update)? {
+        match self.try_send(alloc, side, update, observer)? {
             None => Ok(()),
             Some(fault) => self.refused.push((side, fault)),
         }
     }
 
     /// Tells both sides whether they are connected: where they are, a round begins.
-    pub(crate) fn connect(&mut self, alloc: Global, joined: bool) -> Result<(), AllocError>
+    pub(crate) fn connect<O: Observer>(
+        &mut self,
+        alloc: Global,
+        joined: bool,
+        observer: &mut O,
+    ) -> Result<(), AllocError>
         ensures joined { OnOk result (self.new ≡ joins joined self.old) }
+        ensures seen { OnOk result (O.seen observer.new ≡ observed O.after (O.seen observer.old) (joins_seen joined self.old)) }
         ensures rests { Rests self.old → OnOk result (Rests self.new) }
     {
         if joined {
             self.begin_round(alloc)?;
-            self.tell(alloc, Side::A, Event::Connected)?;
-            return self.tell(alloc, Side::B, Event::Connected);
+            self.tell(alloc, Side::A, Event::Connected, observer)?;
+            return self.tell(alloc, Side::B, Event::Connected, observer);
         }
-        self.tell(alloc, Side::A, Event::Failed)?;
-        self.tell(alloc, Side::B, Event::Failed)
+        self.tell(alloc, Side::A, Event::Failed, observer)?;
+        self.tell(alloc, Side::B, Event::Failed, observer)
     }
 
     /// What came of the moves, with these answers of the wire.

@@ -19,13 +19,18 @@ use Rattle.bgp_engine.specs.Tally.{status_of}
 use Rattle.bgp_words.specs.declared.request.Request.{Request}
 use Rattle.bgp_words.specs.declared.request.Request.TheVariants.{Show, Check, Narrow, ToHex, FromHex, Loop}
 use Rattle.bgp_words.specs.declared.request.Session.TheVariants.{Flags, Opens}
-use Rattle.bgp_loop.specs.Loop.{IsOfFile, RunsFile}
+use Rattle.bgp_loop.specs.Loop.{IsOfFile, RunsFile, TracesFile}
 use Rattle.bgp_words.specs.CommandLine.{faults_of, request_of}
 
 -- a script ran: nothing was read of the reader
 pub record RunsScript (io : Io) (outcome : Result Tally ToolFault) : Type 0 where
   pub unread : Keeps io.reader_old io.reader_new
   pub ran : RunsFile io.writer_old io.writer_new outcome
+
+-- and what came of each move was written before the report
+pub record TracesScript (io : Io) (outcome : Result Tally ToolFault) : Type 0 where
+  pub unread : Keeps io.reader_old io.reader_new
+  pub ran : TracesFile io.writer_old io.writer_new outcome
 
 -- the file of the other direction had some octets, and the engine ran by these
 pub record RanBy (reports : List ℕ → Reports) (hex : Bool) (io : Io) (outcome : Result Tally ToolFault) : Type 0 where
@@ -59,7 +64,8 @@ Runs (Narrow (Flags ctx)) io outcome = engine.Answers (Narrowed ctx) false io ou
 Runs (Narrow Opens) io outcome = RunsBy NarrowedBy false io outcome
 Runs ToHex io outcome = engine.Answers Hexed false io outcome
 Runs FromHex io outcome = engine.Answers Copied true io outcome
-Runs (Loop tcp) io outcome = RunsScript io outcome
+Runs (Loop tcp false) io outcome = RunsScript io outcome
+Runs (Loop tcp true) io outcome = TracesScript io outcome
 
 -- the engine of a request ran, and the answer is the status of its outcome
 pub record HasRun (request : Request) (io : Io) (answer : ℕ) : Type 0 where

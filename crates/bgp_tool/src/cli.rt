@@ -9,7 +9,7 @@ use bgp_engine::{
     Tally, ToolFault, check, check_by_opens, from_hex, narrow_by_opens, narrow_stream, show,
     show_by_opens, show_json, show_json_by_opens, status, to_hex,
 };
-use bgp_loop::{read_file, run_file};
+use bgp_loop::{read_file, run_file, trace_file};
 use bgp_words::{Asked, Request, Session, parse};
 use clap::Error;
 use clap::error::ErrorKind;
@@ -133,7 +133,8 @@ fn run<H: Files + Net, R: Read, W: Write>(
         },
         Request::ToHex => to_hex(alloc, input, output),
         Request::FromHex => from_hex(alloc, input, output),
-        Request::Loop { tcp } => run_file(rt, alloc, asked.file, tcp, output),
+        Request::Loop { tcp, trace } if trace => trace_file(rt, alloc, asked.file, tcp, output),
+        Request::Loop { tcp, .. } => run_file(rt, alloc, asked.file, tcp, output),
     }
 }
 

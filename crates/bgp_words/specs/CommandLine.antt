@@ -39,7 +39,7 @@ abbrev pub file_rule : Rule
 file_rule = record (new_rule (codes "SCRIPT")) { required = true }
 
 abbrev pub loop_command : App
-loop_command = with_flag (with_rule (new_app (codes "loop")) file_rule) (codes "tcp")
+loop_command = with_flag (with_flag (with_rule (new_app (codes "loop")) file_rule) (codes "tcp")) (codes "trace")
 
 abbrev pub with_command : App → App → App
 with_command a sub = with_subcommand a sub.top
@@ -98,7 +98,7 @@ request_by name rows =
     if bytes_eq name (codes "narrow") then Narrow (session_of true rows) else (
     if bytes_eq name (codes "to-hex") then ToHex else (
     if bytes_eq name (codes "from-hex") then FromHex else
-    Loop (is_set (codes "tcp") rows)))))
+    Loop (is_set (codes "tcp") rows) (is_set (codes "trace") rows)))))
 
 -- the file that is named
 abbrev pub text_or_empty : Option Text → Text

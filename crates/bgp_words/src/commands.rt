@@ -158,11 +158,17 @@ fn looping<'a>(alloc: Global) -> Result<Command<'a>, AllocError>
         LOOP_HELP,
     );
     let command = command.arg(file(alloc))?;
-    with_flag(
+    let command = with_flag(
         alloc,
         command,
         "tcp",
         "Join the speakers over TCP on 127.0.0.1 in place of memory",
+    )?;
+    with_flag(
+        alloc,
+        command,
+        "trace",
+        "Print what comes of each move, before the report",
     )
 }
 

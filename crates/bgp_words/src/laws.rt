@@ -22,8 +22,10 @@ pub fn words_have_one_meaning()
     ensures no_name { CanBeDoneWith (codes "show" ∷ codes "--opens" ∷ [] ∷ []) (Show Opens false false) [] }
     ensures to_hex { CanBeDone (codes "to-hex" ∷ []) ToHex }
     ensures from_hex { CanBeDone (codes "from-hex" ∷ []) FromHex }
-    ensures runs { CanBeDoneWith (codes "loop" ∷ codes "two.script" ∷ []) (Loop false) (codes "two.script") }
-    ensures runs_tcp { CanBeDoneWith (codes "loop" ∷ codes "--tcp" ∷ codes "two.script" ∷ []) (Loop true) (codes "two.script") }
+    ensures runs { CanBeDoneWith (codes "loop" ∷ codes "two.script" ∷ []) (Loop false false) (codes "two.script") }
+    ensures runs_tcp { CanBeDoneWith (codes "loop" ∷ codes "--tcp" ∷ codes "two.script" ∷ []) (Loop true false) (codes "two.script") }
+    ensures runs_traced { CanBeDoneWith (codes "loop" ∷ codes "two.script" ∷ codes "--trace" ∷ []) (Loop false true) (codes "two.script") }
+    ensures runs_both { CanBeDoneWith (codes "loop" ∷ codes "--trace" ∷ codes "--tcp" ∷ codes "two.script" ∷ []) (Loop true true) (codes "two.script") }
 {}
 
 /// No word is too few, `--help` asks for help and `--version` for the version, a flag belongs to its commands, and what both OPENs tell isn't

@@ -42,9 +42,10 @@ pub enum Request {
     ToHex,
     /// `from-hex`.
     FromHex,
-    /// `loop`, over TCP where `tcp` is set, else in memory.
+    /// `loop`, over TCP where `tcp` is set, else in memory; with what comes of each move where `trace` is set.
     Loop {
         tcp: bool,
+        trace: bool,
     },
 }
 
@@ -118,6 +119,7 @@ fn asked_by(name: &str, flags: &ArgMatches<'_>) -> Request
     }
     Request::Loop {
         tcp: is_set(flags, "tcp"),
+        trace: is_set(flags, "trace"),
     }
 }
 

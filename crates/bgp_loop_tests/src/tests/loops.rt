@@ -24,6 +24,13 @@ const DISAGREEMENT: &str =
 const DISAGREEMENT_TEXT: &str =
     "round 1\na sent 0 got 0 gone 0 notes -\nb sent 0 got 0 gone 0 notes 2/2\nround 2\na sent 0 got 0 gone 0 notes -\nb sent 0 got 0 gone 0 notes -\nrefused a 1\nstate a Active\nstate b Active\n";
 
+/// A session that is told that no connection can be had, and an UPDATE that can't be sent.
+const REFUSED: &str =
+    "a as 65001 peer 65002 id 192.0.2.1 hold 90\nb as 65002 peer 65001 id 192.0.2.2 hold 30\nstart a\nrefuse a\nsend b 00000000\n";
+
+const REFUSED_TRACE: &str =
+    "move start a\na start: Connect; arm retry 120; connect\nmove refuse a\na failed: Idle; disarm retry\nmove send b\nb refused 1: Idle\nrefused b 1\nstate a Idle\nstate b Idle\n";
+
 /// A writer that takes so many octets, and then fails: by an error, or by taking none.
 #[derive(Drop)]
 struct Full {
@@ -161,6 +168,21 @@ fn writers_that_fail(rt: HostRuntime) {
             assert!(rt; outcome == Err(ToolFault::Write));
             assert!(rt; full.text.as_slice() == &TWO_SPEAKERS_TEXT.as_bytes()[..room]);
         }
+    }
+}
+
+#[test]
+fn a_trace_to_writers_that_fail(rt: HostRuntime) {
+    for room in 0..=REFUSED_TRACE.len() {
+        let mut full = Full {
+            text: Vec::new(rt.alloc()),
+            room,
+            takes_nothing: false,
+        };
+        assert!(rt; REFUSED.len() <= SCRIPT_MAX);
+        let outcome = trace_loop(rt.alloc(), REFUSED.as_bytes(), &mut MemoryWire, &mut full);
+        assert!(rt; outcome.is_ok() == (room == REFUSED_TRACE.len()));
+        assert!(rt; full.text.as_slice() == &REFUSED_TRACE.as_bytes()[..room]);
     }
 }
 

@@ -11,15 +11,15 @@ use Rattle.bgp_session.proofs.playing.deliver.Goals.{then-pieces-test+else-not-h
 pub pieces-init : goal.pieces-init
 pieces-init g c = (
   c.in_ok-octets.ensures.rests c.requires.rests,
-  delivers_first (g.W.Wire.honest c.args.wire.now) c.args.answers.now (trace (g.W.Wire.failed c.args.wire.now) (g.W.Wire.calls c.args.wire.now)) c.args.side c.args.count c.args.pairing.now c.draw.new.self c.in_ok-octets.octets.items
+  delivers_first (g.W.Wire.honest c.args.wire.now) g.O.Observer.after c.args.answers.now (trace (g.W.Wire.failed c.args.wire.now) (g.W.Wire.calls c.args.wire.now) (g.O.Observer.seen c.args.observer.now)) c.args.side c.args.count c.args.pairing.now c.draw.new.self c.in_ok-octets.octets.items
       c.in_ok-octets.ensures.octets c.in_ok-octets.ensures.drawn,
   refl,
 )
 
 pub returns-then-not-branch-clause-plays : goal.returns-then-not-branch-clause-plays
 returns-then-not-branch-clause-plays g c =
-    stops_there (g.W.Wire.honest c.args.wire.now) (g.W.Wire.honest c.pieces.wire) c.pieces.invariant.2 c.args.side (delivers c.args.side c.args.count c.args.pairing.now)
-    c.args.answers.now c.pieces.answers c.pass.new.answers (trace (g.W.Wire.failed c.args.wire.now) (g.W.Wire.calls c.args.wire.now)) (trace (g.W.Wire.failed c.pieces.wire) (g.W.Wire.calls c.pieces.wire)) (trace (g.W.Wire.failed c.pass.new.wire) (g.W.Wire.calls c.pass.new.wire))
+    stops_there (g.W.Wire.honest c.args.wire.now) (g.W.Wire.honest c.pieces.wire) c.pieces.invariant.2 g.O.Observer.after c.args.side (delivers c.args.side c.args.count c.args.pairing.now)
+    c.args.answers.now c.pieces.answers c.pass.new.answers (trace (g.W.Wire.failed c.args.wire.now) (g.W.Wire.calls c.args.wire.now) (g.O.Observer.seen c.args.observer.now)) (trace (g.W.Wire.failed c.pieces.wire) (g.W.Wire.calls c.pieces.wire) (g.O.Observer.seen c.pieces.observer)) (trace (g.W.Wire.failed c.pass.new.wire) (g.W.Wire.calls c.pass.new.wire) (g.O.Observer.seen c.pass.new.observer))
     c.pieces.octets.items c.in_ok-piece.piece.items c.take_front.new.octets.items c.pieces.pairing c.pass.new.pairing c.pieces.invariant.1
     (some_left c.is_empty.result (vec_len c.pieces.octets) (length c.pieces.octets.items) c.is_empty.ensures c.pieces-test.true c.pieces.octets.ok.0)
     (sym c.has_left.ensures ∙ c.if-not-has_left.true) c.in_ok-piece.ensures.front c.in_ok-piece.ensures.back c.in_ok-pass.field-0 c.in_ok-pass.ensures.passes c.if-not-branch.true
@@ -27,8 +27,8 @@ returns-then-not-branch-clause-plays g c =
 pub pieces-preserved : goal.pieces-preserved
 pieces-preserved g c = (
   c.in_ok-pass.ensures.rests,
-  goes_further (g.W.Wire.honest c.args.wire.now) (g.W.Wire.honest c.pieces.wire) c.pieces.invariant.2 c.args.side (delivers c.args.side c.args.count c.args.pairing.now)
-      c.args.answers.now c.pieces.answers c.pass.new.answers (trace (g.W.Wire.failed c.args.wire.now) (g.W.Wire.calls c.args.wire.now)) (trace (g.W.Wire.failed c.pieces.wire) (g.W.Wire.calls c.pieces.wire)) (trace (g.W.Wire.failed c.pass.new.wire) (g.W.Wire.calls c.pass.new.wire))
+  goes_further (g.W.Wire.honest c.args.wire.now) (g.W.Wire.honest c.pieces.wire) c.pieces.invariant.2 g.O.Observer.after c.args.side (delivers c.args.side c.args.count c.args.pairing.now)
+      c.args.answers.now c.pieces.answers c.pass.new.answers (trace (g.W.Wire.failed c.args.wire.now) (g.W.Wire.calls c.args.wire.now) (g.O.Observer.seen c.args.observer.now)) (trace (g.W.Wire.failed c.pieces.wire) (g.W.Wire.calls c.pieces.wire) (g.O.Observer.seen c.pieces.observer)) (trace (g.W.Wire.failed c.pass.new.wire) (g.W.Wire.calls c.pass.new.wire) (g.O.Observer.seen c.pass.new.observer))
       c.pieces.octets.items c.in_ok-piece.piece.items c.take_front.new.octets.items c.pieces.pairing c.pass.new.pairing c.pieces.invariant.1
       (some_left c.is_empty.result (vec_len c.pieces.octets) (length c.pieces.octets.items) c.is_empty.ensures c.pieces-test.true c.pieces.octets.ok.0)
       (sym c.has_left.ensures ∙ c.if-not-has_left.true) c.in_ok-piece.ensures.front c.in_ok-piece.ensures.back c.in_ok-pass.field-0 c.in_ok-pass.ensures.passes c.if-not-branch.false,

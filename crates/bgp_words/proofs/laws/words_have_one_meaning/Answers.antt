@@ -61,3 +61,11 @@ returns-clause-narrow_opens c = record { without_fault = refl; asked = refl }
 pub returns-clause-no_name : goal.returns-clause-no_name
 unfolding clap_on_literals
 returns-clause-no_name c = record { without_fault = refl; asked = refl }
+
+pub returns-clause-runs_traced : goal.returns-clause-runs_traced
+unfolding clap_on_literals
+returns-clause-runs_traced c = record { without_fault = refl; asked = refl }
+
+pub returns-clause-runs_both : goal.returns-clause-runs_both
+unfolding clap_on_literals
+returns-clause-runs_both c = record { without_fault = refl; asked = refl }

@@ -1,5 +1,5 @@
 use Rattle.bgp_session.proofs.Reports.{when_ok, reported_reasons, reported_fronts}
-use Rattle.bgp_session.proofs.playing.run_pair.Goals as goal
+use Rattle.bgp_session.proofs.playing.observe_pair.Goals as goal
 
 pub returns-clause-notifications : goal.returns-clause-notifications
 returns-clause-notifications g c = λ honest.

@@ -1,0 +1,223 @@
+-- What a pull shows is what the octets that it takes show one by one.
+use Rattle.std.proofs.Common.{◌≡◌, ℕ, zero, suc, ◌<◌, ◌≤◌, Bool, true, false, List, [], ◌∷◌, ◌++◌, length, map, take, drop, Option, None, Some, option_map, Bor, refl, sym, ap, ap₂, subst, ◌∙◌, append_assoc, arith, inl, inr}
+use Rattle.std.specs.Option.{option_copied}
+use Rattle.std.proofs.lemmas.Bool.{cases_lt}
+use Rattle.std.proofs.lemmas.List.{append-nil, length-append, take-append-drop}
+use Rattle.arrayvec.specs.ArrayVec.{ArrayVec}
+use Rattle.bgp_wire.specs.Octets.{AreOctets}
+use Rattle.bgp_open.specs.declared.context.Context.{Context}
+use Rattle.bgp_frame.specs.Frame.{wanted, Waits}
+use Rattle.bgp_frame.specs.Framer.{IsHeld}
+use Rattle.bgp_frame.specs.Takes.{Takes}
+use Rattle.bgp_frame.proofs.FrameLemmas.{wanted_under, wanted-append}
+use Rattle.bgp_machine.specs.declared.action.Action.{Action}
+use Rattle.bgp_machine.specs.declared.state.State.{State}
+use Rattle.bgp_machine.specs.Cutting.{IsAtRest, Done, settled, by_octet, with_octet, by_octets}
+use Rattle.bgp_machine.specs.Pulling.{PullsHeld, PullsFront, IsPulled}
+use Rattle.bgp_machine.specs.Session.{Machine, holding, Does, IsJudged}
+use Rattle.bgp_machine.specs.Standing.{listens}
+use Rattle.bgp_machine.proofs.Cuttings.{idles, waits_at, front_by_octets}
+use Rattle.bgp_machine.proofs.Held.{IsHeld-fed}
+use Rattle.bgp_session.specs.declared.side.Side.{Side}
+use Rattle.bgp_session.specs.Feeding.{IsReady, with_machine, left_seen}
+use Rattle.bgp_session.specs.Pair.{Pair, all_acted}
+use Rattle.bgp_session.specs.Sight.{Sight, Came, Heard, observed, step_seen, settled_seen, came_if, octet_seen, octets_seen}
+use Rattle.bgp_session.proofs.Acts.{all_keeps}
+use Rattle.bgp_session.proofs.Feeds.{rests, settled_by, emptied, empty_waits, taken_up, none_left}
+use Rattle.bgp_session.proofs.Plays.{observed_both}
+
+-- what is held with more octets behind it waited, where all of it can be held
+front_waits : (a b : List ℕ) → length (a ++ b) ≤ wanted (a ++ b) → 0 < length b → Waits a
+front_waits a b within some =
+    let all = length-append a b in
+    elim (cases_lt (length a) 19) [
+      | inl short ↦ let e = wanted_under a short in omega arith
+      | inr long ↦ let e = wanted-append a b long in omega arith
+    ]
+
+module _ (side : Side) where
+  -- octets in two parts
+  seen_in_parts : (x : Machine) (a b : List ℕ) → octets_seen side x (a ++ b) ≡ octets_seen side x a ++ octets_seen side (by_octets x a).session b
+  seen_in_parts x [] b = refl
+  seen_in_parts x (octet ∷ a) b =
+      let y : Machine = (by_octet x octet).session in
+      ap (λ (l : List Sight). octet_seen side x octet ++ l) (seen_in_parts y a b)
+      ∙ sym (append_assoc (octet_seen side x octet) (octets_seen side y a) (octets_seen side (by_octets y a).session b))
+
+  -- nothing is shown of what waits
+  waits_unseen : (x : Machine) → Waits x.held → settled_seen side x ≡ []
+  waits_unseen x waits = ap (step_seen side x) (idles x waits)
+
+  left_waiting : (x : Machine) (rest : List ℕ) → Waits x.held → left_seen side x rest ≡ octets_seen side x rest
+  left_waiting x rest waits =
+      ap (λ (l : List Sight). l ++ octets_seen side (settled x).session rest) (waits_unseen x waits)
+      ∙ ap (λ (d : Done). octets_seen side d.session rest) (rests x waits)
+
+  -- a session at rest shows only what comes
+  pub left_resting : (x : Machine) (rest : List ℕ) → IsAtRest x → left_seen side x rest ≡ octets_seen side x rest
+  left_resting x rest rests = left_waiting x rest (waits_at x rests.nothing_to_do)
+
+  -- octets that aren't taken show nothing
+  module _ (x : Machine) (deaf : listens x.standing.state ≡ false) (waits : Waits x.held) where
+    drops_one : (octet : ℕ) → octet_seen side x octet ≡ []
+    drops_one octet = ap (λ (b : Bool). came_if b side octet ++ settled_seen side (holding x (with_octet b x.held octet))) deaf ∙ waits_unseen x waits
+
+    stays_so : (octet : ℕ) → (by_octet x octet).session ≡ x
+    stays_so octet = ap (λ (b : Bool). (settled (holding x (with_octet b x.held octet))).session) deaf ∙ ap (λ (d : Done). d.session) (rests x waits)
+
+    drops_unseen : (piece : List ℕ) → octets_seen side x piece ≡ []
+    drops_unseen [] = refl
+    drops_unseen (octet ∷ piece) =
+        ap₂ (λ (l : List Sight) (m : Machine). l ++ octets_seen side m piece) (drops_one octet) (stays_so octet) ∙ drops_unseen piece
+
+  module _ (x : Machine) (up : listens x.standing.state ≡ true) where
+    seen_one : (held : List ℕ) (octet : ℕ) → octet_seen side (holding x held) octet ≡ Came side octet ∷ settled_seen side (holding x (held ++ octet ∷ []))
+    seen_one held octet = ap (λ (b : Bool). came_if b side octet ++ settled_seen side (holding x (with_octet b held octet))) up
+
+    held_one : (held : List ℕ) (octet : ℕ) → Waits (held ++ octet ∷ []) → (by_octet (holding x held) octet).session ≡ holding x (held ++ octet ∷ [])
+    held_one held octet waits =
+        ap (λ (b : Bool). (settled (holding x (with_octet b held octet))).session) up ∙ ap (λ (d : Done). d.session) (rests (holding x (held ++ octet ∷ [])) waits)
+
+    seen_joins : (held : List ℕ) (octet : ℕ) (front : List ℕ) → IsHeld (held ++ octet ∷ front)
+        → octets_seen side (holding x held) (octet ∷ front) ≡ map (Came side) (octet ∷ front) ++ settled_seen side (holding x (held ++ octet ∷ front))
+    seen_joins held octet [] is = append-nil (octet_seen side (holding x held) octet) ∙ seen_one held octet
+    seen_joins held octet (next ∷ front) is =
+        let more : List ℕ = held ++ octet ∷ [] in
+        let regrouped : more ++ next ∷ front ≡ held ++ octet ∷ next ∷ front = append_assoc held (octet ∷ []) (next ∷ front) in
+        let is_more : IsHeld (more ++ next ∷ front) = subst IsHeld (sym regrouped) is in
+        let waits : Waits more = front_waits more (next ∷ front) is_more.within (omega arith) in
+        ap₂ (λ (l : List Sight) (m : Machine). l ++ octets_seen side m (next ∷ front))
+        (seen_one held octet ∙ ap (λ (l : List Sight). Came side octet ∷ l) (waits_unseen (holding x more) waits)) (held_one held octet waits)
+        ∙ ap (λ (l : List Sight). Came side octet ∷ l) (seen_joins more next front is_more)
+        ∙ ap (λ (h : List ℕ). Came side octet ∷ (map (Came side) (next ∷ front) ++ settled_seen side (holding x h))) regrouped
+
+    -- octets that can all be held come, and then what is held is judged
+    seen_front : (held front : List ℕ) → Waits held → IsHeld (held ++ front)
+        → octets_seen side (holding x held) front ≡ map (Came side) front ++ settled_seen side (holding x (held ++ front))
+    seen_front held [] waits is = sym (waits_unseen (holding x held) waits) ∙ ap (λ (h : List ℕ). settled_seen side (holding x h)) (sym (append-nil held))
+    seen_front held (octet ∷ front) waits is = seen_joins held octet front is
+
+  -- octets are taken that can all be held
+  seen_taking : (x : Machine) (piece : List ℕ) (n : ℕ) → listens x.standing.state ≡ true → Waits x.held → IsHeld x.held → AreOctets piece → Takes x.held piece n
+      → left_seen side x piece ≡ map (Came side) (take n piece) ++ left_seen side (holding x (x.held ++ take n piece)) (drop n piece)
+  seen_taking x piece n up waits is octets takes =
+      let front : List ℕ = take n piece in
+      let back : List ℕ = drop n piece in
+      let z : Machine = holding x (x.held ++ front) in
+      let fits : IsHeld (x.held ++ front) = IsHeld-fed x.held piece n is octets takes in
+      left_waiting x piece waits
+      ∙ ap (octets_seen side x) (sym (take-append-drop n piece))
+      ∙ seen_in_parts x front back
+      ∙ ap₂ (λ (l m : List Sight). l ++ m) (seen_front x up x.held front waits fits)
+      (ap (λ (d : Done). octets_seen side d.session back) (front_by_octets x up x.held front waits fits))
+      ∙ append_assoc (map (Came side) front) (settled_seen side z) (octets_seen side (settled z).session back)
+
+  -- what is held is judged, and the rest comes to a session that holds nothing
+  seen_judging : (x : Machine) (actions : List Action) (y : Machine) (rest : List ℕ) → Does x actions y
+      → left_seen side x rest ≡ Heard side x.standing.context y.standing.state actions ∷ left_seen side y rest
+  seen_judging x actions y rest d =
+      ap (λ (l : List Sight). l ++ octets_seen side (settled x).session rest) (ap (step_seen side x) d.judged_so)
+      ∙ ap (λ (e : Done). Heard side x.standing.context d.step.next.state d.step.actions ∷ octets_seen side e.session rest) (settled_by x actions y d)
+      ∙ ap₂ (λ (st : State) (acts : List Action). Heard side x.standing.context st acts ∷ octets_seen side y rest) (sym (ap (λ (m : Machine). m.standing.state) d.leaves)) (sym d.does)
+      ∙ ap (λ (l : List Sight). Heard side x.standing.context y.standing.state actions ∷ l) (sym (left_waiting y rest (empty_waits y (emptied x actions y d))))
+
+-- ---- what an observer has of a pull
+
+-- no more octets are taken than there are
+pub pulled_within : (x : Machine) (piece : List ℕ) (n : ℕ) (found : Option (ArrayVec Action)) (y : Machine) → IsPulled x piece n found y → n ≤ length piece
+pulled_within x piece n None y (inl p) = let none = p.none in omega arith
+pulled_within x piece n None y (inr p) = (taken_up (listens x.standing.state) x.held piece n p.hears p.fed.0).0.within
+pulled_within x piece n (Some actions) y (inl p) = let none = p.none in omega arith
+pulled_within x piece n (Some actions) y (inr p) = p.takes.within
+
+module _ {S : Type 0} (after : S → Sight → S) (s t : S) (side : Side) (x : Machine) (piece : List ℕ) (ready : IsReady x) (octets : AreOctets piece) where
+  -- once these octets came
+  abbrev then_came : ℕ → S
+  then_came n = observed after s (map (Came side) (take n piece))
+
+  sees_taking : (n : ℕ) → listens x.standing.state ≡ true → Waits x.held → Takes x.held piece n
+      → observed after s (left_seen side x piece) ≡ observed after (then_came n) (left_seen side (holding x (x.held ++ take n piece)) (drop n piece))
+  sees_taking n up waits takes =
+      ap (observed after s) (seen_taking side x piece n up waits ready.can_hold octets takes)
+      ∙ observed_both after s (map (Came side) (take n piece)) (left_seen side (holding x (x.held ++ take n piece)) (drop n piece))
+
+  abbrev Goes : ℕ → Machine → Type 0
+  Goes n y = observed after s (left_seen side x piece) ≡ observed after t (left_seen side y (drop n piece))
+
+  sees_held : (n : ℕ) (actions : ArrayVec Action) (y : Machine) → PullsHeld x n actions y
+      → t ≡ after (then_came n) (Heard side x.standing.context y.standing.state actions.items) → Goes n y
+  sees_held n actions y p told =
+      ap (observed after s) (seen_judging side x actions.items y piece p.step)
+      ∙ ap (λ (k : ℕ). observed after (after (then_came k) (Heard side x.standing.context y.standing.state actions.items)) (left_seen side y (drop k piece))) (sym p.none)
+      ∙ ap (λ (u : S). observed after u (left_seen side y (drop n piece))) (sym told)
+
+  sees_front : (n : ℕ) (actions : ArrayVec Action) (y : Machine) → PullsFront x piece n actions y
+      → t ≡ after (then_came n) (Heard side x.standing.context y.standing.state actions.items) → Goes n y
+  sees_front n actions y p told =
+      let z : Machine = holding x (x.held ++ take n piece) in
+      let takes : Takes x.held piece n = subst (λ (h : List ℕ). Takes h piece n) (sym p.none_held) p.takes in
+      let step : Does z actions.items y = subst (λ (h : List ℕ). IsJudged (holding x (h ++ take n piece)) (Some actions) y) (sym p.none_held) p.step in
+      sees_taking n p.hears (empty_waits x p.none_held) takes
+      ∙ ap (observed after (then_came n)) (seen_judging side z actions.items y (drop n piece) step)
+      ∙ ap (λ (u : S). observed after u (left_seen side y (drop n piece))) (sym told)
+
+  -- it took octets, or there were some to be judged
+  pub sees_step : (n : ℕ) (actions : ArrayVec Action) (y : Machine) → IsPulled x piece n (Some actions) y
+      → t ≡ after (then_came n) (Heard side x.standing.context y.standing.state actions.items) → Goes n y
+  sees_step n actions y (inl p) told = sees_held n actions y p told
+  sees_step n actions y (inr p) told = sees_front n actions y p told
+
+  pub sees_more : (n : ℕ) (y : Machine) → 0 < n → IsPulled x piece n None y → t ≡ then_came n → Goes n y
+  sees_more n y some (inl p) told = absurd (let none = p.none in omega arith)
+  sees_more n y some (inr p) told =
+      let counts = taken_up (listens x.standing.state) x.held piece n p.hears p.fed.0 in
+      sees_taking n p.hears p.waits counts.0
+      ∙ ap₂ (λ (u : S) (m : Machine). observed after u (left_seen side m (drop n piece))) (sym told) (sym p.fed.1)
+
+  -- nothing is left to be shown
+  pub sees_none : (y : Machine) → IsPulled x piece 0 None y → t ≡ then_came 0 → observed after s (left_seen side x piece) ≡ t
+  sees_none y (inl p) told =
+      let waits : Waits x.held = empty_waits x (ready.holds_none p.deaf) in
+      ap (observed after s) (left_waiting side x piece waits ∙ drops_unseen side x p.deaf waits piece) ∙ sym told
+  sees_none y (inr p) told =
+      let counts = taken_up (listens x.standing.state) x.held piece 0 p.hears p.fed.0 in
+      ap (observed after s) (left_waiting side x piece p.waits ∙ ap (octets_seen side x) (none_left piece (counts.1 p.waits))) ∙ sym told
+
+-- ---- what the code has of a pull
+
+-- the context that was copied
+pub context_copied : (copied : Option Context) (o : Option (Bor Context)) (ctx : Option Context) → copied ≡ option_copied o → option_map (λ (c : Bor Context). c.now) o ≡ ctx → copied ≡ ctx
+context_copied copied None ctx is same = is ∙ same
+context_copied copied (Some c) ctx is same = is ∙ same
+
+module _ {S : Type 0} (after : S → Sight → S) (s mid t : S) (side : Side) (p : Pair) (piece front : List ℕ) (n : ℕ) (y : Machine) (found : Option (ArrayVec Action)) (ready : IsReady p.this.session)
+    (octets : AreOctets piece) (is_pulled : IsPulled p.this.session piece n found y) (front_is : front ≡ take n piece) (came : mid ≡ observed after s (map (Came side) front)) where
+  found_so : (o : Option (ArrayVec Action)) → found ≡ o → IsPulled p.this.session piece n o y
+  found_so o is = subst (λ (f : Option (ArrayVec Action)). IsPulled p.this.session piece n f y) is is_pulled
+
+  came_so : mid ≡ observed after s (map (Came side) (take n piece))
+  came_so = came ∙ ap (λ (f : List ℕ). observed after s (map (Came side) f)) front_is
+
+  pub saw_step : (actions : ArrayVec Action) (q : Pair) (ctx : Option Context) (st : State) (acts : List Action) → found ≡ Some actions → all_acted side (with_machine p y) actions.items ≡ q
+      → ctx ≡ p.this.session.standing.context → st ≡ y.standing.state → acts ≡ actions.items → t ≡ after mid (Heard side ctx st acts)
+      → observed after s (left_seen side p.this.session piece) ≡ observed after t (left_seen side q.this.session (drop n piece))
+  saw_step actions q ctx st acts is does agreed stands same told =
+      let session : q.this.session ≡ y = ap (λ (r : Pair). r.this.session) (sym does) ∙ all_keeps side (with_machine p y) actions.items in
+      let heard : t ≡ after (observed after s (map (Came side) (take n piece))) (Heard side p.this.session.standing.context y.standing.state actions.items) =
+      told ∙ ap (λ (u : S). after u (Heard side ctx st acts)) came_so
+      ∙ ap (λ (c : Option Context). after (observed after s (map (Came side) (take n piece))) (Heard side c st acts)) agreed
+      ∙ ap₂ (λ (z : State) (l : List Action). after (observed after s (map (Came side) (take n piece))) (Heard side p.this.session.standing.context z l)) stands same in
+      sees_step after s t side p.this.session piece ready octets n actions y (found_so (Some actions) is) heard
+      ∙ ap (λ (m : Machine). observed after t (left_seen side m (drop n piece))) (sym session)
+
+  not_zero : (k : ℕ) → (k ≡ 0 → ⊥) → 0 < k
+  not_zero zero not = absurd (not refl)
+  not_zero (suc k) not = omega arith
+
+  pub saw_more : found ≡ None → (n ≡ 0 → ⊥) → observed after s (left_seen side p.this.session piece) ≡ observed after mid (left_seen side y (drop n piece))
+  saw_more is some = sees_more after s mid side p.this.session piece ready octets n y (not_zero n some) (found_so None is) came_so
+
+  pub saw_none : found ≡ None → n ≡ 0 → observed after s (left_seen side p.this.session piece) ≡ mid
+  saw_none is none =
+      sees_none after s mid side p.this.session piece ready octets y (subst (λ (k : ℕ). IsPulled p.this.session piece k None y) none (found_so None is))
+      (came_so ∙ ap (λ (k : ℕ). observed after s (map (Came side) (take k piece))) none)
