@@ -25,16 +25,17 @@ pub fn read_file<R: Files>(
     path: &str,
     most: u64,
 ) -> Result<Vec<u8>, ToolFault>
-    ensures { IfErr result IsOfFile }
+    ensures ok { IfOk result (λ octets. length octets.items ≤ most) }
+    ensures fault { IfErr result IsOfFile }
 {
     let Ok(file) = fs::open(rt, path) else {
         return Err(ToolFault::Read);
     };
     let mut octets = Vec::new(alloc);
     match file.take(most).read_to_end(&mut octets) {
-        Ok(_) => Ok(octets),
+        Ok(_) if octets.len() as u64 <= most => Ok(octets),
         Err(error) if error.kind() == ErrorKind::OutOfMemory => Err(ToolFault::Memory),
-        Err(_) => Err(ToolFault::Read),
+        _ => Err(ToolFault::Read),
     }
 }
 
