@@ -33,7 +33,7 @@ waits_at x none =
           absurd (let not : None ≡ Some (hears x.settings x.standing (content x.held)) = sym none ∙ some in cc)
     ]
 
-rests : (x : Machine) → Waits x.held → settled x ≡ record { actions = []; session = x }
+pub rests : (x : Machine) → Waits x.held → settled x ≡ record { actions = []; session = x }
 rests x waits = ap (done_by x) (idles x waits)
 
 -- ---- the front of a piece
@@ -81,22 +81,22 @@ module _ (x : Machine) (deaf : listens x.standing.state ≡ false) (waits : Wait
   drops_one : (octet : ℕ) → by_octet x octet ≡ record { actions = []; session = x }
   drops_one octet = ap (λ (b : Bool). settled (holding x (with_octet b x.held octet))) deaf ∙ rests x waits
 
-  drops_all : (piece : List ℕ) → by_octets x piece ≡ record { actions = []; session = x }
+  pub drops_all : (piece : List ℕ) → by_octets x piece ≡ record { actions = []; session = x }
   drops_all [] = refl
   drops_all (octet ∷ piece) = ap (λ (d : Done). behind d.actions (by_octets d.session piece)) (drops_one octet) ∙ drops_all piece
 
 -- ---- steps until one does nothing
 
-abbrev done : List Action → Machine → Done
+abbrev pub done : List Action → Machine → Done
 done actions y = record { actions = actions; session = y }
 
-same_done : (a b : List Action) (y z : Machine) → a ≡ b → y ≡ z → done a y ≡ done b z
+pub same_done : (a b : List Action) (y z : Machine) → a ≡ b → y ≡ z → done a y ≡ done b z
 same_done a b y z p q = ap₂ done p q
 
-settled_by : (x : Machine) (actions : List Action) (y : Machine) → Does x actions y → settled x ≡ done actions y
+pub settled_by : (x : Machine) (actions : List Action) (y : Machine) → Does x actions y → settled x ≡ done actions y
 settled_by x actions y d = ap (done_by x) d.judged_so ∙ same_done d.step.actions actions (after_step x d.step) y (sym d.does) (sym d.leaves)
 
-emptied : (x : Machine) (actions : List Action) (y : Machine) → Does x actions y → y.held ≡ []
+pub emptied : (x : Machine) (actions : List Action) (y : Machine) → Does x actions y → y.held ≡ []
 emptied x actions y d = ap (λ (m : Machine). m.held) d.leaves
 
 -- what holds nothing has nothing to do
@@ -149,7 +149,7 @@ in_parts x (octet ∷ a) b =
     ∙ ap (λ (actions : List Action). done actions back.session) (sym (append_assoc first.actions front.actions back.actions))
 
 -- the first part's actions and session are known, and those of the second
-joins_parts : (x : Machine) (a b : List ℕ) (first rest actions : List Action) (m y : Machine) → by_octets x a ≡ done first m → by_octets m b ≡ done rest y
+pub joins_parts : (x : Machine) (a b : List ℕ) (first rest actions : List Action) (m y : Machine) → by_octets x a ≡ done first m → by_octets m b ≡ done rest y
     → actions ≡ first ++ rest → by_octets x (a ++ b) ≡ done actions y
 joins_parts x a b first rest actions m y front back order =
     in_parts x a b
@@ -157,7 +157,7 @@ joins_parts x a b first rest actions m y front back order =
     ∙ ap (behind first) back
     ∙ ap (λ (acts : List Action). done acts y) (sym order)
 
-none_left : (piece : List ℕ) → (0 < length piece → 0 < 0) → piece ≡ []
+pub none_left : (piece : List ℕ) → (0 < length piece → 0 < 0) → piece ≡ []
 none_left [] none = refl
 none_left (octet ∷ piece) none = absurd (let not : 0 < 0 = none (omega arith) in omega arith)
 
@@ -165,7 +165,7 @@ ends : (x : Machine) (piece : List ℕ) (up : Bool) → listens x.standing.state
 ends x piece true is rest counts = ap (by_octets x) (none_left piece (counts.1 (waits_at x rest.nothing_to_do)))
 ends x piece false is rest counts = drops_all x is (waits_at x rest.nothing_to_do) piece
 
-took_none : (x : Machine) (piece : List ℕ) (y : Machine) → IsFed x piece 0 y → y ≡ x
+pub took_none : (x : Machine) (piece : List ℕ) (y : Machine) → IsFed x piece 0 y → y ≡ x
 took_none x piece y fed = fed.1 ∙ ap (holding x) (append-nil x.held)
 
 -- octets are taken where the session listens alone
@@ -173,7 +173,7 @@ took_some : (x : Machine) (piece : List ℕ) (n : ℕ) (up : Bool) → listens x
 took_some x piece n true is some counts = is
 took_some x piece n false is some counts = absurd (omega arith)
 
-abbrev Settles : Machine → List ℕ → List Action → Machine → Type 0
+abbrev pub Settles : Machine → List ℕ → List Action → Machine → Type 0
 Settles x octets actions y = (by_octets x octets ≡ done actions y) × IsAtRest y
 
 -- the octets of a turn, and the steps behind them

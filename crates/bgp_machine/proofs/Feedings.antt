@@ -40,7 +40,7 @@ event_rests x event rest = kept_rests x (happens x.standing event).next (listens
 
 -- ---- a count of octets, and of steps
 
-count_taken : (held piece : List ℕ) → IsHeld held → AreOctets piece → (n : ℕ) × Takes held piece n
+pub count_taken : (held piece : List ℕ) → IsHeld held → AreOctets piece → (n : ℕ) × Takes held piece n
 count_taken held piece is octets =
     let first : ℕ = min (19 - length held) (length piece) in
     let headed : List ℕ = held ++ take first piece in
@@ -99,7 +99,7 @@ no_turns x piece counts = record {
 }
 
 -- nothing is taken of nothing
-counts_nothing : (up : Bool) (held : List ℕ) → CountsFed up held [] 0
+pub counts_nothing : (up : Bool) (held : List ℕ) → CountsFed up held [] 0
 counts_nothing true held = (record { within = omega arith; no_sooner = λ k lt stops. absurd (omega arith); all_or_stops = inl refl }, λ waits some. some)
 counts_nothing false held = refl
 

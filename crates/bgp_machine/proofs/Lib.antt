@@ -1,14 +1,17 @@
 -- Lemmas of the session.
 pub mod Contents
-pub mod Steps
-pub mod Pulls
-pub mod Hearings
-pub mod Looks
-pub mod Quiet
-pub mod Held
-pub mod Lives
-pub mod Sendings
-pub mod Sent
-pub mod Widened
 pub mod Cuttings
 pub mod Feedings
+pub mod Hearings
+pub mod Held
+pub mod Lives
+pub mod Looks
+pub mod Pullings
+pub mod Pulls
+pub mod Quiet
+pub mod Runs
+pub mod Sendings
+pub mod Sent
+pub mod Steps
+pub mod Taken
+pub mod Widened

@@ -21,6 +21,7 @@ use Rattle.bgp_open.specs.OpenFault.{open_notification, reading_of}
 use Rattle.bgp_update.specs.declared.verdict.Verdict.{Verdict}
 use Rattle.bgp_update.specs.declared.verdict.Verdict.TheVariants as verdict
 use Rattle.bgp_update.specs.Verdict.{verdict_of}
+use Rattle.bgp_machine.specs.declared.action.Action.{Action}
 use Rattle.bgp_machine.specs.declared.event.Event.{Event}
 use Rattle.bgp_machine.specs.declared.event.Event.TheVariants as event
 use Rattle.bgp_machine.specs.declared.state.State.{State}
@@ -29,10 +30,14 @@ use Rattle.bgp_machine.specs.declared.timer.Timer.TheVariants as timer
 use Rattle.bgp_machine.specs.declared.timer.Timers.{Timers}
 use Rattle.bgp_machine.specs.Standing.{Standing, runs, listens}
 use Rattle.bgp_machine.specs.Table.{Step, on_agreement, answered, on_open, on_verdict, on_update, on_message, hears, happens}
-use Rattle.bgp_machine.specs.Session.{Machine, kept, CountsFed, holding, content_of, after_judged}
-use Rattle.bgp_machine.specs.Life.{Call, Told, Fed, Stepped, Life, born, connects, taken_behind, told, Eats, Goes, Lives, BeginsByOpenAndKeepalive}
+use Rattle.bgp_machine.specs.Session.{Machine, kept, CountsFed, IsFed, holding, content_of, judged, after_judged, Does}
+use Rattle.bgp_machine.specs.Pulling.{IsFedAndStepped}
+use Rattle.bgp_machine.specs.Run.{by_pull}
+use Rattle.bgp_machine.specs.Life.{Call, Told, Fed, Stepped, Pulled, Looked, Life, born, connects, taken_behind, told, stepped, Eats, Goes, Lives, BeginsByOpenAndKeepalive}
 use Rattle.bgp_machine.proofs.Contents.{content_of-message}
 use Rattle.bgp_machine.proofs.Held.{IsHeld-fed}
+use Rattle.bgp_machine.proofs.Pulls.{pulls_as_fed}
+use Rattle.bgp_machine.proofs.Runs.{looks_pull}
 
 -- the octets are an OPEN that was accepted and gave the context, and what is held
 record BeginsByOpen (s : Settings) (context : Option Context) (held octets : List ℕ) : Type 0 where
@@ -283,10 +288,30 @@ eats_keeps s a piece b sound eats =
       stands = fed_stands s x.state x.context a.session.held piece a.taken n eats.fed.0 sound.stands;
     })
 
+-- a step does what is judged, and nothing where nothing is done
+does_as_judged : (x : Machine) (actions : List Action) (y : Machine) → Does x actions y → y ≡ after_judged x (judged x)
+does_as_judged x actions y d = d.leaves ∙ sym (ap (after_judged x) d.judged_so)
+
+-- a pull is a feed, with a step behind it where something is found
+hears_keeps_life : (s : Settings) (a : Life) (piece : List ℕ) (n : ℕ) (found : Option (List Action)) (b : Life) → Sound s a → AreOctets piece
+    → by_pull a.session piece n found b.session → b.taken ≡ a.taken ++ take n piece → Sound s b
+hears_keeps_life s a piece n None b sound octets call took =
+    let fs : IsFedAndStepped a.session piece n None b.session = pulls_as_fed a.session piece n None b.session call in
+    eats_keeps s a piece b sound (record { octets = octets; count = n; fed = subst (λ (m : Machine). IsFed a.session piece n m) (sym fs.step) fs.fed; took = took })
+hears_keeps_life s a piece n (Some actions) b sound octets call took =
+    let fs : IsFedAndStepped a.session piece n (Some (record { items = actions })) b.session = pulls_as_fed a.session piece n (Some (record { items = actions })) b.session call in
+    let mid : Life = record { session = holding a.session (a.session.held ++ take n piece); taken = a.taken ++ take n piece } in
+    let fed = eats_keeps s a piece mid sound (record { octets = octets; count = n; fed = fs.fed; took = refl }) in
+    let same : stepped mid ≡ b = ap₂ (λ (m : Machine) (t : List ℕ). record { session = m; taken = t }) (sym (does_as_judged mid.session actions b.session fs.step)) (sym took) in
+    subst (λ (l : Life). Sound s l) same (judged_keeps s mid (content_of mid.session.held) fed refl)
+
 goes_keeps : (s : Settings) (a : Life) (call : Call) (b : Life) → Sound s a → Goes a call b → Sound s b
 goes_keeps s a (Told e) b sound goes = subst (λ (l : Life). Sound s l) (sym goes) (told_keeps s a e sound)
 goes_keeps s a (Fed piece) b sound goes = eats_keeps s a piece b sound goes
 goes_keeps s a Stepped b sound goes = subst (λ (l : Life). Sound s l) (sym goes) (judged_keeps s a (content_of a.session.held) sound refl)
+goes_keeps s a (Pulled piece) b sound goes = hears_keeps_life s a piece goes.count goes.found b sound goes.octets goes.call goes.took
+goes_keeps s a (Looked piece) b sound goes =
+    hears_keeps_life s a piece goes.count goes.found b sound goes.octets (looks_pull a.session piece goes.count goes.found b.session goes.call) goes.took
 
 lives_keep : (s : Settings) (a : Life) (calls : List Call) (b : Life) → Sound s a → Lives a calls b → Sound s b
 lives_keep s a [] b sound lives = subst (λ (l : Life). Sound s l) (sym lives) sound

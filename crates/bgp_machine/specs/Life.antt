@@ -8,17 +8,21 @@ use Rattle.bgp_open.specs.declared.message.Open.{Open}
 use Rattle.bgp_open.specs.Agreement.{agreement}
 use Rattle.bgp_open.specs.Config.{Settings}
 use Rattle.bgp_open.specs.OpenFault.{reading_of}
+use Rattle.bgp_machine.specs.declared.action.Action.{Action}
 use Rattle.bgp_machine.specs.declared.event.Event.{Event}
 use Rattle.bgp_machine.specs.declared.event.Event.TheVariants as event
 use Rattle.bgp_machine.specs.declared.state.State.{State}
 use Rattle.bgp_machine.specs.declared.state.State.TheVariants as state
+use Rattle.bgp_machine.specs.Run.{Way, by_look, by_pull}
 use Rattle.bgp_machine.specs.Session.{Machine, fresh, after_event, IsFed, judged, after_judged}
 
--- what a session is called for: an event, octets to be fed, or a step
+-- what a session is called for: an event, octets to be fed, a step, a pull from a piece, or a look at one with what goes on behind it
 pub data Call : Type 0 where
   Told : (event : Event) → Call
   Fed : (piece : List ℕ) → Call
   Stepped : Call
+  Pulled : (piece : List ℕ) → Call
+  Looked : (piece : List ℕ) → Call
 
 -- a session, and the octets that it has taken since its connection stands
 pub record Life : Type 0 where
@@ -55,10 +59,20 @@ pub record Eats (a : Life) (piece : List ℕ) (b : Life) : Type 0 where
   pub fed : IsFed a.session piece count b.session
   pub took : b.taken ≡ a.taken ++ take count piece
 
+-- the life behind a piece that is heard
+pub record Hears (way : Way) (a : Life) (piece : List ℕ) (b : Life) : Type 0 where
+  pub octets : AreOctets piece
+  pub count : ℕ
+  pub found : Option (List Action)
+  pub call : way a.session piece count found b.session
+  pub took : b.taken ≡ a.taken ++ take count piece
+
 abbrev pub Goes : Life → Call → Life → Type 0
 Goes a (Told event) b = b ≡ told a event
 Goes a (Fed piece) b = Eats a piece b
 Goes a Stepped b = b ≡ stepped a
+Goes a (Pulled piece) b = Hears by_pull a piece b
+Goes a (Looked piece) b = Hears by_look a piece b
 
 -- a life goes on by these calls
 abbrev pub Lives : Life → List Call → Life → Type 0

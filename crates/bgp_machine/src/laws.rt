@@ -9,6 +9,7 @@ ghost use Rattle.bgp_machine.specs.declared.event.Event.{Event};
 ghost use Rattle.bgp_machine.specs.declared.state.State.TheVariants as state;
 ghost use Rattle.bgp_machine.specs.Session.{Machine, fresh, after_event};
 ghost use Rattle.bgp_machine.specs.Cutting.{IsAtRest, Piece, joined, Cuts, CanBeFed, by_octets};
+ghost use Rattle.bgp_machine.specs.Run.{by_look, by_pull, all_octets, CanBePulled, Run, Runs};
 ghost use Rattle.bgp_machine.specs.Life.{Call, Life, born, Lives, BeginsByOpenAndKeepalive};
 
 /// Whatever is called for, in whatever order: where a session is Established, the octets that it has read since its connection stands begin
@@ -41,4 +42,27 @@ pub fn events_leave_nothing_to_do()
 /// Octets can be fed in whatever pieces they come: each `feed` consumes some of them, and then so many steps give something.
 pub fn any_pieces_can_be_fed()
     ensures { (x : Machine) (pieces : List (List ℕ)) → IsAtRest x → AreOctets (flat_map (λ piece. piece) pieces) → CanBeFed x pieces }
+{}
+
+/// Octets that are pulled in pieces, call behind call until one takes nothing and finds nothing, do what they do one by one; and so they do where each
+/// piece is looked at, and the session goes on as each look says, or is fed where it finds nothing.
+pub fn pulls_do_as_octet_by_octet()
+    ensures pull { (x : Machine) (runs : List Run) (actions : List Action) (y : Machine) → IsAtRest x → AreOctets (all_octets runs)
+        → Runs by_pull runs x actions y → (by_octets x (all_octets runs) ≡ record { actions = actions; session = y }) × IsAtRest y }
+    ensures look { (x : Machine) (runs : List Run) (actions : List Action) (y : Machine) → IsAtRest x → AreOctets (all_octets runs)
+        → Runs by_look runs x actions y → (by_octets x (all_octets runs) ≡ record { actions = actions; session = y }) × IsAtRest y }
+{}
+
+/// Any pieces, pulled until nothing more is taken, do what `feed` and `step` do with the same octets in any pieces: the same actions in the same
+/// order, and the same session behind them. So do looks.
+pub fn pulls_do_as_feeds()
+    ensures pull { (x : Machine) (runs : List Run) (pieces : List Piece) (actions others : List Action) (y z : Machine) → IsAtRest x → AreOctets (all_octets runs)
+        → all_octets runs ≡ joined pieces → Runs by_pull runs x actions y → Cuts pieces x others z → (actions ≡ others) × (y ≡ z) }
+    ensures look { (x : Machine) (runs : List Run) (pieces : List Piece) (actions others : List Action) (y z : Machine) → IsAtRest x → AreOctets (all_octets runs)
+        → all_octets runs ≡ joined pieces → Runs by_look runs x actions y → Cuts pieces x others z → (actions ≡ others) × (y ≡ z) }
+{}
+
+/// Octets can be pulled in whatever pieces they come: so many pulls of each take all that is taken of it.
+pub fn any_pieces_can_be_pulled()
+    ensures { (x : Machine) (pieces : List (List ℕ)) → IsAtRest x → AreOctets (flat_map (λ piece. piece) pieces) → CanBePulled x pieces }
 {}

@@ -1,21 +1,11 @@
 -- Steps of the proof that pulling a piece does, and shows, what its octets do one by one. Only private functions cite them.
-use Rattle.std.specs.Prelude.{◌≡◌, ◌<◌, ◌≤◌, ℕ, ◌+◌, false, List, [], ◌∷◌, ◌++◌, length, drop, Option, None, Some}
-use Rattle.bgp_frame.specs.Framer.{IsHeld}
-use Rattle.bgp_machine.specs.Cutting.{IsAtRest, Done, settled, behind, by_octets}
+use Rattle.std.specs.Prelude.{◌≡◌, ◌<◌, ◌≤◌, ℕ, List, ◌++◌, length, drop, Option, None, Some}
+use Rattle.bgp_machine.specs.Cutting.{IsAtRest, settled}
+use Rattle.bgp_machine.specs.Ready.{IsReady, left_to_do, weight}
 use Rattle.bgp_machine.specs.Session.{Machine}
-use Rattle.bgp_machine.specs.Standing.{listens}
 use Rattle.bgp_session.specs.declared.side.Side.{Side}
 use Rattle.bgp_session.specs.Pair.{with_session, Pair, pair, all_acted}
 use Rattle.bgp_session.specs.Sight.{Sight, observed, settled_seen, octets_seen}
-
--- what holds of a session between two pulls
-pub record IsReady (x : Machine) : Type 0 where
-  pub can_hold : IsHeld x.held
-  pub holds_none : listens x.standing.state ≡ false → x.held ≡ []
-
--- what is left to do: what is held is judged, and then the octets come
-abbrev pub left_to_do : Machine → List ℕ → Done
-left_to_do x rest = behind (settled x).actions (by_octets (settled x).session rest)
 
 abbrev pub with_machine : Pair → Machine → Pair
 with_machine p x = pair (with_session p.this x) p.other p.notes
@@ -23,14 +13,6 @@ with_machine p x = pair (with_session p.this x) p.other p.notes
 -- the pair once all that is done
 abbrev pub fed_on : Side → Pair → List ℕ → Pair
 fed_on side p rest = all_acted side (with_machine p (left_to_do p.this.session rest).session) (left_to_do p.this.session rest).actions
-
-abbrev pub one_if_any : List ℕ → ℕ
-one_if_any [] = 0
-one_if_any (octet ∷ later) = 1
-
--- each pull makes this less: it takes octets, or judges what is held
-abbrev pub weight : Machine → List ℕ → ℕ
-weight x rest = length rest + length rest + one_if_any x.held
 
 -- a pull did something, and the rest of the piece is left
 pub record FeedsOn (side : Side) (p : Pair) (piece : List ℕ) (n : ℕ) (q : Pair) : Type 0 where
