@@ -1,12 +1,16 @@
 //! What is to be done, in order.
 
 ghost use Rattle.std.specs.Prelude.{◌≡◌, ◌<◌, ◌++◌, ◌∷◌, [], length, true, false, OnOk, OnErr};
+ghost use Rattle.bgp_update.specs.As4.{onward_of, rebuilt};
+ghost use Rattle.bgp_update.specs.View.{routes_value, update_value};
+ghost use Rattle.bgp_machine.specs.declared.action.Action.TheVariants.{Announce, Arm, Withdraw};
 ghost use Rattle.bgp_machine.specs.ActionView.{action_of, takes_memory};
 
 use crate::action::{Action, Actions};
 use crate::action_view::ActionView;
+use crate::timer::Timer;
 use arrayvec::ArrayVec;
-use bgp_update::{onward, reconcile};
+use bgp_update::{UpdateView, onward, reconcile};
 use std::alloc::{AllocError, Global};
 use std::marker::Model;
 
@@ -26,7 +30,40 @@ impl<'a> Model for ActionViews<'a> {
     ghost view = { λ v. map action_of v.list.items };
 }
 
-/// Puts an action that asks for no memory into a set.
+// An `Action` has room for a NOTIFICATION of 4 KB, and a function clears the room of each that it makes as it is entered. So what most messages ask
+// for is made in functions of their own.
+
+/// Puts a timer that is to be started into a set.
+#[inline(never)]
+fn put_arm(timer: Timer, seconds: u16, actions: &mut Actions)
+    requires { length actions.old.items < 5 }
+    ensures { actions.new.items ≡ actions.old.items ++ Arm timer seconds ∷ [] }
+{
+    actions.push(Action::Arm(timer, seconds));
+}
+
+/// Puts any action that asks for no memory into a set.
+#[inline(never)]
+fn put_any_plain(action: &ActionView<'_>, actions: &mut Actions)
+    requires room { length actions.old.items < 5 }
+    requires plain { takes_memory (action_of action.now) ≡ false }
+    ensures { actions.new.items ≡ actions.old.items ++ action_of action.now ∷ [] }
+{
+    let plain = match action {
+        ActionView::Connect => Action::Connect,
+        ActionView::SendOpen => Action::SendOpen,
+        ActionView::SendKeepalive => Action::SendKeepalive,
+        ActionView::SendNotification(why) => Action::SendNotification(why.own()),
+        ActionView::Arm(timer, seconds) => Action::Arm(*timer, *seconds),
+        ActionView::Disarm(timer) => Action::Disarm(*timer),
+        ActionView::Flush => Action::Flush,
+        // Neither an announcement nor a withdrawal asks for no memory.
+        ActionView::Close | ActionView::Announce(_) | ActionView::Withdraw(_) => Action::Close,
+    };
+    actions.push(plain);
+}
+
+/// Puts an action that asks for no memory into a set: most messages start a timer.
 #[inline(always)]
 fn put_plain(action: &ActionView<'_>, actions: &mut Actions)
     requires room { length actions.old.items < 5 }
@@ -34,16 +71,39 @@ fn put_plain(action: &ActionView<'_>, actions: &mut Actions)
     ensures { actions.new.items ≡ actions.old.items ++ action_of action.now ∷ [] }
 {
     match action {
-        ActionView::Connect => actions.push(Action::Connect),
-        ActionView::Close => actions.push(Action::Close),
-        ActionView::SendOpen => actions.push(Action::SendOpen),
-        ActionView::SendKeepalive => actions.push(Action::SendKeepalive),
-        ActionView::SendNotification(why) => actions.push(Action::SendNotification(why.own())),
-        ActionView::Arm(timer, seconds) => actions.push(Action::Arm(*timer, *seconds)),
-        ActionView::Disarm(timer) => actions.push(Action::Disarm(*timer)),
-        ActionView::Flush => actions.push(Action::Flush),
-        ActionView::Announce(_) | ActionView::Withdraw(_) => {}
+        ActionView::Arm(timer, seconds) => put_arm(*timer, *seconds, actions),
+        other => put_any_plain(other, actions),
     }
+}
+
+/// Puts routes that the peer announces into a set.
+#[inline(never)]
+fn put_announce(
+    alloc: Global,
+    view: &UpdateView<'_>,
+    actions: &mut Actions,
+) -> Result<(), AllocError>
+    requires { length actions.old.items < 5 }
+    ensures { OnOk result (actions.new.items ≡ actions.old.items ++ Announce (onward_of (update_value view.now)) (rebuilt (update_value view.now).attrs) ∷ []) }
+{
+    let update = view.own(alloc)?;
+    let info = reconcile(alloc, &update.attrs)?;
+    actions.push(Action::Announce(onward(update), info));
+    Ok(())
+}
+
+/// Puts routes that are withdrawn into a set.
+#[inline(never)]
+fn put_withdraw(
+    alloc: Global,
+    view: &UpdateView<'_>,
+    actions: &mut Actions,
+) -> Result<(), AllocError>
+    requires { length actions.old.items < 5 }
+    ensures { OnOk result (actions.new.items ≡ actions.old.items ++ Withdraw (routes_value view.now) ∷ []) }
+{
+    actions.push(Action::Withdraw(view.routes(alloc)?));
+    Ok(())
 }
 
 /// Puts an action into a set, with memory of its own.
@@ -54,15 +114,13 @@ fn put(alloc: Global, action: &ActionView<'_>, actions: &mut Actions) -> Result<
     ensures memory { OnErr result (takes_memory (action_of action.now) ≡ true) }
 {
     match action {
-        ActionView::Announce(view) => {
-            let update = view.own(alloc)?;
-            let info = reconcile(alloc, &update.attrs)?;
-            actions.push(Action::Announce(onward(update), info));
+        ActionView::Announce(view) => put_announce(alloc, view, actions),
+        ActionView::Withdraw(view) => put_withdraw(alloc, view, actions),
+        plain => {
+            put_plain(plain, actions);
+            Ok(())
         }
-        ActionView::Withdraw(view) => actions.push(Action::Withdraw(view.routes(alloc)?)),
-        plain => put_plain(plain, actions),
     }
-    Ok(())
 }
 
 impl<'a> ActionViews<'a> {
