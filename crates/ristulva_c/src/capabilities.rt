@@ -1,6 +1,6 @@
 //! Capabilities of an OPEN one after another.
 
-ghost use Rattle.std.specs.Prelude.{◌≡◌, ◌==◌, ◌+◌, ◌⊎◌, ◌↔◌, ◌≤◌, None, [], length, IsTrue, MatchOption};
+ghost use Rattle.std.specs.Prelude.{◌≡◌, ◌==◌, ◌⊎◌, ◌↔◌, None, [], length, IsTrue, MatchOption};
 ghost use Rattle.bgp_wire.specs.Reader.{pieces};
 ghost use Rattle.bgp_open.specs.Capability.{one_capability};
 ghost use Rattle.bgp_open.specs.Parameter.{one_parameter};

@@ -2,9 +2,8 @@
 
 ghost use Rattle.std.specs.Prelude.{◌≡◌, ◌+◌, length};
 ghost use Rattle.bgp_frame.specs.Kind.{IsLength};
-ghost use Rattle.bgp_frame.specs.declared.step.Step.TheVariants as step;
 ghost use Rattle.bgp_open.specs.OpenView.{open_value};
-ghost use Rattle.ristulva_c.specs.Opens.{flag_of, open_told, Tells, IsOpened};
+ghost use Rattle.ristulva_c.specs.Opens.{flag_of, open_told, accepted_in, TellsOpen, IsOpened};
 
 use crate::capabilities::Capabilities;
 use crate::status::{INCOMPLETE, OK, REFUSED};
@@ -65,7 +64,7 @@ fn open_told(view: &OpenView<'_>, len: u16) -> OpenFields
 /// Tells the OPEN that a message is.
 fn tell_open(frame: Frame<'_>, out: &mut OpenFields) -> u32
     requires { IsLength frame.kind (19 + length frame.body.now) }
-    ensures { Tells (step.Frame frame.entry) result out.old out.new }
+    ensures { TellsOpen frame.entry.len (accepted_in frame.entry.kind frame.entry.body.now) result out.old out.new }
 {
     if frame.kind != Kind::Open {
         return REFUSED;
