@@ -69,6 +69,19 @@ class Numbers(Structure):
     _fields_ = [("at", c_uint32), ("end", c_uint32), ("width", c_uint8)]
 
 
+class Capabilities(Structure):
+    _fields_ = [("at", c_uint32), ("stop", c_uint32), ("end", c_uint32)]
+
+
+class CCapability(Structure):
+    _fields_ = [("code", c_uint8), ("value", Span)]
+
+
+class COpen(Structure):
+    _fields_ = [("as_number", c_uint32), ("as_field", c_uint16), ("hold", c_uint16), ("id", c_uint8 * 4), ("as4", c_uint8), ("ip4", c_uint8),
+                ("ip6", c_uint8), ("capabilities", Capabilities)]
+
+
 def load():
     """The shared library: that of the environment's RISTULVA, or of dist/."""
     place = os.environ.get("RISTULVA", pathlib.Path(__file__).resolve().parents[2] / "dist/libristulva.so")
@@ -90,6 +103,8 @@ def load():
         "next_number": [*octets, POINTER(Numbers), POINTER(c_uint32)],
         "reached": [*octets, POINTER(Span), POINTER(Span), POINTER(Prefixes)],
         "unreached": [*octets, POINTER(Span), POINTER(Prefixes)],
+        "open": [*octets, POINTER(COpen)],
+        "next_capability": [*octets, POINTER(Capabilities), POINTER(CCapability)],
     }
     for name, arguments in takes.items():
         call = getattr(library, f"ristulva_{name}")
@@ -129,6 +144,20 @@ class Attribute:
     span: Span = dataclasses.field(repr=False, compare=False)
 
 
+@dataclasses.dataclass(frozen=True)
+class Open:
+    """What an OPEN says (RFC 4271, section 4.2)."""
+
+    as_number: int  # that of the first capability for AS numbers of four octets, else as_field (RFC 6793, section 4.1)
+    as_field: int  # My Autonomous System
+    hold_time: int  # in seconds: 0 for none
+    identifier: ipaddress.IPv4Address
+    as4: bool  # whether it offers AS numbers of four octets, and unicast routes of IPv4 and of IPv6
+    ip4: bool
+    ip6: bool
+    capabilities: list  # each its code and the octets of its value, in their order (RFC 5492, section 4)
+
+
 def each(call, octets, cursor, out):
     """What a cursor gives, one after another: always the same place, written anew."""
     while getattr(LIBRARY, f"ristulva_{call}")(octets, len(octets), cursor, out) == 0:
@@ -164,6 +193,15 @@ class Message:
             if status != ROOM:
                 return text.raw[: written.value].decode("ascii")
             room = written.value
+
+    def open(self):
+        """What an OPEN that is accepted says; None of any other message."""
+        it = COpen()
+        if LIBRARY.ristulva_open(self.octets, len(self.octets), it) != 0:
+            return None
+        found = each("next_capability", self.octets, it.capabilities, CCapability())
+        capabilities = [(one.code, self.octets[one.value.at : one.value.at + one.value.len]) for one in found]
+        return Open(it.as_number, it.as_field, it.hold, ipaddress.IPv4Address(bytes(it.id)), bool(it.as4), bool(it.ip4), bool(it.ip6), capabilities)
 
     def notes(self):
         """What RFC 7606 found: of each note the attribute's place in the message (0 where it is missing), its type, and one of WHYS."""

@@ -31,6 +31,55 @@ class Captures(unittest.TestCase):
                 self.assertEqual(lines, wanted[: wanted.rindex("end ")])
 
 
+class Opens(unittest.TestCase):
+    context = ristulva.Context()
+
+    def test_fields(self):
+        """Four capabilities in one parameter, and each in one of its own, with one that is empty (RFC 5492, section 4)."""
+        fixed = bytes.fromhex("04" + "5ba0" + "005a" + "c0000202")
+        caps = [bytes.fromhex(it) for it in ("010400010001", "0200", "410400020001", "010400020001")]
+        for parameters in ([b"".join(caps)], [b"", *caps]):
+            field = b"".join(b"\x02" + bytes([len(it)]) + it for it in parameters)
+            it = ristulva.judge(message(1, fixed + bytes([len(field)]) + field), self.context).open()
+            self.assertEqual((it.as_number, it.as_field, it.hold_time), (131073, 23456, 90))
+            self.assertEqual(it.identifier, ipaddress.IPv4Address("192.0.2.2"))
+            self.assertEqual((it.as4, it.ip4, it.ip6), (True, True, True))
+            self.assertEqual(it.capabilities, [(cap[0], cap[2:]) for cap in caps])
+
+    def test_plain(self):
+        """Without parameters My Autonomous System is the AS number."""
+        it = ristulva.judge(message(1, bytes.fromhex("04fde80000c000020100")), self.context).open()
+        self.assertEqual((it.as_number, it.as_field, it.hold_time, it.capabilities), (65000, 65000, 0, []))
+        self.assertEqual((it.as4, it.ip4, it.ip6), (False, False, False))
+
+    def test_refused(self):
+        """A Hold Time of 2 seconds (RFC 4271, section 6.2), and another message."""
+        self.assertIsNone(ristulva.judge(message(1, bytes.fromhex("04fde80002c000020100")), self.context).open())
+        self.assertIsNone(ristulva.judge(message(4, b""), self.context).open())
+
+    def test_captures(self):
+        """What an OPEN says is in its lines."""
+        for path in sorted(EXAMPLES.glob("*.hex")):
+            for it in ristulva.messages(bytes.fromhex(path.read_text()), self.context):
+                with self.subTest(path.name):
+                    self.assertEqual(it.open() is not None, it.verdict == "open")
+                    if it.open():
+                        self.assertEqual(lines_of(it.open()), str(it).splitlines()[1:])
+
+
+def lines_of(it):
+    """The lines that `bgp show` prints of an OPEN."""
+    lines = [f"  as {it.as_field}", f"  hold {it.hold_time}", f"  id {it.identifier}"]
+    for code, value in it.capabilities:
+        if code == 1:
+            lines.append(f"  cap multi {int.from_bytes(value[:2], 'big')} {value[3]}")
+        elif code == 65:
+            lines.append(f"  cap as4 {int.from_bytes(value, 'big')}")
+        else:
+            lines.append(f"  cap {code} {value.hex() or '-'}")
+    return lines
+
+
 class Updates(unittest.TestCase):
     context = ristulva.Context(as4=True)
 

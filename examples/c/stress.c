@@ -287,6 +287,66 @@ static void walk_attributes(const uint8_t *octets, size_t len, ristulva_attribut
     }
 }
 
+static void walk_capabilities(const uint8_t *octets, size_t len, ristulva_capabilities cursor, ristulva_open_fields *offered)
+{
+    for (;;) {
+        ristulva_capabilities old = cursor;
+        ristulva_capability capability;
+        const uint8_t *value;
+        ristulva_status status = ristulva_next_capability(octets, len, &cursor, &capability);
+        calls++;
+        WANT(cursor.end == old.end);
+        WANT((status == RISTULVA_RANGE) == (old.at > old.stop || old.stop > old.end || old.end > len));
+        if (status != RISTULVA_OK) {
+            WANT(status == RISTULVA_END || status == RISTULVA_RANGE);
+            WANT(cursor.at == old.at && cursor.stop == old.stop);
+            return;
+        }
+        WANT(capability.value.at >= old.at + 2 && capability.value.at + capability.value.len == cursor.at);
+        WANT(cursor.at <= cursor.stop && cursor.stop <= cursor.end);
+        WANT(cursor.stop == old.stop || (cursor.stop > old.stop && capability.value.at >= old.stop + 4));
+        value = octets + capability.value.at;
+        WANT(capability.code == value[-2] && capability.value.len == value[-1]);
+        if (capability.code == 65) {
+            WANT(capability.value.len == 4);
+            if (offered->as4 == 0)
+                offered->as_number = (uint32_t)value[0] << 24 | (uint32_t)value[1] << 16 | (uint32_t)value[2] << 8 | value[3];
+            offered->as4 = 1;
+        }
+        if (capability.code == 1) {
+            WANT(capability.value.len == 4);
+            offered->ip4 |= value[0] == 0 && value[1] == 1 && value[3] == 1;
+            offered->ip6 |= value[0] == 0 && value[1] == 2 && value[3] == 1;
+        }
+    }
+}
+
+/* What an OPEN says is in its octets, and what it offers in its capabilities. */
+static void try_open(const uint8_t *octets, size_t len, const ristulva_found *found, const ristulva_verdict *verdict)
+{
+    ristulva_open_fields fields, offered = {0, 0, 0, {0, 0, 0, 0}, 0, 0, 0, {0, 0, 0}};
+    ristulva_status status;
+    memset(&fields, 0xa5, sizeof fields);
+    status = ristulva_open(octets, len, &fields);
+    calls++;
+    WANT((status == RISTULVA_INCOMPLETE) == (found->what == RISTULVA_MORE));
+    WANT((status == RISTULVA_OK) == (found->what != RISTULVA_MORE && verdict->verdict == RISTULVA_OPEN));
+    if (status != RISTULVA_OK) {
+        size_t i;
+        WANT(status == RISTULVA_INCOMPLETE || status == RISTULVA_REFUSED);
+        for (i = 0; i < sizeof fields; i++)
+            WANT(((const uint8_t *)&fields)[i] == 0xa5);
+        return;
+    }
+    WANT(fields.as_field == (octets[20] << 8 | octets[21]) && fields.hold == (octets[22] << 8 | octets[23]));
+    WANT(memcmp(fields.id, octets + 24, 4) == 0 && fields.hold != 1 && fields.hold != 2);
+    WANT(fields.capabilities.at == 29 && fields.capabilities.stop == 29 && fields.capabilities.end == found->len);
+    offered.as_number = fields.as_field;
+    walk_capabilities(octets, len, fields.capabilities, &offered);
+    WANT(fields.as_number == offered.as_number && fields.as4 == offered.as4);
+    WANT(fields.ip4 == offered.ip4 && fields.ip6 == offered.ip6);
+}
+
 typedef ristulva_status rewriting(const ristulva_context *, const uint8_t *, size_t, uint8_t *, size_t, size_t *);
 
 /* A body as an UPDATE to send, with AS numbers as wide as `as4` says: what is written has to be read again, and to be its own written form. */
@@ -359,6 +419,7 @@ static void try_all(const uint8_t *from, size_t len)
     try_front(octets, len, &found);
     try_judge(&context, octets, len, &found, &verdict);
     try_notes(&context, octets, len, &found, &verdict);
+    try_open(octets, len, &found, &verdict);
     try_text(&context, octets, len, &found);
     if (found.what == RISTULVA_FOUND && verdict.kind == 2) {
         ristulva_prefixes gone = {verdict.parts.withdrawn.at, verdict.parts.withdrawn.at + verdict.parts.withdrawn.len, 1};
@@ -379,11 +440,14 @@ static void try_all(const uint8_t *from, size_t len)
         ristulva_segments segments = {some_offset(len), some_offset(len), (uint8_t)below(3), (uint8_t)below(3)};
         ristulva_numbers numbers = {some_offset(len), some_offset(len), (uint8_t)(below(3) * 2)};
         ristulva_span value = {some_offset(len), some_offset(len)};
+        ristulva_capabilities capabilities = {some_offset(len), some_offset(len), some_offset(len)};
+        ristulva_open_fields offered = {0, 0, 0, {0, 0, 0, 0}, 0, 0, 0, {0, 0, 0}};
         walk_prefixes(octets, len, prefixes);
         walk_attributes(octets, len, attributes);
         walk_segments(octets, len, segments);
         walk_numbers(octets, len, numbers);
         walk_value(octets, len, value);
+        walk_capabilities(octets, len, capabilities, &offered);
     }
 }
 

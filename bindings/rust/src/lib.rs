@@ -35,6 +35,7 @@ mod error;
 mod front;
 mod message;
 mod note;
+mod open;
 mod path;
 mod prefix;
 #[allow(unsafe_code)]
@@ -48,6 +49,7 @@ pub use error::Error;
 pub use front::{front, Front, Kind};
 pub use message::{judge, messages, Message, Messages, Outcome};
 pub use note::{Note, Notes, Why};
+pub use open::{Capabilities, Capability, Open};
 pub use path::{Numbers, Segment, SegmentKind, Segments};
 pub use prefix::{NextHop, Prefix, Prefixes};
 pub use update::Update;

@@ -1,4 +1,4 @@
-use crate::{raw, Context, Error, Update};
+use crate::{raw, Context, Error, Open, Update};
 use std::fmt;
 use std::iter::FusedIterator;
 
@@ -12,7 +12,7 @@ const LINES: usize = 4096;
 #[derive(Clone, Debug, PartialEq, Eq)]
 pub enum Outcome<'a> {
     /// An OPEN is accepted.
-    Open,
+    Open(Open<'a>),
     /// An UPDATE is accepted. Attributes that its [notes](Update::notes) tell of are discarded.
     Update(Update<'a>),
     /// An UPDATE is treated as a withdrawal of all its routes (RFC 7606, section 2).
@@ -118,7 +118,7 @@ fn outcome<'a>(context: &Context, octets: &'a [u8], verdict: &raw::Verdict) -> O
     let update = || Update::new(octets, *context, verdict.parts);
     let (code, subcode) = (verdict.code, verdict.subcode);
     match verdict.verdict {
-        raw::OPEN => Outcome::Open,
+        raw::OPEN => Outcome::Open(Open::of(octets).expect("it is accepted")),
         raw::UPDATE => Outcome::Update(update()),
         raw::WITHDRAW => Outcome::Withdraw(update()),
         raw::KEEPALIVE => Outcome::Keepalive,

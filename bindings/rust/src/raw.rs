@@ -149,6 +149,34 @@ pub struct Numbers {
     pub width: u8,
 }
 
+#[repr(C)]
+#[derive(Clone, Copy, Debug, Default, PartialEq, Eq)]
+pub struct Capabilities {
+    pub at: u32,
+    pub stop: u32,
+    pub end: u32,
+}
+
+#[repr(C)]
+#[derive(Clone, Copy, Debug, Default, PartialEq, Eq)]
+pub struct OpenFields {
+    pub as_number: u32,
+    pub as_field: u16,
+    pub hold: u16,
+    pub id: [u8; 4],
+    pub as4: u8,
+    pub ip4: u8,
+    pub ip6: u8,
+    pub capabilities: Capabilities,
+}
+
+#[repr(C)]
+#[derive(Default)]
+pub struct Capability {
+    pub code: u8,
+    pub value: Span,
+}
+
 #[rustfmt::skip]
 extern "C" {
     fn ristulva_version() -> u32;
@@ -165,6 +193,8 @@ extern "C" {
     fn ristulva_next_number(octets: *const u8, len: usize, cursor: *mut Numbers, out: *mut u32) -> u32;
     fn ristulva_reached(octets: *const u8, len: usize, value: *const Span, next_hop: *mut Span, cursor: *mut Prefixes) -> u32;
     fn ristulva_unreached(octets: *const u8, len: usize, value: *const Span, cursor: *mut Prefixes) -> u32;
+    fn ristulva_open(octets: *const u8, len: usize, out: *mut OpenFields) -> u32;
+    fn ristulva_next_capability(octets: *const u8, len: usize, cursor: *mut Capabilities, out: *mut Capability) -> u32;
 }
 
 pub fn version() -> u32 {
@@ -289,4 +319,20 @@ pub fn unreached(value: &[u8]) -> Option<Prefixes> {
     // SAFETY: see above.
     let status = unsafe { ristulva_unreached(at, len, &whole(value), &mut cursor) };
     (status == OK).then_some(cursor)
+}
+
+/// What an OPEN says that is accepted; its cursor runs over the same octets.
+pub fn open(octets: &[u8]) -> Option<OpenFields> {
+    let mut out = OpenFields::default();
+    // SAFETY: see above.
+    let status = unsafe { ristulva_open(octets.as_ptr(), octets.len(), &mut out) };
+    (status == OK).then_some(out)
+}
+
+pub fn next_capability(octets: &[u8], cursor: &mut Capabilities) -> Option<Capability> {
+    let mut out = Capability::default();
+    // SAFETY: see above.
+    let status =
+        unsafe { ristulva_next_capability(octets.as_ptr(), octets.len(), cursor, &mut out) };
+    (status == OK).then_some(out)
 }

@@ -1,7 +1,7 @@
 //! The captures of examples/: their lines, and what iterators give of them, are what the texts
 //! beside them say.
 
-use ristulva::{messages, Context, Message, Outcome, Update};
+use ristulva::{messages, Capability, Context, Message, Outcome, Update};
 use std::collections::BTreeMap;
 use std::fs;
 use std::path::{Path, PathBuf};
@@ -118,6 +118,41 @@ fn prefixes() {
     }
 }
 
+/// A capability as `show` prints it.
+fn shown_capability(it: Capability<'_>) -> String {
+    let digits: String = it
+        .value
+        .iter()
+        .map(|octet| format!("{octet:02x}"))
+        .collect();
+    match (it.code, it.value) {
+        (1, [high, low, _, safi]) => format!("multi {} {safi}", u16::from_be_bytes([*high, *low])),
+        (65, [a, b, c, d]) => format!("as4 {}", u32::from_be_bytes([*a, *b, *c, *d])),
+        (code, []) => format!("{code} -"),
+        (code, _) => format!("{code} {digits}"),
+    }
+}
+
+#[test]
+fn opens() {
+    for it in captures() {
+        for message in messages(&it.context, &it.octets) {
+            let Outcome::Open(open) = message.outcome() else {
+                continue;
+            };
+            let lines = message.to_string();
+            let words = words(&lines);
+            assert_eq!(words["as"], [open.as_field().to_string()], "{}", it.name);
+            assert_eq!(words["hold"], [open.hold_time().to_string()]);
+            assert_eq!(words["id"], [open.identifier().to_string()]);
+            let wanted = words.get("cap").cloned().unwrap_or_default();
+            let found: Vec<_> = open.capabilities().map(shown_capability).collect();
+            assert_eq!(found, wanted, "{}", it.name);
+            assert_eq!(open.offers_ip6(), wanted.contains(&"multi 2 1"));
+        }
+    }
+}
+
 #[test]
 fn withdrawn_routes() {
     for it in captures() {
@@ -203,7 +238,11 @@ fn changed_octets() {
                 it.octets[at] = octet;
                 for message in messages(&it.context, &it.octets) {
                     assert!(message.to_string().ends_with('\n'), "{}", it.name);
-                    let steps = update(&message).map_or(0, |update| walk(&update));
+                    let steps = match message.outcome() {
+                        Outcome::Open(open) => open.capabilities().count(),
+                        Outcome::Update(update) | Outcome::Withdraw(update) => walk(update),
+                        _ => 0,
+                    };
                     assert!(steps <= 2 * message.octets().len(), "{} {at}", it.name);
                 }
             }

@@ -143,7 +143,14 @@ fn incomplete() {
 #[test]
 fn opens() {
     let good = message(1, &[4, 0xfd, 0xe8, 0, 90, 192, 0, 2, 1, 0]);
-    assert_eq!(judge(&PLAIN, &good).unwrap().outcome(), &Outcome::Open);
+    let Outcome::Open(it) = judge(&PLAIN, &good).unwrap().into_outcome() else {
+        panic!("it isn't accepted")
+    };
+    let numbers = (it.as_number(), it.as_field(), it.hold_time());
+    assert_eq!(numbers, (65000, 65000, 90));
+    assert_eq!(it.identifier().to_string(), "192.0.2.1");
+    assert_eq!(it.capabilities().count(), 0);
+    assert!(!it.offers_as4() && !it.offers_ip4() && !it.offers_ip6());
     let old = message(1, &[3, 0xfd, 0xe8, 0, 90, 192, 0, 2, 1, 0]);
     assert_eq!(
         judge(&PLAIN, &old).unwrap().outcome(),
@@ -151,6 +158,36 @@ fn opens() {
     );
     let hasty = message(1, &[4, 0xfd, 0xe8, 0, 2, 192, 0, 2, 1, 0]);
     assert_eq!(judge(&PLAIN, &hasty).unwrap().outcome(), &reset(2, 6, &[]));
+}
+
+/// RFC 5492, section 4: capabilities in one parameter, and each in one of its own behind an empty
+/// one. RFC 6793, section 4.1: 23456 stands for 131073.
+#[test]
+fn capabilities() {
+    let caps = [
+        &[1, 4, 0, 1, 0, 1][..],
+        &[2, 0],
+        &[65, 4, 0, 2, 0, 1],
+        &[1, 4, 0, 2, 0, 1],
+    ];
+    let parameter = |caps: &[u8]| [&[2, caps.len() as u8], caps].concat();
+    let one = parameter(&caps.concat());
+    let many: Vec<u8> = std::iter::once(&[][..])
+        .chain(caps)
+        .flat_map(parameter)
+        .collect();
+    for parameters in [one, many] {
+        let fixed = [4, 0x5b, 0xa0, 0, 90, 192, 0, 2, 2, parameters.len() as u8];
+        let octets = message(1, &[&fixed[..], &parameters].concat());
+        let Outcome::Open(it) = judge(&PLAIN, &octets).unwrap().into_outcome() else {
+            panic!("it isn't accepted")
+        };
+        assert_eq!((it.as_number(), it.as_field()), (131073, 23456));
+        assert!(it.offers_as4() && it.offers_ip4() && it.offers_ip6());
+        let found: Vec<_> = it.capabilities().map(|it| (it.code, it.value)).collect();
+        let wanted: Vec<_> = caps.iter().map(|it| (it[0], &it[2..])).collect();
+        assert_eq!(found, wanted);
+    }
 }
 
 /// RFC 4271, section 4.5; RFC 9003: an administrative shutdown with a word.

@@ -44,7 +44,7 @@ typedef uint32_t ristulva_status;
 #define RISTULVA_INCOMPLETE 4u /* the octets are less than a message: nothing has changed */
 #define RISTULVA_ROOM 5u       /* a buffer has less room than is needed */
 #define RISTULVA_END 6u        /* nothing is left: nothing has changed */
-#define RISTULVA_REFUSED 7u    /* an UPDATE that isn't accepted whole: nothing has changed */
+#define RISTULVA_REFUSED 7u    /* an UPDATE that isn't accepted whole, or no OPEN that is accepted: nothing has changed */
 #define RISTULVA_UNWRITABLE 8u /* an UPDATE that can't be written: nothing has changed */
 
 /* ---- octets ---- */
@@ -283,6 +283,44 @@ typedef struct {
  * for each community. RISTULVA_END: no whole number is left. RISTULVA_RANGE: `at` is above `end`, `end` above `len`, or `width` neither 2
  * nor 4. */
 ristulva_status ristulva_next_number(const uint8_t *octets, size_t len, ristulva_numbers *cursor, uint32_t *out);
+
+/* ---- what an OPEN says (RFC 4271, section 4.2; RFC 5492) ---- */
+
+/* A cursor over capabilities, which stand in parameters, none, one or many in each. ristulva_open gives one to begin with. */
+typedef struct {
+    uint32_t at;   /* where the next one begins, in the parameter that was begun */
+    uint32_t stop; /* where that parameter ends, and the next one begins */
+    uint32_t end;  /* where the parameters end */
+} ristulva_capabilities;
+
+typedef struct {
+    /* The AS number of its speaker: that of the first capability for AS numbers of four octets (code 65), else `as_field` (RFC 6793,
+     * section 4.1). */
+    uint32_t as_number;
+    uint16_t as_field; /* My Autonomous System: 23456 for an AS number that needs four octets */
+    uint16_t hold;     /* Hold Time in seconds: 0 for none, and never 1 or 2 */
+    uint8_t id[4];     /* BGP Identifier, highest octet first: never zero (RFC 6286, section 2.1) */
+    uint8_t as4;       /* whether it offers AS numbers of four octets (RFC 6793): 1 or 0 */
+    uint8_t ip4;       /* whether it offers IPv4 unicast (RFC 4760, section 8): 1 or 0 */
+    uint8_t ip6;       /* whether it offers IPv6 unicast: 1 or 0 */
+    ristulva_capabilities capabilities; /* a cursor at the first of its capabilities, over the octets that were handed in */
+} ristulva_open_fields;
+
+/* Tells what the OPEN says that octets begin with. What stands behind it has no effect. It allocates nothing.
+ *
+ * RISTULVA_OK exactly where ristulva_judge tells RISTULVA_OPEN, in any context. RISTULVA_INCOMPLETE; RISTULVA_REFUSED, a header with a
+ * fault, another message, or an OPEN with a fault, as one in the extended form of RFC 9072: nothing is written. */
+ristulva_status ristulva_open(const uint8_t *octets, size_t len, ristulva_open_fields *out);
+
+/* A capability as it lies in octets (RFC 5492, section 4). */
+typedef struct {
+    uint8_t code;
+    ristulva_span value; /* at most 255 octets; of the codes 1 (RFC 4760, section 8) and 65 (RFC 6793, section 3) four */
+} ristulva_capability;
+
+/* Gives capabilities one after another, however they are grouped into parameters. The code and the length of each stand in the two octets
+ * in front of its value. RISTULVA_END: none is left. RISTULVA_RANGE: `at` is above `stop`, `stop` above `end`, or `end` above `len`. */
+ristulva_status ristulva_next_capability(const uint8_t *octets, size_t len, ristulva_capabilities *cursor, ristulva_capability *out);
 
 #ifdef __cplusplus
 }

@@ -11,3 +11,5 @@ pub mod Encodings
 pub mod Narrowings
 pub mod PartPlaces
 pub mod NoteSteps
+pub mod CapabilitySteps
+pub mod OpenPlaces

@@ -14,3 +14,5 @@ pub mod Routes
 pub mod Encode
 pub mod Reconcile
 pub mod Notes
+pub mod Capabilities
+pub mod Opens

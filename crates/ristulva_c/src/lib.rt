@@ -2,6 +2,7 @@
 #![tactic(auto)]
 
 mod attributes;
+mod capabilities;
 mod context;
 mod copied;
 mod encode;
@@ -9,6 +10,7 @@ mod front;
 mod judge;
 mod notes;
 mod numbers;
+mod opens;
 mod parts;
 mod prefixes;
 mod reconcile;

@@ -18,7 +18,7 @@ pub const ROOM: u32 = 5;
 /// Nothing is left.
 pub const END: u32 = 6;
 
-/// The UPDATE isn't accepted whole.
+/// The UPDATE isn't accepted whole, or there is no OPEN that is accepted.
 pub const REFUSED: u32 = 7;
 
 /// The UPDATE can't be written.

@@ -1,0 +1,11 @@
+use Rattle.std.proofs.Common.{◌≡◌, length}
+use Rattle.bgp_wire.specs.Reader.{pieces}
+use Rattle.bgp_open.specs.Capability.{one_capability}
+use Rattle.ristulva_c.proofs.capabilities.are_capabilities.Given as goal
+
+-- what is left has the same rest
+abbrev pub invariant-row : goal.invariant-row
+invariant-row l = (pieces one_capability l.rest).1 ≡ (pieces one_capability l.octets).1
+
+abbrev pub decreases-row : goal.decreases-row
+decreases-row l = length l.rest

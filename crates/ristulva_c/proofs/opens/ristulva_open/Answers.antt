@@ -1,0 +1,16 @@
+use Rattle.std.proofs.Common.{Option, sym, subst, ◌∙◌}
+use Rattle.bgp_frame.specs.declared.step.Step.TheVariants as step
+use Rattle.bgp_open.specs.declared.message.Open.{Open}
+use Rattle.ristulva_c.specs.Opens.{TellsOpen}
+use Rattle.ristulva_c.proofs.OpenPlaces.{accepts, gives}
+use Rattle.ristulva_c.proofs.opens.ristulva_open.Goals as goal
+
+pub returns-in-Frame : goal.returns-in-Frame
+returns-in-Frame c =
+    let f = c.in-Frame.frame in
+    record {
+      found = step.Frame f;
+      shows = c.in-Frame.ensures;
+      tells = λ ctx. subst (λ (x : Option Open). TellsOpen f.len x c.tell_open.result c.args.out.now c.tell_open.new.out) (sym (accepts ctx f.kind f.body.now)) c.tell_open.ensures;
+      lie = λ ctx o is. gives c.args.octets.now f.len (record { kind = f.kind; body = f.body.now }) o c.in-Frame.ensures.0 c.in-Frame.ensures.1 (sym (accepts ctx f.kind f.body.now) ∙ is);
+    }
