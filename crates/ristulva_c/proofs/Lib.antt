@@ -11,3 +11,4 @@ pub mod Encodings
 pub mod Narrowings
 pub mod PartPlaces
 pub mod NoteSteps
+pub mod Handles

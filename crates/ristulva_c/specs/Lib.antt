@@ -14,3 +14,11 @@ pub mod Routes
 pub mod Encode
 pub mod Reconcile
 pub mod Notes
+pub mod Handle
+pub mod Config
+pub mod States
+pub mod Actions
+pub mod Session
+pub mod Hearing
+pub mod Agreed
+pub mod Sending

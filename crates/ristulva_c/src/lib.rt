@@ -1,12 +1,18 @@
 //! Ristulva for C: what `include/ristulva.h` declares. Each call is one of the libraries' calls, with its result told in numbers.
 #![tactic(auto)]
 
+mod actions;
+mod agreed;
 mod attributes;
+mod config;
 mod context;
 mod copied;
 mod encode;
 mod front;
+mod handle;
+mod hearing;
 mod judge;
+mod messages;
 mod notes;
 mod numbers;
 mod parts;
@@ -14,7 +20,10 @@ mod prefixes;
 mod reconcile;
 mod routes;
 mod segments;
+mod sending;
+mod session;
 mod span;
+mod states;
 pub mod status;
 mod text;
 mod version;
