@@ -351,36 +351,58 @@ static void check_actions(const ristulva_actions *actions, const uint8_t *messag
         WANT(ristulva_judge(&context, message, written, data, 0, &verdict) != RISTULVA_INCOMPLETE && verdict.verdict != RISTULVA_RESET && verdict.len == written);
 }
 
-/* A session that is told something at random, and hears the octets. Each allocation of its own fails once. */
+/* The peer's AS number that the session wants. */
+static uint32_t peer_as;
+
+static void renew_session(void)
+{
+    ristulva_config config = {65001, 1 + below(3), {1, 2, 3, 4}, (uint16_t)(3 * below(3)), (uint8_t)below(2), 1, (uint8_t)below(2)};
+    if (session.body != NULL && below(50) == 0)
+        WANT(ristulva_session_free(&session) == RISTULVA_OK && session.body == NULL && live == (sessions = 0));
+    if (session.body != NULL)
+        return;
+    refused = 1, allocations = 0;
+    WANT(ristulva_session_new(&config, &session) == RISTULVA_MEMORY && session.body == NULL);
+    refused = 0;
+    WANT(ristulva_session_new(&config, &session) == RISTULVA_OK && live == (sessions = 1));
+    peer_as = config.peer_as;
+}
+
+/* The OPEN of a peer, mostly of the one that is wanted, and its KEEPALIVE. */
+static void bring_up(uint8_t *message)
+{
+    static uint8_t octets[64];
+    ristulva_config config = {below(4) == 0 ? 1 + below(3) : peer_as, 65001, {4, 3, 2, 1}, 30, 1, 1, 1};
+    ristulva_session peer = {NULL};
+    ristulva_actions actions;
+    ristulva_heard heard;
+    size_t len, written;
+    WANT(ristulva_session_event(&session, RISTULVA_EVENT_START, &actions, message, RISTULVA_MESSAGE, &written) == RISTULVA_OK);
+    WANT(ristulva_session_event(&session, RISTULVA_EVENT_CONNECTED, &actions, message, RISTULVA_MESSAGE, &written) == RISTULVA_OK);
+    WANT(ristulva_session_new(&config, &peer) == RISTULVA_OK && ristulva_session_open(&peer, octets, sizeof octets, &len) == RISTULVA_OK);
+    WANT(ristulva_session_free(&peer) == RISTULVA_OK);
+    (void)ristulva_session_hear(&session, octets, len, &heard, &actions, message, RISTULVA_MESSAGE, &written);
+    memcpy(octets + 16, "\0\23\4", 3);
+    (void)ristulva_session_hear(&session, octets, 19, &heard, &actions, message, RISTULVA_MESSAGE, &written);
+}
+
+/* A session that is told something at random, and hears the octets. */
 static void try_session(const uint8_t *octets, size_t len, const ristulva_found *found)
 {
-    static const uint8_t events[] = {1, 1, 1, 2, 9, 10, 11, 16, 16, 16, 18};
-    static uint8_t message[RISTULVA_MESSAGE + 1], open[64];
-    ristulva_config config = {65001, 1 + below(3), {1, 2, 3, 4}, (uint16_t)(3 * below(3)), (uint8_t)below(2), 1, (uint8_t)below(2)}, other;
-    ristulva_session peer = {NULL};
+    static const uint8_t events[] = {1, 2, 9, 10, 11, 16, 18};
+    static uint8_t message[RISTULVA_MESSAGE + 1];
     ristulva_actions actions;
     ristulva_heard heard;
     ristulva_status status;
     uint8_t state = 0;
     size_t written;
-    memset(message, 0x5a, sizeof message);
-    if (session.body != NULL && below(50) == 0)
-        WANT(ristulva_session_free(&session) == RISTULVA_OK && session.body == NULL && live == (sessions = 0));
-    if (session.body == NULL) {
-        refused = 1, allocations = 0;
-        WANT(ristulva_session_new(&config, &session) == RISTULVA_MEMORY && session.body == NULL);
-        refused = 0;
-        WANT(ristulva_session_new(&config, &session) == RISTULVA_OK && live == (sessions = 1));
-    }
-    if (below(3) != 0) {
+    renew_session();
+    if (below(2) == 0)
+        bring_up(message);
+    if (below(4) == 0) {
+        memset(message, 0x5a, sizeof message);
         WANT(ristulva_session_event(&session, events[below(sizeof events)], &actions, message, RISTULVA_MESSAGE, &written) == RISTULVA_OK);
         check_actions(&actions, message, written);
-    }
-    if (below(3) == 0) {
-        other = (ristulva_config){1 + below(3), 65001, {4, 3, 2, 1}, 30, 1, 1, 1};
-        WANT(ristulva_session_new(&other, &peer) == RISTULVA_OK && ristulva_session_open(&peer, open, sizeof open, &written) == RISTULVA_OK);
-        WANT(ristulva_session_free(&peer) == RISTULVA_OK);
-        (void)ristulva_session_hear(&session, open, written, &heard, &actions, message, RISTULVA_MESSAGE, &written);
     }
     memset(message, 0x5a, sizeof message);
     WANT(ristulva_session_state(&session, &state) == RISTULVA_OK);
