@@ -205,6 +205,7 @@ static void try_empty(void)
     WANT(ristulva_session_hear(&none, message, 0, &heard, &actions, message + 0, sizeof message, &len) == RISTULVA_NO_SESSION);
     WANT(ristulva_session_context(&none, &context, &hold) == RISTULVA_NO_SESSION);
     WANT(ristulva_session_peer(&none, &peer) == RISTULVA_NO_SESSION);
+    WANT(ristulva_session_codes(&none, message, sizeof message, &len) == RISTULVA_NO_SESSION);
     WANT(ristulva_session_open(&none, message, sizeof message, &len) == RISTULVA_NO_SESSION);
     WANT(ristulva_session_send(&none, message, 4, &actions, message, sizeof message, &len) == RISTULVA_NO_SESSION);
     WANT(none.body == NULL);
@@ -261,9 +262,12 @@ static void come_up(struct side *one, struct side *other, uint8_t as4)
 {
     ristulva_context context, told;
     ristulva_peer peer;
+    uint8_t codes[256];
     uint16_t hold;
+    size_t len = 77;
     WANT(ristulva_session_context(&one->session, &context, &hold) == RISTULVA_STATE);
     WANT(ristulva_session_peer(&one->session, &peer) == RISTULVA_STATE);
+    WANT(ristulva_session_codes(&one->session, codes, sizeof codes, &len) == RISTULVA_STATE && len == 77);
     happens(one, RISTULVA_EVENT_START);
     happens(other, RISTULVA_EVENT_START);
     WANT(!hears(one) && state_of(one) == RISTULVA_CONNECT);
@@ -281,6 +285,8 @@ static void come_up(struct side *one, struct side *other, uint8_t as4)
     WANT(ristulva_session_context(&other->session, &told, &hold) == RISTULVA_OK && memcmp(&told, &context, sizeof told) == 0);
     WANT(ristulva_session_peer(&one->session, &peer) == RISTULVA_OK);
     WANT(peer.as_number == 65002 && peer.id[3] == 2 && peer.hold == 90 && peer.as4 == as4 && peer.ip4 == 1 && peer.ip6 == 0);
+    WANT(ristulva_session_codes(&one->session, codes, 0, &len) == RISTULVA_ROOM && len == 1u + as4);
+    WANT(ristulva_session_codes(&one->session, codes, sizeof codes, &len) == RISTULVA_OK && codes[0] == 1 && (!as4 || codes[1] == 65));
 }
 
 /* What came is the announcement: one prefix, and a path as wide as the session's AS numbers. */

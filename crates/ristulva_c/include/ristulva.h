@@ -428,6 +428,12 @@ typedef struct {
 /* Tells what the peer said of itself. RISTULVA_STATE: as for ristulva_session_context. */
 ristulva_status ristulva_session_peer(ristulva_session *session, ristulva_peer *peer);
 
+/* Writes the codes of all capabilities that the peer offers, whatever their values, to the front of `codes`, which has room for `room`
+ * octets: each once, rising, at most 256. `written` is how many they are (RFC 5492, section 4).
+ *
+ * RISTULVA_STATE: as for ristulva_session_context. RISTULVA_ROOM: `written` is written, and says how much room is needed. */
+ristulva_status ristulva_session_codes(ristulva_session *session, uint8_t *codes, size_t room, size_t *written);
+
 /* Writes the message of the session's own OPEN to the front of `message`, which has room for `room` octets: at most 49. `written` is how
  * many octets it has.
  *

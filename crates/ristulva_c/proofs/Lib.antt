@@ -12,3 +12,4 @@ pub mod Narrowings
 pub mod PartPlaces
 pub mod NoteSteps
 pub mod Handles
+pub mod RisingSteps

@@ -39,3 +39,12 @@ IsPeerTold (Some x) status before behind = IsKnown x.standing.peer status before
 abbrev pub IsOpenTold : Option Machine → Writing → Type 0
 IsOpenTold None w = IsLeft NO_SESSION w
 IsOpenTold (Some x) w = IsWritten (own_octets x.settings) w
+
+-- the codes of the peer's capabilities are written, rising; where none is accepted, nothing is
+abbrev pub AreCodes : Option Said → Writing → Type 0
+AreCodes None w = IsLeft STATE w
+AreCodes (Some p) w = IsWritten p.codes w
+
+abbrev pub IsCodesTold : Option Machine → Writing → Type 0
+IsCodesTold None w = IsLeft NO_SESSION w
+IsCodesTold (Some x) w = AreCodes x.standing.peer w

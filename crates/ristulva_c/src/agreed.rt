@@ -1,15 +1,18 @@
 //! What both speakers of a session agreed on, and what the peer said of itself.
 
 ghost use Rattle.std.specs.Prelude.{◌≡◌, Some};
-ghost use Rattle.bgp_open.specs.Peer.{said_of};
-ghost use Rattle.ristulva_c.specs.Agreed.{context_said, peer_said, IsContextTold, IsPeerTold, IsOpenTold};
+ghost use Rattle.bgp_wire.specs.OctetSet.{has_octet};
+ghost use Rattle.bgp_open.specs.Peer.{rising, said_of};
+ghost use Rattle.ristulva_c.specs.Agreed.{context_said, peer_said, IsContextTold, IsPeerTold, IsOpenTold, IsCodesTold};
 
 use crate::context::SessionContext;
 use crate::handle::SessionHandle;
 use crate::status::{NO_SESSION, OK, STATE};
 use crate::text::write;
+use arrayvec::ArrayVec;
 use bgp_machine::Session;
 use bgp_open::{Context, Peer};
+use bgp_wire::OctetSet;
 use std::alloc::Global;
 
 /// What a peer said of itself in the OPEN that was accepted (RFC 4271, section 4.2; RFC 5492).
@@ -79,6 +82,30 @@ fn tell_peer(session: &Session, peer: &mut ToldPeer) -> u32
     OK
 }
 
+/// The octets of a set, rising.
+#[tactic(auto, using(crate::proofs::RisingSteps::one_more, crate::proofs::RisingSteps::none_more, crate::proofs::RisingSteps::few))]
+fn rising(set: &OctetSet) -> ArrayVec<u8, 256>
+    ensures { result.items ≡ rising (has_octet set.now) }
+{
+    let mut octets = ArrayVec::new();
+    'octets: for octet in 0..256u16 {
+        if set.contains(octet as u8) {
+            octets.push(octet as u8);
+        }
+    }
+    octets
+}
+
+/// Tells the codes of the peer's capabilities, where one is accepted.
+fn tell_codes(session: &Session, buffer: &mut [u8], len: &mut usize) -> u32
+    ensures { IsCodesTold (Some session.now) (record { status = result; before = buffer.old; behind = buffer.new; len_before = len.old; len_behind = len.new }) }
+{
+    let Some(said) = session.peer() else {
+        return STATE;
+    };
+    write(&rising(&said.codes), buffer, len)
+}
+
 /// Tells what both speakers of a session agreed on.
 #[unsafe(no_mangle)]
 pub extern "C" fn ristulva_session_context(
@@ -112,6 +139,25 @@ pub extern "C" fn ristulva_session_peer(
         return NO_SESSION;
     };
     let status = tell_peer(&body, peer);
+    session.put(body);
+    status
+}
+
+/// Tells the codes of all capabilities of the peer of a session, rising.
+#[unsafe(no_mangle)]
+pub extern "C" fn ristulva_session_codes(
+    alloc: Global,
+    session: &mut SessionHandle,
+    buffer: &mut [u8],
+    len: &mut usize,
+) -> u32
+    ensures kept { session.new.value ≡ session.old.value }
+    ensures told { IsCodesTold session.old.value (record { status = result; before = buffer.old; behind = buffer.new; len_before = len.old; len_behind = len.new }) }
+{
+    let Some(body) = session.take(alloc) else {
+        return NO_SESSION;
+    };
+    let status = tell_codes(&body, buffer, len);
     session.put(body);
     status
 }
