@@ -1,5 +1,5 @@
 -- What a session wants done, in numbers, and the octets that it sends.
-use Rattle.std.specs.Prelude.{ℕ, zero, suc, List, [], ◌∷◌, length, Option, None, Some}
+use Rattle.std.specs.Prelude.{ℕ, zero, suc, nat_lt, List, [], ◌∷◌, length, Option, None, Some, if◌then◌else◌}
 use Rattle.bgp_frame.specs.declared.kind.Kind.TheVariants as kind
 use Rattle.bgp_frame.specs.declared.notification.Notification.{Notification}
 use Rattle.bgp_frame.specs.Frame.{octets_of}
@@ -45,8 +45,13 @@ abbrev pub places : ℕ → List machine.Action → List Action
 places zero actions = []
 places (suc n) actions = first_told actions ∷ places n (rest_of actions)
 
+-- how many places are taken
+abbrev pub count_of : List machine.Action → ℕ
+count_of actions = if nat_lt 5 (length actions) then 5 else length actions
+
+-- the first five actions: a session never wants more at a time, which is the room that its sets have
 abbrev pub actions_told : List machine.Action → Actions
-actions_told actions = record { count = length actions; list = places 5 actions }
+actions_told actions = record { count = count_of actions; list = places 5 actions }
 
 -- ---- octets
 

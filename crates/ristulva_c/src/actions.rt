@@ -1,8 +1,8 @@
 //! What a session wants done.
 
-ghost use Rattle.std.specs.Prelude.{◌≡◌, ◌∷◌, [], length, map};
+ghost use Rattle.std.specs.Prelude.{◌≡◌, ◌≤◌, ◌∷◌, [], length, map};
 ghost use Rattle.bgp_machine.specs.ActionView.{action_of};
-ghost use Rattle.ristulva_c.specs.Actions.{plain, no_action, action_told, first_told, rest_of, actions_told};
+ghost use Rattle.ristulva_c.specs.Actions.{plain, no_action, action_told, first_told, rest_of, count_of, actions_told};
 
 use crate::states::number_of_timer;
 use bgp_machine::ActionView;
@@ -126,9 +126,19 @@ fn first<'a, 'b>(actions: &'b [ActionView<'a>]) -> (Action, &'b [ActionView<'a>]
     }
 }
 
+/// How many places are taken.
+fn count_of(actions: &[ActionView<'_>]) -> usize
+    ensures value { result ≡ count_of (map action_of actions.now) }
+    ensures bound { result ≤ 5 }
+{
+    let count = actions.len();
+    if count > 5 { 5 } else { count }
+}
+
 /// The actions as they are told.
 pub(crate) fn actions_told(actions: &[ActionView<'_>]) -> Actions
-    ensures { result ≡ actions_told (map action_of actions.now) }
+    ensures told { result ≡ actions_told (map action_of actions.now) }
+    ensures bound { result.count ≤ 5 }
 {
     let (one, rest) = first(actions);
     let (two, rest) = first(rest);
@@ -136,7 +146,7 @@ pub(crate) fn actions_told(actions: &[ActionView<'_>]) -> Actions
     let (four, rest) = first(rest);
     let (five, _) = first(rest);
     Actions {
-        count: actions.len(),
+        count: count_of(actions),
         list: [one, two, three, four, five],
     }
 }
