@@ -28,6 +28,9 @@ static _Noreturn void wrong(const char *fact, int line)
 
 static long allocations, live, refused;
 
+/* How many sessions there are: each is memory that a call leaves. */
+static long sessions;
+
 struct tried {
     _Bool there;
     void *at;
@@ -157,7 +160,7 @@ static void try_text(const ristulva_context *context, const uint8_t *octets, siz
     for (;;) {
         allocations = 0;
         status = ristulva_text(context, below(1000), octets, len, text, room, &written);
-        WANT(live == 0);
+        WANT(live == sessions);
         calls++;
         if (status != RISTULVA_MEMORY)
             break;
@@ -362,7 +365,7 @@ static void try_encode(const ristulva_context *context, const uint8_t *body, siz
     for (;;) {
         allocations = 0;
         status = rewrite(context, body, len, message, room, &written);
-        WANT(live == 0);
+        WANT(live == sessions);
         calls++;
         if (status != RISTULVA_MEMORY)
             break;
@@ -384,6 +387,97 @@ static void try_encode(const ristulva_context *context, const uint8_t *body, siz
     WANT(ristulva_encode(&read, message + 19, written - 19, other, sizeof other, &again) == RISTULVA_OK);
     WANT(again == written && memcmp(message, other, written) == 0);
     calls += 2;
+}
+
+/* ---- sessions ---- */
+
+static ristulva_session session;
+
+static void check_actions(const ristulva_actions *actions, const uint8_t *message, size_t written)
+{
+    size_t i;
+    uint8_t data[1];
+    ristulva_context context = {0, 1, 1, 1};
+    ristulva_verdict verdict;
+    WANT(actions->count <= RISTULVA_ACTIONS && written <= RISTULVA_MESSAGE && message[written] == 0x5a);
+    for (i = 0; i < RISTULVA_ACTIONS; i++) {
+        const ristulva_action *action = &actions->list[i];
+        WANT((action->kind == RISTULVA_DO_NOTHING) == (i >= actions->count) && action->kind <= RISTULVA_DO_FLUSH);
+        WANT((action->timer != 0) == (action->kind == RISTULVA_DO_ARM || action->kind == RISTULVA_DO_DISARM));
+        if (action->kind == RISTULVA_DO_SEND_NOTIFICATION)
+            WANT(message[18] == 3 && message[19] == action->code && message[20] == action->subcode);
+    }
+    if (written > 0)
+        WANT(ristulva_judge(&context, message, written, data, 0, &verdict) != RISTULVA_INCOMPLETE && verdict.verdict != RISTULVA_RESET && verdict.len == written);
+}
+
+/* The peer's AS number that the session wants. */
+static uint32_t peer_as;
+
+static void renew_session(void)
+{
+    ristulva_config config = {65001, 1 + below(3), {1, 2, 3, 4}, (uint16_t)(3 * below(3)), (uint8_t)below(2), 1, (uint8_t)below(2)};
+    if (session.body != NULL && below(50) == 0)
+        WANT(ristulva_session_free(&session) == RISTULVA_OK && session.body == NULL && live == (sessions = 0));
+    if (session.body != NULL)
+        return;
+    refused = 1, allocations = 0;
+    WANT(ristulva_session_new(&config, &session) == RISTULVA_MEMORY && session.body == NULL);
+    refused = 0;
+    WANT(ristulva_session_new(&config, &session) == RISTULVA_OK && live == (sessions = 1));
+    peer_as = config.peer_as;
+}
+
+/* The OPEN of a peer, mostly of the one that is wanted, and its KEEPALIVE. */
+static void bring_up(uint8_t *message)
+{
+    static uint8_t octets[64];
+    ristulva_config config = {below(4) == 0 ? 1 + below(3) : peer_as, 65001, {4, 3, 2, 1}, 30, 1, 1, 1};
+    ristulva_session peer = {NULL};
+    ristulva_actions actions;
+    ristulva_heard heard;
+    size_t len, written;
+    WANT(ristulva_session_event(&session, RISTULVA_EVENT_START, &actions, message, RISTULVA_MESSAGE, &written) == RISTULVA_OK);
+    WANT(ristulva_session_event(&session, RISTULVA_EVENT_CONNECTED, &actions, message, RISTULVA_MESSAGE, &written) == RISTULVA_OK);
+    WANT(ristulva_session_new(&config, &peer) == RISTULVA_OK && ristulva_session_open(&peer, octets, sizeof octets, &len) == RISTULVA_OK);
+    WANT(ristulva_session_free(&peer) == RISTULVA_OK);
+    (void)ristulva_session_hear(&session, octets, len, &heard, &actions, message, RISTULVA_MESSAGE, &written);
+    memcpy(octets + 16, "\0\23\4", 3);
+    (void)ristulva_session_hear(&session, octets, 19, &heard, &actions, message, RISTULVA_MESSAGE, &written);
+}
+
+/* A session that is told something at random, and hears the octets. */
+static void try_session(const uint8_t *octets, size_t len, const ristulva_found *found)
+{
+    static const uint8_t events[] = {1, 2, 9, 10, 11, 16, 18};
+    static uint8_t message[RISTULVA_MESSAGE + 1];
+    ristulva_actions actions;
+    ristulva_heard heard;
+    ristulva_status status;
+    uint8_t state = 0;
+    size_t written;
+    renew_session();
+    if (below(2) == 0)
+        bring_up(message);
+    if (below(4) == 0) {
+        memset(message, 0x5a, sizeof message);
+        WANT(ristulva_session_event(&session, events[below(sizeof events)], &actions, message, RISTULVA_MESSAGE, &written) == RISTULVA_OK);
+        check_actions(&actions, message, written);
+    }
+    memset(message, 0x5a, sizeof message);
+    WANT(ristulva_session_state(&session, &state) == RISTULVA_OK);
+    written = 77;
+    status = ristulva_session_hear(&session, octets, len, &heard, &actions, message, RISTULVA_MESSAGE, &written);
+    calls += 3;
+    if (state < RISTULVA_OPEN_SENT)
+        WANT(status == RISTULVA_STATE && written == 77);
+    else
+        WANT(status == (found->what == RISTULVA_MORE ? RISTULVA_INCOMPLETE : RISTULVA_OK));
+    if (status != RISTULVA_OK)
+        return;
+    WANT(heard.len == (found->what == RISTULVA_FAULT ? 19 : found->len) && heard.heard >= RISTULVA_OPEN && heard.heard <= RISTULVA_RESET);
+    check_actions(&actions, message, written);
+    WANT(heard.parts.nlri.at + heard.parts.nlri.len == (heard.heard == RISTULVA_UPDATE || heard.heard == RISTULVA_WITHDRAW ? heard.len : 0));
 }
 
 static uint32_t some_offset(size_t len)
@@ -421,6 +515,7 @@ static void try_all(const uint8_t *from, size_t len)
     try_notes(&context, octets, len, &found, &verdict);
     try_open(octets, len, &found, &verdict);
     try_text(&context, octets, len, &found);
+    try_session(octets, len, &found);
     if (found.what == RISTULVA_FOUND && verdict.kind == 2) {
         ristulva_prefixes gone = {verdict.parts.withdrawn.at, verdict.parts.withdrawn.at + verdict.parts.withdrawn.len, 1};
         ristulva_prefixes nlri = {verdict.parts.nlri.at, verdict.parts.nlri.at + verdict.parts.nlri.len, 1};

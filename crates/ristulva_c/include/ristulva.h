@@ -5,14 +5,14 @@
  * The caller owns every octet. No call keeps a pointer, gives one back, calls back, reads outside of what it is handed, or writes
  * elsewhere than through the pointers that it is handed. A call only allocates where its comment says so, and frees what it took
  * before it returns. There is no state but what the caller holds, so calls of several threads don't meet, as long as no two of them
- * are handed the same place to write.
+ * are handed the same place to write. Sessions alone ("sessions", below) are memory of the library's, behind a handle of the caller's.
  *
  * Of every call:
  *  - Pointers aren't null, also where the length beside them is 0.
  *  - What a call writes (`out`, `cursor`, a buffer, a length) overlaps nothing else that it is handed.
  *  - Octets are `const uint8_t *octets, size_t len`. A message has at most 4096 of them (RFC 4271, section 4.1).
  *  - It answers a status. Where that isn't RISTULVA_OK, what it says of each status holds.
- *  - 32 KB of stack are enough.
+ *  - 32 KB of stack are enough, and 48 KB for ristulva_session_send.
  *
  * A place in octets is an offset in those that were handed in. So views of a message are offsets into the caller's own buffer.
  */
@@ -39,6 +39,7 @@ uint32_t ristulva_version(void);
 typedef uint32_t ristulva_status;
 
 #define RISTULVA_OK 0u         /* the call did what it says */
+#define RISTULVA_NO_SESSION 1u /* the handle has no session: nothing has changed */
 #define RISTULVA_MEMORY 2u     /* an allocation failed: nothing has changed, and the call can be made again */
 #define RISTULVA_RANGE 3u      /* an argument is out of its range: nothing has changed */
 #define RISTULVA_INCOMPLETE 4u /* the octets are less than a message: nothing has changed */
@@ -46,6 +47,7 @@ typedef uint32_t ristulva_status;
 #define RISTULVA_END 6u        /* nothing is left: nothing has changed */
 #define RISTULVA_REFUSED 7u    /* an UPDATE that isn't accepted whole, or no OPEN that is accepted: nothing has changed */
 #define RISTULVA_UNWRITABLE 8u /* an UPDATE that can't be written: nothing has changed */
+#define RISTULVA_STATE 9u      /* the session isn't in a state for this: nothing has changed */
 
 /* ---- octets ---- */
 
@@ -321,6 +323,171 @@ typedef struct {
 /* Gives capabilities one after another, however they are grouped into parameters. The code and the length of each stand in the two octets
  * in front of its value. RISTULVA_END: none is left. RISTULVA_RANGE: `at` is above `stop`, `stop` above `end`, or `end` above `len`. */
 ristulva_status ristulva_next_capability(const uint8_t *octets, size_t len, ristulva_capabilities *cursor, ristulva_capability *out);
+
+/* ---- sessions (RFC 4271, section 8) ----
+ *
+ * A session is one speaker's end of one connection. It does no IO and knows no time: its host opens and closes the connection, keeps the
+ * timers, tells the session what happens and lets it hear the octets that come, and does what it answers.
+ *
+ * A handle is the caller's. It begins as {NULL}, gets a session by ristulva_session_new, and loses it by ristulva_session_free; the
+ * session is memory of the library's, some 4.5 KB. A handle isn't copied, its pointer isn't changed, and no two calls are handed the same
+ * handle at one time; different sessions don't meet.
+ *
+ * Each call answers RISTULVA_NO_SESSION where the handle has none, unless an argument is out of its range or a buffer too small. A status
+ * other than RISTULVA_OK says that nothing has changed, and, but where it is said below, that nothing was written.
+ */
+
+struct ristulva_session_body;
+
+typedef struct {
+    struct ristulva_session_body *body; /* NULL where there is no session */
+} ristulva_session;
+
+/* What a speaker is to be set to. */
+typedef struct {
+    uint32_t local_as; /* its own AS number: not 0; above 65535 only with `as4` (RFC 7607; RFC 6793, section 4.1) */
+    uint32_t peer_as;  /* the AS number that the peer has to have: not 0 */
+    uint8_t id[4];     /* its BGP Identifier, highest octet first: not 0.0.0.0 (RFC 6286, section 2.1) */
+    uint16_t hold;     /* the Hold Time that it proposes, in seconds: 0 for none, else 3 at least (RFC 4271, section 4.2) */
+    uint8_t as4;       /* whether it offers AS numbers of four octets (RFC 6793): 0 for no, and any other number for yes */
+    uint8_t ip4;       /* IPv4 unicast (RFC 4760, section 8) */
+    uint8_t ip6;       /* IPv6 unicast */
+} ristulva_config;
+
+/* Makes a session in Idle. It allocates what the session keeps.
+ *
+ * RISTULVA_MEMORY; RISTULVA_RANGE, the configuration isn't one that is allowed above, or the handle has a session. */
+ristulva_status ristulva_session_new(const ristulva_config *config, ristulva_session *session);
+
+/* Frees a session: the handle has none then. Nothing is sent and nothing closed by that: RISTULVA_EVENT_STOP comes before it. */
+ristulva_status ristulva_session_free(ristulva_session *session);
+
+/* The states, as RFC 4273 numbers them. */
+#define RISTULVA_IDLE 1u
+#define RISTULVA_CONNECT 2u
+#define RISTULVA_ACTIVE 3u
+#define RISTULVA_OPEN_SENT 4u
+#define RISTULVA_OPEN_CONFIRM 5u
+#define RISTULVA_ESTABLISHED 6u
+
+/* Tells where a session stands: RISTULVA_IDLE to RISTULVA_ESTABLISHED. */
+ristulva_status ristulva_session_state(ristulva_session *session, uint8_t *state);
+
+/* The timers (RFC 4271, section 10), which are the host's. */
+#define RISTULVA_TIMER_RETRY 1u
+#define RISTULVA_TIMER_HOLD 2u
+#define RISTULVA_TIMER_KEEPALIVE 3u
+
+/* What is to be done. */
+#define RISTULVA_DO_NOTHING 0u           /* behind the last thing */
+#define RISTULVA_DO_SEEK 1u              /* seek a connection to the peer: RISTULVA_EVENT_CONNECTED or _FAILED tells what came of it */
+#define RISTULVA_DO_CLOSE 2u             /* close the connection, or give up the one that is sought */
+#define RISTULVA_DO_SEND_OPEN 3u         /* send the octets of `message`: the session's own OPEN */
+#define RISTULVA_DO_SEND_KEEPALIVE 4u    /* send the octets of `message` */
+#define RISTULVA_DO_SEND_NOTIFICATION 5u /* send the octets of `message`: `code` and `subcode` are its */
+#define RISTULVA_DO_ARM 6u               /* start `timer`, or start it anew, with `seconds` */
+#define RISTULVA_DO_DISARM 7u            /* stop `timer` */
+#define RISTULVA_DO_ANNOUNCE 8u          /* the UPDATE that was heard announces and withdraws routes */
+#define RISTULVA_DO_WITHDRAW 9u          /* the routes of the UPDATE that was heard are withdrawn, all of them (RFC 7606, section 2) */
+#define RISTULVA_DO_FLUSH 10u            /* all routes of the peer are gone with the session */
+
+typedef struct {
+    uint8_t kind;     /* RISTULVA_DO_NOTHING to RISTULVA_DO_FLUSH */
+    uint8_t timer;    /* RISTULVA_DO_ARM, RISTULVA_DO_DISARM: the timer. Else 0 */
+    uint16_t seconds; /* RISTULVA_DO_ARM: how long it runs. Else 0 */
+    uint8_t code;     /* RISTULVA_DO_SEND_NOTIFICATION: its code and subcode (RFC 4271, section 4.5). Else 0 */
+    uint8_t subcode;
+} ristulva_action;
+
+/* The most things that are to be done at a time. */
+#define RISTULVA_ACTIONS 5u
+
+/* What is to be done, in this order. */
+typedef struct {
+    size_t count;
+    ristulva_action list[RISTULVA_ACTIONS];
+} ristulva_actions;
+
+/* What happens to a session, by the numbers of RFC 4271, section 8.1. */
+#define RISTULVA_EVENT_START 1u              /* the operator wants the session */
+#define RISTULVA_EVENT_STOP 2u               /* the operator ends it */
+#define RISTULVA_EVENT_RETRY_EXPIRED 9u      /* RISTULVA_TIMER_RETRY has run out; so with the two others */
+#define RISTULVA_EVENT_HOLD_EXPIRED 10u
+#define RISTULVA_EVENT_KEEPALIVE_EXPIRED 11u
+#define RISTULVA_EVENT_CONNECTED 16u         /* the connection stands */
+#define RISTULVA_EVENT_FAILED 18u            /* the connection, or the try for one, failed */
+
+/* Tells a session what happens, and tells what is to be done. What doesn't belong in its state does nothing, nor does a timer that the
+ * session hasn't started: then `actions->count` is 0.
+ *
+ * Where a message is to be sent, its octets stand at the front of `message`, which has room for `room` octets, RISTULVA_MESSAGE at least;
+ * those behind it stay. `written` is how many octets it has: 0 where none is to be sent.
+ *
+ * RISTULVA_ROOM: `room` is below RISTULVA_MESSAGE. RISTULVA_RANGE: `event` is none of the numbers above. */
+ristulva_status ristulva_session_event(ristulva_session *session, uint32_t event, ristulva_actions *actions, uint8_t *message, size_t room,
+                                       size_t *written);
+
+/* What a session heard. */
+typedef struct {
+    uint8_t heard;        /* RISTULVA_OPEN to RISTULVA_RESET */
+    uint8_t code;         /* RISTULVA_NOTIFICATION, RISTULVA_RESET: code and subcode of the NOTIFICATION that came, or is to be sent. Else 0 */
+    uint8_t subcode;
+    uint32_t len;         /* how many of the octets were taken: the message's, or 19 of a header with a fault */
+    ristulva_parts parts; /* RISTULVA_UPDATE, RISTULVA_WITHDRAW: where the parts of the UPDATE lie in the octets. Else of no octets, at 0 */
+} ristulva_heard;
+
+/* Lets a session hear the message, or the header with a fault, that octets of the peer begin with, and tells what is to be done, as
+ * ristulva_session_event does. What stands behind a message has no effect. The host drops `heard->len` octets from the front of what it
+ * has received, and calls again, until less than a message is left.
+ *
+ * An UPDATE is as it came: its routes are walked by the cursors above, in the context of ristulva_session_context, and ristulva_note
+ * has its notes. It doesn't allocate.
+ *
+ * RISTULVA_ROOM: `room` is below RISTULVA_MESSAGE. RISTULVA_STATE: the connection doesn't stand, so that octets have no meaning (Idle,
+ * Connect, Active). RISTULVA_INCOMPLETE: the octets are less than a message. */
+ristulva_status ristulva_session_hear(ristulva_session *session, const uint8_t *octets, size_t len, ristulva_heard *heard,
+                                      ristulva_actions *actions, uint8_t *message, size_t room, size_t *written);
+
+/* Tells what both speakers agreed on, and the Hold Time in seconds, 0 for none. Each field of the context is 0 or 1.
+ *
+ * RISTULVA_STATE: no OPEN of the peer is accepted yet, or the session has ended. So it is in all states but OpenConfirm and Established. */
+ristulva_status ristulva_session_context(ristulva_session *session, ristulva_context *context, uint16_t *hold);
+
+/* What a peer said of itself in its OPEN (RFC 4271, section 4.2; RFC 5492). */
+typedef struct {
+    uint32_t as_number; /* that of its capability for AS numbers of four octets, else My Autonomous System (RFC 6793, section 4.1) */
+    uint8_t id[4];      /* its BGP Identifier, highest octet first */
+    uint16_t hold;      /* the Hold Time that it proposes, in seconds: 0 for none */
+    uint8_t as4;        /* whether it offers AS numbers of four octets: 0 or 1 */
+    uint8_t ip4;        /* IPv4 unicast */
+    uint8_t ip6;        /* IPv6 unicast */
+} ristulva_peer;
+
+/* Tells what the peer said of itself. RISTULVA_STATE: as for ristulva_session_context. */
+ristulva_status ristulva_session_peer(ristulva_session *session, ristulva_peer *peer);
+
+/* Writes the codes of all capabilities that the peer offers, whatever their values, to the front of `codes`, which has room for `room`
+ * octets: each once, rising, at most 256. `written` is how many they are (RFC 5492, section 4).
+ *
+ * RISTULVA_STATE: as for ristulva_session_context. RISTULVA_ROOM: `written` is written, and says how much room is needed. */
+ristulva_status ristulva_session_codes(ristulva_session *session, uint8_t *codes, size_t room, size_t *written);
+
+/* Writes the message of the session's own OPEN to the front of `message`, which has room for `room` octets: at most 49. `written` is how
+ * many octets it has.
+ *
+ * RISTULVA_ROOM: `written` is written, and says how much room is needed. */
+ristulva_status ristulva_session_open(ristulva_session *session, uint8_t *message, size_t room, size_t *written);
+
+/* Writes the message of an UPDATE as a session sends it now to the front of `message`, as ristulva_encode does, and tells what is to be
+ * done when it is sent: the Keepalive Timer is started anew, where there is one. `body` has AS numbers of four octets, whatever the
+ * session has, and one kind of routes: withdrawn, announced, or those of one of the multiprotocol attributes (RFC 7606, section 5.1).
+ * For a peer with AS numbers of two octets it is written as ristulva_narrow does. The session stays as it is. It allocates.
+ *
+ * RISTULVA_ROOM, `room` is below RISTULVA_MESSAGE; RISTULVA_RANGE, the body has more than RISTULVA_BODY octets; RISTULVA_STATE, the session
+ * isn't Established; RISTULVA_REFUSED, the body isn't accepted whole, or has routes of several kinds; RISTULVA_UNWRITABLE, the
+ * message would be too long; RISTULVA_MEMORY. */
+ristulva_status ristulva_session_send(ristulva_session *session, const uint8_t *body, size_t len, ristulva_actions *actions, uint8_t *message,
+                                      size_t room, size_t *written);
 
 #ifdef __cplusplus
 }

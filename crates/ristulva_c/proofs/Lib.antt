@@ -13,3 +13,5 @@ pub mod PartPlaces
 pub mod NoteSteps
 pub mod CapabilitySteps
 pub mod OpenPlaces
+pub mod Handles
+pub mod RisingSteps

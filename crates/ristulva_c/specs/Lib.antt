@@ -16,3 +16,11 @@ pub mod Reconcile
 pub mod Notes
 pub mod Capabilities
 pub mod Opens
+pub mod Handle
+pub mod Config
+pub mod States
+pub mod Actions
+pub mod Session
+pub mod Hearing
+pub mod Agreed
+pub mod Sending

@@ -1,13 +1,19 @@
 //! Ristulva for C: what `include/ristulva.h` declares. Each call is one of the libraries' calls, with its result told in numbers.
 #![tactic(auto)]
 
+mod actions;
+mod agreed;
 mod attributes;
 mod capabilities;
+mod config;
 mod context;
 mod copied;
 mod encode;
 mod front;
+mod handle;
+mod hearing;
 mod judge;
+mod messages;
 mod notes;
 mod numbers;
 mod opens;
@@ -16,7 +22,10 @@ mod prefixes;
 mod reconcile;
 mod routes;
 mod segments;
+mod sending;
+mod session;
 mod span;
+mod states;
 pub mod status;
 mod text;
 mod version;

@@ -3,6 +3,9 @@
 /// The call did what it says.
 pub const OK: u32 = 0;
 
+/// The handle has no session.
+pub const NO_SESSION: u32 = 1;
+
 /// An allocation failed: nothing has changed, and the call can be made again.
 pub const MEMORY: u32 = 2;
 
@@ -23,3 +26,6 @@ pub const REFUSED: u32 = 7;
 
 /// The UPDATE can't be written.
 pub const UNWRITABLE: u32 = 8;
+
+/// The session isn't in a state for this.
+pub const STATE: u32 = 9;

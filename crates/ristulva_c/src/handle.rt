@@ -1,0 +1,85 @@
+//! A session behind a handle.
+
+ghost use Rattle.std.specs.Prelude.{◌≡◌, Option, None, Some, option_map};
+ghost use Rattle.bgp_machine.specs.Session.{Machine};
+ghost use Rattle.bgp_machine.specs.contracts.session.Session.{the_row};
+ghost use Rattle.ristulva_c.specs.Handle.{owned};
+
+mod parts;
+
+use bgp_machine::Session;
+use parts::Parts;
+use std::alloc::Global;
+use std::marker::Model;
+use std::mem::replace;
+use std::ptr::null_mut;
+
+/// What a handle points to. C never looks into it.
+#[repr(C)]
+#[derive(Drop)]
+pub struct SessionBody {}
+
+/// A session, or none: then it is null.
+#[repr(C)]
+#[derive(Drop)]
+pub struct SessionHandle {
+    body: *mut SessionBody,
+    /// The session.
+    pub ghost value: { Option Machine },
+}
+
+impl Model for SessionHandle {
+    ghost also_owns = { λ h. owned the_row h.body h.value };
+}
+
+impl SessionHandle {
+    /// No session.
+    fn none() -> SessionHandle
+        ensures { result.value ≡ None }
+    {
+        SessionHandle { body: null_mut() }
+    }
+
+    fn of_parts(parts: Parts<Session, Global>) -> SessionHandle
+        ensures { result.value ≡ Some parts.value }
+    {
+        let Parts { ptr, alloc: _ } = parts;
+        SessionHandle {
+            body: ptr as *mut SessionBody,
+        }
+    }
+
+    fn into_parts(self, alloc: Global) -> Option<Parts<Session, Global>>
+        ensures { option_map (λ parts. parts.value) result ≡ self.value }
+    {
+        let SessionHandle { body } = self;
+        if body.is_null() {
+            None
+        } else {
+            Some(Parts {
+                ptr: body as *mut Session,
+                alloc,
+            })
+        }
+    }
+
+    /// Takes the session out.
+    pub(crate) fn take(&mut self, alloc: Global) -> Option<Box<Session>>
+        ensures session { option_map (λ session. session.value) result ≡ self.old.value }
+        ensures none { self.new.value ≡ None }
+    {
+        let old = replace(self, SessionHandle::none());
+        match old.into_parts(alloc) {
+            None => None,
+            Some(parts) => Some(parts.into_box()),
+        }
+    }
+
+    /// Puts a session in, where there is none.
+    pub(crate) fn put(&mut self, session: Box<Session>)
+        requires { self.old.value ≡ None }
+        ensures { self.new.value ≡ Some session.value }
+    {
+        *self = SessionHandle::of_parts(Parts::of(session));
+    }
+}

@@ -1,0 +1,175 @@
+//! What a session hears.
+
+ghost use Rattle.std.specs.Prelude.{◌≡◌, ◌≤◌, ◌⊎◌, Some, length, take, drop};
+ghost use Rattle.bgp_frame.specs.Notification.{notification_of_view};
+ghost use Rattle.ristulva_c.specs.Hearing.{number_of_heard, said_in, parts_heard, heard_told, Hears, HearsFirst};
+
+use crate::actions::{Actions, actions_told};
+use crate::handle::SessionHandle;
+use crate::judge::{KEEPALIVE, NOTIFICATION, OPEN, RESET, UPDATE, WITHDRAW};
+use crate::messages::{MESSAGE_MAX, send_first};
+use crate::parts::{Parts, no_parts, parts_in};
+use crate::states::is_up;
+use crate::status::{INCOMPLETE, NO_SESSION, OK, ROOM, STATE};
+use bgp_frame::NotificationView;
+use bgp_machine::{Heard, Look, Session};
+use std::alloc::Global;
+
+/// What a session heard: a message, or a header with a fault.
+#[repr(C)]
+#[derive(Clone, Copy)]
+pub struct ToldHeard {
+    /// `OPEN`, `UPDATE`, `NOTIFICATION`, `KEEPALIVE`, `WITHDRAW` or `RESET`.
+    pub heard: u8,
+    /// The code of the NOTIFICATION that came or that ends the session; else 0.
+    pub code: u8,
+    /// Its subcode.
+    pub subcode: u8,
+    /// How many octets were taken.
+    pub len: u32,
+    /// Where the parts of an UPDATE lie, where it doesn't end the session.
+    pub parts: Parts,
+}
+
+/// The number of what is heard.
+fn number_of_heard(heard: &Heard<'_>) -> u8
+    ensures { result ≡ number_of_heard heard.now }
+{
+    match heard {
+        Heard::Open(_, _) => OPEN,
+        Heard::Keepalive => KEEPALIVE,
+        Heard::Update(_) => UPDATE,
+        Heard::Withdraw(_) => WITHDRAW,
+        Heard::Notification(_) => NOTIFICATION,
+        Heard::Reset(_) | Heard::Refused(_) => RESET,
+    }
+}
+
+/// The NOTIFICATION that came or that ends the session: nothing where there is none.
+fn said_in<'a>(heard: &'a Heard<'a>) -> NotificationView<'a>
+    ensures { notification_of_view result ≡ said_in heard.now }
+{
+    match heard {
+        Heard::Notification(said) => *said,
+        Heard::Reset(why) => *why,
+        Heard::Refused(why) => why.view(),
+        Heard::Open(_, _) | Heard::Keepalive | Heard::Update(_) | Heard::Withdraw(_) => {
+            NotificationView {
+                code: 0,
+                subcode: 0,
+                info: &[],
+            }
+        }
+    }
+}
+
+/// Where the parts of what is heard lie, in the message that has this body.
+fn parts_heard(heard: &Heard<'_>, body: &[u8]) -> Parts
+    requires { length body.now ≤ 4077 }
+    ensures { result ≡ parts_heard heard.now body.now }
+{
+    match heard {
+        Heard::Update(_) | Heard::Withdraw(_) => parts_in(body),
+        _ => no_parts(),
+    }
+}
+
+/// The body of the message of so many octets that octets begin with.
+fn body_of(octets: &[u8], len: usize) -> &[u8]
+    requires short { length octets.now ≤ 4096 }
+    requires within { len ≤ length octets.now }
+    ensures body { result.now ≡ drop 19 (take len octets.now) }
+    ensures short { length result.now ≤ 4077 }
+{
+    let (message, _) = octets.split_at(len);
+    if message.len() < 19 {
+        return &[];
+    }
+    let (_, body) = message.split_at(19);
+    body
+}
+
+/// What is heard, as it is told.
+fn heard_told(look: &Look<'_>, octets: &[u8]) -> ToldHeard
+    requires short { length octets.now ≤ 4096 }
+    requires within { look.now.taken ≤ length octets.now }
+    ensures { result ≡ heard_told look.now octets.now }
+{
+    let taken = look.taken();
+    let heard = look.heard();
+    let said = said_in(heard);
+    ToldHeard {
+        heard: number_of_heard(heard),
+        code: said.code,
+        subcode: said.subcode,
+        len: taken as u32,
+        parts: parts_heard(heard, body_of(octets, taken)),
+    }
+}
+
+/// What octets begin with, as far as the longest message reaches.
+fn longest(octets: &[u8]) -> &[u8]
+    ensures front { result.now ≡ take 4096 octets.now }
+    ensures short { length result.now ≤ 4096 }
+{
+    if octets.len() <= MESSAGE_MAX {
+        return octets;
+    }
+    let (front, _) = octets.split_at(MESSAGE_MAX);
+    front
+}
+
+/// Lets a session hear the message that octets begin with.
+fn hear(
+    session: &mut Session,
+    octets: &[u8],
+    heard: &mut ToldHeard,
+    actions: &mut Actions,
+    message: &mut [u8],
+    len: &mut usize,
+) -> u32
+    requires { length octets.now ≤ 4096 }
+    ensures { Hears (Some session.old) octets.now
+        (record { heard_before = heard.old; heard_behind = heard.new })
+        (record { status = result; old = Some session.old; new = Some session.new; actions_before = actions.old; actions_behind = actions.new; message_before = message.old; message_behind = message.new; len_before = len.old; len_behind = len.new }) }
+{
+    if !is_up(session.state()) {
+        return STATE;
+    }
+    let Some(look) = session.look(octets) else {
+        return INCOMPLETE;
+    };
+    *heard = heard_told(&look, octets);
+    let found = look.actions();
+    *actions = actions_told(found.as_slice());
+    *len = send_first(session.own_frame(), found.as_slice(), message);
+    let next = look.next();
+    session.go(next);
+    OK
+}
+
+/// Lets a session hear the message, or the header with a fault, that octets begin with, and tells what is to be done.
+#[unsafe(no_mangle)]
+pub extern "C" fn ristulva_session_hear(
+    alloc: Global,
+    session: &mut SessionHandle,
+    octets: &[u8],
+    heard: &mut ToldHeard,
+    actions: &mut Actions,
+    message: &mut [u8],
+    len: &mut usize,
+) -> u32
+    ensures { HearsFirst session.old.value octets.now
+        (record { heard_before = heard.old; heard_behind = heard.new })
+        (record { status = result; old = session.old.value; new = session.new.value; actions_before = actions.old; actions_behind = actions.new; message_before = message.old; message_behind = message.new; len_before = len.old; len_behind = len.new }) }
+{
+    if message.len() < MESSAGE_MAX {
+        return ROOM;
+    }
+    let Some(mut body) = session.take(alloc) else {
+        return NO_SESSION;
+    };
+    let status = hear(&mut body, longest(octets), heard, actions, message, len);
+    session.put(body);
+    status
+}
