@@ -330,8 +330,8 @@ ristulva_status ristulva_next_capability(const uint8_t *octets, size_t len, rist
  * timers, tells the session what happens and lets it hear the octets that come, and does what it answers.
  *
  * A handle is the caller's. It begins as {NULL}, gets a session by ristulva_session_new, and loses it by ristulva_session_free; the
- * session is memory of the library's, some 4.5 KB. A handle isn't copied, its pointer isn't changed, and no two calls are handed the same
- * handle at one time; different sessions don't meet.
+ * session is memory of the library's, some 4.5 KB. A handle isn't copied, and its pointer isn't changed. It may go from thread to thread,
+ * but no two calls are handed the same handle at one time; different sessions don't meet.
  *
  * Each call answers RISTULVA_NO_SESSION where the handle has none, unless an argument is out of its range or a buffer too small. A status
  * other than RISTULVA_OK says that nothing has changed, and, but where it is said below, that nothing was written.

@@ -40,6 +40,7 @@ impl SessionHandle {
         SessionHandle { body: null_mut() }
     }
 
+    /// A handle that has what a box is made of.
     fn of_parts(parts: Parts<Session, Global>) -> SessionHandle
         ensures { result.value ≡ Some parts.value }
     {
@@ -49,6 +50,7 @@ impl SessionHandle {
         }
     }
 
+    /// What the box is made of, where there is one.
     fn into_parts(self, alloc: Global) -> Option<Parts<Session, Global>>
         ensures { option_map (λ parts. parts.value) result ≡ self.value }
     {
@@ -82,4 +84,15 @@ impl SessionHandle {
     {
         *self = SessionHandle::of_parts(Parts::of(session));
     }
+}
+
+// One thread after another may have the handle.
+unsafe impl Send for SessionHandle {}
+
+fn crosses<T: Send>() {}
+
+// What asks for that proof: nothing is done.
+#[allow(dead_code)]
+fn crosses_threads() {
+    crosses::<SessionHandle>();
 }
