@@ -1,11 +1,13 @@
 /* Judges each message of a stream by the library for C and walks all that stands in its UPDATEs by cursors: attributes, the prefixes of the
- * four fields, and the numbers of the AS path. Prints the sums of one round, as baseline.rs does, and the best time of the rounds.
+ * four fields, and the numbers of the AS path; or lets a session hear the stream, and counts the prefixes of what it announces and withdraws.
+ * Prints the sums of one round, as baseline.rs does, and the best time of the rounds.
  *
- * usage: walk FILE ROUNDS      the session has AS numbers of four octets and both families */
+ * usage: walk FILE ROUNDS [session]      the session has AS numbers of four octets and both families */
 #define _POSIX_C_SOURCE 200809L
 #include "ristulva.h"
 #include <stdio.h>
 #include <stdlib.h>
+#include <string.h>
 #include <time.h>
 
 /* The types of attributes that are walked further. */
@@ -99,6 +101,83 @@ static struct sums walk(const uint8_t *octets, size_t len)
     return sums;
 }
 
+/* ---- a session ---- */
+
+static uint8_t sent[RISTULVA_MESSAGE];
+static ristulva_actions to_do;
+
+static void must(int fact, const char *what)
+{
+    if (!fact) {
+        fprintf(stderr, "walk: %s\n", what);
+        exit(1);
+    }
+}
+
+static void hear(ristulva_session *session, const uint8_t *octets, size_t len)
+{
+    ristulva_heard heard;
+    size_t written;
+    must(ristulva_session_hear(session, octets, len, &heard, &to_do, sent, sizeof sent, &written) == RISTULVA_OK, "a message isn't heard");
+}
+
+/* A session of AS 65002 that is Established with AS 65001. Both offer AS numbers of four octets, IPv4 and IPv6. */
+static void establish(ristulva_session *session)
+{
+    static const ristulva_config own = {65002, 65001, {192, 0, 2, 2}, 90, 1, 1, 1}, other = {65001, 65002, {192, 0, 2, 1}, 90, 1, 1, 1};
+    static const uint8_t keepalive[] = {255, 255, 255, 255, 255, 255, 255, 255, 255, 255, 255, 255, 255, 255, 255, 255, 0, 19, 4};
+    ristulva_session peer = {NULL};
+    uint8_t open[RISTULVA_MESSAGE], state = 0;
+    size_t len, written;
+    must(ristulva_session_new(&own, session) == RISTULVA_OK && ristulva_session_new(&other, &peer) == RISTULVA_OK, "there is no memory");
+    must(ristulva_session_open(&peer, open, sizeof open, &len) == RISTULVA_OK, "there is no OPEN");
+    ristulva_session_free(&peer);
+    ristulva_session_event(session, RISTULVA_EVENT_START, &to_do, sent, sizeof sent, &written);
+    ristulva_session_event(session, RISTULVA_EVENT_CONNECTED, &to_do, sent, sizeof sent, &written);
+    hear(session, open, len);
+    hear(session, keepalive, sizeof keepalive);
+    must(ristulva_session_state(session, &state) == RISTULVA_OK && state == RISTULVA_ESTABLISHED, "the session isn't Established");
+}
+
+/* Counts the prefixes of an attribute of multiprotocol routes. */
+static void count_attribute(const struct message *m, const ristulva_attribute *attribute, struct sums *sums)
+{
+    if (attribute->kind == MP_REACH || attribute->kind == MP_UNREACH)
+        walk_attribute(m, attribute, sums);
+}
+
+static void count_routes(const struct message *m, struct sums *sums)
+{
+    ristulva_attributes cursor = {m->parts.attributes.at, m->parts.attributes.at + m->parts.attributes.len};
+    ristulva_attribute attribute;
+    while (ristulva_next_attribute(m->octets, m->len, &cursor, &attribute) == RISTULVA_OK)
+        count_attribute(m, &attribute, sums);
+    sums->withdrawn += count_field(m, m->parts.withdrawn);
+    sums->announced += count_field(m, m->parts.nlri);
+}
+
+/* Lets a session hear a stream up to its end, or to where the session ends. */
+static struct sums live(const uint8_t *octets, size_t len)
+{
+    struct sums sums = {0};
+    ristulva_session session = {NULL};
+    ristulva_heard heard;
+    size_t written;
+    establish(&session);
+    while (ristulva_session_hear(&session, octets, len, &heard, &to_do, sent, sizeof sent, &written) == RISTULVA_OK) {
+        sums.messages++;
+        sums.bad += heard.heard == RISTULVA_WITHDRAW || heard.heard == RISTULVA_RESET;
+        if (heard.heard == RISTULVA_UPDATE || heard.heard == RISTULVA_WITHDRAW) {
+            struct message m = {octets, heard.len, heard.parts};
+            count_routes(&m, &sums);
+        }
+        octets += heard.len;
+        len -= heard.len;
+    }
+    ristulva_session_free(&session);
+    return sums;
+}
+
 /* All octets of a file, which may be a pipe. NULL where they can't be read. */
 static uint8_t *read_all(const char *name, size_t *len)
 {
@@ -128,8 +207,8 @@ int main(int argc, char **argv)
     size_t len;
     long rounds;
     uint8_t *octets;
-    if (argc != 3) {
-        fprintf(stderr, "usage: walk FILE ROUNDS\n");
+    if (argc < 3 || argc > 4 || (argc == 4 && strcmp(argv[3], "session") != 0)) {
+        fprintf(stderr, "usage: walk FILE ROUNDS [session]\n");
         return 2;
     }
     octets = read_all(argv[1], &len);
@@ -139,7 +218,7 @@ int main(int argc, char **argv)
     }
     for (rounds = atol(argv[2]); rounds > 0; rounds--) {
         unsigned long long start = nanoseconds(), took;
-        sums = walk(octets, len);
+        sums = argc == 4 ? live(octets, len) : walk(octets, len);
         took = nanoseconds() - start;
         best = took < best ? took : best;
     }
