@@ -95,14 +95,14 @@ class Disarm:
 
 @dataclasses.dataclass(frozen=True)
 class Announce:
-    """Take the routes of an UPDATE: those it announces, and those it withdraws."""
+    """Take the routes of the UPDATE that was heard: those it announces, and those it withdraws. Attributes that its notes tell of are discarded."""
 
     update: Message
 
 
 @dataclasses.dataclass(frozen=True)
 class Withdraw:
-    """Withdraw all routes of an UPDATE, those it announces too (RFC 7606, section 2)."""
+    """Treat the UPDATE that was heard as a withdrawal of all its routes, also those that it announces (RFC 7606, section 2)."""
 
     update: Message
 

@@ -44,9 +44,10 @@ pub enum Action<'a> {
     /// Stop a timer.
     Disarm(Timer),
     /// Take the routes of the UPDATE that was heard: those it announces and those it withdraws.
+    /// Attributes that its [notes](Update::notes) tell of are discarded.
     Announce(Update<'a>),
-    /// Withdraw all routes of the UPDATE that was heard, its [prefixes](Update::prefixes) (RFC
-    /// 7606, section 2).
+    /// Treat the UPDATE that was heard as a withdrawal of all its routes, its
+    /// [prefixes](Update::prefixes) (RFC 7606, section 2).
     Withdraw(Update<'a>),
     /// Drop all routes of the peer: they are gone with the session.
     Flush,

@@ -2,7 +2,7 @@
 //! of docs/SESSION.md and the RFCs say.
 
 use ristulva::{
-    Action, Actions, Config, Context, Error, Event, Outcome, Session, State, Timer, BODY,
+    judge, Action, Actions, Config, Context, Error, Event, Outcome, Session, State, Timer, BODY,
 };
 
 /// The body of an UPDATE: 10.0.0.0/8 by the path 70000 65001, next hop 192.0.2.1.
@@ -372,6 +372,59 @@ fn pieces() {
             ..
         }
     ));
+}
+
+/// Whatever one octet is, a session that stands hears what `judge` finds; but an OPEN doesn't belong
+/// there (RFC 6608, section 4). It stands on exactly where no NOTIFICATION came or is sent.
+#[test]
+fn changed_octets() {
+    for octets in [
+        message(1, &[4, 0xfd, 0xe8, 0, 90, 192, 0, 2, 1, 0]),
+        message(2, &ANNOUNCEMENT),
+        message(2, &WITHOUT_HOP),
+        message(3, &[6, 2]),
+        message(4, &[]),
+    ] {
+        for at in 0..octets.len() {
+            for octet in [0, 1, 2, 3, 4, 19, octets[at] ^ 1, 0x80, 0xff] {
+                let mut octets = octets.clone();
+                octets[at] = octet;
+                compare(&octets);
+            }
+        }
+    }
+}
+
+/// What a session in Established hears of octets, and what `judge` says of them.
+fn compare(octets: &[u8]) {
+    let (_, mut other) = established(&local(), &remote());
+    let context = other.session.context().expect("it stands");
+    let judged = judge(&context, octets);
+    let heard = other.session.hear(octets);
+    assert_eq!(heard.is_some(), judged.is_some());
+    let (Some(heard), Some(judged)) = (heard, judged) else {
+        assert_eq!(other.session.state(), State::Established);
+        return;
+    };
+    assert_eq!(heard.taken, judged.octets().len().max(19));
+    let is_header = judged.octets().is_empty();
+    if octets[18] == 1 && !is_header {
+        let (code, subcode, data) = (5, 3, vec![1]);
+        let wanted = Outcome::Reset {
+            code,
+            subcode,
+            data,
+        };
+        assert_eq!(heard.outcome, wanted);
+    } else {
+        assert_eq!(&heard.outcome, judged.outcome());
+    }
+    let ends = matches!(
+        heard.outcome,
+        Outcome::Reset { .. } | Outcome::Notification { .. }
+    );
+    assert_eq!(other.session.state() == State::Idle, ends, "{octets:?}");
+    assert_eq!(heard.actions.last() == Some(Action::Flush), ends);
 }
 
 /// RFC 7607; RFC 6793, section 4.1; RFC 6286, section 2.1; RFC 4271, section 4.2.
