@@ -2,6 +2,7 @@
 
 import gc
 import ipaddress
+import itertools
 import pathlib
 import resource
 import sys
@@ -224,6 +225,26 @@ class Faults(unittest.TestCase):
         one, _ = connected()
         one.held = message(2, ANNOUNCEMENT)
         self.assertEqual(one.hears().actions[0], notification(5, 1, 2))
+
+
+    def test_changed_octets(self):
+        """Whatever one octet is, a session that stands hears what `judge` finds, and ends exactly where a NOTIFICATION came or is sent."""
+        for octets in (message(2, ANNOUNCEMENT), message(2, WITHOUT_HOP), notification(6, 2).message, message(4)):
+            for at, octet in itertools.product(range(len(octets)), (0, 1, 0xff)):
+                changed = octets[:at] + bytes([octet]) + octets[at + 1 :]
+                _, other = established()
+                judged, heard = ristulva.judge(changed, other.session.context), other.session.hear(changed)
+                with self.subTest(changed.hex()):
+                    self.assertEqual(heard is None, judged is None)
+                    if heard and judged.verdict != "open" and judged.found.kind != 1:
+                        self.assertEqual(told(heard.message), told(judged))
+                        self.assertEqual(other.session.state == State.IDLE, judged.notification is not None)
+
+
+def told(it):
+    """What a message tells; of one that ends the session no routes."""
+    routes = [] if it.verdict == "reset" else [*it.announced(), *it.withdrawn()]
+    return str(it), it.verdict, it.notification, it.found.kind, it.found.len, routes
 
 
 class Arguments(unittest.TestCase):
