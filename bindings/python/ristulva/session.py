@@ -68,7 +68,7 @@ class Seek:
 
 @dataclasses.dataclass(frozen=True)
 class Close:
-    """Close the connection, or give up the one that is sought."""
+    """Close the connection, or give up the one that is sought. What came by it and wasn't taken is dropped."""
 
 
 @dataclasses.dataclass(frozen=True)
@@ -116,7 +116,7 @@ Action = typing.Union[Seek, Close, Send, Arm, Disarm, Announce, Withdraw, Flush]
 
 
 # How each kind of action is made of what C tells, the message that is sent and the UPDATE that was heard.
-MAKING: dict[int, typing.Callable[[CAction, bytes, typing.Optional[Message]], Action]] = {
+MAKING: dict[int, typing.Callable[[CAction, bytes, typing.Any], Action]] = {
     1: lambda it, sent, update: Seek(),
     2: lambda it, sent, update: Close(),
     3: lambda it, sent, update: Send(sent),  # an OPEN

@@ -13,13 +13,15 @@ impl Speaker {
         Ok(Speaker { session, held })
     }
 
-    /// Hears all that came.
-    fn hear(&mut self, peer: &mut Speaker) {
-        while let Some(heard) = self.session.hear(&self.held) {
-            carry_out(heard.actions, peer);
-            let taken = heard.taken;
-            self.held.drain(..taken);
-        }
+    /// Hears the first message that came, if there is one.
+    fn hear(&mut self, peer: &mut Speaker) -> bool {
+        let Some(heard) = self.session.hear(&self.held) else {
+            return false;
+        };
+        carry_out(heard.actions, peer);
+        let taken = heard.taken;
+        self.held.drain(..taken);
+        true
     }
 }
 
@@ -35,25 +37,28 @@ fn carry_out(actions: Actions<'_>, peer: &mut Speaker) {
     }
 }
 
+/// Tells a speaker what happens; then both hear all that comes of it.
+fn happens(event: Event, one: &mut Speaker, other: &mut Speaker) {
+    carry_out(one.session.event(event), other);
+    while one.hear(other) || other.hear(one) {}
+}
+
 fn main() -> Result<(), Error> {
     let mut one = Speaker::new(65001, 65002, [192, 0, 2, 1])?;
     let mut other = Speaker::new(65002, 65001, [192, 0, 2, 2])?;
     for event in [Event::Start, Event::Connected] {
-        carry_out(one.session.event(event), &mut other);
-        carry_out(other.session.event(event), &mut one);
-    }
-    while !one.held.is_empty() || !other.held.is_empty() {
-        one.hear(&mut other);
-        other.hear(&mut one);
+        happens(event, &mut one, &mut other);
+        happens(event, &mut other, &mut one);
     }
     // 10.0.0.0/8 by AS 65001, and by 192.0.2.1.
-    let path = [
-        64, 1, 1, 0, 64, 2, 6, 2, 1, 0, 0, 253, 233, 64, 3, 4, 192, 0, 2, 1,
+    let attributes = [
+        &[64, 1, 1, 0][..],
+        &[64, 2, 6, 2, 1, 0, 0, 253, 233],
+        &[64, 3, 4, 192, 0, 2, 1],
     ];
-    let body = [&[0, 0, 0, 20][..], &path, &[8, 10]].concat();
+    let body = [&[0, 0, 0, 20], &attributes.concat()[..], &[8, 10]].concat();
     carry_out(one.session.send(&body)?, &mut other);
     other.hear(&mut one);
-    carry_out(one.session.event(Event::Stop), &mut other);
-    other.hear(&mut one);
+    happens(Event::Stop, &mut one, &mut other);
     Ok(())
 }

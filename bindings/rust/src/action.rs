@@ -29,7 +29,8 @@ pub enum Action<'a> {
     /// Seek a connection to the peer. [`Event::Connected`](crate::Event::Connected) or
     /// [`Event::Failed`](crate::Event::Failed) tells what came of it.
     Seek,
-    /// Close the connection, or give up the one that is sought.
+    /// Close the connection, or give up the one that is sought. What came by it and wasn't taken is
+    /// dropped.
     Close,
     /// Send the octets of a message: at most [`MESSAGE`](crate::MESSAGE).
     Send(Vec<u8>),

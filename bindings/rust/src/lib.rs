@@ -1,4 +1,4 @@
-//! BGP-4 messages (RFC 4271), read and judged (RFC 7606) by proved code.
+//! BGP-4 messages (RFC 4271), read and judged (RFC 7606), and sessions, by proved code.
 //!
 //! This is the library for C, `dist/libristulva.a`, with types that a Rust programmer expects. It
 //! reads one direction of a session as octets, by [`messages`], or holds one end of it, by a
