@@ -109,6 +109,12 @@ class Life(unittest.TestCase):
             self.assertEqual(side.session.hold_time, 30)
         self.assertEqual(other.session.peer, ristulva.Peer(65001, LOCAL.identifier, 30, True, True, True, [1, 65]))
 
+    def test_inside(self):
+        """A session with a peer of the same AS, for IPv6 alone, with AS numbers of two octets."""
+        one, _ = established(*(Config(65001, 65001, it, as4=False, ip4=False, ip6=True) for it in ("192.0.2.1", "192.0.2.2")))
+        self.assertEqual(one.session.context, ristulva.Context(internal=True, ip6=True))
+        self.assertEqual(one.session.peer, ristulva.Peer(65001, ipaddress.IPv4Address("192.0.2.2"), 90, False, False, True, [1]))
+
     def test_nothing_agreed(self):
         one, _ = connected()
         self.assertEqual((one.session.context, one.session.hold_time, one.session.peer), (None, None, None))
@@ -123,6 +129,18 @@ class Life(unittest.TestCase):
             self.assertEqual((side.session.context, side.session.peer), (None, None))
             self.assertIsNone(side.session.hear(message(4)))
             self.assertEqual(side.session.event(Event.STOP), [])
+
+    def test_sought_again(self):
+        """Before it stands a connection is sought again when the Retry Timer has run out."""
+        one = Side(LOCAL)
+        one.peer = Side(REMOTE)
+        one.happens(Event.START)
+        self.assertEqual(one.happens(Timer.RETRY.expired), [Close(), Arm(Timer.RETRY, 120), Seek()])
+        one.happens(Event.CONNECTED)
+        self.assertEqual(one.happens(Event.FAILED), [Disarm(Timer.HOLD), Arm(Timer.RETRY, 120)])
+        self.assertIs(one.session.state, State.ACTIVE)
+        self.assertEqual(one.happens(Timer.RETRY.expired), [Arm(Timer.RETRY, 120), Seek()])
+        self.assertIs(one.session.state, State.CONNECT)
 
     def test_expired_and_failed(self):
         one, other = established()

@@ -174,6 +174,27 @@ fn agreed() {
     assert_eq!(peer.codes, [1, 65]);
 }
 
+/// A session with a peer of the same AS, for IPv6 alone, with AS numbers of two octets.
+#[test]
+fn agreed_inside_of_an_as() {
+    let inside = |identifier: u8| Config {
+        as4: false,
+        ip4: false,
+        ip6: true,
+        ..Config::new(65001, 65001, [192, 0, 2, identifier].into())
+    };
+    let (one, _) = established(&inside(1), &inside(2));
+    let context = Context {
+        internal: true,
+        ip6: true,
+        ..Context::default()
+    };
+    assert_eq!(one.session.context(), Some(context));
+    let peer = one.session.peer().expect("it is accepted");
+    assert_eq!((peer.as4, peer.ip4, peer.ip6), (false, false, true));
+    assert_eq!(peer.codes, [1]);
+}
+
 #[test]
 fn nothing_is_agreed_before() {
     let (one, _) = connected(&local(), &remote());
@@ -336,6 +357,22 @@ fn stopped() {
         assert_eq!(side.session.event(Event::Stop).count(), 0);
         assert_eq!(side.session.send(&ANNOUNCEMENT).err(), Some(Error::State));
     }
+}
+
+/// Before it stands a connection is sought again when the Retry Timer has run out.
+#[test]
+fn sought_again() {
+    let (mut one, mut other) = (Side::new(&local()), Side::new(&remote()));
+    let retry = Event::Expired(Timer::Retry);
+    one.happens(Event::Start, &mut other);
+    let done = one.happens(retry, &mut other);
+    assert_eq!(done, [Action::Close, RETRY, Action::Seek]);
+    one.happens(Event::Connected, &mut other);
+    let done = one.happens(Event::Failed, &mut other);
+    assert_eq!(done, [Action::Disarm(Timer::Hold), RETRY]);
+    assert_eq!(one.session.state(), State::Active);
+    assert_eq!(one.happens(retry, &mut other), [RETRY, Action::Seek]);
+    assert_eq!(one.session.state(), State::Connect);
 }
 
 #[test]
