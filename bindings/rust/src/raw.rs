@@ -435,8 +435,8 @@ pub type Told = (Actions, usize);
 /// whether it has a session.
 pub struct Session(UnsafeCell<Handle>);
 
-// SAFETY: what a handle points to is memory of its own, taken from `malloc`, and no call keeps
-// anything of the thread that makes it.
+// SAFETY: a handle may go from thread to thread. What it points to is memory of its own, taken from
+// `malloc`, and no call keeps anything of the thread that makes it.
 unsafe impl Send for Session {}
 
 impl Session {
