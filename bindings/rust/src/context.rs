@@ -14,6 +14,16 @@ pub struct Context {
 }
 
 impl Context {
+    /// What C tells.
+    pub(crate) fn of(told: &raw::Context) -> Context {
+        Context {
+            internal: told.internal != 0,
+            as4: told.as4 != 0,
+            ip4: told.ip4 != 0,
+            ip6: told.ip6 != 0,
+        }
+    }
+
     /// As C has it.
     pub(crate) fn said(&self) -> raw::Context {
         raw::Context {

@@ -14,6 +14,10 @@ pub enum Error {
     /// An UPDATE can't be written, or its message would have more than [`MESSAGE`](crate::MESSAGE)
     /// octets.
     Unwritable,
+    /// A configuration isn't one that a [`Config`](crate::Config) may be.
+    Config,
+    /// The session isn't in a state for this.
+    State,
 }
 
 impl Error {
@@ -24,6 +28,7 @@ impl Error {
             raw::RANGE => Error::TooLong,
             raw::REFUSED => Error::Refused,
             raw::UNWRITABLE => Error::Unwritable,
+            raw::STATE => Error::State,
             _ => unreachable!("status {status} of a call that doesn't answer it"),
         }
     }
@@ -36,6 +41,8 @@ impl fmt::Display for Error {
             Error::TooLong => "the body is longer than that of a message",
             Error::Refused => "the UPDATE isn't accepted whole",
             Error::Unwritable => "the UPDATE can't be written",
+            Error::Config => "the configuration isn't allowed",
+            Error::State => "the session isn't in a state for this",
         })
     }
 }

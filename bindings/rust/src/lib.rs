@@ -1,9 +1,9 @@
-//! BGP-4 messages (RFC 4271), read and judged (RFC 7606) by proved code.
+//! BGP-4 messages (RFC 4271), read and judged (RFC 7606), and sessions, by proved code.
 //!
 //! This is the library for C, `dist/libristulva.a`, with types that a Rust programmer expects. It
-//! reads one direction of a session as octets, and has no session. What it gives borrows the
-//! caller's octets: only the data of a [`Outcome::Reset`], lines of text and messages that are
-//! written are copied.
+//! reads one direction of a session as octets, by [`messages`], or holds one end of it, by a
+//! [`Session`]. What it gives borrows the caller's octets: only the data of a [`Outcome::Reset`],
+//! lines of text and messages that are written are copied.
 //!
 //! ```
 //! use ristulva::{Context, Outcome};
@@ -29,7 +29,9 @@
 
 #![deny(unsafe_code, missing_docs)]
 
+mod action;
 mod attribute;
+mod config;
 mod context;
 mod error;
 mod front;
@@ -40,10 +42,13 @@ mod path;
 mod prefix;
 #[allow(unsafe_code)]
 mod raw;
+mod session;
 mod update;
 mod write;
 
+pub use action::{Action, Actions, Timer};
 pub use attribute::{Attribute, Attributes};
+pub use config::Config;
 pub use context::Context;
 pub use error::Error;
 pub use front::{front, Front, Kind};
@@ -52,6 +57,7 @@ pub use note::{Note, Notes, Why};
 pub use open::{Capabilities, Capability, Open};
 pub use path::{Numbers, Segment, SegmentKind, Segments};
 pub use prefix::{NextHop, Prefix, Prefixes};
+pub use session::{Event, Heard, Peer, Session, State};
 pub use update::Update;
 pub use write::{encode, narrow, reconcile};
 

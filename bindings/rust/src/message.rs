@@ -3,7 +3,7 @@ use std::fmt;
 use std::iter::FusedIterator;
 
 /// The octets of a NOTIFICATION in front of its data: the header, its code and its subcode.
-const NOTIFICATION: usize = 21;
+pub(crate) const NOTIFICATION: usize = 21;
 
 /// How many octets of text most messages have room in.
 const LINES: usize = 4096;

@@ -3,9 +3,11 @@
 //! What makes them safe is the same everywhere. A slice's pointer isn't null, also where the slice
 //! is empty, and its length goes with it. What a call writes is behind a `&mut`, so it overlaps
 //! nothing else. No call keeps a pointer, and for any octets, cursor and span it reads nothing
-//! outside of what it is handed.
+//! outside of what it is handed. Of a [`Session`]'s calls its own comment tells the rest.
 
+use std::cell::UnsafeCell;
 use std::os::raw::c_char;
+use std::ptr;
 
 /// The statuses that calls answer.
 pub const OK: u32 = 0;
@@ -15,6 +17,7 @@ pub const INCOMPLETE: u32 = 4;
 pub const ROOM: u32 = 5;
 pub const REFUSED: u32 = 7;
 pub const UNWRITABLE: u32 = 8;
+pub const STATE: u32 = 9;
 
 /// What [`Found`] tells.
 pub const MORE: u8 = 0;
@@ -27,6 +30,18 @@ pub const NOTIFICATION: u8 = 3;
 pub const KEEPALIVE: u8 = 4;
 pub const WITHDRAW: u8 = 5;
 pub const RESET: u8 = 6;
+
+/// What a session asks for.
+pub const DO_SEEK: u8 = 1;
+pub const DO_CLOSE: u8 = 2;
+pub const DO_SEND_OPEN: u8 = 3;
+pub const DO_SEND_KEEPALIVE: u8 = 4;
+pub const DO_SEND_NOTIFICATION: u8 = 5;
+pub const DO_ARM: u8 = 6;
+pub const DO_DISARM: u8 = 7;
+pub const DO_ANNOUNCE: u8 = 8;
+pub const DO_WITHDRAW: u8 = 9;
+pub const DO_FLUSH: u8 = 10;
 
 /// The address family of IPv4.
 pub const AFI_IP4: u16 = 1;
@@ -58,6 +73,7 @@ pub struct Found {
 }
 
 #[repr(C)]
+#[derive(Default)]
 pub struct Context {
     pub internal: u8,
     pub as4: u8,
@@ -177,6 +193,65 @@ pub struct Capability {
     pub value: Span,
 }
 
+#[repr(C)]
+pub struct Config {
+    pub local_as: u32,
+    pub peer_as: u32,
+    pub id: [u8; 4],
+    pub hold: u16,
+    pub as4: u8,
+    pub ip4: u8,
+    pub ip6: u8,
+}
+
+#[repr(C)]
+#[derive(Clone, Copy, Default)]
+pub struct Action {
+    pub kind: u8,
+    pub timer: u8,
+    pub seconds: u16,
+    pub code: u8,
+    pub subcode: u8,
+}
+
+/// The most things that are to be done at a time.
+pub const ACTIONS: usize = 5;
+
+#[repr(C)]
+#[derive(Default)]
+pub struct Actions {
+    pub count: usize,
+    pub list: [Action; ACTIONS],
+}
+
+#[repr(C)]
+#[derive(Default)]
+pub struct Heard {
+    pub heard: u8,
+    pub code: u8,
+    pub subcode: u8,
+    pub len: u32,
+    pub parts: Parts,
+}
+
+#[repr(C)]
+#[derive(Default)]
+pub struct Peer {
+    pub as_number: u32,
+    pub id: [u8; 4],
+    pub hold: u16,
+    pub as4: u8,
+    pub ip4: u8,
+    pub ip6: u8,
+}
+
+/// `ristulva_session`: where the session's memory is, which is the library's; null where there is
+/// none.
+#[repr(C)]
+struct Handle {
+    body: *mut u8,
+}
+
 #[rustfmt::skip]
 extern "C" {
     fn ristulva_version() -> u32;
@@ -195,6 +270,16 @@ extern "C" {
     fn ristulva_unreached(octets: *const u8, len: usize, value: *const Span, cursor: *mut Prefixes) -> u32;
     fn ristulva_open(octets: *const u8, len: usize, out: *mut OpenFields) -> u32;
     fn ristulva_next_capability(octets: *const u8, len: usize, cursor: *mut Capabilities, out: *mut Capability) -> u32;
+    fn ristulva_session_new(config: *const Config, session: *mut Handle) -> u32;
+    fn ristulva_session_free(session: *mut Handle) -> u32;
+    fn ristulva_session_state(session: *mut Handle, state: *mut u8) -> u32;
+    fn ristulva_session_event(session: *mut Handle, event: u32, actions: *mut Actions, message: *mut u8, room: usize, written: *mut usize) -> u32;
+    fn ristulva_session_hear(session: *mut Handle, octets: *const u8, len: usize, heard: *mut Heard, actions: *mut Actions, message: *mut u8, room: usize, written: *mut usize) -> u32;
+    fn ristulva_session_context(session: *mut Handle, context: *mut Context, hold: *mut u16) -> u32;
+    fn ristulva_session_peer(session: *mut Handle, peer: *mut Peer) -> u32;
+    fn ristulva_session_codes(session: *mut Handle, codes: *mut u8, room: usize, written: *mut usize) -> u32;
+    fn ristulva_session_open(session: *mut Handle, message: *mut u8, room: usize, written: *mut usize) -> u32;
+    fn ristulva_session_send(session: *mut Handle, body: *const u8, len: usize, actions: *mut Actions, message: *mut u8, room: usize, written: *mut usize) -> u32;
 }
 
 pub fn version() -> u32 {
@@ -335,4 +420,119 @@ pub fn next_capability(octets: &[u8], cursor: &mut Capabilities) -> Option<Capab
     let status =
         unsafe { ristulva_next_capability(octets.as_ptr(), octets.len(), cursor, &mut out) };
     (status == OK).then_some(out)
+}
+
+/// The room of a message: enough for each call.
+pub type Room = [u8; crate::MESSAGE];
+
+/// What a session asks for, and how many octets it has written into the room of a message.
+pub type Told = (Actions, usize);
+
+/// A session, which is freed when it is dropped.
+///
+/// A call may write its handle, whatever it answers, so that is in a cell, which threads don't
+/// share: so one call at a time is handed it. Nothing else has it, and only `new` and `drop` change
+/// whether it has a session.
+pub struct Session(UnsafeCell<Handle>);
+
+// SAFETY: a handle may go from thread to thread. What it points to is memory of its own, taken from
+// `malloc`, and no call keeps anything of the thread that makes it.
+unsafe impl Send for Session {}
+
+impl Session {
+    /// A session, or the status that says why there is none.
+    pub fn new(config: &Config) -> Result<Session, u32> {
+        let mut handle = Handle {
+            body: ptr::null_mut(),
+        };
+        // SAFETY: see above; the handle has no session yet.
+        match unsafe { ristulva_session_new(config, &mut handle) } {
+            OK => Ok(Session(handle.into())),
+            status => Err(status),
+        }
+    }
+
+    pub fn state(&self) -> u8 {
+        let mut state = 0;
+        // SAFETY: see above.
+        unsafe { ristulva_session_state(self.0.get(), &mut state) };
+        state
+    }
+
+    /// The number of the event has to be one of the header's: nothing happens by another.
+    pub fn event(&mut self, event: u32, message: &mut Room) -> Told {
+        let (mut told, mut written) = (Actions::default(), 0);
+        let (handle, into, room) = (self.0.get(), message.as_mut_ptr(), message.len());
+        // SAFETY: see above.
+        unsafe { ristulva_session_event(handle, event, &mut told, into, room, &mut written) };
+        (told, written)
+    }
+
+    /// Nothing where the octets are less than a message, or where the connection doesn't stand.
+    pub fn hear(&mut self, octets: &[u8], message: &mut Room) -> Option<(Heard, Told)> {
+        let (mut heard, mut told, mut written) = (Heard::default(), Actions::default(), 0);
+        let (handle, at, len) = (self.0.get(), octets.as_ptr(), octets.len());
+        let (into, room) = (message.as_mut_ptr(), message.len());
+        let (said, wrote) = (&mut told, &mut written);
+        // SAFETY: see above.
+        let status =
+            unsafe { ristulva_session_hear(handle, at, len, &mut heard, said, into, room, wrote) };
+        (status == OK).then_some((heard, (told, written)))
+    }
+
+    /// The context and the Hold Time, in OpenConfirm and Established.
+    pub fn context(&self) -> Option<(Context, u16)> {
+        let (mut context, mut hold) = (Context::default(), 0);
+        // SAFETY: see above.
+        let status = unsafe { ristulva_session_context(self.0.get(), &mut context, &mut hold) };
+        (status == OK).then_some((context, hold))
+    }
+
+    /// What the peer said, in OpenConfirm and Established.
+    pub fn peer(&self) -> Option<Peer> {
+        let mut peer = Peer::default();
+        // SAFETY: see above.
+        let status = unsafe { ristulva_session_peer(self.0.get(), &mut peer) };
+        (status == OK).then_some(peer)
+    }
+
+    /// How many codes are written to the front of a room that is enough for all, in OpenConfirm
+    /// and Established.
+    pub fn codes(&self, codes: &mut [u8; 256]) -> Option<usize> {
+        let (mut written, handle) = (0, self.0.get());
+        // SAFETY: see above.
+        let status = unsafe {
+            ristulva_session_codes(handle, codes.as_mut_ptr(), codes.len(), &mut written)
+        };
+        (status == OK).then_some(written)
+    }
+
+    /// How many octets the own OPEN has, which is written to the front of the room.
+    pub fn open(&self, message: &mut Room) -> usize {
+        let (mut written, into, room) = (0, message.as_mut_ptr(), message.len());
+        // SAFETY: see above.
+        unsafe { ristulva_session_open(self.0.get(), into, room, &mut written) };
+        written
+    }
+
+    /// What is to be done when what is written is sent, or the status that says why nothing is.
+    pub fn send(&self, body: &[u8], message: &mut Room) -> Result<Told, u32> {
+        let (mut told, mut written) = (Actions::default(), 0);
+        let (handle, at, len) = (self.0.get(), body.as_ptr(), body.len());
+        let (into, room) = (message.as_mut_ptr(), message.len());
+        // SAFETY: see above.
+        let status =
+            unsafe { ristulva_session_send(handle, at, len, &mut told, into, room, &mut written) };
+        match status {
+            OK => Ok((told, written)),
+            status => Err(status),
+        }
+    }
+}
+
+impl Drop for Session {
+    fn drop(&mut self) {
+        // SAFETY: see above. It has a session, and nothing is handed the handle behind this.
+        unsafe { ristulva_session_free(self.0.get()) };
+    }
 }

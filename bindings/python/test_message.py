@@ -1,4 +1,4 @@
-"""Tests of ristulva.py on the captures of examples/: `python3 -m unittest` in this folder, after `./library`."""
+"""Tests of messages, on the captures of examples/: `python3 -m unittest` in this folder, after `./library`."""
 
 import ipaddress
 import pathlib

@@ -1,120 +1,20 @@
-"""Ristulva for Python: BGP-4 messages, read and judged by the library for C (dist/libristulva.so, which `./library` makes).
-
-    for message in ristulva.messages(octets, ristulva.Context(as4=True)):
-        print(message, end="")
-        for prefix in message.announced():
-            ...
+"""Messages, judged in the context of their session; and UPDATEs in their one written form.
 
 A Message keeps the octets that it was read from; what it gives is read from them when it is asked for."""
 
 import ctypes
 import dataclasses
 import ipaddress
-import os
-import pathlib
-from ctypes import POINTER, Structure, c_size_t, c_uint8, c_uint16, c_uint32, c_uint64
+from ctypes import c_size_t, c_uint32
 
-MEMORY, RANGE, INCOMPLETE, ROOM, END, REFUSED, UNWRITABLE = 2, 3, 4, 5, 6, 7, 8
-VERSION = 1000
-DATA, MESSAGE = 4075, 4096
+from .library import (
+    DATA, INCOMPLETE, LIBRARY, MEMORY, MESSAGE, OK, RANGE, REFUSED, ROOM, STATE, UNWRITABLE, Attributes, CAttribute, CCapability, CNote, COpen,
+    CPrefix, CSegment, Numbers, Prefixes, Said, Segments, Span, Verdict,
+)
+
 WHYS = ("Flags", "Length", "Value", "SegmentType", "SegmentCount", "SegmentEnd", "Repeated", "External", "FourOctet", "Family", "Unneeded", "Emptied",
         "Cut", "Missing", "AsZero")
 VERDICTS = {1: "open", 2: "update", 3: "notification", 4: "keepalive", 5: "withdraw", 6: "reset"}
-
-
-class Span(Structure):
-    _fields_ = [("at", c_uint32), ("len", c_uint32)]
-
-
-class Said(Structure):
-    """What both speakers agreed on, as C has it."""
-
-    _fields_ = [("internal", c_uint8), ("as4", c_uint8), ("ip4", c_uint8), ("ip6", c_uint8)]
-
-
-class Verdict(Structure):
-    _fields_ = [("verdict", c_uint8), ("kind", c_uint8), ("code", c_uint8), ("subcode", c_uint8), ("len", c_uint32), ("data_len", c_uint32),
-                ("withdrawn", Span), ("attributes", Span), ("nlri", Span)]
-
-
-class Attributes(Structure):
-    _fields_ = [("at", c_uint32), ("end", c_uint32)]
-
-
-class CAttribute(Structure):
-    _fields_ = [("at", c_uint32), ("flags", c_uint8), ("kind", c_uint8), ("value", Span)]
-
-
-class Prefixes(Structure):
-    _fields_ = [("at", c_uint32), ("end", c_uint32), ("afi", c_uint16)]
-
-
-class CPrefix(Structure):
-    _fields_ = [("afi", c_uint16), ("len", c_uint8), ("addr", c_uint8 * 16)]
-
-
-class Segments(Structure):
-    _fields_ = [("at", c_uint32), ("end", c_uint32), ("wide", c_uint8), ("confederations", c_uint8)]
-
-
-class CSegment(Structure):
-    _fields_ = [("kind", c_uint8), ("numbers", Span)]
-
-
-class CNote(Structure):
-    _fields_ = [("at", c_uint32), ("kind", c_uint8), ("why", c_uint8)]
-
-
-class Numbers(Structure):
-    _fields_ = [("at", c_uint32), ("end", c_uint32), ("width", c_uint8)]
-
-
-class Capabilities(Structure):
-    _fields_ = [("at", c_uint32), ("stop", c_uint32), ("end", c_uint32)]
-
-
-class CCapability(Structure):
-    _fields_ = [("code", c_uint8), ("value", Span)]
-
-
-class COpen(Structure):
-    _fields_ = [("as_number", c_uint32), ("as_field", c_uint16), ("hold", c_uint16), ("id", c_uint8 * 4), ("as4", c_uint8), ("ip4", c_uint8),
-                ("ip6", c_uint8), ("capabilities", Capabilities)]
-
-
-def load():
-    """The shared library: that of the environment's RISTULVA, or of dist/."""
-    place = os.environ.get("RISTULVA", pathlib.Path(__file__).resolve().parents[2] / "dist/libristulva.so")
-    library = ctypes.CDLL(str(place))
-    octets = [ctypes.c_char_p, c_size_t]
-    # A buffer and its room come before what is written beside it.
-    buffer = [ctypes.c_char_p, c_size_t]
-    takes = {
-        "version": [],
-        "judge": [POINTER(Said), *octets, *buffer, POINTER(Verdict)],
-        "note": [POINTER(Said), *octets, c_uint32, POINTER(CNote)],
-        "text": [POINTER(Said), c_uint64, *octets, *buffer, POINTER(c_size_t)],
-        "encode": [POINTER(Said), *octets, *buffer, POINTER(c_size_t)],
-        "narrow": [POINTER(Said), *octets, *buffer, POINTER(c_size_t)],
-        "reconcile": [POINTER(Said), *octets, *buffer, POINTER(c_size_t)],
-        "next_attribute": [*octets, POINTER(Attributes), POINTER(CAttribute)],
-        "next_prefix": [*octets, POINTER(Prefixes), POINTER(CPrefix)],
-        "next_segment": [*octets, POINTER(Segments), POINTER(CSegment)],
-        "next_number": [*octets, POINTER(Numbers), POINTER(c_uint32)],
-        "reached": [*octets, POINTER(Span), POINTER(Span), POINTER(Prefixes)],
-        "unreached": [*octets, POINTER(Span), POINTER(Prefixes)],
-        "open": [*octets, POINTER(COpen)],
-        "next_capability": [*octets, POINTER(Capabilities), POINTER(CCapability)],
-    }
-    for name, arguments in takes.items():
-        call = getattr(library, f"ristulva_{name}")
-        call.argtypes, call.restype = arguments, c_uint32
-    if library.ristulva_version() != VERSION:
-        raise ImportError(f"{place} has another version")
-    return library
-
-
-LIBRARY = load()
 
 
 @dataclasses.dataclass(frozen=True)
@@ -132,6 +32,20 @@ class Context:
 
 class Refused(Exception):
     """An UPDATE that isn't accepted whole, or that can't be written."""
+
+
+class WrongState(Exception):
+    """The session isn't in a state for this."""
+
+
+def check(status):
+    """Raises what the status of a call tells that writes an UPDATE, where it isn't OK."""
+    if status == MEMORY:
+        raise MemoryError
+    if status == STATE:
+        raise WrongState("not Established")
+    if status != OK:
+        raise Refused({RANGE: "too long a body", REFUSED: "not accepted whole", UNWRITABLE: "can't be written"}[status])
 
 
 @dataclasses.dataclass(frozen=True)
@@ -286,11 +200,7 @@ def messages(octets, context):
 
 def rewritten(call, body, context):
     message, written = ctypes.create_string_buffer(MESSAGE), c_size_t()
-    status = getattr(LIBRARY, f"ristulva_{call}")(context.said(), body, len(body), message, MESSAGE, written)
-    if status == MEMORY:
-        raise MemoryError
-    if status != 0:
-        raise Refused({RANGE: "too long a body", REFUSED: "not accepted whole", UNWRITABLE: "can't be written"}[status])
+    check(getattr(LIBRARY, f"ristulva_{call}")(context.said(), body, len(body), message, MESSAGE, written))
     return message.raw[: written.value]
 
 

@@ -1,0 +1,22 @@
+"""Ristulva for Python: BGP-4 messages, read and judged, and sessions, by the library for C (dist/libristulva.so, which `./library` makes).
+
+    for message in ristulva.messages(octets, ristulva.Context(as4=True)):
+        print(message, end="")
+        for prefix in message.announced():
+            ...
+
+    with ristulva.Session(ristulva.Config(65001, 65002, "192.0.2.1")) as session:
+        for action in session.event(ristulva.Event.START):
+            ..."""
+
+from .library import MESSAGE, VERSION
+from .message import VERDICTS, WHYS, Attribute, Context, Message, Open, Refused, WrongState, encode, judge, messages, narrow, reconcile
+from .session import (
+    Action, Announce, Arm, Close, Config, Disarm, Event, Flush, Heard, Peer, Seek, Send, Session, SessionClosed, State, Timer, Withdraw,
+)
+
+__all__ = [
+    "MESSAGE", "VERDICTS", "VERSION", "WHYS", "Action", "Announce", "Arm", "Attribute", "Close", "Config", "Context", "Disarm", "Event", "Flush",
+    "Heard", "Message", "Open", "Peer", "Refused", "Seek", "Send", "Session", "SessionClosed", "State", "Timer", "Withdraw", "WrongState", "encode",
+    "judge", "messages", "narrow", "reconcile",
+]

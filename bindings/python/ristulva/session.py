@@ -1,0 +1,302 @@
+"""Sessions (RFC 4271, section 8): one speaker's end of one connection each.
+
+A session does no IO and knows no time. Its host opens and closes the connection, keeps the timers, tells the session what happens, lets it hear the
+octets that come, and does what it asks for."""
+
+from __future__ import annotations
+
+import ctypes
+import dataclasses
+import enum
+import ipaddress
+import operator
+import threading
+import typing
+import weakref
+from ctypes import c_size_t, c_uint8, c_uint16
+
+from .library import LIBRARY, MESSAGE, OK, RANGE, CAction, CActions, CConfig, CHeard, CPeer, Handle, Said, Verdict
+from .message import VERDICTS, Context, Message, check
+
+HEADER, NOTIFICATION = 19, 21  # the octets in front of a body, and in front of a NOTIFICATION's data
+
+
+class SessionClosed(ValueError):
+    """The session was closed: there is none any more."""
+
+
+class Event(enum.IntEnum):
+    """What happens to a session, by the numbers of RFC 4271, section 8.1."""
+
+    START = 1  # the operator wants the session
+    STOP = 2  # the operator ends it
+    RETRY_EXPIRED = 9  # a timer has run out
+    HOLD_EXPIRED = 10
+    KEEPALIVE_EXPIRED = 11
+    CONNECTED = 16  # the connection stands
+    FAILED = 18  # the connection, or the try for one, failed
+
+
+class State(enum.IntEnum):
+    """Where a session stands (RFC 4271, section 8.2.2), as RFC 4273 numbers the states."""
+
+    IDLE = 1
+    CONNECT = 2
+    ACTIVE = 3
+    OPEN_SENT = 4
+    OPEN_CONFIRM = 5
+    ESTABLISHED = 6
+
+
+class Timer(enum.IntEnum):
+    """The timers (RFC 4271, section 10), which are the host's."""
+
+    RETRY = 1
+    HOLD = 2
+    KEEPALIVE = 3
+
+    @property
+    def expired(self) -> Event:
+        """What happens when it has run out."""
+        return Event[f"{self.name}_EXPIRED"]
+
+
+@dataclasses.dataclass(frozen=True)
+class Seek:
+    """Seek a connection to the peer: Event.CONNECTED or Event.FAILED tells what came of it."""
+
+
+@dataclasses.dataclass(frozen=True)
+class Close:
+    """Close the connection, or give up the one that is sought. What came by it and wasn't taken is dropped."""
+
+
+@dataclasses.dataclass(frozen=True)
+class Send:
+    """Send the octets of a message."""
+
+    message: bytes
+
+
+@dataclasses.dataclass(frozen=True)
+class Arm:
+    """Start a timer, or start it anew; Timer.expired is the event that tells that it ran out."""
+
+    timer: Timer
+    seconds: int
+
+
+@dataclasses.dataclass(frozen=True)
+class Disarm:
+    """Stop a timer."""
+
+    timer: Timer
+
+
+@dataclasses.dataclass(frozen=True)
+class Announce:
+    """Take the routes of the UPDATE that was heard: those it announces, and those it withdraws. Attributes that its notes tell of are discarded."""
+
+    update: Message
+
+
+@dataclasses.dataclass(frozen=True)
+class Withdraw:
+    """Treat the UPDATE that was heard as a withdrawal of all its routes, also those that it announces (RFC 7606, section 2)."""
+
+    update: Message
+
+
+@dataclasses.dataclass(frozen=True)
+class Flush:
+    """Drop all routes of the peer: they are gone with the session."""
+
+
+Action = typing.Union[Seek, Close, Send, Arm, Disarm, Announce, Withdraw, Flush]
+
+
+# How each kind of action is made of what C tells, the message that is sent and the UPDATE that was heard.
+MAKING: dict[int, typing.Callable[[CAction, bytes, typing.Any], Action]] = {
+    1: lambda it, sent, update: Seek(),
+    2: lambda it, sent, update: Close(),
+    3: lambda it, sent, update: Send(sent),  # an OPEN
+    4: lambda it, sent, update: Send(sent),  # a KEEPALIVE
+    5: lambda it, sent, update: Send(sent),  # a NOTIFICATION
+    6: lambda it, sent, update: Arm(Timer(it.timer), it.seconds),
+    7: lambda it, sent, update: Disarm(Timer(it.timer)),
+    8: lambda it, sent, update: Announce(update),
+    9: lambda it, sent, update: Withdraw(update),
+    10: lambda it, sent, update: Flush(),
+}
+
+
+def asked(told: CActions, sent: bytes, update: typing.Optional[Message] = None) -> list[Action]:
+    """The actions that C tells, in their order."""
+    return [MAKING[it.kind](it, sent, update) for it in told.list[: told.count]]
+
+
+@dataclasses.dataclass(frozen=True)
+class Config:
+    """What a session's own speaker is set to (RFC 4271, section 4.2)."""
+
+    local_as: int  # its AS number: not 0 (RFC 7607); above 65535 only with as4 (RFC 6793, section 4.1)
+    peer_as: int  # the AS number that the peer has to have: not 0
+    identifier: typing.Union[ipaddress.IPv4Address, str]  # its BGP Identifier: not 0.0.0.0 (RFC 6286, section 2.1)
+    hold_time: int = 90  # the Hold Time that it proposes, in seconds (RFC 4271, section 10): 0 for none, else 3 at least
+    as4: bool = True  # whether it offers AS numbers of four octets (RFC 6793), IPv4 unicast (RFC 4760, section 8) and IPv6 unicast
+    ip4: bool = True
+    ip6: bool = False
+
+    def said(self) -> CConfig:
+        """As C has it. ctypes cuts off what doesn't fit, so that is refused here."""
+        for name, bits in (("local_as", 32), ("peer_as", 32), ("hold_time", 16)):
+            if not 0 <= operator.index(getattr(self, name)) < 1 << bits:
+                raise ValueError(f"{name} is out of its range")
+        identifier = (c_uint8 * 4)(*ipaddress.IPv4Address(self.identifier).packed)
+        return CConfig(self.local_as, self.peer_as, identifier, self.hold_time, bool(self.as4), bool(self.ip4), bool(self.ip6))
+
+
+@dataclasses.dataclass(frozen=True)
+class Peer:
+    """What a peer said of itself in its OPEN (RFC 4271, section 4.2)."""
+
+    as_number: int  # that of its capability for AS numbers of four octets, else My Autonomous System (RFC 6793, section 4.1)
+    identifier: ipaddress.IPv4Address
+    hold_time: int  # that it proposes, in seconds: 0 for none
+    as4: bool  # whether it offers AS numbers of four octets, and unicast routes of IPv4 and of IPv6
+    ip4: bool
+    ip6: bool
+    codes: list[int]  # of all its capabilities, each once, rising (RFC 5492, section 4)
+
+
+@dataclasses.dataclass(frozen=True)
+class Heard:
+    """What a session heard."""
+
+    message: Message  # or the header with a fault; its verdict and its notification are those of the session in its state
+    taken: int  # how many of the octets were taken: the message's, or 19 of a header with a fault
+    actions: list[Action]  # what is to be done
+
+    @property
+    def verdict(self) -> str:
+        """One of VERDICTS."""
+        return self.message.verdict
+
+
+class Session:
+    """One speaker's end of one connection. It begins in Idle.
+
+    It is memory of the library's, some 4.5 KB, which is freed when it is closed, at the end of a `with`, or when nothing refers to it any more.
+    Nothing is sent by that: Event.STOP comes before it. Threads may share it."""
+
+    def __init__(self, config: Config) -> None:
+        """ValueError: the configuration isn't one that Config allows."""
+        self._lock, self._handle = threading.RLock(), Handle()
+        status = LIBRARY.ristulva_session_new(config.said(), self._handle)
+        if status == RANGE:
+            raise ValueError(f"not allowed: {config}")
+        check(status)
+        self._free = weakref.finalize(self, LIBRARY.ristulva_session_free, self._handle)
+
+    def close(self) -> None:
+        """Frees it; once more does nothing. Each other call raises SessionClosed then."""
+        with self._lock:
+            self._free()
+
+    def __enter__(self) -> Session:
+        return self
+
+    def __exit__(self, *_: object) -> None:
+        self.close()
+
+    def _call(self, name: str, *arguments: object) -> int:
+        """The status of a call on the handle: no two are handed it at one time."""
+        with self._lock:
+            if not self._handle.body:
+                raise SessionClosed("the session is closed")
+            return getattr(LIBRARY, f"ristulva_session_{name}")(self._handle, *arguments)
+
+    @property
+    def state(self) -> State:
+        """Where it stands."""
+        state = c_uint8()
+        self._call("state", state)
+        return State(state.value)
+
+    def event(self, event: Event) -> list[Action]:
+        """Tells it what happens, and answers what is to be done, in this order. What doesn't belong in its state does nothing, nor does a timer that
+        it hasn't started."""
+        told, message, written = CActions(), ctypes.create_string_buffer(MESSAGE), c_size_t()
+        self._call("event", Event(event), told, message, MESSAGE, written)
+        return asked(told, message[: written.value])
+
+    def hear(self, octets: typing.Union[bytes, bytearray, memoryview]) -> typing.Optional[Heard]:
+        """Lets it hear the message, or the header with a fault, that octets of the peer begin with. What stands behind a message has no effect.
+
+        None, and nothing has changed, where they are less than a message, or where the connection doesn't stand, so that octets have no meaning: in
+        Idle, Connect and Active. Its host drops what was taken from the front of what it has received, and calls it again, up to None."""
+        octets = bytes(memoryview(octets)[:MESSAGE])
+        heard, told, message, written = CHeard(), CActions(), ctypes.create_string_buffer(MESSAGE), c_size_t()
+        with self._lock:
+            context = self.context or Context()
+            if self._call("hear", octets, len(octets), heard, told, message, MESSAGE, written) != OK:
+                return None
+        sent = message[: written.value]
+        said = said_by(heard, octets[: heard.len], sent, context)
+        return Heard(said, heard.len, asked(told, sent, said))
+
+    @property
+    def context(self) -> typing.Optional[Context]:
+        """What both speakers agreed on; None in all states but OpenConfirm and Established."""
+        said = Said()
+        if self._call("context", said, c_uint16()) != OK:
+            return None
+        return Context(bool(said.internal), bool(said.as4), bool(said.ip4), bool(said.ip6))
+
+    @property
+    def hold_time(self) -> typing.Optional[int]:
+        """The Hold Time that both agreed on, in seconds: 0 for none. None as `context` is."""
+        hold = c_uint16()
+        return hold.value if self._call("context", Said(), hold) == OK else None
+
+    @property
+    def peer(self) -> typing.Optional[Peer]:
+        """What the peer said of itself. None as `context` is."""
+        it, codes, written = CPeer(), ctypes.create_string_buffer(256), c_size_t()
+        with self._lock:
+            if self._call("peer", it) != OK:
+                return None
+            self._call("codes", codes, 256, written)
+        identifier = ipaddress.IPv4Address(bytes(it.id))
+        return Peer(it.as_number, identifier, it.hold, bool(it.as4), bool(it.ip4), bool(it.ip6), list(codes[: written.value]))
+
+    @property
+    def open_message(self) -> bytes:
+        """The message of its own OPEN (RFC 4271, section 4.2)."""
+        message, written = ctypes.create_string_buffer(MESSAGE), c_size_t()
+        self._call("open", message, MESSAGE, written)
+        return message[: written.value]
+
+    def send(self, body: typing.Union[bytes, bytearray, memoryview]) -> list[Action]:
+        """An UPDATE as the session sends it now: the message is to be sent, and the Keepalive Timer, where there is one, started anew. The session
+        stays as it is.
+
+        `body` is the body of that UPDATE in any valid spelling, with AS numbers of four octets, whatever the session has, and one kind of routes:
+        withdrawn, announced, or those of one of the multiprotocol attributes (RFC 7606, section 5.1). A peer with AS numbers of two octets gets it as
+        `narrow` writes it.
+
+        WrongState: it isn't Established. Refused: the body isn't accepted whole, has routes of several kinds, or is too long."""
+        body = bytes(memoryview(body))
+        told, message, written = CActions(), ctypes.create_string_buffer(MESSAGE), c_size_t()
+        check(self._call("send", body, len(body), told, message, MESSAGE, written))
+        return [Send(message[: written.value]), *asked(told, b"")]
+
+
+def said_by(heard: CHeard, octets: bytes, sent: bytes, context: Context) -> Message:
+    """The message of what was heard by some octets, which the message `sent` answers."""
+    verdict = VERDICTS[heard.heard]
+    data = {"notification": octets, "reset": sent}.get(verdict, b"")[NOTIFICATION:]
+    is_header = verdict == "reset" and heard.code == 1
+    kind, size = (0, 0) if is_header else (octets[HEADER - 1], heard.len)
+    found = Verdict(heard.heard, kind, heard.code, heard.subcode, size, len(data), heard.withdrawn, heard.attributes, heard.nlri)
+    return Message(octets, context, 0, found, data)
