@@ -33,6 +33,9 @@
 
 #define NEVER LLONG_MAX
 
+/* Room for an address as text, with the name of a link behind it. */
+#define HOST 64
+
 /* The collector's own timer, beside those of a session: to start it again, or to try once more to connect. */
 #define TIMER_AGAIN 0
 #define TIMERS 4
@@ -45,6 +48,7 @@ enum connection { NONE, TRIED, STANDS, ENDS };
 
 struct peer {
     const char *name; /* the word of the command line */
+    char host[HOST];  /* its address as text */
     struct sockaddr_storage address;
     socklen_t address_len;
     ristulva_session session;
@@ -131,9 +135,6 @@ static void print_prefixes(struct peer *peer, ristulva_prefixes cursor, int anno
     int six = cursor.afi == 2;
     ristulva_prefix prefix;
     char text[INET6_ADDRSTRLEN];
-    /* A family that isn't in use is discarded. */
-    if (!(six ? peer->context.ip6 : peer->context.ip4))
-        return;
     while (ristulva_next_prefix(peer->in, peer->heard.len, &cursor, &prefix) == RISTULVA_OK) {
         inet_ntop(six ? AF_INET6 : AF_INET, prefix.addr, text, sizeof text);
         printf("%s %c %s/%u", peer->name, announced ? '+' : '-', text, prefix.len);
@@ -150,6 +151,12 @@ static void print_field(struct peer *peer, const ristulva_span *field, int annou
     print_prefixes(peer, cursor, announced);
 }
 
+/* Whether both speakers offer the family: what they don't is discarded. */
+static int in_use(const struct peer *peer, const ristulva_prefixes *cursor)
+{
+    return cursor->afi == 1 ? peer->context.ip4 : peer->context.ip6;
+}
+
 /* `announced` is 0 where the UPDATE is treated as a withdrawal of all its routes. */
 static void print_update(struct peer *peer, int announced)
 {
@@ -158,9 +165,10 @@ static void print_update(struct peer *peer, int announced)
     ristulva_span value, next_hop;
     peer->updates++;
     print_field(peer, &parts->withdrawn, 0);
-    if (find(peer, 15, &value) && ristulva_unreached(peer->in, peer->heard.len, &value, &cursor) == RISTULVA_OK)
+    if (find(peer, 15, &value) && ristulva_unreached(peer->in, peer->heard.len, &value, &cursor) == RISTULVA_OK && in_use(peer, &cursor))
         print_prefixes(peer, cursor, 0);
-    if (find(peer, 14, &value) && ristulva_reached(peer->in, peer->heard.len, &value, &next_hop, &cursor) == RISTULVA_OK)
+    if (find(peer, 14, &value) && ristulva_reached(peer->in, peer->heard.len, &value, &next_hop, &cursor) == RISTULVA_OK &&
+        in_use(peer, &cursor))
         print_prefixes(peer, cursor, announced);
     print_field(peer, &parts->nlri, announced);
 }
@@ -396,18 +404,19 @@ static void expire(struct peer *peer, int timer)
         seek(peer);
 }
 
-static struct peer *peer_at(const struct sockaddr_storage *address)
+/* Writes an address as text, of which each has one. */
+static void print_host(const struct sockaddr_storage *address, socklen_t len, char host[HOST])
 {
-    const struct sockaddr_in *four = (const void *)address;
-    const struct sockaddr_in6 *six = (const void *)address;
+    if (getnameinfo((const struct sockaddr *)address, len, host, HOST, NULL, 0, NI_NUMERICHOST) != 0)
+        host[0] = '\0';
+}
+
+static struct peer *peer_at(const char *host)
+{
     size_t i;
-    for (i = 0; i < peer_count; i++) {
-        const void *it = &peers[i].address;
-        if (peers[i].address.ss_family == address->ss_family &&
-            (address->ss_family == AF_INET6 ? memcmp(&((const struct sockaddr_in6 *)it)->sin6_addr, &six->sin6_addr, 16) == 0
-                                            : ((const struct sockaddr_in *)it)->sin_addr.s_addr == four->sin_addr.s_addr))
+    for (i = 0; i < peer_count; i++)
+        if (strcmp(peers[i].host, host) == 0)
             return &peers[i];
-    }
     return NULL;
 }
 
@@ -416,15 +425,22 @@ static void welcome(void)
 {
     struct sockaddr_storage from;
     socklen_t len = sizeof from;
+    char host[HOST];
+    struct peer *peer;
+    uint8_t state = RISTULVA_IDLE;
     int fd = accept(listener, (struct sockaddr *)&from, &len);
-    struct peer *peer = fd < 0 ? NULL : peer_at(&from);
-    uint8_t state = peer == NULL ? RISTULVA_IDLE : state_of(peer);
-    if (fd >= 0 && (state == RISTULVA_CONNECT || state == RISTULVA_ACTIVE) && unblock(fd)) {
-        drop(peer);
-        peer->fd = fd;
-        connected(peer);
-    } else if (fd >= 0)
+    if (fd < 0)
+        return;
+    print_host(&from, len, host);
+    if ((peer = peer_at(host)) != NULL)
+        state = state_of(peer);
+    if ((state != RISTULVA_CONNECT && state != RISTULVA_ACTIVE) || !unblock(fd)) {
         close(fd);
+        return;
+    }
+    drop(peer);
+    peer->fd = fd;
+    connected(peer);
 }
 
 /* ---- the command line ---- */
@@ -437,7 +453,8 @@ static void end(int status, const char *word, const char *why)
 
 static void usage(void)
 {
-    end(2, "usage", "collector [-l ADDRESS] [-p PORT] [-w SECONDS] LOCAL_AS ID PEER_AS@ADDRESS[#PORT]..");
+    fprintf(stderr, "usage: collector [-l ADDRESS] [-p PORT] [-w SECONDS] LOCAL_AS ID PEER_AS@ADDRESS[#PORT]..\n");
+    exit(2);
 }
 
 /* A number from 1 to `most`, which `text` is and `word` has. */
@@ -495,7 +512,8 @@ static void add_peer(const char *word, const char *port, ristulva_config *config
     }
     config->peer_as = (uint32_t)number_of(word, text, 4294967295);
     peer->address_len = resolve(word, address, its_port == NULL ? port : its_port, &peer->address);
-    if (peer_at(&peer->address) != NULL)
+    print_host(&peer->address, peer->address_len, peer->host);
+    if (peer_at(peer->host) != NULL)
         end(2, word, "another peer has this address");
     if (ristulva_session_new(config, &peer->session) != RISTULVA_OK)
         end(1, word, "memory");
@@ -631,6 +649,7 @@ int main(int argc, char **argv)
         wait_for(polls, until);
         if (polls[0].revents != 0 && !stopping) {
             stop();
+            polls[0].fd = -1;
             until = now() + FAREWELL;
         }
     } while ((do_turn(polls) || !stopping) && now() < until);
