@@ -15,7 +15,7 @@ import messages
 
 # How long, in seconds, the collector has for each thing.
 LIMIT = 10
-OURS, OWN = 65000, "127.0.0.1"
+OURS, OWN = 65000, "127.0.0.9"
 HOP4, HOP6 = "192.0.2.9", "2001:db8::9"
 CEASE, OTHER_AS, SILENCE, LENGTHS = (6, 0), (2, 2), (4, 0), (3, 1)
 
@@ -55,6 +55,8 @@ class Collector:
         """What it printed on standard error, and its status."""
         try:
             self.process.wait(LIMIT)
+        except subprocess.TimeoutExpired as error:
+            raise AssertionError("the collector did not end") from error
         finally:
             self.process.kill()
         self.thread.join(LIMIT)
@@ -64,31 +66,31 @@ class Collector:
 class Peer:
     """A peer with an address of its own, which the collector connects to, or which connects to the collector."""
 
-    def __init__(self, asn, address, hold=90, says=None):
-        self.asn, self.address, self.hold, self.says = asn, address, hold, says or asn
-        self.listener = socket.create_server((address, 0))
+    def __init__(self, asn, address, hold=90, port=0):
+        self.asn, self.address, self.hold = asn, address, hold
+        self.listener = socket.create_server((address, port))
         self.listener.settimeout(LIMIT)
         self.name = f"{asn}@{address}#{self.listener.getsockname()[1]}"
         self.connection = None
 
     def accept(self):
-        self.connection, _ = self.listener.accept()
+        self.connection, (host, _) = self.listener.accept()
+        assert host == OWN, f"{self.name}: a connection from {host}"
         self.begin()
 
     def connect(self, port):
-        """Connects until the collector lets it speak: that refuses connections between two sessions."""
+        """Connects until the collector speaks: between two sessions it doesn't."""
         end = time.monotonic() + LIMIT
         while time.monotonic() < end:
-            self.connection = socket.create_connection((OWN, port), LIMIT, source_address=(self.address, 0))
             try:
+                self.connection = socket.create_connection((OWN, port), LIMIT, source_address=(self.address, 0))
                 return self.begin()
             except (AssertionError, ConnectionError):
-                self.connection.close()
                 time.sleep(0.1)
         raise AssertionError(f"{self.name} was not let in")
 
     def begin(self):
-        """The collector speaks first."""
+        """Waits for the collector's OPEN."""
         self.connection.settimeout(LIMIT)
         self.connection.setsockopt(socket.IPPROTO_TCP, socket.TCP_NODELAY, 1)
         self.rest = b""
@@ -126,7 +128,7 @@ class Peer:
                 time.sleep(0.002)
 
     def come_up(self, open_message=None):
-        self.say(open_message or messages.open_message(self.says, self.hold, self.address))
+        self.say(open_message or messages.open_message(self.asn, self.hold, self.address))
         assert self.hear() == messages.keepalive()
         self.say(messages.keepalive())
 
@@ -181,121 +183,146 @@ def many(peer):
     return octets, [f"+ {route} path {peer.asn}" for route in routes], ["Established", "1", "6", "6000", "0", "0", "0"]
 
 
-def silent_end(connection):
-    """Whether the collector ends a connection without a word."""
-    with connection:
-        connection.settimeout(LIMIT)
-        try:
-            return connection.recv(1) == b""
-        except ConnectionError:
-            return True
+class Run:
+    """Peers of all kinds at once. `report` takes what was tried, whether it went as wanted, and what there is to tell."""
 
+    def __init__(self, made, report):
+        self.report, self.port = report, free_port()
+        self.one, self.two, self.faulty, self.going = Peer(65001, "127.0.0.2"), Peer(65002, "127.0.0.3"), Peer(65003, "127.0.0.4"), Peer(65004, "127.0.0.5")
+        self.other, self.silent, self.narrow = Peer(65005, "127.0.0.6"), Peer(65006, "127.0.0.7", hold=3), Peer(65007, "127.0.0.8", hold=30)
+        self.peers = [self.one, self.two, self.faulty, self.going, self.other, self.silent, self.narrow]
+        self.going.listener.close()
+        self.narrow.listener.close()
+        self.lines = {peer: [] for peer in self.peers}
+        self.rows = {}
+        self.collector = Collector(made, "-l", OWN, "-p", self.port, OURS, OWN, *(peer.name for peer in self.peers))
 
-def run(made, number, report):
-    """Peers of all kinds at once. `report` takes what was seen, whether it is as wanted, and what there is to tell."""
-    port = free_port()
-    one, two, faulty = Peer(65001, "127.0.0.2"), Peer(65002, "127.0.0.3"), Peer(65003, "127.0.0.4")
-    going, other, silent, narrow = Peer(65004, "127.0.0.5"), Peer(65005, "127.0.0.6", says=64999), Peer(65006, "127.0.0.7", hold=3), Peer(65007, "127.0.0.8")
-    peers = [one, two, faulty, going, other, silent, narrow]
-    going.listener.close()
-    collector = Collector(made, "-l", OWN, "-p", port, OURS, OWN, *(peer.name for peer in peers))
-    want = {peer.name: [peer.up()] for peer in peers}
+    def printed(self, peer, *lines):
+        """Waits for the last of these lines, which come next of a peer."""
+        self.lines[peer] += lines
+        self.collector.wait_for(f"{peer.name} {lines[-1]}", self.lines[peer].count(lines[-1]))
 
-    def printed(peer, lines, times=1):
-        want[peer.name] += lines
-        collector.wait_for(f"{peer.name} {lines[-1]}", times)
-
-    try:
-        # Two are up at once, and what they say goes by turns.
-        for peer in (one, two, silent):
-            peer.accept()
-            peer.listener.close()
-            peer.come_up()
-        octets, lines, row = steady(one)
-        one.say(octets[:100], [1])
-        more, more_lines, more_row = many(two)
-        two.say(more)
-        one.say(octets[100:], [1, 2, 3, 5, 19, 18, 7])
-        printed(one, lines)
-        printed(two, more_lines)
-
-        for address in ("127.0.0.77", two.address):
-            connection = socket.create_connection((OWN, port), LIMIT, source_address=(address, 0))
-            report(f"a connection from {address} that isn't wanted", silent_end(connection))
-
-        # One that sends an UPDATE whose lengths are wrong is told so, and comes again.
-        faulty.accept()
-        faulty.come_up()
-        faulty.say(messages.announce6(["2001:db8::/32"], [65003], HOP6)[0] + messages.message(messages.UPDATE, b"\x00\x09\x00\x00") + messages.keepalive())
-        report("the bad UPDATE is answered", faulty.notified()[0] == LENGTHS)
-        faulty.connection.close()
-        printed(faulty, ["+ 2001:db8::/32 path 65003", "- all", "down sent 3/1"])
-        faulty.accept()
-        faulty.come_up()
-        printed(faulty, [faulty.up()], 2)
-
-        # One that comes of itself, goes away before it says a word, and later; then it ends by a NOTIFICATION, and comes again.
-        want[going.name] = []
-        going.connect(port)
-        going.connection.close()
-        printed(going, ["down lost"])
-        for life, ends, times in ((1, "down lost", 2), (2, "down received 6/4", 1), (3, None, 0)):
-            going.connect(port)
-            going.come_up()
-            going.say(messages.announce4([f"192.0.{life}.0/24"], [65004], HOP4)[0])
-            printed(going, [going.up(), f"+ 192.0.{life}.0/24 path 65004"])
-            if ends == "down received 6/4":
-                going.say(messages.message(messages.NOTIFICATION, b"\x06\x04"))
-            if ends:
-                going.connection.close()
-                printed(going, ["- all", ends], times)
-
-        # One that has another AS number than it is said to have; one of two octets; one that says nothing more.
-        other.accept()
-        other.listener.close()
-        other.say(messages.open_message(64999, 90, "127.0.0.6"))
-        report("another AS number is answered", other.notified()[0] == OTHER_AS)
-        want[other.name] = []
-        printed(other, ["down sent 2/2"])
-        narrow.accept()
-        narrow.come_up(narrow_open(65007, 30, "127.0.0.8"))
+    def two_octets(self):
+        """One that comes of itself, and has AS numbers of two octets and IPv4 alone."""
+        self.narrow.connect(self.port)
+        self.narrow.come_up(narrow_open(65007, 30, "127.0.0.8"))
         path = messages.attribute(0x40, 2, struct.pack(">BBHH", 2, 2, 65007, 23456))
         lead = messages.attribute(0x40, 1, b"\x00") + path + messages.attribute(0x40, 3, ipaddress.ip_address(HOP4).packed)
         reach = messages.attribute(0x80, 14, b"\x00\x02\x01\x10" + ipaddress.ip_address(HOP6).packed + b"\x00" + messages.prefix("2001:db8::/32"))
-        narrow.say(messages.update(reach + lead, messages.prefix("10.0.0.0/8")))
-        want[narrow.name] = ["up as 65007 id 127.0.0.8 hold 30 offers, agreed hold 30"]
-        printed(narrow, ["+ 10.0.0.0/8 path 65007 23456"])
-        # Between its OPENs the silent peer said one KEEPALIVE: 3 seconds later it is given up.
-        told, keepalives = silent.notified()
-        report("silence is answered", told == SILENCE and 1 <= keepalives <= 5, f"{told} behind {keepalives} KEEPALIVEs")
-        printed(silent, ["- all", "down sent 4/0"])
-        silent.connection.close()
+        self.narrow.say(messages.update(reach + lead, messages.prefix("10.0.0.0/8")))
+        self.printed(self.narrow, "up as 65007 id 127.0.0.8 hold 30 offers, agreed hold 30", "+ 10.0.0.0/8 path 65007 23456")
+        self.rows[self.narrow] = ["Established", "1", "1", "1", "0", "0", "0"]
 
-        # At the end all but one close their side too: the collector doesn't wait for that one for long.
-        collector.interrupt(number)
-        for peer in (one, two, faulty, going, narrow):
-            report(f"{peer.name} is told that the collector ends", peer.notified()[0] == CEASE)
-            want[peer.name] += ["- all", "down sent 6/0"]
-            if peer is not narrow:
+    def falls_silent(self):
+        """One that comes up and says nothing more: `is_given_up` sees the end of it."""
+        self.silent.accept()
+        self.silent.listener.close()
+        self.silent.come_up()
+        self.printed(self.silent, self.silent.up())
+
+    def by_turns(self):
+        """Two speak by turns; connections beside theirs are ended."""
+        octets, lines, self.rows[self.one] = steady(self.one)
+        more, more_lines, self.rows[self.two] = many(self.two)
+        for peer in (self.one, self.two):
+            peer.accept()
+            peer.listener.close()
+            peer.come_up()
+        self.one.say(octets[:100], [1])
+        self.two.say(more)
+        self.one.say(octets[100:], [1, 2, 3, 5, 19, 18, 7])
+        self.printed(self.one, self.one.up(), *lines)
+        self.printed(self.two, self.two.up(), *more_lines)
+        for address in ("127.0.0.77", self.two.address):
+            with socket.create_connection((OWN, self.port), LIMIT, source_address=(address, 0)) as connection:
+                self.report(f"a connection from {address} is ended", connection.recv(1) == b"")
+
+    def bad_update(self):
+        """One that sends an UPDATE whose lengths are wrong is told so, whatever it says behind that, and is sought again."""
+        bad = messages.message(messages.UPDATE, b"\x00\x09\x00\x00")
+        self.faulty.accept()
+        self.faulty.come_up()
+        self.faulty.say(messages.announce6(["2001:db8::/32"], [65003], HOP6)[0] + bad + messages.keepalive() * 1000)
+        self.report("a bad UPDATE is answered", self.faulty.notified()[0] == LENGTHS)
+        self.faulty.connection.close()
+        self.printed(self.faulty, self.faulty.up(), "+ 2001:db8::/32 path 65003", "- all", "down sent 3/1")
+        self.faulty.accept()
+        self.faulty.come_up()
+        self.printed(self.faulty, self.faulty.up())
+        self.rows[self.faulty] = ["Established", "2", "1", "0", "0", "1", "0"]
+
+    def comes_and_goes(self):
+        """One that goes away inside of the collector's OPEN, inside of a message of its own, and by a NOTIFICATION, and comes again each time."""
+        with socket.create_connection((OWN, self.port), LIMIT, source_address=(self.going.address, 0)) as connection:
+            connection.recv(1)
+        self.printed(self.going, "down lost")
+        farewell = messages.message(messages.NOTIFICATION, b"\x06\x04")
+        for route, last, why in (("192.0.2.0/24", farewell[:10], "lost"), ("192.0.2.0/25", farewell, "received 6/4"), ("192.0.2.0/26", b"", None)):
+            self.going.connect(self.port)
+            self.going.come_up()
+            self.going.say(messages.announce4([route], [65004], HOP4)[0] + last)
+            self.printed(self.going, self.going.up(), f"+ {route} path 65004")
+            if why:
+                self.going.connection.close()
+                self.printed(self.going, "- all", f"down {why}")
+        self.rows[self.going] = ["Established", "3", "3", "3", "0", "0", "0"]
+
+    def another_as(self):
+        """One that has another AS number than it is said to have."""
+        self.other.accept()
+        self.other.listener.close()
+        self.other.say(messages.open_message(64999, 90, "127.0.0.6"))
+        self.report("another AS number is answered", self.other.notified()[0] == OTHER_AS)
+        self.other.connection.close()
+        self.printed(self.other, "down sent 2/2")
+
+    def is_given_up(self):
+        told, keepalives = self.silent.notified()
+        self.report("silence is answered", told == SILENCE and 1 <= keepalives <= 5, f"{told} behind {keepalives} KEEPALIVEs")
+        self.silent.connection.close()
+        self.printed(self.silent, "- all", "down sent 4/0")
+
+    def ends(self, number):
+        """At the end all but one close their side too: the collector doesn't wait for that one for long."""
+        self.collector.interrupt(number)
+        for peer in self.rows:
+            self.report(f"{peer.name} is told that the collector ends", peer.notified()[0] == CEASE)
+            self.lines[peer] += ["- all", "down sent 6/0"]
+            if peer is not self.narrow:
                 peer.connection.close()
-        errors, status = collector.end()
-        report("the collector ends", status == 0, errors)
-        report("nothing but refused connections is told on standard error", errors != "" and all(": Connection refused" in line for line in errors.splitlines()), errors)
-        start = collector.lines.index(next((line for line in collector.lines if line.startswith("peer ")), collector.lines[-1]))
-        rows = {line.split()[0]: line.split()[1:] for line in collector.lines[start + 1 : start + 1 + len(peers)]}
-        del collector.lines[start : start + 1 + len(peers)]
-        wanted_rows = {one.name: row, two.name: more_row, faulty.name: ["Established", "2", "1", "0", "0", "1", "0"],
-                       going.name: ["Established", "3", "3", "3", "0", "0", "0"], narrow.name: ["Established", "1", "1", "1", "0", "0", "0"]}
-        for peer in peers:
-            report(f"{peer.name} is told of", collector.of(peer.name) == want[peer.name], f"{collector.of(peer.name)}, not {want[peer.name]}")
-            if peer.name in wanted_rows:
-                report(f"{peer.name} is counted", rows.get(peer.name) == wanted_rows[peer.name], f"{rows.get(peer.name)}, not {wanted_rows[peer.name]}")
-    except (AssertionError, OSError) as error:
-        report("a run", False, f"{error!r}")
-        print("\n".join(line[:120] for line in collector.lines[-12:]), file=sys.stderr)
+        errors, status = self.collector.end()
+        self.report("the collector ends", status == 0, errors)
+        self.report("only connections that are refused are told of", errors and all(": Connection refused" in line for line in errors.splitlines()), errors)
+        self.faulty.listener.setblocking(False)
+        try:
+            self.report("no session is begun at the end", self.faulty.listener.accept() is None)
+        except BlockingIOError:
+            pass
+
+    def compare(self):
+        """The lines of each peer, and the table."""
+        start = [line.split()[0] for line in self.collector.lines].index("peer") + 1
+        table = {line.split()[0]: line.split()[1:] for line in self.collector.lines[start : start + len(self.peers)]}
+        del self.collector.lines[start : start + len(self.peers)]
+        for peer in self.peers:
+            lines = self.collector.of(peer.name)
+            self.report(f"lines of {peer.name}", lines == self.lines[peer], f"{lines}, not {self.lines[peer]}"[:2000])
+        for peer, row in self.rows.items():
+            self.report(f"counts of {peer.name}", table.get(peer.name) == row, f"{table.get(peer.name)}, not {row}")
+
+
+def run(made, number, report):
+    it = Run(made, report)
+    try:
+        for scene in (it.two_octets, it.falls_silent, it.by_turns, it.bad_update, it.comes_and_goes, it.another_as, it.is_given_up):
+            scene()
+        it.ends(number)
+        it.compare()
+    except (AssertionError, OSError, ValueError) as error:
+        report("peers of all kinds", False, f"{error!r}")
     finally:
-        collector.interrupt(signal.SIGKILL)
-        for peer in peers:
+        it.collector.interrupt(signal.SIGKILL)
+        for peer in it.peers:
             peer.close()
 
 
@@ -320,14 +347,28 @@ def try_pair(made, addresses, report):
             each.interrupt(signal.SIGKILL)
 
 
-def try_alone(made, report):
-    """A collector whose peer isn't there."""
-    name = f"65001@127.0.0.2#{free_port()}"
-    collector = Collector(made, OURS, OWN, name)
-    told = collector.process.stderr.readline().decode()
-    collector.interrupt(signal.SIGTERM)
-    _, status = collector.end()
-    report("no peer", status == 0 and told == f"collector: {name}: Connection refused\n" and collector.lines[1:] == [f"{name:32} Connect          0         0         0         0         0         0"], collector.lines)
+def try_late(made, report):
+    """A peer that isn't there yet, and one that never comes."""
+    port, other = free_port(), free_port()
+    names = [f"65001@127.0.0.2#{port}", f"65002@127.0.0.3#{other}"]
+    collector = Collector(made, "-l", OWN, "-p", free_port(), OURS, OWN, *names)
+    try:
+        told = sorted(collector.process.stderr.readline().decode() for _ in names)
+        report("what isn't there", told == [f"collector: {name}: Connection refused\n" for name in names], told)
+        late = Peer(65001, "127.0.0.2", port=port)
+        late.accept()
+        late.come_up()
+        collector.wait_for(f"{late.name} {late.up()}")
+        collector.interrupt(signal.SIGTERM)
+        report("a late peer", late.notified()[0] == CEASE)
+        late.close()
+        errors, status = collector.end()
+        rows = [f"{names[0]:32} Established      1         0         0         0         0         0", f"{names[1]:32} Connect          0         0         0         0         0         0"]
+        report("a late peer's end", status == 0 and not errors and collector.lines[2:4] == rows, f"{errors} {collector.lines}")
+    except (AssertionError, OSError) as error:
+        report("a late peer", False, f"{error!r}")
+    finally:
+        collector.interrupt(signal.SIGKILL)
 
 
 def has_six():
@@ -355,7 +396,7 @@ def try_words(made, report):
         report(f"the words {words}", done.returncode == 2 and not done.stdout and why in told, f"{done.returncode}, {told}")
     with socket.create_server((OWN, 0)) as taken:
         done = subprocess.run([str(made), "-l", OWN, "-p", str(taken.getsockname()[1]), *good], capture_output=True, timeout=LIMIT)
-        report("an address that is taken", done.returncode == 1 and b"127.0.0.1: Address already in use" in done.stderr, done.stderr)
+        report("an address that is taken", done.returncode == 1 and b"127.0.0.9: Address already in use" in done.stderr, done.stderr)
 
 
 def try_all(made, number, report):
@@ -364,5 +405,5 @@ def try_all(made, number, report):
     try_pair(made, ("127.0.0.1", "127.0.0.2"), report)
     if has_six():
         try_pair(made, ("::1", "::1"), report)
-    try_alone(made, report)
+    try_late(made, report)
     try_words(made, report)

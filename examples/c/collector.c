@@ -324,14 +324,14 @@ static void happens(struct peer *peer, uint32_t event)
     }
 }
 
-/* Lets a session hear the messages that are whole, as long as its connection stands. */
+/* Lets a session hear the messages that are whole, until it has ended: octets have no meaning for it then. */
 static void hear(struct peer *peer)
 {
     uint8_t message[RISTULVA_MESSAGE], before = state_of(peer);
     ristulva_actions actions;
     size_t len;
-    while (peer->connection == STANDS && ristulva_session_hear(&peer->session, peer->in, peer->in_len, &peer->heard, &actions, message,
-                                                               sizeof message, &len) == RISTULVA_OK) {
+    while (ristulva_session_hear(&peer->session, peer->in, peer->in_len, &peer->heard, &actions, message, sizeof message, &len) ==
+           RISTULVA_OK) {
         if (peer->heard.heard == RISTULVA_NOTIFICATION)
             snprintf(peer->why, sizeof peer->why, "received %u/%u", peer->heard.code, peer->heard.subcode);
         carry_out(peer, &actions, message, len);
