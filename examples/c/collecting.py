@@ -1,0 +1,409 @@
+"""Tries examples/c/collector: peers on loopback that a script plays say octets, and what the collector prints is compared line by line."""
+import ipaddress
+import pathlib
+import re
+import signal
+import socket
+import struct
+import subprocess
+import sys
+import threading
+import time
+
+sys.path.insert(0, str(pathlib.Path(__file__).resolve().parent.parent.parent / "interop"))
+import messages
+
+# How long, in seconds, the collector has for each thing.
+LIMIT = 10
+OURS, OWN = 65000, "127.0.0.9"
+HOP4, HOP6 = "192.0.2.9", "2001:db8::9"
+CEASE, OTHER_AS, SILENCE, LENGTHS = (6, 0), (2, 2), (4, 0), (3, 1)
+
+
+class Collector:
+    """The collector as it runs, with the lines that it printed."""
+
+    def __init__(self, made, *words):
+        self.process = subprocess.Popen([str(made), "-w", "1", *map(str, words)], stdout=subprocess.PIPE, stderr=subprocess.PIPE)
+        self.lines, self.turn = [], threading.Condition()
+        # Whatever happens, it doesn't outlive the check.
+        self.limit = threading.Timer(6 * LIMIT, self.process.kill)
+        self.limit.daemon = True
+        self.limit.start()
+        self.thread = threading.Thread(target=self.read, daemon=True)
+        self.thread.start()
+
+    def read(self):
+        for line in self.process.stdout:
+            with self.turn:
+                self.lines.append(line.decode().rstrip("\n"))
+                self.turn.notify_all()
+
+    def wait_for(self, line, times=1):
+        with self.turn:
+            if not self.turn.wait_for(lambda: self.lines.count(line) >= times, LIMIT):
+                raise AssertionError(f"the collector did not print: {line}")
+
+    def of(self, name):
+        """The lines of a peer."""
+        return [line.removeprefix(name + " ") for line in self.lines if line.startswith(name + " ")]
+
+    def interrupt(self, number):
+        self.process.send_signal(number)
+
+    def end(self):
+        """What it printed on standard error, and its status."""
+        try:
+            self.process.wait(LIMIT)
+        except subprocess.TimeoutExpired as error:
+            raise AssertionError("the collector did not end") from error
+        finally:
+            self.process.kill()
+        self.thread.join(LIMIT)
+        return self.process.stderr.read().decode(errors="replace"), self.process.returncode
+
+
+class Peer:
+    """A peer with an address of its own, which the collector connects to, or which connects to the collector."""
+
+    def __init__(self, asn, address, hold=90, port=0):
+        self.asn, self.address, self.hold = asn, address, hold
+        self.listener = socket.create_server((address, port))
+        self.listener.settimeout(LIMIT)
+        self.name = f"{asn}@{address}#{self.listener.getsockname()[1]}"
+        self.connection = None
+
+    def accept(self):
+        self.connection, (host, _) = self.listener.accept()
+        assert host == OWN, f"{self.name}: a connection from {host}"
+        self.begin()
+
+    def connect(self, port):
+        """Connects until the collector speaks: between two sessions it doesn't."""
+        end = time.monotonic() + LIMIT
+        while time.monotonic() < end:
+            try:
+                self.connection = socket.create_connection((OWN, port), LIMIT, source_address=(self.address, 0))
+                return self.begin()
+            except (AssertionError, ConnectionError):
+                time.sleep(0.1)
+        raise AssertionError(f"{self.name} was not let in")
+
+    def begin(self):
+        """Waits for the collector's OPEN."""
+        self.connection.settimeout(LIMIT)
+        self.connection.setsockopt(socket.IPPROTO_TCP, socket.TCP_NODELAY, 1)
+        self.rest = b""
+        found = self.hear()
+        assert found == messages.open_message(OURS, 90, OWN), f"an OPEN, not {found.hex()}"
+
+    def hear(self):
+        """The next message."""
+        while True:
+            found, _ = messages.split(self.rest)
+            if found:
+                self.rest = self.rest[len(found[0]) :]
+                return found[0]
+            more = self.connection.recv(4096)
+            assert more, f"{self.name}: the connection ended"
+            self.rest += more
+
+    def notified(self):
+        """Code and subcode of the NOTIFICATION that comes, how many KEEPALIVEs came before it; the collector's side ends behind it."""
+        keepalives = 0
+        while (found := self.hear())[18] == messages.KEEPALIVE:
+            keepalives += 1
+        assert found[18] == messages.NOTIFICATION and not self.rest, f"{self.name}: not a NOTIFICATION at the end: {found.hex()}"
+        assert self.connection.recv(1) == b"", f"{self.name}: octets behind a NOTIFICATION"
+        return (found[19], found[20]), keepalives
+
+    def say(self, octets, sizes=()):
+        """Octets, cut into pieces of these sizes again and again."""
+        at = number = 0
+        while at < len(octets):
+            size = sizes[number % len(sizes)] if sizes else len(octets)
+            self.connection.sendall(octets[at : at + size])
+            at, number = at + size, number + 1
+            if sizes:
+                time.sleep(0.002)
+
+    def come_up(self, open_message=None):
+        self.say(open_message or messages.open_message(self.asn, self.hold, self.address))
+        assert self.hear() == messages.keepalive()
+        self.say(messages.keepalive())
+
+    def up(self):
+        return f"up as {self.asn} id {self.address} hold {self.hold} offers as4 ip4 ip6, agreed hold {self.hold} as4 ip4 ip6"
+
+    def close(self):
+        for one in (self.connection, self.listener):
+            if one is not None:
+                one.close()
+
+
+def withdraw6(routes):
+    return messages.update(messages.attribute(0x80, 15, b"\x00\x02\x01" + b"".join(map(messages.prefix, routes))))
+
+
+def narrow_open(asn, hold, address):
+    """An OPEN without capabilities: AS numbers of two octets and IPv4 alone."""
+    return messages.message(messages.OPEN, struct.pack(">BHH", 4, asn, hold) + ipaddress.ip_address(address).packed + b"\x00")
+
+
+def free_port():
+    with socket.create_server((OWN, 0)) as one:
+        return one.getsockname()[1]
+
+
+def steady(peer):
+    """What a peer says that stays to the end, in odd pieces, and the lines of it."""
+    path = messages.attribute(0x40, 2, struct.pack(">BBII", 2, 2, peer.asn, 70000) + struct.pack(">BBII", 1, 2, 65010, 65011))
+    lead = messages.attribute(0x40, 1, b"\x00") + path
+    hop = messages.attribute(0x40, 3, ipaddress.ip_address(HOP4).packed)
+    routes4 = ["10.0.0.0/8", "10.128.0.0/9", "198.51.100.0/24", "0.0.0.0/0", "203.0.113.77/32"]
+    routes6 = ["2001:db8::/32", "2001:db8:1::/48", "::/0"]
+    octets = messages.update(lead + hop, b"".join(map(messages.prefix, routes4)))
+    octets += messages.announce6(routes6, [peer.asn, 4200000000], HOP6)[0]
+    octets += messages.keepalive()
+    octets += messages.update(b"", withdrawn=messages.prefix("10.0.0.0/8"))
+    octets += withdraw6(routes6[:2])
+    # An ORIGIN that has no meaning: treated as a withdrawal.
+    octets += messages.announce4(["198.51.100.0/24"], [peer.asn], HOP4, origin=5)[0]
+    lines = [f"+ {route} path {peer.asn} 70000 {{65010 65011}}" for route in routes4]
+    lines += [f"+ {route} path {peer.asn} 4200000000" for route in routes6]
+    lines += ["- 10.0.0.0/8", *(f"- {route}" for route in routes6[:2]), "- 198.51.100.0/24"]
+    return octets, lines, ["Established", "1", "5", "5", "2", "3", "2"]
+
+
+def many(peer):
+    """More than the collector's buffers have: six thousand routes, in messages about as long as they may be."""
+    routes = [f"10.{number >> 8}.{number & 255}.0/24" for number in range(6000)]
+    lead = messages.attribute(0x40, 1, b"\x00") + messages.path([peer.asn]) + messages.attribute(0x40, 3, ipaddress.ip_address(HOP4).packed)
+    octets = b"".join(messages.update(lead, b"".join(map(messages.prefix, routes[at : at + 1000]))) for at in range(0, 6000, 1000))
+    return octets, [f"+ {route} path {peer.asn}" for route in routes], ["Established", "1", "6", "6000", "0", "0", "0"]
+
+
+class Run:
+    """Peers of all kinds at once. `report` takes what was tried, whether it went as wanted, and what there is to tell."""
+
+    def __init__(self, made, report):
+        self.report, self.port = report, free_port()
+        self.one, self.two, self.faulty, self.going = Peer(65001, "127.0.0.2"), Peer(65002, "127.0.0.3"), Peer(65003, "127.0.0.4"), Peer(65004, "127.0.0.5")
+        self.other, self.silent, self.narrow = Peer(65005, "127.0.0.6"), Peer(65006, "127.0.0.7", hold=3), Peer(65007, "127.0.0.8", hold=30)
+        self.peers = [self.one, self.two, self.faulty, self.going, self.other, self.silent, self.narrow]
+        self.going.listener.close()
+        self.narrow.listener.close()
+        self.lines = {peer: [] for peer in self.peers}
+        self.rows = {}
+        self.collector = Collector(made, "-l", OWN, "-p", self.port, OURS, OWN, *(peer.name for peer in self.peers))
+
+    def printed(self, peer, *lines):
+        """Waits for the last of these lines, which come next of a peer."""
+        self.lines[peer] += lines
+        self.collector.wait_for(f"{peer.name} {lines[-1]}", self.lines[peer].count(lines[-1]))
+
+    def two_octets(self):
+        """One that comes of itself, and has AS numbers of two octets and IPv4 alone."""
+        self.narrow.connect(self.port)
+        self.narrow.come_up(narrow_open(65007, 30, "127.0.0.8"))
+        path = messages.attribute(0x40, 2, struct.pack(">BBHH", 2, 2, 65007, 23456))
+        lead = messages.attribute(0x40, 1, b"\x00") + path + messages.attribute(0x40, 3, ipaddress.ip_address(HOP4).packed)
+        reach = messages.attribute(0x80, 14, b"\x00\x02\x01\x10" + ipaddress.ip_address(HOP6).packed + b"\x00" + messages.prefix("2001:db8::/32"))
+        self.narrow.say(messages.update(reach + lead, messages.prefix("10.0.0.0/8")))
+        self.printed(self.narrow, "up as 65007 id 127.0.0.8 hold 30 offers, agreed hold 30", "+ 10.0.0.0/8 path 65007 23456")
+        self.rows[self.narrow] = ["Established", "1", "1", "1", "0", "0", "0"]
+
+    def falls_silent(self):
+        """One that comes up and says nothing more: `is_given_up` sees the end of it."""
+        self.silent.accept()
+        self.silent.listener.close()
+        self.silent.come_up()
+        self.printed(self.silent, self.silent.up())
+
+    def by_turns(self):
+        """Two speak by turns; connections beside theirs are ended."""
+        octets, lines, self.rows[self.one] = steady(self.one)
+        more, more_lines, self.rows[self.two] = many(self.two)
+        for peer in (self.one, self.two):
+            peer.accept()
+            peer.listener.close()
+            peer.come_up()
+        self.one.say(octets[:100], [1])
+        self.two.say(more)
+        self.one.say(octets[100:], [1, 2, 3, 5, 19, 18, 7])
+        self.printed(self.one, self.one.up(), *lines)
+        self.printed(self.two, self.two.up(), *more_lines)
+        for address in ("127.0.0.77", self.two.address):
+            with socket.create_connection((OWN, self.port), LIMIT, source_address=(address, 0)) as connection:
+                self.report(f"a connection from {address} is ended", connection.recv(1) == b"")
+
+    def bad_update(self):
+        """One that sends an UPDATE whose lengths are wrong is told so, whatever it says behind that, and is sought again."""
+        bad = messages.message(messages.UPDATE, b"\x00\x09\x00\x00")
+        self.faulty.accept()
+        self.faulty.come_up()
+        self.faulty.say(messages.announce6(["2001:db8::/32"], [65003], HOP6)[0] + bad + messages.keepalive() * 1000)
+        self.report("a bad UPDATE is answered", self.faulty.notified()[0] == LENGTHS)
+        self.faulty.connection.close()
+        self.printed(self.faulty, self.faulty.up(), "+ 2001:db8::/32 path 65003", "- all", "down sent 3/1")
+        self.faulty.accept()
+        self.faulty.come_up()
+        self.printed(self.faulty, self.faulty.up())
+        self.rows[self.faulty] = ["Established", "2", "1", "0", "0", "1", "0"]
+
+    def comes_and_goes(self):
+        """One that goes away inside of the collector's OPEN, inside of a message of its own, and by a NOTIFICATION, and comes again each time."""
+        with socket.create_connection((OWN, self.port), LIMIT, source_address=(self.going.address, 0)) as connection:
+            connection.recv(1)
+        self.printed(self.going, "down lost")
+        farewell = messages.message(messages.NOTIFICATION, b"\x06\x04")
+        for route, last, why in (("192.0.2.0/24", farewell[:10], "lost"), ("192.0.2.0/25", farewell, "received 6/4"), ("192.0.2.0/26", b"", None)):
+            self.going.connect(self.port)
+            self.going.come_up()
+            self.going.say(messages.announce4([route], [65004], HOP4)[0] + last)
+            self.printed(self.going, self.going.up(), f"+ {route} path 65004")
+            if why:
+                self.going.connection.close()
+                self.printed(self.going, "- all", f"down {why}")
+        self.rows[self.going] = ["Established", "3", "3", "3", "0", "0", "0"]
+
+    def another_as(self):
+        """One that has another AS number than it is said to have."""
+        self.other.accept()
+        self.other.listener.close()
+        self.other.say(messages.open_message(64999, 90, "127.0.0.6"))
+        self.report("another AS number is answered", self.other.notified()[0] == OTHER_AS)
+        self.other.connection.close()
+        self.printed(self.other, "down sent 2/2")
+
+    def is_given_up(self):
+        told, keepalives = self.silent.notified()
+        self.report("silence is answered", told == SILENCE and 1 <= keepalives <= 5, f"{told} behind {keepalives} KEEPALIVEs")
+        self.silent.connection.close()
+        self.printed(self.silent, "- all", "down sent 4/0")
+
+    def ends(self, number):
+        """At the end all but one close their side too: the collector doesn't wait for that one for long."""
+        self.collector.interrupt(number)
+        for peer in self.rows:
+            self.report(f"{peer.name} is told that the collector ends", peer.notified()[0] == CEASE)
+            self.lines[peer] += ["- all", "down sent 6/0"]
+            if peer is not self.narrow:
+                peer.connection.close()
+        errors, status = self.collector.end()
+        self.report("the collector ends", status == 0, errors)
+        self.report("only connections that are refused are told of", errors and all(": Connection refused" in line for line in errors.splitlines()), errors)
+        self.faulty.listener.setblocking(False)
+        try:
+            self.report("no session is begun at the end", self.faulty.listener.accept() is None)
+        except BlockingIOError:
+            pass
+
+    def compare(self):
+        """The lines of each peer, and the table."""
+        start = [line.split()[0] for line in self.collector.lines].index("peer") + 1
+        table = {line.split()[0]: line.split()[1:] for line in self.collector.lines[start : start + len(self.peers)]}
+        del self.collector.lines[start : start + len(self.peers)]
+        for peer in self.peers:
+            lines = self.collector.of(peer.name)
+            self.report(f"lines of {peer.name}", lines == self.lines[peer], f"{lines}, not {self.lines[peer]}"[:2000])
+        for peer, row in self.rows.items():
+            self.report(f"counts of {peer.name}", table.get(peer.name) == row, f"{table.get(peer.name)}, not {row}")
+
+
+def run(made, number, report):
+    it = Run(made, report)
+    try:
+        for scene in (it.two_octets, it.falls_silent, it.by_turns, it.bad_update, it.comes_and_goes, it.another_as, it.is_given_up):
+            scene()
+        it.ends(number)
+        it.compare()
+    except (AssertionError, OSError, ValueError) as error:
+        report("peers of all kinds", False, f"{error!r}")
+    finally:
+        it.collector.interrupt(signal.SIGKILL)
+        for peer in it.peers:
+            peer.close()
+
+
+def try_pair(made, addresses, report):
+    """Two collectors, each a peer of the other: both seek, and one connection stands."""
+    ports = [free_port(), free_port()]
+    agreed = "hold 90 offers as4 ip4 ip6, agreed hold 90 as4 ip4 ip6"
+    names = [f"{65001 + side}@{addresses[side]}#{ports[side]}" for side in (0, 1)]
+    pair = [Collector(made, "-l", addresses[side], "-p", ports[side], 65001 + side, f"192.0.2.{1 + side}", names[1 - side]) for side in (0, 1)]
+    try:
+        for side in (0, 1):
+            pair[side].wait_for(f"{names[1 - side]} up as {65002 - side} id 192.0.2.{2 - side} {agreed}")
+        pair[0].interrupt(signal.SIGTERM)
+        pair[1].wait_for(f"{names[0]} down received 6/0")
+        pair[1].interrupt(signal.SIGTERM)
+        told = [each.end() for each in pair]
+        report(f"two collectors at {addresses}", [status for _, status in told] == [0, 0], told)
+    except AssertionError as error:
+        report(f"two collectors at {addresses}", False, error)
+    finally:
+        for each in pair:
+            each.interrupt(signal.SIGKILL)
+
+
+def try_late(made, report):
+    """A peer that isn't there yet, and one that never comes."""
+    port, other = free_port(), free_port()
+    names = [f"65001@127.0.0.2#{port}", f"65002@127.0.0.3#{other}"]
+    collector = Collector(made, "-l", OWN, "-p", free_port(), OURS, OWN, *names)
+    try:
+        told = sorted(collector.process.stderr.readline().decode() for _ in names)
+        report("what isn't there", told == [f"collector: {name}: Connection refused\n" for name in names], told)
+        late = Peer(65001, "127.0.0.2", port=port)
+        late.accept()
+        late.come_up()
+        collector.wait_for(f"{late.name} {late.up()}")
+        collector.interrupt(signal.SIGTERM)
+        report("a late peer", late.notified()[0] == CEASE)
+        late.close()
+        errors, status = collector.end()
+        rows = [f"{names[0]:32} Established      1         0         0         0         0         0", f"{names[1]:32} Connect          0         0         0         0         0         0"]
+        report("a late peer's end", status == 0 and not errors and collector.lines[2:4] == rows, f"{errors} {collector.lines}")
+    except (AssertionError, OSError) as error:
+        report("a late peer", False, f"{error!r}")
+    finally:
+        collector.interrupt(signal.SIGKILL)
+
+
+def has_six():
+    try:
+        socket.create_server(("::1", 0), family=socket.AF_INET6).close()
+    except OSError:
+        return False
+    return True
+
+
+def try_words(made, report):
+    """Words that the collector refuses."""
+    good = ["65000", "192.0.2.1", "65001@127.0.0.2"]
+    for words, why in (
+        ([], "usage"), (good[:2], "usage"), (["-x", *good], "usage"), (["-l"], "usage"), (["-p", "0", *good], "0: a number"), (["-p", "65536", *good], "65536: a number"),
+        (["-p", "x", *good], "x: a number"), (["-w", "0", *good], "0: a number"), (["-l", "here", *good], "here: not an address"), (["0", *good[1:]], "0: a number"),
+        (["4294967296", *good[1:]], "4294967296: a number"), (["-1", *good[1:]], "usage"), ([good[0], "0.0.0.0", good[2]], "0.0.0.0: not an identifier"),
+        ([good[0], "192.0.2", good[2]], "192.0.2: not an identifier"), ([*good, "65001"], "65001: not PEER_AS@ADDRESS"), ([*good, "@127.0.0.3"], "@127.0.0.3: a number"),
+        ([*good, "65001x@127.0.0.3"], "a number"), ([*good, "65001@"], "65001@: not an address"), ([*good, "65001@127.0.0.3#"], "a number"),
+        ([*good, "65001@127.0.0.3#179x"], "a number"), ([*good, "65001@localhost"], "not an address"), ([*good, "65002@127.0.0.2"], "another peer has"),
+        ([*good, "1@" + "1" * 200], "not an address"),
+    ):
+        done = subprocess.run([str(made), *words], capture_output=True, timeout=LIMIT, stdin=subprocess.DEVNULL)
+        told = done.stderr.decode(errors="replace")
+        report(f"the words {words}", done.returncode == 2 and not done.stdout and why in told, f"{done.returncode}, {told}")
+    with socket.create_server((OWN, 0)) as taken:
+        done = subprocess.run([str(made), "-l", OWN, "-p", str(taken.getsockname()[1]), *good], capture_output=True, timeout=LIMIT)
+        report("an address that is taken", done.returncode == 1 and b"127.0.0.9: Address already in use" in done.stderr, done.stderr)
+
+
+def try_all(made, number, report):
+    """All of it; `number` is the signal that ends the long run."""
+    run(made, number, report)
+    try_pair(made, ("127.0.0.1", "127.0.0.2"), report)
+    if has_six():
+        try_pair(made, ("::1", "::1"), report)
+    try_late(made, report)
+    try_words(made, report)

@@ -1,0 +1,665 @@
+/* A small route collector to start from: a session with each of many peers, whose routes it prints as they come and go:
+ *
+ *     collector [-l ADDRESS] [-p PORT] [-w SECONDS] LOCAL_AS ID PEER_AS@ADDRESS[#PORT]..
+ *
+ *     65002@192.0.2.2 up as 65002 id 192.0.2.2 hold 90 offers as4 ip4 ip6, agreed hold 90 as4 ip4 ip6
+ *     65002@192.0.2.2 + 10.0.0.0/8 path 65002 65003 {65004 65005}
+ *     65002@192.0.2.2 - 10.0.0.0/8
+ *     65002@192.0.2.2 - all
+ *     65002@192.0.2.2 down received 6/4
+ *
+ * It connects to each peer. With an address of its own (-l) it connects from there, and listens there too, at PORT, which is 179. A session
+ * that ended is started again after SECONDS, which are 5. An UPDATE that is treated as a withdrawal withdraws all its routes (RFC 7606,
+ * section 2), and with a session all routes of its peer are gone. On a session with AS numbers of two octets a path is printed as it came.
+ * `down` tells which NOTIFICATION was sent or received, or that the connection was lost.
+ *
+ * At SIGINT and SIGTERM it prints a table of what it counted, stops each session, and ends with 0. It ends with 2 for a fault of the
+ * command line, and with 1 where it can't listen, a write fails, or memory is lacking. */
+#include "ristulva.h"
+#include <arpa/inet.h>
+#include <errno.h>
+#include <fcntl.h>
+#include <limits.h>
+#include <netdb.h>
+#include <netinet/in.h>
+#include <poll.h>
+#include <signal.h>
+#include <stdio.h>
+#include <stdlib.h>
+#include <string.h>
+#include <sys/socket.h>
+#include <time.h>
+#include <unistd.h>
+
+#define NEVER LLONG_MAX
+
+/* Room for an address as text, with the name of a link behind it. */
+#define HOST 64
+
+/* The collector's own timer, beside those of a session: to start it again, or to try once more to connect. */
+#define TIMER_AGAIN 0
+#define TIMERS 4
+
+/* How long, in milliseconds, peers have to take what is said to them at the end. */
+#define FAREWELL 2000
+
+/* A peer's connection: none, one that is tried, one that stands, or one that only takes leave (finish). */
+enum connection { NONE, TRIED, STANDS, ENDS };
+
+struct peer {
+    const char *name; /* the word of the command line */
+    char host[HOST];  /* its address as text */
+    struct sockaddr_storage address;
+    socklen_t address_len;
+    ristulva_session session;
+    ristulva_context context; /* of the session that is up */
+    enum connection connection;
+    int fd;                            /* -1 where there is none */
+    int error;                         /* why the last try to connect failed */
+    long long due[TIMERS];             /* when each timer runs out, by now() */
+    char why[24];                      /* why the session ended */
+    uint8_t in[2 * RISTULVA_MESSAGE];  /* what came and wasn't heard: a message is at most half of it */
+    uint8_t out[2 * RISTULVA_MESSAGE]; /* what the socket didn't take yet */
+    size_t in_len, out_len;
+    ristulva_heard heard; /* the message that `in` begins with */
+    unsigned long long ups, updates, announced[2], withdrawn[2];
+};
+
+static struct peer *peers;
+static size_t peer_count;
+static struct sockaddr_storage own; /* where it listens, and connects from */
+static socklen_t own_len;           /* 0 where it has no address of its own */
+static int listener = -1;
+static unsigned long pause_seconds = 5;
+static int stopping;
+static int wake[2]; /* a signal writes to it */
+
+/* Milliseconds of a clock that nobody sets. */
+static long long now(void)
+{
+    struct timespec time;
+    clock_gettime(CLOCK_MONOTONIC, &time);
+    return time.tv_sec * 1000LL + time.tv_nsec / 1000000;
+}
+
+/* So many seconds from now; with `jitter` up to a quarter less, so that two speakers don't meet again and again (RFC 4271, section 10). */
+static long long later(unsigned long seconds, int jitter)
+{
+    return now() + (long long)seconds * (jitter ? 750 + rand() % 251 : 1000);
+}
+
+/* ---- routes: what an UPDATE says, by cursors over the octets that came ---- */
+
+/* The first attribute of a type, which decides (RFC 7606, section 3, item g). 1 where there is one. */
+static int find(const struct peer *peer, uint8_t kind, ristulva_span *value)
+{
+    const ristulva_span *field = &peer->heard.parts.attributes;
+    ristulva_attributes cursor = {field->at, field->at + field->len};
+    ristulva_attribute attribute;
+    while (ristulva_next_attribute(peer->in, peer->heard.len, &cursor, &attribute) == RISTULVA_OK) {
+        if (attribute.kind == kind) {
+            *value = attribute.value;
+            return 1;
+        }
+    }
+    return 0;
+}
+
+static void print_numbers(const struct peer *peer, const ristulva_segment *segment)
+{
+    ristulva_numbers cursor = {segment->numbers.at, segment->numbers.at + segment->numbers.len, peer->context.as4 ? 4 : 2};
+    const char *between = segment->kind == 1 ? " {" : " ";
+    uint32_t number;
+    while (ristulva_next_number(peer->in, peer->heard.len, &cursor, &number) == RISTULVA_OK) {
+        printf("%s%lu", between, (unsigned long)number);
+        between = " ";
+    }
+    if (segment->kind == 1)
+        printf("}");
+}
+
+static void print_path(const struct peer *peer)
+{
+    ristulva_segment segment;
+    ristulva_span value;
+    printf(" path");
+    if (find(peer, 2, &value)) {
+        ristulva_segments cursor = {value.at, value.at + value.len, peer->context.as4, 0};
+        while (ristulva_next_segment(peer->in, peer->heard.len, &cursor, &segment) == RISTULVA_OK)
+            print_numbers(peer, &segment);
+    }
+}
+
+static void print_prefixes(struct peer *peer, ristulva_prefixes cursor, int announced)
+{
+    int six = cursor.afi == 2;
+    ristulva_prefix prefix;
+    char text[INET6_ADDRSTRLEN];
+    while (ristulva_next_prefix(peer->in, peer->heard.len, &cursor, &prefix) == RISTULVA_OK) {
+        inet_ntop(six ? AF_INET6 : AF_INET, prefix.addr, text, sizeof text);
+        printf("%s %c %s/%u", peer->name, announced ? '+' : '-', text, prefix.len);
+        if (announced)
+            print_path(peer);
+        printf("\n");
+        (announced ? peer->announced : peer->withdrawn)[six]++;
+    }
+}
+
+static void print_field(struct peer *peer, const ristulva_span *field, int announced)
+{
+    ristulva_prefixes cursor = {field->at, field->at + field->len, 1};
+    print_prefixes(peer, cursor, announced);
+}
+
+/* Whether both speakers offer the family: what they don't is discarded. */
+static int in_use(const struct peer *peer, const ristulva_prefixes *cursor)
+{
+    return cursor->afi == 1 ? peer->context.ip4 : peer->context.ip6;
+}
+
+/* `announced` is 0 where the UPDATE is treated as a withdrawal of all its routes. */
+static void print_update(struct peer *peer, int announced)
+{
+    const ristulva_parts *parts = &peer->heard.parts;
+    ristulva_prefixes cursor;
+    ristulva_span value, next_hop;
+    peer->updates++;
+    print_field(peer, &parts->withdrawn, 0);
+    if (find(peer, 15, &value) && ristulva_unreached(peer->in, peer->heard.len, &value, &cursor) == RISTULVA_OK && in_use(peer, &cursor))
+        print_prefixes(peer, cursor, 0);
+    if (find(peer, 14, &value) && ristulva_reached(peer->in, peer->heard.len, &value, &next_hop, &cursor) == RISTULVA_OK &&
+        in_use(peer, &cursor))
+        print_prefixes(peer, cursor, announced);
+    print_field(peer, &parts->nlri, announced);
+}
+
+/* ---- connections ---- */
+
+static int is_ready_later(int error)
+{
+    return error == EAGAIN || error == EWOULDBLOCK || error == EINTR;
+}
+
+static int unblock(int fd)
+{
+    int flags = fcntl(fd, F_GETFL);
+    return flags >= 0 && fcntl(fd, F_SETFL, flags | O_NONBLOCK) == 0 && fcntl(fd, F_SETFD, FD_CLOEXEC) == 0;
+}
+
+static void drop(struct peer *peer)
+{
+    if (peer->fd >= 0)
+        close(peer->fd);
+    peer->fd = -1;
+    peer->connection = NONE;
+    peer->in_len = peer->out_len = 0;
+}
+
+/* The session goes on seeking: the peer may come here meanwhile. */
+static void try_failed(struct peer *peer, int error)
+{
+    drop(peer);
+    if (error != peer->error)
+        fprintf(stderr, "collector: %s: %s\n", peer->name, strerror(error));
+    peer->error = error;
+    peer->due[TIMER_AGAIN] = later(pause_seconds, 1);
+}
+
+static void seek(struct peer *peer)
+{
+    int is_bound = own_len > 0 && own.ss_family == peer->address.ss_family;
+    drop(peer);
+    peer->fd = socket(peer->address.ss_family, SOCK_STREAM, 0);
+    peer->connection = TRIED;
+    if (peer->fd < 0 || !unblock(peer->fd) || (is_bound && bind(peer->fd, (struct sockaddr *)&own, own_len) != 0) ||
+        (connect(peer->fd, (struct sockaddr *)&peer->address, peer->address_len) != 0 && errno != EINPROGRESS))
+        try_failed(peer, errno);
+}
+
+static void send_waiting(struct peer *peer)
+{
+    ssize_t sent = peer->out_len == 0 ? 0 : send(peer->fd, peer->out, peer->out_len, MSG_NOSIGNAL);
+    if (sent < 0 && is_ready_later(errno))
+        return;
+    /* Where the connection is broken, the next recv tells it. */
+    peer->out_len = sent < 0 ? 0 : peer->out_len - (size_t)sent;
+    if (sent > 0)
+        memmove(peer->out, peer->out + sent, peer->out_len);
+    if (peer->connection == ENDS && peer->out_len == 0)
+        shutdown(peer->fd, SHUT_WR);
+}
+
+static void put(struct peer *peer, const uint8_t *message, size_t len)
+{
+    /* A peer that takes nothing for so long is given up: the next recv tells that the connection is lost. */
+    if (len > sizeof peer->out - peer->out_len) {
+        shutdown(peer->fd, SHUT_RDWR);
+        return;
+    }
+    memcpy(peer->out + peer->out_len, message, len);
+    peer->out_len += len;
+    send_waiting(peer);
+}
+
+/* Closes a connection that stands once its last octets are sent and the peer has closed it too: a socket that is closed while octets wait
+ * in it may take the NOTIFICATION away from the peer. */
+static void finish(struct peer *peer)
+{
+    if (peer->connection != STANDS) {
+        drop(peer);
+        return;
+    }
+    peer->connection = ENDS;
+    send_waiting(peer);
+}
+
+/* ---- sessions ---- */
+
+static uint8_t state_of(struct peer *peer)
+{
+    uint8_t state = RISTULVA_IDLE;
+    ristulva_session_state(&peer->session, &state);
+    return state;
+}
+
+/* Does what a session answers. `message` is what it sends. */
+static void carry_out(struct peer *peer, const ristulva_actions *actions, const uint8_t *message, size_t len)
+{
+    size_t i;
+    for (i = 0; i < actions->count; i++) {
+        const ristulva_action *action = &actions->list[i];
+        if (action->kind == RISTULVA_DO_SEEK)
+            seek(peer);
+        else if (action->kind == RISTULVA_DO_CLOSE)
+            finish(peer);
+        else if (action->kind == RISTULVA_DO_ARM)
+            peer->due[action->timer] = later(action->seconds, action->timer != RISTULVA_TIMER_HOLD);
+        else if (action->kind == RISTULVA_DO_DISARM)
+            peer->due[action->timer] = NEVER;
+        else if (action->kind == RISTULVA_DO_ANNOUNCE || action->kind == RISTULVA_DO_WITHDRAW)
+            print_update(peer, action->kind == RISTULVA_DO_ANNOUNCE);
+        else if (action->kind == RISTULVA_DO_FLUSH)
+            printf("%s - all\n", peer->name);
+        else
+            put(peer, message, len);
+        if (action->kind == RISTULVA_DO_SEND_NOTIFICATION)
+            snprintf(peer->why, sizeof peer->why, "sent %u/%u", action->code, action->subcode);
+    }
+}
+
+static void print_up(struct peer *peer)
+{
+    const ristulva_context *agreed = &peer->context;
+    ristulva_peer it;
+    uint16_t hold;
+    if (ristulva_session_peer(&peer->session, &it) != RISTULVA_OK ||
+        ristulva_session_context(&peer->session, &peer->context, &hold) != RISTULVA_OK)
+        return;
+    peer->ups++;
+    printf("%s up as %lu id %u.%u.%u.%u hold %u offers%s%s%s", peer->name, (unsigned long)it.as_number, it.id[0], it.id[1], it.id[2],
+           it.id[3], it.hold, it.as4 ? " as4" : "", it.ip4 ? " ip4" : "", it.ip6 ? " ip6" : "");
+    printf(", agreed hold %u%s%s%s\n", hold, agreed->as4 ? " as4" : "", agreed->ip4 ? " ip4" : "", agreed->ip6 ? " ip6" : "");
+}
+
+/* Tells whether a session came up or ended, and has it started again. */
+static void settle(struct peer *peer, uint8_t before)
+{
+    uint8_t state = state_of(peer);
+    if (state == RISTULVA_ESTABLISHED && before != RISTULVA_ESTABLISHED)
+        print_up(peer);
+    if (state <= RISTULVA_ACTIVE && before > RISTULVA_ACTIVE)
+        printf("%s down %s\n", peer->name, peer->why);
+    if (state == RISTULVA_IDLE && !stopping)
+        peer->due[TIMER_AGAIN] = later(pause_seconds, 1);
+}
+
+static void happens(struct peer *peer, uint32_t event)
+{
+    uint8_t message[RISTULVA_MESSAGE], before = state_of(peer);
+    ristulva_actions actions;
+    size_t len;
+    if (ristulva_session_event(&peer->session, event, &actions, message, sizeof message, &len) == RISTULVA_OK) {
+        carry_out(peer, &actions, message, len);
+        settle(peer, before);
+    }
+}
+
+/* Lets a session hear the messages that are whole, until it has ended: octets have no meaning for it then. */
+static void hear(struct peer *peer)
+{
+    uint8_t message[RISTULVA_MESSAGE], before = state_of(peer);
+    ristulva_actions actions;
+    size_t len;
+    while (ristulva_session_hear(&peer->session, peer->in, peer->in_len, &peer->heard, &actions, message, sizeof message, &len) ==
+           RISTULVA_OK) {
+        if (peer->heard.heard == RISTULVA_NOTIFICATION)
+            snprintf(peer->why, sizeof peer->why, "received %u/%u", peer->heard.code, peer->heard.subcode);
+        carry_out(peer, &actions, message, len);
+        settle(peer, before);
+        before = state_of(peer);
+        peer->in_len -= peer->heard.len;
+        memmove(peer->in, peer->in + peer->heard.len, peer->in_len);
+    }
+}
+
+/* ---- what happens to sockets, and at what time ---- */
+
+static void connected(struct peer *peer)
+{
+    peer->connection = STANDS;
+    peer->error = 0;
+    happens(peer, RISTULVA_EVENT_CONNECTED);
+}
+
+static void receive(struct peer *peer)
+{
+    ssize_t got;
+    /* What comes behind the last message that was heard has no meaning. */
+    if (peer->connection == ENDS)
+        peer->in_len = 0;
+    got = recv(peer->fd, peer->in + peer->in_len, sizeof peer->in - peer->in_len, 0);
+    if (got > 0) {
+        peer->in_len += (size_t)got;
+        hear(peer);
+    } else if (got == 0 || !is_ready_later(errno)) {
+        int is_lost = peer->connection == STANDS;
+        drop(peer);
+        if (is_lost) {
+            strcpy(peer->why, "lost");
+            happens(peer, RISTULVA_EVENT_FAILED);
+        }
+    }
+}
+
+static void serve(struct peer *peer, short what)
+{
+    int error = 0;
+    socklen_t len = sizeof error;
+    if (what == 0 || peer->connection == NONE)
+        return;
+    if (peer->connection == TRIED) {
+        if (getsockopt(peer->fd, SOL_SOCKET, SO_ERROR, &error, &len) != 0)
+            error = errno;
+        if (error != 0)
+            try_failed(peer, error);
+        else
+            connected(peer);
+        return;
+    }
+    if (what & POLLOUT)
+        send_waiting(peer);
+    if (what & ~POLLOUT)
+        receive(peer);
+}
+
+static void expire(struct peer *peer, int timer)
+{
+    static const uint32_t events[TIMERS] = {RISTULVA_EVENT_START, RISTULVA_EVENT_RETRY_EXPIRED, RISTULVA_EVENT_HOLD_EXPIRED,
+                                            RISTULVA_EVENT_KEEPALIVE_EXPIRED};
+    uint8_t state = state_of(peer);
+    peer->due[timer] = NEVER;
+    if (timer != TIMER_AGAIN || state == RISTULVA_IDLE)
+        happens(peer, events[timer]);
+    else if (state == RISTULVA_CONNECT && peer->connection == NONE)
+        seek(peer);
+}
+
+/* Writes an address as text, of which each has one. */
+static void print_host(const struct sockaddr_storage *address, socklen_t len, char host[HOST])
+{
+    if (getnameinfo((const struct sockaddr *)address, len, host, HOST, NULL, 0, NI_NUMERICHOST) != 0)
+        host[0] = '\0';
+}
+
+static struct peer *peer_at(const char *host)
+{
+    size_t i;
+    for (i = 0; i < peer_count; i++)
+        if (strcmp(peers[i].host, host) == 0)
+            return &peers[i];
+    return NULL;
+}
+
+/* Takes the connection of a peer whose session wants one, in place of the try for one: it has one at a time. */
+static void welcome(void)
+{
+    struct sockaddr_storage from;
+    socklen_t len = sizeof from;
+    char host[HOST];
+    struct peer *peer;
+    uint8_t state = RISTULVA_IDLE;
+    int fd = accept(listener, (struct sockaddr *)&from, &len);
+    if (fd < 0)
+        return;
+    print_host(&from, len, host);
+    if ((peer = peer_at(host)) != NULL)
+        state = state_of(peer);
+    if ((state != RISTULVA_CONNECT && state != RISTULVA_ACTIVE) || !unblock(fd)) {
+        close(fd);
+        return;
+    }
+    drop(peer);
+    peer->fd = fd;
+    connected(peer);
+}
+
+/* ---- the command line ---- */
+
+static void end(int status, const char *word, const char *why)
+{
+    fprintf(stderr, "collector: %s: %s\n", word, why);
+    exit(status);
+}
+
+static void usage(void)
+{
+    fprintf(stderr, "usage: collector [-l ADDRESS] [-p PORT] [-w SECONDS] LOCAL_AS ID PEER_AS@ADDRESS[#PORT]..\n");
+    exit(2);
+}
+
+/* A number from 1 to `most`, which `text` is and `word` has. */
+static unsigned long number_of(const char *word, const char *text, unsigned long most)
+{
+    char *behind;
+    unsigned long number;
+    errno = 0;
+    number = strtoul(text, &behind, 10);
+    if (text[0] < '0' || text[0] > '9' || *behind != '\0' || errno != 0 || number == 0 || number > most)
+        end(2, word, "a number is out of its range");
+    return number;
+}
+
+static socklen_t resolve(const char *word, const char *address, const char *port, struct sockaddr_storage *out)
+{
+    struct addrinfo hints, *found;
+    socklen_t len;
+    memset(&hints, 0, sizeof hints);
+    hints.ai_flags = AI_NUMERICHOST | AI_NUMERICSERV;
+    hints.ai_socktype = SOCK_STREAM;
+    if (getaddrinfo(address, port, &hints, &found) != 0)
+        end(2, word, "not an address");
+    len = found->ai_addrlen;
+    memcpy(out, found->ai_addr, len);
+    freeaddrinfo(found);
+    return len;
+}
+
+static void listen_at(const char *address, const char *port)
+{
+    struct sockaddr_storage at;
+    socklen_t len = resolve(address, address, port, &at);
+    int on = 1;
+    own_len = resolve(address, address, "0", &own);
+    listener = socket(at.ss_family, SOCK_STREAM, 0);
+    if (listener < 0 || !unblock(listener) || setsockopt(listener, SOL_SOCKET, SO_REUSEADDR, &on, sizeof on) != 0 ||
+        bind(listener, (struct sockaddr *)&at, len) != 0 || listen(listener, SOMAXCONN) != 0)
+        end(1, address, strerror(errno));
+}
+
+/* Makes the peer of a word PEER_AS@ADDRESS[#PORT], and its session. */
+static void add_peer(const char *word, const char *port, ristulva_config *config)
+{
+    struct peer *peer = &peers[peer_count];
+    char text[128] = "", *address, *its_port;
+    int timer;
+    strncat(text, word, sizeof text - 1);
+    if ((address = strchr(text, '@')) == NULL)
+        end(2, word, "not PEER_AS@ADDRESS");
+    *address++ = '\0';
+    if ((its_port = strchr(address, '#')) != NULL) {
+        *its_port++ = '\0';
+        number_of(word, its_port, 65535);
+    }
+    config->peer_as = (uint32_t)number_of(word, text, 4294967295);
+    peer->address_len = resolve(word, address, its_port == NULL ? port : its_port, &peer->address);
+    print_host(&peer->address, peer->address_len, peer->host);
+    if (peer_at(peer->host) != NULL)
+        end(2, word, "another peer has this address");
+    if (ristulva_session_new(config, &peer->session) != RISTULVA_OK)
+        end(1, word, "memory");
+    peer->name = word;
+    peer->fd = -1;
+    for (timer = 0; timer < TIMERS; timer++)
+        peer->due[timer] = NEVER;
+    peer_count++;
+}
+
+static void take_words(int argc, char **argv)
+{
+    ristulva_config config = {0, 0, {0}, 90, 1, 1, 1};
+    const char *address = NULL, *port = "179";
+    int option;
+    while ((option = getopt(argc, argv, "l:p:w:")) != -1) {
+        if (option == 'l')
+            address = optarg;
+        else if (option == 'p' && number_of(optarg, optarg, 65535) > 0)
+            port = optarg;
+        else if (option == 'w')
+            pause_seconds = number_of(optarg, optarg, 3600);
+        else
+            usage();
+    }
+    if (argc - optind < 3)
+        usage();
+    config.local_as = (uint32_t)number_of(argv[optind], argv[optind], 4294967295);
+    if (inet_pton(AF_INET, argv[++optind], config.id) != 1 || memcmp(config.id, "\0\0\0\0", 4) == 0)
+        end(2, argv[optind], "not an identifier as 192.0.2.1");
+    peers = calloc((size_t)argc, sizeof *peers);
+    if (peers == NULL)
+        end(1, "peers", "memory");
+    while (++optind < argc)
+        add_peer(argv[optind], port, &config);
+    if (address != NULL)
+        listen_at(address, port);
+}
+
+/* ---- the run ---- */
+
+static void on_signal(int number)
+{
+    int kept = errno;
+    (void)number;
+    if (write(wake[1], "", 1) < 0)
+        errno = kept;
+}
+
+/* Has a signal heard by poll. A second one ends the collector at once. */
+static void await_signals(void)
+{
+    struct sigaction action;
+    memset(&action, 0, sizeof action);
+    action.sa_handler = on_signal;
+    action.sa_flags = (int)SA_RESETHAND;
+    if (pipe(wake) != 0 || !unblock(wake[1]) || sigaction(SIGINT, &action, NULL) != 0 || sigaction(SIGTERM, &action, NULL) != 0)
+        end(1, "signals", strerror(errno));
+}
+
+static void stop(void)
+{
+    static const char *const states[] = {"", "Idle", "Connect", "Active", "OpenSent", "OpenConfirm", "Established"};
+    size_t i;
+    stopping = 1;
+    printf("%-32s %-11s %6s %9s %9s %9s %9s %9s\n", "peer", "state", "ups", "updates", "+ip4", "-ip4", "+ip6", "-ip6");
+    for (i = 0; i < peer_count; i++) {
+        struct peer *peer = &peers[i];
+        printf("%-32s %-11s %6llu %9llu %9llu %9llu %9llu %9llu\n", peer->name, states[state_of(peer)], peer->ups, peer->updates,
+               peer->announced[0], peer->withdrawn[0], peer->announced[1], peer->withdrawn[1]);
+    }
+    for (i = 0; i < peer_count; i++) {
+        peers[i].due[TIMER_AGAIN] = NEVER;
+        happens(&peers[i], RISTULVA_EVENT_STOP);
+    }
+}
+
+/* Waits until something happens to a socket or a timer runs out: at `until` at the latest. `polls` has the signals, the listener, and the
+ * peers. */
+static void wait_for(struct pollfd *polls, long long until)
+{
+    long long wait;
+    size_t i;
+    int timer;
+    for (i = 0; i < peer_count; i++) {
+        polls[i + 2].fd = peers[i].fd;
+        polls[i + 2].events = peers[i].connection == TRIED || peers[i].out_len > 0 ? POLLIN | POLLOUT : POLLIN;
+        for (timer = 0; timer < TIMERS; timer++)
+            until = peers[i].due[timer] < until ? peers[i].due[timer] : until;
+    }
+    wait = until - now();
+    if (poll(polls, peer_count + 2, wait < 0 ? 0 : wait > INT_MAX ? INT_MAX : (int)wait) < 0)
+        for (i = 0; i < peer_count + 2; i++)
+            polls[i].revents = 0;
+}
+
+/* Answers whether a connection is there. The listener comes last, so that what a peer's socket said is done before it has another. */
+static int do_turn(struct pollfd *polls)
+{
+    int timer, is_open = 0;
+    size_t i;
+    for (i = 0; i < peer_count; i++) {
+        serve(&peers[i], polls[i + 2].revents);
+        for (timer = 0; timer < TIMERS; timer++)
+            if (peers[i].due[timer] <= now())
+                expire(&peers[i], timer);
+        is_open |= peers[i].connection != NONE;
+    }
+    if (polls[1].revents != 0)
+        welcome();
+    return is_open;
+}
+
+int main(int argc, char **argv)
+{
+    struct pollfd *polls;
+    long long until = NEVER;
+    size_t i;
+    take_words(argc, argv);
+    await_signals();
+    srand((unsigned)(now() ^ getpid()));
+    polls = calloc(peer_count + 2, sizeof *polls);
+    if (polls == NULL)
+        end(1, "peers", "memory");
+    polls[0].fd = wake[0];
+    polls[1].fd = listener;
+    polls[0].events = polls[1].events = POLLIN;
+    for (i = 0; i < peer_count; i++)
+        happens(&peers[i], RISTULVA_EVENT_START);
+    do {
+        if (fflush(stdout) != 0)
+            end(1, "standard output", strerror(errno));
+        wait_for(polls, until);
+        if (polls[0].revents != 0 && !stopping) {
+            stop();
+            polls[0].fd = -1;
+            until = now() + FAREWELL;
+        }
+    } while ((do_turn(polls) || !stopping) && now() < until);
+    for (i = 0; i < peer_count; i++) {
+        drop(&peers[i]);
+        ristulva_session_free(&peers[i].session);
+    }
+    free(peers);
+    free(polls);
+    if (fflush(stdout) != 0)
+        end(1, "standard output", strerror(errno));
+    return 0;
+}
