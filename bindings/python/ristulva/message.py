@@ -195,7 +195,7 @@ def messages(octets, context):
         if message.verdict == "reset":
             return
         place += message.found.len
-        message = judge(octets[place:], context, place)
+        message = judge(octets[place : place + MESSAGE], context, place)
 
 
 def rewritten(call, body, context):
