@@ -2,15 +2,18 @@
 import ipaddress
 import pathlib
 import re
+import shutil
 import signal
 import socket
 import struct
 import subprocess
 import sys
+import tempfile
 import threading
 import time
 
 sys.path.insert(0, str(pathlib.Path(__file__).resolve().parent.parent.parent / "interop"))
+import daemons
 import messages
 
 # How long, in seconds, the collector has for each thing.
@@ -379,6 +382,33 @@ def has_six():
     return True
 
 
+def try_bird(made, report):
+    """BIRD, which the collector connects to, or which connects to the collector."""
+    routes4, routes6 = {"10.0.0.0/24", "10.0.1.0/24"}, {"2001:db8:1::/48"}
+    for connects in (False, True):
+        port = free_port()
+        with tempfile.TemporaryDirectory() as folder:
+            bird = daemons.Bird(folder, connects, port, routes4, routes6)
+            words = ["-l", daemons.OURS] if connects else []
+            collector = Collector(made, *words, "-p", port, daemons.OUR_AS, "192.0.2.2", name := f"{daemons.THEIR_AS}@{daemons.THEIRS}")
+            try:
+                bird.start()
+                wanted = {f"+ {route} path {daemons.THEIR_AS}" for route in routes4 | routes6}
+                for line in wanted:
+                    collector.wait_for(f"{name} {line}")
+                collector.interrupt(signal.SIGTERM)
+                errors, status = collector.end()
+                report(f"BIRD ends, connects: {connects}", status == 0, errors)
+                lines = [line for line in collector.of(name) if line[0] in "+-"]
+                report(f"BIRD's routes, connects: {connects}", sorted(lines) == sorted([*wanted, "- all"]), lines)
+                report(f"BIRD is told, connects: {connects}", bird.received() != [], bird.log.read_text()[-500:])
+            except (AssertionError, OSError) as error:
+                report(f"BIRD, connects: {connects}", False, f"{error!r} {collector.lines} {bird.log.read_text()[-500:]}")
+            finally:
+                bird.end()
+                collector.interrupt(signal.SIGKILL)
+
+
 def try_words(made, report):
     """Words that the collector refuses."""
     good = ["65000", "192.0.2.1", "65001@127.0.0.2"]
@@ -406,4 +436,6 @@ def try_all(made, number, report):
     if has_six():
         try_pair(made, ("::1", "::1"), report)
     try_late(made, report)
+    if shutil.which("bird"):
+        try_bird(made, report)
     try_words(made, report)
