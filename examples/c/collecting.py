@@ -54,6 +54,14 @@ class Collector:
     def interrupt(self, number):
         self.process.send_signal(number)
 
+    def is_there(self, seconds):
+        """Whether it runs for so long."""
+        try:
+            self.process.wait(seconds)
+        except subprocess.TimeoutExpired:
+            return True
+        return False
+
     def end(self):
         """What it printed on standard error, and its status."""
         try:
@@ -292,7 +300,7 @@ class Run:
         for peer in self.rows:
             self.report(f"{peer.name} is told that the collector ends", peer.notified()[0] == CEASE)
             self.lines[peer] += ["- all", "down sent 6/0"]
-            if peer is not self.narrow:
+            if peer is not self.faulty:
                 peer.connection.close()
         errors, status = self.collector.end()
         self.report("the collector ends", status == 0, errors)
@@ -366,6 +374,7 @@ def try_late(made, report):
         collector.wait_for(f"{late.name} {late.up()}")
         collector.interrupt(signal.SIGTERM)
         report("a late peer", late.notified()[0] == CEASE)
+        report("the collector ends its side, and waits", collector.is_there(0.2))
         late.close()
         errors, status = collector.end()
         rows = [line.split() for line in collector.lines[2:4]]
