@@ -2,15 +2,18 @@
 import ipaddress
 import pathlib
 import re
+import shutil
 import signal
 import socket
 import struct
 import subprocess
 import sys
+import tempfile
 import threading
 import time
 
 sys.path.insert(0, str(pathlib.Path(__file__).resolve().parent.parent.parent / "interop"))
+import daemons
 import messages
 
 # How long, in seconds, the collector has for each thing.
@@ -50,6 +53,14 @@ class Collector:
 
     def interrupt(self, number):
         self.process.send_signal(number)
+
+    def is_there(self, seconds):
+        """Whether it runs for so long."""
+        try:
+            self.process.wait(seconds)
+        except subprocess.TimeoutExpired:
+            return True
+        return False
 
     def end(self):
         """What it printed on standard error, and its status."""
@@ -188,7 +199,8 @@ class Run:
 
     def __init__(self, made, report):
         self.report, self.port = report, free_port()
-        self.one, self.two, self.faulty, self.going = Peer(65001, "127.0.0.2"), Peer(65002, "127.0.0.3"), Peer(65003, "127.0.0.4"), Peer(65004, "127.0.0.5")
+        self.one, self.two = Peer(65001, "127.0.0.2"), Peer(65002, "127.0.0.3")
+        self.faulty, self.going = Peer(65003, "127.0.0.4"), Peer(65004, "127.0.0.5")
         self.other, self.silent, self.narrow = Peer(65005, "127.0.0.6"), Peer(65006, "127.0.0.7", hold=3), Peer(65007, "127.0.0.8", hold=30)
         self.peers = [self.one, self.two, self.faulty, self.going, self.other, self.silent, self.narrow]
         self.going.listener.close()
@@ -288,11 +300,12 @@ class Run:
         for peer in self.rows:
             self.report(f"{peer.name} is told that the collector ends", peer.notified()[0] == CEASE)
             self.lines[peer] += ["- all", "down sent 6/0"]
-            if peer is not self.narrow:
+            if peer is not self.faulty:
                 peer.connection.close()
         errors, status = self.collector.end()
         self.report("the collector ends", status == 0, errors)
-        self.report("only connections that are refused are told of", errors and all(": Connection refused" in line for line in errors.splitlines()), errors)
+        is_usual = errors and all(line.endswith(": Connection refused") for line in errors.splitlines())
+        self.report("only connections that are refused are told of", is_usual, errors)
         self.faulty.listener.setblocking(False)
         try:
             self.report("no session is begun at the end", self.faulty.listener.accept() is None)
@@ -354,17 +367,19 @@ def try_late(made, report):
     collector = Collector(made, "-l", OWN, "-p", free_port(), OURS, OWN, *names)
     try:
         told = sorted(collector.process.stderr.readline().decode() for _ in names)
-        report("what isn't there", told == [f"collector: {name}: Connection refused\n" for name in names], told)
+        report("peers that aren't there", told == [f"collector: {name}: Connection refused\n" for name in names], told)
         late = Peer(65001, "127.0.0.2", port=port)
         late.accept()
         late.come_up()
         collector.wait_for(f"{late.name} {late.up()}")
         collector.interrupt(signal.SIGTERM)
         report("a late peer", late.notified()[0] == CEASE)
+        report("the collector ends its side, and waits", collector.is_there(0.2))
         late.close()
         errors, status = collector.end()
-        rows = [f"{names[0]:32} Established      1         0         0         0         0         0", f"{names[1]:32} Connect          0         0         0         0         0         0"]
-        report("a late peer's end", status == 0 and not errors and collector.lines[2:4] == rows, f"{errors} {collector.lines}")
+        rows = [line.split() for line in collector.lines[2:4]]
+        wanted = [[names[0], "Established", "1"] + ["0"] * 5, [names[1], "Connect", "0"] + ["0"] * 5]
+        report("a late peer's end", status == 0 and not errors and rows == wanted, f"{errors} {collector.lines}")
     except (AssertionError, OSError) as error:
         report("a late peer", False, f"{error!r}")
     finally:
@@ -379,23 +394,54 @@ def has_six():
     return True
 
 
+def try_bird(made, report):
+    """BIRD, which the collector connects to, or which connects to the collector."""
+    routes4, routes6 = {"10.0.0.0/24", "10.0.1.0/24"}, {"2001:db8:1::/48"}
+    for connects in (False, True):
+        port = free_port()
+        with tempfile.TemporaryDirectory() as folder:
+            bird = daemons.Bird(folder, connects, port, routes4, routes6)
+            words = ["-l", daemons.OURS] if connects else []
+            collector = Collector(made, *words, "-p", port, daemons.OUR_AS, "192.0.2.2", name := f"{daemons.THEIR_AS}@{daemons.THEIRS}")
+            try:
+                bird.start()
+                wanted = {f"+ {route} path {daemons.THEIR_AS}" for route in routes4 | routes6}
+                for line in wanted:
+                    collector.wait_for(f"{name} {line}")
+                collector.interrupt(signal.SIGTERM)
+                errors, status = collector.end()
+                report(f"BIRD ends, connects: {connects}", status == 0, errors)
+                lines = [line for line in collector.of(name) if line[0] in "+-"]
+                report(f"BIRD's routes, connects: {connects}", sorted(lines) == sorted([*wanted, "- all"]), lines)
+                report(f"BIRD is told, connects: {connects}", bird.received() != [], bird.log.read_text()[-500:])
+            except (AssertionError, OSError) as error:
+                report(f"BIRD, connects: {connects}", False, f"{error!r} {collector.lines} {bird.log.read_text()[-500:]}")
+            finally:
+                bird.end()
+                collector.interrupt(signal.SIGKILL)
+
+
 def try_words(made, report):
     """Words that the collector refuses."""
     good = ["65000", "192.0.2.1", "65001@127.0.0.2"]
+    number, host = "a number is out of its range", "not an address"
     for words, why in (
-        ([], "usage"), (good[:2], "usage"), (["-x", *good], "usage"), (["-l"], "usage"), (["-p", "0", *good], "0: a number"), (["-p", "65536", *good], "65536: a number"),
-        (["-p", "x", *good], "x: a number"), (["-w", "0", *good], "0: a number"), (["-l", "here", *good], "here: not an address"), (["0", *good[1:]], "0: a number"),
-        (["4294967296", *good[1:]], "4294967296: a number"), (["-1", *good[1:]], "usage"), ([good[0], "0.0.0.0", good[2]], "0.0.0.0: not an identifier"),
-        ([good[0], "192.0.2", good[2]], "192.0.2: not an identifier"), ([*good, "65001"], "65001: not PEER_AS@ADDRESS"), ([*good, "@127.0.0.3"], "@127.0.0.3: a number"),
-        ([*good, "65001x@127.0.0.3"], "a number"), ([*good, "65001@"], "65001@: not an address"), ([*good, "65001@127.0.0.3#"], "a number"),
-        ([*good, "65001@127.0.0.3#179x"], "a number"), ([*good, "65001@localhost"], "not an address"), ([*good, "65002@127.0.0.2"], "another peer has"),
-        ([*good, "1@" + "1" * 200], "not an address"),
+        ([], "usage"), (good[:2], "usage"), (["-x", *good], "usage"), (["-l"], "usage"), (["-1", *good[1:]], "usage"),
+        (["-p", "0", *good], f"0: {number}"), (["-p", "65536", *good], f"65536: {number}"), (["-p", "x", *good], f"x: {number}"),
+        (["-w", "0", *good], f"0: {number}"), (["-l", "here", *good], f"here: {host}"),
+        (["0", *good[1:]], f"0: {number}"), (["4294967296", *good[1:]], f"4294967296: {number}"),
+        ([good[0], "0.0.0.0", good[2]], "0.0.0.0: not an identifier"), ([good[0], "192.0.2", good[2]], "192.0.2: not an identifier"),
+        ([*good, "65001"], "65001: not PEER_AS@ADDRESS"), ([*good, "@127.0.0.3"], f"@127.0.0.3: {number}"),
+        ([*good, "65001x@127.0.0.3"], number), ([*good, "65001@"], f"65001@: {host}"), ([*good, "65001@localhost"], host),
+        ([*good, "65001@127.0.0.3#"], number), ([*good, "65001@127.0.0.3#179x"], number), ([*good, "65001@127.0.0.3#65536"], number),
+        ([*good, "65002@127.0.0.2"], "another peer has this address"), ([*good, "1@" + "1" * 200], host),
     ):
         done = subprocess.run([str(made), *words], capture_output=True, timeout=LIMIT, stdin=subprocess.DEVNULL)
         told = done.stderr.decode(errors="replace")
         report(f"the words {words}", done.returncode == 2 and not done.stdout and why in told, f"{done.returncode}, {told}")
     with socket.create_server((OWN, 0)) as taken:
-        done = subprocess.run([str(made), "-l", OWN, "-p", str(taken.getsockname()[1]), *good], capture_output=True, timeout=LIMIT)
+        words = ["-l", OWN, "-p", str(taken.getsockname()[1]), *good]
+        done = subprocess.run([str(made), *words], capture_output=True, timeout=LIMIT, stdin=subprocess.DEVNULL)
         report("an address that is taken", done.returncode == 1 and b"127.0.0.9: Address already in use" in done.stderr, done.stderr)
 
 
@@ -406,4 +452,6 @@ def try_all(made, number, report):
     if has_six():
         try_pair(made, ("::1", "::1"), report)
     try_late(made, report)
+    if shutil.which("bird"):
+        try_bird(made, report)
     try_words(made, report)

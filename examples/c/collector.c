@@ -145,12 +145,6 @@ static void print_prefixes(struct peer *peer, ristulva_prefixes cursor, int anno
     }
 }
 
-static void print_field(struct peer *peer, const ristulva_span *field, int announced)
-{
-    ristulva_prefixes cursor = {field->at, field->at + field->len, 1};
-    print_prefixes(peer, cursor, announced);
-}
-
 /* Whether both speakers offer the family: what they don't is discarded. */
 static int in_use(const struct peer *peer, const ristulva_prefixes *cursor)
 {
@@ -161,16 +155,17 @@ static int in_use(const struct peer *peer, const ristulva_prefixes *cursor)
 static void print_update(struct peer *peer, int announced)
 {
     const ristulva_parts *parts = &peer->heard.parts;
-    ristulva_prefixes cursor;
+    ristulva_prefixes withdrawn = {parts->withdrawn.at, parts->withdrawn.at + parts->withdrawn.len, 1};
+    ristulva_prefixes nlri = {parts->nlri.at, parts->nlri.at + parts->nlri.len, 1}, cursor;
     ristulva_span value, next_hop;
     peer->updates++;
-    print_field(peer, &parts->withdrawn, 0);
+    print_prefixes(peer, withdrawn, 0);
     if (find(peer, 15, &value) && ristulva_unreached(peer->in, peer->heard.len, &value, &cursor) == RISTULVA_OK && in_use(peer, &cursor))
         print_prefixes(peer, cursor, 0);
     if (find(peer, 14, &value) && ristulva_reached(peer->in, peer->heard.len, &value, &next_hop, &cursor) == RISTULVA_OK &&
         in_use(peer, &cursor))
         print_prefixes(peer, cursor, announced);
-    print_field(peer, &parts->nlri, announced);
+    print_prefixes(peer, nlri, announced);
 }
 
 /* ---- connections ---- */
