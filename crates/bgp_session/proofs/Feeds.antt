@@ -1,12 +1,12 @@
 -- A pair goes on by pulls as by the octets that they take.
-use Rattle.std.proofs.Common.{◌≡◌, ℕ, zero, suc, ◌<◌, ◌≤◌, List, [], ◌∷◌, ◌++◌, length, drop, Option, None, Some, refl, sym, ap, subst, ◌∙◌, arith}
+use Rattle.std.proofs.Common.{◌≡◌, ℕ, zero, suc, ◌<◌, List, [], ◌∷◌, drop, Option, None, Some, refl, sym, ap, subst, ◌∙◌, arith}
 use Rattle.arrayvec.specs.ArrayVec.{ArrayVec}
 use Rattle.bgp_wire.specs.Octets.{AreOctets}
 use Rattle.bgp_machine.specs.declared.action.Action.{Action}
 use Rattle.bgp_machine.specs.Cutting.{IsAtRest, Done, done_by, settled, by_octet, with_octet, behind, by_octets}
 use Rattle.bgp_machine.specs.Pulling.{IsPulled}
 use Rattle.bgp_machine.specs.Ready.{IsReady, left_to_do, weight}
-use Rattle.bgp_machine.specs.Session.{Machine, holding, judged, after_step}
+use Rattle.bgp_machine.specs.Session.{Machine, holding, judged}
 use Rattle.bgp_machine.specs.Standing.{listens}
 use Rattle.bgp_machine.specs.Table.{Step}
 use Rattle.bgp_machine.proofs.Cuttings.{done, waits_at}
