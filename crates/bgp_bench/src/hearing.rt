@@ -1,10 +1,12 @@
 //! A session that hears a stream.
 
+ghost use Rattle.std.specs.Prelude.{◌≤◌, length, IfSome};
+
 use crate::stream::PIECE;
 use arrayvec::ArrayVec;
 use bgp_attr::{MpReach, MpReachView, MpUnreach, MpUnreachView};
 use bgp_frame::head;
-use bgp_machine::{Action, ActionView, Actions, Event, Session};
+use bgp_machine::{Action, ActionView, ActionViews, Actions, Event, Session};
 use bgp_msg::Kind;
 use bgp_open::{Config, own_frame};
 use bgp_update::{Routes, Update, UpdateView};
@@ -155,20 +157,29 @@ fn hear_piece_into(
     Ok(())
 }
 
+/// Counts what is heard of a piece, by views, and lets the session go on. Answers how many octets that takes.
+#[inline(always)]
+fn view_next(session: &mut Session, piece: &[u8], heard: &mut Heard) -> Option<usize>
+    ensures { IfSome result (λ taken. taken ≤ length piece.now) }
+{
+    let mut view = UpdateView::empty();
+    let look = session.look(piece, &mut view)?;
+    let mut actions = ActionViews::new();
+    let next = look.act(&mut actions);
+    for action in actions.as_slice() {
+        heard.count_view(action);
+    }
+    let taken = look.taken();
+    session.go(next);
+    Some(taken)
+}
+
 /// Lets the session hear a piece, by views.
 fn hear_piece_by_views(session: &mut Session, piece: &[u8], heard: &mut Heard) {
     let mut rest = piece;
     for _turn in 0..u64::MAX {
-        let taken = match session.look(rest) {
-            Some(look) => {
-                for action in look.actions().as_slice() {
-                    heard.count_view(action);
-                }
-                let taken = look.taken();
-                let next = look.next();
-                session.go(next);
-                taken
-            }
+        let taken = match view_next(session, rest, heard) {
+            Some(taken) => taken,
             None => {
                 let fed = session.feed(rest);
                 if fed == 0 {

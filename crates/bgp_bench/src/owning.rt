@@ -2,6 +2,7 @@
 
 use crate::stream::{CONTEXT, PIECE};
 use bgp_msg::{Decoder, Look, OutcomeView};
+use bgp_update::UpdateView;
 use std::alloc::{AllocError, Global};
 use std::io;
 
@@ -43,6 +44,24 @@ impl Owned {
         Ok(())
     }
 
+    /// Owns what is held, or stands at the front of a piece. Answers how many octets of the piece that takes, and whether it is a reset.
+    fn own_next(
+        &mut self,
+        alloc: Global,
+        decoder: &Decoder,
+        piece: &[u8],
+    ) -> Result<Option<(usize, bool)>, AllocError> {
+        let mut place = UpdateView::empty();
+        match decoder.look(piece, &mut place) {
+            Look::Message(taken, _len, outcome) => {
+                self.own(alloc, &outcome)?;
+                Ok(Some((taken, outcome.is_reset())))
+            }
+            Look::Fault(taken, _fault) => Ok(Some((taken, true))),
+            Look::Feed => Ok(None),
+        }
+    }
+
     /// Takes what is held, or stands at the front of a piece. Answers how many octets of the piece that took, where there was something.
     fn step(
         &mut self,
@@ -50,19 +69,16 @@ impl Owned {
         decoder: &mut Decoder,
         piece: &[u8],
     ) -> Result<Option<usize>, AllocError> {
-        let (taken, resets) = match decoder.look(piece) {
-            Look::Message(taken, _len, outcome) => {
-                self.own(alloc, &outcome)?;
-                (taken, outcome.is_reset())
+        match self.own_next(alloc, decoder, piece)? {
+            Some((taken, resets)) => {
+                decoder.go(resets);
+                Ok(Some(taken))
             }
-            Look::Fault(taken, _fault) => (taken, true),
-            Look::Feed => match decoder.feed(piece) {
-                0 => return Ok(None),
-                taken => return Ok(Some(taken)),
+            None => match decoder.feed(piece) {
+                0 => Ok(None),
+                taken => Ok(Some(taken)),
             },
-        };
-        decoder.go(resets);
-        Ok(Some(taken))
+        }
     }
 }
 

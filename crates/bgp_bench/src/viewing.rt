@@ -2,6 +2,7 @@
 
 use crate::stream::CONTEXT;
 use bgp_msg::{OutcomeView, Step, front, view_frame};
+use bgp_update::UpdateView;
 use std::io;
 
 /// How many messages had each kind of outcome, and their octets.
@@ -44,13 +45,14 @@ fn view(octets: &[u8]) -> Viewed {
         resets: 0,
         octets: 0,
     };
+    let mut place = UpdateView::empty();
     let mut rest = octets;
     for _turn in 0..u64::MAX {
         let Step::Frame(frame) = front(rest) else {
             break;
         };
         let len = frame.len;
-        let goes_on = viewed.add(len, &view_frame(&CONTEXT, frame));
+        let goes_on = viewed.add(len, &view_frame(&CONTEXT, frame, &mut place));
         match rest.get(len as usize..) {
             Some(behind) if goes_on => rest = behind,
             _ => break,

@@ -14,6 +14,7 @@ use bgp_frame::{Frame, HeadFault};
 use bgp_msg::view_frame;
 use bgp_open::Context;
 use bgp_text::put_end;
+use bgp_update::UpdateView;
 use std::alloc::{AllocError, Global};
 use std::io::{Read, Write};
 
@@ -60,7 +61,8 @@ impl Page for CheckPage {
     }
 
     fn message(&mut self, _place: u64, frame: Frame<'_>) -> Result<Class, AllocError> {
-        Ok(class_of(&view_frame(&self.ctx, frame)))
+        let mut view = UpdateView::empty();
+        Ok(class_of(&view_frame(&self.ctx, frame, &mut view)))
     }
 
     fn fault(&mut self, _place: u64, _fault: HeadFault) -> Result<(), AllocError> {

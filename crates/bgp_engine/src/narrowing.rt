@@ -90,8 +90,9 @@ fn put_told(
     ensures { IfOk result (λ class. WritesNarrow octets.old.items octets.new.items (narrowed_outcome ctx.now (record { kind = frame.entry.kind; body = frame.entry.body.now }) (out_of ctx.now (record { kind = frame.entry.kind; body = frame.entry.body.now }))) class) }
 {
     are_octets(frame.body);
-    match view_frame(ctx, frame) {
-        OutcomeView::Update(view) => put_view(alloc, ctx, octets, &view),
+    let mut place = UpdateView::empty();
+    match view_frame(ctx, frame, &mut place) {
+        OutcomeView::Update(view) => put_view(alloc, ctx, octets, view),
         OutcomeView::Withdraw(_) | OutcomeView::Reset(_) => Ok(Class::Reset),
         OutcomeView::Open(_) | OutcomeView::Notification(_) | OutcomeView::Keepalive => {
             put_frame(octets, frame)?;

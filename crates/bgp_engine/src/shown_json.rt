@@ -17,6 +17,7 @@ use bgp_frame::{Frame, HeadFault, NotificationView};
 use bgp_msg::{OutcomeView, view_frame};
 use bgp_open::Context;
 use bgp_text::{put_end_json, put_viewed_json};
+use bgp_update::UpdateView;
 use std::alloc::{AllocError, Global};
 use std::io::{Read, Write};
 
@@ -32,7 +33,8 @@ fn put_frame(
     ensures { IfOk result (λ class. WritesJson (string_bytes text.old) (string_bytes text.new) place frame.entry.len (out_of ctx.now (record { kind = frame.entry.kind; body = frame.entry.body.now })) class) }
 {
     let len = frame.len;
-    let outcome = view_frame(ctx, frame);
+    let mut view = UpdateView::empty();
+    let outcome = view_frame(ctx, frame, &mut view);
     put_viewed_json(alloc, text, place, len, &outcome)?;
     Ok(class_of(&outcome))
 }

@@ -13,6 +13,7 @@ use bgp_open::Context;
 use bgp_script::{put_cut, put_event, put_heard, put_move, put_tried, side_name};
 use bgp_session::{Action, Event, Move, Observer, SendFault, Side, State};
 use bgp_text::{put_outcome, put_viewed_outcome};
+use bgp_update::UpdateView;
 use std::alloc::{AllocError, Global};
 use std::marker::Model;
 
@@ -118,7 +119,8 @@ fn put_frame(
     ensures { OnOk result (string_bytes text.new ≡ string_bytes text.old ++ message_lines side ctx.now place frame.entry.len (record { kind = frame.entry.kind; body = frame.entry.body.now })) }
 {
     let len = frame.len;
-    let outcome = view_frame(ctx, frame);
+    let mut view = UpdateView::empty();
+    let outcome = view_frame(ctx, frame, &mut view);
     put_side(text, side)?;
     put_viewed_outcome(alloc, text, place, len, &outcome)
 }

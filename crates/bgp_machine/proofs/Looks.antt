@@ -107,9 +107,6 @@ deaf_feeds old piece deaf n new fed = deaf_feed old piece n new deaf fed
 
 -- ---- as the code has them
 
-pub looked_was : {n : ℕ} {x y : Standing} {h : Heard} → y ≡ x → looked n y h ≡ looked n x h
-looked_was {n = n} {h = h} is = ap (λ (z : Standing). looked n z h) is
-
 pub looked_as : (old : Machine) (piece : List ℕ) (found l : Looked) (here : Machine) → here ≡ old → found ≡ l → Finds here piece l → Finds old piece found
 looked_as old piece found l here is same finds = subst (λ (o : Machine). Finds o piece found) is (subst (λ (f : Looked). Finds here piece f) (sym same) finds)
 

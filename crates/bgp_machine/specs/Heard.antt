@@ -30,8 +30,8 @@ use Rattle.bgp_machine.specs.Table.{Step, accepted, go, hears, hold_on, leave, r
 abbrev pub on_heard : Standing → Heard → Step
 on_heard x (heard.Open v ctx) = accepted x (said_by (open_value v)) ctx
 on_heard x heard.Keepalive = go x (hold_on x.context) Established
-on_heard x (heard.Update v) = go x (Announce (onward_of (update_value v)) (rebuilt (update_value v).attrs) ∷ hold_on x.context) Established
-on_heard x (heard.Withdraw v) = go x (Withdraw (routes_value v) ∷ hold_on x.context) Established
+on_heard x (heard.Update v) = go x (Announce (onward_of (update_value v.now)) (rebuilt (update_value v.now).attrs) ∷ hold_on x.context) Established
+on_heard x (heard.Withdraw v) = go x (Withdraw (routes_value v.now) ∷ hold_on x.context) Established
 on_heard x (heard.Notification n) = leave x (Close ∷ [])
 on_heard x (heard.Reset n) = reset x (notification_of_view n)
 on_heard x (heard.Refused n) = reset x (short_value n)
@@ -56,8 +56,8 @@ has_routes _ = false
 
 -- the views are those of a verdict
 abbrev pub SaysVerdict : Verdict → Heard → Type 0
-SaysVerdict says (heard.Update v) = says ≡ verdict.Take (update_value v) (notes_value v)
-SaysVerdict says (heard.Withdraw v) = says ≡ verdict.Withdraw (routes_value v) (notes_value v)
+SaysVerdict says (heard.Update v) = says ≡ verdict.Take (update_value v.now) (notes_value v.now)
+SaysVerdict says (heard.Withdraw v) = says ≡ verdict.Withdraw (routes_value v.now) (notes_value v.now)
 SaysVerdict says (heard.Reset n) = says ≡ verdict.Reset (notification_of_view n)
 SaysVerdict says _ = ⊥
 

@@ -35,3 +35,8 @@ pub record Finds (old : Machine) (piece : List ℕ) (l : Looked) : Type 0 where
 abbrev pub IsLook : Machine → List ℕ → Option Looked → Type 0
 IsLook old piece (Some l) = Finds old piece l
 IsLook old piece None = (n : ℕ) (new : Machine) → IsFed old piece n new → IsPulled old piece n None new
+
+-- the same, where what is to be done stands in a set: nothing, where nothing is heard
+abbrev pub IsOwnLook : Machine → List ℕ → Option (ℕ × Standing) → ArrayVec Action → Type 0
+IsOwnLook old piece (Some (n, next)) actions = (IsPulled old piece n (Some actions) (gone old next)) × (n ≤ length piece)
+IsOwnLook old piece None actions = ((n : ℕ) (new : Machine) → IsFed old piece n new → IsPulled old piece n None new) × (actions.items ≡ [])

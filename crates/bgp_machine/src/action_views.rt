@@ -128,12 +128,19 @@ impl<'a> ActionViews<'a> {
     ghost use Rattle.std.specs.List.{list_any};
 
     /// Nothing is to be done.
-    pub(crate) fn new() -> ActionViews<'a>
+    pub fn new() -> ActionViews<'a>
         ensures { result ≡ [] }
     {
         ActionViews {
             list: ArrayVec::new(),
         }
+    }
+
+    /// Nothing is to be done any more.
+    pub(crate) fn clear(&mut self)
+        ensures { self.new ≡ [] }
+    {
+        self.list.clear();
     }
 
     /// This too is to be done.

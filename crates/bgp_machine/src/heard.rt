@@ -5,6 +5,7 @@ use bgp_open::{Context, OpenView};
 use bgp_update::UpdateView;
 
 /// A message, or a header with a fault, as a session hears it where the connection stands: some words that point into its octets.
+/// The view of an UPDATE stands in a place of the caller's.
 #[derive(Clone, Copy, Debug)]
 pub enum Heard<'a> {
     /// The peer's OPEN, where it is accepted, and what both agree on.
@@ -12,9 +13,9 @@ pub enum Heard<'a> {
     /// A KEEPALIVE.
     Keepalive,
     /// An UPDATE that is accepted, with notes on attributes that are discarded.
-    Update(UpdateView<'a>),
+    Update(&'a UpdateView<'a>),
     /// An UPDATE that is treated as a withdrawal of its routes (RFC 7606, section 2), with notes on why.
-    Withdraw(UpdateView<'a>),
+    Withdraw(&'a UpdateView<'a>),
     /// The NOTIFICATION by which the peer ends the session.
     Notification(NotificationView<'a>),
     /// A message whose body has a fault, or an OPEN of a peer that isn't accepted: the session ends with this NOTIFICATION.

@@ -20,7 +20,7 @@ use bgp_frame::{Frame, HeadFault, Kind, NotificationView, ShortNotification};
 use bgp_msg::notification_in;
 use bgp_numbers::error;
 use bgp_open::{Config, Context, OpenFault, agree_with, view_open};
-use bgp_update::{Found, judge_update};
+use bgp_update::{Found, UpdateView};
 
 /// The NOTIFICATION of a message whose type doesn't belong in the state: its information is the type (RFC 6608, section 3).
 fn unexpected(subcode: u8, kind: Kind) -> ShortNotification
@@ -97,23 +97,31 @@ fn hear_in_open_confirm<'a>(frame: Frame<'a>) -> Heard<'a>
 
 /// An UPDATE in Established.
 #[inline(always)]
-fn hear_update<'a>(context: &Context, body: &'a [u8]) -> Heard<'a>
+fn hear_update<'b, 'a>(
+    context: &Context,
+    body: &'a [u8],
+    place: &'b mut UpdateView<'a>,
+) -> Heard<'b>
     requires { length body.now ≤ 4077 }
     ensures does { (x : Standing) → on_heard x result ≡ on_verdict x (verdict_of context.now body.entry.now) }
     ensures suits { suits state.Established result ≡ true }
     ensures said { SaysVerdict (verdict_of context.now body.entry.now) result }
     ensures value { has_routes result ≡ true → has_value (verdict_of context.now body.entry.now) ≡ true }
 {
-    match judge_update(context, body) {
-        Found::Take(view) => Heard::Update(view),
-        Found::Withdraw(view) => Heard::Withdraw(view),
+    match place.judge(context, body) {
+        Found::Take => Heard::Update(place),
+        Found::Withdraw => Heard::Withdraw(place),
         Found::Reset(why) => Heard::Reset(why),
     }
 }
 
 /// A message in Established.
 #[inline(always)]
-fn hear_in_established<'a>(context: &Context, frame: Frame<'a>) -> Heard<'a>
+fn hear_in_established<'b, 'a>(
+    context: &Context,
+    frame: Frame<'a>,
+    place: &'b mut UpdateView<'a>,
+) -> Heard<'b>
     requires { IsLength frame.kind (19 + length frame.body.now) }
     ensures does { (s : Settings) (x : Standing) → x.context ≡ Some context.now → on_heard x result ≡ on_message s x state.Established frame.entry.kind frame.entry.body.now }
     ensures suits { suits state.Established result ≡ true }
@@ -122,7 +130,7 @@ fn hear_in_established<'a>(context: &Context, frame: Frame<'a>) -> Heard<'a>
     ensures value { has_routes result ≡ true → has_value (verdict_of context.now frame.entry.body.now) ≡ true }
 {
     match frame.kind {
-        Kind::Update => hear_update(context, frame.body),
+        Kind::Update => hear_update(context, frame.body, place),
         Kind::Keepalive => Heard::Keepalive,
         Kind::Notification => Heard::Notification(notification_in(frame.body)),
         Kind::Open => { Heard::Refused(unexpected(error::UNEXPECTED_IN_ESTABLISHED, Kind::Open)) }
@@ -130,16 +138,21 @@ fn hear_in_established<'a>(context: &Context, frame: Frame<'a>) -> Heard<'a>
 }
 
 impl Standing {
-    /// What a whole message comes to: nothing before the connection stands.
+    /// What a whole message comes to: nothing before the connection stands. The view of an UPDATE goes into the place.
     #[inline(always)]
-    pub(crate) fn hear<'a>(&self, config: &Config, frame: Frame<'a>) -> Option<Heard<'a>>
+    pub(crate) fn hear<'b, 'a>(
+        &self,
+        config: &Config,
+        frame: Frame<'a>,
+        place: &'b mut UpdateView<'a>,
+    ) -> Option<Heard<'b>>
         requires { IsLength frame.kind (19 + length frame.body.now) }
         ensures { IsHeardOf config.now self.now (record { kind = frame.entry.kind; body = frame.entry.body.now }) result }
     {
         match &self.phase {
             Phase::OpenSent => Some(hear_in_open_sent(config, frame)),
             Phase::OpenConfirm(_, _) => Some(hear_in_open_confirm(frame)),
-            Phase::Established(context, _) => Some(hear_in_established(context, frame)),
+            Phase::Established(context, _) => Some(hear_in_established(context, frame, place)),
             Phase::Idle | Phase::Connect | Phase::Active => None,
         }
     }

@@ -26,7 +26,7 @@ impl Model for Next {
 #[derive(Debug, Drop)]
 pub struct Look<'a> {
     taken: usize,
-    was: Standing,
+    was: &'a Standing,
     heard: Heard<'a>,
 }
 
@@ -37,19 +37,19 @@ impl<'a> Model for Look<'a> {
 
     ghost Value = { Looked };
 
-    ghost view = { λ l. record { taken = l.taken; was = l.was; heard = l.heard } };
+    ghost view = { λ l. record { taken = l.taken; was = l.was.now; heard = l.heard } };
 
-    ghost invariant = { λ l. suits l.was.state l.heard ≡ true };
+    ghost invariant = { λ l. suits l.was.now.state l.heard ≡ true };
 }
 
 impl<'a> Look<'a> {
-    ghost use Rattle.std.specs.Prelude.{◌≡◌, true, [], IfErr, OnOk, OnErr};
+    ghost use Rattle.std.specs.Prelude.{◌≡◌, true, [], IfOk, OnOk, OnErr};
     ghost use Rattle.bgp_machine.specs.Heard.{has_routes, on_heard, suits};
 
     /// What was heard.
-    pub(crate) fn new(taken: usize, was: Standing, heard: Heard<'a>) -> Look<'a>
-        requires { suits was.state heard ≡ true }
-        ensures { result ≡ record { taken = taken; was = was; heard = heard.entry } }
+    pub(crate) fn new(taken: usize, was: &'a Standing, heard: Heard<'a>) -> Look<'a>
+        requires { suits was.now.state heard ≡ true }
+        ensures { result ≡ record { taken = taken; was = was.now; heard = heard.entry } }
     {
         Look { taken, was, heard }
     }
@@ -68,35 +68,30 @@ impl<'a> Look<'a> {
         &self.heard
     }
 
-    /// What is to be done, in order.
-    pub fn actions(&'a self) -> ActionViews<'a>
-        ensures { result ≡ (on_heard self.now.was self.now.heard).actions }
+    /// What is to be done, in order: it goes into a list, and what was there before is gone. Answers where the session goes on.
+    pub fn act(&'a self, actions: &mut ActionViews<'a>) -> Next
+        ensures actions { actions.new ≡ (on_heard self.now.was self.now.heard).actions }
+        ensures next { result ≡ (on_heard self.now.was self.now.heard).next }
     {
         let mut standing = self.was.copy();
-        let mut actions = ActionViews::new();
-        standing.act(&self.heard, &mut actions);
-        actions
-    }
-
-    /// Where the session goes on.
-    pub fn next(&self) -> Next
-        ensures { result ≡ (on_heard self.now.was self.now.heard).next }
-    {
-        let mut standing = self.was.copy();
-        let mut actions = ActionViews::new();
-        standing.act(&self.heard, &mut actions);
+        actions.clear();
+        standing.act(&self.heard, actions);
         Next { standing }
     }
 
-    /// Puts what is to be done into a set, each action with memory of its own; what was in it before is gone.
+    /// Puts what is to be done into a set, each action with memory of its own; what was in it before is gone. Answers where the session goes on.
     ///
     /// # Errors
     /// `AllocError` where an allocation failed: only for an UPDATE that doesn't end the session. The set is empty then.
-    pub fn own(&self, alloc: Global, actions: &mut Actions) -> Result<(), AllocError>
+    pub fn own(&self, alloc: Global, actions: &mut Actions) -> Result<Next, AllocError>
         ensures ok { OnOk result (actions.new.items ≡ (on_heard self.now.was self.now.heard).actions) }
+        ensures next { IfOk result (λ next. next ≡ (on_heard self.now.was self.now.heard).next) }
         ensures err { OnErr result (actions.new.items ≡ []) }
         ensures memory { OnErr result (has_routes self.now.heard ≡ true) }
     {
-        self.actions().own(alloc, actions)
+        let mut views = ActionViews::new();
+        let next = self.act(&mut views);
+        views.own(alloc, actions)?;
+        Ok(next)
     }
 }

@@ -19,6 +19,7 @@ use crate::timer::Timer;
 use arrayvec::ArrayVec;
 use bgp_frame::{Framer, Step, front};
 use bgp_open::{Config, Context, Peer, own_frame};
+use bgp_update::UpdateView;
 use std::marker::Model;
 
 /// One speaker's end of one connection (RFC 4271, section 8). It does no IO and knows no time: its owner tells it what happens and feeds it
@@ -143,14 +144,20 @@ impl Session {
 
     /// What a pull from a piece would do, without memory and without a change: none where it would feed the piece. Who goes on behind it does what
     /// it says, and calls [`go`](Session::go) with where it leads, before the octets of the piece that it takes are passed.
+    ///
+    /// The view of an UPDATE goes into a place, whatever was there before: start with [`UpdateView::empty`].
     #[inline(always)]
-    pub fn look<'a>(&'a self, piece: &'a [u8]) -> Option<Look<'a>>
+    pub fn look<'b, 'a>(
+        &'a self,
+        piece: &'a [u8],
+        place: &'b mut UpdateView<'a>,
+    ) -> Option<Look<'b>>
         ensures { IsLook self.now piece.entry.now result }
     {
         if self.framer.held() == 0 {
-            self.look_front(piece)
+            self.look_front(piece, place)
         } else {
-            self.look_held(piece)
+            self.look_held(piece, place)
         }
     }
 
@@ -164,7 +171,11 @@ impl Session {
 
     /// What stands at the front of a piece, where nothing is held.
     #[inline(always)]
-    fn look_front<'a>(&self, piece: &'a [u8]) -> Option<Look<'a>>
+    fn look_front<'b, 'a>(
+        &'a self,
+        piece: &'a [u8],
+        place: &'b mut UpdateView<'a>,
+    ) -> Option<Look<'b>>
         requires { self.now.held ≡ [] }
         ensures { IsLook self.now piece.entry.now result }
     {
@@ -172,31 +183,35 @@ impl Session {
             Step::More => None,
             Step::Frame(frame) => {
                 let len = frame.len;
-                let heard = self.standing.hear(&self.config, frame)?;
-                Some(Look::new(len as usize, self.standing.copy(), heard))
+                let heard = self.standing.hear(&self.config, frame, place)?;
+                Some(Look::new(len as usize, &self.standing, heard))
             }
             Step::Fault(fault) => {
                 let heard = self.standing.hear_fault(fault)?;
-                Some(Look::new(19, self.standing.copy(), heard))
+                Some(Look::new(19, &self.standing, heard))
             }
         }
     }
 
     /// What is held, where octets are.
     #[inline(never)]
-    pub(crate) fn look_held<'a>(&'a self, piece: &[u8]) -> Option<Look<'a>>
+    pub(crate) fn look_held<'b, 'a>(
+        &'a self,
+        piece: &[u8],
+        place: &'b mut UpdateView<'a>,
+    ) -> Option<Look<'b>>
         requires { 0 < length self.now.held }
         ensures { IsLook self.now piece.now result }
     {
         match self.framer.step() {
             Step::More => None,
             Step::Frame(frame) => {
-                let heard = self.standing.hear(&self.config, frame)?;
-                Some(Look::new(0, self.standing.copy(), heard))
+                let heard = self.standing.hear(&self.config, frame, place)?;
+                Some(Look::new(0, &self.standing, heard))
             }
             Step::Fault(fault) => {
                 let heard = self.standing.hear_fault(fault)?;
-                Some(Look::new(0, self.standing.copy(), heard))
+                Some(Look::new(0, &self.standing, heard))
             }
         }
     }

@@ -2,12 +2,15 @@
 
 ghost use Rattle.std.specs.Prelude.{◌≡◌, ◌⊎◌, [], false, true, IfOk, OnOk, OnErr};
 ghost use Rattle.bgp_machine.specs.Cutting.{RestsUnless, RestsBehind};
+ghost use Rattle.bgp_machine.specs.Look.{IsOwnLook};
 ghost use Rattle.bgp_machine.specs.Session.{IsJudged, HeldTakesMemory};
 ghost use Rattle.bgp_machine.specs.Pulling.{IsPulled, IsFedAndStepped, FrontTakesMemory, where_found};
 
 use crate::action::Actions;
+use crate::look::Next;
 use crate::session::Session;
 use arrayvec::ArrayVec;
+use bgp_update::UpdateView;
 use std::alloc::{AllocError, Global};
 
 impl Session {
@@ -23,13 +26,11 @@ impl Session {
         ensures err { OnErr result (self.new ≡ self.old) }
         ensures memory { OnErr result (HeldTakesMemory self.old) }
     {
-        let Some(look) = self.look(&[]) else {
+        let mut actions = ArrayVec::new();
+        let Some((_taken, next)) = self.own_look(alloc, &[], &mut actions)? else {
             let _waiting = self.held();
             return Ok(None);
         };
-        let mut actions = ArrayVec::new();
-        look.own(alloc, &mut actions)?;
-        let next = look.next();
         self.go(next);
         Ok(Some(actions))
     }
@@ -84,14 +85,35 @@ impl Session {
         ensures err { OnErr result (self.new ≡ self.old) }
         ensures memory { OnErr result (HeldTakesMemory self.old ⊎ FrontTakesMemory self.old piece.now) }
     {
-        let Some(look) = self.look(piece) else {
-            actions.clear();
+        let Some((taken, next)) = self.own_look(alloc, piece, actions)? else {
             return Ok((self.feed(piece), false));
         };
-        look.own(alloc, actions)?;
-        let taken = look.taken();
-        let next = look.next();
         self.go(next);
         Ok((taken, true))
+    }
+
+    /// What [`look`](Session::look) finds: what is to be done goes into a set, with memory of its own. Answers how many octets of the piece are
+    /// taken, and where the session goes on; none where the piece is to be fed, and nothing is to be done then.
+    fn own_look(
+        &self,
+        alloc: Global,
+        piece: &[u8],
+        actions: &mut Actions,
+    ) -> Result<Option<(usize, Next)>, AllocError>
+        ensures ok { IfOk result (λ found. IsOwnLook self.now piece.now found actions.new) }
+        ensures empty { OnErr result (actions.new.items ≡ []) }
+        ensures memory { OnErr result (HeldTakesMemory self.now ⊎ FrontTakesMemory self.now piece.now) }
+    {
+        let mut place = UpdateView::empty();
+        match self.look(piece, &mut place) {
+            None => {
+                actions.clear();
+                Ok(None)
+            }
+            Some(look) => {
+                let next = look.own(alloc, actions)?;
+                Ok(Some((look.taken(), next)))
+            }
+        }
     }
 }

@@ -1,7 +1,8 @@
 -- What a look at a decoder and a piece finds.
-use Rattle.std.specs.Prelude.{ℕ, Bool, List, [], None, Some}
+use Rattle.std.specs.Prelude.{ℕ, Bool, List, [], Option, None, Some}
 use Rattle.bgp_msg.specs.declared.look.Look.{Look}
 use Rattle.bgp_msg.specs.declared.look.Look.TheVariants as look
+use Rattle.bgp_msg.specs.declared.outcome.Outcome.{Outcome}
 use Rattle.bgp_msg.specs.Outcome.{of_fault}
 use Rattle.bgp_msg.specs.OutcomeView.{outcome_value}
 use Rattle.bgp_msg.specs.Decoder.{Decoding, behind, IsFed, IsPulled}
@@ -16,3 +17,8 @@ abbrev pub IsLook : Decoding → List ℕ → Look → Type 0
 IsLook d piece (look.Message n k v) = IsPulled d piece n (Some (k, outcome_value v)) (behind d (outcome_value v))
 IsLook d piece (look.Fault n f) = IsPulled d piece n (Some (0, of_fault f)) (behind d (of_fault f))
 IsLook d piece look.Feed = (n : ℕ) (new : Decoding) → IsFed d piece n new → IsPulled d piece n None new
+
+-- the same with memory of its own, the header with a fault as a message of no octets
+abbrev pub IsOwnLook : Decoding → List ℕ → Option (ℕ × ℕ × Outcome) → Type 0
+IsOwnLook d piece (Some (n, k, o)) = IsPulled d piece n (Some (k, o)) (behind d o)
+IsOwnLook d piece None = (n : ℕ) (new : Decoding) → IsFed d piece n new → IsPulled d piece n None new

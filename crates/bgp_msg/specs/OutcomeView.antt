@@ -11,10 +11,10 @@ use Rattle.bgp_msg.specs.declared.outcome_view.OutcomeView.TheVariants as view
 
 abbrev pub outcome_value : OutcomeView → Outcome
 outcome_value (view.Open v) = outcome.Took (message.Open (open_value v)) []
-outcome_value (view.Update v) = outcome.Took (message.Update (update_value v)) (notes_value v)
+outcome_value (view.Update v) = outcome.Took (message.Update (update_value v.now)) (notes_value v.now)
 outcome_value (view.Notification n) = outcome.Took (message.Notification (notification_of_view n)) []
 outcome_value view.Keepalive = outcome.Took message.Keepalive []
-outcome_value (view.Withdraw v) = outcome.Withdraw (routes_value v) (notes_value v)
+outcome_value (view.Withdraw v) = outcome.Withdraw (routes_value v.now) (notes_value v.now)
 outcome_value (view.Reset n) = outcome.Reset (notification_of_view n)
 
 -- its value needs memory of its own: an OPEN's capabilities, an UPDATE's routes, attributes and notes

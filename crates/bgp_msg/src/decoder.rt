@@ -3,7 +3,7 @@
 ghost use Rattle.std.specs.Prelude.{◌≡◌, ◌<◌, ◌≤◌, ◌⊎◌, true, false, [], Some, length, IfOk, OnErr};
 ghost use Rattle.bgp_msg.specs.Decoder.{fresh, behind, IsFed, IsNext, TakesMemory, IsPulled, IsFedAndNext, FrontTakesMemory};
 ghost use Rattle.bgp_msg.specs.Early.{IsEarly};
-ghost use Rattle.bgp_msg.specs.Look.{IsLook, gone};
+ghost use Rattle.bgp_msg.specs.Look.{IsLook, IsOwnLook, gone};
 ghost use Rattle.bgp_msg.specs.OutcomeView.{outcome_value, has_lists};
 
 use crate::early::Early;
@@ -14,6 +14,7 @@ use crate::outcome_view::OutcomeView;
 use crate::taking::{out_frame, view_frame};
 use bgp_frame::{Framer, Step, front};
 use bgp_open::Context;
+use bgp_update::UpdateView;
 use std::alloc::{AllocError, Global};
 use std::marker::Model;
 
@@ -128,7 +129,8 @@ impl Decoder {
         ensures err { OnErr result (self.new ≡ self.old) }
         ensures memory { OnErr result (TakesMemory self.old ⊎ FrontTakesMemory self.old piece.now) }
     {
-        match self.early(alloc, piece)? {
+        let mut place = UpdateView::empty();
+        match self.early(alloc, piece, &mut place)? {
             Early::Update(len, update, notes) => Ok((
                 len as usize,
                 Some((len, Outcome::Took(Message::Update(update), notes))),
@@ -139,16 +141,18 @@ impl Decoder {
 
     /// What [`pull`](Decoder::pull) would give for a piece, as a view, without memory and without a change. Who goes on behind it consumes as many
     /// octets of the piece as it says, and calls [`go`](Decoder::go); where it gives `Feed`, who goes on calls [`feed`](Decoder::feed).
-    pub fn look<'a>(&'a self, piece: &'a [u8]) -> Look<'a>
+    ///
+    /// The view of an UPDATE goes into a place, whatever was there before.
+    pub fn look<'b, 'a>(&'a self, piece: &'a [u8], place: &'b mut UpdateView<'a>) -> Look<'b>
         ensures { IsLook self.now piece.entry.now result }
     {
         if self.stopped {
             return Look::Feed;
         }
         if self.framer.held() == 0 {
-            return self.look_front(piece);
+            return self.look_front(piece, place);
         }
-        self.look_held(piece)
+        self.look_held(piece, place)
     }
 
     /// Goes on behind a message or a faulty header that [`look`](Decoder::look) gave: nothing is held any more, and the decoder stops where that
@@ -161,7 +165,7 @@ impl Decoder {
     }
 
     /// What stands at the front of a piece, where nothing is held.
-    fn look_front<'a>(&self, piece: &'a [u8]) -> Look<'a>
+    fn look_front<'b, 'a>(&self, piece: &'a [u8], place: &'b mut UpdateView<'a>) -> Look<'b>
         requires going { self.now.stopped ≡ false }
         requires none_held { self.now.held ≡ [] }
         ensures { IsLook self.now piece.entry.now result }
@@ -170,14 +174,14 @@ impl Decoder {
             Step::More => Look::Feed,
             Step::Frame(frame) => {
                 let len = frame.len;
-                Look::Message(len as usize, len, view_frame(&self.ctx, frame))
+                Look::Message(len as usize, len, view_frame(&self.ctx, frame, place))
             }
             Step::Fault(fault) => Look::Fault(19, fault),
         }
     }
 
     /// What is held, where octets are.
-    fn look_held<'a>(&'a self, piece: &[u8]) -> Look<'a>
+    fn look_held<'b, 'a>(&'a self, piece: &[u8], place: &'b mut UpdateView<'a>) -> Look<'b>
         requires going { self.now.stopped ≡ false }
         requires some_held { 0 < length self.now.held }
         ensures { IsLook self.now piece.now result }
@@ -186,14 +190,19 @@ impl Decoder {
             Step::More => Look::Feed,
             Step::Frame(frame) => {
                 let len = frame.len;
-                Look::Message(0, len, view_frame(&self.ctx, frame))
+                Look::Message(0, len, view_frame(&self.ctx, frame, place))
             }
             Step::Fault(fault) => Look::Fault(0, fault),
         }
     }
 
     /// An UPDATE that is accepted at the front of a piece, where nothing is held, with memory of its own.
-    fn early<'a>(&self, alloc: Global, piece: &'a [u8]) -> Result<Early<'a>, AllocError>
+    fn early<'b, 'a>(
+        &self,
+        alloc: Global,
+        piece: &'a [u8],
+        place: &'b mut UpdateView<'a>,
+    ) -> Result<Early<'b>, AllocError>
         ensures ok { IfOk result (λ found. IsEarly self.now piece.entry.now found) }
         ensures memory { OnErr result (FrontTakesMemory self.now piece.entry.now) }
     {
@@ -204,7 +213,7 @@ impl Decoder {
             return Ok(Early::Other);
         };
         let len = frame.len;
-        match view_frame(&self.ctx, frame) {
+        match view_frame(&self.ctx, frame, place) {
             OutcomeView::Update(view) => {
                 let update = view.own(alloc)?;
                 let notes = view.own_notes(alloc)?;
@@ -230,17 +239,33 @@ impl Decoder {
         if let Early::Rare(len, view) = found {
             return self.pull_rare(alloc, *len, view);
         }
-        match self.look(piece) {
-            Look::Feed => Ok((self.feed(piece), None)),
-            Look::Message(taken, len, view) => {
-                let outcome = view.own(alloc)?;
+        match self.own_look(alloc, piece)? {
+            None => Ok((self.feed(piece), None)),
+            Some((taken, len, outcome)) => {
                 self.go(outcome.is_reset());
                 Ok((taken, Some((len, outcome))))
             }
-            Look::Fault(taken, fault) => {
-                self.go(true);
-                Ok((taken, Some((0, Outcome::Reset(fault.notification())))))
+        }
+    }
+
+    /// What [`look`](Decoder::look) finds, with memory of its own: how many octets of the piece are taken, how many the message has, none where it is
+    /// a header with a fault, and the outcome. None where the piece is to be fed.
+    fn own_look(
+        &self,
+        alloc: Global,
+        piece: &[u8],
+    ) -> Result<Option<(usize, u16, Outcome)>, AllocError>
+        ensures ok { IfOk result (λ found. IsOwnLook self.now piece.now found) }
+        ensures memory { OnErr result (TakesMemory self.now ⊎ FrontTakesMemory self.now piece.now) }
+    {
+        let mut place = UpdateView::empty();
+        match self.look(piece, &mut place) {
+            Look::Feed => Ok(None),
+            Look::Message(taken, len, view) => {
+                let outcome = view.own(alloc)?;
+                Ok(Some((taken, len, outcome)))
             }
+            Look::Fault(taken, fault) => Ok(Some((taken, 0, Outcome::Reset(fault.notification())))),
         }
     }
 

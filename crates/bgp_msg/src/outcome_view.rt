@@ -13,19 +13,20 @@ use bgp_update::UpdateView;
 use bgp_wire::List;
 use std::alloc::{AllocError, Global};
 
-/// The outcome of a message, or of the header of one: some words that point into its octets, in place of an [`Outcome`] with memory of its own.
+/// The outcome of a message, or of the header of one: some words that point into its octets, in place of an [`Outcome`] with memory of its own. An
+/// UPDATE's view stands in a place of the caller's.
 #[derive(Clone, Copy, Debug)]
 pub enum OutcomeView<'a> {
     /// An OPEN is accepted.
     Open(OpenView<'a>),
     /// An UPDATE is accepted, with notes on attributes that are discarded.
-    Update(UpdateView<'a>),
+    Update(&'a UpdateView<'a>),
     /// A NOTIFICATION is accepted.
     Notification(NotificationView<'a>),
     /// A KEEPALIVE is accepted.
     Keepalive,
     /// An UPDATE that is treated as a withdrawal of all its routes (RFC 7606, section 2), with notes on why.
-    Withdraw(UpdateView<'a>),
+    Withdraw(&'a UpdateView<'a>),
     /// The session ends with this notification.
     Reset(NotificationView<'a>),
 }

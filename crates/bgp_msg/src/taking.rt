@@ -13,7 +13,7 @@ use crate::outcome_view::OutcomeView;
 use bgp_frame::{Frame, Kind, NotificationView};
 use bgp_numbers::error;
 use bgp_open::{Context, OpenFault, view_open};
-use bgp_update::{Found, judge_update};
+use bgp_update::{Found, UpdateView};
 use std::alloc::{AllocError, Global};
 
 /// How an OPEN with this fault ends the session.
@@ -43,13 +43,17 @@ fn view_of_open(body: &[u8]) -> OutcomeView<'_>
 
 /// What the body of an UPDATE comes to.
 #[inline(always)]
-fn view_of_update<'a>(ctx: &Context, body: &'a [u8]) -> OutcomeView<'a>
+fn view_of_update<'b, 'a>(
+    ctx: &Context,
+    body: &'a [u8],
+    place: &'b mut UpdateView<'a>,
+) -> OutcomeView<'b>
     requires { length body.now ≤ 4077 }
     ensures { outcome_value result ≡ of_verdict (verdict_of ctx.now body.entry.now) }
 {
-    match judge_update(ctx, body) {
-        Found::Take(view) => OutcomeView::Update(view),
-        Found::Withdraw(view) => OutcomeView::Withdraw(view),
+    match place.judge(ctx, body) {
+        Found::Take => OutcomeView::Update(place),
+        Found::Withdraw => OutcomeView::Withdraw(place),
         Found::Reset(why) => OutcomeView::Reset(why),
     }
 }
@@ -67,15 +71,20 @@ pub fn notification_in(body: &[u8]) -> NotificationView<'_>
     }
 }
 
-/// The outcome of a whole message in a context, without memory.
+/// The outcome of a whole message in a context, without memory. The view of an UPDATE goes into a place, whatever was there before: start with
+/// [`UpdateView::empty`], and use the place again for the next message.
 #[inline(always)]
-pub fn view_frame<'a>(ctx: &Context, frame: Frame<'a>) -> OutcomeView<'a>
+pub fn view_frame<'b, 'a>(
+    ctx: &Context,
+    frame: Frame<'a>,
+    place: &'b mut UpdateView<'a>,
+) -> OutcomeView<'b>
     requires { IsLength frame.kind (19 + length frame.body.now) }
     ensures { outcome_value result ≡ out_of ctx.now (record { kind = frame.entry.kind; body = frame.entry.body.now }) }
 {
     match frame.kind {
         Kind::Open => view_of_open(frame.body),
-        Kind::Update => view_of_update(ctx, frame.body),
+        Kind::Update => view_of_update(ctx, frame.body, place),
         Kind::Notification => OutcomeView::Notification(notification_in(frame.body)),
         Kind::Keepalive => OutcomeView::Keepalive,
     }
@@ -92,5 +101,6 @@ pub fn out_frame(alloc: Global, ctx: &Context, frame: Frame<'_>) -> Result<Outco
     ensures kind { OnErr result ((frame.entry.kind ≡ Kind.Open) ⊎ (frame.entry.kind ≡ Kind.Update)) }
     ensures err { OnErr result (is_reset (out_of ctx.now (record { kind = frame.entry.kind; body = frame.entry.body.now })) ≡ false) }
 {
-    view_frame(ctx, frame).own(alloc)
+    let mut place = UpdateView::empty();
+    view_frame(ctx, frame, &mut place).own(alloc)
 }

@@ -5,6 +5,7 @@ use crate::page::Page;
 use crate::trouble::Trouble;
 use bgp_msg::{Decoder, End, Look, Outcome, OutcomeView, Seen, decode_all};
 use bgp_open::Context;
+use bgp_update::UpdateView;
 use std::alloc::{AllocError, Global};
 
 /// What a refused call of a decoder left otherwise than it was.
@@ -113,6 +114,27 @@ fn own_again(alloc: Global, view: &OutcomeView<'_>) -> Result<Outcome, AllocErro
     }
 }
 
+/// Adds what a look finds, as a view. Answers how many octets it takes, how many its message has, and whether it is a reset.
+fn put_found(
+    alloc: Global,
+    decoder: &Decoder,
+    piece: &[u8],
+    page: &mut Page,
+) -> Result<Option<(usize, u16, bool)>, Trouble> {
+    let mut place = UpdateView::empty();
+    match decoder.look(piece, &mut place) {
+        Look::Message(taken, len, view) => {
+            page.put_outcome(alloc, len, &own_again(alloc, &view)?)?;
+            Ok(Some((taken, len, view.is_reset())))
+        }
+        Look::Fault(taken, fault) => {
+            page.put_outcome(alloc, 0, &Outcome::Reset(fault.notification()))?;
+            Ok(Some((taken, 0, true)))
+        }
+        Look::Feed => Ok(None),
+    }
+}
+
 /// Adds what a look finds, as a view, and goes on behind it.
 fn put_looked(
     alloc: Global,
@@ -120,16 +142,8 @@ fn put_looked(
     piece: &[u8],
     page: &mut Page,
 ) -> Result<Taken, Trouble> {
-    let (taken, len, resets) = match decoder.look(piece) {
-        Look::Message(taken, len, view) => {
-            page.put_outcome(alloc, len, &own_again(alloc, &view)?)?;
-            (taken, len, view.is_reset())
-        }
-        Look::Fault(taken, fault) => {
-            page.put_outcome(alloc, 0, &Outcome::Reset(fault.notification()))?;
-            (taken, 0, true)
-        }
-        Look::Feed => return Ok((decoder.feed(piece), None)),
+    let Some((taken, len, resets)) = put_found(alloc, decoder, piece, page)? else {
+        return Ok((decoder.feed(piece), None));
     };
     decoder.go(resets);
     Ok((taken, Some(len)))

@@ -12,6 +12,7 @@ use bgp_machine::State;
 use bgp_msg::{OutcomeView, Step, front, view_frame};
 use bgp_open::Context;
 use bgp_text::{put_viewed_json, put_viewed_outcome};
+use bgp_update::UpdateView;
 use std::{io, mem};
 
 /// The octets of a header.
@@ -60,7 +61,8 @@ impl<'a> Ear<'a> {
     {
         let alloc = self.voice.rt.alloc();
         let len = frame.len;
-        let outcome = view_frame(ctx, frame);
+        let mut view = UpdateView::empty();
+        let outcome = view_frame(ctx, frame, &mut view);
         let mut text = String::new(alloc);
         if self.voice.json {
             put_viewed_json(alloc, &mut text, self.place, len, &outcome)?;

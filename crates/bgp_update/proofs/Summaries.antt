@@ -6,6 +6,7 @@ use Rattle.std.proofs.lemmas.List.{append-nil}
 use Rattle.std.proofs.lemmas.List.Concat.{flat_map-cons}
 use Rattle.bgp_frame.specs.declared.notification.Notification.{Notification}
 use Rattle.bgp_attr.specs.declared.attr.Attr.{Attr}
+use Rattle.bgp_attr.specs.declared.judged.Judged.{Judged}
 use Rattle.bgp_update.specs.KeptView.{Kept, kept_behind}
 use Rattle.bgp_update.specs.Marks.{Mark}
 use Rattle.bgp_update.specs.Taken.{kept_by, kept_of}
@@ -44,15 +45,15 @@ module _ (m : Mark) (ms : List Mark) where
   }
 
 -- one more mark, by what it comes to
-pub by_mark : (s : SummaryValue) (m : Mark) (reset : Option Notification) (withdrawn noted : Bool) (kept : Kept)
-    → reset ≡ option_or s.reset (reset_by m.judged) → withdrawn ≡ (s.withdraws || withdraws m.judged) → noted ≡ (s.notes || is_noted m.judged)
-    → kept ≡ kept_behind s.kept (kept_by m.judged)
+pub by_mark : (s : SummaryValue) (m : Mark) (j : Judged) → m.judged ≡ j → (reset : Option Notification) (withdrawn noted : Bool) (kept : Kept)
+    → reset ≡ option_or s.reset (reset_by j) → withdrawn ≡ (s.withdraws || withdraws j) → noted ≡ (s.notes || is_noted j)
+    → kept ≡ kept_behind s.kept (kept_by j)
     → record { reset = reset; withdraws = withdrawn; notes = noted; kept = kept } ≡ summary_behind s (m ∷ [])
-by_mark s m reset withdrawn noted kept e f g h = λ i. record {
-  reset = (e ∙ ap (option_or s.reset) (sym (option_or-none (reset_by m.judged)))) i;
-  withdraws = (f ∙ ap (λ (t : Bool). s.withdraws || t) (sym (or_false (withdraws m.judged)))) i;
-  notes = (g ∙ ap (λ (t : Bool). s.notes || t) (sym (or_false (is_noted m.judged)))) i;
-  kept = (h ∙ ap (kept_behind s.kept) (sym (one_of m))) i;
+by_mark s m j is reset withdrawn noted kept e f g h = λ i. record {
+  reset = (e ∙ ap (λ (k : Judged). option_or s.reset (reset_by k)) (sym is) ∙ ap (option_or s.reset) (sym (option_or-none (reset_by m.judged)))) i;
+  withdraws = (f ∙ ap (λ (k : Judged). s.withdraws || withdraws k) (sym is) ∙ ap (λ (t : Bool). s.withdraws || t) (sym (or_false (withdraws m.judged)))) i;
+  notes = (g ∙ ap (λ (k : Judged). s.notes || is_noted k) (sym is) ∙ ap (λ (t : Bool). s.notes || t) (sym (or_false (is_noted m.judged)))) i;
+  kept = (h ∙ ap (λ (k : Judged). kept_behind s.kept (kept_by k)) (sym is) ∙ ap (kept_behind s.kept) (sym (one_of m))) i;
 }
 
 no_more : (s : SummaryValue) → summary_behind s [] ≡ s

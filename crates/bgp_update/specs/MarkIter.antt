@@ -2,6 +2,7 @@
 use Rattle.std.specs.Prelude.{◌≡◌, ℕ, ◌-◌, Bool, ◌||◌, ◌==◌, List, [], ◌++◌, length, if◌then◌else◌}
 use Rattle.std.specs.List.{list_any}
 use Rattle.bgp_attr.specs.FoundAttr.{found_attr_value}
+use Rattle.bgp_attr.specs.Tlv.{PlacedTlv}
 use Rattle.bgp_attr.specs.TlvIter.{tlvs_left, rest_left}
 use Rattle.bgp_update.specs.declared.mark.MarkView.{MarkView}
 use Rattle.bgp_update.specs.declared.mark.MarkIter.{MarkIter}
@@ -11,12 +12,20 @@ use Rattle.bgp_wire.specs.OctetSet.{has_octet}
 abbrev pub mark_value : MarkView → Mark
 mark_value m = record { at = m.at; kind = m.kind; judged = found_attr_value m.judged }
 
--- the marks still to come
-abbrev pub marks_left : MarkIter → List Mark
-marks_left it =
-    marks_behind it.ctx it.has_nlri (has_octet it.seen) (tlvs_left it.tlvs)
+-- the marks still to come, where these are the whole attributes that aren't judged yet
+abbrev pub marks_with : MarkIter → List PlacedTlv → List Mark
+marks_with it tlvs =
+    marks_behind it.ctx it.has_nlri (has_octet it.seen) tlvs
     ++ (if it.is_done then [] else cut_mark (it.len - length (rest_left it.tlvs)) (rest_left it.tlvs))
 
--- a step: the types that were seen, and those of the whole attributes still to come, are these
+-- the marks still to come
+abbrev pub marks_left : MarkIter → List Mark
+marks_left it = marks_with it (tlvs_left it.tlvs)
+
+-- a step: the types that were seen, and those of these whole attributes, are these
+abbrev pub HasTypesWith : MarkIter → List PlacedTlv → (ℕ → Bool) → Type 0
+HasTypesWith it tlvs types = (kind : ℕ) → (has_octet it.seen kind || list_any (λ q. q.tlv.kind == kind) tlvs) ≡ types kind
+
+-- the same of the whole attributes still to come
 abbrev pub HasTypes : MarkIter → (ℕ → Bool) → Type 0
-HasTypes it types = (kind : ℕ) → (has_octet it.seen kind || list_any (λ q. q.tlv.kind == kind) (tlvs_left it.tlvs)) ≡ types kind
+HasTypes it types = HasTypesWith it (tlvs_left it.tlvs) types

@@ -6,6 +6,7 @@ use Rattle.bgp_frame.specs.declared.notification.Notification.{Notification}
 use Rattle.bgp_frame.specs.Notification.{notification_of_view}
 use Rattle.bgp_attr.specs.declared.judged.Judged.{Judged}
 use Rattle.bgp_attr.specs.declared.judged.Judged.TheVariants as judged
+use Rattle.bgp_update.specs.declared.kept_view.KeptView.{KeptView}
 use Rattle.bgp_update.specs.declared.summary.Summary.{Summary}
 use Rattle.bgp_update.specs.KeptView.{Kept, kept_value, kept_in, kept_behind}
 use Rattle.bgp_update.specs.Marks.{Mark}
@@ -24,12 +25,13 @@ pub record SummaryValue : Type 0 where
   pub notes : Bool
   pub kept : Kept
 
-abbrev pub summary_value : Summary → SummaryValue
-summary_value s = record {
+-- with the attributes that are kept, which stand in a place of their own
+abbrev pub summary_value : Summary → KeptView → SummaryValue
+summary_value s kept = record {
   reset = option_map notification_of_view s.reset;
   withdraws = s.withdraws;
   notes = s.notes;
-  kept = kept_value s.kept;
+  kept = kept_value kept;
 }
 
 -- with more marks behind those that it is of

@@ -35,7 +35,8 @@ view_value (view.Take v) = verdict.Take (update_value v) (notes_value v)
 view_value (view.Withdraw v) = verdict.Withdraw (routes_value v) (notes_value v)
 view_value (view.Reset n) = verdict.Reset n
 
-abbrev pub found_value : Found → Verdict
-found_value (found.Take v) = verdict.Take (update_value v) (notes_value v)
-found_value (found.Withdraw v) = verdict.Withdraw (routes_value v) (notes_value v)
-found_value (found.Reset n) = verdict.Reset (notification_of_view n)
+-- the verdict, where the view stands in a place beside it
+abbrev pub found_value : Found → UpdateView → Verdict
+found_value found.Take v = verdict.Take (update_value v) (notes_value v)
+found_value found.Withdraw v = verdict.Withdraw (routes_value v) (notes_value v)
+found_value (found.Reset n) v = verdict.Reset (notification_of_view n)

@@ -91,24 +91,25 @@ impl<'a> KeptView<'a> {
     }
 
     /// Adds an attribute.
+    #[inline(always)]
     #[tactic(auto, using(crate::proofs::Options::map_filled))]
-    pub(crate) fn put(&mut self, attr: AttrView<'a>)
-        ensures { kept_value self.new ≡ with_attr (kept_value self.old) (attr_value attr.entry) }
+    pub(crate) fn put(&mut self, attr: &AttrView<'a>)
+        ensures { kept_value self.new ≡ with_attr (kept_value self.old) (attr_value attr.now) }
     {
         match attr {
-            AttrView::Origin(origin) => fill(&mut self.origin, origin),
-            AttrView::AsPath(path) => fill(&mut self.as_path, path),
-            AttrView::NextHop(addr) => fill(&mut self.next_hop, addr),
-            AttrView::Med(metric) => fill(&mut self.med, metric),
-            AttrView::LocalPref(preference) => fill(&mut self.local_pref, preference),
+            AttrView::Origin(origin) => fill(&mut self.origin, *origin),
+            AttrView::AsPath(path) => fill(&mut self.as_path, *path),
+            AttrView::NextHop(addr) => fill(&mut self.next_hop, *addr),
+            AttrView::Med(metric) => fill(&mut self.med, *metric),
+            AttrView::LocalPref(preference) => fill(&mut self.local_pref, *preference),
             AttrView::Atomic => self.atomic = true,
-            AttrView::Aggregator(aggregator) => fill(&mut self.aggregator, aggregator),
-            AttrView::Communities(communities) => fill(&mut self.communities, communities),
-            AttrView::MpReach(reach) => fill(&mut self.reach, reach),
-            AttrView::MpUnreach(unreach) => fill(&mut self.unreach, unreach),
-            AttrView::As4Path(path) => fill(&mut self.as4_path, path),
-            AttrView::As4Aggregator(aggregator) => fill(&mut self.as4_aggregator, aggregator),
-            AttrView::Large(communities) => fill(&mut self.large, communities),
+            AttrView::Aggregator(aggregator) => fill(&mut self.aggregator, *aggregator),
+            AttrView::Communities(communities) => fill(&mut self.communities, *communities),
+            AttrView::MpReach(reach) => fill(&mut self.reach, *reach),
+            AttrView::MpUnreach(unreach) => fill(&mut self.unreach, *unreach),
+            AttrView::As4Path(path) => fill(&mut self.as4_path, *path),
+            AttrView::As4Aggregator(aggregator) => fill(&mut self.as4_aggregator, *aggregator),
+            AttrView::Large(communities) => fill(&mut self.large, *communities),
             AttrView::Opaque(_) => self.others = true,
         }
     }

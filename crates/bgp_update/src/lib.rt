@@ -39,7 +39,7 @@ pub use attr_iter::AttrIter;
 pub use attrs::Attrs;
 pub use found::Found;
 pub use invalid::Invalid;
-pub use judge_body::{judge_update, view_update};
+pub use judge_body::view_update;
 pub use kept_view::KeptView;
 pub use note::Note;
 pub use note_iter::NoteIter;

@@ -6,7 +6,7 @@ ghost use Rattle.bgp_attr.specs.TlvIter.{tlvs_left};
 ghost use Rattle.bgp_update.specs.Small.{is_small};
 
 use crate::malformed::{cut, cut_kind, repeated};
-use bgp_attr::{FoundAttr, Tail, TlvIter, judge_attribute};
+use bgp_attr::{FoundAttr, Tail, Tlv, TlvIter, judge_attribute};
 use bgp_open::Context;
 use bgp_wire::OctetSet;
 use std::iter::FusedIterator;
@@ -34,10 +34,12 @@ pub(crate) struct MarkIter<'a> {
 }
 
 impl<'a> MarkIter<'a> {
-    ghost use Rattle.std.specs.Prelude.{ℕ, Bool, [], IfNone};
+    ghost use Rattle.std.specs.Prelude.{ℕ, Bool, [], ◌∷◌, IfSome, MatchOption};
+    ghost use Rattle.bgp_attr.specs.FoundAttr.{found_attr_value};
+    ghost use Rattle.bgp_attr.specs.TlvView.{placed_tlv};
     ghost use Rattle.std.specs.Iterator.{YieldsFirstBy};
     ghost use Rattle.bgp_update.specs.Marks.{field_marks};
-    ghost use Rattle.bgp_update.specs.MarkIter.{mark_value, marks_left, HasTypes};
+    ghost use Rattle.bgp_update.specs.MarkIter.{mark_value, marks_left, marks_with, HasTypes, HasTypesWith};
     ghost use Rattle.bgp_update.specs.Notes.{types_of_field};
     ghost use Rattle.bgp_wire.specs.OctetSet.{has_octet};
 
@@ -58,27 +60,44 @@ impl<'a> MarkIter<'a> {
         }
     }
 
-    /// The next mark. The types that were seen and those still to come stay the same.
+    /// The next whole attribute, which [`judge`](MarkIter::judge) is to be called with then.
     #[inline(always)]
-    pub(crate) fn next_mark(&mut self) -> Option<MarkView<'a>>
+    pub(crate) fn next_tlv(&mut self) -> Option<Tlv<'a>>
+        ensures marks { MatchOption result ((tlvs_left self.new.tlvs ≡ []) × (marks_left self.new ≡ marks_left self.old))
+            (λ t. marks_left self.old ≡ marks_with self.new (placed_tlv t ∷ tlvs_left self.new.tlvs)) }
+        ensures types { (types : ℕ → Bool) → HasTypes self.old types → MatchOption result (HasTypes self.new types)
+            (λ t. HasTypesWith self.new (placed_tlv t ∷ tlvs_left self.new.tlvs) types) }
+        ensures small { IfSome result (λ t. (t.at ≤ 4075) × (length t.whole.now ≤ 4075)) }
+    {
+        self.tlvs.next()
+    }
+
+    /// What an attribute that was given comes to. A summary is made of these: no mark is built round each.
+    #[inline(always)]
+    pub(crate) fn judge(&mut self, tlv: &Tlv<'a>) -> FoundAttr<'a>
+        requires { length tlv.now.whole.now ≤ 4075 }
+        ensures marks { marks_with self.old (placed_tlv tlv.now ∷ tlvs_left self.old.tlvs)
+            ≡ record { at = tlv.now.at; kind = tlv.now.kind; judged = found_attr_value result } ∷ marks_left self.new }
+        ensures types { (types : ℕ → Bool) → HasTypesWith self.old (placed_tlv tlv.now ∷ tlvs_left self.old.tlvs) types → HasTypes self.new types }
+    {
+        let kind = tlv.kind;
+        let is_repeated = self.seen.contains(kind);
+        self.seen.insert(kind);
+        if is_repeated {
+            return repeated(kind);
+        }
+        judge_attribute(&self.ctx, self.has_nlri, tlv)
+    }
+
+    /// The mark of an attribute that is cut off, where no whole one is left: nothing is left behind it.
+    #[inline(always)]
+    pub(crate) fn next_cut(&mut self) -> Option<MarkView<'a>>
+        requires { tlvs_left self.old.tlvs ≡ [] }
         ensures steps { YieldsFirstBy mark_value marks_left self.old result self.new }
         ensures types { (types : ℕ → Bool) → HasTypes self.old types → HasTypes self.new types }
-        ensures last { IfNone result (tlvs_left self.new.tlvs ≡ []) }
+        ensures none { marks_left self.new ≡ [] }
+        ensures last { tlvs_left self.new.tlvs ≡ [] }
     {
-        if let Some(tlv) = self.tlvs.next() {
-            let kind = tlv.kind;
-            let judged = if self.seen.contains(kind) {
-                repeated(kind)
-            } else {
-                judge_attribute(&self.ctx, self.has_nlri, &tlv)
-            };
-            self.seen.insert(kind);
-            return Some(MarkView {
-                at: tlv.at,
-                kind,
-                judged,
-            });
-        }
         if self.is_done {
             return None;
         }
@@ -113,7 +132,17 @@ impl<'a> Iterator for MarkIter<'a> {
     ghost remaining = { item_count marks_left };
 
     fn next(&mut self) -> Option<MarkView<'a>> {
-        self.next_mark()
+        match self.next_tlv() {
+            Some(tlv) => {
+                let judged = self.judge(&tlv);
+                Some(MarkView {
+                    at: tlv.at,
+                    kind: tlv.kind,
+                    judged,
+                })
+            }
+            None => self.next_cut(),
+        }
     }
 }
 

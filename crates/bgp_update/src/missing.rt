@@ -1,6 +1,6 @@
 //! Attributes that a message has to have.
 
-ghost use Rattle.std.specs.Prelude.{◌≡◌, ◌&&◌, not};
+ghost use Rattle.std.specs.Prelude.{◌≡◌, ◌&&◌, not, false};
 ghost use Rattle.bgp_numbers.specs.declared.attribute.TheConstants.{ORIGIN, AS_PATH, NEXT_HOP};
 ghost use Rattle.bgp_update.specs.Notes.{missing_in};
 ghost use Rattle.bgp_wire.specs.OctetSet.{has_octet};
@@ -14,6 +14,19 @@ pub(crate) struct Missing {
     pub(crate) origin: bool,
     pub(crate) as_path: bool,
     pub(crate) next_hop: bool,
+}
+
+impl Missing {
+    /// Nothing is missing.
+    pub(crate) fn none() -> Missing
+        ensures { result ≡ record { origin = false; as_path = false; next_hop = false } }
+    {
+        Missing {
+            origin: false,
+            as_path: false,
+            next_hop: false,
+        }
+    }
 }
 
 /// What is missing of a message whose attributes have these types, where it `reaches`, and in its NLRI field where it `has_nlri`.

@@ -1,13 +1,14 @@
 //! The verdict on an UPDATE, from borrowed octets.
 
-ghost use Rattle.std.specs.Prelude.{◌≡◌, ◌≤◌, ◌+◌, length};
+ghost use Rattle.std.specs.Prelude.{◌≡◌, ◌≤◌, ◌+◌, [], length, option_map};
 ghost use Rattle.std.specs.List.{list_any};
 ghost use Rattle.bgp_update.specs.Body.{parts_value};
 ghost use Rattle.bgp_update.specs.KeptView.{kept_value, kept_in};
 ghost use Rattle.bgp_update.specs.Marks.{marks_of};
-ghost use Rattle.bgp_update.specs.Notes.{missing_of};
+ghost use Rattle.bgp_attr.specs.MpView.{reach_value};
+ghost use Rattle.bgp_update.specs.Notes.{has_routes, is_missing, is_reachable, missing_of};
 ghost use Rattle.bgp_update.specs.Summary.{is_noted, summary_value, summary_of};
-ghost use Rattle.bgp_update.specs.Taken.{kept_of};
+ghost use Rattle.bgp_update.specs.Taken.{kept_of, update_of};
 
 use crate::add_routes::{add_routes, own_routes};
 use crate::attr_iter::AttrIter;
@@ -15,12 +16,12 @@ use crate::attrs::Attrs;
 use crate::body::Body;
 use crate::kept_view::KeptView;
 use crate::mark::MarkIter;
-use crate::missing::Missing;
+use crate::missing::{Missing, missing_in};
 use crate::note::Note;
 use crate::note_iter::NoteIter;
 use crate::others::{others_in, own_others};
 use crate::routes::Routes;
-use crate::summary::Summary;
+use crate::summary::{Summary, summarize};
 use crate::update::Update;
 use bgp_attr::{MpReachView, MpUnreachView, OpaqueView};
 use bgp_frame::Notification;
@@ -54,30 +55,84 @@ pub enum View<'a> {
     Reset(Notification),
 }
 
+/// Whether an MP_REACH_NLRI has a route.
+fn has_routes(reach: &Option<MpReachView<'_>>) -> bool
+    ensures { result ≡ has_routes (option_map reach_value reach.now) }
+{
+    match reach {
+        None => false,
+        Some(MpReachView::Ip4 { nlri, .. }) => {
+            let mut nlri = *nlri;
+            nlri.next().is_some()
+        }
+        Some(MpReachView::Ip6 { nlri, .. }) => {
+            let mut nlri = *nlri;
+            nlri.next().is_some()
+        }
+    }
+}
+
 impl<'a> UpdateView<'a> {
     ghost use Rattle.bgp_prefix.specs.PrefixIter.{prefixes_left};
-    ghost use Rattle.bgp_update.specs.View.{update_value};
+    ghost use Rattle.bgp_update.specs.View.{update_value, view_marks};
 
-    /// The view of a body whose marks come to this.
-    pub(crate) fn new(
-        ctx: &Context,
-        body: Body<'a>,
-        missing: Missing,
-        summary: &Summary<'a>,
-    ) -> UpdateView<'a>
-        requires short { length body.withdrawn.now + length body.attributes.now ≤ 4073 }
-        requires misses { missing ≡ missing_of (parts_value body) (marks_of ctx.now (parts_value body)) }
-        requires sums { summary_value summary.now ≡ summary_of (marks_of ctx.now (parts_value body)) }
-        ensures ctx { result.ctx ≡ ctx.now }
-        ensures body { result.body ≡ body.entry }
+    /// A view of an UPDATE without routes and attributes: a place for [`judge`](UpdateView::judge).
+    #[inline(always)]
+    pub fn empty() -> UpdateView<'a>
+        ensures { update_value result ≡ update_of (record { withdrawn = []; attributes = []; nlri = [] }) [] }
     {
         UpdateView {
-            ctx: *ctx,
-            body,
-            missing,
-            kept: summary.kept,
-            has_notes: summary.notes,
+            ctx: Context {
+                internal: false,
+                as4: false,
+                ip4: false,
+                ip6: false,
+                hold: 0,
+            },
+            body: Body {
+                withdrawn: &[],
+                attributes: &[],
+                nlri: &[],
+            },
+            missing: Missing::none(),
+            kept: KeptView::new(),
+            has_notes: false,
         }
+    }
+
+    /// Views a body in a context; what was viewed before is gone. Answers what its marks come to.
+    #[inline(always)]
+    pub(crate) fn fill(&mut self, ctx: &Context, body: Body<'a>) -> Summary<'a>
+        requires { length body.withdrawn.now + length body.attributes.now ≤ 4073 }
+        ensures ctx { self.new.ctx ≡ ctx.now }
+        ensures body { self.new.body ≡ body.entry }
+        ensures sums { summary_value result self.new.kept ≡ summary_of (marks_of ctx.now (parts_value body.entry)) }
+    {
+        let has_nlri = !body.nlri.is_empty();
+        self.kept = KeptView::new();
+        let (summary, types) = summarize(ctx, has_nlri, body.attributes, &mut self.kept);
+        let reaches = has_nlri || has_routes(&self.kept.reach);
+        self.missing = missing_in(reaches, has_nlri, &types);
+        self.has_notes = summary.notes;
+        self.ctx = *ctx;
+        self.body = body;
+        summary
+    }
+
+    /// Whether routes are announced.
+    #[inline(always)]
+    pub(crate) fn reaches(&self) -> bool
+        ensures { result ≡ is_reachable (parts_value self.now.body) (view_marks self.now) }
+    {
+        !self.body.nlri.is_empty() || has_routes(&self.kept.reach)
+    }
+
+    /// Whether an attribute that the message has to have is missing.
+    #[inline(always)]
+    pub(crate) fn is_missing(&self) -> bool
+        ensures { result ≡ is_missing (missing_of (parts_value self.now.body) (view_marks self.now)) }
+    {
+        self.missing.origin || self.missing.as_path || self.missing.next_hop
     }
 
     /// The prefixes of Withdrawn Routes.

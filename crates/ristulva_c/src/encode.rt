@@ -14,7 +14,7 @@ use crate::status::{MEMORY, RANGE, REFUSED, UNWRITABLE};
 use crate::text::write;
 use bgp_msg::encode_update;
 use bgp_open::Context;
-use bgp_update::{Found, Update, UpdateView, WriteFault, judge_update, narrow_in_place};
+use bgp_update::{Found, Update, UpdateView, WriteFault, narrow_in_place};
 use std::alloc::{AllocError, Global};
 
 /// What comes of a body.
@@ -64,9 +64,10 @@ fn encoded(alloc: Global, ctx: &Context, body: &[u8]) -> Result<Coded, AllocErro
     requires { length body.now ≤ 4077 }
     ensures { IfOk result (λ it. IsCoded it (option_map (written_of ctx.now) (taken_of (verdict_of ctx.now body.now)))) }
 {
-    match judge_update(ctx, body) {
-        Found::Take(view) => whole(alloc, ctx, &view),
-        Found::Withdraw(_) | Found::Reset(_) => Ok(Coded::Refused),
+    let mut view = UpdateView::empty();
+    match view.judge(ctx, body) {
+        Found::Take => whole(alloc, ctx, &view),
+        Found::Withdraw | Found::Reset(_) => Ok(Coded::Refused),
     }
 }
 
@@ -128,9 +129,10 @@ fn narrowed(alloc: Global, ctx: &Context, body: &[u8]) -> Result<Coded, AllocErr
     ensures { IfOk result (λ it. IsCoded it (option_map (narrowed_of ctx.now) (taken_of (verdict_of ctx.now body.now)))) }
 {
     are_octets(body);
-    match judge_update(ctx, body) {
-        Found::Take(view) => whole_narrowed(alloc, ctx, &view),
-        Found::Withdraw(_) | Found::Reset(_) => Ok(Coded::Refused),
+    let mut view = UpdateView::empty();
+    match view.judge(ctx, body) {
+        Found::Take => whole_narrowed(alloc, ctx, &view),
+        Found::Withdraw | Found::Reset(_) => Ok(Coded::Refused),
     }
 }
 

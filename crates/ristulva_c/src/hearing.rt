@@ -2,7 +2,7 @@
 
 ghost use Rattle.std.specs.Prelude.{◌≡◌, ◌≤◌, ◌⊎◌, Some, length, take, drop};
 ghost use Rattle.bgp_frame.specs.Notification.{notification_of_view};
-ghost use Rattle.ristulva_c.specs.Hearing.{number_of_heard, said_in, parts_heard, heard_told, Hears, HearsFirst};
+ghost use Rattle.ristulva_c.specs.Hearing.{number_of_heard, said_in, parts_heard, heard_told, Hears, HearsFirst, IsFoundTold};
 
 use crate::actions::{Actions, actions_told};
 use crate::handle::SessionHandle;
@@ -12,7 +12,8 @@ use crate::parts::{Parts, no_parts, parts_in};
 use crate::states::is_up;
 use crate::status::{INCOMPLETE, NO_SESSION, OK, ROOM, STATE};
 use bgp_frame::NotificationView;
-use bgp_machine::{Heard, Look, Session};
+use bgp_machine::{ActionViews, Heard, Look, Next, Session};
+use bgp_update::UpdateView;
 use std::alloc::Global;
 
 /// What a session heard: a message, or a header with a fault.
@@ -119,6 +120,30 @@ fn longest(octets: &[u8]) -> &[u8]
     front
 }
 
+/// Tells what the message that octets begin with makes a session do, and where it goes on then: none where they are less than a message.
+fn tell_found(
+    session: &Session,
+    octets: &[u8],
+    heard: &mut ToldHeard,
+    actions: &mut Actions,
+    message: &mut [u8],
+    len: &mut usize,
+) -> Option<Next>
+    requires { length octets.now ≤ 4096 }
+    ensures { IsFoundTold session.now octets.now result
+        (record { heard_before = heard.old; heard_behind = heard.new })
+        (λ status new. record { status = status; old = Some session.now; new = Some new; actions_before = actions.old; actions_behind = actions.new; message_before = message.old; message_behind = message.new; len_before = len.old; len_behind = len.new }) }
+{
+    let mut view = UpdateView::empty();
+    let look = session.look(octets, &mut view)?;
+    *heard = heard_told(&look, octets);
+    let mut found = ActionViews::new();
+    let next = look.act(&mut found);
+    *actions = actions_told(found.as_slice());
+    *len = send_first(session.own_frame(), found.as_slice(), message);
+    Some(next)
+}
+
 /// Lets a session hear the message that octets begin with.
 fn hear(
     session: &mut Session,
@@ -136,16 +161,13 @@ fn hear(
     if !is_up(session.state()) {
         return STATE;
     }
-    let Some(look) = session.look(octets) else {
-        return INCOMPLETE;
-    };
-    *heard = heard_told(&look, octets);
-    let found = look.actions();
-    *actions = actions_told(found.as_slice());
-    *len = send_first(session.own_frame(), found.as_slice(), message);
-    let next = look.next();
-    session.go(next);
-    OK
+    match tell_found(session, octets, heard, actions, message, len) {
+        None => INCOMPLETE,
+        Some(next) => {
+            session.go(next);
+            OK
+        }
+    }
 }
 
 /// Lets a session hear the message, or the header with a fault, that octets begin with, and tells what is to be done.

@@ -18,6 +18,7 @@ use crate::parts::{Parts, no_parts, parts_in};
 use crate::status::{INCOMPLETE, OK, ROOM};
 use bgp_frame::{Frame, HeadFault, Kind, NotificationView, Step, front};
 use bgp_msg::{OutcomeView, view_frame};
+use bgp_update::UpdateView;
 
 /// An OPEN is accepted.
 pub const OPEN: u8 = 1;
@@ -131,7 +132,8 @@ fn tell_frame(ctx: &SessionContext, frame: Frame<'_>, info: &mut [u8], out: &mut
     let kind = frame.kind as u8;
     let len = frame.len;
     let parts = parts_at(&frame);
-    let outcome = view_frame(&context_of(ctx), frame);
+    let mut view = UpdateView::empty();
+    let outcome = view_frame(&context_of(ctx), frame, &mut view);
     tell(kind, len, parts, &outcome, info, out)
 }
 

@@ -94,7 +94,8 @@ fn tell_note(ctx: &SessionContext, frame: Frame<'_>, index: u32, out: &mut ToldN
     requires { IsLength frame.kind (19 + length frame.body.now) }
     ensures { Notes (context_of ctx.now) index (step.Frame frame.entry) result out.old out.new }
 {
-    match note_at(&view_frame(&context_of(ctx), frame), index) {
+    let mut view = UpdateView::empty();
+    match note_at(&view_frame(&context_of(ctx), frame, &mut view), index) {
         None => END,
         Some(note) => {
             *out = note_told(note);

@@ -13,7 +13,7 @@ use crate::encode::{Coded, with_as4, written};
 use crate::status::{MEMORY, RANGE, REFUSED, UNWRITABLE};
 use crate::text::write;
 use bgp_open::Context;
-use bgp_update::{Attrs, Found, UpdateView, judge_update, reconcile};
+use bgp_update::{Attrs, Found, UpdateView, reconcile};
 use std::alloc::{AllocError, Global};
 
 /// Puts the path and the aggregator that AS4_PATH and AS4_AGGREGATOR give back in the place of all four.
@@ -54,9 +54,10 @@ fn reconciled(alloc: Global, ctx: &Context, body: &[u8]) -> Result<Coded, AllocE
     ensures { IfOk result (λ it. IsCoded it (option_map (reconciled_of ctx.now) (taken_of (verdict_of (with_as4 false ctx.now) body.now)))) }
 {
     let narrow = with_as4(false, ctx);
-    match judge_update(&narrow, body) {
-        Found::Take(view) => whole_rebuilt(alloc, ctx, &view),
-        Found::Withdraw(_) | Found::Reset(_) => Ok(Coded::Refused),
+    let mut view = UpdateView::empty();
+    match view.judge(&narrow, body) {
+        Found::Take => whole_rebuilt(alloc, ctx, &view),
+        Found::Withdraw | Found::Reset(_) => Ok(Coded::Refused),
     }
 }
 

@@ -16,7 +16,7 @@ use crate::messages::{MESSAGE_MAX, put};
 use crate::status::{MEMORY, NO_SESSION, OK, RANGE, REFUSED, ROOM, STATE, UNWRITABLE};
 use bgp_machine::{ActionView, SendFault, Session, Timer};
 use bgp_open::Context;
-use bgp_update::{Found, Update, UpdateView, judge_update};
+use bgp_update::{Found, Update, UpdateView};
 use std::alloc::{AllocError, Global};
 
 /// What comes of a body that is to be sent.
@@ -77,9 +77,10 @@ fn made_of(
     ensures { IfOk result (λ it. IsOutgoing session.now (taken_of (verdict_of (with_as4 true context.now) body.now)) it) }
 {
     let wide = with_as4(true, context);
-    match judge_update(&wide, body) {
-        Found::Take(view) => whole(alloc, session, &view),
-        Found::Withdraw(_) | Found::Reset(_) => Ok(Outgoing::Refused),
+    let mut view = UpdateView::empty();
+    match view.judge(&wide, body) {
+        Found::Take => whole(alloc, session, &view),
+        Found::Withdraw | Found::Reset(_) => Ok(Outgoing::Refused),
     }
 }
 

@@ -14,6 +14,7 @@ use crate::status::{INCOMPLETE, MEMORY, OK, ROOM};
 use bgp_frame::{Frame, HeadFault, NotificationView, Step, front};
 use bgp_msg::{OutcomeView, view_frame};
 use bgp_text::put_viewed_outcome;
+use bgp_update::UpdateView;
 use std::alloc::{AllocError, Global};
 
 /// The lines of a whole message.
@@ -27,7 +28,8 @@ fn frame_lines(
     ensures { IfOk result (λ text. string_bytes text ≡ outcome_lines place frame.entry.len (out_of (context_of ctx.now) (record { kind = frame.entry.kind; body = frame.entry.body.now }))) }
 {
     let len = frame.len;
-    let outcome = view_frame(&context_of(ctx), frame);
+    let mut view = UpdateView::empty();
+    let outcome = view_frame(&context_of(ctx), frame, &mut view);
     let mut text = String::new(alloc);
     put_viewed_outcome(alloc, &mut text, place, len, &outcome)?;
     Ok(text)

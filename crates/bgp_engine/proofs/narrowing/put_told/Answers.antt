@@ -7,5 +7,5 @@ use Rattle.bgp_engine.proofs.narrowing.put_told.Goals as goal
 
 pub put_view-requires : goal.put_view-requires
 put_view-requires c =
-    taken_none c.args.ctx.now c.requires.wide (update_value c.in-Update.view) (notes_value c.in-Update.view) c.args.frame.kind c.args.frame.body.now c.are_octets.ensures
+    taken_none c.args.ctx.now c.requires.wide (update_value c.in-Update.view.now) (notes_value c.in-Update.view.now) c.args.frame.kind c.args.frame.body.now c.are_octets.ensures
     (sym c.view_frame.ensures ∙ ap (λ (v : OutcomeView). outcome_value v) c.in-Update.is)

@@ -1,23 +1,23 @@
-use Rattle.std.proofs.Common.{sym, ◌∙◌}
-use Rattle.bgp_update.specs.MarkIter.{mark_value, marks_left}
-use Rattle.bgp_update.specs.Marks.{field_marks}
+use Rattle.std.proofs.Common.{refl, sym, ◌∙◌}
+use Rattle.bgp_attr.specs.FoundAttr.{found_attr_value}
+use Rattle.bgp_update.specs.MarkIter.{marks_left}
+use Rattle.bgp_update.specs.Marks.{Mark, field_marks}
 use Rattle.bgp_update.specs.Notes.{types_of_field}
 use Rattle.bgp_update.specs.Summary.{summary_value, summary_of}
-use Rattle.bgp_update.proofs.Summaries.{summary_step, summary_all}
+use Rattle.bgp_update.proofs.Summaries.{summary_step}
 use Rattle.bgp_update.proofs.summary.summarize.Goals as goal
 
 pub field-preserved : goal.field-preserved
-field-preserved c = (
-  summary_step (summary_value c.field.summary) (summary_value c.add.new.self) (summary_of (field_marks c.args.ctx.now c.args.has_nlri c.args.field.now))
-      (mark_value c.in-Some.mark) (marks_left c.field.marks) (marks_left c.next_mark.new.self) c.add.ensures c.in-Some.ensures.steps c.field.invariant.0,
-  c.next_mark.ensures.types (types_of_field c.args.field.now) c.field.invariant.1,
-)
+field-preserved c =
+    let mark : Mark = record { at = c.in-Some.tlv.at; kind = c.in-Some.tlv.kind; judged = found_attr_value c.judge-judged.result } in
+    let types = types_of_field c.args.field.now in (
+      summary_step (summary_value c.field.summary c.field.kept) (summary_value c.add.new.self c.add.new.kept)
+          (summary_of (field_marks c.args.ctx.now c.args.has_nlri c.args.field.now)) mark (marks_left c.field.marks) (marks_left c.judge-judged.new.self)
+          (c.add.ensures mark refl) (c.in-Some.ensures.marks ∙ c.judge-judged.ensures.marks) c.field.invariant.0,
+      c.judge-judged.ensures.types types (c.in-Some.ensures.types types c.field.invariant.1),
+    )
 
-pub returns-in_default-clause-types : goal.returns-in_default-clause-types
-returns-in_default-clause-types c kind =
-    sym (c.types.ensures kind) ∙ c.next_mark.ensures.types (types_of_field c.args.field.now) c.field.invariant.1 kind
-
-pub returns-in_default-clause-marks : goal.returns-in_default-clause-marks
-returns-in_default-clause-marks c =
-    summary_all (summary_value c.field.summary) (summary_of (field_marks c.args.ctx.now c.args.has_nlri c.args.field.now)) (marks_left c.field.marks)
-    c.in_default.ensures.steps.0 c.field.invariant.0
+pub returns-clause-types : goal.returns-clause-types
+returns-clause-types c kind =
+    let types = types_of_field c.args.field.now in
+    sym (c.types.ensures kind) ∙ c.add_cut.ensures.types types (c.in_default.ensures.types types c.field.invariant.1) kind

@@ -6,5 +6,6 @@ use Rattle.ristulva_c.proofs.encode.narrowed.Goals as goal
 
 pub whole_narrowed-requires : goal.whole_narrowed-requires
 whole_narrowed-requires c =
-    taken_has_no_as4 c.args.ctx.now c.args.body.now (update_value c.in-Take.view) (notes_value c.in-Take.view) c.requires.wide c.are_octets.ensures
-    (sym c.judge_update.ensures ∙ ap (λ (f : Found). found_value f) c.in-Take.is)
+    let view = c.judge.new.self in
+    taken_has_no_as4 c.args.ctx.now c.args.body.now (update_value view) (notes_value view) c.requires.wide c.are_octets.ensures
+    (sym c.judge.ensures ∙ ap (λ (f : Found). found_value f view) c.in-Take.is)

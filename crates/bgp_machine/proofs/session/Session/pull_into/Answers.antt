@@ -1,12 +1,11 @@
-use Rattle.bgp_machine.proofs.Looks.{looked_pulls, fed_rests}
-use Rattle.bgp_machine.proofs.Pulls.{pulls_as_fed}
+use Rattle.std.proofs.Common.{ℕ, Option, subst}
+use Rattle.bgp_machine.specs.Look.{IsOwnLook}
+use Rattle.bgp_machine.specs.Standing.{Standing}
+use Rattle.bgp_machine.proofs.Looks.{fed_rests}
 use Rattle.bgp_machine.proofs.session.Session.pull_into.Goals as goal
 
 pub returns-in_default-clause-rests : goal.returns-in_default-clause-rests
 returns-in_default-clause-rests c =
-    fed_rests c.args.self.now c.args.piece.now c.feed.result c.feed.new.self c.feed.ensures.rests c.feed.ensures.deaf (c.in_default.ensures c.feed.result c.feed.new.self c.feed.ensures.fed)
-
-pub returns-clause-as_fed : goal.returns-clause-as_fed
-returns-clause-as_fed c =
-    pulls_as_fed _ _ _ _ _ (looked_pulls c.args.self.now c.args.piece.now c.in-Some.look c.own.new.actions c.taken-taken.result c.next-next.result c.go.new.self
-    c.in-Some.ensures c.in_ok-own.ensures.ok c.taken-taken.ensures c.next-next.ensures c.go.ensures)
+    let old = c.args.self.now in
+    let none = subst (λ (found : Option (ℕ × Standing)). IsOwnLook old c.args.piece.now found c.own_look.new.actions) c.in_default.is c.in_ok-taken.ensures.ok in
+    fed_rests old c.args.piece.now c.feed.result c.feed.new.self c.feed.ensures.rests c.feed.ensures.deaf (none.0 c.feed.result c.feed.new.self c.feed.ensures.fed)
