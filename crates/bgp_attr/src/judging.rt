@@ -14,37 +14,49 @@ use crate::judge_mp::{judge_mp_reach, judge_mp_unreach};
 use crate::judge_path::{judge_as_path, judge_as4_path};
 use crate::judged::Judged;
 use crate::judged_view::JudgedView;
+use crate::sink::Sink;
 use crate::tlv::Tlv;
+use crate::why::Why;
 use bgp_numbers::attribute;
 use bgp_open::Context;
 use std::alloc::{AllocError, Global};
 
-/// The judgement of the first attribute of its type in a message, without memory: by the first test of its type that applies
+/// Judges the first attribute of its type in a message, without memory: by the first test of its type that applies
 /// (RFC 4271, section 6.3; RFC 7606, sections 3 to 7; RFC 7607). The attribute has at most 4075 octets, as each of a message has.
 ///
-/// `has_nlri` says that the NLRI field of the message isn't empty.
+/// `has_nlri` says that the NLRI field of the message isn't empty. Each type tells the sink by itself, so a value goes where it is to stand.
 #[tactic(auto, unfolding(crate::specs::Judgement::tests_of, crate::specs::Value::value_of))]
 #[inline(always)]
+pub fn judge_into<'a, S: Sink<'a>>(ctx: &Context, has_nlri: bool, tlv: &Tlv<'a>, sink: &mut S)
+    requires { length tlv.now.whole.now ≤ 4075 }
+    ensures { S.puts sink.old (judgement ctx.now has_nlri (tlv_value tlv.now)) sink.new }
+{
+    match tlv.kind {
+        attribute::ORIGIN => sink.put(&judge_origin(tlv)),
+        attribute::AS_PATH => sink.put(&judge_as_path(ctx, tlv)),
+        attribute::NEXT_HOP => sink.put(&judge_next_hop(has_nlri, tlv)),
+        attribute::MULTI_EXIT_DISC => sink.put(&judge_med(tlv)),
+        attribute::LOCAL_PREF => sink.put(&judge_local_pref(ctx, tlv)),
+        attribute::ATOMIC_AGGREGATE => sink.put(&judge_atomic(tlv)),
+        attribute::AGGREGATOR => sink.put(&judge_aggregator(ctx, tlv)),
+        attribute::COMMUNITIES => sink.put(&judge_communities(tlv)),
+        attribute::MP_REACH_NLRI => sink.put(&judge_mp_reach(ctx, tlv)),
+        attribute::MP_UNREACH_NLRI => sink.put(&judge_mp_unreach(ctx, tlv)),
+        attribute::AS4_PATH => sink.put(&judge_as4_path(ctx, tlv)),
+        attribute::AS4_AGGREGATOR => sink.put(&judge_as4_aggregator(ctx, tlv)),
+        attribute::LARGE_COMMUNITY => sink.put(&judge_large(tlv)),
+        _ => sink.put(&judge_other(tlv)),
+    }
+}
+
+/// The judgement of the first attribute of its type in a message, as [`judge_into`] tells it.
 pub fn judge_attribute<'a>(ctx: &Context, has_nlri: bool, tlv: &Tlv<'a>) -> FoundAttr<'a>
     requires { length tlv.now.whole.now ≤ 4075 }
     ensures { found_attr_value result ≡ judgement ctx.now has_nlri (tlv_value tlv.now) }
 {
-    match tlv.kind {
-        attribute::ORIGIN => judge_origin(tlv),
-        attribute::AS_PATH => judge_as_path(ctx, tlv),
-        attribute::NEXT_HOP => judge_next_hop(has_nlri, tlv),
-        attribute::MULTI_EXIT_DISC => judge_med(tlv),
-        attribute::LOCAL_PREF => judge_local_pref(ctx, tlv),
-        attribute::ATOMIC_AGGREGATE => judge_atomic(tlv),
-        attribute::AGGREGATOR => judge_aggregator(ctx, tlv),
-        attribute::COMMUNITIES => judge_communities(tlv),
-        attribute::MP_REACH_NLRI => judge_mp_reach(ctx, tlv),
-        attribute::MP_UNREACH_NLRI => judge_mp_unreach(ctx, tlv),
-        attribute::AS4_PATH => judge_as4_path(ctx, tlv),
-        attribute::AS4_AGGREGATOR => judge_as4_aggregator(ctx, tlv),
-        attribute::LARGE_COMMUNITY => judge_large(tlv),
-        _ => judge_other(tlv),
-    }
+    let mut found = FoundAttr::Discard(Why::Flags);
+    judge_into(ctx, has_nlri, tlv, &mut found);
+    found
 }
 
 /// The judgement of the first attribute of its type in a message, as [`judge_attribute`] says, with a notification of its own.

@@ -1,16 +1,16 @@
 //! What is to be done, in order.
 
-ghost use Rattle.std.specs.Prelude.{◌≡◌, ◌<◌, ◌++◌, ◌∷◌, [], length, true, false, OnOk, OnErr};
+ghost use Rattle.std.specs.Prelude.{◌≡◌, ◌<◌, ◌≤◌, ◌+◌, ◌++◌, ◌∷◌, [], length, take, true, false, OnOk, OnErr};
 ghost use Rattle.bgp_update.specs.As4.{onward_of, rebuilt};
 ghost use Rattle.bgp_update.specs.View.{routes_value, update_value};
-ghost use Rattle.bgp_machine.specs.declared.action.Action.TheVariants.{Announce, Arm, Withdraw};
+ghost use Rattle.bgp_machine.specs.declared.action.Action.TheVariants.{Announce, Arm, Close, Withdraw};
 ghost use Rattle.bgp_machine.specs.ActionView.{action_of, takes_memory};
 
 use crate::action::{Action, Actions};
 use crate::action_view::ActionView;
 use crate::timer::Timer;
 use arrayvec::ArrayVec;
-use bgp_update::{UpdateView, onward, reconcile};
+use bgp_update::{PathInfo, Update, UpdateView, onward, reconcile};
 use std::alloc::{AllocError, Global};
 use std::marker::Model;
 
@@ -31,25 +31,79 @@ impl<'a> Model for ActionViews<'a> {
 }
 
 // An `Action` has room for a NOTIFICATION of 4 KB, and a function clears the room of each that it makes as it is entered. So what most messages ask
-// for is made in functions of their own.
+// for is written into the action that stood there before, where that was of the same kind, and else made in functions of their own.
 
-/// Puts a timer that is to be started into a set.
+/// Puts a timer that is to be started where another action was.
 #[inline(never)]
-fn put_arm(timer: Timer, seconds: u16, actions: &mut Actions)
-    requires { length actions.old.items < 5 }
-    ensures { actions.new.items ≡ actions.old.items ++ Arm timer seconds ∷ [] }
+fn set_arm(timer: Timer, seconds: u16, place: &mut Action)
+    ensures { place.new ≡ Arm timer seconds }
 {
-    actions.push(Action::Arm(timer, seconds));
+    *place = Action::Arm(timer, seconds);
 }
 
-/// Puts any action that asks for no memory into a set.
-#[inline(never)]
-fn put_any_plain(action: &ActionView<'_>, actions: &mut Actions)
-    requires room { length actions.old.items < 5 }
-    requires plain { takes_memory (action_of action.now) ≡ false }
-    ensures { actions.new.items ≡ actions.old.items ++ action_of action.now ∷ [] }
+/// Puts a timer that is to be started into a place.
+#[inline(always)]
+fn fill_arm(timer: Timer, seconds: u16, place: &mut Action)
+    ensures { place.new ≡ Arm timer seconds }
 {
-    let plain = match action {
+    match place {
+        Action::Arm(which, time) => {
+            *which = timer;
+            *time = seconds;
+        }
+        other => set_arm(timer, seconds, other),
+    }
+}
+
+/// Puts an announcement where another action was.
+#[inline(never)]
+fn set_announce(update: Update, info: PathInfo, place: &mut Action)
+    ensures { place.new ≡ Announce update info }
+{
+    *place = Action::Announce(update, info);
+}
+
+/// Puts routes that the peer announces into a place.
+#[inline(never)]
+fn fill_announce(
+    alloc: Global,
+    view: &UpdateView<'_>,
+    place: &mut Action,
+) -> Result<(), AllocError>
+    ensures { OnOk result (place.new ≡ Announce (onward_of (update_value view.now)) (rebuilt (update_value view.now).attrs)) }
+{
+    let update = view.own(alloc)?;
+    let info = reconcile(alloc, &update.attrs)?;
+    match place {
+        Action::Announce(routes, path) => {
+            *routes = onward(update);
+            *path = info;
+        }
+        other => set_announce(onward(update), info, other),
+    }
+    Ok(())
+}
+
+/// Puts routes that are withdrawn into a place.
+#[inline(never)]
+fn fill_withdraw(
+    alloc: Global,
+    view: &UpdateView<'_>,
+    place: &mut Action,
+) -> Result<(), AllocError>
+    ensures { OnOk result (place.new ≡ Withdraw (routes_value view.now)) }
+{
+    *place = Action::Withdraw(view.routes(alloc)?);
+    Ok(())
+}
+
+/// The action, where it asks for no memory.
+#[inline(never)]
+fn set_plain(action: &ActionView<'_>, place: &mut Action)
+    requires { takes_memory (action_of action.now) ≡ false }
+    ensures { place.new ≡ action_of action.now }
+{
+    *place = match action {
         ActionView::Connect => Action::Connect,
         ActionView::SendOpen => Action::SendOpen,
         ActionView::SendKeepalive => Action::SendKeepalive,
@@ -60,66 +114,64 @@ fn put_any_plain(action: &ActionView<'_>, actions: &mut Actions)
         // Neither an announcement nor a withdrawal asks for no memory.
         ActionView::Close | ActionView::Announce(_) | ActionView::Withdraw(_) => Action::Close,
     };
-    actions.push(plain);
 }
 
-/// Puts an action that asks for no memory into a set: most messages start a timer.
+/// Puts an action that asks for no memory into a place: most messages start a timer.
 #[inline(always)]
-fn put_plain(action: &ActionView<'_>, actions: &mut Actions)
-    requires room { length actions.old.items < 5 }
-    requires plain { takes_memory (action_of action.now) ≡ false }
-    ensures { actions.new.items ≡ actions.old.items ++ action_of action.now ∷ [] }
+fn fill_plain(action: &ActionView<'_>, place: &mut Action)
+    requires { takes_memory (action_of action.now) ≡ false }
+    ensures { place.new ≡ action_of action.now }
 {
     match action {
-        ActionView::Arm(timer, seconds) => put_arm(*timer, *seconds, actions),
-        other => put_any_plain(other, actions),
+        ActionView::Arm(timer, seconds) => fill_arm(*timer, *seconds, place),
+        other => set_plain(other, place),
     }
 }
 
-/// Puts routes that the peer announces into a set.
-#[inline(never)]
-fn put_announce(
-    alloc: Global,
-    view: &UpdateView<'_>,
-    actions: &mut Actions,
-) -> Result<(), AllocError>
-    requires { length actions.old.items < 5 }
-    ensures { OnOk result (actions.new.items ≡ actions.old.items ++ Announce (onward_of (update_value view.now)) (rebuilt (update_value view.now).attrs) ∷ []) }
-{
-    let update = view.own(alloc)?;
-    let info = reconcile(alloc, &update.attrs)?;
-    actions.push(Action::Announce(onward(update), info));
-    Ok(())
-}
-
-/// Puts routes that are withdrawn into a set.
-#[inline(never)]
-fn put_withdraw(
-    alloc: Global,
-    view: &UpdateView<'_>,
-    actions: &mut Actions,
-) -> Result<(), AllocError>
-    requires { length actions.old.items < 5 }
-    ensures { OnOk result (actions.new.items ≡ actions.old.items ++ Withdraw (routes_value view.now) ∷ []) }
-{
-    actions.push(Action::Withdraw(view.routes(alloc)?));
-    Ok(())
-}
-
-/// Puts an action into a set, with memory of its own.
+/// Puts an action into a place, with memory of its own.
 #[inline(always)]
-fn put(alloc: Global, action: &ActionView<'_>, actions: &mut Actions) -> Result<(), AllocError>
-    requires { length actions.old.items < 5 }
-    ensures ok { OnOk result (actions.new.items ≡ actions.old.items ++ action_of action.now ∷ []) }
+fn fill(alloc: Global, action: &ActionView<'_>, place: &mut Action) -> Result<(), AllocError>
+    ensures ok { OnOk result (place.new ≡ action_of action.now) }
     ensures memory { OnErr result (takes_memory (action_of action.now) ≡ true) }
 {
     match action {
-        ActionView::Announce(view) => put_announce(alloc, view, actions),
-        ActionView::Withdraw(view) => put_withdraw(alloc, view, actions),
+        ActionView::Announce(view) => fill_announce(alloc, view, place),
+        ActionView::Withdraw(view) => fill_withdraw(alloc, view, place),
         plain => {
-            put_plain(plain, actions);
+            fill_plain(plain, place);
             Ok(())
         }
+    }
+}
+
+/// Room for one more action.
+#[inline(never)]
+fn make_room(actions: &mut Actions)
+    requires { length actions.old.items < 5 }
+    ensures { actions.new.items ≡ actions.old.items ++ Close ∷ [] }
+{
+    actions.push(Action::Close);
+}
+
+/// Puts an action at a place of a set, with memory of its own: over the one that stands there, or behind the last.
+#[inline(always)]
+fn put(
+    alloc: Global,
+    action: &ActionView<'_>,
+    at: usize,
+    actions: &mut Actions,
+) -> Result<(), AllocError>
+    requires room { at < 5 }
+    requires within { at ≤ length actions.old.items }
+    ensures ok { OnOk result (take (at + 1) actions.new.items ≡ take at actions.old.items ++ action_of action.now ∷ []) }
+    ensures memory { OnErr result (takes_memory (action_of action.now) ≡ true) }
+{
+    if actions.len() == at {
+        make_room(actions);
+    }
+    match actions.get_mut(at) {
+        None => Ok(()),
+        Some(place) => fill(alloc, action, place),
     }
 }
 
@@ -167,13 +219,13 @@ impl<'a> ActionViews<'a> {
         ensures err { OnErr result (actions.new.items ≡ []) }
         ensures memory { OnErr result (list_any takes_memory self.now ≡ true) }
     {
-        actions.clear();
-        for action in self.list.iter() {
-            if put(alloc, action, actions).is_err() {
+        'all: for (at, action) in self.list.iter().enumerate() {
+            if put(alloc, action, at, actions).is_err() {
                 actions.clear();
                 return Err(AllocError);
             }
         }
+        actions.truncate(self.list.len());
         Ok(())
     }
 
@@ -184,7 +236,9 @@ impl<'a> ActionViews<'a> {
         ensures { actions.new.items ≡ self.now }
     {
         for action in self.list.iter() {
-            put_plain(action, actions);
+            let mut place = Action::Close;
+            fill_plain(action, &mut place);
+            actions.push(place);
         }
     }
 }

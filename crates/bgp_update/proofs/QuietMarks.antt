@@ -1,5 +1,5 @@
 -- Marks without notes.
-use Rattle.std.proofs.Common.{◌≡◌, ℕ, Bool, false, List, [], ◌∷◌, ◌++◌, refl, ap₂, ◌∙◌, true≢false}
+use Rattle.std.proofs.Common.{◌≡◌, ℕ, Bool, false, ◌||◌, List, [], ◌∷◌, ◌++◌, refl, ap₂, ◌∙◌, true≢false}
 use Rattle.std.specs.List.{flat_map, list_any}
 use Rattle.std.proofs.lemmas.Bool.{or_parts}
 use Rattle.std.proofs.lemmas.List.Concat.{flat_map-cons}
@@ -8,7 +8,10 @@ use Rattle.bgp_attr.specs.declared.judged.Judged.{Judged}
 use Rattle.bgp_attr.specs.declared.judged.Judged.TheVariants as judged
 use Rattle.bgp_open.specs.declared.context.Context.{Context}
 use Rattle.bgp_update.specs.Marks.{Mark, field_marks}
-use Rattle.bgp_update.specs.Notes.{mark_notes}
+use Rattle.bgp_update.specs.declared.missing.Missing.{Missing}
+use Rattle.bgp_update.specs.declared.note.Note.{Note}
+use Rattle.bgp_update.specs.Parts.{Parts, attributes_at}
+use Rattle.bgp_update.specs.Notes.{is_missing, mark_notes, missing_notes, missing_of, notes_of}
 use Rattle.bgp_update.specs.Summary.{is_noted}
 
 no_note : (at place kind : ℕ) (j : Judged) → is_noted j ≡ false → mark_notes at (record { at = place; kind = kind; judged = j }) ≡ []
@@ -26,3 +29,14 @@ quiet_marks at (m ∷ ms) quiet =
 pub no_marks : (ctx : Context) (nlri : Bool) → field_marks ctx nlri [] ≡ []
 unfolding field_marks reader.pieces
 no_marks ctx nlri = refl
+
+nothing_missing : (m : Missing) → is_missing m ≡ false → missing_notes m ≡ []
+nothing_missing m none =
+    let first = or_parts m.origin (m.as_path || m.next_hop) none in
+    let others = or_parts m.as_path m.next_hop first.1 in
+    rw (first.0, others.0, others.1) refl
+
+pub no_notes : (p : Parts) (marks : List Mark) → (list_any (λ m. is_noted m.judged) marks || is_missing (missing_of p marks)) ≡ false → notes_of p marks ≡ []
+no_notes p marks none =
+    let parts = or_parts (list_any (λ (m : Mark). is_noted m.judged) marks) (is_missing (missing_of p marks)) none in
+    ap₂ (λ (a b : List Note). a ++ b) (quiet_marks (attributes_at p) marks parts.0) (nothing_missing (missing_of p marks) parts.1)

@@ -2,11 +2,13 @@
 use Rattle.std.specs.Prelude.{◌≡◌, ℕ, ◌-◌, Bool, ◌||◌, ◌==◌, List, [], ◌++◌, length, if◌then◌else◌}
 use Rattle.std.specs.List.{list_any}
 use Rattle.bgp_attr.specs.FoundAttr.{found_attr_value}
+use Rattle.bgp_attr.specs.Judgement.{judgement}
+use Rattle.bgp_attr.specs.declared.judged.Judged.{Judged}
 use Rattle.bgp_attr.specs.Tlv.{PlacedTlv}
 use Rattle.bgp_attr.specs.TlvIter.{tlvs_left, rest_left}
 use Rattle.bgp_update.specs.declared.mark.MarkView.{MarkView}
 use Rattle.bgp_update.specs.declared.mark.MarkIter.{MarkIter}
-use Rattle.bgp_update.specs.Marks.{Mark, marks_behind, cut_mark}
+use Rattle.bgp_update.specs.Marks.{Mark, marks_behind, repeated, cut_mark}
 use Rattle.bgp_wire.specs.OctetSet.{has_octet}
 
 abbrev pub mark_value : MarkView → Mark
@@ -21,6 +23,10 @@ marks_with it tlvs =
 -- the marks still to come
 abbrev pub marks_left : MarkIter → List Mark
 marks_left it = marks_with it (tlvs_left it.tlvs)
+
+-- what this whole attribute comes to where it is the next
+abbrev pub judged_next : MarkIter → PlacedTlv → Judged
+judged_next it p = if has_octet it.seen p.tlv.kind then repeated p.tlv.kind else judgement it.ctx it.has_nlri p.tlv
 
 -- a step: the types that were seen, and those of these whole attributes, are these
 abbrev pub HasTypesWith : MarkIter → List PlacedTlv → (ℕ → Bool) → Type 0

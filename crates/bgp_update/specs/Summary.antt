@@ -1,12 +1,11 @@
 -- What all marks of a field come to: steps of the verdict, which private functions cite.
-use Rattle.std.specs.Prelude.{Bool, true, false, ◌||◌, List, Option, option_map}
+use Rattle.std.specs.Prelude.{◌≡◌, Bool, true, false, ◌||◌, List, [], ◌∷◌, Option, option_map}
 use Rattle.std.specs.List.{list_any}
 use Rattle.std.specs.Option.{option_or}
 use Rattle.bgp_frame.specs.declared.notification.Notification.{Notification}
 use Rattle.bgp_frame.specs.Notification.{notification_of_view}
 use Rattle.bgp_attr.specs.declared.judged.Judged.{Judged}
 use Rattle.bgp_attr.specs.declared.judged.Judged.TheVariants as judged
-use Rattle.bgp_update.specs.declared.kept_view.KeptView.{KeptView}
 use Rattle.bgp_update.specs.declared.summary.Summary.{Summary}
 use Rattle.bgp_update.specs.KeptView.{Kept, kept_value, kept_in, kept_behind}
 use Rattle.bgp_update.specs.Marks.{Mark}
@@ -25,13 +24,12 @@ pub record SummaryValue : Type 0 where
   pub notes : Bool
   pub kept : Kept
 
--- with the attributes that are kept, which stand in a place of their own
-abbrev pub summary_value : Summary → KeptView → SummaryValue
-summary_value s kept = record {
+abbrev pub summary_value : Summary → SummaryValue
+summary_value s = record {
   reset = option_map notification_of_view s.reset;
   withdraws = s.withdraws;
   notes = s.notes;
-  kept = kept_value kept;
+  kept = kept_value s.kept;
 }
 
 -- with more marks behind those that it is of
@@ -42,6 +40,10 @@ summary_behind s marks = record {
   notes = s.notes || list_any (λ m. is_noted m.judged) marks;
   kept = kept_behind s.kept (kept_of marks);
 }
+
+-- with what one more attribute comes to
+abbrev pub Adds : Summary → Judged → Summary → Type 0
+Adds s judged t = (m : Mark) → m.judged ≡ judged → summary_value t ≡ summary_behind (summary_value s) (m ∷ [])
 
 abbrev pub summary_of : List Mark → SummaryValue
 summary_of marks = record {

@@ -48,8 +48,8 @@ impl<'a> UpdateView<'a> {
         requires { length body.withdrawn.now + length body.attributes.now ≤ 4073 }
         ensures { found_value result self.new ≡ verdict_on (parts_value body.entry) (marks_of ctx.now (parts_value body.entry)) }
     {
-        let summary = self.fill(ctx, body);
-        if let Some(reset) = summary.reset {
+        self.fill(ctx, body);
+        if let Some(reset) = self.summary.reset {
             return Found::Reset(reset);
         }
         if let Some(reset) = reset_of_run(body.withdrawn) {
@@ -58,7 +58,7 @@ impl<'a> UpdateView<'a> {
         if let Some(reset) = reset_of_run(body.nlri) {
             return Found::Reset(reset);
         }
-        if !summary.withdraws && !self.is_missing() {
+        if !self.summary.withdraws && !self.is_missing() {
             return Found::Take;
         }
         if self.reaches() {

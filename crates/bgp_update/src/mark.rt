@@ -6,7 +6,7 @@ ghost use Rattle.bgp_attr.specs.TlvIter.{tlvs_left};
 ghost use Rattle.bgp_update.specs.Small.{is_small};
 
 use crate::malformed::{cut, cut_kind, repeated};
-use bgp_attr::{FoundAttr, Tail, Tlv, TlvIter, judge_attribute};
+use bgp_attr::{FoundAttr, Sink, Tail, Tlv, TlvIter, Why, judge_into};
 use bgp_open::Context;
 use bgp_wire::OctetSet;
 use std::iter::FusedIterator;
@@ -35,11 +35,10 @@ pub(crate) struct MarkIter<'a> {
 
 impl<'a> MarkIter<'a> {
     ghost use Rattle.std.specs.Prelude.{ℕ, Bool, [], ◌∷◌, IfSome, MatchOption};
-    ghost use Rattle.bgp_attr.specs.FoundAttr.{found_attr_value};
     ghost use Rattle.bgp_attr.specs.TlvView.{placed_tlv};
     ghost use Rattle.std.specs.Iterator.{YieldsFirstBy};
     ghost use Rattle.bgp_update.specs.Marks.{field_marks};
-    ghost use Rattle.bgp_update.specs.MarkIter.{mark_value, marks_left, marks_with, HasTypes, HasTypesWith};
+    ghost use Rattle.bgp_update.specs.MarkIter.{mark_value, marks_left, marks_with, judged_next, HasTypes, HasTypesWith};
     ghost use Rattle.bgp_update.specs.Notes.{types_of_field};
     ghost use Rattle.bgp_wire.specs.OctetSet.{has_octet};
 
@@ -60,7 +59,7 @@ impl<'a> MarkIter<'a> {
         }
     }
 
-    /// The next whole attribute, which [`judge`](MarkIter::judge) is to be called with then.
+    /// The next whole attribute, which [`judge_into`](MarkIter::judge_into) is to be called with then.
     #[inline(always)]
     pub(crate) fn next_tlv(&mut self) -> Option<Tlv<'a>>
         ensures marks { MatchOption result ((tlvs_left self.new.tlvs ≡ []) × (marks_left self.new ≡ marks_left self.old))
@@ -72,21 +71,23 @@ impl<'a> MarkIter<'a> {
         self.tlvs.next()
     }
 
-    /// What an attribute that was given comes to. A summary is made of these: no mark is built round each.
+    /// Judges an attribute that was given, into a sink.
     #[inline(always)]
-    pub(crate) fn judge(&mut self, tlv: &Tlv<'a>) -> FoundAttr<'a>
+    pub(crate) fn judge_into<S: Sink<'a>>(&mut self, tlv: &Tlv<'a>, sink: &mut S)
         requires { length tlv.now.whole.now ≤ 4075 }
+        ensures puts { S.puts sink.old (judged_next self.old (placed_tlv tlv.now)) sink.new }
         ensures marks { marks_with self.old (placed_tlv tlv.now ∷ tlvs_left self.old.tlvs)
-            ≡ record { at = tlv.now.at; kind = tlv.now.kind; judged = found_attr_value result } ∷ marks_left self.new }
+            ≡ record { at = tlv.now.at; kind = tlv.now.kind; judged = judged_next self.old (placed_tlv tlv.now) } ∷ marks_left self.new }
         ensures types { (types : ℕ → Bool) → HasTypesWith self.old (placed_tlv tlv.now ∷ tlvs_left self.old.tlvs) types → HasTypes self.new types }
     {
         let kind = tlv.kind;
         let is_repeated = self.seen.contains(kind);
         self.seen.insert(kind);
         if is_repeated {
-            return repeated(kind);
+            sink.put(&repeated(kind));
+        } else {
+            judge_into(&self.ctx, self.has_nlri, tlv, sink);
         }
-        judge_attribute(&self.ctx, self.has_nlri, tlv)
     }
 
     /// The mark of an attribute that is cut off, where no whole one is left: nothing is left behind it.
@@ -134,7 +135,8 @@ impl<'a> Iterator for MarkIter<'a> {
     fn next(&mut self) -> Option<MarkView<'a>> {
         match self.next_tlv() {
             Some(tlv) => {
-                let judged = self.judge(&tlv);
+                let mut judged = FoundAttr::Discard(Why::Repeated);
+                self.judge_into(&tlv, &mut judged);
                 Some(MarkView {
                     at: tlv.at,
                     kind: tlv.kind,

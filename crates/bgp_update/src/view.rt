@@ -21,7 +21,7 @@ use crate::note::Note;
 use crate::note_iter::NoteIter;
 use crate::others::{others_in, own_others};
 use crate::routes::Routes;
-use crate::summary::{Summary, summarize};
+use crate::summary::Summary;
 use crate::update::Update;
 use bgp_attr::{MpReachView, MpUnreachView, OpaqueView};
 use bgp_frame::Notification;
@@ -36,12 +36,11 @@ pub struct UpdateView<'a> {
     ctx: Context,
     body: Body<'a>,
     missing: Missing,
-    kept: KeptView<'a>,
-    has_notes: bool,
+    pub(crate) summary: Summary<'a>,
     ghost short: { length body.withdrawn.now + length body.attributes.now ≤ 4073 },
     ghost misses: { missing ≡ missing_of (parts_value body) (marks_of ctx (parts_value body)) },
-    ghost keeps: { kept_value kept ≡ kept_in (kept_of (marks_of ctx (parts_value body))) },
-    ghost noted: { has_notes ≡ list_any (λ m. is_noted m.judged) (marks_of ctx (parts_value body)) },
+    ghost keeps: { kept_value summary.kept ≡ kept_in (kept_of (marks_of ctx (parts_value body))) },
+    ghost noted: { summary.notes ≡ list_any (λ m. is_noted m.judged) (marks_of ctx (parts_value body)) },
 }
 
 /// The verdict on the body of an UPDATE (RFC 7606, section 3), borrowed.
@@ -95,28 +94,24 @@ impl<'a> UpdateView<'a> {
                 nlri: &[],
             },
             missing: Missing::none(),
-            kept: KeptView::new(),
-            has_notes: false,
+            summary: Summary::new(),
         }
     }
 
-    /// Views a body in a context; what was viewed before is gone. Answers what its marks come to.
+    /// Views a body in a context; what was viewed before is gone.
     #[inline(always)]
-    pub(crate) fn fill(&mut self, ctx: &Context, body: Body<'a>) -> Summary<'a>
+    pub(crate) fn fill(&mut self, ctx: &Context, body: Body<'a>)
         requires { length body.withdrawn.now + length body.attributes.now ≤ 4073 }
         ensures ctx { self.new.ctx ≡ ctx.now }
         ensures body { self.new.body ≡ body.entry }
-        ensures sums { summary_value result self.new.kept ≡ summary_of (marks_of ctx.now (parts_value body.entry)) }
+        ensures sums { summary_value self.new.summary ≡ summary_of (marks_of ctx.now (parts_value body.entry)) }
     {
         let has_nlri = !body.nlri.is_empty();
-        self.kept = KeptView::new();
-        let (summary, types) = summarize(ctx, has_nlri, body.attributes, &mut self.kept);
-        let reaches = has_nlri || has_routes(&self.kept.reach);
+        let types = self.summary.sum_up(ctx, has_nlri, body.attributes);
+        let reaches = has_nlri || has_routes(&self.summary.kept.reach);
         self.missing = missing_in(reaches, has_nlri, &types);
-        self.has_notes = summary.notes;
         self.ctx = *ctx;
         self.body = body;
-        summary
     }
 
     /// Whether routes are announced.
@@ -124,7 +119,7 @@ impl<'a> UpdateView<'a> {
     pub(crate) fn reaches(&self) -> bool
         ensures { result ≡ is_reachable (parts_value self.now.body) (view_marks self.now) }
     {
-        !self.body.nlri.is_empty() || has_routes(&self.kept.reach)
+        !self.body.nlri.is_empty() || has_routes(&self.summary.kept.reach)
     }
 
     /// Whether an attribute that the message has to have is missing.
@@ -151,7 +146,7 @@ impl<'a> UpdateView<'a> {
 }
 
 impl<'a> UpdateView<'a> {
-    ghost use Rattle.std.specs.Prelude.{ℕ, true, map, option_map, IfOk, OnErr};
+    ghost use Rattle.std.specs.Prelude.{ℕ, true, ◌||◌, map, option_map, IfOk, OnErr};
     ghost use Rattle.std.specs.List.{flat_map};
     ghost use Rattle.bgp_attr.specs.AttrView.{opaque_value};
     ghost use Rattle.bgp_attr.specs.MpView.{reach_value, unreach_value};
@@ -172,7 +167,7 @@ impl<'a> UpdateView<'a> {
     fn noted_marks(&self) -> MarkIter<'a>
         ensures { (at : ℕ) → flat_map (mark_notes at) (marks_left result) ≡ flat_map (mark_notes at) (view_marks self.now) }
     {
-        if self.has_notes {
+        if self.summary.notes {
             self.marks()
         } else {
             MarkIter::new(&self.ctx, false, &[])
@@ -197,6 +192,13 @@ impl<'a> UpdateView<'a> {
         )
     }
 
+    /// Whether there are notes.
+    fn has_notes(&self) -> bool
+        ensures { result ≡ (list_any (λ m. is_noted m.judged) (view_marks self.now) || is_missing (missing_of (parts_value self.now.body) (view_marks self.now))) }
+    {
+        self.summary.notes || self.is_missing()
+    }
+
     /// The notes, with memory of their own.
     ///
     /// # Errors
@@ -204,7 +206,11 @@ impl<'a> UpdateView<'a> {
     pub fn own_notes(&self, alloc: Global) -> Result<List<Note>, AllocError>
         ensures { IfOk result (λ notes. notes ≡ notes_value self.now) }
     {
-        Ok(List::from_vec(self.notes().collect(alloc)?))
+        if self.has_notes() {
+            Ok(List::from_vec(self.notes().collect(alloc)?))
+        } else {
+            Ok(List::new(alloc))
+        }
     }
 
     /// The attributes that are kept, each in the slot of its type.
@@ -212,21 +218,21 @@ impl<'a> UpdateView<'a> {
         ensures known { known_value result.now ≡ known_of (update_value self.now).attrs }
         ensures others { result.now.others ≡ list_any is_opaque (kept_of (view_marks self.now)) }
     {
-        &self.kept
+        &self.summary.kept
     }
 
     /// The MP_REACH_NLRI that is kept.
     pub fn reach(&self) -> Option<MpReachView<'a>>
         ensures { option_map reach_value result ≡ (update_value self.now).attrs.mp_reach }
     {
-        self.kept.reach
+        self.summary.kept.reach
     }
 
     /// The MP_UNREACH_NLRI that is kept.
     pub fn unreach(&self) -> Option<MpUnreachView<'a>>
         ensures { option_map unreach_value result ≡ (update_value self.now).attrs.mp_unreach }
     {
-        self.kept.unreach
+        self.summary.kept.unreach
     }
 
     /// The kept attributes of types that aren't recognised, rising in type.
@@ -237,7 +243,7 @@ impl<'a> UpdateView<'a> {
         ensures value { IfOk result (λ os. map opaque_value os ≡ (update_value self.now).attrs.others) }
         ensures err { OnErr result (list_any is_opaque (kept_of (view_marks self.now)) ≡ true) }
     {
-        if self.kept.others {
+        if self.summary.kept.others {
             others_in(alloc, self.attrs())
         } else {
             Ok(List::new(alloc))
@@ -251,7 +257,7 @@ impl<'a> UpdateView<'a> {
     {
         let others = self.others(alloc)?;
         let owned = own_others(alloc, others.as_slice())?;
-        self.kept.own(alloc, owned)
+        self.summary.kept.own(alloc, owned)
     }
 
     /// The UPDATE with the attributes that are kept, with memory of its own.

@@ -1,7 +1,7 @@
-use Rattle.std.proofs.Common.{◌≡◌, ◌++◌, map, drop}
+use Rattle.std.proofs.Common.{◌≡◌, ◌≤◌, ◌++◌, length, take, map, drop}
 use Rattle.bgp_machine.specs.ActionView.{action_of}
 use Rattle.bgp_machine.proofs.action_views.ActionViews.own.Given as goal
 
--- what is there and what is left are all
-abbrev pub invariant-loop-action : goal.invariant-loop-action
-invariant-loop-action l = l.actions.items ++ map action_of (drop l.action-index l.action-items) ≡ l.self
+-- the set's first actions and those that are left are all
+abbrev pub invariant-all : goal.invariant-all
+invariant-all l = (l.at ≤ length l.actions.items) × (take l.at l.actions.items ++ map action_of (drop l.at l.action-items) ≡ l.self)

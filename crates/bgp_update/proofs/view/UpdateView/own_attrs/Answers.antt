@@ -16,5 +16,5 @@ returns c =
     let owned = c.in_ok-owned.owned in
     let others = c.in_ok-owned.ensures ∙ ap (λ (os : List OpaqueView). map opaque_value os) c.as_slice.ensures ∙ c.in_ok-others.ensures.value in
     let known = ap (λ (k : Kept). k.known) view.keeps in
-    IfOk-weaker c.own.result (λ a. a ≡ record (known_value view.kept) { others = owned }) (λ a. a ≡ attrs)
+    IfOk-weaker c.own.result (λ a. a ≡ record (known_value view.summary.kept) { others = owned }) (λ a. a ≡ attrs)
     (λ a is. is ∙ ap₂ (λ (k : Attrs) (os : List Opaque). record k { others = os }) known others) c.own.ensures

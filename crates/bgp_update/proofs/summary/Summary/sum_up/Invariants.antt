@@ -3,12 +3,12 @@ use Rattle.bgp_update.specs.MarkIter.{marks_left, HasTypes}
 use Rattle.bgp_update.specs.Marks.{field_marks}
 use Rattle.bgp_update.specs.Notes.{types_of_field}
 use Rattle.bgp_update.specs.Summary.{summary_value, summary_behind, summary_of}
-use Rattle.bgp_update.proofs.summary.summarize.Given as goal
+use Rattle.bgp_update.proofs.summary.Summary.sum_up.Given as goal
 
 -- those so far and those still to come are all, and so are their types
 abbrev pub invariant-field : goal.invariant-field
 invariant-field l =
-    (summary_behind (summary_value l.summary l.kept) (marks_left l.marks) ≡ summary_of (field_marks l.ctx l.has_nlri l.field)) × HasTypes l.marks (types_of_field l.field)
+    (summary_behind (summary_value l.self) (marks_left l.marks) ≡ summary_of (field_marks l.ctx l.has_nlri l.field)) × HasTypes l.marks (types_of_field l.field)
 
 abbrev pub decreases-field : goal.decreases-field
 decreases-field l = length (marks_left l.marks)

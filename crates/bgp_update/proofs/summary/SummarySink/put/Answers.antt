@@ -6,40 +6,40 @@ use Rattle.bgp_update.specs.Summary.{summary_value}
 use Rattle.bgp_update.proofs.KeptViews.{or_true, or_false, none_kept, one_kept}
 use Rattle.bgp_update.proofs.Options.{option_or-none, map_filled}
 use Rattle.bgp_update.proofs.Summaries.{by_mark}
-use Rattle.bgp_update.proofs.summary.Summary.add.Goals as goal
+use Rattle.bgp_update.proofs.summary.SummarySink.put.Goals as goal
 
 pub returns-in-Keep : goal.returns-in-Keep
 returns-in-Keep c m is =
-    let old = summary_value c.args.self.now c.args.kept.now in
-    by_mark old m (found_attr_value c.args.judged.now) is _ _ _ _
+    let old = summary_value c.args.self.now in
+    by_mark old m (found_attr_value c.args.found.now) is _ _ _ _
     (rw c.in-Keep.is (sym (option_or-none old.reset)))
     (rw c.in-Keep.is (sym (or_false old.withdraws)))
-    (ap (λ (t : Bool). old.notes || t) c.is_noted.ensures)
+    (rw c.in-Keep.is (sym (or_false old.notes)))
     (rw c.in-Keep.is (c.put.ensures ∙ one_kept old.kept (attr_value c.in-Keep.attr)))
 
 pub returns-in-Reset : goal.returns-in-Reset
 returns-in-Reset c m is =
-    let old = summary_value c.args.self.now c.args.kept.now in
-    by_mark old m (found_attr_value c.args.judged.now) is _ _ _ _
-    (rw c.in-Reset.is (ap (option_map notification_of_view) c.or-self.ensures ∙ map_filled notification_of_view c.args.self.now.reset c.in-Reset.found))
+    let old = summary_value c.args.self.now in
+    by_mark old m (found_attr_value c.args.found.now) is _ _ _ _
+    (rw c.in-Reset.is (ap (option_map notification_of_view) c.or-self.ensures ∙ map_filled notification_of_view c.args.self.now.reset c.in-Reset.why))
     (rw c.in-Reset.is (sym (or_false old.withdraws)))
-    (ap (λ (t : Bool). old.notes || t) c.is_noted.ensures)
+    (rw c.in-Reset.is (sym (or_false old.notes)))
     (rw c.in-Reset.is (sym (none_kept old.kept)))
 
 pub returns-in-Withdraw : goal.returns-in-Withdraw
 returns-in-Withdraw c m is =
-    let old = summary_value c.args.self.now c.args.kept.now in
-    by_mark old m (found_attr_value c.args.judged.now) is _ _ _ _
+    let old = summary_value c.args.self.now in
+    by_mark old m (found_attr_value c.args.found.now) is _ _ _ _
     (rw c.in-Withdraw.is (sym (option_or-none old.reset)))
     (rw c.in-Withdraw.is (sym (or_true old.withdraws false)))
-    (ap (λ (t : Bool). old.notes || t) c.is_noted.ensures)
+    (rw c.in-Withdraw.is (sym (or_true old.notes false)))
     (rw c.in-Withdraw.is (sym (none_kept old.kept)))
 
 pub returns-in-Discard : goal.returns-in-Discard
 returns-in-Discard c m is =
-    let old = summary_value c.args.self.now c.args.kept.now in
-    by_mark old m (found_attr_value c.args.judged.now) is _ _ _ _
+    let old = summary_value c.args.self.now in
+    by_mark old m (found_attr_value c.args.found.now) is _ _ _ _
     (rw c.in-Discard.is (sym (option_or-none old.reset)))
     (rw c.in-Discard.is (sym (or_false old.withdraws)))
-    (ap (λ (t : Bool). old.notes || t) c.is_noted.ensures)
+    (rw c.in-Discard.is (sym (or_true old.notes false)))
     (rw c.in-Discard.is (sym (none_kept old.kept)))
