@@ -1,6 +1,7 @@
 -- The segments of a path one after the other, a step at a time.
-use Rattle.std.proofs.Common.{◌≡◌, ℕ, ◌<◌, Bool, true, false, ◌||◌, List, [], ◌∷◌, ◌++◌, length, map, Option, Some, None, sym, ap, ◌∙◌}
+use Rattle.std.proofs.Common.{◌≡◌, ℕ, ◌<◌, Bool, false, ◌||◌, List, [], ◌∷◌, ◌++◌, length, map, Option, Some, None, sym, ap, ◌∙◌}
 use Rattle.std.specs.List.{flat_map, list_any}
+use Rattle.std.proofs.Math.Bool.{or_assoc}
 use Rattle.std.proofs.lemmas.List.Concat.{flat_map-cons}
 use Rattle.bgp_wire.proofs.Walks.{shorter, first_then, no_more, same_rest, all_rest}
 use Rattle.bgp_prefix.specs.declared.as_number.AsNumber.{AsNumber}
@@ -32,11 +33,13 @@ module _ (form : PathForm) (b : List ℕ) where
     pub segment_shorter : length rest < length b
     segment_shorter = shorter WireSegment (IsSegment form) (one_segment form) (IsSegment-reads form) b s rest e
 
-    pub zero_later : has_zero s ≡ false → path_has_zero form rest ≡ path_has_zero form b
-    zero_later none = sym (ap (list_any has_zero) segment_then ∙ ap (λ (t : Bool). t || list_any has_zero (segments_of form rest).0) none)
-
-    pub zero_first : has_zero s ≡ true → path_has_zero form b ≡ true
-    zero_first zero = ap (list_any has_zero) segment_then ∙ ap (λ (t : Bool). t || list_any has_zero (segments_of form rest).0) zero
+    -- a zero so far, in the first segment or in those behind it
+    pub zero_then : (so_far found whole : Bool) → found ≡ has_zero s → (so_far || path_has_zero form b) ≡ whole → ((so_far || found) || path_has_zero form rest) ≡ whole
+    zero_then so_far found whole e all =
+        ap (λ (t : Bool). (so_far || t) || path_has_zero form rest) e
+        ∙ or_assoc so_far (has_zero s) (path_has_zero form rest)
+        ∙ ap (λ (t : Bool). so_far || t) (sym (ap (list_any has_zero) segment_then))
+        ∙ all
 
     -- what is kept of the path begins with what is kept of its first segment
     pub kept_then : flat_map kept_segment (segments_of form b).0 ≡ kept_segment s ++ flat_map kept_segment (segments_of form rest).0

@@ -14,7 +14,7 @@ use crate::first_kept::first_kept;
 use crate::found_attr::FoundAttr;
 use crate::path_form::PathForm;
 use crate::path_view::PathView;
-use crate::segment::{path_fault, path_has_zero};
+use crate::segment::path_faults;
 use crate::tlv::Tlv;
 use crate::why::Why;
 use bgp_open::Context;
@@ -30,10 +30,11 @@ pub(crate) fn judge_as_path<'a>(ctx: &Context, tlv: &Tlv<'a>) -> FoundAttr<'a>
     if !tlv.flags.has_class(Class::WellKnown) {
         return FoundAttr::Withdraw(Why::Flags);
     }
-    if let Some(fault) = path_fault(form, tlv.value) {
+    let (fault, has_zero) = path_faults(form, tlv.value);
+    if let Some(fault) = fault {
         return FoundAttr::Withdraw(fault);
     }
-    if path_has_zero(form, tlv.value) {
+    if has_zero {
         return FoundAttr::Withdraw(Why::AsZero);
     }
     FoundAttr::Keep(AttrView::AsPath(PathView::new(form, tlv.value)))
@@ -56,10 +57,11 @@ pub(crate) fn judge_as4_path<'a>(ctx: &Context, tlv: &Tlv<'a>) -> FoundAttr<'a>
     if tlv.value.len() % 2 != 0 || tlv.value.len() < 6 {
         return FoundAttr::Discard(Why::Length);
     }
-    if let Some(fault) = path_fault(form, tlv.value) {
+    let (fault, has_zero) = path_faults(form, tlv.value);
+    if let Some(fault) = fault {
         return FoundAttr::Discard(fault);
     }
-    if path_has_zero(form, tlv.value) {
+    if has_zero {
         return FoundAttr::Discard(Why::AsZero);
     }
     if first_kept(form, tlv.value).is_none() {

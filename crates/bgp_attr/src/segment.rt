@@ -80,17 +80,6 @@ fn segment_fault(form: PathForm, rest: &[u8]) -> Option<Why>
     }
 }
 
-/// The first fault of a path.
-pub(crate) fn path_fault(form: PathForm, octets: &[u8]) -> Option<Why>
-    ensures { result ≡ path_fault form octets.now }
-{
-    let mut rest = octets;
-    'path: while let Some((_, after)) = first_segment(form, rest) {
-        rest = after;
-    }
-    segment_fault(form, rest)
-}
-
 /// Whether one of the numbers is 0.
 fn has_zero(wide: bool, octets: &[u8]) -> bool
     ensures { result ≡ list_any (λ n. n == 0) (numbers_of wide octets.now) }
@@ -105,16 +94,16 @@ fn has_zero(wide: bool, octets: &[u8]) -> bool
     false
 }
 
-/// Whether an AS number 0 stands in a segment of a path, also in one that is dropped.
-pub(crate) fn path_has_zero(form: PathForm, octets: &[u8]) -> bool
-    ensures { result ≡ path_has_zero form octets.now }
+/// What a path is wrong in: its first fault, and whether an AS number 0 stands in a segment, also in one that is dropped. It is walked once.
+pub(crate) fn path_faults(form: PathForm, octets: &[u8]) -> (Option<Why>, bool)
+    ensures fault { result.0 ≡ path_fault form octets.now }
+    ensures zero { result.1 ≡ path_has_zero form octets.now }
 {
     let mut rest = octets;
+    let mut zero = false;
     'path: while let Some((segment, after)) = first_segment(form, rest) {
-        if has_zero(form.wide, segment.numbers) {
-            return true;
-        }
+        zero |= has_zero(form.wide, segment.numbers);
         rest = after;
     }
-    false
+    (segment_fault(form, rest), zero)
 }
