@@ -1,8 +1,8 @@
 -- Numbers, triples and segments one after the other, a step at a time.
-use Rattle.std.proofs.Common.{◌≡◌, ℕ, ◌<◌, Bool, true, false, ◌||◌, List, [], ◌∷◌, length, map, Some, None, sym, ap, ◌∙◌}
+use Rattle.std.proofs.Common.{◌≡◌, ℕ, ◌<◌, ◌/◌, Bool, true, false, ◌||◌, List, [], ◌∷◌, length, map, suc, Some, None, arith, refl, sym, ap, ◌∙◌}
 use Rattle.std.specs.List.{list_any}
 use Rattle.bgp_wire.proofs.Walks.{shorter, first_then, no_more}
-use Rattle.bgp_attr.specs.Numbers.{IsNumber, one_number, numbers_of}
+use Rattle.bgp_attr.specs.Numbers.{IsNumber, number_width, one_number, numbers_of}
 use Rattle.bgp_attr.specs.Path.{as_number}
 use Rattle.bgp_attr.proofs.Readers.{IsNumber-reads}
 
@@ -31,3 +31,15 @@ module _ (wide : Bool) (b : List ℕ) where
 
   pub any_number_none : (test : ℕ → Bool) → None ≡ one_number wide b → list_any test (numbers_of wide b) ≡ false
   any_number_none test e = ap (list_any test) (no_number e)
+
+-- how many numbers octets begin with
+pub number_count : (wide : Bool) (b : List ℕ) → length (numbers_of wide b) ≡ length b / number_width wide
+unfolding one_number
+number_count true (x ∷ y ∷ z ∷ w ∷ rest) = ap length (number_then true (x ∷ y ∷ z ∷ w ∷ rest) _ rest refl) ∙ ap suc (number_count true rest) ∙ omega arith
+number_count true (x ∷ y ∷ z ∷ []) = ap length (no_number true (x ∷ y ∷ z ∷ []) refl)
+number_count true (x ∷ y ∷ []) = ap length (no_number true (x ∷ y ∷ []) refl)
+number_count true (x ∷ []) = ap length (no_number true (x ∷ []) refl)
+number_count true [] = ap length (no_number true [] refl)
+number_count false (x ∷ y ∷ rest) = ap length (number_then false (x ∷ y ∷ rest) _ rest refl) ∙ ap suc (number_count false rest) ∙ omega arith
+number_count false (x ∷ []) = ap length (no_number false (x ∷ []) refl)
+number_count false [] = ap length (no_number false [] refl)

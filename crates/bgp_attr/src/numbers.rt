@@ -1,7 +1,7 @@
 //! Numbers one after the other.
 
-ghost use Rattle.std.specs.Prelude.{◌≡◌, option_map};
-ghost use Rattle.bgp_attr.specs.Numbers.{one_number, four_at, two_at};
+ghost use Rattle.std.specs.Prelude.{◌≡◌, length, option_map};
+ghost use Rattle.bgp_attr.specs.Numbers.{numbers_of, one_number, four_at, two_at};
 
 use bgp_prefix::AsNumber;
 use std::iter::FusedIterator;
@@ -36,6 +36,18 @@ pub(crate) fn first_number(wide: bool, octets: &[u8]) -> Option<(u32, &[u8])>
         first_four(octets)
     } else {
         first_two(octets)
+    }
+}
+
+/// How many numbers octets begin with.
+#[tactic(auto, using(crate::proofs::NumberSteps::number_count))]
+fn count_numbers(wide: bool, octets: &[u8]) -> usize
+    ensures { result ≡ length (numbers_of wide octets.now) }
+{
+    if wide {
+        octets.len() / 4
+    } else {
+        octets.len() / 2
     }
 }
 
@@ -75,6 +87,12 @@ impl<'a> Iterator for AsNumberIter<'a> {
         self.rest = rest;
         Some(AsNumber(number))
     }
+
+    /// As many as there are: who collects them asks for that room at once.
+    fn size_hint(&self) -> (usize, Option<usize>) {
+        let left = count_numbers(self.wide, self.rest);
+        (left, Some(left))
+    }
 }
 
 impl<'a> FusedIterator for AsNumberIter<'a> {}
@@ -112,6 +130,12 @@ impl<'a> Iterator for CommIter<'a> {
         let (community, rest) = first_number(true, self.rest)?;
         self.rest = rest;
         Some(community)
+    }
+
+    /// As many as there are.
+    fn size_hint(&self) -> (usize, Option<usize>) {
+        let left = count_numbers(true, self.rest);
+        (left, Some(left))
     }
 }
 
