@@ -42,8 +42,8 @@ pub(crate) fn first_number(wide: bool, octets: &[u8]) -> Option<(u32, &[u8])>
 /// The AS numbers of a segment, in order (RFC 4271, section 4.3). It takes no memory.
 #[derive(Clone, Copy, Debug)]
 pub struct AsNumberIter<'a> {
-    wide: bool,
-    rest: &'a [u8],
+    pub(crate) wide: bool,
+    pub(crate) rest: &'a [u8],
 }
 
 impl<'a> AsNumberIter<'a> {
