@@ -12,21 +12,22 @@ use std::iter::FusedIterator;
 
 /// The first items of AS_PATH and then AS4_PATH, or AS_PATH alone, borrowed (RFC 6793, section 4.2.3).
 #[derive(Clone, Copy, Debug)]
-pub struct JoinedPath<'a> {
+pub struct JoinedPathView<'a> {
+    /// How many items of the first path lead: none where AS_PATH stands alone, which is the second then.
     items: usize,
     leading: PathView<'a>,
     behind: PathView<'a>,
 }
 
-impl<'a> JoinedPath<'a> {
+impl<'a> JoinedPathView<'a> {
     ghost use Rattle.bgp_update.specs.PathInfoView.{joined_value, joined_left};
 
     /// A path as it is.
     #[tactic(auto, using(crate::proofs::PathItems::no_lead))]
-    pub(crate) fn alone(path: PathView<'a>) -> JoinedPath<'a>
+    pub(crate) fn alone(path: PathView<'a>) -> JoinedPathView<'a>
         ensures { joined_value result ≡ path_value path.entry }
     {
-        JoinedPath {
+        JoinedPathView {
             items: 0,
             leading: path,
             behind: path,
@@ -34,15 +35,15 @@ impl<'a> JoinedPath<'a> {
     }
 
     /// The path of AS4_PATH, behind as many items of AS_PATH as that has more; where AS_PATH has fewer, it stands alone.
-    pub(crate) fn new(path: PathView<'a>, wide: PathView<'a>) -> JoinedPath<'a>
+    pub(crate) fn new(path: PathView<'a>, wide: PathView<'a>) -> JoinedPathView<'a>
         ensures { joined_value result ≡ joined (path_value path.entry) (path_value wide.entry) }
     {
         let all = items_of(path);
         let known = items_of(wide);
         if all < known {
-            return JoinedPath::alone(path);
+            return JoinedPathView::alone(path);
         }
-        JoinedPath {
+        JoinedPathView {
             items: all - known,
             leading: path,
             behind: wide,

@@ -42,7 +42,7 @@ pub use attr_iter::AttrIter;
 pub use attrs::Attrs;
 pub use found::Found;
 pub use invalid::Invalid;
-pub use joined_path::{JoinedPath, JoinedSegmentIter};
+pub use joined_path::{JoinedPathView, JoinedSegmentIter};
 pub use judge_body::view_update;
 pub use kept_view::KeptView;
 pub use note::Note;

@@ -7,7 +7,7 @@ ghost use Rattle.bgp_update.specs.As4.{rebuilt_path, rebuilt};
 ghost use Rattle.bgp_update.specs.KeptView.{known_value};
 ghost use Rattle.bgp_update.specs.PathInfoView.{joined_value, info_value};
 
-use crate::joined_path::JoinedPath;
+use crate::joined_path::JoinedPathView;
 use crate::kept_view::KeptView;
 use crate::path_info::PathInfo;
 use crate::reconciliation::aggregated;
@@ -20,7 +20,7 @@ use std::alloc::{AllocError, Global};
 #[derive(Clone, Copy, Debug)]
 pub struct PathInfoView<'a> {
     /// The path: none without AS_PATH.
-    pub path: Option<JoinedPath<'a>>,
+    pub path: Option<JoinedPathView<'a>>,
     /// The aggregator: none without AGGREGATOR.
     pub aggregator: Option<Aggregator>,
 }
@@ -29,13 +29,13 @@ pub struct PathInfoView<'a> {
 fn path_of<'a>(
     path: Option<PathView<'a>>,
     as4_path: Option<As4PathView<'a>>,
-) -> Option<JoinedPath<'a>>
+) -> Option<JoinedPathView<'a>>
     ensures { option_map joined_value result ≡ rebuilt_path (option_map path_value path.entry) (option_map as4_path_value as4_path.entry) }
 {
     let path = path?;
     let whole = match as4_path {
-        None => JoinedPath::alone(path),
-        Some(wide) => JoinedPath::new(path, wide.path),
+        None => JoinedPathView::alone(path),
+        Some(wide) => JoinedPathView::new(path, wide.path),
     };
     Some(whole)
 }

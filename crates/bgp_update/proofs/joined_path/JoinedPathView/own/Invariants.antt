@@ -1,6 +1,6 @@
 use Rattle.std.proofs.Common.{◌≡◌, ◌++◌}
 use Rattle.bgp_update.specs.PathInfoView.{joined_value, joined_left}
-use Rattle.bgp_update.proofs.joined_path.JoinedPath.own.Given as goal
+use Rattle.bgp_update.proofs.joined_path.JoinedPathView.own.Given as goal
 
 -- the segments so far, and those still to come, are all
 abbrev pub invariant-path : goal.invariant-path
