@@ -4,6 +4,7 @@ pub mod NumberSteps
 pub mod TlvFronts
 pub mod TlvSteps
 pub mod SegmentFronts
+pub mod NumberCounts
 pub mod SegmentSteps
 pub mod LargeSteps
 pub mod Aggregators

@@ -49,7 +49,7 @@ no_more_numbers : (wide : Bool) → numbers_of wide [] ≡ []
 no_more_numbers wide = no_number wide [] (sym (number_short wide [] (number_width-some wide)))
 
 module _ (wide : Bool) where
-  number_with : (x y : List ℕ) → length x ≡ number_width wide → numbers_of wide (x ++ y) ≡ number_in wide x ∷ numbers_of wide y
+  pub number_with : (x y : List ℕ) → length x ≡ number_width wide → numbers_of wide (x ++ y) ≡ number_in wide x ∷ numbers_of wide y
   number_with x y len = number_then wide (x ++ y) (number_in wide x) y (sym ((IsNumber-reads wide).finds (number_in wide x) x y (record { as_wide = len; value = refl })))
 
   counted : (n t : ℕ) (b : List ℕ) → t ≡ n * number_width wide → t ≤ length b

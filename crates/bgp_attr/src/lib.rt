@@ -11,6 +11,7 @@ mod communities;
 mod communities_view;
 mod family;
 mod first_kept;
+mod first_numbers;
 mod first_tlv;
 mod flags;
 mod found_attr;

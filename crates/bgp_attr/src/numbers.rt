@@ -54,8 +54,8 @@ fn count_numbers(wide: bool, octets: &[u8]) -> usize
 /// The AS numbers of a segment, in order (RFC 4271, section 4.3). It takes no memory.
 #[derive(Clone, Copy, Debug)]
 pub struct AsNumberIter<'a> {
-    wide: bool,
-    rest: &'a [u8],
+    pub(crate) wide: bool,
+    pub(crate) rest: &'a [u8],
 }
 
 impl<'a> AsNumberIter<'a> {

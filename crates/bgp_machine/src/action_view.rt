@@ -21,8 +21,8 @@ pub enum ActionView<'a> {
     Arm(Timer, u16),
     /// Stop the timer.
     Disarm(Timer),
-    /// The peer announces and withdraws routes. The UPDATE is as it came: which of its attributes aren't passed on, `onward` says, and the path in AS
-    /// numbers of four octets, `reconcile`.
+    /// The peer announces and withdraws routes. The UPDATE is as it came: which of its attributes aren't passed on, `onward` says; the path in AS
+    /// numbers of four octets, and the aggregator, `UpdateView::path_info` gives without memory.
     Announce(&'a UpdateView<'a>),
     /// The peer's message is treated as a withdrawal of its routes (RFC 7606, section 2).
     Withdraw(&'a UpdateView<'a>),

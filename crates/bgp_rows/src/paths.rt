@@ -4,11 +4,13 @@ use crate::attributes::no_attrs;
 use crate::page::Page;
 use crate::trouble::Trouble;
 use crate::written::message_of;
-use bgp_msg::Message;
+use bgp_msg::{Decoder, Look, Message, OutcomeView};
 use bgp_open::Context;
-use bgp_update::{PathInfo, Update, reconcile};
+use bgp_update::{PathInfo, Update, UpdateView, reconcile};
 use bgp_wire::List;
 use std::alloc::Global;
+
+const AN_UPDATE: Trouble = Trouble::Row("an UPDATE");
 
 /// Adds a path and an aggregator, as an UPDATE shows them.
 pub fn put_path(alloc: Global, page: &mut Page, info: PathInfo) -> Result<(), Trouble> {
@@ -23,10 +25,25 @@ pub fn put_path(alloc: Global, page: &mut Page, info: PathInfo) -> Result<(), Tr
     page.put_update(alloc, &update)
 }
 
-/// What the attributes of an UPDATE give.
+/// What the view of an UPDATE gives.
+fn viewed_info(alloc: Global, ctx: &Context, stream: &[u8]) -> Result<PathInfo, Trouble> {
+    let decoder = Decoder::new(*ctx);
+    let mut place = UpdateView::empty();
+    let Look::Message(_, _, OutcomeView::Update(view)) = decoder.look(stream, &mut place) else {
+        return Err(AN_UPDATE);
+    };
+    let info = view.path_info();
+    let owned = match info.own(alloc) {
+        Err(_) => info.own(alloc)?,
+        Ok(owned) => owned,
+    };
+    Ok(owned)
+}
+
+/// What the attributes of an UPDATE give; the view and the owned value have to agree.
 pub fn put_paths(alloc: Global, ctx: &Context, stream: &[u8]) -> Result<Page, Trouble> {
     let Message::Update(update) = message_of(alloc, ctx, stream)? else {
-        return Err(Trouble::Row("an UPDATE"));
+        return Err(AN_UPDATE);
     };
     let mut page = Page::new(alloc);
     page.put("path\n")?;
@@ -34,6 +51,11 @@ pub fn put_paths(alloc: Global, ctx: &Context, stream: &[u8]) -> Result<Page, Tr
         Err(_) => reconcile(alloc, &update.attrs)?,
         Ok(info) => info,
     };
+    let viewed = viewed_info(alloc, ctx, stream)?;
+    if info != viewed {
+        page.put("otherwise as a view:\n")?;
+        put_path(alloc, &mut page, viewed)?;
+    }
     put_path(alloc, &mut page, info)?;
     Ok(page)
 }

@@ -25,3 +25,4 @@ pub mod Taken
 pub mod SlotSteps
 pub mod FailedSteps
 pub mod Measures
+pub mod PathItems

@@ -16,6 +16,7 @@ pub mod Others
 pub mod Summary
 pub mod View
 pub mod Iters
+pub mod PathInfoView
 pub mod Laws
 pub mod Failed
 pub mod Measured

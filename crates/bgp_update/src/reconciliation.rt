@@ -1,7 +1,9 @@
 //! The path and the aggregator that speakers with AS numbers of two octets passed on.
 
-ghost use Rattle.std.specs.Prelude.{◌≡◌, option_map, IfOk};
-ghost use Rattle.bgp_update.specs.As4.{is_as_trans, joined, rebuilt_path, rebuilt};
+ghost use Rattle.std.specs.Prelude.{◌≡◌, Option, None, option_map, if◌then◌else◌, IfOk};
+ghost use Rattle.bgp_attr.specs.declared.path.AsPath.{AsPath};
+ghost use Rattle.bgp_attr.specs.declared.path.As4Path.{As4Path};
+ghost use Rattle.bgp_update.specs.As4.{is_as_trans, joined, rebuilt_path, rebuilt_by, rebuilt};
 
 use crate::as4_items::{add_copies, add_lead, items_of};
 use crate::attrs::Attrs;
@@ -53,24 +55,32 @@ fn is_as_trans(aggregator: Aggregator) -> bool
     aggregator.asn.0 == u32::from(AS_TRANS)
 }
 
+/// Who aggregated, and whether AS4_PATH holds: an aggregator that stands for no other voids what the AS4 attributes say, since a
+/// speaker of two octets aggregated behind them.
+pub(crate) fn aggregated(
+    aggregator: Option<Aggregator>,
+    as4_aggregator: Option<Aggregator>,
+) -> (Option<Aggregator>, bool)
+    ensures { (path : Option AsPath) (wide : Option As4Path) → rebuilt_by aggregator as4_aggregator path wide
+        ≡ record { path = rebuilt_path path (if result.1 then wide else None); aggregator = result.0 } }
+{
+    match (aggregator, as4_aggregator) {
+        (Some(narrow), Some(_)) if !is_as_trans(narrow) => (aggregator, false),
+        (Some(_), Some(_)) => (as4_aggregator, true),
+        _ => (aggregator, true),
+    }
+}
+
 /// The path and the aggregator that AS_PATH, AS4_PATH, AGGREGATOR and AS4_AGGREGATOR give together, as a speaker with AS numbers of
-/// four octets reads them from one that has two (RFC 6793, section 4.2.3). An AGGREGATOR that stands for no other voids what
-/// AS4_PATH and AS4_AGGREGATOR say, since a speaker of two octets aggregated behind them.
+/// four octets reads them from one that has two (RFC 6793, section 4.2.3).
 ///
 /// # Errors
 /// `AllocError` where an allocation failed.
 pub fn reconcile(alloc: Global, attrs: &Attrs) -> Result<PathInfo, AllocError>
     ensures { IfOk result (λ info. info ≡ rebuilt attrs.now) }
 {
-    let mut aggregator = attrs.aggregator;
-    let mut as4_path = attrs.as4_path.as_ref();
-    if let (Some(narrow), Some(wide)) = (attrs.aggregator, attrs.as4_aggregator) {
-        if is_as_trans(narrow) {
-            aggregator = Some(wide);
-        } else {
-            as4_path = None;
-        }
-    }
+    let (aggregator, holds) = aggregated(attrs.aggregator, attrs.as4_aggregator);
+    let as4_path = if holds { attrs.as4_path.as_ref() } else { None };
     let path = rebuilt_path(alloc, &attrs.as_path, as4_path)?;
     Ok(PathInfo { path, aggregator })
 }

@@ -1,0 +1,36 @@
+//! How many AS numbers a segment has, and the first of them.
+
+ghost use Rattle.std.specs.Prelude.{◌≡◌, length, take};
+
+use crate::numbers::AsNumberIter;
+use crate::segment::number_width;
+
+impl<'a> AsNumberIter<'a> {
+    ghost use Rattle.bgp_attr.specs.NumberIter.{as_numbers_left};
+
+    /// How many numbers are still to come.
+    #[tactic(auto, using(crate::proofs::NumberCounts::four_left, crate::proofs::NumberCounts::two_left))]
+    pub fn left(&self) -> usize
+        ensures { result ≡ length (as_numbers_left self.now) }
+    {
+        if self.wide {
+            self.rest.len() / 4
+        } else {
+            self.rest.len() / 2
+        }
+    }
+
+    /// The first numbers still to come, as many as these, or all where there are fewer.
+    pub fn first(self, count: usize) -> AsNumberIter<'a>
+        ensures { as_numbers_left result ≡ take count (as_numbers_left self.entry) }
+    {
+        if count >= self.left() {
+            return self;
+        }
+        let end = count * number_width(self.wide);
+        AsNumberIter {
+            wide: self.wide,
+            rest: &self.rest[..end],
+        }
+    }
+}

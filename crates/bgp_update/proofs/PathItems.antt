@@ -1,0 +1,50 @@
+-- The items of a path in octets are no more than these, and the first of them go segment by segment.
+use Rattle.std.proofs.Common.{◌≡◌, ℕ, suc, ◌+◌, ◌*◌, ◌<◌, ◌≤◌, Bool, true, false, List, [], ◌∷◌, length, Option, Some, None, refl, ap, ◌∙◌, arith}
+use Rattle.std.specs.List.{flat_map}
+use Rattle.std.proofs.lemmas.List.{length-append, length-map}
+use Rattle.std.proofs.lemmas.List.Concat.{flat_map-cons}
+use Rattle.std.proofs.lemmas.List.Sums.{sum_by-append}
+use Rattle.bgp_wire.specs.Row.{Row}
+use Rattle.bgp_wire.proofs.Pieces.{Splits-pieces}
+use Rattle.bgp_attr.specs.declared.path.SegKind.{SegKind}
+use Rattle.bgp_attr.specs.declared.path.SegKind.TheVariants.{Set, Seq}
+use Rattle.bgp_attr.specs.declared.path.Segment.{Segment}
+use Rattle.bgp_attr.specs.declared.path_form.PathForm.{PathForm}
+use Rattle.bgp_attr.specs.Numbers.{number_width}
+use Rattle.bgp_attr.specs.Path.{WireSegment, IsSegment, one_segment, segments_of, kept_segment, segment_kept_as, kind_of_segment, kept_segments_of, as_number}
+use Rattle.bgp_attr.proofs.Readers.{IsSegment-reads}
+use Rattle.bgp_attr.proofs.NumberRows.{length-number_row}
+use Rattle.bgp_update.specs.As4.{items_in, items_of, lead}
+
+-- ---- no more items than octets
+
+kept_items : (kind : Option SegKind) (numbers : List ℕ) → 0 < length numbers → items_of (segment_kept_as kind numbers) ≤ length numbers
+kept_items None numbers some = omega arith
+kept_items (Some Set) numbers some = omega arith
+kept_items (Some Seq) numbers some = omega (arith, length-map numbers as_number)
+
+at_least : (wide : Bool) (n len : ℕ) → len ≡ number_width wide * n → n ≤ len
+at_least true n len e = omega (arith, e)
+at_least false n len e = omega (arith, e)
+
+row_items : (form : PathForm) (ss : List WireSegment) (b : List ℕ) → Row (IsSegment form) ss b → items_of (flat_map kept_segment ss) ≤ length b
+row_items form [] b row = omega arith
+row_items form (s ∷ ss) b row =
+    let p = row.3 in
+    let numbers : length s.numbers ≤ length (p.counted).row = at_least form.wide _ _ (length-number_row form.wide s.numbers (p.counted).row (p.counted).spelled) in
+    let front : length row.0 ≡ suc (suc (length (p.counted).row)) = ap length p.octets ∙ ap suc (ap length (p.counted).octets) in
+    let both : items_of (flat_map kept_segment (s ∷ ss)) ≡ items_of (kept_segment s) + items_of (flat_map kept_segment ss) =
+    ap items_of (flat_map-cons kept_segment s ss) ∙ sum_by-append items_in (kept_segment s) (flat_map kept_segment ss) in
+    let first : items_of (kept_segment s) ≤ length s.numbers = kept_items (kind_of_segment s.code) s.numbers p.some in
+    omega (arith, both, first, numbers, front, row_items form ss row.1 row.4, ap length row.2, length-append row.0 row.1)
+
+pub items_within : (form : PathForm) (b : List ℕ) → items_of (kept_segments_of form b) ≤ length b
+items_within form b =
+    let s = Splits-pieces WireSegment (IsSegment form) (one_segment form) (IsSegment-reads form) b in
+    omega (arith, row_items form (segments_of form b).0 s.row s.spelled, ap length s.whole, length-append s.row (segments_of form b).1)
+
+-- ---- the first items
+
+pub no_lead : (segments : List Segment) → lead 0 segments ≡ []
+no_lead [] = refl
+no_lead (s ∷ segments) = refl

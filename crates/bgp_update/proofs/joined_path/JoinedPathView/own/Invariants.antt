@@ -1,0 +1,7 @@
+use Rattle.std.proofs.Common.{◌≡◌, ◌++◌}
+use Rattle.bgp_update.specs.PathInfoView.{joined_value, joined_left}
+use Rattle.bgp_update.proofs.joined_path.JoinedPathView.own.Given as goal
+
+-- the segments so far, and those still to come, are all
+abbrev pub invariant-path : goal.invariant-path
+invariant-path l = l.segments ++ joined_left l.segment-iterator ≡ (joined_value l.fn.self).segments

@@ -1,0 +1,12 @@
+use Rattle.std.proofs.Common.{ap, ◌∙◌, arith}
+use Rattle.std.proofs.lemmas.List.Sums.{sum_by-cons}
+use Rattle.bgp_attr.specs.PathView.{segment_value, segments_left}
+use Rattle.bgp_update.specs.As4.{items_in, items_of}
+use Rattle.bgp_update.proofs.PathItems.{items_within}
+use Rattle.bgp_update.proofs.view_items.items_of.Goals as goal
+
+pub overflow_add-items : goal.overflow_add-items
+overflow_add-items c =
+    let path = c.args.path in
+    let first = ap items_of c.in-Some.ensures.steps ∙ sum_by-cons items_in (segment_value c.in-Some.segment) (segments_left c.next.new.self) in
+    omega (arith, c.path.invariant, first, c.items_in-items.ensures, items_within path.form path.octets.now)
