@@ -2,22 +2,17 @@
 
 ghost use Rattle.std.specs.Prelude.{◌≡◌, length, take};
 
-use crate::numbers::AsNumberIter;
+use crate::numbers::{AsNumberIter, count_numbers};
 use crate::segment::number_width;
 
 impl<'a> AsNumberIter<'a> {
     ghost use Rattle.bgp_attr.specs.NumberIter.{as_numbers_left};
 
     /// How many numbers are still to come.
-    #[tactic(auto, using(crate::proofs::NumberCounts::four_left, crate::proofs::NumberCounts::two_left))]
     pub fn left(&self) -> usize
         ensures { result ≡ length (as_numbers_left self.now) }
     {
-        if self.wide {
-            self.rest.len() / 4
-        } else {
-            self.rest.len() / 2
-        }
+        count_numbers(self.wide, self.rest)
     }
 
     /// The first numbers still to come, as many as these, or all where there are fewer.

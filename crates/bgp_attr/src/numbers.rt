@@ -41,7 +41,7 @@ pub(crate) fn first_number(wide: bool, octets: &[u8]) -> Option<(u32, &[u8])>
 
 /// How many numbers octets begin with.
 #[tactic(auto, using(crate::proofs::NumberSteps::number_count))]
-fn count_numbers(wide: bool, octets: &[u8]) -> usize
+pub(crate) fn count_numbers(wide: bool, octets: &[u8]) -> usize
     ensures { result ≡ length (numbers_of wide octets.now) }
 {
     if wide {
@@ -90,7 +90,7 @@ impl<'a> Iterator for AsNumberIter<'a> {
 
     /// As many as there are: who collects them asks for that room at once.
     fn size_hint(&self) -> (usize, Option<usize>) {
-        let left = count_numbers(self.wide, self.rest);
+        let left = self.left();
         (left, Some(left))
     }
 }
