@@ -139,11 +139,29 @@ static void establish(ristulva_session *session)
     must(ristulva_session_state(session, &state) == RISTULVA_OK && state == RISTULVA_ESTABLISHED, "the session isn't Established");
 }
 
+/* How many prefixes a cursor gives, told at once. */
+static unsigned long prefixes_of(const struct message *m, ristulva_prefixes cursor)
+{
+    size_t count = 0;
+    must(ristulva_count_prefixes(m->octets, m->len, &cursor, &count) == RISTULVA_OK, "prefixes aren't counted");
+    return count;
+}
+
+static unsigned long prefixes_in(const struct message *m, ristulva_span field)
+{
+    ristulva_prefixes cursor = {field.at, field.at + field.len, 1};
+    return prefixes_of(m, cursor);
+}
+
 /* Counts the prefixes of an attribute of multiprotocol routes. */
 static void count_attribute(const struct message *m, const ristulva_attribute *attribute, struct sums *sums)
 {
-    if (attribute->kind == MP_REACH || attribute->kind == MP_UNREACH)
-        walk_attribute(m, attribute, sums);
+    ristulva_span next_hop;
+    ristulva_prefixes cursor;
+    if (attribute->kind == MP_REACH && ristulva_reached(m->octets, m->len, &attribute->value, &next_hop, &cursor) == RISTULVA_OK)
+        sums->announced += prefixes_of(m, cursor);
+    else if (attribute->kind == MP_UNREACH && ristulva_unreached(m->octets, m->len, &attribute->value, &cursor) == RISTULVA_OK)
+        sums->withdrawn += prefixes_of(m, cursor);
 }
 
 static void count_routes(const struct message *m, struct sums *sums)
@@ -152,8 +170,8 @@ static void count_routes(const struct message *m, struct sums *sums)
     ristulva_attribute attribute;
     while (ristulva_next_attribute(m->octets, m->len, &cursor, &attribute) == RISTULVA_OK)
         count_attribute(m, &attribute, sums);
-    sums->withdrawn += count_field(m, m->parts.withdrawn);
-    sums->announced += count_field(m, m->parts.nlri);
+    sums->withdrawn += prefixes_in(m, m->parts.withdrawn);
+    sums->announced += prefixes_in(m, m->parts.nlri);
 }
 
 /* Lets a session hear a stream up to its end, or to where the session ends. */

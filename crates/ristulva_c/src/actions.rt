@@ -67,6 +67,7 @@ pub struct Actions {
 }
 
 /// Nothing is to be done.
+#[inline(always)]
 fn no_action() -> Action
     ensures { result ≡ no_action }
 {
@@ -74,6 +75,7 @@ fn no_action() -> Action
 }
 
 /// An action that is all in its kind.
+#[inline(always)]
 fn plain(kind: u8) -> Action
     ensures { result ≡ plain kind }
 {
@@ -116,6 +118,7 @@ fn action_told(action: &ActionView<'_>) -> Action
 }
 
 /// The first action as it is told, and those behind it.
+#[inline(always)]
 fn first<'a, 'b>(actions: &'b [ActionView<'a>]) -> (Action, &'b [ActionView<'a>])
     ensures first { result.0 ≡ first_told (map action_of actions.now) }
     ensures rest { map action_of result.1.now ≡ rest_of (map action_of actions.now) }
@@ -127,6 +130,7 @@ fn first<'a, 'b>(actions: &'b [ActionView<'a>]) -> (Action, &'b [ActionView<'a>]
 }
 
 /// How many places are taken.
+#[inline(always)]
 fn count_of(actions: &[ActionView<'_>]) -> usize
     ensures value { result ≡ count_of (map action_of actions.now) }
     ensures bound { result ≤ 5 }
@@ -136,6 +140,7 @@ fn count_of(actions: &[ActionView<'_>]) -> usize
 }
 
 /// The actions as they are told.
+#[inline(always)]
 pub(crate) fn actions_told(actions: &[ActionView<'_>]) -> Actions
     ensures told { result ≡ actions_told (map action_of actions.now) }
     ensures bound { result.count ≤ 5 }

@@ -155,3 +155,26 @@ pub extern "C" fn ristulva_next_prefix(
         },
     }
 }
+
+/// Tells how many prefixes a cursor still gives: it stays where it is.
+#[unsafe(no_mangle)]
+pub extern "C" fn ristulva_count_prefixes(
+    octets: &[u8],
+    cursor: &Prefixes,
+    count: &mut usize,
+) -> u32
+    ensures ok { result ≡ OK → count.new ≡ length (prefixes_left octets.now cursor.now) }
+    ensures range { (result ≡ RANGE) ↔ (IsCursor octets.now cursor.now → ⊥) }
+    ensures kept { (result ≡ OK) ⊎ (count.new ≡ count.old) }
+    ensures known { (result ≡ OK) ⊎ (result ≡ RANGE) }
+{
+    let Some(rest) = rest_of(octets, cursor) else {
+        return RANGE;
+    };
+    match cursor.afi {
+        afi::IPV4 => *count = PrefixIter4::new(rest).left(),
+        afi::IPV6 => *count = PrefixIter6::new(rest).left(),
+        _ => return RANGE,
+    }
+    OK
+}
