@@ -245,6 +245,10 @@ typedef struct {
  * neither 1 nor 2. */
 ristulva_status ristulva_next_prefix(const uint8_t *octets, size_t len, ristulva_prefixes *cursor, ristulva_prefix *out);
 
+/* Tells how many prefixes a cursor still gives, which stays where it is: for who counts routes, or makes room for them. RISTULVA_RANGE, and
+ * nothing is written: as ristulva_next_prefix has it. */
+ristulva_status ristulva_count_prefixes(const uint8_t *octets, size_t len, const ristulva_prefixes *cursor, size_t *count);
+
 /* Begins a cursor at the prefixes of MP_REACH_NLRI (type 14; RFC 4760, section 3), of which `value` is the value, and tells where the
  * next hop lies: 4 octets for IPv4; 16 for IPv6, or 32 where a link-local address stands behind the global one (RFC 2545).
  *
