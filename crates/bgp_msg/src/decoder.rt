@@ -65,6 +65,13 @@ impl Decoder {
         self.framer.held()
     }
 
+    /// The octets that are held.
+    pub fn octets(&self) -> &[u8]
+        ensures { result.now ≡ self.now.held }
+    {
+        self.framer.octets()
+    }
+
     /// Consumes octets of the piece until it ends, or a whole message or a header with a fault is held. Answers how many it consumed: none
     /// behind a reset.
     pub fn feed(&mut self, piece: &[u8]) -> usize
