@@ -6,63 +6,13 @@
  * Each allocation fails in turn, on STACK octets of stack. It prints what the sessions did in one life, and ends with 1 at the first
  * answer that the header doesn't allow. */
 #include "ristulva.h"
+#include "trial.h"
 #include <pthread.h>
-#include <stdio.h>
-#include <stdlib.h>
 #include <string.h>
 
 #ifndef STACK
 #define STACK (64 * 1024)
 #endif
-
-#define WANT(fact) ((fact) ? (void)0 : wrong(#fact, __LINE__))
-
-static _Noreturn void wrong(const char *fact, int line)
-{
-    fprintf(stderr, "sessions: line %d: not %s\n", line, fact);
-    exit(1);
-}
-
-/* ---- memory: in place of the three functions that the library has ---- */
-
-static long allocations, live, refused;
-
-struct tried {
-    _Bool there;
-    void *at;
-};
-
-struct tried rattle_alloc(size_t size, size_t align);
-struct tried rattle_realloc(void *at, size_t old, size_t size, size_t align);
-void rattle_dealloc(void *at);
-
-struct tried rattle_alloc(size_t size, size_t align)
-{
-    struct tried none = {0, &live}, made;
-    if (++allocations == refused)
-        return none;
-    made.at = malloc(size == 0 ? align : size);
-    made.there = made.at != NULL;
-    live += made.there;
-    return made.there ? made : none;
-}
-
-struct tried rattle_realloc(void *at, size_t old, size_t size, size_t align)
-{
-    struct tried none = {0, &live}, made;
-    (void)old;
-    if (++allocations == refused)
-        return none;
-    made.at = realloc(at, size == 0 ? align : size);
-    made.there = made.at != NULL;
-    return made.there ? made : none;
-}
-
-void rattle_dealloc(void *at)
-{
-    live--;
-    free(at);
-}
 
 /* ---- a side: a session, and what came for it ---- */
 

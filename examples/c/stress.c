@@ -6,9 +6,8 @@
  * written outside of what a call is handed; octets lie beside memory that can't be read. It runs on 32 KB of stack, or on STACK of them. It prints how many calls it made, and
  * ends with 1 at the first answer that the header doesn't allow. */
 #include "ristulva.h"
+#include "trial.h"
 #include <pthread.h>
-#include <stdio.h>
-#include <stdlib.h>
 #include <string.h>
 #include <sys/mman.h>
 
@@ -16,57 +15,8 @@
 #define STACK (32 * 1024)
 #endif
 
-#define WANT(fact) ((fact) ? (void)0 : wrong(#fact, __LINE__))
-
-static _Noreturn void wrong(const char *fact, int line)
-{
-    fprintf(stderr, "stress: line %d: not %s\n", line, fact);
-    exit(1);
-}
-
-/* ---- memory: in place of the three functions that the library has ---- */
-
-static long allocations, live, refused;
-
 /* How many sessions there are: each is memory that a call leaves. */
 static long sessions;
-
-struct tried {
-    _Bool there;
-    void *at;
-};
-
-struct tried rattle_alloc(size_t size, size_t align);
-struct tried rattle_realloc(void *at, size_t old, size_t size, size_t align);
-void rattle_dealloc(void *at);
-
-struct tried rattle_alloc(size_t size, size_t align)
-{
-    struct tried none = {0, &live}, made;
-    if (++allocations == refused)
-        return none;
-    made.at = malloc(size == 0 ? align : size);
-    made.there = made.at != NULL;
-    live += made.there;
-    return made.there ? made : none;
-}
-
-struct tried rattle_realloc(void *at, size_t old, size_t size, size_t align)
-{
-    struct tried none = {0, &live}, made;
-    (void)old;
-    if (++allocations == refused)
-        return none;
-    made.at = realloc(at, size == 0 ? align : size);
-    made.there = made.at != NULL;
-    return made.there ? made : none;
-}
-
-void rattle_dealloc(void *at)
-{
-    live--;
-    free(at);
-}
 
 /* ---- chance ---- */
 
@@ -389,6 +339,30 @@ static void try_encode(const ristulva_context *context, const uint8_t *body, siz
     calls += 2;
 }
 
+/* A decoder that gets the octets in two pieces tells the same of the first message. */
+static void try_decoder(const ristulva_context *context, const uint8_t *octets, size_t len, const ristulva_found *found, const ristulva_verdict *verdict)
+{
+    static uint8_t message[RISTULVA_MESSAGE + 1], data[RISTULVA_DATA + 1];
+    size_t cut = below((uint32_t)len + 1), taken = 77, more = 0, size = found->what == RISTULVA_FAULT ? 19 : found->len;
+    ristulva_decoder decoder = {NULL};
+    ristulva_verdict told;
+    ristulva_status status;
+    memset(&told, 0xa5, sizeof told);
+    memset(message, 0x5a, sizeof message);
+    WANT(ristulva_decoder_new(context, &decoder) == RISTULVA_OK);
+    status = ristulva_decoder_pull(&decoder, octets, cut, message, RISTULVA_MESSAGE, data, RISTULVA_DATA, &taken, &told);
+    if (status == RISTULVA_INCOMPLETE) {
+        WANT(taken == cut && told.verdict == 0xa5 && message[0] == 0x5a);
+        status = ristulva_decoder_pull(&decoder, octets + cut, len - cut, message, RISTULVA_MESSAGE, data, RISTULVA_DATA, &more, &told);
+    }
+    calls += 2;
+    WANT(status == (found->what == RISTULVA_MORE ? RISTULVA_INCOMPLETE : RISTULVA_OK));
+    WANT(taken + more == (found->what == RISTULVA_MORE ? len : size));
+    if (status == RISTULVA_OK)
+        WANT(memcmp(&told, verdict, sizeof told) == 0 && memcmp(message, octets, size) == 0 && message[size] == 0x5a);
+    WANT(ristulva_decoder_free(&decoder) == RISTULVA_OK && live == sessions);
+}
+
 /* ---- sessions ---- */
 
 static ristulva_session session;
@@ -515,6 +489,7 @@ static void try_all(const uint8_t *from, size_t len)
     try_notes(&context, octets, len, &found, &verdict);
     try_open(octets, len, &found, &verdict);
     try_text(&context, octets, len, &found);
+    try_decoder(&context, octets, len, &found, &verdict);
     try_session(octets, len, &found);
     if (found.what == RISTULVA_FOUND && verdict.kind == 2) {
         ristulva_prefixes gone = {verdict.parts.withdrawn.at, verdict.parts.withdrawn.at + verdict.parts.withdrawn.len, 1};

@@ -5,10 +5,16 @@
         for prefix in message.announced():
             ...
 
+    with ristulva.Decoder(ristulva.Context(as4=True)) as decoder:
+        for piece in pieces:
+            for message in decoder.feed(piece):
+                ...
+
     with ristulva.Session(ristulva.Config(65001, 65002, "192.0.2.1")) as session:
         for action in session.event(ristulva.Event.START):
             ..."""
 
+from .decoder import Decoder, DecoderClosed
 from .library import MESSAGE, VERSION
 from .message import VERDICTS, WHYS, Attribute, Context, Message, Open, Refused, WrongState, encode, judge, messages, narrow, reconcile
 from .session import (
@@ -16,7 +22,7 @@ from .session import (
 )
 
 __all__ = [
-    "MESSAGE", "VERDICTS", "VERSION", "WHYS", "Action", "Announce", "Arm", "Attribute", "Close", "Config", "Context", "Disarm", "Event", "Flush",
-    "Heard", "Message", "Open", "Peer", "Refused", "Seek", "Send", "Session", "SessionClosed", "State", "Timer", "Withdraw", "WrongState", "encode",
-    "judge", "messages", "narrow", "reconcile",
+    "MESSAGE", "VERDICTS", "VERSION", "WHYS", "Action", "Announce", "Arm", "Attribute", "Close", "Config", "Context", "Decoder", "DecoderClosed",
+    "Disarm", "Event", "Flush", "Heard", "Message", "Open", "Peer", "Refused", "Seek", "Send", "Session", "SessionClosed", "State", "Timer",
+    "Withdraw", "WrongState", "encode", "judge", "messages", "narrow", "reconcile",
 ]

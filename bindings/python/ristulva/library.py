@@ -6,7 +6,7 @@ import pathlib
 from ctypes import POINTER, Structure, c_char_p, c_size_t, c_uint8, c_uint16, c_uint32, c_uint64, c_void_p
 
 OK, NO_SESSION, MEMORY, RANGE, INCOMPLETE, ROOM, END, REFUSED, UNWRITABLE, STATE = range(10)
-VERSION = 1000
+VERSION = 2000
 DATA, MESSAGE, ACTIONS = 4075, 4096, 5
 
 
@@ -93,7 +93,7 @@ class CPeer(Structure):
 
 
 class Handle(Structure):
-    """A session's handle: None where it has no session."""
+    """The handle of a session or of a decoder: None where it has none."""
 
     _fields_ = [("body", c_void_p)]
 
@@ -105,7 +105,7 @@ def load():
     octets = [c_char_p, c_size_t]
     # A buffer and its room come before what is written beside it.
     buffer = [c_char_p, c_size_t]
-    session = POINTER(Handle)
+    session = decoder = POINTER(Handle)
     takes = {
         "version": [],
         "judge": [POINTER(Said), *octets, *buffer, POINTER(Verdict)],
@@ -122,6 +122,10 @@ def load():
         "unreached": [*octets, POINTER(Span), POINTER(Prefixes)],
         "open": [*octets, POINTER(COpen)],
         "next_capability": [*octets, POINTER(Capabilities), POINTER(CCapability)],
+        "decoder_new": [POINTER(Said), decoder],
+        "decoder_free": [decoder],
+        "decoder_pull": [decoder, *octets, *buffer, *buffer, POINTER(c_size_t), POINTER(Verdict)],
+        "decoder_held": [decoder, POINTER(c_size_t)],
         "session_new": [POINTER(CConfig), session],
         "session_free": [session],
         "session_state": [session, POINTER(c_uint8)],

@@ -1,9 +1,10 @@
 //! BGP-4 messages (RFC 4271), read and judged (RFC 7606), and sessions, by proved code.
 //!
 //! This is the library for C, `dist/libristulva.a`, with types that a Rust programmer expects. It
-//! reads one direction of a session as octets, by [`messages`], or holds one end of it, by a
-//! [`Session`]. What it gives borrows the caller's octets: only the data of a [`Outcome::Reset`],
-//! lines of text and messages that are written are copied.
+//! reads one direction of a session as octets, by [`messages`], or by a [`Decoder`] where they come
+//! in pieces, or holds one end of it, by a [`Session`]. What it gives borrows the caller's octets:
+//! only a decoder's messages, the data of a [`Outcome::Reset`], lines of text and messages that are
+//! written are copied.
 //!
 //! ```
 //! use ristulva::{Context, Outcome};
@@ -33,6 +34,7 @@ mod action;
 mod attribute;
 mod config;
 mod context;
+mod decoder;
 mod error;
 mod front;
 mod message;
@@ -50,6 +52,7 @@ pub use action::{Action, Actions, Timer};
 pub use attribute::{Attribute, Attributes};
 pub use config::Config;
 pub use context::Context;
+pub use decoder::Decoder;
 pub use error::Error;
 pub use front::{front, Front, Kind};
 pub use message::{judge, messages, Message, Messages, Outcome};

@@ -44,7 +44,7 @@ pub enum Outcome<'a> {
 /// It is printed as the lines that `bgp show` prints of it.
 #[derive(Clone, Debug, PartialEq, Eq)]
 pub struct Message<'a> {
-    /// The message, or all that was there where its header has a fault.
+    /// The message, or the header and all that was there behind it where that has a fault.
     octets: &'a [u8],
     /// How many octets the message has; 0 where its header has a fault.
     len: usize,
@@ -54,6 +54,17 @@ pub struct Message<'a> {
 }
 
 impl<'a> Message<'a> {
+    /// The message of which this is the verdict.
+    pub(crate) fn of(context: &Context, octets: &'a [u8], verdict: &raw::Verdict) -> Message<'a> {
+        Message {
+            octets,
+            len: verdict.len as usize,
+            context: *context,
+            offset: 0,
+            outcome: outcome(context, octets, verdict),
+        }
+    }
+
     /// Its octets, header included: 19 to [`MESSAGE`](crate::MESSAGE), or none where its header has
     /// a fault. The next message of the stream stands behind them.
     pub fn octets(&self) -> &'a [u8] {
@@ -163,13 +174,7 @@ pub fn judge<'a>(context: &Context, octets: &'a [u8]) -> Option<Message<'a>> {
     }
     let len = verdict.len as usize;
     let octets = if len == 0 { octets } else { &octets[..len] };
-    Some(Message {
-        octets,
-        len,
-        context: *context,
-        offset: 0,
-        outcome: outcome(context, octets, &verdict),
-    })
+    Some(Message::of(context, octets, &verdict))
 }
 
 /// The messages of a stream, one after another, up to the first that ends the session by a reset:

@@ -3,7 +3,8 @@
 //! What makes them safe is the same everywhere. A slice's pointer isn't null, also where the slice
 //! is empty, and its length goes with it. What a call writes is behind a `&mut`, so it overlaps
 //! nothing else. No call keeps a pointer, and for any octets, cursor and span it reads nothing
-//! outside of what it is handed. Of a [`Session`]'s calls its own comment tells the rest.
+//! outside of what it is handed. Of the calls on a [`Decoder`] and on a [`Session`] their comments tell
+//! the rest.
 
 use std::cell::UnsafeCell;
 use std::os::raw::c_char;
@@ -245,8 +246,8 @@ pub struct Peer {
     pub ip6: u8,
 }
 
-/// `ristulva_session`: where the session's memory is, which is the library's; null where there is
-/// none.
+/// `ristulva_decoder` and `ristulva_session`: where the memory of one is, which is the library's;
+/// null where there is none.
 #[repr(C)]
 struct Handle {
     body: *mut u8,
@@ -270,6 +271,10 @@ extern "C" {
     fn ristulva_unreached(octets: *const u8, len: usize, value: *const Span, cursor: *mut Prefixes) -> u32;
     fn ristulva_open(octets: *const u8, len: usize, out: *mut OpenFields) -> u32;
     fn ristulva_next_capability(octets: *const u8, len: usize, cursor: *mut Capabilities, out: *mut Capability) -> u32;
+    fn ristulva_decoder_new(context: *const Context, decoder: *mut Handle) -> u32;
+    fn ristulva_decoder_free(decoder: *mut Handle) -> u32;
+    fn ristulva_decoder_pull(decoder: *mut Handle, octets: *const u8, len: usize, message: *mut u8, message_room: usize, data: *mut u8, room: usize, taken: *mut usize, out: *mut Verdict) -> u32;
+    fn ristulva_decoder_held(decoder: *mut Handle, held: *mut usize) -> u32;
     fn ristulva_session_new(config: *const Config, session: *mut Handle) -> u32;
     fn ristulva_session_free(session: *mut Handle) -> u32;
     fn ristulva_session_state(session: *mut Handle, state: *mut u8) -> u32;
@@ -424,6 +429,67 @@ pub fn next_capability(octets: &[u8], cursor: &mut Capabilities) -> Option<Capab
 
 /// The room of a message: enough for each call.
 pub type Room = [u8; crate::MESSAGE];
+
+/// The most octets of a NOTIFICATION's data.
+pub const DATA: usize = 4075;
+
+/// The room of these: enough for each call.
+pub type Data = [u8; DATA];
+
+/// A decoder, which is freed when it is dropped. As with a [`Session`], its handle is in a cell.
+pub struct Decoder(UnsafeCell<Handle>);
+
+// SAFETY: as for a session, below.
+unsafe impl Send for Decoder {}
+
+impl Decoder {
+    /// A decoder, or the status that says why there is none.
+    pub fn new(context: &Context) -> Result<Decoder, u32> {
+        let mut handle = Handle {
+            body: ptr::null_mut(),
+        };
+        // SAFETY: see above; the handle has no decoder yet.
+        match unsafe { ristulva_decoder_new(context, &mut handle) } {
+            OK => Ok(Decoder(handle.into())),
+            status => Err(status),
+        }
+    }
+
+    /// How many octets of the piece were taken, and the verdict, which is none where that isn't OK:
+    /// where INCOMPLETE all were taken, and where a reset was told none.
+    pub fn pull(
+        &mut self,
+        piece: &[u8],
+        message: &mut Room,
+        data: &mut Data,
+    ) -> (usize, Option<Verdict>) {
+        let (mut taken, mut out) = (0, Verdict::default());
+        let (handle, at, len) = (self.0.get(), piece.as_ptr(), piece.len());
+        let (into, room) = (message.as_mut_ptr(), message.len());
+        let (data, data_room) = (data.as_mut_ptr(), data.len());
+        let (count, told) = (&mut taken, &mut out);
+        // SAFETY: see above.
+        let status = unsafe {
+            ristulva_decoder_pull(handle, at, len, into, room, data, data_room, count, told)
+        };
+        (taken, (status == OK).then_some(out))
+    }
+
+    /// How many octets of an incomplete message it holds.
+    pub fn held(&self) -> usize {
+        let mut held = 0;
+        // SAFETY: see above.
+        unsafe { ristulva_decoder_held(self.0.get(), &mut held) };
+        held
+    }
+}
+
+impl Drop for Decoder {
+    fn drop(&mut self) {
+        // SAFETY: see above. It has a decoder, and nothing is handed the handle behind this.
+        unsafe { ristulva_decoder_free(self.0.get()) };
+    }
+}
 
 /// What a session asks for, and how many octets it has written into the room of a message.
 pub type Told = (Actions, usize);

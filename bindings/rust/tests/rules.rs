@@ -469,5 +469,5 @@ fn refused() {
 /// The declarations of src/raw.rs are those of the header of this version.
 #[test]
 fn version() {
-    assert_eq!(ristulva::version(), 1000);
+    assert_eq!(ristulva::version(), 2000);
 }

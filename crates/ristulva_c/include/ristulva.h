@@ -5,7 +5,7 @@
  * The caller owns every octet. No call keeps a pointer, gives one back, calls back, reads outside of what it is handed, or writes
  * elsewhere than through the pointers that it is handed. A call only allocates where its comment says so, and frees what it took
  * before it returns. There is no state but what the caller holds, so calls of several threads don't meet, as long as no two of them
- * are handed the same place to write. Sessions alone ("sessions", below) are memory of the library's, behind a handle of the caller's.
+ * are handed the same place to write. Decoders and sessions alone (below) are memory of the library's, behind a handle of the caller's.
  *
  * Of every call:
  *  - Pointers aren't null, also where the length beside them is 0.
@@ -29,7 +29,7 @@ extern "C" {
 /* ---- version ---- */
 
 /* The version of this header, as ristulva_version() answers it: 1000000 times the first number, 1000 times the second, and the third. */
-#define RISTULVA_VERSION 1000u
+#define RISTULVA_VERSION 2000u
 
 /* The version of the library that is linked. */
 uint32_t ristulva_version(void);
@@ -40,6 +40,7 @@ typedef uint32_t ristulva_status;
 
 #define RISTULVA_OK 0u         /* the call did what it says */
 #define RISTULVA_NO_SESSION 1u /* the handle has no session: nothing has changed */
+#define RISTULVA_NO_DECODER 1u /* the handle has no decoder: nothing has changed */
 #define RISTULVA_MEMORY 2u     /* an allocation failed: nothing has changed, and the call can be made again */
 #define RISTULVA_RANGE 3u      /* an argument is out of its range: nothing has changed */
 #define RISTULVA_INCOMPLETE 4u /* the octets are less than a message: nothing has changed */
@@ -47,7 +48,7 @@ typedef uint32_t ristulva_status;
 #define RISTULVA_END 6u        /* nothing is left: nothing has changed */
 #define RISTULVA_REFUSED 7u    /* an UPDATE that isn't accepted whole, or no OPEN that is accepted: nothing has changed */
 #define RISTULVA_UNWRITABLE 8u /* an UPDATE that can't be written: nothing has changed */
-#define RISTULVA_STATE 9u      /* the session isn't in a state for this: nothing has changed */
+#define RISTULVA_STATE 9u      /* the session isn't in a state for this, or the decoder has stopped: nothing has changed */
 
 /* ---- octets ---- */
 
@@ -327,6 +328,50 @@ typedef struct {
 /* Gives capabilities one after another, however they are grouped into parameters. The code and the length of each stand in the two octets
  * in front of its value. RISTULVA_END: none is left. RISTULVA_RANGE: `at` is above `stop`, `stop` above `end`, or `end` above `len`. */
 ristulva_status ristulva_next_capability(const uint8_t *octets, size_t len, ristulva_capabilities *cursor, ristulva_capability *out);
+
+/* ---- a stream in pieces (RFC 4271, section 4.1) ----
+ *
+ * A decoder is for a host that keeps no buffer of what it has read: it takes the octets of a stream in whatever pieces they come, and holds
+ * those of a message that isn't whole yet. What comes of the stream doesn't depend on where it is cut: it is what ristulva_judge tells of one
+ * message after another. Behind a RISTULVA_RESET it reads nothing.
+ *
+ * A handle is the caller's. It begins as {NULL}, gets a decoder by ristulva_decoder_new, and loses it by ristulva_decoder_free; the decoder
+ * is memory of the library's, some 4.2 KB. A handle isn't copied, and its pointer isn't changed. It may go from thread to thread, but no two
+ * calls are handed the same handle at one time; different decoders don't meet.
+ */
+
+struct ristulva_decoder_body;
+
+typedef struct {
+    struct ristulva_decoder_body *body; /* NULL where there is no decoder */
+} ristulva_decoder;
+
+/* Makes a decoder at the beginning of a stream, in the context of its session. It allocates what the decoder keeps.
+ *
+ * RISTULVA_MEMORY; RISTULVA_RANGE, the handle has a decoder: nothing has changed. */
+ristulva_status ristulva_decoder_new(const ristulva_context *context, ristulva_decoder *decoder);
+
+/* Frees a decoder, and what it holds: the handle has none then. RISTULVA_NO_DECODER. */
+ristulva_status ristulva_decoder_free(ristulva_decoder *decoder);
+
+/* Takes octets of a piece until a message is whole, with those that the decoder holds in front of them, and tells its outcome, as ristulva_judge
+ * does. `taken` is how many of the `len` octets were taken: what stands behind them is handed in again, as the next piece or a part of it, until
+ * RISTULVA_INCOMPLETE.
+ *
+ * RISTULVA_OK: the octets of the message, `out->len` of them, stand at the front of `message`, which has room for `message_room` octets,
+ * RISTULVA_MESSAGE at least; those behind them stay. Places, notes and cursors are those of these octets. Of a header with a fault its 19
+ * octets stand there, and `out->len` is 0. The Data field of the NOTIFICATION that came or that is to be sent stands at the front of `data`,
+ * which has room for `room` octets, RISTULVA_DATA at least. It doesn't allocate.
+ *
+ * RISTULVA_INCOMPLETE: all octets of the piece were taken, and the message needs more; `taken` is written, and nothing else.
+ * RISTULVA_ROOM, `message_room` is below RISTULVA_MESSAGE or `room` below RISTULVA_DATA; RISTULVA_NO_DECODER; RISTULVA_STATE, a RISTULVA_RESET
+ * was told: nothing has changed, and nothing is taken or written. */
+ristulva_status ristulva_decoder_pull(ristulva_decoder *decoder, const uint8_t *octets, size_t len, uint8_t *message, size_t message_room,
+                                      uint8_t *data, size_t room, size_t *taken, ristulva_verdict *out);
+
+/* Tells how many octets of a message that isn't whole the decoder holds, at most RISTULVA_MESSAGE. Where a stream ends, 0 says that it
+ * ends behind a message, or behind a RISTULVA_RESET. RISTULVA_NO_DECODER. */
+ristulva_status ristulva_decoder_held(ristulva_decoder *decoder, size_t *held);
 
 /* ---- sessions (RFC 4271, section 8) ----
  *

@@ -14,4 +14,6 @@ pub mod NoteSteps
 pub mod CapabilitySteps
 pub mod OpenPlaces
 pub mod Handles
+pub mod DecoderHandles
 pub mod RisingSteps
+pub mod Pulled

@@ -24,3 +24,4 @@ pub mod Session
 pub mod Hearing
 pub mod Agreed
 pub mod Sending
+pub mod Decoder

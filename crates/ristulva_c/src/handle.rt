@@ -5,7 +5,7 @@ ghost use Rattle.bgp_machine.specs.Session.{Machine};
 ghost use Rattle.bgp_machine.specs.contracts.session.Session.{the_row};
 ghost use Rattle.ristulva_c.specs.Handle.{owned};
 
-mod parts;
+pub(crate) mod parts;
 
 use bgp_machine::Session;
 use parts::Parts;

@@ -3,7 +3,7 @@
 ghost use Rattle.std.specs.Prelude.{◌≡◌, ◌+◌, ◌≤◌, length, nat_le, if◌then◌else◌};
 ghost use Rattle.bgp_wire.specs.Octets.{AreOctets};
 ghost use Rattle.bgp_frame.specs.Notification.{notification_of_view};
-ghost use Rattle.bgp_frame.specs.Kind.{IsLength};
+ghost use Rattle.bgp_frame.specs.Kind.{IsLength, code_of};
 ghost use Rattle.bgp_frame.specs.declared.step.Step.TheVariants as step;
 ghost use Rattle.bgp_open.specs.declared.context.Context.{Context};
 ghost use Rattle.bgp_msg.specs.OutcomeView.{outcome_value};
@@ -72,6 +72,13 @@ fn number_of(outcome: &OutcomeView<'_>) -> u8
     }
 }
 
+/// The number of a message's type.
+pub(crate) fn code_of(kind: Kind) -> u8
+    ensures { result ≡ code_of kind }
+{
+    kind as u8
+}
+
 /// The NOTIFICATION that came or that ends the session: nothing where there is none.
 fn said_by<'a>(outcome: &OutcomeView<'a>) -> NotificationView<'a>
     ensures { notification_of_view result ≡ said_by (outcome_value outcome.now) }
@@ -88,7 +95,7 @@ fn said_by<'a>(outcome: &OutcomeView<'a>) -> NotificationView<'a>
 }
 
 /// Tells an outcome, and copies the data of its NOTIFICATION.
-fn tell(
+pub(crate) fn tell(
     kind: u8,
     len: u16,
     parts: Parts,
@@ -99,6 +106,7 @@ fn tell(
     ensures status { result ≡ (if nat_le (length (said_by (outcome_value outcome.now)).info.items) (length info.old) then OK else ROOM) }
     ensures info { info.new ≡ copied (said_by (outcome_value outcome.now)).info.items info.old }
     ensures out { out.new ≡ verdict_told kind len parts (outcome_value outcome.now) }
+    ensures short { length (said_by (outcome_value outcome.now)).info.items ≤ 4075 }
 {
     let said = said_by(outcome);
     *out = Verdict {
@@ -114,7 +122,7 @@ fn tell(
 }
 
 /// Where the parts of a message lie.
-fn parts_at(frame: &Frame<'_>) -> Parts
+pub(crate) fn parts_at(frame: &Frame<'_>) -> Parts
     requires { length frame.now.body.now ≤ 4077 }
     ensures { result ≡ parts_at frame.now.kind frame.now.body.now }
 {
@@ -129,7 +137,7 @@ fn tell_frame(ctx: &SessionContext, frame: Frame<'_>, info: &mut [u8], out: &mut
     requires { IsLength frame.kind (19 + length frame.body.now) }
     ensures { Answers (context_of ctx.now) (step.Frame frame.entry) (record { status = result; before = out.old; behind = out.new; info_before = info.old; info_behind = info.new }) }
 {
-    let kind = frame.kind as u8;
+    let kind = code_of(frame.kind);
     let len = frame.len;
     let parts = parts_at(&frame);
     let mut view = UpdateView::empty();
@@ -151,7 +159,7 @@ fn tell_fault(fault: HeadFault, info: &mut [u8], out: &mut Verdict) -> u32
 }
 
 /// What is handed in are octets: nothing is done.
-fn are_octets(octets: &[u8])
+pub(crate) fn are_octets(octets: &[u8])
     ensures { AreOctets octets.now }
 {
     let _len = octets.len();

@@ -8,6 +8,8 @@ mod capabilities;
 mod config;
 mod context;
 mod copied;
+mod decoder;
+mod decoder_handle;
 mod encode;
 mod front;
 mod handle;

@@ -3,7 +3,7 @@
 /// The call did what it says.
 pub const OK: u32 = 0;
 
-/// The handle has no session.
+/// The handle has no session, or no decoder.
 pub const NO_SESSION: u32 = 1;
 
 /// An allocation failed: nothing has changed, and the call can be made again.
@@ -27,5 +27,5 @@ pub const REFUSED: u32 = 7;
 /// The UPDATE can't be written.
 pub const UNWRITABLE: u32 = 8;
 
-/// The session isn't in a state for this.
+/// The session isn't in a state for this, or the decoder has stopped.
 pub const STATE: u32 = 9;

@@ -1,4 +1,4 @@
-//! A box, with its pointer in sight of the module above.
+//! A box, with its pointer in sight of the handles.
 
 ghost use Rattle.std.specs.Prelude.{◌≡◌};
 ghost use Rattle.std.specs.Box.Ownership.{box_owns};
@@ -8,8 +8,8 @@ use std::marker::Model;
 
 /// What a box is made of.
 pub struct Parts<T, A: Allocator> {
-    pub(super) ptr: *mut T,
-    pub(super) alloc: A,
+    pub(crate) ptr: *mut T,
+    pub(crate) alloc: A,
     /// What stands in the box.
     pub ghost value: { T },
 }

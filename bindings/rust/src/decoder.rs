@@ -1,0 +1,96 @@
+use crate::{raw, Context, Error, Message, MESSAGE};
+use std::fmt;
+
+/// The octets of a header.
+const HEADER: usize = 19;
+
+/// Reads the messages of a stream whose octets come in pieces, however it is cut (RFC 4271,
+/// section 4.1).
+///
+/// It holds at most one message. What it gives is what [`messages`](crate::messages) gives of the
+/// whole stream, and behind a [reset](crate::Outcome::Reset) it reads nothing. It goes from thread
+/// to thread, but isn't shared by them.
+///
+/// ```
+/// use ristulva::{Context, Decoder, Outcome};
+///
+/// let keepalive = [[0xff; 16].as_slice(), &[0, 19, 4]].concat();
+/// let stream = keepalive.repeat(3);
+/// let mut decoder = Decoder::new(&Context::default())?;
+/// let mut count = 0;
+/// for mut piece in stream.chunks(10) {
+///     while let Some(message) = decoder.pull(&mut piece) {
+///         assert_eq!(message.outcome(), &Outcome::Keepalive);
+///         assert_eq!(message.offset(), count * 19);
+///         count += 1;
+///     }
+/// }
+/// assert_eq!((count, decoder.held()), (3, 0));
+/// # Ok::<(), ristulva::Error>(())
+/// ```
+///
+/// ```compile_fail,E0277
+/// fn is_shared<T: Sync>() {}
+/// is_shared::<ristulva::Decoder>();
+/// ```
+pub struct Decoder {
+    decoder: raw::Decoder,
+    context: Context,
+    /// Where the message that is pulled stands, and the data of a NOTIFICATION.
+    message: Box<raw::Room>,
+    data: Box<raw::Data>,
+    offset: u64,
+}
+
+impl Decoder {
+    /// A decoder at the beginning of a stream, in the context of its session.
+    ///
+    /// # Errors
+    ///
+    /// [`Error::Memory`].
+    pub fn new(context: &Context) -> Result<Decoder, Error> {
+        Ok(Decoder {
+            decoder: raw::Decoder::new(&context.said()).map_err(Error::of)?,
+            context: *context,
+            message: Box::new([0; MESSAGE]),
+            data: Box::new([0; raw::DATA]),
+            offset: 0,
+        })
+    }
+
+    /// The next message that is whole by octets of the piece, with those that are held in front of
+    /// them. What is taken is gone from the front of the piece.
+    ///
+    /// `None` where all of the piece was taken, and the message needs more; or behind a reset, where
+    /// nothing is taken.
+    ///
+    /// The message borrows the decoder, until the next call. Of a header with a fault it has the
+    /// header, and no octets behind it.
+    pub fn pull(&mut self, piece: &mut &[u8]) -> Option<Message<'_>> {
+        let (taken, verdict) = self.decoder.pull(piece, &mut self.message, &mut self.data);
+        *piece = &piece[taken..];
+        let verdict = verdict?;
+        let offset = self.offset;
+        self.offset += u64::from(verdict.len);
+        let len = match verdict.len as usize {
+            0 => HEADER,
+            len => len,
+        };
+        Some(Message::of(&self.context, &self.message[..len], &verdict).at(offset))
+    }
+
+    /// How many octets of a message that isn't whole it holds. Where a stream ends, 0 says that it
+    /// ends behind a message, or behind a reset.
+    pub fn held(&self) -> usize {
+        self.decoder.held()
+    }
+}
+
+impl fmt::Debug for Decoder {
+    fn fmt(&self, f: &mut fmt::Formatter<'_>) -> fmt::Result {
+        f.debug_struct("Decoder")
+            .field("context", &self.context)
+            .field("held", &self.held())
+            .finish_non_exhaustive()
+    }
+}

@@ -1,0 +1,43 @@
+use Rattle.std.proofs.Common.{◌≡◌, ℕ, List, ◌++◌, take, refl, sym, ap, subst, ◌∙◌, false}
+use Rattle.bgp_frame.specs.declared.notification.Notification.{Notification}
+use Rattle.bgp_msg.specs.declared.outcome.Outcome.{Outcome}
+use Rattle.bgp_msg.specs.declared.outcome.Outcome.TheVariants as outcome
+use Rattle.bgp_msg.specs.Decoder.{behind}
+use Rattle.bgp_msg.specs.Outcome.{of_fault}
+use Rattle.bgp_msg.specs.OutcomeView.{outcome_value}
+use Rattle.ristulva_c.specs.declared.status.TheConstants.{OK}
+use Rattle.ristulva_c.specs.Decoder.{GivesHeld, IsWholeTold}
+use Rattle.ristulva_c.specs.Judge.{Judging}
+use Rattle.ristulva_c.proofs.Pulled.{fed, gives}
+use Rattle.ristulva_c.proofs.decoder.tell_found.Goals as goal
+
+pub returns-in-Message : goal.returns-in-Message
+returns-in-Message c =
+    let d = c.args.decoder.now in
+    let piece = c.args.piece.now in
+    let n = c.in-Message.count in
+    let o = outcome_value c.in-Message.outcome in
+    let j : Judging = record { status = OK; before = c.args.out.now; behind = c.tell_whole.new.out; info_before = c.args.info.now; info_behind = c.tell_whole.new.info } in
+    let given : GivesHeld (record { ctx = d.ctx; held = c.behind_feed.result.now; stopped = false }) o =
+    subst (λ (x : List ℕ). GivesHeld (record { ctx = d.ctx; held = x; stopped = false }) o) (sym c.behind_feed.ensures) (gives d piece n c.in-Message.field-1 o (behind d o) c.in-Message.ensures) in (
+      fed d piece n c.in-Message.field-1 o (behind d o) c.in-Message.ensures,
+      (o, (c.is_reset.ensures, subst (λ (x : List ℕ). IsWholeTold d.ctx x o j c.args.message.now c.tell_whole.new.message) c.behind_feed.ensures (c.tell_whole.ensures d.ctx given))),
+    )
+
+pub returns-in-Fault : goal.returns-in-Fault
+returns-in-Fault c =
+    let d = c.args.decoder.now in
+    let piece = c.args.piece.now in
+    let n = c.in-Fault.count in
+    let why = c.notification-why.result in
+    let o = of_fault c.in-Fault.fault in
+    let said : Outcome = outcome.Reset (record { code = why.code; subcode = why.subcode; info = record { items = c.deref.result.now } }) in
+    let is : said ≡ o =
+    ap (λ (items : List ℕ). outcome.Reset (record { code = why.code; subcode = why.subcode; info = record { items = items } })) c.deref.ensures.0 ∙ ap (λ (x : Notification). outcome.Reset x) c.notification-why.ensures in
+    let j : Judging = record { status = OK; before = c.args.out.now; behind = c.tell_whole-in-Fault.new.out; info_before = c.args.info.now; info_behind = c.tell_whole-in-Fault.new.info } in
+    let given : GivesHeld (record { ctx = d.ctx; held = c.behind_feed-in-Fault.result.now; stopped = false }) said =
+    subst (λ (x : List ℕ). GivesHeld (record { ctx = d.ctx; held = x; stopped = false }) said) (sym c.behind_feed-in-Fault.ensures)
+    (subst (λ (x : Outcome). GivesHeld (record { ctx = d.ctx; held = d.held ++ take n piece; stopped = false }) x) (sym is) (gives d piece n 0 o (behind d o) c.in-Fault.ensures)) in (
+      fed d piece n 0 o (behind d o) c.in-Fault.ensures,
+      (said, (refl, subst (λ (x : List ℕ). IsWholeTold d.ctx x said j c.args.message.now c.tell_whole-in-Fault.new.message) c.behind_feed-in-Fault.ensures (c.tell_whole-in-Fault.ensures d.ctx given))),
+    )

@@ -1,0 +1,117 @@
+-- What the calls on a decoder do: a stream comes in pieces, and each message is told as `ristulva_judge` tells it.
+use Rattle.std.specs.Prelude.{◌≡◌, ◌<◌, ◌≤◌, ◌⊎◌, ℕ, Bool, true, false, List, ◌++◌, length, take, Option, None, Some}
+use Rattle.bgp_frame.specs.declared.step.Step.{Step}
+use Rattle.bgp_frame.specs.declared.step.Step.TheVariants as step
+use Rattle.bgp_frame.specs.Frame.{Waits}
+use Rattle.bgp_frame.specs.Step.{ShowsStep}
+use Rattle.bgp_open.specs.declared.context.Context.{Context}
+use Rattle.bgp_msg.specs.declared.outcome.Outcome.{Outcome}
+use Rattle.bgp_msg.specs.Decoder.{Decoding, GivesMessage, GivesFault, behind, fresh, holding, IsFed}
+use Rattle.bgp_msg.specs.declared.look.Look.TheVariants as look
+use Rattle.bgp_msg.specs.Look.{IsLook}
+use Rattle.bgp_msg.specs.Outcome.{out_of, of_fault, is_reset}
+use Rattle.ristulva_c.specs.declared.status.TheConstants.{INCOMPLETE, MEMORY, NO_SESSION, OK, RANGE, ROOM, STATE}
+use Rattle.ristulva_c.specs.Copied.{copied}
+use Rattle.ristulva_c.specs.Judge as judge
+use Rattle.ristulva_c.specs.Judge.{Answers, Judging, PartsLie}
+
+-- a decoder is made where the handle has none, unless memory ran out
+abbrev pub IsMade : Context → Option Decoding → ℕ → Option Decoding → Type 0
+IsMade ctx (Some old) status new = (status ≡ RANGE) × (new ≡ Some old)
+IsMade ctx None status new = ((status ≡ OK) × (new ≡ Some (fresh ctx))) ⊎ ((status ≡ MEMORY) × (new ≡ None))
+
+abbrev pub IsFreed : Option Decoding → ℕ → Option Decoding → Type 0
+IsFreed None status new = (status ≡ NO_SESSION) × (new ≡ None)
+IsFreed (Some old) status new = (status ≡ OK) × (new ≡ None)
+
+-- how many octets are held is told; where there is no decoder, nothing is written
+abbrev pub IsHeldTold : Option Decoding → ℕ → ℕ → ℕ → Type 0
+IsHeldTold None status before behind = (status ≡ NO_SESSION) × (behind ≡ before)
+IsHeldTold (Some d) status before behind = (status ≡ OK) × (behind ≡ length d.held)
+
+-- ---- the outcome of a whole message
+
+-- the outcome of the message, or of the header with a fault, that is found in a context
+abbrev pub IsOutcome : Context → Step → Outcome → Type 0
+IsOutcome ctx step.More o = ⊥
+IsOutcome ctx (step.Frame f) o = o ≡ out_of ctx (record { kind = f.kind; body = f.body.now })
+IsOutcome ctx (step.Fault fault) o = o ≡ of_fault fault
+
+-- octets are a whole message or a header with a fault, and no more; it is told as `ristulva_judge` tells it, and the octets are copied
+pub record IsWholeTold (ctx : Context) (octets : List ℕ) (o : Outcome) (j : Judging) (before behind : List ℕ) : Type 0 where
+  pub found : Step
+  pub shows : ShowsStep octets found
+  pub outcome : IsOutcome ctx found o
+  pub status : j.status ≡ OK
+  pub answers : Answers ctx found j
+  pub lie : PartsLie octets found
+  pub message : behind ≡ copied octets before
+
+-- what a decoder that holds these octets gives of them
+abbrev pub GivesHeld : Decoding → Outcome → Type 0
+GivesHeld d o = (k : ℕ) × (GivesMessage d k o ⊎ GivesFault d k o)
+
+-- ---- what is pulled from a piece
+
+-- what a call has: its status, and what stands in the caller's places before and behind it
+pub record Pulling : Type 0 where
+  pub judging : Judging
+  pub old : Option Decoding
+  pub new : Option Decoding
+  pub message_before : List ℕ
+  pub message_behind : List ℕ
+  pub taken_before : ℕ
+  pub taken_behind : ℕ
+
+-- nothing is changed
+pub record IsLeft (answer : ℕ) (p : Pulling) : Type 0 where
+  pub told : judge.IsLeft answer p.judging
+  pub decoder : p.new ≡ p.old
+  pub message : p.message_behind ≡ p.message_before
+  pub taken : p.taken_behind ≡ p.taken_before
+
+-- a reset was told: nothing behind it is read
+pub record IsOver (d : Decoding) (p : Pulling) : Type 0 where
+  pub stopped : d.stopped ≡ true
+  pub left : IsLeft STATE p
+
+-- the whole piece is taken, and what is held then is less than a message
+pub record Awaits (d : Decoding) (piece : List ℕ) (p : Pulling) : Type 0 where
+  pub going : d.stopped ≡ false
+  pub waits : Waits (d.held ++ piece)
+  pub told : judge.IsLeft INCOMPLETE p.judging
+  pub decoder : p.new ≡ Some (holding d (d.held ++ piece))
+  pub message : p.message_behind ≡ p.message_before
+  pub taken : p.taken_behind ≡ length piece
+
+-- so many octets of the piece are fed as make a message whole, or a header with a fault: that is told, and the decoder goes on behind it
+pub record Gives (d : Decoding) (piece : List ℕ) (p : Pulling) : Type 0 where
+  pub going : d.stopped ≡ false
+  pub fed : IsFed d piece p.taken_behind (holding d (d.held ++ take p.taken_behind piece))
+  pub outcome : Outcome
+  pub told : IsWholeTold d.ctx (d.held ++ take p.taken_behind piece) outcome p.judging p.message_before p.message_behind
+  pub decoder : p.new ≡ Some (behind d outcome)
+
+abbrev pub Pulls : Option Decoding → List ℕ → Pulling → Type 0
+Pulls None piece p = IsLeft NO_SESSION p
+Pulls (Some d) piece p = IsOver d p ⊎ (Awaits d piece p ⊎ Gives d piece p)
+
+-- both buffers have room for whatever comes, or nothing is done
+abbrev pub PullsWithRoom : Option Decoding → List ℕ → Pulling → Type 0
+PullsWithRoom old piece p =
+    ((4096 ≤ length p.message_before) × ((4075 ≤ length p.judging.info_before) × Pulls old piece p))
+    ⊎ (((length p.message_before < 4096) ⊎ (length p.judging.info_before < 4075)) × IsLeft ROOM p)
+
+-- ---- what a look finds of it
+
+-- what stands in the caller's places for an outcome and for its message
+pub record Places : Type 0 where
+  pub judging : Judging
+  pub message_before : List ℕ
+  pub message_behind : List ℕ
+
+-- where nothing is found, nothing is changed, and the piece is to be fed; else so many octets of it are fed, and what is held then is told
+abbrev pub IsFoundTold : Decoding → List ℕ → Option (ℕ × Bool) → Places → Type 0
+IsFoundTold d piece None p = IsLook d piece look.Feed × (judge.IsLeft OK p.judging × (p.message_behind ≡ p.message_before))
+IsFoundTold d piece (Some (n, resets)) p = IsFed d piece n (holding d (d.held ++ take n piece))
+    × ((o : Outcome) × ((resets ≡ is_reset o) × IsWholeTold d.ctx (d.held ++ take n piece) o p.judging p.message_before p.message_behind))
