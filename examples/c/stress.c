@@ -131,13 +131,20 @@ static void try_text(const ristulva_context *context, const uint8_t *octets, siz
     free(old);
 }
 
+/* Each prefix that is given is one of those that were counted. */
 static void walk_prefixes(const uint8_t *octets, size_t len, ristulva_prefixes cursor)
 {
+    size_t left = 77;
+    ristulva_status counted = ristulva_count_prefixes(octets, len, &cursor, &left);
+    calls++;
+    WANT(counted == RISTULVA_OK || (counted == RISTULVA_RANGE && left == 77));
     for (;;) {
         ristulva_prefixes old = cursor;
         ristulva_prefix prefix;
         ristulva_status status = ristulva_next_prefix(octets, len, &cursor, &prefix);
         calls++;
+        WANT((status == RISTULVA_RANGE) == (counted == RISTULVA_RANGE));
+        WANT(counted != RISTULVA_OK || (status == RISTULVA_OK) == (left > 0));
         WANT(cursor.end == old.end && cursor.afi == old.afi);
         WANT((status == RISTULVA_RANGE) == (old.at > old.end || old.end > len || old.afi < 1 || old.afi > 2));
         if (status != RISTULVA_OK) {
@@ -145,6 +152,7 @@ static void walk_prefixes(const uint8_t *octets, size_t len, ristulva_prefixes c
             WANT(cursor.at == old.at);
             return;
         }
+        left--;
         WANT(prefix.afi == old.afi && prefix.len <= (prefix.afi == 1 ? 32 : 128));
         WANT(cursor.at == old.at + 1 + (prefix.len + 7u) / 8 && cursor.at <= cursor.end && octets[old.at] == prefix.len);
     }

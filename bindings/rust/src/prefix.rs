@@ -65,7 +65,18 @@ impl Iterator for Prefixes<'_> {
     fn next(&mut self) -> Option<Prefix> {
         raw::next_prefix(self.octets, &mut self.cursor).map(Prefix::of)
     }
+
+    fn size_hint(&self) -> (usize, Option<usize>) {
+        let left = raw::count_prefixes(self.octets, &self.cursor);
+        (left, Some(left))
+    }
+
+    fn count(self) -> usize {
+        self.len()
+    }
 }
+
+impl ExactSizeIterator for Prefixes<'_> {}
 
 impl FusedIterator for Prefixes<'_> {}
 

@@ -265,6 +265,7 @@ extern "C" {
     fn ristulva_reconcile(context: *const Context, body: *const u8, len: usize, message: *mut u8, room: usize, written: *mut usize) -> u32;
     fn ristulva_next_attribute(octets: *const u8, len: usize, cursor: *mut Attributes, out: *mut Attribute) -> u32;
     fn ristulva_next_prefix(octets: *const u8, len: usize, cursor: *mut Prefixes, out: *mut Prefix) -> u32;
+    fn ristulva_count_prefixes(octets: *const u8, len: usize, cursor: *const Prefixes, count: *mut usize) -> u32;
     fn ristulva_next_segment(octets: *const u8, len: usize, cursor: *mut Segments, out: *mut Segment) -> u32;
     fn ristulva_next_number(octets: *const u8, len: usize, cursor: *mut Numbers, out: *mut u32) -> u32;
     fn ristulva_reached(octets: *const u8, len: usize, value: *const Span, next_hop: *mut Span, cursor: *mut Prefixes) -> u32;
@@ -369,6 +370,14 @@ pub fn next_prefix(octets: &[u8], cursor: &mut Prefixes) -> Option<Prefix> {
     // SAFETY: see above.
     let status = unsafe { ristulva_next_prefix(octets.as_ptr(), octets.len(), cursor, &mut out) };
     (status == OK).then_some(out)
+}
+
+/// How many prefixes the cursor still gives: none where it doesn't lie in the octets.
+pub fn count_prefixes(octets: &[u8], cursor: &Prefixes) -> usize {
+    let mut count = 0;
+    // SAFETY: see above.
+    unsafe { ristulva_count_prefixes(octets.as_ptr(), octets.len(), cursor, &mut count) };
+    count
 }
 
 pub fn next_segment(octets: &[u8], cursor: &mut Segments) -> Option<Segment> {

@@ -246,6 +246,7 @@ fn parts_of_an_update() {
     );
     let it = taken(&AS4, &octets);
     assert_eq!(told(it.withdrawn()), ["10.1.2.0/24"]);
+    assert_eq!((it.withdrawn().len(), it.nlri().count()), (1, 2));
     // Bits behind the length have no meaning.
     assert_eq!(told(it.nlri()), ["10.0.0.0/8", "172.16.0.0/12"]);
     assert_eq!(
