@@ -39,7 +39,7 @@ counts_within wide zero b le =
 counts_within wide (suc n) b le = elim (cases_lt (length b) (number_width wide)) [
   | inl short ↦ none_in wide _ _ short (ap length (none_short wide b short))
   | inr there ↦ one_more_in wide _ _ _ _ there (ap length (one_there wide b there)) (length-drop (number_width wide) b)
-        (counts_within wide n (drop (number_width wide) b) (omega (arith, length-drop (number_width wide) b, width-some wide)))
+      (counts_within wide n (drop (number_width wide) b) (omega (arith, length-drop (number_width wide) b, width-some wide)))
 ]
 
 -- octets have as many numbers as go into them
