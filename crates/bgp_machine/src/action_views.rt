@@ -65,11 +65,7 @@ fn set_announce(update: Update, info: PathInfo, place: &mut Action)
 
 /// Puts routes that the peer announces into a place.
 #[inline(never)]
-fn fill_announce(
-    alloc: Global,
-    view: &UpdateView<'_>,
-    place: &mut Action,
-) -> Result<(), AllocError>
+fn fill_announce(alloc: Global, view: &UpdateView<'_>, place: &mut Action) -> Result<(), AllocError>
     ensures { OnOk result (place.new ≡ Announce (onward_of (update_value view.now)) (rebuilt (update_value view.now).attrs)) }
 {
     let update = view.own(alloc)?;
@@ -86,11 +82,7 @@ fn fill_announce(
 
 /// Puts routes that are withdrawn into a place.
 #[inline(never)]
-fn fill_withdraw(
-    alloc: Global,
-    view: &UpdateView<'_>,
-    place: &mut Action,
-) -> Result<(), AllocError>
+fn fill_withdraw(alloc: Global, view: &UpdateView<'_>, place: &mut Action) -> Result<(), AllocError>
     ensures { OnOk result (place.new ≡ Withdraw (routes_value view.now)) }
 {
     *place = Action::Withdraw(view.routes(alloc)?);
