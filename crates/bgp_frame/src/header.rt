@@ -1,8 +1,8 @@
 //! Headers: made, and read.
 
-ghost use Rattle.std.specs.Prelude.{◌≡◌, ◌+◌, ◌≤◌, ◌++◌, List, ℕ, length};
+ghost use Rattle.std.specs.Prelude.{◌≡◌, ◌↔◌, ◌+◌, ◌≤◌, ◌++◌, List, ℕ, IsTrue, length, take, replicate};
 ghost use Rattle.bgp_frame.specs.Kind.{IsLength};
-ghost use Rattle.bgp_frame.specs.Head.{header, head_of};
+ghost use Rattle.bgp_frame.specs.Head.{header, has_marker, head_of};
 ghost use Rattle.bgp_frame.specs.Frame.{IsFrame, wanted};
 
 use crate::fault::HeadFault;
@@ -10,8 +10,6 @@ use crate::kind::Kind;
 
 /// The octets of a header.
 pub(crate) const HEADER_LEN: usize = 19;
-
-const MARKER: [u8; 16] = [255; 16];
 
 /// What a header without fault says: the kind, and the octets of the whole message.
 #[derive(Clone, Copy)]
@@ -37,13 +35,32 @@ pub fn head(kind: Kind, body_len: u16) -> [u8; 19]
     octets
 }
 
+/// Whether octets begin with eight octets 255. They are compared as one number, since most messages pass.
+fn begins_with_half(octets: &[u8]) -> bool
+    requires { 8 ≤ length octets.now }
+    ensures { IsTrue result ↔ (take 8 octets.now ≡ replicate 8 255) }
+{
+    match octets.first_chunk::<8>() {
+        None => false,
+        Some(half) => u64::from_be_bytes(*half) == u64::MAX,
+    }
+}
+
+/// Whether octets begin with the marker.
+fn has_marker(octets: &[u8]) -> bool
+    requires { 16 ≤ length octets.now }
+    ensures { result ≡ has_marker octets.now }
+{
+    begins_with_half(octets) && begins_with_half(&octets[8..])
+}
+
 /// What the first 19 octets say, or the first fault. The tests are those of RFC 4271, section 6.1, and their order our own.
 #[tactic(auto, unfolding(crate::specs::Head::head_of))]
 pub(crate) fn read_head(octets: &[u8]) -> Result<Header, HeadFault>
     requires { 19 ≤ length octets.now }
     ensures { result ≡ head_of octets.now }
 {
-    if !octets.starts_with(&MARKER) {
+    if !has_marker(octets) {
         return Err(HeadFault::Marker);
     }
     let len = u16::from_be_bytes([octets[16], octets[17]]);

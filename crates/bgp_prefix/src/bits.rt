@@ -1,6 +1,6 @@
 //! The first bits of octets, from the highest bit of the first octet.
 
-ghost use Rattle.std.specs.Prelude.{◌≡◌, ◌≤◌, ◌*◌, ◌↔◌, length, IsTrue};
+ghost use Rattle.std.specs.Prelude.{◌≡◌, ◌<◌, ◌≤◌, ◌*◌, ◌↔◌, length, IsTrue};
 ghost use Rattle.bgp_wire.specs.Octets.{AreOctets};
 ghost use Rattle.bgp_prefix.specs.Bits.{octets_for, first_bits, address_of, HasNoBitPast};
 
@@ -18,14 +18,12 @@ pub(crate) fn is_allowed<const W: usize>(len: u8) -> bool
     octets_for(len) <= W
 }
 
-/// An octet with its first `len` bits, and 0 for the others.
+/// An octet with its first `len` bits, of which it has some that aren't among them, and 0 for these.
 #[tactic(auto, unfolding(crate::specs::Bits::first_bits))]
 fn first_bits(len: u8, octet: u8) -> u8
+    requires { len < 8 }
     ensures { result ≡ first_bits len octet }
 {
-    if len >= 8 {
-        return octet;
-    }
     let unit = 1u16 << (8 - len);
     (u16::from(octet) / unit * unit) as u8
 }
@@ -38,10 +36,12 @@ pub(crate) fn address<const W: usize>(len: u8, octets: &[u8]) -> [u8; W]
     ensures octets { AreOctets octets.now }
 {
     let mut addr = [0; W];
-    let mut left = len;
-    for (i, octet) in octets.iter().enumerate() {
-        addr[i] = first_bits(left, *octet);
-        left = left.saturating_sub(8);
+    let whole = usize::from(len / 8).min(octets.len());
+    for (i, octet) in octets[..whole].iter().enumerate() {
+        addr[i] = *octet;
+    }
+    if let Some(cut) = octets.get(whole) {
+        addr[whole] = first_bits(len % 8, *cut);
     }
     addr
 }
