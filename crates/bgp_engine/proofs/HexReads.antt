@@ -2,7 +2,7 @@
 use Rattle.std.proofs.Common.{◌≡◌, ℕ, ◌+◌, ◌-◌, ◌*◌, ◌<◌, ◌≤◌, true, false, List, [], ◌∷◌, ◌++◌, length, Option, Some, None, refl, sym, ap, subst, ◌∙◌, append_assoc, add-zero, arith}
 use Rattle.std.proofs.lemmas.List.{append-nil, length-append}
 use Rattle.std.specs.Prelude.{option_to_list}
-use Rattle.std.specs.Option.{option_map}
+use Rattle.std.specs.Option.{ForSome, option_map}
 use Rattle.hex.specs.Hex.{is_hex_digit}
 use Rattle.bgp_engine.specs.declared.hex_text.HexText.{HexText}
 use Rattle.bgp_engine.specs.HexText.{is_blank, digit_value, spelled, bad_from}
@@ -116,20 +116,30 @@ Breaks-longer a text more octets n p = record {
 
 -- ---- pairs from the front of a text
 
-pub ReadsPairs-none : (a : HexText) (text was : List ℕ) → ReadsPairs a text text was was a
-ReadsPairs-none a text was = record {
-  front = [];
-  added = [];
-  splits = refl;
-  puts = sym (append-nil was);
-  continues = Continues-none a;
-  waits = refl;
-  even = refl;
-  are_octets = AreOctets-nil;
-}
+-- the reader behind so many characters more, with the same digit waiting
+abbrev pub read_on : HexText → ℕ → HexText
+read_on a n = record { pending = a.pending; seen = a.seen + n; is_digit = a.is_digit; is_seen = λ c is. omega (arith, a.is_seen c is) }
 
-pub first_pair_of : (text after rest : List ℕ) (high low octet : ℕ) → text ≡ high ∷ after → after ≡ low ∷ rest → IsPair high low octet → FirstPair text rest octet
-first_pair_of text after rest high low octet first second p = record { high = high; low = low; splits = first ∙ ap (λ (t : List ℕ). high ∷ t) second; is_pair = p }
+pub ReadsPairs-starts : (a : HexText) (text was : List ℕ) → ReadsPairs a text text was was (read_on a (length text - length text))
+ReadsPairs-starts a text was =
+    let none : a.seen + (length text - length text) ≡ a.seen = omega arith in
+    record {
+      front = [];
+      added = [];
+      splits = refl;
+      puts = sym (append-nil was);
+      continues = record {
+        spells = λ later. refl;
+        is_bad = λ later. ap (λ (n : ℕ). bad_from (n - length (pending a)) (pending a ++ later)) (sym none);
+        counts = none ∙ sym (add-zero a.seen);
+      };
+      waits = refl;
+      even = refl;
+      are_octets = AreOctets-nil;
+    }
+
+pub first_pair_of : (text rest : List ℕ) (high low octet : ℕ) → text ≡ high ∷ low ∷ rest → IsPair high low octet → FirstPair text rest octet
+first_pair_of text rest high low octet splits p = record { high = high; low = low; splits = splits; is_pair = p }
 
 pub ReadsPairs-next : (a b c : HexText) (text rest behind was octets last : List ℕ) (octet : ℕ) → ReadsPairs a text rest was octets b → a.pending ≡ None
     → FirstPair rest behind octet → c.pending ≡ b.pending → c.seen ≡ b.seen + 2 → octet < 256 → last ≡ octets ++ octet ∷ [] → ReadsPairs a text behind was last c
@@ -146,6 +156,12 @@ ReadsPairs-next a b c text rest behind was octets last octet p none f same count
       even = omega (arith, length-append p.front both, length-append p.added (octet ∷ []), p.even);
       are_octets = AreOctets-push p.added octet p.are_octets lt;
     }
+
+pub ReadsPairs-more : (a : HexText) (text rest behind was octets last : List ℕ) (octet : ℕ) → ReadsPairs a text rest was octets (read_on a (length text - length rest)) → a.pending ≡ None
+    → FirstPair rest behind octet → octet < 256 → last ≡ octets ++ octet ∷ [] → ReadsPairs a text behind was last (read_on a (length text - length behind))
+ReadsPairs-more a text rest behind was octets last octet p none f lt put =
+    ReadsPairs-next a (read_on a (length text - length rest)) (read_on a (length text - length behind)) text rest behind was octets last octet p none f refl
+    (omega (arith, ap length f.splits, ap length p.splits, length-append p.front rest)) lt put
 
 -- what the octets of the pairs need, and what is left
 pub ReadsPairs-sizes : (a b : HexText) (text rest was octets : List ℕ) → ReadsPairs a text rest was octets b → 2 * length octets + length rest ≡ 2 * length was + length text

@@ -106,8 +106,9 @@ fn octet_of(high: u8, low: u8) -> Option<u8>
 fn first_pair(text: &[u8]) -> Option<(u8, &[u8])>
     ensures { IfSome result (λ r. FirstPair text.entry.now r.1.now r.0) }
 {
-    let (high, after) = text.split_first()?;
-    let (low, behind) = after.split_first()?;
+    let [high, low, behind @ ..] = text else {
+        return None;
+    };
     let octet = octet_of(*high, *low)?;
     Some((octet, behind))
 }
@@ -178,9 +179,9 @@ impl HexText {
         }
         'pairs: while let Some((octet, behind)) = first_pair(rest) {
             octets.push(octet);
-            self.seen += 2;
             rest = behind;
         }
+        self.seen += (text.len() - rest.len()) as u64;
         rest
     }
 

@@ -1,10 +1,11 @@
-use Rattle.std.proofs.Common.{◌≡◌, length, None}
+use Rattle.std.proofs.Common.{◌≡◌, ◌-◌, length, None}
 use Rattle.bgp_engine.specs.HexSteps.{ReadsPairs}
+use Rattle.bgp_engine.proofs.HexReads.{read_on}
 use Rattle.bgp_engine.proofs.hex_text.HexText.take_pairs.Given as goal
 
 abbrev pub invariant-pairs : goal.invariant-pairs
 invariant-pairs l = record {
-  so_far : ReadsPairs l.fn.self l.text l.rest l.fn.octets.items l.octets.items l.self;
+  so_far : ReadsPairs l.fn.self l.text l.rest l.fn.octets.items l.octets.items (read_on l.fn.self (length l.text - length l.rest));
   none : l.fn.self.pending ≡ None;
 }
 
