@@ -16,6 +16,11 @@ pub record Io : Type 0 where
   pub writer_old : Option (List ℕ)
   pub writer_new : Option (List ℕ)
 
+-- what a reader still has, as `remaining` says, and a writer holds, as `contents` does
+abbrev pub io : {R W : Type 0} → (R → Option (List ℕ)) → R → R → (W → Option (List ℕ)) → W → W → Io
+io remaining input_old input_new contents output_old output_new =
+    record { reader_old = remaining input_old; reader_new = remaining input_new; writer_old = contents output_old; writer_new = contents output_new }
+
 -- the stream that a text is: as it stands, or as the hexadecimal text spells it
 abbrev pub stream_of : Bool → List ℕ → List ℕ
 stream_of true text = spelled text

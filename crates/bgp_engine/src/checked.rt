@@ -3,7 +3,7 @@
 ghost use Rattle.std.specs.Prelude.{◌≡◌, ◌+◌, ◌≤◌, ◌++◌, length, IfOk, OnOk};
 ghost use Rattle.std.specs.String.{string_bytes};
 ghost use Rattle.bgp_engine.specs.Check.{Checked, counts_line};
-ghost use Rattle.bgp_engine.specs.Run.{Answers};
+ghost use Rattle.bgp_engine.specs.Run.{Answers, io};
 
 use crate::class::{Class, class_of};
 use crate::fault::ToolFault;
@@ -102,7 +102,7 @@ pub fn check<R: Read, W: Write>(
     input: &mut R,
     output: &mut W,
 ) -> Result<Tally, ToolFault>
-    ensures { Answers (Checked ctx.now) hex (record { reader_old = R.remaining input.old; reader_new = R.remaining input.new; writer_old = W.contents output.old; writer_new = W.contents output.new }) result }
+    ensures { Answers (Checked ctx.now) hex (io R.remaining input.old input.new W.contents output.old output.new) result }
 {
     check_within(alloc, u32::MAX, ctx, hex, input, output)
 }
@@ -119,7 +119,7 @@ pub fn check_within<R: Read, W: Write>(
     input: &mut R,
     output: &mut W,
 ) -> Result<Tally, ToolFault>
-    ensures { Answers (Checked ctx.now) hex (record { reader_old = R.remaining input.old; reader_new = R.remaining input.new; writer_old = W.contents output.old; writer_new = W.contents output.new }) result }
+    ensures { Answers (Checked ctx.now) hex (io R.remaining input.old input.new W.contents output.old output.new) result }
 {
     let page = CheckPage {
         ctx: *ctx,

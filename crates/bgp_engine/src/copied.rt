@@ -2,7 +2,7 @@
 
 ghost use Rattle.std.specs.Prelude.{◌≡◌, true};
 ghost use Rattle.bgp_engine.specs.FromHex.{Copied};
-ghost use Rattle.bgp_engine.specs.Run.{Answers};
+ghost use Rattle.bgp_engine.specs.Run.{Answers, io};
 
 use crate::engine::Engine;
 use crate::fault::ToolFault;
@@ -71,7 +71,7 @@ pub fn from_hex<R: Read, W: Write>(
     input: &mut R,
     output: &mut W,
 ) -> Result<Tally, ToolFault>
-    ensures { Answers Copied true (record { reader_old = R.remaining input.old; reader_new = R.remaining input.new; writer_old = W.contents output.old; writer_new = W.contents output.new }) result }
+    ensures { Answers Copied true (io R.remaining input.old input.new W.contents output.old output.new) result }
 {
     from_hex_within(alloc, u32::MAX, input, output)
 }
@@ -86,7 +86,7 @@ pub fn from_hex_within<R: Read, W: Write>(
     input: &mut R,
     output: &mut W,
 ) -> Result<Tally, ToolFault>
-    ensures { Answers Copied true (record { reader_old = R.remaining input.old; reader_new = R.remaining input.new; writer_old = W.contents output.old; writer_new = W.contents output.new }) result }
+    ensures { Answers Copied true (io R.remaining input.old input.new W.contents output.old output.new) result }
 {
     let mut copier = Copier {
         octets: Vec::new(alloc),

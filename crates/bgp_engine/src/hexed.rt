@@ -3,7 +3,7 @@
 ghost use Rattle.std.specs.Prelude.{◌≡◌, ◌+◌, ◌≤◌, ◌++◌, false, length, OnOk};
 ghost use Rattle.hex.specs.Hex.{encode_lower};
 ghost use Rattle.bgp_frame.specs.Kind.{IsLength};
-ghost use Rattle.bgp_engine.specs.Run.{Answers};
+ghost use Rattle.bgp_engine.specs.Run.{Answers, io};
 ghost use Rattle.bgp_engine.specs.ToHex.{Hexed, hex_line, fault_line, rest_line};
 
 use crate::class::Class;
@@ -127,7 +127,7 @@ pub fn to_hex<R: Read, W: Write>(
     input: &mut R,
     output: &mut W,
 ) -> Result<Tally, ToolFault>
-    ensures { Answers Hexed false (record { reader_old = R.remaining input.old; reader_new = R.remaining input.new; writer_old = W.contents output.old; writer_new = W.contents output.new }) result }
+    ensures { Answers Hexed false (io R.remaining input.old input.new W.contents output.old output.new) result }
 {
     to_hex_within(alloc, u32::MAX, input, output)
 }
@@ -142,7 +142,7 @@ pub fn to_hex_within<R: Read, W: Write>(
     input: &mut R,
     output: &mut W,
 ) -> Result<Tally, ToolFault>
-    ensures { Answers Hexed false (record { reader_old = R.remaining input.old; reader_new = R.remaining input.new; writer_old = W.contents output.old; writer_new = W.contents output.new }) result }
+    ensures { Answers Hexed false (io R.remaining input.old input.new W.contents output.old output.new) result }
 {
     let page = HexPage {
         alloc,

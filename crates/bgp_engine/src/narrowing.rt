@@ -11,7 +11,7 @@ ghost use Rattle.bgp_update.specs.View.{update_value};
 ghost use Rattle.bgp_update.specs.Widths.{with_as4};
 ghost use Rattle.bgp_engine.specs.PageSteps.{WritesNarrow};
 ghost use Rattle.bgp_engine.specs.Narrow.{Narrowed, written_in, narrowed_outcome, narrow_answer};
-ghost use Rattle.bgp_engine.specs.Run.{Answers};
+ghost use Rattle.bgp_engine.specs.Run.{Answers, io};
 
 use crate::class::Class;
 use crate::fault::ToolFault;
@@ -177,7 +177,7 @@ pub fn narrow_stream<R: Read, W: Write>(
     output: &mut W,
 ) -> Result<Tally, ToolFault>
     requires { ctx.now.as4 ≡ true }
-    ensures { Answers (Narrowed ctx.now) false (record { reader_old = R.remaining input.old; reader_new = R.remaining input.new; writer_old = W.contents output.old; writer_new = W.contents output.new }) result }
+    ensures { Answers (Narrowed ctx.now) false (io R.remaining input.old input.new W.contents output.old output.new) result }
 {
     narrow_within(alloc, u32::MAX, ctx, input, output)
 }
@@ -194,7 +194,7 @@ pub fn narrow_within<R: Read, W: Write>(
     output: &mut W,
 ) -> Result<Tally, ToolFault>
     requires { ctx.now.as4 ≡ true }
-    ensures { Answers (Narrowed ctx.now) false (record { reader_old = R.remaining input.old; reader_new = R.remaining input.new; writer_old = W.contents output.old; writer_new = W.contents output.new }) result }
+    ensures { Answers (Narrowed ctx.now) false (io R.remaining input.old input.new W.contents output.old output.new) result }
 {
     let page = NarrowPage {
         alloc,

@@ -6,7 +6,7 @@ ghost use Rattle.bgp_engine.specs.Agree.{agreed};
 ghost use Rattle.bgp_engine.specs.File.{first_open, open_in};
 ghost use Rattle.bgp_engine.specs.Opens.{ReportedBy};
 ghost use Rattle.bgp_engine.specs.Rules.{IsReport};
-ghost use Rattle.bgp_engine.specs.Run.{Answers};
+ghost use Rattle.bgp_engine.specs.Run.{Answers, io};
 ghost use Rattle.bgp_engine.specs.Tally.{no_tally};
 
 use crate::agreeing::agreed_context;
@@ -199,7 +199,7 @@ pub(crate) fn open_stream<P: Page + Drop, R: Read, W: Write>(
     output: &mut W,
 ) -> Result<Tally, ToolFault>
     requires { P.told page ≡ [] }
-    ensures { Answers (ReportedBy P.fits theirs.now (λ ctx. IsReport (P.rules_in ctx) 0 no_tally)) hex (record { reader_old = R.remaining input.old; reader_new = R.remaining input.new; writer_old = W.contents output.old; writer_new = W.contents output.new }) result }
+    ensures { Answers (ReportedBy P.fits theirs.now (λ ctx. IsReport (P.rules_in ctx) 0 no_tally)) hex (io R.remaining input.old input.new W.contents output.old output.new) result }
 {
     let mut opening = Opening {
         alloc,

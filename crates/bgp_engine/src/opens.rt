@@ -2,7 +2,7 @@
 
 ghost use Rattle.std.specs.Prelude.{◌≡◌, true, false};
 ghost use Rattle.bgp_engine.specs.Opens.{CheckedBy, NarrowedBy, ShownBy, ShownJsonBy};
-ghost use Rattle.bgp_engine.specs.Run.{Answers};
+ghost use Rattle.bgp_engine.specs.Run.{Answers, io};
 
 use crate::checked::CheckPage;
 use crate::fault::ToolFault;
@@ -37,7 +37,7 @@ pub fn show_by_opens<R: Read, W: Write>(
     input: &mut R,
     output: &mut W,
 ) -> Result<Tally, ToolFault>
-    ensures { Answers (ShownBy theirs.now) hex (record { reader_old = R.remaining input.old; reader_new = R.remaining input.new; writer_old = W.contents output.old; writer_new = W.contents output.new }) result }
+    ensures { Answers (ShownBy theirs.now) hex (io R.remaining input.old input.new W.contents output.old output.new) result }
 {
     show_by_opens_within(alloc, u32::MAX, theirs, hex, input, output)
 }
@@ -54,7 +54,7 @@ pub fn show_by_opens_within<R: Read, W: Write>(
     input: &mut R,
     output: &mut W,
 ) -> Result<Tally, ToolFault>
-    ensures { Answers (ShownBy theirs.now) hex (record { reader_old = R.remaining input.old; reader_new = R.remaining input.new; writer_old = W.contents output.old; writer_new = W.contents output.new }) result }
+    ensures { Answers (ShownBy theirs.now) hex (io R.remaining input.old input.new W.contents output.old output.new) result }
 {
     let page = ShowPage {
         alloc,
@@ -75,7 +75,7 @@ pub fn show_json_by_opens<R: Read, W: Write>(
     input: &mut R,
     output: &mut W,
 ) -> Result<Tally, ToolFault>
-    ensures { Answers (ShownJsonBy theirs.now) hex (record { reader_old = R.remaining input.old; reader_new = R.remaining input.new; writer_old = W.contents output.old; writer_new = W.contents output.new }) result }
+    ensures { Answers (ShownJsonBy theirs.now) hex (io R.remaining input.old input.new W.contents output.old output.new) result }
 {
     show_json_by_opens_within(alloc, u32::MAX, theirs, hex, input, output)
 }
@@ -92,7 +92,7 @@ pub fn show_json_by_opens_within<R: Read, W: Write>(
     input: &mut R,
     output: &mut W,
 ) -> Result<Tally, ToolFault>
-    ensures { Answers (ShownJsonBy theirs.now) hex (record { reader_old = R.remaining input.old; reader_new = R.remaining input.new; writer_old = W.contents output.old; writer_new = W.contents output.new }) result }
+    ensures { Answers (ShownJsonBy theirs.now) hex (io R.remaining input.old input.new W.contents output.old output.new) result }
 {
     let page = JsonPage {
         alloc,
@@ -113,7 +113,7 @@ pub fn check_by_opens<R: Read, W: Write>(
     input: &mut R,
     output: &mut W,
 ) -> Result<Tally, ToolFault>
-    ensures { Answers (CheckedBy theirs.now) hex (record { reader_old = R.remaining input.old; reader_new = R.remaining input.new; writer_old = W.contents output.old; writer_new = W.contents output.new }) result }
+    ensures { Answers (CheckedBy theirs.now) hex (io R.remaining input.old input.new W.contents output.old output.new) result }
 {
     check_by_opens_within(alloc, u32::MAX, theirs, hex, input, output)
 }
@@ -130,7 +130,7 @@ pub fn check_by_opens_within<R: Read, W: Write>(
     input: &mut R,
     output: &mut W,
 ) -> Result<Tally, ToolFault>
-    ensures { Answers (CheckedBy theirs.now) hex (record { reader_old = R.remaining input.old; reader_new = R.remaining input.new; writer_old = W.contents output.old; writer_new = W.contents output.new }) result }
+    ensures { Answers (CheckedBy theirs.now) hex (io R.remaining input.old input.new W.contents output.old output.new) result }
 {
     let page = CheckPage {
         ctx: UNKNOWN,
@@ -149,7 +149,7 @@ pub fn narrow_by_opens<R: Read, W: Write>(
     input: &mut R,
     output: &mut W,
 ) -> Result<Tally, ToolFault>
-    ensures { Answers (NarrowedBy theirs.now) false (record { reader_old = R.remaining input.old; reader_new = R.remaining input.new; writer_old = W.contents output.old; writer_new = W.contents output.new }) result }
+    ensures { Answers (NarrowedBy theirs.now) false (io R.remaining input.old input.new W.contents output.old output.new) result }
 {
     narrow_by_opens_within(alloc, u32::MAX, theirs, input, output)
 }
@@ -165,7 +165,7 @@ pub fn narrow_by_opens_within<R: Read, W: Write>(
     input: &mut R,
     output: &mut W,
 ) -> Result<Tally, ToolFault>
-    ensures { Answers (NarrowedBy theirs.now) false (record { reader_old = R.remaining input.old; reader_new = R.remaining input.new; writer_old = W.contents output.old; writer_new = W.contents output.new }) result }
+    ensures { Answers (NarrowedBy theirs.now) false (io R.remaining input.old input.new W.contents output.old output.new) result }
 {
     let page = NarrowPage {
         alloc,

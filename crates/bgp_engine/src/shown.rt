@@ -4,7 +4,7 @@ ghost use Rattle.std.specs.Prelude.{◌≡◌, ◌+◌, ◌≤◌, [], length, I
 ghost use Rattle.std.specs.String.{string_bytes};
 ghost use Rattle.bgp_frame.specs.Kind.{IsLength};
 ghost use Rattle.bgp_msg.specs.Outcome.{out_of};
-ghost use Rattle.bgp_engine.specs.Run.{Answers};
+ghost use Rattle.bgp_engine.specs.Run.{Answers, io};
 ghost use Rattle.bgp_engine.specs.PageSteps.{WritesOutcome};
 ghost use Rattle.bgp_engine.specs.Show.{Shown};
 
@@ -113,7 +113,7 @@ pub fn show<R: Read, W: Write>(
     input: &mut R,
     output: &mut W,
 ) -> Result<Tally, ToolFault>
-    ensures { Answers (Shown ctx.now) hex (record { reader_old = R.remaining input.old; reader_new = R.remaining input.new; writer_old = W.contents output.old; writer_new = W.contents output.new }) result }
+    ensures { Answers (Shown ctx.now) hex (io R.remaining input.old input.new W.contents output.old output.new) result }
 {
     show_within(alloc, u32::MAX, ctx, hex, input, output)
 }
@@ -130,7 +130,7 @@ pub fn show_within<R: Read, W: Write>(
     input: &mut R,
     output: &mut W,
 ) -> Result<Tally, ToolFault>
-    ensures { Answers (Shown ctx.now) hex (record { reader_old = R.remaining input.old; reader_new = R.remaining input.new; writer_old = W.contents output.old; writer_new = W.contents output.new }) result }
+    ensures { Answers (Shown ctx.now) hex (io R.remaining input.old input.new W.contents output.old output.new) result }
 {
     let page = ShowPage {
         alloc,

@@ -5,7 +5,7 @@ ghost use Rattle.std.specs.String.{string_bytes};
 ghost use Rattle.bgp_frame.specs.Kind.{IsLength};
 ghost use Rattle.bgp_msg.specs.Outcome.{of_fault, out_of};
 ghost use Rattle.bgp_text.specs.JsonOutcome.{outcome_json};
-ghost use Rattle.bgp_engine.specs.Run.{Answers};
+ghost use Rattle.bgp_engine.specs.Run.{Answers, io};
 ghost use Rattle.bgp_engine.specs.ShowJson.{ShownJson, WritesJson};
 
 use crate::class::{Class, class_of};
@@ -13,7 +13,7 @@ use crate::fault::ToolFault;
 use crate::page::Page;
 use crate::tally::Tally;
 use crate::walk::walk_stream;
-use bgp_frame::{Frame, HeadFault, NotificationView};
+use bgp_frame::{Frame, HeadFault};
 use bgp_msg::{OutcomeView, view_frame};
 use bgp_open::Context;
 use bgp_text::{put_end_json, put_viewed_json};
@@ -48,13 +48,8 @@ fn put_fault(
 ) -> Result<(), AllocError>
     ensures { OnOk result (string_bytes text.new ≡ string_bytes text.old ++ outcome_json place 0 (of_fault fault)) }
 {
-    let answer = fault.notification();
-    let why = NotificationView {
-        code: answer.code,
-        subcode: answer.subcode,
-        info: &answer.info,
-    };
-    put_viewed_json(alloc, text, place, 0, &OutcomeView::Reset(why))
+    let why = fault.answer();
+    put_viewed_json(alloc, text, place, 0, &OutcomeView::Reset(why.view()))
 }
 
 /// The line of each message.
@@ -127,7 +122,7 @@ pub fn show_json<R: Read, W: Write>(
     input: &mut R,
     output: &mut W,
 ) -> Result<Tally, ToolFault>
-    ensures { Answers (ShownJson ctx.now) hex (record { reader_old = R.remaining input.old; reader_new = R.remaining input.new; writer_old = W.contents output.old; writer_new = W.contents output.new }) result }
+    ensures { Answers (ShownJson ctx.now) hex (io R.remaining input.old input.new W.contents output.old output.new) result }
 {
     show_json_within(alloc, u32::MAX, ctx, hex, input, output)
 }
@@ -144,7 +139,7 @@ pub fn show_json_within<R: Read, W: Write>(
     input: &mut R,
     output: &mut W,
 ) -> Result<Tally, ToolFault>
-    ensures { Answers (ShownJson ctx.now) hex (record { reader_old = R.remaining input.old; reader_new = R.remaining input.new; writer_old = W.contents output.old; writer_new = W.contents output.new }) result }
+    ensures { Answers (ShownJson ctx.now) hex (io R.remaining input.old input.new W.contents output.old output.new) result }
 {
     let page = JsonPage {
         alloc,

@@ -2,7 +2,7 @@
 
 ghost use Rattle.std.specs.Prelude.{◌≡◌, []};
 ghost use Rattle.bgp_engine.specs.Rules.{IsReport};
-ghost use Rattle.bgp_engine.specs.Run.{Answers};
+ghost use Rattle.bgp_engine.specs.Run.{Answers, io};
 ghost use Rattle.bgp_engine.specs.Tally.{no_tally};
 
 use crate::class::Class;
@@ -263,7 +263,7 @@ pub(crate) fn walk_stream<P: Page + Drop, R: Read, W: Write>(
     output: &mut W,
 ) -> Result<Tally, ToolFault>
     requires { P.told page ≡ [] }
-    ensures { Answers (IsReport (P.rules page) 0 no_tally) hex (record { reader_old = R.remaining input.old; reader_new = R.remaining input.new; writer_old = W.contents output.old; writer_new = W.contents output.new }) result }
+    ensures { Answers (IsReport (P.rules page) 0 no_tally) hex (io R.remaining input.old input.new W.contents output.old output.new) result }
 {
     let mut walk = Walk::new(page);
     run(turns, hex, &mut walk, input, output)

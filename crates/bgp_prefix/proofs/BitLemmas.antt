@@ -6,7 +6,7 @@ use Rattle.std.proofs.Math.Nat.{div-div-eq-div-mul, div-mul-le_self}
 use Rattle.std.proofs.lemmas.Bool.{cases_lt}
 use Rattle.std.proofs.lemmas.Nat.{pow_pos, pow-add}
 use Rattle.std.proofs.lemmas.Nat.Bits.{bit_at-zero, bit_at_cat_low, bit_at_cat_high, same_from_bits_below}
-use Rattle.std.proofs.lemmas.List.{append-nil, length-append, length-replicate, get_or-replicate, get_or_past, get_or_append_left, get_or-append_right, same_lists, get_or_default, take_all, take_more, drop_all, drop_more, replicate-append-replicate, set_at, take-append-drop, length-take, length-drop}
+use Rattle.std.proofs.lemmas.List.{append-nil, length-append, length-replicate, get_or-replicate, get_or_past, get_or_append_left, get_or-append_right, same_lists, get_or_default, take_all, take_more, take-take, set_at, take-append-drop, length-take, length-drop}
 use Rattle.std.proofs.lemmas.Bool.Decides.{Decides-eqb}
 use Rattle.std.proofs.lemmas.Slice.Eq.{slice_eq-Decides}
 use Rattle.bgp_wire.specs.Octets.{AreOctets}
@@ -154,9 +154,9 @@ pub HasNoBitPast-whole : (b : List ℕ) (l : ℕ) → leading_bits l b ≡ b →
 HasNoBitPast-whole b l e i le = sym (ap (λ (c : List ℕ). bit_of c i) e) ∙ HasNoBitPast-leading_bits b l i le
 
 -- the octets that hold the first bits are enough
-pub address_of-take : (width l : ℕ) (addr : List ℕ) → length addr ≡ width → l ≤ 8 * width → AreOctets addr → leading_bits l addr ≡ addr → address_of width l (take (octets_for l) addr) ≡ addr
+pub address_of-first : (width l : ℕ) (addr : List ℕ) → length addr ≡ width → l ≤ 8 * width → AreOctets addr → address_of width l (take (octets_for l) addr) ≡ leading_bits l addr
 unfolding address_of
-address_of-take width l addr wide le octets whole =
+address_of-first width l addr wide le octets =
     let k = octets_for l in
     let held : length (take k addr) ≡ k = omega (arith, length-take k addr) in
     let rest : width - length (take k addr) ≡ length (drop k addr) = omega (arith, length-drop k addr) in
@@ -166,71 +166,38 @@ address_of-take width l addr wide le octets whole =
     ∙ ap (λ (n : ℕ). leading_bits l (take k addr) ++ leading_bits n (drop k addr)) (sym past)
     ∙ sym (leading_bits-append (take k addr) (drop k addr) l)
     ∙ ap (leading_bits l) (take-append-drop k addr)
-    ∙ whole
 
--- ---- how an address is filled: octets that are kept whole, and one that is cut
+pub address_of-take : (width l : ℕ) (addr : List ℕ) → length addr ≡ width → l ≤ 8 * width → AreOctets addr → leading_bits l addr ≡ addr → address_of width l (take (octets_for l) addr) ≡ addr
+address_of-take width l addr wide le octets whole = address_of-first width l addr wide le octets ∙ whole
 
-first_bits_whole : (l x : ℕ) → 8 ≤ l → first_bits l x ≡ x
-unfolding first_bits
-first_bits_whole l x le =
-    let none : 8 - l ≡ 0 = omega arith in
-    ap (λ (n : ℕ). x / 2 ^ n * 2 ^ n) none ∙ omega arith
+-- octets behind those are ignored
+pub address_of-chunk : (width l : ℕ) (chunk behind read : List ℕ) → length chunk ≡ width → l ≤ 8 * width → AreOctets chunk → chunk ≡ take width behind → read ≡ take (octets_for l) behind → address_of width l chunk ≡ address_of width l read
+address_of-chunk width l chunk behind read wide le octets front held =
+    address_of-whole width l chunk wide ∙ sym (address_of-first width l chunk wide le octets)
+    ∙ ap (address_of width l) (ap (take (octets_for l)) front ∙ take-take (octets_for l) width behind (omega (arith, le)) ∙ sym held)
 
-leading_bits-behind : (w : ℕ) (b : List ℕ) (l : ℕ) → 8 * w ≤ l → w ≤ length b → leading_bits l b ≡ take w b ++ leading_bits (l - 8 * w) (drop w b)
-leading_bits-behind zero b l bits le = ap (λ (n : ℕ). leading_bits n b) (omega arith)
-leading_bits-behind (suc w) [] l bits le = absurd (omega arith)
-leading_bits-behind (suc w) (x ∷ b) l bits le =
-    let later : (l - 8) - 8 * w ≡ l - 8 * suc w = omega arith in
-    ap₂ ◌∷◌ (first_bits_whole l x (omega arith)) (leading_bits-behind w b (l - 8) (omega arith) (omega arith) ∙ ap (λ (n : ℕ). take w b ++ leading_bits n (drop w b)) later)
+-- ---- the loop that fills an address
 
--- one octet more is kept
-pub address_more : (width i : ℕ) (b addr : List ℕ) (x : ℕ) → i < length b → i < width
-    → addr ≡ take i b ++ replicate (width - i) 0 → x ≡ get_or b i 0
-    → set addr i x ≡ take (i + 1) b ++ replicate (width - (i + 1)) 0
-address_more width i b addr x lt room addr_is x_is =
+pub address_more : (width l i left : ℕ) (b addr : List ℕ) (x : ℕ) → i < length b → length b ≤ width → left ≡ l - 8 * i
+    → addr ≡ leading_bits l (take i b) ++ replicate (width - i) 0 → x ≡ first_bits left (get_or b i 0)
+    → set addr i x ≡ leading_bits l (take (i + 1) b) ++ replicate (width - (i + 1)) 0
+address_more width l i left b addr x lt le left_is addr_is x_is =
     let more : width - i ≡ suc (width - (i + 1)) = omega arith in
     let front : length (take i b) ≡ i = omega (arith, length-take i b) in
-    ap (λ (c : List ℕ). set c i x) (addr_is ∙ ap (λ (n : ℕ). take i b ++ replicate {A = ℕ} n 0) more)
-    ∙ set_at (take i b) 0 (replicate (width - (i + 1)) 0) x i front
-    ∙ sym (append_assoc (take i b) (x ∷ []) (replicate (width - (i + 1)) 0))
-    ∙ ap (λ (n : ℕ). (take i b ++ n ∷ []) ++ replicate {A = ℕ} (width - (i + 1)) 0) x_is
-    ∙ ap (λ (c : List ℕ). c ++ replicate {A = ℕ} (width - (i + 1)) 0) (sym (take_more b i 0 lt))
+    let filled : length (leading_bits l (take i b)) ≡ i = length-leading_bits (take i b) l ∙ front in
+    let same : l - 8 * length (take i b) ≡ left = ap (λ (n : ℕ). l - 8 * n) front ∙ sym left_is in
+    let pushed : leading_bits l (take (i + 1) b) ≡ leading_bits l (take i b) ++ x ∷ [] =
+    ap (leading_bits l) (take_more b i 0 lt) ∙ leading_bits-append (take i b) (get_or b i 0 ∷ []) l
+    ∙ ap (λ (n : ℕ). leading_bits l (take i b) ++ first_bits n (get_or b i 0) ∷ []) same ∙ ap (λ (n : ℕ). leading_bits l (take i b) ++ n ∷ []) (sym x_is) in
+    ap (λ (c : List ℕ). set c i x) (addr_is ∙ ap (λ (n : ℕ). leading_bits l (take i b) ++ replicate {A = ℕ} n 0) more)
+    ∙ set_at (leading_bits l (take i b)) 0 (replicate (width - (i + 1)) 0) x i filled
+    ∙ sym (append_assoc (leading_bits l (take i b)) (x ∷ []) (replicate (width - (i + 1)) 0))
+    ∙ ap (λ (c : List ℕ). c ++ replicate {A = ℕ} (width - (i + 1)) 0) (sym pushed)
 
-pub address_kept : (width w i : ℕ) (b addr : List ℕ) → w ≤ length b → i ≤ length (take w b) → length (take w b) ≤ i → addr ≡ take i (take w b) ++ replicate (width - i) 0
-    → addr ≡ take w b ++ replicate (width - w) 0
-address_kept width w i b addr le low high addr_is =
-    addr_is ∙ ap₂ (λ (c : List ℕ) (n : ℕ). c ++ replicate {A = ℕ} (width - n) 0) (take_all i (take w b) high) (omega (arith, length-take w b))
-
--- all octets are kept whole
-pub address_whole : (width l w : ℕ) (b addr : List ℕ) → 8 * w ≤ l → w ≡ length b → addr ≡ take w b ++ replicate (width - w) 0 → addr ≡ address_of width l b
+pub address_done : (width l i : ℕ) (b addr : List ℕ) → i ≤ length b → length b ≤ i → addr ≡ leading_bits l (take i b) ++ replicate (width - i) 0 → addr ≡ address_of width l b
 unfolding address_of
-address_whole width l w b addr bits all addr_is =
-    addr_is
-    ∙ ap₂ (λ (c : List ℕ) (n : ℕ). c ++ replicate {A = ℕ} (width - n) 0)
-    (sym (append-nil (take w b)) ∙ ap (λ (c : List ℕ). take w b ++ leading_bits (l - 8 * w) c) (sym (drop_all w b (omega arith))) ∙ sym (leading_bits-behind w b l bits (omega arith))) all
-
--- one is cut, and those behind it have none of the bits
-pub address_cut : (width l w : ℕ) (b addr : List ℕ) (x : ℕ) → AreOctets b → w ≡ l / 8 → w < length b → length b ≤ width → addr ≡ take w b ++ replicate (width - w) 0
-    → x ≡ first_bits (l % 8) (get_or b w 0) → set addr w x ≡ address_of width l b
-unfolding address_of
-address_cut width l w b addr x octets w_is lt le addr_is x_is =
-    let more : width - w ≡ suc (width - (w + 1)) = omega arith in
-    let front : length (take w b) ≡ w = omega (arith, length-take w b) in
-    let cut : l % 8 ≡ l - 8 * w = omega arith in
-    let none : (l - 8 * w) - 8 ≡ 0 = omega arith in
-    let behind : List ℕ = drop (w + 1) b in
-    let some : length behind + (width - length b) ≡ width - (w + 1) = omega (arith, length-drop (w + 1) b) in
-    let kept : leading_bits l b ≡ take w b ++ (x ∷ replicate (length behind) 0) =
-    leading_bits-behind w b l (omega arith) (omega arith)
-    ∙ ap (λ (c : List ℕ). take w b ++ leading_bits (l - 8 * w) c) (drop_more b w 0 lt)
-    ∙ ap₂ (λ (n : ℕ) (m : ℕ). take w b ++ first_bits n (get_or b w 0) ∷ leading_bits m behind) (sym cut) none
-    ∙ ap₂ (λ (n : ℕ) (c : List ℕ). take w b ++ n ∷ c) (sym x_is) (leading_bits_none behind (AreOctets-drop (w + 1) b octets)) in
-    ap (λ (c : List ℕ). set c w x) (addr_is ∙ ap (λ (n : ℕ). take w b ++ replicate {A = ℕ} n 0) more)
-    ∙ set_at (take w b) 0 (replicate (width - (w + 1)) 0) x w front
-    ∙ ap (λ (n : ℕ). take w b ++ x ∷ replicate {A = ℕ} n 0) (sym some)
-    ∙ ap (λ (c : List ℕ). take w b ++ x ∷ c) (sym (replicate-append-replicate (length behind) (width - length b) 0))
-    ∙ sym (append_assoc (take w b) (x ∷ replicate (length behind) 0) (replicate (width - length b) 0))
-    ∙ ap (λ (c : List ℕ). c ++ replicate {A = ℕ} (width - length b) 0) (sym kept)
+address_done width l i b addr le ge addr_is =
+    addr_is ∙ ap₂ (λ (c : List ℕ) (n : ℕ). leading_bits l c ++ replicate {A = ℕ} (width - n) 0) (take_all i b ge) (omega arith)
 
 -- ---- the test whether an address has bits past the first ones
 

@@ -2,3 +2,4 @@ pub mod BitLemmas
 pub mod PrefixLemmas
 pub mod RunLemmas
 pub mod LawLemmas
+pub mod MaskLemmas

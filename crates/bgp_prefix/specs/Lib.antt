@@ -6,3 +6,4 @@ pub mod Run
 pub mod PrefixIter
 pub mod Text
 pub mod Half
+pub mod Mask

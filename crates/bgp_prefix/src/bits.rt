@@ -1,8 +1,10 @@
 //! The first bits of octets, from the highest bit of the first octet.
 
-ghost use Rattle.std.specs.Prelude.{◌≡◌, ◌<◌, ◌≤◌, ◌*◌, ◌↔◌, length, IsTrue};
+ghost use Rattle.std.specs.Prelude.{◌≡◌, ◌≤◌, ◌*◌, ◌↔◌, length, IsTrue};
 ghost use Rattle.bgp_wire.specs.Octets.{AreOctets};
-ghost use Rattle.bgp_prefix.specs.Bits.{octets_for, first_bits, address_of, HasNoBitPast};
+ghost use Rattle.bgp_prefix.specs.Bits.{octets_for, address_of, HasNoBitPast};
+
+use crate::mask::mask;
 
 /// The least number of octets that holds `len` bits.
 pub(crate) fn octets_for(len: u8) -> usize
@@ -18,17 +20,8 @@ pub(crate) fn is_allowed<const W: usize>(len: u8) -> bool
     octets_for(len) <= W
 }
 
-/// An octet with its first `len` bits, of which it has some that aren't among them, and 0 for these.
-#[tactic(auto, unfolding(crate::specs::Bits::first_bits))]
-fn first_bits(len: u8, octet: u8) -> u8
-    requires { len < 8 }
-    ensures { result ≡ first_bits len octet }
-{
-    let unit = 1u16 << (8 - len);
-    (u16::from(octet) / unit * unit) as u8
-}
-
 /// An address of `W` octets: the first `len` bits of the octets, then zeros.
+#[inline(always)]
 pub(crate) fn address<const W: usize>(len: u8, octets: &[u8]) -> [u8; W]
     requires { length octets.now ≤ W }
     ensures value { result ≡ address_of W len octets.now }
@@ -36,12 +29,8 @@ pub(crate) fn address<const W: usize>(len: u8, octets: &[u8]) -> [u8; W]
     ensures octets { AreOctets octets.now }
 {
     let mut addr = [0; W];
-    let whole = usize::from(len / 8).min(octets.len());
-    for (i, octet) in octets[..whole].iter().enumerate() {
-        addr[i] = *octet;
-    }
-    if let Some(cut) = octets.get(whole) {
-        addr[whole] = first_bits(len % 8, *cut);
+    for (i, octet) in octets.iter().enumerate() {
+        addr[i] = *octet & mask(len, i);
     }
     addr
 }

@@ -1,18 +1,37 @@
 //! The prefix at the front of octets, before it is a value.
 
-ghost use Rattle.std.specs.Prelude.{◌≡◌, ◌≤◌, ◌*◌, length, IfSome, option_map};
-ghost use Rattle.bgp_prefix.specs.Bits.{octets_for};
+ghost use Rattle.std.specs.Prelude.{◌≡◌, ◌≤◌, ◌*◌, length, take, IfSome, option_map};
+ghost use Rattle.bgp_wire.specs.Octets.{AreOctets};
+ghost use Rattle.bgp_prefix.specs.Bits.{octets_for, address_of};
 ghost use Rattle.bgp_prefix.specs.Prefix.{prefix_of, one_prefix};
 ghost use Rattle.bgp_prefix.specs.Run.{run_of};
 
-use crate::bits::{is_allowed, octets_for};
+use crate::bits::{address, is_allowed, octets_for};
 
-/// A length in bits, the octets that hold as many, and what follows them.
+/// A length in bits, all octets behind it, those of them that hold as many bits, and what follows these.
 #[derive(Clone, Copy)]
 pub(crate) struct Front<'a> {
     pub(crate) len: u8,
+    pub(crate) behind: &'a [u8],
     pub(crate) read: &'a [u8],
     pub(crate) after: &'a [u8],
+}
+
+impl<'a> Front<'a> {
+    /// The address: where as many octets follow as it has, they are masked at once, those behind the prefix among them.
+    #[inline(always)]
+    pub(crate) fn address<const W: usize>(&self) -> [u8; W]
+        requires allowed { self.now.len ≤ 8 * W }
+        requires held { length self.now.read.now ≡ octets_for self.now.len }
+        requires read { self.now.read.now ≡ take (octets_for self.now.len) self.now.behind.now }
+        ensures value { result ≡ address_of W self.now.len self.now.read.now }
+        ensures octets { AreOctets self.now.read.now }
+    {
+        match self.behind.first_chunk::<W>() {
+            Some(octets) => address(self.len, octets),
+            None => address(self.len, self.read),
+        }
+    }
 }
 
 /// The prefix at the front of octets, of addresses of `W` octets (RFC 4271, section 4.3). None
@@ -23,15 +42,17 @@ pub(crate) fn cut_front<const W: usize>(octets: &[u8]) -> Option<Front<'_>>
         ≡ one_prefix W octets.now }
     ensures allowed { IfSome result (λ f. f.len ≤ 8 * W) }
     ensures held { IfSome result (λ f. length f.read.now ≡ octets_for f.len) }
+    ensures read { IfSome result (λ f. f.read.now ≡ take (octets_for f.len) f.behind.now) }
 {
-    let (len, rest) = octets.split_first()?;
+    let (len, behind) = octets.split_first()?;
     let held = octets_for(*len);
-    if !is_allowed::<W>(*len) || rest.len() < held {
+    if !is_allowed::<W>(*len) || behind.len() < held {
         return None;
     }
-    let (read, after) = rest.split_at(held);
+    let (read, after) = behind.split_at(held);
     Some(Front {
         len: *len,
+        behind,
         read,
         after,
     })

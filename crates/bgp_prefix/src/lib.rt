@@ -9,6 +9,7 @@ mod fault;
 mod front;
 mod iter;
 pub mod laws;
+mod mask;
 mod prefix;
 mod run;
 

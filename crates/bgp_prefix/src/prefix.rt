@@ -1,6 +1,6 @@
 //! A prefix: the first bits of the addresses that it stands for.
 
-ghost use Rattle.std.specs.Prelude.{◌≡◌, ℕ, ◌≤◌, ◌*◌, ◌↔◌, List, ◌++◌, length};
+ghost use Rattle.std.specs.Prelude.{◌≡◌, ℕ, ◌≤◌, ◌*◌, ◌↔◌, List, ◌++◌, length, take};
 ghost use Rattle.std.specs.Prelude.{IsSome, IfSome, OnOk, OnErr};
 ghost use Rattle.bgp_prefix.specs.Bits.{octets_for, HasNoBitPast};
 ghost use Rattle.bgp_prefix.specs.Prefix.{IsValid, prefix_of, spelling_of};
@@ -72,11 +72,14 @@ impl<const W: usize> Prefix<W> {
     pub(crate) fn from_front(front: Front<'_>) -> Prefix<W>
         requires allowed { front.len ≤ 8 * W }
         requires held { length front.read.now ≡ octets_for front.len }
+        requires read { front.read.now ≡ take (octets_for front.len) front.behind.now }
         ensures { result ≡ prefix_of W front.entry.len front.entry.read.now }
     {
-        let Front { len, read, .. } = front;
-        let addr = address(len, read);
-        Prefix { addr, len }
+        let addr = front.address();
+        Prefix {
+            addr,
+            len: front.len,
+        }
     }
 
     /// Adds the octets of the prefix, with 0 for each bit past the length.

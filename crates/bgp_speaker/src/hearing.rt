@@ -6,7 +6,7 @@ ghost use Rattle.bgp_frame.specs.Kind.{IsLength};
 use crate::tcp::TcpConnection;
 use crate::timers::Timers;
 use crate::voice::{Teller, Voice};
-use bgp_frame::{Frame, HeadFault, NotificationView};
+use bgp_frame::{Frame, HeadFault};
 use bgp_host::Host;
 use bgp_machine::State;
 use bgp_msg::{OutcomeView, Step, front, view_frame};
@@ -78,12 +78,8 @@ impl<'a> Ear<'a> {
     // Prints the answer to a header with a fault.
     fn print_fault(&mut self, fault: HeadFault) -> io::Result<()> {
         let alloc = self.voice.rt.alloc();
-        let why = fault.notification();
-        let outcome = OutcomeView::Reset(NotificationView {
-            code: why.code,
-            subcode: why.subcode,
-            info: &why.info,
-        });
+        let why = fault.answer();
+        let outcome = OutcomeView::Reset(why.view());
         let mut text = String::new(alloc);
         if self.voice.json {
             put_viewed_json(alloc, &mut text, self.place, 0, &outcome)?;

@@ -4,6 +4,7 @@ ghost use Rattle.std.specs.Prelude.{false, map};
 ghost use Rattle.clap.specs.Words.{kind_of};
 ghost use Rattle.bgp_tool.specs.Command.{Answers, HasRun, IsExplained, IsQuiet, IsWide, Runs, RunsBy, shown_by};
 ghost use Rattle.bgp_engine.specs.Opens.{CheckedBy, NarrowedBy};
+ghost use Rattle.bgp_engine.specs.Run.{io};
 
 use bgp_engine::{
     Tally, ToolFault, check, check_by_opens, from_hex, narrow_by_opens, narrow_stream, show,
@@ -61,7 +62,7 @@ fn show_opened<H: Files, R: Read, W: Write>(
     input: &mut R,
     output: &mut W,
 ) -> Result<Tally, ToolFault>
-    ensures { RunsBy (shown_by json) hex (record { reader_old = R.remaining input.old; reader_new = R.remaining input.new; writer_old = W.contents output.old; writer_new = W.contents output.new }) result }
+    ensures { RunsBy (shown_by json) hex (io R.remaining input.old input.new W.contents output.old output.new) result }
 {
     let theirs = match read_file(rt, alloc, file, MESSAGE_MAX) {
         Ok(theirs) => theirs,
@@ -82,7 +83,7 @@ fn check_opened<H: Files, R: Read, W: Write>(
     input: &mut R,
     output: &mut W,
 ) -> Result<Tally, ToolFault>
-    ensures { RunsBy CheckedBy hex (record { reader_old = R.remaining input.old; reader_new = R.remaining input.new; writer_old = W.contents output.old; writer_new = W.contents output.new }) result }
+    ensures { RunsBy CheckedBy hex (io R.remaining input.old input.new W.contents output.old output.new) result }
 {
     match read_file(rt, alloc, file, MESSAGE_MAX) {
         Ok(theirs) => check_by_opens(alloc, &theirs, hex, input, output),
@@ -98,7 +99,7 @@ fn narrow_opened<H: Files, R: Read, W: Write>(
     input: &mut R,
     output: &mut W,
 ) -> Result<Tally, ToolFault>
-    ensures { RunsBy NarrowedBy false (record { reader_old = R.remaining input.old; reader_new = R.remaining input.new; writer_old = W.contents output.old; writer_new = W.contents output.new }) result }
+    ensures { RunsBy NarrowedBy false (io R.remaining input.old input.new W.contents output.old output.new) result }
 {
     match read_file(rt, alloc, file, MESSAGE_MAX) {
         Ok(theirs) => narrow_by_opens(alloc, &theirs, input, output),
@@ -115,7 +116,7 @@ fn run<H: Files + Net, R: Read, W: Write>(
     output: &mut W,
 ) -> Result<Tally, ToolFault>
     requires { IsWide asked.request }
-    ensures { Runs asked.entry.request (record { reader_old = R.remaining input.old; reader_new = R.remaining input.new; writer_old = W.contents output.old; writer_new = W.contents output.new }) result }
+    ensures { Runs asked.entry.request (io R.remaining input.old input.new W.contents output.old output.new) result }
 {
     match asked.request {
         Request::Show { session, hex, json } => match session {
@@ -148,7 +149,7 @@ fn answer<H: Files + Net, R: Read, W: Write, E: Write>(
     errors: &mut E,
 ) -> u8
     requires { IsWide asked.request }
-    ensures { HasRun asked.entry.request (record { reader_old = R.remaining input.old; reader_new = R.remaining input.new; writer_old = W.contents output.old; writer_new = W.contents output.new }) result }
+    ensures { HasRun asked.entry.request (io R.remaining input.old input.new W.contents output.old output.new) result }
 {
     let outcome = run(rt, alloc, asked, input, output);
     if let Err(fault) = outcome {
@@ -169,7 +170,7 @@ pub fn command<H: Files + Net, R: Read, W: Write, E: Write>(
     output: &mut W,
     errors: &mut E,
 ) -> u8
-    ensures { Answers (map (λ w. w.now) words.now) (record { reader_old = R.remaining input.old; reader_new = R.remaining input.new; writer_old = W.contents output.old; writer_new = W.contents output.new }) result }
+    ensures { Answers (map (λ w. w.now) words.now) (io R.remaining input.old input.new W.contents output.old output.new) result }
 {
     match parse(alloc, words) {
         Ok(Some(asked)) => answer(rt, alloc, asked, input, output, errors),

@@ -8,6 +8,10 @@ pub(crate) fn copy_into(octets: &[u8], buffer: &mut [u8]) -> bool
     ensures fits { result ≡ nat_le (length octets.now) (length buffer.old) }
     ensures copied { buffer.new ≡ copied octets.now buffer.old }
 {
+    // Most messages have nothing to be copied.
+    if octets.is_empty() {
+        return true;
+    }
     if octets.len() > buffer.len() {
         return false;
     }

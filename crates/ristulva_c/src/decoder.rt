@@ -14,7 +14,7 @@ use crate::judge::{Verdict, are_octets, code_of, parts_at, tell};
 use crate::messages::{MESSAGE_MAX, put};
 use crate::parts::no_parts;
 use crate::status::{INCOMPLETE, MEMORY, NO_SESSION, OK, RANGE, ROOM, STATE};
-use bgp_frame::{NotificationView, Step, front};
+use bgp_frame::{Step, front};
 use bgp_msg::{Decoder, Look, OutcomeView};
 use bgp_update::UpdateView;
 use std::alloc::Global;
@@ -140,12 +140,8 @@ fn tell_found(
             Some((count, outcome.is_reset()))
         }
         Look::Fault(count, fault) => {
-            let why = fault.notification();
-            let outcome = OutcomeView::Reset(NotificationView {
-                code: why.code,
-                subcode: why.subcode,
-                info: &why.info,
-            });
+            let why = fault.answer();
+            let outcome = OutcomeView::Reset(why.view());
             tell_whole(
                 behind_feed(decoder, piece, count),
                 &outcome,

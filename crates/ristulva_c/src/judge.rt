@@ -149,12 +149,8 @@ fn tell_frame(ctx: &SessionContext, frame: Frame<'_>, info: &mut [u8], out: &mut
 fn tell_fault(fault: HeadFault, info: &mut [u8], out: &mut Verdict) -> u32
     ensures { (ctx : Context) → Answers ctx (step.Fault fault) (record { status = result; before = out.old; behind = out.new; info_before = info.old; info_behind = info.new }) }
 {
-    let why = fault.notification();
-    let outcome = OutcomeView::Reset(NotificationView {
-        code: why.code,
-        subcode: why.subcode,
-        info: &why.info,
-    });
+    let why = fault.answer();
+    let outcome = OutcomeView::Reset(why.view());
     tell(0, 0, no_parts(), &outcome, info, out)
 }
 

@@ -11,7 +11,7 @@ ghost use Rattle.ristulva_c.specs.Text.{HasLines, IsWritten, IsPrinted};
 use crate::context::{SessionContext, context_of};
 use crate::copied::copy_into;
 use crate::status::{INCOMPLETE, MEMORY, OK, ROOM};
-use bgp_frame::{Frame, HeadFault, NotificationView, Step, front};
+use bgp_frame::{Frame, HeadFault, Step, front};
 use bgp_msg::{OutcomeView, view_frame};
 use bgp_text::put_viewed_outcome;
 use bgp_update::UpdateView;
@@ -39,12 +39,8 @@ fn frame_lines(
 fn fault_line(alloc: Global, place: u64, fault: HeadFault) -> Result<String, AllocError>
     ensures { IfOk result (λ text. string_bytes text ≡ outcome_lines place 0 (of_fault fault)) }
 {
-    let why = fault.notification();
-    let outcome = OutcomeView::Reset(NotificationView {
-        code: why.code,
-        subcode: why.subcode,
-        info: &why.info,
-    });
+    let why = fault.answer();
+    let outcome = OutcomeView::Reset(why.view());
     let mut text = String::new(alloc);
     put_viewed_outcome(alloc, &mut text, place, 0, &outcome)?;
     Ok(text)

@@ -1,5 +1,6 @@
 use Rattle.std.proofs.Common.{◌≡◌, ℕ, List, ◌++◌, take, refl, sym, ap, subst, ◌∙◌, false}
 use Rattle.bgp_frame.specs.declared.notification.Notification.{Notification}
+use Rattle.bgp_frame.specs.Notification.{notification_of_view}
 use Rattle.bgp_msg.specs.declared.outcome.Outcome.{Outcome}
 use Rattle.bgp_msg.specs.declared.outcome.Outcome.TheVariants as outcome
 use Rattle.bgp_msg.specs.Decoder.{behind}
@@ -29,11 +30,9 @@ returns-in-Fault c =
     let d = c.args.decoder.now in
     let piece = c.args.piece.now in
     let n = c.in-Fault.count in
-    let why = c.notification-why.result in
     let o = of_fault c.in-Fault.fault in
-    let said : Outcome = outcome.Reset (record { code = why.code; subcode = why.subcode; info = record { items = c.deref.result.now } }) in
-    let is : said ≡ o =
-    ap (λ (items : List ℕ). outcome.Reset (record { code = why.code; subcode = why.subcode; info = record { items = items } })) c.deref.ensures.0 ∙ ap (λ (x : Notification). outcome.Reset x) c.notification-why.ensures in
+    let said : Outcome = outcome.Reset (notification_of_view c.view.result) in
+    let is : said ≡ o = ap (λ (x : Notification). outcome.Reset x) (c.view.ensures ∙ c.answer-why.ensures) in
     let j : Judging = record { status = OK; before = c.args.out.now; behind = c.tell_whole-in-Fault.new.out; info_before = c.args.info.now; info_behind = c.tell_whole-in-Fault.new.info } in
     let given : GivesHeld (record { ctx = d.ctx; held = c.behind_feed-in-Fault.result.now; stopped = false }) said =
     subst (λ (x : List ℕ). GivesHeld (record { ctx = d.ctx; held = x; stopped = false }) said) (sym c.behind_feed-in-Fault.ensures)
