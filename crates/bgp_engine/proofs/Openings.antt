@@ -11,6 +11,7 @@ use Rattle.bgp_frame.specs.Frame.{Message, IsFrame, Waits}
 use Rattle.bgp_frame.specs.Head.{head_of}
 use Rattle.bgp_frame.specs.Takes as frame
 use Rattle.bgp_frame.proofs.FrameLemmas.{head_of-append, wanted-bounds, Stops-wanted}
+use Rattle.bgp_frame.proofs.Pulls.{nothing_waits}
 use Rattle.bgp_open.specs.declared.context.Context.{Context}
 use Rattle.bgp_open.specs.declared.message.Open.{Open}
 use Rattle.bgp_engine.specs.declared.fault.ToolFault.TheVariants.{NoOpen}
@@ -28,7 +29,7 @@ use Rattle.bgp_engine.specs.Run.{Reports}
 use Rattle.bgp_engine.specs.Tally.{no_tally}
 use Rattle.bgp_engine.specs.Walking.{Walking, IsGoing, reports_of, walking}
 use Rattle.bgp_engine.proofs.FirstOpens.{waits_part, frame_whole, frame_open, fault_whole, fault_open, part_open}
-use Rattle.bgp_engine.proofs.Walks.{front_of, nothing_waits, some_report}
+use Rattle.bgp_engine.proofs.Walks.{front_of, some_report}
 
 -- ---- one taking behind another
 

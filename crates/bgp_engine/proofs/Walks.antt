@@ -1,16 +1,21 @@
 -- Reports of a stream, built from the front; and the steps of a walk over it.
-use Rattle.std.proofs.Common.{◌≡◌, ℕ, suc, ◌+◌, ◌-◌, ◌≤◌, ◌^◌, Bool, true, false, cond, List, [], ◌∷◌, ◌++◌, length, take, drop, Option, Some, None, Result, Ok, Err, refl, sym, ap, subst, ◌∙◌, append_assoc, arith}
+use Rattle.std.proofs.Common.{◌≡◌, ℕ, zero, suc, ◌+◌, ◌-◌, ◌≤◌, ◌^◌, Bool, true, false, cond, List, [], ◌∷◌, ◌++◌, length, take, drop, Option, Some, None, Result, Ok, Err, refl, sym, ap, subst, ◌∙◌, append_assoc, arith}
 use Rattle.std.specs.Prelude.{◌==◌, if◌then◌else◌, is_some}
 use Rattle.std.proofs.lemmas.List.{append-nil, length-append, length-drop, length-take, take-append-drop}
 use Rattle.bgp_wire.specs.Octets.{AreOctets}
-use Rattle.bgp_wire.proofs.OctetLemmas.{AreOctets-nil, AreOctets-append, AreOctets-take}
+use Rattle.bgp_wire.proofs.OctetLemmas.{AreOctets-nil, AreOctets-append}
 use Rattle.bgp_frame.specs.declared.end.End.{End}
 use Rattle.bgp_frame.specs.declared.end.End.TheVariants as end
 use Rattle.bgp_frame.specs.declared.fault.HeadFault.{HeadFault}
+use Rattle.bgp_frame.specs.declared.pull.Pull.TheVariants as pull
+use Rattle.bgp_frame.specs.declared.step.Frame.{Frame}
 use Rattle.bgp_frame.specs.Head.{head_of}
 use Rattle.bgp_frame.specs.Frame.{Message, octets_of, IsFrame, Waits}
+use Rattle.bgp_frame.specs.Pull.{IsPull}
 use Rattle.bgp_frame.specs.Stream.{Gives}
-use Rattle.bgp_frame.proofs.FrameLemmas.{head_of-append, length-IsFrame, wanted-bounds}
+use Rattle.bgp_frame.specs.Takes.{Stops}
+use Rattle.bgp_frame.proofs.FrameLemmas.{head_of-append, length-IsFrame, Stops-wanted}
+use Rattle.bgp_frame.proofs.Pulls.{nothing_waits}
 use Rattle.bgp_frame.proofs.Streams.{gives_wait, gives_fault, gives_reset, gives_more, some_reading}
 use Rattle.bgp_engine.specs.declared.class.Class.{Class}
 use Rattle.bgp_engine.specs.declared.class.Class.TheVariants as class
@@ -31,9 +36,6 @@ messages_in-bound n = one_at_most (n == 0)
     one_at_most : (b : Bool) → (if b then 0 else 1) ≤ 1
     one_at_most true = omega arith
     one_at_most false = omega arith
-
-pub nothing_waits : Waits []
-nothing_waits = let bounds = wanted-bounds [] in omega arith
 
 same_report : (l l1 k k1 : List ℕ) (e : End) (a a1 : Result Tally ToolFault) → l ≡ l1 → k ≡ k1 → a ≡ a1 → (let r : Report = record { lines = l; last = k; end_of = e; answer = a } in r) ≡ (record { lines = l1; last = k1; end_of = e; answer = a1 })
 same_report l l1 k k1 e a a1 p q s = rw (p, q, s) refl
@@ -123,6 +125,15 @@ module _ {Outcome : Type 0} (rules : Rules Outcome) where
       }
 
 -- ---- the steps of a walk
+
+drop_none : (k : ℕ) → drop {A = ℕ} k [] ≡ []
+drop_none zero = refl
+drop_none (suc k) = refl
+
+pub not_waiting : (held octets : List ℕ) (n : ℕ) → n ≡ 0 → Waits held → Stops (held ++ take n octets) → ⊥
+not_waiting held octets n none waits stops =
+    let long = Stops-wanted held (subst Stops (ap (λ (k : ℕ). held ++ take k octets) none ∙ append-nil held) stops) in
+    omega (arith, long.1)
 
 room_bound : (o : Option End) (n : ℕ) → room_by o n ≤ 2 ^ 60
 room_bound None n = omega arith
@@ -282,19 +293,6 @@ module _ {Outcome : Type 0} where
     length-fed : length fed.held ≡ length old.held + n
     length-fed = omega (arith, length-append old.held (take n octets), length-take n octets)
 
-    pub fed_counting : IsCounting old → AreOctets octets → old.place + length old.held + length octets ≤ 2 ^ 60 → IsCounting fed
-    fed_counting c are_octets fits =
-        let len = length-fed in
-        record {
-          open_ended = c.open_ended;
-          octets = AreOctets-append old.held (take n octets) c.octets (AreOctets-take n octets are_octets);
-          place = omega (arith, fits, le);
-          messages = c.messages;
-          took = c.took;
-          withdrawn = c.withdrawn;
-          resets = c.resets;
-        }
-
     pub fed_whole : (later : List ℕ) → fed.held ++ (drop n octets ++ later) ≡ old.held ++ (octets ++ later)
     fed_whole later =
         append_assoc old.held (take n octets) (drop n octets ++ later) ∙ ap (λ (x : List ℕ). old.held ++ x) (sym (append_assoc (take n octets) (drop n octets) later))
@@ -310,26 +308,36 @@ module _ {Outcome : Type 0} where
       stands = p.stands;
     }
 
-  -- ---- octets of which nothing is held
+  -- ---- octets that are pulled
 
-  module _ (old : Walking Outcome) (nothing : old.held ≡ []) (octets t0 t1 : List ℕ) (c : IsCounting old) (fits : old.place + length old.held + length octets ≤ 2 ^ 60) where
-    front_parts : (n : ℕ) (later : List ℕ) → old.held ++ (octets ++ later) ≡ take n octets ++ (drop n octets ++ later)
-    front_parts n later =
-        ap (λ (x : List ℕ). x ++ (octets ++ later)) nothing ∙ ap (λ (x : List ℕ). x ++ later) (sym (take-append-drop n octets)) ∙ append_assoc (take n octets) (drop n octets) later
+  -- what is fed is judged then
+  pub Moves-judged : (old mid new : Walking Outcome) (octets held t0 t1 t2 : List ℕ) (n m k : ℕ) → n ≡ 0 → mid.ended ≡ None → Moves old mid t0 t1 octets (drop n octets)
+      → m ≤ length octets → held ≡ mid.held ++ take m octets → Moves (walking mid.rules held mid.place mid.tally mid.ended) new t1 t2 [] (drop k []) → Moves old new t0 t2 octets (drop m octets)
+  Moves-judged old mid new octets held t0 t1 t2 n m k none going p le is q =
+      Moves-more old mid new t0 t1 t2 octets octets (drop m octets) (subst (λ (i : ℕ). Moves old mid t0 t1 octets (drop i octets)) none p) going
+      (Moves-fed mid octets m le new t1 t2 (subst (λ (h : List ℕ). Moves (walking mid.rules h mid.place mid.tally mid.ended) new t1 t2 [] []) is
+      (subst (λ (x : List ℕ). Moves (walking mid.rules held mid.place mid.tally mid.ended) new t1 t2 [] x) (drop_none k) q)))
 
-    pub Moves-front : (m : Message) (n : ℕ) (k : Class) → n ≤ length octets → IsFrame m (take n octets) → Writes old.rules t0 t1 old.place n m k
-        → Moves old (walking old.rules old.held (place_behind old.place n k) (counted old.tally n k) (ended_by k)) t0 t1 octets (drop n octets)
-    Moves-front m n k le f w =
-        let size : length (take n octets) ≡ n = omega (arith, length-take n octets) in
-        subst (λ (h : List ℕ). Moves old (walking old.rules h (place_behind old.place n k) (counted old.tally n k) (ended_by k)) t0 t1 octets (drop n octets)) (sym nothing)
-        (subst (λ (i : ℕ). Moves old (walking old.rules [] (place_behind old.place i k) (counted old.tally i k) (ended_by k)) t0 t1 octets (drop n octets)) size
-        (Moves-message old t0 t1 octets (drop n octets) m (take n octets) c f fits (front_parts n) k (subst (λ (i : ℕ). Writes old.rules t0 t1 old.place i m k) (sym size) w)))
+  module _ (old : Walking Outcome) (octets t0 t1 : List ℕ) (n : ℕ) (c : IsCounting old) where
+    pulled_whole : old.held ++ octets ≡ (old.held ++ take n octets) ++ drop n octets
+    pulled_whole = ap (λ (x : List ℕ). old.held ++ x) (sym (take-append-drop n octets)) ∙ sym (append_assoc old.held (take n octets) (drop n octets))
 
-    pub Moves-front-fault : (h : HeadFault) → 19 ≤ length octets → head_of octets ≡ Err h → WritesFault old.rules t0 t1 old.place h
-        → Moves old (walking old.rules old.held old.place (counted old.tally 0 class.Reset) (Some end.Head)) t0 t1 octets (drop 19 octets)
-    Moves-front-fault h long faulty w =
-        let fewer : length (drop 19 octets) ≤ length octets = omega (arith, length-drop 19 octets) in
-        Moves-fault old t0 t1 octets (drop 19 octets) h octets c long faulty (λ later. ap (λ (x : List ℕ). x ++ (octets ++ later)) nothing) fewer old.held w
+    pub Moves-pulled : (frame : Frame) (k : Class) → IsPull old.held octets (pull.Frame n frame) → old.place + length old.held + length octets ≤ 2 ^ 60
+        → Writes old.rules t0 t1 old.place frame.len (record { kind = frame.kind; body = frame.body.now }) k
+        → Moves old (walking old.rules [] (place_behind old.place frame.len k) (counted old.tally frame.len k) (ended_by k)) t0 t1 octets (drop n octets)
+    Moves-pulled frame k found fits w =
+        let m : Message = record { kind = frame.kind; body = frame.body.now } in
+        subst (λ (i : ℕ). Moves old (walking old.rules [] (place_behind old.place i k) (counted old.tally i k) (ended_by k)) t0 t1 octets (drop n octets)) (sym found.1.1)
+        (Moves-message old t0 t1 octets (drop n octets) m (old.held ++ take n octets) c found.1.0 fits (λ later. sym (fed_whole old octets n found.0.takes.within later)) k
+        (subst (λ (i : ℕ). Writes old.rules t0 t1 old.place i m k) found.1.1 w))
+
+    pub Moves-pulled-fault : (h : HeadFault) → IsPull old.held octets (pull.Fault n h) → WritesFault old.rules t0 t1 old.place h
+        → Moves old (walking old.rules old.held old.place (counted old.tally 0 class.Reset) (Some end.Head)) t0 t1 octets (drop n octets)
+    Moves-pulled-fault h found w =
+        let size = found.1.0 in
+        let long : 19 ≤ length (old.held ++ octets) = omega (arith, ap length pulled_whole, length-append (old.held ++ take n octets) (drop n octets), size) in
+        let faulty = ap head_of pulled_whole ∙ head_of-append (old.held ++ take n octets) (drop n octets) (omega (arith, size)) ∙ found.1.1 in
+        Moves-fault old t0 t1 octets (drop n octets) h (old.held ++ octets) c long faulty (λ later. sym (append_assoc old.held octets later)) (omega (arith, length-drop n octets)) old.held w
 
   -- ---- where a stream ends
 

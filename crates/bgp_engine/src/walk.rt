@@ -11,7 +11,7 @@ use crate::fault::ToolFault;
 use crate::page::Page;
 use crate::running::run;
 use crate::tally::Tally;
-use bgp_frame::{End, Framer, HeadFault, Step, front};
+use bgp_frame::{End, Framer, HeadFault, Pull};
 use std::alloc::AllocError;
 use std::io::{Read, Write};
 
@@ -94,76 +94,35 @@ impl<P: Page> Walk<P> {
         Ok(())
     }
 
-    // Judges what is held, where it is a message or a header with a fault.
-    fn judge_held(&mut self) -> Result<(), AllocError>
-        requires { IsCounting (walking (P.rules self.old.page) self.old.framer self.old.place self.old.tally self.old.ended) }
-        ensures { OnOk result (Moves
+    // Judges what is held, or what octets begin with where nothing is held. Answers how many of the octets it took.
+    fn judge(&mut self, octets: &[u8]) -> Result<usize, AllocError>
+        requires counting { IsCounting (walking (P.rules self.old.page) self.old.framer self.old.place self.old.tally self.old.ended) }
+        requires room { self.old.place + length self.old.framer + length octets.now ≤ 2 ^ 60 }
+        ensures within { IfOk result (λ n. n ≤ length octets.now) }
+        // Where it takes none and what is held waits, nothing was judged.
+        ensures open { IfOk result (λ n. n ≡ 0 → Waits self.old.framer → self.new.ended ≡ None) }
+        ensures moves { IfOk result (λ n. Moves
             (walking (P.rules self.old.page) self.old.framer self.old.place self.old.tally self.old.ended)
             (walking (P.rules self.new.page) self.new.framer self.new.place self.new.tally self.new.ended)
-            (P.told self.old.page) (P.told self.new.page) [] []) }
+            (P.told self.old.page) (P.told self.new.page) octets.now (drop n octets.now)) }
     {
-        match self.framer.step() {
-            Step::More => Ok(()),
-            Step::Frame(frame) => {
+        match self.framer.look(octets) {
+            Pull::Feed => Ok(0),
+            Pull::Frame(taken, frame) => {
                 let len = frame.len;
                 let class = self.page.message(self.place, frame)?;
                 self.count(len, class);
                 self.framer.clear();
-                Ok(())
+                Ok(taken)
             }
-            Step::Fault(fault) => {
+            Pull::Fault(taken, fault) => {
                 self.fault(fault)?;
-                Ok(())
+                Ok(taken)
             }
         }
     }
 
-    // Takes octets behind those that are held, up to the end of their message. Answers how many it took.
-    fn step_held(&mut self, octets: &[u8]) -> Result<usize, AllocError>
-        requires going { IsGoing (walking (P.rules self.old.page) self.old.framer self.old.place self.old.tally self.old.ended) }
-        requires some { 0 < length octets.now }
-        requires room { self.old.place + length self.old.framer + length octets.now ≤ 2 ^ 60 }
-        ensures within { IfOk result (λ n. n ≤ length octets.now) }
-        ensures some { IfOk result (λ n. 0 < n) }
-        ensures moves { IfOk result (λ n. Moves
-            (walking (P.rules self.old.page) self.old.framer self.old.place self.old.tally self.old.ended)
-            (walking (P.rules self.new.page) self.new.framer self.new.place self.new.tally self.new.ended)
-            (P.told self.old.page) (P.told self.new.page) octets.now (drop n octets.now)) }
-    {
-        let taken = self.framer.feed(octets);
-        self.judge_held()?;
-        Ok(taken)
-    }
-
-    // The same where nothing is held: a message that is whole in the octets is judged there.
-    fn step_front(&mut self, octets: &[u8]) -> Result<usize, AllocError>
-        requires going { IsGoing (walking (P.rules self.old.page) self.old.framer self.old.place self.old.tally self.old.ended) }
-        requires nothing { self.old.framer ≡ [] }
-        requires some { 0 < length octets.now }
-        requires room { self.old.place + length self.old.framer + length octets.now ≤ 2 ^ 60 }
-        ensures within { IfOk result (λ n. n ≤ length octets.now) }
-        ensures some { IfOk result (λ n. 0 < n) }
-        ensures moves { IfOk result (λ n. Moves
-            (walking (P.rules self.old.page) self.old.framer self.old.place self.old.tally self.old.ended)
-            (walking (P.rules self.new.page) self.new.framer self.new.place self.new.tally self.new.ended)
-            (P.told self.old.page) (P.told self.new.page) octets.now (drop n octets.now)) }
-    {
-        match front(octets) {
-            Step::More => self.step_held(octets),
-            Step::Frame(frame) => {
-                let len = frame.len;
-                let class = self.page.message(self.place, frame)?;
-                self.count(len, class);
-                Ok(usize::from(len))
-            }
-            Step::Fault(fault) => {
-                self.fault(fault)?;
-                Ok(19)
-            }
-        }
-    }
-
-    // Takes octets up to the end of a message. Answers how many it took.
+    // Takes octets up to the end of a message, which is judged where it stands if it is whole there. Answers how many it took.
     fn step(&mut self, octets: &[u8]) -> Result<usize, AllocError>
         requires going { IsGoing (walking (P.rules self.old.page) self.old.framer self.old.place self.old.tally self.old.ended) }
         requires some { 0 < length octets.now }
@@ -175,11 +134,13 @@ impl<P: Page> Walk<P> {
             (walking (P.rules self.new.page) self.new.framer self.new.place self.new.tally self.new.ended)
             (P.told self.old.page) (P.told self.new.page) octets.now (drop n octets.now)) }
     {
-        if self.framer.held() == 0 {
-            self.step_front(octets)
-        } else {
-            self.step_held(octets)
+        let judged = self.judge(octets)?;
+        if judged > 0 {
+            return Ok(judged);
         }
+        let taken = self.framer.feed(octets);
+        self.judge(&[])?;
+        Ok(taken)
     }
 
     // The answer to a stream that goes no further.

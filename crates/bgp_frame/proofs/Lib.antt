@@ -3,4 +3,5 @@ pub mod HeadLemmas
 pub mod FrameLemmas
 pub mod Feeding
 pub mod Holding
+pub mod Pulls
 pub mod Streams

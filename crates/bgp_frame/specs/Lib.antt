@@ -7,4 +7,5 @@ pub mod Frame
 pub mod Takes
 pub mod Framer
 pub mod Step
+pub mod Pull
 pub mod Stream

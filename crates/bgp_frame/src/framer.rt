@@ -3,11 +3,13 @@
 ghost use Rattle.std.specs.Prelude.{◌≡◌, ◌+◌, ◌-◌, ◌<◌, ◌≤◌, min, [], ◌++◌, length, take};
 ghost use Rattle.bgp_frame.specs.Frame.{IsWhole, Waits};
 ghost use Rattle.bgp_frame.specs.Framer.{IsHeld};
+ghost use Rattle.bgp_frame.specs.Pull.{IsPull};
 ghost use Rattle.bgp_frame.specs.Takes.{Takes};
 ghost use Rattle.bgp_frame.specs.Step.{ShowsStep};
 
 use crate::header::{HEADER_LEN, wanted};
-use crate::step::{Step, shown};
+use crate::pull::Pull;
+use crate::step::{Step, front, shown};
 use arrayvec::ArrayVec;
 use std::marker::Model;
 
@@ -79,6 +81,25 @@ impl Framer {
         shown(&self.buffer)
     }
 
+    /// The message or the faulty header that is held, or, where nothing is held, the one that a piece begins with, as it stands there: nothing
+    /// is copied, and nothing changes. Where neither is whole, the piece is to be fed.
+    ///
+    /// Who goes on behind a message consumes as many octets of the piece as are said, and calls [`clear`](Framer::clear).
+    #[tactic(auto, using(crate::proofs::Pulls::pull_more))]
+    #[inline(always)]
+    pub fn look<'a>(&'a self, piece: &'a [u8]) -> Pull<'a>
+        ensures { IsPull self.now piece.now result }
+    {
+        if self.held() > 0 {
+            return self.look_held(piece);
+        }
+        match front(piece) {
+            Step::More => Pull::Feed,
+            Step::Frame(frame) => Pull::Frame(frame.len as usize, frame),
+            Step::Fault(fault) => Pull::Fault(HEADER_LEN, fault),
+        }
+    }
+
     /// Lets go of the message that is held.
     pub fn take(&mut self)
         requires { IsWhole self.old }
@@ -93,6 +114,20 @@ impl Framer {
         ensures { self.new ≡ [] }
     {
         self.buffer.clear();
+    }
+
+    // What is held, where octets are.
+    #[tactic(auto, using(crate::proofs::Pulls::pull_held_frame, crate::proofs::Pulls::pull_held_fault))]
+    #[inline(never)]
+    fn look_held<'a>(&'a self, piece: &[u8]) -> Pull<'a>
+        requires { 0 < length self.now }
+        ensures { IsPull self.now piece.now result }
+    {
+        match self.step() {
+            Step::More => Pull::Feed,
+            Step::Frame(frame) => Pull::Frame(0, frame),
+            Step::Fault(fault) => Pull::Fault(0, fault),
+        }
     }
 }
 

@@ -8,6 +8,7 @@ mod header;
 mod kind;
 pub mod laws;
 mod notification;
+mod pull;
 mod short_notification;
 mod step;
 
@@ -17,5 +18,6 @@ pub use framer::Framer;
 pub use header::head;
 pub use kind::Kind;
 pub use notification::{Notification, NotificationView};
+pub use pull::Pull;
 pub use short_notification::ShortNotification;
 pub use step::{Frame, Step, front};

@@ -2,11 +2,13 @@
 use Rattle.std.proofs.Common.{◌≡◌, ℕ, zero, suc, ◌+◌, ◌<◌, ◌≤◌, Bool, true, false, nat_lt, List, [], ◌∷◌, length, take, drop, None, Some, refl, sym, ap, subst, ◌∙◌, arith, inl, inr, if◌then◌else◌}
 use Rattle.std.proofs.lemmas.List.{length-drop}
 use Rattle.arrayvec.specs.ArrayVec.{ArrayVec}
+use Rattle.bgp_frame.specs.Takes.{Stops}
 use Rattle.bgp_frame.proofs.FrameLemmas.{Stops-wanted}
+use Rattle.bgp_frame.proofs.Pulls.{held_or_front}
 use Rattle.bgp_machine.specs.declared.action.Action.{Action}
 use Rattle.bgp_machine.specs.declared.event.Event.{Event}
 use Rattle.bgp_machine.specs.declared.event.Event.TheVariants.{Connected, Failed}
-use Rattle.bgp_machine.specs.Pulling.{PullsHeld, IsPulled, where_found}
+use Rattle.bgp_machine.specs.Pulling.{IsPulled, where_found}
 use Rattle.bgp_machine.specs.declared.state.State.{State}
 use Rattle.bgp_machine.specs.Session.{Machine, own_octets, kept, CountsFed}
 use Rattle.bgp_machine.specs.Standing.{listens}
@@ -80,18 +82,21 @@ takes_less x m piece n within some = record {
       omega arith;
 }
 
-held_less : (x : Machine) (piece : List ℕ) (n : ℕ) (actions : ArrayVec Action) (m : Machine) → PullsHeld x n actions m → Lighter x piece n m
-held_less x piece n actions m p =
-    let long = Stops-wanted x.held p.step.whole in
+held_less : (x : Machine) (piece : List ℕ) (n : ℕ) (m : Machine) → n ≡ 0 → Stops x.held → m.held ≡ [] → Lighter x piece n m
+held_less x piece n m nothing stops none =
+    let long = Stops-wanted x.held stops in
     let one = one_there x.held (omega (arith, long.0)) in
-    let gone : one_if_any m.held ≡ 0 = ap (λ (z : Machine). one_if_any z.held) p.step.leaves in
-    subst (λ (k : ℕ). Lighter x piece k m) (sym p.none) (record { within = omega arith; lighter = λ k most. omega arith })
+    let gone : one_if_any m.held ≡ 0 = ap one_if_any none in
+    subst (λ (k : ℕ). Lighter x piece k m) (sym nothing) (record { within = omega arith; lighter = λ k most. omega arith })
 
 pulls_less : (x : Machine) (piece : List ℕ) (n : ℕ) (actions : ArrayVec Action) (m : Machine) → IsPulled x piece n (Some actions) m → Lighter x piece n m
-pulls_less x piece n actions m (inl p) = held_less x piece n actions m p
-pulls_less x piece n actions m (inr p) =
-    let long = Stops-wanted (take n piece) p.step.whole in
-    takes_less x m piece n p.takes.within (some_taken n piece (omega (arith, long.0)))
+pulls_less x piece n actions m p =
+    elim (held_or_front x.held piece n Stops p.pulls p.step.whole) [
+      | inl held ↦ held_less x piece n m held.0 held.1 (ap (λ (z : Machine). z.held) p.step.leaves)
+      | inr front ↦
+          let long = Stops-wanted (take n piece) front.1 in
+          takes_less x m piece n p.pulls.takes.within (some_taken n piece (omega (arith, long.0)))
+    ]
 
 feeds_less : (x : Machine) (piece : List ℕ) (n : ℕ) (m : Machine) → 0 < n → IsPulled x piece n None m → Lighter x piece n m
 feeds_less x piece n m some (inl p) = absurd (let none = p.none in omega arith)
@@ -106,7 +111,7 @@ rests_all x piece m (inl p) up =
     absurd (let not : true ≡ false = sym up ∙ deaf in cc)
 rests_all x piece m (inr p) up =
     let counts = taken_up (listens x.standing.state) x.held piece 0 p.hears p.fed.0 in
-    none_left piece (counts.1 p.waits)
+    none_left piece (counts.1 p.to_feed.waits)
 
 -- ---- what follows a pull
 

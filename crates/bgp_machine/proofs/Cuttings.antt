@@ -8,7 +8,7 @@ use Rattle.bgp_frame.specs.Frame.{wanted, Waits}
 use Rattle.bgp_frame.specs.Framer.{IsHeld}
 use Rattle.bgp_frame.proofs.FrameLemmas.{wanted_under, wanted-append, Stops-wanted}
 use Rattle.bgp_frame.proofs.Holding.{IsHeld_nil}
-use Rattle.bgp_msg.proofs.Decodings.{nothing_waits}
+use Rattle.bgp_frame.proofs.Pulls.{nothing_waits}
 use Rattle.bgp_machine.specs.declared.action.Action.{Action}
 use Rattle.bgp_machine.specs.Standing.{listens}
 use Rattle.bgp_machine.specs.Table.{hears}

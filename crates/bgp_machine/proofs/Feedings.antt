@@ -10,7 +10,7 @@ use Rattle.bgp_frame.specs.Framer.{IsHeld}
 use Rattle.bgp_frame.specs.Takes.{Stops, Takes}
 use Rattle.bgp_frame.proofs.FrameLemmas.{wanted-bounds, wanted-Stops}
 use Rattle.bgp_frame.proofs.Feeding.{takes_some, Fills-takes}
-use Rattle.bgp_msg.proofs.Decodings.{nothing_waits}
+use Rattle.bgp_frame.proofs.Pulls.{nothing_waits}
 use Rattle.bgp_open.specs.Config.{Settings}
 use Rattle.bgp_machine.specs.declared.action.Action.{Action}
 use Rattle.bgp_machine.specs.declared.event.Event.{Event}

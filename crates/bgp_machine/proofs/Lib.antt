@@ -12,6 +12,5 @@ pub mod Quiet
 pub mod Runs
 pub mod Sendings
 pub mod Sent
-pub mod Steps
 pub mod Taken
 pub mod Widened

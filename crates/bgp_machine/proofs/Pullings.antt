@@ -10,7 +10,7 @@ use Rattle.bgp_frame.specs.Framer.{IsHeld}
 use Rattle.bgp_frame.specs.Takes.{Stops, Takes}
 use Rattle.bgp_frame.proofs.FrameLemmas.{wanted-bounds, wanted-Stops, Stops-wanted}
 use Rattle.bgp_frame.proofs.Feeding.{takes_some}
-use Rattle.bgp_msg.proofs.Decodings.{nothing_waits}
+use Rattle.bgp_frame.proofs.Pulls.{held_pulls, nothing_waits}
 use Rattle.bgp_machine.specs.declared.action.Action.{Action}
 use Rattle.bgp_machine.specs.Cutting.{IsAtRest}
 use Rattle.bgp_machine.specs.Run.{by_pull, given, Hears, CanBePulled}
@@ -45,8 +45,7 @@ no_pulls x piece pull = record { calls = 0; actions = []; session = x; pulled = 
 ends_empty : (x : Machine) (up : Bool) → listens x.standing.state ≡ up → Waits x.held → by_pull x [] 0 None x
 ends_empty x true up waits = inr (record {
   hears = up;
-  waits = waits;
-  no_front = inr nothing_waits;
+  to_feed = record { waits = waits; no_front = inr nothing_waits };
   fed = (counts_nothing (listens x.standing.state) x.held, sym (ap (holding x) (append-nil x.held)));
 })
 ends_empty x false deaf waits = inl (record { deaf = deaf; none = refl; same = refl })
@@ -97,25 +96,21 @@ module _ (fuel : ℕ) (continues : Continues fuel) (x : Machine) (piece : List �
       ]
 
   pulls_more : (held : List ℕ) → x.held ≡ held → Waits fed.held → by_pull x piece n None fed
-  pulls_more [] is more = inr (record { hears = up; waits = waits; no_front = inr (piece_waits is more); fed = feeds })
+  pulls_more [] is more = inr (record { hears = up; to_feed = record { waits = waits; no_front = inr (piece_waits is more) }; fed = feeds })
   pulls_more (octet ∷ held) is more =
-      inr (record { hears = up; waits = waits; no_front = inl (subst (λ (h : List ℕ). 0 < length h) (sym is) (omega arith)); fed = feeds })
+      inr (record { hears = up; to_feed = record { waits = waits; no_front = inl (subst (λ (h : List ℕ). 0 < length h) (sym is) (omega arith)) }; fed = feeds })
 
   -- a message that becomes whole: pulled at once where nothing was held, and else by a second pull
   pulls_whole : (held : List ℕ) → x.held ≡ held → wanted fed.held ≤ length fed.held → SomePulls x piece
   pulls_whole [] is long =
       let d = does_whole fed fits long in
-      let same : fed.held ≡ take n piece = ap (λ (h : List ℕ). h ++ take n piece) is in
-      pull_on x piece n (Some d.0) d.1 (inr (record {
-        hears = up;
-        none_held = is;
-        takes = subst (λ (h : List ℕ). Takes h piece n) is takes;
-        step = subst (λ (h : List ℕ). Does (holding x h) d.0 d.1) same d.2;
-      })) (continues_at d.1 (rests_empty d.1 d.3))
+      pull_on x piece n (Some d.0) d.1 (record { hears = up; pulls = record { takes = takes; one_place = inr is }; step = d.2 }) (continues_at d.1 (rests_empty d.1 d.3))
   pulls_whole (octet ∷ held) is long =
       let d = does_whole fed fits long in
-      pull_on x piece n None fed (inr (record { hears = up; waits = waits; no_front = inl (subst (λ (h : List ℕ). 0 < length h) (sym is) (omega arith)); fed = feeds }))
-      (pull_on fed (drop n piece) 0 (Some d.0) d.1 (inl (record { none = refl; step = d.2 })) (continues_at d.1 (rests_empty d.1 d.3)))
+      let stops = d.2.whole in
+      let step : Does (holding fed (fed.held ++ [])) d.0 d.1 = subst (λ (h : List ℕ). Does (holding fed h) d.0 d.1) (sym (append-nil fed.held)) d.2 in
+      pull_on x piece n None fed (inr (record { hears = up; to_feed = record { waits = waits; no_front = inl (subst (λ (h : List ℕ). 0 < length h) (sym is) (omega arith)) }; fed = feeds }))
+      (pull_on fed (drop n piece) 0 (Some d.0) d.1 (record { hears = up; pulls = held_pulls (drop n piece) fed.held stops; step = step }) (continues_at d.1 (rests_empty d.1 d.3)))
 
   pulls_some : SomePulls x piece
   pulls_some =

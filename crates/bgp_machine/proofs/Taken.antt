@@ -5,15 +5,15 @@ use Rattle.arrayvec.specs.ArrayVec.{ArrayVec}
 use Rattle.bgp_wire.specs.Octets.{AreOctets}
 use Rattle.bgp_frame.specs.Frame.{Waits}
 use Rattle.bgp_frame.specs.Framer.{IsHeld}
-use Rattle.bgp_frame.specs.Takes.{Takes}
+use Rattle.bgp_frame.specs.Takes.{Stops, Takes}
 use Rattle.bgp_frame.proofs.FrameLemmas.{Stops-wanted}
 use Rattle.bgp_frame.proofs.Holding.{IsHeld_nil}
-use Rattle.bgp_msg.proofs.Decodings.{nothing_waits}
+use Rattle.bgp_frame.proofs.Pulls.{held_or_front, nothing_waits}
 use Rattle.bgp_machine.specs.declared.action.Action.{Action}
 use Rattle.bgp_machine.specs.Cutting.{IsAtRest, Done, behind, by_octets}
-use Rattle.bgp_machine.specs.Pulling.{PullsNothing, PullsHeld, PullsSome, PullsFront, IsPulled}
+use Rattle.bgp_machine.specs.Pulling.{PullsNothing, PullsSome, PullsStep, IsPulled}
 use Rattle.bgp_machine.specs.Ready.{IsReady, left_to_do, one_if_any, weight}
-use Rattle.bgp_machine.specs.Session.{Machine, holding, Does, IsJudged, CountsFed}
+use Rattle.bgp_machine.specs.Session.{Machine, holding, Does, CountsFed}
 use Rattle.bgp_machine.specs.Standing.{listens}
 use Rattle.bgp_machine.proofs.Cuttings.{done, drops_all, emptied, front_by_octets, idles, in_parts, none_left, not_both, rests, rests_empty, settled_by, took_none}
 use Rattle.bgp_machine.proofs.Held.{IsHeld-fed}
@@ -90,31 +90,31 @@ taken_up true held piece n is counts = counts
 taken_up false held piece n is counts = absurd (let not : false ≡ true = is in cc)
 
 module _ (x : Machine) (piece : List ℕ) (ready : IsReady x) (octets : AreOctets piece) where
-  pulls_held : (n : ℕ) (actions : ArrayVec Action) (y : Machine) → PullsHeld x n actions y → Pulled x piece n actions.items y
-  pulls_held n actions y p =
-      let long = Stops-wanted x.held p.step.whole in
-      let none = emptied x actions.items y p.step in
-      subst (λ (k : ℕ). Pulled x piece k actions.items y) (sym p.none) (record {
+  -- what is whole where it is held is judged
+  pulls_held : (n : ℕ) (actions : ArrayVec Action) (y : Machine) → n ≡ 0 → Does x actions.items y → Pulled x piece n actions.items y
+  pulls_held n actions y nothing step =
+      let long = Stops-wanted x.held step.whole in
+      let none = emptied x actions.items y step in
+      subst (λ (k : ℕ). Pulled x piece k actions.items y) (sym nothing) (record {
         within = omega arith;
         lighter = judges_less x y piece (omega (arith, long.0)) none;
         ready = ready_empty y none;
-        settings = does_settings x actions.items y p.step;
-        left = judging x actions.items y piece p.step;
+        settings = does_settings x actions.items y step;
+        left = judging x actions.items y piece step;
       })
 
-  pulls_front : (n : ℕ) (actions : ArrayVec Action) (y : Machine) → PullsFront x piece n actions y → Pulled x piece n actions.items y
-  pulls_front n actions y p =
+  pulls_front : (n : ℕ) (actions : ArrayVec Action) (y : Machine) → x.held ≡ [] → PullsStep x piece n actions y → Pulled x piece n actions.items y
+  pulls_front n actions y nothing p =
       let z : Machine = holding x (x.held ++ take n piece) in
-      let takes : Takes x.held piece n = subst (λ (h : List ℕ). Takes h piece n) (sym p.none_held) p.takes in
-      let step : Does z actions.items y = subst (λ (h : List ℕ). IsJudged (holding x (h ++ take n piece)) (Some actions) y) (sym p.none_held) p.step in
-      let long = Stops-wanted (take n piece) p.step.whole in
-      let none = emptied z actions.items y step in
+      let front : Stops (take n piece) = subst (λ (h : List ℕ). Stops (h ++ take n piece)) nothing p.step.whole in
+      let long = Stops-wanted (take n piece) front in
+      let none = emptied z actions.items y p.step in
       record {
-        within = takes.within;
-        lighter = takes_less x y piece n takes.within (some_taken n piece (omega (arith, long.0)));
+        within = p.pulls.takes.within;
+        lighter = takes_less x y piece n p.pulls.takes.within (some_taken n piece (omega (arith, long.0)));
         ready = ready_empty y none;
-        settings = does_settings z actions.items y step;
-        left = taking x piece n p.hears (empty_waits x p.none_held) ready.can_hold octets takes ∙ judging z actions.items y (drop n piece) step;
+        settings = does_settings z actions.items y p.step;
+        left = taking x piece n p.hears (empty_waits x nothing) ready.can_hold octets p.pulls.takes ∙ judging z actions.items y (drop n piece) p.step;
       }
 
   pulls_some : (n : ℕ) (y : Machine) → PullsSome x piece n y → 0 < n → Pulled x piece n [] y
@@ -128,13 +128,16 @@ module _ (x : Machine) (piece : List ℕ) (ready : IsReady x) (octets : AreOctet
           holds_none = λ deaf. absurd (not_both (listens x.standing.state) p.hears (ap (λ (m : Machine). listens m.standing.state) (sym p.fed.1) ∙ deaf));
         };
         settings = ap (λ (m : Machine). m.settings) p.fed.1;
-        left = taking x piece n p.hears p.waits ready.can_hold octets counts.0 ∙ ap (λ (m : Machine). left_to_do m (drop n piece)) (sym p.fed.1);
+        left = taking x piece n p.hears p.to_feed.waits ready.can_hold octets counts.0 ∙ ap (λ (m : Machine). left_to_do m (drop n piece)) (sym p.fed.1);
       }
 
   -- it took octets, or there were some to be judged
   pub pulled_some : (n : ℕ) (actions : ArrayVec Action) (y : Machine) → IsPulled x piece n (Some actions) y → Pulled x piece n actions.items y
-  pulled_some n actions y (inl p) = pulls_held n actions y p
-  pulled_some n actions y (inr p) = pulls_front n actions y p
+  pulled_some n actions y p =
+      elim (held_or_front x.held piece n (λ h. Does (holding x h) actions.items y) p.pulls p.step) [
+        | inl held ↦ pulls_held n actions y held.0 held.1
+        | inr front ↦ pulls_front n actions y front.0 p
+      ]
 
   pub pulled_more : (n : ℕ) (y : Machine) → 0 < n → IsPulled x piece n None y → Pulled x piece n [] y
   pulled_more n y some (inl p) = absurd (let e = p.none in omega arith)
@@ -159,11 +162,11 @@ module _ (x : Machine) (piece : List ℕ) (ready : IsReady x) (octets : AreOctet
   waiting_ends : (y : Machine) → PullsSome x piece 0 y → Ends y
   waiting_ends y p =
       let counts = taken_up (listens x.standing.state) x.held piece 0 p.hears p.fed.0 in
-      let none : piece ≡ [] = none_left piece (counts.1 p.waits) in
+      let none : piece ≡ [] = none_left piece (counts.1 p.to_feed.waits) in
       subst Ends (sym (took_none x piece y p.fed)) (record {
         settings = refl;
-        left = waiting x piece p.waits ∙ ap (by_octets x) none;
-        rest = record { can_hold = ready.can_hold; nothing_to_do = idles x p.waits; holds_none = ready.holds_none };
+        left = waiting x piece p.to_feed.waits ∙ ap (by_octets x) none;
+        rest = record { can_hold = ready.can_hold; nothing_to_do = idles x p.to_feed.waits; holds_none = ready.holds_none };
       })
 
   pub pulled_none : (y : Machine) → IsPulled x piece 0 None y → Ends y

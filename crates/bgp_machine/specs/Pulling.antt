@@ -1,8 +1,7 @@
 -- What a session makes of a piece whose messages are judged where they stand.
-use Rattle.std.specs.Prelude.{◌≡◌, ◌<◌, ◌≤◌, ◌⊎◌, ℕ, Bool, true, false, List, [], ◌++◌, length, take, Option, None, Some}
+use Rattle.std.specs.Prelude.{◌≡◌, ◌≤◌, ◌⊎◌, ℕ, Bool, true, false, List, [], ◌++◌, length, take, Option, None, Some}
 use Rattle.arrayvec.specs.ArrayVec.{ArrayVec}
-use Rattle.bgp_frame.specs.Frame.{Waits}
-use Rattle.bgp_frame.specs.Takes.{Takes}
+use Rattle.bgp_frame.specs.Pull.{Pulls, IsToFeed}
 use Rattle.bgp_machine.specs.declared.action.Action.{Action}
 use Rattle.bgp_machine.specs.Standing.{listens}
 use Rattle.bgp_machine.specs.Session.{Machine, holding, IsFed, IsJudged, HeldTakesMemory}
@@ -13,25 +12,17 @@ pub record PullsNothing (old : Machine) (n : ℕ) (new : Machine) : Type 0 where
   pub none : n ≡ 0
   pub same : new ≡ old
 
--- what is held is judged: nothing is taken
-pub record PullsHeld (old : Machine) (n : ℕ) (actions : ArrayVec Action) (new : Machine) : Type 0 where
-  pub none : n ≡ 0
-  pub step : IsJudged old (Some actions) new
-
--- the piece is fed, as some octets are held that wait, or none are and the piece waits
+-- the piece is fed
 pub record PullsSome (old : Machine) (piece : List ℕ) (n : ℕ) (new : Machine) : Type 0 where
   pub hears : listens old.standing.state ≡ true
-  pub waits : Waits old.held
-  pub no_front : (0 < length old.held) ⊎ Waits piece
+  pub to_feed : IsToFeed old.held piece
   pub fed : IsFed old piece n new
 
--- what stands at the front of the piece is judged, as nothing is held: these octets are taken, and what is done is what would be
--- done if they were held
-pub record PullsFront (old : Machine) (piece : List ℕ) (n : ℕ) (actions : ArrayVec Action) (new : Machine) : Type 0 where
+-- what is held is judged, or what stands at the front of the piece: what is done is what would be done if all of it were held
+pub record PullsStep (old : Machine) (piece : List ℕ) (n : ℕ) (actions : ArrayVec Action) (new : Machine) : Type 0 where
   pub hears : listens old.standing.state ≡ true
-  pub none_held : old.held ≡ []
-  pub takes : Takes [] piece n
-  pub step : IsJudged (holding old (take n piece)) (Some actions) new
+  pub pulls : Pulls old.held piece n
+  pub step : IsJudged (holding old (old.held ++ take n piece)) (Some actions) new
 
 -- a set of actions, where there is something to be done
 abbrev pub where_found : Bool → ArrayVec Action → Option (ArrayVec Action)
@@ -40,7 +31,7 @@ where_found false actions = None
 
 abbrev pub IsPulled : Machine → List ℕ → ℕ → Option (ArrayVec Action) → Machine → Type 0
 IsPulled old piece n None new = PullsNothing old n new ⊎ PullsSome old piece n new
-IsPulled old piece n (Some actions) new = PullsHeld old n actions new ⊎ PullsFront old piece n actions new
+IsPulled old piece n (Some actions) new = PullsStep old piece n actions new
 
 -- what a step does, where it does something
 abbrev pub GivesStep : Machine → Option (ArrayVec Action) → Machine → Type 0

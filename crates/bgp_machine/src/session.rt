@@ -17,7 +17,7 @@ use crate::standing::Standing;
 use crate::state::State;
 use crate::timer::Timer;
 use arrayvec::ArrayVec;
-use bgp_frame::{Framer, Step, front};
+use bgp_frame::{Framer, Pull};
 use bgp_open::{Config, Context, Peer, own_frame};
 use bgp_update::UpdateView;
 use std::marker::Model;
@@ -154,10 +154,16 @@ impl Session {
     ) -> Option<Look<'b>>
         ensures { IsLook self.now piece.entry.now result }
     {
-        if self.framer.held() == 0 {
-            self.look_front(piece, place)
-        } else {
-            self.look_held(piece, place)
+        match self.framer.look(piece) {
+            Pull::Feed => None,
+            Pull::Frame(taken, frame) => {
+                let heard = self.standing.hear(&self.config, frame, place)?;
+                Some(Look::new(taken, &self.standing, heard))
+            }
+            Pull::Fault(taken, fault) => {
+                let heard = self.standing.hear_fault(fault)?;
+                Some(Look::new(taken, &self.standing, heard))
+            }
         }
     }
 
@@ -167,52 +173,5 @@ impl Session {
     {
         self.standing = next.standing;
         self.framer.clear();
-    }
-
-    /// What stands at the front of a piece, where nothing is held.
-    #[inline(always)]
-    fn look_front<'b, 'a>(
-        &'a self,
-        piece: &'a [u8],
-        place: &'b mut UpdateView<'a>,
-    ) -> Option<Look<'b>>
-        requires { self.now.held ≡ [] }
-        ensures { IsLook self.now piece.entry.now result }
-    {
-        match front(piece) {
-            Step::More => None,
-            Step::Frame(frame) => {
-                let len = frame.len;
-                let heard = self.standing.hear(&self.config, frame, place)?;
-                Some(Look::new(len as usize, &self.standing, heard))
-            }
-            Step::Fault(fault) => {
-                let heard = self.standing.hear_fault(fault)?;
-                Some(Look::new(19, &self.standing, heard))
-            }
-        }
-    }
-
-    /// What is held, where octets are.
-    #[inline(never)]
-    pub(crate) fn look_held<'b, 'a>(
-        &'a self,
-        piece: &[u8],
-        place: &'b mut UpdateView<'a>,
-    ) -> Option<Look<'b>>
-        requires { 0 < length self.now.held }
-        ensures { IsLook self.now piece.now result }
-    {
-        match self.framer.step() {
-            Step::More => None,
-            Step::Frame(frame) => {
-                let heard = self.standing.hear(&self.config, frame, place)?;
-                Some(Look::new(0, &self.standing, heard))
-            }
-            Step::Fault(fault) => {
-                let heard = self.standing.hear_fault(fault)?;
-                Some(Look::new(0, &self.standing, heard))
-            }
-        }
     }
 }

@@ -10,7 +10,8 @@ use Rattle.bgp_frame.specs.declared.fault.HeadFault.{HeadFault}
 use Rattle.bgp_frame.specs.Head.{head_of}
 use Rattle.bgp_frame.specs.Frame.{Message, IsFrame, Waits}
 use Rattle.bgp_frame.specs.Stream.{Gives, Judgement}
-use Rattle.bgp_frame.proofs.FrameLemmas.{head_of-append, length-IsFrame, wanted-bounds}
+use Rattle.bgp_frame.proofs.FrameLemmas.{head_of-append, length-IsFrame}
+use Rattle.bgp_frame.proofs.Pulls.{nothing_waits}
 use Rattle.bgp_frame.proofs.Streams.{gives_wait, gives_fault, gives_reset, gives_more}
 use Rattle.bgp_open.specs.declared.context.Context.{Context}
 use Rattle.bgp_msg.specs.declared.outcome.Outcome.{Outcome}
@@ -85,9 +86,6 @@ module _ (ctx : Context) where
         subst (λ (s : List ℕ). Gives j s ((0, o) ∷ []) end.Head) (sym (fed_whole later))
         (subst (λ (x : Outcome). Gives j (fed ++ behind) ((0, x) ∷ []) end.Head) (sym comes)
         (gives_fault Outcome j (fed ++ behind) f (omega (arith, long, length-append fed behind)) (head_of-append fed behind (omega (arith, long)) ∙ faulty)))
-
-pub nothing_waits : Waits []
-nothing_waits = let bounds = wanted-bounds [] in omega arith
 
 -- ---- what a step shows
 

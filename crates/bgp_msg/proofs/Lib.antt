@@ -1,8 +1,5 @@
 -- Lemmas on messages and streams.
-pub mod Nexts
 pub mod Pulls
-pub mod Fronts
-pub mod Looks
 pub mod Encodings
 pub mod Rooms
 pub mod Lists

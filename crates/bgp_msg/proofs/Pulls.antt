@@ -1,149 +1,114 @@
 -- What is pulled from a piece.
-use Rattle.std.proofs.Common.{◌≡◌, ℕ, ◌≤◌, ◌⊎◌, Bool, true, false, List, [], ◌++◌, length, take, drop, Result, Ok, Err, OnErr, Option, Some, None, refl, sym, ap, subst, ◌∙◌, arith, inl, inr}
+use Rattle.std.proofs.Common.{◌≡◌, ℕ, ◌≤◌, ◌⊎◌, Bool, true, false, List, ◌++◌, length, take, Result, Ok, Err, OnErr, Option, Some, None, refl, sym, ap, ap₂, subst, ◌∙◌, arith, inl, inr}
 use Rattle.std.specs.Result.{IfOk}
+use Rattle.std.proofs.lemmas.Bool.{both_ways}
 use Rattle.std.proofs.lemmas.Result.{IfOk-weaker, on_err_weaker}
-use Rattle.std.proofs.lemmas.List.{length-take, take-append-drop, append-nil}
-use Rattle.bgp_frame.specs.Frame.{Message, IsFrame, wanted}
-use Rattle.bgp_frame.specs.Takes.{Stops, Takes}
-use Rattle.bgp_frame.proofs.FrameLemmas.{Stops-wanted, wanted-append}
-use Rattle.bgp_open.specs.declared.context.Context.{Context}
+use Rattle.std.proofs.lemmas.List.{append-nil}
+use Rattle.bgp_frame.specs.declared.fault.HeadFault.{HeadFault}
+use Rattle.bgp_frame.specs.declared.step.Frame.{Frame}
+use Rattle.bgp_frame.specs.declared.pull.Pull.TheVariants as pull
+use Rattle.bgp_frame.specs.declared.step.Step.TheVariants as step
+use Rattle.bgp_frame.specs.Step.{ShowsFront}
+use Rattle.bgp_frame.specs.Pull.{IsToFeed, IsPull}
+use Rattle.bgp_frame.proofs.Feeding.{takes_some}
+use Rattle.bgp_frame.proofs.Pulls.{held_or_front, none_held, pull_frame}
+use Rattle.bgp_update.specs.declared.note.Note.{Note}
+use Rattle.bgp_update.specs.declared.update.Update.{Update}
+use Rattle.bgp_msg.specs.declared.look.Look.TheVariants as look
+use Rattle.bgp_msg.specs.declared.message.Message.TheVariants as message
 use Rattle.bgp_msg.specs.declared.outcome.Outcome.{Outcome}
-use Rattle.bgp_msg.specs.Outcome.{out_of, is_reset}
+use Rattle.bgp_msg.specs.declared.outcome.Outcome.TheVariants as outcome
+use Rattle.bgp_msg.specs.Outcome.{out_of, of_fault}
 use Rattle.bgp_msg.specs.OutcomeView.{has_lists}
+use Rattle.bgp_msg.specs.Decoder.{Decoding, TakesMemory, FrontTakesMemory, CountsFed, holding, behind, GivesMessage, GivesFault, PullsNothing, IsPulled, IsFedAndNext}
+use Rattle.bgp_msg.specs.Early.{IsAtFront}
+use Rattle.bgp_msg.specs.Look.{IsLook}
 use Rattle.bgp_msg.proofs.Lists.{lists_have_kinds, lists_go_on}
-use Rattle.bgp_msg.specs.Decoder.{Decoding, FrontTakesMemory, CountsFed, holding, behind, GivesMessage, GivesFault, IsNext, PullsNothing, PullsSome, PullsHeld, PullsFront, IsPulled, IsFedAndNext}
-use Rattle.bgp_msg.proofs.Nexts.{at_hand, message_next}
 
-module _ (piece : List ℕ) where
-  -- what stops in front of a piece is as long as the piece wants
-  front_wanted : (n : ℕ) → n ≤ length piece → Stops (take n piece) → wanted piece ≡ n
-  front_wanted n within stops =
-      let long = Stops-wanted (take n piece) stops in
-      let count = length-take n piece in
-      let same : wanted piece ≡ wanted (take n piece) = ap wanted (sym (take-append-drop n piece)) ∙ wanted-append (take n piece) (drop n piece) long.0 in
-      omega (arith, long.1)
+module _ (d : Decoding) (piece : List ℕ) where
+  -- ---- what a look finds, a pull gives
 
-  pub takes_front : (n : ℕ) → n ≤ length piece → Stops (take n piece) → Takes [] piece n
-  takes_front n within stops = record {
-    within = within;
-    no_sooner = λ k lt sooner.
-        let first = front_wanted k (omega arith) sooner in
-        let whole = front_wanted n within stops in
-        omega arith;
-    all_or_stops = inr stops;
+  took_none : (n : ℕ) → n ≡ 0 → holding d (d.held ++ take n piece) ≡ d
+  took_none n none = ap (λ (k : ℕ). holding d (d.held ++ take k piece)) none ∙ ap (holding d) (append-nil d.held)
+
+  pub stopped_feeds : d.stopped ≡ true → IsLook d piece look.Feed
+  stopped_feeds over n new fed =
+      let none : n ≡ 0 = subst (λ (s : Bool). CountsFed s d.held piece n) over fed.0 in
+      inl (record { over = over; none = none; same = fed.1 ∙ took_none n none })
+
+  pub waiting_feeds : d.stopped ≡ false → IsToFeed d.held piece → IsLook d piece look.Feed
+  waiting_feeds going to_feed n new fed = inr (record { going = going; to_feed = to_feed; fed = fed })
+
+  pub found_message : (n : ℕ) (frame : Frame) (o : Outcome) → d.stopped ≡ false → IsPull d.held piece (pull.Frame n frame)
+      → o ≡ out_of d.ctx (record { kind = frame.kind; body = frame.body.now }) → IsPulled d piece n (Some (frame.len, o)) (behind d o)
+  found_message n frame o going found comes = record {
+    pulls = found.0;
+    next = (going, inl (record { message = _; is_held = found.1.0; count = found.1.1; comes_to = comes }), refl);
   }
 
-module _ (ctx : Context) (held : List ℕ) (stopped : Bool) (piece : List ℕ) (going : stopped ≡ false) (none : held ≡ []) where
-  abbrev now : Decoding
-  now = at_hand ctx held stopped
+  pub found_fault : (n : ℕ) (f : HeadFault) → d.stopped ≡ false → IsPull d.held piece (pull.Fault n f) → IsPulled d piece n (Some (0, of_fault f)) (behind d (of_fault f))
+  found_fault n f going found = record {
+    pulls = found.0;
+    next = (going, inr (record { header = found.1.0; fault = f; faulty = found.1.1; count = refl; comes_to = refl }), refl);
+  }
 
-  behind_front : (o : Outcome) (last : Bool) → last ≡ is_reset o → at_hand ctx held last ≡ at_hand ctx [] (is_reset o)
-  behind_front o last is = ap (λ (h : List ℕ). at_hand ctx h last) none ∙ ap (λ (s : Bool). at_hand ctx [] s) is
+  -- ---- memory
 
-  pub pulls_message : (m : Message) (n : ℕ) (o : Outcome) (last : Bool) → (n ≤ length piece) × IsFrame m (take n piece) → o ≡ out_of ctx m → last ≡ is_reset o
-      → IsPulled now piece n (Some (n, o)) (at_hand ctx held last)
-  pulls_message m n o last front comes is =
-      let count = length-take n piece in
-      let within = front.0 in
-      inr (record {
-        going = going;
-        none_held = none;
-        takes = takes_front piece n within (inl (m, front.1));
-        next = message_next ctx (take n piece) stopped m n o (at_hand ctx held last) going front.1 (omega arith) comes (behind_front o last is);
-      })
+  -- a header's fault has no lists
+  given_takes_memory : (e : Decoding) (k : ℕ) (o : Outcome) → has_lists o ≡ true → GivesMessage e k o ⊎ GivesFault e k o → TakesMemory e
+  given_takes_memory e k o lists (inl m) =
+      let some : has_lists (out_of e.ctx m.message) ≡ true = ap has_lists (sym m.comes_to) ∙ lists in
+      record { message = m.message; is_held = m.is_held; holds_lists = lists_have_kinds e.ctx m.message some; goes_on = lists_go_on (out_of e.ctx m.message) some }
+  given_takes_memory e k o lists (inr f) = absurd (both_ways (has_lists o) (ap has_lists f.comes_to) lists)
 
--- a message at the front that comes to what doesn't end the session
-pub pulls_front_message : (old new : Decoding) (piece : List ℕ) (m : Message) (n : ℕ) (o : Outcome) → old.stopped ≡ false → old.held ≡ []
-    → (n ≤ length piece) × IsFrame m (take n piece) → o ≡ out_of old.ctx m → new ≡ behind old o → IsPulled old piece n (Some (n, o)) new
-pulls_front_message old new piece m n o going none front comes is =
-    let count = length-take n piece in
-    let within = front.0 in
-    inr (record {
-      going = going;
-      none_held = none;
-      takes = takes_front piece n within (inl (m, front.1));
-      next = message_next old.ctx (take n piece) old.stopped m n o new going front.1 (omega arith) comes is;
-    })
-
-module _ (old new : Decoding) (piece : List ℕ) (m : Message) (n : ℕ) (o : Outcome) (going : old.stopped ≡ false) (none : old.held ≡ [])
-    (front : (n ≤ length piece) × IsFrame m (take n piece)) (comes : o ≡ out_of old.ctx m) where
-  pub whole_pulled : {E : Type 0} (r : Result (ℕ × Option (ℕ × Outcome)) E) → IfOk r (λ x. (x ≡ (n, Some (n, o))) × (new ≡ behind old o))
-      → IfOk r (λ x. IsPulled old piece x.0 x.1 new)
-  whole_pulled r gives =
-      IfOk-weaker r (λ x. (x ≡ (n, Some (n, o))) × (new ≡ behind old o)) (λ x. IsPulled old piece x.0 x.1 new)
-      (λ x p. subst (λ (y : ℕ × Option (ℕ × Outcome)). IsPulled old piece y.0 y.1 new) (sym p.0) (pulls_front_message old new piece m n o going none front comes p.1)) gives
-
-  pub whole_takes_memory : {T E : Type 0} (r : Result T E) → OnErr r (has_lists o ≡ true) → OnErr r (FrontTakesMemory old piece)
-  whole_takes_memory r refused = on_err_weaker r (λ e.
-      let lists : has_lists (out_of old.ctx m) ≡ true = ap has_lists (sym comes) ∙ e in
-      record {
-        going = going;
-        none_held = none;
-        n = n;
-        within = front.0;
-        takes = record { message = m; is_held = front.1; holds_lists = lists_have_kinds old.ctx m lists; goes_on = lists_go_on (out_of old.ctx m) lists };
-      }) refused
+  -- what is pulled takes memory only where it has lists
+  pub pulled_takes_memory : (n k : ℕ) (o : Outcome) (new : Decoding) → has_lists o ≡ true → IsPulled d piece n (Some (k, o)) new → TakesMemory d ⊎ FrontTakesMemory d piece
+  pulled_takes_memory n k o new lists p =
+      elim (held_or_front d.held piece n (λ h. TakesMemory (holding d h)) p.pulls (given_takes_memory (holding d (d.held ++ take n piece)) k o lists p.next.1)) [
+        | inl held ↦ inl held.1
+        | inr front ↦ inr (record { going = p.next.0; none_held = front.0; n = n; within = p.pulls.takes.within; takes = front.1 })
+      ]
 
 pub on_err_any : {T E P : Type 0} (r : Result T E) → P → OnErr r P
 on_err_any (Ok x) p = tt
 on_err_any (Err e) p = p
 
+-- ---- what stands at the front of a piece
+
+pub whole_at_front : (old inside : Decoding) (piece : List ℕ) (frame : Frame) (n : ℕ) (o : Outcome) → inside ≡ old → inside.stopped ≡ false → n ≡ length inside.held → n ≤ 0
+    → ShowsFront piece (step.Frame frame) → o ≡ out_of inside.ctx (record { kind = frame.kind; body = frame.body.now }) → IsAtFront old piece frame.len o
+whole_at_front old inside piece frame n o is going count none front comes =
+    subst (λ (d : Decoding). IsAtFront d piece frame.len o) is
+    (none_held inside.held (omega (arith, count)), found_message inside piece frame.len frame o going (pull_frame piece inside.held n count none frame front) comes)
+
+module _ (old new : Decoding) (piece : List ℕ) (n : ℕ) (o : Outcome) (f : IsAtFront old piece n o) where
+  pub front_pulled : {E : Type 0} (r : Result (ℕ × Option (ℕ × Outcome)) E) → IfOk r (λ x. (x ≡ (n, Some (n, o))) × (new ≡ behind old o)) → IfOk r (λ x. IsPulled old piece x.0 x.1 new)
+  front_pulled r gives =
+      IfOk-weaker r (λ x. (x ≡ (n, Some (n, o))) × (new ≡ behind old o)) (λ x. IsPulled old piece x.0 x.1 new)
+      (λ x p. rw (p.0, p.1) f.1) gives
+
+  pub front_takes_memory : {T E : Type 0} (r : Result T E) → OnErr r (has_lists o ≡ true) → OnErr r (TakesMemory old ⊎ FrontTakesMemory old piece)
+  front_takes_memory r refused = on_err_weaker r (λ lists. pulled_takes_memory old piece n n o (behind old o) lists f.1) refused
+
+pub update_pulled : (old : Decoding) (piece : List ℕ) (n : ℕ) (u : Update) (notes : List Note) → IsAtFront old piece n (outcome.Took (message.Update u) notes)
+    → IsPulled old piece n (Some (n, outcome.Took (message.Update u) notes)) old
+update_pulled old piece n u notes f =
+    let o = outcome.Took (message.Update u) notes in
+    let same : behind old o ≡ old = ap₂ (λ (h : List ℕ) (s : Bool). record { ctx = old.ctx; held = h; stopped = s }) (sym f.0) (sym f.1.next.0) in
+    subst (λ (new : Decoding). IsPulled old piece n (Some (n, o)) new) same f.1
+
 -- ---- a pull is a feed, and next where something comes
 
-takes_none : (held piece : List ℕ) → Stops held → Takes held piece 0
-takes_none held piece stops = record {
-  within = omega arith;
-  no_sooner = λ k lt sooner. absurd (omega arith);
-  all_or_stops = inr (subst Stops (sym (append-nil held)) stops);
+nothing_as_fed : (old : Decoding) (piece : List ℕ) (n : ℕ) (new : Decoding) → PullsNothing old n new → IsFedAndNext old piece n None new
+nothing_as_fed old piece n new p = record {
+  fed = (subst (λ (s : Bool). CountsFed s old.held piece n) (sym p.over) p.none, refl);
+  next = p.same ∙ sym (took_none old piece n p.none);
 }
-
-next_stops : (old : Decoding) (k : ℕ) (o : Outcome) → GivesMessage old k o ⊎ GivesFault old k o → Stops old.held
-next_stops old k o (inl m) = inl (m.message, m.is_held)
-next_stops old k o (inr f) = inr (f.header, (f.fault, f.faulty))
-
-module _ (old : Decoding) (piece : List ℕ) (n : ℕ) (new : Decoding) where
-  abbrev behind_feed : Decoding
-  behind_feed = holding old (old.held ++ take n piece)
-
-  nothing_as_fed : PullsNothing old n new → IsFedAndNext old piece n None new
-  nothing_as_fed p =
-      let same : behind_feed ≡ old = ap (λ (k : ℕ). holding old (old.held ++ take k piece)) p.none ∙ ap (holding old) (append-nil old.held) in
-      record {
-        fed = (subst (λ (s : Bool). CountsFed s old.held piece n) (sym p.over) p.none, refl);
-        next = p.same ∙ sym same;
-      }
-
-  some_as_fed : PullsSome old piece n new → IsFedAndNext old piece n None new
-  some_as_fed p = record { fed = (p.fed.0, refl); next = p.fed.1 }
-
-  module _ (k : ℕ) (o : Outcome) where
-    held_as_fed : PullsHeld old n (k, o) new → IsFedAndNext old piece n (Some (k, o)) new
-    held_as_fed p =
-        let stops = next_stops old k o p.next.1 in
-        let long = Stops-wanted old.held stops in
-        let counts : CountsFed false old.held piece 0 = (takes_none old.held piece stops, λ waits some. absurd (omega (arith, long.1))) in
-        let same : old ≡ behind_feed = ap (holding old) (sym (append-nil old.held)) ∙ ap (λ (i : ℕ). holding old (old.held ++ take i piece)) (sym p.none) in
-        record {
-          fed = (subst (λ (i : ℕ). CountsFed old.stopped old.held piece i) (sym p.none) (subst (λ (s : Bool). CountsFed s old.held piece 0) (sym p.next.0) counts), refl);
-          next = subst (λ (d : Decoding). IsNext d (Some (k, o)) new) same p.next;
-        }
-
-    front_as_fed : PullsFront old piece n (k, o) new → IsFedAndNext old piece n (Some (k, o)) new
-    front_as_fed p =
-        let long = Stops-wanted (take n piece) (next_stops (holding old (take n piece)) k o p.next.1) in
-        let count = length-take n piece in
-        let counts : CountsFed false [] piece n = (p.takes, λ waits some. omega (arith, long.0)) in
-        let held : CountsFed false old.held piece n = subst (λ (h : List ℕ). CountsFed false h piece n) (sym p.none_held) counts in
-        record {
-          fed = (subst (λ (s : Bool). CountsFed s old.held piece n) (sym p.going) held, refl);
-          next = subst (λ (h : List ℕ). IsNext (holding old (h ++ take n piece)) (Some (k, o)) new) (sym p.none_held) p.next;
-        }
 
 pub pulls_as_fed : (old : Decoding) (piece : List ℕ) (n : ℕ) (found : Option (ℕ × Outcome)) (new : Decoding) → IsPulled old piece n found new → IsFedAndNext old piece n found new
 pulls_as_fed old piece n None new (inl p) = nothing_as_fed old piece n new p
-pulls_as_fed old piece n None new (inr p) = some_as_fed old piece n new p
-pulls_as_fed old piece n (Some (k, o)) new (inl p) = held_as_fed old piece n new k o p
-pulls_as_fed old piece n (Some (k, o)) new (inr p) = front_as_fed old piece n new k o p
-
-pub held_pulled : (old : Decoding) (piece : List ℕ) (k : ℕ) (o : Outcome) (new : Decoding) → IsNext old (Some (k, o)) new → IsFedAndNext old piece 0 (Some (k, o)) new
-held_pulled old piece k o new next = held_as_fed old piece 0 new k o (record { none = refl; next = next })
+pulls_as_fed old piece n None new (inr p) = record { fed = (p.fed.0, refl); next = p.fed.1 }
+pulls_as_fed old piece n (Some out) new p = record {
+  fed = (subst (λ (s : Bool). CountsFed s old.held piece n) (sym p.next.0) (p.pulls.takes, takes_some old.held piece n p.pulls.takes), refl);
+  next = p.next;
+}

@@ -6,6 +6,7 @@ use Rattle.bgp_frame.specs.declared.kind.Kind.TheVariants as kind
 use Rattle.bgp_frame.specs.Frame as frame
 use Rattle.bgp_frame.specs.Frame.{IsFrame, Waits}
 use Rattle.bgp_frame.specs.Takes.{Takes}
+use Rattle.bgp_frame.specs.Pull.{Pulls, IsToFeed}
 use Rattle.bgp_open.specs.declared.context.Context.{Context}
 use Rattle.bgp_msg.specs.declared.outcome.Outcome.{Outcome}
 use Rattle.bgp_msg.specs.Outcome.{out_of, of_fault, is_reset}
@@ -68,30 +69,21 @@ pub record PullsNothing (old : Decoding) (n : ℕ) (new : Decoding) : Type 0 whe
   pub none : n ≡ 0
   pub same : new ≡ old
 
--- a pull that gives what is held: nothing is taken
-pub record PullsHeld (old : Decoding) (n : ℕ) (out : ℕ × Outcome) (new : Decoding) : Type 0 where
-  pub none : n ≡ 0
-  pub next : IsNext old (Some out) new
-
--- a pull that feeds, as some octets are held that wait, or none are and the piece waits
+-- a pull that feeds
 pub record PullsSome (old : Decoding) (piece : List ℕ) (n : ℕ) (new : Decoding) : Type 0 where
   pub going : old.stopped ≡ false
-  pub waits : Waits old.held
-  pub no_front : (0 < length old.held) ⊎ Waits piece
+  pub to_feed : IsToFeed old.held piece
   pub fed : IsFed old piece n new
 
--- a pull that gives what stands at the front of the piece, as nothing is held: these octets are taken, and what comes is what would be next
--- if they were held
-pub record PullsFront (old : Decoding) (piece : List ℕ) (n : ℕ) (out : ℕ × Outcome) (new : Decoding) : Type 0 where
-  pub going : old.stopped ≡ false
-  pub none_held : old.held ≡ []
-  pub takes : Takes [] piece n
-  pub next : IsNext (holding old (take n piece)) (Some out) new
+-- a pull that gives what is held, or what stands at the front of the piece: what comes is what would be next if all of it were held
+pub record PullsNext (old : Decoding) (piece : List ℕ) (n : ℕ) (out : ℕ × Outcome) (new : Decoding) : Type 0 where
+  pub pulls : Pulls old.held piece n
+  pub next : IsNext (holding old (old.held ++ take n piece)) (Some out) new
 
 -- what a decoder pulls from a piece: how many octets it takes, and what comes of them or of what was held
 abbrev pub IsPulled : Decoding → List ℕ → ℕ → Option (ℕ × Outcome) → Decoding → Type 0
 IsPulled old piece n None new = PullsNothing old n new ⊎ PullsSome old piece n new
-IsPulled old piece n (Some out) new = PullsHeld old n out new ⊎ PullsFront old piece n out new
+IsPulled old piece n (Some out) new = PullsNext old piece n out new
 
 -- a decoder gives this next, where it gives something
 abbrev pub GivesNext : Decoding → Option (ℕ × Outcome) → Decoding → Type 0

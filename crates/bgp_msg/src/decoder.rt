@@ -12,7 +12,7 @@ use crate::message::Message;
 use crate::outcome::Outcome;
 use crate::outcome_view::OutcomeView;
 use crate::taking::{out_frame, view_frame};
-use bgp_frame::{Framer, Step, front};
+use bgp_frame::{Framer, Pull, Step, front};
 use bgp_open::Context;
 use bgp_update::UpdateView;
 use std::alloc::{AllocError, Global};
@@ -150,16 +150,21 @@ impl Decoder {
     /// octets of the piece as it says, and calls [`go`](Decoder::go); where it gives `Feed`, who goes on calls [`feed`](Decoder::feed).
     ///
     /// The view of an UPDATE goes into a place, whatever was there before.
+    #[tactic(auto, using(crate::proofs::Pulls::stopped_feeds, crate::proofs::Pulls::waiting_feeds, crate::proofs::Pulls::found_message, crate::proofs::Pulls::found_fault))]
     pub fn look<'b, 'a>(&'a self, piece: &'a [u8], place: &'b mut UpdateView<'a>) -> Look<'b>
         ensures { IsLook self.now piece.entry.now result }
     {
         if self.stopped {
             return Look::Feed;
         }
-        if self.framer.held() == 0 {
-            return self.look_front(piece, place);
+        match self.framer.look(piece) {
+            Pull::Feed => Look::Feed,
+            Pull::Frame(taken, frame) => {
+                let len = frame.len;
+                Look::Message(taken, len, view_frame(&self.ctx, frame, place))
+            }
+            Pull::Fault(taken, fault) => Look::Fault(taken, fault),
         }
-        self.look_held(piece, place)
     }
 
     /// Goes on behind a message or a faulty header that [`look`](Decoder::look) gave: nothing is held any more, and the decoder stops where that
@@ -171,38 +176,6 @@ impl Decoder {
         self.stopped = resets;
     }
 
-    /// What stands at the front of a piece, where nothing is held.
-    fn look_front<'b, 'a>(&self, piece: &'a [u8], place: &'b mut UpdateView<'a>) -> Look<'b>
-        requires going { self.now.stopped ≡ false }
-        requires none_held { self.now.held ≡ [] }
-        ensures { IsLook self.now piece.entry.now result }
-    {
-        match front(piece) {
-            Step::More => Look::Feed,
-            Step::Frame(frame) => {
-                let len = frame.len;
-                Look::Message(len as usize, len, view_frame(&self.ctx, frame, place))
-            }
-            Step::Fault(fault) => Look::Fault(19, fault),
-        }
-    }
-
-    /// What is held, where octets are.
-    fn look_held<'b, 'a>(&'a self, piece: &[u8], place: &'b mut UpdateView<'a>) -> Look<'b>
-        requires going { self.now.stopped ≡ false }
-        requires some_held { 0 < length self.now.held }
-        ensures { IsLook self.now piece.now result }
-    {
-        match self.framer.step() {
-            Step::More => Look::Feed,
-            Step::Frame(frame) => {
-                let len = frame.len;
-                Look::Message(0, len, view_frame(&self.ctx, frame, place))
-            }
-            Step::Fault(fault) => Look::Fault(0, fault),
-        }
-    }
-
     /// An UPDATE that is accepted at the front of a piece, where nothing is held, with memory of its own.
     fn early<'b, 'a>(
         &self,
@@ -211,7 +184,7 @@ impl Decoder {
         place: &'b mut UpdateView<'a>,
     ) -> Result<Early<'b>, AllocError>
         ensures ok { IfOk result (λ found. IsEarly self.now piece.entry.now found) }
-        ensures memory { OnErr result (FrontTakesMemory self.now piece.entry.now) }
+        ensures memory { OnErr result (TakesMemory self.now ⊎ FrontTakesMemory self.now piece.entry.now) }
     {
         if self.stopped || self.framer.held() > 0 {
             return Ok(Early::Other);

@@ -16,7 +16,7 @@ mod seen;
 mod taking;
 mod update_encoding;
 
-pub use bgp_frame::{End, Frame, Framer, HeadFault, Kind, Step, front};
+pub use bgp_frame::{End, Frame, Framer, HeadFault, Kind, Pull, Step, front};
 pub use decoder::Decoder;
 pub use decoding::decode_all;
 pub use encoding::encode;

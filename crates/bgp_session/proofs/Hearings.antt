@@ -2,7 +2,7 @@
 use Rattle.std.proofs.Common.{◌≡◌, ◌/◌, ℕ, Bool, true, false, List, [], ◌∷◌, ◌++◌, map, Option, Some, Result, Ok, Err, refl, sym, ap, subst, ◌∙◌, append_assoc, if◌then◌else◌, nat_lt}
 use Rattle.std.specs.List.{AllByRecursion}
 use Rattle.std.proofs.lemmas.List.{append-nil, map-append}
-use Rattle.bgp_msg.proofs.Decodings.{nothing_waits}
+use Rattle.bgp_frame.proofs.Pulls.{nothing_waits}
 use Rattle.bgp_open.specs.declared.agreement.PeerFault.{PeerFault}
 use Rattle.bgp_open.specs.declared.agreement.PeerFault.TheVariants as peer
 use Rattle.bgp_open.specs.declared.context.Context.{Context}

@@ -4,8 +4,8 @@ use Rattle.std.specs.List.{AllByRecursion}
 use Rattle.std.proofs.lemmas.List.{length-append}
 use Rattle.bgp_frame.specs.Frame.{Message, IsFrame, Waits}
 use Rattle.bgp_frame.specs.declared.fault.HeadFault.{HeadFault}
+use Rattle.bgp_frame.proofs.Pulls.{nothing_waits}
 use Rattle.std.specs.Prelude.{Result}
-use Rattle.bgp_msg.proofs.Decodings.{nothing_waits}
 use Rattle.bgp_open.specs.Config.{Settings}
 use Rattle.bgp_machine.specs.declared.action.Action.{Action}
 use Rattle.bgp_machine.specs.declared.state.State.{State}

@@ -10,12 +10,13 @@ use Rattle.bgp_frame.specs.Frame.{wanted, Waits}
 use Rattle.bgp_frame.specs.Framer.{IsHeld}
 use Rattle.bgp_frame.specs.Takes.{Takes}
 use Rattle.bgp_frame.proofs.FrameLemmas.{wanted_under, wanted-append}
+use Rattle.bgp_frame.proofs.Pulls.{held_or_front}
 use Rattle.bgp_machine.specs.declared.action.Action.{Action}
 use Rattle.bgp_machine.specs.declared.state.State.{State}
 use Rattle.bgp_machine.specs.Cutting.{IsAtRest, Done, settled, by_octet, with_octet, by_octets}
-use Rattle.bgp_machine.specs.Pulling.{PullsHeld, PullsFront, IsPulled}
+use Rattle.bgp_machine.specs.Pulling.{PullsStep, IsPulled}
 use Rattle.bgp_machine.specs.Ready.{IsReady}
-use Rattle.bgp_machine.specs.Session.{Machine, holding, Does, IsJudged}
+use Rattle.bgp_machine.specs.Session.{Machine, holding, Does}
 use Rattle.bgp_machine.specs.Standing.{listens}
 use Rattle.bgp_machine.proofs.Cuttings.{idles, waits_at, front_by_octets, rests, settled_by, emptied, none_left}
 use Rattle.bgp_machine.proofs.Held.{IsHeld-fed}
@@ -128,8 +129,7 @@ module _ (side : Side) where
 pub pulled_within : (x : Machine) (piece : List ℕ) (n : ℕ) (found : Option (ArrayVec Action)) (y : Machine) → IsPulled x piece n found y → n ≤ length piece
 pulled_within x piece n None y (inl p) = let none = p.none in omega arith
 pulled_within x piece n None y (inr p) = (taken_up (listens x.standing.state) x.held piece n p.hears p.fed.0).0.within
-pulled_within x piece n (Some actions) y (inl p) = let none = p.none in omega arith
-pulled_within x piece n (Some actions) y (inr p) = p.takes.within
+pulled_within x piece n (Some actions) y p = p.pulls.takes.within
 
 module _ {S : Type 0} (after : S → Sight → S) (s t : S) (side : Side) (x : Machine) (piece : List ℕ) (ready : IsReady x) (octets : AreOctets piece) where
   -- once these octets came
@@ -145,34 +145,34 @@ module _ {S : Type 0} (after : S → Sight → S) (s t : S) (side : Side) (x : M
   abbrev Goes : ℕ → Machine → Type 0
   Goes n y = observed after s (left_seen side x piece) ≡ observed after t (left_seen side y (drop n piece))
 
-  sees_held : (n : ℕ) (actions : ArrayVec Action) (y : Machine) → PullsHeld x n actions y
+  sees_held : (n : ℕ) (actions : ArrayVec Action) (y : Machine) → n ≡ 0 → Does x actions.items y
       → t ≡ after (then_came n) (Heard side x.standing.context y.standing.state actions.items) → Goes n y
-  sees_held n actions y p told =
-      ap (observed after s) (seen_judging side x actions.items y piece p.step)
-      ∙ ap (λ (k : ℕ). observed after (after (then_came k) (Heard side x.standing.context y.standing.state actions.items)) (left_seen side y (drop k piece))) (sym p.none)
+  sees_held n actions y nothing step told =
+      ap (observed after s) (seen_judging side x actions.items y piece step)
+      ∙ ap (λ (k : ℕ). observed after (after (then_came k) (Heard side x.standing.context y.standing.state actions.items)) (left_seen side y (drop k piece))) (sym nothing)
       ∙ ap (λ (u : S). observed after u (left_seen side y (drop n piece))) (sym told)
 
-  sees_front : (n : ℕ) (actions : ArrayVec Action) (y : Machine) → PullsFront x piece n actions y
+  sees_front : (n : ℕ) (actions : ArrayVec Action) (y : Machine) → x.held ≡ [] → PullsStep x piece n actions y
       → t ≡ after (then_came n) (Heard side x.standing.context y.standing.state actions.items) → Goes n y
-  sees_front n actions y p told =
-      let z : Machine = holding x (x.held ++ take n piece) in
-      let takes : Takes x.held piece n = subst (λ (h : List ℕ). Takes h piece n) (sym p.none_held) p.takes in
-      let step : Does z actions.items y = subst (λ (h : List ℕ). IsJudged (holding x (h ++ take n piece)) (Some actions) y) (sym p.none_held) p.step in
-      sees_taking n p.hears (empty_waits x p.none_held) takes
-      ∙ ap (observed after (then_came n)) (seen_judging side z actions.items y (drop n piece) step)
+  sees_front n actions y nothing p told =
+      sees_taking n p.hears (empty_waits x nothing) p.pulls.takes
+      ∙ ap (observed after (then_came n)) (seen_judging side (holding x (x.held ++ take n piece)) actions.items y (drop n piece) p.step)
       ∙ ap (λ (u : S). observed after u (left_seen side y (drop n piece))) (sym told)
 
   -- it took octets, or there were some to be judged
   pub sees_step : (n : ℕ) (actions : ArrayVec Action) (y : Machine) → IsPulled x piece n (Some actions) y
       → t ≡ after (then_came n) (Heard side x.standing.context y.standing.state actions.items) → Goes n y
-  sees_step n actions y (inl p) told = sees_held n actions y p told
-  sees_step n actions y (inr p) told = sees_front n actions y p told
+  sees_step n actions y p told =
+      elim (held_or_front x.held piece n (λ h. Does (holding x h) actions.items y) p.pulls p.step) [
+        | inl held ↦ sees_held n actions y held.0 held.1 told
+        | inr front ↦ sees_front n actions y front.0 p told
+      ]
 
   pub sees_more : (n : ℕ) (y : Machine) → 0 < n → IsPulled x piece n None y → t ≡ then_came n → Goes n y
   sees_more n y some (inl p) told = absurd (let none = p.none in omega arith)
   sees_more n y some (inr p) told =
       let counts = taken_up (listens x.standing.state) x.held piece n p.hears p.fed.0 in
-      sees_taking n p.hears p.waits counts.0
+      sees_taking n p.hears p.to_feed.waits counts.0
       ∙ ap₂ (λ (u : S) (m : Machine). observed after u (left_seen side m (drop n piece))) (sym told) (sym p.fed.1)
 
   -- nothing is left to be shown
@@ -182,7 +182,7 @@ module _ {S : Type 0} (after : S → Sight → S) (s t : S) (side : Side) (x : M
       ap (observed after s) (left_waiting side x piece waits ∙ drops_unseen side x p.deaf waits piece) ∙ sym told
   sees_none y (inr p) told =
       let counts = taken_up (listens x.standing.state) x.held piece 0 p.hears p.fed.0 in
-      ap (observed after s) (left_waiting side x piece p.waits ∙ ap (octets_seen side x) (none_left piece (counts.1 p.waits))) ∙ sym told
+      ap (observed after s) (left_waiting side x piece p.to_feed.waits ∙ ap (octets_seen side x) (none_left piece (counts.1 p.to_feed.waits))) ∙ sym told
 
 -- ---- what the code has of a pull
 

@@ -65,10 +65,6 @@ module _ (d : Decoding) (o : Outcome) (gives : GivesHeld d o) where
 
 -- ---- how much of the piece is fed
 
-either_of : (d : Decoding) (piece : List ℕ) (n : ℕ) (out : ℕ × Outcome) (new : Decoding) → IsPulled d piece n (Some out) new → (n ≤ length piece) × ((n ≡ 0) ⊎ (d.held ≡ []))
-either_of d piece n out new (inl p) = (omega (arith, p.none), inl p.none)
-either_of d piece n out new (inr p) = (p.takes.within, inr p.none_held)
-
 -- whether a decoder is stopped has no effect on what it gives
 gives_in : (d : Decoding) (held : List ℕ) (k : ℕ) (o : Outcome) → GivesMessage (holding d held) k o ⊎ GivesFault (holding d held) k o
     → GivesMessage (record { ctx = d.ctx; held = held; stopped = false }) k o ⊎ GivesFault (record { ctx = d.ctx; held = held; stopped = false }) k o
@@ -77,22 +73,22 @@ gives_in d held k o (inr g) = inr (record { header = g.header; fault = g.fault; 
 
 module _ (d : Decoding) (piece : List ℕ) (n k : ℕ) (o : Outcome) (new : Decoding) (pulled : IsPulled d piece n (Some (k, o)) new) where
   pub within : n ≤ length piece
-  within = (either_of d piece n (k, o) new pulled).0
+  within = pulled.pulls.takes.within
 
   pub either : (n ≡ 0) ⊎ (d.held ≡ [])
-  either = (either_of d piece n (k, o) new pulled).1
+  either = pulled.pulls.one_place
 
   pub fed : IsFed d piece n (holding d (d.held ++ take n piece))
   fed = (pulls_as_fed d piece n (Some (k, o)) new pulled).fed
 
   pub gives : GivesHeld (record { ctx = d.ctx; held = d.held ++ take n piece; stopped = false }) o
-  gives = (k, gives_in d (d.held ++ take n piece) k o (pulls_as_fed d piece n (Some (k, o)) new pulled).next.1)
+  gives = (k, gives_in d (d.held ++ take n piece) k o pulled.next.1)
 
 -- ---- what waits behind a feed
 
 waits_of : (d : Decoding) (piece : List ℕ) (n : ℕ) (new : Decoding) → d.stopped ≡ false → IsPulled d piece n None new → Waits d.held
 waits_of d piece n new going (inl p) = absurd (true≢false (sym p.over ∙ going))
-waits_of d piece n new going (inr p) = p.waits
+waits_of d piece n new going (inr p) = p.to_feed.waits
 
 pub waits : (d : Decoding) → d.stopped ≡ false → IsLook d [] look.Feed → Waits d.held
 waits d going looks =

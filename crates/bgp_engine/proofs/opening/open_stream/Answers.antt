@@ -1,7 +1,8 @@
 use Rattle.std.proofs.Common.{[]}
+use Rattle.bgp_frame.proofs.Pulls.{nothing_waits}
 use Rattle.bgp_engine.specs.Opening.{terms_of}
 use Rattle.bgp_engine.proofs.Openings.{first_front, first_rests}
-use Rattle.bgp_engine.proofs.Walks.{front_of, nothing_waits}
+use Rattle.bgp_engine.proofs.Walks.{front_of}
 use Rattle.bgp_engine.proofs.opening.open_stream.Goals as goal
 
 pub run-requires-clause-going : goal.run-requires-clause-going

@@ -3,10 +3,11 @@ use Rattle.std.specs.List.{flat_map}
 use Rattle.std.proofs.lemmas.List.{take_all}
 use Rattle.bgp_frame.specs.declared.end.End.TheVariants as end
 use Rattle.bgp_frame.specs.Stream.{Gives}
+use Rattle.bgp_frame.proofs.Pulls.{nothing_waits}
 use Rattle.bgp_msg.specs.Outcome.{judgement}
 use Rattle.bgp_msg.specs.Decoder.{Decoding, fresh}
 use Rattle.bgp_msg.specs.Decoding.{Continues}
-use Rattle.bgp_msg.proofs.Decodings.{Outs, nothing_waits, continues_from, octets_in, piece_goes, piece_ends, waits_at_end}
+use Rattle.bgp_msg.proofs.Decodings.{Outs, continues_from, octets_in, piece_goes, piece_ends, waits_at_end}
 use Rattle.bgp_msg.proofs.decoding.decode_all.Goals as goal
 
 pub pieces-init : goal.pieces-init

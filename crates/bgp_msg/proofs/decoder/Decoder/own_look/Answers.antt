@@ -1,7 +1,6 @@
 use Rattle.bgp_msg.specs.OutcomeView.{outcome_value}
 use Rattle.bgp_msg.specs.Decoder.{behind}
-use Rattle.bgp_msg.proofs.Looks.{pulled_takes_memory}
-use Rattle.bgp_msg.proofs.Pulls.{on_err_any}
+use Rattle.bgp_msg.proofs.Pulls.{pulled_takes_memory, on_err_any}
 use Rattle.bgp_msg.proofs.decoder.Decoder.own_look.Goals as goal
 
 pub returns-in_err-outcome-in-Message-clause-memory : goal.returns-in_err-outcome-in-Message-clause-memory

@@ -3,8 +3,7 @@ use Rattle.bgp_msg.specs.Early.{IsEarly}
 use Rattle.bgp_msg.specs.declared.early.Early.{Early}
 use Rattle.bgp_msg.specs.declared.message.Message.TheVariants as message
 use Rattle.bgp_msg.specs.declared.outcome.Outcome.TheVariants as outcome
-use Rattle.bgp_msg.proofs.Fronts.{update_pulled}
-use Rattle.bgp_msg.proofs.Pulls.{pulls_as_fed}
+use Rattle.bgp_msg.proofs.Pulls.{update_pulled, pulls_as_fed}
 use Rattle.bgp_msg.proofs.decoder.Decoder.pull.Goals as goal
 
 pub returns-in-Update-clause-ok : goal.returns-in-Update-clause-ok

@@ -2,7 +2,7 @@ use Rattle.std.proofs.Common.{subst}
 use Rattle.bgp_msg.specs.Early.{IsEarly}
 use Rattle.bgp_msg.specs.OutcomeView.{outcome_value}
 use Rattle.bgp_msg.specs.declared.early.Early.{Early}
-use Rattle.bgp_msg.proofs.Fronts.{front_pulled, front_takes_memory}
+use Rattle.bgp_msg.proofs.Pulls.{front_pulled, front_takes_memory}
 use Rattle.bgp_msg.proofs.decoder.Decoder.pull_other.Goals as goal
 
 pub returns-in-Rare-clause-ok : goal.returns-in-Rare-clause-ok

@@ -1,0 +1,32 @@
+use Rattle.std.proofs.Common.{inl, inr}
+use Rattle.bgp_engine.specs.Walking.{walking}
+use Rattle.bgp_engine.proofs.Walks.{Moves-none, Moves-pulled, Moves-pulled-fault, not_waiting}
+use Rattle.bgp_engine.proofs.walk.Walk.judge.Goals as goal
+
+pub returns-in-Feed-clause-moves : goal.returns-in-Feed-clause-moves
+returns-in-Feed-clause-moves g c =
+    let w = c.args.self.now in
+    Moves-none (walking (g.P.Page.rules w.page) w.framer w.place w.tally w.ended) (g.P.Page.told w.page) c.args.octets.now (record { counting = c.requires.counting; waits = c.in-Feed.ensures.waits })
+
+pub returns-in_ok-class-in-Frame-clause-open : goal.returns-in_ok-class-in-Frame-clause-open
+returns-in_ok-class-in-Frame-clause-open g c none waits =
+    absurd (not_waiting c.args.self.now.framer c.args.octets.now c.in-Frame.taken none waits (inl (_, c.in-Frame.ensures.1.0)))
+
+pub returns-in_ok-class-in-Frame-clause-moves : goal.returns-in_ok-class-in-Frame-clause-moves
+returns-in_ok-class-in-Frame-clause-moves g c =
+    let w = c.args.self.now in
+    let old = walking (g.P.Page.rules w.page) w.framer w.place w.tally w.ended in
+    rw (c.count.ensures, c.clear.ensures, c.message.ensures.rules)
+    (Moves-pulled old c.args.octets.now (g.P.Page.told w.page) (g.P.Page.told c.message.new.self) c.in-Frame.taken c.requires.counting c.in-Frame.frame c.in_ok-class-in-Frame.class c.in-Frame.ensures c.requires.room c.in_ok-class-in-Frame.ensures.writes)
+
+pub returns-in_ok-fault-in-Fault-clause-open : goal.returns-in_ok-fault-in-Fault-clause-open
+returns-in_ok-fault-in-Fault-clause-open g c none waits =
+    let is = c.in-Fault.ensures.1 in
+    absurd (not_waiting c.args.self.now.framer c.args.octets.now c.in-Fault.taken none waits (inr (is.0, (c.in-Fault.fault, is.1))))
+
+pub returns-in_ok-fault-in-Fault-clause-moves : goal.returns-in_ok-fault-in-Fault-clause-moves
+returns-in_ok-fault-in-Fault-clause-moves g c =
+    let w = c.args.self.now in
+    let old = walking (g.P.Page.rules w.page) w.framer w.place w.tally w.ended in
+    rw (c.in_ok-fault-in-Fault.ensures.ok, c.fault.ensures.rules)
+    (Moves-pulled-fault old c.args.octets.now (g.P.Page.told w.page) (g.P.Page.told c.fault.new.self.page) c.in-Fault.taken c.requires.counting c.in-Fault.fault c.in-Fault.ensures c.in_ok-fault-in-Fault.ensures.writes)

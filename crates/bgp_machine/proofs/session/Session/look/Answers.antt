@@ -1,0 +1,20 @@
+use Rattle.std.proofs.Common.{subst}
+use Rattle.bgp_frame.specs.Pull.{IsToFeed}
+use Rattle.bgp_machine.specs.Session.{Machine}
+use Rattle.bgp_machine.proofs.Looks.{looked_as, finds_message, finds_fault, feeds}
+use Rattle.bgp_machine.proofs.session.Session.look.Goals as goal
+
+pub returns-in-Feed : goal.returns-in-Feed
+returns-in-Feed c = feeds c.args.self.now c.args.piece.now (subst (λ (x : Machine). IsToFeed x.held c.args.piece.now) c.self.view_is c.in-Feed.ensures)
+
+pub returns-in_ok-heard-in-Frame : goal.returns-in_ok-heard-in-Frame
+returns-in_ok-heard-in-Frame c =
+    let inside = c.self.inside in
+    looked_as c.args.self.now c.args.piece.now _ _ _ c.self.view_is c.new.ensures
+    (finds_message inside.config inside.standing inside.framer c.args.piece.now c.in-Frame.taken c.in_ok-heard-in-Frame.heard c.in-Frame.frame c.in-Frame.ensures c.in_ok-heard-in-Frame.ensures)
+
+pub returns-in_ok-heard-in-Fault : goal.returns-in_ok-heard-in-Fault
+returns-in_ok-heard-in-Fault c =
+    let inside = c.self.inside in
+    looked_as c.args.self.now c.args.piece.now _ _ _ c.self.view_is c.new-in-Fault.ensures
+    (finds_fault inside.config inside.standing inside.framer c.args.piece.now c.in-Fault.taken c.in_ok-heard-in-Fault.heard c.in-Fault.fault c.in-Fault.ensures c.in_ok-heard-in-Fault.ensures)
