@@ -10,7 +10,7 @@ use Rattle.bgp_wire.proofs.OctetLemmas.{AreOctets-take}
 use Rattle.bgp_wire.proofs.Pieces.{found_same, found_not}
 use Rattle.bgp_attr.specs.Flags.{is_extended}
 use Rattle.bgp_attr.specs.Tlv.{TlvValue, with_value, one_tlv, length_octets, tlv_octets}
-use Rattle.bgp_attr.specs.LengthField.{length_field}
+use Rattle.bgp_attr.specs.steps.LengthField.{length_field}
 use Rattle.bgp_attr.proofs.Readers.{tlv_with}
 
 -- the octets in front of what follows a value

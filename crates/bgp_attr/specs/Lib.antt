@@ -11,9 +11,7 @@ pub mod Spelling
 pub mod Written
 pub mod NumberIter
 pub mod TlvView
-pub mod LengthField
 pub mod TlvIter
-pub mod SegmentView
 pub mod PathView
 pub mod LargeStep
 pub mod LargeIter
@@ -25,4 +23,4 @@ pub mod JudgedView
 pub mod Length
 pub mod Laws
 pub mod AttrRef
-pub mod Appends
+pub mod steps

@@ -4,7 +4,7 @@ ghost use Rattle.std.specs.Prelude.{◌≡◌, ◌<◌, ◌≤◌, length, optio
 ghost use Rattle.bgp_attr.specs.Flags.{is_extended};
 ghost use Rattle.bgp_attr.specs.Tlv.{one_tlv, tlvs_of};
 ghost use Rattle.bgp_attr.specs.TlvView.{tlv_value};
-ghost use Rattle.bgp_attr.specs.LengthField.{length_field};
+ghost use Rattle.bgp_attr.specs.steps.LengthField.{length_field};
 
 use crate::flags::Flags;
 use crate::tlv::Tlv;

@@ -4,7 +4,7 @@ ghost use Rattle.std.specs.Prelude.{◌≡◌, ◌==◌, option_map};
 ghost use Rattle.std.specs.List.{list_any};
 ghost use Rattle.bgp_attr.specs.Numbers.{number_width, numbers_of};
 ghost use Rattle.bgp_attr.specs.Path.{is_known, one_segment, segment_fault, path_fault, path_has_zero, kind_of_segment};
-ghost use Rattle.bgp_attr.specs.SegmentView.{wire_segment};
+ghost use Rattle.bgp_attr.specs.steps.SegmentView.{wire_segment};
 
 use crate::numbers::first_number;
 use crate::path::SegKind;

@@ -27,7 +27,7 @@ use Rattle.bgp_msg.specs.Outcome.{of_open_fault, of_reading, of_verdict, of_body
 use Rattle.bgp_msg.specs.Written.{canonical, invalid_of, is_valid, is_too_long}
 use Rattle.bgp_engine.specs.declared.class.Class.TheVariants as class
 use Rattle.bgp_engine.specs.Narrow.{written_in}
-use Rattle.bgp_engine.specs.PageSteps.{WritesNarrow}
+use Rattle.bgp_engine.specs.steps.PageSteps.{WritesNarrow}
 
 -- ---- what is taken where AS numbers have four octets has no AS4 attribute
 

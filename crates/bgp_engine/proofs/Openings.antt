@@ -19,15 +19,15 @@ use Rattle.bgp_engine.specs.declared.tally.Tally.{Tally}
 use Rattle.bgp_engine.specs.declared.opening.Stage.{Stage}
 use Rattle.bgp_engine.specs.declared.opening.Stage.TheVariants as stage
 use Rattle.bgp_engine.specs.Agree.{agreed}
-use Rattle.bgp_engine.specs.Engine.{ClosesBy, Rests, Takes}
+use Rattle.bgp_engine.specs.steps.Engine.{ClosesBy, Rests, Takes}
 use Rattle.bgp_engine.specs.File.{is_part, first_open, open_in}
-use Rattle.bgp_engine.specs.Opening.{AgreesBy, GoesOn, IsFirst, IsFresh, ReadyAt, Settles, SettlesAt, Terms, opening, reports_for, reports_in}
+use Rattle.bgp_engine.specs.steps.Opening.{AgreesBy, GoesOn, IsFirst, IsFresh, ReadyAt, Settles, SettlesAt, Terms, opening, reports_for, reports_in}
 use Rattle.bgp_engine.specs.Opens.{ReportedIn, context_by, fit_of, unagreed, unagreed_end}
 use Rattle.bgp_engine.specs.Report.{Report, behind, IsOver}
 use Rattle.bgp_engine.specs.Rules.{Rules, IsReport}
 use Rattle.bgp_engine.specs.Run.{Reports}
 use Rattle.bgp_engine.specs.Tally.{no_tally}
-use Rattle.bgp_engine.specs.Walking.{Walking, IsGoing, reports_of, walking}
+use Rattle.bgp_engine.specs.steps.Walking.{Walking, IsGoing, reports_of, walking}
 use Rattle.bgp_engine.proofs.FirstOpens.{waits_part, frame_whole, frame_open, fault_whole, fault_open, part_open}
 use Rattle.bgp_engine.proofs.Walks.{front_of, some_report}
 

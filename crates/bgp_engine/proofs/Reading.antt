@@ -11,12 +11,12 @@ use Rattle.bgp_engine.specs.declared.fault.ToolFault.{ToolFault}
 use Rattle.bgp_engine.specs.declared.fault.ToolFault.TheVariants as fault
 use Rattle.bgp_engine.specs.declared.hex_text.HexText.{HexText}
 use Rattle.bgp_engine.specs.declared.tally.Tally.{Tally}
-use Rattle.bgp_engine.specs.HexSteps.{pending, place}
+use Rattle.bgp_engine.specs.steps.HexSteps.{pending, place}
 use Rattle.bgp_engine.specs.Output.{IsFront, AppendsFront, FailsWithin}
 use Rattle.bgp_engine.specs.Report.{Report, behind, IsWaiting}
-use Rattle.bgp_engine.specs.Engine.{GoesOn, Rests, IsTotal}
+use Rattle.bgp_engine.specs.steps.Engine.{GoesOn, Rests, IsTotal}
 use Rattle.bgp_engine.specs.Run.{Io, Reports, stream_of, bad_of, IsAllRead, Finishes, IsBadAt, Fails, Answers}
-use Rattle.bgp_engine.specs.Blocks.{MeetsBlock, MeetsBad, MeetsOver, WritesAll, WritesNone, Finished}
+use Rattle.bgp_engine.specs.steps.Blocks.{MeetsBlock, MeetsBad, MeetsOver, WritesAll, WritesNone, Finished}
 use Rattle.bgp_engine.proofs.HexPairs.{spelled-nil, spelled-digit, spelled-octets, bad_from-nil, bad_from-digit}
 
 module _ (reports0 : Reports) (hex : Bool) (r0 w0 : Option (List ℕ)) where

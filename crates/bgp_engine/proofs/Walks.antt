@@ -24,11 +24,11 @@ use Rattle.bgp_engine.specs.declared.fault.ToolFault.{ToolFault}
 use Rattle.bgp_engine.specs.Tally.{no_tally}
 use Rattle.bgp_engine.specs.Report.{Report, behind, IsOver}
 use Rattle.bgp_engine.specs.Rules.{Rules, messages_in, counted, passed, total, lines_from, tally_from, rest_of, report_of, IsReport}
-use Rattle.bgp_engine.specs.Pages.{Writes, WritesFault, IsAnswer}
-use Rattle.bgp_engine.specs.Engine.{Rests, Takes, ClosesBy, Closes}
+use Rattle.bgp_engine.specs.steps.Pages.{Writes, WritesFault, IsAnswer}
+use Rattle.bgp_engine.specs.steps.Engine.{Rests, Takes, ClosesBy, Closes}
 use Rattle.bgp_engine.specs.Run.{Reports}
 use Rattle.bgp_engine.specs.declared.fault.ToolFault.TheVariants as fault
-use Rattle.bgp_engine.specs.Walking.{Walking, closing, reports_by, reports_of, IsCounting, IsGoing, IsReady, IsReadyBy, StandsBy, Moves, place_behind, ended_by, room_by, room_of, walking}
+use Rattle.bgp_engine.specs.steps.Walking.{Walking, closing, reports_by, reports_of, IsCounting, IsGoing, IsReady, IsReadyBy, StandsBy, Moves, place_behind, ended_by, room_by, room_of, walking}
 
 messages_in-bound : (n : ℕ) → messages_in n ≤ 1
 messages_in-bound n = one_at_most (n == 0)

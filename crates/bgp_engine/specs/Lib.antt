@@ -1,24 +1,17 @@
 -- What the engines read, write and count.
 pub mod Tally
 pub mod HexText
-pub mod HexDigits
-pub mod HexSteps
 pub mod Output
 pub mod Report
 pub mod Run
 pub mod Rules
-pub mod Engine
-pub mod Blocks
-pub mod Pages
-pub mod Walking
 pub mod Show
 pub mod ShowJson
 pub mod Check
 pub mod ToHex
 pub mod FromHex
 pub mod Narrow
-pub mod PageSteps
 pub mod File
 pub mod Agree
 pub mod Opens
-pub mod Opening
+pub mod steps

@@ -6,7 +6,7 @@ use Rattle.bgp_msg.specs.Outcome.{is_reset}
 use Rattle.bgp_text.specs.JsonEnd.{end_json}
 use Rattle.bgp_text.specs.JsonOutcome.{outcome_json}
 use Rattle.bgp_engine.specs.declared.class.Class.{Class}
-use Rattle.bgp_engine.specs.Pages.{is_last}
+use Rattle.bgp_engine.specs.steps.Pages.{is_last}
 use Rattle.bgp_engine.specs.Rules.{Rules, IsReport}
 use Rattle.bgp_engine.specs.Run.{Reports}
 use Rattle.bgp_engine.specs.Show.{class_of, show_rules}

@@ -2,7 +2,7 @@
 
 ghost use Rattle.std.specs.Prelude.{ℕ, List, Bool, ◌≡◌, ◌+◌, ◌≤◌, [], length, IfOk, OnOk, OnErr};
 ghost use Rattle.bgp_engine.specs.Report.{Report};
-ghost use Rattle.bgp_engine.specs.Engine.{Takes, IsTotal, Closes};
+ghost use Rattle.bgp_engine.specs.steps.Engine.{Takes, IsTotal, Closes};
 
 use crate::fault::ToolFault;
 use crate::tally::Tally;

@@ -4,7 +4,7 @@ ghost use Rattle.std.specs.Prelude.{◌≡◌, ◌+◌, ◌*◌, ◌≤◌, ◌<
 ghost use Rattle.std.specs.Option.{ForSome};
 ghost use Rattle.hex.specs.Hex.{hex_digit_value, is_hex_digit};
 ghost use Rattle.bgp_engine.specs.HexText.{is_blank, digit_value};
-ghost use Rattle.bgp_engine.specs.HexDigits.{value_or_none, FirstPair, IsPair};
+ghost use Rattle.bgp_engine.specs.steps.HexDigits.{value_or_none, FirstPair, IsPair};
 
 use arrayvec::ArrayVec;
 
@@ -117,7 +117,7 @@ impl HexText {
     ghost use Rattle.std.specs.Prelude.{◌≡◌, ◌+◌, ◌-◌, ◌≤◌, ◌<◌, ◌^◌, [], None, length, MatchOption};
     ghost use Rattle.std.specs.Option.{option_map};
     ghost use Rattle.bgp_wire.specs.Octets.{AreOctets};
-    ghost use Rattle.bgp_engine.specs.HexSteps.{ReadsOn, Continues, Breaks, ReadsPairs};
+    ghost use Rattle.bgp_engine.specs.steps.HexSteps.{ReadsOn, Continues, Breaks, ReadsPairs};
 
     /// A reader at the front of a text.
     pub(crate) fn new() -> HexText

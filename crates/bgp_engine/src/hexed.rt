@@ -3,6 +3,7 @@
 ghost use Rattle.std.specs.Prelude.{◌≡◌, ◌+◌, ◌≤◌, ◌++◌, false, length, OnOk};
 ghost use Rattle.hex.specs.Hex.{encode_lower};
 ghost use Rattle.bgp_frame.specs.Kind.{IsLength};
+ghost use Rattle.bgp_frame.specs.Step.{message_in};
 ghost use Rattle.bgp_engine.specs.Run.{Answers, io};
 ghost use Rattle.bgp_engine.specs.ToHex.{Hexed, hex_line, fault_line, rest_line};
 
@@ -32,7 +33,7 @@ fn put_digits(text: &mut Vec<u8>, octets: &[u8]) -> Result<(), AllocError>
 // A whole message as digits.
 fn put_message(text: &mut Vec<u8>, frame: Frame<'_>) -> Result<(), AllocError>
     requires { IsLength frame.kind (19 + length frame.body.now) }
-    ensures { OnOk result (text.new.items ≡ text.old.items ++ hex_line (record { kind = frame.entry.kind; body = frame.entry.body.now })) }
+    ensures { OnOk result (text.new.items ≡ text.old.items ++ hex_line (message_in frame.entry)) }
 {
     put_digits(text, &head(frame.kind, frame.body.len() as u16))?;
     put_digits(text, frame.body)?;

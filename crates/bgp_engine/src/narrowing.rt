@@ -4,12 +4,13 @@ ghost use Rattle.std.specs.Prelude.{◌≡◌, ◌+◌, ◌≤◌, ◌++◌, tru
 ghost use Rattle.bgp_wire.specs.Octets.{AreOctets};
 ghost use Rattle.bgp_frame.specs.Frame.{octets_of};
 ghost use Rattle.bgp_frame.specs.Kind.{IsLength};
+ghost use Rattle.bgp_frame.specs.Step.{message_in};
 ghost use Rattle.bgp_msg.specs.Outcome.{out_of};
 ghost use Rattle.bgp_msg.specs.declared.message.Message.TheVariants as message;
 ghost use Rattle.bgp_update.specs.As4.{HasNoAs4, narrowed_update};
 ghost use Rattle.bgp_update.specs.View.{update_value};
 ghost use Rattle.bgp_update.specs.Widths.{with_as4};
-ghost use Rattle.bgp_engine.specs.PageSteps.{WritesNarrow};
+ghost use Rattle.bgp_engine.specs.steps.PageSteps.{WritesNarrow};
 ghost use Rattle.bgp_engine.specs.Narrow.{Narrowed, written_in, narrowed_outcome, narrow_answer};
 ghost use Rattle.bgp_engine.specs.Run.{Answers, io};
 
@@ -35,7 +36,7 @@ fn two_octets(ctx: &Context) -> Context
 // Appends a message as it came.
 fn put_frame(octets: &mut Vec<u8>, frame: Frame<'_>) -> Result<(), AllocError>
     requires { IsLength frame.kind (19 + length frame.body.now) }
-    ensures { OnOk result (octets.new.items ≡ octets.old.items ++ octets_of (record { kind = frame.entry.kind; body = frame.entry.body.now })) }
+    ensures { OnOk result (octets.new.items ≡ octets.old.items ++ octets_of (message_in frame.entry)) }
 {
     let header = head(frame.kind, frame.body.len() as u16);
     octets.extend_from_slice(&header)?;
@@ -87,7 +88,7 @@ fn put_told(
 ) -> Result<Class, AllocError>
     requires wide { ctx.now.as4 ≡ true }
     requires long { IsLength frame.kind (19 + length frame.body.now) }
-    ensures { IfOk result (λ class. WritesNarrow octets.old.items octets.new.items (narrowed_outcome ctx.now (record { kind = frame.entry.kind; body = frame.entry.body.now }) (out_of ctx.now (record { kind = frame.entry.kind; body = frame.entry.body.now }))) class) }
+    ensures { IfOk result (λ class. WritesNarrow octets.old.items octets.new.items (narrowed_outcome ctx.now (message_in frame.entry) (out_of ctx.now (message_in frame.entry))) class) }
 {
     are_octets(frame.body);
     let mut place = UpdateView::empty();

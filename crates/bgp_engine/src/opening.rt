@@ -62,9 +62,9 @@ impl<P: Page> Opening<'_, P> {
     ghost use Rattle.std.specs.Prelude.{◌≡◌, ◌+◌, ◌≤◌, ◌^◌, ◌++◌, length, IfOk, OnOk, OnErr};
     ghost use Rattle.bgp_wire.specs.Octets.{AreOctets};
     ghost use Rattle.bgp_engine.specs.declared.opening.Stage.TheVariants as stage;
-    ghost use Rattle.bgp_engine.specs.Engine.{IsTotal, Takes};
-    ghost use Rattle.bgp_engine.specs.Opening.{AgreesBy, GoesOn, IsFirst, IsFresh, ReadyIn, Settles, opening, reports_in, room_in, terms_of};
-    ghost use Rattle.bgp_engine.specs.Walking.{IsGoing, IsReady, reports_of, room_of, walking};
+    ghost use Rattle.bgp_engine.specs.steps.Engine.{IsTotal, Takes};
+    ghost use Rattle.bgp_engine.specs.steps.Opening.{AgreesBy, GoesOn, IsFirst, IsFresh, ReadyIn, Settles, opening, reports_in, room_in, terms_of};
+    ghost use Rattle.bgp_engine.specs.steps.Walking.{IsGoing, IsReady, reports_of, room_of, walking};
 
     // Agrees on a context, where there is one and the page can be written in it.
     fn agree(&mut self, ctx: Option<Context>)
@@ -147,8 +147,8 @@ impl<P: Page> Opening<'_, P> {
 
 impl<P: Page> Engine for Opening<'_, P> {
     ghost use Rattle.std.specs.Prelude.{◌≡◌};
-    ghost use Rattle.bgp_engine.specs.Opening.{Opening, GoesOn, ReadyIn, opening, reports_in, room_in, terms_of};
-    ghost use Rattle.bgp_engine.specs.Walking.{walking};
+    ghost use Rattle.bgp_engine.specs.steps.Opening.{Opening, GoesOn, ReadyIn, opening, reports_in, room_in, terms_of};
+    ghost use Rattle.bgp_engine.specs.steps.Walking.{walking};
 
     ghost State = { Opening P.Outcome };
 

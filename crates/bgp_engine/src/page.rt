@@ -2,9 +2,10 @@
 
 ghost use Rattle.std.specs.Prelude.{ℕ, Bool, true, List, ◌≡◌, ◌+◌, ◌++◌, [], length, IfOk, OnOk};
 ghost use Rattle.bgp_frame.specs.Kind.{IsLength};
+ghost use Rattle.bgp_frame.specs.Step.{message_in};
 ghost use Rattle.bgp_open.specs.declared.context.Context.{Context};
 ghost use Rattle.bgp_engine.specs.Rules.{Rules};
-ghost use Rattle.bgp_engine.specs.Pages.{Writes, WritesFault, IsAnswer};
+ghost use Rattle.bgp_engine.specs.steps.Pages.{Writes, WritesFault, IsAnswer};
 
 use crate::class::Class;
 use crate::fault::ToolFault;
@@ -39,7 +40,7 @@ pub(crate) trait Page {
     /// Judges a whole message at a place of the stream, and collects what is written of it.
     fn message(&mut self, place: u64, frame: Frame<'_>) -> Result<Class, AllocError>
         requires { IsLength frame.kind (19 + length frame.body.now) }
-        ensures writes { IfOk result (λ class. Writes (rules self.old) (told self.old) (told self.new) place frame.entry.len (record { kind = frame.entry.kind; body = frame.entry.body.now }) class) }
+        ensures writes { IfOk result (λ class. Writes (rules self.old) (told self.old) (told self.new) place frame.entry.len (message_in frame.entry) class) }
         ensures rules { rules self.new ≡ rules self.old };
 
     /// Collects what is written of a header's fault.

@@ -2,8 +2,8 @@
 
 ghost use Rattle.std.specs.Prelude.{◌≡◌, ◌+◌, ◌≤◌, ◌<◌, ◌^◌, false, [], None, length, IfOk, OnOk, OnErr};
 ghost use Rattle.bgp_wire.specs.Octets.{AreOctets};
-ghost use Rattle.bgp_engine.specs.Blocks.{Meets, Finished};
-ghost use Rattle.bgp_engine.specs.Engine.{IsTotal, Rests};
+ghost use Rattle.bgp_engine.specs.steps.Blocks.{Meets, Finished};
+ghost use Rattle.bgp_engine.specs.steps.Engine.{IsTotal, Rests};
 ghost use Rattle.bgp_engine.specs.Run.{Answers, io};
 
 use crate::engine::Engine;

@@ -3,9 +3,10 @@
 ghost use Rattle.std.specs.Prelude.{◌≡◌, ◌+◌, ◌≤◌, [], length, IfOk};
 ghost use Rattle.std.specs.String.{string_bytes};
 ghost use Rattle.bgp_frame.specs.Kind.{IsLength};
+ghost use Rattle.bgp_frame.specs.Step.{message_in};
 ghost use Rattle.bgp_msg.specs.Outcome.{out_of};
 ghost use Rattle.bgp_engine.specs.Run.{Answers, io};
-ghost use Rattle.bgp_engine.specs.PageSteps.{WritesOutcome};
+ghost use Rattle.bgp_engine.specs.steps.PageSteps.{WritesOutcome};
 ghost use Rattle.bgp_engine.specs.Show.{Shown};
 
 use crate::class::{Class, class_of};
@@ -30,7 +31,7 @@ fn put_frame(
     frame: Frame<'_>,
 ) -> Result<Class, AllocError>
     requires { IsLength frame.kind (19 + length frame.body.now) }
-    ensures { IfOk result (λ class. WritesOutcome (string_bytes text.old) (string_bytes text.new) place frame.entry.len (out_of ctx.now (record { kind = frame.entry.kind; body = frame.entry.body.now })) class) }
+    ensures { IfOk result (λ class. WritesOutcome (string_bytes text.old) (string_bytes text.new) place frame.entry.len (out_of ctx.now (message_in frame.entry)) class) }
 {
     let len = frame.len;
     let mut view = UpdateView::empty();

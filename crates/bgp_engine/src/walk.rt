@@ -30,12 +30,12 @@ impl<P: Page> Walk<P> {
     ghost use Rattle.std.specs.Prelude.{◌≡◌, ◌+◌, ◌<◌, ◌≤◌, ◌^◌, [], None, Some, length, drop, IfOk, OnOk};
     ghost use Rattle.bgp_frame.specs.declared.end.End.TheVariants as end;
     ghost use Rattle.bgp_engine.specs.declared.class.Class.TheVariants as class;
-    ghost use Rattle.bgp_engine.specs.Pages.{WritesFault};
+    ghost use Rattle.bgp_engine.specs.steps.Pages.{WritesFault};
     ghost use Rattle.bgp_engine.specs.Rules.{counted};
     ghost use Rattle.bgp_engine.specs.Tally.{no_tally};
-    ghost use Rattle.bgp_engine.specs.Walking.{Walking, IsCounting, IsGoing, Moves, place_behind, ended_by, reports_of, walking};
+    ghost use Rattle.bgp_engine.specs.steps.Walking.{Walking, IsCounting, IsGoing, Moves, place_behind, ended_by, reports_of, walking};
     ghost use Rattle.bgp_frame.specs.Frame.{Waits};
-    ghost use Rattle.bgp_engine.specs.Engine.{Closes};
+    ghost use Rattle.bgp_engine.specs.steps.Engine.{Closes};
     ghost use Rattle.bgp_engine.specs.Report.{IsOver};
 
     /// A walk at the front of a stream.
@@ -170,7 +170,7 @@ impl<P: Page> Walk<P> {
 
 impl<P: Page> Engine for Walk<P> {
     ghost use Rattle.std.specs.Prelude.{◌≡◌, ◌+◌, ◌≤◌, [], None, length, IfOk, OnOk, OnErr};
-    ghost use Rattle.bgp_engine.specs.Walking.{Walking, IsGoing, IsReady, reports_of, room_of, walking};
+    ghost use Rattle.bgp_engine.specs.steps.Walking.{Walking, IsGoing, IsReady, reports_of, room_of, walking};
 
     ghost State = { Walking P.Outcome };
 

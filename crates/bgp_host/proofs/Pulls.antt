@@ -17,7 +17,7 @@ use Rattle.bgp_host.specs.declared.link.Link.{Link}
 use Rattle.bgp_host.specs.declared.link.Link.TheVariants.{Same, Up, Down}
 use Rattle.bgp_host.specs.Deeds.{Deed, actions_of, link_behind, Records}
 use Rattle.bgp_host.specs.Turns.{Cause, Told, Heard, Gives, Turn, link_after, Goes, causes_of, Hosted, Runs, RunsFrom}
-use Rattle.bgp_host.specs.Steps.{Acts, one_if_any, weight, PullsOn, PullsNone, PullsOnce, taken_by}
+use Rattle.bgp_host.specs.steps.Steps.{Acts, one_if_any, weight, PullsOn, PullsNone, PullsOnce, taken_by}
 use Rattle.bgp_host.proofs.Records.{grows_none}
 use Rattle.bgp_host.proofs.Turns.{at, one_turn, next_turn}
 

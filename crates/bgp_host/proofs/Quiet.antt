@@ -14,7 +14,7 @@ use Rattle.bgp_host.specs.declared.link.Link.{Link}
 use Rattle.bgp_host.specs.declared.link.Link.TheVariants.{Same, Up, Down}
 use Rattle.bgp_host.specs.Deeds.{Deed, actions_of, sent, link_of, link_behind}
 use Rattle.bgp_host.specs.Turns.{Cause, Told, Gives, first_link, Hosted, RunsFrom}
-use Rattle.bgp_host.specs.Steps.{OneTurn, IsNotUp}
+use Rattle.bgp_host.specs.steps.Steps.{OneTurn, IsNotUp}
 use Rattle.bgp_host.proofs.Turns.{runs_none}
 
 -- ---- actions that ask nothing of the connection that can fail

@@ -14,7 +14,7 @@ use Rattle.bgp_host.specs.declared.link.Link.TheVariants.{Same}
 use Rattle.bgp_host.specs.Records.{Call, Sent, Tick, Notice, Grows}
 use Rattle.bgp_host.specs.Deeds.{sends, sent, all_calls, Records, Answers}
 use Rattle.bgp_host.specs.Turns.{Cause, Told, Heard, Gave, Gives, first_calls, first_link, Turn, link_after, turn_ticks, turn_notices, IsDue, Goes, cause_if_free, causes_of, Hosted, hosted, RunsFrom, Runs, ArePulls, Hears, HearsSome, SendsOne}
-use Rattle.bgp_host.specs.Steps.{Acts, OneTurn, PullsOn, PullsNone, PullsOnce}
+use Rattle.bgp_host.specs.steps.Steps.{Acts, OneTurn, PullsOn, PullsNone, PullsOnce}
 use Rattle.bgp_host.proofs.Records.{grows_none, grows_both}
 
 -- ---- one call

@@ -2,4 +2,4 @@
 pub mod Records
 pub mod Deeds
 pub mod Turns
-pub mod Steps
+pub mod steps

@@ -5,7 +5,7 @@ ghost use Rattle.bgp_machine.specs.Sending.{IsRefused};
 ghost use Rattle.bgp_machine.specs.Session.{fresh, own_octets};
 ghost use Rattle.bgp_host.specs.declared.link.Link.TheVariants.{Same};
 ghost use Rattle.bgp_host.specs.Turns.{Told, hosted, RunsFrom, Runs, Hears, HearsSome, SendsOne};
-ghost use Rattle.bgp_host.specs.Steps.{Acts, OneTurn, IsNotUp, PullsOnce, taken_by};
+ghost use Rattle.bgp_host.specs.steps.Steps.{Acts, OneTurn, IsNotUp, PullsOnce, taken_by};
 
 use crate::acting::{carry_out, put};
 use crate::clock::Clock;

@@ -1,5 +1,5 @@
 -- A script that is run: what is written of it.
 pub mod Trace
-pub mod Whole
 pub mod Loop
 pub mod Carried
+pub mod steps

@@ -3,9 +3,10 @@
 ghost use Rattle.std.specs.Prelude.{◌≡◌, ◌+◌, ◌++◌, codes, length, OnOk};
 ghost use Rattle.std.specs.String.{string_bytes};
 ghost use Rattle.bgp_frame.specs.Kind.{IsLength};
+ghost use Rattle.bgp_frame.specs.Step.{message_in};
 ghost use Rattle.bgp_script.specs.NoteList.{side_name};
 ghost use Rattle.bgp_loop.specs.Trace.{nothing_came, with_octets, behind_message, message_lines, fault_lines, heard_lines, context_or_none, nothing_traced, begins_at, message_heard};
-ghost use Rattle.bgp_loop.specs.Whole.{ShowsWhole};
+ghost use Rattle.bgp_loop.specs.steps.Whole.{ShowsWhole};
 
 use bgp_frame::{Frame, HeadFault, Step, front};
 use bgp_msg::{Outcome, view_frame};
@@ -116,7 +117,7 @@ fn put_frame(
     frame: Frame<'_>,
 ) -> Result<(), AllocError>
     requires { IsLength frame.kind (19 + length frame.body.now) }
-    ensures { OnOk result (string_bytes text.new ≡ string_bytes text.old ++ message_lines side ctx.now place frame.entry.len (record { kind = frame.entry.kind; body = frame.entry.body.now })) }
+    ensures { OnOk result (string_bytes text.new ≡ string_bytes text.old ++ message_lines side ctx.now place frame.entry.len (message_in frame.entry)) }
 {
     let len = frame.len;
     let mut view = UpdateView::empty();

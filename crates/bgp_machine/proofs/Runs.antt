@@ -4,7 +4,7 @@ use Rattle.bgp_wire.specs.Octets.{AreOctets}
 use Rattle.bgp_wire.proofs.OctetLemmas.{AreOctets-drop, AreOctets-front, AreOctets-back}
 use Rattle.bgp_machine.specs.declared.action.Action.{Action}
 use Rattle.bgp_machine.specs.Cutting.{IsAtRest, Piece, joined, Cuts, Done, behind, by_octets}
-use Rattle.bgp_machine.specs.Ready.{IsReady, left_to_do}
+use Rattle.bgp_machine.specs.steps.Ready.{IsReady, left_to_do}
 use Rattle.bgp_machine.specs.Run.{by_pull, by_look, given, Hears, Run, all_octets, Runs}
 use Rattle.bgp_machine.specs.Session.{Machine}
 use Rattle.bgp_machine.proofs.Cuttings.{cuts_settle, done, joins_parts, same_done, Settles, took_none, waits_at}

@@ -12,7 +12,7 @@ use Rattle.bgp_frame.proofs.Pulls.{held_or_front, nothing_waits}
 use Rattle.bgp_machine.specs.declared.action.Action.{Action}
 use Rattle.bgp_machine.specs.Cutting.{IsAtRest, Done, behind, by_octets}
 use Rattle.bgp_machine.specs.Pulling.{PullsNothing, PullsSome, PullsStep, IsPulled}
-use Rattle.bgp_machine.specs.Ready.{IsReady, left_to_do, one_if_any, weight}
+use Rattle.bgp_machine.specs.steps.Ready.{IsReady, left_to_do, one_if_any, weight}
 use Rattle.bgp_machine.specs.Session.{Machine, holding, Does, CountsFed}
 use Rattle.bgp_machine.specs.Standing.{listens}
 use Rattle.bgp_machine.proofs.Cuttings.{done, drops_all, emptied, front_by_octets, idles, in_parts, none_left, not_both, rests, rests_empty, settled_by, took_none}

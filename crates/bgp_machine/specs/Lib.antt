@@ -5,9 +5,9 @@ pub mod Heard
 pub mod Life
 pub mod Look
 pub mod Pulling
-pub mod Ready
 pub mod Run
 pub mod Sending
 pub mod Session
 pub mod Standing
 pub mod Table
+pub mod steps

@@ -5,6 +5,7 @@ ghost use Rattle.bgp_frame.specs.declared.kind.Kind.TheVariants as kind;
 ghost use Rattle.bgp_frame.specs.Kind.{IsLength};
 ghost use Rattle.bgp_frame.specs.Notification.{notification_of_view};
 ghost use Rattle.bgp_frame.specs.ShortNotification.{short_value};
+ghost use Rattle.bgp_frame.specs.Step.{message_in};
 ghost use Rattle.bgp_open.specs.Config.{Settings};
 ghost use Rattle.bgp_open.specs.OpenFault.{open_notification, reading_of};
 ghost use Rattle.bgp_update.specs.Verdict.{has_value, verdict_of};
@@ -67,7 +68,7 @@ fn hear_in_open_sent<'a>(config: &Config, frame: Frame<'a>) -> Heard<'a>
     requires { IsLength frame.kind (19 + length frame.body.now) }
     ensures does { (x : Standing) → on_heard x result ≡ on_message config.now x state.OpenSent frame.entry.kind frame.entry.body.now }
     ensures suits { suits state.OpenSent result ≡ true }
-    ensures said { (x : Standing) → IsSaid config.now x (record { kind = frame.entry.kind; body = frame.entry.body.now }) result }
+    ensures said { (x : Standing) → IsSaid config.now x (message_in frame.entry) result }
 {
     match frame.kind {
         Kind::Open => hear_open(config, frame.body),
@@ -84,7 +85,7 @@ fn hear_in_open_confirm<'a>(frame: Frame<'a>) -> Heard<'a>
     requires { IsLength frame.kind (19 + length frame.body.now) }
     ensures does { (s : Settings) (x : Standing) → on_heard x result ≡ on_message s x state.OpenConfirm frame.entry.kind frame.entry.body.now }
     ensures suits { suits state.OpenConfirm result ≡ true }
-    ensures said { (s : Settings) (x : Standing) → IsSaid s x (record { kind = frame.entry.kind; body = frame.entry.body.now }) result }
+    ensures said { (s : Settings) (x : Standing) → IsSaid s x (message_in frame.entry) result }
 {
     match frame.kind {
         Kind::Keepalive => Heard::Keepalive,
@@ -125,7 +126,7 @@ fn hear_in_established<'b, 'a>(
     requires { IsLength frame.kind (19 + length frame.body.now) }
     ensures does { (s : Settings) (x : Standing) → x.context ≡ Some context.now → on_heard x result ≡ on_message s x state.Established frame.entry.kind frame.entry.body.now }
     ensures suits { suits state.Established result ≡ true }
-    ensures said { (s : Settings) (x : Standing) → x.context ≡ Some context.now → IsSaid s x (record { kind = frame.entry.kind; body = frame.entry.body.now }) result }
+    ensures said { (s : Settings) (x : Standing) → x.context ≡ Some context.now → IsSaid s x (message_in frame.entry) result }
     ensures update { has_routes result ≡ true → frame.entry.kind ≡ kind.Update }
     ensures value { has_routes result ≡ true → has_value (verdict_of context.now frame.entry.body.now) ≡ true }
 {
@@ -147,7 +148,7 @@ impl Standing {
         place: &'b mut UpdateView<'a>,
     ) -> Option<Heard<'b>>
         requires { IsLength frame.kind (19 + length frame.body.now) }
-        ensures { IsHeardOf config.now self.now (record { kind = frame.entry.kind; body = frame.entry.body.now }) result }
+        ensures { IsHeardOf config.now self.now (message_in frame.entry) result }
     {
         match &self.phase {
             Phase::OpenSent => Some(hear_in_open_sent(config, frame)),

@@ -17,7 +17,7 @@ use Rattle.bgp_open.specs.declared.context.Context.{Context}
 use Rattle.bgp_msg.specs.declared.outcome.Outcome.{Outcome}
 use Rattle.bgp_msg.specs.Outcome.{out_of, of_fault, is_reset, judgement}
 use Rattle.bgp_msg.specs.Decoder.{Decoding, fresh, holding, GivesMessage, GivesFault, IsNext}
-use Rattle.bgp_msg.specs.Decoding.{GoesOn, EndsBy, Continues, Ends, Decodes, end_behind}
+use Rattle.bgp_msg.specs.steps.Decoding.{GoesOn, EndsBy, Continues, Ends, Decodes, end_behind}
 
 abbrev pub Outs : Type 0
 Outs = List (ℕ × Outcome)

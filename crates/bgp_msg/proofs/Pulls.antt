@@ -21,7 +21,7 @@ use Rattle.bgp_msg.specs.declared.outcome.Outcome.TheVariants as outcome
 use Rattle.bgp_msg.specs.Outcome.{out_of, of_fault}
 use Rattle.bgp_msg.specs.OutcomeView.{has_lists}
 use Rattle.bgp_msg.specs.Decoder.{Decoding, TakesMemory, FrontTakesMemory, CountsFed, holding, behind, GivesMessage, GivesFault, PullsNothing, IsPulled, IsFedAndNext}
-use Rattle.bgp_msg.specs.Early.{IsAtFront}
+use Rattle.bgp_msg.specs.steps.Early.{IsAtFront}
 use Rattle.bgp_msg.specs.Look.{IsLook}
 use Rattle.bgp_msg.proofs.Lists.{lists_have_kinds, lists_go_on}
 

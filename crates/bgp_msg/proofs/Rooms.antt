@@ -8,7 +8,7 @@ use Rattle.bgp_frame.specs.Head.{header}
 use Rattle.bgp_update.specs.declared.invalid.Invalid.{Invalid}
 use Rattle.bgp_update.specs.declared.write.WriteFault.{WriteFault}
 use Rattle.bgp_update.specs.declared.write.WriteFault.TheVariants.{NotValid}
-use Rattle.bgp_msg.specs.Room.{refusal_of}
+use Rattle.bgp_msg.specs.steps.Room.{refusal_of}
 use Rattle.bgp_msg.proofs.Encodings.{not_ok, not_memory}
 
 module _ (old room body mid : List ℕ) where

@@ -2,10 +2,8 @@
 pub mod Outcome
 pub mod OutcomeView
 pub mod Written
-pub mod Room
 pub mod Seen
 pub mod Decoder
 pub mod Look
-pub mod Early
-pub mod Decoding
 pub mod Laws
+pub mod steps

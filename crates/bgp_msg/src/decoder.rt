@@ -2,7 +2,7 @@
 
 ghost use Rattle.std.specs.Prelude.{◌≡◌, ◌<◌, ◌≤◌, ◌⊎◌, true, false, [], Some, length, IfOk, OnErr};
 ghost use Rattle.bgp_msg.specs.Decoder.{fresh, behind, IsFed, IsNext, TakesMemory, IsPulled, IsFedAndNext, FrontTakesMemory};
-ghost use Rattle.bgp_msg.specs.Early.{IsEarly};
+ghost use Rattle.bgp_msg.specs.steps.Early.{IsEarly};
 ghost use Rattle.bgp_msg.specs.Look.{IsLook, IsOwnLook, gone};
 ghost use Rattle.bgp_msg.specs.OutcomeView.{outcome_value, has_lists};
 

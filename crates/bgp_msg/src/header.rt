@@ -3,7 +3,7 @@
 ghost use Rattle.std.specs.Prelude.{◌≡◌, ◌+◌, ◌≤◌, ◌++◌, length, take, drop};
 ghost use Rattle.bgp_frame.specs.Head.{header};
 ghost use Rattle.bgp_frame.specs.Kind.{IsLength};
-ghost use Rattle.bgp_msg.specs.Room.{room_of, refusal_of};
+ghost use Rattle.bgp_msg.specs.steps.Room.{room_of, refusal_of};
 
 use bgp_frame::{Kind, head};
 use bgp_update::WriteFault;

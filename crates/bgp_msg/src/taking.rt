@@ -3,6 +3,7 @@
 ghost use Rattle.std.specs.Prelude.{◌≡◌, ◌+◌, ◌≤◌, ◌⊎◌, false, length, IfOk, OnErr};
 ghost use Rattle.bgp_frame.specs.Kind.{IsLength};
 ghost use Rattle.bgp_frame.specs.Notification.{notification_of_view};
+ghost use Rattle.bgp_frame.specs.Step.{message_in};
 ghost use Rattle.bgp_open.specs.OpenFault.{open_notification, reading_of};
 ghost use Rattle.bgp_update.specs.Verdict.{verdict_of};
 ghost use Rattle.bgp_msg.specs.Outcome.{of_open_fault, of_reading, of_verdict, notification_in, out_of, is_reset};
@@ -80,7 +81,7 @@ pub fn view_frame<'b, 'a>(
     place: &'b mut UpdateView<'a>,
 ) -> OutcomeView<'b>
     requires { IsLength frame.kind (19 + length frame.body.now) }
-    ensures { outcome_value result ≡ out_of ctx.now (record { kind = frame.entry.kind; body = frame.entry.body.now }) }
+    ensures { outcome_value result ≡ out_of ctx.now (message_in frame.entry) }
 {
     match frame.kind {
         Kind::Open => view_of_open(frame.body),
@@ -97,9 +98,9 @@ pub fn view_frame<'b, 'a>(
 #[tactic(auto, using(crate::proofs::Lists::lists_have_kinds, crate::proofs::Lists::lists_go_on))]
 pub fn out_frame(alloc: Global, ctx: &Context, frame: Frame<'_>) -> Result<Outcome, AllocError>
     requires { IsLength frame.kind (19 + length frame.body.now) }
-    ensures value { IfOk result (λ o. o ≡ out_of ctx.now (record { kind = frame.entry.kind; body = frame.entry.body.now })) }
+    ensures value { IfOk result (λ o. o ≡ out_of ctx.now (message_in frame.entry)) }
     ensures kind { OnErr result ((frame.entry.kind ≡ Kind.Open) ⊎ (frame.entry.kind ≡ Kind.Update)) }
-    ensures err { OnErr result (is_reset (out_of ctx.now (record { kind = frame.entry.kind; body = frame.entry.body.now })) ≡ false) }
+    ensures err { OnErr result (is_reset (out_of ctx.now (message_in frame.entry)) ≡ false) }
 {
     let mut place = UpdateView::empty();
     view_frame(ctx, frame, &mut place).own(alloc)

@@ -5,5 +5,4 @@ pub mod Order
 pub mod Run
 pub mod PrefixIter
 pub mod Text
-pub mod Half
-pub mod Mask
+pub mod steps

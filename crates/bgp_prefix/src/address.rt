@@ -63,7 +63,7 @@ struct Half(Group, Group, Group, Group);
 
 impl fmt::Display for Half {
     ghost use Rattle.std.specs.Prelude.{Some};
-    ghost use Rattle.bgp_prefix.specs.Half.{half_text};
+    ghost use Rattle.bgp_prefix.specs.steps.Half.{half_text};
 
     ghost output = { λ h. Some (half_text h) };
 

@@ -11,4 +11,4 @@ pub mod NoteList
 pub mod ReportText
 pub mod TraceText
 pub mod Faults
-pub mod Cursor
+pub mod steps

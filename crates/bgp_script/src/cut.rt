@@ -5,7 +5,7 @@ ghost use Rattle.std.specs.List.{position};
 ghost use Rattle.std.specs.Option.{option_copied};
 ghost use Rattle.bgp_script.specs.Lines.{lines_of};
 ghost use Rattle.bgp_script.specs.Pieces.{pieces_at};
-ghost use Rattle.bgp_script.specs.Cursor.{pieces_left};
+ghost use Rattle.bgp_script.specs.steps.Cursor.{pieces_left};
 
 // The place of the first of these marks.
 fn place_of(text: &[u8], mark: u8) -> Option<usize>

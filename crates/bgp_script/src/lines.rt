@@ -48,7 +48,7 @@ impl<'a> Lines<'a> {
     ghost use Rattle.std.specs.Prelude.{◌≤◌, length};
     ghost use Rattle.std.specs.Result.{result_map_both};
     ghost use Rattle.bgp_script.specs.Lines.{left_behind, next_told};
-    ghost use Rattle.bgp_script.specs.Cursor.{line_value};
+    ghost use Rattle.bgp_script.specs.steps.Cursor.{line_value};
 
     /// The lines of a text.
     pub(crate) fn new(text: &'a [u8]) -> Lines<'a>

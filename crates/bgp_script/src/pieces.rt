@@ -14,7 +14,7 @@ pub(crate) struct Pieces<'a> {
 impl<'a> Model for Pieces<'a> {
     ghost use Rattle.std.specs.Prelude.{List, ℕ};
     ghost use Rattle.std.specs.Option.{option_copied};
-    ghost use Rattle.bgp_script.specs.Cursor.{pieces_left};
+    ghost use Rattle.bgp_script.specs.steps.Cursor.{pieces_left};
 
     ghost Value = { List (List ℕ) };
 

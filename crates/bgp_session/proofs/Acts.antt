@@ -5,7 +5,7 @@ use Rattle.bgp_machine.specs.declared.action.Action.{Action}
 use Rattle.bgp_machine.specs.declared.action.Action.TheVariants as action
 use Rattle.bgp_machine.specs.Session.{Machine, own_octets}
 use Rattle.bgp_session.specs.declared.side.Side.{Side}
-use Rattle.bgp_session.specs.Feeding.{with_machine}
+use Rattle.bgp_session.specs.steps.Feeding.{with_machine}
 use Rattle.bgp_session.specs.Pair.{with_session, towards, Pair, pair, acted, all_acted}
 
 module _ (side : Side) where

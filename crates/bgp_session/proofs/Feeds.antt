@@ -5,14 +5,14 @@ use Rattle.bgp_wire.specs.Octets.{AreOctets}
 use Rattle.bgp_machine.specs.declared.action.Action.{Action}
 use Rattle.bgp_machine.specs.Cutting.{IsAtRest, Done, done_by, settled, by_octet, with_octet, behind, by_octets}
 use Rattle.bgp_machine.specs.Pulling.{IsPulled}
-use Rattle.bgp_machine.specs.Ready.{IsReady, left_to_do, weight}
+use Rattle.bgp_machine.specs.steps.Ready.{IsReady, left_to_do, weight}
 use Rattle.bgp_machine.specs.Session.{Machine, holding, judged}
 use Rattle.bgp_machine.specs.Standing.{listens}
 use Rattle.bgp_machine.specs.Table.{Step}
 use Rattle.bgp_machine.proofs.Cuttings.{done, waits_at}
 use Rattle.bgp_machine.proofs.Taken.{Pulled, pulled_some, pulled_more, pulled_none, waiting}
 use Rattle.bgp_session.specs.declared.side.Side.{Side}
-use Rattle.bgp_session.specs.Feeding.{with_machine, fed_on, FeedsOn}
+use Rattle.bgp_session.specs.steps.Feeding.{with_machine, fed_on, FeedsOn}
 use Rattle.bgp_session.specs.Pair.{Pair, all_acted, fed}
 use Rattle.bgp_session.proofs.Acts.{all_keeps, all_moves, acted_both}
 

@@ -5,7 +5,7 @@ use Rattle.std.proofs.lemmas.List.{append-nil, take_all}
 use Rattle.bgp_open.specs.Config.{Settings}
 use Rattle.bgp_session.specs.declared.moves.Move.{Move}
 use Rattle.bgp_session.specs.declared.report.Report.{Report}
-use Rattle.bgp_session.specs.Playing.{Plays}
+use Rattle.bgp_session.specs.steps.Playing.{Plays}
 use Rattle.bgp_session.specs.Report.{report_of, calls_behind, sights_behind}
 use Rattle.bgp_session.specs.Sight.{Sight, observed}
 use Rattle.bgp_session.specs.Wire.{Call, Grows, Trace}

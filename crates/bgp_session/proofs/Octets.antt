@@ -19,7 +19,7 @@ use Rattle.bgp_machine.proofs.Contents.{content_of-frame}
 use Rattle.bgp_machine.proofs.Cuttings.{idles}
 use Rattle.bgp_update.specs.declared.update.Update.{Update}
 use Rattle.bgp_session.specs.declared.side.Side.{Side}
-use Rattle.bgp_session.specs.Feeding.{with_machine}
+use Rattle.bgp_session.specs.steps.Feeding.{with_machine}
 use Rattle.bgp_session.specs.Laws.{heard}
 use Rattle.bgp_session.specs.Pair.{End, Note, Pair, pair, all_acted, fed}
 use Rattle.bgp_session.proofs.Acts.{all_keeps, all_moves, acted_both}

@@ -6,7 +6,7 @@ use Rattle.std.proofs.Math.Seq.{take-suc}
 use Rattle.bgp_session.specs.declared.moves.Move.{Move}
 use Rattle.bgp_session.specs.declared.report.Report.{Report}
 use Rattle.bgp_session.specs.Laws.{SendsRanges, AllSendRanges}
-use Rattle.bgp_session.specs.Playing.{Plays, HaveSoFar}
+use Rattle.bgp_session.specs.steps.Playing.{Plays, HaveSoFar}
 use Rattle.bgp_session.specs.Report.{report_of}
 use Rattle.bgp_session.specs.Sight.{Sight}
 use Rattle.bgp_session.specs.Wire.{Trace}

@@ -14,7 +14,7 @@ use Rattle.bgp_update.specs.declared.update.Update.{Update}
 use Rattle.bgp_session.specs.declared.side.Side.{Side}
 use Rattle.bgp_session.specs.declared.side.Side.TheVariants.{A, B}
 use Rattle.bgp_session.specs.Pair.{End, with_session, before_event, Pair, pair, acted, all_acted, told, fed}
-use Rattle.bgp_session.specs.Playing.{Rests, Sends, IsTried}
+use Rattle.bgp_session.specs.steps.Playing.{Rests, Sends, IsTried}
 use Rattle.bgp_session.specs.World.{World, seen_by, with_pair, tells, new_round}
 use Rattle.bgp_session.proofs.Acts.{all_keeps}
 

@@ -15,14 +15,14 @@ use Rattle.bgp_machine.specs.declared.action.Action.{Action}
 use Rattle.bgp_machine.specs.declared.state.State.{State}
 use Rattle.bgp_machine.specs.Cutting.{IsAtRest, Done, settled, by_octet, with_octet, by_octets}
 use Rattle.bgp_machine.specs.Pulling.{PullsStep, IsPulled}
-use Rattle.bgp_machine.specs.Ready.{IsReady}
+use Rattle.bgp_machine.specs.steps.Ready.{IsReady}
 use Rattle.bgp_machine.specs.Session.{Machine, holding, Does}
 use Rattle.bgp_machine.specs.Standing.{listens}
 use Rattle.bgp_machine.proofs.Cuttings.{idles, waits_at, front_by_octets, rests, settled_by, emptied, none_left}
 use Rattle.bgp_machine.proofs.Held.{IsHeld-fed}
 use Rattle.bgp_machine.proofs.Taken.{empty_waits, taken_up}
 use Rattle.bgp_session.specs.declared.side.Side.{Side}
-use Rattle.bgp_session.specs.Feeding.{with_machine, left_seen}
+use Rattle.bgp_session.specs.steps.Feeding.{with_machine, left_seen}
 use Rattle.bgp_session.specs.Pair.{Pair, all_acted}
 use Rattle.bgp_session.specs.Sight.{Sight, Came, Heard, observed, step_seen, settled_seen, came_if, octet_seen, octets_seen}
 use Rattle.bgp_session.proofs.Acts.{all_keeps}

@@ -4,6 +4,5 @@ pub mod World
 pub mod Wire
 pub mod Sight
 pub mod Report
-pub mod Feeding
-pub mod Playing
 pub mod Laws
+pub mod steps

@@ -4,7 +4,7 @@ ghost use Rattle.std.specs.Prelude.{◌≡◌, take, IfOk, OnOk};
 ghost use Rattle.bgp_machine.specs.Standing.{listens};
 ghost use Rattle.bgp_machine.specs.Sending.{refusal_of};
 ghost use Rattle.bgp_session.specs.Laws.{HasRangesUnless};
-ghost use Rattle.bgp_session.specs.Playing.{Rests, IsTried};
+ghost use Rattle.bgp_session.specs.steps.Playing.{Rests, IsTried};
 ghost use Rattle.bgp_session.specs.Sight.{observed};
 ghost use Rattle.bgp_session.specs.World.{tells_seen, feeds_seen, fails_up_seen, lost_seen, refused_seen, joins_seen, sends_seen};
 ghost use Rattle.bgp_session.specs.World.{begins, tells, feeds, stands, state_of, seeks, fails_up, lost, refused_at, round_of, forgotten, round_over, new_round, can_join, joins, sends, drawn, end_of};

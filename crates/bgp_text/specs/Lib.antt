@@ -10,7 +10,6 @@ pub mod NoteLines
 pub mod OpenLines
 pub mod UpdateLines
 pub mod Outcome
-pub mod Slots
 pub mod Json
 pub mod JsonAddress
 pub mod JsonPath
@@ -21,3 +20,4 @@ pub mod JsonOpen
 pub mod JsonUpdate
 pub mod JsonOutcome
 pub mod JsonEnd
+pub mod steps

@@ -12,7 +12,7 @@ ghost use Rattle.bgp_text.specs.JsonAttributes.{origin_json, aggregator_json, op
 ghost use Rattle.bgp_text.specs.JsonAttributes.{route_members, choice_members, community_members, as4_members, attribute_members};
 ghost use Rattle.bgp_text.specs.JsonPath.{path_json};
 ghost use Rattle.bgp_text.specs.Lines.{where_there};
-ghost use Rattle.bgp_text.specs.Slots.{slots_value};
+ghost use Rattle.bgp_text.specs.steps.Slots.{slots_value};
 
 use crate::attribute_lines::origin_name;
 use crate::json::{

@@ -10,7 +10,7 @@ ghost use Rattle.bgp_text.specs.Json.{member};
 ghost use Rattle.bgp_text.specs.JsonAddress.{ip6_json};
 ghost use Rattle.bgp_text.specs.JsonMp.{family_json, reach_json, unreach_json, mp_members};
 ghost use Rattle.bgp_text.specs.Lines.{where_there};
-ghost use Rattle.bgp_text.specs.Slots.{slots_value};
+ghost use Rattle.bgp_text.specs.steps.Slots.{slots_value};
 
 use crate::json::{put_decimal, put_name, put_number_member};
 use crate::json_addresses::{put_ip4_member, put_ip6_member};

@@ -18,7 +18,7 @@ pub(crate) struct Slots<'a> {
 }
 
 impl<'a> Slots<'a> {
-    ghost use Rattle.bgp_text.specs.Slots.{slots_value};
+    ghost use Rattle.bgp_text.specs.steps.Slots.{slots_value};
 
     /// The attributes of a message.
     ///

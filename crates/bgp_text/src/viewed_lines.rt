@@ -14,7 +14,7 @@ ghost use Rattle.bgp_text.specs.CommunityLines.{community_lines};
 ghost use Rattle.bgp_text.specs.Lines.{line_of, where_there};
 ghost use Rattle.bgp_text.specs.MpLines.{mp_lines};
 ghost use Rattle.bgp_text.specs.NoteLines.{note_line};
-ghost use Rattle.bgp_text.specs.Slots.{slots_value};
+ghost use Rattle.bgp_text.specs.steps.Slots.{slots_value};
 ghost use Rattle.bgp_text.specs.UpdateLines.{attribute_lines, update_lines, routes_lines};
 
 use crate::attribute_lines::{

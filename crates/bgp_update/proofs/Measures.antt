@@ -5,7 +5,7 @@ use Rattle.bgp_open.specs.declared.context.Context.{Context}
 use Rattle.bgp_update.specs.declared.measure.Lengths.{Lengths}
 use Rattle.bgp_update.specs.declared.update.Update.{Update}
 use Rattle.bgp_update.specs.Written.{written_body}
-use Rattle.bgp_update.specs.Measured.{lengths_of, measured}
+use Rattle.bgp_update.specs.steps.Measured.{lengths_of, measured}
 
 pub measured_fits : (ctx : Context) (u : Update) (l : Lengths) → Some l ≡ measured ctx u → length (written_body ctx u) ≤ 4077
 measured_fits ctx u l e = at (ltb 4077 (length (written_body ctx u))) refl e

@@ -8,7 +8,7 @@ use Rattle.bgp_attr.specs.declared.attr.Attr.TheVariants as attr
 use Rattle.bgp_attr.specs.declared.attr_view.OpaqueView.{OpaqueView}
 use Rattle.bgp_attr.specs.declared.opaque.Opaque.{Opaque}
 use Rattle.bgp_update.specs.KeptView.{is_opaque}
-use Rattle.bgp_update.specs.Others.{place_in}
+use Rattle.bgp_update.specs.steps.Others.{place_in}
 use Rattle.bgp_update.specs.Taken.{as_opaque, put_rising, rising_behind}
 
 step : (t : Bool) (o p : OpaqueView) (os : List OpaqueView)

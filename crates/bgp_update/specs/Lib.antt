@@ -9,14 +9,11 @@ pub mod Written
 pub mod As4
 pub mod Widths
 pub mod Body
-pub mod Small
 pub mod MarkIter
 pub mod KeptView
-pub mod Others
 pub mod Summary
 pub mod View
 pub mod Iters
 pub mod PathInfoView
 pub mod Laws
-pub mod Failed
-pub mod Measured
+pub mod steps

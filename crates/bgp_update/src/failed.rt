@@ -2,7 +2,7 @@
 
 ghost use Rattle.std.specs.Prelude.{◌≡◌, []};
 ghost use Rattle.bgp_attr.specs.AttrRef.{ref_value};
-ghost use Rattle.bgp_update.specs.Failed.{failed_by, also_failed, first_of};
+ghost use Rattle.bgp_update.specs.steps.Failed.{failed_by, also_failed, first_of};
 ghost use Rattle.bgp_update.specs.Slots.{attr_list};
 ghost use Rattle.bgp_update.specs.Written.{is_of_other_family};
 

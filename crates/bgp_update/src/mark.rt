@@ -3,7 +3,7 @@
 ghost use Rattle.std.specs.Prelude.{◌≡◌, ◌≤◌, true, length};
 ghost use Rattle.std.specs.List.{list_all};
 ghost use Rattle.bgp_attr.specs.TlvIter.{tlvs_left};
-ghost use Rattle.bgp_update.specs.Small.{is_small};
+ghost use Rattle.bgp_update.specs.steps.Small.{is_small};
 
 use crate::malformed::{cut, cut_kind, repeated};
 use bgp_attr::{FoundAttr, Sink, Tail, Tlv, TlvIter, Why, judge_into};

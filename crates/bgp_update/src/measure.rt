@@ -1,7 +1,7 @@
 //! How long the body of a message is.
 
 ghost use Rattle.std.specs.Prelude.{◌≡◌};
-ghost use Rattle.bgp_update.specs.Measured.{measured};
+ghost use Rattle.bgp_update.specs.steps.Measured.{measured};
 
 use crate::put::attributes_len;
 use crate::update::Update;

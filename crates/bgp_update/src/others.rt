@@ -5,7 +5,7 @@ ghost use Rattle.std.specs.Iterator.{YieldsFirst};
 ghost use Rattle.std.specs.List.{flat_map};
 ghost use Rattle.bgp_attr.specs.AttrView.{attr_value, opaque_value};
 ghost use Rattle.bgp_update.specs.Iters.{attrs_left};
-ghost use Rattle.bgp_update.specs.Others.{place_in};
+ghost use Rattle.bgp_update.specs.steps.Others.{place_in};
 ghost use Rattle.bgp_update.specs.Taken.{as_opaque, put_rising, rising_behind};
 
 use crate::attr_iter::AttrIter;

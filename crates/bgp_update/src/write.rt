@@ -3,13 +3,13 @@
 ghost use Rattle.std.specs.Prelude.{◌≡◌, ◌≤◌, ◌++◌, ◌↔◌, [], true, None, Some, length, IsTrue, IsErrOf, OnOk, OnErr};
 ghost use Rattle.std.specs.Int.{w16, to_be_bytes};
 ghost use Rattle.std.specs.List.{AllByRecursion};
-ghost use Rattle.bgp_attr.specs.Appends.{Extends};
+ghost use Rattle.bgp_attr.specs.steps.Appends.{Extends};
 ghost use Rattle.bgp_attr.specs.Written.{run_octets, is_writable};
 ghost use Rattle.bgp_prefix.specs.Prefix.{IsValid};
 ghost use Rattle.bgp_update.specs.declared.verdict.Verdict.TheVariants.{Take};
 ghost use Rattle.bgp_update.specs.declared.invalid.Invalid.{Invalid};
 ghost use Rattle.bgp_update.specs.declared.write.WriteFault.TheVariants.{NotValid, TooLong, Memory};
-ghost use Rattle.bgp_update.specs.Measured.{lengths_of, HasPartRanges};
+ghost use Rattle.bgp_update.specs.steps.Measured.{lengths_of, HasPartRanges};
 ghost use Rattle.bgp_update.specs.Slots.{attr_list};
 ghost use Rattle.bgp_update.specs.Verdict.{verdict_of};
 ghost use Rattle.bgp_update.specs.Written.{written_body, invalid_of, is_valid, is_too_long, HasUpdateRanges};

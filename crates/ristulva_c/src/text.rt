@@ -3,6 +3,7 @@
 ghost use Rattle.std.specs.Prelude.{◌≡◌, ◌+◌, ◌≤◌, None, Some, length, option_map, IfOk};
 ghost use Rattle.std.specs.String.{string_bytes};
 ghost use Rattle.bgp_frame.specs.Kind.{IsLength};
+ghost use Rattle.bgp_frame.specs.Step.{message_in};
 ghost use Rattle.bgp_msg.specs.Outcome.{out_of, of_fault};
 ghost use Rattle.bgp_text.specs.Outcome.{outcome_lines};
 ghost use Rattle.ristulva_c.specs.Context.{context_of};
@@ -25,7 +26,7 @@ fn frame_lines(
     frame: Frame<'_>,
 ) -> Result<String, AllocError>
     requires { IsLength frame.kind (19 + length frame.body.now) }
-    ensures { IfOk result (λ text. string_bytes text ≡ outcome_lines place frame.entry.len (out_of (context_of ctx.now) (record { kind = frame.entry.kind; body = frame.entry.body.now }))) }
+    ensures { IfOk result (λ text. string_bytes text ≡ outcome_lines place frame.entry.len (out_of (context_of ctx.now) (message_in frame.entry))) }
 {
     let len = frame.len;
     let mut view = UpdateView::empty();

@@ -7,7 +7,7 @@ use Rattle.bgp_update.specs.View.{update_value}
 use Rattle.bgp_update.specs.Widths.{with_as4}
 use Rattle.bgp_msg.specs.declared.message.Message.TheVariants as message
 use Rattle.bgp_engine.specs.Narrow.{written_in}
-use Rattle.bgp_engine.specs.PageSteps.{WritesNarrow}
+use Rattle.bgp_engine.specs.steps.PageSteps.{WritesNarrow}
 use Rattle.bgp_engine.proofs.narrowing.put_view.Goals as goal
 
 pub returns : goal.returns

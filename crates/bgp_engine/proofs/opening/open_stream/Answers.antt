@@ -1,6 +1,6 @@
 use Rattle.std.proofs.Common.{[]}
 use Rattle.bgp_frame.proofs.Pulls.{nothing_waits}
-use Rattle.bgp_engine.specs.Opening.{terms_of}
+use Rattle.bgp_engine.specs.steps.Opening.{terms_of}
 use Rattle.bgp_engine.proofs.Openings.{first_front, first_rests}
 use Rattle.bgp_engine.proofs.Walks.{front_of}
 use Rattle.bgp_engine.proofs.opening.open_stream.Goals as goal

@@ -6,7 +6,7 @@ use Rattle.bgp_frame.specs.Stream.{Gives}
 use Rattle.bgp_frame.proofs.Pulls.{nothing_waits}
 use Rattle.bgp_msg.specs.Outcome.{judgement}
 use Rattle.bgp_msg.specs.Decoder.{Decoding, fresh}
-use Rattle.bgp_msg.specs.Decoding.{Continues}
+use Rattle.bgp_msg.specs.steps.Decoding.{Continues}
 use Rattle.bgp_msg.proofs.Decodings.{Outs, continues_from, octets_in, piece_goes, piece_ends, waits_at_end}
 use Rattle.bgp_msg.proofs.decoding.decode_all.Goals as goal
 

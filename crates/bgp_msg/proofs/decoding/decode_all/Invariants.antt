@@ -1,7 +1,7 @@
 use Rattle.std.proofs.Common.{take, []}
 use Rattle.std.specs.List.{flat_map}
 use Rattle.bgp_msg.specs.Decoder.{fresh}
-use Rattle.bgp_msg.specs.Decoding.{Continues}
+use Rattle.bgp_msg.specs.steps.Decoding.{Continues}
 use Rattle.bgp_msg.proofs.decoding.decode_all.Given as goal
 
 -- the stream goes on behind the pieces so far

@@ -1,5 +1,5 @@
 use Rattle.std.proofs.Common.{length}
-use Rattle.bgp_msg.specs.Decoding.{Continues}
+use Rattle.bgp_msg.specs.steps.Decoding.{Continues}
 use Rattle.bgp_msg.proofs.decoding.decode_piece.Given as goal
 
 -- the stream goes on behind what was taken of the piece

@@ -1,6 +1,6 @@
 use Rattle.std.proofs.Common.{ℕ, Bool, List, ◌≡◌, ◌++◌, length, refl, sym, ap, ◌∙◌}
 use Rattle.bgp_msg.specs.declared.message.Message.TheVariants as message
-use Rattle.bgp_msg.specs.Room.{room_of}
+use Rattle.bgp_msg.specs.steps.Room.{room_of}
 use Rattle.bgp_msg.specs.Written.{kind_of, body_of}
 use Rattle.bgp_msg.proofs.Rooms.{headed, where_ok, refused, accepted}
 use Rattle.bgp_msg.proofs.update_encoding.encode_update.Goals as goal

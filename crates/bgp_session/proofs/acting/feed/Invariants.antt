@@ -1,6 +1,6 @@
 use Rattle.std.proofs.Common.{◌≡◌}
-use Rattle.bgp_machine.specs.Ready.{IsReady, weight}
-use Rattle.bgp_session.specs.Feeding.{fed_on, left_seen}
+use Rattle.bgp_machine.specs.steps.Ready.{IsReady, weight}
+use Rattle.bgp_session.specs.steps.Feeding.{fed_on, left_seen}
 use Rattle.bgp_session.specs.Pair.{pair, fed}
 use Rattle.bgp_session.specs.Sight.{observed, octets_seen}
 use Rattle.bgp_session.proofs.acting.feed.Given as goal

@@ -1,8 +1,8 @@
 use Rattle.std.proofs.Common.{◌≡◌, drop, sym, subst, arith}
 use Rattle.bgp_machine.specs.Cutting.{IsAtRest}
 use Rattle.bgp_session.specs.contracts.speaker.Speaker.{the_view}
-use Rattle.bgp_machine.specs.Ready.{IsReady}
-use Rattle.bgp_session.specs.Feeding.{fed_on, with_machine, FeedsOn, left_seen}
+use Rattle.bgp_machine.specs.steps.Ready.{IsReady}
+use Rattle.bgp_session.specs.steps.Feeding.{fed_on, with_machine, FeedsOn, left_seen}
 use Rattle.bgp_session.specs.Pair.{End, Pair, pair}
 use Rattle.bgp_session.specs.Sight.{observed}
 use Rattle.bgp_session.proofs.Feeds.{acts_on, takes_more, ends_so}

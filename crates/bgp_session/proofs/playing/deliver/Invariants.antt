@@ -1,5 +1,5 @@
 use Rattle.std.proofs.Common.{◌≡◌, length}
-use Rattle.bgp_session.specs.Playing.{Rests, Delivers}
+use Rattle.bgp_session.specs.steps.Playing.{Rests, Delivers}
 use Rattle.bgp_session.specs.World.{delivers}
 use Rattle.bgp_session.specs.Wire.{trace}
 use Rattle.bgp_session.proofs.playing.deliver.Given as goal

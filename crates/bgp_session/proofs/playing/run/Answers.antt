@@ -1,6 +1,6 @@
 use Rattle.std.proofs.Common.{[], arith, refl, sym, ap, subst, ◌∙◌}
 use Rattle.bgp_machine.proofs.Feedings.{fresh_rests}
-use Rattle.bgp_session.specs.Playing.{Rests}
+use Rattle.bgp_session.specs.steps.Playing.{Rests}
 use Rattle.bgp_session.specs.World.{World, begins, ran, all_moved}
 use Rattle.bgp_session.specs.Wire.{trace}
 use Rattle.bgp_session.proofs.Plays.{plays_quietly, plays_next}

@@ -1,5 +1,5 @@
 use Rattle.std.proofs.Common.{◌≡◌, take}
-use Rattle.bgp_session.specs.Playing.{Rests, Plays, HaveSoFar}
+use Rattle.bgp_session.specs.steps.Playing.{Rests, Plays, HaveSoFar}
 use Rattle.bgp_session.specs.World.{begins, all_moved}
 use Rattle.bgp_session.specs.Wire.{trace}
 use Rattle.bgp_session.proofs.playing.run.Given as goal

@@ -1,6 +1,6 @@
 use Rattle.bgp_frame.specs.Frame.{Message}
-use Rattle.bgp_engine.specs.Opening.{terms_of}
-use Rattle.bgp_engine.specs.Walking.{walking}
+use Rattle.bgp_engine.specs.steps.Opening.{terms_of}
+use Rattle.bgp_engine.specs.steps.Walking.{walking}
 use Rattle.bgp_engine.proofs.Openings.{fresh_in, settles_fault, settles_frame}
 use Rattle.bgp_engine.proofs.opening.Opening.settle.Goals as goal
 

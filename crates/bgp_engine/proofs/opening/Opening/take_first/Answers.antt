@@ -3,9 +3,9 @@ use Rattle.std.proofs.lemmas.Result.{IfOk-weaker, err_from_is_err_and}
 use Rattle.bgp_wire.proofs.OctetLemmas.{AreOctets-append}
 use Rattle.bgp_engine.specs.declared.opening.Stage.{Stage}
 use Rattle.bgp_engine.specs.declared.opening.Stage.TheVariants as stage
-use Rattle.bgp_engine.specs.Engine.{IsTotal, Takes}
-use Rattle.bgp_engine.specs.Opening.{SettlesAt, opening, reports_in, terms_of}
-use Rattle.bgp_engine.specs.Walking.{IsGoing, reports_of, walking}
+use Rattle.bgp_engine.specs.steps.Engine.{IsTotal, Takes}
+use Rattle.bgp_engine.specs.steps.Opening.{SettlesAt, opening, reports_in, terms_of}
+use Rattle.bgp_engine.specs.steps.Walking.{IsGoing, reports_of, walking}
 use Rattle.bgp_engine.proofs.Openings.{on_err, some_reported, takes_agreed, takes_part, takes_unagreed}
 use Rattle.bgp_engine.proofs.opening.Opening.take_first.Goals as goal
 

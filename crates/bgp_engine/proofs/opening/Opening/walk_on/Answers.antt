@@ -1,7 +1,7 @@
 use Rattle.std.proofs.Common.{ℕ, Bool, false, List, sym, subst}
 use Rattle.std.proofs.lemmas.Result.{IfOk-weaker}
-use Rattle.bgp_engine.specs.Engine.{Takes}
-use Rattle.bgp_engine.specs.Walking.{Walking, IsGoing, reports_of, walking}
+use Rattle.bgp_engine.specs.steps.Engine.{Takes}
+use Rattle.bgp_engine.specs.steps.Walking.{Walking, IsGoing, reports_of, walking}
 use Rattle.bgp_engine.proofs.Openings.{takes_both}
 use Rattle.bgp_engine.proofs.Walks.{front_going}
 use Rattle.bgp_engine.proofs.opening.Opening.walk_on.Goals as goal

@@ -1,5 +1,5 @@
-use Rattle.bgp_engine.specs.Opening.{terms_of}
-use Rattle.bgp_engine.specs.Walking.{walking}
+use Rattle.bgp_engine.specs.steps.Opening.{terms_of}
+use Rattle.bgp_engine.specs.steps.Walking.{walking}
 use Rattle.bgp_engine.proofs.Openings.{closes_unagreed}
 use Rattle.bgp_engine.proofs.opening.OpeningEngine.finish.Goals as goal
 

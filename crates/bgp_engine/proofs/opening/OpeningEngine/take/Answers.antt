@@ -1,7 +1,7 @@
 use Rattle.std.proofs.Common.{◌≤◌, length, subst}
 use Rattle.bgp_engine.specs.declared.opening.Stage.{Stage}
-use Rattle.bgp_engine.specs.Opening.{GoesAt, opening, room_at, terms_of}
-use Rattle.bgp_engine.specs.Walking.{walking}
+use Rattle.bgp_engine.specs.steps.Opening.{GoesAt, opening, room_at, terms_of}
+use Rattle.bgp_engine.specs.steps.Walking.{walking}
 use Rattle.bgp_engine.proofs.Openings.{first_fits}
 use Rattle.bgp_engine.proofs.opening.OpeningEngine.take.Goals as goal
 

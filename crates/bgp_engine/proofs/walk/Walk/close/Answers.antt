@@ -1,6 +1,6 @@
 use Rattle.std.proofs.Common.{sym}
 use Rattle.std.proofs.lemmas.Result.{err_from_is_err_and}
-use Rattle.bgp_engine.specs.Walking.{walking}
+use Rattle.bgp_engine.specs.steps.Walking.{walking}
 use Rattle.bgp_engine.proofs.Walks.{some_closing, closes_over}
 use Rattle.bgp_engine.proofs.walk.Walk.close.Goals as goal
 

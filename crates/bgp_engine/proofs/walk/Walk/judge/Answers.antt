@@ -1,5 +1,5 @@
 use Rattle.std.proofs.Common.{inl, inr}
-use Rattle.bgp_engine.specs.Walking.{walking}
+use Rattle.bgp_engine.specs.steps.Walking.{walking}
 use Rattle.bgp_engine.proofs.Walks.{Moves-none, Moves-pulled, Moves-pulled-fault, not_waiting}
 use Rattle.bgp_engine.proofs.walk.Walk.judge.Goals as goal
 

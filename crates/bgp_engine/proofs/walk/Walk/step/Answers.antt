@@ -1,5 +1,5 @@
 use Rattle.std.proofs.Common.{◌≡◌, arith}
-use Rattle.bgp_engine.specs.Walking.{walking}
+use Rattle.bgp_engine.specs.steps.Walking.{walking}
 use Rattle.bgp_engine.proofs.Walks.{Moves-judged}
 use Rattle.bgp_engine.proofs.walk.Walk.step.Goals as goal
 

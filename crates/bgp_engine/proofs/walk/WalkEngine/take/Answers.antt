@@ -2,7 +2,7 @@ use Rattle.std.proofs.Common.{◌∙◌, ℕ, length, drop, List, sym, subst}
 use Rattle.std.proofs.lemmas.Result.{err_from_is_err_and}
 use Rattle.std.proofs.lemmas.List.{nil_from_length}
 use Rattle.std.proofs.lemmas.Bool.{eqb-true}
-use Rattle.bgp_engine.specs.Walking.{Moves, walking}
+use Rattle.bgp_engine.specs.steps.Walking.{Moves, walking}
 use Rattle.bgp_engine.proofs.Walks.{Moves-none, Moves-more, fits_in, some_end, room_over, room_on, takes_on, takes_over, walk_total}
 use Rattle.bgp_engine.proofs.walk.WalkEngine.take.Goals as goal
 

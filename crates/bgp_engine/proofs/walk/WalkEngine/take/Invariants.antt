@@ -1,5 +1,5 @@
 use Rattle.std.proofs.Common.{◌+◌, ◌≤◌, ◌^◌, length}
-use Rattle.bgp_engine.specs.Walking.{IsGoing, Moves, walking}
+use Rattle.bgp_engine.specs.steps.Walking.{IsGoing, Moves, walking}
 use Rattle.bgp_engine.proofs.walk.WalkEngine.take.Given as goal
 
 abbrev pub invariant-stream : goal.invariant-stream

@@ -3,7 +3,7 @@ use Rattle.bgp_machine.specs.Session.{Machine}
 use Rattle.bgp_host.specs.declared.link.Link.TheVariants.{Same}
 use Rattle.bgp_host.specs.Deeds.{Records}
 use Rattle.bgp_host.specs.Turns.{Hosted, hosted, RunsFrom}
-use Rattle.bgp_host.specs.Steps.{PullsOnce}
+use Rattle.bgp_host.specs.steps.Steps.{PullsOnce}
 use Rattle.bgp_host.proofs.Turns.{at}
 use Rattle.bgp_host.proofs.Pulls.{pulled_once}
 use Rattle.bgp_host.proofs.host.Host.pull.Goals as goal

@@ -1,6 +1,6 @@
 use Rattle.std.proofs.Common.{ap, subst, arith}
 use Rattle.bgp_msg.specs.declared.outcome_view.OutcomeView.{OutcomeView}
-use Rattle.bgp_msg.specs.Early.{IsAtFront}
+use Rattle.bgp_msg.specs.steps.Early.{IsAtFront}
 use Rattle.bgp_msg.specs.OutcomeView.{outcome_value, has_lists}
 use Rattle.bgp_msg.specs.Decoder.{behind}
 use Rattle.bgp_msg.proofs.Pulls.{whole_at_front, pulled_takes_memory, on_err_any}

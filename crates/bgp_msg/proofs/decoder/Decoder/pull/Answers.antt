@@ -1,5 +1,5 @@
 use Rattle.std.proofs.Common.{Some, subst}
-use Rattle.bgp_msg.specs.Early.{IsEarly}
+use Rattle.bgp_msg.specs.steps.Early.{IsEarly}
 use Rattle.bgp_msg.specs.declared.early.Early.{Early}
 use Rattle.bgp_msg.specs.declared.message.Message.TheVariants as message
 use Rattle.bgp_msg.specs.declared.outcome.Outcome.TheVariants as outcome

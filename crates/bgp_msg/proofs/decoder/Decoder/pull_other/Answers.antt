@@ -1,5 +1,5 @@
 use Rattle.std.proofs.Common.{subst}
-use Rattle.bgp_msg.specs.Early.{IsEarly}
+use Rattle.bgp_msg.specs.steps.Early.{IsEarly}
 use Rattle.bgp_msg.specs.OutcomeView.{outcome_value}
 use Rattle.bgp_msg.specs.declared.early.Early.{Early}
 use Rattle.bgp_msg.proofs.Pulls.{front_pulled, front_takes_memory}

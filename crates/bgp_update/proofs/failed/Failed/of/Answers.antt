@@ -3,7 +3,7 @@ use Rattle.std.specs.List.{flat_map}
 use Rattle.bgp_attr.specs.declared.attr.Attr.{Attr}
 use Rattle.bgp_attr.specs.AttrRef.{ref_value}
 use Rattle.bgp_update.specs.declared.failed.Failed.{Failed}
-use Rattle.bgp_update.specs.Failed.{failed_by, also_failed}
+use Rattle.bgp_update.specs.steps.Failed.{failed_by, also_failed}
 use Rattle.bgp_update.specs.Slots.{slot}
 use Rattle.bgp_update.proofs.SlotSteps.{so_far, one_type, all_walked}
 use Rattle.bgp_update.proofs.FailedSteps.{with_one, with_none}

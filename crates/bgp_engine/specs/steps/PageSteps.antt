@@ -5,7 +5,7 @@ use Rattle.bgp_msg.specs.Outcome.{is_reset}
 use Rattle.bgp_text.specs.Outcome.{outcome_lines}
 use Rattle.bgp_engine.specs.declared.class.Class.{Class}
 use Rattle.bgp_engine.specs.Narrow.{narrowed_class}
-use Rattle.bgp_engine.specs.Pages.{is_last}
+use Rattle.bgp_engine.specs.steps.Pages.{is_last}
 use Rattle.bgp_engine.specs.Show.{class_of}
 
 -- the lines of an outcome were added, and it counts as this

@@ -7,10 +7,10 @@ use Rattle.bgp_engine.specs.declared.fault.ToolFault.TheVariants as fault
 use Rattle.bgp_engine.specs.declared.hex_text.HexText.{HexText}
 use Rattle.bgp_engine.specs.declared.running.Met.{Met}
 use Rattle.bgp_engine.specs.declared.running.Met.TheVariants as met
-use Rattle.bgp_engine.specs.HexSteps.{pending, place}
+use Rattle.bgp_engine.specs.steps.HexSteps.{pending, place}
 use Rattle.bgp_engine.specs.Output.{IsFront, AppendsFront}
 use Rattle.bgp_engine.specs.Report.{Report}
-use Rattle.bgp_engine.specs.Engine.{Takes}
+use Rattle.bgp_engine.specs.steps.Engine.{Takes}
 use Rattle.bgp_engine.specs.Run.{Reports, stream_of, bad_of}
 
 -- however the text goes on, from old on it is the octets, and then what it is from new on

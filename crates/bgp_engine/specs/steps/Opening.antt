@@ -10,7 +10,7 @@ use Rattle.bgp_engine.specs.Opens.{ReportedBy, fit_of, unagreed}
 use Rattle.bgp_engine.specs.Report.{Report}
 use Rattle.bgp_engine.specs.Rules.{Rules, IsReport}
 use Rattle.bgp_engine.specs.Tally.{no_tally}
-use Rattle.bgp_engine.specs.Walking.{Walking, IsGoing, IsReady, reports_of, room_of, walking}
+use Rattle.bgp_engine.specs.steps.Walking.{Walking, IsGoing, IsReady, reports_of, room_of, walking}
 
 -- which contexts a page can be written in, what it is written by in each, and the octets of the other direction
 pub record Terms (Outcome : Type 0) : Type 0 where

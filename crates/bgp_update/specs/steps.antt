@@ -1,0 +1,5 @@
+-- What only private functions cite: steps of proofs, which nobody has to believe.
+pub mod Small
+pub mod Others
+pub mod Failed
+pub mod Measured
