@@ -46,6 +46,7 @@ impl<'a, const W: usize> Iterator for PrefixIter<'a, W> {
 
     ghost remaining = { item_count prefixes_left };
 
+    #[inline(always)]
     fn next(&mut self) -> Option<Prefix<W>> {
         let front = cut_front::<W>(self.rest)?;
         self.rest = front.after;
