@@ -1,5 +1,5 @@
 -- Scripts for a pair of speakers, and reports of what came of them.
-pub mod Steps
+pub mod Then
 pub mod Lines
 pub mod Pieces
 pub mod Number
