@@ -17,7 +17,7 @@ import daemons
 import messages
 
 # How long, in seconds, the collector has for each thing.
-LIMIT = 10
+LIMIT = 30
 OURS, OWN = 65000, "127.0.0.9"
 HOP4, HOP6 = "192.0.2.9", "2001:db8::9"
 CEASE, OTHER_AS, SILENCE, LENGTHS = (6, 0), (2, 2), (4, 0), (3, 1)
