@@ -7,8 +7,8 @@ use Rattle.bgp_frame.specs.Frame.{Waits}
 use Rattle.bgp_frame.specs.Step.{ShowsStep}
 use Rattle.bgp_frame.specs.Takes.{Takes}
 
--- n octets are pulled from a piece as one after another is taken, but all of a message come from one place: what is held comes first, and
--- then none are pulled, or nothing is held
+-- n octets of a piece are pulled, as many as a feed takes; but where some octets are held, none: a message is pulled whole from where it
+-- stands, and one that is held in part waits to be fed
 pub record Pulls (held piece : List ℕ) (n : ℕ) : Type 0 where
   pub takes : Takes held piece n
   pub one_place : (n ≡ 0) ⊎ (held ≡ [])
