@@ -2,6 +2,7 @@
 use Rattle.std.proofs.Common.{◌≡◌, ◌<◌, Bool, true, false, cond, refl, lit<}
 use Rattle.bgp_attr.specs.declared.class.Class.{Class}
 use Rattle.bgp_attr.specs.declared.class.Class.TheVariants.{WellKnown, OptionalNonTransitive, OptionalTransitive}
+use Rattle.bgp_attr.specs.Written.{optional_class}
 use Rattle.bgp_attr.specs.Flags.{is_optional, is_transitive, is_partial, is_extended, has_class, flags_octet}
 
 pub has_class-flags : (class : Class) (partial extended : Bool) → has_class class (flags_octet class partial extended) ≡ true
@@ -61,9 +62,6 @@ flags_octet-small OptionalTransitive false true = lit< tt
 flags_octet-small OptionalTransitive false false = lit< tt
 
 -- of an optional attribute: transitive or not
-abbrev pub optional_class : Bool → Class
-optional_class transitive = cond transitive OptionalTransitive OptionalNonTransitive
-
 pub is_optional-flags : (transitive partial extended : Bool) → is_optional (flags_octet (optional_class transitive) partial extended) ≡ true
 is_optional-flags true true true = refl
 is_optional-flags true true false = refl

@@ -35,14 +35,15 @@ use Rattle.bgp_attr.specs.Numbers.{number_width, number_in, IsNumber, one_number
 use Rattle.bgp_attr.specs.Path.{path_of}
 use Rattle.bgp_attr.specs.Mp.{family_of, is_in_use, address_width, is_next_hop_length, next_hop_length, next_hop_of, reached_of, reach_of_family, mp_reach_of, withdrawn_of, unreach_of_family, mp_unreach_of}
 use Rattle.bgp_attr.specs.Refusal.{Discard, Withdraw}
-use Rattle.bgp_attr.specs.Value.{origin_of, as_path_form, as4_path_form, four_of, aggregator_of, communities_of, large_of, as4_path_of, opaque_of, value_of}
-use Rattle.bgp_attr.specs.Judgement.{has_bad_prefix, origin_tests, as_path_tests, next_hop_tests, med_tests, local_pref_tests, atomic_tests, aggregator_tests, communities_tests, mp_reach_tests, mp_unreach_tests, as4_path_tests, large_tests, other_tests, judgement}
-use Rattle.bgp_attr.specs.Spelling.{is_recognised, IsOfType, origin_code, IsOrigin, IsAsPath, IsNextHop, IsMed, IsLocalPref, IsAtomic, IsAggregator, IsCommunities, IsLarge, IsReach, link_octets, HasLink, IsReachValue, IsMpReach, IsUnreachValue, IsMpUnreach, IsAs4Path, IsOpaque, Spells}
+use Rattle.bgp_attr.specs.Value.{origin_of, as_path_form, as4_path_form, four_of, aggregator_of, communities_of, large_of, as4_path_of, opaque_of}
+use Rattle.bgp_attr.specs.Judgement.{has_bad_prefix, origin_tests, as_path_tests, next_hop_tests, med_tests, local_pref_tests, atomic_tests, aggregator_tests, communities_tests, mp_reach_tests, mp_unreach_tests, as4_path_tests, large_tests, other_tests, AttributeType, is_recognised, type_row, judgement}
+use Rattle.bgp_attr.specs.Spelling.{IsOfType, origin_code, IsOrigin, IsAsPath, IsNextHop, IsMed, IsLocalPref, IsAtomic, IsAggregator, IsCommunities, IsLarge, IsReach, link_octets, HasLink, IsReachValue, IsMpReach, IsUnreachValue, IsMpUnreach, IsAs4Path, IsOpaque, Spells}
 use Rattle.bgp_attr.proofs.Readers.{IsNumber-reads, IsTriple-reads}
 use Rattle.bgp_attr.proofs.NumberRows.{number_row-whole, length-number_row, triple_row-whole, length-triple_row}
 use Rattle.bgp_attr.proofs.SegmentRows.{fault-path, path-only}
 use Rattle.bgp_attr.proofs.RouteRows.{hop_in, hop_in-length, octets-reach, octets-unreach, reach4-value, reach6-value, unreach4-value, unreach6-value}
-use Rattle.bgp_attr.proofs.TestRows.{NoneApplies, passed, passed_fault, TypeCase, OfOrigin, OfAsPath, OfNextHop, OfMed, OfLocalPref, OfAtomic, OfAggregator, OfCommunities, OfMpReach, OfMpUnreach, OfAs4Path, OfAs4Aggregator, OfLarge, OfOther, type_case, keep-judgement, keep-value, tests-origin, tests-as_path, tests-next_hop, tests-med, tests-local_pref, tests-atomic, tests-aggregator, tests-communities, tests-mp_reach, tests-mp_unreach, tests-as4_path, tests-as4_aggregator, tests-large, tests-other, value-origin, value-as_path, value-next_hop, value-med, value-local_pref, value-atomic, value-aggregator, value-communities, value-mp_reach, value-mp_unreach, value-as4_path, value-as4_aggregator, value-large, value-other}
+use Rattle.bgp_attr.proofs.Tables.{◌&◌}
+use Rattle.bgp_attr.proofs.TestRows.{NoneApplies, passed, passed_fault, row_at, row-at, row-other, by_kept, kept-value}
 
 -- ---- what is kept is spelled
 
@@ -230,32 +231,17 @@ module _ (ctx : Context) (t : TlvValue) where
 
 -- ---- every type
 
-module _ (ctx : Context) (has_nlri : Bool) (t : TlvValue) (a : Attr) (octets : AreOctets t.value) (keeps : judgement ctx has_nlri t ≡ judged.Keep a) where
-  abbrev is_value : (x : Attr) → value_of ctx t ≡ x → Spells ctx t x → Spells ctx t a
-  is_value x e s = subst (λ (y : Attr). Spells ctx t y) (sym e ∙ keep-value ctx has_nlri t a keeps) s
-
-  spelled : TypeCase t.kind → Spells ctx t a
-  spelled (OfOrigin e) = is_value _ (value-origin ctx t e) (origin-spells ctx t e (keep-judgement ctx has_nlri t _ a (tests-origin ctx has_nlri t e) keeps))
-  spelled (OfAsPath e) = is_value _ (value-as_path ctx t e) (as_path-spells ctx t e (keep-judgement ctx has_nlri t _ a (tests-as_path ctx has_nlri t e) keeps))
-  spelled (OfNextHop e) = is_value _ (value-next_hop ctx t e) (next_hop-spells ctx t has_nlri e (keep-judgement ctx has_nlri t _ a (tests-next_hop ctx has_nlri t e) keeps))
-  spelled (OfMed e) = is_value _ (value-med ctx t e) (med-spells ctx t e (keep-judgement ctx has_nlri t _ a (tests-med ctx has_nlri t e) keeps))
-  spelled (OfLocalPref e) = is_value _ (value-local_pref ctx t e) (local_pref-spells ctx t e (keep-judgement ctx has_nlri t _ a (tests-local_pref ctx has_nlri t e) keeps))
-  spelled (OfAtomic e) = is_value _ (value-atomic ctx t e) (atomic-spells ctx t e (keep-judgement ctx has_nlri t _ a (tests-atomic ctx has_nlri t e) keeps))
-  spelled (OfAggregator e) = is_value _ (value-aggregator ctx t e) (aggregator-spells ctx t AGGREGATOR ctx.as4 e (keep-judgement ctx has_nlri t _ a (tests-aggregator ctx has_nlri t e) keeps))
-  spelled (OfCommunities e) = is_value _ (value-communities ctx t e) (communities-spells ctx t e (keep-judgement ctx has_nlri t _ a (tests-communities ctx has_nlri t e) keeps))
-  spelled (OfMpReach e) = is_value _ (value-mp_reach ctx t e) (mp_reach-spells ctx t octets e (keep-judgement ctx has_nlri t _ a (tests-mp_reach ctx has_nlri t e) keeps))
-  spelled (OfMpUnreach e) = is_value _ (value-mp_unreach ctx t e) (mp_unreach-spells ctx t octets e (keep-judgement ctx has_nlri t _ a (tests-mp_unreach ctx has_nlri t e) keeps))
-  spelled (OfAs4Path e) = is_value _ (value-as4_path ctx t e) (as4_path-spells ctx t e (keep-judgement ctx has_nlri t _ a (tests-as4_path ctx has_nlri t e) keeps))
-  spelled (OfAs4Aggregator e) = is_value _ (value-as4_aggregator ctx t e) (aggregator-spells ctx t AS4_AGGREGATOR true e (keep-judgement ctx has_nlri t _ a (tests-as4_aggregator ctx has_nlri t e) keeps).1)
-  spelled (OfLarge e) = is_value _ (value-large ctx t e) (large-spells ctx t e (keep-judgement ctx has_nlri t _ a (tests-large ctx has_nlri t e) keeps))
-  spelled (OfOther e) = is_value _ (value-other ctx t e) (other-spells ctx t e (keep-judgement ctx has_nlri t _ a (tests-other ctx has_nlri t e) keeps))
-
-  pub kept-spells : Spells ctx t a
-  kept-spells = spelled (type_case t.kind)
+pub kept-spells : (ctx : Context) (has_nlri : Bool) (t : TlvValue) (a : Attr) → AreOctets t.value → judgement ctx has_nlri t ≡ judged.Keep a → Spells ctx t a
+kept-spells ctx has_nlri t a octets keeps =
+    by_kept ctx has_nlri t (Spells ctx t)
+    (origin-spells ctx t & as_path-spells ctx t & next_hop-spells ctx t has_nlri & med-spells ctx t & local_pref-spells ctx t & atomic-spells ctx t
+    & aggregator-spells ctx t AGGREGATOR ctx.as4 & communities-spells ctx t & mp_reach-spells ctx t octets & mp_unreach-spells ctx t octets
+    & as4_path-spells ctx t & (λ e none. aggregator-spells ctx t AS4_AGGREGATOR true e none.1) & large-spells ctx t & tt)
+    (other-spells ctx t) a keeps
 
 -- ---- and nothing else
 
-module _ (ctx : Context) (t : TlvValue) where
+module _ (ctx : Context) (has_nlri : Bool) (t : TlvValue) where
   origin-only : (o : Origin) (b : List ℕ) → b ≡ origin_code o ∷ [] → origin_of b ≡ o
   origin-only Igp b e = ap origin_of e
   origin-only Egp b e = ap origin_of e
@@ -301,26 +287,29 @@ module _ (ctx : Context) (t : TlvValue) where
           → (let p : Opaque = record { kind = kind; transitive = transitive; partial = partial; value = value } in p ≡ o)
       same kind transitive partial value e f g h = rw (e, f, g, h) refl
 
+  value-at : (kind : ℕ) → t.kind ≡ kind → (type_row ctx has_nlri t).value ≡ (row_at ctx has_nlri t kind).value
+  value-at kind e = ap (λ (type : AttributeType). type.value) (row-at ctx has_nlri t kind e)
+
   -- what is spelled is the value
-  pub spells-value : (b : Attr) → Spells ctx t b → value_of ctx t ≡ b
-  spells-value (attr.Origin o) s = value-origin ctx t (s.of_type).kind_is ∙ ap (λ (x : Origin). attr.Origin x) (origin-only o t.value s.value)
-  spells-value (attr.AsPath p) s = value-as_path ctx t (s.of_type).kind_is ∙ ap (λ (x : AsPath). attr.AsPath x) (sym (path-only (as_path_form ctx) p t.value s.path))
-  spells-value (attr.NextHop addr) s = value-next_hop ctx t (s.of_type).kind_is ∙ ap (λ (x : List ℕ). attr.NextHop x) s.value
-  spells-value (attr.Med n) s = value-med ctx t (s.of_type).kind_is ∙ ap (λ (x : ℕ). attr.Med x) (sym (s.value).value)
-  spells-value (attr.LocalPref n) s = value-local_pref ctx t (s.of_type).kind_is ∙ ap (λ (x : ℕ). attr.LocalPref x) (sym (s.value).value)
-  spells-value attr.Atomic s = value-atomic ctx t (s.of_type).kind_is
-  spells-value (attr.Aggregator a) s = value-aggregator ctx t (s.of_type).kind_is ∙ ap (λ (x : Aggregator). attr.Aggregator x) (aggregator-only AGGREGATOR ctx.as4 a s)
-  spells-value (attr.Communities c) s = value-communities ctx t (s.of_type).kind_is ∙ ap (λ (x : Communities). attr.Communities x) (communities-only c s)
+  pub spells-value : (b : Attr) → Spells ctx t b → (type_row ctx has_nlri t).value ≡ b
+  spells-value (attr.Origin o) s = value-at ORIGIN (s.of_type).kind_is ∙ ap (λ (x : Origin). attr.Origin x) (origin-only o t.value s.value)
+  spells-value (attr.AsPath p) s = value-at AS_PATH (s.of_type).kind_is ∙ ap (λ (x : AsPath). attr.AsPath x) (sym (path-only (as_path_form ctx) p t.value s.path))
+  spells-value (attr.NextHop addr) s = value-at NEXT_HOP (s.of_type).kind_is ∙ ap (λ (x : List ℕ). attr.NextHop x) s.value
+  spells-value (attr.Med n) s = value-at MULTI_EXIT_DISC (s.of_type).kind_is ∙ ap (λ (x : ℕ). attr.Med x) (sym (s.value).value)
+  spells-value (attr.LocalPref n) s = value-at LOCAL_PREF (s.of_type).kind_is ∙ ap (λ (x : ℕ). attr.LocalPref x) (sym (s.value).value)
+  spells-value attr.Atomic s = value-at ATOMIC_AGGREGATE (s.of_type).kind_is
+  spells-value (attr.Aggregator a) s = value-at AGGREGATOR (s.of_type).kind_is ∙ ap (λ (x : Aggregator). attr.Aggregator x) (aggregator-only AGGREGATOR ctx.as4 a s)
+  spells-value (attr.Communities c) s = value-at COMMUNITIES (s.of_type).kind_is ∙ ap (λ (x : Communities). attr.Communities x) (communities-only c s)
   spells-value (attr.MpReach (reach.Ip4 hop routes)) s =
-      value-mp_reach ctx t (s.of_type).kind_is ∙ ap (λ (x : MpReach). attr.MpReach x) (reach4-value hop routes t.value (s.value).0 (s.value).1)
+      value-at MP_REACH_NLRI (s.of_type).kind_is ∙ ap (λ (x : MpReach). attr.MpReach x) (reach4-value hop routes t.value (s.value).0 (s.value).1)
   spells-value (attr.MpReach (reach.Ip6 hop link routes)) s =
-      value-mp_reach ctx t (s.of_type).kind_is ∙ ap (λ (x : MpReach). attr.MpReach x) (reach6-value hop link routes t.value (s.value).0 (s.value).1 (s.value).2)
-  spells-value (attr.MpUnreach (unreach.Ip4 routes)) s = value-mp_unreach ctx t (s.of_type).kind_is ∙ ap (λ (x : MpUnreach). attr.MpUnreach x) (unreach4-value routes t.value s.value)
-  spells-value (attr.MpUnreach (unreach.Ip6 routes)) s = value-mp_unreach ctx t (s.of_type).kind_is ∙ ap (λ (x : MpUnreach). attr.MpUnreach x) (unreach6-value routes t.value s.value)
-  spells-value (attr.As4Path p) s = value-as4_path ctx t (s.of_type).kind_is ∙ ap (λ (x : As4Path). attr.As4Path x) (as4_path-only p s)
-  spells-value (attr.As4Aggregator a) s = value-as4_aggregator ctx t (s.of_type).kind_is ∙ ap (λ (x : Aggregator). attr.As4Aggregator x) (aggregator-only AS4_AGGREGATOR true a s)
-  spells-value (attr.Large l) s = value-large ctx t (s.of_type).kind_is ∙ ap (λ (x : LargeCommunities). attr.Large x) (large-only l s)
-  spells-value (attr.Opaque o) s = value-other ctx t s.other ∙ ap (λ (x : Opaque). attr.Opaque x) (opaque-only o s)
+      value-at MP_REACH_NLRI (s.of_type).kind_is ∙ ap (λ (x : MpReach). attr.MpReach x) (reach6-value hop link routes t.value (s.value).0 (s.value).1 (s.value).2)
+  spells-value (attr.MpUnreach (unreach.Ip4 routes)) s = value-at MP_UNREACH_NLRI (s.of_type).kind_is ∙ ap (λ (x : MpUnreach). attr.MpUnreach x) (unreach4-value routes t.value s.value)
+  spells-value (attr.MpUnreach (unreach.Ip6 routes)) s = value-at MP_UNREACH_NLRI (s.of_type).kind_is ∙ ap (λ (x : MpUnreach). attr.MpUnreach x) (unreach6-value routes t.value s.value)
+  spells-value (attr.As4Path p) s = value-at AS4_PATH (s.of_type).kind_is ∙ ap (λ (x : As4Path). attr.As4Path x) (as4_path-only p s)
+  spells-value (attr.As4Aggregator a) s = value-at AS4_AGGREGATOR (s.of_type).kind_is ∙ ap (λ (x : Aggregator). attr.As4Aggregator x) (aggregator-only AS4_AGGREGATOR true a s)
+  spells-value (attr.Large l) s = value-at LARGE_COMMUNITY (s.of_type).kind_is ∙ ap (λ (x : LargeCommunities). attr.Large x) (large-only l s)
+  spells-value (attr.Opaque o) s = ap (λ (type : AttributeType). type.value) (row-other ctx has_nlri t s.other) ∙ ap (λ (x : Opaque). attr.Opaque x) (opaque-only o s)
 
 pub kept-only : (ctx : Context) (has_nlri : Bool) (t : TlvValue) (a b : Attr) → judgement ctx has_nlri t ≡ judged.Keep a → Spells ctx t b → b ≡ a
-kept-only ctx has_nlri t a b keeps s = sym (spells-value ctx t b s) ∙ keep-value ctx has_nlri t a keeps
+kept-only ctx has_nlri t a b keeps s = sym (spells-value ctx has_nlri t b s) ∙ kept-value ctx has_nlri t a keeps

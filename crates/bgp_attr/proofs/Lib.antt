@@ -9,6 +9,7 @@ pub mod SegmentSteps
 pub mod LargeSteps
 pub mod Aggregators
 pub mod Runs
+pub mod Tables
 pub mod TestRows
 pub mod FlagBits
 pub mod NumberRows

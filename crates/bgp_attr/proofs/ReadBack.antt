@@ -35,15 +35,15 @@ use Rattle.bgp_attr.specs.Numbers.{number_width, number_in, number_octets, row_o
 use Rattle.bgp_attr.specs.Refusal.{Discard, Withdraw}
 use Rattle.bgp_attr.specs.Value.{origin_of, as_path_form, as4_path_form, aggregator_of}
 use Rattle.bgp_attr.specs.Path.{path_of}
-use Rattle.bgp_attr.specs.Judgement.{origin_tests, next_hop_tests, med_tests, local_pref_tests, atomic_tests, has_bad_prefix, mp_reach_tests, mp_unreach_tests, as_path_tests, as4_path_tests, communities_tests, large_tests, aggregator_tests, as4_aggregator_tests, other_tests, judgement}
-use Rattle.bgp_attr.specs.Spelling.{origin_code, is_recognised, IsReach, link_octets, HasLink, IsUnreach}
-use Rattle.bgp_attr.specs.Written.{made, written_tlv, canonical, aggregator_octets, reach_row, reach_octets, unreach_row, unreach_octets, any_number, is_above_two_octets, is_bad_segment, HasLinkRange, Belongs, path_octets, repeats, IsFourOctets, IsThreeNumbers, is_writable, HasRanges}
-use Rattle.bgp_attr.proofs.FlagBits.{has_class-flags, is_partial-flags, is_optional-flags, is_transitive-flags, optional_class}
+use Rattle.bgp_attr.specs.Judgement.{origin_tests, next_hop_tests, med_tests, local_pref_tests, atomic_tests, has_bad_prefix, mp_reach_tests, mp_unreach_tests, as_path_tests, as4_path_tests, communities_tests, large_tests, aggregator_tests, as4_aggregator_tests, AttributeType, is_recognised, judgement}
+use Rattle.bgp_attr.specs.Spelling.{origin_code, IsReach, link_octets, HasLink, IsUnreach}
+use Rattle.bgp_attr.specs.Written.{optional_class, made, type_of, written_tlv, canonical, aggregator_octets, reach_row, reach_octets, unreach_row, unreach_octets, any_number, is_above_two_octets, is_bad_segment, HasLinkRange, Belongs, path_octets, repeats, IsFourOctets, IsThreeNumbers, is_writable, HasRanges}
+use Rattle.bgp_attr.proofs.FlagBits.{has_class-flags, is_partial-flags, is_optional-flags, is_transitive-flags}
 use Rattle.bgp_attr.proofs.NumberRows.{Fits, number_in-octets, length-number_octets, length-row_octets, numbers_of-row_octets, length-triples, triples_of-octets}
 use Rattle.bgp_attr.proofs.SegmentRows.{CanStand, path_of-octets, path_fault-octets, path_has_zero-octets, length-even, length-least}
 use Rattle.bgp_attr.proofs.OnceLemmas.{each_once-same}
 use Rattle.bgp_attr.proofs.RouteRows.{afi_number, reach-family, reach-hop_length, reach-long, reach-longer, reach-good, reach4-value, reach6-value, reach_row-spells, unreach-family, unreach-long, unreach-good, unreach4-value, unreach6-value, unreach_row-spells}
-use Rattle.bgp_attr.proofs.TestRows.{NoneApplies, tests-mp_reach, value-mp_reach, tests-mp_unreach, value-mp_unreach, pass, pass_fault, tests-as_path, value-as_path, tests-as4_path, value-as4_path, tests-communities, value-communities, tests-large, value-large, judgement-keep, tests-origin, value-origin, tests-next_hop, value-next_hop, tests-med, value-med, tests-local_pref, value-local_pref, tests-atomic, value-atomic, tests-aggregator, value-aggregator, tests-as4_aggregator, value-as4_aggregator, tests-other, value-other, Writes, writable-Writes}
+use Rattle.bgp_attr.proofs.TestRows.{NoneApplies, pass, pass_fault, row_at, row-at, row-other, keeps, Writes, writable-Writes}
 
 -- ---- one whole attribute
 
@@ -84,6 +84,9 @@ module _ (ctx : Context) (has_nlri : Bool) where
   abbrev ThisKept : Attr → Type 0
   ThisKept a = judgement ctx has_nlri (written_tlv ctx a) ≡ judged.Keep a
 
+  this-kept : (a : Attr) → (let type : AttributeType = row_at ctx has_nlri (written_tlv ctx a) (type_of a) in type.value ≡ a → NoneApplies type.tests → ThisKept a)
+  this-kept a value none = keeps ctx has_nlri (written_tlv ctx a) _ a (row-at ctx has_nlri (written_tlv ctx a) (type_of a) refl) value none
+
   origin-back : (o : Origin) → origin_of (origin_code o ∷ []) ≡ o
   origin-back Igp = refl
   origin-back Egp = refl
@@ -96,32 +99,27 @@ module _ (ctx : Context) (has_nlri : Bool) where
 
   pub kept-origin : (o : Origin) → ThisKept (attr.Origin o)
   kept-origin o =
-      let t : TlvValue = written_tlv ctx (attr.Origin o) in
-      judgement-keep ctx has_nlri t (origin_tests t) (attr.Origin o) (tests-origin ctx has_nlri t refl) (value-origin ctx t refl ∙ ap (λ (x : Origin). attr.Origin x) (origin-back o))
+      this-kept (attr.Origin o) (ap (λ (x : Origin). attr.Origin x) (origin-back o))
       (refl, (refl, (pass _ _ (origin-low o), tt)))
 
   pub kept-next_hop : (addr : List ℕ) → length addr ≡ 4 → has_nlri ≡ true → ThisKept (attr.NextHop addr)
   kept-next_hop addr four given =
-      let t : TlvValue = written_tlv ctx (attr.NextHop addr) in
-      judgement-keep ctx has_nlri t (next_hop_tests has_nlri t) (attr.NextHop addr) (tests-next_hop ctx has_nlri t refl) (value-next_hop ctx t refl)
+      this-kept (attr.NextHop addr) refl
       (pass _ _ (ap not given), (pass _ _ (flags-right WellKnown false (ltb 255 (length addr))), (pass _ _ (is_long 4 addr four), tt)))
 
   pub kept-med : (n : ℕ) → IsFourOctets n → ThisKept (attr.Med n)
   kept-med n small =
-      let t : TlvValue = written_tlv ctx (attr.Med n) in
-      judgement-keep ctx has_nlri t (med_tests t) (attr.Med n) (tests-med ctx has_nlri t refl) (value-med ctx t refl ∙ ap (λ (x : ℕ). attr.Med x) (from_be_bytes-to_be_bytes_4 n small))
+      this-kept (attr.Med n) (ap (λ (x : ℕ). attr.Med x) (from_be_bytes-to_be_bytes_4 n small))
       (refl, (refl, tt))
 
   pub kept-local_pref : (n : ℕ) → IsFourOctets n → ctx.internal ≡ true → ThisKept (attr.LocalPref n)
   kept-local_pref n small internal =
-      let t : TlvValue = written_tlv ctx (attr.LocalPref n) in
-      judgement-keep ctx has_nlri t (local_pref_tests ctx t) (attr.LocalPref n) (tests-local_pref ctx has_nlri t refl) (value-local_pref ctx t refl ∙ ap (λ (x : ℕ). attr.LocalPref x) (from_be_bytes-to_be_bytes_4 n small))
+      this-kept (attr.LocalPref n) (ap (λ (x : ℕ). attr.LocalPref x) (from_be_bytes-to_be_bytes_4 n small))
       (pass _ _ (ap not internal), (refl, (refl, tt)))
 
   pub kept-atomic : ThisKept attr.Atomic
   kept-atomic =
-      let t : TlvValue = written_tlv ctx attr.Atomic in
-      judgement-keep ctx has_nlri t (atomic_tests t) attr.Atomic (tests-atomic ctx has_nlri t refl) (value-atomic ctx t refl) (refl, (refl, tt))
+      this-kept attr.Atomic refl (refl, (refl, tt))
 
   -- an AS number and an address
   module _ (wide : Bool) (a : Aggregator) (small : Fits wide (a.asn).0) (nonzero : eqb (a.asn).0 0 ≡ false) (four : length a.addr ≡ 4) (kind : ℕ) where
@@ -158,24 +156,20 @@ module _ (ctx : Context) (has_nlri : Bool) where
 
   pub kept-aggregator : (a : Aggregator) → Fits ctx.as4 (a.asn).0 → eqb (a.asn).0 0 ≡ false → length a.addr ≡ 4 → ThisKept (attr.Aggregator a)
   kept-aggregator a small nonzero four =
-      let t : TlvValue = written_tlv ctx (attr.Aggregator a) in
-      judgement-keep ctx has_nlri t (aggregator_tests ctx.as4 t) (attr.Aggregator a) (tests-aggregator ctx has_nlri t refl)
-      (value-aggregator ctx t refl ∙ ap (λ (x : Aggregator). attr.Aggregator x) (aggregator-back ctx.as4 a small nonzero four AGGREGATOR))
+      this-kept (attr.Aggregator a) (ap (λ (x : Aggregator). attr.Aggregator x) (aggregator-back ctx.as4 a small nonzero four AGGREGATOR))
       (aggregator-passes ctx.as4 a small nonzero four AGGREGATOR)
 
   pub kept-as4_aggregator : (a : Aggregator) → ctx.as4 ≡ false → Fits true (a.asn).0 → eqb (a.asn).0 0 ≡ false → length a.addr ≡ 4 → ThisKept (attr.As4Aggregator a)
   kept-as4_aggregator a narrow small nonzero four =
-      let t : TlvValue = written_tlv ctx (attr.As4Aggregator a) in
-      judgement-keep ctx has_nlri t (as4_aggregator_tests ctx t) (attr.As4Aggregator a) (tests-as4_aggregator ctx has_nlri t refl)
-      (value-as4_aggregator ctx t refl ∙ ap (λ (x : Aggregator). attr.As4Aggregator x) (aggregator-back true a small nonzero four AS4_AGGREGATOR))
+      this-kept (attr.As4Aggregator a) (ap (λ (x : Aggregator). attr.As4Aggregator x) (aggregator-back true a small nonzero four AS4_AGGREGATOR))
       (pass _ _ narrow, aggregator-passes true a small nonzero four AS4_AGGREGATOR)
 
   -- the value of a type that isn't recognised
   pub kept-opaque : (o : Opaque) → is_recognised o.kind ≡ false → ThisKept (attr.Opaque o)
   kept-opaque o other =
       let t : TlvValue = written_tlv ctx (attr.Opaque o) in
-      judgement-keep ctx has_nlri t (other_tests t) (attr.Opaque o) (tests-other ctx has_nlri t other)
-      (value-other ctx t other ∙ ap (λ (x : Opaque). attr.Opaque x) (same _ _ (is_transitive-flags o.transitive o.partial (ltb 255 (length o.value))) (is_partial-flags (optional_class o.transitive) o.partial (ltb 255 (length o.value)))))
+      keeps ctx has_nlri t _ (attr.Opaque o) (row-other ctx has_nlri t other)
+      (ap (λ (x : Opaque). attr.Opaque x) (same _ _ (is_transitive-flags o.transitive o.partial (ltb 255 (length o.value))) (is_partial-flags (optional_class o.transitive) o.partial (ltb 255 (length o.value)))))
       (pass _ _ (ap not (is_optional-flags o.transitive o.partial (ltb 255 (length o.value)))), tt)
     where
       same : (transitive partial : Bool) → transitive ≡ o.transitive → partial ≡ o.partial
@@ -186,9 +180,7 @@ module _ (ctx : Context) (has_nlri : Bool) where
 
   pub kept-as_path : (p : AsPath) → CanStand ctx.as4 p → ThisKept (attr.AsPath p)
   kept-as_path p c =
-      let t : TlvValue = written_tlv ctx (attr.AsPath p) in
-      judgement-keep ctx has_nlri t (as_path_tests ctx t) (attr.AsPath p) (tests-as_path ctx has_nlri t refl)
-      (value-as_path ctx t refl ∙ ap (λ (x : AsPath). attr.AsPath x) (path_of-octets (as_path_form ctx) p c)) (
+      this-kept (attr.AsPath p) (ap (λ (x : AsPath). attr.AsPath x) (path_of-octets (as_path_form ctx) p c)) (
         pass _ _ (flags-right WellKnown false (ltb 255 (length (path_octets ctx.as4 p)))),
         (
           pass_fault (λ fault. Withdraw fault) _ (path_fault-octets (as_path_form ctx) p c),
@@ -205,8 +197,7 @@ module _ (ctx : Context) (has_nlri : Bool) where
       let long : ltb (length octets) 6 ≡ false = le-ltb _ 6 (length-least p.path some c.good) in
       let left : eqb (length (path_of as4_path_form octets).segments) 0 ≡ false =
       ap (λ (x : AsPath). eqb (length x.segments) 0) back ∙ ne_eqb (length (p.path).segments) 0 (λ e. omega arith) in
-      judgement-keep ctx has_nlri t (as4_path_tests ctx t) (attr.As4Path p) (tests-as4_path ctx has_nlri t refl)
-      (value-as4_path ctx t refl ∙ ap (λ (x : As4Path). attr.As4Path x) (same _ _ (is_partial-flags OptionalTransitive p.partial (ltb 255 (length octets))) back)) (
+      this-kept (attr.As4Path p) (ap (λ (x : As4Path). attr.As4Path x) (same _ _ (is_partial-flags OptionalTransitive p.partial (ltb 255 (length octets))) back)) (
         pass _ _ narrow,
         (
           pass _ _ (flags-right OptionalTransitive p.partial (ltb 255 (length octets))),
@@ -229,8 +220,7 @@ module _ (ctx : Context) (has_nlri : Bool) where
       let long : length octets ≡ 4 * length c.values = length-row_octets true c.values in
       let given : eqb (length octets) 0 ≡ false = ne_eqb _ 0 (λ (e : length octets ≡ 0). absurd (omega arith)) in
       let whole : eqb (length octets % 4) 0 ≡ true = eq-eqb _ 0 (omega arith) in
-      judgement-keep ctx has_nlri t (communities_tests t) (attr.Communities c) (tests-communities ctx has_nlri t refl)
-      (value-communities ctx t refl ∙ ap (λ (x : Communities). attr.Communities x) (same _ _ (is_partial-flags OptionalTransitive c.partial (ltb 255 (length octets))) (numbers_of-row_octets true c.values small)))
+      this-kept (attr.Communities c) (ap (λ (x : Communities). attr.Communities x) (same _ _ (is_partial-flags OptionalTransitive c.partial (ltb 255 (length octets))) (numbers_of-row_octets true c.values small)))
       (pass _ _ (flags-right OptionalTransitive c.partial (ltb 255 (length octets))), (pass _ _ (or_from _ _ given (ap not whole)), tt))
     where
       same : (partial : Bool) (values : List ℕ) → partial ≡ c.partial → values ≡ c.values → (let d : Communities = record { partial = partial; values = values } in d ≡ c)
@@ -243,8 +233,7 @@ module _ (ctx : Context) (has_nlri : Bool) where
       let long : length octets ≡ 12 * length l.values = length-triples l.values small in
       let given : eqb (length octets) 0 ≡ false = ne_eqb _ 0 (λ (e : length octets ≡ 0). absurd (omega arith)) in
       let whole : eqb (length octets % 12) 0 ≡ true = eq-eqb _ 0 (omega arith) in
-      judgement-keep ctx has_nlri t (large_tests t) (attr.Large l) (tests-large ctx has_nlri t refl)
-      (value-large ctx t refl ∙ ap (λ (x : LargeCommunities). attr.Large x) (same _ _ (is_partial-flags OptionalTransitive l.partial (ltb 255 (length octets)))
+      this-kept (attr.Large l) (ap (λ (x : LargeCommunities). attr.Large x) (same _ _ (is_partial-flags OptionalTransitive l.partial (ltb 255 (length octets)))
       (ap each_once (triples_of-octets l.values small) ∙ each_once-same l.values once)))
       (pass _ _ (flags-right OptionalTransitive l.partial (ltb 255 (length octets))), (pass _ _ (or_from _ _ given (ap not whole)), tt))
     where
@@ -290,13 +279,11 @@ module _ (ctx : Context) (has_nlri : Bool) where
 
   kept-reach : (r : MpReach) → NoneApplies (mp_reach_tests ctx (written_tlv ctx (attr.MpReach r))) → mp_reach_of (reach_octets r) ≡ r → ThisKept (attr.MpReach r)
   kept-reach r none same =
-      let t : TlvValue = written_tlv ctx (attr.MpReach r) in
-      judgement-keep ctx has_nlri t (mp_reach_tests ctx t) (attr.MpReach r) (tests-mp_reach ctx has_nlri t refl) (value-mp_reach ctx t refl ∙ ap (λ (x : MpReach). attr.MpReach x) same) none
+      this-kept (attr.MpReach r) (ap (λ (x : MpReach). attr.MpReach x) same) none
 
   kept-unreach : (r : MpUnreach) → NoneApplies (mp_unreach_tests ctx (written_tlv ctx (attr.MpUnreach r))) → mp_unreach_of (unreach_octets r) ≡ r → ThisKept (attr.MpUnreach r)
   kept-unreach r none same =
-      let t : TlvValue = written_tlv ctx (attr.MpUnreach r) in
-      judgement-keep ctx has_nlri t (mp_unreach_tests ctx t) (attr.MpUnreach r) (tests-mp_unreach ctx has_nlri t refl) (value-mp_unreach ctx t refl ∙ ap (λ (x : MpUnreach). attr.MpUnreach x) same) none
+      this-kept (attr.MpUnreach r) (ap (λ (x : MpUnreach). attr.MpUnreach x) same) none
 
   pub kept-reach4 : (hop : List ℕ) (routes : List PrefixValue) → length hop ≡ 4 → AllByRecursion (IsValid 4) routes → ctx.ip4 ≡ true → ThisKept (attr.MpReach (reach.Ip4 hop routes))
   kept-reach4 hop routes four valid used =

@@ -23,9 +23,9 @@ use Rattle.bgp_attr.specs.Numbers.{number_width, number_in, number_octets, numbe
 use Rattle.bgp_attr.specs.Path.{path_of}
 use Rattle.bgp_attr.specs.Mp.{family_of, is_in_use, mp_reach_of, mp_unreach_of}
 use Rattle.bgp_attr.specs.Refusal.{Discard, Withdraw}
-use Rattle.bgp_attr.specs.Value.{origin_of, as_path_form, as4_path_form, four_of, aggregator_of, communities_of, large_of, as4_path_of, opaque_of, value_of}
-use Rattle.bgp_attr.specs.Judgement.{origin_tests, as_path_tests, next_hop_tests, med_tests, local_pref_tests, aggregator_tests, communities_tests, mp_reach_tests, mp_unreach_tests, as4_path_tests, as4_aggregator_tests, large_tests, judgement}
-use Rattle.bgp_attr.specs.Spelling.{is_recognised, link_octets, HasLink, IsReachValue, IsUnreachValue}
+use Rattle.bgp_attr.specs.Value.{origin_of, as_path_form, as4_path_form, four_of, aggregator_of, communities_of, large_of, as4_path_of, opaque_of}
+use Rattle.bgp_attr.specs.Judgement.{origin_tests, as_path_tests, next_hop_tests, med_tests, local_pref_tests, aggregator_tests, communities_tests, mp_reach_tests, mp_unreach_tests, as4_path_tests, as4_aggregator_tests, large_tests, is_recognised, judgement}
+use Rattle.bgp_attr.specs.Spelling.{link_octets, HasLink, IsReachValue, IsUnreachValue}
 use Rattle.bgp_attr.specs.Written.{made, value_octets, class_of, partial_of, type_of, aggregator_octets, is_too_wide, is_as4, is_empty, is_misnamed, has_as_zero, stands_twice, is_too_long, Belongs, IsThreeNumbers, IsAddress, HasLinkRange, HasRanges}
 use Rattle.bgp_attr.specs.Laws.{CanBeWritten}
 use Rattle.bgp_attr.proofs.FlagBits.{is_extended-flags}
@@ -34,7 +34,8 @@ use Rattle.bgp_attr.proofs.OnceLemmas.{each_once-repeats, each_once-all, each_on
 use Rattle.bgp_attr.proofs.SegmentRows.{path-rewrites}
 use Rattle.bgp_attr.proofs.RouteRows.{reach-family, reach-hop_octets, reach-valid, reach-rewritten, unreach-family, unreach-valid, unreach-rewritten}
 use Rattle.bgp_attr.proofs.Kept.{communities-spells, large-spells, mp_reach-spells, mp_unreach-spells}
-use Rattle.bgp_attr.proofs.TestRows.{NoneApplies, passed, passed_fault, Writes-writable, TypeCase, OfOrigin, OfAsPath, OfNextHop, OfMed, OfLocalPref, OfAtomic, OfAggregator, OfCommunities, OfMpReach, OfMpUnreach, OfAs4Path, OfAs4Aggregator, OfLarge, OfOther, type_case, keep-judgement, keep-value, tests-origin, tests-as_path, tests-next_hop, tests-med, tests-local_pref, tests-aggregator, tests-communities, tests-mp_reach, tests-mp_unreach, tests-as4_path, tests-as4_aggregator, tests-large, value-origin, value-as_path, value-next_hop, value-med, value-local_pref, value-atomic, value-aggregator, value-communities, value-mp_reach, value-mp_unreach, value-as4_path, value-as4_aggregator, value-large, value-other}
+use Rattle.bgp_attr.proofs.Tables.{◌&◌}
+use Rattle.bgp_attr.proofs.TestRows.{NoneApplies, passed, passed_fault, Writes-writable, by_kept}
 
 -- ---- what each value needs, but for its length field
 
@@ -271,25 +272,13 @@ module _ (ctx : Context) (has_nlri : Bool) (t : TlvValue) (octets : AreOctets t.
 
   -- ---- every type
 
-  module _ (a : Attr) (keeps : judgement ctx has_nlri t ≡ judged.Keep a) (small : t.kind < 256) where
-    is_value : (x : Attr) → value_of ctx t ≡ x → Rewritten ctx has_nlri t x → Rewritten ctx has_nlri t a
-    is_value x e r = subst (λ (y : Attr). Rewritten ctx has_nlri t y) (sym e ∙ keep-value ctx has_nlri t a keeps) r
-
-    rewritten-by : TypeCase t.kind → Rewritten ctx has_nlri t a
-    rewritten-by (OfOrigin e) = is_value _ (value-origin ctx t e) (origin-rewritten (keep-judgement ctx has_nlri t _ a (tests-origin ctx has_nlri t e) keeps))
-    rewritten-by (OfAsPath e) = is_value _ (value-as_path ctx t e) (as_path-rewritten (keep-judgement ctx has_nlri t _ a (tests-as_path ctx has_nlri t e) keeps))
-    rewritten-by (OfNextHop e) = is_value _ (value-next_hop ctx t e) (next_hop-rewritten (keep-judgement ctx has_nlri t _ a (tests-next_hop ctx has_nlri t e) keeps))
-    rewritten-by (OfMed e) = is_value _ (value-med ctx t e) (med-rewritten (keep-judgement ctx has_nlri t _ a (tests-med ctx has_nlri t e) keeps))
-    rewritten-by (OfLocalPref e) = is_value _ (value-local_pref ctx t e) (local_pref-rewritten (keep-judgement ctx has_nlri t _ a (tests-local_pref ctx has_nlri t e) keeps))
-    rewritten-by (OfAtomic e) = is_value _ (value-atomic ctx t e) atomic-rewritten
-    rewritten-by (OfAggregator e) = is_value _ (value-aggregator ctx t e) (aggregator-rewritten (keep-judgement ctx has_nlri t _ a (tests-aggregator ctx has_nlri t e) keeps))
-    rewritten-by (OfCommunities e) = is_value _ (value-communities ctx t e) (communities-rewritten e (keep-judgement ctx has_nlri t _ a (tests-communities ctx has_nlri t e) keeps))
-    rewritten-by (OfMpReach e) = is_value _ (value-mp_reach ctx t e) (mp_reach-rewritten e (keep-judgement ctx has_nlri t _ a (tests-mp_reach ctx has_nlri t e) keeps))
-    rewritten-by (OfMpUnreach e) = is_value _ (value-mp_unreach ctx t e) (mp_unreach-rewritten e (keep-judgement ctx has_nlri t _ a (tests-mp_unreach ctx has_nlri t e) keeps))
-    rewritten-by (OfAs4Path e) = is_value _ (value-as4_path ctx t e) (as4_path-rewritten (keep-judgement ctx has_nlri t _ a (tests-as4_path ctx has_nlri t e) keeps))
-    rewritten-by (OfAs4Aggregator e) = is_value _ (value-as4_aggregator ctx t e) (as4_aggregator-rewritten (keep-judgement ctx has_nlri t _ a (tests-as4_aggregator ctx has_nlri t e) keeps))
-    rewritten-by (OfLarge e) = is_value _ (value-large ctx t e) (large-rewritten e (keep-judgement ctx has_nlri t _ a (tests-large ctx has_nlri t e) keeps))
-    rewritten-by (OfOther e) = is_value _ (value-other ctx t e) (other-rewritten e small)
+  kept-rewrites : (a : Attr) → judgement ctx has_nlri t ≡ judged.Keep a → t.kind < 256 → Rewritten ctx has_nlri t a
+  kept-rewrites a keeps small =
+      by_kept ctx has_nlri t (Rewritten ctx has_nlri t)
+      ((λ e none. origin-rewritten none) & (λ e none. as_path-rewritten none) & (λ e none. next_hop-rewritten none) & (λ e none. med-rewritten none)
+      & (λ e none. local_pref-rewritten none) & (λ e none. atomic-rewritten) & (λ e none. aggregator-rewritten none) & communities-rewritten
+      & mp_reach-rewritten & mp_unreach-rewritten & (λ e none. as4_path-rewritten none) & (λ e none. as4_aggregator-rewritten none) & large-rewritten & tt)
+      (λ e none. other-rewritten e small) a keeps
 
 -- ---- the length field
 
@@ -330,7 +319,7 @@ kept-rewritten ctx has_nlri t a b s octets keeps =
     let all : AreOctets (t.flags ∷ t.kind ∷ (s.size ++ t.value)) = subst AreOctets s.octets octets in
     let behind : AreOctets (s.size ++ t.value) = λ i. all (suc (suc i)) in
     let kind : t.kind < 256 = all 1 in
-    let r = rewritten-by ctx has_nlri t (AreOctets-back s.size t.value behind) a keeps kind (type_case t.kind) in
+    let r = kept-rewrites ctx has_nlri t (AreOctets-back s.size t.value behind) a keeps kind in
     let h = size-holds s.size (is_extended t.flags) (AreOctets-front s.size t.value behind) s.wide in
     let low : number_of_length s.size < 2 ^ 16 = h.low in
     let shorter : length (value_octets ctx a) ≤ length t.value = r.shorter in

@@ -1,6 +1,6 @@
 -- The judgement of one attribute, the first of its type in a message (RFC 4271, section 6.3; RFC 7606, sections 3 to 7; RFC 7607).
 -- A row for each type: its tests in their order. The first that applies decides; where none does, the attribute is kept.
-use Rattle.std.specs.Prelude.{ℕ, ◌+◌, ◌%◌, Bool, not, ◌||◌, ◌==◌, nat_lt, List, [], ◌∷◌, length, take, slice_index, Option, None, Some, option_map, if◌then◌else◌}
+use Rattle.std.specs.Prelude.{ℕ, ◌+◌, ◌%◌, Bool, not, ◌||◌, ◌==◌, nat_lt, List, [], ◌∷◌, length, take, map, slice_index, Option, None, Some, option_map, if◌then◌else◌}
 use Rattle.bgp_numbers.specs.declared.attribute.TheConstants.{ORIGIN, AS_PATH, NEXT_HOP, MULTI_EXIT_DISC, LOCAL_PREF, ATOMIC_AGGREGATE, AGGREGATOR, COMMUNITIES, MP_REACH_NLRI, MP_UNREACH_NLRI, AS4_PATH, AS4_AGGREGATOR, LARGE_COMMUNITY}
 use Rattle.bgp_numbers.specs.declared.error.TheConstants.{OPTIONAL_ATTRIBUTE, UNRECOGNIZED_WELL_KNOWN}
 use Rattle.bgp_open.specs.declared.context.Context.{Context}
@@ -8,6 +8,7 @@ use Rattle.bgp_prefix.specs.Run.{run_of}
 use Rattle.bgp_attr.specs.declared.class.Class.{Class}
 use Rattle.bgp_attr.specs.declared.class.Class.TheVariants.{WellKnown, OptionalNonTransitive, OptionalTransitive}
 use Rattle.bgp_attr.specs.declared.attr.Attr.{Attr}
+use Rattle.bgp_attr.specs.declared.attr.Attr.TheVariants as attr
 use Rattle.bgp_attr.specs.declared.judged.Judged.{Judged}
 use Rattle.bgp_attr.specs.declared.judged.Judged.TheVariants as judged
 use Rattle.bgp_attr.specs.declared.why.Why.TheVariants as why
@@ -15,9 +16,10 @@ use Rattle.bgp_attr.specs.Flags.{has_class, is_optional}
 use Rattle.bgp_attr.specs.Tlv.{TlvValue}
 use Rattle.bgp_attr.specs.Numbers.{number_width, number_in}
 use Rattle.bgp_attr.specs.Path.{path_of, path_fault, path_has_zero}
-use Rattle.bgp_attr.specs.Mp.{family_of, is_in_use, address_width, is_next_hop_length, next_hop_length, reached_of, withdrawn_of}
+use Rattle.bgp_attr.specs.Mp.{family_of, is_in_use, address_width, is_next_hop_length, next_hop_length, reached_of, mp_reach_of, withdrawn_of, mp_unreach_of}
 use Rattle.bgp_attr.specs.Refusal.{Refusal, Discard, Withdraw, Reset, when, first_refusal, reset_with}
-use Rattle.bgp_attr.specs.Value.{as_path_form, as4_path_form, value_of}
+use Rattle.bgp_attr.specs.Table.{has_entry, entry_of}
+use Rattle.bgp_attr.specs.Value.{origin_of, as_path_form, as4_path_form, four_of, aggregator_of, communities_of, large_of, as4_path_of, opaque_of}
 
 -- ---- words of the table
 
@@ -133,23 +135,44 @@ abbrev pub other_tests : TlvValue → List (Option Refusal)
 other_tests t =
     when (not (is_optional t.flags)) (reset_with UNRECOGNIZED_WELL_KNOWN t) ∷ []
 
--- the row of a type; has_nlri says that the NLRI field of the message isn't empty
-unfoldable pub tests_of : Context → Bool → TlvValue → List (Option Refusal)
-tests_of ctx has_nlri t =
-    if t.kind == ORIGIN then origin_tests t else (
-    if t.kind == AS_PATH then as_path_tests ctx t else (
-    if t.kind == NEXT_HOP then next_hop_tests has_nlri t else (
-    if t.kind == MULTI_EXIT_DISC then med_tests t else (
-    if t.kind == LOCAL_PREF then local_pref_tests ctx t else (
-    if t.kind == ATOMIC_AGGREGATE then atomic_tests t else (
-    if t.kind == AGGREGATOR then aggregator_tests ctx.as4 t else (
-    if t.kind == COMMUNITIES then communities_tests t else (
-    if t.kind == MP_REACH_NLRI then mp_reach_tests ctx t else (
-    if t.kind == MP_UNREACH_NLRI then mp_unreach_tests ctx t else (
-    if t.kind == AS4_PATH then as4_path_tests ctx t else (
-    if t.kind == AS4_AGGREGATOR then as4_aggregator_tests ctx t else (
-    if t.kind == LARGE_COMMUNITY then large_tests t else
-    other_tests t))))))))))))
+-- what belongs to a type: its tests in their order, and the value of an attribute that is kept
+pub record AttributeType : Type 0 where
+  pub tests : List (Option Refusal)
+  pub value : Attr
+
+abbrev pub tested : List (Option Refusal) → Attr → AttributeType
+tested tests value = record { tests = tests; value = value }
+
+-- a row for each type that is recognised; has_nlri says that the NLRI field of the message isn't empty
+abbrev pub recognised : List (ℕ × (Context → Bool → TlvValue → AttributeType))
+recognised =
+    (ORIGIN, λ ctx has_nlri t. tested (origin_tests t) (attr.Origin (origin_of t.value))) ∷
+    (AS_PATH, λ ctx has_nlri t. tested (as_path_tests ctx t) (attr.AsPath (path_of (as_path_form ctx) t.value))) ∷
+    (NEXT_HOP, λ ctx has_nlri t. tested (next_hop_tests has_nlri t) (attr.NextHop t.value)) ∷
+    (MULTI_EXIT_DISC, λ ctx has_nlri t. tested (med_tests t) (attr.Med (four_of t.value))) ∷
+    (LOCAL_PREF, λ ctx has_nlri t. tested (local_pref_tests ctx t) (attr.LocalPref (four_of t.value))) ∷
+    (ATOMIC_AGGREGATE, λ ctx has_nlri t. tested (atomic_tests t) attr.Atomic) ∷
+    (AGGREGATOR, λ ctx has_nlri t. tested (aggregator_tests ctx.as4 t) (attr.Aggregator (aggregator_of ctx.as4 t))) ∷
+    (COMMUNITIES, λ ctx has_nlri t. tested (communities_tests t) (attr.Communities (communities_of t))) ∷
+    (MP_REACH_NLRI, λ ctx has_nlri t. tested (mp_reach_tests ctx t) (attr.MpReach (mp_reach_of t.value))) ∷
+    (MP_UNREACH_NLRI, λ ctx has_nlri t. tested (mp_unreach_tests ctx t) (attr.MpUnreach (mp_unreach_of t.value))) ∷
+    (AS4_PATH, λ ctx has_nlri t. tested (as4_path_tests ctx t) (attr.As4Path (as4_path_of t))) ∷
+    (AS4_AGGREGATOR, λ ctx has_nlri t. tested (as4_aggregator_tests ctx t) (attr.As4Aggregator (aggregator_of Bool.true t))) ∷
+    (LARGE_COMMUNITY, λ ctx has_nlri t. tested (large_tests t) (attr.Large (large_of t))) ∷ []
+
+abbrev pub is_recognised : ℕ → Bool
+is_recognised kind = has_entry kind recognised
+
+-- the rows for one attribute
+abbrev pub types : Context → Bool → TlvValue → List (ℕ × AttributeType)
+types ctx has_nlri t = map (λ row. (row.0, row.1 ctx has_nlri t)) recognised
+
+-- what belongs to all other types
+abbrev pub other_type : TlvValue → AttributeType
+other_type t = tested (other_tests t) (attr.Opaque (opaque_of t))
+
+unfoldable pub type_row : Context → Bool → TlvValue → AttributeType
+type_row ctx has_nlri t = entry_of t.kind (types ctx has_nlri t) (other_type t)
 
 -- ---- the answer
 
@@ -166,5 +189,8 @@ unless_refused (Some refusal) a = refusal_judged refusal
 abbrev pub decided : List (Option Refusal) → Attr → Judged
 decided tests a = unless_refused (first_refusal tests) a
 
+abbrev pub judged_by : AttributeType → Judged
+judged_by type = decided type.tests type.value
+
 abbrev pub judgement : Context → Bool → TlvValue → Judged
-judgement ctx has_nlri t = decided (tests_of ctx has_nlri t) (value_of ctx t)
+judgement ctx has_nlri t = judged_by (type_row ctx has_nlri t)

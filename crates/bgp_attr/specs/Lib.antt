@@ -5,6 +5,7 @@ pub mod Numbers
 pub mod Path
 pub mod Mp
 pub mod Refusal
+pub mod Table
 pub mod Value
 pub mod Judgement
 pub mod Spelling

@@ -1,7 +1,7 @@
 -- What octets spell which attribute (RFC 4271, section 4.3; RFC 1997, section 2; RFC 2545, section 3; RFC 4760, sections 3 and 4;
 -- RFC 6793, section 3; RFC 8092, section 3). The Partial bit is kept where a type has one that means something.
-use Rattle.std.specs.Prelude.{◌≡◌, ◌<◌, ℕ, Bool, true, false, List, [], ◌∷◌, ◌++◌, length, ◌==◌, Option, None, Some, IfSome}
-use Rattle.std.specs.List.{flat_map, list_any}
+use Rattle.std.specs.Prelude.{◌≡◌, ◌<◌, ℕ, Bool, true, false, List, [], ◌∷◌, ◌++◌, length, Option, None, Some, IfSome}
+use Rattle.std.specs.List.{flat_map}
 use Rattle.std.specs.Int.{w16, to_be_bytes}
 use Rattle.bgp_numbers.specs.declared.afi.TheConstants.{IPV4, IPV6}
 use Rattle.bgp_numbers.specs.declared.safi.TheConstants.{UNICAST}
@@ -31,12 +31,7 @@ use Rattle.bgp_attr.specs.Tlv.{TlvValue}
 use Rattle.bgp_attr.specs.Numbers.{IsNumber, IsTriple, each_once}
 use Rattle.bgp_attr.specs.Path.{WireSegment, IsSegment, kept_segment}
 use Rattle.bgp_attr.specs.Value.{as_path_form, as4_path_form}
-
--- the types that are recognised
-abbrev pub is_recognised : ℕ → Bool
-is_recognised kind = list_any (λ k. kind == k)
-    (ORIGIN ∷ AS_PATH ∷ NEXT_HOP ∷ MULTI_EXIT_DISC ∷ LOCAL_PREF ∷ ATOMIC_AGGREGATE ∷ AGGREGATOR ∷ COMMUNITIES
-    ∷ MP_REACH_NLRI ∷ MP_UNREACH_NLRI ∷ AS4_PATH ∷ AS4_AGGREGATOR ∷ LARGE_COMMUNITY ∷ [])
+use Rattle.bgp_attr.specs.Judgement.{is_recognised}
 
 -- the type, and the Optional and Transitive bits that go with it
 pub record IsOfType (kind : ℕ) (class : Class) (t : TlvValue) : Type 0 where

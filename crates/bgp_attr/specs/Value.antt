@@ -1,11 +1,8 @@
 -- The values of attributes, as functions of their octets (RFC 4271, section 4.3; RFC 1997, 4760, 6793 and 8092).
 use Rattle.std.specs.Prelude.{ℕ, Bool, ◌==◌, List, take, drop, slice_index, if◌then◌else◌}
 use Rattle.std.specs.Int.{w32, from_be_bytes}
-use Rattle.bgp_numbers.specs.declared.attribute.TheConstants.{ORIGIN, AS_PATH, NEXT_HOP, MULTI_EXIT_DISC, LOCAL_PREF, ATOMIC_AGGREGATE, AGGREGATOR, COMMUNITIES, MP_REACH_NLRI, MP_UNREACH_NLRI, AS4_PATH, AS4_AGGREGATOR, LARGE_COMMUNITY}
 use Rattle.bgp_open.specs.declared.context.Context.{Context}
 use Rattle.bgp_attr.specs.declared.aggregator.Aggregator.{Aggregator}
-use Rattle.bgp_attr.specs.declared.attr.Attr.{Attr}
-use Rattle.bgp_attr.specs.declared.attr.Attr.TheVariants as attr
 use Rattle.bgp_attr.specs.declared.communities.Communities.{Communities}
 use Rattle.bgp_attr.specs.declared.communities.LargeCommunities.{LargeCommunities}
 use Rattle.bgp_attr.specs.declared.opaque.Opaque.{Opaque}
@@ -17,7 +14,6 @@ use Rattle.bgp_attr.specs.Flags.{is_transitive, is_partial}
 use Rattle.bgp_attr.specs.Tlv.{TlvValue}
 use Rattle.bgp_attr.specs.Numbers.{number_width, number_in, numbers_of, triples_of, each_once}
 use Rattle.bgp_attr.specs.Path.{as_number, path_of}
-use Rattle.bgp_attr.specs.Mp.{mp_reach_of, mp_unreach_of}
 
 -- 0 is IGP, 1 EGP, 2 INCOMPLETE
 abbrev pub origin_of : List ℕ → Origin
@@ -57,21 +53,3 @@ as4_path_of t = record { partial = is_partial t.flags; path = path_of as4_path_f
 
 abbrev pub opaque_of : TlvValue → Opaque
 opaque_of t = record { kind = t.kind; transitive = is_transitive t.flags; partial = is_partial t.flags; value = t.value }
-
--- the value by the attribute's type
-unfoldable pub value_of : Context → TlvValue → Attr
-value_of ctx t =
-    if t.kind == ORIGIN then attr.Origin (origin_of t.value) else (
-    if t.kind == AS_PATH then attr.AsPath (path_of (as_path_form ctx) t.value) else (
-    if t.kind == NEXT_HOP then attr.NextHop t.value else (
-    if t.kind == MULTI_EXIT_DISC then attr.Med (four_of t.value) else (
-    if t.kind == LOCAL_PREF then attr.LocalPref (four_of t.value) else (
-    if t.kind == ATOMIC_AGGREGATE then attr.Atomic else (
-    if t.kind == AGGREGATOR then attr.Aggregator (aggregator_of ctx.as4 t) else (
-    if t.kind == COMMUNITIES then attr.Communities (communities_of t) else (
-    if t.kind == MP_REACH_NLRI then attr.MpReach (mp_reach_of t.value) else (
-    if t.kind == MP_UNREACH_NLRI then attr.MpUnreach (mp_unreach_of t.value) else (
-    if t.kind == AS4_PATH then attr.As4Path (as4_path_of t) else (
-    if t.kind == AS4_AGGREGATOR then attr.As4Aggregator (aggregator_of Bool.true t) else (
-    if t.kind == LARGE_COMMUNITY then attr.Large (large_of t) else
-    attr.Opaque (opaque_of t)))))))))))))

@@ -28,7 +28,8 @@ use Rattle.bgp_attr.specs.declared.unwritable.Unwritable.TheVariants.{AsWidth, A
 use Rattle.bgp_attr.specs.Flags.{flags_octet}
 use Rattle.bgp_attr.specs.Tlv.{TlvValue, tlv_octets}
 use Rattle.bgp_attr.specs.Numbers.{number_octets, row_octets, triple_octets, same_triple}
-use Rattle.bgp_attr.specs.Spelling.{is_recognised, origin_code, link_octets}
+use Rattle.bgp_attr.specs.Judgement.{is_recognised}
+use Rattle.bgp_attr.specs.Spelling.{origin_code, link_octets}
 
 -- ---- the octets of values
 
@@ -65,65 +66,49 @@ abbrev pub unreach_octets : MpUnreach → List ℕ
 unreach_octets (unreach.Ip4 routes) = unreach_row IPV4 routes
 unreach_octets (unreach.Ip6 routes) = unreach_row IPV6 routes
 
-abbrev pub value_octets : Context → Attr → List ℕ
-value_octets ctx (attr.Origin o) = origin_code o ∷ []
-value_octets ctx (attr.AsPath p) = path_octets ctx.as4 p
-value_octets ctx (attr.NextHop addr) = addr
-value_octets ctx (attr.Med n) = to_be_bytes w32 n
-value_octets ctx (attr.LocalPref n) = to_be_bytes w32 n
-value_octets ctx attr.Atomic = []
-value_octets ctx (attr.Aggregator a) = aggregator_octets ctx.as4 a
-value_octets ctx (attr.Communities c) = row_octets true c.values
-value_octets ctx (attr.MpReach r) = reach_octets r
-value_octets ctx (attr.MpUnreach r) = unreach_octets r
-value_octets ctx (attr.As4Path p) = path_octets true p.path
-value_octets ctx (attr.As4Aggregator a) = aggregator_octets true a
-value_octets ctx (attr.Large l) = flat_map triple_octets l.values
-value_octets ctx (attr.Opaque o) = o.value
+-- ---- the form of each type
 
--- ---- type and flags
+-- what is written of an attribute: its type, the class of its flags, its Partial bit, and its value in a session with AS numbers of
+-- four octets or of two. The Partial bit is 0 where the type has none that means something.
+pub record Form : Type 0 where
+  pub kind : ℕ
+  pub class : Class
+  pub partial : Bool
+  pub value : Bool → List ℕ
+
+abbrev pub form : ℕ → Class → Bool → (Bool → List ℕ) → Form
+form kind class partial value = record { kind = kind; class = class; partial = partial; value = value }
+
+abbrev pub optional_class : Bool → Class
+optional_class transitive = if transitive then OptionalTransitive else OptionalNonTransitive
+
+abbrev pub form_of : Attr → Form
+form_of (attr.Origin o) = form ORIGIN WellKnown false (λ wide. origin_code o ∷ [])
+form_of (attr.AsPath p) = form AS_PATH WellKnown false (λ wide. path_octets wide p)
+form_of (attr.NextHop addr) = form NEXT_HOP WellKnown false (λ wide. addr)
+form_of (attr.Med n) = form MULTI_EXIT_DISC OptionalNonTransitive false (λ wide. to_be_bytes w32 n)
+form_of (attr.LocalPref n) = form LOCAL_PREF WellKnown false (λ wide. to_be_bytes w32 n)
+form_of attr.Atomic = form ATOMIC_AGGREGATE WellKnown false (λ wide. [])
+form_of (attr.Aggregator a) = form AGGREGATOR OptionalTransitive a.partial (λ wide. aggregator_octets wide a)
+form_of (attr.Communities c) = form COMMUNITIES OptionalTransitive c.partial (λ wide. row_octets true c.values)
+form_of (attr.MpReach r) = form MP_REACH_NLRI OptionalNonTransitive false (λ wide. reach_octets r)
+form_of (attr.MpUnreach r) = form MP_UNREACH_NLRI OptionalNonTransitive false (λ wide. unreach_octets r)
+form_of (attr.As4Path p) = form AS4_PATH OptionalTransitive p.partial (λ wide. path_octets true p.path)
+form_of (attr.As4Aggregator a) = form AS4_AGGREGATOR OptionalTransitive a.partial (λ wide. aggregator_octets true a)
+form_of (attr.Large l) = form LARGE_COMMUNITY OptionalTransitive l.partial (λ wide. flat_map triple_octets l.values)
+form_of (attr.Opaque o) = form o.kind (optional_class o.transitive) o.partial (λ wide. o.value)
 
 abbrev pub type_of : Attr → ℕ
-type_of (attr.Origin o) = ORIGIN
-type_of (attr.AsPath p) = AS_PATH
-type_of (attr.NextHop addr) = NEXT_HOP
-type_of (attr.Med n) = MULTI_EXIT_DISC
-type_of (attr.LocalPref n) = LOCAL_PREF
-type_of attr.Atomic = ATOMIC_AGGREGATE
-type_of (attr.Aggregator a) = AGGREGATOR
-type_of (attr.Communities c) = COMMUNITIES
-type_of (attr.MpReach r) = MP_REACH_NLRI
-type_of (attr.MpUnreach r) = MP_UNREACH_NLRI
-type_of (attr.As4Path p) = AS4_PATH
-type_of (attr.As4Aggregator a) = AS4_AGGREGATOR
-type_of (attr.Large l) = LARGE_COMMUNITY
-type_of (attr.Opaque o) = o.kind
+type_of a = (form_of a).kind
 
 abbrev pub class_of : Attr → Class
-class_of (attr.Origin o) = WellKnown
-class_of (attr.AsPath p) = WellKnown
-class_of (attr.NextHop addr) = WellKnown
-class_of (attr.Med n) = OptionalNonTransitive
-class_of (attr.LocalPref n) = WellKnown
-class_of attr.Atomic = WellKnown
-class_of (attr.Aggregator a) = OptionalTransitive
-class_of (attr.Communities c) = OptionalTransitive
-class_of (attr.MpReach r) = OptionalNonTransitive
-class_of (attr.MpUnreach r) = OptionalNonTransitive
-class_of (attr.As4Path p) = OptionalTransitive
-class_of (attr.As4Aggregator a) = OptionalTransitive
-class_of (attr.Large l) = OptionalTransitive
-class_of (attr.Opaque o) = if o.transitive then OptionalTransitive else OptionalNonTransitive
+class_of a = (form_of a).class
 
--- the Partial bit: 0 where the type has none that means something
 abbrev pub partial_of : Attr → Bool
-partial_of (attr.Aggregator a) = a.partial
-partial_of (attr.Communities c) = c.partial
-partial_of (attr.As4Path p) = p.partial
-partial_of (attr.As4Aggregator a) = a.partial
-partial_of (attr.Large l) = l.partial
-partial_of (attr.Opaque o) = o.partial
-partial_of _ = false
+partial_of a = (form_of a).partial
+
+abbrev pub value_octets : Context → Attr → List ℕ
+value_octets ctx a = (form_of a).value ctx.as4
 
 -- the second octet of the length stands exactly where the value has more than 255 octets
 abbrev pub made : Class → Bool → ℕ → List ℕ → TlvValue

@@ -25,7 +25,7 @@ use std::alloc::{AllocError, Global};
 /// (RFC 4271, section 6.3; RFC 7606, sections 3 to 7; RFC 7607). The attribute has at most 4075 octets, as each of a message has.
 ///
 /// `has_nlri` says that the NLRI field of the message isn't empty. Each type tells the sink by itself, so a value goes where it is to stand.
-#[tactic(auto, unfolding(crate::specs::Judgement::tests_of, crate::specs::Value::value_of))]
+#[tactic(auto, unfolding(crate::specs::Judgement::type_row))]
 #[inline(always)]
 pub fn judge_into<'a, S: Sink<'a>>(ctx: &Context, has_nlri: bool, tlv: &Tlv<'a>, sink: &mut S)
     requires { length tlv.now.whole.now ≤ 4075 }

@@ -14,6 +14,7 @@ mod first_kept;
 mod first_numbers;
 mod first_tlv;
 mod flags;
+mod form;
 mod found_attr;
 mod judge_aggregator;
 mod judge_communities;

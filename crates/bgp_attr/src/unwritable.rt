@@ -4,7 +4,7 @@ ghost use Rattle.std.specs.Prelude.{◌≡◌};
 ghost use Rattle.std.specs.List.{list_any};
 ghost use Rattle.bgp_attr.specs.AttrRef.{ref_value};
 ghost use Rattle.bgp_attr.specs.Numbers.{same_triple};
-ghost use Rattle.bgp_attr.specs.Spelling.{is_recognised};
+ghost use Rattle.bgp_attr.specs.Judgement.{is_recognised};
 ghost use Rattle.bgp_attr.specs.Written.{any_number, is_above_two_octets, is_zero, is_too_wide, is_as4, is_bad_segment, is_empty, is_misnamed, has_as_zero, repeats, stands_twice};
 
 use crate::attr_ref::AttrRef;

@@ -13,13 +13,14 @@ ghost use Rattle.bgp_attr.specs.Flags.{flags_octet};
 ghost use Rattle.bgp_attr.specs.Tlv.{length_octets};
 ghost use Rattle.bgp_attr.specs.Judgement.{judgement};
 ghost use Rattle.bgp_attr.specs.Spelling.{origin_code};
-ghost use Rattle.bgp_attr.specs.Written.{aggregator_octets, reach_row, unreach_row, reach_octets, unreach_octets, value_octets, class_of, partial_of, type_of, written_tlv, canonical, is_empty, is_writable, Belongs, HasRanges, IsAddress, HasLinkRange, IsFourOctets};
+ghost use Rattle.bgp_attr.specs.Written.{aggregator_octets, reach_row, unreach_row, reach_octets, unreach_octets, value_octets, written_tlv, canonical, is_empty, is_writable, Belongs, HasRanges, IsAddress, HasLinkRange, IsFourOctets};
 ghost use Rattle.bgp_attr.specs.Length.{value_len};
 
 use crate::aggregator::Aggregator;
 use crate::attr::Attr;
 use crate::attr_ref::AttrRef;
 use crate::class::Class;
+use crate::form::form_of;
 use crate::length::value_len;
 use crate::mp::{MpReach, MpUnreach};
 use crate::opaque::Opaque;
@@ -27,7 +28,7 @@ use crate::origin::Origin;
 use crate::put::{
     put_address, put_number, put_numbers, put_octets, put_path, put_run, put_triples,
 };
-use bgp_numbers::{afi, attribute, safi};
+use bgp_numbers::{afi, safi};
 use bgp_open::Context;
 use bgp_prefix::Prefix;
 use std::alloc::AllocError;
@@ -39,66 +40,6 @@ fn flags_octet(class: Class, partial: bool, extended: bool) -> u8
     let partial_bit = if partial { 0x20 } else { 0 };
     let extended_bit = if extended { 0x10 } else { 0 };
     64 * (class as u8) + (partial_bit + extended_bit)
-}
-
-/// The class of an attribute.
-fn class_of(attr: AttrRef<'_>) -> Class
-    ensures { result ≡ class_of (ref_value attr.entry) }
-{
-    match attr {
-        AttrRef::Origin(_)
-        | AttrRef::AsPath(_)
-        | AttrRef::NextHop(_)
-        | AttrRef::LocalPref(_)
-        | AttrRef::Atomic => Class::WellKnown,
-        AttrRef::Med(_) | AttrRef::MpReach(_) | AttrRef::MpUnreach(_) => {
-            Class::OptionalNonTransitive
-        }
-        AttrRef::Aggregator(_)
-        | AttrRef::Communities(_)
-        | AttrRef::As4Path(_)
-        | AttrRef::As4Aggregator(_)
-        | AttrRef::Large(_) => Class::OptionalTransitive,
-        AttrRef::Opaque(opaque) if opaque.transitive => Class::OptionalTransitive,
-        AttrRef::Opaque(_) => Class::OptionalNonTransitive,
-    }
-}
-
-/// The Partial bit of an attribute: 0 where it means nothing.
-fn partial_of(attr: AttrRef<'_>) -> bool
-    ensures { result ≡ partial_of (ref_value attr.entry) }
-{
-    match attr {
-        AttrRef::Aggregator(aggregator) => aggregator.partial,
-        AttrRef::Communities(communities) => communities.partial,
-        AttrRef::As4Path(path) => path.partial,
-        AttrRef::As4Aggregator(aggregator) => aggregator.partial,
-        AttrRef::Large(communities) => communities.partial,
-        AttrRef::Opaque(opaque) => opaque.partial,
-        _ => false,
-    }
-}
-
-/// The type of an attribute.
-fn type_of(attr: AttrRef<'_>) -> u8
-    ensures { result ≡ type_of (ref_value attr.entry) }
-{
-    match attr {
-        AttrRef::Origin(_) => attribute::ORIGIN,
-        AttrRef::AsPath(_) => attribute::AS_PATH,
-        AttrRef::NextHop(_) => attribute::NEXT_HOP,
-        AttrRef::Med(_) => attribute::MULTI_EXIT_DISC,
-        AttrRef::LocalPref(_) => attribute::LOCAL_PREF,
-        AttrRef::Atomic => attribute::ATOMIC_AGGREGATE,
-        AttrRef::Aggregator(_) => attribute::AGGREGATOR,
-        AttrRef::Communities(_) => attribute::COMMUNITIES,
-        AttrRef::MpReach(_) => attribute::MP_REACH_NLRI,
-        AttrRef::MpUnreach(_) => attribute::MP_UNREACH_NLRI,
-        AttrRef::As4Path(_) => attribute::AS4_PATH,
-        AttrRef::As4Aggregator(_) => attribute::AS4_AGGREGATOR,
-        AttrRef::Large(_) => attribute::LARGE_COMMUNITY,
-        AttrRef::Opaque(opaque) => opaque.kind,
-    }
 }
 
 /// Adds flags, type and length.
@@ -278,8 +219,9 @@ fn put_attr(
     ensures err { OnErr result (Extends out.old.items out.new.items) }
 {
     let extended = len > 255;
-    let flags = flags_octet(class_of(attr), partial_of(attr), extended);
-    put_head(flags, type_of(attr), extended, len, out)?;
+    let form = form_of(attr);
+    let flags = flags_octet(form.class, form.partial, extended);
+    put_head(flags, form.kind, extended, len, out)?;
     put_value(ctx, attr, out)
 }
 
