@@ -1,5 +1,5 @@
 -- The bits of a flags octet that is written.
-use Rattle.std.proofs.Common.{◌≡◌, ◌<◌, Bool, true, false, cond, refl, lit<}
+use Rattle.std.proofs.Common.{◌≡◌, ◌<◌, Bool, true, false, refl, lit<}
 use Rattle.bgp_attr.specs.declared.class.Class.{Class}
 use Rattle.bgp_attr.specs.declared.class.Class.TheVariants.{WellKnown, OptionalNonTransitive, OptionalTransitive}
 use Rattle.bgp_attr.specs.Written.{optional_class}

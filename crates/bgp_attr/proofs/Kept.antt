@@ -29,7 +29,7 @@ use Rattle.bgp_attr.specs.declared.origin.Origin.{Origin}
 use Rattle.bgp_attr.specs.declared.origin.Origin.TheVariants.{Igp, Egp, Incomplete}
 use Rattle.bgp_attr.specs.declared.path.As4Path.{As4Path}
 use Rattle.bgp_attr.specs.declared.path.AsPath.{AsPath}
-use Rattle.bgp_attr.specs.Flags.{has_class, is_partial, is_transitive}
+use Rattle.bgp_attr.specs.Flags.{has_class}
 use Rattle.bgp_attr.specs.Tlv.{TlvValue}
 use Rattle.bgp_attr.specs.Numbers.{number_width, number_in, IsNumber, one_number, numbers_of, IsTriple, one_triple, triples_of, each_once}
 use Rattle.bgp_attr.specs.Path.{path_of}
@@ -253,39 +253,24 @@ module _ (ctx : Context) (has_nlri : Bool) (t : TlvValue) where
       let front : take (number_width wide) t.value ≡ s.number = ap (take (number_width wide)) s.value ∙ take_at s.number a.addr (number_width wide) width in
       let back : drop (number_width wide) t.value ≡ a.addr = ap (drop (number_width wide)) s.value ∙ drop_at s.number a.addr (number_width wide) width in
       let value : number_in wide (take (number_width wide) t.value) ≡ (a.asn).0 = ap (λ (b : List ℕ). number_in wide b) front ∙ sym (s.asn).value in
-      same (number_in wide (take (number_width wide) t.value)) (drop (number_width wide) t.value) (is_partial t.flags) value back (sym s.partial)
-    where
-      same : (n : ℕ) (addr : List ℕ) (partial : Bool) → n ≡ (a.asn).0 → addr ≡ a.addr → partial ≡ a.partial
-          → (let b : Aggregator = record { asn = record { 0 = n }; addr = addr; partial = partial } in b ≡ a)
-      same n addr partial e f g = rw (e, f, g) refl
+      λ i. record { asn = record { 0 = value i }; addr = back i; partial = sym s.partial i }
 
   communities-only : (c : Communities) → IsCommunities c t → communities_of t ≡ c
   communities-only c s =
-      same (is_partial t.flags) (numbers_of true t.value) (sym s.partial) (ap (λ (q : List ℕ × List ℕ). q.0) (pieces-whole ℕ (IsNumber true) (one_number true) (IsNumber-reads true) c.values t.value s.row))
-    where
-      same : (partial : Bool) (values : List ℕ) → partial ≡ c.partial → values ≡ c.values → (let d : Communities = record { partial = partial; values = values } in d ≡ c)
-      same partial values e f = rw (e, f) refl
+      let row = pieces-whole ℕ (IsNumber true) (one_number true) (IsNumber-reads true) c.values t.value s.row in
+      λ i. record { partial = sym s.partial i; values = (row i).0 }
 
   large-only : (l : LargeCommunities) → IsLarge l t → large_of t ≡ l
   large-only l s =
       let row = pieces-whole (List ℕ) IsTriple one_triple IsTriple-reads s.triples t.value s.row in
-      same (is_partial t.flags) (each_once (triples_of t.value)) (sym s.partial) (ap (λ (q : List (List ℕ) × List ℕ). each_once q.0) row ∙ sym s.values)
-    where
-      same : (partial : Bool) (values : List (List ℕ)) → partial ≡ l.partial → values ≡ l.values → (let k : LargeCommunities = record { partial = partial; values = values } in k ≡ l)
-      same partial values e f = rw (e, f) refl
+      let values : each_once (triples_of t.value) ≡ l.values = ap (λ (q : List (List ℕ) × List ℕ). each_once q.0) row ∙ sym s.values in
+      λ i. record { partial = sym s.partial i; values = values i }
 
   as4_path-only : (p : As4Path) → IsAs4Path p t → as4_path_of t ≡ p
-  as4_path-only p s = same (is_partial t.flags) (path_of as4_path_form t.value) (sym s.partial) (sym (path-only as4_path_form p.path t.value s.path))
-    where
-      same : (partial : Bool) (path : AsPath) → partial ≡ p.partial → path ≡ p.path → (let q : As4Path = record { partial = partial; path = path } in q ≡ p)
-      same partial path e f = rw (e, f) refl
+  as4_path-only p s = λ i. record { partial = sym s.partial i; path = sym (path-only as4_path_form p.path t.value s.path) i }
 
   opaque-only : (o : Opaque) → IsOpaque o t → opaque_of t ≡ o
-  opaque-only o s = same t.kind (is_transitive t.flags) (is_partial t.flags) t.value (sym s.kind) (sym s.transitive) (sym s.partial) (sym s.value)
-    where
-      same : (kind : ℕ) (transitive partial : Bool) (value : List ℕ) → kind ≡ o.kind → transitive ≡ o.transitive → partial ≡ o.partial → value ≡ o.value
-          → (let p : Opaque = record { kind = kind; transitive = transitive; partial = partial; value = value } in p ≡ o)
-      same kind transitive partial value e f g h = rw (e, f, g, h) refl
+  opaque-only o s = λ i. record { kind = sym s.kind i; transitive = sym s.transitive i; partial = sym s.partial i; value = sym s.value i }
 
   value-at : (kind : ℕ) → t.kind ≡ kind → (type_row ctx has_nlri t).value ≡ (row_at ctx has_nlri t kind).value
   value-at kind e = ap (λ (type : AttributeType). type.value) (row-at ctx has_nlri t kind e)

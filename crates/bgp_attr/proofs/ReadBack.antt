@@ -35,7 +35,7 @@ use Rattle.bgp_attr.specs.Numbers.{number_width, number_in, number_octets, row_o
 use Rattle.bgp_attr.specs.Refusal.{Discard, Withdraw}
 use Rattle.bgp_attr.specs.Value.{origin_of, as_path_form, as4_path_form, aggregator_of}
 use Rattle.bgp_attr.specs.Path.{path_of}
-use Rattle.bgp_attr.specs.Judgement.{origin_tests, next_hop_tests, med_tests, local_pref_tests, atomic_tests, has_bad_prefix, mp_reach_tests, mp_unreach_tests, as_path_tests, as4_path_tests, communities_tests, large_tests, aggregator_tests, as4_aggregator_tests, AttributeType, is_recognised, judgement}
+use Rattle.bgp_attr.specs.Judgement.{has_bad_prefix, mp_reach_tests, mp_unreach_tests, aggregator_tests, AttributeType, is_recognised, judgement}
 use Rattle.bgp_attr.specs.Spelling.{origin_code, IsReach, link_octets, HasLink, IsUnreach}
 use Rattle.bgp_attr.specs.Written.{optional_class, made, type_of, written_tlv, canonical, aggregator_octets, reach_row, reach_octets, unreach_row, unreach_octets, any_number, is_above_two_octets, is_bad_segment, HasLinkRange, Belongs, path_octets, repeats, IsFourOctets, IsThreeNumbers, is_writable, HasRanges}
 use Rattle.bgp_attr.proofs.FlagBits.{has_class-flags, is_partial-flags, is_optional-flags, is_transitive-flags}
@@ -137,12 +137,8 @@ module _ (ctx : Context) (has_nlri : Bool) where
 
     aggregator-back : aggregator_of wide written ≡ a
     aggregator-back =
-        same (number_in wide (take (number_width wide) (aggregator_octets wide a))) (drop (number_width wide) (aggregator_octets wide a)) _ number-back back
-        (is_partial-flags OptionalTransitive a.partial (ltb 255 (length (aggregator_octets wide a))))
-      where
-        same : (n : ℕ) (addr : List ℕ) (partial : Bool) → n ≡ (a.asn).0 → addr ≡ a.addr → partial ≡ a.partial
-            → (let b : Aggregator = record { asn = record { 0 = n }; addr = addr; partial = partial } in b ≡ a)
-        same n addr partial e f g = rw (e, f, g) refl
+        let partial = is_partial-flags OptionalTransitive a.partial (ltb 255 (length (aggregator_octets wide a))) in
+        λ i. record { asn = record { 0 = number-back i }; addr = back i; partial = partial i }
 
     aggregator-passes : NoneApplies (aggregator_tests wide written)
     aggregator-passes =
@@ -168,13 +164,12 @@ module _ (ctx : Context) (has_nlri : Bool) where
   pub kept-opaque : (o : Opaque) → is_recognised o.kind ≡ false → ThisKept (attr.Opaque o)
   kept-opaque o other =
       let t : TlvValue = written_tlv ctx (attr.Opaque o) in
+      let extended : Bool = ltb 255 (length o.value) in
+      let transitive = is_transitive-flags o.transitive o.partial extended in
+      let partial = is_partial-flags (optional_class o.transitive) o.partial extended in
       keeps ctx has_nlri t _ (attr.Opaque o) (row-other ctx has_nlri t other)
-      (ap (λ (x : Opaque). attr.Opaque x) (same _ _ (is_transitive-flags o.transitive o.partial (ltb 255 (length o.value))) (is_partial-flags (optional_class o.transitive) o.partial (ltb 255 (length o.value)))))
-      (pass _ _ (ap not (is_optional-flags o.transitive o.partial (ltb 255 (length o.value)))), tt)
-    where
-      same : (transitive partial : Bool) → transitive ≡ o.transitive → partial ≡ o.partial
-          → (let p : Opaque = record { kind = o.kind; transitive = transitive; partial = partial; value = o.value } in p ≡ o)
-      same transitive partial e f = rw (e, f) refl
+      (λ i. attr.Opaque (record { kind = o.kind; transitive = transitive i; partial = partial i; value = o.value }))
+      (pass _ _ (ap not (is_optional-flags o.transitive o.partial extended)), tt)
 
   -- ---- paths
 
@@ -192,12 +187,13 @@ module _ (ctx : Context) (has_nlri : Bool) where
   kept-as4_path p narrow c some =
       let t : TlvValue = written_tlv ctx (attr.As4Path p) in
       let octets : List ℕ = path_octets true p.path in
+      let partial = is_partial-flags OptionalTransitive p.partial (ltb 255 (length octets)) in
       let back : path_of as4_path_form octets ≡ p.path = path_of-octets as4_path_form p.path c in
       let even : eqb (length octets % 2) 0 ≡ true = eq-eqb _ 0 (length-even p.path) in
       let long : ltb (length octets) 6 ≡ false = le-ltb _ 6 (length-least p.path some c.good) in
       let left : eqb (length (path_of as4_path_form octets).segments) 0 ≡ false =
       ap (λ (x : AsPath). eqb (length x.segments) 0) back ∙ ne_eqb (length (p.path).segments) 0 (λ e. omega arith) in
-      this-kept (attr.As4Path p) (ap (λ (x : As4Path). attr.As4Path x) (same _ _ (is_partial-flags OptionalTransitive p.partial (ltb 255 (length octets))) back)) (
+      this-kept (attr.As4Path p) (λ i. attr.As4Path (record { partial = partial i; path = back i })) (
         pass _ _ narrow,
         (
           pass _ _ (flags-right OptionalTransitive p.partial (ltb 255 (length octets))),
@@ -207,9 +203,6 @@ module _ (ctx : Context) (has_nlri : Bool) where
           ),
         ),
       )
-    where
-      same : (partial : Bool) (path : AsPath) → partial ≡ p.partial → path ≡ p.path → (let q : As4Path = record { partial = partial; path = path } in q ≡ p)
-      same partial path e f = rw (e, f) refl
 
   -- ---- communities
 
@@ -217,28 +210,25 @@ module _ (ctx : Context) (has_nlri : Bool) where
   kept-communities c small some =
       let t : TlvValue = written_tlv ctx (attr.Communities c) in
       let octets : List ℕ = row_octets true c.values in
+      let partial = is_partial-flags OptionalTransitive c.partial (ltb 255 (length octets)) in
+      let values = numbers_of-row_octets true c.values small in
       let long : length octets ≡ 4 * length c.values = length-row_octets true c.values in
       let given : eqb (length octets) 0 ≡ false = ne_eqb _ 0 (λ (e : length octets ≡ 0). absurd (omega arith)) in
       let whole : eqb (length octets % 4) 0 ≡ true = eq-eqb _ 0 (omega arith) in
-      this-kept (attr.Communities c) (ap (λ (x : Communities). attr.Communities x) (same _ _ (is_partial-flags OptionalTransitive c.partial (ltb 255 (length octets))) (numbers_of-row_octets true c.values small)))
+      this-kept (attr.Communities c) (λ i. attr.Communities (record { partial = partial i; values = values i }))
       (pass _ _ (flags-right OptionalTransitive c.partial (ltb 255 (length octets))), (pass _ _ (or_from _ _ given (ap not whole)), tt))
-    where
-      same : (partial : Bool) (values : List ℕ) → partial ≡ c.partial → values ≡ c.values → (let d : Communities = record { partial = partial; values = values } in d ≡ c)
-      same partial values e f = rw (e, f) refl
 
   pub kept-large : (l : LargeCommunities) → AllByRecursion IsThreeNumbers l.values → 0 < length l.values → repeats l.values ≡ false → ThisKept (attr.Large l)
   kept-large l small some once =
       let t : TlvValue = written_tlv ctx (attr.Large l) in
       let octets : List ℕ = flat_map triple_octets l.values in
+      let partial = is_partial-flags OptionalTransitive l.partial (ltb 255 (length octets)) in
+      let values = ap each_once (triples_of-octets l.values small) ∙ each_once-same l.values once in
       let long : length octets ≡ 12 * length l.values = length-triples l.values small in
       let given : eqb (length octets) 0 ≡ false = ne_eqb _ 0 (λ (e : length octets ≡ 0). absurd (omega arith)) in
       let whole : eqb (length octets % 12) 0 ≡ true = eq-eqb _ 0 (omega arith) in
-      this-kept (attr.Large l) (ap (λ (x : LargeCommunities). attr.Large x) (same _ _ (is_partial-flags OptionalTransitive l.partial (ltb 255 (length octets)))
-      (ap each_once (triples_of-octets l.values small) ∙ each_once-same l.values once)))
+      this-kept (attr.Large l) (λ i. attr.Large (record { partial = partial i; values = values i }))
       (pass _ _ (flags-right OptionalTransitive l.partial (ltb 255 (length octets))), (pass _ _ (or_from _ _ given (ap not whole)), tt))
-    where
-      same : (partial : Bool) (values : List (List ℕ)) → partial ≡ l.partial → values ≡ l.values → (let k : LargeCommunities = record { partial = partial; values = values } in k ≡ l)
-      same partial values e f = rw (e, f) refl
 
   -- ---- routes of other families
 

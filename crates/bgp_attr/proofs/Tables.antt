@@ -1,6 +1,7 @@
 -- Tables: what holds of each row holds of the entry that is found.
-use Rattle.std.proofs.Common.{◌≡◌, ℕ, Bool, true, false, ◌||◌, cond, eqb, List, [], ◌∷◌, refl}
-use Rattle.std.proofs.lemmas.Bool.{true≢false, eqb-true}
+use Rattle.std.proofs.Common.{◌≡◌, ℕ, Bool, true, false, not, ◌||◌, cond, eqb, List, [], ◌∷◌, inl, inr, refl, sym, ap, subst, ◌∙◌}
+use Rattle.std.specs.List.{list_any}
+use Rattle.std.proofs.lemmas.Bool.{true≢false, false≢true, eqb-true, not-false, or_parts, or_cases}
 use Rattle.bgp_attr.specs.Table.{has_entry, entry_of}
 
 -- a fact for each row
@@ -14,12 +15,14 @@ p & q = (p, q)
 
 infixr 5 ◌&◌
 module _ {A : Type 0} (kind : ℕ) (other : A) where
-  row-or : (P : A → Type 0) (row : ℕ × A) (rows : List (ℕ × A)) (b : Bool) → eqb kind row.0 ≡ b → (kind ≡ row.0 → P row.1)
-      → ((has_entry kind rows ≡ false → P other) → P (entry_of kind rows other)) → ((b || has_entry kind rows) ≡ false → P other) → P (cond b row.1 (entry_of kind rows other))
-  row-or P row rows true e here later rest = here (eqb-true kind row.0 e)
+  row-or : (P : ℕ → A → Type 0) (row : ℕ × A) (rows : List (ℕ × A)) (b : Bool) → eqb kind row.0 ≡ b → P row.0 row.1
+      → ((has_entry kind rows ≡ false → P kind other) → P kind (entry_of kind rows other)) → ((b || has_entry kind rows) ≡ false → P kind other)
+      → P kind (cond b row.1 (entry_of kind rows other))
+  row-or P row rows true e here later rest = subst (λ (k : ℕ). P k row.1) (sym (eqb-true kind row.0 e)) here
   row-or P row rows false e here later rest = later rest
 
-  pub by_row : (P : A → Type 0) (rows : List (ℕ × A)) → EachRow (λ k entry. kind ≡ k → P entry) rows → (has_entry kind rows ≡ false → P other) → P (entry_of kind rows other)
+  -- a fact for each row, and one for all other numbers, give one for the entry that is found
+  pub by_row : (P : ℕ → A → Type 0) (rows : List (ℕ × A)) → EachRow P rows → (has_entry kind rows ≡ false → P kind other) → P kind (entry_of kind rows other)
   by_row P [] each rest = rest refl
   by_row P (row ∷ rows) each rest = row-or P row rows (eqb kind row.0) refl each.0 (by_row P rows each.1) rest
 
@@ -32,3 +35,13 @@ module _ {A : Type 0} (kind : ℕ) (other : A) where
   pub entry-other : (rows : List (ℕ × A)) → has_entry kind rows ≡ false → entry_of kind rows other ≡ other
   entry-other [] none = refl
   entry-other (row ∷ rows) none = none-or row rows (eqb kind row.0) (entry-other rows) none
+
+-- what each number of a table passes, a number passes that has a row
+pub entry-passes : {A : Type 0} (test : ℕ → Bool) (kind : ℕ) (rows : List (ℕ × A)) → list_any (λ (row : ℕ × A). not (test row.0)) rows ≡ false → has_entry kind rows ≡ true → test kind ≡ true
+entry-passes test kind [] all has = absurd (false≢true has)
+entry-passes {A = A} test kind (row ∷ rows) all has =
+    let p = or_parts (not (test row.0)) (list_any (λ (r : ℕ × A). not (test r.0)) rows) all in
+    elim (or_cases (eqb kind row.0) (has_entry kind rows) has) [
+      | inl same ↦ ap test (eqb-true kind row.0 same) ∙ not-false (test row.0) p.0
+      | inr later ↦ entry-passes test kind rows p.1 later
+    ]

@@ -70,7 +70,7 @@ module _ (ctx : Context) (has_nlri : Bool) (t : TlvValue) where
   -- what holds of each row, and of that of all other types, holds of the attribute's
   pub by_type : (P : AttributeType → Type 0) → EachRow (λ kind type. t.kind ≡ kind → P type) (types ctx has_nlri t) → (is_recognised t.kind ≡ false → P (other_type t)) → P (type_row ctx has_nlri t)
   unfolding type_row
-  by_type P each other = by_row t.kind (other_type t) P (types ctx has_nlri t) each other
+  by_type P each other = by_row t.kind (other_type t) (λ kind type. t.kind ≡ kind → P type) (types ctx has_nlri t) each (λ none e. other none) refl
 
   -- the value is kept where none of its tests applies, and only there
   pub keeps : (type : AttributeType) (a : Attr) → type_row ctx has_nlri t ≡ type → type.value ≡ a → NoneApplies type.tests → judgement ctx has_nlri t ≡ judged.Keep a

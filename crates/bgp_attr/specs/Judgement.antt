@@ -1,6 +1,6 @@
 -- The judgement of one attribute, the first of its type in a message (RFC 4271, section 6.3; RFC 7606, sections 3 to 7; RFC 7607).
 -- A row for each type: its tests in their order. The first that applies decides; where none does, the attribute is kept.
-use Rattle.std.specs.Prelude.{ℕ, ◌+◌, ◌%◌, Bool, not, ◌||◌, ◌==◌, nat_lt, List, [], ◌∷◌, length, take, map, slice_index, Option, None, Some, option_map, if◌then◌else◌}
+use Rattle.std.specs.Prelude.{ℕ, ◌+◌, ◌%◌, Bool, not, ◌||◌, ◌==◌, nat_lt, List, [], ◌∷◌, length, take, map, slice_index, Option, None, Some, option_map}
 use Rattle.bgp_numbers.specs.declared.attribute.TheConstants.{ORIGIN, AS_PATH, NEXT_HOP, MULTI_EXIT_DISC, LOCAL_PREF, ATOMIC_AGGREGATE, AGGREGATOR, COMMUNITIES, MP_REACH_NLRI, MP_UNREACH_NLRI, AS4_PATH, AS4_AGGREGATOR, LARGE_COMMUNITY}
 use Rattle.bgp_numbers.specs.declared.error.TheConstants.{OPTIONAL_ATTRIBUTE, UNRECOGNIZED_WELL_KNOWN}
 use Rattle.bgp_open.specs.declared.context.Context.{Context}

@@ -20,10 +20,10 @@ use Rattle.bgp_attr.specs.declared.why.Why.{Why}
 use Rattle.bgp_attr.specs.declared.why.Why.TheVariants as why
 use Rattle.bgp_attr.specs.Refusal.{Refusal, Discard, Withdraw, Reset, when, first_refusal}
 use Rattle.bgp_attr.specs.Tlv.{TlvValue, IsTlv, placed_from}
-use Rattle.bgp_attr.specs.Value.{value_of}
-use Rattle.bgp_attr.specs.Judgement.{origin_tests, as_path_tests, next_hop_tests, tests_of, unless_refused, judgement}
+use Rattle.bgp_attr.specs.Judgement.{AttributeType, type_row, unless_refused, judged_by, judgement}
 use Rattle.bgp_attr.specs.Written.{canonical, type_of}
-use Rattle.bgp_attr.proofs.TestRows.{OfOrigin, OfAsPath, OfNextHop, OfMed, OfLocalPref, OfAtomic, OfAggregator, OfCommunities, OfMpReach, OfMpUnreach, OfAs4Path, OfAs4Aggregator, OfLarge, OfOther, type_case, keep-value, tests-origin, tests-as_path, tests-next_hop, value-origin, value-as_path, value-next_hop, value-med, value-local_pref, value-atomic, value-aggregator, value-communities, value-mp_reach, value-mp_unreach, value-as4_path, value-as4_aggregator, value-large, value-other}
+use Rattle.bgp_attr.proofs.Tables.{◌&◌}
+use Rattle.bgp_attr.proofs.TestRows.{row-at, by_type, kept-value}
 use Rattle.bgp_attr.proofs.Rewriting.{kept-rewritten}
 use Rattle.bgp_wire.specs.OctetSet.{also}
 use Rattle.bgp_update.specs.Marks.{Mark, malformed, carries_routes, repeated, marks_behind, cut_mark}
@@ -36,26 +36,10 @@ use Rattle.bgp_update.proofs.MarkLemmas.{IsReady}
 
 -- ---- the type of what is kept
 
-pub value-type : (ctx : Context) (t : TlvValue) → type_of (value_of ctx t) ≡ t.kind
-value-type ctx t = elim (type_case t.kind) [
-  | OfOrigin e ↦ ap type_of (value-origin ctx t e) ∙ sym e
-  | OfAsPath e ↦ ap type_of (value-as_path ctx t e) ∙ sym e
-  | OfNextHop e ↦ ap type_of (value-next_hop ctx t e) ∙ sym e
-  | OfMed e ↦ ap type_of (value-med ctx t e) ∙ sym e
-  | OfLocalPref e ↦ ap type_of (value-local_pref ctx t e) ∙ sym e
-  | OfAtomic e ↦ ap type_of (value-atomic ctx t e) ∙ sym e
-  | OfAggregator e ↦ ap type_of (value-aggregator ctx t e) ∙ sym e
-  | OfCommunities e ↦ ap type_of (value-communities ctx t e) ∙ sym e
-  | OfMpReach e ↦ ap type_of (value-mp_reach ctx t e) ∙ sym e
-  | OfMpUnreach e ↦ ap type_of (value-mp_unreach ctx t e) ∙ sym e
-  | OfAs4Path e ↦ ap type_of (value-as4_path ctx t e) ∙ sym e
-  | OfAs4Aggregator e ↦ ap type_of (value-as4_aggregator ctx t e) ∙ sym e
-  | OfLarge e ↦ ap type_of (value-large ctx t e) ∙ sym e
-  | OfOther e ↦ ap type_of (value-other ctx t e)
-]
-
 pub keep-type : (ctx : Context) (has_nlri : Bool) (t : TlvValue) (x : Attr) → judgement ctx has_nlri t ≡ judged.Keep x → type_of x ≡ t.kind
-keep-type ctx has_nlri t x keeps = ap type_of (sym (keep-value ctx has_nlri t x keeps)) ∙ value-type ctx t
+keep-type ctx has_nlri t x keeps =
+    ap type_of (sym (kept-value ctx has_nlri t x keeps))
+    ∙ by_type ctx has_nlri t (λ type. type_of type.value ≡ t.kind) (sym & sym & sym & sym & sym & sym & sym & sym & sym & sym & sym & sym & sym & tt) (λ other. refl)
 
 -- ---- what no row drops
 
@@ -92,18 +76,18 @@ module _ (ctx : Context) (has_nlri : Bool) where
   abbrev pub NotDropped : ℕ → Type 0
   NotDropped kind = (t : TlvValue) → t.kind ≡ kind → (w : Why) → judgement ctx has_nlri t ≡ judged.Discard w → ⊥
 
-  by-tests : (t : TlvValue) (tests : List (Option Refusal)) → tests_of ctx has_nlri t ≡ tests → AllByRecursion IsSevere tests → (w : Why) → judgement ctx has_nlri t ≡ judged.Discard w → ⊥
-  by-tests t tests is all w =
-      judged-severe (first_refusal (tests_of ctx has_nlri t)) (value_of ctx t) w (subst (λ (ts : List (Option Refusal)). IsSevere (first_refusal ts)) (sym is) (first-severe tests all))
+  never : (t : TlvValue) (type : AttributeType) → type_row ctx has_nlri t ≡ type → AllByRecursion IsSevere type.tests → (w : Why) → judgement ctx has_nlri t ≡ judged.Discard w → ⊥
+  never t type is all w e =
+      judged-severe (first_refusal type.tests) type.value w (first-severe type.tests all) (ap judged_by (sym is) ∙ e)
 
   pub origin-not_dropped : NotDropped ORIGIN
-  origin-not_dropped t e = by-tests t (origin_tests t) (tests-origin ctx has_nlri t e) (when-severe _ _, (when-severe _ _, (when-severe _ _, tt)))
+  origin-not_dropped t e = never t _ (row-at ctx has_nlri t ORIGIN e) (when-severe _ _, (when-severe _ _, (when-severe _ _, tt)))
 
   pub as_path-not_dropped : NotDropped AS_PATH
-  as_path-not_dropped t e = by-tests t (as_path_tests ctx t) (tests-as_path ctx has_nlri t e) (when-severe _ _, (fault-severe _, (when-severe _ _, tt)))
+  as_path-not_dropped t e = never t _ (row-at ctx has_nlri t AS_PATH e) (when-severe _ _, (fault-severe _, (when-severe _ _, tt)))
 
   pub next_hop-not_dropped : has_nlri ≡ true → NotDropped NEXT_HOP
-  next_hop-not_dropped given t e = by-tests t (next_hop_tests has_nlri t) (tests-next_hop ctx has_nlri t e) (needed-severe has_nlri given, (when-severe _ _, (when-severe _ _, tt)))
+  next_hop-not_dropped given t e = never t _ (row-at ctx has_nlri t NEXT_HOP e) (needed-severe has_nlri given, (when-severe _ _, (when-severe _ _, tt)))
 
 -- ---- marks that let a message be taken
 

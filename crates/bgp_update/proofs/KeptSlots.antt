@@ -15,8 +15,9 @@ use Rattle.bgp_attr.specs.declared.origin.Origin.{Origin}
 use Rattle.bgp_attr.specs.declared.path.As4Path.{As4Path}
 use Rattle.bgp_attr.specs.declared.path.AsPath.{AsPath}
 use Rattle.bgp_numbers.specs.declared.attribute.TheConstants.{ORIGIN, AS_PATH, NEXT_HOP, MULTI_EXIT_DISC, LOCAL_PREF, ATOMIC_AGGREGATE, AGGREGATOR, COMMUNITIES, MP_REACH_NLRI, MP_UNREACH_NLRI, AS4_PATH, AS4_AGGREGATOR, LARGE_COMMUNITY}
-use Rattle.bgp_attr.specs.Spelling.{is_recognised}
+use Rattle.bgp_attr.specs.Judgement.{is_recognised}
 use Rattle.bgp_attr.specs.Written.{type_of, is_misnamed}
+use Rattle.bgp_attr.proofs.Tables.{◌&◌}
 use Rattle.bgp_wire.specs.OctetSet.{also, none_of_them}
 use Rattle.bgp_update.specs.Taken.{first_in, as_opaque, rising_behind, attrs_of, as_origin, as_as_path, as_next_hop, as_med, as_local_pref, as_aggregator, as_communities, as_mp_reach, as_mp_unreach, as_as4_path, as_as4_aggregator, as_large}
 use Rattle.bgp_update.specs.Slots.{present, slot, canonical_order, attr_list}
@@ -24,7 +25,7 @@ use Rattle.bgp_update.specs.Written.{has_bad_others, rise}
 use Rattle.bgp_update.proofs.Lists.{all-none, all-append, flat_map-same, all-flat_map}
 use Rattle.bgp_update.proofs.Rising.{NoneTwice, kinds, of_kind, rising-find, rising-rises, rising-all, rises-rise}
 use Rattle.bgp_update.proofs.TypeLemmas.{fresh-fewer, as_atomic, atomic_attr, first_of_type, Named, slot-first, taken-origin, taken-as_path, taken-next_hop, taken-med, taken-local_pref, taken-atomic, taken-aggregator, taken-communities, taken-mp_reach, taken-mp_unreach, taken-as4_path, taken-as4_aggregator, taken-large}
-use Rattle.bgp_update.proofs.SlotLemmas.{by_type, any-atomic, atomic_slot, slot-origin, slot-as_path, slot-next_hop, slot-med, slot-local_pref, slot-atomic, slot-aggregator, slot-communities, slot-mp_reach, slot-mp_unreach, slot-as4_path, slot-as4_aggregator, slot-large, slot-other}
+use Rattle.bgp_update.proofs.SlotLemmas.{by_slot, any-atomic, atomic_slot}
 
 -- ---- the unrecognised ones among attributes
 
@@ -68,23 +69,23 @@ atomic-first (Some b) = refl
 
 module _ (xs : List Attr) (named : Named xs) (fresh : NoneTwice none_of_them (map type_of xs)) where
   pub slot-kept : (k : ℕ) → slot (attrs_of xs) k ≡ first_of_type k xs
-  slot-kept =
-      by_type (λ k. slot (attrs_of xs) k ≡ first_of_type k xs)
-      (slot-origin (attrs_of xs) ∙ slot-first as_origin (λ (o : Origin). attr.Origin o) ORIGIN taken-origin xs named)
-      (slot-as_path (attrs_of xs) ∙ slot-first as_as_path (λ (p : AsPath). attr.AsPath p) AS_PATH taken-as_path xs named)
-      (slot-next_hop (attrs_of xs) ∙ slot-first as_next_hop (λ (addr : List ℕ). attr.NextHop addr) NEXT_HOP taken-next_hop xs named)
-      (slot-med (attrs_of xs) ∙ slot-first as_med (λ (n : ℕ). attr.Med n) MULTI_EXIT_DISC taken-med xs named)
-      (slot-local_pref (attrs_of xs) ∙ slot-first as_local_pref (λ (n : ℕ). attr.LocalPref n) LOCAL_PREF taken-local_pref xs named)
-      (slot-atomic (attrs_of xs) ∙ ap atomic_slot (any-atomic xs) ∙ atomic-first (first_in as_atomic xs) ∙ slot-first as_atomic atomic_attr ATOMIC_AGGREGATE taken-atomic xs named)
-      (slot-aggregator (attrs_of xs) ∙ slot-first as_aggregator (λ (g : Aggregator). attr.Aggregator g) AGGREGATOR taken-aggregator xs named)
-      (slot-communities (attrs_of xs) ∙ slot-first as_communities (λ (c : Communities). attr.Communities c) COMMUNITIES taken-communities xs named)
-      (slot-mp_reach (attrs_of xs) ∙ slot-first as_mp_reach (λ (r : MpReach). attr.MpReach r) MP_REACH_NLRI taken-mp_reach xs named)
-      (slot-mp_unreach (attrs_of xs) ∙ slot-first as_mp_unreach (λ (r : MpUnreach). attr.MpUnreach r) MP_UNREACH_NLRI taken-mp_unreach xs named)
-      (slot-as4_path (attrs_of xs) ∙ slot-first as_as4_path (λ (p : As4Path). attr.As4Path p) AS4_PATH taken-as4_path xs named)
-      (slot-as4_aggregator (attrs_of xs) ∙ slot-first as_as4_aggregator (λ (g : Aggregator). attr.As4Aggregator g) AS4_AGGREGATOR taken-as4_aggregator xs named)
-      (slot-large (attrs_of xs) ∙ slot-first as_large (λ (l : LargeCommunities). attr.Large l) LARGE_COMMUNITY taken-large xs named)
-      (λ k other. slot-other (attrs_of xs) k other
-      ∙ ap (λ (o : Option Opaque). present (λ (p : Opaque). attr.Opaque p) o) (rising-find k (flat_map as_opaque xs) [] none_of_them (λ j. refl) (opaques-fresh xs none_of_them fresh))
+  slot-kept k =
+      by_slot (attrs_of xs) k (λ j ys. ys ≡ first_of_type j xs)
+      (slot-first as_origin (λ (o : Origin). attr.Origin o) ORIGIN taken-origin xs named
+      & slot-first as_as_path (λ (p : AsPath). attr.AsPath p) AS_PATH taken-as_path xs named
+      & slot-first as_next_hop (λ (addr : List ℕ). attr.NextHop addr) NEXT_HOP taken-next_hop xs named
+      & slot-first as_med (λ (n : ℕ). attr.Med n) MULTI_EXIT_DISC taken-med xs named
+      & slot-first as_local_pref (λ (n : ℕ). attr.LocalPref n) LOCAL_PREF taken-local_pref xs named
+      & (ap atomic_slot (any-atomic xs) ∙ atomic-first (first_in as_atomic xs) ∙ slot-first as_atomic atomic_attr ATOMIC_AGGREGATE taken-atomic xs named)
+      & slot-first as_aggregator (λ (g : Aggregator). attr.Aggregator g) AGGREGATOR taken-aggregator xs named
+      & slot-first as_communities (λ (c : Communities). attr.Communities c) COMMUNITIES taken-communities xs named
+      & slot-first as_mp_reach (λ (r : MpReach). attr.MpReach r) MP_REACH_NLRI taken-mp_reach xs named
+      & slot-first as_mp_unreach (λ (r : MpUnreach). attr.MpUnreach r) MP_UNREACH_NLRI taken-mp_unreach xs named
+      & slot-first as_as4_path (λ (p : As4Path). attr.As4Path p) AS4_PATH taken-as4_path xs named
+      & slot-first as_as4_aggregator (λ (g : Aggregator). attr.As4Aggregator g) AS4_AGGREGATOR taken-as4_aggregator xs named
+      & slot-first as_large (λ (l : LargeCommunities). attr.Large l) LARGE_COMMUNITY taken-large xs named
+      & tt)
+      (λ other. ap (λ (o : Option Opaque). present (λ (p : Opaque). attr.Opaque p) o) (rising-find k (flat_map as_opaque xs) [] none_of_them (λ j. refl) (opaques-fresh xs none_of_them fresh))
       ∙ opaque-first k other xs)
 
   -- the attributes by type, in their order

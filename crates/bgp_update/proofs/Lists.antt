@@ -1,8 +1,8 @@
 -- Lists that are joined, searched and tested: what the other lemmas say of attributes, for lists of anything.
-use Rattle.std.proofs.Common.{◌≡◌, ℕ, Bool, true, false, cond, eqb, List, [], ◌∷◌, ◌++◌, Option, Some, None, inl, inr, refl, sym, ap, ap₂, ◌∙◌}
+use Rattle.std.proofs.Common.{◌≡◌, ℕ, Bool, true, false, cond, eqb, List, [], ◌∷◌, ◌++◌, Option, Some, None, inl, inr, refl, sym, ap, ap₂, subst, ◌∙◌}
 use Rattle.std.specs.List.{flat_map, filter, find, list_any, AllByRecursion}
 use Rattle.std.specs.Option.{option_or}
-use Rattle.std.proofs.lemmas.Bool.{ne_eqb, or_parts, or_from}
+use Rattle.std.proofs.lemmas.Bool.{false≢true, eqb-true, ne_eqb, or_parts, or_cases, or_from}
 use Rattle.std.proofs.lemmas.Bool.Decides.{eqb_tells}
 
 pub eqb-swap : (a b : ℕ) → eqb a b ≡ eqb b a
@@ -64,6 +64,10 @@ module _ {A B : Type 0} where
   flat_map-same f g [] same = refl
   flat_map-same f g (x ∷ xs) same = ap₂ (λ (a b : List B). a ++ b) (same x) (flat_map-same f g xs same)
 
+  pub flat_map-all_none : (f : A → List B) (xs : List A) → AllByRecursion (λ x. f x ≡ []) xs → flat_map f xs ≡ []
+  flat_map-all_none f [] none = refl
+  flat_map-all_none f (x ∷ xs) none = ap₂ (λ (a b : List B). a ++ b) none.0 (flat_map-all_none f xs none.1)
+
   pub flat_map-none : (f : A → List B) (xs : List A) → ((x : A) → f x ≡ []) → flat_map f xs ≡ []
   flat_map-none f [] none = refl
   flat_map-none f (x ∷ xs) none = ap₂ (λ (a b : List B). a ++ b) (none x) (flat_map-none f xs none)
@@ -81,3 +85,20 @@ module _ {A B : Type 0} where
   pub all-flat_map : (P : B → Type 0) (f : A → List B) (xs : List A) → ((x : A) → AllByRecursion P (f x)) → AllByRecursion P (flat_map f xs)
   all-flat_map P f [] each = tt
   all-flat_map P f (x ∷ xs) each = all-append P (f x) (flat_map f xs) (each x) (all-flat_map P f xs each)
+
+-- ---- lists by number, one behind another
+
+module _ {A : Type 0} where
+  -- what holds of all holds of those of one number
+  pub all-among : (P : A → Type 0) (f : ℕ → List A) (kind : ℕ) (ks : List ℕ) → list_any (λ k. eqb k kind) ks ≡ true → AllByRecursion P (flat_map f ks) → AllByRecursion P (f kind)
+  all-among P f kind [] e all = absurd (false≢true e)
+  all-among P f kind (k ∷ ks) e all = elim (or_cases (eqb k kind) (list_any (λ j. eqb j kind) ks) e) [
+    | inl same ↦ subst (λ (j : ℕ). AllByRecursion P (f j)) (eqb-true k kind same) (all-front P (f k) (flat_map f ks) all)
+    | inr later ↦ all-among P f kind ks later (all-back P (f k) (flat_map f ks) all)
+  ]
+
+  -- what goes from those of each number to those of the same in another goes from all to all
+  pub all-carried : (P Q : A → Type 0) (f g : ℕ → List A) (ks : List ℕ) → ((k : ℕ) → AllByRecursion P (f k) → AllByRecursion Q (g k)) → AllByRecursion P (flat_map f ks) → AllByRecursion Q (flat_map g ks)
+  all-carried P Q f g [] each all = tt
+  all-carried P Q f g (k ∷ ks) each all =
+      all-append Q (g k) (flat_map g ks) (each k (all-front P (f k) (flat_map f ks) all)) (all-carried P Q f g ks each (all-back P (f k) (flat_map f ks) all))

@@ -3,9 +3,9 @@ use Rattle.std.proofs.Common.{◌≡◌, ℕ, ◌+◌, ◌≤◌, Bool, true, fa
 use Rattle.std.specs.Prelude.{is_some, is_none}
 use Rattle.std.specs.List.{flat_map, list_any, AllByRecursion}
 use Rattle.std.specs.Option.{option_or}
-use Rattle.std.proofs.lemmas.Bool.{both_ways, or_parts, or_from, and_right, cond-false, le-ltb, lt-ltb, not-false}
+use Rattle.std.proofs.lemmas.Bool.{both_ways, eqb-true, eqb-false, or_parts, or_from, and_right, cond-false, le-ltb, lt-ltb, not-false}
 use Rattle.std.proofs.lemmas.List.{length-append}
-use Rattle.bgp_numbers.specs.declared.attribute.TheConstants.{ORIGIN, AS_PATH, NEXT_HOP}
+use Rattle.bgp_numbers.specs.declared.attribute.TheConstants.{ORIGIN, AS_PATH, NEXT_HOP, LOCAL_PREF}
 use Rattle.bgp_frame.specs.declared.notification.Notification.{Notification}
 use Rattle.bgp_open.specs.declared.context.Context.{Context}
 use Rattle.bgp_prefix.specs.Prefix.{PrefixValue, IsValid, spelling_of}
@@ -45,7 +45,7 @@ use Rattle.bgp_update.proofs.Bodies.{body-parts, length-body}
 use Rattle.bgp_update.proofs.Lists.{none-all, all-more, all-both, all-flat_map}
 use Rattle.bgp_update.proofs.Rising.{NoneTwice, of_kind}
 use Rattle.bgp_update.proofs.TypeLemmas.{order-fresh, taken-origin, taken-as_path, taken-next_hop, type-none}
-use Rattle.bgp_update.proofs.SlotLemmas.{by_type, present-all, atomic-all, atomic_slot, slot-other, slot-types, list-named, attrs-back}
+use Rattle.bgp_update.proofs.SlotLemmas.{slot-at, slot-is, slot-types, list-named, attrs-back}
 use Rattle.bgp_update.proofs.Validity.{IsAccepted, valid-accepted}
 use Rattle.bgp_update.proofs.MarkLemmas.{KeepsAll, keeps-kept, keeps-no_reset, keeps-no_withdrawal, keeps-no_note, IsReady, AreReady, written-tlvs, field-keep, slots-fresh}
 
@@ -57,25 +57,33 @@ Placed ctx nlri (attr.NextHop addr) = nlri ≡ true
 Placed ctx nlri (attr.LocalPref n) = ctx.internal ≡ true
 Placed ctx nlri _ = Unit {0}
 
-placed-slot : (ctx : Context) (nlri : Bool) (a : Attrs) → (is_some a.next_hop ≡ true → nlri ≡ true) → (is_some a.local_pref ≡ true → ctx.internal ≡ true)
-    → (k : ℕ) → AllByRecursion (Placed ctx nlri) (slot a k)
-unfolding slot
-placed-slot ctx nlri a hop pref =
-    by_type (λ k. AllByRecursion (Placed ctx nlri) (slot a k))
-    (present-all (Placed ctx nlri) (λ (o : Origin). attr.Origin o) a.origin (λ v e. tt))
-    (present-all (Placed ctx nlri) (λ (p : AsPath). attr.AsPath p) a.as_path (λ v e. tt))
-    (present-all (Placed ctx nlri) (λ (addr : List ℕ). attr.NextHop addr) a.next_hop (λ v e. hop (ap (λ (o : Option (List ℕ)). is_some o) e)))
-    (present-all (Placed ctx nlri) (λ (n : ℕ). attr.Med n) a.med (λ v e. tt))
-    (present-all (Placed ctx nlri) (λ (n : ℕ). attr.LocalPref n) a.local_pref (λ v e. pref (ap (λ (o : Option ℕ). is_some o) e)))
-    (atomic-all (Placed ctx nlri) a.atomic tt)
-    (present-all (Placed ctx nlri) (λ (g : Aggregator). attr.Aggregator g) a.aggregator (λ v e. tt))
-    (present-all (Placed ctx nlri) (λ (c : Communities). attr.Communities c) a.communities (λ v e. tt))
-    (present-all (Placed ctx nlri) (λ (r : MpReach). attr.MpReach r) a.mp_reach (λ v e. tt))
-    (present-all (Placed ctx nlri) (λ (r : MpUnreach). attr.MpUnreach r) a.mp_unreach (λ v e. tt))
-    (present-all (Placed ctx nlri) (λ (p : As4Path). attr.As4Path p) a.as4_path (λ v e. tt))
-    (present-all (Placed ctx nlri) (λ (g : Aggregator). attr.As4Aggregator g) a.as4_aggregator (λ v e. tt))
-    (present-all (Placed ctx nlri) (λ (l : LargeCommunities). attr.Large l) a.large (λ v e. tt))
-    (λ k other. subst (λ (xs : List Attr). AllByRecursion (Placed ctx nlri) xs) (sym (slot-other a k other)) (present-all (Placed ctx nlri) (λ (o : Opaque). attr.Opaque o) (of_kind k a.others) (λ o e. tt)))
+placed-other : (ctx : Context) (nlri : Bool) (k : ℕ) → eqb k NEXT_HOP ≡ false → eqb k LOCAL_PREF ≡ false → (x : Attr) → type_of x ≡ k → Placed ctx nlri x
+placed-other ctx nlri k hop pref (attr.NextHop addr) e = absurd (eqb-false k NEXT_HOP hop (sym e))
+placed-other ctx nlri k hop pref (attr.LocalPref n) e = absurd (eqb-false k LOCAL_PREF pref (sym e))
+placed-other ctx nlri k hop pref _ e = tt
+
+module _ (ctx : Context) (nlri : Bool) (a : Attrs) (hop : is_some a.next_hop ≡ true → nlri ≡ true) (pref : is_some a.local_pref ≡ true → ctx.internal ≡ true) where
+  placed-next_hop : AllByRecursion (Placed ctx nlri) (slot a NEXT_HOP)
+  placed-next_hop = subst (λ (xs : List Attr). AllByRecursion (Placed ctx nlri) xs) (sym (slot-at a NEXT_HOP)) (by a.next_hop hop)
+    where
+      by : (o : Option (List ℕ)) → (is_some o ≡ true → nlri ≡ true) → AllByRecursion (Placed ctx nlri) (present (λ (addr : List ℕ). attr.NextHop addr) o)
+      by None given = tt
+      by (Some addr) given = (given refl, tt)
+
+  placed-local_pref : AllByRecursion (Placed ctx nlri) (slot a LOCAL_PREF)
+  placed-local_pref = subst (λ (xs : List Attr). AllByRecursion (Placed ctx nlri) xs) (sym (slot-at a LOCAL_PREF)) (by a.local_pref pref)
+    where
+      by : (o : Option ℕ) → (is_some o ≡ true → ctx.internal ≡ true) → AllByRecursion (Placed ctx nlri) (present (λ (n : ℕ). attr.LocalPref n) o)
+      by None given = tt
+      by (Some n) given = (given refl, tt)
+
+  placed-slot : (k : ℕ) → AllByRecursion (Placed ctx nlri) (slot a k)
+  placed-slot k = by (eqb k NEXT_HOP) refl (eqb k LOCAL_PREF) refl
+    where
+      by : (b : Bool) → eqb k NEXT_HOP ≡ b → (c : Bool) → eqb k LOCAL_PREF ≡ c → AllByRecursion (Placed ctx nlri) (slot a k)
+      by true e c f = subst (λ (j : ℕ). AllByRecursion (Placed ctx nlri) (slot a j)) (sym (eqb-true k NEXT_HOP e)) placed-next_hop
+      by false e true f = subst (λ (j : ℕ). AllByRecursion (Placed ctx nlri) (slot a j)) (sym (eqb-true k LOCAL_PREF f)) placed-local_pref
+      by false e false f = all-more (λ x. type_of x ≡ k) (Placed ctx nlri) (slot a k) (placed-other ctx nlri k e f) (slot-types a k)
 
 belongs : (ctx : Context) (nlri : Bool) (x : Attr) → Placed ctx nlri x → is_of_other_family ctx x ≡ false → Belongs ctx nlri x
 belongs ctx nlri (attr.NextHop addr) placed family = placed
@@ -86,28 +94,10 @@ belongs ctx nlri (attr.MpUnreach (unreach.Ip4 routes)) placed family = not-false
 belongs ctx nlri (attr.MpUnreach (unreach.Ip6 routes)) placed family = not-false ctx.ip6 family
 belongs ctx nlri _ placed family = tt
 
--- ---- a slot has at most one
-
-present-few : {A : Type 0} (as_attr : A → Attr) (o : Option A) → length (present as_attr o) ≤ 1
-present-few as_attr None = omega arith
-present-few as_attr (Some v) = omega arith
-
-atomic-few : (b : Bool) → length (atomic_slot b) ≤ 1
-atomic-few true = omega arith
-atomic-few false = omega arith
-
-pub slot-few : (a : Attrs) (k : ℕ) → length (slot a k) ≤ 1
-unfolding slot
-slot-few a =
-    by_type (λ k. length (slot a k) ≤ 1)
-    (present-few (λ (o : Origin). attr.Origin o) a.origin) (present-few (λ (p : AsPath). attr.AsPath p) a.as_path) (present-few (λ (addr : List ℕ). attr.NextHop addr) a.next_hop)
-    (present-few (λ (n : ℕ). attr.Med n) a.med) (present-few (λ (n : ℕ). attr.LocalPref n) a.local_pref) (atomic-few a.atomic) (present-few (λ (g : Aggregator). attr.Aggregator g) a.aggregator)
-    (present-few (λ (c : Communities). attr.Communities c) a.communities) (present-few (λ (r : MpReach). attr.MpReach r) a.mp_reach) (present-few (λ (r : MpUnreach). attr.MpUnreach r) a.mp_unreach)
-    (present-few (λ (p : As4Path). attr.As4Path p) a.as4_path) (present-few (λ (g : Aggregator). attr.As4Aggregator g) a.as4_aggregator) (present-few (λ (l : LargeCommunities). attr.Large l) a.large)
-    (λ k other. subst (λ (xs : List Attr). length xs ≤ 1) (sym (slot-other a k other)) (present-few (λ (o : Opaque). attr.Opaque o) (of_kind k a.others)))
+-- ---- no type stands twice
 
 pub list-fresh : (a : Attrs) → NoneTwice none_of_them (map type_of (attr_list a))
-list-fresh a = slots-fresh (slot a) (slot-types a) (slot-few a) canonical_order none_of_them order-fresh
+list-fresh a = slots-fresh (slot a) (slot-types a) (λ k. (slot-is a k).few) canonical_order none_of_them order-fresh
 
 -- ---- runs
 

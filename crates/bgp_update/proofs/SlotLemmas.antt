@@ -1,5 +1,5 @@
 -- The slots of attributes: what each holds, those of what was kept, and that they give the attributes back.
-use Rattle.std.proofs.Common.{◌≡◌, ℕ, ◌+◌, ◌<◌, Bool, true, false, not, ◌||◌, cond, eqb, List, [], ◌∷◌, ◌++◌, Option, Some, None, inl, inr, subst, refl, sym, ap, ◌∙◌}
+use Rattle.std.proofs.Common.{◌≡◌, ℕ, ◌+◌, ◌<◌, ◌≤◌, Bool, true, false, not, ◌||◌, cond, eqb, List, [], ◌∷◌, ◌++◌, length, Option, Some, None, inl, inr, subst, refl, sym, ap, ◌∙◌, arith}
 use Rattle.std.specs.Prelude.{is_some}
 use Rattle.std.specs.List.{flat_map, filter, list_any, AllByRecursion}
 use Rattle.std.specs.Option.{option_or}
@@ -17,173 +17,102 @@ use Rattle.bgp_attr.specs.declared.opaque.Opaque.{Opaque}
 use Rattle.bgp_attr.specs.declared.origin.Origin.{Origin}
 use Rattle.bgp_attr.specs.declared.path.As4Path.{As4Path}
 use Rattle.bgp_attr.specs.declared.path.AsPath.{AsPath}
-use Rattle.bgp_attr.specs.Spelling.{is_recognised}
+use Rattle.bgp_attr.specs.Judgement.{is_recognised}
 use Rattle.bgp_attr.specs.Written.{type_of, is_misnamed}
-use Rattle.bgp_attr.proofs.TestRows.{OfOrigin, OfAsPath, OfNextHop, OfMed, OfLocalPref, OfAtomic, OfAggregator, OfCommunities, OfMpReach, OfMpUnreach, OfAs4Path, OfAs4Aggregator, OfLarge, OfOther, type_case}
+use Rattle.bgp_attr.specs.Judgement as judgement
+use Rattle.bgp_attr.specs.Table.{entry_of}
+use Rattle.bgp_attr.proofs.Tables.{EachRow, ◌&◌, by_row, entry-other, entry-passes}
 use Rattle.bgp_update.specs.declared.attrs.Attrs.{Attrs}
 use Rattle.bgp_update.specs.Marks.{carries_routes}
 use Rattle.bgp_update.specs.Taken.{first_in, is_atomic, as_opaque, rising_behind, attrs_of, as_origin, as_as_path, as_next_hop, as_med, as_local_pref, as_aggregator, as_communities, as_mp_reach, as_mp_unreach, as_as4_path, as_as4_aggregator, as_large}
-use Rattle.bgp_update.specs.Slots.{present, slot, types_from, canonical_order, attr_list}
+use Rattle.bgp_update.specs.Slots.{present, slots, slot, types_from, canonical_order, attr_list}
 use Rattle.bgp_update.specs.Written.{has_bad_others, rise}
-use Rattle.bgp_update.proofs.Lists.{find-passes, find-none, none-all, all-none, all-more, flat_map-same, flat_map-filter, all-flat_map}
+use Rattle.bgp_update.proofs.Lists.{find-passes, find-none, none-all, all-none, all-more, all-among, flat_map-all_none, flat_map-same, flat_map-filter, all-flat_map}
 use Rattle.bgp_update.proofs.Rising.{of_kind, rising-same, rise-rises, types-find, listed}
 use Rattle.bgp_update.proofs.TypeLemmas.{in_order, Taken, other_kind, as_atomic, atomic_attr, Named, OfType, first-among, taken-origin, taken-as_path, taken-next_hop, taken-med, taken-local_pref, taken-atomic, taken-aggregator, taken-communities, taken-mp_reach, taken-mp_unreach, taken-as4_path, taken-as4_aggregator, taken-large}
 
 -- ---- what a slot holds
 
--- where no condition of a chain holds, the last of it is left
-abbrev chain : {A : Type 0} → List (Bool × A) → A → A
-chain [] last = last
-chain (p ∷ more) last = cond p.0 p.1 (chain more last)
+abbrev pub other_slot : Attrs → ℕ → List Attr
+other_slot a kind = present (λ (o : Opaque). attr.Opaque o) (of_kind kind a.others)
 
-chain_none : {A : Type 0} (pairs : List (Bool × A)) (last : A) → list_any (λ (p : Bool × A). p.0) pairs ≡ false → chain pairs last ≡ last
-chain_none [] last e = refl
-chain_none ((false, x) ∷ more) last e = chain_none more last e
-chain_none ((true, x) ∷ more) last e = absurd (true≢false e)
-
-abbrev pub atomic_slot : Bool → List Attr
-atomic_slot b = cond b (attr.Atomic ∷ []) []
-
-module _ (a : Attrs) where
-  pub slot-origin : slot a ORIGIN ≡ present (λ (o : Origin). attr.Origin o) a.origin
+module _ (a : Attrs) (kind : ℕ) where
+  -- the slot that the table has for a number
+  pub slot-at : slot a kind ≡ entry_of kind (slots a) (other_slot a kind)
   unfolding slot
-  slot-origin = refl
+  slot-at = refl
 
-  pub slot-as_path : slot a AS_PATH ≡ present (λ (p : AsPath). attr.AsPath p) a.as_path
+  pub slot-other : is_recognised kind ≡ false → slot a kind ≡ other_slot a kind
   unfolding slot
-  slot-as_path = refl
+  slot-other other = entry-other kind (other_slot a kind) (slots a) other
 
-  pub slot-next_hop : slot a NEXT_HOP ≡ present (λ (addr : List ℕ). attr.NextHop addr) a.next_hop
+  -- a fact for each slot of the table, and one for that of all other types
+  pub by_slot : (P : ℕ → List Attr → Type 0) → EachRow P (slots a) → (is_recognised kind ≡ false → P kind (other_slot a kind)) → P kind (slot a kind)
   unfolding slot
-  slot-next_hop = refl
-
-  pub slot-med : slot a MULTI_EXIT_DISC ≡ present (λ (n : ℕ). attr.Med n) a.med
-  unfolding slot
-  slot-med = refl
-
-  pub slot-local_pref : slot a LOCAL_PREF ≡ present (λ (n : ℕ). attr.LocalPref n) a.local_pref
-  unfolding slot
-  slot-local_pref = refl
-
-  pub slot-atomic : slot a ATOMIC_AGGREGATE ≡ atomic_slot a.atomic
-  unfolding slot
-  slot-atomic = refl
-
-  pub slot-aggregator : slot a AGGREGATOR ≡ present (λ (g : Aggregator). attr.Aggregator g) a.aggregator
-  unfolding slot
-  slot-aggregator = refl
-
-  pub slot-communities : slot a COMMUNITIES ≡ present (λ (c : Communities). attr.Communities c) a.communities
-  unfolding slot
-  slot-communities = refl
-
-  pub slot-mp_reach : slot a MP_REACH_NLRI ≡ present (λ (r : MpReach). attr.MpReach r) a.mp_reach
-  unfolding slot
-  slot-mp_reach = refl
-
-  pub slot-mp_unreach : slot a MP_UNREACH_NLRI ≡ present (λ (r : MpUnreach). attr.MpUnreach r) a.mp_unreach
-  unfolding slot
-  slot-mp_unreach = refl
-
-  pub slot-as4_path : slot a AS4_PATH ≡ present (λ (p : As4Path). attr.As4Path p) a.as4_path
-  unfolding slot
-  slot-as4_path = refl
-
-  pub slot-as4_aggregator : slot a AS4_AGGREGATOR ≡ present (λ (g : Aggregator). attr.As4Aggregator g) a.as4_aggregator
-  unfolding slot
-  slot-as4_aggregator = refl
-
-  pub slot-large : slot a LARGE_COMMUNITY ≡ present (λ (l : LargeCommunities). attr.Large l) a.large
-  unfolding slot
-  slot-large = refl
-
-  pub slot-other : (k : ℕ) → is_recognised k ≡ false → slot a k ≡ present (λ (o : Opaque). attr.Opaque o) (of_kind k a.others)
-  unfolding slot
-  slot-other k e = chain_none (
-      (eqb k ORIGIN, present (λ (o : Origin). attr.Origin o) a.origin) ∷ (eqb k AS_PATH, present (λ (p : AsPath). attr.AsPath p) a.as_path)
-      ∷ (eqb k NEXT_HOP, present (λ (addr : List ℕ). attr.NextHop addr) a.next_hop) ∷ (eqb k MULTI_EXIT_DISC, present (λ (n : ℕ). attr.Med n) a.med)
-      ∷ (eqb k LOCAL_PREF, present (λ (n : ℕ). attr.LocalPref n) a.local_pref) ∷ (eqb k ATOMIC_AGGREGATE, atomic_slot a.atomic)
-      ∷ (eqb k AGGREGATOR, present (λ (g : Aggregator). attr.Aggregator g) a.aggregator) ∷ (eqb k COMMUNITIES, present (λ (c : Communities). attr.Communities c) a.communities)
-      ∷ (eqb k MP_REACH_NLRI, present (λ (r : MpReach). attr.MpReach r) a.mp_reach) ∷ (eqb k MP_UNREACH_NLRI, present (λ (r : MpUnreach). attr.MpUnreach r) a.mp_unreach)
-      ∷ (eqb k AS4_PATH, present (λ (p : As4Path). attr.As4Path p) a.as4_path) ∷ (eqb k AS4_AGGREGATOR, present (λ (g : Aggregator). attr.As4Aggregator g) a.as4_aggregator)
-      ∷ (eqb k LARGE_COMMUNITY, present (λ (l : LargeCommunities). attr.Large l) a.large) ∷ []
-      ) (present (λ (o : Opaque). attr.Opaque o) (of_kind k a.others)) e
+  by_slot P each other = by_row kind (other_slot a kind) P (slots a) each other
 
 -- ---- the attributes of a slot are of its type
-
--- a fact for each type, from one for each that is recognised and one for the others
-pub by_type : (P : ℕ → Type 0) → P ORIGIN → P AS_PATH → P NEXT_HOP → P MULTI_EXIT_DISC → P LOCAL_PREF → P ATOMIC_AGGREGATE → P AGGREGATOR → P COMMUNITIES → P MP_REACH_NLRI → P MP_UNREACH_NLRI
-    → P AS4_PATH → P AS4_AGGREGATOR → P LARGE_COMMUNITY → ((k : ℕ) → is_recognised k ≡ false → P k) → (k : ℕ) → P k
-by_type P origin as_path next_hop med local_pref atomic aggregator communities mp_reach mp_unreach as4_path as4_aggregator large other k = elim (type_case k) [
-  | OfOrigin e ↦ rw e origin
-  | OfAsPath e ↦ rw e as_path
-  | OfNextHop e ↦ rw e next_hop
-  | OfMed e ↦ rw e med
-  | OfLocalPref e ↦ rw e local_pref
-  | OfAtomic e ↦ rw e atomic
-  | OfAggregator e ↦ rw e aggregator
-  | OfCommunities e ↦ rw e communities
-  | OfMpReach e ↦ rw e mp_reach
-  | OfMpUnreach e ↦ rw e mp_unreach
-  | OfAs4Path e ↦ rw e as4_path
-  | OfAs4Aggregator e ↦ rw e as4_aggregator
-  | OfLarge e ↦ rw e large
-  | OfOther e ↦ other k e
-]
-
-pub present-all : {A : Type 0} (P : Attr → Type 0) (as_attr : A → Attr) (o : Option A) → ((v : A) → o ≡ Some v → P (as_attr v)) → AllByRecursion P (present as_attr o)
-present-all P as_attr None each = tt
-present-all P as_attr (Some v) each = (each v refl, tt)
-
-pub atomic-all : (P : Attr → Type 0) (b : Bool) → P attr.Atomic → AllByRecursion P (atomic_slot b)
-atomic-all P true h = (h, tt)
-atomic-all P false h = tt
 
 -- the type is that of the slot, and no unrecognised attribute has a recognised one
 pub record OfSlot (kind : ℕ) (x : Attr) : Type 0 where
   pub of_type : type_of x ≡ kind
   pub named : is_misnamed x ≡ false
 
-other-of_slot : (k : ℕ) (o : Opaque) (os : List Opaque) → is_recognised k ≡ false → of_kind k os ≡ Some o → OfSlot k (attr.Opaque o)
-other-of_slot k o os other found =
-    let same : o.kind ≡ k = eqb-true o.kind k (find-passes (λ p. eqb p.kind k) os o found) in
-    record { of_type = same; named = ap is_recognised same ∙ other }
+-- a slot: attributes of its type, at most one
+pub record IsSlot (kind : ℕ) (xs : List Attr) : Type 0 where
+  pub all : AllByRecursion (OfSlot kind) xs
+  pub few : length xs ≤ 1
 
-pub slot-of_slot : (a : Attrs) (k : ℕ) → AllByRecursion (OfSlot k) (slot a k)
-unfolding slot
-slot-of_slot a =
-    by_type (λ k. AllByRecursion (OfSlot k) (slot a k))
-    (present-all (OfSlot ORIGIN) (λ (o : Origin). attr.Origin o) a.origin (λ v e. record { of_type = refl; named = refl }))
-    (present-all (OfSlot AS_PATH) (λ (p : AsPath). attr.AsPath p) a.as_path (λ v e. record { of_type = refl; named = refl }))
-    (present-all (OfSlot NEXT_HOP) (λ (addr : List ℕ). attr.NextHop addr) a.next_hop (λ v e. record { of_type = refl; named = refl }))
-    (present-all (OfSlot MULTI_EXIT_DISC) (λ (n : ℕ). attr.Med n) a.med (λ v e. record { of_type = refl; named = refl }))
-    (present-all (OfSlot LOCAL_PREF) (λ (n : ℕ). attr.LocalPref n) a.local_pref (λ v e. record { of_type = refl; named = refl }))
-    (atomic-all (OfSlot ATOMIC_AGGREGATE) a.atomic (record { of_type = refl; named = refl }))
-    (present-all (OfSlot AGGREGATOR) (λ (g : Aggregator). attr.Aggregator g) a.aggregator (λ v e. record { of_type = refl; named = refl }))
-    (present-all (OfSlot COMMUNITIES) (λ (c : Communities). attr.Communities c) a.communities (λ v e. record { of_type = refl; named = refl }))
-    (present-all (OfSlot MP_REACH_NLRI) (λ (r : MpReach). attr.MpReach r) a.mp_reach (λ v e. record { of_type = refl; named = refl }))
-    (present-all (OfSlot MP_UNREACH_NLRI) (λ (r : MpUnreach). attr.MpUnreach r) a.mp_unreach (λ v e. record { of_type = refl; named = refl }))
-    (present-all (OfSlot AS4_PATH) (λ (p : As4Path). attr.As4Path p) a.as4_path (λ v e. record { of_type = refl; named = refl }))
-    (present-all (OfSlot AS4_AGGREGATOR) (λ (g : Aggregator). attr.As4Aggregator g) a.as4_aggregator (λ v e. record { of_type = refl; named = refl }))
-    (present-all (OfSlot LARGE_COMMUNITY) (λ (l : LargeCommunities). attr.Large l) a.large (λ v e. record { of_type = refl; named = refl }))
-    (λ k other. subst (λ (xs : List Attr). AllByRecursion (OfSlot k) xs) (sym (slot-other a k other)) (present-all (OfSlot k) (λ (o : Opaque). attr.Opaque o) (of_kind k a.others) (λ o e. other-of_slot k o a.others other e)))
+present-is : {A : Type 0} (kind : ℕ) (as_attr : A → Attr) (o : Option A) → ((v : A) → o ≡ Some v → OfSlot kind (as_attr v)) → IsSlot kind (present as_attr o)
+present-is kind as_attr None each = record { all = tt; few = omega arith }
+present-is kind as_attr (Some v) each = record { all = (each v refl, tt); few = omega arith }
+
+abbrev pub atomic_slot : Bool → List Attr
+atomic_slot b = cond b (attr.Atomic ∷ []) []
+
+atomic-is : (b : Bool) → IsSlot ATOMIC_AGGREGATE (atomic_slot b)
+atomic-is true = record { all = (record { of_type = refl; named = refl }, tt); few = omega arith }
+atomic-is false = record { all = tt; few = omega arith }
+
+pub slot-is : (a : Attrs) (k : ℕ) → IsSlot k (slot a k)
+slot-is a k =
+    by_slot a k IsSlot
+    (present-is ORIGIN (λ (o : Origin). attr.Origin o) a.origin (λ v e. record { of_type = refl; named = refl })
+    & present-is AS_PATH (λ (p : AsPath). attr.AsPath p) a.as_path (λ v e. record { of_type = refl; named = refl })
+    & present-is NEXT_HOP (λ (addr : List ℕ). attr.NextHop addr) a.next_hop (λ v e. record { of_type = refl; named = refl })
+    & present-is MULTI_EXIT_DISC (λ (n : ℕ). attr.Med n) a.med (λ v e. record { of_type = refl; named = refl })
+    & present-is LOCAL_PREF (λ (n : ℕ). attr.LocalPref n) a.local_pref (λ v e. record { of_type = refl; named = refl })
+    & atomic-is a.atomic
+    & present-is AGGREGATOR (λ (g : Aggregator). attr.Aggregator g) a.aggregator (λ v e. record { of_type = refl; named = refl })
+    & present-is COMMUNITIES (λ (c : Communities). attr.Communities c) a.communities (λ v e. record { of_type = refl; named = refl })
+    & present-is MP_REACH_NLRI (λ (r : MpReach). attr.MpReach r) a.mp_reach (λ v e. record { of_type = refl; named = refl })
+    & present-is MP_UNREACH_NLRI (λ (r : MpUnreach). attr.MpUnreach r) a.mp_unreach (λ v e. record { of_type = refl; named = refl })
+    & present-is AS4_PATH (λ (p : As4Path). attr.As4Path p) a.as4_path (λ v e. record { of_type = refl; named = refl })
+    & present-is AS4_AGGREGATOR (λ (g : Aggregator). attr.As4Aggregator g) a.as4_aggregator (λ v e. record { of_type = refl; named = refl })
+    & present-is LARGE_COMMUNITY (λ (l : LargeCommunities). attr.Large l) a.large (λ v e. record { of_type = refl; named = refl })
+    & tt)
+    (λ other. present-is k (λ (o : Opaque). attr.Opaque o) (of_kind k a.others) (λ o found.
+    (let same : o.kind ≡ k = eqb-true o.kind k (find-passes (λ p. eqb p.kind k) a.others o found) in record { of_type = same; named = ap is_recognised same ∙ other })))
 
 pub slot-types : (a : Attrs) (k : ℕ) → OfType k (slot a k)
-slot-types a k = all-more (OfSlot k) (λ x. type_of x ≡ k) (slot a k) (λ x s. s.of_type) (slot-of_slot a k)
+slot-types a k = all-more (OfSlot k) (λ x. type_of x ≡ k) (slot a k) (λ x s. s.of_type) (slot-is a k).all
 
 pub slot-named : (a : Attrs) (k : ℕ) → Named (slot a k)
-slot-named a k = all-more (OfSlot k) (λ x. is_misnamed x ≡ false) (slot a k) (λ x s. s.named) (slot-of_slot a k)
+slot-named a k = all-more (OfSlot k) (λ x. is_misnamed x ≡ false) (slot a k) (λ x s. s.named) (slot-is a k).all
 
 pub list-named : (a : Attrs) → Named (attr_list a)
 list-named a = all-flat_map (λ x. is_misnamed x ≡ false) (slot a) canonical_order (slot-named a)
 
 -- ---- the attributes in order give the attributes back
 
+-- each type that is recognised has its place
 pub recognised-stands : (k : ℕ) → is_recognised k ≡ true → in_order k ≡ true
 unfolding canonical_order
-recognised-stands =
-    by_type (λ k. is_recognised k ≡ true → in_order k ≡ true) (λ e. refl) (λ e. refl) (λ e. refl) (λ e. refl) (λ e. refl) (λ e. refl) (λ e. refl) (λ e. refl) (λ e. refl) (λ e. refl) (λ e. refl) (λ e. refl) (λ e. refl)
-    (λ k other e. absurd (both_ways (is_recognised k) other e))
+recognised-stands k recognised = entry-passes in_order k judgement.recognised refl recognised
+
+-- what holds of all attributes holds of those of a recognised type
+pub slot-all : (P : Attr → Type 0) (a : Attrs) (kind : ℕ) → is_recognised kind ≡ true → AllByRecursion P (attr_list a) → AllByRecursion P (slot a kind)
+slot-all P a kind recognised all = all-among P (slot a) kind canonical_order (recognised-stands kind recognised) all
 
 module _ (a : Attrs) where
   module _ {A : Type 0} (as_value : Attr → Option A) (as_attr : A → Attr) (kind : ℕ) (taken : (x : Attr) → Taken as_value as_attr kind x) where
@@ -213,19 +142,16 @@ atomic-slot_back false = refl
 
 atomic-back : (a : Attrs) → list_any is_atomic (attr_list a) ≡ a.atomic
 atomic-back a =
-    any-atomic (attr_list a) ∙ ap (λ (o : Option Bool). is_some o) (from_slot a as_atomic atomic_attr ATOMIC_AGGREGATE taken-atomic refl ∙ ap (first_in as_atomic) (slot-atomic a)) ∙ atomic-slot_back a.atomic
+    any-atomic (attr_list a) ∙ ap (λ (o : Option Bool). is_some o) (from_slot a as_atomic atomic_attr ATOMIC_AGGREGATE taken-atomic refl ∙ ap (first_in as_atomic) (slot-at a ATOMIC_AGGREGATE)) ∙ atomic-slot_back a.atomic
 
 flat_map-twice : {A B C : Type 0} (f : B → List C) (g : A → List B) (xs : List A) → flat_map f (flat_map g xs) ≡ flat_map (λ x. flat_map f (g x)) xs
 flat_map-twice f g [] = refl
 flat_map-twice {C = C} f g (x ∷ xs) = flat_map-append f (g x) (flat_map g xs) ∙ ap (λ (b : List C). flat_map f (g x) ++ b) (flat_map-twice f g xs)
 
-no_opaque : {A : Type 0} (as_attr : A → Attr) (o : Option A) → ((v : A) → as_opaque (as_attr v) ≡ []) → flat_map as_opaque (present as_attr o) ≡ []
-no_opaque as_attr None none = refl
-no_opaque as_attr (Some v) none = ap (λ (os : List Opaque). os ++ []) (none v)
-
-no_opaque-atomic : (b : Bool) → flat_map as_opaque (atomic_slot b) ≡ []
-no_opaque-atomic true = refl
-no_opaque-atomic false = refl
+-- an attribute of a recognised type is none of the unrecognised ones
+no_opaque : (k : ℕ) → is_recognised k ≡ true → (x : Attr) → OfSlot k x → as_opaque x ≡ []
+no_opaque k recognised (attr.Opaque o) s = absurd (both_ways (is_recognised o.kind) s.named (ap is_recognised s.of_type ∙ recognised))
+no_opaque k recognised _ s = refl
 
 one_opaque : (o : Option Opaque) → flat_map as_opaque (present (λ (p : Opaque). attr.Opaque p) o) ≡ listed o
 one_opaque None = refl
@@ -238,23 +164,11 @@ unfound k os recognised none =
     ap listed (find-none (λ o. eqb o.kind k) os (all-none (λ o. eqb o.kind k) os apart))
 
 slot-opaque : (a : Attrs) → list_any (λ o. is_recognised o.kind) a.others ≡ false → (k : ℕ) → flat_map as_opaque (slot a k) ≡ listed (of_kind k a.others)
-unfolding slot
-slot-opaque a none =
-    by_type (λ k. flat_map as_opaque (slot a k) ≡ listed (of_kind k a.others))
-    (no_opaque (λ (o : Origin). attr.Origin o) a.origin (λ v. refl) ∙ sym (unfound ORIGIN a.others refl none))
-    (no_opaque (λ (p : AsPath). attr.AsPath p) a.as_path (λ v. refl) ∙ sym (unfound AS_PATH a.others refl none))
-    (no_opaque (λ (addr : List ℕ). attr.NextHop addr) a.next_hop (λ v. refl) ∙ sym (unfound NEXT_HOP a.others refl none))
-    (no_opaque (λ (n : ℕ). attr.Med n) a.med (λ v. refl) ∙ sym (unfound MULTI_EXIT_DISC a.others refl none))
-    (no_opaque (λ (n : ℕ). attr.LocalPref n) a.local_pref (λ v. refl) ∙ sym (unfound LOCAL_PREF a.others refl none))
-    (no_opaque-atomic a.atomic ∙ sym (unfound ATOMIC_AGGREGATE a.others refl none))
-    (no_opaque (λ (g : Aggregator). attr.Aggregator g) a.aggregator (λ v. refl) ∙ sym (unfound AGGREGATOR a.others refl none))
-    (no_opaque (λ (c : Communities). attr.Communities c) a.communities (λ v. refl) ∙ sym (unfound COMMUNITIES a.others refl none))
-    (no_opaque (λ (r : MpReach). attr.MpReach r) a.mp_reach (λ v. refl) ∙ sym (unfound MP_REACH_NLRI a.others refl none))
-    (no_opaque (λ (r : MpUnreach). attr.MpUnreach r) a.mp_unreach (λ v. refl) ∙ sym (unfound MP_UNREACH_NLRI a.others refl none))
-    (no_opaque (λ (p : As4Path). attr.As4Path p) a.as4_path (λ v. refl) ∙ sym (unfound AS4_PATH a.others refl none))
-    (no_opaque (λ (g : Aggregator). attr.As4Aggregator g) a.as4_aggregator (λ v. refl) ∙ sym (unfound AS4_AGGREGATOR a.others refl none))
-    (no_opaque (λ (l : LargeCommunities). attr.Large l) a.large (λ v. refl) ∙ sym (unfound LARGE_COMMUNITY a.others refl none))
-    (λ k other. ap (flat_map as_opaque) (slot-other a k other) ∙ one_opaque (of_kind k a.others))
+slot-opaque a none k = by (is_recognised k) refl
+  where
+    by : (t : Bool) → is_recognised k ≡ t → flat_map as_opaque (slot a k) ≡ listed (of_kind k a.others)
+    by true recognised = flat_map-all_none as_opaque (slot a k) (all-more (OfSlot k) (λ x. as_opaque x ≡ []) (slot a k) (no_opaque k recognised) (slot-is a k).all) ∙ sym (unfound k a.others recognised none)
+    by false other = ap (flat_map as_opaque) (slot-other a k other) ∙ one_opaque (of_kind k a.others)
 
 order-find : (n : ℕ) (os : List Opaque) → list_any (λ o. is_recognised o.kind) os ≡ false → rise os ≡ true → AllByRecursion (λ o. o.kind < 0 + n) os
     → flat_map (λ k. listed (of_kind k os)) (MP_REACH_NLRI ∷ MP_UNREACH_NLRI ∷ filter (λ kind. not (carries_routes kind)) (types_from 0 n)) ≡ os
@@ -284,43 +198,20 @@ others-back a good small =
     ∙ order-others a.others p.1 rises small)
     ∙ rising-same a.others [] 0 (rise-rises a.others rises) tt
 
-attrs-same : (a : Attrs) (origin : Option Origin) (as_path : Option AsPath) (next_hop : Option (List ℕ)) (med local_pref : Option ℕ) (atomic : Bool) (aggregator : Option Aggregator)
-    (communities : Option Communities) (mp_reach : Option MpReach) (mp_unreach : Option MpUnreach) (as4_path : Option As4Path) (as4_aggregator : Option Aggregator) (large : Option LargeCommunities) (others : List Opaque)
-    → origin ≡ a.origin → as_path ≡ a.as_path → next_hop ≡ a.next_hop → med ≡ a.med → local_pref ≡ a.local_pref → atomic ≡ a.atomic → aggregator ≡ a.aggregator → communities ≡ a.communities
-    → mp_reach ≡ a.mp_reach → mp_unreach ≡ a.mp_unreach → as4_path ≡ a.as4_path → as4_aggregator ≡ a.as4_aggregator → large ≡ a.large → others ≡ a.others
-    → (let b : Attrs = record {
-      origin = origin;
-      as_path = as_path;
-      next_hop = next_hop;
-      med = med;
-      local_pref = local_pref;
-      atomic = atomic;
-      aggregator = aggregator;
-      communities = communities;
-      mp_reach = mp_reach;
-      mp_unreach = mp_unreach;
-      as4_path = as4_path;
-      as4_aggregator = as4_aggregator;
-      large = large;
-      others = others;
-    } in b ≡ a)
-attrs-same a origin as_path next_hop med local_pref atomic aggregator communities mp_reach mp_unreach as4_path as4_aggregator large others e1 e2 e3 e4 e5 e6 e7 e8 e9 e10 e11 e12 e13 e14 =
-    rw (e1, e2, e3, e4, e5, e6, e7, e8, e9, e10, e11, e12, e13, e14) refl
-
 pub attrs-back : (a : Attrs) → has_bad_others a.others ≡ false → AllByRecursion (λ o. o.kind < 256) a.others → attrs_of (attr_list a) ≡ a
-attrs-back a good small =
-    attrs-same a _ _ _ _ _ _ _ _ _ _ _ _ _ _
-    (field_back a as_origin (λ (o : Origin). attr.Origin o) ORIGIN taken-origin refl (λ v. refl) a.origin (slot-origin a))
-    (field_back a as_as_path (λ (p : AsPath). attr.AsPath p) AS_PATH taken-as_path refl (λ v. refl) a.as_path (slot-as_path a))
-    (field_back a as_next_hop (λ (addr : List ℕ). attr.NextHop addr) NEXT_HOP taken-next_hop refl (λ v. refl) a.next_hop (slot-next_hop a))
-    (field_back a as_med (λ (n : ℕ). attr.Med n) MULTI_EXIT_DISC taken-med refl (λ v. refl) a.med (slot-med a))
-    (field_back a as_local_pref (λ (n : ℕ). attr.LocalPref n) LOCAL_PREF taken-local_pref refl (λ v. refl) a.local_pref (slot-local_pref a))
-    (atomic-back a)
-    (field_back a as_aggregator (λ (g : Aggregator). attr.Aggregator g) AGGREGATOR taken-aggregator refl (λ v. refl) a.aggregator (slot-aggregator a))
-    (field_back a as_communities (λ (c : Communities). attr.Communities c) COMMUNITIES taken-communities refl (λ v. refl) a.communities (slot-communities a))
-    (field_back a as_mp_reach (λ (r : MpReach). attr.MpReach r) MP_REACH_NLRI taken-mp_reach refl (λ v. refl) a.mp_reach (slot-mp_reach a))
-    (field_back a as_mp_unreach (λ (r : MpUnreach). attr.MpUnreach r) MP_UNREACH_NLRI taken-mp_unreach refl (λ v. refl) a.mp_unreach (slot-mp_unreach a))
-    (field_back a as_as4_path (λ (p : As4Path). attr.As4Path p) AS4_PATH taken-as4_path refl (λ v. refl) a.as4_path (slot-as4_path a))
-    (field_back a as_as4_aggregator (λ (g : Aggregator). attr.As4Aggregator g) AS4_AGGREGATOR taken-as4_aggregator refl (λ v. refl) a.as4_aggregator (slot-as4_aggregator a))
-    (field_back a as_large (λ (l : LargeCommunities). attr.Large l) LARGE_COMMUNITY taken-large refl (λ v. refl) a.large (slot-large a))
-    (others-back a good small)
+attrs-back a good small = λ i. record {
+  origin = field_back a as_origin (λ (o : Origin). attr.Origin o) ORIGIN taken-origin refl (λ v. refl) a.origin (slot-at a ORIGIN) i;
+  as_path = field_back a as_as_path (λ (p : AsPath). attr.AsPath p) AS_PATH taken-as_path refl (λ v. refl) a.as_path (slot-at a AS_PATH) i;
+  next_hop = field_back a as_next_hop (λ (addr : List ℕ). attr.NextHop addr) NEXT_HOP taken-next_hop refl (λ v. refl) a.next_hop (slot-at a NEXT_HOP) i;
+  med = field_back a as_med (λ (n : ℕ). attr.Med n) MULTI_EXIT_DISC taken-med refl (λ v. refl) a.med (slot-at a MULTI_EXIT_DISC) i;
+  local_pref = field_back a as_local_pref (λ (n : ℕ). attr.LocalPref n) LOCAL_PREF taken-local_pref refl (λ v. refl) a.local_pref (slot-at a LOCAL_PREF) i;
+  atomic = atomic-back a i;
+  aggregator = field_back a as_aggregator (λ (g : Aggregator). attr.Aggregator g) AGGREGATOR taken-aggregator refl (λ v. refl) a.aggregator (slot-at a AGGREGATOR) i;
+  communities = field_back a as_communities (λ (c : Communities). attr.Communities c) COMMUNITIES taken-communities refl (λ v. refl) a.communities (slot-at a COMMUNITIES) i;
+  mp_reach = field_back a as_mp_reach (λ (r : MpReach). attr.MpReach r) MP_REACH_NLRI taken-mp_reach refl (λ v. refl) a.mp_reach (slot-at a MP_REACH_NLRI) i;
+  mp_unreach = field_back a as_mp_unreach (λ (r : MpUnreach). attr.MpUnreach r) MP_UNREACH_NLRI taken-mp_unreach refl (λ v. refl) a.mp_unreach (slot-at a MP_UNREACH_NLRI) i;
+  as4_path = field_back a as_as4_path (λ (p : As4Path). attr.As4Path p) AS4_PATH taken-as4_path refl (λ v. refl) a.as4_path (slot-at a AS4_PATH) i;
+  as4_aggregator = field_back a as_as4_aggregator (λ (g : Aggregator). attr.As4Aggregator g) AS4_AGGREGATOR taken-as4_aggregator refl (λ v. refl) a.as4_aggregator (slot-at a AS4_AGGREGATOR) i;
+  large = field_back a as_large (λ (l : LargeCommunities). attr.Large l) LARGE_COMMUNITY taken-large refl (λ v. refl) a.large (slot-at a LARGE_COMMUNITY) i;
+  others = others-back a good small i;
+}

@@ -1,10 +1,12 @@
 -- Which types a walk over the attributes has to look at.
-use Rattle.std.proofs.Common.{◌≡◌, ℕ, ◌<◌, false, not, eqb, ltb, List, [], ◌∷◌, length, take, ap, refl, ◌∙◌, arith}
+use Rattle.std.proofs.Common.{◌≡◌, ℕ, ◌<◌, Bool, true, false, not, eqb, ltb, List, [], ◌∷◌, length, take, ap, refl, ◌∙◌, arith}
 use Rattle.std.specs.List.{flat_map, filter, list_any}
-use Rattle.std.proofs.lemmas.Bool.{ltb-true, ltb-false, ne_eqb, not-false}
+use Rattle.std.proofs.lemmas.Bool.{both_ways, lt-ltb, ltb-true, ltb-false, ne_eqb, not-false, not-true}
 use Rattle.bgp_attr.specs.declared.attr.Attr.TheVariants as attr
 use Rattle.bgp_attr.specs.declared.opaque.Opaque.{Opaque}
-use Rattle.bgp_attr.specs.Spelling.{is_recognised}
+use Rattle.bgp_attr.specs.Judgement.{is_recognised}
+use Rattle.bgp_attr.specs.Judgement as judgement
+use Rattle.bgp_attr.proofs.Tables.{entry-passes}
 use Rattle.bgp_update.specs.declared.attrs.Attrs.{Attrs}
 use Rattle.bgp_update.specs.Slots.{present, slot, canonical_order, attr_list}
 use Rattle.bgp_update.proofs.Lists.{flat_map-filter, find-none, all-none, all-more, none-all}
@@ -36,30 +38,11 @@ unfolding canonical_order
 are-common = refl
 
 unrecognised-above : (k : ℕ) → 40 < k → is_recognised k ≡ false
-unrecognised-above k high =
-    let other : (j : ℕ) → j < 41 → eqb k j ≡ false = λ j low. ne_eqb k j (λ (e : k ≡ j). absurd (omega (arith, high, low))) in
-    all-none (λ (j : ℕ). eqb k j) (1 ∷ 2 ∷ 3 ∷ 4 ∷ 5 ∷ 6 ∷ 7 ∷ 8 ∷ 14 ∷ 15 ∷ 17 ∷ 18 ∷ 32 ∷ []) (
-      other 1 (omega arith),
-      (
-        other 2 (omega arith),
-        (
-          other 3 (omega arith),
-          (
-            other 4 (omega arith),
-            (
-              other 5 (omega arith),
-              (
-                other 6 (omega arith),
-                (
-                  other 7 (omega arith),
-                  (other 8 (omega arith), (other 14 (omega arith), (other 15 (omega arith), (other 17 (omega arith), (other 18 (omega arith), (other 32 (omega arith), tt)))))),
-                ),
-              ),
-            ),
-          ),
-        ),
-      ),
-    )
+unrecognised-above k high = by (is_recognised k) refl
+  where
+    by : (t : Bool) → is_recognised k ≡ t → t ≡ false
+    by true e = absurd (both_ways (ltb 40 k) (not-true (ltb 40 k) (entry-passes (λ j. not (ltb 40 j)) k judgement.recognised refl e)) (lt-ltb 40 k high))
+    by false e = refl
 
 module _ (a : Attrs) (low : list_any (λ o. ltb 40 o.kind) a.others ≡ false) where
   none-above : (k : ℕ) → 40 < k → slot a k ≡ []

@@ -15,7 +15,7 @@ use Rattle.bgp_attr.specs.declared.mp.MpUnreach.{MpUnreach}
 use Rattle.bgp_attr.specs.declared.origin.Origin.{Origin}
 use Rattle.bgp_attr.specs.declared.path.As4Path.{As4Path}
 use Rattle.bgp_attr.specs.declared.path.AsPath.{AsPath}
-use Rattle.bgp_attr.specs.Spelling.{is_recognised}
+use Rattle.bgp_attr.specs.Judgement.{is_recognised}
 use Rattle.bgp_attr.specs.Written.{type_of, is_misnamed}
 use Rattle.bgp_wire.specs.OctetSet.{also, none_of_them}
 use Rattle.bgp_update.specs.Marks.{carries_routes}

@@ -5,7 +5,7 @@ use Rattle.std.specs.List.{flat_map, list_any, AllByRecursion}
 use Rattle.std.proofs.lemmas.Bool.{true≢false, false≢true, eqb-true, ne_eqb, or_parts, or_cases, or_from}
 use Rattle.std.proofs.lemmas.List.{length-map}
 use Rattle.bgp_numbers.specs.declared.TheConstants.{AS_TRANS}
-use Rattle.bgp_numbers.specs.declared.attribute.TheConstants.{AS_PATH, AGGREGATOR, AS4_PATH, AS4_AGGREGATOR}
+use Rattle.bgp_numbers.specs.declared.attribute.TheConstants.{ORIGIN, AS_PATH, NEXT_HOP, MULTI_EXIT_DISC, LOCAL_PREF, ATOMIC_AGGREGATE, AGGREGATOR, COMMUNITIES, MP_REACH_NLRI, MP_UNREACH_NLRI, AS4_PATH, AS4_AGGREGATOR, LARGE_COMMUNITY}
 use Rattle.bgp_open.specs.declared.context.Context.{Context}
 use Rattle.bgp_prefix.specs.declared.as_number.AsNumber.{AsNumber}
 use Rattle.bgp_attr.specs.declared.aggregator.Aggregator.{Aggregator}
@@ -17,32 +17,57 @@ use Rattle.bgp_attr.specs.declared.path.Segment.{Segment}
 use Rattle.bgp_attr.specs.declared.path.AsPath.{AsPath}
 use Rattle.bgp_attr.specs.declared.path.As4Path.{As4Path}
 use Rattle.bgp_attr.specs.Path.{as_number}
-use Rattle.bgp_attr.specs.Spelling.{is_recognised}
+use Rattle.bgp_attr.specs.Table.{entry_of}
+use Rattle.bgp_attr.proofs.Tables.{◌&◌}
 use Rattle.bgp_attr.specs.Written.{type_of, any_number, is_above_two_octets, is_zero, is_bad_segment, is_too_wide, is_as4, is_empty, has_as_zero, stands_twice}
 use Rattle.bgp_update.specs.declared.attrs.Attrs.{Attrs}
 use Rattle.bgp_update.specs.declared.update.Update.{Update}
 use Rattle.bgp_update.specs.As4.{narrow_number, narrow_segment, narrow_path, wide_path, narrow_aggregator, wide_aggregator, narrowed, narrowed_update, HasNoAs4}
-use Rattle.bgp_update.specs.Slots.{present, slot, canonical_order, attr_list}
+use Rattle.bgp_update.specs.Slots.{present, slots, slot, canonical_order, attr_list}
 use Rattle.bgp_update.specs.Widths.{with_as4}
 use Rattle.bgp_update.specs.Written.{lacks_some, is_of_other_family, invalid_of}
-use Rattle.bgp_update.proofs.Lists.{none-all, all-none, all-append, all-front, all-back, all-both}
-use Rattle.bgp_update.proofs.SlotLemmas.{by_type, recognised-stands, slot-types, slot-other, slot-as4_path, slot-as4_aggregator}
-use Rattle.bgp_update.proofs.TypeLemmas.{other_kind}
+use Rattle.bgp_update.proofs.Lists.{none-all, all-none, all-carried, all-both}
+use Rattle.bgp_update.proofs.SlotLemmas.{other_slot, slot-at, slot-other, by_slot, slot-types, slot-all}
 use Rattle.bgp_update.proofs.Validity.{valid-accepted, accepted-valid}
 
 -- ---- what is told of the four attributes of AS numbers, and of all others
 
--- a type that is told in another form
-abbrev is_retold : ℕ → Bool
-is_retold k = eqb k AS_PATH || eqb k AGGREGATOR
+-- the types of which something else may be told
+abbrev pub is_narrowed : ℕ → Bool
+is_narrowed k = eqb k AS_PATH || (eqb k AGGREGATOR || (eqb k AS4_PATH || eqb k AS4_AGGREGATOR))
+
+-- a fact for each of these types, and one for all others
+pub by_narrowed : (P : ℕ → Type 0) → P AS_PATH → P AGGREGATOR → P AS4_PATH → P AS4_AGGREGATOR → ((k : ℕ) → is_narrowed k ≡ false → P k) → (k : ℕ) → P k
+by_narrowed P path aggregator as4_path as4_aggregator rest k = by (eqb k AS_PATH) refl (eqb k AGGREGATOR) refl (eqb k AS4_PATH) refl (eqb k AS4_AGGREGATOR) refl
+  where
+    by : (b : Bool) → eqb k AS_PATH ≡ b → (c : Bool) → eqb k AGGREGATOR ≡ c → (d : Bool) → eqb k AS4_PATH ≡ d → (e : Bool) → eqb k AS4_AGGREGATOR ≡ e → P k
+    by true p c q d r e s = subst P (sym (eqb-true k AS_PATH p)) path
+    by false p true q d r e s = subst P (sym (eqb-true k AGGREGATOR q)) aggregator
+    by false p false q true r e s = subst P (sym (eqb-true k AS4_PATH r)) as4_path
+    by false p false q false r true s = subst P (sym (eqb-true k AS4_AGGREGATOR s)) as4_aggregator
+    by false p false q false r false s = rest k (or_from _ _ p (or_from _ _ q (or_from _ _ r s)))
+
+-- each other slot is told as it is
+pub same-slot : (a : Attrs) (k : ℕ) → is_narrowed k ≡ false → slot (narrowed a) k ≡ slot a k
+same-slot a k =
+    by_slot a k (λ j xs. is_narrowed j ≡ false → slot (narrowed a) j ≡ xs)
+    (told ORIGIN & changed & told NEXT_HOP & told MULTI_EXIT_DISC & told LOCAL_PREF & told ATOMIC_AGGREGATE & changed & told COMMUNITIES & told MP_REACH_NLRI & told MP_UNREACH_NLRI
+    & changed & changed & told LARGE_COMMUNITY & tt)
+    (λ other e. slot-other (narrowed a) k other)
+  where
+    told : (j : ℕ) → false ≡ false → slot (narrowed a) j ≡ entry_of j (slots (narrowed a)) (other_slot (narrowed a) j)
+    told j e = slot-at (narrowed a) j
+
+    changed : {A : Type 0} → true ≡ false → A
+    changed e = absurd (true≢false e)
 
 -- what holds of each attribute makes something hold of each that is told
-record Carries (P Q : Attr → Type 0) : Type 0 where
-  as_path : (p : AsPath) → P (attr.AsPath p) → Q (attr.AsPath (narrow_path p))
-  as4_path : (p : AsPath) → any_number is_above_two_octets p ≡ true → P (attr.AsPath p) → Q (attr.As4Path (record { partial = false; path = p }))
-  aggregator : (g : Aggregator) → P (attr.Aggregator g) → Q (attr.Aggregator (narrow_aggregator g))
-  as4_aggregator : (g : Aggregator) → P (attr.Aggregator g) → Q (attr.As4Aggregator g)
-  same : (x : Attr) → is_retold (type_of x) ≡ false → P x → Q x
+pub record Carries (P Q : Attr → Type 0) : Type 0 where
+  pub as_path : (p : AsPath) → P (attr.AsPath p) → Q (attr.AsPath (narrow_path p))
+  pub as4_path : (p : AsPath) → any_number is_above_two_octets p ≡ true → P (attr.AsPath p) → Q (attr.As4Path (record { partial = false; path = p }))
+  pub aggregator : (g : Aggregator) → P (attr.Aggregator g) → Q (attr.Aggregator (narrow_aggregator g))
+  pub as4_aggregator : (g : Aggregator) → P (attr.Aggregator g) → Q (attr.As4Aggregator g)
+  pub same : (x : Attr) → is_narrowed (type_of x) ≡ false → P x → Q x
 
 module _ (P Q : Attr → Type 0) (told : Carries P Q) (a : Attrs) where
   told-path : (o : Option AsPath) → AllByRecursion P (present (λ (p : AsPath). attr.AsPath p) o) → AllByRecursion Q (present (λ (p : AsPath). attr.AsPath p) (option_map narrow_path o))
@@ -72,50 +97,21 @@ module _ (P Q : Attr → Type 0) (told : Carries P Q) (a : Attrs) where
   told-as4_aggregator None all = tt
   told-as4_aggregator (Some g) all = wide_aggregator-by g (is_above_two_octets (g.asn).0) all.0
 
-  told-same : (k : ℕ) → is_retold k ≡ false → slot (narrowed a) k ≡ slot a k → AllByRecursion P (slot a k) → AllByRecursion Q (slot (narrowed a) k)
-  told-same k kept same all =
-      subst (λ (xs : List Attr). AllByRecursion Q xs) (sym same)
-      (all-both (λ x. type_of x ≡ k) P Q (slot a k) (λ x of_type h. told.same x (ap is_retold of_type ∙ kept) h) (slot-types a k) all)
+  told-same : (k : ℕ) → is_narrowed k ≡ false → AllByRecursion P (slot a k) → AllByRecursion Q (slot (narrowed a) k)
+  told-same k kept all =
+      subst (λ (xs : List Attr). AllByRecursion Q xs) (sym (same-slot a k kept))
+      (all-both (λ x. type_of x ≡ k) P Q (slot a k) (λ x of_type h. told.same x (ap is_narrowed of_type ∙ kept) h) (slot-types a k) all)
 
-  module _ (paths : AllByRecursion P (slot a AS_PATH)) (aggregators : AllByRecursion P (slot a AGGREGATOR)) where
-    told-slot : (k : ℕ) → AllByRecursion P (slot a k) → AllByRecursion Q (slot (narrowed a) k)
-    unfolding slot
-    told-slot =
-        by_type (λ k. AllByRecursion P (slot a k) → AllByRecursion Q (slot (narrowed a) k))
-        (told-same 1 refl refl)
-        (λ all. told-path a.as_path paths)
-        (told-same 3 refl refl)
-        (told-same 4 refl refl)
-        (told-same 5 refl refl)
-        (told-same 6 refl refl)
-        (λ all. told-aggregator a.aggregator aggregators)
-        (told-same 8 refl refl)
-        (told-same 14 refl refl)
-        (told-same 15 refl refl)
-        (λ all. told-as4_path a.as_path paths)
-        (λ all. told-as4_aggregator a.aggregator aggregators)
-        (told-same 32 refl refl)
-        (λ k other. told-same k (or_from (eqb k AS_PATH) (eqb k AGGREGATOR) (other_kind k AS_PATH refl other) (other_kind k AGGREGATOR refl other)) (slot-other (narrowed a) k other ∙ sym (slot-other a k other)))
+  told-slot : AllByRecursion P (slot a AS_PATH) → AllByRecursion P (slot a AGGREGATOR) → (k : ℕ) → AllByRecursion P (slot a k) → AllByRecursion Q (slot (narrowed a) k)
+  unfolding slot
+  told-slot paths aggregators =
+      by_narrowed (λ k. AllByRecursion P (slot a k) → AllByRecursion Q (slot (narrowed a) k))
+      (λ all. told-path a.as_path paths) (λ all. told-aggregator a.aggregator aggregators) (λ all. told-as4_path a.as_path paths) (λ all. told-as4_aggregator a.aggregator aggregators)
+      told-same
 
-    told-slots : (ks : List ℕ) → AllByRecursion P (flat_map (slot a) ks) → AllByRecursion Q (flat_map (slot (narrowed a)) ks)
-    told-slots [] all = tt
-    told-slots (k ∷ ks) all =
-        all-append Q (slot (narrowed a) k) (flat_map (slot (narrowed a)) ks) (told-slot k (all-front P (slot a k) (flat_map (slot a) ks) all)) (told-slots ks (all-back P (slot a k) (flat_map (slot a) ks) all))
-
--- what holds of all attributes holds of those of one type
-module _ (P : Attr → Type 0) (a : Attrs) (kind : ℕ) where
-  slot-among : (ks : List ℕ) → list_any (λ k. eqb k kind) ks ≡ true → AllByRecursion P (flat_map (slot a) ks) → AllByRecursion P (slot a kind)
-  slot-among [] e all = absurd (false≢true e)
-  slot-among (k ∷ ks) e all = elim (or_cases (eqb k kind) (list_any (λ j. eqb j kind) ks) e) [
-    | inl same ↦ subst (λ (j : ℕ). AllByRecursion P (slot a j)) (eqb-true k kind same) (all-front P (slot a k) (flat_map (slot a) ks) all)
-    | inr later ↦ slot-among ks later (all-back P (slot a k) (flat_map (slot a) ks) all)
-  ]
-
-  slot-all : is_recognised kind ≡ true → AllByRecursion P (attr_list a) → AllByRecursion P (slot a kind)
-  slot-all recognised all = slot-among canonical_order (recognised-stands kind recognised) all
-
-told-all : (P Q : Attr → Type 0) → Carries P Q → (a : Attrs) → AllByRecursion P (attr_list a) → AllByRecursion Q (attr_list (narrowed a))
-told-all P Q told a all = told-slots P Q told a (slot-all P a AS_PATH refl all) (slot-all P a AGGREGATOR refl all) canonical_order all
+pub told-all : (P Q : Attr → Type 0) → Carries P Q → (a : Attrs) → AllByRecursion P (attr_list a) → AllByRecursion Q (attr_list (narrowed a))
+told-all P Q told a all =
+    all-carried P Q (slot a) (slot (narrowed a)) canonical_order (told-slot P Q told a (slot-all P a AS_PATH refl all) (slot-all P a AGGREGATOR refl all)) all
 
 -- a test that no attribute passes, and one that none passes that is told
 told-none : (before after : Attr → Bool) → Carries (λ x. before x ≡ false) (λ x. after x ≡ false) → (a : Attrs) → list_any before (attr_list a) ≡ false → list_any after (attr_list (narrowed a)) ≡ false
@@ -174,7 +170,7 @@ some-segment test (s ∷ ss) e = ne_eqb (length (s ∷ ss)) 0 (λ (f : length (s
 wide-told : (ctx : Context) → Carries (λ x. is_too_wide ctx x ≡ false) (λ x. is_too_wide (with_as4 false ctx) x ≡ false)
 wide-told ctx = record { as_path = λ p h. path-fits p; as4_path = λ p e h. refl; aggregator = λ g h. number-fits g.asn; as4_aggregator = λ g h. refl; same = same }
   where
-    same : (x : Attr) → is_retold (type_of x) ≡ false → is_too_wide ctx x ≡ false → is_too_wide (with_as4 false ctx) x ≡ false
+    same : (x : Attr) → is_narrowed (type_of x) ≡ false → is_too_wide ctx x ≡ false → is_too_wide (with_as4 false ctx) x ≡ false
     same (attr.AsPath p) e h = absurd (true≢false e)
     same (attr.Aggregator g) e h = absurd (true≢false e)
     same _ e h = refl
@@ -182,7 +178,7 @@ wide-told ctx = record { as_path = λ p h. path-fits p; as4_path = λ p e h. ref
 family-told : (ctx : Context) → Carries (λ x. is_of_other_family ctx x ≡ false) (λ x. is_of_other_family (with_as4 false ctx) x ≡ false)
 family-told ctx = record { as_path = λ p h. refl; as4_path = λ p e h. refl; aggregator = λ g h. refl; as4_aggregator = λ g h. refl; same = same }
   where
-    same : (x : Attr) → is_retold (type_of x) ≡ false → is_of_other_family ctx x ≡ false → is_of_other_family (with_as4 false ctx) x ≡ false
+    same : (x : Attr) → is_narrowed (type_of x) ≡ false → is_of_other_family ctx x ≡ false → is_of_other_family (with_as4 false ctx) x ≡ false
     same (attr.MpReach (reach.Ip4 hop routes)) e h = h
     same (attr.MpReach (reach.Ip6 hop link routes)) e h = h
     same (attr.MpUnreach (unreach.Ip4 routes)) e h = h
@@ -243,8 +239,8 @@ none-as4 : (a : Attrs) → list_any is_as4 (attr_list a) ≡ false → HasNoAs4 
 none-as4 a none =
     let all = none-all is_as4 (attr_list a) none in
     record {
-      path = no-path a.as4_path (subst (λ (xs : List Attr). AllByRecursion (λ x. is_as4 x ≡ false) xs) (slot-as4_path a) (slot-all (λ x. is_as4 x ≡ false) a AS4_PATH refl all));
-      aggregator = no-aggregator a.as4_aggregator (subst (λ (xs : List Attr). AllByRecursion (λ x. is_as4 x ≡ false) xs) (slot-as4_aggregator a) (slot-all (λ x. is_as4 x ≡ false) a AS4_AGGREGATOR refl all));
+      path = no-path a.as4_path (subst (λ (xs : List Attr). AllByRecursion (λ x. is_as4 x ≡ false) xs) (slot-at a AS4_PATH) (slot-all (λ x. is_as4 x ≡ false) a AS4_PATH refl all));
+      aggregator = no-aggregator a.as4_aggregator (subst (λ (xs : List Attr). AllByRecursion (λ x. is_as4 x ≡ false) xs) (slot-at a AS4_AGGREGATOR) (slot-all (λ x. is_as4 x ≡ false) a AS4_AGGREGATOR refl all));
     }
 
 pub wide_update_has_no_as4 : (ctx : Context) (u : Update) → ctx.as4 ≡ true → invalid_of ctx u ≡ None → HasNoAs4 u.attrs

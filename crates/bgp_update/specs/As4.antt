@@ -102,26 +102,16 @@ wide_aggregator (Some a) = as4_aggregator_for a
 
 -- the attributes as such a speaker is told them
 abbrev pub narrowed : Attrs → Attrs
-narrowed a = record {
-  origin = a.origin;
+narrowed a = record a {
   as_path = option_map narrow_path a.as_path;
-  next_hop = a.next_hop;
-  med = a.med;
-  local_pref = a.local_pref;
-  atomic = a.atomic;
   aggregator = option_map narrow_aggregator a.aggregator;
-  communities = a.communities;
-  mp_reach = a.mp_reach;
-  mp_unreach = a.mp_unreach;
   as4_path = wide_path a.as_path;
   as4_aggregator = wide_aggregator a.aggregator;
-  large = a.large;
-  others = a.others;
 }
 
 -- the UPDATE as a speaker with AS numbers of two octets is told it
 abbrev pub narrowed_update : Update → Update
-narrowed_update u = record { withdrawn = u.withdrawn; attrs = narrowed u.attrs; nlri = u.nlri }
+narrowed_update u = record u { attrs = narrowed u.attrs }
 
 -- neither AS4_PATH nor AS4_AGGREGATOR is there
 pub record HasNoAs4 (a : Attrs) : Type 0 where
@@ -132,22 +122,7 @@ pub record HasNoAs4 (a : Attrs) : Type 0 where
 
 -- attributes of unrecognised types go on only where they are transitive
 abbrev pub onward_attrs : Attrs → Attrs
-onward_attrs a = record {
-  origin = a.origin;
-  as_path = a.as_path;
-  next_hop = a.next_hop;
-  med = a.med;
-  local_pref = a.local_pref;
-  atomic = a.atomic;
-  aggregator = a.aggregator;
-  communities = a.communities;
-  mp_reach = a.mp_reach;
-  mp_unreach = a.mp_unreach;
-  as4_path = a.as4_path;
-  as4_aggregator = a.as4_aggregator;
-  large = a.large;
-  others = filter (λ o. o.transitive) a.others;
-}
+onward_attrs a = record a { others = filter (λ o. o.transitive) a.others }
 
 abbrev pub onward_of : Update → Update
-onward_of u = record { withdrawn = u.withdrawn; attrs = onward_attrs u.attrs; nlri = u.nlri }
+onward_of u = record u { attrs = onward_attrs u.attrs }

@@ -4,4 +4,4 @@ use Rattle.bgp_open.specs.declared.context.Context.{Context}
 
 -- the same session, with AS numbers of four octets or of two
 abbrev pub with_as4 : Bool → Context → Context
-with_as4 as4 ctx = record { internal = ctx.internal; as4 = as4; ip4 = ctx.ip4; ip6 = ctx.ip6; hold = ctx.hold }
+with_as4 as4 ctx = record ctx { as4 = as4 }

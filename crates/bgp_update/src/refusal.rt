@@ -2,7 +2,7 @@
 
 ghost use Rattle.std.specs.Prelude.{◌≡◌, ◌<◌, true, false, None};
 ghost use Rattle.std.specs.List.{list_any, AllByRecursion};
-ghost use Rattle.bgp_attr.specs.Spelling.{is_recognised};
+ghost use Rattle.bgp_attr.specs.Judgement.{is_recognised};
 ghost use Rattle.bgp_update.specs.Notes.{has_routes};
 ghost use Rattle.bgp_update.specs.Written.{has_nlri, announces, lacks_some, has_needless_next_hop, has_outside_preference, has_bad_others, rise, invalid_of};
 
