@@ -17,8 +17,9 @@ use Rattle.bgp_update.specs.declared.update.Update.{Update}
 use Rattle.bgp_update.specs.As4.{narrow_aggregator, wide_path, wide_aggregator, narrowed, narrowed_update, HasNoAs4}
 use Rattle.bgp_update.specs.Slots.{present, slot, canonical_order, attr_list}
 use Rattle.bgp_update.specs.Written.{HasUpdateRanges}
-use Rattle.bgp_update.proofs.Lists.{all-append, all-front, all-back}
-use Rattle.bgp_update.proofs.SlotLemmas.{by_type, recognised-stands, slot-other}
+use Rattle.bgp_update.proofs.Lists.{all-carried}
+use Rattle.bgp_update.proofs.SlotLemmas.{slot-all}
+use Rattle.bgp_update.proofs.Widths.{by_narrowed, same-slot}
 
 -- ---- numbers that need no four octets
 
@@ -61,54 +62,24 @@ aggregator_back (Some g) told wide = ((number_by g (is_above_two_octets (g.asn).
 
 -- ---- all of them
 
-module _ (a : Attrs) where
-  -- the attribute of a type is one of all
-  pub slot_among : (kind : ℕ) (ks : List ℕ) → list_any (λ k. eqb k kind) ks ≡ true → AllFit (flat_map (slot a) ks) → AllFit (slot a kind)
-  slot_among kind [] e all = absurd (false≢true e)
-  slot_among kind (k ∷ ks) e all = elim (or_cases (eqb k kind) (list_any (λ j. eqb j kind) ks) e) [
-    | inl same ↦ subst (λ (j : ℕ). AllFit (slot a j)) (eqb-true k kind same) (all-front HasRanges (slot a k) (flat_map (slot a) ks) all)
-    | inr later ↦ slot_among kind ks later (all-back HasRanges (slot a k) (flat_map (slot a) ks) all)
-  ]
+module _ (a : Attrs) (none : HasNoAs4 a) where
+  no_path : AllFit (present (λ (w : As4Path). attr.As4Path w) a.as4_path)
+  no_path = subst (λ (o : Option As4Path). AllFit (present (λ (w : As4Path). attr.As4Path w) o)) (sym none.path) tt
 
-  same_back : (k : ℕ) → slot (narrowed a) k ≡ slot a k → AllFit (slot (narrowed a) k) → AllFit (slot a k)
-  same_back k same all = subst (λ (xs : List Attr). AllFit xs) same all
+  no_aggregator : AllFit (present (λ (g : Aggregator). attr.As4Aggregator g) a.as4_aggregator)
+  no_aggregator = subst (λ (o : Option Aggregator). AllFit (present (λ (g : Aggregator). attr.As4Aggregator g) o)) (sym none.aggregator) tt
 
-  module _ (none : HasNoAs4 a) (paths : AllFit (slot (narrowed a) AS4_PATH)) (aggregators : AllFit (slot (narrowed a) AS4_AGGREGATOR)) where
-    no_path : AllFit (present (λ (w : As4Path). attr.As4Path w) a.as4_path)
-    no_path = subst (λ (o : Option As4Path). AllFit (present (λ (w : As4Path). attr.As4Path w) o)) (sym none.path) tt
+  slot_back : AllFit (slot (narrowed a) AS4_PATH) → AllFit (slot (narrowed a) AS4_AGGREGATOR) → (k : ℕ) → AllFit (slot (narrowed a) k) → AllFit (slot a k)
+  unfolding slot
+  slot_back paths aggregators =
+      by_narrowed (λ k. AllFit (slot (narrowed a) k) → AllFit (slot a k))
+      (λ all. path_back a.as_path paths) (λ all. aggregator_back a.aggregator all aggregators) (λ all. no_path) (λ all. no_aggregator)
+      (λ k kept all. subst AllFit (same-slot a k kept) all)
 
-    no_aggregator : AllFit (present (λ (g : Aggregator). attr.As4Aggregator g) a.as4_aggregator)
-    no_aggregator = subst (λ (o : Option Aggregator). AllFit (present (λ (g : Aggregator). attr.As4Aggregator g) o)) (sym none.aggregator) tt
-
-    slot_back : (k : ℕ) → AllFit (slot (narrowed a) k) → AllFit (slot a k)
-    unfolding slot
-    slot_back =
-        by_type (λ k. AllFit (slot (narrowed a) k) → AllFit (slot a k))
-        (same_back 1 refl)
-        (λ all. path_back a.as_path paths)
-        (same_back 3 refl)
-        (same_back 4 refl)
-        (same_back 5 refl)
-        (same_back 6 refl)
-        (λ all. aggregator_back a.aggregator all aggregators)
-        (same_back 8 refl)
-        (same_back 14 refl)
-        (same_back 15 refl)
-        (λ all. no_path)
-        (λ all. no_aggregator)
-        (same_back 32 refl)
-        (λ k other. same_back k (slot-other (narrowed a) k other ∙ sym (slot-other a k other)))
-
-    slots_back : (ks : List ℕ) → AllFit (flat_map (slot (narrowed a)) ks) → AllFit (flat_map (slot a) ks)
-    slots_back [] all = tt
-    slots_back (k ∷ ks) all =
-        all-append HasRanges (slot a k) (flat_map (slot a) ks) (slot_back k (all-front HasRanges (slot (narrowed a) k) (flat_map (slot (narrowed a)) ks) all))
-        (slots_back ks (all-back HasRanges (slot (narrowed a) k) (flat_map (slot (narrowed a)) ks) all))
-
-attrs_back : (a : Attrs) → HasNoAs4 a → AllFit (attr_list (narrowed a)) → AllFit (attr_list a)
-attrs_back a none all =
-    slots_back a none (slot_among (narrowed a) AS4_PATH canonical_order (recognised-stands AS4_PATH refl) all)
-    (slot_among (narrowed a) AS4_AGGREGATOR canonical_order (recognised-stands AS4_AGGREGATOR refl) all) canonical_order all
+  attrs_back : AllFit (attr_list (narrowed a)) → AllFit (attr_list a)
+  attrs_back all =
+      all-carried HasRanges HasRanges (slot (narrowed a)) (slot a) canonical_order
+      (slot_back (slot-all HasRanges (narrowed a) AS4_PATH refl all) (slot-all HasRanges (narrowed a) AS4_AGGREGATOR refl all)) all
 
 pub widened_ranges : (u : Update) → HasNoAs4 u.attrs → HasUpdateRanges (narrowed_update u) → HasUpdateRanges u
 widened_ranges u none r = record { withdrawn = r.withdrawn; attributes = attrs_back u.attrs none r.attributes; others = r.others; nlri = r.nlri }

@@ -1,7 +1,6 @@
 -- The codes of resets: those of the body of an UPDATE are UPDATE Message Errors.
-use Rattle.std.proofs.Common.{◌≡◌, ℕ, ◌-◌, Bool, true, false, ◌&&◌, ◌==◌, nat_lt, List, [], ◌∷◌, ◌++◌, length, Option, None, Some, refl, subst, option_map, if◌then◌else◌}
+use Rattle.std.proofs.Common.{◌≡◌, ℕ, ◌-◌, Bool, true, false, ◌&&◌, nat_lt, List, [], ◌∷◌, ◌++◌, length, Option, None, Some, refl, subst, option_map, if◌then◌else◌}
 use Rattle.std.specs.Option.{option_or}
-use Rattle.bgp_numbers.specs.declared.attribute.TheConstants.{ORIGIN, AS_PATH, NEXT_HOP, MULTI_EXIT_DISC, LOCAL_PREF, ATOMIC_AGGREGATE, AGGREGATOR, COMMUNITIES, MP_REACH_NLRI, MP_UNREACH_NLRI, AS4_PATH, AS4_AGGREGATOR, LARGE_COMMUNITY}
 use Rattle.bgp_numbers.specs.declared.error.TheConstants.{UPDATE_MESSAGE}
 use Rattle.bgp_frame.specs.declared.notification.Notification.{Notification}
 use Rattle.bgp_open.specs.declared.context.Context.{Context}
@@ -11,11 +10,11 @@ use Rattle.bgp_attr.specs.declared.judged.Judged.{Judged}
 use Rattle.bgp_attr.specs.declared.judged.Judged.TheVariants as judged
 use Rattle.bgp_attr.specs.declared.why.Why.{Why}
 use Rattle.bgp_attr.specs.declared.why.Why.TheVariants as why
-use Rattle.bgp_attr.specs.Judgement.{origin_tests, as_path_tests, next_hop_tests, med_tests, local_pref_tests, atomic_tests, aggregator_tests, communities_tests, mp_reach_tests, mp_unreach_tests, as4_path_tests, as4_aggregator_tests, large_tests, other_tests}
-use Rattle.bgp_attr.specs.Judgement.{judgement, tests_of, unless_refused}
+use Rattle.bgp_attr.specs.Judgement.{aggregator_tests, AttributeType, type_row, unless_refused, judgement}
 use Rattle.bgp_attr.specs.Refusal.{Refusal, Discard, Withdraw, Reset, when, first_refusal}
 use Rattle.bgp_attr.specs.Tlv.{TlvValue, PlacedTlv, tlvs_of}
-use Rattle.bgp_attr.specs.Value.{value_of}
+use Rattle.bgp_attr.proofs.Tables.{◌&◌}
+use Rattle.bgp_attr.proofs.TestRows.{by_type}
 use Rattle.bgp_update.specs.declared.verdict.Verdict.{Verdict}
 use Rattle.bgp_update.specs.declared.verdict.Verdict.TheVariants as verdict
 use Rattle.bgp_wire.specs.OctetSet.{also, none_of_them}
@@ -68,68 +67,27 @@ first_answers [] h = tt
 first_answers (None ∷ ts) h = first_answers ts h.1
 first_answers (Some r ∷ ts) h = h.0
 
-origin_answer : (t : TlvValue) → AllAnswer (origin_tests t)
-origin_answer t = test _ _ tt (test _ _ tt (test _ _ tt none))
-
-as_path_answer : (ctx : Context) (t : TlvValue) → AllAnswer (as_path_tests ctx t)
-as_path_answer ctx t = test _ _ tt (fault _ _ (λ w. tt) (test _ _ tt none))
-
-next_hop_answer : (has_nlri : Bool) (t : TlvValue) → AllAnswer (next_hop_tests has_nlri t)
-next_hop_answer has_nlri t = test _ _ tt (test _ _ tt (test _ _ tt none))
-
-med_answer : (t : TlvValue) → AllAnswer (med_tests t)
-med_answer t = test _ _ tt (test _ _ tt none)
-
-local_pref_answer : (ctx : Context) (t : TlvValue) → AllAnswer (local_pref_tests ctx t)
-local_pref_answer ctx t = test _ _ tt (test _ _ tt (test _ _ tt none))
-
-atomic_answer : (t : TlvValue) → AllAnswer (atomic_tests t)
-atomic_answer t = test _ _ tt (test _ _ tt none)
-
 aggregator_answer : (wide : Bool) (t : TlvValue) → AllAnswer (aggregator_tests wide t)
 aggregator_answer wide t = test _ _ tt (test _ _ tt (test _ _ tt none))
 
-communities_answer : (t : TlvValue) → AllAnswer (communities_tests t)
-communities_answer t = test _ _ tt (test _ _ tt none)
-
-mp_reach_answer : (ctx : Context) (t : TlvValue) → AllAnswer (mp_reach_tests ctx t)
-mp_reach_answer ctx t = test _ _ refl (test _ _ refl (test _ _ tt (test _ _ refl (test _ _ refl (test _ _ refl none)))))
-
-mp_unreach_answer : (ctx : Context) (t : TlvValue) → AllAnswer (mp_unreach_tests ctx t)
-mp_unreach_answer ctx t = test _ _ refl (test _ _ refl (test _ _ tt (test _ _ refl none)))
-
-as4_path_answer : (ctx : Context) (t : TlvValue) → AllAnswer (as4_path_tests ctx t)
-as4_path_answer ctx t = test _ _ tt (test _ _ tt (test _ _ tt (fault _ _ (λ w. tt) (test _ _ tt (test _ _ tt none)))))
-
-as4_aggregator_answer : (ctx : Context) (t : TlvValue) → AllAnswer (as4_aggregator_tests ctx t)
-as4_aggregator_answer ctx t = test _ _ tt (aggregator_answer true t)
-
-large_answer : (t : TlvValue) → AllAnswer (large_tests t)
-large_answer t = test _ _ tt (test _ _ tt none)
-
-other_answer : (t : TlvValue) → AllAnswer (other_tests t)
-other_answer t = test _ _ refl none
-
-chosen : (b : Bool) (x y : List (Option Refusal)) → AllAnswer x → AllAnswer y → AllAnswer (if b then x else y)
-chosen true x y p q = p
-chosen false x y p q = q
-
-tests_answer : (ctx : Context) (nlri : Bool) (t : TlvValue) → AllAnswer (tests_of ctx nlri t)
-unfolding tests_of
+tests_answer : (ctx : Context) (nlri : Bool) (t : TlvValue) → AllAnswer (type_row ctx nlri t).tests
 tests_answer ctx nlri t =
-    chosen (t.kind == ORIGIN) _ _ (origin_answer t) (
-    chosen (t.kind == AS_PATH) _ _ (as_path_answer ctx t) (
-    chosen (t.kind == NEXT_HOP) _ _ (next_hop_answer nlri t) (
-    chosen (t.kind == MULTI_EXIT_DISC) _ _ (med_answer t) (
-    chosen (t.kind == LOCAL_PREF) _ _ (local_pref_answer ctx t) (
-    chosen (t.kind == ATOMIC_AGGREGATE) _ _ (atomic_answer t) (
-    chosen (t.kind == AGGREGATOR) _ _ (aggregator_answer ctx.as4 t) (
-    chosen (t.kind == COMMUNITIES) _ _ (communities_answer t) (
-    chosen (t.kind == MP_REACH_NLRI) _ _ (mp_reach_answer ctx t) (
-    chosen (t.kind == MP_UNREACH_NLRI) _ _ (mp_unreach_answer ctx t) (
-    chosen (t.kind == AS4_PATH) _ _ (as4_path_answer ctx t) (
-    chosen (t.kind == AS4_AGGREGATOR) _ _ (as4_aggregator_answer ctx t) (
-    chosen (t.kind == LARGE_COMMUNITY) _ _ (large_answer t) (other_answer t)))))))))))))
+    by_type ctx nlri t (λ type. AllAnswer type.tests)
+    ((λ origin. test _ _ tt (test _ _ tt (test _ _ tt none)))
+    & (λ as_path. test _ _ tt (fault _ _ (λ w. tt) (test _ _ tt none)))
+    & (λ next_hop. test _ _ tt (test _ _ tt (test _ _ tt none)))
+    & (λ med. test _ _ tt (test _ _ tt none))
+    & (λ local_pref. test _ _ tt (test _ _ tt (test _ _ tt none)))
+    & (λ atomic. test _ _ tt (test _ _ tt none))
+    & (λ aggregator. aggregator_answer ctx.as4 t)
+    & (λ communities. test _ _ tt (test _ _ tt none))
+    & (λ mp_reach. test _ _ refl (test _ _ refl (test _ _ tt (test _ _ refl (test _ _ refl (test _ _ refl none))))))
+    & (λ mp_unreach. test _ _ refl (test _ _ refl (test _ _ tt (test _ _ refl none))))
+    & (λ as4_path. test _ _ tt (test _ _ tt (test _ _ tt (fault _ _ (λ w. tt) (test _ _ tt (test _ _ tt none))))))
+    & (λ as4_aggregator. test _ _ tt (aggregator_answer true t))
+    & (λ large. test _ _ tt (test _ _ tt none))
+    & tt)
+    (λ other. test _ _ refl none)
 
 -- ---- what an attribute comes to
 
@@ -146,7 +104,7 @@ of_refusal (Some (Withdraw w)) a h = tt
 of_refusal (Some (Reset n)) a h = h
 
 of_judgement : (ctx : Context) (nlri : Bool) (t : TlvValue) → OfJudged (judgement ctx nlri t)
-of_judgement ctx nlri t = of_refusal (first_refusal (tests_of ctx nlri t)) (value_of ctx t) (first_answers (tests_of ctx nlri t) (tests_answer ctx nlri t).each)
+of_judgement ctx nlri t = let type : AttributeType = type_row ctx nlri t in of_refusal (first_refusal type.tests) type.value (first_answers type.tests (tests_answer ctx nlri t).each)
 
 either : (b : Bool) (x y : Judged) → OfJudged x → OfJudged y → OfJudged (if b then x else y)
 either true x y p q = p

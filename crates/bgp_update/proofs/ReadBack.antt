@@ -11,18 +11,11 @@ use Rattle.bgp_open.specs.declared.context.Context.{Context}
 use Rattle.bgp_prefix.specs.Prefix.{PrefixValue, IsValid, spelling_of}
 use Rattle.bgp_prefix.specs.Run.{run_of}
 use Rattle.bgp_prefix.proofs.LawLemmas.{row_is_run}
-use Rattle.bgp_attr.specs.declared.aggregator.Aggregator.{Aggregator}
 use Rattle.bgp_attr.specs.declared.attr.Attr.{Attr}
 use Rattle.bgp_attr.specs.declared.attr.Attr.TheVariants as attr
-use Rattle.bgp_attr.specs.declared.communities.Communities.{Communities}
-use Rattle.bgp_attr.specs.declared.communities.LargeCommunities.{LargeCommunities}
-use Rattle.bgp_attr.specs.declared.mp.MpReach.{MpReach}
 use Rattle.bgp_attr.specs.declared.mp.MpReach.TheVariants as reach
-use Rattle.bgp_attr.specs.declared.mp.MpUnreach.{MpUnreach}
 use Rattle.bgp_attr.specs.declared.mp.MpUnreach.TheVariants as unreach
-use Rattle.bgp_attr.specs.declared.opaque.Opaque.{Opaque}
 use Rattle.bgp_attr.specs.declared.origin.Origin.{Origin}
-use Rattle.bgp_attr.specs.declared.path.As4Path.{As4Path}
 use Rattle.bgp_attr.specs.declared.path.AsPath.{AsPath}
 use Rattle.bgp_attr.specs.Tlv.{TlvValue, placed_from, length_octets}
 use Rattle.bgp_attr.specs.Written.{written_tlv, canonical, value_octets, run_octets, type_of, is_too_wide, is_as4, is_empty, is_misnamed, has_as_zero, stands_twice, is_too_long, is_writable, Belongs, HasRanges}
@@ -43,7 +36,7 @@ use Rattle.bgp_update.specs.Written.{attributes_octets, written_body, announces,
 use Rattle.bgp_update.specs.Written as written
 use Rattle.bgp_update.proofs.Bodies.{body-parts, length-body}
 use Rattle.bgp_update.proofs.Lists.{none-all, all-more, all-both, all-flat_map}
-use Rattle.bgp_update.proofs.Rising.{NoneTwice, of_kind}
+use Rattle.bgp_update.proofs.Rising.{NoneTwice}
 use Rattle.bgp_update.proofs.TypeLemmas.{order-fresh, taken-origin, taken-as_path, taken-next_hop, type-none}
 use Rattle.bgp_update.proofs.SlotLemmas.{slot-at, slot-is, slot-types, list-named, attrs-back}
 use Rattle.bgp_update.proofs.Validity.{IsAccepted, valid-accepted}

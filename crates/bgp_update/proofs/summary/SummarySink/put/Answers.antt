@@ -1,4 +1,4 @@
-use Rattle.std.proofs.Common.{Bool, false, ◌||◌, sym, ap, ◌∙◌, option_map}
+use Rattle.std.proofs.Common.{false, sym, ap, ◌∙◌, option_map}
 use Rattle.bgp_attr.specs.AttrView.{attr_value}
 use Rattle.bgp_attr.specs.FoundAttr.{found_attr_value}
 use Rattle.bgp_frame.specs.Notification.{notification_of_view}
