@@ -23,4 +23,7 @@ pub mod Rewriting
 pub mod WrittenOctets
 pub mod Writes
 pub mod WrittenTlv
+pub mod Heads
+pub mod ViewWrites
+pub mod NumberOctets
 pub mod CanonicalLength

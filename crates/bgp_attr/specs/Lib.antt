@@ -24,4 +24,5 @@ pub mod JudgedView
 pub mod Length
 pub mod Laws
 pub mod AttrRef
+pub mod Headed
 pub mod steps

@@ -100,7 +100,7 @@ impl<'a> FusedIterator for AsNumberIter<'a> {}
 /// The communities of COMMUNITIES, in order (RFC 1997). It takes no memory.
 #[derive(Clone, Copy, Debug)]
 pub struct CommIter<'a> {
-    rest: &'a [u8],
+    pub(crate) rest: &'a [u8],
 }
 
 impl<'a> CommIter<'a> {

@@ -53,7 +53,7 @@ pub(crate) fn put_numbers(numbers: &[u32], out: &mut Vec<u8>) -> Result<(), Allo
 }
 
 /// Adds a triple.
-fn put_triple(triple: &[u32; 3], out: &mut Vec<u8>) -> Result<(), AllocError>
+pub(crate) fn put_triple(triple: &[u32; 3], out: &mut Vec<u8>) -> Result<(), AllocError>
     ensures ok { OnOk result (out.new.items ≡ out.old.items ++ triple_octets triple.now) }
     ensures ranges { OnOk result (IsThreeNumbers triple.now) }
     ensures err { OnErr result (Extends out.old.items out.new.items) }
@@ -74,7 +74,7 @@ pub(crate) fn put_triples(triples: &[[u32; 3]], out: &mut Vec<u8>) -> Result<(),
 }
 
 /// The octet of a segment's type.
-fn segment_code(kind: SegKind) -> u8
+pub(crate) fn segment_code(kind: SegKind) -> u8
     ensures { result ≡ segment_code kind }
 {
     match kind {

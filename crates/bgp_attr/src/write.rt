@@ -34,7 +34,8 @@ use bgp_prefix::Prefix;
 use std::alloc::AllocError;
 
 /// The flags octet of a class.
-fn flags_octet(class: Class, partial: bool, extended: bool) -> u8
+#[inline(always)]
+pub(crate) fn flags_octet(class: Class, partial: bool, extended: bool) -> u8
     ensures { result ≡ flags_octet class partial extended }
 {
     let partial_bit = if partial { 0x20 } else { 0 };
@@ -65,7 +66,11 @@ fn put_head(
 }
 
 /// Adds an AS number and an address.
-fn put_aggregator(wide: bool, aggregator: &Aggregator, out: &mut Vec<u8>) -> Result<(), AllocError>
+pub(crate) fn put_aggregator(
+    wide: bool,
+    aggregator: &Aggregator,
+    out: &mut Vec<u8>,
+) -> Result<(), AllocError>
     ensures ok { OnOk result (out.new.items ≡ out.old.items ++ aggregator_octets wide aggregator.now) }
     ensures ranges { OnOk result (IsFourOctets (aggregator.now.asn).0 × IsAddress 4 aggregator.now.addr) }
     ensures err { OnErr result (Extends out.old.items out.new.items) }
@@ -100,7 +105,7 @@ fn put_reach_row<const W: usize>(
 }
 
 /// The octets of an address.
-fn address_octets<const N: usize>(addr: &[u8; N]) -> &[u8]
+pub(crate) fn address_octets<const N: usize>(addr: &[u8; N]) -> &[u8]
     ensures value { result.now ≡ addr.now }
     ensures wide { length addr.now ≡ N }
 {

@@ -3,3 +3,4 @@ pub mod PrefixLemmas
 pub mod RunLemmas
 pub mod LawLemmas
 pub mod MaskLemmas
+pub mod WrittenFronts

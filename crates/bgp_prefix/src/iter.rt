@@ -7,7 +7,7 @@ use std::iter::FusedIterator;
 /// The prefixes that octets begin with, up to the end or the first fault. It takes no memory.
 #[derive(Clone, Copy, Debug)]
 pub struct PrefixIter<'a, const W: usize> {
-    rest: &'a [u8],
+    pub(crate) rest: &'a [u8],
 }
 
 /// The IPv4 prefixes of octets.

@@ -11,6 +11,7 @@ mod iter;
 pub mod laws;
 mod mask;
 mod prefix;
+mod rewriting;
 mod run;
 
 pub use address::Address;

@@ -1,0 +1,12 @@
+use Rattle.std.proofs.Common.{ℕ, Bool, List, ◌++◌, true, sym, ap, ◌∙◌}
+use Rattle.std.proofs.lemmas.Result.{on_ok_weaker}
+use Rattle.bgp_attr.specs.Numbers.{numbers_of, row_octets}
+use Rattle.bgp_attr.proofs.NumberOctets.{as_number_octets}
+use Rattle.bgp_attr.proofs.put_view.put_as_numbers.Goals as goal
+
+pub returns-then-numbers-clause-ok : goal.returns-then-numbers-clause-ok
+returns-then-numbers-clause-ok c =
+    let b = c.args.numbers.rest.now in
+    on_ok_weaker c.put_fours.result
+    (λ e. e ∙ ap (λ (x : List ℕ). c.args.out.now.items ++ x) (ap (λ (w : Bool). row_octets true (numbers_of w b)) (sym c.if-numbers.true) ∙ as_number_octets c.args.wide (numbers_of c.args.numbers.wide b) c.if-wide.true))
+    c.put_fours.ensures.ok

@@ -1,0 +1,8 @@
+use Rattle.bgp_attr.specs.NumberIter.{as_numbers_left}
+use Rattle.bgp_attr.specs.Numbers.{number_octets}
+use Rattle.bgp_attr.proofs.ViewWrites.{IsWriting}
+use Rattle.bgp_attr.proofs.put_view.put_each_number.Given as goal
+
+-- those so far are written
+abbrev pub invariant-row : goal.invariant-row
+invariant-row l = IsWriting (λ n. number_octets l.wide n.0) (as_numbers_left l.fn.numbers) (as_numbers_left l.number-iterator) l.initial.out.items l.out.items

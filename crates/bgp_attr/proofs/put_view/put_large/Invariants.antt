@@ -1,0 +1,8 @@
+use Rattle.bgp_attr.specs.LargeIter.{triples_left}
+use Rattle.bgp_attr.specs.Numbers.{triple_octets}
+use Rattle.bgp_attr.proofs.ViewWrites.{IsWriting}
+use Rattle.bgp_attr.proofs.put_view.put_large.Given as goal
+
+-- those so far are written
+abbrev pub invariant-row : goal.invariant-row
+invariant-row l = IsWriting triple_octets (triples_left l.fn.values) (triples_left l.triple-iterator) l.initial.out.items l.out.items

@@ -1,0 +1,180 @@
+//! Writing the values of attributes from the octets that they lie in, with no list between.
+
+ghost use Rattle.std.specs.Prelude.{◌≡◌, ◌≤◌, ◌+◌, ◌-◌, ◌%◌, ◌++◌, false, true, length, OnOk, OnErr};
+ghost use Rattle.std.specs.List.{flat_map, list_any};
+ghost use Rattle.bgp_attr.specs.steps.Appends.{Extends};
+ghost use Rattle.bgp_attr.specs.MpView.{reach_value, unreach_value};
+ghost use Rattle.bgp_attr.specs.NumberIter.{as_numbers_left, communities_left};
+ghost use Rattle.bgp_attr.specs.LargeIter.{triples_left};
+ghost use Rattle.bgp_attr.specs.Numbers.{number_octets, numbers_of, row_octets, triple_octets};
+ghost use Rattle.bgp_attr.specs.PathView.{path_value, segment_value};
+ghost use Rattle.bgp_attr.specs.Written.{is_bad_segment, path_octets, reach_octets, reach_row, segment_octets, unreach_octets, unreach_row};
+ghost use Rattle.bgp_prefix.specs.PrefixIter.{prefixes_left};
+
+use crate::large_iter::LargeCommIter;
+use crate::mp_view::{MpReachView, MpUnreachView};
+use crate::numbers::{AsNumberIter, CommIter};
+use crate::path_view::{PathView, SegmentView};
+use crate::put::{put_number, put_octets, put_triple, segment_code};
+use crate::write::address_octets;
+use bgp_numbers::{afi, safi};
+use bgp_prefix::PrefixIter;
+use std::alloc::AllocError;
+
+/// Adds the numbers of four octets that octets begin with: these octets.
+fn put_fours(octets: &[u8], out: &mut Vec<u8>) -> Result<(), AllocError>
+    ensures ok { OnOk result (out.new.items ≡ out.old.items ++ row_octets true (numbers_of true octets.now)) }
+    ensures err { OnErr result (Extends out.old.items out.new.items) }
+{
+    let whole = octets.len() - octets.len() % 4;
+    put_octets(&octets[..whole], out)
+}
+
+/// Adds AS numbers one by one.
+fn put_each_number(
+    wide: bool,
+    numbers: AsNumberIter<'_>,
+    out: &mut Vec<u8>,
+) -> Result<(), AllocError>
+    ensures ok { OnOk result (out.new.items ≡ out.old.items ++ flat_map (λ n. number_octets wide n.0) (as_numbers_left numbers.entry)) }
+    ensures err { OnErr result (Extends out.old.items out.new.items) }
+{
+    'row: for number in numbers {
+        put_number(wide, number.0, out)?;
+    }
+    Ok(())
+}
+
+/// Adds AS numbers.
+fn put_as_numbers(
+    wide: bool,
+    numbers: AsNumberIter<'_>,
+    out: &mut Vec<u8>,
+) -> Result<(), AllocError>
+    ensures ok { OnOk result (out.new.items ≡ out.old.items ++ flat_map (λ n. number_octets wide n.0) (as_numbers_left numbers.entry)) }
+    ensures err { OnErr result (Extends out.old.items out.new.items) }
+{
+    if wide && numbers.wide {
+        put_fours(numbers.rest, out)
+    } else {
+        put_each_number(wide, numbers, out)
+    }
+}
+
+/// Adds a segment.
+fn put_segment(wide: bool, segment: SegmentView<'_>, out: &mut Vec<u8>) -> Result<(), AllocError>
+    requires { length (as_numbers_left segment.numbers) ≤ 255 }
+    ensures ok { OnOk result (out.new.items ≡ out.old.items ++ segment_octets wide (segment_value segment.entry)) }
+    ensures err { OnErr result (Extends out.old.items out.new.items) }
+{
+    let count = segment.numbers.left() as u8;
+    out.extend_from_slice(&[segment_code(segment.kind), count])?;
+    put_as_numbers(wide, segment.numbers, out)
+}
+
+/// Adds the segments of a path.
+pub(crate) fn put_path(wide: bool, path: PathView<'_>, out: &mut Vec<u8>) -> Result<(), AllocError>
+    requires { list_any is_bad_segment (path_value path).segments ≡ false }
+    ensures ok { OnOk result (out.new.items ≡ out.old.items ++ path_octets wide (path_value path.entry)) }
+    ensures err { OnErr result (Extends out.old.items out.new.items) }
+{
+    'path: for segment in path.segments() {
+        put_segment(wide, segment, out)?;
+    }
+    Ok(())
+}
+
+/// Adds communities.
+pub(crate) fn put_communities(values: CommIter<'_>, out: &mut Vec<u8>) -> Result<(), AllocError>
+    ensures ok { OnOk result (out.new.items ≡ out.old.items ++ row_octets true (communities_left values.entry)) }
+    ensures err { OnErr result (Extends out.old.items out.new.items) }
+{
+    put_fours(values.rest, out)
+}
+
+/// Adds large communities.
+pub(crate) fn put_large(values: LargeCommIter<'_>, out: &mut Vec<u8>) -> Result<(), AllocError>
+    ensures ok { OnOk result (out.new.items ≡ out.old.items ++ flat_map triple_octets (triples_left values.entry)) }
+    ensures err { OnErr result (Extends out.old.items out.new.items) }
+{
+    'row: for triple in values {
+        put_triple(&triple, out)?;
+    }
+    Ok(())
+}
+
+/// Adds a family, a next hop of one or two addresses, and prefixes.
+fn put_reach_row<const W: usize>(
+    family: u16,
+    hop: &[u8],
+    link: &[u8],
+    routes: PrefixIter<'_, W>,
+    out: &mut Vec<u8>,
+) -> Result<(), AllocError>
+    requires { length hop.now + length link.now ≤ 255 }
+    ensures ok { OnOk result (out.new.items ≡ out.old.items ++ reach_row family (hop.now ++ link.now) (prefixes_left routes.entry)) }
+    ensures err { OnErr result (Extends out.old.items out.new.items) }
+{
+    let [high, low] = family.to_be_bytes();
+    let len = (hop.len() + link.len()) as u8;
+    put_octets(&[high, low, safi::UNICAST, len], out)?;
+    put_octets(hop, out)?;
+    put_octets(link, out)?;
+    put_octets(&[0], out)?;
+    routes.write(out)?;
+    Ok(())
+}
+
+/// Adds MP_REACH_NLRI's value.
+pub(crate) fn put_reach(reach: &MpReachView<'_>, out: &mut Vec<u8>) -> Result<(), AllocError>
+    ensures ok { OnOk result (out.new.items ≡ out.old.items ++ reach_octets (reach_value reach.now)) }
+    ensures err { OnErr result (Extends out.old.items out.new.items) }
+{
+    match reach {
+        MpReachView::Ip4 { next_hop, nlri } => {
+            put_reach_row(afi::IPV4, address_octets(next_hop), &[], *nlri, out)
+        }
+        MpReachView::Ip6 {
+            next_hop,
+            link_local: None,
+            nlri,
+        } => put_reach_row(afi::IPV6, address_octets(next_hop), &[], *nlri, out),
+        MpReachView::Ip6 {
+            next_hop,
+            link_local: Some(link),
+            nlri,
+        } => put_reach_row(
+            afi::IPV6,
+            address_octets(next_hop),
+            address_octets(link),
+            *nlri,
+            out,
+        ),
+    }
+}
+
+/// Adds a family and prefixes.
+fn put_unreach_row<const W: usize>(
+    family: u16,
+    routes: PrefixIter<'_, W>,
+    out: &mut Vec<u8>,
+) -> Result<(), AllocError>
+    ensures ok { OnOk result (out.new.items ≡ out.old.items ++ unreach_row family (prefixes_left routes.entry)) }
+    ensures err { OnErr result (Extends out.old.items out.new.items) }
+{
+    let [high, low] = family.to_be_bytes();
+    put_octets(&[high, low, safi::UNICAST], out)?;
+    routes.write(out)?;
+    Ok(())
+}
+
+/// Adds MP_UNREACH_NLRI's value.
+pub(crate) fn put_unreach(unreach: &MpUnreachView<'_>, out: &mut Vec<u8>) -> Result<(), AllocError>
+    ensures ok { OnOk result (out.new.items ≡ out.old.items ++ unreach_octets (unreach_value unreach.now)) }
+    ensures err { OnErr result (Extends out.old.items out.new.items) }
+{
+    match unreach {
+        MpUnreachView::Ip4(routes) => put_unreach_row(afi::IPV4, *routes, out),
+        MpUnreachView::Ip6(routes) => put_unreach_row(afi::IPV6, *routes, out),
+    }
+}

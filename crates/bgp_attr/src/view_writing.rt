@@ -1,0 +1,76 @@
+//! Writing an attribute from its view.
+
+ghost use Rattle.std.specs.Prelude.{◌≡◌, ◌≤◌, ◌++◌, false, true, length, OnOk, OnErr};
+ghost use Rattle.bgp_attr.specs.steps.Appends.{Extends};
+ghost use Rattle.bgp_attr.specs.AttrView.{attr_value};
+ghost use Rattle.bgp_attr.specs.Length.{value_len};
+ghost use Rattle.bgp_attr.specs.Written.{canonical, is_empty, is_writable, value_octets};
+
+use crate::attr_view::AttrView;
+use crate::finishing::{begin_attr, finish_attr};
+use crate::put::{put_address, put_number, put_octets};
+use crate::put_view::{put_communities, put_large, put_path, put_reach, put_unreach};
+use crate::write::put_aggregator;
+use bgp_open::Context;
+use std::alloc::AllocError;
+
+/// Adds the value of an attribute.
+#[inline(always)]
+fn put_value(ctx: &Context, view: &AttrView<'_>, out: &mut Vec<u8>) -> Result<(), AllocError>
+    requires { is_empty (attr_value view.now) ≡ false }
+    ensures ok { OnOk result (out.new.items ≡ out.old.items ++ value_octets ctx.now (attr_value view.now)) }
+    ensures err { OnErr result (Extends out.old.items out.new.items) }
+{
+    match view {
+        AttrView::Origin(origin) => put_octets(&[*origin as u8], out),
+        AttrView::AsPath(path) => put_path(ctx.as4, *path, out),
+        AttrView::NextHop(addr) => put_address(addr, out),
+        AttrView::Med(number) | AttrView::LocalPref(number) => put_number(true, *number, out),
+        AttrView::Atomic => Ok(()),
+        AttrView::Aggregator(aggregator) => put_aggregator(ctx.as4, aggregator, out),
+        AttrView::Communities(communities) => put_communities(communities.values, out),
+        AttrView::MpReach(reach) => put_reach(reach, out),
+        AttrView::MpUnreach(unreach) => put_unreach(unreach, out),
+        AttrView::As4Path(path) => put_path(true, path.path, out),
+        AttrView::As4Aggregator(aggregator) => put_aggregator(true, aggregator, out),
+        AttrView::Large(communities) => put_large(communities.values, out),
+        AttrView::Opaque(opaque) => put_octets(opaque.value, out),
+    }
+}
+
+/// Adds an attribute; a part of it may stay where an allocation failed.
+#[inline(always)]
+fn put_attr(ctx: &Context, view: &AttrView<'_>, out: &mut Vec<u8>) -> Result<(), AllocError>
+    requires filled { is_empty (attr_value view.now) ≡ false }
+    requires short { value_len ctx.now (attr_value view.now) ≤ 65535 }
+    ensures ok { OnOk result (out.new.items ≡ out.old.items ++ canonical ctx.now (attr_value view.now)) }
+    ensures err { OnErr result (Extends out.old.items out.new.items) }
+{
+    let start = out.len();
+    begin_attr(out)?;
+    put_value(ctx, view, out)?;
+    finish_attr(view, start, out)
+}
+
+/// Adds the one written form of an attribute, as [`write_attr`](crate::write_attr) does, from its view: no list of what it holds is made, and it
+/// isn't measured.
+///
+/// # Errors
+/// `AllocError` where an allocation failed; the vector is then as it was.
+#[inline(always)]
+pub fn write_attr_view(
+    ctx: &Context,
+    view: &AttrView<'_>,
+    out: &mut Vec<u8>,
+) -> Result<(), AllocError>
+    requires { is_writable ctx.now (attr_value view.now) ≡ true }
+    ensures ok { OnOk result (out.new.items ≡ out.old.items ++ canonical ctx.now (attr_value view.now)) }
+    ensures err { OnErr result (out.new.items ≡ out.old.items) }
+{
+    let start = out.len();
+    let written = put_attr(ctx, view, out);
+    if written.is_err() {
+        out.truncate(start);
+    }
+    written
+}

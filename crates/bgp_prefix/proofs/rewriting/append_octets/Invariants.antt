@@ -1,0 +1,15 @@
+use Rattle.std.proofs.Common.{◌≡◌, ◌++◌, List, ℕ, length}
+use Rattle.std.specs.List.{flat_map}
+use Rattle.bgp_prefix.specs.Prefix.{spelling_of}
+use Rattle.bgp_prefix.specs.Run.{run_of}
+use Rattle.bgp_prefix.proofs.rewriting.append_octets.Given as goal
+
+-- what is there so far, and the prefixes of what is left, are what was there and all the prefixes
+abbrev pub invariant-run : goal.invariant-run
+invariant-run g l = record {
+  whole : l.out.items ++ flat_map spelling_of (run_of g.row.W l.rest).0 ≡ l.initial.out.items ++ flat_map spelling_of (run_of g.row.W l.octets).0;
+  begins : (more : List ℕ) × (l.out.items ≡ l.initial.out.items ++ more);
+}
+
+abbrev pub decreases-run : goal.decreases-run
+decreases-run g l = length l.rest

@@ -1,0 +1,60 @@
+//! Prefixes from octets to octets, with no list between.
+
+ghost use Rattle.std.specs.Prelude.{◌≡◌, ◌+◌, ◌<◌, ◌++◌, ◌∷◌, ℕ, List, length, OnOk, OnErr};
+ghost use Rattle.std.specs.List.{flat_map};
+ghost use Rattle.bgp_prefix.specs.Bits.{octets_for, leading_bits};
+ghost use Rattle.bgp_prefix.specs.Prefix.{spelling_of};
+ghost use Rattle.bgp_prefix.specs.PrefixIter.{prefixes_left};
+ghost use Rattle.bgp_prefix.specs.Run.{run_of};
+
+use crate::front::{Front, cut_front};
+use crate::iter::PrefixIter;
+use crate::mask::mask;
+use std::alloc::AllocError;
+
+/// Adds a length and the octets behind it, of which the last alone can have bits past the length.
+#[inline(always)]
+fn append_front(front: Front<'_>, out: &mut Vec<u8>) -> Result<(), AllocError>
+    requires { length front.read.now ≡ octets_for front.len }
+    ensures ok { OnOk result (out.new.items ≡ out.old.items ++ front.entry.len ∷ leading_bits front.entry.len front.entry.read.now) }
+    ensures err { OnErr result ((more : List ℕ) × (out.new.items ≡ out.old.items ++ more)) }
+{
+    out.push(front.len)?;
+    if let Some((last, whole)) = front.read.split_last() {
+        out.extend_from_slice(whole)?;
+        out.push(*last & mask(front.len, whole.len()))?;
+    }
+    Ok(())
+}
+
+/// Adds the prefixes that octets begin with; those of the first ones may stay where an allocation failed.
+fn append_octets<const W: usize>(octets: &[u8], out: &mut Vec<u8>) -> Result<(), AllocError>
+    ensures ok { OnOk result (out.new.items ≡ out.old.items ++ flat_map spelling_of (run_of W octets.now).0) }
+    ensures err { OnErr result ((more : List ℕ) × (out.new.items ≡ out.old.items ++ more)) }
+{
+    let mut rest = octets;
+    'run: while let Some(front) = cut_front::<W>(rest) {
+        append_front(front, out)?;
+        rest = front.after;
+    }
+    Ok(())
+}
+
+impl<'a, const W: usize> PrefixIter<'a, W> {
+    /// Adds the octets of the prefixes that are still to come, as [`write_run`](crate::write_run) adds those of a list: each with 0 for the
+    /// bits past its length (RFC 4271, section 4.3).
+    ///
+    /// # Errors
+    /// `AllocError` where an allocation failed; the vector is then as it was.
+    pub fn write(self, out: &mut Vec<u8>) -> Result<(), AllocError>
+        ensures ok { OnOk result (out.new.items ≡ out.old.items ++ flat_map spelling_of (prefixes_left self.entry)) }
+        ensures err { OnErr result (out.new.items ≡ out.old.items) }
+    {
+        let start = out.len();
+        let written = append_octets::<W>(self.rest, out);
+        if written.is_err() {
+            out.truncate(start);
+        }
+        written
+    }
+}
