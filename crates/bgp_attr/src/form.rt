@@ -2,10 +2,13 @@
 
 ghost use Rattle.std.specs.Prelude.{◌≡◌};
 ghost use Rattle.bgp_attr.specs.AttrRef.{ref_value};
+ghost use Rattle.bgp_attr.specs.AttrView.{attr_value};
 ghost use Rattle.bgp_attr.specs.Written.{optional_class, type_of, class_of, partial_of};
 
 use crate::attr_ref::AttrRef;
+use crate::attr_view::AttrView;
 use crate::class::Class;
+use crate::class::Class::{OptionalNonTransitive, OptionalTransitive, WellKnown};
 use bgp_numbers::attribute;
 
 /// What stands in front of an attribute's value: its type, the class of its flags, and its Partial bit.
@@ -40,45 +43,44 @@ fn optional_class(transitive: bool) -> Class
     }
 }
 
+/// The row of an attribute, by reference or as a view.
+macro_rules! form {
+    ($Attr:ident, $attr:expr) => {
+        match $attr {
+            $Attr::Origin(_) => row(attribute::ORIGIN, WellKnown, false),
+            $Attr::AsPath(_) => row(attribute::AS_PATH, WellKnown, false),
+            $Attr::NextHop(_) => row(attribute::NEXT_HOP, WellKnown, false),
+            $Attr::Med(_) => row(attribute::MULTI_EXIT_DISC, OptionalNonTransitive, false),
+            $Attr::LocalPref(_) => row(attribute::LOCAL_PREF, WellKnown, false),
+            $Attr::Atomic => row(attribute::ATOMIC_AGGREGATE, WellKnown, false),
+            $Attr::Aggregator(it) => row(attribute::AGGREGATOR, OptionalTransitive, it.partial),
+            $Attr::Communities(it) => row(attribute::COMMUNITIES, OptionalTransitive, it.partial),
+            $Attr::MpReach(_) => row(attribute::MP_REACH_NLRI, OptionalNonTransitive, false),
+            $Attr::MpUnreach(_) => row(attribute::MP_UNREACH_NLRI, OptionalNonTransitive, false),
+            $Attr::As4Path(it) => row(attribute::AS4_PATH, OptionalTransitive, it.partial),
+            $Attr::As4Aggregator(it) => row(attribute::AS4_AGGREGATOR, OptionalTransitive, it.partial),
+            $Attr::Large(it) => row(attribute::LARGE_COMMUNITY, OptionalTransitive, it.partial),
+            $Attr::Opaque(it) => row(it.kind, optional_class(it.transitive), it.partial),
+        }
+    };
+}
+
 /// The form of an attribute.
+#[inline(always)]
 pub(crate) fn form_of(attr: AttrRef<'_>) -> Form
     ensures kind { result.kind ≡ type_of (ref_value attr.entry) }
     ensures class { result.class ≡ class_of (ref_value attr.entry) }
     ensures partial { result.partial ≡ partial_of (ref_value attr.entry) }
 {
-    use Class::{OptionalNonTransitive, OptionalTransitive, WellKnown};
-    match attr {
-        AttrRef::Origin(_) => row(attribute::ORIGIN, WellKnown, false),
-        AttrRef::AsPath(_) => row(attribute::AS_PATH, WellKnown, false),
-        AttrRef::NextHop(_) => row(attribute::NEXT_HOP, WellKnown, false),
-        AttrRef::Med(_) => row(attribute::MULTI_EXIT_DISC, OptionalNonTransitive, false),
-        AttrRef::LocalPref(_) => row(attribute::LOCAL_PREF, WellKnown, false),
-        AttrRef::Atomic => row(attribute::ATOMIC_AGGREGATE, WellKnown, false),
-        AttrRef::Aggregator(by) => row(attribute::AGGREGATOR, OptionalTransitive, by.partial),
-        AttrRef::Communities(communities) => {
-            row(
-                attribute::COMMUNITIES,
-                OptionalTransitive,
-                communities.partial,
-            )
-        }
-        AttrRef::MpReach(_) => row(attribute::MP_REACH_NLRI, OptionalNonTransitive, false),
-        AttrRef::MpUnreach(_) => row(attribute::MP_UNREACH_NLRI, OptionalNonTransitive, false),
-        AttrRef::As4Path(path) => row(attribute::AS4_PATH, OptionalTransitive, path.partial),
-        AttrRef::As4Aggregator(by) => {
-            row(attribute::AS4_AGGREGATOR, OptionalTransitive, by.partial)
-        }
-        AttrRef::Large(communities) => {
-            row(
-                attribute::LARGE_COMMUNITY,
-                OptionalTransitive,
-                communities.partial,
-            )
-        }
-        AttrRef::Opaque(opaque) => row(
-            opaque.kind,
-            optional_class(opaque.transitive),
-            opaque.partial,
-        ),
-    }
+    form!(AttrRef, attr)
+}
+
+/// The form of an attribute that is a view.
+#[inline(always)]
+pub(crate) fn form_of_view(view: &AttrView<'_>) -> Form
+    ensures kind { result.kind ≡ type_of (attr_value view.now) }
+    ensures class { result.class ≡ class_of (attr_value view.now) }
+    ensures partial { result.partial ≡ partial_of (attr_value view.now) }
+{
+    form!(AttrView, view)
 }

@@ -10,7 +10,6 @@ ghost use Rattle.bgp_wire.specs.Octets.{AreOctets};
 ghost use Rattle.bgp_attr.specs.steps.Appends.{Extends};
 ghost use Rattle.bgp_attr.specs.AttrRef.{ref_value};
 ghost use Rattle.bgp_attr.specs.Flags.{flags_octet};
-ghost use Rattle.bgp_attr.specs.Tlv.{length_octets};
 ghost use Rattle.bgp_attr.specs.Judgement.{judgement};
 ghost use Rattle.bgp_attr.specs.Spelling.{origin_code};
 ghost use Rattle.bgp_attr.specs.Written.{aggregator_octets, reach_row, unreach_row, reach_octets, unreach_octets, value_octets, written_tlv, canonical, is_empty, is_writable, Belongs, HasRanges, IsAddress, HasLinkRange, IsFourOctets};
@@ -20,8 +19,8 @@ use crate::aggregator::Aggregator;
 use crate::attr::Attr;
 use crate::attr_ref::AttrRef;
 use crate::class::Class;
+use crate::finishing::{begin_attr, finish};
 use crate::form::form_of;
-use crate::length::value_len;
 use crate::mp::{MpReach, MpUnreach};
 use crate::opaque::Opaque;
 use crate::origin::Origin;
@@ -41,28 +40,6 @@ pub(crate) fn flags_octet(class: Class, partial: bool, extended: bool) -> u8
     let partial_bit = if partial { 0x20 } else { 0 };
     let extended_bit = if extended { 0x10 } else { 0 };
     64 * (class as u8) + (partial_bit + extended_bit)
-}
-
-/// Adds flags, type and length.
-fn put_head(
-    flags: u8,
-    kind: u8,
-    extended: bool,
-    len: usize,
-    out: &mut Vec<u8>,
-) -> Result<(), AllocError>
-    requires long { len ≤ 65535 }
-    requires short { extended ≡ false → len ≤ 255 }
-    ensures ok { OnOk result (out.new.items ≡ out.old.items ++ flags ∷ kind ∷ (if extended then to_be_bytes w16 len else len ∷ [])) }
-    ensures err { OnErr result (Extends out.old.items out.new.items) }
-{
-    if extended {
-        let [high, low] = (len as u16).to_be_bytes();
-        out.extend_from_slice(&[flags, kind, high, low])?;
-    } else {
-        out.extend_from_slice(&[flags, kind, len as u8])?;
-    }
-    Ok(())
 }
 
 /// Adds an AS number and an address.
@@ -208,26 +185,18 @@ fn put_value(ctx: &Context, attr: AttrRef<'_>, out: &mut Vec<u8>) -> Result<(), 
     }
 }
 
-/// Adds an attribute whose value has so many octets; a part of it may stay where an allocation failed.
-#[tactic(auto, using(crate::proofs::WrittenTlv::head_then_value))]
-fn put_attr(
-    ctx: &Context,
-    attr: AttrRef<'_>,
-    len: usize,
-    out: &mut Vec<u8>,
-) -> Result<(), AllocError>
+/// Adds an attribute; a part of it may stay where an allocation failed.
+fn put_attr(ctx: &Context, attr: AttrRef<'_>, out: &mut Vec<u8>) -> Result<(), AllocError>
     requires filled { is_empty (ref_value attr) ≡ false }
-    requires len { len ≡ value_len ctx.now (ref_value attr) }
-    requires short { len ≤ 65535 }
+    requires short { value_len ctx.now (ref_value attr) ≤ 65535 }
     ensures ok { OnOk result (out.new.items ≡ out.old.items ++ canonical ctx.now (ref_value attr.entry)) }
     ensures ranges { OnOk result (HasRanges (ref_value attr.entry)) }
     ensures err { OnErr result (Extends out.old.items out.new.items) }
 {
-    let extended = len > 255;
-    let form = form_of(attr);
-    let flags = flags_octet(form.class, form.partial, extended);
-    put_head(flags, form.kind, extended, len, out)?;
-    put_value(ctx, attr, out)
+    let start = out.len();
+    begin_attr(out)?;
+    put_value(ctx, attr, out)?;
+    finish(form_of(attr), start, out)
 }
 
 /// Adds the one written form of an attribute: the shortest length, and 0 for all that is ignored.
@@ -244,8 +213,7 @@ pub fn write_attr_ref(ctx: &Context, attr: AttrRef<'_>, out: &mut Vec<u8>) -> Re
     ensures err { OnErr result (out.new.items ≡ out.old.items) }
 {
     let start = out.len();
-    let len = value_len(ctx, attr).unwrap_or(0);
-    let written = put_attr(ctx, attr, len, out);
+    let written = put_attr(ctx, attr, out);
     if written.is_err() {
         out.truncate(start);
     }
