@@ -33,16 +33,16 @@ use Rattle.bgp_update.proofs.Validity.{valid-accepted, accepted-valid}
 -- ---- what is told of the four attributes of AS numbers, and of all others
 
 -- a type that is told in another form
-abbrev is_retold : ℕ → Bool
+abbrev pub is_retold : ℕ → Bool
 is_retold k = eqb k AS_PATH || eqb k AGGREGATOR
 
 -- what holds of each attribute makes something hold of each that is told
-record Carries (P Q : Attr → Type 0) : Type 0 where
-  as_path : (p : AsPath) → P (attr.AsPath p) → Q (attr.AsPath (narrow_path p))
-  as4_path : (p : AsPath) → any_number is_above_two_octets p ≡ true → P (attr.AsPath p) → Q (attr.As4Path (record { partial = false; path = p }))
-  aggregator : (g : Aggregator) → P (attr.Aggregator g) → Q (attr.Aggregator (narrow_aggregator g))
-  as4_aggregator : (g : Aggregator) → P (attr.Aggregator g) → Q (attr.As4Aggregator g)
-  same : (x : Attr) → is_retold (type_of x) ≡ false → P x → Q x
+pub record Carries (P Q : Attr → Type 0) : Type 0 where
+  pub as_path : (p : AsPath) → P (attr.AsPath p) → Q (attr.AsPath (narrow_path p))
+  pub as4_path : (p : AsPath) → any_number is_above_two_octets p ≡ true → P (attr.AsPath p) → Q (attr.As4Path (record { partial = false; path = p }))
+  pub aggregator : (g : Aggregator) → P (attr.Aggregator g) → Q (attr.Aggregator (narrow_aggregator g))
+  pub as4_aggregator : (g : Aggregator) → P (attr.Aggregator g) → Q (attr.As4Aggregator g)
+  pub same : (x : Attr) → is_retold (type_of x) ≡ false → P x → Q x
 
 module _ (P Q : Attr → Type 0) (told : Carries P Q) (a : Attrs) where
   told-path : (o : Option AsPath) → AllByRecursion P (present (λ (p : AsPath). attr.AsPath p) o) → AllByRecursion Q (present (λ (p : AsPath). attr.AsPath p) (option_map narrow_path o))
@@ -114,7 +114,7 @@ module _ (P : Attr → Type 0) (a : Attrs) (kind : ℕ) where
   slot-all : is_recognised kind ≡ true → AllByRecursion P (attr_list a) → AllByRecursion P (slot a kind)
   slot-all recognised all = slot-among canonical_order (recognised-stands kind recognised) all
 
-told-all : (P Q : Attr → Type 0) → Carries P Q → (a : Attrs) → AllByRecursion P (attr_list a) → AllByRecursion Q (attr_list (narrowed a))
+pub told-all : (P Q : Attr → Type 0) → Carries P Q → (a : Attrs) → AllByRecursion P (attr_list a) → AllByRecursion Q (attr_list (narrowed a))
 told-all P Q told a all = told-slots P Q told a (slot-all P a AS_PATH refl all) (slot-all P a AGGREGATOR refl all) canonical_order all
 
 -- a test that no attribute passes, and one that none passes that is told
