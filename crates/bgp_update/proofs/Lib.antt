@@ -26,3 +26,6 @@ pub mod SlotSteps
 pub mod FailedSteps
 pub mod Measures
 pub mod PathItems
+pub mod ToldPaths
+pub mod ToldAttributes
+pub mod ToldBodies

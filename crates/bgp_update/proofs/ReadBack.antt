@@ -320,12 +320,21 @@ writable-by : (ctx : Context) (x : Attr) → AllPass ctx x → Fits ctx x → is
 writable-by ctx x p f =
     Writes-writable ctx x (record { narrow = p.narrow; allowed = p.allowed; some = p.some; named = f.named; nonzero = p.nonzero; once = p.once; fits = f.fits })
 
-pub valid-writable : (ctx : Context) (u : Update) → invalid_of ctx u ≡ None → length (written_body ctx u) ≤ 4077 → AllByRecursion (λ x. is_writable ctx x ≡ true) (attr_list u.attrs)
-valid-writable ctx u valid short =
-    let acc : IsAccepted ctx u = valid-accepted ctx u valid in
-    let xs : List Attr = attr_list u.attrs in
-    let within = within-all (canonical ctx) xs 4077 (omega (arith, length-body (run_octets u.withdrawn) (attributes_octets ctx u.attrs) (run_octets u.nlri), short)) in
-    let fit = all-more (λ x. length (canonical ctx x) ≤ 4077) (λ x. is_too_long ctx x ≡ false) xs (λ x le. value-within ctx x 4077 (omega arith) le) within in
-    all-both (AllPass ctx) (Fits ctx) (λ x. is_writable ctx x ≡ true) xs (writable-by ctx)
-    (passes ctx xs acc.narrow (allowed-all ctx.as4 xs acc.allowed) acc.family acc.some acc.nonzero acc.once)
-    (fits-all ctx xs (list-named u.attrs) fit)
+module _ (ctx : Context) (u : Update) where
+  -- an UPDATE that a message holds has no attribute that is too long
+  pub none-long : length (written_body ctx u) ≤ 4077 → AllByRecursion (λ x. is_too_long ctx x ≡ false) (attr_list u.attrs)
+  none-long short =
+      let xs : List Attr = attr_list u.attrs in
+      let within = within-all (canonical ctx) xs 4077 (omega (arith, length-body (run_octets u.withdrawn) (attributes_octets ctx u.attrs) (run_octets u.nlri), short)) in
+      all-more (λ x. length (canonical ctx x) ≤ 4077) (λ x. is_too_long ctx x ≡ false) xs (λ x le. value-within ctx x 4077 (omega arith) le) within
+
+  pub short-writable : invalid_of ctx u ≡ None → AllByRecursion (λ x. is_too_long ctx x ≡ false) (attr_list u.attrs) → AllByRecursion (λ x. is_writable ctx x ≡ true) (attr_list u.attrs)
+  short-writable valid fit =
+      let acc : IsAccepted ctx u = valid-accepted ctx u valid in
+      let xs : List Attr = attr_list u.attrs in
+      all-both (AllPass ctx) (Fits ctx) (λ x. is_writable ctx x ≡ true) xs (writable-by ctx)
+      (passes ctx xs acc.narrow (allowed-all ctx.as4 xs acc.allowed) acc.family acc.some acc.nonzero acc.once)
+      (fits-all ctx xs (list-named u.attrs) fit)
+
+  pub valid-writable : invalid_of ctx u ≡ None → length (written_body ctx u) ≤ 4077 → AllByRecursion (λ x. is_writable ctx x ≡ true) (attr_list u.attrs)
+  valid-writable valid short = short-writable valid (none-long short)

@@ -16,4 +16,5 @@ pub mod View
 pub mod Iters
 pub mod PathInfoView
 pub mod Laws
+pub mod Told
 pub mod steps

@@ -3,3 +3,5 @@ pub mod Small
 pub mod Others
 pub mod Failed
 pub mod Measured
+pub mod ToldSlot
+pub mod ToldBody

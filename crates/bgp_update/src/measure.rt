@@ -9,7 +9,7 @@ use bgp_attr::run_len;
 use bgp_open::Context;
 
 /// The octets of a message of 4096 octets that follow its header (RFC 4271, section 4.1).
-const LONGEST_BODY: usize = 4077;
+pub(crate) const LONGEST_BODY: usize = 4077;
 
 /// What the two length fields of a body say.
 #[derive(Clone, Copy, Debug)]

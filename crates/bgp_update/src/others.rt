@@ -14,7 +14,7 @@ use bgp_wire::List;
 use std::alloc::{AllocError, Global};
 
 /// The first of a row, which goes on behind it.
-fn step<T: Copy>(row: &mut &[T]) -> Option<T>
+pub(crate) fn step<T: Copy>(row: &mut &[T]) -> Option<T>
     ensures { YieldsFirst (λ r. r.now) row.old result row.new }
 {
     let (first, rest) = row.split_first()?;

@@ -28,17 +28,17 @@ const ORDER: [u8; 256] = [
 
 /// The order of the types.
 #[tactic(auto, unfolding(crate::specs::Slots::canonical_order))]
-fn order() -> &'static [u8]
+pub(crate) fn order() -> &'static [u8]
     ensures { result.now ≡ canonical_order }
 {
     &ORDER
 }
 
 /// The recognised types, in that order.
-const RECOGNISED: [u8; 13] = [14, 15, 1, 2, 3, 4, 5, 6, 7, 8, 17, 18, 32];
+pub(crate) const RECOGNISED: [u8; 13] = [14, 15, 1, 2, 3, 4, 5, 6, 7, 8, 17, 18, 32];
 
 /// The highest type that is common: BGP Prefix-SID (RFC 8669).
-const COMMON: u8 = 40;
+pub(crate) const COMMON: u8 = 40;
 
 /// Whether some type is above those that are common.
 fn are_uncommon(others: &[Opaque]) -> bool

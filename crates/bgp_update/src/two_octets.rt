@@ -15,7 +15,7 @@ use std::alloc::{AllocError, Global};
 use std::mem;
 
 /// What stands for a number where there are two octets for it.
-fn narrow_number(number: AsNumber) -> AsNumber
+pub(crate) fn narrow_number(number: AsNumber) -> AsNumber
     ensures { result ≡ narrow_number number }
 {
     if number.0 > 65535 {
@@ -89,7 +89,7 @@ fn split_path(alloc: Global, path: &mut Option<AsPath>) -> Result<Option<As4Path
 }
 
 /// AGGREGATOR.
-fn narrow_aggregator(aggregator: Option<Aggregator>) -> Option<Aggregator>
+pub(crate) fn narrow_aggregator(aggregator: Option<Aggregator>) -> Option<Aggregator>
     ensures { result ≡ option_map narrow_aggregator aggregator }
 {
     let whole = aggregator?;
@@ -102,7 +102,7 @@ fn narrow_aggregator(aggregator: Option<Aggregator>) -> Option<Aggregator>
 }
 
 /// AS4_AGGREGATOR, where the number needs four octets.
-fn wide_aggregator(aggregator: Option<Aggregator>) -> Option<Aggregator>
+pub(crate) fn wide_aggregator(aggregator: Option<Aggregator>) -> Option<Aggregator>
     ensures { result ≡ wide_aggregator aggregator }
 {
     let whole = aggregator?;

@@ -1,0 +1,18 @@
+-- Segments that are written with narrowed numbers.
+use Rattle.std.proofs.Common.{◌≡◌, ℕ, false, List, [], ◌∷◌, ◌++◌, length, map, refl, sym, ap, ap₂, ◌∙◌}
+use Rattle.std.specs.List.{flat_map}
+use Rattle.std.proofs.lemmas.List.{length-map}
+use Rattle.std.proofs.lemmas.List.Folds.{flat_map-map}
+use Rattle.bgp_prefix.specs.declared.as_number.AsNumber.{AsNumber}
+use Rattle.bgp_attr.specs.declared.path.Segment.{Segment}
+use Rattle.bgp_attr.specs.Numbers.{number_octets}
+use Rattle.bgp_attr.specs.Written.{segment_code, segment_octets}
+use Rattle.bgp_attr.proofs.Writes.{segment_written}
+use Rattle.bgp_update.specs.As4.{narrow_number, narrow_segment}
+
+pub narrow_written : (s : Segment) (code count : ℕ) (old head new : List ℕ) → code ≡ segment_code s.kind → count ≡ length s.numbers → head ≡ old ++ code ∷ count ∷ []
+    → new ≡ head ++ flat_map (λ (n : AsNumber). number_octets false (narrow_number n).0) s.numbers → new ≡ old ++ segment_octets false (narrow_segment s)
+narrow_written s code count old head new code_is count_is e f =
+    segment_written false (narrow_segment s) (map narrow_number s.numbers) old head new refl
+    (e ∙ ap₂ (λ (c n : ℕ). old ++ c ∷ n ∷ []) code_is (count_is ∙ sym (length-map s.numbers narrow_number)))
+    (f ∙ ap (λ (b : List ℕ). head ++ b) (sym (flat_map-map (λ (n : AsNumber). number_octets false n.0) narrow_number s.numbers)))

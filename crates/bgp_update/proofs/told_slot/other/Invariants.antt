@@ -1,0 +1,11 @@
+use Rattle.std.proofs.Common.{◌≡◌, eqb, length, map}
+use Rattle.std.specs.List.{find}
+use Rattle.bgp_attr.specs.AttrView.{opaque_value}
+use Rattle.bgp_update.proofs.told_slot.other.Given as goal
+
+-- none of those so far is of the type
+abbrev pub invariant-row : goal.invariant-row
+invariant-row l = find (λ o. eqb o.kind l.kind) (map opaque_value l.others) ≡ find (λ o. eqb o.kind l.kind) (map opaque_value l.left)
+
+abbrev pub decreases-row : goal.decreases-row
+decreases-row l = length l.left

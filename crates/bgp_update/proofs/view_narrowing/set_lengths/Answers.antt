@@ -1,0 +1,10 @@
+use Rattle.std.proofs.Common.{◌-◌, ◌+◌, refl}
+use Rattle.bgp_update.proofs.ToldBodies.{both_set}
+use Rattle.bgp_update.proofs.view_narrowing.set_lengths.Goals as goal
+
+pub returns : goal.returns
+returns c =
+    let p = c.args.places in
+    λ withdrawn attributes nlri old laid.
+    both_set withdrawn attributes nlri old c.args.start (p.attributes - (c.args.start + 2)) (p.nlri - (p.attributes + 2)) p c.args.out.now.items c.set_length.new.out.items c.set_length-2.new.out.items laid refl refl
+    c.set_length.ensures c.set_length-2.ensures

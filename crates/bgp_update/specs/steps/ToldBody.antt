@@ -1,0 +1,18 @@
+-- A body that is told, before its two length fields are set.
+use Rattle.std.specs.Prelude.{◌≡◌, ◌+◌, ℕ, List, ◌∷◌, ◌++◌, length}
+use Rattle.bgp_open.specs.declared.context.Context.{Context}
+use Rattle.bgp_attr.specs.Written.{run_octets}
+use Rattle.bgp_update.specs.declared.update.Update.{Update}
+use Rattle.bgp_update.specs.declared.view_narrowing.Places.{Places}
+use Rattle.bgp_update.specs.Written.{attributes_octets}
+
+-- three parts, of which two stand behind room for their lengths, behind what was there; and where these two fields and the third part begin
+pub record LaysOut (withdrawn attributes nlri : List ℕ) (start : ℕ) (old new : List ℕ) (p : Places) : Type 0 where
+  pub whole : new ≡ old ++ (0 ∷ 0 ∷ (withdrawn ++ (0 ∷ 0 ∷ (attributes ++ nlri))))
+  pub first : start ≡ length old
+  pub second : p.attributes ≡ start + 2 + length withdrawn
+  pub third : p.nlri ≡ p.attributes + 2 + length attributes
+
+-- the parts of the body of an UPDATE
+abbrev pub LaysOutBody : Context → Update → ℕ → List ℕ → List ℕ → Places → Type 0
+LaysOutBody ctx u start old new p = LaysOut (run_octets u.withdrawn) (attributes_octets ctx u.attrs) (run_octets u.nlri) start old new p

@@ -1,0 +1,112 @@
+//! AS_PATH for a speaker with AS numbers of two octets, written from its view.
+
+ghost use Rattle.std.specs.Prelude.{◌≡◌, ◌≤◌, ◌++◌, false, true, length, OnOk, OnErr};
+ghost use Rattle.std.specs.List.{flat_map, list_any};
+ghost use Rattle.bgp_attr.specs.declared.attr.Attr.TheVariants as attr;
+ghost use Rattle.bgp_attr.specs.steps.Appends.{Extends};
+ghost use Rattle.bgp_attr.specs.NumberIter.{as_numbers_left};
+ghost use Rattle.bgp_attr.specs.Numbers.{number_octets};
+ghost use Rattle.bgp_attr.specs.PathView.{path_value, segment_value};
+ghost use Rattle.bgp_attr.specs.Written.{any_number, canonical, is_above_two_octets, is_bad_segment, is_writable, path_octets, segment_code, segment_octets};
+ghost use Rattle.bgp_update.specs.As4.{narrow_number, narrow_path, narrow_segment};
+
+use crate::two_octets::narrow_number;
+use bgp_attr::{AsNumberIter, AttrView, PathView, SegKind, SegmentView, begin_attr, finish_attr};
+use bgp_open::Context;
+use bgp_prefix::AsNumber;
+use std::alloc::AllocError;
+
+/// Whether a number needs four octets.
+fn has_wide_number(numbers: AsNumberIter<'_>) -> bool
+    ensures { result ≡ list_any (λ n. is_above_two_octets n.0) (as_numbers_left numbers.entry) }
+{
+    'row: for number in numbers {
+        if number.0 > 65535 {
+            return true;
+        }
+    }
+    false
+}
+
+/// Whether a number of the path needs four octets.
+pub(crate) fn is_wide_path(path: PathView<'_>) -> bool
+    ensures { result ≡ any_number is_above_two_octets (path_value path.entry) }
+{
+    'path: for segment in path.segments() {
+        if has_wide_number(segment.numbers) {
+            return true;
+        }
+    }
+    false
+}
+
+/// Adds what stands for a number where there are two octets for it.
+#[inline(always)]
+fn put_number(number: AsNumber, out: &mut Vec<u8>) -> Result<(), AllocError>
+    ensures ok { OnOk result (out.new.items ≡ out.old.items ++ number_octets false (narrow_number number).0) }
+    ensures err { OnErr result (Extends out.old.items out.new.items) }
+{
+    let [_, _, high, low] = narrow_number(number).0.to_be_bytes();
+    out.extend_from_slice(&[high, low])?;
+    Ok(())
+}
+
+/// Adds numbers.
+fn put_numbers(numbers: AsNumberIter<'_>, out: &mut Vec<u8>) -> Result<(), AllocError>
+    ensures ok { OnOk result (out.new.items ≡ out.old.items ++ flat_map (λ n. number_octets false (narrow_number n).0) (as_numbers_left numbers.entry)) }
+    ensures err { OnErr result (Extends out.old.items out.new.items) }
+{
+    'row: for number in numbers {
+        put_number(number, out)?;
+    }
+    Ok(())
+}
+
+/// The octet of a segment's type.
+fn segment_code(kind: SegKind) -> u8
+    ensures { result ≡ segment_code kind }
+{
+    kind as u8
+}
+
+/// Adds a segment.
+fn put_segment(segment: SegmentView<'_>, out: &mut Vec<u8>) -> Result<(), AllocError>
+    requires { is_bad_segment (narrow_segment (segment_value segment)) ≡ false }
+    ensures ok { OnOk result (out.new.items ≡ out.old.items ++ segment_octets false (narrow_segment (segment_value segment.entry))) }
+    ensures err { OnErr result (Extends out.old.items out.new.items) }
+{
+    let count = segment.numbers.left() as u8;
+    out.extend_from_slice(&[segment_code(segment.kind), count])?;
+    put_numbers(segment.numbers, out)
+}
+
+/// Adds the segments of a path.
+fn put_path(path: PathView<'_>, out: &mut Vec<u8>) -> Result<(), AllocError>
+    requires { list_any is_bad_segment (narrow_path (path_value path)).segments ≡ false }
+    ensures ok { OnOk result (out.new.items ≡ out.old.items ++ path_octets false (narrow_path (path_value path.entry))) }
+    ensures err { OnErr result (Extends out.old.items out.new.items) }
+{
+    'path: for segment in path.segments() {
+        put_segment(segment, out)?;
+    }
+    Ok(())
+}
+
+/// Adds an AS_PATH; a part of it may stay where an allocation failed.
+pub(crate) fn put_narrow_path(
+    ctx: &Context,
+    path: PathView<'_>,
+    out: &mut Vec<u8>,
+) -> Result<(), AllocError>
+    requires narrow { ctx.now.as4 ≡ false }
+    requires writable { is_writable ctx.now (attr.AsPath (narrow_path (path_value path))) ≡ true }
+    ensures ok { OnOk result (out.new.items ≡ out.old.items ++ canonical ctx.now (attr.AsPath (narrow_path (path_value path.entry)))) }
+    ensures err { OnErr result (Extends out.old.items out.new.items) }
+{
+    // The width of its numbers is known.
+    let _ctx = ctx;
+    let start = out.len();
+    begin_attr(out)?;
+    put_path(path, out)?;
+    finish_attr(&AttrView::AsPath(path), start, out)
+}

@@ -1,0 +1,144 @@
+//! Writing an UPDATE as a speaker with AS numbers of two octets is told it, from its view.
+
+ghost use Rattle.std.specs.Prelude.{◌≡◌, ◌≤◌, ◌+◌, ◌++◌, [], ◌∷◌, ℕ, List, false, true, length, take, drop, IfOk, OnOk, OnErr, IsTrue, IsErrOf};
+ghost use Rattle.std.specs.Int.{w16, to_be_bytes};
+ghost use Rattle.std.specs.List.{AllByRecursion};
+ghost use Rattle.bgp_attr.specs.steps.Appends.{Extends};
+ghost use Rattle.bgp_attr.specs.Written.{is_writable};
+ghost use Rattle.bgp_update.specs.As4.{narrowed, narrowed_update};
+ghost use Rattle.bgp_update.specs.Slots.{attr_list};
+ghost use Rattle.bgp_update.specs.Told.{CanBeTold};
+ghost use Rattle.bgp_update.specs.View.{update_value};
+ghost use Rattle.bgp_update.specs.Widths.{with_as4};
+ghost use Rattle.bgp_update.specs.Written.{body_octets, is_too_long, written_body};
+ghost use Rattle.bgp_update.specs.steps.ToldBody.{LaysOut, LaysOutBody};
+ghost use Rattle.bgp_update.specs.declared.view_narrowing.NarrowFault.TheVariants.{TooLong, Memory};
+
+use crate::measure::LONGEST_BODY;
+use crate::narrow_writing::put_told_attrs;
+use crate::view::UpdateView;
+use bgp_open::Context;
+use std::alloc::{AllocError, Global};
+
+/// Why an UPDATE that was accepted isn't written for a speaker with AS numbers of two octets.
+#[derive(Clone, Copy, Debug, PartialEq, Eq)]
+pub enum NarrowFault {
+    /// The message would have more than 4096 octets (RFC 4271, section 4.1).
+    TooLong,
+    /// An allocation failed.
+    Memory,
+}
+
+impl From<AllocError> for NarrowFault {
+    ghost from_gives = { λ _ e. e ≡ Memory };
+
+    fn from(_refused: AllocError) -> NarrowFault {
+        NarrowFault::Memory
+    }
+}
+
+/// Where the second length field begins, and where the NLRI do.
+#[derive(Clone, Copy)]
+struct Places {
+    attributes: usize,
+    nlri: usize,
+}
+
+/// The same session, but for the width of its AS numbers.
+fn two_octets(ctx: &Context) -> Context
+    ensures { result ≡ with_as4 false ctx.now }
+{
+    Context { as4: false, ..*ctx }
+}
+
+/// Adds room for a length field.
+fn put_room(out: &mut Vec<u8>) -> Result<(), AllocError>
+    ensures ok { OnOk result (out.new.items ≡ out.old.items ++ 0 ∷ 0 ∷ []) }
+    ensures err { OnErr result (Extends out.old.items out.new.items) }
+{
+    out.extend_from_slice(&[0, 0])?;
+    Ok(())
+}
+
+/// Sets a length field.
+fn set_length(len: usize, at: usize, out: &mut Vec<u8>)
+    requires small { len ≤ 65535 }
+    requires room { at + 2 ≤ length out.old.items }
+    ensures { out.new.items ≡ take at out.old.items ++ (to_be_bytes w16 len ++ drop (at + 2) out.old.items) }
+{
+    out[at..at + 2].copy_from_slice(&(len as u16).to_be_bytes());
+}
+
+/// Adds the parts of a body, and room for the lengths of the first two; some octets may stay where an allocation failed.
+fn put_parts(
+    alloc: Global,
+    ctx: &Context,
+    view: &UpdateView<'_>,
+    out: &mut Vec<u8>,
+) -> Result<Places, AllocError>
+    requires narrow { ctx.now.as4 ≡ false }
+    requires writable { AllByRecursion (λ a. is_writable ctx.now a ≡ true) (attr_list (narrowed (update_value view.now).attrs)) }
+    ensures ok { IfOk result (λ p. LaysOutBody ctx.now (narrowed_update (update_value view.now)) (length out.old.items) out.old.items out.new.items p) }
+    ensures err { OnErr result (Extends out.old.items out.new.items) }
+{
+    put_room(out)?;
+    view.withdrawn().write(out)?;
+    let attributes = out.len();
+    put_room(out)?;
+    let others = view.others(alloc)?;
+    put_told_attrs(ctx, view.kept(), others.as_slice(), out)?;
+    let nlri = out.len();
+    view.nlri().write(out)?;
+    Ok(Places { attributes, nlri })
+}
+
+/// Sets both length fields of a body.
+fn set_lengths(start: usize, places: Places, out: &mut Vec<u8>)
+    requires withdrawn { start + 2 ≤ places.attributes }
+    requires attributes { places.attributes + 2 ≤ places.nlri }
+    requires nlri { places.nlri ≤ length out.old.items }
+    requires small { length out.old.items ≤ start + 65535 }
+    ensures { (withdrawn attributes nlri old : List ℕ) → LaysOut withdrawn attributes nlri start old out.old.items places
+        → out.new.items ≡ old ++ body_octets withdrawn attributes nlri }
+{
+    set_length(places.attributes - (start + 2), start, out);
+    set_length(
+        places.nlri - (places.attributes + 2),
+        places.attributes,
+        out,
+    );
+}
+
+impl UpdateView<'_> {
+    /// Appends the body of the UPDATE as a speaker with AS numbers of two octets is told it (RFC 6793, section 4.2.2), in its one written form: what
+    /// [`narrow_update`](crate::narrow_update) and then [`write_update`](crate::write_update) would append in the same session with two octets. No
+    /// list of what it holds is made, and nothing is tested again; memory is taken for attributes of types that aren't recognised.
+    ///
+    /// # Errors
+    /// `TooLong` where the message would have more than 4096 octets, `Memory` where an allocation failed; nothing is appended then.
+    pub fn write_narrowed(
+        &self,
+        alloc: Global,
+        ctx: &Context,
+        out: &mut Vec<u8>,
+    ) -> Result<(), NarrowFault>
+        requires { CanBeTold ctx.now (update_value self.now) }
+        ensures too_long { IsErrOf result TooLong → IsTrue (is_too_long (with_as4 false ctx.now) (narrowed_update (update_value self.now))) }
+        ensures fits { OnOk result (is_too_long (with_as4 false ctx.now) (narrowed_update (update_value self.now)) ≡ false) }
+        ensures ok { OnOk result (out.new.items ≡ out.old.items ++ written_body (with_as4 false ctx.now) (narrowed_update (update_value self.now))) }
+        ensures err { OnErr result (out.new.items ≡ out.old.items) }
+    {
+        let start = out.len();
+        let narrow = two_octets(ctx);
+        let Ok(places) = put_parts(alloc, &narrow, self, out) else {
+            out.truncate(start);
+            return Err(NarrowFault::Memory);
+        };
+        if out.len() - start > LONGEST_BODY {
+            out.truncate(start);
+            return Err(NarrowFault::TooLong);
+        }
+        set_lengths(start, places, out);
+        Ok(())
+    }
+}
