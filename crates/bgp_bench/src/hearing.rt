@@ -205,6 +205,43 @@ fn established(alloc: Global) -> Result<Session, AllocError> {
     Ok(session)
 }
 
+/// Lets the session hear the stream, piece by piece.
+fn hear_stream(
+    alloc: Global,
+    session: &mut Session,
+    octets: &[u8],
+    by: By,
+    actions: &mut Actions,
+    heard: &mut Heard,
+) -> Result<(), AllocError> {
+    for piece in octets.chunks(PIECE) {
+        match by {
+            By::Sets => hear_piece(alloc, session, piece, heard)?,
+            By::OneSet => hear_piece_into(alloc, session, piece, actions, heard)?,
+            By::Views => hear_piece_by_views(session, piece, heard),
+        }
+    }
+    Ok(())
+}
+
+/// Lets an Established session hear the stream so many times, and answers it and the counts of the last time.
+fn hear_rounds(
+    alloc: Global,
+    octets: &[u8],
+    rounds: u32,
+    by: By,
+) -> Result<(Session, Heard), AllocError> {
+    let mut session = established(alloc)?;
+    let mut heard = Heard::new();
+    let mut actions = ArrayVec::new();
+    for _round in 0..rounds {
+        session = established(alloc)?;
+        heard = Heard::new();
+        hear_stream(alloc, &mut session, octets, by, &mut actions, &mut heard)?;
+    }
+    Ok((session, heard))
+}
+
 /// Lets an Established session hear the stream so many times, and prints the counts of one time, and where the session stood then.
 pub(crate) fn run(
     rt: &(impl Print + AllocGlobal),
@@ -212,22 +249,7 @@ pub(crate) fn run(
     rounds: u32,
     by: By,
 ) -> io::Result<()> {
-    let mut session = established(rt.alloc())?;
-    let mut heard = Heard::new();
-    let mut actions = ArrayVec::new();
-    for _round in 0..rounds {
-        session = established(rt.alloc())?;
-        heard = Heard::new();
-        for piece in octets.chunks(PIECE) {
-            match by {
-                By::Sets => hear_piece(rt.alloc(), &mut session, piece, &mut heard)?,
-                By::OneSet => {
-                    hear_piece_into(rt.alloc(), &mut session, piece, &mut actions, &mut heard)?
-                }
-                By::Views => hear_piece_by_views(&mut session, piece, &mut heard),
-            }
-        }
-    }
+    let (session, heard) = hear_rounds(rt.alloc(), octets, rounds, by)?;
     println!(rt;
         "actions {} announced {} withdrawn {}",
         heard.actions, heard.announced, heard.withdrawn
