@@ -1,8 +1,6 @@
 -- What is pulled from a piece.
 use Rattle.std.proofs.Common.{◌≡◌, ℕ, ◌≤◌, ◌⊎◌, Bool, true, false, List, ◌++◌, length, take, Result, Ok, Err, OnErr, Option, Some, None, refl, sym, ap, ap₂, subst, ◌∙◌, arith, inl, inr}
-use Rattle.std.specs.Result.{IfOk}
 use Rattle.std.proofs.lemmas.Bool.{both_ways}
-use Rattle.std.proofs.lemmas.Result.{IfOk-weaker, on_err_weaker}
 use Rattle.std.proofs.lemmas.List.{append-nil}
 use Rattle.bgp_frame.specs.declared.fault.HeadFault.{HeadFault}
 use Rattle.bgp_frame.specs.declared.step.Frame.{Frame}
@@ -81,14 +79,16 @@ whole_at_front old inside piece frame n o is going count none front comes =
     subst (λ (d : Decoding). IsAtFront d piece frame.len o) is
     (none_held inside.held (omega (arith, count)), found_message inside piece frame.len frame o going (pull_frame piece inside.held n count none frame front) comes)
 
-module _ (old new : Decoding) (piece : List ℕ) (n : ℕ) (o : Outcome) (f : IsAtFront old piece n o) where
-  pub front_pulled : {E : Type 0} (r : Result (ℕ × Option (ℕ × Outcome)) E) → IfOk r (λ x. (x ≡ (n, Some (n, o))) × (new ≡ behind old o)) → IfOk r (λ x. IsPulled old piece x.0 x.1 new)
-  front_pulled r gives =
-      IfOk-weaker r (λ x. (x ≡ (n, Some (n, o))) × (new ≡ behind old o)) (λ x. IsPulled old piece x.0 x.1 new)
-      (λ x p. rw (p.0, p.1) f.1) gives
-
-  pub front_takes_memory : {T E : Type 0} (r : Result T E) → OnErr r (has_lists o ≡ true) → OnErr r (TakesMemory old ⊎ FrontTakesMemory old piece)
-  front_takes_memory r refused = on_err_weaker r (λ lists. pulled_takes_memory old piece n n o (behind old o) lists f.1) refused
+-- where nothing is held, it is the piece that asks for memory
+pub front_takes_memory : (old : Decoding) (piece : List ℕ) (n : ℕ) (o : Outcome) → has_lists o ≡ true → IsAtFront old piece n o → FrontTakesMemory old piece
+front_takes_memory old piece n o lists f = record {
+  going = f.1.next.0;
+  none_held = f.0;
+  n = n;
+  within = f.1.pulls.takes.within;
+  takes = subst (λ (h : List ℕ). TakesMemory (holding old (h ++ take n piece))) f.0
+      (given_takes_memory old piece (holding old (old.held ++ take n piece)) n o lists f.1.next.1);
+}
 
 pub update_pulled : (old : Decoding) (piece : List ℕ) (n : ℕ) (u : Update) (notes : List Note) → IsAtFront old piece n (outcome.Took (message.Update u) notes)
     → IsPulled old piece n (Some (n, outcome.Took (message.Update u) notes)) old

@@ -4,11 +4,9 @@ ghost use Rattle.std.specs.Prelude.{◌≡◌, ◌<◌, ◌≤◌, ◌⊎◌, tr
 ghost use Rattle.bgp_msg.specs.Decoder.{fresh, behind, IsFed, IsNext, TakesMemory, IsPulled, IsFedAndNext, FrontTakesMemory};
 ghost use Rattle.bgp_msg.specs.steps.Early.{IsEarly};
 ghost use Rattle.bgp_msg.specs.Look.{IsLook, IsOwnLook, gone};
-ghost use Rattle.bgp_msg.specs.OutcomeView.{outcome_value, has_lists};
 
-use crate::early::Early;
+use crate::early::{Early, taken};
 use crate::look::Look;
-use crate::message::Message;
 use crate::outcome::Outcome;
 use crate::outcome_view::OutcomeView;
 use crate::taking::{out_frame, view_frame};
@@ -136,14 +134,10 @@ impl Decoder {
         ensures err { OnErr result (self.new ≡ self.old) }
         ensures memory { OnErr result (TakesMemory self.old ⊎ FrontTakesMemory self.old piece.now) }
     {
-        let mut place = UpdateView::empty();
-        match self.early(alloc, piece, &mut place)? {
-            Early::Update(len, update, notes) => Ok((
-                len as usize,
-                Some((len, Outcome::Took(Message::Update(update), notes))),
-            )),
-            other => self.pull_other(alloc, piece, &other),
+        if let Some((len, update, notes)) = self.early(alloc, piece)? {
+            return taken(len, update, notes);
         }
+        self.pull_any(alloc, piece)
     }
 
     /// What [`pull`](Decoder::pull) would give for a piece, as a view, without memory and without a change. Who goes on behind it consumes as many
@@ -176,31 +170,42 @@ impl Decoder {
         self.stopped = resets;
     }
 
-    /// An UPDATE that is accepted at the front of a piece, where nothing is held, with memory of its own.
-    fn early<'b, 'a>(
-        &self,
-        alloc: Global,
-        piece: &'a [u8],
-        place: &'b mut UpdateView<'a>,
-    ) -> Result<Early<'b>, AllocError>
-        ensures ok { IfOk result (λ found. IsEarly self.now piece.entry.now found) }
-        ensures memory { OnErr result (TakesMemory self.now ⊎ FrontTakesMemory self.now piece.entry.now) }
+    /// An UPDATE that is accepted at the front of a piece, where nothing is held, with memory of its own. None for anything else: an outcome has
+    /// room for 4 KB, which would be cleared and copied for each UPDATE. It isn't inlined, so that `pull` stays so small that the compiler
+    /// sees which of its room need not be cleared.
+    #[inline(never)]
+    fn early(&self, alloc: Global, piece: &[u8]) -> Result<Option<Early>, AllocError>
+        ensures ok { IfOk result (λ found. IsEarly self.now piece.now found) }
+        ensures memory { OnErr result (FrontTakesMemory self.now piece.now) }
     {
         if self.stopped || self.framer.held() > 0 {
-            return Ok(Early::Other);
+            return Ok(None);
         }
         let Step::Frame(frame) = front(piece) else {
-            return Ok(Early::Other);
+            return Ok(None);
         };
         let len = frame.len;
-        match view_frame(&self.ctx, frame, place) {
-            OutcomeView::Update(view) => {
-                let update = view.own(alloc)?;
-                let notes = view.own_notes(alloc)?;
-                Ok(Early::Update(len, update, notes))
-            }
-            rare => Ok(Early::Rare(len, rare)),
-        }
+        let mut place = UpdateView::empty();
+        let OutcomeView::Update(view) = view_frame(&self.ctx, frame, &mut place) else {
+            return Ok(None);
+        };
+        let update = view.own(alloc)?;
+        let notes = view.own_notes(alloc)?;
+        Ok(Some((len, update, notes)))
+    }
+
+    /// What `pull_other` pulls. It is inlined, so that the room of what that gives is cleared where it is called, and not as `pull` begins.
+    #[inline(always)]
+    fn pull_any(
+        &mut self,
+        alloc: Global,
+        piece: &[u8],
+    ) -> Result<(usize, Option<(u16, Outcome)>), AllocError>
+        ensures ok { IfOk result (λ r. IsPulled self.old piece.now r.0 r.1 self.new) }
+        ensures err { OnErr result (self.new ≡ self.old) }
+        ensures memory { OnErr result (TakesMemory self.old ⊎ FrontTakesMemory self.old piece.now) }
+    {
+        self.pull_other(alloc, piece)
     }
 
     /// Pulls what isn't an UPDATE at the front of a piece that is accepted.
@@ -209,16 +214,11 @@ impl Decoder {
         &mut self,
         alloc: Global,
         piece: &[u8],
-        found: &Early<'_>,
     ) -> Result<(usize, Option<(u16, Outcome)>), AllocError>
-        requires { IsEarly self.old piece.now found.now }
         ensures ok { IfOk result (λ r. IsPulled self.old piece.now r.0 r.1 self.new) }
         ensures err { OnErr result (self.new ≡ self.old) }
         ensures memory { OnErr result (TakesMemory self.old ⊎ FrontTakesMemory self.old piece.now) }
     {
-        if let Early::Rare(len, view) = found {
-            return self.pull_rare(alloc, *len, view);
-        }
         match self.own_look(alloc, piece)? {
             None => Ok((self.feed(piece), None)),
             Some((taken, len, outcome)) => {
@@ -247,23 +247,5 @@ impl Decoder {
             }
             Look::Fault(taken, fault) => Ok(Some((taken, 0, Outcome::Reset(fault.notification())))),
         }
-    }
-
-    /// Takes a message of this length, which comes to this, from the front of a piece.
-    fn pull_rare(
-        &mut self,
-        alloc: Global,
-        len: u16,
-        found: &OutcomeView<'_>,
-    ) -> Result<(usize, Option<(u16, Outcome)>), AllocError>
-        requires none_held { self.old.held ≡ [] }
-        ensures ok { IfOk result (λ r. (r ≡ (len, Some (len, outcome_value found.now)))
-            × (self.new ≡ behind self.old (outcome_value found.now))) }
-        ensures err { OnErr result (self.new ≡ self.old) }
-        ensures memory { OnErr result (has_lists (outcome_value found.now) ≡ true) }
-    {
-        let judged = found.own(alloc)?;
-        self.stopped = judged.is_reset();
-        Ok((len as usize, Some((len, judged))))
     }
 }

@@ -1,17 +1,29 @@
 //! An UPDATE at the front of a piece, owned at once.
 
-use crate::outcome_view::OutcomeView;
+ghost use Rattle.std.specs.Prelude.{◌≡◌, Some, Ok};
+ghost use Rattle.bgp_msg.specs.declared.message.Message.TheVariants as message;
+ghost use Rattle.bgp_msg.specs.declared.outcome.Outcome.TheVariants as outcome;
+
+use crate::message::Message;
+use crate::outcome::Outcome;
 use bgp_update::{Note, Update};
 use bgp_wire::List;
+use std::alloc::AllocError;
 
-/// What stands at the front of a piece, where nothing is held. It is small, as an outcome isn't, which has room for 4 KB: so little is cleared
-/// and copied for each UPDATE.
-#[derive(Drop)]
-pub(crate) enum Early<'a> {
-    /// An UPDATE of so many octets that is accepted, with notes.
-    Update(u16, Update, List<Note>),
-    /// A message of so many octets that comes to something else.
-    Rare(u16, OutcomeView<'a>),
-    /// Anything else, or something is held.
-    Other,
+/// An UPDATE of so many octets that is accepted, with notes.
+pub(crate) type Early = (u16, Update, List<Note>);
+
+/// What a pull gives for such an UPDATE.
+#[inline(always)]
+pub(crate) fn taken(
+    len: u16,
+    update: Update,
+    notes: List<Note>,
+) -> Result<(usize, Option<(u16, Outcome)>), AllocError>
+    ensures { result ≡ Ok (len, Some (len, outcome.Took (message.Update update) notes)) }
+{
+    Ok((
+        len as usize,
+        Some((len, Outcome::Took(Message::Update(update), notes))),
+    ))
 }
