@@ -7,7 +7,8 @@ ghost use Rattle.bgp_frame.specs.Kind.{IsLength};
 ghost use Rattle.bgp_frame.specs.Step.{message_in};
 ghost use Rattle.bgp_msg.specs.Outcome.{out_of};
 ghost use Rattle.bgp_msg.specs.declared.message.Message.TheVariants as message;
-ghost use Rattle.bgp_update.specs.As4.{HasNoAs4, narrowed_update};
+ghost use Rattle.bgp_update.specs.As4.{narrowed_update};
+ghost use Rattle.bgp_update.specs.Told.{CanBeTold};
 ghost use Rattle.bgp_update.specs.View.{update_value};
 ghost use Rattle.bgp_update.specs.Widths.{with_as4};
 ghost use Rattle.bgp_engine.specs.steps.PageSteps.{WritesNarrow};
@@ -20,18 +21,11 @@ use crate::page::Page;
 use crate::tally::Tally;
 use crate::walk::walk_stream;
 use bgp_frame::{End, Frame, HeadFault, head};
-use bgp_msg::{OutcomeView, encode_update, view_frame};
+use bgp_msg::{OutcomeView, encode_narrowed, view_frame};
 use bgp_open::Context;
-use bgp_update::{Update, UpdateView, WriteFault, narrow_in_place};
+use bgp_update::{NarrowFault, UpdateView};
 use std::alloc::{AllocError, Global};
 use std::io::{Read, Write};
-
-// The same session, but for the width of its AS numbers.
-fn two_octets(ctx: &Context) -> Context
-    ensures { result ≡ with_as4 false ctx.now }
-{
-    Context { as4: false, ..*ctx }
-}
 
 // Appends a message as it came.
 fn put_frame(octets: &mut Vec<u8>, frame: Frame<'_>) -> Result<(), AllocError>
@@ -44,18 +38,6 @@ fn put_frame(octets: &mut Vec<u8>, frame: Frame<'_>) -> Result<(), AllocError>
     Ok(())
 }
 
-// Appends an UPDATE's written form, where it can be written.
-fn put_written(ctx: &Context, octets: &mut Vec<u8>, update: &Update) -> Result<Class, AllocError>
-    ensures { IfOk result (λ class. WritesNarrow octets.old.items octets.new.items (written_in ctx.now (message.Update update.now)) class) }
-{
-    match encode_update(ctx, update, octets) {
-        Ok(()) => Ok(Class::Took),
-        Err(WriteFault::Memory) => Err(AllocError),
-        Err(WriteFault::NotValid(_why)) => Ok(Class::Reset),
-        Err(WriteFault::TooLong) => Ok(Class::Reset),
-    }
-}
-
 // Appends an UPDATE that is taken as a speaker with AS numbers of two octets is told it.
 fn put_view(
     alloc: Global,
@@ -63,13 +45,14 @@ fn put_view(
     octets: &mut Vec<u8>,
     view: &UpdateView<'_>,
 ) -> Result<Class, AllocError>
-    requires { HasNoAs4 (update_value view.now).attrs }
+    requires { CanBeTold ctx.now (update_value view.now) }
     ensures { IfOk result (λ class. WritesNarrow octets.old.items octets.new.items (written_in (with_as4 false ctx.now) (message.Update (narrowed_update (update_value view.now)))) class) }
 {
-    let mut update = view.own(alloc)?;
-    narrow_in_place(alloc, &mut update.attrs)?;
-    let narrow_ctx = two_octets(ctx);
-    put_written(&narrow_ctx, octets, &update)
+    match encode_narrowed(alloc, ctx, view, octets) {
+        Ok(()) => Ok(Class::Took),
+        Err(NarrowFault::Memory) => Err(AllocError),
+        Err(NarrowFault::TooLong) => Ok(Class::Reset),
+    }
 }
 
 // What a body has are octets: nothing is done.

@@ -2,10 +2,10 @@ use Rattle.std.proofs.Common.{sym, ap, ◌∙◌}
 use Rattle.bgp_update.specs.View.{update_value, notes_value}
 use Rattle.bgp_msg.specs.declared.outcome_view.OutcomeView.{OutcomeView}
 use Rattle.bgp_msg.specs.OutcomeView.{outcome_value}
-use Rattle.bgp_engine.proofs.Narrows.{taken_none}
+use Rattle.bgp_engine.proofs.Narrows.{taken_told}
 use Rattle.bgp_engine.proofs.narrowing.put_told.Goals as goal
 
 pub put_view-requires : goal.put_view-requires
 put_view-requires c =
-    taken_none c.args.ctx.now c.requires.wide (update_value c.in-Update.view.now) (notes_value c.in-Update.view.now) c.args.frame.kind c.args.frame.body.now c.are_octets.ensures
+    taken_told c.args.ctx.now c.requires.wide (update_value c.in-Update.view.now) (notes_value c.in-Update.view.now) c.args.frame.kind c.args.frame.body.now c.are_octets.ensures c.requires.long
     (sym c.view_frame.ensures ∙ ap (λ (v : OutcomeView). outcome_value v) c.in-Update.is)
