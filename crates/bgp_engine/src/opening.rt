@@ -63,8 +63,8 @@ impl<P: Page> Opening<'_, P> {
     ghost use Rattle.bgp_wire.specs.Octets.{AreOctets};
     ghost use Rattle.bgp_engine.specs.declared.opening.Stage.TheVariants as stage;
     ghost use Rattle.bgp_engine.specs.steps.Engine.{IsTotal, Takes};
-    ghost use Rattle.bgp_engine.specs.steps.Opening.{AgreesBy, GoesOn, IsFirst, IsFresh, ReadyIn, Settles, opening, reports_in, room_in, terms_of};
-    ghost use Rattle.bgp_engine.specs.steps.Walking.{IsGoing, IsReady, reports_of, room_of, walking};
+    ghost use Rattle.bgp_engine.specs.steps.Opening.{AgreesBy, GoesOn, IsFirst, IsFresh, ReadyIn, Settles, opening, opening_of, reports_in, room_in, terms_of};
+    ghost use Rattle.bgp_engine.specs.steps.Walking.{IsGoing, IsReady, reports_of, room_of, walk_of};
 
     // Agrees on a context, where there is one and the page can be written in it.
     fn agree(&mut self, ctx: Option<Context>)
@@ -86,9 +86,10 @@ impl<P: Page> Opening<'_, P> {
     // Judges the first message, where it is there.
     fn settle(&mut self) -> Result<(), AllocError>
         requires stage { self.old.stage ≡ stage.First }
-        requires fresh { IsFresh (walking (P.rules self.old.walk.page) self.old.walk.framer self.old.walk.place self.old.walk.tally self.old.walk.ended) }
+        requires fresh { IsFresh (walk_of P.rules self.old.walk) }
         requires octets { AreOctets self.old.framer }
-        ensures settles { OnOk result (Settles (opening (terms_of P.fits P.rules_in self.old.theirs.now) self.new.stage self.old.framer (walking (P.rules self.new.walk.page) self.new.walk.framer self.new.walk.place self.new.walk.tally self.new.walk.ended))) }
+        ensures settles { OnOk result (Settles (opening
+            (terms_of P.fits P.rules_in self.old.theirs.now) self.new.stage self.old.framer (walk_of P.rules self.new.walk))) }
         ensures told { OnOk result (P.told self.new.walk.page ≡ P.told self.old.walk.page) }
         ensures held { self.new.framer ≡ self.old.framer }
         ensures theirs { self.new.theirs ≡ self.old.theirs }
@@ -109,11 +110,13 @@ impl<P: Page> Opening<'_, P> {
 
     // Walks over the first message, which is held, and what stands behind it.
     fn walk_on(&mut self, later: &[u8]) -> Result<bool, AllocError>
-        requires fresh { IsFresh (walking (P.rules self.old.walk.page) self.old.walk.framer self.old.walk.place self.old.walk.tally self.old.walk.ended) }
+        requires fresh { IsFresh (walk_of P.rules self.old.walk) }
         requires room { length self.old.framer + length later.now ≤ 2 ^ 60 }
-        ensures takes { IfOk result (λ over. Takes (reports_of (walking (P.rules self.old.walk.page) self.old.walk.framer self.old.walk.place self.old.walk.tally self.old.walk.ended)) (reports_of (walking (P.rules self.new.walk.page) self.new.walk.framer self.new.walk.place self.new.walk.tally self.new.walk.ended)) (IsGoing (walking (P.rules self.new.walk.page) self.new.walk.framer self.new.walk.place self.new.walk.tally self.new.walk.ended)) (P.told self.old.walk.page) (P.told self.new.walk.page) (self.old.framer ++ later.now) over) }
-        ensures ready { OnOk result (IsReady (walking (P.rules self.new.walk.page) self.new.walk.framer self.new.walk.place self.new.walk.tally self.new.walk.ended)) }
-        ensures room { OnOk result (2 ^ 60 ≤ room_of (walking (P.rules self.new.walk.page) self.new.walk.framer self.new.walk.place self.new.walk.tally self.new.walk.ended) + (length self.old.framer + length later.now)) }
+        ensures takes { IfOk result (λ over. Takes
+            (reports_of (walk_of P.rules self.old.walk)) (reports_of (walk_of P.rules self.new.walk)) (IsGoing (walk_of P.rules self.new.walk))
+            (P.told self.old.walk.page) (P.told self.new.walk.page) (self.old.framer ++ later.now) over) }
+        ensures ready { OnOk result (IsReady (walk_of P.rules self.new.walk)) }
+        ensures room { OnOk result (2 ^ 60 ≤ room_of (walk_of P.rules self.new.walk) + (length self.old.framer + length later.now)) }
         ensures same { self.new ≡ record self.old { walk = self.new.walk } }
     {
         if self.walk.take(self.framer.octets())? {
@@ -125,12 +128,16 @@ impl<P: Page> Opening<'_, P> {
     // Takes octets where the first message waits.
     fn take_first(&mut self, octets: &[u8]) -> Result<bool, AllocError>
         requires stage { self.old.stage ≡ stage.First }
-        requires first { IsFirst (opening (terms_of P.fits P.rules_in self.old.theirs.now) self.old.stage self.old.framer (walking (P.rules self.old.walk.page) self.old.walk.framer self.old.walk.place self.old.walk.tally self.old.walk.ended)) }
+        requires first { IsFirst (opening_of P.fits P.rules_in P.rules self.old) }
         requires room { length self.old.framer + length octets.now ≤ 2 ^ 60 }
-        ensures takes { IfOk result (λ over. Takes (reports_in (opening (terms_of P.fits P.rules_in self.old.theirs.now) self.old.stage self.old.framer (walking (P.rules self.old.walk.page) self.old.walk.framer self.old.walk.place self.old.walk.tally self.old.walk.ended))) (reports_in (opening (terms_of P.fits P.rules_in self.new.theirs.now) self.new.stage self.new.framer (walking (P.rules self.new.walk.page) self.new.walk.framer self.new.walk.place self.new.walk.tally self.new.walk.ended))) (GoesOn (opening (terms_of P.fits P.rules_in self.new.theirs.now) self.new.stage self.new.framer (walking (P.rules self.new.walk.page) self.new.walk.framer self.new.walk.place self.new.walk.tally self.new.walk.ended))) (P.told self.old.walk.page) (P.told self.new.walk.page) octets.now over) }
-        ensures ready { OnOk result (ReadyIn (opening (terms_of P.fits P.rules_in self.new.theirs.now) self.new.stage self.new.framer (walking (P.rules self.new.walk.page) self.new.walk.framer self.new.walk.place self.new.walk.tally self.new.walk.ended))) }
-        ensures room { OnOk result (room_in (opening (terms_of P.fits P.rules_in self.old.theirs.now) self.old.stage self.old.framer (walking (P.rules self.old.walk.page) self.old.walk.framer self.old.walk.place self.old.walk.tally self.old.walk.ended)) ≤ room_in (opening (terms_of P.fits P.rules_in self.new.theirs.now) self.new.stage self.new.framer (walking (P.rules self.new.walk.page) self.new.walk.framer self.new.walk.place self.new.walk.tally self.new.walk.ended)) + length octets.now) }
-        ensures memory { OnErr result (IsTotal (reports_in (opening (terms_of P.fits P.rules_in self.old.theirs.now) self.old.stage self.old.framer (walking (P.rules self.old.walk.page) self.old.walk.framer self.old.walk.place self.old.walk.tally self.old.walk.ended)))) }
+        ensures takes { IfOk result (λ over. Takes
+            (reports_in (opening_of P.fits P.rules_in P.rules self.old)) (reports_in (opening_of P.fits P.rules_in P.rules self.new))
+            (GoesOn (opening_of P.fits P.rules_in P.rules self.new))
+            (P.told self.old.walk.page) (P.told self.new.walk.page) octets.now over) }
+        ensures ready { OnOk result (ReadyIn (opening_of P.fits P.rules_in P.rules self.new)) }
+        ensures room { OnOk result (room_in (opening_of P.fits P.rules_in P.rules self.old)
+            ≤ room_in (opening_of P.fits P.rules_in P.rules self.new) + length octets.now) }
+        ensures memory { OnErr result (IsTotal (reports_in (opening_of P.fits P.rules_in P.rules self.old))) }
     {
         let taken = self.framer.feed(octets);
         self.settle()?;
@@ -147,12 +154,11 @@ impl<P: Page> Opening<'_, P> {
 
 impl<P: Page> Engine for Opening<'_, P> {
     ghost use Rattle.std.specs.Prelude.{◌≡◌};
-    ghost use Rattle.bgp_engine.specs.steps.Opening.{Opening, GoesOn, ReadyIn, opening, reports_in, room_in, terms_of};
-    ghost use Rattle.bgp_engine.specs.steps.Walking.{walking};
+    ghost use Rattle.bgp_engine.specs.steps.Opening.{Opening, GoesOn, ReadyIn, opening_of, reports_in, room_in};
 
     ghost State = { Opening P.Outcome };
 
-    ghost state = { λ o. opening (terms_of P.fits P.rules_in o.theirs.now) o.stage o.framer (walking (P.rules o.walk.page) o.walk.framer o.walk.place o.walk.tally o.walk.ended) };
+    ghost state = { λ o. opening_of P.fits P.rules_in P.rules o };
 
     ghost told = { λ o. P.told o.walk.page };
 

@@ -1,10 +1,11 @@
 //! The engine `show`.
 
-ghost use Rattle.std.specs.Prelude.{◌≡◌, ◌+◌, ◌≤◌, [], length, IfOk};
+ghost use Rattle.std.specs.Prelude.{◌≡◌, ◌+◌, ◌++◌, length, IfOk, OnOk};
 ghost use Rattle.std.specs.String.{string_bytes};
 ghost use Rattle.bgp_frame.specs.Kind.{IsLength};
 ghost use Rattle.bgp_frame.specs.Step.{message_in};
-ghost use Rattle.bgp_msg.specs.Outcome.{out_of};
+ghost use Rattle.bgp_msg.specs.Outcome.{of_fault, out_of};
+ghost use Rattle.bgp_text.specs.Outcome.{outcome_lines};
 ghost use Rattle.bgp_engine.specs.Run.{Answers, io};
 ghost use Rattle.bgp_engine.specs.steps.PageSteps.{WritesOutcome};
 ghost use Rattle.bgp_engine.specs.Show.{Shown};
@@ -15,9 +16,9 @@ use crate::page::Page;
 use crate::tally::Tally;
 use crate::walk::walk_stream;
 use bgp_frame::{Frame, HeadFault};
-use bgp_msg::{Outcome, view_frame};
+use bgp_msg::{OutcomeView, view_frame};
 use bgp_open::Context;
-use bgp_text::{put_end, put_outcome, put_viewed_outcome};
+use bgp_text::{put_end, put_viewed_outcome};
 use bgp_update::UpdateView;
 use std::alloc::{AllocError, Global};
 use std::io::{Read, Write};
@@ -38,6 +39,19 @@ fn put_frame(
     let outcome = view_frame(ctx, frame, &mut view);
     put_viewed_outcome(alloc, text, place, len, &outcome)?;
     Ok(class_of(&outcome))
+}
+
+// Adds the line of a header's fault.
+fn put_fault(
+    alloc: Global,
+    text: &mut String,
+    place: u64,
+    fault: HeadFault,
+) -> Result<(), AllocError>
+    ensures { OnOk result (string_bytes text.new ≡ string_bytes text.old ++ outcome_lines place 0 (of_fault fault)) }
+{
+    let why = fault.answer();
+    put_viewed_outcome(alloc, text, place, 0, &OutcomeView::Reset(why.view()))
 }
 
 /// The lines of each message.
@@ -74,8 +88,7 @@ impl Page for ShowPage {
     }
 
     fn fault(&mut self, place: u64, fault: HeadFault) -> Result<(), AllocError> {
-        let outcome = Outcome::Reset(fault.notification());
-        put_outcome(self.alloc, &mut self.text, place, 0, &outcome)
+        put_fault(self.alloc, &mut self.text, place, fault)
     }
 
     fn last(&mut self, tally: &Tally) -> Result<(), AllocError> {

@@ -33,7 +33,7 @@ impl<P: Page> Walk<P> {
     ghost use Rattle.bgp_engine.specs.steps.Pages.{WritesFault};
     ghost use Rattle.bgp_engine.specs.Rules.{counted};
     ghost use Rattle.bgp_engine.specs.Tally.{no_tally};
-    ghost use Rattle.bgp_engine.specs.steps.Walking.{Walking, IsCounting, IsGoing, Moves, place_behind, ended_by, reports_of, walking};
+    ghost use Rattle.bgp_engine.specs.steps.Walking.{Walking, IsCounting, IsGoing, Moves, place_behind, ended_by, reports_of, walk_of};
     ghost use Rattle.bgp_frame.specs.Frame.{Waits};
     ghost use Rattle.bgp_engine.specs.steps.Engine.{Closes};
     ghost use Rattle.bgp_engine.specs.Report.{IsOver};
@@ -96,14 +96,13 @@ impl<P: Page> Walk<P> {
 
     // Judges what is held, or what octets begin with where nothing is held. Answers how many of the octets it took.
     fn judge(&mut self, octets: &[u8]) -> Result<usize, AllocError>
-        requires counting { IsCounting (walking (P.rules self.old.page) self.old.framer self.old.place self.old.tally self.old.ended) }
+        requires counting { IsCounting (walk_of P.rules self.old) }
         requires room { self.old.place + length self.old.framer + length octets.now ≤ 2 ^ 60 }
         ensures within { IfOk result (λ n. n ≤ length octets.now) }
         // Where it takes none and what is held waits, nothing was judged.
         ensures open { IfOk result (λ n. n ≡ 0 → Waits self.old.framer → self.new.ended ≡ None) }
         ensures moves { IfOk result (λ n. Moves
-            (walking (P.rules self.old.page) self.old.framer self.old.place self.old.tally self.old.ended)
-            (walking (P.rules self.new.page) self.new.framer self.new.place self.new.tally self.new.ended)
+            (walk_of P.rules self.old) (walk_of P.rules self.new)
             (P.told self.old.page) (P.told self.new.page) octets.now (drop n octets.now)) }
     {
         match self.framer.look(octets) {
@@ -124,14 +123,13 @@ impl<P: Page> Walk<P> {
 
     // Takes octets up to the end of a message, which is judged where it stands if it is whole there. Answers how many it took.
     fn step(&mut self, octets: &[u8]) -> Result<usize, AllocError>
-        requires going { IsGoing (walking (P.rules self.old.page) self.old.framer self.old.place self.old.tally self.old.ended) }
+        requires going { IsGoing (walk_of P.rules self.old) }
         requires some { 0 < length octets.now }
         requires room { self.old.place + length self.old.framer + length octets.now ≤ 2 ^ 60 }
         ensures within { IfOk result (λ n. n ≤ length octets.now) }
         ensures some { IfOk result (λ n. 0 < n) }
         ensures moves { IfOk result (λ n. Moves
-            (walking (P.rules self.old.page) self.old.framer self.old.place self.old.tally self.old.ended)
-            (walking (P.rules self.new.page) self.new.framer self.new.place self.new.tally self.new.ended)
+            (walk_of P.rules self.old) (walk_of P.rules self.new)
             (P.told self.old.page) (P.told self.new.page) octets.now (drop n octets.now)) }
     {
         let judged = self.judge(octets)?;
@@ -147,7 +145,7 @@ impl<P: Page> Walk<P> {
     fn close(&mut self, end: End) -> Result<Tally, ToolFault>
         requires ended { self.old.ended ≡ Some end }
         requires over { IsOver end }
-        ensures { Closes (reports_of (walking (P.rules self.old.page) self.old.framer self.old.place self.old.tally self.old.ended)) (P.told self.old.page) (P.told self.new.page) result }
+        ensures { Closes (reports_of (walk_of P.rules self.old)) (P.told self.old.page) (P.told self.new.page) result }
     {
         let tally = Tally { end, ..self.tally };
         self.page.last(&tally)?;
@@ -158,7 +156,7 @@ impl<P: Page> Walk<P> {
     fn close_waiting(&mut self) -> Result<Tally, ToolFault>
         requires ended { self.old.ended ≡ None }
         requires waits { Waits self.old.framer }
-        ensures { Closes (reports_of (walking (P.rules self.old.page) self.old.framer self.old.place self.old.tally self.old.ended)) (P.told self.old.page) (P.told self.new.page) result }
+        ensures { Closes (reports_of (walk_of P.rules self.old)) (P.told self.old.page) (P.told self.new.page) result }
     {
         let end = End::Wait(self.framer.held() as u16);
         let tally = Tally { end, ..self.tally };
@@ -170,11 +168,11 @@ impl<P: Page> Walk<P> {
 
 impl<P: Page> Engine for Walk<P> {
     ghost use Rattle.std.specs.Prelude.{◌≡◌, ◌+◌, ◌≤◌, [], None, length, IfOk, OnOk, OnErr};
-    ghost use Rattle.bgp_engine.specs.steps.Walking.{Walking, IsGoing, IsReady, reports_of, room_of, walking};
+    ghost use Rattle.bgp_engine.specs.steps.Walking.{Walking, IsGoing, IsReady, reports_of, room_of, walk_of};
 
     ghost State = { Walking P.Outcome };
 
-    ghost state = { λ w. walking (P.rules w.page) w.framer w.place w.tally w.ended };
+    ghost state = { λ w. walk_of P.rules w };
 
     ghost told = { λ w. P.told w.page };
 

@@ -4,13 +4,14 @@ use Rattle.bgp_wire.specs.Octets.{AreOctets}
 use Rattle.bgp_frame.specs.declared.end.End.TheVariants as end
 use Rattle.bgp_frame.specs.Frame.{Waits}
 use Rattle.bgp_open.specs.declared.context.Context.{Context}
+use Rattle.bgp_engine.specs.declared.opening.Opening as code
 use Rattle.bgp_engine.specs.declared.opening.Stage.{Stage}
 use Rattle.bgp_engine.specs.declared.opening.Stage.TheVariants as stage
 use Rattle.bgp_engine.specs.Opens.{ReportedBy, fit_of, unagreed}
 use Rattle.bgp_engine.specs.Report.{Report}
 use Rattle.bgp_engine.specs.Rules.{Rules, IsReport}
 use Rattle.bgp_engine.specs.Tally.{no_tally}
-use Rattle.bgp_engine.specs.steps.Walking.{Walking, IsGoing, IsReady, reports_of, room_of, walking}
+use Rattle.bgp_engine.specs.steps.Walking.{Walking, IsGoing, IsReady, reports_of, room_of, walk_of, walking}
 
 -- which contexts a page can be written in, what it is written by in each, and the octets of the other direction
 pub record Terms (Outcome : Type 0) : Type 0 where
@@ -31,6 +32,10 @@ module _ {Outcome : Type 0} where
 
   abbrev pub opening : Terms Outcome → Stage → List ℕ → Walking Outcome → Opening Outcome
   opening terms stage held walk = record { terms = terms; stage = stage; held = held; walk = walk }
+
+  -- one whose page is written by these rules, in a context that fits by those
+  abbrev pub opening_of : {P : Type 0} → (Context → Bool) → (Context → Rules Outcome) → (P → Rules Outcome) → code.Opening P → Opening Outcome
+  opening_of fits rules_in rules o = opening (terms_of fits rules_in o.theirs.now) o.stage o.framer (walk_of rules o.walk)
 
   -- what is reported of a whole stream
   abbrev pub reports_for : Terms Outcome → List ℕ → Report → Type 0

@@ -7,6 +7,7 @@ use Rattle.bgp_frame.specs.Frame.{Waits}
 use Rattle.bgp_engine.specs.declared.class.Class.{Class}
 use Rattle.bgp_engine.specs.declared.class.Class.TheVariants as class
 use Rattle.bgp_engine.specs.declared.tally.Tally.{Tally}
+use Rattle.bgp_engine.specs.declared.walk.Walk.{Walk}
 use Rattle.bgp_engine.specs.Report.{Report, behind, IsOver}
 use Rattle.bgp_engine.specs.Rules.{Rules, IsReport, report_of}
 
@@ -42,6 +43,10 @@ room_by (Some e) n = 2 ^ 60
 module _ {Outcome : Type 0} where
   abbrev pub walking : Rules Outcome → List ℕ → ℕ → Tally → Option End → Walking Outcome
   walking rules held place tally ended = record { rules = rules; held = held; place = place; tally = tally; ended = ended }
+
+  -- a walk whose page is written by these rules
+  abbrev pub walk_of : {P : Type 0} → (P → Rules Outcome) → Walk P → Walking Outcome
+  walk_of rules w = walking (rules w.page) w.framer w.place w.tally w.ended
 
   -- nothing more is written of a stream that has ended, but for the last
   abbrev pub closing : Rules Outcome → ℕ → Tally → End → Report

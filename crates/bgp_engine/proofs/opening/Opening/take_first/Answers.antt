@@ -5,7 +5,7 @@ use Rattle.bgp_engine.specs.declared.opening.Stage.{Stage}
 use Rattle.bgp_engine.specs.declared.opening.Stage.TheVariants as stage
 use Rattle.bgp_engine.specs.steps.Engine.{IsTotal, Takes}
 use Rattle.bgp_engine.specs.steps.Opening.{SettlesAt, opening, reports_in, terms_of}
-use Rattle.bgp_engine.specs.steps.Walking.{IsGoing, reports_of, walking}
+use Rattle.bgp_engine.specs.steps.Walking.{IsGoing, reports_of, walk_of}
 use Rattle.bgp_engine.proofs.Openings.{on_err, some_reported, takes_agreed, takes_part, takes_unagreed}
 use Rattle.bgp_engine.proofs.opening.Opening.take_first.Goals as goal
 
@@ -22,7 +22,7 @@ returns-in-Agreed-clause-memory g c =
     let w = self.walk in
     let t = terms_of g.P.Page.fits g.P.Page.rules_in self.theirs.now in
     rw c.requires.stage
-    (on_err c.walk_on.result (IsTotal (reports_in (opening t stage.First self.framer (walking (g.P.Page.rules w.page) w.framer w.place w.tally w.ended))))
+    (on_err c.walk_on.result (IsTotal (reports_in (opening t stage.First self.framer (walk_of g.P.Page.rules w))))
     (λ later octets. some_reported t (self.framer ++ later) (AreOctets-append self.framer later c.requires.first.octets octets)))
 
 pub returns-in-First-clause-takes : goal.returns-in-First-clause-takes
@@ -33,8 +33,8 @@ returns-in-First-clause-takes g c =
     let a = self.walk in
     let b = c.settle.new.self.walk in
     let t = terms_of g.P.Page.fits g.P.Page.rules_in self.theirs.now in
-    let w0 = walking (rules a.page) a.framer a.place a.tally a.ended in
-    let w1 = walking (rules b.page) b.framer b.place b.tally b.ended in
+    let w0 = walk_of rules a in
+    let w1 = walk_of rules b in
     let settled = subst (λ (x : List ℕ). SettlesAt stage.First (opening t stage.First x w1)) c.feed-taken.ensures.appends
     (subst (λ (s : Stage). SettlesAt s (opening t s c.feed-taken.new.self w1)) c.in-First.is c.in_ok-settle.ensures.settles) in
     rw (c.requires.stage, c.in-First.is, c.settle.ensures.theirs, c.settle.ensures.held, c.feed-taken.ensures.appends)
@@ -48,8 +48,8 @@ returns-in-Unagreed-clause-takes g c =
     let a = self.walk in
     let b = c.settle.new.self.walk in
     let t = terms_of g.P.Page.fits g.P.Page.rules_in self.theirs.now in
-    let w0 = walking (rules a.page) a.framer a.place a.tally a.ended in
-    let w1 = walking (rules b.page) b.framer b.place b.tally b.ended in
+    let w0 = walk_of rules a in
+    let w1 = walk_of rules b in
     let settled = subst (λ (x : List ℕ). SettlesAt stage.Unagreed (opening t stage.Unagreed x w1)) c.feed-taken.ensures.appends
     (subst (λ (s : Stage). SettlesAt s (opening t s c.feed-taken.new.self w1)) c.in-Unagreed.is c.in_ok-settle.ensures.settles) in
     rw (c.requires.stage, c.in-Unagreed.is, c.settle.ensures.theirs, c.settle.ensures.held, c.feed-taken.ensures.appends)
@@ -64,9 +64,9 @@ returns-in-Agreed-clause-takes g c =
     let b = c.settle.new.self.walk in
     let d = c.walk_on.new.self.walk in
     let t = terms_of g.P.Page.fits g.P.Page.rules_in self.theirs.now in
-    let w0 = walking (rules a.page) a.framer a.place a.tally a.ended in
-    let w1 = walking (rules b.page) b.framer b.place b.tally b.ended in
-    let w2 = walking (rules d.page) d.framer d.place d.tally d.ended in
+    let w0 = walk_of rules a in
+    let w1 = walk_of rules b in
+    let w2 = walk_of rules d in
     let settled = subst (λ (x : List ℕ). SettlesAt stage.Agreed (opening t stage.Agreed x w1)) c.feed-taken.ensures.appends
     (subst (λ (s : Stage). SettlesAt s (opening t s c.feed-taken.new.self w1)) c.in-Agreed.is c.in_ok-settle.ensures.settles) in
     let fed = self.framer ++ take c.feed-taken.result c.args.octets.now in

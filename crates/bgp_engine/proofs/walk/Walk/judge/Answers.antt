@@ -1,12 +1,12 @@
 use Rattle.std.proofs.Common.{inl, inr}
-use Rattle.bgp_engine.specs.steps.Walking.{walking}
+use Rattle.bgp_engine.specs.steps.Walking.{walk_of}
 use Rattle.bgp_engine.proofs.Walks.{Moves-none, Moves-pulled, Moves-pulled-fault, not_waiting}
 use Rattle.bgp_engine.proofs.walk.Walk.judge.Goals as goal
 
 pub returns-in-Feed-clause-moves : goal.returns-in-Feed-clause-moves
 returns-in-Feed-clause-moves g c =
     let w = c.args.self.now in
-    Moves-none (walking (g.P.Page.rules w.page) w.framer w.place w.tally w.ended) (g.P.Page.told w.page) c.args.octets.now (record { counting = c.requires.counting; waits = c.in-Feed.ensures.waits })
+    Moves-none (walk_of g.P.Page.rules w) (g.P.Page.told w.page) c.args.octets.now (record { counting = c.requires.counting; waits = c.in-Feed.ensures.waits })
 
 pub returns-in_ok-class-in-Frame-clause-open : goal.returns-in_ok-class-in-Frame-clause-open
 returns-in_ok-class-in-Frame-clause-open g c none waits =
@@ -15,7 +15,7 @@ returns-in_ok-class-in-Frame-clause-open g c none waits =
 pub returns-in_ok-class-in-Frame-clause-moves : goal.returns-in_ok-class-in-Frame-clause-moves
 returns-in_ok-class-in-Frame-clause-moves g c =
     let w = c.args.self.now in
-    let old = walking (g.P.Page.rules w.page) w.framer w.place w.tally w.ended in
+    let old = walk_of g.P.Page.rules w in
     rw (c.count.ensures, c.clear.ensures, c.message.ensures.rules)
     (Moves-pulled old c.args.octets.now (g.P.Page.told w.page) (g.P.Page.told c.message.new.self) c.in-Frame.taken c.requires.counting c.in-Frame.frame c.in_ok-class-in-Frame.class c.in-Frame.ensures c.requires.room c.in_ok-class-in-Frame.ensures.writes)
 
@@ -27,6 +27,6 @@ returns-in_ok-fault-in-Fault-clause-open g c none waits =
 pub returns-in_ok-fault-in-Fault-clause-moves : goal.returns-in_ok-fault-in-Fault-clause-moves
 returns-in_ok-fault-in-Fault-clause-moves g c =
     let w = c.args.self.now in
-    let old = walking (g.P.Page.rules w.page) w.framer w.place w.tally w.ended in
+    let old = walk_of g.P.Page.rules w in
     rw (c.in_ok-fault-in-Fault.ensures.ok, c.fault.ensures.rules)
     (Moves-pulled-fault old c.args.octets.now (g.P.Page.told w.page) (g.P.Page.told c.fault.new.self.page) c.in-Fault.taken c.requires.counting c.in-Fault.fault c.in-Fault.ensures c.in_ok-fault-in-Fault.ensures.writes)

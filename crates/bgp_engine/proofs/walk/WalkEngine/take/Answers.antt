@@ -2,21 +2,21 @@ use Rattle.std.proofs.Common.{◌∙◌, ℕ, length, drop, List, sym, subst}
 use Rattle.std.proofs.lemmas.Result.{err_from_is_err_and}
 use Rattle.std.proofs.lemmas.List.{nil_from_length}
 use Rattle.std.proofs.lemmas.Bool.{eqb-true}
-use Rattle.bgp_engine.specs.steps.Walking.{Moves, walking}
+use Rattle.bgp_engine.specs.steps.Walking.{Moves, walk_of}
 use Rattle.bgp_engine.proofs.Walks.{Moves-none, Moves-more, fits_in, some_end, room_over, room_on, takes_on, takes_over, walk_total}
 use Rattle.bgp_engine.proofs.walk.WalkEngine.take.Goals as goal
 
 pub stream-init : goal.stream-init
 stream-init g c =
     let w = c.args.self.now in
-    let old = walking (g.P.Page.rules w.page) w.framer w.place w.tally w.ended in
+    let old = walk_of g.P.Page.rules w in
     record { moves = Moves-none old (g.P.Page.told w.page) c.args.octets.now c.requires.going; going = c.requires.going; room = fits_in old (length c.args.octets.now) c.requires.going c.requires.room }
 
 pub returns-in_err-taken-clause-memory : goal.returns-in_err-taken-clause-memory
 returns-in_err-taken-clause-memory g c =
     let w = c.args.self.now in
     let p = err_from_is_err_and c.from_residual.result c.from_residual.ensures.1 in
-    rw p.1 (walk_total (walking (g.P.Page.rules w.page) w.framer w.place w.tally w.ended) c.requires.going.counting)
+    rw p.1 (walk_total (walk_of g.P.Page.rules w) c.requires.going.counting)
 
 pub returns-then-is_some-clause-takes : goal.returns-then-is_some-clause-takes
 returns-then-is_some-clause-takes g c =
@@ -25,9 +25,9 @@ returns-then-is_some-clause-takes g c =
     let n = c.step.new.self in
     let rules = g.P.Page.rules in
     let told = g.P.Page.told in
-    let old = walking (rules w.page) w.framer w.place w.tally w.ended in
-    let mid = walking (rules m.page) m.framer m.place m.tally m.ended in
-    let new = walking (rules n.page) n.framer n.place n.tally n.ended in
+    let old = walk_of rules w in
+    let mid = walk_of rules m in
+    let new = walk_of rules n in
     let e = some_end n.ended (sym c.is_some.ensures ∙ c.if-is_some.true) in
     let rest = drop c.in_ok-taken.taken c.stream.rest.now in
     takes_over old new (told w.page) (told n.page) c.args.octets.now rest e.0 e.1
@@ -39,7 +39,7 @@ returns-then-is_some-clause-room g c =
     let n = c.step.new.self in
     let rules = g.P.Page.rules in
     let e = some_end n.ended (sym c.is_some.ensures ∙ c.if-is_some.true) in
-    room_over (walking (rules w.page) w.framer w.place w.tally w.ended) (walking (rules n.page) n.framer n.place n.tally n.ended) (length c.args.octets.now) e.0 e.1
+    room_over (walk_of rules w) (walk_of rules n) (length c.args.octets.now) e.0 e.1
 
 pub returns-clause-takes : goal.returns-clause-takes
 returns-clause-takes g c =
@@ -47,8 +47,8 @@ returns-clause-takes g c =
     let m = c.stream.self in
     let rules = g.P.Page.rules in
     let told = g.P.Page.told in
-    let old = walking (rules w.page) w.framer w.place w.tally w.ended in
-    let mid = walking (rules m.page) m.framer m.place m.tally m.ended in
+    let old = walk_of rules w in
+    let mid = walk_of rules m in
     takes_on old mid (told w.page) (told m.page) c.args.octets.now (subst (λ (x : List ℕ). Moves old mid (told w.page) (told m.page) c.args.octets.now x) (nil_from_length c.stream.rest.now (eqb-true (length c.stream.rest.now) 0 (sym c.is_empty.ensures ∙ c.stream-test.false))) c.stream.invariant.moves) c.stream.invariant.going
 
 pub returns-clause-room : goal.returns-clause-room
@@ -57,6 +57,6 @@ returns-clause-room g c =
     let m = c.stream.self in
     let rules = g.P.Page.rules in
     let told = g.P.Page.told in
-    let old = walking (rules w.page) w.framer w.place w.tally w.ended in
-    let mid = walking (rules m.page) m.framer m.place m.tally m.ended in
+    let old = walk_of rules w in
+    let mid = walk_of rules m in
     room_on old mid (told w.page) (told m.page) c.args.octets.now c.requires.going c.stream.invariant.going (subst (λ (x : List ℕ). Moves old mid (told w.page) (told m.page) c.args.octets.now x) (nil_from_length c.stream.rest.now (eqb-true (length c.stream.rest.now) 0 (sym c.is_empty.ensures ∙ c.stream-test.false))) c.stream.invariant.moves)

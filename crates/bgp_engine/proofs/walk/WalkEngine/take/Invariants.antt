@@ -1,5 +1,5 @@
 use Rattle.std.proofs.Common.{◌+◌, ◌≤◌, ◌^◌, length}
-use Rattle.bgp_engine.specs.steps.Walking.{IsGoing, Moves, walking}
+use Rattle.bgp_engine.specs.steps.Walking.{IsGoing, Moves, walk_of}
 use Rattle.bgp_engine.proofs.walk.WalkEngine.take.Given as goal
 
 abbrev pub invariant-stream : goal.invariant-stream
@@ -9,8 +9,8 @@ invariant-stream g l =
     let old = l.fn.self in
     let now = l.self in
     record {
-      moves : Moves (walking (rules old.page) old.framer old.place old.tally old.ended) (walking (rules now.page) now.framer now.place now.tally now.ended) (told old.page) (told now.page) l.fn.octets l.rest;
-      going : IsGoing (walking (rules now.page) now.framer now.place now.tally now.ended);
+      moves : Moves (walk_of rules old) (walk_of rules now) (told old.page) (told now.page) l.fn.octets l.rest;
+      going : IsGoing (walk_of rules now);
       room : now.place + length now.framer + length l.rest ≤ 2 ^ 60;
     }
 
