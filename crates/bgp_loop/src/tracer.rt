@@ -9,11 +9,11 @@ ghost use Rattle.bgp_loop.specs.Trace.{nothing_came, with_octets, behind_message
 ghost use Rattle.bgp_loop.specs.steps.Whole.{ShowsWhole};
 
 use bgp_frame::{Frame, HeadFault, Step, front};
-use bgp_msg::{Outcome, view_frame};
+use bgp_msg::{OutcomeView, view_frame};
 use bgp_open::Context;
 use bgp_script::{put_cut, put_event, put_heard, put_move, put_tried, side_name};
 use bgp_session::{Action, Event, Move, Observer, SendFault, Side, State};
-use bgp_text::{put_outcome, put_viewed_outcome};
+use bgp_text::put_viewed_outcome;
 use bgp_update::UpdateView;
 use std::alloc::{AllocError, Global};
 use std::marker::Model;
@@ -136,9 +136,9 @@ fn put_fault(
 ) -> Result<(), AllocError>
     ensures { OnOk result (string_bytes text.new ≡ string_bytes text.old ++ fault_lines side place fault) }
 {
-    let outcome = Outcome::Reset(fault.notification());
+    let why = fault.answer();
     put_side(text, side)?;
-    put_outcome(alloc, text, place, 0, &outcome)
+    put_viewed_outcome(alloc, text, place, 0, &OutcomeView::Reset(why.view()))
 }
 
 // Adds the lines of what came to a side.
