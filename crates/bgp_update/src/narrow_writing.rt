@@ -1,32 +1,94 @@
 //! Writing the attributes that a speaker with AS numbers of two octets is told, from their views.
 
-ghost use Rattle.std.specs.Prelude.{◌≡◌, ◌≤◌, ◌++◌, false, true, length, OnOk, OnErr};
-ghost use Rattle.std.specs.List.{flat_map, AllByRecursion};
+ghost use Rattle.std.specs.Prelude.{◌≡◌, ◌==◌, ◌++◌, false, true, map, OnOk, OnErr};
+ghost use Rattle.std.specs.List.{find, flat_map, AllByRecursion};
+ghost use Rattle.bgp_attr.specs.declared.attr.Attr.TheVariants as attr;
+ghost use Rattle.bgp_attr.specs.AttrView.{opaque_value};
 ghost use Rattle.bgp_attr.specs.steps.Appends.{Extends};
 ghost use Rattle.bgp_attr.specs.Written.{canonical, is_writable};
-ghost use Rattle.bgp_update.specs.Slots.{present, attr_list};
+ghost use Rattle.bgp_update.specs.Slots.{attr_list, present, slot};
 ghost use Rattle.bgp_update.specs.Written.{attributes_octets};
-ghost use Rattle.bgp_update.specs.steps.ToldSlot.{told_value, told_attrs};
+ghost use Rattle.bgp_update.specs.steps.ToldSlot.{told_attrs};
 
 use crate::kept_view::KeptView;
-use crate::told_path::put_narrow_path;
-use crate::told_slot::{Told, told_slot, told_types};
-use bgp_attr::{OpaqueView, write_attr_view};
+use crate::told_path::put_told_path;
+use crate::told_slot::{other, told_types, wide_path};
+use crate::two_octets::{narrow_aggregator, wide_aggregator};
+use bgp_attr::{AttrView, OpaqueView, write_attr_view};
+use bgp_numbers::attribute;
 use bgp_open::Context;
 use std::alloc::AllocError;
 
-/// Adds an attribute, where there is one.
-#[inline(always)]
-fn put_told(ctx: &Context, told: Option<Told<'_>>, out: &mut Vec<u8>) -> Result<(), AllocError>
-    requires narrow { ctx.now.as4 ≡ false }
-    requires writable { AllByRecursion (λ a. is_writable ctx.now a ≡ true) (present told_value told) }
-    ensures ok { OnOk result (out.new.items ≡ out.old.items ++ flat_map (canonical ctx.now) (present told_value told.entry)) }
+/// Adds the attribute of a slot, where there is one.
+macro_rules! put_kept {
+    ($ctx:expr, $out:expr, $slot:expr, $variant:path) => {
+        match $slot {
+            None => Ok(()),
+            Some(value) => write_attr_view($ctx, &$variant(value), $out),
+        }
+    };
+}
+
+/// Adds the attribute of a type that isn't recognised, where there is one.
+#[inline(never)]
+fn put_other(
+    ctx: &Context,
+    others: &[OpaqueView<'_>],
+    kind: u8,
+    out: &mut Vec<u8>,
+) -> Result<(), AllocError>
+    requires { AllByRecursion (λ a. is_writable ctx.now a ≡ true) (present attr.Opaque (find (λ o. o.kind == kind) (map opaque_value others.now))) }
+    ensures ok { OnOk result (out.new.items ≡ out.old.items ++ flat_map (canonical ctx.now) (present attr.Opaque (find (λ o. o.kind == kind) (map opaque_value others.now)))) }
     ensures err { OnErr result (Extends out.old.items out.new.items) }
 {
-    match told {
-        None => Ok(()),
-        Some(Told::Attr(attr)) => write_attr_view(ctx, &attr, out),
-        Some(Told::Path(path)) => put_narrow_path(ctx, path, out),
+    put_kept!(ctx, out, other(others, kind), AttrView::Opaque)
+}
+
+/// Adds the attribute of a type, where one is told.
+#[tactic(auto, unfolding(crate::specs::Slots::slot))]
+#[inline(always)]
+fn put_slot<'a>(
+    ctx: &Context,
+    kept: &KeptView<'a>,
+    others: &[OpaqueView<'a>],
+    kind: u8,
+    out: &mut Vec<u8>,
+) -> Result<(), AllocError>
+    requires narrow { ctx.now.as4 ≡ false }
+    requires writable { AllByRecursion (λ a. is_writable ctx.now a ≡ true) (slot (told_attrs kept.now others.now) kind) }
+    ensures ok { OnOk result (out.new.items ≡ out.old.items ++ flat_map (canonical ctx.now) (slot (told_attrs kept.now others.now) kind)) }
+    ensures err { OnErr result (Extends out.old.items out.new.items) }
+{
+    match kind {
+        attribute::ORIGIN => put_kept!(ctx, out, kept.origin, AttrView::Origin),
+        attribute::AS_PATH => put_told_path(ctx, kept.as_path, out),
+        attribute::NEXT_HOP => put_kept!(ctx, out, kept.next_hop, AttrView::NextHop),
+        attribute::MULTI_EXIT_DISC => put_kept!(ctx, out, kept.med, AttrView::Med),
+        attribute::LOCAL_PREF => put_kept!(ctx, out, kept.local_pref, AttrView::LocalPref),
+        attribute::ATOMIC_AGGREGATE if kept.atomic => write_attr_view(ctx, &AttrView::Atomic, out),
+        attribute::ATOMIC_AGGREGATE => Ok(()),
+        attribute::AGGREGATOR => {
+            put_kept!(
+                ctx,
+                out,
+                narrow_aggregator(kept.aggregator),
+                AttrView::Aggregator
+            )
+        }
+        attribute::COMMUNITIES => put_kept!(ctx, out, kept.communities, AttrView::Communities),
+        attribute::MP_REACH_NLRI => put_kept!(ctx, out, kept.reach, AttrView::MpReach),
+        attribute::MP_UNREACH_NLRI => put_kept!(ctx, out, kept.unreach, AttrView::MpUnreach),
+        attribute::AS4_PATH => put_kept!(ctx, out, wide_path(kept.as_path), AttrView::As4Path),
+        attribute::AS4_AGGREGATOR => {
+            put_kept!(
+                ctx,
+                out,
+                wide_aggregator(kept.aggregator),
+                AttrView::As4Aggregator
+            )
+        }
+        attribute::LARGE_COMMUNITY => put_kept!(ctx, out, kept.large, AttrView::Large),
+        _ => put_other(ctx, others, kind, out),
     }
 }
 
@@ -44,7 +106,7 @@ pub(crate) fn put_told_attrs<'a>(
 {
     let kinds = told_types(others);
     'types: for kind in kinds {
-        put_told(ctx, told_slot(kept, others, *kind), out)?;
+        put_slot(ctx, kept, others, *kind, out)?;
     }
     Ok(())
 }

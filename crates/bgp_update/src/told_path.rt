@@ -1,13 +1,14 @@
 //! AS_PATH for a speaker with AS numbers of two octets, written from its view.
 
-ghost use Rattle.std.specs.Prelude.{◌≡◌, ◌≤◌, ◌++◌, false, true, length, OnOk, OnErr};
-ghost use Rattle.std.specs.List.{flat_map, list_any};
+ghost use Rattle.std.specs.Prelude.{◌≡◌, ◌≤◌, ◌++◌, false, true, length, option_map, OnOk, OnErr};
+ghost use Rattle.std.specs.List.{flat_map, list_any, AllByRecursion};
 ghost use Rattle.bgp_attr.specs.declared.attr.Attr.TheVariants as attr;
 ghost use Rattle.bgp_attr.specs.steps.Appends.{Extends};
 ghost use Rattle.bgp_attr.specs.NumberIter.{as_numbers_left};
 ghost use Rattle.bgp_attr.specs.Numbers.{number_octets};
 ghost use Rattle.bgp_attr.specs.PathView.{path_value, segment_value};
 ghost use Rattle.bgp_attr.specs.Written.{any_number, canonical, is_above_two_octets, is_bad_segment, is_writable, path_octets, segment_code, segment_octets};
+ghost use Rattle.bgp_update.specs.Slots.{present};
 ghost use Rattle.bgp_update.specs.As4.{narrow_number, narrow_path, narrow_segment};
 
 use crate::two_octets::narrow_number;
@@ -93,11 +94,7 @@ fn put_path(path: PathView<'_>, out: &mut Vec<u8>) -> Result<(), AllocError>
 }
 
 /// Adds an AS_PATH; a part of it may stay where an allocation failed.
-pub(crate) fn put_narrow_path(
-    ctx: &Context,
-    path: PathView<'_>,
-    out: &mut Vec<u8>,
-) -> Result<(), AllocError>
+fn put_narrow_path(ctx: &Context, path: PathView<'_>, out: &mut Vec<u8>) -> Result<(), AllocError>
     requires narrow { ctx.now.as4 ≡ false }
     requires writable { is_writable ctx.now (attr.AsPath (narrow_path (path_value path))) ≡ true }
     ensures ok { OnOk result (out.new.items ≡ out.old.items ++ canonical ctx.now (attr.AsPath (narrow_path (path_value path.entry)))) }
@@ -109,4 +106,21 @@ pub(crate) fn put_narrow_path(
     begin_attr(out)?;
     put_path(path, out)?;
     finish_attr(&AttrView::AsPath(path), start, out)
+}
+
+/// Adds an AS_PATH, where there is one; a part of it may stay where an allocation failed.
+pub(crate) fn put_told_path(
+    ctx: &Context,
+    path: Option<PathView<'_>>,
+    out: &mut Vec<u8>,
+) -> Result<(), AllocError>
+    requires narrow { ctx.now.as4 ≡ false }
+    requires writable { AllByRecursion (λ a. is_writable ctx.now a ≡ true) (present attr.AsPath (option_map narrow_path (option_map path_value path))) }
+    ensures ok { OnOk result (out.new.items ≡ out.old.items ++ flat_map (canonical ctx.now) (present attr.AsPath (option_map narrow_path (option_map path_value path.entry)))) }
+    ensures err { OnErr result (Extends out.old.items out.new.items) }
+{
+    match path {
+        None => Ok(()),
+        Some(path) => put_narrow_path(ctx, path, out),
+    }
 }

@@ -1,25 +1,38 @@
-use Rattle.std.proofs.Common.{◌≡◌, ◌<◌, get_or, length, true, refl, sym, subst, List, arith}
+use Rattle.std.proofs.Common.{◌≡◌, ◌<◌, get_or, length, true, refl, sym, subst, List, [], ◌∷◌, arith}
 use Rattle.std.specs.List.{AllByRecursion}
 use Rattle.std.proofs.lemmas.Result.{err_from_is_err_and}
 use Rattle.bgp_attr.specs.declared.attr.Attr.{Attr}
 use Rattle.bgp_attr.specs.Written.{canonical, is_writable}
 use Rattle.bgp_update.specs.Slots.{slot}
 use Rattle.bgp_update.specs.steps.ToldSlot.{told_attrs}
-use Rattle.bgp_update.proofs.SlotSteps.{so_far, all_of_type, written_more}
+use Rattle.bgp_update.proofs.SlotSteps.{so_far, all_of_type, type_written, written_more}
 use Rattle.bgp_update.proofs.narrow_writing.put_told_attrs.Goals as goal
 
-pub put_told-requires-clause-writable : goal.put_told-requires-clause-writable
-put_told-requires-clause-writable c =
+pub put_slot-requires-clause-writable : goal.put_slot-requires-clause-writable
+put_slot-requires-clause-writable c =
     let told = told_attrs c.args.kept.now c.args.others.now in
     let kinds = c.told_types-kinds.result.now in
     let lt : c.types.kind-index < length kinds = omega (arith, c.types-test.true) in
-    let Writable : List Attr → Type 0 = λ xs. AllByRecursion (λ a. is_writable c.args.ctx.now a ≡ true) xs in
-    subst Writable (sym c.told_slot.ensures)
-    (all_of_type (slot told) kinds c.types.kind-index (get_or kinds c.types.kind-index 0) lt refl
-    (λ a. is_writable c.args.ctx.now a ≡ true) (subst Writable (sym (c.told_types-kinds.ensures told refl)) c.requires.writable))
+    all_of_type (slot told) kinds c.types.kind-index (get_or kinds c.types.kind-index 0) lt refl
+    (λ a. is_writable c.args.ctx.now a ≡ true)
+    (subst (λ (xs : List Attr). AllByRecursion (λ a. is_writable c.args.ctx.now a ≡ true) xs) (sym (c.told_types-kinds.ensures told refl)) c.requires.writable)
 
-pub returns-in_err-put_told-clause-err : goal.returns-in_err-put_told-clause-err
-returns-in_err-put_told-clause-err c =
+pub returns-in_err-put_slot-clause-err : goal.returns-in_err-put_slot-clause-err
+returns-in_err-put_slot-clause-err c =
     let told = told_attrs c.args.kept.now c.args.others.now in
     let p = err_from_is_err_and c.from_residual.result c.from_residual.ensures.1 in
-    rw p.1 (written_more (canonical c.args.ctx.now) (λ a. Unit {0}) (so_far (slot told) c.told_types-kinds.result.now c.types.kind-index) c.args.out.now.items c.types.out.items c.put_told.new.out.items c.types.invariant c.in_err-put_told.ensures.err)
+    rw p.1 (written_more (canonical c.args.ctx.now) (λ a. Unit {0}) (so_far (slot told) c.told_types-kinds.result.now c.types.kind-index) c.args.out.now.items c.types.out.items c.put_slot.new.out.items c.types.invariant c.in_err-put_slot.ensures.err)
+
+-- nothing is asked of each
+each : (xs : List Attr) → AllByRecursion (λ (a : Attr). Unit {0}) xs
+each [] = tt
+each (x ∷ xs) = (tt, each xs)
+
+pub types-preserved : goal.types-preserved
+types-preserved c =
+    let told = told_attrs c.args.kept.now c.args.others.now in
+    let kinds = c.told_types-kinds.result.now in
+    let kind = get_or kinds c.types.kind-index 0 in
+    let lt : c.types.kind-index < length kinds = omega (arith, c.types-test.true) in
+    type_written (slot told) kinds c.types.kind-index kind lt refl (canonical c.args.ctx.now) (λ (a : Attr). Unit {0}) c.args.out.now.items c.types.out.items c.types.invariant c.put_slot.new.out.items
+    c.in_ok-put_slot.ensures.ok (each (slot told kind))
