@@ -2,18 +2,17 @@
 
 ghost use Rattle.std.specs.Prelude.{◌≡◌, ◌+◌, ◌≤◌, ◌++◌, ◌↔◌, [], Some, false, length, IsTrue, IsErrOf, OnOk, OnErr};
 ghost use Rattle.bgp_frame.specs.Frame.{IsFrame};
-ghost use Rattle.bgp_frame.specs.Kind.{IsLength};
 ghost use Rattle.bgp_open.specs.Open.{IsOpen};
 ghost use Rattle.bgp_open.specs.Written as opens;
 ghost use Rattle.bgp_update.specs.declared.invalid.Invalid.{Invalid};
 ghost use Rattle.bgp_update.specs.declared.write.WriteFault.TheVariants.{NotValid, TooLong};
 ghost use Rattle.bgp_msg.specs.declared.outcome.Outcome.TheVariants.{Took};
 ghost use Rattle.bgp_msg.specs.Outcome.{out_of};
-ghost use Rattle.bgp_msg.specs.Written.{kind_of, notification_octets, body_of, written, canonical, invalid_open, invalid_of, is_valid, is_too_long};
+ghost use Rattle.bgp_msg.specs.Written.{notification_octets, written, canonical, invalid_open, invalid_of, is_valid, is_too_long};
 
-use crate::header::{give_up, put_header, put_room};
 use crate::message::Message;
-use bgp_frame::Notification;
+use crate::whole::{Body, put_whole};
+use bgp_frame::{Kind, Notification};
 use bgp_open::{Context, Open, WriteOpenFault, write_open};
 use bgp_update::{Invalid, WriteFault, write_update};
 use std::alloc::AllocError;
@@ -67,23 +66,30 @@ fn put_notification(notification: &Notification, out: &mut Vec<u8>) -> Result<()
     written
 }
 
-/// Appends the body of a message.
-fn put_body(ctx: &Context, message: &Message, out: &mut Vec<u8>) -> Result<(), WriteFault>
-    ensures not_valid { (why : Invalid) → IsErrOf result (NotValid why) ↔ (invalid_of ctx.now message.now ≡ Some why) }
-    ensures too_long { IsErrOf result TooLong ↔ (IsTrue (is_valid ctx.now message.now) × IsTrue (is_too_long ctx.now message.now)) }
-    ensures ok { OnOk result (out.new.items ≡ out.old.items ++ body_of ctx.now message.now) }
-    ensures allowed { OnOk result (IsLength (kind_of message.now) (19 + length (body_of ctx.now message.now))) }
-    ensures taken { OnOk result (out_of ctx.now (written ctx.now message.now) ≡ Took message.now []) }
-    ensures err { OnErr result (out.new.items ≡ out.old.items) }
-{
-    match message {
-        Message::Open(open) => put_open(open, out),
-        Message::Update(update) => write_update(ctx, update, out),
-        Message::Notification(notification) => {
-            put_notification(notification, out)?;
-            Ok(())
+impl Body for Message {
+    ghost use Rattle.std.specs.Prelude.{◌≡◌, []};
+    ghost use Rattle.bgp_msg.specs.declared.outcome.Outcome.TheVariants.{Took};
+    ghost use Rattle.bgp_msg.specs.Outcome.{out_of};
+    ghost use Rattle.bgp_msg.specs.Written.{written};
+
+    ghost meant = { λ m. m };
+
+    ghost IsPut = { λ ctx m. out_of ctx (written ctx m) ≡ Took m [] };
+
+    fn body_kind(&self) -> Kind {
+        self.kind()
+    }
+
+    fn put_body(&self, ctx: &Context, out: &mut Vec<u8>) -> Result<(), WriteFault> {
+        match self {
+            Message::Open(open) => put_open(open, out),
+            Message::Update(update) => write_update(ctx, update, out),
+            Message::Notification(notification) => {
+                put_notification(notification, out)?;
+                Ok(())
+            }
+            Message::Keepalive => Ok(()),
         }
-        Message::Keepalive => Ok(()),
     }
 }
 
@@ -101,12 +107,5 @@ pub fn encode(ctx: &Context, message: &Message, out: &mut Vec<u8>) -> Result<(),
     ensures taken { OnOk result (out_of ctx.now (written ctx.now message.now) ≡ Took message.now []) }
     ensures err { OnErr result (out.new.items ≡ out.old.items) }
 {
-    let start = out.len();
-    let has_room = put_room(out);
-    let written = put_body(ctx, message, out);
-    if has_room && written.is_ok() {
-        put_header(message.kind(), start, out);
-        return Ok(());
-    }
-    Err(give_up(written, start, out))
+    put_whole(ctx, message, out)
 }

@@ -15,6 +15,7 @@ mod outcome_view;
 mod seen;
 mod taking;
 mod update_encoding;
+mod whole;
 
 pub use bgp_frame::{End, Frame, Framer, HeadFault, Kind, Pull, Step, front};
 pub use decoder::Decoder;

@@ -1,28 +1,32 @@
 //! Writing an UPDATE that no message holds.
 
-ghost use Rattle.std.specs.Prelude.{◌≡◌, ◌+◌, ◌++◌, ◌↔◌, Some, length, IsTrue, IsErrOf, OnOk, OnErr};
-ghost use Rattle.bgp_frame.specs.Kind.{IsLength};
+ghost use Rattle.std.specs.Prelude.{◌≡◌, ◌++◌, ◌↔◌, Some, IsTrue, IsErrOf, OnOk, OnErr};
 ghost use Rattle.bgp_update.specs.declared.invalid.Invalid.{Invalid};
 ghost use Rattle.bgp_update.specs.declared.write.WriteFault.TheVariants.{NotValid, TooLong};
 ghost use Rattle.bgp_update.specs.Written.{HasUpdateRanges};
 ghost use Rattle.bgp_msg.specs.declared.message.Message.TheVariants as message;
-ghost use Rattle.bgp_msg.specs.Written.{body_of, canonical, invalid_of, is_valid, is_too_long};
+ghost use Rattle.bgp_msg.specs.Written.{canonical, invalid_of, is_valid, is_too_long};
 
-use crate::header::{give_up, put_header, put_room};
+use crate::whole::{Body, put_whole};
 use bgp_frame::Kind;
 use bgp_open::Context;
 use bgp_update::{Invalid, Update, WriteFault, write_update};
 
-/// Appends the body of an UPDATE.
-fn put_update(ctx: &Context, update: &Update, out: &mut Vec<u8>) -> Result<(), WriteFault>
-    ensures not_valid { (why : Invalid) → IsErrOf result (NotValid why) ↔ (invalid_of ctx.now (message.Update update.now) ≡ Some why) }
-    ensures too_long { IsErrOf result TooLong ↔ (IsTrue (is_valid ctx.now (message.Update update.now)) × IsTrue (is_too_long ctx.now (message.Update update.now))) }
-    ensures ok { OnOk result (out.new.items ≡ out.old.items ++ body_of ctx.now (message.Update update.now)) }
-    ensures allowed { OnOk result (IsLength Kind.Update (19 + length (body_of ctx.now (message.Update update.now)))) }
-    ensures ranges { OnOk result (HasUpdateRanges update.now) }
-    ensures err { OnErr result (out.new.items ≡ out.old.items) }
-{
-    write_update(ctx, update, out)
+impl Body for Update {
+    ghost use Rattle.bgp_msg.specs.declared.message.Message.TheVariants as message;
+    ghost use Rattle.bgp_update.specs.Written.{HasUpdateRanges};
+
+    ghost meant = { λ u. message.Update u };
+
+    ghost IsPut = { λ _ u. HasUpdateRanges u };
+
+    fn body_kind(&self) -> Kind {
+        Kind::Update
+    }
+
+    fn put_body(&self, ctx: &Context, out: &mut Vec<u8>) -> Result<(), WriteFault> {
+        write_update(ctx, self, out)
+    }
 }
 
 /// Appends an UPDATE as `encode` does, without a message that holds it.
@@ -37,12 +41,5 @@ pub fn encode_update(ctx: &Context, update: &Update, out: &mut Vec<u8>) -> Resul
     ensures ranges { OnOk result (HasUpdateRanges update.now) }
     ensures err { OnErr result (out.new.items ≡ out.old.items) }
 {
-    let start = out.len();
-    let has_room = put_room(out);
-    let written = put_update(ctx, update, out);
-    if has_room && written.is_ok() {
-        put_header(Kind::Update, start, out);
-        return Ok(());
-    }
-    Err(give_up(written, start, out))
+    put_whole(ctx, update, out)
 }

@@ -1,7 +1,7 @@
 use Rattle.std.proofs.lemmas.Result.{on_ok_weaker}
 use Rattle.bgp_update.specs.declared.invalid.Invalid.TheVariants.{BadOpen}
 use Rattle.bgp_msg.proofs.Encodings.{open_taken, open_fits, open_written, update_written}
-use Rattle.bgp_msg.proofs.encoding.put_body.Goals as goal
+use Rattle.bgp_msg.proofs.encoding.MessageBody.put_body.Goals as goal
 
 pub returns-in-Open-clause-not_valid : goal.returns-in-Open-clause-not_valid
 returns-in-Open-clause-not_valid c = rw c.in-Open.is c.put_open.ensures.not_valid
@@ -17,8 +17,8 @@ pub returns-in-Open-clause-allowed : goal.returns-in-Open-clause-allowed
 returns-in-Open-clause-allowed c =
     rw c.in-Open.is (open_written c.in-Open.open c.put_open.result c.put_open.ensures.spelled (c.put_open.ensures.not_valid BadOpen).1 c.put_open.ensures.short)
 
-pub returns-in-Open-clause-taken : goal.returns-in-Open-clause-taken
-returns-in-Open-clause-taken c = rw c.in-Open.is (on_ok_weaker c.put_open.result (λ spelled. open_taken c.in-Open.open spelled) c.put_open.ensures.spelled)
+pub returns-in-Open-clause-put : goal.returns-in-Open-clause-put
+returns-in-Open-clause-put c = rw c.in-Open.is (on_ok_weaker c.put_open.result (λ spelled. open_taken c.in-Open.open spelled) c.put_open.ensures.spelled)
 
 pub returns-in-Update-clause-not_valid : goal.returns-in-Update-clause-not_valid
 returns-in-Update-clause-not_valid c = rw c.in-Update.is c.write_update.ensures.not_valid

@@ -1,5 +1,0 @@
-use Rattle.bgp_msg.proofs.Encodings.{update_written}
-use Rattle.bgp_msg.proofs.update_encoding.put_update.Goals as goal
-
-pub returns-clause-allowed : goal.returns-clause-allowed
-returns-clause-allowed c = update_written c.args.ctx.now c.args.update.now c.write_update.result (λ why. (c.write_update.ensures.not_valid why).1) c.write_update.ensures.too_long.1
