@@ -1,11 +1,13 @@
 //! Writing the attributes that a speaker with AS numbers of two octets is told, from their views.
 
-ghost use Rattle.std.specs.Prelude.{◌≡◌, ◌==◌, ◌++◌, false, true, map, OnOk, OnErr};
+ghost use Rattle.std.specs.Prelude.{◌≡◌, ◌==◌, ◌++◌, false, true, map, option_map, OnOk, OnErr};
 ghost use Rattle.std.specs.List.{find, flat_map, AllByRecursion};
 ghost use Rattle.bgp_attr.specs.declared.attr.Attr.TheVariants as attr;
 ghost use Rattle.bgp_attr.specs.AttrView.{opaque_value};
+ghost use Rattle.bgp_attr.specs.PathView.{path_value};
 ghost use Rattle.bgp_attr.specs.steps.Appends.{Extends};
 ghost use Rattle.bgp_attr.specs.Written.{canonical, is_writable};
+ghost use Rattle.bgp_update.specs.As4.{wide_path};
 ghost use Rattle.bgp_update.specs.Slots.{attr_list, present, slot};
 ghost use Rattle.bgp_update.specs.Written.{attributes_octets};
 ghost use Rattle.bgp_update.specs.steps.ToldSlot.{told_attrs};
@@ -14,17 +16,17 @@ use crate::kept_view::KeptView;
 use crate::told_path::put_told_path;
 use crate::told_slot::{other, told_types, wide_path};
 use crate::two_octets::{narrow_aggregator, wide_aggregator};
-use bgp_attr::{AttrView, OpaqueView, write_attr_view};
+use bgp_attr::{AttrView, OpaqueView, PathView, write_attr_view};
 use bgp_numbers::attribute;
 use bgp_open::Context;
 use std::alloc::AllocError;
 
 /// Adds the attribute of a slot, where there is one.
 macro_rules! put_kept {
-    ($ctx:expr, $out:expr, $slot:expr, $variant:path) => {
+    ($ctx:expr, $out:expr, $slot:expr, $variant:ident) => {
         match $slot {
             None => Ok(()),
-            Some(value) => write_attr_view($ctx, &$variant(value), $out),
+            Some(value) => write_attr_view($ctx, &AttrView::$variant(value), $out),
         }
     };
 }
@@ -41,7 +43,21 @@ fn put_other(
     ensures ok { OnOk result (out.new.items ≡ out.old.items ++ flat_map (canonical ctx.now) (present attr.Opaque (find (λ o. o.kind == kind) (map opaque_value others.now)))) }
     ensures err { OnErr result (Extends out.old.items out.new.items) }
 {
-    put_kept!(ctx, out, other(others, kind), AttrView::Opaque)
+    put_kept!(ctx, out, other(others, kind), Opaque)
+}
+
+/// Adds AS4_PATH, where a number of the path needs four octets.
+#[inline(always)]
+fn put_wide_path(
+    ctx: &Context,
+    path: Option<PathView<'_>>,
+    out: &mut Vec<u8>,
+) -> Result<(), AllocError>
+    requires { AllByRecursion (λ a. is_writable ctx.now a ≡ true) (present attr.As4Path (wide_path (option_map path_value path))) }
+    ensures ok { OnOk result (out.new.items ≡ out.old.items ++ flat_map (canonical ctx.now) (present attr.As4Path (wide_path (option_map path_value path.entry)))) }
+    ensures err { OnErr result (Extends out.old.items out.new.items) }
+{
+    put_kept!(ctx, out, wide_path(path), As4Path)
 }
 
 /// Adds the attribute of a type, where one is told.
@@ -60,34 +76,24 @@ fn put_slot<'a>(
     ensures err { OnErr result (Extends out.old.items out.new.items) }
 {
     match kind {
-        attribute::ORIGIN => put_kept!(ctx, out, kept.origin, AttrView::Origin),
+        attribute::ORIGIN => put_kept!(ctx, out, kept.origin, Origin),
         attribute::AS_PATH => put_told_path(ctx, kept.as_path, out),
-        attribute::NEXT_HOP => put_kept!(ctx, out, kept.next_hop, AttrView::NextHop),
-        attribute::MULTI_EXIT_DISC => put_kept!(ctx, out, kept.med, AttrView::Med),
-        attribute::LOCAL_PREF => put_kept!(ctx, out, kept.local_pref, AttrView::LocalPref),
+        attribute::NEXT_HOP => put_kept!(ctx, out, kept.next_hop, NextHop),
+        attribute::MULTI_EXIT_DISC => put_kept!(ctx, out, kept.med, Med),
+        attribute::LOCAL_PREF => put_kept!(ctx, out, kept.local_pref, LocalPref),
         attribute::ATOMIC_AGGREGATE if kept.atomic => write_attr_view(ctx, &AttrView::Atomic, out),
         attribute::ATOMIC_AGGREGATE => Ok(()),
         attribute::AGGREGATOR => {
-            put_kept!(
-                ctx,
-                out,
-                narrow_aggregator(kept.aggregator),
-                AttrView::Aggregator
-            )
+            put_kept!(ctx, out, narrow_aggregator(kept.aggregator), Aggregator)
         }
-        attribute::COMMUNITIES => put_kept!(ctx, out, kept.communities, AttrView::Communities),
-        attribute::MP_REACH_NLRI => put_kept!(ctx, out, kept.reach, AttrView::MpReach),
-        attribute::MP_UNREACH_NLRI => put_kept!(ctx, out, kept.unreach, AttrView::MpUnreach),
-        attribute::AS4_PATH => put_kept!(ctx, out, wide_path(kept.as_path), AttrView::As4Path),
+        attribute::COMMUNITIES => put_kept!(ctx, out, kept.communities, Communities),
+        attribute::MP_REACH_NLRI => put_kept!(ctx, out, kept.reach, MpReach),
+        attribute::MP_UNREACH_NLRI => put_kept!(ctx, out, kept.unreach, MpUnreach),
+        attribute::AS4_PATH => put_wide_path(ctx, kept.as_path, out),
         attribute::AS4_AGGREGATOR => {
-            put_kept!(
-                ctx,
-                out,
-                wide_aggregator(kept.aggregator),
-                AttrView::As4Aggregator
-            )
+            put_kept!(ctx, out, wide_aggregator(kept.aggregator), As4Aggregator)
         }
-        attribute::LARGE_COMMUNITY => put_kept!(ctx, out, kept.large, AttrView::Large),
+        attribute::LARGE_COMMUNITY => put_kept!(ctx, out, kept.large, Large),
         _ => put_other(ctx, others, kind, out),
     }
 }
