@@ -2,7 +2,10 @@
 
 ghost use Rattle.std.specs.Prelude.{◌≡◌, ◌≤◌, length, IfOk, OnErr, IsTrue};
 ghost use Rattle.bgp_attr.specs.TlvView.{tlv_value};
-ghost use Rattle.bgp_attr.specs.Judgement.{judgement};
+ghost use Rattle.bgp_attr.specs.Judgement.{judgement, decided, mp_reach_tests, mp_unreach_tests, as4_path_tests};
+ghost use Rattle.bgp_attr.specs.Mp.{mp_reach_of, mp_unreach_of};
+ghost use Rattle.bgp_attr.specs.Value.{as4_path_of};
+ghost use Rattle.bgp_attr.specs.declared.attr.Attr.TheVariants as attr;
 ghost use Rattle.bgp_attr.specs.FoundAttr.{found_attr_value};
 ghost use Rattle.bgp_attr.specs.JudgedView.{judged_value, is_kept};
 
@@ -20,6 +23,32 @@ use crate::why::Why;
 use bgp_numbers::attribute;
 use bgp_open::Context;
 use std::alloc::{AllocError, Global};
+
+// What is judged out of line is told there too: the room for its answer would be cleared for each attribute of a message else.
+#[inline(never)]
+fn put_mp_reach<'a, S: Sink<'a>>(ctx: &Context, tlv: &Tlv<'a>, sink: &mut S)
+    requires { length tlv.now.whole.now ≤ 4075 }
+    ensures { S.puts sink.old (decided (mp_reach_tests ctx.now (tlv_value tlv.now)) (attr.MpReach (mp_reach_of tlv.now.value.now))) sink.new }
+{
+    sink.put(&judge_mp_reach(ctx, tlv));
+}
+
+// As `put_mp_reach`.
+#[inline(never)]
+fn put_mp_unreach<'a, S: Sink<'a>>(ctx: &Context, tlv: &Tlv<'a>, sink: &mut S)
+    requires { length tlv.now.whole.now ≤ 4075 }
+    ensures { S.puts sink.old (decided (mp_unreach_tests ctx.now (tlv_value tlv.now)) (attr.MpUnreach (mp_unreach_of tlv.now.value.now))) sink.new }
+{
+    sink.put(&judge_mp_unreach(ctx, tlv));
+}
+
+// As `put_mp_reach`.
+#[inline(never)]
+fn put_as4_path<'a, S: Sink<'a>>(ctx: &Context, tlv: &Tlv<'a>, sink: &mut S)
+    ensures { S.puts sink.old (decided (as4_path_tests ctx.now (tlv_value tlv.now)) (attr.As4Path (as4_path_of (tlv_value tlv.now)))) sink.new }
+{
+    sink.put(&judge_as4_path(ctx, tlv));
+}
 
 /// Judges the first attribute of its type in a message, without memory: by the first test of its type that applies
 /// (RFC 4271, section 6.3; RFC 7606, sections 3 to 7; RFC 7607). The attribute has at most 4075 octets, as each of a message has.
@@ -40,9 +69,9 @@ pub fn judge_into<'a, S: Sink<'a>>(ctx: &Context, has_nlri: bool, tlv: &Tlv<'a>,
         attribute::ATOMIC_AGGREGATE => sink.put(&judge_atomic(tlv)),
         attribute::AGGREGATOR => sink.put(&judge_aggregator(ctx, tlv)),
         attribute::COMMUNITIES => sink.put(&judge_communities(tlv)),
-        attribute::MP_REACH_NLRI => sink.put(&judge_mp_reach(ctx, tlv)),
-        attribute::MP_UNREACH_NLRI => sink.put(&judge_mp_unreach(ctx, tlv)),
-        attribute::AS4_PATH => sink.put(&judge_as4_path(ctx, tlv)),
+        attribute::MP_REACH_NLRI => put_mp_reach(ctx, tlv, sink),
+        attribute::MP_UNREACH_NLRI => put_mp_unreach(ctx, tlv, sink),
+        attribute::AS4_PATH => put_as4_path(ctx, tlv, sink),
         attribute::AS4_AGGREGATOR => sink.put(&judge_as4_aggregator(ctx, tlv)),
         attribute::LARGE_COMMUNITY => sink.put(&judge_large(tlv)),
         _ => sink.put(&judge_other(tlv)),

@@ -12,7 +12,6 @@ ghost use Rattle.bgp_update.specs.Taken.{kept_of, update_of};
 
 use crate::add_routes::{add_routes, own_routes};
 use crate::attr_iter::AttrIter;
-use crate::attrs::Attrs;
 use crate::body::Body;
 use crate::kept_view::KeptView;
 use crate::mark::MarkIter;
@@ -23,7 +22,7 @@ use crate::others::{others_in, own_others};
 use crate::routes::Routes;
 use crate::summary::Summary;
 use crate::update::Update;
-use bgp_attr::{MpReachView, MpUnreachView, OpaqueView};
+use bgp_attr::{MpReachView, MpUnreachView, Opaque, OpaqueView};
 use bgp_frame::Notification;
 use bgp_open::Context;
 use bgp_prefix::PrefixIter4;
@@ -250,14 +249,12 @@ impl<'a> UpdateView<'a> {
         }
     }
 
-    /// The attributes that are kept, with memory of their own.
-    #[inline(always)]
-    fn own_attrs(&self, alloc: Global) -> Result<Attrs, AllocError>
-        ensures { IfOk result (λ a. a ≡ (update_value self.now).attrs) }
+    /// The attributes that are kept of types that aren't recognised, with memory of their own.
+    fn own_others(&self, alloc: Global) -> Result<List<Opaque>, AllocError>
+        ensures { IfOk result (λ os. os ≡ (update_value self.now).attrs.others) }
     {
         let others = self.others(alloc)?;
-        let owned = own_others(alloc, others.as_slice())?;
-        self.summary.kept.own(alloc, owned)
+        own_others(alloc, others.as_slice())
     }
 
     /// The UPDATE with the attributes that are kept, with memory of its own.
@@ -268,8 +265,9 @@ impl<'a> UpdateView<'a> {
         ensures { IfOk result (λ u. u ≡ update_value self.now) }
     {
         let withdrawn = own_routes(alloc, self.withdrawn())?;
-        let attrs = self.own_attrs(alloc)?;
         let nlri = own_routes(alloc, self.nlri())?;
+        let others = self.own_others(alloc)?;
+        let attrs = self.summary.kept.own(alloc, others)?;
         Ok(Update {
             withdrawn,
             attrs,
