@@ -41,13 +41,6 @@ is_no_row n t = (length t.value == 0) || not (length t.value % n == 0)
 abbrev pub has_bad_prefix : ℕ → List ℕ → Bool
 has_bad_prefix width b = not (length (run_of width b).1 == 0)
 
-abbrev pub is_as_zero : Bool → TlvValue → Bool
-is_as_zero wide t = number_in wide (take (number_width wide) t.value) == 0
-
--- nothing is left of a path whose segments of confederations are dropped
-abbrev pub is_emptied : TlvValue → Bool
-is_emptied t = length (path_of as4_path_form t.value).segments == 0
-
 -- ---- the table
 
 abbrev pub origin_tests : TlvValue → List (Option Refusal)
@@ -88,7 +81,7 @@ abbrev pub aggregator_tests : Bool → TlvValue → List (Option Refusal)
 aggregator_tests wide t =
     when (has_other_flags OptionalTransitive t) (Withdraw why.Flags) ∷
     when (is_not_long (number_width wide + 4) t) (Discard why.Length) ∷
-    when (is_as_zero wide t) (Discard why.AsZero) ∷ []
+    when (number_in wide (take (number_width wide) t.value) == 0) (Discard why.AsZero) ∷ []
 
 abbrev pub communities_tests : TlvValue → List (Option Refusal)
 communities_tests t =
@@ -111,6 +104,7 @@ mp_unreach_tests ctx t =
     when (not (is_in_use ctx (family_of t.value))) (Discard why.Family) ∷
     when (has_bad_prefix (address_width (family_of t.value)) (withdrawn_of t.value)) (reset_with OPTIONAL_ATTRIBUTE t) ∷ []
 
+-- the last: nothing is left where segments of confederations are dropped
 abbrev pub as4_path_tests : Context → TlvValue → List (Option Refusal)
 as4_path_tests ctx t =
     when ctx.as4 (Discard why.FourOctet) ∷
@@ -118,7 +112,7 @@ as4_path_tests ctx t =
     when (not (length t.value % 2 == 0) || is_shorter 6 t) (Discard why.Length) ∷
     option_map (λ fault. Discard fault) (path_fault as4_path_form t.value) ∷
     when (path_has_zero as4_path_form t.value) (Discard why.AsZero) ∷
-    when (is_emptied t) (Discard why.Emptied) ∷ []
+    when (length (path_of as4_path_form t.value).segments == 0) (Discard why.Emptied) ∷ []
 
 abbrev pub as4_aggregator_tests : Context → TlvValue → List (Option Refusal)
 as4_aggregator_tests ctx t =

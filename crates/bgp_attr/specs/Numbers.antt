@@ -3,6 +3,7 @@ use Rattle.std.specs.Prelude.{◌≡◌, ℕ, Bool, true, false, List, [], ◌�
 use Rattle.std.specs.List.{flat_map, list_any}
 use Rattle.std.specs.Int.{w16, w32, to_be_bytes, from_be_bytes}
 use Rattle.bgp_wire.specs.Reader.{pieces}
+use Rattle.bgp_attr.specs.Then.{◌>>=◌}
 
 -- the octets of a number: four where it is wide, else two
 abbrev pub number_width : Bool → ℕ
@@ -46,21 +47,13 @@ pub record IsTriple (triple : List ℕ) (b : List ℕ) : Type 0 where
   pub twelve : length b ≡ 12
   pub numbers : triple ≡ from_be_bytes w32 (take 4 b) ∷ from_be_bytes w32 (take 4 (drop 4 b)) ∷ from_be_bytes w32 (take 4 (drop 8 b)) ∷ []
 
-abbrev pub with_third : ℕ → ℕ → Option (ℕ × List ℕ) → Option (List ℕ × List ℕ)
-with_third x y None = None
-with_third x y (Some third) = Some (x ∷ y ∷ third.0 ∷ [], third.1)
-
-abbrev pub with_second : ℕ → Option (ℕ × List ℕ) → Option (List ℕ × List ℕ)
-with_second x None = None
-with_second x (Some second) = with_third x second.0 (four_at second.1)
-
-abbrev pub with_first : Option (ℕ × List ℕ) → Option (List ℕ × List ℕ)
-with_first None = None
-with_first (Some first) = with_second first.0 (four_at first.1)
-
 -- the three numbers at the front of octets, and what follows them
 unfoldable pub one_triple : List ℕ → Option (List ℕ × List ℕ)
-one_triple b = with_first (four_at b)
+one_triple b = do
+  x ← four_at b
+  y ← four_at x.1
+  z ← four_at y.1
+  Some (x.0 ∷ y.0 ∷ z.0 ∷ [], z.1)
 
 abbrev pub triples_of : List ℕ → List (List ℕ)
 triples_of b = (pieces one_triple b).0

@@ -6,8 +6,9 @@ use Rattle.std.proofs.lemmas.Nat.{from_be_bytes-to_be_bytes_2, be_bytes_2}
 use Rattle.std.proofs.lemmas.List.{length-append, length-take, take_at, drop_at, take-append-drop}
 use Rattle.bgp_wire.specs.Octets.{AreOctets}
 use Rattle.bgp_wire.proofs.OctetLemmas.{AreOctets-front, AreOctets-back}
+use Rattle.bgp_attr.specs.Then.{◌>>=◌}
 use Rattle.bgp_update.specs.Written.{body_octets}
-use Rattle.bgp_update.specs.Parts.{Parts, IsBody, behind_two, with_attributes, with_withdrawn, parts_of}
+use Rattle.bgp_update.specs.Parts.{Parts, IsBody, behind_two, parts_of}
 
 -- ---- a row behind its length in two octets
 
@@ -58,6 +59,17 @@ behind_two-gives (high ∷ []) row back octets e = absurd (found_not (row, back)
 behind_two-gives (high ∷ low ∷ b) row back octets e = gives_at high low b row back (leb (from_be_bytes w16 (high ∷ low ∷ [])) (length b)) octets refl e
 
 -- ---- the parts
+
+-- the parts behind Withdrawn Routes, and behind nothing
+abbrev pub with_attributes : List ℕ → Option (List ℕ × List ℕ) → Option Parts
+with_attributes withdrawn o = do
+  attributes ← o
+  Some (record { withdrawn = withdrawn; attributes = attributes.0; nlri = attributes.1 })
+
+abbrev pub with_withdrawn : Option (List ℕ × List ℕ) → Option Parts
+with_withdrawn o = do
+  withdrawn ← o
+  with_attributes withdrawn.0 (behind_two withdrawn.1)
 
 pub body-parts : (body : List ℕ) (p : Parts) → IsBody p body → parts_of body ≡ Some p
 unfolding parts_of

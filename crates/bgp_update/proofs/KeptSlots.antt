@@ -19,7 +19,8 @@ use Rattle.bgp_attr.specs.Judgement.{is_recognised}
 use Rattle.bgp_attr.specs.Written.{type_of, is_misnamed}
 use Rattle.bgp_attr.proofs.Tables.{◌&◌}
 use Rattle.bgp_wire.specs.OctetSet.{also, none_of_them}
-use Rattle.bgp_update.specs.Taken.{first_in, as_opaque, rising_behind, attrs_of, as_origin, as_as_path, as_next_hop, as_med, as_local_pref, as_aggregator, as_communities, as_mp_reach, as_mp_unreach, as_as4_path, as_as4_aggregator, as_large}
+use Rattle.bgp_update.specs.steps.Others.{as_opaque, rising_behind}
+use Rattle.bgp_update.proofs.AttrSlots.{first_in, as_origin, as_as_path, as_next_hop, as_med, as_local_pref, as_aggregator, as_communities, as_mp_reach, as_mp_unreach, as_as4_path, as_as4_aggregator, as_large, attrs_in}
 use Rattle.bgp_update.specs.Slots.{present, slot, canonical_order, attr_list}
 use Rattle.bgp_update.specs.Written.{has_bad_others, rise}
 use Rattle.bgp_update.proofs.Lists.{all-none, all-append, flat_map-same, all-flat_map}
@@ -68,9 +69,9 @@ atomic-first None = refl
 atomic-first (Some b) = refl
 
 module _ (xs : List Attr) (named : Named xs) (fresh : NoneTwice none_of_them (map type_of xs)) where
-  pub slot-kept : (k : ℕ) → slot (attrs_of xs) k ≡ first_of_type k xs
+  pub slot-kept : (k : ℕ) → slot (attrs_in xs) k ≡ first_of_type k xs
   slot-kept k =
-      by_slot (attrs_of xs) k (λ j ys. ys ≡ first_of_type j xs)
+      by_slot (attrs_in xs) k (λ j ys. ys ≡ first_of_type j xs)
       (slot-first as_origin (λ (o : Origin). attr.Origin o) ORIGIN taken-origin xs named
       & slot-first as_as_path (λ (p : AsPath). attr.AsPath p) AS_PATH taken-as_path xs named
       & slot-first as_next_hop (λ (addr : List ℕ). attr.NextHop addr) NEXT_HOP taken-next_hop xs named
@@ -89,11 +90,11 @@ module _ (xs : List Attr) (named : Named xs) (fresh : NoneTwice none_of_them (ma
       ∙ opaque-first k other xs)
 
   -- the attributes by type, in their order
-  pub kept-list : attr_list (attrs_of xs) ≡ flat_map (λ k. first_of_type k xs) canonical_order
-  kept-list = flat_map-same (slot (attrs_of xs)) (λ k. first_of_type k xs) canonical_order slot-kept
+  pub kept-list : attr_list (attrs_in xs) ≡ flat_map (λ k. first_of_type k xs) canonical_order
+  kept-list = flat_map-same (slot (attrs_in xs)) (λ k. first_of_type k xs) canonical_order slot-kept
 
   -- what holds of each that was kept holds of each of these
-  pub kept-all : (P : Attr → Type 0) → AllByRecursion P xs → AllByRecursion P (attr_list (attrs_of xs))
+  pub kept-all : (P : Attr → Type 0) → AllByRecursion P xs → AllByRecursion P (attr_list (attrs_in xs))
   kept-all P all = subst (λ (ys : List Attr). AllByRecursion P ys) (sym kept-list) (all-flat_map P (λ k. first_of_type k xs) canonical_order (λ k. first-all k xs all))
     where
       first-by : (k : ℕ) (x : Attr) (later : List Attr) (t : Bool) → P x → AllByRecursion P later → AllByRecursion P (cond t (x ∷ []) later)
@@ -104,8 +105,8 @@ module _ (xs : List Attr) (named : Named xs) (fresh : NoneTwice none_of_them (ma
       first-all k [] all = tt
       first-all k (y ∷ ys) all = first-by k y (first_of_type k ys) (eqb (type_of y) k) all.0 (first-all k ys all.1)
 
-  pub kept-none : (test : Attr → Bool) → AllByRecursion (λ x. test x ≡ false) xs → list_any test (attr_list (attrs_of xs)) ≡ false
-  kept-none test all = all-none test (attr_list (attrs_of xs)) (kept-all (λ x. test x ≡ false) all)
+  pub kept-none : (test : Attr → Bool) → AllByRecursion (λ x. test x ≡ false) xs → list_any test (attr_list (attrs_in xs)) ≡ false
+  kept-none test all = all-none test (attr_list (attrs_in xs)) (kept-all (λ x. test x ≡ false) all)
 
   -- the unrecognised ones rise, and are unrecognised
   pub kept-others : has_bad_others (rising_behind [] (flat_map as_opaque xs)) ≡ false

@@ -1,5 +1,6 @@
 pub mod SmallLemmas
 pub mod Options
+pub mod AttrSlots
 pub mod KeptViews
 pub mod Summaries
 pub mod Runs

@@ -28,7 +28,8 @@ use Rattle.bgp_update.specs.declared.verdict.Verdict.TheVariants as verdict
 use Rattle.bgp_update.specs.Parts.{Parts, parts_of, attributes_at, has_nlri}
 use Rattle.bgp_wire.specs.OctetSet.{none_of_them}
 use Rattle.bgp_update.specs.Marks.{Mark, marks_of}
-use Rattle.bgp_update.specs.Taken.{kept_of, attrs_of, update_of, as_origin, as_as_path, as_next_hop}
+use Rattle.bgp_update.specs.Taken.{kept_of, attrs_of, update_of}
+use Rattle.bgp_update.proofs.AttrSlots.{attrs_in, attrs_of-slots, as_origin, as_as_path, as_next_hop}
 use Rattle.bgp_update.specs.Notes.{has_routes, is_reachable, has_type, missing_of, is_missing, missing_note, missing_notes, notes_of}
 use Rattle.bgp_update.specs.Slots.{present, slot, canonical_order, attr_list}
 use Rattle.bgp_update.specs.Verdict.{reset_of_run, reset_of, is_withdrawn, unless_reset, without_reset, verdict_on, of_parts, verdict_of}
@@ -38,7 +39,7 @@ use Rattle.bgp_update.proofs.Bodies.{body-parts, length-body}
 use Rattle.bgp_update.proofs.Lists.{none-all, all-more, all-both, all-flat_map}
 use Rattle.bgp_update.proofs.Rising.{NoneTwice}
 use Rattle.bgp_update.proofs.TypeLemmas.{order-fresh, taken-origin, taken-as_path, taken-next_hop, type-none}
-use Rattle.bgp_update.proofs.SlotLemmas.{slot-at, slot-is, slot-types, list-named, attrs-back}
+use Rattle.bgp_update.proofs.SlotLemmas.{slot-at, slot-is, slot-types, list-named, slots-back}
 use Rattle.bgp_update.proofs.Validity.{IsAccepted, valid-accepted}
 use Rattle.bgp_update.proofs.MarkLemmas.{KeepsAll, keeps-kept, keeps-no_reset, keeps-no_withdrawal, keeps-no_note, IsReady, AreReady, written-tlvs, field-keep, slots-fresh}
 
@@ -238,11 +239,11 @@ module _ (ctx : Context) (u : Update) (ranges : HasUpdateRanges u) (valid : inva
   all-keep : KeepsAll marks xs
   all-keep = field-keep ctx (has_nlri parts) xs are-ready (list-fresh u.attrs)
 
-  list-back : attrs_of xs ≡ u.attrs
-  list-back = attrs-back u.attrs acc.others ranges.others
+  list-back : attrs_in xs ≡ u.attrs
+  list-back = slots-back u.attrs acc.others ranges.others
 
   kept-back : attrs_of (kept_of marks) ≡ u.attrs
-  kept-back = ap attrs_of (keeps-kept marks xs all-keep) ∙ list-back
+  kept-back = ap attrs_of (keeps-kept marks xs all-keep) ∙ attrs_of-slots xs ∙ list-back
 
   reachable-same : is_reachable parts marks ≡ announces u
   reachable-same = ap₂ (λ (x y : Bool). x || y) nlri-same (ap (λ (b : Attrs). has_routes b.mp_reach) kept-back)

@@ -24,7 +24,8 @@ use Rattle.bgp_attr.specs.Table.{entry_of}
 use Rattle.bgp_attr.proofs.Tables.{EachRow, ◌&◌, by_row, entry-other, entry-passes}
 use Rattle.bgp_update.specs.declared.attrs.Attrs.{Attrs}
 use Rattle.bgp_update.specs.Marks.{carries_routes}
-use Rattle.bgp_update.specs.Taken.{first_in, is_atomic, as_opaque, rising_behind, attrs_of, as_origin, as_as_path, as_next_hop, as_med, as_local_pref, as_aggregator, as_communities, as_mp_reach, as_mp_unreach, as_as4_path, as_as4_aggregator, as_large}
+use Rattle.bgp_update.specs.steps.Others.{as_opaque, rising_behind}
+use Rattle.bgp_update.proofs.AttrSlots.{first_in, is_atomic, as_origin, as_as_path, as_next_hop, as_med, as_local_pref, as_aggregator, as_communities, as_mp_reach, as_mp_unreach, as_as4_path, as_as4_aggregator, as_large, attrs_in}
 use Rattle.bgp_update.specs.Slots.{present, slots, slot, types_from, canonical_order, attr_list}
 use Rattle.bgp_update.specs.Written.{has_bad_others, rise}
 use Rattle.bgp_update.proofs.Lists.{find-passes, find-none, none-all, all-none, all-more, all-among, flat_map-all_none, flat_map-same, flat_map-filter, all-flat_map}
@@ -198,8 +199,8 @@ others-back a good small =
     ∙ order-others a.others p.1 rises small)
     ∙ rising-same a.others [] 0 (rise-rises a.others rises) tt
 
-pub attrs-back : (a : Attrs) → has_bad_others a.others ≡ false → AllByRecursion (λ o. o.kind < 256) a.others → attrs_of (attr_list a) ≡ a
-attrs-back a good small = λ i. record {
+pub slots-back : (a : Attrs) → has_bad_others a.others ≡ false → AllByRecursion (λ o. o.kind < 256) a.others → attrs_in (attr_list a) ≡ a
+slots-back a good small = λ i. record {
   origin = field_back a as_origin (λ (o : Origin). attr.Origin o) ORIGIN taken-origin refl (λ v. refl) a.origin (slot-at a ORIGIN) i;
   as_path = field_back a as_as_path (λ (p : AsPath). attr.AsPath p) AS_PATH taken-as_path refl (λ v. refl) a.as_path (slot-at a AS_PATH) i;
   next_hop = field_back a as_next_hop (λ (addr : List ℕ). attr.NextHop addr) NEXT_HOP taken-next_hop refl (λ v. refl) a.next_hop (slot-at a NEXT_HOP) i;

@@ -11,8 +11,9 @@ use Rattle.bgp_update.specs.KeptView.{Kept, kept_behind}
 use Rattle.bgp_update.specs.Marks.{Mark}
 use Rattle.bgp_update.specs.Taken.{kept_by, kept_of}
 use Rattle.bgp_update.specs.Verdict.{reset_by, first_reset, withdraws}
-use Rattle.bgp_update.specs.Summary.{SummaryValue, is_noted, summary_behind}
-use Rattle.bgp_update.proofs.KeptViews.{or_false, none_kept, kept_append}
+use Rattle.bgp_update.specs.Summary.{SummaryValue, is_noted, summary_behind, summary_of}
+use Rattle.bgp_update.proofs.AttrSlots.{or_false}
+use Rattle.bgp_update.proofs.KeptViews.{kept_whole, kept_append}
 use Rattle.bgp_update.proofs.Options.{option_or-assoc, option_or-none}
 
 pub kept_of-cons : (m : Mark) (ms : List Mark) → kept_of (m ∷ ms) ≡ kept_by m.judged ++ kept_of ms
@@ -61,8 +62,12 @@ no_more s = λ i. record {
   reset = option_or-none s.reset i;
   withdraws = or_false s.withdraws i;
   notes = or_false s.notes i;
-  kept = none_kept s.kept i;
+  kept = s.kept;
 }
+
+-- all behind none are those of the whole
+pub summary_whole : (marks : List Mark) → summary_behind (summary_of []) marks ≡ summary_of marks
+summary_whole marks = ap (λ (k : Kept). record (summary_of marks) { kept = k }) (kept_whole (kept_of marks))
 
 pub summary_all : (s all : SummaryValue) (left : List Mark) → left ≡ [] → summary_behind s left ≡ all → s ≡ all
 summary_all s all left none whole = sym (no_more s) ∙ ap (summary_behind s) (sym none) ∙ whole

@@ -29,6 +29,7 @@ use Rattle.bgp_attr.specs.Written.{canonical, run_octets, type_of, is_too_wide, 
 use Rattle.bgp_attr.proofs.Readers.{IsTlv-reads}
 use Rattle.bgp_attr.proofs.RouteRows.{prefixes-valid}
 use Rattle.bgp_attr.proofs.TestRows.{Writes, writable-Writes}
+use Rattle.bgp_update.specs.declared.attrs.Attrs.{Attrs}
 use Rattle.bgp_update.specs.declared.note.Note.{Note}
 use Rattle.bgp_update.specs.declared.update.Update.{Update}
 use Rattle.bgp_update.specs.declared.verdict.Verdict.{Verdict}
@@ -36,7 +37,9 @@ use Rattle.bgp_update.specs.declared.verdict.Verdict.TheVariants as verdict
 use Rattle.bgp_update.specs.Parts.{Parts, IsBody, parts_of, has_nlri}
 use Rattle.bgp_wire.specs.OctetSet.{none_of_them}
 use Rattle.bgp_update.specs.Marks.{Mark, malformed, marks_behind, cut_mark, placed_tlvs, field_marks, marks_of}
-use Rattle.bgp_update.specs.Taken.{kept_of, first_in, as_origin, as_as_path, as_next_hop, as_local_pref, as_mp_reach, as_opaque, attrs_of, update_of}
+use Rattle.bgp_update.specs.Taken.{kept_of, attrs_of, update_of}
+use Rattle.bgp_update.specs.steps.Others.{as_opaque}
+use Rattle.bgp_update.proofs.AttrSlots.{first_in, as_origin, as_as_path, as_next_hop, as_local_pref, attrs_in, attrs_of-slots}
 use Rattle.bgp_update.specs.Notes.{has_routes, is_reachable, has_type, missing_of, is_missing, notes_of, routes_of}
 use Rattle.bgp_update.specs.Slots.{canonical_order, attr_list}
 use Rattle.bgp_update.specs.Verdict.{first_reset, bad_network, reset_of_run, reset_of, withdraws, is_withdrawn, unless_reset, without_reset, of_parts, verdict_of}
@@ -174,14 +177,17 @@ module _ (ctx : Context) (p : Parts) (octets_w : AreOctets p.withdrawn) (octets_
   fresh : NoneTwice none_of_them (map type_of kept)
   fresh = is-kept.fresh
 
+  attrs-are : attrs_of (kept_of (marks_of ctx p)) ≡ attrs_in kept
+  attrs-are = ap attrs_of kept-is ∙ attrs_of-slots kept
+
   abbrev taken : Update
-  taken = record { withdrawn = (run_of 4 p.withdrawn).0; attrs = attrs_of kept; nlri = (run_of 4 p.nlri).0 }
+  taken = record { withdrawn = (run_of 4 p.withdrawn).0; attrs = attrs_in kept; nlri = (run_of 4 p.nlri).0 }
 
   nlri-same : written.has_nlri taken ≡ has_nlri p
   nlri-same = row-some (run_of 4 p.nlri).0 p.nlri row-n
 
   reachable-same : announces taken ≡ is_reachable p (marks_of ctx p)
-  reachable-same = ap₂ (λ (x y : Bool). x || y) nlri-same (ap (λ (xs : List Attr). has_routes (first_in as_mp_reach xs)) (sym kept-is))
+  reachable-same = ap₂ (λ (x y : Bool). x || y) nlri-same (ap (λ (a : Attrs). has_routes a.mp_reach) (sym attrs-are))
 
   has-origin : has_type ORIGIN p ≡ true → is_none (first_in as_origin kept) ≡ false
   has-origin has =
@@ -214,7 +220,7 @@ module _ (ctx : Context) (p : Parts) (octets_w : AreOctets p.withdrawn) (octets_
     next_hop = and-not (is_some (first_in as_next_hop kept)) (written.has_nlri taken) (λ e. nlri-same ∙ hop-needs ctx nlri kept is-kept.ready e);
     local_pref = and-not (is_some (first_in as_local_pref kept)) ctx.internal (pref-needs ctx nlri kept is-kept.ready);
     narrow = kept-none kept named fresh (is_too_wide ctx) (each (λ x. is_too_wide ctx x ≡ false) (λ x w b r. w.narrow));
-    allowed = as4-all ctx.as4 (attr_list (attrs_of kept)) (kept-all kept named fresh (λ x. (ctx.as4 && is_as4 x) ≡ false) (each (λ x. (ctx.as4 && is_as4 x) ≡ false) (λ x w b r. w.allowed)));
+    allowed = as4-all ctx.as4 (attr_list (attrs_in kept)) (kept-all kept named fresh (λ x. (ctx.as4 && is_as4 x) ≡ false) (each (λ x. (ctx.as4 && is_as4 x) ≡ false) (λ x w b r. w.allowed)));
     family = kept-none kept named fresh (is_of_other_family ctx) (each (λ x. is_of_other_family ctx x ≡ false) (λ x w b r. of-family ctx nlri x b));
     some = kept-none kept named fresh is_empty (each (λ x. is_empty x ≡ false) (λ x w b r. w.some));
     others = kept-others kept named fresh;
@@ -232,10 +238,10 @@ module _ (ctx : Context) (p : Parts) (octets_w : AreOctets p.withdrawn) (octets_
         nlri = prefixes-valid 4 (run_of 4 p.nlri).0 p.nlri octets_n row-n;
       }
 
-  attributes-shorter : length (attributes_octets ctx (attrs_of kept)) ≤ length p.attributes
+  attributes-shorter : length (attributes_octets ctx (attrs_in kept)) ≤ length p.attributes
   attributes-shorter =
       let firsts : List Attr = flat_map (λ k. first_of_type k kept) canonical_order in
-      let is : length (attributes_octets ctx (attrs_of kept)) ≡ length (flat_map (canonical ctx) firsts) = ap (λ (xs : List Attr). length (flat_map (canonical ctx) xs)) (kept-list kept named fresh) in
+      let is : length (attributes_octets ctx (attrs_in kept)) ≡ length (flat_map (canonical ctx) firsts) = ap (λ (xs : List Attr). length (flat_map (canonical ctx) xs)) (kept-list kept named fresh) in
       let fewer : length (flat_map (canonical ctx) firsts) ≤ length (flat_map (canonical ctx) kept) = firsts-shorter (canonical ctx) kept canonical_order none_of_them order-fresh in
       let row : length (flat_map (canonical ctx) kept) ≤ length splits.row = is-kept.shorter in
       omega (arith, ap length splits.whole, length-append splits.row (tlvs_of p.attributes).1)
@@ -244,13 +250,13 @@ module _ (ctx : Context) (p : Parts) (octets_w : AreOctets p.withdrawn) (octets_
   no-longer body s =
       let w : length (run_octets (run_of 4 p.withdrawn).0) ≡ length p.withdrawn = (Row-rewritten 4 (run_of 4 p.withdrawn).0 p.withdrawn octets_w row-w).1 in
       let n : length (run_octets (run_of 4 p.nlri).0) ≡ length p.nlri = (Row-rewritten 4 (run_of 4 p.nlri).0 p.nlri octets_n row-n).1 in
-      let to : length (written_body ctx taken) ≡ 4 + (length (run_octets (run_of 4 p.withdrawn).0) + (length (attributes_octets ctx (attrs_of kept)) + length (run_octets (run_of 4 p.nlri).0))) =
-      length-body (run_octets (run_of 4 p.withdrawn).0) (attributes_octets ctx (attrs_of kept)) (run_octets (run_of 4 p.nlri).0) in
+      let to : length (written_body ctx taken) ≡ 4 + (length (run_octets (run_of 4 p.withdrawn).0) + (length (attributes_octets ctx (attrs_in kept)) + length (run_octets (run_of 4 p.nlri).0))) =
+      length-body (run_octets (run_of 4 p.withdrawn).0) (attributes_octets ctx (attrs_in kept)) (run_octets (run_of 4 p.nlri).0) in
       let from : length body ≡ 4 + (length p.withdrawn + (length p.attributes + length p.nlri)) = ap length s.octets ∙ length-body p.withdrawn p.attributes p.nlri in
       omega (arith, to, from, w, n, attributes-shorter)
 
   taken-is : update_of p (marks_of ctx p) ≡ taken
-  taken-is = ap (λ (xs : List Attr). record { withdrawn = (run_of 4 p.withdrawn).0; attrs = attrs_of xs; nlri = (run_of 4 p.nlri).0 }) kept-is
+  taken-is = ap (λ (a : Attrs). record { withdrawn = (run_of 4 p.withdrawn).0; attrs = a; nlri = (run_of 4 p.nlri).0 }) attrs-are
 
   can-be-written : (body : List ℕ) → IsBody p body → CanBeWritten ctx (update_of p (marks_of ctx p)) body
   can-be-written body s =

@@ -17,7 +17,7 @@ use Rattle.bgp_update.specs.declared.note.Note.{Note}
 use Rattle.bgp_update.specs.declared.routes.Routes.{Routes}
 use Rattle.bgp_update.specs.Parts.{Parts, attributes_at, has_nlri}
 use Rattle.bgp_update.specs.Marks.{Mark, placed_tlvs}
-use Rattle.bgp_update.specs.Taken.{kept_of, first_in, as_mp_reach, as_mp_unreach}
+use Rattle.bgp_update.specs.Taken.{kept_of, attrs_of}
 
 -- ---- routes of the multiprotocol attributes
 
@@ -45,7 +45,7 @@ has_routes r = nat_lt 0 (length (reached_ip4 r)) || nat_lt 0 (length (reached_ip
 
 -- the message announces a route
 abbrev pub is_reachable : Parts → List Mark → Bool
-is_reachable p marks = has_nlri p || has_routes (first_in as_mp_reach (kept_of marks))
+is_reachable p marks = has_nlri p || has_routes (attrs_of (kept_of marks)).mp_reach
 
 -- whether an attribute of a type stands in a field, whatever it comes to
 abbrev pub types_of_field : List ℕ → ℕ → Bool
@@ -96,6 +96,6 @@ notes_of p marks = flat_map (mark_notes (attributes_at p)) marks ++ missing_note
 -- all routes of the message, each family in its order
 abbrev pub routes_of : Parts → List Mark → Routes
 routes_of p marks = record {
-  ip4 = (run_of 4 p.withdrawn).0 ++ (gone_ip4 (first_in as_mp_unreach (kept_of marks)) ++ (reached_ip4 (first_in as_mp_reach (kept_of marks)) ++ (run_of 4 p.nlri).0));
-  ip6 = gone_ip6 (first_in as_mp_unreach (kept_of marks)) ++ reached_ip6 (first_in as_mp_reach (kept_of marks));
+  ip4 = (run_of 4 p.withdrawn).0 ++ (gone_ip4 (attrs_of (kept_of marks)).mp_unreach ++ (reached_ip4 (attrs_of (kept_of marks)).mp_reach ++ (run_of 4 p.nlri).0));
+  ip6 = gone_ip6 (attrs_of (kept_of marks)).mp_unreach ++ reached_ip6 (attrs_of (kept_of marks)).mp_reach;
 }

@@ -2,6 +2,7 @@
 -- each length in two octets, and Network Layer Reachability Information up to the end.
 use Rattle.std.specs.Prelude.{◌≡◌, ◌<◌, ◌^◌, ◌+◌, ℕ, Bool, List, [], ◌∷◌, ◌++◌, length, take, drop, Option, None, Some, nat_le, nat_lt, if◌then◌else◌}
 use Rattle.std.specs.Int.{w16, to_be_bytes, from_be_bytes}
+use Rattle.bgp_attr.specs.Then.{◌>>=◌}
 
 pub record Parts : Type 0 where
   pub withdrawn : List ℕ
@@ -23,17 +24,12 @@ behind_two (high ∷ low ∷ b) =
     then Some (take (from_be_bytes w16 (high ∷ low ∷ [])) b, drop (from_be_bytes w16 (high ∷ low ∷ [])) b)
     else None
 
-abbrev pub with_attributes : List ℕ → Option (List ℕ × List ℕ) → Option Parts
-with_attributes withdrawn None = None
-with_attributes withdrawn (Some found) = Some (record { withdrawn = withdrawn; attributes = found.0; nlri = found.1 })
-
-abbrev pub with_withdrawn : Option (List ℕ × List ℕ) → Option Parts
-with_withdrawn None = None
-with_withdrawn (Some found) = with_attributes found.0 (behind_two found.1)
-
 -- the parts of a body, where the lengths leave room for each other
 unfoldable pub parts_of : List ℕ → Option Parts
-parts_of body = with_withdrawn (behind_two body)
+parts_of body = do
+  withdrawn ← behind_two body
+  attributes ← behind_two withdrawn.1
+  Some (record { withdrawn = withdrawn.0; attributes = attributes.0; nlri = attributes.1 })
 
 -- the place of the path attributes in the body
 abbrev pub attributes_at : Parts → ℕ

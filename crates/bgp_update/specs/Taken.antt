@@ -1,21 +1,13 @@
 -- What is taken of a message: for each type the value that was kept.
-use Rattle.std.specs.Prelude.{ℕ, Bool, true, false, List, [], ◌∷◌, nat_lt, Option, None, Some, if◌then◌else◌}
-use Rattle.std.specs.List.{flat_map, list_any}
+use Rattle.std.specs.Prelude.{true, false, List, [], ◌∷◌, nat_lt, None, Some, if◌then◌else◌}
+use Rattle.std.specs.List.{flat_map}
 use Rattle.std.specs.Option.{option_or}
 use Rattle.bgp_prefix.specs.Run.{run_of}
-use Rattle.bgp_attr.specs.declared.aggregator.Aggregator.{Aggregator}
 use Rattle.bgp_attr.specs.declared.attr.Attr.{Attr}
 use Rattle.bgp_attr.specs.declared.attr.Attr.TheVariants as attr
-use Rattle.bgp_attr.specs.declared.communities.Communities.{Communities}
-use Rattle.bgp_attr.specs.declared.communities.LargeCommunities.{LargeCommunities}
 use Rattle.bgp_attr.specs.declared.judged.Judged.{Judged}
 use Rattle.bgp_attr.specs.declared.judged.Judged.TheVariants as judged
-use Rattle.bgp_attr.specs.declared.mp.MpReach.{MpReach}
-use Rattle.bgp_attr.specs.declared.mp.MpUnreach.{MpUnreach}
 use Rattle.bgp_attr.specs.declared.opaque.Opaque.{Opaque}
-use Rattle.bgp_attr.specs.declared.origin.Origin.{Origin}
-use Rattle.bgp_attr.specs.declared.path.As4Path.{As4Path}
-use Rattle.bgp_attr.specs.declared.path.AsPath.{AsPath}
 use Rattle.bgp_update.specs.declared.attrs.Attrs.{Attrs}
 use Rattle.bgp_update.specs.declared.update.Update.{Update}
 use Rattle.bgp_update.specs.Parts.{Parts}
@@ -29,95 +21,55 @@ kept_by _ = []
 abbrev pub kept_of : List Mark → List Attr
 kept_of marks = flat_map (λ m. kept_by m.judged) marks
 
--- the first attribute that a slot takes: no field keeps two of one type
-abbrev pub first_in : {A : Type 0} → (Attr → Option A) → List Attr → Option A
-first_in slot [] = None
-first_in slot (a ∷ later) = option_or (slot a) (first_in slot later)
-
-abbrev pub as_origin : Attr → Option Origin
-as_origin (attr.Origin o) = Some o
-as_origin _ = None
-
-abbrev pub as_as_path : Attr → Option AsPath
-as_as_path (attr.AsPath p) = Some p
-as_as_path _ = None
-
-abbrev pub as_next_hop : Attr → Option (List ℕ)
-as_next_hop (attr.NextHop addr) = Some addr
-as_next_hop _ = None
-
-abbrev pub as_med : Attr → Option ℕ
-as_med (attr.Med n) = Some n
-as_med _ = None
-
-abbrev pub as_local_pref : Attr → Option ℕ
-as_local_pref (attr.LocalPref n) = Some n
-as_local_pref _ = None
-
-abbrev pub is_atomic : Attr → Bool
-is_atomic attr.Atomic = true
-is_atomic _ = false
-
-abbrev pub as_aggregator : Attr → Option Aggregator
-as_aggregator (attr.Aggregator a) = Some a
-as_aggregator _ = None
-
-abbrev pub as_communities : Attr → Option Communities
-as_communities (attr.Communities c) = Some c
-as_communities _ = None
-
-abbrev pub as_mp_reach : Attr → Option MpReach
-as_mp_reach (attr.MpReach r) = Some r
-as_mp_reach _ = None
-
-abbrev pub as_mp_unreach : Attr → Option MpUnreach
-as_mp_unreach (attr.MpUnreach r) = Some r
-as_mp_unreach _ = None
-
-abbrev pub as_as4_path : Attr → Option As4Path
-as_as4_path (attr.As4Path p) = Some p
-as_as4_path _ = None
-
-abbrev pub as_as4_aggregator : Attr → Option Aggregator
-as_as4_aggregator (attr.As4Aggregator a) = Some a
-as_as4_aggregator _ = None
-
-abbrev pub as_large : Attr → Option LargeCommunities
-as_large (attr.Large l) = Some l
-as_large _ = None
-
-abbrev pub as_opaque : Attr → List Opaque
-as_opaque (attr.Opaque o) = o ∷ []
-as_opaque _ = []
-
 -- one more attribute of an unrecognised type, in its place by type
 abbrev pub put_rising : Opaque → List Opaque → List Opaque
 put_rising o [] = o ∷ []
 put_rising o (p ∷ ps) = if nat_lt p.kind o.kind then p ∷ put_rising o ps else o ∷ p ∷ ps
 
--- behind those that are there, each in its place by type
-abbrev pub rising_behind : List Opaque → List Opaque → List Opaque
-rising_behind there [] = there
-rising_behind there (o ∷ os) = rising_behind (put_rising o there) os
+-- no attribute
+abbrev pub no_attrs : Attrs
+no_attrs = record {
+  origin = None;
+  as_path = None;
+  next_hop = None;
+  med = None;
+  local_pref = None;
+  atomic = false;
+  aggregator = None;
+  communities = None;
+  mp_reach = None;
+  mp_unreach = None;
+  as4_path = None;
+  as4_aggregator = None;
+  large = None;
+  others = [];
+}
+
+-- one more attribute, in the slot of its type: the first of a type stands, and no field keeps two
+abbrev pub put : Attrs → Attr → Attrs
+put a (attr.Origin o) = record a { origin = option_or a.origin (Some o) }
+put a (attr.AsPath p) = record a { as_path = option_or a.as_path (Some p) }
+put a (attr.NextHop addr) = record a { next_hop = option_or a.next_hop (Some addr) }
+put a (attr.Med n) = record a { med = option_or a.med (Some n) }
+put a (attr.LocalPref n) = record a { local_pref = option_or a.local_pref (Some n) }
+put a attr.Atomic = record a { atomic = true }
+put a (attr.Aggregator g) = record a { aggregator = option_or a.aggregator (Some g) }
+put a (attr.Communities c) = record a { communities = option_or a.communities (Some c) }
+put a (attr.MpReach r) = record a { mp_reach = option_or a.mp_reach (Some r) }
+put a (attr.MpUnreach r) = record a { mp_unreach = option_or a.mp_unreach (Some r) }
+put a (attr.As4Path p) = record a { as4_path = option_or a.as4_path (Some p) }
+put a (attr.As4Aggregator g) = record a { as4_aggregator = option_or a.as4_aggregator (Some g) }
+put a (attr.Large l) = record a { large = option_or a.large (Some l) }
+put a (attr.Opaque o) = record a { others = put_rising o a.others }
+
+-- more attributes behind those that are there
+abbrev pub put_all : Attrs → List Attr → Attrs
+put_all a [] = a
+put_all a (x ∷ later) = put_all (put a x) later
 
 -- the attributes by type
 abbrev pub attrs_of : List Attr → Attrs
-attrs_of kept = record {
-  origin = first_in as_origin kept;
-  as_path = first_in as_as_path kept;
-  next_hop = first_in as_next_hop kept;
-  med = first_in as_med kept;
-  local_pref = first_in as_local_pref kept;
-  atomic = list_any is_atomic kept;
-  aggregator = first_in as_aggregator kept;
-  communities = first_in as_communities kept;
-  mp_reach = first_in as_mp_reach kept;
-  mp_unreach = first_in as_mp_unreach kept;
-  as4_path = first_in as_as4_path kept;
-  as4_aggregator = first_in as_as4_aggregator kept;
-  large = first_in as_large kept;
-  others = rising_behind [] (flat_map as_opaque kept);
-}
+attrs_of kept = put_all no_attrs kept
 
 -- the message with what was kept of its attributes
 abbrev pub update_of : Parts → List Mark → Update

@@ -1,11 +1,17 @@
-use Rattle.std.proofs.Common.{refl, sym, ◌∙◌}
+use Rattle.std.proofs.Common.{refl, sym, ap₂, ◌∙◌}
 use Rattle.bgp_attr.specs.TlvView.{placed_tlv}
 use Rattle.bgp_update.specs.MarkIter.{marks_left, judged_next}
 use Rattle.bgp_update.specs.Marks.{Mark, field_marks}
 use Rattle.bgp_update.specs.Notes.{types_of_field}
-use Rattle.bgp_update.specs.Summary.{summary_value, summary_of}
-use Rattle.bgp_update.proofs.Summaries.{summary_step}
+use Rattle.bgp_update.specs.Summary.{summary_value, summary_behind, summary_of}
+use Rattle.bgp_update.proofs.Summaries.{summary_step, summary_whole}
 use Rattle.bgp_update.proofs.summary.Summary.sum_up.Goals as goal
+
+pub field-init : goal.field-init
+field-init c = (
+  ap₂ summary_behind c.new.ensures c.new-marks.ensures.marks ∙ summary_whole (field_marks c.args.ctx.now c.args.has_nlri c.args.field.now),
+  c.new-marks.ensures.types,
+)
 
 pub field-preserved : goal.field-preserved
 field-preserved c =

@@ -1,10 +1,16 @@
-use Rattle.std.proofs.Common.{List, [], map, sym, ap, ◌∙◌}
+use Rattle.std.proofs.Common.{◌≡◌, List, [], map, sym, ap, ◌∙◌}
+use Rattle.std.proofs.lemmas.Result.{IfOk-weaker}
+use Rattle.std.specs.List.{flat_map}
+use Rattle.bgp_attr.specs.declared.attr.Attr.{Attr}
 use Rattle.bgp_attr.specs.AttrView.{opaque_value}
 use Rattle.bgp_attr.specs.declared.attr_view.OpaqueView.{OpaqueView}
 use Rattle.bgp_attr.specs.declared.opaque.Opaque.{Opaque}
+use Rattle.bgp_update.specs.Iters.{attrs_left}
 use Rattle.bgp_update.specs.KeptView.{Kept}
-use Rattle.bgp_update.specs.Taken.{kept_of, rising_behind}
+use Rattle.bgp_update.specs.Taken.{kept_of, attrs_of}
+use Rattle.bgp_update.specs.steps.Others.{as_opaque, rising_behind}
 use Rattle.bgp_update.specs.View.{view_marks}
+use Rattle.bgp_update.proofs.AttrSlots.{others_of-slots}
 use Rattle.bgp_update.proofs.Placing.{no_others}
 use Rattle.bgp_update.proofs.view.UpdateView.others.Goals as goal
 
@@ -13,6 +19,12 @@ returns-else-self c =
     let view = c.args.self.now in
     let none = no_others (kept_of (view_marks view)) (sym (ap (λ (k : Kept). k.others) view.keeps) ∙ c.if-self.false) in
     record {
-      value = ap (λ (os : List OpaqueView). map opaque_value os) c.new.ensures ∙ sym (ap (λ (os : List Opaque). rising_behind [] os) none);
+      value = ap (λ (os : List OpaqueView). map opaque_value os) c.new.ensures ∙ sym (others_of-slots (kept_of (view_marks view)) ∙ ap (λ (os : List Opaque). rising_behind [] os) none);
       err = tt;
     }
+
+pub returns-then-self-clause-value : goal.returns-then-self-clause-value
+returns-then-self-clause-value c =
+    let kept = kept_of (view_marks c.args.self.now) in
+    IfOk-weaker c.others_in.result (λ os. map opaque_value os ≡ rising_behind [] (flat_map as_opaque (attrs_left c.attrs.result))) (λ os. map opaque_value os ≡ (attrs_of kept).others)
+    (λ os is. is ∙ ap (λ (xs : List Attr). rising_behind [] (flat_map as_opaque xs)) c.attrs.ensures ∙ sym (others_of-slots kept)) c.others_in.ensures
