@@ -12,7 +12,7 @@ use std::alloc::{AllocError, Global};
 #[derive(Drop)]
 pub(crate) struct Slots<'a> {
     /// Those of recognised types.
-    pub(crate) kept: KeptView<'a>,
+    pub(crate) kept: &'a KeptView<'a>,
     /// Those of types that aren't recognised, rising in type.
     pub(crate) others: List<OpaqueView<'a>>,
 }
@@ -24,12 +24,12 @@ impl<'a> Slots<'a> {
     ///
     /// # Errors
     /// `AllocError` where an allocation failed: only where the type of one isn't recognised.
-    pub(crate) fn of(alloc: Global, view: &UpdateView<'a>) -> Result<Slots<'a>, AllocError>
+    pub(crate) fn of(alloc: Global, view: &'a UpdateView<'a>) -> Result<Slots<'a>, AllocError>
         ensures { IfOk result (λ s. slots_value s ≡ (update_value view.now).attrs) }
     {
         let others = view.others(alloc)?;
         Ok(Slots {
-            kept: *view.kept(),
+            kept: view.kept(),
             others,
         })
     }

@@ -7,4 +7,4 @@ use Rattle.bgp_text.specs.declared.slots.Slots.{Slots}
 
 -- the attributes that they are
 abbrev pub slots_value : Slots → Attrs
-slots_value s = record (known_value s.kept) { others = map opaque_value s.others }
+slots_value s = record (known_value s.kept.now) { others = map opaque_value s.others }
