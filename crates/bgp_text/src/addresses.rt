@@ -9,6 +9,7 @@ use std::alloc::AllocError;
 
 /// Puts an IPv4 address in front of a word.
 #[tactic(auto, using(crate::proofs::Words::address_in_front))]
+#[inline(always)]
 pub(crate) fn put_ip4_address(word: &mut Word, address: [u8; 4])
     requires { length word.old + 43 ≤ 64 }
     ensures value { word.new ≡ ipv4_address_text address ++ word.old }

@@ -13,7 +13,8 @@ use crate::word::Word;
 use bgp_prefix::{Prefix4, Prefix6};
 use std::alloc::AllocError;
 
-/// Adds a label, and a word behind it.
+/// Adds a label, and a word behind it. It is inlined with what calls it, so that a label of a few octets is stored, not copied by a call.
+#[inline(always)]
 fn put_labelled(text: &mut String, label: &str, word: &Word) -> Result<(), AllocError>
     ensures { OnOk result (string_bytes text.new ≡ string_bytes text.old ++ (label.now ++ word.now)) }
 {
@@ -34,6 +35,7 @@ fn length_word(len: u8) -> Word
 }
 
 /// Adds a line of an IPv4 prefix, behind a label.
+#[inline(always)]
 fn put_ip4_line(text: &mut String, label: &str, prefix: Prefix4) -> Result<(), AllocError>
     ensures { OnOk result (string_bytes text.new ≡ string_bytes text.old ++ line_of label.now ipv4_text prefix) }
 {
@@ -52,6 +54,7 @@ fn put_ip6_line(text: &mut String, label: &str, prefix: &Prefix6) -> Result<(), 
 }
 
 /// Adds a line for each IPv4 prefix, behind a label.
+#[inline(always)]
 pub(crate) fn put_ip4_lines<S: Source<Item = Prefix4>>(
     text: &mut String,
     label: &str,

@@ -20,6 +20,7 @@ use bgp_wire::List;
 use std::alloc::{AllocError, Global};
 
 /// A message's offset in the stream, its octets in number, and what it is.
+#[inline(always)]
 pub(crate) fn put_head(
     text: &mut String,
     place: u64,

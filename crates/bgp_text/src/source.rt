@@ -38,6 +38,7 @@ impl<'a, const W: usize> Source for PrefixIter<'a, W> {
 
     ghost left = { prefixes_left };
 
+    #[inline(always)]
     fn step(&mut self) -> Option<Prefix<W>> {
         self.next()
     }
