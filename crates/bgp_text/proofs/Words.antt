@@ -7,6 +7,10 @@ use Rattle.bgp_prefix.specs.Text.{ipv4_address_text, ipv6_address_text, groups_t
 use Rattle.std.proofs.lemmas.Fmt.{length-decimal-le, IsAscii-decimal}
 use Rattle.std.proofs.lemmas.Str.{IsAscii-append}
 
+-- an octet has at most three digits
+pub octet_short : (n : ℕ) → n < 2 ^ 8 → length (decimal n) ≤ 3
+octet_short n small = length-decimal-le 3 n (omega arith) (omega arith) (omega arith)
+
 -- a number of 32 bits has at most ten digits
 pub number_short : (n : ℕ) → n < 2 ^ 32 → length (decimal n) ≤ 10
 number_short n small = length-decimal-le 10 n (omega arith) (omega arith) (omega arith)

@@ -1,33 +1,36 @@
 //! Addresses as text.
 
-ghost use Rattle.std.specs.Prelude.{◌≡◌, ◌+◌, ◌≤◌, ◌<◌, ◌∷◌, ◌++◌, [], length, OnOk};
+ghost use Rattle.std.specs.Prelude.{◌≡◌, ◌+◌, ◌≤◌, ◌<◌, ◌∷◌, ◌++◌, [], length, OnOk, codes};
+ghost use Rattle.std.specs.Fmt.{decimal};
 ghost use Rattle.std.specs.String.{string_bytes};
 ghost use Rattle.bgp_prefix.specs.Text.{ipv4_address_text, ipv6_address_text, group_text, groups_text};
 
+use crate::short::Short;
 use crate::word::Word;
+use bgp_prefix::{Prefix4, Prefix6};
 use std::alloc::AllocError;
 
 /// Puts an IPv4 address in front of a word.
 #[tactic(auto, using(crate::proofs::Words::address_in_front))]
 #[inline(always)]
 pub(crate) fn put_ip4_address(word: &mut Word, address: [u8; 4])
-    requires { length word.old + 43 ≤ 64 }
+    requires { length word.old + 15 ≤ 72 }
     ensures value { word.new ≡ ipv4_address_text address ++ word.old }
-    ensures len { length word.new ≤ length word.old + 43 }
+    ensures len { length word.new ≤ length word.old + 15 }
 {
     let [a, b, c, d] = address;
-    word.number(u32::from(d));
+    word.octet(d);
     word.character(b'.');
-    word.number(u32::from(c));
+    word.octet(c);
     word.character(b'.');
-    word.number(u32::from(b));
+    word.octet(b);
     word.character(b'.');
-    word.number(u32::from(a));
+    word.octet(a);
 }
 
 /// Puts a group of an IPv6 address in front of a word: two octets.
 fn put_group(word: &mut Word, address: &[u8; 16], group: usize)
-    requires room { length word.old + 4 ≤ 64 }
+    requires room { length word.old + 4 ≤ 72 }
     requires within { group < 8 }
     ensures value { word.new ≡ group_text address.now group ++ word.old }
     ensures len { length word.new ≡ length word.old + 4 }
@@ -39,7 +42,7 @@ fn put_group(word: &mut Word, address: &[u8; 16], group: usize)
 /// Puts four groups of an IPv6 address in front of a word, from this one on.
 #[tactic(auto, using(crate::proofs::Words::four_in_front))]
 fn put_half(word: &mut Word, address: &[u8; 16], group: usize)
-    requires room { length word.old + 19 ≤ 64 }
+    requires room { length word.old + 19 ≤ 72 }
     requires within { group + 3 < 8 }
     ensures value { word.new ≡ groups_text address.now group ++ word.old }
     ensures len { length word.new ≡ length word.old + 19 }
@@ -56,13 +59,52 @@ fn put_half(word: &mut Word, address: &[u8; 16], group: usize)
 /// Puts an IPv6 address in front of a word.
 #[tactic(auto, using(crate::proofs::Words::halves_in_front))]
 pub(crate) fn put_ip6_address(word: &mut Word, address: &[u8; 16])
-    requires { length word.old + 39 ≤ 64 }
+    requires { length word.old + 39 ≤ 72 }
     ensures value { word.new ≡ ipv6_address_text address.now ++ word.old }
     ensures len { length word.new ≡ length word.old + 39 }
 {
     put_half(word, address, 4);
     word.character(b':');
     put_half(word, address, 0);
+}
+
+/// Puts the length of a prefix in front of a word, behind a slash.
+#[inline(always)]
+fn put_length(word: &mut Word, len: u8)
+    requires { length word.old + 4 ≤ 72 }
+    ensures value { word.new ≡ codes "/" ++ (decimal len ++ word.old) }
+    ensures len { length word.new ≤ length word.old + 4 }
+{
+    word.octet(len);
+    word.character(b'/');
+}
+
+impl Short for Prefix4 {
+    ghost use Rattle.bgp_prefix.specs.Text.{ipv4_text};
+
+    ghost text = { ipv4_text };
+
+    ghost most = { 19 };
+
+    #[inline(always)]
+    fn put(self, word: &mut Word) {
+        put_length(word, self.len());
+        put_ip4_address(word, self.addr());
+    }
+}
+
+impl Short for Prefix6 {
+    ghost use Rattle.bgp_prefix.specs.Text.{ipv6_text};
+
+    ghost text = { ipv6_text };
+
+    ghost most = { 43 };
+
+    #[inline]
+    fn put(self, word: &mut Word) {
+        put_length(word, self.len());
+        put_ip6_address(word, &self.addr());
+    }
 }
 
 /// Adds an IPv4 address that ends a line.

@@ -5,32 +5,46 @@ ghost use Rattle.std.specs.List.{flat_map};
 ghost use Rattle.std.specs.String.{string_bytes};
 ghost use Rattle.bgp_text.specs.CommunityLines.{community_text, communities_line, large_text, large_line, community_lines};
 
+use crate::short::{Short, put_row};
 use crate::source::Source;
 use crate::word::Word;
 use bgp_update::Attrs;
 use std::alloc::AllocError;
 
-/// Adds a community behind a space: its upper and its lower 16 bits.
-fn put_community(text: &mut String, community: u32) -> Result<(), AllocError>
-    ensures { OnOk result (string_bytes text.new ≡ string_bytes text.old ++ community_text community) }
-{
-    let mut word = Word::new();
-    word.number(community % 65536);
-    word.character(b':');
-    word.number(community / 65536);
-    word.character(b' ');
-    text.push_str(word.text())
+/// A community: behind a space its upper and its lower 16 bits.
+impl Short for u32 {
+    ghost use Rattle.bgp_text.specs.CommunityLines.{community_text};
+
+    ghost text = { community_text };
+
+    ghost most = { 22 };
+
+    #[inline(always)]
+    fn put(self, word: &mut Word) {
+        word.number(self % 65536);
+        word.character(b':');
+        word.number(self / 65536);
+        word.character(b' ');
+    }
 }
 
-/// Adds communities, each behind a space.
-fn put_each<S: Source<Item = u32>>(text: &mut String, communities: S) -> Result<(), AllocError>
-    ensures { OnOk result (string_bytes text.new ≡ string_bytes text.old ++ flat_map community_text (S.left communities)) }
-{
-    let mut left = communities;
-    'row: while let Some(community) = left.step() {
-        put_community(text, community)?;
+/// A large community: behind a space its three numbers.
+impl Short for [u32; 3] {
+    ghost use Rattle.bgp_text.specs.CommunityLines.{large_text};
+
+    ghost text = { large_text };
+
+    ghost most = { 33 };
+
+    fn put(self, word: &mut Word) {
+        let [global, first, second] = self;
+        word.number(second);
+        word.character(b':');
+        word.number(first);
+        word.character(b':');
+        word.number(global);
+        word.character(b' ');
     }
-    Ok(())
 }
 
 /// Adds the line of communities.
@@ -41,37 +55,8 @@ pub(crate) fn put_communities<S: Source<Item = u32>>(
     ensures { OnOk result (string_bytes text.new ≡ string_bytes text.old ++ communities_line (S.left communities)) }
 {
     text.push_str("  communities")?;
-    put_each(text, communities)?;
+    put_row(text, communities)?;
     text.push_str("\n")
-}
-
-/// Adds a large community behind a space: its three numbers.
-fn put_large_community(text: &mut String, community: [u32; 3]) -> Result<(), AllocError>
-    ensures { OnOk result (string_bytes text.new ≡ string_bytes text.old ++ large_text community) }
-{
-    let [global, first, second] = community;
-    let mut word = Word::new();
-    word.number(second);
-    word.character(b':');
-    word.number(first);
-    word.character(b':');
-    word.number(global);
-    word.character(b' ');
-    text.push_str(word.text())
-}
-
-/// Adds large communities, each behind a space.
-fn put_each_large<S: Source<Item = [u32; 3]>>(
-    text: &mut String,
-    communities: S,
-) -> Result<(), AllocError>
-    ensures { OnOk result (string_bytes text.new ≡ string_bytes text.old ++ flat_map large_text (S.left communities)) }
-{
-    let mut left = communities;
-    'row: while let Some(community) = left.step() {
-        put_large_community(text, community)?;
-    }
-    Ok(())
 }
 
 /// Adds the line of large communities.
@@ -82,7 +67,7 @@ pub(crate) fn put_large<S: Source<Item = [u32; 3]>>(
     ensures { OnOk result (string_bytes text.new ≡ string_bytes text.old ++ large_line (S.left communities)) }
 {
     text.push_str("  large")?;
-    put_each_large(text, communities)?;
+    put_row(text, communities)?;
     text.push_str("\n")
 }
 

@@ -9,7 +9,7 @@ ghost use Rattle.bgp_text.specs.Lines.{where_there};
 ghost use Rattle.bgp_text.specs.MpLines.{ip4_next_line, ip6_next_line, family_line, reach_lines, unreach_lines, mp_lines};
 
 use crate::addresses::{put_ip4_end, put_ip6, put_ip6_end};
-use crate::lines::{put_ip4_lines, put_ip6_lines};
+use crate::short::put_lines;
 use crate::source::Source;
 use bgp_attr::{MpReach, MpReachView, MpUnreach, MpUnreachView};
 use bgp_prefix::{Prefix4, Prefix6};
@@ -50,7 +50,7 @@ fn put_ip4_reach<S: Source<Item = Prefix4>>(
     ensures { OnOk result (string_bytes text.new ≡ string_bytes text.old ++ reach_lines (reach.Ip4 next_hop (S.left nlri))) }
 {
     put_ip4_next(text, next_hop)?;
-    put_ip4_lines(text, "  mp_nlri ", nlri)
+    put_lines(text, "  mp_nlri ", nlri)
 }
 
 /// Adds the lines of an MP_REACH_NLRI with IPv6 routes.
@@ -63,7 +63,7 @@ fn put_ip6_reach<S: Source<Item = Prefix6>>(
     ensures { OnOk result (string_bytes text.new ≡ string_bytes text.old ++ reach_lines (reach.Ip6 next_hop link_local (S.left nlri))) }
 {
     put_ip6_next(text, next_hop, link_local)?;
-    put_ip6_lines(text, "  mp_nlri ", nlri)
+    put_lines(text, "  mp_nlri ", nlri)
 }
 
 /// Adds the lines of an MP_REACH_NLRI.
@@ -115,7 +115,7 @@ fn put_ip4_unreach<S: Source<Item = Prefix4>>(
     ensures { OnOk result (string_bytes text.new ≡ string_bytes text.old ++ unreach_lines (unreach.Ip4 (S.left routes))) }
 {
     put_family(text, "ip4")?;
-    put_ip4_lines(text, "  mp_withdrawn ", routes)
+    put_lines(text, "  mp_withdrawn ", routes)
 }
 
 /// Adds the lines of an MP_UNREACH_NLRI with IPv6 routes.
@@ -126,7 +126,7 @@ fn put_ip6_unreach<S: Source<Item = Prefix6>>(
     ensures { OnOk result (string_bytes text.new ≡ string_bytes text.old ++ unreach_lines (unreach.Ip6 (S.left routes))) }
 {
     put_family(text, "ip6")?;
-    put_ip6_lines(text, "  mp_withdrawn ", routes)
+    put_lines(text, "  mp_withdrawn ", routes)
 }
 
 /// Adds the lines of an MP_UNREACH_NLRI.

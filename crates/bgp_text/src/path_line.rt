@@ -7,6 +7,7 @@ ghost use Rattle.std.specs.String.{string_bytes};
 ghost use Rattle.bgp_attr.specs.PathView.{segments_left};
 ghost use Rattle.bgp_text.specs.PathLine.{kind_name, number_text, segment_text, path_line};
 
+use crate::short::{Short, put_row};
 use crate::source::Source;
 use crate::word::Word;
 use bgp_attr::{AsPath, PathView, SegKind, Segment, SegmentIter};
@@ -14,35 +15,29 @@ use bgp_prefix::AsNumber;
 use bgp_wire::List;
 use std::alloc::AllocError;
 
-/// The word for a kind of segment.
-fn kind_name(kind: SegKind) -> &'static str
-    ensures { result.now ≡ kind_name kind }
+/// The word for a kind of segment, behind a space.
+#[inline(always)]
+fn spaced_name(kind: SegKind) -> &'static str
+    ensures { result.now ≡ codes " " ++ kind_name kind }
 {
     match kind {
-        SegKind::Set => "set",
-        SegKind::Seq => "seq",
+        SegKind::Set => " set",
+        SegKind::Seq => " seq",
     }
 }
 
-/// Adds the digits of a number behind a space.
-fn put_spaced(text: &mut String, number: u32) -> Result<(), AllocError>
-    ensures { OnOk result (string_bytes text.new ≡ string_bytes text.old ++ (codes " " ++ decimal number)) }
-{
-    let mut word = Word::new();
-    word.number(number);
-    word.character(b' ');
-    text.push_str(word.text())
-}
+impl Short for AsNumber {
+    ghost use Rattle.bgp_text.specs.PathLine.{number_text};
 
-/// Adds AS numbers, each behind a space.
-fn put_numbers<S: Source<Item = AsNumber>>(text: &mut String, numbers: S) -> Result<(), AllocError>
-    ensures { OnOk result (string_bytes text.new ≡ string_bytes text.old ++ flat_map number_text (S.left numbers)) }
-{
-    let mut left = numbers;
-    'row: while let Some(number) = left.step() {
-        put_spaced(text, number.0)?;
+    ghost text = { number_text };
+
+    ghost most = { 11 };
+
+    #[inline(always)]
+    fn put(self, word: &mut Word) {
+        word.number(self.0);
+        word.character(b' ');
     }
-    Ok(())
 }
 
 /// Adds a segment behind a space.
@@ -53,9 +48,8 @@ fn put_segment<S: Source<Item = AsNumber>>(
 ) -> Result<(), AllocError>
     ensures { OnOk result (string_bytes text.new ≡ string_bytes text.old ++ segment_text (record { kind = kind; numbers = S.left numbers })) }
 {
-    text.push_str(" ")?;
-    text.push_str(kind_name(kind))?;
-    put_numbers(text, numbers)
+    text.push_str(spaced_name(kind))?;
+    put_row(text, numbers)
 }
 
 /// Adds segments of a list, each behind a space.

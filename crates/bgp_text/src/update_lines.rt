@@ -6,8 +6,8 @@ ghost use Rattle.bgp_text.specs.UpdateLines.{attribute_lines, update_lines, rout
 
 use crate::attribute_lines::{put_as4_lines, put_choice_lines, put_others, put_route_lines};
 use crate::community_lines::put_community_lines;
-use crate::lines::{put_ip4_lines, put_ip6_lines};
 use crate::mp_lines::put_mp;
+use crate::short::put_lines;
 use bgp_update::{Attrs, Routes, Update};
 use std::alloc::{AllocError, Global};
 
@@ -30,16 +30,16 @@ pub(crate) fn put_update(
 ) -> Result<(), AllocError>
     ensures { OnOk result (string_bytes text.new ≡ string_bytes text.old ++ update_lines update.now) }
 {
-    put_ip4_lines(text, "  withdrawn ", update.withdrawn.as_slice())?;
+    put_lines(text, "  withdrawn ", update.withdrawn.as_slice())?;
     put_mp(text, &update.attrs)?;
     put_attributes(alloc, text, &update.attrs)?;
-    put_ip4_lines(text, "  nlri ", update.nlri.as_slice())
+    put_lines(text, "  nlri ", update.nlri.as_slice())
 }
 
 /// Adds a line for each route of an UPDATE that is treated as a withdrawal.
 pub(crate) fn put_routes(text: &mut String, routes: &Routes) -> Result<(), AllocError>
     ensures { OnOk result (string_bytes text.new ≡ string_bytes text.old ++ routes_lines routes.now) }
 {
-    put_ip4_lines(text, "  route ", routes.ip4.as_slice())?;
-    put_ip6_lines(text, "  route ", routes.ip6.as_slice())
+    put_lines(text, "  route ", routes.ip4.as_slice())?;
+    put_lines(text, "  route ", routes.ip6.as_slice())
 }

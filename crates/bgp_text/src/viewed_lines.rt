@@ -21,10 +21,10 @@ use crate::attribute_lines::{
     put_aggregator, put_atomic, put_next_hop, put_number, put_opaque, put_origin,
 };
 use crate::community_lines::{put_communities, put_large};
-use crate::lines::{put_ip4_lines, put_ip6_lines};
 use crate::mp_lines::{put_viewed_reach, put_viewed_unreach};
 use crate::note_lines::put_notes;
 use crate::path_line::put_path_line;
+use crate::short::put_lines;
 use crate::slots::Slots;
 use bgp_attr::{As4PathView, MpReachView, MpUnreachView, PathView};
 use bgp_update::UpdateView;
@@ -128,10 +128,10 @@ pub(crate) fn put_viewed_update(
     ensures { OnOk result (string_bytes text.new ≡ string_bytes text.old ++ update_lines (update_value view.now)) }
 {
     let slots = Slots::of(alloc, view)?;
-    put_ip4_lines(text, "  withdrawn ", view.withdrawn())?;
+    put_lines(text, "  withdrawn ", view.withdrawn())?;
     put_mp(text, &slots)?;
     put_attributes(alloc, text, &slots)?;
-    put_ip4_lines(text, "  nlri ", view.nlri())
+    put_lines(text, "  nlri ", view.nlri())
 }
 
 /// The IPv4 routes of attributes.
@@ -145,10 +145,10 @@ fn put_ip4_routes(
         ++ flat_map (line_of (codes "  route ") ipv4_text) (reached_ip4 (option_map reach_value reach.entry)))) }
 {
     if let Some(MpUnreachView::Ip4(routes)) = unreach {
-        put_ip4_lines(text, "  route ", routes)?;
+        put_lines(text, "  route ", routes)?;
     }
     if let Some(MpReachView::Ip4 { nlri, .. }) = reach {
-        put_ip4_lines(text, "  route ", nlri)?;
+        put_lines(text, "  route ", nlri)?;
     }
     Ok(())
 }
@@ -164,10 +164,10 @@ fn put_ip6_routes(
         ++ flat_map (line_of (codes "  route ") ipv6_text) (reached_ip6 (option_map reach_value reach.entry)))) }
 {
     if let Some(MpUnreachView::Ip6(routes)) = unreach {
-        put_ip6_lines(text, "  route ", routes)?;
+        put_lines(text, "  route ", routes)?;
     }
     if let Some(MpReachView::Ip6 { nlri, .. }) = reach {
-        put_ip6_lines(text, "  route ", nlri)?;
+        put_lines(text, "  route ", nlri)?;
     }
     Ok(())
 }
@@ -178,9 +178,9 @@ pub(crate) fn put_viewed_routes(text: &mut String, view: &UpdateView<'_>) -> Res
 {
     let unreach = view.unreach();
     let reach = view.reach();
-    put_ip4_lines(text, "  route ", view.withdrawn())?;
+    put_lines(text, "  route ", view.withdrawn())?;
     put_ip4_routes(text, unreach, reach)?;
-    put_ip4_lines(text, "  route ", view.nlri())?;
+    put_lines(text, "  route ", view.nlri())?;
     put_ip6_routes(text, unreach, reach)
 }
 

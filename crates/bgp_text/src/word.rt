@@ -7,10 +7,10 @@ ghost use Rattle.bgp_prefix.specs.Text.{hex_octet};
 use itoa::write_digits;
 use std::marker::Model;
 
-/// At most 64 ASCII characters, written from the last to the first, so that they are added to a text in one go.
+/// At most 72 ASCII characters, written from the last to the first, so that they are added to a text in one go.
 #[derive(Drop)]
 pub(crate) struct Word {
-    octets: [u8; 64],
+    octets: [u8; 72],
     at: usize,
 }
 
@@ -22,7 +22,7 @@ impl Model for Word {
 
     ghost view = { λ w. drop w.at w.octets };
 
-    ghost invariant = { λ w. (w.at ≤ 64) × IsAscii (drop w.at w.octets) };
+    ghost invariant = { λ w. (w.at ≤ 72) × IsAscii (drop w.at w.octets) };
 }
 
 /// The hexadecimal digit of a number below 16, in lower case.
@@ -46,8 +46,8 @@ impl Word {
         ensures { result ≡ [] }
     {
         Word {
-            octets: [0; 64],
-            at: 64,
+            octets: [0; 72],
+            at: 72,
         }
     }
 
@@ -55,7 +55,7 @@ impl Word {
     #[tactic(auto, using(crate::proofs::Words::number_ascii))]
     #[inline]
     pub(crate) fn number(&mut self, number: u32)
-        requires { length self.old + 10 ≤ 64 }
+        requires { length self.old + 10 ≤ 72 }
         ensures value { self.new ≡ decimal number ++ self.old }
         ensures len { length self.new ≤ length self.old + 10 }
     {
@@ -63,11 +63,23 @@ impl Word {
         self.at = write_digits(u64::from(number), &mut self.octets, end);
     }
 
+    /// Puts an octet's decimal digits in front.
+    #[tactic(auto, using(crate::proofs::Words::number_ascii))]
+    #[inline]
+    pub(crate) fn octet(&mut self, octet: u8)
+        requires { length self.old + 3 ≤ 72 }
+        ensures value { self.new ≡ decimal octet ++ self.old }
+        ensures len { length self.new ≤ length self.old + 3 }
+    {
+        let end = self.at;
+        self.at = write_digits(u64::from(octet), &mut self.octets, end);
+    }
+
     /// Puts the digits of a number of 64 bits in front.
     #[tactic(auto, using(crate::proofs::Words::number_ascii))]
     #[inline]
     pub(crate) fn wide_number(&mut self, number: u64)
-        requires { length self.old + 20 ≤ 64 }
+        requires { length self.old + 20 ≤ 72 }
         ensures { self.new ≡ decimal number ++ self.old }
     {
         let end = self.at;
@@ -77,7 +89,7 @@ impl Word {
     /// Puts a character in front.
     #[inline]
     pub(crate) fn character(&mut self, character: u8)
-        requires room { length self.old < 64 }
+        requires room { length self.old < 72 }
         requires ascii { character < 128 }
         ensures { self.new ≡ character ∷ self.old }
     {
@@ -88,7 +100,7 @@ impl Word {
     /// Puts an octet's two hexadecimal digits in front.
     #[inline]
     pub(crate) fn hex_octet(&mut self, octet: u8)
-        requires { length self.old + 2 ≤ 64 }
+        requires { length self.old + 2 ≤ 72 }
         ensures value { self.new ≡ hex_octet octet ++ self.old }
         ensures len { length self.new ≡ length self.old + 2 }
     {

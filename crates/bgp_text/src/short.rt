@@ -1,0 +1,97 @@
+//! Values whose texts are short, and rows and lines of them.
+
+ghost use Rattle.std.specs.Prelude.{◌≡◌, ◌+◌, ◌≤◌, ◌∷◌, ◌++◌, [], length, OnOk};
+ghost use Rattle.std.specs.List.{flat_map};
+ghost use Rattle.std.specs.String.{string_bytes};
+ghost use Rattle.bgp_text.specs.Lines.{line_of};
+
+use crate::source::Source;
+use crate::word::Word;
+use std::alloc::AllocError;
+
+/// A value whose text has so few characters that a word holds it.
+pub(crate) trait Short: Copy {
+    ghost use Rattle.std.specs.Prelude.{ℕ, List, ◌≡◌, ◌+◌, ◌≤◌, ◌++◌, length};
+
+    /// Its text.
+    ghost text: { Self → List ℕ };
+
+    /// How many characters the text has at most.
+    ghost most: { ℕ };
+
+    /// Puts its text in front of a word.
+    fn put(self, word: &mut Word)
+        requires { length word.old + most ≤ 72 }
+        ensures value { word.new ≡ text self ++ word.old }
+        ensures len { length word.new ≤ length word.old + most };
+}
+
+/// Adds a value.
+fn put_one<T: Short>(text: &mut String, value: T) -> Result<(), AllocError>
+    requires { T.most ≤ 72 }
+    ensures { OnOk result (string_bytes text.new ≡ string_bytes text.old ++ T.text value) }
+{
+    let mut word = Word::new();
+    value.put(&mut word);
+    text.push_str(word.text())
+}
+
+/// Adds two values in one go.
+#[inline(always)]
+fn put_two<T: Short>(text: &mut String, first: T, second: T) -> Result<(), AllocError>
+    requires { T.most + T.most ≤ 72 }
+    ensures { OnOk result (string_bytes text.new ≡ string_bytes text.old ++ (T.text first ++ T.text second)) }
+{
+    let mut word = Word::new();
+    second.put(&mut word);
+    first.put(&mut word);
+    text.push_str(word.text())
+}
+
+/// Adds values one behind another.
+pub(crate) fn put_row<T: Short, S: Source<Item = T>>(
+    text: &mut String,
+    values: S,
+) -> Result<(), AllocError>
+    requires { T.most + T.most ≤ 72 }
+    ensures { OnOk result (string_bytes text.new ≡ string_bytes text.old ++ flat_map T.text (S.left values)) }
+{
+    let mut left = values;
+    'row: while let Some(first) = left.step() {
+        let Some(second) = left.step() else {
+            return put_one(text, first);
+        };
+        put_two(text, first, second)?;
+    }
+    Ok(())
+}
+
+/// Adds a line of a value, behind a label.
+#[inline(always)]
+fn put_line<T: Short>(text: &mut String, label: &str, value: T) -> Result<(), AllocError>
+    requires { T.most + 1 ≤ 72 }
+    ensures { OnOk result (string_bytes text.new ≡ string_bytes text.old ++ line_of label.now T.text value) }
+{
+    let mut word = Word::new();
+    word.character(b'\n');
+    value.put(&mut word);
+    text.push_str(label)?;
+    text.push_str(word.text())
+}
+
+/// Adds a line of each value, behind a label. It is inlined with what calls it, so that a label of a few octets is stored, not copied by a call.
+#[inline(always)]
+pub(crate) fn put_lines<T: Short, S: Source<Item = T>>(
+    text: &mut String,
+    label: &str,
+    values: S,
+) -> Result<(), AllocError>
+    requires { T.most + 1 ≤ 72 }
+    ensures { OnOk result (string_bytes text.new ≡ string_bytes text.old ++ flat_map (line_of label.now T.text) (S.left values)) }
+{
+    let mut left = values;
+    'run: while let Some(value) = left.step() {
+        put_line(text, label, value)?;
+    }
+    Ok(())
+}
