@@ -19,24 +19,21 @@ pub(crate) fn put_ip4_address(word: &mut Word, address: [u8; 4])
     ensures len { length word.new ≤ length word.old + 15 }
 {
     let [a, b, c, d] = address;
-    word.octet(d);
-    word.character(b'.');
-    word.octet(c);
-    word.character(b'.');
-    word.octet(b);
-    word.character(b'.');
+    word.marked_octet(b'.', d);
+    word.marked_octet(b'.', c);
+    word.marked_octet(b'.', b);
     word.octet(a);
 }
 
 /// Puts a group of an IPv6 address in front of a word: two octets.
+#[inline(always)]
 fn put_group(word: &mut Word, address: &[u8; 16], group: usize)
     requires room { length word.old + 4 ≤ 72 }
     requires within { group < 8 }
     ensures value { word.new ≡ group_text address.now group ++ word.old }
     ensures len { length word.new ≡ length word.old + 4 }
 {
-    word.hex_octet(address[2 * group + 1]);
-    word.hex_octet(address[2 * group]);
+    word.hex_pair(address[2 * group], address[2 * group + 1]);
 }
 
 /// Puts four groups of an IPv6 address in front of a word, from this one on.
@@ -75,8 +72,7 @@ fn put_length(word: &mut Word, len: u8)
     ensures value { word.new ≡ codes "/" ++ (decimal len ++ word.old) }
     ensures len { length word.new ≤ length word.old + 4 }
 {
-    word.octet(len);
-    word.character(b'/');
+    word.marked_octet(b'/', len);
 }
 
 impl Short for Prefix4 {

@@ -67,6 +67,7 @@ pub(crate) fn put_next_hop(text: &mut String, next_hop: Option<[u8; 4]>) -> Resu
 }
 
 /// A number behind a label.
+#[inline(always)]
 pub(crate) fn put_number(
     text: &mut String,
     label: &str,

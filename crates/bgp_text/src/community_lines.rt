@@ -21,10 +21,8 @@ impl Short for u32 {
 
     #[inline(always)]
     fn put(self, word: &mut Word) {
-        word.number(self % 65536);
-        word.character(b':');
-        word.number(self / 65536);
-        word.character(b' ');
+        word.marked(b':', self % 65536);
+        word.marked(b' ', self / 65536);
     }
 }
 
@@ -38,12 +36,9 @@ impl Short for [u32; 3] {
 
     fn put(self, word: &mut Word) {
         let [global, first, second] = self;
-        word.number(second);
-        word.character(b':');
-        word.number(first);
-        word.character(b':');
-        word.number(global);
-        word.character(b' ');
+        word.marked(b':', second);
+        word.marked(b':', first);
+        word.marked(b' ', global);
     }
 }
 

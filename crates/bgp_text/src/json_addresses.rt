@@ -67,8 +67,7 @@ impl Element for Prefix<4> {
     fn put_json(&self, text: &mut String) -> Result<(), AllocError> {
         let mut word = Word::new();
         word.character(b'"');
-        word.number(u32::from(self.len()));
-        word.character(b'/');
+        word.marked_octet(b'/', self.len());
         put_ip4_address(&mut word, self.addr());
         word.character(b'"');
         text.push_str(word.text())

@@ -37,8 +37,7 @@ impl Element for u32 {
         let community = *self;
         let mut word = Word::new();
         word.character(b'"');
-        word.number(community % 65536);
-        word.character(b':');
+        word.marked(b':', community % 65536);
         word.number(community / 65536);
         word.character(b'"');
         text.push_str(word.text())
@@ -56,10 +55,8 @@ impl Element for [u32; 3] {
         let [global, first, second] = *self;
         let mut word = Word::new();
         word.character(b'"');
-        word.number(second);
-        word.character(b':');
-        word.number(first);
-        word.character(b':');
+        word.marked(b':', second);
+        word.marked(b':', first);
         word.number(global);
         word.character(b'"');
         text.push_str(word.text())

@@ -31,8 +31,7 @@ pub(crate) fn put_head(
 {
     let mut word = Word::new();
     word.character(b' ');
-    word.number(u32::from(len));
-    word.character(b' ');
+    word.marked(b' ', u32::from(len));
     word.wide_number(place);
     text.push_str(word.text())?;
     text.push_str(name)?;

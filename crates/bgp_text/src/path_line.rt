@@ -35,8 +35,7 @@ impl Short for AsNumber {
 
     #[inline(always)]
     fn put(self, word: &mut Word) {
-        word.number(self.0);
-        word.character(b' ');
+        word.marked(b' ', self.0);
     }
 }
 

@@ -1,6 +1,6 @@
 //! A short text that is made on the stack.
 
-ghost use Rattle.std.specs.Prelude.{false, ◌≡◌, ◌+◌, ◌≤◌, ◌<◌, ◌∷◌, ◌++◌, [], length};
+ghost use Rattle.std.specs.Prelude.{false, ◌≡◌, ◌+◌, ◌≤◌, ◌<◌, ◌∷◌, ◌++◌, [], length, drop};
 ghost use Rattle.std.specs.Fmt.{decimal, digit_glyph};
 ghost use Rattle.bgp_prefix.specs.Text.{hex_octet};
 
@@ -25,18 +25,38 @@ impl Model for Word {
     ghost invariant = { λ w. (w.at ≤ 72) × IsAscii (drop w.at w.octets) };
 }
 
+static DIGITS: [u8; 16] = *b"0123456789abcdef";
+
 /// The hexadecimal digit of a number below 16, in lower case.
-#[inline]
+#[inline(always)]
 fn digit(value: u8) -> u8
     requires { value < 16 }
     ensures value { result ≡ digit_glyph false value }
     ensures ascii { result < 128 }
 {
-    if value < 10 {
-        b'0' + value
-    } else {
-        b'a' + (value - 10)
-    }
+    DIGITS[usize::from(value)]
+}
+
+/// Writes an octet's two hexadecimal digits.
+#[inline(always)]
+fn write_hex(octet: u8, octets: &mut [u8; 72], at: usize)
+    requires { at + 2 ≤ 72 }
+    ensures { drop at octets.new ≡ hex_octet octet ++ drop (at + 2) octets.old }
+{
+    octets[at] = digit(octet / 16);
+    octets[at + 1] = digit(octet % 16);
+}
+
+/// Writes a number's digits so that they end at `end`, with a mark in front of them, and returns where the mark stands.
+#[inline(always)]
+fn write_marked(mark: u8, number: u64, octets: &mut [u8; 72], end: usize) -> usize
+    requires { (length (decimal number) < end) × (end ≤ 72) }
+    ensures start { result + (1 + length (decimal number)) ≡ end }
+    ensures written { drop result octets.new ≡ mark ∷ (decimal number ++ drop end octets.old) }
+{
+    let at = write_digits(number, octets, end) - 1;
+    octets[at] = mark;
+    at
 }
 
 impl Word {
@@ -97,6 +117,30 @@ impl Word {
         self.octets[self.at] = character;
     }
 
+    /// Puts a mark in front, with a number behind it.
+    #[inline(always)]
+    pub(crate) fn marked(&mut self, mark: u8, number: u32)
+        requires room { length self.old + 11 ≤ 72 }
+        requires ascii { mark < 128 }
+        ensures value { self.new ≡ mark ∷ (decimal number ++ self.old) }
+        ensures len { length self.new ≤ length self.old + 11 }
+    {
+        let end = self.at;
+        self.at = write_marked(mark, u64::from(number), &mut self.octets, end);
+    }
+
+    /// Puts a mark in front, with an octet's decimal digits behind it.
+    #[inline(always)]
+    pub(crate) fn marked_octet(&mut self, mark: u8, octet: u8)
+        requires room { length self.old + 4 ≤ 72 }
+        requires ascii { mark < 128 }
+        ensures value { self.new ≡ mark ∷ (decimal octet ++ self.old) }
+        ensures len { length self.new ≤ length self.old + 4 }
+    {
+        let end = self.at;
+        self.at = write_marked(mark, u64::from(octet), &mut self.octets, end);
+    }
+
     /// Puts an octet's two hexadecimal digits in front.
     #[inline]
     pub(crate) fn hex_octet(&mut self, octet: u8)
@@ -106,6 +150,19 @@ impl Word {
     {
         self.character(digit(octet % 16));
         self.character(digit(octet / 16));
+    }
+
+    /// Puts the four hexadecimal digits of two octets in front.
+    #[inline(always)]
+    pub(crate) fn hex_pair(&mut self, high: u8, low: u8)
+        requires { length self.old + 4 ≤ 72 }
+        ensures value { self.new ≡ (hex_octet high ++ hex_octet low) ++ self.old }
+        ensures len { length self.new ≡ length self.old + 4 }
+    {
+        let at = self.at - 4;
+        write_hex(low, &mut self.octets, at + 2);
+        write_hex(high, &mut self.octets, at);
+        self.at = at;
     }
 
     /// The characters.
