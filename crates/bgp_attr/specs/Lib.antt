@@ -1,7 +1,6 @@
 -- Path attributes: their octets, their judgement, and how they are written.
 pub mod Flags
 pub mod Tlv
-pub mod Then
 pub mod Numbers
 pub mod Path
 pub mod Mp

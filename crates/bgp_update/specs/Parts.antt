@@ -2,7 +2,7 @@
 -- each length in two octets, and Network Layer Reachability Information up to the end.
 use Rattle.std.specs.Prelude.{◌≡◌, ◌<◌, ◌^◌, ◌+◌, ℕ, Bool, List, [], ◌∷◌, ◌++◌, length, take, drop, Option, None, Some, nat_le, nat_lt, if◌then◌else◌}
 use Rattle.std.specs.Int.{w16, to_be_bytes, from_be_bytes}
-use Rattle.bgp_attr.specs.Then.{◌>>=◌}
+use Rattle.bgp_wire.specs.Then.{◌>>=◌}
 
 pub record Parts : Type 0 where
   pub withdrawn : List ℕ
