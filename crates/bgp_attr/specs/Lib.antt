@@ -4,7 +4,6 @@ pub mod Tlv
 pub mod Numbers
 pub mod Path
 pub mod Mp
-pub mod Refusal
 pub mod Table
 pub mod Value
 pub mod Judgement
