@@ -5,6 +5,7 @@ use Rattle.std.specs.Prelude.{option_map, is_none}
 use Rattle.std.specs.List.{AllByRecursion}
 use Rattle.std.proofs.lemmas.Bool.{true≢false, false≢true}
 use Rattle.bgp_numbers.specs.declared.error.TheConstants.{UPDATE_MESSAGE}
+use Rattle.bgp_wire.specs.Then.{when}
 use Rattle.bgp_open.specs.declared.context.Context.{Context}
 use Rattle.bgp_attr.specs.declared.attr.Attr.{Attr}
 use Rattle.bgp_attr.specs.declared.judged.Judged.{Judged}
@@ -13,7 +14,7 @@ use Rattle.bgp_attr.specs.declared.unwritable.Unwritable.{Unwritable}
 use Rattle.bgp_attr.specs.declared.why.Why.{Why}
 use Rattle.bgp_attr.specs.Tlv.{TlvValue}
 use Rattle.bgp_attr.specs.Table.{entry_of}
-use Rattle.bgp_attr.specs.Judgement.{when, aggregator_tests, AttributeType, is_recognised, types, other_type, type_row, decided, judgement}
+use Rattle.bgp_attr.specs.Judgement.{aggregator_tests, AttributeType, is_recognised, types, other_type, type_row, decided, judgement}
 use Rattle.bgp_attr.specs.Written.{is_too_wide, is_as4, is_empty, is_misnamed, has_as_zero, stands_twice, is_too_long, why_unless, is_writable}
 use Rattle.bgp_attr.proofs.Tables.{EachRow, ◌&◌, by_row, entry-other}
 

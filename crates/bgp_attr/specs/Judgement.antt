@@ -1,8 +1,9 @@
 -- The judgement of one attribute, the first of its type in a message (RFC 4271, section 6.3; RFC 7606, sections 3 to 7; RFC 7607).
--- A row for each type: its tests in their order. The first that applies decides; where none does, the attribute is kept.
-use Rattle.std.specs.Prelude.{ℕ, ◌+◌, ◌%◌, Bool, not, ◌||◌, ◌==◌, nat_lt, List, [], ◌∷◌, length, take, map, slice_index, Option, None, Some, option_map, if◌then◌else◌}
+-- A row for each type: its tests in their order, each with its answer. The first that applies decides; where none does, the attribute is kept.
+use Rattle.std.specs.Prelude.{ℕ, ◌+◌, ◌%◌, Bool, not, ◌||◌, ◌==◌, nat_lt, List, [], ◌∷◌, length, take, map, slice_index, Option, None, Some, option_map}
 use Rattle.bgp_numbers.specs.declared.attribute.TheConstants.{ORIGIN, AS_PATH, NEXT_HOP, MULTI_EXIT_DISC, LOCAL_PREF, ATOMIC_AGGREGATE, AGGREGATOR, COMMUNITIES, MP_REACH_NLRI, MP_UNREACH_NLRI, AS4_PATH, AS4_AGGREGATOR, LARGE_COMMUNITY}
 use Rattle.bgp_numbers.specs.declared.error.TheConstants.{UPDATE_MESSAGE, OPTIONAL_ATTRIBUTE, UNRECOGNIZED_WELL_KNOWN}
+use Rattle.bgp_wire.specs.Then.{when}
 use Rattle.bgp_open.specs.declared.context.Context.{Context}
 use Rattle.bgp_prefix.specs.Run.{run_of}
 use Rattle.bgp_attr.specs.declared.class.Class.{Class}
@@ -21,10 +22,6 @@ use Rattle.bgp_attr.specs.Table.{has_entry, entry_of}
 use Rattle.bgp_attr.specs.Value.{origin_of, as_path_form, as4_path_form, four_of, aggregator_of, communities_of, large_of, as4_path_of, opaque_of}
 
 -- ---- words of the table
-
--- a test: what it answers where it applies (RFC 7606, section 2)
-abbrev pub when : Bool → Judged → Option Judged
-when applies answer = if applies then Some answer else None
 
 -- a reset of code 3 with the whole attribute as it was received (RFC 4271, section 6.3)
 abbrev pub reset_with : ℕ → TlvValue → Judged

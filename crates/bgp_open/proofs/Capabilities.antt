@@ -1,5 +1,5 @@
 -- A capability is read by its reader.
-use Rattle.std.proofs.Common.{◌≡◌, ℕ, ◌<◌, List, [], ◌∷◌, ◌++◌, length, Option, Some, None, refl, sym, ap, ◌∙◌, arith}
+use Rattle.std.proofs.Common.{◌≡◌, ℕ, ◌<◌, List, [], ◌∷◌, ◌++◌, length, Option, Some, refl, sym, ap, ◌∙◌, arith}
 use Rattle.bgp_wire.specs.Then.{◌>>=◌}
 use Rattle.bgp_wire.specs.Reader.{Reads}
 use Rattle.bgp_wire.specs.Behind.{first_octets}

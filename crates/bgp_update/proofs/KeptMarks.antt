@@ -12,6 +12,7 @@ use Rattle.bgp_frame.specs.declared.notification.Notification.{Notification}
 use Rattle.bgp_wire.specs.Octets.{AreOctets}
 use Rattle.bgp_wire.specs.Row.{Row}
 use Rattle.bgp_wire.proofs.OctetLemmas.{AreOctets-front, AreOctets-back}
+use Rattle.bgp_wire.specs.Then.{when}
 use Rattle.bgp_open.specs.declared.context.Context.{Context}
 use Rattle.bgp_attr.specs.declared.attr.Attr.{Attr}
 use Rattle.bgp_attr.specs.declared.judged.Judged.{Judged}
@@ -19,7 +20,7 @@ use Rattle.bgp_attr.specs.declared.judged.Judged.TheVariants as judged
 use Rattle.bgp_attr.specs.declared.why.Why.{Why}
 use Rattle.bgp_attr.specs.declared.why.Why.TheVariants as why
 use Rattle.bgp_attr.specs.Tlv.{TlvValue, IsTlv, placed_from}
-use Rattle.bgp_attr.specs.Judgement.{when, AttributeType, type_row, decided, judgement}
+use Rattle.bgp_attr.specs.Judgement.{AttributeType, type_row, decided, judgement}
 use Rattle.bgp_attr.specs.Written.{canonical, type_of}
 use Rattle.bgp_attr.proofs.Tables.{◌&◌}
 use Rattle.bgp_attr.proofs.TestRows.{row-at, by_type, kept-value}

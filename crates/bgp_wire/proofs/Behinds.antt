@@ -1,8 +1,8 @@
 -- A row behind its length, or behind its count, is read by its reader: so it is prefix free.
-use Rattle.std.proofs.Common.{◌≡◌, ℕ, zero, suc, ◌<◌, Bool, true, false, cond, leb, eqb, List, [], ◌∷◌, ◌++◌, length, take, drop, Option, Some, None, refl, sym, ap, subst, ◌∙◌, append_assoc, arith}
-use Rattle.std.proofs.lemmas.Bool.{leb-true, le-leb, eqb-true, eq-eqb}
+use Rattle.std.proofs.Common.{◌≡◌, ℕ, zero, suc, ◌<◌, Bool, true, false, cond, eqb, List, [], ◌∷◌, ◌++◌, length, Option, Some, None, refl, sym, ap, subst, ◌∙◌, append_assoc, arith}
+use Rattle.std.proofs.lemmas.Bool.{eqb-true, eq-eqb}
 use Rattle.std.proofs.Math.Dec.{eqb-suc-zero}
-use Rattle.std.proofs.lemmas.List.{append-nil, length-append, length-take, take_at, drop_at, take-append-drop}
+use Rattle.std.proofs.lemmas.List.{append-nil}
 use Rattle.bgp_wire.specs.Row.{Row, Splits}
 use Rattle.bgp_wire.specs.Reader.{Reads, then_pieces, pieces_within, pieces}
 use Rattle.bgp_wire.specs.Behind.{BehindLength, BehindCount, first_octets, behind_length, behind_count}
