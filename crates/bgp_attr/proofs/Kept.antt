@@ -34,7 +34,6 @@ use Rattle.bgp_attr.specs.Tlv.{TlvValue}
 use Rattle.bgp_attr.specs.Numbers.{number_width, number_in, IsNumber, one_number, numbers_of, IsTriple, one_triple, triples_of, each_once}
 use Rattle.bgp_attr.specs.Path.{path_of}
 use Rattle.bgp_attr.specs.Mp.{family_of, is_in_use, address_width, is_next_hop_length, next_hop_length, next_hop_of, reached_of, reach_of_family, mp_reach_of, withdrawn_of, unreach_of_family, mp_unreach_of}
-use Rattle.bgp_attr.specs.Refusal.{Discard, Withdraw}
 use Rattle.bgp_attr.specs.Value.{origin_of, as_path_form, as4_path_form, four_of, aggregator_of, communities_of, large_of, as4_path_of, opaque_of}
 use Rattle.bgp_attr.specs.Judgement.{has_bad_prefix, origin_tests, as_path_tests, next_hop_tests, med_tests, local_pref_tests, atomic_tests, aggregator_tests, communities_tests, mp_reach_tests, mp_unreach_tests, as4_path_tests, large_tests, other_tests, AttributeType, is_recognised, type_row, judgement}
 use Rattle.bgp_attr.specs.Spelling.{IsOfType, origin_code, IsOrigin, IsAsPath, IsNextHop, IsMed, IsLocalPref, IsAtomic, IsAggregator, IsCommunities, IsLarge, IsReach, link_octets, HasLink, IsReachValue, IsMpReach, IsUnreachValue, IsMpUnreach, IsAs4Path, IsOpaque, Spells}
@@ -79,7 +78,7 @@ module _ (ctx : Context) (t : TlvValue) where
   as_path-spells : t.kind ≡ AS_PATH → NoneApplies (as_path_tests ctx t) → IsAsPath ctx (path_of (as_path_form ctx) t.value) t
   as_path-spells e none = record {
     of_type = of_type AS_PATH WellKnown e (passed _ _ none.0);
-    path = fault-path (as_path_form ctx) t.value (passed_fault (λ fault. Withdraw fault) _ none.1.0);
+    path = fault-path (as_path_form ctx) t.value (passed_fault (λ fault. judged.Withdraw fault) _ none.1.0);
   }
 
   next_hop-spells : (has_nlri : Bool) → t.kind ≡ NEXT_HOP → NoneApplies (next_hop_tests has_nlri t) → IsNextHop t.value t
@@ -146,7 +145,7 @@ module _ (ctx : Context) (t : TlvValue) where
   as4_path-spells : t.kind ≡ AS4_PATH → NoneApplies (as4_path_tests ctx t) → IsAs4Path (as4_path_of t) t
   as4_path-spells e none = record {
     of_type = of_type AS4_PATH OptionalTransitive e (passed _ _ none.1.0);
-    path = fault-path as4_path_form t.value (passed_fault (λ fault. Discard fault) _ none.1.1.1.0);
+    path = fault-path as4_path_form t.value (passed_fault (λ fault. judged.Discard fault) _ none.1.1.1.0);
     partial = refl;
   }
 

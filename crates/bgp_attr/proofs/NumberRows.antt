@@ -12,11 +12,15 @@ use Rattle.bgp_wire.specs.Reader.{pieces}
 use Rattle.bgp_wire.proofs.OctetLemmas.{AreOctets-front, AreOctets-back, AreOctets-take, AreOctets-drop}
 use Rattle.bgp_wire.proofs.Pieces.{Splits-pieces}
 use Rattle.bgp_wire.proofs.Behinds.{pieces-whole}
+use Rattle.bgp_prefix.specs.declared.as_number.AsNumber.{AsNumber}
 use Rattle.bgp_attr.specs.Numbers.{number_width, number_in, IsNumber, one_number, numbers_of, number_octets, row_octets, IsTriple, one_triple, triples_of, triple_octets}
 use Rattle.bgp_attr.specs.Written.{IsFourOctets, IsThreeNumbers}
 use Rattle.bgp_attr.proofs.Readers.{IsNumber-reads, IsTriple-reads}
 
 -- ---- one number
+
+abbrev pub number_of : AsNumber → ℕ
+number_of n = n.0
 
 -- the number fits its octets
 abbrev pub Fits : Bool → ℕ → Type 0

@@ -32,7 +32,6 @@ use Rattle.bgp_attr.specs.declared.origin.Origin.TheVariants.{Igp, Egp, Incomple
 use Rattle.bgp_attr.specs.Flags.{is_extended, has_class, flags_octet}
 use Rattle.bgp_attr.specs.Tlv.{TlvValue, IsTlv, number_of_length, length_octets}
 use Rattle.bgp_attr.specs.Numbers.{number_width, number_in, number_octets, row_octets, triple_octets, each_once}
-use Rattle.bgp_attr.specs.Refusal.{Discard, Withdraw}
 use Rattle.bgp_attr.specs.Value.{origin_of, as_path_form, as4_path_form, aggregator_of}
 use Rattle.bgp_attr.specs.Path.{path_of}
 use Rattle.bgp_attr.specs.Judgement.{has_bad_prefix, mp_reach_tests, mp_unreach_tests, aggregator_tests, AttributeType, is_recognised, judgement}
@@ -178,7 +177,7 @@ module _ (ctx : Context) (has_nlri : Bool) where
       this-kept (attr.AsPath p) (ap (λ (x : AsPath). attr.AsPath x) (path_of-octets (as_path_form ctx) p c)) (
         pass _ _ (flags-right WellKnown false (ltb 255 (length (path_octets ctx.as4 p)))),
         (
-          pass_fault (λ fault. Withdraw fault) _ (path_fault-octets (as_path_form ctx) p c),
+          pass_fault (λ fault. judged.Withdraw fault) _ (path_fault-octets (as_path_form ctx) p c),
           (pass _ _ (path_has_zero-octets (as_path_form ctx) p c), tt),
         ),
       )
@@ -199,7 +198,7 @@ module _ (ctx : Context) (has_nlri : Bool) where
           pass _ _ (flags-right OptionalTransitive p.partial (ltb 255 (length octets))),
           (
             pass _ _ (or_from _ _ (ap not even) long),
-            (pass_fault (λ fault. Discard fault) _ (path_fault-octets as4_path_form p.path c), (pass _ _ (path_has_zero-octets as4_path_form p.path c), (pass _ _ left, tt))),
+            (pass_fault (λ fault. judged.Discard fault) _ (path_fault-octets as4_path_form p.path c), (pass _ _ (path_has_zero-octets as4_path_form p.path c), (pass _ _ left, tt))),
           ),
         ),
       )

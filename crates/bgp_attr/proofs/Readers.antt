@@ -1,15 +1,14 @@
 -- Attributes, numbers, triples and segments are read as they are spelled.
-use Rattle.std.proofs.Common.{◌≡◌, ℕ, ◌<◌, Bool, true, false, cond, leb, List, [], ◌∷◌, ◌++◌, length, take, drop, Option, Some, None, refl, sym, ap, subst, ◌∙◌, append_assoc, arith}
+use Rattle.std.proofs.Common.{◌≡◌, ℕ, ◌<◌, Bool, true, false, cond, List, [], ◌∷◌, ◌++◌, length, Option, Some, None, refl, sym, ap, subst, ◌∙◌, append_assoc, arith}
 use Rattle.std.specs.Int.{w16, w32, from_be_bytes}
-use Rattle.std.proofs.lemmas.Bool.{leb-true, le-leb}
-use Rattle.std.proofs.lemmas.List.{length-append, length-take, take_at, drop_at, take-append-drop}
 use Rattle.bgp_wire.specs.Reader.{Reads}
-use Rattle.bgp_wire.specs.Behind.{behind_count}
+use Rattle.bgp_wire.specs.Then.{◌>>=◌}
+use Rattle.bgp_wire.specs.Behind.{first_octets, behind_count}
+use Rattle.bgp_wire.proofs.Firsts.{both_steps, first_octets-at, first_octets-gives}
 use Rattle.bgp_wire.proofs.Pieces.{found, found_same, found_not}
 use Rattle.bgp_wire.proofs.Behinds.{BehindCount-reads}
 use Rattle.bgp_attr.specs.declared.path_form.PathForm.{PathForm}
-use Rattle.bgp_attr.specs.Flags.{is_extended}
-use Rattle.bgp_attr.specs.Tlv.{TlvValue, IsTlv, number_of_length, with_value, behind_one_octet, behind_two_octets, one_tlv}
+use Rattle.bgp_attr.specs.Tlv.{TlvValue, length_width, number_of_length, IsTlv, one_tlv}
 use Rattle.bgp_attr.specs.Numbers.{IsNumber, four_at, two_at, one_number, IsTriple, one_triple}
 use Rattle.bgp_attr.specs.Path.{WireSegment, is_known, IsSegment, segment_of, one_segment}
 
@@ -170,58 +169,47 @@ IsSegment-reads form = record {
 abbrev pub tlv_with : ℕ → ℕ → List ℕ → List ℕ → TlvValue
 tlv_with flags kind size value = record { flags = flags; kind = kind; whole = flags ∷ kind ∷ (size ++ value); value = value }
 
-with_value_finds : (flags kind n : ℕ) (size value back : List ℕ) → length value ≡ n → with_value flags kind size n (value ++ back) ≡ Some (tlv_with flags kind size value, back)
-with_value_finds flags kind n size value back len =
-    let fits : leb n (length (value ++ back)) ≡ true = le-leb _ _ (omega (arith, length-append value back)) in
-    rw (fits, take_at value back n len, drop_at value back n len) refl
+-- the attribute whose value is what was found
+abbrev pub with_value : ℕ → ℕ → List ℕ → List ℕ × List ℕ → Option (TlvValue × List ℕ)
+with_value flags kind size value = Some (tlv_with flags kind size value.0, value.1)
 
-finds_tlv : (flags kind : ℕ) (size value back : List ℕ) (ext : Bool) → length size ≡ cond ext 2 1 → length value ≡ number_of_length size
-    → cond ext (behind_two_octets flags kind ((size ++ value) ++ back)) (behind_one_octet flags kind ((size ++ value) ++ back)) ≡ Some (tlv_with flags kind size value, back)
-finds_tlv flags kind (high ∷ low ∷ []) value back true wide counted = with_value_finds flags kind _ (high ∷ low ∷ []) value back counted
-finds_tlv flags kind [] value back true wide counted = absurd (omega arith)
-finds_tlv flags kind (high ∷ []) value back true wide counted = absurd (omega arith)
-finds_tlv flags kind (high ∷ low ∷ x ∷ size) value back true wide counted = absurd (omega arith)
-finds_tlv flags kind (n ∷ []) value back false wide counted = with_value_finds flags kind n (n ∷ []) value back counted
-finds_tlv flags kind [] value back false wide counted = absurd (omega arith)
-finds_tlv flags kind (n ∷ x ∷ size) value back false wide counted = absurd (omega arith)
+-- the attribute behind its length
+abbrev pub behind_size : ℕ → ℕ → List ℕ × List ℕ → Option (TlvValue × List ℕ)
+behind_size flags kind size = first_octets (number_of_length size.0) size.1 >>= with_value flags kind size.0
+
+finds_tlv : (flags kind : ℕ) (size value back : List ℕ) → length size ≡ length_width flags → length value ≡ number_of_length size
+    → one_tlv (flags ∷ kind ∷ (size ++ value) ++ back) ≡ Some (tlv_with flags kind size value, back)
+unfolding one_tlv
+finds_tlv flags kind size value back wide counted =
+    ap (λ (b : List ℕ). first_octets (length_width flags) b >>= behind_size flags kind) (append_assoc size value back)
+    ∙ ap (λ (o : Option (List ℕ × List ℕ)). o >>= behind_size flags kind) (first_octets-at (length_width flags) size (value ++ back) wide)
+    ∙ ap (λ (o : Option (List ℕ × List ℕ)). o >>= with_value flags kind size) (first_octets-at (number_of_length size) value back counted)
 
 tlv_finds : (t : TlvValue) (front back : List ℕ) → IsTlv t front → one_tlv (front ++ back) ≡ Some (t, back)
-unfolding one_tlv
 tlv_finds t front back p =
     let same : tlv_with t.flags t.kind p.size t.value ≡ t = ap (λ (w : List ℕ). record { flags = t.flags; kind = t.kind; whole = w; value = t.value }) (sym (p.whole ∙ p.octets)) in
     ap (λ (x : List ℕ). one_tlv (x ++ back)) p.octets
-    ∙ finds_tlv t.flags t.kind p.size t.value back (is_extended t.flags) p.wide p.counted
+    ∙ finds_tlv t.flags t.kind p.size t.value back p.wide p.counted
     ∙ ap (λ (u : TlvValue). Some (u, back)) same
-
-gives_value : (flags kind n : ℕ) (size b : List ℕ) (t : TlvValue) (back : List ℕ) (test : Bool) → leb n (length b) ≡ test → length size ≡ cond (is_extended flags) 2 1 → n ≡ number_of_length size
-    → cond test (found TlvValue (tlv_with flags kind size (take n b), drop n b)) None ≡ Some (t, back)
-    → (front : List ℕ) × (flags ∷ kind ∷ (size ++ b) ≡ front ++ back) × IsTlv t front
-gives_value flags kind n size b t back true fits wide n_is e =
-    let same = found_same TlvValue (tlv_with flags kind size (take n b), drop n b) (t, back) e in
-    let len : length (take n b) ≡ n = omega (arith, length-take n b, leb-true n (length b) fits) in
-    let split : size ++ b ≡ (size ++ take n b) ++ drop n b = ap (λ (x : List ℕ). size ++ x) (sym (take-append-drop n b)) ∙ sym (append_assoc size (take n b) (drop n b)) in
-    subst (λ (q : TlvValue × List ℕ). (front : List ℕ) × (flags ∷ kind ∷ (size ++ b) ≡ front ++ q.1) × IsTlv q.0 front) same (
-      flags ∷ kind ∷ (size ++ take n b),
-      ap (λ (x : List ℕ). flags ∷ kind ∷ x) split,
-      record { size = size; octets = refl; wide = wide; counted = len ∙ n_is; whole = refl },
-    )
-gives_value flags kind n size b t back false fits wide n_is e = absurd (found_not TlvValue (t, back) e)
-
-gives_tlv : (flags kind : ℕ) (b : List ℕ) (t : TlvValue) (back : List ℕ) (ext : Bool) → is_extended flags ≡ ext
-    → cond ext (behind_two_octets flags kind b) (behind_one_octet flags kind b) ≡ Some (t, back)
-    → (front : List ℕ) × (flags ∷ kind ∷ b ≡ front ++ back) × IsTlv t front
-gives_tlv flags kind (high ∷ low ∷ b) t back true is e =
-    gives_value flags kind (from_be_bytes w16 (high ∷ low ∷ [])) (high ∷ low ∷ []) b t back (leb (from_be_bytes w16 (high ∷ low ∷ [])) (length b)) refl (sym (ap (λ (x : Bool). cond x 2 1) is)) refl e
-gives_tlv flags kind [] t back true is e = absurd (found_not TlvValue (t, back) e)
-gives_tlv flags kind (high ∷ []) t back true is e = absurd (found_not TlvValue (t, back) e)
-gives_tlv flags kind (n ∷ b) t back false is e = gives_value flags kind n (n ∷ []) b t back (leb n (length b)) refl (sym (ap (λ (x : Bool). cond x 2 1) is)) refl e
-gives_tlv flags kind [] t back false is e = absurd (found_not TlvValue (t, back) e)
 
 tlv_gives : (b : List ℕ) (t : TlvValue) (back : List ℕ) → one_tlv b ≡ Some (t, back) → (front : List ℕ) × (b ≡ front ++ back) × IsTlv t front
 unfolding one_tlv
 tlv_gives [] t back e = absurd (found_not TlvValue (t, back) e)
 tlv_gives (flags ∷ []) t back e = absurd (found_not TlvValue (t, back) e)
-tlv_gives (flags ∷ kind ∷ b) t back e = gives_tlv flags kind b t back (is_extended flags) refl e
+tlv_gives (flags ∷ kind ∷ b) t back e =
+    let first = both_steps (first_octets (length_width flags) b) (behind_size flags kind) (t, back) e in
+    let size : List ℕ × List ℕ = first.0 in
+    let second = both_steps (first_octets (number_of_length size.0) size.1) (with_value flags kind size.0) (t, back) first.2 in
+    let value : List ℕ × List ℕ = second.0 in
+    let front = first_octets-gives (length_width flags) b size.0 size.1 first.1 in
+    let later = first_octets-gives (number_of_length size.0) size.1 value.0 value.1 second.1 in
+    let same = found_same TlvValue (tlv_with flags kind size.0 value.0, value.1) (t, back) second.2 in
+    let split : b ≡ (size.0 ++ value.0) ++ value.1 = front.octets ∙ ap (λ (x : List ℕ). size.0 ++ x) later.octets ∙ sym (append_assoc size.0 value.0 value.1) in
+    subst (λ (q : TlvValue × List ℕ). (front : List ℕ) × (flags ∷ kind ∷ b ≡ front ++ q.1) × IsTlv q.0 front) same (
+      flags ∷ kind ∷ (size.0 ++ value.0),
+      ap (λ (x : List ℕ). flags ∷ kind ∷ x) split,
+      record { size = size.0; octets = refl; wide = front.long; counted = later.long; whole = refl },
+    )
 
 pub IsTlv-reads : Reads IsTlv one_tlv
 IsTlv-reads = record {

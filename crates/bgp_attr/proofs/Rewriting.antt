@@ -22,7 +22,6 @@ use Rattle.bgp_attr.specs.Tlv.{TlvValue, number_of_length, IsTlv}
 use Rattle.bgp_attr.specs.Numbers.{number_width, number_in, number_octets, numbers_of, triples_of, each_once, triple_octets}
 use Rattle.bgp_attr.specs.Path.{path_of}
 use Rattle.bgp_attr.specs.Mp.{family_of, is_in_use, mp_reach_of, mp_unreach_of}
-use Rattle.bgp_attr.specs.Refusal.{Discard, Withdraw}
 use Rattle.bgp_attr.specs.Value.{origin_of, as_path_form, as4_path_form, four_of, aggregator_of, communities_of, large_of, as4_path_of, opaque_of}
 use Rattle.bgp_attr.specs.Judgement.{origin_tests, as_path_tests, next_hop_tests, med_tests, local_pref_tests, aggregator_tests, communities_tests, mp_reach_tests, mp_unreach_tests, as4_path_tests, as4_aggregator_tests, large_tests, is_recognised, judgement}
 use Rattle.bgp_attr.specs.Spelling.{link_octets, HasLink, IsReachValue, IsUnreachValue}
@@ -70,7 +69,7 @@ module _ (ctx : Context) (has_nlri : Bool) (t : TlvValue) (octets : AreOctets t.
 
   as_path-rewritten : NoneApplies (as_path_tests ctx t) → Rewritten ctx has_nlri t (attr.AsPath (path_of (as_path_form ctx) t.value))
   as_path-rewritten none =
-      let r = path-rewrites (as_path_form ctx) t.value octets (passed_fault (λ fault. Withdraw fault) _ none.1.0) (passed _ _ none.1.1.0) in
+      let r = path-rewrites (as_path_form ctx) t.value octets (passed_fault (λ fault. judged.Withdraw fault) _ none.1.0) (passed _ _ none.1.1.0) in
       record { narrow = narrow_where ctx.as4 _ r.low; allowed = none_as4; some = r.good; named = refl; nonzero = r.nonzero; once = refl; in_place = tt; ranges = r.ranges; shorter = r.shorter }
 
   next_hop-rewritten : NoneApplies (next_hop_tests has_nlri t) → Rewritten ctx has_nlri t (attr.NextHop t.value)
@@ -191,7 +190,7 @@ module _ (ctx : Context) (has_nlri : Bool) (t : TlvValue) (octets : AreOctets t.
 
   as4_path-rewritten : NoneApplies (as4_path_tests ctx t) → Rewritten ctx has_nlri t (attr.As4Path (as4_path_of t))
   as4_path-rewritten none =
-      let r = path-rewrites as4_path_form t.value octets (passed_fault (λ fault. Discard fault) _ none.1.1.1.0) (passed _ _ none.1.1.1.1.0) in
+      let r = path-rewrites as4_path_form t.value octets (passed_fault (λ fault. judged.Discard fault) _ none.1.1.1.0) (passed _ _ none.1.1.1.1.0) in
       record {
         narrow = refl;
         allowed = and_left ctx.as4 true (passed _ _ none.0);

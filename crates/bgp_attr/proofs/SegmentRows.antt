@@ -17,11 +17,12 @@ use Rattle.bgp_attr.specs.declared.path.AsPath.{AsPath}
 use Rattle.bgp_attr.specs.declared.path_form.PathForm.{PathForm}
 use Rattle.bgp_attr.specs.declared.why.Why.TheVariants as why
 use Rattle.bgp_attr.specs.Numbers.{number_width, row_octets}
-use Rattle.bgp_attr.specs.Path.{WireSegment, is_known, IsSegment, one_segment, segments_of, as_number, kind_of_segment, segment_kept_as, kept_segment, path_of, segment_fault, path_fault, has_zero, path_has_zero}
+use Rattle.bgp_attr.specs.Path.{WireSegment, is_known, IsSegment, one_segment, segments_of, as_number, kind_of_segment, segment_kept_as, kept_segment, path_of, segment_fault, path_fault, path_has_zero}
 use Rattle.bgp_attr.specs.Spelling.{IsPath}
-use Rattle.bgp_attr.specs.Written.{number_of, segment_code, segment_octets, path_octets, any_number, is_above_two_octets, is_zero, is_bad_segment, IsFourOctets, HasPathRanges}
+use Rattle.bgp_attr.specs.Written.{segment_code, segment_octets, path_octets, any_number, is_above_two_octets, is_zero, is_bad_segment, IsFourOctets, HasPathRanges}
 use Rattle.bgp_attr.proofs.Readers.{IsSegment-reads}
-use Rattle.bgp_attr.proofs.NumberRows.{Fits, Fits-four, Row-numbers, length-row_octets, length-number_row, number_row-small}
+use Rattle.bgp_attr.proofs.SegmentSteps.{has_zero}
+use Rattle.bgp_attr.proofs.NumberRows.{number_of, Fits, Fits-four, Row-numbers, length-row_octets, length-number_row, number_row-small}
 
 -- ---- a segment as it lies in octets
 

@@ -1,5 +1,5 @@
 -- The segments of a path one after the other, a step at a time.
-use Rattle.std.proofs.Common.{◌≡◌, ℕ, ◌<◌, Bool, false, ◌||◌, List, [], ◌∷◌, ◌++◌, length, map, Option, Some, None, sym, ap, ◌∙◌}
+use Rattle.std.proofs.Common.{◌≡◌, ℕ, ◌<◌, Bool, false, ◌||◌, eqb, List, [], ◌∷◌, ◌++◌, length, map, Option, Some, None, sym, ap, ◌∙◌}
 use Rattle.std.specs.List.{flat_map, list_any}
 use Rattle.std.proofs.Math.Bool.{or_assoc}
 use Rattle.std.proofs.lemmas.List.Concat.{flat_map-cons}
@@ -7,8 +7,12 @@ use Rattle.bgp_wire.proofs.Walks.{shorter, first_then, no_more, same_rest, all_r
 use Rattle.bgp_prefix.specs.declared.as_number.AsNumber.{AsNumber}
 use Rattle.bgp_attr.specs.declared.path.SegKind.{SegKind}
 use Rattle.bgp_attr.specs.declared.path_form.PathForm.{PathForm}
-use Rattle.bgp_attr.specs.Path.{WireSegment, IsSegment, one_segment, segments_of, kept_segment, has_zero, path_has_zero, as_number, kind_of_segment, segment_kept_as, kept_segments_of}
+use Rattle.bgp_attr.specs.Path.{WireSegment, IsSegment, one_segment, segments_of, kept_segment, path_has_zero, as_number, kind_of_segment, segment_kept_as, kept_segments_of}
 use Rattle.bgp_attr.proofs.Readers.{IsSegment-reads}
+
+-- a number of the segment is 0
+abbrev pub has_zero : WireSegment → Bool
+has_zero s = list_any (λ n. eqb n 0) s.numbers
 
 module _ (form : PathForm) (b : List ℕ) where
   pub no_segment : None ≡ one_segment form b → (segments_of form b).0 ≡ []

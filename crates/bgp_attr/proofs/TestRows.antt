@@ -4,53 +4,87 @@ use Rattle.std.proofs.Common.{◌≡◌, ℕ, Bool, true, false, ◌&&◌, List,
 use Rattle.std.specs.Prelude.{option_map, is_none}
 use Rattle.std.specs.List.{AllByRecursion}
 use Rattle.std.proofs.lemmas.Bool.{true≢false, false≢true}
+use Rattle.bgp_numbers.specs.declared.error.TheConstants.{UPDATE_MESSAGE}
+use Rattle.bgp_wire.specs.Then.{when}
 use Rattle.bgp_open.specs.declared.context.Context.{Context}
 use Rattle.bgp_attr.specs.declared.attr.Attr.{Attr}
+use Rattle.bgp_attr.specs.declared.judged.Judged.{Judged}
 use Rattle.bgp_attr.specs.declared.judged.Judged.TheVariants as judged
 use Rattle.bgp_attr.specs.declared.unwritable.Unwritable.{Unwritable}
 use Rattle.bgp_attr.specs.declared.why.Why.{Why}
 use Rattle.bgp_attr.specs.Tlv.{TlvValue}
-use Rattle.bgp_attr.specs.Refusal.{Refusal, Discard, Withdraw, Reset, when, first_refusal}
 use Rattle.bgp_attr.specs.Table.{entry_of}
-use Rattle.bgp_attr.specs.Judgement.{AttributeType, is_recognised, types, other_type, type_row, unless_refused, judged_by, judgement}
+use Rattle.bgp_attr.specs.Judgement.{aggregator_tests, AttributeType, is_recognised, types, other_type, type_row, decided, judgement}
 use Rattle.bgp_attr.specs.Written.{is_too_wide, is_as4, is_empty, is_misnamed, has_as_zero, stands_twice, is_too_long, why_unless, is_writable}
-use Rattle.bgp_attr.proofs.Tables.{EachRow, by_row, entry-other}
+use Rattle.bgp_attr.proofs.Tables.{EachRow, ◌&◌, by_row, entry-other}
 
 -- ---- tests in their order
 
 -- none of the tests applies
-abbrev pub NoneApplies : List (Option Refusal) → Type 0
+abbrev pub NoneApplies : List (Option Judged) → Type 0
 NoneApplies tests = AllByRecursion (λ o. o ≡ None) tests
 
-pub none-first : (tests : List (Option Refusal)) → NoneApplies tests → first_refusal tests ≡ None
-none-first [] none = refl
-none-first (None ∷ tests) none = none-first tests none.1
-none-first (Some r ∷ tests) none = absurd (let is : Some r ≡ None = none.0 in cc)
+none-decided : (tests : List (Option Judged)) (a : Attr) → NoneApplies tests → decided tests a ≡ judged.Keep a
+none-decided [] a none = refl
+none-decided (None ∷ tests) a none = none-decided tests a none.1
+none-decided (Some j ∷ tests) a none = absurd (let is : Some j ≡ None = none.0 in cc)
 
-pub first-none : (tests : List (Option Refusal)) → first_refusal tests ≡ None → NoneApplies tests
-first-none [] e = tt
-first-none (None ∷ tests) e = (refl, first-none tests e)
-first-none (Some r ∷ tests) e = absurd cc
+pub pass : (b : Bool) (j : Judged) → b ≡ false → when b j ≡ None
+pass b j e = ap (λ (t : Bool). when t j) e
 
-pub pass : (b : Bool) (r : Refusal) → b ≡ false → when b r ≡ None
-pass b r e = ap (λ (t : Bool). when t r) e
+pub passed : (b : Bool) (j : Judged) → when b j ≡ None → b ≡ false
+passed false j e = refl
+passed true j e = absurd cc
 
-pub passed : (b : Bool) (r : Refusal) → when b r ≡ None → b ≡ false
-passed false r e = refl
-passed true r e = absurd cc
-
-pub pass_fault : (f : Why → Refusal) (o : Option Why) → o ≡ None → option_map f o ≡ None
+pub pass_fault : (f : Why → Judged) (o : Option Why) → o ≡ None → option_map f o ≡ None
 pass_fault f o e = ap (λ (x : Option Why). option_map f x) e
 
-pub passed_fault : (f : Why → Refusal) (o : Option Why) → option_map f o ≡ None → o ≡ None
+pub passed_fault : (f : Why → Judged) (o : Option Why) → option_map f o ≡ None → o ≡ None
 passed_fault f None e = refl
 passed_fault f (Some w) e = absurd cc
 
-unless-keep : (r : Option Refusal) (a b : Attr) → unless_refused r a ≡ judged.Keep b → (r ≡ None) × (a ≡ b)
-unless-keep None a b e = (refl, cc)
-unless-keep (Some (Discard w)) a b e = absurd cc
-unless-keep (Some (Withdraw w)) a b e = absurd cc
-unless-keep (Some (Reset n)) a b e = absurd cc
+-- what a test answers: nothing is kept by it, and a reset has the code of an UPDATE Message Error
+abbrev pub IsRefusal : Judged → Type 0
+IsRefusal (judged.Keep a) = ⊥
+IsRefusal (judged.Discard w) = Unit {0}
+IsRefusal (judged.Withdraw w) = Unit {0}
+IsRefusal (judged.Reset n) = n.code ≡ UPDATE_MESSAGE
+
+abbrev pub Refuses : Option Judged → Type 0
+Refuses None = Unit {0}
+Refuses (Some j) = IsRefusal j
+
+-- each test refuses, where it applies
+record AllRefuse (tests : List (Option Judged)) : Type 0 where
+  each : AllByRecursion Refuses tests
+
+no_more : AllRefuse []
+no_more = record { each = tt }
+
+when_refuses : (b : Bool) (j : Judged) → IsRefusal j → Refuses (when b j)
+when_refuses true j h = h
+when_refuses false j h = tt
+
+test : {tests : List (Option Judged)} (b : Bool) (j : Judged) → IsRefusal j → AllRefuse tests → AllRefuse (when b j ∷ tests)
+test b j h later = record { each = (when_refuses b j h, later.each) }
+
+mapped_refuses : (f : Why → Judged) (o : Option Why) → ((w : Why) → IsRefusal (f w)) → Refuses (option_map f o)
+mapped_refuses f None h = tt
+mapped_refuses f (Some w) h = h w
+
+fault : {tests : List (Option Judged)} (f : Why → Judged) (o : Option Why) → ((w : Why) → IsRefusal (f w)) → AllRefuse tests → AllRefuse (option_map f o ∷ tests)
+fault f o h later = record { each = (mapped_refuses f o h, later.each) }
+
+-- where only refusals are answered, a value is kept by no test
+decided-kept : (tests : List (Option Judged)) (a b : Attr) → AllByRecursion Refuses tests → decided tests a ≡ judged.Keep b → NoneApplies tests × (a ≡ b)
+decided-kept [] a b all e = (tt, cc)
+decided-kept (None ∷ tests) a b all e = let p = decided-kept tests a b all.1 e in ((refl, p.0), p.1)
+decided-kept (Some j ∷ tests) a b all e = absurd (subst IsRefusal e all.0)
+
+decided_by : (P : Judged → Type 0) (a : Attr) → P (judged.Keep a) → ((j : Judged) → IsRefusal j → P j) → (tests : List (Option Judged)) → AllByRecursion Refuses tests → P (decided tests a)
+decided_by P a kept refused [] all = kept
+decided_by P a kept refused (None ∷ tests) all = decided_by P a kept refused tests all.1
+decided_by P a kept refused (Some j ∷ tests) all = refused j all.0
 
 -- ---- the row of a type
 
@@ -62,6 +96,9 @@ module _ (ctx : Context) (has_nlri : Bool) (t : TlvValue) where
   pub row-at : (kind : ℕ) → t.kind ≡ kind → type_row ctx has_nlri t ≡ row_at kind
   unfolding type_row
   row-at kind e = ap row_at e
+
+  pub judged-at : (kind : ℕ) → t.kind ≡ kind → judgement ctx has_nlri t ≡ decided (row_at kind).tests (row_at kind).value
+  judged-at kind e = ap (λ (type : AttributeType). decided type.tests type.value) (row-at kind e)
 
   pub row-other : is_recognised t.kind ≡ false → type_row ctx has_nlri t ≡ other_type t
   unfolding type_row
@@ -75,13 +112,39 @@ module _ (ctx : Context) (has_nlri : Bool) (t : TlvValue) where
   -- the value is kept where none of its tests applies, and only there
   pub keeps : (type : AttributeType) (a : Attr) → type_row ctx has_nlri t ≡ type → type.value ≡ a → NoneApplies type.tests → judgement ctx has_nlri t ≡ judged.Keep a
   keeps type a is value none =
-      ap judged_by is ∙ ap (λ (r : Option Refusal). unless_refused r type.value) (none-first type.tests none) ∙ ap (λ (x : Attr). judged.Keep x) value
+      ap (λ (y : AttributeType). decided y.tests y.value) is ∙ none-decided type.tests type.value none ∙ ap (λ (x : Attr). judged.Keep x) value
+
+  aggregator_refuses : (wide : Bool) → AllRefuse (aggregator_tests wide t)
+  aggregator_refuses wide = test _ _ tt (test _ _ tt (test _ _ tt no_more))
+
+  tests_refuse : AllRefuse (type_row ctx has_nlri t).tests
+  tests_refuse =
+      by_type (λ type. AllRefuse type.tests)
+      ((λ origin. test _ _ tt (test _ _ tt (test _ _ tt no_more)))
+      & (λ as_path. test _ _ tt (fault _ _ (λ w. tt) (test _ _ tt no_more)))
+      & (λ next_hop. test _ _ tt (test _ _ tt (test _ _ tt no_more)))
+      & (λ med. test _ _ tt (test _ _ tt no_more))
+      & (λ local_pref. test _ _ tt (test _ _ tt (test _ _ tt no_more)))
+      & (λ atomic. test _ _ tt (test _ _ tt no_more))
+      & (λ aggregator. aggregator_refuses ctx.as4)
+      & (λ communities. test _ _ tt (test _ _ tt no_more))
+      & (λ mp_reach. test _ _ refl (test _ _ refl (test _ _ tt (test _ _ refl (test _ _ refl (test _ _ refl no_more))))))
+      & (λ mp_unreach. test _ _ refl (test _ _ refl (test _ _ tt (test _ _ refl no_more))))
+      & (λ as4_path. test _ _ tt (test _ _ tt (test _ _ tt (fault _ _ (λ w. tt) (test _ _ tt (test _ _ tt no_more))))))
+      & (λ as4_aggregator. test _ _ tt (aggregator_refuses true))
+      & (λ large. test _ _ tt (test _ _ tt no_more))
+      & tt)
+      (λ other. test _ _ refl no_more)
+
+  -- what holds of all that is kept and of each refusal holds of the judgement
+  pub by_answer : (P : Judged → Type 0) → ((a : Attr) → P (judged.Keep a)) → ((j : Judged) → IsRefusal j → P j) → P (judgement ctx has_nlri t)
+  by_answer P kept refused = let type : AttributeType = type_row ctx has_nlri t in decided_by P type.value (kept type.value) refused type.tests tests_refuse.each
 
   pub kept-tests : (a : Attr) → judgement ctx has_nlri t ≡ judged.Keep a → NoneApplies (type_row ctx has_nlri t).tests
-  kept-tests a e = let type : AttributeType = type_row ctx has_nlri t in first-none type.tests (unless-keep (first_refusal type.tests) type.value a e).0
+  kept-tests a e = let type : AttributeType = type_row ctx has_nlri t in (decided-kept type.tests type.value a tests_refuse.each e).0
 
   pub kept-value : (a : Attr) → judgement ctx has_nlri t ≡ judged.Keep a → (type_row ctx has_nlri t).value ≡ a
-  kept-value a e = let type : AttributeType = type_row ctx has_nlri t in (unless-keep (first_refusal type.tests) type.value a e).1
+  kept-value a e = let type : AttributeType = type_row ctx has_nlri t in (decided-kept type.tests type.value a tests_refuse.each e).1
 
   -- what holds of the value of each row whose tests pass holds of an attribute that is kept
   pub by_kept : (P : Attr → Type 0) → EachRow (λ kind type. t.kind ≡ kind → NoneApplies type.tests → P type.value) (types ctx has_nlri t)

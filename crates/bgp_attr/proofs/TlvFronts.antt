@@ -1,17 +1,20 @@
 -- An attribute at the front of octets, as the code cuts it off.
-use Rattle.std.proofs.Common.{◌≡◌, ℕ, suc, ◌+◌, ◌-◌, ◌<◌, ◌≤◌, Bool, true, false, cond, List, [], ◌∷◌, ◌++◌, length, take, drop, Some, None, refl, sym, ap, subst, ◌∙◌, arith}
+use Rattle.std.proofs.Common.{◌≡◌, ℕ, suc, ◌+◌, ◌-◌, ◌<◌, ◌≤◌, Bool, true, false, cond, List, [], ◌∷◌, ◌++◌, length, take, drop, Option, Some, None, refl, sym, ap, subst, ◌∙◌, arith}
 use Rattle.std.specs.Int.{w16, to_be_bytes, from_be_bytes}
 use Rattle.std.proofs.Math.Seq.{take-append-add}
 use Rattle.std.proofs.lemmas.Bool.{le-leb, lt-leb}
 use Rattle.std.proofs.lemmas.Nat.{be_bytes_2}
 use Rattle.std.proofs.lemmas.List.{length-append, length-take, length-drop}
 use Rattle.bgp_wire.specs.Octets.{AreOctets}
+use Rattle.bgp_wire.specs.Then.{◌>>=◌}
+use Rattle.bgp_wire.specs.Behind.{first_octets}
+use Rattle.bgp_wire.proofs.Firsts.{first_octets-at}
 use Rattle.bgp_wire.proofs.OctetLemmas.{AreOctets-take}
 use Rattle.bgp_wire.proofs.Pieces.{found_same, found_not}
 use Rattle.bgp_attr.specs.Flags.{is_extended}
-use Rattle.bgp_attr.specs.Tlv.{TlvValue, with_value, one_tlv, length_octets, tlv_octets}
+use Rattle.bgp_attr.specs.Tlv.{TlvValue, length_width, one_tlv, length_octets, tlv_octets}
 use Rattle.bgp_attr.specs.steps.LengthField.{length_field}
-use Rattle.bgp_attr.proofs.Readers.{tlv_with}
+use Rattle.bgp_attr.proofs.Readers.{tlv_with, with_value, behind_size}
 
 -- the octets in front of what follows a value
 whole_cut : (front b : List ℕ) (n : ℕ) → n ≤ length b → take (length (front ++ b) - length (drop n b)) (front ++ b) ≡ front ++ take n b
@@ -19,24 +22,28 @@ whole_cut front b n le =
     let count : length (front ++ b) - length (drop n b) ≡ length front + n = omega (arith, length-append front b, length-drop n b) in
     ap (λ (m : ℕ). take m (front ++ b)) count ∙ take-append-add front b n
 
-with_value_taken : (flags kind n : ℕ) (size b : List ℕ) → n ≤ length b → with_value flags kind size n b ≡ Some (tlv_with flags kind size (take n b), drop n b)
-with_value_taken flags kind n size b le = rw (le-leb n (length b) le) refl
+value_taken : (flags kind n : ℕ) (size b : List ℕ) → n ≤ length b → (first_octets n b >>= with_value flags kind size) ≡ Some (tlv_with flags kind size (take n b), drop n b)
+value_taken flags kind n size b le = rw (le-leb n (length b) le) refl
 
-with_value_short : (flags kind n : ℕ) (size b : List ℕ) → length b < n → with_value flags kind size n b ≡ None
-with_value_short flags kind n size b lt = rw (lt-leb n (length b) lt) refl
+value_short : (flags kind n : ℕ) (size b : List ℕ) → length b < n → (first_octets n b >>= with_value flags kind size) ≡ None
+value_short flags kind n size b lt = rw (lt-leb n (length b) lt) refl
 
 -- the attribute that the code makes of the front: all octets in front of what follows the value, and the value
 abbrev pub cut_tlv : ℕ → ℕ → List ℕ → ℕ → List ℕ → TlvValue
 cut_tlv flags kind b n rest = record { flags = flags; kind = kind; whole = take (length (flags ∷ kind ∷ b) - length (drop n rest)) (flags ∷ kind ∷ b); value = take n rest }
 
 module _ (flags kind : ℕ) where
-  one_tlv-ext : (high low : ℕ) (b : List ℕ) → is_extended flags ≡ true → one_tlv (flags ∷ kind ∷ high ∷ low ∷ b) ≡ with_value flags kind (high ∷ low ∷ []) (from_be_bytes w16 (high ∷ low ∷ [])) b
+  behind_width : (width : ℕ) (size b : List ℕ) → length_width flags ≡ width → length size ≡ width → one_tlv (flags ∷ kind ∷ (size ++ b)) ≡ behind_size flags kind (size, b)
   unfolding one_tlv
-  one_tlv-ext high low b is = rw is refl
+  behind_width width size b is long =
+      ap (λ (o : Option (List ℕ × List ℕ)). o >>= behind_size flags kind) (first_octets-at (length_width flags) size b (long ∙ sym is))
 
-  one_tlv-short : (n : ℕ) (b : List ℕ) → is_extended flags ≡ false → one_tlv (flags ∷ kind ∷ n ∷ b) ≡ with_value flags kind (n ∷ []) n b
-  unfolding one_tlv
-  one_tlv-short n b is = rw is refl
+  one_tlv-ext : (high low : ℕ) (b : List ℕ) → is_extended flags ≡ true
+      → one_tlv (flags ∷ kind ∷ high ∷ low ∷ b) ≡ (first_octets (from_be_bytes w16 (high ∷ low ∷ [])) b >>= with_value flags kind (high ∷ low ∷ []))
+  one_tlv-ext high low b is = behind_width 2 (high ∷ low ∷ []) b (ap (λ (t : Bool). cond t 2 1) is) refl
+
+  one_tlv-short : (n : ℕ) (b : List ℕ) → is_extended flags ≡ false → one_tlv (flags ∷ kind ∷ n ∷ b) ≡ (first_octets n b >>= with_value flags kind (n ∷ []))
+  one_tlv-short n b is = behind_width 1 (n ∷ []) b (ap (λ (t : Bool). cond t 2 1) is) refl
 
   cut_whole : (size b : List ℕ) (n : ℕ) → n ≤ length b → tlv_with flags kind size (take n b) ≡ cut_tlv flags kind (size ++ b) n b
   cut_whole size b n le =
@@ -47,7 +54,7 @@ module _ (flags kind : ℕ) where
   cut_at true is (high ∷ low ∷ b) n rest e le =
       let same = found_same ℕ (from_be_bytes w16 (high ∷ low ∷ []), b) (n, rest) (sym e) in
       subst (λ (q : ℕ × List ℕ). q.0 ≤ length q.1 → one_tlv (flags ∷ kind ∷ high ∷ low ∷ b) ≡ Some (cut_tlv flags kind (high ∷ low ∷ b) q.0 q.1, drop q.0 q.1)) same
-      (λ fits. one_tlv-ext high low b is ∙ with_value_taken flags kind _ (high ∷ low ∷ []) b fits
+      (λ fits. one_tlv-ext high low b is ∙ value_taken flags kind _ (high ∷ low ∷ []) b fits
       ∙ ap (λ (t : TlvValue). Some (t, drop (from_be_bytes w16 (high ∷ low ∷ [])) b)) (cut_whole (high ∷ low ∷ []) b _ fits))
       le
   cut_at true is [] n rest e le = absurd (found_not ℕ (n, rest) (sym e))
@@ -55,7 +62,7 @@ module _ (flags kind : ℕ) where
   cut_at false is (m ∷ b) n rest e le =
       let same = found_same ℕ (m, b) (n, rest) (sym e) in
       subst (λ (q : ℕ × List ℕ). q.0 ≤ length q.1 → one_tlv (flags ∷ kind ∷ m ∷ b) ≡ Some (cut_tlv flags kind (m ∷ b) q.0 q.1, drop q.0 q.1)) same
-      (λ fits. one_tlv-short m b is ∙ with_value_taken flags kind m (m ∷ []) b fits ∙ ap (λ (t : TlvValue). Some (t, drop m b)) (cut_whole (m ∷ []) b m fits))
+      (λ fits. one_tlv-short m b is ∙ value_taken flags kind m (m ∷ []) b fits ∙ ap (λ (t : TlvValue). Some (t, drop m b)) (cut_whole (m ∷ []) b m fits))
       le
   cut_at false is [] n rest e le = absurd (found_not ℕ (n, rest) (sym e))
 
@@ -63,13 +70,13 @@ module _ (flags kind : ℕ) where
   short_at true is (high ∷ low ∷ b) n rest e lt =
       let same = found_same ℕ (from_be_bytes w16 (high ∷ low ∷ []), b) (n, rest) (sym e) in
       subst (λ (q : ℕ × List ℕ). length q.1 < q.0 → one_tlv (flags ∷ kind ∷ high ∷ low ∷ b) ≡ None) same
-      (λ past. one_tlv-ext high low b is ∙ with_value_short flags kind _ (high ∷ low ∷ []) b past) lt
+      (λ past. one_tlv-ext high low b is ∙ value_short flags kind _ (high ∷ low ∷ []) b past) lt
   short_at true is [] n rest e lt = absurd (found_not ℕ (n, rest) (sym e))
   short_at true is (high ∷ []) n rest e lt = absurd (found_not ℕ (n, rest) (sym e))
   short_at false is (m ∷ b) n rest e lt =
       let same = found_same ℕ (m, b) (n, rest) (sym e) in
       subst (λ (q : ℕ × List ℕ). length q.1 < q.0 → one_tlv (flags ∷ kind ∷ m ∷ b) ≡ None) same
-      (λ past. one_tlv-short m b is ∙ with_value_short flags kind m (m ∷ []) b past) lt
+      (λ past. one_tlv-short m b is ∙ value_short flags kind m (m ∷ []) b past) lt
   short_at false is [] n rest e lt = absurd (found_not ℕ (n, rest) (sym e))
 
   none_at : (ext : Bool) → is_extended flags ≡ ext → (b : List ℕ) → None ≡ length_field ext b → one_tlv (flags ∷ kind ∷ b) ≡ None

@@ -7,7 +7,8 @@ use Rattle.bgp_prefix.specs.declared.as_number.AsNumber.{AsNumber}
 use Rattle.bgp_attr.specs.declared.path.Segment.{Segment}
 use Rattle.bgp_attr.specs.steps.Appends.{Extends}
 use Rattle.bgp_attr.specs.Numbers.{number_octets}
-use Rattle.bgp_attr.specs.Written.{number_of, segment_code, segment_octets}
+use Rattle.bgp_attr.specs.Written.{segment_code, segment_octets}
+use Rattle.bgp_attr.proofs.NumberRows.{number_of}
 
 -- each element, and one more
 pub all_push : {X : Type 0} (P : X → Type 0) (xs : List X) (x : X) → AllByRecursion P xs → P x → AllByRecursion P (xs ++ x ∷ [])

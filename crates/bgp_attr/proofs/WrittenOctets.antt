@@ -26,7 +26,8 @@ use Rattle.bgp_attr.specs.Flags.{is_extended, flags_octet}
 use Rattle.bgp_attr.specs.Tlv.{length_octets, tlv_octets}
 use Rattle.bgp_attr.specs.Numbers.{number_octets, row_octets, triple_octets}
 use Rattle.bgp_attr.specs.Spelling.{origin_code, link_octets}
-use Rattle.bgp_attr.specs.Written.{made, canonical, value_octets, class_of, partial_of, type_of, number_of, segment_code, segment_octets, aggregator_octets, run_octets, reach_row, unreach_row, is_bad_segment, is_writable, IsAddress, HasLinkRange, HasRanges}
+use Rattle.bgp_attr.specs.Written.{made, canonical, value_octets, class_of, partial_of, type_of, segment_code, segment_octets, aggregator_octets, run_octets, reach_row, unreach_row, is_bad_segment, is_writable, IsAddress, HasLinkRange, HasRanges}
+use Rattle.bgp_attr.proofs.NumberRows.{number_of}
 use Rattle.bgp_attr.proofs.FlagBits.{is_extended-flags, flags_octet-small}
 use Rattle.bgp_attr.proofs.TestRows.{Writes, writable-Writes}
 

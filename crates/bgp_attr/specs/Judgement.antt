@@ -1,8 +1,9 @@
 -- The judgement of one attribute, the first of its type in a message (RFC 4271, section 6.3; RFC 7606, sections 3 to 7; RFC 7607).
--- A row for each type: its tests in their order. The first that applies decides; where none does, the attribute is kept.
+-- A row for each type: its tests in their order, each with its answer. The first that applies decides; where none does, the attribute is kept.
 use Rattle.std.specs.Prelude.{ℕ, ◌+◌, ◌%◌, Bool, not, ◌||◌, ◌==◌, nat_lt, List, [], ◌∷◌, length, take, map, slice_index, Option, None, Some, option_map}
 use Rattle.bgp_numbers.specs.declared.attribute.TheConstants.{ORIGIN, AS_PATH, NEXT_HOP, MULTI_EXIT_DISC, LOCAL_PREF, ATOMIC_AGGREGATE, AGGREGATOR, COMMUNITIES, MP_REACH_NLRI, MP_UNREACH_NLRI, AS4_PATH, AS4_AGGREGATOR, LARGE_COMMUNITY}
-use Rattle.bgp_numbers.specs.declared.error.TheConstants.{OPTIONAL_ATTRIBUTE, UNRECOGNIZED_WELL_KNOWN}
+use Rattle.bgp_numbers.specs.declared.error.TheConstants.{UPDATE_MESSAGE, OPTIONAL_ATTRIBUTE, UNRECOGNIZED_WELL_KNOWN}
+use Rattle.bgp_wire.specs.Then.{when}
 use Rattle.bgp_open.specs.declared.context.Context.{Context}
 use Rattle.bgp_prefix.specs.Run.{run_of}
 use Rattle.bgp_attr.specs.declared.class.Class.{Class}
@@ -10,18 +11,21 @@ use Rattle.bgp_attr.specs.declared.class.Class.TheVariants.{WellKnown, OptionalN
 use Rattle.bgp_attr.specs.declared.attr.Attr.{Attr}
 use Rattle.bgp_attr.specs.declared.attr.Attr.TheVariants as attr
 use Rattle.bgp_attr.specs.declared.judged.Judged.{Judged}
-use Rattle.bgp_attr.specs.declared.judged.Judged.TheVariants as judged
+use Rattle.bgp_attr.specs.declared.judged.Judged.TheVariants.{Keep, Discard, Withdraw, Reset}
 use Rattle.bgp_attr.specs.declared.why.Why.TheVariants as why
 use Rattle.bgp_attr.specs.Flags.{has_class, is_optional}
 use Rattle.bgp_attr.specs.Tlv.{TlvValue}
 use Rattle.bgp_attr.specs.Numbers.{number_width, number_in}
 use Rattle.bgp_attr.specs.Path.{path_of, path_fault, path_has_zero}
 use Rattle.bgp_attr.specs.Mp.{family_of, is_in_use, address_width, is_next_hop_length, next_hop_length, reached_of, mp_reach_of, withdrawn_of, mp_unreach_of}
-use Rattle.bgp_attr.specs.Refusal.{Refusal, Discard, Withdraw, Reset, when, first_refusal, reset_with}
 use Rattle.bgp_attr.specs.Table.{has_entry, entry_of}
 use Rattle.bgp_attr.specs.Value.{origin_of, as_path_form, as4_path_form, four_of, aggregator_of, communities_of, large_of, as4_path_of, opaque_of}
 
 -- ---- words of the table
+
+-- a reset of code 3 with the whole attribute as it was received (RFC 4271, section 6.3)
+abbrev pub reset_with : ℕ → TlvValue → Judged
+reset_with subcode t = Reset (record { code = UPDATE_MESSAGE; subcode = subcode; info = record { items = t.whole } })
 
 -- the Optional or the Transitive bit isn't that of the type
 abbrev pub has_other_flags : Class → TlvValue → Bool
@@ -43,52 +47,52 @@ has_bad_prefix width b = not (length (run_of width b).1 == 0)
 
 -- ---- the table
 
-abbrev pub origin_tests : TlvValue → List (Option Refusal)
+abbrev pub origin_tests : TlvValue → List (Option Judged)
 origin_tests t =
     when (has_other_flags WellKnown t) (Withdraw why.Flags) ∷
     when (is_not_long 1 t) (Withdraw why.Length) ∷
     when (nat_lt 2 (slice_index t.value 0)) (Withdraw why.Value) ∷ []
 
-abbrev pub as_path_tests : Context → TlvValue → List (Option Refusal)
+abbrev pub as_path_tests : Context → TlvValue → List (Option Judged)
 as_path_tests ctx t =
     when (has_other_flags WellKnown t) (Withdraw why.Flags) ∷
     option_map (λ fault. Withdraw fault) (path_fault (as_path_form ctx) t.value) ∷
     when (path_has_zero (as_path_form ctx) t.value) (Withdraw why.AsZero) ∷ []
 
-abbrev pub next_hop_tests : Bool → TlvValue → List (Option Refusal)
+abbrev pub next_hop_tests : Bool → TlvValue → List (Option Judged)
 next_hop_tests has_nlri t =
     when (not has_nlri) (Discard why.Unneeded) ∷
     when (has_other_flags WellKnown t) (Withdraw why.Flags) ∷
     when (is_not_long 4 t) (Withdraw why.Length) ∷ []
 
-abbrev pub med_tests : TlvValue → List (Option Refusal)
+abbrev pub med_tests : TlvValue → List (Option Judged)
 med_tests t =
     when (has_other_flags OptionalNonTransitive t) (Withdraw why.Flags) ∷
     when (is_not_long 4 t) (Withdraw why.Length) ∷ []
 
-abbrev pub local_pref_tests : Context → TlvValue → List (Option Refusal)
+abbrev pub local_pref_tests : Context → TlvValue → List (Option Judged)
 local_pref_tests ctx t =
     when (not ctx.internal) (Discard why.External) ∷
     when (has_other_flags WellKnown t) (Withdraw why.Flags) ∷
     when (is_not_long 4 t) (Withdraw why.Length) ∷ []
 
-abbrev pub atomic_tests : TlvValue → List (Option Refusal)
+abbrev pub atomic_tests : TlvValue → List (Option Judged)
 atomic_tests t =
     when (has_other_flags WellKnown t) (Withdraw why.Flags) ∷
     when (is_not_long 0 t) (Discard why.Length) ∷ []
 
-abbrev pub aggregator_tests : Bool → TlvValue → List (Option Refusal)
+abbrev pub aggregator_tests : Bool → TlvValue → List (Option Judged)
 aggregator_tests wide t =
     when (has_other_flags OptionalTransitive t) (Withdraw why.Flags) ∷
     when (is_not_long (number_width wide + 4) t) (Discard why.Length) ∷
     when (number_in wide (take (number_width wide) t.value) == 0) (Discard why.AsZero) ∷ []
 
-abbrev pub communities_tests : TlvValue → List (Option Refusal)
+abbrev pub communities_tests : TlvValue → List (Option Judged)
 communities_tests t =
     when (has_other_flags OptionalTransitive t) (Withdraw why.Flags) ∷
     when (is_no_row 4 t) (Withdraw why.Length) ∷ []
 
-abbrev pub mp_reach_tests : Context → TlvValue → List (Option Refusal)
+abbrev pub mp_reach_tests : Context → TlvValue → List (Option Judged)
 mp_reach_tests ctx t =
     when (has_other_flags OptionalNonTransitive t) (reset_with OPTIONAL_ATTRIBUTE t) ∷
     when (is_shorter 5 t) (reset_with OPTIONAL_ATTRIBUTE t) ∷
@@ -97,7 +101,7 @@ mp_reach_tests ctx t =
     when (is_shorter (5 + next_hop_length t.value) t) (reset_with OPTIONAL_ATTRIBUTE t) ∷
     when (has_bad_prefix (address_width (family_of t.value)) (reached_of t.value)) (reset_with OPTIONAL_ATTRIBUTE t) ∷ []
 
-abbrev pub mp_unreach_tests : Context → TlvValue → List (Option Refusal)
+abbrev pub mp_unreach_tests : Context → TlvValue → List (Option Judged)
 mp_unreach_tests ctx t =
     when (has_other_flags OptionalNonTransitive t) (reset_with OPTIONAL_ATTRIBUTE t) ∷
     when (is_shorter 3 t) (reset_with OPTIONAL_ATTRIBUTE t) ∷
@@ -105,7 +109,7 @@ mp_unreach_tests ctx t =
     when (has_bad_prefix (address_width (family_of t.value)) (withdrawn_of t.value)) (reset_with OPTIONAL_ATTRIBUTE t) ∷ []
 
 -- the last: nothing is left where segments of confederations are dropped
-abbrev pub as4_path_tests : Context → TlvValue → List (Option Refusal)
+abbrev pub as4_path_tests : Context → TlvValue → List (Option Judged)
 as4_path_tests ctx t =
     when ctx.as4 (Discard why.FourOctet) ∷
     when (has_other_flags OptionalTransitive t) (Withdraw why.Flags) ∷
@@ -114,27 +118,27 @@ as4_path_tests ctx t =
     when (path_has_zero as4_path_form t.value) (Discard why.AsZero) ∷
     when (length (path_of as4_path_form t.value).segments == 0) (Discard why.Emptied) ∷ []
 
-abbrev pub as4_aggregator_tests : Context → TlvValue → List (Option Refusal)
+abbrev pub as4_aggregator_tests : Context → TlvValue → List (Option Judged)
 as4_aggregator_tests ctx t =
     when ctx.as4 (Discard why.FourOctet) ∷
     aggregator_tests Bool.true t
 
-abbrev pub large_tests : TlvValue → List (Option Refusal)
+abbrev pub large_tests : TlvValue → List (Option Judged)
 large_tests t =
     when (has_other_flags OptionalTransitive t) (Withdraw why.Flags) ∷
     when (is_no_row 12 t) (Withdraw why.Length) ∷ []
 
 -- a type that isn't recognised: each speaker ought to know it where it isn't optional
-abbrev pub other_tests : TlvValue → List (Option Refusal)
+abbrev pub other_tests : TlvValue → List (Option Judged)
 other_tests t =
     when (not (is_optional t.flags)) (reset_with UNRECOGNIZED_WELL_KNOWN t) ∷ []
 
 -- what belongs to a type: its tests in their order, and the value of an attribute that is kept
 pub record AttributeType : Type 0 where
-  pub tests : List (Option Refusal)
+  pub tests : List (Option Judged)
   pub value : Attr
 
-abbrev pub tested : List (Option Refusal) → Attr → AttributeType
+abbrev pub tested : List (Option Judged) → Attr → AttributeType
 tested tests value = record { tests = tests; value = value }
 
 -- a row for each type that is recognised; has_nlri says that the NLRI field of the message isn't empty
@@ -170,21 +174,11 @@ type_row ctx has_nlri t = entry_of t.kind (types ctx has_nlri t) (other_type t)
 
 -- ---- the answer
 
-abbrev pub refusal_judged : Refusal → Judged
-refusal_judged (Discard w) = judged.Discard w
-refusal_judged (Withdraw w) = judged.Withdraw w
-refusal_judged (Reset notification) = judged.Reset notification
-
-abbrev pub unless_refused : Option Refusal → Attr → Judged
-unless_refused None a = judged.Keep a
-unless_refused (Some refusal) a = refusal_judged refusal
-
 -- the answer of the first test that applies, else the value is kept
-abbrev pub decided : List (Option Refusal) → Attr → Judged
-decided tests a = unless_refused (first_refusal tests) a
-
-abbrev pub judged_by : AttributeType → Judged
-judged_by type = decided type.tests type.value
+abbrev pub decided : List (Option Judged) → Attr → Judged
+decided [] a = Keep a
+decided (None ∷ tests) a = decided tests a
+decided (Some answer ∷ tests) a = answer
 
 abbrev pub judgement : Context → Bool → TlvValue → Judged
-judgement ctx has_nlri t = judged_by (type_row ctx has_nlri t)
+judgement ctx has_nlri t = decided (type_row ctx has_nlri t).tests (type_row ctx has_nlri t).value

@@ -1,11 +1,9 @@
 -- Path attributes: their octets, their judgement, and how they are written.
 pub mod Flags
 pub mod Tlv
-pub mod Then
 pub mod Numbers
 pub mod Path
 pub mod Mp
-pub mod Refusal
 pub mod Table
 pub mod Value
 pub mod Judgement

@@ -3,7 +3,7 @@ use Rattle.std.specs.Prelude.{◌≡◌, ℕ, Bool, true, false, List, [], ◌�
 use Rattle.std.specs.List.{flat_map, list_any}
 use Rattle.std.specs.Int.{w16, w32, to_be_bytes, from_be_bytes}
 use Rattle.bgp_wire.specs.Reader.{pieces}
-use Rattle.bgp_attr.specs.Then.{◌>>=◌}
+use Rattle.bgp_wire.specs.Then.{◌>>=◌}
 
 -- the octets of a number: four where it is wide, else two
 abbrev pub number_width : Bool → ℕ

@@ -85,8 +85,5 @@ abbrev pub path_fault : PathForm → List ℕ → Option Why
 path_fault form b = segment_fault form (segments_of form b).1
 
 -- an AS number 0 stands in a segment, also in one that is dropped (RFC 7607, section 2)
-abbrev pub has_zero : WireSegment → Bool
-has_zero s = list_any (λ n. n == 0) s.numbers
-
 abbrev pub path_has_zero : PathForm → List ℕ → Bool
-path_has_zero form b = list_any has_zero (segments_of form b).0
+path_has_zero form b = list_any (λ s. list_any (λ n. n == 0) s.numbers) (segments_of form b).0

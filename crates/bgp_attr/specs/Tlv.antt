@@ -1,8 +1,10 @@
 -- An attribute as it lies in octets (RFC 4271, section 4.3): flags, type, length, value. The length has two octets where the
 -- Extended Length bit is set, else one.
-use Rattle.std.specs.Prelude.{◌≡◌, ℕ, ◌+◌, List, [], ◌∷◌, ◌++◌, length, take, drop, Option, None, Some, nat_le, if◌then◌else◌}
+use Rattle.std.specs.Prelude.{◌≡◌, ℕ, ◌+◌, List, [], ◌∷◌, ◌++◌, length, Option, None, Some, if◌then◌else◌}
 use Rattle.std.specs.Int.{w16, to_be_bytes, from_be_bytes}
+use Rattle.bgp_wire.specs.Then.{◌>>=◌}
 use Rattle.bgp_wire.specs.Reader.{pieces}
+use Rattle.bgp_wire.specs.Behind.{first_octets}
 use Rattle.bgp_attr.specs.Flags.{is_extended}
 
 -- an attribute before it is judged: its flags, its type, all its octets, and those of its value
@@ -37,27 +39,13 @@ length_octets flags n = if is_extended flags then to_be_bytes w16 n else n ∷ [
 abbrev pub tlv_octets : ℕ → ℕ → List ℕ → List ℕ
 tlv_octets flags kind value = flags ∷ kind ∷ (length_octets flags (length value) ++ value)
 
--- the attribute whose value is the first n octets of b, where b has as many
-abbrev pub with_value : ℕ → ℕ → List ℕ → ℕ → List ℕ → Option (TlvValue × List ℕ)
-with_value flags kind size n b =
-    if nat_le n (length b)
-    then Some (record { flags = flags; kind = kind; whole = flags ∷ kind ∷ (size ++ take n b); value = take n b }, drop n b)
-    else None
-
-abbrev pub behind_one_octet : ℕ → ℕ → List ℕ → Option (TlvValue × List ℕ)
-behind_one_octet flags kind [] = None
-behind_one_octet flags kind (n ∷ b) = with_value flags kind (n ∷ []) n b
-
-abbrev pub behind_two_octets : ℕ → ℕ → List ℕ → Option (TlvValue × List ℕ)
-behind_two_octets flags kind [] = None
-behind_two_octets flags kind (high ∷ []) = None
-behind_two_octets flags kind (high ∷ low ∷ b) = with_value flags kind (high ∷ low ∷ []) (from_be_bytes w16 (high ∷ low ∷ [])) b
-
 -- the attribute at the front of octets, and what follows it
 unfoldable pub one_tlv : List ℕ → Option (TlvValue × List ℕ)
-one_tlv [] = None
-one_tlv (flags ∷ []) = None
-one_tlv (flags ∷ kind ∷ b) = if is_extended flags then behind_two_octets flags kind b else behind_one_octet flags kind b
+one_tlv (flags ∷ kind ∷ b) = do
+  size ← first_octets (length_width flags) b
+  value ← first_octets (number_of_length size.0) size.1
+  Some (record { flags = flags; kind = kind; whole = flags ∷ kind ∷ (size.0 ++ value.0); value = value.0 }, value.1)
+one_tlv _ = None
 
 -- the attributes that octets begin with, and the rest, which begins with none
 abbrev pub tlvs_of : List ℕ → List TlvValue × List ℕ

@@ -7,7 +7,6 @@ use Rattle.bgp_numbers.specs.declared.safi.TheConstants.{UNICAST}
 use Rattle.bgp_numbers.specs.declared.segment.TheConstants.{SET, SEQUENCE}
 use Rattle.bgp_numbers.specs.declared.attribute.TheConstants.{ORIGIN, AS_PATH, NEXT_HOP, MULTI_EXIT_DISC, LOCAL_PREF, ATOMIC_AGGREGATE, AGGREGATOR, COMMUNITIES, MP_REACH_NLRI, MP_UNREACH_NLRI, AS4_PATH, AS4_AGGREGATOR, LARGE_COMMUNITY}
 use Rattle.bgp_open.specs.declared.context.Context.{Context}
-use Rattle.bgp_prefix.specs.declared.as_number.AsNumber.{AsNumber}
 use Rattle.bgp_prefix.specs.Prefix.{PrefixValue, IsValid, spelling_of}
 use Rattle.bgp_wire.specs.Octets.{AreOctets}
 use Rattle.bgp_attr.specs.declared.aggregator.Aggregator.{Aggregator}
@@ -33,15 +32,12 @@ use Rattle.bgp_attr.specs.Spelling.{origin_code, link_octets}
 
 -- ---- the octets of values
 
-abbrev pub number_of : AsNumber → ℕ
-number_of n = n.0
-
 abbrev pub segment_code : SegKind → ℕ
 segment_code Set = SET
 segment_code Seq = SEQUENCE
 
 abbrev pub segment_octets : Bool → Segment → List ℕ
-segment_octets wide s = segment_code s.kind ∷ length s.numbers ∷ row_octets wide (map number_of s.numbers)
+segment_octets wide s = segment_code s.kind ∷ length s.numbers ∷ row_octets wide (map (λ n. n.0) s.numbers)
 
 abbrev pub path_octets : Bool → AsPath → List ℕ
 path_octets wide p = flat_map (segment_octets wide) p.segments

@@ -5,7 +5,7 @@ ghost use Rattle.std.specs.List.{flat_map, list_any, AllByRecursion};
 ghost use Rattle.bgp_wire.specs.Octets.{AreOctets};
 ghost use Rattle.bgp_attr.specs.steps.Appends.{Extends};
 ghost use Rattle.bgp_attr.specs.Numbers.{number_octets, row_octets, triple_octets};
-ghost use Rattle.bgp_attr.specs.Written.{number_of, segment_code, segment_octets, is_bad_segment, IsFourOctets, IsThreeNumbers, IsAddress, run_octets};
+ghost use Rattle.bgp_attr.specs.Written.{segment_code, segment_octets, is_bad_segment, IsFourOctets, IsThreeNumbers, IsAddress, run_octets};
 ghost use Rattle.bgp_prefix.specs.Prefix.{IsValid};
 
 use crate::path::{SegKind, Segment};

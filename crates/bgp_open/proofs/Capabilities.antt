@@ -1,40 +1,37 @@
 -- A capability is read by its reader.
-use Rattle.std.proofs.Common.{◌≡◌, ℕ, ◌<◌, Bool, true, false, cond, leb, List, [], ◌∷◌, ◌++◌, length, take, drop, Option, Some, None, refl, sym, ap, ◌∙◌, arith}
-use Rattle.std.proofs.lemmas.Bool.{leb-true, le-leb}
-use Rattle.std.proofs.lemmas.List.{length-append, length-take, take_at, drop_at, take-append-drop}
+use Rattle.std.proofs.Common.{◌≡◌, ℕ, ◌<◌, List, [], ◌∷◌, ◌++◌, length, Option, Some, refl, sym, ap, ◌∙◌, arith}
+use Rattle.bgp_wire.specs.Then.{◌>>=◌}
 use Rattle.bgp_wire.specs.Reader.{Reads}
+use Rattle.bgp_wire.specs.Behind.{first_octets}
+use Rattle.bgp_wire.proofs.Firsts.{both_steps, first_octets-finds, first_octets-gives}
 use Rattle.bgp_wire.proofs.Pieces.{found_same, found_not}
 use Rattle.bgp_open.specs.declared.capability.Capability.{Capability}
-use Rattle.bgp_open.specs.Capability.{capability_of, followed_by, IsCapability, one_capability}
+use Rattle.bgp_open.specs.Capability.{capability_of, IsCapability, one_capability}
 
 finds : (c : Capability) (front back : List ℕ) → IsCapability c front → one_capability (front ++ back) ≡ Some (c, back)
 unfolding one_capability
 finds c front back p =
-    let fits : leb (length p.value) (length (p.value ++ back)) ≡ true = le-leb _ _ (omega (arith, length-append p.value back)) in
     ap (λ (x : List ℕ). one_capability (x ++ back)) p.octets
-    ∙ rw (fits, take_at p.value back (length p.value) refl, drop_at p.value back (length p.value) refl, p.means) refl
+    ∙ rw (first_octets-finds p.value back, p.means) refl
 
-with_back : (back after : List ℕ) (o : Option Capability) (c : Capability) → followed_by back o ≡ Some (c, after) → (o ≡ Some c) × (back ≡ after)
-with_back back after None c e = absurd (found_not Capability (c, after) e)
-with_back back after (Some d) c e =
-    let same = found_same Capability (d, back) (c, after) e in
-    (ap (λ (p : Capability × List ℕ). Some p.0) same, ap (λ (p : Capability × List ℕ). p.1) same)
-
-gives_at : (code n : ℕ) (b : List ℕ) (c : Capability) (after : List ℕ) (t : Bool) → leb n (length b) ≡ t
-    → cond t (followed_by (drop n b) (capability_of code (take n b))) None ≡ Some (c, after)
-    → (front : List ℕ) × (code ∷ n ∷ b ≡ front ++ after) × IsCapability c front
-gives_at code n b c after true le e =
-    let whole = with_back (drop n b) after (capability_of code (take n b)) c e in
-    let len : length (take n b) ≡ n = omega (arith, length-take n b, leb-true n (length b) le) in
-    let cut : b ≡ take n b ++ after = sym (take-append-drop n b) ∙ ap (λ (x : List ℕ). take n b ++ x) whole.1 in
-    (code ∷ n ∷ take n b, ap (λ (x : List ℕ). code ∷ n ∷ x) cut, record { code = code; value = take n b; octets = ap (λ (k : ℕ). code ∷ k ∷ take n b) (sym len); means = whole.0 })
-gives_at code n b c after false le e = absurd (found_not Capability (c, after) e)
+-- the capability in front of octets
+abbrev in_front : List ℕ → Capability → Option (Capability × List ℕ)
+in_front back c = Some (c, back)
 
 gives : (b : List ℕ) (c : Capability) (after : List ℕ) → one_capability b ≡ Some (c, after) → (front : List ℕ) × (b ≡ front ++ after) × IsCapability c front
 unfolding one_capability
 gives [] c after e = absurd (found_not Capability (c, after) e)
 gives (code ∷ []) c after e = absurd (found_not Capability (c, after) e)
-gives (code ∷ n ∷ b) c after e = gives_at code n b c after (leb n (length b)) refl e
+gives (code ∷ n ∷ b) c after e =
+    let cut = both_steps (first_octets n b) (λ (value : List ℕ × List ℕ). capability_of code value.0 >>= in_front value.1) (c, after) e in
+    let value : List ℕ × List ℕ = cut.0 in
+    let meant = both_steps (capability_of code value.0) (in_front value.1) (c, after) cut.2 in
+    let front = first_octets-gives n b value.0 value.1 cut.1 in
+    let same = found_same Capability (meant.0, value.1) (c, after) meant.2 in (
+      code ∷ n ∷ value.0,
+      ap (λ (x : List ℕ). code ∷ n ∷ x) (front.octets ∙ ap (λ (p : Capability × List ℕ). value.0 ++ p.1) same),
+      record { code = code; value = value.0; octets = ap (λ (k : ℕ). code ∷ k ∷ value.0) (sym front.long); means = meant.1 ∙ ap (λ (p : Capability × List ℕ). Some p.0) same },
+    )
 
 not_empty : (b : List ℕ) (code n : ℕ) (value : List ℕ) → b ≡ code ∷ n ∷ value → 0 < length b
 not_empty b code n value e = omega (arith, ap length e)

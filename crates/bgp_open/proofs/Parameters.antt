@@ -1,10 +1,10 @@
 -- A parameter is read by its reader.
-use Rattle.std.proofs.Common.{◌≡◌, ℕ, ◌<◌, Bool, true, false, cond, eqb, leb, suc, take, drop, List, [], ◌∷◌, ◌++◌, length, Option, Some, None, refl, ap, ◌∙◌, arith}
+use Rattle.std.proofs.Common.{◌≡◌, ℕ, ◌<◌, Bool, true, false, cond, eqb, leb, take, drop, List, [], ◌∷◌, ◌++◌, length, Option, Some, None, refl, ap, ◌∙◌, arith}
 use Rattle.std.proofs.lemmas.Bool.{eqb-true}
-use Rattle.std.proofs.Math.Dec.{eqb-suc-zero}
 use Rattle.bgp_wire.specs.Reader.{pieces}
 use Rattle.bgp_wire.specs.Reader.{Reads}
-use Rattle.bgp_wire.specs.Behind.{BehindLength, when_whole, behind_length}
+use Rattle.bgp_wire.specs.Behind.{BehindLength, behind_length}
+use Rattle.bgp_wire.proofs.Firsts.{cond-then}
 use Rattle.bgp_wire.proofs.Pieces.{found_not}
 use Rattle.bgp_wire.proofs.Behinds.{BehindLength-reads}
 use Rattle.bgp_numbers.specs.declared.parameter.TheConstants.{CAPABILITIES}
@@ -51,9 +51,9 @@ none_both : (t : Bool) → cond t nothing nothing ≡ nothing
 none_both true = refl
 none_both false = refl
 
-whole_where : (back : List ℕ) (q : List Capability × List ℕ) → when_whole back q ≡ cond (eqb (length q.1) 0) (Some (q.0, back)) None
-whole_where back (cs, []) = refl
-whole_where back (cs, x ∷ rest) = let more : eqb (suc (length rest)) 0 ≡ false = eqb-suc-zero (length rest) in rw more refl
+-- the capabilities of the octets, where they are nothing else
+abbrev whole_in : List ℕ × List ℕ → Option (List Capability × List ℕ)
+whole_in cut = cond (eqb (length (pieces one_capability cut.0).1) 0) (Some ((pieces one_capability cut.0).0, cut.1)) None
 
 pub one_parameter-short : (b : List ℕ) → length b < 2 → one_parameter b ≡ None
 unfolding one_parameter behind_length
@@ -65,6 +65,6 @@ pub one_parameter-tests : (kind n : ℕ) (b : List ℕ) → one_parameter (kind 
     ≡ cond (eqb kind CAPABILITIES) (cond (leb n (length b)) (cond (eqb (length (pieces one_capability (take n b)).1) 0) (Some ((pieces one_capability (take n b)).0, drop n b)) None) None) None
 unfolding one_parameter behind_length
 one_parameter-tests kind n b =
-    ap (λ (o : Option (List Capability × List ℕ)). cond (eqb kind CAPABILITIES) (cond (leb n (length b)) o None) None) (whole_where (drop n b) (pieces one_capability (take n b)))
+    ap (λ (o : Option (List Capability × List ℕ)). cond (eqb kind CAPABILITIES) o None) (cond-then (leb n (length b)) (take n b, drop n b) whole_in)
 
 pub ruleset steps = (one_parameter-short, one_parameter-tests)

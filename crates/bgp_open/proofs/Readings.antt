@@ -2,6 +2,7 @@
 use Rattle.std.proofs.Common.{◌≡◌, ◌≢◌, ℕ, ◌≤◌, Bool, true, false, not, ◌&&◌, cond, eqb, ltb, List, [], ◌∷◌, length, Option, Some, None, Result, Ok, Err, refl, sym, ap, subst, ◌∙◌}
 use Rattle.std.specs.Prelude.{IfOk}
 use Rattle.std.proofs.lemmas.Bool.{eqb-true, eq-eqb, ne_eqb, true≢false}
+use Rattle.bgp_wire.specs.Then.{when}
 use Rattle.bgp_wire.specs.Reader.{pieces}
 use Rattle.bgp_wire.proofs.Behinds.{pieces-whole, Row-pieces}
 use Rattle.bgp_numbers.specs.declared.TheConstants.{VERSION}
@@ -12,7 +13,7 @@ use Rattle.bgp_open.specs.declared.fault.OpenFault.{OpenFault}
 use Rattle.bgp_open.specs.declared.fault.OpenFault.TheVariants.{Version, Parameter, UnknownParameter, Hold, Identifier, Memory}
 use Rattle.bgp_open.specs.Parameter.{IsParameter, one_parameter}
 use Rattle.bgp_open.specs.Open.{version_of, as_field_of, hold_of, id_of, length_of, parameters_of, IsHold, zero_id, is_short_hold, is_zero_id, joined, IsOpen}
-use Rattle.bgp_open.specs.OpenFault.{first_fault, fault_if, rest_fault, open_fault, open_of, or_fault, reading_of, FailsAs, IsReadAs, HasValueOrFault}
+use Rattle.bgp_open.specs.OpenFault.{first_fault, rest_fault, open_fault, open_of, or_fault, reading_of, FailsAs, IsReadAs, HasValueOrFault}
 use Rattle.bgp_open.proofs.Parameters.{parameter-reads}
 
 -- ---- the tests one by one
@@ -52,7 +53,7 @@ rest_none (kind ∷ n ∷ value) e = absurd (rest_some (ltb (length value) n) (n
 -- ---- the tests together
 
 abbrev tests : Bool → Bool → Option OpenFault → Bool → Bool → Option OpenFault
-tests v l r h z = first_fault (fault_if v Version ∷ fault_if l Parameter ∷ r ∷ fault_if h Hold ∷ fault_if z Identifier ∷ [])
+tests v l r h z = first_fault (when v Version ∷ when l Parameter ∷ r ∷ when h Hold ∷ when z Identifier ∷ [])
 
 record Passes (v l : Bool) (r : Option OpenFault) (h z : Bool) : Type 0 where
   version : v ≡ false

@@ -1,6 +1,8 @@
 -- Capabilities as octets (RFC 5492, section 4): a code, the length of the value, the value.
-use Rattle.std.specs.Prelude.{◌≡◌, ℕ, ◌==◌, List, [], ◌∷◌, length, take, drop, Option, None, Some, nat_le, if◌then◌else◌}
+use Rattle.std.specs.Prelude.{◌≡◌, ℕ, ◌==◌, List, [], ◌∷◌, length, Option, None, Some, if◌then◌else◌}
 use Rattle.std.specs.Int.{w16, w32, from_be_bytes}
+use Rattle.bgp_wire.specs.Then.{◌>>=◌}
+use Rattle.bgp_wire.specs.Behind.{first_octets}
 use Rattle.bgp_numbers.specs.declared.capability.TheConstants.{MULTIPROTOCOL, FOUR_OCTET_AS}
 use Rattle.bgp_open.specs.declared.capability.Capability.{Capability}
 use Rattle.bgp_open.specs.declared.capability.Capability.TheVariants.{Multi, As4, Other}
@@ -35,13 +37,10 @@ pub record IsCapability (c : Capability) (b : List ℕ) : Type 0 where
   pub octets : b ≡ code ∷ length value ∷ value
   pub means : capability_of code value ≡ Some c
 
--- a capability, where there is one, and what follows it
-abbrev pub followed_by : List ℕ → Option Capability → Option (Capability × List ℕ)
-followed_by back None = None
-followed_by back (Some c) = Some (c, back)
-
 -- reads the capability at the front: none where it is cut off, or its length isn't that of its code
 unfoldable pub one_capability : List ℕ → Option (Capability × List ℕ)
-one_capability [] = None
-one_capability (code ∷ []) = None
-one_capability (code ∷ n ∷ b) = if nat_le n (length b) then followed_by (drop n b) (capability_of code (take n b)) else None
+one_capability (code ∷ n ∷ b) = do
+  value ← first_octets n b
+  capability ← capability_of code value.0
+  Some (capability, value.1)
+one_capability _ = None

@@ -1,5 +1,6 @@
 -- What is wrong with the body of an OPEN, and the answer (RFC 4271, sections 6.2 and 4.5). The order of the tests is this project's own.
 use Rattle.std.specs.Prelude.{◌≡◌, ◌==◌, ◌≢◌, ℕ, Bool, not, nat_lt, List, [], ◌∷◌, length, Option, None, Some, Result, Ok, Err, IsOk, if◌then◌else◌}
+use Rattle.bgp_wire.specs.Then.{when}
 use Rattle.bgp_wire.specs.Reader.{pieces}
 use Rattle.bgp_numbers.specs.declared.TheConstants.{VERSION}
 use Rattle.bgp_numbers.specs.declared.parameter.TheConstants.{CAPABILITIES}
@@ -17,9 +18,6 @@ first_fault [] = None
 first_fault (None ∷ later) = first_fault later
 first_fault (Some fault ∷ later) = Some fault
 
-abbrev pub fault_if : Bool → OpenFault → Option OpenFault
-fault_if failed fault = if failed then Some fault else None
-
 -- what is left behind the last parameter: nothing, or octets that begin no parameter. These are cut off, or of an unknown
 -- type, or hold capabilities that are cut off or of a wrong length
 abbrev pub rest_fault : List ℕ → Option OpenFault
@@ -33,11 +31,11 @@ rest_fault (kind ∷ n ∷ value) =
 -- the first fault of a body of at least ten octets
 unfoldable pub open_fault : List ℕ → Option OpenFault
 open_fault body = first_fault (
-    fault_if (not (version_of body == VERSION)) Version ∷
-    fault_if (not (length_of body == length (parameters_of body))) Parameter ∷
+    when (not (version_of body == VERSION)) Version ∷
+    when (not (length_of body == length (parameters_of body))) Parameter ∷
     rest_fault (pieces one_parameter (parameters_of body)).1 ∷
-    fault_if (is_short_hold (hold_of body)) Hold ∷
-    fault_if (is_zero_id (id_of body)) Identifier ∷ [])
+    when (is_short_hold (hold_of body)) Hold ∷
+    when (is_zero_id (id_of body)) Identifier ∷ [])
 
 -- the value of a body without fault
 abbrev pub open_of : List ℕ → Open

@@ -1,5 +1,4 @@
 -- Scripts for a pair of speakers, and reports of what came of them.
-pub mod Then
 pub mod Lines
 pub mod Pieces
 pub mod Number

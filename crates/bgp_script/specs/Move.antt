@@ -16,7 +16,7 @@ use Rattle.bgp_session.specs.declared.moves.Move.TheVariants as move
 use Rattle.bgp_session.specs.declared.side.Side.{Side}
 use Rattle.bgp_session.specs.declared.side.Side.TheVariants.{A, B}
 use Rattle.bgp_script.specs.declared.speakers.Speakers.{Speakers}
-use Rattle.bgp_script.specs.Then.{◌>>=◌}
+use Rattle.bgp_wire.specs.Then.{◌>>=◌}
 use Rattle.bgp_script.specs.Pieces.{one_piece, if_done}
 use Rattle.bgp_script.specs.Number.{one_number}
 

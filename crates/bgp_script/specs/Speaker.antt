@@ -3,7 +3,7 @@ use Rattle.std.specs.Prelude.{ℕ, List, Option, codes}
 use Rattle.std.specs.Result.{result_ok}
 use Rattle.bgp_open.specs.Config.{Settings, config_of}
 use Rattle.bgp_script.specs.declared.speaker.Flags.{Flags}
-use Rattle.bgp_script.specs.Then.{◌>>=◌}
+use Rattle.bgp_wire.specs.Then.{◌>>=◌}
 use Rattle.bgp_script.specs.Pieces.{behind, one_flag, if_done}
 use Rattle.bgp_script.specs.Number.{number_behind, address_behind}
 

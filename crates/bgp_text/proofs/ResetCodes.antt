@@ -1,20 +1,16 @@
 -- The codes of resets: those of the body of an UPDATE are UPDATE Message Errors.
-use Rattle.std.proofs.Common.{◌≡◌, ℕ, ◌-◌, Bool, true, false, ◌&&◌, ◌==◌, nat_lt, List, [], ◌∷◌, ◌++◌, length, Option, None, Some, refl, subst, option_map, if◌then◌else◌}
+use Rattle.std.proofs.Common.{◌≡◌, ℕ, ◌-◌, Bool, true, false, ◌&&◌, ◌==◌, nat_lt, List, [], ◌∷◌, ◌++◌, length, Option, None, Some, refl, subst, if◌then◌else◌}
 use Rattle.std.specs.Option.{option_or}
 use Rattle.bgp_numbers.specs.declared.error.TheConstants.{UPDATE_MESSAGE}
 use Rattle.bgp_frame.specs.declared.notification.Notification.{Notification}
 use Rattle.bgp_open.specs.declared.context.Context.{Context}
 use Rattle.bgp_prefix.specs.Run.{run_of}
-use Rattle.bgp_attr.specs.declared.attr.Attr.{Attr}
 use Rattle.bgp_attr.specs.declared.judged.Judged.{Judged}
 use Rattle.bgp_attr.specs.declared.judged.Judged.TheVariants as judged
-use Rattle.bgp_attr.specs.declared.why.Why.{Why}
 use Rattle.bgp_attr.specs.declared.why.Why.TheVariants as why
-use Rattle.bgp_attr.specs.Judgement.{aggregator_tests, AttributeType, type_row, unless_refused, judgement}
-use Rattle.bgp_attr.specs.Refusal.{Refusal, Discard, Withdraw, Reset, when, first_refusal}
+use Rattle.bgp_attr.specs.Judgement.{judgement}
 use Rattle.bgp_attr.specs.Tlv.{TlvValue, PlacedTlv, tlvs_of}
-use Rattle.bgp_attr.proofs.Tables.{◌&◌}
-use Rattle.bgp_attr.proofs.TestRows.{by_type}
+use Rattle.bgp_attr.proofs.TestRows.{IsRefusal, by_answer}
 use Rattle.bgp_update.specs.declared.verdict.Verdict.{Verdict}
 use Rattle.bgp_update.specs.declared.verdict.Verdict.TheVariants as verdict
 use Rattle.bgp_wire.specs.OctetSet.{also, none_of_them}
@@ -26,69 +22,6 @@ use Rattle.bgp_update.specs.Verdict.{first_reset, reset_by, bad_network, reset_o
 use Rattle.bgp_msg.specs.declared.outcome.Outcome.TheVariants as outcome
 use Rattle.bgp_msg.specs.Outcome.{of_verdict}
 
--- ---- what the tests of an attribute answer
-
-abbrev Refused : Refusal → Type 0
-Refused (Discard w) = Unit {0}
-Refused (Withdraw w) = Unit {0}
-Refused (Reset n) = n.code ≡ UPDATE_MESSAGE
-
-abbrev Answers : Option Refusal → Type 0
-Answers None = Unit {0}
-Answers (Some r) = Refused r
-
-abbrev EachAnswers : List (Option Refusal) → Type 0
-EachAnswers [] = Unit {0}
-EachAnswers (t ∷ ts) = Answers t × EachAnswers ts
-
--- whatever they answer, a reset has the code
-record AllAnswer (ts : List (Option Refusal)) : Type 0 where
-  each : EachAnswers ts
-
-none : AllAnswer []
-none = record { each = tt }
-
-when_answers : (b : Bool) (r : Refusal) → Refused r → Answers (when b r)
-when_answers true r h = h
-when_answers false r h = tt
-
-test : {ts : List (Option Refusal)} (b : Bool) (r : Refusal) → Refused r → AllAnswer ts → AllAnswer (when b r ∷ ts)
-test b r h later = record { each = (when_answers b r h, later.each) }
-
-mapped_answers : (f : Why → Refusal) (o : Option Why) → ((w : Why) → Refused (f w)) → Answers (option_map f o)
-mapped_answers f None h = tt
-mapped_answers f (Some w) h = h w
-
-fault : {ts : List (Option Refusal)} (f : Why → Refusal) (o : Option Why) → ((w : Why) → Refused (f w)) → AllAnswer ts → AllAnswer (option_map f o ∷ ts)
-fault f o h later = record { each = (mapped_answers f o h, later.each) }
-
-first_answers : (ts : List (Option Refusal)) → EachAnswers ts → Answers (first_refusal ts)
-first_answers [] h = tt
-first_answers (None ∷ ts) h = first_answers ts h.1
-first_answers (Some r ∷ ts) h = h.0
-
-aggregator_answer : (wide : Bool) (t : TlvValue) → AllAnswer (aggregator_tests wide t)
-aggregator_answer wide t = test _ _ tt (test _ _ tt (test _ _ tt none))
-
-tests_answer : (ctx : Context) (nlri : Bool) (t : TlvValue) → AllAnswer (type_row ctx nlri t).tests
-tests_answer ctx nlri t =
-    by_type ctx nlri t (λ type. AllAnswer type.tests)
-    ((λ origin. test _ _ tt (test _ _ tt (test _ _ tt none)))
-    & (λ as_path. test _ _ tt (fault _ _ (λ w. tt) (test _ _ tt none)))
-    & (λ next_hop. test _ _ tt (test _ _ tt (test _ _ tt none)))
-    & (λ med. test _ _ tt (test _ _ tt none))
-    & (λ local_pref. test _ _ tt (test _ _ tt (test _ _ tt none)))
-    & (λ atomic. test _ _ tt (test _ _ tt none))
-    & (λ aggregator. aggregator_answer ctx.as4 t)
-    & (λ communities. test _ _ tt (test _ _ tt none))
-    & (λ mp_reach. test _ _ refl (test _ _ refl (test _ _ tt (test _ _ refl (test _ _ refl (test _ _ refl none))))))
-    & (λ mp_unreach. test _ _ refl (test _ _ refl (test _ _ tt (test _ _ refl none))))
-    & (λ as4_path. test _ _ tt (test _ _ tt (test _ _ tt (fault _ _ (λ w. tt) (test _ _ tt (test _ _ tt none))))))
-    & (λ as4_aggregator. test _ _ tt (aggregator_answer true t))
-    & (λ large. test _ _ tt (test _ _ tt none))
-    & tt)
-    (λ other. test _ _ refl none)
-
 -- ---- what an attribute comes to
 
 abbrev OfJudged : Judged → Type 0
@@ -97,14 +30,14 @@ OfJudged (judged.Discard w) = Unit {0}
 OfJudged (judged.Withdraw w) = Unit {0}
 OfJudged (judged.Reset n) = n.code ≡ UPDATE_MESSAGE
 
-of_refusal : (r : Option Refusal) (a : Attr) → Answers r → OfJudged (unless_refused r a)
-of_refusal None a h = tt
-of_refusal (Some (Discard w)) a h = tt
-of_refusal (Some (Withdraw w)) a h = tt
-of_refusal (Some (Reset n)) a h = h
+of_refusal : (j : Judged) → IsRefusal j → OfJudged j
+of_refusal (judged.Keep a) h = tt
+of_refusal (judged.Discard w) h = tt
+of_refusal (judged.Withdraw w) h = tt
+of_refusal (judged.Reset n) h = h
 
 of_judgement : (ctx : Context) (nlri : Bool) (t : TlvValue) → OfJudged (judgement ctx nlri t)
-of_judgement ctx nlri t = let type : AttributeType = type_row ctx nlri t in of_refusal (first_refusal type.tests) type.value (first_answers type.tests (tests_answer ctx nlri t).each)
+of_judgement ctx nlri t = by_answer ctx nlri t OfJudged (λ a. tt) of_refusal
 
 either : (b : Bool) (x y : Judged) → OfJudged x → OfJudged y → OfJudged (if b then x else y)
 either true x y p q = p

@@ -12,15 +12,15 @@ use Rattle.bgp_frame.specs.declared.notification.Notification.{Notification}
 use Rattle.bgp_wire.specs.Octets.{AreOctets}
 use Rattle.bgp_wire.specs.Row.{Row}
 use Rattle.bgp_wire.proofs.OctetLemmas.{AreOctets-front, AreOctets-back}
+use Rattle.bgp_wire.specs.Then.{when}
 use Rattle.bgp_open.specs.declared.context.Context.{Context}
 use Rattle.bgp_attr.specs.declared.attr.Attr.{Attr}
 use Rattle.bgp_attr.specs.declared.judged.Judged.{Judged}
 use Rattle.bgp_attr.specs.declared.judged.Judged.TheVariants as judged
 use Rattle.bgp_attr.specs.declared.why.Why.{Why}
 use Rattle.bgp_attr.specs.declared.why.Why.TheVariants as why
-use Rattle.bgp_attr.specs.Refusal.{Refusal, Discard, Withdraw, Reset, when, first_refusal}
 use Rattle.bgp_attr.specs.Tlv.{TlvValue, IsTlv, placed_from}
-use Rattle.bgp_attr.specs.Judgement.{AttributeType, type_row, unless_refused, judged_by, judgement}
+use Rattle.bgp_attr.specs.Judgement.{AttributeType, type_row, decided, judgement}
 use Rattle.bgp_attr.specs.Written.{canonical, type_of}
 use Rattle.bgp_attr.proofs.Tables.{◌&◌}
 use Rattle.bgp_attr.proofs.TestRows.{row-at, by_type, kept-value}
@@ -43,33 +43,27 @@ keep-type ctx has_nlri t x keeps =
 
 -- ---- what no row drops
 
--- the refusal, where there is one, is more than to drop the attribute
-abbrev IsSevere : Option Refusal → Type 0
-IsSevere (Some (Discard w)) = ⊥
+-- the answer, where there is one, is more than to drop the attribute
+abbrev IsSevere : Option Judged → Type 0
+IsSevere (Some (judged.Discard w)) = ⊥
 IsSevere _ = Unit {0}
 
-when-severe : (b : Bool) (w : Why) → IsSevere (when b (Withdraw w))
+when-severe : (b : Bool) (w : Why) → IsSevere (when b (judged.Withdraw w))
 when-severe true w = tt
 when-severe false w = tt
 
-fault-severe : (o : Option Why) → IsSevere (option_map (λ fault. Withdraw fault) o)
+fault-severe : (o : Option Why) → IsSevere (option_map (λ fault. judged.Withdraw fault) o)
 fault-severe None = tt
 fault-severe (Some w) = tt
 
-needed-severe : (has_nlri : Bool) → has_nlri ≡ true → IsSevere (when (not has_nlri) (Discard why.Unneeded))
+needed-severe : (has_nlri : Bool) → has_nlri ≡ true → IsSevere (when (not has_nlri) (judged.Discard why.Unneeded))
 needed-severe true e = tt
 needed-severe false e = absurd (false≢true e)
 
-first-severe : (tests : List (Option Refusal)) → AllByRecursion IsSevere tests → IsSevere (first_refusal tests)
-first-severe [] all = tt
-first-severe (None ∷ tests) all = first-severe tests all.1
-first-severe (Some r ∷ tests) all = all.0
-
-judged-severe : (r : Option Refusal) (x : Attr) (w : Why) → IsSevere r → unless_refused r x ≡ judged.Discard w → ⊥
-judged-severe None x w severe e = absurd cc
-judged-severe (Some (Discard v)) x w severe e = severe
-judged-severe (Some (Withdraw v)) x w severe e = absurd cc
-judged-severe (Some (Reset n)) x w severe e = absurd cc
+decided-severe : (tests : List (Option Judged)) (x : Attr) (w : Why) → AllByRecursion IsSevere tests → decided tests x ≡ judged.Discard w → ⊥
+decided-severe [] x w all e = absurd cc
+decided-severe (None ∷ tests) x w all e = decided-severe tests x w all.1 e
+decided-severe (Some j ∷ tests) x w all e = subst (λ (k : Judged). IsSevere (Some k)) e all.0
 
 module _ (ctx : Context) (has_nlri : Bool) where
   -- an attribute of this type is never dropped
@@ -77,8 +71,7 @@ module _ (ctx : Context) (has_nlri : Bool) where
   NotDropped kind = (t : TlvValue) → t.kind ≡ kind → (w : Why) → judgement ctx has_nlri t ≡ judged.Discard w → ⊥
 
   never : (t : TlvValue) (type : AttributeType) → type_row ctx has_nlri t ≡ type → AllByRecursion IsSevere type.tests → (w : Why) → judgement ctx has_nlri t ≡ judged.Discard w → ⊥
-  never t type is all w e =
-      judged-severe (first_refusal type.tests) type.value w (first-severe type.tests all) (ap judged_by (sym is) ∙ e)
+  never t type is all w e = decided-severe type.tests type.value w all (ap (λ (y : AttributeType). decided y.tests y.value) (sym is) ∙ e)
 
   pub origin-not_dropped : NotDropped ORIGIN
   origin-not_dropped t e = never t _ (row-at ctx has_nlri t ORIGIN e) (when-severe _ _, (when-severe _ _, (when-severe _ _, tt)))

@@ -22,6 +22,7 @@ pub mod ReadBack
 pub mod KeptSlots
 pub mod TakenLength
 pub mod KeptMarks
+pub mod TakenSlots
 pub mod Taken
 pub mod SlotSteps
 pub mod FailedSteps

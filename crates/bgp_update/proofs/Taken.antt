@@ -11,7 +11,6 @@ use Rattle.bgp_frame.specs.declared.notification.Notification.{Notification}
 use Rattle.bgp_wire.specs.Octets.{AreOctets}
 use Rattle.bgp_wire.specs.Row.{Row, Splits}
 use Rattle.bgp_wire.proofs.OctetLemmas.{AreOctets-front, AreOctets-back}
-use Rattle.bgp_wire.proofs.Pieces.{Splits-pieces}
 use Rattle.bgp_wire.proofs.Behinds.{Row-pieces}
 use Rattle.bgp_open.specs.declared.context.Context.{Context}
 use Rattle.bgp_prefix.specs.Prefix.{PrefixValue, IsPrefix, one_prefix}
@@ -24,9 +23,8 @@ use Rattle.bgp_attr.specs.declared.mp.MpReach.TheVariants as reach
 use Rattle.bgp_attr.specs.declared.mp.MpUnreach.TheVariants as unreach
 use Rattle.bgp_attr.specs.declared.origin.Origin.{Origin}
 use Rattle.bgp_attr.specs.declared.path.AsPath.{AsPath}
-use Rattle.bgp_attr.specs.Tlv.{TlvValue, IsTlv, one_tlv, tlvs_of}
+use Rattle.bgp_attr.specs.Tlv.{IsTlv, tlvs_of}
 use Rattle.bgp_attr.specs.Written.{canonical, run_octets, type_of, is_too_wide, is_as4, is_empty, is_misnamed, has_as_zero, stands_twice, Belongs, HasRanges}
-use Rattle.bgp_attr.proofs.Readers.{IsTlv-reads}
 use Rattle.bgp_attr.proofs.RouteRows.{prefixes-valid}
 use Rattle.bgp_attr.proofs.TestRows.{Writes, writable-Writes}
 use Rattle.bgp_update.specs.declared.attrs.Attrs.{Attrs}
@@ -39,7 +37,7 @@ use Rattle.bgp_wire.specs.OctetSet.{none_of_them}
 use Rattle.bgp_update.specs.Marks.{Mark, malformed, marks_behind, cut_mark, placed_tlvs, field_marks, marks_of}
 use Rattle.bgp_update.specs.Taken.{kept_of, attrs_of, update_of}
 use Rattle.bgp_update.specs.steps.Others.{as_opaque}
-use Rattle.bgp_update.proofs.AttrSlots.{first_in, as_origin, as_as_path, as_next_hop, as_local_pref, attrs_in, attrs_of-slots}
+use Rattle.bgp_update.proofs.AttrSlots.{first_in, as_origin, as_as_path, as_next_hop, as_local_pref, attrs_in}
 use Rattle.bgp_update.specs.Notes.{has_routes, is_reachable, has_type, missing_of, is_missing, notes_of, routes_of}
 use Rattle.bgp_update.specs.Slots.{canonical_order, attr_list}
 use Rattle.bgp_update.specs.Verdict.{first_reset, bad_network, reset_of_run, reset_of, withdraws, is_withdrawn, unless_reset, without_reset, of_parts, verdict_of}
@@ -54,7 +52,8 @@ use Rattle.bgp_update.proofs.Validity.{IsAccepted, accepted-valid}
 use Rattle.bgp_update.proofs.MarkLemmas.{IsReady}
 use Rattle.bgp_update.proofs.KeptSlots.{opaques-all, kept-list, kept-all, kept-none, kept-others}
 use Rattle.bgp_update.proofs.TakenLength.{firsts-shorter}
-use Rattle.bgp_update.proofs.KeptMarks.{origin-not_dropped, as_path-not_dropped, next_hop-not_dropped, GoesOn, or-parts, goes-on, with_cut-kept, IsKept, row-kept, has-kept}
+use Rattle.bgp_update.proofs.TakenSlots as slots
+use Rattle.bgp_update.proofs.KeptMarks.{origin-not_dropped, as_path-not_dropped, next_hop-not_dropped, GoesOn, or-parts, goes-on, IsKept, has-kept}
 
 -- ---- runs
 
@@ -142,7 +141,7 @@ module _ (ctx : Context) (p : Parts) (octets_w : AreOctets p.withdrawn) (octets_
   kept = kept_of whole
 
   kept-is : kept_of (marks_of ctx p) ≡ kept
-  kept-is = ap kept_of marks-are ∙ with_cut-kept whole (length p.attributes - length (tlvs_of p.attributes).1) (tlvs_of p.attributes).1
+  kept-is = slots.kept-is ctx p octets_a
 
   resets : (first_reset (marks_of ctx p) ≡ None) × (option_or (reset_of_run p.withdrawn) (reset_of_run p.nlri) ≡ None)
   resets = or-parts (first_reset (marks_of ctx p)) _ no_reset
@@ -162,11 +161,11 @@ module _ (ctx : Context) (p : Parts) (octets_w : AreOctets p.withdrawn) (octets_
   all-go_on : AllByRecursion (λ m. GoesOn m.judged) whole
   all-go_on = all-front (λ m. GoesOn m.judged) whole end (subst (λ (ms : List Mark). AllByRecursion (λ m. GoesOn m.judged) ms) marks-are (goes-on (marks_of ctx p) resets.0 withdrawals.0))
 
-  splits : Splits IsTlv p.attributes (tlvs_of p.attributes).0 (tlvs_of p.attributes).1
-  splits = Splits-pieces TlvValue IsTlv one_tlv IsTlv-reads p.attributes
+  abbrev splits : Splits IsTlv p.attributes (tlvs_of p.attributes).0 (tlvs_of p.attributes).1
+  splits = slots.splits ctx p octets_a
 
   is-kept : IsKept ctx nlri none_of_them kept (length splits.row)
-  is-kept = row-kept ctx nlri (tlvs_of p.attributes).0 splits.row 0 none_of_them splits.spelled (AreOctets-front splits.row (tlvs_of p.attributes).1 (subst AreOctets splits.whole octets_a))
+  is-kept = slots.is-kept ctx p octets_a
 
   each : (P : Attr → Type 0) → ((x : Attr) → Writes ctx x → Belongs ctx nlri x → HasRanges x → P x) → AllByRecursion P kept
   each P so = all-more (IsReady ctx nlri) P kept (λ x r. so x (writable-Writes ctx x r.writable) r.in_place r.ranges) is-kept.ready
@@ -178,7 +177,7 @@ module _ (ctx : Context) (p : Parts) (octets_w : AreOctets p.withdrawn) (octets_
   fresh = is-kept.fresh
 
   attrs-are : attrs_of (kept_of (marks_of ctx p)) ≡ attrs_in kept
-  attrs-are = ap attrs_of kept-is ∙ attrs_of-slots kept
+  attrs-are = slots.attrs-are ctx p octets_a
 
   abbrev taken : Update
   taken = record { withdrawn = (run_of 4 p.withdrawn).0; attrs = attrs_in kept; nlri = (run_of 4 p.nlri).0 }

@@ -1,8 +1,9 @@
 -- The parts of an UPDATE's body (RFC 4271, section 4.3): Withdrawn Routes behind their length, path attributes behind theirs,
 -- each length in two octets, and Network Layer Reachability Information up to the end.
-use Rattle.std.specs.Prelude.{◌≡◌, ◌<◌, ◌^◌, ◌+◌, ℕ, Bool, List, [], ◌∷◌, ◌++◌, length, take, drop, Option, None, Some, nat_le, nat_lt, if◌then◌else◌}
+use Rattle.std.specs.Prelude.{◌≡◌, ◌<◌, ◌^◌, ◌+◌, ℕ, Bool, List, [], ◌∷◌, ◌++◌, length, Option, None, Some, nat_lt}
 use Rattle.std.specs.Int.{w16, to_be_bytes, from_be_bytes}
-use Rattle.bgp_attr.specs.Then.{◌>>=◌}
+use Rattle.bgp_wire.specs.Then.{◌>>=◌}
+use Rattle.bgp_wire.specs.Behind.{first_octets}
 
 pub record Parts : Type 0 where
   pub withdrawn : List ℕ
@@ -17,12 +18,8 @@ pub record IsBody (p : Parts) (body : List ℕ) : Type 0 where
 
 -- a length in two octets, so many octets, and what follows them
 abbrev pub behind_two : List ℕ → Option (List ℕ × List ℕ)
-behind_two [] = None
-behind_two (high ∷ []) = None
-behind_two (high ∷ low ∷ b) =
-    if nat_le (from_be_bytes w16 (high ∷ low ∷ [])) (length b)
-    then Some (take (from_be_bytes w16 (high ∷ low ∷ [])) b, drop (from_be_bytes w16 (high ∷ low ∷ [])) b)
-    else None
+behind_two (high ∷ low ∷ b) = first_octets (from_be_bytes w16 (high ∷ low ∷ [])) b
+behind_two _ = None
 
 -- the parts of a body, where the lengths leave room for each other
 unfoldable pub parts_of : List ℕ → Option Parts

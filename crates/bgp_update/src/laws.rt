@@ -1,15 +1,20 @@
 //! Laws over the definitions alone: these functions do nothing, and their contracts are what is proved.
 
-ghost use Rattle.std.specs.Prelude.{◌≡◌, ◌≤◌, ℕ, true, false, List, [], length, Some, None};
+ghost use Rattle.std.specs.Prelude.{◌≡◌, ◌==◌, ◌≤◌, ℕ, true, false, List, [], length, Some, None};
+ghost use Rattle.std.specs.List.{find};
 ghost use Rattle.bgp_wire.specs.Octets.{AreOctets};
 ghost use Rattle.bgp_open.specs.declared.context.Context.{Context};
+ghost use Rattle.bgp_attr.specs.Written.{type_of};
 ghost use Rattle.bgp_update.specs.declared.attrs.Attrs.{Attrs};
 ghost use Rattle.bgp_update.specs.declared.note.Note.{Note};
 ghost use Rattle.bgp_update.specs.declared.update.Update.{Update};
 ghost use Rattle.bgp_update.specs.declared.verdict.Verdict.TheVariants.{Take};
 ghost use Rattle.bgp_update.specs.Parts.{Parts, IsBody, parts_of};
+ghost use Rattle.bgp_update.specs.Marks.{marks_of};
+ghost use Rattle.bgp_update.specs.Taken.{kept_of, attrs_of};
+ghost use Rattle.bgp_update.specs.Slots.{present, slot};
 ghost use Rattle.bgp_update.specs.Verdict.{verdict_of};
-ghost use Rattle.bgp_update.specs.Written.{written_body, invalid_of, HasUpdateRanges};
+ghost use Rattle.bgp_update.specs.Written.{written_body, invalid_of, rise, HasUpdateRanges};
 ghost use Rattle.bgp_update.specs.Laws.{CanBeWritten};
 ghost use Rattle.bgp_update.specs.As4.{HasNoAs4, narrowed, narrowed_update, rebuilt};
 ghost use Rattle.bgp_update.specs.Widths.{with_as4};
@@ -51,4 +56,15 @@ pub fn a_narrowed_update_is_valid()
     ensures { (ctx : Context) (u : Update)
         → ctx.as4 ≡ true → invalid_of ctx u ≡ None
         → invalid_of (with_as4 false ctx) (narrowed_update u) ≡ None }
+{}
+
+/// The attributes of a message that is taken have for each type the first that was kept of it, and none where none was;
+/// those of types that aren't recognised rise in type.
+pub fn each_slot_holds_the_first_of_its_type()
+    ensures slots { (ctx : Context) (p : Parts) (kind : ℕ)
+        → AreOctets p.attributes
+        → slot (attrs_of (kept_of (marks_of ctx p))) kind
+        ≡ present (λ a. a) (find (λ a. type_of a == kind) (kept_of (marks_of ctx p))) }
+    ensures others { (ctx : Context) (p : Parts)
+        → AreOctets p.attributes → rise (attrs_of (kept_of (marks_of ctx p))).others ≡ true }
 {}

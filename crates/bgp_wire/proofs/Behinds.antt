@@ -1,10 +1,12 @@
 -- A row behind its length, or behind its count, is read by its reader: so it is prefix free.
-use Rattle.std.proofs.Common.{◌≡◌, ℕ, zero, suc, ◌<◌, Bool, true, false, cond, leb, eqb, List, [], ◌∷◌, ◌++◌, length, take, drop, Option, Some, None, refl, sym, ap, subst, ◌∙◌, append_assoc, arith}
-use Rattle.std.proofs.lemmas.Bool.{leb-true, le-leb, eqb-true, eq-eqb}
-use Rattle.std.proofs.lemmas.List.{append-nil, length-append, length-take, take_at, drop_at, take-append-drop}
+use Rattle.std.proofs.Common.{◌≡◌, ℕ, zero, suc, ◌<◌, Bool, true, false, cond, eqb, List, [], ◌∷◌, ◌++◌, length, Option, Some, None, refl, sym, ap, subst, ◌∙◌, append_assoc, arith}
+use Rattle.std.proofs.lemmas.Bool.{eqb-true, eq-eqb}
+use Rattle.std.proofs.Math.Dec.{eqb-suc-zero}
+use Rattle.std.proofs.lemmas.List.{append-nil}
 use Rattle.bgp_wire.specs.Row.{Row, Splits}
 use Rattle.bgp_wire.specs.Reader.{Reads, then_pieces, pieces_within, pieces}
-use Rattle.bgp_wire.specs.Behind.{BehindLength, BehindCount, when_whole, behind_length, behind_count}
+use Rattle.bgp_wire.specs.Behind.{BehindLength, BehindCount, first_octets, behind_length, behind_count}
+use Rattle.bgp_wire.proofs.Firsts.{both_steps, first_octets-finds, first_octets-gives}
 use Rattle.bgp_wire.proofs.Pieces.{found_same, found_not, pieces-none, pieces-row, none_at_end, Splits-pieces}
 
 module _ (A : Type 0) (R : A → List ℕ → Type 0) (one : List ℕ → Option (A × List ℕ)) (reads : Reads R one) where
@@ -28,29 +30,29 @@ module _ (A : Type 0) (R : A → List ℕ → Type 0) (one : List ℕ → Option
   BehindLength-finds : (vs : List A) (front back : List ℕ) → BehindLength R vs front → behind_length one (front ++ back) ≡ Some (vs, back)
   unfolding behind_length
   BehindLength-finds vs front back p =
-      let fits : leb (length p.row) (length (p.row ++ back)) ≡ true = le-leb _ _ (omega (arith, length-append p.row back)) in
       ap (λ (x : List ℕ). behind_length one (x ++ back)) p.octets
-      ∙ rw (fits, take_at p.row back (length p.row) refl, drop_at p.row back (length p.row) refl, pieces-whole vs p.row p.spelled) refl
+      ∙ rw (first_octets-finds p.row back, pieces-whole vs p.row p.spelled) refl
 
-  whole_gives : (back : List ℕ) (q : List A × List ℕ) (vs : List A) (after : List ℕ) → when_whole back q ≡ Some (vs, after) → (q ≡ (vs, [])) × (back ≡ after)
-  whole_gives back (us, []) vs after e =
+  whole_gives : (q : List A × List ℕ) (back : List ℕ) (vs : List A) (after : List ℕ) → cond {A = Option (List A × List ℕ)} (eqb (length q.1) 0) (Some (q.0, back)) None ≡ Some (vs, after) → (q ≡ (vs, [])) × (back ≡ after)
+  whole_gives (us, []) back vs after e =
       let same = found_same (List A) (us, back) (vs, after) e in
       (ap (λ (p : List A × List ℕ). (p.0, [])) same, ap (λ (p : List A × List ℕ). p.1) same)
-  whole_gives back (us, x ∷ rest) vs after e = absurd (found_not (List A) (vs, after) e)
-
-  length_gives : (n : ℕ) (b : List ℕ) (vs : List A) (after : List ℕ) (t : Bool) → leb n (length b) ≡ t → cond t (when_whole (drop n b) (pieces one (take n b))) None ≡ Some (vs, after)
-      → (front : List ℕ) × (n ∷ b ≡ front ++ after) × BehindLength R vs front
-  length_gives n b vs after true le e =
-      let whole = whole_gives (drop n b) (pieces one (take n b)) vs after e in
-      let len : length (take n b) ≡ n = omega (arith, length-take n b, leb-true n (length b) le) in
-      let cut : b ≡ take n b ++ after = sym (take-append-drop n b) ∙ ap (λ (x : List ℕ). take n b ++ x) whole.1 in
-      (n ∷ take n b, ap (λ (x : List ℕ). n ∷ x) cut, record { row = take n b; octets = ap (λ (k : ℕ). k ∷ take n b) (sym len); spelled = Row-pieces (take n b) vs whole.0 })
-  length_gives n b vs after false le e = absurd (found_not (List A) (vs, after) e)
+  whole_gives (us, x ∷ rest) back vs after e =
+      let more : eqb (suc (length rest)) 0 ≡ false = eqb-suc-zero (length rest) in
+      absurd (found_not (List A) (vs, after) (sym (ap (λ (t : Bool). cond {A = Option (List A × List ℕ)} t (Some (us, back)) None) more) ∙ e))
 
   BehindLength-gives : (b : List ℕ) (vs : List A) (back : List ℕ) → behind_length one b ≡ Some (vs, back) → (front : List ℕ) × (b ≡ front ++ back) × BehindLength R vs front
   unfolding behind_length
   BehindLength-gives [] vs back e = absurd (found_not (List A) (vs, back) e)
-  BehindLength-gives (n ∷ b) vs back e = length_gives n b vs back (leb n (length b)) refl e
+  BehindLength-gives (n ∷ b) vs back e =
+      let steps = both_steps (first_octets n b) (λ (cut : List ℕ × List ℕ). cond {A = Option (List A × List ℕ)} (eqb (length (pieces one cut.0).1) 0) (Some ((pieces one cut.0).0, cut.1)) None) (vs, back) e in
+      let cut : List ℕ × List ℕ = steps.0 in
+      let front = first_octets-gives n b cut.0 cut.1 steps.1 in
+      let whole = whole_gives (pieces one cut.0) cut.1 vs back steps.2 in (
+        n ∷ cut.0,
+        ap (λ (x : List ℕ). n ∷ x) (front.octets ∙ ap (λ (x : List ℕ). cut.0 ++ x) whole.1),
+        record { row = cut.0; octets = ap (λ (k : ℕ). k ∷ cut.0) (sym front.long); spelled = Row-pieces cut.0 vs whole.0 },
+      )
 
   behind_not_empty : (b : List ℕ) (n : ℕ) (row : List ℕ) → b ≡ n ∷ row → 0 < length b
   behind_not_empty b n row e = omega (arith, ap length e)

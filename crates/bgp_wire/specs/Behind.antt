@@ -1,6 +1,7 @@
 -- A row that stands behind its length in octets, or behind its count of values, and the readers of both.
 use Rattle.std.specs.Prelude.{◌≡◌, ◌==◌, ℕ, List, [], ◌∷◌, length, take, drop, Option, None, Some, nat_le, if◌then◌else◌}
 use Rattle.bgp_wire.specs.Row.{Row}
+use Rattle.bgp_wire.specs.Then.{◌>>=◌}
 use Rattle.bgp_wire.specs.Reader.{pieces, pieces_within}
 
 -- an octet with the length of the row, and the row
@@ -15,15 +16,16 @@ pub record BehindCount {A : Type 0} (R : A → List ℕ → Type 0) (vs : List A
   pub octets : b ≡ length vs ∷ row
   pub spelled : Row R vs row
 
--- the values with what follows the row, where the pieces left no rest
-abbrev pub when_whole : {A : Type 0} → List ℕ → List A × List ℕ → Option (List A × List ℕ)
-when_whole back (vs, []) = Some (vs, back)
-when_whole back (vs, x ∷ rest) = None
+-- the first n octets and what follows them, where there are as many
+abbrev pub first_octets : ℕ → List ℕ → Option (List ℕ × List ℕ)
+first_octets n b = if nat_le n (length b) then Some (take n b, drop n b) else None
 
--- reads a length, and the row of as many octets
+-- reads a length, and the row of as many octets, which leaves no rest
 unfoldable pub behind_length : {A : Type 0} → (List ℕ → Option (A × List ℕ)) → List ℕ → Option (List A × List ℕ)
 behind_length one [] = None
-behind_length one (n ∷ b) = if nat_le n (length b) then when_whole (drop n b) (pieces one (take n b)) else None
+behind_length one (n ∷ b) = do
+  row ← first_octets n b
+  if length (pieces one row.0).1 == 0 then Some ((pieces one row.0).0, row.1) else None
 
 -- reads a count, and as many values
 unfoldable pub behind_count : {A : Type 0} → (List ℕ → Option (A × List ℕ)) → List ℕ → Option (List A × List ℕ)

@@ -1,6 +1,7 @@
 -- What any format of octets is told in: rows of spellings, and readers of them.
 pub mod Octets
 pub mod Row
+pub mod Then
 pub mod Reader
 pub mod Behind
 pub mod OctetSet

@@ -4,12 +4,14 @@ use Rattle.std.specs.Int.{w16, w32, from_be_bytes}
 use Rattle.std.proofs.Math.Seq.{take-add, take-length}
 use Rattle.std.proofs.lemmas.Bool.{eqb-true, eqb-false, eq-eqb, ne_eqb, le-leb, lt-leb}
 use Rattle.std.proofs.lemmas.List.{drop-take, drop-drop, take-take, length-take}
+use Rattle.bgp_wire.specs.Then.{◌>>=◌}
+use Rattle.bgp_wire.proofs.Firsts.{cond-then}
 use Rattle.bgp_wire.specs.Reader.{pieces}
 use Rattle.bgp_numbers.specs.declared.capability.TheConstants.{MULTIPROTOCOL, FOUR_OCTET_AS}
 use Rattle.bgp_numbers.specs.declared.parameter.TheConstants.{CAPABILITIES}
 use Rattle.bgp_open.specs.declared.capability.Capability.{Capability}
 use Rattle.bgp_open.specs.declared.capability.Capability.TheVariants.{Multi, As4, Other}
-use Rattle.bgp_open.specs.Capability.{multi_of, as4_of, capability_of, followed_by, one_capability}
+use Rattle.bgp_open.specs.Capability.{multi_of, as4_of, capability_of, one_capability}
 use Rattle.bgp_open.specs.CapabilityIter.{capabilities_of}
 use Rattle.bgp_open.specs.Parameter.{one_parameter}
 use Rattle.bgp_open.proofs.Parameters.{one_parameter-short, one_parameter-tests}
@@ -89,12 +91,15 @@ short_capability (code ∷ []) short = refl
 short_capability (code ∷ n ∷ rest) short = absurd (omega arith)
 
 module _ (code n : ℕ) (rest : List ℕ) where
+  abbrev in_front : List ℕ → Capability → Option (Capability × List ℕ)
+  in_front back c = Some (c, back)
+
   abbrev found : Bool → Option Capability → Option (Capability × List ℕ)
-  found whole o = cond whole (followed_by (drop n rest) o) None
+  found whole o = cond whole (o >>= in_front (drop n rest)) None
 
   tests : one_capability (code ∷ n ∷ rest) ≡ found (leb n (length rest)) (capability_of code (take n rest))
   unfolding one_capability
-  tests = refl
+  tests = cond-then (leb n (length rest)) (take n rest, drop n rest) (λ value. capability_of code value.0 >>= in_front value.1)
 
   long : n ≤ length rest → length (take n rest) ≡ n
   long le = omega (arith, length-take n rest, le)

@@ -1,8 +1,0 @@
--- Steps of which each may fail.
-use Rattle.std.specs.Prelude.{Option, Some, None}
-
--- the second step at what the first gave
-infixl 10 ◌>>=◌
-abbrev pub ◌>>=◌ : {A B : Type 0} → Option A → (A → Option B) → Option B
-None >>= f = None
-Some x >>= f = f x
