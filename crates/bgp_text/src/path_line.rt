@@ -116,6 +116,7 @@ impl Path for PathView<'_> {
 }
 
 /// Adds the line of a path, behind a label.
+#[inline(always)]
 pub(crate) fn put_path_line<P: Path>(
     text: &mut String,
     label: &str,

@@ -9,8 +9,7 @@ invariant_of-self c =
     let left = length-drop w.at w.octets in
     let same = ap length c.self.view_is in
     let back : w.at - 4 + 2 + 2 ≡ w.at = omega (arith, left, same, c.requires, c.self.told, c.self.invariant.0) in
-    let is = c.write_hex-2.ensures ∙ ap (λ b. hex_octet c.args.high ++ b) (c.write_hex.ensures ∙ ap (λ k. hex_octet c.args.low ++ drop k w.octets) back) in
-    (
+    let is = c.write_hex-2.ensures ∙ ap (λ b. hex_octet c.args.high ++ b) (c.write_hex.ensures ∙ ap (λ k. hex_octet c.args.low ++ drop k w.octets) back) in (
       omega (arith, c.self.invariant.0),
       hex_ascii c.args.high c.args.low (drop w.at w.octets) _ c.ranges.high.fits c.ranges.low.fits c.self.invariant.1 is,
     )

@@ -25,8 +25,7 @@ returns-clause-len c =
 pub invariant_of-self : goal.invariant_of-self
 invariant_of-self c =
     let w = c.self.inside in
-    let done = c.write_marked-self-inside in
-    (
+    let done = c.write_marked-self-inside in (
       omega (arith, done.ensures.start, c.self.invariant.0),
       marked_ascii c.args.mark c.from.result (drop w.at w.octets) (drop done.result done.new.octets) c.requires.ascii (omega (arith, c.from.ensures, c.ranges.octet.fits)) c.self.invariant.1 done.ensures.written,
     )
