@@ -9,6 +9,7 @@ use Rattle.bgp_wire.specs.Octets.{AreOctets}
 use Rattle.bgp_wire.proofs.OctetLemmas.{AreOctets-take}
 use Rattle.bgp_attr.specs.Numbers.{one_number, numbers_of, number_octets, row_octets}
 use Rattle.bgp_attr.specs.Path.{as_number}
+use Rattle.bgp_attr.proofs.Readers.{four_first}
 use Rattle.bgp_attr.proofs.NumberSteps.{number_then, no_number}
 
 -- as many octets as whole numbers have
@@ -30,7 +31,7 @@ four_octets (x ∷ y ∷ z ∷ w ∷ b) octets =
     let later : whole (x ∷ y ∷ z ∷ w ∷ b) ≡ suc (suc (suc (suc (whole b)))) = omega arith in
     ap (λ (k : ℕ). take k (x ∷ y ∷ z ∷ w ∷ b)) later
     ∙ ap₂ (λ (front rest : List ℕ). front ++ rest) (sym (be_bytes_4 bs n refl (AreOctets-take 4 (x ∷ y ∷ z ∷ w ∷ b) octets) refl)) (four_octets b (λ i. octets (suc (suc (suc (suc i))))))
-    ∙ ap (row_octets true) (sym (number_then true (x ∷ y ∷ z ∷ w ∷ b) n b refl))
+    ∙ ap (row_octets true) (sym (number_then true (x ∷ y ∷ z ∷ w ∷ b) n b (sym (four_first x y z w b))))
 
 -- and so are AS numbers
 pub as_number_octets : (wide : Bool) (ns : List ℕ) → wide ≡ true → row_octets true ns ≡ flat_map (λ (n : AsNumber). number_octets wide n.0) (map as_number ns)

@@ -4,7 +4,7 @@ use Rattle.std.specs.List.{list_any}
 use Rattle.bgp_wire.proofs.Walks.{shorter, first_then, no_more}
 use Rattle.bgp_attr.specs.Numbers.{IsNumber, number_width, one_number, numbers_of}
 use Rattle.bgp_attr.specs.Path.{as_number}
-use Rattle.bgp_attr.proofs.Readers.{IsNumber-reads}
+use Rattle.bgp_attr.proofs.Readers.{IsNumber-reads, two_first, four_first}
 
 module _ (wide : Bool) (b : List ℕ) where
   pub number_then : (n : ℕ) (rest : List ℕ) → Some (n, rest) ≡ one_number wide b → numbers_of wide b ≡ n ∷ numbers_of wide rest
@@ -35,11 +35,11 @@ module _ (wide : Bool) (b : List ℕ) where
 -- how many numbers octets begin with
 pub number_count : (wide : Bool) (b : List ℕ) → length (numbers_of wide b) ≡ length b / number_width wide
 unfolding one_number
-number_count true (x ∷ y ∷ z ∷ w ∷ rest) = ap length (number_then true (x ∷ y ∷ z ∷ w ∷ rest) _ rest refl) ∙ ap suc (number_count true rest) ∙ omega arith
+number_count true (x ∷ y ∷ z ∷ w ∷ rest) = ap length (number_then true (x ∷ y ∷ z ∷ w ∷ rest) _ rest (sym (four_first x y z w rest))) ∙ ap suc (number_count true rest) ∙ omega arith
 number_count true (x ∷ y ∷ z ∷ []) = ap length (no_number true (x ∷ y ∷ z ∷ []) refl)
 number_count true (x ∷ y ∷ []) = ap length (no_number true (x ∷ y ∷ []) refl)
 number_count true (x ∷ []) = ap length (no_number true (x ∷ []) refl)
 number_count true [] = ap length (no_number true [] refl)
-number_count false (x ∷ y ∷ rest) = ap length (number_then false (x ∷ y ∷ rest) _ rest refl) ∙ ap suc (number_count false rest) ∙ omega arith
+number_count false (x ∷ y ∷ rest) = ap length (number_then false (x ∷ y ∷ rest) _ rest (sym (two_first x y rest))) ∙ ap suc (number_count false rest) ∙ omega arith
 number_count false (x ∷ []) = ap length (no_number false (x ∷ []) refl)
 number_count false [] = ap length (no_number false [] refl)

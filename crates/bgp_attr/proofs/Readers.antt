@@ -1,7 +1,9 @@
 -- Attributes, numbers, triples and segments are read as they are spelled.
-use Rattle.std.proofs.Common.{◌≡◌, ℕ, ◌<◌, Bool, true, false, cond, List, [], ◌∷◌, ◌++◌, length, Option, Some, None, refl, sym, ap, subst, ◌∙◌, append_assoc, arith}
+use Rattle.std.proofs.Common.{◌≡◌, ℕ, ◌<◌, Bool, true, false, cond, List, [], ◌∷◌, ◌++◌, length, take, drop, Option, Some, None, refl, sym, ap, subst, ◌∙◌, append_assoc, arith}
 use Rattle.std.specs.Int.{w16, w32, from_be_bytes}
 use Rattle.bgp_wire.specs.Reader.{Reads}
+use Rattle.std.proofs.lemmas.List.{length-append, take_at, drop_at, drop-drop}
+use Rattle.std.proofs.Math.Seq.{take-length}
 use Rattle.bgp_wire.specs.Then.{◌>>=◌}
 use Rattle.bgp_wire.specs.Behind.{first_octets, behind_count}
 use Rattle.bgp_wire.proofs.Firsts.{both_steps, first_octets-at, first_octets-gives}
@@ -9,50 +11,28 @@ use Rattle.bgp_wire.proofs.Pieces.{found, found_same, found_not}
 use Rattle.bgp_wire.proofs.Behinds.{BehindCount-reads}
 use Rattle.bgp_attr.specs.declared.path_form.PathForm.{PathForm}
 use Rattle.bgp_attr.specs.Tlv.{TlvValue, length_width, number_of_length, IsTlv, one_tlv}
-use Rattle.bgp_attr.specs.Numbers.{IsNumber, four_at, two_at, one_number, IsTriple, one_triple}
+use Rattle.bgp_attr.specs.Numbers.{number_width, number_in, IsNumber, one_number, IsTriple, one_triple}
 use Rattle.bgp_attr.specs.Path.{WireSegment, is_known, IsSegment, segment_of, one_segment}
 
 -- ---- numbers
 
-four_finds : (n : ℕ) (front back : List ℕ) → length front ≡ 4 → n ≡ from_be_bytes w32 front → four_at (front ++ back) ≡ Some (n, back)
-four_finds n (a ∷ b ∷ c ∷ d ∷ []) back len e = ap (λ (m : ℕ). Some (m, back)) (sym e)
-four_finds n [] back len e = absurd (omega arith)
-four_finds n (a ∷ []) back len e = absurd (omega arith)
-four_finds n (a ∷ b ∷ []) back len e = absurd (omega arith)
-four_finds n (a ∷ b ∷ c ∷ []) back len e = absurd (omega arith)
-four_finds n (a ∷ b ∷ c ∷ d ∷ x ∷ front) back len e = absurd (omega arith)
-
-two_finds : (n : ℕ) (front back : List ℕ) → length front ≡ 2 → n ≡ from_be_bytes w16 front → two_at (front ++ back) ≡ Some (n, back)
-two_finds n (a ∷ b ∷ []) back len e = ap (λ (m : ℕ). Some (m, back)) (sym e)
-two_finds n [] back len e = absurd (omega arith)
-two_finds n (a ∷ []) back len e = absurd (omega arith)
-two_finds n (a ∷ b ∷ x ∷ front) back len e = absurd (omega arith)
-
-four_gives : (b : List ℕ) (n : ℕ) (back : List ℕ) → four_at b ≡ Some (n, back) → (front : List ℕ) × (b ≡ front ++ back) × IsNumber true n front
-four_gives (a ∷ b ∷ c ∷ d ∷ rest) n back e =
-    let same = found_same ℕ (from_be_bytes w32 (a ∷ b ∷ c ∷ d ∷ []), rest) (n, back) e in
-    (a ∷ b ∷ c ∷ d ∷ [], ap (λ (p : ℕ × List ℕ). a ∷ b ∷ c ∷ d ∷ p.1) same, record { as_wide = refl; value = ap (λ (p : ℕ × List ℕ). p.0) (sym same) })
-four_gives [] n back e = absurd (found_not ℕ (n, back) e)
-four_gives (a ∷ []) n back e = absurd (found_not ℕ (n, back) e)
-four_gives (a ∷ b ∷ []) n back e = absurd (found_not ℕ (n, back) e)
-four_gives (a ∷ b ∷ c ∷ []) n back e = absurd (found_not ℕ (n, back) e)
-
-two_gives : (b : List ℕ) (n : ℕ) (back : List ℕ) → two_at b ≡ Some (n, back) → (front : List ℕ) × (b ≡ front ++ back) × IsNumber false n front
-two_gives (a ∷ b ∷ rest) n back e =
-    let same = found_same ℕ (from_be_bytes w16 (a ∷ b ∷ []), rest) (n, back) e in
-    (a ∷ b ∷ [], ap (λ (p : ℕ × List ℕ). a ∷ b ∷ p.1) same, record { as_wide = refl; value = ap (λ (p : ℕ × List ℕ). p.0) (sym same) })
-two_gives [] n back e = absurd (found_not ℕ (n, back) e)
-two_gives (a ∷ []) n back e = absurd (found_not ℕ (n, back) e)
+-- the number of octets that were found
+abbrev numbered : Bool → List ℕ × List ℕ → Option (ℕ × List ℕ)
+numbered wide octets = Some (number_in wide octets.0, octets.1)
 
 number_finds : (wide : Bool) (n : ℕ) (front back : List ℕ) → IsNumber wide n front → one_number wide (front ++ back) ≡ Some (n, back)
 unfolding one_number
-number_finds true n front back p = four_finds n front back p.as_wide p.value
-number_finds false n front back p = two_finds n front back p.as_wide p.value
+number_finds wide n front back p =
+    ap (λ (o : Option (List ℕ × List ℕ)). o >>= numbered wide) (first_octets-at (number_width wide) front back p.as_wide) ∙ ap (λ (m : ℕ). Some (m, back)) (sym p.value)
 
 number_gives : (wide : Bool) (b : List ℕ) (n : ℕ) (back : List ℕ) → one_number wide b ≡ Some (n, back) → (front : List ℕ) × (b ≡ front ++ back) × IsNumber wide n front
 unfolding one_number
-number_gives true b n back e = four_gives b n back e
-number_gives false b n back e = two_gives b n back e
+number_gives wide b n back e =
+    let cut = both_steps (first_octets (number_width wide) b) (numbered wide) (n, back) e in
+    let octets : List ℕ × List ℕ = cut.0 in
+    let front = first_octets-gives (number_width wide) b octets.0 octets.1 cut.1 in
+    let same = found_same ℕ (number_in wide octets.0, octets.1) (n, back) cut.2 in
+    (octets.0, front.octets ∙ ap (λ (p : ℕ × List ℕ). octets.0 ++ p.1) same, record { as_wide = front.long; value = ap (λ (p : ℕ × List ℕ). p.0) (sym same) })
 
 number_some : (wide : Bool) (b : List ℕ) → length b ≡ cond wide 4 2 → 0 < length b
 number_some true b e = omega arith
@@ -65,11 +45,46 @@ IsNumber-reads wide = record {
   gives = number_gives wide;
 }
 
+pub two_first : (x y : ℕ) (rest : List ℕ) → one_number false (x ∷ y ∷ rest) ≡ Some (from_be_bytes w16 (x ∷ y ∷ []), rest)
+two_first x y rest = number_finds false (from_be_bytes w16 (x ∷ y ∷ [])) (x ∷ y ∷ []) rest (record { as_wide = refl; value = refl })
+
+pub four_first : (x y z w : ℕ) (rest : List ℕ) → one_number true (x ∷ y ∷ z ∷ w ∷ rest) ≡ Some (from_be_bytes w32 (x ∷ y ∷ z ∷ w ∷ []), rest)
+four_first x y z w rest = number_finds true (from_be_bytes w32 (x ∷ y ∷ z ∷ w ∷ [])) (x ∷ y ∷ z ∷ w ∷ []) rest (record { as_wide = refl; value = refl })
+
 -- ---- triples
+
+-- the steps behind the first number of a triple
+abbrev third : ℕ × List ℕ → ℕ × List ℕ → ℕ × List ℕ → Option (List ℕ × List ℕ)
+third x y z = Some (x.0 ∷ y.0 ∷ z.0 ∷ [], z.1)
+
+abbrev second : ℕ × List ℕ → ℕ × List ℕ → Option (List ℕ × List ℕ)
+second x y = one_number true y.1 >>= third x y
+
+abbrev first : ℕ × List ℕ → Option (List ℕ × List ℕ)
+first x = one_number true x.1 >>= second x
+
+triple_of : (x y z : List ℕ) → length x ≡ 4 → length y ≡ 4 → length z ≡ 4 → IsTriple (from_be_bytes w32 x ∷ from_be_bytes w32 y ∷ from_be_bytes w32 z ∷ []) (x ++ (y ++ z))
+triple_of x y z ex ey ez =
+    let later : drop 4 (x ++ (y ++ z)) ≡ y ++ z = drop_at x (y ++ z) 4 ex in
+    let last : drop 8 (x ++ (y ++ z)) ≡ z = sym (drop-drop 4 4 (x ++ (y ++ z))) ∙ ap (drop 4) later ∙ drop_at y z 4 ey in
+    let whole : take 4 z ≡ z = ap (λ (n : ℕ). take n z) (sym ez) ∙ take-length z in
+    let one : take 4 (x ++ (y ++ z)) ≡ x = take_at x (y ++ z) 4 ex in
+    let two : take 4 (drop 4 (x ++ (y ++ z))) ≡ y = ap (take 4) later ∙ take_at y z 4 ey in
+    let three : take 4 (drop 8 (x ++ (y ++ z))) ≡ z = ap (take 4) last ∙ whole in
+    record {
+      twelve = omega (arith, length-append x (y ++ z), length-append y z);
+      numbers = λ t. from_be_bytes w32 (sym one t) ∷ from_be_bytes w32 (sym two t) ∷ from_be_bytes w32 (sym three t) ∷ [];
+    }
 
 triple_finds : (t front back : List ℕ) → IsTriple t front → one_triple (front ++ back) ≡ Some (t, back)
 unfolding one_triple
-triple_finds t (a ∷ b ∷ c ∷ d ∷ e ∷ f ∷ g ∷ h ∷ i ∷ j ∷ k ∷ l ∷ []) back p = ap (λ (m : List ℕ). Some (m, back)) (sym p.numbers)
+triple_finds t (a ∷ b ∷ c ∷ d ∷ e ∷ f ∷ g ∷ h ∷ i ∷ j ∷ k ∷ l ∷ []) back p =
+    let x : ℕ × List ℕ = (from_be_bytes w32 (a ∷ b ∷ c ∷ d ∷ []), e ∷ f ∷ g ∷ h ∷ i ∷ j ∷ k ∷ l ∷ back) in
+    let y : ℕ × List ℕ = (from_be_bytes w32 (e ∷ f ∷ g ∷ h ∷ []), i ∷ j ∷ k ∷ l ∷ back) in
+    ap (λ (o : Option (ℕ × List ℕ)). o >>= first) (four_first a b c d (e ∷ f ∷ g ∷ h ∷ i ∷ j ∷ k ∷ l ∷ back))
+    ∙ ap (λ (o : Option (ℕ × List ℕ)). o >>= second x) (four_first e f g h (i ∷ j ∷ k ∷ l ∷ back))
+    ∙ ap (λ (o : Option (ℕ × List ℕ)). o >>= third x y) (four_first i j k l back)
+    ∙ ap (λ (m : List ℕ). Some (m, back)) (sym p.numbers)
 triple_finds t [] back p = absurd (omega (arith, p.twelve))
 triple_finds t (a ∷ []) back p = absurd (omega (arith, p.twelve))
 triple_finds t (a ∷ b ∷ []) back p = absurd (omega (arith, p.twelve))
@@ -87,25 +102,26 @@ triple_finds t (a ∷ b ∷ c ∷ d ∷ e ∷ f ∷ g ∷ h ∷ i ∷ j ∷ k �
 
 triple_gives : (b t back : List ℕ) → one_triple b ≡ Some (t, back) → (front : List ℕ) × (b ≡ front ++ back) × IsTriple t front
 unfolding one_triple
-triple_gives (a ∷ b ∷ c ∷ d ∷ e ∷ f ∷ g ∷ h ∷ i ∷ j ∷ k ∷ l ∷ rest) t back q =
-    let three : List ℕ = from_be_bytes w32 (a ∷ b ∷ c ∷ d ∷ []) ∷ from_be_bytes w32 (e ∷ f ∷ g ∷ h ∷ []) ∷ from_be_bytes w32 (i ∷ j ∷ k ∷ l ∷ []) ∷ [] in
-    let same = found_same (List ℕ) (three, rest) (t, back) q in (
-      a ∷ b ∷ c ∷ d ∷ e ∷ f ∷ g ∷ h ∷ i ∷ j ∷ k ∷ l ∷ [],
-      ap (λ (p : List ℕ × List ℕ). a ∷ b ∷ c ∷ d ∷ e ∷ f ∷ g ∷ h ∷ i ∷ j ∷ k ∷ l ∷ p.1) same,
-      record { twelve = refl; numbers = ap (λ (p : List ℕ × List ℕ). p.0) (sym same) },
+triple_gives b t back q =
+    let one = both_steps (one_number true b) first (t, back) q in
+    let x : ℕ × List ℕ = one.0 in
+    let two = both_steps (one_number true x.1) (second x) (t, back) one.2 in
+    let y : ℕ × List ℕ = two.0 in
+    let three = both_steps (one_number true y.1) (third x y) (t, back) two.2 in
+    let z : ℕ × List ℕ = three.0 in
+    let fx = number_gives true b x.0 x.1 one.1 in
+    let fy = number_gives true x.1 y.0 y.1 two.1 in
+    let fz = number_gives true y.1 z.0 z.1 three.1 in
+    let same = found_same (List ℕ) (x.0 ∷ y.0 ∷ z.0 ∷ [], z.1) (t, back) three.2 in
+    let are : from_be_bytes w32 fx.0 ∷ from_be_bytes w32 fy.0 ∷ from_be_bytes w32 fz.0 ∷ [] ≡ t =
+    (λ i. sym fx.2.value i ∷ sym fy.2.value i ∷ sym fz.2.value i ∷ []) ∙ ap (λ (p : List ℕ × List ℕ). p.0) same in
+    let rest : z.1 ≡ back = ap (λ (p : List ℕ × List ℕ). p.1) same in
+    let split : b ≡ (fx.0 ++ (fy.0 ++ fz.0)) ++ z.1 =
+    fx.1 ∙ ap (λ (r : List ℕ). fx.0 ++ r) (fy.1 ∙ ap (λ (r : List ℕ). fy.0 ++ r) fz.1 ∙ sym (append_assoc fy.0 fz.0 z.1)) ∙ sym (append_assoc fx.0 (fy.0 ++ fz.0) z.1) in (
+      fx.0 ++ (fy.0 ++ fz.0),
+      split ∙ ap (λ (r : List ℕ). (fx.0 ++ (fy.0 ++ fz.0)) ++ r) rest,
+      subst (λ (m : List ℕ). IsTriple m (fx.0 ++ (fy.0 ++ fz.0))) are (triple_of fx.0 fy.0 fz.0 fx.2.as_wide fy.2.as_wide fz.2.as_wide),
     )
-triple_gives [] t back q = absurd (found_not (List ℕ) (t, back) q)
-triple_gives (a ∷ []) t back q = absurd (found_not (List ℕ) (t, back) q)
-triple_gives (a ∷ b ∷ []) t back q = absurd (found_not (List ℕ) (t, back) q)
-triple_gives (a ∷ b ∷ c ∷ []) t back q = absurd (found_not (List ℕ) (t, back) q)
-triple_gives (a ∷ b ∷ c ∷ d ∷ []) t back q = absurd (found_not (List ℕ) (t, back) q)
-triple_gives (a ∷ b ∷ c ∷ d ∷ e ∷ []) t back q = absurd (found_not (List ℕ) (t, back) q)
-triple_gives (a ∷ b ∷ c ∷ d ∷ e ∷ f ∷ []) t back q = absurd (found_not (List ℕ) (t, back) q)
-triple_gives (a ∷ b ∷ c ∷ d ∷ e ∷ f ∷ g ∷ []) t back q = absurd (found_not (List ℕ) (t, back) q)
-triple_gives (a ∷ b ∷ c ∷ d ∷ e ∷ f ∷ g ∷ h ∷ []) t back q = absurd (found_not (List ℕ) (t, back) q)
-triple_gives (a ∷ b ∷ c ∷ d ∷ e ∷ f ∷ g ∷ h ∷ i ∷ []) t back q = absurd (found_not (List ℕ) (t, back) q)
-triple_gives (a ∷ b ∷ c ∷ d ∷ e ∷ f ∷ g ∷ h ∷ i ∷ j ∷ []) t back q = absurd (found_not (List ℕ) (t, back) q)
-triple_gives (a ∷ b ∷ c ∷ d ∷ e ∷ f ∷ g ∷ h ∷ i ∷ j ∷ k ∷ []) t back q = absurd (found_not (List ℕ) (t, back) q)
 
 pub IsTriple-reads : Reads IsTriple one_triple
 IsTriple-reads = record {

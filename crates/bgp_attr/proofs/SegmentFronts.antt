@@ -1,6 +1,6 @@
 -- A segment at the front of octets, as the code cuts it off.
 use Rattle.std.proofs.Common.{◌≡◌, ◌≢◌, ℕ, zero, suc, ◌+◌, ◌*◌, ◌<◌, ◌≤◌, Bool, true, false, cond, eqb, not, ◌||◌, List, [], ◌∷◌, ◌++◌, length, take, drop, Option, Some, None, refl, sym, ap, ap₂, ◌∙◌, arith, inl, inr}
-use Rattle.std.proofs.lemmas.Bool.{cases_lt, eq-eqb, ne_eqb}
+use Rattle.std.proofs.lemmas.Bool.{cases_lt, eq-eqb, ne_eqb, le-leb, lt-leb}
 use Rattle.std.proofs.lemmas.List.{length-take, length-drop, take-append-drop, drop-drop}
 use Rattle.std.proofs.Math.Seq.{take-append-add}
 use Rattle.bgp_wire.specs.Reader.{then_pieces, pieces_within}
@@ -19,25 +19,11 @@ number_width-some false = omega arith
 
 pub number_there : (wide : Bool) (b : List ℕ) → number_width wide ≤ length b → one_number wide b ≡ Some (number_in wide (take (number_width wide) b), drop (number_width wide) b)
 unfolding one_number
-number_there true (a ∷ b ∷ c ∷ d ∷ rest) le = refl
-number_there true [] le = absurd (omega arith)
-number_there true (a ∷ []) le = absurd (omega arith)
-number_there true (a ∷ b ∷ []) le = absurd (omega arith)
-number_there true (a ∷ b ∷ c ∷ []) le = absurd (omega arith)
-number_there false (a ∷ b ∷ rest) le = refl
-number_there false [] le = absurd (omega arith)
-number_there false (a ∷ []) le = absurd (omega arith)
+number_there wide b le = rw (le-leb (number_width wide) (length b) le) refl
 
 pub number_short : (wide : Bool) (b : List ℕ) → length b < number_width wide → one_number wide b ≡ None
 unfolding one_number
-number_short true [] lt = refl
-number_short true (a ∷ []) lt = refl
-number_short true (a ∷ b ∷ []) lt = refl
-number_short true (a ∷ b ∷ c ∷ []) lt = refl
-number_short true (a ∷ b ∷ c ∷ d ∷ rest) lt = absurd (omega arith)
-number_short false [] lt = refl
-number_short false (a ∷ []) lt = refl
-number_short false (a ∷ b ∷ rest) lt = absurd (omega arith)
+number_short wide b lt = rw (lt-leb (number_width wide) (length b) lt) refl
 
 -- ---- as many numbers as are counted
 

@@ -1,8 +1,9 @@
 -- Numbers of two or four octets, highest octet first (RFC 4271, section 4), and rows of them.
-use Rattle.std.specs.Prelude.{◌≡◌, ℕ, Bool, true, false, List, [], ◌∷◌, ◌++◌, ◌&&◌, ◌==◌, length, take, drop, Option, None, Some, if◌then◌else◌}
+use Rattle.std.specs.Prelude.{◌≡◌, ℕ, Bool, true, false, List, [], ◌∷◌, ◌++◌, ◌&&◌, ◌==◌, length, take, drop, Option, Some, if◌then◌else◌}
 use Rattle.std.specs.List.{flat_map, list_any}
 use Rattle.std.specs.Int.{w16, w32, to_be_bytes, from_be_bytes}
 use Rattle.bgp_wire.specs.Reader.{pieces}
+use Rattle.bgp_wire.specs.Behind.{first_octets}
 use Rattle.bgp_wire.specs.Then.{◌>>=◌}
 
 -- the octets of a number: four where it is wide, else two
@@ -17,17 +18,11 @@ pub record IsNumber (wide : Bool) (n : ℕ) (b : List ℕ) : Type 0 where
   pub as_wide : length b ≡ number_width wide
   pub value : n ≡ number_in wide b
 
-abbrev pub four_at : List ℕ → Option (ℕ × List ℕ)
-four_at (a ∷ b ∷ c ∷ d ∷ rest) = Some (from_be_bytes w32 (a ∷ b ∷ c ∷ d ∷ []), rest)
-four_at _ = None
-
-abbrev pub two_at : List ℕ → Option (ℕ × List ℕ)
-two_at (a ∷ b ∷ rest) = Some (from_be_bytes w16 (a ∷ b ∷ []), rest)
-two_at _ = None
-
 -- the number at the front of octets, and what follows it
 unfoldable pub one_number : Bool → List ℕ → Option (ℕ × List ℕ)
-one_number wide b = if wide then four_at b else two_at b
+one_number wide b = do
+  octets ← first_octets (number_width wide) b
+  Some (number_in wide octets.0, octets.1)
 
 -- the numbers that octets begin with
 abbrev pub numbers_of : Bool → List ℕ → List ℕ
@@ -50,9 +45,9 @@ pub record IsTriple (triple : List ℕ) (b : List ℕ) : Type 0 where
 -- the three numbers at the front of octets, and what follows them
 unfoldable pub one_triple : List ℕ → Option (List ℕ × List ℕ)
 one_triple b = do
-  x ← four_at b
-  y ← four_at x.1
-  z ← four_at y.1
+  x ← one_number true b
+  y ← one_number true x.1
+  z ← one_number true y.1
   Some (x.0 ∷ y.0 ∷ z.0 ∷ [], z.1)
 
 abbrev pub triples_of : List ℕ → List (List ℕ)

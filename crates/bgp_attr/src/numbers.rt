@@ -1,7 +1,7 @@
 //! Numbers one after the other.
 
-ghost use Rattle.std.specs.Prelude.{◌≡◌, length, option_map};
-ghost use Rattle.bgp_attr.specs.Numbers.{numbers_of, one_number, four_at, two_at};
+ghost use Rattle.std.specs.Prelude.{◌≡◌, length, option_map, true, false};
+ghost use Rattle.bgp_attr.specs.Numbers.{numbers_of, one_number};
 
 use bgp_prefix::AsNumber;
 use std::iter::FusedIterator;
@@ -9,7 +9,7 @@ use std::iter::FusedIterator;
 /// The number of four octets at the front, and what follows it.
 #[tactic(auto, using(crate::proofs::Fronts::four_taken, crate::proofs::Fronts::four_short))]
 pub(crate) fn first_four(octets: &[u8]) -> Option<(u32, &[u8])>
-    ensures { option_map (λ x. (x.0, x.1.now)) result ≡ four_at octets.now }
+    ensures { option_map (λ x. (x.0, x.1.now)) result ≡ one_number true octets.now }
 {
     let (number, rest) = octets.split_at_checked(4)?;
     Some((
@@ -21,7 +21,7 @@ pub(crate) fn first_four(octets: &[u8]) -> Option<(u32, &[u8])>
 /// The number of two octets at the front, and what follows it.
 #[tactic(auto, using(crate::proofs::Fronts::two_taken, crate::proofs::Fronts::two_short))]
 fn first_two(octets: &[u8]) -> Option<(u32, &[u8])>
-    ensures { option_map (λ x. (x.0, x.1.now)) result ≡ two_at octets.now }
+    ensures { option_map (λ x. (x.0, x.1.now)) result ≡ one_number false octets.now }
 {
     let (number, rest) = octets.split_at_checked(2)?;
     Some((u32::from(u16::from_be_bytes([number[0], number[1]])), rest))

@@ -1,5 +1,5 @@
 -- What is wrong with the body of an OPEN, and the answer (RFC 4271, sections 6.2 and 4.5). The order of the tests is this project's own.
-use Rattle.std.specs.Prelude.{◌≡◌, ◌==◌, ◌≢◌, ℕ, Bool, not, nat_lt, List, [], ◌∷◌, length, Option, None, Some, Result, Ok, Err, IsOk, if◌then◌else◌}
+use Rattle.std.specs.Prelude.{◌≡◌, ◌==◌, ◌≢◌, ℕ, not, nat_lt, List, [], ◌∷◌, length, Option, None, Some, Result, Ok, Err, IsOk, if◌then◌else◌}
 use Rattle.bgp_wire.specs.Then.{when}
 use Rattle.bgp_wire.specs.Reader.{pieces}
 use Rattle.bgp_numbers.specs.declared.TheConstants.{VERSION}
