@@ -41,20 +41,35 @@ module _ (reports0 : Reports) (hex : Bool) (r0 w0 : Option (List ℕ)) where
     pub wrote : Appends w0 w written
     pub lifts : (q : Report) → reports [] q → reports0 (stream_of hex text) (behind (written ++ told) q)
 
-  abbrev io : Option (List ℕ) → Option (List ℕ) → Io
-  io r w = record { reader_old = r0; reader_new = r; writer_old = w0; writer_new = w }
+abbrev io : Option (List ℕ) → Option (List ℕ) → Option (List ℕ) → Option (List ℕ) → Io
+io r0 w0 r w = record { reader_old = r0; reader_new = r; writer_old = w0; writer_new = w }
 
+-- the digits that wait spell nothing
+rest_is_nothing : (h : Bool) (o : Option ℕ) → (h ≡ false → o ≡ None) → stream_of h (option_to_list o ++ []) ≡ []
+rest_is_nothing true None raw = spelled-nil
+rest_is_nothing true (Some c) raw = spelled-digit c
+rest_is_nothing false None raw = refl
+rest_is_nothing false (Some c) raw = let bad = raw refl in absurd cc
+
+-- a front of lines that were collected and are written behind those before them
+goes_further : (reports0 reports reports1 : Reports) (octets octets1 lines lines1 : List ℕ) → GoesOn reports0 octets lines reports → GoesOn reports octets1 lines1 reports1 → GoesOn reports0 (octets ++ octets1) (lines ++ lines1) reports1
+goes_further reports0 reports reports1 octets octets1 lines lines1 on on1 later r g =
+    subst (λ (s : List ℕ). reports0 s (behind (lines ++ lines1) r)) (sym (append_assoc octets octets1 later))
+    (subst (λ (l : List ℕ). reports0 (octets ++ (octets1 ++ later)) (record { lines = l; last = r.last; end_of = r.end_of; answer = r.answer })) (sym (append_assoc lines lines1 r.lines))
+    (on (octets1 ++ later) (behind lines1 r) (on1 later r g)))
+
+module _ {reports0 : Reports} {hex : Bool} {r0 w0 : Option (List ℕ)} where
   -- ---- where it stops
 
-  module _ (reports : Reports) (r w w1 : Option (List ℕ)) (text written told : List ℕ) (s : Reached reports r w text written told) where
+  module _ {reports : Reports} {r w : Option (List ℕ)} (w1 : Option (List ℕ)) {text written told : List ℕ} (s : Reached reports0 hex r0 w0 reports r w text written told) where
     more_front : (front : List ℕ) (rest : List ℕ) → IsFront written ((written ++ front) ++ rest)
     more_front front rest = (front ++ rest, append_assoc written front rest)
 
-    pub fails_read : (q : Report) → reports [] q → Fails reports0 hex (io r w) fault.Read
+    pub fails_read : (q : Report) → reports [] q → Fails reports0 hex (io r0 w0 r w) fault.Read
     fails_read q g = record { text = text; read = s.read; report = behind (written ++ told) q; reported = s.lifts q g; written = written; wrote = s.wrote; is_fault = more_front told q.lines }
 
     -- all that was collected was written
-    pub fails_bad : (n : ℕ) (q : Report) → reports [] q → q.lines ≡ [] → Appends w w1 told → IsBadAt hex text r q.end_of n → Fails reports0 hex (io r w1) (fault.BadHex n)
+    pub fails_bad : (n : ℕ) (q : Report) → reports [] q → q.lines ≡ [] → Appends w w1 told → IsBadAt hex text r q.end_of n → Fails reports0 hex (io r0 w0 r w1) (fault.BadHex n)
     fails_bad n q g none more bad = record {
       text = text;
       read = s.read;
@@ -69,7 +84,7 @@ module _ (reports0 : Reports) (hex : Bool) (r0 w0 : Option (List ℕ)) where
     all_of q none = sym (append_assoc written told q.last) ∙ ap (λ (x : List ℕ). x ++ q.last) (sym (ap (λ (x : List ℕ). (written ++ told) ++ x) none ∙ append-nil (written ++ told)))
 
     -- a front of what was collected and is written last was written
-    pub fails_write : (q : Report) → reports [] q → q.lines ≡ [] → AppendsFront w w1 (told ++ q.last) → Fails reports0 hex (io r w1) fault.Write
+    pub fails_write : (q : Report) → reports [] q → q.lines ≡ [] → AppendsFront w w1 (told ++ q.last) → Fails reports0 hex (io r0 w0 r w1) fault.Write
     fails_write q g none a = record {
       text = text;
       read = s.read;
@@ -81,9 +96,9 @@ module _ (reports0 : Reports) (hex : Bool) (r0 w0 : Option (List ℕ)) where
     }
 
     -- what was collected wasn't written
-    pub fails_put : (q : Report) (f : ToolFault) → reports [] q → q.lines ≡ [] → FailsWithin w w1 told f → Fails reports0 hex (io r w1) f
+    pub fails_put : (q : Report) (f : ToolFault) → reports [] q → q.lines ≡ [] → FailsWithin w w1 told f → Fails reports0 hex (io r0 w0 r w1) f
     fails_put q f g none h =
-        subst (λ (x : ToolFault). Fails reports0 hex (io r w1) x) (sym h.is_write)
+        subst (λ (x : ToolFault). Fails reports0 hex (io r0 w0 r w1) x) (sym h.is_write)
         (fails_write q g none (record {
           front = h.wrote.front;
           is_front = (h.wrote.is_front.0 ++ q.last, ap (λ (x : List ℕ). x ++ q.last) h.wrote.is_front.1 ∙ append_assoc h.wrote.front h.wrote.is_front.0 q.last);
@@ -92,7 +107,7 @@ module _ (reports0 : Reports) (hex : Bool) (r0 w0 : Option (List ℕ)) where
 
     -- ---- the answers
 
-    pub finishes : (tally : Tally) → ((q : Report) → reports [] q → IsAllRead hex text r q.end_of) → WritesAll reports told w w1 (Ok tally) → Finishes reports0 hex (io r w1) tally
+    pub finishes : (tally : Tally) → ((q : Report) → reports [] q → IsAllRead hex text r q.end_of) → WritesAll reports told w w1 (Ok tally) → Finishes reports0 hex (io r0 w0 r w1) tally
     finishes tally all_read a = record {
       text = text;
       read = s.read;
@@ -103,7 +118,7 @@ module _ (reports0 : Reports) (hex : Bool) (r0 w0 : Option (List ℕ)) where
       all_read = all_read a.report a.reported;
     }
 
-    pub fails_narrow : (n : ℕ) → ((q : Report) → reports [] q → IsAllRead hex text r q.end_of) → WritesAll reports told w w1 (Err (fault.Narrow n)) → Fails reports0 hex (io r w1) (fault.Narrow n)
+    pub fails_narrow : (n : ℕ) → ((q : Report) → reports [] q → IsAllRead hex text r q.end_of) → WritesAll reports told w w1 (Err (fault.Narrow n)) → Fails reports0 hex (io r0 w0 r w1) (fault.Narrow n)
     fails_narrow n all_read a = record {
       text = text;
       read = s.read;
@@ -114,7 +129,7 @@ module _ (reports0 : Reports) (hex : Bool) (r0 w0 : Option (List ℕ)) where
       is_fault = (all_of a.report a.none, a.answers, all_read a.report a.reported);
     }
 
-    pub fails_no_open : ((q : Report) → reports [] q → IsAllRead hex text r q.end_of) → WritesAll reports told w w1 (Err fault.NoOpen) → Fails reports0 hex (io r w1) fault.NoOpen
+    pub fails_no_open : ((q : Report) → reports [] q → IsAllRead hex text r q.end_of) → WritesAll reports told w w1 (Err fault.NoOpen) → Fails reports0 hex (io r0 w0 r w1) fault.NoOpen
     fails_no_open all_read a = record {
       text = text;
       read = s.read;
@@ -125,7 +140,7 @@ module _ (reports0 : Reports) (hex : Bool) (r0 w0 : Option (List ℕ)) where
       is_fault = (all_of a.report a.none, a.answers, all_read a.report a.reported);
     }
 
-    pub fails_memory : WritesNone reports w w1 → Fails reports0 hex (io r w1) fault.Memory
+    pub fails_memory : WritesNone reports w w1 → Fails reports0 hex (io r0 w0 r w1) fault.Memory
     fails_memory a = record {
       text = text;
       read = s.read;
@@ -136,7 +151,7 @@ module _ (reports0 : Reports) (hex : Bool) (r0 w0 : Option (List ℕ)) where
       is_fault = more_front told a.report.lines;
     }
 
-    pub finished : (answer : Result Tally ToolFault) → ((q : Report) → reports [] q → IsAllRead hex text r q.end_of) → Finished reports told w w1 answer → Answers reports0 hex (io r w1) answer
+    pub finished : (answer : Result Tally ToolFault) → ((q : Report) → reports [] q → IsAllRead hex text r q.end_of) → Finished reports told w w1 answer → Answers reports0 hex (io r0 w0 r w1) answer
     finished (Ok tally) all_read a = finishes tally all_read a
     finished (Err fault.Memory) all_read a = fails_memory a
     finished (Err fault.Write) all_read a = fails_write a.report a.reported a.none a.wrote
@@ -148,7 +163,7 @@ module _ (reports0 : Reports) (hex : Bool) (r0 w0 : Option (List ℕ)) where
     finished (Err fault.NoOpen) all_read a = fails_no_open all_read a
 
   -- nothing was read yet
-  pub Reading-none : (going : Type 0) (reader : HexText) → going → Rests reports0 → reader.pending ≡ None → reader.seen ≡ 0 → Reading reports0 going r0 w0 reader 0
+  pub Reading-none : (going : Type 0) (reader : HexText) → going → Rests reports0 → reader.pending ≡ None → reader.seen ≡ 0 → Reading reports0 hex r0 w0 reports0 going r0 w0 reader 0
   Reading-none going reader goes rests none zeros =
       let nothing : pending reader ≡ [] = ap option_to_list none in
       record {
@@ -166,16 +181,9 @@ module _ (reports0 : Reports) (hex : Bool) (r0 w0 : Option (List ℕ)) where
         rests = rests;
       }
 
-  -- a front of lines that were collected and are written behind those before them
-  goes_further : (reports reports1 : Reports) (octets octets1 lines lines1 : List ℕ) → GoesOn reports0 octets lines reports → GoesOn reports octets1 lines1 reports1 → GoesOn reports0 (octets ++ octets1) (lines ++ lines1) reports1
-  goes_further reports reports1 octets octets1 lines lines1 on on1 later r g =
-      subst (λ (s : List ℕ). reports0 s (behind (lines ++ lines1) r)) (sym (append_assoc octets octets1 later))
-      (subst (λ (l : List ℕ). reports0 (octets ++ (octets1 ++ later)) (record { lines = l; last = r.last; end_of = r.end_of; answer = r.answer })) (sym (append_assoc lines lines1 r.lines))
-      (on (octets1 ++ later) (behind lines1 r) (on1 later r g)))
-
-  module _ (reports : Reports) (going : Type 0) (r w : Option (List ℕ)) (reader : HexText) (turns : ℕ) (s : Reading reports going r w reader turns) where
+  module _ {reports : Reports} {going : Type 0} {r w : Option (List ℕ)} {reader : HexText} {turns : ℕ} (s : Reading reports0 hex r0 w0 reports going r w reader turns) where
     -- ---- a block was read, taken and written
-    module _ (reports1 : Reports) (going1 : Type 0) (r1 w1 : Option (List ℕ)) (reader1 : HexText) (told told1 block : List ℕ) (none : told ≡ []) (more : Consumes r r1 block) where
+    module _ (r1 : Option (List ℕ)) (block : List ℕ) (more : Consumes r r1 block) where
       more_read : Consumes r0 r1 (s.text ++ block)
       more_read = Consumes-trans r0 r r1 s.text block s.read more
 
@@ -187,68 +195,6 @@ module _ (reports0 : Reports) (hex : Bool) (r0 w0 : Option (List ℕ)) where
 
       all_octets : stream_of hex (s.text ++ block) ≡ s.octets ++ stream_of hex (pending reader ++ (block ++ []))
       all_octets = ap (stream_of hex) (sym whole_text) ∙ streams []
-
-      pub Reading-block : length block ≤ 4096 → (m : MeetsBlock hex reader reader1 reports reports1 going1 told told1 block) → Appends w w1 told1 → Reading reports1 going1 r1 w1 reader1 (turns + 1)
-      Reading-block short m wrote = record {
-        text = s.text ++ block;
-        read = more_read;
-        octets = s.octets ++ m.octets;
-        stream = λ later.
-            streams later ∙ ap (λ (x : List ℕ). s.octets ++ x) (m.spells.stream later) ∙ sym (append_assoc s.octets m.octets (stream_of hex (pending reader1 ++ later)));
-        bad = λ later. ap (bad_of hex 0) (append_assoc s.text block later) ∙ s.bad (block ++ later) ∙ m.spells.bad later;
-        raw = m.spells.raw;
-        seen = omega (arith, m.spells.seen, s.seen);
-        lines = s.lines ++ m.takes.lines;
-        goes_on = goes_further reports reports1 s.octets m.octets s.lines m.takes.lines s.goes_on m.takes.goes_on;
-        wrote = Appends-trans w0 w w1 s.lines m.takes.lines s.wrote (subst (Appends w w1) (m.takes.told ∙ ap (λ (t : List ℕ). t ++ m.takes.lines) none) wrote);
-        goes = m.takes.stands.0;
-        rests = m.takes.stands.1;
-      }
-
-      -- the digits that wait spell nothing
-      rest_is_nothing : (h : Bool) (o : Option ℕ) → (h ≡ false → o ≡ None) → stream_of h (option_to_list o ++ []) ≡ []
-      rest_is_nothing true None raw = spelled-nil
-      rest_is_nothing true (Some c) raw = spelled-digit c
-      rest_is_nothing false None raw = refl
-      rest_is_nothing false (Some c) raw = let bad = raw refl in absurd cc
-
-      block_octets : (m : MeetsBlock hex reader reader1 reports reports1 going1 told told1 block) → stream_of hex (s.text ++ block) ≡ (s.octets ++ m.octets) ++ []
-      block_octets m =
-          all_octets ∙ ap (λ (x : List ℕ). s.octets ++ x) (m.spells.stream [] ∙ ap (λ (x : List ℕ). m.octets ++ x) (rest_is_nothing hex reader1.pending m.spells.raw)) ∙ sym (append_assoc s.octets m.octets [])
-
-      bad_octets : (n : ℕ) (m : MeetsBad hex reader reader1 reports reports1 going1 told told1 block n) → stream_of hex (s.text ++ block) ≡ (s.octets ++ m.octets) ++ []
-      bad_octets n m = all_octets ∙ ap (λ (x : List ℕ). s.octets ++ x) (m.spells.stream []) ∙ sym (append-nil (s.octets ++ m.octets))
-
-      told_lines : (lines : List ℕ) → told1 ≡ told ++ lines → lines ≡ told1
-      told_lines lines is = sym (is ∙ ap (λ (t : List ℕ). t ++ lines) none)
-
-      -- what is reported behind the block, is reported of the whole
-      lifts : (octets lines : List ℕ) (later : List ℕ) → GoesOn reports octets lines reports1 → told1 ≡ told ++ lines → stream_of hex (s.text ++ block) ≡ (s.octets ++ octets) ++ later → (q : Report) → reports1 later q
-          → reports0 (stream_of hex (s.text ++ block)) (behind (s.lines ++ told1) q)
-      lifts octets lines later on is same q g =
-          subst (λ (x : List ℕ). reports0 x (behind (s.lines ++ told1) q)) (sym same)
-          (subst (λ (t : List ℕ). reports0 ((s.octets ++ octets) ++ later) (behind (s.lines ++ t) q)) (told_lines lines is)
-          (goes_further reports reports1 s.octets octets s.lines lines s.goes_on on later q g))
-
-      pub Reached-block : MeetsBlock hex reader reader1 reports reports1 going1 told told1 block → Reached reports1 r1 w (s.text ++ block) s.lines told1
-      Reached-block m = record { read = more_read; wrote = s.wrote; lifts = lifts m.octets m.takes.lines [] m.takes.goes_on m.takes.told (block_octets m) }
-
-      pub Reached-bad : (n : ℕ) → MeetsBad hex reader reader1 reports reports1 going1 told told1 block n → Reached reports1 r1 w (s.text ++ block) s.lines told1
-      Reached-bad n m = record { read = more_read; wrote = s.wrote; lifts = lifts m.octets m.takes.lines [] m.takes.goes_on m.takes.told (bad_octets n m) }
-
-      pub Reached-over : MeetsOver hex reader reader1 reports reports1 going1 told told1 block → Reached reports1 r1 w (s.text ++ block) s.lines told1
-      Reached-over m =
-          let front = m.spells [] in
-          record {
-            read = more_read;
-            wrote = s.wrote;
-            lifts = λ q g. lifts m.octets m.takes.lines front.0 m.takes.goes_on m.takes.told (all_octets ∙ ap (λ (x : List ℕ). s.octets ++ x) front.1 ∙ sym (append_assoc s.octets m.octets front.0)) q (m.takes.stands.always [] front.0 q g);
-          }
-
-      pub bad_block : (n : ℕ) (e : End) → IsWaiting e → MeetsBad hex reader reader1 reports reports1 going1 told told1 block n → IsBadAt hex (s.text ++ block) r1 e n
-      bad_block n e waiting m =
-          let at : (later : List ℕ) → bad_of hex 0 ((s.text ++ block) ++ later) ≡ Some n = λ later. ap (bad_of hex 0) (append_assoc s.text block later) ∙ s.bad (block ++ later) ∙ m.spells.bad later in
-          record { place = ap (bad_of hex 0) (sym whole_text) ∙ at []; is_certain = inl at; not_over = waiting }
 
       -- the block was read, and not taken
       pub fails_block : AreOctets block → IsTotal reports → Fails reports0 hex (record { reader_old = r0; reader_new = r1; writer_old = w0; writer_new = w }) fault.Memory
@@ -270,19 +216,66 @@ module _ (reports0 : Reports) (hex : Bool) (r0 w0 : Option (List ℕ)) where
           rest_octets false None raw = subst AreOctets (sym (append-nil block)) octets
           rest_octets false (Some c) raw = let bad = raw refl in absurd cc
 
+      -- what is reported behind the block, is reported of the whole
+      lifts : {reports1 : Reports} (told told1 octets lines later : List ℕ) → told ≡ [] → GoesOn reports octets lines reports1 → told1 ≡ told ++ lines → stream_of hex (s.text ++ block) ≡ (s.octets ++ octets) ++ later → (q : Report) → reports1 later q
+          → reports0 (stream_of hex (s.text ++ block)) (behind (s.lines ++ told1) q)
+      lifts {reports1} told told1 octets lines later none on is same q g =
+          subst (λ (x : List ℕ). reports0 x (behind (s.lines ++ told1) q)) (sym same)
+          (subst (λ (t : List ℕ). reports0 ((s.octets ++ octets) ++ later) (behind (s.lines ++ t) q)) (sym (is ∙ ap (λ (t : List ℕ). t ++ lines) none))
+          (goes_further reports0 reports reports1 s.octets octets s.lines lines s.goes_on on later q g))
+
+      module _ {reports1 : Reports} {going1 : Type 0} {reader1 : HexText} {told told1 : List ℕ} (none : told ≡ []) where
+        pub Reading-block : (w1 : Option (List ℕ)) → length block ≤ 4096 → (m : MeetsBlock hex reader reader1 reports reports1 going1 told told1 block) → Appends w w1 told1 → Reading reports0 hex r0 w0 reports1 going1 r1 w1 reader1 (turns + 1)
+        Reading-block w1 short m wrote = record {
+          text = s.text ++ block;
+          read = more_read;
+          octets = s.octets ++ m.octets;
+          stream = λ later.
+              streams later ∙ ap (λ (x : List ℕ). s.octets ++ x) (m.spells.stream later) ∙ sym (append_assoc s.octets m.octets (stream_of hex (pending reader1 ++ later)));
+          bad = λ later. ap (bad_of hex 0) (append_assoc s.text block later) ∙ s.bad (block ++ later) ∙ m.spells.bad later;
+          raw = m.spells.raw;
+          seen = omega (arith, m.spells.seen, s.seen);
+          lines = s.lines ++ m.takes.lines;
+          goes_on = goes_further reports0 reports reports1 s.octets m.octets s.lines m.takes.lines s.goes_on m.takes.goes_on;
+          wrote = Appends-trans w0 w w1 s.lines m.takes.lines s.wrote (subst (Appends w w1) (m.takes.told ∙ ap (λ (t : List ℕ). t ++ m.takes.lines) none) wrote);
+          goes = m.takes.stands.0;
+          rests = m.takes.stands.1;
+        }
+
+        block_octets : (m : MeetsBlock hex reader reader1 reports reports1 going1 told told1 block) → stream_of hex (s.text ++ block) ≡ (s.octets ++ m.octets) ++ []
+        block_octets m =
+            all_octets ∙ ap (λ (x : List ℕ). s.octets ++ x) (m.spells.stream [] ∙ ap (λ (x : List ℕ). m.octets ++ x) (rest_is_nothing hex reader1.pending m.spells.raw)) ∙ sym (append_assoc s.octets m.octets [])
+
+        bad_octets : (n : ℕ) (m : MeetsBad hex reader reader1 reports reports1 going1 told told1 block n) → stream_of hex (s.text ++ block) ≡ (s.octets ++ m.octets) ++ []
+        bad_octets n m = all_octets ∙ ap (λ (x : List ℕ). s.octets ++ x) (m.spells.stream []) ∙ sym (append-nil (s.octets ++ m.octets))
+
+        pub Reached-block : MeetsBlock hex reader reader1 reports reports1 going1 told told1 block → Reached reports0 hex r0 w0 reports1 r1 w (s.text ++ block) s.lines told1
+        Reached-block m = record { read = more_read; wrote = s.wrote; lifts = lifts told told1 m.octets m.takes.lines [] none m.takes.goes_on m.takes.told (block_octets m) }
+
+        pub Reached-bad : (n : ℕ) → MeetsBad hex reader reader1 reports reports1 going1 told told1 block n → Reached reports0 hex r0 w0 reports1 r1 w (s.text ++ block) s.lines told1
+        Reached-bad n m = record { read = more_read; wrote = s.wrote; lifts = lifts told told1 m.octets m.takes.lines [] none m.takes.goes_on m.takes.told (bad_octets n m) }
+
+        pub Reached-over : MeetsOver hex reader reader1 reports reports1 going1 told told1 block → Reached reports0 hex r0 w0 reports1 r1 w (s.text ++ block) s.lines told1
+        Reached-over m =
+            let front = m.spells [] in
+            record {
+              read = more_read;
+              wrote = s.wrote;
+              lifts = λ q g. lifts told told1 m.octets m.takes.lines front.0 none m.takes.goes_on m.takes.told (all_octets ∙ ap (λ (x : List ℕ). s.octets ++ x) front.1 ∙ sym (append_assoc s.octets m.octets front.0)) q (m.takes.stands.always [] front.0 q g);
+            }
+
+        pub bad_block : (n : ℕ) (e : End) → IsWaiting e → MeetsBad hex reader reader1 reports reports1 going1 told told1 block n → IsBadAt hex (s.text ++ block) r1 e n
+        bad_block n e waiting m =
+            let at : (later : List ℕ) → bad_of hex 0 ((s.text ++ block) ++ later) ≡ Some n = λ later. ap (bad_of hex 0) (append_assoc s.text block later) ∙ s.bad (block ++ later) ∙ m.spells.bad later in
+            record { place = ap (bad_of hex 0) (sym whole_text) ∙ at []; is_certain = inl at; not_over = waiting }
+
     -- ---- no block came
 
     module _ (r1 : Option (List ℕ)) (told : List ℕ) (none : told ≡ []) (more : Consumes r0 r1 s.text) where
-      digits_nothing : (h : Bool) (o : Option ℕ) → (h ≡ false → o ≡ None) → stream_of h (option_to_list o ++ []) ≡ []
-      digits_nothing true None raw = spelled-nil
-      digits_nothing true (Some c) raw = spelled-digit c
-      digits_nothing false None raw = refl
-      digits_nothing false (Some c) raw = let bad = raw refl in absurd cc
-
       all_spelled : stream_of hex s.text ≡ s.octets ++ []
-      all_spelled = ap (stream_of hex) (sym (append-nil s.text)) ∙ s.stream [] ∙ ap (λ (x : List ℕ). s.octets ++ x) (digits_nothing hex reader.pending s.raw)
+      all_spelled = ap (stream_of hex) (sym (append-nil s.text)) ∙ s.stream [] ∙ ap (λ (x : List ℕ). s.octets ++ x) (rest_is_nothing hex reader.pending s.raw)
 
-      pub Reached-none : Reached reports r1 w s.text s.lines told
+      pub Reached-none : Reached reports0 hex r0 w0 reports r1 w s.text s.lines told
       Reached-none = record {
         read = more;
         wrote = s.wrote;
@@ -314,11 +307,11 @@ module _ (reports0 : Reports) (hex : Bool) (r0 w0 : Option (List ℕ)) where
           nothing_bad true m = bad_from-nil m
           nothing_bad false m = refl
 
-  -- ---- what a read brought
+-- ---- what a read brought
 
-  pub read_nothing : (r r1 : Option (List ℕ)) (n : ℕ) (buf t : List ℕ) → n ≡ 0 → Consumes r r1 (take n buf) → Consumes r0 r t → Consumes r0 r1 t
-  read_nothing r r1 n buf t none more read =
-      subst (Consumes r0 r1) (append-nil t) (Consumes-trans r0 r r1 t [] read (subst (λ (k : ℕ). Consumes r r1 (take k buf)) none more))
+pub read_nothing : (r0 r r1 : Option (List ℕ)) (n : ℕ) (buf t : List ℕ) → n ≡ 0 → Consumes r r1 (take n buf) → Consumes r0 r t → Consumes r0 r1 t
+read_nothing r0 r r1 n buf t none more read =
+    subst (Consumes r0 r1) (append-nil t) (Consumes-trans r0 r r1 t [] read (subst (λ (k : ℕ). Consumes r r1 (take k buf)) none more))
 
-  pub read_failed : (r r1 : Option (List ℕ)) (t : List ℕ) → Keeps r r1 → Consumes r0 r t → Consumes r0 r1 t
-  read_failed r r1 t kept read = Consumes-kept r0 r r1 t read kept
+pub read_failed : (r0 r r1 : Option (List ℕ)) (t : List ℕ) → Keeps r r1 → Consumes r0 r t → Consumes r0 r1 t
+read_failed r0 r r1 t kept read = Consumes-kept r0 r r1 t read kept

@@ -1,4 +1,4 @@
-use Rattle.std.proofs.Common.{◌+◌, ◌*◌, ◌≤◌, ◌++◌, ℕ, List, take, sym, subst, inl, inr, ◌-◌, ◌∙◌, arith}
+use Rattle.std.proofs.Common.{◌+◌, ◌*◌, ◌≤◌, ℕ, List, take, sym, subst, inl, inr, ◌-◌, ◌∙◌, arith}
 use Rattle.std.proofs.lemmas.Result.{err_from_is_err_and}
 use Rattle.std.specs.Io.KnownBytes.{Appends}
 use Rattle.std.proofs.KnownBytes.{Appends-nil}
@@ -14,8 +14,7 @@ pub reading-init : goal.reading-init
 reading-init g c =
     let e = g.E.Engine in
     record {
-      reading = Reading-none (e.reports (e.state c.args.engine.now)) c.args.hex (g.R.Read.remaining c.args.input.now) (g.W.Write.contents c.args.output.now) (e.going (e.state c.args.engine.now)) c.new-reader.result c.requires.going c.requires.rests
-          c.new-reader.ensures.pending c.new-reader.ensures.seen;
+      reading = Reading-none (e.going (e.state c.args.engine.now)) c.new-reader.result c.requires.going c.requires.rests c.new-reader.ensures.pending c.new-reader.ensures.seen;
       told = c.requires.told;
       ready = c.requires.ready;
       room = omega (arith, c.requires.room);
@@ -24,245 +23,134 @@ reading-init g c =
 pub returns-in-Err : goal.returns-in-Err
 returns-in-Err g c =
     let rem = g.R.Read.remaining in
-    let con = g.W.Write.contents in
-    let e = g.E.Engine in
-    let h = c.args.hex in
-    let rep0 = e.reports (e.state c.args.engine.now) in
-    let r0 = rem c.args.input.now in
-    let w0 = con c.args.output.now in
     let at = c.reading in
-    let r = rem at.input in
-    let w = con at.output in
-    let old = e.state at.engine in
-    let told = e.told at.engine in
     let s = at.invariant.reading in
     let r1 = rem c.read.new.self in
-    let reached = Reached-none rep0 h r0 w0 (e.reports old) (e.going old) r w at.reader at._turn s r1 told at.invariant.told (read_failed rep0 h r0 w0 r r1 s.text c.in-Err.ensures.bytes s.read) in
-    fails_read rep0 h r0 w0 (e.reports old) r1 w w s.text s.lines told reached s.rests.report s.rests.reported
+    let reached = Reached-none s r1 (g.E.Engine.told at.engine) at.invariant.told (read_failed (rem c.args.input.now) (rem at.input) r1 s.text c.in-Err.ensures.bytes s.read) in
+    fails_read (g.W.Write.contents at.output) reached s.rests.report s.rests.reported
 
 pub returns : goal.returns
 returns g c =
-    let rem = g.R.Read.remaining in
-    let con = g.W.Write.contents in
-    let e = g.E.Engine in
-    let h = c.args.hex in
-    let rep0 = e.reports (e.state c.args.engine.now) in
-    let r0 = rem c.args.input.now in
-    let w0 = con c.args.output.now in
     let at = c.reading in
-    let r = rem at.input in
-    let w = con at.output in
-    let old = e.state at.engine in
-    let told = e.told at.engine in
     let s = at.invariant.reading in
-    let reached = Reached-none rep0 h r0 w0 (e.reports old) (e.going old) r w at.reader at._turn s r told at.invariant.told s.read in
-    fails_read rep0 h r0 w0 (e.reports old) r w w s.text s.lines told reached s.rests.report s.rests.reported
+    let reached = Reached-none s (g.R.Read.remaining at.input) (g.E.Engine.told at.engine) at.invariant.told s.read in
+    fails_read (g.W.Write.contents at.output) reached s.rests.report s.rests.reported
 
 pub returns-in-Some : goal.returns-in-Some
 returns-in-Some g c =
     let rem = g.R.Read.remaining in
-    let con = g.W.Write.contents in
-    let e = g.E.Engine in
-    let h = c.args.hex in
-    let rep0 = e.reports (e.state c.args.engine.now) in
-    let r0 = rem c.args.input.now in
-    let w0 = con c.args.output.now in
     let at = c.reading in
-    let r = rem at.input in
-    let w = con at.output in
-    let old = e.state at.engine in
-    let told = e.told at.engine in
+    let w = g.W.Write.contents at.output in
+    let told = g.E.Engine.told at.engine in
     let s = at.invariant.reading in
     let r1 = rem c.read.new.self in
-    let read = read_nothing rep0 h r0 w0 r r1 c.in-Ok.count c.read.new.buf s.text c.if-count-eq0.true c.in-Ok.ensures.bytes.0 s.read in
-    let reached = Reached-none rep0 h r0 w0 (e.reports old) (e.going old) r w at.reader at._turn s r1 told at.invariant.told read in
+    let read = read_nothing (rem c.args.input.now) (rem at.input) r1 c.in-Ok.count c.read.new.buf s.text c.if-count-eq0.true c.in-Ok.ensures.bytes.0 s.read in
     let digit = some_waits at.reader.pending (at.reader.seen - 1) c.in-Some.place (sym c.waiting_digit.ensures ∙ c.in-Some.is) in
-    fails_bad rep0 h r0 w0 (e.reports old) r1 w w s.text s.lines told reached c.in-Some.place s.rests.report s.rests.reported s.rests.none (subst (Appends w w) (sym at.invariant.told) (Appends-nil w))
-    (bad_digit rep0 h r0 w0 (e.reports old) (e.going old) r w at.reader at._turn s r1 told at.invariant.told read c.in-Some.place digit.0 s.rests.report.end_of s.rests.waiting (c.in-Ok.ensures.bytes.1 c.if-count-eq0.true (omega arith)) digit.1
+    fails_bad w (Reached-none s r1 told at.invariant.told read) c.in-Some.place s.rests.report s.rests.reported s.rests.none (subst (Appends w w) (sym at.invariant.told) (Appends-nil w))
+    (bad_digit s r1 told at.invariant.told read c.in-Some.place digit.0 s.rests.report.end_of s.rests.waiting (c.in-Ok.ensures.bytes.1 c.if-count-eq0.true (omega arith)) digit.1
     (at.reader.is_digit digit.0 digit.1) digit.2)
 
 pub returns-then-count-eq0 : goal.returns-then-count-eq0
 returns-then-count-eq0 g c =
     let rem = g.R.Read.remaining in
-    let con = g.W.Write.contents in
-    let e = g.E.Engine in
-    let h = c.args.hex in
-    let rep0 = e.reports (e.state c.args.engine.now) in
-    let r0 = rem c.args.input.now in
-    let w0 = con c.args.output.now in
     let at = c.reading in
-    let r = rem at.input in
-    let w = con at.output in
-    let old = e.state at.engine in
-    let told = e.told at.engine in
+    let told = g.E.Engine.told at.engine in
     let s = at.invariant.reading in
     let r1 = rem c.read.new.self in
-    let read = read_nothing rep0 h r0 w0 r r1 c.in-Ok.count c.read.new.buf s.text c.if-count-eq0.true c.in-Ok.ensures.bytes.0 s.read in
-    let reached = Reached-none rep0 h r0 w0 (e.reports old) (e.going old) r w at.reader at._turn s r1 told at.invariant.told read in
+    let read = read_nothing (rem c.args.input.now) (rem at.input) r1 c.in-Ok.count c.read.new.buf s.text c.if-count-eq0.true c.in-Ok.ensures.bytes.0 s.read in
     let none = none_waits at.reader.pending (at.reader.seen - 1) (λ n is. c.in_default.not-Some n (c.waiting_digit.ensures ∙ is)) in
-    finished rep0 h r0 w0 (e.reports old) r1 w (con c.finish.new.output) s.text s.lines told reached c.finish.result
-    (λ q _. inr (c.in-Ok.ensures.bytes.1 c.if-count-eq0.true (omega arith), none_bad rep0 h r0 w0 (e.reports old) (e.going old) r w at.reader at._turn s r1 told at.invariant.told read none)) c.finish.ensures
+    finished (g.W.Write.contents c.finish.new.output) (Reached-none s r1 told at.invariant.told read) c.finish.result
+    (λ q _. inr (c.in-Ok.ensures.bytes.1 c.if-count-eq0.true (omega arith), none_bad s r1 told at.invariant.told read none)) c.finish.ensures
 
 pub returns-in_err-take_block : goal.returns-in_err-take_block
 returns-in_err-take_block g c =
-    let rem = g.R.Read.remaining in
-    let con = g.W.Write.contents in
-    let e = g.E.Engine in
-    let h = c.args.hex in
-    let rep0 = e.reports (e.state c.args.engine.now) in
-    let r0 = rem c.args.input.now in
-    let w0 = con c.args.output.now in
     let at = c.reading in
-    let r = rem at.input in
-    let w = con at.output in
-    let old = e.state at.engine in
-    let told = e.told at.engine in
-    let s = at.invariant.reading in
-    let r1 = rem c.read.new.self in
-    let block = take c.in-Ok.count c.read.new.buf in
     let p = err_from_is_err_and c.from_residual.result c.from_residual.ensures.1 in
     rw (p.1, p.2)
-    (fails_block rep0 h r0 w0 (e.reports old) (e.going old) r w at.reader at._turn s (e.reports old) (e.going old) r1 w at.reader told told block at.invariant.told c.in-Ok.ensures.bytes.0 c.take_block.ensures.octets c.in_err-take_block.ensures.memory)
+    (fails_block at.invariant.reading (g.R.Read.remaining c.read.new.self) (take c.in-Ok.count c.read.new.buf) c.in-Ok.ensures.bytes.0 c.take_block.ensures.octets c.in_err-take_block.ensures.memory)
 
 pub returns-in-Over : goal.returns-in-Over
 returns-in-Over g c =
-    let rem = g.R.Read.remaining in
-    let con = g.W.Write.contents in
     let e = g.E.Engine in
-    let h = c.args.hex in
-    let rep0 = e.reports (e.state c.args.engine.now) in
-    let r0 = rem c.args.input.now in
-    let w0 = con c.args.output.now in
     let at = c.reading in
-    let r = rem at.input in
-    let w = con at.output in
-    let old = e.state at.engine in
-    let told = e.told at.engine in
     let s = at.invariant.reading in
-    let r1 = rem c.read.new.self in
     let block = take c.in-Ok.count c.read.new.buf in
-    let more = c.in-Ok.ensures.bytes.0 in
+    let old = e.state at.engine in
     let new = e.state c.take_block.new.engine in
-    let told1 = e.told c.take_block.new.engine in
-    let reader1 = c.take_block.new.reader in
-    let m = subst (λ (x : Met). Meets h at.reader reader1 (e.reports old) (e.reports new) (e.going new) told told1 block x) c.in-Over.is c.in_ok-take_block.ensures.meets in
-    let reached = Reached-over rep0 h r0 w0 (e.reports old) (e.going old) r w at.reader at._turn s (e.reports new) (e.going new) r1 w reader1 told told1 block at.invariant.told more m in
-    finished rep0 h r0 w0 (e.reports new) r1 w (con c.finish-in-Over.new.output) (s.text ++ block) s.lines told1 reached c.finish-in-Over.result (λ q k. inl (m.takes.stands.over q k)) c.finish-in-Over.ensures
+    let m = subst (λ (x : Met). Meets c.args.hex at.reader c.take_block.new.reader (e.reports old) (e.reports new) (e.going new) (e.told at.engine) (e.told c.take_block.new.engine) block x) c.in-Over.is c.in_ok-take_block.ensures.meets in
+    let reached = Reached-over s (g.R.Read.remaining c.read.new.self) block c.in-Ok.ensures.bytes.0 at.invariant.told m in
+    finished (g.W.Write.contents c.finish-in-Over.new.output) reached c.finish-in-Over.result (λ q k. inl (m.takes.stands.over q k)) c.finish-in-Over.ensures
 
 pub returns-in_err-put-in-Bad : goal.returns-in_err-put-in-Bad
 returns-in_err-put-in-Bad g c =
-    let rem = g.R.Read.remaining in
-    let con = g.W.Write.contents in
     let e = g.E.Engine in
-    let h = c.args.hex in
-    let rep0 = e.reports (e.state c.args.engine.now) in
-    let r0 = rem c.args.input.now in
-    let w0 = con c.args.output.now in
     let at = c.reading in
-    let r = rem at.input in
-    let w = con at.output in
-    let old = e.state at.engine in
-    let told = e.told at.engine in
     let s = at.invariant.reading in
-    let r1 = rem c.read.new.self in
+    let w = g.W.Write.contents at.output in
+    let w1 = g.W.Write.contents c.put.new.output in
     let block = take c.in-Ok.count c.read.new.buf in
-    let more = c.in-Ok.ensures.bytes.0 in
+    let old = e.state at.engine in
     let new = e.state c.take_block.new.engine in
-    let told1 = e.told c.take_block.new.engine in
-    let reader1 = c.take_block.new.reader in
-    let m = subst (λ (x : Met). Meets h at.reader reader1 (e.reports old) (e.reports new) (e.going new) told told1 block x) c.in-Bad.is c.in_ok-take_block.ensures.meets in
+    let m = subst (λ (x : Met). Meets c.args.hex at.reader c.take_block.new.reader (e.reports old) (e.reports new) (e.going new) (e.told at.engine) (e.told c.take_block.new.engine) block x) c.in-Bad.is c.in_ok-take_block.ensures.meets in
     let p = err_from_is_err_and c.from_residual-in_err-put-in-Bad.result c.from_residual-in_err-put-in-Bad.ensures.1 in
     let rests = m.takes.stands.1 in
-    let reached = Reached-bad rep0 h r0 w0 (e.reports old) (e.going old) r w at.reader at._turn s (e.reports new) (e.going new) r1 w reader1 told told1 block at.invariant.told more c.in-Bad.place m in
+    let reached = Reached-bad s (g.R.Read.remaining c.read.new.self) block c.in-Ok.ensures.bytes.0 at.invariant.told c.in-Bad.place m in
     rw (p.1, p.2)
-    (fails_put rep0 h r0 w0 (e.reports new) r1 w (con c.put.new.output) (s.text ++ block) s.lines told1 reached rests.report _ rests.reported rests.none
-    (subst (λ (x : List ℕ). FailsWithin w (con c.put.new.output) x c.in_err-put-in-Bad.field-0.0) c.told.ensures c.in_err-put-in-Bad.ensures.err))
+    (fails_put w1 reached rests.report _ rests.reported rests.none
+    (subst (λ (x : List ℕ). FailsWithin w w1 x c.in_err-put-in-Bad.field-0.0) c.told.ensures c.in_err-put-in-Bad.ensures.err))
 
 pub returns-in-Bad : goal.returns-in-Bad
 returns-in-Bad g c =
-    let rem = g.R.Read.remaining in
-    let con = g.W.Write.contents in
     let e = g.E.Engine in
-    let h = c.args.hex in
-    let rep0 = e.reports (e.state c.args.engine.now) in
-    let r0 = rem c.args.input.now in
-    let w0 = con c.args.output.now in
     let at = c.reading in
-    let r = rem at.input in
-    let w = con at.output in
-    let old = e.state at.engine in
-    let told = e.told at.engine in
     let s = at.invariant.reading in
-    let r1 = rem c.read.new.self in
+    let r1 = g.R.Read.remaining c.read.new.self in
+    let w = g.W.Write.contents at.output in
+    let w1 = g.W.Write.contents c.put.new.output in
     let block = take c.in-Ok.count c.read.new.buf in
     let more = c.in-Ok.ensures.bytes.0 in
+    let old = e.state at.engine in
     let new = e.state c.take_block.new.engine in
-    let told1 = e.told c.take_block.new.engine in
-    let reader1 = c.take_block.new.reader in
-    let m = subst (λ (x : Met). Meets h at.reader reader1 (e.reports old) (e.reports new) (e.going new) told told1 block x) c.in-Bad.is c.in_ok-take_block.ensures.meets in
+    let m = subst (λ (x : Met). Meets c.args.hex at.reader c.take_block.new.reader (e.reports old) (e.reports new) (e.going new) (e.told at.engine) (e.told c.take_block.new.engine) block x) c.in-Bad.is c.in_ok-take_block.ensures.meets in
     let rests = m.takes.stands.1 in
-    let reached = Reached-bad rep0 h r0 w0 (e.reports old) (e.going old) r w at.reader at._turn s (e.reports new) (e.going new) r1 w reader1 told told1 block at.invariant.told more c.in-Bad.place m in
-    fails_bad rep0 h r0 w0 (e.reports new) r1 w (con c.put.new.output) (s.text ++ block) s.lines told1 reached c.in-Bad.place rests.report rests.reported rests.none
-    (subst (Appends w (con c.put.new.output)) c.told.ensures c.in_ok-put-in-Bad.ensures.ok)
-    (bad_block rep0 h r0 w0 (e.reports old) (e.going old) r w at.reader at._turn s (e.reports new) (e.going new) r1 w reader1 told told1 block at.invariant.told more c.in-Bad.place rests.report.end_of rests.waiting m)
+    fails_bad w1 (Reached-bad s r1 block more at.invariant.told c.in-Bad.place m) c.in-Bad.place rests.report rests.reported rests.none
+    (subst (Appends w w1) c.told.ensures c.in_ok-put-in-Bad.ensures.ok)
+    (bad_block s r1 block more at.invariant.told c.in-Bad.place rests.report.end_of rests.waiting m)
 
 pub returns-in_err-put : goal.returns-in_err-put
 returns-in_err-put g c =
-    let rem = g.R.Read.remaining in
-    let con = g.W.Write.contents in
     let e = g.E.Engine in
-    let h = c.args.hex in
-    let rep0 = e.reports (e.state c.args.engine.now) in
-    let r0 = rem c.args.input.now in
-    let w0 = con c.args.output.now in
     let at = c.reading in
-    let r = rem at.input in
-    let w = con at.output in
-    let old = e.state at.engine in
-    let told = e.told at.engine in
     let s = at.invariant.reading in
-    let r1 = rem c.read.new.self in
+    let w = g.W.Write.contents at.output in
+    let w1 = g.W.Write.contents c.put-in-reading.new.output in
     let block = take c.in-Ok.count c.read.new.buf in
-    let more = c.in-Ok.ensures.bytes.0 in
+    let old = e.state at.engine in
     let new = e.state c.take_block.new.engine in
-    let told1 = e.told c.take_block.new.engine in
-    let reader1 = c.take_block.new.reader in
-    let m = subst (λ (x : Met). Meets h at.reader reader1 (e.reports old) (e.reports new) (e.going new) told told1 block x) c.in-Block.is c.in_ok-take_block.ensures.meets in
+    let m = subst (λ (x : Met). Meets c.args.hex at.reader c.take_block.new.reader (e.reports old) (e.reports new) (e.going new) (e.told at.engine) (e.told c.take_block.new.engine) block x) c.in-Block.is c.in_ok-take_block.ensures.meets in
     let p = err_from_is_err_and c.from_residual-in_err-put.result c.from_residual-in_err-put.ensures.1 in
     let rests = m.takes.stands.1 in
-    let reached = Reached-block rep0 h r0 w0 (e.reports old) (e.going old) r w at.reader at._turn s (e.reports new) (e.going new) r1 w reader1 told told1 block at.invariant.told more m in
+    let reached = Reached-block s (g.R.Read.remaining c.read.new.self) block c.in-Ok.ensures.bytes.0 at.invariant.told m in
     rw (p.1, p.2)
-    (fails_put rep0 h r0 w0 (e.reports new) r1 w (con c.put-in-reading.new.output) (s.text ++ block) s.lines told1 reached rests.report _ rests.reported rests.none
-    (subst (λ (x : List ℕ). FailsWithin w (con c.put-in-reading.new.output) x c.in_err-put.field-0.0) c.told-in-reading.ensures c.in_err-put.ensures.err))
+    (fails_put w1 reached rests.report _ rests.reported rests.none
+    (subst (λ (x : List ℕ). FailsWithin w w1 x c.in_err-put.field-0.0) c.told-in-reading.ensures c.in_err-put.ensures.err))
 
 pub reading-preserved : goal.reading-preserved
 reading-preserved g c =
-    let rem = g.R.Read.remaining in
-    let con = g.W.Write.contents in
     let e = g.E.Engine in
-    let h = c.args.hex in
-    let rep0 = e.reports (e.state c.args.engine.now) in
-    let r0 = rem c.args.input.now in
-    let w0 = con c.args.output.now in
     let at = c.reading in
-    let r = rem at.input in
-    let w = con at.output in
-    let old = e.state at.engine in
-    let told = e.told at.engine in
     let s = at.invariant.reading in
-    let r1 = rem c.read.new.self in
+    let r1 = g.R.Read.remaining c.read.new.self in
+    let w = g.W.Write.contents at.output in
+    let after = g.W.Write.contents c.put-in-reading.new.output in
     let block = take c.in-Ok.count c.read.new.buf in
-    let more = c.in-Ok.ensures.bytes.0 in
+    let old = e.state at.engine in
     let new = e.state c.take_block.new.engine in
-    let told1 = e.told c.take_block.new.engine in
-    let reader1 = c.take_block.new.reader in
-    let m = subst (λ (x : Met). Meets h at.reader reader1 (e.reports old) (e.reports new) (e.going new) told told1 block x) c.in-Block.is c.in_ok-take_block.ensures.meets in
-    let after = con c.put-in-reading.new.output in
-    let next = Reading-block rep0 h r0 w0 (e.reports old) (e.going old) r w at.reader at._turn s (e.reports new) (e.going new) r1 after reader1 told told1 block at.invariant.told more (omega (arith, length-take c.in-Ok.count c.read.new.buf)) m
-    (subst (Appends w after) c.told-in-reading.ensures c.in_ok-put.ensures.ok) in
+    let m = subst (λ (x : Met). Meets c.args.hex at.reader c.take_block.new.reader (e.reports old) (e.reports new) (e.going new) (e.told at.engine) (e.told c.take_block.new.engine) block x) c.in-Block.is c.in_ok-take_block.ensures.meets in
+    let next = Reading-block s r1 block c.in-Ok.ensures.bytes.0 at.invariant.told after (omega (arith, length-take c.in-Ok.count c.read.new.buf)) m (subst (Appends w after) c.told-in-reading.ensures c.in_ok-put.ensures.ok) in
     let same = sym c.clear.ensures.state in
     record {
-      reading = subst (λ (x : e.State). Reading rep0 h r0 w0 (e.reports x) (e.going x) r1 after reader1 (at._turn + 1)) same next;
+      reading = subst (λ (x : e.State). Reading (e.reports (e.state c.args.engine.now)) c.args.hex (g.R.Read.remaining c.args.input.now) (g.W.Write.contents c.args.output.now) (e.reports x) (e.going x) r1 after c.take_block.new.reader (at._turn + 1)) same next;
       told = c.clear.ensures.told;
       ready = subst e.ready same c.in_ok-take_block.ensures.ready;
       room = subst (λ (x : e.State). 1125899906842624 ≤ e.room x + 4096 * (at._turn + 1)) same (omega (arith, at.invariant.room, c.in_ok-take_block.ensures.room));
