@@ -8,17 +8,18 @@ use Rattle.std.proofs.lemmas.Fmt.{length-decimal-le, IsAscii-decimal}
 use Rattle.std.proofs.lemmas.Str.{IsAscii-append}
 use Rattle.std.proofs.lemmas.Bool.Decides.{nat_tests}
 
--- an octet has at most three digits
-pub octet_short : (n : ℕ) → n < 2 ^ 8 → length (decimal n) ≤ 3
-octet_short n small = length-decimal-le 3 n (omega arith) (omega arith) (omega arith)
+-- how many digits a number of so many bits has at most
+pub digits_of_8 : (n : ℕ) → n < 2 ^ 8 → length (decimal n) ≤ 3
+digits_of_8 n small = length-decimal-le 3 n (omega arith) (omega arith) (omega arith)
 
--- a number of 32 bits has at most ten digits
-pub number_short : (n : ℕ) → n < 2 ^ 32 → length (decimal n) ≤ 10
-number_short n small = length-decimal-le 10 n (omega arith) (omega arith) (omega arith)
+pub digits_of_16 : (n : ℕ) → n < 2 ^ 16 → length (decimal n) ≤ 5
+digits_of_16 n small = length-decimal-le 5 n (omega arith) (omega arith) (omega arith)
 
--- a number of 64 bits has at most twenty digits
-pub number_wide : (n : ℕ) → n < 2 ^ 64 → length (decimal n) ≤ 20
-number_wide n small = length-decimal-le 20 n (omega arith) (omega arith) small
+pub digits_of_32 : (n : ℕ) → n < 2 ^ 32 → length (decimal n) ≤ 10
+digits_of_32 n small = length-decimal-le 10 n (omega arith) (omega arith) (omega arith)
+
+pub digits_of_64 : (n : ℕ) → n < 2 ^ 64 → length (decimal n) ≤ 20
+digits_of_64 n small = length-decimal-le 20 n (omega arith) (omega arith) small
 
 pub number_ascii : (n : ℕ) (later text : List ℕ) → n < 2 ^ 64 → IsAscii later → text ≡ decimal n ++ later → IsAscii text
 number_ascii n later text small ascii is = subst IsAscii (sym is) (IsAscii-append (decimal n) later (IsAscii-decimal n small) ascii)

@@ -19,10 +19,10 @@ pub(crate) fn put_ip4_address(word: &mut Word, address: [u8; 4])
     ensures len { length word.new ≤ length word.old + 15 }
 {
     let [a, b, c, d] = address;
-    word.marked_octet(b'.', d);
-    word.marked_octet(b'.', c);
-    word.marked_octet(b'.', b);
-    word.octet(a);
+    word.marked(b'.', d);
+    word.marked(b'.', c);
+    word.marked(b'.', b);
+    word.number(a);
 }
 
 /// Puts a group of an IPv6 address in front of a word: two octets.
@@ -72,7 +72,7 @@ fn put_length(word: &mut Word, len: u8)
     ensures value { word.new ≡ codes "/" ++ (decimal len ++ word.old) }
     ensures len { length word.new ≤ length word.old + 4 }
 {
-    word.marked_octet(b'/', len);
+    word.marked(b'/', len);
 }
 
 impl Short for Prefix4 {

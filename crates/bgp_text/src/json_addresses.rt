@@ -67,7 +67,7 @@ impl Element for Prefix<4> {
     fn put_json(&self, text: &mut String) -> Result<(), AllocError> {
         let mut word = Word::new();
         word.character(b'"');
-        word.marked_octet(b'/', self.len());
+        word.marked(b'/', self.len());
         put_ip4_address(&mut word, self.addr());
         word.character(b'"');
         text.push_str(word.text())

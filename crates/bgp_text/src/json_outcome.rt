@@ -27,7 +27,7 @@ fn put_wide(text: &mut String, number: u64) -> Result<(), AllocError>
     ensures { OnOk result (string_bytes text.new ≡ string_bytes text.old ++ decimal number) }
 {
     let mut word = Word::new();
-    word.wide_number(number);
+    word.number(number);
     text.push_str(word.text())
 }
 

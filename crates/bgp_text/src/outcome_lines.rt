@@ -31,8 +31,8 @@ pub(crate) fn put_head(
 {
     let mut word = Word::new();
     word.character(b' ');
-    word.marked(b' ', u32::from(len));
-    word.wide_number(place);
+    word.marked(b' ', len);
+    word.number(place);
     text.push_str(word.text())?;
     text.push_str(name)?;
     text.push_str("\n")

@@ -4,6 +4,7 @@ ghost use Rattle.std.specs.Prelude.{false, ◌≡◌, ◌+◌, ◌≤◌, ◌<�
 ghost use Rattle.std.specs.Fmt.{decimal, digit_glyph};
 ghost use Rattle.bgp_prefix.specs.Text.{hex_octet};
 
+use crate::digits::Digits;
 use itoa::write_digits;
 use std::marker::Model;
 
@@ -72,38 +73,14 @@ impl Word {
     }
 
     /// Puts a number's digits in front.
-    #[tactic(auto, using(crate::proofs::Words::number_ascii))]
-    #[inline]
-    pub(crate) fn number(&mut self, number: u32)
-        requires { length self.old + 10 ≤ 72 }
-        ensures value { self.new ≡ decimal number ++ self.old }
-        ensures len { length self.new ≤ length self.old + 10 }
+    #[inline(always)]
+    pub(crate) fn number<N: Digits>(&mut self, number: N)
+        requires { length self.old + N.most ≤ 72 }
+        ensures value { self.new ≡ decimal (N.value number) ++ self.old }
+        ensures len { length self.new ≤ length self.old + N.most }
     {
         let end = self.at;
-        self.at = write_digits(u64::from(number), &mut self.octets, end);
-    }
-
-    /// Puts an octet's decimal digits in front.
-    #[tactic(auto, using(crate::proofs::Words::number_ascii))]
-    #[inline]
-    pub(crate) fn octet(&mut self, octet: u8)
-        requires { length self.old + 3 ≤ 72 }
-        ensures value { self.new ≡ decimal octet ++ self.old }
-        ensures len { length self.new ≤ length self.old + 3 }
-    {
-        let end = self.at;
-        self.at = write_digits(u64::from(octet), &mut self.octets, end);
-    }
-
-    /// Puts the digits of a number of 64 bits in front.
-    #[tactic(auto, using(crate::proofs::Words::number_ascii))]
-    #[inline]
-    pub(crate) fn wide_number(&mut self, number: u64)
-        requires { length self.old + 20 ≤ 72 }
-        ensures { self.new ≡ decimal number ++ self.old }
-    {
-        let end = self.at;
-        self.at = write_digits(number, &mut self.octets, end);
+        self.at = write_digits(number.wide(), &mut self.octets, end);
     }
 
     /// Puts a character in front.
@@ -119,26 +96,14 @@ impl Word {
 
     /// Puts a mark in front, with a number behind it.
     #[inline(always)]
-    pub(crate) fn marked(&mut self, mark: u8, number: u32)
-        requires room { length self.old + 11 ≤ 72 }
+    pub(crate) fn marked<N: Digits>(&mut self, mark: u8, number: N)
+        requires room { length self.old + (1 + N.most) ≤ 72 }
         requires ascii { mark < 128 }
-        ensures value { self.new ≡ mark ∷ (decimal number ++ self.old) }
-        ensures len { length self.new ≤ length self.old + 11 }
+        ensures value { self.new ≡ mark ∷ (decimal (N.value number) ++ self.old) }
+        ensures len { length self.new ≤ length self.old + (1 + N.most) }
     {
         let end = self.at;
-        self.at = write_marked(mark, u64::from(number), &mut self.octets, end);
-    }
-
-    /// Puts a mark in front, with an octet's decimal digits behind it.
-    #[inline(always)]
-    pub(crate) fn marked_octet(&mut self, mark: u8, octet: u8)
-        requires room { length self.old + 4 ≤ 72 }
-        requires ascii { mark < 128 }
-        ensures value { self.new ≡ mark ∷ (decimal octet ++ self.old) }
-        ensures len { length self.new ≤ length self.old + 4 }
-    {
-        let end = self.at;
-        self.at = write_marked(mark, u64::from(octet), &mut self.octets, end);
+        self.at = write_marked(mark, number.wide(), &mut self.octets, end);
     }
 
     /// Puts an octet's two hexadecimal digits in front.

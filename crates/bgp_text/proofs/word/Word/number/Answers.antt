@@ -1,23 +1,11 @@
-use Rattle.std.proofs.Common.{length, drop, arith, ap, length-drop, length-append}
-use Rattle.std.specs.Fmt.{decimal}
-use Rattle.bgp_text.proofs.Words.{number_short}
+use Rattle.std.proofs.Common.{drop, arith}
+use Rattle.bgp_text.proofs.Words.{number_ascii}
 use Rattle.bgp_text.proofs.word.Word.number.Goals as goal
 
-pub write_digits-self-inside-requires : goal.write_digits-self-inside-requires
-write_digits-self-inside-requires c =
+pub invariant_of-self : goal.invariant_of-self
+invariant_of-self g c =
     let w = c.self.inside in
-    let short = number_short c.from.result (omega (arith, c.from.ensures, c.ranges.number.fits)) in
-    let left = length-drop w.at w.octets in
-    let same = ap length c.self.view_is in
-    (omega (arith, short, left, same, c.requires, c.self.told), omega (arith, c.self.invariant.0, c.self.told))
-
-pub returns-clause-len : goal.returns-clause-len
-returns-clause-len c =
-    let w = c.self.inside in
-    let done = c.write_digits-self-inside in
-    let short = number_short c.from.result (omega (arith, c.from.ensures, c.ranges.number.fits)) in
-    let left = length-drop w.at w.octets in
-    let same = ap length c.self.view_is in
-    let long = ap length done.ensures.written in
-    let both = length-append (decimal c.from.result) (drop w.at w.octets) in
-    omega (arith, short, left, same, long, both)
+    let done = c.write_digits-self-inside in (
+      omega (arith, done.ensures.start, c.self.invariant.0),
+      number_ascii c.wide.result (drop w.at w.octets) (drop done.result done.new.buf) c.wide.type_inv c.self.invariant.1 done.ensures.written,
+    )
