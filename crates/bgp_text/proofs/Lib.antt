@@ -1,3 +1,4 @@
 pub mod ResetCodes
 pub mod Words
 pub mod JsonLists
+pub mod Decimals

@@ -14,7 +14,7 @@ use std::alloc::AllocError;
 #[tactic(auto, using(crate::proofs::Words::address_in_front))]
 #[inline(always)]
 pub(crate) fn put_ip4_address(word: &mut Word, address: [u8; 4])
-    requires { length word.old + 15 ≤ 72 }
+    requires { length word.old + 17 ≤ 72 }
     ensures value { word.new ≡ ipv4_address_text address ++ word.old }
     ensures len { length word.new ≤ length word.old + 15 }
 {
@@ -68,7 +68,7 @@ pub(crate) fn put_ip6_address(word: &mut Word, address: &[u8; 16])
 /// Puts the length of a prefix in front of a word, behind a slash.
 #[inline(always)]
 fn put_length(word: &mut Word, len: u8)
-    requires { length word.old + 4 ≤ 72 }
+    requires { length word.old + 5 ≤ 72 }
     ensures value { word.new ≡ codes "/" ++ (decimal len ++ word.old) }
     ensures len { length word.new ≤ length word.old + 4 }
 {

@@ -4,6 +4,7 @@
 mod addresses;
 mod attribute_lines;
 mod community_lines;
+mod decimal;
 mod digits;
 mod end;
 mod info;

@@ -1,7 +1,8 @@
 //! Values whose texts are short, and rows and lines of them.
 
-ghost use Rattle.std.specs.Prelude.{◌≡◌, ◌+◌, ◌≤◌, ◌∷◌, ◌++◌, [], length, OnOk};
-ghost use Rattle.std.specs.List.{flat_map};
+ghost use Rattle.std.specs.Prelude.{true, ◌≡◌, ◌+◌, ◌≤◌, ◌∷◌, ◌++◌, [], length, OnOk};
+ghost use Rattle.std.specs.Char.{is_ascii};
+ghost use Rattle.std.specs.List.{flat_map, list_all};
 ghost use Rattle.std.specs.String.{string_bytes};
 ghost use Rattle.bgp_text.specs.Lines.{line_of};
 
@@ -19,16 +20,16 @@ pub(crate) trait Short: Copy {
     /// How many characters the text has at most.
     ghost most: { ℕ };
 
-    /// Puts its text in front of a word.
+    /// Puts its text in front of a word. Two octets more may be written there: a number's digits are written three at a time.
     fn put(self, word: &mut Word)
-        requires { length word.old + most ≤ 72 }
+        requires { length word.old + (most + 2) ≤ 72 }
         ensures value { word.new ≡ text self ++ word.old }
         ensures len { length word.new ≤ length word.old + most };
 }
 
 /// Adds a value.
 fn put_one<T: Short>(text: &mut String, value: T) -> Result<(), AllocError>
-    requires { T.most ≤ 72 }
+    requires { T.most + 2 ≤ 72 }
     ensures { OnOk result (string_bytes text.new ≡ string_bytes text.old ++ T.text value) }
 {
     let mut word = Word::new();
@@ -39,7 +40,7 @@ fn put_one<T: Short>(text: &mut String, value: T) -> Result<(), AllocError>
 /// Adds two values in one go.
 #[inline(always)]
 fn put_two<T: Short>(text: &mut String, first: T, second: T) -> Result<(), AllocError>
-    requires { T.most + T.most ≤ 72 }
+    requires { T.most + T.most + 2 ≤ 72 }
     ensures { OnOk result (string_bytes text.new ≡ string_bytes text.old ++ (T.text first ++ T.text second)) }
 {
     let mut word = Word::new();
@@ -53,7 +54,7 @@ pub(crate) fn put_row<T: Short, S: Source<Item = T>>(
     text: &mut String,
     values: S,
 ) -> Result<(), AllocError>
-    requires { T.most + T.most ≤ 72 }
+    requires { T.most + T.most + 2 ≤ 72 }
     ensures { OnOk result (string_bytes text.new ≡ string_bytes text.old ++ flat_map T.text (S.left values)) }
 {
     let mut left = values;
@@ -69,24 +70,27 @@ pub(crate) fn put_row<T: Short, S: Source<Item = T>>(
 /// Adds a line of a value, behind a label.
 #[inline(always)]
 fn put_line<T: Short>(text: &mut String, label: &str, value: T) -> Result<(), AllocError>
-    requires { T.most + 1 ≤ 72 }
+    requires room { length label.now + (T.most + 3) ≤ 72 }
+    requires ascii { list_all is_ascii label.now ≡ true }
     ensures { OnOk result (string_bytes text.new ≡ string_bytes text.old ++ line_of label.now T.text value) }
 {
     let mut word = Word::new();
     word.character(b'\n');
     value.put(&mut word);
-    text.push_str(label)?;
+    word.label(label);
     text.push_str(word.text())
 }
 
-/// Adds a line of each value, behind a label. It is inlined with what calls it, so that a label of a few octets is stored, not copied by a call.
+/// Adds a line of each value, behind a label of ASCII. It is inlined with what calls it, so that a label of a few octets is stored, not copied by
+/// a call.
 #[inline(always)]
 pub(crate) fn put_lines<T: Short, S: Source<Item = T>>(
     text: &mut String,
     label: &str,
     values: S,
 ) -> Result<(), AllocError>
-    requires { T.most + 1 ≤ 72 }
+    requires room { length label.now + (T.most + 3) ≤ 72 }
+    requires ascii { list_all is_ascii label.now ≡ true }
     ensures { OnOk result (string_bytes text.new ≡ string_bytes text.old ++ flat_map (line_of label.now T.text) (S.left values)) }
 {
     let mut left = values;

@@ -1,11 +1,13 @@
 //! A short text that is made on the stack.
 
-ghost use Rattle.std.specs.Prelude.{false, ◌≡◌, ◌+◌, ◌≤◌, ◌<◌, ◌∷◌, ◌++◌, [], length, drop};
+ghost use Rattle.std.specs.Prelude.{true, false, ◌≡◌, ◌+◌, ◌≤◌, ◌<◌, ◌∷◌, ◌++◌, [], length, drop};
+ghost use Rattle.std.specs.Char.{is_ascii};
 ghost use Rattle.std.specs.Fmt.{decimal, digit_glyph};
+ghost use Rattle.std.specs.List.{list_all};
 ghost use Rattle.bgp_prefix.specs.Text.{hex_octet};
 
+use crate::decimal::write_digits;
 use crate::digits::Digits;
-use itoa::write_digits;
 use std::marker::Model;
 
 /// At most 72 ASCII characters, written from the last to the first, so that they are added to a text in one go.
@@ -51,12 +53,24 @@ fn write_hex(octet: u8, octets: &mut [u8; 72], at: usize)
 /// Writes a number's digits so that they end at `end`, with a mark in front of them, and returns where the mark stands.
 #[inline(always)]
 fn write_marked(mark: u8, number: u64, octets: &mut [u8; 72], end: usize) -> usize
-    requires { (length (decimal number) < end) × (end ≤ 72) }
+    requires { (length (decimal number) + 2 ≤ end) × (end ≤ 72) }
     ensures start { result + (1 + length (decimal number)) ≡ end }
     ensures written { drop result octets.new ≡ mark ∷ (decimal number ++ drop end octets.old) }
 {
     let at = write_digits(number, octets, end) - 1;
     octets[at] = mark;
+    at
+}
+
+/// Writes a label so that it ends at `end`, and returns where it starts.
+#[inline(always)]
+fn write_label(label: &str, octets: &mut [u8; 72], end: usize) -> usize
+    requires { (length label.now ≤ end) × (end ≤ 72) }
+    ensures start { result + length label.now ≡ end }
+    ensures written { drop result octets.new ≡ label.now ++ drop end octets.old }
+{
+    let at = end - label.len();
+    octets[at..end].copy_from_slice(label.as_bytes());
     at
 }
 
@@ -75,7 +89,7 @@ impl Word {
     /// Puts a number's digits in front.
     #[inline(always)]
     pub(crate) fn number<N: Digits>(&mut self, number: N)
-        requires { length self.old + N.most ≤ 72 }
+        requires { length self.old + (N.most + 2) ≤ 72 }
         ensures value { self.new ≡ decimal (N.value number) ++ self.old }
         ensures len { length self.new ≤ length self.old + N.most }
     {
@@ -97,13 +111,24 @@ impl Word {
     /// Puts a mark in front, with a number behind it.
     #[inline(always)]
     pub(crate) fn marked<N: Digits>(&mut self, mark: u8, number: N)
-        requires room { length self.old + (1 + N.most) ≤ 72 }
+        requires room { length self.old + (N.most + 2) ≤ 72 }
         requires ascii { mark < 128 }
         ensures value { self.new ≡ mark ∷ (decimal (N.value number) ++ self.old) }
         ensures len { length self.new ≤ length self.old + (1 + N.most) }
     {
         let end = self.at;
         self.at = write_marked(mark, number.wide(), &mut self.octets, end);
+    }
+
+    /// Puts a label in front.
+    #[inline(always)]
+    pub(crate) fn label(&mut self, label: &str)
+        requires room { length self.old + length label.now ≤ 72 }
+        requires ascii { list_all is_ascii label.now ≡ true }
+        ensures { self.new ≡ label.now ++ self.old }
+    {
+        let end = self.at;
+        self.at = write_label(label, &mut self.octets, end);
     }
 
     /// Puts an octet's two hexadecimal digits in front.

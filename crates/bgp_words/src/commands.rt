@@ -230,25 +230,38 @@ fn judging<'a>(alloc: Global) -> Result<Command<'a>, AllocError>
     with_command(command, check(alloc)?)
 }
 
+// A command with one subcommand more, which has no flags.
+fn with_plain<'a>(
+    alloc: Global,
+    command: Command<'a>,
+    name: &'a str,
+    about: &'a str,
+    more: &'a str,
+) -> Result<Command<'a>, AllocError>
+    ensures { IfOk result (λ c. app_of c ≡ with_command (app_of command.entry) (new_app name.now)) }
+{
+    with_command(command, named(alloc, name, about, more))
+}
+
 // The commands that read a stream.
 fn streaming<'a>(alloc: Global) -> Result<Command<'a>, AllocError>
     ensures { IfOk result (λ c. app_of c ≡ stream_commands) }
 {
-    let to_hex = named(
+    let command = with_command(judging(alloc)?, narrow(alloc)?)?;
+    let command = with_plain(
         alloc,
+        command,
         "to-hex",
         "Print each message as one line of digits",
         TO_HEX_HELP,
-    );
-    let from_hex = named(
+    )?;
+    with_plain(
         alloc,
+        command,
         "from-hex",
         "Write the octets of hexadecimal text",
         FROM_HEX_HELP,
-    );
-    let command = with_command(judging(alloc)?, narrow(alloc)?)?;
-    let command = with_command(command, to_hex)?;
-    with_command(command, from_hex)
+    )
 }
 
 /// The whole command line.

@@ -7,5 +7,5 @@ invariant_of-self g c =
     let w = c.self.inside in
     let done = c.write_digits-self-inside in (
       omega (arith, done.ensures.start, c.self.invariant.0),
-      number_ascii c.wide.result (drop w.at w.octets) (drop done.result done.new.buf) c.wide.type_inv c.self.invariant.1 done.ensures.written,
+      number_ascii c.wide.result (drop w.at w.octets) (drop done.result done.new.octets) c.wide.type_inv c.self.invariant.1 done.ensures.written,
     )

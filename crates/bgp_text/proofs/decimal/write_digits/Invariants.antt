@@ -1,0 +1,11 @@
+use Rattle.std.proofs.Common.{◌≡◌, ◌+◌, ◌≤◌, ◌++◌, length, drop}
+use Rattle.std.specs.Fmt.{decimal}
+use Rattle.bgp_text.proofs.decimal.write_digits.Given as goal
+
+abbrev pub invariant-groups : goal.invariant-groups
+invariant-groups l =
+    (length (decimal l.left) + 2 ≤ l.at) × (l.at ≤ l.end) × (l.at + length (decimal l.number) ≡ l.end + length (decimal l.left))
+    × (decimal l.left ++ drop l.at l.octets ≡ decimal l.number ++ drop l.end l.fn.octets)
+
+abbrev pub decreases-groups : goal.decreases-groups
+decreases-groups l = l.left
