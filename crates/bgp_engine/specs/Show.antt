@@ -1,5 +1,6 @@
 -- What `show` prints.
-use Rattle.std.specs.Prelude.{[], Ok}
+use Rattle.std.specs.Prelude.{ℕ, List, [], Ok}
+use Rattle.bgp_frame.specs.declared.end.End.{End}
 use Rattle.bgp_open.specs.declared.context.Context.{Context}
 use Rattle.bgp_msg.specs.declared.outcome.Outcome.{Outcome}
 use Rattle.bgp_msg.specs.declared.outcome.Outcome.TheVariants as outcome
@@ -18,16 +19,16 @@ class_of (outcome.Took m notes) = class.Took
 class_of (outcome.Withdraw routes notes) = class.Withdrawn
 class_of (outcome.Reset n) = class.Reset
 
--- the lines of each outcome, and behind them the line of the end
-abbrev pub show_rules : Context → Rules Outcome
-show_rules ctx = record {
+-- the text of each outcome, and behind them that of the end
+abbrev pub printed_rules : (ℕ → ℕ → Outcome → List ℕ) → (End → List ℕ) → Context → Rules Outcome
+printed_rules shown shown_end ctx = record {
   judge = judgement ctx;
-  line = outcome_lines;
+  line = shown;
   class = class_of;
-  last = λ tally. end_line tally.end;
+  last = λ tally. shown_end tally.end;
   rest = λ _. [];
   answer = λ tally _. Ok tally;
 }
 
 abbrev pub Shown : Context → Reports
-Shown ctx = IsReport (show_rules ctx) 0 no_tally
+Shown ctx = IsReport (printed_rules outcome_lines end_line ctx) 0 no_tally

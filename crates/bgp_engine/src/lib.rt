@@ -8,6 +8,7 @@ mod copied;
 mod engine;
 mod fault;
 mod file;
+mod form;
 mod hex_text;
 mod hexed;
 pub mod laws;

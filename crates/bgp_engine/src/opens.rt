@@ -6,10 +6,10 @@ ghost use Rattle.bgp_engine.specs.Run.{Answers, io};
 
 use crate::checked::CheckPage;
 use crate::fault::ToolFault;
+use crate::form::{Json, Lines};
 use crate::narrowing::NarrowPage;
 use crate::opening::open_stream;
 use crate::shown::ShowPage;
-use crate::shown_json::JsonPage;
 use crate::tally::Tally;
 use bgp_open::Context;
 use std::alloc::Global;
@@ -56,11 +56,7 @@ pub fn show_by_opens_within<R: Read, W: Write>(
 ) -> Result<Tally, ToolFault>
     ensures { Answers (ShownBy theirs.now) hex (io R.remaining input.old input.new W.contents output.old output.new) result }
 {
-    let page = ShowPage {
-        alloc,
-        ctx: UNKNOWN,
-        text: String::new(alloc),
-    };
+    let page = ShowPage::new(alloc, UNKNOWN, Lines);
     open_stream(alloc, turns, theirs, hex, page, input, output)
 }
 
@@ -94,11 +90,7 @@ pub fn show_json_by_opens_within<R: Read, W: Write>(
 ) -> Result<Tally, ToolFault>
     ensures { Answers (ShownJsonBy theirs.now) hex (io R.remaining input.old input.new W.contents output.old output.new) result }
 {
-    let page = JsonPage {
-        alloc,
-        ctx: UNKNOWN,
-        text: String::new(alloc),
-    };
+    let page = ShowPage::new(alloc, UNKNOWN, Json);
     open_stream(alloc, turns, theirs, hex, page, input, output)
 }
 

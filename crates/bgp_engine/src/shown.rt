@@ -1,30 +1,57 @@
 //! The engine `show`.
 
-ghost use Rattle.std.specs.Prelude.{◌≡◌, ◌+◌, ◌++◌, length, IfOk, OnOk};
+ghost use Rattle.std.specs.Prelude.{◌≡◌, ◌+◌, ◌++◌, [], length, IfOk, OnOk};
 ghost use Rattle.std.specs.String.{string_bytes};
 ghost use Rattle.bgp_frame.specs.Kind.{IsLength};
 ghost use Rattle.bgp_frame.specs.Step.{message_in};
 ghost use Rattle.bgp_msg.specs.Outcome.{of_fault, out_of};
-ghost use Rattle.bgp_text.specs.Outcome.{outcome_lines};
 ghost use Rattle.bgp_engine.specs.Run.{Answers, io};
 ghost use Rattle.bgp_engine.specs.steps.PageSteps.{WritesOutcome};
 ghost use Rattle.bgp_engine.specs.Show.{Shown};
 
 use crate::class::{Class, class_of};
 use crate::fault::ToolFault;
+use crate::form::{Form, Lines};
 use crate::page::Page;
 use crate::tally::Tally;
 use crate::walk::walk_stream;
 use bgp_frame::{Frame, HeadFault};
 use bgp_msg::{OutcomeView, view_frame};
 use bgp_open::Context;
-use bgp_text::{put_end, put_viewed_outcome};
 use bgp_update::UpdateView;
 use std::alloc::{AllocError, Global};
 use std::io::{Read, Write};
 
-// Adds the lines of a message.
-fn put_frame(
+/// What each message comes to, in a form.
+#[derive(Drop)]
+pub(crate) struct ShowPage<F> {
+    alloc: Global,
+    ctx: Context,
+    form: F,
+    text: String,
+}
+
+impl<F: Form> ShowPage<F> {
+    ghost use Rattle.std.specs.Prelude.{◌≡◌, []};
+    ghost use Rattle.std.specs.String.{string_bytes};
+
+    /// Nothing so far.
+    pub(crate) fn new(alloc: Global, ctx: Context, form: F) -> ShowPage<F>
+        ensures context { result.ctx ≡ ctx }
+        ensures empty { string_bytes result.text ≡ [] }
+    {
+        ShowPage {
+            alloc,
+            ctx,
+            form,
+            text: String::new(alloc),
+        }
+    }
+}
+
+// Adds the text of a message.
+fn put_frame<F: Form>(
+    form: &F,
     alloc: Global,
     ctx: &Context,
     text: &mut String,
@@ -32,51 +59,44 @@ fn put_frame(
     frame: Frame<'_>,
 ) -> Result<Class, AllocError>
     requires { IsLength frame.kind (19 + length frame.body.now) }
-    ensures { IfOk result (λ class. WritesOutcome (string_bytes text.old) (string_bytes text.new) place frame.entry.len (out_of ctx.now (message_in frame.entry)) class) }
+    ensures { IfOk result (λ class. WritesOutcome F.shown (string_bytes text.old) (string_bytes text.new) place frame.entry.len (out_of ctx.now (message_in frame.entry)) class) }
 {
     let len = frame.len;
     let mut view = UpdateView::empty();
     let outcome = view_frame(ctx, frame, &mut view);
-    put_viewed_outcome(alloc, text, place, len, &outcome)?;
+    form.put(alloc, text, place, len, &outcome)?;
     Ok(class_of(&outcome))
 }
 
-// Adds the line of a header's fault.
-fn put_fault(
+// Adds the text of a header's fault.
+fn put_fault<F: Form>(
+    form: &F,
     alloc: Global,
     text: &mut String,
     place: u64,
     fault: HeadFault,
 ) -> Result<(), AllocError>
-    ensures { OnOk result (string_bytes text.new ≡ string_bytes text.old ++ outcome_lines place 0 (of_fault fault)) }
+    ensures { OnOk result (string_bytes text.new ≡ string_bytes text.old ++ F.shown place 0 (of_fault fault)) }
 {
     let why = fault.answer();
-    put_viewed_outcome(alloc, text, place, 0, &OutcomeView::Reset(why.view()))
+    form.put(alloc, text, place, 0, &OutcomeView::Reset(why.view()))
 }
 
-/// The lines of each message.
-#[derive(Drop)]
-pub(crate) struct ShowPage {
-    pub(crate) alloc: Global,
-    pub(crate) ctx: Context,
-    pub(crate) text: String,
-}
-
-impl Page for ShowPage {
+impl<F: Form> Page for ShowPage<F> {
     ghost use Rattle.std.specs.Prelude.{true};
     ghost use Rattle.std.specs.String.{string_bytes};
     ghost use Rattle.bgp_msg.specs.declared.outcome.Outcome as outcomes;
-    ghost use Rattle.bgp_engine.specs.Show.{show_rules};
+    ghost use Rattle.bgp_engine.specs.Show.{printed_rules};
 
     ghost Outcome = { outcomes.Outcome };
 
-    ghost rules = { λ page. show_rules page.ctx };
+    ghost rules = { λ page. printed_rules F.shown F.shown_end page.ctx };
 
     ghost told = { λ page. string_bytes page.text };
 
     ghost fits = { λ _. true };
 
-    ghost rules_in = { λ ctx. show_rules ctx };
+    ghost rules_in = { λ ctx. printed_rules F.shown F.shown_end ctx };
 
     fn agree(&mut self, ctx: &Context) -> bool {
         self.ctx = *ctx;
@@ -84,15 +104,22 @@ impl Page for ShowPage {
     }
 
     fn message(&mut self, place: u64, frame: Frame<'_>) -> Result<Class, AllocError> {
-        put_frame(self.alloc, &self.ctx, &mut self.text, place, frame)
+        put_frame(
+            &self.form,
+            self.alloc,
+            &self.ctx,
+            &mut self.text,
+            place,
+            frame,
+        )
     }
 
     fn fault(&mut self, place: u64, fault: HeadFault) -> Result<(), AllocError> {
-        put_fault(self.alloc, &mut self.text, place, fault)
+        put_fault(&self.form, self.alloc, &mut self.text, place, fault)
     }
 
     fn last(&mut self, tally: &Tally) -> Result<(), AllocError> {
-        put_end(&mut self.text, tally.end)
+        self.form.put_end(&mut self.text, tally.end)
     }
 
     fn rest(&mut self, _waiting: &[u8]) -> Result<(), AllocError> {
@@ -146,10 +173,6 @@ pub fn show_within<R: Read, W: Write>(
 ) -> Result<Tally, ToolFault>
     ensures { Answers (Shown ctx.now) hex (io R.remaining input.old input.new W.contents output.old output.new) result }
 {
-    let page = ShowPage {
-        alloc,
-        ctx: *ctx,
-        text: String::new(alloc),
-    };
+    let page = ShowPage::new(alloc, *ctx, Lines);
     walk_stream(turns, hex, page, input, output)
 }

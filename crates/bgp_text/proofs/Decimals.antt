@@ -49,9 +49,12 @@ behind_thousands n lo hi =
     let b : n / 10 / 10 % 10 ≡ n % 1000 / 100 = omega arith in
     let c : n / 10 % 10 ≡ n % 1000 / 10 % 10 = omega arith in
     let d : n % 10 ≡ n % 1000 % 10 = omega arith in
-    let steps : decimal n ≡ decimal (n / 10 / 10 / 10) ++ ((48 + n / 10 / 10 % 10) ∷ (48 + n / 10 % 10) ∷ (48 + n % 10) ∷ []) =
-    rw (decimal_step n (omega arith) hi, decimal_step (n / 10) (omega arith) (omega arith), decimal_step (n / 10 / 10) (omega arith) (omega arith), append_assoc, append_assoc) in
-    steps ∙ (λ i. decimal (a i) ++ ((48 + b i) ∷ (48 + c i) ∷ (48 + d i) ∷ []))
+    let front = decimal (n / 10 / 10 / 10) in
+    let one : List ℕ = (48 + n / 10 / 10 % 10) ∷ [] in
+    let two : List ℕ = (48 + n / 10 % 10) ∷ [] in
+    let three : List ℕ = (48 + n % 10) ∷ [] in
+    let steps : decimal n ≡ ((front ++ one) ++ two) ++ three = rw (decimal_step n (omega arith) hi, decimal_step (n / 10) (omega arith) (omega arith), decimal_step (n / 10 / 10) (omega arith) (omega arith)) in
+    steps ∙ append_assoc (front ++ one) two three ∙ append_assoc front one (two ++ three) ∙ (λ i. decimal (a i) ++ ((48 + b i) ∷ (48 + c i) ∷ (48 + d i) ∷ []))
 
 pub longer_by_three : (n : ℕ) → 1000 ≤ n → n < 2 ^ 64 → length (decimal n) ≡ length (decimal (n / 1000)) + 3
 longer_by_three n lo hi = ap length (behind_thousands n lo hi) ∙ length-append _ _

@@ -1,14 +1,12 @@
 //! Addresses as text.
 
-ghost use Rattle.std.specs.Prelude.{◌≡◌, ◌+◌, ◌≤◌, ◌<◌, ◌∷◌, ◌++◌, [], length, OnOk, codes};
+ghost use Rattle.std.specs.Prelude.{◌≡◌, ◌+◌, ◌≤◌, ◌<◌, ◌++◌, length, codes};
 ghost use Rattle.std.specs.Fmt.{decimal};
-ghost use Rattle.std.specs.String.{string_bytes};
 ghost use Rattle.bgp_prefix.specs.Text.{ipv4_address_text, ipv6_address_text, group_text, groups_text};
 
 use crate::short::Short;
 use crate::word::Word;
-use bgp_prefix::{Prefix4, Prefix6};
-use std::alloc::AllocError;
+use bgp_prefix::{Address, Prefix4, Prefix6};
 
 /// Puts an IPv4 address in front of a word.
 #[tactic(auto, using(crate::proofs::Words::address_in_front))]
@@ -75,6 +73,31 @@ fn put_length(word: &mut Word, len: u8)
     word.marked(b'/', len);
 }
 
+impl Short for Address<4> {
+    ghost use Rattle.bgp_prefix.specs.Text.{ipv4_address_text};
+
+    ghost text = { λ address. ipv4_address_text address.0 };
+
+    ghost most = { 15 };
+
+    #[inline(always)]
+    fn put(self, word: &mut Word) {
+        put_ip4_address(word, self.0);
+    }
+}
+
+impl Short for Address<16> {
+    ghost use Rattle.bgp_prefix.specs.Text.{ipv6_address_text};
+
+    ghost text = { λ address. ipv6_address_text address.0 };
+
+    ghost most = { 39 };
+
+    fn put(self, word: &mut Word) {
+        put_ip6_address(word, &self.0);
+    }
+}
+
 impl Short for Prefix4 {
     ghost use Rattle.bgp_prefix.specs.Text.{ipv4_text};
 
@@ -101,33 +124,4 @@ impl Short for Prefix6 {
         put_length(word, self.len());
         put_ip6_address(word, &self.addr());
     }
-}
-
-/// Adds an IPv4 address that ends a line.
-pub(crate) fn put_ip4_end(text: &mut String, address: [u8; 4]) -> Result<(), AllocError>
-    ensures { OnOk result (string_bytes text.new ≡ string_bytes text.old ++ (ipv4_address_text address ++ 10 ∷ [])) }
-{
-    let mut word = Word::new();
-    word.character(b'\n');
-    put_ip4_address(&mut word, address);
-    text.push_str(word.text())
-}
-
-/// Adds an IPv6 address.
-pub(crate) fn put_ip6(text: &mut String, address: [u8; 16]) -> Result<(), AllocError>
-    ensures { OnOk result (string_bytes text.new ≡ string_bytes text.old ++ ipv6_address_text address) }
-{
-    let mut word = Word::new();
-    put_ip6_address(&mut word, &address);
-    text.push_str(word.text())
-}
-
-/// Adds an IPv6 address that ends a line.
-pub(crate) fn put_ip6_end(text: &mut String, address: [u8; 16]) -> Result<(), AllocError>
-    ensures { OnOk result (string_bytes text.new ≡ string_bytes text.old ++ (ipv6_address_text address ++ 10 ∷ [])) }
-{
-    let mut word = Word::new();
-    word.character(b'\n');
-    put_ip6_address(&mut word, &address);
-    text.push_str(word.text())
 }

@@ -1,17 +1,17 @@
 //! The lines of attributes other than communities and those that carry routes.
 
-ghost use Rattle.std.specs.Prelude.{◌≡◌, ◌++◌, OnOk};
-ghost use Rattle.std.specs.List.{flat_map};
+ghost use Rattle.std.specs.Prelude.{true, ◌≡◌, ◌≤◌, ◌++◌, length, OnOk};
+ghost use Rattle.std.specs.Char.{is_ascii};
+ghost use Rattle.std.specs.List.{flat_map, list_all};
 ghost use Rattle.std.specs.String.{string_bytes};
 ghost use Rattle.bgp_attr.specs.AttrView.{opaque_value};
 ghost use Rattle.bgp_text.specs.Lines.{where_there};
 ghost use Rattle.bgp_text.specs.AttributeLines.{origin_name, origin_line, as_path_line, next_hop_line, number_line, atomic_line, aggregator_line, as4_path_line};
 ghost use Rattle.bgp_text.specs.AttributeLines.{flags_text, opaque_line, route_lines, choice_lines, as4_lines};
 
-use crate::addresses::put_ip4_end;
 use crate::info::info_text;
 use crate::path_line::put_path_line;
-use crate::word::Word;
+use crate::short::{Decimal, put_line};
 use bgp_attr::{Aggregator, Opaque, OpaqueView, Origin};
 use bgp_prefix::{Address, AsNumber};
 use bgp_update::Attrs;
@@ -35,11 +35,9 @@ pub(crate) fn put_origin(text: &mut String, origin: Option<Origin>) -> Result<()
 {
     match origin {
         None => Ok(()),
-        Some(origin) => {
-            text.push_str("  origin ")?;
-            text.push_str(origin_name(origin))?;
-            text.push_str("\n")
-        }
+        Some(Origin::Igp) => text.push_str("  origin IGP\n"),
+        Some(Origin::Egp) => text.push_str("  origin EGP\n"),
+        Some(Origin::Incomplete) => text.push_str("  origin INCOMPLETE\n"),
     }
 }
 
@@ -59,31 +57,24 @@ pub(crate) fn put_next_hop(text: &mut String, next_hop: Option<[u8; 4]>) -> Resu
 {
     match next_hop {
         None => Ok(()),
-        Some(next_hop) => {
-            text.push_str("  next_hop ")?;
-            put_ip4_end(text, next_hop)
-        }
+        Some(next_hop) => put_line(text, "  next_hop ", Address(next_hop)),
     }
 }
 
-/// A number behind a label.
+/// A number behind a label of ASCII.
 #[inline(always)]
 pub(crate) fn put_number(
     text: &mut String,
     label: &str,
     number: Option<u32>,
 ) -> Result<(), AllocError>
+    requires short { length label.now ≤ 20 }
+    requires ascii { list_all is_ascii label.now ≡ true }
     ensures { OnOk result (string_bytes text.new ≡ string_bytes text.old ++ where_there (number_line label.now) number) }
 {
     match number {
         None => Ok(()),
-        Some(number) => {
-            let mut word = Word::new();
-            word.character(b'\n');
-            word.number(number);
-            text.push_str(label)?;
-            text.push_str(word.text())
-        }
+        Some(number) => put_line(text, label, Decimal(number)),
     }
 }
 

@@ -1,12 +1,13 @@
 //! Parts of JSON text.
 
-ghost use Rattle.std.specs.Prelude.{◌≡◌, ◌++◌, OnOk};
+ghost use Rattle.std.specs.Prelude.{◌≡◌, ◌+◌, ◌≤◌, ◌++◌, OnOk};
 ghost use Rattle.std.specs.Fmt.{decimal};
 ghost use Rattle.std.specs.List.{flat_map};
 ghost use Rattle.std.specs.String.{string_bytes};
 ghost use Rattle.bgp_prefix.specs.Text.{hex_octet};
 ghost use Rattle.bgp_text.specs.Json.{quoted, octets_json, boolean, named, member, line_end};
 
+use crate::short::{Decimal, Short, put_one};
 use crate::word::Word;
 use std::alloc::AllocError;
 
@@ -20,13 +21,25 @@ pub(crate) fn put_quoted(text: &mut String, characters: &str) -> Result<(), Allo
     text.push_str("\"")
 }
 
+/// Adds a short value as a string: its text needs no escape.
+#[tactic(auto, unfolding(crate::specs::Json::quoted))]
+#[inline(always)]
+pub(crate) fn put_string<T: Short>(text: &mut String, value: T) -> Result<(), AllocError>
+    requires { T.most + 4 ≤ 72 }
+    ensures { OnOk result (string_bytes text.new ≡ string_bytes text.old ++ quoted (T.text value)) }
+{
+    let mut word = Word::new();
+    word.character(b'"');
+    value.put(&mut word);
+    word.character(b'"');
+    text.push_str(word.text())
+}
+
 /// Adds a number.
 pub(crate) fn put_decimal(text: &mut String, number: u32) -> Result<(), AllocError>
     ensures { OnOk result (string_bytes text.new ≡ string_bytes text.old ++ decimal number) }
 {
-    let mut word = Word::new();
-    word.number(number);
-    text.push_str(word.text())
+    put_one(text, Decimal(number))
 }
 
 /// Adds an octet's two digits.

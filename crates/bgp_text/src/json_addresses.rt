@@ -5,25 +5,11 @@ ghost use Rattle.std.specs.String.{string_bytes};
 ghost use Rattle.bgp_text.specs.Json.{member};
 ghost use Rattle.bgp_text.specs.JsonAddress.{ip4_json, ip6_json, prefix4_json, prefix6_json};
 
-use crate::addresses::put_ip4_address;
-use crate::json::put_name;
+use crate::json::{put_name, put_string};
 use crate::json_list::Element;
-use crate::word::Word;
-use bgp_prefix::Prefix;
+use bgp_prefix::{Address, Prefix};
 use std::alloc::AllocError;
 use std::net::Ipv6Addr;
-
-/// Adds an IPv4 address.
-#[tactic(auto, unfolding(crate::specs::Json::quoted))]
-fn put_ip4(text: &mut String, address: [u8; 4]) -> Result<(), AllocError>
-    ensures { OnOk result (string_bytes text.new ≡ string_bytes text.old ++ ip4_json address) }
-{
-    let mut word = Word::new();
-    word.character(b'"');
-    put_ip4_address(&mut word, address);
-    word.character(b'"');
-    text.push_str(word.text())
-}
 
 /// Adds an IPv6 address.
 #[tactic(auto, unfolding(crate::specs::Json::quoted, crate::specs::JsonAddress::ip6_text))]
@@ -43,7 +29,7 @@ pub(crate) fn put_ip4_member(
     ensures { OnOk result (string_bytes text.new ≡ string_bytes text.old ++ member name.now ip4_json address) }
 {
     put_name(text, name)?;
-    put_ip4(text, address)
+    put_string(text, Address(address))
 }
 
 /// Adds a member that is an IPv6 address.
@@ -63,14 +49,8 @@ impl Element for Prefix<4> {
 
     ghost json = { prefix4_json };
 
-    #[tactic(auto, unfolding(crate::specs::Json::quoted))]
     fn put_json(&self, text: &mut String) -> Result<(), AllocError> {
-        let mut word = Word::new();
-        word.character(b'"');
-        word.marked(b'/', self.len());
-        put_ip4_address(&mut word, self.addr());
-        word.character(b'"');
-        text.push_str(word.text())
+        put_string(text, *self)
     }
 }
 

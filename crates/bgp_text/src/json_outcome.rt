@@ -15,7 +15,7 @@ use crate::json_notes::put_notes_member;
 use crate::json_open::put_open_members;
 use crate::json_update::{put_routes_member, put_update_members};
 use crate::outcome_lines::reset_name;
-use crate::word::Word;
+use crate::short::{Decimal, put_one};
 use bgp_frame::NotificationView;
 use bgp_msg::OutcomeView;
 use bgp_open::OpenView;
@@ -26,9 +26,7 @@ use std::alloc::{AllocError, Global};
 fn put_wide(text: &mut String, number: u64) -> Result<(), AllocError>
     ensures { OnOk result (string_bytes text.new ≡ string_bytes text.old ++ decimal number) }
 {
-    let mut word = Word::new();
-    word.number(number);
-    text.push_str(word.text())
+    put_one(text, Decimal(number))
 }
 
 /// Adds the beginning of an object: where a message stands, how long it is, what it is, and the verdict on it.

@@ -8,11 +8,10 @@ ghost use Rattle.bgp_attr.specs.MpView.{reach_value, unreach_value};
 ghost use Rattle.bgp_text.specs.Lines.{where_there};
 ghost use Rattle.bgp_text.specs.MpLines.{ip4_next_line, ip6_next_line, family_line, reach_lines, unreach_lines, mp_lines};
 
-use crate::addresses::{put_ip4_end, put_ip6, put_ip6_end};
-use crate::short::put_lines;
+use crate::short::{put_line, put_lines, put_one};
 use crate::source::Source;
 use bgp_attr::{MpReach, MpReachView, MpUnreach, MpUnreachView};
-use bgp_prefix::{Prefix4, Prefix6};
+use bgp_prefix::{Address, Prefix4, Prefix6};
 use bgp_update::Attrs;
 use std::alloc::AllocError;
 
@@ -20,8 +19,7 @@ use std::alloc::AllocError;
 fn put_ip4_next(text: &mut String, next_hop: [u8; 4]) -> Result<(), AllocError>
     ensures { OnOk result (string_bytes text.new ≡ string_bytes text.old ++ ip4_next_line next_hop) }
 {
-    text.push_str("  mp_reach ip4 next ")?;
-    put_ip4_end(text, next_hop)
+    put_line(text, "  mp_reach ip4 next ", Address(next_hop))
 }
 
 /// The next hop of IPv6 routes: its global address, and its link-local one.
@@ -32,13 +30,12 @@ fn put_ip6_next(
 ) -> Result<(), AllocError>
     ensures { OnOk result (string_bytes text.new ≡ string_bytes text.old ++ ip6_next_line next_hop link_local) }
 {
-    text.push_str("  mp_reach ip6 next ")?;
     let Some(link_local) = link_local else {
-        return put_ip6_end(text, next_hop);
+        return put_line(text, "  mp_reach ip6 next ", Address(next_hop));
     };
-    put_ip6(text, next_hop)?;
-    text.push_str(" link ")?;
-    put_ip6_end(text, link_local)
+    text.push_str("  mp_reach ip6 next ")?;
+    put_one(text, Address(next_hop))?;
+    put_line(text, " link ", Address(link_local))
 }
 
 /// Adds the lines of an MP_REACH_NLRI with IPv4 routes.

@@ -1,7 +1,9 @@
 //! The lines of an outcome.
 
-ghost use Rattle.std.specs.Prelude.{◌≡◌, ◌∷◌, ◌++◌, [], codes, OnOk};
+ghost use Rattle.std.specs.Prelude.{true, ◌≡◌, ◌≤◌, ◌∷◌, ◌++◌, [], length, codes, OnOk};
+ghost use Rattle.std.specs.Char.{is_ascii};
 ghost use Rattle.std.specs.Fmt.{decimal};
+ghost use Rattle.std.specs.List.{list_all};
 ghost use Rattle.std.specs.String.{string_bytes};
 ghost use Rattle.bgp_msg.specs.declared.message.Message.TheVariants as message;
 ghost use Rattle.bgp_msg.specs.declared.outcome.Outcome.TheVariants as outcome;
@@ -19,7 +21,7 @@ use bgp_update::{Note, Routes, Update};
 use bgp_wire::List;
 use std::alloc::{AllocError, Global};
 
-/// A message's offset in the stream, its octets in number, and what it is.
+/// A message's offset in the stream, its octets in number, and what it is, in ASCII.
 #[inline(always)]
 pub(crate) fn put_head(
     text: &mut String,
@@ -27,15 +29,17 @@ pub(crate) fn put_head(
     len: u16,
     name: &str,
 ) -> Result<(), AllocError>
+    requires short { length name.now ≤ 20 }
+    requires ascii { list_all is_ascii name.now ≡ true }
     ensures { OnOk result (string_bytes text.new ≡ string_bytes text.old ++ head_line place len name.now) }
 {
     let mut word = Word::new();
+    word.character(b'\n');
+    word.label(name);
     word.character(b' ');
     word.marked(b' ', len);
     word.number(place);
-    text.push_str(word.text())?;
-    text.push_str(name)?;
-    text.push_str("\n")
+    text.push_str(word.text())
 }
 
 /// The line of a NOTIFICATION of which this is the text.

@@ -6,6 +6,7 @@ ghost use Rattle.std.specs.List.{flat_map, list_all};
 ghost use Rattle.std.specs.String.{string_bytes};
 ghost use Rattle.bgp_text.specs.Lines.{line_of};
 
+use crate::digits::Digits;
 use crate::source::Source;
 use crate::word::Word;
 use std::alloc::AllocError;
@@ -27,8 +28,25 @@ pub(crate) trait Short: Copy {
         ensures len { length word.new ≤ length word.old + most };
 }
 
+/// A number in decimal digits.
+#[derive(Clone, Copy)]
+pub(crate) struct Decimal<N>(pub(crate) N);
+
+impl<N: Digits> Short for Decimal<N> {
+    ghost use Rattle.std.specs.Fmt.{decimal};
+
+    ghost text = { λ number. decimal (N.value number.0) };
+
+    ghost most = { N.most };
+
+    #[inline(always)]
+    fn put(self, word: &mut Word) {
+        word.number(self.0);
+    }
+}
+
 /// Adds a value.
-fn put_one<T: Short>(text: &mut String, value: T) -> Result<(), AllocError>
+pub(crate) fn put_one<T: Short>(text: &mut String, value: T) -> Result<(), AllocError>
     requires { T.most + 2 ≤ 72 }
     ensures { OnOk result (string_bytes text.new ≡ string_bytes text.old ++ T.text value) }
 {
@@ -67,9 +85,9 @@ pub(crate) fn put_row<T: Short, S: Source<Item = T>>(
     Ok(())
 }
 
-/// Adds a line of a value, behind a label.
+/// Adds a line of a value, behind a label of ASCII.
 #[inline(always)]
-fn put_line<T: Short>(text: &mut String, label: &str, value: T) -> Result<(), AllocError>
+pub(crate) fn put_line<T: Short>(text: &mut String, label: &str, value: T) -> Result<(), AllocError>
     requires room { length label.now + (T.most + 3) ≤ 72 }
     requires ascii { list_all is_ascii label.now ≡ true }
     ensures { OnOk result (string_bytes text.new ≡ string_bytes text.old ++ line_of label.now T.text value) }

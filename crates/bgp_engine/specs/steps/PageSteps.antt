@@ -2,15 +2,14 @@
 use Rattle.std.specs.Prelude.{◌≡◌, ℕ, List, [], ◌++◌, Option, unwrap_or}
 use Rattle.bgp_msg.specs.declared.outcome.Outcome.{Outcome}
 use Rattle.bgp_msg.specs.Outcome.{is_reset}
-use Rattle.bgp_text.specs.Outcome.{outcome_lines}
 use Rattle.bgp_engine.specs.declared.class.Class.{Class}
 use Rattle.bgp_engine.specs.Narrow.{narrowed_class}
 use Rattle.bgp_engine.specs.steps.Pages.{is_last}
 use Rattle.bgp_engine.specs.Show.{class_of}
 
--- the lines of an outcome were added, and it counts as this
-pub record WritesOutcome (old new : List ℕ) (place len : ℕ) (o : Outcome) (class : Class) : Type 0 where
-  pub told : new ≡ old ++ outcome_lines place len o
+-- the text of an outcome was added, and it counts as this
+pub record WritesOutcome (shown : ℕ → ℕ → Outcome → List ℕ) (old new : List ℕ) (place len : ℕ) (o : Outcome) (class : Class) : Type 0 where
+  pub told : new ≡ old ++ shown place len o
   pub counts : class ≡ class_of o
   pub ends : is_reset o ≡ is_last class
 

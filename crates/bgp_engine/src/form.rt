@@ -1,0 +1,94 @@
+//! The forms in which `show` prints.
+
+ghost use Rattle.std.specs.Prelude.{◌≡◌, ◌++◌, OnOk};
+ghost use Rattle.std.specs.String.{string_bytes};
+
+use bgp_frame::End;
+use bgp_msg::OutcomeView;
+use bgp_text::{put_end, put_end_json, put_viewed_json, put_viewed_outcome};
+use std::alloc::{AllocError, Global};
+
+/// How the outcome of a message and the end of a stream are printed.
+pub(crate) trait Form {
+    ghost use Rattle.std.specs.Prelude.{ℕ, List, ◌≡◌, ◌++◌, OnOk};
+    ghost use Rattle.std.specs.String.{string_bytes};
+    ghost use Rattle.bgp_frame.specs.declared.end.End.{End};
+    ghost use Rattle.bgp_msg.specs.declared.outcome.Outcome.{Outcome};
+    ghost use Rattle.bgp_msg.specs.OutcomeView.{outcome_value};
+
+    /// The text of an outcome, at its place, of a message of so many octets.
+    ghost shown: { ℕ → ℕ → Outcome → List ℕ };
+    /// The text of the end.
+    ghost shown_end: { End → List ℕ };
+
+    /// Adds the text of an outcome.
+    fn put(
+        &self,
+        alloc: Global,
+        text: &mut String,
+        place: u64,
+        len: u16,
+        outcome: &OutcomeView<'_>,
+    ) -> Result<(), AllocError>
+        ensures { OnOk result (string_bytes text.new ≡ string_bytes text.old ++ shown place len (outcome_value outcome.now)) };
+
+    /// Adds the text of the end.
+    fn put_end(&self, text: &mut String, end: End) -> Result<(), AllocError>
+        ensures { OnOk result (string_bytes text.new ≡ string_bytes text.old ++ shown_end end) };
+}
+
+/// Lines of text.
+#[derive(Drop)]
+pub(crate) struct Lines;
+
+impl Form for Lines {
+    ghost use Rattle.bgp_text.specs.End.{end_line};
+    ghost use Rattle.bgp_text.specs.Outcome.{outcome_lines};
+
+    ghost shown = { outcome_lines };
+
+    ghost shown_end = { end_line };
+
+    fn put(
+        &self,
+        alloc: Global,
+        text: &mut String,
+        place: u64,
+        len: u16,
+        outcome: &OutcomeView<'_>,
+    ) -> Result<(), AllocError> {
+        put_viewed_outcome(alloc, text, place, len, outcome)
+    }
+
+    fn put_end(&self, text: &mut String, end: End) -> Result<(), AllocError> {
+        put_end(text, end)
+    }
+}
+
+/// An object of JSON on a line.
+#[derive(Drop)]
+pub(crate) struct Json;
+
+impl Form for Json {
+    ghost use Rattle.bgp_text.specs.JsonEnd.{end_json};
+    ghost use Rattle.bgp_text.specs.JsonOutcome.{outcome_json};
+
+    ghost shown = { outcome_json };
+
+    ghost shown_end = { end_json };
+
+    fn put(
+        &self,
+        alloc: Global,
+        text: &mut String,
+        place: u64,
+        len: u16,
+        outcome: &OutcomeView<'_>,
+    ) -> Result<(), AllocError> {
+        put_viewed_json(alloc, text, place, len, outcome)
+    }
+
+    fn put_end(&self, text: &mut String, end: End) -> Result<(), AllocError> {
+        put_end_json(text, end)
+    }
+}
