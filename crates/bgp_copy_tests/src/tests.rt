@@ -4,7 +4,7 @@ use bgp_attr::{Attr, AttrView, Judged, JudgedView, TlvIter, judge, judge_view};
 use bgp_frame::head;
 use bgp_msg::{Kind, Message, decode_all};
 use bgp_open::Context;
-use bgp_update::{Attrs, PathInfo, Update, Verdict, View, read_update, reconcile, view_update};
+use bgp_update::{Update, Verdict, View, read_update, reconcile, view_update};
 use std::alloc::{AllocError, Global};
 use std::process::Abort;
 use std::test::*;
@@ -17,6 +17,11 @@ macro_rules! again {
             Ok(value) => value,
         }
     };
+}
+
+/// A copy equals its source.
+fn assert_copied<T: PartialEq + Drop>(rt: &impl Abort, copy: T, value: &T) {
+    assert!(rt; copy == *value);
 }
 
 /// The body of an UPDATE of 10.0.0.0/8 by way of AS 65000 and 192.0.2.1, with AS numbers of four octets.
@@ -77,38 +82,27 @@ fn each_type(alloc: Global) -> Result<Update, Fail> {
     }
 }
 
-/// A copy that the type of the value makes.
-fn copy_of(alloc: Global, attr: &Attr) -> Result<Attr, AllocError> {
+/// A copy of what an attribute holds.
+fn assert_inside_copied(rt: &(impl Abort + AllocGlobal), attr: &Attr) -> Result<(), Fail> {
+    let alloc = rt.alloc();
     match attr {
-        Attr::AsPath(path) => Ok(Attr::AsPath(path.copy(alloc)?)),
-        Attr::Communities(communities) => Ok(Attr::Communities(communities.copy(alloc)?)),
-        Attr::MpReach(reach) => Ok(Attr::MpReach(reach.copy(alloc)?)),
-        Attr::MpUnreach(unreach) => Ok(Attr::MpUnreach(unreach.copy(alloc)?)),
-        Attr::As4Path(path) => Ok(Attr::As4Path(path.copy(alloc)?)),
-        Attr::Large(communities) => Ok(Attr::Large(communities.copy(alloc)?)),
-        Attr::Opaque(opaque) => Ok(Attr::Opaque(opaque.copy(alloc)?)),
-        other => other.copy(alloc),
+        Attr::AsPath(path) => assert_copied(rt, again!(path.copy(alloc)), path),
+        Attr::Communities(held) => assert_copied(rt, again!(held.copy(alloc)), held),
+        Attr::MpReach(reach) => assert_copied(rt, again!(reach.copy(alloc)), reach),
+        Attr::MpUnreach(unreach) => assert_copied(rt, again!(unreach.copy(alloc)), unreach),
+        Attr::As4Path(path) => assert_copied(rt, again!(path.copy(alloc)), path),
+        Attr::Large(held) => assert_copied(rt, again!(held.copy(alloc)), held),
+        Attr::Opaque(opaque) => assert_copied(rt, again!(opaque.copy(alloc)), opaque),
+        _ => {}
     }
+    Ok(())
 }
 
-/// The value of a view, and copies of it in both ways.
+/// The value of a view, and copies of it and of what it holds.
 fn assert_attr_copied(rt: &(impl Abort + AllocGlobal), view: &AttrView<'_>) -> Result<(), Fail> {
-    let alloc = rt.alloc();
-    let attr = match view.own(alloc) {
-        Err(_) => view.own(alloc)?,
-        Ok(attr) => attr,
-    };
-    let copy = match attr.copy(alloc) {
-        Err(_) => attr.copy(alloc)?,
-        Ok(copy) => copy,
-    };
-    assert!(rt; copy == attr);
-    let copy = match copy_of(alloc, &attr) {
-        Err(_) => copy_of(alloc, &attr)?,
-        Ok(copy) => copy,
-    };
-    assert!(rt; copy == attr);
-    Ok(())
+    let attr = again!(view.own(rt.alloc()));
+    assert_copied(rt, again!(attr.copy(rt.alloc())), &attr);
+    assert_inside_copied(rt, &attr)
 }
 
 #[test]
@@ -125,56 +119,38 @@ fn attributes(rt: HostRuntime) -> Result<(), Fail> {
     Ok(())
 }
 
-/// A copy of attributes, of the UPDATE that they stand in, and of a message.
+/// A copy of attributes, and of the UPDATE that they stand in.
 #[test]
-fn updates_and_messages(rt: HostRuntime) -> Result<(), Fail> {
-    let alloc = rt.alloc();
-    let update = each_type(alloc)?;
-    let attrs: Attrs = match update.attrs.copy(alloc) {
-        Err(_) => update.attrs.copy(alloc)?,
-        Ok(attrs) => attrs,
-    };
-    assert!(&rt; attrs == update.attrs);
-    let copy = match update.copy(alloc) {
-        Err(_) => update.copy(alloc)?,
-        Ok(copy) => copy,
-    };
-    assert!(&rt; copy == update);
-    let message = Message::Update(update);
-    let copy = match message.copy(alloc) {
-        Err(_) => message.copy(alloc)?,
-        Ok(copy) => copy,
-    };
-    assert!(&rt; copy == message);
+fn updates(rt: HostRuntime) -> Result<(), Fail> {
+    let update = each_type(rt.alloc())?;
+    assert_copied(&rt, again!(update.attrs.copy(rt.alloc())), &update.attrs);
+    assert_copied(&rt, again!(update.copy(rt.alloc())), &update);
     Ok(())
 }
 
 #[test]
-fn paths_and_routes(rt: HostRuntime) -> Result<(), Fail> {
-    let alloc = rt.alloc();
-    let update = each_type(alloc)?;
-    let info: PathInfo = match reconcile(alloc, &update.attrs) {
-        Err(_) => reconcile(alloc, &update.attrs)?,
-        Ok(info) => info,
-    };
-    let copy = match info.copy(alloc) {
-        Err(_) => info.copy(alloc)?,
-        Ok(copy) => copy,
-    };
-    assert!(&rt; copy == info);
+fn messages(rt: HostRuntime) -> Result<(), Fail> {
+    let message = Message::Update(each_type(rt.alloc())?);
+    assert_copied(&rt, again!(message.copy(rt.alloc())), &message);
+    Ok(())
+}
+
+#[test]
+fn paths(rt: HostRuntime) -> Result<(), Fail> {
+    let update = each_type(rt.alloc())?;
+    let info = again!(reconcile(rt.alloc(), &update.attrs));
+    assert_copied(&rt, again!(info.copy(rt.alloc())), &info);
+    Ok(())
+}
+
+#[test]
+fn routes(rt: HostRuntime) -> Result<(), Fail> {
     let View::Take(view) = view_update(&INSIDE, EACH_TYPE) else {
         return Err("taken".into());
     };
-    let routes = match view.routes(alloc) {
-        Err(_) => view.routes(alloc)?,
-        Ok(routes) => routes,
-    };
-    let copy = match routes.copy(alloc) {
-        Err(_) => routes.copy(alloc)?,
-        Ok(copy) => copy,
-    };
-    assert!(&rt; copy == routes);
+    let routes = again!(view.routes(rt.alloc()));
     assert!(&rt; (routes.ip4.len(), routes.ip6.len()) == (3, 1));
+    assert_copied(&rt, again!(routes.copy(rt.alloc())), &routes);
     Ok(())
 }
 
@@ -189,7 +165,7 @@ fn judgements(rt: HostRuntime) -> Result<(), Fail> {
     for tlv in TlvIter::new(&field) {
         assert!(&rt; tlv.whole.len() <= 4075);
         let judged = again!(judge(alloc, &INSIDE, false, &tlv));
-        assert!(&rt; again!(judged.copy(alloc)) == judged);
+        assert_copied(&rt, again!(judged.copy(alloc)), &judged);
         match judged {
             Judged::Keep(_) => kinds.0 = kinds.0.wrapping_add(1),
             Judged::Discard(_) => kinds.1 = kinds.1.wrapping_add(1),
@@ -201,27 +177,48 @@ fn judgements(rt: HostRuntime) -> Result<(), Fail> {
     Ok(())
 }
 
-/// The plain UPDATE that is taken, one that is treated as a withdrawal, and one that resets; with a KEEPALIVE before them, as a stream.
+/// The plain UPDATE with an octet changed.
+fn changed(alloc: Global, place: usize, octet: u8) -> Result<Vec<u8>, AllocError> {
+    let mut body = again!(Vec::from_slice(alloc, PLAIN));
+    if place < body.len() {
+        body[place] = octet;
+    }
+    Ok(body)
+}
+
+/// The changes that the verdicts below are on: one that is taken, one that is treated as a withdrawal, and one that resets.
+const CHANGES: [(usize, u8); 3] = [(7, 0), (7, 3), (0, 9)];
+
 #[test]
-fn verdicts_and_outcomes(rt: HostRuntime) -> Result<(), Fail> {
-    let alloc = rt.alloc();
-    let mut stream = again!(Vec::from_slice(alloc, &head(Kind::Keepalive, 0)));
-    for (place, octet) in [(7usize, 0u8), (7, 3), (0, 9)] {
-        let mut body = again!(Vec::from_slice(alloc, PLAIN));
-        if place < body.len() {
-            body[place] = octet;
-        }
+fn verdicts(rt: HostRuntime) -> Result<(), Fail> {
+    for (place, octet) in CHANGES {
+        let body = changed(rt.alloc(), place, octet)?;
         assert!(&rt; body.len() <= 4077);
-        let verdict = again!(read_update(alloc, &OUTSIDE, body.as_slice()));
-        assert!(&rt; again!(verdict.copy(alloc)) == verdict);
+        let verdict = again!(read_update(rt.alloc(), &OUTSIDE, body.as_slice()));
+        assert_copied(&rt, again!(verdict.copy(rt.alloc())), &verdict);
+    }
+    Ok(())
+}
+
+/// A KEEPALIVE and those UPDATEs as a stream.
+fn stream(alloc: Global) -> Result<Vec<u8>, AllocError> {
+    let mut stream = again!(Vec::from_slice(alloc, &head(Kind::Keepalive, 0)));
+    for (place, octet) in CHANGES {
+        let body = changed(alloc, place, octet)?;
         again!(stream.extend_from_slice(&head(Kind::Update, 26)));
         again!(stream.extend_from_slice(body.as_slice()));
     }
-    let seen = again!(decode_all(alloc, &OUTSIDE, &[stream.as_slice()]));
+    Ok(stream)
+}
+
+#[test]
+fn outcomes(rt: HostRuntime) -> Result<(), Fail> {
+    let stream = stream(rt.alloc())?;
+    let seen = again!(decode_all(rt.alloc(), &OUTSIDE, &[stream.as_slice()]));
     assert!(&rt; seen.outs.len() == 4);
-    assert!(&rt; again!(seen.copy(alloc)) == seen);
     for (_len, outcome) in seen.outs.iter() {
-        assert!(&rt; again!(outcome.copy(alloc)) == *outcome);
+        assert_copied(&rt, again!(outcome.copy(rt.alloc())), outcome);
     }
+    assert_copied(&rt, again!(seen.copy(rt.alloc())), &seen);
     Ok(())
 }
