@@ -1,9 +1,13 @@
 //! Values that several tests speak of.
 
 mod copies;
+mod fakes;
+mod frames;
+mod hosts;
+mod opens;
+mod prefixes;
 mod refusals;
 mod sending;
-mod views;
 
 use bgp_attr::{AsPath, SegKind, Segment};
 use bgp_open::Context;
@@ -30,24 +34,12 @@ fn session(as4: bool) -> Context {
     }
 }
 
-/// The UPDATE of a body that is taken: a reading that is refused is made again.
-fn update_of(alloc: Global, ctx: &Context, body: &[u8]) -> Result<Update, Fail> {
-    if body.len() < 4 || body.len() > 4077 {
-        return Err("a body".into());
-    }
-    let verdict = match read_update(alloc, ctx, body) {
-        Err(_) => read_update(alloc, ctx, body)?,
-        Ok(verdict) => verdict,
-    };
-    match verdict {
+/// The plain UPDATE.
+fn plain(alloc: Global) -> Result<Update, Fail> {
+    match read_update(alloc, &session(true), PLAIN)? {
         Verdict::Take(update, _notes) => Ok(update),
         _ => Err("an UPDATE that is taken".into()),
     }
-}
-
-/// The plain UPDATE.
-fn plain(alloc: Global) -> Result<Update, Fail> {
-    update_of(alloc, &session(true), PLAIN)
 }
 
 /// A path of one sequence.

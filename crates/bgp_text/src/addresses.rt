@@ -11,7 +11,7 @@ use bgp_prefix::{Address, Prefix4, Prefix6};
 /// Puts an IPv4 address in front of a word.
 #[tactic(auto, using(crate::proofs::Words::address_in_front))]
 #[inline(always)]
-pub(crate) fn put_ip4_address(word: &mut Word, address: [u8; 4])
+fn put_ip4_address(word: &mut Word, address: [u8; 4])
     requires { length word.old + 17 ≤ 72 }
     ensures value { word.new ≡ ipv4_address_text address ++ word.old }
     ensures len { length word.new ≤ length word.old + 15 }
@@ -53,7 +53,7 @@ fn put_half(word: &mut Word, address: &[u8; 16], group: usize)
 
 /// Puts an IPv6 address in front of a word.
 #[tactic(auto, using(crate::proofs::Words::halves_in_front))]
-pub(crate) fn put_ip6_address(word: &mut Word, address: &[u8; 16])
+fn put_ip6_address(word: &mut Word, address: &[u8; 16])
     requires { length word.old + 39 ≤ 72 }
     ensures value { word.new ≡ ipv6_address_text address.now ++ word.old }
     ensures len { length word.new ≡ length word.old + 39 }

@@ -6,7 +6,7 @@ ghost use Rattle.std.specs.List.{flat_map, list_all};
 ghost use Rattle.std.specs.String.{string_bytes};
 ghost use Rattle.bgp_attr.specs.AttrView.{opaque_value};
 ghost use Rattle.bgp_text.specs.Lines.{where_there};
-ghost use Rattle.bgp_text.specs.AttributeLines.{origin_name, origin_line, as_path_line, next_hop_line, number_line, atomic_line, aggregator_line, as4_path_line};
+ghost use Rattle.bgp_text.specs.AttributeLines.{origin_line, as_path_line, next_hop_line, number_line, atomic_line, aggregator_line, as4_path_line};
 ghost use Rattle.bgp_text.specs.AttributeLines.{flags_text, opaque_line, route_lines, choice_lines, as4_lines};
 
 use crate::info::info_text;
@@ -17,17 +17,6 @@ use bgp_prefix::{Address, AsNumber};
 use bgp_update::Attrs;
 use bgp_wire::List;
 use std::alloc::{AllocError, Global};
-
-/// The name of an origin.
-pub(crate) fn origin_name(origin: Origin) -> &'static str
-    ensures { result.now ≡ origin_name origin }
-{
-    match origin {
-        Origin::Igp => "IGP",
-        Origin::Egp => "EGP",
-        Origin::Incomplete => "INCOMPLETE",
-    }
-}
 
 /// ORIGIN.
 pub(crate) fn put_origin(text: &mut String, origin: Option<Origin>) -> Result<(), AllocError>

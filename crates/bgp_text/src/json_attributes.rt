@@ -6,6 +6,7 @@ ghost use Rattle.std.specs.String.{string_bytes};
 ghost use Rattle.bgp_attr.specs.AttrView.{as4_path_value, opaque_value};
 ghost use Rattle.bgp_attr.specs.CommunitiesView.{communities_value, large_value};
 ghost use Rattle.bgp_attr.specs.PathView.{path_value};
+ghost use Rattle.bgp_text.specs.AttributeLines.{origin_name};
 ghost use Rattle.bgp_text.specs.Json.{member, listed};
 ghost use Rattle.bgp_text.specs.JsonAddress.{ip4_json};
 ghost use Rattle.bgp_text.specs.JsonAttributes.{origin_json, aggregator_json, opaque_json, atomic_member, communities_member, large_member};
@@ -14,7 +15,6 @@ ghost use Rattle.bgp_text.specs.JsonPath.{path_json};
 ghost use Rattle.bgp_text.specs.Lines.{where_there};
 ghost use Rattle.bgp_text.specs.steps.Slots.{slots_value};
 
-use crate::attribute_lines::origin_name;
 use crate::json::{
     put_decimal, put_flag_member, put_name, put_number_member, put_octets_member, put_word_member,
 };
@@ -78,6 +78,17 @@ impl Element for OpaqueView<'_> {
         put_flag_member(text, "partial", self.partial)?;
         put_octets_member(text, "value", self.value)?;
         text.push_str("}")
+    }
+}
+
+/// The name of an origin.
+fn origin_name(origin: Origin) -> &'static str
+    ensures { result.now ≡ origin_name origin }
+{
+    match origin {
+        Origin::Igp => "IGP",
+        Origin::Egp => "EGP",
+        Origin::Incomplete => "INCOMPLETE",
     }
 }
 

@@ -57,24 +57,24 @@ fn a_reader_that_is_not_asked_for_its_end(rt: HostRuntime) -> Result<(), Fail> {
     Ok(())
 }
 
-/// As many turns as are needed: one for the block, and one for the end.
-#[test]
-fn a_reader_that_is_asked_often_enough(rt: HostRuntime) -> Result<(), Fail> {
-    for tool in TOOLS {
-        let input = input_of(rt.alloc(), tool, TWO)?;
-        let mut reader = Drip::new(input.as_slice(), 4096);
-        let mut sheet = Sheet::new();
-        let outcome = run_tool_within(rt.alloc(), tool, 2, &mut reader, &mut sheet);
-        assert_eq!(rt; status(&outcome), 0, "{tool:?}");
-        assert_eq!(rt; reader.calls, 2, "{tool:?}");
-        assert_eq!(rt; reader.longest, 4096, "{tool:?}");
-        assert_eq!(rt; reader.shortest, 4096, "{tool:?}");
-    }
+/// As many turns as are needed, one for the block and one for the end: each asks for 4096 octets, and a block is written in one go.
+fn assert_ended(rt: &(impl Abort + AllocGlobal), tool: Tool, writes: u32) -> Result<(), Fail> {
+    let input = input_of(rt.alloc(), tool, TWO)?;
+    let mut reader = Drip::new(input.as_slice(), 4096);
+    let mut sheet = Sheet::new();
+    let outcome = run_tool_within(rt.alloc(), tool, 2, &mut reader, &mut sheet);
+    assert_eq!(rt; status(&outcome), 0, "{tool:?}");
+    assert_eq!(rt;
+        (reader.calls, reader.longest, reader.shortest),
+        (2, 4096, 4096),
+        "{tool:?}"
+    );
+    assert_eq!(rt; sheet.writes, writes, "{tool:?}");
     Ok(())
 }
 
 #[test]
-fn a_block_is_written_in_one_go(rt: HostRuntime) -> Result<(), Fail> {
+fn a_reader_that_is_asked_often_enough(rt: HostRuntime) -> Result<(), Fail> {
     for (tool, writes) in [
         (Tool::Show, 2),
         (Tool::ShowText, 2),
@@ -84,31 +84,8 @@ fn a_block_is_written_in_one_go(rt: HostRuntime) -> Result<(), Fail> {
         (Tool::FromHex, 1),
         (Tool::Narrow, 1),
     ] {
-        let input = input_of(rt.alloc(), tool, TWO)?;
-        let mut reader = Drip::new(input.as_slice(), 4096);
-        let mut sheet = Sheet::new();
-        let outcome = run_tool(rt.alloc(), tool, "", &mut reader, &mut sheet);
-        assert!(rt; outcome.is_ok());
-        assert_eq!(rt; sheet.writes, writes, "{tool:?}");
+        assert_ended(&rt, tool, writes)?;
     }
-    Ok(())
-}
-
-/// A stream of more octets than are asked for at a time.
-#[test]
-fn three_hundred_messages(rt: HostRuntime) -> Result<(), Fail> {
-    let mut input = Vec::new(rt.alloc());
-    for _ in 0..300u32 {
-        input.extend_from_slice(&[0xff; 16])?;
-        input.extend_from_slice(&[0, 0x13, 4])?;
-    }
-    let mut reader = Drip::new(input.as_slice(), 100_000);
-    let mut sheet = Sheet::new();
-    let outcome = run_tool(rt.alloc(), Tool::Check, "", &mut reader, &mut sheet);
-    assert!(rt; status(&outcome) == 0);
-    let wanted = b"messages 300 took 300 withdraw 0 reset 0\nend wait 0\n";
-    assert!(rt; sheet.text.as_slice() == wanted.as_slice());
-    assert_eq!(rt; reader.calls, 3, "4096 octets, 1604 octets, and the end");
     Ok(())
 }
 

@@ -175,22 +175,6 @@ fn writers_with_too_little_room(rt: HostRuntime) -> Result<(), Fail> {
     Ok(())
 }
 
-#[test]
-fn texts_of_faults(rt: HostRuntime) -> Result<(), Fail> {
-    for (fault, text, answer) in [
-        (ToolFault::Memory, "memory", 3),
-        (ToolFault::Read, "read failed", 4),
-        (ToolFault::Write, "write failed", 4),
-        (ToolFault::BadHex(7), "bad hex at 7", 1),
-        (ToolFault::Narrow(19), "cannot narrow at 19", 1),
-        (ToolFault::NoOpen, "no OPEN to agree with", 1),
-    ] {
-        assert!(rt; fault.to_string(rt.alloc())?.as_str() == text);
-        assert!(rt; status(&Err(fault)) == answer);
-    }
-    Ok(())
-}
-
 /// The counts of a run: messages, taken, withdrawn, resets.
 fn assert_tally(
     rt: &(impl Abort + AllocGlobal),

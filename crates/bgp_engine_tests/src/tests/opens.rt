@@ -19,16 +19,6 @@ const NARROW: &str = "M 002b01 04 fde9 005a c0000202 0e 020c 010400010001 010400
 
 const PLAIN: &str = "M 001d01 04 fde9 005a c0000202 00";
 
-/// OPENs that are no OPEN that is taken, or not whole: of version 3, cut off, behind a KEEPALIVE, with a fault in the header, and none.
-const NONE: [&str; 6] = [
-    "M 001d01 03 fde9 005a c0000202 00 M001304",
-    "M 001d01 04 fde9 005a c00002",
-    "M001304 M 001d01 04 fde9 005a c0000202 00",
-    "M 001c01 04 fde9 005a c0000202",
-    "ff",
-    "",
-];
-
 /// An UPDATE with a route of IPv6, a path with numbers of four octets and LOCAL_PREF: each flag decides about one of these.
 const UPDATE: &str =
     "M 0048 02 0000 0031 800e1a 0002 01 10 20010db8000000000000000000000001 00 2020010db8 40010100 40020602010000fdea 40050400000064";
@@ -147,94 +137,64 @@ fn contexts_of_two_opens(rt: HostRuntime) -> Result<(), Fail> {
     assert_agreed(&rt, Way::Narrow, OURS, THEIRS, &context(false, true, true))
 }
 
-/// Nothing is written, and nothing behind the first message is read.
-fn assert_no_open(
-    rt: &(impl Abort + AllocGlobal),
-    way: Way,
-    input: &[u8],
-    theirs: &[u8],
-) -> Result<(), Fail> {
-    for step in [1, 4096] {
-        let mut reader = Drip::new(input, step);
-        let mut sheet = Sheet::new();
-        let outcome = by_opens(rt.alloc(), way, theirs, &mut reader, &mut sheet);
-        assert_eq!(rt; outcome, Err(ToolFault::NoOpen), "{way:?}");
-        assert!(rt; status(&outcome) == 1);
-        assert!(rt; sheet.text.is_empty(), "{way:?}");
-        assert!(rt;
-            step == 1 || input.is_empty() || reader.calls <= 2,
-            "{way:?}"
-        );
-    }
+/// A KEEPALIVE first: nothing is written, and no more is read than its octets.
+fn assert_no_open(rt: &(impl Abort + AllocGlobal), way: Way) -> Result<(), Fail> {
+    let theirs = input_of(rt.alloc(), Tool::Show, THEIRS)?;
+    let input = input_of(rt.alloc(), Tool::Show, "M001304 M001304")?;
+    let mut reader = Drip::new(input.as_slice(), 1);
+    let mut sheet = Sheet::new();
+    let outcome = by_opens(rt.alloc(), way, theirs.as_slice(), &mut reader, &mut sheet);
+    assert_eq!(rt; outcome, Err(ToolFault::NoOpen), "{way:?}");
+    assert!(rt; sheet.text.is_empty() && reader.calls == 19, "{way:?}");
     Ok(())
 }
 
 #[test]
 fn no_open_to_agree_with(rt: HostRuntime) -> Result<(), Fail> {
-    let open = input_of(rt.alloc(), Tool::Show, THEIRS)?;
     for way in WAYS {
-        for digits in NONE {
-            let none = input_of(rt.alloc(), Tool::Show, digits)?;
-            assert_no_open(&rt, way, none.as_slice(), open.as_slice())?;
-            assert_no_open(&rt, way, open.as_slice(), none.as_slice())?;
-            assert_no_open(&rt, way, none.as_slice(), none.as_slice())?;
-        }
-    }
-    for digits in [NARROW, PLAIN] {
-        let two = input_of(rt.alloc(), Tool::Show, digits)?;
-        assert_no_open(&rt, Way::Narrow, two.as_slice(), open.as_slice())?;
-        assert_no_open(&rt, Way::Narrow, open.as_slice(), two.as_slice())?;
+        assert_no_open(&rt, way)?;
     }
     Ok(())
 }
 
-/// A reader that fails before the first message is whole is told, whatever the other direction has; so is one that isn't asked as often as it needs.
+/// A reader that fails before the first message is whole is told, whatever the other direction has.
+fn assert_read_fault(
+    rt: &(impl Abort + AllocGlobal),
+    way: Way,
+    open: &[u8],
+    theirs: &[u8],
+    calls: u32,
+) {
+    let mut reader = Drip::new(open, 10).failing_after(calls);
+    let mut sheet = Sheet::new();
+    let outcome = by_opens(rt.alloc(), way, theirs, &mut reader, &mut sheet);
+    assert_eq!(rt; outcome, Err(ToolFault::Read), "{way:?}");
+    assert!(rt; sheet.text.is_empty(), "{way:?}");
+}
+
+/// So is one that isn't asked as often as it needs.
+fn assert_too_few(
+    rt: &(impl Abort + AllocGlobal),
+    way: Way,
+    open: &[u8],
+    theirs: &[u8],
+    turns: u32,
+) {
+    let mut reader = Drip::new(open, 10);
+    let outcome = by_opens_within(rt.alloc(), turns, way, theirs, &mut reader);
+    assert_eq!(rt; outcome, Err(ToolFault::Read), "{way:?}");
+    assert_eq!(rt; reader.calls, turns, "{way:?}");
+}
+
 #[test]
 fn a_read_that_fails_is_told_first(rt: HostRuntime) -> Result<(), Fail> {
     let open = input_of(rt.alloc(), Tool::Show, OURS)?;
-    for way in WAYS {
-        for digits in [THEIRS, "M001304", ""] {
-            let theirs = input_of(rt.alloc(), Tool::Show, digits)?;
+    for theirs in [open.as_slice(), &[0; 19], &[]] {
+        for way in WAYS {
             for calls in [0, 1, 4] {
-                let mut reader = Drip::new(open.as_slice(), 10).failing_after(calls);
-                let mut sheet = Sheet::new();
-                let outcome = by_opens(rt.alloc(), way, theirs.as_slice(), &mut reader, &mut sheet);
-                assert_eq!(rt; outcome, Err(ToolFault::Read), "{way:?} {digits}");
-                assert!(rt; sheet.text.is_empty(), "{way:?}");
-                let mut reader = Drip::new(open.as_slice(), 10);
-                let outcome = by_opens_within(
-                    rt.alloc(),
-                    calls,
-                    way,
-                    theirs.as_slice(),
-                    &mut reader,
-                );
-                assert_eq!(rt; outcome, Err(ToolFault::Read), "{way:?} {digits}");
-                assert_eq!(rt; reader.calls, calls, "{way:?} {digits}");
+                assert_read_fault(&rt, way, open.as_slice(), theirs, calls);
+                assert_too_few(&rt, way, open.as_slice(), theirs, calls);
             }
-        }
-    }
-    Ok(())
-}
-
-/// A character that is bad before the first message is whole, and one behind it.
-#[test]
-fn bad_characters(rt: HostRuntime) -> Result<(), Fail> {
-    let theirs = input_of(rt.alloc(), Tool::Show, THEIRS)?;
-    let keepalive = input_of(rt.alloc(), Tool::Show, "M001304")?;
-    for (digits, other, fault) in [
-        ("M003101x", &theirs, ToolFault::BadHex(38)),
-        ("M003101x", &keepalive, ToolFault::BadHex(38)),
-        ("M001304x", &theirs, ToolFault::NoOpen),
-        ("M0", &theirs, ToolFault::BadHex(32)),
-    ] {
-        let text = input_of(rt.alloc(), Tool::ShowText, digits)?;
-        for step in [1, 4096] {
-            let mut reader = Drip::new(text.as_slice(), step);
-            let mut sheet = Sheet::new();
-            let outcome = check_by_opens(rt.alloc(), other, true, &mut reader, &mut sheet);
-            assert_eq!(rt; outcome, Err(fault), "{digits}");
-            assert!(rt; sheet.text.is_empty(), "{digits}");
         }
     }
     Ok(())

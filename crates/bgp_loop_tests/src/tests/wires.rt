@@ -131,52 +131,41 @@ fn assert_lines<W: Wire>(
     Ok(())
 }
 
-/// What is written where the session of B ended in this state before A sent its UPDATE.
-const BEFORE_IT_IS_UP: [&str; 3] = [
-    "round 1\na sent 0 got 0 gone 0 notes -\nb sent 0 got 0 gone 0 notes -\nrefused a 1\nstate a Idle\nstate b Active\n",
-    "round 1\na sent 0 got 0 gone 0 notes -\nb sent 0 got 0 gone 0 notes -\nrefused a 1\nstate a Idle\nstate b Idle\n",
-    "round 1\na sent 0 got 0 gone 0 notes -\nb sent 0 got 0 gone 0 notes -\nrefused a 1\nstate a Idle\nstate b Idle\n",
-];
-
-#[test]
-fn a_connection_that_is_refused(rt: HostRuntime) -> Result<(), Fail> {
-    let mut wire = Flaky::new(0);
-    assert_lines(&rt, &mut wire, "refused a 1\nstate a Idle\nstate b Idle\n")?;
-    assert!(&rt; (wire.calls, wire.failures, wire.cuts) == (1, 1, 0));
-    Ok(())
-}
-
-/// The first, the second or the third piece is lost.
-#[test]
-fn a_piece_before_the_session_is_up_is_lost(rt: HostRuntime) -> Result<(), Fail> {
-    let mut failing = 0u32;
-    for lines in BEFORE_IT_IS_UP {
-        failing = failing.wrapping_add(1);
-        let mut wire = Flaky::new(failing);
-        assert_lines(&rt, &mut wire, lines)?;
-        assert!(&rt; (wire.calls, wire.failures, wire.cuts) == (failing.wrapping_add(1), 1, 1));
-    }
-    Ok(())
-}
-
-#[test]
-fn the_piece_with_the_update_is_lost(rt: HostRuntime) -> Result<(), Fail> {
-    let lines =
-        "round 1\na sent 1 got 0 gone 0 notes -\nb sent 0 got 0 gone 0 notes -\nstate a Idle\nstate b Idle\n";
-    let mut wire = Flaky::new(4);
-    assert_lines(&rt, &mut wire, lines)?;
-    assert!(&rt; (wire.calls, wire.failures, wire.cuts) == (5, 1, 1));
-    Ok(())
-}
-
 const WHOLE: &str =
     "round 1\na sent 1 got 0 gone 0 notes 6/0\nb sent 0 got 1 gone 0 notes -\nstate a Idle\nstate b Idle\n";
 
+/// What is written where the connection, an OPEN, a KEEPALIVE, the UPDATE or the NOTIFICATION is lost, and how often the wire is cut.
+const LOST: [(&str, u32); 6] = [
+    ("refused a 1\nstate a Idle\nstate b Idle\n", 0),
+    (
+        "round 1\na sent 0 got 0 gone 0 notes -\nb sent 0 got 0 gone 0 notes -\nrefused a 1\nstate a Idle\nstate b Active\n",
+        1,
+    ),
+    (
+        "round 1\na sent 0 got 0 gone 0 notes -\nb sent 0 got 0 gone 0 notes -\nrefused a 1\nstate a Idle\nstate b Idle\n",
+        1,
+    ),
+    (
+        "round 1\na sent 0 got 0 gone 0 notes -\nb sent 0 got 0 gone 0 notes -\nrefused a 1\nstate a Idle\nstate b Idle\n",
+        1,
+    ),
+    (
+        "round 1\na sent 1 got 0 gone 0 notes -\nb sent 0 got 0 gone 0 notes -\nstate a Idle\nstate b Idle\n",
+        1,
+    ),
+    (WHOLE, 1),
+];
+
+/// A call of the wire fails, the first of them that of a connection.
 #[test]
-fn the_piece_with_the_notification_is_lost(rt: HostRuntime) -> Result<(), Fail> {
-    let mut wire = Flaky::new(5);
-    assert_lines(&rt, &mut wire, WHOLE)?;
-    assert!(&rt; (wire.calls, wire.failures, wire.cuts) == (6, 1, 1));
+fn a_piece_is_lost(rt: HostRuntime) -> Result<(), Fail> {
+    let mut failing = 0u32;
+    for (lines, cuts) in LOST {
+        let mut wire = Flaky::new(failing);
+        failing = failing.wrapping_add(1);
+        assert_lines(&rt, &mut wire, lines)?;
+        assert!(&rt; (wire.calls, wire.failures, wire.cuts) == (failing, 1, cuts));
+    }
     Ok(())
 }
 
@@ -197,14 +186,4 @@ fn a_wire_that_lies(rt: HostRuntime) -> Result<(), Fail> {
     let lines =
         "round 1\na sent 0 got 0 gone 0 notes -\nb sent 0 got 0 gone 0 notes 5/1\nrefused a 1\nstate a Idle\nstate b Idle\n";
     assert_lines(&rt, &mut Lying { passed: false }, lines)
-}
-
-#[test]
-fn a_wire_within_the_program(rt: HostRuntime) {
-    let mut wire = MemoryWire;
-    let mut octets = [1, 2, 3];
-    assert!(rt; wire.join() && wire.pass(Side::B, &mut octets));
-    assert!(rt; octets == [1, 2, 3]);
-    wire.cut();
-    assert!(rt; wire.failures() == 0);
 }

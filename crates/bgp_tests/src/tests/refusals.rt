@@ -7,7 +7,6 @@ use bgp_attr::{
 };
 use bgp_msg::{Message, encode};
 use bgp_open::Open;
-use bgp_prefix::Prefix4;
 use bgp_update::{Invalid, WriteFault};
 use std::process::Abort;
 
@@ -36,13 +35,21 @@ fn assert_not_valid(
 }
 
 #[test]
-fn routes_need_three_attributes(rt: HostRuntime) -> Result<(), Fail> {
+fn routes_need_an_origin(rt: HostRuntime) -> Result<(), Fail> {
     let mut update = plain(rt.alloc())?;
     update.attrs.origin = None;
-    assert_not_valid(&rt, true, update, Invalid::Missing)?;
+    assert_not_valid(&rt, true, update, Invalid::Missing)
+}
+
+#[test]
+fn routes_need_a_path(rt: HostRuntime) -> Result<(), Fail> {
     let mut update = plain(rt.alloc())?;
     update.attrs.as_path = None;
-    assert_not_valid(&rt, true, update, Invalid::Missing)?;
+    assert_not_valid(&rt, true, update, Invalid::Missing)
+}
+
+#[test]
+fn routes_need_a_next_hop(rt: HostRuntime) -> Result<(), Fail> {
     let mut update = plain(rt.alloc())?;
     update.attrs.next_hop = None;
     assert_not_valid(&rt, true, update, Invalid::Missing)
@@ -91,18 +98,22 @@ fn an_as4_path_has_segments(rt: HostRuntime) -> Result<(), Fail> {
 }
 
 #[test]
-fn communities_are_some_and_none_twice(rt: HostRuntime) -> Result<(), Fail> {
-    let alloc = rt.alloc();
-    let mut update = plain(alloc)?;
+fn communities_are_some(rt: HostRuntime) -> Result<(), Fail> {
+    let mut update = plain(rt.alloc())?;
     update.attrs.communities = Some(Communities {
         partial: false,
-        values: List::new(alloc),
+        values: List::new(rt.alloc()),
     });
-    assert_not_valid(&rt, true, update, Invalid::Empty)?;
-    let mut update = plain(alloc)?;
+    assert_not_valid(&rt, true, update, Invalid::Empty)
+}
+
+#[test]
+fn no_large_community_stands_twice(rt: HostRuntime) -> Result<(), Fail> {
+    let values = vec![in rt.alloc(); [9, 1, 2], [9, 1, 3], [9, 1, 2]]?;
+    let mut update = plain(rt.alloc())?;
     update.attrs.large = Some(LargeCommunities {
         partial: false,
-        values: List::from_vec(vec![in alloc; [9, 1, 2], [9, 1, 3], [9, 1, 2]]?),
+        values: List::from_vec(values),
     });
     assert_not_valid(&rt, true, update, Invalid::Twice)
 }
@@ -118,14 +129,22 @@ fn opaque(alloc: Global, kind: u8, count: usize) -> Result<Opaque, AllocError> {
 }
 
 #[test]
-fn others_rise_and_are_not_recognised(rt: HostRuntime) -> Result<(), Fail> {
-    let alloc = rt.alloc();
-    let mut update = plain(alloc)?;
-    let twice = vec![in alloc; opaque(alloc, 99, 0)?, opaque(alloc, 99, 0)?]?;
-    update.attrs.others = List::from_vec(twice);
-    assert_not_valid(&rt, true, update, Invalid::Others)?;
-    let mut update = plain(alloc)?;
-    update.attrs.others = List::from_vec(vec![in alloc; opaque(alloc, 3, 0)?]?);
+fn others_rise(rt: HostRuntime) -> Result<(), Fail> {
+    let mut others = List::new(rt.alloc());
+    for _ in 0..2u8 {
+        others.push(opaque(rt.alloc(), 99, 0)?)?;
+    }
+    let mut update = plain(rt.alloc())?;
+    update.attrs.others = others;
+    assert_not_valid(&rt, true, update, Invalid::Others)
+}
+
+#[test]
+fn others_are_not_recognised(rt: HostRuntime) -> Result<(), Fail> {
+    let mut others = List::new(rt.alloc());
+    others.push(opaque(rt.alloc(), 3, 0)?)?;
+    let mut update = plain(rt.alloc())?;
+    update.attrs.others = others;
     assert_not_valid(&rt, true, update, Invalid::Others)
 }
 
@@ -158,27 +177,4 @@ fn an_open_has_a_hold_time_of_0_or_3_seconds(rt: HostRuntime) -> Result<(), Fail
         &said,
         WriteFault::NotValid(Invalid::BadOpen),
     )
-}
-
-/// An UPDATE of 2027 prefixes, which makes 4097 octets.
-fn long_update(alloc: Global) -> Result<Update, Fail> {
-    let ten = Prefix4::new(8, [10, 0, 0, 0]).ok_or("a prefix")?;
-    let mut update = plain(alloc)?;
-    for _ in 1..2027u16 {
-        update.nlri.push(ten)?;
-    }
-    Ok(update)
-}
-
-#[test]
-fn a_message_has_4096_octets(rt: HostRuntime) -> Result<(), Fail> {
-    let message = Message::Update(long_update(rt.alloc())?);
-    assert_refused(&rt, &session(true), &message, WriteFault::TooLong)
-}
-
-#[test]
-fn what_is_not_valid_is_told_before_what_is_too_long(rt: HostRuntime) -> Result<(), Fail> {
-    let mut update = long_update(rt.alloc())?;
-    update.attrs.local_pref = Some(100);
-    assert_not_valid(&rt, true, update, Invalid::LocalPref)
 }

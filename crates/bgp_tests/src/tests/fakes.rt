@@ -10,7 +10,6 @@ pub(crate) struct Line {
     pub(crate) stands: bool,
     pub(crate) failing: u32,
     pub(crate) sends: u32,
-    pub(crate) octets: usize,
     pub(crate) closes: u32,
 }
 
@@ -20,7 +19,6 @@ impl Line {
             stands,
             failing,
             sends: 0,
-            octets: 0,
             closes: 0,
         }
     }
@@ -31,10 +29,9 @@ impl Connection for Line {
         self.stands
     }
 
-    fn send(&mut self, octets: &[u8]) -> bool {
+    fn send(&mut self, _octets: &[u8]) -> bool {
         let send = self.sends;
         self.sends = send.saturating_add(1);
-        self.octets = self.octets.saturating_add(octets.len());
         send != self.failing
     }
 

@@ -44,22 +44,6 @@ fn live(rt: &impl AllocGlobal, host: &mut Host<Line, Running, Told>) -> Result<(
 }
 
 #[test]
-fn a_session_sends_four_messages(rt: HostRuntime) {
-    let mut host = host(true, NEVER);
-    assert!(&rt; live(&rt, &mut host).is_ok());
-    // An OPEN of 43 octets, two KEEPALIVEs and a NOTIFICATION.
-    assert!(&rt;
-        (
-            host.connection.sends,
-            host.connection.octets,
-            host.connection.closes
-        ) == (4, 102, 1)
-    );
-    assert!(&rt; host.clock == STILL);
-    assert!(&rt; (host.observer.flushes, host.observer.state) == (1, State::Idle));
-}
-
-#[test]
 fn nothing_is_sent_behind_a_send_that_failed(rt: HostRuntime) {
     // Which send fails; how often it was closed, whether routes were flushed, and where the session stands.
     for (failing, closes, flushes, state) in [

@@ -1,3 +1,0 @@
-mod frames;
-mod opens;
-mod prefixes;
