@@ -50,18 +50,16 @@ fn a_version_is_answered_with_ours(rt: HostRuntime) {
     assert!(rt; OpenFault::Memory.notification().is_none());
 }
 
-/// Whether an OPEN is written, in so many octets; else nothing is appended.
-fn is_written(alloc: Global, open: &Open, octets: usize) -> bool {
+/// What comes of writing an OPEN, and how many octets that appends.
+fn written(alloc: Global, open: &Open) -> (Result<(), WriteOpenFault>, usize) {
     let mut out = Vec::new(alloc);
-    match write_open(open, &mut out) {
-        Ok(()) => out.len() == octets,
-        Err(_) => !out.is_empty(),
-    }
+    let answer = write_open(open, &mut out);
+    (answer, out.len())
 }
 
 #[test]
 fn opens_that_are_not_valid(rt: HostRuntime) -> Result<(), Fail> {
-    // A Hold Time, the last octet of the identifier, a code, the octets of a value, and whether the OPEN is written.
+    // A Hold Time, the last octet of the identifier, a code, the octets of a value, and whether the OPEN is valid.
     let rows: [(u16, u8, u8, usize, bool); 9] = [
         (90, 1, 2, 251, true),
         (0, 1, 2, 0, true),
@@ -73,9 +71,14 @@ fn opens_that_are_not_valid(rt: HostRuntime) -> Result<(), Fail> {
         (90, 1, 65, 4, false),
         (90, 1, 2, 252, false),
     ];
-    for (hold, last, code, octets, written) in rows {
+    for (hold, last, code, octets, is_valid) in rows {
         let open = open_of(rt.alloc(), hold, last, code, octets)?;
-        assert!(rt; is_written(rt.alloc(), &open, octets.wrapping_add(14)) == written);
+        let wanted = if is_valid {
+            (Ok(()), octets.wrapping_add(14))
+        } else {
+            (Err(WriteOpenFault::NotValid), 0)
+        };
+        assert!(rt; written(rt.alloc(), &open) == wanted);
     }
     Ok(())
 }
