@@ -1,19 +1,9 @@
 -- What is taken of a piece lies within it.
 use Rattle.std.proofs.Common.{◌≤◌, ℕ, List, length, Bool, true, false, Option, arith}
 use Rattle.arrayvec.specs.ArrayVec.{ArrayVec}
-use Rattle.bgp_msg.specs.Decoder as decoder
-use Rattle.bgp_msg.specs.declared.outcome.Outcome.{Outcome}
 use Rattle.bgp_machine.specs.Pulling as pulling
 use Rattle.bgp_machine.specs.Session as session
 use Rattle.bgp_machine.specs.declared.action.Action.{Action}
-
-decoder_counts : (stopped : Bool) (held piece : List ℕ) (n : ℕ) → decoder.CountsFed stopped held piece n → n ≤ length piece
-decoder_counts true held piece n none = omega (arith, none)
-decoder_counts false held piece n some = some.0.within
-
-pub decoder_takes_within : (old : decoder.Decoding) (piece : List ℕ) (n : ℕ) (found : Option (ℕ × Outcome)) (new : decoder.Decoding)
-    → decoder.IsFedAndNext old piece n found new → n ≤ length piece
-decoder_takes_within old piece n found new pulled = decoder_counts old.stopped old.held piece n pulled.fed.0
 
 session_counts : (listens : Bool) (held piece : List ℕ) (n : ℕ) → session.CountsFed listens held piece n → n ≤ length piece
 session_counts true held piece n some = some.0.within

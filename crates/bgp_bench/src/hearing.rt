@@ -6,7 +6,7 @@ use crate::stream::PIECE;
 use arrayvec::ArrayVec;
 use bgp_attr::{MpReach, MpReachView, MpUnreach, MpUnreachView};
 use bgp_frame::head;
-use bgp_machine::{Action, ActionView, ActionViews, Actions, Event, Session};
+use bgp_machine::{Action, ActionView, ActionViews, Actions, Event, Session, State};
 use bgp_msg::Kind;
 use bgp_open::{Config, own_frame};
 use bgp_update::{Routes, Update, UpdateView};
@@ -224,22 +224,17 @@ fn hear_stream(
     Ok(())
 }
 
-/// Lets an Established session hear the stream so many times, and answers it and the counts of the last time.
-fn hear_rounds(
+/// Lets an Established session hear the stream, and answers where it stands then, and the counts.
+fn hear_round(
     alloc: Global,
     octets: &[u8],
-    rounds: u32,
     by: By,
-) -> Result<(Session, Heard), AllocError> {
+    actions: &mut Actions,
+) -> Result<(State, Heard), AllocError> {
     let mut session = established(alloc)?;
     let mut heard = Heard::new();
-    let mut actions = ArrayVec::new();
-    for _round in 0..rounds {
-        session = established(alloc)?;
-        heard = Heard::new();
-        hear_stream(alloc, &mut session, octets, by, &mut actions, &mut heard)?;
-    }
-    Ok((session, heard))
+    hear_stream(alloc, &mut session, octets, by, actions, &mut heard)?;
+    Ok((session.state(), heard))
 }
 
 /// Lets an Established session hear the stream so many times, and prints the counts of one time, and where the session stood then.
@@ -249,10 +244,14 @@ pub(crate) fn run(
     rounds: u32,
     by: By,
 ) -> io::Result<()> {
-    let (session, heard) = hear_rounds(rt.alloc(), octets, rounds, by)?;
+    let mut actions = ArrayVec::new();
+    let (mut state, mut heard) = (State::Idle, Heard::new());
+    for _round in 0..rounds {
+        (state, heard) = hear_round(rt.alloc(), octets, by, &mut actions)?;
+    }
     println!(rt;
         "actions {} announced {} withdrawn {}",
         heard.actions, heard.announced, heard.withdrawn
     )?;
-    println!(rt; "state {:?}", session.state())
+    println!(rt; "state {state:?}")
 }

@@ -29,18 +29,23 @@ impl Owned {
     fn own(&mut self, alloc: Global, outcome: &OutcomeView<'_>) -> Result<(), AllocError> {
         self.messages = self.messages.saturating_add(1);
         match outcome {
-            OutcomeView::Update(view) => {
-                let update = view.own(alloc)?;
-                let _notes = view.own_notes(alloc)?;
-                self.add_routes(update.nlri.len());
-            }
-            OutcomeView::Withdraw(view) => {
-                let routes = view.routes(alloc)?;
-                let _notes = view.own_notes(alloc)?;
-                self.add_routes(routes.ip4.len());
-            }
-            _ => {}
+            OutcomeView::Update(view) => self.own_update(alloc, view),
+            OutcomeView::Withdraw(view) => self.own_withdrawn(alloc, view),
+            _ => Ok(()),
         }
+    }
+
+    /// Owns an UPDATE, and then its notes.
+    fn own_update(&mut self, alloc: Global, view: &UpdateView<'_>) -> Result<(), AllocError> {
+        self.add_routes(view.own(alloc)?.nlri.len());
+        let _notes = view.own_notes(alloc)?;
+        Ok(())
+    }
+
+    /// Owns the routes that are withdrawn, and then the notes.
+    fn own_withdrawn(&mut self, alloc: Global, view: &UpdateView<'_>) -> Result<(), AllocError> {
+        self.add_routes(view.routes(alloc)?.ip4.len());
+        let _notes = view.own_notes(alloc)?;
         Ok(())
     }
 

@@ -22,8 +22,23 @@ pub(crate) trait See {
     fn see(&mut self, alloc: Global, len: u16, outcome: &Outcome) -> Result<(), AllocError>;
 }
 
+/// Shows the outcome of what is held, or stands at the front of a piece. Answers how many octets of the piece that took, where there was something.
+fn decode_next<S: See>(
+    alloc: Global,
+    decoder: &mut Decoder,
+    piece: &[u8],
+    seer: &mut S,
+) -> Result<Option<usize>, AllocError> {
+    let (taken, found) = decoder.pull(alloc, piece)?;
+    match &found {
+        Some((len, outcome)) => seer.see(alloc, *len, outcome)?,
+        None if taken == 0 => return Ok(None),
+        None => {}
+    }
+    Ok(Some(taken))
+}
+
 /// Shows the outcomes of a piece.
-#[tactic(auto, using(crate::proofs::Taken::decoder_takes_within))]
 fn decode_piece<S: See>(
     alloc: Global,
     decoder: &mut Decoder,
@@ -32,12 +47,9 @@ fn decode_piece<S: See>(
 ) -> Result<(), AllocError> {
     let mut rest = piece;
     for _turn in 0..u64::MAX {
-        let (taken, found) = decoder.pull(alloc, rest)?;
-        rest = &rest[taken..];
-        match &found {
-            Some((len, outcome)) => seer.see(alloc, *len, outcome)?,
-            None if taken == 0 => break,
-            None => {}
+        match decode_next(alloc, decoder, rest, seer)? {
+            Some(taken) => rest = rest.get(taken..).unwrap_or(&[]),
+            None => break,
         }
     }
     Ok(())

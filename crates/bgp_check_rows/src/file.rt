@@ -63,6 +63,14 @@ fn put_row(alloc: Global, row: &Row<'_>) -> Result<Page, Trouble> {
     }
 }
 
+/// What comes of a row. Where an allocation failed, what comes the second time.
+fn put_again(alloc: Global, row: &Row<'_>) -> Result<Page, Trouble> {
+    match put_row(alloc, row) {
+        Err(Trouble::Memory) => put_row(alloc, row),
+        answer => answer,
+    }
+}
+
 /// Prints what came in place of the wanted lines.
 fn print_difference(rt: &impl Print, row: &Row<'_>, came: &str) -> io::Result<()> {
     println!(rt; "row {}", row.name)?;
@@ -75,7 +83,7 @@ fn print_difference(rt: &impl Print, row: &Row<'_>, came: &str) -> io::Result<()
 
 /// Checks a row, and prints it where it fails.
 fn check_row(rt: &(impl Print + AllocGlobal), row: &Row<'_>) -> io::Result<bool> {
-    match put_row(rt.alloc(), row) {
+    match put_again(rt.alloc(), row) {
         Ok(page) => {
             let came = page.text.as_str().trim_end_matches('\n');
             if came == row.want {

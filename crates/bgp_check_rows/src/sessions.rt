@@ -10,7 +10,7 @@ use bgp_rows::page::Page;
 use bgp_rows::row::{Row, split_word};
 use bgp_rows::trouble::Trouble;
 use bgp_rows::written::message_of;
-use bgp_session::{Actions, Event, SendFault, Session, Timer};
+use bgp_session::{Actions, Event, SendFault, Session, State, Timer};
 use bgp_update::Update;
 use std::alloc::Global;
 
@@ -48,22 +48,40 @@ fn event_of(word: &str, rest: &str) -> Option<Event> {
     }
 }
 
+/// What a call that lacks memory has to leave as it was.
+fn standing(session: &Session) -> (State, Option<Context>, usize) {
+    (session.state(), session.context().copied(), session.held())
+}
+
 /// Judges what is held, and again where allocation failed.
 fn step_again(
     alloc: Global,
     session: &mut Session,
     page: &mut Page,
 ) -> Result<Option<Actions>, Trouble> {
-    let before = (session.state(), session.context().copied(), session.held());
+    let before = standing(session);
     match session.step(alloc) {
-        Err(_) => {
-            if (session.state(), session.context().copied(), session.held()) != before {
-                page.put(CHANGED)?;
-            }
-            Ok(session.step(alloc)?)
-        }
-        Ok(found) => Ok(found),
+        Ok(found) => return Ok(found),
+        Err(_) if standing(session) != before => page.put(CHANGED)?,
+        Err(_) => {}
     }
+    Ok(session.step(alloc)?)
+}
+
+/// Pulls octets, and again where allocation failed.
+fn pull_again(
+    alloc: Global,
+    session: &mut Session,
+    octets: &[u8],
+    page: &mut Page,
+) -> Result<(usize, Option<Actions>), Trouble> {
+    let before = standing(session);
+    match session.pull(alloc, octets) {
+        Ok(pulled) => return Ok(pulled),
+        Err(_) if standing(session) != before => page.put(CHANGED)?,
+        Err(_) => {}
+    }
+    Ok(session.pull(alloc, octets)?)
 }
 
 /// Feeds octets, with steps until nothing comes, and what is left again while any is taken.
@@ -86,7 +104,7 @@ fn feed(
     Ok(())
 }
 
-/// Pulls octets, and again where allocation failed.
+/// Pulls octets, and what is left again while any is taken.
 fn pull(
     alloc: Global,
     session: &mut Session,
@@ -95,16 +113,7 @@ fn pull(
 ) -> Result<(), Trouble> {
     let mut rest = octets;
     for _ in 0..u16::MAX {
-        let before = (session.state(), session.context().copied(), session.held());
-        let (taken, found) = match session.pull(alloc, rest) {
-            Err(_) => {
-                if (session.state(), session.context().copied(), session.held()) != before {
-                    page.put(CHANGED)?;
-                }
-                session.pull(alloc, rest)?
-            }
-            Ok(pulled) => pulled,
-        };
+        let (taken, found) = pull_again(alloc, session, rest, page)?;
         rest = rest.get(taken..).unwrap_or(&[]);
         match found {
             Some(actions) => put_actions(alloc, page, &actions)?,
@@ -159,37 +168,60 @@ fn update_of(alloc: Global, body: &[u8]) -> Result<Update, Trouble> {
     }
 }
 
-/// Sends an UPDATE, and again where allocation failed: the octets behind one that stays, and the actions, or why it isn't sent.
+/// Sends an UPDATE, and again where allocation failed.
+fn send_again(
+    alloc: Global,
+    session: &Session,
+    update: &Update,
+    out: &mut Vec<u8>,
+    page: &mut Page,
+) -> Result<Result<Actions, SendFault>, Trouble> {
+    match session.send(alloc, update, out) {
+        Err(SendFault::Memory) if out.len() != 1 => page.put(CHANGED)?,
+        Err(SendFault::Memory) => {}
+        answer => return Ok(answer),
+    }
+    Ok(session.send(alloc, update, out))
+}
+
+/// Adds that an UPDATE is sent: its octets, and the actions.
+fn put_sent(
+    alloc: Global,
+    page: &mut Page,
+    octets: &[u8],
+    actions: &Actions,
+) -> Result<(), Trouble> {
+    page.put("sends ")?;
+    page.put_digits(alloc, octets)?;
+    page.put("\n")?;
+    put_actions(alloc, page, actions)
+}
+
+/// Adds why an UPDATE isn't sent.
+fn put_unsent(
+    alloc: Global,
+    page: &mut Page,
+    octets: &[u8],
+    fault: SendFault,
+) -> Result<(), Trouble> {
+    page.put("refuses ")?;
+    page.put_name(alloc, &fault)?;
+    page.put(if octets.is_empty() {
+        "\n"
+    } else {
+        " and appends octets\n"
+    })
+}
+
+/// Adds what comes of sending an UPDATE: the octets behind one that stays, and the actions, or why it isn't sent.
 fn send(alloc: Global, session: &Session, body: &[u8], page: &mut Page) -> Result<(), Trouble> {
     let update = update_of(alloc, body)?;
-    let mut out = match Vec::from_slice(alloc, &[7]) {
-        Err(_) => Vec::from_slice(alloc, &[7])?,
-        Ok(out) => out,
-    };
-    let mut answer = session.send(alloc, &update, &mut out);
-    if let Err(SendFault::Memory) = answer {
-        if out.len() != 1 {
-            page.put(CHANGED)?;
-        }
-        answer = session.send(alloc, &update, &mut out);
-    }
-    let (_first, octets) = out.as_slice().split_at(1.min(out.len()));
+    let mut out = Vec::from_slice(alloc, &[7])?;
+    let answer = send_again(alloc, session, &update, &mut out, page)?;
+    let octets = out.as_slice().get(1..).unwrap_or(&[]);
     match answer {
-        Ok(actions) => {
-            page.put("sends ")?;
-            page.put_digits(alloc, octets)?;
-            page.put("\n")?;
-            put_actions(alloc, page, &actions)
-        }
-        Err(fault) => {
-            page.put("refuses ")?;
-            page.put_name(alloc, &fault)?;
-            page.put(if octets.is_empty() {
-                "\n"
-            } else {
-                " and appends octets\n"
-            })
-        }
+        Ok(actions) => put_sent(alloc, page, octets, &actions),
+        Err(fault) => put_unsent(alloc, page, octets, fault),
     }
 }
 

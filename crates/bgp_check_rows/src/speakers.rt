@@ -2,7 +2,7 @@
 
 use crate::scripts::config_of;
 use bgp_msg::Message;
-use bgp_open::{Context, Open, agree, own_frame, own_open};
+use bgp_open::{Config, Context, Open, agree, own_frame, own_open};
 use bgp_rows::octets::{Octets, add_given};
 use bgp_rows::page::Page;
 use bgp_rows::row::Row;
@@ -39,6 +39,39 @@ fn open_of(alloc: Global, octets: &[u8]) -> Result<Open, Trouble> {
     }
 }
 
+/// Adds what a speaker says.
+fn put_said(alloc: Global, page: &mut Page, config: &Config) -> Result<(), Trouble> {
+    let frame = own_frame(config);
+    page.put("says ")?;
+    page.put_digits(alloc, frame.as_slice())?;
+    page.put("\n")?;
+    let own = own_open(alloc, config)?;
+    if own != open_of(alloc, frame.as_slice())? {
+        page.put("the OPEN that it says isn't its own\n")?;
+    }
+    Ok(())
+}
+
+/// Adds what comes of a peer's OPEN.
+fn put_answer(
+    alloc: Global,
+    page: &mut Page,
+    config: &Config,
+    octets: &[u8],
+) -> Result<(), Trouble> {
+    match agree(config, &open_of(alloc, octets)?) {
+        Ok(ctx) => {
+            page.put("agrees ")?;
+            put_context(alloc, page, &ctx)?;
+        }
+        Err(fault) => {
+            page.put("answers ")?;
+            page.put_notification(alloc, &fault.notification())?;
+        }
+    }
+    page.put("\n")
+}
+
 /// What a speaker says, and what comes of a peer's OPEN.
 pub(crate) fn put_speaker(alloc: Global, row: &Row<'_>) -> Result<Page, Trouble> {
     let config = match config_of(alloc, row.settings) {
@@ -48,27 +81,7 @@ pub(crate) fn put_speaker(alloc: Global, row: &Row<'_>) -> Result<Page, Trouble>
     let mut octets = Octets::new();
     add_given(row, &mut octets)?;
     let mut page = Page::new(alloc);
-    page.put("says ")?;
-    let frame = own_frame(&config);
-    page.put_digits(alloc, frame.as_slice())?;
-    page.put("\n")?;
-    let own = match own_open(alloc, &config) {
-        Err(_) => own_open(alloc, &config)?,
-        Ok(own) => own,
-    };
-    if own != open_of(alloc, frame.as_slice())? {
-        page.put("the OPEN that it says isn't its own\n")?;
-    }
-    match agree(&config, &open_of(alloc, octets.as_slice())?) {
-        Ok(ctx) => {
-            page.put("agrees ")?;
-            put_context(alloc, &mut page, &ctx)?;
-        }
-        Err(fault) => {
-            page.put("answers ")?;
-            page.put_notification(alloc, &fault.notification())?;
-        }
-    }
-    page.put("\n")?;
+    put_said(alloc, &mut page, &config)?;
+    put_answer(alloc, &mut page, &config, octets.as_slice())?;
     Ok(page)
 }

@@ -27,12 +27,9 @@ fn timer_name(timer: Timer) -> &'static str {
 
 /// Adds the routes that are withdrawn, behind the line of the action.
 fn put_routes(alloc: Global, page: &mut Page, routes: &Routes) -> Result<(), Trouble> {
-    let routes = match routes.copy(alloc) {
-        Err(_) => routes.copy(alloc)?,
-        Ok(routes) => routes,
-    };
+    let outcome = Outcome::Withdraw(routes.copy(alloc)?, List::new(alloc));
     let mut lines = Page::new(alloc);
-    lines.put_outcome(alloc, 0, &Outcome::Withdraw(routes, List::new(alloc)))?;
+    lines.put_outcome(alloc, 0, &outcome)?;
     let (_head, lines) = lines.text.as_str().split_once('\n').unwrap_or(("", ""));
     page.put(lines)
 }
@@ -66,11 +63,7 @@ fn put_action(alloc: Global, page: &mut Page, action: &Action) -> Result<(), Tro
             page.put("announce\n")?;
             page.put_update(alloc, update)?;
             page.put("by way of\n")?;
-            let info = match info.copy(alloc) {
-                Err(_) => info.copy(alloc)?,
-                Ok(info) => info,
-            };
-            put_path(alloc, page, info)
+            put_path(alloc, page, info.copy(alloc)?)
         }
         Action::Withdraw(routes) => {
             page.put("withdraw\n")?;

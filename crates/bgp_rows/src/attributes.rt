@@ -2,7 +2,7 @@
 
 use crate::page::Page;
 use crate::trouble::Trouble;
-use bgp_attr::{Attr, Judged, Opaque, Tail, Tlv, TlvIter, judge, judge_view};
+use bgp_attr::{Attr, Judged, JudgedView, Opaque, Tail, Tlv, TlvIter, judge, judge_view};
 use bgp_open::Context;
 use bgp_update::{Attrs, Update};
 use bgp_wire::List;
@@ -42,14 +42,11 @@ fn is_partial(attr: &Attr) -> bool {
     }
 }
 
-/// A vector of one attribute.
-fn vec_of(alloc: Global, value: Opaque) -> Result<Vec<Opaque>, AllocError> {
-    let mut others = match Vec::with_capacity(alloc, 1) {
-        Err(_) => Vec::with_capacity(alloc, 1)?,
-        Ok(others) => others,
-    };
+/// A list of one attribute.
+fn list_of(alloc: Global, value: Opaque) -> Result<List<Opaque>, AllocError> {
+    let mut others = Vec::with_capacity(alloc, 1)?;
     others.push(value)?;
-    Ok(others)
+    Ok(List::from_vec(others))
 }
 
 /// The attributes of one attribute.
@@ -69,7 +66,7 @@ fn attrs_of(alloc: Global, attr: Attr) -> Result<Attrs, Trouble> {
         Attr::As4Path(value) => attrs.as4_path = Some(value),
         Attr::As4Aggregator(value) => attrs.as4_aggregator = Some(value),
         Attr::Large(value) => attrs.large = Some(value),
-        Attr::Opaque(value) => attrs.others = List::from_vec(vec_of(alloc, value)?),
+        Attr::Opaque(value) => attrs.others = list_of(alloc, value)?,
     }
     Ok(attrs)
 }
@@ -109,6 +106,29 @@ fn put_judged(alloc: Global, page: &mut Page, judged: Judged) -> Result<(), Trou
     page.put("\n")
 }
 
+/// Adds what an attribute comes to as a view, where that isn't what it comes to.
+fn put_otherwise(
+    alloc: Global,
+    page: &mut Page,
+    judged: &Judged,
+    view: &JudgedView<'_>,
+) -> Result<(), Trouble> {
+    let viewed = view.own(alloc)?;
+    if *judged == viewed {
+        return Ok(());
+    }
+    page.put("otherwise as a view: ")?;
+    put_judged(alloc, page, viewed)
+}
+
+/// Adds an attribute's place and its type.
+fn put_place(alloc: Global, page: &mut Page, tlv: &Tlv<'_>) -> Result<(), Trouble> {
+    page.put_value(alloc, &tlv.at)?;
+    page.put(" ")?;
+    page.put_value(alloc, &tlv.kind)?;
+    page.put(" ")
+}
+
 /// Adds what an attribute comes to, behind its place and type; the view and the owned value have to agree.
 fn put_attribute(
     alloc: Global,
@@ -120,23 +140,9 @@ fn put_attribute(
     if tlv.whole.len() > 4075 {
         return Err(TOO_LONG);
     }
-    page.put_value(alloc, &tlv.at)?;
-    page.put(" ")?;
-    page.put_value(alloc, &tlv.kind)?;
-    page.put(" ")?;
-    let judged = match judge(alloc, ctx, has_nlri, tlv) {
-        Err(_) => judge(alloc, ctx, has_nlri, tlv)?,
-        Ok(judged) => judged,
-    };
-    let view = judge_view(ctx, has_nlri, tlv);
-    let viewed = match view.own(alloc) {
-        Err(_) => view.own(alloc)?,
-        Ok(viewed) => viewed,
-    };
-    if judged != viewed {
-        page.put("otherwise as a view: ")?;
-        put_judged(alloc, page, viewed)?;
-    }
+    put_place(alloc, page, tlv)?;
+    let judged = judge(alloc, ctx, has_nlri, tlv)?;
+    put_otherwise(alloc, page, &judged, &judge_view(ctx, has_nlri, tlv))?;
     put_judged(alloc, page, judged)
 }
 

@@ -3,10 +3,10 @@
 use crate::engines::put_shown;
 use crate::page::Page;
 use crate::trouble::Trouble;
-use bgp_msg::{Decoder, End, Look, Outcome, OutcomeView, Seen, decode_all};
+use bgp_msg::{Decoder, End, Look, Outcome, Seen, decode_all};
 use bgp_open::Context;
 use bgp_update::UpdateView;
-use std::alloc::{AllocError, Global};
+use std::alloc::Global;
 
 /// What a refused call of a decoder left otherwise than it was.
 const CHANGED: &str = "a decoder that lacked memory isn't as it was\n";
@@ -16,17 +16,13 @@ fn put_seen(alloc: Global, page: &mut Page, seen: &Seen) -> Result<(), Trouble> 
     for (len, outcome) in seen.outs.iter() {
         page.put_outcome(alloc, *len, outcome)?;
     }
-    page.put_end(alloc, seen.end)
+    page.put_end(seen.end)
 }
 
 /// The stream handed over in one piece.
 fn whole(alloc: Global, ctx: &Context, stream: &[u8]) -> Result<Page, Trouble> {
     let mut page = Page::new(alloc);
-    let seen = match decode_all(alloc, ctx, &[stream]) {
-        Err(_) => decode_all(alloc, ctx, &[stream])?,
-        Ok(seen) => seen,
-    };
-    put_seen(alloc, &mut page, &seen)?;
+    put_seen(alloc, &mut page, &decode_all(alloc, ctx, &[stream])?)?;
     Ok(page)
 }
 
@@ -39,28 +35,33 @@ fn end_of(decoder: &Decoder, last: Option<u16>) -> End {
     }
 }
 
-/// Adds what is held comes to, where it is whole.
-fn put_next(
+/// What a call that lacks memory has to leave as it was.
+fn standing(decoder: &Decoder) -> (usize, bool) {
+    (decoder.held(), decoder.stopped())
+}
+
+/// What is held comes to, and again where allocation failed.
+fn next_again(
     alloc: Global,
     decoder: &mut Decoder,
     page: &mut Page,
-    last: &mut Option<u16>,
-) -> Result<(), Trouble> {
-    let before = (decoder.held(), decoder.stopped());
-    let found = match decoder.next(alloc) {
-        Err(_) => {
-            if (decoder.held(), decoder.stopped()) != before {
-                page.put(CHANGED)?;
-            }
-            decoder.next(alloc)?
-        }
-        Ok(found) => found,
-    };
-    if let Some((len, outcome)) = found {
-        *last = Some(len);
-        page.put_outcome(alloc, len, &outcome)?;
+) -> Result<Option<(u16, Outcome)>, Trouble> {
+    let before = standing(decoder);
+    match decoder.next(alloc) {
+        Ok(found) => return Ok(found),
+        Err(_) if standing(decoder) != before => page.put(CHANGED)?,
+        Err(_) => {}
     }
-    Ok(())
+    Ok(decoder.next(alloc)?)
+}
+
+/// Adds what is held comes to, where it is whole: how many octets it has.
+fn put_next(alloc: Global, decoder: &mut Decoder, page: &mut Page) -> Result<Option<u16>, Trouble> {
+    let Some((len, outcome)) = next_again(alloc, decoder, page)? else {
+        return Ok(None);
+    };
+    page.put_outcome(alloc, len, &outcome)?;
+    Ok(Some(len))
 }
 
 /// The stream octet by octet, by `feed` and `next`: an octet that isn't taken stands behind a message.
@@ -70,48 +71,47 @@ fn by_octets(alloc: Global, ctx: &Context, stream: &[u8]) -> Result<Page, Troubl
     let mut last = None;
     for octet in stream {
         if decoder.feed(&[*octet]) == 0 {
-            put_next(alloc, &mut decoder, &mut page, &mut last)?;
+            last = put_next(alloc, &mut decoder, &mut page)?.or(last);
             let _taken = decoder.feed(&[*octet]);
         }
     }
-    put_next(alloc, &mut decoder, &mut page, &mut last)?;
-    page.put_end(alloc, end_of(&decoder, last))?;
+    last = put_next(alloc, &mut decoder, &mut page)?.or(last);
+    page.put_end(end_of(&decoder, last))?;
     Ok(page)
 }
 
 /// What one call answers: how many octets of the piece it took, and those of the message that it gave, where it gave one.
 type Taken = (usize, Option<u16>);
 
-/// Adds what one pull gives. It is made again where it lacked memory.
+/// What one pull gives, and again where allocation failed.
+fn pull_again(
+    alloc: Global,
+    decoder: &mut Decoder,
+    piece: &[u8],
+    page: &mut Page,
+) -> Result<(usize, Option<(u16, Outcome)>), Trouble> {
+    let before = standing(decoder);
+    match decoder.pull(alloc, piece) {
+        Ok(pulled) => return Ok(pulled),
+        Err(_) if standing(decoder) != before => page.put(CHANGED)?,
+        Err(_) => {}
+    }
+    Ok(decoder.pull(alloc, piece)?)
+}
+
+/// Adds what one pull gives.
 fn put_pulled(
     alloc: Global,
     decoder: &mut Decoder,
     piece: &[u8],
     page: &mut Page,
 ) -> Result<Taken, Trouble> {
-    let before = (decoder.held(), decoder.stopped());
-    let (taken, found) = match decoder.pull(alloc, piece) {
-        Err(_) => {
-            if (decoder.held(), decoder.stopped()) != before {
-                page.put(CHANGED)?;
-            }
-            decoder.pull(alloc, piece)?
-        }
-        Ok(pulled) => pulled,
-    };
+    let (taken, found) = pull_again(alloc, decoder, piece, page)?;
     let Some((len, outcome)) = found else {
         return Ok((taken, None));
     };
     page.put_outcome(alloc, len, &outcome)?;
     Ok((taken, Some(len)))
-}
-
-/// The value of a view.
-fn own_again(alloc: Global, view: &OutcomeView<'_>) -> Result<Outcome, AllocError> {
-    match view.own(alloc) {
-        Err(_) => view.own(alloc),
-        Ok(outcome) => Ok(outcome),
-    }
 }
 
 /// Adds what a look finds, as a view. Answers how many octets it takes, how many its message has, and whether it is a reset.
@@ -124,7 +124,7 @@ fn put_found(
     let mut place = UpdateView::empty();
     match decoder.look(piece, &mut place) {
         Look::Message(taken, len, view) => {
-            page.put_outcome(alloc, len, &own_again(alloc, &view)?)?;
+            page.put_outcome(alloc, len, &view.own(alloc)?)?;
             Ok(Some((taken, len, view.is_reset())))
         }
         Look::Fault(taken, fault) => {
@@ -149,24 +149,34 @@ fn put_looked(
     Ok((taken, Some(len)))
 }
 
-/// The stream in pieces of so many octets: by `pull`, or as views by `look` and `go`.
+/// How a stream is read in pieces.
+#[derive(Clone, Copy)]
+enum Call {
+    Pull,
+    /// As views, by `look` and `go`.
+    Look,
+}
+
+/// The stream in pieces of so many octets, all in one for 0.
 fn in_pieces(
     alloc: Global,
     ctx: &Context,
     stream: &[u8],
     size: usize,
-    as_views: bool,
+    call: Call,
 ) -> Result<Page, Trouble> {
     let mut page = Page::new(alloc);
     let mut decoder = Decoder::new(*ctx);
     let mut last = None;
     let mut rest = stream;
     for _ in 0..u16::MAX {
-        let piece = rest.get(..size).unwrap_or(rest);
-        let (taken, found) = if as_views {
-            put_looked(alloc, &mut decoder, piece, &mut page)?
-        } else {
-            put_pulled(alloc, &mut decoder, piece, &mut page)?
+        let piece = match size {
+            0 => rest,
+            _ => rest.get(..size).unwrap_or(rest),
+        };
+        let (taken, found) = match call {
+            Call::Pull => put_pulled(alloc, &mut decoder, piece, &mut page)?,
+            Call::Look => put_looked(alloc, &mut decoder, piece, &mut page)?,
         };
         rest = rest.get(taken..).unwrap_or(&[]);
         match found {
@@ -175,7 +185,7 @@ fn in_pieces(
             None => {}
         }
     }
-    page.put_end(alloc, end_of(&decoder, last))?;
+    page.put_end(end_of(&decoder, last))?;
     Ok(page)
 }
 
@@ -188,28 +198,36 @@ fn compare(page: &mut Page, way: &str, other: &Page) -> Result<(), Trouble> {
     Ok(())
 }
 
-/// What a stream comes to, and what `show` writes of it from a reader that gives one octet or all at once.
-pub fn put_messages(alloc: Global, ctx: &Context, stream: &[u8]) -> Result<Page, Trouble> {
-    let mut page = put_ways(alloc, ctx, stream)?;
-    let shown = put_shown(alloc, ctx, stream, 4096)?;
-    let shown_by_octets = put_shown(alloc, ctx, stream, 1)?;
-    compare(&mut page, "by show:\n", &shown)?;
-    compare(&mut page, "by show, octet by octet:\n", &shown_by_octets)?;
-    Ok(page)
-}
+/// The ways to read a stream in pieces: each with what it is called, the call, and how many octets a piece has.
+const WAYS: [(&str, Call, usize); 4] = [
+    ("by pull:\n", Call::Pull, 0),
+    ("by pull, in pieces of 20:\n", Call::Pull, 20),
+    ("as views:\n", Call::Look, 0),
+    ("as views, in pieces of 20:\n", Call::Look, 20),
+];
+
+/// The ways to show a stream: each with what it is called, and how many octets its reader gives at a time.
+const SHOWN: [(&str, usize); 2] = [("by show:\n", 4096), ("by show, octet by octet:\n", 1)];
 
 /// What a stream comes to, all ways that the library reads it: where one differs, its lines are added under its name.
 pub fn put_ways(alloc: Global, ctx: &Context, stream: &[u8]) -> Result<Page, Trouble> {
     let mut page = whole(alloc, ctx, stream)?;
-    let octets = by_octets(alloc, ctx, stream)?;
-    let pulled = in_pieces(alloc, ctx, stream, stream.len(), false)?;
-    let pulled_in_pieces = in_pieces(alloc, ctx, stream, 20, false)?;
-    let viewed = in_pieces(alloc, ctx, stream, stream.len(), true)?;
-    let viewed_in_pieces = in_pieces(alloc, ctx, stream, 20, true)?;
-    compare(&mut page, "octet by octet:\n", &octets)?;
-    compare(&mut page, "by pull:\n", &pulled)?;
-    compare(&mut page, "by pull, in pieces of 20:\n", &pulled_in_pieces)?;
-    compare(&mut page, "as views:\n", &viewed)?;
-    compare(&mut page, "as views, in pieces of 20:\n", &viewed_in_pieces)?;
+    compare(
+        &mut page,
+        "octet by octet:\n",
+        &by_octets(alloc, ctx, stream)?,
+    )?;
+    for (way, call, size) in WAYS {
+        compare(&mut page, way, &in_pieces(alloc, ctx, stream, size, call)?)?;
+    }
+    Ok(page)
+}
+
+/// What a stream comes to, and what `show` writes of it.
+pub fn put_messages(alloc: Global, ctx: &Context, stream: &[u8]) -> Result<Page, Trouble> {
+    let mut page = put_ways(alloc, ctx, stream)?;
+    for (way, step) in SHOWN {
+        compare(&mut page, way, &put_shown(alloc, ctx, stream, step)?)?;
+    }
     Ok(page)
 }

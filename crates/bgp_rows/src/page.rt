@@ -9,7 +9,7 @@ use bgp_wire::List;
 use std::alloc::{AllocError, Global};
 use std::fmt::{Debug, Display};
 
-/// The lines that came, and the place in the stream that they have reached. A line that meets a failed allocation is made again.
+/// The lines that came, and the place in the stream that they have reached.
 #[derive(Drop)]
 pub struct Page {
     pub text: String,
@@ -25,13 +25,6 @@ fn outcome_lines(
 ) -> Result<String, AllocError> {
     let mut text = String::new(alloc);
     put_outcome(alloc, &mut text, place, len, outcome)?;
-    Ok(text)
-}
-
-/// The line of a stream's end.
-fn end_lines(alloc: Global, end: End) -> Result<String, AllocError> {
-    let mut text = String::new(alloc);
-    put_end(&mut text, end)?;
     Ok(text)
 }
 
@@ -58,10 +51,7 @@ impl Page {
 
     /// Adds text.
     pub fn put(&mut self, text: &str) -> Result<(), Trouble> {
-        if self.text.push_str(text).is_err() {
-            self.text.push_str(text)?;
-        }
-        Ok(())
+        Ok(self.text.push_str(text)?)
     }
 
     /// Adds the lines of an outcome of so many octets.
@@ -71,65 +61,43 @@ impl Page {
         len: u16,
         outcome: &Outcome,
     ) -> Result<(), Trouble> {
-        let lines = match outcome_lines(alloc, self.place, len, outcome) {
-            Err(_) => outcome_lines(alloc, self.place, len, outcome)?,
-            Ok(lines) => lines,
-        };
+        let lines = outcome_lines(alloc, self.place, len, outcome)?;
         self.place = self.place.saturating_add(u64::from(len));
         self.put(lines.as_str())
     }
 
     /// Adds the line of a stream's end.
-    pub fn put_end(&mut self, alloc: Global, end: End) -> Result<(), Trouble> {
-        let lines = match end_lines(alloc, end) {
-            Err(_) => end_lines(alloc, end)?,
-            Ok(lines) => lines,
-        };
-        self.put(lines.as_str())
+    pub fn put_end(&mut self, end: End) -> Result<(), Trouble> {
+        Ok(put_end(&mut self.text, end)?)
     }
 
     /// Adds the lines of what an UPDATE says.
     pub fn put_update(&mut self, alloc: Global, update: &Update) -> Result<(), Trouble> {
-        let lines = match update_lines(alloc, update) {
-            Err(_) => update_lines(alloc, update)?,
-            Ok(lines) => lines,
-        };
+        let lines = update_lines(alloc, update)?;
         self.put(lines.as_str())
     }
 
     /// Adds octets as digits, and `-` where there are none.
     pub fn put_digits(&mut self, alloc: Global, octets: &[u8]) -> Result<(), Trouble> {
-        let digits = match bgp_text::info_text(alloc, octets) {
-            Err(_) => bgp_text::info_text(alloc, octets)?,
-            Ok(digits) => digits,
-        };
+        let digits = bgp_text::info_text(alloc, octets)?;
         self.put(digits.as_str())
     }
 
     /// Adds a notification as `CODE/SUBCODE INFO`.
     pub fn put_notification(&mut self, alloc: Global, told: &Notification) -> Result<(), Trouble> {
-        let text = match bgp_text::notification_text(alloc, told) {
-            Err(_) => bgp_text::notification_text(alloc, told)?,
-            Ok(text) => text,
-        };
+        let text = bgp_text::notification_text(alloc, told)?;
         self.put(text.as_str())
     }
 
     /// Adds what a value prints.
     pub fn put_value<T: Display>(&mut self, alloc: Global, value: &T) -> Result<(), Trouble> {
-        let text = match value.to_string(alloc) {
-            Err(_) => value.to_string(alloc)?,
-            Ok(text) => text,
-        };
+        let text = value.to_string(alloc)?;
         self.put(text.as_str())
     }
 
     /// Adds a value's name, as `Debug` prints it.
     pub fn put_name<T: Debug>(&mut self, alloc: Global, value: &T) -> Result<(), Trouble> {
-        let text = match name_of(alloc, value) {
-            Err(_) => name_of(alloc, value)?,
-            Ok(text) => text,
-        };
+        let text = name_of(alloc, value)?;
         self.put(text.as_str())
     }
 }

@@ -32,26 +32,23 @@ fn viewed_info(alloc: Global, ctx: &Context, stream: &[u8]) -> Result<PathInfo, 
     let Look::Message(_, _, OutcomeView::Update(view)) = decoder.look(stream, &mut place) else {
         return Err(AN_UPDATE);
     };
-    let info = view.path_info();
-    let owned = match info.own(alloc) {
-        Err(_) => info.own(alloc)?,
-        Ok(owned) => owned,
-    };
-    Ok(owned)
+    Ok(view.path_info().own(alloc)?)
+}
+
+/// What the UPDATE as a value gives.
+fn owned_info(alloc: Global, ctx: &Context, stream: &[u8]) -> Result<PathInfo, Trouble> {
+    match message_of(alloc, ctx, stream)? {
+        Message::Update(update) => Ok(reconcile(alloc, &update.attrs)?),
+        _ => Err(AN_UPDATE),
+    }
 }
 
 /// What the attributes of an UPDATE give; the view and the owned value have to agree.
 pub fn put_paths(alloc: Global, ctx: &Context, stream: &[u8]) -> Result<Page, Trouble> {
-    let Message::Update(update) = message_of(alloc, ctx, stream)? else {
-        return Err(AN_UPDATE);
-    };
+    let info = owned_info(alloc, ctx, stream)?;
+    let viewed = viewed_info(alloc, ctx, stream)?;
     let mut page = Page::new(alloc);
     page.put("path\n")?;
-    let info = match reconcile(alloc, &update.attrs) {
-        Err(_) => reconcile(alloc, &update.attrs)?,
-        Ok(info) => info,
-    };
-    let viewed = viewed_info(alloc, ctx, stream)?;
     if info != viewed {
         page.put("otherwise as a view:\n")?;
         put_path(alloc, &mut page, viewed)?;

@@ -7,7 +7,7 @@ use std::alloc::AllocError;
 pub enum Trouble {
     /// The row isn't written as rows are: what is wrong with it.
     Row(&'static str),
-    /// Allocation failed twice.
+    /// Allocation failed.
     Memory,
 }
 

@@ -47,10 +47,7 @@ fn put_refusal(alloc: Global, page: &mut Page, fault: WriteFault) -> Result<(), 
 /// The octets that a message is written as, behind an octet that stays, or why it isn't.
 fn write_message(alloc: Global, ctx: &Context, message: &Message) -> Result<Page, Trouble> {
     let mut page = Page::new(alloc);
-    let mut out = match Vec::from_slice(alloc, &[7]) {
-        Err(_) => Vec::from_slice(alloc, &[7])?,
-        Ok(out) => out,
-    };
+    let mut out = Vec::from_slice(alloc, &[7])?;
     match encode_again(&mut page, ctx, message, &mut out)? {
         Ok(()) => {
             let (_first, octets) = out.as_slice().split_at(1.min(out.len()));
@@ -69,10 +66,7 @@ fn write_message(alloc: Global, ctx: &Context, message: &Message) -> Result<Page
 
 /// The first message of a stream, which is taken.
 pub fn message_of(alloc: Global, ctx: &Context, stream: &[u8]) -> Result<Message, Trouble> {
-    let seen = match decode_all(alloc, ctx, &[stream]) {
-        Err(_) => decode_all(alloc, ctx, &[stream])?,
-        Ok(seen) => seen,
-    };
+    let seen = decode_all(alloc, ctx, &[stream])?;
     for (_len, outcome) in seen.outs.into_vec() {
         if let Outcome::Took(message, _notes) = outcome {
             return Ok(message);

@@ -4,71 +4,85 @@ use crate::help::HELP;
 use clap::{Arg, ArgAction, Command};
 use std::alloc::{AllocError, Global};
 
-// A flag without a value.
-fn flag<'a>(alloc: Global, name: &'a str, help: &'a str) -> Arg<'a> {
-    Arg::new(alloc, name)
-        .long(name)
-        .help(help)
-        .action(ArgAction::SetTrue)
+/// What stands behind a flag.
+#[derive(Clone, Copy)]
+enum Behind {
+    Nothing,
+    /// A value of this name.
+    Value(&'static str),
+    /// A value of this name, and the flag has to be there.
+    Needed(&'static str),
 }
 
-// A flag with a value.
-fn option<'a>(alloc: Global, name: &'a str, value: &'a str, help: &'a str) -> Arg<'a> {
-    Arg::new(alloc, name)
-        .long(name)
-        .value_name(value)
-        .help(help)
+/// The flags, with what stands behind them, and their help.
+const FLAGS: [(&str, Behind, &str); 12] = [
+    (
+        "local-as",
+        Behind::Needed("AS"),
+        "The speaker's own AS number",
+    ),
+    ("peer-as", Behind::Needed("AS"), "The peer's AS number"),
+    (
+        "id",
+        Behind::Needed("ID"),
+        "The BGP Identifier, as 192.0.2.1",
+    ),
+    (
+        "hold",
+        Behind::Value("SECONDS"),
+        "The Hold Time; 90 where nothing is said",
+    ),
+    ("as4", Behind::Nothing, "Offer AS numbers of four octets"),
+    ("ip4", Behind::Nothing, "Offer IPv4 unicast"),
+    ("ip6", Behind::Nothing, "Offer IPv6 unicast"),
+    (
+        "listen",
+        Behind::Nothing,
+        "Wait for the peer at ADDRESS, and don't connect",
+    ),
+    (
+        "send",
+        Behind::Value("FILE"),
+        "Send the UPDATEs of this file",
+    ),
+    (
+        "messages",
+        Behind::Value("N"),
+        "End after so many messages of the peer",
+    ),
+    ("seconds", Behind::Value("N"), "End after so many seconds"),
+    ("json", Behind::Nothing, "Print objects of JSON"),
+];
+
+// A flag of that list.
+fn flag<'a>(alloc: Global, name: &'a str, behind: Behind, help: &'a str) -> Arg<'a> {
+    let flag = Arg::new(alloc, name).long(name).help(help);
+    match behind {
+        Behind::Nothing => flag.action(ArgAction::SetTrue),
+        Behind::Value(value) => flag.value_name(value),
+        Behind::Needed(value) => flag.value_name(value).required(true),
+    }
 }
 
-// The command with what every session needs.
-fn needed<'a>(alloc: Global) -> Result<Command<'a>, AllocError> {
+// The command without its flags.
+fn bare<'a>(alloc: Global) -> Result<Command<'a>, AllocError> {
     let address = Arg::new(alloc, "ADDRESS")
         .required(true)
         .help("Where the peer listens, as 127.0.0.1:179");
-    let local = option(alloc, "local-as", "AS", "The speaker's own AS number");
-    let peer = option(alloc, "peer-as", "AS", "The peer's AS number");
-    let id = option(alloc, "id", "ID", "The BGP Identifier, as 192.0.2.1");
     Command::new(alloc, "bgp_speaker")
         .about("Speak BGP-4 with one peer, and print what it says")
         .after_help(HELP)
-        .bin_name("bgp_speaker")?
         .version("0.1.0")
         .no_binary_name(true)
         .arg(address)?
-        .arg(local.required(true))?
-        .arg(peer.required(true))?
-        .arg(id.required(true))
-}
-
-// What the speaker offers.
-fn offering<'a>(alloc: Global, command: Command<'a>) -> Result<Command<'a>, AllocError> {
-    command
-        .arg(option(
-            alloc,
-            "hold",
-            "SECONDS",
-            "The Hold Time; 90 where nothing is said",
-        ))?
-        .arg(flag(alloc, "as4", "Offer AS numbers of four octets"))?
-        .arg(flag(alloc, "ip4", "Offer IPv4 unicast"))?
-        .arg(flag(alloc, "ip6", "Offer IPv6 unicast"))
+        .bin_name("bgp_speaker")
 }
 
 /// The whole command line.
 pub(crate) fn speaker<'a>(alloc: Global) -> Result<Command<'a>, AllocError> {
-    offering(alloc, needed(alloc)?)?
-        .arg(flag(
-            alloc,
-            "listen",
-            "Wait for the peer at ADDRESS, and don't connect",
-        ))?
-        .arg(option(alloc, "send", "FILE", "Send the UPDATEs of this file"))?
-        .arg(option(
-            alloc,
-            "messages",
-            "N",
-            "End after so many messages of the peer",
-        ))?
-        .arg(option(alloc, "seconds", "N", "End after so many seconds"))?
-        .arg(flag(alloc, "json", "Print objects of JSON"))
+    let mut command = bare(alloc)?;
+    for (name, behind, help) in FLAGS {
+        command = command.arg(flag(alloc, name, behind, help))?;
+    }
+    Ok(command)
 }

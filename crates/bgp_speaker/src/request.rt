@@ -92,16 +92,21 @@ fn config(alloc: Global, found: &ArgMatches<'_>) -> Result<Config, Error> {
     }
 }
 
-/// What the words, which stand without the program's name, ask for.
-pub(crate) fn parse<'a>(alloc: Global, words: &'a [&'a str]) -> Result<Request<'a>, Error> {
-    let found = speaker(alloc)?.try_get_matches_from(words)?;
+// What the arguments ask for.
+fn asked<'a>(alloc: Global, found: &ArgMatches<'a>) -> Result<Request<'a>, Error> {
     Ok(Request {
-        config: config(alloc, &found)?,
+        config: config(alloc, found)?,
         address: found.get_str("ADDRESS").unwrap_or(""),
         listens: found.get_flag("listen"),
         file: found.get_str("send"),
-        messages: number(alloc, &found, "messages", u64::MAX)?,
-        seconds: number(alloc, &found, "seconds", u32::MAX as u64)?,
+        messages: number(alloc, found, "messages", u64::MAX)?,
+        seconds: number(alloc, found, "seconds", u32::MAX as u64)?,
         json: found.get_flag("json"),
     })
+}
+
+/// What the words, which stand without the program's name, ask for.
+pub(crate) fn parse<'a>(alloc: Global, words: &'a [&'a str]) -> Result<Request<'a>, Error> {
+    let found = speaker(alloc)?.try_get_matches_from(words)?;
+    asked(alloc, &found)
 }

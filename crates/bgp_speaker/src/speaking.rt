@@ -167,6 +167,18 @@ impl<'a> Conversation<'a> {
         Ok(())
     }
 
+    // Starts the session, and speaks until it has left. Answers the status.
+    fn speak(&mut self) -> io::Result<u8> {
+        self.host.tell(Event::Start);
+        if !is_up(self.host.session().state()) {
+            tell(self.rt, "the peer can't be reached");
+            return Ok(BROKEN);
+        }
+        self.go_on()?;
+        self.voice.ends(self.ear.messages)?;
+        Ok(self.status())
+    }
+
     // The status of the run.
     fn status(&self) -> u8 {
         if self.faulty
@@ -205,14 +217,7 @@ fn run(rt: &HostRuntime, request: &Request<'_>, updates: Vec<Update>) -> io::Res
         messages: request.messages,
         until,
     };
-    run.host.tell(Event::Start);
-    if !is_up(run.host.session().state()) {
-        tell(rt, "the peer can't be reached");
-        return Ok(BROKEN);
-    }
-    run.go_on()?;
-    voice.ends(run.ear.messages)?;
-    Ok(run.status())
+    run.speak()
 }
 
 // The UPDATEs of a file, or the status where it can't be read or has others.
