@@ -386,6 +386,28 @@ def try_late(made, report):
         collector.interrupt(signal.SIGKILL)
 
 
+def try_again(made, report):
+    """A peer that lets go of a connection before its OPEN, as where both sides connect at once and each refuses the other's."""
+    peer = Peer(65001, "127.0.0.2")
+    collector = Collector(made, "-l", OWN, "-p", free_port(), OURS, OWN, peer.name)
+    try:
+        peer.accept()
+        peer.connection.close()
+        peer.accept()
+        peer.come_up()
+        collector.wait_for(f"{peer.name} {peer.up()}")
+        collector.interrupt(signal.SIGTERM)
+        report("a second connection", peer.notified()[0] == CEASE and collector.of(peer.name)[:2] == ["down lost", peer.up()], collector.lines)
+        peer.close()
+        told = collector.end()
+        report("the end of a second connection", told == ("", 0), told)
+    except (AssertionError, OSError) as error:
+        report("a second connection", False, f"{error!r}")
+    finally:
+        collector.interrupt(signal.SIGKILL)
+        peer.close()
+
+
 def has_six():
     try:
         socket.create_server(("::1", 0), family=socket.AF_INET6).close()
@@ -452,6 +474,7 @@ def try_all(made, number, report):
     if has_six():
         try_pair(made, ("::1", "::1"), report)
     try_late(made, report)
+    try_again(made, report)
     if shutil.which("bird"):
         try_bird(made, report)
     try_words(made, report)

@@ -9,7 +9,8 @@
  *     65002@192.0.2.2 down received 6/4
  *
  * It connects to each peer. With an address of its own (-l) it connects from there, and listens there too, at PORT, which is 179. A session
- * that ended is started again after SECONDS, which are 5. An UPDATE that is treated as a withdrawal withdraws all its routes (RFC 7606,
+ * that ended is started again after SECONDS, which are 5, and one that lost its connection before the OPEN came seeks another then: where
+ * both sides connected at once, each had refused the other's. An UPDATE that is treated as a withdrawal withdraws all its routes (RFC 7606,
  * section 2), and with a session all routes of its peer are gone. On a session with AS numbers of two octets a path is printed as it came.
  * `down` tells which NOTIFICATION was sent or received, or that the connection was lost.
  *
@@ -304,7 +305,7 @@ static void settle(struct peer *peer, uint8_t before)
         print_up(peer);
     if (state <= RISTULVA_ACTIVE && before > RISTULVA_ACTIVE)
         printf("%s down %s\n", peer->name, peer->why);
-    if (state == RISTULVA_IDLE && !stopping)
+    if ((state == RISTULVA_IDLE || state == RISTULVA_ACTIVE) && !stopping)
         peer->due[TIMER_AGAIN] = later(pause_seconds, 1);
 }
 
@@ -395,6 +396,8 @@ static void expire(struct peer *peer, int timer)
     peer->due[timer] = NEVER;
     if (timer != TIMER_AGAIN || state == RISTULVA_IDLE)
         happens(peer, events[timer]);
+    else if (state == RISTULVA_ACTIVE)
+        happens(peer, RISTULVA_EVENT_RETRY_EXPIRED);
     else if (state == RISTULVA_CONNECT && peer->connection == NONE)
         seek(peer);
 }
