@@ -29,23 +29,28 @@ impl Owned {
     fn own(&mut self, alloc: Global, outcome: &OutcomeView<'_>) -> Result<(), AllocError> {
         self.messages = self.messages.saturating_add(1);
         match outcome {
-            OutcomeView::Update(view) => self.own_update(alloc, view),
-            OutcomeView::Withdraw(view) => self.own_withdrawn(alloc, view),
+            OutcomeView::Update(view) => {
+                self.own_update(alloc, view)?;
+                own_notes(alloc, view)
+            }
+            OutcomeView::Withdraw(view) => {
+                self.own_withdrawn(alloc, view)?;
+                own_notes(alloc, view)
+            }
             _ => Ok(()),
         }
     }
 
-    /// Owns an UPDATE, and then its notes.
     fn own_update(&mut self, alloc: Global, view: &UpdateView<'_>) -> Result<(), AllocError> {
-        self.add_routes(view.own(alloc)?.nlri.len());
-        let _notes = view.own_notes(alloc)?;
+        let update = view.own(alloc)?;
+        self.add_routes(update.nlri.len());
         Ok(())
     }
 
-    /// Owns the routes that are withdrawn, and then the notes.
+    /// Owns the routes that are withdrawn.
     fn own_withdrawn(&mut self, alloc: Global, view: &UpdateView<'_>) -> Result<(), AllocError> {
-        self.add_routes(view.routes(alloc)?.ip4.len());
-        let _notes = view.own_notes(alloc)?;
+        let routes = view.routes(alloc)?;
+        self.add_routes(routes.ip4.len());
         Ok(())
     }
 
@@ -85,6 +90,11 @@ impl Owned {
             },
         }
     }
+}
+
+fn own_notes(alloc: Global, view: &UpdateView<'_>) -> Result<(), AllocError> {
+    let _notes = view.own_notes(alloc)?;
+    Ok(())
 }
 
 /// Owns the messages of a piece.

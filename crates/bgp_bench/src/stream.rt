@@ -30,11 +30,10 @@ fn decode_next<S: See>(
     seer: &mut S,
 ) -> Result<Option<usize>, AllocError> {
     let (taken, found) = decoder.pull(alloc, piece)?;
-    match &found {
-        Some((len, outcome)) => seer.see(alloc, *len, outcome)?,
-        None if taken == 0 => return Ok(None),
-        None => {}
-    }
+    let Some((len, outcome)) = found else {
+        return Ok(if taken == 0 { None } else { Some(taken) });
+    };
+    seer.see(alloc, len, &outcome)?;
     Ok(Some(taken))
 }
 

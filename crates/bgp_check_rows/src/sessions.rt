@@ -214,15 +214,25 @@ fn put_unsent(
 }
 
 /// Adds what comes of sending an UPDATE: the octets behind one that stays, and the actions, or why it isn't sent.
-fn send(alloc: Global, session: &Session, body: &[u8], page: &mut Page) -> Result<(), Trouble> {
-    let update = update_of(alloc, body)?;
+fn send_update(
+    alloc: Global,
+    session: &Session,
+    update: &Update,
+    page: &mut Page,
+) -> Result<(), Trouble> {
     let mut out = Vec::from_slice(alloc, &[7])?;
-    let answer = send_again(alloc, session, &update, &mut out, page)?;
+    let answer = send_again(alloc, session, update, &mut out, page)?;
     let octets = out.as_slice().get(1..).unwrap_or(&[]);
     match answer {
         Ok(actions) => put_sent(alloc, page, octets, &actions),
         Err(fault) => put_unsent(alloc, page, octets, fault),
     }
+}
+
+/// Sends the UPDATE of a body.
+fn send(alloc: Global, session: &Session, body: &[u8], page: &mut Page) -> Result<(), Trouble> {
+    let update = update_of(alloc, body)?;
+    send_update(alloc, session, &update, page)
 }
 
 /// Does what a line says.

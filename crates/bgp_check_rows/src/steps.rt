@@ -25,13 +25,18 @@ fn timer_name(timer: Timer) -> &'static str {
     }
 }
 
+/// Adds the lines of an outcome but the first.
+fn put_rest(alloc: Global, page: &mut Page, outcome: &Outcome) -> Result<(), Trouble> {
+    let mut lines = Page::new(alloc);
+    lines.put_outcome(alloc, 0, outcome)?;
+    let (_head, lines) = lines.text.as_str().split_once('\n').unwrap_or(("", ""));
+    page.put(lines)
+}
+
 /// Adds the routes that are withdrawn, behind the line of the action.
 fn put_routes(alloc: Global, page: &mut Page, routes: &Routes) -> Result<(), Trouble> {
     let outcome = Outcome::Withdraw(routes.copy(alloc)?, List::new(alloc));
-    let mut lines = Page::new(alloc);
-    lines.put_outcome(alloc, 0, &outcome)?;
-    let (_head, lines) = lines.text.as_str().split_once('\n').unwrap_or(("", ""));
-    page.put(lines)
+    put_rest(alloc, page, &outcome)
 }
 
 /// Adds the line of an action, and those of what it carries.

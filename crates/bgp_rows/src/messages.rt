@@ -3,7 +3,8 @@
 use crate::engines::put_shown;
 use crate::page::Page;
 use crate::trouble::Trouble;
-use bgp_msg::{Decoder, End, Look, Outcome, Seen, decode_all};
+use bgp_frame::HeadFault;
+use bgp_msg::{Decoder, End, Look, Outcome, OutcomeView, Seen, decode_all};
 use bgp_open::Context;
 use bgp_update::UpdateView;
 use std::alloc::Global;
@@ -114,6 +115,23 @@ fn put_pulled(
     Ok((taken, Some(len)))
 }
 
+/// Adds what a view shows.
+fn put_view(
+    alloc: Global,
+    len: u16,
+    view: &OutcomeView<'_>,
+    page: &mut Page,
+) -> Result<(), Trouble> {
+    let outcome = view.own(alloc)?;
+    page.put_outcome(alloc, len, &outcome)
+}
+
+/// Adds the answer to a header's fault.
+fn put_fault(alloc: Global, fault: HeadFault, page: &mut Page) -> Result<(), Trouble> {
+    let outcome = Outcome::Reset(fault.notification());
+    page.put_outcome(alloc, 0, &outcome)
+}
+
 /// Adds what a look finds, as a view. Answers how many octets it takes, how many its message has, and whether it is a reset.
 fn put_found(
     alloc: Global,
@@ -124,11 +142,11 @@ fn put_found(
     let mut place = UpdateView::empty();
     match decoder.look(piece, &mut place) {
         Look::Message(taken, len, view) => {
-            page.put_outcome(alloc, len, &view.own(alloc)?)?;
+            put_view(alloc, len, &view, page)?;
             Ok(Some((taken, len, view.is_reset())))
         }
         Look::Fault(taken, fault) => {
-            page.put_outcome(alloc, 0, &Outcome::Reset(fault.notification()))?;
+            put_fault(alloc, fault, page)?;
             Ok(Some((taken, 0, true)))
         }
         Look::Feed => Ok(None),

@@ -4,7 +4,7 @@ use crate::contexts::{CASES, Case, Contexts};
 use crate::page::Page;
 use crate::row::Row;
 use crate::trouble::Trouble;
-use bgp_msg::{Message, Outcome, decode_all, encode};
+use bgp_msg::{Decoder, Message, Outcome, encode};
 use bgp_open::Context;
 use bgp_update::WriteFault;
 use std::alloc::Global;
@@ -64,15 +64,45 @@ fn write_message(alloc: Global, ctx: &Context, message: &Message) -> Result<Page
     Ok(page)
 }
 
+/// Why there is no message to write.
+const NOT_TAKEN: Trouble = Trouble::Row("a message that is taken where it is read");
+
+/// The outcome of a stream's first message.
+fn first_outcome(alloc: Global, ctx: &Context, stream: &[u8]) -> Result<Outcome, Trouble> {
+    let mut decoder = Decoder::new(*ctx);
+    let (_taken, found) = decoder.pull(alloc, stream)?;
+    match found {
+        Some((_len, outcome)) => Ok(outcome),
+        None => Err(NOT_TAKEN),
+    }
+}
+
 /// The first message of a stream, which is taken.
 pub fn message_of(alloc: Global, ctx: &Context, stream: &[u8]) -> Result<Message, Trouble> {
-    let seen = decode_all(alloc, ctx, &[stream])?;
-    for (_len, outcome) in seen.outs.into_vec() {
-        if let Outcome::Took(message, _notes) = outcome {
-            return Ok(message);
+    match first_outcome(alloc, ctx, stream)? {
+        Outcome::Took(message, _notes) => Ok(message),
+        _ => Err(NOT_TAKEN),
+    }
+}
+
+/// What a message comes to where it is written in these contexts: the first that isn't wanted, else what is.
+fn put_message(
+    alloc: Global,
+    row: &Row<'_>,
+    contexts: &Contexts,
+    message: &Message,
+) -> Result<Page, Trouble> {
+    let mut page = Page::new(alloc);
+    for number in 0..CASES / 2 {
+        let case = Case::new(number);
+        if contexts.allows(&case.context) {
+            page = write_message(alloc, &case.context, message)?;
+            if page.text.as_str().trim_end_matches('\n') != row.want {
+                break;
+            }
         }
     }
-    Err(Trouble::Row("a message that is taken where it is read"))
+    Ok(page)
 }
 
 /// What a message that was read in a context comes to where it is written in those of the row's line `write`.
@@ -84,15 +114,5 @@ pub fn put_written(
 ) -> Result<Page, Trouble> {
     let contexts = Contexts::read(row.told("write").unwrap_or(""))?;
     let message = message_of(alloc, ctx, stream)?;
-    let mut page = Page::new(alloc);
-    for number in 0..CASES / 2 {
-        let case = Case::new(number);
-        if contexts.allows(&case.context) {
-            page = write_message(alloc, &case.context, &message)?;
-            if page.text.as_str().trim_end_matches('\n') != row.want {
-                break;
-            }
-        }
-    }
-    Ok(page)
+    put_message(alloc, row, &contexts, &message)
 }

@@ -6,7 +6,7 @@ use bgp_frame::{Notification, head};
 use bgp_msg::{Kind, decode_all};
 use bgp_open::Config;
 use bgp_session::{Action, MemoryWire, Move, Report, Side, Timer, run_pair};
-use bgp_update::{Routes, View, reconcile, view_update};
+use bgp_update::{Routes, Verdict, View, reconcile, view_update};
 use std::process::Abort;
 
 /// The attributes of an UPDATE inside an AS, of each type and of one that isn't recognised; then an ORIGIN of 3, which withdraws, an
@@ -40,6 +40,15 @@ const INSIDE: Context = Context {
     hold: 90,
 };
 
+fn assert_judged_copied(
+    rt: &(impl Abort + AllocGlobal),
+    judged: &Judged,
+) -> Result<(), AllocError> {
+    let copy = judged.copy(rt.alloc())?;
+    assert!(rt; copy == *judged);
+    Ok(())
+}
+
 /// What comes of an attribute of at most 4075 octets is copied, and whether it is kept.
 fn assert_judgement_copied(
     rt: &(impl Abort + AllocGlobal),
@@ -47,7 +56,7 @@ fn assert_judgement_copied(
 ) -> Result<bool, AllocError> {
     assert!(rt; tlv.whole.len() <= 4075);
     let judged = judge(rt.alloc(), &INSIDE, true, tlv)?;
-    assert!(rt; judged.copy(rt.alloc())? == judged);
+    assert_judged_copied(rt, &judged)?;
     Ok(matches!(judged, Judged::Keep(_)))
 }
 
@@ -71,18 +80,26 @@ const WITHDRAWN: &[u8] = &[
 
 const CUT_OFF: &[u8] = &[0, 9, 0, 0];
 
-fn assert_verdict_copied(rt: &(impl Abort + AllocGlobal), body: &[u8]) -> Result<(), AllocError> {
+fn assert_verdict_copied(
+    rt: &(impl Abort + AllocGlobal),
+    verdict: &Verdict,
+) -> Result<(), AllocError> {
+    let copy = verdict.copy(rt.alloc())?;
+    assert!(rt; copy == *verdict);
+    Ok(())
+}
+
+fn assert_reading_copied(rt: &(impl Abort + AllocGlobal), body: &[u8]) -> Result<(), AllocError> {
     assert!(rt; body.len() >= 4 && body.len() <= 4077);
     let verdict = read_update(rt.alloc(), &session(true), body)?;
-    assert!(rt; verdict.copy(rt.alloc())? == verdict);
-    Ok(())
+    assert_verdict_copied(rt, &verdict)
 }
 
 #[test]
 fn verdicts(rt: HostRuntime) -> Result<(), Fail> {
-    assert_verdict_copied(&rt, PLAIN)?;
-    assert_verdict_copied(&rt, WITHDRAWN)?;
-    assert_verdict_copied(&rt, CUT_OFF)?;
+    assert_reading_copied(&rt, PLAIN)?;
+    assert_reading_copied(&rt, WITHDRAWN)?;
+    assert_reading_copied(&rt, CUT_OFF)?;
     Ok(())
 }
 
@@ -118,8 +135,12 @@ fn outcomes(rt: HostRuntime) -> Result<(), Fail> {
     Ok(())
 }
 
-fn assert_action_copied(rt: &(impl Abort + AllocGlobal), action: Action) -> Result<(), AllocError> {
-    assert!(rt; action.copy(rt.alloc())? == action);
+fn assert_action_copied(
+    rt: &(impl Abort + AllocGlobal),
+    action: &Action,
+) -> Result<(), AllocError> {
+    let copy = action.copy(rt.alloc())?;
+    assert!(rt; copy == *action);
     Ok(())
 }
 
@@ -132,28 +153,46 @@ fn routes(alloc: Global) -> Result<Routes, Fail> {
 }
 
 #[test]
-fn actions(rt: HostRuntime) -> Result<(), Fail> {
-    assert_action_copied(&rt, Action::Arm(Timer::Hold, 90))?;
-    assert_action_copied(
-        &rt,
-        Action::SendNotification(Notification::new(6, 2, b"down")),
-    )?;
-    assert_action_copied(&rt, Action::Withdraw(routes(rt.alloc())?))?;
-    let update = plain(rt.alloc())?;
-    let info = reconcile(rt.alloc(), &update.attrs)?;
-    assert_action_copied(&rt, Action::Announce(update, info))?;
-    Ok(())
-}
-
-fn assert_move_copied(rt: &(impl Abort + AllocGlobal), one: Move) -> Result<(), AllocError> {
-    assert!(rt; one.copy(rt.alloc())? == one);
+fn actions_without_routes(rt: HostRuntime) -> Result<(), Fail> {
+    assert_action_copied(&rt, &Action::Arm(Timer::Hold, 90))?;
+    let told = Action::SendNotification(Notification::new(6, 2, b"down"));
+    assert_action_copied(&rt, &told)?;
     Ok(())
 }
 
 #[test]
-fn moves(rt: HostRuntime) -> Result<(), Fail> {
-    assert_move_copied(&rt, Move::Expire(Side::A, Timer::Keepalive))?;
-    assert_move_copied(&rt, Move::Send(Side::B, plain(rt.alloc())?))?;
+fn withdrawals(rt: HostRuntime) -> Result<(), Fail> {
+    let action = Action::Withdraw(routes(rt.alloc())?);
+    assert_action_copied(&rt, &action)?;
+    Ok(())
+}
+
+#[test]
+fn announcements(rt: HostRuntime) -> Result<(), Fail> {
+    let update = plain(rt.alloc())?;
+    let info = reconcile(rt.alloc(), &update.attrs)?;
+    let action = Action::Announce(update, info);
+    assert_action_copied(&rt, &action)?;
+    Ok(())
+}
+
+fn assert_move_copied(rt: &(impl Abort + AllocGlobal), one: &Move) -> Result<(), AllocError> {
+    let copy = one.copy(rt.alloc())?;
+    assert!(rt; copy == *one);
+    Ok(())
+}
+
+#[test]
+fn moves_without_updates(rt: HostRuntime) -> Result<(), Fail> {
+    let one = Move::Expire(Side::A, Timer::Keepalive);
+    assert_move_copied(&rt, &one)?;
+    Ok(())
+}
+
+#[test]
+fn moves_that_send(rt: HostRuntime) -> Result<(), Fail> {
+    let one = Move::Send(Side::B, plain(rt.alloc())?);
+    assert_move_copied(&rt, &one)?;
     Ok(())
 }
 
