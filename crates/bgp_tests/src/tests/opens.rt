@@ -50,11 +50,11 @@ fn a_version_is_answered_with_ours(rt: HostRuntime) {
     assert!(rt; OpenFault::Memory.notification().is_none());
 }
 
-/// What comes of writing an OPEN, and how many octets that appends.
-fn written(alloc: Global, open: &Open) -> (Result<(), WriteOpenFault>, usize) {
-    let mut out = Vec::new(alloc);
+/// What comes of writing an OPEN behind an octet, and how many octets there are then.
+fn written(alloc: Global, open: &Open) -> Result<(Result<(), WriteOpenFault>, usize), AllocError> {
+    let mut out = vec![in alloc; 7u8]?;
     let answer = write_open(open, &mut out);
-    (answer, out.len())
+    Ok((answer, out.len()))
 }
 
 #[test]
@@ -74,11 +74,11 @@ fn opens_that_are_not_valid(rt: HostRuntime) -> Result<(), Fail> {
     for (hold, last, code, octets, is_valid) in rows {
         let open = open_of(rt.alloc(), hold, last, code, octets)?;
         let wanted = if is_valid {
-            (Ok(()), octets.wrapping_add(14))
+            (Ok(()), octets.wrapping_add(15))
         } else {
-            (Err(WriteOpenFault::NotValid), 0)
+            (Err(WriteOpenFault::NotValid), 1)
         };
-        assert!(rt; written(rt.alloc(), &open) == wanted);
+        assert!(rt; written(rt.alloc(), &open)? == wanted);
     }
     Ok(())
 }

@@ -1,0 +1,201 @@
+//! The engines that agree by the OPENs of both directions: what is agreed on however little a reader gives, and which fault is told.
+
+use super::failing::{Drip, Sheet};
+use super::tool::{Tool, input_of};
+use bgp_engine::*;
+use bgp_open::Context;
+use std::alloc::Global;
+use std::process::Abort;
+use std::test::*;
+
+/// AS 65001 and AS 65002, with AS numbers of four octets and both families.
+const OURS: &str = "M 003101 04 fde9 005a c0000201 14 0212 010400010001 010400020001 41040000fde9";
+
+const THEIRS: &str =
+    "M 003101 04 fdea 005a c0000202 14 0212 010400010001 010400020001 41040000fdea";
+
+/// AS 65001 without AS numbers of four octets, and AS 65001 without a capability.
+const NARROW: &str = "M 002b01 04 fde9 005a c0000202 0e 020c 010400010001 010400020001";
+
+const PLAIN: &str = "M 001d01 04 fde9 005a c0000202 00";
+
+/// An UPDATE with a route of IPv6, a path with numbers of four octets and LOCAL_PREF: each flag decides about one of these.
+const UPDATE: &str =
+    "M 0048 02 0000 0031 800e1a 0002 01 10 20010db8000000000000000000000001 00 2020010db8 40010100 40020602010000fdea 40050400000064";
+
+/// What to do by both OPENs.
+#[derive(Clone, Copy, Debug, PartialEq, Eq)]
+enum Way {
+    Show,
+    Json,
+    Check,
+    Narrow,
+}
+
+const WAYS: [Way; 4] = [Way::Show, Way::Json, Way::Check, Way::Narrow];
+
+fn by_opens(
+    alloc: Global,
+    way: Way,
+    theirs: &[u8],
+    input: &mut Drip<'_>,
+    output: &mut Sheet,
+) -> Result<Tally, ToolFault> {
+    match way {
+        Way::Show => show_by_opens(alloc, theirs, false, input, output),
+        Way::Json => show_json_by_opens(alloc, theirs, false, input, output),
+        Way::Check => check_by_opens(alloc, theirs, false, input, output),
+        Way::Narrow => narrow_by_opens(alloc, theirs, input, output),
+    }
+}
+
+fn by_opens_within(
+    alloc: Global,
+    turns: u32,
+    way: Way,
+    theirs: &[u8],
+    input: &mut Drip<'_>,
+) -> Result<Tally, ToolFault> {
+    let mut output = Sheet::new();
+    match way {
+        Way::Show => show_by_opens_within(alloc, turns, theirs, false, input, &mut output),
+        Way::Json => show_json_by_opens_within(alloc, turns, theirs, false, input, &mut output),
+        Way::Check => check_by_opens_within(alloc, turns, theirs, false, input, &mut output),
+        Way::Narrow => narrow_by_opens_within(alloc, turns, theirs, input, &mut output),
+    }
+}
+
+fn by_flags(
+    alloc: Global,
+    way: Way,
+    ctx: &Context,
+    input: &mut Drip<'_>,
+    output: &mut Sheet,
+) -> Result<Tally, ToolFault> {
+    match way {
+        Way::Show => show(alloc, ctx, false, input, output),
+        Way::Json => show_json(alloc, ctx, false, input, output),
+        Way::Check => check(alloc, ctx, false, input, output),
+        Way::Narrow => narrow_stream(alloc, &Context { as4: true, ..*ctx }, input, output),
+    }
+}
+
+fn stream_of(alloc: Global, first: &str, second: &str) -> Result<Vec<u8>, Fail> {
+    let mut octets = input_of(alloc, Tool::Show, first)?;
+    octets.extend_from_slice(input_of(alloc, Tool::Show, second)?.as_slice())?;
+    Ok(octets)
+}
+
+/// By both OPENs comes what comes by the flags, whatever stands behind the first message of either.
+fn assert_agreed(
+    rt: &(impl Abort + AllocGlobal),
+    way: Way,
+    ours: &str,
+    theirs: &str,
+    ctx: &Context,
+) -> Result<(), Fail> {
+    let stream = stream_of(rt.alloc(), ours, UPDATE)?;
+    let other = stream_of(rt.alloc(), theirs, "M001304 00")?;
+    for step in [1, 7, 4096] {
+        let mut flagged = Sheet::new();
+        let mut opened = Sheet::new();
+        let mut reader = Drip::new(stream.as_slice(), step);
+        let wanted = by_flags(rt.alloc(), way, ctx, &mut reader, &mut flagged);
+        let mut reader = Drip::new(stream.as_slice(), step);
+        let found = by_opens(rt.alloc(), way, other.as_slice(), &mut reader, &mut opened);
+        assert_eq!(rt; found, wanted, "{way:?} {theirs}");
+        assert!(rt;
+            opened.text.as_slice() == flagged.text.as_slice(),
+            "{way:?} {theirs}"
+        );
+        assert_eq!(rt; opened.writes, flagged.writes, "{way:?} {theirs}");
+    }
+    Ok(())
+}
+
+/// A context without a hold time.
+fn context(internal: bool, as4: bool, families: bool) -> Context {
+    Context {
+        internal,
+        as4,
+        ip4: families,
+        ip6: families,
+        hold: 0,
+    }
+}
+
+#[test]
+fn contexts_of_two_opens(rt: HostRuntime) -> Result<(), Fail> {
+    for way in [Way::Show, Way::Json, Way::Check] {
+        assert_agreed(&rt, way, OURS, THEIRS, &context(false, true, true))?;
+        assert_agreed(&rt, way, THEIRS, OURS, &context(false, true, true))?;
+        assert_agreed(&rt, way, OURS, NARROW, &context(true, false, true))?;
+        assert_agreed(&rt, way, NARROW, OURS, &context(true, false, true))?;
+        assert_agreed(&rt, way, OURS, PLAIN, &context(true, false, false))?;
+        assert_agreed(&rt, way, THEIRS, PLAIN, &context(false, false, false))?;
+    }
+    assert_agreed(&rt, Way::Narrow, OURS, THEIRS, &context(false, true, true))
+}
+
+/// A KEEPALIVE first: nothing is written, and no more is read than its octets.
+fn assert_no_open(rt: &(impl Abort + AllocGlobal), way: Way) -> Result<(), Fail> {
+    let theirs = input_of(rt.alloc(), Tool::Show, THEIRS)?;
+    let input = input_of(rt.alloc(), Tool::Show, "M001304 M001304")?;
+    let mut reader = Drip::new(input.as_slice(), 1);
+    let mut sheet = Sheet::new();
+    let outcome = by_opens(rt.alloc(), way, theirs.as_slice(), &mut reader, &mut sheet);
+    assert_eq!(rt; outcome, Err(ToolFault::NoOpen), "{way:?}");
+    assert!(rt; sheet.text.is_empty() && reader.calls == 19, "{way:?}");
+    Ok(())
+}
+
+#[test]
+fn no_open_to_agree_with(rt: HostRuntime) -> Result<(), Fail> {
+    for way in WAYS {
+        assert_no_open(&rt, way)?;
+    }
+    Ok(())
+}
+
+/// A reader that fails before the first message is whole is told, whatever the other direction has.
+fn assert_read_fault(
+    rt: &(impl Abort + AllocGlobal),
+    way: Way,
+    open: &[u8],
+    theirs: &[u8],
+    calls: u32,
+) {
+    let mut reader = Drip::new(open, 10).failing_after(calls);
+    let mut sheet = Sheet::new();
+    let outcome = by_opens(rt.alloc(), way, theirs, &mut reader, &mut sheet);
+    assert_eq!(rt; outcome, Err(ToolFault::Read), "{way:?}");
+    assert!(rt; sheet.text.is_empty(), "{way:?}");
+}
+
+/// So is one that isn't asked as often as it needs.
+fn assert_too_few(
+    rt: &(impl Abort + AllocGlobal),
+    way: Way,
+    open: &[u8],
+    theirs: &[u8],
+    turns: u32,
+) {
+    let mut reader = Drip::new(open, 10);
+    let outcome = by_opens_within(rt.alloc(), turns, way, theirs, &mut reader);
+    assert_eq!(rt; outcome, Err(ToolFault::Read), "{way:?}");
+    assert_eq!(rt; reader.calls, turns, "{way:?}");
+}
+
+#[test]
+fn a_read_that_fails_is_told_first(rt: HostRuntime) -> Result<(), Fail> {
+    let open = input_of(rt.alloc(), Tool::Show, OURS)?;
+    for theirs in [open.as_slice(), &[0; 19], &[]] {
+        for way in WAYS {
+            for calls in [0, 1, 4] {
+                assert_read_fault(&rt, way, open.as_slice(), theirs, calls);
+                assert_too_few(&rt, way, open.as_slice(), theirs, calls);
+            }
+        }
+    }
+    Ok(())
+}
