@@ -1,4 +1,4 @@
-"""Tests of messages, on the captures of examples/: `python3 -m unittest` in this folder, after `./library`."""
+"""Tests of messages, on the captures of examples/: `python3 -m unittest` in this folder, where RISTULVA_LIBRARY names the library by an absolute path."""
 
 import ipaddress
 import pathlib

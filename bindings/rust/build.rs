@@ -1,26 +1,36 @@
-//! Links the static library that `./library` makes: that of the folder RISTULVA_DIST, or of dist/
-//! two folders up. A path in RISTULVA_DIST that isn't absolute begins at the folder of this file.
+//! Links the static library: that of the folder which RISTULVA_DIST names by an absolute path, else
+//! the one that this package holds, in `native`.
 
 use std::path::{Path, PathBuf};
 use std::{env, fs};
 
-/// Where the library lies.
-fn dist() -> PathBuf {
-    match env::var_os("RISTULVA_DIST") {
-        Some(place) => PathBuf::from(place),
-        None => Path::new(&env::var_os("CARGO_MANIFEST_DIR").expect("cargo names the folder"))
-            .join("../../dist"),
-    }
+/// What cargo tells a build script in a variable.
+fn told(name: &str) -> String {
+    env::var(name).unwrap_or_default()
 }
 
-/// The version that a header has, as this package writes its own.
-fn version(header: &str) -> Option<String> {
+/// Where the library lies.
+fn dist() -> PathBuf {
+    let Some(place) = env::var_os("RISTULVA_DIST") else {
+        return Path::new(&told("CARGO_MANIFEST_DIR")).join("native");
+    };
+    let place = PathBuf::from(place);
+    assert!(
+        place.is_absolute(),
+        "RISTULVA_DIST has to be an absolute path, and is {}",
+        place.display()
+    );
+    place
+}
+
+/// The first two numbers of the version that a header has. While the first is 0, a new second one
+/// may change any call, and the third changes none.
+fn series(header: &str) -> Option<String> {
     let line = header
         .lines()
         .find_map(|line| line.strip_prefix("#define RISTULVA_VERSION "))?;
     let number: u32 = line.trim_end_matches('u').parse().ok()?;
-    let (major, minor, patch) = (number / 1_000_000, number / 1000 % 1000, number % 1000);
-    Some(format!("{major}.{minor}.{patch}"))
+    Some(format!("{}.{}", number / 1_000_000, number / 1000 % 1000))
 }
 
 fn main() {
@@ -29,16 +39,25 @@ fn main() {
     println!("cargo:rerun-if-env-changed=RISTULVA_DIST");
     println!("cargo:rerun-if-changed={}", header.display());
     println!("cargo:rerun-if-changed={}", library.display());
+    let (system, machine) = (told("CARGO_CFG_TARGET_OS"), told("CARGO_CFG_TARGET_ARCH"));
+    assert!(
+        system == "linux" && machine == "x86_64",
+        "the library is for Linux on x86-64, and not for {system} on {machine}"
+    );
     let (Ok(text), true) = (fs::read_to_string(&header), library.exists()) else {
         panic!(
-            "{} has no library: run ./library, or set RISTULVA_DIST",
+            "{} has no library: unpack the package whole, or set RISTULVA_DIST to the folder of libristulva.a and ristulva.h",
             dist.display()
         );
     };
-    // What src/raw.rs declares is what the header of this version does.
-    let (found, wanted) = (version(&text), env::var("CARGO_PKG_VERSION").ok());
+    // What src/raw.rs declares is what the headers with these two numbers do.
+    let wanted = format!(
+        "{}.{}",
+        told("CARGO_PKG_VERSION_MAJOR"),
+        told("CARGO_PKG_VERSION_MINOR")
+    );
+    let found = series(&text).unwrap_or_default();
     assert_eq!(found, wanted, "{} has another version", dist.display());
-    let dist = dist.canonicalize().expect("the folder is there");
     println!("cargo:rustc-link-search=native={}", dist.display());
     println!("cargo:rustc-link-lib=static=ristulva");
 }

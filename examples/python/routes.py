@@ -5,12 +5,10 @@ announces and withdraws, and the path of what it announces.
     routes.py [--as4] [--ip4] [--ip6] [--internal] < STREAM
 
 An UPDATE that is treated as a withdrawal withdraws all its prefixes (RFC 7606, section 2). It ends with 1 where a message ends the session, or the
-stream ends inside of one. It needs dist/libristulva.so, which `./library` makes. `bgp show --json` tells more (docs/JSON.md)."""
+stream ends inside of one. It needs the package ristulva (docs/C.md). `bgp show --json` tells more (docs/JSON.md)."""
 import json
-import pathlib
 import sys
 
-sys.path.insert(0, str(pathlib.Path(__file__).resolve().parents[2] / "bindings/python"))
 import ristulva
 
 FLAGS = {"--as4": "as4", "--ip4": "ip4", "--ip6": "ip6", "--internal": "internal"}

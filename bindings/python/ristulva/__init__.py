@@ -1,4 +1,6 @@
-"""Ristulva for Python: BGP-4 messages, read and judged, and sessions, by the library for C (dist/libristulva.so, which `./library` makes).
+"""Ristulva for Python: BGP-4 messages, read and judged, and sessions, by the library for C.
+
+It is the file that RISTULVA_LIBRARY names by an absolute path, else libristulva.so beside this file, else what the loader finds.
 
     for message in ristulva.messages(octets, ristulva.Context(as4=True)):
         print(message, end="")

@@ -6,7 +6,8 @@ import pathlib
 from ctypes import POINTER, Structure, c_char_p, c_size_t, c_uint8, c_uint16, c_uint32, c_uint64, c_void_p
 
 OK, NO_SESSION, MEMORY, RANGE, INCOMPLETE, ROOM, END, REFUSED, UNWRITABLE, STATE = range(10)
-VERSION = 2000
+# The first two numbers of the versions whose header this file has: while the first is 0, a new second one may change any call.
+SERIES = (0, 3)
 DATA, MESSAGE, ACTIONS = 4075, 4096, 5
 
 
@@ -98,16 +99,36 @@ class Handle(Structure):
     _fields_ = [("body", c_void_p)]
 
 
+def place():
+    """Where the shared library lies: where RISTULVA_LIBRARY says, else beside this file, else where the loader finds its soname. Never in the folder
+    that Python was started in."""
+    named = os.environ.get("RISTULVA_LIBRARY")
+    if named is not None:
+        if not os.path.isabs(named):
+            raise ImportError(f"RISTULVA_LIBRARY has to be an absolute path, and is {named!r}")
+        return named
+    soname = "libristulva.so.{}.{}".format(*SERIES)
+    beside = pathlib.Path(__file__).resolve().with_name(soname)
+    return str(beside) if beside.exists() else soname
+
+
+def opened(where):
+    """The shared library of this place."""
+    try:
+        return ctypes.CDLL(where)
+    except OSError as error:
+        raise ImportError(f"there is no library for ristulva: {error}; install libristulva, or set RISTULVA_LIBRARY to its absolute path") from error
+
+
 def load():
-    """The shared library: that of the environment's RISTULVA, or of dist/."""
-    place = os.environ.get("RISTULVA", pathlib.Path(__file__).resolve().parents[3] / "dist/libristulva.so")
-    library = ctypes.CDLL(str(place))
+    """The shared library, with the types of its calls, and its version."""
+    where = place()
+    library = opened(where)
     octets = [c_char_p, c_size_t]
     # A buffer and its room come before what is written beside it.
     buffer = [c_char_p, c_size_t]
     session = decoder = POINTER(Handle)
     takes = {
-        "version": [],
         "judge": [POINTER(Said), *octets, *buffer, POINTER(Verdict)],
         "note": [POINTER(Said), *octets, c_uint32, POINTER(CNote)],
         "text": [POINTER(Said), c_uint64, *octets, *buffer, POINTER(c_size_t)],
@@ -137,12 +158,17 @@ def load():
         "session_open": [session, *buffer, POINTER(c_size_t)],
         "session_send": [session, *octets, POINTER(CActions), *buffer, POINTER(c_size_t)],
     }
+    # The version first: a library of another series may lack a call.
+    if not hasattr(library, "ristulva_version"):
+        raise ImportError(f"{where} is another library")
+    library.ristulva_version.argtypes, library.ristulva_version.restype = [], c_uint32
+    version = library.ristulva_version()
+    if divmod(version // 1000, 1000) != SERIES:
+        raise ImportError("{} is version {}.{}, and this package is for {}.{}".format(where, *divmod(version // 1000, 1000), *SERIES))
     for name, arguments in takes.items():
         call = getattr(library, f"ristulva_{name}")
         call.argtypes, call.restype = arguments, c_uint32
-    if library.ristulva_version() != VERSION:
-        raise ImportError(f"{place} has another version")
-    return library
+    return library, version
 
 
-LIBRARY = load()
+LIBRARY, VERSION = load()

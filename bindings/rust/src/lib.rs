@@ -1,7 +1,9 @@
 //! BGP-4 messages (RFC 4271), read and judged (RFC 7606), and sessions, by proved code.
 //!
-//! This is the library for C, `dist/libristulva.a`, with types that a Rust programmer expects. It
-//! reads one direction of a session as octets, by [`messages`], or by a [`Decoder`] where they come
+//! This is the library for C with types that a Rust programmer expects. Its archive,
+//! `libristulva.a`, lies in this package's folder `native`, or in the one that `RISTULVA_DIST` names.
+//!
+//! It reads one direction of a session as octets, by [`messages`], or by a [`Decoder`] where they come
 //! in pieces, or holds one end of it, by a [`Session`]. What it gives borrows the caller's octets:
 //! only a decoder's messages, the data of a [`Outcome::Reset`], lines of text and messages that are
 //! written are copied.

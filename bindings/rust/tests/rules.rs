@@ -467,8 +467,10 @@ fn refused() {
     assert_eq!(told.to_string(), "the UPDATE isn't accepted whole");
 }
 
-/// The declarations of src/raw.rs are those of the header of this version.
+/// The declarations of src/raw.rs are those of each header with this version's first two numbers.
 #[test]
 fn version() {
-    assert_eq!(ristulva::version(), 2000);
+    let numbers = ristulva::version();
+    let series = format!("{}.{}.", numbers / 1_000_000, numbers / 1000 % 1000);
+    assert!(env!("CARGO_PKG_VERSION").starts_with(&series));
 }

@@ -29,7 +29,7 @@ extern "C" {
 /* ---- version ---- */
 
 /* The version of this header, as ristulva_version() answers it: 1000000 times the first number, 1000 times the second, and the third. */
-#define RISTULVA_VERSION 2000u
+#define RISTULVA_VERSION 3000u
 
 /* The version of the library that is linked. */
 uint32_t ristulva_version(void);

@@ -1,0 +1,16 @@
+# Completion of bgp_speaker for fish. Made by packaging/make-completions from the help of the program.
+complete -c bgp_speaker -f
+complete -c bgp_speaker -l local-as -x -d 'The speaker'\''s own AS number'
+complete -c bgp_speaker -l peer-as -x -d 'The peer'\''s AS number'
+complete -c bgp_speaker -l id -x -d 'The BGP Identifier, as 192.0.2.1'
+complete -c bgp_speaker -l hold -x -d 'The Hold Time; 90 where nothing is said'
+complete -c bgp_speaker -l as4 -d 'Offer AS numbers of four octets'
+complete -c bgp_speaker -l ip4 -d 'Offer IPv4 unicast'
+complete -c bgp_speaker -l ip6 -d 'Offer IPv6 unicast'
+complete -c bgp_speaker -l listen -d 'Wait for the peer at ADDRESS, and don'\''t connect'
+complete -c bgp_speaker -l send -r -F -d 'Send the UPDATEs of this file'
+complete -c bgp_speaker -l messages -x -d 'End after so many messages of the peer'
+complete -c bgp_speaker -l seconds -x -d 'End after so many seconds'
+complete -c bgp_speaker -l json -d 'Print objects of JSON'
+complete -c bgp_speaker -s h -l help -d 'Print help'
+complete -c bgp_speaker -s V -l version -d 'Print version'
