@@ -1,8 +1,10 @@
-//! The program `bgp`: hands its words and its three streams to `bgp_tool`, and ends with the status of the answer.
+//! The program `bgp`: hands its words and its three streams to its command line, and ends with the status of the answer.
 #![tactic(auto)]
 
+mod cli;
 mod progress;
 
+use crate::cli::command;
 use crate::progress::Watched;
 use std::alloc::AllocError;
 use std::process::ExitCode;
@@ -20,7 +22,7 @@ fn run(rt: &HostRuntime, words: &[String]) -> Result<u8, AllocError> {
     let input = &mut Watched::new(rt, rt.stdin());
     let output = &mut rt.stdout();
     let errors = &mut rt.stderr();
-    Ok(bgp_tool::command(rt, alloc, &words, input, output, errors))
+    Ok(command(rt, alloc, &words, input, output, errors))
 }
 
 fn main(rt: HostRuntime) -> ExitCode {

@@ -2,7 +2,7 @@
 
 ghost use Rattle.std.specs.Prelude.{false, map};
 ghost use Rattle.clap.specs.Words.{kind_of};
-ghost use Rattle.bgp_tool.specs.Command.{Answers, HasRun, IsExplained, IsQuiet, IsWide, Runs, RunsBy, shown_by};
+ghost use Rattle.bgp.specs.Command.{Answers, HasRun, IsExplained, IsQuiet, IsWide, Runs, RunsBy, shown_by};
 ghost use Rattle.bgp_engine.specs.Opens.{CheckedBy, NarrowedBy};
 ghost use Rattle.bgp_engine.specs.Run.{io};
 
