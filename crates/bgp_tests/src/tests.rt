@@ -4,6 +4,7 @@ mod copies;
 mod fakes;
 mod frames;
 mod hosts;
+mod lists;
 mod opens;
 mod prefixes;
 mod refusals;

@@ -8,6 +8,3 @@ mod octet_set;
 pub use copy::TryCopy;
 pub use list::List;
 pub use octet_set::OctetSet;
-
-#[cfg(test)]
-mod tests;

@@ -1,4 +1,6 @@
-use super::*;
+//! A list, call by call.
+
+use bgp_wire::{List, TryCopy};
 use std::test::*;
 
 #[test]
