@@ -8,7 +8,7 @@ use bgp_frame::Notification;
 use std::alloc::{AllocError, Global};
 
 /// The judgement of one attribute (RFC 7606, section 2).
-#[derive(Debug, Drop, PartialEq)]
+#[derive(Drop, PartialEq)]
 pub enum Judged {
     /// It is kept.
     Keep(Attr),

@@ -9,7 +9,7 @@ use bgp_frame::Notification;
 use std::alloc::{AllocError, Global};
 
 /// The judgement of one attribute (RFC 7606, section 2), with its value borrowed.
-#[derive(Debug, Drop)]
+#[derive(Drop)]
 pub enum JudgedView<'a> {
     /// It is kept.
     Keep(AttrView<'a>),

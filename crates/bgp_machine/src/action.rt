@@ -9,7 +9,7 @@ use bgp_update::{PathInfo, Routes, Update};
 use std::alloc::{AllocError, Global};
 
 /// What the one who runs a session has to do.
-#[derive(Debug, Drop, PartialEq)]
+#[derive(Drop, PartialEq)]
 pub enum Action {
     /// Seek a connection to the peer.
     Connect,

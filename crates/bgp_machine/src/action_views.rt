@@ -15,7 +15,7 @@ use std::alloc::{AllocError, Global};
 use std::marker::Model;
 
 /// What is to be done, in order: at most five things, in some words each and without memory.
-#[derive(Debug, Drop)]
+#[derive(Drop)]
 pub struct ActionViews<'a> {
     list: ArrayVec<ActionView<'a>, 5>,
 }

@@ -18,7 +18,7 @@ use std::marker::Model;
 
 /// Reads the octets of a stream, in whatever pieces they come, and hands out the outcome of each message. It holds at most one
 /// message, of at most 4096 octets; behind a reset it holds and reads nothing.
-#[derive(Debug, Drop)]
+#[derive(Drop)]
 pub struct Decoder {
     ctx: Context,
     framer: Framer,

@@ -9,7 +9,7 @@ use bgp_update::Update;
 use std::alloc::{AllocError, Global};
 
 /// A message (RFC 4271, section 4).
-#[derive(Debug, Drop, PartialEq)]
+#[derive(Drop, PartialEq)]
 pub enum Message {
     /// OPEN (RFC 4271, section 4.2).
     Open(Open),

@@ -10,7 +10,7 @@ use bgp_wire::{List, TryCopy};
 use std::alloc::{AllocError, Global};
 
 /// The outcome of a message, or of the header of one.
-#[derive(Debug, Drop, PartialEq)]
+#[derive(Drop, PartialEq)]
 pub enum Outcome {
     /// It is accepted, with notes on attributes of an UPDATE that are discarded.
     Took(Message, List<Note>),

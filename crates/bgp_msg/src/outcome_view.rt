@@ -15,7 +15,7 @@ use std::alloc::{AllocError, Global};
 
 /// The outcome of a message, or of the header of one: some words that point into its octets, in place of an [`Outcome`] with memory of its own. An
 /// UPDATE's view stands in a place of the caller's.
-#[derive(Clone, Copy, Debug)]
+#[derive(Clone, Copy)]
 pub enum OutcomeView<'a> {
     /// An OPEN is accepted.
     Open(OpenView<'a>),

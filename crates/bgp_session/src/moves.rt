@@ -8,7 +8,7 @@ use bgp_update::Update;
 use std::alloc::{AllocError, Global};
 
 /// One move of a schedule: what happens to one side, or to the connection.
-#[derive(Debug, Drop, PartialEq)]
+#[derive(Drop, PartialEq)]
 pub enum Move {
     /// The operator starts the session of this side.
     Start(Side),

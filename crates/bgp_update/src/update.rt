@@ -8,7 +8,7 @@ use bgp_wire::{List, TryCopy};
 use std::alloc::{AllocError, Global};
 
 /// What an UPDATE says (RFC 4271, section 4.3).
-#[derive(Debug, Drop, PartialEq)]
+#[derive(Drop, PartialEq)]
 pub struct Update {
     /// Withdrawn Routes: IPv4 unicast.
     pub withdrawn: List<Prefix4>,

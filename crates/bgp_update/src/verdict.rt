@@ -10,7 +10,7 @@ use bgp_wire::List;
 use std::alloc::{AllocError, Global};
 
 /// The verdict on the body of an UPDATE (RFC 7606, section 3).
-#[derive(Debug, Drop, PartialEq)]
+#[derive(Drop, PartialEq)]
 pub enum Verdict {
     /// It is accepted with the attributes that are kept.
     Take(Update, List<Note>),
