@@ -32,11 +32,11 @@ impl JudgedView<'_> {
         ensures value { IfOk result (λ j. j ≡ judged_value self.now) }
         ensures err { OnErr result (IsTrue (is_kept (judged_value self.now))) }
     {
-        match self {
-            JudgedView::Keep(view) => Ok(Judged::Keep(view.own(alloc)?)),
-            JudgedView::Discard(why) => Ok(Judged::Discard(*why)),
-            JudgedView::Withdraw(why) => Ok(Judged::Withdraw(*why)),
-            JudgedView::Reset(notification) => Ok(Judged::Reset(notification.copy())),
-        }
+        Ok(match self {
+            JudgedView::Keep(view) => Judged::Keep(view.own(alloc)?),
+            JudgedView::Discard(why) => Judged::Discard(*why),
+            JudgedView::Withdraw(why) => Judged::Withdraw(*why),
+            JudgedView::Reset(notification) => Judged::Reset(notification.copy()),
+        })
     }
 }

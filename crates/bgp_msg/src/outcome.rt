@@ -37,17 +37,15 @@ impl Outcome {
     pub fn copy(&self, alloc: Global) -> Result<Outcome, AllocError>
         ensures { IfOk result (λ copy. copy ≡ self.now) }
     {
-        match self {
+        Ok(match self {
             Outcome::Took(message, notes) => {
-                let message = message.copy(alloc)?;
-                Ok(Outcome::Took(message, notes.copy(alloc)?))
+                Outcome::Took(message.copy(alloc)?, notes.copy(alloc)?)
             }
             Outcome::Withdraw(routes, notes) => {
-                let routes = routes.copy(alloc)?;
-                Ok(Outcome::Withdraw(routes, notes.copy(alloc)?))
+                Outcome::Withdraw(routes.copy(alloc)?, notes.copy(alloc)?)
             }
-            Outcome::Reset(notification) => Ok(Outcome::Reset(notification.copy())),
-        }
+            Outcome::Reset(notification) => Outcome::Reset(notification.copy()),
+        })
     }
 }
 

@@ -28,16 +28,14 @@ impl Verdict {
     pub fn copy(&self, alloc: Global) -> Result<Verdict, AllocError>
         ensures { IfOk result (λ copy. copy ≡ self.now) }
     {
-        match self {
+        Ok(match self {
             Verdict::Take(update, notes) => {
-                let update = update.copy(alloc)?;
-                Ok(Verdict::Take(update, notes.copy(alloc)?))
+                Verdict::Take(update.copy(alloc)?, notes.copy(alloc)?)
             }
             Verdict::Withdraw(routes, notes) => {
-                let routes = routes.copy(alloc)?;
-                Ok(Verdict::Withdraw(routes, notes.copy(alloc)?))
+                Verdict::Withdraw(routes.copy(alloc)?, notes.copy(alloc)?)
             }
-            Verdict::Reset(notification) => Ok(Verdict::Reset(notification.copy())),
-        }
+            Verdict::Reset(notification) => Verdict::Reset(notification.copy()),
+        })
     }
 }
