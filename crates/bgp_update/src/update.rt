@@ -27,8 +27,8 @@ impl Update {
         ensures { IfOk result (λ copy. copy ≡ self.now) }
     {
         let withdrawn = self.withdrawn.copy(alloc)?;
-        let attrs = self.attrs.copy(alloc)?;
         let nlri = self.nlri.copy(alloc)?;
+        let attrs = self.attrs.copy(alloc)?;
         Ok(Update {
             withdrawn,
             attrs,

@@ -30,10 +30,12 @@ impl Verdict {
     {
         Ok(match self {
             Verdict::Take(update, notes) => {
-                Verdict::Take(update.copy(alloc)?, notes.copy(alloc)?)
+                let notes = notes.copy(alloc)?;
+                Verdict::Take(update.copy(alloc)?, notes)
             }
             Verdict::Withdraw(routes, notes) => {
-                Verdict::Withdraw(routes.copy(alloc)?, notes.copy(alloc)?)
+                let notes = notes.copy(alloc)?;
+                Verdict::Withdraw(routes.copy(alloc)?, notes)
             }
             Verdict::Reset(notification) => Verdict::Reset(notification.copy()),
         })
