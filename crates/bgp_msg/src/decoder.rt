@@ -189,8 +189,8 @@ impl Decoder {
         let OutcomeView::Update(view) = view_frame(&self.ctx, frame, &mut place) else {
             return Ok(None);
         };
-        let update = view.own(alloc)?;
         let notes = view.own_notes(alloc)?;
+        let update = view.own(alloc)?;
         Ok(Some((len, update, notes)))
     }
 

@@ -39,10 +39,12 @@ impl Outcome {
     {
         Ok(match self {
             Outcome::Took(message, notes) => {
-                Outcome::Took(message.copy(alloc)?, notes.copy(alloc)?)
+                let notes = notes.copy(alloc)?;
+                Outcome::Took(message.copy(alloc)?, notes)
             }
             Outcome::Withdraw(routes, notes) => {
-                Outcome::Withdraw(routes.copy(alloc)?, notes.copy(alloc)?)
+                let notes = notes.copy(alloc)?;
+                Outcome::Withdraw(routes.copy(alloc)?, notes)
             }
             Outcome::Reset(notification) => Outcome::Reset(notification.copy()),
         })

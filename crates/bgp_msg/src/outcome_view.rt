@@ -31,25 +31,28 @@ pub enum OutcomeView<'a> {
     Reset(NotificationView<'a>),
 }
 
-/// An UPDATE that is accepted, with memory of its own.
+/// An UPDATE that is accepted, with memory of its own. The notes come first: proofs pay for each large value that `?` may drop.
+#[inline(always)]
 fn own_update(view: &UpdateView<'_>, alloc: Global) -> Result<Outcome, AllocError>
     ensures { IfOk result (λ o. o ≡ outcome.Took (message.Update (update_value view.now)) (notes_value view.now)) }
 {
-    let update = view.own(alloc)?;
     let notes = view.own_notes(alloc)?;
+    let update = view.own(alloc)?;
     Ok(Outcome::Took(Message::Update(update), notes))
 }
 
 /// An UPDATE that is treated as a withdrawal, with memory of its own.
+#[inline(always)]
 fn own_withdrawal(view: &UpdateView<'_>, alloc: Global) -> Result<Outcome, AllocError>
     ensures { IfOk result (λ o. o ≡ outcome.Withdraw (routes_value view.now) (notes_value view.now)) }
 {
-    let routes = view.routes(alloc)?;
     let notes = view.own_notes(alloc)?;
+    let routes = view.routes(alloc)?;
     Ok(Outcome::Withdraw(routes, notes))
 }
 
 /// A message that is accepted without notes.
+#[inline(always)]
 fn took(told: Message, alloc: Global) -> Outcome
     ensures { result ≡ outcome.Took told [] }
 {
