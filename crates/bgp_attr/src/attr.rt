@@ -11,7 +11,7 @@ use crate::path::{As4Path, AsPath};
 use std::alloc::{AllocError, Global};
 
 /// A path attribute (RFC 4271, section 5).
-#[derive(Debug, Drop, PartialEq)]
+#[derive(Drop, PartialEq)]
 pub enum Attr {
     /// ORIGIN.
     Origin(Origin),

@@ -12,7 +12,7 @@ use crate::origin::Origin;
 use crate::path::{As4Path, AsPath};
 
 /// A path attribute whose value stands elsewhere, as in the fields of a message: what is written needs no [`Attr`] made of it.
-#[derive(Clone, Copy, Debug)]
+#[derive(Clone, Copy)]
 pub enum AttrRef<'a> {
     /// ORIGIN.
     Origin(Origin),

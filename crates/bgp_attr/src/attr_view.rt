@@ -14,7 +14,7 @@ use bgp_wire::List;
 use std::alloc::{AllocError, Global};
 
 /// AS4_PATH, borrowed.
-#[derive(Clone, Copy, Debug)]
+#[derive(Clone, Copy)]
 pub struct As4PathView<'a> {
     /// The Partial bit.
     pub partial: bool,
@@ -23,7 +23,7 @@ pub struct As4PathView<'a> {
 }
 
 /// An attribute of a type that isn't recognised, borrowed.
-#[derive(Clone, Copy, Debug)]
+#[derive(Clone, Copy)]
 pub struct OpaqueView<'a> {
     /// The type.
     pub kind: u8,
@@ -36,7 +36,7 @@ pub struct OpaqueView<'a> {
 }
 
 /// A path attribute, borrowed: an [`Attr`] with iterators and slices in place of lists.
-#[derive(Clone, Copy, Debug)]
+#[derive(Clone, Copy)]
 pub enum AttrView<'a> {
     /// ORIGIN.
     Origin(Origin),

@@ -6,7 +6,7 @@ use bgp_wire::List;
 use std::alloc::{AllocError, Global};
 
 /// COMMUNITIES (RFC 1997).
-#[derive(Debug, Drop, PartialEq)]
+#[derive(Drop, PartialEq)]
 pub struct Communities {
     /// The Partial bit.
     pub partial: bool,
@@ -31,7 +31,7 @@ impl Communities {
 }
 
 /// LARGE_COMMUNITY (RFC 8092).
-#[derive(Debug, Drop, PartialEq)]
+#[derive(Drop, PartialEq)]
 pub struct LargeCommunities {
     /// The Partial bit.
     pub partial: bool,

@@ -9,7 +9,7 @@ use bgp_wire::List;
 use std::alloc::{AllocError, Global};
 
 /// COMMUNITIES, borrowed.
-#[derive(Clone, Copy, Debug)]
+#[derive(Clone, Copy)]
 pub struct CommunitiesView<'a> {
     /// The Partial bit.
     pub partial: bool,
@@ -36,7 +36,7 @@ impl CommunitiesView<'_> {
 }
 
 /// LARGE_COMMUNITY, borrowed.
-#[derive(Clone, Copy, Debug)]
+#[derive(Clone, Copy)]
 pub struct LargeView<'a> {
     /// The Partial bit.
     pub partial: bool,

@@ -9,7 +9,7 @@ use bgp_frame::NotificationView;
 
 /// The judgement of one attribute, as [`JudgedView`] says, with the information of a NOTIFICATION borrowed too: an UPDATE is judged by these,
 /// since each is small.
-#[derive(Clone, Copy, Debug)]
+#[derive(Clone, Copy)]
 pub enum FoundAttr<'a> {
     /// It is kept.
     Keep(AttrView<'a>),

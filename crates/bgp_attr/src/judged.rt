@@ -8,7 +8,7 @@ use bgp_frame::Notification;
 use std::alloc::{AllocError, Global};
 
 /// The judgement of one attribute (RFC 7606, section 2).
-#[derive(Debug, Drop, PartialEq)]
+#[derive(Drop, PartialEq)]
 pub enum Judged {
     /// It is kept.
     Keep(Attr),
@@ -28,11 +28,11 @@ impl Judged {
     pub fn copy(&self, alloc: Global) -> Result<Judged, AllocError>
         ensures { IfOk result (λ copy. copy ≡ self.now) }
     {
-        match self {
-            Judged::Keep(attr) => Ok(Judged::Keep(attr.copy(alloc)?)),
-            Judged::Discard(why) => Ok(Judged::Discard(*why)),
-            Judged::Withdraw(why) => Ok(Judged::Withdraw(*why)),
-            Judged::Reset(notification) => Ok(Judged::Reset(notification.copy())),
-        }
+        Ok(match self {
+            Judged::Keep(attr) => Judged::Keep(attr.copy(alloc)?),
+            Judged::Discard(why) => Judged::Discard(*why),
+            Judged::Withdraw(why) => Judged::Withdraw(*why),
+            Judged::Reset(notification) => Judged::Reset(notification.copy()),
+        })
     }
 }

@@ -9,7 +9,7 @@ use bgp_frame::Notification;
 use std::alloc::{AllocError, Global};
 
 /// The judgement of one attribute (RFC 7606, section 2), with its value borrowed.
-#[derive(Debug, Drop)]
+#[derive(Drop)]
 pub enum JudgedView<'a> {
     /// It is kept.
     Keep(AttrView<'a>),
@@ -32,11 +32,11 @@ impl JudgedView<'_> {
         ensures value { IfOk result (λ j. j ≡ judged_value self.now) }
         ensures err { OnErr result (IsTrue (is_kept (judged_value self.now))) }
     {
-        match self {
-            JudgedView::Keep(view) => Ok(Judged::Keep(view.own(alloc)?)),
-            JudgedView::Discard(why) => Ok(Judged::Discard(*why)),
-            JudgedView::Withdraw(why) => Ok(Judged::Withdraw(*why)),
-            JudgedView::Reset(notification) => Ok(Judged::Reset(notification.copy())),
-        }
+        Ok(match self {
+            JudgedView::Keep(view) => Judged::Keep(view.own(alloc)?),
+            JudgedView::Discard(why) => Judged::Discard(*why),
+            JudgedView::Withdraw(why) => Judged::Withdraw(*why),
+            JudgedView::Reset(notification) => Judged::Reset(notification.copy()),
+        })
     }
 }

@@ -8,7 +8,7 @@ use crate::large_view::first_new;
 use std::iter::FusedIterator;
 
 /// The communities of LARGE_COMMUNITY in order, each at its first place alone (RFC 8092, section 3). It takes no memory.
-#[derive(Clone, Copy, Debug)]
+#[derive(Clone, Copy)]
 pub struct LargeCommIter<'a> {
     octets: &'a [u8],
     at: usize,

@@ -7,7 +7,7 @@ use bgp_wire::List;
 use std::alloc::{AllocError, Global};
 
 /// MP_REACH_NLRI: routes and the next hop to them (RFC 4760, section 3).
-#[derive(Debug, Drop, PartialEq)]
+#[derive(Drop, PartialEq)]
 pub enum MpReach {
     /// IPv4 unicast.
     Ip4 {
@@ -54,7 +54,7 @@ impl MpReach {
 }
 
 /// MP_UNREACH_NLRI: routes that are gone (RFC 4760, section 4).
-#[derive(Debug, Drop, PartialEq)]
+#[derive(Drop, PartialEq)]
 pub enum MpUnreach {
     /// IPv4 unicast.
     Ip4(List<Prefix4>),

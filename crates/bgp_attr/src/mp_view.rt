@@ -8,7 +8,7 @@ use bgp_wire::List;
 use std::alloc::{AllocError, Global};
 
 /// MP_REACH_NLRI, borrowed.
-#[derive(Clone, Copy, Debug)]
+#[derive(Clone, Copy)]
 pub enum MpReachView<'a> {
     /// IPv4 unicast.
     Ip4 {
@@ -60,7 +60,7 @@ impl MpReachView<'_> {
 }
 
 /// MP_UNREACH_NLRI, borrowed.
-#[derive(Clone, Copy, Debug)]
+#[derive(Clone, Copy)]
 pub enum MpUnreachView<'a> {
     /// IPv4 unicast.
     Ip4(PrefixIter4<'a>),

@@ -52,7 +52,7 @@ pub(crate) fn count_numbers(wide: bool, octets: &[u8]) -> usize
 }
 
 /// The AS numbers of a segment, in order (RFC 4271, section 4.3). It takes no memory.
-#[derive(Clone, Copy, Debug)]
+#[derive(Clone, Copy)]
 pub struct AsNumberIter<'a> {
     pub(crate) wide: bool,
     pub(crate) rest: &'a [u8],
@@ -98,7 +98,7 @@ impl<'a> Iterator for AsNumberIter<'a> {
 impl<'a> FusedIterator for AsNumberIter<'a> {}
 
 /// The communities of COMMUNITIES, in order (RFC 1997). It takes no memory.
-#[derive(Clone, Copy, Debug)]
+#[derive(Clone, Copy)]
 pub struct CommIter<'a> {
     pub(crate) rest: &'a [u8],
 }

@@ -6,7 +6,7 @@ use bgp_wire::{List, TryCopy};
 use std::alloc::{AllocError, Global};
 
 /// An optional attribute of a type that isn't recognised: its value is kept as it is (RFC 4271, section 5).
-#[derive(Debug, Drop, PartialEq)]
+#[derive(Drop, PartialEq)]
 pub struct Opaque {
     /// The type.
     pub kind: u8,

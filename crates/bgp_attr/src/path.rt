@@ -16,7 +16,7 @@ pub enum SegKind {
 }
 
 /// A part of a path (RFC 4271, section 4.3).
-#[derive(Debug, Drop, PartialEq)]
+#[derive(Drop, PartialEq)]
 pub struct Segment {
     /// Whether its numbers are in order.
     pub kind: SegKind,
@@ -47,7 +47,7 @@ impl TryCopy for Segment {
 }
 
 /// AS_PATH: the systems that the route went through (RFC 4271, section 5.1.2).
-#[derive(Debug, Drop, PartialEq)]
+#[derive(Drop, PartialEq)]
 pub struct AsPath {
     /// The segments, the nearest first: possibly none.
     pub segments: List<Segment>,
@@ -67,7 +67,7 @@ impl AsPath {
 }
 
 /// AS4_PATH: the path as speakers with AS numbers of four octets made it, passed on by others (RFC 6793, section 3).
-#[derive(Debug, Drop, PartialEq)]
+#[derive(Drop, PartialEq)]
 pub struct As4Path {
     /// The Partial bit.
     pub partial: bool,

@@ -12,7 +12,7 @@ use std::alloc::{AllocError, Global};
 use std::iter::FusedIterator;
 
 /// A segment whose numbers are borrowed.
-#[derive(Clone, Copy, Debug)]
+#[derive(Clone, Copy)]
 pub struct SegmentView<'a> {
     /// Whether its numbers are in order.
     pub kind: SegKind,
@@ -39,7 +39,7 @@ impl<'a> SegmentView<'a> {
 }
 
 /// A path whose segments are borrowed.
-#[derive(Clone, Copy, Debug)]
+#[derive(Clone, Copy)]
 pub struct PathView<'a> {
     form: PathForm,
     octets: &'a [u8],
@@ -81,7 +81,7 @@ impl<'a> PathView<'a> {
 }
 
 /// The segments of a path that are kept, the nearest first. It takes no memory.
-#[derive(Clone, Copy, Debug)]
+#[derive(Clone, Copy)]
 pub struct SegmentIter<'a> {
     form: PathForm,
     rest: &'a [u8],

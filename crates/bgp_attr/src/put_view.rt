@@ -16,7 +16,7 @@ use crate::mp_view::{MpReachView, MpUnreachView};
 use crate::numbers::{AsNumberIter, CommIter};
 use crate::path_view::{PathView, SegmentView};
 use crate::put::{put_number, put_octets, put_triple, segment_code};
-use crate::write::address_octets;
+use crate::write::{address_octets, put_hops};
 use bgp_numbers::{afi, safi};
 use bgp_prefix::PrefixIter;
 use std::alloc::AllocError;
@@ -115,12 +115,7 @@ fn put_reach_row<const W: usize>(
     ensures ok { OnOk result (out.new.items ≡ out.old.items ++ reach_row family (hop.now ++ link.now) (prefixes_left routes.entry)) }
     ensures err { OnErr result (Extends out.old.items out.new.items) }
 {
-    let [high, low] = family.to_be_bytes();
-    let len = (hop.len() + link.len()) as u8;
-    put_octets(&[high, low, safi::UNICAST, len], out)?;
-    put_octets(hop, out)?;
-    put_octets(link, out)?;
-    put_octets(&[0], out)?;
+    put_hops(family, hop, link, out)?;
     routes.write(out)?;
     Ok(())
 }

@@ -6,7 +6,7 @@ ghost use Rattle.bgp_attr.specs.Tlv.{tlv_octets};
 use crate::flags::Flags;
 
 /// An attribute before it is judged: its flags, its type, its value (RFC 4271, section 4.3).
-#[derive(Clone, Copy, Debug)]
+#[derive(Clone, Copy)]
 pub struct Tlv<'a> {
     /// The offset of its flags in the attribute field.
     pub at: usize,
@@ -23,7 +23,7 @@ pub struct Tlv<'a> {
 }
 
 /// What stands behind the last whole attribute of a field.
-#[derive(Clone, Copy, Debug, PartialEq, Eq)]
+#[derive(Clone, Copy, PartialEq, Eq)]
 pub enum Tail<'a> {
     /// Nothing: the field ends there.
     End,

@@ -7,7 +7,7 @@ use crate::tlv::{Tail, Tlv};
 use std::iter::FusedIterator;
 
 /// The attributes that a field begins with, each whole, up to its end or to one that is cut off. It takes no memory.
-#[derive(Clone, Copy, Debug)]
+#[derive(Clone, Copy)]
 pub struct TlvIter<'a> {
     field: &'a [u8],
     at: usize,

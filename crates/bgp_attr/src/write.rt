@@ -57,6 +57,26 @@ pub(crate) fn put_aggregator(
     put_address(&addr, out)
 }
 
+/// Adds a family and a next hop of one or two addresses: all that stands before the prefixes.
+pub(crate) fn put_hops(
+    family: u16,
+    hop: &[u8],
+    link: &[u8],
+    out: &mut Vec<u8>,
+) -> Result<(), AllocError>
+    requires { length hop.now + length link.now ≤ 255 }
+    ensures ok { OnOk result (out.new.items ≡ out.old.items ++ reach_row family (hop.now ++ link.now) []) }
+    ensures ranges { OnOk result (AreOctets hop.now × AreOctets link.now) }
+    ensures err { OnErr result (Extends out.old.items out.new.items) }
+{
+    let [high, low] = family.to_be_bytes();
+    let len = (hop.len() + link.len()) as u8;
+    put_octets(&[high, low, safi::UNICAST, len], out)?;
+    put_octets(hop, out)?;
+    put_octets(link, out)?;
+    put_octets(&[0], out)
+}
+
 /// Adds a family, a next hop of one or two addresses, and prefixes.
 fn put_reach_row<const W: usize>(
     family: u16,
@@ -67,17 +87,11 @@ fn put_reach_row<const W: usize>(
 ) -> Result<(), AllocError>
     requires { length hop.now + length link.now ≤ 255 }
     ensures ok { OnOk result (out.new.items ≡ out.old.items ++ reach_row family (hop.now ++ link.now) routes.now) }
-    ensures hop { OnOk result (AreOctets hop.now) }
-    ensures link { OnOk result (AreOctets link.now) }
+    ensures hops { OnOk result (AreOctets hop.now × AreOctets link.now) }
     ensures routes { OnOk result (AllByRecursion (IsValid W) routes.now) }
     ensures err { OnErr result (Extends out.old.items out.new.items) }
 {
-    let [high, low] = family.to_be_bytes();
-    let len = (hop.len() + link.len()) as u8;
-    put_octets(&[high, low, safi::UNICAST, len], out)?;
-    put_octets(hop, out)?;
-    put_octets(link, out)?;
-    put_octets(&[0], out)?;
+    put_hops(family, hop, link, out)?;
     put_run(routes, out)
 }
 

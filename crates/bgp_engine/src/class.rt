@@ -7,7 +7,7 @@ ghost use Rattle.bgp_engine.specs.Show.{class_of};
 use bgp_msg::OutcomeView;
 
 /// What an outcome is, for the counts and for what follows it.
-#[derive(Clone, Copy, Debug, PartialEq, Eq)]
+#[derive(Clone, Copy, PartialEq, Eq)]
 pub(crate) enum Class {
     /// It is taken, or handed on.
     Took,

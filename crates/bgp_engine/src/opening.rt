@@ -23,7 +23,7 @@ use std::alloc::{AllocError, Global};
 use std::io::{Read, Write};
 
 /// How far a stream has come.
-#[derive(Clone, Copy, Debug, PartialEq, Eq)]
+#[derive(Clone, Copy, PartialEq, Eq)]
 pub(crate) enum Stage {
     /// The first message waits.
     First,

@@ -16,7 +16,7 @@ use std::marker::Model;
 /// Reads the octets of a stream, in whatever pieces they come, and holds at most one message (RFC 4271, section 4.1).
 ///
 /// A header is judged once its 19 octets are there, and not before. At most 4096 octets are held, and no call takes memory.
-#[derive(Debug, Drop)]
+#[derive(Drop)]
 pub struct Framer {
     buffer: ArrayVec<u8, 4096>,
 }

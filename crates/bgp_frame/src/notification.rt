@@ -5,7 +5,7 @@ ghost use Rattle.std.specs.Prelude.{◌≤◌, length};
 use arrayvec::ArrayVec;
 
 /// A NOTIFICATION (RFC 4271, section 4.5): an error's code and subcode, and at most 4075 octets of information.
-#[derive(Debug, Drop, PartialEq, Eq)]
+#[derive(Drop, PartialEq, Eq)]
 pub struct Notification {
     /// The error code.
     pub code: u8,
@@ -41,7 +41,7 @@ impl Notification {
 }
 
 /// A NOTIFICATION whose information still lies in the octets that are at fault: a few words in place of 4 KB.
-#[derive(Clone, Copy, Debug)]
+#[derive(Clone, Copy)]
 pub struct NotificationView<'a> {
     /// The error code.
     pub code: u8,

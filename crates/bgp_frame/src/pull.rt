@@ -4,7 +4,7 @@ use crate::fault::HeadFault;
 use crate::step::Frame;
 
 /// What [`Framer::look`](crate::Framer::look) finds (RFC 4271, section 4.1).
-#[derive(Clone, Copy, Debug, PartialEq, Eq)]
+#[derive(Clone, Copy)]
 pub enum Pull<'a> {
     /// No whole message: the piece is to be fed.
     Feed,

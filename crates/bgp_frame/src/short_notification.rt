@@ -6,7 +6,7 @@ use crate::notification::NotificationView;
 
 /// A NOTIFICATION with at most two octets of information of its own, as a header's fault and a message out of place have: a few words in place of
 /// 4 KB.
-#[derive(Clone, Copy, Debug)]
+#[derive(Clone, Copy)]
 pub struct ShortNotification {
     code: u8,
     subcode: u8,

@@ -1,7 +1,7 @@
 //! What became of the connection.
 
 /// What the actions of one call of the session made of the connection, as the session has to be told.
-#[derive(Clone, Copy, Debug, PartialEq, Eq)]
+#[derive(Clone, Copy, PartialEq, Eq)]
 pub(crate) enum Link {
     /// It is as it was.
     Same,

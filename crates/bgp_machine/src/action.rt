@@ -9,7 +9,7 @@ use bgp_update::{PathInfo, Routes, Update};
 use std::alloc::{AllocError, Global};
 
 /// What the one who runs a session has to do.
-#[derive(Debug, Drop, PartialEq)]
+#[derive(Drop, PartialEq)]
 pub enum Action {
     /// Seek a connection to the peer.
     Connect,
@@ -56,22 +56,22 @@ impl Action {
     pub fn copy(&self, alloc: Global) -> Result<Action, AllocError>
         ensures { IfOk result (λ copy. copy ≡ self.now) }
     {
-        match self {
-            Action::Connect => Ok(Action::Connect),
-            Action::Close => Ok(Action::Close),
-            Action::SendOpen => Ok(Action::SendOpen),
-            Action::SendKeepalive => Ok(Action::SendKeepalive),
+        Ok(match self {
+            Action::Connect => Action::Connect,
+            Action::Close => Action::Close,
+            Action::SendOpen => Action::SendOpen,
+            Action::SendKeepalive => Action::SendKeepalive,
             Action::SendNotification(notification) => {
-                Ok(Action::SendNotification(notification.copy()))
+                Action::SendNotification(notification.copy())
             }
-            Action::Arm(timer, seconds) => Ok(Action::Arm(*timer, *seconds)),
-            Action::Disarm(timer) => Ok(Action::Disarm(*timer)),
+            Action::Arm(timer, seconds) => Action::Arm(*timer, *seconds),
+            Action::Disarm(timer) => Action::Disarm(*timer),
             Action::Announce(update, info) => {
-                let update = update.copy(alloc)?;
-                Ok(Action::Announce(update, info.copy(alloc)?))
+                let info = info.copy(alloc)?;
+                Action::Announce(update.copy(alloc)?, info)
             }
-            Action::Withdraw(routes) => Ok(Action::Withdraw(routes.copy(alloc)?)),
-            Action::Flush => Ok(Action::Flush),
-        }
+            Action::Withdraw(routes) => Action::Withdraw(routes.copy(alloc)?),
+            Action::Flush => Action::Flush,
+        })
     }
 }

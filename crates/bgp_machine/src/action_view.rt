@@ -5,7 +5,7 @@ use bgp_frame::NotificationView;
 use bgp_update::UpdateView;
 
 /// What the one who runs a session has to do: an [`Action`](crate::Action) in some words, without memory.
-#[derive(Clone, Copy, Debug)]
+#[derive(Clone, Copy)]
 pub enum ActionView<'a> {
     /// Seek a connection to the peer.
     Connect,

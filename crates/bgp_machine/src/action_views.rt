@@ -15,7 +15,7 @@ use std::alloc::{AllocError, Global};
 use std::marker::Model;
 
 /// What is to be done, in order: at most five things, in some words each and without memory.
-#[derive(Debug, Drop)]
+#[derive(Drop)]
 pub struct ActionViews<'a> {
     list: ArrayVec<ActionView<'a>, 5>,
 }
@@ -33,12 +33,20 @@ impl<'a> Model for ActionViews<'a> {
 // An `Action` has room for a NOTIFICATION of 4 KB, and a function clears the room of each that it makes as it is entered. So what most messages ask
 // for is written into the action that stood there before, where that was of the same kind, and else made in functions of their own.
 
+/// Puts an action where another was. It is inlined, so that the action is made where it is to stand.
+#[inline(always)]
+fn set(action: Action, place: &mut Action)
+    ensures { place.new ≡ action }
+{
+    *place = action;
+}
+
 /// Puts a timer that is to be started where another action was.
 #[inline(never)]
 fn set_arm(timer: Timer, seconds: u16, place: &mut Action)
     ensures { place.new ≡ Arm timer seconds }
 {
-    *place = Action::Arm(timer, seconds);
+    set(Action::Arm(timer, seconds), place);
 }
 
 /// Puts a timer that is to be started into a place.
@@ -60,7 +68,21 @@ fn fill_arm(timer: Timer, seconds: u16, place: &mut Action)
 fn set_announce(update: Update, info: PathInfo, place: &mut Action)
     ensures { place.new ≡ Announce update info }
 {
-    *place = Action::Announce(update, info);
+    set(Action::Announce(update, info), place);
+}
+
+/// Puts an announcement into a place.
+#[inline(always)]
+fn put_announce(update: Update, info: PathInfo, place: &mut Action)
+    ensures { place.new ≡ Announce update info }
+{
+    match place {
+        Action::Announce(routes, path) => {
+            *routes = update;
+            *path = info;
+        }
+        other => set_announce(update, info, other),
+    }
 }
 
 /// Puts routes that the peer announces into a place.
@@ -70,13 +92,7 @@ fn fill_announce(alloc: Global, view: &UpdateView<'_>, place: &mut Action) -> Re
 {
     let update = view.own(alloc)?;
     let info = reconcile(alloc, &update.attrs)?;
-    match place {
-        Action::Announce(routes, path) => {
-            *routes = onward(update);
-            *path = info;
-        }
-        other => set_announce(onward(update), info, other),
-    }
+    put_announce(onward(update), info, place);
     Ok(())
 }
 
@@ -85,17 +101,17 @@ fn fill_announce(alloc: Global, view: &UpdateView<'_>, place: &mut Action) -> Re
 fn fill_withdraw(alloc: Global, view: &UpdateView<'_>, place: &mut Action) -> Result<(), AllocError>
     ensures { OnOk result (place.new ≡ Withdraw (routes_value view.now)) }
 {
-    *place = Action::Withdraw(view.routes(alloc)?);
+    set(Action::Withdraw(view.routes(alloc)?), place);
     Ok(())
 }
 
 /// The action, where it asks for no memory.
-#[inline(never)]
-fn set_plain(action: &ActionView<'_>, place: &mut Action)
+#[inline(always)]
+fn plain(action: &ActionView<'_>) -> Action
     requires { takes_memory (action_of action.now) ≡ false }
-    ensures { place.new ≡ action_of action.now }
+    ensures { result ≡ action_of action.now }
 {
-    *place = match action {
+    match action {
         ActionView::Connect => Action::Connect,
         ActionView::SendOpen => Action::SendOpen,
         ActionView::SendKeepalive => Action::SendKeepalive,
@@ -105,7 +121,16 @@ fn set_plain(action: &ActionView<'_>, place: &mut Action)
         ActionView::Flush => Action::Flush,
         // Neither an announcement nor a withdrawal asks for no memory.
         ActionView::Close | ActionView::Announce(_) | ActionView::Withdraw(_) => Action::Close,
-    };
+    }
+}
+
+/// Puts an action that asks for no memory where another was.
+#[inline(never)]
+fn set_plain(action: &ActionView<'_>, place: &mut Action)
+    requires { takes_memory (action_of action.now) ≡ false }
+    ensures { place.new ≡ action_of action.now }
+{
+    set(plain(action), place);
 }
 
 /// Puts an action that asks for no memory into a place: most messages start a timer.
@@ -129,8 +154,8 @@ fn fill(alloc: Global, action: &ActionView<'_>, place: &mut Action) -> Result<()
     match action {
         ActionView::Announce(view) => fill_announce(alloc, view, place),
         ActionView::Withdraw(view) => fill_withdraw(alloc, view, place),
-        plain => {
-            fill_plain(plain, place);
+        other => {
+            fill_plain(other, place);
             Ok(())
         }
     }

@@ -6,7 +6,7 @@ use bgp_update::UpdateView;
 
 /// A message, or a header with a fault, as a session hears it where the connection stands: some words that point into its octets.
 /// The view of an UPDATE stands in a place of the caller's.
-#[derive(Clone, Copy, Debug)]
+#[derive(Clone, Copy)]
 pub enum Heard<'a> {
     /// The peer's OPEN, where it is accepted, and what both agree on.
     Open(OpenView<'a>, Context),

@@ -8,7 +8,7 @@ use std::alloc::{AllocError, Global};
 use std::marker::Model;
 
 /// Where a session goes on: what [`Session::go`](crate::Session::go) takes.
-#[derive(Debug, Drop)]
+#[derive(Drop)]
 pub struct Next {
     pub(crate) standing: Standing,
 }
@@ -23,7 +23,7 @@ impl Model for Next {
 
 /// A message, or a header with a fault, as a session hears it; what is to be done on it, and where the session goes on. It takes no memory: it
 /// points into the piece, or into what the session holds.
-#[derive(Debug, Drop)]
+#[derive(Drop)]
 pub struct Look<'a> {
     taken: usize,
     was: &'a Standing,

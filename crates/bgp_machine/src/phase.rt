@@ -8,7 +8,7 @@ use crate::state::State;
 use bgp_open::{Context, Peer};
 
 /// The state of a session: where the peer is accepted, with what both agreed on and what it said of itself.
-#[derive(Clone, Copy, Debug)]
+#[derive(Clone, Copy)]
 pub(crate) enum Phase {
     Idle,
     Connect,

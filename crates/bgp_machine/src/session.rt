@@ -24,7 +24,7 @@ use std::marker::Model;
 
 /// One speaker's end of one connection (RFC 4271, section 8). It does no IO and knows no time: its owner tells it what happens and feeds it
 /// the octets that come, and does what it answers. It holds at most one message, of at most 4096 octets.
-#[derive(Debug, Drop)]
+#[derive(Drop)]
 pub struct Session {
     pub(crate) config: Config,
     pub(crate) standing: Standing,

@@ -15,7 +15,7 @@ use bgp_open::Context;
 use std::marker::Model;
 
 /// Where a session stands: its state, and its timers.
-#[derive(Debug, Drop)]
+#[derive(Drop)]
 pub(crate) struct Standing {
     pub(crate) phase: Phase,
     pub(crate) timers: Timers,

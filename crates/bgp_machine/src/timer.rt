@@ -18,7 +18,7 @@ pub const RETRY_SECONDS: u16 = 120;
 pub const OPEN_HOLD_SECONDS: u16 = 240;
 
 /// Which timers run.
-#[derive(Clone, Copy, Debug, PartialEq, Eq)]
+#[derive(Clone, Copy, PartialEq, Eq)]
 pub(crate) struct Timers {
     pub(crate) retry: bool,
     pub(crate) hold: bool,

@@ -18,7 +18,7 @@ use std::marker::Model;
 
 /// Reads the octets of a stream, in whatever pieces they come, and hands out the outcome of each message. It holds at most one
 /// message, of at most 4096 octets; behind a reset it holds and reads nothing.
-#[derive(Debug, Drop)]
+#[derive(Drop)]
 pub struct Decoder {
     ctx: Context,
     framer: Framer,
@@ -189,8 +189,8 @@ impl Decoder {
         let OutcomeView::Update(view) = view_frame(&self.ctx, frame, &mut place) else {
             return Ok(None);
         };
-        let update = view.own(alloc)?;
         let notes = view.own_notes(alloc)?;
+        let update = view.own(alloc)?;
         Ok(Some((len, update, notes)))
     }
 

@@ -4,7 +4,7 @@ use crate::outcome_view::OutcomeView;
 use bgp_frame::HeadFault;
 
 /// What a pull from a piece would give, as a view that takes no memory: it points into the piece, or into what the decoder holds.
-#[derive(Clone, Copy, Debug)]
+#[derive(Clone, Copy)]
 pub enum Look<'a> {
     /// A whole message: how many octets of the piece a pull would consume (none where the message is held), how many octets the message has,
     /// and what it comes to.

@@ -9,7 +9,7 @@ use bgp_update::Update;
 use std::alloc::{AllocError, Global};
 
 /// A message (RFC 4271, section 4).
-#[derive(Debug, Drop, PartialEq)]
+#[derive(Drop, PartialEq)]
 pub enum Message {
     /// OPEN (RFC 4271, section 4.2).
     Open(Open),
@@ -41,11 +41,11 @@ impl Message {
     pub fn copy(&self, alloc: Global) -> Result<Message, AllocError>
         ensures { IfOk result (λ copy. copy ≡ self.now) }
     {
-        match self {
-            Message::Open(open) => Ok(Message::Open(open.copy(alloc)?)),
-            Message::Update(update) => Ok(Message::Update(update.copy(alloc)?)),
-            Message::Notification(notification) => Ok(Message::Notification(notification.copy())),
-            Message::Keepalive => Ok(Message::Keepalive),
-        }
+        Ok(match self {
+            Message::Open(open) => Message::Open(open.copy(alloc)?),
+            Message::Update(update) => Message::Update(update.copy(alloc)?),
+            Message::Notification(notification) => Message::Notification(notification.copy()),
+            Message::Keepalive => Message::Keepalive,
+        })
     }
 }

@@ -10,7 +10,7 @@ use bgp_wire::{List, TryCopy};
 use std::alloc::{AllocError, Global};
 
 /// The outcome of a message, or of the header of one.
-#[derive(Debug, Drop, PartialEq)]
+#[derive(Drop, PartialEq)]
 pub enum Outcome {
     /// It is accepted, with notes on attributes of an UPDATE that are discarded.
     Took(Message, List<Note>),
@@ -37,17 +37,17 @@ impl Outcome {
     pub fn copy(&self, alloc: Global) -> Result<Outcome, AllocError>
         ensures { IfOk result (λ copy. copy ≡ self.now) }
     {
-        match self {
+        Ok(match self {
             Outcome::Took(message, notes) => {
-                let message = message.copy(alloc)?;
-                Ok(Outcome::Took(message, notes.copy(alloc)?))
+                let notes = notes.copy(alloc)?;
+                Outcome::Took(message.copy(alloc)?, notes)
             }
             Outcome::Withdraw(routes, notes) => {
-                let routes = routes.copy(alloc)?;
-                Ok(Outcome::Withdraw(routes, notes.copy(alloc)?))
+                let notes = notes.copy(alloc)?;
+                Outcome::Withdraw(routes.copy(alloc)?, notes)
             }
-            Outcome::Reset(notification) => Ok(Outcome::Reset(notification.copy())),
-        }
+            Outcome::Reset(notification) => Outcome::Reset(notification.copy()),
+        })
     }
 }
 

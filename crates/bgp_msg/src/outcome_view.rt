@@ -1,6 +1,6 @@
 //! The outcome of a message, from borrowed octets.
 
-ghost use Rattle.std.specs.Prelude.{◌≡◌, true, IfOk, OnErr};
+ghost use Rattle.std.specs.Prelude.{◌≡◌, [], true, IfOk, OnErr};
 ghost use Rattle.bgp_update.specs.View.{update_value, notes_value, routes_value};
 ghost use Rattle.bgp_msg.specs.declared.message.Message.TheVariants as message;
 ghost use Rattle.bgp_msg.specs.declared.outcome.Outcome.TheVariants as outcome;
@@ -15,7 +15,7 @@ use std::alloc::{AllocError, Global};
 
 /// The outcome of a message, or of the header of one: some words that point into its octets, in place of an [`Outcome`] with memory of its own. An
 /// UPDATE's view stands in a place of the caller's.
-#[derive(Clone, Copy, Debug)]
+#[derive(Clone, Copy)]
 pub enum OutcomeView<'a> {
     /// An OPEN is accepted.
     Open(OpenView<'a>),
@@ -29,6 +29,34 @@ pub enum OutcomeView<'a> {
     Withdraw(&'a UpdateView<'a>),
     /// The session ends with this notification.
     Reset(NotificationView<'a>),
+}
+
+/// An UPDATE that is accepted, with memory of its own. The notes come first: proofs pay for each large value that `?` may drop.
+#[inline(always)]
+fn own_update(view: &UpdateView<'_>, alloc: Global) -> Result<Outcome, AllocError>
+    ensures { IfOk result (λ o. o ≡ outcome.Took (message.Update (update_value view.now)) (notes_value view.now)) }
+{
+    let notes = view.own_notes(alloc)?;
+    let update = view.own(alloc)?;
+    Ok(Outcome::Took(Message::Update(update), notes))
+}
+
+/// An UPDATE that is treated as a withdrawal, with memory of its own.
+#[inline(always)]
+fn own_withdrawal(view: &UpdateView<'_>, alloc: Global) -> Result<Outcome, AllocError>
+    ensures { IfOk result (λ o. o ≡ outcome.Withdraw (routes_value view.now) (notes_value view.now)) }
+{
+    let notes = view.own_notes(alloc)?;
+    let routes = view.routes(alloc)?;
+    Ok(Outcome::Withdraw(routes, notes))
+}
+
+/// A message that is accepted without notes.
+#[inline(always)]
+fn took(told: Message, alloc: Global) -> Outcome
+    ensures { result ≡ outcome.Took told [] }
+{
+    Outcome::Took(told, List::new(alloc))
 }
 
 impl OutcomeView<'_> {
@@ -54,27 +82,13 @@ impl OutcomeView<'_> {
         ensures value { IfOk result (λ o. o ≡ outcome_value self.now) }
         ensures err { OnErr result (has_lists (outcome_value self.now) ≡ true) }
     {
-        match self {
-            OutcomeView::Open(view) => {
-                let open = view.own(alloc)?;
-                Ok(Outcome::Took(Message::Open(open), List::new(alloc)))
-            }
-            OutcomeView::Update(view) => {
-                let update = view.own(alloc)?;
-                let notes = view.own_notes(alloc)?;
-                Ok(Outcome::Took(Message::Update(update), notes))
-            }
-            OutcomeView::Notification(said) => Ok(Outcome::Took(
-                Message::Notification(said.own()),
-                List::new(alloc),
-            )),
-            OutcomeView::Keepalive => Ok(Outcome::Took(Message::Keepalive, List::new(alloc))),
-            OutcomeView::Withdraw(view) => {
-                let routes = view.routes(alloc)?;
-                let notes = view.own_notes(alloc)?;
-                Ok(Outcome::Withdraw(routes, notes))
-            }
-            OutcomeView::Reset(why) => Ok(Outcome::Reset(why.own())),
-        }
+        Ok(match self {
+            OutcomeView::Open(view) => took(Message::Open(view.own(alloc)?), alloc),
+            OutcomeView::Update(view) => own_update(view, alloc)?,
+            OutcomeView::Notification(said) => took(Message::Notification(said.own()), alloc),
+            OutcomeView::Keepalive => took(Message::Keepalive, alloc),
+            OutcomeView::Withdraw(view) => own_withdrawal(view, alloc)?,
+            OutcomeView::Reset(why) => Outcome::Reset(why.own()),
+        })
     }
 }

@@ -9,7 +9,7 @@ use std::alloc::{AllocError, Global};
 
 /// What a stream of octets has: for each message its octets in number and its outcome, and how the stream ends. A header's fault
 /// is the last outcome, of no octets.
-#[derive(Debug, Drop, PartialEq)]
+#[derive(Drop, PartialEq)]
 pub struct Seen {
     /// Each outcome in order, behind the octets of its message in number: 19 to 4096, or 0 for a header with a fault.
     pub outs: List<(u16, Outcome)>,

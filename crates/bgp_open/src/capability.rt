@@ -8,7 +8,7 @@ use bgp_wire::{List, TryCopy};
 use std::alloc::{AllocError, Global};
 
 /// What a speaker says it can do (RFC 5492, section 4).
-#[derive(Debug, Drop, PartialEq)]
+#[derive(Drop, PartialEq)]
 pub enum Capability {
     /// Routes of this address family and subsequent address family (RFC 4760, section 8).
     Multi(u16, u8),

@@ -15,7 +15,7 @@ use std::alloc::{AllocError, Global};
 use std::iter::FusedIterator;
 
 /// The capabilities of an OPEN in their order, however they are grouped into parameters (RFC 5492, section 4). It takes no memory.
-#[derive(Clone, Copy, Debug)]
+#[derive(Clone, Copy)]
 pub struct CapabilityIter<'a> {
     /// What is left of the parameter that was begun.
     begun: &'a [u8],

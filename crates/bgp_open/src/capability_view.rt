@@ -10,7 +10,7 @@ use bgp_wire::List;
 use std::alloc::{AllocError, Global};
 
 /// A capability whose value is borrowed (RFC 5492, section 4).
-#[derive(Clone, Copy, Debug)]
+#[derive(Clone, Copy)]
 pub enum CapabilityView<'a> {
     /// Routes of this address family and subsequent address family (RFC 4760, section 8).
     Multi(u16, u8),

@@ -9,7 +9,7 @@ use bgp_wire::List;
 use std::alloc::{AllocError, Global};
 
 /// What an OPEN of version 4 says (RFC 4271, section 4.2).
-#[derive(Debug, Drop, PartialEq)]
+#[derive(Drop, PartialEq)]
 pub struct Open {
     /// My Autonomous System: the sender's AS number, or 23456 where that has more than two octets (RFC 6793, section 4.1).
     pub as_field: u16,

@@ -9,7 +9,7 @@ use crate::peer::Peer;
 use std::alloc::{AllocError, Global};
 
 /// The body of an OPEN without a fault, borrowed (RFC 4271, section 4.2).
-#[derive(Clone, Copy, Debug)]
+#[derive(Clone, Copy)]
 pub struct OpenView<'a> {
     body: &'a [u8],
     ghost whole: { 10 ≤ length body.now },

@@ -10,7 +10,7 @@ use bgp_wire::OctetSet;
 
 /// What an OPEN tells of the speaker that sent it: all but the values of capabilities that have no effect here (RFC 4271, section 4.2).
 /// It takes no memory, and stays when the octets are gone.
-#[derive(Clone, Copy, Debug)]
+#[derive(Clone, Copy)]
 pub struct Peer {
     /// My Autonomous System, as it stands in the OPEN.
     pub as_field: u16,

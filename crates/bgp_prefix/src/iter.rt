@@ -5,7 +5,7 @@ use crate::prefix::Prefix;
 use std::iter::FusedIterator;
 
 /// The prefixes that octets begin with, up to the end or the first fault. It takes no memory.
-#[derive(Clone, Copy, Debug)]
+#[derive(Clone, Copy)]
 pub struct PrefixIter<'a, const W: usize> {
     pub(crate) rest: &'a [u8],
 }

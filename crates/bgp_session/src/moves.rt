@@ -8,7 +8,7 @@ use bgp_update::Update;
 use std::alloc::{AllocError, Global};
 
 /// One move of a schedule: what happens to one side, or to the connection.
-#[derive(Debug, Drop, PartialEq)]
+#[derive(Drop, PartialEq)]
 pub enum Move {
     /// The operator starts the session of this side.
     Start(Side),
@@ -37,15 +37,15 @@ impl Move {
     pub fn copy(&self, alloc: Global) -> Result<Move, AllocError>
         ensures { IfOk result (λ copy. copy ≡ self.now) }
     {
-        match self {
-            Move::Start(side) => Ok(Move::Start(*side)),
-            Move::Stop(side) => Ok(Move::Stop(*side)),
-            Move::Join => Ok(Move::Join),
-            Move::Refuse(side) => Ok(Move::Refuse(*side)),
-            Move::Deliver(side, count) => Ok(Move::Deliver(*side, *count)),
-            Move::Lose => Ok(Move::Lose),
-            Move::Expire(side, timer) => Ok(Move::Expire(*side, *timer)),
-            Move::Send(side, update) => Ok(Move::Send(*side, update.copy(alloc)?)),
-        }
+        Ok(match self {
+            Move::Start(side) => Move::Start(*side),
+            Move::Stop(side) => Move::Stop(*side),
+            Move::Join => Move::Join,
+            Move::Refuse(side) => Move::Refuse(*side),
+            Move::Deliver(side, count) => Move::Deliver(*side, *count),
+            Move::Lose => Move::Lose,
+            Move::Expire(side, timer) => Move::Expire(*side, *timer),
+            Move::Send(side, update) => Move::Send(*side, update.copy(alloc)?),
+        })
     }
 }

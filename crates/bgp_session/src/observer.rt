@@ -68,7 +68,7 @@ pub trait Observer {
 }
 
 /// Makes nothing of what it is told.
-#[derive(Clone, Copy, Debug)]
+#[derive(Clone, Copy)]
 pub(crate) struct Nobody;
 
 impl Observer for Nobody {

@@ -9,7 +9,7 @@ use bgp_wire::{List, TryCopy};
 use std::alloc::{AllocError, Global};
 
 /// What both sides said and heard over one connection, each in order.
-#[derive(Debug, Drop, PartialEq)]
+#[derive(Drop, PartialEq)]
 pub struct Round {
     /// The UPDATEs that were sent by A, as they were given.
     pub sent_a: List<Update>,
@@ -28,7 +28,7 @@ pub struct Round {
 }
 
 /// What came of a schedule.
-#[derive(Debug, Drop, PartialEq)]
+#[derive(Drop, PartialEq)]
 pub struct Report {
     /// A round for each connection.
     pub rounds: List<Round>,

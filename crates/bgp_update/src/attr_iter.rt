@@ -10,7 +10,7 @@ use bgp_attr::{AttrView, FoundAttr};
 use std::iter::FusedIterator;
 
 /// The attributes of a message that are kept, by offset. It takes no memory.
-#[derive(Clone, Copy, Debug)]
+#[derive(Clone, Copy)]
 pub struct AttrIter<'a> {
     marks: MarkIter<'a>,
 }

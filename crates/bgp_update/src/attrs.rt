@@ -9,7 +9,7 @@ use bgp_wire::List;
 use std::alloc::{AllocError, Global};
 
 /// The path attributes of an UPDATE, at most one of each type (RFC 4271, section 5).
-#[derive(Debug, Drop, PartialEq)]
+#[derive(Drop, PartialEq)]
 pub struct Attrs {
     /// ORIGIN (RFC 4271, section 5.1.1).
     pub origin: Option<Origin>,

@@ -5,7 +5,7 @@ ghost use Rattle.bgp_update.specs.Parts.{behind_two, parts_of};
 ghost use Rattle.bgp_update.specs.Body.{parts_value};
 
 /// The parts of a body (RFC 4271, section 4.3).
-#[derive(Clone, Copy, Debug)]
+#[derive(Clone, Copy)]
 pub(crate) struct Body<'a> {
     pub(crate) withdrawn: &'a [u8],
     pub(crate) attributes: &'a [u8],

@@ -14,7 +14,7 @@ use bgp_attr::{AttrRef, MpReach, MpUnreach};
 use bgp_open::Context;
 
 /// Which tests some attribute fails.
-#[derive(Clone, Copy, Debug)]
+#[derive(Clone, Copy)]
 pub(crate) struct Failed {
     /// An AS number needs more octets than it has.
     pub(crate) too_wide: bool,

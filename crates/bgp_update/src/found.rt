@@ -4,7 +4,7 @@ use bgp_frame::NotificationView;
 
 /// The verdict on the body of an UPDATE, as [`View`](crate::View) says, where the view stands in a place of the caller's
 /// ([`UpdateView::judge`](crate::UpdateView::judge)): those to whom time matters match on this, in some words.
-#[derive(Clone, Copy, Debug)]
+#[derive(Clone, Copy)]
 pub enum Found<'a> {
     /// It is accepted with the attributes that are kept.
     Take,

@@ -11,7 +11,7 @@ use std::alloc::{AllocError, Global};
 use std::iter::FusedIterator;
 
 /// The first items of AS_PATH and then AS4_PATH, or AS_PATH alone, borrowed (RFC 6793, section 4.2.3).
-#[derive(Clone, Copy, Debug)]
+#[derive(Clone, Copy)]
 pub struct JoinedPathView<'a> {
     /// How many items of the first path lead: none where AS_PATH stands alone, which is the second then.
     items: usize,
@@ -77,7 +77,7 @@ impl<'a> JoinedPathView<'a> {
 }
 
 /// The segments of such a path, the nearest first. It takes no memory.
-#[derive(Clone, Copy, Debug)]
+#[derive(Clone, Copy)]
 pub struct JoinedSegmentIter<'a> {
     items: usize,
     leading: SegmentIter<'a>,

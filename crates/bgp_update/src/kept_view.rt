@@ -14,7 +14,7 @@ use std::alloc::{AllocError, Global};
 
 /// The path attributes of an UPDATE that are kept, at most one of each type, borrowed: an [`Attrs`] with iterators and slices in place of
 /// lists.
-#[derive(Clone, Copy, Debug)]
+#[derive(Clone, Copy)]
 pub struct KeptView<'a> {
     /// ORIGIN (RFC 4271, section 5.1.1).
     pub origin: Option<Origin>,

@@ -12,7 +12,7 @@ use bgp_wire::OctetSet;
 use std::iter::FusedIterator;
 
 /// An attribute's place in the field, its type, and what it comes to.
-#[derive(Clone, Copy, Debug)]
+#[derive(Clone, Copy)]
 pub(crate) struct MarkView<'a> {
     pub(crate) at: usize,
     pub(crate) kind: u8,
@@ -21,7 +21,7 @@ pub(crate) struct MarkView<'a> {
 }
 
 /// The marks of a field: of its attributes by place, then of one that is cut off. It takes no memory.
-#[derive(Clone, Copy, Debug)]
+#[derive(Clone, Copy)]
 pub(crate) struct MarkIter<'a> {
     ctx: Context,
     has_nlri: bool,

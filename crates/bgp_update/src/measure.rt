@@ -12,7 +12,7 @@ use bgp_open::Context;
 pub(crate) const LONGEST_BODY: usize = 4077;
 
 /// What the two length fields of a body say.
-#[derive(Clone, Copy, Debug)]
+#[derive(Clone, Copy)]
 pub(crate) struct Lengths {
     pub(crate) withdrawn: usize,
     pub(crate) attributes: usize,

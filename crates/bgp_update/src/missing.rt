@@ -9,7 +9,7 @@ use bgp_numbers::attribute;
 use bgp_wire::OctetSet;
 
 /// Which of the attributes that a message with routes has to have are missing (RFC 4271, section 5).
-#[derive(Clone, Copy, Debug, PartialEq, Eq)]
+#[derive(Clone, Copy, PartialEq, Eq)]
 pub(crate) struct Missing {
     pub(crate) origin: bool,
     pub(crate) as_path: bool,

@@ -13,7 +13,7 @@ use bgp_numbers::attribute::{AS_PATH, NEXT_HOP, ORIGIN};
 use std::iter::FusedIterator;
 
 /// The notes on a message: each attribute that isn't kept, by offset, the one that is cut off, then what is missing. It takes no memory.
-#[derive(Clone, Copy, Debug)]
+#[derive(Clone, Copy)]
 pub struct NoteIter<'a> {
     field_at: usize,
     marks: MarkIter<'a>,

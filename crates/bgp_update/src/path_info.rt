@@ -7,7 +7,7 @@ use bgp_wire::TryCopy;
 use std::alloc::{AllocError, Global};
 
 /// The path and the aggregator that AS4_PATH and AS4_AGGREGATOR give back (RFC 6793, section 4.2.3).
-#[derive(Debug, Drop, PartialEq)]
+#[derive(Drop, PartialEq)]
 pub struct PathInfo {
     /// The path: none without AS_PATH.
     pub path: Option<AsPath>,

@@ -17,7 +17,7 @@ use std::alloc::{AllocError, Global};
 
 /// The path and the aggregator that AS_PATH, AS4_PATH, AGGREGATOR and AS4_AGGREGATOR give together (RFC 6793, section 4.2.3), borrowed: a
 /// [`PathInfo`] with an iterator in place of lists.
-#[derive(Clone, Copy, Debug)]
+#[derive(Clone, Copy)]
 pub struct PathInfoView<'a> {
     /// The path: none without AS_PATH.
     pub path: Option<JoinedPathView<'a>>,

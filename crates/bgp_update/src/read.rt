@@ -11,12 +11,12 @@ use crate::view::{UpdateView, View};
 use bgp_open::Context;
 use std::alloc::{AllocError, Global};
 
-/// A message that is taken.
+/// A message that is taken. The notes come first: proofs pay for each large value that `?` may drop.
 fn own_taken(alloc: Global, view: &UpdateView<'_>) -> Result<Verdict, AllocError>
     ensures { IfOk result (λ v. v ≡ verdict.Take (update_value view.now) (notes_value view.now)) }
 {
-    let update = view.own(alloc)?;
     let notes = view.own_notes(alloc)?;
+    let update = view.own(alloc)?;
     Ok(Verdict::Take(update, notes))
 }
 
@@ -24,8 +24,8 @@ fn own_taken(alloc: Global, view: &UpdateView<'_>) -> Result<Verdict, AllocError
 fn own_withdrawn(alloc: Global, view: &UpdateView<'_>) -> Result<Verdict, AllocError>
     ensures { IfOk result (λ v. v ≡ verdict.Withdraw (routes_value view.now) (notes_value view.now)) }
 {
-    let routes = view.routes(alloc)?;
     let notes = view.own_notes(alloc)?;
+    let routes = view.routes(alloc)?;
     Ok(Verdict::Withdraw(routes, notes))
 }
 

@@ -7,7 +7,7 @@ use bgp_wire::{List, TryCopy};
 use std::alloc::{AllocError, Global};
 
 /// All routes of a message, announced and withdrawn alike (RFC 7606, section 2). Repeats stay.
-#[derive(Debug, Drop, PartialEq)]
+#[derive(Drop, PartialEq)]
 pub struct Routes {
     /// IPv4 unicast: of Withdrawn Routes, MP_UNREACH_NLRI, MP_REACH_NLRI and the NLRI field, in this order.
     pub ip4: List<Prefix4>,

@@ -17,7 +17,7 @@ use bgp_open::Context;
 use bgp_wire::OctetSet;
 
 /// What the marks of a field come to.
-#[derive(Clone, Copy, Debug)]
+#[derive(Clone, Copy)]
 pub(crate) struct Summary<'a> {
     /// The first reset.
     pub(crate) reset: Option<NotificationView<'a>>,

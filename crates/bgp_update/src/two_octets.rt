@@ -163,8 +163,8 @@ pub fn narrow_update(alloc: Global, update: &Update) -> Result<Update, AllocErro
     ensures { IfOk result (λ it. it ≡ narrowed_update update.now) }
 {
     let withdrawn = update.withdrawn.copy(alloc)?;
-    let attrs = narrow(alloc, &update.attrs)?;
     let nlri = update.nlri.copy(alloc)?;
+    let attrs = narrow(alloc, &update.attrs)?;
     Ok(Update {
         withdrawn,
         attrs,

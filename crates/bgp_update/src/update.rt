@@ -8,7 +8,7 @@ use bgp_wire::{List, TryCopy};
 use std::alloc::{AllocError, Global};
 
 /// What an UPDATE says (RFC 4271, section 4.3).
-#[derive(Debug, Drop, PartialEq)]
+#[derive(Drop, PartialEq)]
 pub struct Update {
     /// Withdrawn Routes: IPv4 unicast.
     pub withdrawn: List<Prefix4>,
@@ -27,8 +27,8 @@ impl Update {
         ensures { IfOk result (λ copy. copy ≡ self.now) }
     {
         let withdrawn = self.withdrawn.copy(alloc)?;
-        let attrs = self.attrs.copy(alloc)?;
         let nlri = self.nlri.copy(alloc)?;
+        let attrs = self.attrs.copy(alloc)?;
         Ok(Update {
             withdrawn,
             attrs,

@@ -10,7 +10,7 @@ use bgp_wire::List;
 use std::alloc::{AllocError, Global};
 
 /// The verdict on the body of an UPDATE (RFC 7606, section 3).
-#[derive(Debug, Drop, PartialEq)]
+#[derive(Drop, PartialEq)]
 pub enum Verdict {
     /// It is accepted with the attributes that are kept.
     Take(Update, List<Note>),
@@ -28,16 +28,16 @@ impl Verdict {
     pub fn copy(&self, alloc: Global) -> Result<Verdict, AllocError>
         ensures { IfOk result (λ copy. copy ≡ self.now) }
     {
-        match self {
+        Ok(match self {
             Verdict::Take(update, notes) => {
-                let update = update.copy(alloc)?;
-                Ok(Verdict::Take(update, notes.copy(alloc)?))
+                let notes = notes.copy(alloc)?;
+                Verdict::Take(update.copy(alloc)?, notes)
             }
             Verdict::Withdraw(routes, notes) => {
-                let routes = routes.copy(alloc)?;
-                Ok(Verdict::Withdraw(routes, notes.copy(alloc)?))
+                let notes = notes.copy(alloc)?;
+                Verdict::Withdraw(routes.copy(alloc)?, notes)
             }
-            Verdict::Reset(notification) => Ok(Verdict::Reset(notification.copy())),
-        }
+            Verdict::Reset(notification) => Verdict::Reset(notification.copy()),
+        })
     }
 }

@@ -30,7 +30,7 @@ use bgp_wire::List;
 use std::alloc::{AllocError, Global};
 
 /// The body of an UPDATE that is accepted or treated as a withdrawal, borrowed. What it gives takes no memory.
-#[derive(Clone, Copy, Debug)]
+#[derive(Clone, Copy)]
 pub struct UpdateView<'a> {
     ctx: Context,
     body: Body<'a>,
@@ -43,7 +43,7 @@ pub struct UpdateView<'a> {
 }
 
 /// The verdict on the body of an UPDATE (RFC 7606, section 3), borrowed.
-#[derive(Debug, Drop)]
+#[derive(Drop)]
 pub enum View<'a> {
     /// It is accepted with the attributes that are kept.
     Take(UpdateView<'a>),

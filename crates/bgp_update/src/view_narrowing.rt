@@ -10,7 +10,7 @@ ghost use Rattle.bgp_update.specs.Slots.{attr_list};
 ghost use Rattle.bgp_update.specs.Told.{CanBeTold};
 ghost use Rattle.bgp_update.specs.View.{update_value};
 ghost use Rattle.bgp_update.specs.Widths.{with_as4};
-ghost use Rattle.bgp_update.specs.Written.{body_octets, is_too_long, written_body};
+ghost use Rattle.bgp_update.specs.Written.{attributes_octets, body_octets, is_too_long, written_body};
 ghost use Rattle.bgp_update.specs.steps.ToldBody.{LaysOut, LaysOutBody};
 ghost use Rattle.bgp_update.specs.declared.view_narrowing.NarrowFault.TheVariants.{TooLong, Memory};
 
@@ -69,6 +69,22 @@ fn set_length(len: usize, at: usize, out: &mut Vec<u8>)
     out[at..at + 2].copy_from_slice(&(len as u16).to_be_bytes());
 }
 
+/// Adds the attributes as they are told; some octets may stay where an allocation failed.
+fn put_told(
+    alloc: Global,
+    ctx: &Context,
+    view: &UpdateView<'_>,
+    out: &mut Vec<u8>,
+) -> Result<(), AllocError>
+    requires narrow { ctx.now.as4 ≡ false }
+    requires writable { AllByRecursion (λ a. is_writable ctx.now a ≡ true) (attr_list (narrowed (update_value view.now).attrs)) }
+    ensures ok { OnOk result (out.new.items ≡ out.old.items ++ attributes_octets ctx.now (narrowed (update_value view.now).attrs)) }
+    ensures err { OnErr result (Extends out.old.items out.new.items) }
+{
+    let others = view.others(alloc)?;
+    put_told_attrs(ctx, view.kept(), others.as_slice(), out)
+}
+
 /// Adds the parts of a body, and room for the lengths of the first two; some octets may stay where an allocation failed.
 fn put_parts(
     alloc: Global,
@@ -85,8 +101,7 @@ fn put_parts(
     view.withdrawn().write(out)?;
     let attributes = out.len();
     put_room(out)?;
-    let others = view.others(alloc)?;
-    put_told_attrs(ctx, view.kept(), others.as_slice(), out)?;
+    put_told(alloc, ctx, view, out)?;
     let nlri = out.len();
     view.nlri().write(out)?;
     Ok(Places { attributes, nlri })

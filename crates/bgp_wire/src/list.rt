@@ -8,7 +8,7 @@ use std::marker::Model;
 use std::ops::DerefSlice;
 
 /// The elements of a [`Vec`]: a value that holds one compares and copies element by element.
-#[derive(Debug, Drop)]
+#[derive(Drop)]
 pub struct List<T> {
     items: Vec<T>,
 }

@@ -4,7 +4,7 @@ ghost use Rattle.std.specs.Prelude.{◌≡◌};
 ghost use Rattle.bgp_wire.specs.OctetSet.{also, has_octet, none_of_them};
 
 /// A set of octets, as the codes of capabilities or the types of attributes: a bit for each, in 32 octets.
-#[derive(Clone, Copy, Debug)]
+#[derive(Clone, Copy)]
 pub struct OctetSet {
     words: [u64; 4],
 }

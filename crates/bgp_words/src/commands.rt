@@ -222,12 +222,39 @@ pub(crate) fn narrow<'a>(alloc: Global) -> Result<Command<'a>, AllocError>
     with_session(alloc, narrow)
 }
 
+// A command with the one that shows. Each subcommand has a function of its own, since proofs pay for each command that `?` may drop.
+fn with_show<'a>(alloc: Global, command: Command<'a>) -> Result<Command<'a>, AllocError>
+    ensures { IfOk result (λ c. app_of c ≡ with_command (app_of command.entry) show_command) }
+{
+    with_command(command, show(alloc)?)
+}
+
+// A command with the one that checks.
+fn with_check<'a>(alloc: Global, command: Command<'a>) -> Result<Command<'a>, AllocError>
+    ensures { IfOk result (λ c. app_of c ≡ with_command (app_of command.entry) (with_judging (new_app (codes "check")))) }
+{
+    with_command(command, check(alloc)?)
+}
+
+// A command with the one that narrows.
+fn with_narrow<'a>(alloc: Global, command: Command<'a>) -> Result<Command<'a>, AllocError>
+    ensures { IfOk result (λ c. app_of c ≡ with_command (app_of command.entry) (with_session (new_app (codes "narrow")))) }
+{
+    with_command(command, narrow(alloc)?)
+}
+
+// A command with the one that runs a script.
+fn with_loop<'a>(alloc: Global, command: Command<'a>) -> Result<Command<'a>, AllocError>
+    ensures { IfOk result (λ c. app_of c ≡ with_command (app_of command.entry) loop_command) }
+{
+    with_command(command, looping(alloc)?)
+}
+
 // The commands that judge messages.
 fn judging<'a>(alloc: Global) -> Result<Command<'a>, AllocError>
     ensures { IfOk result (λ c. app_of c ≡ judging_commands) }
 {
-    let command = with_command(bare(alloc)?, show(alloc)?)?;
-    with_command(command, check(alloc)?)
+    with_check(alloc, with_show(alloc, bare(alloc)?)?)
 }
 
 // A command with one subcommand more, which has no flags.
@@ -243,18 +270,23 @@ fn with_plain<'a>(
     with_command(command, named(alloc, name, about, more))
 }
 
-// The commands that read a stream.
-fn streaming<'a>(alloc: Global) -> Result<Command<'a>, AllocError>
-    ensures { IfOk result (λ c. app_of c ≡ stream_commands) }
+// A command with the one that prints digits.
+fn with_to_hex<'a>(alloc: Global, command: Command<'a>) -> Result<Command<'a>, AllocError>
+    ensures { IfOk result (λ c. app_of c ≡ with_command (app_of command.entry) (new_app (codes "to-hex"))) }
 {
-    let command = with_command(judging(alloc)?, narrow(alloc)?)?;
-    let command = with_plain(
+    with_plain(
         alloc,
         command,
         "to-hex",
         "Print each message as one line of digits",
         TO_HEX_HELP,
-    )?;
+    )
+}
+
+// A command with the one that reads digits.
+fn with_from_hex<'a>(alloc: Global, command: Command<'a>) -> Result<Command<'a>, AllocError>
+    ensures { IfOk result (λ c. app_of c ≡ with_command (app_of command.entry) (new_app (codes "from-hex"))) }
+{
     with_plain(
         alloc,
         command,
@@ -264,9 +296,17 @@ fn streaming<'a>(alloc: Global) -> Result<Command<'a>, AllocError>
     )
 }
 
+// The commands that read a stream.
+fn streaming<'a>(alloc: Global) -> Result<Command<'a>, AllocError>
+    ensures { IfOk result (λ c. app_of c ≡ stream_commands) }
+{
+    let command = with_narrow(alloc, judging(alloc)?)?;
+    with_from_hex(alloc, with_to_hex(alloc, command)?)
+}
+
 /// The whole command line.
 pub(crate) fn bgp<'a>(alloc: Global) -> Result<Command<'a>, AllocError>
     ensures { IfOk result (λ c. app_of c ≡ bgp_command) }
 {
-    with_command(streaming(alloc)?, looping(alloc)?)
+    with_loop(alloc, streaming(alloc)?)
 }
