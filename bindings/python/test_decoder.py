@@ -7,6 +7,7 @@ import resource
 import signal
 import sys
 import threading
+import tracemalloc
 import unittest
 
 import ristulva
@@ -89,6 +90,14 @@ class Pieces(unittest.TestCase):
         with Decoder(CONTEXT) as decoder:
             found = decoder.feed(message(4) * 20_000)
             self.assertEqual((len(found), found[-1].place), (20_000, 19 * 19_999))
+
+    def test_memory(self):
+        """A piece isn't held once its messages were answered."""
+        with Decoder(CONTEXT) as decoder:
+            tracemalloc.start()
+            decoder.feed(message(4) * 20_000)
+            self.assertLess(tracemalloc.get_traced_memory()[0], 20_000)
+            tracemalloc.stop()
 
 
 class Cut(Exception):

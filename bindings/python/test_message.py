@@ -95,7 +95,8 @@ class Buffers(unittest.TestCase):
         yield from (memoryview(self.octets).cast(code) for code in "cbHQ")
         yield memoryview(self.octets).cast("B", (len(self.octets) // 8, 8))
         yield memoryview(bytes(it for octet in self.octets for it in (octet, 0)))[::2]
-        yield from ((ctypes.c_uint16 * (len(self.octets) // 2)).from_buffer_copy(self.octets), (ctypes.c_int8 * len(self.octets)).from_buffer_copy(self.octets))
+        for kind, size in ((ctypes.c_uint16, 2), (ctypes.c_int8, 1)):
+            yield (kind * (len(self.octets) // size)).from_buffer_copy(self.octets)
 
     def test_messages(self):
         wanted = [(it.place, it.octets) for it in ristulva.messages(self.octets, self.context)]

@@ -31,8 +31,8 @@ class Stand(typing.NamedTuple):
     """Where a decoder stands. One takes the place of another as a whole, since an exception may come between any two steps."""
 
     taken: int = 0  # how many octets of the stream came
-    octets: bytes = b""  # the last of these
-    at: int = 0  # how many of them the library has
+    octets: bytes = b""  # the last of these, where the library doesn't have all of them
+    at: int = 0  # how many of them it has
     place: int = 0  # where the next message stands in the stream
     pull: typing.Optional[Pull] = None  # a call that wasn't counted yet
 
@@ -40,8 +40,8 @@ class Stand(typing.NamedTuple):
 class Decoder:
     """Reads a stream in whatever pieces its octets come, and gives what `messages` gives of the whole. It holds at most one message.
 
-    It is memory, some 4.2 KB of the library's and 8 KB beside, which is freed when it is closed, at the end of a `with`, or when nothing refers to it any more.
-    Threads may share it: each call takes its turn, and who feeds from several threads decides on the order."""
+    It is memory, some 4.2 KB of the library's and 8 KB beside. What is the library's is freed when it is closed, at the end of a `with`, or when
+    nothing refers to it any more. Threads may share it: each call takes its turn, and who feeds from several threads decides on the order."""
 
     def __init__(self, context: Context) -> None:
         self._lock, self._handle, self._context = threading.RLock(), Handle(), context
@@ -61,14 +61,14 @@ class Decoder:
     def __exit__(self, *_: object) -> None:
         self.close()
 
-    def _open(self) -> None:
+    def _check_open(self) -> None:
         """Raises DecoderClosed where it was closed."""
         if not self._handle.body:
             raise DecoderClosed("the decoder is closed")
 
     def _call(self, name: str, *arguments: object) -> int:
         """The status of a call on the handle."""
-        self._open()
+        self._check_open()
         return getattr(LIBRARY, f"ristulva_decoder_{name}")(self._handle, *arguments)
 
     def feed(self, piece: typing.Union[bytes, bytearray, memoryview]) -> list[Message]:
@@ -97,7 +97,7 @@ class Decoder:
 
     def _take(self, octets: bytes) -> None:
         """Takes octets, and finds the messages that are whole by them."""
-        self._open()
+        self._check_open()
         taken, rest, at, place, pull = self._stand
         self._stand = Stand(taken + len(octets), rest[at:] + octets, 0, place, pull)
         while self._step():
@@ -117,8 +117,10 @@ class Decoder:
         if pull.verdict.verdict and (not self._found or self._found[-1].place < place):
             self._found.append(self._judged(pull.verdict, place))
         at += pull.taken.value
+        if at == len(octets):
+            octets, at = b"", 0
         self._stand = Stand(taken, octets, at, place + pull.verdict.len)
-        return at < len(octets)
+        return bool(octets)
 
     def _pulled(self, pull: Pull) -> int:
         """The status of a call for the next message. `pull.taken` is written where that isn't STATE."""
@@ -131,7 +133,7 @@ class Decoder:
     def taken(self) -> int:
         """How many octets it has taken, of all pieces."""
         with self._lock:
-            self._open()
+            self._check_open()
             return self._stand.taken
 
     @property

@@ -8,8 +8,8 @@ import ipaddress
 from ctypes import c_size_t, c_uint32
 
 from .library import (
-    DATA, HEADER, INCOMPLETE, LIBRARY, MEMORY, MESSAGE, OK, RANGE, REFUSED, ROOM, STATE, UNWRITABLE, Attributes, CAttribute, CCapability, CNote, COpen,
-    CPrefix, CSegment, Numbers, Prefixes, Said, Segments, Span, Verdict,
+    DATA, HEADER, INCOMPLETE, LIBRARY, MEMORY, MESSAGE, OK, RANGE, REFUSED, ROOM, STATE, UNWRITABLE, Attributes, CAttribute, CCapability, CNote,
+    COpen, CPrefix, CSegment, Numbers, Prefixes, Said, Segments, Span, Verdict,
 )
 
 WHYS = ("Flags", "Length", "Value", "SegmentType", "SegmentCount", "SegmentEnd", "Repeated", "External", "FourOctet", "Family", "Unneeded", "Emptied",
