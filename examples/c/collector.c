@@ -606,8 +606,8 @@ static void stop(void)
     }
 }
 
-/* Writes down what is waited for: the signals, the listener, and each peer's socket. Peers without one aren't there, since poll takes no more
- * of them than there may be descriptors. */
+/* Lists what is waited for: the signals, the listener, and the peers' sockets. A peer without one isn't listed, since poll refuses more
+ * than there may be descriptors. */
 static nfds_t list_sockets(struct pollfd *polls)
 {
     nfds_t count = 2;
