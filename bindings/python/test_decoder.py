@@ -4,8 +4,10 @@ import gc
 import pathlib
 import random
 import resource
+import signal
 import sys
 import threading
+import tracemalloc
 import unittest
 
 import ristulva
@@ -34,9 +36,8 @@ def octets_of(name):
 
 
 def told(it):
-    """All that a message tells; of a header with a fault `octets` is the header alone."""
-    octets = it.octets[: it.found.len or 19]
-    return it.place, octets, bytes(it.found), it.data, str(it), it.notification, list(map(str, it.announced())), list(map(str, it.withdrawn()))
+    """All that a message tells."""
+    return it.place, it.octets, bytes(it.found), it.data, str(it), it.notification, list(map(str, it.announced())), list(map(str, it.withdrawn()))
 
 
 def in_pieces(octets, cuts):
@@ -74,6 +75,7 @@ class Pieces(unittest.TestCase):
             self.assertEqual((decoder.feed(b""), decoder.held), ([], 30))
             (it,) = decoder.feed(bytearray(UPDATE[30:]))
             self.assertEqual((it.verdict, it.octets, it.as_path(), decoder.held), ("update", UPDATE, [(2, [70000, 65001])], 0))
+            self.assertEqual(decoder.taken, len(UPDATE))
             self.assertEqual([it.verdict for it in decoder.feed(memoryview(message(4) * 3 + UPDATE[:5]))], ["keepalive"] * 3)
             self.assertEqual(decoder.held, 5)
 
@@ -89,6 +91,90 @@ class Pieces(unittest.TestCase):
             found = decoder.feed(message(4) * 20_000)
             self.assertEqual((len(found), found[-1].place), (20_000, 19 * 19_999))
 
+    def test_memory(self):
+        """A piece isn't held once its messages were answered."""
+        with Decoder(CONTEXT) as decoder:
+            tracemalloc.start()
+            decoder.feed(message(4) * 20_000)
+            self.assertLess(tracemalloc.get_traced_memory()[0], 100_000)
+            tracemalloc.stop()
+
+
+class Cut(Exception):
+    """What a signal's handler raises."""
+
+
+def cutting(count):
+    """A trace that raises Cut at one of the steps of a decoder: at a line, or where one of its functions answers, as feed's caller sees it."""
+    left = [count]
+
+    def step(frame, event, _):
+        left[0] -= event in ("line", "return") and (event, frame.f_code.co_name) != ("return", "feed")
+        if left[0] == 0:
+            left[0] = -1
+            raise Cut
+        return step
+
+    return lambda frame, event, _: step if frame.f_code.co_filename.endswith("/ristulva/decoder.py") else None
+
+
+class CutOff(unittest.TestCase):
+    """An exception in the middle of a call, as of a signal's handler: each message is answered, and once."""
+
+    pieces = [STREAM[:50], STREAM[50:] + STREAM + message(4)[:7], message(4)[7:] + FAULTS[0] + message(4), message(4)]
+    whole = [told(it) for it in ristulva.messages(b"".join(pieces), CONTEXT)]
+
+    def fed(self, decoder, found, cut):
+        """Feeds all pieces, each again where it wasn't taken. Whether a call was cut off."""
+        fed, was_cut, kept = 0, False, sys.gettrace()
+        for piece in self.pieces:
+            fed += len(piece)
+            while decoder.taken < fed:
+                sys.settrace(cut)
+                try:
+                    found += decoder.feed(piece)
+                except Cut:
+                    was_cut = True
+                finally:
+                    sys.settrace(kept)
+        found += decoder.feed(b"")
+        return was_cut
+
+    def test_each_step(self):
+        for count in range(1, 10_000):
+            found = []
+            with Decoder(CONTEXT) as decoder:
+                was_cut = self.fed(decoder, found, cutting(count))
+            self.assertEqual(list(map(told, found)), self.whole, f"cut off at step {count}")
+            if not was_cut:
+                break
+        self.assertGreater(count, 200)
+
+    def test_signals(self):
+        """Signals that come at any time."""
+
+        def handle(*_):
+            raise Cut
+
+        octets, found, cuts = message(4) * 3000, [], 0
+        before = signal.signal(signal.SIGALRM, handle)
+        with Decoder(CONTEXT) as decoder:
+            try:
+                while cuts < 50:
+                    wanted = decoder.taken + len(octets)
+                    while decoder.taken < wanted:
+                        signal.setitimer(signal.ITIMER_REAL, random.uniform(0.0005, 0.01))
+                        try:
+                            found += [it.place for it in decoder.feed(octets)]
+                        except Cut:
+                            cuts += 1
+                        finally:
+                            signal.setitimer(signal.ITIMER_REAL, 0)
+            finally:
+                signal.signal(signal.SIGALRM, before)
+            found += [it.place for it in decoder.feed(b"")]
+            self.assertEqual(found, list(range(0, decoder.taken, 19)))
+
 
 class Ends(unittest.TestCase):
     def test_closed(self):
@@ -97,6 +183,7 @@ class Ends(unittest.TestCase):
         decoder.close()
         self.assertRaises(ristulva.DecoderClosed, decoder.feed, b"")
         self.assertRaises(ristulva.DecoderClosed, lambda: decoder.held)
+        self.assertRaises(ristulva.DecoderClosed, lambda: decoder.taken)
 
     def test_arguments(self):
         with Decoder(CONTEXT) as decoder:

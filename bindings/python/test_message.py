@@ -1,5 +1,7 @@
 """Tests of messages, on the captures of examples/: `python3 -m unittest` in this folder, where RISTULVA_LIBRARY names the library by an absolute path."""
 
+import array
+import ctypes
 import ipaddress
 import pathlib
 import unittest
@@ -80,6 +82,74 @@ def lines_of(it):
     return lines
 
 
+class Buffers(unittest.TestCase):
+    """Octets in buffers of all kinds: what counts is the octets, whatever the elements are."""
+
+    context = ristulva.Context(as4=True)
+    # As often as makes them elements of two, four and eight octets too.
+    octets = (message(4, b"") + message(2, BODY) + message(3, b"\x06\x02")) * 8
+
+    def buffers(self):
+        yield from (self.octets, bytearray(self.octets), memoryview(self.octets), array.array("B", self.octets), array.array("b", self.octets))
+        yield from (array.array(code, self.octets) for code in "HIQ")
+        yield from (memoryview(self.octets).cast(code) for code in "cbHQ")
+        yield memoryview(self.octets).cast("B", (len(self.octets) // 8, 8))
+        yield memoryview(bytes(it for octet in self.octets for it in (octet, 0)))[::2]
+        for kind, size in ((ctypes.c_uint16, 2), (ctypes.c_int8, 1)):
+            yield (kind * (len(self.octets) // size)).from_buffer_copy(self.octets)
+
+    def test_messages(self):
+        wanted = [(it.place, it.octets) for it in ristulva.messages(self.octets, self.context)]
+        self.assertEqual(len(wanted), 24)
+        for buffer in self.buffers():
+            with self.subTest(repr(buffer)[:50]):
+                self.assertEqual([(it.place, it.octets) for it in ristulva.messages(buffer, self.context)], wanted)
+                self.assertEqual(ristulva.judge(buffer, self.context).octets, wanted[0][1])
+                with ristulva.Decoder(self.context) as decoder:
+                    self.assertEqual([(it.place, it.octets) for it in decoder.feed(buffer)], wanted)
+
+    def test_numpy(self):
+        try:
+            import numpy
+        except ImportError:
+            self.skipTest("numpy isn't there")
+        for kind in ("u1", "i1", "<u2", ">u2", "<u8"):
+            buffer = numpy.frombuffer(self.octets, kind)
+            with self.subTest(kind):
+                self.assertEqual(len(list(ristulva.messages(buffer, self.context))), 24)
+
+    def test_bodies(self):
+        for body in (bytearray(BODY), memoryview(BODY), array.array("B", BODY)):
+            self.assertEqual(ristulva.encode(body, self.context), message(2, BODY))
+        self.assertRaises(TypeError, ristulva.encode, len(BODY), self.context)
+
+    def test_changes(self):
+        """Between two messages nothing holds the caller's buffer: it may get longer."""
+        octets = bytearray(message(4, b"") * 2)
+        for it in ristulva.messages(octets, self.context):
+            if len(octets) < 100:
+                octets += message(4, b"")
+        self.assertEqual((it.place, len(octets)), (95, 114))
+
+    def test_others(self):
+        for it in ("octets", 19, None, [255] * 19):
+            self.assertRaises(TypeError, ristulva.judge, it, self.context)
+            with self.assertRaises(TypeError):
+                list(ristulva.messages(it, self.context))
+
+
+class Contexts(unittest.TestCase):
+    def test_truth(self):
+        """Each value is yes or no by its truth, also one that C has no room for."""
+        for yes in (True, 1, 2, 256, 1 << 40, -256, "no"):
+            context = ristulva.Context(as4=yes)
+            self.assertEqual(context, ristulva.Context(as4=True))
+            it = ristulva.judge(message(2, BODY), context)
+            self.assertEqual((it.verdict, it.as_path()), ("update", [(2, [65000, 200000])]))
+        for no in (False, 0, None, ""):
+            self.assertEqual(ristulva.Context(as4=no), ristulva.Context())
+
+
 class Updates(unittest.TestCase):
     context = ristulva.Context(as4=True)
 
@@ -99,6 +169,13 @@ class Updates(unittest.TestCase):
     def test_reset(self):
         it = ristulva.judge(MARKER + bytes.fromhex("001304".replace("13", "12")), self.context)
         self.assertEqual((it.verdict, it.notification), ("reset", (1, 2, b"\x00\x12")))
+
+    def test_faulty_header(self):
+        """It has the octets of the header, whatever stands behind it, and its line."""
+        header = MARKER + bytes.fromhex("001204")
+        for rest in (b"", b"more", bytes(5000)):
+            it = ristulva.judge(header + rest, self.context)
+            self.assertEqual((it.octets, str(it)), (header, "0 0 HEADER reset 1/2 0012\n"))
 
     def test_notification(self):
         it = ristulva.judge(message(3, b"\x06\x02\x03bye"), self.context)

@@ -1,7 +1,10 @@
 """Tries examples/c/collector: peers on loopback that a script plays say octets, and what the collector prints is compared line by line."""
 import ipaddress
+import os
 import pathlib
 import re
+import resource
+import select
 import shutil
 import signal
 import socket
@@ -26,8 +29,12 @@ CEASE, OTHER_AS, SILENCE, LENGTHS = (6, 0), (2, 2), (4, 0), (3, 1)
 class Collector:
     """The collector as it runs, with the lines that it printed."""
 
-    def __init__(self, made, *words):
-        self.process = subprocess.Popen([str(made), "-w", "1", *map(str, words)], stdout=subprocess.PIPE, stderr=subprocess.PIPE)
+    def __init__(self, made, *words, descriptors=None):
+        """`descriptors`: as many as it may have, those of its streams among them."""
+        begin = descriptors and (lambda: resource.setrlimit(resource.RLIMIT_NOFILE, (descriptors, descriptors)))
+        self.process = subprocess.Popen(
+            [str(made), "-w", "1", *map(str, words)], stdin=subprocess.DEVNULL, stdout=subprocess.PIPE, stderr=subprocess.PIPE, preexec_fn=begin,
+        )
         self.lines, self.turn = [], threading.Condition()
         # Whatever happens, it doesn't outlive the check.
         self.limit = threading.Timer(6 * LIMIT, self.process.kill)
@@ -53,6 +60,11 @@ class Collector:
 
     def interrupt(self, number):
         self.process.send_signal(number)
+
+    def seconds(self):
+        """How long it has kept a processor busy."""
+        words = pathlib.Path(f"/proc/{self.process.pid}/stat").read_text().rpartition(")")[2].split()
+        return (int(words[11]) + int(words[12])) / os.sysconf("SC_CLK_TCK")
 
     def is_there(self, seconds):
         """Whether it runs for so long."""
@@ -408,6 +420,78 @@ def try_again(made, report):
         peer.close()
 
 
+class Scarce:
+    """A collector with room for the sockets of two peers, which are up; and five more peers, which have none."""
+
+    def __init__(self, made, report):
+        self.report, self.port = report, free_port()
+        self.up = [Peer(65001, "127.0.0.2"), Peer(65002, "127.0.0.3")]
+        self.more = [Peer(65003 + number, f"127.0.0.{4 + number}") for number in range(5)]
+        names = [peer.name for peer in self.up + self.more]
+        # Three streams, the two ends of its pipe, the listener.
+        self.collector = Collector(made, "-l", OWN, "-p", self.port, OURS, OWN, *names, descriptors=6 + len(self.up))
+
+    def fills(self):
+        for peer in self.up:
+            peer.accept()
+            peer.come_up()
+            self.collector.wait_for(f"{peer.name} {peer.up()}")
+
+    def goes_on(self):
+        """A stranger's connection waits to be accepted. Meanwhile little is said and done, and the sessions go on."""
+        with socket.create_connection((OWN, self.port), LIMIT, source_address=("127.0.0.77", 0)) as waiting:
+            before = self.collector.seconds()
+            time.sleep(2.5)
+            took = self.collector.seconds() - before
+            self.report("without descriptors it rests", took < 0.5, f"{took} seconds of a processor")
+            for peer in self.up:
+                peer.say(messages.announce4(["192.0.2.0/24"], [peer.asn], HOP4)[0])
+                self.collector.wait_for(f"{peer.name} + 192.0.2.0/24 path {peer.asn}")
+            waiting.setblocking(False)
+            try:
+                self.report("a connection waits", not waiting.recv(1))
+            except BlockingIOError:
+                pass
+
+    def has_one_again(self):
+        """Where a session ends, one of the others gets its socket."""
+        self.up[1].listener.close()
+        self.up[1].connection.close()
+        self.collector.wait_for(f"{self.up[1].name} down lost")
+        found, _, _ = select.select([peer.listener for peer in self.more], [], [], LIMIT)
+        peer = next(peer for peer in self.more if peer.listener in found)
+        peer.accept()
+        peer.come_up()
+        self.collector.wait_for(f"{peer.name} {peer.up()}")
+        self.up[1] = peer
+
+    def ends(self):
+        self.collector.interrupt(signal.SIGTERM)
+        for peer in self.up:
+            self.report(f"{peer.name} is told", peer.notified()[0] == CEASE)
+            peer.close()
+        errors, status = self.collector.end()
+        lines = errors.splitlines()
+        why = "Too many open files"
+        wanted = {f"collector: {peer.name}: {why}" for peer in self.more} | {f"collector: a connection can't be accepted: {why}"}
+        self.report("it ends without descriptors", status == 0, errors)
+        self.report("each is told of", wanted <= set(lines) and len(lines) < 50, errors[:2000])
+
+
+def try_scarce(made, report):
+    """Fewer descriptors than peers."""
+    it = Scarce(made, report)
+    try:
+        for scene in (it.fills, it.goes_on, it.has_one_again, it.ends):
+            scene()
+    except (AssertionError, OSError, StopIteration) as error:
+        report("fewer descriptors than peers", False, f"{error!r}")
+    finally:
+        it.collector.interrupt(signal.SIGKILL)
+        for peer in it.up + it.more:
+            peer.close()
+
+
 def has_six():
     try:
         socket.create_server(("::1", 0), family=socket.AF_INET6).close()
@@ -475,6 +559,7 @@ def try_all(made, number, report):
         try_pair(made, ("::1", "::1"), report)
     try_late(made, report)
     try_again(made, report)
+    try_scarce(made, report)
     if shutil.which("bird"):
         try_bird(made, report)
     try_words(made, report)

@@ -15,7 +15,8 @@
  * `down` tells which NOTIFICATION was sent or received, or that the connection was lost.
  *
  * At SIGINT and SIGTERM it prints a table of what it counted, stops each session, and ends with 0. It ends with 2 for a fault of the
- * command line, and with 1 where it can't listen, a write fails, or memory is lacking. */
+ * command line, and with 1 where it can't listen or wait, a write fails, or memory is lacking. Where descriptors run out, the sessions that
+ * are up go on, and it tells so: a peer without one is tried again after SECONDS, and so is a connection that can't be accepted. */
 #include "ristulva.h"
 #include <arpa/inet.h>
 #include <errno.h>
@@ -56,6 +57,7 @@ struct peer {
     ristulva_context context; /* of the session that is up */
     enum connection connection;
     int fd;                            /* -1 where there is none */
+    short ready;                       /* what poll told of it */
     int error;                         /* why the last try to connect failed */
     long long due[TIMERS];             /* when each timer runs out, by now() */
     char why[24];                      /* why the session ended */
@@ -71,6 +73,8 @@ static size_t peer_count;
 static struct sockaddr_storage own; /* where it listens, and connects from */
 static socklen_t own_len;           /* 0 where it has no address of its own */
 static int listener = -1;
+static int accept_error;        /* why the last connection wasn't accepted */
+static long long accepts_again; /* when the listener is heard again; 0 where it is heard */
 static unsigned long pause_seconds = 5;
 static int stopping;
 static int wake[2]; /* a signal writes to it */
@@ -418,6 +422,15 @@ static struct peer *peer_at(const char *host)
     return NULL;
 }
 
+/* Leaves the listener alone for a while, where a connection can't be accepted: poll would tell of it again at once. */
+static void rest_listener(int error)
+{
+    if (error != accept_error)
+        fprintf(stderr, "collector: a connection can't be accepted: %s\n", strerror(error));
+    accept_error = error;
+    accepts_again = later(pause_seconds, 0);
+}
+
 /* Takes the connection of a peer whose session wants one, in place of the try for one: it has one at a time. */
 static void welcome(void)
 {
@@ -427,8 +440,12 @@ static void welcome(void)
     struct peer *peer;
     uint8_t state = RISTULVA_IDLE;
     int fd = accept(listener, (struct sockaddr *)&from, &len);
-    if (fd < 0)
+    if (fd < 0) {
+        if (!is_ready_later(errno) && errno != ECONNABORTED)
+            rest_listener(errno);
         return;
+    }
+    accept_error = 0;
     print_host(&from, len, host);
     if ((peer = peer_at(host)) != NULL)
         state = state_of(peer);
@@ -589,32 +606,61 @@ static void stop(void)
     }
 }
 
-/* Waits until something happens to a socket or a timer runs out: at `until` at the latest. `polls` has the signals, the listener, and the
- * peers. */
-static void wait_for(struct pollfd *polls, long long until)
+/* Lists what is waited for: the signals, the listener, and the peers' sockets. A peer without one isn't listed, since poll refuses more
+ * than there may be descriptors. */
+static nfds_t list_sockets(struct pollfd *polls)
 {
-    long long wait;
+    nfds_t count = 2;
+    size_t i;
+    if (accepts_again <= now())
+        accepts_again = 0;
+    polls[1].fd = accepts_again == 0 ? listener : -1;
+    for (i = 0; i < peer_count; i++) {
+        if (peers[i].fd < 0)
+            continue;
+        polls[count].fd = peers[i].fd;
+        polls[count].events = peers[i].connection == TRIED || peers[i].out_len > 0 ? POLLIN | POLLOUT : POLLIN;
+        count++;
+    }
+    return count;
+}
+
+/* When the first timer runs out, or the listener is heard again: `until` at the latest. */
+static long long first_due(long long until)
+{
     size_t i;
     int timer;
-    for (i = 0; i < peer_count; i++) {
-        polls[i + 2].fd = peers[i].fd;
-        polls[i + 2].events = peers[i].connection == TRIED || peers[i].out_len > 0 ? POLLIN | POLLOUT : POLLIN;
+    if (accepts_again != 0 && accepts_again < until)
+        until = accepts_again;
+    for (i = 0; i < peer_count; i++)
         for (timer = 0; timer < TIMERS; timer++)
             until = peers[i].due[timer] < until ? peers[i].due[timer] : until;
-    }
-    wait = until - now();
-    if (poll(polls, peer_count + 2, wait < 0 ? 0 : wait > INT_MAX ? INT_MAX : (int)wait) < 0)
-        for (i = 0; i < peer_count + 2; i++)
+    return until;
+}
+
+/* Waits until something happens to a socket or a timer runs out. */
+static void wait_for(struct pollfd *polls, long long until)
+{
+    nfds_t count = list_sockets(polls), next = 2;
+    long long wait = first_due(until) - now();
+    size_t i;
+    if (poll(polls, count, wait < 0 ? 0 : wait > INT_MAX ? INT_MAX : (int)wait) < 0) {
+        if (errno != EINTR)
+            end(1, "poll", strerror(errno));
+        for (i = 0; i < count; i++)
             polls[i].revents = 0;
+    }
+    for (i = 0; i < peer_count; i++)
+        peers[i].ready = peers[i].fd < 0 ? 0 : polls[next++].revents;
 }
 
 /* Answers whether a connection is there. The listener comes last, so that what a peer's socket said is done before it has another. */
-static int do_turn(struct pollfd *polls)
+static int do_turn(const struct pollfd *polls)
 {
     int timer, is_open = 0;
     size_t i;
     for (i = 0; i < peer_count; i++) {
-        serve(&peers[i], polls[i + 2].revents);
+        serve(&peers[i], peers[i].ready);
         for (timer = 0; timer < TIMERS; timer++)
             if (peers[i].due[timer] <= now())
                 expire(&peers[i], timer);

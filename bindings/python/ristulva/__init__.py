@@ -4,8 +4,9 @@ It is the file that RISTULVA_LIBRARY names by an absolute path, else libristulva
 
     for message in ristulva.messages(octets, ristulva.Context(as4=True)):
         print(message, end="")
-        for prefix in message.announced():
-            ...
+        if message.verdict == "update":  # the routes of a "withdraw" are all withdrawn, and a "reset" is the last
+            for prefix in message.announced():
+                ...
 
     with ristulva.Decoder(ristulva.Context(as4=True)) as decoder:
         for piece in pieces:

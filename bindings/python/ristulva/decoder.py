@@ -8,24 +8,45 @@ import typing
 import weakref
 from ctypes import c_size_t
 
-from .library import DATA, LIBRARY, MESSAGE, OK, STATE, Handle, Verdict
+from .library import DATA, HEADER, LIBRARY, MESSAGE, STATE, Handle, Verdict
 from .message import Context, Message, check
 
-HEADER = 19  # the octets of a header
+UNTOLD = c_size_t(-1).value  # more octets than any call takes
 
 
 class DecoderClosed(ValueError):
     """The decoder was closed: there is none any more."""
 
 
+class Pull:
+    """A call of the library on some octets: what it tells stands here, also where an exception comes before anybody has read it."""
+
+    __slots__ = ("octets", "taken", "verdict")
+
+    def __init__(self, octets: bytes) -> None:
+        self.octets, self.taken, self.verdict = octets, c_size_t(UNTOLD), Verdict()
+
+
+class Stand(typing.NamedTuple):
+    """Where a decoder stands. One takes the place of another as a whole, since an exception may come between any two steps."""
+
+    taken: int = 0  # how many octets of the stream came
+    octets: bytes = b""  # the last of these, where the library doesn't have all of them
+    at: int = 0  # how many of them it has
+    place: int = 0  # where the next message stands in the stream
+    pull: typing.Optional[Pull] = None  # a call that wasn't counted yet
+
+
 class Decoder:
     """Reads a stream in whatever pieces its octets come, and gives what `messages` gives of the whole. It holds at most one message.
 
-    It is memory of the library's, some 4.2 KB, which is freed when it is closed, at the end of a `with`, or when nothing refers to it any more.
-    Threads may share it: each call takes its turn, and who feeds from several threads decides on the order."""
+    It is memory, some 4.2 KB of the library's and 8 KB beside. What is the library's is freed when it is closed, at the end of a `with`, or when
+    nothing refers to it any more. Threads may share it: each call takes its turn, and who feeds from several threads decides on the order."""
 
     def __init__(self, context: Context) -> None:
-        self._lock, self._handle, self._context, self._place = threading.RLock(), Handle(), context, 0
+        self._lock, self._handle, self._context = threading.RLock(), Handle(), context
+        self._stand, self._found = Stand(), []
+        self._message, self._data = ctypes.create_string_buffer(MESSAGE), ctypes.create_string_buffer(DATA)
         check(LIBRARY.ristulva_decoder_new(context.said(), self._handle))
         self._free = weakref.finalize(self, LIBRARY.ristulva_decoder_free, self._handle)
 
@@ -40,36 +61,86 @@ class Decoder:
     def __exit__(self, *_: object) -> None:
         self.close()
 
-    def _call(self, name: str, *arguments: object) -> int:
-        """The status of a call on the handle."""
+    def _check_open(self) -> None:
+        """Raises DecoderClosed where it was closed."""
         if not self._handle.body:
             raise DecoderClosed("the decoder is closed")
+
+    def _call(self, name: str, *arguments: object) -> int:
+        """The status of a call on the handle."""
+        self._check_open()
         return getattr(LIBRARY, f"ristulva_decoder_{name}")(self._handle, *arguments)
 
     def feed(self, piece: typing.Union[bytes, bytearray, memoryview]) -> list[Message]:
         """Takes all octets of a piece, and answers the messages that are whole by them. The last one may end the session: its verdict is "reset".
         Behind that nothing is read any more, and nothing answered.
 
-        The place of each is that in the stream. Of a header with a fault the octets are those of the header."""
-        octets, at, found = bytes(memoryview(piece)), 0, []
-        message, data, taken = ctypes.create_string_buffer(MESSAGE), ctypes.create_string_buffer(DATA), c_size_t()
+        The place of each is that in the stream. Of a header with a fault the octets are those of the header.
+
+        Where an exception cuts it off, as one of a signal's handler, no message is lost: the next call goes on where this one stopped, and
+        answers the messages of both. `taken` tells then whether the piece was taken: all of it was, or nothing."""
+        octets, found = bytes(memoryview(piece)), []
+        try:
+            with self._lock:
+                self._take(octets)
+                found, self._found = self._found, found
+            return found
+        except BaseException:
+            self._keep(found)
+            raise
+
+    def _keep(self, found: list[Message]) -> None:
+        """Keeps for the next call what this one can't answer."""
         with self._lock:
-            while True:
-                part, verdict = octets[at : at + MESSAGE], Verdict()
-                status = self._call("pull", part, len(part), message, MESSAGE, data, DATA, taken, verdict)
-                if status == STATE:
-                    return found
-                at += taken.value
-                if status == OK:
-                    found.append(Message(message[: verdict.len or HEADER], self._context, self._place, verdict, data[: verdict.data_len]))
-                    self._place += verdict.len
-                elif at == len(octets):
-                    return found
+            if found is not self._found:
+                self._found = found + self._found
+
+    def _take(self, octets: bytes) -> None:
+        """Takes octets, and finds the messages that are whole by them."""
+        self._check_open()
+        taken, rest, at, place, pull = self._stand
+        self._stand = Stand(taken + len(octets), rest[at:] + octets, 0, place, pull)
+        while self._step():
+            pass
+
+    def _step(self) -> bool:
+        """Calls the library once, where that wasn't done, and counts what it told. Whether there is more to do.
+
+        Each line may be the last one before an exception; the next call then does again what wasn't done: a message is known by its place."""
+        taken, octets, at, place, pull = self._stand
+        if pull is None:
+            pull = Pull(octets[at : at + MESSAGE])
+            self._stand = Stand(taken, octets, at, place, pull)
+        if pull.taken.value == UNTOLD and self._pulled(pull) == STATE:
+            self._stand = Stand(taken, b"", 0, place)
+            return False
+        if pull.verdict.verdict and (not self._found or self._found[-1].place < place):
+            self._found.append(self._judged(pull.verdict, place))
+        at += pull.taken.value
+        if at == len(octets):
+            octets, at = b"", 0
+        self._stand = Stand(taken, octets, at, place + pull.verdict.len)
+        return bool(octets)
+
+    def _pulled(self, pull: Pull) -> int:
+        """The status of a call for the next message. `pull.taken` is written where that isn't STATE."""
+        return self._call("pull", pull.octets, len(pull.octets), self._message, MESSAGE, self._data, DATA, pull.taken, pull.verdict)
+
+    def _judged(self, verdict: Verdict, place: int) -> Message:
+        return Message(self._message[: verdict.len or HEADER], self._context, place, verdict, self._data[: verdict.data_len])
+
+    @property
+    def taken(self) -> int:
+        """How many octets it has taken, of all pieces."""
+        with self._lock:
+            self._check_open()
+            return self._stand.taken
 
     @property
     def held(self) -> int:
         """How many octets of a message that isn't whole it holds. Where a stream ends, 0 says that it ends behind a message."""
         held = c_size_t()
         with self._lock:
+            self._take(b"")
             self._call("held", held)
         return held.value

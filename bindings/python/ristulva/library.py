@@ -8,7 +8,7 @@ from ctypes import POINTER, Structure, c_char_p, c_size_t, c_uint8, c_uint16, c_
 OK, NO_SESSION, MEMORY, RANGE, INCOMPLETE, ROOM, END, REFUSED, UNWRITABLE, STATE = range(10)
 # The first two numbers of the versions whose header this file has: while the first is 0, a new second one may change any call.
 SERIES = (0, 3)
-DATA, MESSAGE, ACTIONS = 4075, 4096, 5
+DATA, MESSAGE, HEADER, ACTIONS = 4075, 4096, 19, 5
 
 
 class Span(Structure):

@@ -8,8 +8,8 @@ import ipaddress
 from ctypes import c_size_t, c_uint32
 
 from .library import (
-    DATA, INCOMPLETE, LIBRARY, MEMORY, MESSAGE, OK, RANGE, REFUSED, ROOM, STATE, UNWRITABLE, Attributes, CAttribute, CCapability, CNote, COpen,
-    CPrefix, CSegment, Numbers, Prefixes, Said, Segments, Span, Verdict,
+    DATA, HEADER, INCOMPLETE, LIBRARY, MEMORY, MESSAGE, OK, RANGE, REFUSED, ROOM, STATE, UNWRITABLE, Attributes, CAttribute, CCapability, CNote,
+    COpen, CPrefix, CSegment, Numbers, Prefixes, Said, Segments, Span, Verdict,
 )
 
 WHYS = ("Flags", "Length", "Value", "SegmentType", "SegmentCount", "SegmentEnd", "Repeated", "External", "FourOctet", "Family", "Unneeded", "Emptied",
@@ -19,12 +19,17 @@ VERDICTS = {1: "open", 2: "update", 3: "notification", 4: "keepalive", 5: "withd
 
 @dataclasses.dataclass(frozen=True)
 class Context:
-    """What both speakers of a session agreed on."""
+    """What both speakers of a session agreed on. Of each value its truth counts, as in an `if`: 256 is true, and so is "no"."""
 
     internal: bool = False
     as4: bool = False
     ip4: bool = False
     ip6: bool = False
+
+    def __post_init__(self):
+        # A number that C has no room for would lose its highest octets.
+        for field in dataclasses.fields(self):
+            object.__setattr__(self, field.name, bool(getattr(self, field.name)))
 
     def said(self):
         return Said(self.internal, self.as4, self.ip4, self.ip6)
@@ -147,7 +152,7 @@ class Message:
         return self.context.ip4 if afi == 1 else self.context.ip6
 
     def announced(self):
-        """The prefixes of MP_REACH_NLRI and then of the NLRI field."""
+        """The prefixes of MP_REACH_NLRI and then of the NLRI field. Where the verdict is "withdraw", these are withdrawn too."""
         reach, hop, cursor = self.first(14), Span(), Prefixes()
         if reach and LIBRARY.ristulva_reached(self.octets, len(self.octets), reach.span, hop, cursor) == 0 and self.is_in_use(cursor.afi):
             yield from self.prefixes(cursor)
@@ -178,27 +183,44 @@ class Message:
         return self.numbers(value.span, 4) if value else []
 
 
-def judge(octets, context, place=0):
-    """The message that octets begin with, or None where they are less than one."""
-    octets = bytes(octets[:MESSAGE])
+def in_octets(buffer):
+    """A buffer whose slices count octets: itself, or a copy where it has wider elements, as array("H"), or rows."""
+    with memoryview(buffer) as view:
+        return buffer if view.itemsize == 1 and view.ndim == 1 else bytes(view)
+
+
+def part(octets, at):
+    """As many octets from an offset on as a message may have, copied: nothing holds the caller's buffer then, and it may be changed."""
+    return bytes(memoryview(octets)[at : at + MESSAGE])
+
+
+def judged(octets, context, place):
+    """The message that some bytes begin with, or None where they are less than one."""
     verdict, data = Verdict(), ctypes.create_string_buffer(DATA)
     if LIBRARY.ristulva_judge(context.said(), octets, len(octets), data, DATA, verdict) == INCOMPLETE:
         return None
-    return Message(octets[: verdict.len or len(octets)], context, place, verdict, data.raw[: verdict.data_len])
+    return Message(octets[: verdict.len or HEADER], context, place, verdict, data[: verdict.data_len])
+
+
+def judge(octets, context, place=0):
+    """The message that octets begin with, or None where they are less than one. Of a header with a fault it has the 19 octets of the header.
+
+    `octets` is bytes or another buffer, which is read octet by octet, whatever its elements are."""
+    return judged(part(in_octets(octets), 0), context, place)
 
 
 def messages(octets, context):
-    """The messages of a stream, up to the first that ends the session."""
-    place, message = 0, judge(octets, context)
-    while message is not None:
+    """The messages of a stream, up to the first that ends the session. `octets` is a buffer, as `judge` has it."""
+    octets, place = in_octets(octets), 0
+    while (message := judged(part(octets, place), context, place)) is not None:
         yield message
         if message.verdict == "reset":
             return
         place += message.found.len
-        message = judge(octets[place : place + MESSAGE], context, place)
 
 
 def rewritten(call, body, context):
+    body = bytes(memoryview(body))
     message, written = ctypes.create_string_buffer(MESSAGE), c_size_t()
     check(getattr(LIBRARY, f"ristulva_{call}")(context.said(), body, len(body), message, MESSAGE, written))
     return message.raw[: written.value]
@@ -206,14 +228,14 @@ def rewritten(call, body, context):
 
 def encode(body, context):
     """The message of the UPDATE that a body is, in its one written form."""
-    return rewritten("encode", bytes(body), context)
+    return rewritten("encode", body, context)
 
 
 def narrow(body, context):
     """The same for a speaker with AS numbers of two octets."""
-    return rewritten("narrow", bytes(body), context)
+    return rewritten("narrow", body, context)
 
 
 def reconcile(body, context):
     """The UPDATE of a session with AS numbers of two octets, as speakers with four see it."""
-    return rewritten("reconcile", bytes(body), context)
+    return rewritten("reconcile", body, context)

@@ -15,10 +15,10 @@ import typing
 import weakref
 from ctypes import c_size_t, c_uint8, c_uint16
 
-from .library import LIBRARY, MESSAGE, OK, RANGE, CAction, CActions, CConfig, CHeard, CPeer, Handle, Said, Verdict
-from .message import VERDICTS, Context, Message, check
+from .library import HEADER, LIBRARY, MESSAGE, OK, RANGE, CAction, CActions, CConfig, CHeard, CPeer, Handle, Said, Verdict
+from .message import VERDICTS, Context, Message, check, in_octets, part
 
-HEADER, NOTIFICATION = 19, 21  # the octets in front of a body, and in front of a NOTIFICATION's data
+NOTIFICATION = 21  # the octets in front of a NOTIFICATION's data
 
 
 class SessionClosed(ValueError):
@@ -235,7 +235,7 @@ class Session:
 
         None, and nothing has changed, where they are less than a message, or where the connection doesn't stand, so that octets have no meaning: in
         Idle, Connect and Active. Its host drops what was taken from the front of what it has received, and calls it again, up to None."""
-        octets = bytes(memoryview(octets)[:MESSAGE])
+        octets = part(in_octets(octets), 0)
         heard, told, message, written = CHeard(), CActions(), ctypes.create_string_buffer(MESSAGE), c_size_t()
         with self._lock:
             context = self.context or Context()

@@ -1,8 +1,6 @@
+use crate::message::told;
 use crate::{raw, Context, Error, Message, MESSAGE};
 use std::fmt;
-
-/// The octets of a header.
-const HEADER: usize = 19;
 
 /// Reads the messages of a stream whose octets come in pieces, however it is cut (RFC 4271,
 /// section 4.1).
@@ -64,19 +62,15 @@ impl Decoder {
     /// `None` where all of the piece was taken, and the message needs more; or behind a reset, where
     /// nothing is taken.
     ///
-    /// The message borrows the decoder, until the next call. Of a header with a fault it has the
-    /// header, and no octets behind it.
+    /// The message borrows the decoder, until the next call.
     pub fn pull(&mut self, piece: &mut &[u8]) -> Option<Message<'_>> {
         let (taken, verdict) = self.decoder.pull(piece, &mut self.message, &mut self.data);
         *piece = &piece[taken..];
         let verdict = verdict?;
         let offset = self.offset;
         self.offset += u64::from(verdict.len);
-        let len = match verdict.len as usize {
-            0 => HEADER,
-            len => len,
-        };
-        Some(Message::of(&self.context, &self.message[..len], &verdict).at(offset))
+        let octets = &self.message[..told(&verdict)];
+        Some(Message::of(&self.context, octets, &verdict).at(offset))
     }
 
     /// How many octets of a message that isn't whole it holds. Where a stream ends, 0 says that it

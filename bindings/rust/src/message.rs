@@ -2,6 +2,9 @@ use crate::{raw, Context, Error, Open, Update};
 use std::fmt;
 use std::iter::FusedIterator;
 
+/// The octets of a header.
+pub(crate) const HEADER: usize = 19;
+
 /// The octets of a NOTIFICATION in front of its data: the header, its code and its subcode.
 pub(crate) const NOTIFICATION: usize = 21;
 
@@ -44,7 +47,7 @@ pub enum Outcome<'a> {
 /// It is printed as the lines that `bgp show` prints of it.
 #[derive(Clone, Debug, PartialEq, Eq)]
 pub struct Message<'a> {
-    /// The message, or the header and all that was there behind it where that has a fault.
+    /// The message, or its header alone where that has a fault.
     octets: &'a [u8],
     /// How many octets the message has; 0 where its header has a fault.
     len: usize,
@@ -73,7 +76,7 @@ impl<'a> Message<'a> {
 
     /// The octets behind its header.
     pub fn body(&self) -> &'a [u8] {
-        self.octets().get(19..).unwrap_or_default()
+        self.octets().get(HEADER..).unwrap_or_default()
     }
 
     /// What it means for the session.
@@ -121,6 +124,14 @@ impl<'a> Message<'a> {
 impl fmt::Display for Message<'_> {
     fn fmt(&self, f: &mut fmt::Formatter<'_>) -> fmt::Result {
         f.write_str(&self.lines().map_err(|_| fmt::Error)?)
+    }
+}
+
+/// How many octets a verdict tells of: those of the message, or of its header where that has a fault.
+pub(crate) fn told(verdict: &raw::Verdict) -> usize {
+    match verdict.len as usize {
+        0 => HEADER,
+        len => len,
     }
 }
 
@@ -172,9 +183,7 @@ pub fn judge<'a>(context: &Context, octets: &'a [u8]) -> Option<Message<'a>> {
     if status == raw::INCOMPLETE {
         return None;
     }
-    let len = verdict.len as usize;
-    let octets = if len == 0 { octets } else { &octets[..len] };
-    Some(Message::of(context, octets, &verdict))
+    Some(Message::of(context, &octets[..told(&verdict)], &verdict))
 }
 
 /// The messages of a stream, one after another, up to the first that ends the session by a reset:

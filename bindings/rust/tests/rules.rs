@@ -126,6 +126,9 @@ fn faults_of_headers() {
         assert_eq!(it.outcome(), &reset(code, subcode, data));
         assert_eq!(it.octets(), &[]);
         assert_eq!(it.body(), &[]);
+        // What stands behind the header has no effect.
+        let more = [&octets[..], &message(4, &[])].concat();
+        assert_eq!(judge(&PLAIN, &more), Some(it));
     }
 }
 

@@ -24,16 +24,16 @@ pub enum ToolFault {
     /// The message, the faulty header or the incomplete message at this offset of the stream, counted from 0, can't be narrowed.
     #[error("cannot narrow at {0}")]
     Narrow(u64),
-    /// The first message of the stream, or of the other direction, is no OPEN that is taken; or AS numbers of four octets are needed, and the two
-    /// OPENs don't agree on them.
-    #[error("no OPEN to agree with")]
-    NoOpen,
     /// This line of a script is the first at fault, counted from 1.
     #[error("script line {0}")]
     Script(u32),
     /// The listener of a wire over TCP couldn't be set up.
     #[error("net failed")]
     Net,
+    /// The first message of the stream, or of the other direction, is no OPEN that is accepted; or AS numbers of four octets are needed, and the
+    /// two OPENs don't agree on them.
+    #[error("no OPEN to agree with")]
+    NoOpen,
 }
 
 impl From<AllocError> for ToolFault {

@@ -12,8 +12,9 @@ ghost use Rattle.bgp_session.specs.World.{rounds_of, end_of};
 ghost use Rattle.bgp_session.specs.Laws.{CanBeSet, HaveSentRanges, world_behind, BothAgree, RoundHasReasons, HearsFronts, HeardAll, both_wide};
 
 pub use bgp_machine::laws::{
-    any_pieces_can_be_fed, cuts_change_nothing, cuts_do_as_octet_by_octet,
-    established_is_behind_open_and_keepalive, events_leave_nothing_to_do,
+    any_pieces_can_be_fed, any_pieces_can_be_pulled, cuts_change_nothing,
+    cuts_do_as_octet_by_octet, established_is_behind_open_and_keepalive,
+    events_leave_nothing_to_do, pulls_do_as_feeds, pulls_do_as_octet_by_octet,
 };
 
 /// Whatever is done, and whatever the wire answers: a session that has a context has the one that its speaker agrees on with what the other

@@ -15,7 +15,8 @@ mod speaker;
 mod wire;
 
 pub use bgp_machine::{
-    Action, Actions, Event, OPEN_HOLD_SECONDS, RETRY_SECONDS, SendFault, Session, State, Timer,
+    Action, ActionView, ActionViews, Actions, Event, Heard, Look, Next, OPEN_HOLD_SECONDS,
+    RETRY_SECONDS, SendFault, Session, State, Timer,
 };
 pub use moves::Move;
 pub use observer::Observer;

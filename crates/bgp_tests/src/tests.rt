@@ -5,6 +5,7 @@ mod fakes;
 mod frames;
 mod hosts;
 mod lists;
+mod longest;
 mod opens;
 mod prefixes;
 mod refusals;

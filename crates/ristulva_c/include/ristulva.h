@@ -4,8 +4,8 @@
  *
  * The caller owns every octet. No call keeps a pointer, gives one back, calls back, reads outside of what it is handed, or writes
  * elsewhere than through the pointers that it is handed. A call only allocates where its comment says so, and frees what it took
- * before it returns. There is no state but what the caller holds, so calls of several threads don't meet, as long as no two of them
- * are handed the same place to write. Decoders and sessions alone (below) are memory of the library's, behind a handle of the caller's.
+ * before it returns. There is no state but what the caller holds: calls are thread safe, unless two of them write the same memory or
+ * are handed the same handle. Decoders and sessions alone (below) are memory of the library's, behind a handle of the caller's.
  *
  * Of every call:
  *  - Pointers aren't null, also where the length beside them is 0.
@@ -14,7 +14,7 @@
  *  - It answers a status. Where that isn't RISTULVA_OK, what it says of each status holds.
  *  - 32 KB of stack are enough, and 48 KB for ristulva_session_send.
  *
- * A place in octets is an offset in those that were handed in. So views of a message are offsets into the caller's own buffer.
+ * Positions are offsets into the caller's buffer: so a message is viewed there, and nothing is copied.
  */
 #ifndef RISTULVA_H
 #define RISTULVA_H
@@ -43,7 +43,7 @@ typedef uint32_t ristulva_status;
 #define RISTULVA_NO_DECODER 1u /* the handle has no decoder: nothing has changed */
 #define RISTULVA_MEMORY 2u     /* an allocation failed: nothing has changed, and the call can be made again */
 #define RISTULVA_RANGE 3u      /* an argument is out of its range: nothing has changed */
-#define RISTULVA_INCOMPLETE 4u /* the octets are less than a message: nothing has changed */
+#define RISTULVA_INCOMPLETE 4u /* the octets are an incomplete message: nothing has changed */
 #define RISTULVA_ROOM 5u       /* a buffer has less room than is needed */
 #define RISTULVA_END 6u        /* nothing is left: nothing has changed */
 #define RISTULVA_REFUSED 7u    /* an UPDATE that isn't accepted whole, or no OPEN that is accepted: nothing has changed */
@@ -58,10 +58,10 @@ typedef struct {
     uint32_t len;
 } ristulva_span;
 
-/* ---- what stands at the front of octets (RFC 4271, sections 4.1 and 6.1) ---- */
+/* ---- the first message of a stream (RFC 4271, sections 4.1 and 6.1) ---- */
 
-#define RISTULVA_MORE 0u  /* less than a message */
-#define RISTULVA_FOUND 1u /* a whole message */
+#define RISTULVA_MORE 0u  /* an incomplete message */
+#define RISTULVA_FOUND 1u /* a complete message */
 #define RISTULVA_FAULT 2u /* a header that begins no message: nothing behind it can be read */
 
 typedef struct {
@@ -79,7 +79,7 @@ typedef struct {
     ristulva_span data;
 } ristulva_found;
 
-/* Tells what octets of a stream begin with. What stands behind a message has no effect. Always RISTULVA_OK. */
+/* Classifies the first message of a stream; octets behind it are ignored. Always RISTULVA_OK. */
 ristulva_status ristulva_front(const uint8_t *octets, size_t len, ristulva_found *out);
 
 /* ---- the outcome of a message (RFC 4271, section 6; RFC 7606) ---- */
@@ -123,11 +123,11 @@ typedef struct {
 /* The most octets of a NOTIFICATION's Data field. */
 #define RISTULVA_DATA 4075u
 
-/* Judges the message that octets begin with, in the context of its session. What stands behind it has no effect. No verdict depends on
- * other messages, nor on memory.
+/* Judges the first message of the octets, in the context of its session; octets behind it are ignored. No verdict depends on other
+ * messages, nor on memory.
  *
- * The Data field of the NOTIFICATION that came or that is to be sent is copied to the front of `data`, which has room for `room` octets;
- * the octets behind it stay. RISTULVA_DATA octets of room are always enough.
+ * The Data field of the NOTIFICATION that came or that is to be sent is copied to the beginning of `data`, which has room for `room` octets;
+ * the rest of the buffer is unchanged. RISTULVA_DATA octets of room are always enough.
  *
  * RISTULVA_INCOMPLETE: nothing is written. RISTULVA_ROOM: `out` is written, with the `data_len` that is needed; `data` isn't. */
 ristulva_status ristulva_judge(const ristulva_context *context, const uint8_t *octets, size_t len, uint8_t *data, size_t room,
@@ -158,9 +158,9 @@ typedef struct {
     uint8_t why;  /* RISTULVA_WHY_FLAGS to RISTULVA_WHY_AS_ZERO */
 } ristulva_note_found;
 
-/* Tells the note number `index`, from 0 on, of the message that octets begin with: each attribute that is discarded, or for which the UPDATE
- * is treated as a withdrawal, by its place, the one that is cut off, and then what is missing. Each call judges the message and reads the
- * notes before this one anew: a message has few.
+/* Tells the note number `index`, from 0 on, of the first message of the octets: each attribute that is discarded, or for which the UPDATE
+ * is treated as a withdrawal, in the order of their offsets, the one that is cut off, and then what is missing. Each call judges the message
+ * and reads the notes before this one anew: a message has few.
  *
  * RISTULVA_INCOMPLETE, or RISTULVA_END where there are no more notes: nothing is written. Only UPDATEs that are accepted or treated as a
  * withdrawal have some. */
@@ -169,9 +169,9 @@ ristulva_status ristulva_note(const ristulva_context *context, const uint8_t *oc
 
 /* ---- text ---- */
 
-/* Writes the lines that `bgp show` prints of what octets begin with, a message or a header with a fault, to the front of `text`, which has
- * room for `room` octets; no zero stands behind them, and the octets behind them stay. `place` is the offset in the stream that the first
- * line tells. `written` is how many octets the lines have. It allocates.
+/* Writes the lines that `bgp show` prints of the first message of the octets, or of a header with a fault, to the beginning of `text`, which
+ * has room for `room` octets. They aren't terminated by NUL; the rest of the buffer is unchanged. `place` is the offset in the stream that
+ * the first line tells. `written` is how many octets the lines have. It allocates.
  *
  * RISTULVA_MEMORY, RISTULVA_INCOMPLETE: nothing is written. RISTULVA_ROOM: `written` is, and says how much room is needed. */
 ristulva_status ristulva_text(const ristulva_context *context, uint64_t place, const uint8_t *octets, size_t len, char *text, size_t room,
@@ -183,10 +183,10 @@ ristulva_status ristulva_text(const ristulva_context *context, uint64_t place, c
 #define RISTULVA_MESSAGE 4096u
 #define RISTULVA_BODY 4077u
 
-/* Writes the message of an UPDATE in its one written form to the front of `message`, which has room for `room` octets; those behind it
- * stay. `body` is the body of that UPDATE in any valid spelling, without the header: its attributes may stand in any order, with lengths of
- * one octet or of two. It is judged as if it had been received in this context. `written` is how many octets the message has: never
- * more than RISTULVA_MESSAGE. It allocates.
+/* Writes the message of an UPDATE in its one written form to the beginning of `message`, which has room for `room` octets; the rest of the
+ * buffer is unchanged. `body` is the body of that UPDATE in any valid spelling, without the header: its attributes may stand in any order,
+ * with lengths of one octet or of two. It is judged as if it had been received in this context. `written` is how many octets the message
+ * has: never more than RISTULVA_MESSAGE. It allocates.
  *
  * RISTULVA_MEMORY; RISTULVA_RANGE, the body has more than RISTULVA_BODY octets; RISTULVA_REFUSED, it isn't accepted, or some of it is
  * discarded; RISTULVA_UNWRITABLE, it can't be written or would be too long: nothing is written. RISTULVA_ROOM: `written` is. */
@@ -313,7 +313,7 @@ typedef struct {
     ristulva_capabilities capabilities; /* a cursor at the first of its capabilities, over the octets that were handed in */
 } ristulva_open_fields;
 
-/* Tells what the OPEN says that octets begin with. What stands behind it has no effect. It allocates nothing.
+/* Tells what the first message of the octets says, an OPEN; octets behind it are ignored. It allocates nothing.
  *
  * RISTULVA_OK exactly where ristulva_judge tells RISTULVA_OPEN, in any context. RISTULVA_INCOMPLETE; RISTULVA_REFUSED, a header with a
  * fault, another message, or an OPEN with a fault, as one in the extended form of RFC 9072: nothing is written. */
@@ -332,12 +332,12 @@ ristulva_status ristulva_next_capability(const uint8_t *octets, size_t len, rist
 /* ---- a stream in pieces (RFC 4271, section 4.1) ----
  *
  * A decoder is for a host that keeps no buffer of what it has read: it takes the octets of a stream in whatever pieces they come, and holds
- * those of a message that isn't whole yet. What comes of the stream doesn't depend on where it is cut: it is what ristulva_judge tells of one
- * message after another. Behind a RISTULVA_RESET it reads nothing.
+ * those of an incomplete message. The outcomes don't depend on where the stream is cut: they are what ristulva_judge tells of one message
+ * after another. Behind a RISTULVA_RESET it reads nothing.
  *
  * A handle is the caller's. It begins as {NULL}, gets a decoder by ristulva_decoder_new, and loses it by ristulva_decoder_free; the decoder
  * is memory of the library's, some 4.2 KB. A handle isn't copied, and its pointer isn't changed. It may go from thread to thread, but no two
- * calls are handed the same handle at one time; different decoders don't meet.
+ * calls are handed the same handle at one time; different decoders share nothing.
  */
 
 struct ristulva_decoder_body;
@@ -358,10 +358,10 @@ ristulva_status ristulva_decoder_free(ristulva_decoder *decoder);
  * does. `taken` is how many of the `len` octets were taken: what stands behind them is handed in again, as the next piece or a part of it, until
  * RISTULVA_INCOMPLETE.
  *
- * RISTULVA_OK: the octets of the message, `out->len` of them, stand at the front of `message`, which has room for `message_room` octets,
- * RISTULVA_MESSAGE at least; those behind them stay. Places, notes and cursors are those of these octets. Of a header with a fault its 19
- * octets stand there, and `out->len` is 0. The Data field of the NOTIFICATION that came or that is to be sent stands at the front of `data`,
- * which has room for `room` octets, RISTULVA_DATA at least. It doesn't allocate.
+ * RISTULVA_OK: the octets of the message, `out->len` of them, stand at the beginning of `message`, which has room for `message_room` octets,
+ * RISTULVA_MESSAGE at least; the rest of the buffer is unchanged. Offsets, notes and cursors are those of these octets. Of a header with a
+ * fault its 19 octets stand there, and `out->len` is 0. The Data field of the NOTIFICATION that came or that is to be sent stands at the
+ * beginning of `data`, which has room for `room` octets, RISTULVA_DATA at least. It doesn't allocate.
  *
  * RISTULVA_INCOMPLETE: all octets of the piece were taken, and the message needs more; `taken` is written, and nothing else.
  * RISTULVA_ROOM, `message_room` is below RISTULVA_MESSAGE or `room` below RISTULVA_DATA; RISTULVA_NO_DECODER; RISTULVA_STATE, a RISTULVA_RESET
@@ -369,8 +369,8 @@ ristulva_status ristulva_decoder_free(ristulva_decoder *decoder);
 ristulva_status ristulva_decoder_pull(ristulva_decoder *decoder, const uint8_t *octets, size_t len, uint8_t *message, size_t message_room,
                                       uint8_t *data, size_t room, size_t *taken, ristulva_verdict *out);
 
-/* Tells how many octets of a message that isn't whole the decoder holds, at most RISTULVA_MESSAGE. Where a stream ends, 0 says that it
- * ends behind a message, or behind a RISTULVA_RESET. RISTULVA_NO_DECODER. */
+/* Tells how many octets of an incomplete message the decoder holds, at most RISTULVA_MESSAGE. Where a stream ends, 0 says that it ends
+ * behind a message, or behind a RISTULVA_RESET. RISTULVA_NO_DECODER. */
 ristulva_status ristulva_decoder_held(ristulva_decoder *decoder, size_t *held);
 
 /* ---- sessions (RFC 4271, section 8) ----
@@ -380,10 +380,11 @@ ristulva_status ristulva_decoder_held(ristulva_decoder *decoder, size_t *held);
  *
  * A handle is the caller's. It begins as {NULL}, gets a session by ristulva_session_new, and loses it by ristulva_session_free; the
  * session is memory of the library's, some 4.5 KB. A handle isn't copied, and its pointer isn't changed. It may go from thread to thread,
- * but no two calls are handed the same handle at one time; different sessions don't meet.
+ * but no two calls are handed the same handle at one time; different sessions share nothing.
  *
- * Each call answers RISTULVA_NO_SESSION where the handle has none, unless an argument is out of its range or a buffer too small. A status
- * other than RISTULVA_OK says that nothing has changed, and, but where it is said below, that nothing was written.
+ * Each call answers RISTULVA_NO_SESSION where the handle has none; RISTULVA_RANGE, and RISTULVA_ROOM for a buffer below RISTULVA_MESSAGE,
+ * are checked before that. A status other than RISTULVA_OK says that nothing has changed, and, but where it is said below, that nothing
+ * was written.
  */
 
 struct ristulva_session_body;
@@ -469,8 +470,8 @@ typedef struct {
 /* Tells a session what happens, and tells what is to be done. What doesn't belong in its state does nothing, nor does a timer that the
  * session hasn't started: then `actions->count` is 0.
  *
- * Where a message is to be sent, its octets stand at the front of `message`, which has room for `room` octets, RISTULVA_MESSAGE at least;
- * those behind it stay. `written` is how many octets it has: 0 where none is to be sent.
+ * Where a message is to be sent, its octets stand at the beginning of `message`, which has room for `room` octets, RISTULVA_MESSAGE at least;
+ * the rest of the buffer is unchanged. `written` is how many octets it has: 0 where none is to be sent.
  *
  * RISTULVA_ROOM: `room` is below RISTULVA_MESSAGE. RISTULVA_RANGE: `event` is none of the numbers above. */
 ristulva_status ristulva_session_event(ristulva_session *session, uint32_t event, ristulva_actions *actions, uint8_t *message, size_t room,
@@ -485,15 +486,15 @@ typedef struct {
     ristulva_parts parts; /* RISTULVA_UPDATE, RISTULVA_WITHDRAW: where the parts of the UPDATE lie in the octets. Else of no octets, at 0 */
 } ristulva_heard;
 
-/* Lets a session hear the message, or the header with a fault, that octets of the peer begin with, and tells what is to be done, as
- * ristulva_session_event does. What stands behind a message has no effect. The host drops `heard->len` octets from the front of what it
- * has received, and calls again, until less than a message is left.
+/* Lets a session hear the first message of the octets that came, or a header with a fault, and tells what is to be done, as
+ * ristulva_session_event does; octets behind it are ignored. The host drops the first `heard->len` octets of what it has received, and calls
+ * again, until less than a message is left.
  *
  * An UPDATE is as it came: its routes are walked by the cursors above, in the context of ristulva_session_context, and ristulva_note
  * has its notes. It doesn't allocate.
  *
  * RISTULVA_ROOM: `room` is below RISTULVA_MESSAGE. RISTULVA_STATE: the connection doesn't stand, so that octets have no meaning (Idle,
- * Connect, Active). RISTULVA_INCOMPLETE: the octets are less than a message. */
+ * Connect, Active). RISTULVA_INCOMPLETE: the octets are an incomplete message. */
 ristulva_status ristulva_session_hear(ristulva_session *session, const uint8_t *octets, size_t len, ristulva_heard *heard,
                                       ristulva_actions *actions, uint8_t *message, size_t room, size_t *written);
 
@@ -515,19 +516,19 @@ typedef struct {
 /* Tells what the peer said of itself. RISTULVA_STATE: as for ristulva_session_context. */
 ristulva_status ristulva_session_peer(ristulva_session *session, ristulva_peer *peer);
 
-/* Writes the codes of all capabilities that the peer offers, whatever their values, to the front of `codes`, which has room for `room`
+/* Writes the codes of all capabilities that the peer offers, whatever their values, to the beginning of `codes`, which has room for `room`
  * octets: each once, rising, at most 256. `written` is how many they are (RFC 5492, section 4).
  *
  * RISTULVA_STATE: as for ristulva_session_context. RISTULVA_ROOM: `written` is written, and says how much room is needed. */
 ristulva_status ristulva_session_codes(ristulva_session *session, uint8_t *codes, size_t room, size_t *written);
 
-/* Writes the message of the session's own OPEN to the front of `message`, which has room for `room` octets: at most 49. `written` is how
+/* Writes the message of the session's own OPEN to the beginning of `message`, which has room for `room` octets: at most 49. `written` is how
  * many octets it has.
  *
  * RISTULVA_ROOM: `written` is written, and says how much room is needed. */
 ristulva_status ristulva_session_open(ristulva_session *session, uint8_t *message, size_t room, size_t *written);
 
-/* Writes the message of an UPDATE as a session sends it now to the front of `message`, as ristulva_encode does, and tells what is to be
+/* Writes the message of an UPDATE as a session sends it now to the beginning of `message`, as ristulva_encode does, and tells what is to be
  * done when it is sent: the Keepalive Timer is started anew, where there is one. `body` has AS numbers of four octets, whatever the
  * session has, and one kind of routes: withdrawn, announced, or those of one of the multiprotocol attributes (RFC 7606, section 5.1).
  * For a peer with AS numbers of two octets it is written as ristulva_narrow does. The session stays as it is. It allocates.
