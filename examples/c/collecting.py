@@ -475,7 +475,8 @@ class Scarce:
         why = "Too many open files"
         wanted = {f"collector: {peer.name}: {why}" for peer in self.more} | {f"collector: a connection can't be accepted: {why}"}
         self.report("it ends without descriptors", status == 0, errors)
-        self.report("each is told of", wanted <= set(lines) and len(lines) < 50, errors[:2000])
+        self.report("each is told of", wanted <= set(lines), errors[:2000])
+        self.report("each is told of once", len(lines) == len(set(lines)), errors[:2000])
 
 
 def try_scarce(made, report):

@@ -58,7 +58,8 @@ struct peer {
     enum connection connection;
     int fd;                            /* -1 where there is none */
     short ready;                       /* what poll told of it */
-    int error;                         /* why the last try to connect failed */
+    int error;                         /* why the last try to connect failed, */
+    int lack;                          /* and why it had no descriptor */
     long long due[TIMERS];             /* when each timer runs out, by now() */
     char why[24];                      /* why the session ended */
     uint8_t in[2 * RISTULVA_MESSAGE];  /* what came and wasn't heard: a message is at most half of it */
@@ -198,10 +199,11 @@ static void drop(struct peer *peer)
 /* The session goes on seeking: the peer may come here meanwhile. */
 static void try_failed(struct peer *peer, int error)
 {
+    int *told = error == EMFILE || error == ENFILE ? &peer->lack : &peer->error;
     drop(peer);
-    if (error != peer->error)
+    if (error != *told)
         fprintf(stderr, "collector: %s: %s\n", peer->name, strerror(error));
-    peer->error = error;
+    *told = error;
     peer->due[TIMER_AGAIN] = later(pause_seconds, 1);
 }
 
@@ -347,7 +349,7 @@ static void hear(struct peer *peer)
 static void connected(struct peer *peer)
 {
     peer->connection = STANDS;
-    peer->error = 0;
+    peer->error = peer->lack = 0;
     happens(peer, RISTULVA_EVENT_CONNECTED);
 }
 

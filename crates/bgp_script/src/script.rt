@@ -19,7 +19,7 @@ use std::alloc::Global;
 pub const SCRIPT_MAX: usize = 1_048_576;
 
 /// Two speakers, and the moves of a schedule.
-#[derive(Drop, PartialEq)]
+#[derive(Drop)]
 pub struct Script {
     /// What the speaker A is set to.
     pub a: Config,

@@ -1,8 +1,8 @@
 //! The UPDATEs of a file.
 
-use bgp_msg::{Decoder, Message, Outcome};
+use bgp_msg::{OutcomeView, Step, front, view_frame};
 use bgp_open::Context;
-use bgp_update::Update;
+use bgp_update::{Update, UpdateView};
 use std::alloc::{AllocError, Global};
 use std::io::Read;
 use std::{fs, io};
@@ -25,40 +25,37 @@ pub(crate) enum Found {
     Bad(u64),
 }
 
-// The UPDATE that an outcome accepts as it stands.
-fn update_in(outcome: Outcome) -> Option<Update> {
-    let Outcome::Took(message, notes) = outcome else {
-        return None;
+// The UPDATE that octets begin with, where it is accepted as it stands, and how many octets its message has.
+fn first_update(alloc: Global, octets: &[u8]) -> Result<Option<(usize, Update)>, AllocError> {
+    let Step::Frame(frame) = front(octets) else {
+        return Ok(None);
     };
-    match message {
-        Message::Update(update) if notes.is_empty() => Some(update),
-        _ => None,
+    let len = frame.len as usize;
+    let mut place = UpdateView::empty();
+    let OutcomeView::Update(view) = view_frame(&WIDE, frame, &mut place) else {
+        return Ok(None);
+    };
+    if view.notes().next().is_some() {
+        return Ok(None);
     }
+    Ok(Some((len, view.own(alloc)?)))
 }
 
 // Reads the UPDATEs of octets.
 fn updates_of(alloc: Global, octets: &[u8]) -> Result<Found, AllocError> {
     let mut updates = Vec::new(alloc);
-    let mut decoder = Decoder::new(WIDE);
     let mut rest = octets;
     let mut at: u64 = 0;
     for _turn in 0..u64::MAX {
-        let (used, found) = decoder.pull(alloc, rest)?;
-        let Some((_len, outcome)) = found else {
+        if rest.is_empty() {
             break;
-        };
-        let Some(update) = update_in(outcome) else {
+        }
+        let Some((len, update)) = first_update(alloc, rest)? else {
             return Ok(Found::Bad(at));
         };
         updates.push(update)?;
-        rest = match rest.get(used..) {
-            Some(later) => later,
-            None => break,
-        };
-        at = at.saturating_add(used as u64);
-    }
-    if decoder.held() > 0 {
-        return Ok(Found::Bad(at));
+        rest = rest.get(len..).unwrap_or(&[]);
+        at = at.saturating_add(len as u64);
     }
     Ok(Found::Updates(updates))
 }
