@@ -2,7 +2,7 @@
  * four fields, and the numbers of the AS path; or lets a session hear the stream, and counts the prefixes of what it announces and withdraws.
  * Prints the sums of one round, as baseline.rs does, and the best time of the rounds.
  *
- * usage: walk FILE ROUNDS [session]      the session has AS numbers of four octets and both families */
+ * usage: walk FILE ROUNDS [session | notes]      the session has AS numbers of four octets and both families; notes are asked for alone */
 #define _POSIX_C_SOURCE 200809L
 #include "ristulva.h"
 #include <stdio.h>
@@ -78,6 +78,31 @@ static void walk_update(const struct message *m, struct sums *sums)
         walk_attribute(m, &attribute, sums);
     sums->withdrawn += count_field(m, m->parts.withdrawn);
     sums->announced += count_field(m, m->parts.nlri);
+}
+
+/* How many notes a message has, each asked for by its number. */
+static unsigned long count_notes(const uint8_t *octets, size_t len)
+{
+    ristulva_note_found note;
+    unsigned long count = 0;
+    while (ristulva_note(&context, octets, len, (uint32_t)count, &note) == RISTULVA_OK)
+        count++;
+    return count;
+}
+
+/* Walks the notes of a stream, up to its end or to the first message that ends the session. */
+static struct sums note_all(const uint8_t *octets, size_t len)
+{
+    static uint8_t data[RISTULVA_DATA];
+    struct sums sums = {0};
+    ristulva_verdict verdict;
+    while (ristulva_judge(&context, octets, len, data, sizeof data, &verdict) != RISTULVA_INCOMPLETE && verdict.verdict != RISTULVA_RESET) {
+        sums.messages++;
+        sums.bad += count_notes(octets, len);
+        octets += verdict.len;
+        len -= verdict.len;
+    }
+    return sums;
 }
 
 /* Walks a stream up to its end or to the first message that ends the session. */
@@ -218,6 +243,16 @@ static unsigned long long nanoseconds(void)
     return 1000000000ull * (unsigned long long)now.tv_sec + (unsigned long long)now.tv_nsec;
 }
 
+/* What a word asks for: a session, notes, or a walk where there is none; NULL for another word. */
+static struct sums (*work(const char *word))(const uint8_t *, size_t)
+{
+    if (word == NULL)
+        return walk;
+    if (strcmp(word, "session") == 0)
+        return live;
+    return strcmp(word, "notes") == 0 ? note_all : NULL;
+}
+
 int main(int argc, char **argv)
 {
     unsigned long long best = -1ull;
@@ -225,8 +260,8 @@ int main(int argc, char **argv)
     size_t len;
     long rounds;
     uint8_t *octets;
-    if (argc < 3 || argc > 4 || (argc == 4 && strcmp(argv[3], "session") != 0)) {
-        fprintf(stderr, "usage: walk FILE ROUNDS [session]\n");
+    if (argc < 3 || argc > 4 || work(argv[3]) == NULL) {
+        fprintf(stderr, "usage: walk FILE ROUNDS [session | notes]\n");
         return 2;
     }
     octets = read_all(argv[1], &len);
@@ -236,7 +271,7 @@ int main(int argc, char **argv)
     }
     for (rounds = atol(argv[2]); rounds > 0; rounds--) {
         unsigned long long start = nanoseconds(), took;
-        sums = argc == 4 ? live(octets, len) : walk(octets, len);
+        sums = work(argv[3])(octets, len);
         took = nanoseconds() - start;
         best = took < best ? took : best;
     }
