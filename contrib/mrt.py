@@ -158,7 +158,9 @@ def opened(session, items):
     if all(kind != BGP4MP_ET for _, kind, _ in rows):
         return [second for second, _, _ in rows], [item[start:] for item in items]
     messages = [item[start + 4 if kind == BGP4MP_ET else start:] for item, (_, kind, _) in zip(items, rows)]
-    return [f"{second}.{micro:06}" if kind == BGP4MP_ET else second for second, kind, micro in rows], messages
+    # More than a million microseconds are seconds too.
+    times = [f"{second + micro // 1000000}.{micro % 1000000:06}" if kind == BGP4MP_ET else second for second, kind, micro in rows]
+    return times, messages
 
 
 def states(octets):
@@ -322,7 +324,7 @@ class Archive:
             yield Record(time, session, None, states(said)) if session.what == STATE else Record(time, session, said, None)
 
     def keep(self, list_of):
-        """Adds the items of each session to the list that `list_of` answers for it: what `opened` opens, in the order of the file."""
+        """Appends the items of each session to the list that `list_of` answers for it: what `opened` opens, in the order of the file."""
         for session, item in self.items(self.keep_known):
             if session.keep is None:
                 session.keep = list_of(session).append
