@@ -14,6 +14,8 @@ import bz2
 import collections
 import contextlib
 import ipaddress
+import itertools
+import operator
 import os
 import struct
 import zlib
@@ -36,6 +38,7 @@ MOST_KNOWN = 1 << 16
 # type, and the microsecond where the type has one.
 HEAD = struct.Struct(">III")
 TIME = struct.Struct(">IH6xI")
+SECOND, KIND = struct.Struct(">I"), operator.itemgetter(5)
 TABLE_DUMP_V2, BGP4MP, BGP4MP_ET = 13, 16, 17
 
 ADDRESS_OCTETS = {1: 4, 2: 16}
@@ -152,11 +155,11 @@ def address(octets):
 
 
 def opened(session, items):
-    """The times of a session's items as text, seconds since 1970, with six digits behind a point where there are microseconds; and their messages."""
-    rows = list(map(TIME.unpack_from, items))
+    """The times of a session's items, seconds since 1970, as text with six digits behind a point where there are microseconds; and their messages."""
     start = session.start
-    if all(kind != BGP4MP_ET for _, kind, _ in rows):
-        return [second for second, _, _ in rows], [item[start:] for item in items]
+    if BGP4MP_ET not in set(map(KIND, items)):
+        return list(itertools.chain.from_iterable(map(SECOND.unpack_from, items))), list(map(operator.itemgetter(slice(start, None)), items))
+    rows = list(map(TIME.unpack_from, items))
     messages = [item[start + 4 if kind == BGP4MP_ET else start:] for item, (_, kind, _) in zip(items, rows)]
     # More than a million microseconds are seconds too.
     times = [f"{second + micro // 1000000}.{micro % 1000000:06}" if kind == BGP4MP_ET else second for second, kind, micro in rows]

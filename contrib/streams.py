@@ -73,5 +73,9 @@ class Outputs:
         for name, octets in self.held.items():
             with open(self.path(name), "ab") as output:
                 output.write(octets)
+        self.forget()
+
+    def forget(self):
+        """Forgets what is held."""
         self.held.clear()
         self.size = 0
