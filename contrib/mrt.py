@@ -216,11 +216,14 @@ def bunzipped(part, block):
         raise Unreadable(fault) from fault
 
 
-# What a packed file begins with, what unpacks a part of it, and by which call.
-PACKINGS = {
-    b"\x1f\x8b": (lambda: zlib.decompressobj(31), inflated),
-    b"BZ": (bz2.BZ2Decompressor, bunzipped),
-}
+def packing_of(start):
+    """What makes what unpacks a part of a file that begins so, and by which call it does; None for a plain file."""
+    if start[:2] == b"\x1f\x8b":
+        return lambda: zlib.decompressobj(31), inflated
+    # A plain file of April 2005 may begin with BZh too, but its type isn't what follows there: a block's mark, or the end's.
+    if start[:3] == b"BZh" and start[4:6] in (b"1A", b"\x17r"):
+        return bz2.BZ2Decompressor, bunzipped
+    return None
 
 
 def unpacked(blocks, make, unpack):
@@ -359,23 +362,28 @@ class Archive:
 
     def blocks(self):
         """The octets of the file, unpacked."""
-        start = self.file.peek(2)[:2]
-        if start in PACKINGS:
-            return unpacked(self.packed_blocks(PACKED_BLOCK), *PACKINGS[start])
-        return self.packed_blocks(PLAIN_BLOCK)
+        start = self.read_some(HEAD.size)
+        packing = packing_of(start)
+        if packing is None:
+            return self.packed_blocks(start, PLAIN_BLOCK)
+        return unpacked(self.packed_blocks(start, PACKED_BLOCK), *packing)
 
-    def packed_blocks(self, size):
+    def packed_blocks(self, start, size):
         """The octets of the file as they are."""
-        while True:
-            self.each_block()
-            try:
-                block = self.file.read(size)
-            except OSError as fault:
-                raise Unreadable(fault) from fault
-            if not block:
-                return
-            self.read += len(block)
+        block = start
+        while block:
             yield block
+            block = self.read_some(size)
+
+    def read_some(self, size):
+        """The next octets of the file."""
+        self.each_block()
+        try:
+            octets = self.file.read(size)
+        except OSError as fault:
+            raise Unreadable(fault) from fault
+        self.read += len(octets)
+        return octets
 
     def leave_out(self, why, at):
         """Counts what is left out of the record at this offset of the block."""
