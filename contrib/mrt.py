@@ -39,6 +39,7 @@ MOST_KNOWN = 1 << 16
 HEAD = struct.Struct(">III")
 TIME = struct.Struct(">IH6xI")
 SECOND, KIND = struct.Struct(">I"), operator.itemgetter(5)
+MILLION = 1000000
 TABLE_DUMP_V2, BGP4MP, BGP4MP_ET = 13, 16, 17
 
 ADDRESS_OCTETS = {1: 4, 2: 16}
@@ -155,15 +156,22 @@ def address(octets):
 
 
 def opened(session, items):
-    """The times of a session's items, seconds since 1970, as text with six digits behind a point where there are microseconds; and their messages."""
-    start = session.start
-    if BGP4MP_ET not in set(map(KIND, items)):
-        return list(itertools.chain.from_iterable(map(SECOND.unpack_from, items))), list(map(operator.itemgetter(slice(start, None)), items))
-    rows = list(map(TIME.unpack_from, items))
-    messages = [item[start + 4 if kind == BGP4MP_ET else start:] for item, (_, kind, _) in zip(items, rows)]
-    # More than a million microseconds are seconds too.
-    times = [f"{second + micro // 1000000}.{micro % 1000000:06}" if kind == BGP4MP_ET else second for second, kind, micro in rows]
-    return times, messages
+    """A session's items: the form in which their times are written, in seconds since 1970, the columns of numbers that stand in it, and the messages."""
+    start, kinds = session.start, set(map(KIND, items))
+    if BGP4MP_ET not in kinds:
+        return "%d", [list(itertools.chain.from_iterable(map(SECOND.unpack_from, items)))], list(map(operator.itemgetter(slice(start, None)), items))
+    seconds, numbers, micros = zip(*map(TIME.unpack_from, items))
+    if len(kinds) == 1 and max(micros) < MILLION:
+        return "%d.%06d", [seconds, micros], list(map(operator.itemgetter(slice(start + 4, None)), items))
+    rows = zip(seconds, numbers, micros)
+    times = [f"{second + micro // MILLION}.{micro % MILLION:06}" if kind == BGP4MP_ET else str(second) for second, kind, micro in rows]
+    return "%s", [times], [item[start + 4 if kind == BGP4MP_ET else start:] for item, kind in zip(items, numbers)]
+
+
+def opened_one(session, item):
+    """The time and the message of an item."""
+    form, columns, (message,) = opened(session, [item])
+    return form % tuple(column[0] for column in columns), message
 
 
 def states(octets):
@@ -325,8 +333,8 @@ class Archive:
 
     def __iter__(self):
         for session, item in self.items():
-            (time,), (said,) = opened(session, [item])
-            time = float(time) if isinstance(time, str) else time
+            when, said = opened_one(session, item)
+            time = float(when) if "." in when else int(when)
             yield Record(time, session, None, states(said)) if session.what == STATE else Record(time, session, said, None)
 
     def keep(self, list_of):
