@@ -24,6 +24,7 @@ MARKER = b"\xff" * 16
 UPDATE, ROUTE_REFRESH = 2, 5
 HEADER_OCTETS, LONGEST_MESSAGE = 19, 4096
 MP_REACH_NLRI, EXTENDED_LENGTH = 14, 0x10
+NEXT_HOP_OCTETS = {1: (4,), 2: (16, 32)}
 
 # How much is read at a time of a plain file and of a packed one, and how much bzip2 unpacks at a time. gzip unpacks an octet to 1032 at most.
 PLAIN_BLOCK, PACKED_BLOCK, UNPACKED_BLOCK = 1 << 18, 1 << 15, 1 << 14
@@ -55,10 +56,10 @@ Record = collections.namedtuple("Record", "time session octets change")
 
 
 class Session:
-    """Whose messages or changes of state: a peer's address and AS number, the collector's AS number (None in a table, which doesn't tell it), the octets
-    of AS numbers in the messages, and what was recorded: messages that the collector received (RECEIVED) or sent (SENT), entries of a table (TABLE), or
-    changes of state (STATE). An item of it begins with the time; `start` is where the message or the states begin, four octets later where there are
-    microseconds."""
+    """Whose messages or changes of state: a peer's address and AS number, the collector's AS number (None in a table, which doesn't tell it), the
+    octets of AS numbers in the messages, and what was recorded: messages that the collector received (RECEIVED) or sent (SENT), entries of a table
+    (TABLE), or changes of state (STATE). An item of it begins with the time; `start` is where the message or the states begin, four octets later
+    where there are microseconds."""
 
     __slots__ = ("peer", "peer_as", "local_as", "width", "what", "start", "keep")
 
@@ -156,10 +157,12 @@ def address(octets):
 
 
 def opened(session, items):
-    """A session's items: the form in which their times are written, in seconds since 1970, the columns of numbers that stand in it, and the messages."""
+    """What items of a session have: the form in which their times are written, in seconds since 1970, the columns of numbers that stand in it, and the
+    messages."""
     start, kinds = session.start, set(map(KIND, items))
     if BGP4MP_ET not in kinds:
-        return "%d", [list(itertools.chain.from_iterable(map(SECOND.unpack_from, items)))], list(map(operator.itemgetter(slice(start, None)), items))
+        seconds = list(itertools.chain.from_iterable(map(SECOND.unpack_from, items)))
+        return "%d", [seconds], list(map(operator.itemgetter(slice(start, None)), items))
     seconds, numbers, micros = zip(*map(TIME.unpack_from, items))
     if len(kinds) == 1 and max(micros) < MILLION:
         return "%d.%06d", [seconds, micros], list(map(operator.itemgetter(slice(start + 4, None)), items))
@@ -268,35 +271,36 @@ def peers_in(body):
 
 
 def reach_in(attributes):
-    """Where an attribute MP_REACH_NLRI begins, where its value does, and where it ends; None where there is none."""
+    """Where an attribute MP_REACH_NLRI begins, where its value does, and where it ends; None where none is found."""
     at = 0
     while at + 3 <= len(attributes):
-        head = 4 if attributes[at] & EXTENDED_LENGTH else 3
-        end = at + head + number_in(attributes, at + 2, head - 2)
+        value = at + (4 if attributes[at] & EXTENDED_LENGTH else 3)
+        end = value + int.from_bytes(attributes[at + 2:value], "big")
         if attributes[at + 1] == MP_REACH_NLRI:
-            return at, at + head, end
+            return at, value, end
         at = end
     return None
 
 
 def next_hop_in(value):
     """The next hop of a table's MP_REACH_NLRI with its length, which is all that stands there. Some collectors write the whole attribute."""
-    at = 3 if value[:1] == b"\0" else 0
-    end = at + 1 + number_in(value, at, 1)
-    if end > len(value) or at == 0 and end < len(value):
+    is_whole = value[:1] == b"\0"
+    at = 3 if is_whole else 0
+    end = at + 1 + int.from_bytes(value[at:at + 1], "big")
+    if end > len(value) or end < len(value) and not is_whole:
         raise LeftOut("with a faulty MP_REACH_NLRI")
     return value[at:end]
 
 
 def announced(family, prefix, attributes):
-    """The UPDATE that announces a prefix with the attributes of a table's entry: IPv6, whose next hop stands in MP_REACH_NLRI, there, and IPv4 as NLRI.
-    """
+    """The UPDATE that announces a prefix with the attributes of a table's entry: IPv6, whose next hop stands in MP_REACH_NLRI, there, and IPv4 as
+    NLRI."""
     reach = reach_in(attributes) if family == 2 or b"\x0e" in attributes else None
     if reach is not None:
         at, value, end = reach
         next_hop = next_hop_in(attributes[value:end])
-        if family == 1 and len(next_hop) != 5:
-            raise LeftOut("of IPv4 with an IPv6 next hop")
+        if len(next_hop) - 1 not in NEXT_HOP_OCTETS[family]:
+            raise LeftOut("of IPv4 with an IPv6 next hop" if family == 1 else "with a faulty MP_REACH_NLRI")
         whole = bytes((0, family, 1)) + next_hop + b"\0" + prefix
         attributes = attributes[:at] + bytes((attributes[at] & ~EXTENDED_LENGTH, MP_REACH_NLRI, len(whole))) + whole + attributes[end:]
         prefix = b""
