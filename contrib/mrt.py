@@ -157,8 +157,8 @@ def address(octets):
 
 
 def opened(session, items):
-    """What items of a session have: the form in which their times are written, in seconds since 1970, the columns of numbers that stand in it, and the
-    messages."""
+    """What items of a session have: the form in which their times are written, in seconds since 1970, the columns of numbers that stand in it, and
+    the messages."""
     start, kinds = session.start, set(map(KIND, items))
     if BGP4MP_ET not in kinds:
         seconds = list(itertools.chain.from_iterable(map(SECOND.unpack_from, items)))
