@@ -37,6 +37,13 @@ def messages_in(octets):
         at += length
 
 
+def add_program(parser):
+    """Adds the option that names the program."""
+    built = os.path.join(os.path.dirname(os.path.dirname(os.path.realpath(__file__))), "bgp")
+    program = os.environ.get("PROGRAM", built if os.access(built, os.X_OK) else "bgp")
+    parser.add_argument("--program", default=program, help="the program (PROGRAM, or ./bgp, or bgp on the path)")
+
+
 class Outputs:
     """The files of a folder by name, written in large pieces."""
 
@@ -66,5 +73,9 @@ class Outputs:
         for name, octets in self.held.items():
             with open(self.path(name), "ab") as output:
                 output.write(octets)
+        self.forget()
+
+    def forget(self):
+        """Forgets what is held."""
         self.held.clear()
         self.size = 0
