@@ -1,7 +1,9 @@
 //! Owns the UPDATEs of a stream by way of their views: no outcome is built on the way.
 
+ghost use Rattle.std.specs.Prelude.{◌≡◌, IfOk, IfSome};
+
 use crate::stream::{CONTEXT, PIECE};
-use bgp_msg::{Decoder, Look, OutcomeView};
+use bgp_msg::{Decoder, Look, Next, OutcomeView};
 use bgp_update::UpdateView;
 use std::alloc::{AllocError, Global};
 use std::io;
@@ -54,20 +56,22 @@ impl Owned {
         Ok(())
     }
 
-    /// Owns what is held, or stands at the front of a piece. Answers how many octets of the piece that takes, and whether it is a reset.
+    /// Owns what is held, or stands at the front of a piece. Answers how many octets of the piece that takes, and where the decoder goes on.
     fn own_next(
         &mut self,
         alloc: Global,
         decoder: &Decoder,
         piece: &[u8],
-    ) -> Result<Option<(usize, bool)>, AllocError> {
+    ) -> Result<Option<(usize, Next)>, AllocError>
+        ensures { IfOk result (λ found. IfSome found (λ it. it.1.from ≡ decoder.now)) }
+    {
         let mut place = UpdateView::empty();
         match decoder.look(piece, &mut place) {
-            Look::Message(taken, _len, outcome) => {
+            Look::Message(taken, _len, outcome, next) => {
                 self.own(alloc, &outcome)?;
-                Ok(Some((taken, outcome.is_reset())))
+                Ok(Some((taken, next)))
             }
-            Look::Fault(taken, _fault) => Ok(Some((taken, true))),
+            Look::Fault(taken, _fault, next) => Ok(Some((taken, next))),
             Look::Feed => Ok(None),
         }
     }
@@ -80,8 +84,8 @@ impl Owned {
         piece: &[u8],
     ) -> Result<Option<usize>, AllocError> {
         match self.own_next(alloc, decoder, piece)? {
-            Some((taken, resets)) => {
-                decoder.go(resets);
+            Some((taken, next)) => {
+                decoder.go(next);
                 Ok(Some(taken))
             }
             None => match decoder.feed(piece) {

@@ -38,7 +38,7 @@ module _ (s : Settings) (x : Standing) (held piece : List ℕ) (n : ℕ) (h : He
   octets = held ++ take n piece
 
   abbrev looked : Looked
-  looked = record { taken = n; was = x; heard = h }
+  looked = record { taken = n; was = me; heard = h }
 
   -- what octets are is heard
   pulls : (what : Result Message HeadFault) → Pulls held piece n → listens x.state ≡ true → Stops octets → content_of octets ≡ Some what → on_heard x h ≡ hears s x what
@@ -67,6 +67,7 @@ module _ (s : Settings) (x : Standing) (held piece : List ℕ) (n : ℕ) (h : He
       let m : Message = record { kind = frame.kind; body = frame.body.now } in
       let content = content_of-frame m octets found.1.0 in
       record {
+        same = refl;
         pulls = pulls (Ok m) found.0 is.up (inl (m, found.1.0)) content is.does;
         within = found.0.takes.within;
         memory = λ has. memory found.0 (record { message = m; is_held = content; takes = is.memory has });
@@ -77,6 +78,7 @@ module _ (s : Settings) (x : Standing) (held piece : List ℕ) (n : ℕ) (h : He
   finds_fault f found is =
       let content = content_of-fault octets f found.1.0 found.1.1 in
       record {
+        same = refl;
         pulls = pulls (Err f) found.0 is.up (inr (found.1.0, (f, found.1.1))) content (is.does s);
         within = found.0.takes.within;
         memory = λ has. absurd (true_not (has_routes h) is.none has);

@@ -4,6 +4,7 @@ pub mod Cutting
 pub mod Heard
 pub mod Life
 pub mod Look
+pub mod Next
 pub mod Pulling
 pub mod Run
 pub mod Sending

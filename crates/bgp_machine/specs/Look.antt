@@ -5,15 +5,16 @@ use Rattle.bgp_frame.specs.Frame.{Message}
 use Rattle.bgp_machine.specs.declared.action.Action.{Action}
 use Rattle.bgp_machine.specs.declared.heard.Heard.{Heard}
 use Rattle.bgp_machine.specs.Heard.{has_routes, on_heard, IsSaid}
+use Rattle.bgp_machine.specs.Next.{Going}
 use Rattle.bgp_machine.specs.Pulling.{FrontTakesMemory, IsPulled}
 use Rattle.bgp_machine.specs.Session.{Machine, content_of, IsFed, HeldTakesMemory}
 use Rattle.bgp_machine.specs.Standing.{Standing}
 use Rattle.bgp_machine.specs.Table.{Step}
 
--- how many octets of the piece are taken, where the session stands, and what it hears
+-- how many octets of the piece are taken, the session that is looked at, and what it hears
 pub record Looked : Type 0 where
   pub taken : ℕ
-  pub was : Standing
+  pub was : Machine
   pub heard : Heard
 
 -- a session that goes on so, with nothing held
@@ -21,11 +22,12 @@ abbrev pub gone : Machine → Standing → Machine
 gone old next = record { settings = old.settings; standing = next; held = [] }
 
 abbrev pub step_of : Looked → Step
-step_of l = on_heard l.was l.heard
+step_of l = on_heard l.was.standing l.heard
 
--- A pull takes as many octets, and gives what is to be done; the session goes on so then. Where a message is heard, the views are those of its
--- octets
+-- This session is looked at. A pull takes as many octets, and gives what is to be done; the session goes on so then. Where a message is heard,
+-- the views are those of its octets
 pub record Finds (old : Machine) (piece : List ℕ) (l : Looked) : Type 0 where
+  pub same : l.was ≡ old
   pub pulls : (actions : ArrayVec Action) → actions.items ≡ (step_of l).actions → IsPulled old piece l.taken (Some actions) (gone old (step_of l).next)
   pub within : l.taken ≤ length piece
   pub memory : has_routes l.heard ≡ true → HeldTakesMemory old ⊎ FrontTakesMemory old piece
@@ -37,6 +39,6 @@ IsLook old piece (Some l) = Finds old piece l
 IsLook old piece None = (n : ℕ) (new : Machine) → IsFed old piece n new → IsPulled old piece n None new
 
 -- the same, where what is to be done stands in a set: nothing, where nothing is heard
-abbrev pub IsOwnLook : Machine → List ℕ → Option (ℕ × Standing) → ArrayVec Action → Type 0
-IsOwnLook old piece (Some (n, next)) actions = (IsPulled old piece n (Some actions) (gone old next)) × (n ≤ length piece)
+abbrev pub IsOwnLook : Machine → List ℕ → Option (ℕ × Going) → ArrayVec Action → Type 0
+IsOwnLook old piece (Some (n, next)) actions = (IsPulled old piece n (Some actions) (gone old next.standing)) × (n ≤ length piece) × (next.from ≡ old)
 IsOwnLook old piece None actions = ((n : ℕ) (new : Machine) → IsFed old piece n new → IsPulled old piece n None new) × (actions.items ≡ [])

@@ -12,6 +12,7 @@ mod heard;
 mod hearing;
 pub mod laws;
 mod look;
+mod origin;
 mod phase;
 mod send_fault;
 mod sending;

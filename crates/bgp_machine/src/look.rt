@@ -3,22 +3,25 @@
 use crate::action::Actions;
 use crate::action_views::ActionViews;
 use crate::heard::Heard;
+use crate::origin::Origin;
+use crate::session::Session;
 use crate::standing::Standing;
 use std::alloc::{AllocError, Global};
 use std::marker::Model;
 
-/// Where a session goes on: what [`Session::go`](crate::Session::go) takes.
+/// Where a session goes on: what [`Session::go`] takes. It belongs to the session as it was at the look, and to one in the same state.
 #[derive(Drop)]
 pub struct Next {
     pub(crate) standing: Standing,
+    origin: Origin,
 }
 
 impl Model for Next {
-    ghost use Rattle.bgp_machine.specs.Standing.{Standing};
+    ghost use Rattle.bgp_machine.specs.Next.{Going};
 
-    ghost Value = { Standing };
+    ghost Value = { Going };
 
-    ghost view = { λ n. n.standing };
+    ghost view = { λ n. record { from = n.origin.session; standing = n.standing } };
 }
 
 /// A message, or a header with a fault, as a session hears it; what is to be done on it, and where the session goes on. It takes no memory: it
@@ -26,7 +29,7 @@ impl Model for Next {
 #[derive(Drop)]
 pub struct Look<'a> {
     taken: usize,
-    was: &'a Standing,
+    was: &'a Session,
     heard: Heard<'a>,
 }
 
@@ -39,16 +42,17 @@ impl<'a> Model for Look<'a> {
 
     ghost view = { λ l. record { taken = l.taken; was = l.was.now; heard = l.heard } };
 
-    ghost invariant = { λ l. suits l.was.now.state l.heard ≡ true };
+    ghost invariant = { λ l. suits l.was.now.standing.state l.heard ≡ true };
 }
 
 impl<'a> Look<'a> {
     ghost use Rattle.std.specs.Prelude.{◌≡◌, true, [], IfOk, OnOk, OnErr};
-    ghost use Rattle.bgp_machine.specs.Heard.{has_routes, on_heard, suits};
+    ghost use Rattle.bgp_machine.specs.Heard.{has_routes, suits};
+    ghost use Rattle.bgp_machine.specs.Look.{step_of};
 
     /// What was heard.
-    pub(crate) fn new(taken: usize, was: &'a Standing, heard: Heard<'a>) -> Look<'a>
-        requires { suits was.now.state heard ≡ true }
+    pub(crate) fn new(taken: usize, was: &'a Session, heard: Heard<'a>) -> Look<'a>
+        requires { suits was.now.standing.state heard ≡ true }
         ensures { result ≡ record { taken = taken; was = was.now; heard = heard.entry } }
     {
         Look { taken, was, heard }
@@ -70,13 +74,15 @@ impl<'a> Look<'a> {
 
     /// What is to be done, in order: it goes into a list, and what was there before is gone. Answers where the session goes on.
     pub fn act(&'a self, actions: &mut ActionViews<'a>) -> Next
-        ensures actions { actions.new ≡ (on_heard self.now.was self.now.heard).actions }
-        ensures next { result ≡ (on_heard self.now.was self.now.heard).next }
+        ensures actions { actions.new ≡ (step_of self.now).actions }
+        ensures from { result.from ≡ self.now.was }
+        ensures next { result.standing ≡ (step_of self.now).next }
     {
-        let mut standing = self.was.copy();
+        let mut standing = self.was.standing().copy();
         actions.clear();
         standing.act(&self.heard, actions);
-        Next { standing }
+        let origin = Origin::of(self.was);
+        Next { standing, origin }
     }
 
     /// Puts what is to be done into a set, each action with memory of its own; what was in it before is gone. Answers where the session goes on.
@@ -84,8 +90,9 @@ impl<'a> Look<'a> {
     /// # Errors
     /// `AllocError` where an allocation failed: only for an UPDATE that doesn't end the session. The set is empty then.
     pub fn own(&self, alloc: Global, actions: &mut Actions) -> Result<Next, AllocError>
-        ensures ok { OnOk result (actions.new.items ≡ (on_heard self.now.was self.now.heard).actions) }
-        ensures next { IfOk result (λ next. next ≡ (on_heard self.now.was self.now.heard).next) }
+        ensures ok { OnOk result (actions.new.items ≡ (step_of self.now).actions) }
+        ensures from { IfOk result (λ next. next.from ≡ self.now.was) }
+        ensures next { IfOk result (λ next. next.standing ≡ (step_of self.now).next) }
         ensures err { OnErr result (actions.new.items ≡ []) }
         ensures memory { OnErr result (has_routes self.now.heard ≡ true) }
     {

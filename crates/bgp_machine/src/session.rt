@@ -65,6 +65,14 @@ impl Session {
         self.standing.phase.state()
     }
 
+    /// Where the session stands, whole.
+    #[inline(always)]
+    pub(crate) fn standing(&self) -> &Standing
+        ensures { result.now ≡ self.now.standing }
+    {
+        &self.standing
+    }
+
     /// What both agreed on: in OpenConfirm and in Established alone.
     pub fn context(&self) -> Option<&Context>
         ensures { option_map (λ ctx. ctx.now) result ≡ self.now.standing.context }
@@ -158,18 +166,19 @@ impl Session {
             Pull::Feed => None,
             Pull::Frame(taken, frame) => {
                 let heard = self.standing.hear(&self.config, frame, place)?;
-                Some(Look::new(taken, &self.standing, heard))
+                Some(Look::new(taken, self, heard))
             }
             Pull::Fault(taken, fault) => {
                 let heard = self.standing.hear_fault(fault)?;
-                Some(Look::new(taken, &self.standing, heard))
+                Some(Look::new(taken, self, heard))
             }
         }
     }
 
-    /// Goes on behind a look: what is held is let go.
+    /// Goes on behind a look: what is held is let go. The session has to be as it was at the look.
     pub fn go(&mut self, next: Next)
-        ensures { self.new ≡ gone self.old next }
+        requires { next.from ≡ self.old }
+        ensures { self.new ≡ gone self.old next.standing }
     {
         self.standing = next.standing;
         self.framer.clear();

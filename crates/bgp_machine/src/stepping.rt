@@ -27,11 +27,11 @@ impl Session {
         ensures memory { OnErr result (HeldTakesMemory self.old) }
     {
         let mut actions = ArrayVec::new();
-        let Some((_taken, next)) = self.own_look(alloc, &[], &mut actions)? else {
+        let Some((_taken, going)) = self.own_look(alloc, &[], &mut actions)? else {
             let _waiting = self.held();
             return Ok(None);
         };
-        self.go(next);
+        self.go(going);
         Ok(Some(actions))
     }
 

@@ -6,7 +6,7 @@ ghost use Rattle.bgp_msg.specs.steps.Early.{IsEarly};
 ghost use Rattle.bgp_msg.specs.Look.{IsLook, IsOwnLook, gone};
 
 use crate::early::{Early, taken};
-use crate::look::Look;
+use crate::look::{Look, Next};
 use crate::outcome::Outcome;
 use crate::outcome_view::OutcomeView;
 use crate::taking::{out_frame, view_frame};
@@ -141,7 +141,8 @@ impl Decoder {
     }
 
     /// What [`pull`](Decoder::pull) would give for a piece, as a view, without memory and without a change. Who goes on behind it consumes as many
-    /// octets of the piece as it says, and calls [`go`](Decoder::go); where it gives `Feed`, who goes on calls [`feed`](Decoder::feed).
+    /// octets of the piece as it says, and calls [`go`](Decoder::go) with where it goes on; where it gives `Feed`, who goes on calls
+    /// [`feed`](Decoder::feed).
     ///
     /// The view of an UPDATE goes into a place, whatever was there before.
     #[tactic(auto, using(crate::proofs::Pulls::stopped_feeds, crate::proofs::Pulls::waiting_feeds, crate::proofs::Pulls::found_message, crate::proofs::Pulls::found_fault))]
@@ -155,19 +156,22 @@ impl Decoder {
             Pull::Feed => Look::Feed,
             Pull::Frame(taken, frame) => {
                 let len = frame.len;
-                Look::Message(taken, len, view_frame(&self.ctx, frame, place))
+                let view = view_frame(&self.ctx, frame, place);
+                let next = Next::new(self, view.is_reset());
+                Look::Message(taken, len, view, next)
             }
-            Pull::Fault(taken, fault) => Look::Fault(taken, fault),
+            Pull::Fault(taken, fault) => Look::Fault(taken, fault, Next::new(self, true)),
         }
     }
 
     /// Goes on behind a message or a faulty header that [`look`](Decoder::look) gave: nothing is held any more, and the decoder stops where that
-    /// was a reset, as each faulty header is.
-    pub fn go(&mut self, resets: bool)
-        ensures { self.new ≡ gone self.old resets }
+    /// was a reset, as each faulty header is. The decoder has to be as it was at the look.
+    pub fn go(&mut self, next: Next)
+        requires { next.from ≡ self.old }
+        ensures { self.new ≡ gone self.old next.resets }
     {
         self.framer.clear();
-        self.stopped = resets;
+        self.stopped = next.resets();
     }
 
     /// An UPDATE that is accepted at the front of a piece, where nothing is held, with memory of its own. None for anything else: an outcome has
@@ -221,31 +225,33 @@ impl Decoder {
     {
         match self.own_look(alloc, piece)? {
             None => Ok((self.feed(piece), None)),
-            Some((taken, len, outcome)) => {
-                self.go(outcome.is_reset());
+            Some((taken, len, next, outcome)) => {
+                self.go(next);
                 Ok((taken, Some((len, outcome))))
             }
         }
     }
 
     /// What [`look`](Decoder::look) finds, with memory of its own: how many octets of the piece are taken, how many the message has, none where it is
-    /// a header with a fault, and the outcome. None where the piece is to be fed.
+    /// a header with a fault, where the decoder goes on, and the outcome. None where the piece is to be fed.
     fn own_look(
         &self,
         alloc: Global,
         piece: &[u8],
-    ) -> Result<Option<(usize, u16, Outcome)>, AllocError>
+    ) -> Result<Option<(usize, u16, Next, Outcome)>, AllocError>
         ensures ok { IfOk result (λ found. IsOwnLook self.now piece.now found) }
         ensures memory { OnErr result (TakesMemory self.now ⊎ FrontTakesMemory self.now piece.now) }
     {
         let mut place = UpdateView::empty();
         match self.look(piece, &mut place) {
             Look::Feed => Ok(None),
-            Look::Message(taken, len, view) => {
+            Look::Message(taken, len, view, next) => {
                 let outcome = view.own(alloc)?;
-                Ok(Some((taken, len, outcome)))
+                Ok(Some((taken, len, next, outcome)))
             }
-            Look::Fault(taken, fault) => Ok(Some((taken, 0, Outcome::Reset(fault.notification())))),
+            Look::Fault(taken, fault, next) => {
+                Ok(Some((taken, 0, next, Outcome::Reset(fault.notification()))))
+            }
         }
     }
 }

@@ -1,10 +1,12 @@
 //! The outcomes of a stream of messages: whole, octet by octet, by `pull` in the caller's piece, and as views.
 
+ghost use Rattle.std.specs.Prelude.{◌≡◌, IfOk, IfSome};
+
 use crate::engines::put_shown;
 use crate::page::Page;
 use crate::trouble::Trouble;
 use bgp_frame::HeadFault;
-use bgp_msg::{Decoder, End, Look, Outcome, OutcomeView, Seen, decode_all};
+use bgp_msg::{Decoder, End, Look, Next, Outcome, OutcomeView, Seen, decode_all};
 use bgp_open::Context;
 use bgp_update::UpdateView;
 use std::alloc::Global;
@@ -132,22 +134,24 @@ fn put_fault(alloc: Global, fault: HeadFault, page: &mut Page) -> Result<(), Tro
     page.put_outcome(alloc, 0, &outcome)
 }
 
-/// Adds what a look finds, as a view. Answers how many octets it takes, how many its message has, and whether it is a reset.
+/// Adds what a look finds, as a view. Answers how many octets it takes, how many its message has, and where the decoder goes on.
 fn put_found(
     alloc: Global,
     decoder: &Decoder,
     piece: &[u8],
     page: &mut Page,
-) -> Result<Option<(usize, u16, bool)>, Trouble> {
+) -> Result<Option<(usize, u16, Next)>, Trouble>
+    ensures { IfOk result (λ found. IfSome found (λ it. it.2.from ≡ decoder.now)) }
+{
     let mut place = UpdateView::empty();
     match decoder.look(piece, &mut place) {
-        Look::Message(taken, len, view) => {
+        Look::Message(taken, len, view, next) => {
             put_view(alloc, len, &view, page)?;
-            Ok(Some((taken, len, view.is_reset())))
+            Ok(Some((taken, len, next)))
         }
-        Look::Fault(taken, fault) => {
+        Look::Fault(taken, fault, next) => {
             put_fault(alloc, fault, page)?;
-            Ok(Some((taken, 0, true)))
+            Ok(Some((taken, 0, next)))
         }
         Look::Feed => Ok(None),
     }
@@ -160,10 +164,10 @@ fn put_looked(
     piece: &[u8],
     page: &mut Page,
 ) -> Result<Taken, Trouble> {
-    let Some((taken, len, resets)) = put_found(alloc, decoder, piece, page)? else {
+    let Some((taken, len, next)) = put_found(alloc, decoder, piece, page)? else {
         return Ok((decoder.feed(piece), None));
     };
-    decoder.go(resets);
+    decoder.go(next);
     Ok((taken, Some(len)))
 }
 

@@ -29,7 +29,7 @@ pub fn put_path(alloc: Global, page: &mut Page, info: PathInfo) -> Result<(), Tr
 fn viewed_info(alloc: Global, ctx: &Context, stream: &[u8]) -> Result<PathInfo, Trouble> {
     let decoder = Decoder::new(*ctx);
     let mut place = UpdateView::empty();
-    let Look::Message(_, _, OutcomeView::Update(view)) = decoder.look(stream, &mut place) else {
+    let Look::Message(_, _, OutcomeView::Update(view), _) = decoder.look(stream, &mut place) else {
         return Err(AN_UPDATE);
     };
     Ok(view.path_info().own(alloc)?)

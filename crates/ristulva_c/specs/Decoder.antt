@@ -9,7 +9,8 @@ use Rattle.bgp_msg.specs.declared.outcome.Outcome.{Outcome}
 use Rattle.bgp_msg.specs.Decoder.{Decoding, GivesMessage, GivesFault, behind, fresh, holding, IsFed}
 use Rattle.bgp_msg.specs.declared.look.Look.TheVariants as look
 use Rattle.bgp_msg.specs.Look.{IsLook}
-use Rattle.bgp_msg.specs.Outcome.{out_of, of_fault, is_reset}
+use Rattle.bgp_msg.specs.Next.{Going, IsBehind}
+use Rattle.bgp_msg.specs.Outcome.{out_of, of_fault}
 use Rattle.ristulva_c.specs.declared.status.TheConstants.{INCOMPLETE, MEMORY, NO_SESSION, OK, RANGE, ROOM, STATE}
 use Rattle.ristulva_c.specs.Copied.{copied}
 use Rattle.ristulva_c.specs.Judge as judge
@@ -110,8 +111,9 @@ pub record Places : Type 0 where
   pub message_before : List ℕ
   pub message_behind : List ℕ
 
--- where nothing is found, nothing is changed, and the piece is to be fed; else so many octets of it are fed, and what is held then is told
-abbrev pub IsFoundTold : Decoding → List ℕ → Option (ℕ × Bool) → Places → Type 0
+-- where nothing is found, nothing is changed, and the piece is to be fed; else so many octets of it are fed, and what is held then is told, and where
+-- the decoder goes on
+abbrev pub IsFoundTold : Decoding → List ℕ → Option (ℕ × Going) → Places → Type 0
 IsFoundTold d piece None p = IsLook d piece look.Feed × (judge.IsLeft OK p.judging × (p.message_behind ≡ p.message_before))
-IsFoundTold d piece (Some (n, resets)) p = IsFed d piece n (holding d (d.held ++ take n piece))
-    × ((o : Outcome) × ((resets ≡ is_reset o) × IsWholeTold d.ctx (d.held ++ take n piece) o p.judging p.message_before p.message_behind))
+IsFoundTold d piece (Some (n, next)) p = IsFed d piece n (holding d (d.held ++ take n piece))
+    × ((o : Outcome) × (IsBehind d o next × IsWholeTold d.ctx (d.held ++ take n piece) o p.judging p.message_before p.message_behind))

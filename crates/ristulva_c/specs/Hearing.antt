@@ -7,8 +7,9 @@ use Rattle.bgp_update.specs.Parts.{parts_of}
 use Rattle.bgp_machine.specs.declared.heard.Heard.{Heard}
 use Rattle.bgp_machine.specs.declared.heard.Heard.TheVariants as heard
 use Rattle.bgp_machine.specs.Look.{Looked, IsLook, gone, step_of}
+use Rattle.bgp_machine.specs.Next.{Going}
 use Rattle.bgp_machine.specs.Session.{Machine}
-use Rattle.bgp_machine.specs.Standing.{Standing, listens}
+use Rattle.bgp_machine.specs.Standing.{listens}
 use Rattle.ristulva_c.specs.declared.hearing.ToldHeard.{ToldHeard}
 use Rattle.ristulva_c.specs.declared.judge.TheConstants.{OPEN, UPDATE, NOTIFICATION, KEEPALIVE, WITHDRAW, RESET}
 use Rattle.ristulva_c.specs.declared.parts.Parts.{Parts}
@@ -82,9 +83,9 @@ pub record IsHeard (x : Machine) (octets : List ℕ) (p : Place) (a : Answer) : 
   pub does : IsDone x.settings (step_of found).actions (gone x (step_of found).next) a
 
 -- the same, before the session goes on there: with the status and the session behind it that follow then
-abbrev pub IsFoundTold : Machine → List ℕ → Option Standing → Place → (ℕ → Machine → Answer) → Type 0
+abbrev pub IsFoundTold : Machine → List ℕ → Option Going → Place → (ℕ → Machine → Answer) → Type 0
 IsFoundTold x octets None p answer = IsLook x octets None × IsUnheard INCOMPLETE p (answer INCOMPLETE x)
-IsFoundTold x octets (Some next) p answer = listens x.standing.state ≡ true → IsHeard x octets p (answer OK (gone x next))
+IsFoundTold x octets (Some next) p answer = (next.from ≡ x) × (listens x.standing.state ≡ true → IsHeard x octets p (answer OK (gone x next.standing)))
 
 abbrev pub Hears : Option Machine → List ℕ → Place → Answer → Type 0
 Hears None octets p a = IsUnheard NO_SESSION p a

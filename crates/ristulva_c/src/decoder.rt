@@ -15,7 +15,7 @@ use crate::messages::{MESSAGE_MAX, put};
 use crate::parts::no_parts;
 use crate::status::{INCOMPLETE, MEMORY, NO_SESSION, OK, RANGE, ROOM, STATE};
 use bgp_frame::{Step, front};
-use bgp_msg::{Decoder, Look, OutcomeView};
+use bgp_msg::{Decoder, Look, Next, OutcomeView};
 use bgp_update::UpdateView;
 use std::alloc::Global;
 
@@ -113,7 +113,7 @@ fn tell_whole(
     }
 }
 
-/// Tells what a decoder gives of the octets that it holds and a piece: how many of the piece are fed to it then, and whether that was a reset.
+/// Tells what a decoder gives of the octets that it holds and a piece: how many of the piece are fed to it then, and where it goes on.
 /// None where the piece is to be fed.
 fn tell_found(
     decoder: &Decoder,
@@ -121,7 +121,7 @@ fn tell_found(
     message: &mut [u8],
     info: &mut [u8],
     out: &mut Verdict,
-) -> Option<(usize, bool)>
+) -> Option<(usize, Next)>
     requires going { decoder.now.stopped ≡ false }
     requires room { 4075 ≤ length info.old }
     ensures { IsFoundTold decoder.now piece.now result (record { judging = record { status = OK; before = out.old; behind = out.new; info_before = info.old; info_behind = info.new }; message_before = message.old; message_behind = message.new }) }
@@ -129,7 +129,7 @@ fn tell_found(
     let mut view = UpdateView::empty();
     match decoder.look(piece, &mut view) {
         Look::Feed => None,
-        Look::Message(count, _, outcome) => {
+        Look::Message(count, _, outcome, next) => {
             tell_whole(
                 behind_feed(decoder, piece, count),
                 &outcome,
@@ -137,9 +137,9 @@ fn tell_found(
                 info,
                 out,
             );
-            Some((count, outcome.is_reset()))
+            Some((count, next))
         }
-        Look::Fault(count, fault) => {
+        Look::Fault(count, fault, next) => {
             let why = fault.answer();
             let outcome = OutcomeView::Reset(why.view());
             tell_whole(
@@ -149,7 +149,7 @@ fn tell_found(
                 info,
                 out,
             );
-            Some((count, true))
+            Some((count, next))
         }
     }
 }
@@ -170,8 +170,8 @@ fn feed(
     *taken = decoder.feed(piece);
     match tell_found(decoder, &[], message, info, out) {
         None => INCOMPLETE,
-        Some((_, resets)) => {
-            decoder.go(resets);
+        Some((_, next)) => {
+            decoder.go(next);
             OK
         }
     }
@@ -194,9 +194,9 @@ fn pull(
     }
     match tell_found(decoder, piece, message, info, out) {
         None => feed(decoder, piece, message, info, taken, out),
-        Some((count, resets)) => {
+        Some((count, next)) => {
             *taken = count;
-            decoder.go(resets);
+            decoder.go(next);
             OK
         }
     }

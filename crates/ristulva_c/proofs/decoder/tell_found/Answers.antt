@@ -4,7 +4,7 @@ use Rattle.bgp_frame.specs.Notification.{notification_of_view}
 use Rattle.bgp_msg.specs.declared.outcome.Outcome.{Outcome}
 use Rattle.bgp_msg.specs.declared.outcome.Outcome.TheVariants as outcome
 use Rattle.bgp_msg.specs.Decoder.{behind}
-use Rattle.bgp_msg.specs.Outcome.{of_fault}
+use Rattle.bgp_msg.specs.Outcome.{of_fault, is_reset}
 use Rattle.bgp_msg.specs.OutcomeView.{outcome_value}
 use Rattle.ristulva_c.specs.declared.status.TheConstants.{OK}
 use Rattle.ristulva_c.specs.Decoder.{GivesHeld, IsWholeTold}
@@ -20,9 +20,9 @@ returns-in-Message c =
     let o = outcome_value c.in-Message.outcome in
     let j : Judging = record { status = OK; before = c.args.out.now; behind = c.tell_whole.new.out; info_before = c.args.info.now; info_behind = c.tell_whole.new.info } in
     let given : GivesHeld (record { ctx = d.ctx; held = c.behind_feed.result.now; stopped = false }) o =
-    subst (λ (x : List ℕ). GivesHeld (record { ctx = d.ctx; held = x; stopped = false }) o) (sym c.behind_feed.ensures) (gives d piece n c.in-Message.field-1 o (behind d o) c.in-Message.ensures) in (
-      fed d piece n c.in-Message.field-1 o (behind d o) c.in-Message.ensures,
-      (o, (c.is_reset.ensures, subst (λ (x : List ℕ). IsWholeTold d.ctx x o j c.args.message.now c.tell_whole.new.message) c.behind_feed.ensures (c.tell_whole.ensures d.ctx given))),
+    subst (λ (x : List ℕ). GivesHeld (record { ctx = d.ctx; held = x; stopped = false }) o) (sym c.behind_feed.ensures) (gives d piece n c.in-Message.field-1 o (behind d o) c.in-Message.ensures.0) in (
+      fed d piece n c.in-Message.field-1 o (behind d o) c.in-Message.ensures.0,
+      (o, (c.in-Message.ensures.1, subst (λ (x : List ℕ). IsWholeTold d.ctx x o j c.args.message.now c.tell_whole.new.message) c.behind_feed.ensures (c.tell_whole.ensures d.ctx given))),
     )
 
 pub returns-in-Fault : goal.returns-in-Fault
@@ -36,7 +36,7 @@ returns-in-Fault c =
     let j : Judging = record { status = OK; before = c.args.out.now; behind = c.tell_whole-in-Fault.new.out; info_before = c.args.info.now; info_behind = c.tell_whole-in-Fault.new.info } in
     let given : GivesHeld (record { ctx = d.ctx; held = c.behind_feed-in-Fault.result.now; stopped = false }) said =
     subst (λ (x : List ℕ). GivesHeld (record { ctx = d.ctx; held = x; stopped = false }) said) (sym c.behind_feed-in-Fault.ensures)
-    (subst (λ (x : Outcome). GivesHeld (record { ctx = d.ctx; held = d.held ++ take n piece; stopped = false }) x) (sym is) (gives d piece n 0 o (behind d o) c.in-Fault.ensures)) in (
-      fed d piece n 0 o (behind d o) c.in-Fault.ensures,
-      (said, (refl, subst (λ (x : List ℕ). IsWholeTold d.ctx x said j c.args.message.now c.tell_whole-in-Fault.new.message) c.behind_feed-in-Fault.ensures (c.tell_whole-in-Fault.ensures d.ctx given))),
+    (subst (λ (x : Outcome). GivesHeld (record { ctx = d.ctx; held = d.held ++ take n piece; stopped = false }) x) (sym is) (gives d piece n 0 o (behind d o) c.in-Fault.ensures.0)) in (
+      fed d piece n 0 o (behind d o) c.in-Fault.ensures.0,
+      (said, ((c.in-Fault.ensures.1.0, c.in-Fault.ensures.1.1 ∙ ap is_reset (sym is)), subst (λ (x : List ℕ). IsWholeTold d.ctx x said j c.args.message.now c.tell_whole-in-Fault.new.message) c.behind_feed-in-Fault.ensures (c.tell_whole-in-Fault.ensures d.ctx given))),
     )

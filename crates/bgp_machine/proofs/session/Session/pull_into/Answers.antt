@@ -1,11 +1,11 @@
 use Rattle.std.proofs.Common.{ℕ, Option, subst}
 use Rattle.bgp_machine.specs.Look.{IsOwnLook}
-use Rattle.bgp_machine.specs.Standing.{Standing}
+use Rattle.bgp_machine.specs.Next.{Going}
 use Rattle.bgp_machine.proofs.Looks.{fed_rests}
 use Rattle.bgp_machine.proofs.session.Session.pull_into.Goals as goal
 
 pub returns-in_default-clause-rests : goal.returns-in_default-clause-rests
 returns-in_default-clause-rests c =
     let old = c.args.self.now in
-    let none = subst (λ (found : Option (ℕ × Standing)). IsOwnLook old c.args.piece.now found c.own_look.new.actions) c.in_default.is c.in_ok-taken.ensures.ok in
+    let none = subst (λ (found : Option (ℕ × Going)). IsOwnLook old c.args.piece.now found c.own_look.new.actions) c.in_default.is c.in_ok-taken.ensures.ok in
     fed_rests old c.args.piece.now c.feed.result c.feed.new.self c.feed.ensures.rests c.feed.ensures.deaf (none.0 c.feed.result c.feed.new.self c.feed.ensures.fed)

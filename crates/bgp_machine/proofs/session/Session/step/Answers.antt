@@ -1,17 +1,17 @@
 use Rattle.std.proofs.Common.{ℕ, [], Option, refl, subst}
 use Rattle.bgp_machine.specs.Look.{IsOwnLook}
-use Rattle.bgp_machine.specs.Standing.{Standing}
+use Rattle.bgp_machine.specs.Next.{Going}
 use Rattle.bgp_machine.proofs.Looks.{held_waits}
 use Rattle.bgp_machine.proofs.session.Session.step.Goals as goal
 
 pub returns-in_default-clause-ok : goal.returns-in_default-clause-ok
 returns-in_default-clause-ok c =
     let old = c.args.self.now in
-    let none = subst (λ (found : Option (ℕ × Standing)). IsOwnLook old [] found c.own_look.new.actions) c.in_default.is c.in_ok-_taken.ensures.ok in
+    let none = subst (λ (found : Option (ℕ × Going)). IsOwnLook old [] found c.own_look.new.actions) c.in_default.is c.in_ok-_taken.ensures.ok in
     (held_waits old c.held-waiting.ensures.deaf none.0, refl)
 
 pub returns-in_default-clause-rests : goal.returns-in_default-clause-rests
 returns-in_default-clause-rests c =
     let old = c.args.self.now in
-    let none = subst (λ (found : Option (ℕ × Standing)). IsOwnLook old [] found c.own_look.new.actions) c.in_default.is c.in_ok-_taken.ensures.ok in
+    let none = subst (λ (found : Option (ℕ × Going)). IsOwnLook old [] found c.own_look.new.actions) c.in_default.is c.in_ok-_taken.ensures.ok in
     c.held-waiting.ensures.rests (held_waits old c.held-waiting.ensures.deaf none.0)

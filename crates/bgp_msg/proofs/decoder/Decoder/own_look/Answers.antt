@@ -8,4 +8,4 @@ returns-in_err-outcome-in-Message-clause-memory c =
     let d = c.args.self.now in
     let o = outcome_value c.in-Message.view in
     on_err_any c.from_residual.result
-    (pulled_takes_memory d c.args.piece.now c.in-Message.taken c.in-Message.len o (behind d o) c.in_err-outcome-in-Message.ensures.err c.in-Message.ensures)
+    (pulled_takes_memory d c.args.piece.now c.in-Message.taken c.in-Message.len o (behind d o) c.in_err-outcome-in-Message.ensures.err c.in-Message.ensures.0)
