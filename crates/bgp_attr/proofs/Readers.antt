@@ -7,7 +7,7 @@ use Rattle.std.proofs.Math.Seq.{take-length}
 use Rattle.bgp_wire.specs.Then.{◌>>=◌}
 use Rattle.bgp_wire.specs.Behind.{first_octets, behind_count}
 use Rattle.bgp_wire.proofs.Firsts.{both_steps, first_octets-at, first_octets-gives}
-use Rattle.bgp_wire.proofs.Pieces.{found, found_same, found_not}
+use Rattle.bgp_wire.proofs.Pieces.{found_same, found_not}
 use Rattle.bgp_wire.proofs.Behinds.{BehindCount-reads}
 use Rattle.bgp_attr.specs.declared.path_form.PathForm.{PathForm}
 use Rattle.bgp_attr.specs.Tlv.{TlvValue, length_width, number_of_length, IsTlv, one_tlv}

@@ -1,7 +1,7 @@
 -- Tests in their order: what it means that no test applies, and the row of each type. And the reasons why an attribute isn't written,
 -- in theirs.
 use Rattle.std.proofs.Common.{◌≡◌, ℕ, Bool, true, false, ◌&&◌, List, [], ◌∷◌, Option, Some, None, refl, ap, subst, ◌∙◌}
-use Rattle.std.specs.Prelude.{option_map, is_none}
+use Rattle.std.specs.Prelude.{option_map, is_none, not, ◌==◌, if◌then◌else◌}
 use Rattle.std.specs.List.{AllByRecursion}
 use Rattle.std.proofs.lemmas.Bool.{true≢false, false≢true}
 use Rattle.bgp_numbers.specs.declared.error.TheConstants.{UPDATE_MESSAGE}
@@ -12,8 +12,11 @@ use Rattle.bgp_attr.specs.declared.judged.Judged.{Judged}
 use Rattle.bgp_attr.specs.declared.judged.Judged.TheVariants as judged
 use Rattle.bgp_attr.specs.declared.unwritable.Unwritable.{Unwritable}
 use Rattle.bgp_attr.specs.declared.why.Why.{Why}
+use Rattle.bgp_attr.specs.declared.why.Why.TheVariants as why
+use Rattle.bgp_attr.specs.declared.path_form.PathForm.{PathForm}
 use Rattle.bgp_attr.specs.Tlv.{TlvValue}
 use Rattle.bgp_attr.specs.Table.{entry_of}
+use Rattle.bgp_attr.specs.Path.{is_known, segment_fault, segments_of, path_fault}
 use Rattle.bgp_attr.specs.Judgement.{aggregator_tests, AttributeType, is_recognised, types, other_type, type_row, decided, judgement}
 use Rattle.bgp_attr.specs.Written.{is_too_wide, is_as4, is_empty, is_misnamed, has_as_zero, stands_twice, is_too_long, why_unless, is_writable}
 use Rattle.bgp_attr.proofs.Tables.{EachRow, ◌&◌, by_row, entry-other}
@@ -43,10 +46,15 @@ pub passed_fault : (f : Why → Judged) (o : Option Why) → option_map f o ≡ 
 passed_fault f None e = refl
 passed_fault f (Some w) e = absurd cc
 
+-- no test says that an attribute is repeated
+abbrev pub IsOfOne : Why → Type 0
+IsOfOne why.Repeated = ⊥
+IsOfOne _ = Unit {0}
+
 -- what a test answers: nothing is kept by it, and a reset has the code of an UPDATE Message Error
 abbrev pub IsRefusal : Judged → Type 0
 IsRefusal (judged.Keep a) = ⊥
-IsRefusal (judged.Discard w) = Unit {0}
+IsRefusal (judged.Discard w) = IsOfOne w
 IsRefusal (judged.Withdraw w) = Unit {0}
 IsRefusal (judged.Reset n) = n.code ≡ UPDATE_MESSAGE
 
@@ -68,12 +76,30 @@ when_refuses false j h = tt
 test : {tests : List (Option Judged)} (b : Bool) (j : Judged) → IsRefusal j → AllRefuse tests → AllRefuse (when b j ∷ tests)
 test b j h later = record { each = (when_refuses b j h, later.each) }
 
-mapped_refuses : (f : Why → Judged) (o : Option Why) → ((w : Why) → IsRefusal (f w)) → Refuses (option_map f o)
-mapped_refuses f None h = tt
-mapped_refuses f (Some w) h = h w
+abbrev IsOfOneIfAny : Option Why → Type 0
+IsOfOneIfAny None = Unit {0}
+IsOfOneIfAny (Some w) = IsOfOne w
 
-fault : {tests : List (Option Judged)} (f : Why → Judged) (o : Option Why) → ((w : Why) → IsRefusal (f w)) → AllRefuse tests → AllRefuse (option_map f o ∷ tests)
-fault f o h later = record { each = (mapped_refuses f o h, later.each) }
+mapped_refuses : (f : Why → Judged) (o : Option Why) → IsOfOneIfAny o → ((w : Why) → IsOfOne w → IsRefusal (f w)) → Refuses (option_map f o)
+mapped_refuses f None one h = tt
+mapped_refuses f (Some w) one h = h w one
+
+fault : {tests : List (Option Judged)} (f : Why → Judged) (o : Option Why) → IsOfOneIfAny o → ((w : Why) → IsOfOne w → IsRefusal (f w)) → AllRefuse tests → AllRefuse (option_map f o ∷ tests)
+fault f o one h later = record { each = (mapped_refuses f o one h, later.each) }
+
+-- a fault of a path is none of them
+segment_of_one : (unknown none : Bool) → IsOfOneIfAny (if unknown then Some why.SegmentType else (if none then Some why.SegmentCount else Some why.SegmentEnd))
+segment_of_one true none = tt
+segment_of_one false true = tt
+segment_of_one false false = tt
+
+rest_of_one : (form : PathForm) (b : List ℕ) → IsOfOneIfAny (segment_fault form b)
+rest_of_one form [] = tt
+rest_of_one form (code ∷ []) = tt
+rest_of_one form (code ∷ count ∷ b) = segment_of_one (not (is_known form code)) (count == 0)
+
+path_of_one : (form : PathForm) (b : List ℕ) → IsOfOneIfAny (path_fault form b)
+path_of_one form b = rest_of_one form (segments_of form b).1
 
 -- where only refusals are answered, a value is kept by no test
 decided-kept : (tests : List (Option Judged)) (a b : Attr) → AllByRecursion Refuses tests → decided tests a ≡ judged.Keep b → NoneApplies tests × (a ≡ b)
@@ -121,7 +147,7 @@ module _ (ctx : Context) (has_nlri : Bool) (t : TlvValue) where
   tests_refuse =
       by_type (λ type. AllRefuse type.tests)
       ((λ origin. test _ _ tt (test _ _ tt (test _ _ tt no_more)))
-      & (λ as_path. test _ _ tt (fault _ _ (λ w. tt) (test _ _ tt no_more)))
+      & (λ as_path. test _ _ tt (fault _ _ (path_of_one _ _) (λ w one. tt) (test _ _ tt no_more)))
       & (λ next_hop. test _ _ tt (test _ _ tt (test _ _ tt no_more)))
       & (λ med. test _ _ tt (test _ _ tt no_more))
       & (λ local_pref. test _ _ tt (test _ _ tt (test _ _ tt no_more)))
@@ -130,7 +156,7 @@ module _ (ctx : Context) (has_nlri : Bool) (t : TlvValue) where
       & (λ communities. test _ _ tt (test _ _ tt no_more))
       & (λ mp_reach. test _ _ refl (test _ _ refl (test _ _ tt (test _ _ refl (test _ _ refl (test _ _ refl no_more))))))
       & (λ mp_unreach. test _ _ refl (test _ _ refl (test _ _ tt (test _ _ refl no_more))))
-      & (λ as4_path. test _ _ tt (test _ _ tt (test _ _ tt (fault _ _ (λ w. tt) (test _ _ tt (test _ _ tt no_more))))))
+      & (λ as4_path. test _ _ tt (test _ _ tt (test _ _ tt (fault _ _ (path_of_one _ _) (λ w one. one) (test _ _ tt (test _ _ tt no_more))))))
       & (λ as4_aggregator. test _ _ tt (aggregator_refuses true))
       & (λ large. test _ _ tt (test _ _ tt no_more))
       & tt)
@@ -139,6 +165,10 @@ module _ (ctx : Context) (has_nlri : Bool) (t : TlvValue) where
   -- what holds of all that is kept and of each refusal holds of the judgement
   pub by_answer : (P : Judged → Type 0) → ((a : Attr) → P (judged.Keep a)) → ((j : Judged) → IsRefusal j → P j) → P (judgement ctx has_nlri t)
   by_answer P kept refused = let type : AttributeType = type_row ctx has_nlri t in decided_by P type.value (kept type.value) refused type.tests tests_refuse.each
+
+  -- the first of its type isn't repeated
+  pub not_repeated : judgement ctx has_nlri t ≡ judged.Discard why.Repeated → ⊥
+  not_repeated = by_answer (λ j. j ≡ judged.Discard why.Repeated → ⊥) (λ a e. absurd cc) (λ j refused e. subst IsRefusal e refused)
 
   pub kept-tests : (a : Attr) → judgement ctx has_nlri t ≡ judged.Keep a → NoneApplies (type_row ctx has_nlri t).tests
   kept-tests a e = let type : AttributeType = type_row ctx has_nlri t in (decided-kept type.tests type.value a tests_refuse.each e).0

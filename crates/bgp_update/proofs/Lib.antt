@@ -16,6 +16,7 @@ pub mod SlotTypes
 pub mod Validity
 pub mod Widths
 pub mod MarkTypes
+pub mod RepeatedMarks
 pub mod QuietMarks
 pub mod MarkLemmas
 pub mod ReadBack

@@ -5,7 +5,7 @@ use Rattle.bgp_attr.specs.Tlv.{PlacedTlv}
 use Rattle.bgp_wire.specs.OctetSet.{also}
 use Rattle.bgp_update.proofs.Lists.{eqb-swap}
 
-or_past : (a b c : Bool) → ((a || b) || c) ≡ (b || (a || c))
+pub or_past : (a b c : Bool) → ((a || b) || c) ≡ (b || (a || c))
 or_past true true c = refl
 or_past true false c = refl
 or_past false true c = refl

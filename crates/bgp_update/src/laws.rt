@@ -1,21 +1,22 @@
 //! Laws over the definitions alone: these functions do nothing, and their contracts are what is proved.
 
-ghost use Rattle.std.specs.Prelude.{◌≡◌, ◌==◌, ◌≤◌, ℕ, true, false, List, [], length, Some, None};
+ghost use Rattle.std.specs.Prelude.{◌≡◌, ◌==◌, ◌≤◌, ℕ, Bool, true, false, List, [], ◌∷◌, ◌++◌, length, Some, None};
 ghost use Rattle.std.specs.List.{find};
 ghost use Rattle.bgp_wire.specs.Octets.{AreOctets};
 ghost use Rattle.bgp_open.specs.declared.context.Context.{Context};
+ghost use Rattle.bgp_attr.specs.Tlv.{PlacedTlv};
 ghost use Rattle.bgp_attr.specs.Written.{type_of};
 ghost use Rattle.bgp_update.specs.declared.attrs.Attrs.{Attrs};
 ghost use Rattle.bgp_update.specs.declared.note.Note.{Note};
 ghost use Rattle.bgp_update.specs.declared.update.Update.{Update};
 ghost use Rattle.bgp_update.specs.declared.verdict.Verdict.TheVariants.{Take};
 ghost use Rattle.bgp_update.specs.Parts.{Parts, IsBody, parts_of};
-ghost use Rattle.bgp_update.specs.Marks.{marks_of};
+ghost use Rattle.bgp_update.specs.Marks.{cut, marks_of, placed_tlvs};
 ghost use Rattle.bgp_update.specs.Taken.{kept_of, attrs_of};
 ghost use Rattle.bgp_update.specs.Slots.{present, slot};
 ghost use Rattle.bgp_update.specs.Verdict.{verdict_of};
 ghost use Rattle.bgp_update.specs.Written.{written_body, invalid_of, rise, HasUpdateRanges};
-ghost use Rattle.bgp_update.specs.Laws.{CanBeWritten};
+ghost use Rattle.bgp_update.specs.Laws.{CanBeWritten, IsRepeated, HasMarkBehind};
 ghost use Rattle.bgp_update.specs.As4.{HasNoAs4, narrowed, narrowed_update, rebuilt};
 ghost use Rattle.bgp_update.specs.Widths.{with_as4};
 
@@ -67,4 +68,12 @@ pub fn each_slot_holds_the_first_of_its_type()
         ≡ present (λ a. a) (find (λ a. type_of a == kind) (kept_of (marks_of ctx p))) }
     ensures others { (ctx : Context) (p : Parts)
         → AreOctets p.attributes → rise (attrs_of (kept_of (marks_of ctx p))).others ≡ true }
+{}
+
+/// A whole attribute is discarded as a repeated one exactly where a whole one of its type stands before it, and its type is neither MP_REACH_NLRI nor
+/// MP_UNREACH_NLRI: the session is reset for a second one of these, by 3/1. One that is cut off is never a repeated one (RFC 7606, section 3, item g).
+pub fn an_attribute_is_repeated_behind_one_of_its_type()
+    ensures whole { (ctx : Context) (has_nlri : Bool) (field : List ℕ) (before later : List PlacedTlv) (p : PlacedTlv)
+        → placed_tlvs field ≡ before ++ p ∷ later → HasMarkBehind ctx has_nlri field before p }
+    ensures cut { (rest : List ℕ) → IsRepeated (cut rest) → ⊥ }
 {}
