@@ -5,16 +5,15 @@ ghost use Rattle.std.specs.List.{list_any};
 ghost use Rattle.bgp_attr.specs.Numbers.{one_triple, triples_of, same_triple};
 ghost use Rattle.bgp_attr.specs.LargeStep.{IsRowUpTo, new_from, GivesNew};
 
-use crate::numbers::first_four;
-
-/// The three numbers at the front, and what follows them.
-#[tactic(auto, unfolding(crate::specs::Numbers::one_triple))]
+/// The three numbers at the front, and what follows them: cut off at once, since each triple is compared with all before it.
+#[tactic(auto, using(crate::proofs::Fronts::twelve_taken, crate::proofs::Fronts::twelve_short))]
 fn first_triple(octets: &[u8]) -> Option<([u32; 3], &[u8])>
     ensures { option_map (λ x. (x.0, x.1.now)) result ≡ one_triple octets.now }
 {
-    let (first, rest) = first_four(octets)?;
-    let (second, rest) = first_four(rest)?;
-    let (third, rest) = first_four(rest)?;
+    let (it, rest) = octets.split_at_checked(12)?;
+    let first = u32::from_be_bytes([it[0], it[1], it[2], it[3]]);
+    let second = u32::from_be_bytes([it[4], it[5], it[6], it[7]]);
+    let third = u32::from_be_bytes([it[8], it[9], it[10], it[11]]);
     Some(([first, second, third], rest))
 }
 
