@@ -1,13 +1,13 @@
 //! UPDATEs in their written form.
 
-ghost use Rattle.std.specs.Prelude.{◌≡◌, ◌≤◌, true, false, Some, length, option_map, IfOk};
+ghost use Rattle.std.specs.Prelude.{◌≡◌, ◌≤◌, true, false, ℕ, List, Option, Some, length, option_map, IfOk};
 ghost use Rattle.bgp_wire.specs.Octets.{AreOctets};
 ghost use Rattle.bgp_update.specs.As4.{HasNoAs4};
 ghost use Rattle.bgp_update.specs.Widths.{with_as4};
 ghost use Rattle.bgp_update.specs.Verdict.{verdict_of};
 ghost use Rattle.bgp_update.specs.View.{update_value, notes_value};
 ghost use Rattle.ristulva_c.specs.Context.{context_of};
-ghost use Rattle.ristulva_c.specs.Encode.{taken_of, without_notes, written_of, narrowed_of, IsCoded, IsEncoded, IsNarrowed};
+ghost use Rattle.ristulva_c.specs.Encode.{taken_of, without_notes, written_of, narrowed_of, IsCoded, Writes, IsEncoded, IsNarrowed};
 
 use crate::context::{SessionContext, context_of};
 use crate::status::{MEMORY, RANGE, REFUSED, UNWRITABLE};
@@ -22,10 +22,22 @@ use std::alloc::{AllocError, Global};
 pub(crate) enum Coded {
     /// It isn't accepted whole.
     Refused,
+    /// It is, and an allocation failed.
+    Memory,
     /// It can't be written.
     Unwritable,
     /// Its message in its written form.
     Octets(Vec<u8>),
+}
+
+/// What is coded, or that an allocation failed.
+pub(crate) fn or_memory(coded: Result<Coded, AllocError>) -> Coded
+    ensures { (form : Option (List ℕ)) → IfOk coded (λ it. IsCoded it (Some form)) → IsCoded result (Some form) }
+{
+    match coded {
+        Ok(it) => it,
+        Err(_) => Coded::Memory,
+    }
 }
 
 /// The message of an UPDATE in its written form, where it can be written.
@@ -50,24 +62,36 @@ fn rewritten(alloc: Global, ctx: &Context, view: &UpdateView<'_>) -> Result<Code
 }
 
 /// The same, where it has no note.
-fn whole(alloc: Global, ctx: &Context, view: &UpdateView<'_>) -> Result<Coded, AllocError>
-    ensures { IfOk result (λ it. IsCoded it (option_map (written_of ctx.now) (without_notes (update_value view.now) (notes_value view.now)))) }
+fn whole(alloc: Global, ctx: &Context, view: &UpdateView<'_>) -> Coded
+    ensures { IsCoded result (option_map (written_of ctx.now) (without_notes (update_value view.now) (notes_value view.now))) }
 {
     match view.notes().next() {
-        Some(_) => Ok(Coded::Refused),
-        None => rewritten(alloc, ctx, view),
+        Some(_) => Coded::Refused,
+        None => or_memory(rewritten(alloc, ctx, view)),
     }
 }
 
 /// What comes of a body.
-fn encoded(alloc: Global, ctx: &Context, body: &[u8]) -> Result<Coded, AllocError>
+fn encoded(alloc: Global, ctx: &Context, body: &[u8]) -> Coded
     requires { length body.now ≤ 4077 }
-    ensures { IfOk result (λ it. IsCoded it (option_map (written_of ctx.now) (taken_of (verdict_of ctx.now body.now)))) }
+    ensures { IsCoded result (option_map (written_of ctx.now) (taken_of (verdict_of ctx.now body.now))) }
 {
     let mut view = UpdateView::empty();
     match view.judge(ctx, body) {
         Found::Take => whole(alloc, ctx, &view),
-        Found::Withdraw | Found::Reset(_) => Ok(Coded::Refused),
+        Found::Withdraw | Found::Reset(_) => Coded::Refused,
+    }
+}
+
+/// Tells what comes of a body.
+pub(crate) fn tell(coded: Coded, buffer: &mut [u8], len: &mut usize) -> u32
+    ensures { (found : Option (Option (List ℕ))) → IsCoded coded found → Writes found (record { status = result; before = buffer.old; behind = buffer.new; len_before = len.old; len_behind = len.new }) }
+{
+    match coded {
+        Coded::Refused => REFUSED,
+        Coded::Memory => MEMORY,
+        Coded::Unwritable => UNWRITABLE,
+        Coded::Octets(octets) => write(&octets, buffer, len),
     }
 }
 
@@ -85,12 +109,7 @@ pub extern "C" fn ristulva_encode(
     if body.len() > 4077 {
         return RANGE;
     }
-    match encoded(alloc, &context_of(ctx), body) {
-        Err(_) => MEMORY,
-        Ok(Coded::Refused) => REFUSED,
-        Ok(Coded::Unwritable) => UNWRITABLE,
-        Ok(Coded::Octets(octets)) => write(&octets, buffer, len),
-    }
+    tell(encoded(alloc, &context_of(ctx), body), buffer, len)
 }
 
 /// The same session, but for the width of its AS numbers.
@@ -112,27 +131,27 @@ fn renarrowed(alloc: Global, ctx: &Context, view: &UpdateView<'_>) -> Result<Cod
 }
 
 /// The same, where it has no note.
-fn whole_narrowed(alloc: Global, ctx: &Context, view: &UpdateView<'_>) -> Result<Coded, AllocError>
+fn whole_narrowed(alloc: Global, ctx: &Context, view: &UpdateView<'_>) -> Coded
     requires { HasNoAs4 (update_value view.now).attrs }
-    ensures { IfOk result (λ it. IsCoded it (option_map (narrowed_of ctx.now) (without_notes (update_value view.now) (notes_value view.now)))) }
+    ensures { IsCoded result (option_map (narrowed_of ctx.now) (without_notes (update_value view.now) (notes_value view.now))) }
 {
     match view.notes().next() {
-        Some(_) => Ok(Coded::Refused),
-        None => renarrowed(alloc, ctx, view),
+        Some(_) => Coded::Refused,
+        None => or_memory(renarrowed(alloc, ctx, view)),
     }
 }
 
 /// What comes of a body of a session with AS numbers of four octets.
-fn narrowed(alloc: Global, ctx: &Context, body: &[u8]) -> Result<Coded, AllocError>
+fn narrowed(alloc: Global, ctx: &Context, body: &[u8]) -> Coded
     requires wide { ctx.now.as4 ≡ true }
     requires long { length body.now ≤ 4077 }
-    ensures { IfOk result (λ it. IsCoded it (option_map (narrowed_of ctx.now) (taken_of (verdict_of ctx.now body.now)))) }
+    ensures { IsCoded result (option_map (narrowed_of ctx.now) (taken_of (verdict_of ctx.now body.now))) }
 {
     are_octets(body);
     let mut view = UpdateView::empty();
     match view.judge(ctx, body) {
         Found::Take => whole_narrowed(alloc, ctx, &view),
-        Found::Withdraw | Found::Reset(_) => Ok(Coded::Refused),
+        Found::Withdraw | Found::Reset(_) => Coded::Refused,
     }
 }
 
@@ -159,10 +178,5 @@ pub extern "C" fn ristulva_narrow(
         return RANGE;
     }
     let wide = with_as4(true, &context_of(ctx));
-    match narrowed(alloc, &wide, body) {
-        Err(_) => MEMORY,
-        Ok(Coded::Refused) => REFUSED,
-        Ok(Coded::Unwritable) => UNWRITABLE,
-        Ok(Coded::Octets(octets)) => write(&octets, buffer, len),
-    }
+    tell(narrowed(alloc, &wide, body), buffer, len)
 }
