@@ -349,7 +349,7 @@ static void try_encode(const ristulva_context *context, const uint8_t *body, siz
     if (status != RISTULVA_OK) {
         WANT(message[0] == 0x5a);
         WANT(status == RISTULVA_ROOM ? written > room && written <= RISTULVA_MESSAGE : written == 77);
-        WANT(status == RISTULVA_ROOM || status == RISTULVA_RANGE || status == RISTULVA_REFUSED || status == RISTULVA_UNWRITABLE);
+        WANT(status == RISTULVA_ROOM || status == RISTULVA_RANGE || status == RISTULVA_REFUSED || (status == RISTULVA_UNWRITABLE && rewrite != ristulva_encode));
         return;
     }
     WANT(written <= room && (written == sizeof message || message[written] == 0x5a));

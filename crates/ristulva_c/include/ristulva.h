@@ -196,20 +196,21 @@ ristulva_status ristulva_text(const ristulva_context *context, uint64_t place, c
  * has: never more than RISTULVA_MESSAGE. It allocates.
  *
  * RISTULVA_RANGE, the body has more than RISTULVA_BODY octets; RISTULVA_REFUSED, it isn't accepted, or some of it is discarded;
- * RISTULVA_UNWRITABLE, it can't be written or would be too long; RISTULVA_MEMORY, only where it is accepted whole: nothing is written.
- * RISTULVA_ROOM: `written` is. */
+ * RISTULVA_MEMORY, only where it is accepted whole: nothing is written. RISTULVA_ROOM: `written` is. What is accepted whole is always
+ * written. */
 ristulva_status ristulva_encode(const ristulva_context *context, const uint8_t *body, size_t len, uint8_t *message, size_t room,
                                 size_t *written);
 
 /* The same for a speaker with AS numbers of two octets (RFC 6793, section 4.2.2): 23456 stands for each number that needs four, and AS4_PATH
  * and AS4_AGGREGATOR beside AS_PATH and AGGREGATOR where one does. `body` has AS numbers of four octets, whatever `as4` of the context says.
- * RISTULVA_UNWRITABLE: as above, or there are more of these than a message has room for. */
+ * RISTULVA_UNWRITABLE, and nothing is written: with these the message would have more than RISTULVA_MESSAGE octets. */
 ristulva_status ristulva_narrow(const ristulva_context *context, const uint8_t *body, size_t len, uint8_t *message, size_t room,
                                 size_t *written);
 
 /* The other way round (RFC 6793, section 4.2.3): the UPDATE of a session with AS numbers of two octets as speakers with four see it. The
  * path and the aggregator that AS4_PATH and AS4_AGGREGATOR give back stand in the place of all four. `body` has AS numbers of two octets,
- * whatever `as4` of the context says, and the message has them of four. */
+ * whatever `as4` of the context says, and the message has them of four. RISTULVA_UNWRITABLE, and nothing is written: the message can't be
+ * written, or would have more than RISTULVA_MESSAGE octets. */
 ristulva_status ristulva_reconcile(const ristulva_context *context, const uint8_t *body, size_t len, uint8_t *message, size_t room,
                                    size_t *written);
 

@@ -32,9 +32,17 @@ written_of ctx u =
     then Some (canonical ctx (message.Update u))
     else None
 
+-- the message of an UPDATE that is accepted, which is never too long
+abbrev pub encoded_of : Context → Update → Option (List ℕ)
+encoded_of ctx u = Some (canonical ctx (message.Update u))
+
+-- the message of a valid UPDATE, where it isn't too long
+abbrev pub short_of : Context → Update → Option (List ℕ)
+short_of ctx u = if is_too_long ctx (message.Update u) then None else Some (canonical ctx (message.Update u))
+
 -- the same as a speaker with AS numbers of two octets is told it (RFC 6793)
 abbrev pub narrowed_of : Context → Update → Option (List ℕ)
-narrowed_of ctx u = written_of (with_as4 false ctx) (narrowed_update u)
+narrowed_of ctx u = short_of (with_as4 false ctx) (narrowed_update u)
 
 -- what the code calls it
 abbrev pub IsCoded : Coded → Option (Option (List ℕ)) → Type 0
@@ -58,7 +66,7 @@ abbrev pub Comes : List ℕ → Option (Option (List ℕ)) → Writing → Type 
 Comes body found w = ((4077 < length body) × IsLeft RANGE w) ⊎ ((length body ≤ 4077) × Writes found w)
 
 abbrev pub IsEncoded : Context → List ℕ → Writing → Type 0
-IsEncoded ctx body w = Comes body (option_map (written_of ctx) (taken_of (verdict_of ctx body))) w
+IsEncoded ctx body w = Comes body (option_map (encoded_of ctx) (taken_of (verdict_of ctx body))) w
 
 abbrev pub IsNarrowed : Context → List ℕ → Writing → Type 0
 IsNarrowed ctx body w = Comes body (option_map (narrowed_of ctx) (taken_of (verdict_of ctx body))) w

@@ -1,15 +1,16 @@
 //! UPDATEs in their written form.
 
-ghost use Rattle.std.specs.Prelude.{◌≡◌, ◌≤◌, true, false, ℕ, List, Option, Some, length, option_map, IfOk};
-ghost use Rattle.bgp_wire.specs.Octets.{AreOctets};
+ghost use Rattle.std.specs.Prelude.{◌≡◌, ◌≤◌, true, false, ℕ, List, Option, None, Some, length, option_map, IfOk};
 ghost use Rattle.bgp_update.specs.As4.{HasNoAs4};
 ghost use Rattle.bgp_update.specs.Widths.{with_as4};
+ghost use Rattle.bgp_update.specs.Written.{invalid_of};
 ghost use Rattle.bgp_update.specs.Verdict.{verdict_of};
 ghost use Rattle.bgp_update.specs.View.{update_value, notes_value};
 ghost use Rattle.ristulva_c.specs.Context.{context_of};
-ghost use Rattle.ristulva_c.specs.Encode.{taken_of, without_notes, written_of, narrowed_of, IsCoded, Writes, IsEncoded, IsNarrowed};
+ghost use Rattle.ristulva_c.specs.Encode.{taken_of, without_notes, written_of, encoded_of, narrowed_of, IsCoded, Writes, IsEncoded, IsNarrowed};
 
 use crate::context::{SessionContext, context_of};
+use crate::judge::are_octets;
 use crate::status::{MEMORY, RANGE, REFUSED, UNWRITABLE};
 use crate::text::write;
 use bgp_msg::encode_update;
@@ -53,9 +54,10 @@ pub(crate) fn written(alloc: Global, ctx: &Context, update: &Update) -> Result<C
     }
 }
 
-/// The message of an UPDATE that is accepted, where it can be written.
+/// The message of an UPDATE that is accepted: it can be written.
 fn rewritten(alloc: Global, ctx: &Context, view: &UpdateView<'_>) -> Result<Coded, AllocError>
-    ensures { IfOk result (λ it. IsCoded it (Some (written_of ctx.now (update_value view.now)))) }
+    requires { written_of ctx.now (update_value view.now) ≡ encoded_of ctx.now (update_value view.now) }
+    ensures { IfOk result (λ it. IsCoded it (Some (encoded_of ctx.now (update_value view.now)))) }
 {
     let update = view.own(alloc)?;
     written(alloc, ctx, &update)
@@ -63,7 +65,8 @@ fn rewritten(alloc: Global, ctx: &Context, view: &UpdateView<'_>) -> Result<Code
 
 /// The same, where it has no note.
 fn whole(alloc: Global, ctx: &Context, view: &UpdateView<'_>) -> Coded
-    ensures { IsCoded result (option_map (written_of ctx.now) (without_notes (update_value view.now) (notes_value view.now))) }
+    requires { written_of ctx.now (update_value view.now) ≡ encoded_of ctx.now (update_value view.now) }
+    ensures { IsCoded result (option_map (encoded_of ctx.now) (without_notes (update_value view.now) (notes_value view.now))) }
 {
     match view.notes().next() {
         Some(_) => Coded::Refused,
@@ -74,8 +77,9 @@ fn whole(alloc: Global, ctx: &Context, view: &UpdateView<'_>) -> Coded
 /// What comes of a body.
 fn encoded(alloc: Global, ctx: &Context, body: &[u8]) -> Coded
     requires { length body.now ≤ 4077 }
-    ensures { IsCoded result (option_map (written_of ctx.now) (taken_of (verdict_of ctx.now body.now))) }
+    ensures { IsCoded result (option_map (encoded_of ctx.now) (taken_of (verdict_of ctx.now body.now))) }
 {
+    are_octets(body);
     let mut view = UpdateView::empty();
     match view.judge(ctx, body) {
         Found::Take => whole(alloc, ctx, &view),
@@ -121,7 +125,9 @@ pub(crate) fn with_as4(as4: bool, ctx: &Context) -> Context
 
 /// The message of an UPDATE that is accepted, as a speaker with AS numbers of two octets is told it, where it can be written.
 fn renarrowed(alloc: Global, ctx: &Context, view: &UpdateView<'_>) -> Result<Coded, AllocError>
-    requires { HasNoAs4 (update_value view.now).attrs }
+    requires plain { HasNoAs4 (update_value view.now).attrs }
+    requires wide { ctx.now.as4 ≡ true }
+    requires valid { invalid_of ctx.now (update_value view.now) ≡ None }
     ensures { IfOk result (λ it. IsCoded it (Some (narrowed_of ctx.now (update_value view.now)))) }
 {
     let mut update = view.own(alloc)?;
@@ -132,7 +138,9 @@ fn renarrowed(alloc: Global, ctx: &Context, view: &UpdateView<'_>) -> Result<Cod
 
 /// The same, where it has no note.
 fn whole_narrowed(alloc: Global, ctx: &Context, view: &UpdateView<'_>) -> Coded
-    requires { HasNoAs4 (update_value view.now).attrs }
+    requires plain { HasNoAs4 (update_value view.now).attrs }
+    requires wide { ctx.now.as4 ≡ true }
+    requires valid { invalid_of ctx.now (update_value view.now) ≡ None }
     ensures { IsCoded result (option_map (narrowed_of ctx.now) (without_notes (update_value view.now) (notes_value view.now))) }
 {
     match view.notes().next() {
@@ -153,13 +161,6 @@ fn narrowed(alloc: Global, ctx: &Context, body: &[u8]) -> Coded
         Found::Take => whole_narrowed(alloc, ctx, &view),
         Found::Withdraw | Found::Reset(_) => Coded::Refused,
     }
-}
-
-/// What a body has are octets: nothing is done.
-fn are_octets(body: &[u8])
-    ensures { AreOctets body.now }
-{
-    let _len = body.len();
 }
 
 /// Writes the UPDATE that a body is in some spelling, of a session with AS numbers of four octets, as a speaker with two is told it
