@@ -80,13 +80,12 @@ static void walk_update(const struct message *m, struct sums *sums)
     sums->announced += count_field(m, m->parts.nlri);
 }
 
-/* How many notes a message has, each asked for by its number. */
+/* How many notes a message has, of which it asks for all. */
 static unsigned long count_notes(const uint8_t *octets, size_t len)
 {
-    ristulva_note_found note;
-    unsigned long count = 0;
-    while (ristulva_note(&context, octets, len, (uint32_t)count, &note) == RISTULVA_OK)
-        count++;
+    static ristulva_note_found notes[RISTULVA_NOTES];
+    size_t count = 0;
+    (void)ristulva_notes(&context, octets, len, notes, RISTULVA_NOTES, &count);
     return count;
 }
 

@@ -202,12 +202,21 @@ class Updates(unittest.TestCase):
     def test_refused(self):
         """Also where there are routes of two kinds (RFC 7606, section 5.1)."""
         one, _ = established()
-        for body in (WITHOUT_HOP, bytes.fromhex("0002080c") + ANNOUNCEMENT[2:], bytes(4078)):
-            with self.assertRaises(ristulva.Refused):
+        mixed = bytes.fromhex("0002080c") + ANNOUNCEMENT[2:]
+        for body, why in ((WITHOUT_HOP, "not accepted whole"), (mixed, "routes of several kinds"), (bytes(4078), "too long a body")):
+            with self.assertRaisesRegex(ristulva.Refused, why):
                 one.session.send(body)
-        one, _ = connected()
-        with self.assertRaises(ristulva.WrongState):
-            one.session.send(ANNOUNCEMENT)
+
+    def test_state_first(self):
+        """In all states but Established no body is looked at."""
+        confirming, other = connected()
+        confirming.hears()
+        self.assertIs(confirming.session.state, State.OPEN_CONFIRM)
+        self.assertIs(other.session.state, State.OPEN_SENT)
+        for session in (confirming.session, other.session, Session(LOCAL)):
+            for body in (ANNOUNCEMENT, WITHOUT_HOP, b"\xff", bytes(4078)):
+                with self.assertRaises(ristulva.WrongState):
+                    session.send(body)
 
 
 class Faults(unittest.TestCase):

@@ -185,7 +185,7 @@ static void try_handles(void)
     WANT(refused == 2 && live == 1);
     refused = 0;
     body = decoder.body;
-    WANT(body != NULL && ristulva_decoder_new(&context, &decoder) == RISTULVA_RANGE && live == 1);
+    WANT(body != NULL && ristulva_decoder_new(&context, &decoder) == RISTULVA_IN_USE && live == 1);
     try_rooms();
     WANT(ristulva_decoder_free(&decoder) == RISTULVA_OK && decoder.body == NULL && live == 0);
     WANT(ristulva_decoder_free(&decoder) == RISTULVA_NO_DECODER);

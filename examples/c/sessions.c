@@ -102,7 +102,8 @@ static int hears(struct side *side)
     return 1;
 }
 
-/* Sends a body, while each allocation fails in turn: nothing changes by that. */
+/* Sends a body, while each allocation fails in turn: nothing changes by that. Before it, its first octet alone, which is no body, and one that is too
+ * long: in all states but Established that doesn't matter. */
 static ristulva_status sends(struct side *side, const uint8_t *body, size_t len)
 {
     uint8_t message[RISTULVA_MESSAGE];
@@ -112,7 +113,10 @@ static ristulva_status sends(struct side *side, const uint8_t *body, size_t len)
     long before = live;
     memset(message, 0x5a, sizeof message);
     WANT(ristulva_session_send(&side->session, body, RISTULVA_BODY + 1, &actions, message, sizeof message - 1, &written) == RISTULVA_ROOM);
-    WANT(ristulva_session_send(&side->session, message, RISTULVA_BODY + 1, &actions, message, sizeof message, &written) == RISTULVA_RANGE);
+    status = ristulva_session_send(&side->session, body, 1, &actions, message, sizeof message, &written);
+    WANT(status == (state_of(side) == RISTULVA_ESTABLISHED ? RISTULVA_REFUSED : RISTULVA_STATE));
+    status = ristulva_session_send(&side->session, message, RISTULVA_BODY + 1, &actions, message, sizeof message, &written);
+    WANT(status == (state_of(side) == RISTULVA_ESTABLISHED ? RISTULVA_RANGE : RISTULVA_STATE));
     for (refused = 1;; refused++) {
         allocations = 0;
         status = ristulva_session_send(&side->session, body, len, &actions, message, sizeof message, &written);
@@ -171,7 +175,7 @@ static void make(ristulva_session *session, const ristulva_config *config)
     WANT(ristulva_session_new(config, session) == RISTULVA_MEMORY && session->body == NULL);
     refused = 0;
     WANT(ristulva_session_new(config, session) == RISTULVA_OK && session->body != NULL);
-    WANT(ristulva_session_new(config, session) == RISTULVA_RANGE);
+    WANT(ristulva_session_new(config, session) == RISTULVA_IN_USE);
 }
 
 static void try_configs(const ristulva_config *good)
@@ -179,20 +183,20 @@ static void try_configs(const ristulva_config *good)
     ristulva_session session = {NULL};
     ristulva_config config = *good;
     config.local_as = 0;
-    WANT(ristulva_session_new(&config, &session) == RISTULVA_RANGE);
+    WANT(ristulva_session_new(&config, &session) == RISTULVA_CONFIG);
     config = *good;
     config.peer_as = 0;
-    WANT(ristulva_session_new(&config, &session) == RISTULVA_RANGE);
+    WANT(ristulva_session_new(&config, &session) == RISTULVA_CONFIG);
     config = *good;
     memset(config.id, 0, 4);
-    WANT(ristulva_session_new(&config, &session) == RISTULVA_RANGE);
+    WANT(ristulva_session_new(&config, &session) == RISTULVA_CONFIG);
     config = *good;
     config.hold = 2;
-    WANT(ristulva_session_new(&config, &session) == RISTULVA_RANGE);
+    WANT(ristulva_session_new(&config, &session) == RISTULVA_CONFIG);
     config = *good;
     config.local_as = 70000;
     config.as4 = 0;
-    WANT(ristulva_session_new(&config, &session) == RISTULVA_RANGE);
+    WANT(ristulva_session_new(&config, &session) == RISTULVA_CONFIG);
     WANT(session.body == NULL);
 }
 
@@ -215,6 +219,7 @@ static void come_up(struct side *one, struct side *other, uint8_t as4)
     uint8_t codes[256];
     uint16_t hold;
     size_t len = 77;
+    WANT(sends(one, announcement, sizeof announcement) == RISTULVA_STATE);
     WANT(ristulva_session_context(&one->session, &context, &hold) == RISTULVA_STATE);
     WANT(ristulva_session_peer(&one->session, &peer) == RISTULVA_STATE);
     WANT(ristulva_session_codes(&one->session, codes, sizeof codes, &len) == RISTULVA_STATE && len == 77);
@@ -262,7 +267,7 @@ static void exchange(struct side *one, struct side *other)
     WANT(sends(one, without_hop + 19, sizeof without_hop - 19) == RISTULVA_REFUSED);
     memcpy(mixed, "\0\2\10\12", 4);
     memcpy(mixed + 4, announcement + 2, sizeof announcement - 2);
-    WANT(sends(one, mixed, sizeof announcement + 2) == RISTULVA_REFUSED);
+    WANT(sends(one, mixed, sizeof announcement + 2) == RISTULVA_MIXED);
     happens(one, RISTULVA_EVENT_KEEPALIVE_EXPIRED);
     happens(one, RISTULVA_EVENT_KEEPALIVE_EXPIRED);
     WANT(hears(other) && hears(other) && !hears(other));

@@ -73,29 +73,43 @@ static void try_judge(const ristulva_context *context, const uint8_t *octets, si
     calls++;
 }
 
-/* All notes: an accepted UPDATE may have some, and one that is treated as a withdrawal has one at least. */
+/* A note of a message. */
+static void check_note(const ristulva_note_found *note, const uint8_t *octets, const ristulva_verdict *verdict)
+{
+    WANT(verdict->verdict == RISTULVA_UPDATE || verdict->verdict == RISTULVA_WITHDRAW);
+    WANT(note->why >= RISTULVA_WHY_FLAGS && note->why <= RISTULVA_WHY_AS_ZERO);
+    WANT((note->at == 0) == (note->why == RISTULVA_WHY_MISSING));
+    WANT(note->at == 0 || (note->at >= verdict->parts.attributes.at && note->at < verdict->parts.nlri.at));
+    WANT(note->at == 0 || note->kind == 0 || note->kind == octets[note->at + 1]);
+}
+
+/* All notes, and as many as there is room for: an accepted UPDATE may have some, and one that is treated as a withdrawal has one at least. */
 static void try_notes(const ristulva_context *context, const uint8_t *octets, size_t len, const ristulva_found *found, const ristulva_verdict *verdict)
 {
-    uint32_t index = 0;
-    for (;;) {
-        ristulva_note_found note = {0xa5a5, 0xa5, 0xa5};
-        ristulva_status status = ristulva_note(context, octets, len, index, &note);
-        calls++;
-        WANT((status == RISTULVA_INCOMPLETE) == (found->what == RISTULVA_MORE));
-        if (status != RISTULVA_OK) {
-            WANT(status == RISTULVA_INCOMPLETE || status == RISTULVA_END);
-            WANT(note.at == 0xa5a5 && note.why == 0xa5);
-            break;
-        }
-        WANT(verdict->verdict == RISTULVA_UPDATE || verdict->verdict == RISTULVA_WITHDRAW);
-        WANT(note.why >= RISTULVA_WHY_FLAGS && note.why <= RISTULVA_WHY_AS_ZERO);
-        WANT((note.at == 0) == (note.why == RISTULVA_WHY_MISSING));
-        WANT(note.at == 0 || (note.at >= verdict->parts.attributes.at && note.at < verdict->parts.nlri.at));
-        WANT(note.at == 0 || note.kind == 0 || note.kind == octets[note.at + 1]);
-        index++;
+    static ristulva_note_found all[RISTULVA_NOTES + 1], some[RISTULVA_NOTES + 1], old;
+    size_t count = 77, again = 77, room = below(2) == 0 ? below(4) : below(RISTULVA_NOTES + 1), i;
+    ristulva_status status;
+    memset(all, 0xa5, sizeof all);
+    memset(some, 0xa5, sizeof some);
+    memset(&old, 0xa5, sizeof old);
+    status = ristulva_notes(context, octets, len, all, RISTULVA_NOTES, &count);
+    WANT(status == (found->what == RISTULVA_MORE ? RISTULVA_INCOMPLETE : RISTULVA_OK));
+    WANT(status == RISTULVA_OK ? count <= RISTULVA_NOTES : count == 77);
+    calls += 2;
+    status = ristulva_notes(context, octets, len, some, room, &again);
+    WANT(again == count);
+    if (found->what == RISTULVA_MORE)
+        count = 0;
+    else
+        WANT(status == (count <= room ? RISTULVA_OK : RISTULVA_ROOM));
+    for (i = 0; i < count; i++)
+        check_note(&all[i], octets, verdict);
+    for (i = 0; i <= RISTULVA_NOTES; i++) {
+        const ristulva_note_found *wanted = i < count && i < room ? &all[i] : &old;
+        WANT(i < count || all[i].at == old.at);
+        WANT(some[i].at == wanted->at && some[i].kind == wanted->kind && some[i].why == wanted->why);
     }
-    WANT(found->what != RISTULVA_FOUND || verdict->verdict != RISTULVA_WITHDRAW || index > 0);
-    WANT(ristulva_note(context, octets, len, (uint32_t)state | 0x80000000u, &(ristulva_note_found){0, 0, 0}) != RISTULVA_OK);
+    WANT(found->what != RISTULVA_FOUND || verdict->verdict != RISTULVA_WITHDRAW || count > 0);
 }
 
 /* With room for all and for less, and with each allocation failing in turn. */
@@ -335,7 +349,7 @@ static void try_encode(const ristulva_context *context, const uint8_t *body, siz
     if (status != RISTULVA_OK) {
         WANT(message[0] == 0x5a);
         WANT(status == RISTULVA_ROOM ? written > room && written <= RISTULVA_MESSAGE : written == 77);
-        WANT(status == RISTULVA_ROOM || status == RISTULVA_RANGE || status == RISTULVA_REFUSED || status == RISTULVA_UNWRITABLE);
+        WANT(status == RISTULVA_ROOM || status == RISTULVA_RANGE || status == RISTULVA_REFUSED || (status == RISTULVA_UNWRITABLE && rewrite != ristulva_encode));
         return;
     }
     WANT(written <= room && (written == sizeof message || message[written] == 0x5a));
@@ -570,12 +584,37 @@ static size_t some_octets(uint8_t *octets)
     return len;
 }
 
+/* The message with the most notes: attributes of three octets with wrong flags, one that is cut off, and a route without what it has to have. */
+static size_t most_notes(uint8_t *octets)
+{
+    size_t i;
+    memset(octets, 255, 16);
+    memcpy(octets + 16, "\20\0\2\0\0\17\350", 7);
+    for (i = 0; i < 1357; i++)
+        memcpy(octets + 23 + 3 * i, "\300\6\0", 3);
+    memcpy(octets + 4094, "\300\0", 2);
+    return RISTULVA_MESSAGE;
+}
+
+static void try_most_notes(uint8_t *octets)
+{
+    static ristulva_note_found notes[RISTULVA_NOTES];
+    const ristulva_context context = {0, 1, 1, 1};
+    size_t len = most_notes(octets), count = 0;
+    WANT(ristulva_notes(&context, octets, len, notes, RISTULVA_NOTES - 1, &count) == RISTULVA_ROOM && count == RISTULVA_NOTES);
+    WANT(notes[RISTULVA_NOTES - 1].why == 0 && notes[RISTULVA_NOTES - 2].why == RISTULVA_WHY_MISSING && notes[RISTULVA_NOTES - 2].kind == 2);
+    WANT(ristulva_notes(&context, octets, len, notes, RISTULVA_NOTES, &count) == RISTULVA_OK && count == RISTULVA_NOTES);
+    WANT(notes[RISTULVA_NOTES - 1].why == RISTULVA_WHY_MISSING && notes[RISTULVA_NOTES - 1].kind == 3);
+    try_all(octets, len);
+}
+
 static unsigned long rounds;
 
 static void *work(void *unused)
 {
     static uint8_t octets[4096];
     unsigned long i;
+    try_most_notes(octets);
     for (i = 0; i < rounds; i++) {
         size_t len = some_octets(octets);
         try_all(octets, len);

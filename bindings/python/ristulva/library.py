@@ -5,9 +5,9 @@ import os
 import pathlib
 from ctypes import POINTER, Structure, c_char_p, c_size_t, c_uint8, c_uint16, c_uint32, c_uint64, c_void_p
 
-OK, NO_SESSION, MEMORY, RANGE, INCOMPLETE, ROOM, END, REFUSED, UNWRITABLE, STATE = range(10)
+OK, NO_SESSION, MEMORY, RANGE, INCOMPLETE, ROOM, END, REFUSED, UNWRITABLE, STATE, CONFIG, IN_USE, MIXED = range(13)
 # The first two numbers of the versions whose header this file has: while the first is 0, a new second one may change any call.
-SERIES = (0, 3)
+SERIES = (0, 4)
 DATA, MESSAGE, HEADER, ACTIONS = 4075, 4096, 19, 5
 
 
@@ -130,7 +130,7 @@ def load():
     session = decoder = POINTER(Handle)
     takes = {
         "judge": [POINTER(Said), *octets, *buffer, POINTER(Verdict)],
-        "note": [POINTER(Said), *octets, c_uint32, POINTER(CNote)],
+        "notes": [POINTER(Said), *octets, POINTER(CNote), c_size_t, POINTER(c_size_t)],
         "text": [POINTER(Said), c_uint64, *octets, *buffer, POINTER(c_size_t)],
         "encode": [POINTER(Said), *octets, *buffer, POINTER(c_size_t)],
         "narrow": [POINTER(Said), *octets, *buffer, POINTER(c_size_t)],

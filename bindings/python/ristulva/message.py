@@ -8,8 +8,8 @@ import ipaddress
 from ctypes import c_size_t, c_uint32
 
 from .library import (
-    DATA, HEADER, INCOMPLETE, LIBRARY, MEMORY, MESSAGE, OK, RANGE, REFUSED, ROOM, STATE, UNWRITABLE, Attributes, CAttribute, CCapability, CNote,
-    COpen, CPrefix, CSegment, Numbers, Prefixes, Said, Segments, Span, Verdict,
+    DATA, HEADER, INCOMPLETE, LIBRARY, MEMORY, MESSAGE, MIXED, OK, RANGE, REFUSED, ROOM, STATE, UNWRITABLE, Attributes, CAttribute, CCapability,
+    CNote, COpen, CPrefix, CSegment, Numbers, Prefixes, Said, Segments, Span, Verdict,
 )
 
 WHYS = ("Flags", "Length", "Value", "SegmentType", "SegmentCount", "SegmentEnd", "Repeated", "External", "FourOctet", "Family", "Unneeded", "Emptied",
@@ -43,6 +43,9 @@ class WrongState(Exception):
     """The session isn't in a state for this."""
 
 
+REFUSALS = {RANGE: "too long a body", REFUSED: "not accepted whole", MIXED: "routes of several kinds", UNWRITABLE: "can't be written"}
+
+
 def check(status):
     """Raises what the status of a call tells that writes an UPDATE, where it isn't OK."""
     if status == MEMORY:
@@ -50,7 +53,7 @@ def check(status):
     if status == STATE:
         raise WrongState("not Established")
     if status != OK:
-        raise Refused({RANGE: "too long a body", REFUSED: "not accepted whole", UNWRITABLE: "can't be written"}[status])
+        raise Refused(REFUSALS[status])
 
 
 @dataclasses.dataclass(frozen=True)
@@ -124,10 +127,11 @@ class Message:
 
     def notes(self):
         """What RFC 7606 found: of each note the attribute's place in the message (0 where it is missing), its type, and one of WHYS."""
-        index, note = 0, CNote()
-        while LIBRARY.ristulva_note(self.context.said(), self.octets, len(self.octets), index, note) == 0:
+        notes, count = (CNote * 8)(), c_size_t()
+        while LIBRARY.ristulva_notes(self.context.said(), self.octets, len(self.octets), notes, len(notes), count) == ROOM:
+            notes = (CNote * count.value)()
+        for note in notes[: count.value]:
             yield note.at, note.kind, WHYS[note.why - 1]
-            index += 1
 
     def attributes(self):
         """The attributes of an UPDATE, kept or not, in their order."""

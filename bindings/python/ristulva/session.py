@@ -15,7 +15,7 @@ import typing
 import weakref
 from ctypes import c_size_t, c_uint8, c_uint16
 
-from .library import HEADER, LIBRARY, MESSAGE, OK, RANGE, CAction, CActions, CConfig, CHeard, CPeer, Handle, Said, Verdict
+from .library import CONFIG, HEADER, LIBRARY, MESSAGE, OK, CAction, CActions, CConfig, CHeard, CPeer, Handle, Said, Verdict
 from .message import VERDICTS, Context, Message, check, in_octets, part
 
 NOTIFICATION = 21  # the octets in front of a NOTIFICATION's data
@@ -193,7 +193,7 @@ class Session:
         """ValueError: the configuration isn't one that Config allows."""
         self._lock, self._handle = threading.RLock(), Handle()
         status = LIBRARY.ristulva_session_new(config.said(), self._handle)
-        if status == RANGE:
+        if status == CONFIG:
             raise ValueError(f"not allowed: {config}")
         check(status)
         self._free = weakref.finalize(self, LIBRARY.ristulva_session_free, self._handle)
@@ -285,7 +285,8 @@ class Session:
         withdrawn, announced, or those of one of the multiprotocol attributes (RFC 7606, section 5.1). A peer with AS numbers of two octets gets it as
         `narrow` writes it.
 
-        WrongState: it isn't Established. Refused: the body isn't accepted whole, has routes of several kinds, or is too long."""
+        WrongState: it isn't Established, whatever the body is. Refused: the body isn't accepted whole, has routes of several kinds, or is too long, as
+        its text says."""
         body = bytes(memoryview(body))
         told, message, written = CActions(), ctypes.create_string_buffer(MESSAGE), c_size_t()
         check(self._call("send", body, len(body), told, message, MESSAGE, written))

@@ -11,6 +11,8 @@ pub enum Error {
     TooLong,
     /// An UPDATE isn't accepted, or some of it would be discarded.
     Refused,
+    /// An UPDATE has routes of several kinds, which a session doesn't send (RFC 7606, section 5.1).
+    Mixed,
     /// An UPDATE can't be written, or its message would have more than [`MESSAGE`](crate::MESSAGE)
     /// octets.
     Unwritable,
@@ -27,6 +29,7 @@ impl Error {
             raw::MEMORY => Error::Memory,
             raw::RANGE => Error::TooLong,
             raw::REFUSED => Error::Refused,
+            raw::MIXED => Error::Mixed,
             raw::UNWRITABLE => Error::Unwritable,
             raw::STATE => Error::State,
             _ => unreachable!("status {status} of a call that doesn't answer it"),
@@ -40,6 +43,7 @@ impl fmt::Display for Error {
             Error::Memory => "an allocation failed",
             Error::TooLong => "the body is longer than that of a message",
             Error::Refused => "the UPDATE isn't accepted whole",
+            Error::Mixed => "the UPDATE has routes of several kinds",
             Error::Unwritable => "the UPDATE can't be written",
             Error::Config => "the configuration isn't allowed",
             Error::State => "the session isn't in a state for this",

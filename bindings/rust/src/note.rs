@@ -1,6 +1,8 @@
 use crate::{raw, Context};
 use std::fmt;
 use std::iter::FusedIterator;
+use std::marker::PhantomData;
+use std::vec;
 
 /// What is wrong with an attribute (RFC 7606). It is printed by its name.
 #[derive(Clone, Copy, Debug, PartialEq, Eq, Hash)]
@@ -77,20 +79,18 @@ pub struct Note {
 /// The notes on an UPDATE: the attributes by their places, the one that is cut off, and then what
 /// is missing.
 ///
-/// Each step judges the message anew: a message has few notes.
+/// The message was judged once for all of them.
 #[derive(Clone, Debug)]
 pub struct Notes<'a> {
-    octets: &'a [u8],
-    context: Context,
-    index: u32,
+    left: vec::IntoIter<raw::Note>,
+    octets: PhantomData<&'a [u8]>,
 }
 
 impl<'a> Notes<'a> {
     pub(crate) fn new(octets: &'a [u8], context: Context) -> Notes<'a> {
         Notes {
-            octets,
-            context,
-            index: 0,
+            left: raw::notes(&context.said(), octets).into_iter(),
+            octets: PhantomData,
         }
     }
 }
@@ -99,14 +99,19 @@ impl Iterator for Notes<'_> {
     type Item = Note;
 
     fn next(&mut self) -> Option<Note> {
-        let found = raw::note(&self.context.said(), self.octets, self.index)?;
-        self.index += 1;
+        let found = self.left.next()?;
         Some(Note {
             at: (found.at != 0).then_some(found.at as usize),
             kind: found.kind,
             why: WHYS[usize::from(found.why) - 1],
         })
     }
+
+    fn size_hint(&self) -> (usize, Option<usize>) {
+        self.left.size_hint()
+    }
 }
+
+impl ExactSizeIterator for Notes<'_> {}
 
 impl FusedIterator for Notes<'_> {}

@@ -19,6 +19,8 @@ pub const ROOM: u32 = 5;
 pub const REFUSED: u32 = 7;
 pub const UNWRITABLE: u32 = 8;
 pub const STATE: u32 = 9;
+pub const CONFIG: u32 = 10;
+pub const MIXED: u32 = 12;
 
 /// What [`Found`] tells.
 pub const MORE: u8 = 0;
@@ -103,7 +105,7 @@ pub struct Verdict {
 }
 
 #[repr(C)]
-#[derive(Default)]
+#[derive(Clone, Debug, Default)]
 pub struct Note {
     pub at: u32,
     pub kind: u8,
@@ -258,7 +260,7 @@ extern "C" {
     fn ristulva_version() -> u32;
     fn ristulva_front(octets: *const u8, len: usize, out: *mut Found) -> u32;
     fn ristulva_judge(context: *const Context, octets: *const u8, len: usize, data: *mut u8, room: usize, out: *mut Verdict) -> u32;
-    fn ristulva_note(context: *const Context, octets: *const u8, len: usize, index: u32, out: *mut Note) -> u32;
+    fn ristulva_notes(context: *const Context, octets: *const u8, len: usize, notes: *mut Note, room: usize, count: *mut usize) -> u32;
     fn ristulva_text(context: *const Context, place: u64, octets: *const u8, len: usize, text: *mut c_char, room: usize, written: *mut usize) -> u32;
     fn ristulva_encode(context: *const Context, body: *const u8, len: usize, message: *mut u8, room: usize, written: *mut usize) -> u32;
     fn ristulva_narrow(context: *const Context, body: *const u8, len: usize, message: *mut u8, room: usize, written: *mut usize) -> u32;
@@ -310,11 +312,20 @@ pub fn judge(context: &Context, octets: &[u8], data: &mut [u8]) -> (u32, Verdict
     (status, out)
 }
 
-pub fn note(context: &Context, octets: &[u8], index: u32) -> Option<Note> {
-    let mut out = Note::default();
-    // SAFETY: see above.
-    let status = unsafe { ristulva_note(context, octets.as_ptr(), octets.len(), index, &mut out) };
-    (status == OK).then_some(out)
+/// The notes of the first message; none of octets that are incomplete.
+pub fn notes(context: &Context, octets: &[u8]) -> Vec<Note> {
+    // Mostly there are fewer.
+    let (mut notes, mut count) = (vec![Note::default(); 8], 0);
+    loop {
+        let (at, len) = (octets.as_ptr(), octets.len());
+        let (into, room) = (notes.as_mut_ptr(), notes.len());
+        // SAFETY: see above.
+        let status = unsafe { ristulva_notes(context, at, len, into, room, &mut count) };
+        notes.resize(count, Note::default());
+        if status != ROOM {
+            return notes;
+        }
+    }
 }
 
 /// The status, and how many octets the lines have where that is OK or ROOM.

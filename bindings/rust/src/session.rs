@@ -143,7 +143,7 @@ impl Session {
     pub fn new(config: &Config) -> Result<Session, Error> {
         match raw::Session::new(&config.said()) {
             Ok(session) => Ok(Session(session)),
-            Err(raw::RANGE) => Err(Error::Config),
+            Err(raw::CONFIG) => Err(Error::Config),
             Err(status) => Err(Error::of(status)),
         }
     }
@@ -263,8 +263,8 @@ impl Session {
     ///
     /// # Errors
     ///
-    /// [`Error::State`], it isn't Established; [`Error::Refused`], also where there are routes of
-    /// several kinds; [`Error::TooLong`], [`Error::Unwritable`] and [`Error::Memory`].
+    /// [`Error::State`], it isn't Established, whatever the body is; [`Error::TooLong`],
+    /// [`Error::Refused`], [`Error::Mixed`], [`Error::Unwritable`] and [`Error::Memory`].
     pub fn send(&self, body: &[u8]) -> Result<Actions<'static>, Error> {
         let mut message = [0; MESSAGE];
         let (told, len) = self.0.send(body, &mut message).map_err(Error::of)?;

@@ -21,7 +21,7 @@ fn written(call: impl FnOnce(&mut [u8]) -> (u32, usize)) -> Result<Vec<u8>, Erro
 ///
 /// # Errors
 ///
-/// [`Error::TooLong`], [`Error::Refused`], [`Error::Unwritable`] and [`Error::Memory`].
+/// [`Error::TooLong`], [`Error::Refused`] and [`Error::Memory`].
 pub fn encode(context: &Context, body: &[u8]) -> Result<Vec<u8>, Error> {
     written(|message| raw::encode(&context.said(), body, message))
 }
@@ -34,8 +34,8 @@ pub fn encode(context: &Context, body: &[u8]) -> Result<Vec<u8>, Error> {
 ///
 /// # Errors
 ///
-/// Those of [`encode`]; [`Error::Unwritable`] also where AS4_PATH has more numbers than there is
-/// room for.
+/// Those of [`encode`]; [`Error::Unwritable`] where the message would have more than [`MESSAGE`]
+/// octets with AS4_PATH and AS4_AGGREGATOR.
 pub fn narrow(context: &Context, body: &[u8]) -> Result<Vec<u8>, Error> {
     written(|message| raw::narrow(&context.said(), body, message))
 }
@@ -49,7 +49,7 @@ pub fn narrow(context: &Context, body: &[u8]) -> Result<Vec<u8>, Error> {
 ///
 /// # Errors
 ///
-/// Those of [`encode`].
+/// Those of [`encode`], and [`Error::Unwritable`].
 pub fn reconcile(context: &Context, body: &[u8]) -> Result<Vec<u8>, Error> {
     written(|message| raw::reconcile(&context.said(), body, message))
 }

@@ -500,11 +500,23 @@ fn refused() {
     let send = |body: &[u8]| one.session.send(body).err();
     assert_eq!(send(&WITHOUT_HOP), Some(Error::Refused));
     let mixed = [&[0, 2, 8, 12][..], &ANNOUNCEMENT[2..]].concat();
-    assert_eq!(send(&mixed), Some(Error::Refused));
+    assert_eq!(send(&mixed), Some(Error::Mixed));
     assert_eq!(send(&vec![0; BODY + 1]), Some(Error::TooLong));
     assert_eq!(send(&ANNOUNCEMENT), None);
-    let (one, _) = connected(&local(), &remote());
-    assert_eq!(one.session.send(&ANNOUNCEMENT).err(), Some(Error::State));
+}
+
+/// In all states but Established no body is looked at.
+#[test]
+fn state_first() {
+    let (mut one, mut other) = connected(&local(), &remote());
+    one.hears(&mut other).expect("an OPEN");
+    assert_eq!(one.session.state(), State::OpenConfirm);
+    assert_eq!(other.session.state(), State::OpenSent);
+    for session in [one.session, other.session, Side::new(&local()).session] {
+        for body in [&ANNOUNCEMENT[..], &WITHOUT_HOP, &[255], &[0; BODY + 1]] {
+            assert_eq!(session.send(body).err(), Some(Error::State));
+        }
+    }
 }
 
 /// A session goes to another thread.

@@ -72,7 +72,7 @@ fn bare<'a>(alloc: Global) -> Result<Command<'a>, AllocError> {
     Command::new(alloc, "bgp_speaker")
         .about("Speak BGP-4 with one peer, and print what it says")
         .after_help(HELP)
-        .version("0.3.0")
+        .version("0.4.0")
         .no_binary_name(true)
         .arg(address)?
         .bin_name("bgp_speaker")

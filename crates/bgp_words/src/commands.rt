@@ -131,7 +131,7 @@ fn bare<'a>(alloc: Global) -> Result<Command<'a>, AllocError>
 }
 
 /// The version of the program.
-const VERSION: &str = "0.3.0";
+const VERSION: &str = "0.4.0";
 
 /// The name of the file that a command reads.
 pub(crate) const FILE: &str = "SCRIPT";

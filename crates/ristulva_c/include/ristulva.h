@@ -29,7 +29,7 @@ extern "C" {
 /* ---- version ---- */
 
 /* The version of this header, as ristulva_version() answers it: 1000000 times the first number, 1000 times the second, and the third. */
-#define RISTULVA_VERSION 3000u
+#define RISTULVA_VERSION 4000u
 
 /* The version of the library that is linked. */
 uint32_t ristulva_version(void);
@@ -42,13 +42,16 @@ typedef uint32_t ristulva_status;
 #define RISTULVA_NO_SESSION 1u /* the handle has no session: nothing has changed */
 #define RISTULVA_NO_DECODER 1u /* the handle has no decoder: nothing has changed */
 #define RISTULVA_MEMORY 2u     /* an allocation failed: nothing has changed, and the call can be made again */
-#define RISTULVA_RANGE 3u      /* an argument is out of its range: nothing has changed */
+#define RISTULVA_RANGE 3u      /* a number, a span or a length is out of its range: nothing has changed */
 #define RISTULVA_INCOMPLETE 4u /* the octets are an incomplete message: nothing has changed */
 #define RISTULVA_ROOM 5u       /* a buffer has less room than is needed */
 #define RISTULVA_END 6u        /* nothing is left: nothing has changed */
-#define RISTULVA_REFUSED 7u    /* an UPDATE that isn't accepted whole, or no OPEN that is accepted: nothing has changed */
+#define RISTULVA_REFUSED 7u    /* no UPDATE that is accepted whole, or no OPEN that is accepted: nothing has changed */
 #define RISTULVA_UNWRITABLE 8u /* an UPDATE that can't be written: nothing has changed */
 #define RISTULVA_STATE 9u      /* the session isn't in a state for this, or the decoder has stopped: nothing has changed */
+#define RISTULVA_CONFIG 10u    /* the configuration isn't one that is allowed: nothing has changed */
+#define RISTULVA_IN_USE 11u    /* the handle has a session, or a decoder, already: nothing has changed */
+#define RISTULVA_MIXED 12u     /* an UPDATE with routes of several kinds, which no session sends: nothing has changed */
 
 /* ---- octets ---- */
 
@@ -158,14 +161,17 @@ typedef struct {
     uint8_t why;  /* RISTULVA_WHY_FLAGS to RISTULVA_WHY_AS_ZERO */
 } ristulva_note_found;
 
-/* Tells the note number `index`, from 0 on, of the first message of the octets: each attribute that is discarded, or for which the UPDATE
- * is treated as a withdrawal, in the order of their offsets, the one that is cut off, and then what is missing. Each call judges the message
- * and reads the notes before this one anew: a message has few.
+/* The most notes of a message. */
+#define RISTULVA_NOTES 1361u
+
+/* Lists the notes on the first message of the octets: each attribute that is discarded, or for which the UPDATE is treated as a withdrawal,
+ * in the order of their offsets, the one that is cut off, and then what is missing. They stand at the beginning of `notes`, a list with room
+ * for `room` of them, whose rest is unchanged. `count` is how many there are: at most RISTULVA_NOTES, and 0 but for UPDATEs that are
+ * accepted or treated as a withdrawal. The message is judged once, however many notes it has.
  *
- * RISTULVA_INCOMPLETE, or RISTULVA_END where there are no more notes: nothing is written. Only UPDATEs that are accepted or treated as a
- * withdrawal have some. */
-ristulva_status ristulva_note(const ristulva_context *context, const uint8_t *octets, size_t len, uint32_t index,
-                              ristulva_note_found *out);
+ * RISTULVA_INCOMPLETE: nothing is written. RISTULVA_ROOM: `count` is written, and the first `room` notes. */
+ristulva_status ristulva_notes(const ristulva_context *context, const uint8_t *octets, size_t len, ristulva_note_found *notes, size_t room,
+                               size_t *count);
 
 /* ---- text ---- */
 
@@ -173,7 +179,8 @@ ristulva_status ristulva_note(const ristulva_context *context, const uint8_t *oc
  * has room for `room` octets. They aren't terminated by NUL; the rest of the buffer is unchanged. `place` is the offset in the stream that
  * the first line tells. `written` is how many octets the lines have. It allocates.
  *
- * RISTULVA_MEMORY, RISTULVA_INCOMPLETE: nothing is written. RISTULVA_ROOM: `written` is, and says how much room is needed. */
+ * RISTULVA_INCOMPLETE; RISTULVA_MEMORY, never of an incomplete message: nothing is written. RISTULVA_ROOM: `written` is, and says how much
+ * room is needed. */
 ristulva_status ristulva_text(const ristulva_context *context, uint64_t place, const uint8_t *octets, size_t len, char *text, size_t room,
                               size_t *written);
 
@@ -188,20 +195,22 @@ ristulva_status ristulva_text(const ristulva_context *context, uint64_t place, c
  * with lengths of one octet or of two. It is judged as if it had been received in this context. `written` is how many octets the message
  * has: never more than RISTULVA_MESSAGE. It allocates.
  *
- * RISTULVA_MEMORY; RISTULVA_RANGE, the body has more than RISTULVA_BODY octets; RISTULVA_REFUSED, it isn't accepted, or some of it is
- * discarded; RISTULVA_UNWRITABLE, it can't be written or would be too long: nothing is written. RISTULVA_ROOM: `written` is. */
+ * RISTULVA_RANGE, the body has more than RISTULVA_BODY octets; RISTULVA_REFUSED, it isn't accepted, or some of it is discarded;
+ * RISTULVA_MEMORY, only where it is accepted whole: nothing is written. RISTULVA_ROOM: `written` is. What is accepted whole is always
+ * written. */
 ristulva_status ristulva_encode(const ristulva_context *context, const uint8_t *body, size_t len, uint8_t *message, size_t room,
                                 size_t *written);
 
 /* The same for a speaker with AS numbers of two octets (RFC 6793, section 4.2.2): 23456 stands for each number that needs four, and AS4_PATH
  * and AS4_AGGREGATOR beside AS_PATH and AGGREGATOR where one does. `body` has AS numbers of four octets, whatever `as4` of the context says.
- * RISTULVA_UNWRITABLE: as above, or there are more of these than a message has room for. */
+ * RISTULVA_UNWRITABLE, and nothing is written: with these the message would have more than RISTULVA_MESSAGE octets. */
 ristulva_status ristulva_narrow(const ristulva_context *context, const uint8_t *body, size_t len, uint8_t *message, size_t room,
                                 size_t *written);
 
 /* The other way round (RFC 6793, section 4.2.3): the UPDATE of a session with AS numbers of two octets as speakers with four see it. The
  * path and the aggregator that AS4_PATH and AS4_AGGREGATOR give back stand in the place of all four. `body` has AS numbers of two octets,
- * whatever `as4` of the context says, and the message has them of four. */
+ * whatever `as4` of the context says, and the message has them of four. RISTULVA_UNWRITABLE, and nothing is written: the message can't be
+ * written, or would have more than RISTULVA_MESSAGE octets. */
 ristulva_status ristulva_reconcile(const ristulva_context *context, const uint8_t *body, size_t len, uint8_t *message, size_t room,
                                    size_t *written);
 
@@ -348,7 +357,7 @@ typedef struct {
 
 /* Makes a decoder at the beginning of a stream, in the context of its session. It allocates what the decoder keeps.
  *
- * RISTULVA_MEMORY; RISTULVA_RANGE, the handle has a decoder: nothing has changed. */
+ * RISTULVA_IN_USE, the handle has a decoder; RISTULVA_MEMORY, only where it has none: nothing has changed. */
 ristulva_status ristulva_decoder_new(const ristulva_context *context, ristulva_decoder *decoder);
 
 /* Frees a decoder, and what it holds: the handle has none then. RISTULVA_NO_DECODER. */
@@ -382,8 +391,8 @@ ristulva_status ristulva_decoder_held(ristulva_decoder *decoder, size_t *held);
  * session is memory of the library's, some 4.5 KB. A handle isn't copied, and its pointer isn't changed. It may go from thread to thread,
  * but no two calls are handed the same handle at one time; different sessions share nothing.
  *
- * Each call answers RISTULVA_NO_SESSION where the handle has none; RISTULVA_RANGE, and RISTULVA_ROOM for a buffer below RISTULVA_MESSAGE,
- * are checked before that. A status other than RISTULVA_OK says that nothing has changed, and, but where it is said below, that nothing
+ * Each call answers RISTULVA_NO_SESSION where the handle has none; the number of an event, and a buffer below RISTULVA_MESSAGE for
+ * RISTULVA_ROOM, are checked before that. A status other than RISTULVA_OK says that nothing has changed, and, but where it is said below, that nothing
  * was written.
  */
 
@@ -406,7 +415,8 @@ typedef struct {
 
 /* Makes a session in Idle. It allocates what the session keeps.
  *
- * RISTULVA_MEMORY; RISTULVA_RANGE, the configuration isn't one that is allowed above, or the handle has a session. */
+ * RISTULVA_IN_USE, the handle has a session; else RISTULVA_CONFIG, the configuration isn't one that is allowed above; RISTULVA_MEMORY, only
+ * where neither is so. */
 ristulva_status ristulva_session_new(const ristulva_config *config, ristulva_session *session);
 
 /* Frees a session: the handle has none then. Nothing is sent and nothing closed by that: RISTULVA_EVENT_STOP comes before it. */
@@ -490,7 +500,7 @@ typedef struct {
  * ristulva_session_event does; octets behind it are ignored. The host drops the first `heard->len` octets of what it has received, and calls
  * again, until less than a message is left.
  *
- * An UPDATE is as it came: its routes are walked by the cursors above, in the context of ristulva_session_context, and ristulva_note
+ * An UPDATE is as it came: its routes are walked by the cursors above, in the context of ristulva_session_context, and ristulva_notes
  * has its notes. It doesn't allocate.
  *
  * RISTULVA_ROOM: `room` is below RISTULVA_MESSAGE. RISTULVA_STATE: the connection doesn't stand, so that octets have no meaning (Idle,
@@ -533,9 +543,10 @@ ristulva_status ristulva_session_open(ristulva_session *session, uint8_t *messag
  * session has, and one kind of routes: withdrawn, announced, or those of one of the multiprotocol attributes (RFC 7606, section 5.1).
  * For a peer with AS numbers of two octets it is written as ristulva_narrow does. The session stays as it is. It allocates.
  *
- * RISTULVA_ROOM, `room` is below RISTULVA_MESSAGE; RISTULVA_RANGE, the body has more than RISTULVA_BODY octets; RISTULVA_STATE, the session
- * isn't Established; RISTULVA_REFUSED, the body isn't accepted whole, or has routes of several kinds; RISTULVA_UNWRITABLE, the
- * message would be too long; RISTULVA_MEMORY. */
+ * RISTULVA_ROOM: `room` is below RISTULVA_MESSAGE. RISTULVA_STATE: the session isn't Established, whatever the body is. RISTULVA_RANGE: the
+ * body has more than RISTULVA_BODY octets. RISTULVA_REFUSED: it isn't accepted whole. RISTULVA_MIXED: it is, and has routes of several kinds.
+ * RISTULVA_UNWRITABLE: routes of one kind, whose message would have more than RISTULVA_MESSAGE octets. RISTULVA_MEMORY: only where the body
+ * is accepted whole. */
 ristulva_status ristulva_session_send(ristulva_session *session, const uint8_t *body, size_t len, ristulva_actions *actions, uint8_t *message,
                                       size_t room, size_t *written);
 

@@ -1,12 +1,20 @@
 -- What is written of an UPDATE.
-use Rattle.std.proofs.Common.{◌≡◌, Bool, true, false, ℕ, List, [], ◌++◌, Option, Some, None, refl, ap, ◌∙◌}
+use Rattle.std.proofs.Common.{◌≡◌, Bool, true, false, not, cond, ℕ, ◌+◌, ◌≤◌, List, [], ◌++◌, length, Option, Some, None, refl, ap, ◌∙◌, arith}
+use Rattle.std.proofs.lemmas.Bool.{le-ltb}
 use Rattle.std.specs.Prelude.{is_none, IsTrue}
+use Rattle.bgp_wire.specs.Octets.{AreOctets}
+use Rattle.bgp_frame.proofs.FrameLemmas.{length-octets_of}
 use Rattle.bgp_open.specs.declared.context.Context.{Context}
 use Rattle.bgp_update.specs.declared.invalid.Invalid.{Invalid}
+use Rattle.bgp_update.specs.declared.note.Note.{Note}
 use Rattle.bgp_update.specs.declared.update.Update.{Update}
+use Rattle.bgp_update.specs.declared.verdict.Verdict.TheVariants as verdict
+use Rattle.bgp_update.specs.Verdict.{verdict_of}
+use Rattle.bgp_update.specs.Written.{written_body}
+use Rattle.bgp_update.proofs.Taken.{taken-written}
 use Rattle.bgp_msg.specs.declared.message.Message.TheVariants as message
-use Rattle.bgp_msg.specs.Written.{canonical, invalid_of, is_valid, is_too_long}
-use Rattle.ristulva_c.specs.Encode.{written_of}
+use Rattle.bgp_msg.specs.Written.{canonical, written, invalid_of, is_valid, is_too_long}
+use Rattle.ristulva_c.specs.Encode.{encoded_of, short_of, written_of}
 
 none_valid : (o : Option Invalid) → ((why : Invalid) → o ≡ Some why → ⊥) → is_none o ≡ true
 none_valid None never = refl
@@ -27,6 +35,24 @@ module _ (ctx : Context) (u : Update) where
       let fits : is_too_long ctx (message.Update u) ≡ false = not_long (is_too_long ctx (message.Update u)) (λ long. short (good, long)) in
       let same : octets ≡ canonical ctx (message.Update u) = is ∙ ap (λ (x : List ℕ). x ++ canonical ctx (message.Update u)) none in
       rw (good, fits, same) refl
+
+  -- what is valid is written where it isn't too long
+  pub valid_written : invalid_of ctx (message.Update u) ≡ None → written_of ctx u ≡ short_of ctx u
+  valid_written valid =
+      let good : is_valid ctx (message.Update u) ≡ true = ap is_none valid in
+      rw good (at (is_too_long ctx (message.Update u)))
+    where
+      at : (long : Bool) → cond (not long) (all (canonical ctx (message.Update u))) None ≡ cond long None (all (canonical ctx (message.Update u)))
+      at true = refl
+      at false = refl
+
+  -- what is accepted is
+  pub taken_written : (body : List ℕ) (notes : List Note) → AreOctets body → length body ≤ 4077 → verdict_of ctx body ≡ verdict.Take u notes → written_of ctx u ≡ encoded_of ctx u
+  taken_written body notes octets short e =
+      let can = taken-written ctx body u notes octets e in
+      let len : length (canonical ctx (message.Update u)) ≡ 19 + length (written_body ctx u) = length-octets_of (written ctx (message.Update u)) in
+      let fits : is_too_long ctx (message.Update u) ≡ false = le-ltb 4096 (length (canonical ctx (message.Update u))) (omega (arith, len, can.no_longer, short)) in
+      valid_written can.valid ∙ (rw fits refl)
 
   pub writes_nothing : (why : Invalid) → invalid_of ctx (message.Update u) ≡ Some why → written_of ctx u ≡ None
   writes_nothing why bad =

@@ -9,8 +9,10 @@ pub mod SegmentSteps
 pub mod RouteSpans
 pub mod Encodings
 pub mod Narrowings
+pub mod Sendings
 pub mod PartPlaces
 pub mod NoteSteps
+pub mod NoteCounts
 pub mod CapabilitySteps
 pub mod OpenPlaces
 pub mod Handles

@@ -11,14 +11,14 @@ use Rattle.bgp_msg.specs.declared.look.Look.TheVariants as look
 use Rattle.bgp_msg.specs.Look.{IsLook}
 use Rattle.bgp_msg.specs.Next.{Going, IsBehind}
 use Rattle.bgp_msg.specs.Outcome.{out_of, of_fault}
-use Rattle.ristulva_c.specs.declared.status.TheConstants.{INCOMPLETE, MEMORY, NO_SESSION, OK, RANGE, ROOM, STATE}
+use Rattle.ristulva_c.specs.declared.status.TheConstants.{IN_USE, INCOMPLETE, MEMORY, NO_SESSION, OK, ROOM, STATE}
 use Rattle.ristulva_c.specs.Copied.{copied}
 use Rattle.ristulva_c.specs.Judge as judge
 use Rattle.ristulva_c.specs.Judge.{Answers, Judging, PartsLie}
 
 -- a decoder is made where the handle has none, unless memory ran out
 abbrev pub IsMade : Context → Option Decoding → ℕ → Option Decoding → Type 0
-IsMade ctx (Some old) status new = (status ≡ RANGE) × (new ≡ Some old)
+IsMade ctx (Some old) status new = (status ≡ IN_USE) × (new ≡ Some old)
 IsMade ctx None status new = ((status ≡ OK) × (new ≡ Some (fresh ctx))) ⊎ ((status ≡ MEMORY) × (new ≡ None))
 
 abbrev pub IsFreed : Option Decoding → ℕ → Option Decoding → Type 0

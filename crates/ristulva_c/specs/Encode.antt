@@ -32,28 +32,41 @@ written_of ctx u =
     then Some (canonical ctx (message.Update u))
     else None
 
+-- the message of an UPDATE that is accepted, which is never too long
+abbrev pub encoded_of : Context → Update → Option (List ℕ)
+encoded_of ctx u = Some (canonical ctx (message.Update u))
+
+-- the message of a valid UPDATE, where it isn't too long
+abbrev pub short_of : Context → Update → Option (List ℕ)
+short_of ctx u = if is_too_long ctx (message.Update u) then None else Some (canonical ctx (message.Update u))
+
 -- the same as a speaker with AS numbers of two octets is told it (RFC 6793)
 abbrev pub narrowed_of : Context → Update → Option (List ℕ)
-narrowed_of ctx u = written_of (with_as4 false ctx) (narrowed_update u)
+narrowed_of ctx u = short_of (with_as4 false ctx) (narrowed_update u)
 
 -- what the code calls it
 abbrev pub IsCoded : Coded → Option (Option (List ℕ)) → Type 0
 IsCoded coded.Refused found = found ≡ None
+IsCoded coded.Memory found = (form : Option (List ℕ)) × (found ≡ Some form)
 IsCoded coded.Unwritable found = found ≡ Some None
 IsCoded (coded.Octets octets) found = found ≡ Some (Some octets.items)
 
--- by what comes of a body: it isn't accepted whole, it can't be written, or its written form
+-- of an UPDATE that is accepted: it can't be written, or its written form
+abbrev pub WritesForm : Option (List ℕ) → Writing → Type 0
+WritesForm None w = IsLeft UNWRITABLE w
+WritesForm (Some octets) w = IsWritten octets w
+
+-- by what comes of a body: it isn't accepted whole; or it is, and then alone memory can run out
 abbrev pub Writes : Option (Option (List ℕ)) → Writing → Type 0
 Writes None w = IsLeft REFUSED w
-Writes (Some None) w = IsLeft UNWRITABLE w
-Writes (Some (Some octets)) w = IsWritten octets w
+Writes (Some form) w = WritesForm form w ⊎ IsLeft MEMORY w
 
--- a body is too long to be one, or this comes of it; or memory ran out
+-- a body is too long to be one, or this comes of it
 abbrev pub Comes : List ℕ → Option (Option (List ℕ)) → Writing → Type 0
-Comes body found w = ((4077 < length body) × IsLeft RANGE w) ⊎ (((length body ≤ 4077) × Writes found w) ⊎ IsLeft MEMORY w)
+Comes body found w = ((4077 < length body) × IsLeft RANGE w) ⊎ ((length body ≤ 4077) × Writes found w)
 
 abbrev pub IsEncoded : Context → List ℕ → Writing → Type 0
-IsEncoded ctx body w = Comes body (option_map (written_of ctx) (taken_of (verdict_of ctx body))) w
+IsEncoded ctx body w = Comes body (option_map (encoded_of ctx) (taken_of (verdict_of ctx body))) w
 
 abbrev pub IsNarrowed : Context → List ℕ → Writing → Type 0
 IsNarrowed ctx body w = Comes body (option_map (narrowed_of ctx) (taken_of (verdict_of ctx body))) w

@@ -1,5 +1,5 @@
 -- The notes on an UPDATE, in numbers (RFC 7606, section 6).
-use Rattle.std.specs.Prelude.{◌≡◌, ◌==◌, ◌+◌, ℕ, List, [], ◌∷◌, drop, Option, None, Some, if◌then◌else◌}
+use Rattle.std.specs.Prelude.{◌≡◌, ◌==◌, ◌+◌, ◌≤◌, ℕ, List, [], ◌∷◌, length, map, nat_le, if◌then◌else◌}
 use Rattle.bgp_frame.specs.declared.step.Step.{Step}
 use Rattle.bgp_frame.specs.declared.step.Step.TheVariants as step
 use Rattle.bgp_frame.specs.Step.{ShowsFront}
@@ -11,11 +11,7 @@ use Rattle.bgp_msg.specs.declared.outcome.Outcome.{Outcome}
 use Rattle.bgp_msg.specs.declared.outcome.Outcome.TheVariants as outcome
 use Rattle.bgp_msg.specs.Outcome.{out_of}
 use Rattle.ristulva_c.specs.declared.notes.ToldNote.{ToldNote}
-use Rattle.ristulva_c.specs.declared.status.TheConstants.{END, INCOMPLETE, OK}
-
-abbrev pub first_of : List Note → Option Note
-first_of [] = None
-first_of (n ∷ ns) = Some n
+use Rattle.ristulva_c.specs.declared.status.TheConstants.{INCOMPLETE, OK, ROOM}
 
 -- the number of what is wrong
 abbrev pub number_of_why : Why → ℕ
@@ -45,18 +41,44 @@ notes_in (outcome.Took m notes) = notes
 notes_in (outcome.Withdraw routes notes) = notes
 notes_in (outcome.Reset n) = []
 
--- there is no such note, and nothing is changed; or it is told
-abbrev pub TellsNote : Option Note → ℕ → ToldNote → ToldNote → Type 0
-TellsNote None status before behind = (status ≡ END) × (behind ≡ before)
-TellsNote (Some n) status before behind = (status ≡ OK) × (behind ≡ note_told n)
+-- as they are told
+abbrev pub told_in : Outcome → List ToldNote
+told_in o = map note_told (notes_in o)
 
--- by what the octets begin with: less than a message; a message, and the note behind so many others of its outcome; a header with a fault
-abbrev pub Notes : Context → ℕ → Step → ℕ → ToldNote → ToldNote → Type 0
-Notes ctx index step.More status before behind = (status ≡ INCOMPLETE) × (behind ≡ before)
-Notes ctx index (step.Frame f) status before behind = TellsNote (first_of (drop index (notes_in (out_of ctx (record { kind = f.kind; body = f.body.now }))))) status before behind
-Notes ctx index (step.Fault fault) status before behind = TellsNote None status before behind
+-- a list of the caller's with these notes in its first places, as many as it has; those behind them are as they were
+abbrev pub listed : List ToldNote → List ToldNote → List ToldNote
+listed [] places = places
+listed (n ∷ ns) [] = []
+listed (n ∷ ns) (old ∷ places) = n ∷ listed ns places
 
-pub record IsNoted (ctx : Context) (octets : List ℕ) (index status : ℕ) (before behind : ToldNote) : Type 0 where
+-- what a call has: its status, and what stands in the caller's places before and behind it
+pub record Listing : Type 0 where
+  pub status : ℕ
+  pub before : List ToldNote
+  pub behind : List ToldNote
+  pub count_before : ℕ
+  pub count_behind : ℕ
+
+-- nothing is changed
+pub record IsLeft (answer : ℕ) (l : Listing) : Type 0 where
+  pub status : l.status ≡ answer
+  pub list : l.behind ≡ l.before
+  pub count : l.count_behind ≡ l.count_before
+
+-- these notes are listed, as many as there is room for; how many they are is told either way, and they aren't more than a message has room for
+pub record IsListed (notes : List ToldNote) (l : Listing) : Type 0 where
+  pub status : l.status ≡ (if nat_le (length notes) (length l.before) then OK else ROOM)
+  pub list : l.behind ≡ listed notes l.before
+  pub count : l.count_behind ≡ length notes
+  pub few : length notes ≤ 1361
+
+-- by what the octets begin with: less than a message; a message, and the notes of its outcome; a header with a fault, which has none
+abbrev pub Lists : Context → Step → Listing → Type 0
+Lists ctx step.More l = IsLeft INCOMPLETE l
+Lists ctx (step.Frame f) l = IsListed (told_in (out_of ctx (record { kind = f.kind; body = f.body.now }))) l
+Lists ctx (step.Fault fault) l = IsListed [] l
+
+pub record IsNoted (ctx : Context) (octets : List ℕ) (l : Listing) : Type 0 where
   pub found : Step
   pub shows : ShowsFront octets found
-  pub notes : Notes ctx index found status before behind
+  pub lists : Lists ctx found l

@@ -1,41 +1,40 @@
 -- An UPDATE as a session sends it.
-use Rattle.std.specs.Prelude.{◌≡◌, ◌<◌, ◌≤◌, ◌⊎◌, ℕ, true, List, [], length, Option, None, Some}
+use Rattle.std.specs.Prelude.{◌≡◌, ◌<◌, ◌≤◌, ◌⊎◌, ℕ, true, false, List, [], length, Option, None, Some}
 use Rattle.bgp_open.specs.declared.context.Context.{Context}
 use Rattle.bgp_update.specs.declared.update.Update.{Update}
 use Rattle.bgp_update.specs.Verdict.{verdict_of}
 use Rattle.bgp_update.specs.Widths.{with_as4}
 use Rattle.bgp_machine.specs.declared.action.Action as machine
-use Rattle.bgp_machine.specs.declared.send_fault.SendFault.{SendFault}
-use Rattle.bgp_machine.specs.declared.send_fault.SendFault.TheVariants as fault
-use Rattle.bgp_machine.specs.Sending.{keepalive_on, IsRefused, IsSent}
+use Rattle.bgp_machine.specs.declared.state.State.{State}
+use Rattle.bgp_machine.specs.declared.state.State.TheVariants as state
+use Rattle.bgp_machine.specs.Sending.{is_mixed, is_told_too_long, keepalive_on, IsSent}
 use Rattle.bgp_machine.specs.Session.{Machine}
 use Rattle.ristulva_c.specs.declared.sending.Outgoing.{Outgoing}
 use Rattle.ristulva_c.specs.declared.sending.Outgoing.TheVariants as outgoing
-use Rattle.ristulva_c.specs.declared.status.TheConstants.{MEMORY, NO_SESSION, OK, RANGE, REFUSED, ROOM, STATE, UNWRITABLE}
+use Rattle.ristulva_c.specs.declared.status.TheConstants.{MEMORY, MIXED, NO_SESSION, OK, RANGE, REFUSED, STATE, UNWRITABLE}
 use Rattle.ristulva_c.specs.Actions.{actions_told}
 use Rattle.ristulva_c.specs.Copied.{copied}
 use Rattle.ristulva_c.specs.Encode.{taken_of}
 use Rattle.ristulva_c.specs.Session.{Answer, IsLeft}
-
--- the status for why an UPDATE isn't sent
-abbrev pub number_of_fault : SendFault → ℕ
-number_of_fault fault.NotEstablished = STATE
-number_of_fault (fault.NotValid why) = REFUSED
-number_of_fault fault.TooLong = UNWRITABLE
-number_of_fault fault.Memory = MEMORY
 
 -- a session sends an UPDATE in these octets
 pub record IsSentIn (x : Machine) (u : Update) (octets : List ℕ) : Type 0 where
   pub actions : List machine.Action
   pub sends : IsSent x u actions [] octets
 
+-- routes of one kind, whose message would be too long as the peer is told it
+abbrev pub IsTooLong : Context → Update → Type 0
+IsTooLong ctx u = (is_mixed u ≡ false) × (is_told_too_long ctx u ≡ true)
+
 -- what the code calls it
-abbrev pub IsOutgoing : Machine → Option Update → Outgoing → Type 0
-IsOutgoing x None outgoing.Refused = Unit {0}
-IsOutgoing x None _ = ⊥
-IsOutgoing x (Some u) outgoing.Refused = ⊥
-IsOutgoing x (Some u) (outgoing.Kept why) = IsRefused x u why
-IsOutgoing x (Some u) (outgoing.Octets octets) = IsSentIn x u octets.items
+abbrev pub IsOutgoing : Machine → Context → Option Update → Outgoing → Type 0
+IsOutgoing x ctx None outgoing.Refused = Unit {0}
+IsOutgoing x ctx None _ = ⊥
+IsOutgoing x ctx (Some u) outgoing.Refused = ⊥
+IsOutgoing x ctx (Some u) outgoing.Mixed = is_mixed u ≡ true
+IsOutgoing x ctx (Some u) outgoing.TooLong = IsTooLong ctx u
+IsOutgoing x ctx (Some u) outgoing.Memory = Unit {0}
+IsOutgoing x ctx (Some u) (outgoing.Octets octets) = IsSentIn x u octets.items
 
 -- the message stands at the front of the buffer, and the Keepalive Timer begins anew; the session stays as it is
 pub record IsWrittenFor (x : Machine) (ctx : Context) (u : Update) (a : Answer) : Type 0 where
@@ -47,30 +46,30 @@ pub record IsWrittenFor (x : Machine) (ctx : Context) (u : Update) (a : Answer) 
   pub message : a.message_behind ≡ copied octets a.message_before
   pub len : a.len_behind ≡ length octets
 
--- the session has a reason not to send it, and nothing is changed
-pub record IsKept (x : Machine) (u : Update) (a : Answer) : Type 0 where
-  pub why : SendFault
-  pub refused : IsRefused x u why
-  pub left : IsLeft (number_of_fault why) a
+-- nothing is sent of routes of several kinds, nor of what would be too long, and nothing is changed: of what is accepted whole nothing else is refused
+abbrev pub IsKept : Context → Update → Answer → Type 0
+IsKept ctx u a = ((is_mixed u ≡ true) × IsLeft MIXED a) ⊎ (IsTooLong ctx u × IsLeft UNWRITABLE a)
 
--- by what the body is, with AS numbers of four octets: not accepted whole, or an UPDATE
+-- by what the body is, with AS numbers of four octets: not accepted whole; or an UPDATE, for which alone memory can run out
 abbrev pub SendsTaken : Machine → Context → Option Update → Answer → Type 0
 SendsTaken x ctx None a = IsLeft REFUSED a
-SendsTaken x ctx (Some u) a = IsWrittenFor x ctx u a ⊎ IsKept x u a
+SendsTaken x ctx (Some u) a = IsWrittenFor x ctx u a ⊎ (IsKept ctx u a ⊎ IsLeft MEMORY a)
 
--- by what both agreed on: memory can lack, or it is sent or not
+-- a body is too long to be one, or this comes of it
+abbrev pub SendsBody : Machine → Context → List ℕ → Answer → Type 0
+SendsBody x ctx body a =
+    ((length body ≤ 4077) × SendsTaken x ctx (taken_of (verdict_of (with_as4 true ctx) body)) a)
+    ⊎ ((4077 < length body) × IsLeft RANGE a)
+
 abbrev pub SendsIn : Machine → Option Context → List ℕ → Answer → Type 0
 SendsIn x None body a = IsLeft STATE a
-SendsIn x (Some ctx) body a = SendsTaken x ctx (taken_of (verdict_of (with_as4 true ctx) body)) a ⊎ IsLeft MEMORY a
+SendsIn x (Some ctx) body a = SendsBody x ctx body a
+
+-- the state comes first: in all but Established the body isn't looked at
+abbrev pub SendsAt : Machine → State → List ℕ → Answer → Type 0
+SendsAt x state.Established body a = SendsIn x x.standing.context body a
+SendsAt x _ body a = IsLeft STATE a
 
 abbrev pub Sends : Option Machine → List ℕ → Answer → Type 0
 Sends None body a = IsLeft NO_SESSION a
-Sends (Some x) body a = SendsIn x x.standing.context body a
-
--- a body is too long to be one, or this comes of it
-abbrev pub SendsShort : Option Machine → List ℕ → Answer → Type 0
-SendsShort old body a = ((length body ≤ 4077) × Sends old body a) ⊎ ((4077 < length body) × IsLeft RANGE a)
-
--- the buffer has room for each message, or nothing is done
-abbrev pub SendsBody : Option Machine → List ℕ → Answer → Type 0
-SendsBody old body a = ((4096 ≤ length a.message_before) × SendsShort old body a) ⊎ ((length a.message_before < 4096) × IsLeft ROOM a)
+Sends (Some x) body a = SendsAt x x.standing.state body a

@@ -7,15 +7,15 @@ use Rattle.bgp_machine.specs.declared.event.Event.{Event}
 use Rattle.bgp_machine.specs.Session.{Machine, fresh, own_octets, after_event}
 use Rattle.bgp_machine.specs.Table.{happens}
 use Rattle.ristulva_c.specs.declared.actions.Actions.{Actions}
-use Rattle.ristulva_c.specs.declared.status.TheConstants.{OK, NO_SESSION, MEMORY, RANGE, ROOM}
+use Rattle.ristulva_c.specs.declared.status.TheConstants.{OK, NO_SESSION, MEMORY, RANGE, ROOM, CONFIG, IN_USE}
 use Rattle.ristulva_c.specs.Actions.{actions_told, octets_sent}
 use Rattle.ristulva_c.specs.Copied.{copied}
 use Rattle.ristulva_c.specs.States.{number_of_state}
 
--- a session is made where settings are allowed and the handle has none, unless memory ran out
+-- a session is made where the handle has none and settings are allowed, unless memory ran out
 abbrev pub IsMade : Result Settings BadConfig → Option Machine → ℕ → Option Machine → Type 0
-IsMade settings (Some old) status new = (status ≡ RANGE) × (new ≡ Some old)
-IsMade (Err bad) None status new = (status ≡ RANGE) × (new ≡ None)
+IsMade settings (Some old) status new = (status ≡ IN_USE) × (new ≡ Some old)
+IsMade (Err bad) None status new = (status ≡ CONFIG) × (new ≡ None)
 IsMade (Ok s) None status new = ((status ≡ OK) × (new ≡ Some (fresh s))) ⊎ ((status ≡ MEMORY) × (new ≡ None))
 
 abbrev pub IsFreed : Option Machine → ℕ → Option Machine → Type 0

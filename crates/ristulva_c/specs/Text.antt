@@ -15,11 +15,6 @@ lines_of ctx place step.More = None
 lines_of ctx place (step.Frame f) = Some (outcome_lines place f.len (out_of ctx (record { kind = f.kind; body = f.body.now })))
 lines_of ctx place (step.Fault fault) = Some (outcome_lines place 0 (of_fault fault))
 
-pub record HasLines (ctx : Context) (place : ℕ) (octets : List ℕ) (lines : Option (List ℕ)) : Type 0 where
-  pub found : Step
-  pub shows : ShowsFront octets found
-  pub are : lines ≡ lines_of ctx place found
-
 -- what a call has: its status, and what stands in the caller's places before and behind it
 pub record Writing : Type 0 where
   pub status : ℕ
@@ -40,15 +35,13 @@ pub record IsWritten (text : List ℕ) (w : Writing) : Type 0 where
   pub buffer : w.behind ≡ copied text w.before
   pub len : w.len_behind ≡ length text
 
+-- less than a message; or the lines, for which memory can run out
 abbrev pub Prints : Option (List ℕ) → Writing → Type 0
 Prints None w = IsLeft INCOMPLETE w
-Prints (Some text) w = IsWritten text w
+Prints (Some text) w = IsWritten text w ⊎ IsLeft MEMORY w
 
-pub record IsShown (ctx : Context) (place : ℕ) (octets : List ℕ) (w : Writing) : Type 0 where
-  pub lines : Option (List ℕ)
-  pub has : HasLines ctx place octets lines
-  pub prints : Prints lines w
-
--- memory ran out, and nothing is changed; or the lines of what the octets begin with are written
-abbrev pub IsPrinted : Context → ℕ → List ℕ → Writing → Type 0
-IsPrinted ctx place octets w = IsLeft MEMORY w ⊎ IsShown ctx place octets w
+-- the lines of what the octets begin with are written
+pub record IsPrinted (ctx : Context) (place : ℕ) (octets : List ℕ) (w : Writing) : Type 0 where
+  pub found : Step
+  pub shows : ShowsFront octets found
+  pub prints : Prints (lines_of ctx place found) w

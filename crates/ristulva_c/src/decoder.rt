@@ -13,7 +13,7 @@ use crate::decoder_handle::DecoderHandle;
 use crate::judge::{Verdict, are_octets, code_of, parts_at, tell};
 use crate::messages::{MESSAGE_MAX, put};
 use crate::parts::no_parts;
-use crate::status::{INCOMPLETE, MEMORY, NO_SESSION, OK, RANGE, ROOM, STATE};
+use crate::status::{IN_USE, INCOMPLETE, MEMORY, NO_SESSION, OK, ROOM, STATE};
 use bgp_frame::{Step, front};
 use bgp_msg::{Decoder, Look, Next, OutcomeView};
 use bgp_update::UpdateView;
@@ -33,7 +33,7 @@ pub extern "C" fn ristulva_decoder_new(
 {
     if let Some(body) = decoder.take(alloc) {
         decoder.put(body);
-        return RANGE;
+        return IN_USE;
     }
     match Box::new(alloc, Decoder::new(context_of(ctx))) {
         Err(_) => MEMORY,

@@ -1,15 +1,16 @@
 //! UPDATEs in their written form.
 
-ghost use Rattle.std.specs.Prelude.{◌≡◌, ◌≤◌, true, false, Some, length, option_map, IfOk};
-ghost use Rattle.bgp_wire.specs.Octets.{AreOctets};
+ghost use Rattle.std.specs.Prelude.{◌≡◌, ◌≤◌, true, false, ℕ, List, Option, None, Some, length, option_map, IfOk};
 ghost use Rattle.bgp_update.specs.As4.{HasNoAs4};
 ghost use Rattle.bgp_update.specs.Widths.{with_as4};
+ghost use Rattle.bgp_update.specs.Written.{invalid_of};
 ghost use Rattle.bgp_update.specs.Verdict.{verdict_of};
 ghost use Rattle.bgp_update.specs.View.{update_value, notes_value};
 ghost use Rattle.ristulva_c.specs.Context.{context_of};
-ghost use Rattle.ristulva_c.specs.Encode.{taken_of, without_notes, written_of, narrowed_of, IsCoded, IsEncoded, IsNarrowed};
+ghost use Rattle.ristulva_c.specs.Encode.{taken_of, without_notes, written_of, encoded_of, narrowed_of, IsCoded, Writes, IsEncoded, IsNarrowed};
 
 use crate::context::{SessionContext, context_of};
+use crate::judge::are_octets;
 use crate::status::{MEMORY, RANGE, REFUSED, UNWRITABLE};
 use crate::text::write;
 use bgp_msg::encode_update;
@@ -22,10 +23,22 @@ use std::alloc::{AllocError, Global};
 pub(crate) enum Coded {
     /// It isn't accepted whole.
     Refused,
+    /// It is, and an allocation failed.
+    Memory,
     /// It can't be written.
     Unwritable,
     /// Its message in its written form.
     Octets(Vec<u8>),
+}
+
+/// What is coded, or that an allocation failed.
+pub(crate) fn or_memory(coded: Result<Coded, AllocError>) -> Coded
+    ensures { (form : Option (List ℕ)) → IfOk coded (λ it. IsCoded it (Some form)) → IsCoded result (Some form) }
+{
+    match coded {
+        Ok(it) => it,
+        Err(_) => Coded::Memory,
+    }
 }
 
 /// The message of an UPDATE in its written form, where it can be written.
@@ -41,33 +54,48 @@ pub(crate) fn written(alloc: Global, ctx: &Context, update: &Update) -> Result<C
     }
 }
 
-/// The message of an UPDATE that is accepted, where it can be written.
+/// The message of an UPDATE that is accepted: it can be written.
 fn rewritten(alloc: Global, ctx: &Context, view: &UpdateView<'_>) -> Result<Coded, AllocError>
-    ensures { IfOk result (λ it. IsCoded it (Some (written_of ctx.now (update_value view.now)))) }
+    requires { written_of ctx.now (update_value view.now) ≡ encoded_of ctx.now (update_value view.now) }
+    ensures { IfOk result (λ it. IsCoded it (Some (encoded_of ctx.now (update_value view.now)))) }
 {
     let update = view.own(alloc)?;
     written(alloc, ctx, &update)
 }
 
 /// The same, where it has no note.
-fn whole(alloc: Global, ctx: &Context, view: &UpdateView<'_>) -> Result<Coded, AllocError>
-    ensures { IfOk result (λ it. IsCoded it (option_map (written_of ctx.now) (without_notes (update_value view.now) (notes_value view.now)))) }
+fn whole(alloc: Global, ctx: &Context, view: &UpdateView<'_>) -> Coded
+    requires { written_of ctx.now (update_value view.now) ≡ encoded_of ctx.now (update_value view.now) }
+    ensures { IsCoded result (option_map (encoded_of ctx.now) (without_notes (update_value view.now) (notes_value view.now))) }
 {
     match view.notes().next() {
-        Some(_) => Ok(Coded::Refused),
-        None => rewritten(alloc, ctx, view),
+        Some(_) => Coded::Refused,
+        None => or_memory(rewritten(alloc, ctx, view)),
     }
 }
 
 /// What comes of a body.
-fn encoded(alloc: Global, ctx: &Context, body: &[u8]) -> Result<Coded, AllocError>
+fn encoded(alloc: Global, ctx: &Context, body: &[u8]) -> Coded
     requires { length body.now ≤ 4077 }
-    ensures { IfOk result (λ it. IsCoded it (option_map (written_of ctx.now) (taken_of (verdict_of ctx.now body.now)))) }
+    ensures { IsCoded result (option_map (encoded_of ctx.now) (taken_of (verdict_of ctx.now body.now))) }
 {
+    are_octets(body);
     let mut view = UpdateView::empty();
     match view.judge(ctx, body) {
         Found::Take => whole(alloc, ctx, &view),
-        Found::Withdraw | Found::Reset(_) => Ok(Coded::Refused),
+        Found::Withdraw | Found::Reset(_) => Coded::Refused,
+    }
+}
+
+/// Tells what comes of a body.
+pub(crate) fn tell(coded: Coded, buffer: &mut [u8], len: &mut usize) -> u32
+    ensures { (found : Option (Option (List ℕ))) → IsCoded coded found → Writes found (record { status = result; before = buffer.old; behind = buffer.new; len_before = len.old; len_behind = len.new }) }
+{
+    match coded {
+        Coded::Refused => REFUSED,
+        Coded::Memory => MEMORY,
+        Coded::Unwritable => UNWRITABLE,
+        Coded::Octets(octets) => write(&octets, buffer, len),
     }
 }
 
@@ -85,12 +113,7 @@ pub extern "C" fn ristulva_encode(
     if body.len() > 4077 {
         return RANGE;
     }
-    match encoded(alloc, &context_of(ctx), body) {
-        Err(_) => MEMORY,
-        Ok(Coded::Refused) => REFUSED,
-        Ok(Coded::Unwritable) => UNWRITABLE,
-        Ok(Coded::Octets(octets)) => write(&octets, buffer, len),
-    }
+    tell(encoded(alloc, &context_of(ctx), body), buffer, len)
 }
 
 /// The same session, but for the width of its AS numbers.
@@ -102,7 +125,9 @@ pub(crate) fn with_as4(as4: bool, ctx: &Context) -> Context
 
 /// The message of an UPDATE that is accepted, as a speaker with AS numbers of two octets is told it, where it can be written.
 fn renarrowed(alloc: Global, ctx: &Context, view: &UpdateView<'_>) -> Result<Coded, AllocError>
-    requires { HasNoAs4 (update_value view.now).attrs }
+    requires plain { HasNoAs4 (update_value view.now).attrs }
+    requires wide { ctx.now.as4 ≡ true }
+    requires valid { invalid_of ctx.now (update_value view.now) ≡ None }
     ensures { IfOk result (λ it. IsCoded it (Some (narrowed_of ctx.now (update_value view.now)))) }
 {
     let mut update = view.own(alloc)?;
@@ -112,35 +137,30 @@ fn renarrowed(alloc: Global, ctx: &Context, view: &UpdateView<'_>) -> Result<Cod
 }
 
 /// The same, where it has no note.
-fn whole_narrowed(alloc: Global, ctx: &Context, view: &UpdateView<'_>) -> Result<Coded, AllocError>
-    requires { HasNoAs4 (update_value view.now).attrs }
-    ensures { IfOk result (λ it. IsCoded it (option_map (narrowed_of ctx.now) (without_notes (update_value view.now) (notes_value view.now)))) }
+fn whole_narrowed(alloc: Global, ctx: &Context, view: &UpdateView<'_>) -> Coded
+    requires plain { HasNoAs4 (update_value view.now).attrs }
+    requires wide { ctx.now.as4 ≡ true }
+    requires valid { invalid_of ctx.now (update_value view.now) ≡ None }
+    ensures { IsCoded result (option_map (narrowed_of ctx.now) (without_notes (update_value view.now) (notes_value view.now))) }
 {
     match view.notes().next() {
-        Some(_) => Ok(Coded::Refused),
-        None => renarrowed(alloc, ctx, view),
+        Some(_) => Coded::Refused,
+        None => or_memory(renarrowed(alloc, ctx, view)),
     }
 }
 
 /// What comes of a body of a session with AS numbers of four octets.
-fn narrowed(alloc: Global, ctx: &Context, body: &[u8]) -> Result<Coded, AllocError>
+fn narrowed(alloc: Global, ctx: &Context, body: &[u8]) -> Coded
     requires wide { ctx.now.as4 ≡ true }
     requires long { length body.now ≤ 4077 }
-    ensures { IfOk result (λ it. IsCoded it (option_map (narrowed_of ctx.now) (taken_of (verdict_of ctx.now body.now)))) }
+    ensures { IsCoded result (option_map (narrowed_of ctx.now) (taken_of (verdict_of ctx.now body.now))) }
 {
     are_octets(body);
     let mut view = UpdateView::empty();
     match view.judge(ctx, body) {
         Found::Take => whole_narrowed(alloc, ctx, &view),
-        Found::Withdraw | Found::Reset(_) => Ok(Coded::Refused),
+        Found::Withdraw | Found::Reset(_) => Coded::Refused,
     }
-}
-
-/// What a body has are octets: nothing is done.
-fn are_octets(body: &[u8])
-    ensures { AreOctets body.now }
-{
-    let _len = body.len();
 }
 
 /// Writes the UPDATE that a body is in some spelling, of a session with AS numbers of four octets, as a speaker with two is told it
@@ -159,10 +179,5 @@ pub extern "C" fn ristulva_narrow(
         return RANGE;
     }
     let wide = with_as4(true, &context_of(ctx));
-    match narrowed(alloc, &wide, body) {
-        Err(_) => MEMORY,
-        Ok(Coded::Refused) => REFUSED,
-        Ok(Coded::Unwritable) => UNWRITABLE,
-        Ok(Coded::Octets(octets)) => write(&octets, buffer, len),
-    }
+    tell(narrowed(alloc, &wide, body), buffer, len)
 }

@@ -1,15 +1,16 @@
 //! The notes on an UPDATE.
 
-ghost use Rattle.std.specs.Prelude.{◌≡◌, ◌+◌, drop, length};
+ghost use Rattle.std.specs.Prelude.{◌≡◌, ◌+◌, ◌≤◌, List, [], ◌∷◌, ◌++◌, length, map};
 ghost use Rattle.bgp_frame.specs.Kind.{IsLength};
 ghost use Rattle.bgp_frame.specs.declared.step.Step.TheVariants as step;
 ghost use Rattle.bgp_update.specs.View.{notes_value};
 ghost use Rattle.bgp_msg.specs.OutcomeView.{outcome_value};
 ghost use Rattle.ristulva_c.specs.Context.{context_of};
-ghost use Rattle.ristulva_c.specs.Notes.{first_of, number_of_why, note_told, notes_in, Notes, IsNoted};
+ghost use Rattle.ristulva_c.specs.declared.notes.ToldNote.{ToldNote};
+ghost use Rattle.ristulva_c.specs.Notes.{number_of_why, note_told, told_in, listed, Lists, IsNoted};
 
 use crate::context::{SessionContext, context_of};
-use crate::status::{END, INCOMPLETE, OK};
+use crate::status::{INCOMPLETE, OK, ROOM};
 use bgp_attr::Why;
 use bgp_frame::{Frame, Step, front};
 use bgp_msg::{OutcomeView, view_frame};
@@ -62,61 +63,76 @@ fn note_told(note: Note) -> ToldNote
     }
 }
 
-/// The note of an UPDATE behind so many others.
-#[tactic(auto, using(crate::proofs::NoteSteps::none_behind, crate::proofs::NoteSteps::one_behind))]
-fn nth_note(view: &UpdateView<'_>, index: u32) -> Option<Note>
-    ensures { result ≡ first_of (drop index (notes_value view.now)) }
+/// Writes a note behind so many others, where there is a place for it.
+fn put_note(list: &mut [ToldNote], count: usize, note: Note)
+    ensures { (before places : List ToldNote) → length before ≡ count → list.old ≡ listed before places → list.new ≡ listed (before ++ note_told note ∷ []) places }
 {
-    let mut notes = view.notes();
-    let mut left = index;
-    'skip: while left > 0 {
-        match notes.next() {
-            None => return None,
-            Some(_note) => left -= 1,
-        }
+    if count < list.len() {
+        list[count] = note_told(note);
     }
-    notes.next()
 }
 
-/// The note of an outcome behind so many others: only an UPDATE has some.
-fn note_at(outcome: &OutcomeView<'_>, index: u32) -> Option<Note>
-    ensures { result ≡ first_of (drop index (notes_in (outcome_value outcome.now))) }
+/// Writes the notes of an UPDATE to a list, as many as it has room for. Answers how many there are.
+fn list_view(view: &UpdateView<'_>, list: &mut [ToldNote]) -> usize
+    ensures list { list.new ≡ listed (map note_told (notes_value view.now)) list.old }
+    ensures count { result ≡ length (map note_told (notes_value view.now)) }
+    ensures few { result ≤ 1361 }
+{
+    let mut count = 0;
+    let mut left = view.notes();
+    'notes: while let Some(note) = left.next() {
+        put_note(list, count, note);
+        count += 1;
+    }
+    count
+}
+
+/// The same of an outcome: only an UPDATE has notes.
+fn list_outcome(outcome: &OutcomeView<'_>, list: &mut [ToldNote]) -> usize
+    ensures list { list.new ≡ listed (told_in (outcome_value outcome.now)) list.old }
+    ensures count { result ≡ length (told_in (outcome_value outcome.now)) }
+    ensures few { result ≤ 1361 }
 {
     match outcome {
-        OutcomeView::Update(view) => nth_note(view, index),
-        OutcomeView::Withdraw(view) => nth_note(view, index),
-        _ => None,
+        OutcomeView::Update(view) => list_view(view, list),
+        OutcomeView::Withdraw(view) => list_view(view, list),
+        _ => 0,
     }
 }
 
-/// Tells the note of a message behind so many others.
-fn tell_note(ctx: &SessionContext, frame: Frame<'_>, index: u32, out: &mut ToldNote) -> u32
+/// Lists the notes of a message, and tells how many there are.
+fn list_frame(
+    ctx: &SessionContext,
+    frame: Frame<'_>,
+    list: &mut [ToldNote],
+    count: &mut usize,
+) -> u32
     requires { IsLength frame.kind (19 + length frame.body.now) }
-    ensures { Notes (context_of ctx.now) index (step.Frame frame.entry) result out.old out.new }
+    ensures { Lists (context_of ctx.now) (step.Frame frame.entry) (record { status = result; before = list.old; behind = list.new; count_before = count.old; count_behind = count.new }) }
 {
+    let room = list.len();
     let mut view = UpdateView::empty();
-    match note_at(&view_frame(&context_of(ctx), frame, &mut view), index) {
-        None => END,
-        Some(note) => {
-            *out = note_told(note);
-            OK
-        }
-    }
+    let found = list_outcome(&view_frame(&context_of(ctx), frame, &mut view), list);
+    *count = found;
+    if found <= room { OK } else { ROOM }
 }
 
-/// Tells the note, behind so many others, of the message that octets begin with.
+/// Lists the notes of the message that octets begin with, as many as the list has room for, and tells how many there are.
 #[unsafe(no_mangle)]
-pub extern "C" fn ristulva_note(
+pub extern "C" fn ristulva_notes(
     ctx: &SessionContext,
     octets: &[u8],
-    index: u32,
-    out: &mut ToldNote,
+    list: &mut [ToldNote],
+    count: &mut usize,
 ) -> u32
-    ensures { IsNoted (context_of ctx.now) octets.now index result out.old out.new }
+    ensures { IsNoted (context_of ctx.now) octets.now (record { status = result; before = list.old; behind = list.new; count_before = count.old; count_behind = count.new }) }
 {
     match front(octets) {
         Step::More => INCOMPLETE,
-        Step::Frame(frame) => tell_note(ctx, frame, index, out),
-        Step::Fault(_) => END,
+        Step::Frame(frame) => list_frame(ctx, frame, list, count),
+        Step::Fault(_) => {
+            *count = 0;
+            OK
+        }
     }
 }

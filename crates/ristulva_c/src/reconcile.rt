@@ -9,9 +9,8 @@ ghost use Rattle.ristulva_c.specs.Encode.{taken_of, without_notes, IsCoded};
 ghost use Rattle.ristulva_c.specs.Reconcile.{rebuilt_attrs, reconciled_of, IsReconciled};
 
 use crate::context::{SessionContext, context_of};
-use crate::encode::{Coded, with_as4, written};
-use crate::status::{MEMORY, RANGE, REFUSED, UNWRITABLE};
-use crate::text::write;
+use crate::encode::{Coded, or_memory, tell, with_as4, written};
+use crate::status::RANGE;
 use bgp_open::Context;
 use bgp_update::{Attrs, Found, UpdateView, reconcile};
 use std::alloc::{AllocError, Global};
@@ -39,25 +38,25 @@ fn rebuilt(alloc: Global, ctx: &Context, view: &UpdateView<'_>) -> Result<Coded,
 }
 
 /// The same, where it has no note.
-fn whole_rebuilt(alloc: Global, ctx: &Context, view: &UpdateView<'_>) -> Result<Coded, AllocError>
-    ensures { IfOk result (λ it. IsCoded it (option_map (reconciled_of ctx.now) (without_notes (update_value view.now) (notes_value view.now)))) }
+fn whole_rebuilt(alloc: Global, ctx: &Context, view: &UpdateView<'_>) -> Coded
+    ensures { IsCoded result (option_map (reconciled_of ctx.now) (without_notes (update_value view.now) (notes_value view.now))) }
 {
     match view.notes().next() {
-        Some(_) => Ok(Coded::Refused),
-        None => rebuilt(alloc, ctx, view),
+        Some(_) => Coded::Refused,
+        None => or_memory(rebuilt(alloc, ctx, view)),
     }
 }
 
 /// What comes of a body of a session with AS numbers of two octets.
-fn reconciled(alloc: Global, ctx: &Context, body: &[u8]) -> Result<Coded, AllocError>
+fn reconciled(alloc: Global, ctx: &Context, body: &[u8]) -> Coded
     requires { length body.now ≤ 4077 }
-    ensures { IfOk result (λ it. IsCoded it (option_map (reconciled_of ctx.now) (taken_of (verdict_of (with_as4 false ctx.now) body.now)))) }
+    ensures { IsCoded result (option_map (reconciled_of ctx.now) (taken_of (verdict_of (with_as4 false ctx.now) body.now))) }
 {
     let narrow = with_as4(false, ctx);
     let mut view = UpdateView::empty();
     match view.judge(&narrow, body) {
         Found::Take => whole_rebuilt(alloc, ctx, &view),
-        Found::Withdraw | Found::Reset(_) => Ok(Coded::Refused),
+        Found::Withdraw | Found::Reset(_) => Coded::Refused,
     }
 }
 
@@ -76,10 +75,5 @@ pub extern "C" fn ristulva_reconcile(
     if body.len() > 4077 {
         return RANGE;
     }
-    match reconciled(alloc, &context_of(ctx), body) {
-        Err(_) => MEMORY,
-        Ok(Coded::Refused) => REFUSED,
-        Ok(Coded::Unwritable) => UNWRITABLE,
-        Ok(Coded::Octets(octets)) => write(&octets, buffer, len),
-    }
+    tell(reconciled(alloc, &context_of(ctx), body), buffer, len)
 }

@@ -1,86 +1,90 @@
 //! An UPDATE as a session sends it.
 
-ghost use Rattle.std.specs.Prelude.{◌≡◌, ◌<◌, ◌≤◌, ◌⊎◌, true, Some, length, IfOk};
+ghost use Rattle.std.specs.Prelude.{◌≡◌, ◌<◌, ◌≤◌, ◌⊎◌, true, None, Some, length};
 ghost use Rattle.bgp_update.specs.Verdict.{verdict_of};
 ghost use Rattle.bgp_update.specs.View.{update_value, notes_value};
-ghost use Rattle.bgp_machine.specs.Sending.{keepalive_on};
 ghost use Rattle.bgp_update.specs.Widths.{with_as4};
+ghost use Rattle.bgp_update.specs.Written.{invalid_of};
+ghost use Rattle.bgp_machine.specs.declared.state.State.TheVariants as state;
+ghost use Rattle.bgp_machine.specs.Sending.{keepalive_on};
 ghost use Rattle.ristulva_c.specs.Actions.{actions_told};
 ghost use Rattle.ristulva_c.specs.Encode.{taken_of, without_notes};
-ghost use Rattle.ristulva_c.specs.Sending.{number_of_fault, IsOutgoing, Sends, SendsBody};
+ghost use Rattle.ristulva_c.specs.Sending.{IsOutgoing, Sends, SendsBody};
+ghost use Rattle.ristulva_c.specs.Session.{WithRoom};
 
 use crate::actions::{Actions, actions_told};
 use crate::encode::with_as4;
 use crate::handle::SessionHandle;
+use crate::judge::are_octets;
 use crate::messages::{MESSAGE_MAX, put};
-use crate::status::{MEMORY, NO_SESSION, OK, RANGE, REFUSED, ROOM, STATE, UNWRITABLE};
-use bgp_machine::{ActionView, SendFault, Session, Timer};
+use crate::status::{MEMORY, MIXED, NO_SESSION, OK, RANGE, REFUSED, ROOM, STATE, UNWRITABLE};
+use bgp_machine::{ActionView, SendFault, Session, State, Timer};
 use bgp_open::Context;
 use bgp_update::{Found, Update, UpdateView};
-use std::alloc::{AllocError, Global};
+use std::alloc::Global;
 
 /// What comes of a body that is to be sent.
 #[derive(Drop)]
 pub(crate) enum Outgoing {
     /// It isn't accepted whole.
     Refused,
-    /// The session doesn't send it.
-    Kept(SendFault),
+    /// It has routes of several kinds.
+    Mixed,
+    /// Its message would be too long.
+    TooLong,
+    /// An allocation failed.
+    Memory,
     /// The message that the session sends.
     Octets(Vec<u8>),
 }
 
-/// The status for why an UPDATE isn't sent.
-fn number_of_fault(fault: SendFault) -> u32
-    ensures { result ≡ number_of_fault fault }
-{
-    match fault {
-        SendFault::NotEstablished => STATE,
-        SendFault::NotValid(_) => REFUSED,
-        SendFault::TooLong => UNWRITABLE,
-        SendFault::Memory => MEMORY,
-    }
-}
-
-/// What comes of an UPDATE.
-fn sent(alloc: Global, session: &Session, update: &Update) -> Outgoing
-    ensures { IsOutgoing session.now (Some update.now) result }
+/// What comes of an UPDATE that is valid, of a session that is Established.
+fn sent(alloc: Global, session: &Session, context: &Context, update: &Update) -> Outgoing
+    requires state { session.now.standing.state ≡ state.Established }
+    requires agreed { session.now.standing.context ≡ Some context.now }
+    requires valid { invalid_of (with_as4 true context.now) update.now ≡ None }
+    ensures { IsOutgoing session.now context.now (Some update.now) result }
 {
     let mut octets = Vec::new(alloc);
     match session.send(alloc, update, &mut octets) {
         Ok(_) => Outgoing::Octets(octets),
-        Err(fault) => Outgoing::Kept(fault),
+        // No other reason is left.
+        Err(SendFault::NotValid(_)) => Outgoing::Mixed,
+        Err(SendFault::TooLong) => Outgoing::TooLong,
+        Err(SendFault::Memory) => Outgoing::Memory,
+        Err(SendFault::NotEstablished) => Outgoing::Refused,
     }
 }
 
 /// What comes of an UPDATE that is accepted, where it has no note.
-fn whole(alloc: Global, session: &Session, view: &UpdateView<'_>) -> Result<Outgoing, AllocError>
-    ensures { IfOk result (λ it. IsOutgoing session.now (without_notes (update_value view.now) (notes_value view.now)) it) }
+fn whole(alloc: Global, session: &Session, context: &Context, view: &UpdateView<'_>) -> Outgoing
+    requires state { session.now.standing.state ≡ state.Established }
+    requires agreed { session.now.standing.context ≡ Some context.now }
+    requires valid { invalid_of (with_as4 true context.now) (update_value view.now) ≡ None }
+    ensures { IsOutgoing session.now context.now (without_notes (update_value view.now) (notes_value view.now)) result }
 {
     match view.notes().next() {
-        Some(_) => Ok(Outgoing::Refused),
-        None => {
-            let update = view.own(alloc)?;
-            Ok(sent(alloc, session, &update))
-        }
+        Some(_) => Outgoing::Refused,
+        None => match view.own(alloc) {
+            Ok(update) => sent(alloc, session, context, &update),
+            Err(_) => Outgoing::Memory,
+        },
     }
 }
 
 /// What comes of a body, with AS numbers of four octets.
-fn made_of(
-    alloc: Global,
-    session: &Session,
-    context: &Context,
-    body: &[u8],
-) -> Result<Outgoing, AllocError>
-    requires { length body.now ≤ 4077 }
-    ensures { IfOk result (λ it. IsOutgoing session.now (taken_of (verdict_of (with_as4 true context.now) body.now)) it) }
+fn made_of(alloc: Global, session: &Session, context: &Context, body: &[u8]) -> Outgoing
+    requires state { session.now.standing.state ≡ state.Established }
+    requires agreed { session.now.standing.context ≡ Some context.now }
+    requires short { length body.now ≤ 4077 }
+    ensures { IsOutgoing session.now context.now (taken_of (verdict_of (with_as4 true context.now) body.now)) result }
 {
+    are_octets(body);
     let wide = with_as4(true, context);
     let mut view = UpdateView::empty();
     match view.judge(&wide, body) {
-        Found::Take => whole(alloc, session, &view),
-        Found::Withdraw | Found::Reset(_) => Ok(Outgoing::Refused),
+        Found::Take => whole(alloc, session, context, &view),
+        Found::Withdraw | Found::Reset(_) => Outgoing::Refused,
     }
 }
 
@@ -95,6 +99,36 @@ fn rearmed(context: &Context) -> Actions
     }
 }
 
+/// Sends a body in the context of a session that is Established.
+fn send_body(
+    alloc: Global,
+    session: &Session,
+    context: &Context,
+    body: &[u8],
+    actions: &mut Actions,
+    message: &mut [u8],
+    len: &mut usize,
+) -> u32
+    requires state { session.now.standing.state ≡ state.Established }
+    requires agreed { session.now.standing.context ≡ Some context.now }
+    ensures { SendsBody session.now context.now body.now (record { status = result; old = Some session.now; new = Some session.now; actions_before = actions.old; actions_behind = actions.new; message_before = message.old; message_behind = message.new; len_before = len.old; len_behind = len.new }) }
+{
+    if body.len() > 4077 {
+        return RANGE;
+    }
+    match made_of(alloc, session, context, body) {
+        Outgoing::Refused => REFUSED,
+        Outgoing::Mixed => MIXED,
+        Outgoing::TooLong => UNWRITABLE,
+        Outgoing::Memory => MEMORY,
+        Outgoing::Octets(octets) => {
+            *actions = rearmed(context);
+            *len = put(&octets, message);
+            OK
+        }
+    }
+}
+
 /// Sends a body as the session sends it now.
 fn send(
     alloc: Global,
@@ -104,21 +138,15 @@ fn send(
     message: &mut [u8],
     len: &mut usize,
 ) -> u32
-    requires { length body.now ≤ 4077 }
     ensures { Sends (Some session.now) body.now (record { status = result; old = Some session.now; new = Some session.now; actions_before = actions.old; actions_behind = actions.new; message_before = message.old; message_behind = message.new; len_before = len.old; len_behind = len.new }) }
 {
-    let Some(context) = session.context() else {
-        return STATE;
-    };
-    match made_of(alloc, session, context, body) {
-        Err(_) => MEMORY,
-        Ok(Outgoing::Refused) => REFUSED,
-        Ok(Outgoing::Kept(fault)) => number_of_fault(fault),
-        Ok(Outgoing::Octets(octets)) => {
-            *actions = rearmed(context);
-            *len = put(&octets, message);
-            OK
-        }
+    match session.state() {
+        State::Established => match session.context() {
+            Some(context) => send_body(alloc, session, context, body, actions, message, len),
+            None => STATE,
+        },
+        State::Idle | State::Connect | State::Active | State::OpenSent | State::OpenConfirm =>
+            STATE,
     }
 }
 
@@ -132,13 +160,10 @@ pub extern "C" fn ristulva_session_send(
     message: &mut [u8],
     len: &mut usize,
 ) -> u32
-    ensures { SendsBody session.old.value body.now (record { status = result; old = session.old.value; new = session.new.value; actions_before = actions.old; actions_behind = actions.new; message_before = message.old; message_behind = message.new; len_before = len.old; len_behind = len.new }) }
+    ensures { WithRoom (Sends session.old.value body.now) (record { status = result; old = session.old.value; new = session.new.value; actions_before = actions.old; actions_behind = actions.new; message_before = message.old; message_behind = message.new; len_before = len.old; len_behind = len.new }) }
 {
     if message.len() < MESSAGE_MAX {
         return ROOM;
-    }
-    if body.len() > 4077 {
-        return RANGE;
     }
     let Some(session_body) = session.take(alloc) else {
         return NO_SESSION;

@@ -11,7 +11,7 @@ use crate::config::{SpeakerConfig, config_of};
 use crate::handle::SessionHandle;
 use crate::messages::{MESSAGE_MAX, send_first};
 use crate::states::{event_of, number_of_state};
-use crate::status::{MEMORY, NO_SESSION, OK, RANGE, ROOM};
+use crate::status::{CONFIG, IN_USE, MEMORY, NO_SESSION, OK, RANGE, ROOM};
 use bgp_machine::Session;
 use std::alloc::Global;
 
@@ -26,10 +26,10 @@ pub extern "C" fn ristulva_session_new(
 {
     if let Some(body) = session.take(alloc) {
         session.put(body);
-        return RANGE;
+        return IN_USE;
     }
     let Ok(config) = config_of(config) else {
-        return RANGE;
+        return CONFIG;
     };
     match Box::new(alloc, Session::new(config)) {
         Err(_) => MEMORY,

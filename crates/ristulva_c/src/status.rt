@@ -9,7 +9,7 @@ pub const NO_SESSION: u32 = 1;
 /// An allocation failed: nothing has changed, and the call can be made again.
 pub const MEMORY: u32 = 2;
 
-/// An argument is out of its range.
+/// A number, a span or a length is out of its range.
 pub const RANGE: u32 = 3;
 
 /// The octets are less than a message.
@@ -29,3 +29,12 @@ pub const UNWRITABLE: u32 = 8;
 
 /// The session isn't in a state for this, or the decoder has stopped.
 pub const STATE: u32 = 9;
+
+/// The configuration isn't one that is allowed.
+pub const CONFIG: u32 = 10;
+
+/// The handle has a session, or a decoder, already.
+pub const IN_USE: u32 = 11;
+
+/// The UPDATE has routes of several kinds (RFC 7606, section 5.1).
+pub const MIXED: u32 = 12;

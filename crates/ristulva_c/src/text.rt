@@ -1,13 +1,13 @@
 //! The printed form of a message.
 
-ghost use Rattle.std.specs.Prelude.{◌≡◌, ◌+◌, ◌≤◌, None, Some, length, option_map, IfOk};
+ghost use Rattle.std.specs.Prelude.{◌≡◌, ◌+◌, ◌≤◌, ℕ, List, Some, length, IfOk};
 ghost use Rattle.std.specs.String.{string_bytes};
 ghost use Rattle.bgp_frame.specs.Kind.{IsLength};
 ghost use Rattle.bgp_frame.specs.Step.{message_in};
 ghost use Rattle.bgp_msg.specs.Outcome.{out_of, of_fault};
 ghost use Rattle.bgp_text.specs.Outcome.{outcome_lines};
 ghost use Rattle.ristulva_c.specs.Context.{context_of};
-ghost use Rattle.ristulva_c.specs.Text.{HasLines, IsWritten, IsPrinted};
+ghost use Rattle.ristulva_c.specs.Text.{IsWritten, Prints, IsPrinted};
 
 use crate::context::{SessionContext, context_of};
 use crate::copied::copy_into;
@@ -47,28 +47,22 @@ fn fault_line(alloc: Global, place: u64, fault: HeadFault) -> Result<String, All
     Ok(text)
 }
 
-/// The lines of what octets begin with: none where that is less than a message.
-fn lines(
-    alloc: Global,
-    ctx: &SessionContext,
-    place: u64,
-    octets: &[u8],
-) -> Result<Option<String>, AllocError>
-    ensures { IfOk result (λ text. HasLines (context_of ctx.now) place octets.now (option_map string_bytes text)) }
-{
-    match front(octets) {
-        Step::More => Ok(None),
-        Step::Frame(frame) => Ok(Some(frame_lines(alloc, ctx, place, frame)?)),
-        Step::Fault(fault) => Ok(Some(fault_line(alloc, place, fault)?)),
-    }
-}
-
 /// Copies a text to the front of a buffer, and tells how long it is.
 pub(crate) fn write(text: &[u8], buffer: &mut [u8], len: &mut usize) -> u32
     ensures { IsWritten text.now (record { status = result; before = buffer.old; behind = buffer.new; len_before = len.old; len_behind = len.new }) }
 {
     *len = text.len();
     if copy_into(text, buffer) { OK } else { ROOM }
+}
+
+/// Writes lines, where memory was there for them.
+fn print(lines: Result<String, AllocError>, buffer: &mut [u8], len: &mut usize) -> u32
+    ensures { (text : List ℕ) → IfOk lines (λ it. string_bytes it ≡ text) → Prints (Some text) (record { status = result; before = buffer.old; behind = buffer.new; len_before = len.old; len_behind = len.new }) }
+{
+    match lines {
+        Ok(text) => write(text.as_bytes(), buffer, len),
+        Err(_) => MEMORY,
+    }
 }
 
 /// Writes the lines that `bgp show` prints of the message that octets begin with, where it stands at this place of its stream.
@@ -83,9 +77,9 @@ pub extern "C" fn ristulva_text(
 ) -> u32
     ensures { IsPrinted (context_of ctx.now) place octets.now (record { status = result; before = buffer.old; behind = buffer.new; len_before = len.old; len_behind = len.new }) }
 {
-    match lines(alloc, ctx, place, octets) {
-        Err(_) => MEMORY,
-        Ok(None) => INCOMPLETE,
-        Ok(Some(text)) => write(text.as_bytes(), buffer, len),
+    match front(octets) {
+        Step::More => INCOMPLETE,
+        Step::Frame(frame) => print(frame_lines(alloc, ctx, place, frame), buffer, len),
+        Step::Fault(fault) => print(fault_line(alloc, place, fault), buffer, len),
     }
 }

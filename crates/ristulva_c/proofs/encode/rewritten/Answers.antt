@@ -1,7 +1,9 @@
-use Rattle.std.proofs.Common.{Some, IfOk, subst}
+use Rattle.std.proofs.Common.{◌≡◌, ℕ, List, Option, Some, IfOk, subst}
 use Rattle.bgp_update.specs.declared.update.Update.{Update}
 use Rattle.ristulva_c.specs.Encode.{written_of, IsCoded}
 use Rattle.ristulva_c.proofs.encode.rewritten.Goals as goal
 
 pub returns : goal.returns
-returns c = subst (λ (u : Update). IfOk c.written.result (λ it. IsCoded it (Some (written_of c.args.ctx.now u)))) c.in_ok-update.ensures c.written.ensures
+returns c =
+    subst (λ (form : Option (List ℕ)). IfOk c.written.result (λ it. IsCoded it (Some form))) c.requires
+    (subst (λ (u : Update). IfOk c.written.result (λ it. IsCoded it (Some (written_of c.args.ctx.now u)))) c.in_ok-update.ensures c.written.ensures)
