@@ -9,9 +9,11 @@ use bgp_rows::contexts::{CASES, Case, Contexts};
 use bgp_rows::engines::put_engine;
 use bgp_rows::messages::put_messages;
 use bgp_rows::octets::{Octets, add_given};
+use bgp_rows::one_attribute::put_each;
 use bgp_rows::page::Page;
 use bgp_rows::paths::put_paths;
 use bgp_rows::row::Row;
+use bgp_rows::runs::put_run;
 use bgp_rows::trouble::Trouble;
 use bgp_rows::written::put_written;
 use std::alloc::Global;
@@ -22,6 +24,7 @@ fn put_case(alloc: Global, row: &Row<'_>, case: &Case, octets: &[u8]) -> Result<
     match row.kind {
         "messages" => put_messages(alloc, &case.context, octets),
         "attributes" => put_attributes(alloc, &case.context, case.has_nlri, octets),
+        "attribute" => put_each(alloc, &case.context, case.has_nlri, octets),
         "written" => put_written(alloc, row, &case.context, octets),
         "path" => put_paths(alloc, &case.context, octets),
         "changes" => put_changes(alloc, &case.context, octets),
@@ -41,7 +44,7 @@ fn put_cases(alloc: Global, row: &Row<'_>) -> Result<Page, Trouble> {
     let mut is_first = true;
     for number in 0..CASES {
         let case = Case::new(number);
-        let is_new = is_first || case.has_nlri == false || row.kind == "attributes";
+        let is_new = is_first || case.has_nlri == false || row.kind.starts_with("attribute");
         if contexts.allows_case(&case) && is_new {
             is_first = false;
             page = put_case(alloc, row, &case, octets.as_slice())?;
@@ -59,6 +62,7 @@ fn put_row(alloc: Global, row: &Row<'_>) -> Result<Page, Trouble> {
         "speaker" => put_speaker(alloc, row),
         "session" => put_session(alloc, row),
         "script" => put_script(alloc, row),
+        "run4" | "run6" => put_run(alloc, row),
         _ => put_cases(alloc, row),
     }
 }

@@ -2,6 +2,7 @@
 //! The words name the files; with no word the rows come on standard input. Prints each row that fails, and how many there were.
 #![tactic(auto)]
 
+mod copies;
 mod file;
 mod scripts;
 mod sessions;

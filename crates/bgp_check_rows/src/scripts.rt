@@ -1,11 +1,13 @@
 //! Two speakers that make a script's moves over memory.
 
+use crate::copies::{are_moves_copied, is_report_copied};
 use bgp_open::Config;
+use bgp_rows::copies::OTHERWISE;
 use bgp_rows::page::Page;
 use bgp_rows::row::Row;
 use bgp_rows::trouble::Trouble;
 use bgp_script::{SCRIPT_MAX, Script, ScriptFault, put_report, read_script};
-use bgp_session::{MemoryWire, run_pair};
+use bgp_session::{MemoryWire, Report, run_pair};
 use std::alloc::Global;
 
 /// The script of a row: its lines that begin with `|` and a blank, without these.
@@ -46,11 +48,22 @@ pub(crate) fn config_of(alloc: Global, settings: &str) -> Result<Config, Trouble
     }
 }
 
-/// Adds the report of a script's moves.
+/// Adds a report, and whether it isn't its copy.
+fn put_reported(alloc: Global, page: &mut Page, report: &Report) -> Result<(), Trouble> {
+    if !is_report_copied(alloc, report)? {
+        page.put(OTHERWISE)?;
+    }
+    Ok(put_report(&mut page.text, report)?)
+}
+
+/// Adds the report of a script's moves, and whether one isn't its copy.
 fn put_moves(alloc: Global, page: &mut Page, script: &Script) -> Result<(), Trouble> {
     let moves = script.moves.as_slice();
+    if !are_moves_copied(alloc, moves)? {
+        page.put(OTHERWISE)?;
+    }
     let report = run_pair(alloc, script.a, script.b, moves, &mut MemoryWire)?;
-    Ok(put_report(&mut page.text, &report)?)
+    put_reported(alloc, page, &report)
 }
 
 /// The report of a row's script, or its lowest faulty line.

@@ -1,7 +1,9 @@
 //! What a session does, as lines.
 
+use crate::copies::is_action_copied;
 use crate::speakers::put_context;
 use bgp_msg::Outcome;
+use bgp_rows::copies::OTHERWISE;
 use bgp_rows::page::Page;
 use bgp_rows::paths::put_path;
 use bgp_rows::trouble::Trouble;
@@ -77,13 +79,16 @@ fn put_action(alloc: Global, page: &mut Page, action: &Action) -> Result<(), Tro
     }
 }
 
-/// Adds the lines of actions.
+/// Adds the lines of actions, and which isn't its copy.
 pub(crate) fn put_actions(
     alloc: Global,
     page: &mut Page,
     actions: &Actions,
 ) -> Result<(), Trouble> {
     for action in actions.as_slice() {
+        if !is_action_copied(alloc, action)? {
+            page.put(OTHERWISE)?;
+        }
         put_action(alloc, page, action)?;
     }
     Ok(())

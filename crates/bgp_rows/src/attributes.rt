@@ -1,5 +1,6 @@
 //! The judgement of each attribute of a field, as the first of its type.
 
+use crate::copies::{OTHERWISE, is_judged_copied, is_update_copied};
 use crate::page::Page;
 use crate::trouble::Trouble;
 use bgp_attr::{Attr, Judged, JudgedView, Opaque, Tail, Tlv, TlvIter, judge, judge_view};
@@ -8,7 +9,7 @@ use bgp_update::{Attrs, Update};
 use bgp_wire::List;
 use std::alloc::{AllocError, Global};
 
-const TOO_LONG: Trouble = Trouble::Row("an attribute of more than 4075 octets");
+pub(crate) const TOO_LONG: Trouble = Trouble::Row("an attribute of more than 4075 octets");
 
 /// No attributes.
 pub fn no_attrs(alloc: Global) -> Attrs {
@@ -71,6 +72,14 @@ fn attrs_of(alloc: Global, attr: Attr) -> Result<Attrs, Trouble> {
     Ok(attrs)
 }
 
+/// Adds the lines of an UPDATE, and whether it isn't its copy.
+fn put_alone(alloc: Global, page: &mut Page, update: &Update) -> Result<(), Trouble> {
+    if !is_update_copied(alloc, update)? {
+        page.put(OTHERWISE)?;
+    }
+    page.put_update(alloc, update)
+}
+
 /// Adds the lines of a kept attribute.
 fn put_kept(alloc: Global, page: &mut Page, attr: Attr) -> Result<(), Trouble> {
     page.put(if is_partial(&attr) {
@@ -83,7 +92,7 @@ fn put_kept(alloc: Global, page: &mut Page, attr: Attr) -> Result<(), Trouble> {
         attrs: attrs_of(alloc, attr)?,
         nlri: List::new(alloc),
     };
-    page.put_update(alloc, &update)
+    put_alone(alloc, page, &update)
 }
 
 /// Adds what an attribute comes to.
@@ -106,13 +115,16 @@ fn put_judged(alloc: Global, page: &mut Page, judged: Judged) -> Result<(), Trou
     page.put("\n")
 }
 
-/// Adds what an attribute comes to as a view, where that isn't what it comes to.
+/// Adds what an attribute comes to as a view, where that isn't what it comes to, and whether that isn't its copy.
 fn put_otherwise(
     alloc: Global,
     page: &mut Page,
     judged: &Judged,
     view: &JudgedView<'_>,
 ) -> Result<(), Trouble> {
+    if !is_judged_copied(alloc, judged)? {
+        page.put(OTHERWISE)?;
+    }
     let viewed = view.own(alloc)?;
     if *judged == viewed {
         return Ok(());

@@ -5,12 +5,15 @@
 pub mod attributes;
 pub mod changes;
 pub mod contexts;
+pub mod copies;
 pub mod engines;
 pub mod messages;
 pub mod octets;
+pub mod one_attribute;
 pub mod page;
 pub mod paths;
 pub mod row;
+pub mod runs;
 pub mod sheet;
 pub mod trouble;
 pub mod written;

@@ -2,6 +2,7 @@
 
 ghost use Rattle.std.specs.Prelude.{◌≡◌, IfOk, IfSome};
 
+use crate::copies::{OTHERWISE, is_seen_copied};
 use crate::engines::put_shown;
 use crate::page::Page;
 use crate::trouble::Trouble;
@@ -14,8 +15,11 @@ use std::alloc::Global;
 /// What a refused call of a decoder left otherwise than it was.
 const CHANGED: &str = "a decoder that lacked memory isn't as it was\n";
 
-/// Adds the lines of all outcomes and of the end.
+/// Adds the lines of all outcomes and of the end, and whether they aren't their copies.
 fn put_seen(alloc: Global, page: &mut Page, seen: &Seen) -> Result<(), Trouble> {
+    if !is_seen_copied(alloc, seen)? {
+        page.put(OTHERWISE)?;
+    }
     for (len, outcome) in seen.outs.iter() {
         page.put_outcome(alloc, *len, outcome)?;
     }

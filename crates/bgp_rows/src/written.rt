@@ -10,7 +10,7 @@ use bgp_update::WriteFault;
 use std::alloc::Global;
 
 /// What a refused or failed writing left otherwise than it was.
-const CHANGED: &str = "octets were appended by a call that failed\n";
+pub(crate) const CHANGED: &str = "octets were appended by a call that failed\n";
 
 /// Writes a message, and again where allocation failed.
 fn encode_again(
@@ -31,6 +31,12 @@ fn encode_again(
     }
 }
 
+/// Adds what was written behind an octet that stays.
+pub(crate) fn put_behind(alloc: Global, page: &mut Page, out: &[u8]) -> Result<(), Trouble> {
+    page.put_digits(alloc, out.get(1..).unwrap_or(&[]))?;
+    page.put("\n")
+}
+
 /// Adds why a message isn't written.
 fn put_refusal(alloc: Global, page: &mut Page, fault: WriteFault) -> Result<(), Trouble> {
     match fault {
@@ -49,11 +55,7 @@ fn write_message(alloc: Global, ctx: &Context, message: &Message) -> Result<Page
     let mut page = Page::new(alloc);
     let mut out = Vec::from_slice(alloc, &[7])?;
     match encode_again(&mut page, ctx, message, &mut out)? {
-        Ok(()) => {
-            let (_first, octets) = out.as_slice().split_at(1.min(out.len()));
-            page.put_digits(alloc, octets)?;
-            page.put("\n")?;
-        }
+        Ok(()) => put_behind(alloc, &mut page, out.as_slice())?,
         Err(fault) => {
             if out.as_slice() != &[7][..] {
                 page.put(CHANGED)?;

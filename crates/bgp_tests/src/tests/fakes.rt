@@ -4,13 +4,14 @@ use bgp_host::{Clock, Connection, Observer};
 use bgp_machine::{State, Timer};
 use bgp_update::{PathInfo, Routes, Update};
 
-/// A connection that can be had or not, of which one send fails.
+/// A connection that can be had or not, of which one send fails; it knows how many octets the longest send had.
 #[derive(Drop)]
 pub(crate) struct Line {
     pub(crate) stands: bool,
     pub(crate) failing: u32,
     pub(crate) sends: u32,
     pub(crate) closes: u32,
+    pub(crate) longest: usize,
 }
 
 impl Line {
@@ -20,6 +21,7 @@ impl Line {
             failing,
             sends: 0,
             closes: 0,
+            longest: 0,
         }
     }
 }
@@ -29,7 +31,8 @@ impl Connection for Line {
         self.stands
     }
 
-    fn send(&mut self, _octets: &[u8]) -> bool {
+    fn send(&mut self, octets: &[u8]) -> bool {
+        self.longest = self.longest.max(octets.len());
         let send = self.sends;
         self.sends = send.saturating_add(1);
         send != self.failing

@@ -1,6 +1,7 @@
 //! What a host does where a send fails, where no connection can be had, and where octets come one by one.
 
 use crate::tests::fakes::{Line, NOTHING, Running, STILL, Told};
+use crate::tests::longest::repeated;
 use bgp_frame::{Kind, head};
 use bgp_host::Host;
 use bgp_machine::{Event, State, Timer};
@@ -33,11 +34,16 @@ fn host(stands: bool, failing: u32) -> Host<Line, Running, Told> {
     Host::new(own(), Line::new(stands, failing), STILL, NOTHING)
 }
 
-// Comes up, sends a KEEPALIVE, and stops: four sends, where none fails.
-fn live(rt: &impl AllocGlobal, host: &mut Host<Line, Running, Told>) -> Result<(), AllocError> {
+// Comes up.
+fn rise(rt: &impl AllocGlobal, host: &mut Host<Line, Running, Told>) -> Result<(), AllocError> {
     host.tell(Event::Start);
     host.hear(rt.alloc(), &own_frame(&peer()))?;
-    host.hear(rt.alloc(), &head(Kind::Keepalive, 0))?;
+    host.hear(rt.alloc(), &head(Kind::Keepalive, 0))
+}
+
+// Comes up, sends a KEEPALIVE, and stops: four sends, where none fails.
+fn live(rt: &impl AllocGlobal, host: &mut Host<Line, Running, Told>) -> Result<(), AllocError> {
+    rise(rt, host)?;
     host.tell(Event::Expired(Timer::Keepalive));
     host.tell(Event::Stop);
     Ok(())
@@ -105,4 +111,25 @@ fn octets_may_come_one_by_one(rt: HostRuntime) {
     assert!(&rt; (host.observer.routes, host.observer.gone) == (1, 1));
     assert!(&rt; host.observer.state == State::Established);
     assert!(&rt; host.connection.sends == 2);
+}
+
+// Sends an UPDATE of 2026 routes: whether it was sent.
+fn sends_much(rt: &impl AllocGlobal, host: &mut Host<Line, Running, Told>) -> Result<bool, Fail> {
+    let update = repeated(rt.alloc(), 2026)?;
+    Ok(host.send(rt.alloc(), &update).is_ok())
+}
+
+// Comes up, and sends it.
+fn live_long(rt: &impl AllocGlobal, host: &mut Host<Line, Running, Told>) -> Result<bool, Fail> {
+    rise(rt, host)?;
+    sends_much(rt, host)
+}
+
+#[test]
+fn a_message_of_4095_octets_is_sent(rt: HostRuntime) -> Result<(), Fail> {
+    let mut host = host(true, NEVER);
+    let is_sent = live_long(&rt, &mut host)?;
+    assert!(&rt; is_sent);
+    assert!(&rt; (host.connection.sends, host.connection.longest) == (3, 4095));
+    Ok(())
 }

@@ -7,16 +7,16 @@ use bgp_prefix::Prefix4;
 use bgp_update::WriteFault;
 
 /// The plain UPDATE with its route so many times.
-fn repeated(alloc: Global, count: usize) -> Result<Message, Fail> {
+pub(crate) fn repeated(alloc: Global, count: usize) -> Result<Update, Fail> {
     let ten = Prefix4::new(8, [10, 0, 0, 0]).ok_or("a prefix")?;
     let mut update = plain(alloc)?;
     update.nlri = List::from_vec(vec![in alloc; ten; count]?);
-    Ok(Message::Update(update))
+    Ok(update)
 }
 
 #[test]
 fn an_update_of_2026_routes_is_written(rt: HostRuntime) -> Result<(), Fail> {
-    let message = repeated(rt.alloc(), 2026)?;
+    let message = Message::Update(repeated(rt.alloc(), 2026)?);
     let mut out = vec![in rt.alloc(); 7u8]?;
     assert!(rt; encode(&session(true), &message, &mut out).is_ok());
     assert!(rt; out.len() == 1 + 4095);
@@ -25,7 +25,7 @@ fn an_update_of_2026_routes_is_written(rt: HostRuntime) -> Result<(), Fail> {
 
 #[test]
 fn an_update_of_2027_routes_is_too_long(rt: HostRuntime) -> Result<(), Fail> {
-    let message = repeated(rt.alloc(), 2027)?;
+    let message = Message::Update(repeated(rt.alloc(), 2027)?);
     let mut out = vec![in rt.alloc(); 7u8]?;
     assert!(rt; encode(&session(true), &message, &mut out) == Err(WriteFault::TooLong));
     assert!(rt; out.as_slice() == [7].as_slice());
