@@ -425,6 +425,25 @@ fn repeated() {
     assert_eq!(it.notes().next().unwrap().why.to_string(), "Repeated");
 }
 
+/// More notes than there is room for at first: each but the first is one, by its place.
+#[test]
+fn many_notes() {
+    let mut attributes = vec![origin(), path(), next_hop()];
+    attributes.extend(vec![attribute(0x40, 6, &[]); 1000]);
+    let octets = message(2, &body(&[], &attributes, &[8, 10]));
+    let it = taken(&AS4, &octets);
+    let first = octets.len() - 2 - 999 * 3;
+    assert_eq!(it.notes().len(), 999);
+    for (number, note) in it.notes().enumerate() {
+        let wanted = Note {
+            at: Some(first + 3 * number),
+            kind: 6,
+            why: Why::Repeated,
+        };
+        assert_eq!(note, wanted);
+    }
+}
+
 /// The lines of a message with as many prefixes as there is room for.
 #[test]
 fn long_lines() {

@@ -165,8 +165,8 @@ typedef struct {
 #define RISTULVA_NOTES 1361u
 
 /* Lists the notes on the first message of the octets: each attribute that is discarded, or for which the UPDATE is treated as a withdrawal,
- * in the order of their offsets, the one that is cut off, and then what is missing. They stand at the beginning of `notes`, a list with room
- * for `room` of them, whose rest is unchanged. `count` is how many there are: at most RISTULVA_NOTES, and 0 but for UPDATEs that are
+ * in the order of their offsets, the one that is cut off, and then what is missing. They stand at the beginning of `notes`, a list with
+ * room for `room` of them, whose rest is unchanged. `count` is how many there are: at most RISTULVA_NOTES, and 0 but for UPDATEs that are
  * accepted or treated as a withdrawal. The message is judged once, however many notes it has.
  *
  * RISTULVA_INCOMPLETE: nothing is written. RISTULVA_ROOM: `count` is written, and the first `room` notes. */
@@ -391,9 +391,9 @@ ristulva_status ristulva_decoder_held(ristulva_decoder *decoder, size_t *held);
  * session is memory of the library's, some 4.5 KB. A handle isn't copied, and its pointer isn't changed. It may go from thread to thread,
  * but no two calls are handed the same handle at one time; different sessions share nothing.
  *
- * Each call answers RISTULVA_NO_SESSION where the handle has none; the number of an event, and a buffer below RISTULVA_MESSAGE for
- * RISTULVA_ROOM, are checked before that. A status other than RISTULVA_OK says that nothing has changed, and, but where it is said below, that nothing
- * was written.
+ * Each call answers RISTULVA_NO_SESSION where the handle has none; RISTULVA_ROOM for a buffer below RISTULVA_MESSAGE, and RISTULVA_RANGE for
+ * the number of an event, come before that. A status other than RISTULVA_OK says that nothing has changed, and, but where it is said below,
+ * that nothing was written.
  */
 
 struct ristulva_session_body;
@@ -544,9 +544,9 @@ ristulva_status ristulva_session_open(ristulva_session *session, uint8_t *messag
  * For a peer with AS numbers of two octets it is written as ristulva_narrow does. The session stays as it is. It allocates.
  *
  * RISTULVA_ROOM: `room` is below RISTULVA_MESSAGE. RISTULVA_STATE: the session isn't Established, whatever the body is. RISTULVA_RANGE: the
- * body has more than RISTULVA_BODY octets. RISTULVA_REFUSED: it isn't accepted whole. RISTULVA_MIXED: it is, and has routes of several kinds.
- * RISTULVA_UNWRITABLE: routes of one kind, whose message would have more than RISTULVA_MESSAGE octets. RISTULVA_MEMORY: only where the body
- * is accepted whole. */
+ * body has more than RISTULVA_BODY octets. RISTULVA_REFUSED: it isn't accepted whole. RISTULVA_MIXED: it is, and has routes of several
+ * kinds. RISTULVA_UNWRITABLE: it has routes of one kind, and the message would have more than RISTULVA_MESSAGE octets. RISTULVA_MEMORY: only
+ * where it is accepted whole. */
 ristulva_status ristulva_session_send(ristulva_session *session, const uint8_t *body, size_t len, ristulva_actions *actions, uint8_t *message,
                                       size_t room, size_t *written);
 

@@ -1,5 +1,5 @@
 -- How many notes there are: an attribute has three octets at least.
-use Rattle.std.proofs.Common.{◌≡◌, ℕ, suc, ◌+◌, ◌-◌, ◌*◌, ◌≤◌, Bool, true, false, cond, List, [], ◌∷◌, ◌++◌, length, map, refl, ap, ◌∙◌, arith}
+use Rattle.std.proofs.Common.{◌≡◌, ℕ, suc, ◌+◌, ◌-◌, ◌*◌, ◌≤◌, Bool, true, false, cond, List, [], ◌∷◌, ◌++◌, length, refl, ap, ◌∙◌, arith}
 use Rattle.std.specs.List.{flat_map}
 use Rattle.std.proofs.lemmas.List.{length-append, length-map}
 use Rattle.bgp_wire.specs.OctetSet.{none_of_them, also}
@@ -16,7 +16,7 @@ use Rattle.bgp_update.specs.declared.view.UpdateView.{UpdateView}
 use Rattle.bgp_update.specs.Body.{parts_value}
 use Rattle.bgp_update.specs.Marks.{Mark, marks_behind, cut_mark, placed_tlvs, field_marks}
 use Rattle.bgp_update.specs.Notes.{why_not, mark_notes, missing_note, missing_notes, missing_of}
-use Rattle.bgp_update.specs.Parts.{Parts, attributes_at, has_nlri}
+use Rattle.bgp_update.specs.Parts.{attributes_at, has_nlri}
 use Rattle.bgp_update.specs.View.{view_marks, notes_value}
 
 -- ---- attributes
