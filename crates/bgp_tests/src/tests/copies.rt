@@ -6,7 +6,7 @@ use bgp_frame::{Notification, head};
 use bgp_msg::{Kind, Message, Outcome, decode_all};
 use bgp_open::{Capability, Config, read_open};
 use bgp_session::{Action, MemoryWire, Move, Report, SendFault, Side, Timer, run_pair};
-use bgp_update::{Invalid, Routes, Verdict, View, reconcile, view_update};
+use bgp_update::{Invalid, PathInfo, Routes, Verdict, View, reconcile, view_update};
 use bgp_wire::TryCopy;
 use std::process::Abort;
 
@@ -346,6 +346,17 @@ fn announcements(rt: HostRuntime) -> Result<(), Fail> {
     let info = reconcile(rt.alloc(), &update.attrs)?;
     let action = Action::Announce(update, info);
     assert_action_copied(&rt, &action, 9)?;
+    Ok(())
+}
+
+/// Withdrawn routes have no path, and so no aggregator.
+#[test]
+fn no_path(rt: HostRuntime) -> Result<(), Fail> {
+    let info = PathInfo {
+        path: None,
+        aggregator: None,
+    };
+    assert_copied(&rt, &info)?;
     Ok(())
 }
 
