@@ -172,7 +172,8 @@ class Crate:
 
     def traits(self):
         """The public traits' functions."""
-        return [it for source in self.sources for it in source.functions if it.block and it.block.is_trait and self.is_exported(source, it.block.owner)]
+        functions = [(source, it) for source in self.sources for it in source.functions if it.block and it.block.is_trait]
+        return [it for source, it in functions if self.is_exported(source, it.block.owner)]
 
     def calls(self, traits):
         """The public calls, in the order of the files; `traits` are the public traits of all crates, whose methods types have."""
