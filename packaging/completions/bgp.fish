@@ -1,7 +1,7 @@
 # Completion of bgp for fish. Made by packaging/make-completions from the help of the program.
 complete -c bgp -f
-complete -c bgp -n __fish_use_subcommand -a show -d 'Print what each message comes to'
-complete -c bgp -n __fish_use_subcommand -a check -d 'Count what the messages come to'
+complete -c bgp -n __fish_use_subcommand -a show -d 'Print each message'\''s outcome'
+complete -c bgp -n __fish_use_subcommand -a check -d 'Count the outcomes'
 complete -c bgp -n __fish_use_subcommand -a narrow -d 'Rewrite a session for a speaker with two octets for an AS number'
 complete -c bgp -n __fish_use_subcommand -a to-hex -d 'Print each message as one line of digits'
 complete -c bgp -n __fish_use_subcommand -a from-hex -d 'Write the octets of hexadecimal text'
@@ -9,7 +9,7 @@ complete -c bgp -n __fish_use_subcommand -a loop -d 'Run two speakers against ea
 complete -c bgp -n __fish_use_subcommand -a help -d 'Print this message or the help of the given subcommand(s)'
 complete -c bgp -n __fish_use_subcommand -s h -l help -d 'Print help'
 complete -c bgp -n __fish_use_subcommand -s V -l version -d 'Print version'
-complete -c bgp -n '__fish_seen_subcommand_from show' -l hex -d 'Read hexadecimal text in place of octets'
+complete -c bgp -n '__fish_seen_subcommand_from show' -l hex -d 'Read hexadecimal text instead of octets'
 complete -c bgp -n '__fish_seen_subcommand_from show' -l as4 -d 'Both speakers use AS numbers of four octets'
 complete -c bgp -n '__fish_seen_subcommand_from show' -l ip4 -d 'IPv4 routes may stand in multiprotocol attributes'
 complete -c bgp -n '__fish_seen_subcommand_from show' -l ip6 -d 'IPv6 routes may stand in multiprotocol attributes'
@@ -17,7 +17,7 @@ complete -c bgp -n '__fish_seen_subcommand_from show' -l internal -d 'Both speak
 complete -c bgp -n '__fish_seen_subcommand_from show' -l opens -r -F -d 'Agree by both OPENs: FILE has the other direction'\''s octets'
 complete -c bgp -n '__fish_seen_subcommand_from show' -l json -d 'Print each message as an object of JSON'
 complete -c bgp -n '__fish_seen_subcommand_from show' -s h -l help -d 'Print help'
-complete -c bgp -n '__fish_seen_subcommand_from check' -l hex -d 'Read hexadecimal text in place of octets'
+complete -c bgp -n '__fish_seen_subcommand_from check' -l hex -d 'Read hexadecimal text instead of octets'
 complete -c bgp -n '__fish_seen_subcommand_from check' -l as4 -d 'Both speakers use AS numbers of four octets'
 complete -c bgp -n '__fish_seen_subcommand_from check' -l ip4 -d 'IPv4 routes may stand in multiprotocol attributes'
 complete -c bgp -n '__fish_seen_subcommand_from check' -l ip6 -d 'IPv6 routes may stand in multiprotocol attributes'

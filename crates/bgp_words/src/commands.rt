@@ -93,7 +93,7 @@ fn with_judging<'a>(alloc: Global, command: Command<'a>) -> Result<Command<'a>, 
         alloc,
         command,
         "hex",
-        "Read hexadecimal text in place of octets",
+        "Read hexadecimal text instead of octets",
     )?;
     let command = with_flag(
         alloc,
@@ -185,7 +185,7 @@ pub(crate) fn show<'a>(alloc: Global) -> Result<Command<'a>, AllocError>
     ensures shape { IfOk result (λ c. app_of c ≡ show_command) }
     ensures local { IfOk result (λ c. (out-Command c).has_globals ≡ false) }
 {
-    let show = named(alloc, "show", "Print what each message comes to", SHOW_HELP);
+    let show = named(alloc, "show", "Print each message's outcome", SHOW_HELP);
     with_flag(
         alloc,
         with_judging(alloc, show)?,
@@ -199,12 +199,7 @@ pub(crate) fn check<'a>(alloc: Global) -> Result<Command<'a>, AllocError>
     ensures shape { IfOk result (λ c. app_of c ≡ with_judging (new_app (codes "check"))) }
     ensures local { IfOk result (λ c. (out-Command c).has_globals ≡ false) }
 {
-    let check = named(
-        alloc,
-        "check",
-        "Count what the messages come to",
-        CHECK_HELP,
-    );
+    let check = named(alloc, "check", "Count the outcomes", CHECK_HELP);
     with_judging(alloc, check)
 }
 

@@ -208,7 +208,7 @@ ristulva_status ristulva_narrow(const ristulva_context *context, const uint8_t *
                                 size_t *written);
 
 /* The other way round (RFC 6793, section 4.2.3): the UPDATE of a session with AS numbers of two octets as speakers with four see it. The
- * path and the aggregator that AS4_PATH and AS4_AGGREGATOR give back stand in the place of all four. `body` has AS numbers of two octets,
+ * path and the aggregator that AS4_PATH and AS4_AGGREGATOR give back replace all four. `body` has AS numbers of two octets,
  * whatever `as4` of the context says, and the message has them of four. RISTULVA_UNWRITABLE, and nothing is written: the message can't be
  * written, or would have more than RISTULVA_MESSAGE octets. */
 ristulva_status ristulva_reconcile(const ristulva_context *context, const uint8_t *body, size_t len, uint8_t *message, size_t room,
@@ -234,7 +234,7 @@ typedef struct {
     ristulva_span value;
 } ristulva_attribute;
 
-/* Gives the attributes of a field one after another, kept or not, up to the end or to one that is cut off: begin at the span `attributes`
+/* Gives the attributes of a field one after another, discarded or not, up to the end or to one that is cut off: begin at the span `attributes`
  * of a verdict. RISTULVA_END: no whole attribute is left. RISTULVA_RANGE: `at` is above `end`, or `end` above `len`. */
 ristulva_status ristulva_next_attribute(const uint8_t *octets, size_t len, ristulva_attributes *cursor, ristulva_attribute *out);
 
@@ -255,16 +255,15 @@ typedef struct {
  * neither 1 nor 2. */
 ristulva_status ristulva_next_prefix(const uint8_t *octets, size_t len, ristulva_prefixes *cursor, ristulva_prefix *out);
 
-/* Tells how many prefixes a cursor still gives, which stays where it is: for who counts routes, or makes room for them. RISTULVA_RANGE, and
- * nothing is written: as ristulva_next_prefix has it. */
+/* Counts the prefixes that are left; the cursor isn't moved. RISTULVA_RANGE, and nothing is written: as ristulva_next_prefix has it. */
 ristulva_status ristulva_count_prefixes(const uint8_t *octets, size_t len, const ristulva_prefixes *cursor, size_t *count);
 
 /* Begins a cursor at the prefixes of MP_REACH_NLRI (type 14; RFC 4760, section 3), of which `value` is the value, and tells where the
  * next hop lies: 4 octets for IPv4; 16 for IPv6, or 32 where a link-local address stands behind the global one (RFC 2545).
  *
  * RISTULVA_RANGE, and nothing is written: the value isn't within the octets, has no room for what stands in front of the prefixes, or isn't
- * of IPv4 or IPv6 unicast. Whether the family is in use, and the next hop of a length that it may have, is the verdict's to say: both are
- * so where the UPDATE is accepted, and no note of it tells of this attribute. */
+ * of IPv4 or IPv6 unicast. Whether the family is in use, and the next hop of a length that it may have, isn't tested here:
+ * both hold where the UPDATE is accepted without a note on this attribute. */
 ristulva_status ristulva_reached(const uint8_t *octets, size_t len, const ristulva_span *value, ristulva_span *next_hop,
                                  ristulva_prefixes *cursor);
 
@@ -391,8 +390,8 @@ ristulva_status ristulva_decoder_held(ristulva_decoder *decoder, size_t *held);
  * session is memory of the library's, some 4.5 KB. A handle isn't copied, and its pointer isn't changed. It may go from thread to thread,
  * but no two calls are handed the same handle at one time; different sessions share nothing.
  *
- * Each call answers RISTULVA_NO_SESSION where the handle has none; RISTULVA_ROOM for a buffer below RISTULVA_MESSAGE, and RISTULVA_RANGE for
- * the number of an event, come before that. A status other than RISTULVA_OK says that nothing has changed, and, but where it is said below,
+ * Each call answers RISTULVA_NO_SESSION where the handle has none; RISTULVA_ROOM (a buffer below RISTULVA_MESSAGE) and RISTULVA_RANGE (the
+ * number of an event) are checked before that. A status other than RISTULVA_OK says that nothing has changed, and, but where it is said below,
  * that nothing was written.
  */
 
@@ -416,7 +415,7 @@ typedef struct {
 /* Makes a session in Idle. It allocates what the session keeps.
  *
  * RISTULVA_IN_USE, the handle has a session; else RISTULVA_CONFIG, the configuration isn't one that is allowed above; RISTULVA_MEMORY, only
- * where neither is so. */
+ * where neither applies. */
 ristulva_status ristulva_session_new(const ristulva_config *config, ristulva_session *session);
 
 /* Frees a session: the handle has none then. Nothing is sent and nothing closed by that: RISTULVA_EVENT_STOP comes before it. */
@@ -448,7 +447,7 @@ ristulva_status ristulva_session_state(ristulva_session *session, uint8_t *state
 #define RISTULVA_DO_ARM 6u               /* start `timer`, or start it anew, with `seconds` */
 #define RISTULVA_DO_DISARM 7u            /* stop `timer` */
 #define RISTULVA_DO_ANNOUNCE 8u          /* the UPDATE that was heard announces and withdraws routes */
-#define RISTULVA_DO_WITHDRAW 9u          /* the routes of the UPDATE that was heard are withdrawn, all of them (RFC 7606, section 2) */
+#define RISTULVA_DO_WITHDRAW 9u          /* treat-as-withdraw: all routes of the UPDATE that was heard (RFC 7606, section 2) */
 #define RISTULVA_DO_FLUSH 10u            /* all routes of the peer are gone with the session */
 
 typedef struct {
