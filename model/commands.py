@@ -125,7 +125,7 @@ def told(words):
 
 
 def report(context, given, is_hex, lines_of):
-    """What show or check comes to: lines_of gives the lines in front of the end's, and those that a bad character leaves standing."""
+    """The outcome of show or check: lines_of gives the lines in front of the end's, and those that a bad character leaves standing."""
     octets, bad = octets_in(given) if is_hex else (given, None)
     outcomes, end = seen(context, octets)
     lines, standing = lines_of(outcomes)
@@ -182,7 +182,7 @@ def narrow(context, given):
 
 
 def first_open(octets):
-    """What the OPEN says that octets begin with, or None: their first message isn't whole, or no OPEN that is taken."""
+    """What the OPEN says that octets begin with, or None: their first message isn't a complete, valid OPEN."""
     found, _, _ = frames(octets)
     answer = read_open(found[0][1][19:]) if found and found[0][1][18] == OPEN else ("none",)
     return answer[1:] if answer[0] == "open" else None
@@ -199,7 +199,7 @@ def agreed(ours, theirs):
 
 
 def by_opens(command, theirs, given, is_hex=False):
-    """What a command comes to in the context that both OPENs agree on; `theirs` is the other direction."""
+    """The outcome of a command in the context that both OPENs agree on; `theirs` is the other direction."""
     octets, bad = octets_in(given) if is_hex else (given, None)
     found, _, fault = frames(octets)
     if bad is not None and not found and not fault:

@@ -141,7 +141,7 @@ def has_zero(path):
 
 
 def judge_routes(context, kind, value, whole):
-    """What an MP_REACH_NLRI or MP_UNREACH_NLRI with right flags comes to."""
+    """The judgement of an MP_REACH_NLRI or MP_UNREACH_NLRI with right flags."""
     fault = reset(3, 9, whole)
     if len(value) < (5 if kind == MP_REACH else 3):
         return fault
@@ -159,7 +159,7 @@ def judge_routes(context, kind, value, whole):
 
 
 def judge_path(context, kind, value, partial):
-    """What an AS_PATH or AS4_PATH with right flags comes to."""
+    """The judgement of an AS_PATH or AS4_PATH with right flags."""
     if kind == AS_PATH:
         path, why = read_path(4 if context.as4 else 2, (1, 2), value)
         why = why or ("AsZero" if has_zero(path) else None)
@@ -174,7 +174,7 @@ def judge_path(context, kind, value, partial):
 
 
 def judge_aggregator(width, value, partial):
-    """What an AGGREGATOR or AS4_AGGREGATOR with right flags comes to."""
+    """The judgement of an AGGREGATOR or AS4_AGGREGATOR with right flags."""
     if len(value) != width + 4:
         return ("discard", "Length")
     asn = number(value[:width])
@@ -186,7 +186,7 @@ def numbers_of(octets):
 
 
 def judge(context, has_nlri, flags, kind, value, whole):
-    """What the first attribute of its type comes to: keep, discard, withdraw or reset."""
+    """The judgement of the first attribute of its type: keep, discard, withdraw or reset."""
     optional, transitive, partial = flags >> 7 & 1, flags >> 6 & 1, flags >> 5 & 1
     if kind not in FLAGS:
         return ("keep", (transitive, partial, value)) if optional else reset(3, 2, whole)

@@ -115,7 +115,7 @@ static size_t pull_all(size_t at, size_t len, size_t count)
     }
 }
 
-/* The stream in pieces of lengths that are told one after another: all of it comes to what the whole does. */
+/* The stream in pieces of lengths that are told one after another: the outcomes are those of the whole. */
 static void try_pieces(size_t first, uint32_t most)
 {
     size_t at = 0, count = 0, held = 77;
