@@ -1,0 +1,7 @@
+-- Cleaned messages and streams: what is handed on, and what a hearer learns of it.
+pub mod Opens
+pub mod Updates
+pub mod Clean
+pub mod Lesson
+pub mod Stream
+pub mod Laws

@@ -1,0 +1,51 @@
+-- What goes on of an OPEN: the capabilities that are understood, so that nothing is agreed on that the stream would then hold.
+use Rattle.std.specs.Prelude.{ℕ, Bool, true, false, ◌||◌, List, [], ◌∷◌, if◌then◌else◌}
+use Rattle.std.specs.List.{list_any}
+use Rattle.bgp_numbers.specs.declared.afi.TheConstants.{IPV4, IPV6}
+use Rattle.bgp_open.specs.declared.capability.Capability.{Capability}
+use Rattle.bgp_open.specs.declared.capability.Capability.TheVariants.{Multi, As4, Other}
+use Rattle.bgp_open.specs.declared.message.Open.{Open}
+use Rattle.bgp_open.specs.Peer.{is_unicast}
+
+-- which of the three were there before: IPv4 unicast, IPv6 unicast, AS numbers of four octets
+pub record Seen : Type 0 where
+  pub ip4 : Bool
+  pub ip6 : Bool
+  pub as4 : Bool
+
+abbrev pub none_seen : Seen
+none_seen = record { ip4 = false; ip6 = false; as4 = false }
+
+-- the capability is one of the three (RFC 4760, section 8; RFC 6793, section 3), and the first of its kind
+abbrev pub goes_on : Seen → Capability → Bool
+goes_on seen (Multi family subsequent) =
+    (if seen.ip4 then false else is_unicast IPV4 (Multi family subsequent)) || (if seen.ip6 then false else is_unicast IPV6 (Multi family subsequent))
+goes_on seen (As4 number) = if seen.as4 then false else true
+goes_on seen (Other code value) = false
+
+abbrev pub seen_behind : Seen → Capability → Seen
+seen_behind seen (Multi family subsequent) =
+    record seen { ip4 = seen.ip4 || is_unicast IPV4 (Multi family subsequent); ip6 = seen.ip6 || is_unicast IPV6 (Multi family subsequent) }
+seen_behind seen (As4 number) = record seen { as4 = true }
+seen_behind seen (Other code value) = seen
+
+-- those that go on, in their order
+abbrev pub understood_behind : Seen → List Capability → List Capability
+understood_behind seen [] = []
+understood_behind seen (c ∷ later) =
+    if goes_on seen c then c ∷ understood_behind (seen_behind seen c) later else understood_behind (seen_behind seen c) later
+
+abbrev pub understood : List Capability → List Capability
+understood caps = understood_behind none_seen caps
+
+abbrev pub cleaned_open : Open → Open
+cleaned_open o = record o { caps = understood o.caps }
+
+abbrev pub is_multi : Capability → Bool
+is_multi (Multi family subsequent) = true
+is_multi _ = false
+
+-- it offers families, and neither IPv4 nor IPv6 unicast. Without a family a speaker takes IPv4 unicast for granted (RFC 4760, section 8), so none
+-- may be left of some
+abbrev pub lacks_family : Open → Bool
+lacks_family o = if list_any is_multi o.caps then (if list_any (is_unicast IPV4) o.caps || list_any (is_unicast IPV6) o.caps then false else true) else false
