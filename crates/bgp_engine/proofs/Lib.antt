@@ -9,4 +9,5 @@ pub mod Digits
 pub mod Narrows
 pub mod FirstOpens
 pub mod Openings
+pub mod Startings
 pub mod Speakers

@@ -60,14 +60,14 @@ on_err (Err e) P p = p
 -- ---- octets of the first message
 
 -- where that waits, all were fed
-all_fed : (held octets : List ℕ) (n : ℕ) → frame.Takes held octets n → Waits (held ++ take n octets) → take n octets ≡ octets
+pub all_fed : (held octets : List ℕ) (n : ℕ) → frame.Takes held octets n → Waits (held ++ take n octets) → take n octets ≡ octets
 all_fed held octets n t waits =
     elim t.all_or_stops [
       | inl all ↦ take_all n octets (omega (arith, all))
       | inr stops ↦ let w = Stops-wanted (held ++ take n octets) stops in absurd (omega (arith, w.1))
     ]
 
-fed_whole : (held octets : List ℕ) (n : ℕ) (later : List ℕ) → (held ++ take n octets) ++ (drop n octets ++ later) ≡ held ++ (octets ++ later)
+pub fed_whole : (held octets : List ℕ) (n : ℕ) (later : List ℕ) → (held ++ take n octets) ++ (drop n octets ++ later) ≡ held ++ (octets ++ later)
 fed_whole held octets n later =
     append_assoc held (take n octets) (drop n octets ++ later) ∙ ap (λ (x : List ℕ). held ++ x) (sym (append_assoc (take n octets) (drop n octets) later))
     ∙ ap (λ (x : List ℕ). held ++ (x ++ later)) (take-append-drop n octets)

@@ -15,7 +15,7 @@ use Rattle.bgp_engine.specs.steps.HexSteps.{pending, place}
 use Rattle.bgp_engine.specs.Output.{IsFront, AppendsFront, FailsWithin}
 use Rattle.bgp_engine.specs.Report.{Report, behind, IsWaiting}
 use Rattle.bgp_engine.specs.steps.Engine.{GoesOn, Rests, IsTotal}
-use Rattle.bgp_engine.specs.Run.{Io, Reports, stream_of, bad_of, IsAllRead, Finishes, IsBadAt, Fails, Answers}
+use Rattle.bgp_engine.specs.Run.{IsFaultOf, Io, Reports, stream_of, bad_of, IsAllRead, Finishes, IsBadAt, Fails, Answers}
 use Rattle.bgp_engine.specs.steps.Blocks.{MeetsBlock, MeetsBad, MeetsOver, WritesAll, WritesNone, Finished}
 use Rattle.bgp_engine.proofs.HexPairs.{spelled-nil, spelled-digit, spelled-octets, bad_from-nil, bad_from-digit}
 
@@ -118,26 +118,18 @@ module _ {reports0 : Reports} {hex : Bool} {r0 w0 : Option (List ℕ)} where
       all_read = all_read a.report a.reported;
     }
 
-    pub fails_narrow : (n : ℕ) → ((q : Report) → reports [] q → IsAllRead hex text r q.end_of) → WritesAll reports told w w1 (Err (fault.Narrow n)) → Fails reports0 hex (io r0 w0 r w1) (fault.Narrow n)
-    fails_narrow n all_read a = record {
+    -- the stream went no further, and all of its report was written
+    pub fails_behind : (f : ToolFault)
+        → ((report : Report) (all : List ℕ) → all ≡ report.lines ++ report.last → report.answer ≡ Err f → IsAllRead hex text r report.end_of → IsFaultOf hex text r report all f)
+        → ((q : Report) → reports [] q → IsAllRead hex text r q.end_of) → WritesAll reports told w w1 (Err f) → Fails reports0 hex (io r0 w0 r w1) f
+    fails_behind f is all_read a = record {
       text = text;
       read = s.read;
       report = behind (written ++ told) a.report;
       reported = s.lifts a.report a.reported;
       written = written ++ (told ++ a.report.last);
       wrote = Appends-trans w0 w w1 written (told ++ a.report.last) s.wrote a.wrote;
-      is_fault = (all_of a.report a.none, a.answers, all_read a.report a.reported);
-    }
-
-    pub fails_no_open : ((q : Report) → reports [] q → IsAllRead hex text r q.end_of) → WritesAll reports told w w1 (Err fault.NoOpen) → Fails reports0 hex (io r0 w0 r w1) fault.NoOpen
-    fails_no_open all_read a = record {
-      text = text;
-      read = s.read;
-      report = behind (written ++ told) a.report;
-      reported = s.lifts a.report a.reported;
-      written = written ++ (told ++ a.report.last);
-      wrote = Appends-trans w0 w w1 written (told ++ a.report.last) s.wrote a.wrote;
-      is_fault = (all_of a.report a.none, a.answers, all_read a.report a.reported);
+      is_fault = is (behind (written ++ told) a.report) (written ++ (told ++ a.report.last)) (all_of a.report a.none) a.answers (all_read a.report a.reported);
     }
 
     pub fails_memory : WritesNone reports w w1 → Fails reports0 hex (io r0 w0 r w1) fault.Memory
@@ -159,8 +151,9 @@ module _ {reports0 : Reports} {hex : Bool} {r0 w0 : Option (List ℕ)} where
     finished (Err (fault.BadHex n)) all_read a = absurd a
     finished (Err (fault.Script n)) all_read a = absurd a
     finished (Err fault.Net) all_read a = absurd a
-    finished (Err (fault.Narrow n)) all_read a = fails_narrow n all_read a
-    finished (Err fault.NoOpen) all_read a = fails_no_open all_read a
+    finished (Err (fault.Narrow n)) all_read a = fails_behind (fault.Narrow n) (λ report all whole answer read. (whole, answer, read)) all_read a
+    finished (Err (fault.Clean n why)) all_read a = fails_behind (fault.Clean n why) (λ report all whole answer read. (a.0, whole, answer, read)) all_read a.1
+    finished (Err fault.NoOpen) all_read a = fails_behind fault.NoOpen (λ report all whole answer read. (whole, answer, read)) all_read a
 
   -- nothing was read yet
   pub Reading-none : (going : Type 0) (reader : HexText) → going → Rests reports0 → reader.pending ≡ None → reader.seen ≡ 0 → Reading reports0 hex r0 w0 reports0 going r0 w0 reader 0

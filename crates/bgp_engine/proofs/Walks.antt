@@ -30,7 +30,7 @@ use Rattle.bgp_engine.specs.Run.{Reports}
 use Rattle.bgp_engine.specs.declared.fault.ToolFault.TheVariants as fault
 use Rattle.bgp_engine.specs.steps.Walking.{Walking, closing, reports_by, reports_of, IsCounting, IsGoing, IsReady, IsReadyBy, StandsBy, Moves, place_behind, ended_by, room_by, room_of, walking}
 
-messages_in-bound : (n : ℕ) → messages_in n ≤ 1
+pub messages_in-bound : (n : ℕ) → messages_in n ≤ 1
 messages_in-bound n = one_at_most (n == 0)
   where
     one_at_most : (b : Bool) → (if b then 0 else 1) ≤ 1
@@ -40,7 +40,7 @@ messages_in-bound n = one_at_most (n == 0)
 same_report : (l l1 k k1 : List ℕ) (e : End) (a a1 : Result Tally ToolFault) → l ≡ l1 → k ≡ k1 → a ≡ a1 → (let r : Report = record { lines = l; last = k; end_of = e; answer = a } in r) ≡ (record { lines = l1; last = k1; end_of = e; answer = a1 })
 same_report l l1 k k1 e a a1 p q s = rw (p, q, s) refl
 
-drop-front : (a b : List ℕ) (n : ℕ) → drop (length a + n) (a ++ b) ≡ drop n b
+pub drop-front : (a b : List ℕ) (n : ℕ) → drop (length a + n) (a ++ b) ≡ drop n b
 drop-front [] b n = ap (λ (k : ℕ). drop k b) (let same : 0 + n ≡ n = omega arith in same)
 drop-front (x ∷ a) b n = ap (λ (k : ℕ). drop k (x ∷ (a ++ b))) (let same : suc (length a) + n ≡ suc (length a + n) = omega arith in same) ∙ drop-front a b n
 
@@ -126,7 +126,7 @@ module _ {Outcome : Type 0} (rules : Rules Outcome) where
 
 -- ---- the steps of a walk
 
-drop_none : (k : ℕ) → drop {A = ℕ} k [] ≡ []
+pub drop_none : (k : ℕ) → drop {A = ℕ} k [] ≡ []
 drop_none zero = refl
 drop_none (suc k) = refl
 
@@ -146,6 +146,7 @@ some_end (Some e) is = (e, refl)
 closes_by : (reports : Reports) (t0 t1 : List ℕ) (answer : Result Tally ToolFault) → IsAnswer answer → ClosesBy reports t0 t1 answer → Closes reports t0 t1 answer
 closes_by reports t0 t1 (Ok tally) is c = c
 closes_by reports t0 t1 (Err (fault.Narrow n)) is c = c
+closes_by reports t0 t1 (Err (fault.Clean n why)) is c = (is, c)
 closes_by reports t0 t1 (Err fault.NoOpen) is c = absurd is
 closes_by reports t0 t1 (Err fault.Memory) is c = absurd is
 closes_by reports t0 t1 (Err fault.Read) is c = absurd is

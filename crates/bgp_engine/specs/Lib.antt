@@ -11,7 +11,9 @@ pub mod Check
 pub mod ToHex
 pub mod FromHex
 pub mod Narrow
+pub mod Clean
 pub mod File
 pub mod Agree
 pub mod Opens
+pub mod First
 pub mod steps

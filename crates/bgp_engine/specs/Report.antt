@@ -3,6 +3,8 @@ use Rattle.std.specs.Prelude.{ℕ, List, ◌++◌, Result}
 use Rattle.bgp_frame.specs.declared.end.End.{End}
 use Rattle.bgp_frame.specs.declared.end.End.TheVariants as end
 use Rattle.bgp_engine.specs.declared.tally.Tally.{Tally}
+use Rattle.bgp_engine.specs.declared.fault.Stop.{Stop}
+use Rattle.bgp_engine.specs.declared.fault.Stop.TheVariants as stop
 use Rattle.bgp_engine.specs.declared.fault.ToolFault.{ToolFault}
 
 -- what is written of the stream's messages, what is written last, how the stream ends, and the answer
@@ -15,6 +17,12 @@ pub record Report : Type 0 where
 -- the same behind lines that were written before
 abbrev pub behind : List ℕ → Report → Report
 behind lines r = record { lines = lines ++ r.lines; last = r.last; end_of = r.end_of; answer = r.answer }
+
+-- nothing is said of why a cleaned stream ends before its stream does, but that a message is incomplete: who answers adds the words
+abbrev pub IsWordless : Stop → Type 0
+IsWordless stop.Unsaid = Unit {0}
+IsWordless stop.Incomplete = Unit {0}
+IsWordless (stop.At why) = ⊥
 
 -- the stream goes no further, whatever follows
 abbrev pub IsOver : End → Type 0

@@ -7,7 +7,7 @@ use Rattle.bgp_engine.specs.declared.fault.ToolFault.{ToolFault}
 use Rattle.bgp_engine.specs.declared.fault.ToolFault.TheVariants as fault
 use Rattle.bgp_engine.specs.HexText.{spelled, bad_from}
 use Rattle.bgp_engine.specs.Output.{IsFront}
-use Rattle.bgp_engine.specs.Report.{Report, IsOver, IsWaiting}
+use Rattle.bgp_engine.specs.Report.{Report, IsOver, IsWaiting, IsWordless}
 
 -- what a reader still has and a writer holds, before a call and behind it
 pub record Io : Type 0 where
@@ -57,7 +57,7 @@ pub record IsBadAt (hex : Bool) (text : List ℕ) (reader_new : Option (List ℕ
   pub not_over : IsWaiting e
 
 -- what each fault says of the text, of its stream's report, and of what was written: a front of the lines; of all where the writer
--- failed; all of it where the stream can't be narrowed, or has no context, and then there is nothing to write
+-- failed; all of it where the stream can't be narrowed or cleaned, or has no context, and then there is nothing to write
 abbrev pub IsFaultOf : Bool → List ℕ → Option (List ℕ) → Report → List ℕ → ToolFault → Type 0
 IsFaultOf hex text reader_new report written fault.Memory = IsFront written report.lines
 IsFaultOf hex text reader_new report written fault.Read = IsFront written report.lines
@@ -65,6 +65,8 @@ IsFaultOf hex text reader_new report written fault.Write = IsFront written (repo
 IsFaultOf hex text reader_new report written (fault.BadHex n) = (written ≡ report.lines) × IsBadAt hex text reader_new report.end_of n
 IsFaultOf hex text reader_new report written (fault.Narrow n) =
     (written ≡ report.lines ++ report.last) × (report.answer ≡ Err (fault.Narrow n)) × IsAllRead hex text reader_new report.end_of
+IsFaultOf hex text reader_new report written (fault.Clean n why) =
+    IsWordless why × (written ≡ report.lines ++ report.last) × (report.answer ≡ Err (fault.Clean n why)) × IsAllRead hex text reader_new report.end_of
 IsFaultOf hex text reader_new report written fault.NoOpen =
     (written ≡ report.lines ++ report.last) × (report.answer ≡ Err fault.NoOpen) × IsAllRead hex text reader_new report.end_of
 IsFaultOf hex text reader_new report written (fault.Script n) = ⊥

@@ -24,6 +24,7 @@ abbrev pub status_of : Result Tally ToolFault → ℕ
 status_of (Ok tally) = if is_clean tally then 0 else 1
 status_of (Err (fault.BadHex n)) = 1
 status_of (Err (fault.Narrow n)) = 1
+status_of (Err (fault.Clean n why)) = 1
 status_of (Err fault.NoOpen) = 1
 status_of (Err (fault.Script n)) = 1
 status_of (Err fault.Memory) = 3

@@ -7,3 +7,5 @@ pub mod Pages
 pub mod Walking
 pub mod PageSteps
 pub mod Opening
+pub mod Starting
+pub mod Cleaning

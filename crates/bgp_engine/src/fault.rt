@@ -3,8 +3,23 @@
 ghost use Rattle.std.specs.Prelude.{◌≡◌};
 ghost use Rattle.bgp_engine.specs.declared.fault.ToolFault.TheVariants.{Memory};
 
+use bgp_clean::CleanFault;
 use std::alloc::{AllocError, AllocFailed};
 use thiserror::Error;
+
+/// Why a cleaned stream ends before its stream does.
+#[derive(Clone, Copy, Debug, PartialEq, Eq, Error)]
+pub enum Stop {
+    /// It isn't said.
+    #[error("unsaid")]
+    Unsaid,
+    /// The message is incomplete.
+    #[error("an incomplete message")]
+    Incomplete,
+    /// Nothing is handed on of the message.
+    #[error("{0}")]
+    At(CleanFault),
+}
 
 /// A fault of the tool itself. Its text follows `bgp: ` on standard error.
 #[derive(Clone, Copy, Debug, PartialEq, Eq, Error)]
@@ -24,6 +39,9 @@ pub enum ToolFault {
     /// The message, the faulty header or the incomplete message at this offset of the stream, counted from 0, can't be narrowed.
     #[error("cannot narrow at {0}")]
     Narrow(u64),
+    /// Nothing is handed on of the message, the faulty header or the incomplete message at this offset of the stream, counted from 0.
+    #[error("cannot clean at {0}: {1}")]
+    Clean(u64, Stop),
     /// This line of a script is the first at fault, counted from 1.
     #[error("script line {0}")]
     Script(u32),

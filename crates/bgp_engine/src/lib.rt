@@ -4,6 +4,7 @@
 mod agreeing;
 mod checked;
 mod class;
+mod cleaning;
 mod copied;
 mod engine;
 mod fault;
@@ -20,13 +21,15 @@ mod page;
 mod running;
 mod shown;
 mod shown_json;
+mod starting;
 mod tally;
 mod walk;
 
 pub use bgp_frame::End;
 pub use checked::{check, check_within};
+pub use cleaning::{clean_by_opens, clean_by_opens_within, clean_stream, clean_within};
 pub use copied::{from_hex, from_hex_within};
-pub use fault::ToolFault;
+pub use fault::{Stop, ToolFault};
 pub use hexed::{to_hex, to_hex_within};
 pub use narrowing::{narrow_stream, narrow_within};
 pub use opens::{

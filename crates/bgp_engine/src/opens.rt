@@ -16,7 +16,7 @@ use std::alloc::Global;
 use std::io::{Read, Write};
 
 /// What a page has for a context before one is agreed on: nothing is judged in it.
-const UNKNOWN: Context = Context {
+pub(crate) const UNKNOWN: Context = Context {
     internal: false,
     as4: true,
     ip4: false,

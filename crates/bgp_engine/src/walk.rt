@@ -19,11 +19,11 @@ use std::io::{Read, Write};
 #[derive(Drop)]
 pub(crate) struct Walk<P> {
     pub(crate) page: P,
-    framer: Framer,
+    pub(crate) framer: Framer,
     /// Where in the stream the octets begin that are held.
     place: u64,
     tally: Tally,
-    ended: Option<End>,
+    pub(crate) ended: Option<End>,
 }
 
 impl<P: Page> Walk<P> {
@@ -58,7 +58,7 @@ impl<P: Page> Walk<P> {
     }
 
     // Counts a message of so many octets.
-    fn count(&mut self, len: u16, class: Class)
+    pub(crate) fn count(&mut self, len: u16, class: Class)
         requires place { self.old.place < 2 ^ 61 }
         requires messages { self.old.tally.messages ≤ self.old.place }
         requires took { self.old.tally.took ≤ self.old.place }
@@ -95,7 +95,7 @@ impl<P: Page> Walk<P> {
     }
 
     // Judges what is held, or what octets begin with where nothing is held. Answers how many of the octets it took.
-    fn judge(&mut self, octets: &[u8]) -> Result<usize, AllocError>
+    pub(crate) fn judge(&mut self, octets: &[u8]) -> Result<usize, AllocError>
         requires counting { IsCounting (walk_of P.rules self.old) }
         requires room { self.old.place + length self.old.framer + length octets.now ≤ 2 ^ 60 }
         ensures within { IfOk result (λ n. n ≤ length octets.now) }

@@ -9,7 +9,7 @@ use Rattle.bgp_engine.specs.declared.running.Met.{Met}
 use Rattle.bgp_engine.specs.declared.running.Met.TheVariants as met
 use Rattle.bgp_engine.specs.steps.HexSteps.{pending, place}
 use Rattle.bgp_engine.specs.Output.{IsFront, AppendsFront}
-use Rattle.bgp_engine.specs.Report.{Report}
+use Rattle.bgp_engine.specs.Report.{Report, IsWordless}
 use Rattle.bgp_engine.specs.steps.Engine.{Takes}
 use Rattle.bgp_engine.specs.Run.{Reports, stream_of, bad_of}
 
@@ -80,4 +80,5 @@ Finished reports told old new (Err (fault.BadHex n)) = ⊥
 Finished reports told old new (Err (fault.Script n)) = ⊥
 Finished reports told old new (Err fault.Net) = ⊥
 Finished reports told old new (Err (fault.Narrow n)) = WritesAll reports told old new (Err (fault.Narrow n))
+Finished reports told old new (Err (fault.Clean n why)) = IsWordless why × WritesAll reports told old new (Err (fault.Clean n why))
 Finished reports told old new (Err fault.NoOpen) = WritesAll reports told old new (Err fault.NoOpen)

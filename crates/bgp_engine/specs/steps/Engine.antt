@@ -4,7 +4,7 @@ use Rattle.bgp_wire.specs.Octets.{AreOctets}
 use Rattle.bgp_engine.specs.declared.tally.Tally.{Tally}
 use Rattle.bgp_engine.specs.declared.fault.ToolFault.{ToolFault}
 use Rattle.bgp_engine.specs.declared.fault.ToolFault.TheVariants as fault
-use Rattle.bgp_engine.specs.Report.{Report, behind, IsOver, IsWaiting}
+use Rattle.bgp_engine.specs.Report.{Report, behind, IsOver, IsWaiting, IsWordless}
 use Rattle.bgp_engine.specs.Run.{Reports}
 
 -- however the stream goes on behind the octets, what is reported of it from old on is what is reported from new on, behind the lines
@@ -58,4 +58,5 @@ Closes reports told_old told_new (Err (fault.BadHex n)) = ⊥
 Closes reports told_old told_new (Err (fault.Script n)) = ⊥
 Closes reports told_old told_new (Err fault.Net) = ⊥
 Closes reports told_old told_new (Err (fault.Narrow n)) = ClosesBy reports told_old told_new (Err (fault.Narrow n))
+Closes reports told_old told_new (Err (fault.Clean n why)) = IsWordless why × ClosesBy reports told_old told_new (Err (fault.Clean n why))
 Closes reports told_old told_new (Err fault.NoOpen) = ClosesBy reports told_old told_new (Err fault.NoOpen)

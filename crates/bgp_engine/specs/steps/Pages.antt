@@ -7,6 +7,7 @@ use Rattle.bgp_engine.specs.declared.class.Class.TheVariants as class
 use Rattle.bgp_engine.specs.declared.tally.Tally.{Tally}
 use Rattle.bgp_engine.specs.declared.fault.ToolFault.{ToolFault}
 use Rattle.bgp_engine.specs.declared.fault.ToolFault.TheVariants as fault
+use Rattle.bgp_engine.specs.Report.{IsWordless}
 use Rattle.bgp_engine.specs.Rules.{Rules}
 
 -- the stream ends behind it
@@ -27,8 +28,9 @@ module _ {Outcome : Type 0} (rules : Rules Outcome) (told_old told_new : List �
     pub told : told_new ≡ told_old ++ rules.line place 0 (rules.judge.of_fault f)
     pub counts : rules.class (rules.judge.of_fault f) ≡ class.Reset
 
--- an engine's own answers: the counts, or where the stream can't be narrowed
+-- an engine's own answers: the counts, or where the stream can't be narrowed or cleaned
 abbrev pub IsAnswer : Result Tally ToolFault → Type 0
 IsAnswer (Ok tally) = Unit {0}
 IsAnswer (Err (fault.Narrow n)) = Unit {0}
+IsAnswer (Err (fault.Clean n why)) = IsWordless why
 IsAnswer (Err _) = ⊥

@@ -1,0 +1,286 @@
+-- Steps of an engine that takes the first message of its stream by a rule of its own.
+use Rattle.std.proofs.Common.{◌≡◌, ℕ, ◌+◌, ◌-◌, ◌≤◌, ◌^◌, Bool, true, false, List, [], ◌∷◌, ◌++◌, length, take, drop, Option, Some, None, Result, Ok, Err, refl, sym, ap, subst, ◌∙◌, append_assoc, arith, inl, inr}
+use Rattle.std.specs.Prelude.{is_some}
+use Rattle.std.proofs.lemmas.List.{append-nil, length-append, length-drop, length-take, take-append-drop, take_all}
+use Rattle.bgp_wire.specs.Octets.{AreOctets}
+use Rattle.bgp_wire.proofs.OctetLemmas.{AreOctets-nil, AreOctets-append, AreOctets-drop}
+use Rattle.bgp_frame.specs.declared.end.End.{End}
+use Rattle.bgp_frame.specs.declared.end.End.TheVariants as end
+use Rattle.bgp_frame.specs.declared.fault.HeadFault.{HeadFault}
+use Rattle.bgp_frame.specs.Frame.{Message, octets_of, IsFrame, Waits}
+use Rattle.bgp_frame.specs.Head.{head_of}
+use Rattle.bgp_frame.specs.Takes as frame
+use Rattle.bgp_frame.proofs.FrameLemmas.{head_of-append, length-IsFrame, Stops-wanted}
+use Rattle.bgp_frame.proofs.Pulls.{nothing_waits}
+use Rattle.bgp_engine.specs.declared.class.Class.TheVariants as class
+use Rattle.bgp_engine.specs.declared.fault.Stop.TheVariants as stop
+use Rattle.bgp_engine.specs.declared.fault.ToolFault.{ToolFault}
+use Rattle.bgp_engine.specs.declared.fault.ToolFault.TheVariants as fault
+use Rattle.bgp_engine.specs.declared.tally.Tally.{Tally}
+use Rattle.bgp_engine.specs.declared.opening.Stage.{Stage}
+use Rattle.bgp_engine.specs.declared.opening.Stage.TheVariants as stage
+use Rattle.bgp_engine.specs.Clean.{without_words}
+use Rattle.bgp_engine.specs.File.{first_message, is_part}
+use Rattle.bgp_engine.specs.First.{Start, Starts, ReportedAt, ReportedAs, ReportedFrom, ReportedWith, ReportedWithout}
+use Rattle.bgp_engine.specs.Opens.{unagreed, unagreed_end}
+use Rattle.bgp_engine.specs.Report.{Report, behind, IsOver, IsWaiting}
+use Rattle.bgp_engine.specs.Rules.{Rules, counted, report_of, IsReport}
+use Rattle.bgp_engine.specs.Run.{Answers, Io, Reports}
+use Rattle.bgp_engine.specs.Tally.{no_tally}
+use Rattle.bgp_engine.specs.steps.Engine.{Closes, ClosesBy, Rests, Takes}
+use Rattle.bgp_engine.specs.steps.Starting.{BeginsWithout, GoesOn, IsFirst, IsFresh, Settles, SettlesAt, reports_in, starting}
+use Rattle.bgp_engine.specs.steps.Walking.{Walking, IsCounting, IsGoing, ended_by, place_behind, reports_of, walking}
+use Rattle.bgp_engine.proofs.FirstOpens.{waits_part, frame_first, frame_whole, fault_whole, fault_first}
+use Rattle.bgp_engine.proofs.Openings.{all_fed, fed_whole}
+use Rattle.bgp_engine.proofs.Walks.{drop-front, messages_in-bound, report_wait, some_report}
+
+drop_front : (a b : List ℕ) → drop (length a) (a ++ b) ≡ b
+drop_front a b = ap (λ (n : ℕ). drop n (a ++ b)) (let same : length a ≡ length a + 0 = omega arith in same) ∙ drop-front a b 0
+
+pub no_end : (o : Option End) → is_some o ≡ false → o ≡ None
+no_end None is = refl
+no_end (Some e) is = absurd cc
+
+module _ {Outcome : Type 0} (starts : Starts Outcome) where
+  -- ---- what is reported of a whole stream
+
+  part_first : (s : List ℕ) → Waits s → first_message s ≡ None
+  part_first s waits = rw (waits_part s waits) refl
+
+  pub total : (s : List ℕ) → AreOctets s → (r : Report) × ReportedFrom starts s r
+  total s octets = by_first (first_message s)
+    where
+      by_text : (rules : Rules Outcome) (len : ℕ) (text : Option (List ℕ)) → (r : Report) × ReportedAs rules text len s r
+      by_text rules len None = some_report rules 0 no_tally s octets
+      by_text rules len (Some text) =
+          let q = some_report rules len (counted no_tally len class.Took) (drop len s) (AreOctets-drop len s octets) in
+          (behind text q.0, record { report = q.0; rest = q.1; told = refl })
+
+      by_start : (len : ℕ) (o : Option (Start Outcome)) → (r : Report) × ReportedWith o len s r
+      by_start len None = (unagreed (unagreed_end s), refl)
+      by_start len (Some x) = by_text x.rules len x.first
+
+      by_none : (o : Option (Start Outcome)) → (r : Report) × ReportedWithout o s r
+      by_none None = (unagreed (unagreed_end s), refl)
+      by_none (Some x) = some_report x.rules 0 no_tally s octets
+
+      by_first : (o : Option Message) → (r : Report) × ReportedAt starts o s r
+      by_first None = by_none (starts None)
+      by_first (Some m) = by_start (length (octets_of m)) (starts (Some m))
+
+  -- ---- the first message is there
+
+  module _ (held : List ℕ) (m : Message) (f : IsFrame m held) (later : List ℕ) where
+    pub plain : (rules : Rules Outcome) (r : Report) → starts (Some m) ≡ Some (record { rules = rules; first = None }) → IsReport rules 0 no_tally (held ++ later) r → ReportedFrom starts (held ++ later) r
+    plain rules r e q = rw (frame_first m held f later, e) q
+
+    pub handed : (rules : Rules Outcome) (text : List ℕ) (r : Report) → starts (Some m) ≡ Some (record { rules = rules; first = Some text })
+        → IsReport rules (length held) (counted no_tally (length held) class.Took) later r → ReportedFrom starts (held ++ later) (behind text r)
+    handed rules text r e q =
+        rw (frame_first m held f later, e)
+        (record {
+          report = r;
+          rest = subst (λ (n : ℕ). IsReport rules n (counted no_tally n class.Took) (drop n (held ++ later)) r) (ap length f.octets)
+              (subst (λ (x : List ℕ). IsReport rules (length held) (counted no_tally (length held) class.Took) x r) (sym (drop_front held later)) q);
+          told = refl;
+        })
+
+    pub unagreed_with : starts (Some m) ≡ None → ReportedFrom starts (held ++ later) (unagreed end.Reset)
+    unagreed_with e = rw (frame_first m held f later, e, frame_whole m held f later) refl
+
+  -- ---- none can be read
+
+  module _ (s : List ℕ) (none : first_message s ≡ None) where
+    pub without : (rules : Rules Outcome) (r : Report) → BeginsWithout true (starts None) rules → IsReport rules 0 no_tally s r → ReportedFrom starts s r
+    without rules r b q = rw (none, b.1) (subst (λ (x : Rules Outcome). IsReport x 0 no_tally s r) (sym b.2) q)
+
+    pub unagreed_without : (part : Bool) → is_part s ≡ part → starts None ≡ None → ReportedFrom starts s (unagreed (unagreed_end s))
+    unagreed_without part is e = rw (none, e) refl
+
+  -- ---- how a stream goes on behind what is held
+
+  module _ (rules rules1 : Rules Outcome) (held : List ℕ) (place : ℕ) (tally : Tally) (ended : Option End) (c : IsCounting (walking rules held place tally ended)) (fresh : IsFresh (walking rules held place tally ended)) where
+    abbrev pub held_walk : Walking Outcome
+    held_walk = walking rules1 held place tally ended
+
+    abbrev pub handed_walk : ℕ → Walking Outcome
+    handed_walk len = walking rules1 [] (place_behind place len class.Took) (counted tally len class.Took) (ended_by class.Took)
+
+    counts_held : IsCounting held_walk
+    counts_held = record { open_ended = c.open_ended; octets = c.octets; place = c.place; messages = c.messages; took = c.took; withdrawn = c.withdrawn; resets = c.resets }
+
+    from_front : (later : List ℕ) (r : Report) → reports_of held_walk later r → IsReport rules1 0 no_tally (held ++ later) r
+    from_front later r q = subst (λ (w : Walking Outcome). reports_of w later r) (ap (λ (w : Walking Outcome). walking rules1 w.held w.place w.tally w.ended) fresh) q
+
+    module _ (told : List ℕ) (m : Message) (f : IsFrame m held) where
+      pub settles_unagreed : (told1 : List ℕ) → (starts (Some m) ≡ None) × (told1 ≡ told) → Settles stage.Unagreed starts held told told1 held_walk
+      settles_unagreed told1 b = record { lines = []; told = b.1 ∙ sym (append-nil told); settles = (λ later. unagreed_with held m f later b.0, refl) }
+
+      pub settles_plain : (told1 : List ℕ) → (starts (Some m) ≡ Some (record { rules = rules1; first = None })) × (told1 ≡ told) → Settles stage.Agreed starts held told told1 held_walk
+      settles_plain told1 b = record {
+        lines = [];
+        told = b.1 ∙ sym (append-nil told);
+        settles = (counts_held, λ later r q. plain held m f later rules1 r b.0 (from_front later r q));
+      }
+
+      place_zero : place ≡ 0
+      place_zero = ap (λ (w : Walking Outcome). w.place) fresh
+
+      tally_none : tally ≡ no_tally
+      tally_none = ap (λ (w : Walking Outcome). w.tally) fresh
+
+      from_behind : (later : List ℕ) (r : Report) → reports_of (handed_walk (length held)) later r → IsReport rules1 (length held) (counted no_tally (length held) class.Took) later r
+      from_behind later r q =
+          subst (λ (n : ℕ). IsReport rules1 n (counted no_tally (length held) class.Took) later r) (let same : place + length held ≡ length held = omega (arith, place_zero) in same)
+          (subst (λ (t : Tally). IsReport rules1 (place + length held) (counted t (length held) class.Took) later r) tally_none q)
+
+      counts_handed : IsCounting (handed_walk (length held))
+      counts_handed =
+          let some = length-IsFrame m held f in
+          let one = messages_in-bound (length held) in
+          record {
+            open_ended = refl;
+            octets = AreOctets-nil;
+            place = omega (arith, c.place);
+            messages = omega (arith, c.messages, some, one);
+            took = omega (arith, c.took, some);
+            withdrawn = omega (arith, c.withdrawn);
+            resets = c.resets;
+          }
+
+      pub settles_handed : (told1 : List ℕ) (len : ℕ) → len ≡ length held → ((text : List ℕ) × (starts (Some m) ≡ Some (record { rules = rules1; first = Some text })) × (told1 ≡ told ++ text))
+          → Settles stage.Agreed starts held told told1 (handed_walk len)
+      settles_handed told1 len same b =
+          subst (λ (n : ℕ). Settles stage.Agreed starts held told told1 (handed_walk n)) (sym same)
+          (record {
+            lines = b.0;
+            told = b.2;
+            settles = (counts_handed, λ later r q. handed held m f later rules1 b.0 r b.1 (from_behind later r q));
+          })
+
+    module _ (told told1 : List ℕ) (h : HeadFault) (size : length held ≡ 19) (faulty : head_of held ≡ Err h) (same : told1 ≡ told) where
+      none_read : (later : List ℕ) → first_message (held ++ later) ≡ None
+      none_read later =
+          fault_first (held ++ later) h (omega (arith, size, length-append held later)) (head_of-append held later (omega (arith, size)) ∙ faulty)
+
+      no_part : (later : List ℕ) → is_part (held ++ later) ≡ false
+      no_part later =
+          fault_whole (held ++ later) h (omega (arith, size, length-append held later)) (head_of-append held later (omega (arith, size)) ∙ faulty)
+
+      pub settles_fault : BeginsWithout true (starts None) rules1 → Settles stage.Agreed starts held told told1 held_walk
+      settles_fault b = record {
+        lines = [];
+        told = same ∙ sym (append-nil told);
+        settles = (counts_held, λ later r q. without (held ++ later) (none_read later) rules1 r b (from_front later r q));
+      }
+
+      pub settles_fault_unagreed : starts None ≡ None → Settles stage.Unagreed starts held told told1 held_walk
+      settles_fault_unagreed e = record {
+        lines = [];
+        told = same ∙ sym (append-nil told);
+        settles = (λ later. rw (none_read later, e, no_part later) refl, refl);
+      }
+
+  -- ---- a block of octets
+
+  rests_by : (held : List ℕ) → Waits held → (o : Option (Start Outcome)) → starts None ≡ o → (r : Report) × ReportedFrom starts held r × (r.lines ≡ []) × IsWaiting r.end_of
+  rests_by held waits None e = (unagreed (end.Wait (length held)), rw (part_first held waits, e, waits_part held waits) refl, refl, tt)
+  rests_by held waits (Some x) e = (
+    report_of x.rules 0 no_tally held [] (end.Wait (length held)),
+    rw (part_first held waits, e) (report_wait x.rules 0 no_tally held waits),
+    refl,
+    tt,
+  )
+
+  pub first_rests : (w : Walking Outcome) → Waits w.held → Rests (reports_in (starting starts stage.First w))
+  first_rests w waits =
+      let q = rests_by w.held waits (starts None) refl in
+      record { report = q.0; reported = subst (λ (s : List ℕ). ReportedFrom starts s q.0) (sym (append-nil w.held)) q.1; none = q.2; waiting = q.3 }
+
+  module _ (w0 w1 : Walking Outcome) (octets : List ℕ) (n : ℕ) (t0 t1 : List ℕ) where
+    abbrev pub fed : List ℕ
+    fed = w0.held ++ take n octets
+
+    pub takes_part : frame.Takes w0.held octets n → Settles stage.First starts fed t0 t1 w1
+        → Takes (reports_in (starting starts stage.First w0)) (reports_in (starting starts stage.First w1)) (GoesOn (starting starts stage.First w1)) t0 t1 octets false
+    takes_part took s =
+        let first = s.settles.0 in
+        let is : w1.held ≡ fed = s.settles.1 in
+        record {
+          lines = s.lines;
+          told = s.told;
+          goes_on = λ later r q.
+              subst (λ (l : List ℕ). ReportedFrom starts (w0.held ++ (octets ++ later)) (behind l r)) (sym s.settles.2)
+              (subst (λ (x : List ℕ). ReportedFrom starts x r)
+              (ap (λ (x : List ℕ). x ++ later) (is ∙ ap (λ (x : List ℕ). w0.held ++ x) (all_fed w0.held octets n took (subst Waits is first.waits))) ∙ append_assoc w0.held octets later) q);
+          stands = (first, first_rests w1 first.waits);
+        }
+
+    pub takes_unagreed : Settles stage.Unagreed starts fed t0 t1 w1
+        → (starts1 : Starts Outcome) → Takes (reports_in (starting starts stage.First w0)) (reports_in (starting starts1 stage.Unagreed w1)) (GoesOn (starting starts1 stage.Unagreed w1)) t0 t1 octets true
+    takes_unagreed s starts1 = record {
+      lines = s.lines;
+      told = s.told;
+      goes_on = λ later r q.
+          subst (λ (l : List ℕ). ReportedFrom starts (w0.held ++ (octets ++ later)) (behind l r)) (sym s.settles.1)
+          (subst (λ (x : Report). ReportedFrom starts (w0.held ++ (octets ++ later)) x) (sym q)
+          (subst (λ (x : List ℕ). ReportedFrom starts x (unagreed end.Reset)) (fed_whole w0.held octets n later) (s.settles.0 (drop n octets ++ later))));
+      stands = record { report = unagreed end.Reset; reported = refl; none = refl; over = λ r q. subst (λ (x : Report). IsOver x.end_of) (sym q) tt; always = λ later more r q. q };
+    }
+
+    pub takes_agreed : (starts1 : Starts Outcome) (w2 : Walking Outcome) (t2 : List ℕ) (over : Bool) → Settles stage.Agreed starts fed t0 t1 w1 → Takes (reports_of w1) (reports_of w2) (IsGoing w2) t1 t2 (drop n octets) over
+        → Takes (reports_in (starting starts stage.First w0)) (reports_in (starting starts1 stage.Agreed w2)) (GoesOn (starting starts1 stage.Agreed w2)) t0 t2 octets over
+    takes_agreed starts1 w2 t2 over s p = record {
+      lines = s.lines ++ p.lines;
+      told = p.told ∙ ap (λ (x : List ℕ). x ++ p.lines) s.told ∙ append_assoc t0 s.lines p.lines;
+      goes_on = λ later r q.
+          subst (λ (x : List ℕ). ReportedFrom starts (w0.held ++ (octets ++ later)) (record { lines = x; last = r.last; end_of = r.end_of; answer = r.answer })) (sym (append_assoc s.lines p.lines r.lines))
+          (subst (λ (x : List ℕ). ReportedFrom starts x (behind s.lines (behind p.lines r))) (fed_whole w0.held octets n later)
+          (s.settles.1 (drop n octets ++ later) (behind p.lines r) (p.goes_on later r q)));
+      stands = p.stands;
+    }
+
+  -- ---- where a stream ends
+
+  pub closes_none : (w : Walking Outcome) (told : List ℕ) → Waits w.held → starts None ≡ None → ClosesBy (reports_in (starting starts stage.First w)) told told (Err fault.NoOpen)
+  closes_none w told waits e = record {
+    report = unagreed (end.Wait (length w.held));
+    reported = subst (λ (x : List ℕ). ReportedFrom starts x (unagreed (end.Wait (length w.held)))) (sym (append-nil w.held)) (rw (part_first w.held waits, e, waits_part w.held waits) refl);
+    none = refl;
+    told = sym (append-nil told);
+    answers = refl;
+  }
+
+pub closes_unagreed : {Outcome : Type 0} (starts : Starts Outcome) (w : Walking Outcome) (told : List ℕ) → ClosesBy (reports_in (starting starts stage.Unagreed w)) told told (Err fault.NoOpen)
+closes_unagreed starts w told = record { report = unagreed end.Reset; reported = refl; none = refl; told = sym (append-nil told); answers = refl }
+
+closed_as : (a b : Reports) (t0 t1 : List ℕ) (answer : Result Tally ToolFault) → ((r : Report) → a [] r → b [] r) → ClosesBy a t0 t1 answer → ClosesBy b t0 t1 answer
+closed_as a b t0 t1 answer map c = record { report = c.report; reported = map c.report c.reported; none = c.none; told = c.told; answers = c.answers }
+
+-- what is reported by one relation is by another
+pub closes_as : (a b : Reports) (t0 t1 : List ℕ) (answer : Result Tally ToolFault) → ((r : Report) → a [] r → b [] r) → Closes a t0 t1 answer → Closes b t0 t1 answer
+closes_as a b t0 t1 (Ok tally) map c = closed_as a b t0 t1 (Ok tally) map c
+closes_as a b t0 t1 (Err fault.Memory) map c = (c.0, map c.0 c.1, c.2)
+closes_as a b t0 t1 (Err fault.Read) map c = c
+closes_as a b t0 t1 (Err fault.Write) map c = c
+closes_as a b t0 t1 (Err (fault.BadHex n)) map c = c
+closes_as a b t0 t1 (Err (fault.Script n)) map c = c
+closes_as a b t0 t1 (Err fault.Net) map c = c
+closes_as a b t0 t1 (Err (fault.Narrow n)) map c = closed_as a b t0 t1 (Err (fault.Narrow n)) map c
+closes_as a b t0 t1 (Err (fault.Clean n why)) map c = (c.0, closed_as a b t0 t1 (Err (fault.Clean n why)) map c.1)
+closes_as a b t0 t1 (Err fault.NoOpen) map c = closed_as a b t0 t1 (Err fault.NoOpen) map c
+
+-- an engine's answer has no words
+pub wordless : (reports : Reports) (hex : Bool) (io : Io) (answer : Result Tally ToolFault) → Answers reports hex io answer → without_words answer ≡ answer
+wordless reports hex io (Ok tally) a = refl
+wordless reports hex io (Err fault.Memory) a = refl
+wordless reports hex io (Err fault.Read) a = refl
+wordless reports hex io (Err fault.Write) a = refl
+wordless reports hex io (Err (fault.BadHex n)) a = refl
+wordless reports hex io (Err (fault.Script n)) a = refl
+wordless reports hex io (Err fault.Net) a = refl
+wordless reports hex io (Err (fault.Narrow n)) a = refl
+wordless reports hex io (Err (fault.Clean n stop.Unsaid)) a = refl
+wordless reports hex io (Err (fault.Clean n stop.Incomplete)) a = refl
+wordless reports hex io (Err (fault.Clean n (stop.At why))) a = absurd a.is_fault.0
+wordless reports hex io (Err fault.NoOpen) a = refl

@@ -1,0 +1,87 @@
+-- What `clean` writes: the messages of a stream as they are handed on, up to the first of which nothing is (RFC 7606).
+use Rattle.std.specs.Prelude.{ℕ, Bool, true, false, ◌==◌, List, [], length, Option, None, Some, option_map, is_err, unwrap_or, Result, Ok, Err, if◌then◌else◌}
+use Rattle.std.specs.Result.{result_ok}
+use Rattle.bgp_frame.specs.declared.end.End.{End}
+use Rattle.bgp_frame.specs.declared.end.End.TheVariants as end
+use Rattle.bgp_frame.specs.declared.fault.HeadFault.{HeadFault}
+use Rattle.bgp_frame.specs.declared.kind.Kind.{Kind}
+use Rattle.bgp_frame.specs.declared.kind.Kind.TheVariants as kind
+use Rattle.bgp_frame.specs.Frame as frame
+use Rattle.bgp_frame.specs.Head.{head_notification}
+use Rattle.bgp_open.specs.declared.context.Context.{Context}
+use Rattle.bgp_msg.specs.declared.message.Message.{Message}
+use Rattle.bgp_msg.specs.Written.{canonical}
+use Rattle.bgp_clean.specs.declared.fault.CleanFault.{CleanFault}
+use Rattle.bgp_clean.specs.declared.fault.CleanFault.TheVariants as clean
+use Rattle.bgp_clean.specs.Clean.{cleaned}
+use Rattle.bgp_engine.specs.declared.class.Class.{Class}
+use Rattle.bgp_engine.specs.declared.class.Class.TheVariants as class
+use Rattle.bgp_engine.specs.declared.fault.Stop.TheVariants as stop
+use Rattle.bgp_engine.specs.declared.fault.ToolFault.{ToolFault}
+use Rattle.bgp_engine.specs.declared.fault.ToolFault.TheVariants.{Clean}
+use Rattle.bgp_engine.specs.declared.tally.Tally.{Tally}
+use Rattle.bgp_engine.specs.Agree.{agreed}
+use Rattle.bgp_engine.specs.File.{first_open, open_at}
+use Rattle.bgp_engine.specs.First.{Start, Starts, ReportedFrom}
+use Rattle.bgp_engine.specs.Rules.{Rules}
+use Rattle.bgp_engine.specs.Run.{Reports}
+
+-- the written form of what is handed on, where something is
+abbrev pub clean_line : Context → Result Message CleanFault → List ℕ
+clean_line ctx (Ok n) = canonical ctx n
+clean_line ctx (Err f) = []
+
+abbrev pub clean_class : Result Message CleanFault → Class
+clean_class (Ok n) = class.Took
+clean_class (Err f) = class.Reset
+
+-- the offset where it ends before the stream does
+abbrev pub clean_answer : End → Tally → ℕ → Result Tally ToolFault
+clean_answer end.Reset tally place = Err (Clean place stop.Unsaid)
+clean_answer end.Head tally place = Err (Clean place stop.Unsaid)
+clean_answer (end.Wait n) tally place = if n == 0 then Ok tally else Err (Clean place stop.Incomplete)
+
+abbrev pub fault_of_head : HeadFault → Result Message CleanFault
+fault_of_head f = Err (clean.Reset (head_notification f).code (head_notification f).subcode)
+
+-- of the messages behind the first
+abbrev pub clean_rules : Context → (ℕ → Bool) → Rules (Result Message CleanFault)
+clean_rules ctx drops = record {
+  judge = record { of_message = cleaned ctx drops false; of_fault = fault_of_head; resets = is_err };
+  line = λ _ _ o. clean_line ctx o;
+  class = clean_class;
+  last = λ _. [];
+  rest = λ _. [];
+  answer = λ tally place. clean_answer tally.end tally place;
+}
+
+-- The first message is handed on by itself where it is an OPEN that is: any other message is handed on wherever it stands
+abbrev pub first_line : Context → (ℕ → Bool) → frame.Message → Kind → Option (List ℕ)
+first_line ctx drops m kind.Open = option_map (canonical ctx) (result_ok (cleaned ctx drops true m))
+first_line ctx drops m _ = None
+
+abbrev pub first_of : Context → (ℕ → Bool) → Option frame.Message → Option (List ℕ)
+first_of ctx drops None = None
+first_of ctx drops (Some m) = first_line ctx drops m m.kind
+
+abbrev pub start_in : (ℕ → Bool) → Option frame.Message → Context → Start (Result Message CleanFault)
+start_in drops first ctx = record { rules = clean_rules ctx drops; first = first_of ctx drops first }
+
+-- in a context that is known
+abbrev pub starts_in : Context → (ℕ → Bool) → Starts (Result Message CleanFault)
+starts_in ctx drops first = Some (start_in drops first ctx)
+
+-- in the context that the first message and that of the other direction agree on
+abbrev pub starts_by : List ℕ → (ℕ → Bool) → Starts (Result Message CleanFault)
+starts_by theirs drops first = option_map (start_in drops first) (agreed (open_at first) (first_open theirs))
+
+abbrev pub CleanedIn : Context → (ℕ → Bool) → Reports
+CleanedIn ctx drops = ReportedFrom (starts_in ctx drops)
+
+abbrev pub CleanedBy : List ℕ → (ℕ → Bool) → Reports
+CleanedBy theirs drops = ReportedFrom (starts_by theirs drops)
+
+-- an answer without the words why it ended before a message: the offset says which
+abbrev pub without_words : Result Tally ToolFault → Result Tally ToolFault
+without_words (Err (Clean place (stop.At why))) = Err (Clean place stop.Unsaid)
+without_words answer = answer

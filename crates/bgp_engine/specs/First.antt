@@ -1,0 +1,47 @@
+-- What an engine makes of a stream whose first message it takes by a rule of its own.
+use Rattle.std.specs.Prelude.{◌≡◌, ℕ, List, [], drop, length, Option, None, Some}
+use Rattle.bgp_frame.specs.Frame.{Message, octets_of}
+use Rattle.bgp_engine.specs.declared.class.Class.TheVariants as class
+use Rattle.bgp_engine.specs.File.{first_message}
+use Rattle.bgp_engine.specs.Opens.{unagreed, unagreed_end}
+use Rattle.bgp_engine.specs.Report.{Report, behind}
+use Rattle.bgp_engine.specs.Rules.{Rules, counted, IsReport}
+use Rattle.bgp_engine.specs.Tally.{no_tally}
+
+-- By what a stream is read, and what is written of its first message where a rule of its own takes that
+pub record Start (Outcome : Type 0) : Type 0 where
+  pub rules : Rules Outcome
+  pub first : Option (List ℕ)
+
+-- how the stream is read, by its first message, where that is whole and its header has no fault; there may be no context to read it in
+abbrev pub Starts : Type 0 → Type 0
+Starts Outcome = Option Message → Option (Start Outcome)
+
+module _ {Outcome : Type 0} where
+  -- the first message, of so many octets, was accepted by itself, with this written; what follows is read by the rules
+  pub record IsBehindFirst (rules : Rules Outcome) (text : List ℕ) (len : ℕ) (stream : List ℕ) (r : Report) : Type 0 where
+    pub report : Report
+    pub rest : IsReport rules len (counted no_tally len class.Took) (drop len stream) report
+    pub told : r ≡ behind text report
+
+  -- where no first message is whole, or its header has a fault
+  abbrev pub ReportedWithout : Option (Start Outcome) → List ℕ → Report → Type 0
+  ReportedWithout None stream r = r ≡ unagreed (unagreed_end stream)
+  ReportedWithout (Some s) stream r = IsReport s.rules 0 no_tally stream r
+
+  abbrev pub ReportedAs : Rules Outcome → Option (List ℕ) → ℕ → List ℕ → Report → Type 0
+  ReportedAs rules None len stream r = IsReport rules 0 no_tally stream r
+  ReportedAs rules (Some text) len stream r = IsBehindFirst rules text len stream r
+
+  -- where one of so many octets is
+  abbrev pub ReportedWith : Option (Start Outcome) → ℕ → List ℕ → Report → Type 0
+  ReportedWith None len stream r = r ≡ unagreed (unagreed_end stream)
+  ReportedWith (Some s) len stream r = ReportedAs s.rules s.first len stream r
+
+  abbrev pub ReportedAt : Starts Outcome → Option Message → List ℕ → Report → Type 0
+  ReportedAt starts None stream r = ReportedWithout (starts None) stream r
+  ReportedAt starts (Some m) stream r = ReportedWith (starts (Some m)) (length (octets_of m)) stream r
+
+  -- what a stream comes to that is read so
+  abbrev pub ReportedFrom : Starts Outcome → List ℕ → Report → Type 0
+  ReportedFrom starts stream r = ReportedAt starts (first_message stream) stream r

@@ -1,0 +1,92 @@
+-- Steps of an engine that takes the first message of its stream by a rule of its own.
+use Rattle.std.specs.Prelude.{◌≡◌, ℕ, ◌^◌, Bool, true, false, List, [], ◌++◌, length, Option, None, Some}
+use Rattle.bgp_frame.specs.declared.end.End.TheVariants as end
+use Rattle.bgp_frame.specs.Frame.{Message, Waits}
+use Rattle.bgp_engine.specs.declared.opening.Stage.{Stage}
+use Rattle.bgp_engine.specs.declared.opening.Stage.TheVariants as stage
+use Rattle.bgp_engine.specs.declared.starting.Begun.{Begun}
+use Rattle.bgp_engine.specs.declared.starting.Begun.TheVariants as begun
+use Rattle.bgp_engine.specs.First.{Start, Starts, ReportedFrom}
+use Rattle.bgp_engine.specs.Opens.{unagreed}
+use Rattle.bgp_engine.specs.Report.{Report, behind}
+use Rattle.bgp_engine.specs.Rules.{Rules}
+use Rattle.bgp_engine.specs.Tally.{no_tally}
+use Rattle.bgp_engine.specs.steps.Walking.{Walking, IsCounting, IsGoing, IsReady, reports_of, room_of, walking}
+
+-- how the stream is read, how far it has come, and the walk over it, which holds the first message until that is whole
+pub record Starting (Outcome : Type 0) : Type 0 where
+  pub starts : Starts Outcome
+  pub stage : Stage
+  pub walk : Walking Outcome
+
+module _ {Outcome : Type 0} where
+  -- how a stream begins: without a context; by rules for each of its messages; or behind the first, with this collected
+  abbrev pub Begins : Begun → Option (Start Outcome) → Rules Outcome → List ℕ → List ℕ → Type 0
+  Begins begun.Unagreed start rules told_old told_new = (start ≡ None) × (told_new ≡ told_old)
+  Begins begun.Plain start rules told_old told_new = (start ≡ Some (record { rules = rules; first = None })) × (told_new ≡ told_old)
+  Begins begun.Handed start rules told_old told_new = (text : List ℕ) × (start ≡ Some (record { rules = rules; first = Some text })) × (told_new ≡ told_old ++ text)
+
+  -- the same, where no first message is there
+  abbrev pub BeginsWithout : Bool → Option (Start Outcome) → Rules Outcome → Type 0
+  BeginsWithout false start rules = start ≡ None
+  BeginsWithout true start rules = (s : Start Outcome) × (start ≡ Some s) × (s.rules ≡ rules)
+
+  abbrev pub starting : Starts Outcome → Stage → Walking Outcome → Starting Outcome
+  starting starts stage walk = record { starts = starts; stage = stage; walk = walk }
+
+  abbrev pub reports_at : Stage → Starting Outcome → List ℕ → Report → Type 0
+  reports_at stage.First s later r = ReportedFrom s.starts (s.walk.held ++ later) r
+  reports_at stage.Agreed s later r = reports_of s.walk later r
+  reports_at stage.Unagreed s later r = r ≡ unagreed end.Reset
+
+  -- what is reported of the rest of the stream
+  abbrev pub reports_in : Starting Outcome → List ℕ → Report → Type 0
+  reports_in s later r = reports_at s.stage s later r
+
+  -- nothing was taken but what is held
+  abbrev pub IsFresh : Walking Outcome → Type 0
+  IsFresh w = w ≡ walking w.rules w.held 0 no_tally None
+
+  -- the first message waits, and nothing stands before it
+  pub record IsFirst (w : Walking Outcome) : Type 0 where
+    pub waits : Waits w.held
+    pub counting : IsCounting w
+    pub fresh : IsFresh w
+
+  abbrev pub GoesAt : Stage → Walking Outcome → Type 0
+  GoesAt stage.First w = IsFirst w
+  GoesAt stage.Agreed w = IsGoing w
+  GoesAt stage.Unagreed w = ⊥
+
+  abbrev pub GoesOn : Starting Outcome → Type 0
+  GoesOn s = GoesAt s.stage s.walk
+
+  abbrev pub ReadyAt : Stage → Walking Outcome → Type 0
+  ReadyAt stage.First w = IsFirst w
+  ReadyAt stage.Agreed w = IsReady w
+  ReadyAt stage.Unagreed w = Unit {0}
+
+  -- nothing is missing for a last report
+  abbrev pub ReadyIn : Starting Outcome → Type 0
+  ReadyIn s = ReadyAt s.stage s.walk
+
+  abbrev pub room_at : Stage → Walking Outcome → ℕ
+  room_at stage.First w = room_of w
+  room_at stage.Agreed w = room_of w
+  room_at stage.Unagreed w = 2 ^ 60
+
+  -- how many octets more can be counted
+  abbrev pub room_in : Starting Outcome → ℕ
+  room_in s = room_at s.stage s.walk
+
+  -- how a stream goes on once its first octets, which are held, were looked at, with this collected
+  abbrev pub SettlesAt : Stage → Starts Outcome → List ℕ → List ℕ → Walking Outcome → Type 0
+  SettlesAt stage.First starts held lines w = IsFirst w × (w.held ≡ held) × (lines ≡ [])
+  SettlesAt stage.Agreed starts held lines w =
+      IsCounting w × ((later : List ℕ) (r : Report) → reports_of w later r → ReportedFrom starts (held ++ later) (behind lines r))
+  SettlesAt stage.Unagreed starts held lines w = ((later : List ℕ) → ReportedFrom starts (held ++ later) (unagreed end.Reset)) × (lines ≡ [])
+
+  pub record Settles (stage : Stage) (starts : Starts Outcome) (held told_old told_new : List ℕ) (w : Walking Outcome) : Type 0 where
+    pub lines : List ℕ
+    pub told : told_new ≡ told_old ++ lines
+    pub settles : SettlesAt stage starts held lines w
