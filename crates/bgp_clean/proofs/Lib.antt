@@ -1,1 +1,2 @@
 -- Lemmas on cleaned messages and streams.
+pub mod Opens
