@@ -1,2 +1,3 @@
 -- Lemmas on cleaned messages and streams.
 pub mod Opens
+pub mod Dropped
