@@ -1,3 +1,6 @@
 -- Lemmas on cleaned messages and streams.
 pub mod Opens
 pub mod Dropped
+pub mod Verdicts
+pub mod Ends
+pub mod Lessons
