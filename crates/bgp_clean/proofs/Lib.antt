@@ -4,3 +4,4 @@ pub mod Dropped
 pub mod Verdicts
 pub mod Ends
 pub mod Lessons
+pub mod HeldAttributes
