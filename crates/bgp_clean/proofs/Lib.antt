@@ -5,3 +5,4 @@ pub mod Verdicts
 pub mod Ends
 pub mod Lessons
 pub mod HeldAttributes
+pub mod Withdrawals
