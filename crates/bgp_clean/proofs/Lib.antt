@@ -6,3 +6,5 @@ pub mod Ends
 pub mod Lessons
 pub mod HeldAttributes
 pub mod Withdrawals
+pub mod Handed
+pub mod Streams
