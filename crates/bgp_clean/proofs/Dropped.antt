@@ -1,5 +1,5 @@
 -- An UPDATE without the unrecognised attributes that are left out: it can be written where the UPDATE can, in no more octets.
-use Rattle.std.proofs.Common.{◌≡◌, ◌⊎◌, inl, inr, ℕ, ◌+◌, ◌<◌, ◌≤◌, Bool, true, false, not, ◌&&◌, ◌||◌, cond, eqb, List, [], ◌∷◌, ◌++◌, length, Option, Some, None, refl, sym, ap, ap₂, subst, ◌∙◌, arith}
+use Rattle.std.proofs.Common.{◌≡◌, ◌⊎◌, inl, inr, ℕ, ◌+◌, ◌<◌, ◌≤◌, Bool, true, false, not, ◌&&◌, cond, eqb, List, [], ◌∷◌, ◌++◌, length, Option, Some, None, refl, sym, ap, subst, ◌∙◌, arith}
 use Rattle.std.specs.List.{flat_map, filter, list_any, AllByRecursion}
 use Rattle.std.proofs.lemmas.Bool.{both_ways, cond-false, ne_eqb, or_parts, or_from, not-false, not_from_true}
 use Rattle.std.proofs.lemmas.List.{length-append}
@@ -15,7 +15,7 @@ use Rattle.bgp_update.specs.declared.attrs.Attrs.{Attrs}
 use Rattle.bgp_update.specs.declared.update.Update.{Update}
 use Rattle.bgp_update.specs.Laws.{CanBeWritten}
 use Rattle.bgp_update.specs.Slots.{present, slots, slot, canonical_order, attr_list}
-use Rattle.bgp_update.specs.Written.{attributes_octets, written_body, is_of_other_family, rise, has_bad_others, any_attr, invalid_of, HasUpdateRanges}
+use Rattle.bgp_update.specs.Written.{attributes_octets, is_of_other_family, rise, has_bad_others, any_attr, HasUpdateRanges}
 use Rattle.bgp_update.proofs.Bodies.{length-body}
 use Rattle.bgp_update.proofs.Lists.{all-none, none-all, all-carried}
 use Rattle.bgp_update.proofs.Rising.{of_kind, RisesFrom, rise-rises, rises-rise}

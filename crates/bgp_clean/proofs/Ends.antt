@@ -1,11 +1,10 @@
 -- Which UPDATEs are an End-of-RIB: what is taken of one, and what is read where one was written.
-use Rattle.std.proofs.Common.{◌≡◌, ℕ, ◌+◌, ◌<◌, ◌≤◌, ◌^◌, Bool, true, false, not, ◌&&◌, ◌||◌, cond, eqb, List, [], ◌∷◌, ◌++◌, length, map, Option, Some, None, refl, sym, ap, ap₂, subst, ◌∙◌, arith}
+use Rattle.std.proofs.Common.{◌≡◌, ℕ, ◌+◌, ◌≤◌, Bool, true, false, not, ◌&&◌, ◌||◌, cond, eqb, List, [], ◌∷◌, ◌++◌, length, Option, Some, None, refl, sym, ap, subst, ◌∙◌, arith}
 use Rattle.std.specs.Prelude.{is_some}
 use Rattle.std.specs.List.{flat_map, list_any, AllByRecursion}
 use Rattle.std.proofs.lemmas.Bool.{both_ways, eqb-true, or_parts, not-false}
 use Rattle.std.proofs.lemmas.List.{nil_from_length}
 use Rattle.bgp_numbers.specs.declared.afi.TheConstants.{IPV4}
-use Rattle.bgp_wire.specs.OctetSet.{none_of_them}
 use Rattle.bgp_open.specs.declared.context.Context.{Context}
 use Rattle.bgp_prefix.specs.Prefix.{PrefixValue}
 use Rattle.bgp_prefix.specs.Run.{run_of}
@@ -28,7 +27,7 @@ use Rattle.bgp_update.specs.Taken.{kept_by, kept_of, no_attrs, attrs_of, update_
 use Rattle.bgp_update.specs.Verdict.{verdict_of}
 use Rattle.bgp_update.specs.Written.{attributes_octets, written_body, is_of_other_family}
 use Rattle.bgp_update.proofs.Bodies.{body-parts, length-body}
-use Rattle.bgp_update.proofs.MarkLemmas.{KeepsAll, IsReady, field-keep}
+use Rattle.bgp_update.proofs.MarkLemmas.{KeepsAll, field-keep}
 use Rattle.bgp_update.proofs.QuietMarks.{no_marks}
 use Rattle.bgp_update.proofs.ReadBack.{valid-writable}
 use Rattle.bgp_update.proofs.SlotTypes.{recognised_types}

@@ -1,5 +1,5 @@
 -- What is handed on of a message is clean, kind by kind.
-use Rattle.std.proofs.Common.{◌≡◌, ℕ, ◌+◌, ◌≤◌, Bool, true, false, not, ◌||◌, cond, List, [], ◌∷◌, length, Option, Some, None, Result, Ok, Err, refl, sym, ap, ap₂, subst, ◌∙◌, arith}
+use Rattle.std.proofs.Common.{◌≡◌, ℕ, ◌+◌, ◌≤◌, Bool, true, false, not, ◌||◌, cond, List, [], length, Option, Some, None, Result, Ok, Err, refl, sym, ap, ap₂, subst, ◌∙◌, arith}
 use Rattle.std.specs.Prelude.{is_some}
 use Rattle.std.proofs.lemmas.Bool.{not_from_false}
 use Rattle.std.proofs.lemmas.List.{length-drop}
@@ -34,9 +34,8 @@ use Rattle.bgp_update.proofs.ReadBack.{valid-taken}
 use Rattle.bgp_update.proofs.Taken.{taken-written}
 use Rattle.bgp_msg.specs.declared.message.Message.{Message}
 use Rattle.bgp_msg.specs.declared.message.Message.TheVariants as message
-use Rattle.bgp_msg.specs.declared.outcome.Outcome.{Outcome}
 use Rattle.bgp_msg.specs.Laws.{HasMessageRanges, IsTakenAsItself}
-use Rattle.bgp_msg.specs.Outcome.{of_open_fault, of_reading, of_verdict, notification_in, out_of}
+use Rattle.bgp_msg.specs.Outcome.{of_open_fault, of_reading, of_verdict, notification_in}
 use Rattle.bgp_msg.specs.Written.{written, canonical, body_of, invalid_of}
 use Rattle.bgp_msg.proofs.Itself.{valid-itself}
 use Rattle.bgp_msg.proofs.ReadOpens.{read-good, read-short}
@@ -45,7 +44,7 @@ use Rattle.bgp_clean.specs.declared.fault.CleanFault.TheVariants as fault
 use Rattle.bgp_clean.specs.Clean.{family_in, ended_family, handed_update, handed, cleaned_outcome, cleaned}
 use Rattle.bgp_clean.specs.Laws.{IsClean}
 use Rattle.bgp_clean.specs.Lesson.{no_lesson, lesson_by, lesson_in, lesson}
-use Rattle.bgp_clean.specs.Opens.{understood, cleaned_open, lacks_family}
+use Rattle.bgp_clean.specs.Opens.{cleaned_open, lacks_family}
 use Rattle.bgp_clean.specs.Updates.{cleaned_update, withdrawal, says_nothing}
 use Rattle.bgp_clean.proofs.Dropped.{dropped-written, dropped-again}
 use Rattle.bgp_clean.proofs.Ends.{IsEnding, end_update, taken-ending, unending, written-end}

@@ -1,8 +1,8 @@
 -- The attributes that are kept of a message, whatever its verdict: each is within its ranges and belongs there, and they have no more octets than the field.
-use Rattle.std.proofs.Common.{◌≡◌, ℕ, ◌+◌, ◌≤◌, Bool, false, List, [], ◌∷◌, ◌++◌, length, map, refl, sym, ap, subst, ◌∙◌, arith}
+use Rattle.std.proofs.Common.{◌≡◌, ℕ, ◌+◌, ◌≤◌, Bool, false, List, ◌∷◌, ◌++◌, length, refl, sym, ap, subst, ◌∙◌, arith}
 use Rattle.std.specs.List.{flat_map, filter, AllByRecursion}
 use Rattle.std.specs.Prelude.{not}
-use Rattle.std.proofs.lemmas.List.{append-nil, length-append}
+use Rattle.std.proofs.lemmas.List.{length-append}
 use Rattle.std.proofs.lemmas.List.Concat.{flat_map-append}
 use Rattle.bgp_numbers.specs.declared.attribute.TheConstants.{MP_REACH_NLRI, MP_UNREACH_NLRI}
 use Rattle.bgp_wire.specs.Octets.{AreOctets}
@@ -13,10 +13,10 @@ use Rattle.bgp_attr.specs.declared.attr.Attr.TheVariants as attr
 use Rattle.bgp_attr.specs.declared.mp.MpReach.{MpReach}
 use Rattle.bgp_attr.specs.declared.mp.MpUnreach.{MpUnreach}
 use Rattle.bgp_attr.specs.Tlv.{tlvs_of}
-use Rattle.bgp_attr.specs.Written.{canonical, type_of, is_misnamed, Belongs, HasRanges}
+use Rattle.bgp_attr.specs.Written.{canonical, is_misnamed, Belongs, HasRanges}
 use Rattle.bgp_attr.proofs.TestRows.{Writes, writable-Writes}
 use Rattle.bgp_update.specs.declared.attrs.Attrs.{Attrs}
-use Rattle.bgp_update.specs.Marks.{Mark, carries_routes, marks_behind, placed_tlvs, marks_of}
+use Rattle.bgp_update.specs.Marks.{carries_routes, marks_behind, placed_tlvs, marks_of}
 use Rattle.bgp_update.specs.Parts.{Parts, has_nlri}
 use Rattle.bgp_update.specs.Slots.{present, types_from, slot, canonical_order, attr_list}
 use Rattle.bgp_update.specs.Taken.{kept_of, attrs_of}

@@ -11,16 +11,15 @@ use Rattle.bgp_attr.specs.declared.attr.Attr.TheVariants as attr
 use Rattle.bgp_attr.specs.declared.mp.MpReach.{MpReach}
 use Rattle.bgp_attr.specs.declared.mp.MpUnreach.{MpUnreach}
 use Rattle.bgp_attr.specs.declared.mp.MpUnreach.TheVariants as unreach
-use Rattle.bgp_update.specs.declared.attrs.Attrs.{Attrs}
 use Rattle.bgp_update.specs.declared.routes.Routes.{Routes}
 use Rattle.bgp_update.specs.declared.update.Update.{Update}
 use Rattle.bgp_update.specs.Notes.{gone_ip4, gone_ip6, has_routes}
-use Rattle.bgp_update.specs.Slots.{present, slot, attr_list}
+use Rattle.bgp_update.specs.Slots.{present, attr_list}
 use Rattle.bgp_update.specs.Written.{announces}
 use Rattle.bgp_update.proofs.SlotLemmas.{slot-at, slot-all}
 use Rattle.bgp_msg.specs.declared.message.Message.TheVariants as message
 use Rattle.bgp_clean.specs.Updates.{cleaned_attrs, cleaned_update, unreach_of, withdrawal, bare_family, is_bare, says_nothing}
-use Rattle.bgp_clean.specs.Lesson.{Announced, Lesson, no_lesson, announced_by, lesson_by}
+use Rattle.bgp_clean.specs.Lesson.{Lesson, no_lesson, announced_by, lesson_by}
 use Rattle.bgp_clean.proofs.Dropped.{dropped-again}
 
 -- an MP_UNREACH_NLRI without routes

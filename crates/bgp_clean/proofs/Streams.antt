@@ -1,5 +1,5 @@
 -- A cleaned stream is clean, message by message.
-use Rattle.std.proofs.Common.{◌≡◌, ℕ, ◌+◌, ◌<◌, ◌≤◌, Bool, true, false, List, [], ◌∷◌, ◌++◌, length, map, take, Result, Ok, Err, refl, sym, ap, ap₂, subst, ◌∙◌, arith}
+use Rattle.std.proofs.Common.{◌≡◌, ℕ, Bool, true, false, List, [], ◌∷◌, ◌++◌, length, map, take, Result, Ok, Err, refl, sym, ap, ap₂, subst, arith}
 use Rattle.std.specs.List.{flat_map, AllByRecursion}
 use Rattle.std.proofs.lemmas.List.{append-nil}
 use Rattle.bgp_wire.specs.Octets.{AreOctets}
@@ -14,13 +14,13 @@ use Rattle.bgp_open.specs.declared.context.Context.{Context}
 use Rattle.bgp_msg.specs.declared.message.Message.{Message}
 use Rattle.bgp_msg.specs.declared.outcome.Outcome.{Outcome}
 use Rattle.bgp_msg.specs.Laws.{IsTakenAsItself}
-use Rattle.bgp_msg.specs.Outcome.{is_reset, judgement, out_of}
+use Rattle.bgp_msg.specs.Outcome.{is_reset, judgement}
 use Rattle.bgp_msg.specs.Written.{canonical, written}
 use Rattle.bgp_clean.specs.declared.fault.CleanFault.{CleanFault}
 use Rattle.bgp_clean.specs.Clean.{cleaned}
 use Rattle.bgp_clean.specs.Laws.{IsClean, outcome_of, NoLonger, IsCleanStream}
 use Rattle.bgp_clean.specs.Lesson.{Lesson, lesson}
-use Rattle.bgp_clean.specs.Stream.{handed_then, cleaned_from, cleaned_stream, cleaned_octets}
+use Rattle.bgp_clean.specs.Stream.{handed_then, cleaned_from, cleaned_stream}
 use Rattle.bgp_clean.proofs.Handed.{handed-clean}
 
 module _ (ctx : Context) (drops : ℕ → Bool) where

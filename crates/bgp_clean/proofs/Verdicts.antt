@@ -7,11 +7,11 @@ use Rattle.bgp_update.specs.declared.routes.Routes.{Routes}
 use Rattle.bgp_update.specs.declared.update.Update.{Update}
 use Rattle.bgp_update.specs.declared.verdict.Verdict.{Verdict}
 use Rattle.bgp_update.specs.declared.verdict.Verdict.TheVariants as verdict
-use Rattle.bgp_update.specs.Marks.{Mark, malformed, marks_of}
+use Rattle.bgp_update.specs.Marks.{malformed, marks_of}
 use Rattle.bgp_update.specs.Notes.{is_reachable, notes_of, routes_of}
 use Rattle.bgp_update.specs.Parts.{Parts, parts_of}
 use Rattle.bgp_update.specs.Taken.{update_of}
-use Rattle.bgp_update.specs.Verdict.{reset_of, is_withdrawn, unless_reset, without_reset, of_parts, verdict_of}
+use Rattle.bgp_update.specs.Verdict.{reset_of, is_withdrawn, unless_reset, of_parts, verdict_of}
 
 -- the body has parts, of which the UPDATE is taken
 pub record IsTakenOf (ctx : Context) (body : List ℕ) (u : Update) : Type 0 where

@@ -1,5 +1,5 @@
 -- The UPDATE that withdraws a message's routes: it can be written where the message was read, in no more octets, and says something.
-use Rattle.std.proofs.Common.{◌≡◌, ℕ, ◌+◌, ◌≤◌, Bool, true, false, not, ◌&&◌, ◌||◌, cond, eqb, ltb, List, [], ◌∷◌, ◌++◌, length, Option, Some, None, refl, sym, ap, ap₂, subst, ◌∙◌, arith}
+use Rattle.std.proofs.Common.{◌≡◌, ℕ, ◌+◌, ◌≤◌, Bool, true, false, not, cond, eqb, ltb, List, [], ◌∷◌, ◌++◌, length, Option, Some, None, refl, sym, ap, subst, ◌∙◌, arith}
 use Rattle.std.specs.Int.{w16, to_be_bytes}
 use Rattle.std.specs.List.{flat_map, list_any, AllByRecursion}
 use Rattle.std.specs.Option.{option_or}
@@ -32,9 +32,9 @@ use Rattle.bgp_update.specs.declared.routes.Routes.{Routes}
 use Rattle.bgp_update.specs.declared.update.Update.{Update}
 use Rattle.bgp_update.specs.declared.verdict.Verdict.TheVariants as verdict
 use Rattle.bgp_update.specs.Laws.{CanBeWritten}
-use Rattle.bgp_update.specs.Marks.{Mark, marks_of}
+use Rattle.bgp_update.specs.Marks.{marks_of}
 use Rattle.bgp_update.specs.Notes.{reached_ip4, reached_ip6, gone_ip4, gone_ip6, has_routes, is_reachable, routes_of}
-use Rattle.bgp_update.specs.Parts.{Parts, IsBody, parts_of, has_nlri}
+use Rattle.bgp_update.specs.Parts.{Parts, IsBody, has_nlri}
 use Rattle.bgp_update.specs.Slots.{present, attr_list}
 use Rattle.bgp_update.specs.Taken.{kept_of, attrs_of}
 use Rattle.bgp_update.specs.Verdict.{first_reset, reset_of_run, reset_of, verdict_of}
