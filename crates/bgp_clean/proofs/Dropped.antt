@@ -105,20 +105,25 @@ module _ (drops : ℕ → Bool) where
       (entry-two IsSameOrNone k (other_slot (cleaned_attrs drops a) k) (other_slot a k) (λ xs. inl refl) (other-by k a.others (drops k) refl) (slots a)))
 
   pub dropped-all : (P : Attr → Type 0) (a : Attrs) → AllByRecursion P (attr_list a) → AllByRecursion P (attr_list (cleaned_attrs drops a))
-  dropped-all P a all = all-carried P P (slot a) (slot (cleaned_attrs drops a)) canonical_order (λ k here. none-or-all P (slot (cleaned_attrs drops a) k) (slot a k) (dropped-slot a k) here) all
+  dropped-all P a all =
+      all-carried P P (slot a) (slot (cleaned_attrs drops a)) canonical_order
+      (λ k here. none-or-all P (slot (cleaned_attrs drops a) k) (slot a k) (dropped-slot a k) here) all
 
   dropped-none : (test : Attr → Bool) (a : Attrs) → list_any test (attr_list a) ≡ false → list_any test (attr_list (cleaned_attrs drops a)) ≡ false
   dropped-none test a none = all-none test (attr_list (cleaned_attrs drops a)) (dropped-all (λ x. test x ≡ false) a (none-all test (attr_list a) none))
 
-  shorter-by : (f : Attr → List ℕ) (a : Attrs) (ks : List ℕ) → length (flat_map f (flat_map (slot (cleaned_attrs drops a)) ks)) ≤ length (flat_map f (flat_map (slot a) ks))
+  shorter-by : (f : Attr → List ℕ) (a : Attrs) (ks : List ℕ)
+      → length (flat_map f (flat_map (slot (cleaned_attrs drops a)) ks)) ≤ length (flat_map f (flat_map (slot a) ks))
   shorter-by f a [] = omega arith
   shorter-by f a (k ∷ ks) =
       let xs : List Attr = slot (cleaned_attrs drops a) k in
       let ys : List Attr = slot a k in
       let more : List Attr = flat_map (slot (cleaned_attrs drops a)) ks in
       let others : List Attr = flat_map (slot a) ks in
-      let e : length (flat_map f (xs ++ more)) ≡ length (flat_map f xs) + length (flat_map f more) = ap length (flat_map-append f xs more) ∙ length-append (flat_map f xs) (flat_map f more) in
-      let g : length (flat_map f (ys ++ others)) ≡ length (flat_map f ys) + length (flat_map f others) = ap length (flat_map-append f ys others) ∙ length-append (flat_map f ys) (flat_map f others) in
+      let e : length (flat_map f (xs ++ more)) ≡ length (flat_map f xs) + length (flat_map f more) =
+      ap length (flat_map-append f xs more) ∙ length-append (flat_map f xs) (flat_map f more) in
+      let g : length (flat_map f (ys ++ others)) ≡ length (flat_map f ys) + length (flat_map f others) =
+      ap length (flat_map-append f ys others) ∙ length-append (flat_map f ys) (flat_map f others) in
       omega (arith, e, g, none-or-shorter f xs ys (dropped-slot a k), shorter-by f a ks)
 
   dropped-shorter : (ctx : Context) (a : Attrs) → length (attributes_octets ctx (cleaned_attrs drops a)) ≤ length (attributes_octets ctx a)
@@ -178,8 +183,13 @@ module _ (drops : ℕ → Bool) where
     valid = accepted-valid ctx (cleaned_update drops u) (dropped-accepted ctx u (valid-accepted ctx u can.valid));
     ranges = dropped-ranges u can.ranges;
     no_longer =
-        omega (arith, can.no_longer, dropped-shorter ctx u.attrs, length-body (run_octets u.withdrawn) (attributes_octets ctx u.attrs) (run_octets u.nlri),
-        length-body (run_octets u.withdrawn) (attributes_octets ctx (cleaned_attrs drops u.attrs)) (run_octets u.nlri));
+        omega (
+          arith,
+          can.no_longer,
+          dropped-shorter ctx u.attrs,
+          length-body (run_octets u.withdrawn) (attributes_octets ctx u.attrs) (run_octets u.nlri),
+          length-body (run_octets u.withdrawn) (attributes_octets ctx (cleaned_attrs drops u.attrs)) (run_octets u.nlri),
+        );
   }
 
   pub dropped-again : (u : Update) → cleaned_update drops (cleaned_update drops u) ≡ cleaned_update drops u

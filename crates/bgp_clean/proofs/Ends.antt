@@ -41,7 +41,10 @@ use Rattle.bgp_clean.proofs.Verdicts.{taken-of}
 abbrev pub with_unreach : Option MpUnreach → Attrs
 with_unreach o = record no_attrs { mp_unreach = o }
 
-pub unreach-list : (o : Option MpUnreach) → attr_list (with_unreach o) ≡ present (λ (r : MpUnreach). attr.MpUnreach r) o
+abbrev pub unreach_attrs : Option MpUnreach → List Attr
+unreach_attrs o = present (λ (r : MpUnreach). attr.MpUnreach r) o
+
+pub unreach-list : (o : Option MpUnreach) → attr_list (with_unreach o) ≡ unreach_attrs o
 unfolding slot
 unreach-list None = sym (recognised_types (with_unreach None) refl)
 unreach-list (Some r) = sym (recognised_types (with_unreach (Some r)) refl)
@@ -85,11 +88,15 @@ run-none : (b : List ℕ) → eqb (length b) 0 ≡ true → (run_of 4 b).0 ≡ [
 run-none b e =
     ap (λ (x : List ℕ). (run_of 4 x).0) (nil_from_length b (eqb-true (length b) 0 e)) ∙ ap (λ (q : List PrefixValue × List ℕ). q.0) (row_is_run 4 [] [] refl)
 
-same-update : (w n : List PrefixValue) (a b : Attrs) → w ≡ [] → a ≡ b → n ≡ [] → (let u : Update = record { withdrawn = w; attrs = a; nlri = n } in let v : Update = record { withdrawn = []; attrs = b; nlri = [] } in u ≡ v)
+abbrev update : List PrefixValue → Attrs → List PrefixValue → Update
+update withdrawn attrs nlri = record { withdrawn = withdrawn; attrs = attrs; nlri = nlri }
+
+same-update : (w n : List PrefixValue) (a b : Attrs) → w ≡ [] → a ≡ b → n ≡ [] → update w a n ≡ update [] b []
 same-update w n a b e f g = rw (e, f, g) refl
 
 module _ (ctx : Context) (p : Parts) (f : ℕ) where
-  ending-by : (w n : Bool) → eqb (length p.withdrawn) 0 ≡ w → eqb (length p.nlri) 0 ≡ n → cond (w && n) (family_of_marks (marks_of ctx p)) None ≡ Some f → IsEnding (update_of p (marks_of ctx p)) f
+  ending-by : (w n : Bool) → eqb (length p.withdrawn) 0 ≡ w → eqb (length p.nlri) 0 ≡ n → cond (w && n) (family_of_marks (marks_of ctx p)) None ≡ Some f
+      → IsEnding (update_of p (marks_of ctx p)) f
   ending-by true true no_w no_n e =
       let end = marks-end (marks_of ctx p) f e in
       record { unreach = end.0; is = same-update _ _ _ _ (run-none p.withdrawn no_w) end.1 (run-none p.nlri no_n); of_family = end.2 }
@@ -101,7 +108,7 @@ module _ (ctx : Context) (p : Parts) (f : ℕ) where
 
 -- ---- an End-of-RIB says nothing else, and what is written of more is none
 
-bare-end : (o : Option MpUnreach) (f : ℕ) → family_of_end o ≡ Some f → is_bare (present (λ (r : MpUnreach). attr.MpUnreach r) o) ≡ true
+bare-end : (o : Option MpUnreach) (f : ℕ) → family_of_end o ≡ Some f → is_bare (unreach_attrs o) ≡ true
 bare-end None f e = refl
 bare-end (Some r) f e = ap (λ (x : Option ℕ). is_some x) e
 
@@ -149,11 +156,13 @@ module _ (ctx : Context) (o : Option MpUnreach) (body : List ℕ) (can : CanBeWr
   long = length-body [] octets []
 
   parts-found : parts_of (written_body ctx (end_update o)) ≡ Some parts
-  parts-found = body-parts (written_body ctx (end_update o)) parts (record { octets = refl; withdrawn_fits = omega arith; attributes_fit = omega (arith, long, short, can.no_longer) })
+  parts-found =
+      body-parts (written_body ctx (end_update o)) parts
+      (record { octets = refl; withdrawn_fits = omega arith; attributes_fit = omega (arith, long, short, can.no_longer) })
 
-  family-by : (q : Option MpUnreach) (f : ℕ) → family_of_end q ≡ Some f → list_any (is_of_other_family ctx) (present (λ (r : MpUnreach). attr.MpUnreach r) q) ≡ false
-      → AllByRecursion (λ x. is_writable ctx x ≡ true) (present (λ (r : MpUnreach). attr.MpUnreach r) q) → AllByRecursion HasRanges (present (λ (r : MpUnreach). attr.MpUnreach r) q)
-      → family_of_marks (field_marks ctx false (flat_map (canonical ctx) (present (λ (r : MpUnreach). attr.MpUnreach r) q))) ≡ Some f
+  family-by : (q : Option MpUnreach) (f : ℕ) → family_of_end q ≡ Some f → list_any (is_of_other_family ctx) (unreach_attrs q) ≡ false
+      → AllByRecursion (λ x. is_writable ctx x ≡ true) (unreach_attrs q) → AllByRecursion HasRanges (unreach_attrs q)
+      → family_of_marks (field_marks ctx false (flat_map (canonical ctx) (unreach_attrs q))) ≡ Some f
   family-by None f e family writable ranges = ap family_of_marks (no_marks ctx false) ∙ e
   family-by (Some r) f e family writable ranges =
       one-mark (field_marks ctx false (flat_map (canonical ctx) (attr.MpUnreach r ∷ []))) (attr.MpUnreach r)

@@ -121,10 +121,12 @@ module _ (ctx : Context) (drops : ℕ → Bool) (first : Bool) (body octets : Li
       clean-from ctx drops first kind.Open body octets are f n w
       (ap₂ (λ (s t : Bool). cond s (cond t (Err fault.NoFamily) (ok (message.Open (cleaned_open (cleaned_open o))))) (Err fault.LateOpen)) is_first (cleaned-lacks_none o)
       ∙ ap (λ (q : Open). ok (message.Open q)) (cleaned-again o))
-      (ap₂ (λ (number : ℕ) (caps : List Capability). record no_lesson { peer = Some (record { number = number; hold = o.hold; id = o.id; caps = caps }) }) (cleaned-peer_as o) (ap (λ (q : Open). q.caps) (cleaned-again o))
+      (ap₂ (λ (number : ℕ) (caps : List Capability). record no_lesson { peer = Some (record { number = number; hold = o.hold; id = o.id; caps = caps }) })
+      (cleaned-peer_as o) (ap (λ (q : Open). q.caps) (cleaned-again o))
       ∙ ap (λ (r : Result Open OpenFault). lesson_in drops None (of_reading r)) (sym e))
 
-  open-by : (n : Message) (r : Result Open OpenFault) → reading_of body ≡ r → cleaned_outcome drops first false (of_reading r) ≡ Ok n → IsClean ctx drops first (framed kind.Open body) n
+  open-by : (n : Message) (r : Result Open OpenFault) → reading_of body ≡ r → cleaned_outcome drops first false (of_reading r) ≡ Ok n
+      → IsClean ctx drops first (framed kind.Open body) n
   open-by n (Ok o) e is =
       let both = handed-open first (lacks_family o) (message.Open (cleaned_open o)) n is in
       subst (λ (q : Message). IsClean ctx drops first (framed kind.Open body) q) both.1 (open-read o e both.0)
@@ -137,12 +139,9 @@ module _ (ctx : Context) (drops : ℕ → Bool) (first : Bool) (body octets : Li
 -- ---- UPDATE
 
 -- what is handed on of an UPDATE that is clean, and goes on
-update-handed : (drops : ℕ → Bool) (ends : Bool) (u : Update) → cleaned_update drops u ≡ u → (ends || not (says_nothing u)) ≡ true → handed_update ends (cleaned_update drops u) ≡ message.Update u
+update-handed : (drops : ℕ → Bool) (ends : Bool) (u : Update) → cleaned_update drops u ≡ u → (ends || not (says_nothing u)) ≡ true
+    → handed_update ends (cleaned_update drops u) ≡ message.Update u
 update-handed drops ends u same goes = ap (handed_update ends) same ∙ ap (λ (t : Bool). cond t (message.Update u) message.Keepalive) goes
-
-or-more : (t : Bool) → (t || true) ≡ true
-or-more true = refl
-or-more false = refl
 
 module _ (ctx : Context) (drops : ℕ → Bool) (first : Bool) (body octets : List ℕ) (are : AreOctets octets) (f : IsFrame (framed kind.Update body) octets) where
   abbrev this : frame.Message
@@ -162,7 +161,8 @@ module _ (ctx : Context) (drops : ℕ → Bool) (first : Bool) (body octets : Li
 
   -- an UPDATE that is written, in the family that it ends, where it goes on
   update-clean : (u : Update) (family : Option ℕ) → updates.CanBeWritten ctx u body → family_in ctx (parts_of (written_body ctx u)) ≡ family → cleaned_update drops u ≡ u
-      → (is_some family || not (says_nothing u)) ≡ true → lesson_by drops family (message.Update u) ≡ lesson ctx drops this → IsClean ctx drops first this (message.Update u)
+      → (is_some family || not (says_nothing u)) ≡ true → lesson_by drops family (message.Update u) ≡ lesson ctx drops this
+      → IsClean ctx drops first this (message.Update u)
   update-clean u family can is same goes taught =
       clean-from ctx drops first kind.Update body octets are f (message.Update u) (update-written u can)
       (ap ok (update-handed drops (is_some (family_in ctx (parts_of (written_body ctx u)))) u same (ap (λ (o : Option ℕ). is_some o || not (says_nothing u)) is ∙ goes)))
@@ -170,9 +170,11 @@ module _ (ctx : Context) (drops : ℕ → Bool) (first : Bool) (body octets : Li
 
   keepalive-clean : no_lesson ≡ lesson ctx drops this → IsClean ctx drops first this message.Keepalive
   keepalive-clean taught =
-      clean-from ctx drops first kind.Update body octets are f message.Keepalive (is-written ctx drops first kind.Update body octets are f message.Keepalive tt refl (omega arith)) refl taught
+      clean-from ctx drops first kind.Update body octets are f message.Keepalive
+      (is-written ctx drops first kind.Update body octets are f message.Keepalive tt refl (omega arith)) refl taught
 
-  withdraw-clean : (routes : Routes) (notes : List Note) → verdict_of ctx body ≡ verdict.Withdraw routes notes → IsClean ctx drops first this (message.Update (withdrawal routes))
+  withdraw-clean : (routes : Routes) (notes : List Note) → verdict_of ctx body ≡ verdict.Withdraw routes notes
+      → IsClean ctx drops first this (message.Update (withdrawal routes))
   withdraw-clean routes notes e =
       let u : Update = withdrawal routes in
       let made = withdrawal-written ctx body inside routes notes e in
@@ -208,9 +210,11 @@ module _ (ctx : Context) (drops : ℕ → Bool) (first : Bool) (body octets : Li
         subst (λ (q : Message). IsClean ctx drops first this q) handed (keepalive-clean (sym (nothing-learned stays silent drops) ∙ learned None is))
     taken-by n None is false silent handed =
         subst (λ (q : Message). IsClean ctx drops first this q) handed
-        (update-clean stays None can (unending ctx stays (written_body ctx stays) [] (read-back stays can) silent) (dropped-again drops u) (not_from_false (says_nothing stays) silent) (learned None is))
+        (update-clean stays None can (unending ctx stays (written_body ctx stays) [] (read-back stays can) silent) (dropped-again drops u)
+        (not_from_false (says_nothing stays) silent) (learned None is))
 
-  update-by : (n : Message) (v : Verdict) → verdict_of ctx body ≡ v → cleaned_outcome drops first (is_some (family_in ctx (parts_of body))) (of_verdict v) ≡ Ok n → IsClean ctx drops first this n
+  update-by : (n : Message) (v : Verdict) → verdict_of ctx body ≡ v → cleaned_outcome drops first (is_some (family_in ctx (parts_of body))) (of_verdict v) ≡ Ok n
+      → IsClean ctx drops first this n
   update-by n (verdict.Take u notes) e is =
       taken-by u notes e n (family_in ctx (parts_of body)) refl (says_nothing (cleaned_update drops u)) refl (ok-same _ n is)
   update-by n (verdict.Withdraw routes notes) e is =

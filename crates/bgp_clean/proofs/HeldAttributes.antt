@@ -51,8 +51,10 @@ module _ (ctx : Context) (p : Parts) (octets : AreOctets p.attributes) where
   kept-shorter =
       let s = slots.splits ctx p octets in
       let firsts : List Attr = flat_map (λ k. first_of_type k kept) canonical_order in
-      let is : length (attributes_octets ctx (attrs_in kept)) ≡ length (flat_map (canonical ctx) firsts) = ap (λ (xs : List Attr). length (flat_map (canonical ctx) xs)) (kept-list kept named is-kept.fresh) in
-      let fewer : length (flat_map (canonical ctx) firsts) ≤ length (flat_map (canonical ctx) kept) = firsts-shorter (canonical ctx) kept canonical_order none_of_them order-fresh in
+      let is : length (attributes_octets ctx (attrs_in kept)) ≡ length (flat_map (canonical ctx) firsts) =
+      ap (λ (xs : List Attr). length (flat_map (canonical ctx) xs)) (kept-list kept named is-kept.fresh) in
+      let fewer : length (flat_map (canonical ctx) firsts) ≤ length (flat_map (canonical ctx) kept) =
+      firsts-shorter (canonical ctx) kept canonical_order none_of_them order-fresh in
       let row : length (flat_map (canonical ctx) kept) ≤ length s.row = is-kept.shorter in
       omega (arith, ap length s.whole, length-append s.row (tlvs_of p.attributes).1)
 
@@ -60,7 +62,9 @@ module _ (ctx : Context) (p : Parts) (octets : AreOctets p.attributes) where
   are-held =
       subst (λ (a : Attrs). AreHeld ctx (has_nlri p) a (length p.attributes)) (sym (slots.attrs-are ctx p octets)) (record {
         ranges = kept-all kept named is-kept.fresh HasRanges (all-more (IsReady ctx (has_nlri p)) HasRanges kept (λ x r. r.ranges) is-kept.ready);
-        in_place = kept-all kept named is-kept.fresh (Belongs ctx (has_nlri p)) (all-more (IsReady ctx (has_nlri p)) (Belongs ctx (has_nlri p)) kept (λ x r. r.in_place) is-kept.ready);
+        in_place =
+            kept-all kept named is-kept.fresh (Belongs ctx (has_nlri p))
+            (all-more (IsReady ctx (has_nlri p)) (Belongs ctx (has_nlri p)) kept (λ x r. r.in_place) is-kept.ready);
         shorter = kept-shorter;
       })
 
@@ -93,4 +97,7 @@ module _ (a : Attrs) where
     -- they stand among the others
     pub both-within : length (flat_map f reach_attr) + length (flat_map f unreach_attr) ≤ length (flat_map f (attr_list a))
     both-within =
-        omega (arith, first-routes, ap (λ (xs : List Attr). length (flat_map f xs)) (slot-at a MP_REACH_NLRI), ap (λ (xs : List Attr). length (flat_map f xs)) (slot-at a MP_UNREACH_NLRI))
+        let reach : length (flat_map f (slot a MP_REACH_NLRI)) ≡ length (flat_map f reach_attr) = ap (λ (xs : List Attr). length (flat_map f xs)) (slot-at a MP_REACH_NLRI) in
+        let unreach : length (flat_map f (slot a MP_UNREACH_NLRI)) ≡ length (flat_map f unreach_attr) =
+        ap (λ (xs : List Attr). length (flat_map f xs)) (slot-at a MP_UNREACH_NLRI) in
+        omega (arith, first-routes)

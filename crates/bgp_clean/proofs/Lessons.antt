@@ -96,7 +96,8 @@ learned family u stays = record {
 }
 
 -- without the attributes that are left out, the same is learned
-pub cleaned-learned : (drops : ℕ → Bool) (family : Option ℕ) (u : Update) → lesson_by drops family (message.Update (cleaned_update drops u)) ≡ lesson_by drops family (message.Update u)
+pub cleaned-learned : (drops : ℕ → Bool) (family : Option ℕ) (u : Update)
+    → lesson_by drops family (message.Update (cleaned_update drops u)) ≡ lesson_by drops family (message.Update u)
 cleaned-learned drops family u = ap (learned family u) (dropped-again drops u)
 
 -- ---- routes that are withdrawn

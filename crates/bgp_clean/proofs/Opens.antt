@@ -37,23 +37,21 @@ as4-seen false e = absurd (true≢false e)
 unseen : (seen : Seen) (c : Capability) → goes_on seen c ≡ false → seen_behind seen c ≡ seen
 unseen seen (Multi family subsequent) e =
     let p = or_parts (cond seen.ip4 false (is_unicast IPV4 (Multi family subsequent))) (cond seen.ip6 false (is_unicast IPV6 (Multi family subsequent))) e in
-    ap₂ (λ (x y : Bool). record seen { ip4 = x; ip6 = y }) (unseen-by seen.ip4 (is_unicast IPV4 (Multi family subsequent)) p.0) (unseen-by seen.ip6 (is_unicast IPV6 (Multi family subsequent)) p.1)
+    ap₂ (λ (x y : Bool). record seen { ip4 = x; ip6 = y })
+    (unseen-by seen.ip4 (is_unicast IPV4 (Multi family subsequent)) p.0) (unseen-by seen.ip6 (is_unicast IPV6 (Multi family subsequent)) p.1)
 unseen seen (As4 number) e = ap (λ (x : Bool). record seen { as4 = x }) (as4-seen seen.as4 e)
 unseen seen (Other code value) e = refl
 
-again-by : (seen : Seen) (c : Capability) (later : List Capability) (t : Bool) → goes_on seen c ≡ t
-    → understood_behind (seen_behind seen c) (understood_behind (seen_behind seen c) later) ≡ understood_behind (seen_behind seen c) later
-    → understood_behind seen (cond t (c ∷ understood_behind (seen_behind seen c) later) (understood_behind (seen_behind seen c) later))
-    ≡ cond t (c ∷ understood_behind (seen_behind seen c) later) (understood_behind (seen_behind seen c) later)
-again-by seen c later true e same =
-    ap (λ (t : Bool). cond t (c ∷ understood_behind (seen_behind seen c) (understood_behind (seen_behind seen c) later)) (understood_behind (seen_behind seen c) (understood_behind (seen_behind seen c) later))) e
+again-by : (seen : Seen) (c : Capability) (rest : List Capability) (t : Bool) → goes_on seen c ≡ t → understood_behind (seen_behind seen c) rest ≡ rest
+    → understood_behind seen (cond t (c ∷ rest) rest) ≡ cond t (c ∷ rest) rest
+again-by seen c rest true e same =
+    ap (λ (t : Bool). cond t (c ∷ understood_behind (seen_behind seen c) rest) (understood_behind (seen_behind seen c) rest)) e
     ∙ ap (λ (cs : List Capability). c ∷ cs) same
-again-by seen c later false e same =
-    ap (λ (s : Seen). understood_behind s (understood_behind (seen_behind seen c) later)) (sym (unseen seen c e)) ∙ same
+again-by seen c rest false e same = ap (λ (s : Seen). understood_behind s rest) (sym (unseen seen c e)) ∙ same
 
 understood-again : (seen : Seen) (caps : List Capability) → understood_behind seen (understood_behind seen caps) ≡ understood_behind seen caps
 understood-again seen [] = refl
-understood-again seen (c ∷ later) = again-by seen c later (goes_on seen c) refl (understood-again (seen_behind seen c) later)
+understood-again seen (c ∷ later) = again-by seen c (understood_behind (seen_behind seen c) later) (goes_on seen c) refl (understood-again (seen_behind seen c) later)
 
 -- what holds of each holds of those that go on
 understood-all : (P : Capability → Type 0) (seen : Seen) (caps : List Capability) → AllByRecursion P caps → AllByRecursion P (understood_behind seen caps)
@@ -69,13 +67,15 @@ understood-shorter : (seen : Seen) (caps : List Capability) → length (row_octe
 understood-shorter seen [] = omega arith
 understood-shorter seen (c ∷ later) = by (understood_behind (seen_behind seen c) later) (goes_on seen c) (understood-shorter (seen_behind seen c) later)
   where
-    by : (rest : List Capability) (t : Bool) → length (row_octets rest) ≤ length (row_octets later) → length (row_octets (cond t (c ∷ rest) rest)) ≤ length (row_octets (c ∷ later))
+    by : (rest : List Capability) (t : Bool) → length (row_octets rest) ≤ length (row_octets later)
+        → length (row_octets (cond t (c ∷ rest) rest)) ≤ length (row_octets (c ∷ later))
     by rest true le = omega (arith, length-append (capability_octets c) (row_octets rest), length-append (capability_octets c) (row_octets later))
     by rest false le = omega (arith, length-append (capability_octets c) (row_octets later))
 
 -- ---- what they say
 
-as4-by : (c : Capability) (rest : List Capability) (t : Bool) → ((cs : List Capability) → first_as4 (c ∷ cs) ≡ first_as4 cs) → first_as4 (cond t (c ∷ rest) rest) ≡ first_as4 rest
+as4-by : (c : Capability) (rest : List Capability) (t : Bool) → ((cs : List Capability) → first_as4 (c ∷ cs) ≡ first_as4 cs)
+    → first_as4 (cond t (c ∷ rest) rest) ≡ first_as4 rest
 as4-by c rest true past = past rest
 as4-by c rest false past = refl
 
@@ -85,7 +85,8 @@ first_as4-same seen (Multi family subsequent ∷ later) e =
     as4-by (Multi family subsequent) (understood_behind (seen_behind seen (Multi family subsequent)) later) (goes_on seen (Multi family subsequent)) (λ cs. refl)
     ∙ first_as4-same (seen_behind seen (Multi family subsequent)) later e
 first_as4-same seen (As4 number ∷ later) e =
-    ap (λ (t : Bool). first_as4 (cond (cond t false true) (As4 number ∷ understood_behind (seen_behind seen (As4 number)) later) (understood_behind (seen_behind seen (As4 number)) later))) e
+    let rest : List Capability = understood_behind (seen_behind seen (As4 number)) later in
+    ap (λ (t : Bool). first_as4 (cond (cond t false true) (As4 number ∷ rest) rest)) e
 first_as4-same seen (Other code value ∷ later) e = first_as4-same seen later e
 
 -- a family that is understood is one of the two
@@ -165,7 +166,8 @@ as4-range (a ∷ b ∷ []) c octets e = absurd (not_one c e)
 as4-range (a ∷ b ∷ d ∷ []) c octets e = absurd (not_one c e)
 as4-range (a ∷ b ∷ d ∷ f ∷ g ∷ more) c octets e = absurd (not_one c e)
 
-range-by : (code : ℕ) (value : List ℕ) (c : Capability) (t u : Bool) → code < 256 → AreOctets value → cond t (multi_of value) (cond u (as4_of value) (one (Other code value))) ≡ Some c → HasRange c
+range-by : (code : ℕ) (value : List ℕ) (c : Capability) (t u : Bool) → code < 256 → AreOctets value
+    → cond t (multi_of value) (cond u (as4_of value) (one (Other code value))) ≡ Some c → HasRange c
 range-by code value c true u small octets e = multi-range value c octets e
 range-by code value c false true small octets e = as4-range value c octets e
 range-by code value c false false small octets e = subst HasRange (same (Other code value) c e) (small, octets)
@@ -197,7 +199,9 @@ read-ranges o body octets s = record {
   hold = subst (λ (n : ℕ). n < 2 ^ 16) (sym s.hold) (omega (arith, octets 3, octets 4));
   id = ap length s.id;
   id_octets = subst AreOctets (sym s.id) (id-octets (octets 5) (octets 6) (octets 7) (octets 8));
-  caps = subst (λ (caps : List Capability). AllByRecursion HasRange caps) (sym s.caps) (parameters-ranges s.parameters (parameters_of body) (AreOctets-drop 10 body octets) s.row);
+  caps =
+      subst (λ (caps : List Capability). AllByRecursion HasRange caps) (sym s.caps)
+      (parameters-ranges s.parameters (parameters_of body) (AreOctets-drop 10 body octets) s.row);
 }
   where
     id-octets : {a b c d : ℕ} → a < 256 → b < 256 → c < 256 → d < 256 → AreOctets (a ∷ b ∷ c ∷ d ∷ [])
@@ -233,7 +237,12 @@ module _ (o : Open) where
   cleaned-shorter =
       let row : List ℕ = row_octets o.caps in
       let fewer : List ℕ = row_octets (understood o.caps) in
-      omega (arith, parameter-shorter fewer row (understood-shorter none_seen o.caps), length-append o.id (length (parameter_octets row) ∷ parameter_octets row), length-append o.id (length (parameter_octets fewer) ∷ parameter_octets fewer))
+      omega (
+        arith,
+        parameter-shorter fewer row (understood-shorter none_seen o.caps),
+        length-append o.id (length (parameter_octets row) ∷ parameter_octets row),
+        length-append o.id (length (parameter_octets fewer) ∷ parameter_octets fewer),
+      )
 
   pub cleaned-again : cleaned_open (cleaned_open o) ≡ cleaned_open o
   cleaned-again = ap (λ (caps : List Capability). record o { caps = caps }) (understood-again none_seen o.caps)

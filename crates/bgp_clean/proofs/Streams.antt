@@ -34,7 +34,8 @@ module _ (ctx : Context) (drops : ℕ → Bool) where
   none-clean : (first : Bool) (ms : List frame.Message) → AreClean first ms []
   none-clean first ms = record { taken = tt; again = refl; no_longer = tt; taught = refl }
 
-  one-more : (first : Bool) (m : frame.Message) (n : Message) (ms : List frame.Message) (ns : List Message) → IsClean ctx drops first m n → AreClean false ms ns → AreClean first (m ∷ ms) (n ∷ ns)
+  one-more : (first : Bool) (m : frame.Message) (n : Message) (ms : List frame.Message) (ns : List Message) → IsClean ctx drops first m n → AreClean false ms ns
+      → AreClean first (m ∷ ms) (n ∷ ns)
   one-more first m n ms ns clean rest = record {
     taken = (clean.taken, rest.taken);
     again = ap₂ (λ (r : Result Message CleanFault) (later : List Message). handed_then r later) clean.again rest.again;
@@ -42,8 +43,8 @@ module _ (ctx : Context) (drops : ℕ → Bool) where
     taught = ap₂ (λ (l : Lesson) (ls : List Lesson). l ∷ ls) clean.taught rest.taught;
   }
 
-  then-clean : (first : Bool) (m : frame.Message) (ms : List frame.Message) (octets : List ℕ) (later : List Message) → AreOctets octets → IsFrame m octets → AreClean false ms later
-      → (r : Result Message CleanFault) → cleaned ctx drops first m ≡ r → AreClean first (m ∷ ms) (handed_then r later)
+  then-clean : (first : Bool) (m : frame.Message) (ms : List frame.Message) (octets : List ℕ) (later : List Message) → AreOctets octets → IsFrame m octets
+      → AreClean false ms later → (r : Result Message CleanFault) → cleaned ctx drops first m ≡ r → AreClean first (m ∷ ms) (handed_then r later)
   then-clean first m ms octets later are f rest (Ok n) e = one-more first m n ms later (handed-clean ctx drops first m octets n are f e) rest
   then-clean first m ms octets later are f rest (Err why) e = none-clean first (m ∷ ms)
 

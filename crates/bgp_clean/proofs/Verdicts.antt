@@ -7,7 +7,7 @@ use Rattle.bgp_update.specs.declared.routes.Routes.{Routes}
 use Rattle.bgp_update.specs.declared.update.Update.{Update}
 use Rattle.bgp_update.specs.declared.verdict.Verdict.{Verdict}
 use Rattle.bgp_update.specs.declared.verdict.Verdict.TheVariants as verdict
-use Rattle.bgp_update.specs.Marks.{malformed, marks_of}
+use Rattle.bgp_update.specs.Marks.{Mark, malformed, marks_of}
 use Rattle.bgp_update.specs.Notes.{is_reachable, notes_of, routes_of}
 use Rattle.bgp_update.specs.Parts.{Parts, parts_of}
 use Rattle.bgp_update.specs.Taken.{update_of}
@@ -40,9 +40,15 @@ withdraw-same : (r s : Routes) (ns ms : List Note) → withdraw r ns ≡ withdra
 withdraw-same r s ns ms e = cc
 
 module _ (ctx : Context) (body : List ℕ) where
+  -- the verdict on these parts, by its three tests
+  abbrev decided : Parts → Option Notification → Bool → Bool → Verdict
+  decided p o withdrawn reachable =
+      let marks : List Mark = marks_of ctx p in
+      let gone : Verdict = cond reachable (withdraw (routes_of p marks) (notes_of p marks)) (verdict.Reset malformed) in
+      unless_reset o (cond withdrawn gone (take (update_of p marks) (notes_of p marks)))
+
   taken-on : (u : Update) (notes : List Note) (p : Parts) → parts_of body ≡ Some p → (o : Option Notification) (withdrawn reachable : Bool)
-      → unless_reset o (cond withdrawn (cond reachable (withdraw (routes_of p (marks_of ctx p)) (notes_of p (marks_of ctx p))) (verdict.Reset malformed)) (take (update_of p (marks_of ctx p)) (notes_of p (marks_of ctx p)))) ≡ take u notes
-      → IsTakenOf ctx body u
+      → decided p o withdrawn reachable ≡ take u notes → IsTakenOf ctx body u
   taken-on u notes p found (Some n) withdrawn reachable e = absurd cc
   taken-on u notes p found None true true e = absurd cc
   taken-on u notes p found None true false e = absurd cc
@@ -57,8 +63,7 @@ module _ (ctx : Context) (body : List ℕ) where
 
   withdrawn-on : (routes : Routes) (notes : List Note) (p : Parts) → parts_of body ≡ Some p → (o : Option Notification) (withdrawn reachable : Bool)
       → reset_of p (marks_of ctx p) ≡ o → is_reachable p (marks_of ctx p) ≡ reachable
-      → unless_reset o (cond withdrawn (cond reachable (withdraw (routes_of p (marks_of ctx p)) (notes_of p (marks_of ctx p))) (verdict.Reset malformed)) (take (update_of p (marks_of ctx p)) (notes_of p (marks_of ctx p)))) ≡ withdraw routes notes
-      → IsWithdrawnOf ctx body routes
+      → decided p o withdrawn reachable ≡ withdraw routes notes → IsWithdrawnOf ctx body routes
   withdrawn-on routes notes p found (Some n) withdrawn reachable r s e = absurd cc
   withdrawn-on routes notes p found None true true r s e = record { parts = p; found = found; no_reset = r; reachable = s; routes_are = withdraw-same _ routes _ notes e }
   withdrawn-on routes notes p found None true false r s e = absurd cc
@@ -66,7 +71,8 @@ module _ (ctx : Context) (body : List ℕ) where
 
   withdrawn-by : (routes : Routes) (notes : List Note) (o : Option Parts) → parts_of body ≡ o → of_parts ctx o ≡ withdraw routes notes → IsWithdrawnOf ctx body routes
   withdrawn-by routes notes None found e = absurd cc
-  withdrawn-by routes notes (Some p) found e = withdrawn-on routes notes p found (reset_of p (marks_of ctx p)) (is_withdrawn p (marks_of ctx p)) (is_reachable p (marks_of ctx p)) refl refl e
+  withdrawn-by routes notes (Some p) found e =
+      withdrawn-on routes notes p found (reset_of p (marks_of ctx p)) (is_withdrawn p (marks_of ctx p)) (is_reachable p (marks_of ctx p)) refl refl e
 
   pub withdrawn-of : (routes : Routes) (notes : List Note) → verdict_of ctx body ≡ verdict.Withdraw routes notes → IsWithdrawnOf ctx body routes
   withdrawn-of routes notes e = withdrawn-by routes notes (parts_of body) refl e

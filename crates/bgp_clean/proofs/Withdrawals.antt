@@ -45,19 +45,16 @@ use Rattle.bgp_update.proofs.Lists.{all-append}
 use Rattle.bgp_update.proofs.Taken.{run-row, row-some}
 use Rattle.bgp_update.proofs.Validity.{IsAccepted, accepted-valid}
 use Rattle.bgp_clean.specs.Updates.{unreach_of, withdrawal, is_bare, says_nothing}
-use Rattle.bgp_clean.proofs.Ends.{unreach-list}
+use Rattle.bgp_clean.proofs.Ends.{unreach_attrs, unreach-list}
 use Rattle.bgp_clean.proofs.HeldAttributes.{AreHeld, are-held, reach_attr, unreach_attr, reach-all, unreach-all, both-within}
 use Rattle.bgp_clean.proofs.Verdicts.{IsWithdrawnOf, withdrawn-of}
 
 -- an attribute that withdraws IPv6 routes, where there are some
 abbrev gone_attr : List PrefixValue → List Attr
-gone_attr ps = present (λ (r : MpUnreach). attr.MpUnreach r) (unreach_of ps)
+gone_attr ps = unreach_attrs (unreach_of ps)
 
 abbrev reach_list : Option MpReach → List Attr
 reach_list o = present (λ (r : MpReach). attr.MpReach r) o
-
-abbrev unreach_list : Option MpUnreach → List Attr
-unreach_list o = present (λ (r : MpUnreach). attr.MpUnreach r) o
 
 gone-none : (test : Attr → Bool) → ((r : MpUnreach) → test (attr.MpUnreach r) ≡ false) → (ps : List PrefixValue) → list_any test (gone_attr ps) ≡ false
 gone-none test none [] = refl
@@ -98,7 +95,7 @@ module _ (ctx : Context) where
   -- the routes of both attributes in their new places have no more octets
   module _ (u : Option MpUnreach) (r : Option MpReach) where
     abbrev Fit : Type 0
-    Fit = run (gone_ip4 u) + (run (reached_ip4 r) + size (gone_attr (gone_ip6 u ++ reached_ip6 r))) ≤ size (reach_list r) + size (unreach_list u)
+    Fit = run (gone_ip4 u) + (run (reached_ip4 r) + size (gone_attr (gone_ip6 u ++ reached_ip6 r))) ≤ size (reach_list r) + size (unreach_attrs u)
 
   reach4-least : (hop : List ℕ) (ps : List PrefixValue) → run ps ≤ size (attr.MpReach (reach.Ip4 hop ps) ∷ [])
   reach4-least hop ps = let least = (size-one (attr.MpReach (reach.Ip4 hop ps))).0 in omega (arith, reach_added IPV4 hop ps)
@@ -132,7 +129,8 @@ module _ (ctx : Context) where
   of-family6 [] used = refl
   of-family6 (p ∷ ps) used = or_from (not ctx.ip6) false (not_from_true ctx.ip6 used) refl
 
-  in-family : (nlri : Bool) (u : Option MpUnreach) (r : Option MpReach) → AllByRecursion (Belongs ctx nlri) (unreach_list u) → AllByRecursion (Belongs ctx nlri) (reach_list r)
+  in-family : (nlri : Bool) (u : Option MpUnreach) (r : Option MpReach)
+      → AllByRecursion (Belongs ctx nlri) (unreach_attrs u) → AllByRecursion (Belongs ctx nlri) (reach_list r)
       → list_any (is_of_other_family ctx) (gone_attr (gone_ip6 u ++ reached_ip6 r)) ≡ false
   in-family nlri None None a b = refl
   in-family nlri None (Some (reach.Ip4 hop ps)) a b = refl
@@ -142,7 +140,7 @@ module _ (ctx : Context) where
   in-family nlri (Some (unreach.Ip4 qs)) (Some (reach.Ip6 hop link ps)) a b = of-family6 ps b.0
   in-family nlri (Some (unreach.Ip6 qs)) r a b = of-family6 (qs ++ reached_ip6 r) a.0
 
-unreach-valid : (u : Option MpUnreach) → AllByRecursion HasRanges (unreach_list u) → AllByRecursion (IsValid 4) (gone_ip4 u) × AllByRecursion (IsValid 16) (gone_ip6 u)
+unreach-valid : (u : Option MpUnreach) → AllByRecursion HasRanges (unreach_attrs u) → AllByRecursion (IsValid 4) (gone_ip4 u) × AllByRecursion (IsValid 16) (gone_ip6 u)
 unreach-valid None all = (tt, tt)
 unreach-valid (Some (unreach.Ip4 ps)) all = (all.0, tt)
 unreach-valid (Some (unreach.Ip6 ps)) all = (tt, all.0)
@@ -187,7 +185,9 @@ module _ (ctx : Context) (p : Parts) (octets_w : AreOctets p.withdrawn) (octets_
   held = are-held ctx p octets_a
 
   runs : (reset_of_run p.withdrawn ≡ None) × (reset_of_run p.nlri ≡ None)
-  runs = or-parts (reset_of_run p.withdrawn) (reset_of_run p.nlri) (or-parts (first_reset (marks_of ctx p)) (option_or (reset_of_run p.withdrawn) (reset_of_run p.nlri)) no_reset).1
+  runs =
+      let later = or-parts (first_reset (marks_of ctx p)) (option_or (reset_of_run p.withdrawn) (reset_of_run p.nlri)) no_reset in
+      or-parts (reset_of_run p.withdrawn) (reset_of_run p.nlri) later.1
 
   row-w : Row (IsPrefix 4) ws p.withdrawn
   row-w = run-row p.withdrawn runs.0
@@ -199,7 +199,9 @@ module _ (ctx : Context) (p : Parts) (octets_w : AreOctets p.withdrawn) (octets_
   none-of test e = subst (λ (xs : List Attr). list_any test xs ≡ false) (sym (unreach-list (unreach_of ip6))) e
 
   family : list_any (is_of_other_family ctx) (gone_attr ip6) ≡ false
-  family = in-family ctx (has_nlri p) a.mp_unreach a.mp_reach (unreach-all a (Belongs ctx (has_nlri p)) held.in_place) (reach-all a (Belongs ctx (has_nlri p)) held.in_place)
+  family =
+      in-family ctx (has_nlri p) a.mp_unreach a.mp_reach
+      (unreach-all a (Belongs ctx (has_nlri p)) held.in_place) (reach-all a (Belongs ctx (has_nlri p)) held.in_place)
 
   accepted : IsAccepted ctx said
   accepted = record {
@@ -236,7 +238,8 @@ module _ (ctx : Context) (p : Parts) (octets_w : AreOctets p.withdrawn) (octets_
   no-longer body s =
       let w : run ws ≡ length p.withdrawn = (Row-rewritten 4 ws p.withdrawn octets_w row-w).1 in
       let n : run ns ≡ length p.nlri = (Row-rewritten 4 ns p.nlri octets_n row-n).1 in
-      let to : length (written_body ctx said) ≡ 4 + (run ip4 + (length (attributes_octets ctx said.attrs) + 0)) = length-body (run_octets ip4) (attributes_octets ctx said.attrs) [] in
+      let to : length (written_body ctx said) ≡ 4 + (run ip4 + (length (attributes_octets ctx said.attrs) + 0)) =
+      length-body (run_octets ip4) (attributes_octets ctx said.attrs) [] in
       let from : length body ≡ 4 + (length p.withdrawn + (length p.attributes + length p.nlri)) = ap length s.octets ∙ length-body p.withdrawn p.attributes p.nlri in
       let attributes : length (attributes_octets ctx said.attrs) ≡ size ctx (gone_attr ip6) = ap (λ (xs : List Attr). size ctx xs) (unreach-list (unreach_of ip6)) in
       let first = run-append ws (gone_ip4 a.mp_unreach ++ (reached_ip4 a.mp_reach ++ ns)) in
@@ -286,4 +289,5 @@ module _ (ctx : Context) (body : List ℕ) (octets : AreOctets body) (routes : R
       AreOctets-back (to_be_bytes w16 (length p.withdrawn)) _ (subst AreOctets s.octets octets) in
       let behind_a : AreOctets (p.attributes ++ p.nlri) = AreOctets-back (to_be_bytes w16 (length p.attributes)) _ (AreOctets-back p.withdrawn _ behind_w) in
       subst (λ (r : Routes). CanBeWritten ctx (withdrawal r) body × (says_nothing (withdrawal r) ≡ false)) is.routes_are
-      (is-withdrawal ctx p (AreOctets-front p.withdrawn _ behind_w) (AreOctets-front p.attributes p.nlri behind_a) (AreOctets-back p.attributes p.nlri behind_a) is.no_reset is.reachable body s)
+      (is-withdrawal ctx p (AreOctets-front p.withdrawn _ behind_w) (AreOctets-front p.attributes p.nlri behind_a) (AreOctets-back p.attributes p.nlri behind_a)
+      is.no_reset is.reachable body s)
