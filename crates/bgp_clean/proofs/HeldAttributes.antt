@@ -1,4 +1,4 @@
--- The attributes that are kept of a message, whatever its verdict: each is within its ranges and belongs there, and they have no more octets than the field.
+-- The attributes that are kept of a message, whatever its verdict: each is within its ranges and belongs there, and the field has as many octets or more.
 use Rattle.std.proofs.Common.{◌≡◌, ℕ, ◌+◌, ◌≤◌, Bool, false, List, ◌∷◌, ◌++◌, length, refl, sym, ap, subst, ◌∙◌, arith}
 use Rattle.std.specs.List.{flat_map, filter, AllByRecursion}
 use Rattle.std.specs.Prelude.{not}
