@@ -1,1 +1,10 @@
 -- Lemmas on cleaned messages and streams.
+pub mod Opens
+pub mod Dropped
+pub mod Verdicts
+pub mod Ends
+pub mod Lessons
+pub mod HeldAttributes
+pub mod Withdrawals
+pub mod Handed
+pub mod Streams

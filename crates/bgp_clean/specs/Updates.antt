@@ -12,7 +12,6 @@ use Rattle.bgp_update.specs.declared.attrs.Attrs.{Attrs}
 use Rattle.bgp_update.specs.declared.routes.Routes.{Routes}
 use Rattle.bgp_update.specs.declared.update.Update.{Update}
 use Rattle.bgp_update.specs.Marks.{Mark, marks_of}
-use Rattle.bgp_update.specs.Notes.{gone_ip4, gone_ip6}
 use Rattle.bgp_update.specs.Parts.{Parts}
 use Rattle.bgp_update.specs.Slots.{attr_list}
 use Rattle.bgp_update.specs.Taken.{kept_of, no_attrs}

@@ -1,7 +1,6 @@
 //! Laws of cleaning. Each is the contract of a function that does nothing.
 
 ghost use Rattle.std.specs.Prelude.{◌≡◌, ℕ, Bool, List, Ok};
-ghost use Rattle.std.specs.List.{AllByRecursion};
 ghost use Rattle.bgp_wire.specs.Octets.{AreOctets};
 ghost use Rattle.bgp_wire.specs.Row.{Row};
 ghost use Rattle.bgp_frame.specs.Frame as frame;

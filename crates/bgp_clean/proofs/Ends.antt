@@ -1,0 +1,181 @@
+-- Which UPDATEs are an End-of-RIB: what is taken of one, and what is read where one was written.
+use Rattle.std.proofs.Common.{◌≡◌, ℕ, ◌+◌, ◌≤◌, Bool, true, false, not, ◌&&◌, ◌||◌, cond, eqb, List, [], ◌∷◌, ◌++◌, length, Option, Some, None, refl, sym, ap, subst, ◌∙◌, arith}
+use Rattle.std.specs.Prelude.{is_some}
+use Rattle.std.specs.List.{flat_map, list_any, AllByRecursion}
+use Rattle.std.proofs.lemmas.Bool.{both_ways, eqb-true, or_parts, not-false}
+use Rattle.std.proofs.lemmas.List.{nil_from_length}
+use Rattle.bgp_numbers.specs.declared.afi.TheConstants.{IPV4}
+use Rattle.bgp_open.specs.declared.context.Context.{Context}
+use Rattle.bgp_prefix.specs.Prefix.{PrefixValue}
+use Rattle.bgp_prefix.specs.Run.{run_of}
+use Rattle.bgp_prefix.proofs.LawLemmas.{row_is_run}
+use Rattle.bgp_attr.specs.declared.attr.Attr.{Attr}
+use Rattle.bgp_attr.specs.declared.attr.Attr.TheVariants as attr
+use Rattle.bgp_attr.specs.declared.judged.Judged.{Judged}
+use Rattle.bgp_attr.specs.declared.mp.MpUnreach.{MpUnreach}
+use Rattle.bgp_attr.specs.declared.mp.MpUnreach.TheVariants as unreach
+use Rattle.bgp_attr.specs.Written.{canonical, is_writable, Belongs, HasRanges}
+use Rattle.bgp_update.specs.declared.attrs.Attrs.{Attrs}
+use Rattle.bgp_update.specs.declared.note.Note.{Note}
+use Rattle.bgp_update.specs.declared.update.Update.{Update}
+use Rattle.bgp_update.specs.declared.verdict.Verdict.TheVariants as verdict
+use Rattle.bgp_update.specs.Laws.{CanBeWritten}
+use Rattle.bgp_update.specs.Marks.{Mark, field_marks, marks_of}
+use Rattle.bgp_update.specs.Parts.{Parts, parts_of}
+use Rattle.bgp_update.specs.Slots.{present, slot, attr_list}
+use Rattle.bgp_update.specs.Taken.{kept_by, kept_of, no_attrs, attrs_of, update_of}
+use Rattle.bgp_update.specs.Verdict.{verdict_of}
+use Rattle.bgp_update.specs.Written.{attributes_octets, written_body, is_of_other_family}
+use Rattle.bgp_update.proofs.Bodies.{body-parts, length-body}
+use Rattle.bgp_update.proofs.MarkLemmas.{KeepsAll, field-keep}
+use Rattle.bgp_update.proofs.QuietMarks.{no_marks}
+use Rattle.bgp_update.proofs.ReadBack.{valid-writable}
+use Rattle.bgp_update.proofs.SlotTypes.{recognised_types}
+use Rattle.bgp_update.proofs.Validity.{valid-accepted}
+use Rattle.bgp_clean.specs.Updates.{bare_family, family_of_kept, family_of_marks, end_of_rib, is_bare, says_nothing}
+use Rattle.bgp_clean.specs.Clean.{family_in}
+use Rattle.bgp_clean.proofs.Verdicts.{taken-of}
+
+-- ---- an MP_UNREACH_NLRI alone
+
+abbrev pub with_unreach : Option MpUnreach → Attrs
+with_unreach o = record no_attrs { mp_unreach = o }
+
+abbrev pub unreach_attrs : Option MpUnreach → List Attr
+unreach_attrs o = present (λ (r : MpUnreach). attr.MpUnreach r) o
+
+pub unreach-list : (o : Option MpUnreach) → attr_list (with_unreach o) ≡ unreach_attrs o
+unfolding slot
+unreach-list None = sym (recognised_types (with_unreach None) refl)
+unreach-list (Some r) = sym (recognised_types (with_unreach (Some r)) refl)
+
+-- the UPDATE of an End-of-RIB, which has such an attribute or none
+abbrev pub end_update : Option MpUnreach → Update
+end_update o = record { withdrawn = []; attrs = with_unreach o; nlri = [] }
+
+abbrev pub family_of_end : Option MpUnreach → Option ℕ
+family_of_end None = Some IPV4
+family_of_end (Some r) = bare_family (attr.MpUnreach r)
+
+-- the UPDATE is the End-of-RIB of this family
+pub record IsEnding (u : Update) (family : ℕ) : Type 0 where
+  pub unreach : Option MpUnreach
+  pub is : u ≡ end_update unreach
+  pub of_family : family_of_end unreach ≡ Some family
+
+-- ---- what is taken of an End-of-RIB
+
+not_some : (f : ℕ) → None ≡ Some f → ⊥
+not_some f e = absurd cc
+
+bare-unreach : (x : Attr) (f : ℕ) → bare_family x ≡ Some f → (r : MpUnreach) × (x ≡ attr.MpUnreach r)
+bare-unreach (attr.MpUnreach r) f e = (r, refl)
+bare-unreach x f e = absurd (not_some f e)
+
+kept-bare : (ks : List Attr) (f : ℕ) → family_of_kept ks ≡ Some f → (r : MpUnreach) × (ks ≡ attr.MpUnreach r ∷ []) × (bare_family (attr.MpUnreach r) ≡ Some f)
+kept-bare [] f e = absurd (not_some f e)
+kept-bare (x ∷ []) f e =
+    let is = bare-unreach x f e in
+    (is.0, ap (λ (y : Attr). y ∷ []) is.1, ap bare_family (sym is.1) ∙ e)
+kept-bare (x ∷ y ∷ ks) f e = absurd (not_some f e)
+
+marks-end : (ms : List Mark) (f : ℕ) → family_of_marks ms ≡ Some f → (o : Option MpUnreach) × (attrs_of (kept_of ms) ≡ with_unreach o) × (family_of_end o ≡ Some f)
+marks-end [] f e = (None, refl, e)
+marks-end (m ∷ []) f e = let bare = kept-bare (kept_of (m ∷ [])) f e in (Some bare.0, ap attrs_of bare.1, bare.2)
+marks-end (m ∷ n ∷ ms) f e = absurd (not_some f e)
+
+run-none : (b : List ℕ) → eqb (length b) 0 ≡ true → (run_of 4 b).0 ≡ []
+run-none b e =
+    ap (λ (x : List ℕ). (run_of 4 x).0) (nil_from_length b (eqb-true (length b) 0 e)) ∙ ap (λ (q : List PrefixValue × List ℕ). q.0) (row_is_run 4 [] [] refl)
+
+abbrev update : List PrefixValue → Attrs → List PrefixValue → Update
+update withdrawn attrs nlri = record { withdrawn = withdrawn; attrs = attrs; nlri = nlri }
+
+same-update : (w n : List PrefixValue) (a b : Attrs) → w ≡ [] → a ≡ b → n ≡ [] → update w a n ≡ update [] b []
+same-update w n a b e f g = rw (e, f, g) refl
+
+module _ (ctx : Context) (p : Parts) (f : ℕ) where
+  ending-by : (w n : Bool) → eqb (length p.withdrawn) 0 ≡ w → eqb (length p.nlri) 0 ≡ n → cond (w && n) (family_of_marks (marks_of ctx p)) None ≡ Some f
+      → IsEnding (update_of p (marks_of ctx p)) f
+  ending-by true true no_w no_n e =
+      let end = marks-end (marks_of ctx p) f e in
+      record { unreach = end.0; is = same-update _ _ _ _ (run-none p.withdrawn no_w) end.1 (run-none p.nlri no_n); of_family = end.2 }
+  ending-by true false no_w no_n e = absurd (not_some f e)
+  ending-by false n no_w no_n e = absurd (not_some f e)
+
+  pub ending : end_of_rib ctx p ≡ Some f → IsEnding (update_of p (marks_of ctx p)) f
+  ending e = ending-by (eqb (length p.withdrawn) 0) (eqb (length p.nlri) 0) refl refl e
+
+-- ---- an End-of-RIB says nothing else, and what is written of more is none
+
+bare-end : (o : Option MpUnreach) (f : ℕ) → family_of_end o ≡ Some f → is_bare (unreach_attrs o) ≡ true
+bare-end None f e = refl
+bare-end (Some r) f e = ap (λ (x : Option ℕ). is_some x) e
+
+end-says_nothing : (o : Option MpUnreach) (f : ℕ) → family_of_end o ≡ Some f → says_nothing (end_update o) ≡ true
+end-says_nothing o f e = ap is_bare (unreach-list o) ∙ bare-end o f e
+
+module _ (ctx : Context) (u : Update) where
+  -- an UPDATE that is taken from an End-of-RIB is that
+  pub taken-ending : (body : List ℕ) (notes : List Note) (f : ℕ) → verdict_of ctx body ≡ verdict.Take u notes → family_in ctx (parts_of body) ≡ Some f → IsEnding u f
+  taken-ending body notes f e is_end =
+      let is = taken-of ctx body u notes e in
+      subst (λ (v : Update). IsEnding v f) is.update (ending ctx is.parts f (ap (family_in ctx) (sym is.found) ∙ is_end))
+
+  unending-by : says_nothing u ≡ false → (p : Parts) → update_of p (marks_of ctx p) ≡ u → (o : Option ℕ) → end_of_rib ctx p ≡ o → o ≡ None
+  unending-by more p update None e = refl
+  unending-by more p update (Some f) e =
+      let end : IsEnding u f = subst (λ (v : Update). IsEnding v f) update (ending ctx p f e) in
+      absurd (both_ways (says_nothing u) more (ap says_nothing end.is ∙ end-says_nothing end.unreach f end.of_family))
+
+  -- an UPDATE that says something is taken from no End-of-RIB
+  pub unending : (body : List ℕ) (notes : List Note) → verdict_of ctx body ≡ verdict.Take u notes → says_nothing u ≡ false → family_in ctx (parts_of body) ≡ None
+  unending body notes e more =
+      let is = taken-of ctx body u notes e in
+      ap (family_in ctx) is.found ∙ unending-by more is.parts is.update (end_of_rib ctx is.parts) refl
+
+-- ---- an End-of-RIB that is written
+
+one-mark : (ms : List Mark) (x : Attr) → KeepsAll ms (x ∷ []) → family_of_marks ms ≡ bare_family x
+one-mark [] x keeps = absurd keeps
+one-mark (m ∷ []) x keeps = ap (λ (j : Judged). family_of_kept (kept_by j ++ [])) keeps.0
+one-mark (m ∷ n ∷ ms) x keeps = absurd keeps.1
+
+in-use : (ctx : Context) (r : MpUnreach) → (is_of_other_family ctx (attr.MpUnreach r) || false) ≡ false → Belongs ctx false (attr.MpUnreach r)
+in-use ctx (unreach.Ip4 routes) e = not-false ctx.ip4 (or_parts (not ctx.ip4) false e).0
+in-use ctx (unreach.Ip6 routes) e = not-false ctx.ip6 (or_parts (not ctx.ip6) false e).0
+
+module _ (ctx : Context) (o : Option MpUnreach) (body : List ℕ) (can : CanBeWritten ctx (end_update o) body) (short : length body ≤ 4077) where
+  abbrev octets : List ℕ
+  octets = attributes_octets ctx (with_unreach o)
+
+  abbrev parts : Parts
+  parts = record { withdrawn = []; attributes = octets; nlri = [] }
+
+  long : length (written_body ctx (end_update o)) ≡ 4 + (0 + (length octets + 0))
+  long = length-body [] octets []
+
+  parts-found : parts_of (written_body ctx (end_update o)) ≡ Some parts
+  parts-found =
+      body-parts (written_body ctx (end_update o)) parts
+      (record { octets = refl; withdrawn_fits = omega arith; attributes_fit = omega (arith, long, short, can.no_longer) })
+
+  family-by : (q : Option MpUnreach) (f : ℕ) → family_of_end q ≡ Some f → list_any (is_of_other_family ctx) (unreach_attrs q) ≡ false
+      → AllByRecursion (λ x. is_writable ctx x ≡ true) (unreach_attrs q) → AllByRecursion HasRanges (unreach_attrs q)
+      → family_of_marks (field_marks ctx false (flat_map (canonical ctx) (unreach_attrs q))) ≡ Some f
+  family-by None f e family writable ranges = ap family_of_marks (no_marks ctx false) ∙ e
+  family-by (Some r) f e family writable ranges =
+      one-mark (field_marks ctx false (flat_map (canonical ctx) (attr.MpUnreach r ∷ []))) (attr.MpUnreach r)
+      (field-keep ctx false (attr.MpUnreach r ∷ []) (record { writable = writable.0; in_place = in-use ctx r family; ranges = ranges.0 }, tt) (refl, tt)) ∙ e
+
+  -- it is that of the same family
+  pub written-end : (f : ℕ) → family_of_end o ≡ Some f → family_in ctx (parts_of (written_body ctx (end_update o))) ≡ Some f
+  written-end f e =
+      let writable = valid-writable ctx (end_update o) can.valid (omega (arith, short, can.no_longer)) in
+      let acc = valid-accepted ctx (end_update o) can.valid in
+      ap (family_in ctx) parts-found
+      ∙ ap (λ (xs : List Attr). family_of_marks (field_marks ctx false (flat_map (canonical ctx) xs))) (unreach-list o)
+      ∙ family-by o f e
+      (subst (λ (xs : List Attr). list_any (is_of_other_family ctx) xs ≡ false) (unreach-list o) acc.family)
+      (subst (λ (xs : List Attr). AllByRecursion (λ x. is_writable ctx x ≡ true) xs) (unreach-list o) writable)
+      (subst (λ (xs : List Attr). AllByRecursion HasRanges xs) (unreach-list o) can.ranges.attributes)
