@@ -1,4 +1,5 @@
 """What the commands of bgp print: each gives what is written, what is told on standard error, and the status."""
+from cleaning import cleaned_stream
 from wire import *
 
 NAMES = {OPEN: "OPEN", UPDATE: "UPDATE", NOTIFICATION: "NOTIFICATION", KEEPALIVE: "KEEPALIVE"}
@@ -181,6 +182,15 @@ def narrow(context, given):
     return (written, told(f"cannot narrow at {len(given) - end}"), 1) if end else (written, b"", 0)
 
 
+def clean(context, given, is_hex=False, drops=()):
+    """Octets in, or digits, and octets out."""
+    octets, bad = octets_in(given) if is_hex else (given, None)
+    written, end = cleaned_stream(context, drops, octets)
+    if bad is not None and (end is None or end[1] == "an incomplete message"):
+        return written, told(f"bad hex at {bad}"), 1
+    return (written, told(f"cannot clean at {end[0]}: {end[1]}"), 1) if end else (written, b"", 0)
+
+
 def first_open(octets):
     """What the OPEN says that octets begin with, or None: their first message isn't a complete, valid OPEN."""
     found, _, _ = frames(octets)
@@ -198,7 +208,7 @@ def agreed(ours, theirs):
     return Context(numbers[0] == numbers[1], all(wide), *families)
 
 
-def by_opens(command, theirs, given, is_hex=False):
+def by_opens(command, theirs, given, is_hex=False, *more):
     """The outcome of a command in the context that both OPENs agree on; `theirs` is the other direction."""
     octets, bad = octets_in(given) if is_hex else (given, None)
     found, _, fault = frames(octets)
@@ -207,4 +217,4 @@ def by_opens(command, theirs, given, is_hex=False):
     context = agreed(first_open(octets), first_open(theirs))
     if context is None or (command == narrow and not context.as4):
         return b"", told("no OPEN to agree with"), 1
-    return command(context, given, True) if is_hex else command(context, given)
+    return command(context, given, is_hex, *more) if is_hex or more else command(context, given)

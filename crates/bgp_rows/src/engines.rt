@@ -4,9 +4,23 @@ use crate::page::Page;
 use crate::row::Row;
 use crate::sheet::{Drip, Sheet};
 use crate::trouble::Trouble;
-use bgp_engine::{Tally, ToolFault, check, from_hex, narrow_stream, show, status, to_hex};
+use bgp_engine::{
+    Tally, ToolFault, check, clean_stream, from_hex, narrow_stream, show, status, to_hex,
+};
 use bgp_open::Context;
+use bgp_wire::OctetSet;
 use std::alloc::Global;
+
+/// The types that a row leaves out: the numbers behind `drop`.
+fn drops_of(settings: &str) -> OctetSet {
+    let mut drops = OctetSet::new();
+    for word in settings.split_whitespace() {
+        if let Ok(kind) = word.parse::<u8>() {
+            drops.insert(kind);
+        }
+    }
+    drops
+}
 
 /// Runs an engine.
 fn run_engine(
@@ -22,6 +36,7 @@ fn run_engine(
         "check" => check(alloc, ctx, hex, input, output),
         "to-hex" => to_hex(alloc, input, output),
         "from-hex" => from_hex(alloc, input, output),
+        "clean" => clean_stream(alloc, ctx, &drops_of(row.settings), hex, input, output),
         _ => narrow_stream(alloc, &Context { as4: true, ..*ctx }, input, output),
     }
 }
@@ -54,7 +69,7 @@ fn run_again(
 
 /// Adds what was written: text as it is, octets as digits.
 fn put_output(alloc: Global, page: &mut Page, row: &Row<'_>, octets: &[u8]) -> Result<(), Trouble> {
-    if row.kind == "from-hex" || row.kind == "narrow" {
+    if row.kind == "from-hex" || row.kind == "narrow" || row.kind == "clean" {
         page.put_digits(alloc, octets)?;
         return page.put("\n");
     }
