@@ -1,5 +1,5 @@
 -- What the laws of cleaning say of a message that is handed on, and of a cleaned stream.
-use Rattle.std.specs.Prelude.{◌≡◌, ◌≤◌, ◌×◌, ℕ, Bool, true, List, [], ◌∷◌, length, map, take, Ok}
+use Rattle.std.specs.Prelude.{◌≡◌, ◌≤◌, ℕ, Bool, true, List, [], ◌∷◌, length, map, take, Ok}
 use Rattle.std.specs.List.{AllByRecursion}
 use Rattle.bgp_frame.specs.declared.end.End.TheVariants as end
 use Rattle.bgp_frame.specs.Frame as frame
