@@ -49,7 +49,7 @@ use Rattle.bgp_clean.specs.Updates.{cleaned_update, withdrawal, says_nothing}
 use Rattle.bgp_clean.proofs.Dropped.{dropped-written, dropped-again}
 use Rattle.bgp_clean.proofs.Ends.{IsEnding, end_update, taken-ending, unending, written-end}
 use Rattle.bgp_clean.proofs.Lessons.{nothing-learned, cleaned-learned, withdrawal-learned}
-use Rattle.bgp_clean.proofs.Opens.{read-ranges, cleaned-ranges, cleaned-good, cleaned-shorter, cleaned-again, cleaned-lacks_none, cleaned-peer_as}
+use Rattle.bgp_clean.proofs.CleanedOpens.{read-ranges, cleaned-ranges, cleaned-good, cleaned-shorter, cleaned-again, cleaned-lacks_none, cleaned-peer_as}
 use Rattle.bgp_clean.proofs.Withdrawals.{withdrawal-written}
 
 abbrev ok : Message → Result Message CleanFault

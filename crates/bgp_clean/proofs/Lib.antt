@@ -1,5 +1,5 @@
 -- Lemmas on cleaned messages and streams.
-pub mod Opens
+pub mod CleanedOpens
 pub mod Dropped
 pub mod Verdicts
 pub mod Ends
@@ -8,3 +8,7 @@ pub mod HeldAttributes
 pub mod Withdrawals
 pub mod Handed
 pub mod Streams
+pub mod Understood
+pub mod Fewer
+pub mod Withdrawing
+pub mod Outcomes

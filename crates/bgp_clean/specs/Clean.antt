@@ -1,12 +1,12 @@
 -- What is handed on of a message, and where a cleaned stream ends (RFC 7606, sections 2 and 5; RFC 4271, section 6).
-use Rattle.std.specs.Prelude.{ℕ, Bool, not, ◌||◌, List, Option, None, Some, is_some, Result, Ok, Err, if◌then◌else◌}
+use Rattle.std.specs.Prelude.{ℕ, Bool, not, ◌||◌, List, Option, None, is_some, Result, Ok, Err, if◌then◌else◌}
 use Rattle.bgp_frame.specs.declared.kind.Kind.{Kind}
 use Rattle.bgp_frame.specs.declared.kind.Kind.TheVariants as kind
 use Rattle.bgp_frame.specs.Frame as frame
 use Rattle.bgp_open.specs.declared.context.Context.{Context}
 use Rattle.bgp_open.specs.declared.message.Open.{Open}
 use Rattle.bgp_update.specs.declared.update.Update.{Update}
-use Rattle.bgp_update.specs.Parts.{Parts, parts_of}
+use Rattle.bgp_update.specs.Parts.{parts_of}
 use Rattle.bgp_msg.specs.declared.message.Message.{Message}
 use Rattle.bgp_msg.specs.declared.message.Message.TheVariants as message
 use Rattle.bgp_msg.specs.declared.outcome.Outcome.{Outcome}
@@ -15,12 +15,8 @@ use Rattle.bgp_msg.specs.Outcome.{out_of}
 use Rattle.bgp_clean.specs.declared.fault.CleanFault.{CleanFault}
 use Rattle.bgp_clean.specs.declared.fault.CleanFault.TheVariants as fault
 use Rattle.bgp_clean.specs.Opens.{cleaned_open, lacks_family}
-use Rattle.bgp_clean.specs.Updates.{cleaned_update, withdrawal, end_of_rib, says_nothing}
-
--- the family whose End-of-RIB a body is, where it is one
-abbrev pub family_in : Context → Option Parts → Option ℕ
-family_in ctx None = None
-family_in ctx (Some p) = end_of_rib ctx p
+use Rattle.bgp_clean.specs.Updates.{cleaned_update, withdrawal, says_nothing}
+pub use Rattle.bgp_update.specs.EndOfRib.{family_in}
 
 abbrev pub family_by : Context → Kind → List ℕ → Option ℕ
 family_by ctx kind.Update body = family_in ctx (parts_of body)

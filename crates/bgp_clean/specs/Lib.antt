@@ -5,3 +5,5 @@ pub mod Clean
 pub mod Lesson
 pub mod Stream
 pub mod Laws
+pub mod Cleaned
+pub mod steps

@@ -1,5 +1,5 @@
 -- A message that was taken can be written, in no more octets.
-use Rattle.std.proofs.Common.{◌≡◌, ℕ, ◌+◌, ◌≤◌, Bool, cond, List, [], length, Option, Some, None, Result, Ok, Err, refl, ap, subst, arith}
+use Rattle.std.proofs.Common.{◌≡◌, ℕ, ◌+◌, ◌≤◌, Bool, cond, List, [], length, Option, Some, None, Result, Ok, Err, refl, sym, ap, subst, arith}
 use Rattle.std.proofs.lemmas.List.{length-drop}
 use Rattle.bgp_wire.specs.Octets.{AreOctets}
 use Rattle.bgp_wire.proofs.OctetLemmas.{AreOctets-back}
@@ -7,7 +7,7 @@ use Rattle.bgp_frame.specs.declared.kind.Kind.{Kind}
 use Rattle.bgp_frame.specs.declared.kind.Kind.TheVariants as kind
 use Rattle.bgp_frame.specs.declared.notification.Notification.{Notification}
 use Rattle.bgp_frame.specs.Frame as frame
-use Rattle.bgp_frame.specs.Frame.{IsFrame}
+use Rattle.bgp_frame.specs.Frame.{IsFrame, octets_of}
 use Rattle.bgp_frame.specs.Head.{header}
 use Rattle.bgp_frame.specs.Kind.{IsLength}
 use Rattle.bgp_frame.proofs.FrameLemmas.{length-octets_of, length-IsFrame}
@@ -79,3 +79,9 @@ module _ (ctx : Context) (b body : List ℕ) (long : length b ≡ 19 + length bo
 pub taken-can : (ctx : Context) (m : frame.Message) (b : List ℕ) (said : Message) (notes : List Note) → AreOctets b → IsFrame m b → out_of ctx m ≡ outcome.Took said notes → CanBeWritten ctx said b
 taken-can ctx m b said notes octets f is =
     body_by ctx b m.body (length-IsFrame m b f) m.kind f.allowed (AreOctets-back (header m.kind (19 + length m.body)) m.body (subst AreOctets f.octets octets)) said notes is
+
+-- the octets of the message needn't be there
+pub taken-body : (ctx : Context) (m : frame.Message) (said : Message) (notes : List Note) → AreOctets m.body → IsLength m.kind (19 + length m.body) → out_of ctx m ≡ outcome.Took said notes
+    → CanBeWritten ctx said (octets_of m)
+taken-body ctx m said notes octets allowed is =
+    body_by ctx (octets_of m) m.body (length-octets_of m) m.kind (subst (IsLength m.kind) (sym (length-octets_of m)) allowed) octets said notes is

@@ -17,7 +17,7 @@ pub(crate) fn put_room(out: &mut Vec<u8>) -> bool
 }
 
 /// Puts a header into the room for it at a place, in front of a body.
-pub(crate) fn put_header(kind: Kind, start: usize, out: &mut Vec<u8>)
+pub fn put_header(kind: Kind, start: usize, out: &mut Vec<u8>)
     requires room { start + 19 ≤ length out.old.items }
     requires allowed { IsLength kind (length (drop start out.old.items)) }
     ensures { out.new.items ≡ take start out.old.items ++ (header kind (length (drop start out.old.items)) ++ drop (start + 19) out.old.items) }

@@ -23,6 +23,7 @@ pub use bgp_frame::{End, Frame, Framer, HeadFault, Kind, Pull, Step, front};
 pub use decoder::Decoder;
 pub use decoding::decode_all;
 pub use encoding::encode;
+pub use header::put_header;
 pub use look::{Look, Next};
 pub use message::Message;
 pub use narrow_encoding::encode_narrowed;

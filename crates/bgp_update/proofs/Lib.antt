@@ -31,4 +31,5 @@ pub mod Measures
 pub mod PathItems
 pub mod ToldPaths
 pub mod ToldAttributes
-pub mod ToldBodies
+pub mod Layouts
+pub mod Withdrawals

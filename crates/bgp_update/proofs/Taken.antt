@@ -24,7 +24,7 @@ use Rattle.bgp_attr.specs.declared.mp.MpUnreach.TheVariants as unreach
 use Rattle.bgp_attr.specs.declared.origin.Origin.{Origin}
 use Rattle.bgp_attr.specs.declared.path.AsPath.{AsPath}
 use Rattle.bgp_attr.specs.Tlv.{IsTlv, tlvs_of}
-use Rattle.bgp_attr.specs.Written.{canonical, run_octets, type_of, is_too_wide, is_as4, is_empty, is_misnamed, has_as_zero, stands_twice, Belongs, HasRanges}
+use Rattle.bgp_attr.specs.Written.{run_octets, type_of, is_too_wide, is_as4, is_empty, is_misnamed, has_as_zero, stands_twice, Belongs, HasRanges}
 use Rattle.bgp_attr.proofs.RouteRows.{prefixes-valid}
 use Rattle.bgp_attr.proofs.TestRows.{Writes, writable-Writes}
 use Rattle.bgp_update.specs.declared.attrs.Attrs.{Attrs}
@@ -39,7 +39,7 @@ use Rattle.bgp_update.specs.Taken.{kept_of, attrs_of, update_of}
 use Rattle.bgp_update.specs.steps.Others.{as_opaque}
 use Rattle.bgp_update.proofs.AttrSlots.{first_in, as_origin, as_as_path, as_next_hop, as_local_pref, attrs_in}
 use Rattle.bgp_update.specs.Notes.{has_routes, is_reachable, has_type, missing_of, is_missing, notes_of, routes_of}
-use Rattle.bgp_update.specs.Slots.{canonical_order, attr_list}
+use Rattle.bgp_update.specs.Slots.{attr_list}
 use Rattle.bgp_update.specs.Verdict.{first_reset, bad_network, reset_of_run, reset_of, withdraws, is_withdrawn, unless_reset, without_reset, of_parts, verdict_of}
 use Rattle.bgp_update.specs.Written.{attributes_octets, written_body, announces, lacks_some, is_of_other_family, HasUpdateRanges}
 use Rattle.bgp_update.specs.Written as written
@@ -47,11 +47,10 @@ use Rattle.bgp_update.specs.Laws.{CanBeWritten}
 use Rattle.bgp_update.proofs.Bodies.{parts-body, length-body}
 use Rattle.bgp_update.proofs.Lists.{all-front, all-more}
 use Rattle.bgp_update.proofs.Rising.{NoneTwice, rising-all}
-use Rattle.bgp_update.proofs.TypeLemmas.{order-fresh, first_of_type, Named, some-type, taken-origin, taken-as_path, taken-next_hop}
+use Rattle.bgp_update.proofs.TypeLemmas.{Named, some-type, taken-origin, taken-as_path, taken-next_hop}
 use Rattle.bgp_update.proofs.Validity.{IsAccepted, accepted-valid}
 use Rattle.bgp_update.proofs.MarkLemmas.{IsReady}
-use Rattle.bgp_update.proofs.KeptSlots.{opaques-all, kept-list, kept-all, kept-none, kept-others}
-use Rattle.bgp_update.proofs.TakenLength.{firsts-shorter}
+use Rattle.bgp_update.proofs.KeptSlots.{opaques-all, kept-all, kept-none, kept-others}
 use Rattle.bgp_update.proofs.TakenSlots as slots
 use Rattle.bgp_update.proofs.KeptMarks.{origin-not_dropped, as_path-not_dropped, next_hop-not_dropped, GoesOn, or-parts, goes-on, IsKept, has-kept}
 
@@ -238,12 +237,7 @@ module _ (ctx : Context) (p : Parts) (octets_w : AreOctets p.withdrawn) (octets_
       }
 
   attributes-shorter : length (attributes_octets ctx (attrs_in kept)) ≤ length p.attributes
-  attributes-shorter =
-      let firsts : List Attr = flat_map (λ k. first_of_type k kept) canonical_order in
-      let is : length (attributes_octets ctx (attrs_in kept)) ≡ length (flat_map (canonical ctx) firsts) = ap (λ (xs : List Attr). length (flat_map (canonical ctx) xs)) (kept-list kept named fresh) in
-      let fewer : length (flat_map (canonical ctx) firsts) ≤ length (flat_map (canonical ctx) kept) = firsts-shorter (canonical ctx) kept canonical_order none_of_them order-fresh in
-      let row : length (flat_map (canonical ctx) kept) ≤ length splits.row = is-kept.shorter in
-      omega (arith, ap length splits.whole, length-append splits.row (tlvs_of p.attributes).1)
+  attributes-shorter = omega (arith, slots.attributes-shorter ctx p octets_a, ap (λ (a : Attrs). length (attributes_octets ctx a)) attrs-are)
 
   no-longer : (body : List ℕ) → IsBody p body → length (written_body ctx taken) ≤ length body
   no-longer body s =

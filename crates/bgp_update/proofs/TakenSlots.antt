@@ -1,7 +1,8 @@
 -- What the slots of a message's attributes hold: of each type the first that was kept.
-use Rattle.std.proofs.Common.{◌≡◌, ℕ, ◌-◌, Bool, true, false, not, cond, eqb, List, [], ◌∷◌, ◌++◌, length, Option, Some, refl, ap, subst, sym, ◌∙◌}
+use Rattle.std.proofs.Common.{◌≡◌, ℕ, ◌-◌, ◌≤◌, Bool, true, false, not, cond, eqb, List, [], ◌∷◌, ◌++◌, length, Option, Some, refl, ap, subst, sym, ◌∙◌, arith}
 use Rattle.std.specs.List.{flat_map, list_any, find}
 use Rattle.std.proofs.lemmas.Bool.{or_parts, not-false}
+use Rattle.std.proofs.lemmas.List.{length-append}
 use Rattle.bgp_wire.specs.Octets.{AreOctets}
 use Rattle.bgp_wire.specs.OctetSet.{none_of_them}
 use Rattle.bgp_wire.specs.Row.{Splits}
@@ -12,21 +13,22 @@ use Rattle.bgp_attr.specs.declared.attr.Attr.{Attr}
 use Rattle.bgp_attr.specs.declared.opaque.Opaque.{Opaque}
 use Rattle.bgp_attr.specs.Judgement.{is_recognised}
 use Rattle.bgp_attr.specs.Tlv.{TlvValue, IsTlv, one_tlv, tlvs_of}
-use Rattle.bgp_attr.specs.Written.{type_of, is_misnamed}
+use Rattle.bgp_attr.specs.Written.{canonical, type_of, is_misnamed}
 use Rattle.bgp_attr.proofs.Readers.{IsTlv-reads}
 use Rattle.bgp_attr.proofs.TestRows.{Writes, writable-Writes}
 use Rattle.bgp_update.specs.declared.attrs.Attrs.{Attrs}
 use Rattle.bgp_update.specs.Parts.{Parts, has_nlri}
 use Rattle.bgp_update.specs.Marks.{Mark, marks_behind, cut_mark, placed_tlvs, field_marks, marks_of}
-use Rattle.bgp_update.specs.Slots.{present, slot}
+use Rattle.bgp_update.specs.Slots.{present, slot, canonical_order}
 use Rattle.bgp_update.specs.Taken.{kept_of, attrs_of}
-use Rattle.bgp_update.specs.Written.{rise}
+use Rattle.bgp_update.specs.Written.{attributes_octets, rise}
 use Rattle.bgp_update.specs.steps.Others.{as_opaque, rising_behind}
 use Rattle.bgp_update.proofs.AttrSlots.{attrs_in, attrs_of-slots}
 use Rattle.bgp_update.proofs.Lists.{all-more}
-use Rattle.bgp_update.proofs.TypeLemmas.{first_of_type, Named}
+use Rattle.bgp_update.proofs.TypeLemmas.{order-fresh, first_of_type, Named}
 use Rattle.bgp_update.proofs.MarkLemmas.{IsReady}
-use Rattle.bgp_update.proofs.KeptSlots.{slot-kept, kept-others}
+use Rattle.bgp_update.proofs.KeptSlots.{kept-list, slot-kept, kept-others}
+use Rattle.bgp_update.proofs.TakenLength.{firsts-shorter}
 use Rattle.bgp_update.proofs.KeptMarks.{with_cut-kept, IsKept, row-kept}
 
 -- the first of a type, where there is one
@@ -82,3 +84,13 @@ module _ (ctx : Context) (p : Parts) (octets : AreOctets p.attributes) where
       let os : List Opaque = rising_behind [] (flat_map as_opaque kept) in
       let parts = or_parts (not (rise os)) (list_any (λ o. is_recognised o.kind) os) (kept-others kept named is-kept.fresh) in
       ap (λ (a : Attrs). rise a.others) attrs-are ∙ not-false (rise os) parts.0
+
+  -- they are written in no more octets
+  pub attributes-shorter : length (attributes_octets ctx (attrs_of (kept_of (marks_of ctx p)))) ≤ length p.attributes
+  attributes-shorter =
+      let firsts : List Attr = flat_map (λ k. first_of_type k kept) canonical_order in
+      let is : length (attributes_octets ctx (attrs_of (kept_of (marks_of ctx p)))) ≡ length (flat_map (canonical ctx) firsts) =
+      ap (λ (a : Attrs). length (attributes_octets ctx a)) attrs-are ∙ ap (λ (xs : List Attr). length (flat_map (canonical ctx) xs)) (kept-list kept named is-kept.fresh) in
+      let fewer : length (flat_map (canonical ctx) firsts) ≤ length (flat_map (canonical ctx) kept) = firsts-shorter (canonical ctx) kept canonical_order none_of_them order-fresh in
+      let row : length (flat_map (canonical ctx) kept) ≤ length splits.row = is-kept.shorter in
+      omega (arith, ap length splits.whole, length-append splits.row (tlvs_of p.attributes).1)

@@ -1,12 +1,13 @@
 -- The kept attributes of a message, each in the slot of its type: while their values lie in octets, and as they come one after another.
-use Rattle.std.specs.Prelude.{Bool, true, false, ◌||◌, List, [], ◌∷◌, option_map}
+use Rattle.std.specs.Prelude.{Bool, true, false, ◌||◌, List, [], ◌∷◌, map, option_map}
 use Rattle.std.specs.List.{list_any}
-use Rattle.bgp_attr.specs.AttrView.{as4_path_value}
+use Rattle.bgp_attr.specs.AttrView.{as4_path_value, opaque_value}
 use Rattle.bgp_attr.specs.CommunitiesView.{communities_value, large_value}
 use Rattle.bgp_attr.specs.MpView.{reach_value, unreach_value}
 use Rattle.bgp_attr.specs.PathView.{path_value}
 use Rattle.bgp_attr.specs.declared.attr.Attr.{Attr}
 use Rattle.bgp_attr.specs.declared.attr.Attr.TheVariants as attr
+use Rattle.bgp_attr.specs.declared.attr_view.OpaqueView.{OpaqueView}
 use Rattle.bgp_update.specs.declared.attrs.Attrs.{Attrs}
 use Rattle.bgp_update.specs.declared.kept_view.KeptView.{KeptView}
 use Rattle.bgp_update.specs.Taken.{put, attrs_of}
@@ -41,6 +42,10 @@ known_value k = record {
   large = option_map large_value k.large;
   others = [];
 }
+
+-- these, and others of unrecognised types
+abbrev pub attrs_with : KeptView → List OpaqueView → Attrs
+attrs_with kept others = record (known_value kept) { others = map opaque_value others }
 
 abbrev pub kept_value : KeptView → Kept
 kept_value k = record { known = known_value k; others = k.others }

@@ -17,4 +17,6 @@ pub mod Iters
 pub mod PathInfoView
 pub mod Laws
 pub mod Told
+pub mod EndOfRib
+pub mod Withdrawal
 pub mod steps

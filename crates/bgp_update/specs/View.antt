@@ -1,5 +1,7 @@
 -- What a borrowed UPDATE is.
-use Rattle.std.specs.Prelude.{List}
+use Rattle.std.specs.Prelude.{List, map}
+use Rattle.bgp_attr.specs.AttrView.{opaque_value}
+use Rattle.bgp_attr.specs.declared.attr_view.OpaqueView.{OpaqueView}
 use Rattle.bgp_frame.specs.Notification.{notification_of_view}
 use Rattle.bgp_update.specs.declared.note.Note.{Note}
 use Rattle.bgp_update.specs.declared.routes.Routes.{Routes}
@@ -23,6 +25,10 @@ view_marks v = marks_of v.ctx (parts_value v.body)
 -- what it says with the attributes that are kept
 abbrev pub update_value : UpdateView → Update
 update_value v = update_of (parts_value v.body) (view_marks v)
+
+-- with these in place of its attributes of unrecognised types
+abbrev pub update_with : UpdateView → List OpaqueView → Update
+update_with v others = record (update_value v) { attrs = record (update_value v).attrs { others = map opaque_value others } }
 
 abbrev pub notes_value : UpdateView → List Note
 notes_value v = notes_of (parts_value v.body) (view_marks v)

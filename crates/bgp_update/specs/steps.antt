@@ -4,4 +4,4 @@ pub mod Others
 pub mod Failed
 pub mod Measured
 pub mod ToldSlot
-pub mod ToldBody
+pub mod Layout

@@ -1,7 +1,6 @@
 //! Writing an UPDATE as a speaker with AS numbers of two octets is told it, from its view.
 
-ghost use Rattle.std.specs.Prelude.{◌≡◌, ◌≤◌, ◌+◌, ◌++◌, [], ◌∷◌, ℕ, List, false, true, length, take, drop, IfOk, OnOk, OnErr, IsTrue, IsErrOf};
-ghost use Rattle.std.specs.Int.{w16, to_be_bytes};
+ghost use Rattle.std.specs.Prelude.{◌≡◌, ◌++◌, false, true, length, IfOk, OnOk, OnErr, IsTrue, IsErrOf};
 ghost use Rattle.std.specs.List.{AllByRecursion};
 ghost use Rattle.bgp_attr.specs.steps.Appends.{Extends};
 ghost use Rattle.bgp_attr.specs.Written.{is_writable};
@@ -10,10 +9,11 @@ ghost use Rattle.bgp_update.specs.Slots.{attr_list};
 ghost use Rattle.bgp_update.specs.Told.{CanBeTold};
 ghost use Rattle.bgp_update.specs.View.{update_value};
 ghost use Rattle.bgp_update.specs.Widths.{with_as4};
-ghost use Rattle.bgp_update.specs.Written.{attributes_octets, body_octets, is_too_long, written_body};
-ghost use Rattle.bgp_update.specs.steps.ToldBody.{LaysOut, LaysOutBody};
+ghost use Rattle.bgp_update.specs.Written.{attributes_octets, is_too_long, written_body};
+ghost use Rattle.bgp_update.specs.steps.Layout.{LaysOutBody};
 ghost use Rattle.bgp_update.specs.declared.view_narrowing.NarrowFault.TheVariants.{TooLong, Memory};
 
+use crate::laying::{Places, put_room, set_lengths};
 use crate::measure::LONGEST_BODY;
 use crate::narrow_writing::put_told_attrs;
 use crate::view::UpdateView;
@@ -37,36 +37,11 @@ impl From<AllocError> for NarrowFault {
     }
 }
 
-/// Where the second length field begins, and where the NLRI do.
-#[derive(Clone, Copy)]
-struct Places {
-    attributes: usize,
-    nlri: usize,
-}
-
 /// The same session, but for the width of its AS numbers.
 fn two_octets(ctx: &Context) -> Context
     ensures { result ≡ with_as4 false ctx.now }
 {
     Context { as4: false, ..*ctx }
-}
-
-/// Adds room for a length field.
-fn put_room(out: &mut Vec<u8>) -> Result<(), AllocError>
-    ensures ok { OnOk result (out.new.items ≡ out.old.items ++ 0 ∷ 0 ∷ []) }
-    ensures err { OnErr result (Extends out.old.items out.new.items) }
-{
-    out.extend_from_slice(&[0, 0])?;
-    Ok(())
-}
-
-/// Sets a length field.
-fn set_length(len: usize, at: usize, out: &mut Vec<u8>)
-    requires small { len ≤ 65535 }
-    requires room { at + 2 ≤ length out.old.items }
-    ensures { out.new.items ≡ take at out.old.items ++ (to_be_bytes w16 len ++ drop (at + 2) out.old.items) }
-{
-    out[at..at + 2].copy_from_slice(&(len as u16).to_be_bytes());
 }
 
 /// Adds the attributes as they are told; some octets may stay where an allocation failed.
@@ -105,23 +80,6 @@ fn put_parts(
     let nlri = out.len();
     view.nlri().write(out)?;
     Ok(Places { attributes, nlri })
-}
-
-/// Sets both length fields of a body.
-fn set_lengths(start: usize, places: Places, out: &mut Vec<u8>)
-    requires withdrawn { start + 2 ≤ places.attributes }
-    requires attributes { places.attributes + 2 ≤ places.nlri }
-    requires nlri { places.nlri ≤ length out.old.items }
-    requires small { length out.old.items ≤ start + 65535 }
-    ensures { (withdrawn attributes nlri old : List ℕ) → LaysOut withdrawn attributes nlri start old out.old.items places
-        → out.new.items ≡ old ++ body_octets withdrawn attributes nlri }
-{
-    set_length(places.attributes - (start + 2), start, out);
-    set_length(
-        places.nlri - (places.attributes + 2),
-        places.attributes,
-        out,
-    );
 }
 
 impl UpdateView<'_> {

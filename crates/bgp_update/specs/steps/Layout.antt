@@ -1,9 +1,9 @@
--- A body that is told, before its two length fields are set.
+-- The body of an UPDATE, before its two length fields are set.
 use Rattle.std.specs.Prelude.{◌≡◌, ◌+◌, ℕ, List, ◌∷◌, ◌++◌, length}
 use Rattle.bgp_open.specs.declared.context.Context.{Context}
 use Rattle.bgp_attr.specs.Written.{run_octets}
 use Rattle.bgp_update.specs.declared.update.Update.{Update}
-use Rattle.bgp_update.specs.declared.view_narrowing.Places.{Places}
+use Rattle.bgp_update.specs.declared.laying.Places.{Places}
 use Rattle.bgp_update.specs.Written.{attributes_octets}
 
 -- three parts, of which two stand behind room for their lengths, behind what was there; and where these two fields and the third part begin

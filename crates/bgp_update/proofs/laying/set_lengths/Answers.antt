@@ -1,6 +1,6 @@
 use Rattle.std.proofs.Common.{◌-◌, ◌+◌, refl}
-use Rattle.bgp_update.proofs.ToldBodies.{both_set}
-use Rattle.bgp_update.proofs.view_narrowing.set_lengths.Goals as goal
+use Rattle.bgp_update.proofs.Layouts.{both_set}
+use Rattle.bgp_update.proofs.laying.set_lengths.Goals as goal
 
 pub returns : goal.returns
 returns c =

@@ -1,0 +1,145 @@
+-- An UPDATE without some of its unrecognised attributes: each other slot is as it was, so it can be written in no more octets.
+use Rattle.std.proofs.Common.{◌≡◌, ℕ, ◌+◌, ◌≤◌, Bool, true, false, not, ◌||◌, cond, eqb, List, [], ◌∷◌, ◌++◌, length, map, Option, Some, None, ◌⊎◌, inl, inr, refl, sym, ap, subst, ◌∙◌, arith}
+use Rattle.std.specs.List.{filter, find, flat_map, AllByRecursion}
+use Rattle.std.proofs.lemmas.Bool.{false≢true, eqb-true, both_ways}
+use Rattle.std.proofs.lemmas.Grind.{flat_map-append}
+use Rattle.std.proofs.lemmas.List.{length-append}
+use Rattle.bgp_open.specs.declared.context.Context.{Context}
+use Rattle.bgp_attr.specs.declared.attr.Attr.{Attr}
+use Rattle.bgp_attr.specs.declared.attr.Attr.TheVariants as attr
+use Rattle.bgp_attr.specs.declared.attr_view.OpaqueView.{OpaqueView}
+use Rattle.bgp_attr.specs.declared.opaque.Opaque.{Opaque}
+use Rattle.bgp_attr.specs.AttrView.{opaque_value}
+use Rattle.bgp_attr.specs.Judgement.{is_recognised}
+use Rattle.bgp_attr.specs.Table.{has_entry, entry_of}
+use Rattle.bgp_attr.specs.Written.{canonical, is_writable, run_octets}
+use Rattle.bgp_update.specs.declared.attrs.Attrs.{Attrs}
+use Rattle.bgp_update.specs.declared.update.Update.{Update}
+use Rattle.bgp_update.specs.declared.view.UpdateView.{UpdateView}
+use Rattle.bgp_update.specs.Slots.{present, slots, slot, canonical_order, attr_list}
+use Rattle.bgp_update.specs.View.{update_value, update_with}
+use Rattle.bgp_update.specs.Written.{attributes_octets, invalid_of, written_body}
+use Rattle.bgp_update.proofs.Bodies.{length-body}
+use Rattle.bgp_update.proofs.Lists.{all-append, all-front, all-back}
+use Rattle.bgp_update.proofs.ReadBack.{none-long, short-writable}
+use Rattle.bgp_update.proofs.SlotLemmas.{slot-at, slot-other, other_slot}
+use Rattle.bgp_clean.specs.Updates.{cleaned_attrs, cleaned_update}
+
+-- ---- views that are left out are values that are
+
+map-by : (t : Bool) (v : OpaqueView) (vs : List OpaqueView) (os : List Opaque) → map opaque_value vs ≡ os → map opaque_value (cond t (v ∷ vs) vs) ≡ cond t (opaque_value v ∷ os) os
+map-by true v vs os e = ap (λ (x : List Opaque). opaque_value v ∷ x) e
+map-by false v vs os e = e
+
+map-filter : (test : ℕ → Bool) (vs : List OpaqueView) → map opaque_value (filter (λ v. test v.kind) vs) ≡ filter (λ o. test o.kind) (map opaque_value vs)
+map-filter test [] = refl
+map-filter test (v ∷ vs) = map-by (test v.kind) v (filter (λ w. test w.kind) vs) (filter (λ o. test o.kind) (map opaque_value vs)) (map-filter test vs)
+
+-- the UPDATE of a view with those that stay is the cleaned one
+pub with_filtered : (drops : ℕ → Bool) (v : UpdateView) (os kept there : List OpaqueView) → map opaque_value os ≡ (update_value v).attrs.others
+    → kept ≡ filter (λ o. not (drops o.kind)) os → there ≡ kept → update_with v there ≡ cleaned_update drops (update_value v)
+with_filtered drops v os kept there are stay same =
+    ap (λ (xs : List Opaque). record (update_value v) { attrs = record (update_value v).attrs { others = xs } })
+    (ap (map opaque_value) (same ∙ stay) ∙ map-filter (λ k. not (drops k)) os ∙ ap (filter (λ (o : Opaque). not (drops o.kind))) are)
+
+-- ---- an entry of a table that has it
+
+module _ {A : Type 0} (kind : ℕ) (x y : A) where
+  entry-by : (row : ℕ × A) (rows : List (ℕ × A)) (t : Bool) → (t || has_entry kind rows) ≡ true → (has_entry kind rows ≡ true → entry_of kind rows x ≡ entry_of kind rows y)
+      → cond t row.1 (entry_of kind rows x) ≡ cond t row.1 (entry_of kind rows y)
+  entry-by row rows true has later = refl
+  entry-by row rows false has later = later has
+
+  entry-same : (rows : List (ℕ × A)) → has_entry kind rows ≡ true → entry_of kind rows x ≡ entry_of kind rows y
+  entry-same [] has = absurd (false≢true has)
+  entry-same (row ∷ rows) has = entry-by row rows (eqb kind row.0) has (entry-same rows)
+
+-- ---- slots
+
+module _ (drops : ℕ → Bool) (k : ℕ) where
+  abbrev filtered : List Opaque → List Opaque
+  filtered os = filter (λ o. not (drops o.kind)) os
+
+  abbrev found : List Opaque → Option Opaque
+  found os = find (λ o. eqb o.kind k) os
+
+  dropped-by : (o : Opaque) (os : List Opaque) (t u : Bool) → drops o.kind ≡ t → eqb o.kind k ≡ u → drops k ≡ true → found os ≡ None → found (cond (not t) (o ∷ os) os) ≡ None
+  dropped-by o os true u e f drop none = none
+  dropped-by o os false true e f drop none = absurd (both_ways (drops k) (ap drops (sym (eqb-true o.kind k f)) ∙ e) drop)
+  dropped-by o os false false e f drop none = ap (λ (t : Bool). cond t (Some o) (found os)) f ∙ none
+
+  find-dropped : drops k ≡ true → (os : List Opaque) → found (filtered os) ≡ None
+  find-dropped drop [] = refl
+  find-dropped drop (o ∷ os) = dropped-by o (filtered os) (drops o.kind) (eqb o.kind k) refl refl drop (find-dropped drop os)
+
+  kept-by : (o : Opaque) (os all : List Opaque) (t u : Bool) → drops o.kind ≡ t → eqb o.kind k ≡ u → drops k ≡ false → found os ≡ found all
+      → found (cond (not t) (o ∷ os) os) ≡ cond (eqb o.kind k) (Some o) (found all)
+  kept-by o os all true true e f keep same = absurd (both_ways (drops k) keep (ap drops (sym (eqb-true o.kind k f)) ∙ e))
+  kept-by o os all true false e f keep same = same ∙ ap (λ (t : Bool). cond t (Some o) (found all)) (sym f)
+  kept-by o os all false u e f keep same = ap (λ (r : Option Opaque). cond (eqb o.kind k) (Some o) r) same
+
+  find-kept : drops k ≡ false → (os : List Opaque) → found (filtered os) ≡ found os
+  find-kept keep [] = refl
+  find-kept keep (o ∷ os) = kept-by o (filtered os) os (drops o.kind) (eqb o.kind k) refl refl keep (find-kept keep os)
+
+module _ (drops : ℕ → Bool) (a : Attrs) where
+  abbrev fewer : Attrs
+  fewer = cleaned_attrs drops a
+
+  other-by : (k : ℕ) (t : Bool) → drops k ≡ t → (other_slot fewer k ≡ other_slot a k) ⊎ (other_slot fewer k ≡ [])
+  other-by k true e = inr (ap (present (λ (o : Opaque). attr.Opaque o)) (find-dropped drops k e a.others))
+  other-by k false e = inl (ap (present (λ (o : Opaque). attr.Opaque o)) (find-kept drops k e a.others))
+
+  slot-by : (k : ℕ) (t : Bool) → is_recognised k ≡ t → (slot fewer k ≡ slot a k) ⊎ (slot fewer k ≡ [])
+  slot-by k true e = inl (slot-at fewer k ∙ entry-same k (other_slot fewer k) (other_slot a k) (slots a) e ∙ sym (slot-at a k))
+  slot-by k false e = elim (other-by k (drops k) refl) [
+    | inl same ↦ inl (slot-other fewer k e ∙ same ∙ sym (slot-other a k e))
+    | inr none ↦ inr (slot-other fewer k e ∙ none)
+  ]
+
+  -- each slot is as it was, or empty
+  slot-fewer : (k : ℕ) → (slot fewer k ≡ slot a k) ⊎ (slot fewer k ≡ [])
+  slot-fewer k = slot-by k (is_recognised k) refl
+
+  all-fewer : (P : Attr → Type 0) (ks : List ℕ) → AllByRecursion P (flat_map (slot a) ks) → AllByRecursion P (flat_map (slot fewer) ks)
+  all-fewer P [] all = tt
+  all-fewer P (k ∷ ks) all =
+      let later = all-fewer P ks (all-back P (slot a k) (flat_map (slot a) ks) all) in
+      let first : AllByRecursion P (slot fewer k) = elim (slot-fewer k) [
+        | inl same ↦ subst (AllByRecursion P) (sym same) (all-front P (slot a k) (flat_map (slot a) ks) all)
+        | inr none ↦ subst (AllByRecursion P) (sym none) tt
+      ] in
+      all-append P (slot fewer k) (flat_map (slot fewer) ks) first later
+
+  module _ (octets : Attr → List ℕ) where
+    abbrev size : List Attr → ℕ
+    size xs = length (flat_map octets xs)
+
+    both : (xs ys : List Attr) → size (xs ++ ys) ≡ size xs + size ys
+    both xs ys = ap length (flat_map-append octets xs ys) ∙ length-append (flat_map octets xs) (flat_map octets ys)
+
+    slot-shorter : (k : ℕ) → size (slot fewer k) ≤ size (slot a k)
+    slot-shorter k = elim (slot-fewer k) [
+      | inl same ↦ omega (arith, ap size same)
+      | inr none ↦ omega (arith, ap size none)
+    ]
+
+    shorter : (ks : List ℕ) → size (flat_map (slot fewer) ks) ≤ size (flat_map (slot a) ks)
+    shorter [] = omega arith
+    shorter (k ∷ ks) = omega (arith, shorter ks, slot-shorter k, both (slot fewer k) (flat_map (slot fewer) ks), both (slot a k) (flat_map (slot a) ks))
+
+-- ---- the UPDATE
+
+module _ (ctx : Context) (drops : ℕ → Bool) (u : Update) (valid : invalid_of ctx u ≡ None) (short : length (written_body ctx u) ≤ 4077) where
+  pub cleaned_writable : AllByRecursion (λ x. is_writable ctx x ≡ true) (attr_list (cleaned_attrs drops u.attrs))
+  cleaned_writable = all-fewer drops u.attrs (λ x. is_writable ctx x ≡ true) canonical_order (short-writable ctx u valid (none-long ctx u short))
+
+  pub cleaned_short : length (written_body ctx (cleaned_update drops u)) ≤ 4077
+  cleaned_short =
+      omega (
+        arith,
+        short,
+        shorter drops u.attrs (canonical ctx) canonical_order,
+        length-body (run_octets u.withdrawn) (attributes_octets ctx u.attrs) (run_octets u.nlri),
+        length-body (run_octets u.withdrawn) (attributes_octets ctx (cleaned_attrs drops u.attrs)) (run_octets u.nlri),
+      )

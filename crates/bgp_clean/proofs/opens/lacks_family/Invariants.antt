@@ -1,0 +1,18 @@
+use Rattle.std.proofs.Common.{◌≡◌, ◌||◌, length}
+use Rattle.std.specs.List.{list_any}
+use Rattle.bgp_numbers.specs.declared.afi.TheConstants.{IPV4, IPV6}
+use Rattle.bgp_open.specs.CapabilityIter.{capabilities_left}
+use Rattle.bgp_open.specs.OpenView.{open_value}
+use Rattle.bgp_open.specs.Peer.{is_unicast}
+use Rattle.bgp_clean.specs.Opens.{is_multi}
+use Rattle.bgp_clean.proofs.opens.lacks_family.Given as goal
+
+-- those so far, and those still to come, are all
+abbrev pub invariant-row : goal.invariant-row
+invariant-row l =
+    (list_any is_multi (open_value l.view).caps ≡ (l.offers || list_any is_multi (capabilities_left l.left)))
+    × ((list_any (is_unicast IPV4) (open_value l.view).caps || list_any (is_unicast IPV6) (open_value l.view).caps)
+    ≡ (l.in_use || (list_any (is_unicast IPV4) (capabilities_left l.left) || list_any (is_unicast IPV6) (capabilities_left l.left))))
+
+abbrev pub decreases-row : goal.decreases-row
+decreases-row l = length (capabilities_left l.left)

@@ -1,0 +1,3 @@
+-- What only private functions cite: steps of proofs, which nobody has to believe.
+pub mod Bodies
+pub mod Seen

@@ -1,0 +1,89 @@
+//! Cleaning a message.
+
+ghost use Rattle.std.specs.Prelude.{◌≡◌, ◌+◌, ◌≤◌, Ok, length, IfOk, OnErr};
+ghost use Rattle.bgp_wire.specs.OctetSet.{has_octet};
+ghost use Rattle.bgp_wire.specs.Octets.{AreOctets};
+ghost use Rattle.bgp_frame.specs.Frame.{octets_of};
+ghost use Rattle.bgp_frame.specs.Kind.{IsLength};
+ghost use Rattle.bgp_frame.specs.Step.{message_in};
+ghost use Rattle.bgp_update.specs.View.{routes_value};
+ghost use Rattle.bgp_update.specs.Withdrawal.{withdrawal_octets};
+ghost use Rattle.bgp_msg.specs.declared.message.Message.{Message};
+ghost use Rattle.bgp_msg.specs.declared.message.Message.TheVariants as message;
+ghost use Rattle.bgp_msg.specs.Written.{canonical};
+ghost use Rattle.bgp_clean.specs.Clean.{cleaned};
+ghost use Rattle.bgp_clean.specs.Cleaned.{IsCleaned};
+ghost use Rattle.bgp_clean.specs.Updates.{withdrawal};
+
+use crate::cleaned::Cleaned;
+use crate::fault::CleanFault;
+use crate::opens::clean_open;
+use crate::updates::clean_update;
+use crate::whole::{Body, put_whole};
+use bgp_frame::Frame;
+use bgp_msg::{OutcomeView, view_frame};
+use bgp_open::Context;
+use bgp_update::UpdateView;
+use bgp_wire::OctetSet;
+use std::alloc::{AllocError, Global};
+
+/// What a body has are octets: nothing is done.
+fn are_octets(body: &[u8])
+    ensures { AreOctets body.now }
+{
+    let _len = body.len();
+}
+
+/// Appends the UPDATE that withdraws the routes of one.
+fn clean_withdrawal(
+    ctx: &Context,
+    view: &UpdateView<'_>,
+    out: &mut Vec<u8>,
+) -> Result<Cleaned, AllocError>
+    requires { length (withdrawal_octets (routes_value view.now)) ≤ 4077 }
+    ensures value { IfOk result (λ c. IsCleaned ctx.now (Ok (message.Update (withdrawal (routes_value view.now)))) out.old.items out.new.items c) }
+    ensures err { OnErr result (out.new.items ≡ out.old.items) }
+{
+    put_whole(ctx, &Body::Withdrawal(view), out)?;
+    Ok(Cleaned::HandedOn)
+}
+
+/// Appends a message as it came, which is as it is written.
+fn pass_on(ctx: &Context, frame: Frame<'_>, out: &mut Vec<u8>) -> Result<Cleaned, AllocError>
+    requires { IsLength frame.kind (19 + length frame.body.now) }
+    ensures value { (n : Message) → canonical ctx.now n ≡ octets_of (message_in frame.entry) → IfOk result (λ c. IsCleaned ctx.now (Ok n) out.old.items out.new.items c) }
+    ensures err { OnErr result (out.new.items ≡ out.old.items) }
+{
+    put_whole(ctx, &Body::Same(frame.kind, frame.body), out)?;
+    Ok(Cleaned::HandedOn)
+}
+
+/// Appends what is handed on of a whole message in a context, as a whole message in its one written form, or says why the cleaned stream ends before it.
+/// Unrecognised attributes of the types in `drops` are left out; `first` says whether the message is the first one of its stream, which an OPEN has to
+/// be. An UPDATE is written from its view.
+///
+/// # Errors
+/// `AllocError` where an allocation failed; nothing is appended then.
+pub fn clean(
+    alloc: Global,
+    ctx: &Context,
+    drops: &OctetSet,
+    first: bool,
+    frame: Frame<'_>,
+    out: &mut Vec<u8>,
+) -> Result<Cleaned, AllocError>
+    requires { IsLength frame.kind (19 + length frame.body.now) }
+    ensures value { IfOk result (λ c. IsCleaned ctx.now (cleaned ctx.now (has_octet drops.now) first (message_in frame.entry)) out.old.items out.new.items c) }
+    ensures err { OnErr result (out.new.items ≡ out.old.items) }
+{
+    are_octets(frame.body);
+    let mut place = UpdateView::empty();
+    match view_frame(ctx, frame, &mut place) {
+        OutcomeView::Open(view) => clean_open(alloc, ctx, first, view, out),
+        OutcomeView::Update(view) => clean_update(alloc, ctx, drops, view, frame, out),
+        OutcomeView::Withdraw(view) => clean_withdrawal(ctx, view, out),
+        OutcomeView::Notification(_) => pass_on(ctx, frame, out),
+        OutcomeView::Keepalive => pass_on(ctx, frame, out),
+        OutcomeView::Reset(why) => Ok(Cleaned::Ends(CleanFault::Reset(why.code, why.subcode))),
+    }
+}

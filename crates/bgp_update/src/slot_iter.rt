@@ -1,0 +1,103 @@
+//! The attributes of a message in the order in which they are written, while their values lie in octets.
+
+ghost use Rattle.std.specs.Prelude.{◌≡◌, [], ◌∷◌, MatchOption};
+ghost use Rattle.std.specs.List.{flat_map};
+ghost use Rattle.bgp_attr.specs.AttrView.{attr_value};
+ghost use Rattle.bgp_update.specs.KeptView.{attrs_with};
+ghost use Rattle.bgp_update.specs.Slots.{present, slot, attr_list};
+
+use crate::kept_view::KeptView;
+use crate::others::step;
+use crate::told_slot::{other, told_types};
+use bgp_attr::{AttrView, OpaqueView};
+use bgp_numbers::attribute;
+use std::iter::FusedIterator;
+
+/// The attribute of a type: at most one.
+#[tactic(auto, unfolding(crate::specs::Slots::slot))]
+#[inline(always)]
+pub(crate) fn view_slot<'a>(
+    kept: &KeptView<'a>,
+    others: &[OpaqueView<'a>],
+    kind: u8,
+) -> Option<AttrView<'a>>
+    ensures { present attr_value result ≡ slot (attrs_with kept.now others.now) kind }
+{
+    match kind {
+        attribute::ORIGIN => Some(AttrView::Origin(kept.origin?)),
+        attribute::AS_PATH => Some(AttrView::AsPath(kept.as_path?)),
+        attribute::NEXT_HOP => Some(AttrView::NextHop(kept.next_hop?)),
+        attribute::MULTI_EXIT_DISC => Some(AttrView::Med(kept.med?)),
+        attribute::LOCAL_PREF => Some(AttrView::LocalPref(kept.local_pref?)),
+        attribute::ATOMIC_AGGREGATE if kept.atomic => Some(AttrView::Atomic),
+        attribute::ATOMIC_AGGREGATE => None,
+        attribute::AGGREGATOR => Some(AttrView::Aggregator(kept.aggregator?)),
+        attribute::COMMUNITIES => Some(AttrView::Communities(kept.communities?)),
+        attribute::MP_REACH_NLRI => Some(AttrView::MpReach(kept.reach?)),
+        attribute::MP_UNREACH_NLRI => Some(AttrView::MpUnreach(kept.unreach?)),
+        attribute::AS4_PATH => Some(AttrView::As4Path(kept.as4_path?)),
+        attribute::AS4_AGGREGATOR => Some(AttrView::As4Aggregator(kept.as4_aggregator?)),
+        attribute::LARGE_COMMUNITY => Some(AttrView::Large(kept.large?)),
+        _ => Some(AttrView::Opaque(other(others, kind)?)),
+    }
+}
+
+/// The first attribute of these types: those behind it are left.
+fn first_slot<'a>(
+    kept: &KeptView<'a>,
+    others: &[OpaqueView<'a>],
+    kinds: &mut &'static [u8],
+) -> Option<AttrView<'a>>
+    ensures { let slots = slot (attrs_with kept.now others.now) in
+        MatchOption result ((flat_map slots kinds.old.now ≡ []) × (flat_map slots kinds.new.now ≡ []))
+        (λ a. flat_map slots kinds.old.now ≡ attr_value a ∷ flat_map slots kinds.new.now) }
+{
+    'types: while let Some(kind) = step(kinds) {
+        let attr = view_slot(kept, others, kind);
+        if attr.is_some() {
+            return attr;
+        }
+    }
+    None
+}
+
+/// The attributes of slots, and others of types that aren't recognised, in the order in which they are written: MP_REACH_NLRI and MP_UNREACH_NLRI first
+/// (RFC 7606, section 5.1), all others rising in type. It takes no memory.
+#[derive(Clone, Copy)]
+pub struct SlotIter<'b, 'a> {
+    kept: &'b KeptView<'a>,
+    others: &'b [OpaqueView<'a>],
+    kinds: &'static [u8],
+}
+
+impl<'b, 'a> SlotIter<'b, 'a> {
+    ghost use Rattle.bgp_update.specs.Iters.{slots_left};
+
+    /// The attributes of these slots, and these others.
+    pub fn new(kept: &'b KeptView<'a>, others: &'b [OpaqueView<'a>]) -> SlotIter<'b, 'a>
+        ensures { slots_left result ≡ attr_list (attrs_with kept.now others.now) }
+    {
+        SlotIter {
+            kept,
+            others,
+            kinds: told_types(others),
+        }
+    }
+}
+
+impl<'b, 'a> Iterator for SlotIter<'b, 'a> {
+    ghost use Rattle.std.specs.Iterator.{YieldsFirstBy, item_count};
+    ghost use Rattle.bgp_update.specs.Iters.{slots_left};
+
+    type Item = AttrView<'a>;
+
+    ghost next_gives = { YieldsFirstBy attr_value slots_left };
+
+    ghost remaining = { item_count slots_left };
+
+    fn next(&mut self) -> Option<AttrView<'a>> {
+        first_slot(self.kept, self.others, &mut self.kinds)
+    }
+}
+
+impl<'b, 'a> FusedIterator for SlotIter<'b, 'a> {}

@@ -1,0 +1,133 @@
+//! Writing the UPDATE that withdraws the routes of one.
+
+ghost use Rattle.std.specs.Prelude.{◌≡◌, ◌≤◌, ◌<◌, ◌+◌, ◌++◌, [], nat_lt, length, option_map, IfOk, OnOk, OnErr};
+ghost use Rattle.bgp_attr.specs.MpView.{reach_value, unreach_value};
+ghost use Rattle.bgp_attr.specs.steps.Appends.{Extends};
+ghost use Rattle.bgp_attr.specs.Written.{run_octets, unreach_row};
+ghost use Rattle.bgp_numbers.specs.declared.afi.TheConstants.{IPV6};
+ghost use Rattle.bgp_update.specs.Notes.{gone_ip4, gone_ip6, reached_ip4, reached_ip6};
+ghost use Rattle.bgp_update.specs.View.{routes_value};
+ghost use Rattle.bgp_update.specs.Withdrawal.{gone_octets, withdrawal_octets};
+ghost use Rattle.bgp_update.specs.steps.Layout.{LaysOut};
+
+use crate::laying::{Places, put_room, set_lengths};
+use crate::view::UpdateView;
+use bgp_attr::{AttrView, MpReachView, MpUnreachView, begin_attr, finish_attr};
+use bgp_numbers::{afi, safi};
+use bgp_prefix::PrefixIter6;
+use std::alloc::AllocError;
+
+/// Adds IPv4 routes of MP_UNREACH_NLRI and MP_REACH_NLRI.
+fn put_ip4(
+    unreach: Option<MpUnreachView<'_>>,
+    reach: Option<MpReachView<'_>>,
+    out: &mut Vec<u8>,
+) -> Result<(), AllocError>
+    ensures ok { OnOk result (out.new.items ≡ out.old.items ++ run_octets (gone_ip4 (option_map unreach_value unreach.entry) ++ reached_ip4 (option_map reach_value reach.entry))) }
+    ensures err { OnErr result (Extends out.old.items out.new.items) }
+{
+    if let Some(MpUnreachView::Ip4(routes)) = unreach {
+        routes.write(out)?;
+    }
+    if let Some(MpReachView::Ip4 { nlri, .. }) = reach {
+        nlri.write(out)?;
+    }
+    Ok(())
+}
+
+/// Adds IPv6 routes of MP_UNREACH_NLRI and MP_REACH_NLRI.
+fn put_ip6(
+    unreach: Option<MpUnreachView<'_>>,
+    reach: Option<MpReachView<'_>>,
+    out: &mut Vec<u8>,
+) -> Result<(), AllocError>
+    ensures ok { OnOk result (out.new.items ≡ out.old.items ++ run_octets (gone_ip6 (option_map unreach_value unreach.entry) ++ reached_ip6 (option_map reach_value reach.entry))) }
+    ensures err { OnErr result (Extends out.old.items out.new.items) }
+{
+    if let Some(MpUnreachView::Ip6(routes)) = unreach {
+        routes.write(out)?;
+    }
+    if let Some(MpReachView::Ip6 { nlri, .. }) = reach {
+        nlri.write(out)?;
+    }
+    Ok(())
+}
+
+/// Whether there are IPv6 routes in MP_UNREACH_NLRI or MP_REACH_NLRI.
+fn has_ip6(unreach: Option<MpUnreachView<'_>>, reach: Option<MpReachView<'_>>) -> bool
+    ensures { result ≡ nat_lt 0 (length (gone_ip6 (option_map unreach_value unreach.entry) ++ reached_ip6 (option_map reach_value reach.entry))) }
+{
+    let gone = match unreach {
+        Some(MpUnreachView::Ip6(mut routes)) => routes.next().is_some(),
+        _ => false,
+    };
+    let reached = match reach {
+        Some(MpReachView::Ip6 { mut nlri, .. }) => nlri.next().is_some(),
+        _ => false,
+    };
+    gone || reached
+}
+
+/// Adds MP_UNREACH_NLRI with the IPv6 routes of both attributes behind one head, where there are some.
+fn put_gone(
+    unreach: Option<MpUnreachView<'_>>,
+    reach: Option<MpReachView<'_>>,
+    out: &mut Vec<u8>,
+) -> Result<(), AllocError>
+    requires { length (run_octets (gone_ip6 (option_map unreach_value unreach) ++ reached_ip6 (option_map reach_value reach))) ≤ 4077 }
+    ensures ok { OnOk result (out.new.items ≡ out.old.items ++ gone_octets (gone_ip6 (option_map unreach_value unreach.entry) ++ reached_ip6 (option_map reach_value reach.entry))) }
+    ensures err { OnErr result (Extends out.old.items out.new.items) }
+{
+    if !has_ip6(unreach, reach) {
+        return Ok(());
+    }
+    let start = out.len();
+    begin_attr(out)?;
+    let [high, low] = afi::IPV6.to_be_bytes();
+    out.extend_from_slice(&[high, low, safi::UNICAST])?;
+    put_ip6(unreach, reach, out)?;
+    let named = AttrView::MpUnreach(MpUnreachView::Ip6(PrefixIter6::new(&[])));
+    finish_attr(&named, start, out)
+}
+
+/// Adds the parts of a body, and room for the lengths of the first two; some octets may stay where an allocation failed.
+fn put_parts(view: &UpdateView<'_>, out: &mut Vec<u8>) -> Result<Places, AllocError>
+    requires { length (run_octets (routes_value view.now).ip6) ≤ 4077 }
+    ensures ok { IfOk result (λ p. LaysOut (run_octets (routes_value view.now).ip4) (gone_octets (routes_value view.now).ip6) [] (length out.old.items) out.old.items out.new.items p) }
+    ensures err { OnErr result (Extends out.old.items out.new.items) }
+{
+    put_room(out)?;
+    view.withdrawn().write(out)?;
+    put_ip4(view.unreach(), view.reach(), out)?;
+    view.nlri().write(out)?;
+    let attributes = out.len();
+    put_room(out)?;
+    put_gone(view.unreach(), view.reach(), out)?;
+    let nlri = out.len();
+    Ok(Places { attributes, nlri })
+}
+
+impl UpdateView<'_> {
+    /// Appends the body of the UPDATE that withdraws all routes of this one: IPv4 routes in Withdrawn Routes, those of Withdrawn Routes first, then those
+    /// of MP_UNREACH_NLRI, MP_REACH_NLRI and NLRI; IPv6 routes in MP_UNREACH_NLRI, none where there are none. No list of them is made.
+    ///
+    /// # Errors
+    /// `AllocError` where an allocation failed; nothing is appended then.
+    pub fn write_withdrawal(&self, out: &mut Vec<u8>) -> Result<(), AllocError>
+        requires { length (withdrawal_octets (routes_value self.now)) ≤ 4077 }
+        ensures ok { OnOk result (out.new.items ≡ out.old.items ++ withdrawal_octets (routes_value self.now)) }
+        ensures err { OnErr result (out.new.items ≡ out.old.items) }
+    {
+        let start = out.len();
+        match put_parts(self, out) {
+            Ok(places) => {
+                set_lengths(start, places, out);
+                Ok(())
+            }
+            Err(refused) => {
+                out.truncate(start);
+                Err(refused)
+            }
+        }
+    }
+}
