@@ -45,7 +45,11 @@ pub(crate) struct Opening<'a, P> {
 }
 
 // What the first message and the other direction's agree on, where both are OPENs that are taken.
-pub(crate) fn context_of(alloc: Global, frame: Frame<'_>, theirs: &[u8]) -> Result<Option<Context>, AllocError>
+pub(crate) fn context_of(
+    alloc: Global,
+    frame: Frame<'_>,
+    theirs: &[u8],
+) -> Result<Option<Context>, AllocError>
     requires { IsLength frame.kind (19 + length frame.body.now) }
     ensures { IfOk result (λ ctx. ctx ≡ agreed (open_in frame.entry.kind frame.entry.body.now) (first_open theirs.now)) }
 {

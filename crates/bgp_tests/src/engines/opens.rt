@@ -4,6 +4,7 @@ use super::failing::{Drip, Sheet};
 use super::tool::{Tool, input_of};
 use bgp_engine::*;
 use bgp_open::Context;
+use bgp_wire::OctetSet;
 use std::alloc::Global;
 use std::process::Abort;
 use std::test::*;
@@ -30,9 +31,10 @@ enum Way {
     Json,
     Check,
     Narrow,
+    Clean,
 }
 
-const WAYS: [Way; 4] = [Way::Show, Way::Json, Way::Check, Way::Narrow];
+const WAYS: [Way; 5] = [Way::Show, Way::Json, Way::Check, Way::Narrow, Way::Clean];
 
 fn by_opens(
     alloc: Global,
@@ -46,6 +48,7 @@ fn by_opens(
         Way::Json => show_json_by_opens(alloc, theirs, false, input, output),
         Way::Check => check_by_opens(alloc, theirs, false, input, output),
         Way::Narrow => narrow_by_opens(alloc, theirs, input, output),
+        Way::Clean => clean_by_opens(alloc, theirs, &OctetSet::new(), false, input, output),
     }
 }
 
@@ -62,6 +65,10 @@ fn by_opens_within(
         Way::Json => show_json_by_opens_within(alloc, turns, theirs, false, input, &mut output),
         Way::Check => check_by_opens_within(alloc, turns, theirs, false, input, &mut output),
         Way::Narrow => narrow_by_opens_within(alloc, turns, theirs, input, &mut output),
+        Way::Clean => {
+            let none = OctetSet::new();
+            clean_by_opens_within(alloc, turns, theirs, &none, false, input, &mut output)
+        }
     }
 }
 
@@ -77,6 +84,7 @@ fn by_flags(
         Way::Json => show_json(alloc, ctx, false, input, output),
         Way::Check => check(alloc, ctx, false, input, output),
         Way::Narrow => narrow_stream(alloc, &Context { as4: true, ..*ctx }, input, output),
+        Way::Clean => clean_stream(alloc, ctx, &OctetSet::new(), false, input, output),
     }
 }
 
@@ -126,7 +134,7 @@ fn context(internal: bool, as4: bool, families: bool) -> Context {
 
 #[test]
 fn contexts_of_two_opens(rt: HostRuntime) -> Result<(), Fail> {
-    for way in [Way::Show, Way::Json, Way::Check] {
+    for way in [Way::Show, Way::Json, Way::Check, Way::Clean] {
         assert_agreed(&rt, way, OURS, THEIRS, &context(false, true, true))?;
         assert_agreed(&rt, way, THEIRS, OURS, &context(false, true, true))?;
         assert_agreed(&rt, way, OURS, NARROW, &context(true, false, true))?;
