@@ -1,6 +1,6 @@
 //! The End-of-RIB (RFC 4724, section 2).
 
-ghost use Rattle.std.specs.Prelude.{◌≡◌, ◌≤◌, ◌+◌, length, option_map, is_some};
+ghost use Rattle.std.specs.Prelude.{◌≡◌, ◌≤◌, length, is_some};
 ghost use Rattle.bgp_attr.specs.AttrView.{attr_value};
 ghost use Rattle.bgp_update.specs.Body.{parts_value};
 ghost use Rattle.bgp_update.specs.EndOfRib.{bare_family, family_of_kept, family_of_marks, end_of_rib, family_in};
