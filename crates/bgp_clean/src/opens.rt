@@ -3,7 +3,6 @@
 ghost use Rattle.std.specs.Prelude.{◌≡◌, ◌||◌, ◌++◌, false, length, IfOk, OnOk, OnErr};
 ghost use Rattle.bgp_msg.specs.declared.message.Message.TheVariants as message;
 ghost use Rattle.bgp_msg.specs.Written.{canonical};
-ghost use Rattle.std.specs.List.{list_any};
 ghost use Rattle.bgp_numbers.specs.declared.afi.TheConstants.{IPV4, IPV6};
 ghost use Rattle.bgp_open.specs.CapabilityIter.{capabilities_left};
 ghost use Rattle.bgp_open.specs.CapabilityView.{capability_value};
@@ -12,7 +11,7 @@ ghost use Rattle.bgp_open.specs.Peer.{is_unicast};
 ghost use Rattle.bgp_open.specs.Written.{is_bad};
 ghost use Rattle.bgp_clean.specs.Clean.{handed_open};
 ghost use Rattle.bgp_clean.specs.Cleaned.{IsCleaned};
-ghost use Rattle.bgp_clean.specs.Opens.{goes_on, seen_behind, none_seen, understood, understood_behind, cleaned_open, is_multi, lacks_family};
+ghost use Rattle.bgp_clean.specs.Opens.{goes_on, seen_behind, understood, cleaned_open, is_multi, lacks_family};
 ghost use Rattle.bgp_clean.specs.steps.Seen.{seen_value};
 
 use crate::cleaned::Cleaned;

@@ -19,7 +19,7 @@ use crate::whole::{Body, put_whole};
 use bgp_attr::OpaqueView;
 use bgp_frame::{Frame, Kind};
 use bgp_open::Context;
-use bgp_update::{SlotIter, UpdateView, is_bare, is_end_of_rib};
+use bgp_update::{SlotIter, UpdateView, is_bare_unreach, is_end_of_rib};
 use bgp_wire::{List, OctetSet};
 use std::alloc::{AllocError, Global};
 
@@ -39,7 +39,7 @@ fn are_bare(attrs: SlotIter<'_, '_>) -> bool
     let mut left = attrs;
     match left.next() {
         None => true,
-        Some(attr) => left.next().is_none() && is_bare(&attr),
+        Some(attr) => left.next().is_none() && is_bare_unreach(&attr),
     }
 }
 

@@ -1,6 +1,6 @@
 //! The End-of-RIB (RFC 4724, section 2).
 
-ghost use Rattle.std.specs.Prelude.{◌≡◌, ◌≤◌, ◌+◌, length, option_map, is_some};
+ghost use Rattle.std.specs.Prelude.{◌≡◌, ◌≤◌, length, is_some};
 ghost use Rattle.bgp_attr.specs.AttrView.{attr_value};
 ghost use Rattle.bgp_update.specs.Body.{parts_value};
 ghost use Rattle.bgp_update.specs.EndOfRib.{bare_family, family_of_kept, family_of_marks, end_of_rib, family_in};
@@ -15,7 +15,7 @@ use bgp_attr::{AttrView, MpUnreachView};
 use bgp_open::Context;
 
 /// Whether an attribute is an MP_UNREACH_NLRI without routes.
-pub fn is_bare(attr: &AttrView<'_>) -> bool
+pub fn is_bare_unreach(attr: &AttrView<'_>) -> bool
     ensures { result ≡ is_some (bare_family (attr_value attr.now)) }
 {
     match attr {
@@ -31,18 +31,18 @@ pub fn is_bare(attr: &AttrView<'_>) -> bool
     }
 }
 
-/// Whether the only attribute is one.
+/// Whether such an MP_UNREACH_NLRI is the only attribute that is kept.
 fn is_bare_alone(kept: AttrIter<'_>) -> bool
     ensures { result ≡ is_some (family_of_kept (attrs_left kept.entry)) }
 {
     let mut left = kept;
     match left.next() {
         None => false,
-        Some(attr) => left.next().is_none() && is_bare(&attr),
+        Some(attr) => left.next().is_none() && is_bare_unreach(&attr),
     }
 }
 
-/// Whether no attribute stands in the field, or one, which is kept.
+/// Whether no attribute stands in a field, or one alone, which is kept and is such an MP_UNREACH_NLRI.
 fn ends_rib(marks: MarkIter<'_>) -> bool
     ensures { result ≡ is_some (family_of_marks (marks_left marks.entry)) }
 {

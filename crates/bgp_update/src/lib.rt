@@ -49,7 +49,7 @@ mod write;
 
 pub use attr_iter::AttrIter;
 pub use attrs::Attrs;
-pub use end_of_rib::{is_bare, is_end_of_rib};
+pub use end_of_rib::{is_bare_unreach, is_end_of_rib};
 pub use found::Found;
 pub use invalid::Invalid;
 pub use joined_path::{JoinedPathView, JoinedSegmentIter};

@@ -1,9 +1,9 @@
 //! Writing the attributes that a speaker with AS numbers of two octets is told, from their views.
 
-ghost use Rattle.std.specs.Prelude.{◌≡◌, ◌==◌, ◌++◌, false, true, map, option_map, OnOk, OnErr};
-ghost use Rattle.std.specs.List.{find, flat_map, AllByRecursion};
+ghost use Rattle.std.specs.Prelude.{◌≡◌, ◌++◌, false, true, option_map, OnOk, OnErr};
+ghost use Rattle.std.specs.List.{flat_map, AllByRecursion};
 ghost use Rattle.bgp_attr.specs.declared.attr.Attr.TheVariants as attr;
-ghost use Rattle.bgp_attr.specs.AttrView.{opaque_value};
+ghost use Rattle.bgp_attr.specs.AttrView.{attr_value};
 ghost use Rattle.bgp_attr.specs.PathView.{path_value};
 ghost use Rattle.bgp_attr.specs.steps.Appends.{Extends};
 ghost use Rattle.bgp_attr.specs.Written.{canonical, is_writable};
@@ -13,8 +13,9 @@ ghost use Rattle.bgp_update.specs.Written.{attributes_octets};
 ghost use Rattle.bgp_update.specs.steps.ToldSlot.{told_attrs};
 
 use crate::kept_view::KeptView;
+use crate::slot_iter::view_slot;
 use crate::told_path::put_told_path;
-use crate::told_slot::{other, told_types, wide_path};
+use crate::told_slot::{told_types, wide_path};
 use crate::two_octets::{narrow_aggregator, wide_aggregator};
 use bgp_attr::{AttrView, OpaqueView, PathView, write_attr_view};
 use bgp_numbers::attribute;
@@ -31,19 +32,21 @@ macro_rules! put_kept {
     };
 }
 
-/// Adds the attribute of a type that isn't recognised, where there is one.
-#[inline(never)]
-fn put_other(
+/// Adds an attribute, where there is one.
+#[inline(always)]
+fn put_present(
     ctx: &Context,
-    others: &[OpaqueView<'_>],
-    kind: u8,
+    attr: Option<AttrView<'_>>,
     out: &mut Vec<u8>,
 ) -> Result<(), AllocError>
-    requires { AllByRecursion (λ a. is_writable ctx.now a ≡ true) (present attr.Opaque (find (λ o. o.kind == kind) (map opaque_value others.now))) }
-    ensures ok { OnOk result (out.new.items ≡ out.old.items ++ flat_map (canonical ctx.now) (present attr.Opaque (find (λ o. o.kind == kind) (map opaque_value others.now)))) }
+    requires { AllByRecursion (λ a. is_writable ctx.now a ≡ true) (present attr_value attr) }
+    ensures ok { OnOk result (out.new.items ≡ out.old.items ++ flat_map (canonical ctx.now) (present attr_value attr.entry)) }
     ensures err { OnErr result (Extends out.old.items out.new.items) }
 {
-    put_kept!(ctx, out, other(others, kind), Opaque)
+    match attr {
+        None => Ok(()),
+        Some(attr) => write_attr_view(ctx, &attr, out),
+    }
 }
 
 /// Adds AS4_PATH, where a number of the path needs four octets.
@@ -76,25 +79,15 @@ fn put_slot<'a>(
     ensures err { OnErr result (Extends out.old.items out.new.items) }
 {
     match kind {
-        attribute::ORIGIN => put_kept!(ctx, out, kept.origin, Origin),
         attribute::AS_PATH => put_told_path(ctx, kept.as_path, out),
-        attribute::NEXT_HOP => put_kept!(ctx, out, kept.next_hop, NextHop),
-        attribute::MULTI_EXIT_DISC => put_kept!(ctx, out, kept.med, Med),
-        attribute::LOCAL_PREF => put_kept!(ctx, out, kept.local_pref, LocalPref),
-        attribute::ATOMIC_AGGREGATE if kept.atomic => write_attr_view(ctx, &AttrView::Atomic, out),
-        attribute::ATOMIC_AGGREGATE => Ok(()),
         attribute::AGGREGATOR => {
             put_kept!(ctx, out, narrow_aggregator(kept.aggregator), Aggregator)
         }
-        attribute::COMMUNITIES => put_kept!(ctx, out, kept.communities, Communities),
-        attribute::MP_REACH_NLRI => put_kept!(ctx, out, kept.reach, MpReach),
-        attribute::MP_UNREACH_NLRI => put_kept!(ctx, out, kept.unreach, MpUnreach),
         attribute::AS4_PATH => put_wide_path(ctx, kept.as_path, out),
         attribute::AS4_AGGREGATOR => {
             put_kept!(ctx, out, wide_aggregator(kept.aggregator), As4Aggregator)
         }
-        attribute::LARGE_COMMUNITY => put_kept!(ctx, out, kept.large, Large),
-        _ => put_other(ctx, others, kind, out),
+        _ => put_present(ctx, view_slot(kept, others, kind), out),
     }
 }
 
