@@ -20,7 +20,7 @@ pub(crate) const DROP: &str = "drop";
 /// The flag that leaves out all unrecognised attributes.
 pub(crate) const DROP_UNKNOWN: &str = "drop-unknown";
 
-/// The flag with the types of those that pass then.
+/// The flag with the types of those that are kept then.
 pub(crate) const PASS: &str = "pass";
 
 // A flag without a value.
@@ -149,7 +149,7 @@ fn with_dropping<'a>(alloc: Global, command: Command<'a>) -> Result<Command<'a>,
         command,
         PASS,
         "LIST",
-        "All but those of these types, with `--drop-unknown`",
+        "Keep those of these types, with `--drop-unknown`",
     )
 }
 
@@ -274,7 +274,7 @@ pub(crate) fn clean<'a>(alloc: Global) -> Result<Command<'a>, AllocError>
     let clean = named(
         alloc,
         "clean",
-        "Rewrite a session in well formed messages alone",
+        "Write what may be handed on of each message",
         CLEAN_HELP,
     );
     with_dropping(alloc, with_judging(alloc, clean)?)
