@@ -1,13 +1,14 @@
 -- What a parse found of a command and its flags.
-use Rattle.std.proofs.Common.{◌≡◌, List, [], ◌∷◌, Option, None, Some, Result, option_map, refl, sym, subst, inl, inr}
-use Rattle.clap.specs.Words.{FailsBy, HasKind, Kinds, Row, Text, subcommand_name_of, subcommand_rows, subcommand_rows_of}
+use Rattle.std.proofs.Common.{◌≡◌, List, [], ◌∷◌, Option, None, Some, Result, option_map, refl, sym, ap, subst, ◌∙◌, inl, inr}
+use Rattle.clap.specs.Words.{FailsBy, HasKind, Kinds, Row, Text, subcommand_name_of, subcommand_of, subcommand_rows, subcommand_rows_of}
 use Rattle.std.proofs.Common.{Box, Global}
 use Rattle.std.specs.Box.{box_value}
 use Rattle.clap.specs.declared.parser.matches.ArgMatches.{ArgMatches}
 use Rattle.clap.specs.declared.parser.matches.ArgMatches.TheViews.{out-ArgMatches, out-SubCommand}
 use Rattle.clap.specs.declared.parser.matches.SubCommand.{SubCommand}
 use Rattle.clap.specs.declared.error.Error.{Error}
-use Rattle.bgp_words.specs.CommandLine.{first_kinds}
+use Rattle.bgp_words.specs.declared.request.Request.{Request}
+use Rattle.bgp_words.specs.CommandLine.{Asks, IsAsked, bgp_command, drops_by, file_in, first_kinds, request_by}
 
 -- what was found to be wrong behind a parse without an error
 pub fails_behind : {T : Type 0} (r : Result T Error) (kinds later : Kinds) → kinds ≡ [] → FailsBy later r → FailsBy (first_kinds kinds later) r
@@ -33,3 +34,12 @@ name-rows m = by_cases (out-ArgMatches m).subcommand
     by_cases : (o : Option (Box SubCommand Global)) → option_map (λ (b : Box SubCommand Global). (out-SubCommand (box_value b)).name.now) o ≡ option_map (λ p. p.0) (subcommand_rows o)
     by_cases None = refl
     by_cases (Some b) = refl
+
+-- what a command asks for, where the words name it
+pub asks_behind : (words : List Text) (name : Text) (rows : List Row) (asked : Option (Request × Text)) → subcommand_of bgp_command words ≡ Some (name, rows)
+    → IsAsked name rows asked → Asks words asked
+asks_behind words name rows asked found a = subst (Asks words) (sym a.is) (record {
+  drops = a.drops;
+  left_out = ap drops_by found ∙ a.left_out;
+  is = ap (option_map (λ p. (request_by p.0 p.1 a.drops, file_in p.1))) found;
+})

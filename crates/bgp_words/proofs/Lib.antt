@@ -1,2 +1,3 @@
+pub mod TypeLists
 pub mod CommandLines
 pub mod Flags

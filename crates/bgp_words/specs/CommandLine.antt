@@ -1,16 +1,19 @@
 -- What the words of a command line ask for, in the words of `clap`, which parses them.
-use Rattle.std.specs.Prelude.{◌≡◌, Bool, true, false, ◌&&◌, ◌||◌, List, [], ◌∷◌, codes, Option, None, Some, is_some, option_map, if◌then◌else◌}
+use Rattle.std.specs.Prelude.{◌≡◌, ℕ, Bool, true, false, not, ◌&&◌, ◌||◌, List, [], ◌∷◌, codes, Option, None, Some, is_some, option_map, if◌then◌else◌}
 use Rattle.std.specs.Str.{bytes_eq}
 use Rattle.clap.specs.Words.{App, Kinds, Row, Rule, Text, fault_of, first_of, new_app, new_rule, subcommand_of, with_rule, with_subcommand}
 use Rattle.clap.specs.declared.builder.action.ArgAction.TheVariants.{SetTrue}
 use Rattle.clap.specs.declared.error.kind.ErrorKind.TheVariants as error
+use Rattle.bgp_wire.specs.OctetSet.{has_octet, none_of_them}
+use Rattle.bgp_wire.specs.declared.octet_set.OctetSet.{OctetSet}
 use Rattle.bgp_open.specs.declared.context.Context.{Context}
 use Rattle.bgp_words.specs.declared.request.Request.{Request}
-use Rattle.bgp_words.specs.declared.request.Request.TheVariants.{Show, Check, Narrow, ToHex, FromHex, Loop}
+use Rattle.bgp_words.specs.declared.request.Request.TheVariants.{Show, Check, Narrow, Clean, ToHex, FromHex, Loop}
 use Rattle.bgp_words.specs.declared.request.Session.{Session}
 use Rattle.bgp_words.specs.declared.request.Session.TheVariants.{Flags, Opens}
+use Rattle.bgp_words.specs.TypeList.{all_but, types_of}
 
--- ---- the command line: six commands, four of them with flags
+-- ---- the command line: seven commands, five of them with flags
 
 abbrev pub flag_rule : Text → Rule
 flag_rule name = record (new_rule name) { long = Some name; action = Some SetTrue }
@@ -18,9 +21,12 @@ flag_rule name = record (new_rule name) { long = Some name; action = Some SetTru
 abbrev pub with_flag : App → Text → App
 with_flag a name = with_rule a (flag_rule name)
 
--- the file with the octets of the other direction
-abbrev pub opens_rule : Rule
-opens_rule = record (new_rule (codes "opens")) { long = Some (codes "opens"); value_names = 1 }
+-- a flag with a value
+abbrev pub option_rule : Text → Rule
+option_rule name = record (new_rule name) { long = Some name; value_names = 1 }
+
+abbrev pub with_option : App → Text → App
+with_option a name = with_rule a (option_rule name)
 
 -- the families in use, and whether a session is internal
 abbrev pub with_families : App → App
@@ -28,11 +34,18 @@ with_families a = with_flag (with_flag (with_flag a (codes "ip4")) (codes "ip6")
 
 -- that, or the file with the octets of the other direction
 abbrev pub with_session : App → App
-with_session a = with_rule (with_families a) opens_rule
+with_session a = with_option (with_families a) (codes "opens")
 
 -- the flags of a command that shows or checks
 abbrev pub with_judging : App → App
 with_judging a = with_session (with_flag (with_flag a (codes "hex")) (codes "as4"))
+
+-- the attributes that are left out: by type, or all unrecognised ones but those that pass
+abbrev pub with_dropping : App → App
+with_dropping a = with_option (with_flag (with_option a (codes "drop")) (codes "drop-unknown")) (codes "pass")
+
+abbrev pub clean_command : App
+clean_command = with_dropping (with_judging (new_app (codes "clean")))
 
 -- the file of a script has to be named
 abbrev pub file_rule : Rule
@@ -59,8 +72,11 @@ abbrev pub judging_commands : App
 judging_commands = with_command (with_command bare_command show_command) (with_judging (new_app (codes "check")))
 
 -- the commands that read a stream
+abbrev pub rewriting_commands : App
+rewriting_commands = with_command (with_command judging_commands (with_session (new_app (codes "narrow")))) clean_command
+
 abbrev pub stream_commands : App
-stream_commands = with_command (with_command (with_command judging_commands (with_session (new_app (codes "narrow")))) (new_app (codes "to-hex"))) (new_app (codes "from-hex"))
+stream_commands = with_command (with_command rewriting_commands (new_app (codes "to-hex"))) (new_app (codes "from-hex"))
 
 abbrev pub bgp_command : App
 bgp_command = with_command stream_commands loop_command
@@ -90,15 +106,26 @@ session_of as4 rows = session_by (first_of (codes "opens") rows) (context_of as4
 abbrev pub judged_in : List Row → Session
 judged_in rows = session_of (is_set (codes "as4") rows) rows
 
--- what a command with these flags asks for
-abbrev pub request_by : Text → List Row → Request
-request_by name rows =
+-- the types of the list that a flag has; none of them without the flag
+abbrev pub types_in : Option Text → Option (ℕ → Bool)
+types_in None = Some none_of_them
+types_in (Some list) = types_of list
+
+-- the types of unrecognised attributes that are left out; none of both where a list isn't one
+abbrev pub drops_in : List Row → Option (ℕ → Bool)
+drops_in rows =
+    if is_set (codes "drop-unknown") rows then option_map all_but (types_in (first_of (codes "pass") rows)) else types_in (first_of (codes "drop") rows)
+
+-- what a command with these flags asks for, where a set has the types that are left out
+abbrev pub request_by : Text → List Row → OctetSet → Request
+request_by name rows drops =
     if bytes_eq name (codes "show") then Show (judged_in rows) (is_set (codes "hex") rows) (is_set (codes "json") rows) else (
     if bytes_eq name (codes "check") then Check (judged_in rows) (is_set (codes "hex") rows) else (
     if bytes_eq name (codes "narrow") then Narrow (session_of true rows) else (
+    if bytes_eq name (codes "clean") then Clean (judged_in rows) (is_set (codes "hex") rows) drops else (
     if bytes_eq name (codes "to-hex") then ToHex else (
     if bytes_eq name (codes "from-hex") then FromHex else
-    Loop (is_set (codes "tcp") rows) (is_set (codes "trace") rows)))))
+    Loop (is_set (codes "tcp") rows) (is_set (codes "trace") rows))))))
 
 -- the file that is named
 abbrev pub text_or_empty : Option Text → Text
@@ -114,16 +141,33 @@ abbrev pub file_in : List Row → Text
 file_in rows = text_or_empty (first_file (first_of (codes "opens") rows) (first_of (codes "SCRIPT") rows))
 
 -- what a command with these flags asks for, and its file
-abbrev pub IsAsked : Text → List Row → Option (Request × Text) → Type 0
-IsAsked name rows asked = asked ≡ Some (request_by name rows, file_in rows)
+pub record IsAsked (name : Text) (rows : List Row) (asked : Option (Request × Text)) : Type 0 where
+  pub drops : OctetSet
+  pub left_out : drops_in rows ≡ Some (has_octet drops)
+  pub is : asked ≡ Some (request_by name rows drops, file_in rows)
 
-abbrev pub request_of : List Text → Option (Request × Text)
-request_of words = option_map (λ p. (request_by p.0 p.1, file_in p.1)) (subcommand_of bgp_command words)
+-- the types that words leave out
+abbrev pub drops_by : Option (Text × List Row) → Option (ℕ → Bool)
+drops_by None = None
+drops_by (Some p) = drops_in p.1
+
+abbrev pub drops_of : List Text → Option (ℕ → Bool)
+drops_of words = drops_by (subcommand_of bgp_command words)
+
+-- what words ask for, and their file, where a set has these types
+abbrev pub request_of : List Text → OctetSet → Option (Request × Text)
+request_of words drops = option_map (λ p. (request_by p.0 p.1 drops, file_in p.1)) (subcommand_of bgp_command words)
+
+-- the words ask for this, with this file
+pub record AsksFor (words : List Text) (request : Request) (file : Text) : Type 0 where
+  pub drops : OctetSet
+  pub left_out : drops_of words ≡ Some (has_octet drops)
+  pub is : request_of words drops ≡ Some (request, file)
 
 -- what a parse found is what is asked for; where it fails with no error, it found something
 abbrev pub Asks : List Text → Option (Request × Text) → Type 0
 Asks words None = ⊥
-Asks words (Some asked) = request_of words ≡ Some asked
+Asks words (Some asked) = AsksFor words asked.0 asked.1
 
 -- ---- the errors that words may meet
 
@@ -131,13 +175,29 @@ Asks words (Some asked) = request_of words ≡ Some asked
 abbrev pub has_session_flag : List Row → Bool
 has_session_flag rows = is_set (codes "as4") rows || (is_set (codes "ip4") rows || (is_set (codes "ip6") rows || is_set (codes "internal") rows))
 
--- what both OPENs tell isn't told by flags too
-abbrev pub conflict_in : List Row → Kinds
-conflict_in rows = if is_some (first_of (codes "opens") rows) && has_session_flag rows then error.ArgumentConflict ∷ [] else []
+-- the session is told by both OPENs, and by flags too
+abbrev pub is_told_twice : List Row → Bool
+is_told_twice rows = is_some (first_of (codes "opens") rows) && has_session_flag rows
 
-abbrev pub conflict_of : Option (Text × List Row) → Kinds
-conflict_of None = []
-conflict_of (Some p) = conflict_in p.1
+-- attributes are left out by type, and all unrecognised ones too
+abbrev pub drops_twice : List Row → Bool
+drops_twice rows = is_some (first_of (codes "drop") rows) && is_set (codes "drop-unknown") rows
+
+-- types pass where not all are left out
+abbrev pub passes_alone : List Row → Bool
+passes_alone rows = is_some (first_of (codes "pass") rows) && not (is_set (codes "drop-unknown") rows)
+
+-- the errors of flags that `clap` lets through
+abbrev pub kinds_in : List Row → Kinds
+kinds_in rows =
+    if is_told_twice rows then error.ArgumentConflict ∷ [] else (
+    if drops_twice rows then error.ArgumentConflict ∷ [] else (
+    if passes_alone rows then error.MissingRequiredArgument ∷ [] else (
+    if is_some (drops_in rows) then [] else error.InvalidValue ∷ [])))
+
+abbrev pub kinds_of : Option (Text × List Row) → Kinds
+kinds_of None = []
+kinds_of (Some p) = kinds_in p.1
 
 -- those of a parse come first
 abbrev pub first_kinds : Kinds → Kinds → Kinds
@@ -146,4 +206,4 @@ first_kinds (kind ∷ kinds) later = kind ∷ kinds
 
 -- the errors that words may meet, help that was asked for among them: none where they ask for something that can be done
 abbrev pub faults_of : List Text → Kinds
-faults_of words = first_kinds (fault_of bgp_command words) (conflict_of (subcommand_of bgp_command words))
+faults_of words = first_kinds (fault_of bgp_command words) (kinds_of (subcommand_of bgp_command words))

@@ -1,17 +1,28 @@
 -- What laws of the command line say of words.
-use Rattle.std.specs.Prelude.{◌≡◌, Bool, List, [], Some}
+use Rattle.std.specs.Prelude.{◌≡◌, ℕ, Bool, List, [], Some}
 use Rattle.clap.specs.Words.{Text}
+use Rattle.bgp_wire.specs.OctetSet.{none_of_them}
+use Rattle.bgp_wire.specs.declared.octet_set.OctetSet.{OctetSet}
 use Rattle.bgp_open.specs.declared.context.Context.{Context}
 use Rattle.bgp_words.specs.declared.request.Request.{Request}
-use Rattle.bgp_words.specs.CommandLine.{faults_of, request_of}
+use Rattle.bgp_words.specs.declared.request.Request.TheVariants.{Clean}
+use Rattle.bgp_words.specs.declared.request.Session.{Session}
+use Rattle.bgp_words.specs.CommandLine.{drops_of, faults_of, request_of}
 
--- the words meet no error, and ask for this, with this file
+-- the words meet no error, and ask for this, with this file: no attributes are left out
 pub record CanBeDoneWith (words : List Text) (request : Request) (file : Text) : Type 0 where
   pub without_fault : faults_of words ≡ []
-  pub asked : request_of words ≡ Some (request, file)
+  pub asked : (drops : OctetSet) → request_of words drops ≡ Some (request, file)
+  pub left_out : drops_of words ≡ Some none_of_them
 
 abbrev pub CanBeDone : List Text → Request → Type 0
 CanBeDone words request = CanBeDoneWith words request []
+
+-- the words meet no error, and ask to clean, with this file: unrecognised attributes of these types are left out
+pub record CanBeCleaned (words : List Text) (session : Session) (hex : Bool) (file : Text) (types : ℕ → Bool) : Type 0 where
+  pub without_fault : faults_of words ≡ []
+  pub asked : (drops : OctetSet) → request_of words drops ≡ Some (Clean session hex drops, file)
+  pub left_out : drops_of words ≡ Some types
 
 -- a context with and without all of the other flags
 abbrev pub flags : Bool → Bool → Context

@@ -1,3 +1,4 @@
 -- What the words of the command line ask for.
+pub mod TypeList
 pub mod CommandLine
 pub mod Laws

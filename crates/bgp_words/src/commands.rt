@@ -3,13 +3,25 @@
 ghost use Rattle.std.specs.Prelude.{◌≡◌, codes, false, IfOk};
 ghost use Rattle.clap.specs.Words.{app_of, rule_of, new_app, with_rule};
 ghost use Rattle.clap.specs.declared.builder.command.Command.TheViews.{out-Command};
-ghost use Rattle.bgp_words.specs.CommandLine.{flag_rule, with_flag, opens_rule, with_families, with_session, with_judging, show_command, with_command, bare_command, judging_commands, file_rule, loop_command, stream_commands, bgp_command};
+ghost use Rattle.bgp_words.specs.CommandLine.{flag_rule, with_flag, option_rule, with_option, with_families, with_session, with_judging, with_dropping, clean_command, show_command, with_command, bare_command, judging_commands, file_rule, loop_command, stream_commands, bgp_command};
 
 use crate::help::{
-    CHECK_HELP, FROM_HEX_HELP, HELP, LOOP_HELP, NARROW_HELP, SHOW_HELP, TO_HEX_HELP,
+    CHECK_HELP, CLEAN_HELP, FROM_HEX_HELP, HELP, LOOP_HELP, NARROW_HELP, SHOW_HELP, TO_HEX_HELP,
 };
 use clap::{Arg, ArgAction, Command};
 use std::alloc::{AllocError, Global};
+
+/// The flag that names the file with the octets of the other direction.
+pub(crate) const OPENS: &str = "opens";
+
+/// The flag with the types of attributes that are left out.
+pub(crate) const DROP: &str = "drop";
+
+/// The flag that leaves out all unrecognised attributes.
+pub(crate) const DROP_UNKNOWN: &str = "drop-unknown";
+
+/// The flag with the types of those that are kept then.
+pub(crate) const PASS: &str = "pass";
 
 // A flag without a value.
 fn flag<'a>(alloc: Global, name: &'a str, help: &'a str) -> Arg<'a>
@@ -35,17 +47,29 @@ fn with_flag<'a>(
     command.arg(flag(alloc, name, help))
 }
 
-/// The flag that names the file with the octets of the other direction.
-pub(crate) const OPENS: &str = "opens";
-
-// The file with the octets of the other direction.
-fn opens<'a>(alloc: Global) -> Arg<'a>
-    ensures rule { rule_of result ≡ opens_rule }
+// A flag with a value.
+fn option<'a>(alloc: Global, name: &'a str, value: &'a str, help: &'a str) -> Arg<'a>
+    ensures rule { rule_of result ≡ option_rule name.now }
     ensures local { result.global ≡ false }
 {
-    Arg::new(alloc, OPENS).long(OPENS).value_name("FILE").help(
-        "Agree by both OPENs: FILE has the other direction's octets",
-    )
+    Arg::new(alloc, name)
+        .long(name)
+        .value_name(value)
+        .help(help)
+}
+
+// A command with one such flag more.
+fn with_option<'a>(
+    alloc: Global,
+    command: Command<'a>,
+    name: &'a str,
+    value: &'a str,
+    help: &'a str,
+) -> Result<Command<'a>, AllocError>
+    ensures shape { IfOk result (λ c. app_of c ≡ with_option (app_of command.entry) name.now) }
+    ensures local { IfOk result (λ c. (out-Command c).has_globals ≡ (out-Command command.entry).has_globals) }
+{
+    command.arg(option(alloc, name, value, help))
 }
 
 // A command with the flags that families and kind of a session have.
@@ -68,20 +92,18 @@ fn with_families<'a>(alloc: Global, command: Command<'a>) -> Result<Command<'a>,
     with_flag(alloc, command, "internal", "Both speakers are of one AS")
 }
 
-// A command with the file of the other direction.
-fn with_opens<'a>(alloc: Global, command: Command<'a>) -> Result<Command<'a>, AllocError>
-    ensures shape { IfOk result (λ c. app_of c ≡ with_rule (app_of command.entry) opens_rule) }
-    ensures local { IfOk result (λ c. (out-Command c).has_globals ≡ (out-Command command.entry).has_globals) }
-{
-    command.arg(opens(alloc))
-}
-
 // A command with what tells of a session.
 fn with_session<'a>(alloc: Global, command: Command<'a>) -> Result<Command<'a>, AllocError>
     ensures shape { IfOk result (λ c. app_of c ≡ with_session (app_of command.entry)) }
     ensures local { IfOk result (λ c. (out-Command c).has_globals ≡ (out-Command command.entry).has_globals) }
 {
-    with_opens(alloc, with_families(alloc, command)?)
+    with_option(
+        alloc,
+        with_families(alloc, command)?,
+        OPENS,
+        "FILE",
+        "Agree by both OPENs: FILE has the other direction's octets",
+    )
 }
 
 // A command with the flags of one that shows or checks.
@@ -104,6 +126,33 @@ fn with_judging<'a>(alloc: Global, command: Command<'a>) -> Result<Command<'a>, 
     with_session(alloc, command)
 }
 
+// A command with the flags of one that leaves out attributes.
+fn with_dropping<'a>(alloc: Global, command: Command<'a>) -> Result<Command<'a>, AllocError>
+    ensures shape { IfOk result (λ c. app_of c ≡ with_dropping (app_of command.entry)) }
+    ensures local { IfOk result (λ c. (out-Command c).has_globals ≡ (out-Command command.entry).has_globals) }
+{
+    let command = with_option(
+        alloc,
+        command,
+        DROP,
+        "LIST",
+        "Leave out unrecognised attributes of these types",
+    )?;
+    let command = with_flag(
+        alloc,
+        command,
+        DROP_UNKNOWN,
+        "Leave out all unrecognised attributes",
+    )?;
+    with_option(
+        alloc,
+        command,
+        PASS,
+        "LIST",
+        "Keep those of these types, with `--drop-unknown`",
+    )
+}
+
 // A command of a name, with its help.
 fn named<'a>(alloc: Global, name: &'a str, about: &'a str, more: &'a str) -> Command<'a>
     ensures shape { app_of result ≡ new_app name.now }
@@ -120,7 +169,7 @@ fn bare<'a>(alloc: Global) -> Result<Command<'a>, AllocError>
         named(
             alloc,
             "bgp",
-            "Show, check and convert what a BGP-4 speaker sends",
+            "Show, check, clean and convert what a BGP-4 speaker sends",
             HELP,
         )
         .bin_name("bgp")?
@@ -217,6 +266,20 @@ pub(crate) fn narrow<'a>(alloc: Global) -> Result<Command<'a>, AllocError>
     with_session(alloc, narrow)
 }
 
+/// The command that cleans.
+pub(crate) fn clean<'a>(alloc: Global) -> Result<Command<'a>, AllocError>
+    ensures shape { IfOk result (λ c. app_of c ≡ clean_command) }
+    ensures local { IfOk result (λ c. (out-Command c).has_globals ≡ false) }
+{
+    let clean = named(
+        alloc,
+        "clean",
+        "Write what may be handed on of each message",
+        CLEAN_HELP,
+    );
+    with_dropping(alloc, with_judging(alloc, clean)?)
+}
+
 // A command with the one that shows. Each subcommand has a function of its own, since proofs pay for each command that `?` may drop.
 fn with_show<'a>(alloc: Global, command: Command<'a>) -> Result<Command<'a>, AllocError>
     ensures { IfOk result (λ c. app_of c ≡ with_command (app_of command.entry) show_command) }
@@ -236,6 +299,13 @@ fn with_narrow<'a>(alloc: Global, command: Command<'a>) -> Result<Command<'a>, A
     ensures { IfOk result (λ c. app_of c ≡ with_command (app_of command.entry) (with_session (new_app (codes "narrow")))) }
 {
     with_command(command, narrow(alloc)?)
+}
+
+// A command with the one that cleans.
+fn with_clean<'a>(alloc: Global, command: Command<'a>) -> Result<Command<'a>, AllocError>
+    ensures { IfOk result (λ c. app_of c ≡ with_command (app_of command.entry) clean_command) }
+{
+    with_command(command, clean(alloc)?)
 }
 
 // A command with the one that runs a script.
@@ -295,7 +365,7 @@ fn with_from_hex<'a>(alloc: Global, command: Command<'a>) -> Result<Command<'a>,
 fn streaming<'a>(alloc: Global) -> Result<Command<'a>, AllocError>
     ensures { IfOk result (λ c. app_of c ≡ stream_commands) }
 {
-    let command = with_narrow(alloc, judging(alloc)?)?;
+    let command = with_clean(alloc, with_narrow(alloc, judging(alloc)?)?)?;
     with_from_hex(alloc, with_to_hex(alloc, command)?)
 }
 
@@ -304,4 +374,18 @@ pub(crate) fn bgp<'a>(alloc: Global) -> Result<Command<'a>, AllocError>
     ensures { IfOk result (λ c. app_of c ≡ bgp_command) }
 {
     with_loop(alloc, streaming(alloc)?)
+}
+
+/// The command of this name, of those that judge messages, as the words name it.
+pub(crate) fn judging_command<'a>(alloc: Global, name: &str) -> Result<Command<'a>, AllocError> {
+    if name == "show" {
+        return show(alloc)?.bin_name("bgp show");
+    }
+    if name == "check" {
+        return check(alloc)?.bin_name("bgp check");
+    }
+    if name == "narrow" {
+        return narrow(alloc)?.bin_name("bgp narrow");
+    }
+    clean(alloc)?.bin_name("bgp clean")
 }

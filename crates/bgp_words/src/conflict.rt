@@ -5,10 +5,10 @@ ghost use Rattle.clap.specs.Words.{found_of, kind_of, rows_of};
 ghost use Rattle.clap.specs.declared.error.kind.ErrorKind.TheVariants as error;
 ghost use Rattle.bgp_words.specs.CommandLine.{has_session_flag};
 
-use crate::commands::{check, narrow, show};
+use crate::commands::judging_command;
 use crate::given::is_set;
 use clap::error::ErrorKind;
-use clap::{ArgMatches, Command, Error};
+use clap::{ArgMatches, Error};
 use std::alloc::{AllocError, Global};
 
 /// Whether one of the flags is set that both OPENs tell.
@@ -39,17 +39,6 @@ fn names(alloc: Global, flags: &ArgMatches<'_>) -> Result<String, AllocError> {
     format!(in alloc; ":{lines}")
 }
 
-// The command of this name, as the words name it.
-fn command_of<'a>(alloc: Global, name: &str) -> Result<Command<'a>, AllocError> {
-    if name == "show" {
-        return show(alloc)?.bin_name("bgp show");
-    }
-    if name == "check" {
-        return check(alloc)?.bin_name("bgp check");
-    }
-    narrow(alloc)?.bin_name("bgp narrow")
-}
-
 /// The error of a command whose words have a file for both OPENs, and flags beside it.
 pub(crate) fn conflict(
     alloc: Global,
@@ -60,5 +49,5 @@ pub(crate) fn conflict(
 {
     let others = names(alloc, flags)?;
     let text = format!(in alloc; "the argument '--opens <FILE>' cannot be used with{others}")?;
-    command_of(alloc, name)?.error(ErrorKind::ArgumentConflict, &text)
+    judging_command(alloc, name)?.error(ErrorKind::ArgumentConflict, &text)
 }

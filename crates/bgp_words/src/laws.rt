@@ -1,11 +1,13 @@
 //! Laws of the command line. Each is the contract of a function that does nothing.
 
-ghost use Rattle.std.specs.Prelude.{◌≡◌, [], ◌∷◌, codes, true, false, Some};
+ghost use Rattle.std.specs.Prelude.{◌≡◌, [], ◌∷◌, codes, true, false};
 ghost use Rattle.clap.specs.declared.error.kind.ErrorKind.TheVariants as error;
+ghost use Rattle.bgp_wire.specs.OctetSet.{also, none_of_them};
 ghost use Rattle.bgp_words.specs.declared.request.Request.TheVariants.{Show, Check, Narrow, ToHex, FromHex, Loop};
 ghost use Rattle.bgp_words.specs.declared.request.Session.TheVariants.{Flags, Opens};
-ghost use Rattle.bgp_words.specs.CommandLine.{faults_of, request_of};
-ghost use Rattle.bgp_words.specs.Laws.{CanBeDone, CanBeDoneWith, flags};
+ghost use Rattle.bgp_words.specs.CommandLine.{faults_of};
+ghost use Rattle.bgp_words.specs.TypeList.{all_but};
+ghost use Rattle.bgp_words.specs.Laws.{CanBeCleaned, CanBeDone, CanBeDoneWith, flags};
 
 /// What a user types for each command, without flags and with all of them.
 pub fn words_have_one_meaning()
@@ -20,6 +22,13 @@ pub fn words_have_one_meaning()
     ensures check_opens { CanBeDoneWith (codes "check" ∷ codes "--opens=theirs" ∷ []) (Check Opens false) (codes "theirs") }
     ensures narrow_opens { CanBeDoneWith (codes "narrow" ∷ codes "--opens" ∷ codes "theirs" ∷ []) (Narrow Opens) (codes "theirs") }
     ensures no_name { CanBeDoneWith (codes "show" ∷ codes "--opens" ∷ [] ∷ []) (Show Opens false false) [] }
+    ensures clean { CanBeCleaned (codes "clean" ∷ []) (Flags (flags false false)) false [] none_of_them }
+    ensures clean_all { CanBeCleaned (codes "clean" ∷ codes "--hex" ∷ codes "--as4" ∷ codes "--ip4" ∷ codes "--ip6" ∷ codes "--internal" ∷ []) (Flags (flags true true)) true [] none_of_them }
+    ensures clean_opens { CanBeCleaned (codes "clean" ∷ codes "--opens" ∷ codes "theirs" ∷ []) Opens false (codes "theirs") none_of_them }
+    ensures clean_types { CanBeCleaned (codes "clean" ∷ codes "--drop" ∷ codes "0,16,255" ∷ []) (Flags (flags false false)) false [] (also 255 (also 16 (also 0 none_of_them))) }
+    ensures clean_again { CanBeCleaned (codes "clean" ∷ codes "--drop=16,35,0016" ∷ codes "--hex" ∷ []) (Flags (flags false false)) true [] (also 16 (also 35 (also 16 none_of_them))) }
+    ensures clean_unknown { CanBeCleaned (codes "clean" ∷ codes "--drop-unknown" ∷ []) (Flags (flags false false)) false [] (all_but none_of_them) }
+    ensures clean_but { CanBeCleaned (codes "clean" ∷ codes "--pass" ∷ codes "16,35" ∷ codes "--drop-unknown" ∷ codes "--opens=theirs" ∷ []) Opens false (codes "theirs") (all_but (also 35 (also 16 none_of_them))) }
     ensures to_hex { CanBeDone (codes "to-hex" ∷ []) ToHex }
     ensures from_hex { CanBeDone (codes "from-hex" ∷ []) FromHex }
     ensures runs { CanBeDoneWith (codes "loop" ∷ codes "two.script" ∷ []) (Loop false false) (codes "two.script") }
@@ -28,8 +37,8 @@ pub fn words_have_one_meaning()
     ensures runs_both { CanBeDoneWith (codes "loop" ∷ codes "--trace" ∷ codes "--tcp" ∷ codes "two.script" ∷ []) (Loop true true) (codes "two.script") }
 {}
 
-/// No word is too few, `--help` asks for help and `--version` for the version, a flag belongs to its commands, and what both OPENs tell isn't
-/// told by flags too.
+/// No word is too few, `--help` asks for help and `--version` for the version, a flag belongs to its commands, what both OPENs tell isn't
+/// told by flags too, and a list is numbers from 0 to 255 with commas between, of types that aren't recognised.
 pub fn words_can_be_wrong()
     ensures nothing { faults_of [] ≡ error.MissingSubcommand ∷ [] }
     ensures help { faults_of (codes "--help" ∷ []) ≡ error.DisplayHelp ∷ [] }
@@ -40,4 +49,17 @@ pub fn words_can_be_wrong()
     ensures both_narrow { faults_of (codes "narrow" ∷ codes "--internal" ∷ codes "--opens" ∷ codes "theirs" ∷ []) ≡ error.ArgumentConflict ∷ [] }
     ensures no_value { faults_of (codes "check" ∷ codes "--opens" ∷ []) ≡ error.InvalidValue ∷ [] }
     ensures no_file { faults_of (codes "loop" ∷ []) ≡ error.MissingRequiredArgument ∷ [] }
+    ensures both_clean { faults_of (codes "clean" ∷ codes "--opens" ∷ codes "theirs" ∷ codes "--ip4" ∷ []) ≡ error.ArgumentConflict ∷ [] }
+    ensures no_drop { faults_of (codes "check" ∷ codes "--drop" ∷ codes "16" ∷ []) ≡ error.UnknownArgument ∷ [] }
+    ensures drop_twice { faults_of (codes "clean" ∷ codes "--drop" ∷ codes "16" ∷ codes "--drop-unknown" ∷ []) ≡ error.ArgumentConflict ∷ [] }
+    ensures pass_alone { faults_of (codes "clean" ∷ codes "--pass" ∷ codes "16" ∷ []) ≡ error.MissingRequiredArgument ∷ [] }
+    ensures no_list { faults_of (codes "clean" ∷ codes "--drop" ∷ []) ≡ error.InvalidValue ∷ [] }
+    ensures empty { faults_of (codes "clean" ∷ codes "--drop" ∷ [] ∷ []) ≡ error.InvalidValue ∷ [] }
+    ensures no_number { faults_of (codes "clean" ∷ codes "--drop" ∷ codes "x" ∷ []) ≡ error.InvalidValue ∷ [] }
+    ensures sign { faults_of (codes "clean" ∷ codes "--drop" ∷ codes "+16" ∷ []) ≡ error.InvalidValue ∷ [] }
+    ensures space { faults_of (codes "clean" ∷ codes "--drop" ∷ codes "16, 35" ∷ []) ≡ error.InvalidValue ∷ [] }
+    ensures too_large { faults_of (codes "clean" ∷ codes "--drop" ∷ codes "256" ∷ []) ≡ error.InvalidValue ∷ [] }
+    ensures empty_word { faults_of (codes "clean" ∷ codes "--drop" ∷ codes "16,,35" ∷ []) ≡ error.InvalidValue ∷ [] }
+    ensures recognised { faults_of (codes "clean" ∷ codes "--drop" ∷ codes "16,32" ∷ []) ≡ error.InvalidValue ∷ [] }
+    ensures pass_recognised { faults_of (codes "clean" ∷ codes "--drop-unknown" ∷ codes "--pass" ∷ codes "1" ∷ []) ≡ error.InvalidValue ∷ [] }
 {}

@@ -3,9 +3,11 @@
 
 mod commands;
 mod conflict;
+mod drops;
 mod given;
 mod help;
 pub mod laws;
 mod request;
+mod type_list;
 
 pub use request::{Asked, Request, Session, parse};

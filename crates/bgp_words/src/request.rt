@@ -1,13 +1,17 @@
 //! What the words of the command line ask for.
 
-ghost use Rattle.std.specs.Prelude.{◌≡◌, ◌&&◌, codes, map, true, Some, is_some, option_map, IfOk};
+ghost use Rattle.std.specs.Prelude.{◌≡◌, codes, map, true, Some, option_map, IfOk};
 ghost use Rattle.clap.specs.Words.{FailsBy, first_of, found_of, rows_of};
-ghost use Rattle.bgp_words.specs.CommandLine.{Asks, IsAsked, conflict_in, context_of, faults_of, file_in, has_session_flag, judged_in, request_by, session_of, text_or_empty};
+ghost use Rattle.bgp_words.specs.CommandLine.{Asks, IsAsked, context_of, faults_of, file_in, is_told_twice, judged_in, kinds_in, request_by, session_of, text_or_empty};
 
 use crate::commands::{FILE, OPENS, bgp};
 use crate::conflict::{conflict, has_session_flag};
+use crate::drops::{
+    bad_list, drop_conflict, drops_in, drops_twice, missing_drop_unknown, passes_alone,
+};
 use crate::given::{is_set, value_of};
 use bgp_open::Context;
+use bgp_wire::OctetSet;
 use clap::{ArgMatches, Error};
 use std::alloc::Global;
 
@@ -37,6 +41,12 @@ pub enum Request {
     /// `narrow`, with AS numbers of four octets.
     Narrow {
         session: Session,
+    },
+    /// `clean`, with the form of input as in `Show`; unrecognised attributes of these types are left out.
+    Clean {
+        session: Session,
+        hex: bool,
+        drops: OctetSet,
     },
     /// `to-hex`.
     ToHex,
@@ -89,9 +99,9 @@ fn judged_in(flags: &ArgMatches<'_>) -> Session
     session_of(flags, as4)
 }
 
-// What a command asks for with these flags.
-fn asked_by(name: &str, flags: &ArgMatches<'_>) -> Request
-    ensures { result ≡ request_by name.now (rows_of (found_of flags.now)) }
+// What a command asks for with these flags, where attributes of these types are left out.
+fn asked_by(name: &str, flags: &ArgMatches<'_>, drops: OctetSet) -> Request
+    ensures { result ≡ request_by name.now (rows_of (found_of flags.now)) drops }
 {
     if name == "show" {
         return Request::Show {
@@ -109,6 +119,13 @@ fn asked_by(name: &str, flags: &ArgMatches<'_>) -> Request
     if name == "narrow" {
         return Request::Narrow {
             session: session_of(flags, true),
+        };
+    }
+    if name == "clean" {
+        return Request::Clean {
+            session: judged_in(flags),
+            hex: is_set(flags, "hex"),
+            drops,
         };
     }
     if name == "to-hex" {
@@ -145,23 +162,32 @@ fn file_of<'a>(flags: &ArgMatches<'a>) -> &'a str
 
 // Whether the context is told twice.
 fn is_told_twice(flags: &ArgMatches<'_>) -> bool
-    ensures { result ≡ (is_some (first_of (codes "opens") (rows_of (found_of flags.now))) && has_session_flag (rows_of (found_of flags.now))) }
+    ensures { result ≡ is_told_twice (rows_of (found_of flags.now)) }
 {
     value_of(flags, OPENS).is_some() && has_session_flag(flags)
 }
 
-// What the words of a command ask for, where the context is told once.
+// What the words of a command ask for, where nothing is told twice and each list is one.
 fn ask<'a>(alloc: Global, name: &str, flags: &ArgMatches<'a>) -> Result<Option<Asked<'a>>, Error>
-    ensures faults { FailsBy (conflict_in (rows_of (found_of flags.now))) result }
+    ensures faults { FailsBy (kinds_in (rows_of (found_of flags.now))) result }
     ensures asked { IfOk result (λ found. IsAsked name.now (rows_of (found_of flags.now)) (option_map (λ asked. (asked.request, asked.file.now)) found)) }
 {
     if is_told_twice(flags) {
         return Err(conflict(alloc, name, flags)?);
     }
-    Ok(Some(Asked {
-        request: asked_by(name, flags),
-        file: file_of(flags),
-    }))
+    if drops_twice(flags) {
+        return Err(drop_conflict(alloc)?);
+    }
+    if passes_alone(flags) {
+        return Err(missing_drop_unknown(alloc)?);
+    }
+    match drops_in(alloc, flags)? {
+        Some(drops) => Ok(Some(Asked {
+            request: asked_by(name, flags, drops),
+            file: file_of(flags),
+        })),
+        None => Err(bad_list(alloc, flags)?),
+    }
 }
 
 /// The request of the words, which stand without the program's name.

@@ -37,3 +37,55 @@ returns-clause-both_narrow c = refl
 pub returns-clause-no_value : goal.returns-clause-no_value
 unfolding clap_on_literals
 returns-clause-no_value c = refl
+
+pub returns-clause-both_clean : goal.returns-clause-both_clean
+unfolding clap_on_literals
+returns-clause-both_clean c = refl
+
+pub returns-clause-no_drop : goal.returns-clause-no_drop
+unfolding clap_on_literals
+returns-clause-no_drop c = refl
+
+pub returns-clause-drop_twice : goal.returns-clause-drop_twice
+unfolding clap_on_literals
+returns-clause-drop_twice c = refl
+
+pub returns-clause-pass_alone : goal.returns-clause-pass_alone
+unfolding clap_on_literals
+returns-clause-pass_alone c = refl
+
+pub returns-clause-no_list : goal.returns-clause-no_list
+unfolding clap_on_literals
+returns-clause-no_list c = refl
+
+pub returns-clause-empty : goal.returns-clause-empty
+unfolding clap_on_literals
+returns-clause-empty c = refl
+
+pub returns-clause-no_number : goal.returns-clause-no_number
+unfolding clap_on_literals
+returns-clause-no_number c = refl
+
+pub returns-clause-sign : goal.returns-clause-sign
+unfolding clap_on_literals
+returns-clause-sign c = refl
+
+pub returns-clause-space : goal.returns-clause-space
+unfolding clap_on_literals
+returns-clause-space c = refl
+
+pub returns-clause-too_large : goal.returns-clause-too_large
+unfolding clap_on_literals
+returns-clause-too_large c = refl
+
+pub returns-clause-empty_word : goal.returns-clause-empty_word
+unfolding clap_on_literals
+returns-clause-empty_word c = refl
+
+pub returns-clause-recognised : goal.returns-clause-recognised
+unfolding clap_on_literals
+returns-clause-recognised c = refl
+
+pub returns-clause-pass_recognised : goal.returns-clause-pass_recognised
+unfolding clap_on_literals
+returns-clause-pass_recognised c = refl

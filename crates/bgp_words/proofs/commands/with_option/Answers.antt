@@ -1,7 +1,7 @@
 use Rattle.std.proofs.Common.{◌≡◌, Bool, true, false, ◌||◌, refl, ap, ◌∙◌}
 use Rattle.std.proofs.lemmas.Result.{IfOk-weaker}
 use Rattle.clap.specs.declared.builder.command.Command.TheViews.{out-Command}
-use Rattle.bgp_words.proofs.commands.with_opens.Goals as goal
+use Rattle.bgp_words.proofs.commands.with_option.Goals as goal
 
 or-none : (b : Bool) → (b || false) ≡ b
 or-none true = refl
@@ -9,4 +9,4 @@ or-none false = refl
 
 pub returns-clause-local : goal.returns-clause-local
 returns-clause-local c =
-    IfOk-weaker c.arg.result _ _ (λ r adds. adds.globals ∙ ap (λ (b : Bool). (out-Command c.args.command).has_globals || b) c.opens.ensures.local ∙ or-none (out-Command c.args.command).has_globals) c.arg.ensures
+    IfOk-weaker c.arg.result _ _ (λ r adds. adds.globals ∙ ap (λ (b : Bool). (out-Command c.args.command).has_globals || b) c.option.ensures.local ∙ or-none (out-Command c.args.command).has_globals) c.arg.ensures

@@ -1,0 +1,95 @@
+//! Lists of attribute types that aren't recognised.
+
+ghost use Rattle.std.specs.Prelude.{◌≡◌, map, option_map, IfOk};
+ghost use Rattle.bgp_attr.specs.Judgement.{is_recognised};
+ghost use Rattle.bgp_wire.specs.OctetSet.{has_octet};
+ghost use Rattle.bgp_words.specs.TypeList.{all_but, is_other, octet_of, type_of, types_of, words_of};
+
+use bgp_numbers::attribute;
+use bgp_wire::OctetSet;
+use std::alloc::{AllocError, Global};
+
+// The words between the commas of a list.
+fn words_of<'a>(alloc: Global, list: &'a str) -> Result<Vec<&'a str>, AllocError>
+    ensures { IfOk result (λ words. map (λ word. word.now) words.items ≡ words_of list.now) }
+{
+    list.split(',').collect(alloc)
+}
+
+/// The number that decimal digits alone make, where it is at most 255.
+pub(crate) fn octet_of(word: &str) -> Option<u8>
+    ensures { result ≡ octet_of word.now }
+{
+    if word.starts_with('+') {
+        return None;
+    }
+    word.parse::<u8>().ok()
+}
+
+/// Whether a type is recognised.
+pub(crate) fn is_recognised(kind: u8) -> bool
+    ensures { result ≡ is_recognised kind }
+{
+    match kind {
+        attribute::ORIGIN
+        | attribute::AS_PATH
+        | attribute::NEXT_HOP
+        | attribute::MULTI_EXIT_DISC
+        | attribute::LOCAL_PREF
+        | attribute::ATOMIC_AGGREGATE
+        | attribute::AGGREGATOR
+        | attribute::COMMUNITIES
+        | attribute::MP_REACH_NLRI
+        | attribute::MP_UNREACH_NLRI
+        | attribute::AS4_PATH
+        | attribute::AS4_AGGREGATOR
+        | attribute::LARGE_COMMUNITY => true,
+        _ => false,
+    }
+}
+
+// The type that a word names, where it is one that isn't recognised.
+fn type_of(word: &str) -> Option<u8>
+    ensures { result ≡ type_of word.now }
+{
+    match octet_of(word) {
+        Some(kind) if !is_recognised(kind) => Some(kind),
+        _ => None,
+    }
+}
+
+/// The types of a list, where it is one.
+pub(crate) fn types_of(alloc: Global, list: &str) -> Result<Option<OctetSet>, AllocError>
+    ensures { IfOk result (λ types. option_map has_octet types ≡ types_of list.now) }
+{
+    let words = words_of(alloc, list)?;
+    let mut types = OctetSet::new();
+    'words: for word in words.iter() {
+        match type_of(word) {
+            Some(kind) => types.insert(kind),
+            None => return Ok(None),
+        }
+    }
+    Ok(Some(types))
+}
+
+// Whether a type isn't recognised, and none of these.
+fn is_other(types: &OctetSet, kind: u8) -> bool
+    ensures { result ≡ is_other (has_octet types.now) kind }
+{
+    !is_recognised(kind) && !types.contains(kind)
+}
+
+/// Every type that isn't recognised, but these.
+pub(crate) fn all_but(types: OctetSet) -> OctetSet
+    ensures { has_octet result ≡ all_but (has_octet types) }
+{
+    let mut others = OctetSet::new();
+    'types: for octet in 0..256_u16 {
+        let kind = octet as u8;
+        if is_other(&types, kind) {
+            others.insert(kind);
+        }
+    }
+    others
+}
