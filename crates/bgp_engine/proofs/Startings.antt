@@ -1,23 +1,21 @@
 -- Steps of an engine that takes the first message of its stream by a rule of its own.
-use Rattle.std.proofs.Common.{◌≡◌, ℕ, ◌+◌, ◌-◌, ◌≤◌, ◌^◌, Bool, true, false, List, [], ◌∷◌, ◌++◌, length, take, drop, Option, Some, None, Result, Ok, Err, refl, sym, ap, subst, ◌∙◌, append_assoc, arith, inl, inr}
+use Rattle.std.proofs.Common.{◌≡◌, ℕ, ◌+◌, Bool, true, false, List, [], ◌++◌, length, take, drop, Option, Some, None, Result, Ok, Err, refl, sym, ap, subst, ◌∙◌, append_assoc, arith}
 use Rattle.std.specs.Prelude.{is_some}
-use Rattle.std.proofs.lemmas.List.{append-nil, length-append, length-drop, length-take, take-append-drop, take_all}
+use Rattle.std.proofs.lemmas.List.{append-nil, length-append}
 use Rattle.bgp_wire.specs.Octets.{AreOctets}
-use Rattle.bgp_wire.proofs.OctetLemmas.{AreOctets-nil, AreOctets-append, AreOctets-drop}
+use Rattle.bgp_wire.proofs.OctetLemmas.{AreOctets-nil, AreOctets-drop}
 use Rattle.bgp_frame.specs.declared.end.End.{End}
 use Rattle.bgp_frame.specs.declared.end.End.TheVariants as end
 use Rattle.bgp_frame.specs.declared.fault.HeadFault.{HeadFault}
 use Rattle.bgp_frame.specs.Frame.{Message, octets_of, IsFrame, Waits}
 use Rattle.bgp_frame.specs.Head.{head_of}
 use Rattle.bgp_frame.specs.Takes as frame
-use Rattle.bgp_frame.proofs.FrameLemmas.{head_of-append, length-IsFrame, Stops-wanted}
-use Rattle.bgp_frame.proofs.Pulls.{nothing_waits}
+use Rattle.bgp_frame.proofs.FrameLemmas.{head_of-append, length-IsFrame}
 use Rattle.bgp_engine.specs.declared.class.Class.TheVariants as class
 use Rattle.bgp_engine.specs.declared.fault.Stop.TheVariants as stop
 use Rattle.bgp_engine.specs.declared.fault.ToolFault.{ToolFault}
 use Rattle.bgp_engine.specs.declared.fault.ToolFault.TheVariants as fault
 use Rattle.bgp_engine.specs.declared.tally.Tally.{Tally}
-use Rattle.bgp_engine.specs.declared.opening.Stage.{Stage}
 use Rattle.bgp_engine.specs.declared.opening.Stage.TheVariants as stage
 use Rattle.bgp_engine.specs.Clean.{without_words}
 use Rattle.bgp_engine.specs.File.{first_message, is_part}
@@ -28,7 +26,7 @@ use Rattle.bgp_engine.specs.Rules.{Rules, counted, report_of, IsReport}
 use Rattle.bgp_engine.specs.Run.{Answers, Io, Reports}
 use Rattle.bgp_engine.specs.Tally.{no_tally}
 use Rattle.bgp_engine.specs.steps.Engine.{Closes, ClosesBy, Rests, Takes}
-use Rattle.bgp_engine.specs.steps.Starting.{BeginsWithout, GoesOn, IsFirst, IsFresh, Settles, SettlesAt, reports_in, starting}
+use Rattle.bgp_engine.specs.steps.Starting.{BeginsWithout, GoesOn, IsFresh, Settles, reports_in, starting}
 use Rattle.bgp_engine.specs.steps.Walking.{Walking, IsCounting, IsGoing, ended_by, place_behind, reports_of, walking}
 use Rattle.bgp_engine.proofs.FirstOpens.{waits_part, frame_first, frame_whole, fault_whole, fault_first}
 use Rattle.bgp_engine.proofs.Openings.{all_fed, fed_whole}

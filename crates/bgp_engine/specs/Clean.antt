@@ -1,5 +1,5 @@
 -- What `clean` writes: the messages of a stream as they are handed on, up to the first of which nothing is (RFC 7606).
-use Rattle.std.specs.Prelude.{ℕ, Bool, true, false, ◌==◌, List, [], length, Option, None, Some, option_map, is_err, unwrap_or, Result, Ok, Err, if◌then◌else◌}
+use Rattle.std.specs.Prelude.{ℕ, Bool, true, false, ◌==◌, List, [], Option, None, Some, option_map, is_err, Result, Ok, Err, if◌then◌else◌}
 use Rattle.std.specs.Result.{result_ok}
 use Rattle.bgp_frame.specs.declared.end.End.{End}
 use Rattle.bgp_frame.specs.declared.end.End.TheVariants as end

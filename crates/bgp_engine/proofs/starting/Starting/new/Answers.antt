@@ -1,4 +1,4 @@
-use Rattle.std.proofs.Common.{[], refl}
+use Rattle.std.proofs.Common.{refl}
 use Rattle.bgp_frame.proofs.Pulls.{nothing_waits}
 use Rattle.bgp_engine.specs.steps.Cleaning.{page_rules}
 use Rattle.bgp_engine.proofs.Walks.{front_going}

@@ -1,4 +1,4 @@
-use Rattle.std.proofs.Common.{◌≡◌, ◌≤◌, ◌+◌, ◌++◌, ◌∙◌, ℕ, Bool, List, arith, ap, drop, length, subst, sym, take}
+use Rattle.std.proofs.Common.{◌≡◌, ◌++◌, ℕ, List, arith, ap, length, subst, take}
 use Rattle.std.proofs.lemmas.List.{length-append, length-drop, length-take}
 use Rattle.std.proofs.lemmas.Result.{IfOk-weaker, err_from_is_err_and}
 use Rattle.bgp_wire.proofs.OctetLemmas.{AreOctets-append}
@@ -8,7 +8,7 @@ use Rattle.bgp_engine.specs.declared.walk.Walk.{Walk}
 use Rattle.bgp_engine.specs.declared.cleaning.CleanPage.{CleanPage}
 use Rattle.bgp_engine.specs.steps.Cleaning.{clean_walk, page_starts}
 use Rattle.bgp_engine.specs.steps.Engine.{IsTotal, Takes}
-use Rattle.bgp_engine.specs.steps.Starting.{GoesOn, Settles, reports_in, starting}
+use Rattle.bgp_engine.specs.steps.Starting.{Settles, reports_in, starting}
 use Rattle.bgp_engine.specs.steps.Walking.{IsGoing, reports_of}
 use Rattle.bgp_engine.proofs.Openings.{on_err}
 use Rattle.bgp_engine.proofs.Startings.{takes_agreed, takes_part, takes_unagreed, total}
