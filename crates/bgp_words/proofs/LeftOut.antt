@@ -1,5 +1,5 @@
 -- What is left out isn't recognised.
-use Rattle.std.proofs.Common.{◌≡◌, ℕ, ◌<◌, Bool, true, false, not, ◌&&◌, ◌||◌, ◌==◌, nat_le, nat_lt, List, [], ◌∷◌, length, Option, None, Some, option_map, refl, sym, ap, subst, ◌∙◌, inl, inr, cond, codes, arith}
+use Rattle.std.proofs.Common.{◌≡◌, ℕ, ◌<◌, Bool, true, false, not, ◌&&◌, ◌==◌, nat_le, nat_lt, List, [], ◌∷◌, length, Option, None, Some, option_map, refl, sym, subst, inl, inr, cond, codes, arith}
 use Rattle.std.proofs.lemmas.Bool.{and_parts, eqb-true, leb-true, ltb-true, not-true, or_cases}
 use Rattle.std.specs.Str.{all_ascii_digits}
 use Rattle.std.specs.Str.Parse.{digits_value}
@@ -7,9 +7,9 @@ use Rattle.clap.specs.Words.{Row, Text, first_of}
 use Rattle.bgp_attr.specs.Judgement.{is_recognised}
 use Rattle.bgp_wire.specs.OctetSet.{also, none_of_them}
 use Rattle.bgp_wire.specs.Then.{◌>>=◌, when}
-use Rattle.bgp_words.specs.CommandLine.{drops_by, drops_in, is_set, types_in}
+use Rattle.bgp_words.specs.CommandLine.{drops_by, is_set, types_in}
 use Rattle.bgp_words.specs.Laws.{AreUnrecognised}
-use Rattle.bgp_words.specs.TypeList.{all_but, is_other, octet_of, type_of, types_behind, types_of, words_of}
+use Rattle.bgp_words.specs.TypeList.{all_but, is_other, octet_of, type_of, types_behind, words_of}
 
 -- ---- steps that may fail
 
