@@ -1,9 +1,11 @@
 -- What the program does with its words.
-use Rattle.std.specs.Prelude.{◌≡◌, ◌≢◌, ◌⊎◌, ℕ, Bool, true, false, List, [], Option, Some, Result, Err}
+use Rattle.std.specs.Prelude.{◌≡◌, ◌≢◌, ◌⊎◌, ℕ, Bool, true, false, List, [], Option, Result, Err}
 use Rattle.std.specs.Io.KnownBytes.{Keeps}
 use Rattle.clap.specs.Words.{IsAmong, Text}
 use Rattle.clap.specs.declared.error.kind.ErrorKind.{ErrorKind}
 use Rattle.clap.specs.declared.error.kind.ErrorKind.TheVariants as error
+use Rattle.bgp_wire.specs.OctetSet.{has_octet}
+use Rattle.bgp_wire.specs.declared.octet_set.OctetSet.{OctetSet}
 use Rattle.bgp_engine.specs.declared.fault.ToolFault.{ToolFault}
 use Rattle.bgp_engine.specs.declared.tally.Tally.{Tally}
 use Rattle.bgp_engine.specs.Run as engine
@@ -15,12 +17,13 @@ use Rattle.bgp_engine.specs.Check.{Checked}
 use Rattle.bgp_engine.specs.ToHex.{Hexed}
 use Rattle.bgp_engine.specs.FromHex.{Copied}
 use Rattle.bgp_engine.specs.Narrow.{Narrowed}
+use Rattle.bgp_engine.specs.Clean.{CleanedBy, CleanedIn, without_words}
 use Rattle.bgp_engine.specs.Tally.{status_of}
 use Rattle.bgp_words.specs.declared.request.Request.{Request}
-use Rattle.bgp_words.specs.declared.request.Request.TheVariants.{Show, Check, Narrow, ToHex, FromHex, Loop}
+use Rattle.bgp_words.specs.declared.request.Request.TheVariants.{Show, Check, Narrow, Clean, ToHex, FromHex, Loop}
 use Rattle.bgp_words.specs.declared.request.Session.TheVariants.{Flags, Opens}
 use Rattle.bgp_loop.specs.Loop.{IsOfFile, RunsFile, TracesFile}
-use Rattle.bgp_words.specs.CommandLine.{faults_of, request_of}
+use Rattle.bgp_words.specs.CommandLine.{AsksFor, faults_of}
 
 -- a script ran: nothing was read of the reader
 pub record RunsScript (io : Io) (outcome : Result Tally ToolFault) : Type 0 where
@@ -53,6 +56,10 @@ abbrev pub shown_by : Bool → List ℕ → Reports
 shown_by false theirs = ShownBy theirs
 shown_by true theirs = ShownJsonBy theirs
 
+-- without unrecognised attributes of the types in a set
+abbrev pub cleaned_by : OctetSet → List ℕ → Reports
+cleaned_by drops theirs = CleanedBy theirs (has_octet drops)
+
 -- the engine of a request ran, with this outcome: which one, and whether it read hexadecimal text
 abbrev pub Runs : Request → Io → Result Tally ToolFault → Type 0
 Runs (Show (Flags ctx) hex false) io outcome = engine.Answers (Shown ctx) hex io outcome
@@ -62,6 +69,8 @@ Runs (Check (Flags ctx) hex) io outcome = engine.Answers (Checked ctx) hex io ou
 Runs (Check Opens hex) io outcome = RunsBy CheckedBy hex io outcome
 Runs (Narrow (Flags ctx)) io outcome = engine.Answers (Narrowed ctx) false io outcome
 Runs (Narrow Opens) io outcome = RunsBy NarrowedBy false io outcome
+Runs (Clean (Flags ctx) hex drops) io outcome = engine.Answers (CleanedIn ctx (has_octet drops)) hex io (without_words outcome)
+Runs (Clean Opens hex drops) io outcome = RunsBy (cleaned_by drops) hex io (without_words outcome)
 Runs ToHex io outcome = engine.Answers Hexed false io outcome
 Runs FromHex io outcome = engine.Answers Copied true io outcome
 Runs (Loop tcp false) io outcome = RunsScript io outcome
@@ -82,7 +91,7 @@ IsWide _ = Unit {0}
 pub record RunsEngine (words : List Text) (io : Io) (answer : ℕ) : Type 0 where
   pub request : Request
   pub file : Text
-  pub asked : request_of words ≡ Some (request, file)
+  pub asked : AsksFor words request file
   pub without_fault : faults_of words ≡ []
   pub has_run : HasRun request io answer
 

@@ -2,15 +2,18 @@
 
 ghost use Rattle.std.specs.Prelude.{false, map};
 ghost use Rattle.clap.specs.Words.{kind_of};
-ghost use Rattle.bgp.specs.Command.{Answers, HasRun, IsExplained, IsQuiet, IsWide, Runs, RunsBy, shown_by};
+ghost use Rattle.bgp.specs.Command.{Answers, HasRun, IsExplained, IsQuiet, IsWide, Runs, RunsBy, cleaned_by, shown_by};
+ghost use Rattle.bgp_engine.specs.Clean.{without_words};
 ghost use Rattle.bgp_engine.specs.Opens.{CheckedBy, NarrowedBy};
 ghost use Rattle.bgp_engine.specs.Run.{io};
 
 use bgp_engine::{
-    Tally, ToolFault, check, check_by_opens, from_hex, narrow_by_opens, narrow_stream, show,
-    show_by_opens, show_json, show_json_by_opens, status, to_hex,
+    Tally, ToolFault, check, check_by_opens, clean_by_opens, clean_stream, from_hex,
+    narrow_by_opens, narrow_stream, show, show_by_opens, show_json, show_json_by_opens, status,
+    to_hex,
 };
 use bgp_loop::{read_file, run_file, trace_file};
+use bgp_wire::OctetSet;
 use bgp_words::{Asked, Request, Session, parse};
 use clap::Error;
 use clap::error::ErrorKind;
@@ -107,6 +110,24 @@ fn narrow_opened<H: Files, R: Read, W: Write>(
     }
 }
 
+// Cleans by the OPENs of both directions.
+fn clean_opened<H: Files, R: Read, W: Write>(
+    rt: &H,
+    alloc: Global,
+    file: &str,
+    drops: &OctetSet,
+    hex: bool,
+    input: &mut R,
+    output: &mut W,
+) -> Result<Tally, ToolFault>
+    ensures { RunsBy (cleaned_by drops.now) hex (io R.remaining input.old input.new W.contents output.old output.new) (without_words result) }
+{
+    match read_file(rt, alloc, file, MESSAGE_MAX) {
+        Ok(theirs) => clean_by_opens(alloc, &theirs, drops, hex, input, output),
+        Err(fault) => Err(fault),
+    }
+}
+
 // Runs the engine of a request.
 fn run<H: Files + Net, R: Read, W: Write>(
     rt: &H,
@@ -131,6 +152,14 @@ fn run<H: Files + Net, R: Read, W: Write>(
         Request::Narrow { session } => match session {
             Session::Flags(ctx) => narrow_stream(alloc, &ctx, input, output),
             Session::Opens => narrow_opened(rt, alloc, asked.file, input, output),
+        },
+        Request::Clean {
+            session,
+            hex,
+            drops,
+        } => match session {
+            Session::Flags(ctx) => clean_stream(alloc, &ctx, &drops, hex, input, output),
+            Session::Opens => clean_opened(rt, alloc, asked.file, &drops, hex, input, output),
         },
         Request::ToHex => to_hex(alloc, input, output),
         Request::FromHex => from_hex(alloc, input, output),

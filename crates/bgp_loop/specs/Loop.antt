@@ -57,6 +57,7 @@ Answers text io (Err (fault.Script n)) = IsFaulty text io n
 Answers text io (Err fault.Read) = ⊥
 Answers text io (Err (fault.BadHex n)) = ⊥
 Answers text io (Err (fault.Narrow n)) = ⊥
+Answers text io (Err (fault.Clean n why)) = ⊥
 Answers text io (Err fault.NoOpen) = ⊥
 Answers text io (Err fault.Net) = ⊥
 

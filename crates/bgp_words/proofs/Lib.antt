@@ -1,3 +1,4 @@
 pub mod TypeLists
 pub mod CommandLines
 pub mod Flags
+pub mod LeftOut

@@ -1,6 +1,7 @@
 -- What laws of the command line say of words.
-use Rattle.std.specs.Prelude.{◌≡◌, ℕ, Bool, List, [], Some}
+use Rattle.std.specs.Prelude.{◌≡◌, ◌<◌, ℕ, Bool, true, false, List, [], Some}
 use Rattle.clap.specs.Words.{Text}
+use Rattle.bgp_attr.specs.Judgement.{is_recognised}
 use Rattle.bgp_wire.specs.OctetSet.{none_of_them}
 use Rattle.bgp_wire.specs.declared.octet_set.OctetSet.{OctetSet}
 use Rattle.bgp_open.specs.declared.context.Context.{Context}
@@ -27,3 +28,7 @@ pub record CanBeCleaned (words : List Text) (session : Session) (hex : Bool) (fi
 -- a context with and without all of the other flags
 abbrev pub flags : Bool → Bool → Context
 flags as4 others = record { internal = others; as4 = as4; ip4 = others; ip6 = others; hold = 0 }
+
+-- types that aren't recognised
+abbrev pub AreUnrecognised : (ℕ → Bool) → Type 0
+AreUnrecognised types = (kind : ℕ) → types kind ≡ true → (is_recognised kind ≡ false) × (kind < 256)

@@ -1,13 +1,14 @@
 //! Laws of the command line. Each is the contract of a function that does nothing.
 
-ghost use Rattle.std.specs.Prelude.{◌≡◌, [], ◌∷◌, codes, true, false};
+ghost use Rattle.std.specs.Prelude.{◌≡◌, ℕ, Bool, List, [], ◌∷◌, codes, true, false, Some};
+ghost use Rattle.clap.specs.Words.{Text};
 ghost use Rattle.clap.specs.declared.error.kind.ErrorKind.TheVariants as error;
 ghost use Rattle.bgp_wire.specs.OctetSet.{also, none_of_them};
 ghost use Rattle.bgp_words.specs.declared.request.Request.TheVariants.{Show, Check, Narrow, ToHex, FromHex, Loop};
 ghost use Rattle.bgp_words.specs.declared.request.Session.TheVariants.{Flags, Opens};
-ghost use Rattle.bgp_words.specs.CommandLine.{faults_of};
+ghost use Rattle.bgp_words.specs.CommandLine.{drops_of, faults_of};
 ghost use Rattle.bgp_words.specs.TypeList.{all_but};
-ghost use Rattle.bgp_words.specs.Laws.{CanBeCleaned, CanBeDone, CanBeDoneWith, flags};
+ghost use Rattle.bgp_words.specs.Laws.{AreUnrecognised, CanBeCleaned, CanBeDone, CanBeDoneWith, flags};
 
 /// What a user types for each command, without flags and with all of them.
 pub fn words_have_one_meaning()
@@ -62,4 +63,9 @@ pub fn words_can_be_wrong()
     ensures empty_word { faults_of (codes "clean" ∷ codes "--drop" ∷ codes "16,,35" ∷ []) ≡ error.InvalidValue ∷ [] }
     ensures recognised { faults_of (codes "clean" ∷ codes "--drop" ∷ codes "16,32" ∷ []) ≡ error.InvalidValue ∷ [] }
     ensures pass_recognised { faults_of (codes "clean" ∷ codes "--drop-unknown" ∷ codes "--pass" ∷ codes "1" ∷ []) ≡ error.InvalidValue ∷ [] }
+{}
+
+/// Whatever words ask for, nothing that is recognised is left out.
+pub fn nothing_recognised_is_left_out()
+    ensures { (words : List Text) (types : ℕ → Bool) → drops_of words ≡ Some types → AreUnrecognised types }
 {}
