@@ -51,6 +51,7 @@ fn a_reader_that_is_not_asked_for_its_end(rt: HostRuntime) -> Result<(), Fail> {
         (Tool::ToHex, 78),
         (Tool::FromHex, 38),
         (Tool::Narrow, 38),
+        (Tool::Clean, 38),
     ] {
         assert_stopped(&rt, tool, 1, 4096, written)?;
     }
@@ -83,6 +84,7 @@ fn a_reader_that_is_asked_often_enough(rt: HostRuntime) -> Result<(), Fail> {
         (Tool::ToHex, 1),
         (Tool::FromHex, 1),
         (Tool::Narrow, 1),
+        (Tool::Clean, 1),
     ] {
         assert_ended(&rt, tool, writes)?;
     }
@@ -114,6 +116,7 @@ fn nothing_is_read_behind_the_end(rt: HostRuntime) -> Result<(), Fail> {
         Tool::Check,
         Tool::CheckText,
         Tool::Narrow,
+        Tool::Clean,
     ] {
         assert_asked_once(&rt, tool, wrong_type)?;
         assert_asked_once(&rt, tool, version_3)?;

@@ -7,7 +7,7 @@ use std::process::Abort;
 use std::test::*;
 
 /// An engine, what it reads, the lines that it writes of that, and what it writes last.
-const RUNS: [(Tool, &str, &str, &str); 11] = [
+const RUNS: [(Tool, &str, &str, &str); 13] = [
     (
         Tool::Show,
         "M 0013 04 M 0017 05",
@@ -65,6 +65,18 @@ const RUNS: [(Tool, &str, &str, &str); 11] = [
     ),
     (
         Tool::Narrow,
+        "M 0013 04 M 0013 04 M 00",
+        "M 001304 M 001304",
+        "",
+    ),
+    (
+        Tool::Clean,
+        "M 001d01 04 fde9 005a c0000201 00 M 002d02 0000 0014 40010103 40020602010000fde8 400304c0000201 080a",
+        "M 001d01 04 fde9 005a c0000201 00 M 001902 0002 080a 0000",
+        "",
+    ),
+    (
+        Tool::Clean,
         "M 0013 04 M 0013 04 M 00",
         "M 001304 M 001304",
         "",
@@ -220,5 +232,6 @@ fn counts_of_other_engines(rt: HostRuntime) -> Result<(), Fail> {
     assert_tally(&rt, Tool::ToHex, rest, [2, 2, 0, 0], End::Wait(1))?;
     assert_tally(&rt, Tool::FromHex, "M001304", [0; 4], End::Wait(0))?;
     let wide = "M 0013 04 M 002d02 0000 0014 40010100 400206020100030d40 400304c0000201 080a";
-    assert_tally(&rt, Tool::Narrow, wide, [2, 2, 0, 0], End::Wait(0))
+    assert_tally(&rt, Tool::Narrow, wide, [2, 2, 0, 0], End::Wait(0))?;
+    assert_tally(&rt, Tool::Clean, wide, [2, 2, 0, 0], End::Wait(0))
 }

@@ -3,6 +3,7 @@
 use super::failing::{Drip, Sheet};
 use bgp_engine::*;
 use bgp_open::Context;
+use bgp_wire::OctetSet;
 use std::alloc::Global;
 use std::process::Abort;
 use std::test::*;
@@ -17,9 +18,10 @@ pub(super) enum Tool {
     ToHex,
     FromHex,
     Narrow,
+    Clean,
 }
 
-pub(super) const TOOLS: [Tool; 7] = [
+pub(super) const TOOLS: [Tool; 8] = [
     Tool::Show,
     Tool::ShowText,
     Tool::Check,
@@ -27,6 +29,7 @@ pub(super) const TOOLS: [Tool; 7] = [
     Tool::ToHex,
     Tool::FromHex,
     Tool::Narrow,
+    Tool::Clean,
 ];
 
 /// Text with each `M` spelled out as the digits of a Marker.
@@ -69,7 +72,7 @@ pub(super) fn input_of(alloc: Global, tool: Tool, digits: &str) -> Result<Vec<u8
 /// What an engine writes: octets by their digits, or text.
 pub(super) fn output_of(alloc: Global, tool: Tool, text: &str) -> Result<Vec<u8>, Fail> {
     match tool {
-        Tool::FromHex | Tool::Narrow => octets_of(alloc, text),
+        Tool::FromHex | Tool::Narrow | Tool::Clean => octets_of(alloc, text),
         Tool::ToHex => text_of(alloc, text),
         _ => Ok(Vec::from_slice(alloc, text.as_bytes())?),
     }
@@ -102,6 +105,7 @@ pub(super) fn run_tool(
         Tool::ToHex => to_hex(alloc, input, output),
         Tool::FromHex => from_hex(alloc, input, output),
         Tool::Narrow => narrow_stream(alloc, &Context { as4: true, ..ctx }, input, output),
+        Tool::Clean => clean_stream(alloc, &ctx, &OctetSet::new(), false, input, output),
     }
 }
 
@@ -122,6 +126,9 @@ pub(super) fn run_tool_within(
         Tool::FromHex => from_hex_within(alloc, turns, input, output),
         Tool::Narrow => {
             narrow_within(alloc, turns, &Context { as4: true, ..ctx }, input, output)
+        }
+        Tool::Clean => {
+            clean_within(alloc, turns, &ctx, &OctetSet::new(), false, input, output)
         }
     }
 }
