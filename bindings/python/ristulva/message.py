@@ -148,10 +148,11 @@ class Message:
     def clean(self, first=False, types=()):
         """What may be handed on of it to a hearer, who learns by it what RFC 7606 has the hearer of the message learn.
 
-        An OPEN is handed on with the capabilities for IPv4 and IPv6 unicast and for AS numbers of four octets, each once, and no others. An UPDATE that
-        is accepted is handed on without what is discarded, and without attributes of unrecognised types that are among `types`; one that is treated as a
-        withdrawal as an UPDATE that withdraws its routes. A KEEPALIVE is handed on for an UPDATE that has no routes and no attributes then, unless it came
-        as an End-of-RIB. `first` is whether the message is the first one of its stream. Behind one with `ends` nothing is to be handed on."""
+        An OPEN is handed on with the first capability of each kind for IPv4 unicast, IPv6 unicast and AS numbers of four octets, and no others. An UPDATE
+        that is accepted is handed on without what is discarded, and without attributes of unrecognised types that are among `types`; one that is treated as
+        a withdrawal as an UPDATE that withdraws its routes. Where nothing would be left of an UPDATE, or MP_UNREACH_NLRI without routes alone, a KEEPALIVE
+        is handed on, unless it came as an End-of-RIB. `first` is whether the message is the first one of its stream. Of a message with `ends`, and of all
+        behind it, nothing is to be handed on."""
         types = bytes(iter(types))
         message, written, told = ctypes.create_string_buffer(MESSAGE), c_size_t(), CCleaned()
         check(LIBRARY.ristulva_clean(

@@ -74,12 +74,12 @@ impl Message<'_> {
     /// What may be handed on of it to a hearer, who learns by it what RFC 7606 has the hearer of the
     /// message learn.
     ///
-    /// An OPEN is handed on with the capabilities for IPv4 and IPv6 unicast and for AS numbers of four
-    /// octets, each once, and no others. An UPDATE that is accepted is handed on without what is
+    /// An OPEN is handed on with the first capability of each kind for IPv4 unicast, IPv6 unicast and AS
+    /// numbers of four octets, and no others. An UPDATE that is accepted is handed on without what is
     /// discarded, and without attributes of unrecognised types that are among `types`; one that is
-    /// treated as a withdrawal as an UPDATE that withdraws its routes. A KEEPALIVE is handed on for an
-    /// UPDATE that has no routes and no attributes then, unless it came as an End-of-RIB (RFC 4724,
-    /// section 2). `first` is whether the message is the first one of its stream.
+    /// treated as a withdrawal as an UPDATE that withdraws its routes. Where nothing would be left of an
+    /// UPDATE, or MP_UNREACH_NLRI without routes alone, a KEEPALIVE is handed on, unless it came as an
+    /// End-of-RIB (RFC 4724, section 2). `first` is whether the message is the first one of its stream.
     ///
     /// ```
     /// use ristulva::{Cleaned, Context};

@@ -241,9 +241,10 @@ typedef struct {
  * order: attributes of unrecognised types that are among them are left out. `first` is whether the message is the first one of its stream:
  * 0 for no, any other number for yes. It allocates.
  *
- * An OPEN is handed on with the capabilities for IPv4 and IPv6 unicast and for AS numbers of four octets, each once, and no others. An UPDATE
- * that is accepted is handed on without what is discarded or left out, and one that is treated as a withdrawal as an UPDATE that withdraws its
- * routes. A KEEPALIVE is handed on for an UPDATE that has no routes and no attributes then, unless it came as an End-of-RIB (RFC 4724, section 2).
+ * An OPEN is handed on with the first capability of each kind for IPv4 unicast, IPv6 unicast and AS numbers of four octets, and no others. An
+ * UPDATE that is accepted is handed on without what is discarded or left out, and one that is treated as a withdrawal as an UPDATE that withdraws
+ * its routes. Where nothing would be left of an UPDATE, or MP_UNREACH_NLRI without routes alone, a KEEPALIVE is handed on, unless it came as an
+ * End-of-RIB (RFC 4724, section 2).
  *
  * RISTULVA_INCOMPLETE; RISTULVA_MEMORY, only where the message is complete: nothing is written. RISTULVA_ROOM: `written` is, and says how much
  * room is needed, and so is `out`; `message` isn't. */
