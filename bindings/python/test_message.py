@@ -215,5 +215,76 @@ class Updates(unittest.TestCase):
             ristulva.encode(bytes(4078), self.context)
 
 
+class Cleaning(unittest.TestCase):
+    context = ristulva.Context(as4=True, ip4=True, ip6=True)
+    attributes = "40010100" + "40020a02020000fde800030d40" + "400304c0000201"
+
+    def update(self, attributes, nlri="080a", withdrawn=""):
+        attributes, nlri, withdrawn = (bytes.fromhex(it) for it in (attributes, nlri, withdrawn))
+        return message(2, len(withdrawn).to_bytes(2, "big") + withdrawn + len(attributes).to_bytes(2, "big") + attributes + nlri)
+
+    def becomes(self, octets, wanted, counts, **how):
+        """What is handed on of octets is wanted, without so many attributes that are discarded, so many that are left out, and so many capabilities;
+        wanted is handed on as it is."""
+        self.assertEqual(ristulva.judge(octets, self.context).clean(**how), ristulva.Cleaned(wanted, None, *counts))
+        self.assertEqual(ristulva.judge(wanted, self.context).clean(**how), ristulva.Cleaned(wanted, None, 0, 0, 0))
+
+    def ends(self, octets, why, **how):
+        self.assertEqual(ristulva.judge(octets, self.context).clean(**how), ristulva.Cleaned(b"", why, 0, 0, 0))
+
+    def test_withdrawal(self):
+        """An ORIGIN without a meaning: the routes of NLRI are withdrawn too (RFC 7606, section 7.1)."""
+        bad = self.attributes.replace("40010100", "40010109")
+        self.becomes(self.update(bad, withdrawn="080b"), self.update("", "", "080b080a"), (0, 0, 0))
+
+    def test_discarded(self):
+        """An AGGREGATOR of which an octet is missing (RFC 7606, section 7.7)."""
+        it = self.update(self.attributes + "c0070700010d40c00002")
+        self.becomes(it, self.update(self.attributes), (1, 0, 0))
+        self.assertEqual(len(list(ristulva.judge(it, self.context).notes())), 1)
+
+    def test_types(self):
+        """Of two that aren't recognised each is left out by its type; ORIGIN never is."""
+        it = self.update(self.attributes + "c0140101" + "c01e0102")
+        self.becomes(it, it, (0, 0, 0))
+        self.becomes(it, self.update(self.attributes + "c01e0102"), (0, 1, 0), types=[20, 1])
+        self.becomes(it, self.update(self.attributes), (0, 2, 0), types={30, 20, 255})
+        self.becomes(it, self.update(self.attributes), (0, 2, 0), types=bytes(range(256)))
+        for types in (20, "20", [256], [-1]):
+            self.assertRaises((TypeError, ValueError), ristulva.judge(it, self.context).clean, types=types)
+
+    def test_nothing_left(self):
+        """That is no End-of-RIB, but what is one stays one (RFC 4724, section 2)."""
+        self.becomes(self.update("c0140101", ""), message(4, b""), (0, 1, 0), types=[20])
+        self.becomes(self.update("", ""), self.update("", ""), (0, 0, 0), types=[20])
+
+    def test_open(self):
+        """IPv4 unicast, route refresh, AS 131073 and IPv4 unicast: two go on, in one parameter."""
+        fixed = bytes.fromhex("04" + "5ba0" + "005a" + "c0000202")
+        field = bytes.fromhex("0214" + "010400010001" + "0200" + "410400020001" + "010400010001")
+        wanted = bytes.fromhex("020c" + "010400010001" + "410400020001")
+        it = message(1, fixed + bytes([len(field)]) + field)
+        self.becomes(it, message(1, fixed + bytes([len(wanted)]) + wanted), (0, 0, 2), first=True)
+        self.ends(it, "late open")
+        self.ends(message(1, fixed + bytes.fromhex("08" + "0206" + "010400010002")), "no family", first=True)
+
+    def test_others(self):
+        for it in (message(4, b""), message(3, b"\x06\x02\x03bye")):
+            self.becomes(it, it, (0, 0, 0))
+        self.ends(message(2, bytes.fromhex("0003080a0000")), "reset")
+        self.ends(MARKER + bytes.fromhex("001204"), "reset", first=True)
+
+    def test_captures(self):
+        """What is handed on of each capture is accepted without a note, and is handed on as it is."""
+        for path in sorted(EXAMPLES.glob("*.hex")):
+            for it in ristulva.messages(bytes.fromhex(path.read_text()), self.context):
+                with self.subTest(path.name):
+                    handed = it.clean(first=it.place == 0)
+                    if handed.ends is None:
+                        self.becomes(it.octets, handed.octets, (handed.discarded, handed.left_out, handed.capabilities), first=it.place == 0)
+                        self.assertEqual(list(ristulva.judge(handed.octets, self.context).notes()), [])
+                        self.assertLessEqual(len(handed.octets), len(it.octets))
+
+
 if __name__ == "__main__":
     unittest.main()

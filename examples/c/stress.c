@@ -361,6 +361,80 @@ static void try_encode(const ristulva_context *context, const uint8_t *body, siz
     calls += 2;
 }
 
+/* What is handed on of the first message: it is accepted, has no notes, is no longer, and is handed on as it is; and all that is told of it fits. */
+static void check_handed(const ristulva_context *context, const uint8_t *types, size_t count, uint8_t first, const uint8_t *handed, size_t written,
+                         const ristulva_cleaned *told)
+{
+    static uint8_t again[RISTULVA_MESSAGE];
+    ristulva_note_found note;
+    ristulva_verdict verdict;
+    ristulva_cleaned same;
+    size_t notes = 77, len = 77, i;
+    uint8_t data[RISTULVA_DATA];
+    WANT(written >= 19 && written <= told->len);
+    WANT(told->verdict == RISTULVA_UPDATE || told->discarded + told->left_out == 0);
+    WANT(told->verdict == RISTULVA_OPEN || told->capabilities == 0);
+    WANT(ristulva_judge(context, handed, written, data, sizeof data, &verdict) == RISTULVA_OK);
+    WANT(verdict.len == written && verdict.verdict == verdict.kind);
+    WANT(verdict.kind == (told->verdict == RISTULVA_WITHDRAW ? RISTULVA_UPDATE : told->verdict)
+         || (verdict.kind == RISTULVA_KEEPALIVE && told->verdict == RISTULVA_UPDATE));
+    WANT(ristulva_notes(context, handed, written, &note, 1, &notes) == RISTULVA_OK && notes == 0);
+    WANT(ristulva_clean(context, types, count, first, handed, written, again, sizeof again, &len, &same) == RISTULVA_OK);
+    WANT(len == written && memcmp(again, handed, len) == 0 && same.discarded + same.left_out + same.capabilities == 0);
+    if (verdict.kind == 2) {
+        ristulva_attributes cursor = {verdict.parts.attributes.at, verdict.parts.attributes.at + verdict.parts.attributes.len};
+        ristulva_attribute attribute;
+        while (ristulva_next_attribute(handed, written, &cursor, &attribute) == RISTULVA_OK)
+            for (i = 0; i < count; i++)
+                WANT(attribute.kind != types[i] || attribute.kind <= 32); /* types from 33 on aren't recognised */
+    }
+    calls += 3;
+}
+
+/* With room for all and for less, some types, and with each allocation failing in turn. */
+static void try_clean(const ristulva_context *context, const uint8_t *octets, size_t len, const ristulva_found *found, const ristulva_verdict *verdict)
+{
+    static uint8_t handed[RISTULVA_MESSAGE + 1];
+    uint8_t types[3] = {(uint8_t)below(256), (uint8_t)(33 + below(223)), len == 0 ? 0 : octets[below((uint32_t)len)]}, first = (uint8_t)below(3);
+    size_t count = below(4), room = below(3) == 0 ? below(64) : RISTULVA_MESSAGE, written = 77, notes = 77;
+    ristulva_note_found note;
+    ristulva_cleaned told;
+    ristulva_status status;
+    memset(handed, 0x5a, sizeof handed);
+    memset(&told, 0xa5, sizeof told);
+    refused = below(4) == 0 ? 1 : 0;
+    for (;;) {
+        allocations = 0;
+        status = ristulva_clean(context, types, count, first, octets, len, handed, room, &written, &told);
+        WANT(live == sessions);
+        calls++;
+        if (status != RISTULVA_MEMORY)
+            break;
+        WANT(refused != 0 && found->what == RISTULVA_FOUND && written == 77 && told.ends == 0xa5 && handed[0] == 0x5a);
+        refused++;
+    }
+    refused = 0;
+    WANT((status == RISTULVA_INCOMPLETE) == (found->what == RISTULVA_MORE));
+    if (status == RISTULVA_INCOMPLETE) {
+        WANT(written == 77 && told.ends == 0xa5 && handed[0] == 0x5a);
+        return;
+    }
+    WANT(status == (written <= room ? RISTULVA_OK : RISTULVA_ROOM));
+    WANT(told.verdict == verdict->verdict && told.len == verdict->len && handed[status == RISTULVA_OK ? written : 0] == 0x5a);
+    if (told.ends != RISTULVA_HANDED_ON) {
+        WANT(written == 0 && told.ends <= RISTULVA_ENDS_NO_FAMILY && told.discarded + told.left_out + told.capabilities == 0);
+        WANT((told.ends == RISTULVA_ENDS_RESET) == (verdict->verdict == RISTULVA_RESET));
+        WANT(told.ends == RISTULVA_ENDS_RESET ? told.code == verdict->code && told.subcode == verdict->subcode : verdict->verdict == RISTULVA_OPEN && told.code + told.subcode == 0);
+        WANT(told.ends != RISTULVA_ENDS_LATE_OPEN || first == 0);
+        return;
+    }
+    WANT(verdict->verdict != RISTULVA_RESET && (verdict->verdict != RISTULVA_OPEN || first != 0));
+    ristulva_notes(context, octets, len, &note, 1, &notes);
+    WANT(told.discarded == (verdict->verdict == RISTULVA_UPDATE ? notes : 0));
+    if (status == RISTULVA_OK)
+        check_handed(context, types, count, first, handed, written, &told);
+}
+
 /* A decoder that gets the octets in two pieces tells the same of the first message. */
 static void try_decoder(const ristulva_context *context, const uint8_t *octets, size_t len, const ristulva_found *found, const ristulva_verdict *verdict)
 {
@@ -511,6 +585,7 @@ static void try_all(const uint8_t *from, size_t len)
     try_notes(&context, octets, len, &found, &verdict);
     try_open(octets, len, &found, &verdict);
     try_text(&context, octets, len, &found);
+    try_clean(&context, octets, len, &found, &verdict);
     try_decoder(&context, octets, len, &found, &verdict);
     try_session(octets, len, &found);
     if (found.what == RISTULVA_FOUND && verdict.kind == 2) {

@@ -19,13 +19,15 @@ It is the file that RISTULVA_LIBRARY names by an absolute path, else libristulva
 
 from .decoder import Decoder, DecoderClosed
 from .library import MESSAGE, VERSION
-from .message import VERDICTS, WHYS, Attribute, Context, Message, Open, Refused, WrongState, encode, judge, messages, narrow, reconcile
+from .message import (
+    ENDS, VERDICTS, WHYS, Attribute, Cleaned, Context, Message, Open, Refused, WrongState, encode, judge, messages, narrow, reconcile,
+)
 from .session import (
     Action, Announce, Arm, Close, Config, Disarm, Event, Flush, Heard, Peer, Seek, Send, Session, SessionClosed, State, Timer, Withdraw,
 )
 
 __all__ = [
-    "MESSAGE", "VERDICTS", "VERSION", "WHYS", "Action", "Announce", "Arm", "Attribute", "Close", "Config", "Context", "Decoder", "DecoderClosed",
-    "Disarm", "Event", "Flush", "Heard", "Message", "Open", "Peer", "Refused", "Seek", "Send", "Session", "SessionClosed", "State", "Timer",
+    "ENDS", "MESSAGE", "VERDICTS", "VERSION", "WHYS", "Action", "Announce", "Arm", "Attribute", "Cleaned", "Close", "Config", "Context", "Decoder",
+    "DecoderClosed", "Disarm", "Event", "Flush", "Heard", "Message", "Open", "Peer", "Refused", "Seek", "Send", "Session", "SessionClosed", "State", "Timer",
     "Withdraw", "WrongState", "encode", "judge", "messages", "narrow", "reconcile",
 ]

@@ -54,6 +54,11 @@ class CNote(Structure):
     _fields_ = [("at", c_uint32), ("kind", c_uint8), ("why", c_uint8)]
 
 
+class CCleaned(Structure):
+    _fields_ = [("ends", c_uint8), ("verdict", c_uint8), ("code", c_uint8), ("subcode", c_uint8), ("len", c_uint32), ("discarded", c_size_t),
+                ("left_out", c_size_t), ("capabilities", c_size_t)]
+
+
 class Numbers(Structure):
     _fields_ = [("at", c_uint32), ("end", c_uint32), ("width", c_uint8)]
 
@@ -135,6 +140,7 @@ def load():
         "encode": [POINTER(Said), *octets, *buffer, POINTER(c_size_t)],
         "narrow": [POINTER(Said), *octets, *buffer, POINTER(c_size_t)],
         "reconcile": [POINTER(Said), *octets, *buffer, POINTER(c_size_t)],
+        "clean": [POINTER(Said), *octets, c_uint8, *octets, *buffer, POINTER(c_size_t), POINTER(CCleaned)],
         "next_attribute": [*octets, POINTER(Attributes), POINTER(CAttribute)],
         "next_prefix": [*octets, POINTER(Prefixes), POINTER(CPrefix)],
         "next_segment": [*octets, POINTER(Segments), POINTER(CSegment)],
@@ -166,7 +172,9 @@ def load():
     if divmod(version // 1000, 1000) != SERIES:
         raise ImportError("{} is version {}.{}, and this package is for {}.{}".format(where, *divmod(version // 1000, 1000), *SERIES))
     for name, arguments in takes.items():
-        call = getattr(library, f"ristulva_{name}")
+        call = getattr(library, f"ristulva_{name}", None)
+        if call is None:
+            raise ImportError(f"{where} has no ristulva_{name}: this package is for a later version")
         call.argtypes, call.restype = arguments, c_uint32
     return library, version
 

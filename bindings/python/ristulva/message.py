@@ -9,11 +9,12 @@ from ctypes import c_size_t, c_uint32
 
 from .library import (
     DATA, HEADER, INCOMPLETE, LIBRARY, MEMORY, MESSAGE, MIXED, OK, RANGE, REFUSED, ROOM, STATE, UNWRITABLE, Attributes, CAttribute, CCapability,
-    CNote, COpen, CPrefix, CSegment, Numbers, Prefixes, Said, Segments, Span, Verdict,
+    CCleaned, CNote, COpen, CPrefix, CSegment, Numbers, Prefixes, Said, Segments, Span, Verdict,
 )
 
 WHYS = ("Flags", "Length", "Value", "SegmentType", "SegmentCount", "SegmentEnd", "Repeated", "External", "FourOctet", "Family", "Unneeded", "Emptied",
         "Cut", "Missing", "AsZero")
+ENDS = {0: None, 1: "reset", 2: "late open", 3: "no family"}
 VERDICTS = {1: "open", 2: "update", 3: "notification", 4: "keepalive", 5: "withdraw", 6: "reset"}
 
 
@@ -80,6 +81,17 @@ class Open:
     capabilities: list  # each its code and the octets of its value, in their order (RFC 5492, section 4)
 
 
+@dataclasses.dataclass(frozen=True)
+class Cleaned:
+    """What came of a message that is cleaned."""
+
+    octets: bytes  # what is handed on of it, a whole message in its one written form; none where the stream ends
+    ends: str  # why the cleaned stream ends before it, one of ENDS; None where it is handed on
+    discarded: int  # how many attributes of an UPDATE that is accepted are discarded, each with a note
+    left_out: int  # how many others are left out, by their types
+    capabilities: int  # how many capabilities of an OPEN are left out
+
+
 def each(call, octets, cursor, out):
     """What a cursor gives, one after another: always the same place, written anew."""
     while getattr(LIBRARY, f"ristulva_{call}")(octets, len(octets), cursor, out) == 0:
@@ -132,6 +144,20 @@ class Message:
             notes = (CNote * count.value)()
         for note in notes[: count.value]:
             yield note.at, note.kind, WHYS[note.why - 1]
+
+    def clean(self, first=False, types=()):
+        """What may be handed on of it to a hearer, who learns by it what RFC 7606 has the hearer of the message learn.
+
+        An OPEN is handed on with the first capability of each kind for IPv4 unicast, IPv6 unicast and AS numbers of four octets, and no others. An UPDATE
+        that is accepted is handed on without what is discarded, and without attributes of unrecognised types that are among `types`; one that is treated as
+        a withdrawal as an UPDATE that withdraws its routes. Where nothing would be left of an UPDATE, or MP_UNREACH_NLRI without routes alone, a KEEPALIVE
+        is handed on, unless it came as an End-of-RIB. `first` is whether the message is the first one of its stream. Of a message with `ends`, and of all
+        behind it, nothing is to be handed on."""
+        types = bytes(iter(types))
+        message, written, told = ctypes.create_string_buffer(MESSAGE), c_size_t(), CCleaned()
+        check(LIBRARY.ristulva_clean(
+            self.context.said(), types, len(types), bool(first), self.octets, len(self.octets), message, MESSAGE, written, told))
+        return Cleaned(message.raw[: written.value], ENDS[told.ends], told.discarded, told.left_out, told.capabilities)
 
     def attributes(self):
         """The attributes of an UPDATE, kept or not, in their order."""

@@ -34,6 +34,7 @@
 
 mod action;
 mod attribute;
+mod cleaned;
 mod config;
 mod context;
 mod decoder;
@@ -52,6 +53,7 @@ mod write;
 
 pub use action::{Action, Actions, Timer};
 pub use attribute::{Attribute, Attributes};
+pub use cleaned::{Cleaned, End, HandedOn};
 pub use config::Config;
 pub use context::Context;
 pub use decoder::Decoder;

@@ -79,6 +79,12 @@ impl<'a> Message<'a> {
         self.octets().get(HEADER..).unwrap_or_default()
     }
 
+    /// The context in which it was judged, and the octets: those of the header alone where that has
+    /// a fault.
+    pub(crate) fn judged(&self) -> (&Context, &'a [u8]) {
+        (&self.context, self.octets)
+    }
+
     /// What it means for the session.
     pub fn outcome(&self) -> &Outcome<'a> {
         &self.outcome

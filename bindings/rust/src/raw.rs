@@ -34,6 +34,12 @@ pub const KEEPALIVE: u8 = 4;
 pub const WITHDRAW: u8 = 5;
 pub const RESET: u8 = 6;
 
+/// What comes of a message that is cleaned.
+pub const HANDED_ON: u8 = 0;
+pub const ENDS_RESET: u8 = 1;
+pub const ENDS_LATE_OPEN: u8 = 2;
+pub const ENDS_NO_FAMILY: u8 = 3;
+
 /// What a session asks for.
 pub const DO_SEEK: u8 = 1;
 pub const DO_CLOSE: u8 = 2;
@@ -110,6 +116,19 @@ pub struct Note {
     pub at: u32,
     pub kind: u8,
     pub why: u8,
+}
+
+#[repr(C)]
+#[derive(Default)]
+pub struct Cleaned {
+    pub ends: u8,
+    pub verdict: u8,
+    pub code: u8,
+    pub subcode: u8,
+    pub len: u32,
+    pub discarded: usize,
+    pub left_out: usize,
+    pub capabilities: usize,
 }
 
 #[repr(C)]
@@ -265,6 +284,7 @@ extern "C" {
     fn ristulva_encode(context: *const Context, body: *const u8, len: usize, message: *mut u8, room: usize, written: *mut usize) -> u32;
     fn ristulva_narrow(context: *const Context, body: *const u8, len: usize, message: *mut u8, room: usize, written: *mut usize) -> u32;
     fn ristulva_reconcile(context: *const Context, body: *const u8, len: usize, message: *mut u8, room: usize, written: *mut usize) -> u32;
+    fn ristulva_clean(context: *const Context, types: *const u8, count: usize, first: u8, octets: *const u8, len: usize, message: *mut u8, room: usize, written: *mut usize, out: *mut Cleaned) -> u32;
     fn ristulva_next_attribute(octets: *const u8, len: usize, cursor: *mut Attributes, out: *mut Attribute) -> u32;
     fn ristulva_next_prefix(octets: *const u8, len: usize, cursor: *mut Prefixes, out: *mut Prefix) -> u32;
     fn ristulva_count_prefixes(octets: *const u8, len: usize, cursor: *const Prefixes, count: *mut usize) -> u32;
@@ -366,6 +386,37 @@ pub fn reconcile(context: &Context, body: &[u8], message: &mut [u8]) -> (u32, us
     // SAFETY: see above.
     let status = unsafe { ristulva_reconcile(context, at, len, into, room, &mut written) };
     (status, written)
+}
+
+/// The status, how many octets the message has where that is OK or ROOM, and what came of the octets.
+pub fn clean(
+    context: &Context,
+    types: &[u8],
+    first: bool,
+    octets: &[u8],
+    message: &mut [u8],
+) -> (u32, usize, Cleaned) {
+    let (mut written, mut out) = (0, Cleaned::default());
+    let (set, count) = (types.as_ptr(), types.len());
+    let (at, len) = (octets.as_ptr(), octets.len());
+    let (into, room) = (message.as_mut_ptr(), message.len());
+    let (told, first) = (&mut out, first.into());
+    // SAFETY: see above.
+    let status = unsafe {
+        ristulva_clean(
+            context,
+            set,
+            count,
+            first,
+            at,
+            len,
+            into,
+            room,
+            &mut written,
+            told,
+        )
+    };
+    (status, written, out)
 }
 
 pub fn next_attribute(octets: &[u8], cursor: &mut Attributes) -> Option<Attribute> {

@@ -1,8 +1,8 @@
 //! Worked examples of the rules of the RFCs, written by hand.
 
 use ristulva::{
-    encode, front, judge, messages, narrow, reconcile, Context, Error, Front, Kind, NextHop, Note,
-    Outcome, SegmentKind, Update, Why,
+    encode, front, judge, messages, narrow, reconcile, Cleaned, Context, End, Error, Front,
+    HandedOn, Kind, NextHop, Note, Outcome, SegmentKind, Update, Why,
 };
 
 const PLAIN: Context = Context {
@@ -495,4 +495,105 @@ fn version() {
     let numbers = ristulva::version();
     let series = format!("{}.{}.", numbers / 1_000_000, numbers / 1000 % 1000);
     assert!(env!("CARGO_PKG_VERSION").starts_with(&series));
+}
+
+const ALL: Context = Context {
+    ip4: true,
+    ip6: true,
+    ..AS4
+};
+
+/// What comes of octets, the first of their stream.
+fn cleaned(octets: &[u8], types: &[u8]) -> Cleaned {
+    let message = judge(&ALL, octets).expect("a message");
+    message.clean(true, types).expect("memory")
+}
+
+/// What is handed on of octets is wanted, without so many attributes that are discarded, so many that
+/// are left out, and so many capabilities; wanted is handed on as it is.
+fn becomes(octets: &[u8], types: &[u8], wanted: &[u8], counts: [usize; 3]) {
+    let handed_on = |[discarded, left_out, capabilities]: [usize; 3]| {
+        Cleaned::HandedOn(HandedOn {
+            message: wanted.to_vec(),
+            discarded,
+            left_out,
+            capabilities,
+        })
+    };
+    assert_eq!(cleaned(octets, types), handed_on(counts));
+    assert_eq!(cleaned(wanted, types), handed_on([0; 3]));
+}
+
+/// RFC 7606, section 7: an ORIGIN without a meaning, and an AGGREGATOR of which an octet is missing.
+#[test]
+fn cleaned_updates() {
+    let simple = message(2, &simple());
+    let bad = attribute(0x40, 1, &[9]);
+    let withdrawn = message(2, &body(&[8, 11], &[bad, path(), next_hop()], &[8, 10]));
+    let gone = message(2, &body(&[8, 11, 8, 10], &[], &[]));
+    becomes(&withdrawn, &[], &gone, [0; 3]);
+    let short = attribute(0xc0, 7, &[0, 1, 13, 0x40, 192, 0, 2]);
+    let discarded = message(
+        2,
+        &body(&[], &[origin(), path(), next_hop(), short], &[8, 10]),
+    );
+    becomes(&discarded, &[], &simple, [1, 0, 0]);
+    assert_eq!(taken(&ALL, &discarded).notes().count(), 1);
+    becomes(&message(4, &[]), &[], &message(4, &[]), [0; 3]);
+    becomes(&message(3, &[6, 2]), &[], &message(3, &[6, 2]), [0; 3]);
+}
+
+/// Of two types that aren't recognised each is left out by its type, and ORIGIN isn't. What is left of
+/// attributes alone is no End-of-RIB.
+#[test]
+fn cleaned_of_types() {
+    let (some, other) = (attribute(0xc0, 20, &[1]), attribute(0xc0, 30, &[2]));
+    let both = [origin(), path(), next_hop(), some.clone(), other.clone()];
+    let octets = message(2, &body(&[], &both, &[8, 10]));
+    becomes(&octets, &[], &octets, [0; 3]);
+    let one = message(
+        2,
+        &body(&[], &[origin(), path(), next_hop(), other], &[8, 10]),
+    );
+    becomes(&octets, &[20, 1], &one, [0, 1, 0]);
+    becomes(
+        &octets,
+        &[30, 255, 20, 30],
+        &message(2, &simple()),
+        [0, 2, 0],
+    );
+    let alone = message(2, &body(&[], &[some], &[]));
+    becomes(&alone, &[20], &message(4, &[]), [0, 1, 0]);
+    let end_of_rib = message(2, &body(&[], &[], &[]));
+    becomes(&end_of_rib, &[20], &end_of_rib, [0; 3]);
+}
+
+/// IPv4 unicast, route refresh, AS 131073 and IPv4 unicast: two go on, in one parameter.
+#[test]
+fn cleaned_opens() {
+    let open = |capabilities: &[&[u8]]| {
+        let row = capabilities.concat();
+        let fixed = [4, 0x5b, 0xa0, 0, 90, 192, 0, 2, 2];
+        let sizes = [row.len() as u8 + 2, 2, row.len() as u8];
+        message(1, &[&fixed[..], &sizes, &row].concat())
+    };
+    let ip4: &[u8] = &[1, 4, 0, 1, 0, 1];
+    let as4: &[u8] = &[65, 4, 0, 2, 0, 1];
+    let octets = open(&[ip4, &[2, 0], as4, ip4]);
+    becomes(&octets, &[], &open(&[ip4, as4]), [0, 0, 2]);
+    let late = judge(&ALL, &octets).expect("a message").clean(false, &[]);
+    assert_eq!(late, Ok(Cleaned::Ends(End::LateOpen)));
+    let multicast = open(&[&[1, 4, 0, 1, 0, 2]]);
+    assert_eq!(cleaned(&multicast, &[]), Cleaned::Ends(End::NoFamily));
+}
+
+#[test]
+fn cleaned_streams_end() {
+    let end = |code, subcode| Cleaned::Ends(End::Reset { code, subcode });
+    assert_eq!(cleaned(&message(2, &[0, 3, 8, 10, 0, 0]), &[]), end(3, 1));
+    let mut short = message(4, &[]);
+    short[17] = 18;
+    assert_eq!(cleaned(&short, &[]), end(1, 2));
+    let (code, subcode) = (1, 2);
+    assert_eq!(End::Reset { code, subcode }.to_string(), "reset 1/2");
 }

@@ -214,6 +214,43 @@ ristulva_status ristulva_narrow(const ristulva_context *context, const uint8_t *
 ristulva_status ristulva_reconcile(const ristulva_context *context, const uint8_t *body, size_t len, uint8_t *message, size_t room,
                                    size_t *written);
 
+/* ---- cleaning (RFC 7606) ---- */
+
+#define RISTULVA_HANDED_ON 0u      /* the message is handed on, or what stands for it is */
+#define RISTULVA_ENDS_RESET 1u     /* the cleaned stream ends before it: the session ends, by a NOTIFICATION to the peer */
+#define RISTULVA_ENDS_LATE_OPEN 2u /* it ends before an OPEN that isn't the first message of its stream */
+#define RISTULVA_ENDS_NO_FAMILY 3u /* it ends before an OPEN that offers families, and neither IPv4 nor IPv6 unicast */
+
+typedef struct {
+    uint8_t ends;    /* RISTULVA_HANDED_ON to RISTULVA_ENDS_NO_FAMILY */
+    uint8_t verdict; /* the outcome of the message that came, as ristulva_judge tells it: RISTULVA_OPEN to RISTULVA_RESET */
+    /* RISTULVA_ENDS_RESET: code and subcode of that NOTIFICATION (RFC 4271, section 4.5). Else 0. */
+    uint8_t code;
+    uint8_t subcode;
+    uint32_t len; /* the octets of the message that came; 0 where its header has a fault */
+    /* What was left out of a message that is handed on. Each is 0 where the stream ends. */
+    size_t discarded;    /* of an UPDATE that is accepted, attributes that are discarded: as many as ristulva_notes lists */
+    size_t left_out;     /* of an UPDATE that is accepted, other attributes, of unrecognised types that are in `types` */
+    size_t capabilities; /* of an OPEN, capabilities */
+} ristulva_cleaned;
+
+/* Writes what is handed on of the first message of the octets to the beginning of `message`, which has room for `room` octets; the rest of the
+ * buffer is unchanged, and octets behind the message are ignored. It is a whole message in its one written form, which in the same context is
+ * accepted without a note, and is unchanged where it is cleaned again. `written` is how many octets it has, never more than the message that
+ * came; where the stream ends, 0, and of no later message anything is to be handed on. `types` are attribute types, `count` of them in any
+ * order: attributes of unrecognised types that are among them are left out. `first` is whether the message is the first one of its stream:
+ * 0 for no, any other number for yes. It allocates.
+ *
+ * An OPEN is handed on with the first capability of each kind for IPv4 unicast, IPv6 unicast and AS numbers of four octets, and no others. An
+ * UPDATE that is accepted is handed on without what is discarded or left out, and one that is treated as a withdrawal as an UPDATE that withdraws
+ * its routes. Where nothing would be left of an UPDATE, or MP_UNREACH_NLRI without routes alone, a KEEPALIVE is handed on, unless it came as an
+ * End-of-RIB (RFC 4724, section 2).
+ *
+ * RISTULVA_INCOMPLETE; RISTULVA_MEMORY, only where the message is complete: nothing is written. RISTULVA_ROOM: `written` is, and says how much
+ * room is needed, and so is `out`; `message` isn't. */
+ristulva_status ristulva_clean(const ristulva_context *context, const uint8_t *types, size_t count, uint8_t first, const uint8_t *octets,
+                               size_t len, uint8_t *message, size_t room, size_t *written, ristulva_cleaned *out);
+
 /* ---- cursors ----
  *
  * A cursor is a few numbers that a call moves over octets. To begin, set `at` and `end` to a span's first and last offset, and hand in the

@@ -19,3 +19,5 @@ pub mod Handles
 pub mod DecoderHandles
 pub mod RisingSteps
 pub mod Pulled
+pub mod LeftOut
+pub mod Cleanings

@@ -1,5 +1,5 @@
 -- What the calls on a decoder do: a stream comes in pieces, and each message is told as `ristulva_judge` tells it.
-use Rattle.std.specs.Prelude.{◌≡◌, ◌<◌, ◌≤◌, ◌⊎◌, ℕ, Bool, true, false, List, ◌++◌, length, take, Option, None, Some}
+use Rattle.std.specs.Prelude.{◌≡◌, ◌<◌, ◌≤◌, ◌⊎◌, ℕ, true, false, List, ◌++◌, length, take, Option, None, Some}
 use Rattle.bgp_frame.specs.declared.step.Step.{Step}
 use Rattle.bgp_frame.specs.declared.step.Step.TheVariants as step
 use Rattle.bgp_frame.specs.Frame.{Waits}

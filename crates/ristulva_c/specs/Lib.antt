@@ -25,3 +25,5 @@ pub mod Hearing
 pub mod Agreed
 pub mod Sending
 pub mod Decoder
+pub mod Clean
+pub mod steps

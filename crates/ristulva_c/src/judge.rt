@@ -59,7 +59,7 @@ pub struct Verdict {
 }
 
 /// The number of an outcome.
-fn number_of(outcome: &OutcomeView<'_>) -> u8
+pub(crate) fn number_of(outcome: &OutcomeView<'_>) -> u8
     ensures { result ≡ number_of (outcome_value outcome.now) }
 {
     match outcome {

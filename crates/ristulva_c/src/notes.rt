@@ -73,7 +73,7 @@ fn put_note(list: &mut [ToldNote], count: usize, note: Note)
 }
 
 /// Writes the notes of an UPDATE to a list, as many as it has room for. Answers how many there are.
-fn list_view(view: &UpdateView<'_>, list: &mut [ToldNote]) -> usize
+pub(crate) fn list_view(view: &UpdateView<'_>, list: &mut [ToldNote]) -> usize
     ensures list { list.new ≡ listed (map note_told (notes_value view.now)) list.old }
     ensures count { result ≡ length (map note_told (notes_value view.now)) }
     ensures few { result ≤ 1361 }

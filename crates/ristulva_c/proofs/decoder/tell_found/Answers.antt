@@ -1,4 +1,4 @@
-use Rattle.std.proofs.Common.{◌≡◌, ℕ, List, ◌++◌, take, refl, sym, ap, subst, ◌∙◌, false}
+use Rattle.std.proofs.Common.{◌≡◌, ℕ, List, ◌++◌, take, sym, ap, subst, ◌∙◌, false}
 use Rattle.bgp_frame.specs.declared.notification.Notification.{Notification}
 use Rattle.bgp_frame.specs.Notification.{notification_of_view}
 use Rattle.bgp_msg.specs.declared.outcome.Outcome.{Outcome}

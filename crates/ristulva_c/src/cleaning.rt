@@ -1,0 +1,271 @@
+//! What is handed on of a message.
+
+ghost use Rattle.std.specs.Prelude.{◌≡◌, ◌+◌, ◌++◌, ℕ, Bool, List, Result, length, IfOk, OnOk};
+ghost use Rattle.bgp_wire.specs.OctetSet.{has_octet};
+ghost use Rattle.bgp_frame.specs.Kind.{IsLength};
+ghost use Rattle.bgp_frame.specs.Step.{message_in};
+ghost use Rattle.bgp_frame.specs.declared.step.Step.TheVariants as step;
+ghost use Rattle.bgp_open.specs.declared.context.Context.{Context};
+ghost use Rattle.bgp_msg.specs.declared.message.Message.{Message};
+ghost use Rattle.bgp_msg.specs.Outcome.{out_of};
+ghost use Rattle.bgp_msg.specs.OutcomeView.{outcome_value};
+ghost use Rattle.bgp_clean.specs.declared.fault.CleanFault.{CleanFault};
+ghost use Rattle.bgp_clean.specs.Clean.{cleaned};
+ghost use Rattle.bgp_clean.specs.Cleaned.{IsCleaned};
+ghost use Rattle.ristulva_c.specs.Context.{context_of, is_set};
+ghost use Rattle.ristulva_c.specs.Clean.{types_in, discarded_in, left_out_in, caps_left_out_in, end_told, handed_told, cleaned_told, handed_octets, Hands, IsHandedOn};
+
+use crate::context::{SessionContext, context_of};
+use crate::judge::{RESET, number_of};
+use crate::left_out::{caps_left_out, others_left_out};
+use crate::notes::list_view;
+use crate::status::{INCOMPLETE, MEMORY};
+use crate::text::write;
+use bgp_clean::{CleanFault, Cleaned, clean};
+use bgp_frame::{Frame, HeadFault, Step, front};
+use bgp_msg::{OutcomeView, view_frame};
+use bgp_open::Context;
+use bgp_update::UpdateView;
+use bgp_wire::OctetSet;
+use std::alloc::{AllocError, Global};
+
+/// A message is handed on, or what stands for it is.
+pub const HANDED_ON: u8 = 0;
+
+/// The cleaned stream ends: the message is answered by a NOTIFICATION.
+pub const ENDS_RESET: u8 = 1;
+
+/// It ends: the message is an OPEN, and not the first one.
+pub const ENDS_LATE_OPEN: u8 = 2;
+
+/// It ends: the message is an OPEN that offers families, and neither IPv4 nor IPv6 unicast.
+pub const ENDS_NO_FAMILY: u8 = 3;
+
+/// What came of a message that is cleaned.
+#[repr(C)]
+#[derive(Clone, Copy)]
+pub struct ToldCleaned {
+    /// `HANDED_ON` to `ENDS_NO_FAMILY`.
+    pub ends: u8,
+    /// The outcome of the message: `OPEN` to `RESET`.
+    pub verdict: u8,
+    /// The code of the NOTIFICATION that answers it, at `ENDS_RESET`; else 0.
+    pub code: u8,
+    /// Its subcode.
+    pub subcode: u8,
+    /// The octets of the message that came; 0 where its header has a fault.
+    pub len: u32,
+    /// How many attributes of an UPDATE that is accepted are discarded (RFC 7606).
+    pub discarded: usize,
+    /// How many are left out by their types.
+    pub left_out: usize,
+    /// How many capabilities of an OPEN are left out.
+    pub capabilities: usize,
+}
+
+/// The set of these types.
+fn set_of(types: &[u8]) -> OctetSet
+    ensures { has_octet result ≡ types_in types.now }
+{
+    let mut set = OctetSet::new();
+    'types: for kind in types {
+        set.insert(*kind);
+    }
+    set
+}
+
+/// What is told where the stream ends before a message of so many octets, of which this is the outcome.
+fn end_told(len: u16, verdict: u8, why: CleanFault) -> ToldCleaned
+    ensures { result ≡ end_told len verdict why }
+{
+    let (ends, code, subcode) = match why {
+        CleanFault::Reset(code, subcode) => (ENDS_RESET, code, subcode),
+        CleanFault::LateOpen => (ENDS_LATE_OPEN, 0, 0),
+        CleanFault::NoFamily => (ENDS_NO_FAMILY, 0, 0),
+    };
+    ToldCleaned {
+        ends,
+        verdict,
+        code,
+        subcode,
+        len: u32::from(len),
+        discarded: 0,
+        left_out: 0,
+        capabilities: 0,
+    }
+}
+
+/// How many attributes are discarded.
+#[tactic(auto, using(crate::proofs::LeftOut::all_told))]
+fn discarded(outcome: &OutcomeView<'_>) -> usize
+    ensures { result ≡ discarded_in (outcome_value outcome.now) }
+{
+    match outcome {
+        OutcomeView::Update(view) => list_view(view, &mut []),
+        _ => 0,
+    }
+}
+
+/// How many are left out by their types.
+fn left_out(alloc: Global, drops: &OctetSet, outcome: &OutcomeView<'_>) -> Result<usize, AllocError>
+    ensures { IfOk result (λ n. n ≡ left_out_in (has_octet drops.now) (outcome_value outcome.now)) }
+{
+    match outcome {
+        OutcomeView::Update(view) => others_left_out(alloc, drops, view),
+        _ => Ok(0),
+    }
+}
+
+/// How many capabilities are left out.
+fn capabilities(alloc: Global, outcome: &OutcomeView<'_>) -> Result<usize, AllocError>
+    ensures { IfOk result (λ n. n ≡ caps_left_out_in (outcome_value outcome.now)) }
+{
+    match outcome {
+        OutcomeView::Open(view) => caps_left_out(alloc, view),
+        _ => Ok(0),
+    }
+}
+
+/// What is told of a message of so many octets that is handed on.
+fn handed_told(
+    alloc: Global,
+    drops: &OctetSet,
+    len: u16,
+    outcome: &OutcomeView<'_>,
+) -> Result<ToldCleaned, AllocError>
+    ensures { IfOk result (λ told. told ≡ handed_told len (has_octet drops.now) (outcome_value outcome.now)) }
+{
+    let left_out = left_out(alloc, drops, outcome)?;
+    let capabilities = capabilities(alloc, outcome)?;
+    Ok(ToldCleaned {
+        ends: HANDED_ON,
+        verdict: number_of(outcome),
+        code: 0,
+        subcode: 0,
+        len: u32::from(len),
+        discarded: discarded(outcome),
+        left_out,
+        capabilities,
+    })
+}
+
+/// What is told of a message, by what came of it.
+fn told(
+    alloc: Global,
+    drops: &OctetSet,
+    len: u16,
+    outcome: &OutcomeView<'_>,
+    what: Cleaned,
+) -> Result<ToldCleaned, AllocError>
+    ensures { (ctx : Context) (handed : Result Message CleanFault) (old new : List ℕ) → IsCleaned ctx handed old new what
+        → IfOk result (λ told. told ≡ cleaned_told len (has_octet drops.now) (outcome_value outcome.now) handed) }
+{
+    match what {
+        Cleaned::HandedOn => handed_told(alloc, drops, len, outcome),
+        Cleaned::Ends(why) => Ok(end_told(len, number_of(outcome), why)),
+    }
+}
+
+/// Appends what is handed on of a whole message, and tells what came of it.
+#[tactic(auto, using(crate::proofs::Cleanings::appended))]
+fn clean_frame(
+    alloc: Global,
+    ctx: &Context,
+    drops: &OctetSet,
+    first: bool,
+    frame: Frame<'_>,
+    octets: &mut Vec<u8>,
+) -> Result<ToldCleaned, AllocError>
+    requires { IsLength frame.kind (19 + length frame.body.now) }
+    ensures octets { OnOk result (octets.new.items ≡ octets.old.items ++ handed_octets ctx.now (cleaned ctx.now (has_octet drops.now) first (message_in frame.entry))) }
+    ensures told { IfOk result (λ told. told ≡ cleaned_told frame.entry.len (has_octet drops.now) (out_of ctx.now (message_in frame.entry))
+        (cleaned ctx.now (has_octet drops.now) first (message_in frame.entry))) }
+{
+    let len = frame.len;
+    let what = clean(alloc, ctx, drops, first, frame, octets)?;
+    let mut place = UpdateView::empty();
+    let outcome = view_frame(ctx, frame, &mut place);
+    told(alloc, drops, len, &outcome, what)
+}
+
+/// Writes what is handed on of a whole message, and tells what came of it.
+fn tell_frame(
+    alloc: Global,
+    ctx: &Context,
+    drops: &OctetSet,
+    first: bool,
+    frame: Frame<'_>,
+    buffer: &mut [u8],
+    len: &mut usize,
+    out: &mut ToldCleaned,
+) -> u32
+    requires { IsLength frame.kind (19 + length frame.body.now) }
+    ensures { Hands ctx.now (has_octet drops.now) first (step.Frame frame.entry)
+        (record {
+          writing = record { status = result; before = buffer.old; behind = buffer.new; len_before = len.old; len_behind = len.new };
+          before = out.old;
+          behind = out.new;
+        }) }
+{
+    let mut octets = Vec::new(alloc);
+    match clean_frame(alloc, ctx, drops, first, frame, &mut octets) {
+        Ok(told) => {
+            *out = told;
+            write(&octets, buffer, len)
+        }
+        Err(_) => MEMORY,
+    }
+}
+
+/// Tells that the stream ends before a header with a fault.
+fn tell_fault(fault: HeadFault, buffer: &mut [u8], len: &mut usize, out: &mut ToldCleaned) -> u32
+    ensures { (ctx : Context) (drops : ℕ → Bool) (first : Bool) → Hands ctx drops first (step.Fault fault)
+        (record {
+          writing = record { status = result; before = buffer.old; behind = buffer.new; len_before = len.old; len_behind = len.new };
+          before = out.old;
+          behind = out.new;
+        }) }
+{
+    let why = fault.answer();
+    let said = why.view();
+    *out = end_told(0, RESET, CleanFault::Reset(said.code, said.subcode));
+    write(&[], buffer, len)
+}
+
+/// Writes what is handed on of the message that octets begin with, as a whole message in its one written form, without unrecognised attributes of
+/// these types; or tells why the cleaned stream ends before it. What stands behind the message has no effect. `first` is whether it is the first
+/// one of its stream: 0 for no.
+#[unsafe(no_mangle)]
+pub extern "C" fn ristulva_clean(
+    alloc: Global,
+    ctx: &SessionContext,
+    types: &[u8],
+    first: u8,
+    octets: &[u8],
+    buffer: &mut [u8],
+    len: &mut usize,
+    out: &mut ToldCleaned,
+) -> u32
+    ensures { IsHandedOn (context_of ctx.now) (types_in types.now) (is_set first) octets.now
+        (record {
+          writing = record { status = result; before = buffer.old; behind = buffer.new; len_before = len.old; len_behind = len.new };
+          before = out.old;
+          behind = out.new;
+        }) }
+{
+    let drops = set_of(types);
+    match front(octets) {
+        Step::More => INCOMPLETE,
+        Step::Frame(frame) => tell_frame(
+            alloc,
+            &context_of(ctx),
+            &drops,
+            first != 0,
+            frame,
+            buffer,
+            len,
+            out,
+        ),
+        Step::Fault(fault) => tell_fault(fault, buffer, len, out),
+    }
+}
