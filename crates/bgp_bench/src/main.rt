@@ -1,5 +1,5 @@
 //! The program `bgp_bench`: drives the library's own calls over the stream on standard input, which it reads whole first, for
-//! `bench/run` to measure. It has no clock.
+//! `checks/bench/run` to measure. It has no clock.
 #![tactic(auto)]
 
 mod decoding;
