@@ -127,8 +127,6 @@ pub(super) fn run_tool_within(
         Tool::Narrow => {
             narrow_within(alloc, turns, &Context { as4: true, ..ctx }, input, output)
         }
-        Tool::Clean => {
-            clean_within(alloc, turns, &ctx, &OctetSet::new(), false, input, output)
-        }
+        Tool::Clean => { clean_within(alloc, turns, &ctx, &OctetSet::new(), false, input, output) }
     }
 }
