@@ -15,6 +15,7 @@ use Rattle.bgp_msg.specs.Written.{canonical}
 use Rattle.bgp_clean.specs.declared.fault.CleanFault.{CleanFault}
 use Rattle.bgp_clean.specs.declared.fault.CleanFault.TheVariants as fault
 use Rattle.bgp_clean.specs.Clean.{cleaned, cleaned_outcome}
+use Rattle.bgp_clean.specs.Laws.{IsClean}
 use Rattle.bgp_clean.specs.Opens.{understood}
 use Rattle.ristulva_c.specs.declared.cleaning.ToldCleaned.{ToldCleaned}
 use Rattle.ristulva_c.specs.declared.cleaning.TheConstants.{HANDED_ON, ENDS_RESET, ENDS_LATE_OPEN, ENDS_NO_FAMILY}
@@ -135,8 +136,16 @@ Hands ctx drops first (step.Frame f) c = IsHanded (handed_octets ctx (cleaned ct
     (cleaned_told f.len drops (out_of ctx (message_in f)) (cleaned ctx drops first (message_in f))) c ⊎ IsLeft MEMORY c
 Hands ctx drops first (step.Fault f) c = IsHanded [] (cleaned_told 0 drops (of_fault f) (cleaned_outcome drops first false (of_fault f))) c
 
+-- what is handed on of a message is accepted in the same context without a note, is handed on as it is, is no longer than the message, and teaches
+-- a hearer what that does
+abbrev pub HandsClean : Context → (ℕ → Bool) → Bool → Step → Type 0
+HandsClean ctx drops first step.More = Unit {0}
+HandsClean ctx drops first (step.Frame f) = (n : Message) → cleaned ctx drops first (message_in f) ≡ Ok n → IsClean ctx drops first (message_in f) n
+HandsClean ctx drops first (step.Fault f) = Unit {0}
+
 -- what is handed on of the message that the octets begin with is written, or why the stream ends before it is told
 pub record IsHandedOn (ctx : Context) (drops : ℕ → Bool) (first : Bool) (octets : List ℕ) (c : Cleaning) : Type 0 where
   pub found : Step
   pub shows : ShowsFront octets found
   pub hands : Hands ctx drops first found c
+  pub clean : HandsClean ctx drops first found

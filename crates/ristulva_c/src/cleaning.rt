@@ -16,7 +16,7 @@ ghost use Rattle.ristulva_c.specs.Context.{context_of, is_set};
 ghost use Rattle.ristulva_c.specs.Clean.{types_in, discarded_in, left_out_in, caps_left_out_in, end_told, handed_told, cleaned_told, handed_octets, Hands, IsHandedOn};
 
 use crate::context::{SessionContext, context_of};
-use crate::judge::{RESET, number_of};
+use crate::judge::{RESET, are_octets, number_of};
 use crate::left_out::{caps_left_out, others_left_out};
 use crate::notes::list_view;
 use crate::status::{INCOMPLETE, MEMORY};
@@ -253,6 +253,7 @@ pub extern "C" fn ristulva_clean(
           behind = out.new;
         }) }
 {
+    are_octets(octets);
     let drops = set_of(types);
     match front(octets) {
         Step::More => INCOMPLETE,
