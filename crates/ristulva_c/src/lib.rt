@@ -15,6 +15,7 @@ mod front;
 mod handle;
 mod hearing;
 mod judge;
+mod large;
 mod messages;
 mod notes;
 mod numbers;
