@@ -161,6 +161,15 @@ class Updates(unittest.TestCase):
         self.assertEqual(it.as_path(), [(2, [65000, 200000])])
         self.assertEqual(it.communities(), [0x00010002])
         self.assertEqual([a.kind for a in it.attributes()], [1, 2, 3, 8])
+        self.assertEqual(it.large_communities(), [])
+
+    def test_large_communities(self):
+        """Each at its first place alone (RFC 8092, section 3), as the lines have them."""
+        one, two = "0000fde80000000100000002", "0000fde80000000100000003"
+        body = bytes.fromhex("0000" + "0057" + BODY.hex()[8:-18] + "c0203c" + one + two + one + two + two + "080a")
+        it = ristulva.judge(message(2, body), self.context)
+        self.assertEqual(it.large_communities(), [(65000, 1, 2), (65000, 1, 3)])
+        self.assertIn("  large 65000:1:2 65000:1:3\n", str(it))
 
     def test_incomplete(self):
         for count in range(len(message(2, BODY))):

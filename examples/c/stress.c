@@ -190,6 +190,44 @@ static void walk_numbers(const uint8_t *octets, size_t len, ristulva_numbers cur
     }
 }
 
+static uint32_t number_at(const uint8_t *octets)
+{
+    return (uint32_t)octets[0] << 24 | (uint32_t)octets[1] << 16 | (uint32_t)octets[2] << 8 | octets[3];
+}
+
+/* Whether the twelve octets at an offset stand nowhere before, from the first on. */
+static int is_new(const uint8_t *octets, uint32_t first, uint32_t at)
+{
+    for (; first < at; first += 12)
+        if (memcmp(octets + first, octets + at, 12) == 0)
+            return 0;
+    return 1;
+}
+
+static void walk_large_communities(const uint8_t *octets, size_t len, ristulva_large_communities cursor)
+{
+    for (;;) {
+        ristulva_large_communities old = cursor;
+        ristulva_large_community it = {{7, 7, 7}};
+        ristulva_status status = ristulva_next_large_community(octets, len, &cursor, &it);
+        uint32_t at = old.at, i;
+        calls++;
+        WANT(cursor.first == old.first && cursor.end == old.end);
+        WANT((status == RISTULVA_RANGE) == (old.first > old.at || old.at > old.end || old.end > len || (old.at - old.first) % 12 != 0));
+        if (status != RISTULVA_RANGE)
+            while (old.end - at >= 12 && !is_new(octets, old.first, at))
+                at += 12;
+        if (status != RISTULVA_OK) {
+            WANT(status == RISTULVA_RANGE || (status == RISTULVA_END && old.end - at < 12));
+            WANT(cursor.at == old.at && it.numbers[0] == 7 && it.numbers[1] == 7 && it.numbers[2] == 7);
+            return;
+        }
+        WANT(cursor.at == at + 12 && cursor.at <= cursor.end);
+        for (i = 0; i < 3; i++)
+            WANT(it.numbers[i] == number_at(octets + at + 4 * i));
+    }
+}
+
 static void walk_segments(const uint8_t *octets, size_t len, ristulva_segments cursor)
 {
     for (;;) {
@@ -215,12 +253,13 @@ static void walk_segments(const uint8_t *octets, size_t len, ristulva_segments c
     }
 }
 
-/* A value as MP_REACH_NLRI, MP_UNREACH_NLRI and as a path. */
+/* A value as MP_REACH_NLRI, MP_UNREACH_NLRI, as a path and as large communities. */
 static void walk_value(const uint8_t *octets, size_t len, ristulva_span value)
 {
     ristulva_prefixes reached = {1, 2, 3}, unreached = {1, 2, 3};
     ristulva_span hop = {5, 6};
     ristulva_segments path;
+    ristulva_large_communities large;
     ristulva_status of_reach = ristulva_reached(octets, len, &value, &hop, &reached);
     ristulva_status of_unreach = ristulva_unreached(octets, len, &value, &unreached);
     calls += 2;
@@ -240,6 +279,9 @@ static void walk_value(const uint8_t *octets, size_t len, ristulva_span value)
     path.wide = (uint8_t)below(2);
     path.confederations = (uint8_t)below(2);
     walk_segments(octets, len, path);
+    large.first = large.at = value.at;
+    large.end = value.at + value.len;
+    walk_large_communities(octets, len, large);
 }
 
 static void walk_attributes(const uint8_t *octets, size_t len, ristulva_attributes cursor)
@@ -285,7 +327,7 @@ static void walk_capabilities(const uint8_t *octets, size_t len, ristulva_capabi
         if (capability.code == 65) {
             WANT(capability.value.len == 4);
             if (offered->as4 == 0)
-                offered->as_number = (uint32_t)value[0] << 24 | (uint32_t)value[1] << 16 | (uint32_t)value[2] << 8 | value[3];
+                offered->as_number = number_at(value);
             offered->as4 = 1;
         }
         if (capability.code == 1) {
@@ -606,6 +648,7 @@ static void try_all(const uint8_t *from, size_t len)
         ristulva_attributes attributes = {some_offset(len), some_offset(len)};
         ristulva_segments segments = {some_offset(len), some_offset(len), (uint8_t)below(3), (uint8_t)below(3)};
         ristulva_numbers numbers = {some_offset(len), some_offset(len), (uint8_t)(below(3) * 2)};
+        ristulva_large_communities large = {some_offset(len), some_offset(len), some_offset(len)};
         ristulva_span value = {some_offset(len), some_offset(len)};
         ristulva_capabilities capabilities = {some_offset(len), some_offset(len), some_offset(len)};
         ristulva_open_fields offered = {0, 0, 0, {0, 0, 0, 0}, 0, 0, 0, {0, 0, 0}};
@@ -613,6 +656,9 @@ static void try_all(const uint8_t *from, size_t len)
         walk_attributes(octets, len, attributes);
         walk_segments(octets, len, segments);
         walk_numbers(octets, len, numbers);
+        walk_large_communities(octets, len, large);
+        large.at = large.first;
+        walk_large_communities(octets, len, large);
         walk_value(octets, len, value);
         walk_capabilities(octets, len, capabilities, &offered);
     }
@@ -683,6 +729,37 @@ static void try_most_notes(uint8_t *octets)
     try_all(octets, len);
 }
 
+/* An UPDATE without routes whose LARGE_COMMUNITY has 65000:1:2, 65000:1:3, both again, and the last once more: each is given once. */
+static void try_large_communities(uint8_t *octets)
+{
+    const ristulva_context context = {0, 1, 1, 1};
+    ristulva_verdict verdict;
+    ristulva_attributes attributes;
+    ristulva_attribute attribute;
+    ristulva_large_communities cursor;
+    ristulva_large_community it;
+    size_t len = 19 + 4 + 3 + 60, i;
+    uint8_t data[1];
+    memset(octets, 255, 16);
+    memcpy(octets + 16, "\0\126\2\0\0\0\77\300\40\74", 10);
+    for (i = 0; i < 5; i++) {
+        memcpy(octets + 26 + 12 * i, "\0\0\375\350\0\0\0\1\0\0\0\2", 12);
+        octets[26 + 12 * i + 11] = i == 1 || i > 2 ? 3 : 2;
+    }
+    WANT(ristulva_judge(&context, octets, len, data, sizeof data, &verdict) == RISTULVA_OK && verdict.verdict == RISTULVA_UPDATE);
+    attributes.at = verdict.parts.attributes.at;
+    attributes.end = verdict.parts.attributes.at + verdict.parts.attributes.len;
+    WANT(ristulva_next_attribute(octets, len, &attributes, &attribute) == RISTULVA_OK && attribute.kind == 32);
+    cursor.first = cursor.at = attribute.value.at;
+    cursor.end = attribute.value.at + attribute.value.len;
+    for (i = 2; i <= 3; i++) {
+        WANT(ristulva_next_large_community(octets, len, &cursor, &it) == RISTULVA_OK);
+        WANT(it.numbers[0] == 65000 && it.numbers[1] == 1 && it.numbers[2] == i);
+    }
+    WANT(ristulva_next_large_community(octets, len, &cursor, &it) == RISTULVA_END);
+    try_all(octets, len);
+}
+
 static unsigned long rounds;
 
 static void *work(void *unused)
@@ -690,6 +767,7 @@ static void *work(void *unused)
     static uint8_t octets[4096];
     unsigned long i;
     try_most_notes(octets);
+    try_large_communities(octets);
     for (i = 0; i < rounds; i++) {
         size_t len = some_octets(octets);
         try_all(octets, len);

@@ -63,6 +63,14 @@ class Numbers(Structure):
     _fields_ = [("at", c_uint32), ("end", c_uint32), ("width", c_uint8)]
 
 
+class LargeCommunities(Structure):
+    _fields_ = [("first", c_uint32), ("at", c_uint32), ("end", c_uint32)]
+
+
+class CLargeCommunity(Structure):
+    _fields_ = [("numbers", c_uint32 * 3)]
+
+
 class Capabilities(Structure):
     _fields_ = [("at", c_uint32), ("stop", c_uint32), ("end", c_uint32)]
 
@@ -145,6 +153,7 @@ def load():
         "next_prefix": [*octets, POINTER(Prefixes), POINTER(CPrefix)],
         "next_segment": [*octets, POINTER(Segments), POINTER(CSegment)],
         "next_number": [*octets, POINTER(Numbers), POINTER(c_uint32)],
+        "next_large_community": [*octets, POINTER(LargeCommunities), POINTER(CLargeCommunity)],
         "reached": [*octets, POINTER(Span), POINTER(Span), POINTER(Prefixes)],
         "unreached": [*octets, POINTER(Span), POINTER(Prefixes)],
         "open": [*octets, POINTER(COpen)],

@@ -9,7 +9,7 @@ from ctypes import c_size_t, c_uint32
 
 from .library import (
     DATA, HEADER, INCOMPLETE, LIBRARY, MEMORY, MESSAGE, MIXED, OK, RANGE, REFUSED, ROOM, STATE, UNWRITABLE, Attributes, CAttribute, CCapability,
-    CCleaned, CNote, COpen, CPrefix, CSegment, Numbers, Prefixes, Said, Segments, Span, Verdict,
+    CCleaned, CLargeCommunity, CNote, COpen, CPrefix, CSegment, LargeCommunities, Numbers, Prefixes, Said, Segments, Span, Verdict,
 )
 
 WHYS = ("Flags", "Length", "Value", "SegmentType", "SegmentCount", "SegmentEnd", "Repeated", "External", "FourOctet", "Family", "Unneeded", "Emptied",
@@ -211,6 +211,14 @@ class Message:
         """The numbers of COMMUNITIES."""
         value = self.first(8)
         return self.numbers(value.span, 4) if value else []
+
+    def large_communities(self):
+        """The large communities of LARGE_COMMUNITY, each three numbers, and each at its first place alone (RFC 8092, section 3)."""
+        value = self.first(32)
+        if value is None:
+            return []
+        at, end = value.span.at, value.span.at + value.span.len
+        return [tuple(it.numbers) for it in each("next_large_community", self.octets, LargeCommunities(at, at, end), CLargeCommunity())]
 
 
 def in_octets(buffer):

@@ -188,6 +188,20 @@ pub struct Numbers {
 }
 
 #[repr(C)]
+#[derive(Clone, Debug)]
+pub struct LargeCommunities {
+    pub first: u32,
+    pub at: u32,
+    pub end: u32,
+}
+
+#[repr(C)]
+#[derive(Default)]
+pub struct LargeCommunity {
+    pub numbers: [u32; 3],
+}
+
+#[repr(C)]
 #[derive(Clone, Copy, Debug, Default, PartialEq, Eq)]
 pub struct Capabilities {
     pub at: u32,
@@ -290,6 +304,7 @@ extern "C" {
     fn ristulva_count_prefixes(octets: *const u8, len: usize, cursor: *const Prefixes, count: *mut usize) -> u32;
     fn ristulva_next_segment(octets: *const u8, len: usize, cursor: *mut Segments, out: *mut Segment) -> u32;
     fn ristulva_next_number(octets: *const u8, len: usize, cursor: *mut Numbers, out: *mut u32) -> u32;
+    fn ristulva_next_large_community(octets: *const u8, len: usize, cursor: *mut LargeCommunities, out: *mut LargeCommunity) -> u32;
     fn ristulva_reached(octets: *const u8, len: usize, value: *const Span, next_hop: *mut Span, cursor: *mut Prefixes) -> u32;
     fn ristulva_unreached(octets: *const u8, len: usize, value: *const Span, cursor: *mut Prefixes) -> u32;
     fn ristulva_open(octets: *const u8, len: usize, out: *mut OpenFields) -> u32;
@@ -453,6 +468,17 @@ pub fn next_number(octets: &[u8], cursor: &mut Numbers) -> Option<u32> {
     let mut out = 0;
     // SAFETY: see above.
     let status = unsafe { ristulva_next_number(octets.as_ptr(), octets.len(), cursor, &mut out) };
+    (status == OK).then_some(out)
+}
+
+pub fn next_large_community(
+    octets: &[u8],
+    cursor: &mut LargeCommunities,
+) -> Option<LargeCommunity> {
+    let mut out = LargeCommunity::default();
+    let (at, len) = (octets.as_ptr(), octets.len());
+    // SAFETY: see above.
+    let status = unsafe { ristulva_next_large_community(at, len, cursor, &mut out) };
     (status == OK).then_some(out)
 }
 

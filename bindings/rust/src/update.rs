@@ -124,10 +124,16 @@ impl<'a> Update<'a> {
         Numbers::new(self.value(COMMUNITIES).unwrap_or_default(), 4)
     }
 
-    /// The values of LARGE_COMMUNITY (RFC 8092), each three numbers; none where it isn't there.
+    /// The values of LARGE_COMMUNITY, each three numbers, and each at its first place alone
+    /// (RFC 8092, section 3); none where it isn't there.
     pub fn large_communities(&self) -> impl Iterator<Item = [u32; 3]> + 'a {
-        let mut numbers = Numbers::new(self.value(LARGE_COMMUNITY).unwrap_or_default(), 4);
-        std::iter::from_fn(move || Some([numbers.next()?, numbers.next()?, numbers.next()?]))
+        let value = self.value(LARGE_COMMUNITY).unwrap_or_default();
+        let mut cursor = raw::LargeCommunities {
+            first: 0,
+            at: 0,
+            end: value.len() as u32,
+        };
+        std::iter::from_fn(move || Some(raw::next_large_community(value, &mut cursor)?.numbers))
     }
 
     /// What RFC 7606 found: each attribute that is discarded, wrong or missing.

@@ -319,6 +319,27 @@ fn communities() {
     assert_eq!(it.large_communities().collect::<Vec<_>>(), [[65000, 1, 2]]);
 }
 
+/// RFC 8092, section 3: a large community that stands there again is passed.
+#[test]
+fn large_communities_once() {
+    let (one, two) = (
+        [0, 0, 0xfd, 0xe8, 0, 0, 0, 1, 0, 0, 0, 2],
+        [0, 0, 0xfd, 0xe8, 0, 0, 0, 1, 0, 0, 0, 3],
+    );
+    let large = attribute(0xc0, 32, &[one, two, one, two, two].concat());
+    let octets = message(
+        2,
+        &body(&[], &[origin(), path(), next_hop(), large], &[8, 10]),
+    );
+    let it = taken(&AS4, &octets);
+    let mut left = it.large_communities();
+    assert_eq!(
+        left.by_ref().collect::<Vec<_>>(),
+        [[65000, 1, 2], [65000, 1, 3]]
+    );
+    assert_eq!(left.next(), None);
+}
+
 /// RFC 4760, sections 3 and 4, and RFC 2545, section 3.
 #[test]
 fn families() {

@@ -331,10 +331,26 @@ typedef struct {
 } ristulva_numbers;
 
 /* Gives the numbers of a field one after another, highest octet first: begin at the numbers of a segment, with the width that its path
- * has; or, with the width 4, at the value of COMMUNITIES (type 8; RFC 1997) or LARGE_COMMUNITY (type 32; RFC 8092), which has three
- * for each community. RISTULVA_END: no whole number is left. RISTULVA_RANGE: `at` is above `end`, `end` above `len`, or `width` neither 2
- * nor 4. */
+ * has; or, with the width 4, at the value of COMMUNITIES (type 8; RFC 1997). RISTULVA_END: no whole number is left. RISTULVA_RANGE: `at`
+ * is above `end`, `end` above `len`, or `width` neither 2 nor 4. */
 ristulva_status ristulva_next_number(const uint8_t *octets, size_t len, ristulva_numbers *cursor, uint32_t *out);
+
+typedef struct {
+    uint32_t first; /* where the first community begins: the value of the attribute */
+    uint32_t at;    /* where the next one begins */
+    uint32_t end;   /* where the value ends */
+} ristulva_large_communities;
+
+/* A large community (RFC 8092, section 3): its Global Administrator, and the two parts of its Local Data. */
+typedef struct {
+    uint32_t numbers[3];
+} ristulva_large_community;
+
+/* Gives the large communities of LARGE_COMMUNITY (type 32; RFC 8092) one after another, each at its first place alone, as `bgp show` prints
+ * them: one that stood before is passed (section 3), for which a call looks back over all from `first` on. Begin at the attribute's value,
+ * with `first` and `at` the same. RISTULVA_END: none is left that is whole and new. RISTULVA_RANGE: `first` is above `at`, `at` above
+ * `end`, `end` above `len`, or `at` not a multiple of twelve octets behind `first`. */
+ristulva_status ristulva_next_large_community(const uint8_t *octets, size_t len, ristulva_large_communities *cursor, ristulva_large_community *out);
 
 /* ---- what an OPEN says (RFC 4271, section 4.2; RFC 5492) ---- */
 

@@ -5,6 +5,7 @@ pub mod PrefixSteps
 pub mod Between
 pub mod TlvSteps
 pub mod NumberSteps
+pub mod LargePlaces
 pub mod SegmentSteps
 pub mod RouteSpans
 pub mod Encodings

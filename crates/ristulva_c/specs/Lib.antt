@@ -9,6 +9,7 @@ pub mod Parts
 pub mod Judge
 pub mod Text
 pub mod Numbers
+pub mod Large
 pub mod Segments
 pub mod Routes
 pub mod Encode

@@ -16,6 +16,7 @@ mod front;
 mod handle;
 mod hearing;
 mod judge;
+mod large;
 mod left_out;
 mod messages;
 mod notes;

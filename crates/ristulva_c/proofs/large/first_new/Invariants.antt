@@ -1,0 +1,10 @@
+use Rattle.std.proofs.Common.{◌≡◌, ◌-◌, length}
+use Rattle.bgp_attr.specs.LargeStep.{IsRowUpTo, new_from}
+use Rattle.ristulva_c.proofs.large.first_new.Given as goal
+
+-- from here on as much is new
+abbrev pub invariant-row : goal.invariant-row
+invariant-row l = IsRowUpTo l.octets l.at × (new_from l.octets l.from ≡ new_from l.octets l.at)
+
+abbrev pub decreases-row : goal.decreases-row
+decreases-row l = length l.octets - l.at
