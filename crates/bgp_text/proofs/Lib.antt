@@ -2,3 +2,4 @@ pub mod ResetCodes
 pub mod Words
 pub mod JsonLists
 pub mod Decimals
+pub mod Escapes

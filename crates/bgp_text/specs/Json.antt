@@ -2,6 +2,7 @@
 use Rattle.std.specs.Prelude.{ℕ, Bool, true, false, List, [], ◌∷◌, ◌++◌, codes}
 use Rattle.std.specs.List.{flat_map}
 use Rattle.bgp_prefix.specs.Text.{hex_octet}
+use Rattle.bgp_text.specs.Escape.{escaped_string}
 
 -- a string of characters that need no escape
 unfoldable pub quoted : List ℕ → List ℕ
@@ -25,6 +26,16 @@ member name json value = named name ++ json value
 
 abbrev pub behind_comma : {A : Type 0} → (A → List ℕ) → A → List ℕ
 behind_comma json value = codes "," ++ json value
+
+-- a further member that is a string, where there is something in it: of characters that need no escape
+unfoldable pub where_named : List ℕ → List ℕ → List ℕ
+where_named name [] = []
+where_named name (c ∷ characters) = member name quoted (c ∷ characters)
+
+-- the same of text that a peer wrote
+unfoldable pub where_said : List ℕ → List ℕ → List ℕ
+where_said name [] = []
+where_said name (c ∷ characters) = member name escaped_string (c ∷ characters)
 
 -- values with commas between them
 unfoldable pub joined : {A : Type 0} → (A → List ℕ) → List A → List ℕ

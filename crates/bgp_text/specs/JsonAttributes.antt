@@ -7,8 +7,9 @@ use Rattle.bgp_attr.specs.declared.communities.LargeCommunities.{LargeCommunitie
 use Rattle.bgp_attr.specs.declared.opaque.Opaque.{Opaque}
 use Rattle.bgp_attr.specs.declared.origin.Origin.{Origin}
 use Rattle.bgp_update.specs.declared.attrs.Attrs.{Attrs}
+use Rattle.bgp_names.specs.Attributes.{attribute_name}
 use Rattle.bgp_text.specs.AttributeLines.{origin_name}
-use Rattle.bgp_text.specs.Json.{quoted, octets_json, boolean, member, listed}
+use Rattle.bgp_text.specs.Json.{quoted, octets_json, boolean, member, listed, where_named}
 use Rattle.bgp_text.specs.JsonAddress.{ip4_json}
 use Rattle.bgp_text.specs.JsonPath.{path_json}
 use Rattle.bgp_text.specs.Lines.{where_there}
@@ -28,11 +29,11 @@ community_json n = quoted (decimal (n / 65536) ++ (codes ":" ++ decimal (n % 655
 unfoldable pub large_json : List ℕ → List ℕ
 large_json c = quoted (decimal (slice_index c 0) ++ (codes ":" ++ (decimal (slice_index c 1) ++ (codes ":" ++ decimal (slice_index c 2)))))
 
--- an attribute that isn't recognised: its type, its flags and its value
+-- an attribute that isn't recognised: its type, its flags, its value, and its name, where it has one
 unfoldable pub opaque_json : Opaque → List ℕ
 opaque_json o =
     codes "{\"type\":" ++ (decimal o.kind ++ (member (codes "transitive") boolean o.transitive ++ (member (codes "partial") boolean o.partial
-    ++ (member (codes "value") octets_json o.value ++ codes "}"))))
+    ++ (member (codes "value") octets_json o.value ++ (where_named (codes "name") (attribute_name o.kind) ++ codes "}")))))
 
 -- ORIGIN, AS_PATH and NEXT_HOP, where they are there
 abbrev pub route_members : Attrs → List ℕ

@@ -5,19 +5,24 @@ use Rattle.bgp_numbers.specs.declared.capability.TheConstants.{MULTIPROTOCOL, FO
 use Rattle.bgp_open.specs.declared.capability.Capability.{Capability}
 use Rattle.bgp_open.specs.declared.capability.Capability.TheVariants.{Multi, As4, Other}
 use Rattle.bgp_open.specs.declared.message.Open.{Open}
-use Rattle.bgp_text.specs.Json.{octets_json, member, listed}
+use Rattle.bgp_names.specs.Capabilities.{capability_name}
+use Rattle.bgp_text.specs.Json.{octets_json, member, listed, where_named}
 use Rattle.bgp_text.specs.JsonAddress.{ip4_json}
 
 -- the beginning of an object: the code of a capability
 unfoldable pub code_json : ℕ → List ℕ
 code_json code = codes "{\"code\":" ++ decimal code
 
+-- the end of an object: the name of the capability, where it has one
+abbrev pub name_end : ℕ → List ℕ
+name_end code = where_named (codes "name") (capability_name code) ++ codes "}"
+
 -- a family, an AS number, or else the octets of the value
 unfoldable pub capability_json : Capability → List ℕ
 capability_json (Multi family subsequent) =
-    code_json MULTIPROTOCOL ++ (member (codes "afi") decimal family ++ (member (codes "safi") decimal subsequent ++ codes "}"))
-capability_json (As4 number) = code_json FOUR_OCTET_AS ++ (member (codes "as") decimal number ++ codes "}")
-capability_json (Other code value) = code_json code ++ (member (codes "value") octets_json value ++ codes "}")
+    code_json MULTIPROTOCOL ++ (member (codes "afi") decimal family ++ (member (codes "safi") decimal subsequent ++ name_end MULTIPROTOCOL))
+capability_json (As4 number) = code_json FOUR_OCTET_AS ++ (member (codes "as") decimal number ++ name_end FOUR_OCTET_AS)
+capability_json (Other code value) = code_json code ++ (member (codes "value") octets_json value ++ name_end code)
 
 -- My Autonomous System as it stands, the hold time, the identifier and the capabilities
 abbrev pub open_members : Open → List ℕ

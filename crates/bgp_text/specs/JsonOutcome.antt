@@ -8,11 +8,13 @@ use Rattle.bgp_msg.specs.declared.message.Message.{Message}
 use Rattle.bgp_msg.specs.declared.message.Message.TheVariants as message
 use Rattle.bgp_msg.specs.declared.outcome.Outcome.{Outcome}
 use Rattle.bgp_msg.specs.declared.outcome.Outcome.TheVariants as outcome
-use Rattle.bgp_text.specs.Json.{quoted, octets_json, member, line_end}
+use Rattle.bgp_names.specs.Errors.{error_name, subcode_name}
+use Rattle.bgp_text.specs.Json.{quoted, octets_json, member, line_end, where_named, where_said}
 use Rattle.bgp_text.specs.JsonNotes.{notes_member}
 use Rattle.bgp_text.specs.JsonOpen.{open_members}
 use Rattle.bgp_text.specs.JsonUpdate.{update_members, routes_json}
 use Rattle.bgp_text.specs.Outcome.{reset_name}
+use Rattle.bgp_text.specs.Shutdown.{shutdown_text}
 
 -- the beginning of each object: the offset of a message in the stream, its octets in number, its kind and the verdict on it
 unfoldable pub judged : ℕ → ℕ → List ℕ → List ℕ → List ℕ
@@ -20,9 +22,15 @@ judged place len kind verdict =
     codes "{\"place\":" ++ (decimal place ++ (member (codes "length") decimal len ++ (member (codes "kind") quoted kind
     ++ member (codes "verdict") quoted verdict)))
 
+-- the names of a code and a subcode, and the text of a NOTIFICATION that shuts a session down, where there are any
+abbrev pub names_of : Notification → List ℕ
+names_of n =
+    where_named (codes "code_name") (error_name n.code) ++ (where_named (codes "subcode_name") (subcode_name n.code n.subcode)
+    ++ where_said (codes "text") (shutdown_text n.code n.subcode n.info.items))
+
 abbrev pub notification_members : Notification → List ℕ
 notification_members n =
-    member (codes "code") decimal n.code ++ (member (codes "subcode") decimal n.subcode ++ member (codes "data") octets_json n.info.items)
+    member (codes "code") decimal n.code ++ (member (codes "subcode") decimal n.subcode ++ (member (codes "data") octets_json n.info.items ++ names_of n))
 
 -- a message that is accepted; an UPDATE with notes on attributes that are discarded: other messages have none
 unfoldable pub took_json : ℕ → ℕ → Message → List Note → List ℕ

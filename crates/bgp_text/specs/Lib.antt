@@ -1,6 +1,8 @@
 -- The printed form of messages, routes, notes and ends of streams.
 pub mod Info
 pub mod End
+pub mod Escape
+pub mod Shutdown
 pub mod Lines
 pub mod MpLines
 pub mod PathLine

@@ -5,8 +5,9 @@ ghost use Rattle.std.specs.Fmt.{decimal};
 ghost use Rattle.std.specs.List.{flat_map};
 ghost use Rattle.std.specs.String.{string_bytes};
 ghost use Rattle.bgp_prefix.specs.Text.{hex_octet};
-ghost use Rattle.bgp_text.specs.Json.{quoted, octets_json, boolean, named, member, line_end};
+ghost use Rattle.bgp_text.specs.Json.{quoted, octets_json, boolean, named, member, line_end, where_named, where_said};
 
+use crate::escape::put_escaped;
 use crate::short::{Decimal, Short, put_one};
 use crate::word::Word;
 use std::alloc::AllocError;
@@ -43,7 +44,7 @@ pub(crate) fn put_decimal(text: &mut String, number: u32) -> Result<(), AllocErr
 }
 
 /// Adds an octet's two digits.
-fn put_octet(text: &mut String, octet: u8) -> Result<(), AllocError>
+pub(crate) fn put_octet(text: &mut String, octet: u8) -> Result<(), AllocError>
     ensures { OnOk result (string_bytes text.new ≡ string_bytes text.old ++ hex_octet octet) }
 {
     let mut word = Word::new();
@@ -103,6 +104,33 @@ pub(crate) fn put_word_member(
 {
     put_name(text, name)?;
     put_quoted(text, characters)
+}
+
+/// Adds a member that is a string, where there is something in it.
+#[tactic(auto, unfolding(crate::specs::Json::where_named))]
+pub(crate) fn put_name_member(
+    text: &mut String,
+    name: &str,
+    characters: &str,
+) -> Result<(), AllocError>
+    ensures { OnOk result (string_bytes text.new ≡ string_bytes text.old ++ where_named name.now characters.now) }
+{
+    if characters.is_empty() {
+        return Ok(());
+    }
+    put_word_member(text, name, characters)
+}
+
+/// Adds a member that is text of a peer's, where there is any.
+#[tactic(auto, unfolding(crate::specs::Json::where_said))]
+pub(crate) fn put_said_member(text: &mut String, name: &str, said: &str) -> Result<(), AllocError>
+    ensures { OnOk result (string_bytes text.new ≡ string_bytes text.old ++ where_said name.now said.now) }
+{
+    if said.is_empty() {
+        return Ok(());
+    }
+    put_name(text, name)?;
+    put_escaped(text, said)
 }
 
 /// Adds a member that is octets.

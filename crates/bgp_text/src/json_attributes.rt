@@ -16,7 +16,8 @@ ghost use Rattle.bgp_text.specs.Lines.{where_there};
 ghost use Rattle.bgp_text.specs.steps.Slots.{slots_value};
 
 use crate::json::{
-    put_decimal, put_flag_member, put_name, put_number_member, put_octets_member, put_word_member,
+    put_decimal, put_flag_member, put_name, put_name_member, put_number_member, put_octets_member,
+    put_word_member,
 };
 use crate::json_addresses::put_ip4_member;
 use crate::json_list::{Element, put_list_member};
@@ -24,6 +25,7 @@ use crate::json_path::put_path_member;
 use crate::slots::Slots;
 use crate::word::Word;
 use bgp_attr::{Aggregator, As4PathView, CommunitiesView, LargeView, OpaqueView, Origin, PathView};
+use bgp_names::attribute_name;
 use std::alloc::AllocError;
 
 /// A community.
@@ -77,6 +79,7 @@ impl Element for OpaqueView<'_> {
         put_flag_member(text, "transitive", self.transitive)?;
         put_flag_member(text, "partial", self.partial)?;
         put_octets_member(text, "value", self.value)?;
+        put_name_member(text, "name", attribute_name(self.kind))?;
         text.push_str("}")
     }
 }

@@ -5,10 +5,13 @@ ghost use Rattle.std.specs.List.{flat_map};
 ghost use Rattle.std.specs.String.{string_bytes};
 ghost use Rattle.bgp_open.specs.declared.capability.Capability.TheVariants.{Multi, As4, Other};
 ghost use Rattle.bgp_text.specs.Json.{member, behind_comma, joined, listed};
-ghost use Rattle.bgp_text.specs.JsonOpen.{code_json, capability_json, open_members};
+ghost use Rattle.bgp_text.specs.JsonOpen.{code_json, capability_json, open_members, name_end};
 
-use crate::json::{put_decimal, put_name, put_number_member, put_octets_member};
+use crate::json::{
+    put_decimal, put_name, put_name_member, put_number_member, put_octets_member,
+};
 use crate::json_addresses::put_ip4_member;
+use bgp_names::capability_name;
 use bgp_numbers::capability;
 use bgp_open::{Capability, Open};
 use std::alloc::AllocError;
@@ -22,6 +25,14 @@ fn put_code(text: &mut String, code: u8) -> Result<(), AllocError>
     put_decimal(text, u32::from(code))
 }
 
+/// Adds the end of an object: the name of the capability, where it has one.
+fn put_name_end(text: &mut String, code: u8) -> Result<(), AllocError>
+    ensures { OnOk result (string_bytes text.new ≡ string_bytes text.old ++ name_end code) }
+{
+    put_name_member(text, "name", capability_name(code))?;
+    text.push_str("}")
+}
+
 /// Adds a family.
 #[tactic(auto, unfolding(crate::specs::JsonOpen::capability_json))]
 fn put_multi(text: &mut String, family: u16, subsequent: u8) -> Result<(), AllocError>
@@ -30,7 +41,7 @@ fn put_multi(text: &mut String, family: u16, subsequent: u8) -> Result<(), Alloc
     put_code(text, capability::MULTIPROTOCOL)?;
     put_number_member(text, "afi", u32::from(family))?;
     put_number_member(text, "safi", u32::from(subsequent))?;
-    text.push_str("}")
+    put_name_end(text, capability::MULTIPROTOCOL)
 }
 
 /// Adds an AS number of four octets.
@@ -40,7 +51,7 @@ fn put_as4(text: &mut String, number: u32) -> Result<(), AllocError>
 {
     put_code(text, capability::FOUR_OCTET_AS)?;
     put_number_member(text, "as", number)?;
-    text.push_str("}")
+    put_name_end(text, capability::FOUR_OCTET_AS)
 }
 
 /// Adds a capability of any other code.
@@ -50,7 +61,7 @@ fn put_other(text: &mut String, code: u8, value: &[u8]) -> Result<(), AllocError
 {
     put_code(text, code)?;
     put_octets_member(text, "value", value)?;
-    text.push_str("}")
+    put_name_end(text, code)
 }
 
 /// Adds a capability.

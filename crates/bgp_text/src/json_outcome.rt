@@ -8,16 +8,21 @@ ghost use Rattle.bgp_open.specs.OpenView.{open_value};
 ghost use Rattle.bgp_update.specs.View.{update_value, notes_value, routes_value};
 ghost use Rattle.bgp_msg.specs.OutcomeView.{outcome_value};
 ghost use Rattle.bgp_msg.specs.declared.message.Message.TheVariants as message;
-ghost use Rattle.bgp_text.specs.JsonOutcome.{judged, notification_members, took_json, withdraw_json, reset_json, outcome_json};
+ghost use Rattle.bgp_text.specs.JsonOutcome.{judged, notification_members, took_json, withdraw_json, reset_json, outcome_json, names_of};
 
-use crate::json::{put_line_end, put_number_member, put_octets_member, put_word_member};
+use crate::json::{
+    put_line_end, put_name_member, put_number_member, put_octets_member, put_said_member,
+    put_word_member,
+};
 use crate::json_notes::put_notes_member;
 use crate::json_open::put_open_members;
 use crate::json_update::{put_routes_member, put_update_members};
 use crate::outcome_lines::reset_name;
+use crate::shutdown::shutdown_text;
 use crate::short::{Decimal, put_one};
 use bgp_frame::NotificationView;
 use bgp_msg::OutcomeView;
+use bgp_names::{error_name, subcode_name};
 use bgp_open::OpenView;
 use bgp_update::UpdateView;
 use std::alloc::{AllocError, Global};
@@ -47,6 +52,15 @@ fn put_judged(
     put_word_member(text, "verdict", verdict)
 }
 
+/// Adds the names of a NOTIFICATION's code and subcode, and its text where it shuts a session down.
+fn put_names(text: &mut String, said: &NotificationView<'_>) -> Result<(), AllocError>
+    ensures { OnOk result (string_bytes text.new ≡ string_bytes text.old ++ names_of (notification_of_view said.now)) }
+{
+    put_name_member(text, "code_name", error_name(said.code))?;
+    put_name_member(text, "subcode_name", subcode_name(said.code, said.subcode))?;
+    put_said_member(text, "text", shutdown_text(said.code, said.subcode, said.info))
+}
+
 /// Adds what a NOTIFICATION says.
 fn put_notification_members(
     text: &mut String,
@@ -56,7 +70,8 @@ fn put_notification_members(
 {
     put_number_member(text, "code", u32::from(said.code))?;
     put_number_member(text, "subcode", u32::from(said.subcode))?;
-    put_octets_member(text, "data", said.info)
+    put_octets_member(text, "data", said.info)?;
+    put_names(text, said)
 }
 
 /// An OPEN.
