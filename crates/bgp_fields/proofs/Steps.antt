@@ -1,0 +1,118 @@
+-- One step of an iterator of fields.
+use Rattle.std.proofs.Common.{◌≡◌, ℕ, ◌+◌, ◌-◌, ◌<◌, List, [], ◌∷◌, ◌++◌, length, take, drop, Option, None, sym, ap, ap₂, ◌∙◌, arith, length-drop}
+use Rattle.std.proofs.lemmas.List.{length-take-le, drop-drop, append_assoc}
+use Rattle.bgp_open.specs.declared.context.Context.{Context}
+use Rattle.bgp_fields.specs.declared.field.Field.{Field}
+use Rattle.bgp_fields.specs.declared.field.Group.{Group}
+use Rattle.bgp_fields.specs.declared.kind.FieldKind.TheVariants.{Unread}
+use Rattle.bgp_fields.specs.declared.part.MessagePart.{MessagePart}
+use Rattle.bgp_fields.specs.declared.part.MessagePart.TheVariants as message
+use Rattle.bgp_fields.specs.declared.part.SectionPart.{SectionPart}
+use Rattle.bgp_fields.specs.declared.part.SectionPart.TheVariants as section
+use Rattle.bgp_fields.specs.declared.part.ValuePart.{ValuePart}
+use Rattle.bgp_fields.specs.declared.part.ValuePart.TheVariants as value
+use Rattle.bgp_fields.specs.declared.plan.ValuePlan.{ValuePlan}
+use Rattle.bgp_fields.specs.declared.plan.SectionPlan.{SectionPlan}
+use Rattle.bgp_fields.specs.declared.plan.MessagePlan.{MessagePlan}
+use Rattle.bgp_fields.specs.Fields.{no_fields, value_fields, section_fields, message_fields}
+use Rattle.bgp_fields.specs.Parts.{value_plan, section_plan, message_plan}
+use Rattle.bgp_fields.specs.steps.Plans.{value_planned, section_planned, message_planned}
+use Rattle.bgp_fields.specs.Walk.{fit, group_from}
+use Rattle.bgp_fields.proofs.Walks.{walk-none, walk-told, fits-told}
+
+-- a field of a value
+pub value-step : (ctx : Context) (part : ValuePart) (at : ℕ) (group : Option Group) (b : List ℕ) (later : ℕ → List Field)
+    (p : ValuePlan) (g : Option Group) (rest : List ℕ)
+    → 0 < length b → value_planned p ≡ fit (value.All Unread) (value_plan ctx part b) (length b) → g ≡ group_from at p.begins group → rest ≡ drop p.len b
+    → value_fields ctx part at group b ++ later (at + length b)
+    ≡ record { at = at; len = p.len; kind = p.kind; group = g } ∷ (value_fields ctx p.next (at + p.len) g rest ++ later (at + p.len + length rest))
+value-step ctx part at group b later p g rest some e group_is rest_is =
+    let fits = fits-told (Unit {0}) ValuePart (value.All Unread) (value_plan ctx) no_fields part b (value_planned p) some e in
+    let same_at : at + p.len + 0 ≡ at + p.len = omega arith in
+    let same_len : p.len + 0 ≡ p.len = omega arith in
+    let ends : at + length b ≡ at + p.len + length rest = omega (arith, ap length rest_is, length-drop p.len b, fits.1) in
+    ap₂ (λ (fs gs : List Field). fs ++ gs)
+    (walk-told (Unit {0}) ValuePart (value.All Unread) (value_plan ctx) no_fields part at group b (value_planned p) some e)
+    (ap later ends)
+    ∙ ap₂ (λ (n m : ℕ). record { at = at; len = p.len; kind = p.kind; group = group_from at p.begins group }
+    ∷ (value_fields ctx p.next n (group_from at p.begins group) (drop m b) ++ later (at + p.len + length rest))) same_at same_len
+    ∙ ap₂ (λ (x : Option Group) (c : List ℕ). record { at = at; len = p.len; kind = p.kind; group = x }
+    ∷ (value_fields ctx p.next (at + p.len) x c ++ later (at + p.len + length rest))) (sym group_is) (sym rest_is)
+
+-- a field of a section: nothing is left of a value
+pub section-step : (ctx : Context) (v : ValuePart) (vg : Option Group) (vb : List ℕ)
+    (part : SectionPart) (at : ℕ) (group : Option Group) (b : List ℕ) (later : ℕ → List Field) (p : SectionPlan) (g : Option Group) (inside rest : List ℕ)
+    → length vb ≡ 0 → 0 < length b → section_planned p ≡ fit (section.All Unread) (section_plan ctx part b) (length b)
+    → g ≡ group_from at p.begins group → inside ≡ take p.inner_len (drop p.len b) → rest ≡ drop p.inner_len (drop p.len b)
+    → value_fields ctx v at vg vb ++ (section_fields ctx part (at + length vb) group b ++ later (at + length vb + length b))
+    ≡ record { at = at; len = p.len; kind = p.kind; group = g }
+    ∷ (value_fields ctx p.inner (at + p.len) g inside
+    ++ (section_fields ctx p.next (at + p.len + length inside) g rest ++ later (at + p.len + length inside + length rest)))
+section-step ctx v vg (x ∷ vb) part at group b later p g inside rest none some e group_is inside_is rest_is = absurd (omega (arith, none))
+section-step ctx v vg [] part at group b later p g inside rest none some e group_is inside_is rest_is =
+    let fits = fits-told ValuePart SectionPart (section.All Unread) (section_plan ctx) (value_fields ctx) part b (section_planned p) some e in
+    let behind : length (drop p.len b) ≡ length b - p.len = length-drop p.len b in
+    let inside_len : length inside ≡ p.inner_len = ap length inside_is ∙ length-take-le p.inner_len (drop p.len b) (omega (arith, behind, fits.1)) in
+    let rest_len : length rest ≡ length b - p.len - p.inner_len = ap length rest_is ∙ length-drop p.inner_len (drop p.len b) ∙ ap (λ (n : ℕ). n - p.inner_len) behind in
+    let start : at + 0 ≡ at = omega arith in
+    let ends : at + 0 + length b ≡ at + p.len + length inside + length rest = omega (arith, inside_len, rest_len, fits.1) in
+    let inner_ends : at + p.len + p.inner_len ≡ at + p.len + length inside = omega (arith, inside_len) in
+    let rest_same : drop (p.len + p.inner_len) b ≡ rest = sym (drop-drop p.inner_len p.len b) ∙ sym rest_is in
+    ap (λ (fs : List Field). fs ++ (section_fields ctx part (at + 0) group b ++ later (at + 0 + length b))) (walk-none (Unit {0}) ValuePart (value.All Unread) (value_plan ctx) no_fields v at vg)
+    ∙ ap₂ (λ (n m : ℕ). section_fields ctx part n group b ++ later m) start ends
+    ∙ ap (λ (fs : List Field). fs ++ later (at + p.len + length inside + length rest))
+    (walk-told ValuePart SectionPart (section.All Unread) (section_plan ctx) (value_fields ctx) part at group b (section_planned p) some e)
+    ∙ ap (λ (fs : List Field). record { at = at; len = p.len; kind = p.kind; group = group_from at p.begins group } ∷ fs)
+    (append_assoc (value_fields ctx p.inner (at + p.len) (group_from at p.begins group) (take p.inner_len (drop p.len b)))
+    (section_fields ctx p.next (at + p.len + p.inner_len) (group_from at p.begins group) (drop (p.len + p.inner_len) b))
+    (later (at + p.len + length inside + length rest)))
+    ∙ ap₂ (λ (x : Option Group) (c : List ℕ). record { at = at; len = p.len; kind = p.kind; group = x }
+    ∷ (value_fields ctx p.inner (at + p.len) x c
+    ++ (section_fields ctx p.next (at + p.len + p.inner_len) x (drop (p.len + p.inner_len) b) ++ later (at + p.len + length inside + length rest)))) (sym group_is) (sym inside_is)
+    ∙ ap₂ (λ (n : ℕ) (c : List ℕ). record { at = at; len = p.len; kind = p.kind; group = g }
+    ∷ (value_fields ctx p.inner (at + p.len) g inside
+    ++ (section_fields ctx p.next n g c ++ later (at + p.len + length inside + length rest)))) inner_ends rest_same
+
+-- a field of a message: nothing is left of a section
+pub message-step : (ctx : Context) (v : ValuePart) (vg : Option Group) (vb : List ℕ) (s : SectionPart) (sg : Option Group) (sb : List ℕ)
+    (part : MessagePart) (at : ℕ) (b : List ℕ) (p : MessagePlan) (inside rest : List ℕ)
+    → length vb ≡ 0 → length sb ≡ 0 → 0 < length b → message_planned p ≡ fit (message.All Unread) (message_plan part b) (length b)
+    → inside ≡ take p.inner_len (drop p.len b) → rest ≡ drop p.inner_len (drop p.len b)
+    → value_fields ctx v at vg vb ++ (section_fields ctx s (at + length vb) sg sb ++ message_fields ctx part (at + length vb + length sb) None b)
+    ≡ record { at = at; len = p.len; kind = p.kind; group = None }
+    ∷ (value_fields ctx v (at + p.len) vg vb
+    ++ (section_fields ctx p.inner (at + p.len + length vb) None inside ++ message_fields ctx p.next (at + p.len + length vb + length inside) None rest))
+message-step ctx v vg (x ∷ vb) s sg sb part at b p inside rest none empty some e inside_is rest_is = absurd (omega (arith, none))
+message-step ctx v vg [] s sg (x ∷ sb) part at b p inside rest none empty some e inside_is rest_is = absurd (omega (arith, empty))
+message-step ctx v vg [] s sg [] part at b p inside rest none empty some e inside_is rest_is =
+    let fits = fits-told SectionPart MessagePart (message.All Unread) message_plan (section_fields ctx) part b (message_planned p) some e in
+    let behind : length (drop p.len b) ≡ length b - p.len = length-drop p.len b in
+    let inside_len : length inside ≡ p.inner_len = ap length inside_is ∙ length-take-le p.inner_len (drop p.len b) (omega (arith, behind, fits.1)) in
+    let start : at + 0 + 0 ≡ at = omega arith in
+    let inner_at : at + p.len ≡ at + p.len + 0 = omega arith in
+    let inner_ends : at + p.len + p.inner_len ≡ at + p.len + 0 + length inside = omega (arith, inside_len) in
+    let rest_same : drop (p.len + p.inner_len) b ≡ rest = sym (drop-drop p.inner_len p.len b) ∙ sym rest_is in
+    let none_in_value : (n : ℕ) → value_fields ctx v n vg [] ≡ [] = λ n. walk-none (Unit {0}) ValuePart (value.All Unread) (value_plan ctx) no_fields v n vg in
+    let f : Field = record { at = at; len = p.len; kind = p.kind; group = None } in
+    ap₂ (λ (fs gs : List Field). fs ++ (gs ++ message_fields ctx part (at + 0 + 0) None b)) (none_in_value at)
+    (walk-none ValuePart SectionPart (section.All Unread) (section_plan ctx) (value_fields ctx) s (at + 0) sg)
+    ∙ ap (λ (n : ℕ). message_fields ctx part n None b) start
+    ∙ walk-told SectionPart MessagePart (message.All Unread) message_plan (section_fields ctx) part at None b (message_planned p) some e
+    ∙ ap₂ (λ (n : ℕ) (c : List ℕ). f ∷ (section_fields ctx p.inner n None c
+    ++ message_fields ctx p.next (at + p.len + p.inner_len) None (drop (p.len + p.inner_len) b))) inner_at (sym inside_is)
+    ∙ ap₂ (λ (n : ℕ) (c : List ℕ). f ∷ (section_fields ctx p.inner (at + p.len + 0) None inside ++ message_fields ctx p.next n None c)) inner_ends rest_same
+    ∙ ap (λ (fs : List Field). f ∷ (fs ++ (section_fields ctx p.inner (at + p.len + 0) None inside ++ message_fields ctx p.next (at + p.len + 0 + length inside) None rest)))
+    (sym (none_in_value (at + p.len)))
+
+-- nothing is left
+pub nothing-left : (ctx : Context) (v : ValuePart) (at : ℕ) (vg : Option Group) (vb : List ℕ) (s : SectionPart) (at_s : ℕ) (sg : Option Group) (sb : List ℕ)
+    (m : MessagePart) (at_m : ℕ) (b : List ℕ) → length vb ≡ 0 → length sb ≡ 0 → length b ≡ 0
+    → value_fields ctx v at vg vb ++ (section_fields ctx s at_s sg sb ++ message_fields ctx m at_m None b) ≡ []
+nothing-left ctx v at vg (x ∷ vb) s at_s sg sb m at_m b no_v no_s no_m = absurd (omega (arith, no_v))
+nothing-left ctx v at vg [] s at_s sg (x ∷ sb) m at_m b no_v no_s no_m = absurd (omega (arith, no_s))
+nothing-left ctx v at vg [] s at_s sg [] m at_m (x ∷ b) no_v no_s no_m = absurd (omega (arith, no_m))
+nothing-left ctx v at vg [] s at_s sg [] m at_m [] no_v no_s no_m =
+    ap₂ (λ (fs gs : List Field). fs ++ (gs ++ message_fields ctx m at_m None []))
+    (walk-none (Unit {0}) ValuePart (value.All Unread) (value_plan ctx) no_fields v at vg)
+    (walk-none ValuePart SectionPart (section.All Unread) (section_plan ctx) (value_fields ctx) s at_s sg)
+    ∙ walk-none SectionPart MessagePart (message.All Unread) message_plan (section_fields ctx) m at_m None

@@ -1,0 +1,19 @@
+-- What an iterator of fields has left.
+use Rattle.std.specs.Prelude.{ℕ, ◌+◌, List, ◌++◌, length, None}
+use Rattle.bgp_fields.specs.declared.field.Field.{Field}
+use Rattle.bgp_fields.specs.declared.iter.FieldIter.{FieldIter}
+use Rattle.bgp_fields.specs.Fields.{value_fields, section_fields, message_fields}
+
+-- where the section that was begun goes on, and where the message does
+abbrev pub section_at : FieldIter → ℕ
+section_at it = it.at + length it.value_octets.now
+
+abbrev pub message_at : FieldIter → ℕ
+message_at it = section_at it + length it.section_octets.now
+
+-- the fields of the value that was begun, those of the section, and those of the message
+abbrev pub fields_left : FieldIter → List Field
+fields_left it =
+    value_fields it.ctx it.value it.at it.value_group it.value_octets.now
+    ++ (section_fields it.ctx it.section (section_at it) it.section_group it.section_octets.now
+    ++ message_fields it.ctx it.message (message_at it) None it.message_octets.now)

@@ -1,0 +1,18 @@
+-- What the laws say of the fields of a message.
+use Rattle.std.specs.Prelude.{◌≡◌, ◌<◌, ◌+◌, ℕ, List, [], ◌∷◌, length, take, drop}
+use Rattle.std.specs.List.{flat_map}
+use Rattle.bgp_fields.specs.declared.field.Field.{Field}
+
+-- each field begins where the one before it ends and has an octet at least, from this place to that
+abbrev pub Tiles : ℕ → ℕ → List Field → Type 0
+Tiles from to [] = from ≡ to
+Tiles from to (f ∷ fields) = (f.at ≡ from) × (0 < f.len) × Tiles (f.at + f.len) to fields
+
+-- the octets of a field
+abbrev pub octets_in : List ℕ → Field → List ℕ
+octets_in octets f = take f.len (drop f.at octets)
+
+-- the fields are the octets: none twice, none left out, in their order
+pub record AreTheOctets (octets : List ℕ) (fields : List Field) : Type 0 where
+  pub placed : Tiles 0 (length octets) fields
+  pub joined : flat_map (octets_in octets) fields ≡ octets

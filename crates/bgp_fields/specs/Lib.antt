@@ -1,0 +1,7 @@
+-- The fields of a message.
+pub mod Walk
+pub mod Parts
+pub mod Fields
+pub mod FieldIter
+pub mod Laws
+pub mod steps

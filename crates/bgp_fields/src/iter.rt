@@ -1,0 +1,180 @@
+//! The fields of a message, one after another.
+
+ghost use Rattle.std.specs.Prelude.{◌≡◌, ◌≤◌, ◌+◌, [], ◌∷◌, ◌<◌, length, MatchOption};
+ghost use Rattle.bgp_fields.specs.Walk.{group_from};
+
+use crate::field::{Field, Group};
+use crate::kind::FieldKind;
+use crate::message_plan::message_plan;
+use crate::part::{MessagePart, SectionPart, ValuePart};
+use crate::section_plan::section_plan;
+use crate::value_plan::value_plan;
+use bgp_open::Context;
+use std::iter::FusedIterator;
+
+/// The fields of a message in their order: every octet of it stands in one of them, whatever comes. It takes no memory.
+#[derive(Clone, Copy)]
+pub struct FieldIter<'a> {
+    pub(crate) ctx: Context,
+    /// The place of the first octet that is left.
+    pub(crate) at: usize,
+    /// What is left of the value that was begun.
+    pub(crate) value: ValuePart,
+    pub(crate) value_group: Option<Group>,
+    pub(crate) value_octets: &'a [u8],
+    /// What is left of the section behind it.
+    pub(crate) section: SectionPart,
+    pub(crate) section_group: Option<Group>,
+    pub(crate) section_octets: &'a [u8],
+    /// What is left of the message behind that.
+    pub(crate) message: MessagePart,
+    pub(crate) message_octets: &'a [u8],
+    pub(crate) ghost short: { at + (length value_octets.now + (length section_octets.now + length message_octets.now)) ≤ 4096 },
+}
+
+impl<'a> FieldIter<'a> {
+    ghost use Rattle.bgp_fields.specs.Fields.{fields_of};
+    ghost use Rattle.bgp_fields.specs.FieldIter.{fields_left};
+
+    /// The fields of a whole message, in a context: those of the header, then those of the body as its type says. Of a header with a fault the octets are
+    /// its 19.
+    #[tactic(auto, unfolding(crate::specs::Walk::walk))]
+    pub fn new(ctx: &Context, octets: &'a [u8]) -> FieldIter<'a>
+        requires { length octets.now ≤ 4096 }
+        ensures { fields_left result ≡ fields_of ctx.now octets.now }
+    {
+        FieldIter {
+            ctx: *ctx,
+            at: 0,
+            value: ValuePart::All(FieldKind::Unread),
+            value_group: None,
+            value_octets: &[],
+            section: SectionPart::All(FieldKind::Unread),
+            section_group: None,
+            section_octets: &[],
+            message: MessagePart::Marker,
+            message_octets: octets,
+        }
+    }
+
+    /// The next field of the value that was begun.
+    fn next_in_value(&mut self) -> Field
+        requires { 0 < length self.old.value_octets.now }
+        ensures { fields_left self.old ≡ result ∷ fields_left self.new }
+    {
+        let left = self.value_octets;
+        let plan = value_plan(&self.ctx, self.value, left).fit(left.len());
+        let at = self.at;
+        let (_, rest) = left.split_at(plan.len);
+        self.at = at + plan.len;
+        self.value_group = group_from(at, plan.begins, self.value_group);
+        self.value = plan.next;
+        self.value_octets = rest;
+        field(at, plan.len, plan.kind, self.value_group)
+    }
+
+    /// The next field of the section, where nothing is left of a value.
+    fn next_in_section(&mut self) -> Field
+        requires value { length self.old.value_octets.now ≡ 0 }
+        requires some { 0 < length self.old.section_octets.now }
+        ensures { fields_left self.old ≡ result ∷ fields_left self.new }
+    {
+        let left = self.section_octets;
+        let plan = section_plan(&self.ctx, self.section, left).fit(left.len());
+        let at = self.at;
+        let (_, behind) = left.split_at(plan.len);
+        let (inside, rest) = behind.split_at(plan.inner_len);
+        let group = group_from(at, plan.begins, self.section_group);
+        self.at = at + plan.len;
+        self.value = plan.inner;
+        self.value_group = group;
+        self.value_octets = inside;
+        self.section = plan.next;
+        self.section_group = group;
+        self.section_octets = rest;
+        field(at, plan.len, plan.kind, group)
+    }
+
+    /// The next field of the message, where nothing is left of a section.
+    fn next_in_message(&mut self) -> Field
+        requires value { length self.old.value_octets.now ≡ 0 }
+        requires section { length self.old.section_octets.now ≡ 0 }
+        requires some { 0 < length self.old.message_octets.now }
+        ensures { fields_left self.old ≡ result ∷ fields_left self.new }
+    {
+        let left = self.message_octets;
+        let plan = message_plan(self.message, left).fit(left.len());
+        let at = self.at;
+        let (_, behind) = left.split_at(plan.len);
+        let (inside, rest) = behind.split_at(plan.inner_len);
+        self.at = at + plan.len;
+        self.section = plan.inner;
+        self.section_group = None;
+        self.section_octets = inside;
+        self.message = plan.next;
+        self.message_octets = rest;
+        field(at, plan.len, plan.kind, None)
+    }
+
+    /// The next field.
+    fn next_field(&mut self) -> Option<Field>
+        ensures { MatchOption result ((fields_left self.old ≡ []) × (fields_left self.new ≡ []))
+            (λ f. fields_left self.old ≡ f ∷ fields_left self.new) }
+    {
+        if !self.value_octets.is_empty() {
+            return Some(self.next_in_value());
+        }
+        if !self.section_octets.is_empty() {
+            return Some(self.next_in_section());
+        }
+        if self.message_octets.is_empty() {
+            return None;
+        }
+        Some(self.next_in_message())
+    }
+}
+
+impl<'a> Iterator for FieldIter<'a> {
+    ghost use Rattle.std.specs.Iterator.{YieldsFirst, item_count};
+    ghost use Rattle.bgp_fields.specs.FieldIter.{fields_left};
+
+    type Item = Field;
+
+    ghost next_gives = { YieldsFirst fields_left };
+
+    ghost remaining = { item_count fields_left };
+
+    fn next(&mut self) -> Option<Field> {
+        self.next_field()
+    }
+}
+
+impl<'a> FusedIterator for FieldIter<'a> {}
+
+/// The group of the fields from a place on, where one of this code begins there, or none does.
+fn group_from(at: usize, begins: Option<u8>, group: Option<Group>) -> Option<Group>
+    requires { at ≤ 4096 }
+    ensures { result ≡ group_from at begins group }
+{
+    match begins {
+        None => group,
+        Some(code) => Some(Group {
+            at: at as u16,
+            code,
+        }),
+    }
+}
+
+/// A field.
+fn field(at: usize, len: usize, kind: FieldKind, group: Option<Group>) -> Field
+    requires at { at ≤ 4096 }
+    requires len { len ≤ 4096 }
+    ensures { result ≡ record { at = at; len = len; kind = kind; group = group } }
+{
+    Field {
+        at: at as u16,
+        len: len as u16,
+        kind,
+        group,
+    }
+}

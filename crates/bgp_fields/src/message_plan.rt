@@ -1,0 +1,98 @@
+//! What stands next in a message.
+
+ghost use Rattle.std.specs.Prelude.{◌≡◌};
+ghost use Rattle.bgp_frame.specs.Kind.{kind_of};
+ghost use Rattle.bgp_fields.specs.Parts.{alone, behind, body_part, message_plan};
+ghost use Rattle.bgp_fields.specs.steps.Plans.{message_planned};
+
+use crate::kind::FieldKind;
+use crate::octets::{octet, prefix_len, two};
+use crate::part::{MessagePart, SectionPart};
+use crate::plan::MessagePlan;
+use bgp_numbers::message;
+
+/// Nothing that can be read.
+const STUCK: MessagePart = MessagePart::All(FieldKind::Unread);
+
+/// What a body begins with, by the type of its message.
+fn body_part(code: u8) -> MessagePart
+    ensures { result ≡ body_part (kind_of code) }
+{
+    match code {
+        message::OPEN => MessagePart::Version,
+        message::UPDATE => MessagePart::WithdrawnLength,
+        message::NOTIFICATION => MessagePart::ErrorCode,
+        _ => STUCK,
+    }
+}
+
+/// A field of so many octets, and what follows it.
+fn alone(kind: FieldKind, len: usize, next: MessagePart) -> MessagePlan
+    ensures { message_planned result ≡ alone kind len next }
+{
+    behind(kind, len, SectionPart::All(FieldKind::Unread), 0, next)
+}
+
+/// A length of so many octets, the section inside, and what follows it.
+fn behind(
+    kind: FieldKind,
+    len: usize,
+    inner: SectionPart,
+    inner_len: usize,
+    next: MessagePart,
+) -> MessagePlan
+    ensures { message_planned result ≡ behind kind len inner inner_len next }
+{
+    MessagePlan {
+        kind,
+        len,
+        inner,
+        inner_len,
+        next,
+    }
+}
+
+/// What stands next in these octets.
+pub(crate) fn message_plan(part: MessagePart, octets: &[u8]) -> MessagePlan
+    ensures { message_planned result ≡ message_plan part octets.now }
+{
+    let first = octet(octets, 0);
+    match part {
+        MessagePart::Marker => alone(FieldKind::Marker, 16, MessagePart::Length),
+        MessagePart::Length => alone(FieldKind::MessageLength, 2, MessagePart::Kind),
+        MessagePart::Kind => alone(FieldKind::MessageType, 1, body_part(first)),
+        MessagePart::Version => alone(FieldKind::Version, 1, MessagePart::MyAs),
+        MessagePart::MyAs => alone(FieldKind::MyAs, 2, MessagePart::HoldTime),
+        MessagePart::HoldTime => alone(FieldKind::HoldTime, 2, MessagePart::Identifier),
+        MessagePart::Identifier => alone(FieldKind::Identifier, 4, MessagePart::ParametersLength),
+        MessagePart::ParametersLength => behind(
+            FieldKind::ParametersLength,
+            1,
+            SectionPart::ParameterType,
+            usize::from(first),
+            STUCK,
+        ),
+        MessagePart::WithdrawnLength => behind(
+            FieldKind::WithdrawnLength,
+            2,
+            SectionPart::Withdrawn,
+            usize::from(two(octets)),
+            MessagePart::AttributesLength,
+        ),
+        MessagePart::AttributesLength => behind(
+            FieldKind::AttributesLength,
+            2,
+            SectionPart::AttributeFlags,
+            usize::from(two(octets)),
+            MessagePart::Nlri,
+        ),
+        MessagePart::Nlri => alone(FieldKind::NlriPrefix, prefix_len(false, first), part),
+        MessagePart::ErrorCode => alone(FieldKind::ErrorCode, 1, MessagePart::ErrorSubcode),
+        MessagePart::ErrorSubcode => alone(
+            FieldKind::ErrorSubcode,
+            1,
+            MessagePart::All(FieldKind::Data),
+        ),
+        MessagePart::All(kind) => alone(kind, octets.len(), STUCK),
+    }
+}

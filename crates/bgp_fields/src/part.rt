@@ -1,0 +1,81 @@
+//! What stands next, by what encloses it.
+
+use crate::kind::FieldKind;
+
+/// What stands next in a message, in nothing smaller.
+#[derive(Clone, Copy)]
+pub(crate) enum MessagePart {
+    /// The header (RFC 4271, section 4.1).
+    Marker,
+    Length,
+    Kind,
+    /// An OPEN's body (RFC 4271, section 4.2).
+    Version,
+    MyAs,
+    HoldTime,
+    Identifier,
+    ParametersLength,
+    /// An UPDATE's body (RFC 4271, section 4.3).
+    WithdrawnLength,
+    AttributesLength,
+    Nlri,
+    /// A NOTIFICATION's body (RFC 4271, section 4.5).
+    ErrorCode,
+    ErrorSubcode,
+    /// One field of this kind, up to the end.
+    All(FieldKind),
+}
+
+/// What stands next in Withdrawn Routes, Path Attributes or Optional Parameters.
+#[derive(Clone, Copy)]
+pub(crate) enum SectionPart {
+    /// A prefix of Withdrawn Routes.
+    Withdrawn,
+    /// An optional parameter (RFC 4271, section 4.2), its length behind this type.
+    ParameterType,
+    ParameterLength(u8),
+    /// A path attribute (RFC 4271, section 4.3), its type behind these flags, its length behind these flags and this type.
+    AttributeFlags,
+    AttributeType(u8),
+    AttributeLength(u8, u8),
+    /// One field of this kind, up to the end.
+    All(FieldKind),
+}
+
+/// What stands next in the value of an attribute or of a parameter.
+#[derive(Clone, Copy)]
+pub(crate) enum ValuePart {
+    /// One field of this kind and of so many octets, and nothing behind it.
+    One(FieldKind, u8),
+    /// Fields of this kind and of so many octets each.
+    Row(FieldKind, u8),
+    /// Prefixes of IPv6, else of IPv4, each a field of this kind.
+    Prefixes(FieldKind, bool),
+    /// The AS number of an aggregator, of four octets or of two, and then its address.
+    Aggregator(bool),
+    /// A segment of a path of AS numbers of four octets, else of two, which may have segments of confederations or not.
+    Segment(bool, bool),
+    /// The count of a segment.
+    SegmentCount(bool, bool),
+    /// So many AS numbers of a segment, and then segments.
+    Numbers(bool, bool, u8),
+    /// The family of MP_REACH_NLRI, else of MP_UNREACH_NLRI, its SAFI behind this AFI (RFC 4760, sections 3 and 4).
+    Afi(bool),
+    Safi(bool, u16),
+    /// The rest of MP_REACH_NLRI, of IPv6 or else of IPv4, its next hop behind this length.
+    NextHopLength(bool),
+    NextHop(bool, u8),
+    LinkLocal,
+    Reserved(bool),
+    /// A capability (RFC 5492, section 4), its length behind this code.
+    CapabilityCode,
+    CapabilityLength(u8),
+    /// The value of a capability: one field of this kind and of so many octets.
+    Capability(FieldKind, u8),
+    /// The value of a capability for multiprotocol extensions (RFC 4760, section 8).
+    CapabilityAfi,
+    CapabilityReserved,
+    CapabilitySafi,
+    /// One field of this kind, up to the end.
+    All(FieldKind),
+}
