@@ -3,3 +3,4 @@ pub mod Words
 pub mod JsonLists
 pub mod Decimals
 pub mod Escapes
+pub mod FieldLines

@@ -3,6 +3,10 @@ pub mod Info
 pub mod End
 pub mod Escape
 pub mod Shutdown
+pub mod FieldNames
+pub mod FieldValues
+pub mod Sections
+pub mod FieldLines
 pub mod Lines
 pub mod MpLines
 pub mod PathLine

@@ -53,7 +53,7 @@ pub(crate) fn put_octet(text: &mut String, octet: u8) -> Result<(), AllocError>
 }
 
 /// Adds the digits of octets.
-fn put_digits(text: &mut String, octets: &[u8]) -> Result<(), AllocError>
+pub(crate) fn put_digits(text: &mut String, octets: &[u8]) -> Result<(), AllocError>
     ensures { OnOk result (string_bytes text.new ≡ string_bytes text.old ++ flat_map hex_octet octets.now) }
 {
     for octet in octets {

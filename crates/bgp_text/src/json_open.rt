@@ -7,9 +7,7 @@ ghost use Rattle.bgp_open.specs.declared.capability.Capability.TheVariants.{Mult
 ghost use Rattle.bgp_text.specs.Json.{member, behind_comma, joined, listed};
 ghost use Rattle.bgp_text.specs.JsonOpen.{code_json, capability_json, open_members, name_end};
 
-use crate::json::{
-    put_decimal, put_name, put_name_member, put_number_member, put_octets_member,
-};
+use crate::json::{put_decimal, put_name, put_name_member, put_number_member, put_octets_member};
 use crate::json_addresses::put_ip4_member;
 use bgp_names::capability_name;
 use bgp_numbers::capability;

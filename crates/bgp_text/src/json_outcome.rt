@@ -18,8 +18,8 @@ use crate::json_notes::put_notes_member;
 use crate::json_open::put_open_members;
 use crate::json_update::{put_routes_member, put_update_members};
 use crate::outcome_lines::reset_name;
-use crate::shutdown::shutdown_text;
 use crate::short::{Decimal, put_one};
+use crate::shutdown::shutdown_text;
 use bgp_frame::NotificationView;
 use bgp_msg::OutcomeView;
 use bgp_names::{error_name, subcode_name};
@@ -58,7 +58,11 @@ fn put_names(text: &mut String, said: &NotificationView<'_>) -> Result<(), Alloc
 {
     put_name_member(text, "code_name", error_name(said.code))?;
     put_name_member(text, "subcode_name", subcode_name(said.code, said.subcode))?;
-    put_said_member(text, "text", shutdown_text(said.code, said.subcode, said.info))
+    put_said_member(
+        text,
+        "text",
+        shutdown_text(said.code, said.subcode, said.info),
+    )
 }
 
 /// Adds what a NOTIFICATION says.

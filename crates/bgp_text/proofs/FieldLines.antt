@@ -1,0 +1,70 @@
+-- The lines of fields and notes, field by field.
+use Rattle.std.proofs.Common.{◌≡◌, ℕ, Bool, true, false, List, [], ◌∷◌, ◌++◌, Option, None, Some, if◌then◌else◌, refl, ap, sym, ◌∙◌, append_assoc}
+use Rattle.std.specs.List.{flat_map}
+use Rattle.std.specs.Iterator.{YieldsFirst}
+use Rattle.bgp_update.specs.declared.note.Note.{Note}
+use Rattle.bgp_update.specs.declared.note_iter.NoteIter.{NoteIter}
+use Rattle.bgp_update.specs.Iters.{notes_left}
+use Rattle.bgp_text.specs.declared.field_lines.Noting.{Noting}
+use Rattle.bgp_fields.specs.declared.field.Field.{Field}
+use Rattle.bgp_text.specs.FieldLines.{field_line, is_at, is_in, note_reason, noted_lines, unplaced_line}
+use Rattle.bgp_text.specs.steps.Rows.{row_of, note_at, noting_lines}
+
+-- where no field is left
+pub at_end : (message : List ℕ) (place : ℕ) (notes : List Note) → noted_lines message place notes [] ≡ flat_map unplaced_line notes
+unfolding noted_lines
+at_end message place notes = refl
+
+-- a field with which a noted attribute begins
+pub at_note : (message : List ℕ) (place : ℕ) (first : Option Note) (later : List Note) (n : Note) (f : Field) (fields : List Field)
+    → note_at first f ≡ Some n
+    → noted_lines message place (row_of first later) (f ∷ fields) ≡ field_line true (note_reason n) message f ++ noted_lines message f.at later fields
+unfolding noted_lines
+at_note message place None later n f fields e = absurd cc
+at_note message place (Some m) later n f fields e = at (is_at m f) e
+  where
+    at : (b : Bool) → (if b then Some m else None) ≡ Some n
+        → (if b then field_line true (note_reason m) message f ++ noted_lines message f.at later fields
+            else field_line (is_in place f.group) [] message f ++ noted_lines message place (m ∷ later) fields)
+        ≡ field_line true (note_reason n) message f ++ noted_lines message f.at later fields
+    at true same = cc
+    at false same = absurd cc
+
+-- a field with which none begins
+pub at_none : (message : List ℕ) (place : ℕ) (first : Option Note) (later : List Note) (f : Field) (fields : List Field)
+    → note_at first f ≡ None
+    → noted_lines message place (row_of first later) (f ∷ fields)
+    ≡ field_line (is_in place f.group) [] message f ++ noted_lines message place (row_of first later) fields
+unfolding noted_lines
+at_none message place None later f fields e = refl
+at_none message place (Some m) later f fields e = at (is_at m f) e
+  where
+    at : (b : Bool) → (if b then Some m else None) ≡ None
+        → (if b then field_line true (note_reason m) message f ++ noted_lines message f.at later fields
+            else field_line (is_in place f.group) [] message f ++ noted_lines message place (m ∷ later) fields)
+        ≡ field_line (is_in place f.group) [] message f ++ noted_lines message place (m ∷ later) fields
+    at true same = absurd cc
+    at false same = refl
+
+-- a line that is added, and those of the fields behind it
+added : (old new line rest whole : List ℕ) → new ≡ old ++ line → whole ≡ line ++ rest → new ++ rest ≡ old ++ whole
+added old new line rest whole wrote split = ap (λ w. w ++ rest) wrote ∙ append_assoc old line rest ∙ ap (λ w. old ++ w) (sym split)
+
+pub put_none : (message : List ℕ) (noting : Noting) (f : Field) (old new : List ℕ)
+    → note_at noting.next f ≡ None → new ≡ old ++ field_line (is_in noting.place f.group) [] message f
+    → (fields : List Field) → new ++ noting_lines message noting fields ≡ old ++ noting_lines message noting (f ∷ fields)
+put_none message noting f old new none wrote fields =
+    added old new _ _ _ wrote (at_none message noting.place noting.next (notes_left noting.later) f fields none)
+
+-- the row of notes behind the first one
+next_row : (later : NoteIter) (first : Option Note) (rest : NoteIter) → YieldsFirst notes_left later first rest → row_of first (notes_left rest) ≡ notes_left later
+next_row later None rest yields = cc
+next_row later (Some n) rest yields = cc
+
+pub put_note : (message : List ℕ) (noting : Noting) (n : Note) (first : Option Note) (rest : NoteIter) (f : Field) (old new : List ℕ)
+    → note_at noting.next f ≡ Some n → YieldsFirst notes_left noting.later first rest → new ≡ old ++ field_line true (note_reason n) message f
+    → (fields : List Field) → new ++ noting_lines message (record { next = first; later = rest; place = f.at }) fields ≡ old ++ noting_lines message noting (f ∷ fields)
+put_note message noting n first rest f old new some yields wrote fields =
+    added old new _ _ _ wrote
+      (at_note message noting.place noting.next (notes_left noting.later) n f fields some
+      ∙ ap (λ notes. field_line true (note_reason n) message f ++ noted_lines message f.at notes fields) (sym (next_row noting.later first rest yields)))

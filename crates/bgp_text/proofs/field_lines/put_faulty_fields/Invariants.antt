@@ -1,0 +1,15 @@
+use Rattle.std.proofs.Common.{◌≡◌, ◌++◌, length}
+use Rattle.std.specs.List.{flat_map}
+use Rattle.std.specs.String.{string_bytes}
+use Rattle.bgp_frame.specs.Notification.{notification_of_view}
+use Rattle.bgp_fields.specs.FieldIter.{fields_left}
+use Rattle.bgp_text.specs.FieldLines.{faulty_line}
+use Rattle.bgp_text.proofs.field_lines.put_faulty_fields.Given as goal
+
+abbrev pub invariant-fields : goal.invariant-fields
+invariant-fields l =
+    string_bytes l.text ++ flat_map (faulty_line l.message l.span (notification_of_view l.answer)) (fields_left l.left)
+    ≡ string_bytes l.initial.text ++ flat_map (faulty_line l.message l.span (notification_of_view l.answer)) (fields_left l.fn.fields)
+
+abbrev pub decreases-fields : goal.decreases-fields
+decreases-fields l = length (fields_left l.left)

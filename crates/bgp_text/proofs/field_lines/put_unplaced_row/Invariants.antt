@@ -1,0 +1,15 @@
+use Rattle.std.proofs.Common.{◌≡◌, ◌++◌, length}
+use Rattle.std.specs.List.{flat_map}
+use Rattle.std.specs.String.{string_bytes}
+use Rattle.bgp_update.specs.Iters.{notes_left}
+use Rattle.bgp_text.specs.FieldLines.{unplaced_line}
+use Rattle.bgp_text.specs.steps.Rows.{row_of}
+use Rattle.bgp_text.proofs.field_lines.put_unplaced_row.Given as goal
+
+abbrev pub invariant-row : goal.invariant-row
+invariant-row l =
+    string_bytes l.text ++ flat_map unplaced_line (row_of l.next (notes_left l.left))
+    ≡ string_bytes l.initial.text ++ flat_map unplaced_line (row_of l.fn.first (notes_left l.fn.later))
+
+abbrev pub decreases-row : goal.decreases-row
+decreases-row l = length (row_of l.next (notes_left l.left))

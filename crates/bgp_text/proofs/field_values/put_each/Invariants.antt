@@ -1,0 +1,13 @@
+use Rattle.std.proofs.Common.{◌≡◌, ◌++◌, codes, length}
+use Rattle.std.specs.List.{flat_map}
+use Rattle.std.specs.String.{string_bytes}
+use Rattle.bgp_text.proofs.field_values.put_each.Given as goal
+
+-- the values so far, and those still to come, are all
+abbrev pub invariant-row : goal.invariant-row
+invariant-row g l =
+    string_bytes l.text ++ flat_map (λ v. codes " " ++ g.T.Short.text v) (g.S.Source.left l.left)
+    ≡ string_bytes l.initial.text ++ flat_map (λ v. codes " " ++ g.T.Short.text v) (g.S.Source.left l.fn.values)
+
+abbrev pub decreases-row : goal.decreases-row
+decreases-row g l = length (g.S.Source.left l.left)

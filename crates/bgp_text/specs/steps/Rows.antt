@@ -1,0 +1,20 @@
+-- A row of which the first value is taken out, and the lines of fields by such a row of notes.
+use Rattle.std.specs.Prelude.{ℕ, List, [], ◌∷◌, Option, None, Some, if◌then◌else◌}
+use Rattle.bgp_update.specs.Iters.{notes_left}
+use Rattle.bgp_update.specs.declared.note.Note.{Note}
+use Rattle.bgp_fields.specs.declared.field.Field.{Field}
+use Rattle.bgp_text.specs.declared.field_lines.Noting.{Noting}
+use Rattle.bgp_text.specs.FieldLines.{is_at, noted_lines}
+
+abbrev pub row_of : {A : Type 0} → Option A → List A → List A
+row_of None later = []
+row_of (Some first) later = first ∷ later
+
+-- the first note of a row, where it is about the attribute that begins with a field
+abbrev pub note_at : Option Note → Field → Option Note
+note_at None f = None
+note_at (Some n) f = if is_at n f then Some n else None
+
+-- the lines of the fields that are left
+abbrev pub noting_lines : List ℕ → Noting → List Field → List ℕ
+noting_lines message noting fields = noted_lines message noting.place (row_of noting.next (notes_left noting.later)) fields
