@@ -8,7 +8,7 @@ use Rattle.bgp_update.specs.Iters.{notes_left}
 use Rattle.bgp_text.specs.declared.field_lines.Noting.{Noting}
 use Rattle.bgp_fields.specs.declared.field.Field.{Field}
 use Rattle.bgp_text.specs.FieldLines.{field_line, is_at, is_in, note_reason, noted_lines, unplaced_line}
-use Rattle.bgp_text.specs.steps.Rows.{row_of, note_at, noting_lines}
+use Rattle.bgp_text.specs.steps.Rows.{row_of, note_at, noting_lines, plain_line}
 
 -- where no field is left
 pub at_end : (message : List ℕ) (place : ℕ) (notes : List Note) → noted_lines message place notes [] ≡ flat_map unplaced_line notes
@@ -25,7 +25,7 @@ at_note message place (Some m) later n f fields e = at (is_at m f) e
   where
     at : (b : Bool) → (if b then Some m else None) ≡ Some n
         → (if b then field_line true (note_reason m) message f ++ noted_lines message f.at later fields
-            else field_line (is_in place f.group) [] message f ++ noted_lines message place (m ∷ later) fields)
+        else field_line (is_in place f.group) [] message f ++ noted_lines message place (m ∷ later) fields)
         ≡ field_line true (note_reason n) message f ++ noted_lines message f.at later fields
     at true same = cc
     at false same = absurd cc
@@ -41,7 +41,7 @@ at_none message place (Some m) later f fields e = at (is_at m f) e
   where
     at : (b : Bool) → (if b then Some m else None) ≡ None
         → (if b then field_line true (note_reason m) message f ++ noted_lines message f.at later fields
-            else field_line (is_in place f.group) [] message f ++ noted_lines message place (m ∷ later) fields)
+        else field_line (is_in place f.group) [] message f ++ noted_lines message place (m ∷ later) fields)
         ≡ field_line (is_in place f.group) [] message f ++ noted_lines message place (m ∷ later) fields
     at true same = absurd cc
     at false same = refl
@@ -66,5 +66,11 @@ pub put_note : (message : List ℕ) (noting : Noting) (n : Note) (first : Option
     → (fields : List Field) → new ++ noting_lines message (record { next = first; later = rest; place = f.at }) fields ≡ old ++ noting_lines message noting (f ∷ fields)
 put_note message noting n first rest f old new some yields wrote fields =
     added old new _ _ _ wrote
-      (at_note message noting.place noting.next (notes_left noting.later) n f fields some
-      ∙ ap (λ notes. field_line true (note_reason n) message f ++ noted_lines message f.at notes fields) (sym (next_row noting.later first rest yields)))
+    (at_note message noting.place noting.next (notes_left noting.later) n f fields some
+    ∙ ap (λ notes. field_line true (note_reason n) message f ++ noted_lines message f.at notes fields) (sym (next_row noting.later first rest yields)))
+
+-- where there are no notes
+pub without_notes : (message : List ℕ) (fields : List Field) → noted_lines message 0 [] fields ≡ flat_map (plain_line message) fields
+without_notes message [] = at_end message 0 []
+without_notes message (f ∷ fields) =
+    at_none message 0 None [] f fields refl ∙ ap (λ lines. field_line (is_in 0 f.group) [] message f ++ lines) (without_notes message fields)

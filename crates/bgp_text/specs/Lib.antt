@@ -16,6 +16,7 @@ pub mod NoteLines
 pub mod OpenLines
 pub mod UpdateLines
 pub mod Outcome
+pub mod Explained
 pub mod Json
 pub mod JsonAddress
 pub mod JsonPath

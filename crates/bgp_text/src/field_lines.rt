@@ -8,7 +8,7 @@ ghost use Rattle.bgp_frame.specs.Notification.{notification_of_view};
 ghost use Rattle.bgp_update.specs.Iters.{notes_left};
 ghost use Rattle.bgp_fields.specs.FieldIter.{fields_left};
 ghost use Rattle.bgp_fields.specs.declared.field.Field.{Field as FieldValue};
-ghost use Rattle.bgp_text.specs.steps.Rows.{row_of, note_at, noting_lines};
+ghost use Rattle.bgp_text.specs.steps.Rows.{row_of, note_at, noting_lines, plain_line};
 ghost use Rattle.bgp_text.specs.FieldLines.{margin, field_text, field_line, note_reason, is_at, is_in, unplaced_line, noted_lines, reset_reason, overlaps, holds, faulty_line};
 
 use crate::field_names::field_name;
@@ -207,6 +207,21 @@ pub(crate) fn put_noted_fields(
         noting.put(text, message, &field)?;
     }
     put_unplaced_row(text, noting.next, noting.later)
+}
+
+/// Adds the lines of fields of a message on which there are no notes.
+pub(crate) fn put_plain_fields(
+    text: &mut String,
+    message: &[u8],
+    fields: FieldIter<'_>,
+) -> Result<(), AllocError>
+    ensures { OnOk result (string_bytes text.new ≡ string_bytes text.old ++ flat_map (plain_line message.now) (fields_left fields.entry)) }
+{
+    let mut left = fields;
+    'fields: while let Some(field) = left.next() {
+        put_plain(text, is_in(0, field.group), message, &field)?;
+    }
+    Ok(())
 }
 
 /// Adds the NOTIFICATION that answers a message, and by which rule.

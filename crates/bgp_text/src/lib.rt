@@ -8,6 +8,7 @@ mod decimal;
 mod digits;
 mod end;
 mod escape;
+mod explained;
 mod field_lines;
 mod field_names;
 mod field_values;
@@ -40,6 +41,7 @@ mod viewed_outcome;
 mod word;
 
 pub use end::put_end;
+pub use explained::put_explained;
 pub use info::{info_text, notification_text};
 pub use json_end::put_end_json;
 pub use json_outcome::put_viewed_json;

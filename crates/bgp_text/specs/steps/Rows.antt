@@ -4,7 +4,7 @@ use Rattle.bgp_update.specs.Iters.{notes_left}
 use Rattle.bgp_update.specs.declared.note.Note.{Note}
 use Rattle.bgp_fields.specs.declared.field.Field.{Field}
 use Rattle.bgp_text.specs.declared.field_lines.Noting.{Noting}
-use Rattle.bgp_text.specs.FieldLines.{is_at, noted_lines}
+use Rattle.bgp_text.specs.FieldLines.{field_line, is_at, is_in, noted_lines}
 
 abbrev pub row_of : {A : Type 0} → Option A → List A → List A
 row_of None later = []
@@ -18,3 +18,7 @@ note_at (Some n) f = if is_at n f then Some n else None
 -- the lines of the fields that are left
 abbrev pub noting_lines : List ℕ → Noting → List Field → List ℕ
 noting_lines message noting fields = noted_lines message noting.place (row_of noting.next (notes_left noting.later)) fields
+
+-- the line of a field of a message without notes
+abbrev pub plain_line : List ℕ → Field → List ℕ
+plain_line message f = field_line (is_in 0 f.group) [] message f
