@@ -7,6 +7,8 @@ pub mod Run
 pub mod Rules
 pub mod Show
 pub mod ShowJson
+pub mod OnlyFaults
+pub mod Explain
 pub mod Check
 pub mod ToHex
 pub mod FromHex
@@ -15,5 +17,6 @@ pub mod Clean
 pub mod File
 pub mod Agree
 pub mod Opens
+pub mod Print
 pub mod First
 pub mod steps

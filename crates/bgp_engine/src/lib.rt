@@ -7,6 +7,7 @@ mod class;
 mod cleaning;
 mod copied;
 mod engine;
+mod explaining;
 mod fault;
 mod file;
 mod form;
@@ -14,10 +15,12 @@ mod hex_text;
 mod hexed;
 pub mod laws;
 mod narrowing;
+mod only_faults;
 mod opening;
 mod opens;
 mod output;
 mod page;
+mod printing;
 mod running;
 mod shown;
 mod shown_json;
@@ -37,6 +40,7 @@ pub use opens::{
     show_by_opens_within, show_json_by_opens, show_json_by_opens_within,
 };
 pub use output::put;
+pub use printing::{Style, print, print_by_opens, print_by_opens_within, print_within};
 pub use shown::{show, show_within};
 pub use shown_json::{show_json, show_json_within};
 pub use tally::{Tally, status};

@@ -1,8 +1,10 @@
 -- Steps of two pages, which only private functions cite.
-use Rattle.std.specs.Prelude.{◌≡◌, ℕ, List, [], ◌++◌, Option, unwrap_or}
+use Rattle.std.specs.Prelude.{◌≡◌, ℕ, Bool, List, [], ◌++◌, Option, unwrap_or}
+use Rattle.bgp_open.specs.declared.context.Context.{Context}
 use Rattle.bgp_msg.specs.declared.outcome.Outcome.{Outcome}
 use Rattle.bgp_msg.specs.Outcome.{is_reset}
 use Rattle.bgp_engine.specs.declared.class.Class.{Class}
+use Rattle.bgp_engine.specs.Explain.{Heard, heard_lines}
 use Rattle.bgp_engine.specs.Narrow.{narrowed_class}
 use Rattle.bgp_engine.specs.steps.Pages.{is_last}
 use Rattle.bgp_engine.specs.Show.{class_of}
@@ -17,3 +19,9 @@ pub record WritesOutcome (shown : ℕ → ℕ → Outcome → List ℕ) (old new
 pub record WritesNarrow (old new : List ℕ) (o : Option (List ℕ)) (class : Class) : Type 0 where
   pub appended : new ≡ old ++ unwrap_or o []
   pub counts : class ≡ narrowed_class o
+
+-- the lines of a message were added, and it counts as this
+pub record WritesHeard (printed : Outcome → Bool) (ctx : Context) (old new : List ℕ) (place : ℕ) (h : Heard) (class : Class) : Type 0 where
+  pub told : new ≡ old ++ heard_lines printed ctx place h
+  pub counts : class ≡ class_of h.outcome
+  pub ends : is_reset h.outcome ≡ is_last class

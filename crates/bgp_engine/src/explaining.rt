@@ -1,0 +1,160 @@
+//! The page of `explain`.
+
+ghost use Rattle.std.specs.Prelude.{◌≡◌, ℕ, ◌+◌, ◌≤◌, ◌++◌, [], None, length, IfOk, OnOk};
+ghost use Rattle.std.specs.String.{string_bytes};
+ghost use Rattle.bgp_frame.specs.Frame.{octets_of};
+ghost use Rattle.bgp_frame.specs.Kind.{IsLength};
+ghost use Rattle.bgp_frame.specs.Step.{message_in};
+ghost use Rattle.bgp_msg.specs.Outcome.{of_fault, out_of};
+ghost use Rattle.bgp_msg.specs.OutcomeView.{outcome_value};
+ghost use Rattle.bgp_engine.specs.steps.PageSteps.{WritesHeard};
+ghost use Rattle.bgp_engine.specs.Explain.{heard_lines};
+
+use crate::class::{Class, class_of};
+use crate::fault::ToolFault;
+use crate::only_faults::Choice;
+use crate::page::Page;
+use crate::tally::Tally;
+use bgp_frame::{Frame, HeadFault, head};
+use bgp_msg::{OutcomeView, view_frame};
+use bgp_open::Context;
+use bgp_text::{put_end, put_explained};
+use bgp_update::UpdateView;
+use std::alloc::{AllocError, Global};
+
+/// What each message comes to, and its fields.
+#[derive(Drop)]
+pub(crate) struct ExplainPage<C> {
+    alloc: Global,
+    ctx: Context,
+    text: String,
+    /// The octets of a message.
+    octets: Vec<u8>,
+    choice: C,
+}
+
+impl<C: Choice> ExplainPage<C> {
+    /// Nothing so far.
+    pub(crate) fn new(alloc: Global, ctx: Context, choice: C) -> ExplainPage<C>
+        ensures context { result.ctx ≡ ctx }
+        ensures empty { string_bytes result.text ≡ [] }
+    {
+        ExplainPage {
+            alloc,
+            ctx,
+            text: String::new(alloc),
+            octets: Vec::new(alloc),
+            choice,
+        }
+    }
+}
+
+/// The octets of a whole message.
+fn put_octets(frame: Frame<'_>, octets: &mut Vec<u8>) -> Result<(), AllocError>
+    requires { IsLength frame.kind (19 + length frame.body.now) }
+    ensures { OnOk result (octets.new.items ≡ octets_of (message_in frame.entry)) }
+{
+    octets.clear();
+    octets.extend_from_slice(&head(frame.kind, frame.body.len() as u16))?;
+    octets.extend_from_slice(frame.body)
+}
+
+impl<C: Choice> ExplainPage<C> {
+    /// Adds the lines of a message of these octets, or of a header's fault, where it is printed.
+    fn put(&mut self, place: u64, outcome: &OutcomeView<'_>) -> Result<(), AllocError>
+        requires { length self.old.octets.items ≤ 4096 }
+        ensures lines { OnOk result (string_bytes self.new.text ≡ string_bytes self.old.text
+            ++ heard_lines C.printed self.old.ctx place (record { octets = self.old.octets.items; outcome = outcome_value outcome.now })) }
+        ensures context { self.new.ctx ≡ self.old.ctx }
+    {
+        if !self.choice.prints(outcome) {
+            return Ok(());
+        }
+        put_explained(
+            self.alloc,
+            &mut self.text,
+            &self.ctx,
+            place,
+            self.octets.as_slice(),
+            None,
+            outcome,
+        )
+    }
+}
+
+impl<C: Choice> ExplainPage<C> {
+    /// Adds the lines of a whole message.
+    fn put_frame(&mut self, place: u64, frame: Frame<'_>) -> Result<Class, AllocError>
+        requires { IsLength frame.kind (19 + length frame.body.now) }
+        ensures writes { IfOk result (λ class. WritesHeard C.printed self.old.ctx (string_bytes self.old.text) (string_bytes self.new.text) place
+            (record { octets = octets_of (message_in frame.entry); outcome = out_of self.old.ctx (message_in frame.entry) }) class) }
+        ensures context { self.new.ctx ≡ self.old.ctx }
+    {
+        put_octets(frame, &mut self.octets)?;
+        let ctx = self.ctx;
+        let mut view = UpdateView::empty();
+        let outcome = view_frame(&ctx, frame, &mut view);
+        self.put(place, &outcome)?;
+        Ok(class_of(&outcome))
+    }
+
+    /// Adds the line of a header's fault.
+    fn put_fault(&mut self, place: u64, fault: HeadFault) -> Result<(), AllocError>
+        ensures lines { OnOk result (string_bytes self.new.text ≡ string_bytes self.old.text
+            ++ heard_lines C.printed self.old.ctx place (record { octets = []; outcome = of_fault fault })) }
+        ensures context { self.new.ctx ≡ self.old.ctx }
+    {
+        let why = fault.answer();
+        self.octets.clear();
+        self.put(place, &OutcomeView::Reset(why.view()))
+    }
+}
+
+impl<C: Choice> Page for ExplainPage<C> {
+    ghost use Rattle.std.specs.Prelude.{true};
+    ghost use Rattle.std.specs.String.{string_bytes};
+    ghost use Rattle.bgp_engine.specs.Explain.{Heard, explained_rules};
+
+    ghost Outcome = { Heard };
+
+    ghost rules = { λ page. explained_rules C.printed page.ctx };
+
+    ghost told = { λ page. string_bytes page.text };
+
+    ghost fits = { λ _. true };
+
+    ghost rules_in = { λ ctx. explained_rules C.printed ctx };
+
+    fn agree(&mut self, ctx: &Context) -> bool {
+        self.ctx = *ctx;
+        true
+    }
+
+    fn message(&mut self, place: u64, frame: Frame<'_>) -> Result<Class, AllocError> {
+        self.put_frame(place, frame)
+    }
+
+    fn fault(&mut self, place: u64, fault: HeadFault) -> Result<(), AllocError> {
+        self.put_fault(place, fault)
+    }
+
+    fn last(&mut self, tally: &Tally) -> Result<(), AllocError> {
+        put_end(&mut self.text, tally.end)
+    }
+
+    fn rest(&mut self, _waiting: &[u8]) -> Result<(), AllocError> {
+        Ok(())
+    }
+
+    fn answer(&self, tally: Tally, _place: u64) -> Result<Tally, ToolFault> {
+        Ok(tally)
+    }
+
+    fn told(&self) -> &[u8] {
+        self.text.as_bytes()
+    }
+
+    fn clear(&mut self) {
+        self.text.clear();
+    }
+}

@@ -1,0 +1,201 @@
+//! What is printed of a stream, in each style.
+
+ghost use Rattle.std.specs.Prelude.{true, false};
+ghost use Rattle.bgp_engine.specs.declared.printing.Style.TheVariants as style;
+ghost use Rattle.bgp_engine.specs.Print.{Printed, PrintedBy};
+ghost use Rattle.bgp_engine.specs.Run.{Answers, io};
+
+use crate::explaining::ExplainPage;
+use crate::fault::ToolFault;
+use crate::form::{Json, Lines};
+use crate::only_faults::{Every, Faulty, OnlyFaults};
+use crate::opening::open_stream;
+use crate::opens::{UNKNOWN, show_by_opens_within, show_json_by_opens_within};
+use crate::shown::{ShowPage, show_within};
+use crate::shown_json::show_json_within;
+use crate::tally::Tally;
+use crate::walk::walk_stream;
+use bgp_open::Context;
+use std::alloc::Global;
+use std::io::{Read, Write};
+
+/// How a message is printed.
+#[derive(Clone, Copy, PartialEq, Eq)]
+pub enum Style {
+    /// In lines of text, as [`show`](crate::show) does.
+    Lines,
+    /// As an object of JSON on a line, as [`show_json`](crate::show_json) does.
+    Json,
+    /// In lines of text, with a line for each of its fields: `explain`.
+    Explained,
+}
+
+/// Prints the outcome of each message of a stream in a context, in a style; where `only_faults` is set, of those alone that aren't accepted without
+/// a note (RFC 7606), and of NOTIFICATIONs. It reads as [`show`](crate::show) does.
+///
+/// # Errors
+/// As `show`.
+pub fn print<R: Read, W: Write>(
+    alloc: Global,
+    style: Style,
+    only_faults: bool,
+    ctx: &Context,
+    hex: bool,
+    input: &mut R,
+    output: &mut W,
+) -> Result<Tally, ToolFault>
+    ensures { Answers (Printed style only_faults ctx.now) hex (io R.remaining input.old input.new W.contents output.old output.new) result }
+{
+    print_within(alloc, u32::MAX, style, only_faults, ctx, hex, input, output)
+}
+
+/// [`print`], with a reader that is asked at most so many times.
+///
+/// # Errors
+/// As `print`; `Read` too where the reader was asked that often and hadn't ended.
+pub fn print_within<R: Read, W: Write>(
+    alloc: Global,
+    turns: u32,
+    style: Style,
+    only_faults: bool,
+    ctx: &Context,
+    hex: bool,
+    input: &mut R,
+    output: &mut W,
+) -> Result<Tally, ToolFault>
+    ensures { Answers (Printed style only_faults ctx.now) hex (io R.remaining input.old input.new W.contents output.old output.new) result }
+{
+    match (style, only_faults) {
+        (Style::Lines, false) => show_within(alloc, turns, ctx, hex, input, output),
+        (Style::Json, false) => show_json_within(alloc, turns, ctx, hex, input, output),
+        (Style::Explained, false) => {
+            let page = ExplainPage::new(alloc, *ctx, Every);
+            walk_stream(turns, hex, page, input, output)
+        }
+        (Style::Lines, true) => {
+            let page = ShowPage::new(alloc, *ctx, OnlyFaults { form: Lines });
+            walk_stream(turns, hex, page, input, output)
+        }
+        (Style::Json, true) => {
+            let page = ShowPage::new(alloc, *ctx, OnlyFaults { form: Json });
+            walk_stream(turns, hex, page, input, output)
+        }
+        (Style::Explained, true) => {
+            let page = ExplainPage::new(alloc, *ctx, Faulty);
+            walk_stream(turns, hex, page, input, output)
+        }
+    }
+}
+
+/// The lines of all messages, explained, by both OPENs.
+fn explain_by<R: Read, W: Write>(
+    alloc: Global,
+    turns: u32,
+    theirs: &[u8],
+    hex: bool,
+    input: &mut R,
+    output: &mut W,
+) -> Result<Tally, ToolFault>
+    ensures { Answers (PrintedBy style.Explained false theirs.now) hex (io R.remaining input.old input.new W.contents output.old output.new) result }
+{
+    let page = ExplainPage::new(alloc, UNKNOWN, Every);
+    open_stream(alloc, turns, theirs, hex, page, input, output)
+}
+
+/// Those of what `--only-faults` prints.
+fn explain_faults_by<R: Read, W: Write>(
+    alloc: Global,
+    turns: u32,
+    theirs: &[u8],
+    hex: bool,
+    input: &mut R,
+    output: &mut W,
+) -> Result<Tally, ToolFault>
+    ensures { Answers (PrintedBy style.Explained true theirs.now) hex (io R.remaining input.old input.new W.contents output.old output.new) result }
+{
+    let page = ExplainPage::new(alloc, UNKNOWN, Faulty);
+    open_stream(alloc, turns, theirs, hex, page, input, output)
+}
+
+/// The same, as `show` prints it.
+fn show_faults_by<R: Read, W: Write>(
+    alloc: Global,
+    turns: u32,
+    theirs: &[u8],
+    hex: bool,
+    input: &mut R,
+    output: &mut W,
+) -> Result<Tally, ToolFault>
+    ensures { Answers (PrintedBy style.Lines true theirs.now) hex (io R.remaining input.old input.new W.contents output.old output.new) result }
+{
+    let page = ShowPage::new(alloc, UNKNOWN, OnlyFaults { form: Lines });
+    open_stream(alloc, turns, theirs, hex, page, input, output)
+}
+
+/// The same, as `show --json` prints it.
+fn show_json_faults_by<R: Read, W: Write>(
+    alloc: Global,
+    turns: u32,
+    theirs: &[u8],
+    hex: bool,
+    input: &mut R,
+    output: &mut W,
+) -> Result<Tally, ToolFault>
+    ensures { Answers (PrintedBy style.Json true theirs.now) hex (io R.remaining input.old input.new W.contents output.old output.new) result }
+{
+    let page = ShowPage::new(alloc, UNKNOWN, OnlyFaults { form: Json });
+    open_stream(alloc, turns, theirs, hex, page, input, output)
+}
+
+/// [`print`] in the context that both OPENs agree on, as in [`show_by_opens`](crate::show_by_opens).
+///
+/// # Errors
+/// As `show_by_opens`.
+pub fn print_by_opens<R: Read, W: Write>(
+    alloc: Global,
+    style: Style,
+    only_faults: bool,
+    theirs: &[u8],
+    hex: bool,
+    input: &mut R,
+    output: &mut W,
+) -> Result<Tally, ToolFault>
+    ensures { Answers (PrintedBy style only_faults theirs.now) hex (io R.remaining input.old input.new W.contents output.old output.new) result }
+{
+    print_by_opens_within(
+        alloc,
+        u32::MAX,
+        style,
+        only_faults,
+        theirs,
+        hex,
+        input,
+        output,
+    )
+}
+
+/// [`print_by_opens`], with a reader that is asked at most so many times.
+///
+/// # Errors
+/// As `print_by_opens`; `Read` too where the reader was asked that often and hadn't ended.
+pub fn print_by_opens_within<R: Read, W: Write>(
+    alloc: Global,
+    turns: u32,
+    style: Style,
+    only_faults: bool,
+    theirs: &[u8],
+    hex: bool,
+    input: &mut R,
+    output: &mut W,
+) -> Result<Tally, ToolFault>
+    ensures { Answers (PrintedBy style only_faults theirs.now) hex (io R.remaining input.old input.new W.contents output.old output.new) result }
+{
+    match (style, only_faults) {
+        (Style::Lines, false) => show_by_opens_within(alloc, turns, theirs, hex, input, output),
+        (Style::Json, false) => show_json_by_opens_within(alloc, turns, theirs, hex, input, output),
+        (Style::Explained, false) => explain_by(alloc, turns, theirs, hex, input, output),
+        (Style::Lines, true) => show_faults_by(alloc, turns, theirs, hex, input, output),
+        (Style::Json, true) => show_json_faults_by(alloc, turns, theirs, hex, input, output),
+        (Style::Explained, true) => explain_faults_by(alloc, turns, theirs, hex, input, output),
+    }
+}

@@ -1,0 +1,59 @@
+//! What `explain` prints of a message.
+
+ghost use Rattle.std.specs.Prelude.{◌≡◌, ◌≤◌, ◌++◌, length, OnOk};
+ghost use Rattle.std.specs.String.{string_bytes};
+ghost use Rattle.bgp_msg.specs.OutcomeView.{outcome_value};
+ghost use Rattle.bgp_text.specs.Explained.{explained_fields, explained_lines};
+
+use crate::field_lines::{put_faulty_fields, put_noted_fields, put_plain_fields};
+use crate::viewed_outcome::put_viewed_outcome;
+use bgp_fields::{FieldIter, Span};
+use bgp_msg::OutcomeView;
+use bgp_open::Context;
+use std::alloc::{AllocError, Global};
+
+/// Adds the lines of a message's fields.
+#[tactic(auto, unfolding(crate::specs::Explained::explained_fields), using(crate::proofs::FieldLines::without_notes))]
+fn put_fields(
+    text: &mut String,
+    ctx: &Context,
+    message: &[u8],
+    span: Option<Span>,
+    outcome: &OutcomeView<'_>,
+) -> Result<(), AllocError>
+    requires { length message.now ≤ 4096 }
+    ensures { OnOk result (string_bytes text.new ≡ string_bytes text.old ++ explained_fields ctx.now message.now span (outcome_value outcome.now)) }
+{
+    let fields = FieldIter::new(ctx, message);
+    match outcome {
+        OutcomeView::Update(view) | OutcomeView::Withdraw(view) => {
+            put_noted_fields(text, message, view.notes(), fields)
+        }
+        OutcomeView::Open(_) | OutcomeView::Notification(_) | OutcomeView::Keepalive => {
+            put_plain_fields(text, message, fields)
+        }
+        OutcomeView::Reset(answer) => put_faulty_fields(text, message, span, answer, fields),
+    }
+}
+
+/// Adds what [`put_viewed_outcome`](crate::put_viewed_outcome) does of the outcome of a whole message at its place in the stream, and then a line for
+/// each of its fields: its offset in the message, its octets, its name and what it says. Fields of an attribute that isn't kept are marked, and so are
+/// those of the span for which the message is answered by a NOTIFICATION, with the reason and the section of the RFC.
+///
+/// # Errors
+/// `AllocError` where an allocation failed.
+pub fn put_explained(
+    alloc: Global,
+    text: &mut String,
+    ctx: &Context,
+    place: u64,
+    message: &[u8],
+    span: Option<Span>,
+    outcome: &OutcomeView<'_>,
+) -> Result<(), AllocError>
+    requires { length message.now ≤ 4096 }
+    ensures { OnOk result (string_bytes text.new ≡ string_bytes text.old ++ explained_lines ctx.now place message.now span (outcome_value outcome.now)) }
+{
+    put_viewed_outcome(alloc, text, place, message.len() as u16, outcome)?;
+    put_fields(text, ctx, message, span, outcome)
+}
