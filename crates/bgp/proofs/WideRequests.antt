@@ -20,11 +20,12 @@ narrow (Some file) rows = tt
 by_name : (name : Text) (rows : List Row) (drops : OctetSet) → IsWide (request_by name rows drops)
 by_name name rows drops =
     either (bytes_eq name (codes "show")) _ _ tt
+    (either (bytes_eq name (codes "explain")) _ _ tt
     (either (bytes_eq name (codes "check")) _ _ tt
     (either (bytes_eq name (codes "narrow")) _ _ (narrow (first_of (codes "opens") rows) rows)
     (either (bytes_eq name (codes "clean")) _ _ tt
     (either (bytes_eq name (codes "to-hex")) _ _ tt
-    (either (bytes_eq name (codes "from-hex")) _ _ tt tt)))))
+    (either (bytes_eq name (codes "from-hex")) _ _ tt tt))))))
 
 first_is : (x y : Request × Text) → Some x ≡ Some y → x.0 ≡ y.0
 first_is x y e = let same : x ≡ y = cc in ap (λ (p : Request × Text). p.0) same

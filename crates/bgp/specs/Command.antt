@@ -1,5 +1,5 @@
 -- What the program does with its words.
-use Rattle.std.specs.Prelude.{◌≡◌, ◌≢◌, ◌⊎◌, ℕ, Bool, true, false, List, [], Option, Result, Err}
+use Rattle.std.specs.Prelude.{◌≡◌, ◌≢◌, ◌⊎◌, ℕ, Bool, true, false, List, [], Option, Result, Err, if◌then◌else◌}
 use Rattle.std.specs.Io.KnownBytes.{Keeps}
 use Rattle.clap.specs.Words.{IsAmong, Text}
 use Rattle.clap.specs.declared.error.kind.ErrorKind.{ErrorKind}
@@ -10,9 +10,10 @@ use Rattle.bgp_engine.specs.declared.fault.ToolFault.{ToolFault}
 use Rattle.bgp_engine.specs.declared.tally.Tally.{Tally}
 use Rattle.bgp_engine.specs.Run as engine
 use Rattle.bgp_engine.specs.Run.{Io, Reports}
-use Rattle.bgp_engine.specs.Opens.{CheckedBy, NarrowedBy, ShownBy, ShownJsonBy}
-use Rattle.bgp_engine.specs.Show.{Shown}
-use Rattle.bgp_engine.specs.ShowJson.{ShownJson}
+use Rattle.bgp_engine.specs.Opens.{CheckedBy, NarrowedBy}
+use Rattle.bgp_engine.specs.Print.{Printed, PrintedBy}
+use Rattle.bgp_engine.specs.declared.printing.Style.{Style}
+use Rattle.bgp_engine.specs.declared.printing.Style.TheVariants as style
 use Rattle.bgp_engine.specs.Check.{Checked}
 use Rattle.bgp_engine.specs.ToHex.{Hexed}
 use Rattle.bgp_engine.specs.FromHex.{Copied}
@@ -20,7 +21,8 @@ use Rattle.bgp_engine.specs.Narrow.{Narrowed}
 use Rattle.bgp_engine.specs.Clean.{CleanedBy, CleanedIn, without_words}
 use Rattle.bgp_engine.specs.Tally.{status_of}
 use Rattle.bgp_words.specs.declared.request.Request.{Request}
-use Rattle.bgp_words.specs.declared.request.Request.TheVariants.{Show, Check, Narrow, Clean, ToHex, FromHex, Loop}
+use Rattle.bgp_words.specs.declared.request.Request.TheVariants.{Show, Explain, Check, Narrow, Clean, ToHex, FromHex, Loop}
+use Rattle.bgp_words.specs.declared.request.Session.{Session}
 use Rattle.bgp_words.specs.declared.request.Session.TheVariants.{Flags, Opens}
 use Rattle.bgp_loop.specs.Loop.{IsOfFile, RunsFile, TracesFile}
 use Rattle.bgp_words.specs.CommandLine.{AsksFor, faults_of}
@@ -52,19 +54,22 @@ abbrev pub RunsBy : (List ℕ → Reports) → Bool → Io → Result Tally Tool
 RunsBy reports hex io outcome = RanBy reports hex io outcome ⊎ HasNoFile io outcome
 
 -- in lines of text, or of JSON
-abbrev pub shown_by : Bool → List ℕ → Reports
-shown_by false theirs = ShownBy theirs
-shown_by true theirs = ShownJsonBy theirs
+abbrev pub style_of : Bool → Style
+style_of json = if json then style.Json else style.Lines
 
 -- without unrecognised attributes of the types in a set
 abbrev pub cleaned_by : OctetSet → List ℕ → Reports
 cleaned_by drops theirs = CleanedBy theirs (has_octet drops)
 
+-- messages were printed in a style, in the context of the flags or in that of both OPENs
+abbrev pub Prints : Session → Style → Bool → Bool → Io → Result Tally ToolFault → Type 0
+Prints (Flags ctx) style only_faults hex io outcome = engine.Answers (Printed style only_faults ctx) hex io outcome
+Prints Opens style only_faults hex io outcome = RunsBy (PrintedBy style only_faults) hex io outcome
+
 -- the engine of a request ran, with this outcome: which one, and whether it read hexadecimal text
 abbrev pub Runs : Request → Io → Result Tally ToolFault → Type 0
-Runs (Show (Flags ctx) hex false) io outcome = engine.Answers (Shown ctx) hex io outcome
-Runs (Show (Flags ctx) hex true) io outcome = engine.Answers (ShownJson ctx) hex io outcome
-Runs (Show Opens hex json) io outcome = RunsBy (shown_by json) hex io outcome
+Runs (Show session hex json only_faults) io outcome = Prints session (style_of json) only_faults hex io outcome
+Runs (Explain session hex only_faults) io outcome = Prints session style.Explained only_faults hex io outcome
 Runs (Check (Flags ctx) hex) io outcome = engine.Answers (Checked ctx) hex io outcome
 Runs (Check Opens hex) io outcome = RunsBy CheckedBy hex io outcome
 Runs (Narrow (Flags ctx)) io outcome = engine.Answers (Narrowed ctx) false io outcome

@@ -1,16 +1,16 @@
 //! The command line of `bgp`.
 
-ghost use Rattle.std.specs.Prelude.{false, map};
+ghost use Rattle.std.specs.Prelude.{◌≡◌, false, map};
 ghost use Rattle.clap.specs.Words.{kind_of};
-ghost use Rattle.bgp.specs.Command.{Answers, HasRun, IsExplained, IsQuiet, IsWide, Runs, RunsBy, cleaned_by, shown_by};
+ghost use Rattle.bgp.specs.Command.{Answers, HasRun, IsExplained, IsQuiet, IsWide, Runs, RunsBy, Prints, cleaned_by, style_of};
+ghost use Rattle.bgp_engine.specs.Print.{PrintedBy};
 ghost use Rattle.bgp_engine.specs.Clean.{without_words};
 ghost use Rattle.bgp_engine.specs.Opens.{CheckedBy, NarrowedBy};
 ghost use Rattle.bgp_engine.specs.Run.{io};
 
 use bgp_engine::{
-    Tally, ToolFault, check, check_by_opens, clean_by_opens, clean_stream, from_hex,
-    narrow_by_opens, narrow_stream, show, show_by_opens, show_json, show_json_by_opens, status,
-    to_hex,
+    Style, Tally, ToolFault, check, check_by_opens, clean_by_opens, clean_stream, from_hex,
+    narrow_by_opens, narrow_stream, print, print_by_opens, status, to_hex,
 };
 use bgp_loop::{read_file, run_file, trace_file};
 use bgp_wire::OctetSet;
@@ -55,26 +55,50 @@ fn explain<W: Write, E: Write>(error: &Error, output: &mut W, errors: &mut E) ->
     }
 }
 
-// Shows by the OPENs of both directions, of which a file has the other one.
-fn show_opened<H: Files, R: Read, W: Write>(
+// The style in which messages are shown.
+fn style_of(json: bool) -> Style
+    ensures { result ≡ style_of json }
+{
+    if json { Style::Json } else { Style::Lines }
+}
+
+// Prints by the OPENs of both directions, of which a file has the other one.
+fn print_opened<H: Files, R: Read, W: Write>(
     rt: &H,
     alloc: Global,
     file: &str,
+    style: Style,
+    only_faults: bool,
     hex: bool,
-    json: bool,
     input: &mut R,
     output: &mut W,
 ) -> Result<Tally, ToolFault>
-    ensures { RunsBy (shown_by json) hex (io R.remaining input.old input.new W.contents output.old output.new) result }
+    ensures { RunsBy (PrintedBy style only_faults) hex (io R.remaining input.old input.new W.contents output.old output.new) result }
 {
-    let theirs = match read_file(rt, alloc, file, MESSAGE_MAX) {
-        Ok(theirs) => theirs,
-        Err(fault) => return Err(fault),
-    };
-    if json {
-        return show_json_by_opens(alloc, &theirs, hex, input, output);
+    match read_file(rt, alloc, file, MESSAGE_MAX) {
+        Ok(theirs) => print_by_opens(alloc, style, only_faults, &theirs, hex, input, output),
+        Err(fault) => Err(fault),
     }
-    show_by_opens(alloc, &theirs, hex, input, output)
+}
+
+// Prints messages in a style.
+fn print_messages<H: Files, R: Read, W: Write>(
+    rt: &H,
+    alloc: Global,
+    file: &str,
+    session: Session,
+    style: Style,
+    only_faults: bool,
+    hex: bool,
+    input: &mut R,
+    output: &mut W,
+) -> Result<Tally, ToolFault>
+    ensures { Prints session style only_faults hex (io R.remaining input.old input.new W.contents output.old output.new) result }
+{
+    match session {
+        Session::Flags(ctx) => print(alloc, style, only_faults, &ctx, hex, input, output),
+        Session::Opens => { print_opened(rt, alloc, file, style, only_faults, hex, input, output) }
+    }
 }
 
 // Checks by the OPENs of both directions.
@@ -140,11 +164,37 @@ fn run<H: Files + Net, R: Read, W: Write>(
     ensures { Runs asked.entry.request (io R.remaining input.old input.new W.contents output.old output.new) result }
 {
     match asked.request {
-        Request::Show { session, hex, json } => match session {
-            Session::Flags(ctx) if json => show_json(alloc, &ctx, hex, input, output),
-            Session::Flags(ctx) => show(alloc, &ctx, hex, input, output),
-            Session::Opens => show_opened(rt, alloc, asked.file, hex, json, input, output),
-        },
+        Request::Show {
+            session,
+            hex,
+            json,
+            only_faults,
+        } => print_messages(
+            rt,
+            alloc,
+            asked.file,
+            session,
+            style_of(json),
+            only_faults,
+            hex,
+            input,
+            output,
+        ),
+        Request::Explain {
+            session,
+            hex,
+            only_faults,
+        } => print_messages(
+            rt,
+            alloc,
+            asked.file,
+            session,
+            Style::Explained,
+            only_faults,
+            hex,
+            input,
+            output,
+        ),
         Request::Check { session, hex } => match session {
             Session::Flags(ctx) => check(alloc, &ctx, hex, input, output),
             Session::Opens => check_opened(rt, alloc, asked.file, hex, input, output),

@@ -8,12 +8,12 @@ use Rattle.bgp_wire.specs.OctetSet.{has_octet, none_of_them}
 use Rattle.bgp_wire.specs.declared.octet_set.OctetSet.{OctetSet}
 use Rattle.bgp_open.specs.declared.context.Context.{Context}
 use Rattle.bgp_words.specs.declared.request.Request.{Request}
-use Rattle.bgp_words.specs.declared.request.Request.TheVariants.{Show, Check, Narrow, Clean, ToHex, FromHex, Loop}
+use Rattle.bgp_words.specs.declared.request.Request.TheVariants.{Show, Explain, Check, Narrow, Clean, ToHex, FromHex, Loop}
 use Rattle.bgp_words.specs.declared.request.Session.{Session}
 use Rattle.bgp_words.specs.declared.request.Session.TheVariants.{Flags, Opens}
 use Rattle.bgp_words.specs.TypeList.{all_but, types_of}
 
--- ---- the command line: seven commands, five of them with flags
+-- ---- the command line: eight commands, six of them with flags
 
 abbrev pub flag_rule : Text → Rule
 flag_rule name = record (new_rule name) { long = Some name; action = Some SetTrue }
@@ -64,12 +64,22 @@ with_settings a = record a { top = record a.top { no_binary_name = true; subcomm
 abbrev pub bare_command : App
 bare_command = with_settings (new_app (codes "bgp"))
 
+-- what prints messages can print those alone that aren't accepted without a note, and NOTIFICATIONs
+abbrev pub with_printing : App → App
+with_printing a = with_flag (with_judging a) (codes "only-faults")
+
 -- what shows can do so in JSON
 abbrev pub show_command : App
-show_command = with_flag (with_judging (new_app (codes "show"))) (codes "json")
+show_command = with_flag (with_printing (new_app (codes "show"))) (codes "json")
+
+abbrev pub explain_command : App
+explain_command = with_printing (new_app (codes "explain"))
+
+abbrev pub printing_commands : App
+printing_commands = with_command (with_command bare_command show_command) explain_command
 
 abbrev pub judging_commands : App
-judging_commands = with_command (with_command bare_command show_command) (with_judging (new_app (codes "check")))
+judging_commands = with_command printing_commands (with_judging (new_app (codes "check")))
 
 -- the commands that read a stream
 abbrev pub rewriting_commands : App
@@ -119,13 +129,14 @@ drops_in rows =
 -- what a command with these flags asks for, where a set has the types that are left out
 abbrev pub request_by : Text → List Row → OctetSet → Request
 request_by name rows drops =
-    if bytes_eq name (codes "show") then Show (judged_in rows) (is_set (codes "hex") rows) (is_set (codes "json") rows) else (
+    if bytes_eq name (codes "show") then Show (judged_in rows) (is_set (codes "hex") rows) (is_set (codes "json") rows) (is_set (codes "only-faults") rows) else (
+    if bytes_eq name (codes "explain") then Explain (judged_in rows) (is_set (codes "hex") rows) (is_set (codes "only-faults") rows) else (
     if bytes_eq name (codes "check") then Check (judged_in rows) (is_set (codes "hex") rows) else (
     if bytes_eq name (codes "narrow") then Narrow (session_of true rows) else (
     if bytes_eq name (codes "clean") then Clean (judged_in rows) (is_set (codes "hex") rows) drops else (
     if bytes_eq name (codes "to-hex") then ToHex else (
     if bytes_eq name (codes "from-hex") then FromHex else
-    Loop (is_set (codes "tcp") rows) (is_set (codes "trace") rows))))))
+    Loop (is_set (codes "tcp") rows) (is_set (codes "trace") rows)))))))
 
 -- the file that is named
 abbrev pub text_or_empty : Option Text → Text

@@ -3,10 +3,11 @@
 ghost use Rattle.std.specs.Prelude.{◌≡◌, codes, false, IfOk};
 ghost use Rattle.clap.specs.Words.{app_of, rule_of, new_app, with_rule};
 ghost use Rattle.clap.specs.declared.builder.command.Command.TheViews.{out-Command};
-ghost use Rattle.bgp_words.specs.CommandLine.{flag_rule, with_flag, option_rule, with_option, with_families, with_session, with_judging, with_dropping, clean_command, show_command, with_command, bare_command, judging_commands, file_rule, loop_command, stream_commands, bgp_command};
+ghost use Rattle.bgp_words.specs.CommandLine.{flag_rule, with_flag, option_rule, with_option, with_families, with_session, with_judging, with_dropping, clean_command, with_printing, show_command, explain_command, with_command, bare_command, printing_commands, judging_commands, file_rule, loop_command, stream_commands, bgp_command};
 
 use crate::help::{
-    CHECK_HELP, CLEAN_HELP, FROM_HEX_HELP, HELP, LOOP_HELP, NARROW_HELP, SHOW_HELP, TO_HEX_HELP,
+    CHECK_HELP, CLEAN_HELP, EXPLAIN_HELP, FROM_HEX_HELP, HELP, LOOP_HELP, NARROW_HELP, SHOW_HELP,
+    TO_HEX_HELP,
 };
 use clap::{Arg, ArgAction, Command};
 use std::alloc::{AllocError, Global};
@@ -169,7 +170,7 @@ fn bare<'a>(alloc: Global) -> Result<Command<'a>, AllocError>
         named(
             alloc,
             "bgp",
-            "Show, check, clean and convert what a BGP-4 speaker sends",
+            "Show, explain, check, clean and convert what a BGP-4 speaker sends",
             HELP,
         )
         .bin_name("bgp")?
@@ -229,6 +230,19 @@ fn with_command<'a>(command: Command<'a>, sub: Command<'a>) -> Result<Command<'a
     command.subcommand(sub)
 }
 
+// A command with the flags of one that prints messages.
+fn with_printing<'a>(alloc: Global, command: Command<'a>) -> Result<Command<'a>, AllocError>
+    ensures shape { IfOk result (λ c. app_of c ≡ with_printing (app_of command.entry)) }
+    ensures local { IfOk result (λ c. (out-Command c).has_globals ≡ (out-Command command.entry).has_globals) }
+{
+    with_flag(
+        alloc,
+        with_judging(alloc, command)?,
+        "only-faults",
+        "Print what isn't accepted without a note, and NOTIFICATIONs",
+    )
+}
+
 /// The command that shows.
 pub(crate) fn show<'a>(alloc: Global) -> Result<Command<'a>, AllocError>
     ensures shape { IfOk result (λ c. app_of c ≡ show_command) }
@@ -237,10 +251,24 @@ pub(crate) fn show<'a>(alloc: Global) -> Result<Command<'a>, AllocError>
     let show = named(alloc, "show", "Print each message's outcome", SHOW_HELP);
     with_flag(
         alloc,
-        with_judging(alloc, show)?,
+        with_printing(alloc, show)?,
         "json",
         "Print each message as an object of JSON",
     )
+}
+
+/// The command that explains.
+pub(crate) fn explain<'a>(alloc: Global) -> Result<Command<'a>, AllocError>
+    ensures shape { IfOk result (λ c. app_of c ≡ explain_command) }
+    ensures local { IfOk result (λ c. (out-Command c).has_globals ≡ false) }
+{
+    let explain = named(
+        alloc,
+        "explain",
+        "Print each message's outcome and its fields",
+        EXPLAIN_HELP,
+    );
+    with_printing(alloc, explain)
 }
 
 /// The command that checks.
@@ -287,6 +315,20 @@ fn with_show<'a>(alloc: Global, command: Command<'a>) -> Result<Command<'a>, All
     with_command(command, show(alloc)?)
 }
 
+// A command with the one that explains.
+fn with_explain<'a>(alloc: Global, command: Command<'a>) -> Result<Command<'a>, AllocError>
+    ensures { IfOk result (λ c. app_of c ≡ with_command (app_of command.entry) explain_command) }
+{
+    with_command(command, explain(alloc)?)
+}
+
+// The commands that print messages.
+fn printing<'a>(alloc: Global) -> Result<Command<'a>, AllocError>
+    ensures { IfOk result (λ c. app_of c ≡ printing_commands) }
+{
+    with_explain(alloc, with_show(alloc, bare(alloc)?)?)
+}
+
 // A command with the one that checks.
 fn with_check<'a>(alloc: Global, command: Command<'a>) -> Result<Command<'a>, AllocError>
     ensures { IfOk result (λ c. app_of c ≡ with_command (app_of command.entry) (with_judging (new_app (codes "check")))) }
@@ -319,7 +361,7 @@ fn with_loop<'a>(alloc: Global, command: Command<'a>) -> Result<Command<'a>, All
 fn judging<'a>(alloc: Global) -> Result<Command<'a>, AllocError>
     ensures { IfOk result (λ c. app_of c ≡ judging_commands) }
 {
-    with_check(alloc, with_show(alloc, bare(alloc)?)?)
+    with_check(alloc, printing(alloc)?)
 }
 
 // A command with one subcommand more, which has no flags.
@@ -380,6 +422,9 @@ pub(crate) fn bgp<'a>(alloc: Global) -> Result<Command<'a>, AllocError>
 pub(crate) fn judging_command<'a>(alloc: Global, name: &str) -> Result<Command<'a>, AllocError> {
     if name == "show" {
         return show(alloc)?.bin_name("bgp show");
+    }
+    if name == "explain" {
+        return explain(alloc)?.bin_name("bgp explain");
     }
     if name == "check" {
         return check(alloc)?.bin_name("bgp check");

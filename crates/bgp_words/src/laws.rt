@@ -4,7 +4,7 @@ ghost use Rattle.std.specs.Prelude.{◌≡◌, ℕ, Bool, List, [], ◌∷◌, c
 ghost use Rattle.clap.specs.Words.{Text};
 ghost use Rattle.clap.specs.declared.error.kind.ErrorKind.TheVariants as error;
 ghost use Rattle.bgp_wire.specs.OctetSet.{also, none_of_them};
-ghost use Rattle.bgp_words.specs.declared.request.Request.TheVariants.{Show, Check, Narrow, ToHex, FromHex, Loop};
+ghost use Rattle.bgp_words.specs.declared.request.Request.TheVariants.{Show, Explain, Check, Narrow, ToHex, FromHex, Loop};
 ghost use Rattle.bgp_words.specs.declared.request.Session.TheVariants.{Flags, Opens};
 ghost use Rattle.bgp_words.specs.CommandLine.{drops_of, faults_of};
 ghost use Rattle.bgp_words.specs.TypeList.{all_but};
@@ -12,17 +12,21 @@ ghost use Rattle.bgp_words.specs.Laws.{AreUnrecognised, CanBeCleaned, CanBeDone,
 
 /// What a user types for each command, without flags and with all of them.
 pub fn words_have_one_meaning()
-    ensures show { CanBeDone (codes "show" ∷ []) (Show (Flags (flags false false)) false false) }
-    ensures show_hex { CanBeDone (codes "show" ∷ codes "--hex" ∷ codes "--as4" ∷ codes "--ip4" ∷ codes "--ip6" ∷ codes "--internal" ∷ []) (Show (Flags (flags true true)) true false) }
-    ensures show_json { CanBeDone (codes "show" ∷ codes "--json" ∷ codes "--hex" ∷ []) (Show (Flags (flags false false)) true true) }
+    ensures show { CanBeDone (codes "show" ∷ []) (Show (Flags (flags false false)) false false false) }
+    ensures show_hex { CanBeDone (codes "show" ∷ codes "--hex" ∷ codes "--as4" ∷ codes "--ip4" ∷ codes "--ip6" ∷ codes "--internal" ∷ []) (Show (Flags (flags true true)) true false false) }
+    ensures show_json { CanBeDone (codes "show" ∷ codes "--json" ∷ codes "--hex" ∷ []) (Show (Flags (flags false false)) true true false) }
+    ensures show_faults { CanBeDone (codes "show" ∷ codes "--only-faults" ∷ codes "--json" ∷ []) (Show (Flags (flags false false)) false true true) }
+    ensures explain { CanBeDone (codes "explain" ∷ []) (Explain (Flags (flags false false)) false false) }
+    ensures explain_all { CanBeDone (codes "explain" ∷ codes "--only-faults" ∷ codes "--hex" ∷ codes "--as4" ∷ codes "--ip4" ∷ codes "--ip6" ∷ codes "--internal" ∷ []) (Explain (Flags (flags true true)) true true) }
+    ensures explain_opens { CanBeDoneWith (codes "explain" ∷ codes "--opens" ∷ codes "theirs" ∷ []) (Explain Opens false false) (codes "theirs") }
     ensures check { CanBeDone (codes "check" ∷ []) (Check (Flags (flags false false)) false) }
     ensures check_hex { CanBeDone (codes "check" ∷ codes "--internal" ∷ codes "--ip6" ∷ codes "--ip4" ∷ codes "--as4" ∷ codes "--hex" ∷ []) (Check (Flags (flags true true)) true) }
     ensures narrow { CanBeDone (codes "narrow" ∷ []) (Narrow (Flags (flags true false))) }
     ensures narrow_all { CanBeDone (codes "narrow" ∷ codes "--ip4" ∷ codes "--ip6" ∷ codes "--internal" ∷ []) (Narrow (Flags (flags true true))) }
-    ensures show_opens { CanBeDoneWith (codes "show" ∷ codes "--opens" ∷ codes "theirs" ∷ codes "--hex" ∷ []) (Show Opens true false) (codes "theirs") }
+    ensures show_opens { CanBeDoneWith (codes "show" ∷ codes "--opens" ∷ codes "theirs" ∷ codes "--hex" ∷ []) (Show Opens true false false) (codes "theirs") }
     ensures check_opens { CanBeDoneWith (codes "check" ∷ codes "--opens=theirs" ∷ []) (Check Opens false) (codes "theirs") }
     ensures narrow_opens { CanBeDoneWith (codes "narrow" ∷ codes "--opens" ∷ codes "theirs" ∷ []) (Narrow Opens) (codes "theirs") }
-    ensures no_name { CanBeDoneWith (codes "show" ∷ codes "--opens" ∷ [] ∷ []) (Show Opens false false) [] }
+    ensures no_name { CanBeDoneWith (codes "show" ∷ codes "--opens" ∷ [] ∷ []) (Show Opens false false false) [] }
     ensures clean { CanBeCleaned (codes "clean" ∷ []) (Flags (flags false false)) false [] none_of_them }
     ensures clean_all { CanBeCleaned (codes "clean" ∷ codes "--hex" ∷ codes "--as4" ∷ codes "--ip4" ∷ codes "--ip6" ∷ codes "--internal" ∷ []) (Flags (flags true true)) true [] none_of_them }
     ensures clean_opens { CanBeCleaned (codes "clean" ∷ codes "--opens" ∷ codes "theirs" ∷ []) Opens false (codes "theirs") none_of_them }
@@ -46,6 +50,8 @@ pub fn words_can_be_wrong()
     ensures version { faults_of (codes "--version" ∷ []) ≡ error.DisplayVersion ∷ [] }
     ensures no_flag { faults_of (codes "narrow" ∷ codes "--hex" ∷ []) ≡ error.UnknownArgument ∷ [] }
     ensures no_json { faults_of (codes "check" ∷ codes "--json" ∷ []) ≡ error.UnknownArgument ∷ [] }
+    ensures explain_json { faults_of (codes "explain" ∷ codes "--json" ∷ []) ≡ error.UnknownArgument ∷ [] }
+    ensures both_explain { faults_of (codes "explain" ∷ codes "--opens" ∷ codes "theirs" ∷ codes "--ip6" ∷ []) ≡ error.ArgumentConflict ∷ [] }
     ensures both { faults_of (codes "show" ∷ codes "--opens" ∷ codes "theirs" ∷ codes "--as4" ∷ []) ≡ error.ArgumentConflict ∷ [] }
     ensures both_narrow { faults_of (codes "narrow" ∷ codes "--internal" ∷ codes "--opens" ∷ codes "theirs" ∷ []) ≡ error.ArgumentConflict ∷ [] }
     ensures no_value { faults_of (codes "check" ∷ codes "--opens" ∷ []) ≡ error.InvalidValue ∷ [] }

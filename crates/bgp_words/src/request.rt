@@ -27,11 +27,19 @@ pub enum Session {
 /// What the words ask for.
 #[derive(Clone, Copy)]
 pub enum Request {
-    /// `show`, of octets or, where `hex` is set, of hexadecimal text; in lines of text or, where `json` is set, of JSON.
+    /// `show`, of octets or, where `hex` is set, of hexadecimal text; in lines of text or, where `json` is set, of JSON; where `only_faults` is set, what
+    /// isn't accepted without a note and NOTIFICATIONs alone.
     Show {
         session: Session,
         hex: bool,
         json: bool,
+        only_faults: bool,
+    },
+    /// `explain`, with the form of input and the choice of messages as in `Show`.
+    Explain {
+        session: Session,
+        hex: bool,
+        only_faults: bool,
     },
     /// `check`, with the form of input as in `Show`.
     Check {
@@ -108,6 +116,14 @@ fn asked_by(name: &str, flags: &ArgMatches<'_>, drops: OctetSet) -> Request
             session: judged_in(flags),
             hex: is_set(flags, "hex"),
             json: is_set(flags, "json"),
+            only_faults: is_set(flags, "only-faults"),
+        };
+    }
+    if name == "explain" {
+        return Request::Explain {
+            session: judged_in(flags),
+            hex: is_set(flags, "hex"),
+            only_faults: is_set(flags, "only-faults"),
         };
     }
     if name == "check" {

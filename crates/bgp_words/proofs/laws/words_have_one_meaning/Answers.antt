@@ -97,3 +97,19 @@ returns-clause-clean_unknown c = record { without_fault = refl; asked = λ drops
 pub returns-clause-clean_but : goal.returns-clause-clean_but
 unfolding clap_on_literals
 returns-clause-clean_but c = record { without_fault = refl; asked = λ drops. refl; left_out = refl }
+
+pub returns-clause-show_faults : goal.returns-clause-show_faults
+unfolding clap_on_literals
+returns-clause-show_faults c = record { without_fault = refl; asked = λ drops. refl; left_out = refl }
+
+pub returns-clause-explain : goal.returns-clause-explain
+unfolding clap_on_literals
+returns-clause-explain c = record { without_fault = refl; asked = λ drops. refl; left_out = refl }
+
+pub returns-clause-explain_all : goal.returns-clause-explain_all
+unfolding clap_on_literals
+returns-clause-explain_all c = record { without_fault = refl; asked = λ drops. refl; left_out = refl }
+
+pub returns-clause-explain_opens : goal.returns-clause-explain_opens
+unfolding clap_on_literals
+returns-clause-explain_opens c = record { without_fault = refl; asked = λ drops. refl; left_out = refl }

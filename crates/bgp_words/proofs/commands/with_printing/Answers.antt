@@ -1,0 +1,8 @@
+use Rattle.std.proofs.Common.{codes, ap, ◌∙◌}
+use Rattle.std.proofs.lemmas.Result.{IfOk-weaker}
+use Rattle.clap.specs.Words.{App}
+use Rattle.bgp_words.specs.CommandLine.{with_flag}
+use Rattle.bgp_words.proofs.commands.with_printing.Goals as goal
+
+pub returns-clause-shape : goal.returns-clause-shape
+returns-clause-shape c = IfOk-weaker c.with_flag.result _ _ (λ r is. is ∙ ap (λ (a : App). with_flag a (codes "only-faults")) c.in_ok-with_judging.ensures.shape) c.with_flag.ensures.shape
