@@ -3,3 +3,11 @@ pub mod Walks
 pub mod Steps
 pub mod Tilings
 pub mod Joined
+pub mod Readable
+pub mod ReadableValues
+pub mod ReadableRoutes
+pub mod ReadableAttributes
+pub mod ReadableSections
+pub mod Verdicts
+pub mod ReadableMessages
+pub mod Accepted

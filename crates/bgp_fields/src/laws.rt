@@ -1,12 +1,25 @@
 //! Laws of the fields of a message. Each is the contract of a function that does nothing.
 
-ghost use Rattle.std.specs.Prelude.{ℕ, List};
+ghost use Rattle.std.specs.Prelude.{◌≡◌, ℕ, List, []};
+ghost use Rattle.bgp_wire.specs.Octets.{AreOctets};
+ghost use Rattle.bgp_frame.specs.Frame as frame;
+ghost use Rattle.bgp_frame.specs.Frame.{IsFrame};
 ghost use Rattle.bgp_open.specs.declared.context.Context.{Context};
+ghost use Rattle.bgp_msg.specs.declared.message.Message.{Message};
+ghost use Rattle.bgp_msg.specs.declared.outcome.Outcome.TheVariants.{Took};
+ghost use Rattle.bgp_msg.specs.Outcome.{out_of};
 ghost use Rattle.bgp_fields.specs.Fields.{fields_of};
-ghost use Rattle.bgp_fields.specs.Laws.{AreTheOctets};
+ghost use Rattle.bgp_fields.specs.Laws.{AllRead, AreTheOctets};
 
 /// The fields of a message are its octets, whatever they are: each field begins where the one before it ends and has an octet at least, none is given
 /// twice and none left out.
 pub fn the_fields_are_the_message()
     ensures { (ctx : Context) (octets : List ℕ) → AreTheOctets octets (fields_of ctx octets) }
+{}
+
+/// Where a message is accepted without a note, each field of it was read: none is unread. Segments of confederations that AS4_PATH drops, and large
+/// communities that stand there once more, are fields like others.
+pub fn an_accepted_message_is_read()
+    ensures { (ctx : Context) (m : frame.Message) (octets : List ℕ) (said : Message)
+        → AreOctets octets → IsFrame m octets → out_of ctx m ≡ Took said [] → AllRead (fields_of ctx octets) }
 {}
