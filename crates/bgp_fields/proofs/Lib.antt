@@ -11,3 +11,10 @@ pub mod ReadableSections
 pub mod Verdicts
 pub mod ReadableMessages
 pub mod Accepted
+pub mod Showing
+pub mod ShowingValues
+pub mod ShowingAttributes
+pub mod ShowingSections
+pub mod ShowingUpdates
+pub mod ShownRoutes
+pub mod Routed

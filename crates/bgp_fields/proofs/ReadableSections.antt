@@ -29,7 +29,7 @@ use Rattle.bgp_fields.proofs.ReadableValues.{prefix-long}
 use Rattle.bgp_fields.proofs.ReadableAttributes.{kept-read}
 
 -- the length of an attribute, of as many octets as its flags say
-attribute-long : (extended : Bool) (size back : List ℕ) → length size ≡ cond extended 2 1
+pub attribute-long : (extended : Bool) (size back : List ℕ) → length size ≡ cond extended 2 1
     → cond extended (two_of (size ++ back)) (first_of (size ++ back)) ≡ number_of_length size
 attribute-long true [] back e = absurd (omega (arith, e))
 attribute-long true (x ∷ []) back e = absurd (omega (arith, e))
@@ -39,7 +39,7 @@ attribute-long false [] back e = absurd (omega (arith, e))
 attribute-long false (x ∷ []) back e = refl
 attribute-long false (x ∷ y ∷ size) back e = absurd (omega (arith, e))
 
-width-some : (flags : ℕ) → 0 < length_width flags
+pub width-some : (flags : ℕ) → 0 < length_width flags
 width-some flags = width-by (is_extended flags)
   where
     width-by : (extended : Bool) → 0 < cond extended 2 1

@@ -4,4 +4,5 @@ pub mod Parts
 pub mod Fields
 pub mod FieldIter
 pub mod Laws
+pub mod Shown
 pub mod steps
