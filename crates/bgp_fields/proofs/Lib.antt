@@ -18,3 +18,7 @@ pub mod ShowingSections
 pub mod ShowingUpdates
 pub mod ShownRoutes
 pub mod Routed
+pub mod Leftovers
+pub mod Askings
+pub mod Extents
+pub mod Fronts

@@ -5,4 +5,5 @@ pub mod Fields
 pub mod FieldIter
 pub mod Laws
 pub mod Shown
+pub mod Places
 pub mod steps
