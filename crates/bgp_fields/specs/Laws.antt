@@ -1,12 +1,24 @@
 -- What the laws say of the fields of a message.
-use Rattle.std.specs.Prelude.{◌≡◌, ◌<◌, ◌+◌, ℕ, List, [], ◌∷◌, length, take, drop}
+use Rattle.std.specs.Prelude.{◌≡◌, ◌<◌, ◌+◌, ℕ, Bool, true, false, List, [], ◌∷◌, length, take, drop}
 use Rattle.std.specs.List.{flat_map}
 use Rattle.bgp_fields.specs.declared.field.Field.{Field}
+use Rattle.bgp_fields.specs.declared.kind.FieldKind.{FieldKind}
+use Rattle.bgp_fields.specs.declared.kind.FieldKind.TheVariants.{Unread}
 
 -- each field begins where the one before it ends and has an octet at least, from this place to that
 abbrev pub Tiles : ℕ → ℕ → List Field → Type 0
 Tiles from to [] = from ≡ to
 Tiles from to (f ∷ fields) = (f.at ≡ from) × (0 < f.len) × Tiles (f.at + f.len) to fields
+
+-- the field is one that can't be read
+abbrev pub is_unread : FieldKind → Bool
+is_unread Unread = true
+is_unread _ = false
+
+-- no field is
+abbrev pub AllRead : List Field → Type 0
+AllRead [] = Unit {0}
+AllRead (f ∷ fields) = (is_unread f.kind ≡ false) × AllRead fields
 
 -- the octets of a field
 abbrev pub octets_in : List ℕ → Field → List ℕ

@@ -4,4 +4,6 @@ pub mod Parts
 pub mod Fields
 pub mod FieldIter
 pub mod Laws
+pub mod Shown
+pub mod Places
 pub mod steps

@@ -1,2 +1,3 @@
 -- What only private functions cite: steps of proofs, which nobody has to believe.
 pub mod Plans
+pub mod Sections

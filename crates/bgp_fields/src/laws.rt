@@ -1,12 +1,43 @@
 //! Laws of the fields of a message. Each is the contract of a function that does nothing.
 
-ghost use Rattle.std.specs.Prelude.{ℕ, List};
+ghost use Rattle.std.specs.Prelude.{◌≡◌, ℕ, List, []};
+ghost use Rattle.bgp_wire.specs.Octets.{AreOctets};
+ghost use Rattle.bgp_frame.specs.Frame as frame;
+ghost use Rattle.bgp_frame.specs.Frame.{IsFrame};
 ghost use Rattle.bgp_open.specs.declared.context.Context.{Context};
+ghost use Rattle.bgp_update.specs.declared.note.Note.{Note};
+ghost use Rattle.bgp_update.specs.declared.routes.Routes.{Routes};
+ghost use Rattle.bgp_update.specs.declared.update.Update.{Update};
+ghost use Rattle.bgp_msg.specs.declared.message.Message.{Message};
+ghost use Rattle.bgp_msg.specs.declared.message.Message.TheVariants as message;
+ghost use Rattle.bgp_msg.specs.declared.outcome.Outcome.TheVariants.{Took, Withdraw};
+ghost use Rattle.bgp_msg.specs.Outcome.{out_of};
 ghost use Rattle.bgp_fields.specs.Fields.{fields_of};
-ghost use Rattle.bgp_fields.specs.Laws.{AreTheOctets};
+ghost use Rattle.bgp_fields.specs.Laws.{AllRead, AreTheOctets};
+ghost use Rattle.bgp_fields.specs.Shown.{ShowsRoutes, ShowsWithdrawal};
 
 /// The fields of a message are its octets, whatever they are: each field begins where the one before it ends and has an octet at least, none is given
 /// twice and none left out.
 pub fn the_fields_are_the_message()
     ensures { (ctx : Context) (octets : List ℕ) → AreTheOctets octets (fields_of ctx octets) }
+{}
+
+/// Where a message is accepted without a note, each field of it was read: none is unread. Segments of confederations that AS4_PATH drops, and large
+/// communities that stand there once more, are fields like others.
+pub fn an_accepted_message_is_read()
+    ensures { (ctx : Context) (m : frame.Message) (octets : List ℕ) (said : Message)
+        → AreOctets octets → IsFrame m octets → out_of ctx m ≡ Took said [] → AllRead (fields_of ctx octets) }
+{}
+
+/// The prefix fields of an UPDATE that is accepted are its routes: those of Withdrawn Routes, of MP_UNREACH_NLRI and MP_REACH_NLRI by family, and of NLRI.
+/// An attribute that isn't kept gives none.
+pub fn the_prefix_fields_are_the_routes()
+    ensures { (ctx : Context) (m : frame.Message) (octets : List ℕ) (u : Update) (notes : List Note)
+        → AreOctets octets → IsFrame m octets → out_of ctx m ≡ Took (message.Update u) notes → ShowsRoutes octets (fields_of ctx octets) u }
+{}
+
+/// So it is with an UPDATE that is treated as a withdrawal: its prefix fields are the routes that are withdrawn.
+pub fn the_prefix_fields_are_what_is_withdrawn()
+    ensures { (ctx : Context) (m : frame.Message) (octets : List ℕ) (routes : Routes) (notes : List Note)
+        → AreOctets octets → IsFrame m octets → out_of ctx m ≡ Withdraw routes notes → ShowsWithdrawal octets (fields_of ctx octets) routes }
 {}

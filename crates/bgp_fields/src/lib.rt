@@ -1,17 +1,23 @@
 //! The fields of a message: each octet of it, whatever comes, and the place of each fault.
 #![tactic(auto)]
 
+mod asking;
 mod field;
 mod iter;
 mod kind;
 pub mod laws;
 mod message_plan;
 mod octets;
+mod open_place;
 mod part;
+mod place;
 mod plan;
+mod rests;
 mod section_plan;
+mod sections;
 mod value_plan;
 
 pub use field::{Field, Group, Span};
 pub use iter::FieldIter;
 pub use kind::FieldKind;
+pub use place::{header_span, message_span, note_span, reset_span};

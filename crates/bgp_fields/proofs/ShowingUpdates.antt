@@ -1,0 +1,133 @@
+-- The prefix fields of an UPDATE that isn't answered by a reset are its routes.
+use Rattle.std.proofs.Common.{◌≡◌, ℕ, ◌-◌, ◌<◌, Bool, false, List, [], ◌∷◌, ◌++◌, length, take, None, refl, sym, ap, ap₂, subst, ◌∙◌, arith}
+use Rattle.std.specs.Int.{w16, to_be_bytes}
+use Rattle.std.specs.List.{flat_map}
+use Rattle.std.specs.Option.{option_or}
+use Rattle.std.proofs.lemmas.List.{append-nil, take_at}
+use Rattle.std.proofs.lemmas.List.Concat.{flat_map-cons, flat_map-append}
+use Rattle.std.proofs.lemmas.Nat.{from_be_bytes-to_be_bytes_2}
+use Rattle.bgp_frame.specs.declared.kind.Kind.TheVariants as kind
+use Rattle.bgp_frame.specs.Head.{header, marker}
+use Rattle.bgp_frame.specs.Kind.{code_of}
+use Rattle.bgp_wire.specs.Octets.{AreOctets}
+use Rattle.bgp_wire.specs.OctetSet.{none_of_them}
+use Rattle.bgp_wire.proofs.OctetLemmas.{AreOctets-front, AreOctets-back}
+use Rattle.bgp_wire.proofs.Pieces.{Splits-pieces}
+use Rattle.bgp_wire.proofs.Walks.{nothing_at}
+use Rattle.bgp_open.specs.declared.context.Context.{Context}
+use Rattle.bgp_prefix.specs.Prefix.{PrefixValue}
+use Rattle.bgp_prefix.specs.Run.{run_of}
+use Rattle.bgp_attr.specs.declared.judged.Judged.{Judged}
+use Rattle.bgp_attr.specs.declared.judged.Judged.TheVariants as judged
+use Rattle.bgp_attr.specs.Tlv.{TlvValue, IsTlv, one_tlv, tlvs_of, placed_from}
+use Rattle.bgp_attr.proofs.Readers.{IsTlv-reads}
+use Rattle.bgp_update.specs.Marks.{Mark, marks_behind, cut_mark, field_marks, marks_of}
+use Rattle.bgp_update.specs.Parts.{Parts, IsBody, has_nlri}
+use Rattle.bgp_update.specs.Taken.{kept_by, kept_of}
+use Rattle.bgp_update.specs.Verdict.{reset_by, first_reset, reset_of_run, reset_of}
+use Rattle.bgp_update.proofs.KeptMarks.{or-parts, with_cut-kept}
+use Rattle.bgp_update.proofs.Taken.{run-row}
+use Rattle.bgp_fields.specs.declared.kind.FieldKind.{FieldKind}
+use Rattle.bgp_fields.specs.declared.kind.FieldKind.TheVariants as field
+use Rattle.bgp_fields.specs.declared.part.MessagePart.{MessagePart}
+use Rattle.bgp_fields.specs.declared.part.MessagePart.TheVariants as message
+use Rattle.bgp_fields.specs.declared.part.SectionPart.{SectionPart}
+use Rattle.bgp_fields.specs.declared.part.SectionPart.TheVariants as section
+use Rattle.bgp_fields.specs.Fields.{section_fields, fields_of}
+use Rattle.bgp_fields.specs.Parts.{alone, behind, two_of, message_plan}
+use Rattle.bgp_fields.specs.Shown.{prefixes_shown}
+use Rattle.bgp_fields.proofs.Showing.{is_prefix, pick, pick-nil, shows-step, shows-leaf}
+use Rattle.bgp_fields.proofs.ShowingAttributes.{attr_shown, judged_shown}
+use Rattle.bgp_fields.proofs.ShowingSections.{SectionShows, MessageShows, none-section, withdrawn-shows, nlri-shows, marks_shown, attributes-show}
+
+-- ---- marks
+
+resets-front : (ms ns : List Mark) → first_reset (ms ++ ns) ≡ None → first_reset ms ≡ None
+resets-front [] ns e = refl
+resets-front (m ∷ ms) ns e =
+    let parts = or-parts (reset_by m.judged) (first_reset (ms ++ ns)) e in
+    ap₂ (λ a b. option_or a b) parts.0 (resets-front ms ns parts.1)
+
+module _ (ctx : Context) (chosen : FieldKind → Bool) where
+  shown : List Mark → List PrefixValue
+  shown ms = marks_shown ctx chosen ms
+
+  mark-kept : (j : Judged) → judged_shown ctx chosen j ≡ flat_map (attr_shown ctx chosen) (kept_by j)
+  mark-kept (judged.Keep a) = sym (append-nil (attr_shown ctx chosen a))
+  mark-kept (judged.Discard w) = refl
+  mark-kept (judged.Withdraw w) = refl
+  mark-kept (judged.Reset n) = refl
+
+  -- what is shown is that of what is kept
+  marks-kept : (ms : List Mark) → marks_shown ctx chosen ms ≡ flat_map (attr_shown ctx chosen) (kept_of ms)
+  marks-kept [] = refl
+  marks-kept (m ∷ ms) =
+      flat_map-cons (λ (n : Mark). judged_shown ctx chosen n.judged) m ms
+      ∙ ap₂ (λ (x y : List PrefixValue). x ++ y) (mark-kept m.judged) (marks-kept ms)
+      ∙ sym (flat_map-append (attr_shown ctx chosen) (kept_by m.judged) (kept_of ms))
+      ∙ ap (flat_map (attr_shown ctx chosen)) (sym (flat_map-cons (λ (n : Mark). kept_by n.judged) m ms))
+
+  pub field-shows : (nlri : Bool) (b : List ℕ) → AreOctets b → first_reset (field_marks ctx nlri b) ≡ None
+      → SectionShows ctx chosen section.AttributeFlags b (flat_map (attr_shown ctx chosen) (kept_of (field_marks ctx nlri b)))
+  unfolding field_marks
+  field-shows nlri b octets goes =
+      let ts = (tlvs_of b).0 in
+      let rest = (tlvs_of b).1 in
+      let ms = marks_behind ctx nlri none_of_them (placed_from 0 ts) in
+      let s = Splits-pieces TlvValue IsTlv one_tlv IsTlv-reads b in
+      let same : flat_map (attr_shown ctx chosen) (kept_of (ms ++ cut_mark (length b - length rest) rest)) ≡ marks_shown ctx chosen ms =
+      ap (flat_map (attr_shown ctx chosen)) (with_cut-kept ms (length b - length rest) rest) ∙ sym (marks-kept ms) in
+      subst (SectionShows ctx chosen section.AttributeFlags b) (sym same)
+      (subst (λ (c : List ℕ). SectionShows ctx chosen section.AttributeFlags c (marks_shown ctx chosen ms)) (sym s.whole)
+      (attributes-show ctx chosen nlri none_of_them 0 ts s.row rest s.spelled (AreOctets-front s.row rest (subst AreOctets s.whole octets))
+      (nothing_at TlvValue IsTlv one_tlv IsTlv-reads b) (resets-front ms (cut_mark (length b - length rest) rest) goes)))
+
+  -- ---- the body, and the header in front
+
+  message-leaf : (part : MessagePart) (front back : List ℕ) (kind : FieldKind) (n : ℕ) (next : MessagePart) (later : List PrefixValue)
+      → message_plan part (front ++ back) ≡ alone kind n next → length front ≡ n → 0 < n → is_prefix kind ≡ false
+      → MessageShows ctx chosen next back later → MessageShows ctx chosen part (front ++ back) later
+  message-leaf part front back kind n next later is long some known behind_it =
+      shows-leaf chosen SectionPart MessagePart (message.All field.Unread) message_plan (section_fields ctx) part front back (alone kind n next) later is long some refl known
+      (λ at group. none-section ctx chosen (section.All field.Unread) at group) behind_it
+
+  body-shows : (p : Parts) (body : List ℕ) (withdrawn attributes nlri : List PrefixValue) → IsBody p body
+      → SectionShows ctx chosen section.Withdrawn p.withdrawn withdrawn → SectionShows ctx chosen section.AttributeFlags p.attributes attributes
+      → MessageShows ctx chosen message.Nlri p.nlri nlri → MessageShows ctx chosen message.WithdrawnLength body (withdrawn ++ (attributes ++ nlri))
+  body-shows p body withdrawn attributes nlri is w a n =
+      let size = to_be_bytes w16 (length p.attributes) in
+      let rest = size ++ (p.attributes ++ p.nlri) in
+      let front = to_be_bytes w16 (length p.withdrawn) in
+      subst (λ (c : List ℕ). MessageShows ctx chosen message.WithdrawnLength c (withdrawn ++ (attributes ++ nlri))) (sym is.octets)
+      (shows-step chosen SectionPart MessagePart (message.All field.Unread) message_plan (section_fields ctx) message.WithdrawnLength front p.withdrawn rest
+      (behind field.WithdrawnLength 2 section.Withdrawn (two_of (front ++ (p.withdrawn ++ rest))) message.AttributesLength) [] withdrawn (attributes ++ nlri)
+      refl refl (omega arith) (sym (from_be_bytes-to_be_bytes_2 (length p.withdrawn) is.withdrawn_fits)) (pick-nil (chosen field.WithdrawnLength)) w
+      (shows-step chosen SectionPart MessagePart (message.All field.Unread) message_plan (section_fields ctx) message.AttributesLength size p.attributes p.nlri
+      (behind field.AttributesLength 2 section.AttributeFlags (two_of rest) message.Nlri) [] attributes nlri
+      refl refl (omega arith) (sym (from_be_bytes-to_be_bytes_2 (length p.attributes) is.attributes_fit)) (pick-nil (chosen field.AttributesLength)) a n))
+
+  header-shows : (n : ℕ) (body : List ℕ) (ps : List PrefixValue) → MessageShows ctx chosen message.WithdrawnLength body ps
+      → MessageShows ctx chosen message.Marker (header kind.Update n ++ body) ps
+  header-shows n body ps later =
+      message-leaf message.Marker marker (to_be_bytes w16 n ++ (code_of kind.Update ∷ body)) field.Marker 16 message.Length ps refl refl (omega arith) refl
+      (message-leaf message.Length (to_be_bytes w16 n) (code_of kind.Update ∷ body) field.MessageLength 2 message.Kind ps refl refl (omega arith) refl
+      (message-leaf message.Kind (code_of kind.Update ∷ []) body field.MessageType 1 message.WithdrawnLength ps refl refl (omega arith) refl later))
+
+  -- all prefixes of these kinds that an UPDATE shows
+  pub update-shows : (p : Parts) (n : ℕ) (body : List ℕ) → AreOctets body → IsBody p body → reset_of p (marks_of ctx p) ≡ None
+      → prefixes_shown chosen (header kind.Update n ++ body) (fields_of ctx (header kind.Update n ++ body))
+      ≡ pick (chosen field.WithdrawnPrefix) (run_of 4 p.withdrawn).0
+      ++ (flat_map (attr_shown ctx chosen) (kept_of (marks_of ctx p)) ++ pick (chosen field.NlriPrefix) (run_of 4 p.nlri).0)
+  update-shows p n body octets is goes =
+      let marks = marks_of ctx p in
+      let whole = header kind.Update n ++ body in
+      let resets = or-parts (first_reset marks) _ goes in
+      let runs = or-parts (reset_of_run p.withdrawn) (reset_of_run p.nlri) resets.1 in
+      let later : AreOctets (p.withdrawn ++ (to_be_bytes w16 (length p.attributes) ++ (p.attributes ++ p.nlri))) =
+      AreOctets-back (to_be_bytes w16 (length p.withdrawn)) _ (subst AreOctets is.octets octets) in
+      let behind_it : AreOctets (p.attributes ++ p.nlri) = AreOctets-back (to_be_bytes w16 (length p.attributes)) _ (AreOctets-back p.withdrawn _ later) in
+      header-shows n body _
+      (body-shows p body _ _ _ is (withdrawn-shows ctx chosen (run_of 4 p.withdrawn).0 p.withdrawn (run-row p.withdrawn runs.0))
+      (field-shows (has_nlri p) p.attributes (AreOctets-front p.attributes p.nlri behind_it) resets.0)
+      (nlri-shows ctx chosen (run_of 4 p.nlri).0 p.nlri (run-row p.nlri runs.1)))
+      whole 0 None (ap (take (length whole)) (sym (append-nil whole)) ∙ take_at whole [] (length whole) refl)

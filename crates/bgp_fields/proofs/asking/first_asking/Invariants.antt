@@ -1,0 +1,18 @@
+use Rattle.std.proofs.Common.{◌≡◌, ◌-◌, ◌++◌, length, true}
+use Rattle.std.specs.List.{list_all}
+use Rattle.bgp_wire.specs.OctetSet.{has_octet}
+use Rattle.bgp_attr.specs.TlvIter.{tlvs_left, rest_left}
+use Rattle.bgp_update.specs.Marks.{marks_behind, cut_mark, field_marks}
+use Rattle.bgp_update.specs.steps.Small.{is_small}
+use Rattle.bgp_fields.specs.Places.{first_asking}
+use Rattle.bgp_fields.proofs.asking.first_asking.Given as goal
+
+-- the first of what is left is the first of all
+abbrev pub invariant-field : goal.invariant-field
+invariant-field l = record {
+  same : first_asking l.resets (marks_behind l.ctx l.has_nlri (has_octet l.seen) (tlvs_left l.tlvs)
+      ++ cut_mark (length l.field - length (rest_left l.tlvs)) (rest_left l.tlvs)) ≡ first_asking l.resets (field_marks l.ctx l.has_nlri l.field);
+  small : list_all is_small (tlvs_left l.tlvs) ≡ true;
+  next : (goal.iterator-field).can_next l.tlvs;
+  finite : (goal.iterator-field).is_finite l.tlvs;
+}

@@ -1,0 +1,11 @@
+use Rattle.std.proofs.Common.{◌≡◌, length}
+use Rattle.bgp_wire.specs.Reader.{pieces}
+use Rattle.bgp_open.specs.Capability.{one_capability}
+use Rattle.bgp_fields.proofs.rests.rest_of_capabilities.Given as goal
+
+-- the same is left
+abbrev pub invariant-row : goal.invariant-row
+invariant-row l = (pieces one_capability l.rest).1 ≡ (pieces one_capability l.octets).1
+
+abbrev pub decreases-row : goal.decreases-row
+decreases-row l = length l.rest

@@ -1,0 +1,11 @@
+use Rattle.std.proofs.Common.{◌≡◌, ◌≤◌, length}
+use Rattle.bgp_wire.specs.Reader.{pieces}
+use Rattle.bgp_open.specs.Parameter.{one_parameter}
+use Rattle.bgp_fields.proofs.rests.rest_of_parameters.Given as goal
+
+-- the same is left
+abbrev pub invariant-row : goal.invariant-row
+invariant-row l = ((pieces one_parameter l.rest).1 ≡ (pieces one_parameter l.octets).1) × (length l.rest ≤ length l.octets)
+
+abbrev pub decreases-row : goal.decreases-row
+decreases-row l = length l.rest

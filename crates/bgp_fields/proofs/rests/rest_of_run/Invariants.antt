@@ -1,0 +1,10 @@
+use Rattle.std.proofs.Common.{◌≡◌, length}
+use Rattle.bgp_prefix.specs.Run.{run_of}
+use Rattle.bgp_fields.proofs.rests.rest_of_run.Given as goal
+
+-- the same is left
+abbrev pub invariant-run : goal.invariant-run
+invariant-run l = (run_of 4 l.rest).1 ≡ (run_of 4 l.octets).1
+
+abbrev pub decreases-run : goal.decreases-run
+decreases-run l = length l.rest

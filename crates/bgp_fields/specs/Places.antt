@@ -1,0 +1,163 @@
+-- The place of each fault: of a note its attribute, of a reset the octets for which it is answered (RFC 4271, section 6).
+use Rattle.std.specs.Prelude.{ℕ, ◌+◌, ◌-◌, min, Bool, true, false, not, ◌&&◌, ◌==◌, nat_le, nat_lt, List, [], ◌∷◌, length, take, drop, Option, None, Some, option_map, if◌then◌else◌}
+use Rattle.std.specs.Option.{option_or}
+use Rattle.bgp_wire.specs.Then.{when}
+use Rattle.bgp_wire.specs.Reader.{pieces}
+use Rattle.bgp_numbers.specs.declared.TheConstants.{VERSION}
+use Rattle.bgp_numbers.specs.declared.parameter.TheConstants.{CAPABILITIES}
+use Rattle.bgp_frame.specs.declared.fault.HeadFault.{HeadFault}
+use Rattle.bgp_frame.specs.declared.fault.HeadFault.TheVariants as fault
+use Rattle.bgp_frame.specs.declared.kind.Kind.{Kind}
+use Rattle.bgp_frame.specs.declared.kind.Kind.TheVariants as kind
+use Rattle.bgp_frame.specs.Frame as frame
+use Rattle.bgp_open.specs.declared.context.Context.{Context}
+use Rattle.bgp_open.specs.Capability.{one_capability}
+use Rattle.bgp_open.specs.Open.{version_of, length_of, parameters_of, hold_of, id_of, is_short_hold, is_zero_id}
+use Rattle.bgp_open.specs.Parameter.{one_parameter}
+use Rattle.bgp_prefix.specs.Bits.{octets_for}
+use Rattle.bgp_prefix.specs.Run.{run_of}
+use Rattle.bgp_attr.specs.declared.judged.Judged.{Judged}
+use Rattle.bgp_attr.specs.declared.judged.Judged.TheVariants as judged
+use Rattle.bgp_attr.specs.declared.why.Why.{Why}
+use Rattle.bgp_attr.specs.declared.why.Why.TheVariants as why
+use Rattle.bgp_attr.specs.Tlv.{TlvValue, one_tlv}
+use Rattle.bgp_update.specs.declared.note.Note.{Note}
+use Rattle.bgp_update.specs.Marks.{Mark, marks_of}
+use Rattle.bgp_update.specs.Parts.{Parts, attributes_at, behind_two, parts_of}
+use Rattle.bgp_msg.specs.Outcome.{out_of, is_reset}
+use Rattle.bgp_fields.specs.declared.field.Span.{Span}
+
+-- so many octets from a place on
+abbrev pub span : ℕ → ℕ → Span
+span at len = record { at = at; len = len }
+
+-- ---- headers (RFC 4271, section 6.1)
+
+-- the place of the first octet that isn't 255, where octets begin at this place
+abbrev pub first_other : ℕ → List ℕ → ℕ
+first_other at [] = at
+first_other at (x ∷ b) = if x == 255 then first_other (at + 1) b else at
+
+-- an octet of the Marker, the Length or the Type
+abbrev pub header_place : List ℕ → HeadFault → Span
+header_place octets fault.Marker = span (first_other 0 octets) 1
+header_place octets (fault.Length n) = span 16 2
+header_place octets (fault.Kind code) = span 18 1
+
+-- ---- UPDATEs (RFC 4271, section 6.3; RFC 7606)
+
+-- the octets of the attribute at the front, and all of one that is cut off
+abbrev pub attribute_extent : List ℕ → Option (TlvValue × List ℕ) → ℕ
+attribute_extent b None = length b
+attribute_extent b (Some found) = length (found.0).whole
+
+-- the attribute at this place of the field
+abbrev pub attribute_place : Parts → ℕ → Span
+attribute_place p at = span (19 + attributes_at p + at) (attribute_extent (drop at p.attributes) (one_tlv (drop at p.attributes)))
+
+-- it asks for a reset, or else for a withdrawal
+abbrev pub asks_for : Bool → Judged → Bool
+asks_for resets (judged.Reset n) = resets
+asks_for resets (judged.Withdraw w) = not resets
+asks_for resets _ = false
+
+-- the place in the field of the first attribute that does
+abbrev pub first_asking : Bool → List Mark → Option ℕ
+first_asking resets [] = None
+first_asking resets (m ∷ marks) = if asks_for resets m.judged then Some m.at else first_asking resets marks
+
+-- the first attribute that does
+abbrev pub asking_place : Bool → Parts → List Mark → Option Span
+asking_place resets p marks = option_map (attribute_place p) (first_asking resets marks)
+
+-- the prefix that rest begins with, which is too long or goes past the end: as many of its octets as there are
+abbrev pub bad_prefix : ℕ → List ℕ → Option Span
+bad_prefix at [] = None
+bad_prefix at (l ∷ rest) = Some (span at (1 + min (octets_for l) (length rest)))
+
+-- the first bad prefix of a field that begins at this place
+abbrev pub run_place : ℕ → List ℕ → Option Span
+run_place at b = bad_prefix (at + (length b - length (run_of 4 b).1)) (run_of 4 b).1
+
+-- the length that leaves no room: Total Path Attribute Length where it is there, else Withdrawn Routes Length
+abbrev pub length_place : Option (List ℕ × List ℕ) → Span
+length_place None = span 19 2
+length_place (Some withdrawn) = if nat_le 2 (length withdrawn.1) then span (21 + length withdrawn.0) 2 else span 19 2
+
+-- in the order of the verdict: an attribute that asks for a reset, Withdrawn Routes, NLRI, and else what would have a message withdrawn that announces
+-- nothing
+abbrev pub parts_place : Parts → List Mark → Option Span
+parts_place p marks =
+    option_or (asking_place true p marks) (
+    option_or (run_place 21 p.withdrawn) (
+    option_or (run_place (19 + attributes_at p + length p.attributes) p.nlri)
+    (asking_place false p marks)))
+
+abbrev pub update_place : Context → List ℕ → Option Parts → Option Span
+update_place ctx body None = Some (length_place (behind_two body))
+update_place ctx body (Some p) = parts_place p (marks_of ctx p)
+
+-- ---- notes
+
+abbrev pub says_missing : Why → Bool
+says_missing why.Missing = true
+says_missing _ = false
+
+-- the place is one of the path attributes
+abbrev pub is_attribute : Parts → ℕ → Bool
+is_attribute p at = nat_le (attributes_at p) at && nat_lt at (attributes_at p + length p.attributes)
+
+-- the attribute that a note on a body is about; of one that is missing there is none
+abbrev pub note_place_in : Note → Option Parts → Option Span
+note_place_in note None = None
+note_place_in note (Some p) =
+    if says_missing note.why then None else (
+    if is_attribute p note.at then Some (attribute_place p (note.at - attributes_at p)) else None)
+
+abbrev pub note_place : List ℕ → Note → Option Span
+note_place body note = note_place_in note (parts_of body)
+
+-- ---- OPENs (RFC 4271, section 6.2)
+
+-- the parameter or capability at the front, as many of its octets as there are
+abbrev pub item_extent : List ℕ → ℕ
+item_extent (code ∷ n ∷ value) = 2 + min n (length value)
+item_extent b = length b
+
+-- the capability that can't be read in a value that begins at this place
+abbrev pub capability_place : ℕ → List ℕ → Span
+capability_place at value =
+    span (at + (length value - length (pieces one_capability value).1)) (item_extent (pieces one_capability value).1)
+
+-- the parameter that can't be read at the front of octets that begin at this place, or the capability of it
+abbrev pub parameter_place : ℕ → List ℕ → Option Span
+parameter_place at [] = None
+parameter_place at (code ∷ []) = Some (span at 1)
+parameter_place at (code ∷ n ∷ value) =
+    if (code == CAPABILITIES) && nat_le n (length value) then Some (capability_place (at + 2) (take n value))
+    else Some (span at (item_extent (code ∷ n ∷ value)))
+
+-- the first parameter that can't be read
+abbrev pub parameters_place : List ℕ → Option Span
+parameters_place parameters =
+    parameter_place (29 + (length parameters - length (pieces one_parameter parameters).1)) (pieces one_parameter parameters).1
+
+-- the field of the first test that applies
+abbrev pub open_place : List ℕ → Option Span
+open_place body =
+    option_or (when (not (version_of body == VERSION)) (span 19 1)) (
+    option_or (when (not (length_of body == length (parameters_of body))) (span 28 1)) (
+    option_or (parameters_place (parameters_of body)) (
+    option_or (when (is_short_hold (hold_of body)) (span 22 2))
+    (when (is_zero_id (id_of body)) (span 24 4)))))
+
+-- ---- messages
+
+abbrev pub body_place : Context → Kind → List ℕ → Option Span
+body_place ctx kind.Open body = open_place body
+body_place ctx kind.Update body = update_place ctx body (parts_of body)
+body_place ctx _ body = None
+
+-- the octets for which a whole message is answered by a reset, where it is
+abbrev pub reset_place : Context → frame.Message → Option Span
+reset_place ctx m = if is_reset (out_of ctx m) then body_place ctx m.kind m.body else None

@@ -1,0 +1,6 @@
+-- What borrowed sections of a body are.
+use Rattle.bgp_update.specs.Parts.{Parts}
+use Rattle.bgp_fields.specs.declared.sections.Sections.{Sections}
+
+abbrev pub sections_value : Sections → Parts
+sections_value s = record { withdrawn = s.withdrawn.now; attributes = s.attributes.now; nlri = s.nlri.now }
