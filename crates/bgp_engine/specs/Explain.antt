@@ -1,10 +1,11 @@
 -- What `explain` prints.
-use Rattle.std.specs.Prelude.{ℕ, Bool, List, [], Option, None, Ok, if◌then◌else◌}
-use Rattle.bgp_frame.specs.Frame.{octets_of}
+use Rattle.std.specs.Prelude.{ℕ, Bool, List, [], Option, None, Some, Ok, if◌then◌else◌}
+use Rattle.bgp_frame.specs.Frame.{Message, octets_of}
 use Rattle.bgp_frame.specs.Stream.{Judgement}
 use Rattle.bgp_open.specs.declared.context.Context.{Context}
 use Rattle.bgp_msg.specs.declared.outcome.Outcome.{Outcome}
 use Rattle.bgp_msg.specs.Outcome.{is_reset, of_fault, out_of}
+use Rattle.bgp_fields.specs.Places.{reset_place}
 use Rattle.bgp_text.specs.End.{end_line}
 use Rattle.bgp_text.specs.Explained.{explained_lines}
 use Rattle.bgp_engine.specs.Rules.{Rules, IsReport}
@@ -12,22 +13,27 @@ use Rattle.bgp_engine.specs.Run.{Reports}
 use Rattle.bgp_engine.specs.Show.{class_of}
 use Rattle.bgp_engine.specs.Tally.{no_tally}
 
--- a message's octets and its outcome: of a header with a fault none are read
+-- a message and its outcome: a header with a fault begins none
 pub record Heard : Type 0 where
-  pub octets : List ℕ
+  pub message : Option Message
   pub outcome : Outcome
 
 -- messages are judged as for `show`
 abbrev pub heard_in : Context → Judgement Heard
 heard_in ctx = record {
-  of_message = λ m. record { octets = octets_of m; outcome = out_of ctx m };
-  of_fault = λ f. record { octets = []; outcome = of_fault f };
+  of_message = λ m. record { message = Some m; outcome = out_of ctx m };
+  of_fault = λ f. record { message = None; outcome = of_fault f };
   resets = λ h. is_reset h.outcome;
 }
 
+-- what `show` prints of a message, and its fields, where the span is marked for which it is answered by a reset
+abbrev pub told_lines : Context → ℕ → Option Message → Outcome → List ℕ
+told_lines ctx place None o = explained_lines ctx place [] None o
+told_lines ctx place (Some m) o = explained_lines ctx place (octets_of m) (reset_place ctx m) o
+
 -- the lines of a message that is printed
 abbrev pub heard_lines : (Outcome → Bool) → Context → ℕ → Heard → List ℕ
-heard_lines printed ctx place h = if printed h.outcome then explained_lines ctx place h.octets None h.outcome else []
+heard_lines printed ctx place h = if printed h.outcome then told_lines ctx place h.message h.outcome else []
 
 -- what `show` prints of each message that is printed, and its fields; and the end
 abbrev pub explained_rules : (Outcome → Bool) → Context → Rules Heard

@@ -1,6 +1,6 @@
 //! The page of `explain`.
 
-ghost use Rattle.std.specs.Prelude.{◌≡◌, ℕ, ◌+◌, ◌≤◌, ◌++◌, [], None, length, IfOk, OnOk};
+ghost use Rattle.std.specs.Prelude.{◌≡◌, ◌+◌, ◌≤◌, ◌++◌, [], None, Some, length, IfOk, OnOk, if◌then◌else◌};
 ghost use Rattle.std.specs.String.{string_bytes};
 ghost use Rattle.bgp_frame.specs.Frame.{octets_of};
 ghost use Rattle.bgp_frame.specs.Kind.{IsLength};
@@ -8,6 +8,7 @@ ghost use Rattle.bgp_frame.specs.Step.{message_in};
 ghost use Rattle.bgp_msg.specs.Outcome.{of_fault, out_of};
 ghost use Rattle.bgp_msg.specs.OutcomeView.{outcome_value};
 ghost use Rattle.bgp_engine.specs.steps.PageSteps.{WritesHeard};
+ghost use Rattle.bgp_text.specs.Explained.{explained_lines};
 ghost use Rattle.bgp_engine.specs.Explain.{heard_lines};
 
 use crate::class::{Class, class_of};
@@ -15,6 +16,7 @@ use crate::fault::ToolFault;
 use crate::only_faults::Choice;
 use crate::page::Page;
 use crate::tally::Tally;
+use bgp_fields::{Span, message_span};
 use bgp_frame::{Frame, HeadFault, head};
 use bgp_msg::{OutcomeView, view_frame};
 use bgp_open::Context;
@@ -60,11 +62,16 @@ fn put_octets(frame: Frame<'_>, octets: &mut Vec<u8>) -> Result<(), AllocError>
 }
 
 impl<C: Choice> ExplainPage<C> {
-    /// Adds the lines of a message of these octets, or of a header's fault, where it is printed.
-    fn put(&mut self, place: u64, outcome: &OutcomeView<'_>) -> Result<(), AllocError>
+    /// Adds the lines of a message of the octets that are held, or of a header's fault, where it is printed.
+    fn put(
+        &mut self,
+        place: u64,
+        span: Option<Span>,
+        outcome: &OutcomeView<'_>,
+    ) -> Result<(), AllocError>
         requires { length self.old.octets.items ≤ 4096 }
         ensures lines { OnOk result (string_bytes self.new.text ≡ string_bytes self.old.text
-            ++ heard_lines C.printed self.old.ctx place (record { octets = self.old.octets.items; outcome = outcome_value outcome.now })) }
+            ++ (if C.printed (outcome_value outcome.now) then explained_lines self.old.ctx place self.old.octets.items span (outcome_value outcome.now) else [])) }
         ensures context { self.new.ctx ≡ self.old.ctx }
     {
         if !self.choice.prints(outcome) {
@@ -76,37 +83,36 @@ impl<C: Choice> ExplainPage<C> {
             &self.ctx,
             place,
             self.octets.as_slice(),
-            None,
+            span,
             outcome,
         )
     }
-}
 
-impl<C: Choice> ExplainPage<C> {
     /// Adds the lines of a whole message.
     fn put_frame(&mut self, place: u64, frame: Frame<'_>) -> Result<Class, AllocError>
         requires { IsLength frame.kind (19 + length frame.body.now) }
         ensures writes { IfOk result (λ class. WritesHeard C.printed self.old.ctx (string_bytes self.old.text) (string_bytes self.new.text) place
-            (record { octets = octets_of (message_in frame.entry); outcome = out_of self.old.ctx (message_in frame.entry) }) class) }
+            (record { message = Some (message_in frame.entry); outcome = out_of self.old.ctx (message_in frame.entry) }) class) }
         ensures context { self.new.ctx ≡ self.old.ctx }
     {
         put_octets(frame, &mut self.octets)?;
         let ctx = self.ctx;
+        let span = message_span(&ctx, frame);
         let mut view = UpdateView::empty();
         let outcome = view_frame(&ctx, frame, &mut view);
-        self.put(place, &outcome)?;
+        self.put(place, span, &outcome)?;
         Ok(class_of(&outcome))
     }
 
     /// Adds the line of a header's fault.
     fn put_fault(&mut self, place: u64, fault: HeadFault) -> Result<(), AllocError>
         ensures lines { OnOk result (string_bytes self.new.text ≡ string_bytes self.old.text
-            ++ heard_lines C.printed self.old.ctx place (record { octets = []; outcome = of_fault fault })) }
+            ++ heard_lines C.printed self.old.ctx place (record { message = None; outcome = of_fault fault })) }
         ensures context { self.new.ctx ≡ self.old.ctx }
     {
         let why = fault.answer();
         self.octets.clear();
-        self.put(place, &OutcomeView::Reset(why.view()))
+        self.put(place, None, &OutcomeView::Reset(why.view()))
     }
 }
 
