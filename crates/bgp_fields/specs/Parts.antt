@@ -170,9 +170,11 @@ parameter_value code = if code == CAPABILITIES then value.CapabilityCode else va
 abbrev pub attribute_len : ℕ → List ℕ → ℕ
 attribute_len flags b = if is_extended flags then two_of b else first_of b
 
+-- of a field that is no length
 abbrev pub nothing_inside : ValuePart
 nothing_inside = value.All field.Unread
 
+-- what stands next in a section
 abbrev pub section_plan : Context → SectionPart → List ℕ → Plan ValuePart SectionPart
 section_plan ctx section.Withdrawn b = leaf nothing_inside field.WithdrawnPrefix (prefix_len 4 (first_of b)) section.Withdrawn
 section_plan ctx section.ParameterType b = opening nothing_inside field.ParameterType (first_of b) (section.ParameterLength (first_of b))
@@ -200,6 +202,7 @@ nothing_in_section = section.All field.Unread
 abbrev pub alone : FieldKind → ℕ → MessagePart → Plan SectionPart MessagePart
 alone kind n next = leaf nothing_in_section kind n next
 
+-- what stands next in a message
 abbrev pub message_plan : MessagePart → List ℕ → Plan SectionPart MessagePart
 message_plan message.Marker b = alone field.Marker 16 message.Length
 message_plan message.Length b = alone field.MessageLength 2 message.Kind

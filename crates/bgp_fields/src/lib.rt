@@ -21,3 +21,6 @@ pub use field::{Field, Group, Span};
 pub use iter::FieldIter;
 pub use kind::FieldKind;
 pub use place::{header_span, message_span, note_span, reset_span};
+
+#[cfg(test)]
+mod tests;
