@@ -239,7 +239,7 @@ fn with_printing<'a>(alloc: Global, command: Command<'a>) -> Result<Command<'a>,
         alloc,
         with_judging(alloc, command)?,
         "only-faults",
-        "Print what isn't accepted without a note, and NOTIFICATIONs",
+        "Print messages with a fault or a note, and NOTIFICATIONs",
     )
 }
 
