@@ -1,6 +1,7 @@
 # Completion of bgp for fish. Made by packaging/make-completions from the help of the program.
 complete -c bgp -f
 complete -c bgp -n __fish_use_subcommand -a show -d 'Print each message'\''s outcome'
+complete -c bgp -n __fish_use_subcommand -a explain -d 'Print each message'\''s outcome and its fields'
 complete -c bgp -n __fish_use_subcommand -a check -d 'Count the outcomes'
 complete -c bgp -n __fish_use_subcommand -a narrow -d 'Rewrite a session for a speaker with two octets for an AS number'
 complete -c bgp -n __fish_use_subcommand -a clean -d 'Write what may be handed on of each message'
@@ -16,8 +17,17 @@ complete -c bgp -n '__fish_seen_subcommand_from show' -l ip4 -d 'IPv4 routes may
 complete -c bgp -n '__fish_seen_subcommand_from show' -l ip6 -d 'IPv6 routes may stand in multiprotocol attributes'
 complete -c bgp -n '__fish_seen_subcommand_from show' -l internal -d 'Both speakers are of one AS'
 complete -c bgp -n '__fish_seen_subcommand_from show' -l opens -r -F -d 'Agree by both OPENs: FILE has the other direction'\''s octets'
+complete -c bgp -n '__fish_seen_subcommand_from show' -l only-faults -d 'Print messages with a fault or a note, and NOTIFICATIONs'
 complete -c bgp -n '__fish_seen_subcommand_from show' -l json -d 'Print each message as an object of JSON'
 complete -c bgp -n '__fish_seen_subcommand_from show' -s h -l help -d 'Print help'
+complete -c bgp -n '__fish_seen_subcommand_from explain' -l hex -d 'Read hexadecimal text instead of octets'
+complete -c bgp -n '__fish_seen_subcommand_from explain' -l as4 -d 'Both speakers use AS numbers of four octets'
+complete -c bgp -n '__fish_seen_subcommand_from explain' -l ip4 -d 'IPv4 routes may stand in multiprotocol attributes'
+complete -c bgp -n '__fish_seen_subcommand_from explain' -l ip6 -d 'IPv6 routes may stand in multiprotocol attributes'
+complete -c bgp -n '__fish_seen_subcommand_from explain' -l internal -d 'Both speakers are of one AS'
+complete -c bgp -n '__fish_seen_subcommand_from explain' -l opens -r -F -d 'Agree by both OPENs: FILE has the other direction'\''s octets'
+complete -c bgp -n '__fish_seen_subcommand_from explain' -l only-faults -d 'Print messages with a fault or a note, and NOTIFICATIONs'
+complete -c bgp -n '__fish_seen_subcommand_from explain' -s h -l help -d 'Print help'
 complete -c bgp -n '__fish_seen_subcommand_from check' -l hex -d 'Read hexadecimal text instead of octets'
 complete -c bgp -n '__fish_seen_subcommand_from check' -l as4 -d 'Both speakers use AS numbers of four octets'
 complete -c bgp -n '__fish_seen_subcommand_from check' -l ip4 -d 'IPv4 routes may stand in multiprotocol attributes'
@@ -46,4 +56,4 @@ complete -c bgp -n '__fish_seen_subcommand_from loop' -l tcp -d 'Join the speake
 complete -c bgp -n '__fish_seen_subcommand_from loop' -l trace -d 'Print what comes of each move, before the report'
 complete -c bgp -n '__fish_seen_subcommand_from loop' -s h -l help -d 'Print help'
 complete -c bgp -n '__fish_seen_subcommand_from loop' -F
-complete -c bgp -n '__fish_seen_subcommand_from help' -a 'show check narrow clean to-hex from-hex loop'
+complete -c bgp -n '__fish_seen_subcommand_from help' -a 'show explain check narrow clean to-hex from-hex loop'

@@ -8,6 +8,7 @@ ghost use Rattle.bgp_frame.specs.Step.{message_in};
 ghost use Rattle.bgp_msg.specs.Outcome.{of_fault, out_of};
 ghost use Rattle.bgp_msg.specs.OutcomeView.{outcome_value};
 ghost use Rattle.bgp_engine.specs.steps.PageSteps.{WritesHeard};
+ghost use Rattle.bgp_fields.specs.Places.{reset_place};
 ghost use Rattle.bgp_text.specs.Explained.{explained_lines};
 ghost use Rattle.bgp_engine.specs.Explain.{heard_lines};
 
@@ -61,6 +62,18 @@ fn put_octets(frame: Frame<'_>, octets: &mut Vec<u8>) -> Result<(), AllocError>
     octets.extend_from_slice(frame.body)
 }
 
+/// The octets for which a message of this outcome is answered by a reset, where it is: they are looked for there alone.
+fn span_of(ctx: &Context, frame: Frame<'_>, outcome: &OutcomeView<'_>) -> Option<Span>
+    requires length { IsLength frame.kind (19 + length frame.body.now) }
+    requires outcome { outcome_value outcome.now ≡ out_of ctx.now (message_in frame) }
+    ensures { result ≡ reset_place ctx.now (message_in frame.entry) }
+{
+    match outcome {
+        OutcomeView::Reset(_) => message_span(ctx, frame),
+        _ => None,
+    }
+}
+
 impl<C: Choice> ExplainPage<C> {
     /// Adds the lines of a message of the octets that are held, or of a header's fault, where it is printed.
     fn put(
@@ -97,9 +110,9 @@ impl<C: Choice> ExplainPage<C> {
     {
         put_octets(frame, &mut self.octets)?;
         let ctx = self.ctx;
-        let span = message_span(&ctx, frame);
         let mut view = UpdateView::empty();
         let outcome = view_frame(&ctx, frame, &mut view);
+        let span = span_of(&ctx, frame, &outcome);
         self.put(place, span, &outcome)?;
         Ok(class_of(&outcome))
     }

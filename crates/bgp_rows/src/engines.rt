@@ -5,7 +5,7 @@ use crate::row::Row;
 use crate::sheet::{Drip, Sheet};
 use crate::trouble::Trouble;
 use bgp_engine::{
-    Tally, ToolFault, check, clean_stream, from_hex, narrow_stream, show, status, to_hex,
+    Style, Tally, ToolFault, check, clean_stream, from_hex, narrow_stream, print, show, status, to_hex,
 };
 use bgp_open::Context;
 use bgp_wire::OctetSet;
@@ -33,6 +33,8 @@ fn run_engine(
     let hex = row.settings == "hex";
     match row.kind {
         "show" => show(alloc, ctx, hex, input, output),
+        "explain" => print(alloc, Style::Explained, false, ctx, hex, input, output),
+        "faults" => print(alloc, Style::Lines, true, ctx, hex, input, output),
         "check" => check(alloc, ctx, hex, input, output),
         "to-hex" => to_hex(alloc, input, output),
         "from-hex" => from_hex(alloc, input, output),
