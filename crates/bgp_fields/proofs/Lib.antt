@@ -22,3 +22,4 @@ pub mod Leftovers
 pub mod Askings
 pub mod Extents
 pub mod Fronts
+pub mod Placed
