@@ -23,3 +23,4 @@ pub mod Askings
 pub mod Extents
 pub mod Fronts
 pub mod Placed
+pub mod PlacedNotes

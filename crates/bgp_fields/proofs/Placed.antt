@@ -162,14 +162,14 @@ extent-by b (Some (t, rest)) is some =
     let gave = IsTlv-reads.gives b t rest is in
     omega (arith, ap length (gave.2).whole, IsTlv-reads.not_empty t gave.0 gave.2)
 
-attribute-placed : (p : Parts) (N at : ℕ) → 23 + (length p.withdrawn + length p.attributes) ≤ N → at < length p.attributes → HasPlace N (Some (attribute_place p at))
+pub attribute-placed : (p : Parts) (N at : ℕ) → 23 + (length p.withdrawn + length p.attributes) ≤ N → at < length p.attributes → HasPlace N (Some (attribute_place p at))
 attribute-placed p N at le inside =
     let d = drop at p.attributes in
     let long : length d ≡ length p.attributes - at = length-drop at p.attributes in
     (extent-by d (one_tlv d) refl (omega (arith, long, inside)), omega (arith, le, inside, long, extent-short d))
 
 -- each mark is of an attribute in the field
-abbrev AllIn : ℕ → List Mark → Type 0
+abbrev pub AllIn : ℕ → List Mark → Type 0
 AllIn n ms = AllByRecursion (λ m. m.at < n) ms
 
 cut-in : (n at : ℕ) (rest : List ℕ) → at + length rest ≤ n → AllIn n (cut_mark at rest)
@@ -189,7 +189,7 @@ module _ (ctx : Context) (nlri : Bool) where
       let whole : length t.whole ≡ length spelled.0 = ap length (spelled.3).whole in
       (omega (arith, le, long, some), row-in n (place + length t.whole) (also t.kind seen) ts spelled.1 spelled.4 (omega (arith, le, long, whole)))
 
-  field-in : (b : List ℕ) → AllIn (length b) (field_marks ctx nlri b)
+  pub field-in : (b : List ℕ) → AllIn (length b) (field_marks ctx nlri b)
   unfolding field_marks
   field-in b =
       let s = Splits-pieces TlvValue IsTlv one_tlv IsTlv-reads b in

@@ -15,7 +15,7 @@ ghost use Rattle.bgp_msg.specs.declared.outcome.Outcome.TheVariants.{Reset, Took
 ghost use Rattle.bgp_msg.specs.Outcome.{out_of};
 ghost use Rattle.bgp_fields.specs.Fields.{fields_of};
 ghost use Rattle.bgp_fields.specs.Laws.{AllRead, AreTheOctets};
-ghost use Rattle.bgp_fields.specs.Places.{HasPlace, reset_place};
+ghost use Rattle.bgp_fields.specs.Places.{ArePlaced, HasPlace, reset_place};
 ghost use Rattle.bgp_fields.specs.Shown.{ShowsRoutes, ShowsWithdrawal};
 
 /// The fields of a message are its octets, whatever they are: each field begins where the one before it ends and has an octet at least, none is given
@@ -48,4 +48,16 @@ pub fn the_prefix_fields_are_what_is_withdrawn()
 pub fn each_reset_has_a_place()
     ensures { (ctx : Context) (m : frame.Message) (octets : List ℕ) (n : Notification)
         → AreOctets octets → IsFrame m octets → out_of ctx m ≡ Reset n → HasPlace (length octets) (reset_place ctx m) }
+{}
+
+/// Each note on an UPDATE that is accepted has a place: octets of the message, one at least. One that says that an attribute is missing has none.
+pub fn each_note_has_a_place()
+    ensures { (ctx : Context) (m : frame.Message) (octets : List ℕ) (u : Update) (notes : List Note)
+        → AreOctets octets → IsFrame m octets → out_of ctx m ≡ Took (message.Update u) notes → ArePlaced (length octets) m.body notes }
+{}
+
+/// So has each note on an UPDATE that is treated as a withdrawal.
+pub fn each_note_on_a_withdrawal_has_a_place()
+    ensures { (ctx : Context) (m : frame.Message) (octets : List ℕ) (routes : Routes) (notes : List Note)
+        → AreOctets octets → IsFrame m octets → out_of ctx m ≡ Withdraw routes notes → ArePlaced (length octets) m.body notes }
 {}
