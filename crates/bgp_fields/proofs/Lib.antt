@@ -24,3 +24,4 @@ pub mod Extents
 pub mod Fronts
 pub mod Placed
 pub mod PlacedNotes
+pub mod PlacedHeaders
