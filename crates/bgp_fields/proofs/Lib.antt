@@ -22,3 +22,6 @@ pub mod Leftovers
 pub mod Askings
 pub mod Extents
 pub mod Fronts
+pub mod Placed
+pub mod PlacedNotes
+pub mod PlacedHeaders

@@ -72,7 +72,7 @@ module _ (ctx : Context) where
   update-by body u notes octets (verdict.Withdraw routes ns) is e = absurd cc
   update-by body u notes octets (verdict.Reset n) is e = absurd cc
 
-  open-not : (u : Update) (notes : List Note) (r : Result Open OpenFault) → of_reading r ≡ took (message.Update u) notes → ⊥
+  pub open-not : (u : Update) (notes : List Note) (r : Result Open OpenFault) → of_reading r ≡ took (message.Update u) notes → ⊥
   open-not u notes (Ok o) e = absurd cc
   open-not u notes (Err Version) e = absurd cc
   open-not u notes (Err Parameter) e = absurd cc
@@ -106,7 +106,7 @@ module _ (ctx : Context) where
   gone-by body routes notes octets (verdict.Take u ns) is e = absurd cc
   gone-by body routes notes octets (verdict.Reset n) is e = absurd cc
 
-  open-gone : (routes : Routes) (notes : List Note) (r : Result Open OpenFault) → of_reading r ≡ withdraw routes notes → ⊥
+  pub open-gone : (routes : Routes) (notes : List Note) (r : Result Open OpenFault) → of_reading r ≡ withdraw routes notes → ⊥
   open-gone routes notes (Ok o) e = absurd cc
   open-gone routes notes (Err Version) e = absurd cc
   open-gone routes notes (Err Parameter) e = absurd cc

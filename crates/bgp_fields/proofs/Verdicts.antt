@@ -28,8 +28,8 @@ withdraw routes notes = verdict.Withdraw routes notes
 take-same : (u v : Update) (ns ms : List Note) → take u ns ≡ take v ms → (u ≡ v) × (ns ≡ ms)
 take-same u v ns ms e = (cc, cc)
 
-withdraw-same : (r s : Routes) (ns ms : List Note) → withdraw r ns ≡ withdraw s ms → r ≡ s
-withdraw-same r s ns ms e = cc
+withdraw-same : (r s : Routes) (ns ms : List Note) → withdraw r ns ≡ withdraw s ms → (r ≡ s) × (ns ≡ ms)
+withdraw-same r s ns ms e = (cc, cc)
 
 pub record IsTaken (ctx : Context) (body : List ℕ) (u : Update) (notes : List Note) : Type 0 where
   pub parts : Parts
@@ -38,11 +38,12 @@ pub record IsTaken (ctx : Context) (body : List ℕ) (u : Update) (notes : List 
   pub update : update_of parts (marks_of ctx parts) ≡ u
   pub notes_are : notes_of parts (marks_of ctx parts) ≡ notes
 
-pub record IsWithdrawn (ctx : Context) (body : List ℕ) (routes : Routes) : Type 0 where
+pub record IsWithdrawn (ctx : Context) (body : List ℕ) (routes : Routes) (notes : List Note) : Type 0 where
   pub parts : Parts
   pub found : parts_of body ≡ Some parts
   pub no_reset : reset_of parts (marks_of ctx parts) ≡ None
   pub routes_are : routes_of parts (marks_of ctx parts) ≡ routes
+  pub notes_are : notes_of parts (marks_of ctx parts) ≡ notes
 
 module _ (ctx : Context) (body : List ℕ) where
   -- the verdict on these parts, by its three tests
@@ -70,18 +71,19 @@ module _ (ctx : Context) (body : List ℕ) where
   taken-of u notes e = taken-by u notes (parts_of body) refl e
 
   withdrawn-on : (routes : Routes) (notes : List Note) (p : Parts) → parts_of body ≡ Some p → (o : Option Notification) (withdrawn reachable : Bool)
-      → reset_of p (marks_of ctx p) ≡ o → decided p o withdrawn reachable ≡ withdraw routes notes → IsWithdrawn ctx body routes
+      → reset_of p (marks_of ctx p) ≡ o → decided p o withdrawn reachable ≡ withdraw routes notes → IsWithdrawn ctx body routes notes
   withdrawn-on routes notes p found (Some n) withdrawn reachable r e = absurd cc
-  withdrawn-on routes notes p found None true true r e = record { parts = p; found = found; no_reset = r; routes_are = withdraw-same _ routes _ notes e }
+  withdrawn-on routes notes p found None true true r e = let same = withdraw-same _ routes _ notes e in
+      record { parts = p; found = found; no_reset = r; routes_are = same.0; notes_are = same.1 }
   withdrawn-on routes notes p found None true false r e = absurd cc
   withdrawn-on routes notes p found None false reachable r e = absurd cc
 
-  withdrawn-by : (routes : Routes) (notes : List Note) (o : Option Parts) → parts_of body ≡ o → of_parts ctx o ≡ withdraw routes notes → IsWithdrawn ctx body routes
+  withdrawn-by : (routes : Routes) (notes : List Note) (o : Option Parts) → parts_of body ≡ o → of_parts ctx o ≡ withdraw routes notes → IsWithdrawn ctx body routes notes
   withdrawn-by routes notes None found e = absurd cc
   withdrawn-by routes notes (Some p) found e =
       withdrawn-on routes notes p found (reset_of p (marks_of ctx p)) (is_withdrawn p (marks_of ctx p)) (is_reachable p (marks_of ctx p)) refl e
 
-  pub withdrawn-of : (routes : Routes) (notes : List Note) → verdict_of ctx body ≡ verdict.Withdraw routes notes → IsWithdrawn ctx body routes
+  pub withdrawn-of : (routes : Routes) (notes : List Note) → verdict_of ctx body ≡ verdict.Withdraw routes notes → IsWithdrawn ctx body routes notes
   withdrawn-of routes notes e = withdrawn-by routes notes (parts_of body) refl e
 
 -- ---- marks without reset and note

@@ -1,5 +1,6 @@
 -- The place of each fault: of a note its attribute, of a reset the octets for which it is answered (RFC 4271, section 6).
-use Rattle.std.specs.Prelude.{ℕ, ◌+◌, ◌-◌, min, Bool, true, false, not, ◌&&◌, ◌==◌, nat_le, nat_lt, List, [], ◌∷◌, length, take, drop, Option, None, Some, option_map, if◌then◌else◌}
+use Rattle.std.specs.Prelude.{◌≡◌, ℕ, ◌<◌, ◌≤◌, ◌+◌, ◌-◌, min, Bool, true, false, not, ◌&&◌, ◌==◌, nat_le, nat_lt, List, [], ◌∷◌, length, take, drop, Option, None, Some, option_map, if◌then◌else◌}
+use Rattle.std.specs.List.{AllByRecursion}
 use Rattle.std.specs.Option.{option_or}
 use Rattle.bgp_wire.specs.Then.{when}
 use Rattle.bgp_wire.specs.Reader.{pieces}
@@ -161,3 +162,12 @@ body_place ctx _ body = None
 -- the octets for which a whole message is answered by a reset, where it is
 abbrev pub reset_place : Context → frame.Message → Option Span
 reset_place ctx m = if is_reset (out_of ctx m) then body_place ctx m.kind m.body else None
+
+-- there is one: an octet at least, within so many octets
+abbrev pub HasPlace : ℕ → Option Span → Type 0
+HasPlace n None = ⊥
+HasPlace n (Some s) = (0 < s.len) × (s.at + s.len ≤ n)
+
+-- each note on a body has one, unless it says that an attribute is missing
+abbrev pub ArePlaced : ℕ → List ℕ → List Note → Type 0
+ArePlaced n body notes = AllByRecursion (λ note. says_missing note.why ≡ false → HasPlace n (note_place body note)) notes

@@ -1,19 +1,23 @@
 //! Laws of the fields of a message. Each is the contract of a function that does nothing.
 
-ghost use Rattle.std.specs.Prelude.{◌≡◌, ℕ, List, []};
+ghost use Rattle.std.specs.Prelude.{◌≡◌, ◌≤◌, ℕ, List, [], Err, Some, length};
 ghost use Rattle.bgp_wire.specs.Octets.{AreOctets};
 ghost use Rattle.bgp_frame.specs.Frame as frame;
 ghost use Rattle.bgp_frame.specs.Frame.{IsFrame};
+ghost use Rattle.bgp_frame.specs.declared.fault.HeadFault.{HeadFault};
+ghost use Rattle.bgp_frame.specs.Head.{head_of};
+ghost use Rattle.bgp_frame.specs.declared.notification.Notification.{Notification};
 ghost use Rattle.bgp_open.specs.declared.context.Context.{Context};
 ghost use Rattle.bgp_update.specs.declared.note.Note.{Note};
 ghost use Rattle.bgp_update.specs.declared.routes.Routes.{Routes};
 ghost use Rattle.bgp_update.specs.declared.update.Update.{Update};
 ghost use Rattle.bgp_msg.specs.declared.message.Message.{Message};
 ghost use Rattle.bgp_msg.specs.declared.message.Message.TheVariants as message;
-ghost use Rattle.bgp_msg.specs.declared.outcome.Outcome.TheVariants.{Took, Withdraw};
+ghost use Rattle.bgp_msg.specs.declared.outcome.Outcome.TheVariants.{Reset, Took, Withdraw};
 ghost use Rattle.bgp_msg.specs.Outcome.{out_of};
 ghost use Rattle.bgp_fields.specs.Fields.{fields_of};
 ghost use Rattle.bgp_fields.specs.Laws.{AllRead, AreTheOctets};
+ghost use Rattle.bgp_fields.specs.Places.{ArePlaced, HasPlace, header_place, reset_place};
 ghost use Rattle.bgp_fields.specs.Shown.{ShowsRoutes, ShowsWithdrawal};
 
 /// The fields of a message are its octets, whatever they are: each field begins where the one before it ends and has an octet at least, none is given
@@ -40,4 +44,27 @@ pub fn the_prefix_fields_are_the_routes()
 pub fn the_prefix_fields_are_what_is_withdrawn()
     ensures { (ctx : Context) (m : frame.Message) (octets : List ℕ) (routes : Routes) (notes : List Note)
         → AreOctets octets → IsFrame m octets → out_of ctx m ≡ Withdraw routes notes → ShowsWithdrawal octets (fields_of ctx octets) routes }
+{}
+
+/// Each reset has a place: octets of the message, one at least, for which it is answered so.
+pub fn each_reset_has_a_place()
+    ensures { (ctx : Context) (m : frame.Message) (octets : List ℕ) (n : Notification)
+        → AreOctets octets → IsFrame m octets → out_of ctx m ≡ Reset n → HasPlace (length octets) (reset_place ctx m) }
+{}
+
+/// Each note on an UPDATE that is accepted has a place: octets of the message, one at least. One that says that an attribute is missing has none.
+pub fn each_note_has_a_place()
+    ensures { (ctx : Context) (m : frame.Message) (octets : List ℕ) (u : Update) (notes : List Note)
+        → AreOctets octets → IsFrame m octets → out_of ctx m ≡ Took (message.Update u) notes → ArePlaced (length octets) m.body notes }
+{}
+
+/// So has each note on an UPDATE that is treated as a withdrawal.
+pub fn each_note_on_a_withdrawal_has_a_place()
+    ensures { (ctx : Context) (m : frame.Message) (octets : List ℕ) (routes : Routes) (notes : List Note)
+        → AreOctets octets → IsFrame m octets → out_of ctx m ≡ Withdraw routes notes → ArePlaced (length octets) m.body notes }
+{}
+
+/// Each fault of a header has a place within its 19 octets.
+pub fn each_header_fault_has_a_place()
+    ensures { (octets : List ℕ) (f : HeadFault) → 19 ≤ length octets → head_of octets ≡ Err f → HasPlace 19 (Some (header_place octets f)) }
 {}
