@@ -20,7 +20,7 @@ use bgp_attr::OpaqueView;
 use bgp_frame::{Frame, Kind};
 use bgp_open::Context;
 use bgp_update::{SlotIter, UpdateView, is_bare_unreach, is_end_of_rib};
-use bgp_wire::{List, OctetSet};
+use bgp_wire::{List, OctetSet, Output};
 use std::alloc::{AllocError, Global};
 
 /// Those that aren't left out by type.
@@ -65,19 +65,19 @@ fn ends_rib(ctx: &Context, frame: Frame<'_>) -> bool
 
 /// Appends what is handed on of an UPDATE that is accepted, with these in place of its attributes of types that aren't recognised: what says nothing
 /// becomes a KEEPALIVE, unless it is an End-of-RIB.
-fn put_update(
+fn put_update<O: Output>(
     ctx: &Context,
     view: &UpdateView<'_>,
     others: &[OpaqueView<'_>],
     frame: Frame<'_>,
-    out: &mut Vec<u8>,
+    out: &mut O,
 ) -> Result<(), AllocError>
     requires body { length frame.body.now ≤ 4077 }
     requires writable { AllByRecursion (λ a. is_writable ctx.now a ≡ true) (attr_list (update_with view.now others.now).attrs) }
     requires short { length (written_body ctx.now (update_with view.now others.now)) ≤ 4077 }
-    ensures ok { OnOk result (out.new.items ≡ out.old.items
+    ensures ok { OnOk result (O.written out.new ≡ O.written out.old
         ++ canonical ctx.now (handed_update (is_some (ended_family ctx.now (message_in frame.entry))) (update_with view.now others.now))) }
-    ensures err { OnErr result (out.new.items ≡ out.old.items) }
+    ensures err { OnErr result (O.written out.new ≡ O.written out.old) }
 {
     if says_nothing(view, others) && !ends_rib(ctx, frame) {
         put_whole(ctx, &Body::Same(Kind::Keepalive, &[]), out)
@@ -90,20 +90,20 @@ fn put_update(
 ///
 /// # Errors
 /// `AllocError` where an allocation failed; nothing is appended then.
-pub(crate) fn clean_update(
+pub(crate) fn clean_update<O: Output>(
     alloc: Global,
     ctx: &Context,
     drops: &OctetSet,
     view: &UpdateView<'_>,
     frame: Frame<'_>,
-    out: &mut Vec<u8>,
+    out: &mut O,
 ) -> Result<Cleaned, AllocError>
     requires body { length frame.body.now ≤ 4077 }
     requires valid { invalid_of ctx.now (update_value view.now) ≡ None }
     requires short { length (written_body ctx.now (update_value view.now)) ≤ 4077 }
     ensures value { IfOk result (λ c. IsCleaned ctx.now
-        (Ok (handed_update (is_some (ended_family ctx.now (message_in frame.entry))) (cleaned_update (has_octet drops.now) (update_value view.now)))) out.old.items out.new.items c) }
-    ensures err { OnErr result (out.new.items ≡ out.old.items) }
+        (Ok (handed_update (is_some (ended_family ctx.now (message_in frame.entry))) (cleaned_update (has_octet drops.now) (update_value view.now)))) (O.written out.old) (O.written out.new) c) }
+    ensures err { OnErr result (O.written out.new ≡ O.written out.old) }
 {
     let others = going_on(view.others(alloc)?, drops);
     put_update(ctx, view, others.as_slice(), frame, out)?;

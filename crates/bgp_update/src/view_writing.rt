@@ -1,8 +1,8 @@
 //! Writing an UPDATE from its view, with attributes of types that aren't recognised that a caller chooses.
 
-ghost use Rattle.std.specs.Prelude.{◌≡◌, ◌≤◌, ◌++◌, true, length, IfOk, OnOk, OnErr};
+ghost use Rattle.std.specs.Prelude.{◌≡◌, ◌<◌, ◌+◌, ◌≤◌, ◌++◌, true, length, IfOk, OnOk, OnErr};
 ghost use Rattle.std.specs.List.{flat_map, AllByRecursion};
-ghost use Rattle.bgp_attr.specs.steps.Appends.{Extends};
+ghost use Rattle.bgp_wire.specs.Output.{Extends};
 ghost use Rattle.bgp_attr.specs.Written.{canonical, is_writable};
 ghost use Rattle.bgp_update.specs.Iters.{slots_left};
 ghost use Rattle.bgp_update.specs.Slots.{attr_list};
@@ -15,13 +15,19 @@ use crate::slot_iter::SlotIter;
 use crate::view::UpdateView;
 use bgp_attr::{OpaqueView, write_attr_view};
 use bgp_open::Context;
+use bgp_wire::Output;
 use std::alloc::AllocError;
 
-/// Adds attributes; some octets may stay where an allocation failed.
-fn put_attrs(ctx: &Context, attrs: SlotIter<'_, '_>, out: &mut Vec<u8>) -> Result<(), AllocError>
+/// Adds attributes; some octets may stay where there was no room.
+fn put_attrs<O: Output>(
+    ctx: &Context,
+    attrs: SlotIter<'_, '_>,
+    out: &mut O,
+) -> Result<(), AllocError>
     requires { AllByRecursion (λ a. is_writable ctx.now a ≡ true) (slots_left attrs) }
-    ensures ok { OnOk result (out.new.items ≡ out.old.items ++ flat_map (canonical ctx.now) (slots_left attrs.entry)) }
-    ensures err { OnErr result (Extends out.old.items out.new.items) }
+    ensures ok { OnOk result (O.written out.new ≡ O.written out.old ++ flat_map (canonical ctx.now) (slots_left attrs.entry)) }
+    ensures err { OnErr result (Extends (O.written out.old) (O.written out.new)) }
+    ensures full { OnErr result (O.room < length (O.written out.old) + length (flat_map (canonical ctx.now) (slots_left attrs.entry))) }
 {
     let mut left = attrs;
     'attrs: while let Some(attr) = left.next() {
@@ -30,16 +36,17 @@ fn put_attrs(ctx: &Context, attrs: SlotIter<'_, '_>, out: &mut Vec<u8>) -> Resul
     Ok(())
 }
 
-/// Adds the parts of a body, and room for the lengths of the first two; some octets may stay where an allocation failed.
-fn put_parts(
+/// Adds the parts of a body, and room for the lengths of the first two; some octets may stay where there was no room.
+fn put_parts<O: Output>(
     ctx: &Context,
     view: &UpdateView<'_>,
     others: &[OpaqueView<'_>],
-    out: &mut Vec<u8>,
+    out: &mut O,
 ) -> Result<Places, AllocError>
     requires { AllByRecursion (λ a. is_writable ctx.now a ≡ true) (attr_list (update_with view.now others.now).attrs) }
-    ensures ok { IfOk result (λ p. LaysOutBody ctx.now (update_with view.now others.now) (length out.old.items) out.old.items out.new.items p) }
-    ensures err { OnErr result (Extends out.old.items out.new.items) }
+    ensures ok { IfOk result (λ p. LaysOutBody ctx.now (update_with view.now others.now) (length (O.written out.old)) (O.written out.old) (O.written out.new) p) }
+    ensures err { OnErr result (Extends (O.written out.old) (O.written out.new)) }
+    ensures full { OnErr result (O.room < length (O.written out.old) + length (written_body ctx.now (update_with view.now others.now))) }
 {
     put_room(out)?;
     view.withdrawn().write(out)?;
@@ -57,17 +64,18 @@ impl UpdateView<'_> {
     /// accepted in the context, and for no more of these than it has.
     ///
     /// # Errors
-    /// `AllocError` where an allocation failed; nothing is appended then.
-    pub fn write_with(
+    /// `AllocError` where there was no room; nothing is appended then.
+    pub fn write_with<O: Output>(
         &self,
         ctx: &Context,
         others: &[OpaqueView<'_>],
-        out: &mut Vec<u8>,
+        out: &mut O,
     ) -> Result<(), AllocError>
         requires writable { AllByRecursion (λ a. is_writable ctx.now a ≡ true) (attr_list (update_with self.now others.now).attrs) }
         requires short { length (written_body ctx.now (update_with self.now others.now)) ≤ 4077 }
-        ensures ok { OnOk result (out.new.items ≡ out.old.items ++ written_body ctx.now (update_with self.now others.now)) }
-        ensures err { OnErr result (out.new.items ≡ out.old.items) }
+        ensures ok { OnOk result (O.written out.new ≡ O.written out.old ++ written_body ctx.now (update_with self.now others.now)) }
+        ensures err { OnErr result (O.written out.new ≡ O.written out.old) }
+        ensures full { OnErr result (O.room < length (O.written out.old) + length (written_body ctx.now (update_with self.now others.now))) }
     {
         let start = out.len();
         match put_parts(ctx, self, others, out) {

@@ -14,7 +14,7 @@ use Rattle.bgp_clean.proofs.Fewer.{with_filtered, cleaned_writable, cleaned_shor
 use Rattle.bgp_clean.proofs.updates.clean_update.Goals as goal
 
 pub put_update-requires-clause-writable : goal.put_update-requires-clause-writable
-put_update-requires-clause-writable c =
+put_update-requires-clause-writable g c =
     let ctx = c.args.ctx.now in
     let drops = has_octet c.args.drops.now in
     let same = with_filtered drops c.args.view.now c.in_ok-others.field-0 c.going_on-others.result c.as_slice.result.now c.in_ok-others.ensures.value c.going_on-others.ensures c.as_slice.ensures in
@@ -22,14 +22,14 @@ put_update-requires-clause-writable c =
     (cleaned_writable ctx drops (update_value c.args.view.now) c.requires.valid c.requires.short)
 
 pub put_update-requires-clause-short : goal.put_update-requires-clause-short
-put_update-requires-clause-short c =
+put_update-requires-clause-short g c =
     let ctx = c.args.ctx.now in
     let drops = has_octet c.args.drops.now in
     let same = with_filtered drops c.args.view.now c.in_ok-others.field-0 c.going_on-others.result c.as_slice.result.now c.in_ok-others.ensures.value c.going_on-others.ensures c.as_slice.ensures in
     subst (λ (u : Update). length (written_body ctx u) ≤ 4077) (sym same) (cleaned_short ctx drops (update_value c.args.view.now) c.requires.valid c.requires.short)
 
 pub returns-clause-value : goal.returns-clause-value
-returns-clause-value c =
+returns-clause-value g c =
     let same = with_filtered (has_octet c.args.drops.now) c.args.view.now c.in_ok-others.field-0 c.going_on-others.result c.as_slice.result.now c.in_ok-others.ensures.value c.going_on-others.ensures c.as_slice.ensures in
     c.in_ok-put_update.ensures.ok
-    ∙ ap (λ (u : Update). c.args.out.now.items ++ canonical c.args.ctx.now (handed_update (is_some (ended_family c.args.ctx.now (message_in c.args.frame))) u)) same
+    ∙ ap (λ (u : Update). (g.O.Output.written c.args.out.now) ++ canonical c.args.ctx.now (handed_update (is_some (ended_family c.args.ctx.now (message_in c.args.frame))) u)) same
