@@ -1,10 +1,10 @@
 -- Values that are written as they come out of an iterator.
-use Rattle.std.proofs.Common.{◌≡◌, ℕ, List, [], ◌∷◌, ◌++◌, refl, sym, ap, ◌∙◌, append_assoc}
+use Rattle.std.proofs.Common.{◌≡◌, ℕ, ◌+◌, ◌<◌, List, [], ◌∷◌, ◌++◌, length, refl, sym, ap, ◌∙◌, append_assoc}
 use Rattle.std.specs.List.{flat_map}
 use Rattle.std.proofs.lemmas.List.{append-nil}
 use Rattle.std.proofs.lemmas.List.Concat.{flat_map-cons}
-use Rattle.bgp_attr.specs.steps.Appends.{Extends}
-use Rattle.bgp_attr.proofs.Writes.{extends_more}
+use Rattle.bgp_wire.specs.Output.{Extends}
+use Rattle.bgp_wire.proofs.Rooms.{extends_more, lacks}
 
 -- what is there, and those still to come, are what was there and all of them
 pub record IsWriting {X : Type 0} (octets : X → List ℕ) (all left : List X) (before now : List ℕ) : Type 0 where
@@ -28,3 +28,9 @@ module _ {X : Type 0} (octets : X → List ℕ) (all : List X) where
 
     pub refused : (new : List ℕ) → Extends now new → Extends before new
     refused new more = extends_more before now new so_far.begins.0 so_far.begins.1 more
+
+    -- where the next has no room, all have none
+    pub no_room : (room : ℕ) (x : X) (later : List X) → left ≡ x ∷ later → room < length now + length (octets x) → room < length before + length (flat_map octets all)
+    no_room room x later are full =
+        lacks room before (flat_map octets all) now (flat_map octets left) (octets x) (flat_map octets later) so_far.whole
+        (ap (flat_map octets) are ∙ flat_map-cons octets x later) full

@@ -5,7 +5,7 @@ use Rattle.std.proofs.lemmas.List.{append-nil, take_more, take_all, flat_map_mor
 use Rattle.std.proofs.lemmas.List.Folds.{flat_map-map}
 use Rattle.bgp_prefix.specs.declared.as_number.AsNumber.{AsNumber}
 use Rattle.bgp_attr.specs.declared.path.Segment.{Segment}
-use Rattle.bgp_attr.specs.steps.Appends.{Extends}
+use Rattle.bgp_wire.specs.Output.{Extends}
 use Rattle.bgp_attr.specs.Numbers.{number_octets}
 use Rattle.bgp_attr.specs.Written.{segment_code, segment_octets}
 use Rattle.bgp_attr.proofs.NumberRows.{number_of}
@@ -40,10 +40,6 @@ module _ {X : Type 0} (octets : X → List ℕ) (P : X → Type 0) where
     -- a refused growth leaves what was there, and some octets behind it
     pub some_written : (new : List ℕ) → Extends old new → Extends before new
     some_written new more = (flat_map octets (take i xs) ++ more.0, more.1 ∙ ap (λ (b : List ℕ). b ++ more.0) so_far.items ∙ append_assoc before (flat_map octets (take i xs)) more.0)
-
--- more octets behind others
-pub extends_more : (a b c front : List ℕ) → b ≡ a ++ front → Extends b c → Extends a c
-extends_more a b c front e more = (front ++ more.0, more.1 ∙ ap (λ (x : List ℕ). x ++ more.0) e ∙ append_assoc a front more.0)
 
 -- a segment's type and count, and then its numbers
 pub segment_written : (wide : Bool) (s : Segment) (numbers : List AsNumber) (old head new : List ℕ) → numbers ≡ s.numbers → head ≡ old ++ segment_code s.kind ∷ length s.numbers ∷ []

@@ -1,4 +1,3 @@
 -- What only private functions cite: steps of proofs, which nobody has to believe.
 pub mod LengthField
 pub mod SegmentView
-pub mod Appends

@@ -1,9 +1,9 @@
 //! Rows of numbers, segments and triples, written.
 
-ghost use Rattle.std.specs.Prelude.{◌≡◌, ◌≤◌, ℕ, List, ◌++◌, length, map, true, false, OnOk, OnErr};
+ghost use Rattle.std.specs.Prelude.{◌≡◌, ◌<◌, ◌+◌, ◌≤◌, ℕ, List, ◌++◌, length, map, true, false, OnOk, OnErr};
 ghost use Rattle.std.specs.List.{flat_map, list_any, AllByRecursion};
 ghost use Rattle.bgp_wire.specs.Octets.{AreOctets};
-ghost use Rattle.bgp_attr.specs.steps.Appends.{Extends};
+ghost use Rattle.bgp_wire.specs.Output.{Extends};
 ghost use Rattle.bgp_attr.specs.Numbers.{number_octets, row_octets, triple_octets};
 ghost use Rattle.bgp_attr.specs.Written.{segment_code, segment_octets, is_bad_segment, IsFourOctets, IsThreeNumbers, IsAddress, run_octets};
 ghost use Rattle.bgp_prefix.specs.Prefix.{IsValid};
@@ -11,19 +11,21 @@ ghost use Rattle.bgp_prefix.specs.Prefix.{IsValid};
 use crate::path::{SegKind, Segment};
 use bgp_numbers::segment;
 use bgp_prefix::{AsNumber, Prefix, write_run};
+use bgp_wire::Output;
 use std::alloc::AllocError;
 
 /// Adds a number, of four octets where `wide`, else its last two.
-pub(crate) fn put_number(wide: bool, number: u32, out: &mut Vec<u8>) -> Result<(), AllocError>
-    ensures ok { OnOk result (out.new.items ≡ out.old.items ++ number_octets wide number) }
+pub(crate) fn put_number<O: Output>(wide: bool, number: u32, out: &mut O) -> Result<(), AllocError>
+    ensures ok { OnOk result (O.written out.new ≡ O.written out.old ++ number_octets wide number) }
     ensures range { OnOk result (IsFourOctets number) }
-    ensures err { OnErr result (Extends out.old.items out.new.items) }
+    ensures err { OnErr result (Extends (O.written out.old) (O.written out.new)) }
+    ensures full { OnErr result (O.room < length (O.written out.old) + length (number_octets wide number)) }
 {
     let [a, b, c, d] = number.to_be_bytes();
     if wide {
-        out.extend_from_slice(&[a, b, c, d])?;
+        out.put(&[a, b, c, d])?;
     } else {
-        out.extend_from_slice(&[c, d])?;
+        out.put(&[c, d])?;
     }
     Ok(())
 }
@@ -53,12 +55,16 @@ pub(crate) fn put_numbers(numbers: &[u32], out: &mut Vec<u8>) -> Result<(), Allo
 }
 
 /// Adds a triple.
-pub(crate) fn put_triple(triple: &[u32; 3], out: &mut Vec<u8>) -> Result<(), AllocError>
-    ensures ok { OnOk result (out.new.items ≡ out.old.items ++ triple_octets triple.now) }
+pub(crate) fn put_triple<O: Output>(triple: &[u32; 3], out: &mut O) -> Result<(), AllocError>
+    ensures ok { OnOk result (O.written out.new ≡ O.written out.old ++ triple_octets triple.now) }
     ensures ranges { OnOk result (IsThreeNumbers triple.now) }
-    ensures err { OnErr result (Extends out.old.items out.new.items) }
+    ensures err { OnErr result (Extends (O.written out.old) (O.written out.new)) }
+    ensures full { OnErr result (O.room < length (O.written out.old) + length (triple_octets triple.now)) }
 {
-    put_numbers(triple, out)
+    let [first, second, third] = *triple;
+    put_number(true, first, out)?;
+    put_number(true, second, out)?;
+    put_number(true, third, out)
 }
 
 /// Adds triples.
@@ -113,23 +119,25 @@ pub(crate) fn put_path(
 }
 
 /// Adds octets.
-pub(crate) fn put_octets(octets: &[u8], out: &mut Vec<u8>) -> Result<(), AllocError>
-    ensures ok { OnOk result (out.new.items ≡ out.old.items ++ octets.now) }
+pub(crate) fn put_octets<O: Output>(octets: &[u8], out: &mut O) -> Result<(), AllocError>
+    ensures ok { OnOk result (O.written out.new ≡ O.written out.old ++ octets.now) }
     ensures range { OnOk result (AreOctets octets.now) }
-    ensures err { OnErr result (Extends out.old.items out.new.items) }
+    ensures err { OnErr result (Extends (O.written out.old) (O.written out.new)) }
+    ensures full { OnErr result (O.room < length (O.written out.old) + length octets.now) }
 {
-    out.extend_from_slice(octets)?;
+    out.put(octets)?;
     Ok(())
 }
 
 /// Adds an address.
-pub(crate) fn put_address<const N: usize>(
+pub(crate) fn put_address<const N: usize, O: Output>(
     addr: &[u8; N],
-    out: &mut Vec<u8>,
+    out: &mut O,
 ) -> Result<(), AllocError>
-    ensures ok { OnOk result (out.new.items ≡ out.old.items ++ addr.now) }
+    ensures ok { OnOk result (O.written out.new ≡ O.written out.old ++ addr.now) }
     ensures range { OnOk result (IsAddress N addr.now) }
-    ensures err { OnErr result (Extends out.old.items out.new.items) }
+    ensures err { OnErr result (Extends (O.written out.old) (O.written out.new)) }
+    ensures full { OnErr result (O.room < length (O.written out.old) + length addr.now) }
 {
     put_octets(addr, out)
 }

@@ -1,8 +1,8 @@
 //! Writing the values of attributes from the octets that they lie in, with no list between.
 
-ghost use Rattle.std.specs.Prelude.{◌≡◌, ◌≤◌, ◌+◌, ◌-◌, ◌%◌, ◌++◌, false, true, length, OnOk, OnErr};
+ghost use Rattle.std.specs.Prelude.{◌≡◌, ◌<◌, ◌≤◌, ◌+◌, ◌-◌, ◌%◌, ◌++◌, false, true, length, OnOk, OnErr};
 ghost use Rattle.std.specs.List.{flat_map, list_any};
-ghost use Rattle.bgp_attr.specs.steps.Appends.{Extends};
+ghost use Rattle.bgp_wire.specs.Output.{Extends};
 ghost use Rattle.bgp_attr.specs.MpView.{reach_value, unreach_value};
 ghost use Rattle.bgp_attr.specs.NumberIter.{as_numbers_left, communities_left};
 ghost use Rattle.bgp_attr.specs.LargeIter.{triples_left};
@@ -19,25 +19,28 @@ use crate::put::{put_number, put_octets, put_triple, segment_code};
 use crate::write::{address_octets, put_hops};
 use bgp_numbers::{afi, safi};
 use bgp_prefix::PrefixIter;
+use bgp_wire::Output;
 use std::alloc::AllocError;
 
 /// Adds the numbers of four octets that octets begin with: these octets.
-fn put_fours(octets: &[u8], out: &mut Vec<u8>) -> Result<(), AllocError>
-    ensures ok { OnOk result (out.new.items ≡ out.old.items ++ row_octets true (numbers_of true octets.now)) }
-    ensures err { OnErr result (Extends out.old.items out.new.items) }
+fn put_fours<O: Output>(octets: &[u8], out: &mut O) -> Result<(), AllocError>
+    ensures ok { OnOk result (O.written out.new ≡ O.written out.old ++ row_octets true (numbers_of true octets.now)) }
+    ensures err { OnErr result (Extends (O.written out.old) (O.written out.new)) }
+    ensures full { OnErr result (O.room < length (O.written out.old) + length (row_octets true (numbers_of true octets.now))) }
 {
     let whole = octets.len() - octets.len() % 4;
     put_octets(&octets[..whole], out)
 }
 
 /// Adds AS numbers one by one.
-fn put_each_number(
+fn put_each_number<O: Output>(
     wide: bool,
     numbers: AsNumberIter<'_>,
-    out: &mut Vec<u8>,
+    out: &mut O,
 ) -> Result<(), AllocError>
-    ensures ok { OnOk result (out.new.items ≡ out.old.items ++ flat_map (λ n. number_octets wide n.0) (as_numbers_left numbers.entry)) }
-    ensures err { OnErr result (Extends out.old.items out.new.items) }
+    ensures ok { OnOk result (O.written out.new ≡ O.written out.old ++ flat_map (λ n. number_octets wide n.0) (as_numbers_left numbers.entry)) }
+    ensures err { OnErr result (Extends (O.written out.old) (O.written out.new)) }
+    ensures full { OnErr result (O.room < length (O.written out.old) + length (flat_map (λ n. number_octets wide n.0) (as_numbers_left numbers.entry))) }
 {
     'row: for number in numbers {
         put_number(wide, number.0, out)?;
@@ -46,13 +49,14 @@ fn put_each_number(
 }
 
 /// Adds AS numbers.
-fn put_as_numbers(
+fn put_as_numbers<O: Output>(
     wide: bool,
     numbers: AsNumberIter<'_>,
-    out: &mut Vec<u8>,
+    out: &mut O,
 ) -> Result<(), AllocError>
-    ensures ok { OnOk result (out.new.items ≡ out.old.items ++ flat_map (λ n. number_octets wide n.0) (as_numbers_left numbers.entry)) }
-    ensures err { OnErr result (Extends out.old.items out.new.items) }
+    ensures ok { OnOk result (O.written out.new ≡ O.written out.old ++ flat_map (λ n. number_octets wide n.0) (as_numbers_left numbers.entry)) }
+    ensures err { OnErr result (Extends (O.written out.old) (O.written out.new)) }
+    ensures full { OnErr result (O.room < length (O.written out.old) + length (flat_map (λ n. number_octets wide n.0) (as_numbers_left numbers.entry))) }
 {
     if wide && numbers.wide {
         put_fours(numbers.rest, out)
@@ -62,21 +66,31 @@ fn put_as_numbers(
 }
 
 /// Adds a segment.
-fn put_segment(wide: bool, segment: SegmentView<'_>, out: &mut Vec<u8>) -> Result<(), AllocError>
+fn put_segment<O: Output>(
+    wide: bool,
+    segment: SegmentView<'_>,
+    out: &mut O,
+) -> Result<(), AllocError>
     requires { length (as_numbers_left segment.numbers) ≤ 255 }
-    ensures ok { OnOk result (out.new.items ≡ out.old.items ++ segment_octets wide (segment_value segment.entry)) }
-    ensures err { OnErr result (Extends out.old.items out.new.items) }
+    ensures ok { OnOk result (O.written out.new ≡ O.written out.old ++ segment_octets wide (segment_value segment.entry)) }
+    ensures err { OnErr result (Extends (O.written out.old) (O.written out.new)) }
+    ensures full { OnErr result (O.room < length (O.written out.old) + length (segment_octets wide (segment_value segment.entry))) }
 {
     let count = segment.numbers.left() as u8;
-    out.extend_from_slice(&[segment_code(segment.kind), count])?;
+    out.put(&[segment_code(segment.kind), count])?;
     put_as_numbers(wide, segment.numbers, out)
 }
 
 /// Adds the segments of a path.
-pub(crate) fn put_path(wide: bool, path: PathView<'_>, out: &mut Vec<u8>) -> Result<(), AllocError>
+pub(crate) fn put_path<O: Output>(
+    wide: bool,
+    path: PathView<'_>,
+    out: &mut O,
+) -> Result<(), AllocError>
     requires { list_any is_bad_segment (path_value path).segments ≡ false }
-    ensures ok { OnOk result (out.new.items ≡ out.old.items ++ path_octets wide (path_value path.entry)) }
-    ensures err { OnErr result (Extends out.old.items out.new.items) }
+    ensures ok { OnOk result (O.written out.new ≡ O.written out.old ++ path_octets wide (path_value path.entry)) }
+    ensures err { OnErr result (Extends (O.written out.old) (O.written out.new)) }
+    ensures full { OnErr result (O.room < length (O.written out.old) + length (path_octets wide (path_value path.entry))) }
 {
     'path: for segment in path.segments() {
         put_segment(wide, segment, out)?;
@@ -85,17 +99,22 @@ pub(crate) fn put_path(wide: bool, path: PathView<'_>, out: &mut Vec<u8>) -> Res
 }
 
 /// Adds communities.
-pub(crate) fn put_communities(values: CommIter<'_>, out: &mut Vec<u8>) -> Result<(), AllocError>
-    ensures ok { OnOk result (out.new.items ≡ out.old.items ++ row_octets true (communities_left values.entry)) }
-    ensures err { OnErr result (Extends out.old.items out.new.items) }
+pub(crate) fn put_communities<O: Output>(
+    values: CommIter<'_>,
+    out: &mut O,
+) -> Result<(), AllocError>
+    ensures ok { OnOk result (O.written out.new ≡ O.written out.old ++ row_octets true (communities_left values.entry)) }
+    ensures err { OnErr result (Extends (O.written out.old) (O.written out.new)) }
+    ensures full { OnErr result (O.room < length (O.written out.old) + length (row_octets true (communities_left values.entry))) }
 {
     put_fours(values.rest, out)
 }
 
 /// Adds large communities.
-pub(crate) fn put_large(values: LargeCommIter<'_>, out: &mut Vec<u8>) -> Result<(), AllocError>
-    ensures ok { OnOk result (out.new.items ≡ out.old.items ++ flat_map triple_octets (triples_left values.entry)) }
-    ensures err { OnErr result (Extends out.old.items out.new.items) }
+pub(crate) fn put_large<O: Output>(values: LargeCommIter<'_>, out: &mut O) -> Result<(), AllocError>
+    ensures ok { OnOk result (O.written out.new ≡ O.written out.old ++ flat_map triple_octets (triples_left values.entry)) }
+    ensures err { OnErr result (Extends (O.written out.old) (O.written out.new)) }
+    ensures full { OnErr result (O.room < length (O.written out.old) + length (flat_map triple_octets (triples_left values.entry))) }
 {
     'row: for triple in values {
         put_triple(&triple, out)?;
@@ -104,16 +123,17 @@ pub(crate) fn put_large(values: LargeCommIter<'_>, out: &mut Vec<u8>) -> Result<
 }
 
 /// Adds a family, a next hop of one or two addresses, and prefixes.
-fn put_reach_row<const W: usize>(
+fn put_reach_row<const W: usize, O: Output>(
     family: u16,
     hop: &[u8],
     link: &[u8],
     routes: PrefixIter<'_, W>,
-    out: &mut Vec<u8>,
+    out: &mut O,
 ) -> Result<(), AllocError>
     requires { length hop.now + length link.now ≤ 255 }
-    ensures ok { OnOk result (out.new.items ≡ out.old.items ++ reach_row family (hop.now ++ link.now) (prefixes_left routes.entry)) }
-    ensures err { OnErr result (Extends out.old.items out.new.items) }
+    ensures ok { OnOk result (O.written out.new ≡ O.written out.old ++ reach_row family (hop.now ++ link.now) (prefixes_left routes.entry)) }
+    ensures err { OnErr result (Extends (O.written out.old) (O.written out.new)) }
+    ensures full { OnErr result (O.room < length (O.written out.old) + length (reach_row family (hop.now ++ link.now) (prefixes_left routes.entry))) }
 {
     put_hops(family, hop, link, out)?;
     routes.write(out)?;
@@ -121,9 +141,10 @@ fn put_reach_row<const W: usize>(
 }
 
 /// Adds MP_REACH_NLRI's value.
-pub(crate) fn put_reach(reach: &MpReachView<'_>, out: &mut Vec<u8>) -> Result<(), AllocError>
-    ensures ok { OnOk result (out.new.items ≡ out.old.items ++ reach_octets (reach_value reach.now)) }
-    ensures err { OnErr result (Extends out.old.items out.new.items) }
+pub(crate) fn put_reach<O: Output>(reach: &MpReachView<'_>, out: &mut O) -> Result<(), AllocError>
+    ensures ok { OnOk result (O.written out.new ≡ O.written out.old ++ reach_octets (reach_value reach.now)) }
+    ensures err { OnErr result (Extends (O.written out.old) (O.written out.new)) }
+    ensures full { OnErr result (O.room < length (O.written out.old) + length (reach_octets (reach_value reach.now))) }
 {
     match reach {
         MpReachView::Ip4 { next_hop, nlri } => {
@@ -149,13 +170,14 @@ pub(crate) fn put_reach(reach: &MpReachView<'_>, out: &mut Vec<u8>) -> Result<()
 }
 
 /// Adds a family and prefixes.
-fn put_unreach_row<const W: usize>(
+fn put_unreach_row<const W: usize, O: Output>(
     family: u16,
     routes: PrefixIter<'_, W>,
-    out: &mut Vec<u8>,
+    out: &mut O,
 ) -> Result<(), AllocError>
-    ensures ok { OnOk result (out.new.items ≡ out.old.items ++ unreach_row family (prefixes_left routes.entry)) }
-    ensures err { OnErr result (Extends out.old.items out.new.items) }
+    ensures ok { OnOk result (O.written out.new ≡ O.written out.old ++ unreach_row family (prefixes_left routes.entry)) }
+    ensures err { OnErr result (Extends (O.written out.old) (O.written out.new)) }
+    ensures full { OnErr result (O.room < length (O.written out.old) + length (unreach_row family (prefixes_left routes.entry))) }
 {
     let [high, low] = family.to_be_bytes();
     put_octets(&[high, low, safi::UNICAST], out)?;
@@ -164,9 +186,13 @@ fn put_unreach_row<const W: usize>(
 }
 
 /// Adds MP_UNREACH_NLRI's value.
-pub(crate) fn put_unreach(unreach: &MpUnreachView<'_>, out: &mut Vec<u8>) -> Result<(), AllocError>
-    ensures ok { OnOk result (out.new.items ≡ out.old.items ++ unreach_octets (unreach_value unreach.now)) }
-    ensures err { OnErr result (Extends out.old.items out.new.items) }
+pub(crate) fn put_unreach<O: Output>(
+    unreach: &MpUnreachView<'_>,
+    out: &mut O,
+) -> Result<(), AllocError>
+    ensures ok { OnOk result (O.written out.new ≡ O.written out.old ++ unreach_octets (unreach_value unreach.now)) }
+    ensures err { OnErr result (Extends (O.written out.old) (O.written out.new)) }
+    ensures full { OnErr result (O.room < length (O.written out.old) + length (unreach_octets (unreach_value unreach.now))) }
 {
     match unreach {
         MpUnreachView::Ip4(routes) => put_unreach_row(afi::IPV4, *routes, out),

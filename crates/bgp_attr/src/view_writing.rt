@@ -1,7 +1,7 @@
 //! Writing an attribute from its view.
 
-ghost use Rattle.std.specs.Prelude.{◌≡◌, ◌≤◌, ◌++◌, false, true, length, OnOk, OnErr};
-ghost use Rattle.bgp_attr.specs.steps.Appends.{Extends};
+ghost use Rattle.std.specs.Prelude.{◌≡◌, ◌<◌, ◌+◌, ◌≤◌, ◌++◌, false, true, length, OnOk, OnErr};
+ghost use Rattle.bgp_wire.specs.Output.{Extends};
 ghost use Rattle.bgp_attr.specs.AttrView.{attr_value};
 ghost use Rattle.bgp_attr.specs.Length.{value_len};
 ghost use Rattle.bgp_attr.specs.Written.{canonical, is_empty, is_writable, value_octets};
@@ -12,14 +12,16 @@ use crate::put::{put_address, put_number, put_octets};
 use crate::put_view::{put_communities, put_large, put_path, put_reach, put_unreach};
 use crate::write::put_aggregator;
 use bgp_open::Context;
+use bgp_wire::Output;
 use std::alloc::AllocError;
 
 /// Adds the value of an attribute.
 #[inline(always)]
-fn put_value(ctx: &Context, view: &AttrView<'_>, out: &mut Vec<u8>) -> Result<(), AllocError>
+fn put_value<O: Output>(ctx: &Context, view: &AttrView<'_>, out: &mut O) -> Result<(), AllocError>
     requires { is_empty (attr_value view.now) ≡ false }
-    ensures ok { OnOk result (out.new.items ≡ out.old.items ++ value_octets ctx.now (attr_value view.now)) }
-    ensures err { OnErr result (Extends out.old.items out.new.items) }
+    ensures ok { OnOk result (O.written out.new ≡ O.written out.old ++ value_octets ctx.now (attr_value view.now)) }
+    ensures err { OnErr result (Extends (O.written out.old) (O.written out.new)) }
+    ensures full { OnErr result (O.room < length (O.written out.old) + length (value_octets ctx.now (attr_value view.now))) }
 {
     match view {
         AttrView::Origin(origin) => put_octets(&[*origin as u8], out),
@@ -38,13 +40,14 @@ fn put_value(ctx: &Context, view: &AttrView<'_>, out: &mut Vec<u8>) -> Result<()
     }
 }
 
-/// Adds an attribute; a part of it may stay where an allocation failed.
+/// Adds an attribute; a part of it may stay where there was no room.
 #[inline(always)]
-fn put_attr(ctx: &Context, view: &AttrView<'_>, out: &mut Vec<u8>) -> Result<(), AllocError>
+fn put_attr<O: Output>(ctx: &Context, view: &AttrView<'_>, out: &mut O) -> Result<(), AllocError>
     requires filled { is_empty (attr_value view.now) ≡ false }
     requires short { value_len ctx.now (attr_value view.now) ≤ 65535 }
-    ensures ok { OnOk result (out.new.items ≡ out.old.items ++ canonical ctx.now (attr_value view.now)) }
-    ensures err { OnErr result (Extends out.old.items out.new.items) }
+    ensures ok { OnOk result (O.written out.new ≡ O.written out.old ++ canonical ctx.now (attr_value view.now)) }
+    ensures err { OnErr result (Extends (O.written out.old) (O.written out.new)) }
+    ensures full { OnErr result (O.room < length (O.written out.old) + length (canonical ctx.now (attr_value view.now))) }
 {
     let start = out.len();
     begin_attr(out)?;
@@ -56,16 +59,17 @@ fn put_attr(ctx: &Context, view: &AttrView<'_>, out: &mut Vec<u8>) -> Result<(),
 /// isn't measured.
 ///
 /// # Errors
-/// `AllocError` where an allocation failed; the vector is then as it was.
+/// `AllocError` where there was no room; what is there is then as it was.
 #[inline(always)]
-pub fn write_attr_view(
+pub fn write_attr_view<O: Output>(
     ctx: &Context,
     view: &AttrView<'_>,
-    out: &mut Vec<u8>,
+    out: &mut O,
 ) -> Result<(), AllocError>
     requires { is_writable ctx.now (attr_value view.now) ≡ true }
-    ensures ok { OnOk result (out.new.items ≡ out.old.items ++ canonical ctx.now (attr_value view.now)) }
-    ensures err { OnErr result (out.new.items ≡ out.old.items) }
+    ensures ok { OnOk result (O.written out.new ≡ O.written out.old ++ canonical ctx.now (attr_value view.now)) }
+    ensures err { OnErr result (O.written out.new ≡ O.written out.old) }
+    ensures full { OnErr result (O.room < length (O.written out.old) + length (canonical ctx.now (attr_value view.now))) }
 {
     let start = out.len();
     let written = put_attr(ctx, view, out);

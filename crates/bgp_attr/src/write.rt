@@ -1,13 +1,13 @@
 //! Writing an attribute.
 
-ghost use Rattle.std.specs.Prelude.{◌≡◌, ◌≤◌, ◌+◌, [], ◌∷◌, ◌++◌, if◌then◌else◌, Bool, true, false, length, OnOk, OnErr};
+ghost use Rattle.std.specs.Prelude.{◌≡◌, ◌<◌, ◌≤◌, ◌+◌, [], ◌∷◌, ◌++◌, if◌then◌else◌, Bool, true, false, length, OnOk, OnErr};
 ghost use Rattle.std.specs.List.{AllByRecursion};
 ghost use Rattle.std.specs.Int.{w16, to_be_bytes};
 ghost use Rattle.bgp_attr.specs.declared.attr.Attr.TheVariants as attr;
 ghost use Rattle.bgp_attr.specs.declared.judged.Judged.TheVariants as judged;
 ghost use Rattle.bgp_prefix.specs.Prefix.{PrefixValue, IsValid};
 ghost use Rattle.bgp_wire.specs.Octets.{AreOctets};
-ghost use Rattle.bgp_attr.specs.steps.Appends.{Extends};
+ghost use Rattle.bgp_wire.specs.Output.{Extends};
 ghost use Rattle.bgp_attr.specs.AttrRef.{ref_value};
 ghost use Rattle.bgp_attr.specs.Flags.{flags_octet};
 ghost use Rattle.bgp_attr.specs.Judgement.{judgement};
@@ -30,6 +30,7 @@ use crate::put::{
 use bgp_numbers::{afi, safi};
 use bgp_open::Context;
 use bgp_prefix::Prefix;
+use bgp_wire::Output;
 use std::alloc::AllocError;
 
 /// The flags octet of a class.
@@ -43,14 +44,15 @@ pub(crate) fn flags_octet(class: Class, partial: bool, extended: bool) -> u8
 }
 
 /// Adds an AS number and an address.
-pub(crate) fn put_aggregator(
+pub(crate) fn put_aggregator<O: Output>(
     wide: bool,
     aggregator: &Aggregator,
-    out: &mut Vec<u8>,
+    out: &mut O,
 ) -> Result<(), AllocError>
-    ensures ok { OnOk result (out.new.items ≡ out.old.items ++ aggregator_octets wide aggregator.now) }
+    ensures ok { OnOk result (O.written out.new ≡ O.written out.old ++ aggregator_octets wide aggregator.now) }
     ensures ranges { OnOk result (IsFourOctets (aggregator.now.asn).0 × IsAddress 4 aggregator.now.addr) }
-    ensures err { OnErr result (Extends out.old.items out.new.items) }
+    ensures err { OnErr result (Extends (O.written out.old) (O.written out.new)) }
+    ensures full { OnErr result (O.room < length (O.written out.old) + length (aggregator_octets wide aggregator.now)) }
 {
     put_number(wide, aggregator.asn.0, out)?;
     let addr = aggregator.addr;
@@ -58,16 +60,17 @@ pub(crate) fn put_aggregator(
 }
 
 /// Adds a family and a next hop of one or two addresses: all that stands before the prefixes.
-pub(crate) fn put_hops(
+pub(crate) fn put_hops<O: Output>(
     family: u16,
     hop: &[u8],
     link: &[u8],
-    out: &mut Vec<u8>,
+    out: &mut O,
 ) -> Result<(), AllocError>
     requires { length hop.now + length link.now ≤ 255 }
-    ensures ok { OnOk result (out.new.items ≡ out.old.items ++ reach_row family (hop.now ++ link.now) []) }
+    ensures ok { OnOk result (O.written out.new ≡ O.written out.old ++ reach_row family (hop.now ++ link.now) []) }
     ensures ranges { OnOk result (AreOctets hop.now × AreOctets link.now) }
-    ensures err { OnErr result (Extends out.old.items out.new.items) }
+    ensures err { OnErr result (Extends (O.written out.old) (O.written out.new)) }
+    ensures full { OnErr result (O.room < length (O.written out.old) + length (reach_row family (hop.now ++ link.now) [])) }
 {
     let [high, low] = family.to_be_bytes();
     let len = (hop.len() + link.len()) as u8;

@@ -1,11 +1,14 @@
 -- An OPEN with the capabilities that are understood alone is valid where the whole one is.
-use Rattle.std.proofs.Common.{◌≡◌, ◌≤◌, Bool, true, false, ◌||◌, cond, ltb, List, [], ◌∷◌, length, refl, arith}
+use Rattle.std.proofs.Common.{◌≡◌, ℕ, ◌+◌, ◌≤◌, Bool, true, false, ◌||◌, cond, ltb, List, [], ◌∷◌, length, refl, arith}
 use Rattle.std.specs.List.{list_any}
-use Rattle.std.proofs.lemmas.Bool.{or_parts, or_from, ltb-false, le-ltb}
+use Rattle.std.proofs.lemmas.Bool.{false≢true, or_parts, or_from, ltb-false, le-ltb}
 use Rattle.std.proofs.lemmas.List.{length-append}
+use Rattle.bgp_numbers.specs.declared.afi.TheConstants.{IPV4, IPV6}
 use Rattle.bgp_open.specs.declared.capability.Capability.{Capability}
+use Rattle.bgp_open.specs.declared.capability.Capability.TheVariants.{Multi, As4, Other}
 use Rattle.bgp_open.specs.declared.message.Open.{Open}
 use Rattle.bgp_open.specs.Open.{is_short_hold, is_zero_id}
+use Rattle.bgp_open.specs.Peer.{is_unicast}
 use Rattle.bgp_open.specs.Written.{capability_octets, row_octets, is_misnamed, is_bad_row, is_bad}
 use Rattle.bgp_clean.specs.Opens.{Seen, none_seen, goes_on, seen_behind, understood, understood_behind, cleaned_open}
 
@@ -41,3 +44,54 @@ understood_good o good =
     or_from (is_short_hold o.hold) (is_zero_id o.id || is_bad_row (understood o.caps)) held.0
     (or_from (is_zero_id o.id) (is_bad_row (understood o.caps)) named.0
     (or_from (ltb 253 (length (row_octets (understood o.caps)))) (list_any is_misnamed (understood o.caps)) (le-ltb _ _ few) (row-named none_seen o.caps row.1)))
+
+-- ---- three at most
+
+abbrev bit : Bool → ℕ
+bit t = cond t 1 0
+
+abbrev count : Seen → ℕ
+count seen = bit seen.ip4 + (bit seen.ip6 + bit seen.as4)
+
+both-more : (a b x y : Bool) → (cond a false x || cond b false y) ≡ true → 1 + (bit a + bit b) ≤ bit (a || x) + bit (b || y)
+both-more true true x y e = absurd (false≢true e)
+both-more true false x true e = omega arith
+both-more true false x false e = absurd (false≢true e)
+both-more false true true y e = omega arith
+both-more false true false y e = absurd (false≢true e)
+both-more false false true true e = omega arith
+both-more false false true false e = omega arith
+both-more false false false true e = omega arith
+both-more false false false false e = absurd (false≢true e)
+
+as4-more : (a : Bool) → cond a false true ≡ true → 1 + bit a ≤ 1
+as4-more true e = absurd (false≢true e)
+as4-more false e = omega arith
+
+goes-more : (seen : Seen) (c : Capability) → goes_on seen c ≡ true → 1 + count seen ≤ count (seen_behind seen c)
+goes-more seen (Multi family subsequent) e = omega (arith, both-more seen.ip4 seen.ip6 (is_unicast IPV4 (Multi family subsequent)) (is_unicast IPV6 (Multi family subsequent)) e)
+goes-more seen (As4 number) e = omega (arith, as4-more seen.as4 e)
+goes-more seen (Other code value) e = absurd (false≢true e)
+
+or-more : (a x : Bool) → bit a ≤ bit (a || x)
+or-more true x = omega arith
+or-more false true = omega arith
+or-more false false = omega arith
+
+bit-most : (a : Bool) → bit a ≤ 1
+bit-most true = omega arith
+bit-most false = omega arith
+
+no-less : (seen : Seen) (c : Capability) → count seen ≤ count (seen_behind seen c)
+no-less seen (Multi family subsequent) = omega (arith, or-more seen.ip4 (is_unicast IPV4 (Multi family subsequent)), or-more seen.ip6 (is_unicast IPV6 (Multi family subsequent)))
+no-less seen (As4 number) = omega (arith, bit-most seen.as4)
+no-less seen (Other code value) = omega arith
+
+few-by : (seen : Seen) (c : Capability) (more : List Capability) (t : Bool) → goes_on seen c ≡ t → length more + count (seen_behind seen c) ≤ 3
+    → length (cond t (c ∷ more) more) + count seen ≤ 3
+few-by seen c more true e few = omega (arith, few, goes-more seen c e)
+few-by seen c more false e few = omega (arith, few, no-less seen c)
+
+pub few_understood : (seen : Seen) (caps : List Capability) → length (understood_behind seen caps) + count seen ≤ 3
+few_understood seen [] = omega (arith, bit-most seen.ip4, bit-most seen.ip6, bit-most seen.as4)
+few_understood seen (c ∷ later) = few-by seen c (understood_behind (seen_behind seen c) later) (goes_on seen c) refl (few_understood (seen_behind seen c) later)

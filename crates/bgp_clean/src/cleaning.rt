@@ -1,6 +1,6 @@
 //! Cleaning a message.
 
-ghost use Rattle.std.specs.Prelude.{◌≡◌, ◌+◌, ◌≤◌, Ok, length, IfOk, OnErr};
+ghost use Rattle.std.specs.Prelude.{◌≡◌, ◌+◌, ◌<◌, ◌≤◌, Ok, length, IfOk, OnErr};
 ghost use Rattle.bgp_wire.specs.OctetSet.{has_octet};
 ghost use Rattle.bgp_wire.specs.Octets.{AreOctets};
 ghost use Rattle.bgp_frame.specs.Frame.{octets_of};
@@ -24,8 +24,8 @@ use bgp_frame::Frame;
 use bgp_msg::{OutcomeView, view_frame};
 use bgp_open::Context;
 use bgp_update::UpdateView;
-use bgp_wire::OctetSet;
-use std::alloc::{AllocError, Global};
+use bgp_wire::{OctetSet, Output};
+use std::alloc::AllocError;
 
 /// What a body has are octets: nothing is done.
 fn are_octets(body: &[u8])
@@ -35,24 +35,26 @@ fn are_octets(body: &[u8])
 }
 
 /// Appends the UPDATE that withdraws the routes of one.
-fn clean_withdrawal(
+fn clean_withdrawal<O: Output>(
     ctx: &Context,
     view: &UpdateView<'_>,
-    out: &mut Vec<u8>,
+    out: &mut O,
 ) -> Result<Cleaned, AllocError>
     requires { length (withdrawal_octets (routes_value view.now)) ≤ 4077 }
-    ensures value { IfOk result (λ c. IsCleaned ctx.now (Ok (message.Update (withdrawal (routes_value view.now)))) out.old.items out.new.items c) }
-    ensures err { OnErr result (out.new.items ≡ out.old.items) }
+    ensures value { IfOk result (λ c. IsCleaned ctx.now (Ok (message.Update (withdrawal (routes_value view.now)))) (O.written out.old) (O.written out.new) c) }
+    ensures err { OnErr result (O.written out.new ≡ O.written out.old) }
+    ensures full { OnErr result (O.room < length (O.written out.old) + 4096) }
 {
     put_whole(ctx, &Body::Withdrawal(view), out)?;
     Ok(Cleaned::HandedOn)
 }
 
 /// Appends a message as it came, which is as it is written.
-fn pass_on(ctx: &Context, frame: Frame<'_>, out: &mut Vec<u8>) -> Result<Cleaned, AllocError>
+fn pass_on<O: Output>(ctx: &Context, frame: Frame<'_>, out: &mut O) -> Result<Cleaned, AllocError>
     requires { IsLength frame.kind (19 + length frame.body.now) }
-    ensures value { (n : Message) → canonical ctx.now n ≡ octets_of (message_in frame.entry) → IfOk result (λ c. IsCleaned ctx.now (Ok n) out.old.items out.new.items c) }
-    ensures err { OnErr result (out.new.items ≡ out.old.items) }
+    ensures value { (n : Message) → canonical ctx.now n ≡ octets_of (message_in frame.entry) → IfOk result (λ c. IsCleaned ctx.now (Ok n) (O.written out.old) (O.written out.new) c) }
+    ensures err { OnErr result (O.written out.new ≡ O.written out.old) }
+    ensures full { OnErr result (O.room < length (O.written out.old) + 4096) }
 {
     put_whole(ctx, &Body::Same(frame.kind, frame.body), out)?;
     Ok(Cleaned::HandedOn)
@@ -60,27 +62,28 @@ fn pass_on(ctx: &Context, frame: Frame<'_>, out: &mut Vec<u8>) -> Result<Cleaned
 
 /// Appends what is handed on of a whole message in a context, as a whole message in its one written form, or says why the cleaned stream ends before it.
 /// Unrecognised attributes of the types in `drops` are left out; `first` says whether the message is the first one of its stream, which an OPEN has to
-/// be. An UPDATE is written from its view.
+/// be. It takes no memory but for the growth of a vector, and never fails where there is room for 4096 octets more, as in an empty
+/// [`Page<4096>`](bgp_wire::Page).
 ///
 /// # Errors
-/// `AllocError` where an allocation failed; nothing is appended then.
-pub fn clean(
-    alloc: Global,
+/// `AllocError` where there was no room; nothing is appended then.
+pub fn clean<O: Output>(
     ctx: &Context,
     drops: &OctetSet,
     first: bool,
     frame: Frame<'_>,
-    out: &mut Vec<u8>,
+    out: &mut O,
 ) -> Result<Cleaned, AllocError>
     requires { IsLength frame.kind (19 + length frame.body.now) }
-    ensures value { IfOk result (λ c. IsCleaned ctx.now (cleaned ctx.now (has_octet drops.now) first (message_in frame.entry)) out.old.items out.new.items c) }
-    ensures err { OnErr result (out.new.items ≡ out.old.items) }
+    ensures value { IfOk result (λ c. IsCleaned ctx.now (cleaned ctx.now (has_octet drops.now) first (message_in frame.entry)) (O.written out.old) (O.written out.new) c) }
+    ensures err { OnErr result (O.written out.new ≡ O.written out.old) }
+    ensures full { OnErr result (O.room < length (O.written out.old) + 4096) }
 {
     are_octets(frame.body);
     let mut place = UpdateView::empty();
     match view_frame(ctx, frame, &mut place) {
-        OutcomeView::Open(view) => clean_open(alloc, ctx, first, view, out),
-        OutcomeView::Update(view) => clean_update(alloc, ctx, drops, view, frame, out),
+        OutcomeView::Open(view) => clean_open(ctx, first, view, out),
+        OutcomeView::Update(view) => clean_update(ctx, drops, view, frame, out),
         OutcomeView::Withdraw(view) => clean_withdrawal(ctx, view, out),
         OutcomeView::Notification(_) => pass_on(ctx, frame, out),
         OutcomeView::Keepalive => pass_on(ctx, frame, out),

@@ -12,3 +12,4 @@ mod whole;
 pub use cleaned::Cleaned;
 pub use cleaning::clean;
 pub use fault::CleanFault;
+pub use opens::count_understood;

@@ -1,6 +1,6 @@
 //! What is handed on of an OPEN.
 
-ghost use Rattle.std.specs.Prelude.{◌≡◌, ◌||◌, ◌++◌, false, length, IfOk, OnOk, OnErr};
+ghost use Rattle.std.specs.Prelude.{◌≡◌, ◌+◌, ◌<◌, ◌≤◌, ◌||◌, ◌++◌, false, length, IfOk, OnOk, OnErr};
 ghost use Rattle.bgp_msg.specs.declared.message.Message.TheVariants as message;
 ghost use Rattle.bgp_msg.specs.Written.{canonical};
 ghost use Rattle.bgp_numbers.specs.declared.afi.TheConstants.{IPV4, IPV6};
@@ -8,20 +8,21 @@ ghost use Rattle.bgp_open.specs.CapabilityIter.{capabilities_left};
 ghost use Rattle.bgp_open.specs.CapabilityView.{capability_value};
 ghost use Rattle.bgp_open.specs.OpenView.{open_value};
 ghost use Rattle.bgp_open.specs.Peer.{is_unicast};
-ghost use Rattle.bgp_open.specs.Written.{is_bad};
+ghost use Rattle.bgp_open.specs.Written.{capability_octets, is_bad, row_octets};
 ghost use Rattle.bgp_clean.specs.Clean.{handed_open};
 ghost use Rattle.bgp_clean.specs.Cleaned.{IsCleaned};
-ghost use Rattle.bgp_clean.specs.Opens.{goes_on, seen_behind, understood, cleaned_open, is_multi, lacks_family};
+ghost use Rattle.bgp_clean.specs.Opens.{none_seen, goes_on, seen_behind, understood, cleaned_open, is_multi, lacks_family};
 ghost use Rattle.bgp_clean.specs.steps.Seen.{seen_value};
 
 use crate::cleaned::Cleaned;
 use crate::fault::CleanFault;
-use bgp_msg::{Message, encode};
-use bgp_numbers::{afi, safi};
-use bgp_open::{Capability, CapabilityIter, CapabilityView, Context, Open, OpenView};
-use bgp_update::WriteFault;
-use bgp_wire::List;
-use std::alloc::{AllocError, Global};
+use crate::whole::{Body, put_whole};
+use arrayvec::ArrayVec;
+use bgp_frame::Kind;
+use bgp_numbers::{afi, capability, safi};
+use bgp_open::{CapabilityIter, CapabilityView, Context, OpenView, open_body};
+use bgp_wire::Output;
+use std::alloc::AllocError;
 
 /// Which of the capabilities that are understood were there before.
 #[derive(Clone, Copy)]
@@ -35,6 +36,17 @@ struct Seen {
 }
 
 impl Seen {
+    /// None of them.
+    fn none() -> Seen
+        ensures { seen_value result ≡ none_seen }
+    {
+        Seen {
+            ip4: false,
+            ip6: false,
+            as4: false,
+        }
+    }
+
     /// Whether a capability goes on: it is understood, and the first of its kind.
     fn goes_on(&self, capability: &CapabilityView<'_>) -> bool
         ensures { result ≡ goes_on (seen_value self.now) (capability_value capability.now) }
@@ -60,27 +72,65 @@ impl Seen {
     }
 }
 
-/// The capabilities that are understood, each of a kind once.
-fn understood(
-    alloc: Global,
-    capabilities: CapabilityIter<'_>,
-) -> Result<List<Capability>, AllocError>
-    ensures { IfOk result (λ kept. kept ≡ understood (capabilities_left capabilities.entry)) }
+/// Appends a capability.
+fn put_capability(capability: &CapabilityView<'_>, row: &mut ArrayVec<u8, 253>)
+    requires { length row.old.items + length (capability_octets (capability_value capability.now)) ≤ 253 }
+    ensures { row.new.items ≡ row.old.items ++ capability_octets (capability_value capability.now) }
 {
-    let mut kept = List::new(alloc);
-    let mut seen = Seen {
-        ip4: false,
-        ip6: false,
-        as4: false,
-    };
+    match capability {
+        CapabilityView::Multi(family, subsequent) => {
+            let [high, low] = family.to_be_bytes();
+            let _ = row.try_extend_from_slice(&[
+                capability::MULTIPROTOCOL,
+                4,
+                high,
+                low,
+                0,
+                *subsequent,
+            ]);
+        }
+        CapabilityView::As4(number) => {
+            let [a, b, c, d] = number.to_be_bytes();
+            let _ = row.try_extend_from_slice(&[capability::FOUR_OCTET_AS, 4, a, b, c, d]);
+        }
+        CapabilityView::Other(code, value) => {
+            let _ = row.try_extend_from_slice(&[*code, value.len() as u8]);
+            let _ = row.try_extend_from_slice(value);
+        }
+    }
+}
+
+/// The octets of the capabilities that are understood, each of a kind once.
+fn understood(capabilities: CapabilityIter<'_>) -> ArrayVec<u8, 253>
+    requires { length (row_octets (understood (capabilities_left capabilities))) ≤ 253 }
+    ensures { result.items ≡ row_octets (understood (capabilities_left capabilities.entry)) }
+{
+    let mut row = ArrayVec::new();
+    let mut seen = Seen::none();
     let mut left = capabilities;
     'row: while let Some(capability) = left.next() {
         if seen.goes_on(&capability) {
-            kept.push(capability.own(alloc)?)?;
+            put_capability(&capability, &mut row);
         }
         seen.add(&capability);
     }
-    Ok(kept)
+    row
+}
+
+/// How many capabilities of an OPEN go on: those that are understood, each of a kind once.
+pub fn count_understood(view: &OpenView<'_>) -> usize
+    ensures { result ≡ length (understood (open_value view.now).caps) }
+{
+    let mut count = 0;
+    let mut seen = Seen::none();
+    let mut left = view.capabilities();
+    'row: while let Some(capability) = left.next() {
+        if seen.goes_on(&capability) {
+            count += 1;
+        }
+        seen.add(&capability);
+    }
+    count
 }
 
 /// Whether a capability offers a family.
@@ -117,48 +167,32 @@ fn lacks_family(view: &OpenView<'_>) -> bool
     offers && !in_use
 }
 
-/// The OPEN with the capabilities that are understood alone.
-fn own_understood(alloc: Global, view: &OpenView<'_>) -> Result<Open, AllocError>
-    ensures { IfOk result (λ o. o ≡ cleaned_open (open_value view.now)) }
+/// Appends a whole OPEN, with the capabilities that are understood alone.
+fn put_open<O: Output>(ctx: &Context, view: &OpenView<'_>, out: &mut O) -> Result<(), AllocError>
+    requires { is_bad (cleaned_open (open_value view.now)) ≡ false }
+    ensures ok { OnOk result (O.written out.new ≡ O.written out.old ++ canonical ctx.now (message.Open (cleaned_open (open_value view.now)))) }
+    ensures err { OnErr result (O.written out.new ≡ O.written out.old) }
+    ensures full { OnErr result (O.room < length (O.written out.old) + 4096) }
 {
-    let caps = understood(alloc, view.capabilities())?;
-    Ok(Open {
-        as_field: view.as_field(),
-        hold: view.hold(),
-        id: view.id(),
-        caps,
-    })
-}
-
-/// Appends a whole OPEN.
-fn put_open(ctx: &Context, told: Open, out: &mut Vec<u8>) -> Result<(), AllocError>
-    requires good { is_bad told ≡ false }
-    requires four { length told.id ≡ 4 }
-    ensures ok { OnOk result (out.new.items ≡ out.old.items ++ canonical ctx.now (message.Open told)) }
-    ensures err { OnErr result (out.new.items ≡ out.old.items) }
-{
-    match encode(ctx, &Message::Open(told), out) {
-        Ok(()) => Ok(()),
-        Err(WriteFault::Memory) => Err(AllocError),
-        Err(WriteFault::NotValid(_)) => unreachable!(),
-        Err(WriteFault::TooLong) => unreachable!(),
-    }
+    let row = understood(view.capabilities());
+    let body = open_body(view.as_field(), view.hold(), view.id(), &row);
+    put_whole(ctx, &Body::Same(Kind::Open, body.as_slice()), out)
 }
 
 /// Appends what is handed on of an OPEN, or says why the stream ends before it.
 ///
 /// # Errors
-/// `AllocError` where an allocation failed; nothing is appended then.
-pub(crate) fn clean_open(
-    alloc: Global,
+/// `AllocError` where there was no room; nothing is appended then.
+pub(crate) fn clean_open<O: Output>(
     ctx: &Context,
     first: bool,
     view: OpenView<'_>,
-    out: &mut Vec<u8>,
+    out: &mut O,
 ) -> Result<Cleaned, AllocError>
     requires { is_bad (open_value view) ≡ false }
-    ensures value { IfOk result (λ c. IsCleaned ctx.now (handed_open first (open_value view.entry)) out.old.items out.new.items c) }
-    ensures err { OnErr result (out.new.items ≡ out.old.items) }
+    ensures value { IfOk result (λ c. IsCleaned ctx.now (handed_open first (open_value view.entry)) (O.written out.old) (O.written out.new) c) }
+    ensures err { OnErr result (O.written out.new ≡ O.written out.old) }
+    ensures full { OnErr result (O.room < length (O.written out.old) + 4096) }
 {
     if !first {
         return Ok(Cleaned::Ends(CleanFault::LateOpen));
@@ -166,6 +200,6 @@ pub(crate) fn clean_open(
     if lacks_family(&view) {
         return Ok(Cleaned::Ends(CleanFault::NoFamily));
     }
-    put_open(ctx, own_understood(alloc, &view)?, out)?;
+    put_open(ctx, &view, out)?;
     Ok(Cleaned::HandedOn)
 }

@@ -66,7 +66,6 @@ impl CleanPage<'_> {
         ensures begins { IfOk result (λ begun. Begins begun (Some (page_start self.old (Some (message_in frame.entry)))) (page_rules self.new) self.old.octets.items self.new.octets.items) }
     {
         match clean(
-            self.alloc,
             &self.ctx,
             &self.drops,
             true,
@@ -135,7 +134,6 @@ impl Page for CleanPage<'_> {
 
     fn message(&mut self, _place: u64, frame: Frame<'_>) -> Result<Class, AllocError> {
         match clean(
-            self.alloc,
             &self.ctx,
             &self.drops,
             false,

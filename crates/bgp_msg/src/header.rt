@@ -7,6 +7,7 @@ ghost use Rattle.bgp_msg.specs.steps.Room.{room_of, refusal_of};
 
 use bgp_frame::{Kind, head};
 use bgp_update::WriteFault;
+use bgp_wire::Output;
 
 /// Appends room for a header. Answers whether there was memory for it; a body is written in any case, since it may have a fault that is told
 /// first.
@@ -17,14 +18,13 @@ pub(crate) fn put_room(out: &mut Vec<u8>) -> bool
 }
 
 /// Puts a header into the room for it at a place, in front of a body.
-pub fn put_header(kind: Kind, start: usize, out: &mut Vec<u8>)
-    requires room { start + 19 ≤ length out.old.items }
-    requires allowed { IsLength kind (length (drop start out.old.items)) }
-    ensures { out.new.items ≡ take start out.old.items ++ (header kind (length (drop start out.old.items)) ++ drop (start + 19) out.old.items) }
+pub fn put_header<O: Output>(kind: Kind, start: usize, out: &mut O)
+    requires room { start + 19 ≤ length (O.written out.old) }
+    requires allowed { IsLength kind (length (drop start (O.written out.old))) }
+    ensures { O.written out.new ≡ take start (O.written out.old) ++ (header kind (length (drop start (O.written out.old))) ++ drop (start + 19) (O.written out.old)) }
 {
-    let end = start + 19;
-    let body_len = (out.len() - end) as u16;
-    out[start..end].copy_from_slice(&head(kind, body_len));
+    let body_len = (out.len() - (start + 19)) as u16;
+    out.replace(start, &head(kind, body_len));
 }
 
 /// Takes back what was appended from a place on, of a message that isn't written. Answers why it isn't.

@@ -6,10 +6,13 @@ ghost use Rattle.bgp_open.specs.Written.{body_octets};
 use arrayvec::ArrayVec;
 use bgp_numbers::{VERSION, parameter};
 
-/// The body with these fixed fields, and this row of capabilities in one parameter where there are any.
-pub(crate) fn body_of(as_field: u16, hold: u16, id: [u8; 4], row: &[u8]) -> ArrayVec<u8, 265>
+/// The body of an OPEN (RFC 4271, section 4.2) with these fixed fields, and this row of capabilities in one parameter where there are any. It takes
+/// no memory.
+pub fn open_body(as_field: u16, hold: u16, id: [u8; 4], row: &[u8]) -> ArrayVec<u8, 265>
     requires { length row.now ≤ 253 }
-    ensures { result.items ≡ body_octets as_field hold id row.now }
+    ensures octets { result.items ≡ body_octets as_field hold id row.now }
+    ensures least { 10 ≤ length result.items }
+    ensures most { length result.items ≤ 265 }
 {
     let mut body = ArrayVec::new();
     let [as_high, as_low] = as_field.to_be_bytes();

@@ -21,6 +21,7 @@ mod row;
 mod write;
 
 pub use agreement::{PeerFault, agree, agree_with};
+pub use body::open_body;
 pub use capability::Capability;
 pub use capability_iter::CapabilityIter;
 pub use capability_view::CapabilityView;

@@ -7,7 +7,7 @@ ghost use Rattle.bgp_open.specs.Open.{IsOpen};
 ghost use Rattle.bgp_open.specs.Own.{field_for, own_caps, own_of};
 ghost use Rattle.bgp_open.specs.Written.{row_octets, canonical};
 
-use crate::body::body_of;
+use crate::body::open_body;
 use crate::capability::Capability;
 use crate::capability_iter::CapabilityIter;
 use crate::config::Config;
@@ -72,7 +72,7 @@ pub fn own_frame(config: &Config) -> ArrayVec<u8, 49>
     ensures spelled { IsOpen (own_of config.now) (canonical (own_of config.now)) }
 {
     let row = offered_row(config);
-    let body = body_of(
+    let body = open_body(
         as_field(config.local_as()),
         config.hold(),
         config.id(),

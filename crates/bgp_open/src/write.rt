@@ -5,7 +5,7 @@ ghost use Rattle.bgp_open.specs.declared.write.WriteOpenFault.TheVariants.{NotVa
 ghost use Rattle.bgp_open.specs.Open.{IsOpen};
 ghost use Rattle.bgp_open.specs.Written.{canonical, is_bad};
 
-use crate::body::body_of;
+use crate::body::open_body;
 use crate::field::{is_short_hold, is_zero_id};
 use crate::message::Open;
 use crate::row::row_of;
@@ -46,7 +46,7 @@ pub fn write_open(message: &Open, out: &mut Vec<u8>) -> Result<(), WriteOpenFaul
     match row_of(&message.caps) {
         None => Err(WriteOpenFault::NotValid),
         Some(row) => {
-            let body = body_of(message.as_field, message.hold, message.id, &row);
+            let body = open_body(message.as_field, message.hold, message.id, &row);
             out.extend_from_slice(&body)?;
             Ok(())
         }

@@ -2,6 +2,7 @@
 
 ghost use Rattle.std.specs.Prelude.{◌≡◌, ◌+◌, ◌<◌, ◌++◌, ◌∷◌, ℕ, List, length, OnOk, OnErr};
 ghost use Rattle.std.specs.List.{flat_map};
+ghost use Rattle.bgp_wire.specs.Output.{Extends};
 ghost use Rattle.bgp_prefix.specs.Bits.{octets_for, leading_bits};
 ghost use Rattle.bgp_prefix.specs.Prefix.{spelling_of};
 ghost use Rattle.bgp_prefix.specs.PrefixIter.{prefixes_left};
@@ -10,27 +11,30 @@ ghost use Rattle.bgp_prefix.specs.Run.{run_of};
 use crate::front::{Front, cut_front};
 use crate::iter::PrefixIter;
 use crate::mask::mask;
+use bgp_wire::Output;
 use std::alloc::AllocError;
 
 /// Adds a length and the octets behind it, of which the last alone can have bits past the length.
 #[inline(always)]
-fn append_front(front: Front<'_>, out: &mut Vec<u8>) -> Result<(), AllocError>
+fn append_front<O: Output>(front: Front<'_>, out: &mut O) -> Result<(), AllocError>
     requires { length front.read.now ≡ octets_for front.len }
-    ensures ok { OnOk result (out.new.items ≡ out.old.items ++ front.entry.len ∷ leading_bits front.entry.len front.entry.read.now) }
-    ensures err { OnErr result ((more : List ℕ) × (out.new.items ≡ out.old.items ++ more)) }
+    ensures ok { OnOk result (O.written out.new ≡ O.written out.old ++ front.entry.len ∷ leading_bits front.entry.len front.entry.read.now) }
+    ensures err { OnErr result (Extends (O.written out.old) (O.written out.new)) }
+    ensures full { OnErr result (O.room < length (O.written out.old) + length (front.entry.len ∷ leading_bits front.entry.len front.entry.read.now)) }
 {
-    out.push(front.len)?;
+    out.put(&[front.len])?;
     if let Some((last, whole)) = front.read.split_last() {
-        out.extend_from_slice(whole)?;
-        out.push(*last & mask(front.len, whole.len()))?;
+        out.put(whole)?;
+        out.put(&[*last & mask(front.len, whole.len())])?;
     }
     Ok(())
 }
 
-/// Adds the prefixes that octets begin with; those of the first ones may stay where an allocation failed.
-fn append_octets<const W: usize>(octets: &[u8], out: &mut Vec<u8>) -> Result<(), AllocError>
-    ensures ok { OnOk result (out.new.items ≡ out.old.items ++ flat_map spelling_of (run_of W octets.now).0) }
-    ensures err { OnErr result ((more : List ℕ) × (out.new.items ≡ out.old.items ++ more)) }
+/// Adds the prefixes that octets begin with; those of the first ones may stay where there was no room.
+fn append_octets<const W: usize, O: Output>(octets: &[u8], out: &mut O) -> Result<(), AllocError>
+    ensures ok { OnOk result (O.written out.new ≡ O.written out.old ++ flat_map spelling_of (run_of W octets.now).0) }
+    ensures err { OnErr result (Extends (O.written out.old) (O.written out.new)) }
+    ensures full { OnErr result (O.room < length (O.written out.old) + length (flat_map spelling_of (run_of W octets.now).0)) }
 {
     let mut rest = octets;
     'run: while let Some(front) = cut_front::<W>(rest) {
@@ -45,13 +49,14 @@ impl<'a, const W: usize> PrefixIter<'a, W> {
     /// bits past its length (RFC 4271, section 4.3).
     ///
     /// # Errors
-    /// `AllocError` where an allocation failed; the vector is then as it was.
-    pub fn write(self, out: &mut Vec<u8>) -> Result<(), AllocError>
-        ensures ok { OnOk result (out.new.items ≡ out.old.items ++ flat_map spelling_of (prefixes_left self.entry)) }
-        ensures err { OnErr result (out.new.items ≡ out.old.items) }
+    /// `AllocError` where there was no room; what is there is then as it was.
+    pub fn write<O: Output>(self, out: &mut O) -> Result<(), AllocError>
+        ensures ok { OnOk result (O.written out.new ≡ O.written out.old ++ flat_map spelling_of (prefixes_left self.entry)) }
+        ensures err { OnErr result (O.written out.new ≡ O.written out.old) }
+        ensures full { OnErr result (O.room < length (O.written out.old) + length (flat_map spelling_of (prefixes_left self.entry))) }
     {
         let start = out.len();
-        let written = append_octets::<W>(self.rest, out);
+        let written = append_octets::<W, O>(self.rest, out);
         if written.is_err() {
             out.truncate(start);
         }

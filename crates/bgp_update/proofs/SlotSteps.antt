@@ -3,7 +3,7 @@ use Rattle.std.proofs.Common.{◌≡◌, ℕ, ◌+◌, ◌<◌, ◌≤◌, List,
 use Rattle.std.specs.List.{flat_map, AllByRecursion}
 use Rattle.std.proofs.lemmas.Grind.{flat_map-append}
 use Rattle.std.proofs.lemmas.List.{append-nil, length-append, take_more, take_all, take-append-drop}
-use Rattle.bgp_attr.specs.steps.Appends.{Extends}
+use Rattle.bgp_wire.specs.Output.{Extends}
 use Rattle.bgp_attr.specs.Length.{within}
 use Rattle.bgp_attr.proofs.Lengths.{within_past, past_within, within_fits}
 use Rattle.bgp_attr.proofs.Writes.{IsWritten}
@@ -70,6 +70,11 @@ module _ {A : Type 0} (slots : ℕ → List A) (kinds : List ℕ) (i : ℕ) wher
                 ∙ ap (λ (b : List ℕ). before ++ b) (sym (flat_map-append octets so_far (slots kind)));
             ranges = all-append P so_far (slots kind) written.ranges all;
           })
+
+      -- where those of a type have no room, all have none
+      pub type_lacks : (room : ℕ) → room < length old + length (flat_map octets (slots kind)) → room < length before + length (flat_map octets (flat_map slots kinds))
+      type_lacks room full =
+          omega (arith, full, ap length written.items, length-append before (flat_map octets so_far), length_added octets, length_all octets)
 
 -- what was there, some octets, and more of them
 pub written_more : {A : Type 0} (octets : A → List ℕ) (P : A → Type 0) (xs : List A) (before old new : List ℕ) → IsWritten octets P xs before old → Extends old new → Extends before new

@@ -1,11 +1,12 @@
 //! Laying out the body of an UPDATE: room for its length fields, which are set when the parts are there.
 
-ghost use Rattle.std.specs.Prelude.{◌≡◌, ◌≤◌, ◌+◌, ◌++◌, [], ◌∷◌, ℕ, List, length, take, drop, OnOk, OnErr};
+ghost use Rattle.std.specs.Prelude.{◌≡◌, ◌<◌, ◌≤◌, ◌+◌, ◌++◌, [], ◌∷◌, ℕ, List, length, take, drop, OnOk, OnErr};
 ghost use Rattle.std.specs.Int.{w16, to_be_bytes};
-ghost use Rattle.bgp_attr.specs.steps.Appends.{Extends};
+ghost use Rattle.bgp_wire.specs.Output.{Extends};
 ghost use Rattle.bgp_update.specs.Written.{body_octets};
 ghost use Rattle.bgp_update.specs.steps.Layout.{LaysOut};
 
+use bgp_wire::Output;
 use std::alloc::AllocError;
 
 /// Where the second length field begins, and where the NLRI do.
@@ -16,31 +17,32 @@ pub(crate) struct Places {
 }
 
 /// Adds room for a length field.
-pub(crate) fn put_room(out: &mut Vec<u8>) -> Result<(), AllocError>
-    ensures ok { OnOk result (out.new.items ≡ out.old.items ++ 0 ∷ 0 ∷ []) }
-    ensures err { OnErr result (Extends out.old.items out.new.items) }
+pub(crate) fn put_room<O: Output>(out: &mut O) -> Result<(), AllocError>
+    ensures ok { OnOk result (O.written out.new ≡ O.written out.old ++ 0 ∷ 0 ∷ []) }
+    ensures err { OnErr result (Extends (O.written out.old) (O.written out.new)) }
+    ensures full { OnErr result (O.room < length (O.written out.old) + 2) }
 {
-    out.extend_from_slice(&[0, 0])?;
+    out.put(&[0, 0])?;
     Ok(())
 }
 
 /// Sets a length field.
-fn set_length(len: usize, at: usize, out: &mut Vec<u8>)
+fn set_length<O: Output>(len: usize, at: usize, out: &mut O)
     requires small { len ≤ 65535 }
-    requires room { at + 2 ≤ length out.old.items }
-    ensures { out.new.items ≡ take at out.old.items ++ (to_be_bytes w16 len ++ drop (at + 2) out.old.items) }
+    requires room { at + 2 ≤ length (O.written out.old) }
+    ensures { O.written out.new ≡ take at (O.written out.old) ++ (to_be_bytes w16 len ++ drop (at + 2) (O.written out.old)) }
 {
-    out[at..at + 2].copy_from_slice(&(len as u16).to_be_bytes());
+    out.replace(at, &(len as u16).to_be_bytes());
 }
 
 /// Sets both length fields of a body.
-pub(crate) fn set_lengths(start: usize, places: Places, out: &mut Vec<u8>)
+pub(crate) fn set_lengths<O: Output>(start: usize, places: Places, out: &mut O)
     requires withdrawn { start + 2 ≤ places.attributes }
     requires attributes { places.attributes + 2 ≤ places.nlri }
-    requires nlri { places.nlri ≤ length out.old.items }
-    requires small { length out.old.items ≤ start + 65535 }
-    ensures { (withdrawn attributes nlri old : List ℕ) → LaysOut withdrawn attributes nlri start old out.old.items places
-        → out.new.items ≡ old ++ body_octets withdrawn attributes nlri }
+    requires nlri { places.nlri ≤ length (O.written out.old) }
+    requires small { length (O.written out.old) ≤ start + 65535 }
+    ensures { (withdrawn attributes nlri old : List ℕ) → LaysOut withdrawn attributes nlri start old (O.written out.old) places
+        → O.written out.new ≡ old ++ body_octets withdrawn attributes nlri }
 {
     set_length(places.attributes - (start + 2), start, out);
     set_length(

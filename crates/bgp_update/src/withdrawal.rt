@@ -1,8 +1,8 @@
 //! Writing the UPDATE that withdraws the routes of one.
 
-ghost use Rattle.std.specs.Prelude.{◌≡◌, ◌≤◌, ◌++◌, [], nat_lt, length, option_map, IfOk, OnOk, OnErr};
+ghost use Rattle.std.specs.Prelude.{◌≡◌, ◌<◌, ◌+◌, ◌≤◌, ◌++◌, [], nat_lt, length, option_map, IfOk, OnOk, OnErr};
 ghost use Rattle.bgp_attr.specs.MpView.{reach_value, unreach_value};
-ghost use Rattle.bgp_attr.specs.steps.Appends.{Extends};
+ghost use Rattle.bgp_wire.specs.Output.{Extends};
 ghost use Rattle.bgp_attr.specs.Written.{run_octets};
 ghost use Rattle.bgp_numbers.specs.declared.afi.TheConstants.{IPV6};
 ghost use Rattle.bgp_update.specs.Notes.{gone_ip4, gone_ip6, reached_ip4, reached_ip6};
@@ -15,16 +15,18 @@ use crate::view::UpdateView;
 use bgp_attr::{AttrView, MpReachView, MpUnreachView, begin_attr, finish_attr};
 use bgp_numbers::{afi, safi};
 use bgp_prefix::PrefixIter6;
+use bgp_wire::Output;
 use std::alloc::AllocError;
 
 /// Adds IPv4 routes of MP_UNREACH_NLRI and MP_REACH_NLRI.
-fn put_ip4(
+fn put_ip4<O: Output>(
     unreach: Option<MpUnreachView<'_>>,
     reach: Option<MpReachView<'_>>,
-    out: &mut Vec<u8>,
+    out: &mut O,
 ) -> Result<(), AllocError>
-    ensures ok { OnOk result (out.new.items ≡ out.old.items ++ run_octets (gone_ip4 (option_map unreach_value unreach.entry) ++ reached_ip4 (option_map reach_value reach.entry))) }
-    ensures err { OnErr result (Extends out.old.items out.new.items) }
+    ensures ok { OnOk result (O.written out.new ≡ O.written out.old ++ run_octets (gone_ip4 (option_map unreach_value unreach.entry) ++ reached_ip4 (option_map reach_value reach.entry))) }
+    ensures err { OnErr result (Extends (O.written out.old) (O.written out.new)) }
+    ensures full { OnErr result (O.room < length (O.written out.old) + length (run_octets (gone_ip4 (option_map unreach_value unreach.entry) ++ reached_ip4 (option_map reach_value reach.entry)))) }
 {
     if let Some(MpUnreachView::Ip4(routes)) = unreach {
         routes.write(out)?;
@@ -36,13 +38,14 @@ fn put_ip4(
 }
 
 /// Adds IPv6 routes of MP_UNREACH_NLRI and MP_REACH_NLRI.
-fn put_ip6(
+fn put_ip6<O: Output>(
     unreach: Option<MpUnreachView<'_>>,
     reach: Option<MpReachView<'_>>,
-    out: &mut Vec<u8>,
+    out: &mut O,
 ) -> Result<(), AllocError>
-    ensures ok { OnOk result (out.new.items ≡ out.old.items ++ run_octets (gone_ip6 (option_map unreach_value unreach.entry) ++ reached_ip6 (option_map reach_value reach.entry))) }
-    ensures err { OnErr result (Extends out.old.items out.new.items) }
+    ensures ok { OnOk result (O.written out.new ≡ O.written out.old ++ run_octets (gone_ip6 (option_map unreach_value unreach.entry) ++ reached_ip6 (option_map reach_value reach.entry))) }
+    ensures err { OnErr result (Extends (O.written out.old) (O.written out.new)) }
+    ensures full { OnErr result (O.room < length (O.written out.old) + length (run_octets (gone_ip6 (option_map unreach_value unreach.entry) ++ reached_ip6 (option_map reach_value reach.entry)))) }
 {
     if let Some(MpUnreachView::Ip6(routes)) = unreach {
         routes.write(out)?;
@@ -69,14 +72,15 @@ fn has_ip6(unreach: Option<MpUnreachView<'_>>, reach: Option<MpReachView<'_>>) -
 }
 
 /// Adds MP_UNREACH_NLRI with the IPv6 routes of both attributes behind one head, where there are some.
-fn put_gone(
+fn put_gone<O: Output>(
     unreach: Option<MpUnreachView<'_>>,
     reach: Option<MpReachView<'_>>,
-    out: &mut Vec<u8>,
+    out: &mut O,
 ) -> Result<(), AllocError>
     requires { length (run_octets (gone_ip6 (option_map unreach_value unreach) ++ reached_ip6 (option_map reach_value reach))) ≤ 4077 }
-    ensures ok { OnOk result (out.new.items ≡ out.old.items ++ gone_octets (gone_ip6 (option_map unreach_value unreach.entry) ++ reached_ip6 (option_map reach_value reach.entry))) }
-    ensures err { OnErr result (Extends out.old.items out.new.items) }
+    ensures ok { OnOk result (O.written out.new ≡ O.written out.old ++ gone_octets (gone_ip6 (option_map unreach_value unreach.entry) ++ reached_ip6 (option_map reach_value reach.entry))) }
+    ensures err { OnErr result (Extends (O.written out.old) (O.written out.new)) }
+    ensures full { OnErr result (O.room < length (O.written out.old) + length (gone_octets (gone_ip6 (option_map unreach_value unreach.entry) ++ reached_ip6 (option_map reach_value reach.entry)))) }
 {
     if !has_ip6(unreach, reach) {
         return Ok(());
@@ -84,17 +88,18 @@ fn put_gone(
     let start = out.len();
     begin_attr(out)?;
     let [high, low] = afi::IPV6.to_be_bytes();
-    out.extend_from_slice(&[high, low, safi::UNICAST])?;
+    out.put(&[high, low, safi::UNICAST])?;
     put_ip6(unreach, reach, out)?;
     let named = AttrView::MpUnreach(MpUnreachView::Ip6(PrefixIter6::new(&[])));
     finish_attr(&named, start, out)
 }
 
-/// Adds the parts of a body, and room for the lengths of the first two; some octets may stay where an allocation failed.
-fn put_parts(view: &UpdateView<'_>, out: &mut Vec<u8>) -> Result<Places, AllocError>
+/// Adds the parts of a body, and room for the lengths of the first two; some octets may stay where there was no room.
+fn put_parts<O: Output>(view: &UpdateView<'_>, out: &mut O) -> Result<Places, AllocError>
     requires { length (run_octets (routes_value view.now).ip6) ≤ 4077 }
-    ensures ok { IfOk result (λ p. LaysOut (run_octets (routes_value view.now).ip4) (gone_octets (routes_value view.now).ip6) [] (length out.old.items) out.old.items out.new.items p) }
-    ensures err { OnErr result (Extends out.old.items out.new.items) }
+    ensures ok { IfOk result (λ p. LaysOut (run_octets (routes_value view.now).ip4) (gone_octets (routes_value view.now).ip6) [] (length (O.written out.old)) (O.written out.old) (O.written out.new) p) }
+    ensures err { OnErr result (Extends (O.written out.old) (O.written out.new)) }
+    ensures full { OnErr result (O.room < length (O.written out.old) + length (withdrawal_octets (routes_value view.now))) }
 {
     put_room(out)?;
     view.withdrawn().write(out)?;
@@ -112,11 +117,12 @@ impl UpdateView<'_> {
     /// of MP_UNREACH_NLRI, MP_REACH_NLRI and NLRI; IPv6 routes in MP_UNREACH_NLRI, none where there are none. No list of them is made.
     ///
     /// # Errors
-    /// `AllocError` where an allocation failed; nothing is appended then.
-    pub fn write_withdrawal(&self, out: &mut Vec<u8>) -> Result<(), AllocError>
+    /// `AllocError` where there was no room; nothing is appended then.
+    pub fn write_withdrawal<O: Output>(&self, out: &mut O) -> Result<(), AllocError>
         requires { length (withdrawal_octets (routes_value self.now)) ≤ 4077 }
-        ensures ok { OnOk result (out.new.items ≡ out.old.items ++ withdrawal_octets (routes_value self.now)) }
-        ensures err { OnErr result (out.new.items ≡ out.old.items) }
+        ensures ok { OnOk result (O.written out.new ≡ O.written out.old ++ withdrawal_octets (routes_value self.now)) }
+        ensures err { OnErr result (O.written out.new ≡ O.written out.old) }
+        ensures full { OnErr result (O.room < length (O.written out.old) + length (withdrawal_octets (routes_value self.now))) }
     {
         let start = out.len();
         match put_parts(self, out) {

@@ -5,3 +5,4 @@ pub mod Firsts
 pub mod Behinds
 pub mod Walks
 pub mod SetWords
+pub mod Rooms

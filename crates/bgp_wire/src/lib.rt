@@ -4,7 +4,11 @@
 mod copy;
 mod list;
 mod octet_set;
+mod output;
+mod page;
 
 pub use copy::TryCopy;
 pub use list::List;
 pub use octet_set::OctetSet;
+pub use output::Output;
+pub use page::Page;

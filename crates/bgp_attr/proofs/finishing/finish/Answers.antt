@@ -4,8 +4,9 @@ use Rattle.bgp_attr.proofs.Heads.{finished_long}
 use Rattle.bgp_attr.proofs.finishing.finish.Goals as goal
 
 pub returns-in_ok-insert-clause-ok : goal.returns-in_ok-insert-clause-ok
-returns-in_ok-insert-clause-ok c =
+returns-in_ok-insert-clause-ok g c =
     let form = c.args.form in
+    let written = g.O.Output.written in
     finished_long form.class form.partial c.flags_octet-flags.result form.kind form.kind c.args.start (c.len.result - (c.args.start + 3)) (get_or c.to_be_bytes.result 0 0) (get_or c.to_be_bytes.result 1 0)
-    c.args.out.now.items c.insert.new.self.items c.replace.new.out.items c.requires.room (omega (arith, c.if-len-gt255.true)) (omega (arith, c.len.ensures, c.args.out.now.ok.0, length-drop (c.args.start + 3) c.args.out.now.items))
-    c.flags_octet-flags.ensures refl (ap (λ (l : List ℕ). get_or l 0 0 ∷ get_or l 1 0 ∷ []) c.to_be_bytes.ensures) c.in_ok-insert.ensures.items c.replace.ensures
+    (written c.args.out.now) (written c.insert.new.self) (written c.replace.new.self) c.requires.room (omega (arith, c.if-len-gt255.true)) (omega (arith, c.len.ensures, length-drop (c.args.start + 3) (written c.args.out.now)))
+    c.flags_octet-flags.ensures refl (ap (λ (l : List ℕ). get_or l 0 0 ∷ get_or l 1 0 ∷ []) c.to_be_bytes.ensures) c.in_ok-insert.ensures.ok c.replace.ensures

@@ -5,4 +5,4 @@ use Rattle.bgp_attr.proofs.put_view.put_large.Given as goal
 
 -- those so far are written
 abbrev pub invariant-row : goal.invariant-row
-invariant-row l = IsWriting triple_octets (triples_left l.fn.values) (triples_left l.triple-iterator) l.initial.out.items l.out.items
+invariant-row g l = IsWriting triple_octets (triples_left l.fn.values) (triples_left l.triple-iterator) (g.O.Output.written l.initial.out) (g.O.Output.written l.out)

@@ -7,7 +7,7 @@ use Rattle.bgp_attr.proofs.put_view.put_path.Given as goal
 
 -- those so far are written, and each of the others has a count
 abbrev pub invariant-path : goal.invariant-path
-invariant-path l = record {
-  written : IsWriting (segment_octets l.wide) (path_value l.fn.path).segments (segments_left l.segment-iterator) l.initial.out.items l.out.items;
+invariant-path g l = record {
+  written : IsWriting (segment_octets l.wide) (path_value l.fn.path).segments (segments_left l.segment-iterator) (g.O.Output.written l.initial.out) (g.O.Output.written l.out);
   counted : list_any is_bad_segment (segments_left l.segment-iterator) ≡ false;
 }

@@ -6,6 +6,6 @@ use Rattle.bgp_clean.proofs.Withdrawing.{withdrawal_is}
 use Rattle.bgp_clean.proofs.cleaning.clean_withdrawal.Goals as goal
 
 pub returns-clause-value : goal.returns-clause-value
-returns-clause-value c =
+returns-clause-value g c =
     c.in_ok-put_whole.ensures.ok
-    ∙ ap (λ (b : List ℕ). c.args.out.now.items ++ (header kind.Update (19 + length b) ++ b)) (sym (withdrawal_is c.args.ctx.now (routes_value c.args.view.now)))
+    ∙ ap (λ (b : List ℕ). (g.O.Output.written c.args.out.now) ++ (header kind.Update (19 + length b) ++ b)) (sym (withdrawal_is c.args.ctx.now (routes_value c.args.view.now)))

@@ -1,22 +1,22 @@
-use Rattle.std.proofs.Common.{◌≡◌, Bool, cond, false, Option, Some, None, Err, sym, ap, ◌∙◌}
-use Rattle.bgp_open.specs.declared.message.Open.{Open}
-use Rattle.bgp_open.specs.Written.{is_bad}
-use Rattle.bgp_update.specs.declared.invalid.Invalid.{Invalid}
-use Rattle.bgp_update.specs.declared.invalid.Invalid.TheVariants as invalid
-use Rattle.bgp_update.specs.declared.write.WriteFault.{WriteFault}
-use Rattle.bgp_msg.specs.Written.{invalid_open}
+use Rattle.std.proofs.Common.{◌≡◌, ℕ, List, ◌++◌, ◌+◌, length, ap, ◌∙◌}
+use Rattle.std.proofs.lemmas.Result.{on_ok_weaker}
+use Rattle.bgp_frame.specs.declared.kind.Kind.TheVariants as kind
+use Rattle.bgp_frame.specs.Head.{header}
+use Rattle.bgp_open.specs.declared.capability.Capability.{Capability}
+use Rattle.bgp_open.specs.OpenView.{open_value}
+use Rattle.bgp_open.specs.Written.{body_octets, canonical, row_octets}
+use Rattle.bgp_clean.specs.Opens.{cleaned_open, understood}
 use Rattle.bgp_clean.proofs.opens.put_open.Goals as goal
 
-abbrev some : Invalid → Option Invalid
-some why = Some why
-
-not_some : (why : Invalid) → None ≡ some why → ⊥
-not_some why e = absurd cc
-
-never : (o : Open) (why : Invalid) → is_bad o ≡ false → invalid_open o ≡ some why → ⊥
-never o why good e = not_some why (sym (ap (λ (t : Bool). cond t (some invalid.BadOpen) None) good) ∙ e)
-
-pub unreachable-requires : goal.unreachable-requires
-unreachable-requires c =
-    let why = c.in-Err-NotValid.field-0-0 in
-    never c.args.told why c.requires.good ((c.encode.ensures.not_valid why).0 (c.in-Err-NotValid.is ∙ ap (λ (f : WriteFault). Err f) c.in-Err-NotValid.field-0-is))
+pub returns-clause-ok : goal.returns-clause-ok
+returns-clause-ok g c =
+    let o = open_value c.args.view.now in
+    let row : c.deref.result.now ≡ row_octets (understood o.caps) =
+    c.deref.ensures.0 ∙ c.understood-row.ensures ∙ ap (λ (caps : List Capability). row_octets (understood caps)) c.capabilities.ensures in
+    let body : c.as_slice.result.now ≡ canonical (cleaned_open o) =
+    c.as_slice.ensures.value ∙ c.open_body-body.ensures.octets
+    ∙ ap (λ (field : ℕ). body_octets field c.hold.result c.id.result c.deref.result.now) c.as_field.ensures
+    ∙ ap (λ (hold : ℕ). body_octets o.as_field hold c.id.result c.deref.result.now) c.hold.ensures
+    ∙ ap (λ (id : List ℕ). body_octets o.as_field o.hold id c.deref.result.now) c.id.ensures
+    ∙ ap (λ (r : List ℕ). body_octets o.as_field o.hold o.id r) row in
+    on_ok_weaker c.put_whole.result (λ e. e ∙ ap (λ (b : List ℕ). g.O.Output.written c.args.out.now ++ (header kind.Open (19 + length b) ++ b)) body) c.put_whole.ensures.ok

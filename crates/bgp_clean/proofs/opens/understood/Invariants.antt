@@ -1,12 +1,15 @@
-use Rattle.std.proofs.Common.{◌≡◌, ◌++◌, length}
+use Rattle.std.proofs.Common.{◌≡◌, ◌≤◌, ◌++◌, length}
 use Rattle.bgp_open.specs.CapabilityIter.{capabilities_left}
+use Rattle.bgp_open.specs.Written.{row_octets}
 use Rattle.bgp_clean.specs.Opens.{understood, understood_behind}
 use Rattle.bgp_clean.specs.steps.Seen.{seen_value}
 use Rattle.bgp_clean.proofs.opens.understood.Given as goal
 
--- those so far, and those still to come, are all
+-- those so far, and those still to come, are all, and have room
 abbrev pub invariant-row : goal.invariant-row
-invariant-row l = l.kept ++ understood_behind (seen_value l.seen) (capabilities_left l.left) ≡ understood (capabilities_left l.fn.capabilities)
+invariant-row l =
+    (l.row.items ++ row_octets (understood_behind (seen_value l.seen) (capabilities_left l.left)) ≡ row_octets (understood (capabilities_left l.fn.capabilities)))
+    × (length (row_octets (understood (capabilities_left l.fn.capabilities))) ≤ 253)
 
 abbrev pub decreases-row : goal.decreases-row
 decreases-row l = length (capabilities_left l.left)

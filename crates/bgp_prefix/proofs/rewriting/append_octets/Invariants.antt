@@ -1,5 +1,6 @@
-use Rattle.std.proofs.Common.{◌≡◌, ◌++◌, List, ℕ, length}
+use Rattle.std.proofs.Common.{◌≡◌, ◌++◌, length}
 use Rattle.std.specs.List.{flat_map}
+use Rattle.bgp_wire.specs.Output.{Extends}
 use Rattle.bgp_prefix.specs.Prefix.{spelling_of}
 use Rattle.bgp_prefix.specs.Run.{run_of}
 use Rattle.bgp_prefix.proofs.rewriting.append_octets.Given as goal
@@ -7,8 +8,8 @@ use Rattle.bgp_prefix.proofs.rewriting.append_octets.Given as goal
 -- what is there so far, and the prefixes of what is left, are what was there and all the prefixes
 abbrev pub invariant-run : goal.invariant-run
 invariant-run g l = record {
-  whole : l.out.items ++ flat_map spelling_of (run_of g.row.W l.rest).0 ≡ l.initial.out.items ++ flat_map spelling_of (run_of g.row.W l.octets).0;
-  begins : (more : List ℕ) × (l.out.items ≡ l.initial.out.items ++ more);
+  whole : g.O.Output.written l.out ++ flat_map spelling_of (run_of g.row.W l.rest).0 ≡ g.O.Output.written l.initial.out ++ flat_map spelling_of (run_of g.row.W l.octets).0;
+  begins : Extends (g.O.Output.written l.initial.out) (g.O.Output.written l.out);
 }
 
 abbrev pub decreases-run : goal.decreases-run

@@ -1,4 +1,4 @@
--- What writers leave in a vector.
+-- What a write leaves of the octets that were there.
 use Rattle.std.specs.Prelude.{◌≡◌, ℕ, List, ◌++◌}
 
 -- what was there, and some octets behind it

@@ -1,0 +1,13 @@
+use Rattle.std.proofs.Common.{◌≡◌, ◌+◌, length}
+use Rattle.bgp_open.specs.CapabilityIter.{capabilities_left}
+use Rattle.bgp_open.specs.OpenView.{open_value}
+use Rattle.bgp_clean.specs.Opens.{understood, understood_behind}
+use Rattle.bgp_clean.specs.steps.Seen.{seen_value}
+use Rattle.bgp_clean.proofs.opens.count_understood.Given as goal
+
+-- those so far, and those still to come, are all
+abbrev pub invariant-row : goal.invariant-row
+invariant-row l = l.count + length (understood_behind (seen_value l.seen) (capabilities_left l.left)) ≡ length (understood (open_value l.view).caps)
+
+abbrev pub decreases-row : goal.decreases-row
+decreases-row l = length (capabilities_left l.left)
