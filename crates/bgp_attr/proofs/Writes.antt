@@ -5,7 +5,7 @@ use Rattle.std.proofs.lemmas.List.{append-nil, take_more, take_all, flat_map_mor
 use Rattle.std.proofs.lemmas.List.Folds.{flat_map-map}
 use Rattle.bgp_prefix.specs.declared.as_number.AsNumber.{AsNumber}
 use Rattle.bgp_attr.specs.declared.path.Segment.{Segment}
-use Rattle.bgp_wire.specs.Output.{Extends}
+use Rattle.bgp_wire.specs.steps.Output.{Extends}
 use Rattle.bgp_attr.specs.Numbers.{number_octets}
 use Rattle.bgp_attr.specs.Written.{segment_code, segment_octets}
 use Rattle.bgp_attr.proofs.NumberRows.{number_of}

@@ -3,7 +3,7 @@
 ghost use Rattle.std.specs.Prelude.{◌≡◌, ◌<◌, ◌+◌, ◌≤◌, ℕ, List, ◌++◌, length, map, true, false, OnOk, OnErr};
 ghost use Rattle.std.specs.List.{flat_map, list_any, AllByRecursion};
 ghost use Rattle.bgp_wire.specs.Octets.{AreOctets};
-ghost use Rattle.bgp_wire.specs.Output.{Extends};
+ghost use Rattle.bgp_wire.specs.steps.Output.{Extends};
 ghost use Rattle.bgp_attr.specs.Numbers.{number_octets, row_octets, triple_octets};
 ghost use Rattle.bgp_attr.specs.Written.{segment_code, segment_octets, is_bad_segment, IsFourOctets, IsThreeNumbers, IsAddress, run_octets};
 ghost use Rattle.bgp_prefix.specs.Prefix.{IsValid};

@@ -2,7 +2,7 @@
 
 ghost use Rattle.std.specs.Prelude.{◌≡◌, ◌<◌, ◌≤◌, ◌+◌, ◌-◌, ◌%◌, ◌++◌, false, true, length, OnOk, OnErr};
 ghost use Rattle.std.specs.List.{flat_map, list_any};
-ghost use Rattle.bgp_wire.specs.Output.{Extends};
+ghost use Rattle.bgp_wire.specs.steps.Output.{Extends};
 ghost use Rattle.bgp_attr.specs.MpView.{reach_value, unreach_value};
 ghost use Rattle.bgp_attr.specs.NumberIter.{as_numbers_left, communities_left};
 ghost use Rattle.bgp_attr.specs.LargeIter.{triples_left};

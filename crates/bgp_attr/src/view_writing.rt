@@ -1,7 +1,7 @@
 //! Writing an attribute from its view.
 
 ghost use Rattle.std.specs.Prelude.{◌≡◌, ◌<◌, ◌+◌, ◌≤◌, ◌++◌, false, true, length, OnOk, OnErr};
-ghost use Rattle.bgp_wire.specs.Output.{Extends};
+ghost use Rattle.bgp_wire.specs.steps.Output.{Extends};
 ghost use Rattle.bgp_attr.specs.AttrView.{attr_value};
 ghost use Rattle.bgp_attr.specs.Length.{value_len};
 ghost use Rattle.bgp_attr.specs.Written.{canonical, is_empty, is_writable, value_octets};

@@ -7,7 +7,7 @@ ghost use Rattle.bgp_attr.specs.declared.attr.Attr.TheVariants as attr;
 ghost use Rattle.bgp_attr.specs.declared.judged.Judged.TheVariants as judged;
 ghost use Rattle.bgp_prefix.specs.Prefix.{PrefixValue, IsValid};
 ghost use Rattle.bgp_wire.specs.Octets.{AreOctets};
-ghost use Rattle.bgp_wire.specs.Output.{Extends};
+ghost use Rattle.bgp_wire.specs.steps.Output.{Extends};
 ghost use Rattle.bgp_attr.specs.AttrRef.{ref_value};
 ghost use Rattle.bgp_attr.specs.Flags.{flags_octet};
 ghost use Rattle.bgp_attr.specs.Judgement.{judgement};

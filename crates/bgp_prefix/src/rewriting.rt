@@ -2,7 +2,7 @@
 
 ghost use Rattle.std.specs.Prelude.{◌≡◌, ◌+◌, ◌<◌, ◌++◌, ◌∷◌, ℕ, List, length, OnOk, OnErr};
 ghost use Rattle.std.specs.List.{flat_map};
-ghost use Rattle.bgp_wire.specs.Output.{Extends};
+ghost use Rattle.bgp_wire.specs.steps.Output.{Extends};
 ghost use Rattle.bgp_prefix.specs.Bits.{octets_for, leading_bits};
 ghost use Rattle.bgp_prefix.specs.Prefix.{spelling_of};
 ghost use Rattle.bgp_prefix.specs.PrefixIter.{prefixes_left};

@@ -2,7 +2,7 @@
 
 ghost use Rattle.std.specs.Prelude.{◌≡◌, ◌≤◌, ◌+◌, ◌++◌, true, length, OnOk, OnErr};
 ghost use Rattle.std.specs.List.{flat_map, AllByRecursion};
-ghost use Rattle.bgp_wire.specs.Output.{Extends};
+ghost use Rattle.bgp_wire.specs.steps.Output.{Extends};
 ghost use Rattle.bgp_attr.specs.AttrRef.{ref_value};
 ghost use Rattle.bgp_attr.specs.Length.{within};
 ghost use Rattle.bgp_attr.specs.Written.{canonical, is_writable, HasRanges};

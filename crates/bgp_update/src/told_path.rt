@@ -3,7 +3,7 @@
 ghost use Rattle.std.specs.Prelude.{◌≡◌, ◌≤◌, ◌++◌, false, true, length, option_map, OnOk, OnErr};
 ghost use Rattle.std.specs.List.{flat_map, list_any, AllByRecursion};
 ghost use Rattle.bgp_attr.specs.declared.attr.Attr.TheVariants as attr;
-ghost use Rattle.bgp_wire.specs.Output.{Extends};
+ghost use Rattle.bgp_wire.specs.steps.Output.{Extends};
 ghost use Rattle.bgp_attr.specs.NumberIter.{as_numbers_left};
 ghost use Rattle.bgp_attr.specs.Numbers.{number_octets};
 ghost use Rattle.bgp_attr.specs.PathView.{path_value, segment_value};

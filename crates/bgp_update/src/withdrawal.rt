@@ -2,7 +2,7 @@
 
 ghost use Rattle.std.specs.Prelude.{◌≡◌, ◌<◌, ◌+◌, ◌≤◌, ◌++◌, [], nat_lt, length, option_map, IfOk, OnOk, OnErr};
 ghost use Rattle.bgp_attr.specs.MpView.{reach_value, unreach_value};
-ghost use Rattle.bgp_wire.specs.Output.{Extends};
+ghost use Rattle.bgp_wire.specs.steps.Output.{Extends};
 ghost use Rattle.bgp_attr.specs.Written.{run_octets};
 ghost use Rattle.bgp_numbers.specs.declared.afi.TheConstants.{IPV6};
 ghost use Rattle.bgp_update.specs.Notes.{gone_ip4, gone_ip6, reached_ip4, reached_ip6};

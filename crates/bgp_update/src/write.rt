@@ -3,7 +3,7 @@
 ghost use Rattle.std.specs.Prelude.{◌≡◌, ◌≤◌, ◌++◌, ◌↔◌, [], true, None, Some, length, IsTrue, IsErrOf, OnOk, OnErr};
 ghost use Rattle.std.specs.Int.{w16, to_be_bytes};
 ghost use Rattle.std.specs.List.{AllByRecursion};
-ghost use Rattle.bgp_wire.specs.Output.{Extends};
+ghost use Rattle.bgp_wire.specs.steps.Output.{Extends};
 ghost use Rattle.bgp_attr.specs.Written.{run_octets, is_writable};
 ghost use Rattle.bgp_prefix.specs.Prefix.{IsValid};
 ghost use Rattle.bgp_update.specs.declared.verdict.Verdict.TheVariants.{Take};

@@ -5,4 +5,4 @@ pub mod Then
 pub mod Reader
 pub mod Behind
 pub mod OctetSet
-pub mod Output
+pub mod steps

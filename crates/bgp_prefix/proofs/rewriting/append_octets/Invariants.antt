@@ -1,6 +1,6 @@
 use Rattle.std.proofs.Common.{◌≡◌, ◌++◌, length}
 use Rattle.std.specs.List.{flat_map}
-use Rattle.bgp_wire.specs.Output.{Extends}
+use Rattle.bgp_wire.specs.steps.Output.{Extends}
 use Rattle.bgp_prefix.specs.Prefix.{spelling_of}
 use Rattle.bgp_prefix.specs.Run.{run_of}
 use Rattle.bgp_prefix.proofs.rewriting.append_octets.Given as goal
