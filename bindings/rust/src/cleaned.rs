@@ -95,7 +95,7 @@ impl Message<'_> {
     ///
     /// # Errors
     ///
-    /// [`Error::Memory`].
+    /// None: the library takes no memory for it.
     pub fn clean(&self, first: bool, types: &[u8]) -> Result<Cleaned, Error> {
         let mut message = vec![0; MESSAGE];
         let (context, octets) = self.judged();

@@ -1,46 +1,26 @@
 -- An UPDATE without some of its unrecognised attributes: each other slot is as it was, so it can be written in no more octets.
-use Rattle.std.proofs.Common.{◌≡◌, ℕ, ◌+◌, ◌≤◌, Bool, true, false, not, ◌||◌, cond, eqb, List, [], ◌∷◌, ◌++◌, length, map, Option, Some, None, ◌⊎◌, inl, inr, refl, sym, ap, subst, ◌∙◌, arith}
-use Rattle.std.specs.List.{filter, find, flat_map, AllByRecursion}
-use Rattle.std.proofs.lemmas.Bool.{false≢true, eqb-true, both_ways}
+use Rattle.std.proofs.Common.{◌≡◌, ℕ, ◌+◌, ◌≤◌, Bool, true, false, ◌||◌, cond, eqb, List, [], ◌∷◌, ◌++◌, length, None, ◌⊎◌, inl, inr, refl, sym, ap, subst, ◌∙◌, arith}
+use Rattle.std.specs.List.{flat_map, AllByRecursion}
+use Rattle.std.proofs.lemmas.Bool.{false≢true}
 use Rattle.std.proofs.lemmas.Grind.{flat_map-append}
 use Rattle.std.proofs.lemmas.List.{length-append}
 use Rattle.bgp_open.specs.declared.context.Context.{Context}
 use Rattle.bgp_attr.specs.declared.attr.Attr.{Attr}
 use Rattle.bgp_attr.specs.declared.attr.Attr.TheVariants as attr
-use Rattle.bgp_attr.specs.declared.attr_view.OpaqueView.{OpaqueView}
 use Rattle.bgp_attr.specs.declared.opaque.Opaque.{Opaque}
-use Rattle.bgp_attr.specs.AttrView.{opaque_value}
 use Rattle.bgp_attr.specs.Judgement.{is_recognised}
 use Rattle.bgp_attr.specs.Table.{has_entry, entry_of}
 use Rattle.bgp_attr.specs.Written.{canonical, is_writable, run_octets}
 use Rattle.bgp_update.specs.declared.attrs.Attrs.{Attrs}
 use Rattle.bgp_update.specs.declared.update.Update.{Update}
-use Rattle.bgp_update.specs.declared.view.UpdateView.{UpdateView}
 use Rattle.bgp_update.specs.Slots.{present, slots, slot, canonical_order, attr_list}
-use Rattle.bgp_update.specs.View.{update_value, update_with}
 use Rattle.bgp_update.specs.Written.{attributes_octets, invalid_of, written_body}
 use Rattle.bgp_update.proofs.Bodies.{length-body}
+use Rattle.bgp_update.proofs.Filtered.{find-dropped, find-kept}
 use Rattle.bgp_update.proofs.Lists.{all-append, all-front, all-back}
 use Rattle.bgp_update.proofs.ReadBack.{none-long, short-writable}
 use Rattle.bgp_update.proofs.SlotLemmas.{slot-at, slot-other, other_slot}
 use Rattle.bgp_clean.specs.Updates.{cleaned_attrs, cleaned_update}
-
--- ---- views that are left out are values that are
-
-map-by : (t : Bool) (v : OpaqueView) (vs : List OpaqueView) (os : List Opaque) → map opaque_value vs ≡ os → map opaque_value (cond t (v ∷ vs) vs) ≡ cond t (opaque_value v ∷ os) os
-map-by true v vs os e = ap (λ (x : List Opaque). opaque_value v ∷ x) e
-map-by false v vs os e = e
-
-map-filter : (test : ℕ → Bool) (vs : List OpaqueView) → map opaque_value (filter (λ v. test v.kind) vs) ≡ filter (λ o. test o.kind) (map opaque_value vs)
-map-filter test [] = refl
-map-filter test (v ∷ vs) = map-by (test v.kind) v (filter (λ w. test w.kind) vs) (filter (λ o. test o.kind) (map opaque_value vs)) (map-filter test vs)
-
--- the UPDATE of a view with those that stay is the cleaned one
-pub with_filtered : (drops : ℕ → Bool) (v : UpdateView) (os kept there : List OpaqueView) → map opaque_value os ≡ (update_value v).attrs.others
-    → kept ≡ filter (λ o. not (drops o.kind)) os → there ≡ kept → update_with v there ≡ cleaned_update drops (update_value v)
-with_filtered drops v os kept there are stay same =
-    ap (λ (xs : List Opaque). record (update_value v) { attrs = record (update_value v).attrs { others = xs } })
-    (ap (map opaque_value) (same ∙ stay) ∙ map-filter (λ k. not (drops k)) os ∙ ap (filter (λ (o : Opaque). not (drops o.kind))) are)
 
 -- ---- an entry of a table that has it
 
@@ -55,32 +35,6 @@ module _ {A : Type 0} (kind : ℕ) (x y : A) where
   entry-same (row ∷ rows) has = entry-by row rows (eqb kind row.0) has (entry-same rows)
 
 -- ---- slots
-
-module _ (drops : ℕ → Bool) (k : ℕ) where
-  abbrev filtered : List Opaque → List Opaque
-  filtered os = filter (λ o. not (drops o.kind)) os
-
-  abbrev found : List Opaque → Option Opaque
-  found os = find (λ o. eqb o.kind k) os
-
-  dropped-by : (o : Opaque) (os : List Opaque) (t u : Bool) → drops o.kind ≡ t → eqb o.kind k ≡ u → drops k ≡ true → found os ≡ None → found (cond (not t) (o ∷ os) os) ≡ None
-  dropped-by o os true u e f drop none = none
-  dropped-by o os false true e f drop none = absurd (both_ways (drops k) (ap drops (sym (eqb-true o.kind k f)) ∙ e) drop)
-  dropped-by o os false false e f drop none = ap (λ (t : Bool). cond t (Some o) (found os)) f ∙ none
-
-  find-dropped : drops k ≡ true → (os : List Opaque) → found (filtered os) ≡ None
-  find-dropped drop [] = refl
-  find-dropped drop (o ∷ os) = dropped-by o (filtered os) (drops o.kind) (eqb o.kind k) refl refl drop (find-dropped drop os)
-
-  kept-by : (o : Opaque) (os all : List Opaque) (t u : Bool) → drops o.kind ≡ t → eqb o.kind k ≡ u → drops k ≡ false → found os ≡ found all
-      → found (cond (not t) (o ∷ os) os) ≡ cond (eqb o.kind k) (Some o) (found all)
-  kept-by o os all true true e f keep same = absurd (both_ways (drops k) keep (ap drops (sym (eqb-true o.kind k f)) ∙ e))
-  kept-by o os all true false e f keep same = same ∙ ap (λ (t : Bool). cond t (Some o) (found all)) (sym f)
-  kept-by o os all false u e f keep same = ap (λ (r : Option Opaque). cond (eqb o.kind k) (Some o) r) same
-
-  find-kept : drops k ≡ false → (os : List Opaque) → found (filtered os) ≡ found os
-  find-kept keep [] = refl
-  find-kept keep (o ∷ os) = kept-by o (filtered os) os (drops o.kind) (eqb o.kind k) refl refl keep (find-kept keep os)
 
 module _ (drops : ℕ → Bool) (a : Attrs) where
   abbrev fewer : Attrs

@@ -1,6 +1,5 @@
 -- What goes on of an UPDATE (RFC 7606), and which one says nothing.
-use Rattle.std.specs.Prelude.{ℕ, Bool, true, not, is_some, ◌&&◌, ◌==◌, List, [], ◌∷◌, length, Option, None, Some}
-use Rattle.std.specs.List.{filter}
+use Rattle.std.specs.Prelude.{ℕ, Bool, true, is_some, ◌&&◌, ◌==◌, List, [], ◌∷◌, length, Option, None, Some}
 use Rattle.bgp_prefix.specs.Prefix.{PrefixValue}
 use Rattle.bgp_attr.specs.declared.attr.Attr.{Attr}
 use Rattle.bgp_attr.specs.declared.mp.MpUnreach.{MpUnreach}
@@ -10,16 +9,17 @@ use Rattle.bgp_update.specs.declared.routes.Routes.{Routes}
 use Rattle.bgp_update.specs.declared.update.Update.{Update}
 use Rattle.bgp_update.specs.Slots.{attr_list}
 use Rattle.bgp_update.specs.Taken.{no_attrs}
+use Rattle.bgp_update.specs.Without.{attrs_without, update_without}
 pub use Rattle.bgp_update.specs.EndOfRib.{bare_family, family_of_kept, family_of_marks, end_of_rib}
 
 -- ---- one that is accepted
 
 -- without the unrecognised attributes that are left out by type
 abbrev pub cleaned_attrs : (ℕ → Bool) → Attrs → Attrs
-cleaned_attrs drops a = record a { others = filter (λ o. not (drops o.kind)) a.others }
+cleaned_attrs drops a = attrs_without drops a
 
 abbrev pub cleaned_update : (ℕ → Bool) → Update → Update
-cleaned_update drops u = record u { attrs = cleaned_attrs drops u.attrs }
+cleaned_update drops u = update_without drops u
 
 -- ---- one that is treated as a withdrawal
 

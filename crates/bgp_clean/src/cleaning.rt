@@ -25,7 +25,7 @@ use bgp_msg::{OutcomeView, view_frame};
 use bgp_open::Context;
 use bgp_update::UpdateView;
 use bgp_wire::{OctetSet, Output};
-use std::alloc::{AllocError, Global};
+use std::alloc::AllocError;
 
 /// What a body has are octets: nothing is done.
 fn are_octets(body: &[u8])
@@ -62,12 +62,12 @@ fn pass_on<O: Output>(ctx: &Context, frame: Frame<'_>, out: &mut O) -> Result<Cl
 
 /// Appends what is handed on of a whole message in a context, as a whole message in its one written form, or says why the cleaned stream ends before it.
 /// Unrecognised attributes of the types in `drops` are left out; `first` says whether the message is the first one of its stream, which an OPEN has to
-/// be. An UPDATE is written from its view.
+/// be. It takes no memory but for the growth of a vector, and never fails where there is room for 4096 octets more, as in an empty
+/// [`Page<4096>`](bgp_wire::Page).
 ///
 /// # Errors
-/// `AllocError` where an allocation failed; nothing is appended then.
+/// `AllocError` where there was no room; nothing is appended then.
 pub fn clean<O: Output>(
-    alloc: Global,
     ctx: &Context,
     drops: &OctetSet,
     first: bool,
@@ -77,12 +77,13 @@ pub fn clean<O: Output>(
     requires { IsLength frame.kind (19 + length frame.body.now) }
     ensures value { IfOk result (λ c. IsCleaned ctx.now (cleaned ctx.now (has_octet drops.now) first (message_in frame.entry)) (O.written out.old) (O.written out.new) c) }
     ensures err { OnErr result (O.written out.new ≡ O.written out.old) }
+    ensures full { OnErr result (O.room < length (O.written out.old) + 4096) }
 {
     are_octets(frame.body);
     let mut place = UpdateView::empty();
     match view_frame(ctx, frame, &mut place) {
         OutcomeView::Open(view) => clean_open(ctx, first, view, out),
-        OutcomeView::Update(view) => clean_update(alloc, ctx, drops, view, frame, out),
+        OutcomeView::Update(view) => clean_update(ctx, drops, view, frame, out),
         OutcomeView::Withdraw(view) => clean_withdrawal(ctx, view, out),
         OutcomeView::Notification(_) => pass_on(ctx, frame, out),
         OutcomeView::Keepalive => pass_on(ctx, frame, out),

@@ -1,13 +1,14 @@
 //! What is handed on of an UPDATE.
 
-ghost use Rattle.std.specs.Prelude.{◌≡◌, ◌≤◌, ◌++◌, true, not, is_some, None, Ok, length, IfOk, OnOk, OnErr};
-ghost use Rattle.std.specs.List.{filter, AllByRecursion};
+ghost use Rattle.std.specs.Prelude.{◌≡◌, ◌+◌, ◌<◌, ◌≤◌, ◌++◌, true, is_some, None, Ok, length, IfOk, OnOk, OnErr};
+ghost use Rattle.std.specs.List.{AllByRecursion};
 ghost use Rattle.bgp_attr.specs.Written.{is_writable};
 ghost use Rattle.bgp_update.specs.Slots.{attr_list};
 ghost use Rattle.bgp_frame.specs.Step.{message_in};
 ghost use Rattle.bgp_wire.specs.OctetSet.{has_octet};
-ghost use Rattle.bgp_update.specs.Iters.{slots_left};
-ghost use Rattle.bgp_update.specs.View.{update_value, update_with};
+ghost use Rattle.bgp_update.specs.Chosen.{chosen_update};
+ghost use Rattle.bgp_update.specs.ChosenIter.{chosen_left};
+ghost use Rattle.bgp_update.specs.View.{update_value};
 ghost use Rattle.bgp_update.specs.Written.{invalid_of, written_body};
 ghost use Rattle.bgp_msg.specs.Written.{canonical};
 ghost use Rattle.bgp_clean.specs.Clean.{ended_family, handed_update};
@@ -16,25 +17,15 @@ ghost use Rattle.bgp_clean.specs.Updates.{cleaned_update, is_bare, says_nothing}
 
 use crate::cleaned::Cleaned;
 use crate::whole::{Body, put_whole};
-use bgp_attr::OpaqueView;
 use bgp_frame::{Frame, Kind};
 use bgp_open::Context;
-use bgp_update::{SlotIter, UpdateView, is_bare_unreach, is_end_of_rib};
-use bgp_wire::{List, OctetSet, Output};
-use std::alloc::{AllocError, Global};
-
-/// Those that aren't left out by type.
-fn going_on<'a>(others: List<OpaqueView<'a>>, drops: &OctetSet) -> List<OpaqueView<'a>>
-    ensures { result ≡ filter (λ o. not (has_octet drops.now o.kind)) others.entry }
-{
-    let mut kept = others.into_vec();
-    kept.retain(|other| !drops.contains(other.kind));
-    List::from_vec(kept)
-}
+use bgp_update::{ByType, Chosen, ChosenIter, UpdateView, is_bare_unreach, is_end_of_rib};
+use bgp_wire::{OctetSet, Output};
+use std::alloc::AllocError;
 
 /// Whether there is no attribute, or an MP_UNREACH_NLRI without routes alone.
-fn are_bare(attrs: SlotIter<'_, '_>) -> bool
-    ensures { result ≡ is_bare (slots_left attrs.entry) }
+fn are_bare(attrs: ChosenIter<'_, '_>) -> bool
+    ensures { result ≡ is_bare (chosen_left attrs.entry) }
 {
     let mut left = attrs;
     match left.next() {
@@ -43,13 +34,14 @@ fn are_bare(attrs: SlotIter<'_, '_>) -> bool
     }
 }
 
-/// Whether an UPDATE with these others says nothing.
-fn says_nothing(view: &UpdateView<'_>, others: &[OpaqueView<'_>]) -> bool
-    ensures { result ≡ says_nothing (update_with view.now others.now) }
+/// Whether an UPDATE with these attributes says nothing.
+fn says_nothing(chosen: &Chosen<'_, '_>) -> bool
+    ensures { result ≡ says_nothing (chosen_update chosen.now) }
 {
+    let view = chosen.view();
     view.withdrawn().next().is_none()
         && view.nlri().next().is_none()
-        && are_bare(SlotIter::new(view.kept(), others))
+        && are_bare(ChosenIter::new(*chosen))
 }
 
 /// Whether a message is an End-of-RIB.
@@ -63,35 +55,81 @@ fn ends_rib(ctx: &Context, frame: Frame<'_>) -> bool
     }
 }
 
-/// Appends what is handed on of an UPDATE that is accepted, with these in place of its attributes of types that aren't recognised: what says nothing
-/// becomes a KEEPALIVE, unless it is an End-of-RIB.
-fn put_update<O: Output>(
+/// Appends what is handed on of an UPDATE that is accepted, with these attributes: what says nothing becomes a KEEPALIVE, unless it is an End-of-RIB.
+#[inline(always)]
+fn put_chosen<O: Output>(
     ctx: &Context,
-    view: &UpdateView<'_>,
-    others: &[OpaqueView<'_>],
+    chosen: &Chosen<'_, '_>,
     frame: Frame<'_>,
     out: &mut O,
 ) -> Result<(), AllocError>
     requires body { length frame.body.now ≤ 4077 }
-    requires writable { AllByRecursion (λ a. is_writable ctx.now a ≡ true) (attr_list (update_with view.now others.now).attrs) }
-    requires short { length (written_body ctx.now (update_with view.now others.now)) ≤ 4077 }
+    requires writable { AllByRecursion (λ a. is_writable ctx.now a ≡ true) (attr_list (chosen_update chosen.now).attrs) }
+    requires short { length (written_body ctx.now (chosen_update chosen.now)) ≤ 4077 }
     ensures ok { OnOk result (O.written out.new ≡ O.written out.old
-        ++ canonical ctx.now (handed_update (is_some (ended_family ctx.now (message_in frame.entry))) (update_with view.now others.now))) }
+        ++ canonical ctx.now (handed_update (is_some (ended_family ctx.now (message_in frame.entry))) (chosen_update chosen.now))) }
     ensures err { OnErr result (O.written out.new ≡ O.written out.old) }
+    ensures full { OnErr result (O.room < length (O.written out.old) + 4096) }
 {
-    if says_nothing(view, others) && !ends_rib(ctx, frame) {
+    if says_nothing(chosen) && !ends_rib(ctx, frame) {
         put_whole(ctx, &Body::Same(Kind::Keepalive, &[]), out)
     } else {
-        put_whole(ctx, &Body::Update(view, others), out)
+        put_whole(ctx, &Body::Update(chosen), out)
+    }
+}
+
+/// The same, of an UPDATE that keeps attributes of types that aren't recognised: these are sorted first.
+#[inline(never)]
+fn put_sorted<O: Output>(
+    ctx: &Context,
+    drops: &OctetSet,
+    view: &UpdateView<'_>,
+    frame: Frame<'_>,
+    out: &mut O,
+) -> Result<(), AllocError>
+    requires body { length frame.body.now ≤ 4077 }
+    requires writable { AllByRecursion (λ a. is_writable ctx.now a ≡ true) (attr_list (cleaned_update (has_octet drops.now) (update_value view.now)).attrs) }
+    requires short { length (written_body ctx.now (cleaned_update (has_octet drops.now) (update_value view.now))) ≤ 4077 }
+    ensures ok { OnOk result (O.written out.new ≡ O.written out.old
+        ++ canonical ctx.now (handed_update (is_some (ended_family ctx.now (message_in frame.entry))) (cleaned_update (has_octet drops.now) (update_value view.now)))) }
+    ensures err { OnErr result (O.written out.new ≡ O.written out.old) }
+    ensures full { OnErr result (O.room < length (O.written out.old) + 4096) }
+{
+    let mut place = ByType::new();
+    view.sort_others(&mut place);
+    let chosen = Chosen::without(view, drops, &place);
+    put_chosen(ctx, &chosen, frame, out)
+}
+
+/// The same, of any.
+fn put_update<O: Output>(
+    ctx: &Context,
+    drops: &OctetSet,
+    view: &UpdateView<'_>,
+    frame: Frame<'_>,
+    out: &mut O,
+) -> Result<(), AllocError>
+    requires body { length frame.body.now ≤ 4077 }
+    requires writable { AllByRecursion (λ a. is_writable ctx.now a ≡ true) (attr_list (cleaned_update (has_octet drops.now) (update_value view.now)).attrs) }
+    requires short { length (written_body ctx.now (cleaned_update (has_octet drops.now) (update_value view.now))) ≤ 4077 }
+    ensures ok { OnOk result (O.written out.new ≡ O.written out.old
+        ++ canonical ctx.now (handed_update (is_some (ended_family ctx.now (message_in frame.entry))) (cleaned_update (has_octet drops.now) (update_value view.now)))) }
+    ensures err { OnErr result (O.written out.new ≡ O.written out.old) }
+    ensures full { OnErr result (O.room < length (O.written out.old) + 4096) }
+{
+    if view.kept().others {
+        put_sorted(ctx, drops, view, frame, out)
+    } else {
+        let chosen = Chosen::all(view, drops);
+        put_chosen(ctx, &chosen, frame, out)
     }
 }
 
 /// Appends what is handed on of an UPDATE that is accepted, without the attributes that are left out by type.
 ///
 /// # Errors
-/// `AllocError` where an allocation failed; nothing is appended then.
+/// `AllocError` where there was no room; nothing is appended then.
 pub(crate) fn clean_update<O: Output>(
-    alloc: Global,
     ctx: &Context,
     drops: &OctetSet,
     view: &UpdateView<'_>,
@@ -104,8 +142,8 @@ pub(crate) fn clean_update<O: Output>(
     ensures value { IfOk result (λ c. IsCleaned ctx.now
         (Ok (handed_update (is_some (ended_family ctx.now (message_in frame.entry))) (cleaned_update (has_octet drops.now) (update_value view.now)))) (O.written out.old) (O.written out.new) c) }
     ensures err { OnErr result (O.written out.new ≡ O.written out.old) }
+    ensures full { OnErr result (O.room < length (O.written out.old) + 4096) }
 {
-    let others = going_on(view.others(alloc)?, drops);
-    put_update(ctx, view, others.as_slice(), frame, out)?;
+    put_update(ctx, drops, view, frame, out)?;
     Ok(Cleaned::HandedOn)
 }

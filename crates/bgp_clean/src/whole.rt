@@ -5,37 +5,40 @@ ghost use Rattle.bgp_frame.specs.Frame.{octets_of};
 ghost use Rattle.bgp_frame.specs.Kind.{IsLength};
 ghost use Rattle.bgp_clean.specs.steps.Bodies.{kind_in, octets_in, message_of, IsWritable};
 
-use bgp_attr::OpaqueView;
 use bgp_frame::Kind;
 use bgp_msg::put_header;
 use bgp_open::Context;
-use bgp_update::UpdateView;
+use bgp_update::{Chosen, UpdateView};
 use bgp_wire::Output;
 use std::alloc::AllocError;
 
 /// A body that is handed on.
 #[derive(Clone, Copy)]
-pub(crate) enum Body<'b, 'a> {
-    /// Of an UPDATE, with these in place of its attributes of types that aren't recognised.
-    Update(&'b UpdateView<'a>, &'b [OpaqueView<'a>]),
+pub(crate) enum Body<'c, 'b, 'a> {
+    /// Of an UPDATE, with these attributes.
+    Update(&'c Chosen<'b, 'a>),
     /// Of the UPDATE that withdraws the routes of one.
-    Withdrawal(&'b UpdateView<'a>),
+    Withdrawal(&'c UpdateView<'a>),
     /// Of a message of this kind, as it came.
-    Same(Kind, &'b [u8]),
+    Same(Kind, &'c [u8]),
 }
 
 /// The kind of the message.
-fn kind_of(body: &Body<'_, '_>) -> Kind
+fn kind_of(body: &Body<'_, '_, '_>) -> Kind
     ensures { result ≡ kind_in body.now }
 {
     match body {
-        Body::Update(_, _) | Body::Withdrawal(_) => Kind::Update,
+        Body::Update(_) | Body::Withdrawal(_) => Kind::Update,
         Body::Same(kind, _) => *kind,
     }
 }
 
 /// Appends a body.
-fn put_body<O: Output>(ctx: &Context, body: &Body<'_, '_>, out: &mut O) -> Result<(), AllocError>
+fn put_body<O: Output>(
+    ctx: &Context,
+    body: &Body<'_, '_, '_>,
+    out: &mut O,
+) -> Result<(), AllocError>
     requires writable { IsWritable ctx.now body.now }
     requires allowed { IsLength (kind_in body.now) (19 + length (octets_in ctx.now body.now)) }
     ensures ok { OnOk result (O.written out.new ≡ O.written out.old ++ octets_in ctx.now body.now) }
@@ -43,7 +46,7 @@ fn put_body<O: Output>(ctx: &Context, body: &Body<'_, '_>, out: &mut O) -> Resul
     ensures full { OnErr result (O.room < length (O.written out.old) + length (octets_in ctx.now body.now)) }
 {
     match body {
-        Body::Update(view, others) => view.write_with(ctx, others, out),
+        Body::Update(chosen) => chosen.write(ctx, out),
         Body::Withdrawal(view) => view.write_withdrawal(out),
         Body::Same(_, octets) => out.put(octets),
     }
@@ -52,7 +55,7 @@ fn put_body<O: Output>(ctx: &Context, body: &Body<'_, '_>, out: &mut O) -> Resul
 /// Appends a whole message.
 pub(crate) fn put_whole<O: Output>(
     ctx: &Context,
-    body: &Body<'_, '_>,
+    body: &Body<'_, '_, '_>,
     out: &mut O,
 ) -> Result<(), AllocError>
     requires writable { IsWritable ctx.now body.now }

@@ -13,6 +13,8 @@ pub mod Rising
 pub mod TypeLemmas
 pub mod SlotLemmas
 pub mod SlotTypes
+pub mod Filtered
+pub mod ByTypes
 pub mod Validity
 pub mod Widths
 pub mod MarkTypes

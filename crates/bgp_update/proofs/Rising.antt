@@ -51,7 +51,7 @@ cond-swap false y a b c apart = refl
 not_both : (a b k : ℕ) → eqb a b ≡ false → eqb a k ≡ true → eqb b k ≡ false
 not_both a b k other same = ne_eqb b k (λ (e : b ≡ k). eqb-false a b other (eqb-true a k same ∙ sym e))
 
-find-by : (k : ℕ) (o p : Opaque) (ps : List Opaque) (t : Bool) → eqb p.kind o.kind ≡ false → of_kind k (put_rising o ps) ≡ cond (eqb o.kind k) (Some o) (of_kind k ps)
+pub find-by : (k : ℕ) (o p : Opaque) (ps : List Opaque) (t : Bool) → eqb p.kind o.kind ≡ false → of_kind k (put_rising o ps) ≡ cond (eqb o.kind k) (Some o) (of_kind k ps)
     → of_kind k (cond t (p ∷ put_rising o ps) (o ∷ p ∷ ps)) ≡ cond (eqb o.kind k) (Some o) (cond (eqb p.kind k) (Some p) (of_kind k ps))
 find-by k o p ps true other later =
     ap (λ (x : Option Opaque). cond (eqb p.kind k) (Some p) x) later

@@ -71,6 +71,11 @@ module _ {A : Type 0} (slots : ℕ → List A) (kinds : List ℕ) (i : ℕ) wher
             ranges = all-append P so_far (slots kind) written.ranges all;
           })
 
+      -- where those of a type have no room, all have none
+      pub type_lacks : (room : ℕ) → room < length old + length (flat_map octets (slots kind)) → room < length before + length (flat_map octets (flat_map slots kinds))
+      type_lacks room full =
+          omega (arith, full, ap length written.items, length-append before (flat_map octets so_far), length_added octets, length_all octets)
+
 -- what was there, some octets, and more of them
 pub written_more : {A : Type 0} (octets : A → List ℕ) (P : A → Type 0) (xs : List A) (before old new : List ℕ) → IsWritten octets P xs before old → Extends old new → Extends before new
 written_more octets P xs before old new written more =

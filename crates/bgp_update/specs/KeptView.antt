@@ -8,6 +8,7 @@ use Rattle.bgp_attr.specs.PathView.{path_value}
 use Rattle.bgp_attr.specs.declared.attr.Attr.{Attr}
 use Rattle.bgp_attr.specs.declared.attr.Attr.TheVariants as attr
 use Rattle.bgp_attr.specs.declared.attr_view.OpaqueView.{OpaqueView}
+use Rattle.bgp_attr.specs.declared.opaque.Opaque.{Opaque}
 use Rattle.bgp_update.specs.declared.attrs.Attrs.{Attrs}
 use Rattle.bgp_update.specs.declared.kept_view.KeptView.{KeptView}
 use Rattle.bgp_update.specs.Taken.{put, attrs_of}
@@ -44,8 +45,11 @@ known_value k = record {
 }
 
 -- these, and others of unrecognised types
+abbrev pub with_others : KeptView → List Opaque → Attrs
+with_others kept others = record (known_value kept) { others = others }
+
 abbrev pub attrs_with : KeptView → List OpaqueView → Attrs
-attrs_with kept others = record (known_value kept) { others = map opaque_value others }
+attrs_with kept others = with_others kept (map opaque_value others)
 
 abbrev pub kept_value : KeptView → Kept
 kept_value k = record { known = known_value k; others = k.others }

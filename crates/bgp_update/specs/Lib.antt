@@ -11,9 +11,14 @@ pub mod Widths
 pub mod Body
 pub mod MarkIter
 pub mod KeptView
+pub mod ByType
+pub mod Found
 pub mod Summary
 pub mod View
 pub mod Iters
+pub mod Without
+pub mod Chosen
+pub mod ChosenIter
 pub mod PathInfoView
 pub mod Laws
 pub mod Told

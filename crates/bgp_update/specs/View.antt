@@ -2,6 +2,7 @@
 use Rattle.std.specs.Prelude.{List, map}
 use Rattle.bgp_attr.specs.AttrView.{opaque_value}
 use Rattle.bgp_attr.specs.declared.attr_view.OpaqueView.{OpaqueView}
+use Rattle.bgp_attr.specs.declared.opaque.Opaque.{Opaque}
 use Rattle.bgp_frame.specs.Notification.{notification_of_view}
 use Rattle.bgp_update.specs.declared.note.Note.{Note}
 use Rattle.bgp_update.specs.declared.routes.Routes.{Routes}
@@ -14,6 +15,7 @@ use Rattle.bgp_update.specs.declared.found.Found.TheVariants as found
 use Rattle.bgp_update.specs.declared.view.View.{View}
 use Rattle.bgp_update.specs.declared.view.View.TheVariants as view
 use Rattle.bgp_update.specs.Body.{parts_value}
+use Rattle.bgp_update.specs.KeptView.{with_others}
 use Rattle.bgp_update.specs.Marks.{Mark, marks_of}
 use Rattle.bgp_update.specs.Notes.{notes_of, routes_of}
 use Rattle.bgp_update.specs.Taken.{update_of}
@@ -29,6 +31,10 @@ update_value v = update_of (parts_value v.body) (view_marks v)
 -- with these in place of its attributes of unrecognised types
 abbrev pub update_with : UpdateView → List OpaqueView → Update
 update_with v others = record (update_value v) { attrs = record (update_value v).attrs { others = map opaque_value others } }
+
+-- with the attributes of its slots, and these others
+abbrev pub update_among : UpdateView → List Opaque → Update
+update_among v others = record (update_value v) { attrs = with_others v.summary.kept others }
 
 abbrev pub notes_value : UpdateView → List Note
 notes_value v = notes_of (parts_value v.body) (view_marks v)

@@ -13,7 +13,7 @@ ghost use Rattle.bgp_update.specs.Written.{attributes_octets};
 ghost use Rattle.bgp_update.specs.steps.ToldSlot.{told_attrs};
 
 use crate::kept_view::KeptView;
-use crate::slot_iter::view_slot;
+use crate::slot_iter::{Row, view_slot};
 use crate::told_path::put_told_path;
 use crate::told_slot::{told_types, wide_path};
 use crate::two_octets::{narrow_aggregator, wide_aggregator};
@@ -87,7 +87,7 @@ fn put_slot<'a>(
         attribute::AS4_AGGREGATOR => {
             put_kept!(ctx, out, wide_aggregator(kept.aggregator), As4Aggregator)
         }
-        _ => put_present(ctx, view_slot(kept, others, kind), out),
+        _ => put_present(ctx, view_slot(kept, &Row(others), kind), out),
     }
 }
 

@@ -3,7 +3,7 @@
 ghost use Rattle.std.specs.Prelude.{◌≡◌, [], ◌∷◌, MatchOption};
 ghost use Rattle.std.specs.List.{flat_map};
 ghost use Rattle.bgp_attr.specs.AttrView.{attr_value};
-ghost use Rattle.bgp_update.specs.KeptView.{attrs_with};
+ghost use Rattle.bgp_update.specs.KeptView.{attrs_with, with_others};
 ghost use Rattle.bgp_update.specs.Slots.{present, slot, attr_list};
 
 use crate::kept_view::KeptView;
@@ -13,15 +13,56 @@ use bgp_attr::{AttrView, OpaqueView};
 use bgp_numbers::attribute;
 use std::iter::FusedIterator;
 
+/// Where attributes of types that aren't recognised are found by their type.
+pub(crate) trait OfType<'a> {
+    ghost use Rattle.std.specs.Prelude.{◌≡◌, ◌==◌, List, option_map};
+    ghost use Rattle.std.specs.List.{find, flat_map};
+    ghost use Rattle.bgp_attr.specs.AttrView.{opaque_value};
+    ghost use Rattle.bgp_attr.specs.declared.opaque.Opaque.{Opaque};
+    ghost use Rattle.bgp_update.specs.declared.attrs.Attrs.{Attrs};
+    ghost use Rattle.bgp_update.specs.Slots.{slot, attr_list};
+
+    /// Those that are there.
+    ghost others: { Self → List Opaque };
+
+    /// The attribute of a type.
+    fn of_type(&self, kind: u8) -> Option<OpaqueView<'a>>
+        ensures { option_map opaque_value result ≡ find (λ o. o.kind == kind) (others self.now) };
+
+    /// The types that attributes with these can have, in the order in which they are written: no more than need be looked at.
+    fn types(&self) -> &'static [u8]
+        ensures { (a : Attrs) → a.others ≡ others self.now → flat_map (slot a) result.now ≡ attr_list a };
+}
+
+/// A row of them.
+#[derive(Clone, Copy)]
+pub(crate) struct Row<'b, 'a>(pub(crate) &'b [OpaqueView<'a>]);
+
+impl<'b, 'a> OfType<'a> for Row<'b, 'a> {
+    ghost use Rattle.std.specs.Prelude.{map};
+    ghost use Rattle.bgp_attr.specs.AttrView.{opaque_value};
+
+    ghost others = { λ row. map opaque_value row.0.now };
+
+    #[inline(always)]
+    fn of_type(&self, kind: u8) -> Option<OpaqueView<'a>> {
+        other(self.0, kind)
+    }
+
+    fn types(&self) -> &'static [u8] {
+        told_types(self.0)
+    }
+}
+
 /// The attribute of a type: at most one.
 #[tactic(auto, unfolding(crate::specs::Slots::slot))]
 #[inline(always)]
-pub(crate) fn view_slot<'a>(
+pub(crate) fn view_slot<'a, S: OfType<'a>>(
     kept: &KeptView<'a>,
-    others: &[OpaqueView<'a>],
+    others: &S,
     kind: u8,
 ) -> Option<AttrView<'a>>
-    ensures { present attr_value result ≡ slot (attrs_with kept.now others.now) kind }
+    ensures { present attr_value result ≡ slot (with_others kept.now (S.others others.now)) kind }
 {
     match kind {
         attribute::ORIGIN => Some(AttrView::Origin(kept.origin?)),
@@ -38,17 +79,17 @@ pub(crate) fn view_slot<'a>(
         attribute::AS4_PATH => Some(AttrView::As4Path(kept.as4_path?)),
         attribute::AS4_AGGREGATOR => Some(AttrView::As4Aggregator(kept.as4_aggregator?)),
         attribute::LARGE_COMMUNITY => Some(AttrView::Large(kept.large?)),
-        _ => Some(AttrView::Opaque(other(others, kind)?)),
+        _ => Some(AttrView::Opaque(others.of_type(kind)?)),
     }
 }
 
 /// The first attribute of these types: those behind it are left.
-fn first_slot<'a>(
+pub(crate) fn first_slot<'k, 'a, S: OfType<'a>>(
     kept: &KeptView<'a>,
-    others: &[OpaqueView<'a>],
-    kinds: &mut &'static [u8],
+    others: &S,
+    kinds: &mut &'k [u8],
 ) -> Option<AttrView<'a>>
-    ensures { let slots = slot (attrs_with kept.now others.now) in
+    ensures { let slots = slot (with_others kept.now (S.others others.now)) in
         MatchOption result ((flat_map slots kinds.old.now ≡ []) × (flat_map slots kinds.new.now ≡ []))
         (λ a. flat_map slots kinds.old.now ≡ attr_value a ∷ flat_map slots kinds.new.now) }
 {
@@ -96,7 +137,7 @@ impl<'b, 'a> Iterator for SlotIter<'b, 'a> {
     ghost remaining = { item_count slots_left };
 
     fn next(&mut self) -> Option<AttrView<'a>> {
-        first_slot(self.kept, self.others, &mut self.kinds)
+        first_slot(self.kept, &Row(self.others), &mut self.kinds)
     }
 }
 

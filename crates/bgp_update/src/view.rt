@@ -13,6 +13,7 @@ ghost use Rattle.bgp_update.specs.Taken.{kept_of, update_of};
 use crate::add_routes::{add_routes, own_routes};
 use crate::attr_iter::AttrIter;
 use crate::body::Body;
+use crate::by_type::ByType;
 use crate::kept_view::KeptView;
 use crate::mark::MarkIter;
 use crate::missing::{Missing, missing_in};
@@ -149,6 +150,7 @@ impl<'a> UpdateView<'a> {
     ghost use Rattle.std.specs.List.{flat_map};
     ghost use Rattle.bgp_attr.specs.AttrView.{opaque_value};
     ghost use Rattle.bgp_attr.specs.MpView.{reach_value, unreach_value};
+    ghost use Rattle.bgp_update.specs.ByType.{IsByType};
     ghost use Rattle.bgp_update.specs.KeptView.{known_value, known_of, is_opaque};
     ghost use Rattle.bgp_update.specs.Iters.{attrs_left, notes_left};
     ghost use Rattle.bgp_update.specs.MarkIter.{marks_left};
@@ -247,6 +249,14 @@ impl<'a> UpdateView<'a> {
         } else {
             Ok(List::new(alloc))
         }
+    }
+
+    /// Puts the kept attributes of types that aren't recognised into a place, each at its type. It takes no memory.
+    pub fn sort_others(&self, place: &mut ByType<'a>)
+        requires { IsByType place.old [] }
+        ensures { IsByType place.new (update_value self.now).attrs.others }
+    {
+        place.fill(self.attrs());
     }
 
     /// The attributes that are kept of types that aren't recognised, with memory of their own.

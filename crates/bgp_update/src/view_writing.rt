@@ -1,64 +1,154 @@
 //! Writing an UPDATE from its view, with attributes of types that aren't recognised that a caller chooses.
 
-ghost use Rattle.std.specs.Prelude.{◌≡◌, ◌<◌, ◌+◌, ◌≤◌, ◌++◌, true, length, IfOk, OnOk, OnErr};
+ghost use Rattle.std.specs.Prelude.{◌≡◌, ◌<◌, ◌+◌, ◌≤◌, [], ◌∷◌, ◌++◌, if◌then◌else◌, true, length, IfOk, OnOk, OnErr};
 ghost use Rattle.std.specs.List.{flat_map, AllByRecursion};
 ghost use Rattle.bgp_wire.specs.Output.{Extends};
+ghost use Rattle.bgp_attr.specs.declared.attr.Attr.TheVariants as attr;
 ghost use Rattle.bgp_attr.specs.Written.{canonical, is_writable};
-ghost use Rattle.bgp_update.specs.Iters.{slots_left};
-ghost use Rattle.bgp_update.specs.Slots.{attr_list};
-ghost use Rattle.bgp_update.specs.View.{update_with};
-ghost use Rattle.bgp_update.specs.Written.{written_body};
+ghost use Rattle.bgp_update.specs.KeptView.{with_others};
+ghost use Rattle.bgp_update.specs.Slots.{attr_list, slot};
+ghost use Rattle.bgp_update.specs.View.{update_among};
+ghost use Rattle.bgp_update.specs.Written.{attributes_octets, written_body};
 ghost use Rattle.bgp_update.specs.steps.Layout.{LaysOutBody};
 
+use crate::chosen::Chosen;
+use crate::kept_view::KeptView;
 use crate::laying::{Places, put_room, set_lengths};
-use crate::slot_iter::SlotIter;
+use crate::slot_iter::{OfType, Row};
 use crate::view::UpdateView;
-use bgp_attr::{OpaqueView, write_attr_view};
+use bgp_attr::{AttrView, OpaqueView, write_attr_view};
+use bgp_numbers::attribute;
 use bgp_open::Context;
 use bgp_wire::Output;
 use std::alloc::AllocError;
 
-/// Adds attributes; some octets may stay where there was no room.
-fn put_attrs<O: Output>(
+/// Adds the attribute of a slot, where there is one.
+macro_rules! put_kept {
+    ($ctx:expr, $out:expr, $slot:expr, $variant:ident) => {
+        match $slot {
+            None => Ok(()),
+            Some(value) => write_attr_view($ctx, &AttrView::$variant(value), $out),
+        }
+    };
+}
+
+/// Adds ATOMIC_AGGREGATE, where it is there.
+#[inline(always)]
+fn put_atomic<O: Output>(ctx: &Context, atomic: bool, out: &mut O) -> Result<(), AllocError>
+    ensures ok { OnOk result (O.written out.new ≡ O.written out.old ++ flat_map (canonical ctx.now) (if atomic then attr.Atomic ∷ [] else [])) }
+    ensures err { OnErr result (Extends (O.written out.old) (O.written out.new)) }
+    ensures full { OnErr result (O.room < length (O.written out.old) + length (flat_map (canonical ctx.now) (if atomic then attr.Atomic ∷ [] else []))) }
+{
+    if atomic {
+        write_attr_view(ctx, &AttrView::Atomic, out)
+    } else {
+        Ok(())
+    }
+}
+
+/// Adds the attribute of a type, where there is one.
+#[tactic(auto, unfolding(crate::specs::Slots::slot))]
+#[inline(always)]
+fn put_slot<'a, S: OfType<'a>, O: Output>(
     ctx: &Context,
-    attrs: SlotIter<'_, '_>,
+    kept: &KeptView<'a>,
+    others: &S,
+    kind: u8,
     out: &mut O,
 ) -> Result<(), AllocError>
-    requires { AllByRecursion (λ a. is_writable ctx.now a ≡ true) (slots_left attrs) }
-    ensures ok { OnOk result (O.written out.new ≡ O.written out.old ++ flat_map (canonical ctx.now) (slots_left attrs.entry)) }
+    requires { AllByRecursion (λ a. is_writable ctx.now a ≡ true) (slot (with_others kept.now (S.others others.now)) kind) }
+    ensures ok { OnOk result (O.written out.new ≡ O.written out.old ++ flat_map (canonical ctx.now) (slot (with_others kept.now (S.others others.now)) kind)) }
     ensures err { OnErr result (Extends (O.written out.old) (O.written out.new)) }
-    ensures full { OnErr result (O.room < length (O.written out.old) + length (flat_map (canonical ctx.now) (slots_left attrs.entry))) }
+    ensures full { OnErr result (O.room < length (O.written out.old) + length (flat_map (canonical ctx.now) (slot (with_others kept.now (S.others others.now)) kind))) }
 {
-    let mut left = attrs;
-    'attrs: while let Some(attr) = left.next() {
-        write_attr_view(ctx, &attr, out)?;
+    match kind {
+        attribute::ORIGIN => put_kept!(ctx, out, kept.origin, Origin),
+        attribute::AS_PATH => put_kept!(ctx, out, kept.as_path, AsPath),
+        attribute::NEXT_HOP => put_kept!(ctx, out, kept.next_hop, NextHop),
+        attribute::MULTI_EXIT_DISC => put_kept!(ctx, out, kept.med, Med),
+        attribute::LOCAL_PREF => put_kept!(ctx, out, kept.local_pref, LocalPref),
+        attribute::ATOMIC_AGGREGATE => put_atomic(ctx, kept.atomic, out),
+        attribute::AGGREGATOR => put_kept!(ctx, out, kept.aggregator, Aggregator),
+        attribute::COMMUNITIES => put_kept!(ctx, out, kept.communities, Communities),
+        attribute::MP_REACH_NLRI => put_kept!(ctx, out, kept.reach, MpReach),
+        attribute::MP_UNREACH_NLRI => put_kept!(ctx, out, kept.unreach, MpUnreach),
+        attribute::AS4_PATH => put_kept!(ctx, out, kept.as4_path, As4Path),
+        attribute::AS4_AGGREGATOR => put_kept!(ctx, out, kept.as4_aggregator, As4Aggregator),
+        attribute::LARGE_COMMUNITY => put_kept!(ctx, out, kept.large, Large),
+        _ => put_kept!(ctx, out, others.of_type(kind), Opaque),
+    }
+}
+
+/// Adds the attributes; some octets may stay where there was no room.
+fn put_attrs<'a, S: OfType<'a>, O: Output>(
+    ctx: &Context,
+    kept: &KeptView<'a>,
+    others: &S,
+    out: &mut O,
+) -> Result<(), AllocError>
+    requires { AllByRecursion (λ a. is_writable ctx.now a ≡ true) (attr_list (with_others kept.now (S.others others.now))) }
+    ensures ok { OnOk result (O.written out.new ≡ O.written out.old ++ attributes_octets ctx.now (with_others kept.now (S.others others.now))) }
+    ensures err { OnErr result (Extends (O.written out.old) (O.written out.new)) }
+    ensures full { OnErr result (O.room < length (O.written out.old) + length (attributes_octets ctx.now (with_others kept.now (S.others others.now)))) }
+{
+    let kinds = others.types();
+    'types: for kind in kinds {
+        put_slot(ctx, kept, others, *kind, out)?;
     }
     Ok(())
 }
 
 /// Adds the parts of a body, and room for the lengths of the first two; some octets may stay where there was no room.
-fn put_parts<O: Output>(
+fn put_parts<'a, S: OfType<'a>, O: Output>(
     ctx: &Context,
-    view: &UpdateView<'_>,
-    others: &[OpaqueView<'_>],
+    view: &UpdateView<'a>,
+    others: &S,
     out: &mut O,
 ) -> Result<Places, AllocError>
-    requires { AllByRecursion (λ a. is_writable ctx.now a ≡ true) (attr_list (update_with view.now others.now).attrs) }
-    ensures ok { IfOk result (λ p. LaysOutBody ctx.now (update_with view.now others.now) (length (O.written out.old)) (O.written out.old) (O.written out.new) p) }
+    requires { AllByRecursion (λ a. is_writable ctx.now a ≡ true) (attr_list (update_among view.now (S.others others.now)).attrs) }
+    ensures ok { IfOk result (λ p. LaysOutBody ctx.now (update_among view.now (S.others others.now)) (length (O.written out.old)) (O.written out.old) (O.written out.new) p) }
     ensures err { OnErr result (Extends (O.written out.old) (O.written out.new)) }
-    ensures full { OnErr result (O.room < length (O.written out.old) + length (written_body ctx.now (update_with view.now others.now))) }
+    ensures full { OnErr result (O.room < length (O.written out.old) + length (written_body ctx.now (update_among view.now (S.others others.now)))) }
 {
     put_room(out)?;
     view.withdrawn().write(out)?;
     let attributes = out.len();
     put_room(out)?;
-    put_attrs(ctx, SlotIter::new(view.kept(), others), out)?;
+    put_attrs(ctx, view.kept(), others, out)?;
     let nlri = out.len();
     view.nlri().write(out)?;
     Ok(Places { attributes, nlri })
 }
 
+/// Appends a body.
+fn put_body<'a, S: OfType<'a>, O: Output>(
+    ctx: &Context,
+    view: &UpdateView<'a>,
+    others: &S,
+    out: &mut O,
+) -> Result<(), AllocError>
+    requires writable { AllByRecursion (λ a. is_writable ctx.now a ≡ true) (attr_list (update_among view.now (S.others others.now)).attrs) }
+    requires short { length (written_body ctx.now (update_among view.now (S.others others.now))) ≤ 4077 }
+    ensures ok { OnOk result (O.written out.new ≡ O.written out.old ++ written_body ctx.now (update_among view.now (S.others others.now))) }
+    ensures err { OnErr result (O.written out.new ≡ O.written out.old) }
+    ensures full { OnErr result (O.room < length (O.written out.old) + length (written_body ctx.now (update_among view.now (S.others others.now)))) }
+{
+    let start = out.len();
+    match put_parts(ctx, view, others, out) {
+        Ok(places) => {
+            set_lengths(start, places, out);
+            Ok(())
+        }
+        Err(refused) => {
+            out.truncate(start);
+            Err(refused)
+        }
+    }
+}
+
 impl UpdateView<'_> {
+    ghost use Rattle.bgp_update.specs.View.{update_with};
+
     /// Appends the body of the UPDATE in its one written form, as [`write_update`](crate::write_update) does, with these in place of its attributes of
     /// types that aren't recognised ([`others`](UpdateView::others)). No list of what it holds is made, and nothing is tested again: it is for what was
     /// accepted in the context, and for no more of these than it has.
@@ -77,16 +167,25 @@ impl UpdateView<'_> {
         ensures err { OnErr result (O.written out.new ≡ O.written out.old) }
         ensures full { OnErr result (O.room < length (O.written out.old) + length (written_body ctx.now (update_with self.now others.now))) }
     {
-        let start = out.len();
-        match put_parts(ctx, self, others, out) {
-            Ok(places) => {
-                set_lengths(start, places, out);
-                Ok(())
-            }
-            Err(refused) => {
-                out.truncate(start);
-                Err(refused)
-            }
-        }
+        put_body(ctx, self, &Row(others), out)
+    }
+}
+
+impl Chosen<'_, '_> {
+    ghost use Rattle.bgp_update.specs.Chosen.{chosen_update};
+
+    /// Appends the body of the UPDATE with these attributes in its one written form, as [`write_update`](crate::write_update) does. No list of what
+    /// it holds is made, and nothing is tested again: it is for what was accepted in the context.
+    ///
+    /// # Errors
+    /// `AllocError` where there was no room; nothing is appended then.
+    pub fn write<O: Output>(&self, ctx: &Context, out: &mut O) -> Result<(), AllocError>
+        requires writable { AllByRecursion (λ a. is_writable ctx.now a ≡ true) (attr_list (chosen_update self.now).attrs) }
+        requires short { length (written_body ctx.now (chosen_update self.now)) ≤ 4077 }
+        ensures ok { OnOk result (O.written out.new ≡ O.written out.old ++ written_body ctx.now (chosen_update self.now)) }
+        ensures err { OnErr result (O.written out.new ≡ O.written out.old) }
+        ensures full { OnErr result (O.room < length (O.written out.old) + length (written_body ctx.now (chosen_update self.now))) }
+    {
+        put_body(ctx, self.view, self, out)
     }
 }

@@ -239,15 +239,14 @@ typedef struct {
  * accepted without a note, and is unchanged where it is cleaned again. `written` is how many octets it has, never more than the message that
  * came; where the stream ends, 0, and of no later message anything is to be handed on. `types` are attribute types, `count` of them in any
  * order: attributes of unrecognised types that are among them are left out. `first` is whether the message is the first one of its stream:
- * 0 for no, any other number for yes. It allocates.
+ * 0 for no, any other number for yes.
  *
  * An OPEN is handed on with the first capability of each kind for IPv4 unicast, IPv6 unicast and AS numbers of four octets, and no others. An
  * UPDATE that is accepted is handed on without what is discarded or left out, and one that is treated as a withdrawal as an UPDATE that withdraws
  * its routes. Where nothing would be left of an UPDATE, or MP_UNREACH_NLRI without routes alone, a KEEPALIVE is handed on, unless it came as an
  * End-of-RIB (RFC 4724, section 2).
  *
- * RISTULVA_INCOMPLETE; RISTULVA_MEMORY, only where the message is complete: nothing is written. RISTULVA_ROOM: `written` is, and says how much
- * room is needed, and so is `out`; `message` isn't. */
+ * RISTULVA_INCOMPLETE: nothing is written. RISTULVA_ROOM: `written` is, and says how much room is needed, and so is `out`; `message` isn't. */
 ristulva_status ristulva_clean(const ristulva_context *context, const uint8_t *types, size_t count, uint8_t first, const uint8_t *octets,
                                size_t len, uint8_t *message, size_t room, size_t *written, ristulva_cleaned *out);
 

@@ -1,14 +1,34 @@
 -- What is left out of a message.
-use Rattle.std.proofs.Common.{◌≡◌, ◌≤◌, ℕ, suc, Bool, true, false, cond, List, [], ◌∷◌, length, map, refl, ap, arith}
-use Rattle.std.specs.List.{filter}
-use Rattle.std.proofs.lemmas.List.{length-map}
+use Rattle.std.proofs.Common.{◌≡◌, ◌≤◌, ◌<◌, ◌+◌, ℕ, suc, Bool, true, false, cond, ltb, List, [], ◌∷◌, ◌++◌, length, map, refl, ap, arith}
+use Rattle.std.specs.List.{filter, flat_map}
+use Rattle.std.proofs.lemmas.List.{length-append, length-drop, length-map}
+use Rattle.bgp_wire.specs.Reader.{pieces}
+use Rattle.bgp_wire.specs.Row.{Row}
+use Rattle.bgp_wire.proofs.Pieces.{Splits-pieces}
 use Rattle.bgp_open.specs.declared.capability.Capability.{Capability}
-use Rattle.bgp_attr.specs.AttrView.{opaque_value}
-use Rattle.bgp_attr.specs.declared.attr_view.OpaqueView.{OpaqueView}
+use Rattle.bgp_open.specs.declared.open_view.OpenView.{OpenView}
+use Rattle.bgp_open.specs.Capability.{IsCapability}
+use Rattle.bgp_open.specs.Open.{joined, parameters_of}
+use Rattle.bgp_open.specs.OpenView.{open_value}
+use Rattle.bgp_open.specs.Parameter.{IsParameter, one_parameter}
+use Rattle.bgp_open.proofs.Capabilities.{capability-reads}
+use Rattle.bgp_open.proofs.Parameters.{parameter-reads}
+use Rattle.bgp_attr.specs.declared.attr.Attr.{Attr}
+use Rattle.bgp_attr.specs.declared.attr.Attr.TheVariants as attr
+use Rattle.bgp_attr.specs.declared.judged.Judged.{Judged}
+use Rattle.bgp_attr.specs.declared.judged.Judged.TheVariants as judged
 use Rattle.bgp_attr.specs.declared.opaque.Opaque.{Opaque}
 use Rattle.bgp_update.specs.declared.note.Note.{Note}
+use Rattle.bgp_update.specs.declared.view.UpdateView.{UpdateView}
+use Rattle.bgp_update.specs.Marks.{Mark}
+use Rattle.bgp_update.specs.Taken.{attrs_of, kept_by, kept_of, put_rising}
+use Rattle.bgp_update.specs.View.{view_marks}
+use Rattle.bgp_update.specs.steps.Others.{as_opaque, rising_behind}
+use Rattle.bgp_update.proofs.AttrSlots.{others_of-slots}
 use Rattle.bgp_clean.specs.Opens.{Seen, none_seen, goes_on, seen_behind, understood, understood_behind}
 use Rattle.ristulva_c.specs.Notes.{note_told}
+use Rattle.ristulva_c.specs.steps.LeftOut.{is_left_out}
+use Rattle.ristulva_c.proofs.NoteCounts.{few_view_marks}
 
 -- each note is told
 pub all_told : (notes : List Note) → length (map note_told notes) ≡ length notes
@@ -16,15 +36,63 @@ all_told notes = length-map notes note_told
 
 -- ---- attributes
 
-more-by : (t : Bool) (x : OpaqueView) (xs : List OpaqueView) (y : Opaque) (ys : List Opaque) → length xs ≡ length ys → length (cond t (x ∷ xs) xs) ≡ length (cond t (y ∷ ys) ys)
-more-by true x xs y ys e = ap suc e
-more-by false x xs y ys e = e
+one : {A : Type 0} (t : Bool) (x : A) (xs : List A) → length (cond t (x ∷ xs) xs) ≡ cond t 1 0 + length xs
+one true x xs = omega arith
+one false x xs = omega arith
 
--- as many borrowed ones are of the types
-pub same_kinds : (drops : ℕ → Bool) (os : List OpaqueView) → length (filter (λ (o : OpaqueView). drops o.kind) os) ≡ length (filter (λ (o : Opaque). drops o.kind) (map opaque_value os))
-same_kinds drops [] = refl
-same_kinds drops (o ∷ os) =
-    more-by (drops o.kind) o (filter (λ (p : OpaqueView). drops p.kind) os) (opaque_value o) (filter (λ (p : Opaque). drops p.kind) (map opaque_value os)) (same_kinds drops os)
+module _ (drops : ℕ → Bool) where
+  abbrev test : Opaque → Bool
+  test o = drops o.kind
+
+  put-by : (o p : Opaque) (ps : List Opaque) (t : Bool) → length (filter test (put_rising o ps)) ≡ cond (test o) 1 0 + length (filter test ps)
+      → length (filter test (cond t (p ∷ put_rising o ps) (o ∷ p ∷ ps))) ≡ cond (test o) 1 0 + length (filter test (p ∷ ps))
+  put-by o p ps true later = omega (arith, one (test p) p (filter test (put_rising o ps)), later, one (test p) p (filter test ps))
+  put-by o p ps false later = one (test o) o (filter test (p ∷ ps))
+
+  put-count : (o : Opaque) (ps : List Opaque) → length (filter test (put_rising o ps)) ≡ cond (test o) 1 0 + length (filter test ps)
+  put-count o [] = one (test o) o []
+  put-count o (p ∷ ps) = put-by o p ps (ltb p.kind o.kind) (put-count o ps)
+
+  rising-count : (os there : List Opaque) → length (filter test (rising_behind there os)) ≡ length (filter test there) + length (filter test os)
+  rising-count [] there = omega arith
+  rising-count (o ∷ os) there = omega (arith, rising-count os (put_rising o there), put-count o there, one (test o) o (filter test os))
+
+  opaque-by : (x : Attr) (xs : List Attr) → length (filter test (flat_map as_opaque xs)) ≡ length (filter (is_left_out drops) xs)
+      → length (filter test (as_opaque x ++ flat_map as_opaque xs)) ≡ length (filter (is_left_out drops) (x ∷ xs))
+  opaque-by (attr.Opaque o) xs later =
+      omega (arith, one (drops o.kind) o (filter test (flat_map as_opaque xs)), later, one (drops o.kind) (attr.Opaque o) (filter (is_left_out drops) xs))
+  opaque-by x xs later = later
+
+  opaque-count : (xs : List Attr) → length (filter test (flat_map as_opaque xs)) ≡ length (filter (is_left_out drops) xs)
+  opaque-count [] = refl
+  opaque-count (x ∷ xs) = opaque-by x xs (opaque-count xs)
+
+  -- those that are kept and left out are as many as stand in their order
+  pub kept_left_out : (kept : List Attr) → length (filter (is_left_out drops) kept) ≡ length (filter test (attrs_of kept).others)
+  kept_left_out kept =
+      omega (arith, opaque-count kept, rising-count (flat_map as_opaque kept) [], ap (λ (os : List Opaque). length (filter test os)) (others_of-slots kept))
+
+few-by : (t : Bool) (x : Attr) (ys xs : List Attr) → length ys ≤ length xs → length (cond t (x ∷ ys) ys) ≤ length (x ∷ xs)
+few-by true x ys xs le = omega (arith, le)
+few-by false x ys xs le = omega (arith, le)
+
+filter-few : (p : Attr → Bool) (xs : List Attr) → length (filter p xs) ≤ length xs
+filter-few p [] = omega arith
+filter-few p (x ∷ xs) = few-by (p x) x (filter p xs) xs (filter-few p xs)
+
+one_kept : (j : Judged) → length (kept_by j) ≤ 1
+one_kept (judged.Keep a) = omega arith
+one_kept (judged.Discard w) = omega arith
+one_kept (judged.Withdraw w) = omega arith
+one_kept (judged.Reset n) = omega arith
+
+kept-few : (ms : List Mark) → length (kept_of ms) ≤ length ms
+kept-few [] = omega arith
+kept-few (m ∷ ms) = omega (arith, one_kept m.judged, kept-few ms, length-append (kept_by m.judged) (kept_of ms))
+
+-- few are
+pub few_left_out : (drops : ℕ → Bool) (v : UpdateView) → length (filter (is_left_out drops) (kept_of (view_marks v))) ≤ 1358
+few_left_out drops v = omega (arith, filter-few (is_left_out drops) (kept_of (view_marks v)), kept-few (view_marks v), few_view_marks v)
 
 -- ---- capabilities
 
@@ -39,3 +107,31 @@ fewer-behind seen (c ∷ caps) = fewer-by (goes_on seen c) c (understood_behind 
 -- no more capabilities go on than there are
 pub fewer : (caps : List Capability) → length (understood caps) ≤ length caps
 fewer caps = fewer-behind none_seen caps
+
+-- ---- how many capabilities there are
+
+row-few : {A : Type 0} (R : A → List ℕ → Type 0) → ((v : A) (b : List ℕ) → R v b → 0 < length b) → (vs : List A) (b : List ℕ) → Row R vs b → length vs ≤ length b
+row-few R some [] b row = omega arith
+row-few R some (v ∷ vs) b row = omega (arith, row-few R some vs row.1 row.4, ap length row.2, length-append row.0 row.1, some v row.0 row.3)
+
+parameter-few : (cs : List Capability) (b : List ℕ) → IsParameter cs b → length cs ≤ length b
+parameter-few cs b p =
+    let h = p.holds in
+    omega (arith, row-few IsCapability capability-reads.not_empty cs h.row h.spelled, ap length p.octets, ap length h.octets)
+
+joined-few : (ps : List (List Capability)) (b : List ℕ) → Row IsParameter ps b → length (joined ps) ≤ length b
+joined-few [] b row = omega arith
+joined-few (cs ∷ ps) b row =
+    omega (arith, parameter-few cs row.0 row.3, joined-few ps row.1 row.4, ap length row.2, length-append row.0 row.1, length-append cs (joined ps))
+
+-- no more than octets
+pub few_caps : (v : OpenView) → length (open_value v).caps ≤ length v.body.now
+few_caps v =
+    let s = Splits-pieces (List Capability) IsParameter one_parameter parameter-reads (parameters_of v.body.now) in
+    omega (
+      arith,
+      joined-few (pieces one_parameter (parameters_of v.body.now)).0 s.row s.spelled,
+      ap length s.whole,
+      length-append s.row (pieces one_parameter (parameters_of v.body.now)).1,
+      length-drop 10 v.body.now,
+    )

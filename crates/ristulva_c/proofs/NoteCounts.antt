@@ -68,6 +68,9 @@ few_marks ctx nlri field short =
     let marks : length (marks_behind ctx nlri none_of_them (placed_tlvs field)) ≡ length ts = length-behind ctx nlri none_of_them (placed_tlvs field) ∙ length-placed 0 ts in
     omega (arith, whole, row_count ts s.row s.spelled, marks, one_cut place rest, length-append (marks_behind ctx nlri none_of_them (placed_tlvs field)) (cut_mark place rest))
 
+pub few_view_marks : (v : UpdateView) → length (view_marks v) ≤ 1358
+few_view_marks v = let p = parts_value v.body in few_marks v.ctx (has_nlri p) p.attributes (omega (arith, v.short))
+
 -- ---- notes
 
 one_why : (j : Judged) → length (why_not j) ≤ 1
@@ -103,7 +106,7 @@ few_notes v =
     let ms = view_marks v in
     omega (
       arith,
-      few_marks v.ctx (has_nlri p) p.attributes (omega (arith, v.short)),
+      few_view_marks v,
       mark_count (attributes_at p) ms,
       few_missing (missing_of p ms),
       length-append (flat_map (mark_notes (attributes_at p)) ms) (missing_notes (missing_of p ms)),

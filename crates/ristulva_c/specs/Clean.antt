@@ -1,5 +1,5 @@
 -- What is handed on of a message, in numbers.
-use Rattle.std.specs.Prelude.{◌≡◌, ◌-◌, ◌⊎◌, ℕ, Bool, false, List, [], ◌∷◌, length, Result, Ok, Err}
+use Rattle.std.specs.Prelude.{◌≡◌, ◌-◌, ℕ, Bool, false, List, [], ◌∷◌, length, Result, Ok, Err}
 use Rattle.std.specs.List.{filter}
 use Rattle.bgp_wire.specs.OctetSet.{also, none_of_them}
 use Rattle.bgp_frame.specs.declared.step.Step.{Step}
@@ -19,7 +19,7 @@ use Rattle.bgp_clean.specs.Laws.{IsClean}
 use Rattle.bgp_clean.specs.Opens.{understood}
 use Rattle.ristulva_c.specs.declared.cleaning.ToldCleaned.{ToldCleaned}
 use Rattle.ristulva_c.specs.declared.cleaning.TheConstants.{HANDED_ON, ENDS_RESET, ENDS_LATE_OPEN, ENDS_NO_FAMILY}
-use Rattle.ristulva_c.specs.declared.status.TheConstants.{INCOMPLETE, MEMORY}
+use Rattle.ristulva_c.specs.declared.status.TheConstants.{INCOMPLETE}
 use Rattle.ristulva_c.specs.Judge.{number_of}
 use Rattle.ristulva_c.specs.Text as text
 use Rattle.ristulva_c.specs.Text.{Writing, IsWritten}
@@ -129,11 +129,11 @@ pub record IsHanded (octets : List ℕ) (told : ToldCleaned) (c : Cleaning) : Ty
   pub writing : IsWritten octets c.writing
   pub out : c.behind ≡ told
 
--- by what the octets begin with: less than a message; a message, for which memory can run out; or a header with a fault
+-- by what the octets begin with: less than a message; a message; or a header with a fault
 abbrev pub Hands : Context → (ℕ → Bool) → Bool → Step → Cleaning → Type 0
 Hands ctx drops first step.More c = IsLeft INCOMPLETE c
 Hands ctx drops first (step.Frame f) c = IsHanded (handed_octets ctx (cleaned ctx drops first (message_in f)))
-    (cleaned_told f.len drops (out_of ctx (message_in f)) (cleaned ctx drops first (message_in f))) c ⊎ IsLeft MEMORY c
+    (cleaned_told f.len drops (out_of ctx (message_in f)) (cleaned ctx drops first (message_in f))) c
 Hands ctx drops first (step.Fault f) c = IsHanded [] (cleaned_told 0 drops (of_fault f) (cleaned_outcome drops first false (of_fault f))) c
 
 -- what is handed on of a message is accepted in the same context without a note, is handed on as it is, is no longer than the message, and teaches

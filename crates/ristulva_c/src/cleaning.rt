@@ -1,6 +1,6 @@
 //! What is handed on of a message.
 
-ghost use Rattle.std.specs.Prelude.{◌≡◌, ◌+◌, ◌++◌, ℕ, Bool, List, Result, length, IfOk, OnOk};
+ghost use Rattle.std.specs.Prelude.{◌≡◌, ◌+◌, ℕ, Bool, List, [], Result, length};
 ghost use Rattle.bgp_wire.specs.OctetSet.{has_octet};
 ghost use Rattle.bgp_frame.specs.Kind.{IsLength};
 ghost use Rattle.bgp_frame.specs.Step.{message_in};
@@ -19,15 +19,14 @@ use crate::context::{SessionContext, context_of};
 use crate::judge::{RESET, are_octets, number_of};
 use crate::left_out::{caps_left_out, others_left_out};
 use crate::notes::list_view;
-use crate::status::{INCOMPLETE, MEMORY};
+use crate::status::INCOMPLETE;
 use crate::text::write;
 use bgp_clean::{CleanFault, Cleaned, clean};
 use bgp_frame::{Frame, HeadFault, Step, front};
 use bgp_msg::{OutcomeView, view_frame};
 use bgp_open::Context;
 use bgp_update::UpdateView;
-use bgp_wire::OctetSet;
-use std::alloc::{AllocError, Global};
+use bgp_wire::{OctetSet, Page};
 
 /// A message is handed on, or what stands for it is.
 pub const HANDED_ON: u8 = 0;
@@ -107,90 +106,78 @@ fn discarded(outcome: &OutcomeView<'_>) -> usize
 }
 
 /// How many are left out by their types.
-fn left_out(alloc: Global, drops: &OctetSet, outcome: &OutcomeView<'_>) -> Result<usize, AllocError>
-    ensures { IfOk result (λ n. n ≡ left_out_in (has_octet drops.now) (outcome_value outcome.now)) }
+fn left_out(drops: &OctetSet, outcome: &OutcomeView<'_>) -> usize
+    ensures { result ≡ left_out_in (has_octet drops.now) (outcome_value outcome.now) }
 {
     match outcome {
-        OutcomeView::Update(view) => others_left_out(alloc, drops, view),
-        _ => Ok(0),
+        OutcomeView::Update(view) => others_left_out(drops, view),
+        _ => 0,
     }
 }
 
 /// How many capabilities are left out.
-fn capabilities(alloc: Global, outcome: &OutcomeView<'_>) -> Result<usize, AllocError>
-    ensures { IfOk result (λ n. n ≡ caps_left_out_in (outcome_value outcome.now)) }
+fn capabilities(outcome: &OutcomeView<'_>) -> usize
+    ensures { result ≡ caps_left_out_in (outcome_value outcome.now) }
 {
     match outcome {
-        OutcomeView::Open(view) => caps_left_out(alloc, view),
-        _ => Ok(0),
+        OutcomeView::Open(view) => caps_left_out(view),
+        _ => 0,
     }
 }
 
 /// What is told of a message of so many octets that is handed on.
-fn handed_told(
-    alloc: Global,
-    drops: &OctetSet,
-    len: u16,
-    outcome: &OutcomeView<'_>,
-) -> Result<ToldCleaned, AllocError>
-    ensures { IfOk result (λ told. told ≡ handed_told len (has_octet drops.now) (outcome_value outcome.now)) }
+fn handed_told(drops: &OctetSet, len: u16, outcome: &OutcomeView<'_>) -> ToldCleaned
+    ensures { result ≡ handed_told len (has_octet drops.now) (outcome_value outcome.now) }
 {
-    let left_out = left_out(alloc, drops, outcome)?;
-    let capabilities = capabilities(alloc, outcome)?;
-    Ok(ToldCleaned {
+    ToldCleaned {
         ends: HANDED_ON,
         verdict: number_of(outcome),
         code: 0,
         subcode: 0,
         len: u32::from(len),
         discarded: discarded(outcome),
-        left_out,
-        capabilities,
-    })
-}
-
-/// What is told of a message, by what came of it.
-fn told(
-    alloc: Global,
-    drops: &OctetSet,
-    len: u16,
-    outcome: &OutcomeView<'_>,
-    what: Cleaned,
-) -> Result<ToldCleaned, AllocError>
-    ensures { (ctx : Context) (handed : Result Message CleanFault) (old new : List ℕ) → IsCleaned ctx handed old new what
-        → IfOk result (λ told. told ≡ cleaned_told len (has_octet drops.now) (outcome_value outcome.now) handed) }
-{
-    match what {
-        Cleaned::HandedOn => handed_told(alloc, drops, len, outcome),
-        Cleaned::Ends(why) => Ok(end_told(len, number_of(outcome), why)),
+        left_out: left_out(drops, outcome),
+        capabilities: capabilities(outcome),
     }
 }
 
-/// Appends what is handed on of a whole message, and tells what came of it.
+/// What is told of a message, by what came of it.
+fn told(drops: &OctetSet, len: u16, outcome: &OutcomeView<'_>, what: Cleaned) -> ToldCleaned
+    ensures { (ctx : Context) (handed : Result Message CleanFault) (old new : List ℕ) → IsCleaned ctx handed old new what
+        → result ≡ cleaned_told len (has_octet drops.now) (outcome_value outcome.now) handed }
+{
+    match what {
+        Cleaned::HandedOn => handed_told(drops, len, outcome),
+        Cleaned::Ends(why) => end_told(len, number_of(outcome), why),
+    }
+}
+
+/// Writes what is handed on of a whole message to an empty page, and tells what came of it.
 #[tactic(auto, using(crate::proofs::Cleanings::appended))]
 fn clean_frame(
-    alloc: Global,
     ctx: &Context,
     drops: &OctetSet,
     first: bool,
     frame: Frame<'_>,
-    octets: &mut Vec<u8>,
-) -> Result<ToldCleaned, AllocError>
-    requires { IsLength frame.kind (19 + length frame.body.now) }
-    ensures octets { OnOk result (octets.new.items ≡ octets.old.items ++ handed_octets ctx.now (cleaned ctx.now (has_octet drops.now) first (message_in frame.entry))) }
-    ensures told { IfOk result (λ told. told ≡ cleaned_told frame.entry.len (has_octet drops.now) (out_of ctx.now (message_in frame.entry))
-        (cleaned ctx.now (has_octet drops.now) first (message_in frame.entry))) }
+    page: &mut Page<4096>,
+) -> ToldCleaned
+    requires length { IsLength frame.kind (19 + length frame.body.now) }
+    requires empty { page.old ≡ [] }
+    ensures octets { page.new ≡ handed_octets ctx.now (cleaned ctx.now (has_octet drops.now) first (message_in frame.entry)) }
+    ensures told { result ≡ cleaned_told frame.entry.len (has_octet drops.now) (out_of ctx.now (message_in frame.entry))
+        (cleaned ctx.now (has_octet drops.now) first (message_in frame.entry)) }
 {
     let len = frame.len;
-    let what = clean(alloc, ctx, drops, first, frame, octets)?;
+    let Ok(what) = clean(ctx, drops, first, frame, page) else {
+        unreachable!();
+    };
     let mut place = UpdateView::empty();
     let outcome = view_frame(ctx, frame, &mut place);
-    told(alloc, drops, len, &outcome, what)
+    told(drops, len, &outcome, what)
 }
 
 /// Writes what is handed on of a whole message, and tells what came of it.
 fn tell_frame(
-    alloc: Global,
     ctx: &Context,
     drops: &OctetSet,
     first: bool,
@@ -207,14 +194,9 @@ fn tell_frame(
           behind = out.new;
         }) }
 {
-    let mut octets = Vec::new(alloc);
-    match clean_frame(alloc, ctx, drops, first, frame, &mut octets) {
-        Ok(told) => {
-            *out = told;
-            write(&octets, buffer, len)
-        }
-        Err(_) => MEMORY,
-    }
+    let mut page = Page::new();
+    *out = clean_frame(ctx, drops, first, frame, &mut page);
+    write(page.as_slice(), buffer, len)
 }
 
 /// Tells that the stream ends before a header with a fault.
@@ -237,7 +219,6 @@ fn tell_fault(fault: HeadFault, buffer: &mut [u8], len: &mut usize, out: &mut To
 /// one of its stream: 0 for no.
 #[unsafe(no_mangle)]
 pub extern "C" fn ristulva_clean(
-    alloc: Global,
     ctx: &SessionContext,
     types: &[u8],
     first: u8,
@@ -258,7 +239,6 @@ pub extern "C" fn ristulva_clean(
     match front(octets) {
         Step::More => INCOMPLETE,
         Step::Frame(frame) => tell_frame(
-            alloc,
             &context_of(ctx),
             &drops,
             first != 0,

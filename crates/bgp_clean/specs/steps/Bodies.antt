@@ -7,7 +7,8 @@ use Rattle.bgp_frame.specs.Frame as frame
 use Rattle.bgp_open.specs.declared.context.Context.{Context}
 use Rattle.bgp_attr.specs.Written.{is_writable}
 use Rattle.bgp_update.specs.Slots.{attr_list}
-use Rattle.bgp_update.specs.View.{update_with, routes_value}
+use Rattle.bgp_update.specs.Chosen.{chosen_update}
+use Rattle.bgp_update.specs.View.{routes_value}
 use Rattle.bgp_update.specs.Withdrawal.{withdrawal_octets}
 use Rattle.bgp_update.specs.Written.{written_body}
 use Rattle.bgp_clean.specs.declared.whole.Body.{Body}
@@ -18,7 +19,7 @@ kind_in (body.Same k octets) = k
 kind_in _ = kind.Update
 
 abbrev pub octets_in : Context → Body → List ℕ
-octets_in ctx (body.Update view others) = written_body ctx (update_with view.now others.now)
+octets_in ctx (body.Update chosen) = written_body ctx (chosen_update chosen.now)
 octets_in ctx (body.Withdrawal view) = withdrawal_octets (routes_value view.now)
 octets_in ctx (body.Same k octets) = octets.now
 
@@ -27,5 +28,5 @@ message_of ctx b = record { kind = kind_in b; body = octets_in ctx b }
 
 -- each attribute of it can be written
 abbrev pub IsWritable : Context → Body → Type 0
-IsWritable ctx (body.Update view others) = AllByRecursion (λ a. is_writable ctx a ≡ true) (attr_list (update_with view.now others.now).attrs)
+IsWritable ctx (body.Update chosen) = AllByRecursion (λ a. is_writable ctx a ≡ true) (attr_list (chosen_update chosen.now).attrs)
 IsWritable ctx _ = Unit {0}

@@ -1,12 +1,12 @@
 use Rattle.std.proofs.Common.{◌≡◌, length}
 use Rattle.std.specs.List.{flat_map}
-use Rattle.bgp_update.specs.KeptView.{attrs_with}
+use Rattle.bgp_update.specs.KeptView.{with_others}
 use Rattle.bgp_update.specs.Slots.{slot}
 use Rattle.bgp_update.proofs.slot_iter.first_slot.Given as goal
 
 -- those so far have none
 abbrev pub invariant-types : goal.invariant-types
-invariant-types l = flat_map (slot (attrs_with l.kept l.others)) l.fn.kinds.now ≡ flat_map (slot (attrs_with l.kept l.others)) l.kinds.now
+invariant-types g l = flat_map (slot (with_others l.kept (g.S.OfType.others l.others))) l.fn.kinds.now ≡ flat_map (slot (with_others l.kept (g.S.OfType.others l.others))) l.kinds.now
 
 abbrev pub decreases-types : goal.decreases-types
-decreases-types l = length l.kinds.now
+decreases-types g l = length l.kinds.now

@@ -1,21 +1,54 @@
-use Rattle.std.proofs.Common.{◌≡◌, List, ◌∷◌, ap, ◌∙◌, rules}
-use Rattle.std.specs.List.{flat_map}
+use Rattle.std.proofs.Common.{◌≡◌, ◌+◌, ◌<◌, get_or, length, true, refl, sym, subst, List, [], ◌∷◌, arith}
+use Rattle.std.specs.List.{AllByRecursion, flat_map}
 use Rattle.std.proofs.lemmas.Result.{err_from_is_err_and}
-use Rattle.std.proofs.lemmas.List.Concat.{flat_map-cons}
-use Rattle.bgp_attr.specs.AttrView.{attr_value}
-use Rattle.bgp_attr.specs.Written.{canonical}
 use Rattle.bgp_attr.specs.declared.attr.Attr.{Attr}
-use Rattle.bgp_wire.proofs.Rooms.{lacks}
-use Rattle.bgp_update.specs.Iters.{slots_left}
+use Rattle.bgp_attr.specs.Written.{canonical, is_writable}
+use Rattle.bgp_update.specs.KeptView.{with_others}
+use Rattle.bgp_update.specs.Slots.{slot}
+use Rattle.bgp_update.proofs.SlotSteps.{so_far, all_of_type, type_written, type_lacks, written_more}
 use Rattle.bgp_update.proofs.view_writing.put_attrs.Goals as goal
 
-pub returns-in_err-write_attr_view-clause-full : goal.returns-in_err-write_attr_view-clause-full
-returns-in_err-write_attr_view-clause-full g c =
-    let p = err_from_is_err_and c.from_residual.result c.from_residual.ensures.1 in
+pub put_slot-requires : goal.put_slot-requires
+put_slot-requires g c =
+    let attrs = with_others c.args.kept.now (g.S.OfType.others c.args.others.now) in
+    let kinds = c.types-kinds.result.now in
+    let lt : c.types.kind-index < length kinds = omega (arith, c.types-test.true) in
+    let writable =
+    all_of_type (slot attrs) kinds c.types.kind-index (get_or kinds c.types.kind-index 0) lt refl
+    (λ a. is_writable c.args.ctx.now a ≡ true)
+    (subst (λ (xs : List Attr). AllByRecursion (λ a. is_writable c.args.ctx.now a ≡ true) xs) (sym (c.types-kinds.ensures attrs refl)) c.requires) in
+    λ k. ((refl, tt), writable)
+
+pub returns-in_err-put_slot-clause-err : goal.returns-in_err-put_slot-clause-err
+returns-in_err-put_slot-clause-err g c =
     let written = g.O.Output.written in
-    let octets = canonical c.args.ctx.now in
-    let later : List Attr = slots_left c.next.new.self in
-    let first : slots_left c.attrs.left ≡ attr_value c.in-Some.attr ∷ later = search rules in
-    rw p.1 (lacks g.O.Output.room (written c.args.out.now) (flat_map octets (slots_left c.args.attrs)) (written c.attrs.out) (flat_map octets (slots_left c.attrs.left))
-    (octets (attr_value c.in-Some.attr)) (flat_map octets later) c.attrs.invariant.1
-    (ap (flat_map octets) first ∙ flat_map-cons octets (attr_value c.in-Some.attr) later) c.in_err-write_attr_view.ensures.full)
+    let attrs = with_others c.args.kept.now (g.S.OfType.others c.args.others.now) in
+    let p = err_from_is_err_and c.from_residual.result c.from_residual.ensures.1 in
+    rw p.1 (written_more (canonical c.args.ctx.now) (λ a. Unit {0}) (so_far (slot attrs) c.types-kinds.result.now c.types.kind-index) (written c.args.out.now) (written c.types.out) (written c.put_slot.new.out) c.types.invariant c.in_err-put_slot.ensures.err)
+
+pub returns-in_err-put_slot-clause-full : goal.returns-in_err-put_slot-clause-full
+returns-in_err-put_slot-clause-full g c =
+    let written = g.O.Output.written in
+    let attrs = with_others c.args.kept.now (g.S.OfType.others c.args.others.now) in
+    let kinds = c.types-kinds.result.now in
+    let kind = get_or kinds c.types.kind-index 0 in
+    let lt : c.types.kind-index < length kinds = omega (arith, c.types-test.true) in
+    let p = err_from_is_err_and c.from_residual.result c.from_residual.ensures.1 in
+    rw p.1 (subst (λ (xs : List Attr). g.O.Output.room < length (written c.args.out.now) + length (flat_map (canonical c.args.ctx.now) xs)) (c.types-kinds.ensures attrs refl)
+    (type_lacks (slot attrs) kinds c.types.kind-index kind lt refl (canonical c.args.ctx.now) (λ (a : Attr). Unit {0}) (written c.args.out.now) (written c.types.out) c.types.invariant
+    g.O.Output.room c.in_err-put_slot.ensures.full))
+
+-- nothing is asked of each
+each : (xs : List Attr) → AllByRecursion (λ (a : Attr). Unit {0}) xs
+each [] = tt
+each (x ∷ xs) = (tt, each xs)
+
+pub types-preserved : goal.types-preserved
+types-preserved g c =
+    let written = g.O.Output.written in
+    let attrs = with_others c.args.kept.now (g.S.OfType.others c.args.others.now) in
+    let kinds = c.types-kinds.result.now in
+    let kind = get_or kinds c.types.kind-index 0 in
+    let lt : c.types.kind-index < length kinds = omega (arith, c.types-test.true) in
+    type_written (slot attrs) kinds c.types.kind-index kind lt refl (canonical c.args.ctx.now) (λ (a : Attr). Unit {0}) (written c.args.out.now) (written c.types.out) c.types.invariant (written c.put_slot.new.out)
+    c.in_ok-put_slot.ensures.ok (each (slot attrs kind))

@@ -1,13 +1,22 @@
-use Rattle.std.proofs.Common.{List, length, map, ap, ◌∙◌}
+use Rattle.std.proofs.Common.{List, length, ap, arith}
 use Rattle.std.specs.List.{filter}
+use Rattle.bgp_attr.specs.declared.attr.Attr.{Attr}
 use Rattle.bgp_wire.specs.OctetSet.{has_octet}
-use Rattle.bgp_attr.specs.AttrView.{opaque_value}
-use Rattle.bgp_attr.specs.declared.opaque.Opaque.{Opaque}
-use Rattle.ristulva_c.proofs.LeftOut.{same_kinds}
+use Rattle.bgp_update.specs.Taken.{kept_of}
+use Rattle.bgp_update.specs.View.{view_marks}
+use Rattle.ristulva_c.specs.steps.LeftOut.{is_left_out}
+use Rattle.ristulva_c.proofs.LeftOut.{few_left_out, kept_left_out}
 use Rattle.ristulva_c.proofs.left_out.others_left_out.Goals as goal
+
+pub overflow_add-count : goal.overflow_add-count
+overflow_add-count c = omega (arith, c.kept.invariant, few_left_out (has_octet c.args.drops.now) c.args.view.now)
 
 pub returns : goal.returns
 returns c =
     let drops = has_octet c.args.drops.now in
-    c.count_in.ensures ∙ same_kinds drops c.as_slice.result.now
-    ∙ ap (λ (os : List Opaque). length (filter (λ o. drops o.kind) os)) (ap (map opaque_value) c.as_slice.ensures ∙ c.in_ok-others.ensures.value)
+    omega (
+      arith,
+      c.kept.invariant,
+      ap (λ (xs : List Attr). length (filter (is_left_out drops) xs)) c.in_default.ensures.steps.0,
+      kept_left_out drops (kept_of (view_marks c.args.view.now)),
+    )

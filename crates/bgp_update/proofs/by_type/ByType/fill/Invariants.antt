@@ -1,0 +1,15 @@
+use Rattle.std.proofs.Common.{◌≡◌, [], List, length}
+use Rattle.std.specs.List.{flat_map}
+use Rattle.bgp_attr.specs.declared.opaque.Opaque.{Opaque}
+use Rattle.bgp_update.specs.ByType.{IsByType}
+use Rattle.bgp_update.specs.Iters.{attrs_left}
+use Rattle.bgp_update.specs.steps.Others.{as_opaque, rising_behind}
+use Rattle.bgp_update.proofs.by_type.ByType.fill.Given as goal
+
+-- those so far stand there, and with those still to come they are all
+abbrev pub invariant-field : goal.invariant-field
+invariant-field l =
+    (there : List Opaque) × IsByType l.self there × (rising_behind there (flat_map as_opaque (attrs_left l.left)) ≡ rising_behind [] (flat_map as_opaque (attrs_left l.fn.kept)))
+
+abbrev pub decreases-field : goal.decreases-field
+decreases-field l = length (attrs_left l.left)

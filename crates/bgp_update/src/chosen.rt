@@ -1,0 +1,102 @@
+//! The attributes of an UPDATE without some of those of types that aren't recognised.
+
+ghost use Rattle.std.specs.Prelude.{option_map};
+ghost use Rattle.bgp_update.specs.Found.{IsFound};
+ghost use Rattle.bgp_update.specs.View.{update_value};
+
+use crate::by_type::ByType;
+use crate::kept_view::KeptView;
+use crate::slot::{RECOGNISED, order};
+use crate::slot_iter::OfType;
+use crate::view::UpdateView;
+use bgp_attr::OpaqueView;
+use bgp_wire::OctetSet;
+
+/// The attributes that are kept of an UPDATE, without those of types that aren't recognised that are left out. Those that stay are found by their
+/// type in one step.
+#[derive(Clone, Copy)]
+pub struct Chosen<'b, 'a> {
+    pub(crate) view: &'b UpdateView<'a>,
+    drops: &'b OctetSet,
+    others: Option<&'b ByType<'a>>,
+    ghost found: { IsFound (option_map (λ t. t.now) others) (update_value view.now).attrs.others },
+}
+
+impl<'b, 'a> Chosen<'b, 'a> {
+    ghost use Rattle.std.specs.Prelude.{◌≡◌, false};
+    ghost use Rattle.bgp_wire.specs.OctetSet.{has_octet};
+    ghost use Rattle.bgp_update.specs.ByType.{IsByType};
+    ghost use Rattle.bgp_update.specs.Chosen.{chosen_update};
+    ghost use Rattle.bgp_update.specs.Without.{update_without};
+
+    /// Of an UPDATE that keeps no attribute of a type that isn't recognised: all of them.
+    #[inline(always)]
+    pub fn all(view: &'b UpdateView<'a>, drops: &'b OctetSet) -> Chosen<'b, 'a>
+        requires { view.now.summary.kept.others ≡ false }
+        ensures { chosen_update result ≡ update_without (has_octet drops.now) (update_value view.now) }
+    {
+        Chosen {
+            view,
+            drops,
+            others: None,
+        }
+    }
+
+    /// Of any: its attributes of types that aren't recognised stand in a place ([`sort_others`](UpdateView::sort_others)).
+    #[inline(always)]
+    pub fn without(
+        view: &'b UpdateView<'a>,
+        drops: &'b OctetSet,
+        others: &'b ByType<'a>,
+    ) -> Chosen<'b, 'a>
+        requires { IsByType others.now (update_value view.now).attrs.others }
+        ensures { chosen_update result ≡ update_without (has_octet drops.now) (update_value view.now) }
+    {
+        Chosen {
+            view,
+            drops,
+            others: Some(others),
+        }
+    }
+
+    /// The UPDATE.
+    #[inline(always)]
+    pub fn view(&self) -> &UpdateView<'a>
+        ensures { result.now ≡ self.now.view.now }
+    {
+        self.view
+    }
+
+    /// The attributes of recognised types.
+    #[inline(always)]
+    pub(crate) fn kept(&self) -> &KeptView<'a>
+        ensures { result.now ≡ self.now.view.now.summary.kept }
+    {
+        &self.view.summary.kept
+    }
+}
+
+impl<'b, 'a> OfType<'a> for Chosen<'b, 'a> {
+    ghost use Rattle.bgp_update.specs.Chosen.{chosen_others};
+
+    ghost others = { chosen_others };
+
+    #[inline(always)]
+    fn of_type(&self, kind: u8) -> Option<OpaqueView<'a>> {
+        if self.drops.contains(kind) {
+            return None;
+        }
+        match self.others {
+            None => None,
+            Some(others) => others.get(kind),
+        }
+    }
+
+    #[inline(always)]
+    fn types(&self) -> &'static [u8] {
+        match self.others {
+            None => &RECOGNISED,
+            Some(_) => order(),
+        }
+    }
+}

@@ -1,6 +1,0 @@
--- Which capabilities were there before, as the code keeps them.
-use Rattle.ristulva_c.specs.declared.left_out.Seen.{Seen}
-use Rattle.bgp_clean.specs.Opens as opens
-
-abbrev pub seen_value : Seen → opens.Seen
-seen_value s = record { ip4 = s.ip4; ip6 = s.ip6; as4 = s.as4 }
