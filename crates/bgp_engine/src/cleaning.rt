@@ -65,13 +65,7 @@ impl CleanPage<'_> {
         requires kind { frame.kind ≡ kind.Open }
         ensures begins { IfOk result (λ begun. Begins begun (Some (page_start self.old (Some (message_in frame.entry)))) (page_rules self.new) self.old.octets.items self.new.octets.items) }
     {
-        match clean(
-            &self.ctx,
-            &self.drops,
-            true,
-            frame,
-            &mut self.octets,
-        )? {
+        match clean(&self.ctx, &self.drops, true, frame, &mut self.octets)? {
             Cleaned::HandedOn => Ok(Begun::Handed),
             Cleaned::Ends(why) => {
                 self.why = Some(why);
@@ -133,13 +127,7 @@ impl Page for CleanPage<'_> {
     }
 
     fn message(&mut self, _place: u64, frame: Frame<'_>) -> Result<Class, AllocError> {
-        match clean(
-            &self.ctx,
-            &self.drops,
-            false,
-            frame,
-            &mut self.octets,
-        )? {
+        match clean(&self.ctx, &self.drops, false, frame, &mut self.octets)? {
             Cleaned::HandedOn => Ok(Class::Took),
             Cleaned::Ends(why) => {
                 // Of the first message it may be known already.
