@@ -5,7 +5,8 @@ use crate::row::Row;
 use crate::sheet::{Drip, Sheet};
 use crate::trouble::Trouble;
 use bgp_engine::{
-    Style, Tally, ToolFault, check, clean_stream, from_hex, narrow_stream, print, show, status, to_hex,
+    Style, Tally, ToolFault, check, clean_stream, from_hex, narrow_stream, print, show, status,
+    to_hex,
 };
 use bgp_open::Context;
 use bgp_wire::OctetSet;
