@@ -2,6 +2,9 @@
 
 ghost use Rattle.std.specs.Prelude.{◌≡◌};
 ghost use Rattle.bgp_frame.specs.Kind.{kind_of};
+ghost use Rattle.bgp_fields.specs.declared.kind.FieldKind.TheVariants.{ParametersLength, Unread};
+ghost use Rattle.bgp_fields.specs.declared.part.MessagePart.TheVariants as message;
+ghost use Rattle.bgp_fields.specs.declared.part.SectionPart.TheVariants as section;
 ghost use Rattle.bgp_fields.specs.Parts.{alone, behind, body_part, message_plan};
 ghost use Rattle.bgp_fields.specs.steps.Plans.{message_planned};
 
@@ -52,6 +55,19 @@ fn behind(
     }
 }
 
+/// The length of an OPEN's parameters, and these.
+fn parameters_length(len: u8) -> MessagePlan
+    ensures { message_planned result ≡ behind ParametersLength 1 section.ParameterType len (message.All Unread) }
+{
+    behind(
+        FieldKind::ParametersLength,
+        1,
+        SectionPart::ParameterType,
+        usize::from(len),
+        STUCK,
+    )
+}
+
 /// What stands next in these octets.
 pub(crate) fn message_plan(part: MessagePart, octets: &[u8]) -> MessagePlan
     ensures { message_planned result ≡ message_plan part octets.now }
@@ -65,13 +81,7 @@ pub(crate) fn message_plan(part: MessagePart, octets: &[u8]) -> MessagePlan
         MessagePart::MyAs => alone(FieldKind::MyAs, 2, MessagePart::HoldTime),
         MessagePart::HoldTime => alone(FieldKind::HoldTime, 2, MessagePart::Identifier),
         MessagePart::Identifier => alone(FieldKind::Identifier, 4, MessagePart::ParametersLength),
-        MessagePart::ParametersLength => behind(
-            FieldKind::ParametersLength,
-            1,
-            SectionPart::ParameterType,
-            usize::from(first),
-            STUCK,
-        ),
+        MessagePart::ParametersLength => parameters_length(first),
         MessagePart::WithdrawnLength => behind(
             FieldKind::WithdrawnLength,
             2,

@@ -2,7 +2,7 @@
 
 ghost use Rattle.std.specs.Prelude.{◌≡◌, if◌then◌else◌};
 ghost use Rattle.bgp_fields.specs.Parts.{is_segment, numbers_behind, behind_number, behind_family, hop_behind, hop_plan, reach_prefixes, capability_value, capability_behind, one, opening, value_plan};
-ghost use Rattle.bgp_fields.specs.declared.kind.FieldKind.TheVariants.{CapabilityCode, SegmentType, AsNumber, Address};
+ghost use Rattle.bgp_fields.specs.declared.kind.FieldKind.TheVariants.{CapabilityCode, CapabilityLength, SegmentType, AsNumber, Address};
 ghost use Rattle.bgp_fields.specs.declared.part.ValuePart.TheVariants as value;
 ghost use Rattle.bgp_fields.specs.steps.Plans.{value_planned};
 ghost use Rattle.bgp_attr.specs.Numbers.{number_width};
@@ -187,6 +187,28 @@ fn aggregator(wide: bool) -> ValuePlan
     )
 }
 
+/// An AS number of a segment, and what follows it.
+fn number(wide: bool, confederations: bool, left: u8) -> ValuePlan
+    ensures { value_planned result ≡ one AsNumber (number_width wide) (behind_number wide confederations left) }
+{
+    one(
+        FieldKind::AsNumber,
+        number_width(wide),
+        behind_number(wide, confederations, left),
+    )
+}
+
+/// The length of a capability, and what follows it.
+fn capability_length(code: u8, len: u8, left: usize) -> ValuePlan
+    ensures { value_planned result ≡ one CapabilityLength 1 (capability_behind code len left) }
+{
+    one(
+        FieldKind::CapabilityLength,
+        1,
+        capability_behind(code, len, left),
+    )
+}
+
 /// What stands next in these octets.
 pub(crate) fn value_plan(ctx: &Context, part: ValuePart, octets: &[u8]) -> ValuePlan
     ensures { value_planned result ≡ value_plan ctx.now part octets.now }
@@ -203,11 +225,7 @@ pub(crate) fn value_plan(ctx: &Context, part: ValuePart, octets: &[u8]) -> Value
             1,
             numbers_behind(wide, confederations, first, octets.len()),
         ),
-        ValuePart::Numbers(wide, confederations, left) => one(
-            FieldKind::AsNumber,
-            number_width(wide),
-            behind_number(wide, confederations, left),
-        ),
+        ValuePart::Numbers(wide, confederations, left) => number(wide, confederations, left),
         ValuePart::Afi(reach) => one(FieldKind::Afi, 2, ValuePart::Safi(reach, two(octets))),
         ValuePart::Safi(reach, family) => one(
             FieldKind::Safi,
@@ -219,11 +237,7 @@ pub(crate) fn value_plan(ctx: &Context, part: ValuePart, octets: &[u8]) -> Value
         ValuePart::LinkLocal => one(FieldKind::LinkLocal, 16, ValuePart::Reserved(true)),
         ValuePart::Reserved(ip6) => one(FieldKind::Reserved, 1, reach_prefixes(ip6)),
         ValuePart::CapabilityCode => capability_code(first),
-        ValuePart::CapabilityLength(code) => one(
-            FieldKind::CapabilityLength,
-            1,
-            capability_behind(code, first, octets.len()),
-        ),
+        ValuePart::CapabilityLength(code) => capability_length(code, first, octets.len()),
         ValuePart::Capability(kind, n) => one(kind, usize::from(n), ValuePart::CapabilityCode),
         ValuePart::CapabilityAfi => one(FieldKind::Afi, 2, ValuePart::CapabilityReserved),
         ValuePart::CapabilityReserved => one(FieldKind::Reserved, 1, ValuePart::CapabilitySafi),
