@@ -1,4 +1,4 @@
-use Rattle.std.proofs.Common.{◌≡◌, ap, ◌∙◌, rules}
+use Rattle.std.proofs.Common.{ap, ◌∙◌, rules}
 use Rattle.bgp_engine.specs.Show.{class_of}
 use Rattle.bgp_engine.proofs.explaining.ExplainPage.put_frame.Goals as goal
 
