@@ -1,7 +1,9 @@
 """Tests of decoders: a stream in pieces is what it is whole."""
 
+import copy
 import gc
 import pathlib
+import pickle
 import random
 import resource
 import signal
@@ -46,6 +48,17 @@ def in_pieces(octets, cuts):
         for at, end in zip([0, *cuts], [*cuts, len(octets)]):
             found += map(told, decoder.feed(octets[at:end]))
     return found
+
+
+class Handles(unittest.TestCase):
+    def test_not_copied(self):
+        """What is the library's has no copy."""
+        with Decoder(CONTEXT) as decoder, ristulva.Session(ristulva.Config(65001, 65002, "192.0.2.1")) as session:
+            for it, name in ((decoder, "Decoder"), (session, "Session")):
+                self.assertEqual(repr(it), f"<ristulva.{name}: open>")
+                for copied in (pickle.dumps, copy.copy, copy.deepcopy):
+                    self.assertRaisesRegex(TypeError, "can't be copied or pickled", copied, it)
+        self.assertEqual((repr(decoder), repr(session)), ("<ristulva.Decoder: closed>", "<ristulva.Session: closed>"))
 
 
 class Pieces(unittest.TestCase):

@@ -1,10 +1,13 @@
 """Tests of messages, on the captures of examples/: `python3 -m unittest` in this folder, where RISTULVA_LIBRARY names the library by an absolute path."""
 
 import array
+import copy
 import ctypes
 import ipaddress
 import pathlib
+import pickle
 import unittest
+import warnings
 
 import ristulva
 
@@ -31,6 +34,57 @@ class Captures(unittest.TestCase):
             with self.subTest(path.name):
                 wanted = path.with_suffix(".txt").read_text()
                 self.assertEqual(lines, wanted[: wanted.rindex("end ")])
+
+
+class Values(unittest.TestCase):
+    """Messages are values, and what they give are lists."""
+
+    context = ristulva.Context(as4=True)
+    update = ristulva.judge(message(2, BODY), context)
+
+    def test_equal(self):
+        """Octets, context and place make a message, by what it is judged as."""
+        self.assertEqual(self.update, ristulva.judge(message(2, BODY), self.context))
+        self.assertEqual(hash(self.update), hash(ristulva.judge(message(2, BODY), self.context)))
+        made = ((BODY, ristulva.Context(), 0), (BODY, self.context, 19), (bytes(4), self.context, 0))
+        others = [ristulva.judge(message(2, body), context, place) for body, context, place in made]
+        for other in [*others, self.update.octets, None]:
+            self.assertNotEqual(self.update, other)
+        self.assertEqual(len({self.update, copy.copy(self.update), *others}), 4)
+
+    def test_told(self):
+        self.assertEqual(repr(self.update), "<ristulva.Message: update, 56 octets at 0>")
+        self.assertEqual(len(self.update), 56)
+        self.assertEqual(repr(ristulva.judge(MARKER + bytes.fromhex("001204"), self.context, 7)), "<ristulva.Message: reset, 19 octets at 7>")
+
+    def test_pickled(self):
+        """A message comes back as it was, also a header with a fault, and what a session judged by its state."""
+        with ristulva.Session(ristulva.Config(65001, 65002, "192.0.2.1")) as session:
+            session.event(ristulva.Event.START)
+            session.event(ristulva.Event.CONNECTED)
+            heard = session.hear(message(4, b"")).message
+        self.assertEqual(heard.notification, (5, 1, b"\x04"))
+        for it in (self.update, ristulva.judge(MARKER + bytes.fromhex("001204"), self.context, 7), heard):
+            for back in (pickle.loads(pickle.dumps(it)), copy.copy(it), copy.deepcopy(it)):
+                self.assertEqual((back, back.notification, str(back)), (it, it.notification, str(it)))
+
+    def test_lists(self):
+        """Their truth and their length are those of what is in them, however often they are read."""
+        keepalive = ristulva.judge(message(4, b""), self.context)
+        for name, count in (("announced", 1), ("withdrawn", 0), ("attributes", 4), ("notes", 0), ("communities", 1)):
+            given = getattr(self.update, name)()
+            self.assertEqual((type(given), len(given), bool(given)), (list, count, count > 0))
+            self.assertEqual(getattr(keepalive, name)(), [])
+
+    def test_incomplete(self):
+        """A stream that ends inside a message is told; one that ends behind a message isn't, nor what stands behind a reset."""
+        whole, faulty = message(2, BODY) + message(4, b""), message(1, bytes.fromhex("03fde80000c000020100"))
+        for octets, rest in ((whole, 0), (b"", 0), (faulty + whole[:30], 0), (whole + whole[:30], 30), (whole[:1], 1)):
+            with warnings.catch_warnings(record=True) as told:
+                warnings.simplefilter("always")
+                [*ristulva.messages(octets, self.context)]
+            wanted = [f"the stream ends inside a message, of which it has {rest} octets"] if rest else []
+            self.assertEqual([str(it.message) for it in told if it.category is ristulva.Incomplete], wanted)
 
 
 class Opens(unittest.TestCase):

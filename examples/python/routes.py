@@ -6,26 +6,31 @@ announces and withdraws, and the path of what it announces.
 
 An UPDATE that is treated as a withdrawal withdraws all its prefixes (RFC 7606, section 2). It ends with 1 where a message ends the session, or the
 stream ends inside of one. It needs the package ristulva (docs/C.md). `bgp show --json` tells more (docs/JSON.md)."""
+
+from __future__ import annotations
+
 import json
 import sys
+import typing
+import warnings
 
 import ristulva
 
 FLAGS = {"--as4": "as4", "--ip4": "ip4", "--ip6": "ip6", "--internal": "internal"}
 
 
-def prefixes(found):
+def prefixes(found: typing.Iterable[ristulva.Prefix]) -> list[str]:
     return [str(prefix) for prefix in found]
 
 
-def path(message):
+def path(message: ristulva.Message) -> list[dict[str, typing.Any]]:
     """The segments of AS_PATH, in the words of docs/JSON.md."""
     return [{"type": "set" if kind == 1 else "sequence", "as": numbers} for kind, numbers in message.as_path() or []]
 
 
-def told(message):
+def told(message: ristulva.Message) -> dict[str, typing.Any]:
     """A message as an object."""
-    line = {"place": message.place, "length": len(message.octets), "verdict": message.verdict}
+    line: dict[str, typing.Any] = {"place": message.place, "length": len(message.octets), "verdict": message.verdict}
     if message.verdict == "update":
         line |= {"announced": prefixes(message.announced()), "withdrawn": prefixes(message.withdrawn())}
         if line["announced"]:
@@ -37,18 +42,20 @@ def told(message):
     return line
 
 
-def main():
+def main() -> int:
     if not set(sys.argv[1:]) <= set(FLAGS):
-        sys.exit(__doc__.strip())
+        sys.exit((__doc__ or "").strip())
+    # The status tells it.
+    warnings.simplefilter("ignore", ristulva.Incomplete)
     context = ristulva.Context(**{FLAGS[word]: True for word in sys.argv[1:]})
     octets = sys.stdin.buffer.read()
-    line = None
+    line: dict[str, typing.Any] = {}
     read = 0
     for message in ristulva.messages(octets, context):
         line = told(message)
         read = message.place + len(message.octets)
         print(json.dumps(line, separators=(",", ":")))
-    return 1 if read < len(octets) or (line and line["verdict"] == "reset") else 0
+    return 1 if read < len(octets) or line.get("verdict") == "reset" else 0
 
 
 sys.exit(main())

@@ -45,7 +45,8 @@ class Decoder:
 
     def __init__(self, context: Context) -> None:
         self._lock, self._handle, self._context = threading.RLock(), Handle(), context
-        self._stand, self._found = Stand(), []
+        self._stand = Stand()
+        self._found: list[Message] = []
         self._message, self._data = ctypes.create_string_buffer(MESSAGE), ctypes.create_string_buffer(DATA)
         check(LIBRARY.ristulva_decoder_new(context.said(), self._handle))
         self._free = weakref.finalize(self, LIBRARY.ristulva_decoder_free, self._handle)
@@ -61,6 +62,12 @@ class Decoder:
     def __exit__(self, *_: object) -> None:
         self.close()
 
+    def __reduce__(self) -> typing.NoReturn:
+        raise TypeError("a decoder can't be copied or pickled: what it holds is the library's")
+
+    def __repr__(self) -> str:
+        return f"<ristulva.Decoder: {'open' if self._handle.body else 'closed'}>"
+
     def _check_open(self) -> None:
         """Raises DecoderClosed where it was closed."""
         if not self._handle.body:
@@ -69,7 +76,8 @@ class Decoder:
     def _call(self, name: str, *arguments: object) -> int:
         """The status of a call on the handle."""
         self._check_open()
-        return getattr(LIBRARY, f"ristulva_decoder_{name}")(self._handle, *arguments)
+        status: int = getattr(LIBRARY, f"ristulva_decoder_{name}")(self._handle, *arguments)
+        return status
 
     def feed(self, piece: typing.Union[bytes, bytearray, memoryview]) -> list[Message]:
         """Takes all octets of a piece, and answers the messages that are whole by them. The last one may end the session: its verdict is "reset".
@@ -79,7 +87,8 @@ class Decoder:
 
         Where an exception cuts it off, as one of a signal's handler, no message is lost: the next call goes on where this one stopped, and
         answers the messages of both. `taken` tells then whether the piece was taken: all of it was, or nothing."""
-        octets, found = bytes(memoryview(piece)), []
+        octets = bytes(memoryview(piece))
+        found: list[Message] = []
         try:
             with self._lock:
                 self._take(octets)
@@ -127,7 +136,8 @@ class Decoder:
         return self._call("pull", pull.octets, len(pull.octets), self._message, MESSAGE, self._data, DATA, pull.taken, pull.verdict)
 
     def _judged(self, verdict: Verdict, place: int) -> Message:
-        return Message(self._message[: verdict.len or HEADER], self._context, place, verdict, self._data[: verdict.data_len])
+        octets, data = ctypes.string_at(self._message, verdict.len or HEADER), ctypes.string_at(self._data, verdict.data_len)
+        return Message(octets, self._context, place, verdict, data)
 
     @property
     def taken(self) -> int:

@@ -1,8 +1,11 @@
 """The library for C as ctypes has it: its statuses, its structures and its calls, as ristulva.h declares them."""
 
+from __future__ import annotations
+
 import ctypes
 import os
 import pathlib
+import typing
 from ctypes import POINTER, Structure, c_char_p, c_size_t, c_uint8, c_uint16, c_uint32, c_uint64, c_void_p
 
 OK, NO_SESSION, MEMORY, RANGE, INCOMPLETE, ROOM, END, REFUSED, UNWRITABLE, STATE, CONFIG, IN_USE, MIXED = range(13)
@@ -112,7 +115,7 @@ class Handle(Structure):
     _fields_ = [("body", c_void_p)]
 
 
-def place():
+def place() -> str:
     """Where the shared library lies: where RISTULVA_LIBRARY says, else beside this file, else where the loader finds its soname. Never in the folder
     that Python was started in."""
     named = os.environ.get("RISTULVA_LIBRARY")
@@ -125,21 +128,47 @@ def place():
     return str(beside) if beside.exists() else soname
 
 
-def opened(where):
+# Calls that take no longer than Python's lock would take to be given up and had back: they keep it.
+SHORT = (
+    "next_attribute", "next_prefix", "next_segment", "next_number", "next_large_community", "next_capability", "reached", "unreached", "open", "judge",
+    "session_state", "session_context",
+)
+
+
+class Library:
+    """The calls of the shared library by their names."""
+
+    def __init__(self, where: str) -> None:
+        self._long, self._short = opened(where, ctypes.CDLL), opened(where, ctypes.PyDLL)
+
+    def bind(self, name: str, arguments: list[typing.Any]) -> bool:
+        """Makes a call an attribute. Whether the library has it."""
+        call = getattr(self._short if name in SHORT else self._long, f"ristulva_{name}", None)
+        if call is None:
+            return False
+        call.argtypes, call.restype = arguments, c_uint32
+        setattr(self, f"ristulva_{name}", call)
+        return True
+
+    def __getattr__(self, name: str) -> typing.Any:
+        raise AttributeError(name)
+
+
+def opened(where: str, form: typing.Type[ctypes.CDLL]) -> ctypes.CDLL:
     """The shared library of this place."""
     try:
-        return ctypes.CDLL(where)
+        return form(where)
     except OSError as error:
         raise ImportError(f"there is no library for ristulva: {error}; install libristulva, or set RISTULVA_LIBRARY to its absolute path") from error
 
 
-def load():
+def load() -> tuple[Library, int]:
     """The shared library, with the types of its calls, and its version."""
     where = place()
-    library = opened(where)
-    octets = [c_char_p, c_size_t]
+    library = Library(where)
+    octets: list[typing.Any] = [c_char_p, c_size_t]
     # A buffer and its room come before what is written beside it.
-    buffer = [c_char_p, c_size_t]
+    buffer: list[typing.Any] = [c_char_p, c_size_t]
     session = decoder = POINTER(Handle)
     takes = {
         "judge": [POINTER(Said), *octets, *buffer, POINTER(Verdict)],
@@ -174,17 +203,14 @@ def load():
         "session_send": [session, *octets, POINTER(CActions), *buffer, POINTER(c_size_t)],
     }
     # The version first: a library of another series may lack a call.
-    if not hasattr(library, "ristulva_version"):
+    if not library.bind("version", []):
         raise ImportError(f"{where} is another library")
-    library.ristulva_version.argtypes, library.ristulva_version.restype = [], c_uint32
-    version = library.ristulva_version()
+    version: int = library.ristulva_version()
     if divmod(version // 1000, 1000) != SERIES:
         raise ImportError("{} is version {}.{}, and this package is for {}.{}".format(where, *divmod(version // 1000, 1000), *SERIES))
     for name, arguments in takes.items():
-        call = getattr(library, f"ristulva_{name}", None)
-        if call is None:
+        if not library.bind(name, arguments):
             raise ImportError(f"{where} has no ristulva_{name}: this package is for a later version")
-        call.argtypes, call.restype = arguments, c_uint32
     return library, version
 
 

@@ -2,9 +2,13 @@
 
 A Message keeps the octets that it was read from; what it gives is read from them when it is asked for."""
 
+from __future__ import annotations
+
 import ctypes
 import dataclasses
 import ipaddress
+import typing
+import warnings
 from ctypes import c_size_t, c_uint32
 
 from .library import (
@@ -15,6 +19,9 @@ from .library import (
 WHYS = ("Flags", "Length", "Value", "SegmentType", "SegmentCount", "SegmentEnd", "Repeated", "External", "FourOctet", "Family", "Unneeded", "Emptied",
         "Cut", "Missing", "AsZero")
 ENDS = {0: None, 1: "reset", 2: "late open", 3: "no family"}
+Octets = typing.Union[bytes, bytearray, memoryview]
+Prefix = typing.Union[ipaddress.IPv4Network, ipaddress.IPv6Network]
+
 VERDICTS = {1: "open", 2: "update", 3: "notification", 4: "keepalive", 5: "withdraw", 6: "reset"}
 
 
@@ -27,12 +34,12 @@ class Context:
     ip4: bool = False
     ip6: bool = False
 
-    def __post_init__(self):
+    def __post_init__(self) -> None:
         # A number that C has no room for would lose its highest octets.
         for field in dataclasses.fields(self):
             object.__setattr__(self, field.name, bool(getattr(self, field.name)))
 
-    def said(self):
+    def said(self) -> Said:
         return Said(self.internal, self.as4, self.ip4, self.ip6)
 
 
@@ -44,10 +51,14 @@ class WrongState(Exception):
     """The session isn't in a state for this."""
 
 
+class Incomplete(UserWarning):
+    """A stream ends inside a message."""
+
+
 REFUSALS = {RANGE: "too long a body", REFUSED: "not accepted whole", MIXED: "routes of several kinds", UNWRITABLE: "can't be written"}
 
 
-def check(status):
+def check(status: int) -> None:
     """Raises what the status of a call tells that writes an UPDATE, where it isn't OK."""
     if status == MEMORY:
         raise MemoryError
@@ -78,7 +89,7 @@ class Open:
     as4: bool  # whether it offers AS numbers of four octets, and unicast routes of IPv4 and of IPv6
     ip4: bool
     ip6: bool
-    capabilities: list  # each its code and the octets of its value, in their order (RFC 5492, section 4)
+    capabilities: list[tuple[int, bytes]]  # each its code and the octets of its value, in their order (RFC 5492, section 4)
 
 
 @dataclasses.dataclass(frozen=True)
@@ -86,37 +97,63 @@ class Cleaned:
     """What came of a message that is cleaned."""
 
     octets: bytes  # what is handed on of it, a whole message in its one written form; none where the stream ends
-    ends: str  # why the cleaned stream ends before it, one of ENDS; None where it is handed on
+    ends: typing.Optional[str]  # why the cleaned stream ends before it, one of ENDS; None where it is handed on
     discarded: int  # how many attributes of an UPDATE that is accepted are discarded, each with a note
     left_out: int  # how many others are left out, by their types
     capabilities: int  # how many capabilities of an OPEN are left out
 
 
-def each(call, octets, cursor, out):
+Out = typing.TypeVar("Out")
+
+
+def each(call: str, octets: bytes, cursor: ctypes.Structure, out: Out) -> typing.Iterator[Out]:
     """What a cursor gives, one after another: always the same place, written anew."""
-    while getattr(LIBRARY, f"ristulva_{call}")(octets, len(octets), cursor, out) == 0:
+    step, size = getattr(LIBRARY, f"ristulva_{call}"), len(octets)
+    while step(octets, size, cursor, out) == 0:
         yield out
 
 
 class Message:
-    """A message that was judged, or a header with a fault."""
+    """A message that was judged, or a header with a fault. Two are equal where their octets, contexts, places and verdicts are."""
 
-    def __init__(self, octets, context, place, verdict, data):
+    def __init__(self, octets: bytes, context: Context, place: int, verdict: Verdict, data: bytes) -> None:
         self.octets, self.context, self.place = octets, context, place
         self.found, self.data = verdict, data
 
+    def __repr__(self) -> str:
+        return f"<ristulva.Message: {self.verdict}, {len(self.octets)} octets at {self.place}>"
+
+    def _known(self) -> tuple[typing.Any, ...]:
+        """All that makes it what it is."""
+        return self.octets, self.context, self.place, bytes(self.found), self.data
+
+    def __eq__(self, other: object) -> bool:
+        if not isinstance(other, Message):
+            return NotImplemented
+        return self._known() == other._known()
+
+    def __hash__(self) -> int:
+        return hash((self.octets, self.context, self.place))
+
+    def __len__(self) -> int:
+        """How many octets it has: those of a header, where that has a fault."""
+        return len(self.octets)
+
+    def __reduce__(self) -> tuple[typing.Any, ...]:
+        return restored, self._known()
+
     @property
-    def verdict(self):
+    def verdict(self) -> str:
         """One of VERDICTS."""
         return VERDICTS[self.found.verdict]
 
     @property
-    def notification(self):
+    def notification(self) -> typing.Optional[tuple[int, int, bytes]]:
         """Code, subcode and data of the NOTIFICATION that came, or that ends the session; else None."""
         said = self.verdict in ("notification", "reset")
         return (self.found.code, self.found.subcode, self.data) if said else None
 
-    def __str__(self):
+    def __str__(self) -> str:
         """The lines that `bgp show` prints."""
         room, written = 4096, c_size_t()
         while True:
@@ -125,10 +162,10 @@ class Message:
             if status == MEMORY:
                 raise MemoryError
             if status != ROOM:
-                return text.raw[: written.value].decode("ascii")
+                return ctypes.string_at(text, written.value).decode("ascii")
             room = written.value
 
-    def open(self):
+    def open(self) -> typing.Optional[Open]:
         """What an OPEN that is accepted says; None of any other message."""
         it = COpen()
         if LIBRARY.ristulva_open(self.octets, len(self.octets), it) != 0:
@@ -137,15 +174,14 @@ class Message:
         capabilities = [(one.code, self.octets[one.value.at : one.value.at + one.value.len]) for one in found]
         return Open(it.as_number, it.as_field, it.hold, ipaddress.IPv4Address(bytes(it.id)), bool(it.as4), bool(it.ip4), bool(it.ip6), capabilities)
 
-    def notes(self):
+    def notes(self) -> list[tuple[int, int, str]]:
         """What RFC 7606 found: of each note the attribute's place in the message (0 where it is missing), its type, and one of WHYS."""
         notes, count = (CNote * 8)(), c_size_t()
         while LIBRARY.ristulva_notes(self.context.said(), self.octets, len(self.octets), notes, len(notes), count) == ROOM:
             notes = (CNote * count.value)()
-        for note in notes[: count.value]:
-            yield note.at, note.kind, WHYS[note.why - 1]
+        return [(note.at, note.kind, WHYS[note.why - 1]) for note in notes[: count.value]]
 
-    def clean(self, first=False, types=()):
+    def clean(self, first: bool = False, types: typing.Iterable[int] = ()) -> Cleaned:
         """What may be handed on of it to a hearer, who learns by it what RFC 7606 has the hearer of the message learn.
 
         An OPEN is handed on with the first capability of each kind for IPv4 unicast, IPv6 unicast and AS numbers of four octets, and no others. An UPDATE
@@ -153,49 +189,58 @@ class Message:
         a withdrawal as an UPDATE that withdraws its routes. Where nothing would be left of an UPDATE, or MP_UNREACH_NLRI without routes alone, a KEEPALIVE
         is handed on, unless it came as an End-of-RIB. `first` is whether the message is the first one of its stream. Of a message with `ends`, and of all
         behind it, nothing is to be handed on."""
-        types = bytes(iter(types))
+        left_out = bytes(iter(types))
         message, written, told = ctypes.create_string_buffer(MESSAGE), c_size_t(), CCleaned()
         check(LIBRARY.ristulva_clean(
-            self.context.said(), types, len(types), bool(first), self.octets, len(self.octets), message, MESSAGE, written, told))
-        return Cleaned(message.raw[: written.value], ENDS[told.ends], told.discarded, told.left_out, told.capabilities)
+            self.context.said(), left_out, len(left_out), bool(first), self.octets, len(self.octets), message, MESSAGE, written, told))
+        return Cleaned(ctypes.string_at(message, written.value), ENDS[told.ends], told.discarded, told.left_out, told.capabilities)
 
-    def attributes(self):
+    def attributes(self) -> list[Attribute]:
         """The attributes of an UPDATE, kept or not, in their order."""
+        return [*self._attributes()]
+
+    def _attributes(self) -> typing.Iterator[Attribute]:
         field = self.found.attributes
         for it in each("next_attribute", self.octets, Attributes(field.at, field.at + field.len), CAttribute()):
             value = Span(it.value.at, it.value.len)
             yield Attribute(it.flags, it.kind, self.octets[value.at : value.at + value.len], value)
 
-    def first(self, kind):
+    def first(self, kind: int) -> typing.Optional[Attribute]:
         """The first attribute of a type, which decides; None where there is none."""
-        return next((it for it in self.attributes() if it.kind == kind), None)
+        return next((it for it in self._attributes() if it.kind == kind), None)
 
-    def prefixes(self, cursor):
+    def prefixes(self, cursor: Prefixes) -> typing.Iterator[Prefix]:
         for it in each("next_prefix", self.octets, cursor, CPrefix()):
             address = bytes(it.addr)[: 4 if it.afi == 1 else 16]
             yield ipaddress.ip_network((address, it.len))
 
-    def field(self, span):
+    def field(self, span: Span) -> typing.Iterator[Prefix]:
         return self.prefixes(Prefixes(span.at, span.at + span.len, 1))
 
-    def is_in_use(self, afi):
+    def is_in_use(self, afi: int) -> bool:
         return self.context.ip4 if afi == 1 else self.context.ip6
 
-    def announced(self):
+    def announced(self) -> list[Prefix]:
         """The prefixes of MP_REACH_NLRI and then of the NLRI field. Where the verdict is "withdraw", these are withdrawn too."""
+        return [*self._announced()]
+
+    def _announced(self) -> typing.Iterator[Prefix]:
         reach, hop, cursor = self.first(14), Span(), Prefixes()
         if reach and LIBRARY.ristulva_reached(self.octets, len(self.octets), reach.span, hop, cursor) == 0 and self.is_in_use(cursor.afi):
             yield from self.prefixes(cursor)
         yield from self.field(self.found.nlri)
 
-    def withdrawn(self):
+    def withdrawn(self) -> list[Prefix]:
         """The prefixes of Withdrawn Routes and then of MP_UNREACH_NLRI."""
+        return [*self._withdrawn()]
+
+    def _withdrawn(self) -> typing.Iterator[Prefix]:
         yield from self.field(self.found.withdrawn)
         unreach, cursor = self.first(15), Prefixes()
         if unreach and LIBRARY.ristulva_unreached(self.octets, len(self.octets), unreach.span, cursor) == 0 and self.is_in_use(cursor.afi):
             yield from self.prefixes(cursor)
 
-    def as_path(self):
+    def as_path(self) -> typing.Optional[list[tuple[int, list[int]]]]:
         """The segments of AS_PATH, each its type and its AS numbers; None where there is no AS_PATH."""
         path = self.first(2)
         if path is None:
@@ -204,76 +249,86 @@ class Message:
         segments = each("next_segment", self.octets, Segments(at, end, self.context.as4, 0), CSegment())
         return [(it.kind, self.numbers(it.numbers, 4 if self.context.as4 else 2)) for it in segments]
 
-    def numbers(self, span, width):
+    def numbers(self, span: Span, width: int) -> list[int]:
         return [it.value for it in each("next_number", self.octets, Numbers(span.at, span.at + span.len, width), c_uint32())]
 
-    def communities(self):
+    def communities(self) -> list[int]:
         """The numbers of COMMUNITIES."""
         value = self.first(8)
         return self.numbers(value.span, 4) if value else []
 
-    def large_communities(self):
+    def large_communities(self) -> list[tuple[int, int, int]]:
         """The large communities of LARGE_COMMUNITY, each three numbers, and each at its first place alone (RFC 8092, section 3)."""
         value = self.first(32)
         if value is None:
             return []
         at, end = value.span.at, value.span.at + value.span.len
-        return [tuple(it.numbers) for it in each("next_large_community", self.octets, LargeCommunities(at, at, end), CLargeCommunity())]
+        return [(it.numbers[0], it.numbers[1], it.numbers[2]) for it in each("next_large_community", self.octets, LargeCommunities(at, at, end), CLargeCommunity())]
 
 
-def in_octets(buffer):
+def restored(octets: bytes, context: Context, place: int, found: bytes, data: bytes) -> Message:
+    """A message as it was pickled or copied."""
+    return Message(octets, context, place, Verdict.from_buffer_copy(found), data)
+
+
+def in_octets(buffer: typing.Any) -> typing.Any:
     """A buffer whose slices count octets: itself, or a copy where it has wider elements, as array("H"), or rows."""
     with memoryview(buffer) as view:
         return buffer if view.itemsize == 1 and view.ndim == 1 else bytes(view)
 
 
-def part(octets, at):
+def part(octets: typing.Any, at: int) -> bytes:
     """As many octets from an offset on as a message may have, copied: nothing holds the caller's buffer then, and it may be changed."""
     return bytes(memoryview(octets)[at : at + MESSAGE])
 
 
-def judged(octets, context, place):
+def judged(octets: bytes, context: Context, place: int) -> typing.Optional[Message]:
     """The message that some bytes begin with, or None where they are less than one."""
     verdict, data = Verdict(), ctypes.create_string_buffer(DATA)
     if LIBRARY.ristulva_judge(context.said(), octets, len(octets), data, DATA, verdict) == INCOMPLETE:
         return None
-    return Message(octets[: verdict.len or HEADER], context, place, verdict, data[: verdict.data_len])
+    return Message(octets[: verdict.len or HEADER], context, place, verdict, ctypes.string_at(data, verdict.data_len))
 
 
-def judge(octets, context, place=0):
+def judge(octets: typing.Any, context: Context, place: int = 0) -> typing.Optional[Message]:
     """The message that octets begin with, or None where they are less than one. Of a header with a fault it has the 19 octets of the header.
 
     `octets` is bytes or another buffer, which is read octet by octet, whatever its elements are."""
     return judged(part(in_octets(octets), 0), context, place)
 
 
-def messages(octets, context):
-    """The messages of a stream, up to the first that ends the session. `octets` is a buffer, as `judge` has it."""
+def messages(octets: typing.Any, context: Context) -> typing.Iterator[Message]:
+    """The messages of a stream, up to the first that ends the session. `octets` is a buffer, as `judge` has it.
+
+    Where the stream ends inside a message, a warning `Incomplete` says how many octets of it there are."""
     octets, place = in_octets(octets), 0
     while (message := judged(part(octets, place), context, place)) is not None:
         yield message
         if message.verdict == "reset":
             return
         place += message.found.len
+    rest = len(octets) - place
+    if rest:
+        warnings.warn(f"the stream ends inside a message, of which it has {rest} octets", Incomplete, stacklevel=2)
 
 
-def rewritten(call, body, context):
-    body = bytes(memoryview(body))
+def rewritten(call: str, octets: Octets, context: Context) -> bytes:
+    body = bytes(memoryview(octets))
     message, written = ctypes.create_string_buffer(MESSAGE), c_size_t()
     check(getattr(LIBRARY, f"ristulva_{call}")(context.said(), body, len(body), message, MESSAGE, written))
-    return message.raw[: written.value]
+    return ctypes.string_at(message, written.value)
 
 
-def encode(body, context):
+def encode(body: Octets, context: Context) -> bytes:
     """The message of the UPDATE that a body is, in its one written form."""
     return rewritten("encode", body, context)
 
 
-def narrow(body, context):
+def narrow(body: Octets, context: Context) -> bytes:
     """The same for a speaker with AS numbers of two octets."""
     return rewritten("narrow", body, context)
 
 
-def reconcile(body, context):
+def reconcile(body: Octets, context: Context) -> bytes:
     """The UPDATE of a session with AS numbers of two octets, as speakers with four see it."""
     return rewritten("reconcile", body, context)

@@ -209,12 +209,19 @@ class Session:
     def __exit__(self, *_: object) -> None:
         self.close()
 
+    def __reduce__(self) -> typing.NoReturn:
+        raise TypeError("a session can't be copied or pickled: what it holds is the library's")
+
+    def __repr__(self) -> str:
+        return f"<ristulva.Session: {'open' if self._handle.body else 'closed'}>"
+
     def _call(self, name: str, *arguments: object) -> int:
         """The status of a call on the handle: no two are handed it at one time."""
         with self._lock:
             if not self._handle.body:
                 raise SessionClosed("the session is closed")
-            return getattr(LIBRARY, f"ristulva_session_{name}")(self._handle, *arguments)
+            status: int = getattr(LIBRARY, f"ristulva_session_{name}")(self._handle, *arguments)
+            return status
 
     @property
     def state(self) -> State:
@@ -228,7 +235,7 @@ class Session:
         it hasn't started."""
         told, message, written = CActions(), ctypes.create_string_buffer(MESSAGE), c_size_t()
         self._call("event", Event(event), told, message, MESSAGE, written)
-        return asked(told, message[: written.value])
+        return asked(told, ctypes.string_at(message, written.value))
 
     def hear(self, octets: typing.Union[bytes, bytearray, memoryview]) -> typing.Optional[Heard]:
         """Lets it hear the message, or the header with a fault, that octets of the peer begin with. What stands behind a message has no effect.
@@ -241,7 +248,7 @@ class Session:
             context = self.context or Context()
             if self._call("hear", octets, len(octets), heard, told, message, MESSAGE, written) != OK:
                 return None
-        sent = message[: written.value]
+        sent = ctypes.string_at(message, written.value)
         said = said_by(heard, octets[: heard.len], sent, context)
         return Heard(said, heard.len, asked(told, sent, said))
 
@@ -268,14 +275,14 @@ class Session:
                 return None
             self._call("codes", codes, 256, written)
         identifier = ipaddress.IPv4Address(bytes(it.id))
-        return Peer(it.as_number, identifier, it.hold, bool(it.as4), bool(it.ip4), bool(it.ip6), list(codes[: written.value]))
+        return Peer(it.as_number, identifier, it.hold, bool(it.as4), bool(it.ip4), bool(it.ip6), list(ctypes.string_at(codes, written.value)))
 
     @property
     def open_message(self) -> bytes:
         """The message of its own OPEN (RFC 4271, section 4.2)."""
         message, written = ctypes.create_string_buffer(MESSAGE), c_size_t()
         self._call("open", message, MESSAGE, written)
-        return message[: written.value]
+        return ctypes.string_at(message, written.value)
 
     def send(self, body: typing.Union[bytes, bytearray, memoryview]) -> list[Action]:
         """An UPDATE as the session sends it now: the message is to be sent, and the Keepalive Timer, where there is one, started anew. The session
@@ -290,7 +297,7 @@ class Session:
         body = bytes(memoryview(body))
         told, message, written = CActions(), ctypes.create_string_buffer(MESSAGE), c_size_t()
         check(self._call("send", body, len(body), told, message, MESSAGE, written))
-        return [Send(message[: written.value]), *asked(told, b"")]
+        return [Send(ctypes.string_at(message, written.value)), *asked(told, b"")]
 
 
 def said_by(heard: CHeard, octets: bytes, sent: bytes, context: Context) -> Message:
