@@ -1,0 +1,95 @@
+package ristulva
+
+// #include "list.h"
+import "C"
+
+import (
+	"runtime"
+	"sync"
+	"unsafe"
+)
+
+// Decoder reads a stream in whatever pieces its octets come, and gives what Messages gives of the whole. It holds at most one message.
+type Decoder struct {
+	lock    sync.Mutex
+	handle  C.ristulva_decoder
+	context Context
+	place   uint64
+	ended   bool
+}
+
+// NewDecoder begins a stream. Close frees what the decoder keeps, and so does the garbage collector.
+func NewDecoder(context Context) (*Decoder, error) {
+	decoder := &Decoder{context: context}
+	said := context.said()
+	if status := C.ristulva_decoder_new(&said, &decoder.handle); status != C.RISTULVA_OK {
+		return nil, failed(status)
+	}
+	runtime.SetFinalizer(decoder, func(it *Decoder) { _ = it.Close() })
+	return decoder, nil
+}
+
+// Close frees the decoder; once more does nothing. Each other call answers ErrClosed then.
+func (decoder *Decoder) Close() error {
+	decoder.lock.Lock()
+	defer decoder.lock.Unlock()
+	C.ristulva_decoder_free(&decoder.handle)
+	return nil
+}
+
+// Feed takes all octets of a piece, and gives the messages that are whole by them. The last one may end the session: behind it nothing is read, and Feed
+// answers ErrReset.
+func (decoder *Decoder) Feed(piece []byte) ([]*Message, error) {
+	decoder.lock.Lock()
+	defer decoder.lock.Unlock()
+	if decoder.handle.body == nil {
+		return nil, ErrClosed
+	}
+	if decoder.ended {
+		return nil, ErrReset
+	}
+	var messages []*Message
+	for {
+		message, taken := decoder.pull(piece)
+		piece = piece[taken:]
+		if message == nil {
+			return messages, nil
+		}
+		messages = append(messages, message)
+		decoder.place += uint64(message.found.len)
+		if message.Verdict() == Reset {
+			decoder.ended = true
+			return messages, nil
+		}
+	}
+}
+
+// The next message, and how many octets were taken.
+func (decoder *Decoder) pull(piece []byte) (*Message, C.size_t) {
+	var octets page
+	var data [dataMax]byte
+	var taken C.size_t
+	message := &Message{context: decoder.context, place: decoder.place}
+	at, size := octetsOf(piece)
+	status := C.ristulva_decoder_pull(
+		&decoder.handle, at, size, octets.at(), MessageMax, (*C.uint8_t)(unsafe.Pointer(&data[0])), dataMax, &taken, &message.found)
+	if status != C.RISTULVA_OK {
+		return nil, taken
+	}
+	length := message.found.len
+	if length == 0 {
+		length = headerLen
+	}
+	message.octets = append([]byte{}, octets[:length]...)
+	message.data = append([]byte{}, data[:message.found.data_len]...)
+	return message, taken
+}
+
+// Held is how many octets of an incomplete message the decoder holds.
+func (decoder *Decoder) Held() (int, error) {
+	decoder.lock.Lock()
+	defer decoder.lock.Unlock()
+	var held C.size_t
+	status := C.ristulva_decoder_held(&decoder.handle, &held)
+	return int(held), failed(status)
+}

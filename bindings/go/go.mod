@@ -1,0 +1,3 @@
+module ristulva
+
+go 1.19
