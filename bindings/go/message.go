@@ -182,6 +182,35 @@ func (message *Message) Announced() []netip.Prefix {
 	})
 }
 
+// Route is one that an UPDATE announces, or else withdraws.
+type Route struct {
+	Prefix    netip.Prefix
+	Announced bool
+}
+
+// Routes gives those of an UPDATE as RFC 7606 has them: those that it withdraws, then those that it announces; one that is treated as a withdrawal
+// announces none, and withdraws all. `lost` is whether it has IPv6 routes, and its context doesn't: they aren't given.
+func (message *Message) Routes() (routes []Route, lost bool) {
+	isKept := message.Verdict() == Update
+	if !isKept && message.Verdict() != Withdraw {
+		return nil, false
+	}
+	for _, prefix := range message.Withdrawn() {
+		routes = append(routes, Route{prefix, false})
+	}
+	for _, prefix := range message.Announced() {
+		routes = append(routes, Route{prefix, isKept})
+	}
+	return routes, !message.context.IP6 && (message.hasIP6(14) || message.hasIP6(15))
+}
+
+// Whether the first attribute of a type has IPv6 unicast (RFC 4760).
+func (message *Message) hasIP6(kind uint8) bool {
+	value, is := message.first(kind)
+	octets := message.octets[value.at : value.at+value.len]
+	return is && len(octets) > 2 && octets[0] == 0 && octets[1] == 2 && octets[2] == 1
+}
+
 // Withdrawn gives the prefixes of Withdrawn Routes and then of MP_UNREACH_NLRI.
 func (message *Message) Withdrawn() []netip.Prefix {
 	return message.prefixes(func(at *C.uint8_t, size C.size_t, said *C.ristulva_context, parts *C.ristulva_parts, out *C.ristulva_prefix, room C.size_t) C.size_t {

@@ -129,7 +129,13 @@ func TestRoutesOfBothFamilies(t *testing.T) {
 	if !reflect.DeepEqual(given, wanted) {
 		t.Error(given)
 	}
+	if routes, lost := it.Routes(); lost || len(routes) != 2 || routes[0].Announced || !routes[1].Announced {
+		t.Error(routes, lost)
+	}
 	without, _ := Judge(message(2, six), Context{AS4: true})
+	if routes, lost := without.Routes(); !lost || routes != nil {
+		t.Error(routes, lost)
+	}
 	if len(without.Announced())+len(without.Withdrawn()) != 0 || len(without.Notes()) != 2 || without.Notes()[0] != (Note{36, 14, 10}) {
 		t.Error(told(without))
 	}
@@ -141,6 +147,9 @@ func TestNotesAndResets(t *testing.T) {
 	it, _ := Judge(message(2, bad), Context{AS4: true})
 	if it.Verdict() != Withdraw || !reflect.DeepEqual(it.Notes(), []Note{{23, 1, 3}}) || it.Notes()[0].Why.String() != "Value" {
 		t.Error(told(it))
+	}
+	if routes, lost := it.Routes(); lost || !reflect.DeepEqual(routes, []Route{{netip.MustParsePrefix("10.0.0.0/8"), false}}) {
+		t.Error(routes, lost)
 	}
 	it, _ = Judge(append(append([]byte{}, marker...), digits("001204")...), Context{})
 	if it.Verdict() != Reset || !reflect.DeepEqual(it.Notification(), &Said{1, 2, digits("0012")}) || len(it.Octets()) != 19 {

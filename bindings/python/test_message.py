@@ -76,6 +76,26 @@ class Values(unittest.TestCase):
             self.assertEqual((type(given), len(given), bool(given)), (list, count, count > 0))
             self.assertEqual(getattr(keepalive, name)(), [])
 
+    def test_routes(self):
+        """Those of an UPDATE by what it is judged as, and IPv6 routes that are lost."""
+        six = bytes.fromhex("0000" + "0038" + "40010100" + "40020602010000fde8" + "800e1a0002011020010db800000000000000000000000100" + "2020010db8" + "800f08000201"
+                            + "2020010db9" + "08" + "0a")
+        four, five = ipaddress.ip_network("10.0.0.0/8"), [ipaddress.ip_network(it) for it in ("2001:db9::/32", "2001:db8::/32")]
+        six = six[:2] + (len(six) - 6).to_bytes(2, "big") + six[4:]
+        both = ristulva.Context(as4=True, ip6=True)
+        route = ristulva.Route
+        self.assertEqual(self.update.routes(), [route(four, True)])
+        treated = ristulva.judge(message(2, BODY[:7] + b"\3" + BODY[8:]), self.context)
+        self.assertEqual((treated.verdict, treated.routes()), ("withdraw", [route(four, False)]))
+        it = ristulva.judge(message(2, six), both)
+        self.assertEqual((it.verdict, it.routes()), ("withdraw", [route(five[0], False), route(five[1], False), route(four, False)]))
+        self.assertEqual(ristulva.judge(message(4, b""), both).routes(), [])
+        for context, told in ((both, []), (self.context, [ristulva.FamilyNotAgreed])):
+            with warnings.catch_warnings(record=True) as found:
+                warnings.simplefilter("always")
+                ristulva.judge(message(2, six), context).routes()
+            self.assertEqual([it.category for it in found], told)
+
     def test_incomplete(self):
         """A stream that ends inside a message is told; one that ends behind a message isn't, nor what stands behind a reset."""
         whole, faulty = message(2, BODY) + message(4, b""), message(1, bytes.fromhex("03fde80000c000020100"))

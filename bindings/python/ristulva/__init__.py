@@ -20,8 +20,8 @@ It is the file that RISTULVA_LIBRARY names by an absolute path, else libristulva
 from .decoder import Decoder, DecoderClosed
 from .library import MESSAGE, VERSION
 from .message import (
-    ENDS, VERDICTS, WHYS, Attribute, Cleaned, Context, Incomplete, Message, Open, Prefix, Refused, WrongState, encode, judge, messages, narrow,
-    reconcile,
+    ENDS, VERDICTS, WHYS, Attribute, Cleaned, Context, FamilyNotAgreed, Incomplete, Message, Open, Prefix, Refused, Route, WrongState, encode,
+    judge, messages, narrow, reconcile,
 )
 from .session import (
     Action, Announce, Arm, Close, Config, Disarm, Event, Flush, Heard, Peer, Seek, Send, Session, SessionClosed, State, Timer, Withdraw,
@@ -29,6 +29,7 @@ from .session import (
 
 __all__ = [
     "ENDS", "MESSAGE", "VERDICTS", "VERSION", "WHYS", "Action", "Announce", "Arm", "Attribute", "Cleaned", "Close", "Config", "Context",
-    "Decoder", "DecoderClosed", "Disarm", "Event", "Flush", "Heard", "Incomplete", "Message", "Open", "Peer", "Prefix", "Refused", "Seek", "Send",
-    "Session", "SessionClosed", "State", "Timer", "Withdraw", "WrongState", "encode", "judge", "messages", "narrow", "reconcile",
+    "Decoder", "DecoderClosed", "Disarm", "Event", "FamilyNotAgreed", "Flush", "Heard", "Incomplete", "Message", "Open", "Peer", "Prefix",
+    "Refused", "Route", "Seek", "Send", "Session", "SessionClosed", "State", "Timer", "Withdraw", "WrongState", "encode", "judge", "messages",
+    "narrow", "reconcile",
 ]

@@ -55,6 +55,10 @@ class Incomplete(UserWarning):
     """A stream ends inside a message."""
 
 
+class FamilyNotAgreed(UserWarning):
+    """An UPDATE has IPv6 routes, and its context doesn't: they aren't given."""
+
+
 REFUSALS = {RANGE: "too long a body", REFUSED: "not accepted whole", MIXED: "routes of several kinds", UNWRITABLE: "can't be written"}
 
 
@@ -76,6 +80,14 @@ class Attribute:
     kind: int
     value: bytes
     span: Span = dataclasses.field(repr=False, compare=False)
+
+
+@dataclasses.dataclass(frozen=True)
+class Route:
+    """A route that an UPDATE announces, or else withdraws."""
+
+    prefix: Prefix
+    announced: bool
 
 
 @dataclasses.dataclass(frozen=True)
@@ -239,6 +251,23 @@ class Message:
         unreach, cursor = self.first(15), Prefixes()
         if unreach and LIBRARY.ristulva_unreached(self.octets, len(self.octets), unreach.span, cursor) == 0 and self.is_in_use(cursor.afi):
             yield from self.prefixes(cursor)
+
+    def routes(self) -> list[Route]:
+        """Its routes as RFC 7606 has them: those that it withdraws, then those that it announces; an UPDATE that is treated as a withdrawal announces
+        none, and withdraws all. Of other messages there are none.
+
+        Where it has IPv6 routes, and its context doesn't, a warning `FamilyNotAgreed` says so."""
+        if self.verdict not in ("update", "withdraw"):
+            return []
+        if self._loses_ip6():
+            warnings.warn("an UPDATE has IPv6 routes, and its context doesn't", FamilyNotAgreed, stacklevel=2)
+        is_kept = self.verdict == "update"
+        return [Route(it, False) for it in self._withdrawn()] + [Route(it, is_kept) for it in self._announced()]
+
+    def _loses_ip6(self) -> bool:
+        """Whether one of the multiprotocol attributes has IPv6 unicast, which isn't in use."""
+        found = (self.first(14), self.first(15)) if not self.context.ip6 else ()
+        return any(it is not None and it.value[:3] == b"\0\2\1" for it in found)
 
     def as_path(self) -> typing.Optional[list[tuple[int, list[int]]]]:
         """The segments of AS_PATH, each its type and its AS numbers; None where there is no AS_PATH."""
