@@ -12,7 +12,7 @@
  *  - What a call writes (`out`, `cursor`, a buffer, a length) overlaps nothing else that it is handed.
  *  - Octets are `const uint8_t *octets, size_t len`. A message has at most 4096 of them (RFC 4271, section 4.1).
  *  - It answers a status. Where that isn't RISTULVA_OK, what it says of each status holds.
- *  - 32 KB of stack are enough, and 48 KB for ristulva_session_send.
+ *  - 32 KB of stack are enough, and 48 KB for ristulva_session_send and ristulva_clean.
  *
  * Positions are offsets into the caller's buffer: so a message is viewed there, and nothing is copied.
  */
