@@ -47,6 +47,7 @@ mod path;
 mod prefix;
 #[allow(unsafe_code)]
 mod raw;
+mod route;
 mod session;
 mod update;
 mod write;
@@ -64,6 +65,7 @@ pub use note::{Note, Notes, Why};
 pub use open::{Capabilities, Capability, Open};
 pub use path::{Numbers, Segment, SegmentKind, Segments};
 pub use prefix::{NextHop, Prefix, Prefixes};
+pub use route::Route;
 pub use session::{Event, Heard, Peer, Session, State};
 pub use update::Update;
 pub use write::{encode, narrow, reconcile};

@@ -105,6 +105,16 @@ impl<'a> Update<'a> {
         }
     }
 
+    /// Whether it has routes of IPv6 while IPv6 isn't in use: they are discarded, and a stream that
+    /// has such was judged in a wrong context.
+    pub fn has_ip6_unused(&self) -> bool {
+        let is_ip6 = |kind| {
+            self.value(kind)
+                .is_some_and(|value| value.starts_with(&[0, 2, 1]))
+        };
+        !self.context.ip6 && (is_ip6(MP_REACH) || is_ip6(MP_UNREACH))
+    }
+
     /// The segments of AS_PATH; `None` where there is no AS_PATH.
     pub fn as_path(&self) -> Option<Segments<'a>> {
         self.value(AS_PATH)

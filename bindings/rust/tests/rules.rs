@@ -63,8 +63,8 @@ fn taken<'a>(context: &Context, octets: &'a [u8]) -> Update<'a> {
     }
 }
 
-fn told(prefixes: impl Iterator<Item = ristulva::Prefix>) -> Vec<String> {
-    prefixes.map(|prefix| prefix.to_string()).collect()
+fn told(values: impl Iterator<Item = impl ToString>) -> Vec<String> {
+    values.map(|value| value.to_string()).collect()
 }
 
 fn reset(code: u8, subcode: u8, data: &[u8]) -> Outcome<'static> {
@@ -81,6 +81,39 @@ fn shared_between_threads() {
     is_shared::<ristulva::Message<'static>>();
     is_shared::<ristulva::Prefixes<'static>>();
     is_shared::<Error>();
+}
+
+fn routes(context: &Context, octets: &[u8]) -> Vec<String> {
+    told(judge(context, octets).expect("a message").routes())
+}
+
+/// RFC 7606, section 2: an UPDATE that is treated as a withdrawal withdraws all of its routes.
+#[test]
+fn routes_of_messages() {
+    let with = |origin| {
+        let attributes = [attribute(0x40, 1, &[origin]), path(), next_hop()];
+        message(2, &body(&[16, 10, 1], &attributes, &[8, 10]))
+    };
+    let kept = ["withdraw 10.1.0.0/16", "announce 10.0.0.0/8"];
+    assert_eq!(routes(&AS4, &with(2)), kept);
+    // There is no ORIGIN 3 (RFC 4271, section 4.3).
+    let withdrawn = ["withdraw 10.1.0.0/16", "withdraw 10.0.0.0/8"];
+    assert_eq!(routes(&AS4, &with(3)), withdrawn);
+    assert!(routes(&AS4, &message(4, &[])).is_empty());
+}
+
+/// RFC 4760, section 4: 2001:db8::/32 is withdrawn.
+#[test]
+fn routes_of_a_family_that_is_not_in_use() {
+    let unreach = attribute(0x80, 15, &[0, 2, 1, 32, 0x20, 1, 0x0d, 0xb8]);
+    let octets = message(2, &body(&[], &[unreach], &[]));
+    let ip6 = Context { ip6: true, ..AS4 };
+    assert_eq!(routes(&ip6, &octets), ["withdraw 2001:db8::/32"]);
+    assert!(!taken(&ip6, &octets).has_ip6_unused());
+    assert!(routes(&AS4, &octets).is_empty());
+    assert!(taken(&AS4, &octets).has_ip6_unused());
+    let simple = message(2, &simple());
+    assert!(!taken(&AS4, &simple).has_ip6_unused());
 }
 
 /// RFC 4271, section 4.1.
