@@ -42,3 +42,15 @@ front_written l read whole last old a b c held are small e f g =
     let x : ℕ = bit_and last (mask_of l (length whole)) in
     g ∙ ap (λ (y : List ℕ). y ++ x ∷ []) (f ∙ ap (λ (y : List ℕ). y ++ whole) e) ∙ append_assoc (old ++ l ∷ []) whole (x ∷ []) ∙ append_assoc old (l ∷ []) (whole ++ x ∷ [])
     ∙ ap (λ (y : List ℕ). old ++ l ∷ y) (last_cleared l read whole last held are small)
+
+-- where the last octet has no bits past the length, all octets are as they are written
+pub clear_front : (l : ℕ) (read whole : List ℕ) (last : ℕ) → length read ≡ octets_for l → read ≡ whole ++ last ∷ [] → last < 256
+    → bit_and last (mask_of l (length whole)) ≡ last → leading_bits l read ≡ read
+clear_front l read whole last held are small same =
+    sym (last_cleared l read whole last held are small) ∙ ap (λ (x : ℕ). whole ++ x ∷ []) same ∙ sym are
+
+-- what is read of octets that begin with such a front is written as it lies there
+pub clear_more : (width l : ℕ) (read after octets : List ℕ) → length read ≡ octets_for l → leading_bits l read ≡ read → octets ≡ l ∷ (read ++ after)
+    → spelling_of (prefix_of width l read) ++ after ≡ octets
+clear_more width l read after octets held clear are =
+    ap (λ (b : List ℕ). b ++ after) (written_front width l read held ∙ ap (λ (b : List ℕ). l ∷ b) clear) ∙ sym are

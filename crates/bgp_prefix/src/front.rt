@@ -1,6 +1,6 @@
 //! The prefix at the front of octets, before it is a value.
 
-ghost use Rattle.std.specs.Prelude.{◌≡◌, ◌≤◌, ◌*◌, length, take, IfSome, option_map};
+ghost use Rattle.std.specs.Prelude.{◌≡◌, ◌≤◌, ◌*◌, ◌∷◌, ◌++◌, length, take, IfSome, option_map};
 ghost use Rattle.bgp_wire.specs.Octets.{AreOctets};
 ghost use Rattle.bgp_prefix.specs.Bits.{octets_for, address_of};
 ghost use Rattle.bgp_prefix.specs.Prefix.{prefix_of, one_prefix};
@@ -43,6 +43,7 @@ pub(crate) fn cut_front<const W: usize>(octets: &[u8]) -> Option<Front<'_>>
     ensures allowed { IfSome result (λ f. f.len ≤ 8 * W) }
     ensures held { IfSome result (λ f. length f.read.now ≡ octets_for f.len) }
     ensures read { IfSome result (λ f. f.read.now ≡ take (octets_for f.len) f.behind.now) }
+    ensures parts { IfSome result (λ f. octets.now ≡ f.len ∷ (f.read.now ++ f.after.now)) }
 {
     let (len, behind) = octets.split_first()?;
     let held = octets_for(*len);

@@ -1,6 +1,6 @@
 //! Prefixes from octets to octets, with no list between.
 
-ghost use Rattle.std.specs.Prelude.{◌≡◌, ◌+◌, ◌<◌, ◌++◌, ◌∷◌, ℕ, List, length, OnOk, OnErr};
+ghost use Rattle.std.specs.Prelude.{◌≡◌, ◌+◌, ◌<◌, ◌++◌, ◌∷◌, ℕ, List, true, length, OnOk, OnErr};
 ghost use Rattle.std.specs.List.{flat_map};
 ghost use Rattle.bgp_wire.specs.steps.Output.{Extends};
 ghost use Rattle.bgp_prefix.specs.Bits.{octets_for, leading_bits};
@@ -30,6 +30,32 @@ fn append_front<O: Output>(front: Front<'_>, out: &mut O) -> Result<(), AllocErr
     Ok(())
 }
 
+/// Whether the bits past the length are 0.
+#[inline(always)]
+fn is_clear(front: Front<'_>) -> bool
+    requires { length front.read.now ≡ octets_for front.len }
+    ensures { result ≡ true → leading_bits front.entry.len front.entry.read.now ≡ front.entry.read.now }
+{
+    match front.read.split_last() {
+        None => true,
+        Some((last, whole)) => *last & mask(front.len, whole.len()) == *last,
+    }
+}
+
+/// Whether octets are prefixes as they are written, and nothing else: the bits past each length are 0.
+fn is_written<const W: usize>(octets: &[u8]) -> bool
+    ensures { result ≡ true → flat_map spelling_of (run_of W octets.now).0 ≡ octets.now }
+{
+    let mut rest = octets;
+    'run: while let Some(front) = cut_front::<W>(rest) {
+        if !is_clear(front) {
+            return false;
+        }
+        rest = front.after;
+    }
+    rest.is_empty()
+}
+
 /// Adds the prefixes that octets begin with; those of the first ones may stay where there was no room.
 fn append_octets<const W: usize, O: Output>(octets: &[u8], out: &mut O) -> Result<(), AllocError>
     ensures ok { OnOk result (O.written out.new ≡ O.written out.old ++ flat_map spelling_of (run_of W octets.now).0) }
@@ -55,6 +81,9 @@ impl<'a, const W: usize> PrefixIter<'a, W> {
         ensures err { OnErr result (O.written out.new ≡ O.written out.old) }
         ensures full { OnErr result (O.room < length (O.written out.old) + length (flat_map spelling_of (prefixes_left self.entry))) }
     {
+        if is_written::<W>(self.rest) {
+            return out.put(self.rest);
+        }
         let start = out.len();
         let written = append_octets::<W, O>(self.rest, out);
         if written.is_err() {

@@ -80,3 +80,8 @@ module _ {A : Type 0} (slots : ℕ → List A) (kinds : List ℕ) (i : ℕ) wher
 pub written_more : {A : Type 0} (octets : A → List ℕ) (P : A → Type 0) (xs : List A) (before old new : List ℕ) → IsWritten octets P xs before old → Extends old new → Extends before new
 written_more octets P xs before old new written more =
     (flat_map octets xs ++ more.0, more.1 ∙ ap (λ (b : List ℕ). b ++ more.0) written.items ∙ append_assoc before (flat_map octets xs) more.0)
+
+-- nothing is asked of each
+pub asks_nothing : {A : Type 0} (xs : List A) → AllByRecursion (λ (a : A). Unit {0}) xs
+asks_nothing [] = tt
+asks_nothing (x ∷ xs) = (tt, asks_nothing xs)

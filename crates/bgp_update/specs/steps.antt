@@ -5,3 +5,4 @@ pub mod Failed
 pub mod Measured
 pub mod ToldSlot
 pub mod Layout
+pub mod Progress

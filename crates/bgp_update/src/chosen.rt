@@ -93,6 +93,11 @@ impl<'b, 'a> OfType<'a> for Chosen<'b, 'a> {
     }
 
     #[inline(always)]
+    fn are_none(&self) -> bool {
+        self.others.is_none()
+    }
+
+    #[inline(always)]
     fn types(&self) -> &'static [u8] {
         match self.others {
             None => &RECOGNISED,

@@ -15,7 +15,7 @@ use std::iter::FusedIterator;
 
 /// Where attributes of types that aren't recognised are found by their type.
 pub(crate) trait OfType<'a> {
-    ghost use Rattle.std.specs.Prelude.{◌≡◌, ◌==◌, List, option_map};
+    ghost use Rattle.std.specs.Prelude.{◌≡◌, ◌==◌, true, List, [], option_map};
     ghost use Rattle.std.specs.List.{find, flat_map};
     ghost use Rattle.bgp_attr.specs.AttrView.{opaque_value};
     ghost use Rattle.bgp_attr.specs.declared.opaque.Opaque.{Opaque};
@@ -28,6 +28,10 @@ pub(crate) trait OfType<'a> {
     /// The attribute of a type.
     fn of_type(&self, kind: u8) -> Option<OpaqueView<'a>>
         ensures { option_map opaque_value result ≡ find (λ o. o.kind == kind) (others self.now) };
+
+    /// Whether there are none: where that isn't known, it answers no.
+    fn are_none(&self) -> bool
+        ensures { result ≡ true → others self.now ≡ [] };
 
     /// The types that attributes with these can have, in the order in which they are written: no more than need be looked at.
     fn types(&self) -> &'static [u8]
@@ -47,6 +51,10 @@ impl<'b, 'a> OfType<'a> for Row<'b, 'a> {
     #[inline(always)]
     fn of_type(&self, kind: u8) -> Option<OpaqueView<'a>> {
         other(self.0, kind)
+    }
+
+    fn are_none(&self) -> bool {
+        self.0.is_empty()
     }
 
     fn types(&self) -> &'static [u8] {

@@ -1,12 +1,15 @@
 //! Writing an UPDATE from its view, with attributes of types that aren't recognised that a caller chooses.
 
-ghost use Rattle.std.specs.Prelude.{◌≡◌, ◌<◌, ◌+◌, ◌≤◌, [], ◌∷◌, ◌++◌, if◌then◌else◌, true, length, IfOk, OnOk, OnErr};
+ghost use Rattle.std.specs.Prelude.{◌≡◌, ◌<◌, ◌+◌, ◌≤◌, ℕ, List, [], ◌∷◌, ◌++◌, if◌then◌else◌, true, length, IfOk, OnOk, OnErr};
 ghost use Rattle.std.specs.List.{flat_map, AllByRecursion};
 ghost use Rattle.bgp_wire.specs.steps.Output.{Extends};
 ghost use Rattle.bgp_attr.specs.declared.attr.Attr.TheVariants as attr;
+ghost use Rattle.bgp_attr.specs.AttrView.{attr_value};
 ghost use Rattle.bgp_attr.specs.Written.{canonical, is_writable};
 ghost use Rattle.bgp_update.specs.KeptView.{with_others};
 ghost use Rattle.bgp_update.specs.Slots.{attr_list, slot};
+ghost use Rattle.bgp_update.specs.declared.slot.TheConstants.{RECOGNISED};
+ghost use Rattle.bgp_update.specs.steps.Progress.{IsSoFar};
 ghost use Rattle.bgp_update.specs.View.{update_among};
 ghost use Rattle.bgp_update.specs.Written.{attributes_octets, written_body};
 ghost use Rattle.bgp_update.specs.steps.Layout.{LaysOutBody};
@@ -14,6 +17,7 @@ ghost use Rattle.bgp_update.specs.steps.Layout.{LaysOutBody};
 use crate::chosen::Chosen;
 use crate::kept_view::KeptView;
 use crate::laying::{Places, put_room, set_lengths};
+use crate::slot::RECOGNISED;
 use crate::slot_iter::{OfType, Row};
 use crate::view::UpdateView;
 use bgp_attr::{AttrView, OpaqueView, write_attr_view};
@@ -22,12 +26,23 @@ use bgp_open::Context;
 use bgp_wire::Output;
 use std::alloc::AllocError;
 
+/// Adds an attribute. A call of its own keeps those small that ask which are there.
+#[inline(never)]
+fn put_view<O: Output>(ctx: &Context, view: &AttrView<'_>, out: &mut O) -> Result<(), AllocError>
+    requires { is_writable ctx.now (attr_value view.now) ≡ true }
+    ensures ok { OnOk result (O.written out.new ≡ O.written out.old ++ canonical ctx.now (attr_value view.now)) }
+    ensures err { OnErr result (O.written out.new ≡ O.written out.old) }
+    ensures full { OnErr result (O.room < length (O.written out.old) + length (canonical ctx.now (attr_value view.now))) }
+{
+    write_attr_view(ctx, view, out)
+}
+
 /// Adds the attribute of a slot, where there is one.
 macro_rules! put_kept {
     ($ctx:expr, $out:expr, $slot:expr, $variant:ident) => {
         match $slot {
             None => Ok(()),
-            Some(value) => write_attr_view($ctx, &AttrView::$variant(value), $out),
+            Some(value) => put_view($ctx, &AttrView::$variant(value), $out),
         }
     };
 }
@@ -40,7 +55,7 @@ fn put_atomic<O: Output>(ctx: &Context, atomic: bool, out: &mut O) -> Result<(),
     ensures full { OnErr result (O.room < length (O.written out.old) + length (flat_map (canonical ctx.now) (if atomic then attr.Atomic ∷ [] else []))) }
 {
     if atomic {
-        write_attr_view(ctx, &AttrView::Atomic, out)
+        put_view(ctx, &AttrView::Atomic, out)
     } else {
         Ok(())
     }
@@ -79,6 +94,49 @@ fn put_slot<'a, S: OfType<'a>, O: Output>(
     }
 }
 
+/// Adds the attribute of the next of the recognised types, where there was room for those before.
+#[inline(always)]
+fn put_next<'a, const AT: usize, S: OfType<'a>, O: Output>(
+    before: Result<(), AllocError>,
+    ctx: &Context,
+    kept: &KeptView<'a>,
+    others: &S,
+    out: &mut O,
+) -> Result<(), AllocError>
+    requires at { AT < 13 }
+    requires writable { AllByRecursion (λ a. is_writable ctx.now a ≡ true) (flat_map (slot (with_others kept.now (S.others others.now))) RECOGNISED) }
+    ensures { (start : List ℕ) → IsSoFar (canonical ctx.now) (slot (with_others kept.now (S.others others.now))) RECOGNISED O.room start AT (O.written out.old) before
+        → IsSoFar (canonical ctx.now) (slot (with_others kept.now (S.others others.now))) RECOGNISED O.room start (AT + 1) (O.written out.new) result }
+{
+    before?;
+    put_slot(ctx, kept, others, RECOGNISED[AT], out)
+}
+
+/// Adds the attributes of the recognised types, each by a call of its own, which doesn't ask for the type.
+fn put_recognised<'a, S: OfType<'a>, O: Output>(
+    ctx: &Context,
+    kept: &KeptView<'a>,
+    others: &S,
+    out: &mut O,
+) -> Result<(), AllocError>
+    requires { AllByRecursion (λ a. is_writable ctx.now a ≡ true) (flat_map (slot (with_others kept.now (S.others others.now))) RECOGNISED) }
+    ensures { IsSoFar (canonical ctx.now) (slot (with_others kept.now (S.others others.now))) RECOGNISED O.room (O.written out.old) 13 (O.written out.new) result }
+{
+    let mut put = put_next::<0, S, O>(Ok(()), ctx, kept, others, out);
+    put = put_next::<1, S, O>(put, ctx, kept, others, out);
+    put = put_next::<2, S, O>(put, ctx, kept, others, out);
+    put = put_next::<3, S, O>(put, ctx, kept, others, out);
+    put = put_next::<4, S, O>(put, ctx, kept, others, out);
+    put = put_next::<5, S, O>(put, ctx, kept, others, out);
+    put = put_next::<6, S, O>(put, ctx, kept, others, out);
+    put = put_next::<7, S, O>(put, ctx, kept, others, out);
+    put = put_next::<8, S, O>(put, ctx, kept, others, out);
+    put = put_next::<9, S, O>(put, ctx, kept, others, out);
+    put = put_next::<10, S, O>(put, ctx, kept, others, out);
+    put = put_next::<11, S, O>(put, ctx, kept, others, out);
+    put_next::<12, S, O>(put, ctx, kept, others, out)
+}
+
 /// Adds the attributes; some octets may stay where there was no room.
 fn put_attrs<'a, S: OfType<'a>, O: Output>(
     ctx: &Context,
@@ -91,6 +149,9 @@ fn put_attrs<'a, S: OfType<'a>, O: Output>(
     ensures err { OnErr result (Extends (O.written out.old) (O.written out.new)) }
     ensures full { OnErr result (O.room < length (O.written out.old) + length (attributes_octets ctx.now (with_others kept.now (S.others others.now)))) }
 {
+    if others.are_none() {
+        return put_recognised(ctx, kept, others, out);
+    }
     let kinds = others.types();
     'types: for kind in kinds {
         put_slot(ctx, kept, others, *kind, out)?;

@@ -1,12 +1,33 @@
-use Rattle.std.proofs.Common.{◌≡◌, ◌+◌, ◌<◌, get_or, length, true, refl, sym, subst, List, [], ◌∷◌, arith}
+use Rattle.std.proofs.Common.{◌≡◌, ◌+◌, ◌<◌, get_or, length, true, refl, sym, subst, List, ◌++◌, OnOk, OnErr, rules, arith}
 use Rattle.std.specs.List.{AllByRecursion, flat_map}
 use Rattle.std.proofs.lemmas.Result.{err_from_is_err_and}
 use Rattle.bgp_attr.specs.declared.attr.Attr.{Attr}
 use Rattle.bgp_attr.specs.Written.{canonical, is_writable}
 use Rattle.bgp_update.specs.KeptView.{with_others}
 use Rattle.bgp_update.specs.Slots.{slot}
-use Rattle.bgp_update.proofs.SlotSteps.{so_far, all_of_type, type_written, type_lacks, written_more}
+use Rattle.bgp_update.proofs.SlotSteps.{so_far, all_of_type, type_written, type_lacks, written_more, asks_nothing}
+use Rattle.bgp_update.specs.declared.slot.TheConstants.{RECOGNISED}
+use Rattle.bgp_update.proofs.SlotTypes.{recognised_types}
 use Rattle.bgp_update.proofs.view_writing.put_attrs.Goals as goal
+
+pub put_recognised-requires : goal.put_recognised-requires
+put_recognised-requires g c =
+    let attrs = with_others c.args.kept.now (g.S.OfType.others c.args.others.now) in
+    let all : AllByRecursion (λ a. is_writable c.args.ctx.now a ≡ true) (flat_map (slot attrs) RECOGNISED) =
+    subst (λ (xs : List Attr). AllByRecursion (λ a. is_writable c.args.ctx.now a ≡ true) xs) (sym (recognised_types attrs (c.are_none.ensures (search rules)))) c.requires in
+    λ k. ((refl, tt), all)
+
+pub returns-then-are_none-clause-ok : goal.returns-then-are_none-clause-ok
+returns-then-are_none-clause-ok g c =
+    let attrs = with_others c.args.kept.now (g.S.OfType.others c.args.others.now) in
+    let written = g.O.Output.written in
+    subst (λ (xs : List Attr). OnOk c.put_recognised.result (written c.put_recognised.new.out ≡ written c.args.out.now ++ flat_map (canonical c.args.ctx.now) xs)) (recognised_types attrs (c.are_none.ensures (search rules))) c.put_recognised.ensures.ok
+
+pub returns-then-are_none-clause-full : goal.returns-then-are_none-clause-full
+returns-then-are_none-clause-full g c =
+    let attrs = with_others c.args.kept.now (g.S.OfType.others c.args.others.now) in
+    let written = g.O.Output.written in
+    subst (λ (xs : List Attr). OnErr c.put_recognised.result (g.O.Output.room < length (written c.args.out.now) + length (flat_map (canonical c.args.ctx.now) xs))) (recognised_types attrs (c.are_none.ensures (search rules))) c.put_recognised.ensures.full
 
 pub put_slot-requires : goal.put_slot-requires
 put_slot-requires g c =
@@ -38,11 +59,6 @@ returns-in_err-put_slot-clause-full g c =
     (type_lacks (slot attrs) kinds c.types.kind-index kind lt refl (canonical c.args.ctx.now) (λ (a : Attr). Unit {0}) (written c.args.out.now) (written c.types.out) c.types.invariant
     g.O.Output.room c.in_err-put_slot.ensures.full))
 
--- nothing is asked of each
-each : (xs : List Attr) → AllByRecursion (λ (a : Attr). Unit {0}) xs
-each [] = tt
-each (x ∷ xs) = (tt, each xs)
-
 pub types-preserved : goal.types-preserved
 types-preserved g c =
     let written = g.O.Output.written in
@@ -51,4 +67,4 @@ types-preserved g c =
     let kind = get_or kinds c.types.kind-index 0 in
     let lt : c.types.kind-index < length kinds = omega (arith, c.types-test.true) in
     type_written (slot attrs) kinds c.types.kind-index kind lt refl (canonical c.args.ctx.now) (λ (a : Attr). Unit {0}) (written c.args.out.now) (written c.types.out) c.types.invariant (written c.put_slot.new.out)
-    c.in_ok-put_slot.ensures.ok (each (slot attrs kind))
+    c.in_ok-put_slot.ensures.ok (asks_nothing (slot attrs kind))
