@@ -13,7 +13,8 @@ use Rattle.bgp_open.specs.Peer.{first_as4, is_unicast}
 use Rattle.bgp_open.specs.Config.{Settings, IsAllowed}
 use Rattle.bgp_open.specs.Own.{offered, own_of}
 use Rattle.bgp_open.proofs.Agreements.{peer_as-own}
-use Rattle.bgp_engine.specs.Agree.{agreed_context, settings_of}
+use Rattle.bgp_open.specs.Agreed.{agreed_context, settings_of}
+use Rattle.bgp_open.specs.Peer.{said_by}
 
 -- ---- what a speaker offers is found again
 
@@ -52,7 +53,7 @@ same_settings : (l m n h : ℕ) (i : List ℕ) (p q r p1 q1 r1 : Bool) → l ≡
     let t : Settings = record { local_as = m; peer_as = n; id = i; hold = h; as4 = p1; ip4 = q1; ip6 = r1 } in s ≡ t)
 same_settings l m n h i p q r p1 q1 r1 e f g k = rw (e, f, g, k) refl
 
-settings-own : (s : Settings) → IsAllowed s → settings_of (own_of s) s.peer_as ≡ s
+settings-own : (s : Settings) → IsAllowed s → settings_of (said_by (own_of s)) s.peer_as ≡ s
 settings-own s allowed =
     same_settings _ _ _ _ _ _ _ _ _ _ _ (peer_as-own s allowed) (tells_as4 s.ip4 s.ip6 s.as4 s.local_as) (tells_ip4 s.ip4 s.ip6 s.as4 s.local_as) (tells_ip6 s.ip4 s.ip6 s.as4 s.local_as)
 
@@ -66,4 +67,4 @@ accepted true false x y e = (refl, cc)
 pub agrees_as_found : (a b : Settings) (x : Context) → IsAllowed a → agreement a (own_of b) ≡ Ok x → agreed_context (own_of a) (own_of b) ≡ x
 agrees_as_found a b x allowed e =
     let p = accepted (eqb (peer_as_of (own_of b)) a.peer_as) (eqb a.local_as a.peer_as && same_id (own_of b).id a.id) (context_of a (own_of b)) x e in
-    ap (λ (n : ℕ). context_of (settings_of (own_of a) n) (own_of b)) (eqb-true _ _ p.0) ∙ ap (λ (s : Settings). context_of s (own_of b)) (settings-own a allowed) ∙ p.1
+    ap (λ (n : ℕ). context_of (settings_of (said_by (own_of a)) n) (own_of b)) (eqb-true _ _ p.0) ∙ ap (λ (s : Settings). context_of s (own_of b)) (settings-own a allowed) ∙ p.1

@@ -1,7 +1,9 @@
 -- Reports of a stream, built from the front; and the steps of a walk over it.
 use Rattle.std.proofs.Common.{◌≡◌, ℕ, zero, suc, ◌+◌, ◌-◌, ◌≤◌, ◌^◌, Bool, true, false, cond, List, [], ◌∷◌, ◌++◌, length, take, drop, Option, Some, None, Result, Ok, Err, refl, sym, ap, subst, ◌∙◌, append_assoc, arith}
 use Rattle.std.specs.Prelude.{◌==◌, if◌then◌else◌, is_some}
-use Rattle.std.proofs.lemmas.List.{append-nil, length-append, length-drop, length-take, take-append-drop}
+use Rattle.std.proofs.lemmas.List.{append-nil, length-append, length-drop, length-take, take-append-drop, take-append-le}
+use Rattle.std.proofs.lemmas.Bool.{eqb-true}
+use Rattle.std.proofs.Math.Seq.{take-append_seam}
 use Rattle.bgp_wire.specs.Octets.{AreOctets}
 use Rattle.bgp_wire.proofs.OctetLemmas.{AreOctets-nil, AreOctets-append}
 use Rattle.bgp_frame.specs.declared.end.End.{End}
@@ -23,7 +25,7 @@ use Rattle.bgp_engine.specs.declared.tally.Tally.{Tally}
 use Rattle.bgp_engine.specs.declared.fault.ToolFault.{ToolFault}
 use Rattle.bgp_engine.specs.Tally.{no_tally}
 use Rattle.bgp_engine.specs.Report.{Report, behind, IsOver}
-use Rattle.bgp_engine.specs.Rules.{Rules, messages_in, counted, passed, total, lines_from, tally_from, rest_of, report_of, IsReport}
+use Rattle.bgp_engine.specs.Rules.{Rules, messages_in, octets_at, counted, passed, total, lines_from, tally_from, rest_of, report_of, IsReport}
 use Rattle.bgp_engine.specs.steps.Pages.{Writes, WritesFault, IsAnswer}
 use Rattle.bgp_engine.specs.steps.Engine.{Rests, Takes, ClosesBy, Closes}
 use Rattle.bgp_engine.specs.Run.{Reports}
@@ -43,6 +45,14 @@ same_report l l1 k k1 e a a1 p q s = rw (p, q, s) refl
 pub drop-front : (a b : List ℕ) (n : ℕ) → drop (length a + n) (a ++ b) ≡ drop n b
 drop-front [] b n = ap (λ (k : ℕ). drop k b) (let same : 0 + n ≡ n = omega arith in same)
 drop-front (x ∷ a) b n = ap (λ (k : ℕ). drop k (x ∷ (a ++ b))) (let same : suc (length a) + n ≡ suc (length a + n) = omega arith in same) ∙ drop-front a b n
+
+-- the octets of a message, which isn't empty, are as many
+octets_at-some : (n : ℕ) (s : List ℕ) → 19 ≤ n → octets_at n s ≡ take n s
+octets_at-some n s le = by_test (n == 0) refl
+  where
+    by_test : (b : Bool) → (n == 0) ≡ b → take (if n == 0 then 19 else n) s ≡ take n s
+    by_test true none = let zero : n ≡ 0 = eqb-true n 0 none in absurd (omega (arith, le, zero))
+    by_test false some = rw some refl
 
 module _ {Outcome : Type 0} (rules : Rules Outcome) where
   passes : (n : ℕ) (o : Outcome) → rules.judge.resets o ≡ false → passed rules (n, o) ≡ n
@@ -75,10 +85,25 @@ module _ {Outcome : Type 0} (rules : Rules Outcome) where
     abbrev pub seen : Outcome
     seen = rules.judge.of_message m
 
+    -- what is written of the message
+    abbrev pub seen_line : List ℕ
+    seen_line = rules.line place (length frame) (octets_of m) seen
+
     size : length frame ≡ length (octets_of m)
     size = ap length f.octets
 
-    pub report_more : (r : Report) → rules.judge.resets seen ≡ false → IsReport rules (place + length frame) (counted tally (length frame) (rules.class seen)) later r → IsReport rules place tally (frame ++ later) (behind (rules.line place (length frame) seen) r)
+    -- its octets stand at the front
+    front : octets_at (length frame) (frame ++ later) ≡ octets_of m
+    front = octets_at-some (length frame) (frame ++ later) (let n = length-IsFrame m frame f in omega arith) ∙ take-append_seam frame later ∙ f.octets
+
+    behind_it : drop (length frame) (frame ++ later) ≡ later
+    behind_it = ap (λ (n : ℕ). drop n (frame ++ later)) (let same : length frame ≡ length frame + 0 = omega arith in same) ∙ drop-front frame later 0
+
+    lines_more : (o : List (ℕ × Outcome)) → rules.judge.resets seen ≡ false
+        → seen_line ++ lines_from rules (place + length frame) later o ≡ lines_from rules place (frame ++ later) ((length frame, seen) ∷ o)
+    lines_more o on = rw (passes (length frame) seen on, front, behind_it) refl
+
+    pub report_more : (r : Report) → rules.judge.resets seen ≡ false → IsReport rules (place + length frame) (counted tally (length frame) (rules.class seen)) later r → IsReport rules place tally (frame ++ later) (behind seen_line r)
     report_more r on q =
         let o : ℕ × Outcome = (length frame, seen) in
         let p : passed rules o ≡ length frame = passes (length frame) seen on in
@@ -88,16 +113,16 @@ module _ {Outcome : Type 0} (rules : Rules Outcome) where
           end_of = q.end_of;
           gives = subst (λ (n : ℕ). Gives rules.judge (frame ++ later) ((n, seen) ∷ q.outcomes) q.end_of) (sym size) (gives_more Outcome rules.judge m frame later q.outcomes q.end_of f on q.gives);
           told =
-              ap (behind (rules.line place (length frame) seen)) q.told
-              ∙ same_report (rules.line place (length frame) seen ++ lines_from rules (place + length frame) q.outcomes) (rules.line place (length frame) seen ++ lines_from rules (place + passed rules o) q.outcomes)
+              ap (behind seen_line) q.told
+              ∙ same_report (seen_line ++ lines_from rules (place + length frame) later q.outcomes) (lines_from rules place (frame ++ later) (o ∷ q.outcomes))
               (rules.last t ++ rest_of rules (drop (total rules q.outcomes) later) q.end_of) (rules.last t ++ rest_of rules (drop (passed rules o + total rules q.outcomes) (frame ++ later)) q.end_of) q.end_of
               (rules.answer t (place + length frame + total rules q.outcomes)) (rules.answer t (place + (passed rules o + total rules q.outcomes)))
-              (ap (λ (n : ℕ). rules.line place (length frame) seen ++ lines_from rules (place + n) q.outcomes) (sym p))
+              (lines_more q.outcomes on)
               (ap (λ (x : List ℕ). rules.last t ++ rest_of rules x q.end_of) (sym (drop-front frame later (total rules q.outcomes)) ∙ ap (λ (n : ℕ). drop (n + total rules q.outcomes) (frame ++ later)) (sym p)))
               (ap (rules.answer t) (let same : place + length frame + total rules q.outcomes ≡ place + (passed rules o + total rules q.outcomes) = omega arith in same));
         }
 
-    pub report_reset : rules.judge.resets seen ≡ true → IsReport rules place tally (frame ++ later) (behind (rules.line place (length frame) seen) (closing rules place (counted tally (length frame) (rules.class seen)) end.Reset))
+    pub report_reset : rules.judge.resets seen ≡ true → IsReport rules place tally (frame ++ later) (behind seen_line (closing rules place (counted tally (length frame) (rules.class seen)) end.Reset))
     report_reset is =
         let o : ℕ × Outcome = (length frame, seen) in
         let p : passed rules o ≡ 0 = stays (length frame) seen is in
@@ -106,21 +131,22 @@ module _ {Outcome : Type 0} (rules : Rules Outcome) where
           outcomes = o ∷ [];
           end_of = end.Reset;
           gives = subst (λ (n : ℕ). Gives rules.judge (frame ++ later) ((n, seen) ∷ []) end.Reset) (sym size) (gives_reset Outcome rules.judge m frame later f is);
-          told = same_report (rules.line place (length frame) seen ++ []) (rules.line place (length frame) seen ++ []) (rules.last t ++ []) (rules.last t ++ []) end.Reset (rules.answer t (place + 0)) (rules.answer t (place + (passed rules o + 0)))
-              refl refl (ap (rules.answer t) (let same : place + 0 ≡ place + (passed rules o + 0) = omega arith in same));
+          told = same_report (seen_line ++ []) (rules.line place (length frame) (octets_at (length frame) (frame ++ later)) seen ++ []) (rules.last t ++ []) (rules.last t ++ []) end.Reset (rules.answer t (place + 0)) (rules.answer t (place + (passed rules o + 0)))
+              (ap (λ (x : List ℕ). rules.line place (length frame) x seen ++ []) (sym front)) refl (ap (rules.answer t) (let same : place + 0 ≡ place + (passed rules o + 0) = omega arith in same));
         }
 
   pub report_fault : (place : ℕ) (tally : Tally) (s : List ℕ) (f : HeadFault) → 19 ≤ length s → head_of s ≡ Err f
-      → IsReport rules place tally s (behind (rules.line place 0 (rules.judge.of_fault f)) (closing rules place (counted tally 0 (rules.class (rules.judge.of_fault f))) end.Head))
+      → IsReport rules place tally s (behind (rules.line place 0 (take 19 s) (rules.judge.of_fault f)) (closing rules place (counted tally 0 (rules.class (rules.judge.of_fault f))) end.Head))
   report_fault place tally s f long faulty =
       let o : ℕ × Outcome = (0, rules.judge.of_fault f) in
       let p : passed rules o ≡ 0 = nothing_passes (rules.judge.of_fault f) in
       let t : Tally = record (counted tally 0 (rules.class (rules.judge.of_fault f))) { end = end.Head } in
+      let l : List ℕ = rules.line place 0 (take 19 s) (rules.judge.of_fault f) ++ [] in
       record {
         outcomes = o ∷ [];
         end_of = end.Head;
         gives = gives_fault Outcome rules.judge s f long faulty;
-        told = same_report (rules.line place 0 (rules.judge.of_fault f) ++ []) (rules.line place 0 (rules.judge.of_fault f) ++ []) (rules.last t ++ []) (rules.last t ++ []) end.Head (rules.answer t (place + 0)) (rules.answer t (place + (passed rules o + 0)))
+        told = same_report l l (rules.last t ++ []) (rules.last t ++ []) end.Head (rules.answer t (place + 0)) (rules.answer t (place + (passed rules o + 0)))
             refl refl (ap (rules.answer t) (let same : place + 0 ≡ place + (passed rules o + 0) = omega arith in same));
       }
 
@@ -218,7 +244,7 @@ module _ {Outcome : Type 0} where
     stands class.Reset = tt
 
     abbrev pub line : List ℕ
-    line = old.rules.line old.place (length frame) seen_of
+    line = old.rules.line old.place (length frame) (octets_of m) seen_of
 
     of_frame : (later : List ℕ) (r : Report) → IsReport old.rules old.place old.tally (frame ++ (after ++ later)) (behind line r) → reports_of old (before ++ later) (behind line r)
     of_frame later r q = open_reports old (before ++ later) (behind line r) c.open_ended (subst (λ (x : List ℕ). IsReport old.rules old.place old.tally x (behind line r)) (sym (parts later)) q)
@@ -252,9 +278,9 @@ module _ {Outcome : Type 0} where
     closed held = record { rules = old.rules; held = held; place = old.place; tally = counted old.tally 0 class.Reset; ended = Some end.Head }
 
     abbrev pub fault_line : List ℕ
-    fault_line = old.rules.line old.place 0 (old.rules.judge.of_fault h)
+    fault_line = old.rules.line old.place 0 (take 19 header) (old.rules.judge.of_fault h)
 
-    pub Moves-fault : (held : List ℕ) → WritesFault old.rules told0 told1 old.place h → Moves old (closed held) told0 told1 before after
+    pub Moves-fault : (held : List ℕ) → WritesFault old.rules told0 told1 old.place (take 19 header) h → Moves old (closed held) told0 told1 before after
     Moves-fault held w = record {
       lines = fault_line;
       told = w.told;
@@ -264,7 +290,8 @@ module _ {Outcome : Type 0} where
           open_reports old (before ++ later) (behind fault_line r) c.open_ended
           (subst (λ (x : List ℕ). IsReport old.rules old.place old.tally x (behind fault_line r)) (sym (parts later))
           (subst (λ (x : Report). IsReport old.rules old.place old.tally (header ++ later) (behind fault_line x)) (sym (q ∙ ap (λ (k : Class). closing old.rules old.place (counted old.tally 0 k) end.Head) (sym w.counts)))
-          (report_fault old.rules old.place old.tally (header ++ later) h more bad)));
+          (subst (λ (x : List ℕ). IsReport old.rules old.place old.tally (header ++ later) (behind (old.rules.line old.place 0 x (old.rules.judge.of_fault h)) (closing old.rules old.place (counted old.tally 0 (old.rules.class (old.rules.judge.of_fault h))) end.Head)))
+          (take-append-le 19 header later long) (report_fault old.rules old.place old.tally (header ++ later) h more bad))));
       left = old.place + length old.held + (length before - length after);
       count = omega (arith, fewer);
       stands = tt;
@@ -332,13 +359,16 @@ module _ {Outcome : Type 0} where
         (Moves-message old t0 t1 octets (drop n octets) m (old.held ++ take n octets) c found.1.0 fits (λ later. sym (fed_whole old octets n found.0.takes.within later)) k
         (subst (λ (i : ℕ). Writes old.rules t0 t1 old.place i m k) found.1.1 w))
 
-    pub Moves-pulled-fault : (h : HeadFault) → IsPull old.held octets (pull.Fault n h) → WritesFault old.rules t0 t1 old.place h
+    pub Moves-pulled-fault : (h : HeadFault) → IsPull old.held octets (pull.Fault n h) → WritesFault old.rules t0 t1 old.place (old.held ++ take n octets) h
         → Moves old (walking old.rules old.held old.place (counted old.tally 0 class.Reset) (Some end.Head)) t0 t1 octets (drop n octets)
     Moves-pulled-fault h found w =
         let size = found.1.0 in
         let long : 19 ≤ length (old.held ++ octets) = omega (arith, ap length pulled_whole, length-append (old.held ++ take n octets) (drop n octets), size) in
         let faulty = ap head_of pulled_whole ∙ head_of-append (old.held ++ take n octets) (drop n octets) (omega (arith, size)) ∙ found.1.1 in
-        Moves-fault old t0 t1 octets (drop n octets) h (old.held ++ octets) c long faulty (λ later. sym (append_assoc old.held octets later)) (omega (arith, length-drop n octets)) old.held w
+        let all : take 19 (old.held ++ octets) ≡ old.held ++ take n octets =
+        ap (take 19) pulled_whole ∙ ap (λ (k : ℕ). take k ((old.held ++ take n octets) ++ drop n octets)) (sym size) ∙ take-append_seam (old.held ++ take n octets) (drop n octets) in
+        Moves-fault old t0 t1 octets (drop n octets) h (old.held ++ octets) c long faulty (λ later. sym (append_assoc old.held octets later)) (omega (arith, length-drop n octets)) old.held
+        (subst (λ (x : List ℕ). WritesFault old.rules t0 t1 old.place x h) (sym all) w)
 
   -- ---- where a stream ends
 

@@ -20,7 +20,7 @@ counts_line t =
 abbrev pub check_rules : Context → Rules Outcome
 check_rules ctx = record {
   judge = judgement ctx;
-  line = λ _ _ _. [];
+  line = λ _ _ _ _. [];
   class = class_of;
   last = λ tally. counts_line tally ++ end_line tally.end;
   rest = λ _. [];

@@ -48,7 +48,7 @@ fault_of_head f = Err (clean.Reset (head_notification f).code (head_notification
 abbrev pub clean_rules : Context → (ℕ → Bool) → Rules (Result Message CleanFault)
 clean_rules ctx drops = record {
   judge = record { of_message = cleaned ctx drops false; of_fault = fault_of_head; resets = is_err };
-  line = λ _ _ o. clean_line ctx o;
+  line = λ _ _ _ o. clean_line ctx o;
   class = clean_class;
   last = λ _. [];
   rest = λ _. [];

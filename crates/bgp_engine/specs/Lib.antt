@@ -9,6 +9,7 @@ pub mod Show
 pub mod ShowJson
 pub mod OnlyFaults
 pub mod Explain
+pub mod Heard
 pub mod Check
 pub mod ToHex
 pub mod FromHex

@@ -53,7 +53,7 @@ narrow_answer (end.Wait n) tally place = if n == 0 then Ok tally else Err (Narro
 abbrev pub narrow_rules : Context → Rules (Option (List ℕ))
 narrow_rules ctx = record {
   judge = record { of_message = λ m. narrowed_outcome ctx m (out_of ctx m); of_fault = λ _. None; resets = is_none };
-  line = λ _ _ o. unwrap_or o [];
+  line = λ _ _ _ o. unwrap_or o [];
   class = narrowed_class;
   last = λ _. [];
   rest = λ _. [];

@@ -4,7 +4,6 @@ use Rattle.bgp_open.specs.declared.context.Context.{Context}
 use Rattle.bgp_text.specs.End.{end_line}
 use Rattle.bgp_text.specs.JsonEnd.{end_json}
 use Rattle.bgp_text.specs.JsonOutcome.{outcome_json}
-use Rattle.bgp_text.specs.Outcome.{outcome_lines}
 use Rattle.bgp_engine.specs.declared.printing.Style.{Style}
 use Rattle.bgp_engine.specs.declared.printing.Style.TheVariants as style
 use Rattle.bgp_engine.specs.Explain.{Explained}
@@ -12,14 +11,14 @@ use Rattle.bgp_engine.specs.OnlyFaults.{is_fault, where_fault}
 use Rattle.bgp_engine.specs.Opens.{ReportedBy}
 use Rattle.bgp_engine.specs.Rules.{IsReport}
 use Rattle.bgp_engine.specs.Run.{Reports}
-use Rattle.bgp_engine.specs.Show.{Shown, printed_rules}
+use Rattle.bgp_engine.specs.Show.{Shown, printed_rules, shown_lines}
 use Rattle.bgp_engine.specs.ShowJson.{ShownJson}
 use Rattle.bgp_engine.specs.Tally.{no_tally}
 
 -- what is printed of a stream in a style: of all messages, or of those alone that aren't accepted without a note and of NOTIFICATIONs
 abbrev pub Printed : Style → Bool → Context → Reports
 Printed style.Lines false = Shown
-Printed style.Lines true = λ ctx. IsReport (printed_rules (where_fault outcome_lines) end_line ctx) 0 no_tally
+Printed style.Lines true = λ ctx. IsReport (printed_rules (where_fault shown_lines) end_line ctx) 0 no_tally
 Printed style.Json false = ShownJson
 Printed style.Json true = λ ctx. IsReport (printed_rules (where_fault outcome_json) end_json ctx) 0 no_tally
 Printed style.Explained false = Explained (λ _. true)

@@ -1,5 +1,5 @@
 -- What an engine makes of the messages of a stream.
-use Rattle.std.specs.Prelude.{◌≡◌, ℕ, ◌+◌, ◌==◌, List, [], ◌∷◌, ◌++◌, drop, Result, if◌then◌else◌}
+use Rattle.std.specs.Prelude.{◌≡◌, ℕ, ◌+◌, ◌==◌, List, [], ◌∷◌, ◌++◌, take, drop, Result, if◌then◌else◌}
 use Rattle.bgp_frame.specs.declared.end.End.{End}
 use Rattle.bgp_frame.specs.declared.end.End.TheVariants as end
 use Rattle.bgp_frame.specs.Stream.{Judgement, Gives}
@@ -9,12 +9,13 @@ use Rattle.bgp_engine.specs.declared.tally.Tally.{Tally}
 use Rattle.bgp_engine.specs.declared.fault.ToolFault.{ToolFault}
 use Rattle.bgp_engine.specs.Report.{Report}
 
--- How messages and headers are judged; what is written of an outcome, at its place, with its octets in number; what it counts as;
+-- How messages and headers are judged; what is written of an outcome, at its place, with the octets that it takes in number, and with its
+-- octets: those of a message, or the 19 of a header with a fault, which takes none; what it counts as;
 -- what is written last, by the counts and the end, and of octets that wait; and the answer, by the counts, the end and the place behind
 -- all messages that let the stream go on.
 pub record Rules (Outcome : Type 0) : Type 0 where
   pub judge : Judgement Outcome
-  pub line : ℕ → ℕ → Outcome → List ℕ
+  pub line : ℕ → ℕ → List ℕ → Outcome → List ℕ
   pub class : Outcome → Class
   pub last : Tally → List ℕ
   pub rest : List ℕ → List ℕ
@@ -23,6 +24,10 @@ pub record Rules (Outcome : Type 0) : Type 0 where
 -- a whole message is one message; a header's fault, of no octets, is none
 abbrev pub messages_in : ℕ → ℕ
 messages_in len = if len == 0 then 0 else 1
+
+-- the octets of a message of so many, or of the header of one, at the front of a stream
+abbrev pub octets_at : ℕ → List ℕ → List ℕ
+octets_at len stream = take (if len == 0 then 19 else len) stream
 
 abbrev pub counted : Tally → ℕ → Class → Tally
 counted tally len class.Took = record tally { messages = tally.messages + messages_in len; took = tally.took + 1 }
@@ -39,9 +44,10 @@ module _ {Outcome : Type 0} (rules : Rules Outcome) where
   total (o ∷ outcomes) = passed o + total outcomes
 
   -- what is written of each, each at the place behind those before it
-  abbrev pub lines_from : ℕ → List (ℕ × Outcome) → List ℕ
-  lines_from place [] = []
-  lines_from place (o ∷ outcomes) = rules.line place o.0 o.1 ++ lines_from (place + passed o) outcomes
+  abbrev pub lines_from : ℕ → List ℕ → List (ℕ × Outcome) → List ℕ
+  lines_from place stream [] = []
+  lines_from place stream (o ∷ outcomes) =
+      rules.line place o.0 (octets_at o.0 stream) o.1 ++ lines_from (place + passed o) (drop (passed o) stream) outcomes
 
   abbrev pub tally_from : Tally → List (ℕ × Outcome) → Tally
   tally_from tally [] = tally
@@ -56,7 +62,7 @@ module _ {Outcome : Type 0} (rules : Rules Outcome) where
   -- the report of a stream behind what was counted before, from its place on
   abbrev pub report_of : ℕ → Tally → List ℕ → List (ℕ × Outcome) → End → Report
   report_of place tally stream outcomes e = record {
-    lines = lines_from place outcomes;
+    lines = lines_from place stream outcomes;
     last = rules.last (record (tally_from tally outcomes) { end = e }) ++ rest_of (drop (total outcomes) stream) e;
     end_of = e;
     answer = rules.answer (record (tally_from tally outcomes) { end = e }) (place + total outcomes);

@@ -1,14 +1,15 @@
 -- What `show` prints.
-use Rattle.std.specs.Prelude.{ℕ, List, [], Ok}
+use Rattle.std.specs.Prelude.{ℕ, List, [], Option, Ok}
 use Rattle.bgp_frame.specs.declared.end.End.{End}
 use Rattle.bgp_open.specs.declared.context.Context.{Context}
 use Rattle.bgp_msg.specs.declared.outcome.Outcome.{Outcome}
 use Rattle.bgp_msg.specs.declared.outcome.Outcome.TheVariants as outcome
-use Rattle.bgp_msg.specs.Outcome.{judgement}
+use Rattle.bgp_fields.specs.declared.field.Span.{Span}
 use Rattle.bgp_text.specs.Outcome.{outcome_lines}
 use Rattle.bgp_text.specs.End.{end_line}
 use Rattle.bgp_engine.specs.declared.class.Class.{Class}
 use Rattle.bgp_engine.specs.declared.class.Class.TheVariants as class
+use Rattle.bgp_engine.specs.Heard.{Heard, heard_in, place_in}
 use Rattle.bgp_engine.specs.Rules.{Rules, IsReport}
 use Rattle.bgp_engine.specs.Run.{Reports}
 use Rattle.bgp_engine.specs.Tally.{no_tally}
@@ -19,16 +20,20 @@ class_of (outcome.Took m notes) = class.Took
 class_of (outcome.Withdraw routes notes) = class.Withdrawn
 class_of (outcome.Reset n) = class.Reset
 
--- the text of each outcome, and behind them that of the end
-abbrev pub printed_rules : (ℕ → ℕ → Outcome → List ℕ) → (End → List ℕ) → Context → Rules Outcome
+-- the text of each outcome, with the octets for which it is a reset, and behind them that of the end
+abbrev pub printed_rules : (ℕ → ℕ → Option Span → Outcome → List ℕ) → (End → List ℕ) → Context → Rules Heard
 printed_rules shown shown_end ctx = record {
-  judge = judgement ctx;
-  line = shown;
-  class = class_of;
+  judge = heard_in ctx;
+  line = λ place len octets h. shown place len (place_in ctx octets h.front) h.outcome;
+  class = λ h. class_of h.outcome;
   last = λ tally. shown_end tally.end;
   rest = λ _. [];
   answer = λ tally _. Ok tally;
 }
 
+-- in lines of text
+abbrev pub shown_lines : ℕ → ℕ → Option Span → Outcome → List ℕ
+shown_lines place len span o = outcome_lines place len o
+
 abbrev pub Shown : Context → Reports
-Shown ctx = IsReport (printed_rules outcome_lines end_line ctx) 0 no_tally
+Shown ctx = IsReport (printed_rules shown_lines end_line ctx) 0 no_tally

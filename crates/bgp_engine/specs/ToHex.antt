@@ -38,7 +38,7 @@ rest_line (octet ∷ octets) = codes "rest " ++ (encode_lower (octet ∷ octets)
 abbrev pub hex_rules : Rules Framed
 hex_rules = record {
   judge = as_it_is is_err;
-  line = λ _ _ framed. framed_line framed;
+  line = λ _ _ _ framed. framed_line framed;
   class = framed_class;
   last = λ _. [];
   rest = rest_line;

@@ -65,7 +65,7 @@ impl Page for CheckPage {
         Ok(class_of(&view_frame(&self.ctx, frame, &mut view)))
     }
 
-    fn fault(&mut self, _place: u64, _fault: HeadFault) -> Result<(), AllocError> {
+    fn fault(&mut self, _place: u64, _header: &[u8], _fault: HeadFault) -> Result<(), AllocError> {
         Ok(())
     }
 

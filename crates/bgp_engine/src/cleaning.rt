@@ -139,7 +139,7 @@ impl Page for CleanPage<'_> {
         }
     }
 
-    fn fault(&mut self, _place: u64, fault: HeadFault) -> Result<(), AllocError> {
+    fn fault(&mut self, _place: u64, _header: &[u8], fault: HeadFault) -> Result<(), AllocError> {
         self.why = Some(reason(fault));
         Ok(())
     }

@@ -1,6 +1,6 @@
 //! The page of `explain`.
 
-ghost use Rattle.std.specs.Prelude.{◌≡◌, ◌+◌, ◌≤◌, ◌++◌, [], None, Some, length, IfOk, OnOk, if◌then◌else◌};
+ghost use Rattle.std.specs.Prelude.{◌≡◌, ◌+◌, ◌≤◌, ◌++◌, [], Ok, Err, length, IfOk, OnOk, if◌then◌else◌};
 ghost use Rattle.std.specs.String.{string_bytes};
 ghost use Rattle.bgp_frame.specs.Frame.{octets_of};
 ghost use Rattle.bgp_frame.specs.Kind.{IsLength};
@@ -8,16 +8,16 @@ ghost use Rattle.bgp_frame.specs.Step.{message_in};
 ghost use Rattle.bgp_msg.specs.Outcome.{of_fault, out_of};
 ghost use Rattle.bgp_msg.specs.OutcomeView.{outcome_value};
 ghost use Rattle.bgp_engine.specs.steps.PageSteps.{WritesHeard};
-ghost use Rattle.bgp_fields.specs.Places.{reset_place};
 ghost use Rattle.bgp_text.specs.Explained.{explained_lines};
 ghost use Rattle.bgp_engine.specs.Explain.{heard_lines};
 
 use crate::class::{Class, class_of};
 use crate::fault::ToolFault;
+use crate::heard::span_of;
 use crate::only_faults::Choice;
 use crate::page::Page;
 use crate::tally::Tally;
-use bgp_fields::{Span, message_span};
+use bgp_fields::{Span, header_span};
 use bgp_frame::{Frame, HeadFault, head};
 use bgp_msg::{OutcomeView, view_frame};
 use bgp_open::Context;
@@ -62,29 +62,18 @@ fn put_octets(frame: Frame<'_>, octets: &mut Vec<u8>) -> Result<(), AllocError>
     octets.extend_from_slice(frame.body)
 }
 
-/// The octets for which a message of this outcome is answered by a reset, where it is: they are looked for there alone.
-fn span_of(ctx: &Context, frame: Frame<'_>, outcome: &OutcomeView<'_>) -> Option<Span>
-    requires length { IsLength frame.kind (19 + length frame.body.now) }
-    requires outcome { outcome_value outcome.now ≡ out_of ctx.now (message_in frame) }
-    ensures { result ≡ reset_place ctx.now (message_in frame.entry) }
-{
-    match outcome {
-        OutcomeView::Reset(_) => message_span(ctx, frame),
-        _ => None,
-    }
-}
-
 impl<C: Choice> ExplainPage<C> {
-    /// Adds the lines of a message of the octets that are held, or of a header's fault, where it is printed.
+    /// Adds the lines of a message of so many octets, or of a header's fault, of which these are held, where it is printed.
     fn put(
         &mut self,
         place: u64,
+        len: u16,
         span: Option<Span>,
         outcome: &OutcomeView<'_>,
     ) -> Result<(), AllocError>
         requires { length self.old.octets.items ≤ 4096 }
         ensures lines { OnOk result (string_bytes self.new.text ≡ string_bytes self.old.text
-            ++ (if C.printed (outcome_value outcome.now) then explained_lines self.old.ctx place self.old.octets.items span (outcome_value outcome.now) else [])) }
+            ++ (if C.printed (outcome_value outcome.now) then explained_lines self.old.ctx place len self.old.octets.items span (outcome_value outcome.now) else [])) }
         ensures context { self.new.ctx ≡ self.old.ctx }
     {
         if !self.choice.prints(outcome) {
@@ -95,6 +84,7 @@ impl<C: Choice> ExplainPage<C> {
             &mut self.text,
             &self.ctx,
             place,
+            len,
             self.octets.as_slice(),
             span,
             outcome,
@@ -104,8 +94,8 @@ impl<C: Choice> ExplainPage<C> {
     /// Adds the lines of a whole message.
     fn put_frame(&mut self, place: u64, frame: Frame<'_>) -> Result<Class, AllocError>
         requires { IsLength frame.kind (19 + length frame.body.now) }
-        ensures writes { IfOk result (λ class. WritesHeard C.printed self.old.ctx (string_bytes self.old.text) (string_bytes self.new.text) place
-            (record { message = Some (message_in frame.entry); outcome = out_of self.old.ctx (message_in frame.entry) }) class) }
+        ensures writes { IfOk result (λ class. WritesHeard C.printed self.old.ctx (string_bytes self.old.text) (string_bytes self.new.text) place frame.entry.len
+            (octets_of (message_in frame.entry)) (record { front = Ok (message_in frame.entry); outcome = out_of self.old.ctx (message_in frame.entry) }) class) }
         ensures context { self.new.ctx ≡ self.old.ctx }
     {
         put_octets(frame, &mut self.octets)?;
@@ -113,26 +103,30 @@ impl<C: Choice> ExplainPage<C> {
         let mut view = UpdateView::empty();
         let outcome = view_frame(&ctx, frame, &mut view);
         let span = span_of(&ctx, frame, &outcome);
-        self.put(place, span, &outcome)?;
+        self.put(place, frame.len, span, &outcome)?;
         Ok(class_of(&outcome))
     }
 
-    /// Adds the line of a header's fault.
-    fn put_fault(&mut self, place: u64, fault: HeadFault) -> Result<(), AllocError>
+    /// Adds the lines of a header with a fault.
+    fn put_fault(&mut self, place: u64, header: &[u8], fault: HeadFault) -> Result<(), AllocError>
+        requires { length header.now ≡ 19 }
         ensures lines { OnOk result (string_bytes self.new.text ≡ string_bytes self.old.text
-            ++ heard_lines C.printed self.old.ctx place (record { message = None; outcome = of_fault fault })) }
+            ++ heard_lines C.printed self.old.ctx place 0 header.now (record { front = Err fault; outcome = of_fault fault })) }
         ensures context { self.new.ctx ≡ self.old.ctx }
     {
-        let why = fault.answer();
         self.octets.clear();
-        self.put(place, None, &OutcomeView::Reset(why.view()))
+        self.octets.extend_from_slice(header)?;
+        let span = header_span(header, fault);
+        let why = fault.answer();
+        self.put(place, 0, Some(span), &OutcomeView::Reset(why.view()))
     }
 }
 
 impl<C: Choice> Page for ExplainPage<C> {
     ghost use Rattle.std.specs.Prelude.{true};
     ghost use Rattle.std.specs.String.{string_bytes};
-    ghost use Rattle.bgp_engine.specs.Explain.{Heard, explained_rules};
+    ghost use Rattle.bgp_engine.specs.Explain.{explained_rules};
+    ghost use Rattle.bgp_engine.specs.Heard.{Heard};
 
     ghost Outcome = { Heard };
 
@@ -153,8 +147,8 @@ impl<C: Choice> Page for ExplainPage<C> {
         self.put_frame(place, frame)
     }
 
-    fn fault(&mut self, place: u64, fault: HeadFault) -> Result<(), AllocError> {
-        self.put_fault(place, fault)
+    fn fault(&mut self, place: u64, header: &[u8], fault: HeadFault) -> Result<(), AllocError> {
+        self.put_fault(place, header, fault)
     }
 
     fn last(&mut self, tally: &Tally) -> Result<(), AllocError> {

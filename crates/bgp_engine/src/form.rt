@@ -3,6 +3,7 @@
 ghost use Rattle.std.specs.Prelude.{◌≡◌, ◌++◌, OnOk};
 ghost use Rattle.std.specs.String.{string_bytes};
 
+use bgp_fields::Span;
 use bgp_frame::End;
 use bgp_msg::OutcomeView;
 use bgp_text::{put_end, put_end_json, put_viewed_json, put_viewed_outcome};
@@ -10,14 +11,15 @@ use std::alloc::{AllocError, Global};
 
 /// How the outcome of a message and the end of a stream are printed.
 pub(crate) trait Form {
-    ghost use Rattle.std.specs.Prelude.{ℕ, List, ◌≡◌, ◌++◌, OnOk};
+    ghost use Rattle.std.specs.Prelude.{ℕ, List, Option, ◌≡◌, ◌++◌, OnOk};
     ghost use Rattle.std.specs.String.{string_bytes};
     ghost use Rattle.bgp_frame.specs.declared.end.End.{End};
     ghost use Rattle.bgp_msg.specs.declared.outcome.Outcome.{Outcome};
     ghost use Rattle.bgp_msg.specs.OutcomeView.{outcome_value};
+    ghost use Rattle.bgp_fields.specs.declared.field.Span.{Span};
 
-    /// The text of an outcome, at its place, of a message of so many octets.
-    ghost shown: { ℕ → ℕ → Outcome → List ℕ };
+    /// The text of an outcome, at its place, of a message of so many octets, with those of them for which it is a reset.
+    ghost shown: { ℕ → ℕ → Option Span → Outcome → List ℕ };
     /// The text of the end.
     ghost shown_end: { End → List ℕ };
 
@@ -28,9 +30,10 @@ pub(crate) trait Form {
         text: &mut String,
         place: u64,
         len: u16,
+        span: Option<Span>,
         outcome: &OutcomeView<'_>,
     ) -> Result<(), AllocError>
-        ensures { OnOk result (string_bytes text.new ≡ string_bytes text.old ++ shown place len (outcome_value outcome.now)) };
+        ensures { OnOk result (string_bytes text.new ≡ string_bytes text.old ++ shown place len span (outcome_value outcome.now)) };
 
     /// Adds the text of the end.
     fn put_end(&self, text: &mut String, end: End) -> Result<(), AllocError>
@@ -43,9 +46,9 @@ pub(crate) struct Lines;
 
 impl Form for Lines {
     ghost use Rattle.bgp_text.specs.End.{end_line};
-    ghost use Rattle.bgp_text.specs.Outcome.{outcome_lines};
+    ghost use Rattle.bgp_engine.specs.Show.{shown_lines};
 
-    ghost shown = { outcome_lines };
+    ghost shown = { shown_lines };
 
     ghost shown_end = { end_line };
 
@@ -55,6 +58,7 @@ impl Form for Lines {
         text: &mut String,
         place: u64,
         len: u16,
+        _span: Option<Span>,
         outcome: &OutcomeView<'_>,
     ) -> Result<(), AllocError> {
         put_viewed_outcome(alloc, text, place, len, outcome)
@@ -83,9 +87,10 @@ impl Form for Json {
         text: &mut String,
         place: u64,
         len: u16,
+        span: Option<Span>,
         outcome: &OutcomeView<'_>,
     ) -> Result<(), AllocError> {
-        put_viewed_json(alloc, text, place, len, outcome)
+        put_viewed_json(alloc, text, place, len, span, outcome)
     }
 
     fn put_end(&self, text: &mut String, end: End) -> Result<(), AllocError> {

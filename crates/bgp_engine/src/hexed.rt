@@ -93,7 +93,7 @@ impl Page for HexPage {
         Ok(Class::Took)
     }
 
-    fn fault(&mut self, _place: u64, fault: HeadFault) -> Result<(), AllocError> {
+    fn fault(&mut self, _place: u64, _header: &[u8], fault: HeadFault) -> Result<(), AllocError> {
         put_fault(self.alloc, &mut self.text, fault)
     }
 

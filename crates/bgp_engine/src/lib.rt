@@ -1,7 +1,6 @@
 //! The engines of the commands, each from a reader to a writer: what they print of a stream of BGP messages, and what they answer.
 #![tactic(auto)]
 
-mod agreeing;
 mod checked;
 mod class;
 mod cleaning;
@@ -11,6 +10,7 @@ mod explaining;
 mod fault;
 mod file;
 mod form;
+mod heard;
 mod hex_text;
 mod hexed;
 pub mod laws;

@@ -120,7 +120,7 @@ impl Page for NarrowPage {
         put_told(self.alloc, &self.ctx, &mut self.octets, frame)
     }
 
-    fn fault(&mut self, _place: u64, _fault: HeadFault) -> Result<(), AllocError> {
+    fn fault(&mut self, _place: u64, _header: &[u8], _fault: HeadFault) -> Result<(), AllocError> {
         Ok(())
     }
 

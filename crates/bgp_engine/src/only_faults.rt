@@ -6,6 +6,7 @@ ghost use Rattle.bgp_msg.specs.OutcomeView.{outcome_value};
 ghost use Rattle.bgp_engine.specs.OnlyFaults.{is_fault, where_fault};
 
 use crate::form::Form;
+use bgp_fields::Span;
 use bgp_frame::End;
 use bgp_msg::OutcomeView;
 use std::alloc::{AllocError, Global};
@@ -82,12 +83,13 @@ impl<F: Form> Form for OnlyFaults<F> {
         text: &mut String,
         place: u64,
         len: u16,
+        span: Option<Span>,
         outcome: &OutcomeView<'_>,
     ) -> Result<(), AllocError> {
         if !is_fault(outcome) {
             return Ok(());
         }
-        self.form.put(alloc, text, place, len, outcome)
+        self.form.put(alloc, text, place, len, span, outcome)
     }
 
     fn put_end(&self, text: &mut String, end: End) -> Result<(), AllocError> {

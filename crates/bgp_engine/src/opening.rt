@@ -9,7 +9,6 @@ ghost use Rattle.bgp_engine.specs.Rules.{IsReport};
 ghost use Rattle.bgp_engine.specs.Run.{Answers, io};
 ghost use Rattle.bgp_engine.specs.Tally.{no_tally};
 
-use crate::agreeing::agreed_context;
 use crate::engine::Engine;
 use crate::fault::ToolFault;
 use crate::file::{first_open, open_in};
@@ -18,7 +17,7 @@ use crate::running::run;
 use crate::tally::Tally;
 use crate::walk::Walk;
 use bgp_frame::{Frame, Framer, Step};
-use bgp_open::Context;
+use bgp_open::{Context, agreed_context};
 use std::alloc::{AllocError, Global};
 use std::io::{Read, Write};
 
@@ -59,7 +58,7 @@ pub(crate) fn context_of(
     let Some(theirs) = first_open(alloc, theirs)? else {
         return Ok(None);
     };
-    Ok(Some(agreed_context(&ours, &theirs)))
+    Ok(Some(agreed_context(&ours.peer(), &theirs.peer())))
 }
 
 impl<P: Page> Opening<'_, P> {

@@ -43,9 +43,10 @@ pub(crate) trait Page {
         ensures writes { IfOk result (λ class. Writes (rules self.old) (told self.old) (told self.new) place frame.entry.len (message_in frame.entry) class) }
         ensures rules { rules self.new ≡ rules self.old };
 
-    /// Collects what is written of a header's fault.
-    fn fault(&mut self, place: u64, fault: HeadFault) -> Result<(), AllocError>
-        ensures writes { OnOk result (WritesFault (rules self.old) (told self.old) (told self.new) place fault) }
+    /// Collects what is written of a header's fault, of its 19 octets.
+    fn fault(&mut self, place: u64, header: &[u8], fault: HeadFault) -> Result<(), AllocError>
+        requires { length header.now ≡ 19 }
+        ensures writes { OnOk result (WritesFault (rules self.old) (told self.old) (told self.new) place header.now fault) }
         ensures rules { rules self.new ≡ rules self.old };
 
     /// Collects what is written last, by the counts and the end.

@@ -1,10 +1,11 @@
 //! The engine `show`.
 
-ghost use Rattle.std.specs.Prelude.{◌≡◌, ◌+◌, ◌++◌, [], length, IfOk, OnOk};
+ghost use Rattle.std.specs.Prelude.{◌≡◌, ◌+◌, ◌++◌, [], Some, length, IfOk, OnOk};
 ghost use Rattle.std.specs.String.{string_bytes};
 ghost use Rattle.bgp_frame.specs.Kind.{IsLength};
 ghost use Rattle.bgp_frame.specs.Step.{message_in};
 ghost use Rattle.bgp_msg.specs.Outcome.{of_fault, out_of};
+ghost use Rattle.bgp_fields.specs.Places.{header_place, reset_place};
 ghost use Rattle.bgp_engine.specs.Run.{Answers, io};
 ghost use Rattle.bgp_engine.specs.steps.PageSteps.{WritesOutcome};
 ghost use Rattle.bgp_engine.specs.Show.{Shown};
@@ -12,9 +13,11 @@ ghost use Rattle.bgp_engine.specs.Show.{Shown};
 use crate::class::{Class, class_of};
 use crate::fault::ToolFault;
 use crate::form::{Form, Lines};
+use crate::heard::span_of;
 use crate::page::Page;
 use crate::tally::Tally;
 use crate::walk::walk_stream;
+use bgp_fields::header_span;
 use bgp_frame::{Frame, HeadFault};
 use bgp_msg::{OutcomeView, view_frame};
 use bgp_open::Context;
@@ -59,12 +62,14 @@ fn put_frame<F: Form>(
     frame: Frame<'_>,
 ) -> Result<Class, AllocError>
     requires { IsLength frame.kind (19 + length frame.body.now) }
-    ensures { IfOk result (λ class. WritesOutcome F.shown (string_bytes text.old) (string_bytes text.new) place frame.entry.len (out_of ctx.now (message_in frame.entry)) class) }
+    ensures { IfOk result (λ class. WritesOutcome F.shown (string_bytes text.old) (string_bytes text.new) place frame.entry.len
+        (reset_place ctx.now (message_in frame.entry)) (out_of ctx.now (message_in frame.entry)) class) }
 {
     let len = frame.len;
     let mut view = UpdateView::empty();
     let outcome = view_frame(ctx, frame, &mut view);
-    form.put(alloc, text, place, len, &outcome)?;
+    let span = span_of(ctx, frame, &outcome);
+    form.put(alloc, text, place, len, span, &outcome)?;
     Ok(class_of(&outcome))
 }
 
@@ -74,21 +79,31 @@ fn put_fault<F: Form>(
     alloc: Global,
     text: &mut String,
     place: u64,
+    header: &[u8],
     fault: HeadFault,
 ) -> Result<(), AllocError>
-    ensures { OnOk result (string_bytes text.new ≡ string_bytes text.old ++ F.shown place 0 (of_fault fault)) }
+    requires { length header.now ≡ 19 }
+    ensures { OnOk result (string_bytes text.new ≡ string_bytes text.old ++ F.shown place 0 (Some (header_place header.now fault)) (of_fault fault)) }
 {
+    let span = header_span(header, fault);
     let why = fault.answer();
-    form.put(alloc, text, place, 0, &OutcomeView::Reset(why.view()))
+    form.put(
+        alloc,
+        text,
+        place,
+        0,
+        Some(span),
+        &OutcomeView::Reset(why.view()),
+    )
 }
 
 impl<F: Form> Page for ShowPage<F> {
     ghost use Rattle.std.specs.Prelude.{true};
     ghost use Rattle.std.specs.String.{string_bytes};
-    ghost use Rattle.bgp_msg.specs.declared.outcome.Outcome as outcomes;
+    ghost use Rattle.bgp_engine.specs.Heard.{Heard};
     ghost use Rattle.bgp_engine.specs.Show.{printed_rules};
 
-    ghost Outcome = { outcomes.Outcome };
+    ghost Outcome = { Heard };
 
     ghost rules = { λ page. printed_rules F.shown F.shown_end page.ctx };
 
@@ -114,8 +129,8 @@ impl<F: Form> Page for ShowPage<F> {
         )
     }
 
-    fn fault(&mut self, place: u64, fault: HeadFault) -> Result<(), AllocError> {
-        put_fault(&self.form, self.alloc, &mut self.text, place, fault)
+    fn fault(&mut self, place: u64, header: &[u8], fault: HeadFault) -> Result<(), AllocError> {
+        put_fault(&self.form, self.alloc, &mut self.text, place, header, fault)
     }
 
     fn last(&mut self, tally: &Tally) -> Result<(), AllocError> {

@@ -1,6 +1,7 @@
 //! The messages of a stream that comes block by block.
 
-ghost use Rattle.std.specs.Prelude.{◌≡◌, []};
+ghost use Rattle.std.specs.Prelude.{◌≡◌, [], ◌++◌, take};
+ghost use Rattle.bgp_frame.specs.Pull.{Pulls};
 ghost use Rattle.bgp_engine.specs.Rules.{IsReport};
 ghost use Rattle.bgp_engine.specs.Run.{Answers, io};
 ghost use Rattle.bgp_engine.specs.Tally.{no_tally};
@@ -11,7 +12,7 @@ use crate::fault::ToolFault;
 use crate::page::Page;
 use crate::running::run;
 use crate::tally::Tally;
-use bgp_frame::{End, Framer, HeadFault, Pull};
+use bgp_frame::{End, Framer, Pull};
 use std::alloc::AllocError;
 use std::io::{Read, Write};
 
@@ -26,11 +27,22 @@ pub(crate) struct Walk<P> {
     pub(crate) ended: Option<End>,
 }
 
+/// The octets that are held, or those that octets begin with where none are: what a look pulled.
+fn pulled<'a>(framer: &'a Framer, octets: &'a [u8], taken: usize) -> &'a [u8]
+    requires { Pulls framer.now octets.now taken }
+    ensures { result.now ≡ framer.now ++ take taken octets.now }
+{
+    if taken == 0 {
+        framer.octets()
+    } else {
+        &octets[..taken]
+    }
+}
+
 impl<P: Page> Walk<P> {
     ghost use Rattle.std.specs.Prelude.{◌≡◌, ◌+◌, ◌<◌, ◌≤◌, ◌^◌, [], None, Some, length, drop, IfOk, OnOk};
     ghost use Rattle.bgp_frame.specs.declared.end.End.TheVariants as end;
     ghost use Rattle.bgp_engine.specs.declared.class.Class.TheVariants as class;
-    ghost use Rattle.bgp_engine.specs.steps.Pages.{WritesFault};
     ghost use Rattle.bgp_engine.specs.Rules.{counted};
     ghost use Rattle.bgp_engine.specs.Tally.{no_tally};
     ghost use Rattle.bgp_engine.specs.steps.Walking.{Walking, IsCounting, IsGoing, Moves, place_behind, ended_by, reports_of, walk_of};
@@ -81,17 +93,13 @@ impl<P: Page> Walk<P> {
         self.place += u64::from(len);
     }
 
-    // Collects the line of a header's fault, behind which nothing can be read.
-    fn fault(&mut self, fault: HeadFault) -> Result<(), AllocError>
+    // Counts a header's fault, behind which nothing can be read.
+    fn count_fault(&mut self)
         requires { self.old.tally.resets ≡ 0 }
-        ensures ok { OnOk result (self.new ≡ record self.old { page = self.new.page; tally = counted self.old.tally 0 class.Reset; ended = Some end.Head }) }
-        ensures writes { OnOk result (WritesFault (P.rules self.old.page) (P.told self.old.page) (P.told self.new.page) self.old.place fault) }
-        ensures rules { P.rules self.new.page ≡ P.rules self.old.page }
+        ensures { self.new ≡ record self.old { tally = counted self.old.tally 0 class.Reset; ended = Some end.Head } }
     {
-        self.page.fault(self.place, fault)?;
         self.tally.resets += 1;
         self.ended = Some(End::Head);
-        Ok(())
     }
 
     // Judges what is held, or what octets begin with where nothing is held. Answers how many of the octets it took.
@@ -115,7 +123,9 @@ impl<P: Page> Walk<P> {
                 Ok(taken)
             }
             Pull::Fault(taken, fault) => {
-                self.fault(fault)?;
+                let header = pulled(&self.framer, octets, taken);
+                self.page.fault(self.place, header, fault)?;
+                self.count_fault();
                 Ok(taken)
             }
         }

@@ -10,4 +10,5 @@ pub mod Config
 pub mod Own
 pub mod Peer
 pub mod Agreement
+pub mod Agreed
 pub mod Written

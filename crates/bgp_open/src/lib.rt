@@ -1,6 +1,7 @@
 //! The OPEN of BGP-4, its capabilities, and what two speakers agree on (RFC 4271, sections 4.2 and 6.2; RFC 5492).
 #![tactic(auto)]
 
+mod agreed;
 mod agreement;
 mod body;
 mod capability;
@@ -20,6 +21,7 @@ mod read;
 mod row;
 mod write;
 
+pub use agreed::agreed_context;
 pub use agreement::{PeerFault, agree, agree_with};
 pub use body::open_body;
 pub use capability::Capability;

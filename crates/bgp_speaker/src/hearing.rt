@@ -6,6 +6,7 @@ ghost use Rattle.bgp_frame.specs.Kind.{IsLength};
 use crate::tcp::TcpConnection;
 use crate::timers::Timers;
 use crate::voice::{Teller, Voice};
+use bgp_fields::{header_span, message_span};
 use bgp_frame::{Frame, HeadFault};
 use bgp_host::Host;
 use bgp_machine::State;
@@ -65,7 +66,11 @@ impl<'a> Ear<'a> {
         let outcome = view_frame(ctx, frame, &mut view);
         let mut text = String::new(alloc);
         if self.voice.json {
-            put_viewed_json(alloc, &mut text, self.place, len, &outcome)?;
+            let span = match outcome {
+                OutcomeView::Reset(_) => message_span(ctx, frame),
+                _ => None,
+            };
+            put_viewed_json(alloc, &mut text, self.place, len, span, &outcome)?;
         } else {
             put_viewed_outcome(alloc, &mut text, self.place, len, &outcome)?;
         }
@@ -76,13 +81,14 @@ impl<'a> Ear<'a> {
     }
 
     // Prints the answer to a header with a fault.
-    fn print_fault(&mut self, fault: HeadFault) -> io::Result<()> {
+    fn print_fault(&mut self, header: &[u8; HEADER_LEN], fault: HeadFault) -> io::Result<()> {
         let alloc = self.voice.rt.alloc();
         let why = fault.answer();
         let outcome = OutcomeView::Reset(why.view());
         let mut text = String::new(alloc);
         if self.voice.json {
-            put_viewed_json(alloc, &mut text, self.place, 0, &outcome)?;
+            let span = Some(header_span(header, fault));
+            put_viewed_json(alloc, &mut text, self.place, 0, span, &outcome)?;
         } else {
             put_viewed_outcome(alloc, &mut text, self.place, 0, &outcome)?;
         }
@@ -103,7 +109,10 @@ impl<'a> Ear<'a> {
                 frame.len as usize
             }
             Step::Fault(fault) => {
-                self.print_fault(fault)?;
+                let Some(header) = octets.first_chunk::<HEADER_LEN>() else {
+                    return Ok(0);
+                };
+                self.print_fault(header, fault)?;
                 HEADER_LEN
             }
         };

@@ -1,5 +1,5 @@
 -- What `explain` prints of a message: what `show` prints, and its fields.
-use Rattle.std.specs.Prelude.{ℕ, List, ◌++◌, length, Option}
+use Rattle.std.specs.Prelude.{ℕ, List, ◌++◌, Option}
 use Rattle.std.specs.List.{flat_map}
 use Rattle.bgp_open.specs.declared.context.Context.{Context}
 use Rattle.bgp_msg.specs.declared.outcome.Outcome.{Outcome}
@@ -15,6 +15,6 @@ explained_fields ctx message span (outcome.Took m notes) = noted_lines message 0
 explained_fields ctx message span (outcome.Withdraw routes notes) = noted_lines message 0 notes (fields_of ctx message)
 explained_fields ctx message span (outcome.Reset n) = flat_map (faulty_line message span n) (fields_of ctx message)
 
--- what `show` prints of a whole message at its place in the stream, and its fields
-abbrev pub explained_lines : Context → ℕ → List ℕ → Option Span → Outcome → List ℕ
-explained_lines ctx place message span o = outcome_lines place (length message) o ++ explained_fields ctx message span o
+-- what `show` prints at a place in the stream of a message of so many octets, 0 for a header's fault, and the fields of its octets
+abbrev pub explained_lines : Context → ℕ → ℕ → List ℕ → Option Span → Outcome → List ℕ
+explained_lines ctx place len octets span o = outcome_lines place len o ++ explained_fields ctx octets span o

@@ -1,5 +1,5 @@
 -- An outcome as a line of JSON: an object.
-use Rattle.std.specs.Prelude.{ℕ, List, ◌++◌, codes}
+use Rattle.std.specs.Prelude.{ℕ, List, [], ◌++◌, Option, None, Some, codes}
 use Rattle.std.specs.Fmt.{decimal}
 use Rattle.bgp_frame.specs.declared.notification.Notification.{Notification}
 use Rattle.bgp_update.specs.declared.note.Note.{Note}
@@ -8,6 +8,7 @@ use Rattle.bgp_msg.specs.declared.message.Message.{Message}
 use Rattle.bgp_msg.specs.declared.message.Message.TheVariants as message
 use Rattle.bgp_msg.specs.declared.outcome.Outcome.{Outcome}
 use Rattle.bgp_msg.specs.declared.outcome.Outcome.TheVariants as outcome
+use Rattle.bgp_fields.specs.declared.field.Span.{Span}
 use Rattle.bgp_names.specs.Errors.{error_name, subcode_name}
 use Rattle.bgp_text.specs.Json.{quoted, octets_json, member, line_end, where_named, where_said}
 use Rattle.bgp_text.specs.JsonNotes.{notes_member}
@@ -46,12 +47,25 @@ abbrev pub withdraw_json : ℕ → ℕ → Routes → List Note → List ℕ
 withdraw_json place len routes notes =
     judged place len (codes "UPDATE") (codes "withdraw") ++ (member (codes "routes") routes_json routes ++ (notes_member notes ++ line_end))
 
--- a reset, under the name of what it answers
-abbrev pub reset_json : ℕ → ℕ → Notification → List ℕ
-reset_json place len n = judged place len (reset_name n.code) (codes "reset") ++ (notification_members n ++ line_end)
+-- octets of a message, or of its header: how many there are, and the offset of the first
+unfoldable pub count_member : Span → List ℕ
+count_member s = member (codes "fault_length") decimal s.len
 
--- the object of an outcome, at its offset in the stream and with the octets of its message in number, 0 for a header's fault
-unfoldable pub outcome_json : ℕ → ℕ → Outcome → List ℕ
-outcome_json place len (outcome.Took m notes) = took_json place len m notes
-outcome_json place len (outcome.Withdraw routes notes) = withdraw_json place len routes notes
-outcome_json place len (outcome.Reset n) = reset_json place len n
+abbrev pub fault_members : Span → List ℕ
+fault_members s = member (codes "fault_offset") decimal s.at ++ count_member s
+
+-- those for which it is answered
+abbrev pub span_members : Option Span → List ℕ
+span_members None = []
+span_members (Some s) = fault_members s
+
+-- a reset, under the name of what it answers
+abbrev pub reset_json : ℕ → ℕ → Option Span → Notification → List ℕ
+reset_json place len span n = judged place len (reset_name n.code) (codes "reset") ++ (notification_members n ++ (span_members span ++ line_end))
+
+-- the object of an outcome, at its offset in the stream, with the octets of its message in number, 0 for a header's fault, and those of them for
+-- which it is a reset
+unfoldable pub outcome_json : ℕ → ℕ → Option Span → Outcome → List ℕ
+outcome_json place len span (outcome.Took m notes) = took_json place len m notes
+outcome_json place len span (outcome.Withdraw routes notes) = withdraw_json place len routes notes
+outcome_json place len span (outcome.Reset n) = reset_json place len span n

@@ -36,8 +36,8 @@ fn put_fields(
     }
 }
 
-/// Adds what [`put_viewed_outcome`](crate::put_viewed_outcome) does of the outcome of a whole message at its place in the stream, and then a line for
-/// each of its fields: its offset in the message, its octets, its name and what it says. Fields of an attribute that isn't kept are marked, and so are
+/// Adds what [`put_viewed_outcome`](crate::put_viewed_outcome) does of the outcome of a message of so many octets at its place in the stream (0 of them
+/// for a header's fault), and then a line for each field of its octets, those of the message or the 19 of the header: its offset in the message, its octets, its name and what it says. Fields of an attribute that isn't kept are marked, and so are
 /// those of the span for which the message is answered by a NOTIFICATION, with the reason and the section of the RFC.
 ///
 /// # Errors
@@ -47,13 +47,14 @@ pub fn put_explained(
     text: &mut String,
     ctx: &Context,
     place: u64,
-    message: &[u8],
+    len: u16,
+    octets: &[u8],
     span: Option<Span>,
     outcome: &OutcomeView<'_>,
 ) -> Result<(), AllocError>
-    requires { length message.now ≤ 4096 }
-    ensures { OnOk result (string_bytes text.new ≡ string_bytes text.old ++ explained_lines ctx.now place message.now span (outcome_value outcome.now)) }
+    requires { length octets.now ≤ 4096 }
+    ensures { OnOk result (string_bytes text.new ≡ string_bytes text.old ++ explained_lines ctx.now place len octets.now span (outcome_value outcome.now)) }
 {
-    put_viewed_outcome(alloc, text, place, message.len() as u16, outcome)?;
-    put_fields(text, ctx, message, span, outcome)
+    put_viewed_outcome(alloc, text, place, len, outcome)?;
+    put_fields(text, ctx, octets, span, outcome)
 }

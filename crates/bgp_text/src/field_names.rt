@@ -5,9 +5,9 @@ ghost use Rattle.bgp_text.specs.FieldNames.{field_name};
 
 use bgp_fields::FieldKind;
 
-/// The name of a field, as the RFCs have it.
+/// The name of a field by its kind, as the RFCs have it.
 #[tactic(auto, unfolding(crate::specs::FieldNames::field_name))]
-pub(crate) fn field_name(kind: FieldKind) -> &'static str
+pub fn field_name(kind: FieldKind) -> &'static str
     ensures { result.now ≡ field_name kind }
 {
     match kind {

@@ -8,7 +8,7 @@ ghost use Rattle.bgp_open.specs.OpenView.{open_value};
 ghost use Rattle.bgp_update.specs.View.{update_value, notes_value, routes_value};
 ghost use Rattle.bgp_msg.specs.OutcomeView.{outcome_value};
 ghost use Rattle.bgp_msg.specs.declared.message.Message.TheVariants as message;
-ghost use Rattle.bgp_text.specs.JsonOutcome.{judged, notification_members, took_json, withdraw_json, reset_json, outcome_json, names_of};
+ghost use Rattle.bgp_text.specs.JsonOutcome.{judged, notification_members, took_json, withdraw_json, reset_json, outcome_json, names_of, count_member, fault_members, span_members};
 
 use crate::json::{
     put_line_end, put_name_member, put_number_member, put_octets_member, put_said_member,
@@ -20,6 +20,7 @@ use crate::json_update::{put_routes_member, put_update_members};
 use crate::outcome_lines::reset_name;
 use crate::short::{Decimal, put_one};
 use crate::shutdown::shutdown_text;
+use bgp_fields::Span;
 use bgp_frame::NotificationView;
 use bgp_msg::OutcomeView;
 use bgp_names::{error_name, subcode_name};
@@ -152,22 +153,50 @@ fn put_keepalive(text: &mut String, place: u64, len: u16) -> Result<(), AllocErr
     put_line_end(text)
 }
 
+/// Adds how many octets there are.
+#[tactic(auto, unfolding(crate::specs::JsonOutcome::count_member))]
+fn put_count(text: &mut String, span: Span) -> Result<(), AllocError>
+    ensures { OnOk result (string_bytes text.new ≡ string_bytes text.old ++ count_member span) }
+{
+    put_number_member(text, "fault_length", u32::from(span.len))
+}
+
+/// Adds octets of a message: the offset of the first, and how many there are.
+fn put_fault(text: &mut String, span: Span) -> Result<(), AllocError>
+    ensures { OnOk result (string_bytes text.new ≡ string_bytes text.old ++ fault_members span) }
+{
+    put_number_member(text, "fault_offset", u32::from(span.at))?;
+    put_count(text, span)
+}
+
+/// Adds the octets for which a message is answered.
+fn put_span_members(text: &mut String, span: Option<Span>) -> Result<(), AllocError>
+    ensures { OnOk result (string_bytes text.new ≡ string_bytes text.old ++ span_members span) }
+{
+    match span {
+        None => Ok(()),
+        Some(octets) => put_fault(text, octets),
+    }
+}
+
 /// A reset.
 fn put_answer(
     text: &mut String,
     place: u64,
     len: u16,
+    span: Option<Span>,
     why: &NotificationView<'_>,
 ) -> Result<(), AllocError>
-    ensures { OnOk result (string_bytes text.new ≡ string_bytes text.old ++ reset_json place len (notification_of_view why.now)) }
+    ensures { OnOk result (string_bytes text.new ≡ string_bytes text.old ++ reset_json place len span (notification_of_view why.now)) }
 {
     put_judged(text, place, len, reset_name(why.code), "reset")?;
     put_notification_members(text, why)?;
+    put_span_members(text, span)?;
     put_line_end(text)
 }
 
 /// Adds the outcome of a message, or of the header of one, as a JSON object on a line: its offset in the stream, its octets in number (0 for
-/// a header's fault), and what [`put_viewed_outcome`](crate::put_viewed_outcome) prints.
+/// a header's fault), and what [`put_viewed_outcome`](crate::put_viewed_outcome) prints; of a reset the octets too for which it is one.
 ///
 /// # Errors
 /// `AllocError` where an allocation failed.
@@ -177,9 +206,10 @@ pub fn put_viewed_json(
     text: &mut String,
     place: u64,
     len: u16,
+    span: Option<Span>,
     outcome: &OutcomeView<'_>,
 ) -> Result<(), AllocError>
-    ensures { OnOk result (string_bytes text.new ≡ string_bytes text.old ++ outcome_json place len (outcome_value outcome.now)) }
+    ensures { OnOk result (string_bytes text.new ≡ string_bytes text.old ++ outcome_json place len span (outcome_value outcome.now)) }
 {
     match outcome {
         OutcomeView::Update(view) => put_taken(alloc, text, place, len, view),
@@ -187,6 +217,6 @@ pub fn put_viewed_json(
         OutcomeView::Keepalive => put_keepalive(text, place, len),
         OutcomeView::Open(view) => put_opened(alloc, text, place, len, view),
         OutcomeView::Notification(said) => put_received(text, place, len, said),
-        OutcomeView::Reset(why) => put_answer(text, place, len, why),
+        OutcomeView::Reset(why) => put_answer(text, place, len, span, why),
     }
 }

@@ -42,8 +42,10 @@ mod word;
 
 pub use end::put_end;
 pub use explained::put_explained;
+pub use field_names::field_name;
 pub use info::{info_text, notification_text};
 pub use json_end::put_end_json;
 pub use json_outcome::put_viewed_json;
+pub use note_lines::why_name;
 pub use outcome_lines::{put_outcome, put_update_taken};
 pub use viewed_outcome::put_viewed_outcome;

@@ -10,8 +10,8 @@ use bgp_attr::Why;
 use bgp_update::Note;
 use std::alloc::AllocError;
 
-/// The name of a reason.
-pub(crate) fn why_name(why: Why) -> &'static str
+/// The name of a reason, as notes are printed.
+pub fn why_name(why: Why) -> &'static str
     ensures { result.now ≡ why_name why }
 {
     match why {

@@ -4,14 +4,16 @@ use Rattle.bgp_open.specs.declared.context.Context.{Context}
 use Rattle.bgp_msg.specs.declared.outcome.Outcome.{Outcome}
 use Rattle.bgp_msg.specs.Outcome.{is_reset}
 use Rattle.bgp_engine.specs.declared.class.Class.{Class}
-use Rattle.bgp_engine.specs.Explain.{Heard, heard_lines}
+use Rattle.bgp_fields.specs.declared.field.Span.{Span}
+use Rattle.bgp_engine.specs.Explain.{heard_lines}
+use Rattle.bgp_engine.specs.Heard.{Heard}
 use Rattle.bgp_engine.specs.Narrow.{narrowed_class}
 use Rattle.bgp_engine.specs.steps.Pages.{is_last}
 use Rattle.bgp_engine.specs.Show.{class_of}
 
 -- the text of an outcome was added, and it counts as this
-pub record WritesOutcome (shown : ℕ → ℕ → Outcome → List ℕ) (old new : List ℕ) (place len : ℕ) (o : Outcome) (class : Class) : Type 0 where
-  pub told : new ≡ old ++ shown place len o
+pub record WritesOutcome (shown : ℕ → ℕ → Option Span → Outcome → List ℕ) (old new : List ℕ) (place len : ℕ) (span : Option Span) (o : Outcome) (class : Class) : Type 0 where
+  pub told : new ≡ old ++ shown place len span o
   pub counts : class ≡ class_of o
   pub ends : is_reset o ≡ is_last class
 
@@ -21,7 +23,7 @@ pub record WritesNarrow (old new : List ℕ) (o : Option (List ℕ)) (class : Cl
   pub counts : class ≡ narrowed_class o
 
 -- the lines of a message were added, and it counts as this
-pub record WritesHeard (printed : Outcome → Bool) (ctx : Context) (old new : List ℕ) (place : ℕ) (h : Heard) (class : Class) : Type 0 where
-  pub told : new ≡ old ++ heard_lines printed ctx place h
+pub record WritesHeard (printed : Outcome → Bool) (ctx : Context) (old new : List ℕ) (place len : ℕ) (octets : List ℕ) (h : Heard) (class : Class) : Type 0 where
+  pub told : new ≡ old ++ heard_lines printed ctx place len octets h
   pub counts : class ≡ class_of h.outcome
   pub ends : is_reset h.outcome ≡ is_last class

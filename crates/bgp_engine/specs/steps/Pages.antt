@@ -1,7 +1,7 @@
 -- What is collected of one message, and of one header's fault.
 use Rattle.std.specs.Prelude.{◌≡◌, ℕ, Bool, true, false, List, ◌++◌, Result, Ok, Err}
 use Rattle.bgp_frame.specs.declared.fault.HeadFault.{HeadFault}
-use Rattle.bgp_frame.specs.Frame.{Message}
+use Rattle.bgp_frame.specs.Frame.{Message, octets_of}
 use Rattle.bgp_engine.specs.declared.class.Class.{Class}
 use Rattle.bgp_engine.specs.declared.class.Class.TheVariants as class
 use Rattle.bgp_engine.specs.declared.tally.Tally.{Tally}
@@ -19,13 +19,13 @@ is_last class.Reset = true
 module _ {Outcome : Type 0} (rules : Rules Outcome) (told_old told_new : List ℕ) (place : ℕ) where
   -- a message of so many octets was judged, and its lines were collected
   pub record Writes (len : ℕ) (m : Message) (class : Class) : Type 0 where
-    pub told : told_new ≡ told_old ++ rules.line place len (rules.judge.of_message m)
+    pub told : told_new ≡ told_old ++ rules.line place len (octets_of m) (rules.judge.of_message m)
     pub counts : class ≡ rules.class (rules.judge.of_message m)
     pub ends : rules.judge.resets (rules.judge.of_message m) ≡ is_last class
 
   -- the line of a header's fault was collected
-  pub record WritesFault (f : HeadFault) : Type 0 where
-    pub told : told_new ≡ told_old ++ rules.line place 0 (rules.judge.of_fault f)
+  pub record WritesFault (header : List ℕ) (f : HeadFault) : Type 0 where
+    pub told : told_new ≡ told_old ++ rules.line place 0 header (rules.judge.of_fault f)
     pub counts : rules.class (rules.judge.of_fault f) ≡ class.Reset
 
 -- an engine's own answers: the counts, or where the stream can't be narrowed or cleaned

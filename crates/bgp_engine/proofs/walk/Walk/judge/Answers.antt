@@ -28,5 +28,5 @@ pub returns-in_ok-fault-in-Fault-clause-moves : goal.returns-in_ok-fault-in-Faul
 returns-in_ok-fault-in-Fault-clause-moves g c =
     let w = c.args.self.now in
     let old = walk_of g.P.Page.rules w in
-    rw (c.in_ok-fault-in-Fault.ensures.ok, c.fault.ensures.rules)
-    (Moves-pulled-fault old c.args.octets.now (g.P.Page.told w.page) (g.P.Page.told c.fault.new.self.page) c.in-Fault.taken c.requires.counting c.in-Fault.fault c.in-Fault.ensures c.in_ok-fault-in-Fault.ensures.writes)
+    rw (c.count_fault.ensures, c.fault.ensures.rules)
+    (Moves-pulled-fault old c.args.octets.now (g.P.Page.told w.page) (g.P.Page.told c.fault.new.self) c.in-Fault.taken c.requires.counting c.in-Fault.fault c.in-Fault.ensures (rw c.pulled-header.ensures at c.in_ok-fault-in-Fault.ensures.writes))

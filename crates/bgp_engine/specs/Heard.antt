@@ -1,0 +1,28 @@
+-- What is printed of: a message, or a header with a fault, and what it comes to.
+use Rattle.std.specs.Prelude.{List, ℕ, Option, Some, Result, Ok, Err}
+use Rattle.bgp_frame.specs.declared.fault.HeadFault.{HeadFault}
+use Rattle.bgp_frame.specs.Frame.{Message}
+use Rattle.bgp_frame.specs.Stream.{Judgement}
+use Rattle.bgp_open.specs.declared.context.Context.{Context}
+use Rattle.bgp_msg.specs.declared.outcome.Outcome.{Outcome}
+use Rattle.bgp_msg.specs.Outcome.{is_reset, of_fault, out_of}
+use Rattle.bgp_fields.specs.declared.field.Span.{Span}
+use Rattle.bgp_fields.specs.Places.{header_place, reset_place}
+
+-- a message or a header with a fault, and its outcome
+pub record Heard : Type 0 where
+  pub front : Result Message HeadFault
+  pub outcome : Outcome
+
+-- outcomes are those that `bgp_msg` has
+abbrev pub heard_in : Context → Judgement Heard
+heard_in ctx = record {
+  of_message = λ m. record { front = Ok m; outcome = out_of ctx m };
+  of_fault = λ f. record { front = Err f; outcome = of_fault f };
+  resets = λ h. is_reset h.outcome;
+}
+
+-- the octets of a message, or of the header of one, for which it is answered by a reset
+abbrev pub place_in : Context → List ℕ → Result Message HeadFault → Option Span
+place_in ctx octets (Ok m) = reset_place ctx m
+place_in ctx octets (Err f) = Some (header_place octets f)

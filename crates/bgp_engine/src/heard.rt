@@ -1,0 +1,25 @@
+//! The octets for which a message is answered by a reset.
+
+ghost use Rattle.std.specs.Prelude.{◌≡◌, ◌+◌, length};
+ghost use Rattle.bgp_frame.specs.Kind.{IsLength};
+ghost use Rattle.bgp_frame.specs.Step.{message_in};
+ghost use Rattle.bgp_msg.specs.Outcome.{out_of};
+ghost use Rattle.bgp_msg.specs.OutcomeView.{outcome_value};
+ghost use Rattle.bgp_fields.specs.Places.{reset_place};
+
+use bgp_fields::{Span, message_span};
+use bgp_frame::Frame;
+use bgp_msg::OutcomeView;
+use bgp_open::Context;
+
+/// The octets for which a message of this outcome is answered by a reset, where it is: they are looked for there alone.
+pub(crate) fn span_of(ctx: &Context, frame: Frame<'_>, outcome: &OutcomeView<'_>) -> Option<Span>
+    requires length { IsLength frame.kind (19 + length frame.body.now) }
+    requires outcome { outcome_value outcome.now ≡ out_of ctx.now (message_in frame) }
+    ensures { result ≡ reset_place ctx.now (message_in frame.entry) }
+{
+    match outcome {
+        OutcomeView::Reset(_) => message_span(ctx, frame),
+        _ => None,
+    }
+}
