@@ -103,4 +103,17 @@ static inline size_t list_capabilities(const uint8_t *octets, size_t len, ristul
     return count;
 }
 
+/* The routes of a message, and whether IPv6 routes are lost. */
+static inline size_t list_routes(const ristulva_context *context, const uint8_t *octets, size_t len, ristulva_route *out, size_t room, uint8_t *lost) {
+    ristulva_route_cursor cursor;
+    size_t count = 0;
+    *lost = 0;
+    if (ristulva_begin_routes(context, octets, len, &cursor) != RISTULVA_OK)
+        return 0;
+    *lost = cursor.loses_ip6;
+    while (count < room && ristulva_next_route(octets, len, &cursor, out + count) == RISTULVA_OK)
+        count++;
+    return count;
+}
+
 #endif

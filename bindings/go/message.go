@@ -4,6 +4,7 @@ package ristulva
 import "C"
 
 import (
+	"encoding/binary"
 	"fmt"
 	"net/netip"
 	"unsafe"
@@ -188,27 +189,37 @@ type Route struct {
 	Announced bool
 }
 
+// Shown gives an address as `bgp show --json` prints it (RFC 5952, sections 4 and 5): in hexadecimal groups, also where an IPv6 address holds an IPv4
+// one, which netip prints with dots.
+func Shown(address netip.Addr) string {
+	if !address.Is4In6() {
+		return address.String()
+	}
+	octets := address.As16()
+	return fmt.Sprintf("::ffff:%x:%x", binary.BigEndian.Uint16(octets[12:]), binary.BigEndian.Uint16(octets[14:]))
+}
+
+// String is as "announce 10.0.0.0/8", or "withdraw 10.0.0.0/8".
+func (route Route) String() string {
+	word := "withdraw"
+	if route.Announced {
+		word = "announce"
+	}
+	return fmt.Sprintf("%s %s/%d", word, Shown(route.Prefix.Addr()), route.Prefix.Bits())
+}
+
 // Routes gives those of an UPDATE as RFC 7606 has them: those that it withdraws, then those that it announces; one that is treated as a withdrawal
 // announces none, and withdraws all. `lost` is whether it has IPv6 routes, and its context doesn't: they aren't given.
 func (message *Message) Routes() (routes []Route, lost bool) {
-	isKept := message.Verdict() == Update
-	if !isKept && message.Verdict() != Withdraw {
-		return nil, false
+	found := make([]C.ristulva_route, len(message.octets))
+	said := message.context.said()
+	at, size := octetsOf(message.octets)
+	var loses C.uint8_t
+	count := C.list_routes(&said, at, size, &found[0], C.size_t(len(found)), &loses)
+	for _, it := range found[:count] {
+		routes = append(routes, Route{prefixOf(it.prefix), it.announced != 0})
 	}
-	for _, prefix := range message.Withdrawn() {
-		routes = append(routes, Route{prefix, false})
-	}
-	for _, prefix := range message.Announced() {
-		routes = append(routes, Route{prefix, isKept})
-	}
-	return routes, !message.context.IP6 && (message.hasIP6(14) || message.hasIP6(15))
-}
-
-// Whether the first attribute of a type has IPv6 unicast (RFC 4760).
-func (message *Message) hasIP6(kind uint8) bool {
-	value, is := message.first(kind)
-	octets := message.octets[value.at : value.at+value.len]
-	return is && len(octets) > 2 && octets[0] == 0 && octets[1] == 2 && octets[2] == 1
+	return routes, loses != 0
 }
 
 // Withdrawn gives the prefixes of Withdrawn Routes and then of MP_UNREACH_NLRI.

@@ -141,6 +141,16 @@ func TestRoutesOfBothFamilies(t *testing.T) {
 	}
 }
 
+func TestShown(t *testing.T) {
+	for address, wanted := range map[string]string{
+		"192.0.2.1": "192.0.2.1", "2001:db8::1": "2001:db8::1", "::ffff:192.0.2.1": "::ffff:c000:201", "::ffff:0.0.1.2": "::ffff:0:102", "::c000:201": "::c000:201",
+	} {
+		if found := Shown(netip.MustParseAddr(address)); found != wanted {
+			t.Error(address, found)
+		}
+	}
+}
+
 func TestNotesAndResets(t *testing.T) {
 	bad := append([]byte{}, body...)
 	bad[7] = 3

@@ -29,8 +29,8 @@ CEASE, OTHER_AS, SILENCE, LENGTHS = (6, 0), (2, 2), (4, 0), (3, 1)
 class Collector:
     """The collector as it runs, with the lines that it printed."""
 
-    def __init__(self, made, *words, descriptors=None):
-        """`descriptors`: as many as it may have, those of its streams among them."""
+    def __init__(self, made, *words, descriptors=None, is_read=True):
+        """`descriptors`: as many as it may have, those of its streams among them. `is_read`: whether its lines are read from the beginning on."""
         begin = descriptors and (lambda: resource.setrlimit(resource.RLIMIT_NOFILE, (descriptors, descriptors)))
         self.process = subprocess.Popen(
             [str(made), "-w", "1", *map(str, words)], stdin=subprocess.DEVNULL, stdout=subprocess.PIPE, stderr=subprocess.PIPE, preexec_fn=begin,
@@ -41,7 +41,8 @@ class Collector:
         self.limit.daemon = True
         self.limit.start()
         self.thread = threading.Thread(target=self.read, daemon=True)
-        self.thread.start()
+        if is_read:
+            self.thread.start()
 
     def read(self):
         for line in self.process.stdout:
@@ -53,6 +54,14 @@ class Collector:
         with self.turn:
             if not self.turn.wait_for(lambda: self.lines.count(line) >= times, LIMIT):
                 raise AssertionError(f"the collector did not print: {line}")
+
+    def settle(self):
+        """Waits until a second has brought no line, where there are too many to look at all of them each time."""
+        end, count = time.monotonic() + 4 * LIMIT, -1
+        while count != len(self.lines):
+            assert time.monotonic() < end, "lines come and come"
+            count = len(self.lines)
+            time.sleep(1)
 
     def of(self, name):
         """The lines of a peer."""
@@ -106,11 +115,16 @@ class Peer:
         end = time.monotonic() + LIMIT
         while time.monotonic() < end:
             try:
-                self.connection = socket.create_connection((OWN, port), LIMIT, source_address=(self.address, 0))
+                self.reach(port)
                 return self.begin()
             except (AssertionError, ConnectionError):
                 time.sleep(0.1)
         raise AssertionError(f"{self.name} was not let in")
+
+    def reach(self, port):
+        self.connection = socket.create_connection((OWN, port), LIMIT, source_address=(self.address, 0))
+        self.connection.settimeout(LIMIT)
+        self.rest = b""
 
     def begin(self):
         """Waits for the collector's OPEN."""
@@ -420,6 +434,173 @@ def try_again(made, report):
         peer.close()
 
 
+def try_both_families(made, report):
+    """A collector that listens at the unspecified address for both families, and connects to nobody: an IPv4 and an IPv6 peer come."""
+    port = free_port()
+    four = Peer(65001, "127.0.0.2")
+    four.listener.close()
+    words = ["-l", "::", "-p", port, "-n", OURS, OWN, four.name, "65002@::1"]
+    collector = Collector(made, *words)
+    six = None
+    try:
+        four.connect(port)
+        four.come_up()
+        collector.wait_for(f"{four.name} {four.up()}")
+        six = socket.create_connection(("::1", port), LIMIT)
+        six.sendall(messages.open_message(65002, 90, "192.0.2.2") + messages.keepalive())
+        collector.wait_for("65002@::1 up as 65002 id 192.0.2.2 hold 90 offers as4 ip4 ip6, agreed hold 90 as4 ip4 ip6")
+        six.close()
+        collector.wait_for("65002@::1 down lost")
+        collector.interrupt(signal.SIGTERM)
+        report("both families at ::", four.notified()[0] == CEASE)
+        four.close()
+        told = collector.end()
+        report("the end of both families", told == ("", 0), told)
+    except (AssertionError, OSError) as error:
+        report("both families at ::", False, f"{error!r} {collector.lines}")
+    finally:
+        collector.interrupt(signal.SIGKILL)
+        four.close()
+        if six:
+            six.close()
+
+
+def try_stopped_reader(made, report):
+    """Nobody reads what it prints for longer than the Hold Time: its KEEPALIVEs go on, and nothing of what it says is lost."""
+    peer = Peer(65001, "127.0.0.2", hold=3)
+    collector = Collector(made, "-l", OWN, "-p", free_port(), OURS, OWN, peer.name, is_read=False)
+    try:
+        peer.accept()
+        peer.come_up()
+        octets, lines, _ = many(peer)
+        peer.say(octets)
+        begun, keepalives = time.monotonic(), 0
+        while time.monotonic() < begun + 6:
+            peer.say(messages.keepalive())
+            assert peer.hear() == messages.keepalive(), "not a KEEPALIVE"
+            keepalives += 1
+        report("a reader that has stopped", keepalives >= 4, f"{keepalives} KEEPALIVEs in 6 seconds")
+        collector.thread.start()
+        collector.wait_for(f"{peer.name} {lines[-1]}")
+        report("a reader that goes on", collector.of(peer.name) == [peer.up(), *lines], f"{len(collector.lines)} lines")
+        collector.interrupt(signal.SIGTERM)
+        peer.notified()
+        peer.close()
+        told = collector.end()
+        report("the end behind a reader that had stopped", told == ("", 0), told)
+    except (AssertionError, OSError) as error:
+        report("a reader that has stopped", False, f"{error!r} {len(collector.lines)} lines")
+    finally:
+        collector.interrupt(signal.SIGKILL)
+        peer.close()
+
+
+def try_no_reader(made, report):
+    """Nobody reads at all, and less than everything can wait: whole lines are left out, and counted."""
+    peer = Peer(65001, "127.0.0.2", hold=0)
+    collector = Collector(made, "-l", OWN, "-p", free_port(), OURS, OWN, peer.name, is_read=False)
+    try:
+        peer.accept()
+        peer.come_up()
+        octets, lines, _ = many(peer)
+        for _ in range(80):
+            peer.say(octets)
+        time.sleep(2)
+        collector.thread.start()
+        collector.settle()
+        peer.say(messages.announce4(["203.0.113.0/24"], [65001], HOP4)[0])
+        collector.settle()
+        told = [line for line in collector.lines if line.startswith("left out ")]
+        out = sum(int(line.split()[2]) for line in told)
+        whole = all(line in (peer.up(), *lines, "+ 203.0.113.0/24 path 65001") for line in collector.of(peer.name))
+        came = len(collector.of(peer.name)) - 2
+        report("lines are left out", whole and told != [] and out + came == 80 * len(lines), f"{out} and {came} of {80 * len(lines)}")
+        collector.interrupt(signal.SIGTERM)
+        peer.notified()
+        peer.close()
+        collector.end()
+    except (AssertionError, OSError) as error:
+        report("lines are left out", False, f"{error!r} {len(collector.lines)} lines")
+    finally:
+        collector.interrupt(signal.SIGKILL)
+        peer.close()
+
+
+def try_any(made, report):
+    """Peers of any AS number: one that says an OPEN octet by octet, and one that says something else; and a text for the end."""
+    port, text = free_port(), "router is serviced"
+    collector = Collector(made, "-l", OWN, "-p", port, "-m", text, OURS, OWN, "*@127.0.0.2", "*@127.0.0.3")
+    good, bad = Peer(4200000001, "127.0.0.2"), Peer(65001, "127.0.0.3")
+    try:
+        for again in (1, 2):
+            end = time.monotonic() + LIMIT
+            while time.monotonic() < end:
+                try:
+                    good.reach(port)
+                    good.say(messages.open_message(good.asn, 90, good.address), [1])
+                    good.begin()
+                    break
+                except (AssertionError, ConnectionError):
+                    time.sleep(0.1)
+            assert good.hear() == messages.keepalive()
+            good.say(messages.keepalive())
+            collector.wait_for(f"*@127.0.0.2 up as {good.asn} id 127.0.0.2 hold 90 offers as4 ip4 ip6, agreed hold 90 as4 ip4 ip6", again)
+            if again == 1:
+                good.connection.close()
+                collector.wait_for("*@127.0.0.2 down lost")
+        bad.reach(port)
+        bad.say(messages.keepalive())
+        bad.begin()
+        report("a KEEPALIVE in place of the OPEN", bad.notified()[0] == (5, 1))
+        bad.connection.close()
+        collector.interrupt(signal.SIGTERM)
+        wanted = messages.message(messages.NOTIFICATION, b"\x06\x02" + bytes([len(text)]) + text.encode())
+        report("a text at the end (RFC 9003)", good.hear() == wanted)
+        good.close()
+        bad.close()
+        told = collector.end()
+        report("the end of peers of any AS number", told == ("", 0) and "*@127.0.0.2 down sent 6/2" in collector.lines, f"{told} {collector.lines}")
+    except (AssertionError, OSError) as error:
+        report("peers of any AS number", False, f"{error!r} {collector.lines}")
+    finally:
+        collector.interrupt(signal.SIGKILL)
+        good.close()
+        bad.close()
+
+
+def has_signatures():
+    """Whether a socket can have a key here."""
+    with socket.socket() as one:
+        key = struct.pack("=HH4s120x", socket.AF_INET, 0, socket.inet_aton("127.0.0.2")) + struct.pack("=BBHI80s", 0, 0, 1, 0, b"k")
+        try:
+            one.setsockopt(socket.IPPROTO_TCP, 14, key)
+        except OSError:
+            return False
+    return True
+
+
+def try_secured(made, words, others, report):
+    """Two collectors with the same options of their sockets come up; one with others doesn't hear and isn't heard."""
+    ports = [free_port(), free_port()]
+    names = [f"{65001 + side}@127.0.0.{2 + side}#{ports[side]}" for side in (0, 1)]
+    own = [["-l", f"127.0.0.{2 + side}", "-p", ports[side], 65001 + side, f"192.0.2.{1 + side}", names[1 - side]] for side in (0, 1)]
+    up = f"{names[1]} up as 65002 id 192.0.2.2 hold 90 offers as4 ip4 ip6, agreed hold 90 as4 ip4 ip6"
+    for both, is_up in ((words, True), (others, False)):
+        pair = [Collector(made, *words, *own[0]), Collector(made, *both, *own[1])]
+        try:
+            if is_up:
+                pair[0].wait_for(up)
+            else:
+                time.sleep(2)
+            report(f"{words} and {both}", (up in pair[0].lines) == is_up, pair[0].lines)
+        except AssertionError as error:
+            report(f"{words} and {both}", False, f"{error!r} {pair[0].process.poll()}")
+        finally:
+            for each in pair:
+                each.interrupt(signal.SIGKILL)
+                each.end()
+
+
 class Scarce:
     """A collector with room for the sockets of two peers, which are up; and five more peers, which have none."""
 
@@ -541,6 +722,8 @@ def try_words(made, report):
         ([*good, "65001"], "65001: not PEER_AS@ADDRESS"), ([*good, "@127.0.0.3"], f"@127.0.0.3: {number}"),
         ([*good, "65001x@127.0.0.3"], number), ([*good, "65001@"], f"65001@: {host}"), ([*good, "65001@localhost"], host),
         ([*good, "65001@127.0.0.3#"], number), ([*good, "65001@127.0.0.3#179x"], number), ([*good, "65001@127.0.0.3#65536"], number),
+        (["-m", "x" * 256, *good], "usage"), (["-k", "", *good], "usage"), (["-k", "x" * 81, *good], "usage"),
+        (["-n", *good], "65001@127.0.0.2: the peer is to connect, and there is no -l"), ([*good[:2], "*@127.0.0.2"], "there is no -l"),
         ([*good, "65002@127.0.0.2"], "another peer has this address"), ([*good, "1@" + "1" * 200], host),
     ):
         done = subprocess.run([str(made), *words], capture_output=True, timeout=LIMIT, stdin=subprocess.DEVNULL)
@@ -558,6 +741,14 @@ def try_all(made, number, report):
     try_pair(made, ("127.0.0.1", "127.0.0.2"), report)
     if has_six():
         try_pair(made, ("::1", "::1"), report)
+    if has_six():
+        try_both_families(made, report)
+    try_stopped_reader(made, report)
+    try_no_reader(made, report)
+    try_any(made, report)
+    try_secured(made, ["-t"], [], report)
+    if has_signatures():
+        try_secured(made, ["-k", "our word"], ["-k", "another"], report)
     try_late(made, report)
     try_again(made, report)
     try_scarce(made, report)

@@ -1,6 +1,6 @@
 /* A small route collector to start from: a session with each of many peers, whose routes it prints as they come and go:
  *
- *     collector [-l ADDRESS] [-p PORT] [-w SECONDS] LOCAL_AS ID PEER_AS@ADDRESS[#PORT]..
+ *     collector [-l ADDRESS] [-p PORT] [-w SECONDS] [-n] [-m TEXT] [-k KEY] [-t] LOCAL_AS ID PEER_AS@ADDRESS[#PORT]..
  *
  *     65002@192.0.2.2 up as 65002 id 192.0.2.2 hold 90 offers as4 ip4 ip6, agreed hold 90 as4 ip4 ip6
  *     65002@192.0.2.2 + 10.0.0.0/8 path 65002 65003 {65004 65005}
@@ -8,16 +8,27 @@
  *     65002@192.0.2.2 - all
  *     65002@192.0.2.2 down received 6/4
  *
- * It connects to each peer. With an address of its own (-l) it connects from there, and listens there too, at PORT, which is 179. A session
+ * It connects to each peer. With an address of its own (-l) it connects from there, and listens there too, at PORT, which is 179; at `::` it
+ * listens for both families. With -n it waits for its peers to connect. So it does for a peer whose PEER_AS is `*`, which may have any AS
+ * number: its OPEN tells it. KEY is one for TCP MD5 signatures (RFC 2385), and -t wants all peers one hop away (RFC 5082). A session
  * that ended is started again after SECONDS, which are 5, and one that lost its connection before the OPEN came seeks another then: where
  * both sides connected at once, each had refused the other's. An UPDATE that is treated as a withdrawal withdraws all its routes (RFC 7606,
  * section 2), and with a session all routes of its peer are gone. On a session with AS numbers of two octets a path is printed as it came.
  * `down` tells which NOTIFICATION was sent or received, or that the connection was lost.
  *
- * At SIGINT and SIGTERM it prints a table of what it counted, stops each session, and ends with 0. It ends with 2 for a fault of the
+ * What nobody reads of standard output waits in memory, and no session for it; behind 16 MB lines are left out, and counted.
+ *
+ * At SIGINT and SIGTERM it prints a table of what it counted, stops each session, and ends with 0. With -m it tells the peers TEXT, as an
+ * administrative shutdown (RFC 9003), of 255 octets of UTF-8 at most. It ends with 2 for a fault of the
  * command line, and with 1 where it can't listen or wait, a write fails, or memory is lacking. Where descriptors run out, the sessions that
  * are up go on, and it tells so: a peer without one is tried again after SECONDS, and so is a connection that can't be accepted. */
+#ifndef _DEFAULT_SOURCE
+#define _DEFAULT_SOURCE
+#endif
 #include "ristulva.h"
+#include "collector_output.h"
+#include "collector_socket.h"
+#include "collector_words.h"
 #include <arpa/inet.h>
 #include <errno.h>
 #include <fcntl.h>
@@ -35,9 +46,6 @@
 
 #define NEVER LLONG_MAX
 
-/* Room for an address as text, with the name of a link behind it. */
-#define HOST 64
-
 /* The collector's own timer, beside those of a session: to start it again, or to try once more to connect. */
 #define TIMER_AGAIN 0
 #define TIMERS 4
@@ -45,14 +53,19 @@
 /* How long, in milliseconds, peers have to take what is said to them at the end. */
 #define FAREWELL 2000
 
-/* A peer's connection: none, one that is tried, one that stands, or one that only takes leave (finish). */
-enum connection { NONE, TRIED, STANDS, ENDS };
+/* How long a peer of any AS number has for its OPEN, in seconds (RFC 4271, section 8.2.2: a large Hold Time). */
+#define OPENS_WITHIN 240
+
+/* A peer's connection: none, one that is tried, one whose OPEN is awaited (its peer has any AS number), one that stands, or one that only takes
+ * leave (finish). */
+enum connection { NONE, TRIED, AWAITED, STANDS, ENDS };
 
 struct peer {
     const char *name; /* the word of the command line */
     char host[HOST];  /* its address as text */
     struct sockaddr_storage address;
     socklen_t address_len;
+    int any;                  /* whether it has any AS number: its session is made when its OPEN is there */
     ristulva_session session;
     ristulva_context context; /* of the session that is up */
     enum connection connection;
@@ -78,6 +91,11 @@ static int accept_error;        /* why the last connection wasn't accepted */
 static long long accepts_again; /* when the listener is heard again; 0 where it is heard */
 static unsigned long pause_seconds = 5;
 static int stopping;
+static ristulva_config config = {0, 0, {0}, 90, 1, 1, 1};
+static int waits_for_peers; /* it doesn't connect */
+static int is_near;         /* all peers are one hop away */
+static const char *key;     /* for TCP MD5 signatures: NULL for none */
+static const char *farewell; /* what peers are told at the end: NULL for nothing */
 static int wake[2]; /* a signal writes to it */
 
 /* Milliseconds of a clock that nobody sets. */
@@ -117,18 +135,18 @@ static void print_numbers(const struct peer *peer, const ristulva_segment *segme
     const char *between = segment->kind == 1 ? " {" : " ";
     uint32_t number;
     while (ristulva_next_number(peer->in, peer->heard.len, &cursor, &number) == RISTULVA_OK) {
-        printf("%s%lu", between, (unsigned long)number);
+        say("%s%lu", between, (unsigned long)number);
         between = " ";
     }
     if (segment->kind == 1)
-        printf("}");
+        say("}");
 }
 
 static void print_path(const struct peer *peer)
 {
     ristulva_segment segment;
     ristulva_span value;
-    printf(" path");
+    say(" path");
     if (find(peer, 2, &value)) {
         ristulva_segments cursor = {value.at, value.at + value.len, peer->context.as4, 0};
         while (ristulva_next_segment(peer->in, peer->heard.len, &cursor, &segment) == RISTULVA_OK)
@@ -143,10 +161,10 @@ static void print_prefixes(struct peer *peer, ristulva_prefixes cursor, int anno
     char text[INET6_ADDRSTRLEN];
     while (ristulva_next_prefix(peer->in, peer->heard.len, &cursor, &prefix) == RISTULVA_OK) {
         inet_ntop(six ? AF_INET6 : AF_INET, prefix.addr, text, sizeof text);
-        printf("%s %c %s/%u", peer->name, announced ? '+' : '-', text, prefix.len);
+        say("%s %c %s/%u", peer->name, announced ? '+' : '-', text, prefix.len);
         if (announced)
             print_path(peer);
-        printf("\n");
+        say("\n");
         (announced ? peer->announced : peer->withdrawn)[six]++;
     }
 }
@@ -207,13 +225,21 @@ static void try_failed(struct peer *peer, int error)
     peer->due[TIMER_AGAIN] = later(pause_seconds, 1);
 }
 
+/* Sets what is to be set of the socket of a peer. */
+static int secure(int fd, int family, const struct peer *peer)
+{
+    return (key == NULL || set_key(fd, family, &peer->address, key)) && (!is_near || set_near(fd, family));
+}
+
 static void seek(struct peer *peer)
 {
     int is_bound = own_len > 0 && own.ss_family == peer->address.ss_family;
+    if (waits_for_peers || peer->any)
+        return;
     drop(peer);
     peer->fd = socket(peer->address.ss_family, SOCK_STREAM, 0);
     peer->connection = TRIED;
-    if (peer->fd < 0 || !unblock(peer->fd) || (is_bound && bind(peer->fd, (struct sockaddr *)&own, own_len) != 0) ||
+    if (peer->fd < 0 || !unblock(peer->fd) || !secure(peer->fd, peer->address.ss_family, peer) || (is_bound && bind(peer->fd, (struct sockaddr *)&own, own_len) != 0) ||
         (connect(peer->fd, (struct sockaddr *)&peer->address, peer->address_len) != 0 && errno != EINPROGRESS))
         try_failed(peer, errno);
 }
@@ -260,8 +286,22 @@ static void finish(struct peer *peer)
 static uint8_t state_of(struct peer *peer)
 {
     uint8_t state = RISTULVA_IDLE;
-    ristulva_session_state(&peer->session, &state);
+    if (peer->session.body != NULL)
+        ristulva_session_state(&peer->session, &state);
     return state;
+}
+
+/* Sends a NOTIFICATION of the session's, or in place of its Cease at the end one of the host's, with a text: a session sends none. */
+static void put_notification(struct peer *peer, const ristulva_action *action, const uint8_t *message, size_t len)
+{
+    uint8_t own_message[RISTULVA_MESSAGE];
+    int is_farewell = farewell != NULL && stopping && action->code == 6 && action->subcode == 0;
+    snprintf(peer->why, sizeof peer->why, "sent %u/%u", action->code, is_farewell ? 2 : action->subcode);
+    if (!is_farewell) {
+        put(peer, message, len);
+        return;
+    }
+    put(peer, own_message, shutdown_message(farewell, own_message));
 }
 
 /* Does what a session answers. `message` is what it sends. */
@@ -281,11 +321,11 @@ static void carry_out(struct peer *peer, const ristulva_actions *actions, const 
         else if (action->kind == RISTULVA_DO_ANNOUNCE || action->kind == RISTULVA_DO_WITHDRAW)
             print_update(peer, action->kind == RISTULVA_DO_ANNOUNCE);
         else if (action->kind == RISTULVA_DO_FLUSH)
-            printf("%s - all\n", peer->name);
+            say("%s - all\n", peer->name);
+        else if (action->kind == RISTULVA_DO_SEND_NOTIFICATION)
+            put_notification(peer, action, message, len);
         else
             put(peer, message, len);
-        if (action->kind == RISTULVA_DO_SEND_NOTIFICATION)
-            snprintf(peer->why, sizeof peer->why, "sent %u/%u", action->code, action->subcode);
     }
 }
 
@@ -298,9 +338,9 @@ static void print_up(struct peer *peer)
         ristulva_session_context(&peer->session, &peer->context, &hold) != RISTULVA_OK)
         return;
     peer->ups++;
-    printf("%s up as %lu id %u.%u.%u.%u hold %u offers%s%s%s", peer->name, (unsigned long)it.as_number, it.id[0], it.id[1], it.id[2],
+    say("%s up as %lu id %u.%u.%u.%u hold %u offers%s%s%s", peer->name, (unsigned long)it.as_number, it.id[0], it.id[1], it.id[2],
            it.id[3], it.hold, it.as4 ? " as4" : "", it.ip4 ? " ip4" : "", it.ip6 ? " ip6" : "");
-    printf(", agreed hold %u%s%s%s\n", hold, agreed->as4 ? " as4" : "", agreed->ip4 ? " ip4" : "", agreed->ip6 ? " ip6" : "");
+    say(", agreed hold %u%s%s%s\n", hold, agreed->as4 ? " as4" : "", agreed->ip4 ? " ip4" : "", agreed->ip6 ? " ip6" : "");
 }
 
 /* Tells whether a session came up or ended, and has it started again. */
@@ -310,7 +350,7 @@ static void settle(struct peer *peer, uint8_t before)
     if (state == RISTULVA_ESTABLISHED && before != RISTULVA_ESTABLISHED)
         print_up(peer);
     if (state <= RISTULVA_ACTIVE && before > RISTULVA_ACTIVE)
-        printf("%s down %s\n", peer->name, peer->why);
+        say("%s down %s\n", peer->name, peer->why);
     if ((state == RISTULVA_IDLE || state == RISTULVA_ACTIVE) && !stopping)
         peer->due[TIMER_AGAIN] = later(pause_seconds, 1);
 }
@@ -320,7 +360,7 @@ static void happens(struct peer *peer, uint32_t event)
     uint8_t message[RISTULVA_MESSAGE], before = state_of(peer);
     ristulva_actions actions;
     size_t len;
-    if (ristulva_session_event(&peer->session, event, &actions, message, sizeof message, &len) == RISTULVA_OK) {
+    if (peer->session.body != NULL && ristulva_session_event(&peer->session, event, &actions, message, sizeof message, &len) == RISTULVA_OK) {
         carry_out(peer, &actions, message, len);
         settle(peer, before);
     }
@@ -344,6 +384,39 @@ static void hear(struct peer *peer)
     }
 }
 
+/* Makes the session of a peer of any AS number once its OPEN is there, and lets it hear that. Where something else is there, the session is one
+ * with our own AS number, which answers it. */
+static void begin(struct peer *peer)
+{
+    ristulva_open_fields open;
+    ristulva_status status = ristulva_open(peer->in, peer->in_len, &open);
+    if (status == RISTULVA_INCOMPLETE)
+        return;
+    config.peer_as = status == RISTULVA_OK ? open.as_number : config.local_as;
+    if (ristulva_session_new(&config, &peer->session) != RISTULVA_OK) {
+        drop(peer);
+        return;
+    }
+    peer->connection = STANDS;
+    peer->due[TIMER_AGAIN] = NEVER;
+    happens(peer, RISTULVA_EVENT_START);
+    happens(peer, RISTULVA_EVENT_CONNECTED);
+    hear(peer);
+}
+
+/* Lets go of the session of such a peer, which may come again. */
+static void forget(struct peer *peer)
+{
+    int timer;
+    happens(peer, RISTULVA_EVENT_STOP);
+    if (peer->connection == AWAITED)
+        drop(peer);
+    if (peer->session.body != NULL)
+        ristulva_session_free(&peer->session);
+    for (timer = 0; timer < TIMERS; timer++)
+        peer->due[timer] = NEVER;
+}
+
 /* ---- what happens to sockets, and at what time ---- */
 
 static void connected(struct peer *peer)
@@ -362,7 +435,10 @@ static void receive(struct peer *peer)
     got = recv(peer->fd, peer->in + peer->in_len, sizeof peer->in - peer->in_len, 0);
     if (got > 0) {
         peer->in_len += (size_t)got;
-        hear(peer);
+        if (peer->connection == AWAITED)
+            begin(peer);
+        else
+            hear(peer);
     } else if (got == 0 || !is_ready_later(errno)) {
         int is_lost = peer->connection == STANDS;
         drop(peer);
@@ -400,19 +476,16 @@ static void expire(struct peer *peer, int timer)
                                             RISTULVA_EVENT_KEEPALIVE_EXPIRED};
     uint8_t state = state_of(peer);
     peer->due[timer] = NEVER;
+    if (peer->any && timer == TIMER_AGAIN) {
+        forget(peer);
+        return;
+    }
     if (timer != TIMER_AGAIN || state == RISTULVA_IDLE)
         happens(peer, events[timer]);
     else if (state == RISTULVA_ACTIVE)
         happens(peer, RISTULVA_EVENT_RETRY_EXPIRED);
     else if (state == RISTULVA_CONNECT && peer->connection == NONE)
         seek(peer);
-}
-
-/* Writes an address as text, of which each has one. */
-static void print_host(const struct sockaddr_storage *address, socklen_t len, char host[HOST])
-{
-    if (getnameinfo((const struct sockaddr *)address, len, host, HOST, NULL, 0, NI_NUMERICHOST) != 0)
-        host[0] = '\0';
 }
 
 static struct peer *peer_at(const char *host)
@@ -433,6 +506,14 @@ static void rest_listener(int error)
     accepts_again = later(pause_seconds, 0);
 }
 
+/* A peer of any AS number has no session before its OPEN. */
+static int wants_connection(const struct peer *peer, uint8_t state)
+{
+    if (peer != NULL && peer->any)
+        return peer->session.body == NULL && peer->connection == NONE && !stopping;
+    return peer != NULL && (state == RISTULVA_CONNECT || state == RISTULVA_ACTIVE);
+}
+
 /* Takes the connection of a peer whose session wants one, in place of the try for one: it has one at a time. */
 static void welcome(void)
 {
@@ -448,73 +529,50 @@ static void welcome(void)
         return;
     }
     accept_error = 0;
-    print_host(&from, len, host);
+    print_host(from, len, host);
     if ((peer = peer_at(host)) != NULL)
         state = state_of(peer);
-    if ((state != RISTULVA_CONNECT && state != RISTULVA_ACTIVE) || !unblock(fd)) {
+    if (!wants_connection(peer, state) || !unblock(fd) || (is_near && !set_near(fd, from.ss_family))) {
         close(fd);
         return;
     }
     drop(peer);
     peer->fd = fd;
-    connected(peer);
+    if (!peer->any) {
+        connected(peer);
+        return;
+    }
+    peer->connection = AWAITED;
+    peer->due[TIMER_AGAIN] = later(OPENS_WITHIN, 0);
 }
 
 /* ---- the command line ---- */
 
-static void end(int status, const char *word, const char *why)
-{
-    fprintf(stderr, "collector: %s: %s\n", word, why);
-    exit(status);
-}
-
 static void usage(void)
 {
-    fprintf(stderr, "usage: collector [-l ADDRESS] [-p PORT] [-w SECONDS] LOCAL_AS ID PEER_AS@ADDRESS[#PORT]..\n");
+    fprintf(stderr, "usage: collector [-l ADDRESS] [-p PORT] [-w SECONDS] [-n] [-m TEXT] [-k KEY] [-t] LOCAL_AS ID PEER_AS@ADDRESS[#PORT]..\n");
     exit(2);
-}
-
-/* A number from 1 to `most`, which `text` is and `word` has. */
-static unsigned long number_of(const char *word, const char *text, unsigned long most)
-{
-    char *behind;
-    unsigned long number;
-    errno = 0;
-    number = strtoul(text, &behind, 10);
-    if (text[0] < '0' || text[0] > '9' || *behind != '\0' || errno != 0 || number == 0 || number > most)
-        end(2, word, "a number is out of its range");
-    return number;
-}
-
-static socklen_t resolve(const char *word, const char *address, const char *port, struct sockaddr_storage *out)
-{
-    struct addrinfo hints, *found;
-    socklen_t len;
-    memset(&hints, 0, sizeof hints);
-    hints.ai_flags = AI_NUMERICHOST | AI_NUMERICSERV;
-    hints.ai_socktype = SOCK_STREAM;
-    if (getaddrinfo(address, port, &hints, &found) != 0)
-        end(2, word, "not an address");
-    len = found->ai_addrlen;
-    memcpy(out, found->ai_addr, len);
-    freeaddrinfo(found);
-    return len;
 }
 
 static void listen_at(const char *address, const char *port)
 {
     struct sockaddr_storage at;
     socklen_t len = resolve(address, address, port, &at);
-    int on = 1;
+    size_t i;
     own_len = resolve(address, address, "0", &own);
     listener = socket(at.ss_family, SOCK_STREAM, 0);
-    if (listener < 0 || !unblock(listener) || setsockopt(listener, SOL_SOCKET, SO_REUSEADDR, &on, sizeof on) != 0 ||
-        bind(listener, (struct sockaddr *)&at, len) != 0 || listen(listener, SOMAXCONN) != 0)
+    /* The unspecified address is one for both families, however the machine is set. */
+    if (listener >= 0 && at.ss_family == AF_INET6)
+        set_number(listener, IPPROTO_IPV6, IPV6_V6ONLY, 0);
+    for (i = 0; i < peer_count && listener >= 0; i++)
+        if (!secure(listener, at.ss_family, &peers[i]))
+            end(1, address, strerror(errno));
+    if (listener < 0 || !unblock(listener) || !set_number(listener, SOL_SOCKET, SO_REUSEADDR, 1) || bind(listener, (struct sockaddr *)&at, len) != 0 || listen(listener, SOMAXCONN) != 0)
         end(1, address, strerror(errno));
 }
 
 /* Makes the peer of a word PEER_AS@ADDRESS[#PORT], and its session. */
-static void add_peer(const char *word, const char *port, ristulva_config *config)
+static void add_peer(const char *word, const char *port)
 {
     struct peer *peer = &peers[peer_count];
     char text[128] = "", *address, *its_port;
@@ -527,12 +585,13 @@ static void add_peer(const char *word, const char *port, ristulva_config *config
         *its_port++ = '\0';
         number_of(word, its_port, 65535);
     }
-    config->peer_as = (uint32_t)number_of(word, text, 4294967295);
+    peer->any = strcmp(text, "*") == 0;
+    config.peer_as = peer->any ? 0 : (uint32_t)number_of(word, text, 4294967295);
     peer->address_len = resolve(word, address, its_port == NULL ? port : its_port, &peer->address);
-    print_host(&peer->address, peer->address_len, peer->host);
+    print_host(peer->address, peer->address_len, peer->host);
     if (peer_at(peer->host) != NULL)
         end(2, word, "another peer has this address");
-    if (ristulva_session_new(config, &peer->session) != RISTULVA_OK)
+    if (!peer->any && ristulva_session_new(&config, &peer->session) != RISTULVA_OK)
         end(1, word, "memory");
     peer->name = word;
     peer->fd = -1;
@@ -541,21 +600,42 @@ static void add_peer(const char *word, const char *port, ristulva_config *config
     peer_count++;
 }
 
-static void take_words(int argc, char **argv)
+static void take_flags(int argc, char **argv, const char **address, const char **port)
 {
-    ristulva_config config = {0, 0, {0}, 90, 1, 1, 1};
-    const char *address = NULL, *port = "179";
     int option;
-    while ((option = getopt(argc, argv, "l:p:w:")) != -1) {
+    while ((option = getopt(argc, argv, "l:p:w:nm:k:t")) != -1) {
         if (option == 'l')
-            address = optarg;
+            *address = optarg;
         else if (option == 'p' && number_of(optarg, optarg, 65535) > 0)
-            port = optarg;
+            *port = optarg;
         else if (option == 'w')
             pause_seconds = number_of(optarg, optarg, 3600);
+        else if (option == 'n')
+            waits_for_peers = 1;
+        else if (option == 'm' && strlen(optarg) <= 255)
+            farewell = optarg;
+        else if (option == 'k' && strlen(optarg) - 1 < 80)
+            key = optarg;
+        else if (option == 't')
+            is_near = 1;
         else
             usage();
     }
+}
+
+/* Who waits for a peer has to listen. */
+static void check_listening(void)
+{
+    size_t i;
+    for (i = 0; i < peer_count; i++)
+        if (peers[i].any || waits_for_peers)
+            end(2, peers[i].name, "the peer is to connect, and there is no -l");
+}
+
+static void take_words(int argc, char **argv)
+{
+    const char *address = NULL, *port = "179";
+    take_flags(argc, argv, &address, &port);
     if (argc - optind < 3)
         usage();
     config.local_as = (uint32_t)number_of(argv[optind], argv[optind], 4294967295);
@@ -565,8 +645,10 @@ static void take_words(int argc, char **argv)
     if (peers == NULL)
         end(1, "peers", "memory");
     while (++optind < argc)
-        add_peer(argv[optind], port, &config);
-    if (address != NULL)
+        add_peer(argv[optind], port);
+    if (address == NULL)
+        check_listening();
+    else
         listen_at(address, port);
 }
 
@@ -596,10 +678,10 @@ static void stop(void)
     static const char *const states[] = {"", "Idle", "Connect", "Active", "OpenSent", "OpenConfirm", "Established"};
     size_t i;
     stopping = 1;
-    printf("%-32s %-11s %6s %9s %9s %9s %9s %9s\n", "peer", "state", "ups", "updates", "+ip4", "-ip4", "+ip6", "-ip6");
+    say("%-32s %-11s %6s %9s %9s %9s %9s %9s\n", "peer", "state", "ups", "updates", "+ip4", "-ip4", "+ip6", "-ip6");
     for (i = 0; i < peer_count; i++) {
         struct peer *peer = &peers[i];
-        printf("%-32s %-11s %6llu %9llu %9llu %9llu %9llu %9llu\n", peer->name, states[state_of(peer)], peer->ups, peer->updates,
+        say("%-32s %-11s %6llu %9llu %9llu %9llu %9llu %9llu\n", peer->name, states[state_of(peer)], peer->ups, peer->updates,
                peer->announced[0], peer->withdrawn[0], peer->announced[1], peer->withdrawn[1]);
     }
     for (i = 0; i < peer_count; i++) {
@@ -608,15 +690,16 @@ static void stop(void)
     }
 }
 
-/* Lists what is waited for: the signals, the listener, and the peers' sockets. A peer without one isn't listed, since poll refuses more
+/* Lists what is waited for: the signals, the listener, standard output, and the peers' sockets. A peer without one isn't listed, since poll refuses more
  * than there may be descriptors. */
 static nfds_t list_sockets(struct pollfd *polls)
 {
-    nfds_t count = 2;
+    nfds_t count = 3;
     size_t i;
     if (accepts_again <= now())
         accepts_again = 0;
     polls[1].fd = accepts_again == 0 ? listener : -1;
+    polls[2].fd = is_waiting() ? STDOUT_FILENO : -1;
     for (i = 0; i < peer_count; i++) {
         if (peers[i].fd < 0)
             continue;
@@ -643,7 +726,7 @@ static long long first_due(long long until)
 /* Waits until something happens to a socket or a timer runs out. */
 static void wait_for(struct pollfd *polls, long long until)
 {
-    nfds_t count = list_sockets(polls), next = 2;
+    nfds_t count = list_sockets(polls), next = 3;
     long long wait = first_due(until) - now();
     size_t i;
     if (poll(polls, count, wait < 0 ? 0 : wait > INT_MAX ? INT_MAX : (int)wait) < 0) {
@@ -673,6 +756,26 @@ static int do_turn(const struct pollfd *polls)
     return is_open;
 }
 
+static void print_said(void)
+{
+    if (!write_said())
+        end(1, "standard output", strerror(errno));
+}
+
+/* Prints what is left, for a reader that goes on. */
+static void print_rest(void)
+{
+    struct pollfd out = {STDOUT_FILENO, POLLOUT, 0};
+    long long until = now() + FAREWELL;
+    print_said();
+    while (is_waiting() && now() < until) {
+        poll(&out, 1, (int)(until - now()));
+        print_said();
+    }
+    if (is_waiting())
+        end(1, "standard output", "nobody reads it");
+}
+
 int main(int argc, char **argv)
 {
     struct pollfd *polls;
@@ -681,17 +784,18 @@ int main(int argc, char **argv)
     take_words(argc, argv);
     await_signals();
     srand((unsigned)(now() ^ getpid()));
-    polls = calloc(peer_count + 2, sizeof *polls);
+    signal(SIGPIPE, SIG_IGN);
+    polls = calloc(peer_count + 3, sizeof *polls);
     if (polls == NULL)
         end(1, "peers", "memory");
     polls[0].fd = wake[0];
     polls[1].fd = listener;
     polls[0].events = polls[1].events = POLLIN;
+    polls[2].events = POLLOUT;
     for (i = 0; i < peer_count; i++)
         happens(&peers[i], RISTULVA_EVENT_START);
     do {
-        if (fflush(stdout) != 0)
-            end(1, "standard output", strerror(errno));
+        print_said();
         wait_for(polls, until);
         if (polls[0].revents != 0 && !stopping) {
             stop();
@@ -701,11 +805,12 @@ int main(int argc, char **argv)
     } while ((do_turn(polls) || !stopping) && now() < until);
     for (i = 0; i < peer_count; i++) {
         drop(&peers[i]);
-        ristulva_session_free(&peers[i].session);
+        if (peers[i].session.body != NULL)
+            ristulva_session_free(&peers[i].session);
     }
+    print_rest();
     free(peers);
     free(polls);
-    if (fflush(stdout) != 0)
-        end(1, "standard output", strerror(errno));
+    free(said);
     return 0;
 }

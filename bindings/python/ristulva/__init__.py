@@ -18,18 +18,26 @@ It is the file that RISTULVA_LIBRARY names by an absolute path, else libristulva
             ..."""
 
 from .decoder import Decoder, DecoderClosed
+from .facts import ORIGINS, Facts
+from .field import KINDS, Field
 from .library import MESSAGE, VERSION
 from .message import (
-    ENDS, VERDICTS, WHYS, Attribute, Cleaned, Context, FamilyNotAgreed, Incomplete, Message, Open, Prefix, Refused, Route, WrongState, encode,
-    judge, messages, narrow, reconcile,
+    ENDS, VERDICTS, WHYS, Attribute, Cleaned, Context, FamilyNotAgreed, Incomplete, Message, Open, Prefix, Refused, Route, WrongState, agree,
+    directions, encode, judge, messages, narrow, reconcile,
+)
+from .numbers import (
+    AttributeType, CapabilityCode, CeaseError, ErrorCode, HeaderError, OpenError, RefreshError, StateError, UpdateError, attribute_name,
+    capability_name, error_name, subcode_name,
 )
 from .session import (
     Action, Announce, Arm, Close, Config, Disarm, Event, Flush, Heard, Peer, Seek, Send, Session, SessionClosed, State, Timer, Withdraw,
 )
 
 __all__ = [
-    "ENDS", "MESSAGE", "VERDICTS", "VERSION", "WHYS", "Action", "Announce", "Arm", "Attribute", "Cleaned", "Close", "Config", "Context",
-    "Decoder", "DecoderClosed", "Disarm", "Event", "FamilyNotAgreed", "Flush", "Heard", "Incomplete", "Message", "Open", "Peer", "Prefix",
-    "Refused", "Route", "Seek", "Send", "Session", "SessionClosed", "State", "Timer", "Withdraw", "WrongState", "encode", "judge", "messages",
-    "narrow", "reconcile",
+    "ENDS", "KINDS", "MESSAGE", "ORIGINS", "VERDICTS", "VERSION", "WHYS", "Action", "Announce", "Arm", "Attribute", "AttributeType",
+    "CapabilityCode", "CeaseError", "Cleaned", "Close", "Config", "Context", "Decoder", "DecoderClosed", "Disarm", "ErrorCode", "Event",
+    "Facts", "FamilyNotAgreed", "Field", "Flush", "HeaderError", "Heard", "Incomplete", "Message", "Open", "OpenError", "Peer", "Prefix",
+    "RefreshError", "Refused", "Route", "Seek", "Send", "Session", "SessionClosed", "State", "StateError", "Timer", "UpdateError",
+    "Withdraw", "WrongState", "agree", "attribute_name", "capability_name", "directions", "encode", "error_name", "judge", "messages",
+    "narrow", "reconcile", "subcode_name",
 ]

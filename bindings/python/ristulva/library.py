@@ -57,6 +57,10 @@ class CNote(Structure):
     _fields_ = [("at", c_uint32), ("kind", c_uint8), ("why", c_uint8)]
 
 
+class CField(Structure):
+    _fields_ = [("at", c_uint16), ("len", c_uint16), ("group", c_uint16), ("kind", c_uint8), ("type", c_uint8)]
+
+
 class CCleaned(Structure):
     _fields_ = [("ends", c_uint8), ("verdict", c_uint8), ("code", c_uint8), ("subcode", c_uint8), ("len", c_uint32), ("discarded", c_size_t),
                 ("left_out", c_size_t), ("capabilities", c_size_t)]
@@ -109,6 +113,32 @@ class CPeer(Structure):
     _fields_ = [("as_number", c_uint32), ("id", c_uint8 * 4), ("hold", c_uint16), ("as4", c_uint8), ("ip4", c_uint8), ("ip6", c_uint8)]
 
 
+class CNextHops(Structure):
+    _fields_ = [("next_hop", c_uint8 * 4), ("mp_next_hop", c_uint8 * 16), ("link_local", c_uint8 * 16), ("mp_afi", c_uint16), ("has_next_hop", c_uint8),
+                ("has_link_local", c_uint8)]
+
+
+class CPaths(Structure):
+    _fields_ = [("as_path", Span), ("as4_path", Span), ("communities", Span), ("large_communities", Span), ("origin_as", c_uint32),
+                ("has_as_path", c_uint8), ("has_as4_path", c_uint8), ("has_communities", c_uint8), ("has_large_communities", c_uint8),
+                ("has_origin_as", c_uint8)]
+
+
+class CFacts(Structure):
+    _fields_ = [("hops", CNextHops), ("paths", CPaths), ("med", c_uint32), ("local_pref", c_uint32), ("aggregator_as", c_uint32),
+                ("aggregator_address", c_uint8 * 4), ("unrecognised", c_uint32), ("origin", c_uint8), ("has_origin", c_uint8), ("has_med", c_uint8),
+                ("has_local_pref", c_uint8), ("has_aggregator", c_uint8), ("atomic_aggregate", c_uint8)]
+
+
+class RouteCursor(Structure):
+    _fields_ = [("withdrawn", Prefixes), ("unreached", Prefixes), ("reached", Prefixes), ("nlri", Prefixes), ("announces", c_uint8),
+                ("loses_ip6", c_uint8)]
+
+
+class CRoute(Structure):
+    _fields_ = [("announced", c_uint8), ("prefix", CPrefix)]
+
+
 class Handle(Structure):
     """The handle of a session or of a decoder: None where it has none."""
 
@@ -130,8 +160,8 @@ def place() -> str:
 
 # Calls that take no longer than Python's lock would take to be given up and had back: they keep it.
 SHORT = (
-    "next_attribute", "next_prefix", "next_segment", "next_number", "next_large_community", "next_capability", "reached", "unreached", "open", "judge",
-    "session_state", "session_context",
+    "next_attribute", "next_prefix", "next_route", "next_segment", "next_number", "next_large_community", "next_capability", "reached", "unreached", "open", "judge",
+    "facts", "begin_routes", "agree", "name", "session_state", "session_context",
 )
 
 
@@ -173,6 +203,14 @@ def load() -> tuple[Library, int]:
     takes = {
         "judge": [POINTER(Said), *octets, *buffer, POINTER(Verdict)],
         "notes": [POINTER(Said), *octets, POINTER(CNote), c_size_t, POINTER(c_size_t)],
+        "facts": [POINTER(Said), *octets, POINTER(CFacts)],
+        "begin_routes": [POINTER(Said), *octets, POINTER(RouteCursor)],
+        "next_route": [*octets, POINTER(RouteCursor), POINTER(CRoute)],
+        "agree": [*octets, *octets, POINTER(Said), POINTER(c_uint16)],
+        "name": [c_uint8, c_uint8, c_uint8, *buffer, POINTER(c_size_t)],
+        "fields": [POINTER(Said), *octets, POINTER(CField), c_size_t, POINTER(c_size_t)],
+        "fault": [POINTER(Said), *octets, POINTER(Span)],
+        "field_name": [c_uint32, *buffer, POINTER(c_size_t)],
         "text": [POINTER(Said), c_uint64, *octets, *buffer, POINTER(c_size_t)],
         "encode": [POINTER(Said), *octets, *buffer, POINTER(c_size_t)],
         "narrow": [POINTER(Said), *octets, *buffer, POINTER(c_size_t)],

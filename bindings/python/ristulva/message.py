@@ -9,11 +9,14 @@ import dataclasses
 import ipaddress
 import typing
 import warnings
-from ctypes import c_size_t, c_uint32
+from ctypes import c_size_t, c_uint16, c_uint32
 
+from .facts import Facts, facts_of
+from .field import Field, fault_of, fields_of
 from .library import (
     DATA, HEADER, INCOMPLETE, LIBRARY, MEMORY, MESSAGE, MIXED, OK, RANGE, REFUSED, ROOM, STATE, UNWRITABLE, Attributes, CAttribute, CCapability,
-    CCleaned, CLargeCommunity, CNote, COpen, CPrefix, CSegment, LargeCommunities, Numbers, Prefixes, Said, Segments, Span, Verdict,
+    CCleaned, CFacts, CLargeCommunity, CNote, COpen, CPrefix, CRoute, CSegment, LargeCommunities, Numbers, Prefixes, RouteCursor, Said, Segments, Span,
+    Verdict,
 )
 
 WHYS = ("Flags", "Length", "Value", "SegmentType", "SegmentCount", "SegmentEnd", "Repeated", "External", "FourOctet", "Family", "Unneeded", "Emptied",
@@ -125,6 +128,11 @@ def each(call: str, octets: bytes, cursor: ctypes.Structure, out: Out) -> typing
         yield out
 
 
+def prefix_of(it: CPrefix) -> Prefix:
+    address = bytes(it.addr)[: 4 if it.afi == 1 else 16]
+    return ipaddress.ip_network((address, it.len))
+
+
 class Message:
     """A message that was judged, or a header with a fault. Two are equal where their octets, contexts, places and verdicts are."""
 
@@ -193,6 +201,14 @@ class Message:
             notes = (CNote * count.value)()
         return [(note.at, note.kind, WHYS[note.why - 1]) for note in notes[: count.value]]
 
+    def fields(self) -> list[Field]:
+        """All its fields, in their order: their octets joined are the message, whatever it is. Where it is accepted without a note none is "Unread"."""
+        return fields_of(self.octets, self.context.said())
+
+    def fault(self) -> typing.Optional[tuple[int, int]]:
+        """For which of its octets the session ends: where they begin in the message, and how many they are. None where it isn't a "reset"."""
+        return fault_of(self.octets, self.context.said())
+
     def clean(self, first: bool = False, types: typing.Iterable[int] = ()) -> Cleaned:
         """What may be handed on of it to a hearer, who learns by it what RFC 7606 has the hearer of the message learn.
 
@@ -223,8 +239,7 @@ class Message:
 
     def prefixes(self, cursor: Prefixes) -> typing.Iterator[Prefix]:
         for it in each("next_prefix", self.octets, cursor, CPrefix()):
-            address = bytes(it.addr)[: 4 if it.afi == 1 else 16]
-            yield ipaddress.ip_network((address, it.len))
+            yield prefix_of(it)
 
     def field(self, span: Span) -> typing.Iterator[Prefix]:
         return self.prefixes(Prefixes(span.at, span.at + span.len, 1))
@@ -257,17 +272,19 @@ class Message:
         none, and withdraws all. Of other messages there are none.
 
         Where it has IPv6 routes, and its context doesn't, a warning `FamilyNotAgreed` says so."""
-        if self.verdict not in ("update", "withdraw"):
+        cursor = RouteCursor()
+        if LIBRARY.ristulva_begin_routes(self.context.said(), self.octets, len(self.octets), cursor) != OK:
             return []
-        if self._loses_ip6():
+        if cursor.loses_ip6:
             warnings.warn("an UPDATE has IPv6 routes, and its context doesn't", FamilyNotAgreed, stacklevel=2)
-        is_kept = self.verdict == "update"
-        return [Route(it, False) for it in self._withdrawn()] + [Route(it, is_kept) for it in self._announced()]
+        return [Route(prefix_of(it.prefix), bool(it.announced)) for it in each("next_route", self.octets, cursor, CRoute())]
 
-    def _loses_ip6(self) -> bool:
-        """Whether one of the multiprotocol attributes has IPv6 unicast, which isn't in use."""
-        found = (self.first(14), self.first(15)) if not self.context.ip6 else ()
-        return any(it is not None and it.value[:3] == b"\0\2\1" for it in found)
+    def facts(self) -> typing.Optional[Facts]:
+        """What everybody asks of an UPDATE, of what is kept; None where it isn't accepted, and of other messages."""
+        it = CFacts()
+        if LIBRARY.ristulva_facts(self.context.said(), self.octets, len(self.octets), it) != OK:
+            return None
+        return facts_of(it)
 
     def as_path(self) -> typing.Optional[list[tuple[int, list[int]]]]:
         """The segments of AS_PATH, each its type and its AS numbers; None where there is no AS_PATH."""
@@ -339,6 +356,26 @@ def messages(octets: typing.Any, context: Context) -> typing.Iterator[Message]:
     rest = len(octets) - place
     if rest:
         warnings.warn(f"the stream ends inside a message, of which it has {rest} octets", Incomplete, stacklevel=2)
+
+
+def agree(ours: typing.Any, theirs: typing.Any) -> typing.Optional[tuple[Context, int]]:
+    """What two speakers agree on, of whose OPENs the octets begin with one each: the context of their session, and its Hold Time in seconds, 0 for
+    none; as `bgp show --opens` finds it. None where one of them is no OPEN that is accepted. Neither is refused for what it says."""
+    said, hold = Said(), c_uint16()
+    one, other = part(in_octets(ours), 0), part(in_octets(theirs), 0)
+    if LIBRARY.ristulva_agree(one, len(one), other, len(other), said, hold) != OK:
+        return None
+    return Context(said.internal, said.as4, said.ip4, said.ip6), hold.value
+
+
+def directions(ours: typing.Any, theirs: typing.Any) -> tuple[typing.Iterator[Message], typing.Iterator[Message]]:
+    """The messages of both directions of a session, each as `messages` gives them, in the context that their first OPENs agree on.
+
+    ValueError: one of them doesn't begin with an OPEN that is accepted."""
+    agreed = agree(ours, theirs)
+    if agreed is None:
+        raise ValueError("no OPEN to agree with")
+    return messages(ours, agreed[0]), messages(theirs, agreed[0])
 
 
 def rewritten(call: str, octets: Octets, context: Context) -> bytes:

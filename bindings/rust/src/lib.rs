@@ -33,15 +33,20 @@
 #![deny(unsafe_code, missing_docs)]
 
 mod action;
+mod agree;
 mod attribute;
 mod cleaned;
 mod config;
 mod context;
 mod decoder;
 mod error;
+mod facts;
+mod field;
 mod front;
+mod layout;
 mod message;
 mod note;
+pub mod numbers;
 mod open;
 mod path;
 mod prefix;
@@ -53,19 +58,22 @@ mod update;
 mod write;
 
 pub use action::{Action, Actions, Timer};
+pub use agree::{agree, directions, Agreed};
 pub use attribute::{Attribute, Attributes};
 pub use cleaned::{Cleaned, End, HandedOn};
 pub use config::Config;
 pub use context::Context;
 pub use decoder::Decoder;
 pub use error::Error;
+pub use facts::{Facts, Origin};
+pub use field::{Field, FieldKind, Group};
 pub use front::{front, Front, Kind};
 pub use message::{judge, messages, Message, Messages, Outcome};
 pub use note::{Note, Notes, Why};
 pub use open::{Capabilities, Capability, Open};
 pub use path::{Numbers, Segment, SegmentKind, Segments};
-pub use prefix::{NextHop, Prefix, Prefixes};
-pub use route::Route;
+pub use prefix::{NextHop, Prefix, Prefixes, Shown};
+pub use route::{Route, Routes};
 pub use session::{Event, Heard, Peer, Session, State};
 pub use update::Update;
 pub use write::{encode, narrow, reconcile};

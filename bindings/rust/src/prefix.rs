@@ -3,6 +3,22 @@ use std::fmt;
 use std::iter::FusedIterator;
 use std::net::{IpAddr, Ipv4Addr, Ipv6Addr};
 
+/// An address as `bgp show --json` prints it (RFC 5952, sections 4 and 5): in hexadecimal groups, also where an IPv6 address holds an IPv4 one.
+#[derive(Clone, Copy, Debug, PartialEq, Eq, PartialOrd, Ord, Hash)]
+pub struct Shown(pub IpAddr);
+
+impl fmt::Display for Shown {
+    fn fmt(&self, f: &mut fmt::Formatter<'_>) -> fmt::Result {
+        match self.0 {
+            IpAddr::V6(six) if six.to_ipv4_mapped().is_some() => {
+                let [.., high, low] = six.segments();
+                write!(f, "::ffff:{high:x}:{low:x}")
+            }
+            address => address.fmt(f),
+        }
+    }
+}
+
 /// The destinations of a route (RFC 4271, section 4.3). It is printed as `10.0.0.0/8`.
 #[derive(Clone, Copy, Debug, PartialEq, Eq, PartialOrd, Ord, Hash)]
 pub struct Prefix {
@@ -14,12 +30,12 @@ pub struct Prefix {
 
 impl fmt::Display for Prefix {
     fn fmt(&self, f: &mut fmt::Formatter<'_>) -> fmt::Result {
-        write!(f, "{}/{}", self.address, self.len)
+        write!(f, "{}/{}", Shown(self.address), self.len)
     }
 }
 
 impl Prefix {
-    fn of(found: raw::Prefix) -> Prefix {
+    pub(crate) fn of(found: raw::Prefix) -> Prefix {
         let [a, b, c, d, ..] = found.addr;
         let address = match found.afi {
             raw::AFI_IP4 => Ipv4Addr::new(a, b, c, d).into(),

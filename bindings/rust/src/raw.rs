@@ -6,6 +6,7 @@
 //! outside of what it is handed. Of the calls on a [`Decoder`] and on a [`Session`] their comments tell
 //! the rest.
 
+pub use crate::layout::*;
 use std::cell::UnsafeCell;
 use std::os::raw::c_char;
 use std::ptr;
@@ -34,6 +35,9 @@ pub const KEEPALIVE: u8 = 4;
 pub const WITHDRAW: u8 = 5;
 pub const RESET: u8 = 6;
 
+// The most octets of the name of a kind of field.
+pub const FIELD_NAME: usize = 38;
+
 /// What comes of a message that is cleaned.
 pub const HANDED_ON: u8 = 0;
 pub const ENDS_RESET: u8 = 1;
@@ -55,232 +59,6 @@ pub const DO_FLUSH: u8 = 10;
 /// The address family of IPv4.
 pub const AFI_IP4: u16 = 1;
 
-#[repr(C)]
-#[derive(Clone, Copy, Debug, Default, PartialEq, Eq)]
-pub struct Span {
-    pub at: u32,
-    pub len: u32,
-}
-
-impl Span {
-    /// Its octets, of those that it lies in.
-    pub fn of(self, octets: &[u8]) -> &[u8] {
-        let at = self.at as usize;
-        &octets[at..at + self.len as usize]
-    }
-}
-
-#[repr(C)]
-#[derive(Default)]
-pub struct Found {
-    pub what: u8,
-    pub kind: u8,
-    pub code: u8,
-    pub subcode: u8,
-    pub len: u32,
-    pub data: Span,
-}
-
-#[repr(C)]
-#[derive(Default)]
-pub struct Context {
-    pub internal: u8,
-    pub as4: u8,
-    pub ip4: u8,
-    pub ip6: u8,
-}
-
-#[repr(C)]
-#[derive(Clone, Copy, Debug, Default, PartialEq, Eq)]
-pub struct Parts {
-    pub withdrawn: Span,
-    pub attributes: Span,
-    pub nlri: Span,
-}
-
-#[repr(C)]
-#[derive(Default)]
-pub struct Verdict {
-    pub verdict: u8,
-    pub kind: u8,
-    pub code: u8,
-    pub subcode: u8,
-    pub len: u32,
-    pub data_len: u32,
-    pub parts: Parts,
-}
-
-#[repr(C)]
-#[derive(Clone, Debug, Default)]
-pub struct Note {
-    pub at: u32,
-    pub kind: u8,
-    pub why: u8,
-}
-
-#[repr(C)]
-#[derive(Default)]
-pub struct Cleaned {
-    pub ends: u8,
-    pub verdict: u8,
-    pub code: u8,
-    pub subcode: u8,
-    pub len: u32,
-    pub discarded: usize,
-    pub left_out: usize,
-    pub capabilities: usize,
-}
-
-#[repr(C)]
-#[derive(Clone, Debug)]
-pub struct Attributes {
-    pub at: u32,
-    pub end: u32,
-}
-
-#[repr(C)]
-#[derive(Default)]
-pub struct Attribute {
-    pub at: u32,
-    pub flags: u8,
-    pub kind: u8,
-    pub value: Span,
-}
-
-#[repr(C)]
-#[derive(Clone, Debug, Default)]
-pub struct Prefixes {
-    pub at: u32,
-    pub end: u32,
-    pub afi: u16,
-}
-
-#[repr(C)]
-#[derive(Default)]
-pub struct Prefix {
-    pub afi: u16,
-    pub len: u8,
-    pub addr: [u8; 16],
-}
-
-#[repr(C)]
-#[derive(Clone, Debug)]
-pub struct Segments {
-    pub at: u32,
-    pub end: u32,
-    pub wide: u8,
-    pub confederations: u8,
-}
-
-#[repr(C)]
-#[derive(Default)]
-pub struct Segment {
-    pub kind: u8,
-    pub numbers: Span,
-}
-
-#[repr(C)]
-#[derive(Clone, Debug)]
-pub struct Numbers {
-    pub at: u32,
-    pub end: u32,
-    pub width: u8,
-}
-
-#[repr(C)]
-#[derive(Clone, Debug)]
-pub struct LargeCommunities {
-    pub first: u32,
-    pub at: u32,
-    pub end: u32,
-}
-
-#[repr(C)]
-#[derive(Default)]
-pub struct LargeCommunity {
-    pub numbers: [u32; 3],
-}
-
-#[repr(C)]
-#[derive(Clone, Copy, Debug, Default, PartialEq, Eq)]
-pub struct Capabilities {
-    pub at: u32,
-    pub stop: u32,
-    pub end: u32,
-}
-
-#[repr(C)]
-#[derive(Clone, Copy, Debug, Default, PartialEq, Eq)]
-pub struct OpenFields {
-    pub as_number: u32,
-    pub as_field: u16,
-    pub hold: u16,
-    pub id: [u8; 4],
-    pub as4: u8,
-    pub ip4: u8,
-    pub ip6: u8,
-    pub capabilities: Capabilities,
-}
-
-#[repr(C)]
-#[derive(Default)]
-pub struct Capability {
-    pub code: u8,
-    pub value: Span,
-}
-
-#[repr(C)]
-pub struct Config {
-    pub local_as: u32,
-    pub peer_as: u32,
-    pub id: [u8; 4],
-    pub hold: u16,
-    pub as4: u8,
-    pub ip4: u8,
-    pub ip6: u8,
-}
-
-#[repr(C)]
-#[derive(Clone, Copy, Default)]
-pub struct Action {
-    pub kind: u8,
-    pub timer: u8,
-    pub seconds: u16,
-    pub code: u8,
-    pub subcode: u8,
-}
-
-/// The most things that are to be done at a time.
-pub const ACTIONS: usize = 5;
-
-#[repr(C)]
-#[derive(Default)]
-pub struct Actions {
-    pub count: usize,
-    pub list: [Action; ACTIONS],
-}
-
-#[repr(C)]
-#[derive(Default)]
-pub struct Heard {
-    pub heard: u8,
-    pub code: u8,
-    pub subcode: u8,
-    pub len: u32,
-    pub parts: Parts,
-}
-
-#[repr(C)]
-#[derive(Default)]
-pub struct Peer {
-    pub as_number: u32,
-    pub id: [u8; 4],
-    pub hold: u16,
-    pub as4: u8,
-    pub ip4: u8,
-    pub ip6: u8,
-}
-
 /// `ristulva_decoder` and `ristulva_session`: where the memory of one is, which is the library's;
 /// null where there is none.
 #[repr(C)]
@@ -294,6 +72,11 @@ extern "C" {
     fn ristulva_front(octets: *const u8, len: usize, out: *mut Found) -> u32;
     fn ristulva_judge(context: *const Context, octets: *const u8, len: usize, data: *mut u8, room: usize, out: *mut Verdict) -> u32;
     fn ristulva_notes(context: *const Context, octets: *const u8, len: usize, notes: *mut Note, room: usize, count: *mut usize) -> u32;
+    fn ristulva_facts(context: *const Context, octets: *const u8, len: usize, out: *mut Facts) -> u32;
+    fn ristulva_name(kind: u8, number: u8, subcode: u8, text: *mut c_char, room: usize, written: *mut usize) -> u32;
+    fn ristulva_fields(context: *const Context, octets: *const u8, len: usize, fields: *mut Field, room: usize, written: *mut usize) -> u32;
+    fn ristulva_fault(context: *const Context, octets: *const u8, len: usize, out: *mut Span) -> u32;
+    fn ristulva_field_name(kind: u32, name: *mut c_char, room: usize, written: *mut usize) -> u32;
     fn ristulva_text(context: *const Context, place: u64, octets: *const u8, len: usize, text: *mut c_char, room: usize, written: *mut usize) -> u32;
     fn ristulva_encode(context: *const Context, body: *const u8, len: usize, message: *mut u8, room: usize, written: *mut usize) -> u32;
     fn ristulva_narrow(context: *const Context, body: *const u8, len: usize, message: *mut u8, room: usize, written: *mut usize) -> u32;
@@ -302,6 +85,8 @@ extern "C" {
     fn ristulva_next_attribute(octets: *const u8, len: usize, cursor: *mut Attributes, out: *mut Attribute) -> u32;
     fn ristulva_next_prefix(octets: *const u8, len: usize, cursor: *mut Prefixes, out: *mut Prefix) -> u32;
     fn ristulva_count_prefixes(octets: *const u8, len: usize, cursor: *const Prefixes, count: *mut usize) -> u32;
+    fn ristulva_begin_routes(context: *const Context, octets: *const u8, len: usize, cursor: *mut RouteCursor) -> u32;
+    fn ristulva_next_route(octets: *const u8, len: usize, cursor: *mut RouteCursor, out: *mut Route) -> u32;
     fn ristulva_next_segment(octets: *const u8, len: usize, cursor: *mut Segments, out: *mut Segment) -> u32;
     fn ristulva_next_number(octets: *const u8, len: usize, cursor: *mut Numbers, out: *mut u32) -> u32;
     fn ristulva_next_large_community(octets: *const u8, len: usize, cursor: *mut LargeCommunities, out: *mut LargeCommunity) -> u32;
@@ -309,6 +94,7 @@ extern "C" {
     fn ristulva_unreached(octets: *const u8, len: usize, value: *const Span, cursor: *mut Prefixes) -> u32;
     fn ristulva_open(octets: *const u8, len: usize, out: *mut OpenFields) -> u32;
     fn ristulva_next_capability(octets: *const u8, len: usize, cursor: *mut Capabilities, out: *mut Capability) -> u32;
+    fn ristulva_agree(ours: *const u8, ours_len: usize, theirs: *const u8, theirs_len: usize, context: *mut Context, hold: *mut u16) -> u32;
     fn ristulva_decoder_new(context: *const Context, decoder: *mut Handle) -> u32;
     fn ristulva_decoder_free(decoder: *mut Handle) -> u32;
     fn ristulva_decoder_pull(decoder: *mut Handle, octets: *const u8, len: usize, message: *mut u8, message_room: usize, data: *mut u8, room: usize, taken: *mut usize, out: *mut Verdict) -> u32;
@@ -361,6 +147,34 @@ pub fn notes(context: &Context, octets: &[u8]) -> Vec<Note> {
             return notes;
         }
     }
+}
+
+/// The fields of the first message: none of octets that are incomplete.
+pub fn fields(context: &Context, octets: &[u8]) -> Vec<Field> {
+    // A message has no more than octets.
+    let (mut fields, mut written) = (vec![Field::default(); octets.len().min(crate::MESSAGE)], 0);
+    let (at, len) = (octets.as_ptr(), octets.len());
+    let (into, room) = (fields.as_mut_ptr(), fields.len());
+    // SAFETY: see above.
+    unsafe { ristulva_fields(context, at, len, into, room, &mut written) };
+    fields.truncate(written);
+    fields
+}
+
+/// The octets for which the first message is a reset: none where it isn't.
+pub fn fault(context: &Context, octets: &[u8]) -> Span {
+    let mut out = Span::default();
+    // SAFETY: see above.
+    unsafe { ristulva_fault(context, octets.as_ptr(), octets.len(), &mut out) };
+    out
+}
+
+/// How many octets the name of a kind of field has, which stands at the beginning of `name`.
+pub fn field_name(kind: u32, name: &mut [u8; FIELD_NAME]) -> usize {
+    let mut written = 0;
+    // SAFETY: see above.
+    unsafe { ristulva_field_name(kind, name.as_mut_ptr().cast(), FIELD_NAME, &mut written) };
+    written
 }
 
 /// The status, and how many octets the lines have where that is OK or ROOM.
@@ -522,6 +336,63 @@ pub fn next_capability(octets: &[u8], cursor: &mut Capabilities) -> Option<Capab
     let status =
         unsafe { ristulva_next_capability(octets.as_ptr(), octets.len(), cursor, &mut out) };
     (status == OK).then_some(out)
+}
+
+pub fn facts(context: &Context, octets: &[u8]) -> Option<Facts> {
+    let mut out = Facts::default();
+    // SAFETY: see above.
+    let status = unsafe { ristulva_facts(context, octets.as_ptr(), octets.len(), &mut out) };
+    (status == OK).then_some(out)
+}
+
+pub fn routes(context: &Context, octets: &[u8]) -> RouteCursor {
+    let mut cursor = RouteCursor::default();
+    // SAFETY: see above. Of an incomplete message it stays one without routes.
+    unsafe { ristulva_begin_routes(context, octets.as_ptr(), octets.len(), &mut cursor) };
+    cursor
+}
+
+pub fn next_route(octets: &[u8], cursor: &mut RouteCursor) -> Option<Route> {
+    let mut out = Route::default();
+    // SAFETY: see above.
+    let status = unsafe { ristulva_next_route(octets.as_ptr(), octets.len(), cursor, &mut out) };
+    (status == OK).then_some(out)
+}
+
+pub fn agree(ours: &[u8], theirs: &[u8]) -> Option<(Context, u16)> {
+    let (mut context, mut hold) = (Context::default(), 0);
+    let (one, other) = (ours.as_ptr(), theirs.as_ptr());
+    // SAFETY: see above.
+    let status = unsafe {
+        ristulva_agree(
+            one,
+            ours.len(),
+            other,
+            theirs.len(),
+            &mut context,
+            &mut hold,
+        )
+    };
+    (status == OK).then_some((context, hold))
+}
+
+/// Room that is enough for each name.
+const NAME: usize = 64;
+
+pub fn name(kind: u8, number: u8, subcode: u8) -> String {
+    let (mut text, mut written) = ([0u8; NAME], 0);
+    // SAFETY: see above.
+    unsafe {
+        ristulva_name(
+            kind,
+            number,
+            subcode,
+            text.as_mut_ptr().cast(),
+            NAME,
+            &mut written,
+        )
+    };
+    String::from_utf8_lossy(&text[..written]).into_owned()
 }
 
 /// The room of a message: enough for each call.

@@ -1,5 +1,6 @@
-use crate::{Message, Outcome, Prefix, Update};
+use crate::{raw, Message, Prefix};
 use std::fmt;
+use std::iter::FusedIterator;
 
 /// What an UPDATE says of a prefix.
 ///
@@ -23,38 +24,43 @@ impl fmt::Display for Route {
     }
 }
 
-impl<'a> Update<'a> {
-    /// Its routes: those of Withdrawn Routes and MP_UNREACH_NLRI, which it withdraws, then those of
-    /// MP_REACH_NLRI and Network Layer Reachability Information.
-    fn routes(self, is_announced: bool) -> impl Iterator<Item = Route> + 'a {
-        let withdrawn = self.withdrawn().chain(self.unreached());
-        let announced = self.reached().chain(self.nlri());
-        let route = |is_announced| {
-            move |prefix| Route {
-                prefix,
-                is_announced,
-            }
-        };
-        withdrawn
-            .map(route(false))
-            .chain(announced.map(route(is_announced)))
+/// The routes of a message, one after another.
+#[derive(Clone, Debug)]
+pub struct Routes<'a> {
+    octets: &'a [u8],
+    cursor: raw::RouteCursor,
+}
+
+impl Routes<'_> {
+    /// Whether the UPDATE has IPv6 routes that aren't given, since its context has no `ip6`.
+    pub fn loses_ip6(&self) -> bool {
+        self.cursor.loses_ip6 != 0
     }
 }
+
+impl Iterator for Routes<'_> {
+    type Item = Route;
+
+    fn next(&mut self) -> Option<Route> {
+        let found = raw::next_route(self.octets, &mut self.cursor)?;
+        Some(Route {
+            prefix: Prefix::of(found.prefix),
+            is_announced: found.announced != 0,
+        })
+    }
+}
+
+impl FusedIterator for Routes<'_> {}
 
 impl<'a> Message<'a> {
     /// Its routes as RFC 7606 has them: those that it withdraws, then those that it announces. An
     /// UPDATE that is treated as a withdrawal announces none, and withdraws all (section 2). Of
     /// other messages there are none.
     ///
-    /// Routes of a family that isn't in use aren't among them: [`Update::has_ip6_unused`].
-    pub fn routes(&self) -> impl Iterator<Item = Route> + 'a {
-        let update = match *self.outcome() {
-            Outcome::Update(update) => Some((update, true)),
-            Outcome::Withdraw(update) => Some((update, false)),
-            _ => None,
-        };
-        update
-            .into_iter()
-            .flat_map(|(update, is_announced)| update.routes(is_announced))
+    /// Routes of a family that isn't in use aren't among them: [`Routes::loses_ip6`].
+    pub fn routes(&self) -> Routes<'a> {
+        let (context, octets) = self.judged();
+        let cursor = raw::routes(&context.said(), octets);
+        Routes { octets, cursor }
     }
 }

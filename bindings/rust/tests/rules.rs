@@ -2,7 +2,7 @@
 
 use ristulva::{
     encode, front, judge, messages, narrow, reconcile, Cleaned, Context, End, Error, Front,
-    HandedOn, Kind, NextHop, Note, Outcome, SegmentKind, Update, Why,
+    HandedOn, Kind, NextHop, Note, Outcome, SegmentKind, Shown, Update, Why,
 };
 
 const PLAIN: Context = Context {
@@ -650,4 +650,19 @@ fn cleaned_streams_end() {
     assert_eq!(cleaned(&short, &[]), end(1, 2));
     let (code, subcode) = (1, 2);
     assert_eq!(End::Reset { code, subcode }.to_string(), "reset 1/2");
+}
+
+/// RFC 5952: hexadecimal groups alone, also where an IPv6 address holds an IPv4 one.
+#[test]
+fn addresses_as_they_are_shown() {
+    for (address, wanted) in [
+        ("192.0.2.1", "192.0.2.1"),
+        ("2001:db8::1", "2001:db8::1"),
+        ("::ffff:192.0.2.1", "::ffff:c000:201"),
+        ("::ffff:0.0.1.2", "::ffff:0:102"),
+        ("::c000:201", "::c000:201"),
+    ] {
+        let address = address.parse().expect("an address");
+        assert_eq!(Shown(address).to_string(), wanted);
+    }
 }

@@ -8,7 +8,7 @@
  * are handed the same handle. Decoders and sessions alone (below) are memory of the library's, behind a handle of the caller's.
  *
  * Of every call:
- *  - Pointers aren't null, also where the length beside them is 0.
+ *  - Pointers aren't null, but where the length beside one is 0 (as the end of this header has it).
  *  - What a call writes (`out`, `cursor`, a buffer, a length) overlaps nothing else that it is handed.
  *  - Octets are `const uint8_t *octets, size_t len`. A message has at most 4096 of them (RFC 4271, section 4.1).
  *  - It answers a status. Where that isn't RISTULVA_OK, what it says of each status holds.
@@ -46,7 +46,7 @@ typedef uint32_t ristulva_status;
 #define RISTULVA_INCOMPLETE 4u /* the octets are an incomplete message: nothing has changed */
 #define RISTULVA_ROOM 5u       /* a buffer has less room than is needed */
 #define RISTULVA_END 6u        /* nothing is left: nothing has changed */
-#define RISTULVA_REFUSED 7u    /* no UPDATE that is accepted whole, or no OPEN that is accepted: nothing has changed */
+#define RISTULVA_REFUSED 7u    /* no UPDATE that is accepted (whole, where it is to be written), or no OPEN that is: nothing has changed */
 #define RISTULVA_UNWRITABLE 8u /* an UPDATE that can't be written: nothing has changed */
 #define RISTULVA_STATE 9u      /* the session isn't in a state for this, or the decoder has stopped: nothing has changed */
 #define RISTULVA_CONFIG 10u    /* the configuration isn't one that is allowed: nothing has changed */
@@ -60,6 +60,127 @@ typedef struct {
     uint32_t at;
     uint32_t len;
 } ristulva_span;
+
+/* ---- numbers and their names (the registries of IANA) ---- */
+
+/* Types of path attributes. */
+#define RISTULVA_ATTRIBUTE_ORIGIN 1u
+#define RISTULVA_ATTRIBUTE_AS_PATH 2u
+#define RISTULVA_ATTRIBUTE_NEXT_HOP 3u
+#define RISTULVA_ATTRIBUTE_MULTI_EXIT_DISC 4u
+#define RISTULVA_ATTRIBUTE_LOCAL_PREF 5u
+#define RISTULVA_ATTRIBUTE_ATOMIC_AGGREGATE 6u
+#define RISTULVA_ATTRIBUTE_AGGREGATOR 7u
+#define RISTULVA_ATTRIBUTE_COMMUNITIES 8u
+#define RISTULVA_ATTRIBUTE_ORIGINATOR_ID 9u
+#define RISTULVA_ATTRIBUTE_CLUSTER_LIST 10u
+#define RISTULVA_ATTRIBUTE_MP_REACH_NLRI 14u
+#define RISTULVA_ATTRIBUTE_MP_UNREACH_NLRI 15u
+#define RISTULVA_ATTRIBUTE_EXTENDED_COMMUNITIES 16u
+#define RISTULVA_ATTRIBUTE_AS4_PATH 17u
+#define RISTULVA_ATTRIBUTE_AS4_AGGREGATOR 18u
+#define RISTULVA_ATTRIBUTE_PMSI_TUNNEL 22u
+#define RISTULVA_ATTRIBUTE_TUNNEL_ENCAPSULATION 23u
+#define RISTULVA_ATTRIBUTE_IP6_EXTENDED_COMMUNITIES 25u
+#define RISTULVA_ATTRIBUTE_AIGP 26u
+#define RISTULVA_ATTRIBUTE_BGP_LS 29u
+#define RISTULVA_ATTRIBUTE_LARGE_COMMUNITY 32u
+#define RISTULVA_ATTRIBUTE_BGPSEC_PATH 33u
+#define RISTULVA_ATTRIBUTE_ONLY_TO_CUSTOMER 35u
+#define RISTULVA_ATTRIBUTE_D_PATH 36u
+#define RISTULVA_ATTRIBUTE_PREFIX_SID 40u
+#define RISTULVA_ATTRIBUTE_ATTR_SET 128u
+
+/* Codes of capabilities. */
+#define RISTULVA_CAPABILITY_MULTIPROTOCOL 1u
+#define RISTULVA_CAPABILITY_ROUTE_REFRESH 2u
+#define RISTULVA_CAPABILITY_OUTBOUND_ROUTE_FILTERING 3u
+#define RISTULVA_CAPABILITY_EXTENDED_NEXT_HOP 5u
+#define RISTULVA_CAPABILITY_EXTENDED_MESSAGE 6u
+#define RISTULVA_CAPABILITY_BGPSEC 7u
+#define RISTULVA_CAPABILITY_MULTIPLE_LABELS 8u
+#define RISTULVA_CAPABILITY_ROLE 9u
+#define RISTULVA_CAPABILITY_GRACEFUL_RESTART 64u
+#define RISTULVA_CAPABILITY_AS4 65u
+#define RISTULVA_CAPABILITY_DYNAMIC_CAPABILITY 67u
+#define RISTULVA_CAPABILITY_MULTISESSION 68u
+#define RISTULVA_CAPABILITY_ADD_PATH 69u
+#define RISTULVA_CAPABILITY_ENHANCED_ROUTE_REFRESH 70u
+#define RISTULVA_CAPABILITY_LONG_LIVED_GRACEFUL_RESTART 71u
+#define RISTULVA_CAPABILITY_ROUTING_POLICY_DISTRIBUTION 72u
+#define RISTULVA_CAPABILITY_FQDN 73u
+#define RISTULVA_CAPABILITY_SOFTWARE_VERSION 75u
+#define RISTULVA_CAPABILITY_PATHS_LIMIT 76u
+#define RISTULVA_CAPABILITY_PRESTANDARD_ROUTE_REFRESH 128u
+
+/* Codes of NOTIFICATIONs. */
+#define RISTULVA_ERROR_HEADER 1u
+#define RISTULVA_ERROR_OPEN 2u
+#define RISTULVA_ERROR_UPDATE 3u
+#define RISTULVA_ERROR_HOLD_TIMER 4u
+#define RISTULVA_ERROR_STATE_MACHINE 5u
+#define RISTULVA_ERROR_CEASE 6u
+#define RISTULVA_ERROR_ROUTE_REFRESH 7u
+#define RISTULVA_ERROR_SEND_HOLD_TIMER 8u
+
+/* Their subcodes; 0 says nothing more (RFC 4271, section 6). */
+#define RISTULVA_ERROR_HEADER_NOT_SYNCHRONIZED 1u
+#define RISTULVA_ERROR_HEADER_BAD_LENGTH 2u
+#define RISTULVA_ERROR_HEADER_BAD_TYPE 3u
+
+#define RISTULVA_ERROR_OPEN_UNSUPPORTED_VERSION 1u
+#define RISTULVA_ERROR_OPEN_BAD_PEER_AS 2u
+#define RISTULVA_ERROR_OPEN_BAD_IDENTIFIER 3u
+#define RISTULVA_ERROR_OPEN_UNSUPPORTED_PARAMETER 4u
+#define RISTULVA_ERROR_OPEN_UNACCEPTABLE_HOLD_TIME 6u
+#define RISTULVA_ERROR_OPEN_UNSUPPORTED_CAPABILITY 7u
+#define RISTULVA_ERROR_OPEN_ROLE_MISMATCH 11u
+
+#define RISTULVA_ERROR_UPDATE_MALFORMED_ATTRIBUTE_LIST 1u
+#define RISTULVA_ERROR_UPDATE_UNRECOGNIZED_WELL_KNOWN 2u
+#define RISTULVA_ERROR_UPDATE_MISSING_WELL_KNOWN 3u
+#define RISTULVA_ERROR_UPDATE_ATTRIBUTE_FLAGS 4u
+#define RISTULVA_ERROR_UPDATE_ATTRIBUTE_LENGTH 5u
+#define RISTULVA_ERROR_UPDATE_INVALID_ORIGIN 6u
+#define RISTULVA_ERROR_UPDATE_INVALID_NEXT_HOP 8u
+#define RISTULVA_ERROR_UPDATE_OPTIONAL_ATTRIBUTE 9u
+#define RISTULVA_ERROR_UPDATE_INVALID_NETWORK_FIELD 10u
+#define RISTULVA_ERROR_UPDATE_MALFORMED_AS_PATH 11u
+
+#define RISTULVA_ERROR_STATE_IN_OPEN_SENT 1u
+#define RISTULVA_ERROR_STATE_IN_OPEN_CONFIRM 2u
+#define RISTULVA_ERROR_STATE_IN_ESTABLISHED 3u
+
+#define RISTULVA_ERROR_CEASE_MAXIMUM_PREFIXES 1u
+#define RISTULVA_ERROR_CEASE_ADMINISTRATIVE_SHUTDOWN 2u
+#define RISTULVA_ERROR_CEASE_PEER_DE_CONFIGURED 3u
+#define RISTULVA_ERROR_CEASE_ADMINISTRATIVE_RESET 4u
+#define RISTULVA_ERROR_CEASE_CONNECTION_REJECTED 5u
+#define RISTULVA_ERROR_CEASE_OTHER_CONFIGURATION_CHANGE 6u
+#define RISTULVA_ERROR_CEASE_CONNECTION_COLLISION 7u
+#define RISTULVA_ERROR_CEASE_OUT_OF_RESOURCES 8u
+#define RISTULVA_ERROR_CEASE_HARD_RESET 9u
+#define RISTULVA_ERROR_CEASE_BFD_DOWN 10u
+
+#define RISTULVA_ERROR_REFRESH_INVALID_LENGTH 1u
+
+/* What ristulva_name has names of. */
+#define RISTULVA_NAME_STATUS 1u     /* what a call answers */
+#define RISTULVA_NAME_WHY 2u        /* a reason of a note, RISTULVA_WHY_FLAGS to RISTULVA_WHY_AS_ZERO, as `bgp show` prints it */
+#define RISTULVA_NAME_ATTRIBUTE 3u  /* a type of path attribute */
+#define RISTULVA_NAME_CAPABILITY 4u /* a code of a capability */
+#define RISTULVA_NAME_ERROR 5u      /* a code of a NOTIFICATION */
+#define RISTULVA_NAME_SUBCODE 6u    /* a subcode of one */
+
+/* Room that is enough for each name. */
+#define RISTULVA_NAME 64u
+
+/* Writes the name of a number of this kind to the beginning of `text`, which has room for `room` octets; it isn't terminated by NUL, and the rest
+ * of the buffer is unchanged. `subcode` counts for RISTULVA_NAME_SUBCODE alone, where `number` is the code. `written` is how many octets the name
+ * has: 0 where the number has none here. It allocates nothing.
+ *
+ * RISTULVA_RANGE: `kind` is none of those above; nothing is written. RISTULVA_ROOM: `written` is, and says how much room is needed. */
+ristulva_status ristulva_name(uint8_t kind, uint8_t number, uint8_t subcode, char *text, size_t room, size_t *written);
 
 /* ---- the first message of a stream (RFC 4271, sections 4.1 and 6.1) ---- */
 
@@ -172,6 +293,153 @@ typedef struct {
  * RISTULVA_INCOMPLETE: nothing is written. RISTULVA_ROOM: `count` is written, and the first `room` notes. */
 ristulva_status ristulva_notes(const ristulva_context *context, const uint8_t *octets, size_t len, ristulva_note_found *notes, size_t room,
                                size_t *count);
+
+/* ---- the fields of a message ---- */
+
+/* What a field is. A prefix's kind says its family and where it stands. */
+#define RISTULVA_FIELD_MARKER 1u             /* the Marker: sixteen octets (RFC 4271, section 4.1) */
+#define RISTULVA_FIELD_MESSAGE_LENGTH 2u     /* the Length of the message: two octets */
+#define RISTULVA_FIELD_MESSAGE_TYPE 3u       /* the Type of the message: one octet */
+#define RISTULVA_FIELD_VERSION 4u            /* an OPEN's Version: one octet (RFC 4271, section 4.2) */
+#define RISTULVA_FIELD_MY_AS 5u              /* an OPEN's My Autonomous System: two octets */
+#define RISTULVA_FIELD_HOLD_TIME 6u          /* an OPEN's Hold Time in seconds: two octets */
+#define RISTULVA_FIELD_IDENTIFIER 7u         /* an OPEN's BGP Identifier: four octets */
+#define RISTULVA_FIELD_PARAMETERS_LENGTH 8u  /* an OPEN's Opt Parm Len: one octet */
+#define RISTULVA_FIELD_PARAMETER_TYPE 9u     /* the type of an optional parameter: one octet */
+#define RISTULVA_FIELD_PARAMETER_LENGTH 10u  /* the length of an optional parameter: one octet */
+#define RISTULVA_FIELD_CAPABILITY_CODE 11u   /* the code of a capability: one octet (RFC 5492, section 4) */
+#define RISTULVA_FIELD_CAPABILITY_LENGTH 12u /* the length of a capability: one octet */
+#define RISTULVA_FIELD_CAPABILITY_VALUE 13u  /* the value of a capability that isn't recognised */
+#define RISTULVA_FIELD_AFI 14u               /* an Address Family Identifier: two octets (RFC 4760, sections 3, 4 and 8) */
+#define RISTULVA_FIELD_SAFI 15u              /* a Subsequent Address Family Identifier: one octet */
+#define RISTULVA_FIELD_RESERVED 16u          /* a reserved octet, of a capability or of MP_REACH_NLRI */
+#define RISTULVA_FIELD_AS_NUMBER 17u         /* an AS number, of a capability, a path or an aggregator: two octets or four (RFC 6793) */
+#define RISTULVA_FIELD_WITHDRAWN_LENGTH 18u  /* an UPDATE's Withdrawn Routes Length: two octets (RFC 4271, section 4.3) */
+#define RISTULVA_FIELD_ATTRIBUTES_LENGTH 19u /* an UPDATE's Total Path Attribute Length: two octets */
+#define RISTULVA_FIELD_ATTRIBUTE_FLAGS 20u   /* the flags of a path attribute: one octet */
+#define RISTULVA_FIELD_ATTRIBUTE_TYPE 21u    /* the type of a path attribute: one octet */
+#define RISTULVA_FIELD_ATTRIBUTE_LENGTH 22u  /* the length of a path attribute: one octet, or two where the Extended Length bit is set */
+#define RISTULVA_FIELD_ORIGIN 23u            /* the value of ORIGIN: one octet */
+#define RISTULVA_FIELD_SEGMENT_TYPE 24u      /* the type of a path's segment: one octet */
+#define RISTULVA_FIELD_SEGMENT_COUNT 25u     /* how many AS numbers a path's segment has: one octet */
+#define RISTULVA_FIELD_ADDRESS 26u           /* an IPv4 address, of NEXT_HOP or an aggregator: four octets */
+#define RISTULVA_FIELD_MED 27u               /* the value of MULTI_EXIT_DISC: four octets */
+#define RISTULVA_FIELD_LOCAL_PREF 28u        /* the value of LOCAL_PREF: four octets */
+#define RISTULVA_FIELD_COMMUNITY 29u         /* a community: four octets (RFC 1997) */
+#define RISTULVA_FIELD_LARGE_COMMUNITY 30u   /* a large community: twelve octets (RFC 8092, section 3) */
+#define RISTULVA_FIELD_NEXT_HOP_LENGTH 31u   /* the length of MP_REACH_NLRI's next hop: one octet (RFC 4760, section 3) */
+#define RISTULVA_FIELD_NEXT_HOP 32u          /* the next hop of MP_REACH_NLRI: 4 octets or 16 */
+#define RISTULVA_FIELD_LINK_LOCAL 33u        /* the link-local next hop of MP_REACH_NLRI: 16 octets (RFC 2545, section 3) */
+#define RISTULVA_FIELD_ATTRIBUTE_VALUE 34u   /* the value of an attribute that isn't recognised */
+#define RISTULVA_FIELD_WITHDRAWN_PREFIX 35u  /* an IPv4 prefix of Withdrawn Routes, with its length octet: 1 to 5 octets */
+#define RISTULVA_FIELD_UNREACH_PREFIX4 36u   /* an IPv4 prefix of MP_UNREACH_NLRI: 1 to 5 octets */
+#define RISTULVA_FIELD_UNREACH_PREFIX6 37u   /* an IPv6 prefix of MP_UNREACH_NLRI: 1 to 17 octets */
+#define RISTULVA_FIELD_REACH_PREFIX4 38u     /* an IPv4 prefix of MP_REACH_NLRI: 1 to 5 octets */
+#define RISTULVA_FIELD_REACH_PREFIX6 39u     /* an IPv6 prefix of MP_REACH_NLRI: 1 to 17 octets */
+#define RISTULVA_FIELD_NLRI_PREFIX 40u       /* an IPv4 prefix of Network Layer Reachability Information: 1 to 5 octets */
+#define RISTULVA_FIELD_ERROR_CODE 41u        /* a NOTIFICATION's error code: one octet (RFC 4271, section 4.5) */
+#define RISTULVA_FIELD_ERROR_SUBCODE 42u     /* a NOTIFICATION's error subcode: one octet */
+#define RISTULVA_FIELD_DATA 43u              /* a NOTIFICATION's data */
+#define RISTULVA_FIELD_UNREAD 44u            /* what can't be read as what ought to stand there, up to the end of what encloses it */
+
+/* A field: octets of a message that have one meaning together. Each octet stands in one of them, whatever comes. */
+typedef struct {
+    uint16_t at;    /* its offset in the message */
+    uint16_t len;   /* how many octets it has: at least one */
+    uint16_t group; /* where the attribute, optional parameter or capability begins that it belongs to; 0 for none */
+    uint8_t kind;   /* RISTULVA_FIELD_MARKER to RISTULVA_FIELD_UNREAD */
+    uint8_t type;   /* the type or code of that; 0 for none, and for an attribute that ends before its type */
+} ristulva_field;
+
+/* The most fields of a message. */
+#define RISTULVA_FIELDS 4096u
+
+/* Lists all fields of the first message of the octets, in their order: joined they are the message. Of a header with a fault they are its 19 octets. They
+ * stand at the beginning of `fields`, a list with room for `room` of them, whose rest is unchanged; `written` is how many they are. As much room as the
+ * message has octets is always enough. Where the message is accepted without a note no field is RISTULVA_FIELD_UNREAD.
+ *
+ * RISTULVA_INCOMPLETE; RISTULVA_ROOM, there are more than `room`: nothing is written. */
+ristulva_status ristulva_fields(const ristulva_context *context, const uint8_t *octets, size_t len, ristulva_field *fields, size_t room,
+                                size_t *written);
+
+/* Tells for which octets the first message is RISTULVA_RESET: an octet of the Marker, or a field of the header; an OPEN's field, parameter or capability;
+ * an UPDATE's attribute, the first bad prefix of a field, or the length that leaves no room. Of octets that aren't RISTULVA_RESET, `out->len` is 0.
+ *
+ * RISTULVA_INCOMPLETE: nothing is written. */
+ristulva_status ristulva_fault(const ristulva_context *context, const uint8_t *octets, size_t len, ristulva_span *out);
+
+/* Tells which octets of the first message a note on it is about, that ristulva_notes gives: the attribute, which where it is cut off goes on to the end of
+ * the attributes. Of one that is missing, `out->len` is 0.
+ *
+ * RISTULVA_INCOMPLETE: nothing is written. */
+ristulva_status ristulva_note_span(const uint8_t *octets, size_t len, const ristulva_note_found *note, ristulva_span *out);
+
+/* Writes the name of a kind of field, as `bgp explain` prints it, to the beginning of `name`, which has room for `room` octets: at most RISTULVA_FIELD_NAME.
+ * It isn't terminated by NUL; the rest of the buffer is unchanged. `written` is how many octets it has.
+ *
+ * RISTULVA_RANGE, `kind` is none of the numbers above: nothing is written. RISTULVA_ROOM: `written` is, and says how much room is needed. */
+ristulva_status ristulva_field_name(uint32_t kind, char *name, size_t room, size_t *written);
+
+/* The most octets of such a name. */
+#define RISTULVA_FIELD_NAME 38u
+
+/* ---- the facts of an UPDATE (RFC 4271, section 5) ----
+ *
+ * What everybody asks of an UPDATE, of the attributes that are kept alone: neither what is discarded nor what stands in an UPDATE that is treated as
+ * a withdrawal. Each flag (`has_` ..) is 1 where it is so, else 0; what it says isn't there is 0.
+ */
+
+/* The values of ORIGIN. */
+#define RISTULVA_ORIGIN_IGP 0u
+#define RISTULVA_ORIGIN_EGP 1u
+#define RISTULVA_ORIGIN_INCOMPLETE 2u
+
+typedef struct {
+    uint8_t next_hop[4];     /* NEXT_HOP, an IPv4 address */
+    uint8_t mp_next_hop[16]; /* the next hop of MP_REACH_NLRI: an IPv4 address with zeros behind it, or a global IPv6 address */
+    uint8_t link_local[16];  /* the link-local address behind that one (RFC 2545, section 3) */
+    uint16_t mp_afi;         /* the family of MP_REACH_NLRI: 1 for IPv4, 2 for IPv6; 0 where there is no MP_REACH_NLRI */
+    uint8_t has_next_hop;
+    uint8_t has_link_local;
+} ristulva_next_hops;
+
+typedef struct {
+    /* Where values lie in the octets, for the cursors below: of no octets, at 0, where the attribute isn't kept. */
+    ristulva_span as_path;           /* AS_PATH: ristulva_next_segment, `wide` as the context's `as4` */
+    ristulva_span as4_path;          /* AS4_PATH: ristulva_next_segment, `wide` and `confederations` 1 */
+    ristulva_span communities;       /* COMMUNITIES: ristulva_next_number, of four octets */
+    ristulva_span large_communities; /* LARGE_COMMUNITY: ristulva_next_large_community */
+    /* The AS that the route came from: the last number of the path that AS_PATH and AS4_PATH give together, as ristulva_reconcile writes it
+     * (RFC 6793, section 4.2.3). 0, and no flag, where that path is empty or ends in a set (RFC 6811, section 2). */
+    uint32_t origin_as;
+    uint8_t has_as_path;
+    uint8_t has_as4_path;
+    uint8_t has_communities;
+    uint8_t has_large_communities;
+    uint8_t has_origin_as;
+} ristulva_update_paths;
+
+typedef struct {
+    ristulva_next_hops hops;
+    ristulva_update_paths paths;
+    uint32_t med;                  /* MULTI_EXIT_DISC */
+    uint32_t local_pref;           /* LOCAL_PREF */
+    uint32_t aggregator_as;        /* the aggregator that AGGREGATOR and AS4_AGGREGATOR give together (RFC 6793, section 4.2.3) */
+    uint8_t aggregator_address[4];
+    uint32_t unrecognised;         /* how many attributes of types that aren't recognised */
+    uint8_t origin;                /* ORIGIN: RISTULVA_ORIGIN_IGP to RISTULVA_ORIGIN_INCOMPLETE */
+    uint8_t has_origin;
+    uint8_t has_med;
+    uint8_t has_local_pref;
+    uint8_t has_aggregator;
+    uint8_t atomic_aggregate;      /* whether there is an ATOMIC_AGGREGATE */
+} ristulva_update_facts;
+
+/* Tells the facts of the first message of the octets, an UPDATE, in the context of its session; octets behind it are ignored. It allocates nothing.
+ *
+ * RISTULVA_OK exactly where ristulva_judge tells RISTULVA_UPDATE. RISTULVA_INCOMPLETE; RISTULVA_REFUSED, a header with a fault, another message, or
+ * an UPDATE that isn't accepted: nothing is written. */
+ristulva_status ristulva_facts(const ristulva_context *context, const uint8_t *octets, size_t len, ristulva_update_facts *out);
 
 /* ---- text ---- */
 
@@ -306,6 +574,30 @@ ristulva_status ristulva_reached(const uint8_t *octets, size_t len, const ristul
 /* The same for MP_UNREACH_NLRI (type 15; RFC 4760, section 4), which has no next hop. */
 ristulva_status ristulva_unreached(const uint8_t *octets, size_t len, const ristulva_span *value, ristulva_prefixes *cursor);
 
+/* The routes of an UPDATE that are still to come: four cursors, each with its family. */
+typedef struct {
+    ristulva_prefixes withdrawn; /* Withdrawn Routes */
+    ristulva_prefixes unreached; /* MP_UNREACH_NLRI */
+    ristulva_prefixes reached;   /* MP_REACH_NLRI */
+    ristulva_prefixes nlri;      /* Network Layer Reachability Information */
+    uint8_t announces;           /* 1 where those of the last two are announced; 0 where they are withdrawn too */
+    uint8_t loses_ip6;           /* 1 where the UPDATE has IPv6 routes that aren't given, since the context has no `ip6`; else 0 */
+} ristulva_route_cursor;
+
+typedef struct {
+    uint8_t announced; /* 1 where it is announced, 0 where it is withdrawn */
+    ristulva_prefix prefix;
+} ristulva_route;
+
+/* Begins a cursor at the first route of the first message of the octets, as RFC 7606 has them: those that an UPDATE withdraws, then those that it
+ * announces; of one that is treated as a withdrawal all are withdrawn (section 2). Of other messages, and of a header with a fault, there are none.
+ * The message is judged once. RISTULVA_INCOMPLETE: nothing is written. */
+ristulva_status ristulva_begin_routes(const ristulva_context *context, const uint8_t *octets, size_t len, ristulva_route_cursor *cursor);
+
+/* Gives the routes one after another. RISTULVA_END: none is left. RISTULVA_RANGE: one of the four cursors isn't one of these octets, as
+ * ristulva_next_prefix has it. */
+ristulva_status ristulva_next_route(const uint8_t *octets, size_t len, ristulva_route_cursor *cursor, ristulva_route *out);
+
 typedef struct {
     uint32_t at;
     uint32_t end;
@@ -388,6 +680,14 @@ typedef struct {
 /* Gives capabilities one after another, however they are grouped into parameters. The code and the length of each stand in the two octets
  * in front of its value. RISTULVA_END: none is left. RISTULVA_RANGE: `at` is above `stop`, `stop` above `end`, or `end` above `len`. */
 ristulva_status ristulva_next_capability(const uint8_t *octets, size_t len, ristulva_capabilities *cursor, ristulva_capability *out);
+
+/* Tells what two speakers agree on, of whose OPENs the octets are; octets behind the OPENs are ignored. That is the context of their session, and
+ * its Hold Time in seconds, 0 for none, as each speaker finds them from its own OPEN and the other's, and as `bgp show --opens` does. Neither OPEN is
+ * refused for what it says. It allocates nothing. Each field of the context is 0 or 1.
+ *
+ * RISTULVA_INCOMPLETE, RISTULVA_REFUSED: as ristulva_open answers of the first of the two that isn't accepted. Nothing is written. */
+ristulva_status ristulva_agree(const uint8_t *ours, size_t ours_len, const uint8_t *theirs, size_t theirs_len, ristulva_context *context,
+                               uint16_t *hold);
 
 /* ---- a stream in pieces (RFC 4271, section 4.1) ----
  *
@@ -600,6 +900,260 @@ ristulva_status ristulva_session_open(ristulva_session *session, uint8_t *messag
  * where it is accepted whole. */
 ristulva_status ristulva_session_send(ristulva_session *session, const uint8_t *body, size_t len, ristulva_actions *actions, uint8_t *message,
                                       size_t room, size_t *written);
+
+/* ---- a null pointer beside a length 0 ----
+ *
+ * Each call that is handed a pointer with a length is inline here too, under its own name: where the length is 0, it hands on another pointer in
+ * place of the caller's, which can be null. So it is with GCC and Clang; a call by a pointer to a function goes past it.
+ */
+#ifdef __GNUC__
+
+#define ristulva_inline_ extern __inline__ __attribute__((__always_inline__, __gnu_inline__))
+#define ristulva_given_(octets, len) ((len) != 0 ? (octets) : (const uint8_t *)"")
+#define ristulva_place_(type, at, room) ((room) != 0 ? (at) : (type *)(void *)&nothing)
+
+extern __typeof__(ristulva_name) ristulva_linked_name __asm__("ristulva_name");
+ristulva_inline_ ristulva_status ristulva_name(uint8_t kind, uint8_t number, uint8_t subcode, char *text, size_t room, size_t *written)
+{
+    uint64_t nothing = 0;
+    return ristulva_linked_name(kind, number, subcode, ristulva_place_(char, text, room), room, written);
+}
+
+extern __typeof__(ristulva_front) ristulva_linked_front __asm__("ristulva_front");
+ristulva_inline_ ristulva_status ristulva_front(const uint8_t *octets, size_t len, ristulva_found *out)
+{
+    return ristulva_linked_front(ristulva_given_(octets, len), len, out);
+}
+
+extern __typeof__(ristulva_judge) ristulva_linked_judge __asm__("ristulva_judge");
+ristulva_inline_ ristulva_status ristulva_judge(const ristulva_context *context, const uint8_t *octets, size_t len, uint8_t *data, size_t room,
+                                                ristulva_verdict *out)
+{
+    uint64_t nothing = 0;
+    return ristulva_linked_judge(context, ristulva_given_(octets, len), len, ristulva_place_(uint8_t, data, room), room, out);
+}
+
+extern __typeof__(ristulva_notes) ristulva_linked_notes __asm__("ristulva_notes");
+ristulva_inline_ ristulva_status ristulva_notes(const ristulva_context *context, const uint8_t *octets, size_t len, ristulva_note_found *notes,
+                                                size_t room, size_t *count)
+{
+    uint64_t nothing = 0;
+    return ristulva_linked_notes(context, ristulva_given_(octets, len), len, ristulva_place_(ristulva_note_found, notes, room), room, count);
+}
+
+extern __typeof__(ristulva_fields) ristulva_linked_fields __asm__("ristulva_fields");
+ristulva_inline_ ristulva_status ristulva_fields(const ristulva_context *context, const uint8_t *octets, size_t len, ristulva_field *fields,
+                                                 size_t room, size_t *written)
+{
+    uint64_t nothing = 0;
+    return ristulva_linked_fields(context, ristulva_given_(octets, len), len, ristulva_place_(ristulva_field, fields, room), room, written);
+}
+
+extern __typeof__(ristulva_fault) ristulva_linked_fault __asm__("ristulva_fault");
+ristulva_inline_ ristulva_status ristulva_fault(const ristulva_context *context, const uint8_t *octets, size_t len, ristulva_span *out)
+{
+    return ristulva_linked_fault(context, ristulva_given_(octets, len), len, out);
+}
+
+extern __typeof__(ristulva_note_span) ristulva_linked_note_span __asm__("ristulva_note_span");
+ristulva_inline_ ristulva_status ristulva_note_span(const uint8_t *octets, size_t len, const ristulva_note_found *note, ristulva_span *out)
+{
+    return ristulva_linked_note_span(ristulva_given_(octets, len), len, note, out);
+}
+
+extern __typeof__(ristulva_field_name) ristulva_linked_field_name __asm__("ristulva_field_name");
+ristulva_inline_ ristulva_status ristulva_field_name(uint32_t kind, char *name, size_t room, size_t *written)
+{
+    uint64_t nothing = 0;
+    return ristulva_linked_field_name(kind, ristulva_place_(char, name, room), room, written);
+}
+
+extern __typeof__(ristulva_facts) ristulva_linked_facts __asm__("ristulva_facts");
+ristulva_inline_ ristulva_status ristulva_facts(const ristulva_context *context, const uint8_t *octets, size_t len, ristulva_update_facts *out)
+{
+    return ristulva_linked_facts(context, ristulva_given_(octets, len), len, out);
+}
+
+extern __typeof__(ristulva_text) ristulva_linked_text __asm__("ristulva_text");
+ristulva_inline_ ristulva_status ristulva_text(const ristulva_context *context, uint64_t place, const uint8_t *octets, size_t len, char *text,
+                                               size_t room, size_t *written)
+{
+    uint64_t nothing = 0;
+    return ristulva_linked_text(context, place, ristulva_given_(octets, len), len, ristulva_place_(char, text, room), room, written);
+}
+
+extern __typeof__(ristulva_encode) ristulva_linked_encode __asm__("ristulva_encode");
+ristulva_inline_ ristulva_status ristulva_encode(const ristulva_context *context, const uint8_t *body, size_t len, uint8_t *message, size_t room,
+                                                 size_t *written)
+{
+    uint64_t nothing = 0;
+    return ristulva_linked_encode(context, ristulva_given_(body, len), len, ristulva_place_(uint8_t, message, room), room, written);
+}
+
+extern __typeof__(ristulva_narrow) ristulva_linked_narrow __asm__("ristulva_narrow");
+ristulva_inline_ ristulva_status ristulva_narrow(const ristulva_context *context, const uint8_t *body, size_t len, uint8_t *message, size_t room,
+                                                 size_t *written)
+{
+    uint64_t nothing = 0;
+    return ristulva_linked_narrow(context, ristulva_given_(body, len), len, ristulva_place_(uint8_t, message, room), room, written);
+}
+
+extern __typeof__(ristulva_reconcile) ristulva_linked_reconcile __asm__("ristulva_reconcile");
+ristulva_inline_ ristulva_status ristulva_reconcile(const ristulva_context *context, const uint8_t *body, size_t len, uint8_t *message,
+                                                    size_t room, size_t *written)
+{
+    uint64_t nothing = 0;
+    return ristulva_linked_reconcile(context, ristulva_given_(body, len), len, ristulva_place_(uint8_t, message, room), room, written);
+}
+
+extern __typeof__(ristulva_clean) ristulva_linked_clean __asm__("ristulva_clean");
+ristulva_inline_ ristulva_status ristulva_clean(const ristulva_context *context, const uint8_t *types, size_t count, uint8_t first,
+                                                const uint8_t *octets, size_t len, uint8_t *message, size_t room, size_t *written,
+                                                ristulva_cleaned *out)
+{
+    uint64_t nothing = 0;
+    return ristulva_linked_clean(context, ristulva_given_(types, count), count, first, ristulva_given_(octets, len), len, ristulva_place_(uint8_t,
+                                 message, room), room, written, out);
+}
+
+extern __typeof__(ristulva_next_attribute) ristulva_linked_next_attribute __asm__("ristulva_next_attribute");
+ristulva_inline_ ristulva_status ristulva_next_attribute(const uint8_t *octets, size_t len, ristulva_attributes *cursor,
+                                                         ristulva_attribute *out)
+{
+    return ristulva_linked_next_attribute(ristulva_given_(octets, len), len, cursor, out);
+}
+
+extern __typeof__(ristulva_next_prefix) ristulva_linked_next_prefix __asm__("ristulva_next_prefix");
+ristulva_inline_ ristulva_status ristulva_next_prefix(const uint8_t *octets, size_t len, ristulva_prefixes *cursor, ristulva_prefix *out)
+{
+    return ristulva_linked_next_prefix(ristulva_given_(octets, len), len, cursor, out);
+}
+
+extern __typeof__(ristulva_count_prefixes) ristulva_linked_count_prefixes __asm__("ristulva_count_prefixes");
+ristulva_inline_ ristulva_status ristulva_count_prefixes(const uint8_t *octets, size_t len, const ristulva_prefixes *cursor, size_t *count)
+{
+    return ristulva_linked_count_prefixes(ristulva_given_(octets, len), len, cursor, count);
+}
+
+extern __typeof__(ristulva_reached) ristulva_linked_reached __asm__("ristulva_reached");
+ristulva_inline_ ristulva_status ristulva_reached(const uint8_t *octets, size_t len, const ristulva_span *value, ristulva_span *next_hop,
+                                                  ristulva_prefixes *cursor)
+{
+    return ristulva_linked_reached(ristulva_given_(octets, len), len, value, next_hop, cursor);
+}
+
+extern __typeof__(ristulva_unreached) ristulva_linked_unreached __asm__("ristulva_unreached");
+ristulva_inline_ ristulva_status ristulva_unreached(const uint8_t *octets, size_t len, const ristulva_span *value, ristulva_prefixes *cursor)
+{
+    return ristulva_linked_unreached(ristulva_given_(octets, len), len, value, cursor);
+}
+
+extern __typeof__(ristulva_begin_routes) ristulva_linked_begin_routes __asm__("ristulva_begin_routes");
+ristulva_inline_ ristulva_status ristulva_begin_routes(const ristulva_context *context, const uint8_t *octets, size_t len,
+                                                       ristulva_route_cursor *cursor)
+{
+    return ristulva_linked_begin_routes(context, ristulva_given_(octets, len), len, cursor);
+}
+
+extern __typeof__(ristulva_next_route) ristulva_linked_next_route __asm__("ristulva_next_route");
+ristulva_inline_ ristulva_status ristulva_next_route(const uint8_t *octets, size_t len, ristulva_route_cursor *cursor, ristulva_route *out)
+{
+    return ristulva_linked_next_route(ristulva_given_(octets, len), len, cursor, out);
+}
+
+extern __typeof__(ristulva_next_segment) ristulva_linked_next_segment __asm__("ristulva_next_segment");
+ristulva_inline_ ristulva_status ristulva_next_segment(const uint8_t *octets, size_t len, ristulva_segments *cursor, ristulva_segment *out)
+{
+    return ristulva_linked_next_segment(ristulva_given_(octets, len), len, cursor, out);
+}
+
+extern __typeof__(ristulva_next_number) ristulva_linked_next_number __asm__("ristulva_next_number");
+ristulva_inline_ ristulva_status ristulva_next_number(const uint8_t *octets, size_t len, ristulva_numbers *cursor, uint32_t *out)
+{
+    return ristulva_linked_next_number(ristulva_given_(octets, len), len, cursor, out);
+}
+
+extern __typeof__(ristulva_next_large_community) ristulva_linked_next_large_community __asm__("ristulva_next_large_community");
+ristulva_inline_ ristulva_status ristulva_next_large_community(const uint8_t *octets, size_t len, ristulva_large_communities *cursor,
+                                                               ristulva_large_community *out)
+{
+    return ristulva_linked_next_large_community(ristulva_given_(octets, len), len, cursor, out);
+}
+
+extern __typeof__(ristulva_open) ristulva_linked_open __asm__("ristulva_open");
+ristulva_inline_ ristulva_status ristulva_open(const uint8_t *octets, size_t len, ristulva_open_fields *out)
+{
+    return ristulva_linked_open(ristulva_given_(octets, len), len, out);
+}
+
+extern __typeof__(ristulva_next_capability) ristulva_linked_next_capability __asm__("ristulva_next_capability");
+ristulva_inline_ ristulva_status ristulva_next_capability(const uint8_t *octets, size_t len, ristulva_capabilities *cursor,
+                                                          ristulva_capability *out)
+{
+    return ristulva_linked_next_capability(ristulva_given_(octets, len), len, cursor, out);
+}
+
+extern __typeof__(ristulva_agree) ristulva_linked_agree __asm__("ristulva_agree");
+ristulva_inline_ ristulva_status ristulva_agree(const uint8_t *ours, size_t ours_len, const uint8_t *theirs, size_t theirs_len,
+                                                ristulva_context *context, uint16_t *hold)
+{
+    return ristulva_linked_agree(ristulva_given_(ours, ours_len), ours_len, ristulva_given_(theirs, theirs_len), theirs_len, context, hold);
+}
+
+extern __typeof__(ristulva_decoder_pull) ristulva_linked_decoder_pull __asm__("ristulva_decoder_pull");
+ristulva_inline_ ristulva_status ristulva_decoder_pull(ristulva_decoder *decoder, const uint8_t *octets, size_t len, uint8_t *message,
+                                                       size_t message_room, uint8_t *data, size_t room, size_t *taken, ristulva_verdict *out)
+{
+    uint64_t nothing = 0;
+    return ristulva_linked_decoder_pull(decoder, ristulva_given_(octets, len), len, ristulva_place_(uint8_t, message, message_room), message_room,
+                                        ristulva_place_(uint8_t, data, room), room, taken, out);
+}
+
+extern __typeof__(ristulva_session_event) ristulva_linked_session_event __asm__("ristulva_session_event");
+ristulva_inline_ ristulva_status ristulva_session_event(ristulva_session *session, uint32_t event, ristulva_actions *actions, uint8_t *message,
+                                                        size_t room, size_t *written)
+{
+    uint64_t nothing = 0;
+    return ristulva_linked_session_event(session, event, actions, ristulva_place_(uint8_t, message, room), room, written);
+}
+
+extern __typeof__(ristulva_session_hear) ristulva_linked_session_hear __asm__("ristulva_session_hear");
+ristulva_inline_ ristulva_status ristulva_session_hear(ristulva_session *session, const uint8_t *octets, size_t len, ristulva_heard *heard,
+                                                       ristulva_actions *actions, uint8_t *message, size_t room, size_t *written)
+{
+    uint64_t nothing = 0;
+    return ristulva_linked_session_hear(session, ristulva_given_(octets, len), len, heard, actions, ristulva_place_(uint8_t, message, room), room,
+                                        written);
+}
+
+extern __typeof__(ristulva_session_codes) ristulva_linked_session_codes __asm__("ristulva_session_codes");
+ristulva_inline_ ristulva_status ristulva_session_codes(ristulva_session *session, uint8_t *codes, size_t room, size_t *written)
+{
+    uint64_t nothing = 0;
+    return ristulva_linked_session_codes(session, ristulva_place_(uint8_t, codes, room), room, written);
+}
+
+extern __typeof__(ristulva_session_open) ristulva_linked_session_open __asm__("ristulva_session_open");
+ristulva_inline_ ristulva_status ristulva_session_open(ristulva_session *session, uint8_t *message, size_t room, size_t *written)
+{
+    uint64_t nothing = 0;
+    return ristulva_linked_session_open(session, ristulva_place_(uint8_t, message, room), room, written);
+}
+
+extern __typeof__(ristulva_session_send) ristulva_linked_session_send __asm__("ristulva_session_send");
+ristulva_inline_ ristulva_status ristulva_session_send(ristulva_session *session, const uint8_t *body, size_t len, ristulva_actions *actions,
+                                                       uint8_t *message, size_t room, size_t *written)
+{
+    uint64_t nothing = 0;
+    return ristulva_linked_session_send(session, ristulva_given_(body, len), len, actions, ristulva_place_(uint8_t, message, room), room,
+                                        written);
+}
+
+#undef ristulva_inline_
+#undef ristulva_given_
+#undef ristulva_place_
+
+#endif
 
 #ifdef __cplusplus
 }

@@ -1,5 +1,5 @@
 -- What is left out of a message.
-use Rattle.std.proofs.Common.{◌≡◌, ◌≤◌, ◌<◌, ◌+◌, ℕ, suc, Bool, true, false, cond, ltb, List, [], ◌∷◌, ◌++◌, length, map, refl, ap, arith}
+use Rattle.std.proofs.Common.{◌≡◌, ◌≤◌, ◌<◌, ◌+◌, ℕ, Bool, true, false, cond, ltb, List, [], ◌∷◌, ◌++◌, length, map, refl, ap, ◌∙◌, arith}
 use Rattle.std.specs.List.{filter, flat_map}
 use Rattle.std.proofs.lemmas.List.{length-append, length-drop, length-map}
 use Rattle.bgp_wire.specs.Reader.{pieces}
@@ -20,6 +20,7 @@ use Rattle.bgp_attr.specs.declared.judged.Judged.TheVariants as judged
 use Rattle.bgp_attr.specs.declared.opaque.Opaque.{Opaque}
 use Rattle.bgp_update.specs.declared.note.Note.{Note}
 use Rattle.bgp_update.specs.declared.view.UpdateView.{UpdateView}
+use Rattle.bgp_update.specs.KeptView.{is_opaque}
 use Rattle.bgp_update.specs.Marks.{Mark}
 use Rattle.bgp_update.specs.Taken.{attrs_of, kept_by, kept_of, put_rising}
 use Rattle.bgp_update.specs.View.{view_marks}
@@ -93,6 +94,29 @@ kept-few (m ∷ ms) = omega (arith, one_kept m.judged, kept-few ms, length-appen
 -- few are
 pub few_left_out : (drops : ℕ → Bool) (v : UpdateView) → length (filter (is_left_out drops) (kept_of (view_marks v))) ≤ 1358
 few_left_out drops v = omega (arith, filter-few (is_left_out drops) (kept_of (view_marks v)), kept-few (view_marks v), few_view_marks v)
+
+-- ---- those that are all of unrecognised types
+
+abbrev each : ℕ → Bool
+each k = true
+
+same-by : (x : Attr) → is_opaque x ≡ is_left_out each x
+same-by (attr.Opaque o) = refl
+same-by _ = refl
+
+opaque-same : (xs : List Attr) → filter is_opaque xs ≡ filter (is_left_out each) xs
+opaque-same [] = refl
+opaque-same (x ∷ xs) = λ i. cond (same-by x i) (x ∷ opaque-same xs i) (opaque-same xs i)
+
+filter-all : (os : List Opaque) → filter (λ o. each o.kind) os ≡ os
+filter-all [] = refl
+filter-all (o ∷ os) = ap (λ (rest : List Opaque). o ∷ rest) (filter-all os)
+
+pub all_others : (kept : List Attr) → length (filter is_opaque kept) ≡ length (attrs_of kept).others
+all_others kept = ap length (opaque-same kept) ∙ kept_left_out each kept ∙ ap length (filter-all (attrs_of kept).others)
+
+pub few_others : (v : UpdateView) → length (filter is_opaque (kept_of (view_marks v))) ≤ 1358
+few_others v = omega (arith, ap length (opaque-same (kept_of (view_marks v))), few_left_out each v)
 
 -- ---- capabilities
 

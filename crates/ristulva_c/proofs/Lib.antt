@@ -22,3 +22,11 @@ pub mod RisingSteps
 pub mod Pulled
 pub mod LeftOut
 pub mod Cleanings
+pub mod FirstPlaces
+pub mod KeptPlaces
+pub mod RouteLists
+pub mod OriginAs
+pub mod FactPlaces
+pub mod FieldKindRows
+pub mod FieldSteps
+pub mod NotePlaces

@@ -39,7 +39,7 @@ module _ (v : List ℕ) (unicast : safi_of v ≡ UNICAST) where
   unreach (inr is) = unreach6 is
 
 -- the octets of a span behind its first n
-behind_in : (octets : List ℕ) (span : Span) (n : ℕ) → n ≤ span.len → between octets (span.at + n) (span.at + span.len) ≡ drop n (octets_in span octets)
+pub behind_in : (octets : List ℕ) (span : Span) (n : ℕ) → n ≤ span.len → between octets (span.at + n) (span.at + span.len) ≡ drop n (octets_in span octets)
 behind_in octets span n le =
     sym (
     ap (λ (k : ℕ). drop n (take k (drop span.at octets))) (let e : span.len ≡ (span.at + span.len) - span.at = omega arith in e)

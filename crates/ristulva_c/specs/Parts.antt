@@ -7,6 +7,10 @@ use Rattle.ristulva_c.specs.Span.{octets_in, no_span}
 abbrev pub lengths_of : update.Parts → ℕ × ℕ × ℕ
 lengths_of p = (length p.withdrawn, length p.attributes, length p.nlri)
 
+-- how long Withdrawn Routes are, the path attributes, and how long the NLRI field is
+abbrev pub fields_of : update.Parts → ℕ × List ℕ × ℕ
+fields_of p = (length p.withdrawn, p.attributes, length p.nlri)
+
 -- the offsets of the parts: behind the header of 19 octets, each but the last behind its length of two octets
 abbrev pub parts_told : Option update.Parts → Parts
 parts_told None = record { withdrawn = no_span; attributes = no_span; nlri = no_span }

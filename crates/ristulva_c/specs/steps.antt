@@ -1,2 +1,5 @@
 -- What only private functions cite: steps of proofs, which nobody has to believe.
 pub mod LeftOut
+pub mod RouteList
+pub mod OriginAs
+pub mod Agree

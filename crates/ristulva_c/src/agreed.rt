@@ -8,7 +8,7 @@ ghost use Rattle.ristulva_c.specs.Agreed.{context_said, peer_said, IsContextTold
 use crate::context::SessionContext;
 use crate::handle::SessionHandle;
 use crate::status::{NO_SESSION, OK, STATE};
-use crate::text::write;
+use crate::written::write;
 use arrayvec::ArrayVec;
 use bgp_machine::Session;
 use bgp_open::{Context, Peer};
@@ -34,7 +34,7 @@ pub struct ToldPeer {
 }
 
 /// A context as C says it.
-fn context_said(context: &Context) -> SessionContext
+pub(crate) fn context_said(context: &Context) -> SessionContext
     ensures { result ≡ context_said context.now }
 {
     SessionContext {

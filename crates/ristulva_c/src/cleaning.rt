@@ -20,7 +20,7 @@ use crate::judge::{RESET, are_octets, number_of};
 use crate::left_out::{caps_left_out, others_left_out};
 use crate::notes::list_view;
 use crate::status::INCOMPLETE;
-use crate::text::write;
+use crate::written::write;
 use bgp_clean::{CleanFault, Cleaned, clean};
 use bgp_frame::{Frame, HeadFault, Step, front};
 use bgp_msg::{OutcomeView, view_frame};

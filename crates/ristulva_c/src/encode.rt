@@ -12,7 +12,7 @@ ghost use Rattle.ristulva_c.specs.Encode.{taken_of, without_notes, written_of, e
 use crate::context::{SessionContext, context_of};
 use crate::judge::are_octets;
 use crate::status::{MEMORY, RANGE, REFUSED, UNWRITABLE};
-use crate::text::write;
+use crate::written::write;
 use bgp_msg::encode_update;
 use bgp_open::Context;
 use bgp_update::{Found, Update, UpdateView, WriteFault, narrow_in_place};

@@ -34,7 +34,7 @@ pub struct OpenFields {
 }
 
 /// 1 for yes, 0 for no.
-fn flag_of(is: bool) -> u8
+pub(crate) fn flag_of(is: bool) -> u8
     ensures { result ≡ flag_of is }
 {
     if is { 1 } else { 0 }

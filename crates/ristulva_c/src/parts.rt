@@ -2,7 +2,7 @@
 
 ghost use Rattle.std.specs.Prelude.{◌≡◌, ◌+◌, ◌≤◌, None, length, option_map, IfSome};
 ghost use Rattle.bgp_update.specs.Parts.{behind_two, parts_of};
-ghost use Rattle.ristulva_c.specs.Parts.{parts_told, lengths_of};
+ghost use Rattle.ristulva_c.specs.Parts.{parts_told, lengths_of, fields_of};
 
 use crate::span::Span;
 
@@ -39,6 +39,17 @@ fn split_behind(octets: &[u8]) -> Option<(&[u8], &[u8])>
     let (low, rest) = rest.split_first()?;
     let len = usize::from(u16::from_be_bytes([*high, *low]));
     rest.split_at_checked(len)
+}
+
+/// The path attributes of a body, and how long Withdrawn Routes and the NLRI field are.
+#[tactic(auto, unfolding(bgp_update::specs::Parts::parts_of))]
+pub(crate) fn fields_of(body: &[u8]) -> Option<(usize, &[u8], usize)>
+    ensures value { option_map (λ x. (x.0, x.1.now, x.2)) result ≡ option_map fields_of (parts_of body.now) }
+    ensures long { IfSome result (λ x. 4 + x.0 + length x.1.now + x.2 ≡ length body.now) }
+{
+    let (withdrawn, rest) = split_behind(body)?;
+    let (attributes, nlri) = split_behind(rest)?;
+    Some((withdrawn.len(), attributes, nlri.len()))
 }
 
 /// How long the three parts of a body are, where its lengths leave room for each other.

@@ -1,6 +1,6 @@
 //! Prefixes one after another.
 
-ghost use Rattle.std.specs.Prelude.{◌≡◌, ◌+◌, ◌-◌, ◌⊎◌, ◌↔◌, ◌≤◌, [], ◌∷◌, length, drop, MatchOption};
+ghost use Rattle.std.specs.Prelude.{◌≡◌, ◌+◌, ◌-◌, ◌⊎◌, ◌↔◌, ◌≤◌, true, false, [], ◌∷◌, length, drop, MatchOption};
 ghost use Rattle.bgp_prefix.specs.Bits.{octets_for};
 ghost use Rattle.bgp_prefix.specs.Run.{run_of};
 ghost use Rattle.ristulva_c.specs.Prefixes.{between, IsWithin, IsCursor, prefixes_left, prefix_told};
@@ -90,6 +90,17 @@ fn rest_of<'a>(octets: &'a [u8], cursor: &Prefixes) -> Option<&'a [u8]>
     octets.get(cursor.at as usize..cursor.end as usize)
 }
 
+/// Whether a cursor lies in octets, and is of a family that is read.
+pub(crate) fn is_cursor(octets: &[u8], cursor: &Prefixes) -> bool
+    ensures yes { result ≡ true → IsCursor octets.now cursor.now }
+    ensures no { result ≡ false → IsCursor octets.now cursor.now → ⊥ }
+{
+    match rest_of(octets, cursor) {
+        None => false,
+        Some(_) => cursor.afi == afi::IPV4 || cursor.afi == afi::IPV6,
+    }
+}
+
 /// Moves a cursor behind an IPv4 prefix, and tells the prefix.
 fn next4(rest: &[u8], cursor: &mut Prefixes, out: &mut RoutePrefix) -> u32
     requires { length rest.now + cursor.old.at ≡ cursor.old.end }
@@ -131,15 +142,11 @@ fn next6(rest: &[u8], cursor: &mut Prefixes, out: &mut RoutePrefix) -> u32
 }
 
 /// Gives the prefix that a cursor stands at, and moves the cursor behind it.
-#[unsafe(no_mangle)]
 #[tactic(auto, using(crate::proofs::Between::length_between))]
-pub extern "C" fn ristulva_next_prefix(
-    octets: &[u8],
-    cursor: &mut Prefixes,
-    out: &mut RoutePrefix,
-) -> u32
+pub(crate) fn next_prefix(octets: &[u8], cursor: &mut Prefixes, out: &mut RoutePrefix) -> u32
     ensures ok { result ≡ OK → prefixes_left octets.now cursor.old ≡ prefix_told out.new ∷ prefixes_left octets.now cursor.new }
     ensures afi { result ≡ OK → out.new.afi ≡ cursor.old.afi }
+    ensures behind { result ≡ OK → IsCursor octets.now cursor.new }
     ensures over { result ≡ END → prefixes_left octets.now cursor.old ≡ [] }
     ensures range { (result ≡ RANGE) ↔ (IsCursor octets.now cursor.old → ⊥) }
     ensures kept { (result ≡ OK) ⊎ ((cursor.new ≡ cursor.old) × (out.new ≡ out.old)) }
@@ -154,6 +161,25 @@ pub extern "C" fn ristulva_next_prefix(
             _ => RANGE,
         },
     }
+}
+
+/// Gives the prefix that a cursor stands at, and moves the cursor behind it.
+#[unsafe(no_mangle)]
+pub extern "C" fn ristulva_next_prefix(
+    octets: &[u8],
+    cursor: &mut Prefixes,
+    out: &mut RoutePrefix,
+) -> u32
+    ensures ok { result ≡ OK → prefixes_left octets.now cursor.old ≡ prefix_told out.new ∷ prefixes_left octets.now cursor.new }
+    ensures afi { result ≡ OK → out.new.afi ≡ cursor.old.afi }
+    ensures behind { result ≡ OK → IsCursor octets.now cursor.new }
+    ensures over { result ≡ END → prefixes_left octets.now cursor.old ≡ [] }
+    ensures range { (result ≡ RANGE) ↔ (IsCursor octets.now cursor.old → ⊥) }
+    ensures kept { (result ≡ OK) ⊎ ((cursor.new ≡ cursor.old) × (out.new ≡ out.old)) }
+    ensures field { cursor.new ≡ record cursor.old { at = cursor.new.at } }
+    ensures known { (result ≡ OK) ⊎ ((result ≡ END) ⊎ (result ≡ RANGE)) }
+{
+    next_prefix(octets, cursor, out)
 }
 
 /// Tells how many prefixes a cursor still gives: it stays where it is.

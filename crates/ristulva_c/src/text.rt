@@ -7,11 +7,11 @@ ghost use Rattle.bgp_frame.specs.Step.{message_in};
 ghost use Rattle.bgp_msg.specs.Outcome.{out_of, of_fault};
 ghost use Rattle.bgp_text.specs.Outcome.{outcome_lines};
 ghost use Rattle.ristulva_c.specs.Context.{context_of};
-ghost use Rattle.ristulva_c.specs.Text.{IsWritten, Prints, IsPrinted};
+ghost use Rattle.ristulva_c.specs.Text.{Prints, IsPrinted};
 
 use crate::context::{SessionContext, context_of};
-use crate::copied::copy_into;
-use crate::status::{INCOMPLETE, MEMORY, OK, ROOM};
+use crate::status::{INCOMPLETE, MEMORY};
+use crate::written::write;
 use bgp_frame::{Frame, HeadFault, Step, front};
 use bgp_msg::{OutcomeView, view_frame};
 use bgp_text::put_viewed_outcome;
@@ -45,14 +45,6 @@ fn fault_line(alloc: Global, place: u64, fault: HeadFault) -> Result<String, All
     let mut text = String::new(alloc);
     put_viewed_outcome(alloc, &mut text, place, 0, &outcome)?;
     Ok(text)
-}
-
-/// Copies a text to the front of a buffer, and tells how long it is.
-pub(crate) fn write(text: &[u8], buffer: &mut [u8], len: &mut usize) -> u32
-    ensures { IsWritten text.now (record { status = result; before = buffer.old; behind = buffer.new; len_before = len.old; len_behind = len.new }) }
-{
-    *len = text.len();
-    if copy_into(text, buffer) { OK } else { ROOM }
 }
 
 /// Writes lines, where memory was there for them.

@@ -2,7 +2,7 @@ use Rattle.std.proofs.Common.{◌≡◌, ℕ, ◌∷◌, ap, sym, subst, drop, �
 use Rattle.bgp_prefix.specs.Run.{run_of}
 use Rattle.ristulva_c.specs.Prefixes.{width_of, prefix_told}
 use Rattle.ristulva_c.proofs.Between.{left_behind}
-use Rattle.ristulva_c.proofs.prefixes.ristulva_next_prefix.Goals as goal
+use Rattle.ristulva_c.proofs.prefixes.next_prefix.Goals as goal
 
 pub returns-in-1-clause-ok : goal.returns-in-1-clause-ok
 returns-in-1-clause-ok c ok =

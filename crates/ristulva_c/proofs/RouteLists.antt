@@ -1,0 +1,466 @@
+-- The cursor over the routes of an UPDATE gives what its outcome says.
+use Rattle.std.proofs.Common.{◌≡◌, ℕ, ◌+◌, ◌-◌, ◌≤◌, ◌⊎◌, Bool, true, false, not, ◌&&◌, ◌||◌, cond, eqb, nat_lt, List, [], ◌∷◌, ◌++◌, length, map, take, drop, min, Option, Some, None, inl, inr, refl, sym, ap, ap₂, subst, ◌∙◌, arith}
+use Rattle.std.specs.List.{filter, find}
+use Rattle.std.proofs.lemmas.List.{append-nil, drop_min, length-append, length-take, map-append}
+use Rattle.std.proofs.lemmas.List.Elements.{filter-append}
+use Rattle.bgp_numbers.specs.declared.afi.TheConstants.{IPV4, IPV6}
+use Rattle.bgp_numbers.specs.declared.safi.TheConstants.{UNICAST}
+use Rattle.bgp_numbers.specs.declared.attribute.TheConstants.{MP_REACH_NLRI, MP_UNREACH_NLRI}
+use Rattle.bgp_wire.specs.Octets.{AreOctets}
+use Rattle.bgp_wire.proofs.OctetLemmas.{AreOctets-take, AreOctets-back}
+use Rattle.bgp_frame.specs.Head.{header}
+use Rattle.bgp_frame.proofs.Headers.{length-header}
+use Rattle.bgp_update.proofs.Bodies.{length-body, parts-body}
+use Rattle.bgp_frame.specs.Frame.{Message, IsFrame}
+use Rattle.bgp_frame.specs.declared.fault.HeadFault.{HeadFault}
+use Rattle.bgp_frame.specs.declared.kind.Kind.{Kind}
+use Rattle.bgp_frame.specs.declared.kind.Kind.TheVariants as kind
+use Rattle.bgp_frame.specs.declared.notification.Notification.{Notification}
+use Rattle.bgp_open.specs.declared.context.Context.{Context}
+use Rattle.bgp_open.specs.declared.fault.OpenFault.{OpenFault}
+use Rattle.bgp_open.specs.declared.message.Open.{Open}
+use Rattle.bgp_open.specs.OpenFault.{open_notification, reading_of}
+use Rattle.std.specs.Prelude.{Result, Ok, Err}
+use Rattle.bgp_prefix.specs.Prefix.{PrefixValue}
+use Rattle.bgp_prefix.specs.Run.{run_of}
+use Rattle.bgp_prefix.proofs.LawLemmas.{row_is_run}
+use Rattle.bgp_attr.specs.declared.attr.Attr.{Attr}
+use Rattle.bgp_attr.specs.declared.attr.Attr.TheVariants as attr
+use Rattle.bgp_attr.specs.declared.judged.Judged.{Judged}
+use Rattle.bgp_attr.specs.declared.judged.Judged.TheVariants as judged
+use Rattle.bgp_attr.specs.declared.mp.MpReach.{MpReach}
+use Rattle.bgp_attr.specs.declared.mp.MpReach.TheVariants as reach
+use Rattle.bgp_attr.specs.declared.mp.MpUnreach.{MpUnreach}
+use Rattle.bgp_attr.specs.declared.mp.MpUnreach.TheVariants as unreach
+use Rattle.bgp_attr.specs.Judgement.{judgement}
+use Rattle.bgp_attr.specs.Mp.{afi_of, safi_of, next_hop_length, reached_of, withdrawn_of, mp_reach_of, mp_unreach_of}
+use Rattle.bgp_attr.specs.Tlv.{PlacedTlv}
+use Rattle.bgp_update.specs.Marks.{Mark, malformed, marks_of, placed_tlvs}
+use Rattle.bgp_update.specs.Notes.{gone_ip4, gone_ip6, reached_ip4, reached_ip6, is_reachable, notes_of}
+use Rattle.bgp_update.specs.Notes as notes
+use Rattle.bgp_update.specs.Parts.{Parts, has_nlri, parts_of}
+use Rattle.bgp_update.specs.Taken.{kept_by, kept_of, attrs_of, update_of}
+use Rattle.bgp_update.specs.Verdict.{is_withdrawn, of_parts, reset_of, unless_reset, without_reset}
+use Rattle.bgp_update.specs.declared.verdict.Verdict.TheVariants as verdict
+use Rattle.bgp_update.proofs.AttrSlots.{first_in, as_mp_reach, as_mp_unreach, attrs_of-slots}
+use Rattle.bgp_update.proofs.Lists.{find-passes}
+use Rattle.bgp_update.proofs.TypeLemmas.{taken-mp_reach, taken-mp_unreach}
+use Rattle.std.proofs.lemmas.Bool.{eqb-true}
+use Rattle.bgp_msg.specs.declared.message.Message.TheVariants as message
+use Rattle.bgp_msg.specs.declared.outcome.Outcome.{Outcome}
+use Rattle.bgp_msg.specs.declared.outcome.Outcome.TheVariants as outcome
+use Rattle.bgp_msg.specs.Outcome.{of_fault, of_open_fault, of_reading, of_verdict, out_of}
+use Rattle.ristulva_c.specs.declared.prefixes.Prefixes.{Prefixes}
+use Rattle.ristulva_c.specs.declared.route_list.RouteCursor.{RouteCursor}
+use Rattle.ristulva_c.specs.declared.span.Span.{Span}
+use Rattle.ristulva_c.specs.Opens.{flag_of}
+use Rattle.ristulva_c.specs.Context.{is_set}
+use Rattle.ristulva_c.specs.Parts.{parts_told, Lie}
+use Rattle.ristulva_c.specs.Places.{first_of_type}
+use Rattle.ristulva_c.specs.Prefixes.{width_of, IsCursor, prefixes_left}
+use Rattle.ristulva_c.specs.RouteList.{RouteValue, routes_to, reached_routes, unreached_routes, routes_of, is_of, AreWithdrawn, AreRoutes, loses_ip6, has_ip6, carries_ip6, field_routes, routes_left, IsRouteCursor, Begins}
+use Rattle.ristulva_c.specs.Span.{octets_in}
+use Rattle.ristulva_c.specs.steps.RouteList.{no_prefixes, no_routes, reach_afi, unreach_afi, value_from, reach_by, unreach_by, reach_at, unreach_at, cursor_of, cursor_by}
+use Rattle.ristulva_c.proofs.FirstPlaces.{LiesAt, found_lies, in_part}
+use Rattle.ristulva_c.proofs.KeptPlaces.{slot_first, row_value, taken_of}
+use Rattle.ristulva_c.proofs.PartPlaces.{lie}
+use Rattle.ristulva_c.proofs.RouteSpans.{behind_in}
+
+is_one : (b : Bool) → is_set (flag_of b) ≡ b
+is_one true = refl
+is_one false = refl
+
+-- ---- nothing
+
+none_left : (octets : List ℕ) → prefixes_left octets no_prefixes ≡ []
+none_left octets = ap (λ (x : List PrefixValue × List ℕ). x.0) (row_is_run 4 [] [] refl)
+
+none_routes : (a : Bool) (octets : List ℕ) → field_routes a octets no_prefixes ≡ []
+none_routes a octets = ap (routes_to a IPV4) (none_left octets)
+
+none_lies : (octets : List ℕ) → IsCursor octets no_prefixes
+none_lies octets = record { within = record { in_order = omega arith; within = omega arith }; known = inl refl }
+
+nothing_left : (octets : List ℕ) (loses : Bool) → routes_left octets (no_routes loses) ≡ []
+nothing_left octets loses =
+    ap₂ ◌++◌ (none_routes false octets) (ap₂ ◌++◌ (none_routes false octets) (ap₂ ◌++◌ (none_routes false octets) (none_routes false octets)))
+
+plain : (octets : List ℕ) (o : Outcome) → AreRoutes o (routes_left octets (no_routes false)) → Begins octets o false (no_routes false)
+plain octets o routes =
+    let lies = none_lies octets in
+    record { lies = record { withdrawn = lies; unreached = lies; reached = lies; nlri = lies }; routes = routes; loses_ip6 = refl }
+
+-- ---- the cursor that is made
+
+abbrev of_kind : ℕ → List ℕ → Option PlacedTlv
+of_kind k b = find (λ q. eqb q.tlv.kind k) (placed_tlvs b)
+
+pub cursor_is : (ctx : Context) (a : Bool) (p : Parts) (w n : ℕ) (b : List ℕ) (un re : Option PlacedTlv) (gone come : Prefixes) (l : Bool) (an lo : ℕ)
+    → w ≡ length p.withdrawn → n ≡ length p.nlri → b ≡ p.attributes → un ≡ of_kind MP_UNREACH_NLRI b → re ≡ of_kind MP_REACH_NLRI b
+    → gone ≡ unreach_at ctx (nat_lt 0 n) (23 + w) un → come ≡ reach_at ctx (nat_lt 0 n) (23 + w) re → l ≡ (not ctx.ip6 && (has_ip6 re || has_ip6 un)) → an ≡ flag_of a → lo ≡ flag_of l
+    → ◌≡◌ {A = RouteCursor} (record {
+      withdrawn = record { at = 21; end = 21 + w; afi = IPV4 };
+      unreached = gone;
+      reached = come;
+      nlri = record { at = 23 + w + length b; end = 23 + w + length b + n; afi = IPV4 };
+      announces = an;
+      loses_ip6 = lo;
+    }) (cursor_of ctx a (not ctx.ip6 && carries_ip6 (Some p)) p)
+cursor_is ctx a p w n b un re gone come l an lo is_w is_n is_b is_un is_re is_gone is_come is_l is_an is_lo =
+    let first_un : un ≡ of_kind MP_UNREACH_NLRI p.attributes = is_un ∙ ap (of_kind MP_UNREACH_NLRI) is_b in
+    let first_re : re ≡ of_kind MP_REACH_NLRI p.attributes = is_re ∙ ap (of_kind MP_REACH_NLRI) is_b in
+    let all_gone : gone ≡ unreach_at ctx (has_nlri p) (23 + length p.withdrawn) (of_kind MP_UNREACH_NLRI p.attributes) =
+    is_gone ∙ (λ i. unreach_at ctx (nat_lt 0 (is_n i)) (23 + is_w i) (first_un i)) in
+    let all_come : come ≡ reach_at ctx (has_nlri p) (23 + length p.withdrawn) (of_kind MP_REACH_NLRI p.attributes) =
+    is_come ∙ (λ i. reach_at ctx (nat_lt 0 (is_n i)) (23 + is_w i) (first_re i)) in
+    let all_lost : lo ≡ flag_of (not ctx.ip6 && carries_ip6 (Some p)) = is_lo ∙ ap flag_of (is_l ∙ (λ i. not ctx.ip6 && (has_ip6 (first_re i) || has_ip6 (first_un i)))) in
+    λ i. record {
+      withdrawn = record { at = 21; end = 21 + is_w i; afi = IPV4 };
+      unreached = all_gone i;
+      reached = all_come i;
+      nlri = record { at = 23 + is_w i + length (is_b i); end = 23 + is_w i + length (is_b i) + is_n i; afi = IPV4 };
+      announces = is_an i;
+      loses_ip6 = all_lost i;
+    }
+
+-- a header with a fault has none
+pub begins_fault : (octets : List ℕ) (fault : HeadFault) → Begins octets (of_fault fault) false (no_routes false)
+begins_fault octets fault = plain octets (of_fault fault) (nothing_left octets false)
+
+-- ---- a field
+
+run_left : (octets : List ℕ) (at n : ℕ) → prefixes_left octets (record { at = at; end = at + n; afi = IPV4 }) ≡ (run_of 4 (octets_in (record { at = at; len = n }) octets)).0
+run_left octets at n = ap (λ (k : ℕ). (run_of 4 (take k (drop at octets))).0) (let e : (at + n) - at ≡ n = omega arith in e)
+
+module _ (octets : List ℕ) (p : Parts) (lies : Lie octets p (parts_told (Some p))) (room : 23 + length p.withdrawn + length p.attributes + length p.nlri ≤ length octets) where
+  abbrev field : ℕ
+  field = 23 + length p.withdrawn
+
+  -- ---- an attribute that lies in the field
+
+  module _ (q : PlacedTlv) (at : LiesAt p.attributes q) where
+    abbrev place : Span
+    place = record { at = field + q.at + (length q.tlv.whole - length q.tlv.value); len = length q.tlv.value }
+
+    -- its value
+    pub value_there : octets_in place octets ≡ q.tlv.value
+    value_there =
+        let head : ℕ = q.at + (length q.tlv.whole - length q.tlv.value) in
+        ap (λ (k : ℕ). take (length q.tlv.value) (drop k octets)) (let e : field + q.at + (length q.tlv.whole - length q.tlv.value) ≡ field + head = omega arith in e)
+        ∙ in_part octets field (length p.attributes) head (length q.tlv.value) (omega (arith, at.within, at.longer))
+        ∙ ap (λ (x : List ℕ). take (length q.tlv.value) (drop head x)) lies.attributes
+        ∙ at.value
+
+    from_left : (afi k : ℕ) → prefixes_left octets (value_from afi field k q) ≡ (run_of (width_of afi) (drop k q.tlv.value)).0
+    from_left afi k =
+        ap (λ (x : List ℕ). (run_of (width_of afi) x).0)
+        (behind_in octets place (min k (length q.tlv.value)) (omega arith) ∙ ap (drop (min k (length q.tlv.value))) value_there ∙ drop_min k q.tlv.value)
+
+    from_lies : (afi k : ℕ) → (afi ≡ IPV4) ⊎ (afi ≡ IPV6) → IsCursor octets (value_from afi field k q)
+    from_lies afi k known = record {
+      within = record { in_order = omega arith; within = omega (arith, room, at.within, at.longer) };
+      known = known;
+    }
+
+  -- ---- MP_REACH_NLRI and MP_UNREACH_NLRI
+
+  reach_known : (r : MpReach) → (reach_afi r ≡ IPV4) ⊎ (reach_afi r ≡ IPV6)
+  reach_known (reach.Ip4 hop routes) = inl refl
+  reach_known (reach.Ip6 hop link routes) = inr refl
+
+  unreach_known : (r : MpUnreach) → (unreach_afi r ≡ IPV4) ⊎ (unreach_afi r ≡ IPV6)
+  unreach_known (unreach.Ip4 routes) = inl refl
+  unreach_known (unreach.Ip6 routes) = inr refl
+
+  module _ (v : List ℕ) where
+    abbrev ReachRuns : Bool → Type 0
+    ReachRuns a = routes_to a (reach_afi (mp_reach_of v)) (run_of (width_of (reach_afi (mp_reach_of v))) (reached_of v)).0 ≡ reached_routes a (Some (mp_reach_of v))
+
+    reach_by_tests : (a s f x : Bool) → eqb (safi_of v) UNICAST ≡ s → eqb (afi_of v) IPV4 ≡ f → eqb (afi_of v) IPV6 ≡ x → ReachRuns a
+    reach_by_tests a false f x es ef ex = rw es refl
+    reach_by_tests a true true x es ef ex = rw (es, ef) refl
+    reach_by_tests a true false true es ef ex = rw (es, ef, ex) refl
+    reach_by_tests a true false false es ef ex = rw (es, ef, ex) refl
+
+    reach_run : (a : Bool) → ReachRuns a
+    reach_run a = reach_by_tests a (eqb (safi_of v) UNICAST) (eqb (afi_of v) IPV4) (eqb (afi_of v) IPV6) refl refl refl
+
+    abbrev UnreachRuns : Type 0
+    UnreachRuns = routes_to false (unreach_afi (mp_unreach_of v)) (run_of (width_of (unreach_afi (mp_unreach_of v))) (withdrawn_of v)).0 ≡ unreached_routes (Some (mp_unreach_of v))
+
+    unreach_by_tests : (s f x : Bool) → eqb (safi_of v) UNICAST ≡ s → eqb (afi_of v) IPV4 ≡ f → eqb (afi_of v) IPV6 ≡ x → UnreachRuns
+    unreach_by_tests false f x es ef ex = rw es refl
+    unreach_by_tests true true x es ef ex = rw (es, ef) refl
+    unreach_by_tests true false true es ef ex = rw (es, ef, ex) refl
+    unreach_by_tests true false false es ef ex = rw (es, ef, ex) refl
+
+    unreach_run : UnreachRuns
+    unreach_run = unreach_by_tests (eqb (safi_of v) UNICAST) (eqb (afi_of v) IPV4) (eqb (afi_of v) IPV6) refl refl refl
+
+  module _ (ctx : Context) where
+    abbrev nlri : Bool
+    nlri = has_nlri p
+
+    abbrev as_reach : MpReach → Attr
+    as_reach r = attr.MpReach r
+
+    abbrev as_unreach : MpUnreach → Attr
+    as_unreach r = attr.MpUnreach r
+
+    -- the prefixes that an attribute gives, and what the slot takes of it
+    record Reaches (q : PlacedTlv) (j : Judged) : Type 0 where
+      routes : (a : Bool) → field_routes a octets (reach_by field q j) ≡ reached_routes a (first_in as_mp_reach (kept_by j))
+      cursor : IsCursor octets (reach_by field q j)
+
+    record Unreaches (q : PlacedTlv) (j : Judged) : Type 0 where
+      routes : field_routes false octets (unreach_by field q j) ≡ unreached_routes (first_in as_mp_unreach (kept_by j))
+      cursor : IsCursor octets (unreach_by field q j)
+
+    no_reach : (q : PlacedTlv) (j : Judged) → reach_by field q j ≡ no_prefixes → first_in as_mp_reach (kept_by j) ≡ None → Reaches q j
+    no_reach q j is none = record {
+      routes = λ a. ap (field_routes a octets) is ∙ none_routes a octets ∙ sym (ap (reached_routes a) none);
+      cursor = rw is (none_lies octets);
+    }
+
+    no_unreach : (q : PlacedTlv) (j : Judged) → unreach_by field q j ≡ no_prefixes → first_in as_mp_unreach (kept_by j) ≡ None → Unreaches q j
+    no_unreach q j is none = record {
+      routes = ap (field_routes false octets) is ∙ none_routes false octets ∙ sym (ap unreached_routes none);
+      cursor = rw is (none_lies octets);
+    }
+
+    reach_kept : (q : PlacedTlv) → LiesAt p.attributes q → q.tlv.kind ≡ MP_REACH_NLRI → (x : Attr) → judgement ctx nlri q.tlv ≡ judged.Keep x → Reaches q (judged.Keep x)
+    reach_kept q at is (attr.MpReach r) keeps =
+        let v : List ℕ = q.tlv.value in
+        let row : attr.MpReach (mp_reach_of v) ≡ attr.MpReach r = row_value ctx nlri as_mp_reach as_reach MP_REACH_NLRI taken-mp_reach q r is keeps in
+        let same : mp_reach_of v ≡ r = cc in
+        record {
+          routes = λ a. ap (routes_to a (reach_afi r)) (from_left q at (reach_afi r) (5 + next_hop_length v))
+              ∙ ap (λ (y : MpReach). routes_to a (reach_afi y) (run_of (width_of (reach_afi y)) (reached_of v)).0) (sym same) ∙ reach_run v a ∙ ap (λ (y : MpReach). reached_routes a (Some y)) same;
+          cursor = from_lies q at (reach_afi r) (5 + next_hop_length v) (reach_known r);
+        }
+    reach_kept q at is x keeps = no_reach q (judged.Keep x) refl refl
+
+    unreach_kept : (q : PlacedTlv) → LiesAt p.attributes q → q.tlv.kind ≡ MP_UNREACH_NLRI → (x : Attr) → judgement ctx nlri q.tlv ≡ judged.Keep x → Unreaches q (judged.Keep x)
+    unreach_kept q at is (attr.MpUnreach r) keeps =
+        let v : List ℕ = q.tlv.value in
+        let row : attr.MpUnreach (mp_unreach_of v) ≡ attr.MpUnreach r = row_value ctx nlri as_mp_unreach as_unreach MP_UNREACH_NLRI taken-mp_unreach q r is keeps in
+        let same : mp_unreach_of v ≡ r = cc in
+        record {
+          routes = ap (routes_to false (unreach_afi r)) (from_left q at (unreach_afi r) 3)
+              ∙ ap (λ (y : MpUnreach). routes_to false (unreach_afi y) (run_of (width_of (unreach_afi y)) (withdrawn_of v)).0) (sym same) ∙ unreach_run v ∙ ap (λ (y : MpUnreach). unreached_routes (Some y)) same;
+          cursor = from_lies q at (unreach_afi r) 3 (unreach_known r);
+        }
+    unreach_kept q at is x keeps = no_unreach q (judged.Keep x) refl refl
+
+    reach_judged : (q : PlacedTlv) → LiesAt p.attributes q → q.tlv.kind ≡ MP_REACH_NLRI → (j : Judged) → judgement ctx nlri q.tlv ≡ j → Reaches q j
+    reach_judged q at is (judged.Keep x) e = reach_kept q at is x e
+    reach_judged q at is j e = no_reach q j refl refl
+
+    unreach_judged : (q : PlacedTlv) → LiesAt p.attributes q → q.tlv.kind ≡ MP_UNREACH_NLRI → (j : Judged) → judgement ctx nlri q.tlv ≡ j → Unreaches q j
+    unreach_judged q at is (judged.Keep x) e = unreach_kept q at is x e
+    unreach_judged q at is j e = no_unreach q j refl refl
+
+    record ReachesAt (o : Option PlacedTlv) : Type 0 where
+      routes : (a : Bool) → field_routes a octets (reach_at ctx nlri field o) ≡ reached_routes a (taken_of ctx nlri as_mp_reach as_reach MP_REACH_NLRI taken-mp_reach o)
+      cursor : IsCursor octets (reach_at ctx nlri field o)
+
+    record UnreachesAt (o : Option PlacedTlv) : Type 0 where
+      routes : field_routes false octets (unreach_at ctx nlri field o) ≡ unreached_routes (taken_of ctx nlri as_mp_unreach as_unreach MP_UNREACH_NLRI taken-mp_unreach o)
+      cursor : IsCursor octets (unreach_at ctx nlri field o)
+
+    reach_found : (o : Option PlacedTlv) → first_of_type MP_REACH_NLRI p ≡ o → ReachesAt o
+    reach_found None e = record { routes = λ a. none_routes a octets; cursor = none_lies octets }
+    reach_found (Some q) e =
+        let test = λ (t : PlacedTlv). eqb t.tlv.kind MP_REACH_NLRI in
+        let r = reach_judged q (found_lies test p.attributes q e) (eqb-true q.tlv.kind MP_REACH_NLRI (find-passes test (placed_tlvs p.attributes) q e)) (judgement ctx nlri q.tlv) refl in
+        record { routes = r.routes; cursor = r.cursor }
+
+    unreach_found : (o : Option PlacedTlv) → first_of_type MP_UNREACH_NLRI p ≡ o → UnreachesAt o
+    unreach_found None e = record { routes = none_routes false octets; cursor = none_lies octets }
+    unreach_found (Some q) e =
+        let test = λ (t : PlacedTlv). eqb t.tlv.kind MP_UNREACH_NLRI in
+        let r = unreach_judged q (found_lies test p.attributes q e) (eqb-true q.tlv.kind MP_UNREACH_NLRI (find-passes test (placed_tlvs p.attributes) q e)) (judgement ctx nlri q.tlv) refl in
+        record { routes = r.routes; cursor = r.cursor }
+
+    -- ---- all four fields
+
+    abbrev kept : List Attr
+    kept = kept_of (marks_of ctx p)
+
+    all_left : (a l : Bool) → routes_left octets (cursor_of ctx a l p) ≡ routes_of a (update_of p (marks_of ctx p))
+    all_left a l =
+        let un = unreach_found (first_of_type MP_UNREACH_NLRI p) refl in
+        let re = reach_found (first_of_type MP_REACH_NLRI p) refl in
+        let gone : field_routes false octets (cursor_of ctx a l p).unreached ≡ unreached_routes (attrs_of kept).mp_unreach =
+        un.routes ∙ ap unreached_routes (sym (ap (λ x. x.mp_unreach) (attrs_of-slots kept) ∙ slot_first ctx nlri as_mp_unreach as_unreach MP_UNREACH_NLRI taken-mp_unreach p.attributes)) in
+        let come : field_routes a octets (cursor_of ctx a l p).reached ≡ reached_routes a (attrs_of kept).mp_reach =
+        re.routes a ∙ ap (reached_routes a) (sym (ap (λ x. x.mp_reach) (attrs_of-slots kept) ∙ slot_first ctx nlri as_mp_reach as_reach MP_REACH_NLRI taken-mp_reach p.attributes)) in
+        let w : field_routes false octets (cursor_of ctx a l p).withdrawn ≡ routes_to false IPV4 (run_of 4 p.withdrawn).0 =
+        ap (routes_to false IPV4) (run_left octets 21 (length p.withdrawn) ∙ ap (λ (x : List ℕ). (run_of 4 x).0) lies.withdrawn) in
+        let n : field_routes a octets (cursor_of ctx a l p).nlri ≡ routes_to a IPV4 (run_of 4 p.nlri).0 =
+        ap (routes_to a IPV4) (run_left octets (field + length p.attributes) (length p.nlri) ∙ ap (λ (x : List ℕ). (run_of 4 x).0) lies.nlri) in
+        ap (λ (b : Bool). field_routes false octets (cursor_of ctx a l p).withdrawn ++ (field_routes false octets (cursor_of ctx a l p).unreached
+        ++ (field_routes b octets (cursor_of ctx a l p).reached ++ field_routes b octets (cursor_of ctx a l p).nlri))) (is_one a)
+        ∙ ap₂ ◌++◌ w (ap₂ ◌++◌ gone (ap₂ ◌++◌ come n))
+
+    all_lie : (a l : Bool) → IsRouteCursor octets (cursor_of ctx a l p)
+    all_lie a l = record {
+      withdrawn = record { within = record { in_order = omega arith; within = omega (arith, room) }; known = inl refl };
+      unreached = (unreach_found (first_of_type MP_UNREACH_NLRI p) refl).cursor;
+      reached = (reach_found (first_of_type MP_REACH_NLRI p) refl).cursor;
+      nlri = record { within = record { in_order = omega arith; within = omega (arith, room) }; known = inl refl };
+    }
+
+-- ---- those that are all withdrawn
+
+filter_same : (afi : ℕ) (a : Bool) (ps : List PrefixValue) → eqb afi afi ≡ true → filter (is_of afi) (routes_to a afi ps) ≡ routes_to a afi ps
+filter_same afi a [] same = refl
+filter_same afi a (q ∷ ps) same =
+    ap (λ (b : Bool). cond b (record { announced = a; afi = afi; prefix = q } ∷ filter (is_of afi) (routes_to a afi ps)) (filter (is_of afi) (routes_to a afi ps))) same
+    ∙ ap (λ (rs : List RouteValue). record { announced = a; afi = afi; prefix = q } ∷ rs) (filter_same afi a ps same)
+
+filter_other : (test : RouteValue → Bool) (afi : ℕ) (a : Bool) (ps : List PrefixValue) → ((q : PrefixValue) → test (record { announced = a; afi = afi; prefix = q }) ≡ false) → filter test (routes_to a afi ps) ≡ []
+filter_other test afi a [] none = refl
+filter_other test afi a (q ∷ ps) none =
+    ap (λ (b : Bool). cond b (record { announced = a; afi = afi; prefix = q } ∷ filter test (routes_to a afi ps)) (filter test (routes_to a afi ps))) (none q) ∙ filter_other test afi a ps none
+
+spread : (test : RouteValue → Bool) (w x y z : List RouteValue) → filter test (w ++ (x ++ (y ++ z))) ≡ filter test w ++ (filter test x ++ (filter test y ++ filter test z))
+spread test w x y z =
+    filter-append test w (x ++ (y ++ z)) ∙ ap (λ (r : List RouteValue). filter test w ++ r) (filter-append test x (y ++ z))
+    ∙ ap (λ (r : List RouteValue). filter test w ++ (filter test x ++ r)) (filter-append test y z)
+
+gone4 : (u : Option MpUnreach) → filter (is_of IPV4) (unreached_routes u) ≡ routes_to false IPV4 (gone_ip4 u)
+gone4 None = refl
+gone4 (Some (unreach.Ip4 routes)) = filter_same IPV4 false routes refl
+gone4 (Some (unreach.Ip6 routes)) = filter_other (is_of IPV4) IPV6 false routes (λ q. refl)
+
+gone6 : (u : Option MpUnreach) → filter (is_of IPV6) (unreached_routes u) ≡ routes_to false IPV6 (gone_ip6 u)
+gone6 None = refl
+gone6 (Some (unreach.Ip4 routes)) = filter_other (is_of IPV6) IPV4 false routes (λ q. refl)
+gone6 (Some (unreach.Ip6 routes)) = filter_same IPV6 false routes refl
+
+come4 : (r : Option MpReach) → filter (is_of IPV4) (reached_routes false r) ≡ routes_to false IPV4 (reached_ip4 r)
+come4 None = refl
+come4 (Some (reach.Ip4 hop routes)) = filter_same IPV4 false routes refl
+come4 (Some (reach.Ip6 hop link routes)) = filter_other (is_of IPV4) IPV6 false routes (λ q. refl)
+
+come6 : (r : Option MpReach) → filter (is_of IPV6) (reached_routes false r) ≡ routes_to false IPV6 (reached_ip6 r)
+come6 None = refl
+come6 (Some (reach.Ip4 hop routes)) = filter_other (is_of IPV6) IPV4 false routes (λ q. refl)
+come6 (Some (reach.Ip6 hop link routes)) = filter_same IPV6 false routes refl
+
+abbrev neither : RouteValue → Bool
+neither r = not (is_of IPV4 r || is_of IPV6 r)
+
+gone0 : (u : Option MpUnreach) → filter neither (unreached_routes u) ≡ []
+gone0 None = refl
+gone0 (Some (unreach.Ip4 routes)) = filter_other neither IPV4 false routes (λ q. refl)
+gone0 (Some (unreach.Ip6 routes)) = filter_other neither IPV6 false routes (λ q. refl)
+
+come0 : (r : Option MpReach) → filter neither (reached_routes false r) ≡ []
+come0 None = refl
+come0 (Some (reach.Ip4 hop routes)) = filter_other neither IPV4 false routes (λ q. refl)
+come0 (Some (reach.Ip6 hop link routes)) = filter_other neither IPV6 false routes (λ q. refl)
+
+four_joined : (w x y z : List PrefixValue) → routes_to false IPV4 w ++ (routes_to false IPV4 x ++ (routes_to false IPV4 y ++ routes_to false IPV4 z)) ≡ routes_to false IPV4 (w ++ (x ++ (y ++ z)))
+four_joined w x y z =
+    let f : PrefixValue → RouteValue = λ (q : PrefixValue). record { announced = false; afi = IPV4; prefix = q } in
+    sym (map-append f w (x ++ (y ++ z)) ∙ ap (λ (r : List RouteValue). map f w ++ r) (map-append f x (y ++ z) ∙ ap (λ (r : List RouteValue). map f x ++ r) (map-append f y z)))
+
+two_joined : (x y : List PrefixValue) → routes_to false IPV6 x ++ routes_to false IPV6 y ≡ routes_to false IPV6 (x ++ y)
+two_joined x y = let f : PrefixValue → RouteValue = λ (q : PrefixValue). record { announced = false; afi = IPV6; prefix = q } in sym (map-append f x y)
+
+module _ (p : Parts) (ms : List Mark) where
+  abbrev w4 : List PrefixValue
+  w4 = (run_of 4 p.withdrawn).0
+
+  abbrev n4 : List PrefixValue
+  n4 = (run_of 4 p.nlri).0
+
+  abbrev u : Option MpUnreach
+  u = (attrs_of (kept_of ms)).mp_unreach
+
+  abbrev r : Option MpReach
+  r = (attrs_of (kept_of ms)).mp_reach
+
+  all_withdrawn : AreWithdrawn (notes.routes_of p ms) (routes_of false (update_of p ms))
+  all_withdrawn = record {
+    ip4 = spread (is_of IPV4) (routes_to false IPV4 w4) (unreached_routes u) (reached_routes false r) (routes_to false IPV4 n4)
+        ∙ ap₂ ◌++◌ (filter_same IPV4 false w4 refl) (ap₂ ◌++◌ (gone4 u) (ap₂ ◌++◌ (come4 r) (filter_same IPV4 false n4 refl)))
+        ∙ four_joined w4 (gone_ip4 u) (reached_ip4 r) n4;
+    ip6 = spread (is_of IPV6) (routes_to false IPV4 w4) (unreached_routes u) (reached_routes false r) (routes_to false IPV4 n4)
+        ∙ ap₂ ◌++◌ (filter_other (is_of IPV6) IPV4 false w4 (λ q. refl)) (ap₂ ◌++◌ (gone6 u) (ap₂ ◌++◌ (come6 r) (filter_other (is_of IPV6) IPV4 false n4 (λ q. refl))))
+        ∙ ap (λ (rs : List RouteValue). routes_to false IPV6 (gone_ip6 u) ++ rs) (append-nil (routes_to false IPV6 (reached_ip6 r)))
+        ∙ two_joined (gone_ip6 u) (reached_ip6 r);
+    known = spread neither (routes_to false IPV4 w4) (unreached_routes u) (reached_routes false r) (routes_to false IPV4 n4)
+        ∙ ap₂ ◌++◌ (filter_other neither IPV4 false w4 (λ q. refl)) (ap₂ ◌++◌ (gone0 u) (ap₂ ◌++◌ (come0 r) (filter_other neither IPV4 false n4 (λ q. refl))));
+  }
+
+-- ---- by the verdict
+
+module _ (ctx : Context) (octets : List ℕ) where
+  abbrev BeginsFor : Option Parts → Outcome → Type 0
+  BeginsFor parts o = Begins octets o (loses_ip6 ctx parts o) (cursor_by ctx parts o)
+
+  module _ (p : Parts) (lies : Lie octets p (parts_told (Some p))) (room : 23 + length p.withdrawn + length p.attributes + length p.nlri ≤ length octets) where
+    taken : BeginsFor (Some p) (outcome.Took (message.Update (update_of p (marks_of ctx p))) (notes_of p (marks_of ctx p)))
+    taken =
+        let l = not ctx.ip6 && carries_ip6 (Some p) in
+        record { lies = all_lie octets p lies room ctx true l; routes = all_left octets p lies room ctx true l; loses_ip6 = is_one l }
+
+    withdrawn : BeginsFor (Some p) (outcome.Withdraw (notes.routes_of p (marks_of ctx p)) (notes_of p (marks_of ctx p)))
+    withdrawn =
+        let l = not ctx.ip6 && carries_ip6 (Some p) in
+        record {
+          lies = all_lie octets p lies room ctx false l;
+          routes = rw (all_left octets p lies room ctx false l) (all_withdrawn p (marks_of ctx p));
+          loses_ip6 = is_one l;
+        }
+
+    by_tests : (is_withdrawn is_reachable : Bool) → BeginsFor (Some p) (of_verdict (cond is_withdrawn
+        (cond is_reachable (verdict.Withdraw (notes.routes_of p (marks_of ctx p)) (notes_of p (marks_of ctx p))) (verdict.Reset malformed))
+        (verdict.Take (update_of p (marks_of ctx p)) (notes_of p (marks_of ctx p)))))
+    by_tests true true = withdrawn
+    by_tests true false = plain octets (outcome.Reset malformed) (nothing_left octets false)
+    by_tests false reachable = taken
+
+    by_reset : (n : Option Notification) → BeginsFor (Some p) (of_verdict (unless_reset n (without_reset p (marks_of ctx p))))
+    by_reset (Some n) = plain octets (outcome.Reset n) (nothing_left octets false)
+    by_reset None = by_tests (is_withdrawn p (marks_of ctx p)) (is_reachable p (marks_of ctx p))
+
+  by_parts : (o : Option Parts) → ((p : Parts) → o ≡ Some p → Lie octets p (parts_told (Some p)) × (23 + length p.withdrawn + length p.attributes + length p.nlri ≤ length octets)) → BeginsFor o (of_verdict (of_parts ctx o))
+  by_parts None there = plain octets (outcome.Reset malformed) (nothing_left octets false)
+  by_parts (Some p) there = let h = there p refl in by_reset p h.0 h.1 (reset_of p (marks_of ctx p))
+
+  -- an OPEN has no routes, whatever comes of it
+  by_fault : (parts : Option Parts) (n : Option Notification) → BeginsFor parts (of_open_fault n)
+  by_fault parts (Some n) = plain octets (outcome.Reset n) (nothing_left octets false)
+  by_fault parts None = plain octets (of_open_fault None) (nothing_left octets false)
+
+  by_reading : (parts : Option Parts) (r : Result Open OpenFault) → BeginsFor parts (of_reading r)
+  by_reading parts (Ok o) = plain octets (of_reading (Ok o)) (nothing_left octets false)
+  by_reading parts (Err fault) = by_fault parts (open_notification fault)
+
+  by_kind : (k : Kind) (body : List ℕ) → ((p : Parts) → parts_of body ≡ Some p → Lie octets p (parts_told (Some p)) × (23 + length p.withdrawn + length p.attributes + length p.nlri ≤ length octets))
+      → BeginsFor (parts_of body) (out_of ctx (record { kind = k; body = body }))
+  by_kind kind.Open body there = by_reading (parts_of body) (reading_of body)
+  by_kind kind.Update body there = by_parts (parts_of body) there
+  by_kind kind.Notification body there = plain octets (out_of ctx (record { kind = kind.Notification; body = body })) (nothing_left octets false)
+  by_kind kind.Keepalive body there = plain octets (out_of ctx (record { kind = kind.Keepalive; body = body })) (nothing_left octets false)
+
+-- the parts of a message have room in its octets
+pub room_in : (octets : List ℕ) (n : ℕ) (m : Message) → AreOctets octets → IsFrame m (take n octets) → (p : Parts) → parts_of m.body ≡ Some p
+    → 23 + length p.withdrawn + length p.attributes + length p.nlri ≤ length octets
+room_in octets n m are frame p is =
+    let octets_are : AreOctets m.body = AreOctets-back (header m.kind (19 + length m.body)) m.body (subst AreOctets frame.octets (AreOctets-take n octets are)) in
+    omega (
+      arith,
+      ap length (parts-body m.body p octets_are is).octets ∙ length-body p.withdrawn p.attributes p.nlri,
+      ap length frame.octets,
+      length-append (header m.kind (19 + length m.body)) m.body,
+      length-header m.kind (19 + length m.body),
+      length-take n octets,
+    )
+
+pub begins : (ctx : Context) (octets : List ℕ) (n : ℕ) (m : Message) → AreOctets octets → IsFrame m (take n octets) → BeginsFor ctx octets (parts_of m.body) (out_of ctx m)
+begins ctx octets n m are frame = by_kind ctx octets m.kind m.body (λ p is. (lie octets n m p are frame is, room_in octets n m are frame p is))

@@ -1,0 +1,30 @@
+use Rattle.std.proofs.Common.{◌≤◌, List, map, length, ap, sym, subst, ◌∙◌, arith}
+use Rattle.bgp_open.specs.declared.context.Context.{Context}
+use Rattle.bgp_fields.specs.declared.field.Field.{Field}
+use Rattle.bgp_fields.specs.FieldIter.{fields_left}
+use Rattle.bgp_fields.specs.Fields.{fields_of}
+use Rattle.ristulva_c.specs.Fields.{field_told, IsFilled}
+use Rattle.ristulva_c.specs.declared.status.TheConstants.{OK, ROOM}
+use Rattle.ristulva_c.proofs.FieldSteps.{few_fields, none_filled, all_filled}
+use Rattle.ristulva_c.proofs.fields.fill.Goals as goal
+
+pub fit-requires-clause-fields : goal.fit-requires-clause-fields
+fit-requires-clause-fields c = omega (arith, ap length c.new-fields.ensures, few_fields c.context_of.result c.args.message.now)
+
+pub returns-then-not-fit : goal.returns-then-not-fit
+returns-then-not-fit c =
+    let message = c.args.message.now in
+    let fields = fields_left c.new-fields.result in
+    let few : length fields ≤ 4096 = omega (arith, ap length c.new-fields.ensures, few_fields c.context_of.result message, c.requires) in
+    subst (λ (fs : List Field). IsFilled (map field_told fs) (record { status = ROOM; before = c.args.list.now; behind = c.args.list.now; written_before = c.args.written.now; written_behind = c.args.written.now }))
+    (c.new-fields.ensures ∙ ap (λ (k : Context). fields_of k message) c.context_of.ensures)
+    (none_filled fields c.args.list.now c.args.written.now (sym c.fit.ensures ∙ c.if-not-fit.true) few)
+
+pub returns : goal.returns
+returns c =
+    let message = c.args.message.now in
+    let fields = fields_left c.new-fields.result in
+    let few : length fields ≤ 4096 = omega (arith, ap length c.new-fields.ensures, few_fields c.context_of.result message, c.requires) in
+    subst (λ (fs : List Field). IsFilled (map field_told fs) (record { status = OK; before = c.args.list.now; behind = c.put_fields.new.list; written_before = c.args.written.now; written_behind = c.put_fields.result }))
+    (c.new-fields.ensures ∙ ap (λ (k : Context). fields_of k message) c.context_of.ensures)
+    (all_filled fields c.args.list.now c.put_fields.new.list c.args.written.now c.put_fields.result (sym c.fit.ensures ∙ c.if-not-fit.false) few c.put_fields.ensures.list c.put_fields.ensures.count)

@@ -1,0 +1,8 @@
+use Rattle.std.proofs.Common.{None, ap, ◌∙◌}
+use Rattle.bgp_update.specs.PathInfoView.{joined_value}
+use Rattle.ristulva_c.specs.steps.OriginAs.{origin_behind}
+use Rattle.ristulva_c.proofs.OriginAs.{origin_is}
+use Rattle.ristulva_c.proofs.origin_as.origin_in.Goals as goal
+
+pub path-init : goal.path-init
+path-init c = ap (origin_behind None) c.segments-left.ensures ∙ origin_is (joined_value c.args.path.now).segments

@@ -1,0 +1,12 @@
+use Rattle.std.proofs.Common.{◌≡◌, length}
+use Rattle.bgp_update.specs.PathInfoView.{joined_value, joined_left}
+use Rattle.ristulva_c.specs.Facts.{origin_in}
+use Rattle.ristulva_c.specs.steps.OriginAs.{origin_behind}
+use Rattle.ristulva_c.proofs.origin_as.origin_in.Given as goal
+
+-- what the segments still to come end in, or else those so far, is what all end in
+abbrev pub invariant-path : goal.invariant-path
+invariant-path l = origin_behind l.last (joined_left l.left) ≡ origin_in (joined_value l.path).segments
+
+abbrev pub decreases-path : goal.decreases-path
+decreases-path l = length (joined_left l.left)

@@ -1,0 +1,18 @@
+use Rattle.std.proofs.Common.{List, length, ap, arith}
+use Rattle.std.specs.List.{filter}
+use Rattle.bgp_attr.specs.declared.attr.Attr.{Attr}
+use Rattle.bgp_update.specs.KeptView.{is_opaque}
+use Rattle.bgp_update.specs.Taken.{kept_of}
+use Rattle.bgp_update.specs.View.{view_marks}
+use Rattle.ristulva_c.proofs.LeftOut.{few_others, all_others}
+use Rattle.ristulva_c.proofs.others.count_others.Goals as goal
+
+pub overflow_add-count : goal.overflow_add-count
+overflow_add-count c = omega (arith, c.kept.invariant, few_others c.args.view.now)
+
+pub returns-clause-count : goal.returns-clause-count
+returns-clause-count c =
+    omega (arith, c.kept.invariant, ap (λ (xs : List Attr). length (filter is_opaque xs)) c.in_default.ensures.steps.0, all_others (kept_of (view_marks c.args.view.now)))
+
+pub returns-clause-few : goal.returns-clause-few
+returns-clause-few c = omega (arith, c.kept.invariant, few_others c.args.view.now)

@@ -1,0 +1,14 @@
+use Rattle.std.proofs.Common.{◌≡◌, ◌+◌, length}
+use Rattle.std.specs.List.{filter}
+use Rattle.bgp_update.specs.Iters.{attrs_left}
+use Rattle.bgp_update.specs.KeptView.{is_opaque}
+use Rattle.bgp_update.specs.Taken.{kept_of}
+use Rattle.bgp_update.specs.View.{view_marks}
+use Rattle.ristulva_c.proofs.others.count_others.Given as goal
+
+-- those so far, and those still to come, are all
+abbrev pub invariant-kept : goal.invariant-kept
+invariant-kept l = l.count + length (filter is_opaque (attrs_left l.left)) ≡ length (filter is_opaque (kept_of (view_marks l.view)))
+
+abbrev pub decreases-kept : goal.decreases-kept
+decreases-kept l = length (attrs_left l.left)

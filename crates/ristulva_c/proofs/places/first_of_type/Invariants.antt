@@ -1,0 +1,12 @@
+use Rattle.std.proofs.Common.{◌≡◌, ◌==◌, length}
+use Rattle.std.specs.List.{find}
+use Rattle.bgp_attr.specs.TlvIter.{tlvs_left}
+use Rattle.bgp_update.specs.Marks.{placed_tlvs}
+use Rattle.ristulva_c.proofs.places.first_of_type.Given as goal
+
+-- the first among those still to come is the first of all
+abbrev pub invariant-field : goal.invariant-field
+invariant-field l = find (λ q. q.tlv.kind == l.kind) (tlvs_left l.tlvs) ≡ find (λ q. q.tlv.kind == l.kind) (placed_tlvs l.field)
+
+abbrev pub decreases-field : goal.decreases-field
+decreases-field l = length (tlvs_left l.tlvs)

@@ -1,0 +1,136 @@
+//! The fields of a message, and the places of its faults.
+
+ghost use Rattle.std.specs.Prelude.{◌≡◌, ◌≤◌, ◌++◌, length, map, take, drop, nat_le};
+ghost use Rattle.bgp_fields.specs.FieldIter.{fields_left};
+ghost use Rattle.ristulva_c.specs.Context.{context_of};
+ghost use Rattle.ristulva_c.specs.Fields.{group_at, group_code, field_told, fields_told, IsFilled, AreFields};
+
+use crate::context::{SessionContext, context_of};
+use crate::field_kinds::number_of_kind;
+use crate::status::{INCOMPLETE, OK, ROOM};
+use bgp_fields::{Field, FieldIter, Group};
+use bgp_frame::{Step, front};
+
+/// A field of a message: octets that have one meaning together.
+#[repr(C)]
+#[derive(Clone, Copy)]
+pub struct ToldField {
+    /// Its offset in the message.
+    pub at: u16,
+    /// How many octets it has: at least one.
+    pub len: u16,
+    /// Where its attribute, parameter or capability begins; 0 for none.
+    pub group: u16,
+    /// What it is: 1 to 44.
+    pub kind: u8,
+    /// The type or code of its attribute, parameter or capability; 0 for none.
+    pub code: u8,
+}
+
+/// So many octets at the front.
+pub(crate) fn first(octets: &[u8], len: usize) -> &[u8]
+    ensures { result.now ≡ take len octets.now }
+{
+    let (front, _) = octets.split_at(len.min(octets.len()));
+    front
+}
+
+/// Where a group begins.
+fn group_at(group: Option<Group>) -> u16
+    ensures { result ≡ group_at group }
+{
+    match group {
+        None => 0,
+        Some(group) => group.at,
+    }
+}
+
+/// The type or code of a group.
+fn group_code(group: Option<Group>) -> u8
+    ensures { result ≡ group_code group }
+{
+    match group {
+        None => 0,
+        Some(group) => group.code,
+    }
+}
+
+/// A field as it is told.
+fn field_told(field: Field) -> ToldField
+    ensures { result ≡ field_told field }
+{
+    ToldField {
+        at: field.at,
+        len: field.len,
+        group: group_at(field.group),
+        kind: number_of_kind(field.kind),
+        code: group_code(field.group),
+    }
+}
+
+/// How many fields there are.
+fn count_fields(fields: FieldIter<'_>) -> usize
+    requires { length (fields_left fields) ≤ 4096 }
+    ensures { result ≡ length (fields_left fields.entry) }
+{
+    let mut count = 0;
+    let mut left = fields;
+    'fields: while left.next().is_some() {
+        count += 1;
+    }
+    count
+}
+
+/// Whether there is room for all fields of so many octets, of which each has one at least.
+fn fit(octets: usize, fields: FieldIter<'_>, room: usize) -> bool
+    requires fields { length (fields_left fields) ≤ octets }
+    requires octets { octets ≤ 4096 }
+    ensures { result ≡ nat_le (length (fields_left fields.entry)) room }
+{
+    octets <= room || count_fields(fields) <= room
+}
+
+/// Writes fields to the first places of a list, which has room for them. Answers how many they are.
+fn put_fields(fields: FieldIter<'_>, list: &mut [ToldField]) -> usize
+    requires { length (fields_left fields) ≤ length list.old }
+    ensures list { list.new ≡ map field_told (fields_left fields.entry) ++ drop (length (fields_left fields.entry)) list.old }
+    ensures count { result ≡ length (fields_left fields.entry) }
+{
+    let mut count = 0;
+    let mut left = fields;
+    'fields: while let Some(field) = left.next() {
+        list[count] = field_told(field);
+        count += 1;
+    }
+    count
+}
+
+/// Lists the fields of a whole message, or of a header with a fault.
+fn fill(ctx: &SessionContext, message: &[u8], list: &mut [ToldField], written: &mut usize) -> u32
+    requires { length message.now ≤ 4096 }
+    ensures { IsFilled (fields_told (context_of ctx.now) message.now) (record { status = result; before = list.old; behind = list.new; written_before = written.old; written_behind = written.new }) }
+{
+    let fields = FieldIter::new(&context_of(ctx), message);
+    if !fit(message.len(), fields, list.len()) {
+        return ROOM;
+    }
+    *written = put_fields(fields, list);
+    OK
+}
+
+/// Lists all fields of the message that octets begin with, or of a header with a fault, where the list has room for them.
+#[unsafe(no_mangle)]
+pub extern "C" fn ristulva_fields(
+    ctx: &SessionContext,
+    octets: &[u8],
+    list: &mut [ToldField],
+    written: &mut usize,
+) -> u32
+    ensures { AreFields (context_of ctx.now) octets.now (record { status = result; before = list.old; behind = list.new; written_before = written.old; written_behind = written.new }) }
+{
+    match front(octets) {
+        Step::More => INCOMPLETE,
+        Step::Frame(frame) => fill(ctx, first(octets, frame.len as usize), list, written),
+        Step::Fault(_) => fill(ctx, first(octets, 19), list, written),
+    }
+}

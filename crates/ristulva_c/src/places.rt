@@ -1,0 +1,70 @@
+//! Where the attributes of a type lie in an UPDATE's message.
+
+ghost use Rattle.std.specs.Prelude.{◌≡◌, ◌==◌, ◌+◌, ◌≤◌, length, option_map, IfSome};
+ghost use Rattle.std.specs.List.{find};
+ghost use Rattle.bgp_attr.specs.TlvView.{placed_tlv};
+ghost use Rattle.bgp_update.specs.Marks.{placed_tlvs};
+ghost use Rattle.bgp_update.specs.Parts.{parts_of};
+ghost use Rattle.ristulva_c.specs.Places.{value_at, value_in, kept_at};
+
+use crate::parts::fields_of;
+use crate::span::Span;
+use bgp_attr::{Tlv, TlvIter};
+
+/// The first attribute of a type.
+pub(crate) fn first_of_type(kind: u8, field: &[u8]) -> Option<Tlv<'_>>
+    ensures value { option_map placed_tlv result ≡ find (λ q. q.tlv.kind == kind) (placed_tlvs field.now) }
+    ensures within { IfSome result (λ t. (t.at + length t.whole.now ≤ length field.now) × (length t.value.now ≤ length t.whole.now)) }
+{
+    let mut tlvs = TlvIter::new(field);
+    'field: while let Some(tlv) = tlvs.next() {
+        if tlv.kind == kind {
+            return Some(tlv);
+        }
+    }
+    None
+}
+
+/// Nothing lies anywhere.
+fn nowhere() -> Span
+    ensures { result ≡ record { at = 0; len = 0 } }
+{
+    Span { at: 0, len: 0 }
+}
+
+/// Where the value of an attribute lies, in a message whose attributes begin there.
+fn value_at(field: usize, tlv: &Option<Tlv<'_>>) -> Span
+    requires { IfSome tlv.now (λ t. (field + t.at + length t.whole.now ≤ 4096) × (length t.value.now ≤ length t.whole.now)) }
+    ensures { result ≡ value_at field (option_map placed_tlv tlv.now) }
+{
+    match tlv {
+        None => nowhere(),
+        Some(tlv) => Span {
+            at: (field + tlv.at + (tlv.whole.len() - tlv.value.len())) as u32,
+            len: tlv.value.len() as u32,
+        },
+    }
+}
+
+/// Where the value of the first attribute of a type lies, in the message that has this body.
+fn value_in(kind: u8, body: &[u8]) -> Span
+    requires { length body.now ≤ 4077 }
+    ensures { result ≡ value_in kind (parts_of body.now) }
+{
+    match fields_of(body) {
+        None => nowhere(),
+        Some((withdrawn, field, _)) => value_at(23 + withdrawn, &first_of_type(kind, field)),
+    }
+}
+
+/// The same of an attribute that is kept.
+pub(crate) fn kept_at(is_kept: bool, kind: u8, body: &[u8]) -> Span
+    requires { length body.now ≤ 4077 }
+    ensures { result ≡ kept_at is_kept kind (parts_of body.now) }
+{
+    if is_kept {
+        value_in(kind, body)
+    } else {
+        nowhere()
+    }
+}
