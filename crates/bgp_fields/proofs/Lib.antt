@@ -1,6 +1,7 @@
 -- Lemmas on the fields of a message.
 pub mod Walks
 pub mod Steps
+pub mod Listings
 pub mod Tilings
 pub mod Joined
 pub mod Readable

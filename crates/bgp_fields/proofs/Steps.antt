@@ -1,5 +1,5 @@
 -- One step of an iterator of fields.
-use Rattle.std.proofs.Common.{◌≡◌, ℕ, ◌+◌, ◌-◌, ◌<◌, List, [], ◌∷◌, ◌++◌, length, take, drop, Option, None, sym, ap, ap₂, ◌∙◌, arith, length-drop}
+use Rattle.std.proofs.Common.{◌≡◌, ℕ, ◌+◌, ◌-◌, ◌<◌, List, [], ◌∷◌, ◌++◌, length, take, drop, Option, None, refl, sym, ap, ap₂, ◌∙◌, arith, length-drop}
 use Rattle.std.proofs.lemmas.List.{length-take-le, drop-drop, append_assoc}
 use Rattle.bgp_open.specs.declared.context.Context.{Context}
 use Rattle.bgp_fields.specs.declared.field.Field.{Field}
@@ -18,9 +18,17 @@ use Rattle.bgp_fields.specs.Fields.{no_fields, value_fields, section_fields, mes
 use Rattle.bgp_fields.specs.Parts.{value_plan, section_plan, message_plan}
 use Rattle.bgp_fields.specs.steps.Plans.{value_planned, section_planned, message_planned}
 use Rattle.bgp_fields.specs.Walk.{fit, group_from}
-use Rattle.bgp_fields.proofs.Walks.{walk-none, walk-told, fits-told}
+use Rattle.bgp_fields.proofs.Walks.{walk-none, walk-told, walk-split, fits-told}
 
 -- a field of a value
+pub value-next : (ctx : Context) (part : ValuePart) (at : ℕ) (group g : Option Group) (b rest : List ℕ) (p : ValuePlan)
+    → 0 < length b → value_planned p ≡ fit (value.All Unread) (value_plan ctx part b) (length b) → g ≡ group_from at p.begins group → rest ≡ drop p.len b
+    → value_fields ctx part at group b ≡ record { at = at; len = p.len; kind = p.kind; group = g } ∷ value_fields ctx p.next (at + p.len) g rest
+value-next ctx part at group g b rest p some e group_is rest_is =
+    walk-split (Unit {0}) ValuePart (value.All Unread) (value_plan ctx) no_fields part at group g b [] rest (value_planned p) some e group_is refl rest_is
+    ∙ ap (λ (n : ℕ). record { at = at; len = p.len; kind = p.kind; group = g } ∷ value_fields ctx p.next n g rest) (omega arith)
+
+-- and what stands behind the value
 pub value-step : (ctx : Context) (part : ValuePart) (at : ℕ) (group : Option Group) (b : List ℕ) (later : ℕ → List Field)
     (p : ValuePlan) (g : Option Group) (rest : List ℕ)
     → 0 < length b → value_planned p ≡ fit (value.All Unread) (value_plan ctx part b) (length b) → g ≡ group_from at p.begins group → rest ≡ drop p.len b
@@ -28,16 +36,8 @@ pub value-step : (ctx : Context) (part : ValuePart) (at : ℕ) (group : Option G
     ≡ record { at = at; len = p.len; kind = p.kind; group = g } ∷ (value_fields ctx p.next (at + p.len) g rest ++ later (at + p.len + length rest))
 value-step ctx part at group b later p g rest some e group_is rest_is =
     let fits = fits-told (Unit {0}) ValuePart (value.All Unread) (value_plan ctx) no_fields part b (value_planned p) some e in
-    let same_at : at + p.len + 0 ≡ at + p.len = omega arith in
-    let same_len : p.len + 0 ≡ p.len = omega arith in
-    let ends : at + length b ≡ at + p.len + length rest = omega (arith, ap length rest_is, length-drop p.len b, fits.1) in
-    ap₂ (λ (fs gs : List Field). fs ++ gs)
-    (walk-told (Unit {0}) ValuePart (value.All Unread) (value_plan ctx) no_fields part at group b (value_planned p) some e)
-    (ap later ends)
-    ∙ ap₂ (λ (n m : ℕ). record { at = at; len = p.len; kind = p.kind; group = group_from at p.begins group }
-    ∷ (value_fields ctx p.next n (group_from at p.begins group) (drop m b) ++ later (at + p.len + length rest))) same_at same_len
-    ∙ ap₂ (λ (x : Option Group) (c : List ℕ). record { at = at; len = p.len; kind = p.kind; group = x }
-    ∷ (value_fields ctx p.next (at + p.len) x c ++ later (at + p.len + length rest))) (sym group_is) (sym rest_is)
+    ap₂ (λ (fs gs : List Field). fs ++ gs) (value-next ctx part at group g b rest p some e group_is rest_is)
+    (ap later (omega (arith, ap length rest_is, length-drop p.len b, fits.1)))
 
 -- a field of a section: nothing is left of a value
 pub section-step : (ctx : Context) (v : ValuePart) (vg : Option Group) (vb : List ℕ)

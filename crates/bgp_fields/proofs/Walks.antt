@@ -1,5 +1,6 @@
 -- A walk, a field at a time.
-use Rattle.std.proofs.Common.{◌≡◌, ℕ, zero, suc, ◌+◌, ◌<◌, ◌≤◌, ◌&&◌, nat_lt, nat_le, cond, List, [], ◌∷◌, ◌++◌, length, take, drop, Option, None, refl, sym, ap, subst, ◌∙◌, arith, length-drop}
+use Rattle.std.proofs.Common.{◌≡◌, ℕ, zero, suc, ◌+◌, ◌<◌, ◌≤◌, ◌&&◌, nat_lt, nat_le, cond, List, [], ◌∷◌, ◌++◌, length, take, drop, Option, None, refl, sym, ap, ap₂, subst, ◌∙◌, arith, length-drop}
+use Rattle.std.proofs.lemmas.List.{drop-drop, length-take-le}
 use Rattle.std.proofs.lemmas.Bool.{and_parts, leb-true, ltb-true, cond_both}
 use Rattle.bgp_fields.specs.declared.field.Field.{Field}
 use Rattle.bgp_fields.specs.declared.field.Group.{Group}
@@ -78,5 +79,41 @@ module _ (I S : Type 0) (stuck : S) (plan : S → List ℕ → Plan I S) (inside
   walk-told part at group (x ∷ b) p some e =
       walk-step part at group x b ∙ ap (λ (q : Plan I S). told inside (walk stuck plan inside) q at group (x ∷ b)) (sym e)
 
+  -- something is told of some octets
+  pub walk-some : (part : S) (at : ℕ) (group : Option Group) (b : List ℕ) → 0 < length b → 0 < length (walk stuck plan inside part at group b)
+  walk-some part at group b some = omega (arith, ap length (walk-told part at group b (fit stuck (plan part b) (length b)) some refl))
+
+  -- a step, by the octets that were split off
+  pub walk-split : (part : S) (at : ℕ) (group g : Option Group) (b inner rest : List ℕ) (p : Plan I S)
+      → 0 < length b → p ≡ fit stuck (plan part b) (length b) → g ≡ group_from at p.begins group
+      → inner ≡ take p.inner_len (drop p.len b) → rest ≡ drop p.inner_len (drop p.len b)
+      → walk stuck plan inside part at group b
+      ≡ record { at = at; len = p.len; kind = p.kind; group = g }
+      ∷ (inside p.inner (at + p.len) g inner ++ walk stuck plan inside p.next (at + p.len + p.inner_len) g rest)
+  walk-split part at group g b inner rest p some e group_is inner_is rest_is =
+      walk-told part at group b p some e
+      ∙ ap₂ (λ (x : Option Group) (c : List ℕ). record { at = at; len = p.len; kind = p.kind; group = x }
+      ∷ (inside p.inner (at + p.len) x (take p.inner_len (drop p.len b)) ++ walk stuck plan inside p.next (at + p.len + p.inner_len) x c))
+      (sym group_is) (sym (drop-drop p.inner_len p.len b) ∙ sym rest_is)
+      ∙ ap (λ (c : List ℕ). record { at = at; len = p.len; kind = p.kind; group = g }
+      ∷ (inside p.inner (at + p.len) g c ++ walk stuck plan inside p.next (at + p.len + p.inner_len) g rest)) (sym inner_is)
+
   pub fits-told : (part : S) (b : List ℕ) (p : Plan I S) → 0 < length b → p ≡ fit stuck (plan part b) (length b) → Fits I S (length b) p
   fits-told part b p some e = subst (Fits I S (length b)) (sym e) (fit-fits I S stuck (plan part b) (length b) some)
+
+  -- how long the octets are that were split off
+  pub record Lengths (b inner rest : List ℕ) (p : Plan I S) : Type 0 where
+    pub some : 0 < p.len
+    pub inner_len : length inner ≡ p.inner_len
+    pub whole : p.len + p.inner_len + length rest ≡ length b
+
+  pub lengths : (part : S) (b inner rest : List ℕ) (p : Plan I S) → 0 < length b → p ≡ fit stuck (plan part b) (length b)
+      → inner ≡ take p.inner_len (drop p.len b) → rest ≡ drop p.inner_len (drop p.len b) → Lengths b inner rest p
+  lengths part b inner rest p some e inner_is rest_is =
+      let fits = fits-told part b p some e in
+      let behind = length-drop p.len b in
+      record {
+        some = fits.0;
+        inner_len = ap length inner_is ∙ length-take-le p.inner_len (drop p.len b) (omega (arith, behind, fits.1));
+        whole = omega (arith, ap length rest_is, length-drop p.inner_len (drop p.len b), behind, fits.1);
+      }

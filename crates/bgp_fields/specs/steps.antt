@@ -1,3 +1,4 @@
 -- What only private functions cite: steps of proofs, which nobody has to believe.
+pub mod Listing
 pub mod Plans
 pub mod Sections

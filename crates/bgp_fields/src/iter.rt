@@ -152,7 +152,7 @@ impl<'a> Iterator for FieldIter<'a> {
 impl<'a> FusedIterator for FieldIter<'a> {}
 
 /// The group of the fields from a place on, where one of this code begins there, or none does.
-fn group_from(at: usize, begins: Option<u8>, group: Option<Group>) -> Option<Group>
+pub(crate) fn group_from(at: usize, begins: Option<u8>, group: Option<Group>) -> Option<Group>
     requires { at ≤ 4096 }
     ensures { result ≡ group_from at begins group }
 {
@@ -166,7 +166,7 @@ fn group_from(at: usize, begins: Option<u8>, group: Option<Group>) -> Option<Gro
 }
 
 /// A field.
-fn field(at: usize, len: usize, kind: FieldKind, group: Option<Group>) -> Field
+pub(crate) fn field(at: usize, len: usize, kind: FieldKind, group: Option<Group>) -> Field
     requires at { at ≤ 4096 }
     requires len { len ≤ 4096 }
     ensures { result ≡ record { at = at; len = len; kind = kind; group = group } }

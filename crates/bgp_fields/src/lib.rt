@@ -6,6 +6,7 @@ mod field;
 mod iter;
 mod kind;
 pub mod laws;
+mod listing;
 mod message_plan;
 mod octets;
 mod open_place;
@@ -20,6 +21,7 @@ mod value_plan;
 pub use field::{Field, Group, Span};
 pub use iter::FieldIter;
 pub use kind::FieldKind;
+pub use listing::Listed;
 pub use place::{header_span, message_span, note_span, reset_span};
 
 #[cfg(test)]

@@ -69,6 +69,7 @@ fn parameters_length(len: u8) -> MessagePlan
 }
 
 /// What stands next in these octets.
+#[inline(always)]
 pub(crate) fn message_plan(part: MessagePart, octets: &[u8]) -> MessagePlan
     ensures { message_planned result ≡ message_plan part octets.now }
 {

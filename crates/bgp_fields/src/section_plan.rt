@@ -114,6 +114,7 @@ fn attribute_length(ctx: &Context, flags: u8, kind: u8, octets: &[u8]) -> Sectio
 }
 
 /// What stands next in these octets.
+#[inline(always)]
 pub(crate) fn section_plan(ctx: &Context, part: SectionPart, octets: &[u8]) -> SectionPlan
     ensures { section_planned result ≡ section_plan ctx.now part octets.now }
 {

@@ -210,6 +210,7 @@ fn capability_length(code: u8, len: u8, left: usize) -> ValuePlan
 }
 
 /// What stands next in these octets.
+#[inline(always)]
 pub(crate) fn value_plan(ctx: &Context, part: ValuePart, octets: &[u8]) -> ValuePlan
     ensures { value_planned result ≡ value_plan ctx.now part octets.now }
 {

@@ -1,6 +1,6 @@
 -- Fields in a list of the caller's.
-use Rattle.std.proofs.Common.{◌≡◌, ℕ, true, false, nat_le, ◌+◌, ◌<◌, ◌≤◌, List, [], ◌∷◌, ◌++◌, length, map, drop, set, refl, sym, ap, ◌∙◌, arith}
-use Rattle.std.proofs.lemmas.List.{append-nil, append_assoc, drop-drop, length-append, length-drop, length-map, length_push, map-append, set-append_right}
+use Rattle.std.proofs.Common.{◌≡◌, ℕ, true, false, nat_le, ◌+◌, ◌≤◌, List, [], ◌∷◌, ◌++◌, length, map, drop, refl, sym, ap, ◌∙◌, arith}
+use Rattle.std.proofs.lemmas.List.{length-map}
 use Rattle.bgp_open.specs.declared.context.Context.{Context}
 use Rattle.bgp_fields.specs.declared.field.Field.{Field}
 use Rattle.bgp_fields.specs.Fields.{fields_of}
@@ -19,79 +19,6 @@ tiles_count from to (f ∷ fs) t = omega (arith, t.0, t.1, tiles_count (f.at + f
 -- each has an octet at least
 pub few_fields : (ctx : Context) (octets : List ℕ) → length (fields_of ctx octets) ≤ length octets
 few_fields ctx octets = omega (arith, tiles_count 0 (length octets) (fields_of ctx octets) (fields-octets ctx octets).placed)
-
--- ---- listed
-
-set_first : (ys : List ToldField) (y : ToldField) → 0 < length ys → set ys 0 y ≡ y ∷ drop 1 ys
-set_first [] y some = absurd (omega arith)
-set_first (old ∷ ys) y some = refl
-
-set_next : (front back : List ToldField) (count : ℕ) (y : ToldField) → length front ≡ count → 0 < length back → set (front ++ back) count y ≡ (front ++ y ∷ []) ++ drop 1 back
-set_next front back count y is some =
-    set-append_right front back count count y is (omega arith)
-    ∙ ap (λ (n : ℕ). front ++ set back n y) (omega arith)
-    ∙ ap (λ (l : List ToldField). front ++ l) (set_first back y some)
-    ∙ sym (append_assoc front (y ∷ []) (drop 1 back))
-
--- those that are done stand in the first places of a list, and behind them what stood there; the others are left
-pub record IsSoFar (all left : List Field) (count : ℕ) (list places : List ToldField) : Type 0 where
-  pub done : List Field
-  pub whole : all ≡ done ++ left
-  pub counted : length done ≡ count
-  pub lists : list ≡ map field_told done ++ drop count places
-
-pub none_yet : (all : List Field) (places : List ToldField) → IsSoFar all all 0 places places
-none_yet all places = record { done = []; whole = refl; counted = refl; lists = refl }
-
-pub length_all : (all left : List Field) (count : ℕ) (list places : List ToldField) → IsSoFar all left count list places → length all ≡ count + length left
-length_all all left count list places so_far = omega (arith, ap length so_far.whole, length-append so_far.done left, so_far.counted)
-
-pub one_more : (all left later : List Field) (count : ℕ) (list places : List ToldField) (f : Field) (told : ToldField)
-    → IsSoFar all left count list places → left ≡ f ∷ later → told ≡ field_told f → length all ≤ length places
-    → IsSoFar all later (count + 1) (set list count told) places
-one_more all left later count list places f told so_far is same room =
-    let done = so_far.done in
-    let front = map field_told done in
-    let some : 0 < length (drop count places) = omega (arith, length-drop count places, length_all all left count list places so_far, ap length is, room) in
-    record {
-      done = done ++ f ∷ [];
-      whole = so_far.whole ∙ ap (λ (l : List Field). done ++ l) is ∙ sym (append_assoc done (f ∷ []) later);
-      counted = length_push done f ∙ ap (λ (n : ℕ). n + 1) so_far.counted;
-      lists =
-          ap (λ (l : List ToldField). set l count told) so_far.lists
-          ∙ set_next front (drop count places) count told (length-map done field_told ∙ so_far.counted) some
-          ∙ ap (λ (l : List ToldField). (front ++ told ∷ []) ++ l) (drop-drop 1 count places)
-          ∙ ap (λ (t : ToldField). (front ++ t ∷ []) ++ drop (count + 1) places) same
-          ∙ ap (λ (l : List ToldField). l ++ drop (count + 1) places) (sym (map-append field_told done (f ∷ [])));
-    }
-
--- the next place is there
-pub place_left : (all left later : List Field) (count : ℕ) (list places : List ToldField) (f : Field)
-    → IsSoFar all left count list places → left ≡ f ∷ later → length all ≤ length places → count < length list
-place_left all left later count list places f so_far is room =
-    let front = map field_told so_far.done in
-    omega (
-      arith,
-      ap length so_far.lists,
-      length-append front (drop count places),
-      length-map so_far.done field_told,
-      so_far.counted,
-      length-drop count places,
-      length_all all left count list places so_far,
-      ap length is,
-      room,
-    )
-
-pub all_listed : (all left : List Field) (count : ℕ) (list places : List ToldField) → IsSoFar all left count list places → left ≡ []
-    → (list ≡ map field_told all ++ drop (length all) places) × (count ≡ length all)
-all_listed all left count list places so_far none =
-    let same : all ≡ so_far.done = so_far.whole ∙ ap (λ (l : List Field). so_far.done ++ l) none ∙ append-nil so_far.done in
-    let counted : count ≡ length all = omega (arith, length_all all left count list places so_far, ap length none) in (
-      so_far.lists
-          ∙ ap (λ (l : List Field). map field_told l ++ drop count places) (sym same)
-          ∙ ap (λ (n : ℕ). map field_told all ++ drop n places) counted,
-      counted,
-    )
 
 -- ---- all or none
 

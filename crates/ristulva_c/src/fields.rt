@@ -8,7 +8,7 @@ ghost use Rattle.ristulva_c.specs.Fields.{group_at, group_code, field_told, fiel
 use crate::context::{SessionContext, context_of};
 use crate::field_kinds::number_of_kind;
 use crate::status::{INCOMPLETE, OK, ROOM};
-use bgp_fields::{Field, FieldIter, Group};
+use bgp_fields::{Field, FieldIter, Group, Listed};
 use bgp_frame::{Step, front};
 
 /// A field of a message: octets that have one meaning together.
@@ -55,16 +55,18 @@ fn group_code(group: Option<Group>) -> u8
     }
 }
 
-/// A field as it is told.
-fn field_told(field: Field) -> ToldField
-    ensures { result ≡ field_told field }
-{
-    ToldField {
-        at: field.at,
-        len: field.len,
-        group: group_at(field.group),
-        kind: number_of_kind(field.kind),
-        code: group_code(field.group),
+impl Listed for ToldField {
+    ghost told = { field_told };
+
+    #[inline(always)]
+    fn of(field: Field) -> ToldField {
+        ToldField {
+            at: field.at,
+            len: field.len,
+            group: group_at(field.group),
+            kind: number_of_kind(field.kind),
+            code: group_code(field.group),
+        }
     }
 }
 
@@ -90,21 +92,6 @@ fn fit(octets: usize, fields: FieldIter<'_>, room: usize) -> bool
     octets <= room || count_fields(fields) <= room
 }
 
-/// Writes fields to the first places of a list, which has room for them. Answers how many they are.
-fn put_fields(fields: FieldIter<'_>, list: &mut [ToldField]) -> usize
-    requires { length (fields_left fields) ≤ length list.old }
-    ensures list { list.new ≡ map field_told (fields_left fields.entry) ++ drop (length (fields_left fields.entry)) list.old }
-    ensures count { result ≡ length (fields_left fields.entry) }
-{
-    let mut count = 0;
-    let mut left = fields;
-    'fields: while let Some(field) = left.next() {
-        list[count] = field_told(field);
-        count += 1;
-    }
-    count
-}
-
 /// Lists the fields of a whole message, or of a header with a fault.
 fn fill(ctx: &SessionContext, message: &[u8], list: &mut [ToldField], written: &mut usize) -> u32
     requires { length message.now ≤ 4096 }
@@ -114,7 +101,7 @@ fn fill(ctx: &SessionContext, message: &[u8], list: &mut [ToldField], written: &
     if !fit(message.len(), fields, list.len()) {
         return ROOM;
     }
-    *written = put_fields(fields, list);
+    *written = fields.list(list);
     OK
 }
 

@@ -25,6 +25,6 @@ returns c =
     let message = c.args.message.now in
     let fields = fields_left c.new-fields.result in
     let few : length fields ≤ 4096 = omega (arith, ap length c.new-fields.ensures, few_fields c.context_of.result message, c.requires) in
-    subst (λ (fs : List Field). IsFilled (map field_told fs) (record { status = OK; before = c.args.list.now; behind = c.put_fields.new.list; written_before = c.args.written.now; written_behind = c.put_fields.result }))
+    subst (λ (fs : List Field). IsFilled (map field_told fs) (record { status = OK; before = c.args.list.now; behind = c.list.new.list; written_before = c.args.written.now; written_behind = c.list.result }))
     (c.new-fields.ensures ∙ ap (λ (k : Context). fields_of k message) c.context_of.ensures)
-    (all_filled fields c.args.list.now c.put_fields.new.list c.args.written.now c.put_fields.result (sym c.fit.ensures ∙ c.if-not-fit.false) few c.put_fields.ensures.list c.put_fields.ensures.count)
+    (all_filled fields c.args.list.now c.list.new.list c.args.written.now c.list.result (sym c.fit.ensures ∙ c.if-not-fit.false) few c.list.ensures.list c.list.ensures.count)

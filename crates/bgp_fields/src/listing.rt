@@ -1,0 +1,165 @@
+//! The fields of a message in a list of the caller's: as an iterator gives them, but what is left stands in registers and not in an iterator.
+
+ghost use Rattle.std.specs.Prelude.{◌≡◌, ◌≤◌, ◌+◌, ◌++◌, length, map, drop, None};
+ghost use Rattle.bgp_fields.specs.FieldIter.{fields_left};
+ghost use Rattle.bgp_fields.specs.Fields.{value_fields, section_fields, message_fields};
+ghost use Rattle.bgp_fields.specs.steps.Listing.{listed};
+
+use crate::field::{Field, Group};
+use crate::iter::{FieldIter, field, group_from};
+use crate::message_plan::message_plan;
+use crate::part::{MessagePart, SectionPart, ValuePart};
+use crate::section_plan::section_plan;
+use crate::value_plan::value_plan;
+use bgp_open::Context;
+
+/// What a field is told as in a list.
+pub trait Listed: Copy {
+    ghost use Rattle.bgp_fields.specs.declared.field.Field.{Field};
+
+    /// A field as it is told.
+    ghost told: { Field → Self };
+
+    /// Tells a field.
+    fn of(field: Field) -> Self
+        ensures { result ≡ told field };
+}
+
+/// Lists the fields of a value behind so many places. Answers how many places are taken.
+fn list_value<T: Listed>(
+    ctx: &Context,
+    part: ValuePart,
+    at: usize,
+    group: Option<Group>,
+    octets: &[u8],
+    list: &mut [T],
+    count: usize,
+) -> usize
+    requires few { count ≤ at }
+    requires short { at + length octets.now ≤ 4096 }
+    requires room { count + length (value_fields ctx.now part at group octets.now) ≤ length list.old }
+    ensures list { list.new ≡ listed count (map T.told (value_fields ctx.now part at group octets.now)) list.old }
+    ensures count { result ≡ count + length (value_fields ctx.now part at group octets.now) }
+    // Each field has an octet at least.
+    ensures few { result ≤ at + length octets.now }
+{
+    let mut next = part;
+    let mut place = at;
+    let mut holder = group;
+    let mut left = octets;
+    let mut taken = count;
+    'value: while !left.is_empty() {
+        let plan = value_plan(ctx, next, left).fit(left.len());
+        let (_, rest) = left.split_at(plan.len);
+        holder = group_from(place, plan.begins, holder);
+        list[taken] = T::of(field(place, plan.len, plan.kind, holder));
+        taken += 1;
+        place += plan.len;
+        next = plan.next;
+        left = rest;
+    }
+    taken
+}
+
+/// Lists the fields of a section behind so many places. Answers how many places are taken.
+fn list_section<T: Listed>(
+    ctx: &Context,
+    part: SectionPart,
+    at: usize,
+    group: Option<Group>,
+    octets: &[u8],
+    list: &mut [T],
+    count: usize,
+) -> usize
+    requires few { count ≤ at }
+    requires short { at + length octets.now ≤ 4096 }
+    requires room { count + length (section_fields ctx.now part at group octets.now) ≤ length list.old }
+    ensures list { list.new ≡ listed count (map T.told (section_fields ctx.now part at group octets.now)) list.old }
+    ensures count { result ≡ count + length (section_fields ctx.now part at group octets.now) }
+    // Each field has an octet at least.
+    ensures few { result ≤ at + length octets.now }
+{
+    let mut next = part;
+    let mut place = at;
+    let mut holder = group;
+    let mut left = octets;
+    let mut taken = count;
+    'section: while !left.is_empty() {
+        let plan = section_plan(ctx, next, left).fit(left.len());
+        let (_, behind) = left.split_at(plan.len);
+        let (inside, rest) = behind.split_at(plan.inner_len);
+        holder = group_from(place, plan.begins, holder);
+        list[taken] = T::of(field(place, plan.len, plan.kind, holder));
+        place += plan.len;
+        taken = list_value(ctx, plan.inner, place, holder, inside, list, taken + 1);
+        place += plan.inner_len;
+        next = plan.next;
+        left = rest;
+    }
+    taken
+}
+
+/// Lists the fields of a message behind so many places. Answers how many places are taken.
+fn list_message<T: Listed>(
+    ctx: &Context,
+    part: MessagePart,
+    at: usize,
+    octets: &[u8],
+    list: &mut [T],
+    count: usize,
+) -> usize
+    requires few { count ≤ at }
+    requires short { at + length octets.now ≤ 4096 }
+    requires room { count + length (message_fields ctx.now part at None octets.now) ≤ length list.old }
+    ensures list { list.new ≡ listed count (map T.told (message_fields ctx.now part at None octets.now)) list.old }
+    ensures count { result ≡ count + length (message_fields ctx.now part at None octets.now) }
+{
+    let mut next = part;
+    let mut place = at;
+    let mut left = octets;
+    let mut taken = count;
+    'message: while !left.is_empty() {
+        let plan = message_plan(next, left).fit(left.len());
+        let (_, behind) = left.split_at(plan.len);
+        let (inside, rest) = behind.split_at(plan.inner_len);
+        list[taken] = T::of(field(place, plan.len, plan.kind, None));
+        place += plan.len;
+        taken = list_section(ctx, plan.inner, place, None, inside, list, taken + 1);
+        place += plan.inner_len;
+        next = plan.next;
+        left = rest;
+    }
+    taken
+}
+
+impl<'a> FieldIter<'a> {
+    /// Writes the fields that are left to the first places of a list, which has room for them. Answers how many they are.
+    pub fn list<T: Listed>(self, list: &mut [T]) -> usize
+        requires { length (fields_left self) ≤ length list.old }
+        ensures list { list.new ≡ map T.told (fields_left self.entry) ++ drop (length (fields_left self.entry)) list.old }
+        ensures count { result ≡ length (fields_left self.entry) }
+    {
+        let ctx = self.ctx;
+        let behind = self.at + self.value_octets.len();
+        let taken = list_value(
+            &ctx,
+            self.value,
+            self.at,
+            self.value_group,
+            self.value_octets,
+            list,
+            0,
+        );
+        let taken = list_section(
+            &ctx,
+            self.section,
+            behind,
+            self.section_group,
+            self.section_octets,
+            list,
+            taken,
+        );
+        let behind = behind + self.section_octets.len();
+        list_message(&ctx, self.message, behind, self.message_octets, list, taken)
+    }
+}
