@@ -1,9 +1,10 @@
 -- One step of an iterator of fields.
-use Rattle.std.proofs.Common.{◌≡◌, ℕ, ◌+◌, ◌-◌, ◌<◌, List, [], ◌∷◌, ◌++◌, length, take, drop, Option, None, refl, sym, ap, ap₂, ◌∙◌, arith, length-drop}
+use Rattle.std.proofs.Common.{◌≡◌, ℕ, ◌+◌, ◌-◌, ◌<◌, ◌≤◌, List, [], ◌∷◌, ◌++◌, length, take, drop, Option, None, refl, sym, ap, ap₂, ◌∙◌, arith, length-drop}
 use Rattle.std.proofs.lemmas.List.{length-take-le, drop-drop, append_assoc}
 use Rattle.bgp_open.specs.declared.context.Context.{Context}
 use Rattle.bgp_fields.specs.declared.field.Field.{Field}
 use Rattle.bgp_fields.specs.declared.field.Group.{Group}
+use Rattle.bgp_fields.specs.declared.kind.FieldKind.{FieldKind}
 use Rattle.bgp_fields.specs.declared.kind.FieldKind.TheVariants.{Unread}
 use Rattle.bgp_fields.specs.declared.part.MessagePart.{MessagePart}
 use Rattle.bgp_fields.specs.declared.part.MessagePart.TheVariants as message
@@ -18,7 +19,7 @@ use Rattle.bgp_fields.specs.Fields.{no_fields, value_fields, section_fields, mes
 use Rattle.bgp_fields.specs.Parts.{value_plan, section_plan, message_plan}
 use Rattle.bgp_fields.specs.steps.Plans.{value_planned, section_planned, message_planned}
 use Rattle.bgp_fields.specs.Walk.{fit, group_from}
-use Rattle.bgp_fields.proofs.Walks.{walk-none, walk-told, walk-split, fits-told}
+use Rattle.bgp_fields.proofs.Walks.{fit-same, walk-none, walk-told, walk-split, fits-told}
 
 -- a field of a value
 pub value-next : (ctx : Context) (part : ValuePart) (at : ℕ) (group g : Option Group) (b rest : List ℕ) (p : ValuePlan)
@@ -27,6 +28,16 @@ pub value-next : (ctx : Context) (part : ValuePart) (at : ℕ) (group g : Option
 value-next ctx part at group g b rest p some e group_is rest_is =
     walk-split (Unit {0}) ValuePart (value.All Unread) (value_plan ctx) no_fields part at group g b [] rest (value_planned p) some e group_is refl rest_is
     ∙ ap (λ (n : ℕ). record { at = at; len = p.len; kind = p.kind; group = g } ∷ value_fields ctx p.next n g rest) (omega arith)
+
+-- one of a row
+pub row-next : (ctx : Context) (part : ValuePart) (kind : FieldKind) (width at : ℕ) (group : Option Group) (b rest : List ℕ)
+    → part ≡ value.Row kind width → 0 < width → width ≤ length b → rest ≡ drop width b
+    → value_fields ctx part at group b ≡ record { at = at; len = width; kind = kind; group = group } ∷ value_fields ctx part (at + width) group rest
+row-next ctx part kind width at group b rest row some fits rest_is =
+    let p : ValuePlan = record { kind = kind; len = width; begins = None; next = value.Row kind width } in
+    rw row
+    (value-next ctx (value.Row kind width) at group group b rest p (omega (arith, some, fits))
+    (sym (fit-same (Unit {0}) ValuePart (value.All Unread) (value_planned p) (length b) (some, omega (arith, fits)))) refl rest_is)
 
 -- and what stands behind the value
 pub value-step : (ctx : Context) (part : ValuePart) (at : ℕ) (group : Option Group) (b : List ℕ) (later : ℕ → List Field)

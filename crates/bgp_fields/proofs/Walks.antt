@@ -1,7 +1,7 @@
 -- A walk, a field at a time.
 use Rattle.std.proofs.Common.{◌≡◌, ℕ, zero, suc, ◌+◌, ◌<◌, ◌≤◌, ◌&&◌, nat_lt, nat_le, cond, List, [], ◌∷◌, ◌++◌, length, take, drop, Option, None, refl, sym, ap, ap₂, subst, ◌∙◌, arith, length-drop}
 use Rattle.std.proofs.lemmas.List.{drop-drop, length-take-le}
-use Rattle.std.proofs.lemmas.Bool.{and_parts, leb-true, ltb-true, cond_both}
+use Rattle.std.proofs.lemmas.Bool.{and_parts, leb-true, ltb-true, le-leb, lt-ltb, cond_both}
 use Rattle.bgp_fields.specs.declared.field.Field.{Field}
 use Rattle.bgp_fields.specs.declared.field.Group.{Group}
 use Rattle.bgp_fields.specs.declared.kind.FieldKind.TheVariants.{Unread}
@@ -25,6 +25,11 @@ module _ (I S : Type 0) where
       (λ room. (more, leb-true (p.len + p.inner_len) n room))
       (λ no. (more, omega arith)))
       (λ no. (some, omega arith))
+
+  -- one that fits is as it was
+  pub fit-same : (stuck : S) (p : Plan I S) (n : ℕ) → Fits n p → fit stuck p n ≡ p
+  fit-same stuck p n fits =
+      rw (lt-ltb 0 p.len fits.0) (rw (le-leb p.len n (omega (arith, fits.1))) (rw (le-leb (p.len + p.inner_len) n fits.1) refl))
 
 module _ (I S : Type 0) (stuck : S) (plan : S → List ℕ → Plan I S) (inside : I → Telling) where
   -- what is left behind the octets that a field takes

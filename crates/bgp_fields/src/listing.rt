@@ -1,6 +1,7 @@
 //! The fields of a message in a list of the caller's: as an iterator gives them, but what is left stands in registers and not in an iterator.
 
-ghost use Rattle.std.specs.Prelude.{◌≡◌, ◌≤◌, ◌+◌, ◌++◌, length, map, drop, None};
+ghost use Rattle.std.specs.Prelude.{◌≡◌, ◌≤◌, ◌<◌, ◌+◌, ◌++◌, length, map, drop, None};
+ghost use Rattle.bgp_fields.specs.declared.part.ValuePart.TheVariants as value;
 ghost use Rattle.bgp_fields.specs.FieldIter.{fields_left};
 ghost use Rattle.bgp_fields.specs.Fields.{value_fields, section_fields, message_fields};
 ghost use Rattle.bgp_fields.specs.steps.Listing.{listed};
@@ -61,6 +62,68 @@ fn list_value<T: Listed>(
     taken
 }
 
+/// Lists the fields of a value in which those like the first stand one behind another. Answers how many places are taken.
+fn list_row<T: Listed>(
+    ctx: &Context,
+    part: ValuePart,
+    first: Field,
+    octets: &[u8],
+    list: &mut [T],
+    count: usize,
+) -> usize
+    requires row { part ≡ value.Row first.kind first.len }
+    requires some { 0 < first.len }
+    requires few { count ≤ first.at }
+    requires short { first.at + length octets.now ≤ 4096 }
+    requires room { count + length (value_fields ctx.now part first.at first.group octets.now) ≤ length list.old }
+    ensures list { list.new ≡ listed count (map T.told (value_fields ctx.now part first.at first.group octets.now)) list.old }
+    ensures count { result ≡ count + length (value_fields ctx.now part first.at first.group octets.now) }
+    ensures few { result ≤ first.at + length octets.now }
+{
+    let width = usize::from(first.len);
+    let mut at = first.at;
+    let mut left = octets;
+    let mut taken = count;
+    'row: while width <= left.len() {
+        let (_, rest) = left.split_at(width);
+        list[taken] = T::of(Field { at, ..first });
+        taken += 1;
+        at += first.len;
+        left = rest;
+    }
+    list_value(ctx, part, usize::from(at), first.group, left, list, taken)
+}
+
+/// Lists the fields of what is inside of an attribute or a parameter behind so many places. Answers how many places are taken.
+#[inline(always)]
+fn list_inside<T: Listed>(
+    ctx: &Context,
+    part: ValuePart,
+    at: usize,
+    group: Option<Group>,
+    octets: &[u8],
+    list: &mut [T],
+    count: usize,
+) -> usize
+    requires few { count ≤ at }
+    requires short { at + length octets.now ≤ 4096 }
+    requires room { count + length (value_fields ctx.now part at group octets.now) ≤ length list.old }
+    ensures list { list.new ≡ listed count (map T.told (value_fields ctx.now part at group octets.now)) list.old }
+    ensures count { result ≡ count + length (value_fields ctx.now part at group octets.now) }
+    ensures few { result ≤ at + length octets.now }
+{
+    if octets.is_empty() {
+        return count;
+    }
+    match part {
+        ValuePart::Row(kind, width) if width > 0 => {
+            let first = field(at, usize::from(width), kind, group);
+            list_row(ctx, part, first, octets, list, count)
+        }
+        _ => list_value(ctx, part, at, group, octets, list, count),
+    }
+}
+
 /// Lists the fields of a section behind so many places. Answers how many places are taken.
 fn list_section<T: Listed>(
     ctx: &Context,
@@ -91,7 +154,7 @@ fn list_section<T: Listed>(
         holder = group_from(place, plan.begins, holder);
         list[taken] = T::of(field(place, plan.len, plan.kind, holder));
         place += plan.len;
-        taken = list_value(ctx, plan.inner, place, holder, inside, list, taken + 1);
+        taken = list_inside(ctx, plan.inner, place, holder, inside, list, taken + 1);
         place += plan.inner_len;
         next = plan.next;
         left = rest;

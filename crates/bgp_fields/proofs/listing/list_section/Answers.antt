@@ -36,11 +36,11 @@ section-preserved g c =
     let long = lengths ValuePart SectionPart (section.All Unread) (section_plan c.args.ctx.now) (value_fields c.args.ctx.now) c.section.next left inside rest (section_planned p) some e inside_is rest_is in
     let is = walk-split ValuePart SectionPart (section.All Unread) (section_plan c.args.ctx.now) (value_fields c.args.ctx.now) c.section.next c.section.place c.section.holder held left inside rest (section_planned p) some e c.group_from-holder.ensures inside_is rest_is in
     record {
-      listing = more g.row.T.Denot g.T.Listed.told all (inner ++ later) later inner c.args.count (c.section.taken + 1) c.list_value-taken.result c.args.list.now _ c.list_value-taken.new.list
+      listing = more g.row.T.Denot g.T.Listed.told all (inner ++ later) later inner c.args.count (c.section.taken + 1) c.list_inside-taken.result c.args.list.now _ c.list_inside-taken.new.list
           (one_more g.row.T.Denot g.T.Listed.told all (section_fields c.args.ctx.now c.section.next c.section.place c.section.holder left) (inner ++ later) _ c.args.count c.section.taken c.args.list.now c.section.list c.of.result c.section.invariant.listing is
           (c.of.ensures ∙ ap g.T.Listed.told c.field.ensures))
-          refl c.list_value-taken.ensures.count c.list_value-taken.ensures.list;
-      few = omega (arith, c.list_value-taken.ensures.few, long.inner_len);
+          refl c.list_inside-taken.ensures.count c.list_inside-taken.ensures.list;
+      few = omega (arith, c.list_inside-taken.ensures.few, long.inner_len);
       ends = omega (arith, c.section.invariant.ends, long.whole);
     }
 
@@ -53,8 +53,8 @@ section-smaller g c =
     (c.split_at-in-section.ensures.back ∙ ap (drop c.fit-plan.result.inner_len) c.split_at.ensures.back) in
     omega (arith, long.some, long.whole)
 
-pub list_value-taken-requires-clause-room : goal.list_value-taken-requires-clause-room
-list_value-taken-requires-clause-room g c =
+pub list_inside-taken-requires-clause-room : goal.list_inside-taken-requires-clause-room
+list_inside-taken-requires-clause-room g c =
     let left = c.section.left.now in
     let p = c.fit-plan.result in
     let inside = c.split_at-in-section.result.0.now in

@@ -1,0 +1,27 @@
+use Rattle.std.proofs.Common.{◌≡◌, ℕ, true, ◌==◌, ◌+◌, List, [], length, map, Option, ap, sym, ◌∙◌, arith}
+use Rattle.bgp_open.specs.declared.context.Context.{Context}
+use Rattle.bgp_fields.specs.declared.field.Field.{Field}
+use Rattle.bgp_fields.specs.declared.field.Group.{Group}
+use Rattle.bgp_fields.specs.declared.kind.FieldKind.TheVariants.{Unread}
+use Rattle.bgp_fields.specs.declared.part.ValuePart.{ValuePart}
+use Rattle.bgp_fields.specs.declared.part.ValuePart.TheVariants as value
+use Rattle.bgp_fields.specs.Fields.{no_fields, value_fields}
+use Rattle.bgp_fields.specs.Parts.{value_plan}
+use Rattle.bgp_fields.specs.steps.Listing.{listed}
+use Rattle.bgp_fields.proofs.Walks.{walk-none}
+use Rattle.bgp_fields.proofs.Listings.{listed-none, none_left}
+use Rattle.bgp_fields.proofs.listing.list_inside.Goals as goal
+
+no-fields : (ctx : Context) (part : ValuePart) (at : ℕ) (group : Option Group) (b : List ℕ) → (length b == 0) ≡ true → value_fields ctx part at group b ≡ []
+no-fields ctx part at group b e =
+    ap (value_fields ctx part at group) (none_left b e) ∙ walk-none (Unit {0}) ValuePart (value.All Unread) (value_plan ctx) no_fields part at group
+
+pub returns-then-is_empty-clause-list : goal.returns-then-is_empty-clause-list
+returns-then-is_empty-clause-list g c =
+    sym (ap (λ (fs : List Field). listed c.args.count (map g.T.Listed.told fs) c.args.list.now)
+    (no-fields c.args.ctx.now c.args.part c.args.at c.args.group c.args.octets.now (sym c.is_empty.ensures ∙ c.if-is_empty.true))
+    ∙ listed-none g.row.T.Denot c.args.count c.args.list.now)
+
+pub returns-then-is_empty-clause-count : goal.returns-then-is_empty-clause-count
+returns-then-is_empty-clause-count g c =
+    omega (arith, ap length (no-fields c.args.ctx.now c.args.part c.args.at c.args.group c.args.octets.now (sym c.is_empty.ensures ∙ c.if-is_empty.true)))
