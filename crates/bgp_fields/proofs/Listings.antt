@@ -19,6 +19,18 @@ module _ (T : Type 0) where
       ∙ sym (append_assoc (take count list) (x ∷ []) (xs ++ drop n list))
       ∙ ap₂ (λ (front back : List T). front ++ (xs ++ back)) (sym (take_more_set list count x some)) (sym (drop-set-lt n list count x (omega arith)))
 
+  pub listed-three : (count : ℕ) (x y z : T) (list : List T) → count + 3 ≤ length list
+      → listed count (x ∷ y ∷ z ∷ []) list ≡ set (set (set list count x) (count + 1) y) (count + 2) z
+  listed-three count x y z list room =
+      let one = set list count x in
+      let two = set one (count + 1) y in
+      let long : length two ≡ length list = length-set one (count + 1) y ∙ length-set list count x in
+      listed-first count x (y ∷ z ∷ []) list (omega (arith, room))
+      ∙ listed-first (count + 1) y (z ∷ []) one (omega (arith, room, length-set list count x))
+      ∙ ap (λ (n : ℕ). listed n (z ∷ []) two) (omega arith)
+      ∙ listed-first (count + 2) z [] two (omega (arith, room, long))
+      ∙ listed-none (count + 2 + 1) (set two (count + 2) z)
+
   -- some are listed, and others behind them
   pub listed-then : (xs ys : List T) (count : ℕ) (list : List T) → count + length xs ≤ length list
       → listed count (xs ++ ys) list ≡ listed (count + length xs) ys (listed count xs list)
@@ -89,6 +101,14 @@ module _ (T : Type 0) where
           counted = omega (arith, n_is, so_far.counted, ap length is, length-append fs later);
           room = omega (arith, so_far.room, ap length behind_is, length-listed (map told fs) count list room);
         }
+
+    -- behind more there is room for those that follow them
+    pub room_behind : (all left fs inner later : List Field) (start count n : ℕ) (places list behind : List T)
+        → IsListing all left start count places list → left ≡ fs ++ (inner ++ later) → n ≡ count + length fs → behind ≡ listed count (map told fs) list
+        → n + length inner ≤ length behind
+    room_behind all left fs inner later start count n places list behind so_far is n_is behind_is =
+        let next = more all left (inner ++ later) fs start count n places list behind so_far is n_is behind_is in
+        omega (arith, next.counted, next.room, length-append inner later)
 
     -- all are listed
     pub all_listed : (all left : List Field) (start count : ℕ) (places list : List T) → IsListing all left start count places list → left ≡ []

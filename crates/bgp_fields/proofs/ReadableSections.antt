@@ -27,6 +27,7 @@ use Rattle.bgp_fields.specs.Parts.{leaf, first_of, two_of, prefix_len, nothing_i
 use Rattle.bgp_fields.proofs.Readable.{ValueRead, SectionRead, value-none, section-none, value-front, section-front, section-behind}
 use Rattle.bgp_fields.proofs.ReadableValues.{prefix-long}
 use Rattle.bgp_fields.proofs.ReadableAttributes.{kept-read}
+use Rattle.bgp_fields.proofs.Steps.{width-some}
 
 -- the length of an attribute, of as many octets as its flags say
 pub attribute-long : (extended : Bool) (size back : List ℕ) → length size ≡ cond extended 2 1
@@ -38,13 +39,6 @@ attribute-long true (x ∷ y ∷ z ∷ size) back e = absurd (omega (arith, e))
 attribute-long false [] back e = absurd (omega (arith, e))
 attribute-long false (x ∷ []) back e = refl
 attribute-long false (x ∷ y ∷ size) back e = absurd (omega (arith, e))
-
-pub width-some : (flags : ℕ) → 0 < length_width flags
-width-some flags = width-by (is_extended flags)
-  where
-    width-by : (extended : Bool) → 0 < cond extended 2 1
-    width-by true = omega arith
-    width-by false = omega arith
 
 module _ (ctx : Context) where
   -- ---- Withdrawn Routes

@@ -28,7 +28,8 @@ use Rattle.bgp_fields.specs.Fields.{no_fields, value_fields, section_fields, mes
 use Rattle.bgp_fields.specs.Parts.{alone, leaf, opening, behind, first_of, prefix_len, nothing_inside, attribute_value, attribute_len, value_plan, section_plan, message_plan}
 use Rattle.bgp_fields.specs.Walk.{Plan, fit}
 use Rattle.bgp_fields.proofs.Walks.{walk-none}
-use Rattle.bgp_fields.proofs.ReadableSections.{attribute-long, width-some}
+use Rattle.bgp_fields.proofs.ReadableSections.{attribute-long}
+use Rattle.bgp_fields.proofs.Steps.{width-some}
 use Rattle.bgp_fields.proofs.ReadableValues.{prefix-long}
 use Rattle.bgp_fields.proofs.Showing.{is_prefix, pick, pick-nil, pick-append, prefix-in, Shows, nothing-shows, shows-fit, shows-step, shows-leaf}
 use Rattle.bgp_fields.proofs.ShowingValues.{ValueShows}

@@ -1,11 +1,14 @@
 -- One step of an iterator of fields.
-use Rattle.std.proofs.Common.{◌≡◌, ℕ, ◌+◌, ◌-◌, ◌<◌, ◌≤◌, List, [], ◌∷◌, ◌++◌, length, take, drop, Option, None, refl, sym, ap, ap₂, ◌∙◌, arith, length-drop}
+use Rattle.std.proofs.Common.{◌≡◌, ℕ, ◌+◌, ◌-◌, ◌<◌, ◌≤◌, cond, Bool, true, false, List, [], ◌∷◌, ◌++◌, length, take, drop, Option, Some, None, refl, sym, ap, ap₂, ◌∙◌, arith, length-drop}
 use Rattle.std.proofs.lemmas.List.{length-take-le, drop-drop, append_assoc}
+use Rattle.bgp_attr.specs.Flags.{is_extended}
+use Rattle.bgp_attr.specs.Tlv.{length_width}
 use Rattle.bgp_open.specs.declared.context.Context.{Context}
 use Rattle.bgp_fields.specs.declared.field.Field.{Field}
 use Rattle.bgp_fields.specs.declared.field.Group.{Group}
 use Rattle.bgp_fields.specs.declared.kind.FieldKind.{FieldKind}
-use Rattle.bgp_fields.specs.declared.kind.FieldKind.TheVariants.{Unread}
+use Rattle.bgp_fields.specs.declared.kind.FieldKind.TheVariants.{Unread, AttributeFlags, AttributeType, AttributeLength}
+use Rattle.bgp_fields.specs.declared.head.Head.{Head}
 use Rattle.bgp_fields.specs.declared.part.MessagePart.{MessagePart}
 use Rattle.bgp_fields.specs.declared.part.MessagePart.TheVariants as message
 use Rattle.bgp_fields.specs.declared.part.SectionPart.{SectionPart}
@@ -16,10 +19,12 @@ use Rattle.bgp_fields.specs.declared.plan.ValuePlan.{ValuePlan}
 use Rattle.bgp_fields.specs.declared.plan.SectionPlan.{SectionPlan}
 use Rattle.bgp_fields.specs.declared.plan.MessagePlan.{MessagePlan}
 use Rattle.bgp_fields.specs.Fields.{no_fields, value_fields, section_fields, message_fields}
-use Rattle.bgp_fields.specs.Parts.{value_plan, section_plan, message_plan}
+use Rattle.bgp_fields.specs.Parts.{value_plan, section_plan, message_plan, leaf, opening, nothing_inside, attribute_value, attribute_len}
+use Rattle.bgp_fields.specs.Parts as Parts
+use Rattle.bgp_fields.specs.steps.Heads.{IsHead, head_fields}
 use Rattle.bgp_fields.specs.steps.Plans.{value_planned, section_planned, message_planned}
-use Rattle.bgp_fields.specs.Walk.{fit, group_from}
-use Rattle.bgp_fields.proofs.Walks.{fit-same, walk-none, walk-told, walk-split, fits-told}
+use Rattle.bgp_fields.specs.Walk.{Plan, fit, group_from}
+use Rattle.bgp_fields.proofs.Walks.{Fits, fit-same, walk-none, walk-told, walk-split, fits-told}
 
 -- a field of a value
 pub value-next : (ctx : Context) (part : ValuePart) (at : ℕ) (group g : Option Group) (b rest : List ℕ) (p : ValuePlan)
@@ -49,6 +54,76 @@ value-step ctx part at group b later p g rest some e group_is rest_is =
     let fits = fits-told (Unit {0}) ValuePart (value.All Unread) (value_plan ctx) no_fields part b (value_planned p) some e in
     ap₂ (λ (fs gs : List Field). fs ++ gs) (value-next ctx part at group g b rest p some e group_is rest_is)
     (ap later (omega (arith, ap length rest_is, length-drop p.len b, fits.1)))
+
+-- the length of an attribute has an octet at least
+pub width-some : (flags : ℕ) → 0 < length_width flags
+width-some flags = width-by (is_extended flags)
+  where
+    width-by : (extended : Bool) → 0 < cond extended 2 1
+    width-by true = omega arith
+    width-by false = omega arith
+
+-- a field of a section, by what stands next
+pub section-next : (ctx : Context) (part : SectionPart) (at : ℕ) (group g : Option Group) (b inner rest : List ℕ) (p : Plan ValuePart SectionPart)
+    → section_plan ctx part b ≡ p → Fits ValuePart SectionPart (length b) p → g ≡ group_from at p.begins group
+    → inner ≡ take p.inner_len (drop p.len b) → rest ≡ drop p.inner_len (drop p.len b)
+    → section_fields ctx part at group b
+    ≡ record { at = at; len = p.len; kind = p.kind; group = g } ∷ (value_fields ctx p.inner (at + p.len) g inner ++ section_fields ctx p.next (at + p.len + p.inner_len) g rest)
+section-next ctx part at group g b inner rest p is fits group_is inner_is rest_is =
+    walk-split ValuePart SectionPart (section.All Unread) (section_plan ctx) (value_fields ctx) part at group g b inner rest p (omega (arith, fits.0, fits.1))
+    (sym (ap (λ (q : Plan ValuePart SectionPart). fit (section.All Unread) q (length b)) is ∙ fit-same ValuePart SectionPart (section.All Unread) p (length b) fits))
+    group_is inner_is rest_is
+
+-- the same of one with nothing inside
+section-leaf : (ctx : Context) (part : SectionPart) (at : ℕ) (group g : Option Group) (b rest : List ℕ) (p : Plan ValuePart SectionPart)
+    → section_plan ctx part b ≡ p → Fits ValuePart SectionPart (length b) p → p.inner_len ≡ 0 → g ≡ group_from at p.begins group → rest ≡ drop p.len b
+    → section_fields ctx part at group b ≡ record { at = at; len = p.len; kind = p.kind; group = g } ∷ section_fields ctx p.next (at + p.len) g rest
+section-leaf ctx part at group g b rest p is fits none group_is rest_is =
+    section-next ctx part at group g b [] rest p is fits group_is
+    (ap (λ (n : ℕ). take n (drop p.len b)) (sym none)) (rest_is ∙ ap (λ (n : ℕ). drop n (drop p.len b)) (sym none))
+    ∙ ap₂ (λ (fs : List Field) (n : ℕ). record { at = at; len = p.len; kind = p.kind; group = g } ∷ (fs ++ section_fields ctx p.next n g rest))
+    (walk-none (Unit {0}) ValuePart (value.All Unread) (value_plan ctx) no_fields p.inner (at + p.len) g) (omega (arith, none))
+
+-- the octets of a whole attribute and of those behind it
+pub head-long : (b : List ℕ) (h : Head) → IsHead b h → 2 + h.width + (length h.value.now + length h.rest.now) ≡ length b
+head-long b h is =
+    let n = attribute_len is.flags is.behind in
+    let behind = length-drop h.width is.behind in
+    omega (
+      arith,
+      ap length is.octets,
+      ap length is.value ∙ length-take-le n (drop h.width is.behind) (omega (arith, behind, is.whole)),
+      ap length is.rest ∙ length-drop n (drop h.width is.behind),
+      behind,
+      is.whole,
+    )
+
+-- the fields of a whole attribute, and of those behind it
+pub attribute-next : (ctx : Context) (at : ℕ) (group : Option Group) (b : List ℕ) (h : Head) → IsHead b h
+    → section_fields ctx section.AttributeFlags at group b
+    ≡ head_fields at h.kind h.width
+    ++ (value_fields ctx (attribute_value ctx h.kind) (at + (2 + h.width)) (Some (record { at = at; code = h.kind })) h.value.now
+    ++ section_fields ctx section.AttributeFlags (at + (2 + h.width) + length h.value.now) (Some (record { at = at; code = h.kind })) h.rest.now)
+attribute-next ctx at group b h is =
+    let g : Option Group = Some (record { at = at; code = h.kind }) in
+    let n = attribute_len is.flags is.behind in
+    let behind : length (drop h.width is.behind) ≡ length is.behind - h.width = length-drop h.width is.behind in
+    let long : length h.value.now ≡ n = ap length is.value ∙ length-take-le n (drop h.width is.behind) (omega (arith, behind, is.whole)) in
+    let some : 0 < h.width = omega (arith, is.width, width-some is.flags) in
+    ap (section_fields ctx section.AttributeFlags at group) is.octets
+    ∙ section-leaf ctx section.AttributeFlags at group g (is.flags ∷ h.kind ∷ is.behind) (h.kind ∷ is.behind)
+    (opening nothing_inside AttributeFlags h.kind (section.AttributeType is.flags)) refl (omega arith, omega arith) refl refl refl
+    ∙ ap (λ (fs : List Field). record { at = at; len = 1; kind = AttributeFlags; group = g } ∷ fs)
+    (section-leaf ctx (section.AttributeType is.flags) (at + 1) g g (h.kind ∷ is.behind) is.behind
+    (leaf nothing_inside AttributeType 1 (section.AttributeLength is.flags h.kind)) refl (omega arith, omega arith) refl refl refl
+    ∙ ap (λ (fs : List Field). record { at = at + 1; len = 1; kind = AttributeType; group = g } ∷ fs)
+    (ap (λ (m : ℕ). section_fields ctx (section.AttributeLength is.flags h.kind) m g is.behind) (omega arith)
+    ∙ section-next ctx (section.AttributeLength is.flags h.kind) (at + 2) g g is.behind h.value.now h.rest.now
+    (Parts.behind AttributeLength h.width (attribute_value ctx h.kind) n section.AttributeFlags)
+    (ap (λ (w : ℕ). Parts.behind AttributeLength w (attribute_value ctx h.kind) n section.AttributeFlags) (sym is.width)) (some, is.whole) refl is.value is.rest
+    ∙ ap₂ (λ (m k : ℕ). record { at = at + 2; len = h.width; kind = AttributeLength; group = g }
+    ∷ (value_fields ctx (attribute_value ctx h.kind) m g h.value.now ++ section_fields ctx section.AttributeFlags k g h.rest.now))
+    (omega arith) (omega (arith, long))))
 
 -- a field of a section: nothing is left of a value
 pub section-step : (ctx : Context) (v : ValuePart) (vg : Option Group) (vb : List ℕ)

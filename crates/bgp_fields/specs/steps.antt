@@ -1,4 +1,5 @@
 -- What only private functions cite: steps of proofs, which nobody has to believe.
+pub mod Heads
 pub mod Listing
 pub mod Plans
 pub mod Sections

@@ -3,6 +3,7 @@
 
 mod asking;
 mod field;
+mod head;
 mod iter;
 mod kind;
 pub mod laws;

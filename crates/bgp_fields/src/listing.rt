@@ -1,16 +1,20 @@
 //! The fields of a message in a list of the caller's: as an iterator gives them, but what is left stands in registers and not in an iterator.
 
 ghost use Rattle.std.specs.Prelude.{◌≡◌, ◌≤◌, ◌<◌, ◌+◌, ◌++◌, length, map, drop, None};
+ghost use Rattle.bgp_fields.specs.declared.part.SectionPart.TheVariants as section;
 ghost use Rattle.bgp_fields.specs.declared.part.ValuePart.TheVariants as value;
 ghost use Rattle.bgp_fields.specs.FieldIter.{fields_left};
 ghost use Rattle.bgp_fields.specs.Fields.{value_fields, section_fields, message_fields};
+ghost use Rattle.bgp_fields.specs.steps.Heads.{head_fields};
 ghost use Rattle.bgp_fields.specs.steps.Listing.{listed};
 
 use crate::field::{Field, Group};
+use crate::head::{Head, attribute_head};
 use crate::iter::{FieldIter, field, group_from};
+use crate::kind::FieldKind;
 use crate::message_plan::message_plan;
 use crate::part::{MessagePart, SectionPart, ValuePart};
-use crate::section_plan::section_plan;
+use crate::section_plan::{attribute_value, section_plan};
 use crate::value_plan::value_plan;
 use bgp_open::Context;
 
@@ -124,8 +128,8 @@ fn list_inside<T: Listed>(
     }
 }
 
-/// Lists the fields of a section behind so many places. Answers how many places are taken.
-fn list_section<T: Listed>(
+/// Lists the fields of a section, one by one, behind so many places. Answers how many places are taken.
+fn list_any_section<T: Listed>(
     ctx: &Context,
     part: SectionPart,
     at: usize,
@@ -160,6 +164,88 @@ fn list_section<T: Listed>(
         left = rest;
     }
     taken
+}
+
+/// Lists the flags, the type and the length of an attribute behind so many places.
+#[inline(always)]
+fn list_head<T: Listed>(at: usize, head: &Head<'_>, list: &mut [T], count: usize)
+    requires few { count ≤ at }
+    requires short { at + 2 + head.now.width ≤ 4096 }
+    requires room { count + 3 ≤ length list.old }
+    ensures { list.new ≡ listed count (map T.told (head_fields at head.now.kind head.now.width)) list.old }
+{
+    let group = group_from(at, Some(head.kind), None);
+    list[count] = T::of(field(at, 1, FieldKind::AttributeFlags, group));
+    list[count + 1] = T::of(field(at + 1, 1, FieldKind::AttributeType, group));
+    list[count + 2] = T::of(field(at + 2, head.width, FieldKind::AttributeLength, group));
+}
+
+/// Lists the fields of path attributes behind so many places. Answers how many places are taken.
+fn list_attributes<T: Listed>(
+    ctx: &Context,
+    at: usize,
+    group: Option<Group>,
+    octets: &[u8],
+    list: &mut [T],
+    count: usize,
+) -> usize
+    requires few { count ≤ at }
+    requires short { at + length octets.now ≤ 4096 }
+    requires room { count + length (section_fields ctx.now section.AttributeFlags at group octets.now) ≤ length list.old }
+    ensures list { list.new ≡ listed count (map T.told (section_fields ctx.now section.AttributeFlags at group octets.now)) list.old }
+    ensures count { result ≡ count + length (section_fields ctx.now section.AttributeFlags at group octets.now) }
+    ensures few { result ≤ at + length octets.now }
+{
+    let mut place = at;
+    let mut holder = group;
+    let mut left = octets;
+    let mut taken = count;
+    'attributes: while let Some(head) = attribute_head(left) {
+        list_head(place, &head, list, taken);
+        holder = group_from(place, Some(head.kind), None);
+        place += 2 + head.width;
+        let part = attribute_value(ctx, head.kind);
+        taken = list_inside(ctx, part, place, holder, head.value, list, taken + 3);
+        place += head.value.len();
+        left = head.rest;
+    }
+    // What is left is no whole attribute.
+    list_any_section(
+        ctx,
+        SectionPart::AttributeFlags,
+        place,
+        holder,
+        left,
+        list,
+        taken,
+    )
+}
+
+/// Lists the fields of a section behind so many places. Answers how many places are taken.
+#[inline(always)]
+fn list_section<T: Listed>(
+    ctx: &Context,
+    part: SectionPart,
+    at: usize,
+    group: Option<Group>,
+    octets: &[u8],
+    list: &mut [T],
+    count: usize,
+) -> usize
+    requires few { count ≤ at }
+    requires short { at + length octets.now ≤ 4096 }
+    requires room { count + length (section_fields ctx.now part at group octets.now) ≤ length list.old }
+    ensures list { list.new ≡ listed count (map T.told (section_fields ctx.now part at group octets.now)) list.old }
+    ensures count { result ≡ count + length (section_fields ctx.now part at group octets.now) }
+    ensures few { result ≤ at + length octets.now }
+{
+    if octets.is_empty() {
+        return count;
+    }
+    match part {
+        SectionPart::AttributeFlags => list_attributes(ctx, at, group, octets, list, count),
+        _ => list_any_section(ctx, part, at, group, octets, list, count),
+    }
 }
 
 /// Lists the fields of a message behind so many places. Answers how many places are taken.

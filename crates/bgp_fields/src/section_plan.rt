@@ -19,7 +19,7 @@ use bgp_open::Context;
 const NOTHING: ValuePart = ValuePart::All(FieldKind::Unread);
 
 /// What the value of an attribute begins with, by its type.
-fn attribute_value(ctx: &Context, kind: u8) -> ValuePart
+pub(crate) fn attribute_value(ctx: &Context, kind: u8) -> ValuePart
     ensures { result ≡ attribute_value ctx.now kind }
 {
     match kind {
@@ -93,16 +93,24 @@ fn parameter_length(code: u8, inner_len: u8) -> SectionPlan
     }
 }
 
+/// How many octets the length of an attribute with these flags has, and the length itself, which octets begin with.
+pub(crate) fn length_in(flags: u8, octets: &[u8]) -> (usize, u16)
+    ensures width { result.0 ≡ length_width flags }
+    ensures len { result.1 ≡ attribute_len flags octets.now }
+{
+    if Flags(flags).is_extended() {
+        (2, two(octets))
+    } else {
+        (1, u16::from(octet(octets, 0)))
+    }
+}
+
 /// The length of an attribute, and its value.
 fn attribute_length(ctx: &Context, flags: u8, kind: u8, octets: &[u8]) -> SectionPlan
     ensures { section_planned result
         ≡ behind AttributeLength (length_width flags) (attribute_value ctx.now kind) (attribute_len flags octets.now) section.AttributeFlags }
 {
-    let (len, inner_len) = if Flags(flags).is_extended() {
-        (2, two(octets))
-    } else {
-        (1, u16::from(octet(octets, 0)))
-    };
+    let (len, inner_len) = length_in(flags, octets);
     SectionPlan {
         kind: FieldKind::AttributeLength,
         len,

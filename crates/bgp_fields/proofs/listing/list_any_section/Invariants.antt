@@ -1,7 +1,7 @@
 use Rattle.std.proofs.Common.{◌≡◌, ◌≤◌, ◌+◌, length}
 use Rattle.bgp_fields.specs.Fields.{section_fields}
 use Rattle.bgp_fields.proofs.Listings.{IsListing}
-use Rattle.bgp_fields.proofs.listing.list_section.Given as goal
+use Rattle.bgp_fields.proofs.listing.list_any_section.Given as goal
 
 abbrev pub invariant-section : goal.invariant-section
 invariant-section g l = record {
