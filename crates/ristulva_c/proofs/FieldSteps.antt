@@ -9,6 +9,7 @@ use Rattle.bgp_fields.proofs.Joined.{fields-octets}
 use Rattle.ristulva_c.specs.declared.fields.ToldField.{ToldField}
 use Rattle.ristulva_c.specs.declared.status.TheConstants.{OK, ROOM}
 use Rattle.ristulva_c.specs.Fields.{field_told, IsFilled}
+use Rattle.ristulva_c.proofs.Rows.{set_next}
 
 -- ---- how many there are
 
@@ -21,17 +22,6 @@ pub few_fields : (ctx : Context) (octets : List ℕ) → length (fields_of ctx o
 few_fields ctx octets = omega (arith, tiles_count 0 (length octets) (fields_of ctx octets) (fields-octets ctx octets).placed)
 
 -- ---- listed
-
-set_first : (ys : List ToldField) (y : ToldField) → 0 < length ys → set ys 0 y ≡ y ∷ drop 1 ys
-set_first [] y some = absurd (omega arith)
-set_first (old ∷ ys) y some = refl
-
-set_next : (front back : List ToldField) (count : ℕ) (y : ToldField) → length front ≡ count → 0 < length back → set (front ++ back) count y ≡ (front ++ y ∷ []) ++ drop 1 back
-set_next front back count y is some =
-    set-append_right front back count count y is (omega arith)
-    ∙ ap (λ (n : ℕ). front ++ set back n y) (omega arith)
-    ∙ ap (λ (l : List ToldField). front ++ l) (set_first back y some)
-    ∙ sym (append_assoc front (y ∷ []) (drop 1 back))
 
 -- those that are done stand in the first places of a list, and behind them what stood there; the others are left
 pub record IsSoFar (all left : List Field) (count : ℕ) (list places : List ToldField) : Type 0 where
