@@ -1,14 +1,13 @@
 -- Messages of a batch, one behind another.
-use Rattle.std.proofs.Common.{◌≡◌, ℕ, ◌+◌, ◌-◌, ◌<◌, ◌≤◌, Bool, true, false, cond, eqb, List, [], ◌∷◌, ◌++◌, length, drop, refl, sym, ap, subst, ◌∙◌, arith}
+use Rattle.std.proofs.Common.{◌≡◌, ℕ, ◌+◌, ◌-◌, ◌<◌, ◌≤◌, Bool, cond, eqb, List, [], ◌∷◌, ◌++◌, length, drop, refl, sym, ap, subst, ◌∙◌, arith}
 use Rattle.std.proofs.lemmas.Bool.{eq-eqb, ne_eqb}
 use Rattle.std.proofs.lemmas.List.{append-nil, append_assoc, length-drop}
 use Rattle.bgp_frame.specs.Frame.{Waits, wanted}
-use Rattle.bgp_frame.specs.declared.step.Step.{Step}
 use Rattle.bgp_frame.specs.declared.step.Step.TheVariants as step
 use Rattle.bgp_open.specs.declared.context.Context.{Context}
-use Rattle.ristulva_c.specs.Batch.{Giving, Taken, IsTaken, Stand, octets_taken, rows_taken, EndsAt, Batching, TakesAll}
+use Rattle.ristulva_c.specs.Batch.{Giving, Taken, IsTaken, Stand, octets_taken, rows_taken, EndsAt, TakesAll}
 use Rattle.ristulva_c.specs.declared.status.TheConstants.{INCOMPLETE, OK}
-use Rattle.ristulva_c.specs.steps.Batch.{Holds, Adds, Takes, Stops}
+use Rattle.ristulva_c.specs.steps.Batch.{Holds, Takes, Stops}
 use Rattle.ristulva_c.proofs.Rows.{hold_length}
 
 module _ {Row : Type 0} (gives : Giving Row) (ctx : Context) (octets : List ℕ) where

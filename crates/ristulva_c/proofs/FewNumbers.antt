@@ -1,7 +1,6 @@
 -- A message has no more numbers in its path, and no more communities, than octets behind its header and its two lengths.
-use Rattle.std.proofs.Common.{◌≡◌, ℕ, suc, ◌+◌, ◌-◌, ◌*◌, ◌<◌, ◌≤◌, ◌/◌, Bool, true, false, cond, eqb, ltb, List, [], ◌∷◌, ◌++◌, length, map, take, Option, Some, None, refl, sym, ap, subst, ◌∙◌, arith}
-use Rattle.std.specs.Prelude.{option_map}
-use Rattle.std.specs.List.{flat_map, find, list_any}
+use Rattle.std.proofs.Common.{◌≡◌, ℕ, suc, ◌+◌, ◌-◌, ◌*◌, ◌≤◌, Bool, true, false, cond, eqb, ltb, List, [], ◌∷◌, ◌++◌, length, Option, Some, None, refl, sym, ap, subst, ◌∙◌, arith}
+use Rattle.std.specs.List.{flat_map, list_any}
 use Rattle.std.proofs.lemmas.Bool.{eqb-true}
 use Rattle.std.proofs.lemmas.List.{length-append, length-map, length-take}
 use Rattle.std.proofs.lemmas.List.Concat.{flat_map-cons}
@@ -21,15 +20,15 @@ use Rattle.bgp_attr.specs.declared.path.SegKind.{SegKind}
 use Rattle.bgp_attr.specs.declared.path.SegKind.TheVariants.{Set, Seq}
 use Rattle.bgp_attr.specs.declared.path.Segment.{Segment}
 use Rattle.bgp_attr.specs.declared.path_form.PathForm.{PathForm}
-use Rattle.bgp_attr.specs.Numbers.{number_width, one_number, one_triple, triples_of, same_triple, once_behind, each_once}
-use Rattle.bgp_attr.specs.Path.{WireSegment, IsSegment, one_segment, segments_of, kept_segment, segment_kept_as, kind_of_segment, kept_segments_of, as_number, path_of}
+use Rattle.bgp_attr.specs.Numbers.{number_width, one_number, one_triple, triples_of, same_triple, once_behind}
+use Rattle.bgp_attr.specs.Path.{WireSegment, IsSegment, one_segment, segments_of, kept_segment, segment_kept_as, kind_of_segment, as_number, path_of}
 use Rattle.bgp_attr.specs.Tlv.{PlacedTlv}
 use Rattle.bgp_attr.specs.Value.{as_path_form, as4_path_form}
 use Rattle.bgp_attr.proofs.Readers.{IsSegment-reads}
 use Rattle.bgp_attr.proofs.NumberRows.{length-number_row}
-use Rattle.bgp_update.specs.As4.{items_in, items_of, items_behind, front_by, lead, joined, rebuilt_path, rebuilt_by, rebuilt, is_as_trans}
-use Rattle.bgp_update.specs.Marks.{marks_of, placed_tlvs}
-use Rattle.bgp_update.specs.Parts.{Parts, parts_of}
+use Rattle.bgp_update.specs.As4.{items_of, items_behind, front_by, lead, rebuilt_path, rebuilt_by, rebuilt, is_as_trans}
+use Rattle.bgp_update.specs.Marks.{marks_of}
+use Rattle.bgp_update.specs.Parts.{Parts}
 use Rattle.bgp_update.specs.Taken.{kept_of, attrs_of}
 use Rattle.bgp_update.specs.declared.attrs.Attrs.{Attrs}
 use Rattle.bgp_update.specs.declared.path_info.PathInfo.{PathInfo}
@@ -38,7 +37,7 @@ use Rattle.bgp_msg.specs.Outcome.{out_of}
 use Rattle.ristulva_c.specs.Facts.{attrs_in}
 use Rattle.ristulva_c.specs.Places.{first_of_type}
 use Rattle.ristulva_c.specs.steps.NumberRows.{numbers_in}
-use Rattle.ristulva_c.proofs.FactPlaces.{AreKept, are_kept}
+use Rattle.ristulva_c.proofs.FactPlaces.{are_kept}
 use Rattle.ristulva_c.proofs.FewPieces.{few_pieces, found_of, two_found}
 use Rattle.ristulva_c.proofs.FirstPlaces.{found_lies}
 use Rattle.ristulva_c.proofs.KeptPlaces.{path_first, as4_path_first, communities_first, large_first}

@@ -1,5 +1,5 @@
 -- Octets begin with no more pieces than they are.
-use Rattle.std.proofs.Common.{◌≡◌, ℕ, ◌+◌, ◌≤◌, suc, zero, Bool, true, false, cond, List, [], ◌∷◌, ◌++◌, length, Option, Some, None, refl, ap, arith}
+use Rattle.std.proofs.Common.{◌≡◌, ℕ, ◌+◌, ◌≤◌, suc, zero, Bool, true, false, cond, List, [], ◌∷◌, length, Option, Some, None, refl, ap, arith}
 use Rattle.std.specs.List.{find}
 use Rattle.std.proofs.lemmas.List.{length-append}
 use Rattle.bgp_wire.specs.Reader.{then_pieces, pieces_within, pieces}

@@ -1,5 +1,5 @@
 -- A message gives no more rows of numbers and communities than octets behind its header and its two lengths.
-use Rattle.std.proofs.Common.{◌≡◌, ℕ, ◌+◌, ◌-◌, ◌≤◌, List, length, Option, Some, None, refl, sym, ap, ◌∙◌, arith}
+use Rattle.std.proofs.Common.{◌≡◌, ℕ, ◌-◌, ◌≤◌, List, length, Option, Some, None, refl, sym, ap, ◌∙◌, arith}
 use Rattle.std.proofs.lemmas.List.{length-map}
 use Rattle.bgp_wire.specs.Octets.{AreOctets}
 use Rattle.bgp_attr.specs.declared.communities.Communities.{Communities}

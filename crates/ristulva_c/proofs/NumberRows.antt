@@ -1,11 +1,10 @@
 -- The numbers of a path in rows, segment by segment.
 use Rattle.std.proofs.Common.{◌≡◌, ℕ, ◌+◌, ◌≤◌, List, [], ◌∷◌, ◌++◌, length, map, refl, sym, ap, ap₂, subst, ◌∙◌, arith}
 use Rattle.std.proofs.lemmas.List.{append-nil, append_assoc, length-append, length-map}
-use Rattle.bgp_prefix.specs.declared.as_number.AsNumber.{AsNumber}
 use Rattle.bgp_attr.specs.declared.path.Segment.{Segment}
 use Rattle.ristulva_c.specs.declared.number_rows.NumberRow.{NumberRow}
 use Rattle.ristulva_c.specs.NumberRows.{number_row, segment_rows}
-use Rattle.ristulva_c.specs.steps.Batch.{Holds, Adds}
+use Rattle.ristulva_c.specs.steps.Batch.{Adds}
 use Rattle.ristulva_c.specs.steps.NumberRows.{numbers_in}
 use Rattle.ristulva_c.proofs.Rows.{adds_none, adds_join}
 

@@ -20,7 +20,7 @@ use Rattle.bgp_msg.specs.OutcomeView.{outcome_value}
 use Rattle.ristulva_c.specs.declared.facts.Paths.{Paths}
 use Rattle.ristulva_c.specs.declared.judge.TheConstants.{UPDATE, WITHDRAW}
 use Rattle.ristulva_c.specs.declared.route_rows.RouteRow.{RouteRow}
-use Rattle.ristulva_c.specs.RouteList.{RouteValue, routes_to, reached_routes, unreached_routes, routes_of}
+use Rattle.ristulva_c.specs.RouteList.{routes_to, reached_routes, unreached_routes, routes_of}
 use Rattle.ristulva_c.specs.Facts.{paths_told}
 use Rattle.ristulva_c.specs.RouteRows.{prefix_row, withdrawn_row, announced_row, row_by, route_row, GivesRoutes}
 use Rattle.ristulva_c.specs.steps.Batch.{IsViewed}

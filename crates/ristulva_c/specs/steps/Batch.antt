@@ -9,7 +9,7 @@ use Rattle.bgp_open.specs.declared.context.Context.{Context}
 use Rattle.bgp_update.specs.Parts.{parts_of}
 use Rattle.bgp_msg.specs.declared.outcome.Outcome.{Outcome}
 use Rattle.bgp_msg.specs.Outcome.{is_reset, out_of}
-use Rattle.ristulva_c.specs.Batch.{Giving, Taken, IsTaken, EndsAt, outcome_in}
+use Rattle.ristulva_c.specs.Batch.{Giving, IsTaken, EndsAt, outcome_in}
 
 -- an outcome is that of a message with this body
 pub record IsViewed (body : List ℕ) (o : Outcome) : Type 0 where

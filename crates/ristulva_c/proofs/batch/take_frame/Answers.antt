@@ -1,9 +1,8 @@
-use Rattle.std.proofs.Common.{◌≡◌, ◌-◌, false, List, length, inr, refl, sym, ap, subst, ◌∙◌, arith}
+use Rattle.std.proofs.Common.{◌-◌, length, inr, refl, sym, ap, subst, ◌∙◌}
 use Rattle.std.proofs.lemmas.Bool.{leb-false}
 use Rattle.bgp_update.specs.Parts.{parts_of}
 use Rattle.bgp_msg.specs.Outcome.{is_reset}
 use Rattle.bgp_msg.specs.declared.outcome.Outcome.{Outcome}
-use Rattle.ristulva_c.specs.Batch.{outcome_in}
 use Rattle.ristulva_c.proofs.batch.take_frame.Goals as goal
 
 pub returns-then-not-fit : goal.returns-then-not-fit

@@ -1,4 +1,4 @@
-use Rattle.std.proofs.Common.{length, refl, arith}
+use Rattle.std.proofs.Common.{refl, arith}
 use Rattle.bgp_attr.specs.NumberIter.{communities_left}
 use Rattle.ristulva_c.specs.CommunityRows.{community_row}
 use Rattle.ristulva_c.proofs.Rows.{writes_none, writes_more, place_left, all_written}

@@ -1,4 +1,4 @@
-use Rattle.std.proofs.Common.{length, refl, arith}
+use Rattle.std.proofs.Common.{refl, arith}
 use Rattle.bgp_attr.specs.NumberIter.{as_numbers_left}
 use Rattle.ristulva_c.specs.steps.NumberRows.{with_number}
 use Rattle.ristulva_c.proofs.Rows.{writes_none, writes_more, place_left, all_written}

@@ -1,4 +1,4 @@
-use Rattle.std.proofs.Common.{◌≡◌, ◌+◌, ◌≤◌, length, ap, sym, ◌∙◌, arith}
+use Rattle.std.proofs.Common.{length, ap, ◌∙◌, arith}
 use Rattle.bgp_update.specs.View.{update_value}
 use Rattle.ristulva_c.specs.RouteRows.{withdrawn_row}
 use Rattle.ristulva_c.specs.steps.RouteRows.{no_prefix, unreached_rows, reached_rows}

@@ -1,4 +1,4 @@
-use Rattle.std.proofs.Common.{length, ap, arith}
+use Rattle.std.proofs.Common.{ap, arith}
 use Rattle.bgp_prefix.specs.PrefixIter.{prefixes_left}
 use Rattle.ristulva_c.specs.declared.prefixes.RoutePrefix.{RoutePrefix}
 use Rattle.ristulva_c.specs.steps.RouteRows.{with_prefix}

@@ -1,4 +1,4 @@
-use Rattle.std.proofs.Common.{◌≤◌, length, sym, arith}
+use Rattle.std.proofs.Common.{length, sym, arith}
 use Rattle.std.proofs.lemmas.Bool.{le-leb}
 use Rattle.bgp_update.specs.Parts.{parts_of}
 use Rattle.ristulva_c.specs.steps.RouteRows.{rows_seen}
