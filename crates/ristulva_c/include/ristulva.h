@@ -643,6 +643,81 @@ typedef struct {
  * `end`, `end` above `len`, or `at` not a multiple of twelve octets behind `first`. */
 ristulva_status ristulva_next_large_community(const uint8_t *octets, size_t len, ristulva_large_communities *cursor, ristulva_large_community *out);
 
+/* ---- batches: messages that stand one behind another, in rows ----
+ *
+ * Each of these calls takes messages from the first octet on, as many whole ones as have room in `rows`, which holds `room` rows: each is judged once,
+ * in the context of its session, and its rows are written behind those of the messages in front of it. `written` is how many rows that makes, and
+ * `taken` how many octets the messages have: the caller goes on from there. Messages without rows, as a KEEPALIVE, are taken too. The rest of `rows`
+ * stays as it is. They allocate nothing.
+ *
+ * RISTULVA_OK: all octets are taken; or `taken` is below `len`, and the next message has more rows than there is room for.
+ * RISTULVA_INCOMPLETE: what stands at `taken` is an incomplete message. RISTULVA_REFUSED: what stands at `taken` is a message, or a header with a
+ * fault, that ends the session (ristulva_judge tells why). In these cases too what was taken is written. RISTULVA_ROOM: `room` is below
+ * RISTULVA_BATCH, and nothing is written, `written` and `taken` neither.
+ */
+
+/* The least room of these calls: no message has more rows. */
+#define RISTULVA_BATCH 4073u
+
+/* Where octets lie in a message: `len` of them from the offset `at` on. */
+typedef struct {
+    uint16_t at;
+    uint16_t len;
+} ristulva_place;
+
+typedef struct {
+    uint64_t message;                 /* where its message begins, in the octets that were handed in */
+    uint32_t origin_as;               /* the AS that it came from, as ristulva_facts has it; 0 without `has_origin_as` */
+    ristulva_place as_path;           /* where the values of attributes that are kept lie in its message; of no octets, at 0, where there is none */
+    ristulva_place as4_path;
+    ristulva_place communities;
+    ristulva_place large_communities;
+    ristulva_prefix prefix;           /* four octets of an address of IPv4 have zeros behind them */
+    uint8_t announced;                /* 1 where it is announced; 0 where it is withdrawn, and of attributes nothing is told */
+    uint8_t verdict;                  /* of its message: RISTULVA_UPDATE or RISTULVA_WITHDRAW */
+    uint8_t has_origin_as;            /* 1 where there is an `origin_as`, else 0 */
+    uint8_t reserved[5];              /* zeros */
+} ristulva_route_row;
+
+/* The routes that ristulva_begin_routes and ristulva_next_route give of each message, a row for each. */
+ristulva_status ristulva_routes(const ristulva_context *context, const uint8_t *octets, size_t len, ristulva_route_row *rows, size_t room,
+                                size_t *written, size_t *taken);
+
+typedef struct {
+    uint64_t message; /* where its message begins */
+    uint32_t number;  /* an AS number */
+    uint16_t segment; /* the place of its segment in the path: 0 for the first */
+    uint8_t set;      /* 1 of an AS_SET, 0 of an AS_SEQUENCE */
+    uint8_t reserved; /* 0 */
+} ristulva_number_row;
+
+/* The numbers of the path that AS_PATH and AS4_PATH give together, as ristulva_reconcile writes it, the nearest first: of each UPDATE that is
+ * accepted. */
+ristulva_status ristulva_path_numbers(const ristulva_context *context, const uint8_t *octets, size_t len, ristulva_number_row *rows, size_t room,
+                                      size_t *written, size_t *taken);
+
+typedef struct {
+    uint64_t message;  /* where its message begins */
+    uint32_t value;    /* a community (RFC 1997) */
+    uint32_t reserved; /* 0 */
+} ristulva_community_row;
+
+/* The communities of each UPDATE that is accepted, of the attribute that is kept, in order. */
+ristulva_status ristulva_communities_of(const ristulva_context *context, const uint8_t *octets, size_t len, ristulva_community_row *rows,
+                                        size_t room, size_t *written, size_t *taken);
+
+typedef struct {
+    uint64_t message;  /* where its message begins */
+    uint32_t global;   /* the Global Administrator (RFC 8092, section 3) */
+    uint32_t local1;   /* the two parts of Local Data */
+    uint32_t local2;
+    uint32_t reserved; /* 0 */
+} ristulva_large_community_row;
+
+/* The large communities of each UPDATE that is accepted, of the attribute that is kept, in order, each once. */
+ristulva_status ristulva_large_communities_of(const ristulva_context *context, const uint8_t *octets, size_t len,
+                                              ristulva_large_community_row *rows, size_t room, size_t *written, size_t *taken);
+
 /* ---- what an OPEN says (RFC 4271, section 4.2; RFC 5492) ---- */
 
 /* A cursor over capabilities, which stand in parameters, none, one or many in each. ristulva_open gives one to begin with. */
@@ -1078,6 +1153,42 @@ ristulva_inline_ ristulva_status ristulva_next_large_community(const uint8_t *oc
                                                                ristulva_large_community *out)
 {
     return ristulva_linked_next_large_community(ristulva_given_(octets, len), len, cursor, out);
+}
+
+extern __typeof__(ristulva_routes) ristulva_linked_routes __asm__("ristulva_routes");
+ristulva_inline_ ristulva_status ristulva_routes(const ristulva_context *context, const uint8_t *octets, size_t len, ristulva_route_row *rows,
+                                                 size_t room, size_t *written, size_t *taken)
+{
+    uint64_t nothing = 0;
+    return ristulva_linked_routes(context, ristulva_given_(octets, len), len, ristulva_place_(ristulva_route_row, rows, room), room,
+                                  written, taken);
+}
+
+extern __typeof__(ristulva_path_numbers) ristulva_linked_path_numbers __asm__("ristulva_path_numbers");
+ristulva_inline_ ristulva_status ristulva_path_numbers(const ristulva_context *context, const uint8_t *octets, size_t len,
+                                                       ristulva_number_row *rows, size_t room, size_t *written, size_t *taken)
+{
+    uint64_t nothing = 0;
+    return ristulva_linked_path_numbers(context, ristulva_given_(octets, len), len, ristulva_place_(ristulva_number_row, rows, room), room,
+                                        written, taken);
+}
+
+extern __typeof__(ristulva_communities_of) ristulva_linked_communities_of __asm__("ristulva_communities_of");
+ristulva_inline_ ristulva_status ristulva_communities_of(const ristulva_context *context, const uint8_t *octets, size_t len,
+                                                         ristulva_community_row *rows, size_t room, size_t *written, size_t *taken)
+{
+    uint64_t nothing = 0;
+    return ristulva_linked_communities_of(context, ristulva_given_(octets, len), len, ristulva_place_(ristulva_community_row, rows, room), room,
+                                          written, taken);
+}
+
+extern __typeof__(ristulva_large_communities_of) ristulva_linked_large_communities_of __asm__("ristulva_large_communities_of");
+ristulva_inline_ ristulva_status ristulva_large_communities_of(const ristulva_context *context, const uint8_t *octets, size_t len,
+                                                               ristulva_large_community_row *rows, size_t room, size_t *written, size_t *taken)
+{
+    uint64_t nothing = 0;
+    return ristulva_linked_large_communities_of(context, ristulva_given_(octets, len), len, ristulva_place_(ristulva_large_community_row, rows, room), room,
+                                                written, taken);
 }
 
 extern __typeof__(ristulva_open) ristulva_linked_open __asm__("ristulva_open");

@@ -77,7 +77,7 @@ module _ (ctx : Context) (body : List ℕ) (a : Attrs) where
   by_reading (Ok o) is = absurd (let bad : None ≡ Some a = is in cc)
   by_reading (Err fault) is = by_fault (open_notification fault) is
 
-  are_kept : (k : Kind) → attrs_in (out_of ctx (record { kind = k; body = body })) ≡ Some a → AreKept ctx body a
+  pub are_kept : (k : Kind) → attrs_in (out_of ctx (record { kind = k; body = body })) ≡ Some a → AreKept ctx body a
   are_kept kind.Open is = by_reading (reading_of body) is
   are_kept kind.Update is = by_parts (parts_of body) refl is
   are_kept kind.Notification is = absurd (let bad : None ≡ Some a = is in cc)

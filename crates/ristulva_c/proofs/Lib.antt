@@ -27,6 +27,14 @@ pub mod KeptPlaces
 pub mod RouteLists
 pub mod OriginAs
 pub mod FactPlaces
+pub mod FewPieces
+pub mod FewRoutes
+pub mod FewNumbers
+pub mod NumberRows
+pub mod NumberCounts
+pub mod RouteRows
 pub mod FieldKindRows
+pub mod Rows
+pub mod Batches
 pub mod FieldSteps
 pub mod NotePlaces

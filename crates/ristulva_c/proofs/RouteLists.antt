@@ -383,7 +383,7 @@ module _ (p : Parts) (ms : List Mark) where
   abbrev r : Option MpReach
   r = (attrs_of (kept_of ms)).mp_reach
 
-  all_withdrawn : AreWithdrawn (notes.routes_of p ms) (routes_of false (update_of p ms))
+  pub all_withdrawn : AreWithdrawn (notes.routes_of p ms) (routes_of false (update_of p ms))
   all_withdrawn = record {
     ip4 = spread (is_of IPV4) (routes_to false IPV4 w4) (unreached_routes u) (reached_routes false r) (routes_to false IPV4 n4)
         ∙ ap₂ ◌++◌ (filter_same IPV4 false w4 refl) (ap₂ ◌++◌ (gone4 u) (ap₂ ◌++◌ (come4 r) (filter_same IPV4 false n4 refl)))

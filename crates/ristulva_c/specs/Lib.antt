@@ -21,6 +21,10 @@ pub mod Notes
 pub mod Capabilities
 pub mod Opens
 pub mod Facts
+pub mod Batch
+pub mod RouteRows
+pub mod NumberRows
+pub mod CommunityRows
 pub mod Handle
 pub mod Config
 pub mod States

@@ -3,3 +3,6 @@ pub mod LeftOut
 pub mod RouteList
 pub mod OriginAs
 pub mod Agree
+pub mod Batch
+pub mod RouteRows
+pub mod NumberRows

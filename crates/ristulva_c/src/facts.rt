@@ -10,6 +10,7 @@ ghost use Rattle.bgp_update.specs.PathInfoView.{info_value};
 ghost use Rattle.bgp_update.specs.View.{update_value};
 ghost use Rattle.bgp_msg.specs.Outcome.{out_of};
 ghost use Rattle.ristulva_c.specs.Context.{context_of};
+ghost use Rattle.ristulva_c.specs.steps.RouteRows.{AreWithin};
 ghost use Rattle.ristulva_c.specs.Facts.{mp_afi, mp_hop, mp_link, hops_told, paths_told, aggregator_as, aggregator_address, origin_number, facts_told, attrs_in, TellsFacts, AreFacts};
 
 use crate::context::{SessionContext, context_of};
@@ -154,9 +155,10 @@ fn hops_told(kept: &KeptView<'_>) -> Hops
 }
 
 /// The paths and communities that are kept, in the message of this body.
-fn paths_told(body: &[u8], view: &UpdateView<'_>) -> Paths
+pub(crate) fn paths_told(body: &[u8], view: &UpdateView<'_>) -> Paths
     requires { length body.now ≤ 4077 }
-    ensures { result ≡ paths_told (parts_of body.now) (update_value view.now).attrs }
+    ensures value { result ≡ paths_told (parts_of body.now) (update_value view.now).attrs }
+    ensures within { AreWithin result }
 {
     let kept = view.kept();
     let from = origin_as(&view.path_info());

@@ -35,7 +35,8 @@ fn nowhere() -> Span
 /// Where the value of an attribute lies, in a message whose attributes begin there.
 fn value_at(field: usize, tlv: &Option<Tlv<'_>>) -> Span
     requires { IfSome tlv.now (λ t. (field + t.at + length t.whole.now ≤ 4096) × (length t.value.now ≤ length t.whole.now)) }
-    ensures { result ≡ value_at field (option_map placed_tlv tlv.now) }
+    ensures value { result ≡ value_at field (option_map placed_tlv tlv.now) }
+    ensures within { result.at + result.len ≤ 4096 }
 {
     match tlv {
         None => nowhere(),
@@ -49,7 +50,8 @@ fn value_at(field: usize, tlv: &Option<Tlv<'_>>) -> Span
 /// Where the value of the first attribute of a type lies, in the message that has this body.
 fn value_in(kind: u8, body: &[u8]) -> Span
     requires { length body.now ≤ 4077 }
-    ensures { result ≡ value_in kind (parts_of body.now) }
+    ensures value { result ≡ value_in kind (parts_of body.now) }
+    ensures within { result.at + result.len ≤ 4096 }
 {
     match fields_of(body) {
         None => nowhere(),
@@ -60,7 +62,8 @@ fn value_in(kind: u8, body: &[u8]) -> Span
 /// The same of an attribute that is kept.
 pub(crate) fn kept_at(is_kept: bool, kind: u8, body: &[u8]) -> Span
     requires { length body.now ≤ 4077 }
-    ensures { result ≡ kept_at is_kept kind (parts_of body.now) }
+    ensures value { result ≡ kept_at is_kept kind (parts_of body.now) }
+    ensures within { result.at + result.len ≤ 4096 }
 {
     if is_kept {
         value_in(kind, body)

@@ -3,5 +3,5 @@ use Rattle.bgp_update.specs.Parts.{parts_of}
 use Rattle.ristulva_c.proofs.FactPlaces.{value_of_fields}
 use Rattle.ristulva_c.proofs.places.value_in.Goals as goal
 
-pub returns-in-Some : goal.returns-in-Some
-returns-in-Some c = c.value_at.ensures ∙ value_of_fields c.args.kind (parts_of c.args.body.now) c.in-Some.withdrawn _ c.in-Some.field.now _ c.in-Some.ensures.value c.first_of_type.ensures.value
+pub returns-in-Some-clause-value : goal.returns-in-Some-clause-value
+returns-in-Some-clause-value c = c.value_at.ensures.value ∙ value_of_fields c.args.kind (parts_of c.args.body.now) c.in-Some.withdrawn _ c.in-Some.field.now _ c.in-Some.ensures.value c.first_of_type.ensures.value

@@ -1,0 +1,206 @@
+-- A message has no more numbers in its path, and no more communities, than octets behind its header and its two lengths.
+use Rattle.std.proofs.Common.{◌≡◌, ℕ, suc, ◌+◌, ◌-◌, ◌*◌, ◌≤◌, Bool, true, false, cond, eqb, ltb, List, [], ◌∷◌, ◌++◌, length, Option, Some, None, refl, sym, ap, subst, ◌∙◌, arith}
+use Rattle.std.specs.List.{flat_map, list_any}
+use Rattle.std.proofs.lemmas.Bool.{eqb-true}
+use Rattle.std.proofs.lemmas.List.{length-append, length-map, length-take}
+use Rattle.std.proofs.lemmas.List.Concat.{flat_map-cons}
+use Rattle.bgp_numbers.specs.declared.attribute.TheConstants.{AS_PATH, AS4_PATH}
+use Rattle.bgp_wire.specs.Octets.{AreOctets}
+use Rattle.bgp_wire.specs.Row.{Row}
+use Rattle.bgp_wire.proofs.Pieces.{Splits-pieces}
+use Rattle.bgp_frame.specs.declared.kind.Kind.{Kind}
+use Rattle.bgp_open.specs.declared.context.Context.{Context}
+use Rattle.bgp_prefix.specs.declared.as_number.AsNumber.{AsNumber}
+use Rattle.bgp_attr.specs.declared.aggregator.Aggregator.{Aggregator}
+use Rattle.bgp_attr.specs.declared.communities.Communities.{Communities}
+use Rattle.bgp_attr.specs.declared.communities.LargeCommunities.{LargeCommunities}
+use Rattle.bgp_attr.specs.declared.path.As4Path.{As4Path}
+use Rattle.bgp_attr.specs.declared.path.AsPath.{AsPath}
+use Rattle.bgp_attr.specs.declared.path.SegKind.{SegKind}
+use Rattle.bgp_attr.specs.declared.path.SegKind.TheVariants.{Set, Seq}
+use Rattle.bgp_attr.specs.declared.path.Segment.{Segment}
+use Rattle.bgp_attr.specs.declared.path_form.PathForm.{PathForm}
+use Rattle.bgp_attr.specs.Numbers.{number_width, one_number, one_triple, triples_of, same_triple, once_behind}
+use Rattle.bgp_attr.specs.Path.{WireSegment, IsSegment, one_segment, segments_of, kept_segment, segment_kept_as, kind_of_segment, as_number, path_of}
+use Rattle.bgp_attr.specs.Tlv.{PlacedTlv}
+use Rattle.bgp_attr.specs.Value.{as_path_form, as4_path_form}
+use Rattle.bgp_attr.proofs.Readers.{IsSegment-reads}
+use Rattle.bgp_attr.proofs.NumberRows.{length-number_row}
+use Rattle.bgp_update.specs.As4.{items_of, items_behind, front_by, lead, rebuilt_path, rebuilt_by, rebuilt, is_as_trans}
+use Rattle.bgp_update.specs.Marks.{marks_of}
+use Rattle.bgp_update.specs.Parts.{Parts}
+use Rattle.bgp_update.specs.Taken.{kept_of, attrs_of}
+use Rattle.bgp_update.specs.declared.attrs.Attrs.{Attrs}
+use Rattle.bgp_update.specs.declared.path_info.PathInfo.{PathInfo}
+use Rattle.bgp_update.proofs.Bodies.{length-body, parts-body}
+use Rattle.bgp_msg.specs.Outcome.{out_of}
+use Rattle.ristulva_c.specs.Facts.{attrs_in}
+use Rattle.ristulva_c.specs.Places.{first_of_type}
+use Rattle.ristulva_c.specs.steps.NumberRows.{numbers_in}
+use Rattle.ristulva_c.proofs.FactPlaces.{are_kept}
+use Rattle.ristulva_c.proofs.FewPieces.{few_pieces, found_of, two_found}
+use Rattle.ristulva_c.proofs.FirstPlaces.{found_lies}
+use Rattle.ristulva_c.proofs.KeptPlaces.{path_first, as4_path_first, communities_first, large_first}
+
+-- ---- the segments of a path, and their numbers
+
+abbrev weight : List Segment → ℕ
+weight [] = 0
+weight (s ∷ later) = suc (length s.numbers) + weight later
+
+numbers_weigh : (ss : List Segment) → numbers_in ss + length ss ≡ weight ss
+numbers_weigh [] = refl
+numbers_weigh (s ∷ later) = omega (arith, numbers_weigh later)
+
+weight-append : (xs ys : List Segment) → weight (xs ++ ys) ≡ weight xs + weight ys
+weight-append [] ys = omega arith
+weight-append (s ∷ xs) ys = omega (arith, weight-append xs ys)
+
+kept_weight : (kind : Option SegKind) (numbers : List ℕ) → weight (segment_kept_as kind numbers) ≤ suc (length numbers)
+kept_weight None numbers = omega arith
+kept_weight (Some kind) numbers = omega (arith, length-map numbers as_number)
+
+at_least : (wide : Bool) (n len : ℕ) → len ≡ number_width wide * n → n ≤ len
+at_least true n len e = omega (arith, e)
+at_least false n len e = omega (arith, e)
+
+row_weight : (form : PathForm) (ss : List WireSegment) (b : List ℕ) → Row (IsSegment form) ss b → weight (flat_map kept_segment ss) ≤ length b
+row_weight form [] b row = omega arith
+row_weight form (s ∷ ss) b row =
+    let p = row.3 in
+    let numbers : length s.numbers ≤ length (p.counted).row = at_least form.wide _ _ (length-number_row form.wide s.numbers (p.counted).row (p.counted).spelled) in
+    let front : length row.0 ≡ suc (suc (length (p.counted).row)) = ap length p.octets ∙ ap suc (ap length (p.counted).octets) in
+    let both : weight (flat_map kept_segment (s ∷ ss)) ≡ weight (kept_segment s) + weight (flat_map kept_segment ss) =
+    ap weight (flat_map-cons kept_segment s ss) ∙ weight-append (kept_segment s) (flat_map kept_segment ss) in
+    let first : weight (kept_segment s) ≤ suc (length s.numbers) = kept_weight (kind_of_segment s.code) s.numbers in
+    omega (arith, both, first, numbers, front, row_weight form ss row.1 row.4, ap length row.2, length-append row.0 row.1)
+
+path_weight : (form : PathForm) (b : List ℕ) → weight (path_of form b).segments ≤ length b
+path_weight form b =
+    let s = Splits-pieces WireSegment (IsSegment form) (one_segment form) (IsSegment-reads form) b in
+    omega (arith, row_weight form (segments_of form b).0 s.row s.spelled, ap length s.whole, length-append s.row (segments_of form b).1)
+
+front_weight : (k : ℕ) (kind : SegKind) (numbers : List AsNumber) → weight (front_by k kind numbers) ≤ suc (length numbers)
+front_weight k Set numbers = omega arith
+front_weight k Seq [] = omega arith
+front_weight k Seq (n ∷ numbers) = omega (arith, length-take k (n ∷ numbers))
+
+lead_by : (b : Bool) (s : Segment) (later front rest : List Segment) → weight front ≤ suc (length s.numbers) → weight rest ≤ weight later → weight (cond b [] (front ++ rest)) ≤ weight (s ∷ later)
+lead_by true s later front rest one more = omega arith
+lead_by false s later front rest one more = omega (arith, weight-append front rest, one, more)
+
+lead_weight : (k : ℕ) (ss : List Segment) → weight (lead k ss) ≤ weight ss
+lead_weight k [] = omega arith
+lead_weight k (s ∷ later) =
+    lead_by (eqb k 0) s later (front_by k s.kind s.numbers) (lead (items_behind k s) later) (front_weight k s.kind s.numbers) (lead_weight (items_behind k s) later)
+
+joined_by : (b : Bool) (path wide : AsPath) (k : ℕ) → weight (cond b path (record { segments = lead k path.segments ++ wide.segments })).segments ≤ weight path.segments + weight wide.segments
+joined_by true path wide k = omega arith
+joined_by false path wide k = omega (arith, weight-append (lead k path.segments) wide.segments, lead_weight k path.segments)
+
+abbrev path_weight_of : Option AsPath → ℕ
+path_weight_of None = 0
+path_weight_of (Some p) = weight p.segments
+
+abbrev as4_weight_of : Option As4Path → ℕ
+as4_weight_of None = 0
+as4_weight_of (Some p) = weight p.path.segments
+
+rebuilt_path_weight : (path : Option AsPath) (wide : Option As4Path) → path_weight_of (rebuilt_path path wide) ≤ path_weight_of path + as4_weight_of wide
+rebuilt_path_weight None wide = omega arith
+rebuilt_path_weight (Some path) None = omega arith
+rebuilt_path_weight (Some path) (Some wide) =
+    joined_by (ltb (items_of path.segments) (items_of wide.path.segments)) path wide.path (items_of path.segments - items_of wide.path.segments)
+
+by_stand_in : (b : Bool) (wide a : Aggregator) (path : Option AsPath) (as4_path : Option As4Path)
+    → path_weight_of (cond {A = PathInfo} b (record { path = rebuilt_path path as4_path; aggregator = Some wide }) (record { path = path; aggregator = Some a })).path ≤ path_weight_of path + as4_weight_of as4_path
+by_stand_in true wide a path as4_path = rebuilt_path_weight path as4_path
+by_stand_in false wide a path as4_path = omega arith
+
+rebuilt_weight : (a w : Option Aggregator) (path : Option AsPath) (as4_path : Option As4Path) → path_weight_of (rebuilt_by a w path as4_path).path ≤ path_weight_of path + as4_weight_of as4_path
+rebuilt_weight (Some a) (Some wide) path as4_path = by_stand_in (is_as_trans a) wide a path as4_path
+rebuilt_weight (Some a) None path as4_path = rebuilt_path_weight path as4_path
+rebuilt_weight None w path as4_path = rebuilt_path_weight path as4_path
+
+-- ---- large communities
+
+once_by : (x : List ℕ) (xs rest : List (List ℕ)) (b : Bool) → length rest ≤ length xs → length (cond b rest (x ∷ rest)) ≤ length (x ∷ xs)
+once_by x xs rest true le = omega (arith, le)
+once_by x xs rest false le = omega (arith, le)
+
+few_once : (before xs : List (List ℕ)) → length (once_behind before xs) ≤ length xs
+few_once before [] = omega arith
+few_once before (x ∷ xs) = once_by x xs (once_behind (before ++ x ∷ []) xs) (list_any (same_triple x) before) (few_once (before ++ x ∷ []) xs)
+
+-- ---- the attributes of an UPDATE that is accepted
+
+-- so many numbers at most stand in them
+pub record HasFewNumbers (most : ℕ) (a : Attrs) : Type 0 where
+  pub path : (p : AsPath) → (rebuilt a).path ≡ Some p → numbers_in p.segments + length p.segments ≤ most
+  pub communities : (c : Communities) → a.communities ≡ Some c → length c.values ≤ most
+  pub large : (l : LargeCommunities) → a.large ≡ Some l → length l.values ≤ most
+
+module _ (ctx : Context) (p : Parts) where
+  abbrev kept : Attrs
+  kept = attrs_of (kept_of (marks_of ctx p))
+
+  abbrev is_path : PlacedTlv → Bool
+  is_path t = eqb t.tlv.kind AS_PATH
+
+  abbrev is_as4_path : PlacedTlv → Bool
+  is_as4_path t = eqb t.tlv.kind AS4_PATH
+
+  apart : (q : PlacedTlv) → is_path q ≡ true → is_as4_path q ≡ true → ⊥
+  apart q r u = let e : AS_PATH ≡ AS4_PATH = sym (eqb-true q.tlv.kind AS_PATH r) ∙ eqb-true q.tlv.kind AS4_PATH u in absurd (omega (arith, e))
+
+  path_found : (o : Option AsPath) → kept.as_path ≡ o → path_weight_of o ≤ found_of (first_of_type AS_PATH p)
+  path_found None is = omega arith
+  path_found (Some r) is =
+      let f = path_first ctx p r is in
+      omega (
+        arith,
+        ap (λ (x : AsPath). weight x.segments) f.holds,
+        path_weight (as_path_form ctx) f.place.tlv.value,
+        (found_lies is_path p.attributes f.place f.first).longer,
+        ap found_of f.first,
+      )
+
+  as4_path_found : (o : Option As4Path) → kept.as4_path ≡ o → as4_weight_of o ≤ found_of (first_of_type AS4_PATH p)
+  as4_path_found None is = omega arith
+  as4_path_found (Some r) is =
+      let f = as4_path_first ctx p r is in
+      omega (
+        arith,
+        ap (λ (x : As4Path). weight x.path.segments) f.holds,
+        path_weight as4_path_form f.place.tlv.value,
+        (found_lies is_as4_path p.attributes f.place f.first).longer,
+        ap found_of f.first,
+      )
+
+  few_numbers : (most : ℕ) → length p.attributes ≤ most → HasFewNumbers most kept
+  few_numbers most short = record {
+    path = λ r is. omega (
+      arith,
+      numbers_weigh r.segments,
+      ap path_weight_of is,
+      rebuilt_weight kept.aggregator kept.as4_aggregator kept.as_path kept.as4_path,
+      path_found kept.as_path refl,
+      as4_path_found kept.as4_path refl,
+      two_found is_path is_as4_path apart p.attributes,
+      short,
+    );
+    communities = λ c is.
+        let f = communities_first ctx p c is in
+        let l = found_lies (λ t. eqb t.tlv.kind 8) p.attributes f.place f.first in
+        omega (arith, ap (λ (x : Communities). length x.values) f.holds, few_pieces (one_number true) f.place.tlv.value, l.longer, l.within, short);
+    large = λ c is.
+        let f = large_first ctx p c is in
+        let l = found_lies (λ t. eqb t.tlv.kind 32) p.attributes f.place f.first in
+        omega (arith, ap (λ (x : LargeCommunities). length x.values) f.holds, few_once [] (triples_of f.place.tlv.value), few_pieces one_triple f.place.tlv.value, l.longer, l.within, short);
+  }
+
+pub has_few_numbers : (ctx : Context) (kind : Kind) (body : List ℕ) (a : Attrs) → AreOctets body → attrs_in (out_of ctx (record { kind = kind; body = body })) ≡ Some a → HasFewNumbers (length body - 4) a
+has_few_numbers ctx kind body a are is =
+    let k = are_kept ctx body a kind is in
+    subst (HasFewNumbers (length body - 4)) (sym k.kept)
+    (few_numbers ctx k.parts (length body - 4) (omega (arith, ap length (parts-body body k.parts are k.whole).octets ∙ length-body k.parts.withdrawn k.parts.attributes k.parts.nlri)))

@@ -1,0 +1,57 @@
+-- One message of a batch, and the rows that stand in a list so far.
+use Rattle.std.specs.Prelude.{◌≡◌, ◌+◌, ◌-◌, ◌<◌, ◌≤◌, ℕ, false, List, [], ◌++◌, length, drop}
+use Rattle.bgp_frame.specs.declared.kind.Kind.{Kind}
+use Rattle.bgp_frame.specs.declared.step.Frame.{Frame}
+use Rattle.bgp_frame.specs.declared.step.Step.{Step}
+use Rattle.bgp_frame.specs.declared.step.Step.TheVariants as step
+use Rattle.bgp_frame.specs.Step.{ShowsFront}
+use Rattle.bgp_open.specs.declared.context.Context.{Context}
+use Rattle.bgp_update.specs.Parts.{parts_of}
+use Rattle.bgp_msg.specs.declared.outcome.Outcome.{Outcome}
+use Rattle.bgp_msg.specs.Outcome.{is_reset, out_of}
+use Rattle.ristulva_c.specs.Batch.{Giving, IsTaken, EndsAt, outcome_in}
+
+-- an outcome is that of a message with this body
+pub record IsViewed (body : List ℕ) (o : Outcome) : Type 0 where
+  pub ctx : Context
+  pub kind : Kind
+  pub outcome : o ≡ out_of ctx (record { kind = kind; body = body })
+  pub short : length body ≤ 4077
+
+-- these rows stand in a list's first places, so many, and behind them what stood there
+pub record Holds {Row : Type 0} (rows : List Row) (count : ℕ) (list places : List Row) : Type 0 where
+  pub stand : list ≡ rows ++ drop count places
+  pub counted : length rows ≡ count
+  pub room : count ≤ length places
+
+-- these rows are written from a place on, up to another, behind whatever stood in front of it
+abbrev pub Adds : {Row : Type 0} → List Row → ℕ → ℕ → List Row → List Row → Type 0
+Adds {Row} rows from to before behind = (first places : List Row) → Holds first from before places → Holds (first ++ rows) to behind places
+
+-- a message that is found is taken: so many octets
+pub record TakesFrame {Row : Type 0} (gives : Giving Row) (ctx : Context) (at : ℕ) (f : Frame) (len from to : ℕ) (before behind : List Row) : Type 0 where
+  pub whole : len ≡ f.len
+  pub goes_on : is_reset (outcome_in ctx f) ≡ false
+  pub rows : List Row
+  pub given : gives at (parts_of f.body.now) (outcome_in ctx f) rows
+  pub adds : Adds rows from to before behind
+
+-- or it isn't
+pub record StopsAtFrame {Row : Type 0} (gives : Giving Row) (ctx : Context) (at : ℕ) (f : Frame) (status from : ℕ) (before behind : List Row) : Type 0 where
+  pub same : behind ≡ before
+  pub ends : EndsAt gives ctx [] at (length before - from) (step.Frame f) status
+
+-- the message at an offset is taken
+pub record Takes {Row : Type 0} (gives : Giving Row) (ctx : Context) (octets : List ℕ) (at len from to : ℕ) (before behind : List Row) : Type 0 where
+  pub rows : List Row
+  pub taken : IsTaken gives ctx octets at (record { len = len; rows = rows })
+  pub some : 0 < len
+  pub within : at + len ≤ length octets
+  pub adds : Adds rows from to before behind
+
+-- what stands there ends the batch
+pub record Stops {Row : Type 0} (gives : Giving Row) (ctx : Context) (octets : List ℕ) (at status from : ℕ) (before behind : List Row) : Type 0 where
+  pub same : behind ≡ before
+  pub found : Step
+  pub shows : ShowsFront (drop at octets) found
+  pub ends : EndsAt gives ctx octets at (length before - from) found status

@@ -1,0 +1,163 @@
+//! The AS numbers of paths in rows.
+
+ghost use Rattle.std.specs.Prelude.{◌≡◌, ◌+◌, ◌≤◌, length, map, option_map};
+ghost use Rattle.bgp_attr.specs.NumberIter.{as_numbers_left};
+ghost use Rattle.bgp_update.specs.PathInfoView.{joined_value};
+ghost use Rattle.ristulva_c.specs.Batch.{IsBatch};
+ghost use Rattle.ristulva_c.specs.Context.{context_of};
+ghost use Rattle.ristulva_c.specs.NumberRows.{set_flag, number_row, segment_rows, path_rows, GivesNumbers};
+ghost use Rattle.ristulva_c.specs.steps.Batch.{Adds};
+ghost use Rattle.ristulva_c.specs.steps.NumberRows.{numbers_in, with_number};
+
+use crate::batch::{Batch, take_all};
+use crate::context::SessionContext;
+use crate::judge::are_octets;
+use bgp_attr::{AsNumberIter, SegKind};
+use bgp_msg::OutcomeView;
+use bgp_update::JoinedPathView;
+
+/// An AS number of a path.
+#[repr(C)]
+#[derive(Clone, Copy)]
+pub struct NumberRow {
+    /// Where its message begins, in the octets that were handed in.
+    pub message: u64,
+    /// The AS number.
+    pub number: u32,
+    /// The place of its segment in the path: 0 for the first.
+    pub segment: u16,
+    /// Whether the segment is an AS_SET: 1, or 0 for an AS_SEQUENCE.
+    pub set: u8,
+    /// Nothing: 0.
+    pub reserved: u8,
+}
+
+/// Whether a segment is a set: 1, or 0 for no.
+fn set_flag(kind: SegKind) -> u8
+    ensures { result ≡ set_flag kind }
+{
+    match kind {
+        SegKind::Set => 1,
+        SegKind::Seq => 0,
+    }
+}
+
+/// Writes the numbers of a segment from a place of a list on, by a row that has all but the number. Answers the place behind them.
+fn put_numbers(
+    numbers: AsNumberIter<'_>,
+    row: &NumberRow,
+    list: &mut [NumberRow],
+    from: usize,
+) -> usize
+    requires { from + length (as_numbers_left numbers) ≤ length list.old }
+    ensures adds { Adds (map (with_number row.now) (as_numbers_left numbers.entry)) from result list.old list.new }
+    ensures to { result ≡ from + length (as_numbers_left numbers.entry) }
+{
+    let mut to = from;
+    let mut left = numbers;
+    'numbers: while let Some(number) = left.next() {
+        list[to] = NumberRow {
+            number: number.0,
+            ..*row
+        };
+        to += 1;
+    }
+    to
+}
+
+/// Writes the numbers of a path.
+fn put_path(message: u64, path: &JoinedPathView<'_>, list: &mut [NumberRow], from: usize) -> usize
+    requires room { from + length (segment_rows message 0 (joined_value path.now).segments) ≤ length list.old }
+    requires few { length (joined_value path.now).segments ≤ 4073 }
+    ensures { Adds (segment_rows message 0 (joined_value path.now).segments) from result list.old list.new }
+{
+    let mut to = from;
+    let mut segment: u16 = 0;
+    let mut left = path.segments();
+    'path: while let Some(found) = left.next() {
+        let row = NumberRow {
+            message,
+            number: 0,
+            segment,
+            set: set_flag(found.kind),
+            reserved: 0,
+        };
+        to = put_numbers(found.numbers, &row, list, to);
+        segment += 1;
+    }
+    to
+}
+
+/// How many numbers a path has.
+fn count_path(path: &JoinedPathView<'_>) -> usize
+    requires { numbers_in (joined_value path.now).segments ≤ 4073 }
+    ensures { result ≡ numbers_in (joined_value path.now).segments }
+{
+    let mut count = 0;
+    let mut left = path.segments();
+    'path: while let Some(found) = left.next() {
+        count += found.numbers.left();
+    }
+    count
+}
+
+/// The numbers of paths.
+pub(crate) struct PathNumbers;
+
+impl Batch for PathNumbers {
+    ghost use Rattle.ristulva_c.specs.NumberRows.{GivesNumbers, number_rows};
+    ghost use Rattle.ristulva_c.specs.Facts.{attrs_in};
+    ghost use Rattle.bgp_msg.specs.OutcomeView.{outcome_value};
+
+    type Row = NumberRow;
+
+    ghost gives = { GivesNumbers };
+
+    ghost rows = { λ at parts v. number_rows at (attrs_in (outcome_value v)) };
+
+    fn fit(body: &[u8], outcome: &OutcomeView<'_>, room: usize) -> bool {
+        are_octets(body);
+        if body.len() <= room {
+            return true;
+        }
+        match outcome {
+            OutcomeView::Update(update) => match &update.path_info().path {
+                None => true,
+                Some(path) => count_path(path) <= room,
+            },
+            _ => true,
+        }
+    }
+
+    fn put(
+        at: u64,
+        body: &[u8],
+        outcome: &OutcomeView<'_>,
+        list: &mut [NumberRow],
+        from: usize,
+    ) -> usize {
+        are_octets(body);
+        match outcome {
+            OutcomeView::Update(update) => match &update.path_info().path {
+                None => from,
+                Some(path) => put_path(at, path, list, from),
+            },
+            _ => from,
+        }
+    }
+}
+
+/// Tells the numbers of the paths that AS_PATH and AS4_PATH give together, of messages that stand one behind another, in rows of a list, as many whole
+/// messages as have room in it.
+#[unsafe(no_mangle)]
+pub extern "C" fn ristulva_path_numbers(
+    ctx: &SessionContext,
+    octets: &[u8],
+    list: &mut [NumberRow],
+    written: &mut usize,
+    taken: &mut usize,
+) -> u32
+    ensures { IsBatch GivesNumbers (context_of ctx.now) octets.now (record { status = result; before = list.old; behind = list.new; written_before = written.old; written_behind = written.new; taken_before = taken.old; taken_behind = taken.new }) }
+{
+    take_all::<PathNumbers>(ctx, octets, list, written, taken)
+}
