@@ -57,7 +57,8 @@ func TestRouteRows(t *testing.T) {
 		if row.HasOriginAS != row.Announced || (row.OriginAS == 200000) != row.Announced {
 			t.Error(i, row.OriginAS)
 		}
-		for value, place := range map[string]Place{fourOctets[6:]: row.ASPath, someValues[6:]: row.Communities, someLarge[6:]: row.LargeCommunities, "": row.AS4Path} {
+		places := map[string]Place{fourOctets[6:]: row.ASPath, someValues[6:]: row.Communities, someLarge[6:]: row.LargeCommunities, "": row.AS4Path}
+		for value, place := range places {
 			given := firstOf[place.At : place.At+place.Len]
 			if row.Announced && !bytes.Equal(given, fromHex(value)) || !row.Announced && place != (Place{}) {
 				t.Error(i, place)

@@ -44,15 +44,10 @@ COMMUNITIES = "c00808 fde80001 ffffff01"
 LARGE = "c02024 0000fde8 00000001 00000002 0000fde8 00000003 00000004 0000fde8 00000001 00000002"
 REACH = "800e1a 0002 01 10 20010db8000000000000000000000001 00 20 20010db8"
 UNREACH = "800f0a 0002 01 30 20010db80001"
-# 31 octets of header and lengths before the attributes: where values lie in a message, as offset and length.
 FIRST = update(ORIGIN + PATH + HOP + COMMUNITIES + LARGE + REACH + UNREACH, nlri="080a 18c63364", withdrawn="100a01")
-SECOND = update(ORIGIN.replace("00", "09") + PATH + HOP, nlri="18cb0071")  # an ORIGIN of no meaning: treated as a withdrawal (RFC 7606, section 7.1)
+SECOND = update("40010109" + PATH + HOP, nlri="18cb0071")  # an ORIGIN of no meaning: treated as a withdrawal (RFC 7606, section 7.1)
 STREAM = KEEPALIVE + FIRST + KEEPALIVE + SECOND
 RESET = update(ORIGIN + "4002", nlri="21")  # a prefix of 33 bits (RFC 4271, section 6.3)
-
-
-def network(text):
-    return ipaddress.ip_network(text)
 
 
 def told(octets, context, **how):
@@ -74,8 +69,9 @@ class Rows(unittest.TestCase):
         """Those that an UPDATE withdraws, then those that it announces; of one that is treated as a withdrawal all are withdrawn."""
         table, warned = told(STREAM, FOUR)
         rows = table.routes
-        wanted = [("10.1.0.0/16", False), ("2001:db8:1::/48", False), ("2001:db8::/32", True), ("10.0.0.0/8", True), ("198.51.100.0/24", True), ("203.0.113.0/24", False)]
-        self.assertEqual(list(zip(ristulva.prefixes(rows), values(rows, "announced"))), [(network(prefix), is_announced) for prefix, is_announced in wanted])
+        wanted = ["10.1.0.0/16", "2001:db8:1::/48", "2001:db8::/32", "10.0.0.0/8", "198.51.100.0/24", "203.0.113.0/24"]
+        self.assertEqual(ristulva.prefixes(rows), [ipaddress.ip_network(prefix) for prefix in wanted])
+        self.assertEqual(values(rows, "announced"), [False, False, True, True, True, False])
         self.assertEqual(values(rows, "message"), [19] * 5 + [19 + len(FIRST) + 19])
         self.assertEqual(values(rows, "verdict"), [2] * 5 + [5])
         self.assertEqual(values(rows, "afi", "length"), [(1, 16), (2, 48), (2, 32), (1, 8), (1, 24), (1, 24)])
@@ -117,7 +113,8 @@ class Rows(unittest.TestCase):
     def test_no_routes(self):
         """An UPDATE without routes has its communities all the same; other messages have no rows."""
         table = ristulva.table(KEEPALIVE + update(COMMUNITIES) + KEEPALIVE, FOUR)
-        self.assertEqual((table.routes.size, values(table.communities, "value"), table.taken), (0, [0xFDE80001, 0xFFFFFF01], 57 + len(update(COMMUNITIES)) - 19))
+        self.assertEqual((table.routes.size, values(table.communities, "value")), (0, [0xFDE80001, 0xFFFFFF01]))
+        self.assertEqual(table.taken, 2 * len(KEEPALIVE) + len(update(COMMUNITIES)))
         for octets in (b"", bytearray(), KEEPALIVE):
             table, warned = told(octets, FOUR)
             sizes = [rows.size for rows in (table.routes, table.path_numbers, table.communities, table.large_communities)]
@@ -197,7 +194,8 @@ class Buffers(unittest.TestCase):
         """Whatever holds the octets, they aren't copied."""
         wanted = values(ristulva.table(STREAM, FOUR).routes, "message", "high", "announced")
         wide = array.array("H", STREAM + bytes(len(STREAM) % 2))
-        for octets in (bytearray(STREAM), memoryview(STREAM), memoryview(b"x" + STREAM)[1:], memoryview(STREAM + STREAM)[: len(STREAM)], numpy.frombuffer(STREAM, "u1")):
+        parts = memoryview(b"x" + STREAM)[1:], memoryview(STREAM + STREAM)[: len(STREAM)]
+        for octets in (bytearray(STREAM), memoryview(STREAM), *parts, numpy.frombuffer(STREAM, "u1")):
             table = ristulva.table(octets, FOUR)
             self.assertEqual(values(table.routes, "message", "high", "announced"), wanted)
             self.assertEqual(table._octets.ctypes.data, numpy.frombuffer(octets, "u1").ctypes.data)

@@ -198,8 +198,7 @@ def as_archive(octets, path):
 
 def by_bgpdump(octets):
     """`bgpdump -m` of an MRT archive, whose lines Python splits."""
-    folder = tempfile.mkdtemp()
-    path = os.path.join(folder, "archive.mrt")
+    path = os.path.join(tempfile.mkdtemp(), "archive.mrt")
     as_archive(octets, path)
 
     def read():
@@ -212,10 +211,41 @@ def by_bgpdump(octets):
     return read
 
 
+def as_capture(octets, path):
+    """Writes the messages as a capture of packets without Ethernet, each message a segment of one connection (RFC 791, RFC 793)."""
+    at = 1
+    with open(path, "wb") as file:
+        file.write(bytes.fromhex("d4c3b2a1 0200 0400 00000000 00000000 ffff0000 65000000"))
+        for kind, body in messages_in(octets):
+            message = b"\xff" * 16 + (HEADER + len(body)).to_bytes(2, "big") + bytes([kind]) + body
+            tcp = bytes.fromhex("00b3 c001") + at.to_bytes(4, "big") + bytes.fromhex("00000001 5018 ffff 0000 0000") + message
+            ip = bytes.fromhex("4500") + (20 + len(tcp)).to_bytes(2, "big") + bytes.fromhex("00000000 4006 0000 c0000201 c0000202") + tcp
+            file.write((1700000000).to_bytes(4, "little") + bytes(4) + len(ip).to_bytes(4, "little") * 2 + ip)
+            at += len(message)
+
+
+def by_tshark(octets):
+    """`tshark -T fields` of a capture, whose lines Python splits."""
+    path = os.path.join(tempfile.mkdtemp(), "capture.pcap")
+    as_capture(octets, path)
+    names = ["nlri_prefix", "withdrawn_prefix", *[f"mp_{field}_nlri_ipv{version}_prefix" for field in ("reach", "unreach") for version in (4, 6)]]
+    words = ["tshark", "-n", "-r", path, "-T", "fields", *[word for name in names for word in ("-e", f"bgp.{name}")]]
+
+    def read():
+        count = 0
+        with subprocess.Popen(words, stdout=subprocess.PIPE, stderr=subprocess.DEVNULL, text=True) as dumping:
+            for line in dumping.stdout:
+                count += len(line.replace(",", " ").split())
+        return count
+
+    return read
+
+
 READERS = {
     "table": by_table, "four-tables": by_four_tables, "messages": by_messages, "show-json": by_show, "exabgp": by_exabgp, "scapy": by_scapy,
-    "bgpdump": by_bgpdump, **{f"threads-{n}": by_threads(n) for n in (1, 2, 3, 4, 8)}, **{f"processes-{n}": by_processes(n) for n in (1, 2, 3, 4, 8)},
+    "bgpdump": by_bgpdump, "tshark": by_tshark,
 }
+AT_A_TIME = {"threads": by_threads, "processes": by_processes}
 
 
 def version_of(name):
@@ -236,8 +266,9 @@ def main():
     count, rounds = (int(word) for word in (*sys.argv[3:], "0", "3")[:2]) if len(sys.argv) > 3 else (0, 3)
     octets = first(pathlib.Path(path).read_bytes(), count)
     messages = sum(1 for _ in messages_in(octets))
-    read, least, routes = READERS[name](octets), float("inf"), 0
-    times = int(name.partition("-")[2]) if name.startswith(("threads-", "processes-")) else 1
+    kind, _, number = name.partition("-")
+    times = int(number) if kind in AT_A_TIME else 1
+    read, least, routes = (AT_A_TIME[kind](times) if kind in AT_A_TIME else READERS[name])(octets), float("inf"), 0
     for _ in range(rounds):
         began = time.perf_counter()
         routes = read()
