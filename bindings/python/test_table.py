@@ -169,11 +169,10 @@ class Ends(unittest.TestCase):
         """IPv6 routes that the context hasn't are told, wherever they stand, and nothing else that looks like them."""
         lost = update(ORIGIN + PATH + REACH)
         like = update(ORIGIN + PATH.replace("0000fde9", "00000201") + HOP, nlri="080a")  # AS 513
-        none = update("800f03 0002 01")  # an End-of-RIB (RFC 4724, section 2) has no routes
         for octets in (like * 3000 + KEEPALIVE * 20000 + lost, lost, update(UNREACH), KEEPALIVE * 9 + lost + like):
             self.assertEqual(told(octets, NO_IP6)[1], [ristulva.FamilyNotAgreed])
             self.assertEqual(told(octets, FOUR)[1], [])
-        for octets in (like * 3000, none + KEEPALIVE, STREAM[:19]):
+        for octets in (like * 3000, KEEPALIVE, SECOND):
             self.assertEqual(told(octets, NO_IP6)[1], [])
         table, warned = told(lost + RESET, NO_IP6)
         self.assertEqual((warned, table.routes.size), ([ristulva.Reset, ristulva.FamilyNotAgreed], 0))
