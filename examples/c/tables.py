@@ -96,7 +96,7 @@ def in_order(routes):
 
 def same_places(table, octets, objects):
     """Whether the places in rows are those of the values that the objects have; none of what is withdrawn."""
-    by_place, width = {it["place"]: it for it in objects}, 4 if table.context.as4 else 2
+    by_place, width = {it["place"]: it for it in objects[:-1]}, 4 if table.context.as4 else 2
     names = ("as_path", "as4_path", "communities", "large_communities")
     for place, is_announced, *places in zip(*(table.routes[name].tolist() for name in ("message", "announced", *names))):
         it = by_place[place] if is_announced else {}
