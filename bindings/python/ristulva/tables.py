@@ -21,14 +21,18 @@ if typing.TYPE_CHECKING:
 # numbers: so it is compared, sorted and joined. All fields but these two are in the machine's order.
 PLACE = [("at", "u2"), ("len", "u2")]
 KINDS: dict[str, tuple[str, int, dict[str, tuple[typing.Any, int]]]] = {
-    "routes": ("routes", 56, {
+    "routes": ("ristulva_routes", 56, {
         "message": ("u8", 0), "origin_as": ("u4", 8), "as_path": (PLACE, 12), "as4_path": (PLACE, 16), "communities": (PLACE, 20),
         "large_communities": (PLACE, 24), "afi": ("u2", 28), "length": ("u1", 30), "high": (">u8", 31), "low": (">u8", 39), "announced": ("?", 48),
         "verdict": ("u1", 49), "has_origin_as": ("?", 50),
     }),
-    "path_numbers": ("path_numbers", 16, {"message": ("u8", 0), "number": ("u4", 8), "segment": ("u2", 12), "set": ("?", 14)}),
-    "communities": ("communities_of", 16, {"message": ("u8", 0), "value": ("u4", 8)}),
-    "large_communities": ("large_communities_of", 24, {"message": ("u8", 0), "global": ("u4", 8), "local1": ("u4", 12), "local2": ("u4", 16)}),
+    "path_numbers": ("ristulva_path_numbers", 16, {
+        "message": ("u8", 0), "number": ("u4", 8), "segment": ("u2", 12), "set": ("?", 14),
+    }),
+    "communities": ("ristulva_communities_of", 16, {"message": ("u8", 0), "value": ("u4", 8)}),
+    "large_communities": ("ristulva_large_communities_of", 24, {
+        "message": ("u8", 0), "global": ("u4", 8), "local1": ("u4", 12), "local2": ("u4", 16),
+    }),
 }
 # So many octets are looked through at a time for what may be IPv6 routes.
 PIECE = 1 << 18
@@ -68,8 +72,7 @@ def form_of(kind: str) -> typing.Any:
 def written(kind: str, octets: Array, context: Context, rows: Rows) -> tuple[int, int, int]:
     """One call of the library: how many rows it wrote, how many octets it took, and its status."""
     count, taken = c_size_t(), c_size_t()
-    call = getattr(LIBRARY, f"ristulva_{KINDS[kind][0]}")
-    status: int = call(context.said(), octets.ctypes.data, octets.size, rows.ctypes.data, rows.size, count, taken)
+    status: int = getattr(LIBRARY, KINDS[kind][0])(context.said(), octets.ctypes.data, octets.size, rows.ctypes.data, rows.size, count, taken)
     return count.value, taken.value, status
 
 
