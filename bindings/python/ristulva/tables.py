@@ -111,12 +111,14 @@ def read(kind: str, octets: Array, context: Context, step: int = 0) -> Batch:
 
 
 def hits(octets: Array) -> typing.Iterator[Array]:
-    """Where IPv6 unicast may be named, as it is in front of each field of such routes (RFC 4760, section 3): the offsets, some at a time."""
+    """Where the value of MP_REACH_NLRI or MP_UNREACH_NLRI for IPv6 unicast may begin (RFC 4760, sections 3 and 4), behind a type 14 or 15 and a length of
+    one octet or two: the offsets, some at a time."""
     import numpy
 
     for at in range(0, octets.size, PIECE):
         part = octets[at : at + PIECE + 2]
-        yield at + numpy.flatnonzero((part[:-2] == 0) & (part[1:-1] == 2) & (part[2:] == 1))
+        found = at + numpy.flatnonzero((part[:-2] == 0) & (part[1:-1] == 2) & (part[2:] == 1))
+        yield found[(octets[found - 2] | 1 == 15) | (octets[found - 3] | 1 == 15)]
 
 
 def loses_ip6(octets: Array, context: Context, starts: Array) -> bool:
