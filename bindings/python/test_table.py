@@ -168,7 +168,7 @@ class Ends(unittest.TestCase):
     def test_ip6(self):
         """IPv6 routes that the context hasn't are told, wherever they stand, and nothing else that looks like them."""
         lost = update(ORIGIN + PATH + REACH)
-        like = update(ORIGIN + PATH.replace("0000fde9", "0e000201") + HOP + "c00804 0f000201", nlri="080a")
+        like = update(ORIGIN + PATH + HOP + "c00808 0e010002 0100000f", nlri="080a")
         long = update(ORIGIN + PATH + REACH.replace("800e1a", "900e001a"))  # a length of two octets
         for octets in (like * 3000 + KEEPALIVE * 20000 + lost, lost, long, update(UNREACH), KEEPALIVE * 9 + lost + like):
             self.assertEqual(told(octets, NO_IP6)[1], [ristulva.FamilyNotAgreed])
