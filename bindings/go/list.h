@@ -116,4 +116,21 @@ static inline size_t list_routes(const ristulva_context *context, const uint8_t 
     return count;
 }
 
+/* What the rows of a batch are. */
+enum rows_of { ROUTES, PATH_NUMBERS, COMMUNITIES, LARGE_COMMUNITIES };
+
+static inline ristulva_status write_rows(int kind, const ristulva_context *context, const uint8_t *octets, size_t len, void *rows, size_t room,
+                                         size_t *written, size_t *taken) {
+    switch (kind) {
+    case ROUTES:
+        return ristulva_routes(context, octets, len, rows, room, written, taken);
+    case PATH_NUMBERS:
+        return ristulva_path_numbers(context, octets, len, rows, room, written, taken);
+    case COMMUNITIES:
+        return ristulva_communities_of(context, octets, len, rows, room, written, taken);
+    default:
+        return ristulva_large_communities_of(context, octets, len, rows, room, written, taken);
+    }
+}
+
 #endif

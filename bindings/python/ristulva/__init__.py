@@ -8,6 +8,9 @@ It is the file that RISTULVA_LIBRARY names by an absolute path, else libristulva
             for prefix in message.announced():
                 ...
 
+    table = ristulva.table(octets, ristulva.Context(as4=True))  # the routes of a whole stream as an array of numpy, which has to be there
+    print(table.routes["origin_as"][table.routes["announced"]])
+
     with ristulva.Decoder(ristulva.Context(as4=True)) as decoder:
         for piece in pieces:
             for message in decoder.feed(piece):
@@ -32,12 +35,13 @@ from .numbers import (
 from .session import (
     Action, Announce, Arm, Close, Config, Disarm, Event, Flush, Heard, Peer, Seek, Send, Session, SessionClosed, State, Timer, Withdraw,
 )
+from .tables import Reset, Table, arrow, frame, joined, prefixes, table
 
 __all__ = [
     "ENDS", "KINDS", "MESSAGE", "ORIGINS", "VERDICTS", "VERSION", "WHYS", "Action", "Announce", "Arm", "Attribute", "AttributeType",
     "CapabilityCode", "CeaseError", "Cleaned", "Close", "Config", "Context", "Decoder", "DecoderClosed", "Disarm", "ErrorCode", "Event",
     "Facts", "FamilyNotAgreed", "Field", "Flush", "HeaderError", "Heard", "Incomplete", "Message", "Open", "OpenError", "Peer", "Prefix",
-    "RefreshError", "Refused", "Route", "Seek", "Send", "Session", "SessionClosed", "State", "StateError", "Timer", "UpdateError",
-    "Withdraw", "WrongState", "agree", "attribute_name", "capability_name", "directions", "encode", "error_name", "judge", "messages",
-    "narrow", "reconcile", "subcode_name",
+    "RefreshError", "Refused", "Reset", "Route", "Seek", "Send", "Session", "SessionClosed", "State", "StateError", "Table", "Timer",
+    "UpdateError", "Withdraw", "WrongState", "agree", "arrow", "attribute_name", "capability_name", "directions", "encode", "error_name",
+    "frame", "joined", "judge", "messages", "narrow", "prefixes", "reconcile", "subcode_name", "table",
 ]

@@ -11,7 +11,7 @@ from ctypes import POINTER, Structure, c_char_p, c_size_t, c_uint8, c_uint16, c_
 OK, NO_SESSION, MEMORY, RANGE, INCOMPLETE, ROOM, END, REFUSED, UNWRITABLE, STATE, CONFIG, IN_USE, MIXED = range(13)
 # The first two numbers of the versions whose header this file has: while the first is 0, a new second one may change any call.
 SERIES = (0, 4)
-DATA, MESSAGE, HEADER, ACTIONS = 4075, 4096, 19, 5
+DATA, MESSAGE, HEADER, ACTIONS, BATCH = 4075, 4096, 19, 5, 4073
 
 
 class Span(Structure):
@@ -199,6 +199,8 @@ def load() -> tuple[Library, int]:
     octets: list[typing.Any] = [c_char_p, c_size_t]
     # A buffer and its room come before what is written beside it.
     buffer: list[typing.Any] = [c_char_p, c_size_t]
+    # Rows of numpy and octets anywhere in a buffer are handed in by their addresses.
+    batch = [POINTER(Said), c_void_p, c_size_t, c_void_p, c_size_t, POINTER(c_size_t), POINTER(c_size_t)]
     session = decoder = POINTER(Handle)
     takes = {
         "judge": [POINTER(Said), *octets, *buffer, POINTER(Verdict)],
@@ -206,6 +208,10 @@ def load() -> tuple[Library, int]:
         "facts": [POINTER(Said), *octets, POINTER(CFacts)],
         "begin_routes": [POINTER(Said), *octets, POINTER(RouteCursor)],
         "next_route": [*octets, POINTER(RouteCursor), POINTER(CRoute)],
+        "routes": batch,
+        "path_numbers": batch,
+        "communities_of": batch,
+        "large_communities_of": batch,
         "agree": [*octets, *octets, POINTER(Said), POINTER(c_uint16)],
         "name": [c_uint8, c_uint8, c_uint8, *buffer, POINTER(c_size_t)],
         "fields": [POINTER(Said), *octets, POINTER(CField), c_size_t, POINTER(c_size_t)],

@@ -20,6 +20,8 @@ pub enum Error {
     Config,
     /// The session isn't in a state for this.
     State,
+    /// There is room for less than [`ROWS`](crate::ROWS) rows.
+    Room,
 }
 
 impl Error {
@@ -32,6 +34,7 @@ impl Error {
             raw::MIXED => Error::Mixed,
             raw::UNWRITABLE => Error::Unwritable,
             raw::STATE => Error::State,
+            raw::ROOM => Error::Room,
             _ => unreachable!("status {status} of a call that doesn't answer it"),
         }
     }
@@ -47,6 +50,7 @@ impl fmt::Display for Error {
             Error::Unwritable => "the UPDATE can't be written",
             Error::Config => "the configuration isn't allowed",
             Error::State => "the session isn't in a state for this",
+            Error::Room => "there is less room than one message may need",
         })
     }
 }

@@ -155,7 +155,7 @@ pub struct Prefixes {
 }
 
 #[repr(C)]
-#[derive(Default)]
+#[derive(Clone, Copy, Debug, Default)]
 pub struct Prefix {
     pub afi: u16,
     pub len: u8,
@@ -297,3 +297,70 @@ pub struct Peer {
     pub ip4: u8,
     pub ip6: u8,
 }
+
+#[repr(C)]
+#[derive(Clone, Copy, Debug, Default)]
+pub struct Place {
+    pub at: u16,
+    pub len: u16,
+}
+
+impl Place {
+    /// Its octets, of those of its message; none where it has none.
+    pub fn of(self, message: &[u8]) -> &[u8] {
+        let at = usize::from(self.at);
+        &message[at..at + usize::from(self.len)]
+    }
+}
+
+/// A route of a stream. It lies in memory as the library writes it.
+#[repr(C)]
+#[derive(Clone, Copy, Debug, Default)]
+pub struct RouteRow {
+    pub(crate) message: u64,
+    pub(crate) origin_as: u32,
+    pub(crate) as_path: Place,
+    pub(crate) as4_path: Place,
+    pub(crate) communities: Place,
+    pub(crate) large_communities: Place,
+    pub(crate) prefix: Prefix,
+    pub(crate) announced: u8,
+    pub(crate) verdict: u8,
+    pub(crate) has_origin_as: u8,
+    reserved: [u8; 5],
+}
+
+/// A number of an AS path, of what AS_PATH and AS4_PATH give together (RFC 6793, section 4.2.3).
+#[repr(C)]
+#[derive(Clone, Copy, Debug, Default)]
+pub struct NumberRow {
+    pub(crate) message: u64,
+    pub(crate) number: u32,
+    pub(crate) segment: u16,
+    pub(crate) set: u8,
+    reserved: u8,
+}
+
+/// A community of COMMUNITIES (RFC 1997).
+#[repr(C)]
+#[derive(Clone, Copy, Debug, Default)]
+pub struct CommunityRow {
+    pub(crate) message: u64,
+    pub(crate) value: u32,
+    reserved: u32,
+}
+
+/// A large community of LARGE_COMMUNITY, each once (RFC 8092, section 3).
+#[repr(C)]
+#[derive(Clone, Copy, Debug, Default)]
+pub struct LargeCommunityRow {
+    pub(crate) message: u64,
+    pub(crate) numbers: [u32; 3],
+    reserved: u32,
+}
+
+// What the header says of the rows, which lie in a caller's memory by the thousand.
+const _: () = assert!(std::mem::size_of::<RouteRow>() == 56);
+const _: () = assert!(std::mem::size_of::<NumberRow>() == 16);
+const _: () = assert!(std::mem::size_of::<CommunityRow>() == 16);
+const _: () = assert!(std::mem::size_of::<LargeCommunityRow>() == 24);

@@ -53,6 +53,7 @@ mod prefix;
 #[allow(unsafe_code)]
 mod raw;
 mod route;
+mod rows;
 mod session;
 mod update;
 mod write;
@@ -74,6 +75,10 @@ pub use open::{Capabilities, Capability, Open};
 pub use path::{Numbers, Segment, SegmentKind, Segments};
 pub use prefix::{NextHop, Prefix, Prefixes, Shown};
 pub use route::{Route, Routes};
+pub use rows::{
+    read_rows, write_rows, CommunityRow, LargeCommunityRow, NumberRow, RouteRow, Row, Stop,
+    Written, ROWS,
+};
 pub use session::{Event, Heard, Peer, Session, State};
 pub use update::Update;
 pub use write::{encode, narrow, reconcile};

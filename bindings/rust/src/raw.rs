@@ -23,6 +23,9 @@ pub const STATE: u32 = 9;
 pub const CONFIG: u32 = 10;
 pub const MIXED: u32 = 12;
 
+/// The least room for rows: the most that one message gives.
+pub const BATCH: usize = 4073;
+
 /// What [`Found`] tells.
 pub const MORE: u8 = 0;
 pub const FOUND: u8 = 1;
@@ -87,6 +90,10 @@ extern "C" {
     fn ristulva_count_prefixes(octets: *const u8, len: usize, cursor: *const Prefixes, count: *mut usize) -> u32;
     fn ristulva_begin_routes(context: *const Context, octets: *const u8, len: usize, cursor: *mut RouteCursor) -> u32;
     fn ristulva_next_route(octets: *const u8, len: usize, cursor: *mut RouteCursor, out: *mut Route) -> u32;
+    fn ristulva_routes(context: *const Context, octets: *const u8, len: usize, rows: *mut RouteRow, room: usize, written: *mut usize, taken: *mut usize) -> u32;
+    fn ristulva_path_numbers(context: *const Context, octets: *const u8, len: usize, rows: *mut NumberRow, room: usize, written: *mut usize, taken: *mut usize) -> u32;
+    fn ristulva_communities_of(context: *const Context, octets: *const u8, len: usize, rows: *mut CommunityRow, room: usize, written: *mut usize, taken: *mut usize) -> u32;
+    fn ristulva_large_communities_of(context: *const Context, octets: *const u8, len: usize, rows: *mut LargeCommunityRow, room: usize, written: *mut usize, taken: *mut usize) -> u32;
     fn ristulva_next_segment(octets: *const u8, len: usize, cursor: *mut Segments, out: *mut Segment) -> u32;
     fn ristulva_next_number(octets: *const u8, len: usize, cursor: *mut Numbers, out: *mut u32) -> u32;
     fn ristulva_next_large_community(octets: *const u8, len: usize, cursor: *mut LargeCommunities, out: *mut LargeCommunity) -> u32;
@@ -357,6 +364,67 @@ pub fn next_route(octets: &[u8], cursor: &mut RouteCursor) -> Option<Route> {
     // SAFETY: see above.
     let status = unsafe { ristulva_next_route(octets.as_ptr(), octets.len(), cursor, &mut out) };
     (status == OK).then_some(out)
+}
+
+/// A call that writes rows.
+pub type Writes<Row> = unsafe extern "C" fn(
+    *const Context,
+    *const u8,
+    usize,
+    *mut Row,
+    usize,
+    *mut usize,
+    *mut usize,
+) -> u32;
+
+/// Rows, and the call that writes them.
+pub trait IsWritten: Copy + Default {
+    const CALL: Writes<Self>;
+
+    /// Where its message begins.
+    fn message_mut(&mut self) -> &mut u64;
+}
+
+macro_rules! is_written {
+    ($($row:ty: $call:ident,)*) => {$(
+        impl IsWritten for $row {
+            const CALL: Writes<Self> = $call;
+
+            fn message_mut(&mut self) -> &mut u64 {
+                &mut self.message
+            }
+        }
+    )*};
+}
+
+is_written! {
+    RouteRow: ristulva_routes,
+    NumberRow: ristulva_path_numbers,
+    CommunityRow: ristulva_communities_of,
+    LargeCommunityRow: ristulva_large_communities_of,
+}
+
+/// The status, how many rows were written, and how many octets were taken.
+pub fn write_rows<Row: IsWritten>(
+    context: &Context,
+    octets: &[u8],
+    rows: &mut [Row],
+) -> (u32, usize, usize) {
+    let (mut written, mut taken) = (0, 0);
+    let (at, len) = (octets.as_ptr(), octets.len());
+    // SAFETY: see above. It writes no more rows than there are, and each bit pattern is a row.
+    let status = unsafe {
+        Row::CALL(
+            context,
+            at,
+            len,
+            rows.as_mut_ptr(),
+            rows.len(),
+            &mut written,
+            &mut taken,
+        )
+    };
+    (status, written, taken)
 }
 
 pub fn agree(ours: &[u8], theirs: &[u8]) -> Option<(Context, u16)> {
