@@ -2,7 +2,7 @@
  * four fields, and the numbers of the AS path; or lets a session hear the stream, and counts the prefixes of what it announces and withdraws.
  * Prints the sums of one round, as baseline.rs does, and the best time of the rounds.
  *
- * usage: walk FILE ROUNDS [session | notes]      the session has AS numbers of four octets and both families; notes are asked for alone */
+ * usage: walk FILE ROUNDS [session | notes | fields]      the session has AS numbers of four octets and both families; notes and fields are asked for alone */
 #define _POSIX_C_SOURCE 200809L
 #include "ristulva.h"
 #include <stdio.h>
@@ -100,6 +100,22 @@ static struct sums note_all(const uint8_t *octets, size_t len)
         sums.bad += count_notes(octets, len);
         octets += verdict.len;
         len -= verdict.len;
+    }
+    return sums;
+}
+
+/* Lists the fields of each message of a stream, up to its end or to a header with a fault, and counts them with the numbers. */
+static struct sums list_all(const uint8_t *octets, size_t len)
+{
+    static ristulva_field fields[RISTULVA_MESSAGE];
+    struct sums sums = {0};
+    size_t count = 0;
+    while (ristulva_fields(&context, octets, len, fields, RISTULVA_MESSAGE, &count) == RISTULVA_OK) {
+        const ristulva_field *last = fields + count - 1;
+        sums.messages++;
+        sums.numbers += count;
+        octets += last->at + last->len;
+        len -= last->at + last->len;
     }
     return sums;
 }
@@ -242,13 +258,15 @@ static unsigned long long nanoseconds(void)
     return 1000000000ull * (unsigned long long)now.tv_sec + (unsigned long long)now.tv_nsec;
 }
 
-/* What a word asks for: a session, notes, or a walk where there is none; NULL for another word. */
+/* What a word asks for: a session, notes, fields, or a walk where there is none; NULL for another word. */
 static struct sums (*work(const char *word))(const uint8_t *, size_t)
 {
     if (word == NULL)
         return walk;
     if (strcmp(word, "session") == 0)
         return live;
+    if (strcmp(word, "fields") == 0)
+        return list_all;
     return strcmp(word, "notes") == 0 ? note_all : NULL;
 }
 
@@ -260,7 +278,7 @@ int main(int argc, char **argv)
     long rounds;
     uint8_t *octets;
     if (argc < 3 || argc > 4 || work(argv[3]) == NULL) {
-        fprintf(stderr, "usage: walk FILE ROUNDS [session | notes]\n");
+        fprintf(stderr, "usage: walk FILE ROUNDS [session | notes | fields]\n");
         return 2;
     }
     octets = read_all(argv[1], &len);
