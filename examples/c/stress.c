@@ -8,9 +8,10 @@
  * header doesn't allow. */
 #include "ristulva.h"
 #include "trial.h"
+#include "stress_place.h"
+#include "stress_told.h"
 #include <pthread.h>
 #include <string.h>
-#include <sys/mman.h>
 
 #ifndef STACK
 #define STACK (32 * 1024)
@@ -23,19 +24,7 @@ static int cleans;
 /* How many sessions there are: each is memory that a call leaves. */
 static long sessions;
 
-/* ---- chance ---- */
-
-static uint64_t state;
-
-static uint32_t below(uint32_t bound)
-{
-    state = state * 6364136223846793005u + 1442695040888963407u;
-    return (uint32_t)((state >> 33) % bound);
-}
-
 /* ---- calls ---- */
-
-static unsigned long calls;
 
 static void try_front(const uint8_t *octets, size_t len, ristulva_found *found)
 {
@@ -592,32 +581,14 @@ static void try_session(const uint8_t *octets, size_t len, const ristulva_found 
     WANT(heard.parts.nlri.at + heard.parts.nlri.len == (heard.heard == RISTULVA_UPDATE || heard.heard == RISTULVA_WITHDRAW ? heard.len : 0));
 }
 
-static uint32_t some_offset(size_t len)
-{
-    return below(20) == 0 ? (uint32_t)state : below((uint32_t)len + 3);
-}
-
-/* A place of which the first and the last octet lie beside memory that can't be touched. */
-static uint8_t *place;
-#define PLACE 8192u
-
-static void make_place(void)
-{
-    uint8_t *pages = mmap(NULL, PLACE * 3, PROT_NONE, MAP_PRIVATE | MAP_ANONYMOUS, -1, 0);
-    WANT(pages != MAP_FAILED);
-    place = pages + PLACE;
-    WANT(mprotect(place, PLACE, PROT_READ | PROT_WRITE) == 0);
-}
-
 /* All calls on some octets, which lie at one end of that place. */
 static void try_all(const uint8_t *from, size_t len)
 {
     ristulva_context context;
     ristulva_found found;
     ristulva_verdict verdict;
-    uint8_t *octets = below(4) == 0 ? place : place + PLACE - len;
+    const uint8_t *octets = placed(from, len);
     int i;
-    memcpy(octets, from, len);
     context.internal = (uint8_t)below(2);
     context.as4 = (uint8_t)below(2);
     context.ip4 = (uint8_t)(below(3) * 100);
@@ -627,6 +598,7 @@ static void try_all(const uint8_t *from, size_t len)
     try_notes(&context, octets, len, &found, &verdict);
     try_open(octets, len, &found, &verdict);
     try_text(&context, octets, len, &found);
+    try_told(&context, octets, len, &found, &verdict);
     if (cleans)
         try_clean(&context, octets, len, &found, &verdict);
     try_decoder(&context, octets, len, &found, &verdict);
@@ -663,6 +635,7 @@ static void try_all(const uint8_t *from, size_t len)
         walk_value(octets, len, value);
         walk_capabilities(octets, len, capabilities, &offered);
     }
+    try_batches(&context, from, len);
 }
 
 /* ---- octets ---- */
@@ -769,6 +742,7 @@ static void *work(void *unused)
     static uint8_t octets[4096];
     unsigned long i;
     try_most_notes(octets);
+    try_most_routes(octets);
     try_large_communities(octets);
     for (i = 0; i < (cleans ? rounds / 2 : rounds); i++) {
         size_t len = some_octets(octets);
@@ -788,7 +762,7 @@ int main(int argc, char **argv)
     rounds = strtoul(argv[2], NULL, 10);
     for (i = 3; i < argc; i++)
         load(argv[i]);
-    make_place();
+    make_places();
     for (cleans = 0; cleans <= 1; cleans++) {
         WANT(pthread_attr_init(&how) == 0 && pthread_attr_setstacksize(&how, cleans ? MORE_STACK : STACK) == 0);
         WANT(pthread_create(&thread, &how, work, NULL) == 0 && pthread_join(thread, NULL) == 0);

@@ -551,7 +551,7 @@ typedef struct {
 typedef struct {
     uint16_t afi;
     uint8_t len;      /* the length in bits: at most 32 for IPv4, and 128 for IPv6 */
-    uint8_t addr[16]; /* the address, highest octet first: four octets for IPv4. Bits behind the length are 0 */
+    uint8_t addr[16]; /* the address, highest octet first: four octets for IPv4, and zeros behind them. Bits behind the length are 0 */
 } ristulva_prefix;
 
 /* Gives the prefixes of a field one after another, up to the end or to the first fault: begin at the span `withdrawn` or `nlri` of a

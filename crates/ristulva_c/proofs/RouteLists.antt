@@ -20,7 +20,7 @@ use Rattle.bgp_open.specs.declared.context.Context.{Context}
 use Rattle.bgp_open.specs.declared.fault.OpenFault.{OpenFault}
 use Rattle.bgp_open.specs.declared.message.Open.{Open}
 use Rattle.bgp_open.specs.OpenFault.{open_notification, reading_of}
-use Rattle.std.specs.Prelude.{Result, Ok, Err}
+use Rattle.std.specs.Prelude.{Result, Ok, Err, is_some}
 use Rattle.bgp_prefix.specs.Prefix.{PrefixValue}
 use Rattle.bgp_prefix.specs.Run.{run_of}
 use Rattle.bgp_prefix.proofs.LawLemmas.{row_is_run}
@@ -53,6 +53,7 @@ use Rattle.bgp_msg.specs.Outcome.{of_fault, of_open_fault, of_reading, of_verdic
 use Rattle.ristulva_c.specs.declared.prefixes.Prefixes.{Prefixes}
 use Rattle.ristulva_c.specs.declared.route_list.RouteCursor.{RouteCursor}
 use Rattle.ristulva_c.specs.declared.span.Span.{Span}
+use Rattle.ristulva_c.specs.Facts.{attrs_in}
 use Rattle.ristulva_c.specs.Opens.{flag_of}
 use Rattle.ristulva_c.specs.Context.{is_set}
 use Rattle.ristulva_c.specs.Parts.{parts_told, Lie}
@@ -85,10 +86,15 @@ nothing_left : (octets : List ℕ) (loses : Bool) → routes_left octets (no_rou
 nothing_left octets loses =
     ap₂ ◌++◌ (none_routes false octets) (ap₂ ◌++◌ (none_routes false octets) (ap₂ ◌++◌ (none_routes false octets) (none_routes false octets)))
 
-plain : (octets : List ℕ) (o : Outcome) → AreRoutes o (routes_left octets (no_routes false)) → Begins octets o false (no_routes false)
-plain octets o routes =
+plain : (octets : List ℕ) (o : Outcome) → AreRoutes o (routes_left octets (no_routes false)) → attrs_in o ≡ None → Begins octets o false (no_routes false)
+plain octets o routes none =
     let lies = none_lies octets in
-    record { lies = record { withdrawn = lies; unreached = lies; reached = lies; nlri = lies }; routes = routes; loses_ip6 = refl }
+    record {
+      lies = record { withdrawn = lies; unreached = lies; reached = lies; nlri = lies };
+      routes = routes;
+      announces = sym (ap (λ x. flag_of (is_some x)) none);
+      loses_ip6 = refl;
+    }
 
 -- ---- the cursor that is made
 
@@ -125,7 +131,7 @@ cursor_is ctx a p w n b un re gone come l an lo is_w is_n is_b is_un is_re is_go
 
 -- a header with a fault has none
 pub begins_fault : (octets : List ℕ) (fault : HeadFault) → Begins octets (of_fault fault) false (no_routes false)
-begins_fault octets fault = plain octets (of_fault fault) (nothing_left octets false)
+begins_fault octets fault = plain octets (of_fault fault) (nothing_left octets false) refl
 
 -- ---- a field
 
@@ -406,7 +412,7 @@ module _ (ctx : Context) (octets : List ℕ) where
     taken : BeginsFor (Some p) (outcome.Took (message.Update (update_of p (marks_of ctx p))) (notes_of p (marks_of ctx p)))
     taken =
         let l = not ctx.ip6 && carries_ip6 (Some p) in
-        record { lies = all_lie octets p lies room ctx true l; routes = all_left octets p lies room ctx true l; loses_ip6 = is_one l }
+        record { lies = all_lie octets p lies room ctx true l; routes = all_left octets p lies room ctx true l; announces = refl; loses_ip6 = refl }
 
     withdrawn : BeginsFor (Some p) (outcome.Withdraw (notes.routes_of p (marks_of ctx p)) (notes_of p (marks_of ctx p)))
     withdrawn =
@@ -414,39 +420,40 @@ module _ (ctx : Context) (octets : List ℕ) where
         record {
           lies = all_lie octets p lies room ctx false l;
           routes = rw (all_left octets p lies room ctx false l) (all_withdrawn p (marks_of ctx p));
-          loses_ip6 = is_one l;
+          announces = refl;
+          loses_ip6 = refl;
         }
 
     by_tests : (is_withdrawn is_reachable : Bool) → BeginsFor (Some p) (of_verdict (cond is_withdrawn
         (cond is_reachable (verdict.Withdraw (notes.routes_of p (marks_of ctx p)) (notes_of p (marks_of ctx p))) (verdict.Reset malformed))
         (verdict.Take (update_of p (marks_of ctx p)) (notes_of p (marks_of ctx p)))))
     by_tests true true = withdrawn
-    by_tests true false = plain octets (outcome.Reset malformed) (nothing_left octets false)
+    by_tests true false = plain octets (outcome.Reset malformed) (nothing_left octets false) refl
     by_tests false reachable = taken
 
     by_reset : (n : Option Notification) → BeginsFor (Some p) (of_verdict (unless_reset n (without_reset p (marks_of ctx p))))
-    by_reset (Some n) = plain octets (outcome.Reset n) (nothing_left octets false)
+    by_reset (Some n) = plain octets (outcome.Reset n) (nothing_left octets false) refl
     by_reset None = by_tests (is_withdrawn p (marks_of ctx p)) (is_reachable p (marks_of ctx p))
 
   by_parts : (o : Option Parts) → ((p : Parts) → o ≡ Some p → Lie octets p (parts_told (Some p)) × (23 + length p.withdrawn + length p.attributes + length p.nlri ≤ length octets)) → BeginsFor o (of_verdict (of_parts ctx o))
-  by_parts None there = plain octets (outcome.Reset malformed) (nothing_left octets false)
+  by_parts None there = plain octets (outcome.Reset malformed) (nothing_left octets false) refl
   by_parts (Some p) there = let h = there p refl in by_reset p h.0 h.1 (reset_of p (marks_of ctx p))
 
   -- an OPEN has no routes, whatever comes of it
   by_fault : (parts : Option Parts) (n : Option Notification) → BeginsFor parts (of_open_fault n)
-  by_fault parts (Some n) = plain octets (outcome.Reset n) (nothing_left octets false)
-  by_fault parts None = plain octets (of_open_fault None) (nothing_left octets false)
+  by_fault parts (Some n) = plain octets (outcome.Reset n) (nothing_left octets false) refl
+  by_fault parts None = plain octets (of_open_fault None) (nothing_left octets false) refl
 
   by_reading : (parts : Option Parts) (r : Result Open OpenFault) → BeginsFor parts (of_reading r)
-  by_reading parts (Ok o) = plain octets (of_reading (Ok o)) (nothing_left octets false)
+  by_reading parts (Ok o) = plain octets (of_reading (Ok o)) (nothing_left octets false) refl
   by_reading parts (Err fault) = by_fault parts (open_notification fault)
 
   by_kind : (k : Kind) (body : List ℕ) → ((p : Parts) → parts_of body ≡ Some p → Lie octets p (parts_told (Some p)) × (23 + length p.withdrawn + length p.attributes + length p.nlri ≤ length octets))
       → BeginsFor (parts_of body) (out_of ctx (record { kind = k; body = body }))
   by_kind kind.Open body there = by_reading (parts_of body) (reading_of body)
   by_kind kind.Update body there = by_parts (parts_of body) there
-  by_kind kind.Notification body there = plain octets (out_of ctx (record { kind = kind.Notification; body = body })) (nothing_left octets false)
-  by_kind kind.Keepalive body there = plain octets (out_of ctx (record { kind = kind.Keepalive; body = body })) (nothing_left octets false)
+  by_kind kind.Notification body there = plain octets (out_of ctx (record { kind = kind.Notification; body = body })) (nothing_left octets false) refl
+  by_kind kind.Keepalive body there = plain octets (out_of ctx (record { kind = kind.Keepalive; body = body })) (nothing_left octets false) refl
 
 -- the parts of a message have room in its octets
 pub room_in : (octets : List ℕ) (n : ℕ) (m : Message) → AreOctets octets → IsFrame m (take n octets) → (p : Parts) → parts_of m.body ≡ Some p

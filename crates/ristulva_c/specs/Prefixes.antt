@@ -1,5 +1,5 @@
 -- Prefixes one after another, by a cursor.
-use Rattle.std.specs.Prelude.{◌≡◌, ◌==◌, ◌≤◌, ◌-◌, ◌⊎◌, ℕ, List, length, take, drop, if◌then◌else◌}
+use Rattle.std.specs.Prelude.{◌≡◌, ◌==◌, ◌≤◌, ◌-◌, ◌⊎◌, ℕ, List, length, take, drop, replicate, if◌then◌else◌}
 use Rattle.bgp_numbers.specs.declared.afi.TheConstants.{IPV4, IPV6}
 use Rattle.bgp_prefix.specs.Prefix.{PrefixValue}
 use Rattle.bgp_prefix.specs.Run.{run_of}
@@ -27,6 +27,10 @@ pub record IsCursor (octets : List ℕ) (cursor : Prefixes) : Type 0 where
 -- the prefixes still to come
 abbrev pub prefixes_left : List ℕ → Prefixes → List PrefixValue
 prefixes_left octets cursor = (run_of (width_of cursor.afi) (between octets cursor.at cursor.end)).0
+
+-- behind the octets of an address there are zeros
+abbrev pub IsPadded : RoutePrefix → Type 0
+IsPadded out = drop (width_of out.afi) out.addr ≡ replicate (16 - width_of out.afi) 0
 
 -- the prefix that is told
 abbrev pub prefix_told : RoutePrefix → PrefixValue

@@ -1,5 +1,5 @@
 -- The routes of an UPDATE, announced and withdrawn as RFC 7606 has them, one after another by a cursor.
-use Rattle.std.specs.Prelude.{◌≡◌, ◌==◌, ◌&&◌, ◌||◌, ◌++◌, not, ℕ, Bool, true, false, List, [], ◌∷◌, map, Option, Some, None}
+use Rattle.std.specs.Prelude.{◌≡◌, ◌==◌, ◌&&◌, ◌||◌, ◌++◌, not, ℕ, Bool, true, false, List, [], ◌∷◌, map, Option, Some, None, is_some}
 use Rattle.std.specs.Int.{w16, from_be_bytes}
 use Rattle.std.specs.List.{filter}
 use Rattle.bgp_numbers.specs.declared.afi.TheConstants.{IPV4, IPV6}
@@ -23,6 +23,8 @@ use Rattle.bgp_msg.specs.declared.outcome.Outcome.{Outcome}
 use Rattle.bgp_msg.specs.declared.outcome.Outcome.TheVariants as outcome
 use Rattle.bgp_msg.specs.Outcome.{out_of, of_fault}
 use Rattle.ristulva_c.specs.Context.{is_set}
+use Rattle.ristulva_c.specs.Facts.{attrs_in}
+use Rattle.ristulva_c.specs.Opens.{flag_of}
 use Rattle.ristulva_c.specs.Places.{first_of_type}
 use Rattle.ristulva_c.specs.Prefixes.{IsCursor, prefixes_left, prefix_told}
 use Rattle.ristulva_c.specs.declared.prefixes.Prefixes.{Prefixes}
@@ -122,15 +124,26 @@ pub record IsRouteCursor (octets : List ℕ) (c : RouteCursor) : Type 0 where
   pub reached : IsCursor octets c.reached
   pub nlri : IsCursor octets c.nlri
 
+-- a cursor that is moved to these places: where its fields end, their families, and what it says of them stay
+abbrev pub moved : RouteCursor → ℕ → ℕ → ℕ → ℕ → RouteCursor
+moved c withdrawn unreached reached nlri = record c {
+  withdrawn = record c.withdrawn { at = withdrawn };
+  unreached = record c.unreached { at = unreached };
+  reached = record c.reached { at = reached };
+  nlri = record c.nlri { at = nlri };
+}
+
 -- the route that is told
 abbrev pub route_told : Route → RouteValue
 route_told out = record { announced = is_set out.announced; afi = out.prefix.afi; prefix = prefix_told out.prefix }
 
--- a cursor stands at the first of a message's routes, by its outcome, and says whether IPv6 routes are lost
+-- a cursor stands at the first of a message's routes, by its outcome, and says whether it announces those that an UPDATE may announce, and whether IPv6
+-- routes are lost
 pub record Begins (octets : List ℕ) (o : Outcome) (loses : Bool) (c : RouteCursor) : Type 0 where
   pub lies : IsRouteCursor octets c
   pub routes : AreRoutes o (routes_left octets c)
-  pub loses_ip6 : is_set c.loses_ip6 ≡ loses
+  pub announces : c.announces ≡ flag_of (is_some (attrs_in o))
+  pub loses_ip6 : c.loses_ip6 ≡ flag_of loses
 
 -- by what the octets begin with: less than a message, and nothing is changed; a message; or a header with a fault, which has no routes
 abbrev pub BeginsBy : Context → List ℕ → Step → ℕ → RouteCursor → RouteCursor → Type 0

@@ -3,7 +3,7 @@
 ghost use Rattle.std.specs.Prelude.{◌≡◌, ◌+◌, ◌-◌, ◌⊎◌, ◌↔◌, ◌≤◌, true, false, [], ◌∷◌, length, drop, MatchOption};
 ghost use Rattle.bgp_prefix.specs.Bits.{octets_for};
 ghost use Rattle.bgp_prefix.specs.Run.{run_of};
-ghost use Rattle.ristulva_c.specs.Prefixes.{between, IsWithin, IsCursor, prefixes_left, prefix_told};
+ghost use Rattle.ristulva_c.specs.Prefixes.{between, IsWithin, IsCursor, prefixes_left, IsPadded, prefix_told};
 ghost use Rattle.bgp_numbers.specs.declared.afi.TheConstants.{IPV4, IPV6};
 ghost use Rattle.ristulva_c.specs.declared.status.TheConstants.{END, OK, RANGE};
 
@@ -61,6 +61,7 @@ fn first6(octets: &[u8]) -> Option<(Prefix<16>, usize)>
 /// An IPv4 prefix as it is told.
 fn told4(prefix: &Prefix<4>) -> RoutePrefix
     ensures value { prefix_told result ≡ prefix.now }
+    ensures padded { IsPadded result }
     ensures afi { result.afi ≡ IPV4 }
 {
     let [a, b, c, d] = prefix.addr();
@@ -74,6 +75,7 @@ fn told4(prefix: &Prefix<4>) -> RoutePrefix
 /// An IPv6 prefix as it is told.
 fn told6(prefix: &Prefix<16>) -> RoutePrefix
     ensures value { prefix_told result ≡ prefix.now }
+    ensures padded { IsPadded result }
     ensures afi { result.afi ≡ IPV6 }
 {
     RoutePrefix {
@@ -106,6 +108,7 @@ fn next4(rest: &[u8], cursor: &mut Prefixes, out: &mut RoutePrefix) -> u32
     requires { length rest.now + cursor.old.at ≡ cursor.old.end }
     ensures ok { result ≡ OK → (run_of 4 rest.now).0 ≡ prefix_told out.new ∷ (run_of 4 (drop (cursor.new.at - cursor.old.at) rest.now)).0 }
     ensures place { result ≡ OK → (out.new.afi ≡ IPV4) × ((cursor.old.at ≤ cursor.new.at) × (cursor.new.at ≤ cursor.old.end)) }
+    ensures padded { result ≡ OK → IsPadded out.new }
     ensures same { cursor.new ≡ record cursor.old { at = cursor.new.at } }
     ensures over { result ≡ END → (run_of 4 rest.now).0 ≡ [] }
     ensures kept { result ≡ END → (cursor.new ≡ cursor.old) × (out.new ≡ out.old) }
@@ -126,6 +129,7 @@ fn next6(rest: &[u8], cursor: &mut Prefixes, out: &mut RoutePrefix) -> u32
     requires { length rest.now + cursor.old.at ≡ cursor.old.end }
     ensures ok { result ≡ OK → (run_of 16 rest.now).0 ≡ prefix_told out.new ∷ (run_of 16 (drop (cursor.new.at - cursor.old.at) rest.now)).0 }
     ensures place { result ≡ OK → (out.new.afi ≡ IPV6) × ((cursor.old.at ≤ cursor.new.at) × (cursor.new.at ≤ cursor.old.end)) }
+    ensures padded { result ≡ OK → IsPadded out.new }
     ensures same { cursor.new ≡ record cursor.old { at = cursor.new.at } }
     ensures over { result ≡ END → (run_of 16 rest.now).0 ≡ [] }
     ensures kept { result ≡ END → (cursor.new ≡ cursor.old) × (out.new ≡ out.old) }
@@ -146,6 +150,7 @@ fn next6(rest: &[u8], cursor: &mut Prefixes, out: &mut RoutePrefix) -> u32
 pub(crate) fn next_prefix(octets: &[u8], cursor: &mut Prefixes, out: &mut RoutePrefix) -> u32
     ensures ok { result ≡ OK → prefixes_left octets.now cursor.old ≡ prefix_told out.new ∷ prefixes_left octets.now cursor.new }
     ensures afi { result ≡ OK → out.new.afi ≡ cursor.old.afi }
+    ensures padded { result ≡ OK → IsPadded out.new }
     ensures behind { result ≡ OK → IsCursor octets.now cursor.new }
     ensures over { result ≡ END → prefixes_left octets.now cursor.old ≡ [] }
     ensures range { (result ≡ RANGE) ↔ (IsCursor octets.now cursor.old → ⊥) }
@@ -172,6 +177,7 @@ pub extern "C" fn ristulva_next_prefix(
 ) -> u32
     ensures ok { result ≡ OK → prefixes_left octets.now cursor.old ≡ prefix_told out.new ∷ prefixes_left octets.now cursor.new }
     ensures afi { result ≡ OK → out.new.afi ≡ cursor.old.afi }
+    ensures padded { result ≡ OK → IsPadded out.new }
     ensures behind { result ≡ OK → IsCursor octets.now cursor.new }
     ensures over { result ≡ END → prefixes_left octets.now cursor.old ≡ [] }
     ensures range { (result ≡ RANGE) ↔ (IsCursor octets.now cursor.old → ⊥) }

@@ -14,8 +14,8 @@ ghost use Rattle.bgp_msg.specs.Outcome.{out_of};
 ghost use Rattle.bgp_msg.specs.OutcomeView.{outcome_value};
 ghost use Rattle.ristulva_c.specs.Opens.{flag_of};
 ghost use Rattle.ristulva_c.specs.Context.{context_of, is_set};
-ghost use Rattle.ristulva_c.specs.Prefixes.{IsCursor};
-ghost use Rattle.ristulva_c.specs.RouteList.{is_ip6, has_ip6, carries_ip6, loses_ip6, field_routes, routes_left, route_told, IsRouteCursor, AreBegun};
+ghost use Rattle.ristulva_c.specs.Prefixes.{IsCursor, IsPadded};
+ghost use Rattle.ristulva_c.specs.RouteList.{is_ip6, has_ip6, carries_ip6, loses_ip6, field_routes, routes_left, moved, route_told, IsRouteCursor, AreBegun};
 ghost use Rattle.ristulva_c.specs.steps.RouteList.{no_prefixes, no_routes, reach_afi, unreach_afi, value_from, reach_by, unreach_by, reach_at, unreach_at, cursor_of, cursor_by};
 ghost use Rattle.ristulva_c.specs.declared.status.TheConstants.{END, INCOMPLETE, OK, RANGE};
 
@@ -309,6 +309,8 @@ fn are_cursors(octets: &[u8], cursor: &RouteCursor) -> bool
 fn next_in(octets: &[u8], announced: bool, cursor: &mut Prefixes, out: &mut Route) -> bool
     requires { IsCursor octets.now cursor.old }
     ensures given { result ≡ true → field_routes announced octets.now cursor.old ≡ route_told out.new ∷ field_routes announced octets.now cursor.new }
+    ensures flag { result ≡ true → out.new.announced ≡ flag_of announced }
+    ensures padded { result ≡ true → IsPadded out.new.prefix }
     ensures over { result ≡ false → (field_routes announced octets.now cursor.old ≡ []) × ((cursor.new ≡ cursor.old) × (out.new ≡ out.old)) }
     ensures lies { IsCursor octets.now cursor.new }
     ensures field { cursor.new ≡ record cursor.old { at = cursor.new.at } }
@@ -332,7 +334,10 @@ pub extern "C" fn ristulva_next_route(
     out: &mut Route,
 ) -> u32
     ensures ok { result ≡ OK → routes_left octets.now cursor.old ≡ route_told out.new ∷ routes_left octets.now cursor.new }
+    ensures flag { result ≡ OK → out.new.announced ≤ 1 }
+    ensures padded { result ≡ OK → IsPadded out.new.prefix }
     ensures behind { result ≡ OK → IsRouteCursor octets.now cursor.new }
+    ensures field { cursor.new ≡ moved cursor.old cursor.new.withdrawn.at cursor.new.unreached.at cursor.new.reached.at cursor.new.nlri.at }
     ensures over { result ≡ END → routes_left octets.now cursor.old ≡ [] }
     ensures range { (result ≡ RANGE) ↔ (IsRouteCursor octets.now cursor.old → ⊥) }
     ensures kept { (result ≡ OK) ⊎ ((cursor.new ≡ cursor.old) × (out.new ≡ out.old)) }
