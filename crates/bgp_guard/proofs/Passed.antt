@@ -1,0 +1,136 @@
+-- What is handed on of a message, as octets.
+use Rattle.std.proofs.Common.{◌≡◌, ℕ, ◌+◌, ◌≤◌, Bool, true, false, cond, List, [], ◌∷◌, ◌++◌, length, drop, Option, Some, None, Result, Ok, Err, refl, sym, ap, subst, ◌∙◌, arith}
+use Rattle.std.specs.Prelude.{is_some}
+use Rattle.bgp_wire.specs.Octets.{AreOctets}
+use Rattle.bgp_frame.specs.declared.kind.Kind.{Kind}
+use Rattle.bgp_frame.specs.declared.kind.Kind.TheVariants as kind
+use Rattle.bgp_frame.specs.Frame as frame
+use Rattle.bgp_frame.specs.Frame.{IsFrame}
+use Rattle.bgp_frame.proofs.Headers.{below_4097}
+use Rattle.bgp_open.specs.declared.context.Context.{Context}
+use Rattle.bgp_open.specs.declared.fault.OpenFault.{OpenFault}
+use Rattle.bgp_open.specs.declared.message.Open.{Open}
+use Rattle.bgp_open.specs.OpenFault.{open_notification, reading_of}
+use Rattle.bgp_frame.specs.declared.notification.Notification.{Notification}
+use Rattle.bgp_msg.specs.declared.message.Message.{Message}
+use Rattle.bgp_msg.specs.declared.message.Message.TheVariants as message
+use Rattle.bgp_msg.specs.declared.outcome.Outcome.{Outcome}
+use Rattle.bgp_msg.specs.declared.outcome.Outcome.TheVariants as outcome
+use Rattle.bgp_msg.specs.Outcome.{of_open_fault, of_reading, out_of}
+use Rattle.bgp_msg.specs.Written.{canonical, written}
+use Rattle.bgp_clean.specs.declared.cleaned.Cleaned.{Cleaned}
+use Rattle.bgp_clean.specs.declared.cleaned.Cleaned.TheVariants.{HandedOn, Ends}
+use Rattle.bgp_clean.specs.declared.fault.CleanFault.{CleanFault}
+use Rattle.bgp_clean.specs.Clean.{cleaned, cleaned_outcome, handed_open, ended_family}
+use Rattle.bgp_clean.specs.Cleaned.{IsCleaned}
+use Rattle.bgp_clean.specs.Laws.{IsClean}
+use Rattle.bgp_clean.specs.Opens.{cleaned_open, lacks_family}
+use Rattle.bgp_clean.proofs.Handed.{handed-clean}
+use Rattle.bgp_guard.specs.steps.Halves.{CanBeRead, IsReadOpen, IsReadIn}
+
+-- ---- an OPEN that is handed on is an OPEN, and is read as it
+
+abbrev ok : Message → Result Message CleanFault
+ok n = Ok n
+
+same_message : (n m : Message) → ok n ≡ ok m → n ≡ m
+same_message n m e = cc
+
+no_message : (f : CleanFault) (m : Message) → Err f ≡ ok m → ⊥
+no_message f m e = absurd cc
+
+handed_by : (o : Open) (n : Message) (lacks : Bool) → cond lacks (Err (Rattle.bgp_clean.specs.declared.fault.CleanFault.TheVariants.NoFamily)) (ok (message.Open (cleaned_open o))) ≡ ok n
+    → (p : Open) × (n ≡ message.Open p)
+handed_by o n true e = absurd (no_message _ n e)
+handed_by o n false e = (cleaned_open o, sym (same_message _ n e))
+
+fault_by : (drops : ℕ → Bool) (ends : Bool) (n : Message) (why : Option Notification) → cleaned_outcome drops true ends (of_open_fault why) ≡ ok n → (p : Open) × (n ≡ message.Open p)
+fault_by drops ends n None e = absurd (no_message _ n e)
+fault_by drops ends n (Some why) e = absurd (no_message _ n e)
+
+open_by : (drops : ℕ → Bool) (ends : Bool) (n : Message) (r : Result Open OpenFault) → cleaned_outcome drops true ends (of_reading r) ≡ ok n → (p : Open) × (n ≡ message.Open p)
+open_by drops ends n (Ok o) e = handed_by o n (lacks_family o) e
+open_by drops ends n (Err fault) e = fault_by drops ends n (open_notification fault) e
+
+-- what was read comes back
+abbrev took : Open → Outcome
+took o = outcome.Took (message.Open o) []
+
+same_open : (o p : Open) → took o ≡ took p → o ≡ p
+same_open o p e = cc
+
+no_open : (why : Option Notification) (p : Open) → of_open_fault why ≡ took p → ⊥
+no_open None p e = absurd cc
+no_open (Some n) p e = absurd cc
+
+read_by : (r : Result Open OpenFault) (p : Open) → of_reading r ≡ took p → r ≡ Ok p
+read_by (Ok o) p e = ap (λ (x : Open). Ok x) (same_open o p e)
+read_by (Err fault) p e = absurd (no_open (open_notification fault) p e)
+
+-- ---- what a message that is handed on is, as octets
+
+pub record IsPassed (ctx : Context) (drops : ℕ → Bool) (m : frame.Message) (octets : List ℕ) : Type 0 where
+  pub message : Message
+  pub is : cleaned ctx drops true m ≡ Ok message
+  pub written : octets ≡ canonical ctx message
+  pub read : IsReadIn m.kind message octets
+  pub least : CanBeRead m.kind octets
+  pub most : length octets ≤ 4096
+
+module _ (ctx : Context) (drops : ℕ → Bool) where
+  reads : (k : Kind) (body octets : List ℕ) (n : Message) → octets ≡ canonical ctx n → cleaned ctx drops true (record { kind = k; body = body }) ≡ ok n
+      → IsClean ctx drops true (record { kind = k; body = body }) n → IsReadIn k n octets × CanBeRead k octets
+  reads kind.Open body octets n is e clean =
+      let found = open_by drops (is_some (ended_family ctx (record { kind = kind.Open; body = body }))) n (reading_of body) e in
+      by found.0 found.1
+    where
+      by : (o : Open) → n ≡ message.Open o → IsReadOpen n octets × (29 ≤ length octets)
+      by o same =
+          let whole : IsFrame (written ctx (message.Open o)) (canonical ctx (message.Open o)) = subst (λ (x : Message). IsFrame (written ctx x) (canonical ctx x)) same clean.taken.whole in
+          let taken : out_of ctx (written ctx (message.Open o)) ≡ outcome.Took (message.Open o) [] =
+          subst (λ (x : Message). out_of ctx (written ctx x) ≡ outcome.Took x []) same clean.taken.taken in
+          let are : octets ≡ canonical ctx (message.Open o) = is ∙ ap (canonical ctx) same in (
+            record { value = o; is = same; reads = ap (λ (b : List ℕ). reading_of (drop 19 b)) are ∙ read_by _ o taken },
+            subst (λ (b : List ℕ). 29 ≤ length b) (sym are) whole.allowed.least,
+          )
+  reads kind.Update body octets n is e clean = (tt, tt)
+  reads kind.Notification body octets n is e clean = (tt, tt)
+  reads kind.Keepalive body octets n is e clean = (tt, tt)
+
+  passes : (m : frame.Message) (whole octets : List ℕ) (n : Message) → AreOctets whole → IsFrame m whole → octets ≡ canonical ctx n → cleaned ctx drops true m ≡ ok n
+      → IsPassed ctx drops m octets
+  passes m whole octets n are f is e =
+      let clean = handed-clean ctx drops true m whole n are f e in
+      let r = reads m.kind m.body octets n is e clean in
+      record {
+        message = n;
+        is = e;
+        written = is;
+        read = r.0;
+        least = r.1;
+        most = omega (arith, ap length is, clean.no_longer, ap length f.octets, below_4097 m.kind (length whole) f.allowed);
+      }
+
+  -- what is cleaned is handed on
+  passed : (m : frame.Message) (whole octets : List ℕ) → AreOctets whole → IsFrame m whole → IsCleaned ctx (cleaned ctx drops true m) [] octets HandedOn → IsPassed ctx drops m octets
+  passed m whole octets are f is = by (cleaned ctx drops true m) refl is
+    where
+      by : (r : Result Message CleanFault) → cleaned ctx drops true m ≡ r → IsCleaned ctx r [] octets HandedOn → IsPassed ctx drops m octets
+      by (Ok n) e came = passes m whole octets n are f came e
+      by (Err fault) e came = absurd came
+
+  -- the same of a page that had nothing on it
+  pub passed_page : (m : frame.Message) (whole fresh out octets : List ℕ) (came : Cleaned) → AreOctets whole → IsFrame m whole → fresh ≡ [] → came ≡ HandedOn → octets ≡ out
+      → IsCleaned ctx (cleaned ctx drops true m) fresh out came → IsPassed ctx drops m octets
+  passed_page m whole fresh out octets came are f none on same is =
+      subst (IsPassed ctx drops m) (sym same) (passed m whole out are f (subst (λ (b : List ℕ). IsCleaned ctx (cleaned ctx drops true m) b out HandedOn) none
+      (subst (IsCleaned ctx (cleaned ctx drops true m) fresh out) on is)))
+
+  -- or isn't
+  pub stopped : (m : frame.Message) (fresh out : List ℕ) (came : Cleaned) (why : CleanFault) → came ≡ Ends why → IsCleaned ctx (cleaned ctx drops true m) fresh out came
+      → (f : CleanFault) × (cleaned ctx drops true m ≡ Err f)
+  stopped m fresh out came why ends is = by (cleaned ctx drops true m) refl (subst (IsCleaned ctx (cleaned ctx drops true m) fresh out) ends is)
+    where
+      by : (r : Result Message CleanFault) → cleaned ctx drops true m ≡ r → IsCleaned ctx r fresh out (Ends why) → (f : CleanFault) × (cleaned ctx drops true m ≡ Err f)
+      by (Ok n) e got = absurd got
+      by (Err fault) e got = (fault, e)

@@ -1,0 +1,76 @@
+-- What a side sees behind an event.
+use Rattle.std.proofs.Common.{◌≡◌, ℕ, suc, ◌+◌, ◌≤◌, Bool, true, false, List, [], ◌++◌, length, Result, Ok, Err, refl, sym, ap, ap₂, ◌∙◌, arith}
+use Rattle.std.specs.Prelude.{◌↔◌, nat_lt, if◌then◌else◌}
+use Rattle.std.specs.Str.{bytes_eq}
+use Rattle.std.proofs.lemmas.Slice.Eq.{bytes_eq-Decides}
+use Rattle.std.proofs.lemmas.Bool.{true≢false, le-ltb}
+use Rattle.bgp_wire.specs.OctetSet.{has_octet}
+use Rattle.bgp_frame.specs.declared.kind.Kind.{Kind}
+use Rattle.bgp_frame.specs.Frame as frame
+use Rattle.bgp_frame.specs.declared.notification.NotificationView.{NotificationView}
+use Rattle.bgp_open.specs.declared.context.Context.{Context}
+use Rattle.bgp_msg.specs.declared.message.Message.{Message}
+use Rattle.bgp_msg.specs.declared.outcome.Outcome.{Outcome}
+use Rattle.bgp_msg.specs.declared.outcome_view.OutcomeView.{OutcomeView}
+use Rattle.bgp_msg.specs.declared.outcome_view.OutcomeView.TheVariants as view
+use Rattle.bgp_msg.specs.Outcome.{out_of}
+use Rattle.bgp_msg.specs.OutcomeView.{outcome_value}
+use Rattle.bgp_msg.specs.Written.{canonical}
+use Rattle.bgp_clean.specs.declared.fault.CleanFault.{CleanFault}
+use Rattle.bgp_clean.specs.Clean.{cleaned}
+use Rattle.bgp_guard.specs.declared.rules.Rules.{Rules}
+use Rattle.bgp_guard.specs.declared.stage.Stage.{Stage}
+use Rattle.bgp_guard.specs.declared.stage.Stage.TheVariants as stage
+use Rattle.bgp_guard.specs.declared.stage.TheConstants.{OPEN_SECONDS, DRAIN_SECONDS}
+use Rattle.bgp_guard.specs.Guard.{Half, absent, Guarding, Sight, runs}
+use Rattle.bgp_guard.specs.Answers.{Answers, answered, reject_both}
+use Rattle.bgp_guard.specs.Hearing.{answers_to, cleans, context_in, handed_on, handed_or, said_as, stage_behind}
+use Rattle.bgp_guard.specs.Events.{told_late, late, waited}
+use Rattle.bgp_guard.specs.steps.Halves.{half_behind, HasRoom}
+
+-- ---- a second
+
+pub late_waited : (g : Guarding) (n : ℕ) (outer inner : Half) → 239 ≤ n → outer ≡ told_late g.outer → inner ≡ told_late g.inner
+    → record { rules = g.rules; stage = stage.Ends 10; outer = outer; inner = inner } ≡ waited n true g
+late_waited g n outer inner over o i =
+    ap₂ (λ (x y : Half). record { rules = g.rules; stage = stage.Ends 10; outer = x; inner = y }) o i
+    ∙ sym (ap (λ (b : Bool). if b then record g { stage = stage.Runs (suc n) } else late g) (le-ltb (suc n) 240 (omega (arith, over))))
+
+-- ---- answers
+
+pub no_reset : (v : OutcomeView) → ((why : NotificationView) → v ≡ view.Reset why → ⊥) → answers_to (outcome_value v) ≡ reject_both
+no_reset (view.Open x) not = refl
+no_reset (view.Update x) not = refl
+no_reset (view.Notification x) not = refl
+no_reset view.Keepalive not = refl
+no_reset (view.Withdraw x) not = refl
+no_reset (view.Reset why) not = absurd (not why refl)
+
+pub over : (s t : Sight) (a : Answers) → t ≡ answered s a → runs t.stage ≡ false
+over s t a e = ap (λ (x : Sight). runs x.stage) e
+
+-- so there may be anything on the way
+pub no_room : (stage : Stage) (way : List ℕ) → runs stage ≡ false → HasRoom stage way
+no_room stage way not = λ up. absurd (true≢false (sym up ∙ not))
+
+-- ---- a message that is handed on
+
+pub handed : (silent : Bool) (s : Sight) (kind : Kind) (n : Message) (stage : Stage) (this : Half) (way : List ℕ) → stage ≡ stage_behind kind s.stage
+    → this ≡ half_behind kind n s.this → way ≡ s.other.way ++ canonical (context_in s) (said_as silent kind n)
+    → record { stage = stage; this = this; other = record s.other { way = way } } ≡ handed_on silent s kind n
+handed silent s kind n stage this way a b c =
+    ap₂ (λ (x : Stage) (y : Half). record { stage = x; this = y; other = record s.other { way = way } }) a b
+    ∙ ap (λ (w : List ℕ). record { stage = stage_behind kind s.stage; this = half_behind kind n s.this; other = record s.other { way = w } }) c
+
+-- what is cleaned in the context of both sides
+pub cleans_by : (rules : Rules) (s : Sight) (m : frame.Message) (ctx : Context) (r : Result Message CleanFault) → ctx ≡ context_in s → cleaned ctx (has_octet rules.drops) true m ≡ r
+    → cleans rules s m ≡ handed_or (out_of ctx m) r
+cleans_by rules s m ctx r same is =
+    ap (λ (c : Context). handed_or (out_of c m) (cleaned c (has_octet rules.drops) true m)) (sym same)
+    ∙ ap (handed_or (out_of ctx m)) is
+
+-- octets are compared
+pub same_octets : (a b passed : List ℕ) (t : Bool) → t ≡ bytes_eq a b → a ≡ passed → (t ≡ true) ↔ (passed ≡ b)
+same_octets a b passed t is same =
+    let decides = bytes_eq-Decides a b in
+    (λ yes. sym same ∙ decides.0 (sym is ∙ yes), λ equal. is ∙ decides.1 (same ∙ equal))

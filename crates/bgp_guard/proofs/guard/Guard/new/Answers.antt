@@ -1,0 +1,15 @@
+use Rattle.std.proofs.Common.{◌≡◌, length, sym, ap, subst, arith}
+use Rattle.bgp_frame.specs.Frame.{Waits}
+use Rattle.bgp_guard.specs.Guard.{Half, absent}
+use Rattle.bgp_guard.specs.steps.Halves.{half_of}
+use Rattle.bgp_guard.proofs.Fronts.{nothing}
+use Rattle.bgp_guard.proofs.guard.Guard.new.Goals as goal
+
+pub invariant_of-result : goal.invariant_of-result
+invariant_of-result c =
+    let outer : half_of c.in_ok-outer.outer ≡ absent = c.in_ok-outer.ensures in
+    let inner : half_of c.in_ok-inner.inner ≡ absent = c.in_ok-inner.ensures in (
+      λ up. omega (arith, ap (λ (h : Half). length h.way) outer),
+      (λ up. omega (arith, ap (λ (h : Half). length h.way) inner),
+      (subst Waits (sym (ap (λ (h : Half). h.held) outer)) nothing, subst Waits (sym (ap (λ (h : Half). h.held) inner)) nothing)),
+    )

@@ -1,0 +1,12 @@
+use Rattle.std.proofs.Common.{◌≡◌, ◌-◌, ◌≤◌, ℕ, List, Some, length, take, drop, sym, ap, ◌∙◌, arith}
+use Rattle.std.proofs.lemmas.List.{length-drop, take_all}
+use Rattle.bgp_open.specs.OpenFault.{reading_of}
+use Rattle.bgp_open.specs.Peer.{Said}
+use Rattle.bgp_guard.specs.steps.Halves.{said_in}
+use Rattle.bgp_guard.proofs.handing.peer_of.Goals as goal
+
+pub returns-in-Ok : goal.returns-in-Ok
+returns-in-Ok c =
+    let whole = c.args.whole.now in
+    let same = take_all (length whole - 19) (drop 19 whole) (omega (arith, length-drop 19 whole)) in
+    ap (λ (s : Said). Some s) c.peer.ensures ∙ sym (ap said_in (ap reading_of (sym same) ∙ c.in-Ok.ensures.value))

@@ -1,0 +1,36 @@
+use Rattle.std.proofs.Common.{◌≡◌, ℕ, [], Option, Some, sym, ap, subst, ◌∙◌}
+use Rattle.bgp_frame.specs.declared.notification.Notification.{Notification}
+use Rattle.bgp_frame.specs.Notification.{notification_of_view}
+use Rattle.bgp_frame.specs.Step.{message_in}
+use Rattle.bgp_guard.specs.Answers.{answered, reset_by, unexpected}
+use Rattle.bgp_guard.specs.Came.{CameBy, IsAnswered}
+use Rattle.bgp_guard.specs.Hearing.{done, placed}
+use Rattle.bgp_guard.specs.Place.{misplaced}
+use Rattle.bgp_guard.specs.steps.Halves.{sight_with}
+use Rattle.bgp_guard.proofs.Sights.{over, no_room}
+use Rattle.bgp_guard.proofs.handing.take.Goals as goal
+
+pub returns-in-Some-clause-after : goal.returns-in-Some-clause-after
+returns-in-Some-clause-after c =
+    λ h k.
+    let s = sight_with h k c.args.stage.now c.args.this.now c.args.other.now in
+    let m = message_in c.args.frame in
+    let is : misplaced s m.kind ≡ Some c.in-Some.subcode = sym (c.misplaced.ensures h k c.args.stage.now) ∙ c.in-Some.is in
+    c.reset.ensures.after h k
+    ∙ ap (λ (n : Notification). answered s (reset_by n)) (c.view.ensures ∙ c.unexpected-why.ensures)
+    ∙ sym (ap (λ (o : Option ℕ). done c.args.silent s m.kind (placed c.args.rules.now s m o)) is)
+
+pub returns-in-Some-clause-told : goal.returns-in-Some-clause-told
+returns-in-Some-clause-told c =
+    λ h k.
+    let s = sight_with h k c.args.stage.now c.args.this.now c.args.other.now in
+    let m = message_in c.args.frame in
+    let is : misplaced s m.kind ≡ Some c.in-Some.subcode = sym (c.misplaced.ensures h k c.args.stage.now) ∙ c.in-Some.is in
+    subst (λ (o : Option ℕ). CameBy c.args.silent s m (placed c.args.rules.now s m o) c.reset.result) (sym is)
+    (subst (λ (n : Notification). IsAnswered n c.reset.result) (c.view.ensures ∙ c.unexpected-why.ensures) c.reset.ensures.told)
+
+pub returns-in-Some-clause-room : goal.returns-in-Some-clause-room
+returns-in-Some-clause-room c =
+    let ends = over (sight_with [] [] c.args.stage.now c.args.this.now c.args.other.now) (sight_with [] [] c.reset.new.stage c.reset.new.this c.reset.new.other)
+    (reset_by (notification_of_view c.view.result)) (c.reset.ensures.after [] []) in
+    (no_room c.reset.new.stage c.reset.new.this.way ends, no_room c.reset.new.stage c.reset.new.other.way ends)

@@ -1,0 +1,59 @@
+use Rattle.std.proofs.Common.{◌≡◌, ℕ, [], List, Option, Some, Ok, Err, Result, sym, ap, subst, ◌∙◌}
+use Rattle.bgp_frame.specs.declared.fault.HeadFault.{HeadFault}
+use Rattle.bgp_frame.specs.declared.notification.Notification.{Notification}
+use Rattle.bgp_frame.specs.Frame.{Message, Waits}
+use Rattle.bgp_frame.specs.Notification.{notification_of_view}
+use Rattle.bgp_frame.specs.Step.{message_in}
+use Rattle.bgp_machine.proofs.Contents.{content_of-frame, content_of-fault}
+use Rattle.bgp_guard.specs.Answers.{answered, reset_by}
+use Rattle.bgp_guard.specs.Came.{CameOf, IsAnswered}
+use Rattle.bgp_guard.specs.Hearing.{heard_as, holding}
+use Rattle.bgp_guard.specs.steps.Halves.{sight_of, sight_with}
+use Rattle.bgp_guard.proofs.Fronts.{nothing}
+use Rattle.bgp_guard.proofs.Sights.{over, no_room}
+use Rattle.bgp_guard.proofs.hearing.settle.Goals as goal
+
+pub returns-in-Frame-clause-settled : goal.returns-in-Frame-clause-settled
+returns-in-Frame-clause-settled c =
+    let s = sight_of c.args.stage.now c.args.this.now c.args.other.now in
+    let m = message_in c.in-Frame.frame in
+    let content = content_of-frame m c.args.this.now.framer c.in-Frame.ensures.0 in
+    record {
+      after =
+          ap (λ (h : List ℕ). sight_with h c.args.other.now.framer c.take-came.new.stage c.take-came.new.this c.take-came.new.other) c.clear.ensures
+          ∙ c.take-came.ensures.after [] c.args.other.now.framer
+          ∙ sym (ap (heard_as c.args.rules.now c.args.silent s) content);
+      told =
+          subst (λ (x : Option (Result Message HeadFault)). CameOf c.args.rules.now c.args.silent (holding s []) x c.take-came.result) (sym content)
+          (c.take-came.ensures.told [] c.args.other.now.framer);
+    }
+
+pub returns-in-Frame-clause-waits : goal.returns-in-Frame-clause-waits
+returns-in-Frame-clause-waits c = subst Waits (sym c.clear.ensures) nothing
+
+pub returns-in-Fault-clause-settled : goal.returns-in-Fault-clause-settled
+returns-in-Fault-clause-settled c =
+    let s = sight_of c.args.stage.now c.args.this.now c.args.other.now in
+    let k = c.args.other.now.framer in
+    let shows = c.in-Fault.ensures in
+    let content = content_of-fault c.args.this.now.framer c.in-Fault.fault shows.0 shows.1 in
+    let same = c.view.ensures ∙ c.answer-why.ensures in
+    record {
+      after =
+          ap (λ (h : List ℕ). sight_with h k c.reset.new.stage c.reset.new.this c.reset.new.other) c.clear-in-Fault.ensures
+          ∙ c.reset.ensures.after [] k
+          ∙ ap (λ (n : Notification). answered (holding s []) (reset_by n)) same
+          ∙ sym (ap (heard_as c.args.rules.now c.args.silent s) content);
+      told =
+          subst (λ (x : Option (Result Message HeadFault)). CameOf c.args.rules.now c.args.silent (holding s []) x c.reset.result) (sym content)
+          (subst (λ (n : Notification). IsAnswered n c.reset.result) same c.reset.ensures.told);
+    }
+
+pub returns-in-Fault-clause-waits : goal.returns-in-Fault-clause-waits
+returns-in-Fault-clause-waits c = subst Waits (sym c.clear-in-Fault.ensures) nothing
+
+pub returns-in-Fault-clause-room : goal.returns-in-Fault-clause-room
+returns-in-Fault-clause-room c =
+    let ends = over (sight_with [] [] c.args.stage.now c.args.this.now.line c.args.other.now.line) (sight_with [] [] c.reset.new.stage c.reset.new.this c.reset.new.other)
+    (reset_by (notification_of_view c.view.result)) (c.reset.ensures.after [] []) in
+    (no_room c.reset.new.stage c.reset.new.this.way ends, no_room c.reset.new.stage c.reset.new.other.way ends)

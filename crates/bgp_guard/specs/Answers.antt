@@ -1,0 +1,60 @@
+-- The NOTIFICATIONs that the guard sends itself (RFC 4271, section 6; RFC 4486; RFC 6608).
+use Rattle.std.specs.Prelude.{ℕ, List, [], ◌∷◌, ◌++◌, Option, None, Some}
+use Rattle.bgp_numbers.specs.declared.error.TheConstants.{HOLD_TIMER_EXPIRED, FINITE_STATE_MACHINE, CEASE, UNSPECIFIC}
+use Rattle.bgp_frame.specs.declared.kind.Kind.{Kind}
+use Rattle.bgp_frame.specs.declared.kind.Kind.TheVariants as kind
+use Rattle.bgp_frame.specs.declared.notification.Notification.{Notification}
+use Rattle.bgp_frame.specs.Frame.{octets_of}
+use Rattle.bgp_frame.specs.Kind.{code_of}
+use Rattle.bgp_frame.specs.ShortNotification.{notification_with}
+use Rattle.bgp_msg.specs.Written.{notification_octets}
+use Rattle.bgp_open.specs.Peer.{Said}
+use Rattle.bgp_guard.specs.declared.answers.TheConstants.{ADMINISTRATIVE_RESET, CONNECTION_REJECTED}
+use Rattle.bgp_guard.specs.declared.stage.Stage.TheVariants as stage
+use Rattle.bgp_guard.specs.declared.stage.TheConstants.{DRAIN_SECONDS}
+use Rattle.bgp_guard.specs.Guard.{Half, Sight}
+
+-- the whole message
+abbrev pub notice : Notification → List ℕ
+notice n = octets_of (record { kind = kind.Notification; body = notification_octets n })
+
+-- the side was reset from the other side
+abbrev pub reset_over : Notification
+reset_over = notification_with CEASE ADMINISTRATIVE_RESET []
+
+-- there is no session for it
+abbrev pub rejected : Notification
+rejected = notification_with CEASE CONNECTION_REJECTED []
+
+-- its OPEN didn't come in time
+abbrev pub expired : Notification
+expired = notification_with HOLD_TIMER_EXPIRED UNSPECIFIC []
+
+-- a message of this kind is out of place
+abbrev pub unexpected : ℕ → Kind → Notification
+unexpected subcode kind = notification_with FINITE_STATE_MACHINE subcode (code_of kind ∷ [])
+
+-- what one side is told, and what the other
+pub record Answers : Type 0 where
+  pub this : Notification
+  pub other : Notification
+
+-- the side that erred is told how, the other that there was a reset
+abbrev pub reset_by : Notification → Answers
+reset_by n = record { this = n; other = reset_over }
+
+abbrev pub reject_both : Answers
+reject_both = record { this = rejected; other = rejected }
+
+-- a NOTIFICATION stands behind all that is on its way to a side
+abbrev pub told : Notification → Half → Half
+told n h = record h { way = h.way ++ notice n }
+
+-- nothing more is read of either side
+abbrev pub answered : Sight → Answers → Sight
+answered s a = record { stage = stage.Ends DRAIN_SECONDS; this = told a.this s.this; other = told a.other s.other }
+
+-- a side without an OPEN has had its time; the other is reset
+abbrev pub late_answer : Option Said → Notification
+late_answer None = expired
+late_answer (Some said) = reset_over

@@ -1,0 +1,62 @@
+-- What the guard says of the octets that came.
+use Rattle.std.specs.Prelude.{◌≡◌, ◌↔◌, ◌<◌, ℕ, Bool, true, false, List, [], ◌++◌, length, take, Option, None, Some, Result, Ok, Err}
+use Rattle.bgp_frame.specs.declared.fault.HeadFault.{HeadFault}
+use Rattle.bgp_frame.specs.declared.kind.Kind.{Kind}
+use Rattle.bgp_frame.specs.declared.notification.Notification.{Notification}
+use Rattle.bgp_frame.specs.Frame as frame
+use Rattle.bgp_frame.specs.Frame.{octets_of}
+use Rattle.bgp_frame.specs.Head.{head_notification}
+use Rattle.bgp_frame.specs.Takes.{Takes}
+use Rattle.bgp_msg.specs.declared.message.Message.{Message}
+use Rattle.bgp_msg.specs.Written.{canonical}
+use Rattle.bgp_machine.specs.Session.{content_of}
+use Rattle.bgp_guard.specs.declared.came.Came.{Came}
+use Rattle.bgp_guard.specs.declared.came.Came.TheVariants.{Nothing, HandedOn, Answered}
+use Rattle.bgp_guard.specs.declared.side.Side.{Side}
+use Rattle.bgp_guard.specs.declared.rules.Rules.{Rules}
+use Rattle.bgp_guard.specs.Guard.{Guarding, Sight, seen_from, is_silent, listens_in}
+use Rattle.bgp_guard.specs.Hearing.{context_in, comes_of, said_as, holding, by_octets}
+use Rattle.bgp_guard.specs.Answers.{Answers}
+
+-- the side was answered so
+abbrev pub IsAnswered : Notification → Came → Type 0
+IsAnswered n (Answered code subcode) = (code ≡ n.code) × (subcode ≡ n.subcode)
+IsAnswered n _ = ⊥
+
+-- a message of this kind was handed on, and whether the octets are those that came
+abbrev pub IsHandedOn : Kind → List ℕ → List ℕ → Came → Type 0
+IsHandedOn k octets passed (HandedOn kind same) = (kind ≡ k) × ((same ≡ true) ↔ (passed ≡ octets))
+IsHandedOn k octets passed _ = ⊥
+
+abbrev pub CameBy : Bool → Sight → frame.Message → Result Message Answers → Came → Type 0
+CameBy silent s m (Ok n) came = IsHandedOn m.kind (octets_of m) (canonical (context_in s) (said_as silent m.kind n)) came
+CameBy silent s m (Err answers) came = IsAnswered answers.this came
+
+-- of what is held
+abbrev pub CameOf : Rules → Bool → Sight → Option (Result frame.Message HeadFault) → Came → Type 0
+CameOf rules silent s None came = came ≡ Nothing
+CameOf rules silent s (Some (Ok m)) came = CameBy silent s m (comes_of rules s m) came
+CameOf rules silent s (Some (Err fault)) came = IsAnswered (head_notification fault) came
+
+abbrev pub CameIn : Rules → Bool → Sight → Came → Type 0
+CameIn rules silent s came = CameOf rules silent (holding s []) (content_of s.this.held) came
+
+-- how many octets of a piece are taken: up to the end of a message, and at least one where the side is read
+abbrev pub Counts : Bool → List ℕ → List ℕ → ℕ → Type 0
+Counts true held piece n = Takes held piece n × (0 < length piece → 0 < n)
+Counts false held piece n = n ≡ 0
+
+abbrev pub CameFrom : Bool → Rules → Bool → Sight → List ℕ → Came → Type 0
+CameFrom true rules silent s octets came = CameIn rules silent (holding s (s.this.held ++ octets)) came
+CameFrom false rules silent s octets came = came ≡ Nothing
+
+-- so many octets of a piece are taken, one after another, and this came of them
+pub record IsHeardBy (rules : Rules) (silent : Bool) (old : Sight) (piece : List ℕ) (n : ℕ) (came : Came) (new : Sight) : Type 0 where
+  pub count : Counts (listens_in old) old.this.held piece n
+  pub after : new ≡ by_octets rules silent old (take n piece)
+  pub told : CameFrom (listens_in old) rules silent old (take n piece) came
+
+-- of a side of the guard
+abbrev pub IsHeard : Side → Guarding → List ℕ → ℕ → Came → Guarding → Type 0
+IsHeard side old piece n came new =
+    IsHeardBy old.rules (is_silent side old.rules) (seen_from side old) piece n came (seen_from side new) × (new.rules ≡ old.rules)

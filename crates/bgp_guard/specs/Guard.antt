@@ -1,0 +1,81 @@
+-- What a guard keeps of its two sides, and where it stands.
+use Rattle.std.specs.Prelude.{ℕ, zero, suc, Bool, true, false, ◌&&◌, nat_le, List, [], length, Option, None}
+use Rattle.bgp_open.specs.Peer.{Said}
+use Rattle.bgp_guard.specs.declared.rules.Rules.{Rules}
+use Rattle.bgp_guard.specs.declared.side.Side.{Side}
+use Rattle.bgp_guard.specs.declared.side.Side.TheVariants as side
+use Rattle.bgp_guard.specs.declared.stage.Stage.{Stage}
+use Rattle.bgp_guard.specs.declared.stage.Stage.TheVariants as stage
+use Rattle.bgp_guard.specs.declared.way.TheConstants.{ROOM}
+
+-- What is kept of a side: whether its connection stands; the octets of an incomplete message that came from it; what its OPEN says, once that was
+-- handed on; whether its KEEPALIVE was; and the octets that are on their way to it
+pub record Half : Type 0 where
+  pub stands : Bool
+  pub held : List ℕ
+  pub peer : Option Said
+  pub ready : Bool
+  pub way : List ℕ
+
+abbrev pub absent : Half
+absent = record { stands = false; held = []; peer = None; ready = false; way = [] }
+
+pub record Guarding : Type 0 where
+  pub rules : Rules
+  pub stage : Stage
+  pub outer : Half
+  pub inner : Half
+
+-- no side stands yet
+abbrev pub fresh : Rules → Guarding
+fresh rules = record { rules = rules; stage = stage.Runs 0; outer = absent; inner = absent }
+
+-- ---- as one side sees it: each rule is written once, for a side and the other
+
+pub record Sight : Type 0 where
+  pub stage : Stage
+  pub this : Half
+  pub other : Half
+
+abbrev pub seen_from : Side → Guarding → Sight
+seen_from side.Outer g = record { stage = g.stage; this = g.outer; other = g.inner }
+seen_from side.Inner g = record { stage = g.stage; this = g.inner; other = g.outer }
+
+abbrev pub guard_of : Side → Rules → Sight → Guarding
+guard_of side.Outer rules s = record { rules = rules; stage = s.stage; outer = s.this; inner = s.other }
+guard_of side.Inner rules s = record { rules = rules; stage = s.stage; outer = s.other; inner = s.this }
+
+-- the routes of this side aren't handed on
+abbrev pub is_silent : Side → Rules → Bool
+is_silent side.Outer rules = false
+is_silent side.Inner rules = rules.one_way
+
+-- ---- what it asks of its owner
+
+abbrev pub runs : Stage → Bool
+runs (stage.Runs n) = true
+runs (stage.Ends n) = false
+
+-- octets of a side are read while messages are handed on, it stands, and what is on its way to the other leaves room for a message
+abbrev pub listens_in : Sight → Bool
+listens_in s = runs s.stage && (s.this.stands && nat_le (length s.other.way) ROOM)
+
+abbrev pub listens : Side → Guarding → Bool
+listens side g = listens_in (seen_from side g)
+
+abbrev pub is_empty : List ℕ → Bool
+is_empty [] = true
+is_empty _ = false
+
+-- a side is to be closed once the guard has ended and nothing is on its way to it, or the seconds for that are over
+abbrev pub closes_with : Stage → List ℕ → Bool
+closes_with (stage.Runs n) way = false
+closes_with (stage.Ends zero) way = true
+closes_with (stage.Ends (suc n)) way = is_empty way
+
+abbrev pub half : Side → Guarding → Half
+half side.Outer g = g.outer
+half side.Inner g = g.inner
+
+abbrev pub closes : Side → Guarding → Bool
+closes side g = closes_with g.stage (half side g).way

@@ -1,0 +1,8 @@
+-- The guard between two speakers: what it keeps, and what each event does.
+pub mod Guard
+pub mod Place
+pub mod Answers
+pub mod Hearing
+pub mod Events
+pub mod Came
+pub mod steps

@@ -1,0 +1,63 @@
+-- What the code keeps, as the definitions have it.
+use Rattle.std.specs.Prelude.{◌≡◌, ℕ, ◌≤◌, Bool, true, List, ◌++◌, length, take, drop, Option, None, Some, option_map, Result, Ok, Err}
+use Rattle.bgp_frame.specs.declared.kind.Kind.{Kind}
+use Rattle.bgp_frame.specs.declared.kind.Kind.TheVariants as kind
+use Rattle.bgp_open.specs.declared.fault.OpenFault.{OpenFault}
+use Rattle.bgp_open.specs.declared.message.Open.{Open}
+use Rattle.bgp_open.specs.OpenFault.{reading_of}
+use Rattle.bgp_open.specs.Peer.{Said, said_by, said_of}
+use Rattle.bgp_msg.specs.declared.message.Message.{Message}
+use Rattle.bgp_msg.specs.declared.message.Message.TheVariants as message
+use Rattle.bgp_guard.specs.declared.came.Came.{Came}
+use Rattle.bgp_guard.specs.declared.line.Half as code
+use Rattle.bgp_guard.specs.declared.line.Line.{Line}
+use Rattle.bgp_guard.specs.declared.rules.Rules.{Rules}
+use Rattle.bgp_guard.specs.declared.stage.Stage.{Stage}
+use Rattle.bgp_guard.specs.Guard.{Half, Sight, runs}
+use Rattle.bgp_guard.specs.Hearing.{heard, peer_behind, ready_behind}
+use Rattle.bgp_guard.specs.Came.{CameIn}
+
+abbrev pub half_with : List ℕ → Line → Half
+half_with held l = record { stands = l.stands; held = held; peer = option_map said_of l.peer; ready = l.ready; way = l.way }
+
+abbrev pub half_of : code.Half → Half
+half_of h = half_with h.framer h.line
+
+-- what one side sees, of which some octets are held, and of the other some
+abbrev pub sight_with : List ℕ → List ℕ → Stage → Line → Line → Sight
+sight_with held others stage this other = record { stage = stage; this = half_with held this; other = half_with others other }
+
+abbrev pub sight_of : Stage → code.Half → code.Half → Sight
+sight_of stage this other = sight_with this.framer other.framer stage this.line other.line
+
+-- what the OPEN says whose body was read, where it has no fault
+abbrev pub said_in : Result Open OpenFault → Option Said
+said_in (Ok o) = Some (said_by o)
+said_in (Err fault) = None
+
+-- octets that are a message: where they are of an OPEN, they are read as it
+pub record IsReadOpen (n : Message) (b : List ℕ) : Type 0 where
+  pub value : Open
+  pub is : n ≡ message.Open value
+  pub reads : reading_of (drop 19 b) ≡ Ok value
+
+abbrev pub IsReadIn : Kind → Message → List ℕ → Type 0
+IsReadIn kind.Open n b = IsReadOpen n b
+IsReadIn _ n b = Unit {0}
+
+abbrev pub half_behind : Kind → Message → Half → Half
+half_behind kind n h = record h { peer = peer_behind kind n h.peer; ready = ready_behind kind h.ready }
+
+-- while messages are handed on there is room for a NOTIFICATION on the way to a side
+abbrev pub HasRoom : Stage → List ℕ → Type 0
+HasRoom stage way = runs stage ≡ true → length way ≤ 65536
+
+-- what is held came to this
+pub record IsSettled (rules : Rules) (silent : Bool) (old : Sight) (came : Came) (new : Sight) : Type 0 where
+  pub after : new ≡ heard rules silent old
+  pub told : CameIn rules silent old came
+
+-- an OPEN has at least 29 octets
+abbrev pub CanBeRead : Kind → List ℕ → Type 0
+CanBeRead kind.Open b = 29 ≤ length b
+CanBeRead _ b = Unit {0}

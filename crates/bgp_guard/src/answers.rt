@@ -1,0 +1,115 @@
+//! The NOTIFICATIONs that a guard sends itself.
+
+ghost use Rattle.std.specs.Prelude.{◌≡◌, ◌≤◌, ◌++◌, ℕ, List, length};
+ghost use Rattle.bgp_frame.specs.Notification.{notification_of_view};
+ghost use Rattle.bgp_frame.specs.ShortNotification.{short_value};
+ghost use Rattle.bgp_guard.specs.Answers.{notice, reset_over, rejected, unexpected, answered, reset_by, reject_both};
+ghost use Rattle.bgp_guard.specs.Events.{told_late};
+ghost use Rattle.bgp_guard.specs.Came.{IsAnswered};
+ghost use Rattle.bgp_guard.specs.steps.Halves.{half_with, sight_with};
+
+use crate::came::Came;
+use crate::line::Line;
+use crate::stage::{DRAIN_SECONDS, Stage};
+use crate::way::Way;
+use bgp_frame::{Kind, NotificationView, ShortNotification, head};
+use bgp_numbers::error;
+
+/// Cease: Administrative Reset (RFC 4486, section 3).
+pub(crate) const ADMINISTRATIVE_RESET: u8 = 4;
+
+/// Cease: Connection Rejected (RFC 4486, section 3).
+pub(crate) const CONNECTION_REJECTED: u8 = 5;
+
+/// Puts a NOTIFICATION behind all that is on its way to a side.
+pub(crate) fn tell(why: NotificationView<'_>, way: &mut Way)
+    requires { length way.old ≤ 65536 }
+    ensures { way.new ≡ way.old ++ notice (notification_of_view why.entry) }
+{
+    way.put(&head(Kind::Notification, (2 + why.info.len()) as u16));
+    way.put(&[why.code, why.subcode]);
+    way.put(why.info);
+}
+
+/// The side was reset from the other side.
+pub(crate) fn reset_over() -> ShortNotification
+    ensures { short_value result ≡ reset_over }
+{
+    ShortNotification::plain(error::CEASE, ADMINISTRATIVE_RESET)
+}
+
+/// There is no session for the side.
+pub(crate) fn rejected() -> ShortNotification
+    ensures { short_value result ≡ rejected }
+{
+    ShortNotification::plain(error::CEASE, CONNECTION_REJECTED)
+}
+
+/// A message of this kind is out of place.
+pub(crate) fn unexpected(subcode: u8, kind: Kind) -> ShortNotification
+    ensures { short_value result ≡ unexpected subcode kind }
+{
+    ShortNotification::with_octet(error::FINITE_STATE_MACHINE, subcode, kind as u8)
+}
+
+/// Tells a side that the OPENs have had their time.
+pub(crate) fn tell_late(line: &mut Line)
+    requires { length line.old.way ≤ 65536 }
+    ensures { (held : List ℕ) → half_with held line.new ≡ told_late (half_with held line.old) }
+{
+    let why = match line.peer {
+        None => ShortNotification::plain(error::HOLD_TIMER_EXPIRED, error::UNSPECIFIC),
+        Some(_) => reset_over(),
+    };
+    tell(why.view(), &mut line.way);
+}
+
+/// Tells both sides why, and ends.
+fn answer(
+    why: NotificationView<'_>,
+    others: ShortNotification,
+    stage: &mut Stage,
+    this: &mut Line,
+    other: &mut Line,
+) -> Came
+    requires room { length this.old.way ≤ 65536 }
+    requires others_room { length other.old.way ≤ 65536 }
+    ensures after { (h k : List ℕ) → sight_with h k stage.new this.new other.new
+        ≡ answered (sight_with h k stage.old this.old other.old) (record { this = notification_of_view why.entry; other = short_value others }) }
+    ensures told { IsAnswered (notification_of_view why.entry) result }
+{
+    tell(why, &mut this.way);
+    tell(others.view(), &mut other.way);
+    *stage = Stage::Ends(DRAIN_SECONDS);
+    Came::Answered {
+        code: why.code,
+        subcode: why.subcode,
+    }
+}
+
+/// Tells a side how it erred, and the other that there was a reset.
+pub(crate) fn reset(
+    why: NotificationView<'_>,
+    stage: &mut Stage,
+    this: &mut Line,
+    other: &mut Line,
+) -> Came
+    requires room { length this.old.way ≤ 65536 }
+    requires others_room { length other.old.way ≤ 65536 }
+    ensures after { (h k : List ℕ) → sight_with h k stage.new this.new other.new
+        ≡ answered (sight_with h k stage.old this.old other.old) (reset_by (notification_of_view why.entry)) }
+    ensures told { IsAnswered (notification_of_view why.entry) result }
+{
+    answer(why, reset_over(), stage, this, other)
+}
+
+/// Tells both sides that there is no session for them.
+pub(crate) fn reject(stage: &mut Stage, this: &mut Line, other: &mut Line) -> Came
+    requires room { length this.old.way ≤ 65536 }
+    requires others_room { length other.old.way ≤ 65536 }
+    ensures after { (h k : List ℕ) → sight_with h k stage.new this.new other.new ≡ answered (sight_with h k stage.old this.old other.old) reject_both }
+    ensures told { IsAnswered rejected result }
+{
+    let why = rejected();
+    answer(why.view(), why, stage, this, other)
+}

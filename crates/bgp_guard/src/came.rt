@@ -1,0 +1,24 @@
+//! What came of octets.
+
+use bgp_frame::Kind;
+
+/// What came of the octets that a side sent.
+#[derive(Clone, Copy, Debug, PartialEq, Eq)]
+pub enum Came {
+    /// No message is whole yet, or nothing is read of the side.
+    Nothing,
+    /// A message of this kind was handed on: as it came, or changed.
+    HandedOn {
+        /// The kind of the message that came.
+        kind: Kind,
+        /// Whether what was handed on has the same octets.
+        same: bool,
+    },
+    /// The side was answered by a NOTIFICATION of this code and subcode, and the guard has ended.
+    Answered {
+        /// The error code (RFC 4271, section 4.5).
+        code: u8,
+        /// The error subcode.
+        subcode: u8,
+    },
+}

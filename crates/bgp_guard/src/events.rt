@@ -1,0 +1,42 @@
+//! Events that bring no octets, as one side sees them.
+
+ghost use Rattle.std.specs.Prelude.{◌≡◌, ◌≤◌, length};
+ghost use Rattle.bgp_frame.specs.Frame.{Waits};
+ghost use Rattle.bgp_guard.specs.Events.{closed, unreached};
+ghost use Rattle.bgp_guard.specs.steps.Halves.{sight_of, HasRoom};
+
+use crate::answers::{rejected, tell};
+use crate::line::Half;
+use crate::stage::{DRAIN_SECONDS, Stage};
+
+/// A side that doesn't stand can't be reached.
+pub(crate) fn unreachable(stage: &mut Stage, this: &Half, other: &mut Half)
+    requires { HasRoom stage.old other.old.line.way }
+    ensures after { sight_of stage.new this.now other.new ≡ unreached (sight_of stage.old this.now other.old) }
+    ensures room { HasRoom stage.new this.now.line.way → HasRoom stage.new other.new.line.way }
+    ensures others_held { other.new.framer ≡ other.old.framer }
+{
+    match *stage {
+        Stage::Runs(_) if !this.line.stands => {
+            tell(rejected().view(), &mut other.line.way);
+            *stage = Stage::Ends(DRAIN_SECONDS);
+        }
+        _ => {}
+    }
+}
+
+/// A side has closed.
+pub(crate) fn close(stage: &mut Stage, this: &mut Half)
+    ensures after { (k : Half) → sight_of stage.new this.new k ≡ closed (sight_of stage.old this.old k) }
+    ensures waits { Waits this.old.framer → Waits this.new.framer }
+{
+    if !this.line.stands {
+        return;
+    }
+    this.line.stands = false;
+    this.line.way.clear();
+    this.framer.clear();
+    if let Stage::Runs(_) = *stage {
+        *stage = Stage::Ends(DRAIN_SECONDS);
+    }
+}

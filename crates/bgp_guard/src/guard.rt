@@ -1,0 +1,206 @@
+//! The guard between two speakers.
+
+ghost use Rattle.std.specs.Prelude.{◌≡◌, true, IfOk, option_map};
+ghost use Rattle.bgp_guard.specs.Guard.{closes, fresh, half, listens};
+ghost use Rattle.bgp_guard.specs.Came.{IsHeard};
+ghost use Rattle.bgp_guard.specs.Events.{closed, for_side, is_waiting, sent, stood, ticked, unreached, waited};
+ghost use Rattle.bgp_open.specs.Peer.{said_of};
+
+use crate::answers::tell_late;
+use crate::came::Came;
+use crate::events::{close, unreachable};
+use crate::hearing::{hear, listens};
+use crate::line::Half;
+use crate::rules::Rules;
+use crate::side::Side;
+use crate::stage::{DRAIN_SECONDS, OPEN_SECONDS, Stage};
+use bgp_open::Peer;
+use std::alloc::{AllocError, Global};
+use std::marker::Model;
+
+/// The guard between an outer peer and an inner speaker, of one session. What a side sends is handed on cleaned, in the context that both OPENs agree
+/// on; a message that can't be is answered, and ends the session of both (RFC 7606; RFC 4271).
+///
+/// Its owner has the connections and the clock. It calls [`stood`](Guard::stood) once a side stands, passes what comes to [`hear`](Guard::hear) while the
+/// guard [`listens`](Guard::listens), sends what is on its [`way`](Guard::way) and says so by [`sent`](Guard::sent), calls [`tick`](Guard::tick) each
+/// second, and closes a side where the guard [`closes`](Guard::closes) it.
+///
+/// It holds at most one message of each side and 68 KB on the way to each, in memory that is taken at once: no other call takes any.
+#[derive(Drop)]
+pub struct Guard {
+    rules: Rules,
+    stage: Stage,
+    outer: Half,
+    inner: Half,
+}
+
+impl Model for Guard {
+    ghost use Rattle.bgp_frame.specs.Frame.{Waits};
+    ghost use Rattle.bgp_guard.specs.Guard.{Guarding};
+    ghost use Rattle.bgp_guard.specs.steps.Halves.{half_of, HasRoom};
+
+    ghost Value = { Guarding };
+
+    ghost view = { λ g. record { rules = g.rules; stage = g.stage; outer = half_of g.outer; inner = half_of g.inner } };
+
+    ghost invariant = { λ g. HasRoom g.stage g.outer.line.way × (HasRoom g.stage g.inner.line.way × (Waits g.outer.framer × Waits g.inner.framer)) };
+}
+
+impl Guard {
+    /// A guard of which neither side stands yet.
+    ///
+    /// # Errors
+    /// `AllocError` where an allocation failed.
+    pub fn new(alloc: Global, rules: Rules) -> Result<Guard, AllocError>
+        ensures { IfOk result (λ g. g ≡ fresh rules) }
+    {
+        let outer = Half::new(alloc)?;
+        let inner = Half::new(alloc)?;
+        Ok(Guard {
+            rules,
+            stage: Stage::Runs(0),
+            outer,
+            inner,
+        })
+    }
+
+    /// The connection of a side stands.
+    pub fn stood(&mut self, side: Side)
+        ensures { self.new ≡ for_side stood side self.old }
+    {
+        match side {
+            Side::Outer => self.outer.line.stands = true,
+            Side::Inner => self.inner.line.stands = true,
+        }
+    }
+
+    /// A side can't be reached. The other is told (6/5), and the guard ends; a side that stands is reached.
+    pub fn unreachable(&mut self, side: Side)
+        ensures { self.new ≡ for_side unreached side self.old }
+    {
+        match side {
+            Side::Outer => unreachable(&mut self.stage, &self.outer, &mut self.inner),
+            Side::Inner => unreachable(&mut self.stage, &self.inner, &mut self.outer),
+        }
+    }
+
+    /// A side has closed its connection, or lost it. The guard ends, and the other side gets what is on its way.
+    pub fn closed(&mut self, side: Side)
+        ensures { self.new ≡ for_side closed side self.old }
+    {
+        match side {
+            Side::Outer => close(&mut self.stage, &mut self.outer),
+            Side::Inner => close(&mut self.stage, &mut self.inner),
+        }
+    }
+
+    /// Whether octets of a side are read: while messages are handed on, it stands, and there is room on the way to the other.
+    pub fn listens(&self, side: Side) -> bool
+        ensures { result ≡ listens side self.now }
+    {
+        match side {
+            Side::Outer => listens(self.stage, &self.outer, &self.inner),
+            Side::Inner => listens(self.stage, &self.inner, &self.outer),
+        }
+    }
+
+    /// Takes octets of a side up to the end of a message: each is cleaned and handed on, or answered. Answers how many octets it took, none where the
+    /// side isn't read, and what came of them; who has more calls it again.
+    pub fn hear(&mut self, side: Side, piece: &[u8]) -> (usize, Came)
+        ensures { IsHeard side self.old piece.now result.0 result.1 self.new }
+    {
+        let silent = self.rules.one_way;
+        match side {
+            Side::Outer => hear(
+                &self.rules,
+                false,
+                &mut self.stage,
+                &mut self.outer,
+                &mut self.inner,
+                piece,
+            ),
+            Side::Inner => hear(
+                &self.rules,
+                silent,
+                &mut self.stage,
+                &mut self.inner,
+                &mut self.outer,
+                piece,
+            ),
+        }
+    }
+
+    /// The octets that are on their way to a side.
+    pub fn way(&self, side: Side) -> &[u8]
+        ensures { result.now ≡ (half side self.now).way }
+    {
+        match side {
+            Side::Outer => self.outer.line.way.as_slice(),
+            Side::Inner => self.inner.line.way.as_slice(),
+        }
+    }
+
+    /// So many of the octets on their way to a side are sent: all of them where there are no more.
+    pub fn sent(&mut self, side: Side, count: usize)
+        ensures { self.new ≡ for_side (sent count) side self.old }
+    {
+        match side {
+            Side::Outer => self.outer.line.way.take_off(count),
+            Side::Inner => self.inner.line.way.take_off(count),
+        }
+    }
+
+    /// Whether a side is to be closed, or no longer sought: the guard has ended, and nothing is on its way to the side, or that had its 10 seconds.
+    pub fn closes(&self, side: Side) -> bool
+        ensures { result ≡ closes side self.now }
+    {
+        match self.stage {
+            Stage::Runs(_) => false,
+            Stage::Ends(0) => true,
+            Stage::Ends(_) => self.way(side).is_empty(),
+        }
+    }
+
+    /// What the OPEN of a side says, once it was handed on.
+    pub fn peer(&self, side: Side) -> Option<&Peer>
+        ensures { option_map (λ p. said_of p.now) result ≡ (half side self.now).peer }
+    {
+        match side {
+            Side::Outer => self.outer.line.peer.as_ref(),
+            Side::Inner => self.inner.line.peer.as_ref(),
+        }
+    }
+
+    /// A second has gone by.
+    pub fn tick(&mut self)
+        ensures { self.new ≡ ticked self.old }
+    {
+        match self.stage {
+            Stage::Ends(left) => self.stage = Stage::Ends(left.saturating_sub(1)),
+            Stage::Runs(gone) if self.waits() => self.wait(gone),
+            Stage::Runs(_) => {}
+        }
+    }
+
+    // Whether an OPEN is waited for.
+    fn waits(&self) -> bool
+        ensures { result ≡ is_waiting self.now }
+    {
+        let any = self.outer.line.stands || self.inner.line.stands;
+        any && !(self.outer.line.peer.is_some() && self.inner.line.peer.is_some())
+    }
+
+    // A second more has gone by in which an OPEN was waited for.
+    fn wait(&mut self, gone: u8)
+        requires { self.old.stage ≡ Stage.Runs gone }
+        ensures { self.new ≡ waited gone true self.old }
+    {
+        if gone < OPEN_SECONDS - 1 {
+            self.stage = Stage::Runs(gone + 1);
+        } else {
+            tell_late(&mut self.outer.line);
+            tell_late(&mut self.inner.line);
+            self.stage = Stage::Ends(DRAIN_SECONDS);
+        }
+    }
+}

@@ -1,0 +1,22 @@
+//! The guard between two speakers: what each of them sends is handed on cleaned, so that no octet reaches the other but in canonical form
+//! (RFC 7606; RFC 4271). It does no IO and knows no time: its owner tells it what happens, and sends what stands on the way to a side.
+#![tactic(auto)]
+
+mod answers;
+mod came;
+mod events;
+mod guard;
+mod handing;
+mod hearing;
+mod line;
+mod rules;
+mod side;
+mod stage;
+mod way;
+
+pub use came::Came;
+pub use guard::Guard;
+pub use rules::Rules;
+pub use side::Side;
+pub use stage::{DRAIN_SECONDS, OPEN_SECONDS};
+pub use way::{ROOM, WAY_MAX};

@@ -1,0 +1,53 @@
+//! What a guard keeps of a side.
+
+ghost use Rattle.std.specs.Prelude.{◌≡◌, IfOk};
+ghost use Rattle.bgp_guard.specs.Guard.{absent};
+ghost use Rattle.bgp_guard.specs.steps.Halves.{half_of};
+
+use crate::way::Way;
+use bgp_frame::Framer;
+use bgp_open::Peer;
+use std::alloc::{AllocError, Global};
+
+/// All but the octets that came of an incomplete message.
+#[derive(Drop)]
+pub(crate) struct Line {
+    /// Whether the connection stands.
+    pub(crate) stands: bool,
+    /// What its OPEN says, once that was handed on.
+    pub(crate) peer: Option<Peer>,
+    /// Whether its KEEPALIVE was handed on.
+    pub(crate) ready: bool,
+    /// What is on its way to the side.
+    pub(crate) way: Way,
+}
+
+/// What is kept of a side.
+#[derive(Drop)]
+pub(crate) struct Half {
+    /// What came of an incomplete message.
+    pub(crate) framer: Framer,
+    /// All else.
+    pub(crate) line: Line,
+}
+
+impl Half {
+    /// A side that doesn't stand yet.
+    ///
+    /// # Errors
+    /// `AllocError` where an allocation failed.
+    pub(crate) fn new(alloc: Global) -> Result<Half, AllocError>
+        ensures { IfOk result (λ h. half_of h ≡ absent) }
+    {
+        let way = Way::new(alloc)?;
+        Ok(Half {
+            framer: Framer::new(),
+            line: Line {
+                stands: false,
+                peer: None,
+                ready: false,
+                way,
+            },
+        })
+    }
+}
