@@ -1,6 +1,6 @@
 -- What is handed on of a message, as octets.
 use Rattle.std.proofs.Common.{◌≡◌, ℕ, ◌+◌, ◌≤◌, Bool, true, false, cond, List, [], ◌∷◌, ◌++◌, length, drop, Option, Some, None, Result, Ok, Err, refl, sym, ap, subst, ◌∙◌, arith}
-use Rattle.std.specs.Prelude.{is_some}
+use Rattle.std.specs.Prelude.{◌||◌, not, is_some}
 use Rattle.bgp_wire.specs.Octets.{AreOctets}
 use Rattle.bgp_frame.specs.declared.kind.Kind.{Kind}
 use Rattle.bgp_frame.specs.declared.kind.Kind.TheVariants as kind
@@ -12,11 +12,15 @@ use Rattle.bgp_open.specs.declared.fault.OpenFault.{OpenFault}
 use Rattle.bgp_open.specs.declared.message.Open.{Open}
 use Rattle.bgp_open.specs.OpenFault.{open_notification, reading_of}
 use Rattle.bgp_frame.specs.declared.notification.Notification.{Notification}
+use Rattle.bgp_update.specs.declared.update.Update.{Update}
+use Rattle.bgp_update.specs.declared.verdict.Verdict.{Verdict}
+use Rattle.bgp_update.specs.declared.verdict.Verdict.TheVariants as verdict
+use Rattle.bgp_update.specs.Verdict.{verdict_of}
 use Rattle.bgp_msg.specs.declared.message.Message.{Message}
 use Rattle.bgp_msg.specs.declared.message.Message.TheVariants as message
 use Rattle.bgp_msg.specs.declared.outcome.Outcome.{Outcome}
 use Rattle.bgp_msg.specs.declared.outcome.Outcome.TheVariants as outcome
-use Rattle.bgp_msg.specs.Outcome.{of_open_fault, of_reading, out_of}
+use Rattle.bgp_msg.specs.Outcome.{notification_in, of_open_fault, of_reading, of_verdict, out_of}
 use Rattle.bgp_msg.specs.Written.{canonical, written}
 use Rattle.bgp_clean.specs.declared.cleaned.Cleaned.{Cleaned}
 use Rattle.bgp_clean.specs.declared.cleaned.Cleaned.TheVariants.{HandedOn, Ends}
@@ -25,7 +29,9 @@ use Rattle.bgp_clean.specs.Clean.{cleaned, cleaned_outcome, handed_open, ended_f
 use Rattle.bgp_clean.specs.Cleaned.{IsCleaned}
 use Rattle.bgp_clean.specs.Laws.{IsClean}
 use Rattle.bgp_clean.specs.Opens.{cleaned_open, lacks_family}
+use Rattle.bgp_clean.specs.Updates.{cleaned_update, withdrawal, says_nothing}
 use Rattle.bgp_clean.proofs.Handed.{handed-clean}
+use Rattle.bgp_guard.specs.Hearing.{said_as}
 use Rattle.bgp_guard.specs.steps.Halves.{CanBeRead, IsReadOpen, IsReadIn}
 
 -- ---- an OPEN that is handed on is an OPEN, and is read as it
@@ -67,6 +73,20 @@ read_by : (r : Result Open OpenFault) (p : Open) → of_reading r ≡ took p →
 read_by (Ok o) p e = ap (λ (x : Open). Ok x) (same_open o p e)
 read_by (Err fault) p e = absurd (no_open (open_notification fault) p e)
 
+-- ---- what is handed on of other messages
+
+said_update : (b : Bool) (u : Update) (n : Message) → ok (cond b (message.Update u) message.Keepalive) ≡ ok n → said_as true n ≡ message.Keepalive
+said_update true u n e = ap (said_as true) (sym (same_message (message.Update u) n e))
+said_update false u n e = ap (said_as true) (sym (same_message message.Keepalive n e))
+
+update_by : (drops : ℕ → Bool) (ends : Bool) (n : Message) (v : Verdict) → cleaned_outcome drops true ends (of_verdict v) ≡ ok n → said_as true n ≡ message.Keepalive
+update_by drops ends n (verdict.Take u notes) e = said_update (ends || not (says_nothing (cleaned_update drops u))) (cleaned_update drops u) n e
+update_by drops ends n (verdict.Withdraw routes notes) e = ap (said_as true) (sym (same_message (message.Update (withdrawal routes)) n e))
+update_by drops ends n (verdict.Reset why) e = absurd (no_message _ n e)
+
+itself : (m n : Message) → said_as true m ≡ m → ok m ≡ ok n → said_as true n ≡ n
+itself m n is e = subst (λ (x : Message). said_as true x ≡ x) (same_message m n e) is
+
 -- ---- what a message that is handed on is, as octets
 
 pub record IsPassed (ctx : Context) (drops : ℕ → Bool) (m : frame.Message) (octets : List ℕ) : Type 0 where
@@ -93,9 +113,9 @@ module _ (ctx : Context) (drops : ℕ → Bool) where
             record { value = o; is = same; reads = ap (λ (b : List ℕ). reading_of (drop 19 b)) are ∙ read_by _ o taken },
             subst (λ (b : List ℕ). 29 ≤ length b) (sym are) whole.allowed.least,
           )
-  reads kind.Update body octets n is e clean = (tt, tt)
-  reads kind.Notification body octets n is e clean = (tt, tt)
-  reads kind.Keepalive body octets n is e clean = (tt, tt)
+  reads kind.Update body octets n is e clean = (update_by drops (is_some (ended_family ctx (record { kind = kind.Update; body = body }))) n (verdict_of ctx body) e, tt)
+  reads kind.Notification body octets n is e clean = (itself (message.Notification (notification_in body)) n refl e, tt)
+  reads kind.Keepalive body octets n is e clean = (itself message.Keepalive n refl e, tt)
 
   passes : (m : frame.Message) (whole octets : List ℕ) (n : Message) → AreOctets whole → IsFrame m whole → octets ≡ canonical ctx n → cleaned ctx drops true m ≡ ok n
       → IsPassed ctx drops m octets

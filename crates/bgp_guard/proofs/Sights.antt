@@ -6,6 +6,7 @@ use Rattle.std.proofs.lemmas.Slice.Eq.{bytes_eq-Decides}
 use Rattle.std.proofs.lemmas.Bool.{true≢false, le-ltb}
 use Rattle.bgp_wire.specs.OctetSet.{has_octet}
 use Rattle.bgp_frame.specs.declared.kind.Kind.{Kind}
+use Rattle.bgp_frame.specs.declared.kind.Kind.TheVariants as kind
 use Rattle.bgp_frame.specs.Frame as frame
 use Rattle.bgp_frame.specs.declared.notification.NotificationView.{NotificationView}
 use Rattle.bgp_open.specs.declared.context.Context.{Context}
@@ -26,7 +27,7 @@ use Rattle.bgp_guard.specs.Guard.{Half, absent, Guarding, Sight, runs}
 use Rattle.bgp_guard.specs.Answers.{Answers, answered, reject_both}
 use Rattle.bgp_guard.specs.Hearing.{answers_to, cleans, context_in, handed_on, handed_or, said_as, stage_behind}
 use Rattle.bgp_guard.specs.Events.{told_late, late, waited}
-use Rattle.bgp_guard.specs.steps.Halves.{half_behind, HasRoom}
+use Rattle.bgp_guard.specs.steps.Halves.{half_behind, said_for, HasRoom, IsReadIn}
 
 -- ---- a second
 
@@ -55,8 +56,15 @@ no_room stage way not = λ up. absurd (true≢false (sym up ∙ not))
 
 -- ---- a message that is handed on
 
+pub said-same : (silent : Bool) (kind : Kind) (n : Message) (b : List ℕ) → IsReadIn kind n b → said_for silent kind n ≡ said_as silent n
+said-same false kind n b read = refl
+said-same true kind.Open n b read = read.is ∙ sym (ap (said_as true) read.is)
+said-same true kind.Update n b read = sym read
+said-same true kind.Notification n b read = sym read
+said-same true kind.Keepalive n b read = sym read
+
 pub handed : (silent : Bool) (s : Sight) (kind : Kind) (n : Message) (stage : Stage) (this : Half) (way : List ℕ) → stage ≡ stage_behind kind s.stage
-    → this ≡ half_behind kind n s.this → way ≡ s.other.way ++ canonical (context_in s) (said_as silent kind n)
+    → this ≡ half_behind kind n s.this → way ≡ s.other.way ++ canonical (context_in s) (said_as silent n)
     → record { stage = stage; this = this; other = record s.other { way = way } } ≡ handed_on silent s kind n
 handed silent s kind n stage this way a b c =
     ap₂ (λ (x : Stage) (y : Half). record { stage = x; this = y; other = record s.other { way = way } }) a b

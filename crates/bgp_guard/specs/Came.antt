@@ -29,7 +29,7 @@ IsHandedOn k octets passed (HandedOn kind same) = (kind ≡ k) × ((same ≡ tru
 IsHandedOn k octets passed _ = ⊥
 
 abbrev pub CameBy : Bool → Sight → frame.Message → Result Message Answers → Came → Type 0
-CameBy silent s m (Ok n) came = IsHandedOn m.kind (octets_of m) (canonical (context_in s) (said_as silent m.kind n)) came
+CameBy silent s m (Ok n) came = IsHandedOn m.kind (octets_of m) (canonical (context_in s) (said_as silent n)) came
 CameBy silent s m (Err answers) came = IsAnswered answers.this came
 
 -- of what is held

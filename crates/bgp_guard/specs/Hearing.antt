@@ -76,15 +76,15 @@ stage_behind kind.Notification before = stage.Ends DRAIN_SECONDS
 stage_behind _ before = before
 
 -- routes that stay inside: a KEEPALIVE is in place of their UPDATE
-abbrev pub said_as : Bool → Kind → Message → Message
-said_as true kind.Update n = message.Keepalive
-said_as _ _ n = n
+abbrev pub said_as : Bool → Message → Message
+said_as true (message.Update u) = message.Keepalive
+said_as _ n = n
 
 abbrev pub handed_on : Bool → Sight → Kind → Message → Sight
 handed_on silent s kind n = record {
   stage = stage_behind kind s.stage;
   this = record s.this { peer = peer_behind kind n s.this.peer; ready = ready_behind kind s.this.ready };
-  other = record s.other { way = s.other.way ++ canonical (context_in s) (said_as silent kind n) };
+  other = record s.other { way = s.other.way ++ canonical (context_in s) (said_as silent n) };
 }
 
 abbrev pub done : Bool → Sight → Kind → Result Message Answers → Sight

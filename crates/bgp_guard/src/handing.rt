@@ -16,7 +16,7 @@ ghost use Rattle.bgp_guard.specs.Place.{misplaced};
 ghost use Rattle.bgp_guard.specs.Answers.{answered};
 ghost use Rattle.bgp_guard.specs.Hearing.{agreed, answers_to, cleans, comes_of, context_in, done, handed_on, said_as, stage_behind};
 ghost use Rattle.bgp_guard.specs.Came.{CameBy, IsAnswered, IsHandedOn};
-ghost use Rattle.bgp_guard.specs.steps.Halves.{half_behind, half_with, said_in, sight_with, CanBeRead, HasRoom, IsReadIn};
+ghost use Rattle.bgp_guard.specs.steps.Halves.{half_behind, half_with, said_for, said_in, sight_with, CanBeRead, HasRoom, IsReadIn};
 
 use crate::answers::{reject, reset, unexpected};
 use crate::came::Came;
@@ -86,7 +86,7 @@ fn peer_of(whole: &[u8]) -> Option<Peer>
 /// What is handed on of a message that was cleaned: a KEEPALIVE in place of an UPDATE whose routes stay inside.
 fn passed<'a>(silent: bool, kind: Kind, cleaned: &'a [u8], keepalive: &'a [u8]) -> &'a [u8]
     ensures value { (ctx : Context) (n : Message) → cleaned.entry.now ≡ canonical ctx n → keepalive.entry.now ≡ canonical ctx message.Keepalive
-        → result.now ≡ canonical ctx (said_as silent kind n) }
+        → result.now ≡ canonical ctx (said_for silent kind n) }
     ensures most { length cleaned.entry.now ≤ 4096 → length keepalive.entry.now ≤ 4096 → length result.now ≤ 4096 }
 {
     match kind {
@@ -125,7 +125,7 @@ fn hand_on(
     requires room { length other.old.way ≤ 61440 }
     ensures after { (h k : List ℕ) (n : Message) → cleaned.now ≡ canonical (context_in (sight_with h k stage.old this.old other.old)) n → IsReadIn kind n cleaned.now
         → sight_with h k stage.new this.new other.new ≡ handed_on silent (sight_with h k stage.old this.old other.old) kind n }
-    ensures told { (ctx : Context) (n : Message) → cleaned.now ≡ canonical ctx n → IsHandedOn kind whole.now (canonical ctx (said_as silent kind n)) result }
+    ensures told { (ctx : Context) (n : Message) → cleaned.now ≡ canonical ctx n → IsReadIn kind n cleaned.now → IsHandedOn kind whole.now (canonical ctx (said_as silent n)) result }
     ensures room { length other.new.way ≤ 65536 }
     ensures this_way { this.new.way ≡ this.old.way }
 {

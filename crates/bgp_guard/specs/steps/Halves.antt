@@ -14,7 +14,7 @@ use Rattle.bgp_guard.specs.declared.line.Line.{Line}
 use Rattle.bgp_guard.specs.declared.rules.Rules.{Rules}
 use Rattle.bgp_guard.specs.declared.stage.Stage.{Stage}
 use Rattle.bgp_guard.specs.Guard.{Half, Sight, runs}
-use Rattle.bgp_guard.specs.Hearing.{heard, peer_behind, ready_behind}
+use Rattle.bgp_guard.specs.Hearing.{heard, peer_behind, ready_behind, said_as}
 use Rattle.bgp_guard.specs.Came.{CameIn}
 
 abbrev pub half_with : List ℕ → Line → Half
@@ -41,9 +41,17 @@ pub record IsReadOpen (n : Message) (b : List ℕ) : Type 0 where
   pub is : n ≡ message.Open value
   pub reads : reading_of (drop 19 b) ≡ Ok value
 
+-- each kind is handed on as itself, but for an UPDATE, in whose place a KEEPALIVE may stand
 abbrev pub IsReadIn : Kind → Message → List ℕ → Type 0
 IsReadIn kind.Open n b = IsReadOpen n b
-IsReadIn _ n b = Unit {0}
+IsReadIn kind.Update n b = said_as true n ≡ message.Keepalive
+IsReadIn kind.Notification n b = said_as true n ≡ n
+IsReadIn kind.Keepalive n b = said_as true n ≡ n
+
+-- what is handed on, by the kind of what came
+abbrev pub said_for : Bool → Kind → Message → Message
+said_for true kind.Update n = message.Keepalive
+said_for _ _ n = n
 
 abbrev pub half_behind : Kind → Message → Half → Half
 half_behind kind n h = record h { peer = peer_behind kind n h.peer; ready = ready_behind kind h.ready }

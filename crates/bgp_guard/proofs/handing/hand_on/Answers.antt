@@ -5,7 +5,7 @@ use Rattle.bgp_msg.specs.declared.message.Message.{Message}
 use Rattle.bgp_msg.specs.Written.{canonical}
 use Rattle.bgp_guard.specs.Hearing.{context_in, said_as}
 use Rattle.bgp_guard.specs.steps.Halves.{half_with, sight_with}
-use Rattle.bgp_guard.proofs.Sights.{handed, same_octets}
+use Rattle.bgp_guard.proofs.Sights.{handed, said-same, same_octets}
 use Rattle.bgp_guard.proofs.handing.hand_on.Goals as goal
 
 pub put-requires : goal.put-requires
@@ -20,12 +20,13 @@ returns-clause-after c =
     handed c.args.silent s c.args.kind n c.go_on.new.stage (half_with h c.go_on.new.this) c.put.new.self
     c.go_on.ensures.stage
     (c.go_on.ensures.this h n read)
-    (c.put.ensures ∙ ap (λ (w : List ℕ). c.args.other.now.way ++ w) (c.passed-passed.ensures.value (context_in s) n is c.head-keepalive.ensures.header))
+    (c.put.ensures ∙ ap (λ (w : List ℕ). c.args.other.now.way ++ w) (c.passed-passed.ensures.value (context_in s) n is c.head-keepalive.ensures.header
+      ∙ ap (canonical (context_in s)) (said-same c.args.silent c.args.kind n c.args.cleaned.now read)))
 
 pub returns-clause-told : goal.returns-clause-told
 returns-clause-told c =
-    λ ctx n is. (refl, same_octets c.passed-passed.result.now c.args.whole.now (canonical ctx (said_as c.args.silent c.args.kind n)) c.eq.result c.eq.ensures
-      (c.passed-passed.ensures.value ctx n is c.head-keepalive.ensures.header))
+    λ ctx n is read. (refl, same_octets c.passed-passed.result.now c.args.whole.now (canonical ctx (said_as c.args.silent n)) c.eq.result c.eq.ensures
+      (c.passed-passed.ensures.value ctx n is c.head-keepalive.ensures.header ∙ ap (canonical ctx) (said-same c.args.silent c.args.kind n c.args.cleaned.now read)))
 
 pub returns-clause-room : goal.returns-clause-room
 returns-clause-room c =

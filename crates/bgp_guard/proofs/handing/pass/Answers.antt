@@ -42,8 +42,8 @@ returns-in-Ok-HandedOn-clause-told c =
     λ h k.
     let s = sight_with h k c.args.stage.now c.args.this.now c.args.other.now in
     subst (λ (r : Result Message Answers). CameBy c.args.silent s m r c.hand_on.result) (sym (cleans_by c.args.rules.now s m ctx (Ok p.message) c.context_in-ctx.ensures p.is))
-    (subst (λ (b : List ℕ). IsHandedOn m.kind b (canonical (context_in s) (said_as c.args.silent m.kind p.message)) c.hand_on.result) c.requires.framed.octets
-    (c.hand_on.ensures.told (context_in s) p.message (p.written ∙ ap (λ (x : Context). canonical x p.message) c.context_in-ctx.ensures)))
+    (subst (λ (b : List ℕ). IsHandedOn m.kind b (canonical (context_in s) (said_as c.args.silent p.message)) c.hand_on.result) c.requires.framed.octets
+    (c.hand_on.ensures.told (context_in s) p.message (p.written ∙ ap (λ (x : Context). canonical x p.message) c.context_in-ctx.ensures) p.read))
 
 pub returns-in-Ok-Ends-clause-after : goal.returns-in-Ok-Ends-clause-after
 returns-in-Ok-Ends-clause-after c =
