@@ -1,5 +1,8 @@
 -- Lemmas on the guard.
 pub mod Fronts
+pub mod Hears
+pub mod Lanes
+pub mod Lives
 pub mod Passed
 pub mod Ranges
 pub mod Sights

@@ -54,7 +54,7 @@ fault_by : (drops : ℕ → Bool) (ends : Bool) (n : Message) (why : Option Noti
 fault_by drops ends n None e = absurd (no_message _ n e)
 fault_by drops ends n (Some why) e = absurd (no_message _ n e)
 
-open_by : (drops : ℕ → Bool) (ends : Bool) (n : Message) (r : Result Open OpenFault) → cleaned_outcome drops true ends (of_reading r) ≡ ok n → (p : Open) × (n ≡ message.Open p)
+pub open_by : (drops : ℕ → Bool) (ends : Bool) (n : Message) (r : Result Open OpenFault) → cleaned_outcome drops true ends (of_reading r) ≡ ok n → (p : Open) × (n ≡ message.Open p)
 open_by drops ends n (Ok o) e = handed_by o n (lacks_family o) e
 open_by drops ends n (Err fault) e = fault_by drops ends n (open_notification fault) e
 

@@ -5,4 +5,6 @@ pub mod Answers
 pub mod Hearing
 pub mod Events
 pub mod Came
+pub mod Life
+pub mod Laws
 pub mod steps

@@ -1,0 +1,221 @@
+-- An octet of a side keeps both directions handed over.
+use Rattle.std.proofs.Common.{◌≡◌, ℕ, zero, suc, ◌+◌, ◌<◌, ◌≤◌, Bool, true, false, cond, List, [], ◌∷◌, ◌++◌, length, Option, Some, None, Result, Ok, Err, refl, sym, ap, subst, ◌∙◌, arith, inl, inr}
+use Rattle.std.specs.Prelude.{◌&&◌, not, is_some}
+use Rattle.std.proofs.lemmas.Bool.{true≢false, and_parts, cases_lt}
+use Rattle.std.proofs.lemmas.List.{append-nil, length-append}
+use Rattle.bgp_wire.specs.Octets.{AreOctets}
+use Rattle.bgp_wire.proofs.OctetLemmas.{AreOctets-append}
+use Rattle.bgp_wire.specs.OctetSet.{has_octet}
+use Rattle.bgp_frame.specs.declared.fault.HeadFault.{HeadFault}
+use Rattle.bgp_frame.specs.declared.kind.Kind.{Kind}
+use Rattle.bgp_frame.specs.declared.kind.Kind.TheVariants as kind
+use Rattle.bgp_frame.specs.declared.notification.Notification.{Notification}
+use Rattle.bgp_frame.specs.Frame as frame
+use Rattle.bgp_frame.specs.Frame.{IsFrame, wanted, Waits}
+use Rattle.bgp_frame.specs.Framer.{IsHeld}
+use Rattle.bgp_frame.specs.Head.{head_notification}
+use Rattle.bgp_frame.proofs.FrameLemmas.{wanted_under, wanted-append, wanted-bounds}
+use Rattle.bgp_open.specs.declared.context.Context.{Context}
+use Rattle.bgp_open.specs.declared.message.Open.{Open}
+use Rattle.bgp_open.specs.OpenFault.{reading_of}
+use Rattle.bgp_open.specs.Peer.{Said, said_by}
+use Rattle.bgp_msg.specs.declared.message.Message.{Message}
+use Rattle.bgp_msg.specs.declared.message.Message.TheVariants as message
+use Rattle.bgp_msg.specs.Outcome.{out_of}
+use Rattle.bgp_clean.specs.declared.fault.CleanFault.{CleanFault}
+use Rattle.bgp_clean.specs.Clean.{cleaned, ended_family}
+use Rattle.bgp_machine.specs.Session.{content, content_of}
+use Rattle.bgp_machine.proofs.Contents.{content_of-message, enough}
+use Rattle.bgp_guard.specs.declared.rules.Rules.{Rules}
+use Rattle.bgp_guard.specs.declared.stage.Stage.{Stage}
+use Rattle.bgp_guard.specs.declared.stage.Stage.TheVariants as stage
+use Rattle.bgp_guard.specs.Answers.{Answers, answered, notice, reset_by, unexpected}
+use Rattle.bgp_guard.specs.Guard.{Half, Sight, listens_in}
+use Rattle.bgp_guard.specs.Hearing.{agreed, answers_to, by_octet, comes_of, context_in, done, handed_on, handed_or, heard, heard_as, holding, octet_by, peer_behind, placed, said_as}
+use Rattle.bgp_guard.specs.Laws.{IsHandedOver, IsNoNotification, own_octets}
+use Rattle.bgp_guard.specs.Life.{Seen, Trail, came_behind, octet_seen}
+use Rattle.bgp_guard.specs.Place.{both_open, misplaced, subcode_of}
+use Rattle.bgp_guard.proofs.Fronts.{nothing}
+use Rattle.bgp_guard.proofs.Lanes.{Alive, alive_ends, alive_held, alive_on, alive_open, kept_push, notified, open_same, opened_push, place_same, refit}
+use Rattle.bgp_guard.proofs.Passed.{open_by}
+
+-- ---- what is held
+
+-- one octet more can be held
+pub held_more : (held : List ℕ) (octet : ℕ) → IsHeld held → Waits held → octet < 256 → IsHeld (held ++ octet ∷ [])
+held_more held octet is waits small =
+    let all : length (held ++ octet ∷ []) ≡ length held + 1 = length-append held (octet ∷ []) in
+    record {
+      octets = AreOctets-append held (octet ∷ []) is.octets (one small);
+      within =
+          elim (cases_lt (length held) 19) [
+            | inl short ↦ let bounds = wanted-bounds (held ++ octet ∷ []) in omega (arith, bounds.0, all, short)
+            | inr long ↦ let e = wanted-append held (octet ∷ []) long in omega (arith, all, e, waits)
+          ];
+    }
+  where
+    one : octet < 256 → AreOctets (octet ∷ [])
+    one small zero = small
+    one small (suc i) = omega arith
+
+no_content : (b : List ℕ) (c : Result frame.Message HeadFault) → None ≡ Some c → ⊥
+no_content b c e = absurd cc
+
+pub none_waits : (b : List ℕ) → content_of b ≡ None → Waits b
+none_waits b none =
+    elim (cases_lt (length b) (wanted b)) [
+      | inl waits ↦ waits
+      | inr long ↦ absurd (no_content b (content b) (sym none ∙ enough b long))
+    ]
+
+-- ---- both directions
+
+abbrev pub Lane : Rules → Stage → Bool → List ℕ → Option Said → Option Said → List ℕ → List ℕ → List ℕ → Type 0
+Lane rules (stage.Runs n) silent held kept others came given way = Alive rules silent held kept others came given way
+Lane rules (stage.Ends n) silent held kept others came given way = IsHandedOver rules silent (agreed kept others) kept came given way
+
+pub record Goes (rules : Rules) (silent others : Bool) (s : Seen) : Type 0 where
+  pub this : Lane rules s.sight.stage silent s.sight.this.held s.sight.this.peer s.sight.other.peer s.this.came s.other.given s.sight.other.way
+  pub other : Lane rules s.sight.stage others s.sight.other.held s.sight.other.peer s.sight.this.peer s.other.came s.this.given s.sight.this.way
+
+-- ---- an octet
+
+-- a message in its place is none that is out of it
+in_place : (b : Bool) (subcode : ℕ) → (let found : Option ℕ = cond b (Some subcode) None in found ≡ None) → b ≡ false
+in_place true subcode e = absurd cc
+in_place false subcode e = refl
+
+not_false : (b : Bool) → not b ≡ false → b ≡ true
+not_false true e = refl
+not_false false e = absurd (true≢false e)
+
+no_peer : (p : Option Said) → is_some p ≡ false → p ≡ None
+no_peer None e = refl
+no_peer (Some said) e = absurd (true≢false e)
+
+module _ (rules : Rules) (silent others : Bool) (n : ℕ) (this other : Half) (t o : Trail) (octet : ℕ)
+  (a : Alive rules silent this.held this.peer other.peer t.came o.given other.way) (b : Alive rules others other.held other.peer this.peer o.came t.given this.way) where
+  abbrev sight : Sight
+  sight = record { stage = stage.Runs n; this = this; other = other }
+
+  -- nothing is held
+  abbrev free : Sight
+  free = holding sight []
+
+  abbrev grown : Trail
+  grown = record t { came = t.came ++ octet ∷ [] }
+
+  abbrev seen : Sight → Seen
+  seen s = record { sight = s; this = grown; other = o }
+
+  answered_goes : (answers : Answers) → Goes rules silent others (seen (answered free answers))
+  answered_goes answers = record {
+    this =
+        alive_ends rules silent this.held this.peer other.peer t.came o.given other.way a (octet ∷ []) (t.came ++ octet ∷ []) (other.way ++ notice answers.other) [] (Some answers.other) refl
+        (append-nil (other.way ++ notice answers.other));
+    other =
+        alive_ends rules others other.held other.peer this.peer o.came t.given this.way b [] o.came (this.way ++ notice answers.this) [] (Some answers.this) (sym (append-nil o.came))
+        (append-nil (this.way ++ notice answers.this));
+  }
+
+  module _ (m : Message) where
+    abbrev ctx : Context
+    ctx = context_in free
+
+    open_goes : (body : List ℕ) (p : Open) → IsFrame (record { kind = kind.Open; body = body }) (this.held ++ octet ∷ []) → misplaced free kind.Open ≡ None
+        → cleaned ctx (has_octet rules.drops) true (record { kind = kind.Open; body = body }) ≡ Ok m → m ≡ message.Open p → Goes rules silent others (seen (handed_on silent free kind.Open m))
+    open_goes body p f placed is same =
+        let none : this.peer ≡ None = no_peer this.peer (in_place (is_some this.peer) (subcode_of free) placed) in
+        let handed : (c : Context) → cleaned c (has_octet rules.drops) true (record { kind = kind.Open; body = body }) ≡ Ok (message.Open p) =
+        λ c. open_same (has_octet rules.drops) true kind.Open body c ctx refl ∙ is ∙ ap (λ (x : Message). Ok x) same in
+        let fresh : Alive rules silent this.held None other.peer t.came o.given other.way = subst (λ (k : Option Said). Alive rules silent this.held k other.peer t.came o.given other.way) none a in
+        subst (λ (x : Message). Goes rules silent others (seen (handed_on silent free kind.Open x))) (sym same) (record {
+          this = alive_open rules silent this.held other.peer t.came o.given other.way fresh octet (record { kind = kind.Open; body = body }) p f handed (λ e. absurd cc) ctx;
+          other = refit rules others other.held other.peer this.peer (Some (said_by p)) o.came t.given this.way (ap is_some none) b;
+        })
+
+    -- behind both OPENs
+    on_goes : (k : Kind) (body : List ℕ) → (k ≡ kind.Open → ⊥) → (k ≡ kind.Notification → ⊥) → IsFrame (record { kind = k; body = body }) (this.held ++ octet ∷ []) → both_open free ≡ true
+        → cleaned ctx (has_octet rules.drops) true (record { kind = k; body = body }) ≡ Ok m
+        → Alive rules silent [] this.peer other.peer (t.came ++ octet ∷ []) o.given (other.way ++ Rattle.bgp_msg.specs.Written.canonical ctx (said_as silent m))
+    on_goes k body no_open no_notice f both is =
+        alive_on rules silent this.held this.peer other.peer t.came o.given other.way a octet (record { kind = k; body = body }) m f both
+        (opened_push rules silent a.messages (record { kind = k; body = body }) this.peer (and_parts (is_some this.peer) (is_some other.peer) both).0 a.opened)
+        no_notice
+        (λ at. place_same ctx (has_octet rules.drops) at k body no_open ∙ is)
+
+    update_goes : (body : List ℕ) → IsFrame (record { kind = kind.Update; body = body }) (this.held ++ octet ∷ []) → misplaced free kind.Update ≡ None
+        → cleaned ctx (has_octet rules.drops) true (record { kind = kind.Update; body = body }) ≡ Ok m → Goes rules silent others (seen (handed_on silent free kind.Update m))
+    update_goes body f placed is =
+        let both : (both_open free && this.ready) ≡ true = not_false (both_open free && this.ready) (in_place (not (both_open free && this.ready)) (subcode_of free) placed) in
+        record { this = on_goes kind.Update body (λ e. absurd cc) (λ e. absurd cc) f (and_parts (both_open free) this.ready both).0 is; other = b }
+
+    keepalive_goes : (body : List ℕ) → IsFrame (record { kind = kind.Keepalive; body = body }) (this.held ++ octet ∷ []) → misplaced free kind.Keepalive ≡ None
+        → cleaned ctx (has_octet rules.drops) true (record { kind = kind.Keepalive; body = body }) ≡ Ok m → Goes rules silent others (seen (handed_on silent free kind.Keepalive m))
+    keepalive_goes body f placed is =
+        let both : both_open free ≡ true = not_false (both_open free) (in_place (not (both_open free)) (subcode_of free) placed) in
+        record { this = on_goes kind.Keepalive body (λ e. absurd cc) (λ e. absurd cc) f both is; other = b }
+
+    notification_goes : (body : List ℕ) → IsFrame (record { kind = kind.Notification; body = body }) (this.held ++ octet ∷ [])
+        → cleaned ctx (has_octet rules.drops) true (record { kind = kind.Notification; body = body }) ≡ Ok m → Goes rules silent others (seen (handed_on silent free kind.Notification m))
+    notification_goes body f is = record {
+      this =
+          notified rules silent this.held this.peer other.peer t.came o.given other.way a octet (record { kind = kind.Notification; body = body }) m f
+          (kept_push rules silent ctx a.messages (record { kind = kind.Notification; body = body }) this.peer a.opened)
+          (λ at. place_same ctx (has_octet rules.drops) at kind.Notification body (λ e. absurd cc) ∙ is);
+      other =
+          alive_ends rules others other.held other.peer this.peer o.came t.given this.way b [] o.came this.way [] None (sym (append-nil o.came)) (append-nil this.way ∙ sym (append-nil this.way));
+    }
+
+    by_kind : (k : Kind) (body : List ℕ) → IsFrame (record { kind = k; body = body }) (this.held ++ octet ∷ []) → misplaced free k ≡ None
+        → cleaned ctx (has_octet rules.drops) true (record { kind = k; body = body }) ≡ Ok m → Goes rules silent others (seen (handed_on silent free k m))
+    by_kind kind.Open body f placed is =
+        let found = open_by (has_octet rules.drops) (is_some (ended_family ctx (record { kind = kind.Open; body = body }))) m (reading_of body) is in
+        open_goes body found.0 f placed is found.1
+    by_kind kind.Update body f placed is = update_goes body f placed is
+    by_kind kind.Notification body f placed is = notification_goes body f is
+    by_kind kind.Keepalive body f placed is = keepalive_goes body f placed is
+
+  by_cleaned : (m : frame.Message) → IsFrame m (this.held ++ octet ∷ []) → misplaced free m.kind ≡ None → (r : Result Message CleanFault)
+      → cleaned (context_in free) (has_octet rules.drops) true m ≡ r → Goes rules silent others (seen (done silent free m.kind (handed_or (out_of (context_in free) m) r)))
+  by_cleaned m f placed (Ok n) is = by_kind n m.kind m.body f placed is
+  by_cleaned m f placed (Err fault) is = answered_goes (answers_to (out_of (context_in free) m))
+
+  by_place : (m : frame.Message) → IsFrame m (this.held ++ octet ∷ []) → (p : Option ℕ) → misplaced free m.kind ≡ p
+      → Goes rules silent others (seen (done silent free m.kind (placed rules free m p)))
+  by_place m f None e = by_cleaned m f e (cleaned (context_in free) (has_octet rules.drops) true m) refl
+  by_place m f (Some subcode) e = answered_goes (reset_by (unexpected subcode m.kind))
+
+  by_content : octet < 256 → (c : Option (Result frame.Message HeadFault)) → content_of (this.held ++ octet ∷ []) ≡ c
+      → Goes rules silent others (seen (heard_as rules silent (holding sight (this.held ++ octet ∷ [])) c))
+  by_content small None e = record {
+    this = alive_held rules silent octet this.held this.peer other.peer t.came o.given other.way a (held_more this.held octet a.can_hold a.waits small) (none_waits (this.held ++ octet ∷ []) e);
+    other = b;
+  }
+  by_content small (Some (Ok m)) e =
+      by_place m (content_of-message m (this.held ++ octet ∷ []) (held_more this.held octet a.can_hold a.waits small) e) (misplaced free m.kind) refl
+  by_content small (Some (Err fault)) e = answered_goes (reset_by (head_notification fault))
+
+  pub heard_goes : octet < 256 → Goes rules silent others (seen (heard rules silent (holding sight (this.held ++ octet ∷ []))))
+  heard_goes small = by_content small (content_of (this.held ++ octet ∷ [])) refl
+
+-- ---- whether it is read or not
+
+abbrev pub octet_by_seen : Bool → Rules → Bool → ℕ → Seen → Seen
+octet_by_seen b rules silent octet s = record {
+  sight = octet_by b rules silent s.sight octet;
+  this = record s.this { came = came_behind b s.this.came octet };
+  other = s.other;
+}
+
+read_by : (rules : Rules) (silent others : Bool) (octet : ℕ) (st : Stage) (this other : Half) (t o : Trail) → octet < 256
+    → (b : Bool) → listens_in (record { stage = st; this = this; other = other }) ≡ b
+    → Goes rules silent others (record { sight = record { stage = st; this = this; other = other }; this = t; other = o })
+    → Goes rules silent others (octet_by_seen b rules silent octet (record { sight = record { stage = st; this = this; other = other }; this = t; other = o }))
+read_by rules silent others octet st this other t o small false e goes = goes
+read_by rules silent others octet (stage.Runs n) this other t o small true e goes = heard_goes rules silent others n this other t o octet goes.this goes.other small
+read_by rules silent others octet (stage.Ends n) this other t o small true e goes = absurd (true≢false (sym e))
+
+pub octet_goes : (rules : Rules) (silent others : Bool) (octet : ℕ) (s : Seen) → octet < 256 → Goes rules silent others s → Goes rules silent others (octet_seen rules silent octet s)
+octet_goes rules silent others octet s small goes =
+    read_by rules silent others octet s.sight.stage s.sight.this s.sight.other s.this s.other small (listens_in s.sight) refl goes

@@ -1,0 +1,91 @@
+-- What the law of the guard says of the octets of one side, and of those that the other was given.
+use Rattle.std.specs.Prelude.{◌≡◌, ◌<◌, ◌⊎◌, ℕ, Bool, true, false, List, [], ◌∷◌, ◌++◌, map, Option, None, Some, Ok}
+use Rattle.std.specs.List.{flat_map, AllByRecursion}
+use Rattle.bgp_wire.specs.OctetSet.{has_octet}
+use Rattle.bgp_wire.specs.Row.{Row}
+use Rattle.bgp_frame.specs.declared.kind.Kind.TheVariants as kind
+use Rattle.bgp_frame.specs.declared.notification.Notification.{Notification}
+use Rattle.bgp_frame.specs.Frame as frame
+use Rattle.bgp_frame.specs.Frame.{IsFrame, Waits}
+use Rattle.bgp_open.specs.declared.context.Context.{Context}
+use Rattle.bgp_open.specs.declared.message.Open.{Open}
+use Rattle.bgp_open.specs.Peer.{Said, said_by}
+use Rattle.bgp_msg.specs.declared.message.Message.{Message}
+use Rattle.bgp_msg.specs.declared.message.Message.TheVariants as message
+use Rattle.bgp_msg.specs.Written.{canonical}
+use Rattle.bgp_clean.specs.Clean.{cleaned}
+use Rattle.bgp_clean.specs.Stream.{cleaned_stream}
+use Rattle.bgp_guard.specs.declared.rules.Rules.{Rules}
+use Rattle.bgp_guard.specs.declared.side.Side.{Side}
+use Rattle.bgp_guard.specs.declared.stage.Stage.{Stage}
+use Rattle.bgp_guard.specs.declared.stage.Stage.TheVariants as stage
+use Rattle.bgp_guard.specs.Answers.{notice}
+use Rattle.bgp_guard.specs.Guard.{Half, is_silent, seen_from}
+use Rattle.bgp_guard.specs.Hearing.{agreed, said_as}
+use Rattle.bgp_guard.specs.Life.{Event, Life, Octet, life_from, life}
+
+-- the cleaned form of a direction: the cleaned stream of its messages, with KEEPALIVEs in place of UPDATEs where its routes stay inside
+abbrev pub direction : Context → Rules → Bool → List frame.Message → List ℕ
+direction ctx rules silent messages = flat_map (canonical ctx) (map (said_as silent) (cleaned_stream ctx (has_octet rules.drops) messages))
+
+abbrev pub own_octets : Option Notification → List ℕ
+own_octets None = []
+own_octets (Some n) = notice n
+
+abbrev pub IsNoNotification : frame.Message → Type 0
+IsNoNotification m = m.kind ≡ kind.Notification → ⊥
+
+-- the first message is an OPEN, which was handed on, and says this
+pub record IsFirst (rules : Rules) (ctx : Context) (messages : List frame.Message) (said : Said) : Type 0 where
+  pub first : frame.Message
+  pub later : List frame.Message
+  pub is : messages ≡ first ∷ later
+  pub value : Open
+  pub handed : cleaned ctx (has_octet rules.drops) true first ≡ Ok (message.Open value)
+  pub says : said ≡ said_by value
+
+-- what is kept of an OPEN is what the OPEN says that was handed on
+abbrev pub IsKept : Rules → Context → List frame.Message → Option Said → Type 0
+IsKept rules ctx messages None = Unit {0}
+IsKept rules ctx messages (Some said) = IsFirst rules ctx messages said
+
+-- Whole messages came in order, and others behind them. What a side was given, what is on its way and what was lost as it closed is the cleaned form
+-- of these messages, and then nothing or a NOTIFICATION of the guard's own: none where one of these messages is one
+pub record IsHandedOver (rules : Rules) (silent : Bool) (ctx : Context) (kept : Option Said) (came given way : List ℕ) : Type 0 where
+  pub messages : List frame.Message
+  pub row : List ℕ
+  pub rest : List ℕ
+  pub whole : came ≡ row ++ rest
+  pub frames : Row IsFrame messages row
+  pub opened : IsKept rules ctx messages kept
+  pub lost : List ℕ
+  pub own : Option Notification
+  pub put : given ++ (way ++ lost) ≡ direction ctx rules silent messages ++ own_octets own
+  pub alone : (own ≡ None) ⊎ AllByRecursion IsNoNotification messages
+
+-- While the guard runs, these are all messages that came, and nothing of them is lost
+pub record IsAllHandedOver (rules : Rules) (silent : Bool) (ctx : Context) (kept : Option Said) (came given way : List ℕ) : Type 0 where
+  pub messages : List frame.Message
+  pub row : List ℕ
+  pub rest : List ℕ
+  pub whole : came ≡ row ++ rest
+  pub frames : Row IsFrame messages row
+  pub opened : IsKept rules ctx messages kept
+  pub waits : Waits rest
+  pub put : given ++ way ≡ direction ctx rules silent messages
+  pub none : AllByRecursion IsNoNotification messages
+
+-- in the context that both OPENs agree on
+abbrev pub HandsOver : Stage → Rules → Bool → Option Said → Option Said → List ℕ → List ℕ → List ℕ → Type 0
+HandsOver (stage.Runs n) rules silent kept others came given way = IsAllHandedOver rules silent (agreed kept others) kept came given way
+HandsOver (stage.Ends n) rules silent kept others came given way = IsHandedOver rules silent (agreed kept others) kept came given way
+
+abbrev pub IsOctetIn : Event → Type 0
+IsOctetIn (Octet side octet) = octet < 256
+IsOctetIn _ = Unit {0}
+
+-- from a side to the other
+abbrev pub HandsOn : Life → Side → Type 0
+HandsOn a side =
+    HandsOver a.guard.stage a.guard.rules (is_silent side a.guard.rules) (life_from side a).sight.this.peer (life_from side a).sight.other.peer
+    (life_from side a).this.came (life_from side a).other.given (life_from side a).sight.other.way
