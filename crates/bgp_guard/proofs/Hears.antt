@@ -1,5 +1,5 @@
 -- An octet of a side keeps both directions handed over.
-use Rattle.std.proofs.Common.{◌≡◌, ℕ, zero, suc, ◌+◌, ◌<◌, ◌≤◌, Bool, true, false, cond, List, [], ◌∷◌, ◌++◌, length, Option, Some, None, Result, Ok, Err, refl, sym, ap, subst, ◌∙◌, arith, inl, inr}
+use Rattle.std.proofs.Common.{◌≡◌, ℕ, zero, suc, ◌+◌, ◌<◌, Bool, true, false, cond, List, [], ◌∷◌, ◌++◌, length, Option, Some, None, Result, Ok, Err, refl, sym, ap, subst, ◌∙◌, arith, inl, inr}
 use Rattle.std.specs.Prelude.{◌&&◌, not, is_some}
 use Rattle.std.proofs.lemmas.Bool.{true≢false, and_parts, cases_lt}
 use Rattle.std.proofs.lemmas.List.{append-nil, length-append}
@@ -9,12 +9,11 @@ use Rattle.bgp_wire.specs.OctetSet.{has_octet}
 use Rattle.bgp_frame.specs.declared.fault.HeadFault.{HeadFault}
 use Rattle.bgp_frame.specs.declared.kind.Kind.{Kind}
 use Rattle.bgp_frame.specs.declared.kind.Kind.TheVariants as kind
-use Rattle.bgp_frame.specs.declared.notification.Notification.{Notification}
 use Rattle.bgp_frame.specs.Frame as frame
 use Rattle.bgp_frame.specs.Frame.{IsFrame, wanted, Waits}
 use Rattle.bgp_frame.specs.Framer.{IsHeld}
 use Rattle.bgp_frame.specs.Head.{head_notification}
-use Rattle.bgp_frame.proofs.FrameLemmas.{wanted_under, wanted-append, wanted-bounds}
+use Rattle.bgp_frame.proofs.FrameLemmas.{wanted-append, wanted-bounds}
 use Rattle.bgp_open.specs.declared.context.Context.{Context}
 use Rattle.bgp_open.specs.declared.message.Open.{Open}
 use Rattle.bgp_open.specs.OpenFault.{reading_of}
@@ -31,11 +30,10 @@ use Rattle.bgp_guard.specs.declared.stage.Stage.{Stage}
 use Rattle.bgp_guard.specs.declared.stage.Stage.TheVariants as stage
 use Rattle.bgp_guard.specs.Answers.{Answers, answered, notice, reset_by, unexpected}
 use Rattle.bgp_guard.specs.Guard.{Half, Sight, listens_in}
-use Rattle.bgp_guard.specs.Hearing.{agreed, answers_to, by_octet, comes_of, context_in, done, handed_on, handed_or, heard, heard_as, holding, octet_by, peer_behind, placed, said_as}
-use Rattle.bgp_guard.specs.Laws.{IsHandedOver, IsNoNotification, own_octets}
+use Rattle.bgp_guard.specs.Hearing.{agreed, answers_to, context_in, done, handed_on, handed_or, heard, heard_as, holding, octet_by, placed, said_as}
+use Rattle.bgp_guard.specs.Laws.{IsHandedOver}
 use Rattle.bgp_guard.specs.Life.{Seen, Trail, came_behind, octet_seen}
 use Rattle.bgp_guard.specs.Place.{both_open, misplaced, subcode_of}
-use Rattle.bgp_guard.proofs.Fronts.{nothing}
 use Rattle.bgp_guard.proofs.Lanes.{Alive, alive_ends, alive_held, alive_on, alive_open, kept_push, notified, open_same, opened_push, place_same, refit}
 use Rattle.bgp_guard.proofs.Passed.{open_by}
 
@@ -94,7 +92,7 @@ no_peer None e = refl
 no_peer (Some said) e = absurd (true≢false e)
 
 module _ (rules : Rules) (silent others : Bool) (n : ℕ) (this other : Half) (t o : Trail) (octet : ℕ)
-  (a : Alive rules silent this.held this.peer other.peer t.came o.given other.way) (b : Alive rules others other.held other.peer this.peer o.came t.given this.way) where
+    (a : Alive rules silent this.held this.peer other.peer t.came o.given other.way) (b : Alive rules others other.held other.peer this.peer o.came t.given this.way) where
   abbrev sight : Sight
   sight = record { stage = stage.Runs n; this = this; other = other }
 

@@ -1,10 +1,9 @@
 -- The messages of a side, as they are handed on.
-use Rattle.std.proofs.Common.{◌≡◌, ℕ, ◌+◌, ◌<◌, ◌≤◌, Bool, true, false, List, [], ◌∷◌, ◌++◌, length, map, take, drop, Option, Some, None, Result, Ok, Err, refl, sym, ap, subst, ◌∙◌, append_assoc, arith, inl, inr}
+use Rattle.std.proofs.Common.{◌≡◌, ℕ, Bool, true, false, List, [], ◌∷◌, ◌++◌, map, take, drop, Option, Some, None, Result, Ok, refl, sym, ap, subst, ◌∙◌, append_assoc, inl, inr}
 use Rattle.std.specs.Prelude.{◌&&◌, is_some}
 use Rattle.std.specs.List.{flat_map, AllByRecursion}
 use Rattle.std.proofs.lemmas.Bool.{true≢false, and_parts}
 use Rattle.std.proofs.lemmas.List.{append-nil, take-append-drop}
-use Rattle.bgp_wire.specs.Octets.{AreOctets}
 use Rattle.bgp_wire.specs.OctetSet.{has_octet}
 use Rattle.bgp_wire.specs.Row.{Row}
 use Rattle.bgp_wire.proofs.Rows.{Row-push}
@@ -30,11 +29,9 @@ use Rattle.bgp_clean.specs.declared.fault.CleanFault.{CleanFault}
 use Rattle.bgp_clean.specs.Clean.{cleaned, cleaned_outcome}
 use Rattle.bgp_clean.specs.Stream.{handed_then, cleaned_from}
 use Rattle.bgp_guard.specs.declared.rules.Rules.{Rules}
-use Rattle.bgp_guard.specs.declared.stage.Stage.{Stage}
-use Rattle.bgp_guard.specs.declared.stage.Stage.TheVariants as stage
 use Rattle.bgp_guard.specs.Hearing.{agreed, said_as}
 use Rattle.bgp_guard.proofs.Fronts.{nothing}
-use Rattle.bgp_guard.specs.Laws.{IsAllHandedOver, IsFirst, IsHandedOver, IsKept, IsNoNotification, direction, own_octets}
+use Rattle.bgp_guard.specs.Laws.{IsAllHandedOver, IsHandedOver, IsKept, IsNoNotification, direction, own_octets}
 
 -- ---- what is handed on of a message depends on little
 
@@ -243,7 +240,7 @@ module _ (rules : Rules) (silent : Bool) where
 
   -- the OPEN comes first
   module _ (held : List ℕ) (others : Option Said) (came given way : List ℕ) (a : Alive held None others came given way) (octet : ℕ) (m : frame.Message) (o : Open)
-    (f : IsFrame m (held ++ octet ∷ [])) (handed : (ctx : Context) → cleaned ctx (has_octet rules.drops) true m ≡ Ok (message.Open o)) (is_open : IsNoNotification m) where
+      (f : IsFrame m (held ++ octet ∷ [])) (handed : (ctx : Context) → cleaned ctx (has_octet rules.drops) true m ≡ Ok (message.Open o)) (is_open : IsNoNotification m) where
     same_said : said_as silent (message.Open o) ≡ message.Open o
     same_said = by silent
       where

@@ -1,10 +1,9 @@
 -- Whatever happens, both directions stay handed over.
-use Rattle.std.proofs.Common.{◌≡◌, ℕ, zero, suc, ◌<◌, Bool, true, false, List, [], ◌∷◌, ◌++◌, Some, None, refl, sym, ap, subst, ◌∙◌}
+use Rattle.std.proofs.Common.{◌≡◌, ℕ, suc, Bool, true, false, List, [], ◌∷◌, ◌++◌, Some, None, refl, sym, ◌∙◌}
 use Rattle.std.specs.Prelude.{◌&&◌, not, nat_lt, if◌then◌else◌}
 use Rattle.std.specs.List.{AllByRecursion}
 use Rattle.std.proofs.lemmas.Bool.{true≢false}
 use Rattle.std.proofs.lemmas.List.{append-nil}
-use Rattle.bgp_frame.specs.declared.notification.Notification.{Notification}
 use Rattle.bgp_frame.proofs.Holding.{IsHeld_nil}
 use Rattle.bgp_guard.specs.declared.rules.Rules.{Rules}
 use Rattle.bgp_guard.specs.declared.side.Side.{Side}
@@ -13,10 +12,10 @@ use Rattle.bgp_guard.specs.declared.stage.Stage.{Stage}
 use Rattle.bgp_guard.specs.declared.stage.Stage.TheVariants as stage
 use Rattle.bgp_guard.specs.declared.stage.TheConstants.{OPEN_SECONDS}
 use Rattle.bgp_guard.specs.Answers.{late_answer, notice, rejected}
-use Rattle.bgp_guard.specs.Guard.{Half, Guarding, Sight, fresh, is_silent, runs}
+use Rattle.bgp_guard.specs.Guard.{Half, runs}
 use Rattle.bgp_guard.specs.Hearing.{agreed}
-use Rattle.bgp_guard.specs.Events.{closed_if, closed, is_waiting, late, sent, ticked_in, unreached_if, unreached, waited}
-use Rattle.bgp_guard.specs.Laws.{HandsOn, HandsOver, IsOctetIn, own_octets}
+use Rattle.bgp_guard.specs.Events.{closed_if, is_waiting, late, ticked_in, unreached_if, waited}
+use Rattle.bgp_guard.specs.Laws.{HandsOn, HandsOver, IsOctetIn}
 use Rattle.bgp_guard.specs.Life.{Event, Stood, Unreached, Octet, Closed, Sent, Ticked, Life, Seen, Trail, born, by_event, happens, life, life_behind, life_from, sent_seen}
 use Rattle.bgp_guard.proofs.Fronts.{nothing}
 use Rattle.bgp_guard.proofs.Hears.{Goes, Lane, octet_goes}

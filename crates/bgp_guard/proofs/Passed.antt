@@ -1,5 +1,5 @@
 -- What is handed on of a message, as octets.
-use Rattle.std.proofs.Common.{◌≡◌, ℕ, ◌+◌, ◌≤◌, Bool, true, false, cond, List, [], ◌∷◌, ◌++◌, length, drop, Option, Some, None, Result, Ok, Err, refl, sym, ap, subst, ◌∙◌, arith}
+use Rattle.std.proofs.Common.{◌≡◌, ℕ, ◌≤◌, Bool, true, false, cond, List, [], length, drop, Option, Some, None, Result, Ok, Err, refl, sym, ap, subst, ◌∙◌, arith}
 use Rattle.std.specs.Prelude.{◌||◌, not, is_some}
 use Rattle.bgp_wire.specs.Octets.{AreOctets}
 use Rattle.bgp_frame.specs.declared.kind.Kind.{Kind}
@@ -25,7 +25,7 @@ use Rattle.bgp_msg.specs.Written.{canonical, written}
 use Rattle.bgp_clean.specs.declared.cleaned.Cleaned.{Cleaned}
 use Rattle.bgp_clean.specs.declared.cleaned.Cleaned.TheVariants.{HandedOn, Ends}
 use Rattle.bgp_clean.specs.declared.fault.CleanFault.{CleanFault}
-use Rattle.bgp_clean.specs.Clean.{cleaned, cleaned_outcome, handed_open, ended_family}
+use Rattle.bgp_clean.specs.Clean.{cleaned, cleaned_outcome, ended_family}
 use Rattle.bgp_clean.specs.Cleaned.{IsCleaned}
 use Rattle.bgp_clean.specs.Laws.{IsClean}
 use Rattle.bgp_clean.specs.Opens.{cleaned_open, lacks_family}

@@ -1,8 +1,8 @@
 -- Ranges of a room that is written to.
-use Rattle.std.proofs.Common.{◌≡◌, ℕ, ◌+◌, ◌-◌, ◌≤◌, ◌<◌, List, ◌++◌, length, take, drop, refl, sym, ap, subst, ◌∙◌, append_assoc, arith}
+use Rattle.std.proofs.Common.{◌≡◌, ℕ, ◌+◌, ◌-◌, ◌≤◌, List, ◌++◌, length, take, drop, sym, ap, ◌∙◌, arith}
 use Rattle.std.specs.List.{slice_range}
-use Rattle.std.proofs.lemmas.List.{drop-take, drop-drop, length-take, length-drop, take-append-drop, drop-append-le, take-append-le}
-use Rattle.std.proofs.Math.Seq.{take-append-add, drop-append_seam, take-append_seam}
+use Rattle.std.proofs.lemmas.List.{drop-take, drop-drop, length-take, length-drop, drop-append-le}
+use Rattle.std.proofs.Math.Seq.{take-append-add, take-append_seam}
 
 pub less_front : (n start end : ℕ) (xs : List ℕ) → n ≤ end - start → slice_range xs (start + n) end ≡ drop n (slice_range xs start end)
 less_front n start end xs within =

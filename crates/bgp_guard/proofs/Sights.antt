@@ -1,6 +1,6 @@
 -- What a side sees behind an event.
-use Rattle.std.proofs.Common.{◌≡◌, ℕ, suc, ◌+◌, ◌≤◌, Bool, true, false, List, [], ◌++◌, length, Result, Ok, Err, refl, sym, ap, ap₂, ◌∙◌, arith}
-use Rattle.std.specs.Prelude.{◌↔◌, nat_lt, if◌then◌else◌}
+use Rattle.std.proofs.Common.{◌≡◌, ℕ, suc, ◌≤◌, Bool, true, false, List, ◌++◌, Result, refl, sym, ap, ap₂, ◌∙◌, arith}
+use Rattle.std.specs.Prelude.{◌↔◌, if◌then◌else◌}
 use Rattle.std.specs.Str.{bytes_eq}
 use Rattle.std.proofs.lemmas.Slice.Eq.{bytes_eq-Decides}
 use Rattle.std.proofs.lemmas.Bool.{true≢false, le-ltb}
@@ -11,7 +11,6 @@ use Rattle.bgp_frame.specs.Frame as frame
 use Rattle.bgp_frame.specs.declared.notification.NotificationView.{NotificationView}
 use Rattle.bgp_open.specs.declared.context.Context.{Context}
 use Rattle.bgp_msg.specs.declared.message.Message.{Message}
-use Rattle.bgp_msg.specs.declared.outcome.Outcome.{Outcome}
 use Rattle.bgp_msg.specs.declared.outcome_view.OutcomeView.{OutcomeView}
 use Rattle.bgp_msg.specs.declared.outcome_view.OutcomeView.TheVariants as view
 use Rattle.bgp_msg.specs.Outcome.{out_of}
@@ -22,8 +21,7 @@ use Rattle.bgp_clean.specs.Clean.{cleaned}
 use Rattle.bgp_guard.specs.declared.rules.Rules.{Rules}
 use Rattle.bgp_guard.specs.declared.stage.Stage.{Stage}
 use Rattle.bgp_guard.specs.declared.stage.Stage.TheVariants as stage
-use Rattle.bgp_guard.specs.declared.stage.TheConstants.{OPEN_SECONDS, DRAIN_SECONDS}
-use Rattle.bgp_guard.specs.Guard.{Half, absent, Guarding, Sight, runs}
+use Rattle.bgp_guard.specs.Guard.{Half, Guarding, Sight, runs}
 use Rattle.bgp_guard.specs.Answers.{Answers, answered, reject_both}
 use Rattle.bgp_guard.specs.Hearing.{answers_to, cleans, context_in, handed_on, handed_or, said_as, stage_behind}
 use Rattle.bgp_guard.specs.Events.{told_late, late, waited}

@@ -1,5 +1,5 @@
 -- What the law of the guard says of the octets of one side, and of those that the other was given.
-use Rattle.std.specs.Prelude.{◌≡◌, ◌<◌, ◌⊎◌, ℕ, Bool, true, false, List, [], ◌∷◌, ◌++◌, map, Option, None, Some, Ok}
+use Rattle.std.specs.Prelude.{◌≡◌, ◌<◌, ◌⊎◌, ℕ, Bool, true, List, [], ◌∷◌, ◌++◌, map, Option, None, Some, Ok}
 use Rattle.std.specs.List.{flat_map, AllByRecursion}
 use Rattle.bgp_wire.specs.OctetSet.{has_octet}
 use Rattle.bgp_wire.specs.Row.{Row}
@@ -10,7 +10,6 @@ use Rattle.bgp_frame.specs.Frame.{IsFrame, Waits}
 use Rattle.bgp_open.specs.declared.context.Context.{Context}
 use Rattle.bgp_open.specs.declared.message.Open.{Open}
 use Rattle.bgp_open.specs.Peer.{Said, said_by}
-use Rattle.bgp_msg.specs.declared.message.Message.{Message}
 use Rattle.bgp_msg.specs.declared.message.Message.TheVariants as message
 use Rattle.bgp_msg.specs.Written.{canonical}
 use Rattle.bgp_clean.specs.Clean.{cleaned}
@@ -20,9 +19,9 @@ use Rattle.bgp_guard.specs.declared.side.Side.{Side}
 use Rattle.bgp_guard.specs.declared.stage.Stage.{Stage}
 use Rattle.bgp_guard.specs.declared.stage.Stage.TheVariants as stage
 use Rattle.bgp_guard.specs.Answers.{notice}
-use Rattle.bgp_guard.specs.Guard.{Half, is_silent, seen_from}
+use Rattle.bgp_guard.specs.Guard.{is_silent}
 use Rattle.bgp_guard.specs.Hearing.{agreed, said_as}
-use Rattle.bgp_guard.specs.Life.{Event, Life, Octet, life_from, life}
+use Rattle.bgp_guard.specs.Life.{Event, Life, Octet, life_from}
 
 -- the cleaned form of a direction: the cleaned stream of its messages, with KEEPALIVEs in place of UPDATEs where its routes stay inside
 abbrev pub direction : Context → Rules → Bool → List frame.Message → List ℕ

@@ -1,5 +1,5 @@
 -- What the code keeps, as the definitions have it.
-use Rattle.std.specs.Prelude.{◌≡◌, ℕ, ◌≤◌, Bool, true, List, ◌++◌, length, take, drop, Option, None, Some, option_map, Result, Ok, Err}
+use Rattle.std.specs.Prelude.{◌≡◌, ℕ, ◌≤◌, Bool, true, List, length, drop, Option, None, Some, option_map, Result, Ok, Err}
 use Rattle.bgp_frame.specs.declared.kind.Kind.{Kind}
 use Rattle.bgp_frame.specs.declared.kind.Kind.TheVariants as kind
 use Rattle.bgp_open.specs.declared.fault.OpenFault.{OpenFault}

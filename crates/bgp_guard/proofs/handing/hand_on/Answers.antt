@@ -1,7 +1,5 @@
-use Rattle.std.proofs.Common.{◌≡◌, ◌↔◌, ◌++◌, List, ℕ, length, true, refl, sym, ap, subst, ◌∙◌, arith}
+use Rattle.std.proofs.Common.{◌++◌, List, ℕ, length, refl, ap, ◌∙◌, arith}
 use Rattle.std.proofs.lemmas.List.{length-append}
-use Rattle.bgp_open.specs.declared.context.Context.{Context}
-use Rattle.bgp_msg.specs.declared.message.Message.{Message}
 use Rattle.bgp_msg.specs.Written.{canonical}
 use Rattle.bgp_guard.specs.Hearing.{context_in, said_as}
 use Rattle.bgp_guard.specs.steps.Halves.{half_with, sight_with}
@@ -21,12 +19,15 @@ returns-clause-after c =
     c.go_on.ensures.stage
     (c.go_on.ensures.this h n read)
     (c.put.ensures ∙ ap (λ (w : List ℕ). c.args.other.now.way ++ w) (c.passed-passed.ensures.value (context_in s) n is c.head-keepalive.ensures.header
-      ∙ ap (canonical (context_in s)) (said-same c.args.silent c.args.kind n c.args.cleaned.now read)))
+    ∙ ap (canonical (context_in s)) (said-same c.args.silent c.args.kind n c.args.cleaned.now read)))
 
 pub returns-clause-told : goal.returns-clause-told
 returns-clause-told c =
-    λ ctx n is read. (refl, same_octets c.passed-passed.result.now c.args.whole.now (canonical ctx (said_as c.args.silent n)) c.eq.result c.eq.ensures
-      (c.passed-passed.ensures.value ctx n is c.head-keepalive.ensures.header ∙ ap (canonical ctx) (said-same c.args.silent c.args.kind n c.args.cleaned.now read)))
+    λ ctx n is read. (
+      refl,
+      same_octets c.passed-passed.result.now c.args.whole.now (canonical ctx (said_as c.args.silent n)) c.eq.result c.eq.ensures
+          (c.passed-passed.ensures.value ctx n is c.head-keepalive.ensures.header ∙ ap (canonical ctx) (said-same c.args.silent c.args.kind n c.args.cleaned.now read)),
+    )
 
 pub returns-clause-room : goal.returns-clause-room
 returns-clause-room c =

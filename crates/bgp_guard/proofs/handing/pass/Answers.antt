@@ -1,4 +1,4 @@
-use Rattle.std.proofs.Common.{◌≡◌, ◌++◌, ℕ, List, Result, Ok, Err, sym, ap, subst, ◌∙◌, arith}
+use Rattle.std.proofs.Common.{ℕ, List, Result, Ok, Err, sym, ap, subst, ◌∙◌}
 use Rattle.bgp_wire.specs.OctetSet.{has_octet}
 use Rattle.bgp_frame.specs.Step.{message_in}
 use Rattle.bgp_open.specs.declared.context.Context.{Context}
@@ -9,18 +9,18 @@ use Rattle.bgp_guard.specs.Came.{CameBy, IsHandedOn}
 use Rattle.bgp_guard.specs.Hearing.{context_in, done, said_as}
 use Rattle.bgp_guard.specs.steps.Halves.{sight_with}
 use Rattle.bgp_guard.proofs.Passed.{passed_page, stopped}
-use Rattle.bgp_guard.proofs.Sights.{cleans_by, no_room}
+use Rattle.bgp_guard.proofs.Sights.{cleans_by}
 use Rattle.bgp_guard.proofs.handing.pass.Goals as goal
 
 pub hand_on-requires-clause-least : goal.hand_on-requires-clause-least
 hand_on-requires-clause-least c =
     (passed_page c.context_in-ctx.result (has_octet c.args.rules.now.drops) (message_in c.args.frame) c.args.whole.now c.new-page.result c.clean.new.out c.as_slice.result.now
-      c.in-Ok-HandedOn.field-0 c.requires.octets c.requires.framed c.new-page.ensures c.in-Ok-HandedOn.field-0-is c.as_slice.ensures c.in-Ok-HandedOn.ensures.value).least
+    c.in-Ok-HandedOn.field-0 c.requires.octets c.requires.framed c.new-page.ensures c.in-Ok-HandedOn.field-0-is c.as_slice.ensures c.in-Ok-HandedOn.ensures.value).least
 
 pub hand_on-requires-clause-most : goal.hand_on-requires-clause-most
 hand_on-requires-clause-most c =
     (passed_page c.context_in-ctx.result (has_octet c.args.rules.now.drops) (message_in c.args.frame) c.args.whole.now c.new-page.result c.clean.new.out c.as_slice.result.now
-      c.in-Ok-HandedOn.field-0 c.requires.octets c.requires.framed c.new-page.ensures c.in-Ok-HandedOn.field-0-is c.as_slice.ensures c.in-Ok-HandedOn.ensures.value).most
+    c.in-Ok-HandedOn.field-0 c.requires.octets c.requires.framed c.new-page.ensures c.in-Ok-HandedOn.field-0-is c.as_slice.ensures c.in-Ok-HandedOn.ensures.value).most
 
 pub returns-in-Ok-HandedOn-clause-after : goal.returns-in-Ok-HandedOn-clause-after
 returns-in-Ok-HandedOn-clause-after c =

@@ -2,7 +2,7 @@ use Rattle.std.proofs.Common.{◌≡◌, ℕ, [], Option, Some, sym, ap, subst, 
 use Rattle.bgp_frame.specs.declared.notification.Notification.{Notification}
 use Rattle.bgp_frame.specs.Notification.{notification_of_view}
 use Rattle.bgp_frame.specs.Step.{message_in}
-use Rattle.bgp_guard.specs.Answers.{answered, reset_by, unexpected}
+use Rattle.bgp_guard.specs.Answers.{answered, reset_by}
 use Rattle.bgp_guard.specs.Came.{CameBy, IsAnswered}
 use Rattle.bgp_guard.specs.Hearing.{done, placed}
 use Rattle.bgp_guard.specs.Place.{misplaced}

@@ -10,6 +10,8 @@ invariant_of-result c =
     let outer : half_of c.in_ok-outer.outer ≡ absent = c.in_ok-outer.ensures in
     let inner : half_of c.in_ok-inner.inner ≡ absent = c.in_ok-inner.ensures in (
       λ up. omega (arith, ap (λ (h : Half). length h.way) outer),
-      (λ up. omega (arith, ap (λ (h : Half). length h.way) inner),
-      (subst Waits (sym (ap (λ (h : Half). h.held) outer)) nothing, subst Waits (sym (ap (λ (h : Half). h.held) inner)) nothing)),
+      (
+        λ up. omega (arith, ap (λ (h : Half). length h.way) inner),
+        (subst Waits (sym (ap (λ (h : Half). h.held) outer)) nothing, subst Waits (sym (ap (λ (h : Half). h.held) inner)) nothing),
+      ),
     )
