@@ -404,7 +404,7 @@ typedef struct {
 } ristulva_next_hops;
 
 typedef struct {
-    /* Where values lie in the octets, for the cursors below: of no octets, at 0, where the attribute isn't kept. */
+    /* Where values lie in the octets, for the cursors below: of no octets, at 0, where the attribute is missing or discarded. */
     ristulva_span as_path;           /* AS_PATH: ristulva_next_segment, `wide` as the context's `as4` */
     ristulva_span as4_path;          /* AS4_PATH: ristulva_next_segment, `wide` and `confederations` 1 */
     ristulva_span communities;       /* COMMUNITIES: ristulva_next_number, of four octets */
@@ -766,8 +766,8 @@ ristulva_status ristulva_agree(const uint8_t *ours, size_t ours_len, const uint8
 
 /* ---- a stream in pieces (RFC 4271, section 4.1) ----
  *
- * A decoder is for a host that keeps no buffer of what it has read: it takes the octets of a stream in whatever pieces they come, and holds
- * those of an incomplete message. The outcomes don't depend on where the stream is cut: they are what ristulva_judge tells of one message
+ * A decoder is for a host that keeps no buffer of what it has read: it takes the octets of a stream, however TCP cuts it, and holds those
+ * of an incomplete message. The outcomes don't depend on where the stream is cut: they are what ristulva_judge tells of one message
  * after another. Behind a RISTULVA_RESET it reads nothing.
  *
  * A handle is the caller's. It begins as {NULL}, gets a decoder by ristulva_decoder_new, and loses it by ristulva_decoder_free; the decoder
