@@ -1,5 +1,6 @@
 //! All rows of a file.
 
+use crate::guards::put_guard;
 use crate::scripts::put_script;
 use crate::sessions::put_session;
 use crate::speakers::put_speaker;
@@ -62,6 +63,7 @@ fn put_row(alloc: Global, row: &Row<'_>) -> Result<Page, Trouble> {
         "speaker" => put_speaker(alloc, row),
         "session" => put_session(alloc, row),
         "script" => put_script(alloc, row),
+        "guard" => put_guard(alloc, row),
         "run4" | "run6" => put_run(alloc, row),
         _ => put_cases(alloc, row),
     }

@@ -4,6 +4,7 @@
 
 mod copies;
 mod file;
+mod guards;
 mod scripts;
 mod sessions;
 mod speakers;

@@ -33,9 +33,7 @@ module _ (rules : Rules) (silent others : Bool) (this other : Half) (t o : Trail
     this =
         alive_ends rules silent this.held this.peer other.peer t.came o.given other.way goes.this [] t.came (other.way ++ notice rejected) [] (Some rejected) (sym (append-nil t.came))
         (append-nil (other.way ++ notice rejected));
-    other =
-        alive_ends rules others other.held other.peer this.peer o.came t.given this.way goes.other [] o.came this.way [] None (sym (append-nil o.came))
-        (append-nil this.way ∙ sym (append-nil this.way));
+    other = alive_ends rules others other.held other.peer this.peer o.came t.given this.way goes.other [] o.came [] this.way None (sym (append-nil o.came)) (sym (append-nil this.way));
   }
   unreached_by (stage.Ends n) true e goes = absurd (true≢false (sym e))
 

@@ -15,9 +15,9 @@ for_side rule side g = guard_of side g.rules (rule (seen_from side g))
 abbrev pub stood : Sight → Sight
 stood s = record s { this = record s.this { stands = true } }
 
--- a side that doesn't stand can't be reached: there is no session for the other
+-- a side that doesn't stand can't be reached: there is no session for the other, and what was on its way is gone
 abbrev pub unreached_if : Bool → Sight → Sight
-unreached_if true s = record s { stage = stage.Ends DRAIN_SECONDS; other = told rejected s.other }
+unreached_if true s = record { stage = stage.Ends DRAIN_SECONDS; this = record s.this { way = [] }; other = told rejected s.other }
 unreached_if false s = s
 
 abbrev pub unreached : Sight → Sight

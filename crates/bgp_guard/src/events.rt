@@ -10,14 +10,18 @@ use crate::line::Half;
 use crate::stage::{DRAIN_SECONDS, Stage};
 
 /// A side that doesn't stand can't be reached.
-pub(crate) fn unreachable(stage: &mut Stage, this: &Half, other: &mut Half)
-    requires { HasRoom stage.old other.old.line.way }
-    ensures after { sight_of stage.new this.now other.new ≡ unreached (sight_of stage.old this.now other.old) }
-    ensures room { HasRoom stage.new this.now.line.way → HasRoom stage.new other.new.line.way }
+pub(crate) fn unreachable(stage: &mut Stage, this: &mut Half, other: &mut Half)
+    requires room { HasRoom stage.old this.old.line.way }
+    requires others_room { HasRoom stage.old other.old.line.way }
+    ensures after { sight_of stage.new this.new other.new ≡ unreached (sight_of stage.old this.old other.old) }
+    ensures room { HasRoom stage.new this.new.line.way }
+    ensures others_room { HasRoom stage.new other.new.line.way }
+    ensures held { this.new.framer ≡ this.old.framer }
     ensures others_held { other.new.framer ≡ other.old.framer }
 {
     match *stage {
         Stage::Runs(_) if !this.line.stands => {
+            this.line.way.clear();
             tell(rejected().view(), &mut other.line.way);
             *stage = Stage::Ends(DRAIN_SECONDS);
         }

@@ -79,8 +79,8 @@ impl Guard {
         ensures { self.new ≡ for_side unreached side self.old }
     {
         match side {
-            Side::Outer => unreachable(&mut self.stage, &self.outer, &mut self.inner),
-            Side::Inner => unreachable(&mut self.stage, &self.inner, &mut self.outer),
+            Side::Outer => unreachable(&mut self.stage, &mut self.outer, &mut self.inner),
+            Side::Inner => unreachable(&mut self.stage, &mut self.inner, &mut self.outer),
         }
     }
 
