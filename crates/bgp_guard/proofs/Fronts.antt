@@ -11,7 +11,7 @@ use Rattle.bgp_guard.specs.Guard.{Sight, listens_in}
 use Rattle.bgp_guard.specs.declared.came.Came.{Came}
 use Rattle.bgp_guard.specs.Came.{CameFrom, CameIn, Counts, IsHeardBy}
 use Rattle.bgp_guard.specs.Hearing.{heard, heard_as, holding, octet_by, by_octet, by_octets}
-use Rattle.bgp_guard.specs.steps.Halves.{IsSettled}
+use Rattle.bgp_guard.specs.steps.Seeing.{IsSettled}
 
 -- the octets in front of others that can be held wait
 front_waits : (front rest : List ℕ) → length (front ++ rest) ≤ wanted (front ++ rest) → 0 < length rest → Waits front

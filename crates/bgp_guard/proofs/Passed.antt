@@ -32,7 +32,7 @@ use Rattle.bgp_clean.specs.Opens.{cleaned_open, lacks_family}
 use Rattle.bgp_clean.specs.Updates.{cleaned_update, withdrawal, says_nothing}
 use Rattle.bgp_clean.proofs.Handed.{handed-clean}
 use Rattle.bgp_guard.specs.Hearing.{said_as}
-use Rattle.bgp_guard.specs.steps.Halves.{CanBeRead, IsReadOpen, IsReadIn}
+use Rattle.bgp_guard.specs.steps.Seeing.{CanBeRead, IsReadOpen, IsReadIn}
 
 -- ---- an OPEN that is handed on is an OPEN, and is read as it
 

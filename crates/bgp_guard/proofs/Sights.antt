@@ -25,7 +25,8 @@ use Rattle.bgp_guard.specs.Guard.{Half, Guarding, Sight, runs}
 use Rattle.bgp_guard.specs.Answers.{Answers, answered, reject_both}
 use Rattle.bgp_guard.specs.Hearing.{answers_to, cleans, context_in, handed_on, handed_or, said_as, stage_behind}
 use Rattle.bgp_guard.specs.Events.{told_late, late, waited}
-use Rattle.bgp_guard.specs.steps.Halves.{half_behind, said_for, HasRoom, IsReadIn}
+use Rattle.bgp_guard.specs.Halves.{HasRoom}
+use Rattle.bgp_guard.specs.steps.Seeing.{half_behind, said_for, IsReadIn}
 
 -- ---- a second
 

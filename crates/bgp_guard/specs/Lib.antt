@@ -1,5 +1,6 @@
 -- The guard between two speakers: what it keeps, and what each event does.
 pub mod Guard
+pub mod Halves
 pub mod Place
 pub mod Answers
 pub mod Hearing

@@ -1,2 +1,2 @@
 -- What only private functions cite: steps of proofs, which nobody has to believe.
-pub mod Halves
+pub mod Seeing

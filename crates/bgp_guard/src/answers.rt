@@ -6,7 +6,8 @@ ghost use Rattle.bgp_frame.specs.ShortNotification.{short_value};
 ghost use Rattle.bgp_guard.specs.Answers.{notice, reset_over, rejected, unexpected, answered, reset_by, reject_both};
 ghost use Rattle.bgp_guard.specs.Events.{told_late};
 ghost use Rattle.bgp_guard.specs.Came.{IsAnswered};
-ghost use Rattle.bgp_guard.specs.steps.Halves.{half_with, sight_with};
+ghost use Rattle.bgp_guard.specs.Halves.{half_with};
+ghost use Rattle.bgp_guard.specs.steps.Seeing.{sight_with};
 
 use crate::came::Came;
 use crate::line::Line;

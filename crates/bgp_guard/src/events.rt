@@ -3,7 +3,8 @@
 ghost use Rattle.std.specs.Prelude.{◌≡◌, ◌≤◌, length};
 ghost use Rattle.bgp_frame.specs.Frame.{Waits};
 ghost use Rattle.bgp_guard.specs.Events.{closed, unreached};
-ghost use Rattle.bgp_guard.specs.steps.Halves.{sight_of, HasRoom};
+ghost use Rattle.bgp_guard.specs.Halves.{HasRoom};
+ghost use Rattle.bgp_guard.specs.steps.Seeing.{sight_of};
 
 use crate::answers::{rejected, tell};
 use crate::line::Half;

@@ -37,7 +37,7 @@ pub struct Guard {
 impl Model for Guard {
     ghost use Rattle.bgp_frame.specs.Frame.{Waits};
     ghost use Rattle.bgp_guard.specs.Guard.{Guarding};
-    ghost use Rattle.bgp_guard.specs.steps.Halves.{half_of, HasRoom};
+    ghost use Rattle.bgp_guard.specs.Halves.{half_of, HasRoom};
 
     ghost Value = { Guarding };
 

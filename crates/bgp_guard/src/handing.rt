@@ -16,7 +16,8 @@ ghost use Rattle.bgp_guard.specs.Place.{misplaced};
 ghost use Rattle.bgp_guard.specs.Answers.{answered};
 ghost use Rattle.bgp_guard.specs.Hearing.{agreed, answers_to, cleans, comes_of, context_in, done, handed_on, said_as, stage_behind};
 ghost use Rattle.bgp_guard.specs.Came.{CameBy, IsAnswered, IsHandedOn};
-ghost use Rattle.bgp_guard.specs.steps.Halves.{half_behind, half_with, said_for, said_in, sight_with, CanBeRead, HasRoom, IsReadIn};
+ghost use Rattle.bgp_guard.specs.Halves.{half_with, HasRoom};
+ghost use Rattle.bgp_guard.specs.steps.Seeing.{half_behind, said_for, said_in, sight_with, CanBeRead, IsReadIn};
 
 use crate::answers::{reject, reset, unexpected};
 use crate::came::Came;

@@ -5,7 +5,8 @@ ghost use Rattle.bgp_frame.specs.Frame.{Waits};
 ghost use Rattle.bgp_frame.specs.Framer.{IsHeld};
 ghost use Rattle.bgp_guard.specs.Guard.{listens_in};
 ghost use Rattle.bgp_guard.specs.Came.{IsHeardBy};
-ghost use Rattle.bgp_guard.specs.steps.Halves.{sight_of, HasRoom, IsSettled};
+ghost use Rattle.bgp_guard.specs.Halves.{HasRoom};
+ghost use Rattle.bgp_guard.specs.steps.Seeing.{sight_of, IsSettled};
 
 use crate::answers::reset;
 use crate::came::Came;

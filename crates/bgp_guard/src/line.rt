@@ -2,7 +2,7 @@
 
 ghost use Rattle.std.specs.Prelude.{◌≡◌, IfOk};
 ghost use Rattle.bgp_guard.specs.Guard.{absent};
-ghost use Rattle.bgp_guard.specs.steps.Halves.{half_of};
+ghost use Rattle.bgp_guard.specs.Halves.{half_of};
 
 use crate::way::Way;
 use bgp_frame::Framer;

@@ -7,7 +7,7 @@ use Rattle.bgp_msg.specs.Written.{canonical}
 use Rattle.bgp_guard.specs.Answers.{Answers}
 use Rattle.bgp_guard.specs.Came.{CameBy, IsHandedOn}
 use Rattle.bgp_guard.specs.Hearing.{context_in, done, said_as}
-use Rattle.bgp_guard.specs.steps.Halves.{sight_with}
+use Rattle.bgp_guard.specs.steps.Seeing.{sight_with}
 use Rattle.bgp_guard.proofs.Passed.{passed_page, stopped}
 use Rattle.bgp_guard.proofs.Sights.{cleans_by}
 use Rattle.bgp_guard.proofs.handing.pass.Goals as goal

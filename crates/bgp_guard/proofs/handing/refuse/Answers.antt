@@ -6,7 +6,7 @@ use Rattle.bgp_msg.specs.Outcome.{out_of}
 use Rattle.bgp_guard.specs.Answers.{Answers, answered, reset_by, reject_both}
 use Rattle.bgp_guard.specs.Came.{IsAnswered}
 use Rattle.bgp_guard.specs.Hearing.{answers_to}
-use Rattle.bgp_guard.specs.steps.Halves.{sight_with}
+use Rattle.bgp_guard.specs.steps.Seeing.{sight_with}
 use Rattle.bgp_guard.proofs.Sights.{no_reset, over}
 use Rattle.bgp_guard.proofs.handing.refuse.Goals as goal
 

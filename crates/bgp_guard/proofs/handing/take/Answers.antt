@@ -6,7 +6,7 @@ use Rattle.bgp_guard.specs.Answers.{answered, reset_by}
 use Rattle.bgp_guard.specs.Came.{CameBy, IsAnswered}
 use Rattle.bgp_guard.specs.Hearing.{done, placed}
 use Rattle.bgp_guard.specs.Place.{misplaced}
-use Rattle.bgp_guard.specs.steps.Halves.{sight_with}
+use Rattle.bgp_guard.specs.steps.Seeing.{sight_with}
 use Rattle.bgp_guard.proofs.Sights.{over, no_room}
 use Rattle.bgp_guard.proofs.handing.take.Goals as goal
 

@@ -8,7 +8,7 @@ use Rattle.bgp_machine.proofs.Contents.{content_of-frame, content_of-fault}
 use Rattle.bgp_guard.specs.Answers.{answered, reset_by}
 use Rattle.bgp_guard.specs.Came.{CameOf, IsAnswered}
 use Rattle.bgp_guard.specs.Hearing.{heard_as, holding}
-use Rattle.bgp_guard.specs.steps.Halves.{sight_of, sight_with}
+use Rattle.bgp_guard.specs.steps.Seeing.{sight_of, sight_with}
 use Rattle.bgp_guard.proofs.Fronts.{nothing}
 use Rattle.bgp_guard.proofs.Sights.{over, no_room}
 use Rattle.bgp_guard.proofs.hearing.settle.Goals as goal

@@ -1,11 +1,11 @@
--- What the code keeps, as the definitions have it.
-use Rattle.std.specs.Prelude.{◌≡◌, ℕ, ◌≤◌, Bool, true, List, length, drop, Option, None, Some, option_map, Result, Ok, Err}
+-- What one side sees of what the code keeps, and steps of hearing it.
+use Rattle.std.specs.Prelude.{◌≡◌, ℕ, ◌≤◌, Bool, true, List, length, drop, Option, None, Some, Result, Ok, Err}
 use Rattle.bgp_frame.specs.declared.kind.Kind.{Kind}
 use Rattle.bgp_frame.specs.declared.kind.Kind.TheVariants as kind
 use Rattle.bgp_open.specs.declared.fault.OpenFault.{OpenFault}
 use Rattle.bgp_open.specs.declared.message.Open.{Open}
 use Rattle.bgp_open.specs.OpenFault.{reading_of}
-use Rattle.bgp_open.specs.Peer.{Said, said_by, said_of}
+use Rattle.bgp_open.specs.Peer.{Said, said_by}
 use Rattle.bgp_msg.specs.declared.message.Message.{Message}
 use Rattle.bgp_msg.specs.declared.message.Message.TheVariants as message
 use Rattle.bgp_guard.specs.declared.came.Came.{Came}
@@ -13,15 +13,10 @@ use Rattle.bgp_guard.specs.declared.line.Half as code
 use Rattle.bgp_guard.specs.declared.line.Line.{Line}
 use Rattle.bgp_guard.specs.declared.rules.Rules.{Rules}
 use Rattle.bgp_guard.specs.declared.stage.Stage.{Stage}
-use Rattle.bgp_guard.specs.Guard.{Half, Sight, runs}
+use Rattle.bgp_guard.specs.Guard.{Half, Sight}
 use Rattle.bgp_guard.specs.Hearing.{heard, peer_behind, ready_behind, said_as}
 use Rattle.bgp_guard.specs.Came.{CameIn}
-
-abbrev pub half_with : List ℕ → Line → Half
-half_with held l = record { stands = l.stands; held = held; peer = option_map said_of l.peer; ready = l.ready; way = l.way }
-
-abbrev pub half_of : code.Half → Half
-half_of h = half_with h.framer h.line
+use Rattle.bgp_guard.specs.Halves.{half_with}
 
 -- what one side sees, of which some octets are held, and of the other some
 abbrev pub sight_with : List ℕ → List ℕ → Stage → Line → Line → Sight
@@ -55,10 +50,6 @@ said_for _ _ n = n
 
 abbrev pub half_behind : Kind → Message → Half → Half
 half_behind kind n h = record h { peer = peer_behind kind n h.peer; ready = ready_behind kind h.ready }
-
--- while messages are handed on there is room for a NOTIFICATION on the way to a side
-abbrev pub HasRoom : Stage → List ℕ → Type 0
-HasRoom stage way = runs stage ≡ true → length way ≤ 65536
 
 -- what is held came to this
 pub record IsSettled (rules : Rules) (silent : Bool) (old : Sight) (came : Came) (new : Sight) : Type 0 where

@@ -1,0 +1,17 @@
+-- What the code keeps, as the definitions have it.
+use Rattle.std.specs.Prelude.{◌≡◌, ℕ, ◌≤◌, true, List, length, option_map}
+use Rattle.bgp_open.specs.Peer.{said_of}
+use Rattle.bgp_guard.specs.declared.line.Half as code
+use Rattle.bgp_guard.specs.declared.line.Line.{Line}
+use Rattle.bgp_guard.specs.declared.stage.Stage.{Stage}
+use Rattle.bgp_guard.specs.Guard.{Half, runs}
+
+abbrev pub half_with : List ℕ → Line → Half
+half_with held l = record { stands = l.stands; held = held; peer = option_map said_of l.peer; ready = l.ready; way = l.way }
+
+abbrev pub half_of : code.Half → Half
+half_of h = half_with h.framer h.line
+
+-- while messages are handed on there is room for a NOTIFICATION on the way to a side
+abbrev pub HasRoom : Stage → List ℕ → Type 0
+HasRoom stage way = runs stage ≡ true → length way ≤ 65536
