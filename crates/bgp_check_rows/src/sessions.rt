@@ -96,7 +96,7 @@ fn feed(
         let taken = session.feed(rest);
         rest = rest.get(taken..).unwrap_or(&[]);
         match step_again(alloc, session, page)? {
-            Some(actions) => put_actions(alloc, page, &actions)?,
+            Some(actions) => put_actions(alloc, page, session, &actions)?,
             None if taken == 0 => break,
             None => {}
         }
@@ -116,7 +116,7 @@ fn pull(
         let (taken, found) = pull_again(alloc, session, rest, page)?;
         rest = rest.get(taken..).unwrap_or(&[]);
         match found {
-            Some(actions) => put_actions(alloc, page, &actions)?,
+            Some(actions) => put_actions(alloc, page, session, &actions)?,
             None if taken == 0 => break,
             None => {}
         }
@@ -188,13 +188,14 @@ fn send_again(
 fn put_sent(
     alloc: Global,
     page: &mut Page,
+    session: &Session,
     octets: &[u8],
     actions: &Actions,
 ) -> Result<(), Trouble> {
     page.put("sends ")?;
     page.put_digits(alloc, octets)?;
     page.put("\n")?;
-    put_actions(alloc, page, actions)
+    put_actions(alloc, page, session, actions)
 }
 
 /// Adds why an UPDATE isn't sent.
@@ -224,7 +225,7 @@ fn send_update(
     let answer = send_again(alloc, session, update, &mut out, page)?;
     let octets = out.as_slice().get(1..).unwrap_or(&[]);
     match answer {
-        Ok(actions) => put_sent(alloc, page, octets, &actions),
+        Ok(actions) => put_sent(alloc, page, session, octets, &actions),
         Err(fault) => put_unsent(alloc, page, octets, fault),
     }
 }
@@ -247,7 +248,7 @@ fn make(
     let (word, rest) = split_word(line);
     if let Some(event) = event_of(word, rest) {
         let actions = session.event(event);
-        return put_actions(alloc, page, &actions);
+        return put_actions(alloc, page, session, &actions);
     }
     let mut octets = Octets::new();
     add_octets(row, rest, &mut octets)?;

@@ -2,15 +2,16 @@
 
 use crate::copies::is_action_copied;
 use crate::speakers::put_context;
-use bgp_msg::Outcome;
+use bgp_open::Context;
 use bgp_rows::copies::OTHERWISE;
 use bgp_rows::page::Page;
 use bgp_rows::paths::put_path;
 use bgp_rows::trouble::Trouble;
 use bgp_session::{Action, Actions, Session, Timer};
-use bgp_update::Routes;
-use bgp_wire::List;
 use std::alloc::Global;
+
+/// Why what a session announces can't be told.
+const NO_CONTEXT: Trouble = Trouble::Row("an UPDATE where both sides agreed");
 
 /// The timers by their names.
 const TIMERS: [(Timer, &str); 3] = [
@@ -27,22 +28,13 @@ fn timer_name(timer: Timer) -> &'static str {
     }
 }
 
-/// Adds the lines of an outcome but the first.
-fn put_rest(alloc: Global, page: &mut Page, outcome: &Outcome) -> Result<(), Trouble> {
-    let mut lines = Page::new(alloc);
-    lines.put_outcome(alloc, 0, outcome)?;
-    let (_head, lines) = lines.text.as_str().split_once('\n').unwrap_or(("", ""));
-    page.put(lines)
-}
-
-/// Adds the routes that are withdrawn, behind the line of the action.
-fn put_routes(alloc: Global, page: &mut Page, routes: &Routes) -> Result<(), Trouble> {
-    let outcome = Outcome::Withdraw(routes.copy(alloc)?, List::new(alloc));
-    put_rest(alloc, page, &outcome)
-}
-
 /// Adds the line of an action, and those of what it carries.
-fn put_action(alloc: Global, page: &mut Page, action: &Action) -> Result<(), Trouble> {
+fn put_action(
+    alloc: Global,
+    page: &mut Page,
+    ctx: Option<&Context>,
+    action: &Action,
+) -> Result<(), Trouble> {
     match action {
         Action::Connect => page.put("connect\n"),
         Action::Close => page.put("close\n"),
@@ -55,11 +47,9 @@ fn put_action(alloc: Global, page: &mut Page, action: &Action) -> Result<(), Tro
             page.put("\n")
         }
         Action::Arm(timer, seconds) => {
-            page.put("arm ")?;
-            page.put(timer_name(*timer))?;
-            page.put(" ")?;
-            page.put_value(alloc, seconds)?;
-            page.put("\n")
+            let timer = timer_name(*timer);
+            let seconds = *seconds;
+            Ok(write!(page.text, "arm {timer} {seconds}\n")?)
         }
         Action::Disarm(timer) => {
             page.put("disarm ")?;
@@ -68,28 +58,29 @@ fn put_action(alloc: Global, page: &mut Page, action: &Action) -> Result<(), Tro
         }
         Action::Announce(update, info) => {
             page.put("announce\n")?;
-            page.put_update(alloc, update)?;
+            page.put_update(alloc, ctx.ok_or(NO_CONTEXT)?, update)?;
             page.put("by way of\n")?;
             put_path(alloc, page, info.copy(alloc)?)
         }
         Action::Withdraw(routes) => {
             page.put("withdraw\n")?;
-            put_routes(alloc, page, routes)
+            page.put_routes(routes)
         }
     }
 }
 
-/// Adds the lines of actions, and which isn't its copy.
+/// Adds the lines of actions of a session, and which isn't its copy.
 pub(crate) fn put_actions(
     alloc: Global,
     page: &mut Page,
+    session: &Session,
     actions: &Actions,
 ) -> Result<(), Trouble> {
     for action in actions.as_slice() {
         if !is_action_copied(alloc, action)? {
             page.put(OTHERWISE)?;
         }
-        put_action(alloc, page, action)?;
+        put_action(alloc, page, session.context(), action)?;
     }
     Ok(())
 }

@@ -3,8 +3,9 @@
 use crate::copies::{OTHERWISE, is_judged_copied, is_update_copied};
 use crate::page::Page;
 use crate::trouble::Trouble;
-use bgp_attr::{Attr, Judged, JudgedView, Opaque, Tail, Tlv, TlvIter, judge, judge_view};
+use bgp_attr::{Attr, AttrView, Judged, JudgedView, Opaque, Tail, Tlv, TlvIter, judge, judge_view};
 use bgp_open::Context;
+use bgp_text::put_attribute as put_attribute_lines;
 use bgp_update::{Attrs, Update};
 use bgp_wire::List;
 use std::alloc::{AllocError, Global};
@@ -72,50 +73,52 @@ fn attrs_of(alloc: Global, attr: Attr) -> Result<Attrs, Trouble> {
     Ok(attrs)
 }
 
-/// Adds the lines of an UPDATE, and whether it isn't its copy.
-fn put_alone(alloc: Global, page: &mut Page, update: &Update) -> Result<(), Trouble> {
-    if !is_update_copied(alloc, update)? {
-        page.put(OTHERWISE)?;
-    }
-    page.put_update(alloc, update)
-}
-
-/// Adds the lines of a kept attribute.
-fn put_kept(alloc: Global, page: &mut Page, attr: Attr) -> Result<(), Trouble> {
-    page.put(if is_partial(&attr) {
-        "keep partial\n"
-    } else {
-        "keep\n"
-    })?;
+/// Adds whether an UPDATE of an attribute isn't its copy.
+fn put_alone(alloc: Global, page: &mut Page, attr: Attr) -> Result<(), Trouble> {
     let update = Update {
         withdrawn: List::new(alloc),
         attrs: attrs_of(alloc, attr)?,
         nlri: List::new(alloc),
     };
-    put_alone(alloc, page, &update)
+    if !is_update_copied(alloc, &update)? {
+        page.put(OTHERWISE)?;
+    }
+    Ok(())
+}
+
+/// Adds the lines of a kept attribute.
+fn put_kept(alloc: Global, page: &mut Page, view: &AttrView<'_>) -> Result<(), Trouble> {
+    let attr = view.own(alloc)?;
+    page.put(if is_partial(&attr) {
+        "keep partial\n"
+    } else {
+        "keep\n"
+    })?;
+    put_attribute_lines(alloc, &mut page.text, view)?;
+    put_alone(alloc, page, attr)
 }
 
 /// Adds what an attribute comes to.
-fn put_judged(alloc: Global, page: &mut Page, judged: Judged) -> Result<(), Trouble> {
+fn put_judged(alloc: Global, page: &mut Page, judged: &JudgedView<'_>) -> Result<(), Trouble> {
     match judged {
-        Judged::Keep(attr) => return put_kept(alloc, page, attr),
-        Judged::Discard(why) => {
+        JudgedView::Keep(attr) => return put_kept(alloc, page, attr),
+        JudgedView::Discard(why) => {
             page.put("discard ")?;
-            page.put_name(alloc, &why)?;
+            page.put_name(alloc, why)?;
         }
-        Judged::Withdraw(why) => {
+        JudgedView::Withdraw(why) => {
             page.put("withdraw ")?;
-            page.put_name(alloc, &why)?;
+            page.put_name(alloc, why)?;
         }
-        Judged::Reset(told) => {
+        JudgedView::Reset(told) => {
             page.put("reset ")?;
-            page.put_notification(alloc, &told)?;
+            page.put_notification(alloc, told)?;
         }
     }
     page.put("\n")
 }
 
-/// Adds what an attribute comes to as a view, where that isn't what it comes to, and whether that isn't its copy.
+/// Adds whether an attribute comes to something else as a view, and whether that isn't its copy.
 fn put_otherwise(
     alloc: Global,
     page: &mut Page,
@@ -125,12 +128,10 @@ fn put_otherwise(
     if !is_judged_copied(alloc, judged)? {
         page.put(OTHERWISE)?;
     }
-    let viewed = view.own(alloc)?;
-    if *judged == viewed {
-        return Ok(());
+    if *judged != view.own(alloc)? {
+        page.put("otherwise as a view: ")?;
     }
-    page.put("otherwise as a view: ")?;
-    put_judged(alloc, page, viewed)
+    Ok(())
 }
 
 /// Adds an attribute's place and its type.
@@ -154,8 +155,9 @@ fn put_attribute(
     }
     put_place(alloc, page, tlv)?;
     let judged = judge(alloc, ctx, has_nlri, tlv)?;
-    put_otherwise(alloc, page, &judged, &judge_view(ctx, has_nlri, tlv))?;
-    put_judged(alloc, page, judged)
+    let view = judge_view(ctx, has_nlri, tlv);
+    put_otherwise(alloc, page, &judged, &view)?;
+    put_judged(alloc, page, &view)
 }
 
 /// What the attributes of a field come to, and what is left where no attribute begins.

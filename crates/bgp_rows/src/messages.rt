@@ -16,12 +16,12 @@ use std::alloc::Global;
 const CHANGED: &str = "a decoder that lacked memory isn't as it was\n";
 
 /// Adds the lines of all outcomes and of the end, and whether they aren't their copies.
-fn put_seen(alloc: Global, page: &mut Page, seen: &Seen) -> Result<(), Trouble> {
+fn put_seen(alloc: Global, ctx: &Context, page: &mut Page, seen: &Seen) -> Result<(), Trouble> {
     if !is_seen_copied(alloc, seen)? {
         page.put(OTHERWISE)?;
     }
     for (len, outcome) in seen.outs.iter() {
-        page.put_outcome(alloc, *len, outcome)?;
+        page.put_outcome(alloc, ctx, *len, outcome)?;
     }
     page.put_end(seen.end)
 }
@@ -29,7 +29,7 @@ fn put_seen(alloc: Global, page: &mut Page, seen: &Seen) -> Result<(), Trouble> 
 /// The stream handed over in one piece.
 fn whole(alloc: Global, ctx: &Context, stream: &[u8]) -> Result<Page, Trouble> {
     let mut page = Page::new(alloc);
-    put_seen(alloc, &mut page, &decode_all(alloc, ctx, &[stream])?)?;
+    put_seen(alloc, ctx, &mut page, &decode_all(alloc, ctx, &[stream])?)?;
     Ok(page)
 }
 
@@ -63,11 +63,16 @@ fn next_again(
 }
 
 /// Adds what is held comes to, where it is whole: how many octets it has.
-fn put_next(alloc: Global, decoder: &mut Decoder, page: &mut Page) -> Result<Option<u16>, Trouble> {
+fn put_next(
+    alloc: Global,
+    ctx: &Context,
+    decoder: &mut Decoder,
+    page: &mut Page,
+) -> Result<Option<u16>, Trouble> {
     let Some((len, outcome)) = next_again(alloc, decoder, page)? else {
         return Ok(None);
     };
-    page.put_outcome(alloc, len, &outcome)?;
+    page.put_outcome(alloc, ctx, len, &outcome)?;
     Ok(Some(len))
 }
 
@@ -78,11 +83,11 @@ fn by_octets(alloc: Global, ctx: &Context, stream: &[u8]) -> Result<Page, Troubl
     let mut last = None;
     for octet in stream {
         if decoder.feed(&[*octet]) == 0 {
-            last = put_next(alloc, &mut decoder, &mut page)?.or(last);
+            last = put_next(alloc, ctx, &mut decoder, &mut page)?.or(last);
             let _taken = decoder.feed(&[*octet]);
         }
     }
-    last = put_next(alloc, &mut decoder, &mut page)?.or(last);
+    last = put_next(alloc, ctx, &mut decoder, &mut page)?.or(last);
     page.put_end(end_of(&decoder, last))?;
     Ok(page)
 }
@@ -109,6 +114,7 @@ fn pull_again(
 /// Adds what one pull gives.
 fn put_pulled(
     alloc: Global,
+    ctx: &Context,
     decoder: &mut Decoder,
     piece: &[u8],
     page: &mut Page,
@@ -117,30 +123,37 @@ fn put_pulled(
     let Some((len, outcome)) = found else {
         return Ok((taken, None));
     };
-    page.put_outcome(alloc, len, &outcome)?;
+    page.put_outcome(alloc, ctx, len, &outcome)?;
     Ok((taken, Some(len)))
 }
 
 /// Adds what a view shows.
 fn put_view(
     alloc: Global,
+    ctx: &Context,
     len: u16,
     view: &OutcomeView<'_>,
     page: &mut Page,
 ) -> Result<(), Trouble> {
     let outcome = view.own(alloc)?;
-    page.put_outcome(alloc, len, &outcome)
+    page.put_outcome(alloc, ctx, len, &outcome)
 }
 
 /// Adds the answer to a header's fault.
-fn put_fault(alloc: Global, fault: HeadFault, page: &mut Page) -> Result<(), Trouble> {
+fn put_fault(
+    alloc: Global,
+    ctx: &Context,
+    fault: HeadFault,
+    page: &mut Page,
+) -> Result<(), Trouble> {
     let outcome = Outcome::Reset(fault.notification());
-    page.put_outcome(alloc, 0, &outcome)
+    page.put_outcome(alloc, ctx, 0, &outcome)
 }
 
 /// Adds what a look finds, as a view. Answers how many octets it takes, how many its message has, and where the decoder goes on.
 fn put_found(
     alloc: Global,
+    ctx: &Context,
     decoder: &Decoder,
     piece: &[u8],
     page: &mut Page,
@@ -150,11 +163,11 @@ fn put_found(
     let mut place = UpdateView::empty();
     match decoder.look(piece, &mut place) {
         Look::Message(taken, len, view, next) => {
-            put_view(alloc, len, &view, page)?;
+            put_view(alloc, ctx, len, &view, page)?;
             Ok(Some((taken, len, next)))
         }
         Look::Fault(taken, fault, next) => {
-            put_fault(alloc, fault, page)?;
+            put_fault(alloc, ctx, fault, page)?;
             Ok(Some((taken, 0, next)))
         }
         Look::Feed => Ok(None),
@@ -164,11 +177,12 @@ fn put_found(
 /// Adds what a look finds, as a view, and goes on behind it.
 fn put_looked(
     alloc: Global,
+    ctx: &Context,
     decoder: &mut Decoder,
     piece: &[u8],
     page: &mut Page,
 ) -> Result<Taken, Trouble> {
-    let Some((taken, len, next)) = put_found(alloc, decoder, piece, page)? else {
+    let Some((taken, len, next)) = put_found(alloc, ctx, decoder, piece, page)? else {
         return Ok((decoder.feed(piece), None));
     };
     decoder.go(next);
@@ -201,8 +215,8 @@ fn in_pieces(
             _ => rest.get(..size).unwrap_or(rest),
         };
         let (taken, found) = match call {
-            Call::Pull => put_pulled(alloc, &mut decoder, piece, &mut page)?,
-            Call::Look => put_looked(alloc, &mut decoder, piece, &mut page)?,
+            Call::Pull => put_pulled(alloc, ctx, &mut decoder, piece, &mut page)?,
+            Call::Look => put_looked(alloc, ctx, &mut decoder, piece, &mut page)?,
         };
         rest = rest.get(taken..).unwrap_or(&[]);
         match found {

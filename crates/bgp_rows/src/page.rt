@@ -1,10 +1,11 @@
 //! The lines that come of a row.
 
 use crate::trouble::Trouble;
-use bgp_frame::{End, Notification};
-use bgp_msg::Outcome;
-use bgp_text::{put_end, put_outcome};
-use bgp_update::Update;
+use bgp_frame::{End, Notification, NotificationView};
+use bgp_msg::{Decoder, Look, Message, Outcome, OutcomeView, encode};
+use bgp_open::Context;
+use bgp_text::{put_end, put_viewed_outcome, why_name};
+use bgp_update::{Note, Routes, Update, UpdateView, WriteFault};
 use bgp_wire::List;
 use std::alloc::{AllocError, Global};
 use std::fmt::{Debug, Display};
@@ -16,25 +17,17 @@ pub struct Page {
     place: u64,
 }
 
-/// The lines of an outcome.
-fn outcome_lines(
-    alloc: Global,
-    place: u64,
-    len: u16,
-    outcome: &Outcome,
-) -> Result<String, AllocError> {
-    let mut text = String::new(alloc);
-    put_outcome(alloc, &mut text, place, len, outcome)?;
-    Ok(text)
-}
+/// Why a value has no lines: they are those of its view, once it is written.
+const NO_VIEW: Trouble = Trouble::Row("a value that is read as itself where it is written");
 
-/// The lines of what an UPDATE says, behind the line of the message.
-fn update_lines(alloc: Global, update: &Update) -> Result<String, AllocError> {
-    let mut text = String::new(alloc);
-    let notes = List::new(alloc);
-    bgp_text::put_update_taken(alloc, &mut text, 0, 0, update, &notes)?;
-    let (_head, lines) = text.as_str().split_once('\n').unwrap_or(("", ""));
-    lines.to_string(alloc)
+/// The octets of a message.
+fn octets_of(alloc: Global, ctx: &Context, message: &Message) -> Result<Vec<u8>, Trouble> {
+    let mut octets = Vec::new(alloc);
+    match encode(ctx, message, &mut octets) {
+        Ok(()) => Ok(octets),
+        Err(WriteFault::Memory) => Err(Trouble::Memory),
+        Err(_) => Err(NO_VIEW),
+    }
 }
 
 fn name_of<T: Debug>(alloc: Global, value: &T) -> Result<String, AllocError> {
@@ -54,16 +47,80 @@ impl Page {
         Ok(self.text.push_str(text)?)
     }
 
-    /// Adds the lines of an outcome of so many octets.
+    /// Adds the lines of what a view shows, of so many octets.
+    fn put_view(&mut self, alloc: Global, len: u16, view: &OutcomeView<'_>) -> Result<(), Trouble> {
+        put_viewed_outcome(alloc, &mut self.text, self.place, len, view)?;
+        self.place = self.place.saturating_add(u64::from(len));
+        Ok(())
+    }
+
+    /// Adds the lines of a message that is accepted, but those of notes: it is written where it was read, and its view printed.
+    fn put_message(
+        &mut self,
+        alloc: Global,
+        ctx: &Context,
+        len: u16,
+        message: &Message,
+    ) -> Result<(), Trouble> {
+        let octets = octets_of(alloc, ctx, message)?;
+        let mut place = UpdateView::empty();
+        match Decoder::new(*ctx).look(octets.as_slice(), &mut place) {
+            Look::Message(_, _, view, _) => self.put_view(alloc, len, &view),
+            _ => Err(NO_VIEW),
+        }
+    }
+
+    /// Adds the lines of notes.
+    fn put_notes(&mut self, notes: &List<Note>) -> Result<(), Trouble> {
+        for note in notes.iter() {
+            let at = note.at;
+            let kind = note.kind;
+            let why = why_name(note.why);
+            write!(self.text, "  note {at} {kind} {why}\n")?;
+        }
+        Ok(())
+    }
+
+    /// Adds the lines of routes that are withdrawn.
+    pub fn put_routes(&mut self, routes: &Routes) -> Result<(), Trouble> {
+        for prefix in routes.ip4.iter() {
+            write!(self.text, "  route {prefix}\n")?;
+        }
+        for prefix in routes.ip6.iter() {
+            write!(self.text, "  route {prefix}\n")?;
+        }
+        Ok(())
+    }
+
+    /// Adds the lines of an outcome of so many octets, in the context in which they were read.
     pub fn put_outcome(
         &mut self,
         alloc: Global,
+        ctx: &Context,
         len: u16,
         outcome: &Outcome,
     ) -> Result<(), Trouble> {
-        let lines = outcome_lines(alloc, self.place, len, outcome)?;
-        self.place = self.place.saturating_add(u64::from(len));
-        self.put(lines.as_str())
+        match outcome {
+            Outcome::Took(message, notes) => {
+                self.put_message(alloc, ctx, len, message)?;
+                self.put_notes(notes)
+            }
+            Outcome::Withdraw(routes, notes) => {
+                let place = self.place;
+                self.place = self.place.saturating_add(u64::from(len));
+                write!(self.text, "{place} {len} UPDATE withdraw\n")?;
+                self.put_routes(routes)?;
+                self.put_notes(notes)
+            }
+            Outcome::Reset(told) => {
+                let view = NotificationView {
+                    code: told.code,
+                    subcode: told.subcode,
+                    info: told.info.as_slice(),
+                };
+                self.put_view(alloc, len, &OutcomeView::Reset(view))
+            }
+        }
     }
 
     /// Adds the line of a stream's end.
@@ -71,10 +128,17 @@ impl Page {
         Ok(put_end(&mut self.text, end)?)
     }
 
-    /// Adds the lines of what an UPDATE says.
-    pub fn put_update(&mut self, alloc: Global, update: &Update) -> Result<(), Trouble> {
-        let lines = update_lines(alloc, update)?;
-        self.put(lines.as_str())
+    /// Adds the lines of what an UPDATE says that was accepted in a context.
+    pub fn put_update(
+        &mut self,
+        alloc: Global,
+        ctx: &Context,
+        update: &Update,
+    ) -> Result<(), Trouble> {
+        let mut lines = Page::new(alloc);
+        lines.put_message(alloc, ctx, 0, &Message::Update(update.copy(alloc)?))?;
+        let (_head, lines) = lines.text.as_str().split_once('\n').unwrap_or(("", ""));
+        self.put(lines)
     }
 
     /// Adds octets as digits, and `-` where there are none.

@@ -12,6 +12,15 @@ use std::alloc::Global;
 
 const AN_UPDATE: Trouble = Trouble::Row("an UPDATE");
 
+/// In which context a path has AS numbers of four octets.
+const WIDE: Context = Context {
+    internal: true,
+    as4: true,
+    ip4: true,
+    ip6: true,
+    hold: 0,
+};
+
 /// Adds a path and an aggregator, as an UPDATE shows them.
 pub fn put_path(alloc: Global, page: &mut Page, info: PathInfo) -> Result<(), Trouble> {
     let mut attrs = no_attrs(alloc);
@@ -22,7 +31,7 @@ pub fn put_path(alloc: Global, page: &mut Page, info: PathInfo) -> Result<(), Tr
         attrs,
         nlri: List::new(alloc),
     };
-    page.put_update(alloc, &update)
+    page.put_update(alloc, &WIDE, &update)
 }
 
 /// What the view of an UPDATE gives.

@@ -2,8 +2,6 @@
 use Rattle.std.specs.Prelude.{ℕ, ◌/◌, ◌%◌, List, [], ◌∷◌, ◌++◌, slice_index, codes}
 use Rattle.std.specs.List.{flat_map}
 use Rattle.std.specs.Fmt.{decimal}
-use Rattle.bgp_update.specs.declared.attrs.Attrs.{Attrs}
-use Rattle.bgp_text.specs.Lines.{where_there}
 
 -- a community behind a space: its upper 16 bits, a colon, and its lower 16 bits
 abbrev pub community_text : ℕ → List ℕ
@@ -18,7 +16,3 @@ large_text c = codes " " ++ (decimal (slice_index c 0) ++ (codes ":" ++ (decimal
 
 abbrev pub large_line : List (List ℕ) → List ℕ
 large_line values = codes "  large" ++ (flat_map large_text values ++ 10 ∷ [])
-
--- both, where they are there
-abbrev pub community_lines : Attrs → List ℕ
-community_lines a = where_there (λ c. communities_line c.values) a.communities ++ where_there (λ c. large_line c.values) a.large

@@ -1,18 +1,17 @@
--- Attributes other than those that carry routes as JSON.
-use Rattle.std.specs.Prelude.{ℕ, ◌/◌, ◌%◌, Bool, true, false, List, [], ◌++◌, slice_index, codes}
+-- Attributes as JSON.
+use Rattle.std.specs.Prelude.{ℕ, ◌/◌, ◌%◌, true, List, [], ◌∷◌, ◌++◌, slice_index, codes}
 use Rattle.std.specs.Fmt.{decimal}
 use Rattle.bgp_attr.specs.declared.aggregator.Aggregator.{Aggregator}
-use Rattle.bgp_attr.specs.declared.communities.Communities.{Communities}
-use Rattle.bgp_attr.specs.declared.communities.LargeCommunities.{LargeCommunities}
+use Rattle.bgp_attr.specs.declared.attr.Attr.{Attr}
+use Rattle.bgp_attr.specs.declared.attr.Attr.TheVariants as attr
 use Rattle.bgp_attr.specs.declared.opaque.Opaque.{Opaque}
 use Rattle.bgp_attr.specs.declared.origin.Origin.{Origin}
-use Rattle.bgp_update.specs.declared.attrs.Attrs.{Attrs}
 use Rattle.bgp_names.specs.Attributes.{attribute_name}
 use Rattle.bgp_text.specs.AttributeLines.{origin_name}
 use Rattle.bgp_text.specs.Json.{quoted, octets_json, boolean, member, listed, where_named}
 use Rattle.bgp_text.specs.JsonAddress.{ip4_json}
+use Rattle.bgp_text.specs.JsonMp.{reach_json, unreach_json}
 use Rattle.bgp_text.specs.JsonPath.{path_json}
-use Rattle.bgp_text.specs.Lines.{where_there}
 
 abbrev pub origin_json : Origin → List ℕ
 origin_json o = quoted (origin_name o)
@@ -35,40 +34,23 @@ opaque_json o =
     codes "{\"type\":" ++ (decimal o.kind ++ (member (codes "transitive") boolean o.transitive ++ (member (codes "partial") boolean o.partial
     ++ (member (codes "value") octets_json o.value ++ (where_named (codes "name") (attribute_name o.kind) ++ codes "}")))))
 
--- ORIGIN, AS_PATH and NEXT_HOP, where they are there
-abbrev pub route_members : Attrs → List ℕ
-route_members a =
-    where_there (member (codes "origin") origin_json) a.origin ++ (where_there (member (codes "as_path") path_json) a.as_path
-    ++ where_there (member (codes "next_hop") ip4_json) a.next_hop)
+-- all attributes of types that aren't recognised: the list is always there
+abbrev pub others_member : List Opaque → List ℕ
+others_member others = member (codes "others") (listed opaque_json) others
 
--- ATOMIC_AGGREGATE, where it is there
-abbrev pub atomic_member : Bool → List ℕ
-atomic_member true = member (codes "atomic_aggregate") boolean true
-atomic_member false = []
-
--- MULTI_EXIT_DISC, LOCAL_PREF, ATOMIC_AGGREGATE and AGGREGATOR, where they are there
-abbrev pub choice_members : Attrs → List ℕ
-choice_members a =
-    where_there (member (codes "med") decimal) a.med ++ (where_there (member (codes "local_pref") decimal) a.local_pref
-    ++ (atomic_member a.atomic ++ where_there (member (codes "aggregator") aggregator_json) a.aggregator))
-
-abbrev pub communities_member : Communities → List ℕ
-communities_member c = member (codes "communities") (listed community_json) c.values
-
-abbrev pub large_member : LargeCommunities → List ℕ
-large_member c = member (codes "large_communities") (listed large_json) c.values
-
--- COMMUNITIES and LARGE_COMMUNITY, where they are there
-abbrev pub community_members : Attrs → List ℕ
-community_members a = where_there communities_member a.communities ++ where_there large_member a.large
-
--- AS4_PATH and AS4_AGGREGATOR, where they are there
-abbrev pub as4_members : Attrs → List ℕ
-as4_members a =
-    where_there (λ p. member (codes "as4_path") path_json p.path) a.as4_path
-    ++ where_there (member (codes "as4_aggregator") aggregator_json) a.as4_aggregator
-
--- all attributes but those that carry routes: the list of those that aren't recognised is always there
-abbrev pub attribute_members : Attrs → List ℕ
-attribute_members a =
-    route_members a ++ (choice_members a ++ (community_members a ++ (as4_members a ++ member (codes "others") (listed opaque_json) a.others)))
+-- an attribute as a member of an object; one that isn't recognised as a list by itself
+unfoldable pub attribute_member : Attr → List ℕ
+attribute_member (attr.Origin o) = member (codes "origin") origin_json o
+attribute_member (attr.AsPath p) = member (codes "as_path") path_json p
+attribute_member (attr.NextHop addr) = member (codes "next_hop") ip4_json addr
+attribute_member (attr.Med n) = member (codes "med") decimal n
+attribute_member (attr.LocalPref n) = member (codes "local_pref") decimal n
+attribute_member attr.Atomic = member (codes "atomic_aggregate") boolean true
+attribute_member (attr.Aggregator a) = member (codes "aggregator") aggregator_json a
+attribute_member (attr.Communities c) = member (codes "communities") (listed community_json) c.values
+attribute_member (attr.MpReach r) = member (codes "mp_reach") reach_json r
+attribute_member (attr.MpUnreach r) = member (codes "mp_unreach") unreach_json r
+attribute_member (attr.As4Path p) = member (codes "as4_path") path_json p.path
+attribute_member (attr.As4Aggregator a) = member (codes "as4_aggregator") aggregator_json a
+attribute_member (attr.Large c) = member (codes "large_communities") (listed large_json) c.values
+attribute_member (attr.Opaque o) = others_member (o ∷ [])

@@ -7,7 +7,6 @@ use Rattle.bgp_attr.specs.declared.mp.MpReach.{MpReach}
 use Rattle.bgp_attr.specs.declared.mp.MpReach.TheVariants as reach
 use Rattle.bgp_attr.specs.declared.mp.MpUnreach.{MpUnreach}
 use Rattle.bgp_attr.specs.declared.mp.MpUnreach.TheVariants as unreach
-use Rattle.bgp_update.specs.declared.attrs.Attrs.{Attrs}
 use Rattle.bgp_text.specs.Json.{member, listed}
 use Rattle.bgp_text.specs.JsonAddress.{ip4_json, ip6_json, prefix4_json, prefix6_json}
 use Rattle.bgp_text.specs.Lines.{where_there}
@@ -27,7 +26,3 @@ reach_json (reach.Ip6 hop link routes) =
 unfoldable pub unreach_json : MpUnreach → List ℕ
 unreach_json (unreach.Ip4 routes) = family_json IPV4 ++ (member (codes "withdrawn") (listed prefix4_json) routes ++ codes "}")
 unreach_json (unreach.Ip6 routes) = family_json IPV6 ++ (member (codes "withdrawn") (listed prefix6_json) routes ++ codes "}")
-
--- the attributes that carry routes, where they are there
-abbrev pub mp_members : Attrs → List ℕ
-mp_members a = where_there (member (codes "mp_reach") reach_json) a.mp_reach ++ where_there (member (codes "mp_unreach") unreach_json) a.mp_unreach

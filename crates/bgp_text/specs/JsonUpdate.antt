@@ -4,14 +4,20 @@ use Rattle.bgp_update.specs.declared.routes.Routes.{Routes}
 use Rattle.bgp_update.specs.declared.update.Update.{Update}
 use Rattle.bgp_text.specs.Json.{member, listed}
 use Rattle.bgp_text.specs.JsonAddress.{prefix4_json, prefix6_json}
-use Rattle.bgp_text.specs.JsonAttributes.{attribute_members}
-use Rattle.bgp_text.specs.JsonMp.{mp_members}
+use Rattle.bgp_text.specs.JsonAttributes.{attribute_member, others_member}
+use Rattle.bgp_text.specs.Members.{Shown, printed}
 
--- Withdrawn Routes, the attributes that carry routes, the other ones, and the NLRI field
+-- how each member of an UPDATE is printed: the lists of routes, and of what isn't recognised, are always there
+abbrev pub in_json : Shown
+in_json = record {
+  withdrawn = member (codes "withdrawn") (listed prefix4_json);
+  attribute = attribute_member;
+  others = others_member;
+  nlri = member (codes "nlri") (listed prefix4_json);
+}
+
 abbrev pub update_members : Update → List ℕ
-update_members u =
-    member (codes "withdrawn") (listed prefix4_json) u.withdrawn
-    ++ (mp_members u.attrs ++ (attribute_members u.attrs ++ member (codes "nlri") (listed prefix4_json) u.nlri))
+update_members u = printed in_json u
 
 -- all routes in one list, IPv4 first
 unfoldable pub routes_json : Routes → List ℕ

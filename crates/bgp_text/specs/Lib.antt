@@ -8,6 +8,7 @@ pub mod FieldValues
 pub mod Sections
 pub mod FieldLines
 pub mod Lines
+pub mod Members
 pub mod MpLines
 pub mod PathLine
 pub mod CommunityLines

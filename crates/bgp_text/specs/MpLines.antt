@@ -6,8 +6,7 @@ use Rattle.bgp_attr.specs.declared.mp.MpReach.{MpReach}
 use Rattle.bgp_attr.specs.declared.mp.MpReach.TheVariants as reach
 use Rattle.bgp_attr.specs.declared.mp.MpUnreach.{MpUnreach}
 use Rattle.bgp_attr.specs.declared.mp.MpUnreach.TheVariants as unreach
-use Rattle.bgp_update.specs.declared.attrs.Attrs.{Attrs}
-use Rattle.bgp_text.specs.Lines.{line_of, where_there}
+use Rattle.bgp_text.specs.Lines.{line_of}
 
 abbrev pub ip4_next_line : List ℕ → List ℕ
 ip4_next_line next_hop = codes "  mp_reach ip4 next " ++ (ipv4_address_text next_hop ++ 10 ∷ [])
@@ -28,7 +27,3 @@ family_line family = codes "  mp_unreach " ++ (family ++ 10 ∷ [])
 abbrev pub unreach_lines : MpUnreach → List ℕ
 unreach_lines (unreach.Ip4 routes) = family_line (codes "ip4") ++ flat_map (line_of (codes "  mp_withdrawn ") ipv4_text) routes
 unreach_lines (unreach.Ip6 routes) = family_line (codes "ip6") ++ flat_map (line_of (codes "  mp_withdrawn ") ipv6_text) routes
-
--- the attributes that carry routes, where they are there
-abbrev pub mp_lines : Attrs → List ℕ
-mp_lines a = where_there reach_lines a.mp_reach ++ where_there unreach_lines a.mp_unreach

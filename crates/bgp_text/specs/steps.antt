@@ -1,4 +1,3 @@
 -- What only private functions cite: steps of proofs, which nobody has to believe.
 pub mod Digits
-pub mod Slots
 pub mod Rows

@@ -1,14 +1,14 @@
 //! The lines of COMMUNITIES and LARGE_COMMUNITY.
 
 ghost use Rattle.std.specs.Prelude.{◌≡◌, ◌++◌, OnOk};
-ghost use Rattle.std.specs.List.{flat_map};
 ghost use Rattle.std.specs.String.{string_bytes};
-ghost use Rattle.bgp_text.specs.CommunityLines.{community_text, communities_line, large_text, large_line, community_lines};
+ghost use Rattle.bgp_attr.specs.LargeIter.{triples_left};
+ghost use Rattle.bgp_attr.specs.NumberIter.{communities_left};
+ghost use Rattle.bgp_text.specs.CommunityLines.{communities_line, large_line};
 
 use crate::short::{Short, put_row};
-use crate::source::Source;
 use crate::word::Word;
-use bgp_update::Attrs;
+use bgp_attr::{CommIter, LargeCommIter};
 use std::alloc::AllocError;
 
 /// A community: behind a space its upper and its lower 16 bits.
@@ -43,11 +43,11 @@ impl Short for [u32; 3] {
 }
 
 /// Adds the line of communities.
-pub(crate) fn put_communities<S: Source<Item = u32>>(
+pub(crate) fn put_communities(
     text: &mut String,
-    communities: S,
+    communities: CommIter<'_>,
 ) -> Result<(), AllocError>
-    ensures { OnOk result (string_bytes text.new ≡ string_bytes text.old ++ communities_line (S.left communities)) }
+    ensures { OnOk result (string_bytes text.new ≡ string_bytes text.old ++ communities_line (communities_left communities.entry)) }
 {
     text.push_str("  communities")?;
     put_row(text, communities)?;
@@ -55,26 +55,10 @@ pub(crate) fn put_communities<S: Source<Item = u32>>(
 }
 
 /// Adds the line of large communities.
-pub(crate) fn put_large<S: Source<Item = [u32; 3]>>(
-    text: &mut String,
-    communities: S,
-) -> Result<(), AllocError>
-    ensures { OnOk result (string_bytes text.new ≡ string_bytes text.old ++ large_line (S.left communities)) }
+pub(crate) fn put_large(text: &mut String, communities: LargeCommIter<'_>) -> Result<(), AllocError>
+    ensures { OnOk result (string_bytes text.new ≡ string_bytes text.old ++ large_line (triples_left communities.entry)) }
 {
     text.push_str("  large")?;
     put_row(text, communities)?;
     text.push_str("\n")
-}
-
-/// Adds the lines of both, where they are there.
-pub(crate) fn put_community_lines(text: &mut String, attrs: &Attrs) -> Result<(), AllocError>
-    ensures { OnOk result (string_bytes text.new ≡ string_bytes text.old ++ community_lines attrs.now) }
-{
-    if let Some(communities) = &attrs.communities {
-        put_communities(text, communities.values.as_slice())?;
-    }
-    if let Some(large) = &attrs.large {
-        put_large(text, large.values.as_slice())?;
-    }
-    Ok(())
 }

@@ -6,7 +6,7 @@ ghost use Rattle.bgp_msg.specs.OutcomeView.{outcome_value};
 ghost use Rattle.bgp_text.specs.Explained.{explained_fields, explained_lines};
 
 use crate::field_lines::{put_faulty_fields, put_noted_fields, put_plain_fields};
-use crate::viewed_outcome::put_viewed_outcome;
+use crate::outcome_lines::put_viewed_outcome;
 use bgp_fields::{FieldIter, Span};
 use bgp_msg::OutcomeView;
 use bgp_open::Context;

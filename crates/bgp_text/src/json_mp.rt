@@ -1,6 +1,6 @@
 //! MP_REACH_NLRI and MP_UNREACH_NLRI as JSON.
 
-ghost use Rattle.std.specs.Prelude.{◌≡◌, ◌++◌, codes, option_map, OnOk};
+ghost use Rattle.std.specs.Prelude.{◌≡◌, ◌++◌, codes, OnOk};
 ghost use Rattle.std.specs.String.{string_bytes};
 ghost use Rattle.bgp_attr.specs.declared.mp.MpReach.TheVariants as reach;
 ghost use Rattle.bgp_attr.specs.declared.mp.MpUnreach.TheVariants as unreach;
@@ -8,14 +8,12 @@ ghost use Rattle.bgp_attr.specs.MpView.{reach_value, unreach_value};
 ghost use Rattle.bgp_prefix.specs.PrefixIter.{prefixes_left};
 ghost use Rattle.bgp_text.specs.Json.{member};
 ghost use Rattle.bgp_text.specs.JsonAddress.{ip6_json};
-ghost use Rattle.bgp_text.specs.JsonMp.{family_json, reach_json, unreach_json, mp_members};
+ghost use Rattle.bgp_text.specs.JsonMp.{family_json, reach_json, unreach_json};
 ghost use Rattle.bgp_text.specs.Lines.{where_there};
-ghost use Rattle.bgp_text.specs.steps.Slots.{slots_value};
 
 use crate::json::{put_decimal, put_name, put_number_member};
 use crate::json_addresses::{put_ip4_member, put_ip6_member};
 use crate::json_list::put_list_member;
-use crate::slots::Slots;
 use bgp_attr::{MpReachView, MpUnreachView};
 use bgp_numbers::{afi, safi};
 use bgp_prefix::{PrefixIter4, PrefixIter6};
@@ -74,9 +72,10 @@ fn put_ip6_reach(
 }
 
 /// Adds MP_REACH_NLRI.
-fn put_reach(text: &mut String, reach: MpReachView<'_>) -> Result<(), AllocError>
-    ensures { OnOk result (string_bytes text.new ≡ string_bytes text.old ++ reach_json (reach_value reach.entry)) }
+pub(crate) fn put_reach(text: &mut String, reach: MpReachView<'_>) -> Result<(), AllocError>
+    ensures { OnOk result (string_bytes text.new ≡ string_bytes text.old ++ member (codes "mp_reach") reach_json (reach_value reach.entry)) }
 {
+    put_name(text, "mp_reach")?;
     match reach {
         MpReachView::Ip4 { next_hop, nlri } => put_ip4_reach(text, next_hop, nlri),
         MpReachView::Ip6 {
@@ -108,48 +107,12 @@ fn put_ip6_unreach(text: &mut String, routes: PrefixIter6<'_>) -> Result<(), All
 }
 
 /// Adds MP_UNREACH_NLRI.
-fn put_unreach(text: &mut String, unreach: MpUnreachView<'_>) -> Result<(), AllocError>
-    ensures { OnOk result (string_bytes text.new ≡ string_bytes text.old ++ unreach_json (unreach_value unreach.entry)) }
+pub(crate) fn put_unreach(text: &mut String, unreach: MpUnreachView<'_>) -> Result<(), AllocError>
+    ensures { OnOk result (string_bytes text.new ≡ string_bytes text.old ++ member (codes "mp_unreach") unreach_json (unreach_value unreach.entry)) }
 {
+    put_name(text, "mp_unreach")?;
     match unreach {
         MpUnreachView::Ip4(routes) => put_ip4_unreach(text, routes),
         MpUnreachView::Ip6(routes) => put_ip6_unreach(text, routes),
     }
-}
-
-/// Adds the member MP_REACH_NLRI, where it is there.
-fn put_reach_member(text: &mut String, reach: Option<MpReachView<'_>>) -> Result<(), AllocError>
-    ensures { OnOk result (string_bytes text.new ≡ string_bytes text.old ++ where_there (member (codes "mp_reach") reach_json) (option_map reach_value reach.entry)) }
-{
-    match reach {
-        None => Ok(()),
-        Some(reach) => {
-            put_name(text, "mp_reach")?;
-            put_reach(text, reach)
-        }
-    }
-}
-
-/// Adds the member MP_UNREACH_NLRI, where it is there.
-fn put_unreach_member(
-    text: &mut String,
-    unreach: Option<MpUnreachView<'_>>,
-) -> Result<(), AllocError>
-    ensures { OnOk result (string_bytes text.new ≡ string_bytes text.old ++ where_there (member (codes "mp_unreach") unreach_json) (option_map unreach_value unreach.entry)) }
-{
-    match unreach {
-        None => Ok(()),
-        Some(unreach) => {
-            put_name(text, "mp_unreach")?;
-            put_unreach(text, unreach)
-        }
-    }
-}
-
-/// Adds the attributes that carry routes, where they are there.
-pub(crate) fn put_mp_members(text: &mut String, slots: &Slots<'_>) -> Result<(), AllocError>
-    ensures { OnOk result (string_bytes text.new ≡ string_bytes text.old ++ mp_members (slots_value slots.now)) }
-{
-    put_reach_member(text, slots.kept.reach)?;
-    put_unreach_member(text, slots.kept.unreach)
 }

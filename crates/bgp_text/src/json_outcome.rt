@@ -16,7 +16,8 @@ use crate::json::{
 };
 use crate::json_notes::put_notes_member;
 use crate::json_open::put_open_members;
-use crate::json_update::{put_routes_member, put_update_members};
+use crate::json_update::{Json, put_routes_member};
+use crate::members::put_members;
 use crate::outcome_lines::reset_name;
 use crate::short::{Decimal, put_one};
 use crate::shutdown::shutdown_text;
@@ -108,7 +109,7 @@ fn put_taken(
     ensures { OnOk result (string_bytes text.new ≡ string_bytes text.old ++ took_json place len (message.Update (update_value view.now)) (notes_value view.now)) }
 {
     put_judged(text, place, len, "UPDATE", "take")?;
-    put_update_members(alloc, text, view)?;
+    put_members::<Json>(alloc, text, view)?;
     put_notes_member(text, view)?;
     put_line_end(text)
 }

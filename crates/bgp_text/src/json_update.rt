@@ -3,32 +3,52 @@
 ghost use Rattle.std.specs.Prelude.{◌≡◌, ◌++◌, codes, map, OnOk};
 ghost use Rattle.std.specs.List.{flat_map};
 ghost use Rattle.std.specs.String.{string_bytes};
-ghost use Rattle.bgp_update.specs.View.{update_value, routes_value};
+ghost use Rattle.bgp_update.specs.View.{routes_value};
 ghost use Rattle.bgp_text.specs.Json.{member, behind_comma, joined};
 ghost use Rattle.bgp_text.specs.JsonAddress.{prefix4_json, prefix6_json};
-ghost use Rattle.bgp_text.specs.JsonUpdate.{update_members, routes_json};
+ghost use Rattle.bgp_text.specs.JsonUpdate.{routes_json};
 
 use crate::json::put_name;
-use crate::json_attributes::put_attribute_members;
+use crate::json_attributes::{put_attribute, put_others};
 use crate::json_list::{put_further, put_joined, put_list_member};
-use crate::json_mp::put_mp_members;
-use crate::slots::Slots;
+use crate::members::Form;
+use bgp_attr::{AttrView, OpaqueView};
+use bgp_prefix::PrefixIter4;
 use bgp_update::{Routes, UpdateView};
 use std::alloc::{AllocError, Global};
 
-/// Adds the members of an UPDATE.
-pub(crate) fn put_update_members(
-    alloc: Global,
-    text: &mut String,
-    view: &UpdateView<'_>,
-) -> Result<(), AllocError>
-    ensures { OnOk result (string_bytes text.new ≡ string_bytes text.old ++ update_members (update_value view.now)) }
-{
-    let slots = Slots::of(alloc, view)?;
-    put_list_member(text, "withdrawn", view.withdrawn())?;
-    put_mp_members(text, &slots)?;
-    put_attribute_members(text, &slots)?;
-    put_list_member(text, "nlri", view.nlri())
+/// Members of an object of JSON.
+pub(crate) struct Json;
+
+impl Form for Json {
+    ghost use Rattle.bgp_text.specs.JsonUpdate.{in_json};
+
+    ghost shown = { in_json };
+
+    fn put_withdrawn(text: &mut String, routes: PrefixIter4<'_>) -> Result<(), AllocError> {
+        put_list_member(text, "withdrawn", routes)
+    }
+
+    #[inline(always)]
+    fn put_attribute(
+        _alloc: Global,
+        text: &mut String,
+        attr: &AttrView<'_>,
+    ) -> Result<(), AllocError> {
+        put_attribute(text, attr)
+    }
+
+    fn put_others(
+        _alloc: Global,
+        text: &mut String,
+        others: &[OpaqueView<'_>],
+    ) -> Result<(), AllocError> {
+        put_others(text, others)
+    }
+
+    fn put_nlri(text: &mut String, routes: PrefixIter4<'_>) -> Result<(), AllocError> {
+        put_list_member(text, "nlri", routes)
+    }
 }
 
 /// Adds routes of both families, IPv4 first, with commas between them.

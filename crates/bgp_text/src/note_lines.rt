@@ -3,11 +3,11 @@
 ghost use Rattle.std.specs.Prelude.{◌≡◌, ◌++◌, OnOk};
 ghost use Rattle.std.specs.List.{flat_map};
 ghost use Rattle.std.specs.String.{string_bytes};
+ghost use Rattle.bgp_update.specs.View.{notes_value};
 ghost use Rattle.bgp_text.specs.NoteLines.{why_name, note_line};
 
-use crate::source::Source;
 use bgp_attr::Why;
-use bgp_update::Note;
+use bgp_update::{Note, UpdateView};
 use std::alloc::AllocError;
 
 /// The name of a reason, as notes are printed.
@@ -42,15 +42,12 @@ fn put_note(text: &mut String, note: Note) -> Result<(), AllocError>
     write!(text, "  note {at} {kind} {why}\n")
 }
 
-/// Adds the lines of notes.
-pub(crate) fn put_notes<S: Source<Item = Note>>(
-    text: &mut String,
-    notes: S,
-) -> Result<(), AllocError>
-    ensures { OnOk result (string_bytes text.new ≡ string_bytes text.old ++ flat_map note_line (S.left notes)) }
+/// Adds the lines of the notes on an UPDATE.
+pub(crate) fn put_notes(text: &mut String, view: &UpdateView<'_>) -> Result<(), AllocError>
+    ensures { OnOk result (string_bytes text.new ≡ string_bytes text.old ++ flat_map note_line (notes_value view.now)) }
 {
-    let mut left = notes;
-    'row: while let Some(note) = left.step() {
+    let mut left = view.notes();
+    'row: while let Some(note) = left.next() {
         put_note(text, note)?;
     }
     Ok(())

@@ -1,45 +1,105 @@
-//! The details of an UPDATE, and the routes of one that is treated as a withdrawal.
+//! The lines of an UPDATE, and of routes that are withdrawn.
 
-ghost use Rattle.std.specs.Prelude.{◌≡◌, ◌++◌, OnOk};
+ghost use Rattle.std.specs.Prelude.{◌≡◌, ◌++◌, option_map, codes, OnOk};
+ghost use Rattle.std.specs.List.{flat_map};
 ghost use Rattle.std.specs.String.{string_bytes};
-ghost use Rattle.bgp_text.specs.UpdateLines.{attribute_lines, update_lines, routes_lines};
+ghost use Rattle.bgp_attr.specs.MpView.{reach_value, unreach_value};
+ghost use Rattle.bgp_prefix.specs.Text.{ipv4_text, ipv6_text};
+ghost use Rattle.bgp_update.specs.Notes.{gone_ip4, gone_ip6, reached_ip4, reached_ip6};
+ghost use Rattle.bgp_update.specs.View.{routes_value};
+ghost use Rattle.bgp_text.specs.Lines.{line_of};
+ghost use Rattle.bgp_text.specs.UpdateLines.{routes_lines};
 
-use crate::attribute_lines::{put_as4_lines, put_choice_lines, put_others, put_route_lines};
-use crate::community_lines::put_community_lines;
-use crate::mp_lines::put_mp;
+use crate::attribute_lines::{put_attribute, put_others};
+use crate::members::Form;
 use crate::short::put_lines;
-use bgp_update::{Attrs, Routes, Update};
+use bgp_attr::{AttrView, MpReachView, MpUnreachView, OpaqueView};
+use bgp_prefix::PrefixIter4;
+use bgp_update::UpdateView;
 use std::alloc::{AllocError, Global};
 
-/// Adds the lines of all attributes but those that carry routes.
-fn put_attributes(alloc: Global, text: &mut String, attrs: &Attrs) -> Result<(), AllocError>
-    ensures { OnOk result (string_bytes text.new ≡ string_bytes text.old ++ attribute_lines attrs.now) }
-{
-    put_route_lines(text, attrs)?;
-    put_choice_lines(text, attrs)?;
-    put_community_lines(text, attrs)?;
-    put_as4_lines(text, attrs)?;
-    put_others(alloc, text, &attrs.others)
+/// Lines of text.
+pub(crate) struct Lines;
+
+impl Form for Lines {
+    ghost use Rattle.bgp_text.specs.UpdateLines.{in_lines};
+
+    ghost shown = { in_lines };
+
+    #[inline(always)]
+    fn put_withdrawn(text: &mut String, routes: PrefixIter4<'_>) -> Result<(), AllocError> {
+        put_lines(text, "  withdrawn ", routes)
+    }
+
+    #[inline(always)]
+    fn put_attribute(
+        alloc: Global,
+        text: &mut String,
+        attr: &AttrView<'_>,
+    ) -> Result<(), AllocError> {
+        put_attribute(alloc, text, attr)
+    }
+
+    fn put_others(
+        alloc: Global,
+        text: &mut String,
+        others: &[OpaqueView<'_>],
+    ) -> Result<(), AllocError> {
+        put_others(alloc, text, others)
+    }
+
+    #[inline(always)]
+    fn put_nlri(text: &mut String, routes: PrefixIter4<'_>) -> Result<(), AllocError> {
+        put_lines(text, "  nlri ", routes)
+    }
 }
 
-/// Adds the details of an UPDATE.
-pub(crate) fn put_update(
-    alloc: Global,
+/// The IPv4 routes of attributes.
+fn put_ip4_routes(
     text: &mut String,
-    update: &Update,
+    unreach: Option<MpUnreachView<'_>>,
+    reach: Option<MpReachView<'_>>,
 ) -> Result<(), AllocError>
-    ensures { OnOk result (string_bytes text.new ≡ string_bytes text.old ++ update_lines update.now) }
+    ensures { OnOk result (string_bytes text.new ≡ string_bytes text.old
+        ++ (flat_map (line_of (codes "  route ") ipv4_text) (gone_ip4 (option_map unreach_value unreach.entry))
+        ++ flat_map (line_of (codes "  route ") ipv4_text) (reached_ip4 (option_map reach_value reach.entry)))) }
 {
-    put_lines(text, "  withdrawn ", update.withdrawn.as_slice())?;
-    put_mp(text, &update.attrs)?;
-    put_attributes(alloc, text, &update.attrs)?;
-    put_lines(text, "  nlri ", update.nlri.as_slice())
+    if let Some(MpUnreachView::Ip4(routes)) = unreach {
+        put_lines(text, "  route ", routes)?;
+    }
+    if let Some(MpReachView::Ip4 { nlri, .. }) = reach {
+        put_lines(text, "  route ", nlri)?;
+    }
+    Ok(())
 }
 
-/// Adds a line for each route of an UPDATE that is treated as a withdrawal.
-pub(crate) fn put_routes(text: &mut String, routes: &Routes) -> Result<(), AllocError>
-    ensures { OnOk result (string_bytes text.new ≡ string_bytes text.old ++ routes_lines routes.now) }
+/// The IPv6 routes of attributes.
+fn put_ip6_routes(
+    text: &mut String,
+    unreach: Option<MpUnreachView<'_>>,
+    reach: Option<MpReachView<'_>>,
+) -> Result<(), AllocError>
+    ensures { OnOk result (string_bytes text.new ≡ string_bytes text.old
+        ++ (flat_map (line_of (codes "  route ") ipv6_text) (gone_ip6 (option_map unreach_value unreach.entry))
+        ++ flat_map (line_of (codes "  route ") ipv6_text) (reached_ip6 (option_map reach_value reach.entry)))) }
 {
-    put_lines(text, "  route ", routes.ip4.as_slice())?;
-    put_lines(text, "  route ", routes.ip6.as_slice())
+    if let Some(MpUnreachView::Ip6(routes)) = unreach {
+        put_lines(text, "  route ", routes)?;
+    }
+    if let Some(MpReachView::Ip6 { nlri, .. }) = reach {
+        put_lines(text, "  route ", nlri)?;
+    }
+    Ok(())
+}
+
+/// Adds a line for each route that is withdrawn.
+pub(crate) fn put_routes(text: &mut String, view: &UpdateView<'_>) -> Result<(), AllocError>
+    ensures { OnOk result (string_bytes text.new ≡ string_bytes text.old ++ routes_lines (routes_value view.now)) }
+{
+    let unreach = view.unreach();
+    let reach = view.reach();
+    put_lines(text, "  route ", view.withdrawn())?;
+    put_ip4_routes(text, unreach, reach)?;
+    put_lines(text, "  route ", view.nlri())?;
+    put_ip6_routes(text, unreach, reach)
 }

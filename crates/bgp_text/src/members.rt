@@ -1,0 +1,132 @@
+//! The members of an UPDATE, in one order for each form in which they are printed.
+
+ghost use Rattle.std.specs.Prelude.{◌≡◌, ◌++◌, OnOk};
+ghost use Rattle.std.specs.List.{flat_map};
+ghost use Rattle.std.specs.String.{string_bytes};
+ghost use Rattle.bgp_attr.specs.AttrView.{attr_value};
+ghost use Rattle.bgp_update.specs.KeptView.{known_value};
+ghost use Rattle.bgp_update.specs.Slots.{present, slot};
+ghost use Rattle.bgp_update.specs.View.{update_value};
+ghost use Rattle.bgp_text.specs.Members.{printed, printed_attributes};
+
+use bgp_attr::{AttrView, OpaqueView};
+use bgp_numbers::attribute;
+use bgp_prefix::PrefixIter4;
+use bgp_update::{KeptView, UpdateView};
+use std::alloc::{AllocError, Global};
+
+/// A form in which the members of an UPDATE are printed.
+pub(crate) trait Form {
+    ghost use Rattle.std.specs.Prelude.{◌≡◌, ◌++◌, map, OnOk};
+    ghost use Rattle.std.specs.String.{string_bytes};
+    ghost use Rattle.bgp_attr.specs.AttrView.{attr_value, opaque_value};
+    ghost use Rattle.bgp_prefix.specs.PrefixIter.{prefixes_left};
+    ghost use Rattle.bgp_text.specs.Members.{Shown};
+
+    /// How each member is printed.
+    ghost shown: { Shown };
+
+    /// Adds the Withdrawn Routes.
+    fn put_withdrawn(text: &mut String, routes: PrefixIter4<'_>) -> Result<(), AllocError>
+        ensures { OnOk result (string_bytes text.new ≡ string_bytes text.old ++ shown.withdrawn (prefixes_left routes.entry)) };
+
+    /// Adds an attribute of a recognised type.
+    fn put_attribute(
+        alloc: Global,
+        text: &mut String,
+        attr: &AttrView<'_>,
+    ) -> Result<(), AllocError>
+        ensures { OnOk result (string_bytes text.new ≡ string_bytes text.old ++ shown.attribute (attr_value attr.now)) };
+
+    /// Adds the attributes of all other types.
+    fn put_others(
+        alloc: Global,
+        text: &mut String,
+        others: &[OpaqueView<'_>],
+    ) -> Result<(), AllocError>
+        ensures { OnOk result (string_bytes text.new ≡ string_bytes text.old ++ shown.others (map opaque_value others.now)) };
+
+    /// Adds the NLRI field.
+    fn put_nlri(text: &mut String, routes: PrefixIter4<'_>) -> Result<(), AllocError>
+        ensures { OnOk result (string_bytes text.new ≡ string_bytes text.old ++ shown.nlri (prefixes_left routes.entry)) };
+}
+
+/// The attribute of a recognised type.
+#[tactic(auto, unfolding(bgp_update::specs::Slots::slot))]
+#[inline(always)]
+fn slot<'a>(kept: &KeptView<'a>, kind: u8) -> Option<AttrView<'a>>
+    ensures { present attr_value result ≡ slot (known_value kept.now) kind }
+{
+    match kind {
+        attribute::ORIGIN => Some(AttrView::Origin(kept.origin?)),
+        attribute::AS_PATH => Some(AttrView::AsPath(kept.as_path?)),
+        attribute::NEXT_HOP => Some(AttrView::NextHop(kept.next_hop?)),
+        attribute::MULTI_EXIT_DISC => Some(AttrView::Med(kept.med?)),
+        attribute::LOCAL_PREF => Some(AttrView::LocalPref(kept.local_pref?)),
+        attribute::ATOMIC_AGGREGATE if kept.atomic => Some(AttrView::Atomic),
+        attribute::ATOMIC_AGGREGATE => None,
+        attribute::AGGREGATOR => Some(AttrView::Aggregator(kept.aggregator?)),
+        attribute::COMMUNITIES => Some(AttrView::Communities(kept.communities?)),
+        attribute::MP_REACH_NLRI => Some(AttrView::MpReach(kept.reach?)),
+        attribute::MP_UNREACH_NLRI => Some(AttrView::MpUnreach(kept.unreach?)),
+        attribute::AS4_PATH => Some(AttrView::As4Path(kept.as4_path?)),
+        attribute::AS4_AGGREGATOR => Some(AttrView::As4Aggregator(kept.as4_aggregator?)),
+        attribute::LARGE_COMMUNITY => Some(AttrView::Large(kept.large?)),
+        _ => None,
+    }
+}
+
+/// Adds the attribute of a recognised type, where it is there.
+#[inline(always)]
+fn put_slot<F: Form>(
+    alloc: Global,
+    text: &mut String,
+    kept: &KeptView<'_>,
+    kind: u8,
+) -> Result<(), AllocError>
+    ensures { OnOk result (string_bytes text.new ≡ string_bytes text.old ++ flat_map F.shown.attribute (slot (known_value kept.now) kind)) }
+{
+    match slot(kept, kind) {
+        None => Ok(()),
+        Some(attr) => F::put_attribute(alloc, text, &attr),
+    }
+}
+
+/// Adds the attributes of recognised types.
+#[tactic(auto, unfolding(crate::specs::Members::printed_attributes))]
+fn put_attributes<F: Form>(
+    alloc: Global,
+    text: &mut String,
+    kept: &KeptView<'_>,
+) -> Result<(), AllocError>
+    ensures { OnOk result (string_bytes text.new ≡ string_bytes text.old ++ printed_attributes F.shown.attribute (known_value kept.now)) }
+{
+    put_slot::<F>(alloc, text, kept, attribute::MP_REACH_NLRI)?;
+    put_slot::<F>(alloc, text, kept, attribute::MP_UNREACH_NLRI)?;
+    put_slot::<F>(alloc, text, kept, attribute::ORIGIN)?;
+    put_slot::<F>(alloc, text, kept, attribute::AS_PATH)?;
+    put_slot::<F>(alloc, text, kept, attribute::NEXT_HOP)?;
+    put_slot::<F>(alloc, text, kept, attribute::MULTI_EXIT_DISC)?;
+    put_slot::<F>(alloc, text, kept, attribute::LOCAL_PREF)?;
+    put_slot::<F>(alloc, text, kept, attribute::ATOMIC_AGGREGATE)?;
+    put_slot::<F>(alloc, text, kept, attribute::AGGREGATOR)?;
+    put_slot::<F>(alloc, text, kept, attribute::COMMUNITIES)?;
+    put_slot::<F>(alloc, text, kept, attribute::LARGE_COMMUNITY)?;
+    put_slot::<F>(alloc, text, kept, attribute::AS4_PATH)?;
+    put_slot::<F>(alloc, text, kept, attribute::AS4_AGGREGATOR)
+}
+
+/// Adds the members of an UPDATE.
+pub(crate) fn put_members<F: Form>(
+    alloc: Global,
+    text: &mut String,
+    view: &UpdateView<'_>,
+) -> Result<(), AllocError>
+    ensures { OnOk result (string_bytes text.new ≡ string_bytes text.old ++ printed F.shown (update_value view.now)) }
+{
+    let others = view.others(alloc)?;
+    F::put_withdrawn(text, view.withdrawn())?;
+    put_attributes::<F>(alloc, text, view.kept())?;
+    F::put_others(alloc, text, others.as_slice())?;
+    F::put_nlri(text, view.nlri())
+}
