@@ -314,10 +314,10 @@ impl<'a> Server<'a> {
         let mut events = Events::with_capacity(self.rt.alloc(), EVENTS)?;
         self.log.listens(self.listener.local_addr()?)?;
         for _turn in 0..u64::MAX {
-            self.accept()?;
-            let is_busy = self.work()? || self.has_guests && !self.has_begun_all();
             let now = Instant::now(self.rt)?;
             self.tick(now)?;
+            self.accept()?;
+            let is_busy = self.work()? || self.has_guests && !self.has_begun_all();
             if self.is_over() {
                 break;
             }

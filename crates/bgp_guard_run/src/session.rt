@@ -167,7 +167,6 @@ impl Session {
         }
         self.outer.tick();
         self.inner.tick();
-        self.send();
     }
 
     /// Whether there may be more to do before an event or the next second.
