@@ -7,9 +7,9 @@ use bgp_guard::{Came, DRAIN_SECONDS, Guard, Side};
 use mio::event::Event;
 use mio::net::TcpStream;
 use std::alloc::{AllocError, Global};
+use std::io;
 use std::io::{ErrorKind, Read, Write};
 use std::net::Shutdown;
-use std::io;
 
 /// How many octets are read at once.
 const PIECE: usize = 16384;
@@ -35,7 +35,7 @@ enum Phase {
 #[derive(Drop)]
 enum Brought {
     /// Octets.
-    Some,
+    Octets,
     /// None by now.
     Nothing,
     /// The side closed the connection.
@@ -213,7 +213,7 @@ impl Connection {
             Ok(count) => {
                 self.start = 0;
                 self.end = count;
-                Brought::Some
+                Brought::Octets
             }
             Err(error) => match error.kind() {
                 ErrorKind::WouldBlock => {
@@ -243,7 +243,7 @@ impl Connection {
         }
         if self.rest().is_empty() && self.readable {
             match self.read() {
-                Brought::Some | Brought::Nothing => {}
+                Brought::Octets | Brought::Nothing => {}
                 Brought::End => return Ok(self.lose(guard, Why::Closed(self.side))),
                 Brought::Fault(error) => {
                     return Ok(self.lose(guard, Why::Lost(self.side, error)));

@@ -50,11 +50,7 @@ impl fmt::Display for Counts {
         write!(
             f,
             "up {up} begun {} ended {} messages {} changed {} answered {}",
-            self.begun,
-            self.ended,
-            self.messages,
-            self.changed,
-            self.answered
+            self.begun, self.ended, self.messages, self.changed, self.answered
         )?;
         write!(
             f,

@@ -50,7 +50,7 @@ impl<'a> Log<'a> {
         println!(self.rt; "listen {address}")
     }
 
-    /// A session begins: who connected is connected through.
+    /// A session begins, with who connected and who is connected to.
     pub(crate) fn begins(&mut self, name: Name) -> io::Result<()> {
         count(&mut self.counts.begun);
         let Name {
@@ -119,7 +119,7 @@ impl<'a> Log<'a> {
         self.stranger = Some(from);
     }
 
-    /// A fault that ends no more than a connection. That it can't be told has no effect.
+    /// Tells a fault that ends a connection at most. That it can't be told has no effect.
     pub(crate) fn fails(&self, error: &io::Error) {
         let _ = eprintln!(self.rt; "bgp_guard_run: {error}");
     }

@@ -72,7 +72,9 @@ fn address(alloc: Global, found: &ArgMatches<'_>, name: &str) -> Result<SocketAd
     match found.get_str(name).unwrap_or("").parse::<SocketAddr>() {
         Ok(address) => Ok(address),
         Err(_) => {
-            let text = format!(in alloc; "--{name} needs an IP address and a port, as 192.0.2.1:179 or [2001:db8::1]:179")?;
+            let text = format!(in alloc;
+                "--{name} needs an IP address and a port, as 192.0.2.1:179 or [2001:db8::1]:179"
+            )?;
             Err(bad(alloc, &text))
         }
     }
