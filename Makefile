@@ -19,6 +19,7 @@ fishcompletiondir ?= $(datadir)/fish/vendor_completions.d
 # What was built, and which parts of it are installed.
 BGP ?= crates/bgp/out/bgp
 BGP_SPEAKER ?= crates/bgp_speaker/out/bgp_speaker
+BGP_GUARD ?= crates/bgp_guard_run/out/bgp_guard_run
 DIST ?= dist
 PARTS ?= programs library development
 
@@ -27,7 +28,7 @@ CC ?= cc
 PKG_CONFIG ?= pkg-config
 
 export DESTDIR prefix exec_prefix bindir libdir includedir mandir docdir libdocdir pkgconfigdir
-export bashcompletiondir zshcompletiondir fishcompletiondir BGP BGP_SPEAKER DIST PARTS
+export bashcompletiondir zshcompletiondir fishcompletiondir BGP BGP_SPEAKER BGP_GUARD DIST PARTS
 
 all:
 	@packaging/install-files built

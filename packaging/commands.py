@@ -26,7 +26,7 @@ def section(text, title):
 
 def flags_in(text):
     for line in section(text, "Options"):
-        found = re.fullmatch(r"\s+(?:-(\w), )?--([\w-]+)(?: <(\w+)>)?\s{2,}(.*)", line)
+        found = re.fullmatch(r"\s+(?:-(\w), )?--([\w-]+)(?: <([\w=]+)>)?\s{2,}(.*)", line)
         if not found:
             raise ValueError(f"a line of the help that can't be read: {line}")
         yield Flag(*found.groups())

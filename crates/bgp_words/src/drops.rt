@@ -8,7 +8,7 @@ ghost use Rattle.bgp_words.specs.CommandLine.{drops_in, drops_twice, passes_alon
 
 use crate::commands::{DROP, DROP_UNKNOWN, PASS, judging_command};
 use crate::given::{is_set, value_of};
-use crate::type_list::{all_but, is_recognised, octet_of, types_of};
+use crate::type_list::{all_but, list_fault, types_of};
 use bgp_wire::OctetSet;
 use clap::error::ErrorKind;
 use clap::{ArgMatches, Error};
@@ -74,20 +74,6 @@ pub(crate) fn missing_drop_unknown(alloc: Global) -> Result<Error, AllocError>
     judging_command(alloc, "clean")?.error(ErrorKind::MissingRequiredArgument, text)
 }
 
-// What is wrong with the first word that is wrong in a list.
-fn reason(alloc: Global, list: &str) -> Result<String, AllocError> {
-    for word in list.split(',') {
-        match octet_of(word) {
-            None => return format!(in alloc; "'{word}' is no number from 0 to 255"),
-            Some(kind) if is_recognised(kind) => {
-                return format!(in alloc; "type {kind} is recognised");
-            }
-            Some(_) => {}
-        }
-    }
-    format!(in alloc; "it is no list of types")
-}
-
 /// The error of a list that isn't one.
 pub(crate) fn bad_list(alloc: Global, flags: &ArgMatches<'_>) -> Result<Error, AllocError>
     ensures { IfOk result (λ e. kind_of e ≡ error.InvalidValue) }
@@ -96,7 +82,7 @@ pub(crate) fn bad_list(alloc: Global, flags: &ArgMatches<'_>) -> Result<Error, A
         Some(list) => (PASS, list),
         None => (DROP, value_of(flags, DROP).unwrap_or("")),
     };
-    let reason = reason(alloc, list)?;
+    let reason = list_fault(alloc, list)?;
     let text = format!(in alloc; "invalid value '{list}' for '--{name} <LIST>': {reason}")?;
     judging_command(alloc, "clean")?.error(ErrorKind::InvalidValue, &text)
 }

@@ -11,3 +11,4 @@ mod request;
 mod type_list;
 
 pub use request::{Asked, Request, Session, parse};
+pub use type_list::{all_but, list_fault, types_of};

@@ -16,8 +16,8 @@ fn words_of<'a>(alloc: Global, list: &'a str) -> Result<Vec<&'a str>, AllocError
     list.split(',').collect(alloc)
 }
 
-/// The number that decimal digits alone make, where it is at most 255.
-pub(crate) fn octet_of(word: &str) -> Option<u8>
+// The number that decimal digits alone make, where it is at most 255.
+fn octet_of(word: &str) -> Option<u8>
     ensures { result ≡ octet_of word.now }
 {
     if word.starts_with('+') {
@@ -26,8 +26,8 @@ pub(crate) fn octet_of(word: &str) -> Option<u8>
     word.parse::<u8>().ok()
 }
 
-/// Whether a type is recognised.
-pub(crate) fn is_recognised(kind: u8) -> bool
+// Whether a type is recognised.
+fn is_recognised(kind: u8) -> bool
     ensures { result ≡ is_recognised kind }
 {
     match kind {
@@ -59,7 +59,7 @@ fn type_of(word: &str) -> Option<u8>
 }
 
 /// The types of a list, where it is one.
-pub(crate) fn types_of(alloc: Global, list: &str) -> Result<Option<OctetSet>, AllocError>
+pub fn types_of(alloc: Global, list: &str) -> Result<Option<OctetSet>, AllocError>
     ensures { IfOk result (λ types. option_map has_octet types ≡ types_of list.now) }
 {
     let words = words_of(alloc, list)?;
@@ -73,6 +73,20 @@ pub(crate) fn types_of(alloc: Global, list: &str) -> Result<Option<OctetSet>, Al
     Ok(Some(types))
 }
 
+/// What is wrong with the first word that is wrong in a list.
+pub fn list_fault(alloc: Global, list: &str) -> Result<String, AllocError> {
+    for word in list.split(',') {
+        match octet_of(word) {
+            None => return format!(in alloc; "'{word}' is no number from 0 to 255"),
+            Some(kind) if is_recognised(kind) => {
+                return format!(in alloc; "type {kind} is recognised");
+            }
+            Some(_) => {}
+        }
+    }
+    format!(in alloc; "it is no list of types")
+}
+
 // Whether a type isn't recognised, and none of these.
 fn is_other(types: &OctetSet, kind: u8) -> bool
     ensures { result ≡ is_other (has_octet types.now) kind }
@@ -81,7 +95,7 @@ fn is_other(types: &OctetSet, kind: u8) -> bool
 }
 
 /// Every type that isn't recognised, but these.
-pub(crate) fn all_but(types: OctetSet) -> OctetSet
+pub fn all_but(types: OctetSet) -> OctetSet
     ensures { has_octet result ≡ all_but (has_octet types) }
 {
     let mut others = OctetSet::new();

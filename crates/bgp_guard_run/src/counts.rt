@@ -1,0 +1,61 @@
+//! What the program counts.
+
+use std::fmt;
+
+/// What there was since the program began.
+#[derive(Clone, Copy)]
+pub(crate) struct Counts {
+    /// Sessions that began.
+    pub(crate) begun: u64,
+    /// Those of them that ended.
+    pub(crate) ended: u64,
+    /// Messages that were handed on.
+    pub(crate) messages: u64,
+    /// Those of them that were changed.
+    pub(crate) changed: u64,
+    /// Messages that were answered.
+    pub(crate) answered: u64,
+    /// Connections that were closed at once, since there were as many sessions as there may be.
+    pub(crate) full: u64,
+    /// Connections that were closed at once, since they came from no neighbour.
+    pub(crate) strangers: u64,
+    /// Connections that were closed at once, since something failed.
+    pub(crate) failed: u64,
+}
+
+impl Counts {
+    /// Nothing was.
+    pub(crate) fn new() -> Counts {
+        Counts {
+            begun: 0,
+            ended: 0,
+            messages: 0,
+            changed: 0,
+            answered: 0,
+            full: 0,
+            strangers: 0,
+            failed: 0,
+        }
+    }
+}
+
+/// Counts one more.
+pub(crate) fn count(number: &mut u64) {
+    *number = number.saturating_add(1);
+}
+
+impl fmt::Display for Counts {
+    fn fmt<W: fmt::Write>(&self, f: &mut fmt::Formatter<W>) -> fmt::Result {
+        let up = self.begun.saturating_sub(self.ended);
+        write!(
+            f,
+            "up {up} begun {} ended {} messages {} changed {} answered {}",
+            self.begun, self.ended, self.messages, self.changed, self.answered
+        )?;
+        write!(
+            f,
+            " full {} strangers {} failed {}",
+            self.full, self.strangers, self.failed
+        )
+    }
+}
