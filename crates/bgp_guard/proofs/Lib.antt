@@ -5,4 +5,5 @@ pub mod Lanes
 pub mod Lives
 pub mod Passed
 pub mod Ranges
+pub mod Reasons
 pub mod Sights

@@ -1,8 +1,9 @@
 -- What the law of the guard says of the octets of one side, and of those that the other was given.
-use Rattle.std.specs.Prelude.{◌≡◌, ◌<◌, ◌⊎◌, ℕ, Bool, true, List, [], ◌∷◌, ◌++◌, map, Option, None, Some, Ok}
+use Rattle.std.specs.Prelude.{◌≡◌, ◌<◌, ◌⊎◌, ◌&&◌, ℕ, Bool, true, false, List, [], ◌∷◌, ◌++◌, map, is_some, Option, None, Some, Result, Ok, Err}
 use Rattle.std.specs.List.{flat_map, AllByRecursion}
 use Rattle.bgp_wire.specs.OctetSet.{has_octet}
 use Rattle.bgp_wire.specs.Row.{Row}
+use Rattle.bgp_frame.specs.declared.fault.HeadFault.{HeadFault}
 use Rattle.bgp_frame.specs.declared.kind.Kind.TheVariants as kind
 use Rattle.bgp_frame.specs.declared.notification.Notification.{Notification}
 use Rattle.bgp_frame.specs.Frame as frame
@@ -10,6 +11,7 @@ use Rattle.bgp_frame.specs.Frame.{IsFrame, Waits}
 use Rattle.bgp_open.specs.declared.context.Context.{Context}
 use Rattle.bgp_open.specs.declared.message.Open.{Open}
 use Rattle.bgp_open.specs.Peer.{Said, said_by}
+use Rattle.bgp_msg.specs.declared.message.Message.{Message}
 use Rattle.bgp_msg.specs.declared.message.Message.TheVariants as message
 use Rattle.bgp_msg.specs.Written.{canonical}
 use Rattle.bgp_clean.specs.Clean.{cleaned}
@@ -18,10 +20,11 @@ use Rattle.bgp_guard.specs.declared.rules.Rules.{Rules}
 use Rattle.bgp_guard.specs.declared.side.Side.{Side}
 use Rattle.bgp_guard.specs.declared.stage.Stage.{Stage}
 use Rattle.bgp_guard.specs.declared.stage.Stage.TheVariants as stage
-use Rattle.bgp_guard.specs.Answers.{notice}
-use Rattle.bgp_guard.specs.Guard.{is_silent}
-use Rattle.bgp_guard.specs.Hearing.{agreed, said_as}
-use Rattle.bgp_guard.specs.Life.{Event, Life, Octet, life_from}
+use Rattle.bgp_machine.specs.Session.{content_of}
+use Rattle.bgp_guard.specs.Answers.{Answers, notice}
+use Rattle.bgp_guard.specs.Guard.{Sight, is_silent, listens_in, runs}
+use Rattle.bgp_guard.specs.Hearing.{agreed, comes_of, holding, said_as}
+use Rattle.bgp_guard.specs.Life.{Event, Closed, Octet, Ticked, Unreached, Life, life, life_from}
 
 -- the cleaned form of a direction: the cleaned stream of its messages, with KEEPALIVEs in place of UPDATEs where its routes stay inside
 abbrev pub direction : Context → Rules → Bool → List frame.Message → List ℕ
@@ -88,3 +91,40 @@ abbrev pub HandsOn : Life → Side → Type 0
 HandsOn a side =
     HandsOver a.guard.stage a.guard.rules (is_silent side a.guard.rules) (life_from side a).sight.this.peer (life_from side a).sight.other.peer
     (life_from side a).this.came (life_from side a).other.given (life_from side a).sight.other.way
+
+-- ---- why a guard ends
+
+abbrev pub IsAnsweredOr : Result Message Answers → frame.Message → Type 0
+IsAnsweredOr (Ok n) m = m.kind ≡ kind.Notification
+IsAnsweredOr (Err answers) m = Unit {0}
+
+-- a message is answered, or is a NOTIFICATION; each header with a fault is answered
+abbrev pub EndsContent : Rules → Sight → Option (Result frame.Message HeadFault) → Type 0
+EndsContent rules s None = ⊥
+EndsContent rules s (Some (Ok m)) = IsAnsweredOr (comes_of rules (holding s []) m) m
+EndsContent rules s (Some (Err fault)) = Unit {0}
+
+-- the side is read, and with this octet a message is whole that ends both directions
+abbrev pub EndsHearing : Rules → Sight → ℕ → Type 0
+EndsHearing rules s octet = (listens_in s ≡ true) × EndsContent rules s (content_of (s.this.held ++ octet ∷ []))
+
+-- an event ends a guard that runs: a side erred, sent a NOTIFICATION, closed or can't be reached, or an OPEN was missing for too long
+abbrev pub EndsBy : Life → Event → Type 0
+EndsBy a (Octet of octet) = EndsHearing a.guard.rules (life_from of a).sight octet
+EndsBy a (Closed of) = (life_from of a).sight.this.stands ≡ true
+EndsBy a (Unreached of) = (life_from of a).sight.this.stands ≡ false
+EndsBy a Ticked = (is_some a.guard.outer.peer && is_some a.guard.inner.peer) ≡ false
+EndsBy a _ = ⊥
+
+-- among these events there is one that did, and the guard ran before it
+pub record HasReason (rules : Rules) (events : List Event) : Type 0 where
+  pub before : List Event
+  pub event : Event
+  pub behind : List Event
+  pub is : events ≡ before ++ event ∷ behind
+  pub ran : runs (life rules before).guard.stage ≡ true
+  pub ends : EndsBy (life rules before) event
+
+abbrev pub RunsOrHasReason : Stage → Rules → List Event → Type 0
+RunsOrHasReason (stage.Runs n) rules events = Unit {0}
+RunsOrHasReason (stage.Ends n) rules events = HasReason rules events

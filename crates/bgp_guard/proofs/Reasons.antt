@@ -1,0 +1,115 @@
+-- Why a guard has ended.
+use Rattle.std.proofs.Common.{◌≡◌, ℕ, Bool, true, false, List, [], ◌∷◌, ◌++◌, Option, Some, None, Result, Ok, Err, refl, sym, ap, subst, ◌∙◌, append_assoc}
+use Rattle.std.specs.Prelude.{◌&&◌, ◌||◌, not, is_some}
+use Rattle.std.proofs.lemmas.Bool.{true≢false, and_parts}
+use Rattle.bgp_frame.specs.declared.fault.HeadFault.{HeadFault}
+use Rattle.bgp_frame.specs.declared.kind.Kind.{Kind}
+use Rattle.bgp_frame.specs.declared.kind.Kind.TheVariants as kind
+use Rattle.bgp_frame.specs.Frame as frame
+use Rattle.bgp_msg.specs.declared.message.Message.{Message}
+use Rattle.bgp_machine.specs.Session.{content_of}
+use Rattle.bgp_guard.specs.declared.rules.Rules.{Rules}
+use Rattle.bgp_guard.specs.declared.side.Side.TheVariants as side
+use Rattle.bgp_guard.specs.declared.stage.Stage.{Stage}
+use Rattle.bgp_guard.specs.declared.stage.Stage.TheVariants as stage
+use Rattle.bgp_guard.specs.Answers.{Answers}
+use Rattle.bgp_guard.specs.Guard.{Guarding, Sight, listens_in, runs}
+use Rattle.bgp_guard.specs.Hearing.{comes_of, done, heard_as, holding, octet_by}
+use Rattle.bgp_guard.specs.Events.{closed_if, is_waiting, ticked_in, unreached_if, waited}
+use Rattle.bgp_guard.specs.Laws.{EndsBy, EndsContent, EndsHearing, HasReason, IsAnsweredOr, RunsOrHasReason}
+use Rattle.bgp_guard.specs.Life.{Event, Stood, Unreached, Octet, Closed, Sent, Ticked, Life, born, happens, life, life_behind, life_from}
+
+-- it ran, and has ended
+no_end : (n : ℕ) → runs (stage.Runs n) ≡ false → ⊥
+no_end n e = true≢false e
+
+-- ---- octets
+
+kind_ends : (silent : Bool) (s : Sight) (k : Kind) (m : frame.Message) (r : Result Message Answers) → runs s.stage ≡ true → k ≡ m.kind → runs (done silent s k r).stage ≡ false
+    → IsAnsweredOr r m
+kind_ends silent s k m (Err answers) ran same ends = tt
+kind_ends silent s kind.Notification m (Ok n) ran same ends = sym same
+kind_ends silent s kind.Open m (Ok n) ran same ends = absurd (true≢false (sym ran ∙ ends))
+kind_ends silent s kind.Update m (Ok n) ran same ends = absurd (true≢false (sym ran ∙ ends))
+kind_ends silent s kind.Keepalive m (Ok n) ran same ends = absurd (true≢false (sym ran ∙ ends))
+
+content_ends : (rules : Rules) (silent : Bool) (s : Sight) (held : List ℕ) (c : Option (Result frame.Message HeadFault)) → runs s.stage ≡ true
+    → runs (heard_as rules silent (holding s held) c).stage ≡ false → EndsContent rules s c
+content_ends rules silent s held None ran ends = absurd (true≢false (sym ran ∙ ends))
+content_ends rules silent s held (Some (Ok m)) ran ends = kind_ends silent (holding s []) m.kind m (comes_of rules (holding s []) m) ran refl ends
+content_ends rules silent s held (Some (Err fault)) ran ends = tt
+
+octet_ends : (rules : Rules) (silent : Bool) (s : Sight) (octet : ℕ) (b : Bool) → listens_in s ≡ b → runs s.stage ≡ true → runs (octet_by b rules silent s octet).stage ≡ false
+    → EndsHearing rules s octet
+octet_ends rules silent s octet true up ran ends =
+    (up, content_ends rules silent s (s.this.held ++ octet ∷ []) (content_of (s.this.held ++ octet ∷ [])) ran ends)
+octet_ends rules silent s octet false up ran ends = absurd (true≢false (sym ran ∙ ends))
+
+-- ---- other events
+
+not_true : (b : Bool) → not b ≡ true → b ≡ false
+not_true true e = absurd (true≢false (sym e))
+not_true false e = refl
+
+unreached_ends : (s : Sight) (b : Bool) → (runs s.stage && not s.this.stands) ≡ b → runs s.stage ≡ true → runs (unreached_if b s).stage ≡ false → s.this.stands ≡ false
+unreached_ends s true is ran ends = not_true s.this.stands (and_parts (runs s.stage) (not s.this.stands) is).1
+unreached_ends s false is ran ends = absurd (true≢false (sym ran ∙ ends))
+
+closed_ends : (s : Sight) (b : Bool) → s.this.stands ≡ b → runs s.stage ≡ true → runs (closed_if b s).stage ≡ false → s.this.stands ≡ true
+closed_ends s true is ran ends = is
+closed_ends s false is ran ends = absurd (true≢false (sym ran ∙ ends))
+
+waited_ends : (g : Guarding) (n : ℕ) (b : Bool) → is_waiting g ≡ b → runs g.stage ≡ true → runs (waited n b g).stage ≡ false → (is_some g.outer.peer && is_some g.inner.peer) ≡ false
+waited_ends g n true is ran ends = not_true (is_some g.outer.peer && is_some g.inner.peer) (and_parts (g.outer.stands || g.inner.stands) (not (is_some g.outer.peer && is_some g.inner.peer)) is).1
+waited_ends g n false is ran ends = absurd (true≢false (sym ran ∙ ends))
+
+ticked_ends : (g : Guarding) (st : Stage) → runs st ≡ true → runs g.stage ≡ true → runs (ticked_in st g).stage ≡ false → (is_some g.outer.peer && is_some g.inner.peer) ≡ false
+ticked_ends g (stage.Runs n) up ran ends = waited_ends g n (is_waiting g) refl ran ends
+ticked_ends g (stage.Ends n) up ran ends = absurd (true≢false (sym up))
+
+event_ends : (a : Life) (e : Event) → runs a.guard.stage ≡ true → runs (happens a e).guard.stage ≡ false → EndsBy a e
+event_ends a (Stood side.Outer) ran ends = absurd (true≢false (sym ran ∙ ends))
+event_ends a (Stood side.Inner) ran ends = absurd (true≢false (sym ran ∙ ends))
+event_ends a (Unreached side.Outer) ran ends =
+    unreached_ends (life_from side.Outer a).sight (runs a.guard.stage && not a.guard.outer.stands) refl ran ends
+event_ends a (Unreached side.Inner) ran ends =
+    unreached_ends (life_from side.Inner a).sight (runs a.guard.stage && not a.guard.inner.stands) refl ran ends
+event_ends a (Octet side.Outer octet) ran ends =
+    octet_ends a.guard.rules false (life_from side.Outer a).sight octet (listens_in (life_from side.Outer a).sight) refl ran ends
+event_ends a (Octet side.Inner octet) ran ends =
+    octet_ends a.guard.rules a.guard.rules.one_way (life_from side.Inner a).sight octet (listens_in (life_from side.Inner a).sight) refl ran ends
+event_ends a (Closed side.Outer) ran ends = closed_ends (life_from side.Outer a).sight a.guard.outer.stands refl ran ends
+event_ends a (Closed side.Inner) ran ends = closed_ends (life_from side.Inner a).sight a.guard.inner.stands refl ran ends
+event_ends a (Sent side.Outer n) ran ends = absurd (true≢false (sym ran ∙ ends))
+event_ends a (Sent side.Inner n) ran ends = absurd (true≢false (sym ran ∙ ends))
+event_ends a Ticked ran ends = ticked_ends a.guard a.guard.stage ran ran ends
+
+-- ---- lists of events
+
+behind_append : (a : Life) (before after : List Event) → life_behind a (before ++ after) ≡ life_behind (life_behind a before) after
+behind_append a [] after = refl
+behind_append a (e ∷ before) after = behind_append (happens a e) before after
+
+-- an event behind which the guard runs, or has ended
+reason_at : (rules : Rules) (before : List Event) (e : Event) (later : List Event) → runs (life rules before).guard.stage ≡ true
+    → (runs (life rules (before ++ e ∷ [])).guard.stage ≡ true → HasReason rules ((before ++ e ∷ []) ++ later))
+    → (b : Bool) → runs (happens (life rules before) e).guard.stage ≡ b → HasReason rules (before ++ e ∷ later)
+reason_at rules before e later ran again true on =
+    subst (HasReason rules) (append_assoc before (e ∷ []) later) (again (ap (λ (a : Life). runs a.guard.stage) (behind_append (born rules) before (e ∷ [])) ∙ on))
+reason_at rules before e later ran again false off = record { before = before; event = e; behind = later; is = refl; ran = ran; ends = event_ends (life rules before) e ran off }
+
+-- from a beginning on, behind which the guard runs
+reason_behind : (rules : Rules) (before later : List Event) → runs (life rules before).guard.stage ≡ true → runs (life_behind (life rules before) later).guard.stage ≡ false
+    → HasReason rules (before ++ later)
+reason_behind rules before [] ran ends = absurd (true≢false (sym ran ∙ ends))
+reason_behind rules before (e ∷ later) ran ends =
+    reason_at rules before e later ran
+    (λ on. reason_behind rules (before ++ e ∷ []) later on (ap (λ (a : Life). runs (life_behind a later).guard.stage) (behind_append (born rules) before (e ∷ [])) ∙ ends))
+    (runs (happens (life rules before) e).guard.stage) refl
+
+pub a_guard_has_reason : (rules : Rules) (events : List Event) → RunsOrHasReason (life rules events).guard.stage rules events
+a_guard_has_reason rules events = by (life rules events).guard.stage refl
+  where
+    by : (st : Stage) → (life rules events).guard.stage ≡ st → RunsOrHasReason st rules events
+    by (stage.Runs n) e = tt
+    by (stage.Ends n) e = reason_behind rules [] events refl (ap runs e)
