@@ -1,4 +1,4 @@
-use Rattle.std.proofs.Common.{◌≡◌, ◌-◌, ◌≤◌, drop, ap, ◌∙◌, arith}
+use Rattle.std.proofs.Common.{◌-◌, ◌≤◌, drop, ap, ◌∙◌, arith}
 use Rattle.bgp_guard_run.proofs.Ranges.{less_front}
 use Rattle.bgp_guard_run.proofs.piece.Piece.take_off.Goals as goal
 
