@@ -1,6 +1,13 @@
 //! The connection of one side of a session.
 
+ghost use Rattle.std.specs.Prelude.{◌≡◌, drop, IfOk, OnErr};
+ghost use Rattle.std.specs.Io.KnownBytes.{WriteAppends};
+ghost use Rattle.bgp_guard.specs.Came.{IsHeard};
+ghost use Rattle.bgp_guard.specs.Events.{for_side, sent};
+ghost use Rattle.bgp_guard.specs.Guard.{half};
+
 use crate::log::Log;
+use crate::piece::{PIECE, Piece};
 use crate::why::{Code, Why};
 use bgp_frame::Kind;
 use bgp_guard::{Came, DRAIN_SECONDS, Guard, Side};
@@ -8,11 +15,8 @@ use mio::event::Event;
 use mio::net::TcpStream;
 use std::alloc::{AllocError, Global};
 use std::io;
-use std::io::{ErrorKind, Read, Write};
+use std::io::{ErrorKind, Write};
 use std::net::Shutdown;
-
-/// How many octets are read at once.
-const PIECE: usize = 16384;
 
 /// Where the code of a NOTIFICATION stands in it.
 const CODE_AT: usize = 19;
@@ -54,9 +58,7 @@ pub(crate) struct Connection {
     readable: bool,
     /// There may be room to write.
     writable: bool,
-    piece: Vec<u8>,
-    start: usize,
-    end: usize,
+    piece: Piece,
     /// How many octets of the side the guard has taken.
     heard: u64,
     /// Where the message begins that isn't whole yet.
@@ -84,6 +86,27 @@ fn code_in(way: &[u8], before: usize) -> Option<Code> {
     }
 }
 
+// Writes once of what is on its way to a side. What was written is on its way no more, and all else stays.
+fn pass_on<W: Write>(guard: &mut Guard, side: Side, to: &mut W) -> io::Result<usize>
+    ensures written { WriteAppends (W.contents to.old) (W.contents to.new) result (half side guard.old).way }
+    ensures sent { IfOk result (λ n. guard.new ≡ for_side (sent n) side guard.old) }
+    ensures kept { OnErr result (guard.new ≡ guard.old) }
+{
+    let count = to.write(guard.way(side))?;
+    guard.sent(side, count);
+    Ok(count)
+}
+
+// Hands the guard what was read of a side, up to the end of a message. What it took is left no more.
+fn hear_once(guard: &mut Guard, side: Side, piece: &mut Piece) -> (usize, Came)
+    ensures heard { IsHeard side guard.old piece.old result.0 result.1 guard.new }
+    ensures left { piece.new ≡ drop result.0 piece.old }
+{
+    let (taken, came) = guard.hear(side, piece.as_slice());
+    piece.take_off(taken);
+    (taken, came)
+}
+
 impl Connection {
     // A connection in a phase.
     fn new(
@@ -98,9 +121,7 @@ impl Connection {
             phase,
             readable: false,
             writable: false,
-            piece: vec![in alloc; 0_u8; PIECE]?,
-            start: 0,
-            end: 0,
+            piece: Piece::new(alloc)?,
             heard: 0,
             begun: 0,
             is_ready: false,
@@ -208,13 +229,9 @@ impl Connection {
         let Some(stream) = &mut self.stream else {
             return Brought::Nothing;
         };
-        match stream.read(&mut self.piece) {
+        match self.piece.fill(stream) {
             Ok(0) => Brought::End,
-            Ok(count) => {
-                self.start = 0;
-                self.end = count;
-                Brought::Octets
-            }
+            Ok(_) => Brought::Octets,
             Err(error) => match error.kind() {
                 ErrorKind::WouldBlock => {
                     self.readable = false;
@@ -224,11 +241,6 @@ impl Connection {
                 _ => Brought::Fault(error),
             },
         }
-    }
-
-    // What was read and the guard hasn't taken.
-    fn rest(&self) -> &[u8] {
-        self.piece.get(self.start..self.end).unwrap_or(&[])
     }
 
     /// Reads where the guard listens and has taken all before, and hands it what was read.
@@ -241,7 +253,7 @@ impl Connection {
         if self.phase != Phase::Stands || !guard.listens(self.side) {
             return Ok(None);
         }
-        if self.rest().is_empty() && self.readable {
+        if self.piece.is_empty() && self.readable {
             match self.read() {
                 Brought::Octets | Brought::Nothing => {}
                 Brought::End => return Ok(self.lose(guard, Why::Closed(self.side))),
@@ -262,11 +274,10 @@ impl Connection {
     ) -> io::Result<Option<Why>> {
         for _turn in 0..PIECE {
             let before = guard.way(other(self.side)).len();
-            let (taken, came) = guard.hear(self.side, self.rest());
+            let (taken, came) = hear_once(guard, self.side, &mut self.piece);
             if taken == 0 {
                 return Ok(None);
             }
-            self.start = self.start.saturating_add(taken);
             self.heard = self.heard.saturating_add(taken as u64);
             let passed = guard.way(other(self.side));
             let why = self.note(passed, before, came, log, number)?;
@@ -323,16 +334,12 @@ impl Connection {
 
     /// Sends what is on its way.
     pub(crate) fn send(&mut self, guard: &mut Guard) -> Option<Why> {
-        let way = guard.way(self.side);
-        if self.phase != Phase::Stands || !self.writable || way.is_empty() {
+        let has_way = !guard.way(self.side).is_empty();
+        if self.phase != Phase::Stands || !self.writable || !has_way {
             return None;
         }
-        let stream = self.stream.as_mut()?;
-        match stream.write(way) {
-            Ok(count) => {
-                guard.sent(self.side, count);
-                None
-            }
+        match pass_on(guard, self.side, self.stream.as_mut()?) {
+            Ok(_) => None,
             Err(error) => match error.kind() {
                 ErrorKind::WouldBlock => {
                     self.writable = false;
@@ -384,7 +391,7 @@ impl Connection {
         match self.phase {
             Phase::Stands if has_ended => self.readable || writes,
             Phase::Stands => {
-                let has_rest = !self.rest().is_empty();
+                let has_rest = !self.piece.is_empty();
                 (self.readable || has_rest) && guard.listens(self.side) || writes
             }
             Phase::Lingers(_) => self.readable,

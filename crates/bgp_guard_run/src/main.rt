@@ -8,6 +8,7 @@ mod counts;
 mod help;
 mod log;
 mod neighbours;
+mod piece;
 mod request;
 mod serving;
 mod session;
