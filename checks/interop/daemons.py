@@ -15,6 +15,8 @@ class Daemon:
     command = package = name = None
     # What it answers to an ORIGIN of 5, where that isn't treated as a withdrawal (RFC 7606, section 7.1).
     origin_answer = None
+    # What it can't be sent, though it is well formed.
+    refuses = None
 
     def __init__(self, folder, connects, port, routes4, routes6):
         """`port` is where it listens, or where it connects to."""
@@ -160,6 +162,8 @@ class OpenBgpd(Daemon):
     name, command, package = "OpenBGPD", "bgpctl", "openbgpd"
     # Version 7.7 ends the session as RFC 4271, section 6.3, has it, where RFC 7606 asks for a withdrawal.
     origin_answer = "3/6"
+    # It ends a session for these too (3/9), which are well formed (RFC 4760, section 5).
+    refuses = "IPv4 routes in MP_REACH_NLRI"
 
     def configure(self):
         routes = "".join(f"network {route}\n" for route in (*self.routes4, *self.routes6))
@@ -260,7 +264,7 @@ class GoBgp(Daemon):
         found = set()
         for family in ("ipv4", "ipv6"):
             try:
-                found |= set(json.loads(self.control("neighbor", OURS, "adj-in", "-a", family, "-j")))
+                found |= {route for route in json.loads(self.control("neighbor", OURS, "adj-in", "-a", family, "-j")) if "/" in route}
             except (ValueError, TypeError):
                 pass
         return found
