@@ -1,7 +1,7 @@
 -- Why a guard has ended.
-use Rattle.std.proofs.Common.{◌≡◌, ℕ, Bool, true, false, List, [], ◌∷◌, ◌++◌, Option, Some, None, Result, Ok, Err, refl, sym, ap, subst, ◌∙◌, append_assoc}
-use Rattle.std.specs.Prelude.{◌&&◌, ◌||◌, not, is_some}
-use Rattle.std.proofs.lemmas.Bool.{true≢false, and_parts}
+use Rattle.std.proofs.Common.{◌≡◌, ◌≤◌, ℕ, suc, Bool, true, false, List, [], ◌∷◌, ◌++◌, Option, Some, None, Result, Ok, Err, refl, sym, ap, subst, ◌∙◌, append_assoc}
+use Rattle.std.specs.Prelude.{◌&&◌, ◌||◌, not, nat_lt, is_some, if◌then◌else◌}
+use Rattle.std.proofs.lemmas.Bool.{true≢false, and_parts, ltb-false}
 use Rattle.bgp_frame.specs.declared.fault.HeadFault.{HeadFault}
 use Rattle.bgp_frame.specs.declared.kind.Kind.{Kind}
 use Rattle.bgp_frame.specs.declared.kind.Kind.TheVariants as kind
@@ -12,11 +12,12 @@ use Rattle.bgp_guard.specs.declared.rules.Rules.{Rules}
 use Rattle.bgp_guard.specs.declared.side.Side.TheVariants as side
 use Rattle.bgp_guard.specs.declared.stage.Stage.{Stage}
 use Rattle.bgp_guard.specs.declared.stage.Stage.TheVariants as stage
+use Rattle.bgp_guard.specs.declared.stage.TheConstants.{OPEN_SECONDS}
 use Rattle.bgp_guard.specs.Answers.{Answers}
 use Rattle.bgp_guard.specs.Guard.{Guarding, Sight, listens_in, runs}
 use Rattle.bgp_guard.specs.Hearing.{comes_of, done, heard_as, holding, octet_by}
-use Rattle.bgp_guard.specs.Events.{closed_if, is_waiting, ticked_in, unreached_if, waited}
-use Rattle.bgp_guard.specs.Laws.{EndsBy, EndsContent, EndsHearing, HasReason, IsAnsweredOr, RunsOrHasReason}
+use Rattle.bgp_guard.specs.Events.{closed_if, is_waiting, ticked_in, unreached_if, waited, late}
+use Rattle.bgp_guard.specs.Laws.{EndsBy, EndsContent, EndsHearing, HasReason, IsLast, IsAnsweredOr, RunsOrHasReason}
 use Rattle.bgp_guard.specs.Life.{Event, Stood, Unreached, Octet, Closed, Sent, Ticked, Life, born, happens, life, life_behind, life_from}
 
 -- it ran, and has ended
@@ -59,11 +60,20 @@ closed_ends : (s : Sight) (b : Bool) → s.this.stands ≡ b → runs s.stage �
 closed_ends s true is ran ends = is
 closed_ends s false is ran ends = absurd (true≢false (sym ran ∙ ends))
 
-waited_ends : (g : Guarding) (n : ℕ) (b : Bool) → is_waiting g ≡ b → runs g.stage ≡ true → runs (waited n b g).stage ≡ false → (is_some g.outer.peer && is_some g.inner.peer) ≡ false
-waited_ends g n true is ran ends = not_true (is_some g.outer.peer && is_some g.inner.peer) (and_parts (g.outer.stands || g.inner.stands) (not (is_some g.outer.peer && is_some g.inner.peer)) is).1
+late_at : (g : Guarding) (n : ℕ) (b : Bool) → nat_lt (suc n) OPEN_SECONDS ≡ b → runs (if b then record g { stage = stage.Runs (suc n) } else late g).stage ≡ false → OPEN_SECONDS ≤ suc n
+late_at g n true is ends = absurd (true≢false ends)
+late_at g n false is ends = ltb-false (suc n) OPEN_SECONDS is
+
+waited_ends : (g : Guarding) (n : ℕ) (b : Bool) → is_waiting g ≡ b → runs g.stage ≡ true → runs (waited n b g).stage ≡ false
+    → (OPEN_SECONDS ≤ suc n) × ((is_some g.outer.peer && is_some g.inner.peer) ≡ false)
+waited_ends g n true is ran ends = (
+  late_at g n (nat_lt (suc n) OPEN_SECONDS) refl ends,
+  not_true (is_some g.outer.peer && is_some g.inner.peer) (and_parts (g.outer.stands || g.inner.stands) (not (is_some g.outer.peer && is_some g.inner.peer)) is).1,
+)
 waited_ends g n false is ran ends = absurd (true≢false (sym ran ∙ ends))
 
-ticked_ends : (g : Guarding) (st : Stage) → runs st ≡ true → runs g.stage ≡ true → runs (ticked_in st g).stage ≡ false → (is_some g.outer.peer && is_some g.inner.peer) ≡ false
+ticked_ends : (g : Guarding) (st : Stage) → runs st ≡ true → runs g.stage ≡ true → runs (ticked_in st g).stage ≡ false
+    → IsLast st × ((is_some g.outer.peer && is_some g.inner.peer) ≡ false)
 ticked_ends g (stage.Runs n) up ran ends = waited_ends g n (is_waiting g) refl ran ends
 ticked_ends g (stage.Ends n) up ran ends = absurd (true≢false (sym up))
 

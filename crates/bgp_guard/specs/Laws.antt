@@ -1,5 +1,5 @@
 -- What the law of the guard says of the octets of one side, and of those that the other was given.
-use Rattle.std.specs.Prelude.{◌≡◌, ◌<◌, ◌⊎◌, ◌&&◌, ℕ, Bool, true, false, List, [], ◌∷◌, ◌++◌, map, is_some, Option, None, Some, Result, Ok, Err}
+use Rattle.std.specs.Prelude.{◌≡◌, ◌<◌, ◌≤◌, ◌⊎◌, ◌&&◌, ℕ, suc, Bool, true, false, List, [], ◌∷◌, ◌++◌, map, is_some, Option, None, Some, Result, Ok, Err}
 use Rattle.std.specs.List.{flat_map, AllByRecursion}
 use Rattle.bgp_wire.specs.OctetSet.{has_octet}
 use Rattle.bgp_wire.specs.Row.{Row}
@@ -20,6 +20,7 @@ use Rattle.bgp_guard.specs.declared.rules.Rules.{Rules}
 use Rattle.bgp_guard.specs.declared.side.Side.{Side}
 use Rattle.bgp_guard.specs.declared.stage.Stage.{Stage}
 use Rattle.bgp_guard.specs.declared.stage.Stage.TheVariants as stage
+use Rattle.bgp_guard.specs.declared.stage.TheConstants.{OPEN_SECONDS}
 use Rattle.bgp_machine.specs.Session.{content_of}
 use Rattle.bgp_guard.specs.Answers.{Answers, notice}
 use Rattle.bgp_guard.specs.Guard.{Sight, is_silent, listens_in, runs}
@@ -108,12 +109,17 @@ EndsContent rules s (Some (Err fault)) = Unit {0}
 abbrev pub EndsHearing : Rules → Sight → ℕ → Type 0
 EndsHearing rules s octet = (listens_in s ≡ true) × EndsContent rules s (content_of (s.this.held ++ octet ∷ []))
 
+-- with one second more the OPENs have had their time
+abbrev pub IsLast : Stage → Type 0
+IsLast (stage.Runs n) = OPEN_SECONDS ≤ suc n
+IsLast (stage.Ends n) = ⊥
+
 -- an event ends a guard that runs: a side erred, sent a NOTIFICATION, closed or can't be reached, or an OPEN was missing for too long
 abbrev pub EndsBy : Life → Event → Type 0
 EndsBy a (Octet of octet) = EndsHearing a.guard.rules (life_from of a).sight octet
 EndsBy a (Closed of) = (life_from of a).sight.this.stands ≡ true
 EndsBy a (Unreached of) = (life_from of a).sight.this.stands ≡ false
-EndsBy a Ticked = (is_some a.guard.outer.peer && is_some a.guard.inner.peer) ≡ false
+EndsBy a Ticked = IsLast a.guard.stage × ((is_some a.guard.outer.peer && is_some a.guard.inner.peer) ≡ false)
 EndsBy a _ = ⊥
 
 -- among these events there is one that did, and the guard ran before it
