@@ -1,6 +1,7 @@
 pub mod Headers
 pub mod HeadLemmas
 pub mod FrameLemmas
+pub mod Contents
 pub mod Feeding
 pub mod Holding
 pub mod Pulls

@@ -4,6 +4,7 @@ pub mod Notification
 pub mod ShortNotification
 pub mod Head
 pub mod Frame
+pub mod Content
 pub mod Takes
 pub mod Framer
 pub mod Step

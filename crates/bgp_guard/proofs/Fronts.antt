@@ -5,7 +5,7 @@ use Rattle.std.proofs.lemmas.List.{append-nil, length-append}
 use Rattle.bgp_frame.specs.Frame.{wanted, Waits}
 use Rattle.bgp_frame.specs.Framer.{IsHeld}
 use Rattle.bgp_frame.proofs.FrameLemmas.{wanted_under, wanted-append}
-use Rattle.bgp_machine.proofs.Contents.{content_of-waits}
+use Rattle.bgp_frame.proofs.Contents.{content_of-waits}
 use Rattle.bgp_guard.specs.declared.rules.Rules.{Rules}
 use Rattle.bgp_guard.specs.Guard.{Sight, listens_in}
 use Rattle.bgp_guard.specs.declared.came.Came.{Came}

@@ -23,8 +23,8 @@ use Rattle.bgp_msg.specs.declared.message.Message.TheVariants as message
 use Rattle.bgp_msg.specs.Outcome.{out_of}
 use Rattle.bgp_clean.specs.declared.fault.CleanFault.{CleanFault}
 use Rattle.bgp_clean.specs.Clean.{cleaned, ended_family}
-use Rattle.bgp_machine.specs.Session.{content, content_of}
-use Rattle.bgp_machine.proofs.Contents.{content_of-message, enough}
+use Rattle.bgp_frame.specs.Content.{content, content_of}
+use Rattle.bgp_frame.proofs.Contents.{content_of-message, enough}
 use Rattle.bgp_guard.specs.declared.rules.Rules.{Rules}
 use Rattle.bgp_guard.specs.declared.stage.Stage.{Stage}
 use Rattle.bgp_guard.specs.declared.stage.Stage.TheVariants as stage

@@ -12,9 +12,10 @@ use Rattle.bgp_frame.proofs.Pulls.{nothing_waits}
 use Rattle.bgp_machine.specs.declared.action.Action.{Action}
 use Rattle.bgp_machine.specs.Standing.{listens}
 use Rattle.bgp_machine.specs.Table.{hears}
-use Rattle.bgp_machine.specs.Session.{Machine, holding, CountsFed, IsFed, content, judged, after_step, Does}
+use Rattle.bgp_frame.specs.Content.{content}
+use Rattle.bgp_machine.specs.Session.{Machine, holding, CountsFed, IsFed, judged, after_step, Does}
 use Rattle.bgp_machine.specs.Cutting.{IsAtRest, Turn, Piece, joined, Until, Turns, Cuts, Done, done_by, settled, with_octet, by_octet, behind, by_octets}
-use Rattle.bgp_machine.proofs.Contents.{enough, content_of-waits}
+use Rattle.bgp_frame.proofs.Contents.{enough, content_of-waits}
 use Rattle.bgp_machine.proofs.Held.{IsHeld-fed}
 
 -- ---- at rest

@@ -16,9 +16,10 @@ use Rattle.bgp_machine.specs.declared.action.Action.{Action}
 use Rattle.bgp_machine.specs.declared.event.Event.{Event}
 use Rattle.bgp_machine.specs.Standing.{Standing, listens}
 use Rattle.bgp_machine.specs.Table.{Step, happens, hears}
-use Rattle.bgp_machine.specs.Session.{Machine, fresh, kept, after_event, holding, CountsFed, IsFed, content, after_step, Does}
+use Rattle.bgp_frame.specs.Content.{content}
+use Rattle.bgp_machine.specs.Session.{Machine, fresh, kept, after_event, holding, CountsFed, IsFed, after_step, Does}
 use Rattle.bgp_machine.specs.Cutting.{IsAtRest, Turn, Until, Turns, CanBeFed}
-use Rattle.bgp_machine.proofs.Contents.{enough}
+use Rattle.bgp_frame.proofs.Contents.{enough}
 use Rattle.bgp_machine.proofs.Held.{IsHeld-fed}
 use Rattle.bgp_machine.proofs.Cuttings.{idles, waits_at, rests_empty, not_both, until_rests, turns_settle}
 

@@ -1,5 +1,4 @@
 -- Lemmas of the session.
-pub mod Contents
 pub mod Cuttings
 pub mod Feedings
 pub mod Hearings

@@ -30,11 +30,12 @@ use Rattle.bgp_machine.specs.declared.timer.Timer.TheVariants as timer
 use Rattle.bgp_machine.specs.declared.timer.Timers.{Timers}
 use Rattle.bgp_machine.specs.Standing.{Standing, runs, listens}
 use Rattle.bgp_machine.specs.Table.{Step, on_agreement, answered, on_open, on_verdict, on_update, on_message, hears, happens}
-use Rattle.bgp_machine.specs.Session.{Machine, kept, CountsFed, IsFed, holding, content_of, judged, after_judged, Does}
+use Rattle.bgp_frame.specs.Content.{content_of}
+use Rattle.bgp_machine.specs.Session.{Machine, kept, CountsFed, IsFed, holding, judged, after_judged, Does}
 use Rattle.bgp_machine.specs.Pulling.{IsFedAndStepped}
 use Rattle.bgp_machine.specs.Run.{by_pull}
 use Rattle.bgp_machine.specs.Life.{Call, Told, Fed, Stepped, Pulled, Looked, Life, born, connects, taken_behind, told, stepped, Eats, Goes, Lives, BeginsByOpenAndKeepalive}
-use Rattle.bgp_machine.proofs.Contents.{content_of-message}
+use Rattle.bgp_frame.proofs.Contents.{content_of-message}
 use Rattle.bgp_machine.proofs.Held.{IsHeld-fed}
 use Rattle.bgp_machine.proofs.Pulls.{pulls_as_fed}
 use Rattle.bgp_machine.proofs.Runs.{looks_pull}

@@ -17,9 +17,10 @@ use Rattle.bgp_machine.specs.Cutting.{IsAtRest, CanRest}
 use Rattle.bgp_machine.specs.Look.{Looked, gone, step_of, Finds}
 use Rattle.bgp_machine.specs.Standing.{Standing, listens}
 use Rattle.bgp_machine.specs.Table.{Step, hears}
-use Rattle.bgp_machine.specs.Session.{Machine, content_of, holding, CountsFed, IsFed, IsJudged, HeldTakesMemory}
+use Rattle.bgp_frame.specs.Content.{content_of}
+use Rattle.bgp_machine.specs.Session.{Machine, holding, CountsFed, IsFed, IsJudged, HeldTakesMemory}
 use Rattle.bgp_machine.specs.Pulling.{IsPulled, FrontTakesMemory}
-use Rattle.bgp_machine.proofs.Contents.{content_of-frame, content_of-fault}
+use Rattle.bgp_frame.proofs.Contents.{content_of-frame, content_of-fault}
 
 true_not : (b : Bool) → b ≡ false → b ≡ true → ⊥
 true_not b is also = let no : false ≡ true = sym is ∙ also in cc

@@ -14,10 +14,11 @@ use Rattle.bgp_frame.proofs.Pulls.{held_pulls, nothing_waits}
 use Rattle.bgp_machine.specs.declared.action.Action.{Action}
 use Rattle.bgp_machine.specs.Cutting.{IsAtRest}
 use Rattle.bgp_machine.specs.Run.{by_pull, given, Hears, CanBePulled}
-use Rattle.bgp_machine.specs.Session.{Machine, holding, CountsFed, IsFed, content, after_step, Does}
+use Rattle.bgp_frame.specs.Content.{content}
+use Rattle.bgp_machine.specs.Session.{Machine, holding, CountsFed, IsFed, after_step, Does}
 use Rattle.bgp_machine.specs.Standing.{listens}
 use Rattle.bgp_machine.specs.Table.{Step, hears}
-use Rattle.bgp_machine.proofs.Contents.{enough}
+use Rattle.bgp_frame.proofs.Contents.{enough}
 use Rattle.bgp_machine.proofs.Cuttings.{idles, not_both, rests_empty, waits_at}
 use Rattle.bgp_machine.proofs.Feedings.{count_taken, counts_nothing}
 use Rattle.bgp_machine.proofs.Held.{IsHeld-fed}

@@ -7,7 +7,8 @@ use Rattle.bgp_machine.specs.declared.heard.Heard.{Heard}
 use Rattle.bgp_machine.specs.Heard.{has_routes, on_heard, IsSaid}
 use Rattle.bgp_machine.specs.Next.{Going}
 use Rattle.bgp_machine.specs.Pulling.{FrontTakesMemory, IsPulled}
-use Rattle.bgp_machine.specs.Session.{Machine, content_of, IsFed, HeldTakesMemory}
+use Rattle.bgp_frame.specs.Content.{content_of}
+use Rattle.bgp_machine.specs.Session.{Machine, IsFed, HeldTakesMemory}
 use Rattle.bgp_machine.specs.Standing.{Standing}
 use Rattle.bgp_machine.specs.Table.{Step}
 

@@ -1,11 +1,9 @@
 -- What a session holds, and what each event and each octet does (RFC 4271, sections 4.1 and 8.2.2).
-use Rattle.std.specs.Prelude.{◌≡◌, ◌<◌, ◌⊎◌, ℕ, Bool, true, false, nat_lt, List, [], ◌++◌, length, take, drop, Option, None, Some, option_map, Result, Ok, if◌then◌else◌}
-use Rattle.std.specs.Result.{result_map_both}
+use Rattle.std.specs.Prelude.{◌≡◌, ◌<◌, ◌⊎◌, ℕ, Bool, true, false, List, [], ◌++◌, length, take, Option, None, Some, option_map, Ok}
 use Rattle.arrayvec.specs.ArrayVec.{ArrayVec}
-use Rattle.bgp_frame.specs.declared.fault.HeadFault.{HeadFault}
 use Rattle.bgp_frame.specs.declared.kind.Kind.TheVariants as kind
-use Rattle.bgp_frame.specs.Frame.{Message, octets_of, wanted, Waits}
-use Rattle.bgp_frame.specs.Head.{head_of}
+use Rattle.bgp_frame.specs.Content.{content_of}
+use Rattle.bgp_frame.specs.Frame.{Message, octets_of, Waits}
 use Rattle.bgp_frame.specs.Takes.{Stops, Takes}
 use Rattle.bgp_open.specs.declared.context.Context.{Context}
 use Rattle.bgp_open.specs.Config.{Settings}
@@ -61,14 +59,6 @@ abbrev pub IsFed : Machine → List ℕ → ℕ → Machine → Type 0
 IsFed old piece n new = CountsFed (listens old.standing.state) old.held piece n × (new ≡ holding old (old.held ++ take n piece))
 
 -- ---- step
-
--- the message that octets are, as their header says, or the header's fault
-abbrev pub content : List ℕ → Result Message HeadFault
-content b = result_map_both (λ head. record { kind = head.kind; body = drop 19 b }) (λ fault. fault) (head_of b)
-
--- octets come to nothing while they are fewer than are wanted
-abbrev pub content_of : List ℕ → Option (Result Message HeadFault)
-content_of b = if nat_lt (length b) (wanted b) then None else Some (content b)
 
 -- what is done on what is held, where it is whole
 abbrev pub judged : Machine → Option Step

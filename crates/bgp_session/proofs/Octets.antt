@@ -15,7 +15,7 @@ use Rattle.bgp_machine.specs.Cutting.{Done, done_by, settled, with_octet, by_oct
 use Rattle.bgp_machine.specs.Session.{Machine, holding, judged, after_step}
 use Rattle.bgp_machine.specs.Standing.{listens}
 use Rattle.bgp_machine.specs.Table.{Step, hears}
-use Rattle.bgp_machine.proofs.Contents.{content_of-frame}
+use Rattle.bgp_frame.proofs.Contents.{content_of-frame}
 use Rattle.bgp_machine.proofs.Cuttings.{idles}
 use Rattle.bgp_update.specs.declared.update.Update.{Update}
 use Rattle.bgp_session.specs.declared.side.Side.{Side}

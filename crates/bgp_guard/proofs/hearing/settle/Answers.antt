@@ -4,7 +4,7 @@ use Rattle.bgp_frame.specs.declared.notification.Notification.{Notification}
 use Rattle.bgp_frame.specs.Frame.{Message, Waits}
 use Rattle.bgp_frame.specs.Notification.{notification_of_view}
 use Rattle.bgp_frame.specs.Step.{message_in}
-use Rattle.bgp_machine.proofs.Contents.{content_of-frame, content_of-fault}
+use Rattle.bgp_frame.proofs.Contents.{content_of-frame, content_of-fault}
 use Rattle.bgp_guard.specs.Answers.{answered, reset_by}
 use Rattle.bgp_guard.specs.Came.{CameOf, IsAnswered}
 use Rattle.bgp_guard.specs.Hearing.{heard_as, holding}
