@@ -28,7 +28,7 @@ use Rattle.bgp_session.proofs.Sayings.{Said, message_of, spelling, spellings, up
 use Rattle.bgp_session.proofs.Streams.{waits_or_ends}
 use Rattle.bgp_session.proofs.Ways.{IsHearing, Goes}
 use Rattle.bgp_session.proofs.Ends.{IsSound, IsOut, idle_out, connect_out, active_out, in_state}
-use Rattle.bgp_session.proofs.Hearings.{Know, Hears, OnMessage, sent_hears, confirm_hears, established_hears}
+use Rattle.bgp_session.proofs.Hearings.{Know, HeardAt, OnMessage, sent_hears, confirm_hears, established_hears}
 
 -- ---- the settings of a session stay
 
@@ -88,7 +88,7 @@ module _ (wide : Bool) (mine theirs : Settings) (allowed : Note → Type 0) (sid
   more = held ++ octet ∷ []
 
   abbrev HearsNow : Stage → Said → Type 0
-  HearsNow from m = Hears wide mine theirs e other hand from m
+  HearsNow from m = HeardAt wide mine theirs e other hand from m
 
   abbrev KeepsMessage : State → Said → Type 0
   KeepsMessage st m = OnMessage wide mine theirs allowed side know e other notes running (octet ∷ hand) hand st m
