@@ -72,7 +72,7 @@ pub not_whole : (b : List ℕ) → Waits b → Stops b → ⊥
 not_whole b waits stops = let long = Stops-wanted b stops in omega (arith, long.1)
 
 -- what is held with more octets behind it waited, where all of it can be held
-front_waits : (a b : List ℕ) → length (a ++ b) ≤ wanted (a ++ b) → 0 < length b → Waits a
+pub front_waits : (a b : List ℕ) → length (a ++ b) ≤ wanted (a ++ b) → 0 < length b → Waits a
 front_waits a b within some =
     let all = length-append a b in
     elim (cases_lt (length a) 19) [
@@ -103,6 +103,15 @@ content_in b (inr faulty) = (Err faulty.1.0, (faulty.0, faulty.1.1))
 pub counts_nothing : (up : Bool) (held : List ℕ) → CountsFed up held [] 0
 counts_nothing true held = (record { within = omega arith; no_sooner = λ k lt stops. absurd (omega arith); all_or_stops = inl refl }, λ waits some. some)
 counts_nothing false held = refl
+
+-- where what is held is whole, nothing is taken
+pub none_more : (held piece : List ℕ) (n : ℕ) → Stops held → Takes held piece n → n ≡ 0
+none_more held piece zero stops takes = refl
+none_more held piece (suc n) stops takes = absurd (takes.no_sooner 0 (omega arith) (subst Stops (sym (append-nil held)) stops))
+
+pub counts_within : (up : Bool) (held piece : List ℕ) (n : ℕ) → CountsFed up held piece n → n ≤ length piece
+counts_within true held piece n counts = counts.0.within
+counts_within false held piece n none = omega (arith, none)
 
 -- the count where octets are taken
 pub taken_up : (up : Bool) (held piece : List ℕ) (n : ℕ) → up ≡ true → CountsFed up held piece n → CountsFed true held piece n
@@ -276,10 +285,6 @@ module _ {X Said Action : Type 0} (h : Hearer X Said Action) (is : IsHearer h) w
             ∙ in_parts x (take n piece) (drop n piece)
             ∙ ap (λ (d : Done X Action). behind d.actions (by_octets h d.session (drop n piece))) (front_by_octets x up (take n piece) waits held);
       }
-
-  none_more : (held piece : List ℕ) (n : ℕ) → Stops held → Takes held piece n → n ≡ 0
-  none_more held piece zero stops takes = refl
-  none_more held piece (suc n) stops takes = absurd (takes.no_sooner 0 (omega arith) (subst Stops (sym (append-nil held)) stops))
 
   pub feeds_pass : (x : X) (piece : List ℕ) (n : ℕ) → IsReady h x → AreOctets piece → (up : Bool) → h.listens x ≡ up → CountsFed up (h.held x) piece n
       → Passes x piece n [] (behind_feed h x piece n)
