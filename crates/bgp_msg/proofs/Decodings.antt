@@ -1,5 +1,5 @@
 -- A stream's outcomes, one step after another.
-use Rattle.std.proofs.Common.{◌≡◌, ℕ, ◌+◌, ◌<◌, true, false, List, [], ◌∷◌, ◌++◌, length, take, drop, get_or, Option, Some, None, Err, refl, sym, ap, ap₂, subst, ◌∙◌, append_assoc, arith, Bor, eqb, inl, inr, ◌⊎◌}
+use Rattle.std.proofs.Common.{◌≡◌, ℕ, ◌+◌, ◌<◌, true, false, List, [], ◌∷◌, ◌++◌, length, take, drop, get_or, Option, Some, None, Result, Ok, Err, refl, sym, ap, ap₂, subst, ◌∙◌, append_assoc, arith, Bor, eqb, inl, inr, ◌⊎◌}
 use Rattle.std.proofs.lemmas.Bool.{both_ways, cond-false, ne_eqb}
 use Rattle.std.specs.List.{flat_map}
 use Rattle.std.proofs.lemmas.Grind.{flat_map-append}
@@ -8,22 +8,21 @@ use Rattle.bgp_frame.specs.declared.end.End.{End}
 use Rattle.bgp_frame.specs.declared.end.End.TheVariants as end
 use Rattle.bgp_frame.specs.declared.fault.HeadFault.{HeadFault}
 use Rattle.bgp_frame.specs.Head.{head_of}
-use Rattle.bgp_frame.specs.Frame.{Message, IsFrame, Waits}
-use Rattle.bgp_frame.specs.Stream.{Gives, Judgement}
-use Rattle.bgp_frame.proofs.FrameLemmas.{head_of-append, length-IsFrame}
+use Rattle.bgp_frame.specs.Frame.{Message, octets_of, IsFrame, Waits}
+use Rattle.bgp_frame.specs.Stream.{Gives, Judgement, outcome_of}
+use Rattle.bgp_frame.proofs.FrameLemmas.{head_of-append, length-octets_of}
 use Rattle.bgp_frame.proofs.Pulls.{nothing_waits}
 use Rattle.bgp_frame.proofs.Streams.{gives_wait, gives_fault, gives_reset, gives_more}
 use Rattle.bgp_open.specs.declared.context.Context.{Context}
 use Rattle.bgp_msg.specs.declared.outcome.Outcome.{Outcome}
+use Rattle.bgp_msg.specs.Hearing.{IsContent}
 use Rattle.bgp_msg.specs.Outcome.{out_of, of_fault, is_reset, judgement}
-use Rattle.bgp_msg.specs.Decoder.{Decoding, fresh, holding, GivesMessage, GivesFault, IsNext}
+use Rattle.bgp_msg.specs.Decoder.{Decoding, fresh, holding, given_by, IsNext}
+use Rattle.bgp_msg.proofs.Pulls.{one_out}
 use Rattle.bgp_msg.specs.steps.Decoding.{GoesOn, EndsBy, Continues, Ends, Decodes, end_behind}
 
 abbrev pub Outs : Type 0
 Outs = List (ℕ × Outcome)
-
-abbrev pair : ℕ → Outcome → ℕ × Outcome
-pair n o = (n, o)
 
 module _ (ctx : Context) where
   abbrev j : Judgement Outcome
@@ -58,34 +57,22 @@ module _ (ctx : Context) where
     pub fed_waits : GoesOn ctx (held ++ octets) [] fed (drop n octets)
     fed_waits later others e g = subst (λ (s : List ℕ). Gives j s others e) (sym (fed_whole later)) g
 
-    module _ (m : Message) (k : ℕ) (o : Outcome) (frame : IsFrame m fed) (count : k ≡ length fed) (comes : o ≡ out_of ctx m) where
-      same_out : pair k o ≡ pair (length fed) (out_of ctx m)
-      same_out = ap₂ pair count comes
+    -- a message came to what lets the stream go on
+    pub fed_message : (m : Message) → IsFrame m fed → is_reset (out_of ctx m) ≡ false → GoesOn ctx (held ++ octets) (outcome_of j m ∷ []) [] (drop n octets)
+    fed_message m frame on later others e g =
+        subst (λ (s : List ℕ). Gives j s (outcome_of j m ∷ others) e) (sym (fed_whole later)) (gives_more Outcome j m fed (drop n octets ++ later) others e frame on g)
 
-      told_out : pair (length fed) (out_of ctx m) ≡ pair k o
-      told_out = sym same_out
-
-      -- a message came to what lets the stream go on
-      pub fed_message : is_reset o ≡ false → GoesOn ctx (held ++ octets) ((k, o) ∷ []) [] (drop n octets)
-      fed_message on later others e g =
-          subst (λ (s : List ℕ). Gives j s ((k, o) ∷ others) e) (sym (fed_whole later))
-          (subst (λ (x : ℕ × Outcome). Gives j (fed ++ (drop n octets ++ later)) (x ∷ others) e) (ap (λ (a : ℕ). pair a (out_of ctx m)) (sym (ap length frame.octets)) ∙ told_out)
-          (gives_more Outcome j m fed (drop n octets ++ later) others e frame (ap is_reset (sym comes) ∙ on) g))
-
-      -- or to a reset
-      pub fed_reset : is_reset o ≡ true → EndsBy ctx (held ++ octets) ((k, o) ∷ []) end.Reset
-      fed_reset is later =
-          subst (λ (s : List ℕ). Gives j s ((k, o) ∷ []) end.Reset) (sym (fed_whole later))
-          (subst (λ (x : ℕ × Outcome). Gives j (fed ++ (drop n octets ++ later)) (x ∷ []) end.Reset) (ap (λ (a : ℕ). pair a (out_of ctx m)) (sym (ap length frame.octets)) ∙ told_out)
-          (gives_reset Outcome j m fed (drop n octets ++ later) frame (ap is_reset (sym comes) ∙ is)))
+    -- or to a reset
+    pub fed_reset : (m : Message) → IsFrame m fed → is_reset (out_of ctx m) ≡ true → EndsBy ctx (held ++ octets) (outcome_of j m ∷ []) end.Reset
+    fed_reset m frame is later =
+        subst (λ (s : List ℕ). Gives j s (outcome_of j m ∷ []) end.Reset) (sym (fed_whole later)) (gives_reset Outcome j m fed (drop n octets ++ later) frame is)
 
     -- a header has a fault
-    pub fed_fault : (f : HeadFault) (o : Outcome) → length fed ≡ 19 → head_of fed ≡ Err f → o ≡ of_fault f → EndsBy ctx (held ++ octets) ((0, o) ∷ []) end.Head
-    fed_fault f o long faulty comes later =
+    pub fed_fault : (f : HeadFault) → IsContent (Err f) fed → EndsBy ctx (held ++ octets) ((0, of_fault f) ∷ []) end.Head
+    fed_fault f is later =
         let behind : List ℕ = drop n octets ++ later in
-        subst (λ (s : List ℕ). Gives j s ((0, o) ∷ []) end.Head) (sym (fed_whole later))
-        (subst (λ (x : Outcome). Gives j (fed ++ behind) ((0, x) ∷ []) end.Head) (sym comes)
-        (gives_fault Outcome j (fed ++ behind) f (omega (arith, long, length-append fed behind)) (head_of-append fed behind (omega (arith, long)) ∙ faulty)))
+        subst (λ (s : List ℕ). Gives j s ((0, of_fault f) ∷ []) end.Head) (sym (fed_whole later))
+        (gives_fault Outcome j (fed ++ behind) f (omega (arith, is.0, length-append fed behind)) (head_of-append fed behind (omega (arith, is.0)) ∙ is.1))
 
 -- ---- what a step shows
 
@@ -93,42 +80,53 @@ abbrev after_feed : Decoding → List ℕ → ℕ → Decoding
 after_feed old octets n = holding old (old.held ++ take n octets)
 
 module _ (old : Decoding) (octets : List ℕ) (n : ℕ) (before : Outs) (going : old.stopped ≡ false) where
-  pub step_none : (new : Decoding) → IsNext (after_feed old octets n) None new → Continues old octets before before (drop n octets) new
-  step_none new (none, is) =
-      subst (λ (d : Decoding). Continues old octets before before (drop n octets) d) (sym is) (record {
+  abbrev z : Decoding
+  z = after_feed old octets n
+
+  pub step_none : (new : Decoding) → IsNext z None new → Continues old octets before before (drop n octets) new
+  step_none new next =
+      subst (λ (d : Decoding). Continues old octets before before (drop n octets) d) (sym next.1) (record {
         going = going;
         same_ctx = refl;
-        waits = elim none [ inl stopped ↦ absurd (both_ways old.stopped going stopped) | inr waits ↦ waits ];
+        waits = next.0;
         fresh = [];
         told = sym (append-nil before);
         goes_on = fed_waits old.ctx old.held octets n;
       })
 
-  gives_reset_by : (k : ℕ) (o : Outcome) → is_reset o ≡ true → GivesMessage (after_feed old octets n) k o ⊎ GivesFault (after_feed old octets n) k o → EndsBy old.ctx (old.held ++ octets) ((k, o) ∷ []) (end_behind k)
-  gives_reset_by k o is (inl m) =
-      let long = length-IsFrame m.message (old.held ++ take n octets) m.is_held in
-      subst (λ (e : End). EndsBy old.ctx (old.held ++ octets) ((k, o) ∷ []) e) (sym (cond-false (eqb k 0) end.Head end.Reset (ne_eqb k 0 (λ (z : k ≡ 0). absurd (omega (arith, m.count))))))
-      (fed_reset old.ctx old.held octets n m.message k o m.is_held m.count m.comes_to is)
-  gives_reset_by k o is (inr f) =
-      subst (λ (i : ℕ). EndsBy old.ctx (old.held ++ octets) ((i, o) ∷ []) (end_behind i)) (sym f.count)
-      (fed_fault old.ctx old.held octets n f.fault o f.header f.faulty f.comes_to)
+  ends_by : (what : Result Message HeadFault) → IsContent what z.held → is_reset (given_by z what).1 ≡ true
+      → EndsBy old.ctx (old.held ++ octets) (given_by z what ∷ []) (end_behind (given_by z what).0)
+  ends_by (Ok m) frame is =
+      let k = length (octets_of m) in
+      let long = length-octets_of m in
+      subst (λ (e : End). EndsBy old.ctx (old.held ++ octets) (given_by z (Ok m) ∷ []) e) (sym (cond-false (eqb k 0) end.Head end.Reset (ne_eqb k 0 (λ (none : k ≡ 0). absurd (omega arith)))))
+      (fed_reset old.ctx old.held octets n m frame is)
+  ends_by (Err f) faulty is = fed_fault old.ctx old.held octets n f faulty
 
-  pub step_reset : (k : ℕ) (o : Outcome) (outs : Outs) (new : Decoding) → IsNext (after_feed old octets n) (Some (k, o)) new → is_reset o ≡ true → outs ≡ before ++ (k, o) ∷ [] → Ends old octets before outs (end_behind k)
-  step_reset k o outs new next is told = record { fresh = (k, o) ∷ []; told = told; ends = gives_reset_by k o is next.1 }
+  goes_by : (what : Result Message HeadFault) → IsContent what z.held → is_reset (given_by z what).1 ≡ false → GoesOn old.ctx (old.held ++ octets) (given_by z what ∷ []) [] (drop n octets)
+  goes_by (Ok m) frame on = fed_message old.ctx old.held octets n m frame on
+  goes_by (Err f) faulty on = absurd cc
 
-  goes_on_by : (k : ℕ) (o : Outcome) → is_reset o ≡ false → GivesMessage (after_feed old octets n) k o ⊎ GivesFault (after_feed old octets n) k o → GoesOn old.ctx (old.held ++ octets) ((k, o) ∷ []) [] (drop n octets)
-  goes_on_by k o is (inl m) = fed_message old.ctx old.held octets n m.message k o m.is_held m.count m.comes_to is
-  goes_on_by k o is (inr f) = absurd (both_ways (is_reset o) is (ap is_reset f.comes_to))
+  pub step_reset : (k : ℕ) (o : Outcome) (outs : Outs) (new : Decoding) → IsNext z (Some (k, o)) new → is_reset o ≡ true → outs ≡ before ++ (k, o) ∷ [] → Ends old octets before outs (end_behind k)
+  step_reset k o outs new next is told =
+      let same : (k, o) ≡ given_by z next.what = one_out z (k, o) new next in record {
+        fresh = (k, o) ∷ [];
+        told = told;
+        ends = subst (λ (out : ℕ × Outcome). EndsBy old.ctx (old.held ++ octets) (out ∷ []) (end_behind out.0)) (sym same)
+            (ends_by next.what next.is_held (ap (λ (out : ℕ × Outcome). is_reset out.1) (sym same) ∙ is));
+      }
 
-  pub step_on : (k : ℕ) (o : Outcome) (outs : Outs) (new : Decoding) → IsNext (after_feed old octets n) (Some (k, o)) new → is_reset o ≡ false → outs ≡ before ++ (k, o) ∷ [] → Continues old octets before outs (drop n octets) new
+  pub step_on : (k : ℕ) (o : Outcome) (outs : Outs) (new : Decoding) → IsNext z (Some (k, o)) new → is_reset o ≡ false → outs ≡ before ++ (k, o) ∷ [] → Continues old octets before outs (drop n octets) new
   step_on k o outs new next is told =
-      subst (λ (d : Decoding). Continues old octets before outs (drop n octets) d) (sym next.2) (record {
-        going = is;
+      let same : (k, o) ≡ given_by z next.what = one_out z (k, o) new next in
+      let on = ap (λ (out : ℕ × Outcome). is_reset out.1) (sym same) ∙ is in
+      subst (λ (d : Decoding). Continues old octets before outs (drop n octets) d) (sym next.leaves) (record {
+        going = on;
         same_ctx = refl;
         waits = nothing_waits;
         fresh = (k, o) ∷ [];
         told = told;
-        goes_on = goes_on_by k o is next.1;
+        goes_on = subst (λ (out : ℕ × Outcome). GoesOn old.ctx (old.held ++ octets) (out ∷ []) [] (drop n octets)) (sym same) (goes_by next.what next.is_held on);
       })
 
 -- ---- steps one after another

@@ -1,4 +1,5 @@
 -- Lemmas on messages and streams.
+pub mod Hearings
 pub mod Pulls
 pub mod Encodings
 pub mod Rooms

@@ -3,6 +3,7 @@ pub mod Outcome
 pub mod OutcomeView
 pub mod Written
 pub mod Seen
+pub mod Hearing
 pub mod Decoder
 pub mod Next
 pub mod Look
