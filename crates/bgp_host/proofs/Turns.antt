@@ -22,7 +22,7 @@ use Rattle.bgp_host.proofs.Records.{grows_none, grows_both}
 pulled_settings : (x : Machine) (piece : List ℕ) (n : ℕ) (found : Option (ArrayVec Action)) (y : Machine) → IsPulled x piece n found y → y.settings ≡ x.settings
 pulled_settings x piece n None y (inl p) = ap (λ (m : Machine). m.settings) p.same
 pulled_settings x piece n None y (inr p) = ap (λ (m : Machine). m.settings) p.fed.1
-pulled_settings x piece n (Some actions) y p = ap (λ (m : Machine). m.settings) p.step.leaves
+pulled_settings x piece n (Some actions) y p = ap (λ (m : Machine). m.settings) p.next.leaves
 
 settings_kept : (x : Machine) (cause : Cause) (actions : List Action) (y : Machine) → Gives x cause actions y → y.settings ≡ x.settings
 settings_kept x (Told event) actions y gives = ap (λ (m : Machine). m.settings) gives.1

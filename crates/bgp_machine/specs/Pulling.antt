@@ -1,5 +1,5 @@
 -- What a session makes of a piece whose messages are judged where they stand.
-use Rattle.std.specs.Prelude.{◌≡◌, ◌≤◌, ℕ, Bool, true, false, List, [], length, take, Option, None, Some}
+use Rattle.std.specs.Prelude.{◌≡◌, ◌≤◌, ℕ, Bool, true, false, List, [], length, take, Option, None, Some, option_map}
 use Rattle.arrayvec.specs.ArrayVec.{ArrayVec}
 use Rattle.bgp_msg.specs.Hearing as hearing
 use Rattle.bgp_machine.specs.declared.action.Action.{Action}
@@ -12,13 +12,11 @@ where_found false actions = None
 
 -- how many octets of a piece a pull takes, and what is done on them or on what was held
 abbrev pub IsPulled : Machine → List ℕ → ℕ → Option (ArrayVec Action) → Machine → Type 0
-IsPulled old piece n None new = hearing.IsPulled hearer old piece n None new
-IsPulled old piece n (Some actions) new = hearing.PullsNext hearer old piece n actions.items new
+IsPulled old piece n found new = hearing.IsPulled hearer old piece n (option_map (λ actions. actions.items) found) new
 
 -- what `feed` takes of the piece is taken, and then what is done is what `step` does
 abbrev pub IsFedAndStepped : Machine → List ℕ → ℕ → Option (ArrayVec Action) → Machine → Type 0
-IsFedAndStepped old piece n None new = hearing.IsFedAndJudged hearer old piece n None new
-IsFedAndStepped old piece n (Some actions) new = hearing.IsFedAndJudged hearer old piece n (Some actions.items) new
+IsFedAndStepped old piece n found new = hearing.IsFedAndJudged hearer old piece n (option_map (λ actions. actions.items) found) new
 
 -- what can ask for memory where nothing is held: such a message at the front of the piece
 pub record FrontTakesMemory (old : Machine) (piece : List ℕ) : Type 0 where

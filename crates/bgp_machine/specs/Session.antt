@@ -1,5 +1,5 @@
 -- What a session holds, and what each event and each octet does (RFC 4271, sections 4.1 and 8.2.2).
-use Rattle.std.specs.Prelude.{◌≡◌, ◌⊎◌, ℕ, Bool, true, false, List, [], Option, None, Some, Ok}
+use Rattle.std.specs.Prelude.{◌≡◌, ◌⊎◌, ℕ, Bool, true, false, List, [], Option, None, Some, option_map, Ok}
 use Rattle.arrayvec.specs.ArrayVec.{ArrayVec}
 use Rattle.bgp_frame.specs.declared.kind.Kind.TheVariants as kind
 use Rattle.bgp_frame.specs.Content.{content_of}
@@ -75,8 +75,7 @@ judged x = hearing.judged hearer x
 
 -- nothing is done where what is held waits for more
 abbrev pub IsJudged : Machine → Option (ArrayVec Action) → Machine → Type 0
-IsJudged old None new = hearing.IsJudged hearer old None new
-IsJudged old (Some actions) new = hearing.Judges hearer old actions.items new
+IsJudged old found new = hearing.IsJudged hearer old (option_map (λ actions. actions.items) found) new
 
 -- what can ask for memory: an OPEN without fault in OpenSent, or an UPDATE that doesn't end the session in Established
 pub record OpenTakesMemory (x : Standing) (m : Message) : Type 0 where

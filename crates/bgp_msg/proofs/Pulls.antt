@@ -1,5 +1,5 @@
 -- A decoder is a hearer of octets, and what it finds by a look is what a pull gives.
-use Rattle.std.proofs.Common.{◌≡◌, ℕ, ◌≤◌, ◌⊎◌, Bool, true, false, not, List, [], ◌∷◌, ◌++◌, length, take, Result, Ok, Err, OnErr, Option, Some, None, refl, sym, ap, ap₂, subst, ◌∙◌, arith, inl, inr}
+use Rattle.std.proofs.Common.{◌≡◌, ℕ, ◌≤◌, ◌⊎◌, Bool, true, false, not, List, [], ◌∷◌, ◌++◌, length, take, Result, Ok, Err, OnErr, Option, Some, option_map, refl, sym, ap, ap₂, subst, ◌∙◌, arith, inl, inr}
 use Rattle.std.proofs.lemmas.Bool.{not-true}
 use Rattle.bgp_frame.specs.declared.fault.HeadFault.{HeadFault}
 use Rattle.bgp_frame.specs.declared.step.Frame.{Frame}
@@ -35,8 +35,7 @@ is_hearer = record {
 }
 
 pub pulls_as_fed : (old : Decoding) (piece : List ℕ) (n : ℕ) (found : Option (ℕ × Outcome)) (new : Decoding) → IsPulled old piece n found new → IsFedAndNext old piece n found new
-pulls_as_fed old piece n None new p = hearings.pulls_as_fed decoder is_hearer old piece n None new p
-pulls_as_fed old piece n (Some out) new p = hearings.pulls_as_fed decoder is_hearer old piece n (Some (out ∷ [])) new p
+pulls_as_fed old piece n found new p = hearings.pulls_as_fed decoder is_hearer old piece n (option_map (λ out. out ∷ []) found) new p
 
 -- the one outcome of what is held
 pub one_out : (d : Decoding) (out : ℕ × Outcome) (new : Decoding) (j : Judges decoder d (out ∷ []) new) → out ≡ given_by d j.what

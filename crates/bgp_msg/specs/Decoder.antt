@@ -1,5 +1,5 @@
 -- What a decoder holds, and what it gives.
-use Rattle.std.specs.Prelude.{◌≡◌, ◌≤◌, ◌⊎◌, ℕ, Bool, true, false, not, List, [], ◌∷◌, length, take, Option, None, Some, Result, Ok, Err}
+use Rattle.std.specs.Prelude.{◌≡◌, ◌≤◌, ◌⊎◌, ℕ, Bool, true, false, not, List, [], ◌∷◌, length, take, Option, option_map, Result, Ok, Err}
 use Rattle.bgp_frame.specs.declared.fault.HeadFault.{HeadFault}
 use Rattle.bgp_frame.specs.declared.kind.Kind.TheVariants as kind
 use Rattle.bgp_frame.specs.Frame as frame
@@ -49,18 +49,15 @@ IsFed old piece n new = hearing.IsFed decoder old piece n new
 
 -- what a decoder gives next: nothing where what is held waits, else the outcome of what is held
 abbrev pub IsNext : Decoding → Option (ℕ × Outcome) → Decoding → Type 0
-IsNext old None new = hearing.IsJudged decoder old None new
-IsNext old (Some out) new = hearing.Judges decoder old (out ∷ []) new
+IsNext old found new = hearing.IsJudged decoder old (option_map (λ out. out ∷ []) found) new
 
 -- what a decoder pulls from a piece: how many octets it takes, and what comes of them or of what was held
 abbrev pub IsPulled : Decoding → List ℕ → ℕ → Option (ℕ × Outcome) → Decoding → Type 0
-IsPulled old piece n None new = hearing.IsPulled decoder old piece n None new
-IsPulled old piece n (Some out) new = hearing.PullsNext decoder old piece n (out ∷ []) new
+IsPulled old piece n found new = hearing.IsPulled decoder old piece n (option_map (λ out. out ∷ []) found) new
 
 -- what `feed` takes of the piece is taken, and then what comes is what `next` gives
 abbrev pub IsFedAndNext : Decoding → List ℕ → ℕ → Option (ℕ × Outcome) → Decoding → Type 0
-IsFedAndNext old piece n None new = hearing.IsFedAndJudged decoder old piece n None new
-IsFedAndNext old piece n (Some out) new = hearing.IsFedAndJudged decoder old piece n (Some (out ∷ [])) new
+IsFedAndNext old piece n found new = hearing.IsFedAndJudged decoder old piece n (option_map (λ out. out ∷ []) found) new
 
 -- what can ask for memory: a message with routes or capabilities that is held, and doesn't end the session
 pub record TakesMemory (old : Decoding) : Type 0 where
