@@ -16,7 +16,7 @@ class Daemon:
     # What it answers to an ORIGIN of 5, where that isn't treated as a withdrawal (RFC 7606, section 7.1).
     origin_answer = None
     # What it can't be sent, though it is well formed.
-    refuses = None
+    refuses = ()
 
     def __init__(self, folder, connects, port, routes4, routes6):
         """`port` is where it listens, or where it connects to."""
@@ -162,8 +162,8 @@ class OpenBgpd(Daemon):
     name, command, package = "OpenBGPD", "bgpctl", "openbgpd"
     # Version 7.7 ends the session as RFC 4271, section 6.3, has it, where RFC 7606 asks for a withdrawal.
     origin_answer = "3/6"
-    # It ends a session for these too (3/9), which are well formed (RFC 4760, section 5).
-    refuses = "IPv4 routes in MP_REACH_NLRI"
+    # It ends a session for these too (3/9, 3/3), which are well formed (RFC 4760, section 5; RFC 4271, section 6.3).
+    refuses = ("IPv4 routes in MP_REACH_NLRI", "attributes without routes")
 
     def configure(self):
         routes = "".join(f"network {route}\n" for route in (*self.routes4, *self.routes6))
