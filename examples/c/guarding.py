@@ -1,5 +1,6 @@
 """Tries examples/c/guard: both sides are played on loopback by a script, and what reaches a side is compared with what `PROGRAM clean` writes of what the
-other one sent, or with octets that are written here."""
+other one sent, or with octets that are written here. And the calls on guards, of the shared library, by the rows of guards."""
+import ctypes
 import pathlib
 import subprocess
 import sys
@@ -141,3 +142,92 @@ def try_all(made, program, report):
     try_absence(made, report)
     try_table(made, report)
     try_words(made, report)
+
+
+# ---- rows
+
+KINDS = ("", "Open", "Update", "Notification", "Keepalive")
+EVENTS = {"stands": 1, "can't be reached": 2, "closes": 3}
+
+
+class Came(ctypes.Structure):
+    _fields_ = [(name, ctypes.c_uint8) for name in ("what", "kind", "same", "code", "subcode")]
+
+
+class Asks(ctypes.Structure):
+    _fields_ = [*((name, ctypes.c_uint8) for name in ("listens", "closes", "ended")), ("way", ctypes.c_size_t)]
+
+
+class Handle:
+    """A guard behind a handle, and what it does as rows tell it (docs/ROWS.md)."""
+
+    def __init__(self, library, settings):
+        passed = bytes(kind for kind in range(256) if str(kind) not in settings)
+        self.library, self.body, self.is_slow, self.page = library, ctypes.c_void_p(), "slow" in settings, []
+        assert library.ristulva_guard_new(passed, ctypes.c_size_t(len(passed)), "one-way" in settings, ctypes.byref(self.body)) == 0
+
+    def call(self, name, *words):
+        assert getattr(self.library, f"ristulva_guard_{name}")(ctypes.byref(self.body), *words) == 0, name
+
+    def hear(self, side, octets):
+        taken, came = ctypes.c_size_t(1), Came()
+        while taken.value > 0:
+            self.call("hear", side, octets, ctypes.c_size_t(len(octets)), ctypes.byref(taken), ctypes.byref(came))
+            octets = octets[taken.value :]
+            if came.what == 1:
+                self.page.append(f"hands on {KINDS[came.kind]}" + " changed" * (not came.same))
+            if came.what == 2:
+                self.page.append(f"answers {came.code}/{came.subcode}")
+        if octets:
+            self.page.append("isn't read")
+
+    def asks(self, side):
+        asks = Asks()
+        self.call("asks", side, ctypes.byref(asks))
+        return asks
+
+    def make(self, line, octets_of):
+        """What a line says happens, and then what is on its way and which side is closed."""
+        word, _, told = line.partition(" ")
+        side = ("outer", "inner", "tick").index(word)
+        if word == "tick":
+            for _ in range(int(told)):
+                self.call("tick")
+        elif told in EVENTS:
+            self.call("event", side, EVENTS[told])
+        elif told.startswith("takes "):
+            self.call("sent", side, ctypes.c_size_t(int(told[6:])))
+        else:
+            self.hear(side, octets_of(told.removeprefix("sends ")))
+        for side, name in enumerate(("outer", "inner")):
+            count, written = self.asks(side).way, ctypes.c_size_t()
+            octets = ctypes.create_string_buffer(count + 1)
+            self.call("way", side, octets, ctypes.c_size_t(count + 1), ctypes.byref(written))
+            assert written.value == count
+            if count:
+                self.page.append(f"to {name} " + (f"{count} octets" if self.is_slow else octets.raw[:count].hex()))
+            if not self.is_slow:
+                self.call("sent", side, ctypes.c_size_t(count))
+        self.page += [f"close {name}" for side, name in enumerate(("outer", "inner")) if self.asks(side).closes]
+
+
+def by_row(library, lines, octets_of):
+    """What a guard of the library's does of a row's lines: of those behind `after` nothing is told."""
+    guard, page = Handle(library, lines[1].split()[1:]), []
+    for line in lines[2 : lines.index("want")]:
+        word, _, told = line.partition(" ")
+        guard.page = []
+        guard.make(told, octets_of)
+        if word == "do":
+            page += guard.page or ["nothing"]
+    guard.call("free")
+    return page
+
+
+def try_rows(library, paragraphs, octets_of, report):
+    """The rows of guards: what is told of each is what stands there."""
+    library = ctypes.CDLL(str(library))
+    for lines in paragraphs:
+        if len(lines) > 1 and lines[1].split()[0] == "guard":
+            page = by_row(library, lines, octets_of)
+            report(lines[0], page == lines[lines.index("want") + 1 :], page)
