@@ -47,7 +47,7 @@ fresh_rests s = rests_empty hearer is_hearer (fresh s) refl
 kept_rests : (x : Machine) (next : Standing) (up : Bool) → listens next.state ≡ up → IsAtRest x → IsAtRest (record { settings = x.settings; standing = next; held = kept up x.held })
 kept_rests x next true is rest =
     rests_ready hearer is_hearer (record { settings = x.settings; standing = next; held = x.held })
-    (record { can_hold = rest.can_hold; holds_none = λ deaf. absurd (not_both (listens next.state) is deaf) }) (waits_at hearer is_hearer x rest.can_hold rest.nothing_to_do)
+    (record { can_hold = rest.can_hold; holds_none = λ deaf. absurd (not_both (listens next.state) is deaf) }) (waits_at hearer is_hearer x rest.nothing_to_do)
 kept_rests x next false is rest = rests_empty hearer is_hearer (record { settings = x.settings; standing = next; held = [] }) refl
 
 pub event_rests : (x : Machine) (event : Event) → IsAtRest x → IsAtRest (after_event x event)

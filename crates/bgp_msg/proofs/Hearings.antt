@@ -1,64 +1,41 @@
 -- However octets are cut, and by whatever calls they are heard, what is done on them is what is done octet by octet.
 use Rattle.std.proofs.Common.{◌≡◌, ℕ, zero, suc, ◌+◌, ◌-◌, ◌<◌, ◌≤◌, min, ◌⊎◌, Bool, true, false, List, [], ◌∷◌, ◌++◌, length, map, take, drop, Option, None, Some, option_map, Result, Ok, Err, refl, sym, ap, ap₂, subst, ◌∙◌, append_assoc, arith, inl, inr}
 use Rattle.std.specs.List.{flat_map}
+use Rattle.std.proofs.Math.Seq.{take-add}
 use Rattle.std.proofs.lemmas.Bool.{cases_lt}
 use Rattle.std.proofs.lemmas.List.{append-nil, length-append, length-drop, length-take, take_all, take-append-drop, take-take}
 use Rattle.bgp_wire.specs.Octets.{AreOctets}
 use Rattle.bgp_wire.proofs.OctetLemmas.{AreOctets-append, AreOctets-take, AreOctets-drop, AreOctets-front, AreOctets-back}
 use Rattle.bgp_frame.specs.declared.fault.HeadFault.{HeadFault}
-use Rattle.bgp_frame.specs.Content.{content_of}
+use Rattle.bgp_frame.specs.Content.{content, content_of}
 use Rattle.bgp_frame.specs.Frame.{Message, wanted, Waits}
 use Rattle.bgp_frame.specs.Framer.{IsHeld}
 use Rattle.bgp_frame.specs.Pull.{Pulls, IsToFeed}
 use Rattle.bgp_frame.specs.Takes.{Stops, Takes}
 use Rattle.bgp_msg.specs.Hearing.{Hearer, IsContent, CountsFed, with_octet, Done, behind, one_if_any, behind_feed, IsFed, Judges, IsJudged, PullsNothing, PullsSome, PullsNext, IsPulled, IsFedAndJudged, by_feed, judged, done_by, settled, by_octet, by_octets, IsAtRest, IsReady, left_to_do, weight, Way, given, Run, all_octets, Calls, Runs, CanBeHeard}
 use Rattle.bgp_frame.proofs.Contents.{enough, content_of-waits, content_of-frame, content_of-fault}
-use Rattle.bgp_frame.proofs.Feeding.{takes_some, Fills-takes}
-use Rattle.bgp_frame.proofs.FrameLemmas.{wanted_under, wanted-append, wanted-bounds, wanted-Stops, Stops-wanted}
+use Rattle.bgp_frame.proofs.Feeding.{takes_some, Fills, Fills-takes, Fills-held}
+use Rattle.bgp_frame.proofs.FrameLemmas.{one_count, wanted_under, wanted-append, wanted-bounds, wanted-Stops, Stops-wanted}
 use Rattle.bgp_frame.proofs.Holding.{IsHeld_nil}
 use Rattle.bgp_frame.proofs.Pulls.{held_or_front, held_pulls, nothing_waits}
 
 -- ---- octets that are held
 
-module _ (held piece : List ℕ) (n : ℕ) (is : IsHeld held) (octets : AreOctets piece) (takes : Takes held piece n) where
-  abbrev more : List ℕ
-  more = held ++ take n piece
+-- a feed fills up to a header, and then up to what that wants
+count_taken : (held piece : List ℕ) → IsHeld held → AreOctets piece → (n : ℕ) × Takes held piece n × IsHeld (held ++ take n piece)
+count_taken held piece is octets =
+    let first : ℕ = min (19 - length held) (length piece) in
+    let headed : List ℕ = held ++ take first piece in
+    let second : ℕ = min (wanted headed - length headed) (length piece - first) in
+    let f : Fills held piece first second = record { held_is = is; octets = octets; first_is = refl; second_is = refl } in
+    let joined : headed ++ take second (drop first piece) ≡ held ++ take (first + second) piece =
+    append_assoc held (take first piece) (take second (drop first piece)) ∙ ap (λ (b : List ℕ). held ++ b) (sym (take-add first second piece)) in
+    (first + second, Fills-takes held piece first second f, subst IsHeld joined (Fills-held held piece first second f))
 
-  -- what is held wants no more than it does once it is fed
-  wants_as_much : length held ≤ wanted more
-  wants_as_much =
-      let bounds = wanted-bounds more in
-      elim (cases_lt (length held) 19) [
-        | inl short ↦ omega (arith, bounds.0)
-        | inr long ↦ let same = wanted-append held (take n piece) long in omega (arith, is.within)
-      ]
-
-  -- where more were taken than are wanted, a front of them was whole
-  too_many : wanted more < length more → ⊥
-  too_many over =
-      let k : ℕ = wanted more - length held in
-      let front : List ℕ = held ++ take k piece in
-      let bounds = wanted-bounds more in
-      let least = wants_as_much in
-      let all : length more ≡ length held + length (take n piece) = length-append held (take n piece) in
-      let count = length-take n piece in
-      let sooner = length-take k piece in
-      let some : length front ≡ length held + length (take k piece) = length-append held (take k piece) in
-      let within = takes.within in
-      let long : length front ≡ wanted more = omega arith in
-      let rest : List ℕ = drop k (take n piece) in
-      let whole : front ++ rest ≡ more =
-      append_assoc held (take k piece) rest
-      ∙ ap (λ (x : List ℕ). held ++ (x ++ rest)) (sym (take-take k n piece (omega arith)))
-      ∙ ap (λ (x : List ℕ). held ++ x) (take-append-drop k (take n piece)) in
-      let wants : wanted front ≡ wanted more = sym (wanted-append front rest (omega (arith, bounds.0))) ∙ ap wanted whole in
-      takes.no_sooner k (omega arith) (wanted-Stops front (AreOctets-append held (take k piece) is.octets (AreOctets-take k piece octets)) (omega (arith, bounds.0)) (omega arith))
-
-  pub IsHeld-fed : IsHeld more
-  IsHeld-fed = record {
-    octets = AreOctets-append held (take n piece) is.octets (AreOctets-take n piece octets);
-    within = elim (cases_lt (wanted more) (length more)) [ inl over ↦ absurd (too_many over) | inr enough ↦ enough ];
-  }
+pub IsHeld-fed : (held piece : List ℕ) (n : ℕ) → IsHeld held → AreOctets piece → Takes held piece n → IsHeld (held ++ take n piece)
+IsHeld-fed held piece n is octets takes =
+    let f = count_taken held piece is octets in
+    subst (λ (k : ℕ). IsHeld (held ++ take k piece)) (one_count held piece f.0 n f.1 takes) f.2
 
 -- what can be held waits, or is whole
 pub waits_or_stops : (b : List ℕ) → IsHeld b → Waits b ⊎ Stops b
@@ -66,6 +43,14 @@ waits_or_stops b is =
     elim (cases_lt (length b) (wanted b)) [
       | inl waits ↦ inl waits
       | inr long ↦ let bounds = wanted-bounds b in let within = is.within in inr (wanted-Stops b is.octets (omega (arith, bounds.0)) (omega arith))
+    ]
+
+-- what comes to nothing yet waits
+pub none_waits : {S : Type 0} (of : Result Message HeadFault → S) (b : List ℕ) → option_map of (content_of b) ≡ None → Waits b
+none_waits of b none =
+    elim (cases_lt (length b) (wanted b)) [
+      | inl waits ↦ waits
+      | inr long ↦ absurd (let not : None ≡ Some (of (content b)) = sym none ∙ ap (option_map of) (enough b long) in cc)
     ]
 
 pub not_whole : (b : List ℕ) → Waits b → Stops b → ⊥
@@ -80,12 +65,16 @@ front_waits a b within some =
       | inr long ↦ let e = wanted-append a b long in omega arith
     ]
 
-pub count_taken : (held piece : List ℕ) → IsHeld held → AreOctets piece → (n : ℕ) × Takes held piece n
-count_taken held piece is octets =
-    let first : ℕ = min (19 - length held) (length piece) in
-    let headed : List ℕ = held ++ take first piece in
-    let second : ℕ = min (wanted headed - length headed) (length piece - first) in
-    (first + second, Fills-takes held piece first second (record { held_is = is; octets = octets; first_is = refl; second_is = refl }))
+-- What octets do that can all be held, behind octets that wait: it is enough to know what the last of them does, and that the others are held
+module _ (P : List ℕ → List ℕ → Type 0) (whole : List ℕ) (last : (held : List ℕ) (octet : ℕ) → held ++ octet ∷ [] ≡ whole → P held (octet ∷ []))
+    (on : (held : List ℕ) (octet next : ℕ) (later : List ℕ) → Waits (held ++ octet ∷ []) → P (held ++ octet ∷ []) (next ∷ later) → P held (octet ∷ next ∷ later)) where
+  pub all_held : IsHeld whole → (held : List ℕ) (octet : ℕ) (later : List ℕ) → held ++ octet ∷ later ≡ whole → P held (octet ∷ later)
+  all_held is held octet [] joined = last held octet joined
+  all_held is held octet (next ∷ later) joined =
+      let more : List ℕ = held ++ octet ∷ [] in
+      let regrouped : more ++ next ∷ later ≡ whole = append_assoc held (octet ∷ []) (next ∷ later) ∙ joined in
+      let within : length (more ++ next ∷ later) ≤ wanted (more ++ next ∷ later) = subst (λ (b : List ℕ). length b ≤ wanted b) (sym regrouped) is.within in
+      on held octet next later (front_waits more (next ∷ later) within (omega arith)) (all_held is more next later regrouped)
 
 pub content_is : (what : Result Message HeadFault) (b : List ℕ) → IsContent what b → content_of b ≡ Some what
 content_is (Ok m) b is = content_of-frame m b is
@@ -158,14 +147,8 @@ module _ {X Said Action : Type 0} (h : Hearer X Said Action) (is : IsHearer h) w
   idles x waits = ap (option_map (h.comes x)) (content_of-waits (h.held x) waits)
 
   -- what has nothing to do waits
-  pub waits_at : (x : X) → IsHeld (h.held x) → judged h x ≡ None → Waits (h.held x)
-  waits_at x held none =
-      elim (waits_or_stops (h.held x) held) [
-        | inl waits ↦ waits
-        | inr stops ↦
-            let what = content_in (h.held x) stops in
-            absurd (let not : None ≡ Some (h.comes x what.0) = sym none ∙ ap (option_map (h.comes x)) (content_is what.0 (h.held x) what.1) in cc)
-      ]
+  pub waits_at : (x : X) → judged h x ≡ None → Waits (h.held x)
+  waits_at x none = none_waits (h.comes x) (h.held x) none
 
   pub rests : (x : X) → Waits (h.held x) → settled h x ≡ done [] x
   rests x waits = ap (done_by h x) (idles x waits)
@@ -201,28 +184,22 @@ module _ {X Said Action : Type 0} (h : Hearer X Said Action) (is : IsHearer h) w
         ap₂ (λ (b : Bool) (l : List ℕ). settled h (h.holding (h.holding x held) (with_octet b l octet))) (is.listens_so x held ∙ up) (is.held_so x held)
         ∙ ap (settled h) (is.held_last x held (held ++ octet ∷ []))
 
-    -- octets that can all be held are joined to what is held
-    joins : (held : List ℕ) (octet : ℕ) (front : List ℕ) → IsHeld (held ++ octet ∷ front)
-        → by_octets h (h.holding x held) (octet ∷ front) ≡ settled h (h.holding x (held ++ octet ∷ front))
-    joins held octet [] held_is =
-        ap (λ (d : Done X Action). behind d.actions (by_octets h d.session [])) (takes_one held octet)
-        ∙ ap (λ (actions : List Action). done actions (settled h (h.holding x (held ++ octet ∷ []))).session) (append-nil _)
-    joins held octet (next ∷ front) held_is =
-        let more : List ℕ = held ++ octet ∷ [] in
-        let regrouped : more ++ next ∷ front ≡ held ++ octet ∷ next ∷ front = append_assoc held (octet ∷ []) (next ∷ front) in
-        let is_more : IsHeld (more ++ next ∷ front) = subst IsHeld (sym regrouped) held_is in
-        let waits : Waits more = front_waits more (next ∷ front) is_more.within (omega arith) in
-        ap (λ (d : Done X Action). behind d.actions (by_octets h d.session (next ∷ front)))
-        (takes_one held octet ∙ rests (h.holding x more) (subst Waits (sym (is.held_so x more)) waits))
-        ∙ joins more next front is_more
-        ∙ ap (λ (l : List ℕ). settled h (h.holding x l)) regrouped
-
     -- so it is for a whole front, where what is held waits
     pub front_by_octets : (front : List ℕ) → Waits (h.held x) → IsHeld (h.held x ++ front) → by_octets h x front ≡ settled h (h.holding x (h.held x ++ front))
     front_by_octets [] waits held_is =
         sym (rests x waits) ∙ ap (settled h) (sym (ap (h.holding x) (append-nil (h.held x)) ∙ is.held_same x))
     front_by_octets (octet ∷ front) waits held_is =
-        ap (λ (y : X). by_octets h y (octet ∷ front)) (sym (is.held_same x)) ∙ joins (h.held x) octet front held_is
+        let whole = h.held x ++ octet ∷ front in
+        ap (λ (y : X). by_octets h y (octet ∷ front)) (sym (is.held_same x))
+        ∙ all_held (λ held later. by_octets h (h.holding x held) later ≡ settled h (h.holding x whole)) whole
+        (λ held octet joined.
+            ap (λ (d : Done X Action). behind d.actions (by_octets h d.session [])) (takes_one held octet)
+            ∙ ap (λ (actions : List Action). done actions (settled h (h.holding x (held ++ octet ∷ []))).session) (append-nil _)
+            ∙ ap (λ (l : List ℕ). settled h (h.holding x l)) joined)
+        (λ held octet next later more_waits goes.
+            ap (λ (d : Done X Action). behind d.actions (by_octets h d.session (next ∷ later)))
+            (takes_one held octet ∙ rests (h.holding x (held ++ octet ∷ [])) (subst Waits (sym (is.held_so x _)) more_waits)) ∙ goes)
+        held_is (h.held x) octet front refl
 
   -- ---- octets that aren't taken
 
@@ -382,7 +359,7 @@ module _ {X Said Action : Type 0} (h : Hearer X Said Action) (is : IsHearer h) w
     calls_settle : (calls : ℕ) (piece : List ℕ) (x : X) (actions : List Action) (y : X) → IsAtRest h x → AreOctets piece → Calls way calls piece x actions y → Settles x piece actions y
     calls_settle calls piece x actions y rest octets c =
         let ends = calls_end calls piece x actions y (ready_at x rest) octets c in
-        (sym (waiting x piece (waits_at x rest.can_hold rest.nothing_to_do)) ∙ ends.0, ends.1)
+        (sym (waiting x piece (waits_at x rest.nothing_to_do)) ∙ ends.0, ends.1)
 
     -- the theorem on cutting
     pub runs_settle : (x : X) (runs : List Run) (actions : List Action) (y : X) → IsAtRest h x → AreOctets (all_octets runs) → Runs way runs x actions y
@@ -551,7 +528,7 @@ module _ {X Said Action : Type 0} (h : Hearer X Said Action) (is : IsHearer h) w
   pulls_front x piece ready octets false deaf none = pulls_fed x piece ready octets (λ up. absurd (not_both (h.listens x) up deaf))
   pulls_front x piece ready octets true up none =
       let t = count_taken [] piece IsHeld_nil octets in
-      elim (waits_or_stops (take t.0 piece) (IsHeld-fed [] piece t.0 IsHeld_nil octets t.1)) [
+      elim (waits_or_stops (take t.0 piece) t.2) [
         | inl waits ↦ pulls_fed x piece ready octets (λ any. record { waits = empty_waits x none; no_front = inr (piece_waits piece t.0 t.1 waits) })
         | inr stops ↦
             pulls_judged x piece t.0 up (record { takes = subst (λ (b : List ℕ). Takes b piece t.0) (sym none) t.1; one_place = inr none })

@@ -64,7 +64,7 @@ module _ (side : Side) (p : Pair) (piece : List ℕ) where
 pub fed_from : (side : Side) (p : Pair) (piece : List ℕ) → IsAtRest p.this.session → fed side p piece ≡ fed_on side p piece
 fed_from side p piece rest =
     let x : Machine = p.this.session in
-    ap (λ (e : Done). all_acted side (with_machine p e.session) e.actions) (sym (waiting hearer is_hearer x piece (waits_at hearer is_hearer x rest.can_hold rest.nothing_to_do)))
+    ap (λ (e : Done). all_acted side (with_machine p e.session) e.actions) (sym (waiting hearer is_hearer x piece (waits_at hearer is_hearer x rest.nothing_to_do)))
 
 -- ---- what the code has of a pull
 

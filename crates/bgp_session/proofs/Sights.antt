@@ -19,7 +19,7 @@ use Rattle.bgp_machine.specs.Standing.{listens}
 use Rattle.bgp_machine.specs.Table.{hears}
 use Rattle.bgp_machine.proofs.Cuttings.{is_hearer, pulls_as_fed}
 use Rattle.bgp_msg.specs.Hearing.{CountsFed, Judges, behind_feed, with_octet}
-use Rattle.bgp_msg.proofs.Hearings.{IsHeld-fed, content_is, counts_within, empty_waits, front_by_octets, front_waits, idles, judged_empty, none_left, none_more, pull_waits, rests, settled_by, took_none, waits_at, waits_or_stops}
+use Rattle.bgp_msg.proofs.Hearings.{IsHeld-fed, all_held, content_is, counts_within, empty_waits, front_by_octets, idles, judged_empty, none_left, none_more, pull_waits, rests, settled_by, took_none, waits_at, waits_or_stops}
 use Rattle.bgp_session.specs.declared.side.Side.{Side}
 use Rattle.bgp_session.specs.steps.Feeding.{with_machine, left_seen}
 use Rattle.bgp_session.specs.Pair.{Pair, all_acted}
@@ -47,7 +47,7 @@ module _ (side : Side) where
 
   -- a session at rest shows only what comes
   pub left_resting : (x : Machine) (rest : List ℕ) → IsAtRest x → left_seen side x rest ≡ octets_seen side x rest
-  left_resting x rest rests = left_waiting x rest (waits_at hearer is_hearer x rests.can_hold rests.nothing_to_do)
+  left_resting x rest rests = left_waiting x rest (waits_at hearer is_hearer x rests.nothing_to_do)
 
   -- octets that aren't taken show nothing
   module _ (x : Machine) (deaf : listens x.standing.state ≡ false) (waits : Waits x.held) where
@@ -70,24 +70,19 @@ module _ (side : Side) where
     held_one held octet waits =
         ap (λ (b : Bool). (settled (holding x (with_octet b held octet))).session) up ∙ ap (λ (d : Done). d.session) (rests hearer is_hearer (holding x (held ++ octet ∷ [])) waits)
 
-    seen_joins : (held : List ℕ) (octet : ℕ) (front : List ℕ) → IsHeld (held ++ octet ∷ front)
-        → octets_seen side (holding x held) (octet ∷ front) ≡ map (Came side) (octet ∷ front) ++ settled_seen side (holding x (held ++ octet ∷ front))
-    seen_joins held octet [] is = append-nil (octet_seen side (holding x held) octet) ∙ seen_one held octet
-    seen_joins held octet (next ∷ front) is =
-        let more : List ℕ = held ++ octet ∷ [] in
-        let regrouped : more ++ next ∷ front ≡ held ++ octet ∷ next ∷ front = append_assoc held (octet ∷ []) (next ∷ front) in
-        let is_more : IsHeld (more ++ next ∷ front) = subst IsHeld (sym regrouped) is in
-        let waits : Waits more = front_waits more (next ∷ front) is_more.within (omega arith) in
-        ap₂ (λ (l : List Sight) (m : Machine). l ++ octets_seen side m (next ∷ front))
-        (seen_one held octet ∙ ap (λ (l : List Sight). Came side octet ∷ l) (waits_unseen (holding x more) waits)) (held_one held octet waits)
-        ∙ ap (λ (l : List Sight). Came side octet ∷ l) (seen_joins more next front is_more)
-        ∙ ap (λ (h : List ℕ). Came side octet ∷ (map (Came side) (next ∷ front) ++ settled_seen side (holding x h))) regrouped
-
     -- octets that can all be held come, and then what is held is judged
-    seen_front : (held front : List ℕ) → Waits held → IsHeld (held ++ front)
-        → octets_seen side (holding x held) front ≡ map (Came side) front ++ settled_seen side (holding x (held ++ front))
-    seen_front held [] waits is = sym (waits_unseen (holding x held) waits) ∙ ap (λ (h : List ℕ). settled_seen side (holding x h)) (sym (append-nil held))
-    seen_front held (octet ∷ front) waits is = seen_joins held octet front is
+    seen_front : (front : List ℕ) → Waits x.held → IsHeld (x.held ++ front) → octets_seen side x front ≡ map (Came side) front ++ settled_seen side (holding x (x.held ++ front))
+    seen_front [] waits is = sym (waits_unseen x waits) ∙ ap (λ (h : List ℕ). settled_seen side (holding x h)) (sym (append-nil x.held))
+    seen_front (octet ∷ front) waits is =
+        let whole = x.held ++ octet ∷ front in
+        all_held (λ held later. octets_seen side (holding x held) later ≡ map (Came side) later ++ settled_seen side (holding x whole)) whole
+        (λ held octet joined.
+            append-nil (octet_seen side (holding x held) octet) ∙ seen_one held octet ∙ ap (λ (h : List ℕ). Came side octet ∷ settled_seen side (holding x h)) joined)
+        (λ held octet next later more_waits goes.
+            ap₂ (λ (l : List Sight) (m : Machine). l ++ octets_seen side m (next ∷ later))
+            (seen_one held octet ∙ ap (λ (l : List Sight). Came side octet ∷ l) (waits_unseen (holding x (held ++ octet ∷ [])) more_waits)) (held_one held octet more_waits)
+            ∙ ap (λ (l : List Sight). Came side octet ∷ l) goes)
+        is x.held octet front refl
 
   -- octets are taken that can all be held
   seen_taking : (x : Machine) (piece : List ℕ) (n : ℕ) → listens x.standing.state ≡ true → Waits x.held → IsHeld x.held → AreOctets piece → Takes x.held piece n
@@ -100,7 +95,7 @@ module _ (side : Side) where
       left_waiting x piece waits
       ∙ ap (octets_seen side x) (sym (take-append-drop n piece))
       ∙ seen_in_parts x front back
-      ∙ ap₂ (λ (l m : List Sight). l ++ m) (seen_front x up x.held front waits fits)
+      ∙ ap₂ (λ (l m : List Sight). l ++ m) (seen_front x up front waits fits)
       (ap (λ (d : Done). octets_seen side d.session back) (front_by_octets hearer is_hearer x up front waits fits))
       ∙ append_assoc (map (Came side) front) (settled_seen side z) (octets_seen side (settled z).session back)
 
