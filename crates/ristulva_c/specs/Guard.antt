@@ -121,10 +121,10 @@ pub record HearsOf (side : Side) (g : Guarding) (piece : List ℕ) (h : Hearing)
   pub heard : IsHeard side g piece h.taken_behind came behind
   pub told : h.came_behind ≡ came_told came
 
-abbrev pub Hears : Option Side → Option Guarding → List ℕ → Hearing → Type 0
-Hears None old piece h = IsLeft RANGE h
-Hears (Some side) None piece h = IsLeft NO_SESSION h
-Hears (Some side) (Some g) piece h = HearsOf side g piece h
+abbrev pub GuardHears : Option Side → Option Guarding → List ℕ → Hearing → Type 0
+GuardHears None old piece h = IsLeft RANGE h
+GuardHears (Some side) None piece h = IsLeft NO_SESSION h
+GuardHears (Some side) (Some g) piece h = HearsOf side g piece h
 
 -- ---- what is asked and told
 

@@ -1,7 +1,7 @@
 //! A guard's life: it is made, told what happens, hears octets, and is freed.
 
 ghost use Rattle.std.specs.Prelude.{◌≡◌, Some, option_map};
-ghost use Rattle.ristulva_c.specs.Guard.{side_of, event_of, rule_of, came_told, IsMade, IsFreed, GoesOn, IsTicked, Hears, HearsOf};
+ghost use Rattle.ristulva_c.specs.Guard.{side_of, event_of, rule_of, came_told, IsMade, IsFreed, GoesOn, IsTicked, GuardHears, HearsOf};
 ghost use Rattle.ristulva_c.specs.declared.status.TheConstants.{OK};
 
 use crate::guard_handle::GuardHandle;
@@ -148,7 +148,7 @@ pub extern "C" fn ristulva_guard_hear(
     taken: &mut usize,
     came: &mut ToldCame,
 ) -> u32
-    ensures { Hears (side_of side) guard.old.value octets.now (record { status = result; old = guard.old.value; new = guard.new.value; taken_before = taken.old; taken_behind = taken.new; came_before = came.old; came_behind = came.new }) }
+    ensures { GuardHears (side_of side) guard.old.value octets.now (record { status = result; old = guard.old.value; new = guard.new.value; taken_before = taken.old; taken_behind = taken.new; came_before = came.old; came_behind = came.new }) }
 {
     let Some(side) = side_of(side) else {
         return RANGE;

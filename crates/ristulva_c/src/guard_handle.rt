@@ -5,7 +5,7 @@ ghost use Rattle.bgp_guard.specs.Guard.{Guarding};
 ghost use Rattle.bgp_guard.specs.contracts.guard.Guard.{the_row};
 ghost use Rattle.ristulva_c.specs.Handle.{owned};
 
-use crate::handle::parts::Parts;
+use crate::handle::parts::BoxParts;
 use bgp_guard::Guard;
 use std::alloc::Global;
 use std::marker::Model;
@@ -39,24 +39,24 @@ impl GuardHandle {
     }
 
     /// A handle that has what a box is made of.
-    fn of_parts(parts: Parts<Guard, Global>) -> GuardHandle
+    fn of_parts(parts: BoxParts<Guard, Global>) -> GuardHandle
         ensures { result.value ≡ Some parts.value }
     {
-        let Parts { ptr, alloc: _ } = parts;
+        let BoxParts { ptr, alloc: _ } = parts;
         GuardHandle {
             body: ptr as *mut GuardBody,
         }
     }
 
     /// What the box is made of, where there is one.
-    fn into_parts(self, alloc: Global) -> Option<Parts<Guard, Global>>
+    fn into_parts(self, alloc: Global) -> Option<BoxParts<Guard, Global>>
         ensures { option_map (λ parts. parts.value) result ≡ self.value }
     {
         let GuardHandle { body } = self;
         if body.is_null() {
             None
         } else {
-            Some(Parts {
+            Some(BoxParts {
                 ptr: body as *mut Guard,
                 alloc,
             })
@@ -80,7 +80,7 @@ impl GuardHandle {
         requires { self.old.value ≡ None }
         ensures { self.new.value ≡ Some guard.value }
     {
-        *self = GuardHandle::of_parts(Parts::of(guard));
+        *self = GuardHandle::of_parts(BoxParts::of(guard));
     }
 }
 
