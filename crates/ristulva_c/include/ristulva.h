@@ -981,10 +981,12 @@ ristulva_status ristulva_session_send(ristulva_session *session, const uint8_t *
  *
  * A guard stands in one session between an outer peer and an inner speaker. What a side sends is handed on to the other cleaned, as by
  * ristulva_clean, in the context that both OPENs agree on. A message that can't be ends the session of both: its sender gets the NOTIFICATION
- * that answers it, and the other side Cease, Administrative Reset (6/4). The guard does no IO and knows no time: its host has both connections and
- * a clock. In its loop it asks for each side what is to be done (ristulva_guard_asks), reads and hands in what came (ristulva_guard_hear),
- * sends what is on its way (ristulva_guard_way, ristulva_guard_sent), and closes. It tells when a side is connected or closed
- * (ristulva_guard_event), and of each second (ristulva_guard_tick).
+ * that answers it, and the other side Cease, Administrative Reset (6/4); where an OPEN offers neither IPv4 nor IPv6 unicast, both get 6/5. A
+ * NOTIFICATION is handed on, and ends it too. Then nothing more is read, and each side is to be closed once it was sent what is on its way.
+ *
+ * The guard does no IO and knows no time: its host has both connections and a clock. In its loop it asks for each side what is to be done
+ * (ristulva_guard_asks), reads and hands in what came (ristulva_guard_hear), sends what is on its way (ristulva_guard_way, ristulva_guard_sent),
+ * and closes. It tells when a side is connected or closed (ristulva_guard_event), and of each second (ristulva_guard_tick).
  *
  * A handle is the caller's. It begins as {NULL}, gets a guard by ristulva_guard_new, and loses it by ristulva_guard_free; the guard is memory of
  * the library's, some 145 KB: 68 KB on the way to each side, and an incomplete message of each. No other call allocates. A handle isn't copied,
@@ -1018,7 +1020,7 @@ ristulva_status ristulva_guard_free(ristulva_guard *guard);
 /* What happens to a side, but for octets. */
 #define RISTULVA_SIDE_STOOD 1u       /* its connection stands */
 #define RISTULVA_SIDE_UNREACHABLE 2u /* it doesn't stand, and can't be reached: the other side is told (6/5), and the guard ends */
-#define RISTULVA_SIDE_CLOSED 3u      /* it stood, and was closed or lost: the guard ends, and the other side gets what is on its way */
+#define RISTULVA_SIDE_CLOSED 3u      /* it stood, and was closed or lost: the guard ends, and the other side still gets what is on its way */
 
 /* Tells a guard what happens to a side. What doesn't belong where the side stands does nothing. RISTULVA_RANGE: `side` or `event` is none of the
  * numbers above. */
@@ -1053,8 +1055,8 @@ typedef struct {
 } ristulva_came;
 
 /* Takes octets of a side up to the end of a message, with those of an incomplete message that it holds in front of them, and hands the message on, or
- * answers it. `taken` is how many of the `len` octets it took: one at least where it listens to the side, and else none. The host hands in the rest
- * again, until all is taken; while the guard doesn't listen, it keeps the rest. */
+ * answers it. `taken` is how many of the `len` octets it took: of some one at least where it listens to the side, and else none. The host hands in
+ * the rest again, until all is taken; while the guard doesn't listen, it keeps the rest. */
 ristulva_status ristulva_guard_hear(ristulva_guard *guard, uint32_t side, const uint8_t *octets, size_t len, size_t *taken, ristulva_came *came);
 
 /* Copies the first octets that are on their way to a side to the beginning of `octets`, as many as there are, and `room` at most: `written` of them;
@@ -1064,7 +1066,7 @@ ristulva_status ristulva_guard_way(ristulva_guard *guard, uint32_t side, uint8_t
 /* Tells a guard that the first `count` octets on their way to a side are sent: all of them where there are no more. */
 ristulva_status ristulva_guard_sent(ristulva_guard *guard, uint32_t side, size_t count);
 
-/* Tells what a side said of itself in its OPEN. RISTULVA_STATE: none of its was handed on yet. */
+/* Tells what a side said of itself in its OPEN, as that was handed on. RISTULVA_STATE: none was yet. */
 ristulva_status ristulva_guard_peer(ristulva_guard *guard, uint32_t side, ristulva_peer *peer);
 
 /* ---- a null pointer beside a length 0 ----
