@@ -9,14 +9,14 @@ use Rattle.bgp_frame.specs.declared.end.End.TheVariants as end
 use Rattle.bgp_frame.specs.declared.fault.HeadFault.{HeadFault}
 use Rattle.bgp_frame.specs.Head.{head_of}
 use Rattle.bgp_frame.specs.Frame.{Message, octets_of, Waits}
-use Rattle.bgp_frame.specs.Stream.{Gives, Judgement, outcome_of}
+use Rattle.bgp_frame.specs.Stream.{Gives, StreamRules, outcome_of}
 use Rattle.bgp_frame.proofs.FrameLemmas.{head_of-append, length-octets_of}
 use Rattle.bgp_frame.proofs.Pulls.{nothing_waits}
 use Rattle.bgp_frame.proofs.Streams.{gives_wait, gives_fault, gives_reset, gives_more}
 use Rattle.bgp_open.specs.declared.context.Context.{Context}
 use Rattle.bgp_msg.specs.declared.outcome.Outcome.{Outcome}
 use Rattle.bgp_msg.specs.Hearing.{IsContent}
-use Rattle.bgp_msg.specs.Outcome.{is_reset, judgement}
+use Rattle.bgp_msg.specs.Outcome.{is_reset, stream_rules}
 use Rattle.bgp_msg.specs.Decoder.{Decoding, fresh, holding, given_by, IsNext}
 use Rattle.bgp_msg.proofs.Pulls.{one_out}
 use Rattle.bgp_msg.specs.steps.Decoding.{IsLater, Stands, Decodes, end_behind}
@@ -27,8 +27,8 @@ Outs = List (ℕ × Outcome)
 -- ---- what comes of the octets that are held
 
 module _ (old : Decoding) (octets : List ℕ) (n : ℕ) (before : Outs) (going : old.stopped ≡ false) where
-  abbrev j : Judgement Outcome
-  j = judgement old.ctx
+  abbrev j : StreamRules Outcome
+  j = stream_rules old.ctx
 
   abbrev z : Decoding
   z = holding old (old.held ++ take n octets)
@@ -105,13 +105,13 @@ pub further : (old mid new : Decoding) (octets rest rest1 : List ℕ) (before to
 further old mid new octets rest rest1 before told outs ended first second =
     let ctx = first.stands.1 in
     let later = subst (λ (c : Context). (more : List ℕ) (others : Outs) (e : End) → IsLater c ended (new.held ++ (rest1 ++ more)) others e
-    → Gives (judgement c) (mid.held ++ (rest ++ more)) (second.fresh ++ others) e) ctx second.later in
+    → Gives (stream_rules c) (mid.held ++ (rest ++ more)) (second.fresh ++ others) e) ctx second.later in
     record {
       stands = subst (λ (c : Context). Stands c ended new) ctx second.stands;
       fresh = first.fresh ++ second.fresh;
       told = second.told ∙ ap (λ (os : Outs). os ++ second.fresh) first.told ∙ append_assoc before first.fresh second.fresh;
       later = λ more others e l.
-          subst (λ (os : Outs). Gives (judgement old.ctx) (old.held ++ (octets ++ more)) os e) (sym (append_assoc first.fresh second.fresh others))
+          subst (λ (os : Outs). Gives (stream_rules old.ctx) (old.held ++ (octets ++ more)) os e) (sym (append_assoc first.fresh second.fresh others))
           (first.later more (second.fresh ++ others) e (later more others e l));
     }
 
@@ -126,7 +126,7 @@ with_more old mid octets piece before told first = record {
   fresh = first.fresh;
   told = first.told;
   later = λ more others e g.
-      subst (λ (s : List ℕ). Gives (judgement old.ctx) (old.held ++ s) (first.fresh ++ others) e) (sym (append_assoc octets piece more)) (first.later (piece ++ more) others e g);
+      subst (λ (s : List ℕ). Gives (stream_rules old.ctx) (old.held ++ s) (first.fresh ++ others) e) (sym (append_assoc octets piece more)) (first.later (piece ++ more) others e g);
 }
 
 -- ---- all pieces
@@ -155,17 +155,17 @@ one_more ctx pieces i mid new told outs lt first d r ended is more =
 
 -- all is told, whatever comes behind
 gives_all : (ctx : Context) (front more : List ℕ) (outs : Outs) (ended : Option End) (d : Decoding) (e : End) → Decodes (fresh ctx) front [] outs [] ended d → IsLater ctx ended (d.held ++ more) [] e
-    → Gives (judgement ctx) (front ++ more) outs e
-gives_all ctx front more outs ended d e c l = subst (λ (os : Outs). Gives (judgement ctx) (front ++ more) os e) (append-nil c.fresh ∙ sym c.told) (c.later more [] e l)
+    → Gives (stream_rules ctx) (front ++ more) outs e
+gives_all ctx front more outs ended d e c l = subst (λ (os : Outs). Gives (stream_rules ctx) (front ++ more) os e) (append-nil c.fresh ∙ sym c.told) (c.later more [] e l)
 
 pub ends_early : (ctx : Context) (pieces : List (Bor (List ℕ))) (i : ℕ) (outs : Outs) (d : Decoding) (e : End) → Decodes (fresh ctx) (flat_map octets_in (take i pieces)) [] outs [] (Some e) d
-    → Gives (judgement ctx) (flat_map octets_in pieces) outs e
+    → Gives (stream_rules ctx) (flat_map octets_in pieces) outs e
 ends_early ctx pieces i outs d e c =
-    subst (λ (s : List ℕ). Gives (judgement ctx) s outs e) (sym (pieces_left octets_in pieces i))
+    subst (λ (s : List ℕ). Gives (stream_rules ctx) s outs e) (sym (pieces_left octets_in pieces i))
     (gives_all ctx (flat_map octets_in (take i pieces)) (flat_map octets_in (drop i pieces)) outs (Some e) d e c (refl, refl))
 
-pub waits_at_end : (ctx : Context) (stream : List ℕ) (outs : Outs) (d : Decoding) → Decodes (fresh ctx) stream [] outs [] None d → Gives (judgement ctx) stream outs (end.Wait (length d.held))
+pub waits_at_end : (ctx : Context) (stream : List ℕ) (outs : Outs) (d : Decoding) → Decodes (fresh ctx) stream [] outs [] None d → Gives (stream_rules ctx) stream outs (end.Wait (length d.held))
 waits_at_end ctx stream outs d c =
     let e = end.Wait (length d.held) in
-    subst (λ (s : List ℕ). Gives (judgement ctx) s outs e) (append-nil stream)
-    (gives_all ctx stream [] outs None d e c (subst (λ (s : List ℕ). Gives (judgement ctx) s [] e) (sym (append-nil d.held)) (gives_wait Outcome (judgement ctx) d.held c.stands.2)))
+    subst (λ (s : List ℕ). Gives (stream_rules ctx) s outs e) (append-nil stream)
+    (gives_all ctx stream [] outs None d e c (subst (λ (s : List ℕ). Gives (stream_rules ctx) s [] e) (sym (append-nil d.held)) (gives_wait Outcome (stream_rules ctx) d.held c.stands.2)))

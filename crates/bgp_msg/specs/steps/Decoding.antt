@@ -6,7 +6,7 @@ use Rattle.bgp_frame.specs.Frame.{Waits}
 use Rattle.bgp_frame.specs.Stream.{Gives}
 use Rattle.bgp_open.specs.declared.context.Context.{Context}
 use Rattle.bgp_msg.specs.declared.outcome.Outcome.{Outcome}
-use Rattle.bgp_msg.specs.Outcome.{judgement}
+use Rattle.bgp_msg.specs.Outcome.{stream_rules}
 use Rattle.bgp_msg.specs.Decoder.{Decoding, holding, IsNext}
 
 -- some octets are taken up to the end of a message, and what is held then comes to this
@@ -17,7 +17,7 @@ pub record IsTaken (old : Decoding) (octets : List ℕ) (n : ℕ) (found : Optio
 
 -- behind what was taken the stream has ended, or it goes on from the octets that are held
 abbrev pub IsLater : Context → Option End → List ℕ → List (ℕ × Outcome) → End → Type 0
-IsLater ctx None stream others e = Gives (judgement ctx) stream others e
+IsLater ctx None stream others e = Gives (stream_rules ctx) stream others e
 IsLater ctx (Some ended) stream others e = (others ≡ []) × (e ≡ ended)
 
 abbrev pub Stands : Context → Option End → Decoding → Type 0
@@ -30,7 +30,7 @@ pub record Decodes (old : Decoding) (octets : List ℕ) (before outs : List (ℕ
   pub fresh : List (ℕ × Outcome)
   pub told : outs ≡ before ++ fresh
   pub later : (more : List ℕ) (others : List (ℕ × Outcome)) (e : End) → IsLater old.ctx ended (new.held ++ (rest ++ more)) others e
-      → Gives (judgement old.ctx) (old.held ++ (octets ++ more)) (fresh ++ others) e
+      → Gives (stream_rules old.ctx) (old.held ++ (octets ++ more)) (fresh ++ others) e
 
 -- how the stream ends behind a reset of so many octets: a header's fault has none
 abbrev pub end_behind : ℕ → End
