@@ -97,3 +97,8 @@ pub record HeldTakesMemory (old : Machine) : Type 0 where
   pub message : Message
   pub is_held : content_of old.held ≡ Some (Ok message)
   pub takes : TakesMemory old.standing message
+
+-- where a session goes on behind a look: the whole session as it was looked at, and how it stands behind that
+pub record Going : Type 0 where
+  pub from : Machine
+  pub standing : Standing

@@ -73,3 +73,12 @@ pub record FrontTakesMemory (old : Decoding) (piece : List ℕ) : Type 0 where
   pub n : ℕ
   pub within : n ≤ length piece
   pub takes : TakesMemory (holding old (take n piece))
+
+-- Where a decoder goes on behind a look: the whole decoder as it was looked at, and whether a reset was found, behind which it stops
+pub record Going : Type 0 where
+  pub from : Decoding
+  pub resets : Bool
+
+-- a decoder was looked at as it is, and this was found
+abbrev pub IsBehind : Decoding → Outcome → Going → Type 0
+IsBehind d o next = (next.from ≡ d) × (next.resets ≡ is_reset o)

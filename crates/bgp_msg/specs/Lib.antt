@@ -5,7 +5,6 @@ pub mod Written
 pub mod Seen
 pub mod Hearing
 pub mod Decoder
-pub mod Next
 pub mod Look
 pub mod Laws
 pub mod steps

@@ -7,11 +7,10 @@ use Rattle.bgp_frame.specs.Frame.{Message, Waits}
 use Rattle.bgp_frame.specs.Step.{ShowsStep}
 use Rattle.bgp_open.specs.declared.context.Context.{Context}
 use Rattle.bgp_msg.specs.declared.outcome.Outcome.{Outcome}
-use Rattle.bgp_msg.specs.Decoder.{Decoding, given_by, behind, fresh, holding, IsFed}
+use Rattle.bgp_msg.specs.Decoder.{Decoding, Going, given_by, behind, fresh, holding, IsBehind, IsFed}
 use Rattle.bgp_msg.specs.Hearing.{IsContent}
 use Rattle.bgp_msg.specs.declared.look.Look.TheVariants as look
 use Rattle.bgp_msg.specs.Look.{IsLook}
-use Rattle.bgp_msg.specs.Next.{Going, IsBehind}
 use Rattle.bgp_msg.specs.Outcome.{out_of, of_fault}
 use Rattle.ristulva_c.specs.declared.status.TheConstants.{IN_USE, INCOMPLETE, MEMORY, NO_SESSION, OK, ROOM, STATE}
 use Rattle.ristulva_c.specs.Copied.{copied}

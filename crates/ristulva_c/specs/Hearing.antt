@@ -7,8 +7,7 @@ use Rattle.bgp_update.specs.Parts.{parts_of}
 use Rattle.bgp_machine.specs.declared.heard.Heard.{Heard}
 use Rattle.bgp_machine.specs.declared.heard.Heard.TheVariants as heard
 use Rattle.bgp_machine.specs.Look.{Looked, IsLook, gone, step_of}
-use Rattle.bgp_machine.specs.Next.{Going}
-use Rattle.bgp_machine.specs.Session.{Machine}
+use Rattle.bgp_machine.specs.Session.{Machine, Going}
 use Rattle.bgp_machine.specs.Standing.{listens}
 use Rattle.ristulva_c.specs.declared.hearing.ToldHeard.{ToldHeard}
 use Rattle.ristulva_c.specs.declared.judge.TheConstants.{OPEN, UPDATE, NOTIFICATION, KEEPALIVE, WITHDRAW, RESET}
