@@ -28,7 +28,7 @@ module _ (rules : Rules) (silent : Bool) (s : Sight) (up : listens_in s ≡ true
       all_held (λ held later. by_octets rules silent (holding s held) later ≡ heard rules silent (holding s whole)) whole
       (λ held octet joined. takes_one held octet ∙ ap (λ (h : List ℕ). heard rules silent (holding s h)) joined)
       (λ held octet next later more_waits goes.
-          ap (λ (x : Sight). by_octets rules silent x (next ∷ later)) (takes_one held octet ∙ waits_on (held ++ octet ∷ []) more_waits) ∙ goes)
+      ap (λ (x : Sight). by_octets rules silent x (next ∷ later)) (takes_one held octet ∙ waits_on (held ++ octet ∷ []) more_waits) ∙ goes)
       is s.this.held octet front refl
 
 -- what is fed is settled, so the octets are heard

@@ -4,7 +4,6 @@ use Rattle.bgp_open.specs.Config.{Settings}
 use Rattle.bgp_machine.specs.declared.action.Action.{Action}
 use Rattle.bgp_machine.specs.declared.event.Event.{Event}
 use Rattle.bgp_machine.specs.Cutting.{IsAtRest}
-use Rattle.bgp_machine.specs.Look.{gone, step_of}
 use Rattle.bgp_machine.specs.Run.{by_look, by_pull}
 use Rattle.bgp_machine.specs.Session.{Machine, fresh, kept, after_event, hearer}
 use Rattle.bgp_machine.specs.Standing.{Standing, listens}

@@ -7,7 +7,6 @@ use Rattle.std.proofs.lemmas.List.{append-nil, take_more, take-append-drop, leng
 use Rattle.bgp_frame.specs.declared.end.End.{End}
 use Rattle.bgp_frame.specs.declared.end.End.TheVariants as end
 use Rattle.bgp_frame.specs.declared.fault.HeadFault.{HeadFault}
-use Rattle.bgp_frame.specs.Head.{head_of}
 use Rattle.bgp_frame.specs.Frame.{Message, octets_of, Waits}
 use Rattle.bgp_frame.specs.Stream.{Gives, Judgement, outcome_of}
 use Rattle.bgp_frame.proofs.FrameLemmas.{head_of-append, length-octets_of}

@@ -77,11 +77,11 @@ module _ (side : Side) where
         let whole = x.held ++ octet ∷ front in
         all_held (λ held later. octets_seen side (holding x held) later ≡ map (Came side) later ++ settled_seen side (holding x whole)) whole
         (λ held octet joined.
-            append-nil (octet_seen side (holding x held) octet) ∙ seen_one held octet ∙ ap (λ (h : List ℕ). Came side octet ∷ settled_seen side (holding x h)) joined)
+        append-nil (octet_seen side (holding x held) octet) ∙ seen_one held octet ∙ ap (λ (h : List ℕ). Came side octet ∷ settled_seen side (holding x h)) joined)
         (λ held octet next later more_waits goes.
-            ap₂ (λ (l : List Sight) (m : Machine). l ++ octets_seen side m (next ∷ later))
-            (seen_one held octet ∙ ap (λ (l : List Sight). Came side octet ∷ l) (waits_unseen (holding x (held ++ octet ∷ [])) more_waits)) (held_one held octet more_waits)
-            ∙ ap (λ (l : List Sight). Came side octet ∷ l) goes)
+        ap₂ (λ (l : List Sight) (m : Machine). l ++ octets_seen side m (next ∷ later))
+        (seen_one held octet ∙ ap (λ (l : List Sight). Came side octet ∷ l) (waits_unseen (holding x (held ++ octet ∷ [])) more_waits)) (held_one held octet more_waits)
+        ∙ ap (λ (l : List Sight). Came side octet ∷ l) goes)
         is x.held octet front refl
 
   -- octets are taken that can all be held
