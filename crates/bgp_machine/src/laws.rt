@@ -3,7 +3,7 @@
 ghost use Rattle.std.specs.Prelude.{◌≡◌, ℕ, List};
 ghost use Rattle.std.specs.List.{flat_map};
 ghost use Rattle.bgp_wire.specs.Octets.{AreOctets};
-ghost use Rattle.bgp_msg.specs.Hearing.{all_octets, Run, Runs};
+ghost use Rattle.bgp_frame.specs.Hearing.{all_octets, Run, Runs};
 ghost use Rattle.bgp_open.specs.Config.{Settings};
 ghost use Rattle.bgp_machine.specs.declared.action.Action.{Action};
 ghost use Rattle.bgp_machine.specs.declared.event.Event.{Event};

@@ -14,7 +14,7 @@ use Rattle.bgp_frame.proofs.Pulls.{nothing_waits}
 use Rattle.bgp_frame.proofs.Streams.{gives_wait, gives_fault, gives_reset, gives_more}
 use Rattle.bgp_open.specs.declared.context.Context.{Context}
 use Rattle.bgp_msg.specs.declared.outcome.Outcome.{Outcome}
-use Rattle.bgp_msg.specs.Hearing.{IsContent}
+use Rattle.bgp_frame.specs.Hearing.{IsContent}
 use Rattle.bgp_msg.specs.Outcome.{is_reset, judgement}
 use Rattle.bgp_msg.specs.Decoder.{Decoding, fresh, holding, given_by, IsNext}
 use Rattle.bgp_msg.proofs.Pulls.{one_out}

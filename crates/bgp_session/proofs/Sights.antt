@@ -18,8 +18,8 @@ use Rattle.bgp_machine.specs.Session.{Machine, holding, hearer}
 use Rattle.bgp_machine.specs.Standing.{listens}
 use Rattle.bgp_machine.specs.Table.{hears}
 use Rattle.bgp_machine.proofs.Cuttings.{is_hearer, pulls_as_fed}
-use Rattle.bgp_msg.specs.Hearing.{CountsFed, Judges, behind_feed, with_octet}
-use Rattle.bgp_msg.proofs.Hearings.{IsHeld-fed, all_held, content_is, counts_within, empty_waits, front_by_octets, idles, judged_empty, none_left, none_more, pull_waits, rests, settled_by, took_none, waits_at, waits_or_stops}
+use Rattle.bgp_frame.specs.Hearing.{CountsFed, Judges, behind_feed, with_octet}
+use Rattle.bgp_frame.proofs.Hearings.{IsHeld-fed, all_held, content_is, counts_within, empty_waits, front_by_octets, idles, judged_empty, none_left, none_more, pull_waits, rests, settled_by, took_none, waits_at, waits_or_stops}
 use Rattle.bgp_session.specs.declared.side.Side.{Side}
 use Rattle.bgp_session.specs.steps.Feeding.{with_machine, left_seen}
 use Rattle.bgp_session.specs.Pair.{Pair, all_acted}

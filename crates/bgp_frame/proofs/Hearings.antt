@@ -12,7 +12,7 @@ use Rattle.bgp_frame.specs.Frame.{Message, wanted, Waits}
 use Rattle.bgp_frame.specs.Framer.{IsHeld}
 use Rattle.bgp_frame.specs.Pull.{Pulls, IsToFeed}
 use Rattle.bgp_frame.specs.Takes.{Stops, Takes}
-use Rattle.bgp_msg.specs.Hearing.{Hearer, IsContent, CountsFed, with_octet, Done, behind, one_if_any, behind_feed, IsFed, Judges, PullsNext, IsPulled, IsFedAndJudged, by_feed, judged, done_by, settled, by_octet, by_octets, IsAtRest, IsReady, left_to_do, weight, Way, given, Run, all_octets, Calls, Runs, CanBeHeard}
+use Rattle.bgp_frame.specs.Hearing.{Hearer, IsContent, CountsFed, with_octet, Done, behind, one_if_any, behind_feed, IsFed, Judges, PullsNext, IsPulled, IsFedAndJudged, by_feed, judged, done_by, settled, by_octet, by_octets, IsAtRest, IsReady, left_to_do, weight, Way, given, Run, all_octets, Calls, Runs, CanBeHeard}
 use Rattle.bgp_frame.proofs.Contents.{enough, content_of-waits, content_of-frame, content_of-fault}
 use Rattle.bgp_frame.proofs.Feeding.{takes_some, Fills, Fills-takes, Fills-held}
 use Rattle.bgp_frame.proofs.FrameLemmas.{one_count, wanted_under, wanted-append, wanted-bounds, wanted-Stops, Stops-wanted}
@@ -330,12 +330,6 @@ module _ {X Said Action : Type 0} (h : Hearer X Said Action) (is : IsHearer h) w
       subst (λ (z : X). Ends x piece [] z) (sym (call.next ∙ took_none x piece 0 refl))
       (waiting x piece waits ∙ stays x piece (h.listens x) refl waits call.fed.0, rests_ready x ready waits)
 
-  -- what is the same octet by octet is the same
-  pub agree : (x : X) (a b : List ℕ) (first second : List Action) (y z : X) → a ≡ b → by_octets h x a ≡ done first y → by_octets h x b ≡ done second z → (first ≡ second) × (y ≡ z)
-  agree x a b first second y z same one two =
-      let both : done first y ≡ done second z = sym one ∙ ap (by_octets h x) same ∙ two in
-      (ap (λ (d : Done X Action). d.actions) both, ap (λ (d : Done X Action). d.session) both)
-
   -- each call of the way feeds and judges; where it takes nothing and finds nothing, what is held waits; and there is a call for each piece
   pub record IsWay (way : Way X Action) : Type 0 where
     pub heard : (x : X) (piece : List ℕ) (n : ℕ) (found : Option (List Action)) (y : X) → way x piece n found y → IsFedAndJudged h x piece n found y
@@ -428,8 +422,10 @@ module _ {X Said Action : Type 0} (h : Hearer X Said Action) (is : IsHearer h) w
   pub runs_agree : (one other : Way X Action) → IsWay one → IsWay other → (x : X) (runs others : List Run) (actions second : List Action) (y z : X) → IsAtRest h x → AreOctets (all_octets runs)
       → all_octets runs ≡ all_octets others → Runs one runs x actions y → Runs other others x second z → (actions ≡ second) × (y ≡ z)
   runs_agree one other on also x runs others actions second y z rest octets same r s =
-      agree x (all_octets runs) (all_octets others) actions second y z same (runs_settle one on x runs actions y rest octets r).0
-      (runs_settle other also x others second z rest (subst AreOctets same octets) s).0
+      let first = (runs_settle one on x runs actions y rest octets r).0 in
+      let again = (runs_settle other also x others second z rest (subst AreOctets same octets) s).0 in
+      let both : done actions y ≡ done second z = sym first ∙ ap (by_octets h x) same ∙ again in
+      (ap (λ (d : Done X Action). d.actions) both, ap (λ (d : Done X Action). d.session) both)
 
   -- ---- a feed
 
