@@ -4,7 +4,7 @@ use Rattle.arrayvec.specs.ArrayVec.{ArrayVec}
 use Rattle.bgp_machine.specs.Pulling as pulling
 use Rattle.bgp_machine.specs.Session as session
 use Rattle.bgp_machine.specs.declared.action.Action.{Action}
-use Rattle.bgp_msg.proofs.Hearings.{counts_within}
+use Rattle.bgp_frame.proofs.Hearings.{counts_within}
 
 pub session_takes_within : (old : session.Machine) (piece : List ℕ) (n : ℕ) (found : Option (ArrayVec Action)) (new : session.Machine)
     → pulling.IsFedAndStepped old piece n found new → n ≤ length piece

@@ -6,3 +6,4 @@ pub mod Feeding
 pub mod Holding
 pub mod Pulls
 pub mod Streams
+pub mod Hearings

@@ -10,3 +10,4 @@ pub mod Framer
 pub mod Step
 pub mod Pull
 pub mod Stream
+pub mod Hearing

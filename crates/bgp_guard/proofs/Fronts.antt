@@ -4,7 +4,7 @@ use Rattle.std.proofs.lemmas.List.{append-nil}
 use Rattle.bgp_frame.specs.Frame.{Waits}
 use Rattle.bgp_frame.specs.Framer.{IsHeld}
 use Rattle.bgp_frame.proofs.Contents.{content_of-waits}
-use Rattle.bgp_msg.proofs.Hearings.{all_held}
+use Rattle.bgp_frame.proofs.Hearings.{all_held}
 use Rattle.bgp_guard.specs.declared.rules.Rules.{Rules}
 use Rattle.bgp_guard.specs.Guard.{Sight, listens_in}
 use Rattle.bgp_guard.specs.declared.came.Came.{Came}

@@ -25,7 +25,7 @@ use Rattle.bgp_clean.specs.declared.fault.CleanFault.{CleanFault}
 use Rattle.bgp_clean.specs.Clean.{cleaned, ended_family}
 use Rattle.bgp_frame.specs.Content.{content_of}
 use Rattle.bgp_frame.proofs.Contents.{content_of-message}
-use Rattle.bgp_msg.proofs.Hearings.{none_waits}
+use Rattle.bgp_frame.proofs.Hearings.{none_waits}
 use Rattle.bgp_guard.specs.declared.rules.Rules.{Rules}
 use Rattle.bgp_guard.specs.declared.stage.Stage.{Stage}
 use Rattle.bgp_guard.specs.declared.stage.Stage.TheVariants as stage

@@ -1,8 +1,8 @@
 -- What a pull takes, and what it leaves.
-use Rattle.std.proofs.Common.{◌≡◌, ℕ, zero, suc, ◌+◌, ◌<◌, ◌≤◌, Bool, true, false, nat_lt, List, [], ◌∷◌, length, take, drop, None, Some, refl, sym, ap, subst, ◌∙◌, arith, inl, inr, if◌then◌else◌}
+use Rattle.std.proofs.Common.{◌≡◌, ℕ, zero, suc, ◌<◌, ◌≤◌, Bool, true, false, nat_lt, List, [], ◌∷◌, length, drop, None, Some, refl, sym, ap, subst, ◌∙◌, arith, inl, inr, if◌then◌else◌}
 use Rattle.arrayvec.specs.ArrayVec.{ArrayVec}
-use Rattle.bgp_msg.specs.Hearing.{one_if_any}
-use Rattle.bgp_msg.proofs.Hearings.{counts_within, judges_lighter, lighter, none_left, not_both, taken_up}
+use Rattle.bgp_frame.specs.Hearing.{one_if_any}
+use Rattle.bgp_frame.proofs.Hearings.{counts_within, judges_lighter, lighter, none_left, not_both, taken_up}
 use Rattle.bgp_machine.specs.declared.action.Action.{Action}
 use Rattle.bgp_machine.specs.declared.event.Event.{Event}
 use Rattle.bgp_machine.specs.declared.event.Event.TheVariants.{Connected, Failed}

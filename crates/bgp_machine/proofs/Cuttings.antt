@@ -4,14 +4,13 @@ use Rattle.bgp_open.specs.Config.{Settings}
 use Rattle.bgp_machine.specs.declared.action.Action.{Action}
 use Rattle.bgp_machine.specs.declared.event.Event.{Event}
 use Rattle.bgp_machine.specs.Cutting.{IsAtRest}
-use Rattle.bgp_machine.specs.Look.{gone, step_of}
 use Rattle.bgp_machine.specs.Run.{by_look, by_pull}
 use Rattle.bgp_machine.specs.Session.{Machine, fresh, kept, after_event, hearer}
 use Rattle.bgp_machine.specs.Standing.{Standing, listens}
 use Rattle.bgp_machine.specs.Table.{happens}
-use Rattle.bgp_msg.specs.Hearing.{IsFedAndJudged}
-use Rattle.bgp_msg.proofs.Hearings as hearings
-use Rattle.bgp_msg.proofs.Hearings.{IsHearer, IsWay, not_both, waits_at, ready_at, rests_ready, rests_empty, pull_is_way}
+use Rattle.bgp_frame.specs.Hearing.{IsFedAndJudged}
+use Rattle.bgp_frame.proofs.Hearings as hearings
+use Rattle.bgp_frame.proofs.Hearings.{IsHearer, IsWay, not_both, waits_at, ready_at, rests_ready, rests_empty, pull_is_way}
 
 pub is_hearer : IsHearer hearer
 is_hearer = record {

@@ -31,13 +31,13 @@ use Rattle.bgp_machine.specs.declared.timer.Timers.{Timers}
 use Rattle.bgp_machine.specs.Standing.{Standing, runs, listens}
 use Rattle.bgp_machine.specs.Table.{Step, on_agreement, answered, on_open, on_verdict, on_update, on_message, hears, happens}
 use Rattle.bgp_frame.specs.Content.{content_of}
-use Rattle.bgp_msg.specs.Hearing.{CountsFed, done_by}
+use Rattle.bgp_frame.specs.Hearing.{CountsFed, done_by}
 use Rattle.bgp_machine.specs.Session.{Machine, kept, holding, hearer}
 use Rattle.bgp_machine.specs.Run.{by_pull}
 use Rattle.bgp_machine.specs.Life.{Call, Told, Fed, Stepped, Pulled, Looked, Life, born, connects, taken_behind, told, stepped, Eats, Goes, Lives, BeginsByOpenAndKeepalive}
 use Rattle.bgp_frame.proofs.Contents.{content_of-message}
 use Rattle.bgp_machine.proofs.Cuttings.{is_hearer, looks_pull, pulls_as_fed}
-use Rattle.bgp_msg.proofs.Hearings.{fed_holds, settled_by}
+use Rattle.bgp_frame.proofs.Hearings.{fed_holds, settled_by}
 
 -- the octets are an OPEN that was accepted and gave the context, and what is held
 record BeginsByOpen (s : Settings) (context : Option Context) (held octets : List ℕ) : Type 0 where

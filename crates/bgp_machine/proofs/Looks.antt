@@ -10,8 +10,8 @@ use Rattle.bgp_frame.specs.Pull.{Pulls, IsToFeed, IsPull}
 use Rattle.bgp_frame.proofs.Contents.{content_of-frame, content_of-fault}
 use Rattle.bgp_frame.proofs.Pulls.{held_or_front}
 use Rattle.bgp_open.specs.Config.{Settings}
-use Rattle.bgp_msg.specs.Hearing.{IsContent}
-use Rattle.bgp_msg.proofs.Hearings as hearings
+use Rattle.bgp_frame.specs.Hearing.{IsContent}
+use Rattle.bgp_frame.proofs.Hearings as hearings
 use Rattle.bgp_machine.specs.declared.action.Action.{Action}
 use Rattle.bgp_machine.specs.declared.heard.Heard.{Heard}
 use Rattle.bgp_machine.specs.Heard.{on_heard, has_routes, IsSaid, Hears, HearsFault}

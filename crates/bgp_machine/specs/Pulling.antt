@@ -1,7 +1,7 @@
 -- What a session makes of a piece whose messages are judged where they stand.
 use Rattle.std.specs.Prelude.{◌≡◌, ◌≤◌, ℕ, Bool, true, false, List, [], length, take, Option, None, Some, option_map}
 use Rattle.arrayvec.specs.ArrayVec.{ArrayVec}
-use Rattle.bgp_msg.specs.Hearing as hearing
+use Rattle.bgp_frame.specs.Hearing as hearing
 use Rattle.bgp_machine.specs.declared.action.Action.{Action}
 use Rattle.bgp_machine.specs.Session.{Machine, holding, hearer, HeldTakesMemory}
 

@@ -4,8 +4,8 @@ use Rattle.arrayvec.specs.ArrayVec.{ArrayVec}
 use Rattle.bgp_frame.specs.declared.kind.Kind.TheVariants as kind
 use Rattle.bgp_frame.specs.Content.{content_of}
 use Rattle.bgp_frame.specs.Frame.{Message, octets_of}
-use Rattle.bgp_msg.specs.Hearing as hearing
-use Rattle.bgp_msg.specs.Hearing.{Hearer}
+use Rattle.bgp_frame.specs.Hearing as hearing
+use Rattle.bgp_frame.specs.Hearing.{Hearer}
 use Rattle.bgp_open.specs.declared.context.Context.{Context}
 use Rattle.bgp_open.specs.Config.{Settings}
 use Rattle.bgp_open.specs.OpenFault.{open_fault}

@@ -1,5 +1,4 @@
 -- Lemmas on messages and streams.
-pub mod Hearings
 pub mod Pulls
 pub mod Encodings
 pub mod Rooms

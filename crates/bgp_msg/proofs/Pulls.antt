@@ -16,13 +16,13 @@ use Rattle.bgp_msg.specs.declared.look.Look.TheVariants as look
 use Rattle.bgp_msg.specs.declared.message.Message.TheVariants as message
 use Rattle.bgp_msg.specs.declared.outcome.Outcome.{Outcome}
 use Rattle.bgp_msg.specs.declared.outcome.Outcome.TheVariants as outcome
-use Rattle.bgp_msg.specs.Hearing.{IsContent, Judges}
+use Rattle.bgp_frame.specs.Hearing.{IsContent, Judges}
 use Rattle.bgp_msg.specs.Outcome.{out_of, of_fault}
 use Rattle.bgp_msg.specs.OutcomeView.{has_lists}
 use Rattle.bgp_msg.specs.Decoder.{Decoding, TakesMemory, FrontTakesMemory, given_by, holding, behind, decoder, IsPulled, IsFedAndNext}
 use Rattle.bgp_msg.specs.steps.Early.{IsAtFront}
 use Rattle.bgp_msg.specs.Look.{IsLook}
-use Rattle.bgp_msg.proofs.Hearings as hearings
+use Rattle.bgp_frame.proofs.Hearings as hearings
 use Rattle.bgp_msg.proofs.Lists.{lists_have_kinds, lists_go_on}
 
 pub is_hearer : hearings.IsHearer decoder

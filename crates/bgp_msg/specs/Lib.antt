@@ -3,7 +3,6 @@ pub mod Outcome
 pub mod OutcomeView
 pub mod Written
 pub mod Seen
-pub mod Hearing
 pub mod Decoder
 pub mod Look
 pub mod Laws

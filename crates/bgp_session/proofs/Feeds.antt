@@ -2,8 +2,8 @@
 use Rattle.std.proofs.Common.{◌≡◌, ℕ, zero, suc, ◌<◌, List, [], ◌∷◌, drop, Option, None, Some, refl, sym, ap, subst, ◌∙◌, arith}
 use Rattle.arrayvec.specs.ArrayVec.{ArrayVec}
 use Rattle.bgp_wire.specs.Octets.{AreOctets}
-use Rattle.bgp_msg.specs.Hearing.{with_octet, done_by}
-use Rattle.bgp_msg.proofs.Hearings.{Passes, waits_at, waiting, passes, lighter, judges_lighter, call_ends, pull_waits}
+use Rattle.bgp_frame.specs.Hearing.{with_octet, done_by}
+use Rattle.bgp_frame.proofs.Hearings.{Passes, waits_at, waiting, passes, lighter, judges_lighter, call_ends, pull_waits}
 use Rattle.bgp_machine.specs.declared.action.Action.{Action}
 use Rattle.bgp_machine.specs.Cutting.{IsAtRest, Done, settled, by_octet, by_octets}
 use Rattle.bgp_machine.specs.Pulling.{IsPulled}

@@ -11,8 +11,8 @@ use Rattle.bgp_machine.specs.declared.action.Action.{Action}
 use Rattle.bgp_machine.specs.declared.state.State.{State}
 use Rattle.bgp_machine.specs.declared.state.State.TheVariants as state
 use Rattle.bgp_machine.specs.declared.timer.Timers.{Timers}
-use Rattle.bgp_msg.specs.Hearing.{done_by, with_octet}
-use Rattle.bgp_msg.proofs.Hearings as hearings
+use Rattle.bgp_frame.specs.Hearing.{done_by, with_octet}
+use Rattle.bgp_frame.proofs.Hearings as hearings
 use Rattle.bgp_machine.specs.Cutting.{Done, settled, by_octet, by_octets}
 use Rattle.bgp_machine.specs.Session.{Machine, holding, hearer, after_step}
 use Rattle.bgp_machine.specs.Standing.{listens}

@@ -18,8 +18,8 @@ use Rattle.bgp_machine.specs.Session.{Machine, holding, hearer}
 use Rattle.bgp_machine.specs.Standing.{listens}
 use Rattle.bgp_machine.specs.Table.{hears}
 use Rattle.bgp_machine.proofs.Cuttings.{is_hearer, pulls_as_fed}
-use Rattle.bgp_msg.specs.Hearing.{CountsFed, Judges, behind_feed, with_octet}
-use Rattle.bgp_msg.proofs.Hearings.{IsHeld-fed, all_held, content_is, counts_within, empty_waits, front_by_octets, idles, judged_empty, none_left, none_more, pull_waits, rests, settled_by, took_none, waits_at, waits_or_stops}
+use Rattle.bgp_frame.specs.Hearing.{CountsFed, Judges, behind_feed, with_octet}
+use Rattle.bgp_frame.proofs.Hearings.{IsHeld-fed, all_held, content_is, counts_within, empty_waits, front_by_octets, idles, judged_empty, none_left, none_more, pull_waits, rests, settled_by, took_none, waits_at, waits_or_stops}
 use Rattle.bgp_session.specs.declared.side.Side.{Side}
 use Rattle.bgp_session.specs.steps.Feeding.{with_machine, left_seen}
 use Rattle.bgp_session.specs.Pair.{Pair, all_acted}
@@ -77,11 +77,11 @@ module _ (side : Side) where
         let whole = x.held ++ octet ∷ front in
         all_held (λ held later. octets_seen side (holding x held) later ≡ map (Came side) later ++ settled_seen side (holding x whole)) whole
         (λ held octet joined.
-            append-nil (octet_seen side (holding x held) octet) ∙ seen_one held octet ∙ ap (λ (h : List ℕ). Came side octet ∷ settled_seen side (holding x h)) joined)
+        append-nil (octet_seen side (holding x held) octet) ∙ seen_one held octet ∙ ap (λ (h : List ℕ). Came side octet ∷ settled_seen side (holding x h)) joined)
         (λ held octet next later more_waits goes.
-            ap₂ (λ (l : List Sight) (m : Machine). l ++ octets_seen side m (next ∷ later))
-            (seen_one held octet ∙ ap (λ (l : List Sight). Came side octet ∷ l) (waits_unseen (holding x (held ++ octet ∷ [])) more_waits)) (held_one held octet more_waits)
-            ∙ ap (λ (l : List Sight). Came side octet ∷ l) goes)
+        ap₂ (λ (l : List Sight) (m : Machine). l ++ octets_seen side m (next ∷ later))
+        (seen_one held octet ∙ ap (λ (l : List Sight). Came side octet ∷ l) (waits_unseen (holding x (held ++ octet ∷ [])) more_waits)) (held_one held octet more_waits)
+        ∙ ap (λ (l : List Sight). Came side octet ∷ l) goes)
         is x.held octet front refl
 
   -- octets are taken that can all be held

@@ -8,7 +8,7 @@ use Rattle.bgp_frame.specs.Step.{ShowsStep}
 use Rattle.bgp_open.specs.declared.context.Context.{Context}
 use Rattle.bgp_msg.specs.declared.outcome.Outcome.{Outcome}
 use Rattle.bgp_msg.specs.Decoder.{Decoding, Going, given_by, behind, fresh, holding, IsBehind, IsFed}
-use Rattle.bgp_msg.specs.Hearing.{IsContent}
+use Rattle.bgp_frame.specs.Hearing.{IsContent}
 use Rattle.bgp_msg.specs.declared.look.Look.TheVariants as look
 use Rattle.bgp_msg.specs.Look.{IsLook}
 use Rattle.bgp_msg.specs.Outcome.{out_of, of_fault}

@@ -2,7 +2,6 @@
 use Rattle.std.specs.Prelude.{◌≡◌, ◌<◌, ◌≤◌, ℕ, Bool, true, false, nat_lt, List, [], ◌∷◌, length, drop, Option, None, Some, if◌then◌else◌}
 use Rattle.bgp_machine.specs.declared.action.Action.{Action}
 use Rattle.bgp_machine.specs.declared.state.State.{State}
-use Rattle.bgp_machine.specs.Session.{Machine}
 use Rattle.bgp_machine.specs.Standing.{listens}
 use Rattle.bgp_machine.specs.steps.Ready.{weight}
 use Rattle.bgp_host.specs.declared.link.Link.{Link}

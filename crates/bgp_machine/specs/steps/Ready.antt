@@ -1,6 +1,6 @@
 -- What is left for a session to do of a piece, between two pulls. Steps of proofs alone cite it.
 use Rattle.std.specs.Prelude.{ℕ, List}
-use Rattle.bgp_msg.specs.Hearing as hearing
+use Rattle.bgp_frame.specs.Hearing as hearing
 use Rattle.bgp_machine.specs.Cutting.{Done}
 use Rattle.bgp_machine.specs.Session.{Machine, hearer}
 

@@ -1,7 +1,7 @@
-use Rattle.bgp_msg.specs.Hearing.{by_feed}
+use Rattle.bgp_frame.specs.Hearing.{by_feed}
 use Rattle.bgp_machine.specs.Session.{hearer}
 use Rattle.bgp_machine.proofs.Cuttings.{is_hearer}
-use Rattle.bgp_msg.proofs.Hearings.{feed_is_way, can_be_heard, can_feed}
+use Rattle.bgp_frame.proofs.Hearings.{feed_is_way, can_be_heard, can_feed}
 use Rattle.bgp_machine.proofs.laws.any_pieces_can_be_fed.Goals as goal
 
 pub returns : goal.returns

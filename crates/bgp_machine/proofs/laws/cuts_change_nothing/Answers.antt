@@ -1,7 +1,7 @@
-use Rattle.bgp_msg.specs.Hearing.{by_feed}
+use Rattle.bgp_frame.specs.Hearing.{by_feed}
 use Rattle.bgp_machine.specs.Session.{hearer}
 use Rattle.bgp_machine.proofs.Cuttings.{is_hearer}
-use Rattle.bgp_msg.proofs.Hearings.{feed_is_way, runs_agree}
+use Rattle.bgp_frame.proofs.Hearings.{feed_is_way, runs_agree}
 use Rattle.bgp_machine.proofs.laws.cuts_change_nothing.Goals as goal
 
 pub returns : goal.returns

@@ -1,23 +1,23 @@
 -- However octets are cut, and by whatever calls they are heard, what is done on them is what is done octet by octet.
-use Rattle.std.proofs.Common.{◌≡◌, ℕ, zero, suc, ◌+◌, ◌-◌, ◌<◌, ◌≤◌, min, ◌⊎◌, Bool, true, false, List, [], ◌∷◌, ◌++◌, length, map, take, drop, Option, None, Some, option_map, Result, Ok, Err, refl, sym, ap, ap₂, subst, ◌∙◌, append_assoc, arith, inl, inr}
+use Rattle.std.proofs.Common.{◌≡◌, ℕ, zero, suc, ◌+◌, ◌-◌, ◌<◌, ◌≤◌, min, ◌⊎◌, Bool, true, false, List, [], ◌∷◌, ◌++◌, length, take, drop, Option, None, Some, option_map, Result, Ok, Err, refl, sym, ap, ap₂, subst, ◌∙◌, append_assoc, arith, inl, inr}
 use Rattle.std.specs.List.{flat_map}
 use Rattle.std.proofs.Math.Seq.{take-add}
 use Rattle.std.proofs.lemmas.Bool.{cases_lt}
-use Rattle.std.proofs.lemmas.List.{append-nil, length-append, length-drop, length-take, take_all, take-append-drop, take-take}
+use Rattle.std.proofs.lemmas.List.{append-nil, length-append, length-drop, take_all, take-append-drop}
 use Rattle.bgp_wire.specs.Octets.{AreOctets}
-use Rattle.bgp_wire.proofs.OctetLemmas.{AreOctets-append, AreOctets-take, AreOctets-drop, AreOctets-front, AreOctets-back}
+use Rattle.bgp_wire.proofs.OctetLemmas.{AreOctets-drop, AreOctets-front, AreOctets-back}
 use Rattle.bgp_frame.specs.declared.fault.HeadFault.{HeadFault}
 use Rattle.bgp_frame.specs.Content.{content, content_of}
 use Rattle.bgp_frame.specs.Frame.{Message, wanted, Waits}
 use Rattle.bgp_frame.specs.Framer.{IsHeld}
 use Rattle.bgp_frame.specs.Pull.{Pulls, IsToFeed}
 use Rattle.bgp_frame.specs.Takes.{Stops, Takes}
-use Rattle.bgp_msg.specs.Hearing.{Hearer, IsContent, CountsFed, with_octet, Done, behind, one_if_any, behind_feed, IsFed, Judges, IsJudged, PullsNothing, PullsSome, PullsNext, IsPulled, IsFedAndJudged, by_feed, judged, done_by, settled, by_octet, by_octets, IsAtRest, IsReady, left_to_do, weight, Way, given, Run, all_octets, Calls, Runs, CanBeHeard}
+use Rattle.bgp_frame.specs.Hearing.{Hearer, IsContent, CountsFed, with_octet, Done, behind, one_if_any, behind_feed, IsFed, Judges, PullsNext, IsPulled, IsFedAndJudged, by_feed, judged, done_by, settled, by_octet, by_octets, IsAtRest, IsReady, left_to_do, weight, Way, given, Run, all_octets, Calls, Runs, CanBeHeard}
 use Rattle.bgp_frame.proofs.Contents.{enough, content_of-waits, content_of-frame, content_of-fault}
 use Rattle.bgp_frame.proofs.Feeding.{takes_some, Fills, Fills-takes, Fills-held}
 use Rattle.bgp_frame.proofs.FrameLemmas.{one_count, wanted_under, wanted-append, wanted-bounds, wanted-Stops, Stops-wanted}
 use Rattle.bgp_frame.proofs.Holding.{IsHeld_nil}
-use Rattle.bgp_frame.proofs.Pulls.{held_or_front, held_pulls, nothing_waits}
+use Rattle.bgp_frame.proofs.Pulls.{held_pulls, nothing_waits}
 
 -- ---- octets that are held
 
@@ -193,12 +193,12 @@ module _ {X Said Action : Type 0} (h : Hearer X Said Action) (is : IsHearer h) w
         ap (λ (y : X). by_octets h y (octet ∷ front)) (sym (is.held_same x))
         ∙ all_held (λ held later. by_octets h (h.holding x held) later ≡ settled h (h.holding x whole)) whole
         (λ held octet joined.
-            ap (λ (d : Done X Action). behind d.actions (by_octets h d.session [])) (takes_one held octet)
-            ∙ ap (λ (actions : List Action). done actions (settled h (h.holding x (held ++ octet ∷ []))).session) (append-nil _)
-            ∙ ap (λ (l : List ℕ). settled h (h.holding x l)) joined)
+        ap (λ (d : Done X Action). behind d.actions (by_octets h d.session [])) (takes_one held octet)
+        ∙ ap (λ (actions : List Action). done actions (settled h (h.holding x (held ++ octet ∷ []))).session) (append-nil _)
+        ∙ ap (λ (l : List ℕ). settled h (h.holding x l)) joined)
         (λ held octet next later more_waits goes.
-            ap (λ (d : Done X Action). behind d.actions (by_octets h d.session (next ∷ later)))
-            (takes_one held octet ∙ rests (h.holding x (held ++ octet ∷ [])) (subst Waits (sym (is.held_so x _)) more_waits)) ∙ goes)
+        ap (λ (d : Done X Action). behind d.actions (by_octets h d.session (next ∷ later)))
+        (takes_one held octet ∙ rests (h.holding x (held ++ octet ∷ [])) (subst Waits (sym (is.held_so x _)) more_waits)) ∙ goes)
         held_is (h.held x) octet front refl
 
   -- ---- octets that aren't taken
@@ -330,12 +330,6 @@ module _ {X Said Action : Type 0} (h : Hearer X Said Action) (is : IsHearer h) w
       subst (λ (z : X). Ends x piece [] z) (sym (call.next ∙ took_none x piece 0 refl))
       (waiting x piece waits ∙ stays x piece (h.listens x) refl waits call.fed.0, rests_ready x ready waits)
 
-  -- what is the same octet by octet is the same
-  pub agree : (x : X) (a b : List ℕ) (first second : List Action) (y z : X) → a ≡ b → by_octets h x a ≡ done first y → by_octets h x b ≡ done second z → (first ≡ second) × (y ≡ z)
-  agree x a b first second y z same one two =
-      let both : done first y ≡ done second z = sym one ∙ ap (by_octets h x) same ∙ two in
-      (ap (λ (d : Done X Action). d.actions) both, ap (λ (d : Done X Action). d.session) both)
-
   -- each call of the way feeds and judges; where it takes nothing and finds nothing, what is held waits; and there is a call for each piece
   pub record IsWay (way : Way X Action) : Type 0 where
     pub heard : (x : X) (piece : List ℕ) (n : ℕ) (found : Option (List Action)) (y : X) → way x piece n found y → IsFedAndJudged h x piece n found y
@@ -428,8 +422,10 @@ module _ {X Said Action : Type 0} (h : Hearer X Said Action) (is : IsHearer h) w
   pub runs_agree : (one other : Way X Action) → IsWay one → IsWay other → (x : X) (runs others : List Run) (actions second : List Action) (y z : X) → IsAtRest h x → AreOctets (all_octets runs)
       → all_octets runs ≡ all_octets others → Runs one runs x actions y → Runs other others x second z → (actions ≡ second) × (y ≡ z)
   runs_agree one other on also x runs others actions second y z rest octets same r s =
-      agree x (all_octets runs) (all_octets others) actions second y z same (runs_settle one on x runs actions y rest octets r).0
-      (runs_settle other also x others second z rest (subst AreOctets same octets) s).0
+      let first = (runs_settle one on x runs actions y rest octets r).0 in
+      let again = (runs_settle other also x others second z rest (subst AreOctets same octets) s).0 in
+      let both : done actions y ≡ done second z = sym first ∙ ap (by_octets h x) same ∙ again in
+      (ap (λ (d : Done X Action). d.actions) both, ap (λ (d : Done X Action). d.session) both)
 
   -- ---- a feed
 
@@ -454,6 +450,7 @@ module _ {X Said Action : Type 0} (h : Hearer X Said Action) (is : IsHearer h) w
       heard : (x : X) (piece : List ℕ) (n : ℕ) (found : Option (List Action)) (y : X) → by_feed h x piece n found y → IsFedAndJudged h x piece n found y
       heard x piece n None y call = record { fed = call.0; next = call.1.1 }
       heard x piece n (Some actions) y call = record { fed = call.0; next = call.1 }
+
       ends : (x : X) (piece : List ℕ) (y : X) → IsReady h x → by_feed h x piece 0 None y → Waits (h.held x)
       ends x piece y ready call = subst (λ (z : X). Waits (h.held z)) (took_none x piece 0 refl) call.1.0
 
