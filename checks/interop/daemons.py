@@ -49,6 +49,10 @@ class Daemon:
     def wake(self):
         """Lets the session come up again at once."""
 
+    def left(self):
+        """How often it says that it received a NOTIFICATION, before it had an OPEN too."""
+        return len(self.received())
+
     def fill(self):
         """Gives it its routes, where the configuration can't."""
 
@@ -277,6 +281,10 @@ class GoBgp(Daemon):
 
     def received(self):
         return re.findall(r"notification-received (code [^\"]*)", self.log.read_text())
+
+    def left(self):
+        # Before it has an OPEN, its log has no NOTIFICATION, but that it is idle again.
+        return len(self.received()) + self.log.read_text().count('"new":"BGP_FSM_IDLE","old":"BGP_FSM_OPENSENT"')
 
 
 ALL = {"bird": Bird, "frr": Frr, "openbgpd": OpenBgpd, "gobgp": GoBgp}
