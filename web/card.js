@@ -32,7 +32,7 @@ function sectionLink(text) {
 
 const span = ({ at, len }) => ({ at, len });
 
-// What the message says, a line each, and below why something isn't kept, or for what the session ends.
+// What the message says, a line each, and below why something is discarded, or for what the session ends.
 function linesOf(message) {
     const { verdict } = message, list = make("ul", { className: "lines" });
     for (const line of message.lines) {

@@ -22,7 +22,7 @@ type Facts struct {
 	// OriginAS is the AS that the route came from: the last number of the path that AS_PATH and AS4_PATH give together (RFC 6793, section 4.2.3). Nil where
 	// that is empty or ends in a set (RFC 6811, section 2).
 	OriginAS                                       *uint32
-	ASPath, AS4Path, Communities, LargeCommunities []byte // values as they lie there; nil where the attribute isn't kept
+	ASPath, AS4Path, Communities, LargeCommunities []byte // values as they lie there; nil where the attribute is discarded
 	Unrecognised                                   int    // how many attributes of types that aren't recognised
 }
 

@@ -16,7 +16,7 @@ class Daemon:
     # What it answers to an ORIGIN of 5, where that isn't treated as a withdrawal (RFC 7606, section 7.1).
     origin_answer = None
     # What it can't be sent, though it is well formed.
-    refuses = None
+    refuses = ()
 
     def __init__(self, folder, connects, port, routes4, routes6):
         """`port` is where it listens, or where it connects to."""
@@ -48,6 +48,10 @@ class Daemon:
 
     def wake(self):
         """Lets the session come up again at once."""
+
+    def left(self):
+        """How often it says that it received a NOTIFICATION, before it had an OPEN too."""
+        return len(self.received())
 
     def fill(self):
         """Gives it its routes, where the configuration can't."""
@@ -162,8 +166,8 @@ class OpenBgpd(Daemon):
     name, command, package = "OpenBGPD", "bgpctl", "openbgpd"
     # Version 7.7 ends the session as RFC 4271, section 6.3, has it, where RFC 7606 asks for a withdrawal.
     origin_answer = "3/6"
-    # It ends a session for these too (3/9), which are well formed (RFC 4760, section 5).
-    refuses = "IPv4 routes in MP_REACH_NLRI"
+    # It ends a session for these too (3/9, 3/3), which are well formed (RFC 4760, section 5; RFC 4271, section 6.3).
+    refuses = ("IPv4 routes in MP_REACH_NLRI", "attributes without routes")
 
     def configure(self):
         routes = "".join(f"network {route}\n" for route in (*self.routes4, *self.routes6))
@@ -277,6 +281,10 @@ class GoBgp(Daemon):
 
     def received(self):
         return re.findall(r"notification-received (code [^\"]*)", self.log.read_text())
+
+    def left(self):
+        # Before it has an OPEN, its log has no NOTIFICATION, but that it is idle again.
+        return len(self.received()) + self.log.read_text().count('"new":"BGP_FSM_IDLE","old":"BGP_FSM_OPENSENT"')
 
 
 ALL = {"bird": Bird, "frr": Frr, "openbgpd": OpenBgpd, "gobgp": GoBgp}

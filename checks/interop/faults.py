@@ -65,6 +65,15 @@ OUTLIVED = {
     "an attribute cut by the field's end": update(BASIS + b"\xc0\x08\x08\x00", NEW),
     "attributes that end in two octets": update(BASIS + b"\xc0\x08", NEW),
     "IPv4 routes in MP_REACH_NLRI": with_more(reach(b"\x00\x01\x01\x04\xc0\x00\x02\x02\x00" + GONE)),
+    "AS_PATH, optional": update(ORIGIN + attribute(0xC0, 2, PATH[3:]) + HOP, NEW),
+    "NEXT_HOP, optional": update(ORIGIN + PATH + attribute(0xC0, 3, HOP[3:]), NEW),
+    "MED, transitive": with_more(attribute(0xC0, 4, b"\x00\x00\x00\x01")),
+    "MED twice": with_more(attribute(0x80, 4, b"\x00\x00\x00\x01") * 2),
+    "ATOMIC_AGGREGATE, optional": with_more(attribute(0xC0, 6, b"")),
+    "AGGREGATOR, not transitive": with_more(attribute(0x80, 7, b"\x00\x00\xfd\xea\xc0\x00\x02\x02")),
+    "communities, not transitive": with_more(attribute(0x80, 8, b"\xfd\xea\x00\x01")),
+    "large communities, not transitive": with_more(attribute(0x80, 32, b"\x00" * 11 + b"\x01")),
+    "large communities, empty": with_more(attribute(0xC0, 32, b"")),
     "a family that wasn't offered": with_more(reach(b"\x00\x19\x41\x04\xc0\x00\x02\x02\x00\x00")),
 }
 
@@ -75,6 +84,11 @@ ENDING = {
     "MP_REACH_NLRI with a next hop of 5 octets": (with_more(reach(b"\x00\x01\x01\x05\xc0\x00\x02\x02\x00\x00")), (3, 9)),
     "MP_REACH_NLRI with a prefix of 129 bits": (with_more(reach(b"\x00\x02\x01\x10" + b"\x20" + b"\x00" * 15 + b"\x00" + b"\x81" + b"\x00" * 17)), (3, 9)),
     "MP_REACH_NLRI, transitive": (with_more(attribute(0xC0, 14, b"\x00\x01\x01\x04\xc0\x00\x02\x02\x00")), (3, 9)),
+    "MP_REACH_NLRI of 4 octets": (with_more(reach(b"\x00\x01\x01\x00")), (3, 9)),
+    "MP_REACH_NLRI cut by the field's end": (update(BASIS + b"\x80\x0e", NEW), (3, 1)),
+    "MP_UNREACH_NLRI, transitive": (with_more(attribute(0xC0, 15, b"\x00\x01\x01")), (3, 9)),
+    "two MP_UNREACH_NLRI": (with_more(attribute(0x80, 15, b"\x00\x01\x01") * 2), (3, 1)),
+    "ORIGIN of 5 where nothing is announced": (update(attribute(0x40, 1, b"\x05"), b"", GONE), (3, 1)),
     "MP_UNREACH_NLRI of 2 octets": (with_more(attribute(0x80, 15, b"\x00\x01")), (3, 9)),
     "a prefix of 33 bits": (update(BASIS, b"\x21\x0a\x00\x00\x00\x00"), (3, 10)),
     "a prefix past the end": (update(BASIS, b"\x20\x0a"), (3, 10)),
@@ -86,4 +100,23 @@ ENDING = {
     "a KEEPALIVE of 20 octets": (message(messages.KEEPALIVE, b"\x00"), (1, 2)),
     "a type of 9": (message(9), (1, 3)),
     "an OPEN": (messages.open_message(ASN, 90, "192.0.2.2"), (5, 3)),
+}
+
+
+def opening(version=4, hold=90, identifier=b"\xc0\x00\x02\x02", parameters=b""):
+    """An OPEN with these parameters."""
+    return message(messages.OPEN, bytes([version]) + ASN.to_bytes(2, "big") + hold.to_bytes(2, "big") + identifier + bytes([len(parameters)]) + parameters)
+
+
+# Those that come in place of the OPEN, with the NOTIFICATION that is asked for.
+OPENINGS = {
+    "an OPEN of version 3": (opening(version=3), (2, 1)),
+    "an OPEN with a Hold Time of 1": (opening(hold=1), (2, 6)),
+    "an OPEN with identifier 0": (opening(identifier=bytes(4)), (2, 3)),
+    "an OPEN with a parameter of type 1": (opening(parameters=b"\x01\x01\x00"), (2, 4)),
+    "an OPEN with a parameter past its end": (opening(parameters=b"\x02\x06\x41\x04"), (2, 0)),
+    "an OPEN with neither family": (opening(parameters=b"\x02\x06\x01\x04\x00\x19\x00\x41"), (6, 5)),
+    "an OPEN of 28 octets": (message(messages.OPEN, bytes(9)), (1, 2)),
+    "a KEEPALIVE in place of the OPEN": (messages.keepalive(), (5, 1)),
+    "an UPDATE in place of the OPEN": (update(BASIS, NEW), (5, 1)),
 }

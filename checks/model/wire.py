@@ -234,7 +234,7 @@ def attributes(field):
 
 
 def marks_of(context, field, has_nlri):
-    """What of the attribute field isn't kept, in order, what is kept by type, and the types that stand there."""
+    """What of the attribute field is discarded, in order, what is kept by type, and the types that stand there."""
     found, end = attributes(field)
     marks, kept, seen = [], {}, set()
     for at, flags, kind, value, whole in found:

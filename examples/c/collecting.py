@@ -56,12 +56,12 @@ class Collector:
                 raise AssertionError(f"the collector did not print: {line}")
 
     def settle(self):
-        """Waits until a second has brought no line, where there are too many to look at all of them each time."""
+        """Waits until two seconds have brought no line, where there are too many to look at all of them each time."""
         end, count = time.monotonic() + 4 * LIMIT, -1
         while count != len(self.lines):
             assert time.monotonic() < end, "lines come and come"
             count = len(self.lines)
-            time.sleep(1)
+            time.sleep(2)
 
     def of(self, name):
         """The lines of a peer."""

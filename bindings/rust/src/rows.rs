@@ -137,17 +137,17 @@ impl RouteRow {
         self.as_path.of(message)
     }
 
-    /// The value of AS4_PATH; empty where that isn't kept.
+    /// The value of AS4_PATH; empty where that is discarded.
     pub fn as4_path<'a>(&self, message: &'a [u8]) -> &'a [u8] {
         self.as4_path.of(message)
     }
 
-    /// The value of COMMUNITIES; empty where that isn't kept.
+    /// The value of COMMUNITIES; empty where that is discarded.
     pub fn communities<'a>(&self, message: &'a [u8]) -> &'a [u8] {
         self.communities.of(message)
     }
 
-    /// The value of LARGE_COMMUNITY; empty where that isn't kept.
+    /// The value of LARGE_COMMUNITY; empty where that is discarded.
     pub fn large_communities<'a>(&self, message: &'a [u8]) -> &'a [u8] {
         self.large_communities.of(message)
     }

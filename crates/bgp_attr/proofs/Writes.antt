@@ -37,7 +37,7 @@ module _ {X : Type 0} (octets : X → List ℕ) (P : X → Type 0) where
     pub all_written : length xs ≤ i → IsWritten octets P xs before old
     all_written le = subst (λ (ys : List X). IsWritten octets P ys before old) (take_all i xs le) so_far
 
-    -- a refused growth leaves what was there, and some octets behind it
+    -- a failed allocation leaves what was there, and some octets behind it
     pub some_written : (new : List ℕ) → Extends old new → Extends before new
     some_written new more = (flat_map octets (take i xs) ++ more.0, more.1 ∙ ap (λ (b : List ℕ). b ++ more.0) so_far.items ∙ append_assoc before (flat_map octets (take i xs)) more.0)
 

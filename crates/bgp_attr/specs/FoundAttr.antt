@@ -1,4 +1,4 @@
--- What an attribute comes to, told in a few words.
+-- How an attribute is judged, told in a few words.
 use Rattle.bgp_frame.specs.Notification.{notification_of_view}
 use Rattle.bgp_attr.specs.declared.judged.Judged.{Judged}
 use Rattle.bgp_attr.specs.declared.judged.Judged.TheVariants as judged

@@ -4,7 +4,7 @@ ghost use Rattle.std.specs.Prelude.{◌≡◌, ◌≤◌, length, take, []};
 ghost use Rattle.bgp_wire.specs.Reader.{pieces};
 ghost use Rattle.bgp_attr.specs.Numbers.{one_triple};
 
-use crate::large_view::first_new;
+use crate::large_view::first_new_triple;
 use std::iter::FusedIterator;
 
 /// The communities of LARGE_COMMUNITY in order, each at its first place alone (RFC 8092, section 3). It takes no memory.
@@ -40,7 +40,7 @@ impl<'a> Iterator for LargeCommIter<'a> {
     ghost remaining = { item_count triples_left };
 
     fn next(&mut self) -> Option<[u32; 3]> {
-        let (triple, at) = first_new(self.octets, self.at)?;
+        let (triple, at) = first_new_triple(self.octets, self.at)?;
         self.at = at;
         Some(triple)
     }

@@ -63,6 +63,7 @@ pub use judged::Judged;
 pub use judged_view::JudgedView;
 pub use judging::{judge, judge_attribute, judge_into, judge_view};
 pub use large_iter::LargeCommIter;
+pub use large_view::first_new_triple;
 pub use length::{attr_len, run_len};
 pub use mp::{MpReach, MpUnreach};
 pub use mp_view::{MpReachView, MpUnreachView};

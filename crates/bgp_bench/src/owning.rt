@@ -27,7 +27,7 @@ impl Owned {
         self.routes = self.routes.saturating_add(count as u64);
     }
 
-    /// Owns what a message comes to, and lets go of it.
+    /// Owns the outcome of a message, and lets go of it.
     fn own(&mut self, alloc: Global, outcome: &OutcomeView<'_>) -> Result<(), AllocError> {
         self.messages = self.messages.saturating_add(1);
         match outcome {

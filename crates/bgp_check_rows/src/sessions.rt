@@ -48,7 +48,7 @@ fn event_of(word: &str, rest: &str) -> Option<Event> {
     }
 }
 
-/// What a call that lacks memory has to leave as it was.
+/// What a call whose allocation failed has to leave as it was.
 fn standing(session: &Session) -> (State, Option<Context>, usize) {
     (session.state(), session.context().copied(), session.held())
 }

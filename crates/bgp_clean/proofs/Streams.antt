@@ -14,7 +14,7 @@ use Rattle.bgp_open.specs.declared.context.Context.{Context}
 use Rattle.bgp_msg.specs.declared.message.Message.{Message}
 use Rattle.bgp_msg.specs.declared.outcome.Outcome.{Outcome}
 use Rattle.bgp_msg.specs.Laws.{IsTakenAsItself}
-use Rattle.bgp_msg.specs.Outcome.{is_reset, judgement}
+use Rattle.bgp_msg.specs.Outcome.{is_reset, stream_rules}
 use Rattle.bgp_msg.specs.Written.{canonical, written}
 use Rattle.bgp_clean.specs.declared.fault.CleanFault.{CleanFault}
 use Rattle.bgp_clean.specs.Clean.{cleaned}
@@ -62,18 +62,18 @@ module _ (ctx : Context) where
   frames [] taken = refl
   frames (n ∷ ns) taken = (canonical ctx n, flat_map (canonical ctx) ns, refl, (taken.0).whole, frames ns taken.1)
 
-  go-on : (ns : List Message) → AllByRecursion (IsTakenAsItself ctx) ns → AllByRecursion (stream.GoesOn (judgement ctx)) (map (written ctx) ns)
+  go-on : (ns : List Message) → AllByRecursion (IsTakenAsItself ctx) ns → AllByRecursion (stream.GoesOn (stream_rules ctx)) (map (written ctx) ns)
   go-on [] taken = tt
   go-on (n ∷ ns) taken = (ap is_reset (taken.0).taken, go-on ns taken.1)
 
-  told : (ns : List Message) → AllByRecursion (IsTakenAsItself ctx) ns → map (outcome_of ctx) ns ≡ map (stream.outcome_of (judgement ctx)) (map (written ctx) ns)
+  told : (ns : List Message) → AllByRecursion (IsTakenAsItself ctx) ns → map (outcome_of ctx) ns ≡ map (stream.outcome_of (stream_rules ctx)) (map (written ctx) ns)
   told [] taken = refl
   told (n ∷ ns) taken = ap₂ (λ (o : Outcome) (os : List (ℕ × Outcome)). (length (canonical ctx n), o) ∷ os) (sym (taken.0).taken) (told ns taken.1)
 
   waits : Waits []
   waits = omega (arith, (wanted-bounds []).0)
 
-  gives : (ns : List Message) → AllByRecursion (IsTakenAsItself ctx) ns → stream.Gives (judgement ctx) (flat_map (canonical ctx) ns) (map (outcome_of ctx) ns) (end.Wait 0)
+  gives : (ns : List Message) → AllByRecursion (IsTakenAsItself ctx) ns → stream.Gives (stream_rules ctx) (flat_map (canonical ctx) ns) (map (outcome_of ctx) ns) (end.Wait 0)
   gives ns taken = record {
     messages = map (written ctx) ns;
     row = flat_map (canonical ctx) ns;

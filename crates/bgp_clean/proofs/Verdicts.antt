@@ -19,7 +19,7 @@ pub record IsTakenOf (ctx : Context) (body : List ℕ) (u : Update) : Type 0 whe
   pub found : parts_of body ≡ Some parts
   pub update : update_of parts (marks_of ctx parts) ≡ u
 
--- the body has parts, which announce something, and whose routes are withdrawn
+-- the body has parts, which announce something, and is treated as a withdrawal
 pub record IsWithdrawnOf (ctx : Context) (body : List ℕ) (routes : Routes) : Type 0 where
   pub parts : Parts
   pub found : parts_of body ≡ Some parts

@@ -159,7 +159,7 @@ bare-none : (ps : List PrefixValue) → is_bare (gone_attr ps) ≡ true → leng
 bare-none [] e = refl
 bare-none (p ∷ ps) e = absurd (false≢true e)
 
--- ---- a message of which the routes are withdrawn
+-- ---- a message that is treated as a withdrawal
 
 module _ (ctx : Context) (p : Parts) (octets_w : AreOctets p.withdrawn) (octets_a : AreOctets p.attributes) (octets_n : AreOctets p.nlri)
     (no_reset : reset_of p (marks_of ctx p) ≡ None) (reachable : is_reachable p (marks_of ctx p) ≡ true) where

@@ -9,7 +9,7 @@ use Rattle.bgp_msg.specs.declared.message.Message.{Message}
 use Rattle.bgp_msg.specs.declared.outcome.Outcome.{Outcome}
 use Rattle.bgp_msg.specs.declared.outcome.Outcome.TheVariants as outcome
 use Rattle.bgp_msg.specs.Laws.{IsTakenAsItself}
-use Rattle.bgp_msg.specs.Outcome.{judgement}
+use Rattle.bgp_msg.specs.Outcome.{stream_rules}
 use Rattle.bgp_msg.specs.Written.{canonical, written}
 use Rattle.bgp_clean.specs.Clean.{cleaned}
 use Rattle.bgp_clean.specs.Lesson.{lesson}
@@ -36,7 +36,7 @@ NoLonger ctx (n ∷ ns) (m ∷ ms) = (length (canonical ctx n) ≤ length (octet
 -- The cleaned stream of these messages is whole messages that are accepted without a note, and nothing behind them; cleaned again it is unchanged; no
 -- message is longer than the one it came from; and what a hearer learns of it is what the hearer of the first messages of the stream learns, as many
 pub record IsCleanStream (ctx : Context) (drops : ℕ → Bool) (ms : List frame.Message) : Type 0 where
-  pub taken : Gives (judgement ctx) (cleaned_octets ctx drops ms) (map (outcome_of ctx) (cleaned_stream ctx drops ms)) (end.Wait 0)
+  pub taken : Gives (stream_rules ctx) (cleaned_octets ctx drops ms) (map (outcome_of ctx) (cleaned_stream ctx drops ms)) (end.Wait 0)
   pub again : cleaned_stream ctx drops (map (written ctx) (cleaned_stream ctx drops ms)) ≡ cleaned_stream ctx drops ms
   pub no_longer : NoLonger ctx (cleaned_stream ctx drops ms) ms
   pub taught : map (λ n. lesson ctx drops (written ctx n)) (cleaned_stream ctx drops ms)

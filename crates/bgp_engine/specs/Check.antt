@@ -3,7 +3,7 @@ use Rattle.std.specs.Prelude.{ℕ, List, [], ◌∷◌, ◌++◌, codes, Ok}
 use Rattle.std.specs.Fmt.{decimal}
 use Rattle.bgp_open.specs.declared.context.Context.{Context}
 use Rattle.bgp_msg.specs.declared.outcome.Outcome.{Outcome}
-use Rattle.bgp_msg.specs.Outcome.{judgement}
+use Rattle.bgp_msg.specs.Outcome.{stream_rules}
 use Rattle.bgp_text.specs.End.{end_line}
 use Rattle.bgp_engine.specs.declared.tally.Tally.{Tally}
 use Rattle.bgp_engine.specs.Rules.{Rules, IsReport}
@@ -19,7 +19,7 @@ counts_line t =
 -- no line of a message: the counts, and the line of the end
 abbrev pub check_rules : Context → Rules Outcome
 check_rules ctx = record {
-  judge = judgement ctx;
+  judge = stream_rules ctx;
   line = λ _ _ _ _. [];
   class = class_of;
   last = λ tally. counts_line tally ++ end_line tally.end;

@@ -2,7 +2,7 @@
 use Rattle.std.specs.Prelude.{List, ℕ, Option, Some, Result, Ok, Err}
 use Rattle.bgp_frame.specs.declared.fault.HeadFault.{HeadFault}
 use Rattle.bgp_frame.specs.Frame.{Message}
-use Rattle.bgp_frame.specs.Stream.{Judgement}
+use Rattle.bgp_frame.specs.Stream.{StreamRules}
 use Rattle.bgp_open.specs.declared.context.Context.{Context}
 use Rattle.bgp_msg.specs.declared.outcome.Outcome.{Outcome}
 use Rattle.bgp_msg.specs.Outcome.{is_reset, of_fault, out_of}
@@ -15,7 +15,7 @@ pub record Heard : Type 0 where
   pub outcome : Outcome
 
 -- outcomes are those that `bgp_msg` has
-abbrev pub heard_in : Context → Judgement Heard
+abbrev pub heard_in : Context → StreamRules Heard
 heard_in ctx = record {
   of_message = λ m. record { front = Ok m; outcome = out_of ctx m };
   of_fault = λ f. record { front = Err f; outcome = of_fault f };

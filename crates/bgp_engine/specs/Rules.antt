@@ -2,7 +2,7 @@
 use Rattle.std.specs.Prelude.{◌≡◌, ℕ, ◌+◌, ◌==◌, List, [], ◌∷◌, ◌++◌, take, drop, Result, if◌then◌else◌}
 use Rattle.bgp_frame.specs.declared.end.End.{End}
 use Rattle.bgp_frame.specs.declared.end.End.TheVariants as end
-use Rattle.bgp_frame.specs.Stream.{Judgement, Gives}
+use Rattle.bgp_frame.specs.Stream.{StreamRules, Gives}
 use Rattle.bgp_engine.specs.declared.class.Class.{Class}
 use Rattle.bgp_engine.specs.declared.class.Class.TheVariants as class
 use Rattle.bgp_engine.specs.declared.tally.Tally.{Tally}
@@ -14,7 +14,7 @@ use Rattle.bgp_engine.specs.Report.{Report}
 -- what is written last, by the counts and the end, and of octets that wait; and the answer, by the counts, the end and the place behind
 -- all messages that let the stream go on.
 pub record Rules (Outcome : Type 0) : Type 0 where
-  pub judge : Judgement Outcome
+  pub judge : StreamRules Outcome
   pub line : ℕ → ℕ → List ℕ → Outcome → List ℕ
   pub class : Outcome → Class
   pub last : Tally → List ℕ

@@ -33,7 +33,7 @@ use Rattle.bgp_fields.specs.declared.part.ValuePart.TheVariants as value
 use Rattle.bgp_fields.specs.Parts.{attribute_values, attribute_value}
 use Rattle.bgp_fields.proofs.ShowingValues.{is_plain, ValueShows, plain-shows, reach_shown, unreach_shown, reach-shows, unreach-shows, unused-shows}
 
--- it isn't kept, and the session goes on
+-- it is discarded, and the session goes on
 abbrev IsDropped : Judged → Type 0
 IsDropped (judged.Discard w) = Unit {0}
 IsDropped (judged.Withdraw w) = Unit {0}

@@ -13,7 +13,7 @@ use Rattle.bgp_frame.specs.declared.header.Header.{Header}
 use Rattle.bgp_frame.specs.declared.fault.HeadFault.{HeadFault}
 use Rattle.bgp_frame.specs.Head.{header, head_of}
 use Rattle.bgp_frame.specs.Frame.{Message, octets_of, IsFrame, wanted_by, wanted, Waits}
-use Rattle.bgp_frame.specs.Stream.{Judgement, outcome_of, GoesOn, EndsBy, Gives, HasOneReading}
+use Rattle.bgp_frame.specs.Stream.{StreamRules, outcome_of, GoesOn, EndsBy, Gives, HasOneReading}
 use Rattle.bgp_frame.proofs.HeadLemmas.{said_same}
 use Rattle.bgp_frame.proofs.FrameLemmas.{head_at, head_of-append, length-IsFrame, head_of-IsFrame, IsFrame-head_of, wanted_by_head, wanted-append, wanted-bounds, IsFrame-wanted}
 
@@ -49,7 +49,7 @@ front_wanted m frame rest f = let len = length-IsFrame m frame f in wanted-appen
 faulty_wanted : (s : List ℕ) (f : HeadFault) → 19 ≤ length s → head_of s ≡ Err f → wanted s ≡ 19
 faulty_wanted s f long e = wanted_by_head s long ∙ ap wanted_by e
 
-module _ (Outcome : Type 0) (j : Judgement Outcome) where
+module _ (Outcome : Type 0) (j : StreamRules Outcome) where
   -- ---- a reading, built from the front
 
   pub gives_wait : (s : List ℕ) → Waits s → Gives j s [] (end.Wait (length s))

@@ -4,8 +4,10 @@ pub mod Notification
 pub mod ShortNotification
 pub mod Head
 pub mod Frame
+pub mod Content
 pub mod Takes
 pub mod Framer
 pub mod Step
 pub mod Pull
 pub mod Stream
+pub mod Hearing

@@ -9,19 +9,19 @@ use Rattle.bgp_frame.specs.Head.{head_of}
 use Rattle.bgp_frame.specs.Frame.{Message, octets_of, IsFrame, Waits}
 
 -- how messages and faults are judged: what comes of each, and which of them ends the stream
-pub record Judgement (Outcome : Type 0) : Type 0 where
+pub record StreamRules (Outcome : Type 0) : Type 0 where
   pub of_message : Message → Outcome
   pub of_fault : HeadFault → Outcome
   pub resets : Outcome → Bool
 
-module _ {Outcome : Type 0} (judgement : Judgement Outcome) where
+module _ {Outcome : Type 0} (rules : StreamRules Outcome) where
   -- a message's octets in number, and what comes of it
   abbrev pub outcome_of : Message → ℕ × Outcome
-  outcome_of m = (length (octets_of m), judgement.of_message m)
+  outcome_of m = (length (octets_of m), rules.of_message m)
 
   -- the stream goes on behind the message
   abbrev pub GoesOn : Message → Type 0
-  GoesOn m = judgement.resets (judgement.of_message m) ≡ false
+  GoesOn m = rules.resets (rules.of_message m) ≡ false
 
   -- all of the messages let the stream go on, but for the last
   pub record EndsAtReset (messages : List Message) : Type 0 where
@@ -29,7 +29,7 @@ module _ {Outcome : Type 0} (judgement : Judgement Outcome) where
     pub last : Message
     pub in_order : messages ≡ earlier ++ last ∷ []
     pub go_on : AllByRecursion GoesOn earlier
-    pub reset : judgement.resets (judgement.of_message last) ≡ true
+    pub reset : rules.resets (rules.of_message last) ≡ true
 
   -- all of the messages let the stream go on, and the header behind them has a fault
   pub record EndsAtHead (messages : List Message) (rest : List ℕ) (outcomes : List (ℕ × Outcome)) : Type 0 where
@@ -37,7 +37,7 @@ module _ {Outcome : Type 0} (judgement : Judgement Outcome) where
     pub has_header : 19 ≤ length rest
     pub fault : HeadFault
     pub faulty : head_of rest ≡ Err fault
-    pub told : outcomes ≡ map outcome_of messages ++ (0, judgement.of_fault fault) ∷ []
+    pub told : outcomes ≡ map outcome_of messages ++ (0, rules.of_fault fault) ∷ []
 
   -- all of the messages let the stream go on, and n octets behind them wait for the rest of theirs
   pub record EndsWaiting (messages : List Message) (rest : List ℕ) (outcomes : List (ℕ × Outcome)) (n : ℕ) : Type 0 where
@@ -67,6 +67,6 @@ module _ {Outcome : Type 0} (judgement : Judgement Outcome) where
     pub gives : Gives stream outcomes end_of
     pub only : (others : List (ℕ × Outcome)) (other : End) → Gives stream others other → (others ≡ outcomes) × (other ≡ end_of)
 
--- the judgement that hands on each message and each fault as it is: what comes of them by another judgement is a function of it
-abbrev pub as_it_is : (Result Message HeadFault → Bool) → Judgement (Result Message HeadFault)
+-- the rules that hand on each message and each fault as it is: what comes of them by other rules is a function of it
+abbrev pub as_it_is : (Result Message HeadFault → Bool) → StreamRules (Result Message HeadFault)
 as_it_is resets = record { of_message = λ m. Ok m; of_fault = λ f. Err f; resets = resets }

@@ -1,5 +1,5 @@
 -- An octet of a side keeps both directions handed over.
-use Rattle.std.proofs.Common.{◌≡◌, ℕ, zero, suc, ◌+◌, ◌<◌, Bool, true, false, cond, List, [], ◌∷◌, ◌++◌, length, Option, Some, None, Result, Ok, Err, refl, sym, ap, subst, ◌∙◌, arith, inl, inr}
+use Rattle.std.proofs.Common.{◌≡◌, ℕ, zero, suc, ◌+◌, ◌<◌, Bool, true, false, cond, List, [], ◌∷◌, ◌++◌, length, Option, Some, None, option_map, Result, Ok, Err, refl, sym, ap, subst, ◌∙◌, arith, inl, inr}
 use Rattle.std.specs.Prelude.{◌&&◌, not, is_some}
 use Rattle.std.proofs.lemmas.Bool.{true≢false, and_parts, cases_lt}
 use Rattle.std.proofs.lemmas.List.{append-nil, length-append}
@@ -10,7 +10,7 @@ use Rattle.bgp_frame.specs.declared.fault.HeadFault.{HeadFault}
 use Rattle.bgp_frame.specs.declared.kind.Kind.{Kind}
 use Rattle.bgp_frame.specs.declared.kind.Kind.TheVariants as kind
 use Rattle.bgp_frame.specs.Frame as frame
-use Rattle.bgp_frame.specs.Frame.{IsFrame, wanted, Waits}
+use Rattle.bgp_frame.specs.Frame.{IsFrame, Waits}
 use Rattle.bgp_frame.specs.Framer.{IsHeld}
 use Rattle.bgp_frame.specs.Head.{head_notification}
 use Rattle.bgp_frame.proofs.FrameLemmas.{wanted-append, wanted-bounds}
@@ -23,8 +23,9 @@ use Rattle.bgp_msg.specs.declared.message.Message.TheVariants as message
 use Rattle.bgp_msg.specs.Outcome.{out_of}
 use Rattle.bgp_clean.specs.declared.fault.CleanFault.{CleanFault}
 use Rattle.bgp_clean.specs.Clean.{cleaned, ended_family}
-use Rattle.bgp_machine.specs.Session.{content, content_of}
-use Rattle.bgp_machine.proofs.Contents.{content_of-message, enough}
+use Rattle.bgp_frame.specs.Content.{content_of}
+use Rattle.bgp_frame.proofs.Contents.{content_of-message}
+use Rattle.bgp_frame.proofs.Hearings.{none_waits}
 use Rattle.bgp_guard.specs.declared.rules.Rules.{Rules}
 use Rattle.bgp_guard.specs.declared.stage.Stage.{Stage}
 use Rattle.bgp_guard.specs.declared.stage.Stage.TheVariants as stage
@@ -55,16 +56,6 @@ held_more held octet is waits small =
     one : octet < 256 → AreOctets (octet ∷ [])
     one small zero = small
     one small (suc i) = omega arith
-
-no_content : (b : List ℕ) (c : Result frame.Message HeadFault) → None ≡ Some c → ⊥
-no_content b c e = absurd cc
-
-pub none_waits : (b : List ℕ) → content_of b ≡ None → Waits b
-none_waits b none =
-    elim (cases_lt (length b) (wanted b)) [
-      | inl waits ↦ waits
-      | inr long ↦ absurd (no_content b (content b) (sym none ∙ enough b long))
-    ]
 
 -- ---- both directions
 
@@ -187,7 +178,7 @@ module _ (rules : Rules) (silent others : Bool) (n : ℕ) (this other : Half) (t
   by_content : octet < 256 → (c : Option (Result frame.Message HeadFault)) → content_of (this.held ++ octet ∷ []) ≡ c
       → Goes rules silent others (seen (heard_as rules silent (holding sight (this.held ++ octet ∷ [])) c))
   by_content small None e = record {
-    this = alive_held rules silent octet this.held this.peer other.peer t.came o.given other.way a (held_more this.held octet a.can_hold a.waits small) (none_waits (this.held ++ octet ∷ []) e);
+    this = alive_held rules silent octet this.held this.peer other.peer t.came o.given other.way a (held_more this.held octet a.can_hold a.waits small) (none_waits (λ c. c) (this.held ++ octet ∷ []) (ap (option_map (λ c. c)) e));
     other = b;
   }
   by_content small (Some (Ok m)) e =

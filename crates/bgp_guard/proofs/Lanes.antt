@@ -30,7 +30,7 @@ use Rattle.bgp_clean.specs.Clean.{cleaned, cleaned_outcome}
 use Rattle.bgp_clean.specs.Stream.{handed_then, cleaned_from}
 use Rattle.bgp_guard.specs.declared.rules.Rules.{Rules}
 use Rattle.bgp_guard.specs.Hearing.{agreed, said_as}
-use Rattle.bgp_guard.proofs.Fronts.{nothing}
+use Rattle.bgp_frame.proofs.Pulls.{nothing_waits}
 use Rattle.bgp_guard.specs.Laws.{IsAllHandedOver, IsHandedOver, IsKept, IsNoNotification, direction, own_octets}
 
 -- ---- what is handed on of a message depends on little
@@ -214,7 +214,7 @@ module _ (rules : Rules) (silent : Bool) where
         whole = whole_row;
         frames = frames_row;
         can_hold = IsHeld_nil;
-        waits = nothing;
+        waits = nothing_waits;
         opened = opened;
         hands = λ c fits. subst (λ (x : Context). Hands x true (a.messages ++ m ∷ []) (given ++ sent ctx)) (sym (fits both)) (pushed is);
         none = all-append IsNoNotification a.messages (m ∷ []) a.none (silent_kind, tt);
@@ -268,7 +268,7 @@ module _ (rules : Rules) (silent : Bool) where
       whole = whole_row held None others came given way a octet m (message.Open o) f;
       frames = frames_row held None others came given way a octet m (message.Open o) f;
       can_hold = IsHeld_nil;
-      waits = nothing;
+      waits = nothing_waits;
       opened = record { first = m; later = []; is = alone; value = o; handed = handed; says = refl };
       hands = λ d fits. subst (Hands d true (a.messages ++ m ∷ [])) (sym (open_put c d))
           (subst (λ (ms : List frame.Message). Hands d true ms (said_octets d (message.Open o))) (sym alone) (hands_first d m (message.Open o) (handed d)));

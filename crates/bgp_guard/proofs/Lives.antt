@@ -17,7 +17,7 @@ use Rattle.bgp_guard.specs.Hearing.{agreed}
 use Rattle.bgp_guard.specs.Events.{closed_if, is_waiting, late, ticked_in, unreached_if, waited}
 use Rattle.bgp_guard.specs.Laws.{HandsOn, HandsOver, IsOctetIn}
 use Rattle.bgp_guard.specs.Life.{Event, Stood, Unreached, Octet, Closed, Sent, Ticked, Life, Seen, Trail, born, by_event, happens, life, life_behind, life_from, sent_seen}
-use Rattle.bgp_guard.proofs.Fronts.{nothing}
+use Rattle.bgp_frame.proofs.Pulls.{nothing_waits}
 use Rattle.bgp_guard.proofs.Hears.{Goes, Lane, octet_goes}
 use Rattle.bgp_guard.proofs.Lanes.{Alive, alive_all, alive_ends, alive_sent, over_lost, over_sent}
 
@@ -136,7 +136,7 @@ born_lane rules silent = record {
   whole = refl;
   frames = refl;
   can_hold = IsHeld_nil;
-  waits = nothing;
+  waits = nothing_waits;
   opened = refl;
   hands = λ ctx fits. refl;
   none = tt;

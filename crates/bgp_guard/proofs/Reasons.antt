@@ -7,7 +7,7 @@ use Rattle.bgp_frame.specs.declared.kind.Kind.{Kind}
 use Rattle.bgp_frame.specs.declared.kind.Kind.TheVariants as kind
 use Rattle.bgp_frame.specs.Frame as frame
 use Rattle.bgp_msg.specs.declared.message.Message.{Message}
-use Rattle.bgp_machine.specs.Session.{content_of}
+use Rattle.bgp_frame.specs.Content.{content_of}
 use Rattle.bgp_guard.specs.declared.rules.Rules.{Rules}
 use Rattle.bgp_guard.specs.declared.side.Side.TheVariants as side
 use Rattle.bgp_guard.specs.declared.stage.Stage.{Stage}

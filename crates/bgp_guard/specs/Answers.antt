@@ -1,6 +1,6 @@
 -- The NOTIFICATIONs that the guard sends itself (RFC 4271, section 6; RFC 4486; RFC 6608).
 use Rattle.std.specs.Prelude.{ℕ, List, [], ◌∷◌, ◌++◌, Option, None, Some}
-use Rattle.bgp_numbers.specs.declared.error.TheConstants.{HOLD_TIMER_EXPIRED, FINITE_STATE_MACHINE, CEASE, UNSPECIFIC}
+use Rattle.bgp_numbers.specs.declared.error.TheConstants.{HOLD_TIMER_EXPIRED, FINITE_STATE_MACHINE, CEASE, UNSPECIFIC, ADMINISTRATIVE_RESET, CONNECTION_REJECTED}
 use Rattle.bgp_frame.specs.declared.kind.Kind.{Kind}
 use Rattle.bgp_frame.specs.declared.kind.Kind.TheVariants as kind
 use Rattle.bgp_frame.specs.declared.notification.Notification.{Notification}
@@ -9,7 +9,6 @@ use Rattle.bgp_frame.specs.Kind.{code_of}
 use Rattle.bgp_frame.specs.ShortNotification.{notification_with}
 use Rattle.bgp_msg.specs.Written.{notification_octets}
 use Rattle.bgp_open.specs.Peer.{Said}
-use Rattle.bgp_guard.specs.declared.answers.TheConstants.{ADMINISTRATIVE_RESET, CONNECTION_REJECTED}
 use Rattle.bgp_guard.specs.declared.stage.Stage.TheVariants as stage
 use Rattle.bgp_guard.specs.declared.stage.TheConstants.{DRAIN_SECONDS}
 use Rattle.bgp_guard.specs.Guard.{Half, Sight}

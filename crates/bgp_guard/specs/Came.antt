@@ -9,7 +9,7 @@ use Rattle.bgp_frame.specs.Head.{head_notification}
 use Rattle.bgp_frame.specs.Takes.{Takes}
 use Rattle.bgp_msg.specs.declared.message.Message.{Message}
 use Rattle.bgp_msg.specs.Written.{canonical}
-use Rattle.bgp_machine.specs.Session.{content_of}
+use Rattle.bgp_frame.specs.Content.{content_of}
 use Rattle.bgp_guard.specs.declared.came.Came.{Came}
 use Rattle.bgp_guard.specs.declared.came.Came.TheVariants.{Nothing, HandedOn, Answered}
 use Rattle.bgp_guard.specs.declared.side.Side.{Side}

@@ -1,5 +1,5 @@
 -- What a guard keeps of its two sides, and where it stands.
-use Rattle.std.specs.Prelude.{ℕ, zero, suc, Bool, true, false, ◌&&◌, nat_le, List, [], length, Option, None}
+use Rattle.std.specs.Prelude.{ℕ, zero, suc, Bool, true, false, not, ◌&&◌, nat_le, List, [], length, Option, None}
 use Rattle.bgp_open.specs.Peer.{Said}
 use Rattle.bgp_guard.specs.declared.rules.Rules.{Rules}
 use Rattle.bgp_guard.specs.declared.side.Side.{Side}
@@ -30,6 +30,10 @@ pub record Guarding : Type 0 where
 abbrev pub fresh : Rules → Guarding
 fresh rules = record { rules = rules; stage = stage.Runs 0; outer = absent; inner = absent }
 
+abbrev pub other_side : Side → Side
+other_side side.Outer = side.Inner
+other_side side.Inner = side.Outer
+
 -- ---- as one side sees it: each rule is written once, for a side and the other
 
 pub record Sight : Type 0 where
@@ -55,6 +59,10 @@ is_silent side.Inner rules = rules.one_way
 abbrev pub runs : Stage → Bool
 runs (stage.Runs n) = true
 runs (stage.Ends n) = false
+
+-- nothing is read any more
+abbrev pub has_ended : Guarding → Bool
+has_ended g = not (runs g.stage)
 
 -- octets of a side are read while messages are handed on, it stands, and what is on its way to the other leaves room for a message
 abbrev pub listens_in : Sight → Bool

@@ -17,7 +17,7 @@ use Rattle.bgp_msg.specs.Outcome.{out_of}
 use Rattle.bgp_msg.specs.Written.{canonical}
 use Rattle.bgp_clean.specs.declared.fault.CleanFault.{CleanFault}
 use Rattle.bgp_clean.specs.Clean.{cleaned}
-use Rattle.bgp_machine.specs.Session.{content_of}
+use Rattle.bgp_frame.specs.Content.{content_of}
 use Rattle.bgp_guard.specs.declared.stage.Stage.{Stage}
 use Rattle.bgp_guard.specs.declared.stage.Stage.TheVariants as stage
 use Rattle.bgp_guard.specs.declared.stage.TheConstants.{DRAIN_SECONDS}

@@ -21,7 +21,7 @@ use Rattle.bgp_guard.specs.declared.side.Side.{Side}
 use Rattle.bgp_guard.specs.declared.stage.Stage.{Stage}
 use Rattle.bgp_guard.specs.declared.stage.Stage.TheVariants as stage
 use Rattle.bgp_guard.specs.declared.stage.TheConstants.{OPEN_SECONDS}
-use Rattle.bgp_machine.specs.Session.{content_of}
+use Rattle.bgp_frame.specs.Content.{content_of}
 use Rattle.bgp_guard.specs.Answers.{Answers, notice}
 use Rattle.bgp_guard.specs.Guard.{Sight, is_silent, listens_in, runs}
 use Rattle.bgp_guard.specs.Hearing.{agreed, comes_of, holding, said_as}

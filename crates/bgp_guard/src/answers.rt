@@ -16,12 +16,6 @@ use crate::way::Way;
 use bgp_frame::{Kind, NotificationView, ShortNotification, head};
 use bgp_numbers::error;
 
-/// Cease: Administrative Reset (RFC 4486, section 3).
-pub(crate) const ADMINISTRATIVE_RESET: u8 = 4;
-
-/// Cease: Connection Rejected (RFC 4486, section 3).
-pub(crate) const CONNECTION_REJECTED: u8 = 5;
-
 /// Puts a NOTIFICATION behind all that is on its way to a side.
 pub(crate) fn tell(why: NotificationView<'_>, way: &mut Way)
     requires { length way.old ≤ 65536 }
@@ -36,14 +30,14 @@ pub(crate) fn tell(why: NotificationView<'_>, way: &mut Way)
 pub(crate) fn reset_over() -> ShortNotification
     ensures { short_value result ≡ reset_over }
 {
-    ShortNotification::plain(error::CEASE, ADMINISTRATIVE_RESET)
+    ShortNotification::plain(error::CEASE, error::ADMINISTRATIVE_RESET)
 }
 
 /// There is no session for the side.
 pub(crate) fn rejected() -> ShortNotification
     ensures { short_value result ≡ rejected }
 {
-    ShortNotification::plain(error::CEASE, CONNECTION_REJECTED)
+    ShortNotification::plain(error::CEASE, error::CONNECTION_REJECTED)
 }
 
 /// A message of this kind is out of place.

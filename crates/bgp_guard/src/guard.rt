@@ -1,7 +1,7 @@
 //! The guard between two speakers.
 
 ghost use Rattle.std.specs.Prelude.{◌≡◌, true, IfOk, option_map};
-ghost use Rattle.bgp_guard.specs.Guard.{closes, fresh, half, listens};
+ghost use Rattle.bgp_guard.specs.Guard.{closes, fresh, half, has_ended, listens};
 ghost use Rattle.bgp_guard.specs.Came.{IsHeard};
 ghost use Rattle.bgp_guard.specs.Events.{closed, for_side, is_waiting, sent, stood, ticked, unreached, waited};
 ghost use Rattle.bgp_open.specs.Peer.{said_of};
@@ -91,6 +91,16 @@ impl Guard {
         match side {
             Side::Outer => close(&mut self.stage, &mut self.outer),
             Side::Inner => close(&mut self.stage, &mut self.inner),
+        }
+    }
+
+    /// Whether it has ended: nothing is read of either side any more.
+    pub fn has_ended(&self) -> bool
+        ensures { result ≡ has_ended self.now }
+    {
+        match self.stage {
+            Stage::Runs(_) => false,
+            Stage::Ends(_) => true,
         }
     }
 

@@ -1,5 +1,8 @@
 //! The two sides of a guard.
 
+ghost use Rattle.std.specs.Prelude.{◌≡◌};
+ghost use Rattle.bgp_guard.specs.Guard.{other_side};
+
 /// A side of a guard.
 #[derive(Clone, Copy, Debug, PartialEq, Eq, Hash)]
 pub enum Side {
@@ -7,4 +10,16 @@ pub enum Side {
     Outer,
     /// The speaker that is guarded.
     Inner,
+}
+
+impl Side {
+    /// The other side.
+    pub fn other(self) -> Side
+        ensures { result ≡ other_side self }
+    {
+        match self {
+            Side::Outer => Side::Inner,
+            Side::Inner => Side::Outer,
+        }
+    }
 }

@@ -67,14 +67,6 @@ pub(crate) struct Connection {
     pub(crate) is_ready: bool,
 }
 
-/// The other side.
-fn other(side: Side) -> Side {
-    match side {
-        Side::Outer => Side::Inner,
-        Side::Inner => Side::Outer,
-    }
-}
-
 // The code and the subcode of the NOTIFICATION that was put behind so many octets of a way.
 fn code_in(way: &[u8], before: usize) -> Option<Code> {
     match way.get(before..)?.get(CODE_AT..)? {
@@ -170,11 +162,6 @@ impl Connection {
     /// Whether it is closed.
     pub(crate) fn is_gone(&self) -> bool {
         self.phase == Phase::Gone
-    }
-
-    /// Whether octets go both ways.
-    pub(crate) fn stands(&self) -> bool {
-        self.phase == Phase::Stands
     }
 
     // Closes it at once.
@@ -273,13 +260,13 @@ impl Connection {
         number: u64,
     ) -> io::Result<Option<Why>> {
         for _turn in 0..PIECE {
-            let before = guard.way(other(self.side)).len();
+            let before = guard.way(self.side.other()).len();
             let (taken, came) = hear_once(guard, self.side, &mut self.piece);
             if taken == 0 {
                 return Ok(None);
             }
             self.heard = self.heard.saturating_add(taken as u64);
-            let passed = guard.way(other(self.side));
+            let passed = guard.way(self.side.other());
             let why = self.note(passed, before, came, log, number)?;
             if why.is_some() {
                 return Ok(why);

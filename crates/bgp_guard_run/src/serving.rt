@@ -168,15 +168,11 @@ impl<'a> Server<'a> {
         place: usize,
     ) -> io::Result<Session> {
         let side = self.guest_side();
-        let away = match side {
-            Side::Outer => Side::Inner,
-            Side::Inner => Side::Outer,
-        };
         self.watch(&mut stream, token_of(place, side))?;
         let ends = Ends {
             side,
             accepted: stream,
-            sought: self.seek(source, token_of(place, away)),
+            sought: self.seek(source, token_of(place, side.other())),
         };
         let name = self.name(from);
         Ok(Session::new(self.rt.alloc(), self.request.rules, name, ends)?)

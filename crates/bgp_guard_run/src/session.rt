@@ -3,7 +3,7 @@
 use crate::connection::Connection;
 use crate::log::{Log, Name};
 use crate::why::Why;
-use bgp_guard::{Guard, ROOM, Rules, Side};
+use bgp_guard::{Guard, Rules, Side};
 use mio::event::Event;
 use mio::net::TcpStream;
 use std::alloc::{AllocError, Global};
@@ -58,10 +58,7 @@ impl Session {
             accepted,
             sought,
         } = ends;
-        let away = match side {
-            Side::Outer => Side::Inner,
-            Side::Inner => Side::Outer,
-        };
+        let away = side.other();
         guard.stood(side);
         let (stream, why) = split(sought, away);
         if why.is_some() {
@@ -152,17 +149,10 @@ impl Session {
         Ok(())
     }
 
-    // Whether the guard reads a side no more that stands, though there is room on the way to the other.
-    fn is_deaf(&self, side: Side, other: Side, stands: bool) -> bool {
-        stands && !self.guard.listens(side) && self.guard.way(other).len() <= ROOM
-    }
-
     /// A second has gone by.
     pub(crate) fn tick(&mut self) {
         self.guard.tick();
-        let late = self.is_deaf(Side::Outer, Side::Inner, self.outer.stands())
-            || self.is_deaf(Side::Inner, Side::Outer, self.inner.stands());
-        if late {
+        if self.guard.has_ended() {
             self.blame(Some(Why::Late));
         }
         self.outer.tick();

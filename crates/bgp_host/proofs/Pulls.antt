@@ -1,23 +1,23 @@
 -- What a pull takes, and what it leaves.
-use Rattle.std.proofs.Common.{◌≡◌, ℕ, zero, suc, ◌+◌, ◌<◌, ◌≤◌, Bool, true, false, nat_lt, List, [], ◌∷◌, length, take, drop, None, Some, refl, sym, ap, subst, ◌∙◌, arith, inl, inr, if◌then◌else◌}
-use Rattle.std.proofs.lemmas.List.{length-drop}
+use Rattle.std.proofs.Common.{◌≡◌, ℕ, zero, suc, ◌<◌, ◌≤◌, Bool, true, false, nat_lt, List, [], ◌∷◌, length, drop, None, Some, refl, sym, ap, subst, ◌∙◌, arith, inl, inr, if◌then◌else◌}
 use Rattle.arrayvec.specs.ArrayVec.{ArrayVec}
-use Rattle.bgp_frame.specs.Takes.{Stops}
-use Rattle.bgp_frame.proofs.FrameLemmas.{Stops-wanted}
-use Rattle.bgp_frame.proofs.Pulls.{held_or_front}
+use Rattle.bgp_frame.specs.Hearing.{one_if_any}
+use Rattle.bgp_frame.proofs.Hearings.{counts_within, judges_lighter, lighter, none_left, not_both, taken_up}
 use Rattle.bgp_machine.specs.declared.action.Action.{Action}
 use Rattle.bgp_machine.specs.declared.event.Event.{Event}
 use Rattle.bgp_machine.specs.declared.event.Event.TheVariants.{Connected, Failed}
 use Rattle.bgp_machine.specs.Pulling.{IsPulled, where_found}
 use Rattle.bgp_machine.specs.declared.state.State.{State}
-use Rattle.bgp_machine.specs.Session.{Machine, own_octets, kept, CountsFed}
+use Rattle.bgp_machine.specs.Session.{Machine, own_octets, kept, hearer}
 use Rattle.bgp_machine.specs.Standing.{listens}
+use Rattle.bgp_machine.specs.steps.Ready.{weight}
+use Rattle.bgp_machine.proofs.Cuttings.{is_hearer, pulls_as_fed}
 use Rattle.bgp_machine.specs.Table.{happens}
 use Rattle.bgp_host.specs.declared.link.Link.{Link}
 use Rattle.bgp_host.specs.declared.link.Link.TheVariants.{Same, Up, Down}
 use Rattle.bgp_host.specs.Deeds.{Deed, actions_of, link_behind, Records}
 use Rattle.bgp_host.specs.Turns.{Cause, Told, Heard, Gives, Turn, link_after, Goes, causes_of, Hosted, Runs, RunsFrom}
-use Rattle.bgp_host.specs.steps.Steps.{Acts, one_if_any, weight, PullsOn, PullsNone, PullsOnce, taken_by}
+use Rattle.bgp_host.specs.steps.Steps.{Acts, PullsOn, PullsNone, PullsOnce, taken_by}
 use Rattle.bgp_host.proofs.Records.{grows_none}
 use Rattle.bgp_host.proofs.Turns.{at, one_turn, next_turn}
 
@@ -48,69 +48,11 @@ held_after Down last (t ∷ turns) x y goes none =
 
 -- ---- a pull
 
-one_at_most : (held : List ℕ) → one_if_any held ≤ 1
-one_at_most [] = omega arith
-one_at_most (octet ∷ held) = omega arith
-
-one_there : (held : List ℕ) → 0 < length held → one_if_any held ≡ 1
-one_there [] some = absurd (omega arith)
-one_there (octet ∷ held) some = refl
-
-some_taken : (n : ℕ) (piece : List ℕ) → 0 < length (take n piece) → 0 < n
-some_taken zero piece some = absurd (omega arith)
-some_taken (suc n) piece some = omega arith
-
--- the count of a session that listens
-taken_up : (up : Bool) (held piece : List ℕ) (n : ℕ) → up ≡ true → CountsFed up held piece n → CountsFed true held piece n
-taken_up true held piece n is counts = counts
-taken_up false held piece n is counts = absurd (let not : false ≡ true = is in cc)
-
-none_left : (piece : List ℕ) → (0 < length piece → 0 < 0) → piece ≡ []
-none_left [] none = refl
-none_left (octet ∷ piece) none = absurd (let not : 0 < 0 = none (omega arith) in omega arith)
-
-record Lighter (x : Machine) (piece : List ℕ) (n : ℕ) (m : Machine) : Type 0 where
-  pub within : n ≤ length piece
-  pub lighter : (k : ℕ) → k ≤ one_if_any m.held → length (drop n piece) + length (drop n piece) + k < weight x piece
-
-takes_less : (x m : Machine) (piece : List ℕ) (n : ℕ) → n ≤ length piece → 0 < n → Lighter x piece n m
-takes_less x m piece n within some = record {
-  within = within;
-  lighter = λ k most.
-      let left = length-drop n piece in
-      let one = one_at_most m.held in
-      omega arith;
-}
-
-held_less : (x : Machine) (piece : List ℕ) (n : ℕ) (m : Machine) → n ≡ 0 → Stops x.held → m.held ≡ [] → Lighter x piece n m
-held_less x piece n m nothing stops none =
-    let long = Stops-wanted x.held stops in
-    let one = one_there x.held (omega (arith, long.0)) in
-    let gone : one_if_any m.held ≡ 0 = ap one_if_any none in
-    subst (λ (k : ℕ). Lighter x piece k m) (sym nothing) (record { within = omega arith; lighter = λ k most. omega arith })
-
-pulls_less : (x : Machine) (piece : List ℕ) (n : ℕ) (actions : ArrayVec Action) (m : Machine) → IsPulled x piece n (Some actions) m → Lighter x piece n m
-pulls_less x piece n actions m p =
-    elim (held_or_front x.held piece n Stops p.pulls p.step.whole) [
-      | inl held ↦ held_less x piece n m held.0 held.1 (ap (λ (z : Machine). z.held) p.step.leaves)
-      | inr front ↦
-          let long = Stops-wanted (take n piece) front.1 in
-          takes_less x m piece n p.pulls.takes.within (some_taken n piece (omega (arith, long.0)))
-    ]
-
-feeds_less : (x : Machine) (piece : List ℕ) (n : ℕ) (m : Machine) → 0 < n → IsPulled x piece n None m → Lighter x piece n m
-feeds_less x piece n m some (inl p) = absurd (let none = p.none in omega arith)
-feeds_less x piece n m some (inr p) =
-    let counts = taken_up (listens x.standing.state) x.held piece n p.hears p.fed.0 in
-    takes_less x m piece n counts.0.within some
-
 -- a session that took nothing, and did nothing, has the whole piece or doesn't listen
 rests_all : (x : Machine) (piece : List ℕ) (m : Machine) → IsPulled x piece 0 None m → listens m.standing.state ≡ true → piece ≡ []
-rests_all x piece m (inl p) up =
-    let deaf : listens m.standing.state ≡ false = ap (λ (z : Machine). listens z.standing.state) p.same ∙ p.deaf in
-    absurd (let not : true ≡ false = sym up ∙ deaf in cc)
+rests_all x piece m (inl p) up = absurd (not_both (listens x.standing.state) (ap (λ (z : Machine). listens z.standing.state) (sym p.same) ∙ up) p.deaf)
 rests_all x piece m (inr p) up =
-    let counts = taken_up (listens x.standing.state) x.held piece 0 p.hears p.fed.0 in
+    let counts = taken_up (listens x.standing.state) x.held piece 0 p.up p.fed.0 in
     none_left piece (counts.1 p.to_feed.waits)
 
 -- ---- what follows a pull
@@ -134,10 +76,10 @@ module _ (x : Machine) (r0 : Records) (piece : List ℕ) (actions : ArrayVec Act
       next_turn Same (Heard piece n) (at x r0) (at m r1) new link Same [] tt
       (one_turn (Heard piece n) x m actions.items r0.calls r0 r1 link gives (grows_none r0.calls) acts) follows
 
-  goes_on : (n : ℕ) → Gives x (Heard piece n) actions.items m → Lighter x piece n m → PullsOn (at x r0) piece n new
-  goes_on n gives less = record {
-    within = less.within;
-    lighter = less.lighter (one_if_any new.session.held) (held_after link Same follows.turns m new.session follows.goes follows.are_causes);
+  goes_on : (n : ℕ) → Gives x (Heard piece n) actions.items m → n ≤ length piece → weight m (drop n piece) < weight x piece → PullsOn (at x r0) piece n new
+  goes_on n gives within less = record {
+    within = within;
+    lighter = let no_more = held_after link Same follows.turns m new.session follows.goes follows.are_causes in omega arith;
     runs = called n gives;
   }
 
@@ -154,10 +96,12 @@ module _ (x : Machine) (r0 : Records) (piece : List ℕ) (actions : ArrayVec Act
   pub pulled_once : (n : ℕ) (found : Bool) → IsPulled x piece n (where_found found actions) m → (found ≡ false → actions.items ≡ [])
       → PullsOnce (at x r0) piece new (taken_by n found)
   pulled_once n true pulled quiet =
-      goes_on n (record { found = Some actions; pulled = pulled; does = refl }) (pulls_less x piece n actions m pulled)
+      let within = pulled.pulls.takes.within in
+      goes_on n (record { found = Some actions; pulled = pulled; does = refl }) within (judges_lighter hearer is_hearer x piece n actions.items m within pulled.next)
   pulled_once zero false pulled quiet =
       ends (record { found = None; pulled = pulled; does = quiet refl }) (quiet refl) pulled
   pulled_once (suc n) false pulled quiet =
       let some : nat_lt 0 (suc n) ≡ true = grind arith in
+      let within = counts_within (listens x.standing.state) x.held piece (suc n) (pulls_as_fed x piece (suc n) None m pulled).fed.0 in
       subst (λ (b : Bool). PullsOnce (at x r0) piece new (if b then Some (suc n) else None)) (sym some)
-      (goes_on (suc n) (record { found = None; pulled = pulled; does = quiet refl }) (feeds_less x piece (suc n) m (omega arith) pulled))
+      (goes_on (suc n) (record { found = None; pulled = pulled; does = quiet refl }) within (lighter hearer is_hearer x m piece (suc n) within (omega arith)))

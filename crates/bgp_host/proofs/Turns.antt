@@ -13,7 +13,7 @@ use Rattle.bgp_host.specs.declared.link.Link.{Link}
 use Rattle.bgp_host.specs.declared.link.Link.TheVariants.{Same}
 use Rattle.bgp_host.specs.Records.{Call, Sent, Tick, Notice, Grows}
 use Rattle.bgp_host.specs.Deeds.{sends, sent, all_calls, Records, Answers}
-use Rattle.bgp_host.specs.Turns.{Cause, Told, Heard, Gave, Gives, first_calls, first_link, Turn, link_after, turn_ticks, turn_notices, IsDue, Goes, cause_if_free, causes_of, Hosted, hosted, RunsFrom, Runs, ArePulls, Hears, HearsSome, SendsOne}
+use Rattle.bgp_host.specs.Turns.{Cause, Told, Heard, Gave, Gives, first_calls, first_link, Turn, link_after, turn_ticks, turn_notices, IsDue, Goes, cause_if_free, causes_of, Hosted, hosted, RunsFrom, Runs, ArePulls, HearsAll, HearsSome, SendsOne}
 use Rattle.bgp_host.specs.steps.Steps.{Acts, OneTurn, PullsOn, PullsNone, PullsOnce}
 use Rattle.bgp_host.proofs.Records.{grows_none, grows_both}
 
@@ -22,7 +22,7 @@ use Rattle.bgp_host.proofs.Records.{grows_none, grows_both}
 pulled_settings : (x : Machine) (piece : List ℕ) (n : ℕ) (found : Option (ArrayVec Action)) (y : Machine) → IsPulled x piece n found y → y.settings ≡ x.settings
 pulled_settings x piece n None y (inl p) = ap (λ (m : Machine). m.settings) p.same
 pulled_settings x piece n None y (inr p) = ap (λ (m : Machine). m.settings) p.fed.1
-pulled_settings x piece n (Some actions) y p = ap (λ (m : Machine). m.settings) p.step.leaves
+pulled_settings x piece n (Some actions) y p = ap (λ (m : Machine). m.settings) p.next.leaves
 
 settings_kept : (x : Machine) (cause : Cause) (actions : List Action) (y : Machine) → Gives x cause actions y → y.settings ≡ x.settings
 settings_kept x (Told event) actions y gives = ap (λ (m : Machine). m.settings) gives.1
@@ -168,7 +168,7 @@ heard_next old mid new piece rest causes found n later runs pulls once is back =
 
 -- and one that did nothing
 pub heard_all : (old mid new : Hosted) (piece rest : List ℕ) (causes : List Cause) (found : Option ℕ)
-    → Runs old causes mid → ArePulls piece causes rest → PullsOnce mid rest new found → found ≡ None → Hears old piece new
+    → Runs old causes mid → ArePulls piece causes rest → PullsOnce mid rest new found → found ≡ None → HearsAll old piece new
 heard_all old mid new piece rest causes found runs pulls once is =
     let ends : PullsNone mid rest new = subst (PullsOnce mid rest new) is once in
     record {

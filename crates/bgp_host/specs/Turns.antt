@@ -131,7 +131,7 @@ ArePulls piece (Heard whole count ∷ later) rest = (whole ≡ piece) × ArePull
 ArePulls piece (_ ∷ later) rest = ⊥
 
 -- All of the piece was heard, up to where the session left.
-pub record Hears (old : Hosted) (piece : List ℕ) (new : Hosted) : Type 0 where
+pub record HearsAll (old : Hosted) (piece : List ℕ) (new : Hosted) : Type 0 where
   pub causes : List Cause
   pub runs : Runs old causes new
   pub rest : List ℕ

@@ -4,7 +4,7 @@ ghost use Rattle.std.specs.Prelude.{◌≡◌, [], ◌∷◌, IfOk, IfErr, OnOk,
 ghost use Rattle.bgp_machine.specs.Sending.{IsRefused};
 ghost use Rattle.bgp_machine.specs.Session.{fresh, own_octets};
 ghost use Rattle.bgp_host.specs.declared.link.Link.TheVariants.{Same};
-ghost use Rattle.bgp_host.specs.Turns.{Told, hosted, RunsFrom, Runs, Hears, HearsSome, SendsOne};
+ghost use Rattle.bgp_host.specs.Turns.{Told, hosted, RunsFrom, Runs, HearsAll, HearsSome, SendsOne};
 ghost use Rattle.bgp_host.specs.steps.Steps.{Acts, OneTurn, IsNotUp, PullsOnce, taken_by};
 
 use crate::acting::{carry_out, put};
@@ -162,7 +162,7 @@ impl<C: Connection + Drop, K: Clock + Drop, O: Observer + Drop> Host<C, K, O> {
     /// # Errors
     /// `AllocError` where an allocation failed: the first octets were heard, and the session stands behind them.
     pub fn hear(&mut self, alloc: Global, piece: &[u8]) -> Result<(), AllocError>
-        ensures ok { OnOk result (Hears (hosted self.old.session (C.calls self.old.connection) (K.ticks self.old.clock) (O.notices self.old.observer)) piece.now
+        ensures ok { OnOk result (HearsAll (hosted self.old.session (C.calls self.old.connection) (K.ticks self.old.clock) (O.notices self.old.observer)) piece.now
             (hosted self.new.session (C.calls self.new.connection) (K.ticks self.new.clock) (O.notices self.new.observer))) }
         ensures err { OnErr result (HearsSome (hosted self.old.session (C.calls self.old.connection) (K.ticks self.old.clock) (O.notices self.old.observer)) piece.now
             (hosted self.new.session (C.calls self.new.connection) (K.ticks self.new.clock) (O.notices self.new.observer))) }

@@ -6,8 +6,8 @@ use Rattle.bgp_frame.specs.declared.fault.HeadFault.{HeadFault}
 use Rattle.bgp_frame.specs.Frame.{Message, IsFrame, wanted_by, wanted, Waits}
 use Rattle.bgp_frame.specs.Head.{head_of}
 use Rattle.bgp_frame.proofs.FrameLemmas.{length-IsFrame, IsFrame-wanted, wanted_by_head, wanted-append}
-use Rattle.bgp_machine.specs.Session.{content}
-use Rattle.bgp_machine.proofs.Contents.{enough, content_of-frame, content_of-fault}
+use Rattle.bgp_frame.specs.Content.{content}
+use Rattle.bgp_frame.proofs.Contents.{enough, content_of-frame, content_of-fault}
 use Rattle.bgp_loop.specs.Trace.{whole_of}
 
 whole_so : (b : List ℕ) → length b ≡ wanted b → whole_of b ≡ Some (content b)

@@ -5,7 +5,7 @@ use Rattle.bgp_frame.specs.Frame.{Message, wanted}
 use Rattle.bgp_open.specs.declared.context.Context.{Context}
 use Rattle.bgp_machine.specs.declared.event.Event.{Event}
 use Rattle.bgp_machine.specs.declared.event.Event.TheVariants.{Connected}
-use Rattle.bgp_machine.specs.Session.{content}
+use Rattle.bgp_frame.specs.Content.{content}
 use Rattle.bgp_msg.specs.Outcome.{out_of, of_fault}
 use Rattle.bgp_text.specs.Outcome.{outcome_lines}
 use Rattle.bgp_session.specs.declared.report.Report.{Report}

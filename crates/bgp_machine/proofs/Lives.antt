@@ -30,14 +30,14 @@ use Rattle.bgp_machine.specs.declared.timer.Timer.TheVariants as timer
 use Rattle.bgp_machine.specs.declared.timer.Timers.{Timers}
 use Rattle.bgp_machine.specs.Standing.{Standing, runs, listens}
 use Rattle.bgp_machine.specs.Table.{Step, on_agreement, answered, on_open, on_verdict, on_update, on_message, hears, happens}
-use Rattle.bgp_machine.specs.Session.{Machine, kept, CountsFed, IsFed, holding, content_of, judged, after_judged, Does}
-use Rattle.bgp_machine.specs.Pulling.{IsFedAndStepped}
+use Rattle.bgp_frame.specs.Content.{content_of}
+use Rattle.bgp_frame.specs.Hearing.{CountsFed, done_by}
+use Rattle.bgp_machine.specs.Session.{Machine, kept, holding, hearer}
 use Rattle.bgp_machine.specs.Run.{by_pull}
 use Rattle.bgp_machine.specs.Life.{Call, Told, Fed, Stepped, Pulled, Looked, Life, born, connects, taken_behind, told, stepped, Eats, Goes, Lives, BeginsByOpenAndKeepalive}
-use Rattle.bgp_machine.proofs.Contents.{content_of-message}
-use Rattle.bgp_machine.proofs.Held.{IsHeld-fed}
-use Rattle.bgp_machine.proofs.Pulls.{pulls_as_fed}
-use Rattle.bgp_machine.proofs.Runs.{looks_pull}
+use Rattle.bgp_frame.proofs.Contents.{content_of-message}
+use Rattle.bgp_machine.proofs.Cuttings.{is_hearer, looks_pull, pulls_as_fed}
+use Rattle.bgp_frame.proofs.Hearings.{fed_holds, settled_by}
 
 -- the octets are an OPEN that was accepted and gave the context, and what is held
 record BeginsByOpen (s : Settings) (context : Option Context) (held octets : List ℕ) : Type 0 where
@@ -226,7 +226,7 @@ told_keeps s a e sound =
     }
 
 judged_keeps : (s : Settings) (a : Life) (what : Option (Result Message HeadFault)) → Sound s a → content_of a.session.held ≡ what
-    → Sound s (record { session = after_judged a.session (option_map (hears a.session.settings a.session.standing) what); taken = a.taken })
+    → Sound s (record { session = (done_by hearer a.session (option_map (hears a.session.settings a.session.standing) what)).session; taken = a.taken })
 judged_keeps s a None sound is = sound
 judged_keeps s a (Some what) sound is =
     let x = a.session.standing in
@@ -272,10 +272,6 @@ fed_stands s state.Established ctx held piece taken n counts o = record {
       ∙ ap (λ (t : List ℕ). o.open_octets ++ t) (append_assoc o.keepalive_octets o.rest (take n piece));
 }
 
-fed_holds : (up : Bool) (held piece : List ℕ) (n : ℕ) → AreOctets piece → CountsFed up held piece n → IsHeld held → IsHeld (held ++ take n piece)
-fed_holds true held piece n octets counts is = IsHeld-fed held piece n is octets counts.0
-fed_holds false held piece n octets counts is = subst IsHeld (sym (ap (λ (k : ℕ). held ++ take k piece) counts ∙ append-nil held)) is
-
 eats_keeps : (s : Settings) (a : Life) (piece : List ℕ) (b : Life) → Sound s a → Eats a piece b → Sound s b
 eats_keeps s a piece b sound eats =
     let x = a.session.standing in
@@ -284,25 +280,22 @@ eats_keeps s a piece b sound eats =
     let same : now ≡ b = ap₂ (λ (m : Machine) (t : List ℕ). record { session = m; taken = t }) (sym eats.fed.1) (sym eats.took) in
     subst (λ (l : Life). Sound s l) same (record {
       settings = sound.settings;
-      can_hold = fed_holds (listens x.state) a.session.held piece n eats.octets eats.fed.0 sound.can_hold;
+      can_hold = fed_holds hearer is_hearer a.session piece n eats.octets sound.can_hold eats.fed.0;
       stands = fed_stands s x.state x.context a.session.held piece a.taken n eats.fed.0 sound.stands;
     })
-
--- a step does what is judged, and nothing where nothing is done
-does_as_judged : (x : Machine) (actions : List Action) (y : Machine) → Does x actions y → y ≡ after_judged x (judged x)
-does_as_judged x actions y d = d.leaves ∙ sym (ap (after_judged x) d.judged_so)
 
 -- a pull is a feed, with a step behind it where something is found
 hears_keeps_life : (s : Settings) (a : Life) (piece : List ℕ) (n : ℕ) (found : Option (List Action)) (b : Life) → Sound s a → AreOctets piece
     → by_pull a.session piece n found b.session → b.taken ≡ a.taken ++ take n piece → Sound s b
 hears_keeps_life s a piece n None b sound octets call took =
-    let fs : IsFedAndStepped a.session piece n None b.session = pulls_as_fed a.session piece n None b.session call in
-    eats_keeps s a piece b sound (record { octets = octets; count = n; fed = subst (λ (m : Machine). IsFed a.session piece n m) (sym fs.step) fs.fed; took = took })
+    let fs = pulls_as_fed a.session piece n None b.session call in
+    eats_keeps s a piece b sound (record { octets = octets; count = n; fed = (fs.fed.0, fs.next); took = took })
 hears_keeps_life s a piece n (Some actions) b sound octets call took =
-    let fs : IsFedAndStepped a.session piece n (Some (record { items = actions })) b.session = pulls_as_fed a.session piece n (Some (record { items = actions })) b.session call in
+    let fs = pulls_as_fed a.session piece n (Some actions) b.session call in
     let mid : Life = record { session = holding a.session (a.session.held ++ take n piece); taken = a.taken ++ take n piece } in
     let fed = eats_keeps s a piece mid sound (record { octets = octets; count = n; fed = fs.fed; took = refl }) in
-    let same : stepped mid ≡ b = ap₂ (λ (m : Machine) (t : List ℕ). record { session = m; taken = t }) (sym (does_as_judged mid.session actions b.session fs.step)) (sym took) in
+    let does = ap (λ d. d.session) (settled_by hearer is_hearer mid.session actions b.session fs.next) in
+    let same : stepped mid ≡ b = ap₂ (λ (m : Machine) (t : List ℕ). record { session = m; taken = t }) does (sym took) in
     subst (λ (l : Life). Sound s l) same (judged_keeps s mid (content_of mid.session.held) fed refl)
 
 goes_keeps : (s : Settings) (a : Life) (call : Call) (b : Life) → Sound s a → Goes a call b → Sound s b

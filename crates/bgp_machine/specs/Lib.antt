@@ -4,7 +4,6 @@ pub mod Cutting
 pub mod Heard
 pub mod Life
 pub mod Look
-pub mod Next
 pub mod Pulling
 pub mod Run
 pub mod Sending

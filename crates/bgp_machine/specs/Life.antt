@@ -3,6 +3,7 @@ use Rattle.std.specs.Prelude.{◌≡◌, ℕ, Bool, true, false, List, [], ◌�
 use Rattle.bgp_wire.specs.Octets.{AreOctets}
 use Rattle.bgp_frame.specs.declared.kind.Kind.TheVariants as kind
 use Rattle.bgp_frame.specs.Frame.{IsFrame}
+use Rattle.bgp_frame.specs.Hearing.{Way}
 use Rattle.bgp_open.specs.declared.context.Context.{Context}
 use Rattle.bgp_open.specs.declared.message.Open.{Open}
 use Rattle.bgp_open.specs.Agreement.{agreement}
@@ -13,8 +14,9 @@ use Rattle.bgp_machine.specs.declared.event.Event.{Event}
 use Rattle.bgp_machine.specs.declared.event.Event.TheVariants as event
 use Rattle.bgp_machine.specs.declared.state.State.{State}
 use Rattle.bgp_machine.specs.declared.state.State.TheVariants as state
-use Rattle.bgp_machine.specs.Run.{Way, by_look, by_pull}
-use Rattle.bgp_machine.specs.Session.{Machine, fresh, after_event, IsFed, judged, after_judged}
+use Rattle.bgp_machine.specs.Cutting.{settled}
+use Rattle.bgp_machine.specs.Run.{by_look, by_pull}
+use Rattle.bgp_machine.specs.Session.{Machine, fresh, after_event, IsFed}
 
 -- what a session is called for: an event, octets to be fed, a step, a pull from a piece, or a look at one with what goes on behind it
 pub data Call : Type 0 where
@@ -50,7 +52,7 @@ told a event = record {
 }
 
 abbrev pub stepped : Life → Life
-stepped a = record { session = after_judged a.session (judged a.session); taken = a.taken }
+stepped a = record { session = (settled a.session).session; taken = a.taken }
 
 -- the life behind a piece of octets
 pub record Eats (a : Life) (piece : List ℕ) (b : Life) : Type 0 where
@@ -60,7 +62,7 @@ pub record Eats (a : Life) (piece : List ℕ) (b : Life) : Type 0 where
   pub took : b.taken ≡ a.taken ++ take count piece
 
 -- the life behind a piece that is heard
-pub record Hears (way : Way) (a : Life) (piece : List ℕ) (b : Life) : Type 0 where
+pub record HearsSo (way : Way Machine Action) (a : Life) (piece : List ℕ) (b : Life) : Type 0 where
   pub octets : AreOctets piece
   pub count : ℕ
   pub found : Option (List Action)
@@ -71,8 +73,8 @@ abbrev pub Goes : Life → Call → Life → Type 0
 Goes a (Told event) b = b ≡ told a event
 Goes a (Fed piece) b = Eats a piece b
 Goes a Stepped b = b ≡ stepped a
-Goes a (Pulled piece) b = Hears by_pull a piece b
-Goes a (Looked piece) b = Hears by_look a piece b
+Goes a (Pulled piece) b = HearsSo by_pull a piece b
+Goes a (Looked piece) b = HearsSo by_look a piece b
 
 -- a life goes on by these calls
 abbrev pub Lives : Life → List Call → Life → Type 0

@@ -1,12 +1,11 @@
 -- What a session holds, and what each event and each octet does (RFC 4271, sections 4.1 and 8.2.2).
-use Rattle.std.specs.Prelude.{◌≡◌, ◌<◌, ◌⊎◌, ℕ, Bool, true, false, nat_lt, List, [], ◌++◌, length, take, drop, Option, None, Some, option_map, Result, Ok, if◌then◌else◌}
-use Rattle.std.specs.Result.{result_map_both}
+use Rattle.std.specs.Prelude.{◌≡◌, ◌⊎◌, ℕ, Bool, true, false, List, [], Option, None, Some, option_map, Ok}
 use Rattle.arrayvec.specs.ArrayVec.{ArrayVec}
-use Rattle.bgp_frame.specs.declared.fault.HeadFault.{HeadFault}
 use Rattle.bgp_frame.specs.declared.kind.Kind.TheVariants as kind
-use Rattle.bgp_frame.specs.Frame.{Message, octets_of, wanted, Waits}
-use Rattle.bgp_frame.specs.Head.{head_of}
-use Rattle.bgp_frame.specs.Takes.{Stops, Takes}
+use Rattle.bgp_frame.specs.Content.{content_of}
+use Rattle.bgp_frame.specs.Frame.{Message, octets_of}
+use Rattle.bgp_frame.specs.Hearing as hearing
+use Rattle.bgp_frame.specs.Hearing.{Hearer}
 use Rattle.bgp_open.specs.declared.context.Context.{Context}
 use Rattle.bgp_open.specs.Config.{Settings}
 use Rattle.bgp_open.specs.OpenFault.{open_fault}
@@ -50,50 +49,33 @@ after_event x event = record {
   held = kept (listens (happens x.standing event).next.state) x.held;
 }
 
--- ---- feed
+-- ---- octets
 
--- an octet is taken after another until a message is whole, or a header has a fault; and none before the connection stands
-abbrev pub CountsFed : Bool → List ℕ → List ℕ → ℕ → Type 0
-CountsFed true held piece n = Takes held piece n × (Waits held → 0 < length piece → 0 < n)
-CountsFed false held piece n = n ≡ 0
-
-abbrev pub IsFed : Machine → List ℕ → ℕ → Machine → Type 0
-IsFed old piece n new = CountsFed (listens old.standing.state) old.held piece n × (new ≡ holding old (old.held ++ take n piece))
-
--- ---- step
-
--- the message that octets are, as their header says, or the header's fault
-abbrev pub content : List ℕ → Result Message HeadFault
-content b = result_map_both (λ head. record { kind = head.kind; body = drop 19 b }) (λ fault. fault) (head_of b)
-
--- octets come to nothing while they are fewer than are wanted
-abbrev pub content_of : List ℕ → Option (Result Message HeadFault)
-content_of b = if nat_lt (length b) (wanted b) then None else Some (content b)
-
--- what is done on what is held, where it is whole
-abbrev pub judged : Machine → Option Step
-judged x = option_map (hears x.settings x.standing) (content_of x.held)
-
--- what is held is taken out with that
+-- what is held is taken out with what is done on it
 abbrev pub after_step : Machine → Step → Machine
 after_step x step = record { settings = x.settings; standing = step.next; held = [] }
 
-abbrev pub after_judged : Machine → Option Step → Machine
-after_judged x None = x
-after_judged x (Some step) = after_step x step
+-- a session takes octets while the connection stands, and does what the state table says
+abbrev pub hearer : Hearer Machine Step Action
+hearer = record {
+  held = λ x. x.held;
+  holding = holding;
+  listens = λ x. listens x.standing.state;
+  comes = λ x what. hears x.settings x.standing what;
+  actions = λ step. step.actions;
+  behind = after_step;
+}
 
--- what is held is whole: these actions are done, and the session is what they leave
-pub record Does (old : Machine) (actions : List Action) (new : Machine) : Type 0 where
-  pub whole : Stops old.held
-  pub step : Step
-  pub judged_so : judged old ≡ Some step
-  pub does : actions ≡ step.actions
-  pub leaves : new ≡ after_step old step
+abbrev pub IsFed : Machine → List ℕ → ℕ → Machine → Type 0
+IsFed old piece n new = hearing.IsFed hearer old piece n new
+
+-- what is done on what is held, where it is whole
+abbrev pub judged : Machine → Option Step
+judged x = hearing.judged hearer x
 
 -- nothing is done where what is held waits for more
 abbrev pub IsJudged : Machine → Option (ArrayVec Action) → Machine → Type 0
-IsJudged old None new = Waits old.held × (new ≡ old)
-IsJudged old (Some actions) new = Does old actions.items new
+IsJudged old found new = hearing.IsJudged hearer old (option_map (λ actions. actions.items) found) new
 
 -- what can ask for memory: an OPEN without fault in OpenSent, or an UPDATE that doesn't end the session in Established
 pub record OpenTakesMemory (x : Standing) (m : Message) : Type 0 where
@@ -115,3 +97,8 @@ pub record HeldTakesMemory (old : Machine) : Type 0 where
   pub message : Message
   pub is_held : content_of old.held ≡ Some (Ok message)
   pub takes : TakesMemory old.standing message
+
+-- where a session goes on behind a look: the whole session as it was looked at, and how it stands behind that
+pub record Going : Type 0 where
+  pub from : Machine
+  pub standing : Standing

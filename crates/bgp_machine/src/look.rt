@@ -17,7 +17,7 @@ pub struct Next {
 }
 
 impl Model for Next {
-    ghost use Rattle.bgp_machine.specs.Next.{Going};
+    ghost use Rattle.bgp_machine.specs.Session.{Going};
 
     ghost Value = { Going };
 

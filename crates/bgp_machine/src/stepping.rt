@@ -70,7 +70,7 @@ impl Session {
     ///
     /// # Errors
     /// As `step`. Nothing of the piece is consumed then, the set is empty, and the call can be made again.
-    #[tactic(auto, using(crate::proofs::Pulls::pulls_as_fed))]
+    #[tactic(auto, using(crate::proofs::Cuttings::pulls_as_fed))]
     pub fn pull_into(
         &mut self,
         alloc: Global,

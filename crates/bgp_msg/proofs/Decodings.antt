@@ -1,181 +1,131 @@
 -- A stream's outcomes, one step after another.
-use Rattle.std.proofs.Common.{◌≡◌, ℕ, ◌+◌, ◌<◌, true, false, List, [], ◌∷◌, ◌++◌, length, take, drop, get_or, Option, Some, None, Err, refl, sym, ap, ap₂, subst, ◌∙◌, append_assoc, arith, Bor, eqb, inl, inr, ◌⊎◌}
-use Rattle.std.proofs.lemmas.Bool.{both_ways, cond-false, ne_eqb}
+use Rattle.std.proofs.Common.{◌≡◌, ℕ, ◌+◌, ◌<◌, true, false, List, [], ◌∷◌, ◌++◌, length, take, drop, get_or, Option, Some, None, Result, Ok, Err, refl, sym, ap, subst, ◌∙◌, append_assoc, arith, Bor, eqb}
+use Rattle.std.proofs.lemmas.Bool.{cond-false, ne_eqb}
 use Rattle.std.specs.List.{flat_map}
 use Rattle.std.proofs.lemmas.Grind.{flat_map-append}
 use Rattle.std.proofs.lemmas.List.{append-nil, take_more, take-append-drop, length-append}
 use Rattle.bgp_frame.specs.declared.end.End.{End}
 use Rattle.bgp_frame.specs.declared.end.End.TheVariants as end
 use Rattle.bgp_frame.specs.declared.fault.HeadFault.{HeadFault}
-use Rattle.bgp_frame.specs.Head.{head_of}
-use Rattle.bgp_frame.specs.Frame.{Message, IsFrame, Waits}
-use Rattle.bgp_frame.specs.Stream.{Gives, Judgement}
-use Rattle.bgp_frame.proofs.FrameLemmas.{head_of-append, length-IsFrame}
+use Rattle.bgp_frame.specs.Frame.{Message, octets_of, Waits}
+use Rattle.bgp_frame.specs.Stream.{Gives, StreamRules, outcome_of}
+use Rattle.bgp_frame.proofs.FrameLemmas.{head_of-append, length-octets_of}
 use Rattle.bgp_frame.proofs.Pulls.{nothing_waits}
 use Rattle.bgp_frame.proofs.Streams.{gives_wait, gives_fault, gives_reset, gives_more}
 use Rattle.bgp_open.specs.declared.context.Context.{Context}
 use Rattle.bgp_msg.specs.declared.outcome.Outcome.{Outcome}
-use Rattle.bgp_msg.specs.Outcome.{out_of, of_fault, is_reset, judgement}
-use Rattle.bgp_msg.specs.Decoder.{Decoding, fresh, holding, GivesMessage, GivesFault, IsNext}
-use Rattle.bgp_msg.specs.steps.Decoding.{GoesOn, EndsBy, Continues, Ends, Decodes, end_behind}
+use Rattle.bgp_frame.specs.Hearing.{IsContent}
+use Rattle.bgp_msg.specs.Outcome.{is_reset, stream_rules}
+use Rattle.bgp_msg.specs.Decoder.{Decoding, fresh, holding, given_by, IsNext}
+use Rattle.bgp_msg.proofs.Pulls.{one_out}
+use Rattle.bgp_msg.specs.steps.Decoding.{IsLater, Stands, Decodes, end_behind}
 
 abbrev pub Outs : Type 0
 Outs = List (ℕ × Outcome)
 
-abbrev pair : ℕ → Outcome → ℕ × Outcome
-pair n o = (n, o)
-
-module _ (ctx : Context) where
-  abbrev j : Judgement Outcome
-  j = judgement ctx
-
-  -- nothing was taken yet
-  pub goes_from : (held rest : List ℕ) → GoesOn ctx (held ++ rest) [] held rest
-  goes_from held rest later others e g = subst (λ (s : List ℕ). Gives j s others e) (sym (append_assoc held rest later)) g
-
-  -- one walk behind another
-  pub goes_further : (octets held rest held1 rest1 : List ℕ) (first second : Outs) → GoesOn ctx octets first held rest → GoesOn ctx (held ++ rest) second held1 rest1 → GoesOn ctx octets (first ++ second) held1 rest1
-  goes_further octets held rest held1 rest1 first second go on later others e g =
-      subst (λ (os : Outs). Gives j (octets ++ later) os e) (sym (append_assoc first second others))
-      (go later (second ++ others) e (subst (λ (s : List ℕ). Gives j s (second ++ others) e) (append_assoc held rest later) (on later others e g)))
-
-  pub goes_ending : (octets held rest : List ℕ) (first second : Outs) (e : End) → GoesOn ctx octets first held rest → EndsBy ctx (held ++ rest) second e → EndsBy ctx octets (first ++ second) e
-  goes_ending octets held rest first second e go ends later =
-      go later second e (subst (λ (s : List ℕ). Gives j s second e) (append_assoc held rest later) (ends later))
-
-  module _ (held octets : List ℕ) (n : ℕ) where
-    abbrev fed : List ℕ
-    fed = held ++ take n octets
-
-    fed_whole : (later : List ℕ) → (held ++ octets) ++ later ≡ fed ++ (drop n octets ++ later)
-    fed_whole later =
-        ap (λ (x : List ℕ). (held ++ x) ++ later) (sym (take-append-drop n octets))
-        ∙ append_assoc held (take n octets ++ drop n octets) later
-        ∙ ap (λ (x : List ℕ). held ++ x) (append_assoc (take n octets) (drop n octets) later)
-        ∙ sym (append_assoc held (take n octets) (drop n octets ++ later))
-
-    -- what is held waits
-    pub fed_waits : GoesOn ctx (held ++ octets) [] fed (drop n octets)
-    fed_waits later others e g = subst (λ (s : List ℕ). Gives j s others e) (sym (fed_whole later)) g
-
-    module _ (m : Message) (k : ℕ) (o : Outcome) (frame : IsFrame m fed) (count : k ≡ length fed) (comes : o ≡ out_of ctx m) where
-      same_out : pair k o ≡ pair (length fed) (out_of ctx m)
-      same_out = ap₂ pair count comes
-
-      told_out : pair (length fed) (out_of ctx m) ≡ pair k o
-      told_out = sym same_out
-
-      -- a message came to what lets the stream go on
-      pub fed_message : is_reset o ≡ false → GoesOn ctx (held ++ octets) ((k, o) ∷ []) [] (drop n octets)
-      fed_message on later others e g =
-          subst (λ (s : List ℕ). Gives j s ((k, o) ∷ others) e) (sym (fed_whole later))
-          (subst (λ (x : ℕ × Outcome). Gives j (fed ++ (drop n octets ++ later)) (x ∷ others) e) (ap (λ (a : ℕ). pair a (out_of ctx m)) (sym (ap length frame.octets)) ∙ told_out)
-          (gives_more Outcome j m fed (drop n octets ++ later) others e frame (ap is_reset (sym comes) ∙ on) g))
-
-      -- or to a reset
-      pub fed_reset : is_reset o ≡ true → EndsBy ctx (held ++ octets) ((k, o) ∷ []) end.Reset
-      fed_reset is later =
-          subst (λ (s : List ℕ). Gives j s ((k, o) ∷ []) end.Reset) (sym (fed_whole later))
-          (subst (λ (x : ℕ × Outcome). Gives j (fed ++ (drop n octets ++ later)) (x ∷ []) end.Reset) (ap (λ (a : ℕ). pair a (out_of ctx m)) (sym (ap length frame.octets)) ∙ told_out)
-          (gives_reset Outcome j m fed (drop n octets ++ later) frame (ap is_reset (sym comes) ∙ is)))
-
-    -- a header has a fault
-    pub fed_fault : (f : HeadFault) (o : Outcome) → length fed ≡ 19 → head_of fed ≡ Err f → o ≡ of_fault f → EndsBy ctx (held ++ octets) ((0, o) ∷ []) end.Head
-    fed_fault f o long faulty comes later =
-        let behind : List ℕ = drop n octets ++ later in
-        subst (λ (s : List ℕ). Gives j s ((0, o) ∷ []) end.Head) (sym (fed_whole later))
-        (subst (λ (x : Outcome). Gives j (fed ++ behind) ((0, x) ∷ []) end.Head) (sym comes)
-        (gives_fault Outcome j (fed ++ behind) f (omega (arith, long, length-append fed behind)) (head_of-append fed behind (omega (arith, long)) ∙ faulty)))
-
--- ---- what a step shows
-
-abbrev after_feed : Decoding → List ℕ → ℕ → Decoding
-after_feed old octets n = holding old (old.held ++ take n octets)
+-- ---- what comes of the octets that are held
 
 module _ (old : Decoding) (octets : List ℕ) (n : ℕ) (before : Outs) (going : old.stopped ≡ false) where
-  pub step_none : (new : Decoding) → IsNext (after_feed old octets n) None new → Continues old octets before before (drop n octets) new
-  step_none new (none, is) =
-      subst (λ (d : Decoding). Continues old octets before before (drop n octets) d) (sym is) (record {
-        going = going;
-        same_ctx = refl;
-        waits = elim none [ inl stopped ↦ absurd (both_ways old.stopped going stopped) | inr waits ↦ waits ];
-        fresh = [];
-        told = sym (append-nil before);
-        goes_on = fed_waits old.ctx old.held octets n;
-      })
+  abbrev j : StreamRules Outcome
+  j = stream_rules old.ctx
 
-  gives_reset_by : (k : ℕ) (o : Outcome) → is_reset o ≡ true → GivesMessage (after_feed old octets n) k o ⊎ GivesFault (after_feed old octets n) k o → EndsBy old.ctx (old.held ++ octets) ((k, o) ∷ []) (end_behind k)
-  gives_reset_by k o is (inl m) =
-      let long = length-IsFrame m.message (old.held ++ take n octets) m.is_held in
-      subst (λ (e : End). EndsBy old.ctx (old.held ++ octets) ((k, o) ∷ []) e) (sym (cond-false (eqb k 0) end.Head end.Reset (ne_eqb k 0 (λ (z : k ≡ 0). absurd (omega (arith, m.count))))))
-      (fed_reset old.ctx old.held octets n m.message k o m.is_held m.count m.comes_to is)
-  gives_reset_by k o is (inr f) =
-      subst (λ (i : ℕ). EndsBy old.ctx (old.held ++ octets) ((i, o) ∷ []) (end_behind i)) (sym f.count)
-      (fed_fault old.ctx old.held octets n f.fault o f.header f.faulty f.comes_to)
+  abbrev z : Decoding
+  z = holding old (old.held ++ take n octets)
 
-  pub step_reset : (k : ℕ) (o : Outcome) (outs : Outs) (new : Decoding) → IsNext (after_feed old octets n) (Some (k, o)) new → is_reset o ≡ true → outs ≡ before ++ (k, o) ∷ [] → Ends old octets before outs (end_behind k)
-  step_reset k o outs new next is told = record { fresh = (k, o) ∷ []; told = told; ends = gives_reset_by k o is next.1 }
+  abbrev behind : List ℕ → List ℕ
+  behind more = drop n octets ++ more
 
-  goes_on_by : (k : ℕ) (o : Outcome) → is_reset o ≡ false → GivesMessage (after_feed old octets n) k o ⊎ GivesFault (after_feed old octets n) k o → GoesOn old.ctx (old.held ++ octets) ((k, o) ∷ []) [] (drop n octets)
-  goes_on_by k o is (inl m) = fed_message old.ctx old.held octets n m.message k o m.is_held m.count m.comes_to is
-  goes_on_by k o is (inr f) = absurd (both_ways (is_reset o) is (ap is_reset f.comes_to))
+  -- what comes of the octets that are held and those behind them, comes of all
+  of_whole : (more : List ℕ) (os : Outs) (e : End) → Gives j (z.held ++ behind more) os e → Gives j (old.held ++ (octets ++ more)) os e
+  of_whole more os e g =
+      subst (λ (s : List ℕ). Gives j s os e)
+      (append_assoc old.held (take n octets) (behind more)
+      ∙ ap (λ (s : List ℕ). old.held ++ s) (sym (append_assoc (take n octets) (drop n octets) more))
+      ∙ ap (λ (s : List ℕ). old.held ++ (s ++ more)) (take-append-drop n octets)) g
 
-  pub step_on : (k : ℕ) (o : Outcome) (outs : Outs) (new : Decoding) → IsNext (after_feed old octets n) (Some (k, o)) new → is_reset o ≡ false → outs ≡ before ++ (k, o) ∷ [] → Continues old octets before outs (drop n octets) new
-  step_on k o outs new next is told =
-      subst (λ (d : Decoding). Continues old octets before outs (drop n octets) d) (sym next.2) (record {
-        going = is;
-        same_ctx = refl;
-        waits = nothing_waits;
-        fresh = (k, o) ∷ [];
-        told = told;
-        goes_on = goes_on_by k o is next.1;
-      })
+  pub step_none : (new : Decoding) → IsNext z None new → Decodes old octets before before (drop n octets) None new
+  step_none new next =
+      subst (λ (d : Decoding). Decodes old octets before before (drop n octets) None d) (sym next.1)
+      (record { stands = (going, refl, next.0); fresh = []; told = sym (append-nil before); later = of_whole })
+
+  -- a message, or a header with a fault, ends the stream
+  ends_by : (what : Result Message HeadFault) → IsContent what z.held → is_reset (given_by z what).1 ≡ true
+      → (more : List ℕ) → Gives j (z.held ++ behind more) (given_by z what ∷ []) (end_behind (given_by z what).0)
+  ends_by (Ok m) frame is more =
+      let k = length (octets_of m) in
+      let long = length-octets_of m in
+      subst (λ (e : End). Gives j (z.held ++ behind more) (outcome_of j m ∷ []) e) (sym (cond-false (eqb k 0) end.Head end.Reset (ne_eqb k 0 (λ (none : k ≡ 0). absurd (omega arith)))))
+      (gives_reset Outcome j m z.held (behind more) frame is)
+  ends_by (Err f) faulty is more =
+      gives_fault Outcome j (z.held ++ behind more) f (omega (arith, faulty.0, length-append z.held (behind more))) (head_of-append z.held (behind more) (omega (arith, faulty.0)) ∙ faulty.1)
+
+  -- or the stream goes on
+  goes_by : (what : Result Message HeadFault) → IsContent what z.held → is_reset (given_by z what).1 ≡ false
+      → (more : List ℕ) (others : Outs) (e : End) → Gives j (behind more) others e → Gives j (z.held ++ behind more) (given_by z what ∷ others) e
+  goes_by (Ok m) frame on more others e g = gives_more Outcome j m z.held (behind more) others e frame on g
+  goes_by (Err f) faulty on more others e g = absurd cc
+
+  module _ (k : ℕ) (o : Outcome) (outs : Outs) (new : Decoding) (next : IsNext z (Some (k, o)) new) (told : outs ≡ before ++ (k, o) ∷ []) where
+    same : ◌≡◌ {A = ℕ × Outcome} (k, o) (given_by z next.what)
+    same = one_out z (k, o) new next
+
+    resets : is_reset o ≡ is_reset (given_by z next.what).1
+    resets = ap (λ (out : ℕ × Outcome). is_reset out.1) same
+
+    pub step_reset : is_reset o ≡ true → Decodes old octets before outs (drop n octets) (Some (end_behind k)) new
+    step_reset is = record {
+      stands = tt;
+      fresh = (k, o) ∷ [];
+      told = told;
+      later = λ more others e l.
+          of_whole more ((k, o) ∷ others) e (rw (l.0, l.1)
+          (subst (λ (out : ℕ × Outcome). Gives j (z.held ++ behind more) (out ∷ []) (end_behind out.0)) (sym same) (ends_by next.what next.is_held (sym resets ∙ is) more)));
+    }
+
+    pub step_on : is_reset o ≡ false → Decodes old octets before outs (drop n octets) None new
+    step_on is =
+        let on = sym resets ∙ is in
+        subst (λ (d : Decoding). Decodes old octets before outs (drop n octets) None d) (sym next.leaves) (record {
+          stands = (on, refl, nothing_waits);
+          fresh = (k, o) ∷ [];
+          told = told;
+          later = λ more others e g.
+              of_whole more ((k, o) ∷ others) e
+              (subst (λ (out : ℕ × Outcome). Gives j (z.held ++ behind more) (out ∷ others) e) (sym same) (goes_by next.what next.is_held on more others e g));
+        })
 
 -- ---- steps one after another
 
-pub continues_from : (old : Decoding) (octets : List ℕ) (before : Outs) → old.stopped ≡ false → Waits old.held → Continues old octets before before octets old
-continues_from old octets before going waits = record {
-  going = going;
-  same_ctx = refl;
-  waits = waits;
-  fresh = [];
-  told = sym (append-nil before);
-  goes_on = goes_from old.ctx old.held octets;
-}
+pub decodes_from : (old : Decoding) (octets : List ℕ) (before : Outs) → old.stopped ≡ false → Waits old.held → Decodes old octets before before octets None old
+decodes_from old octets before going waits = record { stands = (going, refl, waits); fresh = []; told = sym (append-nil before); later = λ more others e g. g }
 
-told_further : (before mid outs first second : Outs) → mid ≡ before ++ first → outs ≡ mid ++ second → outs ≡ before ++ (first ++ second)
-told_further before mid outs first second e f = f ∙ ap (λ (x : Outs). x ++ second) e ∙ append_assoc before first second
+pub further : (old mid new : Decoding) (octets rest rest1 : List ℕ) (before told outs : Outs) (ended : Option End) → Decodes old octets before told rest None mid
+    → Decodes mid rest told outs rest1 ended new → Decodes old octets before outs rest1 ended new
+further old mid new octets rest rest1 before told outs ended first second =
+    let ctx = first.stands.1 in
+    let later = subst (λ (c : Context). (more : List ℕ) (others : Outs) (e : End) → IsLater c ended (new.held ++ (rest1 ++ more)) others e
+    → Gives (stream_rules c) (mid.held ++ (rest ++ more)) (second.fresh ++ others) e) ctx second.later in
+    record {
+      stands = subst (λ (c : Context). Stands c ended new) ctx second.stands;
+      fresh = first.fresh ++ second.fresh;
+      told = second.told ∙ ap (λ (os : Outs). os ++ second.fresh) first.told ∙ append_assoc before first.fresh second.fresh;
+      later = λ more others e l.
+          subst (λ (os : Outs). Gives (stream_rules old.ctx) (old.held ++ (octets ++ more)) os e) (sym (append_assoc first.fresh second.fresh others))
+          (first.later more (second.fresh ++ others) e (later more others e l));
+    }
 
-pub further : (old mid new : Decoding) (octets rest rest1 : List ℕ) (before told outs : Outs) (ended : Option End) → Continues old octets before told rest mid → Decodes mid rest told outs rest1 ended new
-    → Decodes old octets before outs rest1 ended new
-further old mid new octets rest rest1 before told outs None first second = record {
-  going = second.going;
-  same_ctx = second.same_ctx ∙ first.same_ctx;
-  waits = second.waits;
-  fresh = first.fresh ++ second.fresh;
-  told = told_further before told outs first.fresh second.fresh first.told second.told;
-  goes_on = goes_further old.ctx (old.held ++ octets) mid.held rest new.held rest1 first.fresh second.fresh first.goes_on
-      (subst (λ (ctx : Context). GoesOn ctx (mid.held ++ rest) second.fresh new.held rest1) first.same_ctx second.goes_on);
-}
-further old mid new octets rest rest1 before told outs (Some e) first second = record {
-  fresh = first.fresh ++ second.fresh;
-  told = told_further before told outs first.fresh second.fresh first.told second.told;
-  ends = goes_ending old.ctx (old.held ++ octets) mid.held rest first.fresh second.fresh e first.goes_on
-      (subst (λ (ctx : Context). EndsBy ctx (mid.held ++ rest) second.fresh e) first.same_ctx second.ends);
-}
+-- where the stream has ended, the rest is gone
+pub over : (old new : Decoding) (octets rest : List ℕ) (before outs : Outs) (e : End) → Decodes old octets before outs rest (Some e) new → Decodes old octets before outs [] (Some e) new
+over old new octets rest before outs e d = record { stands = tt; fresh = d.fresh; told = d.told; later = d.later }
 
 -- all octets of a piece were taken: more of them come
-pub with_more : (old mid : Decoding) (octets piece : List ℕ) (before told : Outs) → Continues old octets before told [] mid → Continues old (octets ++ piece) before told piece mid
+with_more : (old mid : Decoding) (octets piece : List ℕ) (before told : Outs) → Decodes old octets before told [] None mid → Decodes old (octets ++ piece) before told piece None mid
 with_more old mid octets piece before told first = record {
-  going = first.going;
-  same_ctx = first.same_ctx;
-  waits = first.waits;
+  stands = first.stands;
   fresh = first.fresh;
   told = first.told;
-  goes_on = λ later others e g.
-      subst (λ (s : List ℕ). Gives (judgement old.ctx) s (first.fresh ++ others) e)
-      (append_assoc old.held octets (piece ++ later) ∙ ap (λ (x : List ℕ). old.held ++ x) (sym (append_assoc octets piece later)) ∙ sym (append_assoc old.held (octets ++ piece) later))
-      (first.goes_on (piece ++ later) others e g);
+  later = λ more others e g.
+      subst (λ (s : List ℕ). Gives (stream_rules old.ctx) (old.held ++ s) (first.fresh ++ others) e) (sym (append_assoc octets piece more)) (first.later (piece ++ more) others e g);
 }
 
 -- ---- all pieces
@@ -183,41 +133,38 @@ with_more old mid octets piece before told first = record {
 abbrev pub octets_in : Bor (List ℕ) → List ℕ
 octets_in piece = piece.now
 
-module _ {X : Type 0} (octets_of : X → List ℕ) (pieces : List X) (i : ℕ) (d : X) (lt : i < length pieces) where
-  pub one_piece : flat_map octets_of (take (i + 1) pieces) ≡ flat_map octets_of (take i pieces) ++ octets_of (get_or pieces i d)
-  one_piece =
+module _ {X : Type 0} (octets_of : X → List ℕ) (pieces : List X) (i : ℕ) where
+  one_piece : (d : X) → i < length pieces → flat_map octets_of (take (i + 1) pieces) ≡ flat_map octets_of (take i pieces) ++ octets_of (get_or pieces i d)
+  one_piece d lt =
       ap (flat_map octets_of) (take_more pieces i d lt) ∙ flat_map-append octets_of (take i pieces) (get_or pieces i d ∷ [])
       ∙ ap (λ (b : List ℕ). flat_map octets_of (take i pieces) ++ b) (append-nil (octets_of (get_or pieces i d)))
 
-  pub pieces_left : flat_map octets_of pieces ≡ flat_map octets_of (take (i + 1) pieces) ++ flat_map octets_of (drop (i + 1) pieces)
-  pieces_left = ap (flat_map octets_of) (sym (take-append-drop (i + 1) pieces)) ∙ flat_map-append octets_of (take (i + 1) pieces) (drop (i + 1) pieces)
-
-pub waits_at_end : (ctx : Context) (stream : List ℕ) (outs : Outs) (d : Decoding) → Continues (fresh ctx) stream [] outs [] d → Gives (judgement ctx) stream outs (end.Wait (length d.held))
-waits_at_end ctx stream outs d c =
-    let some : Gives (judgement ctx) (d.held ++ []) [] (end.Wait (length d.held)) = subst (λ (s : List ℕ). Gives (judgement ctx) s [] (end.Wait (length d.held))) (sym (append-nil d.held)) (gives_wait Outcome (judgement ctx) d.held c.waits) in
-    subst (λ (os : Outs). Gives (judgement ctx) stream os (end.Wait (length d.held))) (append-nil c.fresh ∙ sym c.told)
-    (subst (λ (s : List ℕ). Gives (judgement ctx) s (c.fresh ++ []) (end.Wait (length d.held))) (append-nil stream) (c.goes_on [] [] (end.Wait (length d.held)) some))
-
-pub ends_early : (ctx : Context) (stream front later : List ℕ) (outs : Outs) (e : End) → stream ≡ front ++ later → Ends (fresh ctx) front [] outs e → Gives (judgement ctx) stream outs e
-ends_early ctx stream front later outs e is ends =
-    subst (λ (s : List ℕ). Gives (judgement ctx) s outs e) (sym is) (subst (λ (os : Outs). Gives (judgement ctx) (front ++ later) os e) (sym ends.told) (ends.ends later))
+  pieces_left : flat_map octets_of pieces ≡ flat_map octets_of (take i pieces) ++ flat_map octets_of (drop i pieces)
+  pieces_left = ap (flat_map octets_of) (sym (take-append-drop i pieces)) ∙ flat_map-append octets_of (take i pieces) (drop i pieces)
 
 -- one piece more
-module _ (ctx : Context) (pieces : List (Bor (List ℕ))) (i : ℕ) (mid new : Decoding) (told outs : Outs) (lt : i < length pieces)
-    (first : Continues (fresh ctx) (flat_map octets_in (take i pieces)) [] told [] mid) where
-  pub piece_goes : (d : Bor (List ℕ)) (r : Option End) → r ≡ None → Decodes mid (octets_in (get_or pieces i d)) told outs [] r new → Continues (fresh ctx) (flat_map octets_in (take (i + 1) pieces)) [] outs [] new
-  piece_goes d r is more =
-      let piece : List ℕ = octets_in (get_or pieces i d) in
-      let none : Decodes mid piece told outs [] None new = subst (λ (e : Option End). Decodes mid piece told outs [] e new) is more in
-      subst (λ (s : List ℕ). Continues (fresh ctx) s [] outs [] new) (sym (one_piece octets_in pieces i d lt))
-      (further (fresh ctx) mid new (flat_map octets_in (take i pieces) ++ piece) piece [] [] told outs None (with_more (fresh ctx) mid (flat_map octets_in (take i pieces)) piece [] told first) none)
+pub one_more : (ctx : Context) (pieces : List (Bor (List ℕ))) (i : ℕ) (mid new : Decoding) (told outs : Outs) → i < length pieces → Decodes (fresh ctx) (flat_map octets_in (take i pieces)) [] told [] None mid
+    → (d : Bor (List ℕ)) (r ended : Option End) → r ≡ ended → Decodes mid (octets_in (get_or pieces i d)) told outs [] r new → Decodes (fresh ctx) (flat_map octets_in (take (i + 1) pieces)) [] outs [] ended new
+one_more ctx pieces i mid new told outs lt first d r ended is more =
+    let piece : List ℕ = octets_in (get_or pieces i d) in
+    let front : List ℕ = flat_map octets_in (take i pieces) in
+    subst (λ (x : Option End). Decodes (fresh ctx) (flat_map octets_in (take (i + 1) pieces)) [] outs [] x new) is
+    (subst (λ (s : List ℕ). Decodes (fresh ctx) s [] outs [] r new) (sym (one_piece octets_in pieces i d lt))
+    (further (fresh ctx) mid new (front ++ piece) piece [] [] told outs r (with_more (fresh ctx) mid front piece [] told first) more))
 
-  pub piece_ends : (d : Bor (List ℕ)) (r : Option End) (e : End) → r ≡ Some e → Decodes mid (octets_in (get_or pieces i d)) told outs [] r new → Gives (judgement ctx) (flat_map octets_in pieces) outs e
-  piece_ends d r e is more =
-      let piece : List ℕ = octets_in (get_or pieces i d) in
-      let some : Decodes mid piece told outs [] (Some e) new = subst (λ (x : Option End). Decodes mid piece told outs [] x new) is more in
-      let ended : Ends (fresh ctx) (flat_map octets_in (take i pieces) ++ piece) [] outs e =
-      further (fresh ctx) mid new (flat_map octets_in (take i pieces) ++ piece) piece [] [] told outs (Some e) (with_more (fresh ctx) mid (flat_map octets_in (take i pieces)) piece [] told first) some in
-      ends_early ctx (flat_map octets_in pieces) (flat_map octets_in (take (i + 1) pieces)) (flat_map octets_in (drop (i + 1) pieces)) outs e
-      (pieces_left octets_in pieces i d lt)
-      (subst (λ (s : List ℕ). Ends (fresh ctx) s [] outs e) (sym (one_piece octets_in pieces i d lt)) ended)
+-- all is told, whatever comes behind
+gives_all : (ctx : Context) (front more : List ℕ) (outs : Outs) (ended : Option End) (d : Decoding) (e : End) → Decodes (fresh ctx) front [] outs [] ended d → IsLater ctx ended (d.held ++ more) [] e
+    → Gives (stream_rules ctx) (front ++ more) outs e
+gives_all ctx front more outs ended d e c l = subst (λ (os : Outs). Gives (stream_rules ctx) (front ++ more) os e) (append-nil c.fresh ∙ sym c.told) (c.later more [] e l)
+
+pub ends_early : (ctx : Context) (pieces : List (Bor (List ℕ))) (i : ℕ) (outs : Outs) (d : Decoding) (e : End) → Decodes (fresh ctx) (flat_map octets_in (take i pieces)) [] outs [] (Some e) d
+    → Gives (stream_rules ctx) (flat_map octets_in pieces) outs e
+ends_early ctx pieces i outs d e c =
+    subst (λ (s : List ℕ). Gives (stream_rules ctx) s outs e) (sym (pieces_left octets_in pieces i))
+    (gives_all ctx (flat_map octets_in (take i pieces)) (flat_map octets_in (drop i pieces)) outs (Some e) d e c (refl, refl))
+
+pub waits_at_end : (ctx : Context) (stream : List ℕ) (outs : Outs) (d : Decoding) → Decodes (fresh ctx) stream [] outs [] None d → Gives (stream_rules ctx) stream outs (end.Wait (length d.held))
+waits_at_end ctx stream outs d c =
+    let e = end.Wait (length d.held) in
+    subst (λ (s : List ℕ). Gives (stream_rules ctx) s outs e) (append-nil stream)
+    (gives_all ctx stream [] outs None d e c (subst (λ (s : List ℕ). Gives (stream_rules ctx) s [] e) (sym (append-nil d.held)) (gives_wait Outcome (stream_rules ctx) d.held c.stands.2)))

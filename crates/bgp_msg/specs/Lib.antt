@@ -4,7 +4,6 @@ pub mod OutcomeView
 pub mod Written
 pub mod Seen
 pub mod Decoder
-pub mod Next
 pub mod Look
 pub mod Laws
 pub mod steps

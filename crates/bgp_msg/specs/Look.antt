@@ -5,8 +5,7 @@ use Rattle.bgp_msg.specs.declared.look.Look.TheVariants as look
 use Rattle.bgp_msg.specs.declared.outcome.Outcome.{Outcome}
 use Rattle.bgp_msg.specs.Outcome.{of_fault}
 use Rattle.bgp_msg.specs.OutcomeView.{outcome_value}
-use Rattle.bgp_msg.specs.Decoder.{Decoding, behind, IsFed, IsPulled}
-use Rattle.bgp_msg.specs.Next.{Going, IsBehind}
+use Rattle.bgp_msg.specs.Decoder.{Decoding, Going, behind, IsBehind, IsFed, IsPulled}
 
 -- a decoder behind what it held or what stood at the front of a piece: it is stopped where that is a reset
 abbrev pub gone : Decoding → Bool → Decoding

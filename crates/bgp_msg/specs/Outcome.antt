@@ -7,7 +7,7 @@ use Rattle.bgp_frame.specs.declared.kind.Kind.TheVariants as kind
 use Rattle.bgp_frame.specs.declared.notification.Notification.{Notification}
 use Rattle.bgp_frame.specs.Frame as frame
 use Rattle.bgp_frame.specs.Head.{head_notification}
-use Rattle.bgp_frame.specs.Stream.{Judgement}
+use Rattle.bgp_frame.specs.Stream.{StreamRules}
 use Rattle.bgp_open.specs.declared.context.Context.{Context}
 use Rattle.bgp_open.specs.declared.fault.OpenFault.{OpenFault}
 use Rattle.bgp_open.specs.declared.message.Open.{Open}
@@ -58,5 +58,5 @@ is_reset (outcome.Reset n) = true
 is_reset _ = false
 
 -- how messages and headers are judged in a context
-abbrev pub judgement : Context → Judgement Outcome
-judgement ctx = record { of_message = out_of ctx; of_fault = of_fault; resets = is_reset }
+abbrev pub stream_rules : Context → StreamRules Outcome
+stream_rules ctx = record { of_message = out_of ctx; of_fault = of_fault; resets = is_reset }

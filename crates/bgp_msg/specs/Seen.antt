@@ -3,9 +3,9 @@ use Rattle.std.specs.Prelude.{ℕ, List}
 use Rattle.bgp_frame.specs.Stream.{Gives}
 use Rattle.bgp_open.specs.declared.context.Context.{Context}
 use Rattle.bgp_msg.specs.declared.seen.Seen.{Seen}
-use Rattle.bgp_msg.specs.Outcome.{judgement}
+use Rattle.bgp_msg.specs.Outcome.{stream_rules}
 
 -- The stream is whole messages in order and a rest: each comes to its outcome and takes as many octets as its header says, up to the
 -- first reset; a header's fault is the last outcome, of no octets; else the rest waits
 abbrev pub IsSeen : Context → List ℕ → Seen → Type 0
-IsSeen ctx stream seen = Gives (judgement ctx) stream seen.outs seen.end
+IsSeen ctx stream seen = Gives (stream_rules ctx) stream seen.outs seen.end

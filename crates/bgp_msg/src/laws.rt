@@ -9,13 +9,13 @@ ghost use Rattle.bgp_open.specs.declared.context.Context.{Context};
 ghost use Rattle.bgp_update.specs.declared.note.Note.{Note};
 ghost use Rattle.bgp_msg.specs.declared.message.Message.{Message};
 ghost use Rattle.bgp_msg.specs.declared.outcome.Outcome.TheVariants.{Took};
-ghost use Rattle.bgp_msg.specs.Outcome.{out_of, judgement};
+ghost use Rattle.bgp_msg.specs.Outcome.{out_of, stream_rules};
 ghost use Rattle.bgp_msg.specs.Written.{canonical, invalid_of};
 ghost use Rattle.bgp_msg.specs.Laws.{CanBeWritten, HasMessageRanges, IsTakenAsItself};
 
 /// Each stream of octets has exactly one list of outcomes and one end, in each context.
 pub fn streams_have_one_reading()
-    ensures { (ctx : Context) (stream : List ℕ) → AreOctets stream → HasOneReading (judgement ctx) stream }
+    ensures { (ctx : Context) (stream : List ℕ) → AreOctets stream → HasOneReading (stream_rules ctx) stream }
 {}
 
 /// A message that is accepted can be written where it was read, in no more octets than it had.

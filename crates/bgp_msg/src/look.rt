@@ -17,7 +17,7 @@ pub struct Next {
 }
 
 impl Model for Next {
-    ghost use Rattle.bgp_msg.specs.Next.{Going};
+    ghost use Rattle.bgp_msg.specs.Decoder.{Going};
 
     ghost Value = { Going };
 

@@ -65,3 +65,12 @@ pub const UNEXPECTED_IN_OPEN_CONFIRM: u8 = 2;
 
 /// Finite State Machine Error: Unexpected Message in Established State (RFC 6608, section 3).
 pub const UNEXPECTED_IN_ESTABLISHED: u8 = 3;
+
+/// Cease: Administrative Shutdown (RFC 4486, section 3).
+pub const ADMINISTRATIVE_SHUTDOWN: u8 = 2;
+
+/// Cease: Administrative Reset (RFC 4486, section 3).
+pub const ADMINISTRATIVE_RESET: u8 = 4;
+
+/// Cease: Connection Rejected (RFC 4486, section 3).
+pub const CONNECTION_REJECTED: u8 = 5;

@@ -110,4 +110,12 @@ fn errors_are_those_of_the_registries(rt: HostRuntime) {
             error::UNEXPECTED_IN_ESTABLISHED
         ] == [1, 2, 3]
     );
+    // BGP Cease NOTIFICATION message subcodes (RFC 4486).
+    assert!(rt;
+        [
+            error::ADMINISTRATIVE_SHUTDOWN,
+            error::ADMINISTRATIVE_RESET,
+            error::CONNECTION_REJECTED
+        ] == [2, 4, 5]
+    );
 }

@@ -32,7 +32,7 @@ finds_as4 true false true n = refl
 finds_as4 true true false n = refl
 finds_as4 true true true n = refl
 
-finds_ip4 : (p q r : Bool) (n : ℕ) → list_any (is_unicast IPV4) (offered p (Multi IPV4 UNICAST) ++ (offered q (Multi IPV6 UNICAST) ++ offered r (As4 n))) ≡ p
+pub finds_ip4 : (p q r : Bool) (n : ℕ) → list_any (is_unicast IPV4) (offered p (Multi IPV4 UNICAST) ++ (offered q (Multi IPV6 UNICAST) ++ offered r (As4 n))) ≡ p
 finds_ip4 false false false n = refl
 finds_ip4 false false true n = refl
 finds_ip4 false true false n = refl
@@ -42,7 +42,7 @@ finds_ip4 true false true n = refl
 finds_ip4 true true false n = refl
 finds_ip4 true true true n = refl
 
-finds_ip6 : (p q r : Bool) (n : ℕ) → list_any (is_unicast IPV6) (offered p (Multi IPV4 UNICAST) ++ (offered q (Multi IPV6 UNICAST) ++ offered r (As4 n))) ≡ q
+pub finds_ip6 : (p q r : Bool) (n : ℕ) → list_any (is_unicast IPV6) (offered p (Multi IPV4 UNICAST) ++ (offered q (Multi IPV6 UNICAST) ++ offered r (As4 n))) ≡ q
 finds_ip6 false false false n = refl
 finds_ip6 false false true n = refl
 finds_ip6 false true false n = refl
@@ -55,6 +55,9 @@ finds_ip6 true true true n = refl
 is_some_of : (r : Bool) (n : ℕ) → is_some (cond r (Some n) None) ≡ r
 is_some_of true n = refl
 is_some_of false n = refl
+
+pub has_as4 : (p q r : Bool) (n : ℕ) → is_some (first_as4 (offered p (Multi IPV4 UNICAST) ++ (offered q (Multi IPV6 UNICAST) ++ offered r (As4 n)))) ≡ r
+has_as4 p q r n = ap is_some (finds_as4 p q r n) ∙ is_some_of r n
 
 number_of : (as4 : Bool) (wide : Bool) (n : ℕ) → (wide && not as4) ≡ false → unwrap_or (cond as4 (Some n) None) (cond wide AS_TRANS n) ≡ n
 number_of true wide n h = refl
@@ -72,9 +75,10 @@ shared s t = record { internal = eqb s.local_as s.peer_as; as4 = s.as4 && t.as4;
 
 context-own : (s t : Settings) → context_of s (own_of t) ≡ shared s t
 context-own s t =
-    rw (finds_as4 t.ip4 t.ip6 t.as4 t.local_as, finds_ip4 t.ip4 t.ip6 t.as4 t.local_as, finds_ip6 t.ip4 t.ip6 t.as4 t.local_as, is_some_of t.as4 t.local_as) refl
+    rw (has_as4 t.ip4 t.ip6 t.as4 t.local_as, finds_ip4 t.ip4 t.ip6 t.as4 t.local_as, finds_ip6 t.ip4 t.ip6 t.as4 t.local_as) refl
 
-accepted : (other same : Bool) (x y : Context) → cond (not other) (Err peer.PeerAs) (cond same (Err peer.Identifier) (Ok x)) ≡ Ok y → (other ≡ true) × (x ≡ y)
+-- the tests of a peer's AS number and identifier are passed
+pub accepted : (other same : Bool) (x y : Context) → cond (not other) (Err peer.PeerAs) (cond same (Err peer.Identifier) (Ok x)) ≡ Ok y → (other ≡ true) × (x ≡ y)
 accepted false same x y e = absurd cc
 accepted true true x y e = absurd cc
 accepted true false x y e = (refl, cc)

@@ -72,7 +72,7 @@ HasValueOrFault body (Some fault) = (fault ≢ Memory) × ((o : Open) → IsOpen
 abbrev pub open_error : ℕ → List ℕ → Notification
 open_error subcode info = record { code = OPEN_MESSAGE; subcode = subcode; info = record { items = info } }
 
--- the notification of a fault: the version that is spoken here is the information of an unsupported one, and a refused growth has none
+-- the notification of a fault: the version that is spoken here is the information of an unsupported one, and an allocation that failed has none
 abbrev pub open_notification : OpenFault → Option Notification
 open_notification Version = Some (open_error UNSUPPORTED_VERSION (0 ∷ VERSION ∷ []))
 open_notification Parameter = Some (open_error UNSPECIFIC [])

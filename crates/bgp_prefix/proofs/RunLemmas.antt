@@ -59,6 +59,6 @@ write_more width ps i p start so_far out lt is valid written more =
     subst (λ (qs : List PrefixValue). (out ≡ start ++ flat_map spelling_of qs) × Row (IsPrefix width) qs (flat_map spelling_of qs)) (sym front)
     (octets_more (take i ps) p start so_far out written.0 more, written_more width (take i ps) p valid written.1)
 
--- what a refused growth leaves begins with what was there
+-- what a failed allocation leaves begins with what was there
 pub begins : (start done so_far more out : List ℕ) → so_far ≡ start ++ done → out ≡ so_far ++ more → (later : List ℕ) × (out ≡ start ++ later)
 begins start done so_far more out e f = (done ++ more, f ∙ ap (λ (b : List ℕ). b ++ more) e ∙ append_assoc start done more)

@@ -98,7 +98,7 @@ fn put_kept(alloc: Global, page: &mut Page, view: &AttrView<'_>) -> Result<(), T
     put_alone(alloc, page, attr)
 }
 
-/// Adds what an attribute comes to.
+/// Adds what becomes of an attribute.
 fn put_judged(alloc: Global, page: &mut Page, judged: &JudgedView<'_>) -> Result<(), Trouble> {
     match judged {
         JudgedView::Keep(attr) => return put_kept(alloc, page, attr),
@@ -118,7 +118,7 @@ fn put_judged(alloc: Global, page: &mut Page, judged: &JudgedView<'_>) -> Result
     page.put("\n")
 }
 
-/// Adds whether an attribute comes to something else as a view, and whether that isn't its copy.
+/// Adds whether an attribute is judged otherwise as a view, and whether that isn't its copy.
 fn put_otherwise(
     alloc: Global,
     page: &mut Page,
@@ -142,7 +142,7 @@ fn put_place(alloc: Global, page: &mut Page, tlv: &Tlv<'_>) -> Result<(), Troubl
     page.put(" ")
 }
 
-/// Adds what an attribute comes to, behind its place and type; the view and the owned value have to agree.
+/// Adds what becomes of an attribute, behind its offset and type; the view and the owned value have to agree.
 fn put_attribute(
     alloc: Global,
     page: &mut Page,
@@ -160,7 +160,7 @@ fn put_attribute(
     put_judged(alloc, page, &view)
 }
 
-/// What the attributes of a field come to, and what is left where no attribute begins.
+/// What becomes of the attributes of a field, and what is left where no attribute begins.
 pub fn put_attributes(
     alloc: Global,
     ctx: &Context,

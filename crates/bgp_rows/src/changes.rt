@@ -10,7 +10,7 @@ use std::alloc::Global;
 /// The lines of a Marker with another octet.
 const BAD_MARKER: &str = "0 0 HEADER reset 1/1 -\nend head\n";
 
-/// Whether all ways of reading came to the same, and a Marker's fault to its answer.
+/// Whether all ways of reading had the same outcome, and a Marker's fault its answer.
 fn is_as_wanted(page: &Page, place: usize) -> bool {
     let text = page.text.as_str();
     let agrees = !text.contains("octet by octet:")
@@ -19,7 +19,7 @@ fn is_as_wanted(page: &Page, place: usize) -> bool {
     agrees && (place >= 16 || text == BAD_MARKER)
 }
 
-/// Changes one octet to each other value: how many came to what is wanted.
+/// Changes one octet to each other value: how many had the outcome that is wanted.
 fn count_at(
     alloc: Global,
     ctx: &Context,
@@ -61,7 +61,7 @@ fn count_fronts(alloc: Global, ctx: &Context, message: &[u8]) -> Result<u64, Tro
     Ok(good)
 }
 
-/// How many fronts of a message wait, and how many changes of one octet come to the same however they are read.
+/// How many beginnings of a message are incomplete, and how many changes of one octet have the same outcome however they are read.
 pub fn put_changes(alloc: Global, ctx: &Context, message: &[u8]) -> Result<Page, Trouble> {
     let mut octets = Octets::new();
     if octets.try_extend_from_slice(message).is_err() {

@@ -42,12 +42,12 @@ fn end_of(decoder: &Decoder, last: Option<u16>) -> End {
     }
 }
 
-/// What a call that lacks memory has to leave as it was.
+/// What a call whose allocation failed has to leave as it was.
 fn standing(decoder: &Decoder) -> (usize, bool) {
     (decoder.held(), decoder.stopped())
 }
 
-/// What is held comes to, and again where allocation failed.
+/// The outcome of what is held, and again where an allocation failed.
 fn next_again(
     alloc: Global,
     decoder: &mut Decoder,
@@ -62,7 +62,7 @@ fn next_again(
     Ok(decoder.next(alloc)?)
 }
 
-/// Adds what is held comes to, where it is whole: how many octets it has.
+/// Adds the outcome of what is held, where it is whole: how many octets it has.
 fn put_next(
     alloc: Global,
     ctx: &Context,
@@ -249,7 +249,7 @@ const WAYS: [(&str, Call, usize); 4] = [
 /// The ways to show a stream: each with what it is called, and how many octets its reader gives at a time.
 const SHOWN: [(&str, usize); 2] = [("by show:\n", 4096), ("by show, octet by octet:\n", 1)];
 
-/// What a stream comes to, all ways that the library reads it: where one differs, its lines are added under its name.
+/// The outcomes of a stream, all ways that the library reads it: where one differs, its lines are added under its name.
 pub fn put_ways(alloc: Global, ctx: &Context, stream: &[u8]) -> Result<Page, Trouble> {
     let mut page = whole(alloc, ctx, stream)?;
     compare(
@@ -263,7 +263,7 @@ pub fn put_ways(alloc: Global, ctx: &Context, stream: &[u8]) -> Result<Page, Tro
     Ok(page)
 }
 
-/// What a stream comes to, and what `show` writes of it.
+/// The outcomes of a stream, and what `show` writes of it.
 pub fn put_messages(alloc: Global, ctx: &Context, stream: &[u8]) -> Result<Page, Trouble> {
     let mut page = put_ways(alloc, ctx, stream)?;
     for (way, step) in SHOWN {

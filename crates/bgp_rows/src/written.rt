@@ -87,7 +87,7 @@ pub fn message_of(alloc: Global, ctx: &Context, stream: &[u8]) -> Result<Message
     }
 }
 
-/// What a message comes to where it is written in these contexts: the first that isn't wanted, else what is.
+/// What is made of a message where it is written in these contexts: the first outcome that isn't wanted, else the one that is.
 fn put_message(
     alloc: Global,
     row: &Row<'_>,
@@ -107,7 +107,7 @@ fn put_message(
     Ok(page)
 }
 
-/// What a message that was read in a context comes to where it is written in those of the row's line `write`.
+/// What is made of a message that was read in a context where it is written in those of the row's line `write`.
 pub fn put_written(
     alloc: Global,
     row: &Row<'_>,

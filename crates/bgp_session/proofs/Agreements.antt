@@ -13,27 +13,10 @@ use Rattle.bgp_open.specs.Config.{Settings}
 use Rattle.bgp_open.specs.Own.{offered, own_of}
 use Rattle.bgp_open.specs.Agreement.{peer_as_of, same_id, context_of, agreement, peer_notification}
 use Rattle.bgp_open.specs.Peer.{first_as4}
-use Rattle.bgp_open.proofs.Agreements.{peer_as-own}
+use Rattle.bgp_open.proofs.Agreements.{accepted, has_as4, peer_as-own}
 use Rattle.bgp_session.specs.declared.moves.Move.{Move}
 use Rattle.bgp_session.specs.declared.side.Side.{Side}
 use Rattle.bgp_session.specs.Laws.{CanBeSet, HasReason, both_wide}
-
--- ---- both offer AS numbers of four octets
-
-finds_as4 : (p q r : Bool) (n : ℕ) → is_some (first_as4 (offered p (Multi IPV4 UNICAST) ++ (offered q (Multi IPV6 UNICAST) ++ offered r (As4 n)))) ≡ r
-finds_as4 false false false n = refl
-finds_as4 false false true n = refl
-finds_as4 false true false n = refl
-finds_as4 false true true n = refl
-finds_as4 true false false n = refl
-finds_as4 true false true n = refl
-finds_as4 true true false n = refl
-finds_as4 true true true n = refl
-
-accepted : (other same : Bool) (x y : Context) → cond (not other) (Err peer.PeerAs) (cond same (Err peer.Identifier) (Ok x)) ≡ Ok y → x ≡ y
-accepted false same x y e = absurd (let no : Err peer.PeerAs ≡ Ok y = e in cc)
-accepted true true x y e = absurd (let no : Err peer.Identifier ≡ Ok y = e in cc)
-accepted true false x y e = let is : Ok x ≡ Ok y = e in cc
 
 -- the test of a peer's AS number, and that of its identifier
 abbrev is_peer : Settings → Settings → Bool
@@ -45,7 +28,7 @@ has_own_id s t = eqb s.local_as s.peer_as && same_id t.id s.id
 pub agreed_width : (s t : Settings) (c : Context) → agreement s (own_of t) ≡ Ok c → c.as4 ≡ both_wide s t
 agreed_width s t c is =
     let same = accepted (is_peer s t) (has_own_id s t) (context_of s (own_of t)) c is in
-    ap (λ (x : Context). x.as4) (sym same) ∙ ap (λ (b : Bool). s.as4 && b) (finds_as4 t.ip4 t.ip6 t.as4 t.local_as)
+    ap (λ (x : Context). x.as4) (sym same.1) ∙ ap (λ (b : Bool). s.as4 && b) (has_as4 t.ip4 t.ip6 t.as4 t.local_as)
 
 pub wide_swaps : (s t : Settings) → both_wide s t ≡ both_wide t s
 wide_swaps s t = and_comm s.as4 t.as4

@@ -41,7 +41,7 @@ pub record Know (mine theirs : Settings) (allowed : Note → Type 0) (side : Sid
   pub refuses : (fault : PeerFault) → agreement mine (own_of theirs) ≡ Err fault → allowed (note_of side (peer_notification fault))
 
 -- a message is heard at a stage, where others are pending behind it
-pub record Hears (wide : Bool) (mine theirs : Settings) (e other : End) (hand : List ℕ) (from : Stage) (m : Said) : Type 0 where
+pub record HeardAt (wide : Bool) (mine theirs : Settings) (e other : End) (hand : List ℕ) (from : Stage) (m : Said) : Type 0 where
   pub pending : List Said
   pub last : Stage
   pub follows : Follows (next from m) pending last
@@ -71,7 +71,7 @@ module _ (wide : Bool) (mine theirs : Settings) (allowed : Note → Type 0) (sid
   Was st = IsSound wide mine theirs allowed in_hand (pair (in_state e st running) other notes)
 
   abbrev HearsNow : Stage → Said → Type 0
-  HearsNow from m = Hears wide mine theirs e other hand from m
+  HearsNow from m = HeardAt wide mine theirs e other hand from m
 
   abbrev standing : State → Standing
   standing st = record { state = st; context = e.session.standing.context; peer = e.session.standing.peer; running = running }

@@ -11,12 +11,14 @@ use Rattle.bgp_machine.specs.declared.action.Action.{Action}
 use Rattle.bgp_machine.specs.declared.state.State.{State}
 use Rattle.bgp_machine.specs.declared.state.State.TheVariants as state
 use Rattle.bgp_machine.specs.declared.timer.Timers.{Timers}
-use Rattle.bgp_machine.specs.Cutting.{Done, done_by, settled, with_octet, by_octet, by_octets}
-use Rattle.bgp_machine.specs.Session.{Machine, holding, judged, after_step}
+use Rattle.bgp_frame.specs.Hearing.{done_by, with_octet}
+use Rattle.bgp_frame.proofs.Hearings as hearings
+use Rattle.bgp_machine.specs.Cutting.{Done, settled, by_octet, by_octets}
+use Rattle.bgp_machine.specs.Session.{Machine, holding, hearer, after_step}
 use Rattle.bgp_machine.specs.Standing.{listens}
 use Rattle.bgp_machine.specs.Table.{Step, hears}
-use Rattle.bgp_machine.proofs.Contents.{content_of-frame}
-use Rattle.bgp_machine.proofs.Cuttings.{idles}
+use Rattle.bgp_frame.proofs.Contents.{content_of-frame}
+use Rattle.bgp_machine.proofs.Cuttings.{is_hearer}
 use Rattle.bgp_update.specs.declared.update.Update.{Update}
 use Rattle.bgp_session.specs.declared.side.Side.{Side}
 use Rattle.bgp_session.specs.steps.Feeding.{with_machine}
@@ -24,23 +26,12 @@ use Rattle.bgp_session.specs.Laws.{heard}
 use Rattle.bgp_session.specs.Pair.{End, Note, Pair, pair, all_acted, fed}
 use Rattle.bgp_session.proofs.Acts.{all_keeps, all_moves, acted_both}
 use Rattle.bgp_session.proofs.Facts.{spelled_frame}
+use Rattle.bgp_session.proofs.Feeds.{octets_settings}
 use Rattle.bgp_session.proofs.Sayings.{Said, message_of, spelling, spellings, updates_in, Fits, Stage, WantsOpen, WantsKeepalive, Runs, Follows, EndsAt}
 use Rattle.bgp_session.proofs.Streams.{waits_or_ends}
 use Rattle.bgp_session.proofs.Ways.{IsHearing, Goes}
 use Rattle.bgp_session.proofs.Ends.{IsSound, IsOut, idle_out, connect_out, active_out, in_state}
-use Rattle.bgp_session.proofs.Hearings.{Know, Hears, OnMessage, sent_hears, confirm_hears, established_hears}
-
--- ---- the settings of a session stay
-
-done_settings : (x : Machine) (o : Option Step) → (done_by x o).session.settings ≡ x.settings
-done_settings x None = refl
-done_settings x (Some step) = refl
-
-octets_settings : (x : Machine) (octets : List ℕ) → (by_octets x octets).session.settings ≡ x.settings
-octets_settings x [] = refl
-octets_settings x (octet ∷ later) =
-    let y : Machine = holding x (with_octet (listens x.standing.state) x.held octet) in
-    octets_settings (by_octet x octet).session later ∙ done_settings y (judged y)
+use Rattle.bgp_session.proofs.Hearings.{Know, HeardAt, OnMessage, sent_hears, confirm_hears, established_hears}
 
 -- ---- one octet, and then the others
 
@@ -61,7 +52,7 @@ octet_first side p octet later actions y is =
 -- ---- an octet
 
 rests : (x : Machine) → Waits x.held → settled x ≡ done [] x
-rests x waits = ap (done_by x) (idles x waits)
+rests x waits = hearings.rests hearer is_hearer x waits
 
 -- what is done on an octet, and that it keeps what is kept
 pub record Keeps (wide : Bool) (mine theirs : Settings) (allowed : Note → Type 0) (side : Side) (hand : List ℕ) (octet : ℕ) (p : Pair) : Type 0 where
@@ -88,7 +79,7 @@ module _ (wide : Bool) (mine theirs : Settings) (allowed : Note → Type 0) (sid
   more = held ++ octet ∷ []
 
   abbrev HearsNow : Stage → Said → Type 0
-  HearsNow from m = Hears wide mine theirs e other hand from m
+  HearsNow from m = HeardAt wide mine theirs e other hand from m
 
   abbrev KeepsMessage : State → Said → Type 0
   KeepsMessage st m = OnMessage wide mine theirs allowed side know e other notes running (octet ∷ hand) hand st m
@@ -144,7 +135,7 @@ module _ (wide : Bool) (mine theirs : Settings) (allowed : Note → Type 0) (sid
           record {
             actions = step.actions;
             session = after_step y step;
-            does = takes ∙ ap (λ (o : Option (Result Message HeadFault)). done_by y (option_map (hears y.settings y.standing) o)) comes;
+            does = takes ∙ ap (λ (o : Option (Result Message HeadFault)). done_by hearer y (option_map (hears y.settings y.standing) o)) comes;
             sound = on m was (record {
               pending = later;
               last = last;

@@ -9,7 +9,7 @@ use Rattle.bgp_machine.specs.declared.send_fault.SendFault.{SendFault}
 use Rattle.bgp_machine.specs.Cutting.{IsAtRest, by_octets}
 use Rattle.bgp_machine.specs.Session.{after_event}
 use Rattle.bgp_machine.specs.Table.{happens}
-use Rattle.bgp_machine.proofs.Feedings.{event_rests}
+use Rattle.bgp_machine.proofs.Cuttings.{event_rests}
 use Rattle.bgp_update.specs.declared.update.Update.{Update}
 use Rattle.bgp_session.specs.declared.side.Side.{Side}
 use Rattle.bgp_session.specs.declared.side.Side.TheVariants.{A, B}

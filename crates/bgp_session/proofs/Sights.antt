@@ -1,41 +1,31 @@
 -- What a pull shows is what the octets that it takes show one by one.
-use Rattle.std.proofs.Common.{◌≡◌, ℕ, zero, suc, ◌<◌, ◌≤◌, Bool, true, false, List, [], ◌∷◌, ◌++◌, length, map, take, drop, Option, None, Some, option_map, Bor, refl, sym, ap, ap₂, subst, ◌∙◌, append_assoc, arith, inl, inr}
+use Rattle.std.proofs.Common.{◌≡◌, ℕ, ◌≤◌, Bool, true, false, List, [], ◌∷◌, ◌++◌, length, map, take, drop, Option, None, Some, option_map, Result, Bor, refl, sym, ap, ap₂, subst, ◌∙◌, append_assoc, arith, inl, inr}
 use Rattle.std.specs.Option.{option_copied}
-use Rattle.std.proofs.lemmas.Bool.{cases_lt}
-use Rattle.std.proofs.lemmas.List.{append-nil, length-append, take-append-drop}
+use Rattle.std.proofs.lemmas.List.{append-nil, take-append-drop}
 use Rattle.arrayvec.specs.ArrayVec.{ArrayVec}
 use Rattle.bgp_wire.specs.Octets.{AreOctets}
 use Rattle.bgp_open.specs.declared.context.Context.{Context}
-use Rattle.bgp_frame.specs.Frame.{wanted, Waits}
+use Rattle.bgp_frame.specs.declared.fault.HeadFault.{HeadFault}
+use Rattle.bgp_frame.specs.Frame.{Message, Waits}
 use Rattle.bgp_frame.specs.Framer.{IsHeld}
 use Rattle.bgp_frame.specs.Takes.{Takes}
-use Rattle.bgp_frame.proofs.FrameLemmas.{wanted_under, wanted-append}
-use Rattle.bgp_frame.proofs.Pulls.{held_or_front}
 use Rattle.bgp_machine.specs.declared.action.Action.{Action}
 use Rattle.bgp_machine.specs.declared.state.State.{State}
-use Rattle.bgp_machine.specs.Cutting.{IsAtRest, Done, settled, by_octet, with_octet, by_octets}
-use Rattle.bgp_machine.specs.Pulling.{PullsStep, IsPulled}
+use Rattle.bgp_machine.specs.Cutting.{IsAtRest, Done, settled, by_octet, by_octets}
+use Rattle.bgp_machine.specs.Pulling.{IsPulled}
 use Rattle.bgp_machine.specs.steps.Ready.{IsReady}
-use Rattle.bgp_machine.specs.Session.{Machine, holding, Does}
+use Rattle.bgp_machine.specs.Session.{Machine, holding, hearer}
 use Rattle.bgp_machine.specs.Standing.{listens}
-use Rattle.bgp_machine.proofs.Cuttings.{idles, waits_at, front_by_octets, rests, settled_by, emptied, none_left}
-use Rattle.bgp_machine.proofs.Held.{IsHeld-fed}
-use Rattle.bgp_machine.proofs.Taken.{empty_waits, taken_up}
+use Rattle.bgp_machine.specs.Table.{hears}
+use Rattle.bgp_machine.proofs.Cuttings.{is_hearer, pulls_as_fed}
+use Rattle.bgp_frame.specs.Hearing.{CountsFed, Judges, behind_feed, with_octet}
+use Rattle.bgp_frame.proofs.Hearings.{IsHeld-fed, all_held, content_is, counts_within, empty_waits, front_by_octets, idles, judged_empty, none_left, none_more, pull_waits, rests, settled_by, took_none, waits_at, waits_or_stops}
 use Rattle.bgp_session.specs.declared.side.Side.{Side}
 use Rattle.bgp_session.specs.steps.Feeding.{with_machine, left_seen}
 use Rattle.bgp_session.specs.Pair.{Pair, all_acted}
 use Rattle.bgp_session.specs.Sight.{Sight, Came, Heard, observed, step_seen, settled_seen, came_if, octet_seen, octets_seen}
 use Rattle.bgp_session.proofs.Acts.{all_keeps}
 use Rattle.bgp_session.proofs.Plays.{observed_both}
-
--- what is held with more octets behind it waited, where all of it can be held
-front_waits : (a b : List ℕ) → length (a ++ b) ≤ wanted (a ++ b) → 0 < length b → Waits a
-front_waits a b within some =
-    let all = length-append a b in
-    elim (cases_lt (length a) 19) [
-      | inl short ↦ let e = wanted_under a short in omega arith
-      | inr long ↦ let e = wanted-append a b long in omega arith
-    ]
 
 module _ (side : Side) where
   -- octets in two parts
@@ -48,16 +38,16 @@ module _ (side : Side) where
 
   -- nothing is shown of what waits
   waits_unseen : (x : Machine) → Waits x.held → settled_seen side x ≡ []
-  waits_unseen x waits = ap (step_seen side x) (idles x waits)
+  waits_unseen x waits = ap (step_seen side x) (idles hearer is_hearer x waits)
 
   left_waiting : (x : Machine) (rest : List ℕ) → Waits x.held → left_seen side x rest ≡ octets_seen side x rest
   left_waiting x rest waits =
       ap (λ (l : List Sight). l ++ octets_seen side (settled x).session rest) (waits_unseen x waits)
-      ∙ ap (λ (d : Done). octets_seen side d.session rest) (rests x waits)
+      ∙ ap (λ (d : Done). octets_seen side d.session rest) (rests hearer is_hearer x waits)
 
   -- a session at rest shows only what comes
   pub left_resting : (x : Machine) (rest : List ℕ) → IsAtRest x → left_seen side x rest ≡ octets_seen side x rest
-  left_resting x rest rests = left_waiting x rest (waits_at x rests.nothing_to_do)
+  left_resting x rest rests = left_waiting x rest (waits_at hearer is_hearer x rests.nothing_to_do)
 
   -- octets that aren't taken show nothing
   module _ (x : Machine) (deaf : listens x.standing.state ≡ false) (waits : Waits x.held) where
@@ -65,7 +55,7 @@ module _ (side : Side) where
     drops_one octet = ap (λ (b : Bool). came_if b side octet ++ settled_seen side (holding x (with_octet b x.held octet))) deaf ∙ waits_unseen x waits
 
     stays_so : (octet : ℕ) → (by_octet x octet).session ≡ x
-    stays_so octet = ap (λ (b : Bool). (settled (holding x (with_octet b x.held octet))).session) deaf ∙ ap (λ (d : Done). d.session) (rests x waits)
+    stays_so octet = ap (λ (b : Bool). (settled (holding x (with_octet b x.held octet))).session) deaf ∙ ap (λ (d : Done). d.session) (rests hearer is_hearer x waits)
 
     drops_unseen : (piece : List ℕ) → octets_seen side x piece ≡ []
     drops_unseen [] = refl
@@ -78,26 +68,21 @@ module _ (side : Side) where
 
     held_one : (held : List ℕ) (octet : ℕ) → Waits (held ++ octet ∷ []) → (by_octet (holding x held) octet).session ≡ holding x (held ++ octet ∷ [])
     held_one held octet waits =
-        ap (λ (b : Bool). (settled (holding x (with_octet b held octet))).session) up ∙ ap (λ (d : Done). d.session) (rests (holding x (held ++ octet ∷ [])) waits)
-
-    seen_joins : (held : List ℕ) (octet : ℕ) (front : List ℕ) → IsHeld (held ++ octet ∷ front)
-        → octets_seen side (holding x held) (octet ∷ front) ≡ map (Came side) (octet ∷ front) ++ settled_seen side (holding x (held ++ octet ∷ front))
-    seen_joins held octet [] is = append-nil (octet_seen side (holding x held) octet) ∙ seen_one held octet
-    seen_joins held octet (next ∷ front) is =
-        let more : List ℕ = held ++ octet ∷ [] in
-        let regrouped : more ++ next ∷ front ≡ held ++ octet ∷ next ∷ front = append_assoc held (octet ∷ []) (next ∷ front) in
-        let is_more : IsHeld (more ++ next ∷ front) = subst IsHeld (sym regrouped) is in
-        let waits : Waits more = front_waits more (next ∷ front) is_more.within (omega arith) in
-        ap₂ (λ (l : List Sight) (m : Machine). l ++ octets_seen side m (next ∷ front))
-        (seen_one held octet ∙ ap (λ (l : List Sight). Came side octet ∷ l) (waits_unseen (holding x more) waits)) (held_one held octet waits)
-        ∙ ap (λ (l : List Sight). Came side octet ∷ l) (seen_joins more next front is_more)
-        ∙ ap (λ (h : List ℕ). Came side octet ∷ (map (Came side) (next ∷ front) ++ settled_seen side (holding x h))) regrouped
+        ap (λ (b : Bool). (settled (holding x (with_octet b held octet))).session) up ∙ ap (λ (d : Done). d.session) (rests hearer is_hearer (holding x (held ++ octet ∷ [])) waits)
 
     -- octets that can all be held come, and then what is held is judged
-    seen_front : (held front : List ℕ) → Waits held → IsHeld (held ++ front)
-        → octets_seen side (holding x held) front ≡ map (Came side) front ++ settled_seen side (holding x (held ++ front))
-    seen_front held [] waits is = sym (waits_unseen (holding x held) waits) ∙ ap (λ (h : List ℕ). settled_seen side (holding x h)) (sym (append-nil held))
-    seen_front held (octet ∷ front) waits is = seen_joins held octet front is
+    seen_front : (front : List ℕ) → Waits x.held → IsHeld (x.held ++ front) → octets_seen side x front ≡ map (Came side) front ++ settled_seen side (holding x (x.held ++ front))
+    seen_front [] waits is = sym (waits_unseen x waits) ∙ ap (λ (h : List ℕ). settled_seen side (holding x h)) (sym (append-nil x.held))
+    seen_front (octet ∷ front) waits is =
+        let whole = x.held ++ octet ∷ front in
+        all_held (λ held later. octets_seen side (holding x held) later ≡ map (Came side) later ++ settled_seen side (holding x whole)) whole
+        (λ held octet joined.
+        append-nil (octet_seen side (holding x held) octet) ∙ seen_one held octet ∙ ap (λ (h : List ℕ). Came side octet ∷ settled_seen side (holding x h)) joined)
+        (λ held octet next later more_waits goes.
+        ap₂ (λ (l : List Sight) (m : Machine). l ++ octets_seen side m (next ∷ later))
+        (seen_one held octet ∙ ap (λ (l : List Sight). Came side octet ∷ l) (waits_unseen (holding x (held ++ octet ∷ [])) more_waits)) (held_one held octet more_waits)
+        ∙ ap (λ (l : List Sight). Came side octet ∷ l) goes)
+        is x.held octet front refl
 
   -- octets are taken that can all be held
   seen_taking : (x : Machine) (piece : List ℕ) (n : ℕ) → listens x.standing.state ≡ true → Waits x.held → IsHeld x.held → AreOctets piece → Takes x.held piece n
@@ -110,25 +95,46 @@ module _ (side : Side) where
       left_waiting x piece waits
       ∙ ap (octets_seen side x) (sym (take-append-drop n piece))
       ∙ seen_in_parts x front back
-      ∙ ap₂ (λ (l m : List Sight). l ++ m) (seen_front x up x.held front waits fits)
-      (ap (λ (d : Done). octets_seen side d.session back) (front_by_octets x up x.held front waits fits))
+      ∙ ap₂ (λ (l m : List Sight). l ++ m) (seen_front x up front waits fits)
+      (ap (λ (d : Done). octets_seen side d.session back) (front_by_octets hearer is_hearer x up front waits fits))
       ∙ append_assoc (map (Came side) front) (settled_seen side z) (octets_seen side (settled z).session back)
 
   -- what is held is judged, and the rest comes to a session that holds nothing
-  seen_judging : (x : Machine) (actions : List Action) (y : Machine) (rest : List ℕ) → Does x actions y
+  seen_judging : (x : Machine) (actions : List Action) (y : Machine) (rest : List ℕ) → Judges hearer x actions y
       → left_seen side x rest ≡ Heard side x.standing.context y.standing.state actions ∷ left_seen side y rest
-  seen_judging x actions y rest d =
-      ap (λ (l : List Sight). l ++ octets_seen side (settled x).session rest) (ap (step_seen side x) d.judged_so)
-      ∙ ap (λ (e : Done). Heard side x.standing.context d.step.next.state d.step.actions ∷ octets_seen side e.session rest) (settled_by x actions y d)
-      ∙ ap₂ (λ (st : State) (acts : List Action). Heard side x.standing.context st acts ∷ octets_seen side y rest) (sym (ap (λ (m : Machine). m.standing.state) d.leaves)) (sym d.does)
-      ∙ ap (λ (l : List Sight). Heard side x.standing.context y.standing.state actions ∷ l) (sym (left_waiting y rest (empty_waits y (emptied x actions y d))))
+  seen_judging x actions y rest j =
+      let step = hears x.settings x.standing j.what in
+      ap (λ (l : List Sight). l ++ octets_seen side (settled x).session rest)
+      (ap (λ (o : Option (Result Message HeadFault)). step_seen side x (option_map (hears x.settings x.standing) o)) (content_is j.what x.held j.is_held))
+      ∙ ap (λ (e : Done). Heard side x.standing.context step.next.state step.actions ∷ octets_seen side e.session rest) (settled_by hearer is_hearer x actions y j)
+      ∙ ap₂ (λ (st : State) (acts : List Action). Heard side x.standing.context st acts ∷ octets_seen side y rest) (sym (ap (λ (m : Machine). m.standing.state) j.leaves)) (sym j.does)
+      ∙ ap (λ (l : List Sight). Heard side x.standing.context y.standing.state actions ∷ l)
+      (sym (left_waiting y rest (empty_waits hearer is_hearer y (judged_empty hearer is_hearer x actions y j))))
+
+  -- a feed shows the octets that it takes
+  seen_none : (x : Machine) (piece : List ℕ) (n : ℕ) → n ≡ 0 → left_seen side x piece ≡ map (Came side) (take n piece) ++ left_seen side (behind_feed hearer x piece n) (drop n piece)
+  seen_none x piece n none =
+      subst (λ (k : ℕ). left_seen side x piece ≡ map (Came side) (take k piece) ++ left_seen side (behind_feed hearer x piece k) (drop k piece)) (sym none)
+      (ap (λ (m : Machine). left_seen side m piece) (sym (took_none hearer is_hearer x piece 0 refl)))
+
+  seen_feed : (x : Machine) (piece : List ℕ) (n : ℕ) → IsReady x → AreOctets piece → (up : Bool) → listens x.standing.state ≡ up → CountsFed up x.held piece n
+      → left_seen side x piece ≡ map (Came side) (take n piece) ++ left_seen side (behind_feed hearer x piece n) (drop n piece)
+  seen_feed x piece n ready octets false deaf none = seen_none x piece n none
+  seen_feed x piece n ready octets true up counts =
+      elim (waits_or_stops x.held ready.can_hold) [
+        | inl waits ↦ seen_taking x piece n up waits ready.can_hold octets counts.0
+        | inr stops ↦ seen_none x piece n (none_more x.held piece n stops counts.0)
+      ]
+
+  unseen : (x : Machine) (piece : List ℕ) (up : Bool) → listens x.standing.state ≡ up → Waits x.held → CountsFed up x.held piece 0 → octets_seen side x piece ≡ []
+  unseen x piece true up waits counts = ap (octets_seen side x) (none_left piece (counts.1 waits))
+  unseen x piece false deaf waits counts = drops_unseen x deaf waits piece
 
 -- ---- what an observer has of a pull
 
 -- no more octets are taken than there are
 pub pulled_within : (x : Machine) (piece : List ℕ) (n : ℕ) (found : Option (ArrayVec Action)) (y : Machine) → IsPulled x piece n found y → n ≤ length piece
-pulled_within x piece n None y (inl p) = let none = p.none in omega arith
-pulled_within x piece n None y (inr p) = (taken_up (listens x.standing.state) x.held piece n p.hears p.fed.0).0.within
+pulled_within x piece n None y p = counts_within (listens x.standing.state) x.held piece n (pulls_as_fed x piece n None y p).fed.0
 pulled_within x piece n (Some actions) y p = p.pulls.takes.within
 
 module _ {S : Type 0} (after : S → Sight → S) (s t : S) (side : Side) (x : Machine) (piece : List ℕ) (ready : IsReady x) (octets : AreOctets piece) where
@@ -136,53 +142,34 @@ module _ {S : Type 0} (after : S → Sight → S) (s t : S) (side : Side) (x : M
   abbrev then_came : ℕ → S
   then_came n = observed after s (map (Came side) (take n piece))
 
-  sees_taking : (n : ℕ) → listens x.standing.state ≡ true → Waits x.held → Takes x.held piece n
-      → observed after s (left_seen side x piece) ≡ observed after (then_came n) (left_seen side (holding x (x.held ++ take n piece)) (drop n piece))
-  sees_taking n up waits takes =
-      ap (observed after s) (seen_taking side x piece n up waits ready.can_hold octets takes)
-      ∙ observed_both after s (map (Came side) (take n piece)) (left_seen side (holding x (x.held ++ take n piece)) (drop n piece))
+  sees_fed : (n : ℕ) → CountsFed (listens x.standing.state) x.held piece n
+      → observed after s (left_seen side x piece) ≡ observed after (then_came n) (left_seen side (behind_feed hearer x piece n) (drop n piece))
+  sees_fed n counts =
+      ap (observed after s) (seen_feed side x piece n ready octets (listens x.standing.state) refl counts)
+      ∙ observed_both after s (map (Came side) (take n piece)) (left_seen side (behind_feed hearer x piece n) (drop n piece))
 
   abbrev Goes : ℕ → Machine → Type 0
   Goes n y = observed after s (left_seen side x piece) ≡ observed after t (left_seen side y (drop n piece))
 
-  sees_held : (n : ℕ) (actions : ArrayVec Action) (y : Machine) → n ≡ 0 → Does x actions.items y
-      → t ≡ after (then_came n) (Heard side x.standing.context y.standing.state actions.items) → Goes n y
-  sees_held n actions y nothing step told =
-      ap (observed after s) (seen_judging side x actions.items y piece step)
-      ∙ ap (λ (k : ℕ). observed after (after (then_came k) (Heard side x.standing.context y.standing.state actions.items)) (left_seen side y (drop k piece))) (sym nothing)
-      ∙ ap (λ (u : S). observed after u (left_seen side y (drop n piece))) (sym told)
-
-  sees_front : (n : ℕ) (actions : ArrayVec Action) (y : Machine) → x.held ≡ [] → PullsStep x piece n actions y
-      → t ≡ after (then_came n) (Heard side x.standing.context y.standing.state actions.items) → Goes n y
-  sees_front n actions y nothing p told =
-      sees_taking n p.hears (empty_waits x nothing) p.pulls.takes
-      ∙ ap (observed after (then_came n)) (seen_judging side (holding x (x.held ++ take n piece)) actions.items y (drop n piece) p.step)
-      ∙ ap (λ (u : S). observed after u (left_seen side y (drop n piece))) (sym told)
-
-  -- it took octets, or there were some to be judged
+  -- something was judged
   pub sees_step : (n : ℕ) (actions : ArrayVec Action) (y : Machine) → IsPulled x piece n (Some actions) y
       → t ≡ after (then_came n) (Heard side x.standing.context y.standing.state actions.items) → Goes n y
   sees_step n actions y p told =
-      elim (held_or_front x.held piece n (λ h. Does (holding x h) actions.items y) p.pulls p.step) [
-        | inl held ↦ sees_held n actions y held.0 held.1 told
-        | inr front ↦ sees_front n actions y front.0 p told
-      ]
+      let call = pulls_as_fed x piece n (Some actions.items) y p in
+      sees_fed n call.fed.0
+      ∙ ap (observed after (then_came n)) (seen_judging side (behind_feed hearer x piece n) actions.items y (drop n piece) call.next)
+      ∙ ap (λ (u : S). observed after u (left_seen side y (drop n piece))) (sym told)
 
-  pub sees_more : (n : ℕ) (y : Machine) → 0 < n → IsPulled x piece n None y → t ≡ then_came n → Goes n y
-  sees_more n y some (inl p) told = absurd (let none = p.none in omega arith)
-  sees_more n y some (inr p) told =
-      let counts = taken_up (listens x.standing.state) x.held piece n p.hears p.fed.0 in
-      sees_taking n p.hears p.to_feed.waits counts.0
-      ∙ ap₂ (λ (u : S) (m : Machine). observed after u (left_seen side m (drop n piece))) (sym told) (sym p.fed.1)
+  pub sees_more : (n : ℕ) (y : Machine) → IsPulled x piece n None y → t ≡ then_came n → Goes n y
+  sees_more n y p told =
+      let call = pulls_as_fed x piece n None y p in
+      sees_fed n call.fed.0 ∙ ap₂ (λ (u : S) (m : Machine). observed after u (left_seen side m (drop n piece))) (sym told) (sym call.next)
 
   -- nothing is left to be shown
   pub sees_none : (y : Machine) → IsPulled x piece 0 None y → t ≡ then_came 0 → observed after s (left_seen side x piece) ≡ t
-  sees_none y (inl p) told =
-      let waits : Waits x.held = empty_waits x (ready.holds_none p.deaf) in
-      ap (observed after s) (left_waiting side x piece waits ∙ drops_unseen side x p.deaf waits piece) ∙ sym told
-  sees_none y (inr p) told =
-      let counts = taken_up (listens x.standing.state) x.held piece 0 p.hears p.fed.0 in
-      ap (observed after s) (left_waiting side x piece p.to_feed.waits ∙ ap (octets_seen side x) (none_left piece (counts.1 p.to_feed.waits))) ∙ sym told
+  sees_none y p told =
+      let waits = pull_waits hearer is_hearer x piece 0 y ready.holds_none p in
+      ap (observed after s) (left_waiting side x piece waits ∙ unseen side x piece (listens x.standing.state) refl waits (pulls_as_fed x piece 0 None y p).fed.0) ∙ sym told
 
 -- ---- what the code has of a pull
 
@@ -211,12 +198,8 @@ module _ {S : Type 0} (after : S → Sight → S) (s mid t : S) (side : Side) (p
       sees_step after s t side p.this.session piece ready octets n actions y (found_so (Some actions) is) heard
       ∙ ap (λ (m : Machine). observed after t (left_seen side m (drop n piece))) (sym session)
 
-  not_zero : (k : ℕ) → (k ≡ 0 → ⊥) → 0 < k
-  not_zero zero not = absurd (not refl)
-  not_zero (suc k) not = omega arith
-
-  pub saw_more : found ≡ None → (n ≡ 0 → ⊥) → observed after s (left_seen side p.this.session piece) ≡ observed after mid (left_seen side y (drop n piece))
-  saw_more is some = sees_more after s mid side p.this.session piece ready octets n y (not_zero n some) (found_so None is) came_so
+  pub saw_more : found ≡ None → observed after s (left_seen side p.this.session piece) ≡ observed after mid (left_seen side y (drop n piece))
+  saw_more is = sees_more after s mid side p.this.session piece ready octets n y (found_so None is) came_so
 
   pub saw_none : found ≡ None → n ≡ 0 → observed after s (left_seen side p.this.session piece) ≡ mid
   saw_none is none =

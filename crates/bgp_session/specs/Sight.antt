@@ -5,7 +5,8 @@ use Rattle.bgp_machine.specs.declared.action.Action.{Action}
 use Rattle.bgp_machine.specs.declared.event.Event.{Event}
 use Rattle.bgp_machine.specs.declared.send_fault.SendFault.{SendFault}
 use Rattle.bgp_machine.specs.declared.state.State.{State}
-use Rattle.bgp_machine.specs.Cutting.{with_octet, by_octet}
+use Rattle.bgp_frame.specs.Hearing.{with_octet}
+use Rattle.bgp_machine.specs.Cutting.{by_octet}
 use Rattle.bgp_machine.specs.Sending.{refusal_of, keepalive_on}
 use Rattle.bgp_machine.specs.Session.{Machine, holding, judged}
 use Rattle.bgp_machine.specs.Standing.{listens}

@@ -5,7 +5,7 @@ use crate::request::Request;
 use crate::status::{BROKEN, CLEAN, UNCLEAN, tell};
 use crate::tcp::{Came, TcpConnection};
 use crate::timers::Timers;
-use crate::updates::{Found, read_updates};
+use crate::updates::{Reading, read_updates};
 use crate::voice::{Teller, Voice};
 use bgp_host::Host;
 use bgp_machine::{Event, State};
@@ -226,13 +226,13 @@ fn updates_of(rt: &HostRuntime, file: Option<&str>) -> io::Result<Result<Vec<Upd
         return Ok(Ok(Vec::new(rt.alloc())));
     };
     match read_updates(rt, file) {
-        Ok(Found::Updates(updates)) => Ok(Ok(updates)),
+        Ok(Reading::Updates(updates)) => Ok(Ok(updates)),
         Err(error) if error.kind() == ErrorKind::OutOfMemory => Err(error),
         Err(error) => {
             let _ = eprintln!(rt; "bgp_speaker: {file}: {error}");
             Ok(Err(BROKEN))
         }
-        Ok(Found::Bad(at)) => {
+        Ok(Reading::Bad(at)) => {
             let _ = eprintln!(rt; "bgp_speaker: {file}: no UPDATE that can be sent at {at}");
             Ok(Err(UNCLEAN))
         }

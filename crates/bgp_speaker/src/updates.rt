@@ -20,7 +20,7 @@ const WIDE: Context = Context {
 };
 
 /// The UPDATEs of a file, or the offset of the first message that isn't one, is at fault, or isn't whole.
-pub(crate) enum Found {
+pub(crate) enum Reading {
     Updates(Vec<Update>),
     Bad(u64),
 }
@@ -42,7 +42,7 @@ fn first_update(alloc: Global, octets: &[u8]) -> Result<Option<(usize, Update)>,
 }
 
 // Reads the UPDATEs of octets.
-fn updates_of(alloc: Global, octets: &[u8]) -> Result<Found, AllocError> {
+fn updates_of(alloc: Global, octets: &[u8]) -> Result<Reading, AllocError> {
     let mut updates = Vec::new(alloc);
     let mut rest = octets;
     let mut at: u64 = 0;
@@ -51,17 +51,17 @@ fn updates_of(alloc: Global, octets: &[u8]) -> Result<Found, AllocError> {
             break;
         }
         let Some((len, update)) = first_update(alloc, rest)? else {
-            return Ok(Found::Bad(at));
+            return Ok(Reading::Bad(at));
         };
         updates.push(update)?;
         rest = rest.get(len..).unwrap_or(&[]);
         at = at.saturating_add(len as u64);
     }
-    Ok(Found::Updates(updates))
+    Ok(Reading::Updates(updates))
 }
 
 /// Reads the UPDATEs of a file.
-pub(crate) fn read_updates(rt: &HostRuntime, path: &str) -> io::Result<Found> {
+pub(crate) fn read_updates(rt: &HostRuntime, path: &str) -> io::Result<Reading> {
     let mut octets = Vec::new(rt.alloc());
     fs::open(rt, path)?.take(FILE_MAX).read_to_end(&mut octets)?;
     Ok(updates_of(rt.alloc(), &octets)?)

@@ -22,7 +22,7 @@ use Rattle.bgp_update.specs.Verdict.{first_reset, reset_by, bad_network, reset_o
 use Rattle.bgp_msg.specs.declared.outcome.Outcome.TheVariants as outcome
 use Rattle.bgp_msg.specs.Outcome.{of_verdict}
 
--- ---- what an attribute comes to
+-- ---- how an attribute is judged
 
 abbrev OfJudged : Judged → Type 0
 OfJudged (judged.Keep a) = Unit {0}
@@ -71,7 +71,7 @@ unfolding field_marks
 of_field_marks ctx nlri field = of_both (marks_behind ctx nlri none_of_them (placed_tlvs field)) (cut_mark (length field - length (tlvs_of field).1) (tlvs_of field).1)
     (of_marks_behind ctx nlri none_of_them (placed_tlvs field)) (of_cut_mark (length field - length (tlvs_of field).1) (tlvs_of field).1)
 
--- ---- what a message comes to
+-- ---- the outcome of a message
 
 abbrev OfReset : Option Notification → Type 0
 OfReset None = Unit {0}

@@ -32,7 +32,7 @@ field_line marked reason message f = field_text marked message f ++ (reason ++ 1
 
 -- ---- notes
 
--- why an attribute isn't kept, and by which rule
+-- why an attribute is discarded, and by which rule
 abbrev pub note_reason : Note → List ℕ
 note_reason n = codes " <- " ++ (why_name n.why ++ (codes ", " ++ note_section n.kind n.why))
 

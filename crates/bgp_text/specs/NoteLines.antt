@@ -22,6 +22,6 @@ why_name why.Cut = codes "Cut"
 why_name why.Missing = codes "Missing"
 why_name why.AsZero = codes "AsZero"
 
--- the place of an attribute in the body, its type, and why it isn't kept
+-- the place of an attribute in the body, its type, and why it is discarded
 abbrev pub note_line : Note → List ℕ
 note_line n = codes "  note " ++ (decimal n.at ++ (codes " " ++ (decimal n.kind ++ (codes " " ++ (why_name n.why ++ 10 ∷ [])))))

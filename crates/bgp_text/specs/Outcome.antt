@@ -29,11 +29,11 @@ message_lines place len (message.Update u) = head_line place len (codes "UPDATE 
 message_lines place len (message.Notification n) = notification_line place len n
 message_lines place len message.Keepalive = head_line place len (codes "KEEPALIVE")
 
--- a message that is taken, and notes on what of it isn't kept
+-- a message that is accepted, and notes on what of it is discarded
 abbrev pub took_lines : ℕ → ℕ → Message → List Note → List ℕ
 took_lines place len m notes = message_lines place len m ++ flat_map note_line notes
 
--- an UPDATE whose routes are withdrawn, and notes on why
+-- an UPDATE that is treated as a withdrawal, and notes on why
 abbrev pub withdraw_lines : ℕ → ℕ → Routes → List Note → List ℕ
 withdraw_lines place len routes notes = head_line place len (codes "UPDATE withdraw") ++ (routes_lines routes ++ flat_map note_line notes)
 

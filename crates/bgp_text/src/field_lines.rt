@@ -72,7 +72,7 @@ fn put_plain(
     text.push_str("\n")
 }
 
-/// Adds why an attribute isn't kept, and by which rule.
+/// Adds why an attribute is discarded, and by which rule.
 fn put_note_reason(text: &mut String, note: &Note) -> Result<(), AllocError>
     ensures { OnOk result (string_bytes text.new ≡ string_bytes text.old ++ note_reason note.now) }
 {

@@ -40,7 +40,7 @@ pub(crate) fn told_text(
 /// A notification's code, subcode and information, as in `1/2 0012`.
 ///
 /// # Errors
-/// `AllocError` where a growth was refused.
+/// `AllocError` where an allocation failed.
 pub fn notification_text(alloc: Global, told: &Notification) -> Result<String, AllocError>
     ensures { IfOk result (λ text. string_bytes text ≡ notification_text told.now) }
 {

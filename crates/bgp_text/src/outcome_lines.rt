@@ -97,7 +97,7 @@ fn put_taken(
     put_notes(text, view)
 }
 
-/// An UPDATE whose routes are withdrawn.
+/// An UPDATE that is treated as a withdrawal.
 fn put_withdrawn(
     text: &mut String,
     place: u64,

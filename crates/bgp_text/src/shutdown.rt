@@ -6,12 +6,6 @@ ghost use Rattle.bgp_text.specs.Shutdown.{counted_text, is_shutdown, shutdown_te
 use bgp_numbers::error;
 use std::str::from_utf8;
 
-/// Cease: Administrative Shutdown (RFC 4486, section 4).
-const ADMINISTRATIVE_SHUTDOWN: u8 = 2;
-
-/// Cease: Administrative Reset (RFC 4486, section 4).
-const ADMINISTRATIVE_RESET: u8 = 4;
-
 /// The octets behind an octet that counts them.
 fn counted_text(info: &[u8]) -> &[u8]
     ensures { result.now ≡ counted_text info.now }
@@ -26,7 +20,8 @@ fn counted_text(info: &[u8]) -> &[u8]
 fn is_shutdown(code: u8, subcode: u8) -> bool
     ensures { result ≡ is_shutdown code subcode }
 {
-    code == error::CEASE && (subcode == ADMINISTRATIVE_SHUTDOWN || subcode == ADMINISTRATIVE_RESET)
+    code == error::CEASE
+        && (subcode == error::ADMINISTRATIVE_SHUTDOWN || subcode == error::ADMINISTRATIVE_RESET)
 }
 
 #[tactic(auto, using(crate::proofs::Escapes::is_text, crate::proofs::Escapes::is_no_text))]

@@ -1,4 +1,4 @@
--- What all marks come to, mark by mark.
+-- All marks in sum, mark by mark.
 use Rattle.std.proofs.Common.{◌≡◌, Bool, true, false, ◌||◌, List, [], ◌∷◌, ◌++◌, Option, refl, sym, ap, ◌∙◌}
 use Rattle.std.specs.List.{list_any}
 use Rattle.std.specs.Option.{option_or}
@@ -45,7 +45,7 @@ module _ (m : Mark) (ms : List Mark) where
     kept = kept_more s.kept i;
   }
 
--- one more mark, by what it comes to
+-- one more mark, by how its attribute is judged
 pub by_mark : (s : SummaryValue) (m : Mark) (j : Judged) → m.judged ≡ j → (reset : Option Notification) (withdrawn noted : Bool) (kept : Kept)
     → reset ≡ option_or s.reset (reset_by j) → withdrawn ≡ (s.withdraws || withdraws j) → noted ≡ (s.notes || is_noted j)
     → kept ≡ kept_behind s.kept (kept_by j)

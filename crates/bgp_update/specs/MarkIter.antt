@@ -24,7 +24,7 @@ marks_with it tlvs =
 abbrev pub marks_left : MarkIter → List Mark
 marks_left it = marks_with it (tlvs_left it.tlvs)
 
--- what this whole attribute comes to where it is the next
+-- how this whole attribute is judged where it is the next
 abbrev pub judged_next : MarkIter → PlacedTlv → Judged
 judged_next it p = if has_octet it.seen p.tlv.kind then repeated p.tlv.kind else judgement it.ctx it.has_nlri p.tlv
 

@@ -1,4 +1,4 @@
--- What each attribute of a field comes to, by place (RFC 4271, section 6.3; RFC 7606, sections 3 to 5).
+-- How each attribute of a field is judged, by its offset (RFC 4271, section 6.3; RFC 7606, sections 3 to 5).
 use Rattle.std.specs.Prelude.{ℕ, ◌-◌, Bool, ◌&&◌, ◌||◌, ◌==◌, nat_lt, List, [], ◌∷◌, ◌++◌, length, if◌then◌else◌}
 use Rattle.bgp_wire.specs.OctetSet.{also, none_of_them}
 use Rattle.bgp_numbers.specs.declared.attribute.TheConstants.{MP_REACH_NLRI, MP_UNREACH_NLRI}
@@ -12,7 +12,7 @@ use Rattle.bgp_attr.specs.Tlv.{PlacedTlv, tlvs_of, placed_from}
 use Rattle.bgp_attr.specs.Judgement.{judgement}
 use Rattle.bgp_update.specs.Parts.{Parts, has_nlri}
 
--- an attribute's place in the field, its type, and what it comes to
+-- an attribute's offset in the field, its type, and how it is judged
 pub record Mark : Type 0 where
   pub at : ℕ
   pub kind : ℕ

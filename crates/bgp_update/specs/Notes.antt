@@ -47,7 +47,7 @@ has_routes r = nat_lt 0 (length (reached_ip4 r)) || nat_lt 0 (length (reached_ip
 abbrev pub is_reachable : Parts → List Mark → Bool
 is_reachable p marks = has_nlri p || has_routes (attrs_of (kept_of marks)).mp_reach
 
--- whether an attribute of a type stands in a field, whatever it comes to
+-- whether an attribute of a type stands in a field, however it is judged
 abbrev pub types_of_field : List ℕ → ℕ → Bool
 types_of_field field = λ kind. list_any (λ q. q.tlv.kind == kind) (placed_tlvs field)
 
@@ -70,7 +70,7 @@ is_missing m = m.origin || (m.as_path || m.next_hop)
 
 -- ---- notes
 
--- why a mark isn't kept, where the session goes on
+-- why an attribute is discarded, where the session goes on
 abbrev pub why_not : Judged → List Why
 why_not (judged.Discard w) = w ∷ []
 why_not (judged.Withdraw w) = w ∷ []

@@ -1,4 +1,4 @@
--- What all marks of a field come to: steps of the verdict, which private functions cite.
+-- All marks of a field in sum: steps of the verdict, which private functions cite.
 use Rattle.std.specs.Prelude.{◌≡◌, Bool, true, false, ◌||◌, List, [], ◌∷◌, Option, option_map}
 use Rattle.std.specs.List.{list_any}
 use Rattle.std.specs.Option.{option_or}
@@ -12,7 +12,7 @@ use Rattle.bgp_update.specs.Marks.{Mark}
 use Rattle.bgp_update.specs.Taken.{kept_of}
 use Rattle.bgp_update.specs.Verdict.{first_reset, withdraws}
 
--- what it comes to has a note
+-- there is a note on it
 abbrev pub is_noted : Judged → Bool
 is_noted (judged.Discard w) = true
 is_noted (judged.Withdraw w) = true
@@ -41,7 +41,7 @@ summary_behind s marks = record {
   kept = kept_behind s.kept (kept_of marks);
 }
 
--- with what one more attribute comes to
+-- with one more attribute as it is judged
 abbrev pub Adds : Summary → Judged → Summary → Type 0
 Adds s judged t = (m : Mark) → m.judged ≡ judged → summary_value t ≡ summary_behind (summary_value s) (m ∷ [])
 

@@ -28,7 +28,7 @@ fn carries_routes(kind: u8) -> bool
     kind == MP_REACH_NLRI || kind == MP_UNREACH_NLRI
 }
 
-/// What a second attribute of a type comes to.
+/// How a second attribute of a type is judged.
 pub(crate) fn repeated(kind: u8) -> FoundAttr<'static>
     ensures { found_attr_value result ≡ repeated kind }
 {
@@ -46,7 +46,7 @@ pub(crate) fn cut_kind(rest: &[u8]) -> u8
     if rest.len() < 2 { 0 } else { rest[1] }
 }
 
-/// What an attribute that is cut off comes to.
+/// How an attribute that is cut off is judged.
 pub(crate) fn cut(rest: &[u8]) -> FoundAttr<'static>
     ensures { found_attr_value result ≡ cut rest.now }
 {

@@ -11,7 +11,7 @@ use bgp_open::Context;
 use bgp_wire::OctetSet;
 use std::iter::FusedIterator;
 
-/// An attribute's place in the field, its type, and what it comes to.
+/// An attribute's offset in the field, its type, and how it is judged.
 #[derive(Clone, Copy)]
 pub(crate) struct MarkView<'a> {
     pub(crate) at: usize,

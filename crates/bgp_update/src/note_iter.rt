@@ -12,7 +12,7 @@ use bgp_attr::{FoundAttr, Why};
 use bgp_numbers::attribute::{AS_PATH, NEXT_HOP, ORIGIN};
 use std::iter::FusedIterator;
 
-/// The notes on a message: each attribute that isn't kept, by offset, the one that is cut off, then what is missing. It takes no memory.
+/// The notes on a message: each attribute that is discarded, by offset, the one that is cut off, then what is missing. It takes no memory.
 #[derive(Clone, Copy)]
 pub struct NoteIter<'a> {
     field_at: usize,

@@ -20,7 +20,7 @@ fn own_taken(alloc: Global, view: &UpdateView<'_>) -> Result<Verdict, AllocError
     Ok(Verdict::Take(update, notes))
 }
 
-/// A message whose routes are withdrawn.
+/// A message that is treated as a withdrawal.
 fn own_withdrawn(alloc: Global, view: &UpdateView<'_>) -> Result<Verdict, AllocError>
     ensures { IfOk result (λ v. v ≡ verdict.Withdraw (routes_value view.now) (notes_value view.now)) }
 {

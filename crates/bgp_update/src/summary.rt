@@ -1,4 +1,4 @@
-//! What all marks of a field come to.
+//! The marks of a field in sum.
 
 ghost use Rattle.std.specs.Prelude.{◌≡◌, ℕ, Bool, ◌≤◌, [], length};
 ghost use Rattle.bgp_attr.specs.FoundAttr.{found_attr_value};
@@ -16,7 +16,7 @@ use bgp_frame::NotificationView;
 use bgp_open::Context;
 use bgp_wire::OctetSet;
 
-/// What the marks of a field come to.
+/// The marks of a field in sum.
 #[derive(Clone, Copy)]
 pub(crate) struct Summary<'a> {
     /// The first reset.

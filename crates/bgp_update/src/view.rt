@@ -182,7 +182,7 @@ impl<'a> UpdateView<'a> {
         AttrIter::new(self.marks())
     }
 
-    /// The notes: each attribute that isn't kept, by offset, the one that is cut off, then what is missing.
+    /// The notes: each attribute that is discarded, by offset, the one that is cut off, then what is missing.
     pub fn notes(&self) -> NoteIter<'a>
         ensures { notes_left result ≡ notes_value self.now }
     {

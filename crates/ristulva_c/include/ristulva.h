@@ -5,14 +5,14 @@
  * The caller owns every octet. No call keeps a pointer, gives one back, calls back, reads outside of what it is handed, or writes
  * elsewhere than through the pointers that it is handed. A call only allocates where its comment says so, and frees what it took
  * before it returns. There is no state but what the caller holds: calls are thread safe, unless two of them write the same memory or
- * are handed the same handle. Decoders and sessions alone (below) are memory of the library's, behind a handle of the caller's.
+ * are handed the same handle. Decoders, sessions and guards alone (below) are memory of the library's, behind a handle of the caller's.
  *
  * Of every call:
  *  - Pointers aren't null, but where the length beside one is 0 (as the end of this header has it).
  *  - What a call writes (`out`, `cursor`, a buffer, a length) overlaps nothing else that it is handed.
  *  - Octets are `const uint8_t *octets, size_t len`. A message has at most 4096 of them (RFC 4271, section 4.1).
  *  - It answers a status. Where that isn't RISTULVA_OK, what it says of each status holds.
- *  - 32 KB of stack are enough, and 48 KB for ristulva_session_send and ristulva_clean.
+ *  - 32 KB of stack are enough, and 48 KB for ristulva_session_send, ristulva_clean, ristulva_guard_new and ristulva_guard_hear.
  *
  * Positions are offsets into the caller's buffer: so a message is viewed there, and nothing is copied.
  */
@@ -41,6 +41,7 @@ typedef uint32_t ristulva_status;
 #define RISTULVA_OK 0u         /* the call did what it says */
 #define RISTULVA_NO_SESSION 1u /* the handle has no session: nothing has changed */
 #define RISTULVA_NO_DECODER 1u /* the handle has no decoder: nothing has changed */
+#define RISTULVA_NO_GUARD 1u   /* the handle has no guard: nothing has changed */
 #define RISTULVA_MEMORY 2u     /* an allocation failed: nothing has changed, and the call can be made again */
 #define RISTULVA_RANGE 3u      /* a number, a span or a length is out of its range: nothing has changed */
 #define RISTULVA_INCOMPLETE 4u /* the octets are an incomplete message: nothing has changed */
@@ -48,9 +49,9 @@ typedef uint32_t ristulva_status;
 #define RISTULVA_END 6u        /* nothing is left: nothing has changed */
 #define RISTULVA_REFUSED 7u    /* no UPDATE that is accepted (whole, where it is to be written), or no OPEN that is: nothing has changed */
 #define RISTULVA_UNWRITABLE 8u /* an UPDATE that can't be written: nothing has changed */
-#define RISTULVA_STATE 9u      /* the session isn't in a state for this, or the decoder has stopped: nothing has changed */
+#define RISTULVA_STATE 9u      /* the session or the guard isn't in a state for this, or the decoder has stopped: nothing has changed */
 #define RISTULVA_CONFIG 10u    /* the configuration isn't one that is allowed: nothing has changed */
-#define RISTULVA_IN_USE 11u    /* the handle has a session, or a decoder, already: nothing has changed */
+#define RISTULVA_IN_USE 11u    /* the handle has a session, a decoder or a guard already: nothing has changed */
 #define RISTULVA_MIXED 12u     /* an UPDATE with routes of several kinds, which no session sends: nothing has changed */
 
 /* ---- octets ---- */
@@ -976,6 +977,98 @@ ristulva_status ristulva_session_open(ristulva_session *session, uint8_t *messag
 ristulva_status ristulva_session_send(ristulva_session *session, const uint8_t *body, size_t len, ristulva_actions *actions, uint8_t *message,
                                       size_t room, size_t *written);
 
+/* ---- a guard between two speakers (RFC 7606; RFC 4271) ----
+ *
+ * A guard stands in one session between an outer peer and an inner speaker. What a side sends is handed on to the other cleaned, as by
+ * ristulva_clean, in the context that both OPENs agree on. A message that can't be ends the session of both: its sender gets the NOTIFICATION
+ * that answers it, and the other side Cease, Administrative Reset (6/4); where an OPEN offers neither IPv4 nor IPv6 unicast, both get 6/5. A
+ * NOTIFICATION is handed on, and ends it too. Then nothing more is read, and each side is to be closed once it was sent what is on its way.
+ *
+ * The guard does no IO and knows no time: its host has both connections and a clock. In its loop it asks for each side what is to be done
+ * (ristulva_guard_asks), reads and hands in what came (ristulva_guard_hear), sends what is on its way (ristulva_guard_way, ristulva_guard_sent),
+ * and closes. It tells when a side is connected or closed (ristulva_guard_event), and of each second (ristulva_guard_tick).
+ *
+ * A handle is the caller's. It begins as {NULL}, gets a guard by ristulva_guard_new, and loses it by ristulva_guard_free; the guard is memory of
+ * the library's, some 145 KB: 68 KB on the way to each side, and an incomplete message of each. No other call allocates. A handle isn't copied,
+ * and its pointer isn't changed. It may go from thread to thread, but no two calls are handed the same handle at one time; different guards share
+ * nothing.
+ *
+ * Each call answers RISTULVA_NO_GUARD where the handle has none; RISTULVA_RANGE, the number of a side or of an event, is checked before that. A
+ * status other than RISTULVA_OK says that nothing has changed, and that nothing was written.
+ */
+
+struct ristulva_guard_body;
+
+typedef struct {
+    struct ristulva_guard_body *body; /* NULL where there is no guard */
+} ristulva_guard;
+
+/* The sides. */
+#define RISTULVA_OUTER 0u /* the peer that is guarded against */
+#define RISTULVA_INNER 1u /* the speaker that is guarded */
+
+/* Makes a guard of which neither side is connected. Unrecognised attributes are left out but for those of the types in `pass`, `count` of them in
+ * any order. Where `one_way` isn't 0, the inner speaker's routes stay inside: each UPDATE of its is handed on as a KEEPALIVE. It allocates all
+ * that the guard ever takes.
+ *
+ * RISTULVA_IN_USE, the handle has a guard; RISTULVA_MEMORY, only where it has none. */
+ristulva_status ristulva_guard_new(const uint8_t *pass, size_t count, uint8_t one_way, ristulva_guard *guard);
+
+/* Frees a guard: the handle has none then. Nothing is sent by that. */
+ristulva_status ristulva_guard_free(ristulva_guard *guard);
+
+/* What happens to a side, but for octets. */
+#define RISTULVA_SIDE_STOOD 1u       /* its connection stands */
+#define RISTULVA_SIDE_UNREACHABLE 2u /* it doesn't stand, and can't be reached: the other side is told (6/5), and the guard ends */
+#define RISTULVA_SIDE_CLOSED 3u      /* it stood, and was closed or lost: the guard ends, and the other side still gets what is on its way */
+
+/* Tells a guard what happens to a side. What doesn't belong where the side stands does nothing. RISTULVA_RANGE: `side` or `event` is none of the
+ * numbers above. */
+ristulva_status ristulva_guard_event(ristulva_guard *guard, uint32_t side, uint32_t event);
+
+/* Tells a guard that a second has gone by. Each side has 240 of them for its OPEN, from when the first side was connected; then the guard ends
+ * (4/0 to a side without an OPEN, else 6/4). What is on its way once the guard has ended has 10 seconds. */
+ristulva_status ristulva_guard_tick(ristulva_guard *guard);
+
+/* What a guard asks of its host for a side. */
+typedef struct {
+    uint8_t listens; /* 1: octets of the side are read. 0: it isn't connected, too much is on the way to the other side, or the guard has ended */
+    uint8_t closes;  /* 1: the side is to be closed, or sought no longer. Else 0 */
+    uint8_t ended;   /* 1: the guard has ended, and nothing is read of either side any more. Else 0 */
+    size_t way;      /* how many octets are on their way to the side: 69632 at most */
+} ristulva_asks;
+
+/* Tells what a guard asks of its host for a side. */
+ristulva_status ristulva_guard_asks(ristulva_guard *guard, uint32_t side, ristulva_asks *asks);
+
+/* What came of octets. */
+#define RISTULVA_CAME_NOTHING 0u   /* no message is complete yet, or the side isn't read */
+#define RISTULVA_CAME_HANDED_ON 1u /* a message was handed on; a NOTIFICATION ends the guard */
+#define RISTULVA_CAME_ANSWERED 2u  /* the side was answered by a NOTIFICATION, and the guard has ended */
+
+typedef struct {
+    uint8_t what; /* RISTULVA_CAME_NOTHING to RISTULVA_CAME_ANSWERED */
+    uint8_t kind; /* RISTULVA_CAME_HANDED_ON: the type of the message that came, 1 to 4. Else 0 */
+    uint8_t same; /* RISTULVA_CAME_HANDED_ON: 1 where what was handed on has the same octets. Else 0 */
+    uint8_t code; /* RISTULVA_CAME_ANSWERED: code and subcode of that NOTIFICATION (RFC 4271, section 4.5). Else 0 */
+    uint8_t subcode;
+} ristulva_came;
+
+/* Takes octets of a side up to the end of a message, with those of an incomplete message that it holds in front of them, and hands the message on, or
+ * answers it. `taken` is how many of the `len` octets it took: of some one at least where it listens to the side, and else none. The host hands in
+ * the rest again, until all is taken; while the guard doesn't listen, it keeps the rest. */
+ristulva_status ristulva_guard_hear(ristulva_guard *guard, uint32_t side, const uint8_t *octets, size_t len, size_t *taken, ristulva_came *came);
+
+/* Copies the first octets that are on their way to a side to the beginning of `octets`, as many as there are, and `room` at most: `written` of them;
+ * the rest of the buffer is unchanged. They stay on their way until ristulva_guard_sent. */
+ristulva_status ristulva_guard_way(ristulva_guard *guard, uint32_t side, uint8_t *octets, size_t room, size_t *written);
+
+/* Tells a guard that the first `count` octets on their way to a side are sent: all of them where there are no more. */
+ristulva_status ristulva_guard_sent(ristulva_guard *guard, uint32_t side, size_t count);
+
+/* Tells what a side said of itself in its OPEN, as that was handed on. RISTULVA_STATE: none was yet. */
+ristulva_status ristulva_guard_peer(ristulva_guard *guard, uint32_t side, ristulva_peer *peer);
+
 /* ---- a null pointer beside a length 0 ----
  *
  * Each call that is handed a pointer with a length is inline here too, under its own name: where the length is 0, it hands on another pointer in
@@ -1258,6 +1351,26 @@ ristulva_inline_ ristulva_status ristulva_session_send(ristulva_session *session
     uint64_t nothing = 0;
     return ristulva_linked_session_send(session, ristulva_given_(body, len), len, actions, ristulva_place_(uint8_t, message, room), room,
                                         written);
+}
+
+extern __typeof__(ristulva_guard_new) ristulva_linked_guard_new __asm__("ristulva_guard_new");
+ristulva_inline_ ristulva_status ristulva_guard_new(const uint8_t *pass, size_t count, uint8_t one_way, ristulva_guard *guard)
+{
+    return ristulva_linked_guard_new(ristulva_given_(pass, count), count, one_way, guard);
+}
+
+extern __typeof__(ristulva_guard_hear) ristulva_linked_guard_hear __asm__("ristulva_guard_hear");
+ristulva_inline_ ristulva_status ristulva_guard_hear(ristulva_guard *guard, uint32_t side, const uint8_t *octets, size_t len, size_t *taken,
+                                                     ristulva_came *came)
+{
+    return ristulva_linked_guard_hear(guard, side, ristulva_given_(octets, len), len, taken, came);
+}
+
+extern __typeof__(ristulva_guard_way) ristulva_linked_guard_way __asm__("ristulva_guard_way");
+ristulva_inline_ ristulva_status ristulva_guard_way(ristulva_guard *guard, uint32_t side, uint8_t *octets, size_t room, size_t *written)
+{
+    uint64_t nothing = 0;
+    return ristulva_linked_guard_way(guard, side, ristulva_place_(uint8_t, octets, room), room, written);
 }
 
 #undef ristulva_inline_

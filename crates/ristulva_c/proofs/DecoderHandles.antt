@@ -24,7 +24,7 @@ use Rattle.bgp_msg.proofs.decoder.Decoder.TheLaws as body_laws
 use Rattle.ristulva_c.specs.Handle.{owned}
 use Rattle.ristulva_c.proofs.Handles.{word_of}
 use Rattle.ristulva_c.specs.contracts.decoder_handle.DecoderHandle as handle
-use Rattle.ristulva_c.specs.contracts.handle.parts.Parts as parts
+use Rattle.ristulva_c.specs.contracts.handle.parts.BoxParts as parts
 
 abbrev pub E : Bx
 E = record { row = body.the_row; laws = body_laws.the_row_laws; al = record { row = heap.the_row; laws = heap_laws.the_row_laws; g = ghosts; d = dict; drops = impl [] tnil dnil } }

@@ -18,6 +18,8 @@ pub mod CapabilitySteps
 pub mod OpenPlaces
 pub mod Handles
 pub mod DecoderHandles
+pub mod GuardHandles
+pub mod Passing
 pub mod RisingSteps
 pub mod Pulled
 pub mod LeftOut

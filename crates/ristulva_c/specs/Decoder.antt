@@ -1,15 +1,16 @@
 -- What the calls on a decoder do: a stream comes in pieces, and each message is told as `ristulva_judge` tells it.
-use Rattle.std.specs.Prelude.{◌≡◌, ◌<◌, ◌≤◌, ◌⊎◌, ℕ, true, false, List, ◌++◌, length, take, Option, None, Some}
+use Rattle.std.specs.Prelude.{◌≡◌, ◌<◌, ◌≤◌, ◌⊎◌, ℕ, true, false, List, ◌++◌, length, take, Option, None, Some, Result}
+use Rattle.bgp_frame.specs.declared.fault.HeadFault.{HeadFault}
 use Rattle.bgp_frame.specs.declared.step.Step.{Step}
 use Rattle.bgp_frame.specs.declared.step.Step.TheVariants as step
-use Rattle.bgp_frame.specs.Frame.{Waits}
+use Rattle.bgp_frame.specs.Frame.{Message, Waits}
 use Rattle.bgp_frame.specs.Step.{ShowsStep}
 use Rattle.bgp_open.specs.declared.context.Context.{Context}
 use Rattle.bgp_msg.specs.declared.outcome.Outcome.{Outcome}
-use Rattle.bgp_msg.specs.Decoder.{Decoding, GivesMessage, GivesFault, behind, fresh, holding, IsFed}
+use Rattle.bgp_msg.specs.Decoder.{Decoding, Going, given_by, behind, fresh, holding, IsBehind, IsFed}
+use Rattle.bgp_frame.specs.Hearing.{IsContent}
 use Rattle.bgp_msg.specs.declared.look.Look.TheVariants as look
 use Rattle.bgp_msg.specs.Look.{IsLook}
-use Rattle.bgp_msg.specs.Next.{Going, IsBehind}
 use Rattle.bgp_msg.specs.Outcome.{out_of, of_fault}
 use Rattle.ristulva_c.specs.declared.status.TheConstants.{IN_USE, INCOMPLETE, MEMORY, NO_SESSION, OK, ROOM, STATE}
 use Rattle.ristulva_c.specs.Copied.{copied}
@@ -50,7 +51,7 @@ pub record IsWholeTold (ctx : Context) (octets : List ℕ) (o : Outcome) (j : Ju
 
 -- what a decoder that holds these octets gives of them
 abbrev pub GivesHeld : Decoding → Outcome → Type 0
-GivesHeld d o = (k : ℕ) × (GivesMessage d k o ⊎ GivesFault d k o)
+GivesHeld d o = (what : Result Message HeadFault) × (IsContent what d.held × (o ≡ (given_by d what).1))
 
 -- ---- what is pulled from a piece
 

@@ -8,7 +8,7 @@ use Rattle.bgp_frame.specs.Frame.{wanted}
 use Rattle.bgp_frame.specs.Head.{head_notification}
 use Rattle.bgp_frame.specs.Kind.{code_of}
 use Rattle.bgp_frame.specs.Step.{ShowsFront}
-use Rattle.ristulva_c.specs.declared.front.Found.{Found}
+use Rattle.ristulva_c.specs.declared.front.ToldFront.{ToldFront}
 use Rattle.ristulva_c.specs.declared.front.TheConstants.{MORE, MESSAGE, FAULT}
 use Rattle.ristulva_c.specs.declared.span.Span.{Span}
 use Rattle.ristulva_c.specs.Span.{no_span}
@@ -20,7 +20,7 @@ fault_span (fault.Length n) = record { at = 16; len = 2 }
 fault_span (fault.Kind code) = record { at = 18; len = 1 }
 
 -- a fault: the code and the subcode that answer it
-abbrev pub fault_told : HeadFault → Found
+abbrev pub fault_told : HeadFault → ToldFront
 fault_told f = record {
   what = FAULT;
   kind = 0;
@@ -31,13 +31,13 @@ fault_told f = record {
 }
 
 -- of less than a message, how many octets are wanted
-abbrev pub step_told : List ℕ → Step → Found
+abbrev pub step_told : List ℕ → Step → ToldFront
 step_told octets step.More = record { what = MORE; kind = 0; code = 0; subcode = 0; len = wanted octets; info = no_span }
 step_told octets (step.Frame frame) = record { what = MESSAGE; kind = code_of frame.kind; code = 0; subcode = 0; len = frame.len; info = no_span }
 step_told octets (step.Fault f) = fault_told f
 
 -- the numbers are those of what the octets begin with
-pub record IsFound (octets : List ℕ) (told : Found) : Type 0 where
+pub record IsFound (octets : List ℕ) (told : ToldFront) : Type 0 where
   pub step : Step
   pub shows : ShowsFront octets step
   pub numbers : told ≡ step_told octets step

@@ -7,12 +7,11 @@ use Rattle.bgp_update.specs.Parts.{parts_of}
 use Rattle.bgp_machine.specs.declared.heard.Heard.{Heard}
 use Rattle.bgp_machine.specs.declared.heard.Heard.TheVariants as heard
 use Rattle.bgp_machine.specs.Look.{Looked, IsLook, gone, step_of}
-use Rattle.bgp_machine.specs.Next.{Going}
-use Rattle.bgp_machine.specs.Session.{Machine}
+use Rattle.bgp_machine.specs.Session.{Machine, Going}
 use Rattle.bgp_machine.specs.Standing.{listens}
 use Rattle.ristulva_c.specs.declared.hearing.ToldHeard.{ToldHeard}
 use Rattle.ristulva_c.specs.declared.judge.TheConstants.{OPEN, UPDATE, NOTIFICATION, KEEPALIVE, WITHDRAW, RESET}
-use Rattle.ristulva_c.specs.declared.parts.Parts.{Parts}
+use Rattle.ristulva_c.specs.declared.parts.ToldParts.{ToldParts}
 use Rattle.ristulva_c.specs.declared.status.TheConstants.{INCOMPLETE, NO_SESSION, OK, ROOM, STATE}
 use Rattle.ristulva_c.specs.Judge.{nothing_said}
 use Rattle.ristulva_c.specs.Parts.{parts_told}
@@ -37,7 +36,7 @@ said_in (heard.Refused n) = short_value n
 said_in _ = nothing_said
 
 -- the parts of an UPDATE that doesn't end the session, from its body
-abbrev pub parts_heard : Heard → List ℕ → Parts
+abbrev pub parts_heard : Heard → List ℕ → ToldParts
 parts_heard (heard.Update v) body = parts_told (parts_of body)
 parts_heard (heard.Withdraw v) body = parts_told (parts_of body)
 parts_heard _ body = parts_told None
@@ -87,10 +86,10 @@ abbrev pub IsFoundTold : Machine → List ℕ → Option Going → Place → (�
 IsFoundTold x octets None p answer = IsLook x octets None × IsUnheard INCOMPLETE p (answer INCOMPLETE x)
 IsFoundTold x octets (Some next) p answer = (next.from ≡ x) × (listens x.standing.state ≡ true → IsHeard x octets p (answer OK (gone x next.standing)))
 
-abbrev pub Hears : Option Machine → List ℕ → Place → Answer → Type 0
-Hears None octets p a = IsUnheard NO_SESSION p a
-Hears (Some x) octets p a = IsDeaf x p a ⊎ (Awaits x octets p a ⊎ IsHeard x octets p a)
+abbrev pub SessionHears : Option Machine → List ℕ → Place → Answer → Type 0
+SessionHears None octets p a = IsUnheard NO_SESSION p a
+SessionHears (Some x) octets p a = IsDeaf x p a ⊎ (Awaits x octets p a ⊎ IsHeard x octets p a)
 
 -- of the octets no more than the longest message has are looked at; a buffer has room for each message that is sent, or nothing is done
 abbrev pub HearsFirst : Option Machine → List ℕ → Place → Answer → Type 0
-HearsFirst old octets p a = ((4096 ≤ length a.message_before) × Hears old (take 4096 octets) p a) ⊎ ((length a.message_before < 4096) × IsUnheard ROOM p a)
+HearsFirst old octets p a = ((4096 ≤ length a.message_before) × SessionHears old (take 4096 octets) p a) ⊎ ((length a.message_before < 4096) × IsUnheard ROOM p a)

@@ -16,7 +16,7 @@ use Rattle.bgp_msg.specs.declared.outcome.Outcome.TheVariants as outcome
 use Rattle.bgp_msg.specs.Outcome.{out_of, of_fault}
 use Rattle.ristulva_c.specs.declared.judge.Verdict.{Verdict}
 use Rattle.ristulva_c.specs.declared.judge.TheConstants.{OPEN, UPDATE, NOTIFICATION, KEEPALIVE, WITHDRAW, RESET}
-use Rattle.ristulva_c.specs.declared.parts.Parts.{Parts}
+use Rattle.ristulva_c.specs.declared.parts.ToldParts.{ToldParts}
 use Rattle.ristulva_c.specs.declared.status.TheConstants.{INCOMPLETE, OK, ROOM}
 use Rattle.ristulva_c.specs.Copied.{copied}
 use Rattle.ristulva_c.specs.Parts.{parts_told, Lie}
@@ -43,7 +43,7 @@ said_by (outcome.Withdraw routes notes) = nothing_said
 said_by (outcome.Reset n) = n
 
 -- an outcome of a message of this type and of so many octets, with the offsets of its parts
-abbrev pub verdict_told : ℕ → ℕ → Parts → Outcome → Verdict
+abbrev pub verdict_told : ℕ → ℕ → ToldParts → Outcome → Verdict
 verdict_told kind len parts o = record {
   verdict = number_of o;
   kind = kind;
@@ -55,7 +55,7 @@ verdict_told kind len parts o = record {
 }
 
 -- the parts of a message: of an UPDATE alone
-abbrev pub parts_at : Kind → List ℕ → Parts
+abbrev pub parts_at : Kind → List ℕ → ToldParts
 parts_at kind.Update body = parts_told (parts_of body)
 parts_at _ body = parts_told None
 

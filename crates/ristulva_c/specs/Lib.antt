@@ -36,6 +36,7 @@ pub mod Agree
 pub mod Sending
 pub mod Decoder
 pub mod Clean
+pub mod Guard
 pub mod FieldKinds
 pub mod Fields
 pub mod Faults

@@ -14,7 +14,7 @@ use Rattle.ristulva_c.specs.Text.{Writing, IsLeft, IsWritten}
 unfoldable pub status_name : ℕ → List ℕ
 status_name status = named (
     (0, codes "OK") ∷ (
-    (1, codes "no session or decoder") ∷ (
+    (1, codes "no session, decoder or guard") ∷ (
     (2, codes "an allocation failed") ∷ (
     (3, codes "out of range") ∷ (
     (4, codes "an incomplete message") ∷ (

@@ -46,7 +46,7 @@ pub(crate) fn context_said(context: &Context) -> SessionContext
 }
 
 /// A peer as C says it.
-fn peer_said(peer: &Peer) -> ToldPeer
+pub(crate) fn peer_said(peer: &Peer) -> ToldPeer
     ensures { result ≡ peer_said (said_of peer.now) }
 {
     ToldPeer {

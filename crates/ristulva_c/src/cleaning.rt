@@ -63,7 +63,7 @@ pub struct ToldCleaned {
 }
 
 /// The set of these types.
-fn set_of(types: &[u8]) -> OctetSet
+pub(crate) fn set_of(types: &[u8]) -> OctetSet
     ensures { has_octet result ≡ types_in types.now }
 {
     let mut set = OctetSet::new();

@@ -5,7 +5,7 @@ ghost use Rattle.bgp_msg.specs.Decoder.{Decoding};
 ghost use Rattle.bgp_msg.specs.contracts.decoder.Decoder.{the_row};
 ghost use Rattle.ristulva_c.specs.Handle.{owned};
 
-use crate::handle::parts::Parts;
+use crate::handle::parts::BoxParts;
 use bgp_msg::Decoder;
 use std::alloc::Global;
 use std::marker::Model;
@@ -39,24 +39,24 @@ impl DecoderHandle {
     }
 
     /// A handle that has what a box is made of.
-    fn of_parts(parts: Parts<Decoder, Global>) -> DecoderHandle
+    fn of_parts(parts: BoxParts<Decoder, Global>) -> DecoderHandle
         ensures { result.value ≡ Some parts.value }
     {
-        let Parts { ptr, alloc: _ } = parts;
+        let BoxParts { ptr, alloc: _ } = parts;
         DecoderHandle {
             body: ptr as *mut DecoderBody,
         }
     }
 
     /// What the box is made of, where there is one.
-    fn into_parts(self, alloc: Global) -> Option<Parts<Decoder, Global>>
+    fn into_parts(self, alloc: Global) -> Option<BoxParts<Decoder, Global>>
         ensures { option_map (λ parts. parts.value) result ≡ self.value }
     {
         let DecoderHandle { body } = self;
         if body.is_null() {
             None
         } else {
-            Some(Parts {
+            Some(BoxParts {
                 ptr: body as *mut Decoder,
                 alloc,
             })
@@ -80,7 +80,7 @@ impl DecoderHandle {
         requires { self.old.value ≡ None }
         ensures { self.new.value ≡ Some decoder.value }
     {
-        *self = DecoderHandle::of_parts(Parts::of(decoder));
+        *self = DecoderHandle::of_parts(BoxParts::of(decoder));
     }
 }
 

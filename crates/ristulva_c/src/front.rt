@@ -23,7 +23,7 @@ pub const FAULT: u8 = 2;
 /// What stands at the front of octets (RFC 4271, sections 4.1 and 6.1).
 #[repr(C)]
 #[derive(Clone, Copy)]
-pub struct Found {
+pub struct ToldFront {
     /// `MORE`, `MESSAGE` or `FAULT`.
     pub what: u8,
     /// The type of the message, 1 to 4, where it is one; else 0.
@@ -39,7 +39,7 @@ pub struct Found {
     pub info: Span,
 }
 
-fn fault_told(fault: HeadFault) -> Found
+fn fault_told(fault: HeadFault) -> ToldFront
     ensures { result ≡ fault_told fault }
 {
     let (subcode, at, len) = match fault {
@@ -47,7 +47,7 @@ fn fault_told(fault: HeadFault) -> Found
         HeadFault::Length(_) => (error::BAD_MESSAGE_LENGTH, 16, 2),
         HeadFault::Kind(_) => (error::BAD_MESSAGE_TYPE, 18, 1),
     };
-    Found {
+    ToldFront {
         what: FAULT,
         kind: 0,
         code: error::MESSAGE_HEADER,
@@ -69,12 +69,12 @@ fn wanted(octets: &[u8]) -> u32
     u32::from(u16::from_be_bytes([octets[16], octets[17]]))
 }
 
-fn step_told(octets: &[u8], step: Step<'_>) -> Found
+fn step_told(octets: &[u8], step: Step<'_>) -> ToldFront
     requires { ShowsFront octets.now step }
     ensures { result ≡ step_told octets.now step.entry }
 {
     match step {
-        Step::More => Found {
+        Step::More => ToldFront {
             what: MORE,
             kind: 0,
             code: 0,
@@ -82,7 +82,7 @@ fn step_told(octets: &[u8], step: Step<'_>) -> Found
             len: wanted(octets),
             info: Span { at: 0, len: 0 },
         },
-        Step::Frame(frame) => Found {
+        Step::Frame(frame) => ToldFront {
             what: MESSAGE,
             kind: frame.kind as u8,
             code: 0,
@@ -96,7 +96,7 @@ fn step_told(octets: &[u8], step: Step<'_>) -> Found
 
 /// What octets begin with: less than a message, a message, or a header with a fault. What stands behind a message has no effect.
 #[unsafe(no_mangle)]
-pub extern "C" fn ristulva_front(octets: &[u8], out: &mut Found) -> u32
+pub extern "C" fn ristulva_front(octets: &[u8], out: &mut ToldFront) -> u32
     ensures status { result ≡ OK }
     ensures found { IsFound octets.now out.new }
 {

@@ -8,7 +8,7 @@ ghost use Rattle.ristulva_c.specs.Handle.{owned};
 pub(crate) mod parts;
 
 use bgp_machine::Session;
-use parts::Parts;
+use parts::BoxParts;
 use std::alloc::Global;
 use std::marker::Model;
 use std::mem::replace;
@@ -41,24 +41,24 @@ impl SessionHandle {
     }
 
     /// A handle that has what a box is made of.
-    fn of_parts(parts: Parts<Session, Global>) -> SessionHandle
+    fn of_parts(parts: BoxParts<Session, Global>) -> SessionHandle
         ensures { result.value ≡ Some parts.value }
     {
-        let Parts { ptr, alloc: _ } = parts;
+        let BoxParts { ptr, alloc: _ } = parts;
         SessionHandle {
             body: ptr as *mut SessionBody,
         }
     }
 
     /// What the box is made of, where there is one.
-    fn into_parts(self, alloc: Global) -> Option<Parts<Session, Global>>
+    fn into_parts(self, alloc: Global) -> Option<BoxParts<Session, Global>>
         ensures { option_map (λ parts. parts.value) result ≡ self.value }
     {
         let SessionHandle { body } = self;
         if body.is_null() {
             None
         } else {
-            Some(Parts {
+            Some(BoxParts {
                 ptr: body as *mut Session,
                 alloc,
             })
@@ -82,7 +82,7 @@ impl SessionHandle {
         requires { self.old.value ≡ None }
         ensures { self.new.value ≡ Some session.value }
     {
-        *self = SessionHandle::of_parts(Parts::of(session));
+        *self = SessionHandle::of_parts(BoxParts::of(session));
     }
 }
 

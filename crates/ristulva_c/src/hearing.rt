@@ -2,13 +2,13 @@
 
 ghost use Rattle.std.specs.Prelude.{◌≡◌, ◌≤◌, ◌⊎◌, Some, length, take, drop};
 ghost use Rattle.bgp_frame.specs.Notification.{notification_of_view};
-ghost use Rattle.ristulva_c.specs.Hearing.{number_of_heard, said_in, parts_heard, heard_told, Hears, HearsFirst, IsFoundTold};
+ghost use Rattle.ristulva_c.specs.Hearing.{number_of_heard, said_in, parts_heard, heard_told, SessionHears, HearsFirst, IsFoundTold};
 
 use crate::actions::{Actions, actions_told};
 use crate::handle::SessionHandle;
 use crate::judge::{KEEPALIVE, NOTIFICATION, OPEN, RESET, UPDATE, WITHDRAW};
 use crate::messages::{MESSAGE_MAX, send_first};
-use crate::parts::{Parts, no_parts, parts_in};
+use crate::parts::{ToldParts, no_parts, parts_in};
 use crate::states::is_up;
 use crate::status::{INCOMPLETE, NO_SESSION, OK, ROOM, STATE};
 use bgp_frame::NotificationView;
@@ -29,7 +29,7 @@ pub struct ToldHeard {
     /// How many octets were taken.
     pub len: u32,
     /// Where the parts of an UPDATE lie, where it doesn't end the session.
-    pub parts: Parts,
+    pub parts: ToldParts,
 }
 
 /// The number of what is heard.
@@ -65,7 +65,7 @@ fn said_in<'a>(heard: &'a Heard<'a>) -> NotificationView<'a>
 }
 
 /// Where the parts of what is heard lie, in the message that has this body.
-fn parts_heard(heard: &Heard<'_>, body: &[u8]) -> Parts
+fn parts_heard(heard: &Heard<'_>, body: &[u8]) -> ToldParts
     requires { length body.now ≤ 4077 }
     ensures { result ≡ parts_heard heard.now body.now }
 {
@@ -154,7 +154,7 @@ fn hear(
     len: &mut usize,
 ) -> u32
     requires { length octets.now ≤ 4096 }
-    ensures { Hears (Some session.old) octets.now
+    ensures { SessionHears (Some session.old) octets.now
         (record { heard_before = heard.old; heard_behind = heard.new })
         (record { status = result; old = Some session.old; new = Some session.new; actions_before = actions.old; actions_behind = actions.new; message_before = message.old; message_behind = message.new; len_before = len.old; len_behind = len.new }) }
 {

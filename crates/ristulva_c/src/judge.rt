@@ -14,7 +14,7 @@ ghost use Rattle.ristulva_c.specs.declared.status.TheConstants.{INCOMPLETE, OK, 
 
 use crate::context::{SessionContext, context_of};
 use crate::copied::copy_into;
-use crate::parts::{Parts, no_parts, parts_in};
+use crate::parts::{ToldParts, no_parts, parts_in};
 use crate::status::{INCOMPLETE, OK, ROOM};
 use bgp_frame::{Frame, HeadFault, Kind, NotificationView, Step, front};
 use bgp_msg::{OutcomeView, view_frame};
@@ -55,7 +55,7 @@ pub struct Verdict {
     /// The octets of that NOTIFICATION's data.
     pub info_len: u32,
     /// Where the parts of an UPDATE lie, where its lengths leave room for each other.
-    pub parts: Parts,
+    pub parts: ToldParts,
 }
 
 /// The number of an outcome.
@@ -98,7 +98,7 @@ fn said_by<'a>(outcome: &OutcomeView<'a>) -> NotificationView<'a>
 pub(crate) fn tell(
     kind: u8,
     len: u16,
-    parts: Parts,
+    parts: ToldParts,
     outcome: &OutcomeView<'_>,
     info: &mut [u8],
     out: &mut Verdict,
@@ -122,7 +122,7 @@ pub(crate) fn tell(
 }
 
 /// Where the parts of a message lie.
-pub(crate) fn parts_at(frame: &Frame<'_>) -> Parts
+pub(crate) fn parts_at(frame: &Frame<'_>) -> ToldParts
     requires { length frame.now.body.now ≤ 4077 }
     ensures { result ≡ parts_at frame.now.kind frame.now.body.now }
 {

@@ -1,14 +1,13 @@
 //! Large communities one after another.
 
-ghost use Rattle.std.specs.Prelude.{◌≡◌, ◌-◌, ◌⊎◌, ◌↔◌, ◌≤◌, length, take, [], ◌∷◌, option_map, MatchOption};
-ghost use Rattle.std.specs.List.{list_any};
-ghost use Rattle.bgp_attr.specs.Numbers.{one_triple, triples_of, same_triple, each_once};
-ghost use Rattle.bgp_attr.specs.LargeStep.{IsRowUpTo, new_from, GivesNew};
+ghost use Rattle.std.specs.Prelude.{◌≡◌, ◌-◌, ◌⊎◌, ◌↔◌, ◌≤◌, length, [], ◌∷◌, MatchOption};
+ghost use Rattle.bgp_attr.specs.Numbers.{triples_of, each_once};
 ghost use Rattle.ristulva_c.specs.Prefixes.{between};
 ghost use Rattle.ristulva_c.specs.Large.{IsLarge, large_left};
 ghost use Rattle.ristulva_c.specs.declared.status.TheConstants.{END, OK, RANGE};
 
 use crate::status::{END, OK, RANGE};
+use bgp_attr::first_new_triple;
 
 /// The large communities of an attribute that are still to come.
 #[repr(C)]
@@ -28,51 +27,6 @@ pub struct LargeCommunities {
 pub struct LargeCommunity {
     /// The Global Administrator and the two parts of Local Data.
     pub numbers: [u32; 3],
-}
-
-/// The three numbers at the front, and what follows them.
-#[tactic(auto, using(bgp_attr::proofs::Fronts::twelve_taken, bgp_attr::proofs::Fronts::twelve_short))]
-fn first_triple(octets: &[u8]) -> Option<([u32; 3], &[u8])>
-    ensures { option_map (λ x. (x.0, x.1.now)) result ≡ one_triple octets.now }
-{
-    let (it, rest) = octets.split_at_checked(12)?;
-    let first = u32::from_be_bytes([it[0], it[1], it[2], it[3]]);
-    let second = u32::from_be_bytes([it[4], it[5], it[6], it[7]]);
-    let third = u32::from_be_bytes([it[8], it[9], it[10], it[11]]);
-    Some(([first, second, third], rest))
-}
-
-/// Whether the triple is among those of these octets.
-fn stands_in(triple: [u32; 3], octets: &[u8]) -> bool
-    ensures { result ≡ list_any (same_triple triple) (triples_of octets.now) }
-{
-    let mut rest = octets;
-    'row: while let Some(found) = first_triple(rest) {
-        let other = found.0;
-        if triple == other {
-            return true;
-        }
-        rest = found.1;
-    }
-    false
-}
-
-/// The first triple from a place on that isn't among those before it, and the place behind it.
-fn first_new(octets: &[u8], from: usize) -> Option<([u32; 3], usize)>
-    requires { IsRowUpTo octets.now from }
-    ensures { GivesNew octets.now from result }
-{
-    let mut at = from;
-    'row: while at < octets.len() {
-        let (before, rest) = octets.split_at(at);
-        let found = first_triple(rest)?;
-        let triple = found.0;
-        at += 12;
-        if !stands_in(triple, before) {
-            return Some((triple, at));
-        }
-    }
-    None
 }
 
 /// The attribute's value, where the cursor lies in the octets and stands behind whole triples.
@@ -105,7 +59,7 @@ pub extern "C" fn ristulva_next_large_community(
     let Some(value) = value_of(octets, cursor) else {
         return RANGE;
     };
-    let Some(found) = first_new(value, (cursor.at - cursor.first) as usize) else {
+    let Some(found) = first_new_triple(value, (cursor.at - cursor.first) as usize) else {
         return END;
     };
     let numbers = found.0;

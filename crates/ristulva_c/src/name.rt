@@ -34,7 +34,7 @@ fn status_name(status: u8) -> &'static str
 {
     match status {
         0 => "OK",
-        1 => "no session or decoder",
+        1 => "no session, decoder or guard",
         2 => "an allocation failed",
         3 => "out of range",
         4 => "an incomplete message",

@@ -9,7 +9,7 @@ use crate::span::Span;
 /// Where the three parts of an UPDATE lie in its message (RFC 4271, section 4.3).
 #[repr(C)]
 #[derive(Clone, Copy)]
-pub struct Parts {
+pub struct ToldParts {
     /// Withdrawn Routes.
     pub withdrawn: Span,
     /// Path Attributes.
@@ -19,11 +19,11 @@ pub struct Parts {
 }
 
 /// No part lies anywhere.
-pub(crate) fn no_parts() -> Parts
+pub(crate) fn no_parts() -> ToldParts
     ensures { result ≡ parts_told None }
 {
     let nothing = Span { at: 0, len: 0 };
-    Parts {
+    ToldParts {
         withdrawn: nothing,
         attributes: nothing,
         nlri: nothing,
@@ -64,13 +64,13 @@ fn lengths_of(body: &[u8]) -> Option<(usize, usize, usize)>
 }
 
 /// Where the parts lie in the message that has this body.
-pub(crate) fn parts_in(body: &[u8]) -> Parts
+pub(crate) fn parts_in(body: &[u8]) -> ToldParts
     requires { length body.now ≤ 4077 }
     ensures { result ≡ parts_told (parts_of body.now) }
 {
     match lengths_of(body) {
         None => no_parts(),
-        Some((withdrawn, attributes, nlri)) => Parts {
+        Some((withdrawn, attributes, nlri)) => ToldParts {
             withdrawn: Span {
                 at: 21,
                 len: withdrawn as u32,

@@ -1,9 +1,9 @@
 -- Steps of the proof that a host does what its session wants done. Only private functions cite them.
-use Rattle.std.specs.Prelude.{◌≡◌, ◌<◌, ◌≤◌, ℕ, ◌+◌, Bool, true, false, nat_lt, List, [], ◌∷◌, length, drop, Option, None, Some, if◌then◌else◌}
+use Rattle.std.specs.Prelude.{◌≡◌, ◌<◌, ◌≤◌, ℕ, Bool, true, false, nat_lt, List, [], ◌∷◌, length, drop, Option, None, Some, if◌then◌else◌}
 use Rattle.bgp_machine.specs.declared.action.Action.{Action}
 use Rattle.bgp_machine.specs.declared.state.State.{State}
-use Rattle.bgp_machine.specs.Session.{Machine}
 use Rattle.bgp_machine.specs.Standing.{listens}
+use Rattle.bgp_machine.specs.steps.Ready.{weight}
 use Rattle.bgp_host.specs.declared.link.Link.{Link}
 use Rattle.bgp_host.specs.declared.link.Link.TheVariants.{Up}
 use Rattle.bgp_host.specs.Records.{Notice, Stood, Grows}
@@ -32,14 +32,6 @@ IsNotUp Up = ⊥
 IsNotUp _ = Unit {0}
 
 -- ---- octets that come
-
-abbrev pub one_if_any : List ℕ → ℕ
-one_if_any [] = 0
-one_if_any (octet ∷ later) = 1
-
--- each pull makes this less: it takes octets, or judges what is held
-abbrev pub weight : Machine → List ℕ → ℕ
-weight x rest = length rest + length rest + one_if_any x.held
 
 -- a pull did something
 pub record PullsOn (old : Hosted) (piece : List ℕ) (n : ℕ) (new : Hosted) : Type 0 where

@@ -1,10 +1,10 @@
 use Rattle.std.proofs.Common.{sym, subst}
 use Rattle.bgp_frame.specs.Frame.{Waits}
-use Rattle.bgp_guard.proofs.Fronts.{nothing}
+use Rattle.bgp_frame.proofs.Pulls.{nothing_waits}
 use Rattle.bgp_guard.proofs.events.close.Goals as goal
 
 pub returns-in-Runs-clause-waits : goal.returns-in-Runs-clause-waits
-returns-in-Runs-clause-waits c = λ old. subst Waits (sym c.clear-2.ensures) nothing
+returns-in-Runs-clause-waits c = λ old. subst Waits (sym c.clear-2.ensures) nothing_waits
 
 pub returns-in_default-clause-waits : goal.returns-in_default-clause-waits
-returns-in_default-clause-waits c = λ old. subst Waits (sym c.clear-2.ensures) nothing
+returns-in_default-clause-waits c = λ old. subst Waits (sym c.clear-2.ensures) nothing_waits

@@ -4,12 +4,12 @@ use Rattle.bgp_frame.specs.declared.notification.Notification.{Notification}
 use Rattle.bgp_frame.specs.Frame.{Message, Waits}
 use Rattle.bgp_frame.specs.Notification.{notification_of_view}
 use Rattle.bgp_frame.specs.Step.{message_in}
-use Rattle.bgp_machine.proofs.Contents.{content_of-frame, content_of-fault}
+use Rattle.bgp_frame.proofs.Contents.{content_of-frame, content_of-fault}
+use Rattle.bgp_frame.proofs.Pulls.{nothing_waits}
 use Rattle.bgp_guard.specs.Answers.{answered, reset_by}
 use Rattle.bgp_guard.specs.Came.{CameOf, IsAnswered}
 use Rattle.bgp_guard.specs.Hearing.{heard_as, holding}
 use Rattle.bgp_guard.specs.steps.Seeing.{sight_of, sight_with}
-use Rattle.bgp_guard.proofs.Fronts.{nothing}
 use Rattle.bgp_guard.proofs.Sights.{over, no_room}
 use Rattle.bgp_guard.proofs.hearing.settle.Goals as goal
 
@@ -29,7 +29,7 @@ returns-in-Frame-clause-settled c =
     }
 
 pub returns-in-Frame-clause-waits : goal.returns-in-Frame-clause-waits
-returns-in-Frame-clause-waits c = subst Waits (sym c.clear.ensures) nothing
+returns-in-Frame-clause-waits c = subst Waits (sym c.clear.ensures) nothing_waits
 
 pub returns-in-Fault-clause-settled : goal.returns-in-Fault-clause-settled
 returns-in-Fault-clause-settled c =
@@ -50,7 +50,7 @@ returns-in-Fault-clause-settled c =
     }
 
 pub returns-in-Fault-clause-waits : goal.returns-in-Fault-clause-waits
-returns-in-Fault-clause-waits c = subst Waits (sym c.clear-in-Fault.ensures) nothing
+returns-in-Fault-clause-waits c = subst Waits (sym c.clear-in-Fault.ensures) nothing_waits
 
 pub returns-in-Fault-clause-room : goal.returns-in-Fault-clause-room
 returns-in-Fault-clause-room c =

@@ -1,5 +1,8 @@
-use Rattle.bgp_machine.proofs.Feedings.{can_be_fed}
+use Rattle.bgp_frame.specs.Hearing.{by_feed}
+use Rattle.bgp_machine.specs.Session.{hearer}
+use Rattle.bgp_machine.proofs.Cuttings.{is_hearer}
+use Rattle.bgp_frame.proofs.Hearings.{feed_is_way, can_be_heard, can_feed}
 use Rattle.bgp_machine.proofs.laws.any_pieces_can_be_fed.Goals as goal
 
 pub returns : goal.returns
-returns c = can_be_fed
+returns c = can_be_heard hearer is_hearer (by_feed hearer) (feed_is_way hearer is_hearer) (can_feed hearer is_hearer)

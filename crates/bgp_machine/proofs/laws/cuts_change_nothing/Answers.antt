@@ -1,5 +1,8 @@
-use Rattle.bgp_machine.proofs.Cuttings.{cuts_agree}
+use Rattle.bgp_frame.specs.Hearing.{by_feed}
+use Rattle.bgp_machine.specs.Session.{hearer}
+use Rattle.bgp_machine.proofs.Cuttings.{is_hearer}
+use Rattle.bgp_frame.proofs.Hearings.{feed_is_way, runs_agree}
 use Rattle.bgp_machine.proofs.laws.cuts_change_nothing.Goals as goal
 
 pub returns : goal.returns
-returns c = cuts_agree
+returns c = runs_agree hearer is_hearer (by_feed hearer) (by_feed hearer) (feed_is_way hearer is_hearer) (feed_is_way hearer is_hearer)

@@ -1,4 +1,4 @@
-use Rattle.bgp_machine.proofs.Feedings.{fresh_rests, event_rests}
+use Rattle.bgp_machine.proofs.Cuttings.{fresh_rests, event_rests}
 use Rattle.bgp_machine.proofs.laws.events_leave_nothing_to_do.Goals as goal
 
 pub returns : goal.returns

@@ -1,8 +1,12 @@
-use Rattle.bgp_machine.proofs.Runs.{looks_run, runs_agree}
+use Rattle.bgp_frame.specs.Hearing.{by_feed}
+use Rattle.bgp_machine.specs.Run.{by_look, by_pull}
+use Rattle.bgp_machine.specs.Session.{hearer}
+use Rattle.bgp_machine.proofs.Cuttings.{is_hearer, look_is_way}
+use Rattle.bgp_frame.proofs.Hearings.{feed_is_way, pull_is_way, runs_agree}
 use Rattle.bgp_machine.proofs.laws.pulls_do_as_feeds.Goals as goal
 
 pub returns : goal.returns
 returns c = record {
-  pull = runs_agree;
-  look = λ x runs pieces actions others y z rest octets same r. runs_agree x runs pieces actions others y z rest octets same (looks_run x runs actions y r);
+  pull = runs_agree hearer is_hearer by_pull (by_feed hearer) (pull_is_way hearer is_hearer) (feed_is_way hearer is_hearer);
+  look = runs_agree hearer is_hearer by_look (by_feed hearer) look_is_way (feed_is_way hearer is_hearer);
 }

@@ -1,8 +1,11 @@
-use Rattle.bgp_machine.proofs.Runs.{looks_run, runs_settle}
+use Rattle.bgp_machine.specs.Run.{by_look, by_pull}
+use Rattle.bgp_machine.specs.Session.{hearer}
+use Rattle.bgp_machine.proofs.Cuttings.{is_hearer, look_is_way}
+use Rattle.bgp_frame.proofs.Hearings.{pull_is_way, runs_settle}
 use Rattle.bgp_machine.proofs.laws.pulls_do_as_octet_by_octet.Goals as goal
 
 pub returns : goal.returns
 returns c = record {
-  pull = runs_settle;
-  look = λ x runs actions y rest octets r. runs_settle x runs actions y rest octets (looks_run x runs actions y r);
+  pull = runs_settle hearer is_hearer by_pull (pull_is_way hearer is_hearer);
+  look = runs_settle hearer is_hearer by_look look_is_way;
 }

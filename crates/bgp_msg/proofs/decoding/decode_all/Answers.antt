@@ -1,32 +1,34 @@
-use Rattle.std.proofs.Common.{◌≡◌, ℕ, List, [], take, length, Bor, refl, sym, subst, arith}
+use Rattle.std.proofs.Common.{◌≡◌, ◌+◌, ℕ, List, [], None, Some, take, length, Bor, refl, sym, subst, arith}
 use Rattle.std.specs.List.{flat_map}
 use Rattle.std.proofs.lemmas.List.{take_all}
 use Rattle.bgp_frame.specs.declared.end.End.TheVariants as end
 use Rattle.bgp_frame.specs.Stream.{Gives}
 use Rattle.bgp_frame.proofs.Pulls.{nothing_waits}
-use Rattle.bgp_msg.specs.Outcome.{judgement}
+use Rattle.bgp_msg.specs.Outcome.{stream_rules}
 use Rattle.bgp_msg.specs.Decoder.{Decoding, fresh}
-use Rattle.bgp_msg.specs.steps.Decoding.{Continues}
-use Rattle.bgp_msg.proofs.Decodings.{Outs, continues_from, octets_in, piece_goes, piece_ends, waits_at_end}
+use Rattle.bgp_msg.specs.steps.Decoding.{Decodes}
+use Rattle.bgp_msg.proofs.Decodings.{Outs, decodes_from, octets_in, one_more, ends_early, waits_at_end}
 use Rattle.bgp_msg.proofs.decoding.decode_all.Goals as goal
 
 pub pieces-init : goal.pieces-init
 pieces-init c =
     let ctx = c.args.ctx.now in
-    subst (λ (d : Decoding). Continues (fresh ctx) [] [] c.new-outs.result.items [] d) (sym c.new-decoder.ensures)
-    (subst (λ (os : Outs). Continues (fresh ctx) [] [] os [] (fresh ctx)) (sym c.new-outs.ensures.items) (continues_from (fresh ctx) [] [] refl nothing_waits))
+    subst (λ (d : Decoding). Decodes (fresh ctx) [] [] c.new-outs.result.items [] None d) (sym c.new-decoder.ensures)
+    (subst (λ (os : Outs). Decodes (fresh ctx) [] [] os [] None (fresh ctx)) (sym c.new-outs.ensures.items) (decodes_from (fresh ctx) [] [] refl nothing_waits))
 
 pub returns-in-Some : goal.returns-in-Some
 returns-in-Some c =
     let ctx = c.args.ctx.now in
-    subst (λ (os : Outs). Gives (judgement ctx) (flat_map octets_in c.args.pieces.now) os c.in-Some.end) (sym c.from_vec.ensures)
-    (piece_ends ctx c.args.pieces.now c.pieces.piece-index c.pieces.decoder c.decode_piece.new.decoder c.pieces.outs.items c.decode_piece.new.outs.items c.pieces-test.true c.pieces.invariant
-    _ c.in_ok-end.field-0 c.in-Some.end c.in-Some.is c.in_ok-end.ensures)
+    let i = c.pieces.piece-index in
+    subst (λ (os : Outs). Gives (stream_rules ctx) (flat_map octets_in c.args.pieces.now) os c.in-Some.end) (sym c.from_vec.ensures)
+    (ends_early ctx c.args.pieces.now (i + 1) c.decode_piece.new.outs.items c.decode_piece.new.decoder c.in-Some.end
+    (one_more ctx c.args.pieces.now i c.pieces.decoder c.decode_piece.new.decoder c.pieces.outs.items c.decode_piece.new.outs.items c.pieces-test.true c.pieces.invariant
+    _ c.in_ok-end.field-0 (Some c.in-Some.end) c.in-Some.is c.in_ok-end.ensures))
 
 pub pieces-preserved : goal.pieces-preserved
 pieces-preserved c =
-    piece_goes c.args.ctx.now c.args.pieces.now c.pieces.piece-index c.pieces.decoder c.decode_piece.new.decoder c.pieces.outs.items c.decode_piece.new.outs.items c.pieces-test.true c.pieces.invariant
-    _ c.in_ok-end.field-0 c.in_default.is c.in_ok-end.ensures
+    one_more c.args.ctx.now c.args.pieces.now c.pieces.piece-index c.pieces.decoder c.decode_piece.new.decoder c.pieces.outs.items c.decode_piece.new.outs.items c.pieces-test.true c.pieces.invariant
+    _ c.in_ok-end.field-0 None c.in_default.is c.in_ok-end.ensures
 
 pub returns : goal.returns
 returns c =
@@ -34,7 +36,7 @@ returns c =
     let pieces = c.args.pieces.now in
     let i = c.pieces.piece-index in
     let all : take i pieces ≡ pieces = take_all i pieces (omega (arith, c.pieces-test.false)) in
-    subst (λ (n : ℕ). Gives (judgement ctx) (flat_map octets_in pieces) c.from_vec-2.result (end.Wait n)) (sym c.held.ensures.value)
-    (subst (λ (os : Outs). Gives (judgement ctx) (flat_map octets_in pieces) os (end.Wait (length c.pieces.decoder.held))) (sym c.from_vec-2.ensures)
+    subst (λ (n : ℕ). Gives (stream_rules ctx) (flat_map octets_in pieces) c.from_vec-2.result (end.Wait n)) (sym c.held.ensures.value)
+    (subst (λ (os : Outs). Gives (stream_rules ctx) (flat_map octets_in pieces) os (end.Wait (length c.pieces.decoder.held))) (sym c.from_vec-2.ensures)
     (waits_at_end ctx (flat_map octets_in pieces) c.pieces.outs.items c.pieces.decoder
-    (subst (λ (xs : List (Bor (List ℕ))). Continues (fresh ctx) (flat_map octets_in xs) [] c.pieces.outs.items [] c.pieces.decoder) all c.pieces.invariant)))
+    (subst (λ (xs : List (Bor (List ℕ))). Decodes (fresh ctx) (flat_map octets_in xs) [] c.pieces.outs.items [] None c.pieces.decoder) all c.pieces.invariant)))

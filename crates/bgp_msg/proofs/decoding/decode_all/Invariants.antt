@@ -1,9 +1,9 @@
-use Rattle.std.proofs.Common.{take, []}
+use Rattle.std.proofs.Common.{take, [], None}
 use Rattle.std.specs.List.{flat_map}
 use Rattle.bgp_msg.specs.Decoder.{fresh}
-use Rattle.bgp_msg.specs.steps.Decoding.{Continues}
+use Rattle.bgp_msg.specs.steps.Decoding.{Decodes}
 use Rattle.bgp_msg.proofs.decoding.decode_all.Given as goal
 
 -- the stream goes on behind the pieces so far
 abbrev pub invariant-pieces : goal.invariant-pieces
-invariant-pieces l = Continues (fresh l.fn.ctx) (flat_map (λ piece. piece.now) (take l.piece-index l.pieces)) [] l.outs.items [] l.decoder
+invariant-pieces l = Decodes (fresh l.fn.ctx) (flat_map (λ piece. piece.now) (take l.piece-index l.pieces)) [] l.outs.items [] None l.decoder

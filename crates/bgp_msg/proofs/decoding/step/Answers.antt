@@ -1,7 +1,7 @@
-use Rattle.std.proofs.Common.{ℕ, Option, sym, subst}
+use Rattle.std.proofs.Common.{ℕ, drop, Option, Some, sym, subst}
 use Rattle.bgp_frame.specs.declared.end.End.{End}
 use Rattle.bgp_msg.specs.declared.outcome.Outcome.{Outcome}
-use Rattle.bgp_msg.specs.steps.Decoding.{IsTaken, Ends}
+use Rattle.bgp_msg.specs.steps.Decoding.{IsTaken, Decodes}
 use Rattle.bgp_msg.proofs.Decodings.{step_none, step_reset, step_on}
 use Rattle.bgp_msg.proofs.decoding.step.Goals as goal
 
@@ -20,10 +20,10 @@ returns-then-resets-clause-decodes c =
     let octets = c.args.octets.now in
     let n = c.in_ok-taken.taken in
     let new = c.pull_next.new.decoder in
-    subst (λ (e : End). Ends old octets c.args.outs.now.items c.push.new.self.items e) (sym c.end_behind.ensures)
+    subst (λ (e : End). Decodes old octets c.args.outs.now.items c.push.new.self.items (drop n octets) (Some e) new) (sym c.end_behind.ensures)
     (step_reset old octets n c.args.outs.now.items c.requires.going c.in-Some.len c.in-Some.outcome c.push.new.self.items new
     (subst (λ (r : Option (ℕ × Outcome)). IsTaken old octets n r new) c.in-Some.is c.in_ok-taken.ensures).next
-    (sym c.if-resets.ensures) c.in_ok-push-in-Some.ensures.items)
+    c.in_ok-push-in-Some.ensures.items (sym c.if-resets.ensures))
 
 pub returns-else-resets-clause-decodes : goal.returns-else-resets-clause-decodes
 returns-else-resets-clause-decodes c =
@@ -33,4 +33,4 @@ returns-else-resets-clause-decodes c =
     let new = c.pull_next.new.decoder in
     step_on old octets n c.args.outs.now.items c.requires.going c.in-Some.len c.in-Some.outcome c.push.new.self.items new
     (subst (λ (r : Option (ℕ × Outcome)). IsTaken old octets n r new) c.in-Some.is c.in_ok-taken.ensures).next
-    (sym c.if-resets.ensures) c.in_ok-push-in-Some.ensures.items
+    c.in_ok-push-in-Some.ensures.items (sym c.if-resets.ensures)

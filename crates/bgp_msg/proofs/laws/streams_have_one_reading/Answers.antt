@@ -1,7 +1,7 @@
 use Rattle.bgp_frame.proofs.Streams.{HasOneReading-octets}
 use Rattle.bgp_msg.specs.declared.outcome.Outcome.{Outcome}
-use Rattle.bgp_msg.specs.Outcome.{judgement}
+use Rattle.bgp_msg.specs.Outcome.{stream_rules}
 use Rattle.bgp_msg.proofs.laws.streams_have_one_reading.Goals as goal
 
 pub returns : goal.returns
-returns c = λ ctx stream octets. HasOneReading-octets Outcome (judgement ctx) stream octets
+returns c = λ ctx stream octets. HasOneReading-octets Outcome (stream_rules ctx) stream octets

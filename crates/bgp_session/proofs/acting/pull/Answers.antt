@@ -57,4 +57,4 @@ returns-in-None-2-clause-seen g c =
     (saw_more g.O.Observer.after (g.O.Observer.seen c.args.observer.now) (g.O.Observer.seen c.came.new.self) (g.O.Observer.seen c.came.new.self) c.args.side
     (pair (the_view c.this.inside) c.args.other.now c.args.notes.now) c.args.piece.now c.split_at.result.0.now c.in_ok-taken.taken c.pull.new.self c.in_ok-taken.found
     (subst (λ (e : End). IsReady e.session) (sym c.this.view_is) c.requires.ready) (λ i. omega (arith, c.type_inv.piece i)) c.in_ok-taken.ensures.ok c.split_at.ensures.front c.in_ok-came.ensures
-    c.in-None-2.is c.if-taken-eq0.false)
+    c.in-None-2.is)

@@ -1,5 +1,5 @@
 use Rattle.std.proofs.Common.{[], arith, refl, sym, ap, subst, ◌∙◌}
-use Rattle.bgp_machine.proofs.Feedings.{fresh_rests}
+use Rattle.bgp_machine.proofs.Cuttings.{fresh_rests}
 use Rattle.bgp_session.specs.steps.Playing.{Rests}
 use Rattle.bgp_session.specs.World.{World, begins, ran, all_moved}
 use Rattle.bgp_session.specs.Wire.{trace}

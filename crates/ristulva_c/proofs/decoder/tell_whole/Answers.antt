@@ -1,16 +1,16 @@
-use Rattle.std.proofs.Common.{◌≡◌, ℕ, false, None, ap, subst, ◌∙◌, refl, length}
+use Rattle.std.proofs.Common.{◌≡◌, ℕ, false, None, Ok, Err, ap, subst, ◌∙◌, refl, length}
 use Rattle.bgp_frame.specs.declared.step.Step.TheVariants as step
 use Rattle.bgp_frame.specs.Kind.{code_of}
 use Rattle.bgp_frame.specs.Frame.{Message}
 use Rattle.bgp_msg.specs.declared.outcome.Outcome.{Outcome}
 use Rattle.bgp_msg.specs.Decoder.{Decoding}
 use Rattle.bgp_msg.specs.OutcomeView.{outcome_value}
-use Rattle.ristulva_c.specs.declared.parts.Parts.{Parts}
+use Rattle.ristulva_c.specs.declared.parts.ToldParts.{ToldParts}
 use Rattle.ristulva_c.specs.declared.status.TheConstants.{OK}
 use Rattle.ristulva_c.specs.Judge.{Judging, IsTold, parts_at, said_by, verdict_told}
 use Rattle.ristulva_c.specs.Parts.{parts_told}
 use Rattle.ristulva_c.proofs.PartPlaces.{lie}
-use Rattle.ristulva_c.proofs.Pulled.{not_more, shows, out_of_message, out_of_fault, enough}
+use Rattle.ristulva_c.proofs.Pulled.{not_more, shows, outcome_of, enough}
 use Rattle.ristulva_c.proofs.decoder.tell_whole.Goals as goal
 
 pub returns-in-More : goal.returns-in-More
@@ -26,11 +26,11 @@ returns-in-Frame c ctx gives =
     let f = c.in-Frame.frame in
     let m : Message = record { kind = f.kind; body = f.body.now } in
     let whole = shows d o gives c.are_octets.ensures (step.Frame f) c.in-Frame.ensures in
-    let is = out_of_message d o gives m whole.0 in
+    let is = outcome_of d o gives (Ok m) whole.0 in
     let j : Judging = record { status = OK; before = c.args.out.now; behind = c.tell.new.out; info_before = c.args.info.now; info_behind = c.tell.new.info } in
-    let told : (x : Parts) → c.parts_at-parts.result ≡ x → IsTold (verdict_told (code_of f.kind) f.len x o) o j = λ x same. record {
+    let told : (x : ToldParts) → c.parts_at-parts.result ≡ x → IsTold (verdict_told (code_of f.kind) f.len x o) o j = λ x same. record {
       status = enough (length (said_by o).info.items) (length c.args.info.now) c.tell.ensures.short c.requires;
-      out = c.tell.ensures.out ∙ ap (λ (k : ℕ). verdict_told k f.len c.parts_at-parts.result o) c.code_of-kind.ensures ∙ ap (λ (p : Parts). verdict_told (code_of f.kind) f.len p o) same;
+      out = c.tell.ensures.out ∙ ap (λ (k : ℕ). verdict_told k f.len c.parts_at-parts.result o) c.code_of-kind.ensures ∙ ap (λ (p : ToldParts). verdict_told (code_of f.kind) f.len p o) same;
       info = c.tell.ensures.info;
     } in
     record {
@@ -50,11 +50,11 @@ returns-in-Fault c ctx gives =
     let o = outcome_value c.args.outcome.now in
     let f = c.in-Fault.field-0 in
     let whole = shows d o gives c.are_octets.ensures (step.Fault f) c.in-Fault.ensures in
-    let is = out_of_fault d o gives f whole.1 in
+    let is = outcome_of d o gives (Err f) whole in
     let j : Judging = record { status = OK; before = c.args.out.now; behind = c.tell-in-Fault.new.out; info_before = c.args.info.now; info_behind = c.tell-in-Fault.new.info } in
-    let told : (x : Parts) → c.no_parts.result ≡ x → IsTold (verdict_told 0 0 x o) o j = λ x same. record {
+    let told : (x : ToldParts) → c.no_parts.result ≡ x → IsTold (verdict_told 0 0 x o) o j = λ x same. record {
       status = enough (length (said_by o).info.items) (length c.args.info.now) c.tell-in-Fault.ensures.short c.requires;
-      out = c.tell-in-Fault.ensures.out ∙ ap (λ (p : Parts). verdict_told 0 0 p o) same;
+      out = c.tell-in-Fault.ensures.out ∙ ap (λ (p : ToldParts). verdict_told 0 0 p o) same;
       info = c.tell-in-Fault.ensures.info;
     } in
     record {

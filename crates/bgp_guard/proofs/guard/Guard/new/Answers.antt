@@ -2,7 +2,7 @@ use Rattle.std.proofs.Common.{◌≡◌, length, sym, ap, subst, arith}
 use Rattle.bgp_frame.specs.Frame.{Waits}
 use Rattle.bgp_guard.specs.Guard.{Half, absent}
 use Rattle.bgp_guard.specs.Halves.{half_of}
-use Rattle.bgp_guard.proofs.Fronts.{nothing}
+use Rattle.bgp_frame.proofs.Pulls.{nothing_waits}
 use Rattle.bgp_guard.proofs.guard.Guard.new.Goals as goal
 
 pub invariant_of-result : goal.invariant_of-result
@@ -12,6 +12,6 @@ invariant_of-result c =
       λ up. omega (arith, ap (λ (h : Half). length h.way) outer),
       (
         λ up. omega (arith, ap (λ (h : Half). length h.way) inner),
-        (subst Waits (sym (ap (λ (h : Half). h.held) outer)) nothing, subst Waits (sym (ap (λ (h : Half). h.held) inner)) nothing),
+        (subst Waits (sym (ap (λ (h : Half). h.held) outer)) nothing_waits, subst Waits (sym (ap (λ (h : Half). h.held) inner)) nothing_waits),
       ),
     )

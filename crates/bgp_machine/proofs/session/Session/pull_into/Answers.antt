@@ -1,6 +1,8 @@
-use Rattle.std.proofs.Common.{ℕ, Option, subst}
+use Rattle.std.proofs.Common.{ℕ, Option, Some, sym, subst}
 use Rattle.bgp_machine.specs.Look.{IsOwnLook}
-use Rattle.bgp_machine.specs.Next.{Going}
+use Rattle.bgp_machine.specs.Pulling.{IsFedAndStepped}
+use Rattle.bgp_machine.specs.Session.{Machine, Going}
+use Rattle.bgp_machine.proofs.Cuttings.{pulls_as_fed}
 use Rattle.bgp_machine.proofs.Looks.{fed_rests}
 use Rattle.bgp_machine.proofs.session.Session.pull_into.Goals as goal
 
@@ -9,3 +11,10 @@ returns-in_default-clause-rests c =
     let old = c.args.self.now in
     let none = subst (λ (found : Option (ℕ × Going)). IsOwnLook old c.args.piece.now found c.own_look.new.actions) c.in_default.is c.in_ok-taken.ensures.ok in
     fed_rests old c.args.piece.now c.feed.result c.feed.new.self c.feed.ensures.rests c.feed.ensures.deaf (none.0 c.feed.result c.feed.new.self c.feed.ensures.fed)
+
+pub returns-clause-as_fed : goal.returns-clause-as_fed
+returns-clause-as_fed c =
+    let old = c.args.self.now in
+    let found = subst (λ (found : Option (ℕ × Going)). IsOwnLook old c.args.piece.now found c.own_look.new.actions) c.in-Some.is c.in_ok-taken.ensures.ok in
+    subst (λ (new : Machine). IsFedAndStepped old c.args.piece.now c.in-Some.taken (Some c.own_look.new.actions) new) (sym c.go.ensures)
+    (pulls_as_fed old c.args.piece.now c.in-Some.taken (Some c.own_look.new.actions.items) _ found.0)

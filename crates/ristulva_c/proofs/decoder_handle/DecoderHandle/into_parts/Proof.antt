@@ -36,7 +36,7 @@ use Rattle.std_alloc.proofs.BoxSteps.Steps.{box_in}
 use Rattle.bgp_msg.specs.contracts.decoder.Decoder as body
 use Rattle.std.specs.contracts.alloc.Global as heap
 use Rattle.std.specs.contracts.impls.GlobalAllocator.TheImpl.{ghosts}
-use Rattle.ristulva_c.specs.contracts.handle.parts.Parts as parts
+use Rattle.ristulva_c.specs.contracts.handle.parts.BoxParts as parts
 use Rattle.ristulva_c.proofs.DecoderHandles.{E, FromHandle as From, handle_out}
 use Rattle.ristulva_c.proofs.Handles.{FromHeap, word_of, either_owned}
 use Rattle.ristulva_c.specs.contracts.decoder_handle.DecoderHandle.into_parts as F

@@ -36,7 +36,7 @@ use Rattle.std_alloc.proofs.BoxSteps.Steps.{box_in}
 use Rattle.bgp_machine.specs.contracts.session.Session as body
 use Rattle.std.specs.contracts.alloc.Global as heap
 use Rattle.std.specs.contracts.impls.GlobalAllocator.TheImpl.{ghosts}
-use Rattle.ristulva_c.specs.contracts.handle.parts.Parts as parts
+use Rattle.ristulva_c.specs.contracts.handle.parts.BoxParts as parts
 use Rattle.ristulva_c.proofs.Handles.{E, FromHandle as From, FromHeap, word_of, handle_out, either_owned}
 use Rattle.ristulva_c.specs.contracts.handle.SessionHandle.into_parts as F
 use Rattle.ristulva_c.specs.contracts.handle.SessionHandle.into_parts.Key.{name as #self}

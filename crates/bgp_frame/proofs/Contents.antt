@@ -1,4 +1,4 @@
--- What octets come to: a message, a header with a fault, or nothing yet.
+-- What octets are: a message, a header with a fault, or nothing yet.
 use Rattle.std.proofs.Common.{◌≡◌, ℕ, ◌≤◌, ◌⊎◌, List, length, drop, Some, None, Result, Ok, Err, refl, sym, ap, subst, ◌∙◌, arith, inl, inr}
 use Rattle.std.specs.Result.{result_map_both}
 use Rattle.std.proofs.lemmas.Bool.{cases_lt, le-ltb, lt-ltb}
@@ -7,7 +7,7 @@ use Rattle.bgp_frame.specs.Frame.{Message, IsFrame, wanted_by, wanted, Waits}
 use Rattle.bgp_frame.specs.Framer.{IsHeld}
 use Rattle.bgp_frame.specs.Head.{head_of}
 use Rattle.bgp_frame.proofs.FrameLemmas.{head_of-IsFrame, IsFrame-wanted, wanted_by_head, wanted-bounds, IsFrame-head_of}
-use Rattle.bgp_machine.specs.Session.{content, content_of}
+use Rattle.bgp_frame.specs.Content.{content, content_of}
 
 -- enough octets come to their content
 pub enough : (b : List ℕ) → wanted b ≤ length b → content_of b ≡ Some (content b)

@@ -1,0 +1,31 @@
+use Rattle.std.proofs.Common.{◌≡◌, ℕ, Bool, not, ◌&&◌, nat_lt, sym, ap, ◌∙◌, arith}
+use Rattle.std.proofs.lemmas.Bool.{and_left, le-ltb}
+use Rattle.bgp_wire.specs.OctetSet.{has_octet}
+use Rattle.bgp_wire.specs.declared.octet_set.OctetSet.{OctetSet}
+use Rattle.ristulva_c.proofs.Passing.{one_more, no_more}
+use Rattle.ristulva_c.proofs.rules.all_but.Goals as goal
+use Rattle.ristulva_c.proofs.rules.all_but.Goals.{then-is_other, else-is_other}
+
+pub types-init : goal.types-init
+types-init c = record {
+  there = λ kind. (λ i. c.new-others.ensures i kind) ∙ sym (and_left (nat_lt kind 0) (not (has_octet c.args.types.now kind)) (le-ltb kind 0 (omega arith)));
+  bound = omega arith;
+}
+
+pub types-preserved : goal.types-preserved
+types-preserved c =
+    let good : ℕ → Bool = λ kind. not (has_octet c.args.types.now kind) in
+    record {
+      there = elim c.if-is_other.branch [
+        | then-is_other w ↦ λ kind. ap (λ (s : OctetSet). has_octet s kind) w.others-is ∙ (λ i. w.insert.ensures i kind)
+            ∙ one_more good (has_octet c.types.others) c.types.octet (sym c.is_other.ensures ∙ w.if-is_other.true) c.types.invariant.there kind
+        | else-is_other w ↦ λ kind. ap (λ (s : OctetSet). has_octet s kind) w.others-is
+            ∙ no_more good (has_octet c.types.others) c.types.octet (sym c.is_other.ensures ∙ w.if-is_other.false) c.types.invariant.there kind
+      ];
+      bound = omega (arith, c.types-test.true);
+    }
+
+pub returns : goal.returns
+returns c =
+    let end : c.types.octet ≡ 256 = omega (arith, c.types-test.false, c.types.auto.octet-end) in
+    λ i kind. (c.types.invariant.there kind ∙ ap (λ (n : ℕ). nat_lt kind n && not (has_octet c.args.types.now kind)) end) i

@@ -1,0 +1,64 @@
+//! The sides of a guard, and what happens to one, as numbers.
+
+ghost use Rattle.std.specs.Prelude.{◌≡◌, ◌==◌};
+ghost use Rattle.bgp_guard.specs.Events.{for_side};
+ghost use Rattle.ristulva_c.specs.Guard.{side_of, event_of, rule_of};
+
+use bgp_guard::{Guard, Side};
+
+/// The peer that is guarded against.
+pub const OUTER: u32 = 0;
+
+/// The speaker that is guarded.
+pub const INNER: u32 = 1;
+
+/// The connection of a side stands.
+pub const STOOD: u32 = 1;
+
+/// A side can't be reached.
+pub const UNREACHABLE: u32 = 2;
+
+/// A side has closed its connection, or lost it.
+pub const CLOSED: u32 = 3;
+
+/// What happens to a side, but for octets.
+#[derive(Clone, Copy, PartialEq, Eq)]
+pub(crate) enum SideEvent {
+    Stood,
+    Unreachable,
+    Closed,
+}
+
+/// The side that has a number, where it is one's.
+pub(crate) fn side_of(number: u32) -> Option<Side>
+    ensures { result ≡ side_of number }
+{
+    match number {
+        OUTER => Some(Side::Outer),
+        INNER => Some(Side::Inner),
+        _ => None,
+    }
+}
+
+/// The event that has a number, where it is one's.
+pub(crate) fn event_of(number: u32) -> Option<SideEvent>
+    ensures { result ≡ event_of number }
+{
+    match number {
+        STOOD => Some(SideEvent::Stood),
+        UNREACHABLE => Some(SideEvent::Unreachable),
+        CLOSED => Some(SideEvent::Closed),
+        _ => None,
+    }
+}
+
+/// Tells a guard what happens to a side.
+pub(crate) fn happen(guard: &mut Guard, side: Side, event: SideEvent)
+    ensures { guard.new ≡ for_side (rule_of event) side guard.old }
+{
+    match event {
+        SideEvent::Stood => guard.stood(side),
+        SideEvent::Unreachable => guard.unreachable(side),
+        SideEvent::Closed => guard.closed(side),
+    }
+}

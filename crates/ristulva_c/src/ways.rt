@@ -1,0 +1,160 @@
+//! What a guard asks of its owner, and what is on the way to its sides.
+
+ghost use Rattle.std.specs.Prelude.{◌≡◌, ◌≤◌, Some, length, take};
+ghost use Rattle.ristulva_c.specs.Guard.{side_of, asks_told, GoesOn, IsAsked, IsFrontOf, ShowsWay, IsPeerTold};
+ghost use Rattle.ristulva_c.specs.Agreed.{IsKnown};
+ghost use Rattle.bgp_guard.specs.Guard.{half};
+ghost use Rattle.bgp_guard.specs.Events.{sent};
+ghost use Rattle.ristulva_c.specs.declared.status.TheConstants.{OK};
+
+use crate::agreed::{ToldPeer, peer_said};
+use crate::guard_handle::GuardHandle;
+use crate::messages::put;
+use crate::sides::side_of;
+use crate::status::{NO_SESSION, OK, RANGE, STATE};
+use bgp_guard::{Guard, Side};
+use std::alloc::Global;
+
+/// What a guard asks of its owner for a side. All but `way` are 0 or 1.
+#[repr(C)]
+#[derive(Clone, Copy)]
+pub struct Asks {
+    /// Whether octets of the side are read.
+    pub listens: u8,
+    /// Whether the side is to be closed, or no longer sought.
+    pub closes: u8,
+    /// Whether the guard has ended.
+    pub ended: u8,
+    /// How many octets are on their way to the side.
+    pub way: usize,
+}
+
+/// What a guard asks.
+fn asks_told(guard: &Guard, side: Side) -> Asks
+    ensures { result ≡ asks_told side guard.now }
+{
+    Asks {
+        listens: u8::from(guard.listens(side)),
+        closes: u8::from(guard.closes(side)),
+        ended: u8::from(guard.has_ended()),
+        way: guard.way(side).len(),
+    }
+}
+
+/// Tells what a guard asks of its owner for a side.
+#[unsafe(no_mangle)]
+pub extern "C" fn ristulva_guard_asks(
+    alloc: Global,
+    guard: &mut GuardHandle,
+    side: u32,
+    asks: &mut Asks,
+) -> u32
+    ensures kept { guard.new.value ≡ guard.old.value }
+    ensures told { IsAsked (side_of side) guard.old.value result asks.old asks.new }
+{
+    let Some(side) = side_of(side) else {
+        return RANGE;
+    };
+    let Some(body) = guard.take(alloc) else {
+        return NO_SESSION;
+    };
+    *asks = asks_told(&body, side);
+    guard.put(body);
+    OK
+}
+
+/// The first octets, as many as there is room for.
+fn front_of(octets: &[u8], room: usize) -> &[u8]
+    ensures { result.now ≡ take room octets.now }
+{
+    if octets.len() <= room {
+        return octets;
+    }
+    let (front, _) = octets.split_at(room);
+    front
+}
+
+/// Copies the first octets that are on their way to a side.
+fn show_way(guard: &Guard, side: Side, buffer: &mut [u8], len: &mut usize)
+    ensures { IsFrontOf (half side guard.now).way (record { status = OK; before = buffer.old; behind = buffer.new; len_before = len.old; len_behind = len.new }) }
+{
+    let front = front_of(guard.way(side), buffer.len());
+    *len = put(front, buffer);
+}
+
+/// Copies the first octets that are on their way to a side, as many as there is room for.
+#[unsafe(no_mangle)]
+pub extern "C" fn ristulva_guard_way(
+    alloc: Global,
+    guard: &mut GuardHandle,
+    side: u32,
+    buffer: &mut [u8],
+    len: &mut usize,
+) -> u32
+    ensures kept { guard.new.value ≡ guard.old.value }
+    ensures told { ShowsWay (side_of side) guard.old.value (record { status = result; before = buffer.old; behind = buffer.new; len_before = len.old; len_behind = len.new }) }
+{
+    let Some(side) = side_of(side) else {
+        return RANGE;
+    };
+    let Some(body) = guard.take(alloc) else {
+        return NO_SESSION;
+    };
+    show_way(&body, side, buffer, len);
+    guard.put(body);
+    OK
+}
+
+/// Tells a guard how many of the octets on their way to a side are sent.
+#[unsafe(no_mangle)]
+pub extern "C" fn ristulva_guard_sent(
+    alloc: Global,
+    guard: &mut GuardHandle,
+    side: u32,
+    count: usize,
+) -> u32
+    ensures { GoesOn (side_of side) (Some (sent count)) guard.old.value result guard.new.value }
+{
+    let Some(side) = side_of(side) else {
+        return RANGE;
+    };
+    let Some(mut body) = guard.take(alloc) else {
+        return NO_SESSION;
+    };
+    body.sent(side, count);
+    guard.put(body);
+    OK
+}
+
+/// Tells what the OPEN of a side says, once it was handed on.
+fn tell_peer(guard: &Guard, side: Side, peer: &mut ToldPeer) -> u32
+    ensures { IsKnown (half side guard.now).peer result peer.old peer.new }
+{
+    let Some(said) = guard.peer(side) else {
+        return STATE;
+    };
+    *peer = peer_said(said);
+    OK
+}
+
+/// Tells what the OPEN of a side said, once it was handed on.
+#[unsafe(no_mangle)]
+pub extern "C" fn ristulva_guard_peer(
+    alloc: Global,
+    guard: &mut GuardHandle,
+    side: u32,
+    peer: &mut ToldPeer,
+) -> u32
+    ensures kept { guard.new.value ≡ guard.old.value }
+    ensures told { IsPeerTold (side_of side) guard.old.value result peer.old peer.new }
+{
+    let Some(side) = side_of(side) else {
+        return RANGE;
+    };
+    let Some(body) = guard.take(alloc) else {
+        return NO_SESSION;
+    };
+    let status = tell_peer(&body, side, peer);
+    guard.put(body);
+    status
+}
