@@ -7,7 +7,6 @@ pub mod SegmentFronts
 pub mod NumberCounts
 pub mod SegmentSteps
 pub mod LargeSteps
-pub mod Aggregators
 pub mod Runs
 pub mod Tables
 pub mod TestRows

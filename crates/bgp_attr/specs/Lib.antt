@@ -18,6 +18,7 @@ pub mod LargeIter
 pub mod CommunitiesView
 pub mod MpView
 pub mod AttrView
+pub mod Ruling
 pub mod FoundAttr
 pub mod JudgedView
 pub mod Length

@@ -2,6 +2,7 @@ pub mod SmallLemmas
 pub mod Options
 pub mod AttrSlots
 pub mod KeptViews
+pub mod Placed
 pub mod Summaries
 pub mod Runs
 pub mod PartLengths

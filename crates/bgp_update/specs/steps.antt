@@ -6,3 +6,4 @@ pub mod Measured
 pub mod ToldSlot
 pub mod Layout
 pub mod Progress
+pub mod RoutesView

@@ -35,6 +35,7 @@ mod read;
 mod reconciliation;
 mod refusal;
 mod routes;
+mod routes_view;
 mod slot;
 mod slot_iter;
 mod summary;
