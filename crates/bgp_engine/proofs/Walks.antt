@@ -186,9 +186,6 @@ module _ {Outcome : Type 0} where
   pub open_reports : (w : Walking Outcome) (later : List ℕ) (r : Report) → w.ended ≡ None → IsReport w.rules w.place w.tally (w.held ++ later) r → reports_of w later r
   open_reports w later r e q = subst (λ (x : Option End). reports_by x w.rules w.place w.tally (w.held ++ later) r) (sym e) q
 
-  pub reports_open : (w : Walking Outcome) (later : List ℕ) (r : Report) → w.ended ≡ None → reports_of w later r → IsReport w.rules w.place w.tally (w.held ++ later) r
-  reports_open w later r e q = subst (λ (x : Option End). reports_by x w.rules w.place w.tally (w.held ++ later) r) e q
-
   -- nothing was taken
   pub Moves-none : (w : Walking Outcome) (told octets : List ℕ) → IsGoing w → Moves w w told told octets octets
   Moves-none w told octets g = record {
