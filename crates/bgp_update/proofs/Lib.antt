@@ -35,3 +35,4 @@ pub mod ToldPaths
 pub mod ToldAttributes
 pub mod Layouts
 pub mod Withdrawals
+pub mod Verdicts
