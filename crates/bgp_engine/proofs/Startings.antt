@@ -2,7 +2,7 @@
 use Rattle.std.proofs.Common.{◌≡◌, ℕ, ◌+◌, Bool, true, false, Bor, List, [], ◌++◌, length, take, drop, Option, option_map, Some, None, Result, Ok, Err, refl, sym, ap, subst, ◌∙◌, append_assoc, arith, inl, inr}
 use Rattle.std.specs.Prelude.{is_some, if◌then◌else◌, OnErr}
 use Rattle.std.specs.Option.{unwrap_or}
-use Rattle.std.proofs.lemmas.List.{append-nil, length-append, take-append-drop, take_all}
+use Rattle.std.proofs.lemmas.List.{append-nil, length-append, take_all}
 use Rattle.bgp_wire.specs.Octets.{AreOctets}
 use Rattle.bgp_wire.proofs.OctetLemmas.{AreOctets-nil, AreOctets-drop}
 use Rattle.bgp_frame.specs.declared.end.End.{End}
@@ -36,7 +36,8 @@ use Rattle.bgp_engine.specs.steps.Pages.{Plan}
 use Rattle.bgp_engine.specs.steps.Starting.{SettlesOn, start_of, starts_of, GoesOn, IsFresh, Settles, reports_in, starting}
 use Rattle.bgp_engine.specs.steps.Walking.{Walking, IsCounting, IsGoing, ended_by, place_behind, reports_of, walking}
 use Rattle.bgp_engine.proofs.FirstOpens.{waits_part, frame_first, frame_whole, fault_whole, fault_first}
-use Rattle.bgp_engine.proofs.Walks.{drop-front, messages_in-bound, report_wait, some_report}
+use Rattle.bgp_engine.proofs.Walks.{fed_whole, messages_in-bound, report_wait, some_report}
+use Rattle.std.proofs.Math.Seq.{drop-append_seam}
 
 -- ---- one taking behind another
 
@@ -73,14 +74,6 @@ all_fed held octets n t waits =
       | inl all ↦ take_all n octets (omega (arith, all))
       | inr stops ↦ let w = Stops-wanted (held ++ take n octets) stops in absurd (omega (arith, w.1))
     ]
-
-pub fed_whole : (held octets : List ℕ) (n : ℕ) (later : List ℕ) → (held ++ take n octets) ++ (drop n octets ++ later) ≡ held ++ (octets ++ later)
-fed_whole held octets n later =
-    append_assoc held (take n octets) (drop n octets ++ later) ∙ ap (λ (x : List ℕ). held ++ x) (sym (append_assoc (take n octets) (drop n octets) later))
-    ∙ ap (λ (x : List ℕ). held ++ (x ++ later)) (take-append-drop n octets)
-
-drop_front : (a b : List ℕ) → drop (length a) (a ++ b) ≡ b
-drop_front a b = ap (λ (n : ℕ). drop n (a ++ b)) (let same : length a ≡ length a + 0 = omega arith in same) ∙ drop-front a b 0
 
 pub no_end : (o : Option End) → is_some o ≡ false → o ≡ None
 no_end None is = refl
@@ -126,7 +119,7 @@ module _ {Outcome : Type 0} (starts : Starts Outcome) where
         (record {
           report = r;
           rest = subst (λ (n : ℕ). IsReport rules n (counted no_tally n class.Took) (drop n (held ++ later)) r) (ap length f.octets)
-              (subst (λ (x : List ℕ). IsReport rules (length held) (counted no_tally (length held) class.Took) x r) (sym (drop_front held later)) q);
+              (subst (λ (x : List ℕ). IsReport rules (length held) (counted no_tally (length held) class.Took) x r) (sym (drop-append_seam held later)) q);
           told = refl;
         })
 
