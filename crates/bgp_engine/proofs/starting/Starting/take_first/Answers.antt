@@ -36,8 +36,7 @@ returns-in-First-clause-takes g c =
     let b = c.begin.new.self in
     let n = c.feed-taken.result in
     let octets = c.args.octets.now in
-    let settled = subst (λ (x : List ℕ). Settles stage.First from_a x (g.P.Page.told a.page) (g.P.Page.told b.page) (walk_of g.P.Page.rules b)) c.feed-taken.ensures.appends
-    (subst (λ (s : Stage). Settles s from_a c.feed-taken.new.self (g.P.Page.told a.page) (g.P.Page.told b.page) (walk_of g.P.Page.rules b)) c.in-First.is c.in_ok-self.ensures.settles) in
+    let settled = rw (c.in-First.is, c.feed-taken.ensures.appends) at c.in_ok-self.ensures.settles in
     let same = ap (λ w. starts_of g.P.Page.fits g.P.Page.rules g.P.Page.plan (option_map (λ t. t.now) self.theirs) w.page) (c.in_ok-self.ensures.first c.in-First.is) in
     rw (c.requires.stage, c.in-First.is, same) (takes_part from_a (walk_of g.P.Page.rules a) (walk_of g.P.Page.rules b) octets n (g.P.Page.told a.page) (g.P.Page.told b.page) c.feed-taken.ensures.takes settled)
 
@@ -50,8 +49,7 @@ returns-in-Unagreed-clause-takes g c =
     let from_b = starts_of g.P.Page.fits g.P.Page.rules g.P.Page.plan (option_map (λ t. t.now) self.theirs) b.page in
     let n = c.feed-taken.result in
     let octets = c.args.octets.now in
-    let settled = subst (λ (x : List ℕ). Settles stage.Unagreed from_a x (g.P.Page.told a.page) (g.P.Page.told b.page) (walk_of g.P.Page.rules b)) c.feed-taken.ensures.appends
-    (subst (λ (s : Stage). Settles s from_a c.feed-taken.new.self (g.P.Page.told a.page) (g.P.Page.told b.page) (walk_of g.P.Page.rules b)) c.in-Unagreed.is c.in_ok-self.ensures.settles) in
+    let settled = rw (c.in-Unagreed.is, c.feed-taken.ensures.appends) at c.in_ok-self.ensures.settles in
     rw (c.requires.stage, c.in-Unagreed.is) (takes_unagreed from_a (walk_of g.P.Page.rules a) (walk_of g.P.Page.rules b) octets n (g.P.Page.told a.page) (g.P.Page.told b.page) settled from_b)
 
 pub returns-in-Agreed-clause-takes : goal.returns-in-Agreed-clause-takes
@@ -64,12 +62,11 @@ returns-in-Agreed-clause-takes g c =
     let from_d = starts_of g.P.Page.fits g.P.Page.rules g.P.Page.plan (option_map (λ t. t.now) self.theirs) d.page in
     let n = c.feed-taken.result in
     let octets = c.args.octets.now in
-    let settled = subst (λ (x : List ℕ). Settles stage.Agreed from_a x (g.P.Page.told a.page) (g.P.Page.told b.page) (walk_of g.P.Page.rules b)) c.feed-taken.ensures.appends
-    (subst (λ (s : Stage). Settles s from_a c.feed-taken.new.self (g.P.Page.told a.page) (g.P.Page.told b.page) (walk_of g.P.Page.rules b)) c.in-Agreed.is c.in_ok-self.ensures.settles) in
+    let settled = rw (c.in-Agreed.is, c.feed-taken.ensures.appends) at c.in_ok-self.ensures.settles in
     rw (c.requires.stage, c.walk_on.ensures.same, c.in-Agreed.is)
     (IfOk-weaker c.walk_on.result _ _
     (λ over p. takes_agreed from_a (walk_of g.P.Page.rules a) (walk_of g.P.Page.rules b) octets n (g.P.Page.told a.page) (g.P.Page.told b.page) from_d (walk_of g.P.Page.rules d) (g.P.Page.told d.page) over settled
-    (subst (λ (x : List ℕ). Takes (reports_of (walk_of g.P.Page.rules b)) (reports_of (walk_of g.P.Page.rules d)) (IsGoing (walk_of g.P.Page.rules d)) (g.P.Page.told b.page) (g.P.Page.told d.page) x over) c.split_at.ensures.back p))
+    (rw c.split_at.ensures.back at p))
     c.walk_on.ensures.takes)
 
 pub returns-in-Agreed-clause-memory : goal.returns-in-Agreed-clause-memory
