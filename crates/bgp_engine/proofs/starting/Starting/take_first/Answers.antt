@@ -1,22 +1,18 @@
-use Rattle.std.proofs.Common.{◌≡◌, ◌++◌, ℕ, List, option_map, arith, ap, length, subst, take}
+use Rattle.std.proofs.Common.{◌≡◌, ◌++◌, option_map, arith, ap, length, take}
 use Rattle.std.proofs.lemmas.List.{length-append, length-drop, length-take}
 use Rattle.std.proofs.lemmas.Result.{IfOk-weaker, err_from_is_err_and}
 use Rattle.bgp_wire.proofs.OctetLemmas.{AreOctets-append}
-use Rattle.bgp_engine.specs.declared.opening.Stage.{Stage}
-use Rattle.bgp_engine.specs.declared.opening.Stage.TheVariants as stage
-use Rattle.bgp_engine.specs.steps.Engine.{IsTotal, Takes}
-use Rattle.bgp_engine.specs.steps.Starting.{Settles, reports_in, starting, starts_of}
-use Rattle.bgp_engine.specs.steps.Walking.{IsGoing, reports_of, walk_of}
+use Rattle.bgp_engine.specs.steps.Starting.{starts_of}
+use Rattle.bgp_engine.specs.steps.Walking.{walk_of}
 use Rattle.bgp_engine.proofs.Startings.{on_err, takes_agreed, takes_part, takes_unagreed, total}
 use Rattle.bgp_engine.proofs.starting.Starting.take_first.Goals as goal
 
 pub returns-in_err-self-clause-memory : goal.returns-in_err-self-clause-memory
 returns-in_err-self-clause-memory g c =
-    let self = c.args.self.now in
-    let w = self.walk in
-    let from_w = starts_of g.P.Page.fits g.P.Page.rules g.P.Page.plan (option_map (λ t. t.now) self.theirs) w.page in
+    let w = c.args.self.now.walk in
+    let from = starts_of g.P.Page.fits g.P.Page.rules g.P.Page.plan (option_map (λ t. t.now) c.args.self.now.theirs) in
     let p = err_from_is_err_and c.from_residual.result c.from_residual.ensures.1 in
-    rw (p.1, c.requires.stage) (λ later octets. total from_w (w.framer ++ later) (AreOctets-append w.framer later c.requires.first.counting.octets octets))
+    rw (p.1, c.requires.stage) (λ later octets. total (from w.page) (w.framer ++ later) (AreOctets-append w.framer later c.requires.first.counting.octets octets))
 
 pub walk_on-requires-clause-room : goal.walk_on-requires-clause-room
 walk_on-requires-clause-room g c =
@@ -30,50 +26,27 @@ walk_on-requires-clause-room g c =
 
 pub returns-in-First-clause-takes : goal.returns-in-First-clause-takes
 returns-in-First-clause-takes g c =
-    let self = c.args.self.now in
-    let a = self.walk in
-    let from_a = starts_of g.P.Page.fits g.P.Page.rules g.P.Page.plan (option_map (λ t. t.now) self.theirs) a.page in
-    let b = c.begin.new.self in
-    let n = c.feed-taken.result in
-    let octets = c.args.octets.now in
-    let settled = rw (c.in-First.is, c.feed-taken.ensures.appends) at c.in_ok-self.ensures.settles in
-    let same = ap (λ w. starts_of g.P.Page.fits g.P.Page.rules g.P.Page.plan (option_map (λ t. t.now) self.theirs) w.page) (c.in_ok-self.ensures.first c.in-First.is) in
-    rw (c.requires.stage, c.in-First.is, same) (takes_part from_a (walk_of g.P.Page.rules a) (walk_of g.P.Page.rules b) octets n (g.P.Page.told a.page) (g.P.Page.told b.page) c.feed-taken.ensures.takes settled)
+    let from = starts_of g.P.Page.fits g.P.Page.rules g.P.Page.plan (option_map (λ t. t.now) c.args.self.now.theirs) in
+    let same = ap (λ w. from w.page) (c.in_ok-self.ensures.first c.in-First.is) in
+    rw (c.requires.stage, c.in-First.is, same)
+    (takes_part _ (walk_of g.P.Page.rules c.args.self.now.walk) (walk_of g.P.Page.rules c.begin.new.self) c.args.octets.now _ _ _ c.feed-taken.ensures.takes (rw (c.in-First.is, c.feed-taken.ensures.appends) at c.in_ok-self.ensures.settles))
 
 pub returns-in-Unagreed-clause-takes : goal.returns-in-Unagreed-clause-takes
 returns-in-Unagreed-clause-takes g c =
-    let self = c.args.self.now in
-    let a = self.walk in
-    let from_a = starts_of g.P.Page.fits g.P.Page.rules g.P.Page.plan (option_map (λ t. t.now) self.theirs) a.page in
-    let b = c.begin.new.self in
-    let from_b = starts_of g.P.Page.fits g.P.Page.rules g.P.Page.plan (option_map (λ t. t.now) self.theirs) b.page in
-    let n = c.feed-taken.result in
-    let octets = c.args.octets.now in
-    let settled = rw (c.in-Unagreed.is, c.feed-taken.ensures.appends) at c.in_ok-self.ensures.settles in
-    rw (c.requires.stage, c.in-Unagreed.is) (takes_unagreed from_a (walk_of g.P.Page.rules a) (walk_of g.P.Page.rules b) octets n (g.P.Page.told a.page) (g.P.Page.told b.page) settled from_b)
+    let from = starts_of g.P.Page.fits g.P.Page.rules g.P.Page.plan (option_map (λ t. t.now) c.args.self.now.theirs) in
+    rw (c.requires.stage, c.in-Unagreed.is)
+    (takes_unagreed _ (walk_of g.P.Page.rules c.args.self.now.walk) (walk_of g.P.Page.rules c.begin.new.self) c.args.octets.now _ _ _ (rw (c.in-Unagreed.is, c.feed-taken.ensures.appends) at c.in_ok-self.ensures.settles) (from c.begin.new.self.page))
 
 pub returns-in-Agreed-clause-takes : goal.returns-in-Agreed-clause-takes
 returns-in-Agreed-clause-takes g c =
-    let self = c.args.self.now in
-    let a = self.walk in
-    let from_a = starts_of g.P.Page.fits g.P.Page.rules g.P.Page.plan (option_map (λ t. t.now) self.theirs) a.page in
-    let b = c.begin.new.self in
-    let d = c.walk_on.new.self.walk in
-    let from_d = starts_of g.P.Page.fits g.P.Page.rules g.P.Page.plan (option_map (λ t. t.now) self.theirs) d.page in
-    let n = c.feed-taken.result in
-    let octets = c.args.octets.now in
-    let settled = rw (c.in-Agreed.is, c.feed-taken.ensures.appends) at c.in_ok-self.ensures.settles in
+    let from = starts_of g.P.Page.fits g.P.Page.rules g.P.Page.plan (option_map (λ t. t.now) c.args.self.now.theirs) in
     rw (c.requires.stage, c.walk_on.ensures.same, c.in-Agreed.is)
     (IfOk-weaker c.walk_on.result _ _
-    (λ over p. takes_agreed from_a (walk_of g.P.Page.rules a) (walk_of g.P.Page.rules b) octets n (g.P.Page.told a.page) (g.P.Page.told b.page) from_d (walk_of g.P.Page.rules d) (g.P.Page.told d.page) over settled
-    (rw c.split_at.ensures.back at p))
-    c.walk_on.ensures.takes)
+    (λ over p. takes_agreed _ (walk_of g.P.Page.rules c.args.self.now.walk) (walk_of g.P.Page.rules c.begin.new.self) c.args.octets.now _ _ _ (from c.walk_on.new.self.walk.page) (walk_of g.P.Page.rules c.walk_on.new.self.walk) _ over (rw (c.in-Agreed.is, c.feed-taken.ensures.appends) at c.in_ok-self.ensures.settles)
+    (rw c.split_at.ensures.back at p)) c.walk_on.ensures.takes)
 
 pub returns-in-Agreed-clause-memory : goal.returns-in-Agreed-clause-memory
 returns-in-Agreed-clause-memory g c =
-    let self = c.args.self.now in
-    let w = self.walk in
-    let from_w = starts_of g.P.Page.fits g.P.Page.rules g.P.Page.plan (option_map (λ t. t.now) self.theirs) w.page in
-    rw c.requires.stage
-    (on_err c.walk_on.result (IsTotal (reports_in (starting from_w stage.First (walk_of g.P.Page.rules w))))
-    (λ later octets. total from_w (w.framer ++ later) (AreOctets-append w.framer later c.requires.first.counting.octets octets)))
+    let w = c.args.self.now.walk in
+    let from = starts_of g.P.Page.fits g.P.Page.rules g.P.Page.plan (option_map (λ t. t.now) c.args.self.now.theirs) in
+    rw c.requires.stage (on_err c.walk_on.result _ (λ later octets. total (from w.page) (w.framer ++ later) (AreOctets-append w.framer later c.requires.first.counting.octets octets)))
