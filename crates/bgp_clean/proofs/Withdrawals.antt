@@ -1,6 +1,5 @@
 -- The UPDATE that withdraws a message's routes: it can be written where the message was read, in no more octets, and says something.
 use Rattle.std.proofs.Common.{◌≡◌, ℕ, ◌+◌, ◌≤◌, Bool, true, false, not, cond, eqb, ltb, List, [], ◌∷◌, ◌++◌, length, Option, Some, None, refl, sym, ap, subst, ◌∙◌, arith}
-use Rattle.std.specs.Int.{w16, to_be_bytes}
 use Rattle.std.specs.List.{flat_map, list_any, AllByRecursion}
 use Rattle.std.specs.Option.{option_or}
 use Rattle.std.proofs.lemmas.Bool.{both_ways, false≢true, eqb-true, and_parts, and_right, or_from, not_from_true}
@@ -8,7 +7,6 @@ use Rattle.std.proofs.lemmas.List.{append-nil, length-append}
 use Rattle.std.proofs.lemmas.List.Concat.{flat_map-append}
 use Rattle.bgp_wire.specs.Octets.{AreOctets}
 use Rattle.bgp_wire.specs.Row.{Row}
-use Rattle.bgp_wire.proofs.OctetLemmas.{AreOctets-front, AreOctets-back}
 use Rattle.bgp_open.specs.declared.context.Context.{Context}
 use Rattle.bgp_prefix.specs.Prefix.{PrefixValue, IsValid, IsPrefix, spelling_of}
 use Rattle.bgp_prefix.specs.Run.{run_of}
@@ -39,7 +37,7 @@ use Rattle.bgp_update.specs.Slots.{present, attr_list}
 use Rattle.bgp_update.specs.Taken.{kept_of, attrs_of}
 use Rattle.bgp_update.specs.Verdict.{first_reset, reset_of_run, reset_of, verdict_of}
 use Rattle.bgp_update.specs.Written.{attributes_octets, written_body, is_of_other_family, HasUpdateRanges}
-use Rattle.bgp_update.proofs.Bodies.{parts-body, length-body}
+use Rattle.bgp_update.proofs.Bodies.{length-body}
 use Rattle.bgp_update.proofs.KeptMarks.{or-parts}
 use Rattle.bgp_update.proofs.Lists.{all-append}
 use Rattle.bgp_update.proofs.Taken.{run-row, row-some}
@@ -47,7 +45,7 @@ use Rattle.bgp_update.proofs.Validity.{IsAccepted, accepted-valid}
 use Rattle.bgp_clean.specs.Updates.{unreach_of, withdrawal, is_bare, says_nothing}
 use Rattle.bgp_clean.proofs.Ends.{unreach_attrs, unreach-list}
 use Rattle.bgp_clean.proofs.HeldAttributes.{AreHeld, are-held, reach_attr, unreach_attr, reach-all, unreach-all, both-within}
-use Rattle.bgp_clean.proofs.Verdicts.{IsWithdrawnOf, withdrawn-of}
+use Rattle.bgp_update.proofs.Verdicts.{has-parts, withdrawn-of}
 
 -- an attribute that withdraws IPv6 routes, where there are some
 abbrev gone_attr : List PrefixValue → List Attr
@@ -277,17 +275,10 @@ module _ (ctx : Context) (p : Parts) (octets_w : AreOctets p.withdrawn) (octets_
   is-withdrawal : (body : List ℕ) → IsBody p body → IsWithdrawal (routes_of p (marks_of ctx p)) body
   is-withdrawal body s = (record { valid = accepted-valid ctx said accepted; ranges = ranges; no_longer = no-longer body s }, says-by (says_nothing said) refl)
 
-module _ (ctx : Context) (body : List ℕ) (octets : AreOctets body) (routes : Routes) (notes : List Note) (e : verdict_of ctx body ≡ verdict.Withdraw routes notes) where
-  is : IsWithdrawnOf ctx body routes
-  is = withdrawn-of ctx body routes notes e
-
-  pub withdrawal-written : CanBeWritten ctx (withdrawal routes) body × (says_nothing (withdrawal routes) ≡ false)
-  withdrawal-written =
-      let p : Parts = is.parts in
-      let s = parts-body body p octets is.found in
-      let behind_w : AreOctets (p.withdrawn ++ (to_be_bytes w16 (length p.attributes) ++ (p.attributes ++ p.nlri))) =
-      AreOctets-back (to_be_bytes w16 (length p.withdrawn)) _ (subst AreOctets s.octets octets) in
-      let behind_a : AreOctets (p.attributes ++ p.nlri) = AreOctets-back (to_be_bytes w16 (length p.attributes)) _ (AreOctets-back p.withdrawn _ behind_w) in
-      subst (λ (r : Routes). CanBeWritten ctx (withdrawal r) body × (says_nothing (withdrawal r) ≡ false)) is.routes_are
-      (is-withdrawal ctx p (AreOctets-front p.withdrawn _ behind_w) (AreOctets-front p.attributes p.nlri behind_a) (AreOctets-back p.attributes p.nlri behind_a)
-      is.no_reset is.reachable body s)
+pub withdrawal-written : (ctx : Context) (body : List ℕ) → AreOctets body → (routes : Routes) (notes : List Note) → verdict_of ctx body ≡ verdict.Withdraw routes notes
+    → CanBeWritten ctx (withdrawal routes) body × (says_nothing (withdrawal routes) ≡ false)
+withdrawal-written ctx body octets routes notes e =
+    let is = withdrawn-of ctx body routes notes e in
+    let p = has-parts body is.parts octets is.found in
+    subst (λ (r : Routes). CanBeWritten ctx (withdrawal r) body × (says_nothing (withdrawal r) ≡ false)) is.routes_are
+    (is-withdrawal ctx is.parts p.withdrawn p.attributes p.nlri is.no_reset is.reachable body p.is_body)

@@ -36,3 +36,4 @@ pub mod ToldPaths
 pub mod ToldAttributes
 pub mod Layouts
 pub mod Withdrawals
+pub mod Verdicts
