@@ -20,7 +20,6 @@ pub mod MpView
 pub mod AttrView
 pub mod FoundAttr
 pub mod JudgedView
-pub mod Length
 pub mod Laws
 pub mod AttrRef
 pub mod Headed
