@@ -17,7 +17,6 @@ pub mod SegmentRows
 pub mod ReadBack
 pub mod RouteRows
 pub mod Kept
-pub mod Lengths
 pub mod Rewriting
 pub mod WrittenOctets
 pub mod Writes

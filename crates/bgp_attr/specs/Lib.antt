@@ -21,7 +21,6 @@ pub mod AttrView
 pub mod Ruling
 pub mod FoundAttr
 pub mod JudgedView
-pub mod Length
 pub mod Laws
 pub mod AttrRef
 pub mod Headed

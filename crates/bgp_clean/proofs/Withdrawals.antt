@@ -18,11 +18,9 @@ use Rattle.bgp_attr.specs.declared.mp.MpReach.TheVariants as reach
 use Rattle.bgp_attr.specs.declared.mp.MpUnreach.{MpUnreach}
 use Rattle.bgp_attr.specs.declared.mp.MpUnreach.TheVariants as unreach
 use Rattle.bgp_attr.specs.Spelling.{link_octets}
-use Rattle.bgp_attr.specs.Length.{value_len}
-use Rattle.bgp_attr.specs.Written.{canonical, run_octets, is_too_wide, is_as4, is_empty, has_as_zero, stands_twice, Belongs, HasRanges}
+use Rattle.bgp_attr.specs.Written.{canonical, run_octets, is_too_wide, is_as4, is_empty, has_as_zero, stands_twice, Belongs, HasRanges, value_octets}
 use Rattle.bgp_numbers.specs.declared.afi.TheConstants.{IPV4, IPV6}
-use Rattle.bgp_attr.proofs.CanonicalLength.{length-canonical}
-use Rattle.bgp_attr.proofs.Lengths.{reach_added}
+use Rattle.bgp_attr.proofs.CanonicalLength.{length-canonical, reach_added}
 use Rattle.bgp_attr.proofs.RouteRows.{prefixes-valid}
 use Rattle.bgp_update.specs.declared.attrs.Attrs.{Attrs}
 use Rattle.bgp_update.specs.declared.note.Note.{Note}
@@ -75,9 +73,9 @@ module _ (ctx : Context) where
   size xs = length (flat_map (canonical ctx) xs)
 
   -- a value behind three octets or four
-  size-one : (x : Attr) → (3 + value_len ctx x ≤ size (x ∷ [])) × (size (x ∷ []) ≤ 4 + value_len ctx x)
+  size-one : (x : Attr) → (3 + length (value_octets ctx x) ≤ size (x ∷ [])) × (size (x ∷ []) ≤ 4 + length (value_octets ctx x))
   size-one x =
-      let bounds = head-bounds (ltb 255 (value_len ctx x)) in
+      let bounds = head-bounds (ltb 255 (length (value_octets ctx x))) in
       let one : size (x ∷ []) ≡ length (canonical ctx x) = ap length (append-nil (canonical ctx x)) in
       (omega (arith, bounds.0, one, length-canonical ctx x), omega (arith, bounds.1, one, length-canonical ctx x))
 

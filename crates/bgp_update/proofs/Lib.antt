@@ -30,7 +30,6 @@ pub mod TakenSlots
 pub mod Taken
 pub mod SlotSteps
 pub mod FailedSteps
-pub mod Measures
 pub mod PathItems
 pub mod ToldPaths
 pub mod ToldAttributes

@@ -14,9 +14,8 @@ use Rattle.bgp_attr.specs.declared.mp.MpReach.{MpReach}
 use Rattle.bgp_attr.specs.declared.mp.MpReach.TheVariants as reach
 use Rattle.bgp_attr.specs.declared.mp.MpUnreach.{MpUnreach}
 use Rattle.bgp_attr.specs.declared.mp.MpUnreach.TheVariants as unreach
-use Rattle.bgp_attr.specs.Length.{value_len}
 use Rattle.bgp_attr.specs.Spelling.{link_octets}
-use Rattle.bgp_attr.specs.Written.{canonical, run_octets}
+use Rattle.bgp_attr.specs.Written.{canonical, run_octets, value_octets}
 use Rattle.bgp_attr.proofs.CanonicalLength.{length-canonical}
 use Rattle.bgp_update.specs.declared.attrs.Attrs.{Attrs}
 use Rattle.bgp_update.specs.declared.note.Note.{Note}
@@ -67,11 +66,11 @@ one-or-two true = (omega arith, omega arith)
 one-or-two false = (omega arith, omega arith)
 
 module _ (ctx : Context) (x : Attr) where
-  at-least : 3 + value_len ctx x ≤ length (canonical ctx x)
-  at-least = omega (arith, length-canonical ctx x, (one-or-two (ltb 255 (value_len ctx x))).0)
+  at-least : 3 + length (value_octets ctx x) ≤ length (canonical ctx x)
+  at-least = omega (arith, length-canonical ctx x, (one-or-two (ltb 255 (length (value_octets ctx x)))).0)
 
-  at-most : length (canonical ctx x) ≤ 4 + value_len ctx x
-  at-most = omega (arith, length-canonical ctx x, (one-or-two (ltb 255 (value_len ctx x))).1)
+  at-most : length (canonical ctx x) ≤ 4 + length (value_octets ctx x)
+  at-most = omega (arith, length-canonical ctx x, (one-or-two (ltb 255 (length (value_octets ctx x)))).1)
 
   alone : size ctx (x ∷ []) ≡ length (canonical ctx x)
   alone = omega (arith, length-append (canonical ctx x) [])

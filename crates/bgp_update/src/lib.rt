@@ -21,7 +21,6 @@ pub mod laws;
 mod laying;
 mod malformed;
 mod mark;
-mod measure;
 mod missing;
 mod narrow_writing;
 mod note;
