@@ -1,6 +1,6 @@
 //! Writing an UPDATE.
 
-ghost use Rattle.std.specs.Prelude.{◌≡◌, ◌<◌, ◌≤◌, ◌+◌, ◌++◌, ◌↔◌, [], false, None, Some, length, IsTrue, IsErrOf, IfOk, OnOk, OnErr};
+ghost use Rattle.std.specs.Prelude.{◌≡◌, ◌<◌, ◌≤◌, ◌+◌, ◌++◌, ◌↔◌, [], false, true, None, Some, length, IsTrue, IsErrOf, IfOk, OnOk, OnErr};
 ghost use Rattle.std.specs.List.{AllByRecursion};
 ghost use Rattle.bgp_wire.specs.steps.Output.{Extends};
 ghost use Rattle.bgp_attr.specs.Written.{is_empty};
@@ -19,7 +19,7 @@ use crate::refusal::first_reason;
 use crate::update::Update;
 use bgp_open::Context;
 use bgp_prefix::write_run;
-use bgp_wire::{Counter, Output};
+use bgp_wire::{Counter, Output, Page};
 use std::alloc::AllocError;
 
 /// Why a message isn't written: the first of these that holds.
@@ -93,6 +93,47 @@ fn append_body(ctx: &Context, update: &Update, out: &mut Vec<u8>) -> Result<(), 
     }
 }
 
+/// What most bodies fit in: they are written there, and copied from there. Others are measured first.
+const SHORT_BODY: usize = 1024;
+
+/// Appends the body of an UPDATE where it is short: else nothing is appended, and the answer is no.
+fn append_short(ctx: &Context, update: &Update, out: &mut Vec<u8>) -> Result<bool, AllocError>
+    requires { AllByRecursion (λ a. is_empty a ≡ false) (attr_list update.now.attrs) }
+    ensures short { IfOk result (λ short. short ≡ true → (length (written_body ctx.now update.now) ≤ 4077) × (out.new.items ≡ out.old.items ++ written_body ctx.now update.now) × HasPartRanges update.now) }
+    ensures long { IfOk result (λ short. short ≡ false → out.new.items ≡ out.old.items) }
+    ensures lacks { OnErr result (length (written_body ctx.now update.now) ≤ 4077) }
+    ensures err { OnErr result (out.new.items ≡ out.old.items) }
+{
+    let mut page: Page<SHORT_BODY> = Page::new();
+    let Ok(places) = put_parts(ctx, update, &mut page) else {
+        return Ok(false);
+    };
+    // At most as many octets as it has room for are there.
+    let _ = page.as_slice();
+    set_lengths(0, places, &mut page);
+    out.extend_from_slice(page.as_slice())?;
+    Ok(true)
+}
+
+/// Appends the body of an UPDATE that is valid, where it fits.
+fn append_valid(ctx: &Context, update: &Update, out: &mut Vec<u8>) -> Result<(), WriteFault>
+    requires { AllByRecursion (λ a. is_empty a ≡ false) (attr_list update.now.attrs) }
+    ensures valid { (why : Invalid) → IsErrOf result (NotValid why) → ⊥ }
+    ensures too_long { IsErrOf result TooLong ↔ IsTrue (is_too_long ctx.now update.now) }
+    ensures ok { OnOk result (out.new.items ≡ out.old.items ++ written_body ctx.now update.now) }
+    ensures fits { OnOk result ((is_too_long ctx.now update.now ≡ false) × HasPartRanges update.now) }
+    ensures err { OnErr result (out.new.items ≡ out.old.items) }
+{
+    if append_short(ctx, update, out)? {
+        return Ok(());
+    }
+    if is_too_long(ctx, update) {
+        return Err(WriteFault::TooLong);
+    }
+    append_body(ctx, update, out)?;
+    Ok(())
+}
+
 /// Appends the body of an UPDATE in its one written form (RFC 4271, section 4.3): the shortest lengths, MP_REACH_NLRI and
 /// MP_UNREACH_NLRI first (RFC 7606, section 5.1), all other attributes rising in type.
 ///
@@ -112,9 +153,5 @@ pub fn write_update(ctx: &Context, update: &Update, out: &mut Vec<u8>) -> Result
     if let Some(why) = first_reason(ctx, update) {
         return Err(WriteFault::NotValid(why));
     }
-    if is_too_long(ctx, update) {
-        return Err(WriteFault::TooLong);
-    }
-    append_body(ctx, update, out)?;
-    Ok(())
+    append_valid(ctx, update, out)
 }

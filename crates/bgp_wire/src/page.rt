@@ -39,7 +39,8 @@ impl<const N: usize> Page<N> {
     /// The octets.
     #[inline(always)]
     pub fn as_slice(&self) -> &[u8]
-        ensures { result.now ≡ self.now }
+        ensures value { result.now ≡ self.now }
+        ensures bound { length result.now ≤ N }
     {
         &self.octets[..self.len]
     }
