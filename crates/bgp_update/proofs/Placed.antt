@@ -60,6 +60,7 @@ module _ (ctx : Context) (has_nlri : Bool) (t : TlvValue) (tlv : ℕ → Option 
   filled f kind = sym (map_filled f (tlv kind) t)
 
   puts : is_recognised t.kind ≡ true → Puts t.kind (type_row ctx has_nlri t)
+  unfolding attrs_by
   puts known =
       by_type ctx has_nlri t (Puts t.kind)
       (at ORIGIN (row_at ctx has_nlri t ORIGIN) (ap (λ o. record (attrs_by ctx tlv) { origin = o }) (filled (λ (s : TlvValue). origin_of s.value) ORIGIN), refl)
@@ -185,6 +186,7 @@ module _ (ctx : Context) (has_nlri : Bool) (field places : List ℕ) (all : AreP
 
   -- what stands in the slot of a type is the value of the attribute there
   pub slot-value : (kind : ℕ) → slot (attrs_by ctx tlv_of) kind ≡ present (λ (t : TlvValue). (type_row ctx has_nlri t).value) (tlv_of kind)
+  unfolding attrs_by
   slot-value kind =
       by_slot (attrs_by ctx tlv_of) kind ValueThere
       (valued ORIGIN (λ (t : TlvValue). origin_of t.value) (λ o. attr.Origin o) (λ t. refl)

@@ -26,7 +26,7 @@ pub record ArePlaced (ctx : Context) (has_nlri : Bool) (field places : List ℕ)
   pub each : (kind at : ℕ) → slice_index_or places kind 0 ≡ suc at → IsKeptAt ctx has_nlri field kind at
 
 -- the attributes by type, where these are the octets of each
-abbrev pub attrs_by : Context → (ℕ → Option TlvValue) → Attrs
+unfoldable pub attrs_by : Context → (ℕ → Option TlvValue) → Attrs
 attrs_by ctx tlv = record {
   origin = option_map (λ t. origin_of t.value) (tlv ORIGIN);
   as_path = option_map (λ t. path_of (as_path_form ctx) t.value) (tlv AS_PATH);

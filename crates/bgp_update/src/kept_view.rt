@@ -60,6 +60,7 @@ impl<'a> KeptView<'a> {
     ghost use Rattle.bgp_update.specs.Slots.{present, slot};
 
     /// No attributes, of a field that is judged in a context.
+    #[tactic(auto, unfolding(crate::specs::Places::attrs_by))]
     #[inline(always)]
     pub(crate) fn new(ctx: &Context, has_nlri: bool, field: &'a [u8]) -> KeptView<'a>
         ensures value { kept_value result ≡ kept_in [] }
@@ -126,6 +127,7 @@ impl<'a> KeptView<'a> {
     }
 
     /// The attributes with memory of their own, and these others. It is inlined, since it is built where it is to stand then.
+    #[tactic(auto, unfolding(crate::specs::Places::attrs_by))]
     #[inline(always)]
     pub(crate) fn own(&self, alloc: Global, others: List<Opaque>) -> Result<Attrs, AllocError>
         ensures { IfOk result (λ a. a ≡ record (known_value self.now) { others = others }) }
@@ -156,7 +158,7 @@ impl<'a> KeptView<'a> {
 }
 
 /// What is read where an attribute of a type is kept.
-#[tactic(auto, unfolding(bgp_attr::specs::Judgement::type_row))]
+#[tactic(auto, unfolding(bgp_attr::specs::Judgement::type_row, crate::specs::Places::attrs_by))]
 impl<'a> KeptView<'a> {
     ghost use Rattle.std.specs.Prelude.{option_map};
     ghost use Rattle.bgp_attr.specs.AttrView.{as4_path_value};
