@@ -109,7 +109,7 @@ fn append_short(ctx: &Context, update: &Update, out: &mut Vec<u8>) -> Result<boo
         return Ok(false);
     };
     // At most as many octets as it has room for are there.
-    let _ = page.as_slice();
+    let _ = page.count();
     set_lengths(0, places, &mut page);
     out.extend_from_slice(page.as_slice())?;
     Ok(true)

@@ -39,10 +39,18 @@ impl<const N: usize> Page<N> {
     /// The octets.
     #[inline(always)]
     pub fn as_slice(&self) -> &[u8]
-        ensures value { result.now ≡ self.now }
-        ensures bound { length result.now ≤ N }
+        ensures { result.now ≡ self.now }
     {
         &self.octets[..self.len]
+    }
+
+    /// How many octets are there.
+    #[inline(always)]
+    pub fn count(&self) -> usize
+        ensures value { result ≡ length self.now }
+        ensures bound { result ≤ N }
+    {
+        self.len
     }
 }
 
