@@ -12,6 +12,7 @@ use crate::tlv::Tlv;
 use std::cmp::min;
 
 /// The length at the front, of two octets where the flags say so, else of one, and what follows it.
+#[inline(always)]
 fn first_length(flags: Flags, octets: &[u8]) -> Option<(usize, &[u8])>
     ensures { option_map (λ x. (x.0, x.1.now)) result ≡ length_field (is_extended flags.0) octets.now }
 {
@@ -24,6 +25,7 @@ fn first_length(flags: Flags, octets: &[u8]) -> Option<(usize, &[u8])>
 }
 
 /// The attribute at the front, and what follows it.
+#[inline(always)]
 pub(crate) fn first_tlv(at: usize, octets: &[u8]) -> Option<(Tlv<'_>, &[u8])>
     ensures found { option_map (λ x. (tlv_value x.0, x.1.now)) result ≡ one_tlv octets.now }
     ensures at { IfSome result (λ x. x.0.at ≡ at) }

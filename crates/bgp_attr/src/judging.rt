@@ -63,7 +63,7 @@ pub fn with_value<'a>(
     ensures { found_attr_value result ≡ ruled ruling.entry (type_row ctx.now has_nlri (tlv_value tlv.now)).value }
 {
     match ruling {
-        Ruling::Keep => FoundAttr::Keep(kept_attr(ctx, has_nlri, tlv)),
+        Ruling::Keep => FoundAttr::Keep(kept_attr(ctx, has_nlri, tlv.kind, tlv)),
         Ruling::Discard(why) => FoundAttr::Discard(why),
         Ruling::Withdraw(why) => FoundAttr::Withdraw(why),
         Ruling::Reset(why) => FoundAttr::Reset(why),

@@ -16,14 +16,15 @@ use crate::tlv::Tlv;
 use bgp_numbers::attribute;
 use bgp_open::Context;
 
-/// The value of an attribute that is kept in a context, of any type. `has_nlri` is that of its judgement.
+/// The value of an attribute that is kept in a context, of this type. `has_nlri` is that of its judgement. Who knows the type asks for no other.
 #[tactic(auto, unfolding(crate::specs::Judgement::type_row))]
 #[inline(always)]
-pub fn kept_attr<'a>(ctx: &Context, has_nlri: bool, tlv: &Tlv<'a>) -> AttrView<'a>
-    requires { IsTrue (is_kept (judgement ctx.now has_nlri (tlv_value tlv.now))) }
+pub fn kept_attr<'a>(ctx: &Context, has_nlri: bool, kind: u8, tlv: &Tlv<'a>) -> AttrView<'a>
+    requires kind { tlv.now.kind ≡ kind }
+    requires kept { IsTrue (is_kept (judgement ctx.now has_nlri (tlv_value tlv.now))) }
     ensures { attr_value result ≡ (type_row ctx.now has_nlri (tlv_value tlv.now)).value }
 {
-    match tlv.kind {
+    match kind {
         attribute::ORIGIN => AttrView::Origin(origin_in(tlv.value)),
         attribute::AS_PATH => AttrView::AsPath(as_path_in(ctx, tlv.value)),
         attribute::NEXT_HOP => AttrView::NextHop(next_hop_in(tlv.value)),

@@ -123,7 +123,7 @@ impl<'a> KeptView<'a> {
         ensures { present attr_value result ≡ slot (known_value self.now) kind }
     {
         let tlv = self.tlv(kind)?;
-        Some(kept_attr(&self.ctx, self.has_nlri, &tlv))
+        Some(kept_attr(&self.ctx, self.has_nlri, kind, &tlv))
     }
 
     /// The attributes with memory of their own, and these others. It is inlined, since it is built where it is to stand then.
