@@ -1,8 +1,8 @@
 -- Attributes that are kept by place: one more of them, and what stands in the slot of a type.
-use Rattle.std.proofs.Common.{◌≡◌, ℕ, zero, suc, ◌+◌, ◌<◌, Bool, true, false, not, cond, eqb, ltb, List, [], ◌∷◌, length, get_or, set, replicate, Option, Some, None, refl, sym, ap, subst, ◌∙◌, arith}
+use Rattle.std.proofs.Common.{◌≡◌, ℕ, zero, suc, ◌<◌, Bool, true, false, not, cond, eqb, ltb, List, [], ◌∷◌, length, get_or, set, replicate, Option, Some, None, refl, sym, ap, subst, ◌∙◌, arith}
 use Rattle.std.specs.Prelude.{◌-◌, is_some, option_map, slice_index_or, IfSome, IsTrue}
 use Rattle.std.specs.Option.{option_or}
-use Rattle.std.proofs.lemmas.Bool.{eqb-true, eqb-false, ltb-true, ne_eqb, not-false, not-true, both_ways}
+use Rattle.std.proofs.lemmas.Bool.{eqb-true, eqb-false, ltb-true, both_ways}
 use Rattle.std.proofs.lemmas.Grind.{get_or-set_at}
 use Rattle.std.proofs.lemmas.List.{get_or-set_other}
 use Rattle.bgp_numbers.specs.declared.attribute.TheConstants.{ORIGIN, AS_PATH, NEXT_HOP, MULTI_EXIT_DISC, LOCAL_PREF, ATOMIC_AGGREGATE, AGGREGATOR, COMMUNITIES, MP_REACH_NLRI, MP_UNREACH_NLRI, AS4_PATH, AS4_AGGREGATOR, LARGE_COMMUNITY}
@@ -21,8 +21,7 @@ use Rattle.bgp_attr.specs.declared.tlv.Tlv.{Tlv}
 use Rattle.bgp_attr.specs.Value.{aggregator_of, as4_path_of, as_path_form, communities_of, four_of, large_of, origin_of}
 use Rattle.bgp_attr.proofs.Tables.{◌&◌, entry-passes}
 use Rattle.bgp_attr.proofs.TestRows.{by_type, row-at, row_at, row-other}
-use Rattle.bgp_update.specs.declared.attrs.Attrs.{Attrs}
-use Rattle.bgp_update.specs.KeptView.{Kept, is_opaque, put_known, with_attr}
+use Rattle.bgp_update.specs.KeptView.{is_opaque, put_known, with_attr}
 use Rattle.bgp_update.specs.Places.{attrs_by, tlv_placed, IsKeptAt, ArePlaced}
 use Rattle.bgp_update.specs.Slots.{present, slot}
 use Rattle.bgp_update.proofs.Options.{map_filled}
