@@ -6,7 +6,7 @@
  * the first allocation would fail. It runs on 32 KB of stack, and ends with 1 at the first answer that the header doesn't allow. */
 #include "ristulva.h"
 #include "trial.h"
-#include <pthread.h>
+#include "trial_stack.h"
 #include <string.h>
 #include <sys/mman.h>
 
@@ -466,8 +466,6 @@ static void *work(void *unused)
 
 int main(int argc, char **argv)
 {
-    pthread_attr_t how;
-    pthread_t thread;
     uint8_t *pages = mmap(NULL, PLACE * 3, PROT_NONE, MAP_PRIVATE | MAP_ANONYMOUS, -1, 0);
     int i;
     WANT(argc >= 3 && pages != MAP_FAILED);
@@ -478,7 +476,6 @@ int main(int argc, char **argv)
     for (i = 3; i < argc; i++)
         load(argv[i]);
     WANT(size > 4200);
-    WANT(pthread_attr_init(&how) == 0 && pthread_attr_setstacksize(&how, STACK) == 0);
-    WANT(pthread_create(&thread, &how, work, NULL) == 0 && pthread_join(thread, NULL) == 0);
+    run_on_stack(work, STACK);
     return 0;
 }

@@ -7,7 +7,7 @@
  * made, and ends with 1 at the first answer that the header doesn't allow. */
 #include "ristulva.h"
 #include "trial.h"
-#include <pthread.h>
+#include "trial_stack.h"
 #include <string.h>
 
 #ifndef STACK
@@ -239,13 +239,10 @@ static void *work(void *unused)
 
 int main(int argc, char **argv)
 {
-    pthread_attr_t how;
-    pthread_t thread;
     WANT(ristulva_version() == RISTULVA_VERSION);
     names = argv + 1;
     files = argc - 1;
-    WANT(pthread_attr_init(&how) == 0 && pthread_attr_setstacksize(&how, STACK) == 0);
-    WANT(pthread_create(&thread, &how, work, NULL) == 0 && pthread_join(thread, NULL) == 0);
+    run_on_stack(work, STACK);
     printf("%lu calls\n", calls);
     return 0;
 }

@@ -7,7 +7,7 @@
  * answer that the header doesn't allow. */
 #include "ristulva.h"
 #include "trial.h"
-#include <pthread.h>
+#include "trial_stack.h"
 #include <string.h>
 
 #ifndef STACK
@@ -336,9 +336,6 @@ static void *work(void *unused)
 
 int main(void)
 {
-    pthread_attr_t how;
-    pthread_t thread;
-    WANT(pthread_attr_init(&how) == 0 && pthread_attr_setstacksize(&how, STACK) == 0);
-    WANT(pthread_create(&thread, &how, work, NULL) == 0 && pthread_join(thread, NULL) == 0);
+    run_on_stack(work, STACK);
     return 0;
 }

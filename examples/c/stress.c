@@ -8,9 +8,9 @@
  * header doesn't allow. */
 #include "ristulva.h"
 #include "trial.h"
+#include "trial_stack.h"
 #include "stress_place.h"
 #include "stress_told.h"
-#include <pthread.h>
 #include <string.h>
 
 #ifndef STACK
@@ -753,8 +753,6 @@ static void *work(void *unused)
 
 int main(int argc, char **argv)
 {
-    pthread_attr_t how;
-    pthread_t thread;
     int i;
     WANT(argc >= 3);
     WANT(ristulva_version() == RISTULVA_VERSION);
@@ -764,8 +762,7 @@ int main(int argc, char **argv)
         load(argv[i]);
     make_places();
     for (cleans = 0; cleans <= 1; cleans++) {
-        WANT(pthread_attr_init(&how) == 0 && pthread_attr_setstacksize(&how, cleans ? MORE_STACK : STACK) == 0);
-        WANT(pthread_create(&thread, &how, work, NULL) == 0 && pthread_join(thread, NULL) == 0);
+        run_on_stack(work, cleans ? MORE_STACK : STACK);
     }
     printf("%lu calls\n", calls);
     return 0;

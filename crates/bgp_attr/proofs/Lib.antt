@@ -7,7 +7,6 @@ pub mod SegmentFronts
 pub mod NumberCounts
 pub mod SegmentSteps
 pub mod LargeSteps
-pub mod Aggregators
 pub mod Runs
 pub mod Tables
 pub mod TestRows
@@ -18,7 +17,6 @@ pub mod SegmentRows
 pub mod ReadBack
 pub mod RouteRows
 pub mod Kept
-pub mod Lengths
 pub mod Rewriting
 pub mod WrittenOctets
 pub mod Writes

@@ -7,9 +7,10 @@ use Rattle.std.proofs.lemmas.Nat.{be_bytes_2}
 use Rattle.std.proofs.lemmas.List.{length-append, length-take, length-drop, take_at, drop_at, take-append-drop, nil_from_length}
 use Rattle.bgp_numbers.specs.declared.afi.TheConstants.{IPV4, IPV6}
 use Rattle.bgp_numbers.specs.declared.safi.TheConstants.{UNICAST}
-use Rattle.bgp_prefix.specs.Prefix.{PrefixValue, IsValid, IsPrefix, one_prefix, spelling_of}
+use Rattle.bgp_prefix.specs.Prefix.{PrefixValue, IsValid, IsPrefix, one_prefix}
 use Rattle.bgp_prefix.specs.Run.{run_of}
-use Rattle.bgp_prefix.proofs.PrefixLemmas.{IsPrefix-reads, IsPrefix-spelling_of, IsPrefix-valid}
+use Rattle.bgp_prefix.proofs.PrefixLemmas.{IsPrefix-reads, IsPrefix-valid}
+use Rattle.bgp_prefix.proofs.RunLemmas.{Row-prefixes}
 use Rattle.bgp_prefix.proofs.LawLemmas.{row_is_run, Row-rewritten}
 use Rattle.bgp_wire.specs.Octets.{AreOctets}
 use Rattle.bgp_wire.specs.Row.{Row}
@@ -25,10 +26,6 @@ use Rattle.bgp_attr.specs.Spelling.{IsReach, link_octets, HasLink, IsUnreach}
 use Rattle.bgp_attr.specs.Written.{run_octets, reach_row, unreach_row}
 
 -- ---- rows of prefixes
-
-pub Row-prefixes : (width : ℕ) (ps : List PrefixValue) → AllByRecursion (IsValid width) ps → Row (IsPrefix width) ps (run_octets ps)
-Row-prefixes width [] valid = refl
-Row-prefixes width (p ∷ ps) valid = (spelling_of p, run_octets ps, refl, IsPrefix-spelling_of width p valid.0, Row-prefixes width ps valid.1)
 
 pub prefixes-valid : (width : ℕ) (ps : List PrefixValue) (b : List ℕ) → AreOctets b → Row (IsPrefix width) ps b → AllByRecursion (IsValid width) ps
 prefixes-valid width [] b octets row = tt

@@ -1,8 +1,9 @@
 -- The attributes of a field one after the other, a step at a time.
-use Rattle.std.proofs.Common.{◌≡◌, ℕ, ◌+◌, ◌-◌, ◌≤◌, List, [], ◌∷◌, length, drop, Some, None, refl, sym, ap, ap₂, ◌∙◌, arith}
+use Rattle.std.proofs.Common.{◌≡◌, ℕ, ◌+◌, ◌-◌, ◌≤◌, List, [], ◌∷◌, length, drop, Some, None, option_map, refl, sym, ap, ap₂, ◌∙◌, arith}
 use Rattle.std.proofs.lemmas.List.{length-append, length-drop, drop_at, drop-drop}
 use Rattle.bgp_wire.proofs.Walks.{first_then, no_more, same_rest, shorter}
 use Rattle.bgp_attr.specs.Tlv.{TlvValue, IsTlv, one_tlv, tlvs_of, placed_from}
+use Rattle.bgp_attr.specs.TlvIter.{tlv_at}
 use Rattle.bgp_attr.proofs.Readers.{IsTlv-reads}
 
 module _ (field : List ℕ) (at : ℕ) where
@@ -31,6 +32,9 @@ module _ (field : List ℕ) (at : ℕ) where
         ap (placed_from at) (first_then TlvValue IsTlv one_tlv IsTlv-reads (drop at field) t rest e)
         ∙ ap₂ (λ (p : ℕ) (r : List ℕ). record { at = at; tlv = t } ∷ placed_from p (tlvs_of r).0) (sym next_place) (sym next_rest)
         ∙ ap (λ (p : ℕ). record { at = p; tlv = t } ∷ placed_from (length field - length rest) (tlvs_of (drop (length field - length rest) field)).0) (sym is)
+
+    pub stands : (place : ℕ) → place ≡ at → tlv_at field place ≡ Some t
+    stands place is = ap (tlv_at field) is ∙ sym (ap (option_map (λ (x : TlvValue × List ℕ). x.0)) e)
 
     pub rest_stays : (tlvs_of (drop at field)).1 ≡ (tlvs_of (drop (length field - length rest) field)).1
     rest_stays = sym (same_rest TlvValue IsTlv one_tlv IsTlv-reads (drop at field) t rest e) ∙ ap (λ (r : List ℕ). (tlvs_of r).1) (sym next_rest)

@@ -18,9 +18,9 @@ pub mod LargeIter
 pub mod CommunitiesView
 pub mod MpView
 pub mod AttrView
+pub mod Ruling
 pub mod FoundAttr
 pub mod JudgedView
-pub mod Length
 pub mod Laws
 pub mod AttrRef
 pub mod Headed

@@ -1,5 +1,5 @@
 -- Routes of other address families (RFC 4760, sections 3 and 4; RFC 2545, section 3).
-use Rattle.std.specs.Prelude.{ℕ, ◌+◌, Bool, false, not, ◌||◌, ◌==◌, List, [], ◌∷◌, take, drop, slice_index, Option, None, Some, if◌then◌else◌}
+use Rattle.std.specs.Prelude.{ℕ, ◌+◌, ◌≤◌, Bool, false, not, ◌||◌, ◌==◌, List, [], ◌∷◌, length, take, drop, slice_index, Option, None, Some, IsTrue, if◌then◌else◌}
 use Rattle.std.specs.Int.{w16, from_be_bytes}
 use Rattle.bgp_numbers.specs.declared.afi.TheConstants.{IPV4, IPV6}
 use Rattle.bgp_numbers.specs.declared.safi.TheConstants.{UNICAST}
@@ -63,6 +63,11 @@ reach_of_family _ value = reach.Ip4 (take 4 (next_hop_of value)) (run_of 4 (reac
 
 abbrev pub mp_reach_of : List ℕ → MpReach
 mp_reach_of value = reach_of_family (family_of value) value
+
+-- the next hop and the routes are there to be read, as in each that is kept
+pub record IsReachable (value : List ℕ) : Type 0 where
+  pub long : 5 + next_hop_length value ≤ length value
+  pub hop : IsTrue (is_next_hop_length (family_of value) (next_hop_length value))
 
 -- MP_UNREACH_NLRI: family, prefixes
 abbrev pub withdrawn_of : List ℕ → List ℕ

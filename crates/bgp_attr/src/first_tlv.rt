@@ -3,13 +3,16 @@
 ghost use Rattle.std.specs.Prelude.{◌≡◌, ◌<◌, ◌≤◌, length, option_map, Some, None, IfSome};
 ghost use Rattle.bgp_attr.specs.Flags.{is_extended};
 ghost use Rattle.bgp_attr.specs.Tlv.{one_tlv, tlvs_of};
+ghost use Rattle.bgp_attr.specs.TlvIter.{tlv_at};
 ghost use Rattle.bgp_attr.specs.TlvView.{tlv_value};
 ghost use Rattle.bgp_attr.specs.steps.LengthField.{length_field};
 
 use crate::flags::Flags;
 use crate::tlv::Tlv;
+use std::cmp::min;
 
 /// The length at the front, of two octets where the flags say so, else of one, and what follows it.
+#[inline(always)]
 fn first_length(flags: Flags, octets: &[u8]) -> Option<(usize, &[u8])>
     ensures { option_map (λ x. (x.0, x.1.now)) result ≡ length_field (is_extended flags.0) octets.now }
 {
@@ -22,6 +25,7 @@ fn first_length(flags: Flags, octets: &[u8]) -> Option<(usize, &[u8])>
 }
 
 /// The attribute at the front, and what follows it.
+#[inline(always)]
 pub(crate) fn first_tlv(at: usize, octets: &[u8]) -> Option<(Tlv<'_>, &[u8])>
     ensures found { option_map (λ x. (tlv_value x.0, x.1.now)) result ≡ one_tlv octets.now }
     ensures at { IfSome result (λ x. x.0.at ≡ at) }
@@ -40,6 +44,16 @@ pub(crate) fn first_tlv(at: usize, octets: &[u8]) -> Option<(Tlv<'_>, &[u8])>
         value,
     };
     Some((tlv, after))
+}
+
+/// The attribute at an offset of a field, where one begins there and is whole.
+#[inline(always)]
+pub fn tlv_at(field: &[u8], at: usize) -> Option<Tlv<'_>>
+    ensures { option_map tlv_value result ≡ tlv_at field.now at }
+{
+    let (_, octets) = field.split_at(min(at, field.len()));
+    let (tlv, _) = first_tlv(at, octets)?;
+    Some(tlv)
 }
 
 /// What is left behind the attributes that octets begin with.

@@ -1,16 +1,15 @@
-//! The judgement of attributes of a fixed length: ORIGIN, NEXT_HOP, MULTI_EXIT_DISC, LOCAL_PREF and ATOMIC_AGGREGATE.
+//! The judgement of attributes of a fixed length, and their values: ORIGIN, NEXT_HOP, MULTI_EXIT_DISC, LOCAL_PREF and ATOMIC_AGGREGATE.
 
-ghost use Rattle.std.specs.Prelude.{◌≡◌, ◌≤◌, length, take, false};
-ghost use Rattle.bgp_attr.specs.declared.attr.Attr.TheVariants as attr;
+ghost use Rattle.std.specs.Prelude.{◌≡◌, ◌≤◌, length, take};
+ghost use Rattle.bgp_attr.specs.declared.attr.Attr.{Attr};
 ghost use Rattle.bgp_attr.specs.TlvView.{tlv_value};
 ghost use Rattle.bgp_attr.specs.Value.{origin_of, four_of};
 ghost use Rattle.bgp_attr.specs.Judgement.{decided, origin_tests, next_hop_tests, med_tests, local_pref_tests, atomic_tests};
-ghost use Rattle.bgp_attr.specs.FoundAttr.{found_attr_value};
+ghost use Rattle.bgp_attr.specs.Ruling.{ruled};
 
-use crate::attr_view::AttrView;
 use crate::class::Class;
-use crate::found_attr::FoundAttr;
 use crate::origin::Origin;
+use crate::ruling::Ruling;
 use crate::tlv::Tlv;
 use crate::why::Why;
 use bgp_open::Context;
@@ -26,42 +25,59 @@ pub(crate) fn address<const N: usize>(octets: &[u8]) -> [u8; N]
 }
 
 /// ORIGIN (RFC 7606, section 7.1).
-pub(crate) fn judge_origin<'a>(tlv: &Tlv<'a>) -> FoundAttr<'a>
-    ensures { found_attr_value result ≡ decided (origin_tests (tlv_value tlv.now)) (attr.Origin (origin_of tlv.now.value.now)) }
+pub(crate) fn rule_origin<'a>(tlv: &Tlv<'a>) -> Ruling<'a>
+    ensures { (a : Attr) → ruled result a ≡ decided (origin_tests (tlv_value tlv.now)) a }
 {
     if !tlv.flags.has_class(Class::WellKnown) {
-        return FoundAttr::Withdraw(Why::Flags);
+        return Ruling::Withdraw(Why::Flags);
     }
     if tlv.value.len() != 1 {
-        return FoundAttr::Withdraw(Why::Length);
+        return Ruling::Withdraw(Why::Length);
     }
-    match tlv.value[0] {
-        0 => FoundAttr::Keep(AttrView::Origin(Origin::Igp)),
-        1 => FoundAttr::Keep(AttrView::Origin(Origin::Egp)),
-        2 => FoundAttr::Keep(AttrView::Origin(Origin::Incomplete)),
-        _ => FoundAttr::Withdraw(Why::Value),
+    if tlv.value[0] > 2 {
+        return Ruling::Withdraw(Why::Value);
+    }
+    Ruling::Keep
+}
+
+/// The ORIGIN of a value that is kept.
+pub fn origin_in(value: &[u8]) -> Origin
+    requires { length value.now ≡ 1 }
+    ensures { result ≡ origin_of value.now }
+{
+    match value[0] {
+        0 => Origin::Igp,
+        1 => Origin::Egp,
+        _ => Origin::Incomplete,
     }
 }
 
 /// NEXT_HOP (RFC 7606, section 7.3).
-pub(crate) fn judge_next_hop<'a>(has_nlri: bool, tlv: &Tlv<'a>) -> FoundAttr<'a>
-    ensures { found_attr_value result ≡ decided (next_hop_tests has_nlri (tlv_value tlv.now)) (attr.NextHop tlv.now.value.now) }
+pub(crate) fn rule_next_hop<'a>(has_nlri: bool, tlv: &Tlv<'a>) -> Ruling<'a>
+    ensures { (a : Attr) → ruled result a ≡ decided (next_hop_tests has_nlri (tlv_value tlv.now)) a }
 {
     if !has_nlri {
-        return FoundAttr::Discard(Why::Unneeded);
+        return Ruling::Discard(Why::Unneeded);
     }
     if !tlv.flags.has_class(Class::WellKnown) {
-        return FoundAttr::Withdraw(Why::Flags);
+        return Ruling::Withdraw(Why::Flags);
     }
     if tlv.value.len() != 4 {
-        return FoundAttr::Withdraw(Why::Length);
+        return Ruling::Withdraw(Why::Length);
     }
-    let addr = address::<4>(tlv.value);
-    FoundAttr::Keep(AttrView::NextHop(addr))
+    Ruling::Keep
 }
 
-/// A number of four octets.
-fn four(octets: &[u8]) -> u32
+/// The address of a NEXT_HOP that is kept.
+pub fn next_hop_in(value: &[u8]) -> [u8; 4]
+    requires { length value.now ≡ 4 }
+    ensures { result ≡ value.now }
+{
+    address::<4>(value)
+}
+
+/// A number of four octets: the value of MULTI_EXIT_DISC and of LOCAL_PREF.
+pub fn four_in(octets: &[u8]) -> u32
     requires { length octets.now ≡ 4 }
     ensures { result ≡ four_of octets.now }
 {
@@ -69,43 +85,43 @@ fn four(octets: &[u8]) -> u32
 }
 
 /// MULTI_EXIT_DISC (RFC 7606, section 7.4).
-pub(crate) fn judge_med<'a>(tlv: &Tlv<'a>) -> FoundAttr<'a>
-    ensures { found_attr_value result ≡ decided (med_tests (tlv_value tlv.now)) (attr.Med (four_of tlv.now.value.now)) }
+pub(crate) fn rule_med<'a>(tlv: &Tlv<'a>) -> Ruling<'a>
+    ensures { (a : Attr) → ruled result a ≡ decided (med_tests (tlv_value tlv.now)) a }
 {
     if !tlv.flags.has_class(Class::OptionalNonTransitive) {
-        return FoundAttr::Withdraw(Why::Flags);
+        return Ruling::Withdraw(Why::Flags);
     }
     if tlv.value.len() != 4 {
-        return FoundAttr::Withdraw(Why::Length);
+        return Ruling::Withdraw(Why::Length);
     }
-    FoundAttr::Keep(AttrView::Med(four(tlv.value)))
+    Ruling::Keep
 }
 
 /// LOCAL_PREF (RFC 7606, section 7.5).
-pub(crate) fn judge_local_pref<'a>(ctx: &Context, tlv: &Tlv<'a>) -> FoundAttr<'a>
-    ensures { found_attr_value result ≡ decided (local_pref_tests ctx.now (tlv_value tlv.now)) (attr.LocalPref (four_of tlv.now.value.now)) }
+pub(crate) fn rule_local_pref<'a>(ctx: &Context, tlv: &Tlv<'a>) -> Ruling<'a>
+    ensures { (a : Attr) → ruled result a ≡ decided (local_pref_tests ctx.now (tlv_value tlv.now)) a }
 {
     if !ctx.internal {
-        return FoundAttr::Discard(Why::External);
+        return Ruling::Discard(Why::External);
     }
     if !tlv.flags.has_class(Class::WellKnown) {
-        return FoundAttr::Withdraw(Why::Flags);
+        return Ruling::Withdraw(Why::Flags);
     }
     if tlv.value.len() != 4 {
-        return FoundAttr::Withdraw(Why::Length);
+        return Ruling::Withdraw(Why::Length);
     }
-    FoundAttr::Keep(AttrView::LocalPref(four(tlv.value)))
+    Ruling::Keep
 }
 
 /// ATOMIC_AGGREGATE (RFC 7606, section 7.6).
-pub(crate) fn judge_atomic<'a>(tlv: &Tlv<'a>) -> FoundAttr<'a>
-    ensures { found_attr_value result ≡ decided (atomic_tests (tlv_value tlv.now)) attr.Atomic }
+pub(crate) fn rule_atomic<'a>(tlv: &Tlv<'a>) -> Ruling<'a>
+    ensures { (a : Attr) → ruled result a ≡ decided (atomic_tests (tlv_value tlv.now)) a }
 {
     if !tlv.flags.has_class(Class::WellKnown) {
-        return FoundAttr::Withdraw(Why::Flags);
+        return Ruling::Withdraw(Why::Flags);
     }
     if !tlv.value.is_empty() {
-        return FoundAttr::Discard(Why::Length);
+        return Ruling::Discard(Why::Length);
     }
-    FoundAttr::Keep(AttrView::Atomic)
+    Ruling::Keep
 }

@@ -1,20 +1,19 @@
-//! The judgement of MP_REACH_NLRI and MP_UNREACH_NLRI.
+//! The judgement of MP_REACH_NLRI and MP_UNREACH_NLRI, and their values.
 
 ghost use Rattle.std.specs.Prelude.{◌≡◌, ◌==◌, ◌≤◌, ◌+◌, not, IsTrue, Some, None, length, take, drop, if◌then◌else◌};
-ghost use Rattle.bgp_attr.specs.declared.attr.Attr.TheVariants as attr;
+ghost use Rattle.bgp_attr.specs.declared.attr.Attr.{Attr};
 ghost use Rattle.bgp_attr.specs.TlvView.{tlv_value};
-ghost use Rattle.bgp_attr.specs.Mp.{family_of, is_in_use, address_width, is_next_hop_length, next_hop_length, reach_of_family, unreach_of_family, mp_reach_of, mp_unreach_of};
+ghost use Rattle.bgp_attr.specs.Mp.{IsReachable, family_of, is_in_use, address_width, is_next_hop_length, next_hop_length, reach_of_family, unreach_of_family, mp_reach_of, mp_unreach_of};
 ghost use Rattle.bgp_attr.specs.Judgement.{decided, has_bad_prefix, mp_reach_tests, mp_unreach_tests};
 ghost use Rattle.bgp_attr.specs.MpView.{reach_value, unreach_value};
-ghost use Rattle.bgp_attr.specs.FoundAttr.{found_attr_value};
+ghost use Rattle.bgp_attr.specs.Ruling.{ruled};
 
-use crate::attr_view::AttrView;
 use crate::class::Class;
 use crate::family::Family;
-use crate::found_attr::FoundAttr;
 use crate::judge_fixed::address;
 use crate::mp_view::{MpReachView, MpUnreachView};
 use crate::reset::reset;
+use crate::ruling::Ruling;
 use crate::tlv::Tlv;
 use crate::why::Why;
 use bgp_numbers::error::OPTIONAL_ATTRIBUTE;
@@ -111,9 +110,9 @@ fn reach_of<'a>(family: Family, value: &'a [u8]) -> MpReachView<'a>
 }
 
 /// MP_REACH_NLRI (RFC 7606, section 7.11; RFC 4760, section 7).
-pub(crate) fn judge_mp_reach<'a>(ctx: &Context, tlv: &Tlv<'a>) -> FoundAttr<'a>
+pub(crate) fn rule_mp_reach<'a>(ctx: &Context, tlv: &Tlv<'a>) -> Ruling<'a>
     requires { length tlv.now.whole.now ≤ 4075 }
-    ensures { found_attr_value result ≡ decided (mp_reach_tests ctx.now (tlv_value tlv.now)) (attr.MpReach (mp_reach_of tlv.now.value.now)) }
+    ensures { (a : Attr) → ruled result a ≡ decided (mp_reach_tests ctx.now (tlv_value tlv.now)) a }
 {
     let value = tlv.value;
     if !tlv.flags.has_class(Class::OptionalNonTransitive) {
@@ -123,10 +122,10 @@ pub(crate) fn judge_mp_reach<'a>(ctx: &Context, tlv: &Tlv<'a>) -> FoundAttr<'a>
         return reset(OPTIONAL_ATTRIBUTE, tlv);
     }
     let Some(family) = family_of(value) else {
-        return FoundAttr::Discard(Why::Family);
+        return Ruling::Discard(Why::Family);
     };
     if !is_in_use(ctx, family) {
-        return FoundAttr::Discard(Why::Family);
+        return Ruling::Discard(Why::Family);
     }
     let len = usize::from(value[3]);
     if !is_next_hop_length(family, len) {
@@ -139,7 +138,19 @@ pub(crate) fn judge_mp_reach<'a>(ctx: &Context, tlv: &Tlv<'a>) -> FoundAttr<'a>
     if !is_run(family, routes) {
         return reset(OPTIONAL_ATTRIBUTE, tlv);
     }
-    FoundAttr::Keep(AttrView::MpReach(reach_of(family, value)))
+    Ruling::Keep
+}
+
+/// The routes of an MP_REACH_NLRI that is kept.
+pub fn reach_in(value: &[u8]) -> MpReachView<'_>
+    requires { IsReachable value.now }
+    ensures { reach_value result ≡ mp_reach_of value.now }
+{
+    match family_of(value) {
+        Some(family) => reach_of(family, value),
+        // Of no value that is kept.
+        None => reach_of(Family::Ip4, value),
+    }
 }
 
 /// The routes, of a value without fault.
@@ -155,9 +166,9 @@ fn unreach_of<'a>(family: Family, value: &'a [u8]) -> MpUnreachView<'a>
 }
 
 /// MP_UNREACH_NLRI (RFC 7606, section 7.12; RFC 4760, section 7).
-pub(crate) fn judge_mp_unreach<'a>(ctx: &Context, tlv: &Tlv<'a>) -> FoundAttr<'a>
+pub(crate) fn rule_mp_unreach<'a>(ctx: &Context, tlv: &Tlv<'a>) -> Ruling<'a>
     requires { length tlv.now.whole.now ≤ 4075 }
-    ensures { found_attr_value result ≡ decided (mp_unreach_tests ctx.now (tlv_value tlv.now)) (attr.MpUnreach (mp_unreach_of tlv.now.value.now)) }
+    ensures { (a : Attr) → ruled result a ≡ decided (mp_unreach_tests ctx.now (tlv_value tlv.now)) a }
 {
     let value = tlv.value;
     if !tlv.flags.has_class(Class::OptionalNonTransitive) {
@@ -167,14 +178,26 @@ pub(crate) fn judge_mp_unreach<'a>(ctx: &Context, tlv: &Tlv<'a>) -> FoundAttr<'a
         return reset(OPTIONAL_ATTRIBUTE, tlv);
     }
     let Some(family) = family_of(value) else {
-        return FoundAttr::Discard(Why::Family);
+        return Ruling::Discard(Why::Family);
     };
     if !is_in_use(ctx, family) {
-        return FoundAttr::Discard(Why::Family);
+        return Ruling::Discard(Why::Family);
     }
     let (_, routes) = value.split_at(3);
     if !is_run(family, routes) {
         return reset(OPTIONAL_ATTRIBUTE, tlv);
     }
-    FoundAttr::Keep(AttrView::MpUnreach(unreach_of(family, value)))
+    Ruling::Keep
+}
+
+/// The routes of an MP_UNREACH_NLRI that is kept.
+pub fn unreach_in(value: &[u8]) -> MpUnreachView<'_>
+    requires { 3 ≤ length value.now }
+    ensures { unreach_value result ≡ mp_unreach_of value.now }
+{
+    match family_of(value) {
+        Some(family) => unreach_of(family, value),
+        // Of no value that is kept.
+        None => unreach_of(Family::Ip4, value),
+    }
 }

@@ -1,74 +1,98 @@
-//! The judgement of AS_PATH and AS4_PATH.
+//! The judgement of AS_PATH and AS4_PATH, and their values.
 
 ghost use Rattle.std.specs.Prelude.{◌≡◌};
-ghost use Rattle.bgp_attr.specs.declared.attr.Attr.TheVariants as attr;
+ghost use Rattle.bgp_attr.specs.declared.attr.Attr.{Attr};
 ghost use Rattle.bgp_attr.specs.TlvView.{tlv_value};
 ghost use Rattle.bgp_attr.specs.Path.{path_of};
 ghost use Rattle.bgp_attr.specs.Value.{as_path_form, as4_path_of};
 ghost use Rattle.bgp_attr.specs.Judgement.{decided, as_path_tests, as4_path_tests};
-ghost use Rattle.bgp_attr.specs.FoundAttr.{found_attr_value};
+ghost use Rattle.bgp_attr.specs.AttrView.{as4_path_value};
+ghost use Rattle.bgp_attr.specs.PathView.{path_value};
+ghost use Rattle.bgp_attr.specs.Ruling.{ruled};
 
-use crate::attr_view::{As4PathView, AttrView};
+use crate::attr_view::As4PathView;
 use crate::class::Class;
 use crate::first_kept::first_kept;
-use crate::found_attr::FoundAttr;
 use crate::path_form::PathForm;
 use crate::path_view::PathView;
+use crate::ruling::Ruling;
 use crate::segment::path_faults;
 use crate::tlv::Tlv;
 use crate::why::Why;
 use bgp_open::Context;
 
-/// AS_PATH (RFC 7606, section 7.2; RFC 7607, section 2).
-pub(crate) fn judge_as_path<'a>(ctx: &Context, tlv: &Tlv<'a>) -> FoundAttr<'a>
-    ensures { found_attr_value result ≡ decided (as_path_tests ctx.now (tlv_value tlv.now)) (attr.AsPath (path_of (as_path_form ctx.now) tlv.now.value.now)) }
+/// The form of AS_PATH in a session.
+fn as_path_form(ctx: &Context) -> PathForm
+    ensures { result ≡ as_path_form ctx.now }
 {
-    let form = PathForm {
+    PathForm {
         wide: ctx.as4,
         confederations: false,
-    };
-    if !tlv.flags.has_class(Class::WellKnown) {
-        return FoundAttr::Withdraw(Why::Flags);
     }
-    let (fault, has_zero) = path_faults(form, tlv.value);
+}
+
+/// The form of AS4_PATH.
+const AS4_PATH_FORM: PathForm = PathForm {
+    wide: true,
+    confederations: true,
+};
+
+/// AS_PATH (RFC 7606, section 7.2; RFC 7607, section 2).
+pub(crate) fn rule_as_path<'a>(ctx: &Context, tlv: &Tlv<'a>) -> Ruling<'a>
+    ensures { (a : Attr) → ruled result a ≡ decided (as_path_tests ctx.now (tlv_value tlv.now)) a }
+{
+    if !tlv.flags.has_class(Class::WellKnown) {
+        return Ruling::Withdraw(Why::Flags);
+    }
+    let (fault, has_zero) = path_faults(as_path_form(ctx), tlv.value);
     if let Some(fault) = fault {
-        return FoundAttr::Withdraw(fault);
+        return Ruling::Withdraw(fault);
     }
     if has_zero {
-        return FoundAttr::Withdraw(Why::AsZero);
+        return Ruling::Withdraw(Why::AsZero);
     }
-    FoundAttr::Keep(AttrView::AsPath(PathView::new(form, tlv.value)))
+    Ruling::Keep
+}
+
+/// The AS_PATH of a value that is kept.
+pub fn as_path_in<'a>(ctx: &Context, value: &'a [u8]) -> PathView<'a>
+    ensures { path_value result ≡ path_of (as_path_form ctx.now) value.now }
+{
+    PathView::new(as_path_form(ctx), value)
 }
 
 /// AS4_PATH (RFC 6793, sections 3, 4.1 and 6; RFC 7607, section 2).
-pub(crate) fn judge_as4_path<'a>(ctx: &Context, tlv: &Tlv<'a>) -> FoundAttr<'a>
-    ensures { found_attr_value result ≡ decided (as4_path_tests ctx.now (tlv_value tlv.now)) (attr.As4Path (as4_path_of (tlv_value tlv.now))) }
+pub(crate) fn rule_as4_path<'a>(ctx: &Context, tlv: &Tlv<'a>) -> Ruling<'a>
+    ensures { (a : Attr) → ruled result a ≡ decided (as4_path_tests ctx.now (tlv_value tlv.now)) a }
 {
-    let form = PathForm {
-        wide: true,
-        confederations: true,
-    };
     if ctx.as4 {
-        return FoundAttr::Discard(Why::FourOctet);
+        return Ruling::Discard(Why::FourOctet);
     }
     if !tlv.flags.has_class(Class::OptionalTransitive) {
-        return FoundAttr::Withdraw(Why::Flags);
+        return Ruling::Withdraw(Why::Flags);
     }
     if tlv.value.len() % 2 != 0 || tlv.value.len() < 6 {
-        return FoundAttr::Discard(Why::Length);
+        return Ruling::Discard(Why::Length);
     }
-    let (fault, has_zero) = path_faults(form, tlv.value);
+    let (fault, has_zero) = path_faults(AS4_PATH_FORM, tlv.value);
     if let Some(fault) = fault {
-        return FoundAttr::Discard(fault);
+        return Ruling::Discard(fault);
     }
     if has_zero {
-        return FoundAttr::Discard(Why::AsZero);
+        return Ruling::Discard(Why::AsZero);
     }
-    if first_kept(form, tlv.value).is_none() {
-        return FoundAttr::Discard(Why::Emptied);
+    if first_kept(AS4_PATH_FORM, tlv.value).is_none() {
+        return Ruling::Discard(Why::Emptied);
     }
-    FoundAttr::Keep(AttrView::As4Path(As4PathView {
+    Ruling::Keep
+}
+
+/// The AS4_PATH of an attribute that is kept.
+pub fn as4_path_in<'a>(tlv: &Tlv<'a>) -> As4PathView<'a>
+    ensures { as4_path_value result ≡ as4_path_of (tlv_value tlv.now) }
+{
+    As4PathView {
         partial: tlv.flags.is_partial(),
-        path: PathView::new(form, tlv.value),
-    }))
+        path: PathView::new(AS4_PATH_FORM, tlv.value),
+    }
 }

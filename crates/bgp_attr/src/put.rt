@@ -5,12 +5,11 @@ ghost use Rattle.std.specs.List.{flat_map, list_any, AllByRecursion};
 ghost use Rattle.bgp_wire.specs.Octets.{AreOctets};
 ghost use Rattle.bgp_wire.specs.steps.Output.{Extends};
 ghost use Rattle.bgp_attr.specs.Numbers.{number_octets, row_octets, triple_octets};
-ghost use Rattle.bgp_attr.specs.Written.{segment_code, segment_octets, is_bad_segment, IsFourOctets, IsThreeNumbers, IsAddress, run_octets};
-ghost use Rattle.bgp_prefix.specs.Prefix.{IsValid};
+ghost use Rattle.bgp_attr.specs.Written.{segment_code, segment_octets, is_bad_segment, IsFourOctets, IsThreeNumbers, IsAddress};
 
 use crate::path::{SegKind, Segment};
 use bgp_numbers::segment;
-use bgp_prefix::{AsNumber, Prefix, write_run};
+use bgp_prefix::AsNumber;
 use bgp_wire::Output;
 use std::alloc::AllocError;
 
@@ -31,10 +30,15 @@ pub(crate) fn put_number<O: Output>(wide: bool, number: u32, out: &mut O) -> Res
 }
 
 /// Adds AS numbers.
-fn put_as_numbers(wide: bool, numbers: &[AsNumber], out: &mut Vec<u8>) -> Result<(), AllocError>
-    ensures ok { OnOk result (out.new.items ≡ out.old.items ++ flat_map (λ n. number_octets wide n.0) numbers.now) }
+fn put_as_numbers<O: Output>(
+    wide: bool,
+    numbers: &[AsNumber],
+    out: &mut O,
+) -> Result<(), AllocError>
+    ensures ok { OnOk result (O.written out.new ≡ O.written out.old ++ flat_map (λ n. number_octets wide n.0) numbers.now) }
     ensures ranges { OnOk result (AllByRecursion (λ n. IsFourOctets n.0) numbers.now) }
-    ensures err { OnErr result (Extends out.old.items out.new.items) }
+    ensures err { OnErr result (Extends (O.written out.old) (O.written out.new)) }
+    ensures full { OnErr result (O.room < length (O.written out.old) + length (flat_map (λ n. number_octets wide n.0) numbers.now)) }
 {
     'row: for number in numbers {
         put_number(wide, number.0, out)?;
@@ -43,10 +47,11 @@ fn put_as_numbers(wide: bool, numbers: &[AsNumber], out: &mut Vec<u8>) -> Result
 }
 
 /// Adds numbers of four octets.
-pub(crate) fn put_numbers(numbers: &[u32], out: &mut Vec<u8>) -> Result<(), AllocError>
-    ensures ok { OnOk result (out.new.items ≡ out.old.items ++ row_octets true numbers.now) }
+pub(crate) fn put_numbers<O: Output>(numbers: &[u32], out: &mut O) -> Result<(), AllocError>
+    ensures ok { OnOk result (O.written out.new ≡ O.written out.old ++ row_octets true numbers.now) }
     ensures ranges { OnOk result (AllByRecursion IsFourOctets numbers.now) }
-    ensures err { OnErr result (Extends out.old.items out.new.items) }
+    ensures err { OnErr result (Extends (O.written out.old) (O.written out.new)) }
+    ensures full { OnErr result (O.room < length (O.written out.old) + length (row_octets true numbers.now)) }
 {
     'row: for number in numbers {
         put_number(true, *number, out)?;
@@ -68,10 +73,11 @@ pub(crate) fn put_triple<O: Output>(triple: &[u32; 3], out: &mut O) -> Result<()
 }
 
 /// Adds triples.
-pub(crate) fn put_triples(triples: &[[u32; 3]], out: &mut Vec<u8>) -> Result<(), AllocError>
-    ensures ok { OnOk result (out.new.items ≡ out.old.items ++ flat_map triple_octets triples.now) }
+pub(crate) fn put_triples<O: Output>(triples: &[[u32; 3]], out: &mut O) -> Result<(), AllocError>
+    ensures ok { OnOk result (O.written out.new ≡ O.written out.old ++ flat_map triple_octets triples.now) }
     ensures ranges { OnOk result (AllByRecursion IsThreeNumbers triples.now) }
-    ensures err { OnErr result (Extends out.old.items out.new.items) }
+    ensures err { OnErr result (Extends (O.written out.old) (O.written out.new)) }
+    ensures full { OnErr result (O.room < length (O.written out.old) + length (flat_map triple_octets triples.now)) }
 {
     'row: for triple in triples {
         put_triple(triple, out)?;
@@ -90,27 +96,29 @@ pub(crate) fn segment_code(kind: SegKind) -> u8
 }
 
 /// Adds a segment.
-fn put_segment(wide: bool, segment: &Segment, out: &mut Vec<u8>) -> Result<(), AllocError>
+fn put_segment<O: Output>(wide: bool, segment: &Segment, out: &mut O) -> Result<(), AllocError>
     requires { length segment.now.numbers ≤ 255 }
-    ensures ok { OnOk result (out.new.items ≡ out.old.items ++ segment_octets wide segment.now) }
+    ensures ok { OnOk result (O.written out.new ≡ O.written out.old ++ segment_octets wide segment.now) }
     ensures ranges { OnOk result (AllByRecursion (λ n. IsFourOctets n.0) segment.now.numbers) }
-    ensures err { OnErr result (Extends out.old.items out.new.items) }
+    ensures err { OnErr result (Extends (O.written out.old) (O.written out.new)) }
+    ensures full { OnErr result (O.room < length (O.written out.old) + length (segment_octets wide segment.now)) }
 {
     let count = segment.numbers.len() as u8;
-    out.extend_from_slice(&[segment_code(segment.kind), count])?;
+    out.put(&[segment_code(segment.kind), count])?;
     put_as_numbers(wide, &segment.numbers, out)
 }
 
 /// Adds the segments of a path.
-pub(crate) fn put_path(
+pub(crate) fn put_path<O: Output>(
     wide: bool,
     segments: &[Segment],
-    out: &mut Vec<u8>,
+    out: &mut O,
 ) -> Result<(), AllocError>
     requires { list_any is_bad_segment segments.now ≡ false }
-    ensures ok { OnOk result (out.new.items ≡ out.old.items ++ flat_map (segment_octets wide) segments.now) }
+    ensures ok { OnOk result (O.written out.new ≡ O.written out.old ++ flat_map (segment_octets wide) segments.now) }
     ensures ranges { OnOk result (AllByRecursion (λ s. AllByRecursion (λ n. IsFourOctets n.0) s.numbers) segments.now) }
-    ensures err { OnErr result (Extends out.old.items out.new.items) }
+    ensures err { OnErr result (Extends (O.written out.old) (O.written out.new)) }
+    ensures full { OnErr result (O.room < length (O.written out.old) + length (flat_map (segment_octets wide) segments.now)) }
 {
     'path: for segment in segments {
         put_segment(wide, segment, out)?;
@@ -140,17 +148,4 @@ pub(crate) fn put_address<const N: usize, O: Output>(
     ensures full { OnErr result (O.room < length (O.written out.old) + length addr.now) }
 {
     put_octets(addr, out)
-}
-
-/// Adds prefixes.
-pub(crate) fn put_run<const W: usize>(
-    routes: &[Prefix<W>],
-    out: &mut Vec<u8>,
-) -> Result<(), AllocError>
-    ensures ok { OnOk result (out.new.items ≡ out.old.items ++ run_octets routes.now) }
-    ensures ranges { OnOk result (AllByRecursion (IsValid W) routes.now) }
-    ensures err { OnErr result (Extends out.old.items out.new.items) }
-{
-    write_run(routes, out)?;
-    Ok(())
 }

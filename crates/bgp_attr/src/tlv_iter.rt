@@ -24,6 +24,7 @@ impl<'a> TlvIter<'a> {
     pub fn new(field: &'a [u8]) -> TlvIter<'a>
         ensures attributes { tlvs_left result ≡ placed_from 0 (tlvs_of field.now).0 }
         ensures rest { rest_left result ≡ (tlvs_of field.now).1 }
+        ensures field { result.field.now ≡ field.now }
     {
         TlvIter { field, at: 0 }
     }

@@ -108,7 +108,7 @@ pub fn is_empty(attr: AttrRef<'_>) -> bool
 }
 
 /// Whether a type is recognised.
-fn is_recognised(kind: u8) -> bool
+pub fn is_recognised(kind: u8) -> bool
     ensures { result ≡ is_recognised kind }
 {
     match kind {

@@ -3,7 +3,6 @@
 ghost use Rattle.std.specs.Prelude.{◌≡◌, ◌<◌, ◌+◌, ◌≤◌, ◌++◌, false, true, length, OnOk, OnErr};
 ghost use Rattle.bgp_wire.specs.steps.Output.{Extends};
 ghost use Rattle.bgp_attr.specs.AttrView.{attr_value};
-ghost use Rattle.bgp_attr.specs.Length.{value_len};
 ghost use Rattle.bgp_attr.specs.Written.{canonical, is_empty, is_writable, value_octets};
 
 use crate::attr_view::AttrView;
@@ -44,7 +43,7 @@ fn put_value<O: Output>(ctx: &Context, view: &AttrView<'_>, out: &mut O) -> Resu
 #[inline(always)]
 fn put_attr<O: Output>(ctx: &Context, view: &AttrView<'_>, out: &mut O) -> Result<(), AllocError>
     requires filled { is_empty (attr_value view.now) ≡ false }
-    requires short { value_len ctx.now (attr_value view.now) ≤ 65535 }
+    requires short { length (value_octets ctx.now (attr_value view.now)) ≤ 65535 }
     ensures ok { OnOk result (O.written out.new ≡ O.written out.old ++ canonical ctx.now (attr_value view.now)) }
     ensures err { OnErr result (Extends (O.written out.old) (O.written out.new)) }
     ensures full { OnErr result (O.room < length (O.written out.old) + length (canonical ctx.now (attr_value view.now))) }

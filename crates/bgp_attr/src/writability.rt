@@ -1,19 +1,31 @@
 //! Which attributes are written.
 
-ghost use Rattle.std.specs.Prelude.{◌≡◌, true, length};
+ghost use Rattle.std.specs.Prelude.{◌≡◌, false, true, length};
 ghost use Rattle.bgp_attr.specs.AttrRef.{ref_value};
-ghost use Rattle.bgp_attr.specs.Written.{unwritable, is_writable};
+ghost use Rattle.bgp_attr.specs.Written.{unwritable, is_empty, is_too_long, is_writable};
 
 use crate::attr::Attr;
 use crate::attr_ref::AttrRef;
-use crate::length::value_len;
 use crate::unwritable::{
     Unwritable, has_as_zero, is_as4, is_empty, is_misnamed, is_too_wide, stands_twice,
 };
+use crate::write::put_value;
 use bgp_open::Context;
+use bgp_wire::Counter;
+
+/// Whether no length field can hold the length of the value: it is written where there is room for as much.
+fn is_too_long(ctx: &Context, attr: AttrRef<'_>) -> bool
+    requires { is_empty (ref_value attr) ≡ false }
+    ensures { result ≡ is_too_long ctx.now (ref_value attr.entry) }
+{
+    let mut counter: Counter<65535> = Counter::new();
+    let written = put_value(ctx, attr, &mut counter);
+    // At most as many are counted.
+    let _ = counter.count();
+    written.is_err()
+}
 
 /// The first reason why an attribute isn't written in a context, without memory.
-#[tactic(auto, using(crate::proofs::Lengths::past_too_long, crate::proofs::Lengths::fits_too_long))]
 pub fn why_unwritable(ctx: &Context, attr: AttrRef<'_>) -> Option<Unwritable>
     ensures { result ≡ unwritable ctx.now (ref_value attr.entry) }
 {
@@ -35,10 +47,10 @@ pub fn why_unwritable(ctx: &Context, attr: AttrRef<'_>) -> Option<Unwritable>
     if stands_twice(attr) {
         return Some(Unwritable::Twice);
     }
-    match value_len(ctx, attr) {
-        None => Some(Unwritable::TooLong),
-        Some(_) => None,
+    if is_too_long(ctx, attr) {
+        return Some(Unwritable::TooLong);
     }
+    None
 }
 
 /// Whether an attribute can be written in a context, without memory.

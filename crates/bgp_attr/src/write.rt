@@ -13,7 +13,6 @@ ghost use Rattle.bgp_attr.specs.Flags.{flags_octet};
 ghost use Rattle.bgp_attr.specs.Judgement.{judgement};
 ghost use Rattle.bgp_attr.specs.Spelling.{origin_code};
 ghost use Rattle.bgp_attr.specs.Written.{aggregator_octets, reach_row, unreach_row, reach_octets, unreach_octets, value_octets, written_tlv, canonical, is_empty, is_writable, Belongs, HasRanges, IsAddress, HasLinkRange, IsFourOctets};
-ghost use Rattle.bgp_attr.specs.Length.{value_len};
 
 use crate::aggregator::Aggregator;
 use crate::attr::Attr;
@@ -24,12 +23,10 @@ use crate::form::form_of;
 use crate::mp::{MpReach, MpUnreach};
 use crate::opaque::Opaque;
 use crate::origin::Origin;
-use crate::put::{
-    put_address, put_number, put_numbers, put_octets, put_path, put_run, put_triples,
-};
+use crate::put::{put_address, put_number, put_numbers, put_octets, put_path, put_triples};
 use bgp_numbers::{afi, safi};
 use bgp_open::Context;
-use bgp_prefix::Prefix;
+use bgp_prefix::{Prefix, write_run};
 use bgp_wire::Output;
 use std::alloc::AllocError;
 
@@ -81,21 +78,23 @@ pub(crate) fn put_hops<O: Output>(
 }
 
 /// Adds a family, a next hop of one or two addresses, and prefixes.
-fn put_reach_row<const W: usize>(
+fn put_reach_row<const W: usize, O: Output>(
     family: u16,
     hop: &[u8],
     link: &[u8],
     routes: &[Prefix<W>],
-    out: &mut Vec<u8>,
+    out: &mut O,
 ) -> Result<(), AllocError>
     requires { length hop.now + length link.now ≤ 255 }
-    ensures ok { OnOk result (out.new.items ≡ out.old.items ++ reach_row family (hop.now ++ link.now) routes.now) }
+    ensures ok { OnOk result (O.written out.new ≡ O.written out.old ++ reach_row family (hop.now ++ link.now) routes.now) }
     ensures hops { OnOk result (AreOctets hop.now × AreOctets link.now) }
     ensures routes { OnOk result (AllByRecursion (IsValid W) routes.now) }
-    ensures err { OnErr result (Extends out.old.items out.new.items) }
+    ensures err { OnErr result (Extends (O.written out.old) (O.written out.new)) }
+    ensures full { OnErr result (O.room < length (O.written out.old) + length (reach_row family (hop.now ++ link.now) routes.now)) }
 {
     put_hops(family, hop, link, out)?;
-    put_run(routes, out)
+    write_run(routes, out)?;
+    Ok(())
 }
 
 /// The octets of an address.
@@ -107,10 +106,11 @@ pub(crate) fn address_octets<const N: usize>(addr: &[u8; N]) -> &[u8]
 }
 
 /// Adds MP_REACH_NLRI's value.
-fn put_reach(reach: &MpReach, out: &mut Vec<u8>) -> Result<(), AllocError>
-    ensures ok { OnOk result (out.new.items ≡ out.old.items ++ reach_octets reach.now) }
+fn put_reach<O: Output>(reach: &MpReach, out: &mut O) -> Result<(), AllocError>
+    ensures ok { OnOk result (O.written out.new ≡ O.written out.old ++ reach_octets reach.now) }
     ensures ranges { OnOk result (HasRanges (attr.MpReach reach.now)) }
-    ensures err { OnErr result (Extends out.old.items out.new.items) }
+    ensures err { OnErr result (Extends (O.written out.old) (O.written out.new)) }
+    ensures full { OnErr result (O.room < length (O.written out.old) + length (reach_octets reach.now)) }
 {
     match reach {
         MpReach::Ip4 { next_hop, nlri } => {
@@ -139,25 +139,28 @@ fn put_reach(reach: &MpReach, out: &mut Vec<u8>) -> Result<(), AllocError>
 }
 
 /// Adds a family and prefixes.
-fn put_unreach_row<const W: usize>(
+fn put_unreach_row<const W: usize, O: Output>(
     family: u16,
     routes: &[Prefix<W>],
-    out: &mut Vec<u8>,
+    out: &mut O,
 ) -> Result<(), AllocError>
-    ensures ok { OnOk result (out.new.items ≡ out.old.items ++ unreach_row family routes.now) }
+    ensures ok { OnOk result (O.written out.new ≡ O.written out.old ++ unreach_row family routes.now) }
     ensures routes { OnOk result (AllByRecursion (IsValid W) routes.now) }
-    ensures err { OnErr result (Extends out.old.items out.new.items) }
+    ensures err { OnErr result (Extends (O.written out.old) (O.written out.new)) }
+    ensures full { OnErr result (O.room < length (O.written out.old) + length (unreach_row family routes.now)) }
 {
     let [high, low] = family.to_be_bytes();
     put_octets(&[high, low, safi::UNICAST], out)?;
-    put_run(routes, out)
+    write_run(routes, out)?;
+    Ok(())
 }
 
 /// Adds MP_UNREACH_NLRI's value.
-fn put_unreach(unreach: &MpUnreach, out: &mut Vec<u8>) -> Result<(), AllocError>
-    ensures ok { OnOk result (out.new.items ≡ out.old.items ++ unreach_octets unreach.now) }
+fn put_unreach<O: Output>(unreach: &MpUnreach, out: &mut O) -> Result<(), AllocError>
+    ensures ok { OnOk result (O.written out.new ≡ O.written out.old ++ unreach_octets unreach.now) }
     ensures ranges { OnOk result (HasRanges (attr.MpUnreach unreach.now)) }
-    ensures err { OnErr result (Extends out.old.items out.new.items) }
+    ensures err { OnErr result (Extends (O.written out.old) (O.written out.new)) }
+    ensures full { OnErr result (O.room < length (O.written out.old) + length (unreach_octets unreach.now)) }
 {
     match unreach {
         MpUnreach::Ip4(routes) => put_unreach_row(afi::IPV4, routes, out)?,
@@ -167,10 +170,11 @@ fn put_unreach(unreach: &MpUnreach, out: &mut Vec<u8>) -> Result<(), AllocError>
 }
 
 /// Adds the value of an attribute that isn't recognised.
-fn put_opaque(opaque: &Opaque, out: &mut Vec<u8>) -> Result<(), AllocError>
-    ensures ok { OnOk result (out.new.items ≡ out.old.items ++ opaque.now.value) }
+fn put_opaque<O: Output>(opaque: &Opaque, out: &mut O) -> Result<(), AllocError>
+    ensures ok { OnOk result (O.written out.new ≡ O.written out.old ++ opaque.now.value) }
     ensures ranges { OnOk result (HasRanges (attr.Opaque opaque.now)) }
-    ensures err { OnErr result (Extends out.old.items out.new.items) }
+    ensures err { OnErr result (Extends (O.written out.old) (O.written out.new)) }
+    ensures full { OnErr result (O.room < length (O.written out.old) + length opaque.now.value) }
 {
     // The type is read for its range alone.
     let _kind = opaque.kind;
@@ -179,11 +183,16 @@ fn put_opaque(opaque: &Opaque, out: &mut Vec<u8>) -> Result<(), AllocError>
 }
 
 /// Adds the value of an attribute.
-fn put_value(ctx: &Context, attr: AttrRef<'_>, out: &mut Vec<u8>) -> Result<(), AllocError>
+pub(crate) fn put_value<O: Output>(
+    ctx: &Context,
+    attr: AttrRef<'_>,
+    out: &mut O,
+) -> Result<(), AllocError>
     requires { is_empty (ref_value attr) ≡ false }
-    ensures ok { OnOk result (out.new.items ≡ out.old.items ++ value_octets ctx.now (ref_value attr.entry)) }
+    ensures ok { OnOk result (O.written out.new ≡ O.written out.old ++ value_octets ctx.now (ref_value attr.entry)) }
     ensures ranges { OnOk result (HasRanges (ref_value attr.entry)) }
-    ensures err { OnErr result (Extends out.old.items out.new.items) }
+    ensures err { OnErr result (Extends (O.written out.old) (O.written out.new)) }
+    ensures full { OnErr result (O.room < length (O.written out.old) + length (value_octets ctx.now (ref_value attr.entry))) }
 {
     match attr {
         AttrRef::Origin(origin) => put_octets(&[origin as u8], out),
@@ -202,18 +211,43 @@ fn put_value(ctx: &Context, attr: AttrRef<'_>, out: &mut Vec<u8>) -> Result<(), 
     }
 }
 
-/// Adds an attribute; a part of it may stay where an allocation failed.
-fn put_attr(ctx: &Context, attr: AttrRef<'_>, out: &mut Vec<u8>) -> Result<(), AllocError>
+/// Adds an attribute; a part of it may stay where there was no room.
+fn append_attr<O: Output>(ctx: &Context, attr: AttrRef<'_>, out: &mut O) -> Result<(), AllocError>
     requires filled { is_empty (ref_value attr) ≡ false }
-    requires short { value_len ctx.now (ref_value attr) ≤ 65535 }
-    ensures ok { OnOk result (out.new.items ≡ out.old.items ++ canonical ctx.now (ref_value attr.entry)) }
+    requires room { O.room ≤ 65535 }
+    ensures ok { OnOk result (O.written out.new ≡ O.written out.old ++ canonical ctx.now (ref_value attr.entry)) }
     ensures ranges { OnOk result (HasRanges (ref_value attr.entry)) }
-    ensures err { OnErr result (Extends out.old.items out.new.items) }
+    ensures err { OnErr result (Extends (O.written out.old) (O.written out.new)) }
+    ensures full { OnErr result (O.room < length (O.written out.old) + length (canonical ctx.now (ref_value attr.entry))) }
 {
     let start = out.len();
     begin_attr(out)?;
     put_value(ctx, attr, out)?;
+    if out.len() - start > 3 + usize::from(u16::MAX) {
+        return Err(AllocError);
+    }
     finish(form_of(attr), start, out)
+}
+
+/// Adds the one written form of an attribute, as [`write_attr_ref`] does, to what has no more room than a length field can tell. To measure an
+/// attribute is to add it to a [`Counter`](bgp_wire::Counter).
+///
+/// # Errors
+/// `AllocError` where there was no room, or no length field can hold the length of the value; what is there is then as it was.
+pub fn put_attr<O: Output>(ctx: &Context, attr: AttrRef<'_>, out: &mut O) -> Result<(), AllocError>
+    requires filled { is_empty (ref_value attr) ≡ false }
+    requires room { O.room ≤ 65535 }
+    ensures ok { OnOk result (O.written out.new ≡ O.written out.old ++ canonical ctx.now (ref_value attr.entry)) }
+    ensures ranges { OnOk result (HasRanges (ref_value attr.entry)) }
+    ensures err { OnErr result (O.written out.new ≡ O.written out.old) }
+    ensures full { OnErr result (O.room < length (O.written out.old) + length (canonical ctx.now (ref_value attr.entry))) }
+{
+    let start = out.len();
+    let written = append_attr(ctx, attr, out);
+    if written.is_err() {
+        out.truncate(start);
+    }
+    written
 }
 
 /// Adds the one written form of an attribute: the shortest length, and 0 for all that is ignored.
@@ -229,12 +263,7 @@ pub fn write_attr_ref(ctx: &Context, attr: AttrRef<'_>, out: &mut Vec<u8>) -> Re
     ensures ranges { OnOk result (HasRanges (ref_value attr.entry)) }
     ensures err { OnErr result (out.new.items ≡ out.old.items) }
 {
-    let start = out.len();
-    let written = put_attr(ctx, attr, out);
-    if written.is_err() {
-        out.truncate(start);
-    }
-    written
+    put_attr(ctx, attr, out)
 }
 
 /// Adds the one written form of an attribute, as [`write_attr_ref`] does.

@@ -34,7 +34,7 @@ use Rattle.bgp_update.proofs.SlotTypes.{recognised_types}
 use Rattle.bgp_update.proofs.Validity.{valid-accepted}
 use Rattle.bgp_clean.specs.Updates.{bare_family, family_of_kept, family_of_marks, end_of_rib, is_bare, says_nothing}
 use Rattle.bgp_clean.specs.Clean.{family_in}
-use Rattle.bgp_clean.proofs.Verdicts.{taken-of}
+use Rattle.bgp_update.proofs.Verdicts.{taken-of}
 
 -- ---- an MP_UNREACH_NLRI alone
 

@@ -1,7 +1,6 @@
 -- Lemmas on cleaned messages and streams.
 pub mod CleanedOpens
 pub mod Dropped
-pub mod Verdicts
 pub mod Ends
 pub mod Lessons
 pub mod HeldAttributes

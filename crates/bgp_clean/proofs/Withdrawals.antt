@@ -1,6 +1,5 @@
 -- The UPDATE that withdraws a message's routes: it can be written where the message was read, in no more octets, and says something.
 use Rattle.std.proofs.Common.{◌≡◌, ℕ, ◌+◌, ◌≤◌, Bool, true, false, not, cond, eqb, ltb, List, [], ◌∷◌, ◌++◌, length, Option, Some, None, refl, sym, ap, subst, ◌∙◌, arith}
-use Rattle.std.specs.Int.{w16, to_be_bytes}
 use Rattle.std.specs.List.{flat_map, list_any, AllByRecursion}
 use Rattle.std.specs.Option.{option_or}
 use Rattle.std.proofs.lemmas.Bool.{both_ways, false≢true, eqb-true, and_parts, and_right, or_from, not_from_true}
@@ -8,7 +7,6 @@ use Rattle.std.proofs.lemmas.List.{append-nil, length-append}
 use Rattle.std.proofs.lemmas.List.Concat.{flat_map-append}
 use Rattle.bgp_wire.specs.Octets.{AreOctets}
 use Rattle.bgp_wire.specs.Row.{Row}
-use Rattle.bgp_wire.proofs.OctetLemmas.{AreOctets-front, AreOctets-back}
 use Rattle.bgp_open.specs.declared.context.Context.{Context}
 use Rattle.bgp_prefix.specs.Prefix.{PrefixValue, IsValid, IsPrefix, spelling_of}
 use Rattle.bgp_prefix.specs.Run.{run_of}
@@ -20,11 +18,9 @@ use Rattle.bgp_attr.specs.declared.mp.MpReach.TheVariants as reach
 use Rattle.bgp_attr.specs.declared.mp.MpUnreach.{MpUnreach}
 use Rattle.bgp_attr.specs.declared.mp.MpUnreach.TheVariants as unreach
 use Rattle.bgp_attr.specs.Spelling.{link_octets}
-use Rattle.bgp_attr.specs.Length.{value_len}
-use Rattle.bgp_attr.specs.Written.{canonical, run_octets, is_too_wide, is_as4, is_empty, has_as_zero, stands_twice, Belongs, HasRanges}
+use Rattle.bgp_attr.specs.Written.{canonical, run_octets, is_too_wide, is_as4, is_empty, has_as_zero, stands_twice, Belongs, HasRanges, value_octets}
 use Rattle.bgp_numbers.specs.declared.afi.TheConstants.{IPV4, IPV6}
-use Rattle.bgp_attr.proofs.CanonicalLength.{length-canonical}
-use Rattle.bgp_attr.proofs.Lengths.{reach_added}
+use Rattle.bgp_attr.proofs.CanonicalLength.{length-canonical, reach_added}
 use Rattle.bgp_attr.proofs.RouteRows.{prefixes-valid}
 use Rattle.bgp_update.specs.declared.attrs.Attrs.{Attrs}
 use Rattle.bgp_update.specs.declared.note.Note.{Note}
@@ -39,7 +35,7 @@ use Rattle.bgp_update.specs.Slots.{present, attr_list}
 use Rattle.bgp_update.specs.Taken.{kept_of, attrs_of}
 use Rattle.bgp_update.specs.Verdict.{first_reset, reset_of_run, reset_of, verdict_of}
 use Rattle.bgp_update.specs.Written.{attributes_octets, written_body, is_of_other_family, HasUpdateRanges}
-use Rattle.bgp_update.proofs.Bodies.{parts-body, length-body}
+use Rattle.bgp_update.proofs.Bodies.{length-body}
 use Rattle.bgp_update.proofs.KeptMarks.{or-parts}
 use Rattle.bgp_update.proofs.Lists.{all-append}
 use Rattle.bgp_update.proofs.Taken.{run-row, row-some}
@@ -47,7 +43,7 @@ use Rattle.bgp_update.proofs.Validity.{IsAccepted, accepted-valid}
 use Rattle.bgp_clean.specs.Updates.{unreach_of, withdrawal, is_bare, says_nothing}
 use Rattle.bgp_clean.proofs.Ends.{unreach_attrs, unreach-list}
 use Rattle.bgp_clean.proofs.HeldAttributes.{AreHeld, are-held, reach_attr, unreach_attr, reach-all, unreach-all, both-within}
-use Rattle.bgp_clean.proofs.Verdicts.{IsWithdrawnOf, withdrawn-of}
+use Rattle.bgp_update.proofs.Verdicts.{has-parts, withdrawn-of}
 
 -- an attribute that withdraws IPv6 routes, where there are some
 abbrev gone_attr : List PrefixValue → List Attr
@@ -77,9 +73,9 @@ module _ (ctx : Context) where
   size xs = length (flat_map (canonical ctx) xs)
 
   -- a value behind three octets or four
-  size-one : (x : Attr) → (3 + value_len ctx x ≤ size (x ∷ [])) × (size (x ∷ []) ≤ 4 + value_len ctx x)
+  size-one : (x : Attr) → (3 + length (value_octets ctx x) ≤ size (x ∷ [])) × (size (x ∷ []) ≤ 4 + length (value_octets ctx x))
   size-one x =
-      let bounds = head-bounds (ltb 255 (value_len ctx x)) in
+      let bounds = head-bounds (ltb 255 (length (value_octets ctx x))) in
       let one : size (x ∷ []) ≡ length (canonical ctx x) = ap length (append-nil (canonical ctx x)) in
       (omega (arith, bounds.0, one, length-canonical ctx x), omega (arith, bounds.1, one, length-canonical ctx x))
 
@@ -277,17 +273,10 @@ module _ (ctx : Context) (p : Parts) (octets_w : AreOctets p.withdrawn) (octets_
   is-withdrawal : (body : List ℕ) → IsBody p body → IsWithdrawal (routes_of p (marks_of ctx p)) body
   is-withdrawal body s = (record { valid = accepted-valid ctx said accepted; ranges = ranges; no_longer = no-longer body s }, says-by (says_nothing said) refl)
 
-module _ (ctx : Context) (body : List ℕ) (octets : AreOctets body) (routes : Routes) (notes : List Note) (e : verdict_of ctx body ≡ verdict.Withdraw routes notes) where
-  is : IsWithdrawnOf ctx body routes
-  is = withdrawn-of ctx body routes notes e
-
-  pub withdrawal-written : CanBeWritten ctx (withdrawal routes) body × (says_nothing (withdrawal routes) ≡ false)
-  withdrawal-written =
-      let p : Parts = is.parts in
-      let s = parts-body body p octets is.found in
-      let behind_w : AreOctets (p.withdrawn ++ (to_be_bytes w16 (length p.attributes) ++ (p.attributes ++ p.nlri))) =
-      AreOctets-back (to_be_bytes w16 (length p.withdrawn)) _ (subst AreOctets s.octets octets) in
-      let behind_a : AreOctets (p.attributes ++ p.nlri) = AreOctets-back (to_be_bytes w16 (length p.attributes)) _ (AreOctets-back p.withdrawn _ behind_w) in
-      subst (λ (r : Routes). CanBeWritten ctx (withdrawal r) body × (says_nothing (withdrawal r) ≡ false)) is.routes_are
-      (is-withdrawal ctx p (AreOctets-front p.withdrawn _ behind_w) (AreOctets-front p.attributes p.nlri behind_a) (AreOctets-back p.attributes p.nlri behind_a)
-      is.no_reset is.reachable body s)
+pub withdrawal-written : (ctx : Context) (body : List ℕ) → AreOctets body → (routes : Routes) (notes : List Note) → verdict_of ctx body ≡ verdict.Withdraw routes notes
+    → CanBeWritten ctx (withdrawal routes) body × (says_nothing (withdrawal routes) ≡ false)
+withdrawal-written ctx body octets routes notes e =
+    let is = withdrawn-of ctx body routes notes e in
+    let p = has-parts body is.parts octets is.found in
+    subst (λ (r : Routes). CanBeWritten ctx (withdrawal r) body × (says_nothing (withdrawal r) ≡ false)) is.routes_are
+    (is-withdrawal ctx is.parts p.withdrawn p.attributes p.nlri is.no_reset is.reachable body p.is_body)

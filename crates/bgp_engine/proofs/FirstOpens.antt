@@ -1,6 +1,7 @@
 -- The first message of a stream.
-use Rattle.std.proofs.Common.{◌≡◌, ℕ, ◌+◌, ◌≤◌, true, false, List, [], ◌∷◌, ◌++◌, length, take, drop, Option, Some, None, Err, refl, sym, ap, ◌∙◌, arith}
+use Rattle.std.proofs.Common.{◌≡◌, ℕ, ◌+◌, ◌≤◌, true, false, List, ◌++◌, length, take, drop, Option, Some, None, Err, refl, sym, ap, ◌∙◌, arith}
 use Rattle.std.proofs.lemmas.Bool.{lt-ltb, le-ltb}
+use Rattle.std.proofs.Math.Seq.{drop-append_seam}
 use Rattle.std.proofs.lemmas.List.{length-append, take-append-drop, take-append-le, take_all}
 use Rattle.bgp_frame.specs.declared.fault.HeadFault.{HeadFault}
 use Rattle.bgp_frame.specs.Head.{head_of, header}
@@ -8,10 +9,6 @@ use Rattle.bgp_frame.specs.Frame.{Message, octets_of, IsFrame, Waits, wanted, wa
 use Rattle.bgp_frame.proofs.FrameLemmas.{head_of-append, head_of-IsFrame, length-IsFrame, wanted-append, wanted_by_head, IsFrame-wanted}
 use Rattle.bgp_frame.proofs.Headers.{length-header}
 use Rattle.bgp_engine.specs.File.{is_part, first_message, first_open, open_in}
-
-drop-front : (a b : List ℕ) → drop (length a) (a ++ b) ≡ b
-drop-front [] b = refl
-drop-front (x ∷ a) b = drop-front a b
 
 pub waits_part : (s : List ℕ) → Waits s → is_part s ≡ true
 waits_part s waits = lt-ltb (length s) (wanted s) waits
@@ -35,7 +32,7 @@ module _ (m : Message) (frame : List ℕ) (f : IsFrame m frame) (later : List �
   body_is =
       ap (drop 19) f.octets
       ∙ ap (λ (n : ℕ). drop n (octets_of m)) (sym (length-header m.kind (19 + length m.body)))
-      ∙ drop-front (header m.kind (19 + length m.body)) m.body
+      ∙ drop-append_seam (header m.kind (19 + length m.body)) m.body
 
   pub frame_first : first_message (frame ++ later) ≡ Some m
   frame_first =

@@ -8,6 +8,5 @@ pub mod Walks
 pub mod Digits
 pub mod Narrows
 pub mod FirstOpens
-pub mod Openings
 pub mod Startings
 pub mod Speakers

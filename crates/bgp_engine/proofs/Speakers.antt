@@ -1,17 +1,10 @@
 -- What a speaker's own OPEN tells of its settings.
-use Rattle.std.proofs.Common.{◌≡◌, ℕ, Bool, true, false, not, ◌&&◌, cond, eqb, List, ◌++◌, Ok, Err, refl, ap, ◌∙◌}
-use Rattle.std.specs.Prelude.{is_some}
-use Rattle.std.specs.List.{list_any}
+use Rattle.std.proofs.Common.{◌≡◌, ℕ, Bool, ◌&&◌, eqb, List, Ok, refl, ap, ◌∙◌}
 use Rattle.std.proofs.lemmas.Bool.{eqb-true}
-use Rattle.bgp_numbers.specs.declared.afi.TheConstants.{IPV4, IPV6}
-use Rattle.bgp_numbers.specs.declared.safi.TheConstants.{UNICAST}
-use Rattle.bgp_open.specs.declared.capability.Capability.TheVariants.{Multi, As4}
-use Rattle.bgp_open.specs.declared.agreement.PeerFault.TheVariants as peer
 use Rattle.bgp_open.specs.declared.context.Context.{Context}
 use Rattle.bgp_open.specs.Agreement.{agreement, context_of, peer_as_of, same_id}
-use Rattle.bgp_open.specs.Peer.{first_as4, is_unicast}
 use Rattle.bgp_open.specs.Config.{Settings, IsAllowed}
-use Rattle.bgp_open.specs.Own.{offered, own_of}
+use Rattle.bgp_open.specs.Own.{own_of}
 use Rattle.bgp_open.proofs.Agreements.{accepted, finds_ip4, finds_ip6, has_as4, peer_as-own}
 use Rattle.bgp_open.specs.Agreed.{agreed_context, settings_of}
 use Rattle.bgp_open.specs.Peer.{said_by}

@@ -1,7 +1,8 @@
 -- Steps of an engine that takes the first message of its stream by a rule of its own.
-use Rattle.std.proofs.Common.{◌≡◌, ℕ, ◌+◌, Bool, true, false, List, [], ◌++◌, length, take, drop, Option, Some, None, Result, Ok, Err, refl, sym, ap, subst, ◌∙◌, append_assoc, arith}
-use Rattle.std.specs.Prelude.{is_some}
-use Rattle.std.proofs.lemmas.List.{append-nil, length-append}
+use Rattle.std.proofs.Common.{◌≡◌, ℕ, ◌+◌, Bool, true, false, Bor, List, [], ◌++◌, length, take, drop, Option, option_map, Some, None, Result, Ok, Err, refl, sym, ap, subst, ◌∙◌, append_assoc, arith, inl, inr}
+use Rattle.std.specs.Prelude.{is_some, if◌then◌else◌, OnErr}
+use Rattle.std.specs.Option.{unwrap_or}
+use Rattle.std.proofs.lemmas.List.{append-nil, length-append, take_all}
 use Rattle.bgp_wire.specs.Octets.{AreOctets}
 use Rattle.bgp_wire.proofs.OctetLemmas.{AreOctets-nil, AreOctets-drop}
 use Rattle.bgp_frame.specs.declared.end.End.{End}
@@ -10,30 +11,69 @@ use Rattle.bgp_frame.specs.declared.fault.HeadFault.{HeadFault}
 use Rattle.bgp_frame.specs.Frame.{Message, octets_of, IsFrame, Waits}
 use Rattle.bgp_frame.specs.Head.{head_of}
 use Rattle.bgp_frame.specs.Takes as frame
-use Rattle.bgp_frame.proofs.FrameLemmas.{head_of-append, length-IsFrame}
+use Rattle.bgp_frame.proofs.FrameLemmas.{head_of-append, length-IsFrame, Stops-wanted}
+use Rattle.bgp_open.specs.declared.context.Context.{Context}
+use Rattle.bgp_wire.specs.OctetSet.{has_octet}
+use Rattle.bgp_engine.specs.declared.cleaning.CleanPage.{CleanPage}
 use Rattle.bgp_engine.specs.declared.class.Class.TheVariants as class
 use Rattle.bgp_engine.specs.declared.fault.Stop.TheVariants as stop
 use Rattle.bgp_engine.specs.declared.fault.ToolFault.{ToolFault}
 use Rattle.bgp_engine.specs.declared.fault.ToolFault.TheVariants as fault
 use Rattle.bgp_engine.specs.declared.tally.Tally.{Tally}
 use Rattle.bgp_engine.specs.declared.opening.Stage.TheVariants as stage
-use Rattle.bgp_engine.specs.Clean.{without_words}
-use Rattle.bgp_engine.specs.File.{first_message, is_part}
+use Rattle.bgp_engine.specs.Agree.{agreed}
+use Rattle.bgp_engine.specs.Clean.{start_in, without_words}
+use Rattle.bgp_engine.specs.File.{first_message, first_open, is_part, open_at, open_in}
 use Rattle.bgp_engine.specs.First.{Start, Starts, ReportedAt, ReportedAs, ReportedFrom, ReportedWith, ReportedWithout}
-use Rattle.bgp_engine.specs.Opens.{unagreed, unagreed_end}
+use Rattle.bgp_engine.specs.Opens.{ReportedBy, ReportedIn, fit_of, unagreed, unagreed_end}
 use Rattle.bgp_engine.specs.Report.{Report, behind, IsOver, IsWaiting}
 use Rattle.bgp_engine.specs.Rules.{Rules, counted, report_of, IsReport}
 use Rattle.bgp_engine.specs.Run.{Answers, Io, Reports}
 use Rattle.bgp_engine.specs.Tally.{no_tally}
-use Rattle.bgp_engine.specs.steps.Engine.{Closes, ClosesBy, Rests, Takes}
-use Rattle.bgp_engine.specs.steps.Starting.{BeginsWithout, GoesOn, IsFresh, Settles, reports_in, starting}
+use Rattle.bgp_engine.specs.steps.Cleaning.{clean_plan, page_rules, starts_for}
+use Rattle.bgp_engine.specs.steps.Engine.{ClosesBy, Rests, Takes}
+use Rattle.bgp_engine.specs.steps.Pages.{Plan}
+use Rattle.bgp_engine.specs.steps.Starting.{SettlesOn, start_of, starts_of, GoesOn, IsFresh, Settles, reports_in, starting}
 use Rattle.bgp_engine.specs.steps.Walking.{Walking, IsCounting, IsGoing, ended_by, place_behind, reports_of, walking}
 use Rattle.bgp_engine.proofs.FirstOpens.{waits_part, frame_first, frame_whole, fault_whole, fault_first}
-use Rattle.bgp_engine.proofs.Openings.{all_fed, fed_whole}
-use Rattle.bgp_engine.proofs.Walks.{drop-front, messages_in-bound, report_wait, some_report}
+use Rattle.bgp_engine.proofs.Walks.{fed_whole, messages_in-bound, report_wait, some_report}
+use Rattle.std.proofs.Math.Seq.{drop-append_seam}
 
-drop_front : (a b : List ℕ) → drop (length a) (a ++ b) ≡ b
-drop_front a b = ap (λ (n : ℕ). drop n (a ++ b)) (let same : length a ≡ length a + 0 = omega arith in same) ∙ drop-front a b 0
+-- ---- one taking behind another
+
+pub takes_both : (a b d : Reports) (going going1 : Type 0) (t0 t1 t2 x y : List ℕ) (over : Bool) → Takes a b going t0 t1 x false → Takes b d going1 t1 t2 y over → Takes a d going1 t0 t2 (x ++ y) over
+takes_both a b d going going1 t0 t1 t2 x y over p q = record {
+  lines = p.lines ++ q.lines;
+  told = q.told ∙ ap (λ (t : List ℕ). t ++ q.lines) p.told ∙ append_assoc t0 p.lines q.lines;
+  goes_on = λ later r g.
+      subst (λ (s : List ℕ). a s (behind (p.lines ++ q.lines) r)) (sym (append_assoc x y later))
+      (subst (λ (l : List ℕ). a (x ++ (y ++ later)) (record { lines = l; last = r.last; end_of = r.end_of; answer = r.answer })) (sym (append_assoc p.lines q.lines r.lines))
+      (p.goes_on (y ++ later) (behind q.lines r) (q.goes_on later r g)));
+  stands = q.stands;
+}
+
+-- what stands behind the end of a stream isn't taken
+pub takes_once : (a b : Reports) (going : Type 0) (t0 t1 x y : List ℕ) → Takes a b going t0 t1 x true → Takes a b going t0 t1 (x ++ y) true
+takes_once a b going t0 t1 x y p = record {
+  lines = p.lines;
+  told = p.told;
+  goes_on = λ later r g. subst (λ (s : List ℕ). a s (behind p.lines r)) (sym (append_assoc x y later)) (p.goes_on (y ++ later) r (p.stands.always later (y ++ later) r g));
+  stands = p.stands;
+}
+
+pub on_err : {T E : Type 0} (r : Result T E) (P : Type 0) → P → OnErr r P
+on_err (Ok x) P p = tt
+on_err (Err e) P p = p
+
+-- ---- octets of the first message
+
+-- where that waits, all were fed
+pub all_fed : (held octets : List ℕ) (n : ℕ) → frame.Takes held octets n → Waits (held ++ take n octets) → take n octets ≡ octets
+all_fed held octets n t waits =
+    elim t.all_or_stops [
+      | inl all ↦ take_all n octets (omega (arith, all))
+      | inr stops ↦ let w = Stops-wanted (held ++ take n octets) stops in absurd (omega (arith, w.1))
+    ]
 
 pub no_end : (o : Option End) → is_some o ≡ false → o ≡ None
 no_end None is = refl
@@ -79,7 +119,7 @@ module _ {Outcome : Type 0} (starts : Starts Outcome) where
         (record {
           report = r;
           rest = subst (λ (n : ℕ). IsReport rules n (counted no_tally n class.Took) (drop n (held ++ later)) r) (ap length f.octets)
-              (subst (λ (x : List ℕ). IsReport rules (length held) (counted no_tally (length held) class.Took) x r) (sym (drop_front held later)) q);
+              (subst (λ (x : List ℕ). IsReport rules (length held) (counted no_tally (length held) class.Took) x r) (sym (drop-append_seam held later)) q);
           told = refl;
         })
 
@@ -89,11 +129,8 @@ module _ {Outcome : Type 0} (starts : Starts Outcome) where
   -- ---- none can be read
 
   module _ (s : List ℕ) (none : first_message s ≡ None) where
-    pub without : (rules : Rules Outcome) (r : Report) → BeginsWithout true (starts None) rules → IsReport rules 0 no_tally s r → ReportedFrom starts s r
-    without rules r b q = rw (none, b.1) (subst (λ (x : Rules Outcome). IsReport x 0 no_tally s r) (sym b.2) q)
-
-    pub unagreed_without : (part : Bool) → is_part s ≡ part → starts None ≡ None → ReportedFrom starts s (unagreed (unagreed_end s))
-    unagreed_without part is e = rw (none, e) refl
+    pub without : (rules : Rules Outcome) (r : Report) → starts None ≡ Some (record { rules = rules; first = None }) → IsReport rules 0 no_tally s r → ReportedFrom starts s r
+    without rules r e q = rw (none, e) q
 
   -- ---- how a stream goes on behind what is held
 
@@ -165,7 +202,7 @@ module _ {Outcome : Type 0} (starts : Starts Outcome) where
       no_part later =
           fault_whole (held ++ later) h (omega (arith, size, length-append held later)) (head_of-append held later (omega (arith, size)) ∙ faulty)
 
-      pub settles_fault : BeginsWithout true (starts None) rules1 → Settles stage.Agreed starts held told told1 held_walk
+      pub settles_fault : starts None ≡ Some (record { rules = rules1; first = None }) → Settles stage.Agreed starts held told told1 held_walk
       settles_fault b = record {
         lines = [];
         told = same ∙ sym (append-nil told);
@@ -252,21 +289,12 @@ module _ {Outcome : Type 0} (starts : Starts Outcome) where
 pub closes_unagreed : {Outcome : Type 0} (starts : Starts Outcome) (w : Walking Outcome) (told : List ℕ) → ClosesBy (reports_in (starting starts stage.Unagreed w)) told told (Err fault.NoOpen)
 closes_unagreed starts w told = record { report = unagreed end.Reset; reported = refl; none = refl; told = sym (append-nil told); answers = refl }
 
-closed_as : (a b : Reports) (t0 t1 : List ℕ) (answer : Result Tally ToolFault) → ((r : Report) → a [] r → b [] r) → ClosesBy a t0 t1 answer → ClosesBy b t0 t1 answer
-closed_as a b t0 t1 answer map c = record { report = c.report; reported = map c.report c.reported; none = c.none; told = c.told; answers = c.answers }
-
 -- what is reported by one relation is by another
-pub closes_as : (a b : Reports) (t0 t1 : List ℕ) (answer : Result Tally ToolFault) → ((r : Report) → a [] r → b [] r) → Closes a t0 t1 answer → Closes b t0 t1 answer
-closes_as a b t0 t1 (Ok tally) map c = closed_as a b t0 t1 (Ok tally) map c
-closes_as a b t0 t1 (Err fault.Memory) map c = (c.0, map c.0 c.1, c.2)
-closes_as a b t0 t1 (Err fault.Read) map c = c
-closes_as a b t0 t1 (Err fault.Write) map c = c
-closes_as a b t0 t1 (Err (fault.BadHex n)) map c = c
-closes_as a b t0 t1 (Err (fault.Script n)) map c = c
-closes_as a b t0 t1 (Err fault.Net) map c = c
-closes_as a b t0 t1 (Err (fault.Narrow n)) map c = closed_as a b t0 t1 (Err (fault.Narrow n)) map c
-closes_as a b t0 t1 (Err (fault.Clean n why)) map c = (c.0, closed_as a b t0 t1 (Err (fault.Clean n why)) map c.1)
-closes_as a b t0 t1 (Err fault.NoOpen) map c = closed_as a b t0 t1 (Err fault.NoOpen) map c
+pub answers_as : (a b : Reports) (hex : Bool) (io : Io) (answer : Result Tally ToolFault) → ((s : List ℕ) (r : Report) → a s r → b s r) → Answers a hex io answer → Answers b hex io answer
+answers_as a b hex io (Ok tally) map f =
+    record { text = f.text; read = f.read; report = f.report; reported = map _ f.report f.reported; answers = f.answers; wrote = f.wrote; all_read = f.all_read }
+answers_as a b hex io (Err fault) map f =
+    record { text = f.text; read = f.read; report = f.report; reported = map _ f.report f.reported; written = f.written; wrote = f.wrote; is_fault = f.is_fault }
 
 -- an engine's answer has no words
 pub wordless : (reports : Reports) (hex : Bool) (io : Io) (answer : Result Tally ToolFault) → Answers reports hex io answer → without_words answer ≡ answer
@@ -282,3 +310,66 @@ wordless reports hex io (Err (fault.Clean n stop.Unsaid)) a = refl
 wordless reports hex io (Err (fault.Clean n stop.Incomplete)) a = refl
 wordless reports hex io (Err (fault.Clean n (stop.At why))) a = absurd a.is_fault.0
 wordless reports hex io (Err fault.NoOpen) a = refl
+
+-- ---- how a page's stream is read
+
+module _ {P Outcome : Type 0} (fits : Context → Bool) (rules : P → Rules Outcome) (plan : P → Option Context → Plan Outcome) where
+  abbrev from : Option (List ℕ) → P → Starts Outcome
+  from theirs page = starts_of fits rules plan theirs page
+
+  pub known : (o : Option (Bor (List ℕ))) (page : P) → is_some o ≡ false → from (option_map (λ t. t.now) o) page None ≡ Some (record { rules = rules page; first = None })
+  known None page is = refl
+  known (Some theirs) page is = absurd cc
+
+  pub unknown : (o : Option (Bor (List ℕ))) (page : P) → is_some o ≡ true → from (option_map (λ t. t.now) o) page None ≡ None
+  unknown None page is = absurd cc
+  unknown (Some theirs) page is = refl
+
+  module _ (theirs : List ℕ) (old new : P) (m : Message) where
+    none_agreed : None ≡ agreed (open_in m.kind m.body) (first_open theirs) → from (Some theirs) old (Some m) ≡ None
+    none_agreed e = ap (λ (o : Option Context). option_map (λ ctx. start_of m (plan old (Some ctx))) (fit_of fits o)) (sym e)
+
+    -- both agree on a context, and the page has it where that will do
+    pub agrees_on : (ctx : Context) (b : Bool) → Some ctx ≡ agreed (open_in m.kind m.body) (first_open theirs) → b ≡ fits ctx → (b ≡ true → plan new None ≡ plan old (Some ctx))
+        → SettlesOn b (from (Some theirs) old (Some m)) (plan new None) m
+    agrees_on ctx true e is same =
+        ap (λ (o : Option Context). option_map (λ c. start_of m (plan old (Some c))) (fit_of fits o)) (sym e)
+        ∙ ap (λ (b : Bool). option_map (λ c. start_of m (plan old (Some c))) (if b then Some ctx else None)) (sym is)
+        ∙ ap (λ (p : Plan Outcome). Some (start_of m p)) (sym (same refl))
+    agrees_on ctx false e is same =
+        ap (λ (o : Option Context). option_map (λ c. start_of m (plan old (Some c))) (fit_of fits o)) (sym e)
+        ∙ ap (λ (b : Bool). option_map (λ c. start_of m (plan old (Some c))) (if b then Some ctx else None)) (sym is)
+
+  -- no first message has a rule of its own: the stream is reported in the context that both agree on
+  pub opened : (theirs : List ℕ) (page : P) → ((ctx : Context) (m : Message) → (plan page (Some ctx)).first m ≡ None) → (s : List ℕ) (r : Report)
+      → ReportedFrom (from (Some theirs) page) s r → ReportedBy fits theirs (λ ctx. IsReport (plan page (Some ctx)).rules 0 no_tally) s r
+  opened theirs page plain s r q = by_first (first_message s) q
+    where
+      by_fit : (m : Message) (o : Option Context) → ReportedWith (option_map (λ ctx. start_of m (plan page (Some ctx))) o) (length (octets_of m)) s r
+          → ReportedIn o (λ ctx. IsReport (plan page (Some ctx)).rules 0 no_tally) s r
+      by_fit m None given = given
+      by_fit m (Some ctx) given = subst (λ (text : Option (List ℕ)). ReportedAs (plan page (Some ctx)).rules text (length (octets_of m)) s r) (plain ctx m) given
+
+      by_first : (o : Option Message) → ReportedAt (from (Some theirs) page) o s r → ReportedIn (fit_of fits (agreed (open_at o) (first_open theirs))) (λ ctx. IsReport (plan page (Some ctx)).rules 0 no_tally) s r
+      by_first None given = given
+      by_first (Some m) given = by_fit m (fit_of fits (agreed (open_in m.kind m.body) (first_open theirs))) given
+
+-- two ways to read a stream that are one for each first message
+pub from_same : {Outcome : Type 0} (a b : Starts Outcome) → ((o : Option Message) → a o ≡ b o) → (s : List ℕ) (r : Report) → ReportedFrom a s r → ReportedFrom b s r
+from_same {Outcome = Outcome} a b same s r q = by_first (first_message s) q
+  where
+    by_first : (o : Option Message) → ReportedAt a o s r → ReportedAt b o s r
+    by_first None given = subst (λ (x : Option (Start Outcome)). ReportedWithout x s r) (same None) given
+    by_first (Some m) given = subst (λ (x : Option (Start Outcome)). ReportedWith x (length (octets_of m)) s r) (same (Some m)) given
+
+-- what `clean` has for a page is what its own streams are read by
+pub clean_same : (theirs : Option (List ℕ)) (page : CleanPage) (o : Option Message)
+    → starts_of (λ _. true) page_rules (λ p ctx. clean_plan (unwrap_or ctx p.ctx) (has_octet p.drops)) theirs page o ≡ starts_for theirs page o
+clean_same None page None = refl
+clean_same None page (Some m) = refl
+clean_same (Some theirs) page None = refl
+clean_same (Some theirs) page (Some m) = by_agreed (agreed (open_in m.kind m.body) (first_open theirs))
+  where
+    by_agreed : (o : Option Context) → option_map (λ ctx. start_of m (clean_plan ctx (has_octet page.drops))) (fit_of (λ _. true) o) ≡ option_map (start_in (has_octet page.drops) (Some m)) o
+    by_agreed None = refl
+    by_agreed (Some ctx) = refl

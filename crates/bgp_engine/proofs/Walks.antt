@@ -1,7 +1,7 @@
 -- Reports of a stream, built from the front; and the steps of a walk over it.
 use Rattle.std.proofs.Common.{◌≡◌, ℕ, zero, suc, ◌+◌, ◌-◌, ◌≤◌, ◌^◌, Bool, true, false, cond, List, [], ◌∷◌, ◌++◌, length, take, drop, Option, Some, None, Result, Ok, Err, refl, sym, ap, subst, ◌∙◌, append_assoc, arith}
 use Rattle.std.specs.Prelude.{◌==◌, if◌then◌else◌, is_some}
-use Rattle.std.proofs.lemmas.List.{append-nil, length-append, length-drop, length-take, take-append-drop, take-append-le}
+use Rattle.std.proofs.lemmas.List.{append-nil, length-append, length-drop, length-take, take-append-drop}
 use Rattle.std.proofs.lemmas.Bool.{eqb-true}
 use Rattle.std.proofs.Math.Seq.{take-append_seam}
 use Rattle.bgp_wire.specs.Octets.{AreOctets}
@@ -9,11 +9,8 @@ use Rattle.bgp_wire.proofs.OctetLemmas.{AreOctets-nil, AreOctets-append}
 use Rattle.bgp_frame.specs.declared.end.End.{End}
 use Rattle.bgp_frame.specs.declared.end.End.TheVariants as end
 use Rattle.bgp_frame.specs.declared.fault.HeadFault.{HeadFault}
-use Rattle.bgp_frame.specs.declared.pull.Pull.TheVariants as pull
-use Rattle.bgp_frame.specs.declared.step.Frame.{Frame}
 use Rattle.bgp_frame.specs.Head.{head_of}
 use Rattle.bgp_frame.specs.Frame.{Message, octets_of, IsFrame, Waits}
-use Rattle.bgp_frame.specs.Pull.{IsPull}
 use Rattle.bgp_frame.specs.Stream.{Gives}
 use Rattle.bgp_frame.specs.Takes.{Stops}
 use Rattle.bgp_frame.proofs.FrameLemmas.{head_of-append, length-IsFrame, Stops-wanted}
@@ -156,6 +153,11 @@ pub drop_none : (k : ℕ) → drop {A = ℕ} k [] ≡ []
 drop_none zero = refl
 drop_none (suc k) = refl
 
+pub fed_whole : (held octets : List ℕ) (n : ℕ) (later : List ℕ) → (held ++ take n octets) ++ (drop n octets ++ later) ≡ held ++ (octets ++ later)
+fed_whole held octets n later =
+    append_assoc held (take n octets) (drop n octets ++ later) ∙ ap (λ (x : List ℕ). held ++ x) (sym (append_assoc (take n octets) (drop n octets) later))
+    ∙ ap (λ (x : List ℕ). held ++ (x ++ later)) (take-append-drop n octets)
+
 pub not_waiting : (held octets : List ℕ) (n : ℕ) → n ≡ 0 → Waits held → Stops (held ++ take n octets) → ⊥
 not_waiting held octets n none waits stops =
     let long = Stops-wanted held (subst Stops (ap (λ (k : ℕ). held ++ take k octets) none ∙ append-nil held) stops) in
@@ -186,9 +188,6 @@ module _ {Outcome : Type 0} where
   pub open_reports : (w : Walking Outcome) (later : List ℕ) (r : Report) → w.ended ≡ None → IsReport w.rules w.place w.tally (w.held ++ later) r → reports_of w later r
   open_reports w later r e q = subst (λ (x : Option End). reports_by x w.rules w.place w.tally (w.held ++ later) r) (sym e) q
 
-  pub reports_open : (w : Walking Outcome) (later : List ℕ) (r : Report) → w.ended ≡ None → reports_of w later r → IsReport w.rules w.place w.tally (w.held ++ later) r
-  reports_open w later r e q = subst (λ (x : Option End). reports_by x w.rules w.place w.tally (w.held ++ later) r) e q
-
   -- nothing was taken
   pub Moves-none : (w : Walking Outcome) (told octets : List ℕ) → IsGoing w → Moves w w told told octets octets
   Moves-none w told octets g = record {
@@ -200,102 +199,86 @@ module _ {Outcome : Type 0} where
     stands = subst (λ (x : Option End). StandsBy x w (w.place + length w.held)) (sym g.counting.open_ended) (g, refl);
   }
 
-  -- ---- a message
+  -- ---- octets that are pulled, up to the end of a message or of a header with a fault
 
-  module _ (old : Walking Outcome) (told0 told1 before after : List ℕ) (m : Message) (frame : List ℕ) (c : IsCounting old) (f : IsFrame m frame)
-      (fits : old.place + length old.held + length before ≤ 2 ^ 60) (parts : (later : List ℕ) → old.held ++ (before ++ later) ≡ frame ++ (after ++ later)) where
-    abbrev pub seen_of : Outcome
-    seen_of = old.rules.judge.of_message m
+  module _ (old : Walking Outcome) (octets t0 t1 : List ℕ) (n : ℕ) (c : IsCounting old) (le : n ≤ length octets) where
+    abbrev frame : List ℕ
+    frame = old.held ++ take n octets
 
-    abbrev pub next : Class → Walking Outcome
-    next k = record { rules = old.rules; held = []; place = place_behind old.place (length frame) k; tally = counted old.tally (length frame) k; ended = ended_by k }
+    abbrev after : List ℕ
+    after = drop n octets
 
-    some : 19 ≤ length frame
-    some = let n = length-IsFrame m frame f in omega arith
+    lengths : length old.held + length octets ≡ length frame + length after
+    lengths = omega (arith, le, length-append old.held (take n octets), length-take n octets, length-drop n octets)
 
-    lengths : length old.held + length before ≡ length frame + length after
-    lengths =
-        let whole = ap length (parts []) in
-        let l = length-append old.held (before ++ []) in
-        let l1 = ap length (append-nil before) in
-        let k = length-append frame (after ++ []) in
-        let k1 = ap length (append-nil after) in
-        omega arith
+    -- what is reported of them and of what comes, is reported of all
+    of_all : (later : List ℕ) (r : Report) → IsReport old.rules old.place old.tally (frame ++ (after ++ later)) r → reports_of old (octets ++ later) r
+    of_all later r q = open_reports old (octets ++ later) r c.open_ended (subst (λ (x : List ℕ). IsReport old.rules old.place old.tally x r) (fed_whole old.held octets n later) q)
 
-    stands : (k : Class) → StandsBy (ended_by k) (next k) (old.place + length frame)
-    stands class.Took =
-        let n = lengths in
-        let one = messages_in-bound (length frame) in (
-          record {
-            counting = record { open_ended = refl; octets = AreOctets-nil; place = omega (arith, fits); messages = omega (arith, c.messages, some, one); took = omega (arith, c.took, some); withdrawn = omega (arith, c.withdrawn); resets = c.resets };
-            waits = nothing_waits;
-          },
-          omega arith,
-        )
-    stands class.Withdrawn =
-        let n = lengths in
-        let one = messages_in-bound (length frame) in (
-          record {
-            counting = record { open_ended = refl; octets = AreOctets-nil; place = omega (arith, fits); messages = omega (arith, c.messages, some, one); took = omega (arith, c.took); withdrawn = omega (arith, c.withdrawn, some); resets = c.resets };
-            waits = nothing_waits;
-          },
-          omega arith,
-        )
-    stands class.Reset = tt
+    module _ (m : Message) (f : IsFrame m frame) where
+      abbrev next : Class → Walking Outcome
+      next k = walking old.rules [] (place_behind old.place (length frame) k) (counted old.tally (length frame) k) (ended_by k)
 
-    abbrev pub line : List ℕ
-    line = old.rules.line old.place (length frame) (octets_of m) seen_of
+      abbrev line : List ℕ
+      line = old.rules.line old.place (length frame) (octets_of m) (old.rules.judge.of_message m)
 
-    of_frame : (later : List ℕ) (r : Report) → IsReport old.rules old.place old.tally (frame ++ (after ++ later)) (behind line r) → reports_of old (before ++ later) (behind line r)
-    of_frame later r q = open_reports old (before ++ later) (behind line r) c.open_ended (subst (λ (x : List ℕ). IsReport old.rules old.place old.tally x (behind line r)) (sym (parts later)) q)
+      some : 19 ≤ length frame
+      some = let n = length-IsFrame m frame f in omega arith
 
-    goes : (k : Class) → Writes old.rules told0 told1 old.place (length frame) m k → (later : List ℕ) (r : Report) → reports_of (next k) (after ++ later) r → reports_of old (before ++ later) (behind line r)
-    goes class.Took w later r q =
-        of_frame later r (report_more old.rules old.place old.tally m frame (after ++ later) f r w.ends
-        (subst (λ (k : Class). IsReport old.rules (old.place + length frame) (counted old.tally (length frame) k) (after ++ later) r) w.counts q))
-    goes class.Withdrawn w later r q =
-        of_frame later r (report_more old.rules old.place old.tally m frame (after ++ later) f r w.ends
-        (subst (λ (k : Class). IsReport old.rules (old.place + length frame) (counted old.tally (length frame) k) (after ++ later) r) w.counts q))
-    goes class.Reset w later r q =
-        of_frame later r (subst (λ (x : Report). IsReport old.rules old.place old.tally (frame ++ (after ++ later)) (behind line x)) (sym (q ∙ ap (λ (k : Class). closing old.rules old.place (counted old.tally (length frame) k) end.Reset) w.counts))
-        (report_reset old.rules old.place old.tally m frame (after ++ later) f w.ends))
+      module _ (fits : old.place + length old.held + length octets ≤ 2 ^ 60) where
+        going : (t : Tally) → t.messages ≤ old.place + length frame → t.took ≤ old.place + length frame → t.withdrawn ≤ old.place + length frame → t.resets ≡ 0
+            → IsGoing (walking old.rules [] (old.place + length frame) t None)
+        going t messages took withdrawn resets = record {
+          counting = record { open_ended = refl; octets = AreOctets-nil; place = omega (arith, fits, lengths); messages = messages; took = took; withdrawn = withdrawn; resets = resets };
+          waits = nothing_waits;
+        }
 
-    pub Moves-message : (k : Class) → Writes old.rules told0 told1 old.place (length frame) m k → Moves old (next k) told0 told1 before after
-    Moves-message k w = record {
-      lines = line;
-      told = w.told;
-      goes_on = goes k w;
-      left = old.place + length frame;
-      count = (let n = lengths in omega arith);
-      stands = stands k;
-    }
+        stands : (k : Class) → StandsBy (ended_by k) (next k) (old.place + length frame)
+        stands class.Took =
+            let one = messages_in-bound (length frame) in
+            (going _ (omega (arith, c.messages, some, one)) (omega (arith, c.took, some)) (omega (arith, c.withdrawn)) c.resets, omega arith)
+        stands class.Withdrawn =
+            let one = messages_in-bound (length frame) in
+            (going _ (omega (arith, c.messages, some, one)) (omega (arith, c.took)) (omega (arith, c.withdrawn, some)) c.resets, omega arith)
+        stands class.Reset = tt
 
-  -- ---- a header's fault
+      goes : (k : Class) → Writes old.rules t0 t1 old.place (length frame) m k → (later : List ℕ) (r : Report) → reports_of (next k) (after ++ later) r → reports_of old (octets ++ later) (behind line r)
+      goes class.Took w later r q =
+          of_all later (behind line r) (report_more old.rules old.place old.tally m frame (after ++ later) f r w.ends
+          (subst (λ (k : Class). IsReport old.rules (old.place + length frame) (counted old.tally (length frame) k) (after ++ later) r) w.counts q))
+      goes class.Withdrawn w later r q =
+          of_all later (behind line r) (report_more old.rules old.place old.tally m frame (after ++ later) f r w.ends
+          (subst (λ (k : Class). IsReport old.rules (old.place + length frame) (counted old.tally (length frame) k) (after ++ later) r) w.counts q))
+      goes class.Reset w later r q =
+          of_all later (behind line r) (subst (λ (x : Report). IsReport old.rules old.place old.tally (frame ++ (after ++ later)) (behind line x)) (sym (q ∙ ap (λ (k : Class). closing old.rules old.place (counted old.tally (length frame) k) end.Reset) w.counts))
+          (report_reset old.rules old.place old.tally m frame (after ++ later) f w.ends))
 
-  module _ (old : Walking Outcome) (told0 told1 before after : List ℕ) (h : HeadFault) (header : List ℕ) (c : IsCounting old) (long : 19 ≤ length header) (faulty : head_of header ≡ Err h)
-      (parts : (later : List ℕ) → old.held ++ (before ++ later) ≡ header ++ later) (fewer : length after ≤ length before) where
-    abbrev pub closed : List ℕ → Walking Outcome
-    closed held = record { rules = old.rules; held = held; place = old.place; tally = counted old.tally 0 class.Reset; ended = Some end.Head }
+      pub Moves-message : (k : Class) (len : ℕ) → len ≡ length frame → old.place + length old.held + length octets ≤ 2 ^ 60 → Writes old.rules t0 t1 old.place len m k
+          → Moves old (walking old.rules [] (place_behind old.place len k) (counted old.tally len k) (ended_by k)) t0 t1 octets after
+      Moves-message k len same fits w =
+          let wrote = subst (λ (i : ℕ). Writes old.rules t0 t1 old.place i m k) same w in
+          subst (λ (i : ℕ). Moves old (walking old.rules [] (place_behind old.place i k) (counted old.tally i k) (ended_by k)) t0 t1 octets after) (sym same)
+          (record { lines = line; told = wrote.told; goes_on = goes k wrote; left = old.place + length frame; count = omega (arith, lengths); stands = stands fits k })
 
-    abbrev pub fault_line : List ℕ
-    fault_line = old.rules.line old.place 0 (take 19 header) (old.rules.judge.of_fault h)
+    module _ (h : HeadFault) (size : length frame ≡ 19) (faulty : head_of frame ≡ Err h) where
+      abbrev fault_line : List ℕ → List ℕ
+      fault_line header = old.rules.line old.place 0 header (old.rules.judge.of_fault h)
 
-    pub Moves-fault : (held : List ℕ) → WritesFault old.rules told0 told1 old.place (take 19 header) h → Moves old (closed held) told0 told1 before after
-    Moves-fault held w = record {
-      lines = fault_line;
-      told = w.told;
-      goes_on = λ later r q.
-          let more : 19 ≤ length (header ++ later) = omega (arith, length-append header later, long) in
-          let bad : head_of (header ++ later) ≡ Err h = head_of-append header later long ∙ faulty in
-          open_reports old (before ++ later) (behind fault_line r) c.open_ended
-          (subst (λ (x : List ℕ). IsReport old.rules old.place old.tally x (behind fault_line r)) (sym (parts later))
-          (subst (λ (x : Report). IsReport old.rules old.place old.tally (header ++ later) (behind fault_line x)) (sym (q ∙ ap (λ (k : Class). closing old.rules old.place (counted old.tally 0 k) end.Head) (sym w.counts)))
-          (subst (λ (x : List ℕ). IsReport old.rules old.place old.tally (header ++ later) (behind (old.rules.line old.place 0 x (old.rules.judge.of_fault h)) (closing old.rules old.place (counted old.tally 0 (old.rules.class (old.rules.judge.of_fault h))) end.Head)))
-          (take-append-le 19 header later long) (report_fault old.rules old.place old.tally (header ++ later) h more bad))));
-      left = old.place + length old.held + (length before - length after);
-      count = omega (arith, fewer);
-      stands = tt;
-    }
+      pub Moves-fault : WritesFault old.rules t0 t1 old.place frame h → Moves old (walking old.rules old.held old.place (counted old.tally 0 class.Reset) (Some end.Head)) t0 t1 octets after
+      Moves-fault w = record {
+        lines = fault_line frame;
+        told = w.told;
+        goes_on = λ later r q.
+            let s : List ℕ = frame ++ (after ++ later) in
+            let front : take 19 s ≡ frame = ap (λ (k : ℕ). take k s) (sym size) ∙ take-append_seam frame (after ++ later) in
+            of_all later (behind (fault_line frame) r)
+            (subst (λ (x : Report). IsReport old.rules old.place old.tally s (behind (fault_line frame) x)) (sym (q ∙ ap (λ (k : Class). closing old.rules old.place (counted old.tally 0 k) end.Head) (sym w.counts)))
+            (subst (λ (x : List ℕ). IsReport old.rules old.place old.tally s (behind (fault_line x) (closing old.rules old.place (counted old.tally 0 (old.rules.class (old.rules.judge.of_fault h))) end.Head))) front
+            (report_fault old.rules old.place old.tally s h (omega (arith, size, length-append frame (after ++ later))) (head_of-append frame (after ++ later) (omega (arith, size)) ∙ faulty))));
+        left = old.place + length frame;
+        count = omega (arith, lengths);
+        stands = tt;
+      }
 
   -- ---- one step behind another
 
@@ -312,63 +295,24 @@ module _ {Outcome : Type 0} where
         stands = q.stands;
       }
 
-  -- ---- octets behind those that are held
-
-  module _ (old : Walking Outcome) (octets : List ℕ) (n : ℕ) (le : n ≤ length octets) where
-    abbrev pub fed : Walking Outcome
-    fed = walking old.rules (old.held ++ take n octets) old.place old.tally old.ended
-
-    length-fed : length fed.held ≡ length old.held + n
-    length-fed = omega (arith, length-append old.held (take n octets), length-take n octets)
-
-    pub fed_whole : (later : List ℕ) → fed.held ++ (drop n octets ++ later) ≡ old.held ++ (octets ++ later)
-    fed_whole later =
-        append_assoc old.held (take n octets) (drop n octets ++ later) ∙ ap (λ (x : List ℕ). old.held ++ x) (sym (append_assoc (take n octets) (drop n octets) later))
-        ∙ ap (λ (x : List ℕ). old.held ++ (x ++ later)) (take-append-drop n octets)
-
-    pub Moves-fed : (new : Walking Outcome) (t0 t1 : List ℕ) → Moves fed new t0 t1 [] [] → Moves old new t0 t1 octets (drop n octets)
-    Moves-fed new t0 t1 p = record {
-      lines = p.lines;
-      told = p.told;
-      goes_on = λ later r q. subst (λ (x : List ℕ). reports_by old.ended old.rules old.place old.tally x (behind p.lines r)) (fed_whole later) (p.goes_on (drop n octets ++ later) r q);
-      left = p.left;
-      count = (let len = length-fed in let rest = length-drop n octets in omega (arith, p.count, le));
-      stands = p.stands;
-    }
-
-  -- ---- octets that are pulled
+  Moves-fed : (old new : Walking Outcome) (octets t0 t1 : List ℕ) (n : ℕ) → n ≤ length octets → Moves (walking old.rules (old.held ++ take n octets) old.place old.tally old.ended) new t0 t1 [] []
+      → Moves old new t0 t1 octets (drop n octets)
+  Moves-fed old new octets t0 t1 n le p = record {
+    lines = p.lines;
+    told = p.told;
+    goes_on = λ later r q. subst (λ (x : List ℕ). reports_by old.ended old.rules old.place old.tally x (behind p.lines r)) (fed_whole old.held octets n later) (p.goes_on (drop n octets ++ later) r q);
+    left = p.left;
+    count = omega (arith, p.count, le, length-append old.held (take n octets), length-take n octets, length-drop n octets);
+    stands = p.stands;
+  }
 
   -- what is fed is judged then
   pub Moves-judged : (old mid new : Walking Outcome) (octets held t0 t1 t2 : List ℕ) (n m k : ℕ) → n ≡ 0 → mid.ended ≡ None → Moves old mid t0 t1 octets (drop n octets)
       → m ≤ length octets → held ≡ mid.held ++ take m octets → Moves (walking mid.rules held mid.place mid.tally mid.ended) new t1 t2 [] (drop k []) → Moves old new t0 t2 octets (drop m octets)
   Moves-judged old mid new octets held t0 t1 t2 n m k none going p le is q =
       Moves-more old mid new t0 t1 t2 octets octets (drop m octets) (subst (λ (i : ℕ). Moves old mid t0 t1 octets (drop i octets)) none p) going
-      (Moves-fed mid octets m le new t1 t2 (subst (λ (h : List ℕ). Moves (walking mid.rules h mid.place mid.tally mid.ended) new t1 t2 [] []) is
+      (Moves-fed mid new octets t1 t2 m le (subst (λ (h : List ℕ). Moves (walking mid.rules h mid.place mid.tally mid.ended) new t1 t2 [] []) is
       (subst (λ (x : List ℕ). Moves (walking mid.rules held mid.place mid.tally mid.ended) new t1 t2 [] x) (drop_none k) q)))
-
-  module _ (old : Walking Outcome) (octets t0 t1 : List ℕ) (n : ℕ) (c : IsCounting old) where
-    pulled_whole : old.held ++ octets ≡ (old.held ++ take n octets) ++ drop n octets
-    pulled_whole = ap (λ (x : List ℕ). old.held ++ x) (sym (take-append-drop n octets)) ∙ sym (append_assoc old.held (take n octets) (drop n octets))
-
-    pub Moves-pulled : (frame : Frame) (k : Class) → IsPull old.held octets (pull.Frame n frame) → old.place + length old.held + length octets ≤ 2 ^ 60
-        → Writes old.rules t0 t1 old.place frame.len (record { kind = frame.kind; body = frame.body.now }) k
-        → Moves old (walking old.rules [] (place_behind old.place frame.len k) (counted old.tally frame.len k) (ended_by k)) t0 t1 octets (drop n octets)
-    Moves-pulled frame k found fits w =
-        let m : Message = record { kind = frame.kind; body = frame.body.now } in
-        subst (λ (i : ℕ). Moves old (walking old.rules [] (place_behind old.place i k) (counted old.tally i k) (ended_by k)) t0 t1 octets (drop n octets)) (sym found.1.1)
-        (Moves-message old t0 t1 octets (drop n octets) m (old.held ++ take n octets) c found.1.0 fits (λ later. sym (fed_whole old octets n found.0.takes.within later)) k
-        (subst (λ (i : ℕ). Writes old.rules t0 t1 old.place i m k) found.1.1 w))
-
-    pub Moves-pulled-fault : (h : HeadFault) → IsPull old.held octets (pull.Fault n h) → WritesFault old.rules t0 t1 old.place (old.held ++ take n octets) h
-        → Moves old (walking old.rules old.held old.place (counted old.tally 0 class.Reset) (Some end.Head)) t0 t1 octets (drop n octets)
-    Moves-pulled-fault h found w =
-        let size = found.1.0 in
-        let long : 19 ≤ length (old.held ++ octets) = omega (arith, ap length pulled_whole, length-append (old.held ++ take n octets) (drop n octets), size) in
-        let faulty = ap head_of pulled_whole ∙ head_of-append (old.held ++ take n octets) (drop n octets) (omega (arith, size)) ∙ found.1.1 in
-        let all : take 19 (old.held ++ octets) ≡ old.held ++ take n octets =
-        ap (take 19) pulled_whole ∙ ap (λ (k : ℕ). take k ((old.held ++ take n octets) ++ drop n octets)) (sym size) ∙ take-append_seam (old.held ++ take n octets) (drop n octets) in
-        Moves-fault old t0 t1 octets (drop n octets) h (old.held ++ octets) c long faulty (λ later. sym (append_assoc old.held octets later)) (omega (arith, length-drop n octets)) old.held
-        (subst (λ (x : List ℕ). WritesFault old.rules t0 t1 old.place x h) (sym all) w)
 
   -- ---- where a stream ends
 

@@ -6,6 +6,5 @@ pub mod Blocks
 pub mod Pages
 pub mod Walking
 pub mod PageSteps
-pub mod Opening
 pub mod Starting
 pub mod Cleaning

@@ -44,6 +44,8 @@ impl Page for CheckPage {
     ghost use Rattle.std.specs.String.{string_bytes};
     ghost use Rattle.bgp_msg.specs.declared.outcome.Outcome as outcomes;
     ghost use Rattle.bgp_engine.specs.Check.{check_rules};
+    ghost use Rattle.std.specs.Option.{unwrap_or};
+    ghost use Rattle.bgp_engine.specs.steps.Pages.{plain};
 
     ghost Outcome = { outcomes.Outcome };
 
@@ -53,11 +55,15 @@ impl Page for CheckPage {
 
     ghost fits = { λ _. true };
 
-    ghost rules_in = { λ ctx. check_rules ctx };
+    ghost plan = { λ page ctx. plain (check_rules (unwrap_or ctx page.ctx)) };
 
     fn agree(&mut self, ctx: &Context) -> bool {
         self.ctx = *ctx;
         true
+    }
+
+    fn first(&mut self, _frame: Frame<'_>) -> Result<bool, AllocError> {
+        Ok(false)
     }
 
     fn message(&mut self, _place: u64, frame: Frame<'_>) -> Result<Class, AllocError> {

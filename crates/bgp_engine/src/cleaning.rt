@@ -1,6 +1,6 @@
 //! The engine `clean_stream`.
 
-ghost use Rattle.std.specs.Prelude.{◌≡◌, ◌+◌, [], None, Some, length, IfOk};
+ghost use Rattle.std.specs.Prelude.{◌≡◌, ◌+◌, [], length, option_map, IfOk};
 ghost use Rattle.bgp_wire.specs.OctetSet.{has_octet};
 ghost use Rattle.bgp_frame.specs.Kind.{IsLength};
 ghost use Rattle.bgp_frame.specs.declared.kind.Kind.TheVariants as kind;
@@ -8,16 +8,14 @@ ghost use Rattle.bgp_frame.specs.Step.{message_in};
 ghost use Rattle.bgp_engine.specs.Clean.{CleanedBy, CleanedIn, without_words};
 ghost use Rattle.bgp_engine.specs.First.{ReportedFrom};
 ghost use Rattle.bgp_engine.specs.Run.{Answers, io};
-ghost use Rattle.bgp_engine.specs.steps.Cleaning.{SettlesOn, page_rules, page_start, page_starts};
-ghost use Rattle.bgp_engine.specs.steps.Starting.{Begins, BeginsWithout};
+ghost use Rattle.bgp_engine.specs.steps.Cleaning.{clean_plan, page_rules, starts_for};
+ghost use Rattle.bgp_engine.specs.steps.Pages.{TakesFirst};
 
 use crate::class::Class;
 use crate::fault::{Stop, ToolFault};
-use crate::opening::context_of;
 use crate::opens::UNKNOWN;
 use crate::page::Page;
-use crate::running::run;
-use crate::starting::{Begun, Starting};
+use crate::starting::start_stream;
 use crate::tally::Tally;
 use bgp_clean::{CleanFault, Cleaned, clean};
 use bgp_frame::{End, Frame, HeadFault, Kind};
@@ -28,72 +26,30 @@ use std::io::{Read, Write};
 
 /// The octets that are handed on.
 #[derive(Drop)]
-pub(crate) struct CleanPage<'a> {
-    pub(crate) alloc: Global,
+pub(crate) struct CleanPage {
     pub(crate) ctx: Context,
     /// The unrecognised types that are left out.
     pub(crate) drops: OctetSet,
-    /// The octets of the other direction, where the context is what both OPENs agree on.
-    pub(crate) theirs: Option<&'a [u8]>,
     pub(crate) octets: Vec<u8>,
     /// Why nothing was handed on of the message where it ends.
     pub(crate) why: Option<CleanFault>,
 }
 
-impl CleanPage<'_> {
-    /// Takes the context of the stream, which the first message and that of the other direction tell where those were given. Answers whether there is one.
-    fn settle(&mut self, frame: Frame<'_>) -> Result<bool, AllocError>
-        requires { IsLength frame.kind (19 + length frame.body.now) }
-        ensures settles { IfOk result (λ agreed. SettlesOn agreed (page_starts self.old (Some (message_in frame.entry))) (page_start self.new (Some (message_in frame.entry)))) }
-        ensures same { self.new ≡ record self.old { ctx = self.new.ctx } }
-    {
-        let Some(theirs) = self.theirs else {
-            return Ok(true);
-        };
-        match context_of(self.alloc, frame, theirs)? {
-            Some(ctx) => {
-                self.ctx = ctx;
-                Ok(true)
-            }
-            None => Ok(false),
-        }
-    }
-
+impl CleanPage {
     /// Hands on an OPEN as the first message of the stream, where it can be.
-    fn open(&mut self, frame: Frame<'_>) -> Result<Begun, AllocError>
+    fn open(&mut self, frame: Frame<'_>) -> Result<bool, AllocError>
         requires length { IsLength frame.kind (19 + length frame.body.now) }
         requires kind { frame.kind ≡ kind.Open }
-        ensures begins { IfOk result (λ begun. Begins begun (Some (page_start self.old (Some (message_in frame.entry)))) (page_rules self.new) self.old.octets.items self.new.octets.items) }
+        ensures { IfOk result (λ taken. TakesFirst taken
+            (clean_plan self.old.ctx (has_octet self.old.drops)) (page_rules self.new) (message_in frame.entry) self.old.octets.items self.new.octets.items) }
     {
         match clean(&self.ctx, &self.drops, true, frame, &mut self.octets)? {
-            Cleaned::HandedOn => Ok(Begun::Handed),
+            Cleaned::HandedOn => Ok(true),
             Cleaned::Ends(why) => {
                 self.why = Some(why);
-                Ok(Begun::Plain)
+                Ok(false)
             }
         }
-    }
-
-    /// Looks at the first message, where it is whole and its header has no fault, and hands it on by itself where it is an OPEN.
-    pub(crate) fn begin(&mut self, frame: Frame<'_>) -> Result<Begun, AllocError>
-        requires { IsLength frame.kind (19 + length frame.body.now) }
-        ensures { IfOk result (λ begun. Begins begun (page_starts self.old (Some (message_in frame.entry))) (page_rules self.new) self.old.octets.items self.new.octets.items) }
-    {
-        if !self.settle(frame)? {
-            return Ok(Begun::Unagreed);
-        }
-        if frame.kind != Kind::Open {
-            return Ok(Begun::Plain);
-        }
-        self.open(frame)
-    }
-
-    /// Learns that there is no such message. Answers whether the stream has a context.
-    pub(crate) fn begin_without(&mut self) -> bool
-        ensures begins { BeginsWithout result (page_starts self.old None) (page_rules self.new) }
-        ensures same { self.new ≡ self.old }
-    {
-        self.theirs.is_none()
     }
 }
 
@@ -103,13 +59,13 @@ fn reason(fault: HeadFault) -> CleanFault {
     CleanFault::Reset(said.code, said.subcode)
 }
 
-impl Page for CleanPage<'_> {
-    ghost use Rattle.std.specs.Prelude.{false, Result};
-    ghost use Rattle.bgp_wire.specs.OctetSet.{none_of_them};
+impl Page for CleanPage {
+    ghost use Rattle.std.specs.Prelude.{true, Result};
+    ghost use Rattle.std.specs.Option.{unwrap_or};
+    ghost use Rattle.bgp_wire.specs.OctetSet.{has_octet};
     ghost use Rattle.bgp_msg.specs.declared.message.Message.{Message};
     ghost use Rattle.bgp_clean.specs.declared.fault.CleanFault.{CleanFault};
-    ghost use Rattle.bgp_engine.specs.Clean.{clean_rules};
-    ghost use Rattle.bgp_engine.specs.steps.Cleaning.{page_rules};
+    ghost use Rattle.bgp_engine.specs.steps.Cleaning.{clean_plan, page_rules};
 
     ghost Outcome = { Result Message CleanFault };
 
@@ -117,13 +73,21 @@ impl Page for CleanPage<'_> {
 
     ghost told = { λ page. page.octets.items };
 
-    ghost fits = { λ _. false };
+    ghost fits = { λ _. true };
 
-    ghost rules_in = { λ ctx. clean_rules ctx none_of_them };
+    ghost plan = { λ page ctx. clean_plan (unwrap_or ctx page.ctx) (has_octet page.drops) };
 
-    // How it begins is a rule of its own.
-    fn agree(&mut self, _ctx: &Context) -> bool {
-        false
+    fn agree(&mut self, ctx: &Context) -> bool {
+        self.ctx = *ctx;
+        true
+    }
+
+    // An OPEN is handed on as the first message by a rule of its own.
+    fn first(&mut self, frame: Frame<'_>) -> Result<bool, AllocError> {
+        if frame.kind != Kind::Open {
+            return Ok(false);
+        }
+        self.open(frame)
     }
 
     fn message(&mut self, _place: u64, frame: Frame<'_>) -> Result<Class, AllocError> {
@@ -184,17 +148,18 @@ fn with_words(answer: Result<Tally, ToolFault>, why: Option<CleanFault>) -> Resu
 
 // Runs a page over the messages of a stream.
 fn clean_page<R: Read, W: Write>(
+    alloc: Global,
     turns: u32,
+    theirs: Option<&[u8]>,
     hex: bool,
-    page: CleanPage<'_>,
+    page: CleanPage,
     input: &mut R,
     output: &mut W,
 ) -> Result<Tally, ToolFault>
     requires { page.octets.items ≡ [] }
-    ensures { Answers (ReportedFrom (page_starts page.entry)) hex (io R.remaining input.old input.new W.contents output.old output.new) (without_words result) }
+    ensures { Answers (ReportedFrom (starts_for (option_map (λ t. t.now) theirs.entry) page)) hex (io R.remaining input.old input.new W.contents output.old output.new) (without_words result) }
 {
-    let mut starting = Starting::new(page);
-    let answer = run(turns, hex, &mut starting, input, output);
+    let (answer, starting) = start_stream(alloc, turns, theirs, hex, page, input, output);
     with_words(answer, starting.walk.page.why)
 }
 
@@ -234,14 +199,12 @@ pub fn clean_within<R: Read, W: Write>(
     ensures { Answers (CleanedIn ctx.now (has_octet drops.now)) hex (io R.remaining input.old input.new W.contents output.old output.new) (without_words result) }
 {
     let page = CleanPage {
-        alloc,
         ctx: *ctx,
         drops: *drops,
-        theirs: None,
         octets: Vec::new(alloc),
         why: None,
     };
-    clean_page(turns, hex, page, input, output)
+    clean_page(alloc, turns, None, hex, page, input, output)
 }
 
 /// [`clean_stream`] in the context that the stream's first OPEN and that of the other direction agree on, of which `theirs` has the octets, from its first
@@ -278,12 +241,10 @@ pub fn clean_by_opens_within<R: Read, W: Write>(
     ensures { Answers (CleanedBy theirs.now (has_octet drops.now)) hex (io R.remaining input.old input.new W.contents output.old output.new) (without_words result) }
 {
     let page = CleanPage {
-        alloc,
         ctx: UNKNOWN,
         drops: *drops,
-        theirs: Some(theirs),
         octets: Vec::new(alloc),
         why: None,
     };
-    clean_page(turns, hex, page, input, output)
+    clean_page(alloc, turns, Some(theirs), hex, page, input, output)
 }

@@ -127,6 +127,8 @@ impl<C: Choice> Page for ExplainPage<C> {
     ghost use Rattle.std.specs.String.{string_bytes};
     ghost use Rattle.bgp_engine.specs.Explain.{explained_rules};
     ghost use Rattle.bgp_engine.specs.Heard.{Heard};
+    ghost use Rattle.std.specs.Option.{unwrap_or};
+    ghost use Rattle.bgp_engine.specs.steps.Pages.{plain};
 
     ghost Outcome = { Heard };
 
@@ -136,11 +138,15 @@ impl<C: Choice> Page for ExplainPage<C> {
 
     ghost fits = { λ _. true };
 
-    ghost rules_in = { λ ctx. explained_rules C.printed ctx };
+    ghost plan = { λ page ctx. plain (explained_rules C.printed (unwrap_or ctx page.ctx)) };
 
     fn agree(&mut self, ctx: &Context) -> bool {
         self.ctx = *ctx;
         true
+    }
+
+    fn first(&mut self, _frame: Frame<'_>) -> Result<bool, AllocError> {
+        Ok(false)
     }
 
     fn message(&mut self, place: u64, frame: Frame<'_>) -> Result<Class, AllocError> {

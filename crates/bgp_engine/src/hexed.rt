@@ -73,6 +73,7 @@ struct HexPage {
 impl Page for HexPage {
     ghost use Rattle.std.specs.Prelude.{true};
     ghost use Rattle.bgp_engine.specs.ToHex.{Framed, hex_rules};
+    ghost use Rattle.bgp_engine.specs.steps.Pages.{plain};
 
     ghost Outcome = { Framed };
 
@@ -82,10 +83,14 @@ impl Page for HexPage {
 
     ghost fits = { λ _. true };
 
-    ghost rules_in = { λ _. hex_rules };
+    ghost plan = { λ _ _. plain hex_rules };
 
     fn agree(&mut self, _ctx: &Context) -> bool {
         true
+    }
+
+    fn first(&mut self, _frame: Frame<'_>) -> Result<bool, AllocError> {
+        Ok(false)
     }
 
     fn message(&mut self, _place: u64, frame: Frame<'_>) -> Result<Class, AllocError> {

@@ -97,6 +97,8 @@ pub(crate) struct NarrowPage {
 impl Page for NarrowPage {
     ghost use Rattle.std.specs.Prelude.{ℕ, List, Option};
     ghost use Rattle.bgp_engine.specs.Narrow.{narrow_rules};
+    ghost use Rattle.std.specs.Option.{unwrap_or};
+    ghost use Rattle.bgp_engine.specs.steps.Pages.{plain};
 
     ghost Outcome = { Option (List ℕ) };
 
@@ -106,7 +108,7 @@ impl Page for NarrowPage {
 
     ghost fits = { λ ctx. ctx.as4 };
 
-    ghost rules_in = { λ ctx. narrow_rules ctx };
+    ghost plan = { λ page ctx. plain (narrow_rules (unwrap_or ctx page.ctx)) };
 
     fn agree(&mut self, ctx: &Context) -> bool {
         if !ctx.as4 {
@@ -114,6 +116,10 @@ impl Page for NarrowPage {
         }
         self.ctx = *ctx;
         true
+    }
+
+    fn first(&mut self, _frame: Frame<'_>) -> Result<bool, AllocError> {
+        Ok(false)
     }
 
     fn message(&mut self, _place: u64, frame: Frame<'_>) -> Result<Class, AllocError> {

@@ -1,11 +1,11 @@
 //! What an engine writes of the messages of a stream.
 
-ghost use Rattle.std.specs.Prelude.{ℕ, Bool, true, List, ◌≡◌, ◌+◌, ◌++◌, [], length, IfOk, OnOk};
+ghost use Rattle.std.specs.Prelude.{ℕ, Bool, true, List, Option, None, Some, ◌≡◌, ◌+◌, ◌++◌, [], length, IfOk, OnOk};
 ghost use Rattle.bgp_frame.specs.Kind.{IsLength};
 ghost use Rattle.bgp_frame.specs.Step.{message_in};
 ghost use Rattle.bgp_open.specs.declared.context.Context.{Context};
 ghost use Rattle.bgp_engine.specs.Rules.{Rules};
-ghost use Rattle.bgp_engine.specs.steps.Pages.{Writes, WritesFault, IsAnswer};
+ghost use Rattle.bgp_engine.specs.steps.Pages.{Plan, TakesFirst, Writes, WritesFault, IsAnswer};
 
 use crate::class::Class;
 use crate::fault::ToolFault;
@@ -16,9 +16,10 @@ use std::alloc::AllocError;
 
 /// Judges message by message, and collects what is written of each.
 pub(crate) trait Page {
-    ghost use Rattle.std.specs.Prelude.{ℕ, Bool, List};
+    ghost use Rattle.std.specs.Prelude.{ℕ, Bool, List, Option};
     ghost use Rattle.bgp_open.specs.declared.context.Context.{Context};
     ghost use Rattle.bgp_engine.specs.Rules.{Rules};
+    ghost use Rattle.bgp_engine.specs.steps.Pages.{Plan};
 
     /// The outcome of a message.
     ghost Outcome: { Type 0 };
@@ -28,14 +29,19 @@ pub(crate) trait Page {
     ghost told: { Self → List ℕ };
     /// Whether it can be written in a context.
     ghost fits: { Context → Bool };
-    /// What it is written by in a context.
-    ghost rules_in: { Context → Rules Outcome };
+    /// What it is written by, the first message too: in a context, or as it is.
+    ghost plan: { Self → Option Context → Plan Outcome };
 
     /// Takes the context of the stream, before its first message. Answers whether the page can be written in it.
     fn agree(&mut self, ctx: &Context) -> bool
         ensures fits { result ≡ fits ctx.now }
-        ensures rules { result ≡ true → rules self.new ≡ rules_in ctx.now }
+        ensures plan { result ≡ true → plan self.new None ≡ plan self.old (Some ctx.now) }
         ensures told { told self.new ≡ told self.old };
+
+    /// Takes the first message of the stream by a rule of its own, where there is one. Answers whether it did.
+    fn first(&mut self, frame: Frame<'_>) -> Result<bool, AllocError>
+        requires { IsLength frame.kind (19 + length frame.body.now) }
+        ensures { IfOk result (λ taken. TakesFirst taken (plan self.old None) (rules self.new) (message_in frame.entry) (told self.old) (told self.new)) };
 
     /// Judges a whole message at a place of the stream, and collects what is written of it.
     fn message(&mut self, place: u64, frame: Frame<'_>) -> Result<Class, AllocError>
@@ -71,5 +77,6 @@ pub(crate) trait Page {
     /// Lets go of what was collected.
     fn clear(&mut self)
         ensures told { told self.new ≡ [] }
-        ensures rules { rules self.new ≡ rules self.old };
+        ensures rules { rules self.new ≡ rules self.old }
+        ensures plan { plan self.new ≡ plan self.old };
 }

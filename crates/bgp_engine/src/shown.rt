@@ -102,6 +102,8 @@ impl<F: Form> Page for ShowPage<F> {
     ghost use Rattle.std.specs.String.{string_bytes};
     ghost use Rattle.bgp_engine.specs.Heard.{Heard};
     ghost use Rattle.bgp_engine.specs.Show.{printed_rules};
+    ghost use Rattle.std.specs.Option.{unwrap_or};
+    ghost use Rattle.bgp_engine.specs.steps.Pages.{plain};
 
     ghost Outcome = { Heard };
 
@@ -111,11 +113,15 @@ impl<F: Form> Page for ShowPage<F> {
 
     ghost fits = { λ _. true };
 
-    ghost rules_in = { λ ctx. printed_rules F.shown F.shown_end ctx };
+    ghost plan = { λ page ctx. plain (printed_rules F.shown F.shown_end (unwrap_or ctx page.ctx)) };
 
     fn agree(&mut self, ctx: &Context) -> bool {
         self.ctx = *ctx;
         true
+    }
+
+    fn first(&mut self, _frame: Frame<'_>) -> Result<bool, AllocError> {
+        Ok(false)
     }
 
     fn message(&mut self, place: u64, frame: Frame<'_>) -> Result<Class, AllocError> {

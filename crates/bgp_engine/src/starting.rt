@@ -1,14 +1,23 @@
-//! The messages of a stream whose first one is taken by a rule of its own.
+//! The messages of a stream whose first one may tell the context, or be taken by a rule of its own.
+
+ghost use Rattle.std.specs.Prelude.{◌≡◌, ◌+◌, [], None, Some, length, option_map, IfOk};
+ghost use Rattle.bgp_frame.specs.Kind.{IsLength};
+ghost use Rattle.bgp_frame.specs.Step.{message_in};
+ghost use Rattle.bgp_engine.specs.First.{ReportedFrom};
+ghost use Rattle.bgp_engine.specs.Run.{Answers, io};
+ghost use Rattle.bgp_engine.specs.steps.Starting.{Begins, SettlesOn, starts_of};
 
 use crate::class::Class;
-use crate::cleaning::CleanPage;
 use crate::engine::Engine;
 use crate::fault::ToolFault;
-use crate::opening::Stage;
+use crate::opening::{Stage, context_of};
+use crate::page::Page;
+use crate::running::run;
 use crate::tally::Tally;
 use crate::walk::Walk;
-use bgp_frame::Step;
-use std::alloc::AllocError;
+use bgp_frame::{Frame, Step};
+use std::alloc::{AllocError, Global};
+use std::io::{Read, Write};
 
 /// How a stream begins.
 #[derive(Clone, Copy, PartialEq, Eq)]
@@ -17,39 +26,84 @@ pub(crate) enum Begun {
     Unagreed,
     /// The first message is read as all others are.
     Plain,
-    /// The first message was accepted by itself.
+    /// The first message was taken by itself.
     Handed,
 }
 
 /// Holds the first message of a stream until it is whole, and walks over what stands behind it, or over all of them.
 #[derive(Drop)]
-pub(crate) struct Starting<'a> {
+pub(crate) struct Starting<'a, P> {
+    alloc: Global,
+    /// The octets of the other direction, where the context is what both OPENs agree on.
+    theirs: Option<&'a [u8]>,
     stage: Stage,
-    pub(crate) walk: Walk<CleanPage<'a>>,
+    pub(crate) walk: Walk<P>,
 }
 
-impl Walk<CleanPage<'_>> {
-    ghost use Rattle.std.specs.Prelude.{◌≡◌, ◌+◌, length, IfOk, OnOk};
+// Takes the context of the stream, which the first message and that of the other direction tell where those were given. Answers whether there is one.
+fn settle<P: Page>(
+    alloc: Global,
+    theirs: Option<&[u8]>,
+    page: &mut P,
+    frame: Frame<'_>,
+) -> Result<bool, AllocError>
+    requires { IsLength frame.kind (19 + length frame.body.now) }
+    ensures settles { IfOk result (λ agreed. SettlesOn agreed
+        (starts_of P.fits P.rules P.plan (option_map (λ t. t.now) theirs.entry) page.old (Some (message_in frame.entry))) (P.plan page.new None) (message_in frame.entry)) }
+    ensures told { P.told page.new ≡ P.told page.old }
+{
+    let Some(theirs) = theirs else {
+        return Ok(true);
+    };
+    match context_of(alloc, frame, theirs)? {
+        Some(ctx) => Ok(page.agree(&ctx)),
+        None => Ok(false),
+    }
+}
+
+// Looks at the first message, where it is whole and its header has no fault, and takes it by a rule of its own where there is one.
+fn begin<P: Page>(
+    alloc: Global,
+    theirs: Option<&[u8]>,
+    page: &mut P,
+    frame: Frame<'_>,
+) -> Result<Begun, AllocError>
+    requires { IsLength frame.kind (19 + length frame.body.now) }
+    ensures { IfOk result (λ begun. Begins begun
+        (starts_of P.fits P.rules P.plan (option_map (λ t. t.now) theirs.entry) page.old (Some (message_in frame.entry))) (P.rules page.new) (P.told page.old) (P.told page.new)) }
+{
+    if !settle(alloc, theirs, page, frame)? {
+        return Ok(Begun::Unagreed);
+    }
+    if page.first(frame)? {
+        Ok(Begun::Handed)
+    } else {
+        Ok(Begun::Plain)
+    }
+}
+
+impl<P: Page> Walk<P> {
+    ghost use Rattle.std.specs.Prelude.{◌≡◌, ◌+◌, length, option_map, IfOk, OnOk};
     ghost use Rattle.bgp_engine.specs.declared.opening.Stage.TheVariants as stage;
-    ghost use Rattle.bgp_engine.specs.steps.Cleaning.{clean_walk, page_starts};
-    ghost use Rattle.bgp_engine.specs.steps.Starting.{IsFresh, Settles};
-    ghost use Rattle.bgp_engine.specs.steps.Walking.{IsCounting};
+    ghost use Rattle.bgp_engine.specs.steps.Starting.{IsFresh, Settles, starts_of};
+    ghost use Rattle.bgp_engine.specs.steps.Walking.{IsCounting, walk_of};
 
     // Looks at the first message, where it is there.
-    fn begin(&mut self) -> Result<Stage, AllocError>
-        requires counting { IsCounting (clean_walk self.old) }
-        requires fresh { IsFresh (clean_walk self.old) }
+    fn begin(&mut self, alloc: Global, theirs: Option<&[u8]>) -> Result<Stage, AllocError>
+        requires counting { IsCounting (walk_of P.rules self.old) }
+        requires fresh { IsFresh (walk_of P.rules self.old) }
         ensures first { IfOk result (λ it. it ≡ stage.First → self.new ≡ self.old) }
         ensures room { OnOk result (self.new.place + length self.new.framer ≡ self.old.place + length self.old.framer) }
-        ensures settles { IfOk result (λ stage. Settles stage (page_starts self.old.page) self.old.framer self.old.page.octets.items self.new.page.octets.items (clean_walk self.new)) }
+        ensures settles { IfOk result (λ stage. Settles stage
+            (starts_of P.fits P.rules P.plan (option_map (λ t. t.now) theirs.entry) self.old.page) self.old.framer (P.told self.old.page) (P.told self.new.page) (walk_of P.rules self.new)) }
     {
         match self.framer.step() {
             Step::More => Ok(Stage::First),
-            Step::Fault(_) if self.page.begin_without() => Ok(Stage::Agreed),
-            Step::Fault(_) => Ok(Stage::Unagreed),
+            Step::Fault(_) if theirs.is_some() => Ok(Stage::Unagreed),
+            Step::Fault(_) => Ok(Stage::Agreed),
             Step::Frame(frame) => {
                 let len = frame.len;
-                match self.page.begin(frame)? {
+                match begin(alloc, theirs, &mut self.page, frame)? {
                     Begun::Unagreed => Ok(Stage::Unagreed),
                     Begun::Plain => Ok(Stage::Agreed),
                     Begun::Handed => {
@@ -63,23 +117,24 @@ impl Walk<CleanPage<'_>> {
     }
 }
 
-impl<'a> Starting<'a> {
+impl<'a, P: Page> Starting<'a, P> {
     ghost use Rattle.std.specs.Prelude.{◌≡◌, ◌+◌, ◌<◌, ◌≤◌, ◌^◌, ◌++◌, [], None, length, IfOk, OnOk, OnErr};
     ghost use Rattle.bgp_engine.specs.declared.opening.Stage.TheVariants as stage;
     ghost use Rattle.bgp_engine.specs.steps.Engine.{IsTotal, Takes};
-    ghost use Rattle.bgp_engine.specs.steps.Starting.{GoesOn, IsFirst, ReadyIn, reports_in, room_in};
-    ghost use Rattle.bgp_engine.specs.steps.Walking.{IsCounting, IsGoing, IsReady, reports_of, room_of};
-    ghost use Rattle.bgp_engine.specs.steps.Cleaning.{clean_starting, clean_walk, page_starts};
+    ghost use Rattle.bgp_engine.specs.steps.Starting.{GoesOn, IsFirst, ReadyIn, reports_in, room_in, starting_of};
+    ghost use Rattle.bgp_engine.specs.steps.Walking.{IsCounting, IsGoing, IsReady, reports_of, room_of, walk_of};
 
     /// At the front of a stream.
-    pub(crate) fn new(page: CleanPage<'a>) -> Starting<'a>
+    pub(crate) fn new(alloc: Global, theirs: Option<&'a [u8]>, page: P) -> Starting<'a, P>
         ensures stage { result.stage ≡ stage.First }
-        ensures starts { page_starts result.walk.page ≡ page_starts page.entry }
-        ensures told { result.walk.page.octets.items ≡ page.entry.octets.items }
+        ensures theirs { result.theirs ≡ theirs.entry }
+        ensures page { result.walk.page ≡ page }
         ensures held { result.walk.framer ≡ [] }
-        ensures first { IsFirst (clean_walk result.walk) }
+        ensures first { IsFirst (walk_of P.rules result.walk) }
     {
         Starting {
+            alloc,
+            theirs,
             stage: Stage::First,
             walk: Walk::new(page),
         }
@@ -87,14 +142,14 @@ impl<'a> Starting<'a> {
 
     // Judges what is held, and what stands behind it.
     fn walk_on(&mut self, later: &[u8]) -> Result<bool, AllocError>
-        requires counting { IsCounting (clean_walk self.old.walk) }
+        requires counting { IsCounting (walk_of P.rules self.old.walk) }
         requires room { self.old.walk.place + length self.old.walk.framer + length later.now ≤ 2 ^ 60 }
         ensures takes { IfOk result (λ over. Takes
-            (reports_of (clean_walk self.old.walk)) (reports_of (clean_walk self.new.walk)) (IsGoing (clean_walk self.new.walk))
-            (self.old.walk.page.octets.items) (self.new.walk.page.octets.items) later.now over) }
-        ensures ready { OnOk result (IsReady (clean_walk self.new.walk)) }
-        ensures room { OnOk result (2 ^ 60 ≤ room_of (clean_walk self.new.walk) + (self.old.walk.place + length self.old.walk.framer + length later.now)) }
-        ensures stage { self.new.stage ≡ self.old.stage }
+            (reports_of (walk_of P.rules self.old.walk)) (reports_of (walk_of P.rules self.new.walk)) (IsGoing (walk_of P.rules self.new.walk))
+            (P.told self.old.walk.page) (P.told self.new.walk.page) later.now over) }
+        ensures ready { OnOk result (IsReady (walk_of P.rules self.new.walk)) }
+        ensures room { OnOk result (2 ^ 60 ≤ room_of (walk_of P.rules self.new.walk) + (self.old.walk.place + length self.old.walk.framer + length later.now)) }
+        ensures same { self.new ≡ record self.old { walk = self.new.walk } }
     {
         self.walk.judge(&[])?;
         if self.walk.ended.is_some() {
@@ -106,19 +161,19 @@ impl<'a> Starting<'a> {
     // Takes octets where the first message waits.
     fn take_first(&mut self, octets: &[u8]) -> Result<bool, AllocError>
         requires stage { self.old.stage ≡ stage.First }
-        requires first { IsFirst (clean_walk self.old.walk) }
+        requires first { IsFirst (walk_of P.rules self.old.walk) }
         requires room { length self.old.walk.framer + length octets.now ≤ 2 ^ 60 }
         ensures takes { IfOk result (λ over. Takes
-            (reports_in (clean_starting self.old)) (reports_in (clean_starting self.new))
-            (GoesOn (clean_starting self.new))
-            (self.old.walk.page.octets.items) (self.new.walk.page.octets.items) octets.now over) }
-        ensures ready { OnOk result (ReadyIn (clean_starting self.new)) }
-        ensures room { OnOk result (room_in (clean_starting self.old)
-            ≤ room_in (clean_starting self.new) + length octets.now) }
-        ensures memory { OnErr result (IsTotal (reports_in (clean_starting self.old))) }
+            (reports_in (starting_of P.fits P.rules P.plan self.old)) (reports_in (starting_of P.fits P.rules P.plan self.new))
+            (GoesOn (starting_of P.fits P.rules P.plan self.new))
+            (P.told self.old.walk.page) (P.told self.new.walk.page) octets.now over) }
+        ensures ready { OnOk result (ReadyIn (starting_of P.fits P.rules P.plan self.new)) }
+        ensures room { OnOk result (room_in (starting_of P.fits P.rules P.plan self.old)
+            ≤ room_in (starting_of P.fits P.rules P.plan self.new) + length octets.now) }
+        ensures memory { OnErr result (IsTotal (reports_in (starting_of P.fits P.rules P.plan self.old))) }
     {
         let taken = self.walk.framer.feed(octets);
-        self.stage = self.walk.begin()?;
+        self.stage = self.walk.begin(self.alloc, self.theirs)?;
         match self.stage {
             Stage::First => Ok(false),
             Stage::Unagreed => Ok(true),
@@ -130,18 +185,14 @@ impl<'a> Starting<'a> {
     }
 }
 
-impl Engine for Starting<'_> {
-    ghost use Rattle.std.specs.Prelude.{Result};
-    ghost use Rattle.bgp_msg.specs.declared.message.Message.{Message};
-    ghost use Rattle.bgp_clean.specs.declared.fault.CleanFault.{CleanFault};
-    ghost use Rattle.bgp_engine.specs.steps.Cleaning.{clean_starting};
-    ghost use Rattle.bgp_engine.specs.steps.Starting.{Starting, GoesOn, ReadyIn, reports_in, room_in};
+impl<P: Page> Engine for Starting<'_, P> {
+    ghost use Rattle.bgp_engine.specs.steps.Starting.{Starting, GoesOn, ReadyIn, reports_in, room_in, starting_of};
 
-    ghost State = { Starting (Result Message CleanFault) };
+    ghost State = { Starting P.Outcome };
 
-    ghost state = { λ s. clean_starting s };
+    ghost state = { λ s. starting_of P.fits P.rules P.plan s };
 
-    ghost told = { λ s. s.walk.page.octets.items };
+    ghost told = { λ s. P.told s.walk.page };
 
     ghost reports = { λ s. reports_in s };
 
@@ -163,8 +214,8 @@ impl Engine for Starting<'_> {
         match self.stage {
             Stage::Agreed => self.walk.finish(),
             Stage::Unagreed => Err(ToolFault::NoOpen),
-            Stage::First if self.walk.page.begin_without() => self.walk.finish(),
-            Stage::First => Err(ToolFault::NoOpen),
+            Stage::First if self.theirs.is_some() => Err(ToolFault::NoOpen),
+            Stage::First => self.walk.finish(),
         }
     }
 
@@ -173,6 +224,24 @@ impl Engine for Starting<'_> {
     }
 
     fn clear(&mut self) {
-        self.walk.page.octets.clear();
+        self.walk.page.clear();
     }
+}
+
+/// Runs a page over the messages of a stream, in the context that it has, or that the first OPEN and that of the other direction agree on.
+pub(crate) fn start_stream<'a, P: Page + Drop, R: Read, W: Write>(
+    alloc: Global,
+    turns: u32,
+    theirs: Option<&'a [u8]>,
+    hex: bool,
+    page: P,
+    input: &mut R,
+    output: &mut W,
+) -> (Result<Tally, ToolFault>, Starting<'a, P>)
+    requires { P.told page ≡ [] }
+    ensures { Answers (ReportedFrom (starts_of P.fits P.rules P.plan (option_map (λ t. t.now) theirs.entry) page)) hex (io R.remaining input.old input.new W.contents output.old output.new) result.0 }
+{
+    let mut starting = Starting::new(alloc, theirs, page);
+    let answer = run(turns, hex, &mut starting, input, output);
+    (answer, starting)
 }

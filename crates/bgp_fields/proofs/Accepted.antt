@@ -30,7 +30,7 @@ use Rattle.bgp_fields.specs.Laws.{AllRead}
 use Rattle.bgp_fields.specs.Parts.{body_part}
 use Rattle.bgp_fields.proofs.Readable.{MessageRead, message-none}
 use Rattle.bgp_fields.proofs.ReadableMessages.{update-read, open-read, notification-read, header-read}
-use Rattle.bgp_fields.proofs.Verdicts.{IsTaken, taken-of}
+use Rattle.bgp_update.proofs.Verdicts.{IsTaken, taken-of}
 
 abbrev took : Message → List Note → Outcome
 took said notes = outcome.Took said notes

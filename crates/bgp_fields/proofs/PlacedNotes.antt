@@ -36,7 +36,7 @@ use Rattle.bgp_msg.specs.Outcome.{of_verdict, of_body, out_of}
 use Rattle.bgp_fields.specs.Places.{says_missing, note_place_in, note_place, HasPlace, ArePlaced}
 use Rattle.bgp_fields.proofs.Placed.{AllIn, field-in, attribute-placed}
 use Rattle.bgp_fields.proofs.Routed.{open-not, open-gone}
-use Rattle.bgp_fields.proofs.Verdicts.{taken-of, withdrawn-of}
+use Rattle.bgp_update.proofs.Verdicts.{taken-of, withdrawn-of}
 
 abbrev Placed : ℕ → List ℕ → Note → Type 0
 Placed n body note = says_missing note.why ≡ false → HasPlace n (note_place body note)

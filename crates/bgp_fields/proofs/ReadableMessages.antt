@@ -37,7 +37,8 @@ use Rattle.bgp_fields.specs.Parts.{alone, body_part, first_of, two_of, prefix_le
 use Rattle.bgp_fields.proofs.Readable.{SectionRead, MessageRead, message-none, message-front, message-behind}
 use Rattle.bgp_fields.proofs.ReadableSections.{AreKept, withdrawn-read, attributes-read, parameters-read}
 use Rattle.bgp_fields.proofs.ReadableValues.{prefix-long}
-use Rattle.bgp_fields.proofs.Verdicts.{IsKept, IsTaken, all-kept}
+use Rattle.bgp_update.proofs.Verdicts.{IsTaken}
+use Rattle.bgp_fields.proofs.Verdicts.{IsKept, all-kept}
 
 -- ---- attributes of which each is kept
 

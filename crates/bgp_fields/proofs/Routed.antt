@@ -33,7 +33,7 @@ use Rattle.bgp_msg.specs.Outcome.{of_reading, of_verdict, of_body, out_of}
 use Rattle.bgp_fields.specs.Fields.{fields_of}
 use Rattle.bgp_fields.specs.Shown.{ShowsRoutes, ShowsWithdrawal}
 use Rattle.bgp_fields.proofs.ShownRoutes.{routes-shown}
-use Rattle.bgp_fields.proofs.Verdicts.{taken-of, withdrawn-of}
+use Rattle.bgp_update.proofs.Verdicts.{taken-of, withdrawn-of}
 
 abbrev took : Message → List Note → Outcome
 took said notes = outcome.Took said notes

@@ -1,13 +1,14 @@
 //! A prefix: the first bits of the addresses that it stands for.
 
-ghost use Rattle.std.specs.Prelude.{◌≡◌, ℕ, ◌≤◌, ◌*◌, ◌↔◌, List, ◌++◌, length, take};
+ghost use Rattle.std.specs.Prelude.{◌≡◌, ◌<◌, ◌≤◌, ◌+◌, ◌*◌, ◌↔◌, ◌++◌, length, take};
 ghost use Rattle.std.specs.Prelude.{IsSome, IfSome, OnOk, OnErr};
+ghost use Rattle.bgp_wire.specs.steps.Output.{Extends};
 ghost use Rattle.bgp_prefix.specs.Bits.{octets_for, HasNoBitPast};
 ghost use Rattle.bgp_prefix.specs.Prefix.{IsValid, prefix_of, spelling_of};
 
 use crate::bits::{address, is_allowed, is_clear, octets_for};
 use crate::front::Front;
-use bgp_wire::TryCopy;
+use bgp_wire::{Output, TryCopy};
 use std::alloc::{AllocError, Global};
 use std::cmp::Ordering;
 use std::marker::Model;
@@ -84,15 +85,15 @@ impl<const W: usize> Prefix<W> {
 
     /// Adds the octets of the prefix, with 0 for each bit past the length.
     #[tactic(auto, unfolding(crate::specs::Prefix::spelling_of))]
-    pub(crate) fn append_to(&self, out: &mut Vec<u8>) -> Result<(), AllocError>
-        ensures ok { OnOk result (out.new.items ≡ out.old.items ++ spelling_of self.now) }
+    pub(crate) fn append_to<O: Output>(&self, out: &mut O) -> Result<(), AllocError>
+        ensures ok { OnOk result (O.written out.new ≡ O.written out.old ++ spelling_of self.now) }
         ensures valid { IsValid W self.now }
-        ensures err { OnErr result ((more : List ℕ) × (out.new.items ≡ out.old.items ++ more)) }
+        ensures err { OnErr result (Extends (O.written out.old) (O.written out.new)) }
+        ensures full { OnErr result (O.room < length (O.written out.old) + length (spelling_of self.now)) }
     {
         let Prefix { addr, len } = *self;
-        out.push(len)?;
-        out.extend_from_slice(&addr[..octets_for(len)])?;
-        Ok(())
+        out.put(&[len])?;
+        out.put(&addr[..octets_for(len)])
     }
 }
 

@@ -1,16 +1,17 @@
 //! Runs: octets that are prefixes one after another, with nothing between or behind them.
 
-ghost use Rattle.std.specs.Prelude.{◌≡◌, ◌↔◌, ℕ, List, [], ◌++◌, IsTrue, OnOk, OnErr};
-ghost use Rattle.std.specs.List.{flat_map};
+ghost use Rattle.std.specs.Prelude.{◌≡◌, ◌<◌, ◌+◌, ◌↔◌, [], ◌++◌, length, IsTrue, OnOk, OnErr};
+ghost use Rattle.std.specs.List.{flat_map, AllByRecursion};
 ghost use Rattle.bgp_wire.specs.Row.{Row};
-ghost use Rattle.bgp_prefix.specs.Prefix.{IsPrefix, spelling_of};
+ghost use Rattle.bgp_wire.specs.steps.Output.{Extends};
+ghost use Rattle.bgp_prefix.specs.Prefix.{IsPrefix, IsValid, spelling_of};
 ghost use Rattle.bgp_prefix.specs.Run.{run_of, fault_at, IsReading};
 
 use crate::bits::is_allowed;
 use crate::fault::RunFault;
 use crate::front::{cut_front, skip_run};
 use crate::prefix::{Prefix, Prefix4, Prefix6};
-use bgp_wire::List;
+use bgp_wire::{List, Output};
 use std::alloc::{AllocError, Global};
 
 /// Whether octets are a run of IPv4 prefixes (RFC 4271, section 4.3). It takes no memory.
@@ -90,7 +91,7 @@ pub fn write_run4(prefixes: &[Prefix4], out: &mut Vec<u8>) -> Result<(), AllocEr
         ≡ (prefixes.now, [])) }
     ensures err { OnErr result (out.new.items ≡ out.old.items) }
 {
-    write_run::<4>(prefixes, out)
+    write_run(prefixes, out)
 }
 
 /// Adds the octets of the prefixes, each with 0 for the bits past its length.
@@ -104,22 +105,24 @@ pub fn write_run6(prefixes: &[Prefix6], out: &mut Vec<u8>) -> Result<(), AllocEr
         ≡ (prefixes.now, [])) }
     ensures err { OnErr result (out.new.items ≡ out.old.items) }
 {
-    write_run::<16>(prefixes, out)
+    write_run(prefixes, out)
 }
 
 /// Adds the octets of the prefixes of any family, each with 0 for the bits past its length.
 ///
 /// # Errors
-/// `AllocError` where an allocation failed; the vector is then as it was.
-pub fn write_run<const W: usize>(
+/// `AllocError` where there was no room; what is there is then as it was.
+pub fn write_run<const W: usize, O: Output>(
     prefixes: &[Prefix<W>],
-    out: &mut Vec<u8>,
+    out: &mut O,
 ) -> Result<(), AllocError>
-    ensures ok { OnOk result (out.new.items ≡ out.old.items ++ flat_map spelling_of prefixes.now) }
+    ensures ok { OnOk result (O.written out.new ≡ O.written out.old ++ flat_map spelling_of prefixes.now) }
+    ensures valid { OnOk result (AllByRecursion (IsValid W) prefixes.now) }
     ensures row { OnOk result (Row (IsPrefix W) prefixes.now (flat_map spelling_of prefixes.now)) }
     ensures back { OnOk result (run_of W (flat_map spelling_of prefixes.now)
         ≡ (prefixes.now, [])) }
-    ensures err { OnErr result (out.new.items ≡ out.old.items) }
+    ensures err { OnErr result (O.written out.new ≡ O.written out.old) }
+    ensures full { OnErr result (O.room < length (O.written out.old) + length (flat_map spelling_of prefixes.now)) }
 {
     let start = out.len();
     let written = append_run(prefixes, out);
@@ -129,13 +132,17 @@ pub fn write_run<const W: usize>(
     written
 }
 
-/// Adds the octets of the prefixes; those of the first ones may stay where an allocation failed.
-fn append_run<const W: usize>(prefixes: &[Prefix<W>], out: &mut Vec<u8>) -> Result<(), AllocError>
-    ensures ok { OnOk result (out.new.items ≡ out.old.items ++ flat_map spelling_of prefixes.now) }
-    ensures row { OnOk result (Row (IsPrefix W) prefixes.now (flat_map spelling_of prefixes.now)) }
-    ensures err { OnErr result ((more : List ℕ) × (out.new.items ≡ out.old.items ++ more)) }
+/// Adds the octets of the prefixes; those of the first ones may stay where there was no room.
+fn append_run<const W: usize, O: Output>(
+    prefixes: &[Prefix<W>],
+    out: &mut O,
+) -> Result<(), AllocError>
+    ensures ok { OnOk result (O.written out.new ≡ O.written out.old ++ flat_map spelling_of prefixes.now) }
+    ensures valid { OnOk result (AllByRecursion (IsValid W) prefixes.now) }
+    ensures err { OnErr result (Extends (O.written out.old) (O.written out.new)) }
+    ensures full { OnErr result (O.room < length (O.written out.old) + length (flat_map spelling_of prefixes.now)) }
 {
-    for prefix in prefixes {
+    'run: for prefix in prefixes {
         prefix.append_to(out)?;
     }
     Ok(())

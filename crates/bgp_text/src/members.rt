@@ -3,9 +3,8 @@
 ghost use Rattle.std.specs.Prelude.{◌≡◌, ◌++◌, OnOk};
 ghost use Rattle.std.specs.List.{flat_map};
 ghost use Rattle.std.specs.String.{string_bytes};
-ghost use Rattle.bgp_attr.specs.AttrView.{attr_value};
 ghost use Rattle.bgp_update.specs.KeptView.{known_value};
-ghost use Rattle.bgp_update.specs.Slots.{present, slot};
+ghost use Rattle.bgp_update.specs.Slots.{slot};
 ghost use Rattle.bgp_update.specs.View.{update_value};
 ghost use Rattle.bgp_text.specs.Members.{printed, printed_attributes};
 
@@ -51,31 +50,6 @@ pub(crate) trait Form {
         ensures { OnOk result (string_bytes text.new ≡ string_bytes text.old ++ shown.nlri (prefixes_left routes.entry)) };
 }
 
-/// The attribute of a recognised type.
-#[tactic(auto, unfolding(bgp_update::specs::Slots::slot))]
-#[inline(always)]
-fn slot<'a>(kept: &KeptView<'a>, kind: u8) -> Option<AttrView<'a>>
-    ensures { present attr_value result ≡ slot (known_value kept.now) kind }
-{
-    match kind {
-        attribute::ORIGIN => Some(AttrView::Origin(kept.origin?)),
-        attribute::AS_PATH => Some(AttrView::AsPath(kept.as_path?)),
-        attribute::NEXT_HOP => Some(AttrView::NextHop(kept.next_hop?)),
-        attribute::MULTI_EXIT_DISC => Some(AttrView::Med(kept.med?)),
-        attribute::LOCAL_PREF => Some(AttrView::LocalPref(kept.local_pref?)),
-        attribute::ATOMIC_AGGREGATE if kept.atomic => Some(AttrView::Atomic),
-        attribute::ATOMIC_AGGREGATE => None,
-        attribute::AGGREGATOR => Some(AttrView::Aggregator(kept.aggregator?)),
-        attribute::COMMUNITIES => Some(AttrView::Communities(kept.communities?)),
-        attribute::MP_REACH_NLRI => Some(AttrView::MpReach(kept.reach?)),
-        attribute::MP_UNREACH_NLRI => Some(AttrView::MpUnreach(kept.unreach?)),
-        attribute::AS4_PATH => Some(AttrView::As4Path(kept.as4_path?)),
-        attribute::AS4_AGGREGATOR => Some(AttrView::As4Aggregator(kept.as4_aggregator?)),
-        attribute::LARGE_COMMUNITY => Some(AttrView::Large(kept.large?)),
-        _ => None,
-    }
-}
-
 /// Adds the attribute of a recognised type, where it is there.
 #[inline(always)]
 fn put_slot<F: Form>(
@@ -86,7 +60,7 @@ fn put_slot<F: Form>(
 ) -> Result<(), AllocError>
     ensures { OnOk result (string_bytes text.new ≡ string_bytes text.old ++ flat_map F.shown.attribute (slot (known_value kept.now) kind)) }
 {
-    match slot(kept, kind) {
+    match kept.attr(kind) {
         None => Ok(()),
         Some(attr) => F::put_attribute(alloc, text, &attr),
     }

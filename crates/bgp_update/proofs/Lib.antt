@@ -2,6 +2,7 @@ pub mod SmallLemmas
 pub mod Options
 pub mod AttrSlots
 pub mod KeptViews
+pub mod Placed
 pub mod Summaries
 pub mod Runs
 pub mod PartLengths
@@ -29,9 +30,9 @@ pub mod TakenSlots
 pub mod Taken
 pub mod SlotSteps
 pub mod FailedSteps
-pub mod Measures
 pub mod PathItems
 pub mod ToldPaths
 pub mod ToldAttributes
 pub mod Layouts
 pub mod Withdrawals
+pub mod Verdicts

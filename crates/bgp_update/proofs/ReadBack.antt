@@ -10,6 +10,7 @@ use Rattle.bgp_frame.specs.declared.notification.Notification.{Notification}
 use Rattle.bgp_open.specs.declared.context.Context.{Context}
 use Rattle.bgp_prefix.specs.Prefix.{PrefixValue, IsValid, spelling_of}
 use Rattle.bgp_prefix.specs.Run.{run_of}
+use Rattle.bgp_prefix.proofs.RunLemmas.{Row-prefixes}
 use Rattle.bgp_prefix.proofs.LawLemmas.{row_is_run}
 use Rattle.bgp_attr.specs.declared.attr.Attr.{Attr}
 use Rattle.bgp_attr.specs.declared.attr.Attr.TheVariants as attr
@@ -20,7 +21,6 @@ use Rattle.bgp_attr.specs.declared.path.AsPath.{AsPath}
 use Rattle.bgp_attr.specs.Tlv.{TlvValue, placed_from, length_octets}
 use Rattle.bgp_attr.specs.Written.{written_tlv, canonical, value_octets, run_octets, type_of, is_too_wide, is_as4, is_empty, is_misnamed, has_as_zero, stands_twice, is_too_long, is_writable, Belongs, HasRanges}
 use Rattle.bgp_attr.proofs.TestRows.{Writes-writable}
-use Rattle.bgp_attr.proofs.RouteRows.{Row-prefixes}
 use Rattle.bgp_update.specs.declared.attrs.Attrs.{Attrs}
 use Rattle.bgp_update.specs.declared.note.Note.{Note}
 use Rattle.bgp_update.specs.declared.update.Update.{Update}

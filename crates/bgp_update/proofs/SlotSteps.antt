@@ -1,12 +1,10 @@
 -- A walk over the types in order: the attributes so far, one type more, and all of them.
-use Rattle.std.proofs.Common.{◌≡◌, ℕ, ◌+◌, ◌<◌, ◌≤◌, List, [], ◌∷◌, ◌++◌, length, get_or, take, drop, None, Some, sym, ap, subst, ◌∙◌, append_assoc, arith}
+use Rattle.std.proofs.Common.{◌≡◌, ℕ, ◌+◌, ◌<◌, ◌≤◌, List, [], ◌∷◌, ◌++◌, length, get_or, take, drop, sym, ap, subst, ◌∙◌, append_assoc, arith}
 use Rattle.std.specs.List.{flat_map, AllByRecursion}
 use Rattle.std.proofs.lemmas.Grind.{flat_map-append}
 use Rattle.std.proofs.lemmas.List.{append-nil, length-append, take_more, take_all, take-append-drop}
 use Rattle.bgp_wire.specs.steps.Output.{Extends}
-use Rattle.bgp_attr.specs.Length.{within}
-use Rattle.bgp_attr.proofs.Lengths.{within_past, past_within, within_fits}
-use Rattle.bgp_attr.proofs.Writes.{IsWritten}
+use Rattle.bgp_wire.proofs.Writes.{IsWritten}
 use Rattle.bgp_update.proofs.Lists.{all-append, all-front, all-back}
 
 module _ {A : Type 0} (slots : ℕ → List A) (kinds : List ℕ) (i : ℕ) where
@@ -47,17 +45,6 @@ module _ {A : Type 0} (slots : ℕ → List A) (kinds : List ℕ) (i : ℕ) wher
           ap (λ (xs : List A). length (flat_map octets xs)) still_to_come
           ∙ ap length (flat_map-append octets (so_far ++ slots kind) (flat_map slots (drop (i + 1) kinds)))
           ∙ length-append (flat_map octets (so_far ++ slots kind)) (flat_map octets (flat_map slots (drop (i + 1) kinds)))
-
-      pub type_past : (len : ℕ) → len ≡ length (flat_map octets so_far) → None ≡ within (len + length (flat_map octets (slots kind))) → None ≡ within (length (flat_map octets (flat_map slots kinds)))
-      type_past len e past = past_within _ (omega (arith, within_past _ past, length_added, length_all))
-
-      pub type_fits : (len m : ℕ) → len ≡ length (flat_map octets so_far) → Some m ≡ within (len + length (flat_map octets (slots kind)))
-          → (m ≡ length (flat_map octets (flat_map slots (take (i + 1) kinds)))) × (m ≤ 65535)
-      type_fits len m e fit =
-          let fits = within_fits m (len + length (flat_map octets (slots kind))) fit in
-          let added : length (flat_map octets (flat_map slots (take (i + 1) kinds))) ≡ length (flat_map octets so_far) + length (flat_map octets (slots kind)) =
-          ap (λ (xs : List A). length (flat_map octets xs)) one_type ∙ length_added in
-          (omega arith, omega arith)
 
     -- ---- writing
 

@@ -1,7 +1,6 @@
 -- An UPDATE that is taken can be written, in no more octets.
 use Rattle.std.proofs.Common.{◌≡◌, ℕ, ◌+◌, ◌-◌, ◌<◌, ◌≤◌, Bool, true, false, not, ◌&&◌, ◌||◌, cond, eqb, ltb, List, [], ◌∷◌, ◌++◌, length, map, Option, Some, None, refl, sym, ap, ap₂, subst, ◌∙◌, arith}
 use Rattle.std.specs.Prelude.{is_some, is_none}
-use Rattle.std.specs.Int.{w16, to_be_bytes}
 use Rattle.std.specs.List.{flat_map, list_any, AllByRecursion}
 use Rattle.std.specs.Option.{option_or}
 use Rattle.std.proofs.lemmas.Bool.{false≢true, true≢false, or_parts, or_from, lt-ltb, eqb-true, not_from_true}
@@ -10,7 +9,6 @@ use Rattle.bgp_numbers.specs.declared.attribute.TheConstants.{ORIGIN, AS_PATH, N
 use Rattle.bgp_frame.specs.declared.notification.Notification.{Notification}
 use Rattle.bgp_wire.specs.Octets.{AreOctets}
 use Rattle.bgp_wire.specs.Row.{Row, Splits}
-use Rattle.bgp_wire.proofs.OctetLemmas.{AreOctets-front, AreOctets-back}
 use Rattle.bgp_wire.proofs.Behinds.{Row-pieces}
 use Rattle.bgp_open.specs.declared.context.Context.{Context}
 use Rattle.bgp_prefix.specs.Prefix.{PrefixValue, IsPrefix, one_prefix}
@@ -30,21 +28,20 @@ use Rattle.bgp_attr.proofs.TestRows.{Writes, writable-Writes}
 use Rattle.bgp_update.specs.declared.attrs.Attrs.{Attrs}
 use Rattle.bgp_update.specs.declared.note.Note.{Note}
 use Rattle.bgp_update.specs.declared.update.Update.{Update}
-use Rattle.bgp_update.specs.declared.verdict.Verdict.{Verdict}
 use Rattle.bgp_update.specs.declared.verdict.Verdict.TheVariants as verdict
-use Rattle.bgp_update.specs.Parts.{Parts, IsBody, parts_of, has_nlri}
+use Rattle.bgp_update.specs.Parts.{Parts, IsBody, has_nlri}
 use Rattle.bgp_wire.specs.OctetSet.{none_of_them}
-use Rattle.bgp_update.specs.Marks.{Mark, malformed, marks_behind, cut_mark, placed_tlvs, field_marks, marks_of}
+use Rattle.bgp_update.specs.Marks.{Mark, marks_behind, cut_mark, placed_tlvs, field_marks, marks_of}
 use Rattle.bgp_update.specs.Taken.{kept_of, attrs_of, update_of}
 use Rattle.bgp_update.specs.steps.Others.{as_opaque}
 use Rattle.bgp_update.proofs.AttrSlots.{first_in, as_origin, as_as_path, as_next_hop, as_local_pref, attrs_in}
-use Rattle.bgp_update.specs.Notes.{has_routes, is_reachable, has_type, missing_of, is_missing, notes_of, routes_of}
+use Rattle.bgp_update.specs.Notes.{has_routes, is_reachable, has_type, missing_of, is_missing}
 use Rattle.bgp_update.specs.Slots.{attr_list}
-use Rattle.bgp_update.specs.Verdict.{first_reset, bad_network, reset_of_run, reset_of, withdraws, is_withdrawn, unless_reset, without_reset, of_parts, verdict_of}
+use Rattle.bgp_update.specs.Verdict.{first_reset, bad_network, reset_of_run, reset_of, withdraws, is_withdrawn, verdict_of}
 use Rattle.bgp_update.specs.Written.{attributes_octets, written_body, announces, lacks_some, is_of_other_family, HasUpdateRanges}
 use Rattle.bgp_update.specs.Written as written
 use Rattle.bgp_update.specs.Laws.{CanBeWritten}
-use Rattle.bgp_update.proofs.Bodies.{parts-body, length-body}
+use Rattle.bgp_update.proofs.Bodies.{length-body}
 use Rattle.bgp_update.proofs.Lists.{all-front, all-more}
 use Rattle.bgp_update.proofs.Rising.{NoneTwice, rising-all}
 use Rattle.bgp_update.proofs.TypeLemmas.{Named, some-type, taken-origin, taken-as_path, taken-next_hop}
@@ -52,6 +49,7 @@ use Rattle.bgp_update.proofs.Validity.{IsAccepted, accepted-valid}
 use Rattle.bgp_update.proofs.MarkLemmas.{IsReady}
 use Rattle.bgp_update.proofs.KeptSlots.{opaques-all, kept-all, kept-none, kept-others}
 use Rattle.bgp_update.proofs.TakenSlots as slots
+use Rattle.bgp_update.proofs.Verdicts.{has-parts, taken-of}
 use Rattle.bgp_update.proofs.KeptMarks.{origin-not_dropped, as_path-not_dropped, next_hop-not_dropped, GoesOn, or-parts, goes-on, IsKept, has-kept}
 
 -- ---- runs
@@ -257,29 +255,8 @@ module _ (ctx : Context) (p : Parts) (octets_w : AreOctets p.withdrawn) (octets_
 
 -- ---- the verdict
 
--- what a message that is taken is
-take-parts : (withdrawn reachable : Bool) (w : Verdict) (u v : Update) (ns ms : List Note) → cond withdrawn (cond reachable w (verdict.Reset malformed)) (verdict.Take u ns) ≡ verdict.Take v ms
-    → ((v : Update) (ms : List Note) → w ≡ verdict.Take v ms → ⊥) → (withdrawn ≡ false) × (u ≡ v)
-take-parts true true w u v ns ms e other = absurd (other v ms e)
-take-parts true false w u v ns ms e other = absurd cc
-take-parts false reachable w u v ns ms e other = (refl, cc)
-
-unless-take : (o : Option Notification) (w : Verdict) (v : Update) (ms : List Note) → unless_reset o w ≡ verdict.Take v ms → (o ≡ None) × (w ≡ verdict.Take v ms)
-unless-take None w v ms e = (refl, e)
-unless-take (Some n) w v ms e = absurd cc
-
-parts-written : (ctx : Context) (body : List ℕ) (u : Update) (notes : List Note) → AreOctets body → (o : Option Parts) → parts_of body ≡ o → of_parts ctx o ≡ verdict.Take u notes → CanBeWritten ctx u body
-parts-written ctx body u notes octets None found e = absurd cc
-parts-written ctx body u notes octets (Some p) found e =
-    let marks : List Mark = marks_of ctx p in
-    let s = parts-body body p octets found in
-    let behind_w : AreOctets (p.withdrawn ++ (to_be_bytes w16 (length p.attributes) ++ (p.attributes ++ p.nlri))) =
-    AreOctets-back (to_be_bytes w16 (length p.withdrawn)) _ (subst AreOctets s.octets octets) in
-    let behind_a : AreOctets (p.attributes ++ p.nlri) = AreOctets-back (to_be_bytes w16 (length p.attributes)) _ (AreOctets-back p.withdrawn _ behind_w) in
-    let go = unless-take (reset_of p marks) (without_reset p marks) u notes e in
-    let is = take-parts (is_withdrawn p marks) (is_reachable p marks) (verdict.Withdraw (routes_of p marks) (notes_of p marks)) (update_of p marks) u (notes_of p marks) notes go.1 (λ v ms (f : verdict.Withdraw (routes_of p marks) (notes_of p marks) ≡ verdict.Take v ms). absurd cc) in
-    subst (λ (v : Update). CanBeWritten ctx v body) is.1
-    (can-be-written ctx p (AreOctets-front p.withdrawn _ behind_w) (AreOctets-front p.attributes p.nlri behind_a) (AreOctets-back p.attributes p.nlri behind_a) go.0 is.0 body s)
-
 pub taken-written : (ctx : Context) (body : List ℕ) (u : Update) (notes : List Note) → AreOctets body → verdict_of ctx body ≡ verdict.Take u notes → CanBeWritten ctx u body
-taken-written ctx body u notes octets e = parts-written ctx body u notes octets (parts_of body) refl e
+taken-written ctx body u notes octets e =
+    let is = taken-of ctx body u notes e in
+    let p = has-parts body is.parts octets is.found in
+    subst (λ (v : Update). CanBeWritten ctx v body) is.update (can-be-written ctx is.parts p.withdrawn p.attributes p.nlri is.no_reset is.goes_on body p.is_body)

@@ -1,12 +1,9 @@
 -- The UPDATE that withdraws the routes of one is no longer than that one.
-use Rattle.std.proofs.Common.{◌≡◌, ℕ, ◌+◌, ◌≤◌, Bool, true, false, not, cond, ltb, List, [], ◌∷◌, ◌++◌, length, Option, Some, None, refl, ap, subst, ◌∙◌, arith}
-use Rattle.std.specs.Int.{w16, to_be_bytes}
+use Rattle.std.proofs.Common.{◌≡◌, ℕ, ◌+◌, ◌≤◌, Bool, true, false, not, cond, ltb, List, [], ◌∷◌, ◌++◌, length, Option, Some, None, ap, subst, ◌∙◌, arith}
 use Rattle.std.specs.List.{filter, flat_map}
 use Rattle.std.proofs.lemmas.Grind.{flat_map-append}
 use Rattle.std.proofs.lemmas.List.{append-nil, length-append}
-use Rattle.bgp_frame.specs.declared.notification.Notification.{Notification}
 use Rattle.bgp_wire.specs.Octets.{AreOctets}
-use Rattle.bgp_wire.proofs.OctetLemmas.{AreOctets-front, AreOctets-back}
 use Rattle.bgp_open.specs.declared.context.Context.{Context}
 use Rattle.bgp_prefix.specs.Prefix.{PrefixValue, spelling_of}
 use Rattle.bgp_prefix.specs.Run.{run_of}
@@ -17,24 +14,23 @@ use Rattle.bgp_attr.specs.declared.mp.MpReach.{MpReach}
 use Rattle.bgp_attr.specs.declared.mp.MpReach.TheVariants as reach
 use Rattle.bgp_attr.specs.declared.mp.MpUnreach.{MpUnreach}
 use Rattle.bgp_attr.specs.declared.mp.MpUnreach.TheVariants as unreach
-use Rattle.bgp_attr.specs.Length.{value_len}
 use Rattle.bgp_attr.specs.Spelling.{link_octets}
-use Rattle.bgp_attr.specs.Written.{canonical, run_octets}
+use Rattle.bgp_attr.specs.Written.{canonical, run_octets, value_octets}
 use Rattle.bgp_attr.proofs.CanonicalLength.{length-canonical}
 use Rattle.bgp_update.specs.declared.attrs.Attrs.{Attrs}
 use Rattle.bgp_update.specs.declared.note.Note.{Note}
 use Rattle.bgp_update.specs.declared.routes.Routes.{Routes}
-use Rattle.bgp_update.specs.declared.verdict.Verdict.{Verdict}
 use Rattle.bgp_update.specs.declared.verdict.Verdict.TheVariants as verdict
-use Rattle.bgp_update.specs.Marks.{Mark, carries_routes, marks_of, malformed}
-use Rattle.bgp_update.specs.Notes.{gone_ip4, gone_ip6, reached_ip4, reached_ip6, is_reachable, notes_of, routes_of}
-use Rattle.bgp_update.specs.Parts.{Parts, IsBody, parts_of}
+use Rattle.bgp_update.specs.Marks.{carries_routes, marks_of}
+use Rattle.bgp_update.specs.Notes.{gone_ip4, gone_ip6, reached_ip4, reached_ip6, routes_of}
+use Rattle.bgp_update.specs.Parts.{Parts, IsBody}
 use Rattle.bgp_update.specs.Slots.{present, slot, types_from, canonical_order}
-use Rattle.bgp_update.specs.Taken.{kept_of, attrs_of, update_of}
-use Rattle.bgp_update.specs.Verdict.{first_reset, reset_of_run, reset_of, is_withdrawn, unless_reset, without_reset, of_parts, verdict_of}
+use Rattle.bgp_update.specs.Taken.{kept_of, attrs_of}
+use Rattle.bgp_update.specs.Verdict.{first_reset, reset_of_run, reset_of, verdict_of}
 use Rattle.bgp_update.specs.Withdrawal.{gone_octets, withdrawal_octets}
 use Rattle.bgp_update.specs.Written.{attributes_octets}
-use Rattle.bgp_update.proofs.Bodies.{parts-body, length-body}
+use Rattle.bgp_update.proofs.Verdicts.{has-parts, withdrawn-of}
+use Rattle.bgp_update.proofs.Bodies.{length-body}
 use Rattle.bgp_update.proofs.KeptMarks.{or-parts}
 use Rattle.bgp_update.proofs.SlotLemmas.{slot-at}
 use Rattle.bgp_update.proofs.Taken.{run-row}
@@ -70,11 +66,11 @@ one-or-two true = (omega arith, omega arith)
 one-or-two false = (omega arith, omega arith)
 
 module _ (ctx : Context) (x : Attr) where
-  at-least : 3 + value_len ctx x ≤ length (canonical ctx x)
-  at-least = omega (arith, length-canonical ctx x, (one-or-two (ltb 255 (value_len ctx x))).0)
+  at-least : 3 + length (value_octets ctx x) ≤ length (canonical ctx x)
+  at-least = omega (arith, length-canonical ctx x, (one-or-two (ltb 255 (length (value_octets ctx x)))).0)
 
-  at-most : length (canonical ctx x) ≤ 4 + value_len ctx x
-  at-most = omega (arith, length-canonical ctx x, (one-or-two (ltb 255 (value_len ctx x))).1)
+  at-most : length (canonical ctx x) ≤ 4 + length (value_octets ctx x)
+  at-most = omega (arith, length-canonical ctx x, (one-or-two (ltb 255 (length (value_octets ctx x)))).1)
 
   alone : size ctx (x ∷ []) ≡ length (canonical ctx x)
   alone = omega (arith, length-append (canonical ctx x) [])
@@ -162,30 +158,8 @@ module _ (ctx : Context) (p : Parts) (octets_w : AreOctets p.withdrawn) (octets_
 
 -- ---- the verdict
 
-withdraw-parts : (withdrawn reachable : Bool) (w : Verdict) (r s : Routes) (ns ms : List Note) → cond withdrawn (cond reachable (verdict.Withdraw r ns) (verdict.Reset malformed)) w ≡ verdict.Withdraw s ms
-    → (w ≡ verdict.Withdraw s ms → ⊥) → r ≡ s
-withdraw-parts true true w r s ns ms e other = cc
-withdraw-parts true false w r s ns ms e other = absurd cc
-withdraw-parts false reachable w r s ns ms e other = absurd (other e)
-
-unless-withdraw : (o : Option Notification) (w : Verdict) (s : Routes) (ms : List Note) → unless_reset o w ≡ verdict.Withdraw s ms → (o ≡ None) × (w ≡ verdict.Withdraw s ms)
-unless-withdraw None w s ms e = (refl, e)
-unless-withdraw (Some n) w s ms e = absurd cc
-
-parts-shorter : (ctx : Context) (body : List ℕ) (s : Routes) (notes : List Note) → AreOctets body → (o : Option Parts) → parts_of body ≡ o → of_parts ctx o ≡ verdict.Withdraw s notes
-    → length (withdrawal_octets s) ≤ length body
-parts-shorter ctx body s notes octets None found e = absurd cc
-parts-shorter ctx body s notes octets (Some p) found e =
-    let marks : List Mark = marks_of ctx p in
-    let is = parts-body body p octets found in
-    let behind_w : AreOctets (p.withdrawn ++ (to_be_bytes w16 (length p.attributes) ++ (p.attributes ++ p.nlri))) =
-    AreOctets-back (to_be_bytes w16 (length p.withdrawn)) _ (subst AreOctets is.octets octets) in
-    let behind_a : AreOctets (p.attributes ++ p.nlri) = AreOctets-back (to_be_bytes w16 (length p.attributes)) _ (AreOctets-back p.withdrawn _ behind_w) in
-    let go = unless-withdraw (reset_of p marks) (without_reset p marks) s notes e in
-    let same = withdraw-parts (is_withdrawn p marks) (is_reachable p marks) (verdict.Take (update_of p marks) (notes_of p marks)) (routes_of p marks) s (notes_of p marks) notes go.1
-    (λ (f : verdict.Take (update_of p marks) (notes_of p marks) ≡ verdict.Withdraw s notes). absurd cc) in
-    subst (λ (r : Routes). length (withdrawal_octets r) ≤ length body) same
-    (no-longer ctx p (AreOctets-front p.withdrawn _ behind_w) (AreOctets-front p.attributes p.nlri behind_a) (AreOctets-back p.attributes p.nlri behind_a) go.0 body is)
-
 pub withdrawal-short : (ctx : Context) (body : List ℕ) (s : Routes) (notes : List Note) → AreOctets body → verdict_of ctx body ≡ verdict.Withdraw s notes → length (withdrawal_octets s) ≤ length body
-withdrawal-short ctx body s notes octets e = parts-shorter ctx body s notes octets (parts_of body) refl e
+withdrawal-short ctx body s notes octets e =
+    let is = withdrawn-of ctx body s notes e in
+    let p = has-parts body is.parts octets is.found in
+    subst (λ (r : Routes). length (withdrawal_octets r) ≤ length body) is.routes_are (no-longer ctx is.parts p.withdrawn p.attributes p.nlri is.no_reset body p.is_body)

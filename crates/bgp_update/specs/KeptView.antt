@@ -1,16 +1,15 @@
 -- The kept attributes of a message, each in the slot of its type: while their values lie in octets, and as they come one after another.
-use Rattle.std.specs.Prelude.{Bool, true, false, ◌||◌, List, [], ◌∷◌, map, option_map}
+use Rattle.std.specs.Prelude.{ℕ, Bool, true, false, ◌||◌, List, [], ◌∷◌, map, Option, slice_index_or}
 use Rattle.std.specs.List.{list_any}
-use Rattle.bgp_attr.specs.AttrView.{as4_path_value, opaque_value}
-use Rattle.bgp_attr.specs.CommunitiesView.{communities_value, large_value}
-use Rattle.bgp_attr.specs.MpView.{reach_value, unreach_value}
-use Rattle.bgp_attr.specs.PathView.{path_value}
+use Rattle.bgp_attr.specs.AttrView.{opaque_value}
+use Rattle.bgp_attr.specs.Tlv.{TlvValue}
 use Rattle.bgp_attr.specs.declared.attr.Attr.{Attr}
 use Rattle.bgp_attr.specs.declared.attr.Attr.TheVariants as attr
 use Rattle.bgp_attr.specs.declared.attr_view.OpaqueView.{OpaqueView}
 use Rattle.bgp_attr.specs.declared.opaque.Opaque.{Opaque}
 use Rattle.bgp_update.specs.declared.attrs.Attrs.{Attrs}
 use Rattle.bgp_update.specs.declared.kept_view.KeptView.{KeptView}
+use Rattle.bgp_update.specs.Places.{attrs_by, tlv_placed}
 use Rattle.bgp_update.specs.Taken.{put, attrs_of}
 
 -- the attributes of recognised types, and whether there are others
@@ -26,23 +25,12 @@ abbrev pub is_opaque : Attr → Bool
 is_opaque (attr.Opaque o) = true
 is_opaque _ = false
 
+-- the octets of the attribute of a type, where it is recognised and kept
+abbrev pub kept_tlv : KeptView → ℕ → Option TlvValue
+kept_tlv k = λ kind. tlv_placed k.field.now (slice_index_or k.places kind 0)
+
 abbrev pub known_value : KeptView → Attrs
-known_value k = record {
-  origin = k.origin;
-  as_path = option_map path_value k.as_path;
-  next_hop = k.next_hop;
-  med = k.med;
-  local_pref = k.local_pref;
-  atomic = k.atomic;
-  aggregator = k.aggregator;
-  communities = option_map communities_value k.communities;
-  mp_reach = option_map reach_value k.reach;
-  mp_unreach = option_map unreach_value k.unreach;
-  as4_path = option_map as4_path_value k.as4_path;
-  as4_aggregator = k.as4_aggregator;
-  large = option_map large_value k.large;
-  others = [];
-}
+known_value k = attrs_by k.ctx (kept_tlv k)
 
 -- these, and others of unrecognised types
 abbrev pub with_others : KeptView → List Opaque → Attrs

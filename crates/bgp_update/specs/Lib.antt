@@ -10,6 +10,7 @@ pub mod As4
 pub mod Widths
 pub mod Body
 pub mod MarkIter
+pub mod Places
 pub mod KeptView
 pub mod ByType
 pub mod Found

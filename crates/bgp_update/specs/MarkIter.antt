@@ -3,9 +3,12 @@ use Rattle.std.specs.Prelude.{◌≡◌, ℕ, ◌-◌, Bool, ◌||◌, ◌==◌,
 use Rattle.std.specs.List.{list_any}
 use Rattle.bgp_attr.specs.FoundAttr.{found_attr_value}
 use Rattle.bgp_attr.specs.Judgement.{judgement}
+use Rattle.bgp_attr.specs.Ruling.{ruled}
+use Rattle.bgp_attr.specs.declared.attr.Attr.TheVariants as attr
 use Rattle.bgp_attr.specs.declared.judged.Judged.{Judged}
 use Rattle.bgp_attr.specs.Tlv.{PlacedTlv}
 use Rattle.bgp_attr.specs.TlvIter.{tlvs_left, rest_left}
+use Rattle.bgp_update.specs.declared.mark.CutMark.{CutMark}
 use Rattle.bgp_update.specs.declared.mark.MarkView.{MarkView}
 use Rattle.bgp_update.specs.declared.mark.MarkIter.{MarkIter}
 use Rattle.bgp_update.specs.Marks.{Mark, marks_behind, repeated, cut_mark}
@@ -13,6 +16,14 @@ use Rattle.bgp_wire.specs.OctetSet.{has_octet}
 
 abbrev pub mark_value : MarkView → Mark
 mark_value m = record { at = m.at; kind = m.kind; judged = found_attr_value m.judged }
+
+-- nothing is kept of an attribute that is cut off, whatever its value might be
+abbrev pub cut_value : CutMark → Mark
+cut_value m = record { at = m.at; kind = m.kind; judged = ruled m.ruling attr.Atomic }
+
+-- the context, and the field, are those that they were
+abbrev pub IsOfField : MarkIter → MarkIter → Type 0
+IsOfField s t = (t.ctx ≡ s.ctx) × (t.has_nlri ≡ s.has_nlri) × (t.tlvs.field.now ≡ s.tlvs.field.now)
 
 -- the marks still to come, where these are the whole attributes that aren't judged yet
 abbrev pub marks_with : MarkIter → List PlacedTlv → List Mark

@@ -1,11 +1,13 @@
 -- All marks of a field in sum: steps of the verdict, which private functions cite.
-use Rattle.std.specs.Prelude.{◌≡◌, Bool, true, false, ◌||◌, List, [], ◌∷◌, Option, option_map}
+use Rattle.std.specs.Prelude.{◌≡◌, ℕ, Bool, true, false, ◌||◌, List, [], ◌∷◌, Option, option_map}
 use Rattle.std.specs.List.{list_any}
 use Rattle.std.specs.Option.{option_or}
 use Rattle.bgp_frame.specs.declared.notification.Notification.{Notification}
 use Rattle.bgp_frame.specs.Notification.{notification_of_view}
+use Rattle.bgp_open.specs.declared.context.Context.{Context}
 use Rattle.bgp_attr.specs.declared.judged.Judged.{Judged}
 use Rattle.bgp_attr.specs.declared.judged.Judged.TheVariants as judged
+use Rattle.bgp_update.specs.declared.kept_view.KeptView.{KeptView}
 use Rattle.bgp_update.specs.declared.summary.Summary.{Summary}
 use Rattle.bgp_update.specs.KeptView.{Kept, kept_value, kept_in, kept_behind}
 use Rattle.bgp_update.specs.Marks.{Mark}
@@ -44,6 +46,10 @@ summary_behind s marks = record {
 -- with one more attribute as it is judged
 abbrev pub Adds : Summary → Judged → Summary → Type 0
 Adds s judged t = (m : Mark) → m.judged ≡ judged → summary_value t ≡ summary_behind (summary_value s) (m ∷ [])
+
+-- the attributes that are kept are those of a field that is judged in a context
+abbrev pub AreOf : KeptView → Context → Bool → List ℕ → Type 0
+AreOf k ctx has_nlri field = (k.ctx ≡ ctx) × (k.has_nlri ≡ has_nlri) × (k.field.now ≡ field)
 
 abbrev pub summary_of : List Mark → SummaryValue
 summary_of marks = record {

@@ -2,7 +2,7 @@
 pub mod Small
 pub mod Others
 pub mod Failed
-pub mod Measured
 pub mod ToldSlot
 pub mod Layout
 pub mod Progress
+pub mod RoutesView

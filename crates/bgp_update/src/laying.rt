@@ -9,6 +9,9 @@ ghost use Rattle.bgp_update.specs.steps.Layout.{LaysOut};
 use bgp_wire::Output;
 use std::alloc::AllocError;
 
+/// The octets of a message of 4096 octets that follow its header (RFC 4271, section 4.1).
+pub(crate) const LONGEST_BODY: usize = 4077;
+
 /// Where the second length field begins, and where the NLRI do.
 #[derive(Clone, Copy)]
 pub(crate) struct Places {

@@ -1,11 +1,13 @@
 //! Attributes that repeat, or that are cut off.
 
-ghost use Rattle.std.specs.Prelude.{◌≡◌, ◌<◌, length};
+ghost use Rattle.std.specs.Prelude.{◌≡◌, ◌<◌, false, length};
 ghost use Rattle.bgp_attr.specs.FoundAttr.{found_attr_value};
+ghost use Rattle.bgp_attr.specs.Ruling.{keeps, ruled};
+ghost use Rattle.bgp_attr.specs.declared.attr.Attr.{Attr};
 ghost use Rattle.bgp_frame.specs.Notification.{notification_of_view};
 ghost use Rattle.bgp_update.specs.Marks.{malformed, carries_routes, repeated, cut_kind, cut};
 
-use bgp_attr::{FoundAttr, Why};
+use bgp_attr::{FoundAttr, Ruling, Why};
 use bgp_frame::NotificationView;
 use bgp_numbers::attribute::{MP_REACH_NLRI, MP_UNREACH_NLRI};
 use bgp_numbers::error::{MALFORMED_ATTRIBUTE_LIST, UPDATE_MESSAGE};
@@ -29,13 +31,14 @@ fn carries_routes(kind: u8) -> bool
 }
 
 /// How a second attribute of a type is judged.
-pub(crate) fn repeated(kind: u8) -> FoundAttr<'static>
-    ensures { found_attr_value result ≡ repeated kind }
+pub(crate) fn repeated(kind: u8) -> Ruling<'static>
+    ensures value { (a : Attr) → ruled result a ≡ repeated kind }
+    ensures refuses { keeps result ≡ false }
 {
     if carries_routes(kind) {
-        FoundAttr::Reset(malformed())
+        Ruling::Reset(malformed())
     } else {
-        FoundAttr::Discard(Why::Repeated)
+        Ruling::Discard(Why::Repeated)
     }
 }
 
@@ -47,12 +50,26 @@ pub(crate) fn cut_kind(rest: &[u8]) -> u8
 }
 
 /// How an attribute that is cut off is judged.
-pub(crate) fn cut(rest: &[u8]) -> FoundAttr<'static>
-    ensures { found_attr_value result ≡ cut rest.now }
+pub(crate) fn cut(rest: &[u8]) -> Ruling<'static>
+    ensures value { (a : Attr) → ruled result a ≡ cut rest.now }
+    ensures refuses { keeps result ≡ false }
 {
     if rest.len() > 1 && carries_routes(cut_kind(rest)) {
-        FoundAttr::Reset(malformed())
+        Ruling::Reset(malformed())
     } else {
-        FoundAttr::Withdraw(Why::Cut)
+        Ruling::Withdraw(Why::Cut)
+    }
+}
+
+/// How an attribute that isn't kept is judged, as one that has no value.
+pub(crate) fn unkept(ruling: Ruling<'_>) -> FoundAttr<'_>
+    requires { keeps ruling ≡ false }
+    ensures { (a : Attr) → found_attr_value result ≡ ruled ruling.entry a }
+{
+    match ruling {
+        Ruling::Keep => unreachable!(),
+        Ruling::Discard(why) => FoundAttr::Discard(why),
+        Ruling::Withdraw(why) => FoundAttr::Withdraw(why),
+        Ruling::Reset(why) => FoundAttr::Reset(why),
     }
 }

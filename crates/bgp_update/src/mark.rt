@@ -1,12 +1,13 @@
 //! The judgement of each attribute of a field, one after another.
 
-ghost use Rattle.std.specs.Prelude.{◌≡◌, ◌≤◌, true, length};
+ghost use Rattle.std.specs.Prelude.{◌≡◌, ◌≤◌, false, true, length};
 ghost use Rattle.std.specs.List.{list_all};
+ghost use Rattle.bgp_attr.specs.Ruling.{keeps};
 ghost use Rattle.bgp_attr.specs.TlvIter.{tlvs_left};
 ghost use Rattle.bgp_update.specs.steps.Small.{is_small};
 
-use crate::malformed::{cut, cut_kind, repeated};
-use bgp_attr::{FoundAttr, Sink, Tail, Tlv, TlvIter, Why, judge_into};
+use crate::malformed::{cut, cut_kind, repeated, unkept};
+use bgp_attr::{FoundAttr, Ruling, Tail, Tlv, TlvIter, rule, with_value};
 use bgp_open::Context;
 use bgp_wire::OctetSet;
 use std::iter::FusedIterator;
@@ -18,6 +19,16 @@ pub(crate) struct MarkView<'a> {
     pub(crate) kind: u8,
     pub(crate) judged: FoundAttr<'a>,
     pub(crate) ghost small: { at ≤ 4075 },
+}
+
+/// The mark of an attribute that is cut off, which is never kept.
+#[derive(Clone, Copy)]
+pub(crate) struct CutMark<'a> {
+    pub(crate) at: usize,
+    pub(crate) kind: u8,
+    pub(crate) ruling: Ruling<'a>,
+    pub(crate) ghost small: { at ≤ 4075 },
+    pub(crate) ghost refused: { keeps ruling ≡ false },
 }
 
 /// The marks of a field: of its attributes by place, then of one that is cut off. It takes no memory.
@@ -34,11 +45,15 @@ pub(crate) struct MarkIter<'a> {
 }
 
 impl<'a> MarkIter<'a> {
-    ghost use Rattle.std.specs.Prelude.{ℕ, Bool, [], ◌∷◌, IfSome, MatchOption};
-    ghost use Rattle.bgp_attr.specs.TlvView.{placed_tlv};
+    ghost use Rattle.std.specs.Prelude.{ℕ, Bool, [], ◌∷◌, Some, IfSome, IsTrue, MatchOption};
+    ghost use Rattle.bgp_attr.specs.Judgement.{judgement, type_row};
+    ghost use Rattle.bgp_attr.specs.JudgedView.{is_kept};
+    ghost use Rattle.bgp_attr.specs.Ruling.{keeps, ruled};
+    ghost use Rattle.bgp_attr.specs.TlvIter.{tlv_at};
+    ghost use Rattle.bgp_attr.specs.TlvView.{placed_tlv, tlv_value};
     ghost use Rattle.std.specs.Iterator.{YieldsFirstBy};
     ghost use Rattle.bgp_update.specs.Marks.{field_marks};
-    ghost use Rattle.bgp_update.specs.MarkIter.{mark_value, marks_left, marks_with, judged_next, HasTypes, HasTypesWith};
+    ghost use Rattle.bgp_update.specs.MarkIter.{cut_value, marks_left, marks_with, judged_next, HasTypes, HasTypesWith, IsOfField};
     ghost use Rattle.bgp_update.specs.Notes.{types_of_field};
     ghost use Rattle.bgp_wire.specs.OctetSet.{has_octet};
 
@@ -48,6 +63,7 @@ impl<'a> MarkIter<'a> {
         requires { length field.now ≤ 4075 }
         ensures marks { marks_left result ≡ field_marks ctx.now has_nlri field.now }
         ensures types { HasTypes result (types_of_field field.now) }
+        ensures of { (result.ctx ≡ ctx.now) × (result.has_nlri ≡ has_nlri) × (result.tlvs.field.now ≡ field.now) }
     {
         MarkIter {
             ctx: *ctx,
@@ -59,7 +75,7 @@ impl<'a> MarkIter<'a> {
         }
     }
 
-    /// The next whole attribute, which [`judge_into`](MarkIter::judge_into) is to be called with then.
+    /// The next whole attribute, which [`rule`](MarkIter::rule) is to be called with then.
     #[inline(always)]
     pub(crate) fn next_tlv(&mut self) -> Option<Tlv<'a>>
         ensures marks { MatchOption result ((tlvs_left self.new.tlvs ≡ []) × (marks_left self.new ≡ marks_left self.old))
@@ -67,34 +83,38 @@ impl<'a> MarkIter<'a> {
         ensures types { (types : ℕ → Bool) → HasTypes self.old types → MatchOption result (HasTypes self.new types)
             (λ t. HasTypesWith self.new (placed_tlv t ∷ tlvs_left self.new.tlvs) types) }
         ensures small { IfSome result (λ t. (t.at ≤ 4075) × (length t.whole.now ≤ 4075)) }
+        ensures there { IfSome result (λ t. tlv_at self.old.tlvs.field.now t.at ≡ Some (tlv_value t)) }
+        ensures of { IsOfField self.old self.new }
     {
         self.tlvs.next()
     }
 
-    /// Judges an attribute that was given, into a sink.
+    /// Judges an attribute that was given, apart from its value.
     #[inline(always)]
-    pub(crate) fn judge_into<S: Sink<'a>>(&mut self, tlv: &Tlv<'a>, sink: &mut S)
+    pub(crate) fn rule(&mut self, tlv: &Tlv<'a>) -> Ruling<'a>
         requires { length tlv.now.whole.now ≤ 4075 }
-        ensures puts { S.puts sink.old (judged_next self.old (placed_tlv tlv.now)) sink.new }
+        ensures judged { ruled result (type_row self.old.ctx self.old.has_nlri (tlv_value tlv.now)).value ≡ judged_next self.old (placed_tlv tlv.now) }
+        ensures kept { keeps result ≡ true → IsTrue (is_kept (judgement self.old.ctx self.old.has_nlri (tlv_value tlv.now))) }
         ensures marks { marks_with self.old (placed_tlv tlv.now ∷ tlvs_left self.old.tlvs)
             ≡ record { at = tlv.now.at; kind = tlv.now.kind; judged = judged_next self.old (placed_tlv tlv.now) } ∷ marks_left self.new }
         ensures types { (types : ℕ → Bool) → HasTypesWith self.old (placed_tlv tlv.now ∷ tlvs_left self.old.tlvs) types → HasTypes self.new types }
+        ensures of { IsOfField self.old self.new }
     {
         let kind = tlv.kind;
         let is_repeated = self.seen.contains(kind);
         self.seen.insert(kind);
         if is_repeated {
-            sink.put(&repeated(kind));
+            repeated(kind)
         } else {
-            judge_into(&self.ctx, self.has_nlri, tlv, sink);
+            rule(&self.ctx, self.has_nlri, tlv)
         }
     }
 
     /// The mark of an attribute that is cut off, where no whole one is left: nothing is left behind it.
     #[inline(always)]
-    pub(crate) fn next_cut(&mut self) -> Option<MarkView<'a>>
+    pub(crate) fn next_cut(&mut self) -> Option<CutMark<'a>>
         requires { tlvs_left self.old.tlvs ≡ [] }
-        ensures steps { YieldsFirstBy mark_value marks_left self.old result self.new }
+        ensures steps { YieldsFirstBy cut_value marks_left self.old result self.new }
         ensures types { (types : ℕ → Bool) → HasTypes self.old types → HasTypes self.new types }
         ensures none { marks_left self.new ≡ [] }
         ensures last { tlvs_left self.new.tlvs ≡ [] }
@@ -105,10 +125,10 @@ impl<'a> MarkIter<'a> {
         self.is_done = true;
         match self.tlvs.tail() {
             Tail::End => None,
-            Tail::Cut(rest) => Some(MarkView {
+            Tail::Cut(rest) => Some(CutMark {
                 at: self.len.saturating_sub(rest.len()),
                 kind: cut_kind(rest),
-                judged: cut(rest),
+                ruling: cut(rest),
             }),
         }
     }
@@ -135,15 +155,21 @@ impl<'a> Iterator for MarkIter<'a> {
     fn next(&mut self) -> Option<MarkView<'a>> {
         match self.next_tlv() {
             Some(tlv) => {
-                let mut judged = FoundAttr::Discard(Why::Repeated);
-                self.judge_into(&tlv, &mut judged);
+                let ruling = self.rule(&tlv);
                 Some(MarkView {
                     at: tlv.at,
                     kind: tlv.kind,
-                    judged,
+                    judged: with_value(&self.ctx, self.has_nlri, &tlv, ruling),
                 })
             }
-            None => self.next_cut(),
+            None => {
+                let cut = self.next_cut()?;
+                Some(MarkView {
+                    at: cut.at,
+                    kind: cut.kind,
+                    judged: unkept(cut.ruling),
+                })
+            }
         }
     }
 }

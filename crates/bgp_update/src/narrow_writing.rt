@@ -79,13 +79,13 @@ fn put_slot<'a>(
     ensures err { OnErr result (Extends out.old.items out.new.items) }
 {
     match kind {
-        attribute::AS_PATH => put_told_path(ctx, kept.as_path, out),
+        attribute::AS_PATH => put_told_path(ctx, kept.as_path(), out),
         attribute::AGGREGATOR => {
-            put_kept!(ctx, out, narrow_aggregator(kept.aggregator), Aggregator)
+            put_kept!(ctx, out, narrow_aggregator(kept.aggregator()), Aggregator)
         }
-        attribute::AS4_PATH => put_wide_path(ctx, kept.as_path, out),
+        attribute::AS4_PATH => put_wide_path(ctx, kept.as_path(), out),
         attribute::AS4_AGGREGATOR => {
-            put_kept!(ctx, out, wide_aggregator(kept.aggregator), As4Aggregator)
+            put_kept!(ctx, out, wide_aggregator(kept.aggregator()), As4Aggregator)
         }
         _ => put_present(ctx, view_slot(kept, &Row(others), kind), out),
     }

@@ -44,10 +44,10 @@ fn path_of<'a>(
 fn info_of<'a>(kept: &KeptView<'a>) -> PathInfoView<'a>
     ensures { info_value result ≡ rebuilt (known_value kept.now) }
 {
-    let (aggregator, holds) = aggregated(kept.aggregator, kept.as4_aggregator);
-    let as4_path = if holds { kept.as4_path } else { None };
+    let (aggregator, holds) = aggregated(kept.aggregator(), kept.as4_aggregator());
+    let as4_path = if holds { kept.as4_path() } else { None };
     PathInfoView {
-        path: path_of(kept.as_path, as4_path),
+        path: path_of(kept.as_path(), as4_path),
         aggregator,
     }
 }

@@ -9,8 +9,8 @@ ghost use Rattle.bgp_update.specs.Slots.{present, slot, attr_list};
 use crate::kept_view::KeptView;
 use crate::others::step;
 use crate::told_slot::{other, told_types};
+use bgp_attr::unwritable::is_recognised;
 use bgp_attr::{AttrView, OpaqueView};
-use bgp_numbers::attribute;
 use std::iter::FusedIterator;
 
 /// Where attributes of types that aren't recognised are found by their type.
@@ -72,22 +72,10 @@ pub(crate) fn view_slot<'a, S: OfType<'a>>(
 ) -> Option<AttrView<'a>>
     ensures { present attr_value result ≡ slot (with_others kept.now (S.others others.now)) kind }
 {
-    match kind {
-        attribute::ORIGIN => Some(AttrView::Origin(kept.origin?)),
-        attribute::AS_PATH => Some(AttrView::AsPath(kept.as_path?)),
-        attribute::NEXT_HOP => Some(AttrView::NextHop(kept.next_hop?)),
-        attribute::MULTI_EXIT_DISC => Some(AttrView::Med(kept.med?)),
-        attribute::LOCAL_PREF => Some(AttrView::LocalPref(kept.local_pref?)),
-        attribute::ATOMIC_AGGREGATE if kept.atomic => Some(AttrView::Atomic),
-        attribute::ATOMIC_AGGREGATE => None,
-        attribute::AGGREGATOR => Some(AttrView::Aggregator(kept.aggregator?)),
-        attribute::COMMUNITIES => Some(AttrView::Communities(kept.communities?)),
-        attribute::MP_REACH_NLRI => Some(AttrView::MpReach(kept.reach?)),
-        attribute::MP_UNREACH_NLRI => Some(AttrView::MpUnreach(kept.unreach?)),
-        attribute::AS4_PATH => Some(AttrView::As4Path(kept.as4_path?)),
-        attribute::AS4_AGGREGATOR => Some(AttrView::As4Aggregator(kept.as4_aggregator?)),
-        attribute::LARGE_COMMUNITY => Some(AttrView::Large(kept.large?)),
-        _ => Some(AttrView::Opaque(others.of_type(kind)?)),
+    if is_recognised(kind) {
+        kept.attr(kind)
+    } else {
+        Some(AttrView::Opaque(others.of_type(kind)?))
     }
 }
 

@@ -1,7 +1,8 @@
 //! The marks of a field in sum.
 
-ghost use Rattle.std.specs.Prelude.{◌≡◌, ℕ, Bool, ◌≤◌, [], length};
-ghost use Rattle.bgp_attr.specs.FoundAttr.{found_attr_value};
+ghost use Rattle.std.specs.Prelude.{◌≡◌, ℕ, Bool, ◌≤◌, false, true, [], length};
+ghost use Rattle.bgp_attr.specs.Ruling.{keeps, ruled};
+ghost use Rattle.bgp_attr.specs.declared.attr.Attr.{Attr};
 ghost use Rattle.bgp_attr.specs.TlvIter.{tlvs_left};
 ghost use Rattle.bgp_update.specs.MarkIter.{marks_left, HasTypes};
 ghost use Rattle.bgp_update.specs.Marks.{field_marks};
@@ -11,7 +12,7 @@ ghost use Rattle.bgp_update.specs.Summary.{is_noted, summary_value, summary_behi
 
 use crate::kept_view::KeptView;
 use crate::mark::MarkIter;
-use bgp_attr::{FoundAttr, Sink};
+use bgp_attr::{Ruling, Tlv};
 use bgp_frame::NotificationView;
 use bgp_open::Context;
 use bgp_wire::OctetSet;
@@ -25,45 +26,65 @@ pub(crate) struct Summary<'a> {
     pub(crate) withdraws: bool,
     /// An attribute has a note.
     pub(crate) notes: bool,
-    /// The attributes that are kept, in their slots.
+    /// The attributes that are kept, by place.
     pub(crate) kept: KeptView<'a>,
 }
 
 impl<'a> Summary<'a> {
-    /// Of no marks.
-    pub(crate) fn new() -> Summary<'a>
-        ensures { summary_value result ≡ summary_of [] }
+    ghost use Rattle.std.specs.Prelude.{Some, IsTrue};
+    ghost use Rattle.bgp_attr.specs.Judgement.{judgement, type_row};
+    ghost use Rattle.bgp_attr.specs.JudgedView.{is_kept};
+    ghost use Rattle.bgp_attr.specs.TlvIter.{tlv_at};
+    ghost use Rattle.bgp_attr.specs.TlvView.{tlv_value};
+    ghost use Rattle.bgp_update.specs.Summary.{Adds, AreOf};
+
+    /// Of no marks, of a field that is judged in a context.
+    #[inline(always)]
+    pub(crate) fn new(ctx: &Context, has_nlri: bool, field: &'a [u8]) -> Summary<'a>
+        ensures value { summary_value result ≡ summary_of [] }
+        ensures of { AreOf result.kept ctx.now has_nlri field.now }
     {
         Summary {
             reset: None,
             withdraws: false,
             notes: false,
-            kept: KeptView::new(),
+            kept: KeptView::new(ctx, has_nlri, field),
         }
     }
-}
 
-/// With one more mark, of what was judged so; what is kept goes into its slot.
-impl<'a> Sink<'a> for Summary<'a> {
-    ghost use Rattle.bgp_update.specs.Summary.{Adds};
-
-    ghost puts = { Adds };
-
+    /// With one more mark, of what isn't kept.
     #[inline(always)]
-    fn put(&mut self, found: &FoundAttr<'a>) {
-        match found {
-            FoundAttr::Keep(attr) => self.kept.put(attr),
-            FoundAttr::Discard(_) => self.notes = true,
-            FoundAttr::Withdraw(_) => {
+    fn refuse(&mut self, ruling: Ruling<'a>)
+        requires { keeps ruling ≡ false }
+        ensures adds { (a : Attr) → Adds self.old (ruled ruling.entry a) self.new }
+        ensures of { self.new.kept ≡ self.old.kept }
+    {
+        match ruling {
+            Ruling::Keep => unreachable!(),
+            Ruling::Discard(_) => self.notes = true,
+            Ruling::Withdraw(_) => {
                 self.notes = true;
                 self.withdraws = true;
             }
-            FoundAttr::Reset(why) => self.reset = self.reset.or(Some(*why)),
+            Ruling::Reset(why) => self.reset = self.reset.or(Some(why)),
         }
     }
-}
 
-impl<'a> Summary<'a> {
+    /// With one more mark, of an attribute of the field that is judged so; what is kept goes to the place of its type.
+    #[inline(always)]
+    fn add(&mut self, tlv: &Tlv<'a>, ruling: Ruling<'a>)
+        requires there { tlv_at self.old.kept.field.now tlv.now.at ≡ Some (tlv_value tlv.now) }
+        requires kept { keeps ruling ≡ true → IsTrue (is_kept (judgement self.old.kept.ctx self.old.kept.has_nlri (tlv_value tlv.now))) }
+        requires small { tlv.now.at ≤ 4075 }
+        ensures adds { Adds self.old (ruled ruling.entry (type_row self.old.kept.ctx self.old.kept.has_nlri (tlv_value tlv.now)).value) self.new }
+        ensures of { AreOf self.new.kept self.old.kept.ctx self.old.kept.has_nlri self.old.kept.field.now }
+    {
+        match ruling {
+            Ruling::Keep => self.kept.put(tlv),
+            _ => self.refuse(ruling),
+        }
+    }
+
     /// Adds the mark of an attribute that is cut off, where the whole ones are all added.
     #[inline(never)]
     fn add_cut(&mut self, marks: &mut MarkIter<'a>)
@@ -73,7 +94,7 @@ impl<'a> Summary<'a> {
         ensures last { tlvs_left marks.new.tlvs ≡ [] }
     {
         if let Some(mark) = marks.next_cut() {
-            self.put(&mark.judged);
+            self.refuse(mark.ruling);
         }
     }
 
@@ -84,10 +105,11 @@ impl<'a> Summary<'a> {
         ensures marks { summary_value self.new ≡ summary_of (field_marks ctx.now has_nlri field.now) }
         ensures types { (kind : ℕ) → has_octet result kind ≡ types_of_field field.now kind }
     {
-        *self = Summary::new();
+        *self = Summary::new(ctx, has_nlri, field);
         let mut marks = MarkIter::new(ctx, has_nlri, field);
         'field: while let Some(tlv) = marks.next_tlv() {
-            marks.judge_into(&tlv, self);
+            let ruling = marks.rule(&tlv);
+            self.add(&tlv, ruling);
         }
         self.add_cut(&mut marks);
         marks.types()

@@ -10,7 +10,7 @@ ghost use Rattle.bgp_update.specs.Notes.{has_routes, is_missing, is_reachable, m
 ghost use Rattle.bgp_update.specs.Summary.{is_noted, summary_value, summary_of};
 ghost use Rattle.bgp_update.specs.Taken.{kept_of, update_of};
 
-use crate::add_routes::{add_routes, own_routes};
+use crate::add_routes::own_routes;
 use crate::attr_iter::AttrIter;
 use crate::body::Body;
 use crate::by_type::ByType;
@@ -21,6 +21,7 @@ use crate::note::Note;
 use crate::note_iter::NoteIter;
 use crate::others::{others_in, own_others};
 use crate::routes::Routes;
+use crate::routes_view::RoutesView;
 use crate::summary::Summary;
 use crate::update::Update;
 use bgp_attr::{MpReachView, MpUnreachView, Opaque, OpaqueView};
@@ -80,21 +81,22 @@ impl<'a> UpdateView<'a> {
     pub fn empty() -> UpdateView<'a>
         ensures { update_value result ≡ update_of (record { withdrawn = []; attributes = []; nlri = [] }) [] }
     {
+        let ctx = Context {
+            internal: false,
+            as4: false,
+            ip4: false,
+            ip6: false,
+            hold: 0,
+        };
         UpdateView {
-            ctx: Context {
-                internal: false,
-                as4: false,
-                ip4: false,
-                ip6: false,
-                hold: 0,
-            },
+            ctx,
             body: Body {
                 withdrawn: &[],
                 attributes: &[],
                 nlri: &[],
             },
             missing: Missing::none(),
-            summary: Summary::new(),
+            summary: Summary::new(&ctx, false, &[]),
         }
     }
 
@@ -108,7 +110,7 @@ impl<'a> UpdateView<'a> {
     {
         let has_nlri = !body.nlri.is_empty();
         let types = self.summary.sum_up(ctx, has_nlri, body.attributes);
-        let reaches = has_nlri || has_routes(&self.summary.kept.reach);
+        let reaches = has_nlri || has_routes(&self.summary.kept.reach());
         self.missing = missing_in(reaches, has_nlri, &types);
         self.ctx = *ctx;
         self.body = body;
@@ -119,7 +121,7 @@ impl<'a> UpdateView<'a> {
     pub(crate) fn reaches(&self) -> bool
         ensures { result ≡ is_reachable (parts_value self.now.body) (view_marks self.now) }
     {
-        !self.body.nlri.is_empty() || has_routes(&self.summary.kept.reach)
+        !self.body.nlri.is_empty() || has_routes(&self.summary.kept.reach())
     }
 
     /// Whether an attribute that the message has to have is missing.
@@ -214,7 +216,7 @@ impl<'a> UpdateView<'a> {
         }
     }
 
-    /// The attributes that are kept, each in the slot of its type.
+    /// The attributes that are kept, each by its type.
     pub fn kept(&self) -> &KeptView<'a>
         ensures known { known_value result.now ≡ known_of (update_value self.now).attrs }
         ensures others { result.now.others ≡ list_any is_opaque (kept_of (view_marks self.now)) }
@@ -226,14 +228,14 @@ impl<'a> UpdateView<'a> {
     pub fn reach(&self) -> Option<MpReachView<'a>>
         ensures { option_map reach_value result ≡ (update_value self.now).attrs.mp_reach }
     {
-        self.summary.kept.reach
+        self.summary.kept.reach()
     }
 
     /// The MP_UNREACH_NLRI that is kept.
     pub fn unreach(&self) -> Option<MpUnreachView<'a>>
         ensures { option_map unreach_value result ≡ (update_value self.now).attrs.mp_unreach }
     {
-        self.summary.kept.unreach
+        self.summary.kept.unreach()
     }
 
     /// The kept attributes of types that aren't recognised, rising in type.
@@ -292,23 +294,6 @@ impl<'a> UpdateView<'a> {
     pub fn routes(&self, alloc: Global) -> Result<Routes, AllocError>
         ensures { IfOk result (λ r. r ≡ routes_value self.now) }
     {
-        let mut ip4 = Vec::new(alloc);
-        let mut ip6 = Vec::new(alloc);
-        add_routes(self.withdrawn(), &mut ip4)?;
-        match self.unreach() {
-            Some(MpUnreachView::Ip4(routes)) => add_routes(routes, &mut ip4)?,
-            Some(MpUnreachView::Ip6(routes)) => add_routes(routes, &mut ip6)?,
-            None => {}
-        }
-        match self.reach() {
-            Some(MpReachView::Ip4 { nlri, .. }) => add_routes(nlri, &mut ip4)?,
-            Some(MpReachView::Ip6 { nlri, .. }) => add_routes(nlri, &mut ip6)?,
-            None => {}
-        }
-        add_routes(self.nlri(), &mut ip4)?;
-        Ok(Routes {
-            ip4: List::from_vec(ip4),
-            ip6: List::from_vec(ip6),
-        })
+        RoutesView::of(self).own(alloc)
     }
 }

@@ -13,8 +13,7 @@ ghost use Rattle.bgp_update.specs.Written.{attributes_octets, is_too_long, writt
 ghost use Rattle.bgp_update.specs.steps.Layout.{LaysOutBody};
 ghost use Rattle.bgp_update.specs.declared.view_narrowing.NarrowFault.TheVariants.{TooLong, Memory};
 
-use crate::laying::{Places, put_room, set_lengths};
-use crate::measure::LONGEST_BODY;
+use crate::laying::{LONGEST_BODY, Places, put_room, set_lengths};
 use crate::narrow_writing::put_told_attrs;
 use crate::view::UpdateView;
 use bgp_open::Context;

@@ -5,24 +5,25 @@ ghost use Rattle.std.specs.List.{flat_map, AllByRecursion};
 ghost use Rattle.bgp_wire.specs.steps.Output.{Extends};
 ghost use Rattle.bgp_attr.specs.declared.attr.Attr.TheVariants as attr;
 ghost use Rattle.bgp_attr.specs.AttrView.{attr_value};
-ghost use Rattle.bgp_attr.specs.Written.{canonical, is_writable};
+ghost use Rattle.bgp_attr.specs.Written.{canonical, is_writable, run_octets};
 ghost use Rattle.bgp_update.specs.KeptView.{with_others};
 ghost use Rattle.bgp_update.specs.Slots.{attr_list, slot};
 ghost use Rattle.bgp_update.specs.declared.slot.TheConstants.{RECOGNISED};
 ghost use Rattle.bgp_update.specs.steps.Progress.{IsSoFar};
 ghost use Rattle.bgp_update.specs.View.{update_among};
-ghost use Rattle.bgp_update.specs.Written.{attributes_octets, written_body};
-ghost use Rattle.bgp_update.specs.steps.Layout.{LaysOutBody};
+ghost use Rattle.bgp_prefix.specs.PrefixIter.{prefixes_left};
+ghost use Rattle.bgp_update.specs.Written.{attributes_octets, body_octets, written_body};
+ghost use Rattle.bgp_update.specs.steps.Layout.{LaysOut};
 
 use crate::chosen::Chosen;
 use crate::kept_view::KeptView;
 use crate::laying::{Places, put_room, set_lengths};
 use crate::slot::RECOGNISED;
-use crate::slot_iter::{OfType, Row};
+use crate::slot_iter::{OfType, Row, view_slot};
 use crate::view::UpdateView;
 use bgp_attr::{AttrView, OpaqueView, write_attr_view};
-use bgp_numbers::attribute;
 use bgp_open::Context;
+use bgp_prefix::PrefixIter4;
 use bgp_wire::Output;
 use std::alloc::AllocError;
 
@@ -37,32 +38,7 @@ fn put_view<O: Output>(ctx: &Context, view: &AttrView<'_>, out: &mut O) -> Resul
     write_attr_view(ctx, view, out)
 }
 
-/// Adds the attribute of a slot, where there is one.
-macro_rules! put_kept {
-    ($ctx:expr, $out:expr, $slot:expr, $variant:ident) => {
-        match $slot {
-            None => Ok(()),
-            Some(value) => put_view($ctx, &AttrView::$variant(value), $out),
-        }
-    };
-}
-
-/// Adds ATOMIC_AGGREGATE, where it is there.
-#[inline(always)]
-fn put_atomic<O: Output>(ctx: &Context, atomic: bool, out: &mut O) -> Result<(), AllocError>
-    ensures ok { OnOk result (O.written out.new ≡ O.written out.old ++ flat_map (canonical ctx.now) (if atomic then attr.Atomic ∷ [] else [])) }
-    ensures err { OnErr result (Extends (O.written out.old) (O.written out.new)) }
-    ensures full { OnErr result (O.room < length (O.written out.old) + length (flat_map (canonical ctx.now) (if atomic then attr.Atomic ∷ [] else []))) }
-{
-    if atomic {
-        put_view(ctx, &AttrView::Atomic, out)
-    } else {
-        Ok(())
-    }
-}
-
 /// Adds the attribute of a type, where there is one.
-#[tactic(auto, unfolding(crate::specs::Slots::slot))]
 #[inline(always)]
 fn put_slot<'a, S: OfType<'a>, O: Output>(
     ctx: &Context,
@@ -76,21 +52,9 @@ fn put_slot<'a, S: OfType<'a>, O: Output>(
     ensures err { OnErr result (Extends (O.written out.old) (O.written out.new)) }
     ensures full { OnErr result (O.room < length (O.written out.old) + length (flat_map (canonical ctx.now) (slot (with_others kept.now (S.others others.now)) kind))) }
 {
-    match kind {
-        attribute::ORIGIN => put_kept!(ctx, out, kept.origin, Origin),
-        attribute::AS_PATH => put_kept!(ctx, out, kept.as_path, AsPath),
-        attribute::NEXT_HOP => put_kept!(ctx, out, kept.next_hop, NextHop),
-        attribute::MULTI_EXIT_DISC => put_kept!(ctx, out, kept.med, Med),
-        attribute::LOCAL_PREF => put_kept!(ctx, out, kept.local_pref, LocalPref),
-        attribute::ATOMIC_AGGREGATE => put_atomic(ctx, kept.atomic, out),
-        attribute::AGGREGATOR => put_kept!(ctx, out, kept.aggregator, Aggregator),
-        attribute::COMMUNITIES => put_kept!(ctx, out, kept.communities, Communities),
-        attribute::MP_REACH_NLRI => put_kept!(ctx, out, kept.reach, MpReach),
-        attribute::MP_UNREACH_NLRI => put_kept!(ctx, out, kept.unreach, MpUnreach),
-        attribute::AS4_PATH => put_kept!(ctx, out, kept.as4_path, As4Path),
-        attribute::AS4_AGGREGATOR => put_kept!(ctx, out, kept.as4_aggregator, As4Aggregator),
-        attribute::LARGE_COMMUNITY => put_kept!(ctx, out, kept.large, Large),
-        _ => put_kept!(ctx, out, others.of_type(kind), Opaque),
+    match view_slot(kept, others, kind) {
+        None => Ok(()),
+        Some(attr) => put_view(ctx, &attr, out),
     }
 }
 
@@ -162,23 +126,28 @@ fn put_attrs<'a, S: OfType<'a>, O: Output>(
 /// Adds the parts of a body, and room for the lengths of the first two; some octets may stay where there was no room.
 fn put_parts<'a, S: OfType<'a>, O: Output>(
     ctx: &Context,
-    view: &UpdateView<'a>,
+    withdrawn: PrefixIter4<'a>,
+    kept: &KeptView<'a>,
     others: &S,
+    nlri: PrefixIter4<'a>,
     out: &mut O,
 ) -> Result<Places, AllocError>
-    requires { AllByRecursion (λ a. is_writable ctx.now a ≡ true) (attr_list (update_among view.now (S.others others.now)).attrs) }
-    ensures ok { IfOk result (λ p. LaysOutBody ctx.now (update_among view.now (S.others others.now)) (length (O.written out.old)) (O.written out.old) (O.written out.new) p) }
+    requires { AllByRecursion (λ a. is_writable ctx.now a ≡ true) (attr_list (with_others kept.now (S.others others.now))) }
+    ensures ok { IfOk result (λ p. LaysOut (run_octets (prefixes_left withdrawn.entry)) (attributes_octets ctx.now (with_others kept.now (S.others others.now))) (run_octets (prefixes_left nlri.entry)) (length (O.written out.old)) (O.written out.old) (O.written out.new) p) }
     ensures err { OnErr result (Extends (O.written out.old) (O.written out.new)) }
-    ensures full { OnErr result (O.room < length (O.written out.old) + length (written_body ctx.now (update_among view.now (S.others others.now)))) }
+    ensures full { OnErr result (O.room < length (O.written out.old) + length (body_octets (run_octets (prefixes_left withdrawn.entry)) (attributes_octets ctx.now (with_others kept.now (S.others others.now))) (run_octets (prefixes_left nlri.entry)))) }
 {
     put_room(out)?;
-    view.withdrawn().write(out)?;
+    withdrawn.write(out)?;
     let attributes = out.len();
     put_room(out)?;
-    put_attrs(ctx, view.kept(), others, out)?;
-    let nlri = out.len();
-    view.nlri().write(out)?;
-    Ok(Places { attributes, nlri })
+    put_attrs(ctx, kept, others, out)?;
+    let begin = out.len();
+    nlri.write(out)?;
+    Ok(Places {
+        attributes,
+        nlri: begin,
+    })
 }
 
 /// Appends a body.
@@ -195,7 +164,7 @@ fn put_body<'a, S: OfType<'a>, O: Output>(
     ensures full { OnErr result (O.room < length (O.written out.old) + length (written_body ctx.now (update_among view.now (S.others others.now)))) }
 {
     let start = out.len();
-    match put_parts(ctx, view, others, out) {
+    match put_parts(ctx, view.withdrawn(), view.kept(), others, view.nlri(), out) {
         Ok(places) => {
             set_lengths(start, places, out);
             Ok(())

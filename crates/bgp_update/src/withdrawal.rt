@@ -9,8 +9,10 @@ ghost use Rattle.bgp_update.specs.Notes.{gone_ip4, gone_ip6, reached_ip4, reache
 ghost use Rattle.bgp_update.specs.View.{routes_value};
 ghost use Rattle.bgp_update.specs.Withdrawal.{gone_octets, withdrawal_octets};
 ghost use Rattle.bgp_update.specs.steps.Layout.{LaysOut};
+ghost use Rattle.bgp_update.specs.steps.RoutesView.{all_routes};
 
 use crate::laying::{Places, put_room, set_lengths};
+use crate::routes_view::RoutesView;
 use crate::view::UpdateView;
 use bgp_attr::{AttrView, MpReachView, MpUnreachView, begin_attr, finish_attr};
 use bgp_numbers::{afi, safi};
@@ -95,19 +97,19 @@ fn put_gone<O: Output>(
 }
 
 /// Adds the parts of a body, and room for the lengths of the first two; some octets may stay where there was no room.
-fn put_parts<O: Output>(view: &UpdateView<'_>, out: &mut O) -> Result<Places, AllocError>
-    requires { length (run_octets (routes_value view.now).ip6) ≤ 4077 }
-    ensures ok { IfOk result (λ p. LaysOut (run_octets (routes_value view.now).ip4) (gone_octets (routes_value view.now).ip6) [] (length (O.written out.old)) (O.written out.old) (O.written out.new) p) }
+fn put_parts<O: Output>(routes: RoutesView<'_>, out: &mut O) -> Result<Places, AllocError>
+    requires { length (withdrawal_octets (all_routes routes)) ≤ 4077 }
+    ensures ok { IfOk result (λ p. LaysOut (run_octets (all_routes routes.entry).ip4) (gone_octets (all_routes routes.entry).ip6) [] (length (O.written out.old)) (O.written out.old) (O.written out.new) p) }
     ensures err { OnErr result (Extends (O.written out.old) (O.written out.new)) }
-    ensures full { OnErr result (O.room < length (O.written out.old) + length (withdrawal_octets (routes_value view.now))) }
+    ensures full { OnErr result (O.room < length (O.written out.old) + length (withdrawal_octets (all_routes routes.entry))) }
 {
     put_room(out)?;
-    view.withdrawn().write(out)?;
-    put_ip4(view.unreach(), view.reach(), out)?;
-    view.nlri().write(out)?;
+    routes.withdrawn.write(out)?;
+    put_ip4(routes.unreach, routes.reach, out)?;
+    routes.nlri.write(out)?;
     let attributes = out.len();
     put_room(out)?;
-    put_gone(view.unreach(), view.reach(), out)?;
+    put_gone(routes.unreach, routes.reach, out)?;
     let nlri = out.len();
     Ok(Places { attributes, nlri })
 }
@@ -125,7 +127,7 @@ impl UpdateView<'_> {
         ensures full { OnErr result (O.room < length (O.written out.old) + length (withdrawal_octets (routes_value self.now))) }
     {
         let start = out.len();
-        match put_parts(self, out) {
+        match put_parts(RoutesView::of(self), out) {
             Ok(places) => {
                 set_lengths(start, places, out);
                 Ok(())

@@ -1,26 +1,25 @@
 //! Writing an UPDATE.
 
-ghost use Rattle.std.specs.Prelude.{◌≡◌, ◌≤◌, ◌++◌, ◌↔◌, [], true, None, Some, length, IsTrue, IsErrOf, OnOk, OnErr};
-ghost use Rattle.std.specs.Int.{w16, to_be_bytes};
+ghost use Rattle.std.specs.Prelude.{◌≡◌, ◌<◌, ◌≤◌, ◌+◌, ◌++◌, ◌↔◌, [], false, true, None, Some, length, IsTrue, IsErrOf, IfOk, OnOk, OnErr};
 ghost use Rattle.std.specs.List.{AllByRecursion};
 ghost use Rattle.bgp_wire.specs.steps.Output.{Extends};
-ghost use Rattle.bgp_attr.specs.Written.{run_octets, is_writable};
-ghost use Rattle.bgp_prefix.specs.Prefix.{IsValid};
+ghost use Rattle.bgp_attr.specs.Written.{is_empty};
 ghost use Rattle.bgp_update.specs.declared.verdict.Verdict.TheVariants.{Take};
 ghost use Rattle.bgp_update.specs.declared.invalid.Invalid.{Invalid};
 ghost use Rattle.bgp_update.specs.declared.write.WriteFault.TheVariants.{NotValid, TooLong, Memory};
-ghost use Rattle.bgp_update.specs.steps.Measured.{lengths_of, HasPartRanges};
+ghost use Rattle.bgp_update.specs.steps.Layout.{HasPartRanges, LaysOutBody};
 ghost use Rattle.bgp_update.specs.Slots.{attr_list};
 ghost use Rattle.bgp_update.specs.Verdict.{verdict_of};
 ghost use Rattle.bgp_update.specs.Written.{written_body, invalid_of, is_valid, is_too_long, HasUpdateRanges};
 
 use crate::invalid::Invalid;
-use crate::measure::{Lengths, measure};
+use crate::laying::{LONGEST_BODY, Places, put_room, set_lengths};
 use crate::put::put_attributes;
 use crate::refusal::first_reason;
 use crate::update::Update;
 use bgp_open::Context;
-use bgp_prefix::{Prefix4, write_run4};
+use bgp_prefix::write_run;
+use bgp_wire::{Counter, Output, Page};
 use std::alloc::AllocError;
 
 /// Why a message isn't written: the first of these that holds.
@@ -42,68 +41,97 @@ impl From<AllocError> for WriteFault {
     }
 }
 
-/// Adds the two octets of a length field.
-fn put_length(len: usize, out: &mut Vec<u8>) -> Result<(), AllocError>
-    requires { len ≤ 65535 }
-    ensures ok { OnOk result (out.new.items ≡ out.old.items ++ to_be_bytes w16 len) }
-    ensures err { OnErr result (Extends out.old.items out.new.items) }
-{
-    let [high, low] = (len as u16).to_be_bytes();
-    out.extend_from_slice(&[high, low])?;
-    Ok(())
-}
-
-/// Adds prefixes.
-fn put_routes(routes: &[Prefix4], out: &mut Vec<u8>) -> Result<(), AllocError>
-    ensures ok { OnOk result (out.new.items ≡ out.old.items ++ run_octets routes.now) }
-    ensures ranges { OnOk result (AllByRecursion (IsValid 4) routes.now) }
-    ensures err { OnErr result (Extends out.old.items out.new.items) }
-{
-    write_run4(routes, out)?;
-    Ok(())
-}
-
-/// Adds a body whose parts have these lengths; the first of them may stay where an allocation failed.
-fn put_body(
-    ctx: &Context,
-    update: &Update,
-    lengths: Lengths,
-    out: &mut Vec<u8>,
-) -> Result<(), AllocError>
-    requires lengths { lengths ≡ lengths_of ctx.now update.now }
-    requires short { length (written_body ctx.now update.now) ≤ 4077 }
-    requires writable { AllByRecursion (λ a. is_writable ctx.now a ≡ true) (attr_list update.now.attrs) }
-    ensures ok { OnOk result (out.new.items ≡ out.old.items ++ written_body ctx.now update.now) }
+/// Adds the parts of a body, and room for the lengths of the first two; some octets may stay where there was no room.
+fn put_parts<O: Output>(ctx: &Context, update: &Update, out: &mut O) -> Result<Places, AllocError>
+    requires filled { AllByRecursion (λ a. is_empty a ≡ false) (attr_list update.now.attrs) }
+    requires room { O.room ≤ 65535 }
+    ensures ok { IfOk result (λ p. LaysOutBody ctx.now update.now (length (O.written out.old)) (O.written out.old) (O.written out.new) p) }
     ensures ranges { OnOk result (HasPartRanges update.now) }
-    ensures err { OnErr result (Extends out.old.items out.new.items) }
+    ensures err { OnErr result (Extends (O.written out.old) (O.written out.new)) }
+    ensures full { OnErr result (O.room < length (O.written out.old) + length (written_body ctx.now update.now)) }
 {
-    put_length(lengths.withdrawn, out)?;
-    put_routes(&update.withdrawn, out)?;
-    put_length(lengths.attributes, out)?;
+    put_room(out)?;
+    write_run(&update.withdrawn, out)?;
+    let attributes = out.len();
+    put_room(out)?;
     put_attributes(ctx, &update.attrs, out)?;
-    put_routes(&update.nlri, out)
+    let nlri = out.len();
+    write_run(&update.nlri, out)?;
+    Ok(Places { attributes, nlri })
+}
+
+/// Whether the body is longer than a message holds: it is written where there is room for as much.
+fn is_too_long(ctx: &Context, update: &Update) -> bool
+    requires { AllByRecursion (λ a. is_empty a ≡ false) (attr_list update.now.attrs) }
+    ensures { result ≡ is_too_long ctx.now update.now }
+{
+    let mut counter: Counter<LONGEST_BODY> = Counter::new();
+    let put = put_parts(ctx, update, &mut counter);
+    // At most as many are counted.
+    let _ = counter.count();
+    put.is_err()
 }
 
 /// Appends the body of an UPDATE that is valid and fits.
-fn append_body(
-    ctx: &Context,
-    update: &Update,
-    lengths: Lengths,
-    out: &mut Vec<u8>,
-) -> Result<(), AllocError>
-    requires lengths { lengths ≡ lengths_of ctx.now update.now }
+fn append_body(ctx: &Context, update: &Update, out: &mut Vec<u8>) -> Result<(), AllocError>
+    requires filled { AllByRecursion (λ a. is_empty a ≡ false) (attr_list update.now.attrs) }
     requires short { length (written_body ctx.now update.now) ≤ 4077 }
-    requires writable { AllByRecursion (λ a. is_writable ctx.now a ≡ true) (attr_list update.now.attrs) }
     ensures ok { OnOk result (out.new.items ≡ out.old.items ++ written_body ctx.now update.now) }
     ensures ranges { OnOk result (HasPartRanges update.now) }
     ensures err { OnErr result (out.new.items ≡ out.old.items) }
 {
     let start = out.len();
-    let written = put_body(ctx, update, lengths, out);
-    if written.is_err() {
-        out.truncate(start);
+    match put_parts(ctx, update, out) {
+        Ok(places) => {
+            set_lengths(start, places, out);
+            Ok(())
+        }
+        Err(refused) => {
+            out.truncate(start);
+            Err(refused)
+        }
     }
-    written
+}
+
+/// What most bodies fit in: they are written there, and copied from there. Others are measured first.
+const SHORT_BODY: usize = 1024;
+
+/// Appends the body of an UPDATE where it is short: else nothing is appended, and the answer is no.
+fn append_short(ctx: &Context, update: &Update, out: &mut Vec<u8>) -> Result<bool, AllocError>
+    requires { AllByRecursion (λ a. is_empty a ≡ false) (attr_list update.now.attrs) }
+    ensures short { IfOk result (λ short. short ≡ true → (length (written_body ctx.now update.now) ≤ 4077) × (out.new.items ≡ out.old.items ++ written_body ctx.now update.now) × HasPartRanges update.now) }
+    ensures long { IfOk result (λ short. short ≡ false → out.new.items ≡ out.old.items) }
+    ensures lacks { OnErr result (length (written_body ctx.now update.now) ≤ 4077) }
+    ensures err { OnErr result (out.new.items ≡ out.old.items) }
+{
+    let mut page: Page<SHORT_BODY> = Page::new();
+    let Ok(places) = put_parts(ctx, update, &mut page) else {
+        return Ok(false);
+    };
+    // At most as many octets as it has room for are there.
+    let _ = page.count();
+    set_lengths(0, places, &mut page);
+    out.extend_from_slice(page.as_slice())?;
+    Ok(true)
+}
+
+/// Appends the body of an UPDATE that is valid, where it fits.
+fn append_valid(ctx: &Context, update: &Update, out: &mut Vec<u8>) -> Result<(), WriteFault>
+    requires { AllByRecursion (λ a. is_empty a ≡ false) (attr_list update.now.attrs) }
+    ensures valid { (why : Invalid) → IsErrOf result (NotValid why) → ⊥ }
+    ensures too_long { IsErrOf result TooLong ↔ IsTrue (is_too_long ctx.now update.now) }
+    ensures ok { OnOk result (out.new.items ≡ out.old.items ++ written_body ctx.now update.now) }
+    ensures fits { OnOk result ((is_too_long ctx.now update.now ≡ false) × HasPartRanges update.now) }
+    ensures err { OnErr result (out.new.items ≡ out.old.items) }
+{
+    if append_short(ctx, update, out)? {
+        return Ok(());
+    }
+    if is_too_long(ctx, update) {
+        return Err(WriteFault::TooLong);
+    }
+    append_body(ctx, update, out)?;
+    Ok(())
 }
 
 /// Appends the body of an UPDATE in its one written form (RFC 4271, section 4.3): the shortest lengths, MP_REACH_NLRI and
@@ -125,9 +153,5 @@ pub fn write_update(ctx: &Context, update: &Update, out: &mut Vec<u8>) -> Result
     if let Some(why) = first_reason(ctx, update) {
         return Err(WriteFault::NotValid(why));
     }
-    let Some(lengths) = measure(ctx, update) else {
-        return Err(WriteFault::TooLong);
-    };
-    append_body(ctx, update, lengths, out)?;
-    Ok(())
+    append_valid(ctx, update, out)
 }

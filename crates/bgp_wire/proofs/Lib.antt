@@ -6,3 +6,4 @@ pub mod Behinds
 pub mod Walks
 pub mod SetWords
 pub mod Rooms
+pub mod Writes

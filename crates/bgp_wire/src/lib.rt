@@ -2,12 +2,15 @@
 #![tactic(auto)]
 
 mod copy;
+mod counter;
 mod list;
 mod octet_set;
 mod output;
 mod page;
+mod trace;
 
 pub use copy::TryCopy;
+pub use counter::Counter;
 pub use list::List;
 pub use octet_set::OctetSet;
 pub use output::Output;

@@ -43,6 +43,15 @@ impl<const N: usize> Page<N> {
     {
         &self.octets[..self.len]
     }
+
+    /// How many octets are there.
+    #[inline(always)]
+    pub fn count(&self) -> usize
+        ensures value { result ≡ length self.now }
+        ensures bound { result ≤ N }
+    {
+        self.len
+    }
 }
 
 /// Moves the last octet in front of those from `start` on.

@@ -136,7 +136,7 @@ impl Batch for Communities {
             return true;
         }
         match outcome {
-            OutcomeView::Update(update) => match &update.kept().communities {
+            OutcomeView::Update(update) => match update.kept().communities() {
                 None => true,
                 Some(communities) => count_communities(communities.values) <= room,
             },
@@ -153,7 +153,7 @@ impl Batch for Communities {
     ) -> usize {
         are_octets(body);
         match outcome {
-            OutcomeView::Update(update) => match &update.kept().communities {
+            OutcomeView::Update(update) => match update.kept().communities() {
                 None => from,
                 Some(communities) => put_communities(at, communities.values, list, from),
             },
@@ -182,7 +182,7 @@ impl Batch for LargeCommunities {
             return true;
         }
         match outcome {
-            OutcomeView::Update(update) => match &update.kept().large {
+            OutcomeView::Update(update) => match update.kept().large() {
                 None => true,
                 Some(communities) => count_large(communities.values) <= room,
             },
@@ -199,7 +199,7 @@ impl Batch for LargeCommunities {
     ) -> usize {
         are_octets(body);
         match outcome {
-            OutcomeView::Update(update) => match &update.kept().large {
+            OutcomeView::Update(update) => match update.kept().large() {
                 None => from,
                 Some(communities) => put_large(at, communities.values, list, from),
             },

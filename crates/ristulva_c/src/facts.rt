@@ -143,13 +143,15 @@ fn mp_link(reach: &Option<MpReachView<'_>>) -> Option<[u8; 16]>
 fn hops_told(kept: &KeptView<'_>) -> Hops
     ensures { result ≡ hops_told (known_value kept.now) }
 {
-    let link = mp_link(&kept.reach);
+    let next_hop = kept.next_hop();
+    let reach = kept.reach();
+    let link = mp_link(&reach);
     Hops {
-        next_hop: kept.next_hop.unwrap_or([0; 4]),
-        mp_next_hop: mp_hop(&kept.reach),
+        next_hop: next_hop.unwrap_or([0; 4]),
+        mp_next_hop: mp_hop(&reach),
         link_local: link.unwrap_or([0; 16]),
-        mp_afi: mp_afi(&kept.reach),
-        has_next_hop: flag_of(kept.next_hop.is_some()),
+        mp_afi: mp_afi(&reach),
+        has_next_hop: flag_of(next_hop.is_some()),
         has_link_local: flag_of(link.is_some()),
     }
 }
@@ -162,16 +164,20 @@ pub(crate) fn paths_told(body: &[u8], view: &UpdateView<'_>) -> Paths
 {
     let kept = view.kept();
     let from = origin_as(&view.path_info());
+    let has_as_path = kept.as_path().is_some();
+    let has_as4_path = kept.as4_path().is_some();
+    let has_communities = kept.communities().is_some();
+    let has_large_communities = kept.large().is_some();
     Paths {
-        as_path: kept_at(kept.as_path.is_some(), AS_PATH, body),
-        as4_path: kept_at(kept.as4_path.is_some(), AS4_PATH, body),
-        communities: kept_at(kept.communities.is_some(), COMMUNITIES, body),
-        large_communities: kept_at(kept.large.is_some(), LARGE_COMMUNITY, body),
+        as_path: kept_at(has_as_path, AS_PATH, body),
+        as4_path: kept_at(has_as4_path, AS4_PATH, body),
+        communities: kept_at(has_communities, COMMUNITIES, body),
+        large_communities: kept_at(has_large_communities, LARGE_COMMUNITY, body),
         origin_as: from.unwrap_or(0),
-        has_as_path: flag_of(kept.as_path.is_some()),
-        has_as4_path: flag_of(kept.as4_path.is_some()),
-        has_communities: flag_of(kept.communities.is_some()),
-        has_large_communities: flag_of(kept.large.is_some()),
+        has_as_path: flag_of(has_as_path),
+        has_as4_path: flag_of(has_as4_path),
+        has_communities: flag_of(has_communities),
+        has_large_communities: flag_of(has_large_communities),
         has_origin_as: flag_of(from.is_some()),
     }
 }
@@ -213,20 +219,21 @@ fn facts_told(body: &[u8], view: &UpdateView<'_>) -> Facts
 {
     let kept = view.kept();
     let aggregator = view.path_info().aggregator;
+    let (origin, med, local_pref) = (kept.origin(), kept.med(), kept.local_pref());
     Facts {
         hops: hops_told(kept),
         paths: paths_told(body, view),
-        med: kept.med.unwrap_or(0),
-        local_pref: kept.local_pref.unwrap_or(0),
+        med: med.unwrap_or(0),
+        local_pref: local_pref.unwrap_or(0),
         aggregator_as: aggregator_as(&aggregator),
         aggregator_address: aggregator_address(&aggregator),
         unrecognised: count_others(view) as u32,
-        origin: origin_number(kept.origin),
-        has_origin: flag_of(kept.origin.is_some()),
-        has_med: flag_of(kept.med.is_some()),
-        has_local_pref: flag_of(kept.local_pref.is_some()),
+        origin: origin_number(origin),
+        has_origin: flag_of(origin.is_some()),
+        has_med: flag_of(med.is_some()),
+        has_local_pref: flag_of(local_pref.is_some()),
         has_aggregator: flag_of(aggregator.is_some()),
-        atomic_aggregate: flag_of(kept.atomic),
+        atomic_aggregate: flag_of(kept.atomic()),
     }
 }
 

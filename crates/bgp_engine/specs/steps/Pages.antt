@@ -1,5 +1,5 @@
 -- What is collected of one message, and of one header's fault.
-use Rattle.std.specs.Prelude.{◌≡◌, ℕ, Bool, true, false, List, ◌++◌, Result, Ok, Err}
+use Rattle.std.specs.Prelude.{◌≡◌, ℕ, Bool, true, false, List, ◌++◌, Option, None, Some, Result, Ok, Err}
 use Rattle.bgp_frame.specs.declared.fault.HeadFault.{HeadFault}
 use Rattle.bgp_frame.specs.Frame.{Message, octets_of}
 use Rattle.bgp_engine.specs.declared.class.Class.{Class}
@@ -9,6 +9,20 @@ use Rattle.bgp_engine.specs.declared.fault.ToolFault.{ToolFault}
 use Rattle.bgp_engine.specs.declared.fault.ToolFault.TheVariants as fault
 use Rattle.bgp_engine.specs.Report.{IsWordless}
 use Rattle.bgp_engine.specs.Rules.{Rules}
+
+-- By what a page is written, and what it writes of the first message of a stream where a rule of its own takes that
+pub record Plan (Outcome : Type 0) : Type 0 where
+  pub rules : Rules Outcome
+  pub first : Message → Option (List ℕ)
+
+-- the first message is like any other
+abbrev pub plain : {Outcome : Type 0} → Rules Outcome → Plan Outcome
+plain rules = record { rules = rules; first = λ m. None }
+
+-- the first message was taken by a rule of its own, and its text was collected; or there is no such rule for it
+abbrev pub TakesFirst : {Outcome : Type 0} → Bool → Plan Outcome → Rules Outcome → Message → List ℕ → List ℕ → Type 0
+TakesFirst true plan rules m told_old told_new = (text : List ℕ) × (plan.first m ≡ Some text) × (plan.rules ≡ rules) × (told_new ≡ told_old ++ text)
+TakesFirst false plan rules m told_old told_new = (plan.first m ≡ None) × (plan.rules ≡ rules) × (told_new ≡ told_old)
 
 -- the stream ends behind it
 abbrev pub is_last : Class → Bool

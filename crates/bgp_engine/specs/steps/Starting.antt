@@ -1,17 +1,22 @@
 -- Steps of an engine that takes the first message of its stream by a rule of its own.
-use Rattle.std.specs.Prelude.{◌≡◌, ℕ, ◌^◌, Bool, true, false, List, [], ◌++◌, Option, None, Some}
+use Rattle.std.specs.Prelude.{◌≡◌, ℕ, ◌^◌, Bool, true, false, List, [], ◌++◌, Option, None, Some, option_map}
 use Rattle.bgp_frame.specs.declared.end.End.TheVariants as end
-use Rattle.bgp_frame.specs.Frame.{Waits}
+use Rattle.bgp_frame.specs.Frame.{Message, Waits}
+use Rattle.bgp_open.specs.declared.context.Context.{Context}
 use Rattle.bgp_engine.specs.declared.opening.Stage.{Stage}
 use Rattle.bgp_engine.specs.declared.opening.Stage.TheVariants as stage
 use Rattle.bgp_engine.specs.declared.starting.Begun.{Begun}
 use Rattle.bgp_engine.specs.declared.starting.Begun.TheVariants as begun
+use Rattle.bgp_engine.specs.declared.starting.Starting as code
+use Rattle.bgp_engine.specs.Agree.{agreed}
+use Rattle.bgp_engine.specs.File.{first_open, open_in}
 use Rattle.bgp_engine.specs.First.{Start, Starts, ReportedFrom}
-use Rattle.bgp_engine.specs.Opens.{unagreed}
+use Rattle.bgp_engine.specs.Opens.{fit_of, unagreed}
 use Rattle.bgp_engine.specs.Report.{Report, behind}
 use Rattle.bgp_engine.specs.Rules.{Rules}
 use Rattle.bgp_engine.specs.Tally.{no_tally}
-use Rattle.bgp_engine.specs.steps.Walking.{Walking, IsCounting, IsGoing, IsReady, reports_of, room_of, walking}
+use Rattle.bgp_engine.specs.steps.Pages.{Plan}
+use Rattle.bgp_engine.specs.steps.Walking.{Walking, IsCounting, IsGoing, IsReady, reports_of, room_of, walk_of, walking}
 
 -- how the stream is read, how far it has come, and the walk over it, which holds the first message until that is whole
 pub record Starting (Outcome : Type 0) : Type 0 where
@@ -20,19 +25,34 @@ pub record Starting (Outcome : Type 0) : Type 0 where
   pub walk : Walking Outcome
 
 module _ {Outcome : Type 0} where
+  -- by what the stream is read whose first message this is
+  abbrev pub start_of : Message → Plan Outcome → Start Outcome
+  start_of m plan = record { rules = plan.rules; first = plan.first m }
+
+  -- how a page's stream is read: as the page is, or in the context that both OPENs agree on, where that will do
+  abbrev pub starts_of : {P : Type 0} → (Context → Bool) → (P → Rules Outcome) → (P → Option Context → Plan Outcome) → Option (List ℕ) → P → Starts Outcome
+  starts_of fits rules plan None page None = Some (record { rules = rules page; first = None })
+  starts_of fits rules plan None page (Some m) = Some (start_of m (plan page None))
+  starts_of fits rules plan (Some theirs) page None = None
+  starts_of fits rules plan (Some theirs) page (Some m) =
+      option_map (λ ctx. start_of m (plan page (Some ctx))) (fit_of fits (agreed (open_in m.kind m.body) (first_open theirs)))
+
+  -- the page has its context now, or there is none
+  abbrev pub SettlesOn : Bool → Option (Start Outcome) → Plan Outcome → Message → Type 0
+  SettlesOn true before plan m = before ≡ Some (start_of m plan)
+  SettlesOn false before plan m = before ≡ None
+
   -- how a stream begins: without a context; by rules for each of its messages; or behind the first, with this collected
   abbrev pub Begins : Begun → Option (Start Outcome) → Rules Outcome → List ℕ → List ℕ → Type 0
   Begins begun.Unagreed start rules told_old told_new = (start ≡ None) × (told_new ≡ told_old)
   Begins begun.Plain start rules told_old told_new = (start ≡ Some (record { rules = rules; first = None })) × (told_new ≡ told_old)
   Begins begun.Handed start rules told_old told_new = (text : List ℕ) × (start ≡ Some (record { rules = rules; first = Some text })) × (told_new ≡ told_old ++ text)
 
-  -- the same, where no first message is there
-  abbrev pub BeginsWithout : Bool → Option (Start Outcome) → Rules Outcome → Type 0
-  BeginsWithout false start rules = start ≡ None
-  BeginsWithout true start rules = (s : Start Outcome) × (start ≡ Some s) × (s.rules ≡ rules)
-
   abbrev pub starting : Starts Outcome → Stage → Walking Outcome → Starting Outcome
   starting starts stage walk = record { starts = starts; stage = stage; walk = walk }
+
+  abbrev pub starting_of : {P : Type 0} → (Context → Bool) → (P → Rules Outcome) → (P → Option Context → Plan Outcome) → code.Starting P → Starting Outcome
+  starting_of fits rules plan s = starting (starts_of fits rules plan (option_map (λ t. t.now) s.theirs) s.walk.page) s.stage (walk_of rules s.walk)
 
   abbrev pub reports_at : Stage → Starting Outcome → List ℕ → Report → Type 0
   reports_at stage.First s later r = ReportedFrom s.starts (s.walk.held ++ later) r

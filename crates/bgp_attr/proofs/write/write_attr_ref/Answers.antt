@@ -3,6 +3,6 @@ use Rattle.bgp_attr.specs.AttrRef.{ref_value}
 use Rattle.bgp_attr.proofs.ReadBack.{written-kept}
 use Rattle.bgp_attr.proofs.write.write_attr_ref.Goals as goal
 
-pub returns-else-is_err-clause-kept : goal.returns-else-is_err-clause-kept
-returns-else-is_err-clause-kept c =
-    on_ok_weaker c.put_attr-written.result (λ ranges has_nlri belongs. written-kept c.args.ctx.now has_nlri (ref_value c.args.attr) ranges c.requires belongs) c.put_attr-written.ensures.ranges
+pub returns-clause-kept : goal.returns-clause-kept
+returns-clause-kept c =
+    on_ok_weaker c.put_attr.result (λ ranges has_nlri belongs. written-kept c.args.ctx.now has_nlri (ref_value c.args.attr) ranges c.requires belongs) c.put_attr.ensures.ranges

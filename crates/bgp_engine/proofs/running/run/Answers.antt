@@ -3,8 +3,6 @@ use Rattle.std.proofs.lemmas.Result.{err_from_is_err_and}
 use Rattle.std.specs.Io.KnownBytes.{Appends}
 use Rattle.std.proofs.KnownBytes.{Appends-nil}
 use Rattle.std.proofs.lemmas.List.{length-take}
-use Rattle.bgp_engine.specs.declared.running.Met.{Met}
-use Rattle.bgp_engine.specs.steps.Blocks.{Meets}
 use Rattle.bgp_engine.specs.Output.{FailsWithin}
 use Rattle.bgp_engine.proofs.HexReads.{some_waits, none_waits}
 use Rattle.bgp_engine.proofs.Reading.{Reading, Reading-none, Reading-block, Reached-none, Reached-block, Reached-bad, Reached-over, fails_read, fails_bad, fails_put, fails_block, finished, bad_digit, bad_block, none_bad, read_nothing, read_failed}
@@ -71,27 +69,21 @@ returns-in_err-take_block g c =
 
 pub returns-in-Over : goal.returns-in-Over
 returns-in-Over g c =
-    let e = g.E.Engine in
     let at = c.reading in
     let s = at.invariant.reading in
     let block = take c.in-Ok.count c.read.new.buf in
-    let old = e.state at.engine in
-    let new = e.state c.take_block.new.engine in
-    let m = subst (λ (x : Met). Meets c.args.hex at.reader c.take_block.new.reader (e.reports old) (e.reports new) (e.going new) (e.told at.engine) (e.told c.take_block.new.engine) block x) c.in-Over.is c.in_ok-take_block.ensures.meets in
+    let m = rw c.in-Over.is at c.in_ok-take_block.ensures.meets in
     let reached = Reached-over s (g.R.Read.remaining c.read.new.self) block c.in-Ok.ensures.bytes.0 at.invariant.told m in
     finished (g.W.Write.contents c.finish-in-Over.new.output) reached c.finish-in-Over.result (λ q k. inl (m.takes.stands.over q k)) c.finish-in-Over.ensures
 
 pub returns-in_err-put-in-Bad : goal.returns-in_err-put-in-Bad
 returns-in_err-put-in-Bad g c =
-    let e = g.E.Engine in
     let at = c.reading in
     let s = at.invariant.reading in
     let w = g.W.Write.contents at.output in
     let w1 = g.W.Write.contents c.put.new.output in
     let block = take c.in-Ok.count c.read.new.buf in
-    let old = e.state at.engine in
-    let new = e.state c.take_block.new.engine in
-    let m = subst (λ (x : Met). Meets c.args.hex at.reader c.take_block.new.reader (e.reports old) (e.reports new) (e.going new) (e.told at.engine) (e.told c.take_block.new.engine) block x) c.in-Bad.is c.in_ok-take_block.ensures.meets in
+    let m = rw c.in-Bad.is at c.in_ok-take_block.ensures.meets in
     let p = err_from_is_err_and c.from_residual-in_err-put-in-Bad.result c.from_residual-in_err-put-in-Bad.ensures.1 in
     let rests = m.takes.stands.1 in
     let reached = Reached-bad s (g.R.Read.remaining c.read.new.self) block c.in-Ok.ensures.bytes.0 at.invariant.told c.in-Bad.place m in
@@ -101,7 +93,6 @@ returns-in_err-put-in-Bad g c =
 
 pub returns-in-Bad : goal.returns-in-Bad
 returns-in-Bad g c =
-    let e = g.E.Engine in
     let at = c.reading in
     let s = at.invariant.reading in
     let r1 = g.R.Read.remaining c.read.new.self in
@@ -109,9 +100,7 @@ returns-in-Bad g c =
     let w1 = g.W.Write.contents c.put.new.output in
     let block = take c.in-Ok.count c.read.new.buf in
     let more = c.in-Ok.ensures.bytes.0 in
-    let old = e.state at.engine in
-    let new = e.state c.take_block.new.engine in
-    let m = subst (λ (x : Met). Meets c.args.hex at.reader c.take_block.new.reader (e.reports old) (e.reports new) (e.going new) (e.told at.engine) (e.told c.take_block.new.engine) block x) c.in-Bad.is c.in_ok-take_block.ensures.meets in
+    let m = rw c.in-Bad.is at c.in_ok-take_block.ensures.meets in
     let rests = m.takes.stands.1 in
     fails_bad w1 (Reached-bad s r1 block more at.invariant.told c.in-Bad.place m) c.in-Bad.place rests.report rests.reported rests.none
     (subst (Appends w w1) c.told.ensures c.in_ok-put-in-Bad.ensures.ok)
@@ -119,15 +108,12 @@ returns-in-Bad g c =
 
 pub returns-in_err-put : goal.returns-in_err-put
 returns-in_err-put g c =
-    let e = g.E.Engine in
     let at = c.reading in
     let s = at.invariant.reading in
     let w = g.W.Write.contents at.output in
     let w1 = g.W.Write.contents c.put-in-reading.new.output in
     let block = take c.in-Ok.count c.read.new.buf in
-    let old = e.state at.engine in
-    let new = e.state c.take_block.new.engine in
-    let m = subst (λ (x : Met). Meets c.args.hex at.reader c.take_block.new.reader (e.reports old) (e.reports new) (e.going new) (e.told at.engine) (e.told c.take_block.new.engine) block x) c.in-Block.is c.in_ok-take_block.ensures.meets in
+    let m = rw c.in-Block.is at c.in_ok-take_block.ensures.meets in
     let p = err_from_is_err_and c.from_residual-in_err-put.result c.from_residual-in_err-put.ensures.1 in
     let rests = m.takes.stands.1 in
     let reached = Reached-block s (g.R.Read.remaining c.read.new.self) block c.in-Ok.ensures.bytes.0 at.invariant.told m in
@@ -144,9 +130,7 @@ reading-preserved g c =
     let w = g.W.Write.contents at.output in
     let after = g.W.Write.contents c.put-in-reading.new.output in
     let block = take c.in-Ok.count c.read.new.buf in
-    let old = e.state at.engine in
-    let new = e.state c.take_block.new.engine in
-    let m = subst (λ (x : Met). Meets c.args.hex at.reader c.take_block.new.reader (e.reports old) (e.reports new) (e.going new) (e.told at.engine) (e.told c.take_block.new.engine) block x) c.in-Block.is c.in_ok-take_block.ensures.meets in
+    let m = rw c.in-Block.is at c.in_ok-take_block.ensures.meets in
     let next = Reading-block s r1 block c.in-Ok.ensures.bytes.0 at.invariant.told after (omega (arith, length-take c.in-Ok.count c.read.new.buf)) m (subst (Appends w after) c.told-in-reading.ensures c.in_ok-put.ensures.ok) in
     let same = sym c.clear.ensures.state in
     record {

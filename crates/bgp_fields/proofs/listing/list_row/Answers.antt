@@ -1,4 +1,4 @@
-use Rattle.std.proofs.Common.{ℕ, ◌+◌, ◌<◌, ◌≤◌, List, [], length, drop, ap, sym, ◌∙◌, arith, refl}
+use Rattle.std.proofs.Common.{ℕ, ◌+◌, ◌≤◌, List, [], length, drop, ap, sym, ◌∙◌, arith, refl}
 use Rattle.std.proofs.lemmas.List.{append-nil, length-drop}
 use Rattle.bgp_fields.specs.declared.kind.FieldKind.TheVariants.{Unread}
 use Rattle.bgp_fields.specs.declared.part.ValuePart.{ValuePart}
@@ -7,7 +7,7 @@ use Rattle.bgp_fields.specs.Fields.{no_fields, value_fields}
 use Rattle.bgp_fields.specs.Parts.{value_plan}
 use Rattle.bgp_fields.proofs.Walks.{walk-some}
 use Rattle.bgp_fields.proofs.Steps.{row-next}
-use Rattle.bgp_fields.proofs.Listings.{listing, place_left, one_more, more, all_listed}
+use Rattle.bgp_fields.proofs.Listings.{place_left, one_more, more, all_listed}
 use Rattle.bgp_fields.proofs.listing.list_row.Goals as goal
 
 pub row-preserved : goal.row-preserved

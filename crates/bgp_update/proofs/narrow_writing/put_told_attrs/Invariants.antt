@@ -1,5 +1,5 @@
 use Rattle.bgp_attr.specs.Written.{canonical}
-use Rattle.bgp_attr.proofs.Writes.{IsWritten}
+use Rattle.bgp_wire.proofs.Writes.{IsWritten}
 use Rattle.bgp_update.specs.Slots.{slot}
 use Rattle.bgp_update.specs.steps.ToldSlot.{told_attrs}
 use Rattle.bgp_update.proofs.SlotSteps.{so_far}

@@ -1,9 +1,9 @@
+use Rattle.bgp_wire.proofs.Writes.{IsWritten}
 use Rattle.bgp_attr.specs.Written.{canonical, HasRanges}
-use Rattle.bgp_attr.proofs.Writes.{IsWritten}
 use Rattle.bgp_update.specs.Slots.{slot}
 use Rattle.bgp_update.proofs.SlotSteps.{so_far}
 use Rattle.bgp_update.proofs.put.put_attributes.Given as goal
 
 -- the attributes so far are written
 abbrev pub invariant-types : goal.invariant-types
-invariant-types l = IsWritten (canonical l.ctx) HasRanges (so_far (slot l.attrs) l.kinds l.kind-index) l.initial.out.items l.out.items
+invariant-types g l = IsWritten (canonical l.ctx) HasRanges (so_far (slot l.attrs) l.kinds l.kind-index) (g.O.Output.written l.initial.out) (g.O.Output.written l.out)

@@ -3,7 +3,7 @@ use Rattle.std.specs.List.{flat_map}
 use Rattle.std.proofs.lemmas.Result.{on_ok_weaker, on_err_weaker}
 use Rattle.bgp_attr.specs.declared.attr.Attr.{Attr}
 use Rattle.bgp_attr.specs.Written.{canonical, is_writable}
-use Rattle.bgp_attr.proofs.Writes.{IsWritten}
+use Rattle.bgp_wire.proofs.Writes.{IsWritten}
 use Rattle.bgp_update.specs.KeptView.{with_others}
 use Rattle.bgp_update.specs.Slots.{slot}
 use Rattle.bgp_update.specs.declared.slot.TheConstants.{RECOGNISED}

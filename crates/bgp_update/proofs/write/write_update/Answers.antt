@@ -1,27 +1,23 @@
-use Rattle.std.proofs.Common.{refl, sym}
-use Rattle.bgp_update.proofs.Measures.{measured_fits}
-use Rattle.bgp_update.proofs.ReadBack.{valid-writable, valid-taken}
+use Rattle.std.proofs.Common.{length, refl, sym}
+use Rattle.std.proofs.lemmas.Bool.{ltb-false}
+use Rattle.std.proofs.lemmas.Result.{on_ok_weaker}
+use Rattle.bgp_attr.specs.Written.{is_empty}
+use Rattle.bgp_update.specs.Slots.{attr_list}
+use Rattle.bgp_update.specs.Written.{written_body}
+use Rattle.bgp_update.proofs.Lists.{none-all}
+use Rattle.bgp_update.proofs.ReadBack.{valid-taken}
+use Rattle.bgp_update.proofs.Validity.{valid-accepted}
 use Rattle.bgp_update.proofs.write.write_update.Goals as goal
 
-pub append_body-requires-clause-writable : goal.append_body-requires-clause-writable
-append_body-requires-clause-writable c =
-    valid-writable c.args.ctx.now c.args.update.now (sym c.in_default.ensures.why) (measured_fits c.args.ctx.now c.args.update.now c.in-Some-measure.lengths c.in-Some-measure.ensures)
-
-pub returns-clause-ranges : goal.returns-clause-ranges
-returns-clause-ranges c = record {
-  withdrawn = (c.in_ok-append_body.ensures.ranges).withdrawn;
-  attributes = (c.in_ok-append_body.ensures.ranges).attributes;
-  others = c.in_default.ensures.kinds refl;
-  nlri = (c.in_ok-append_body.ensures.ranges).nlri;
-}
+pub append_valid-requires : goal.append_valid-requires
+append_valid-requires c =
+    none-all is_empty (attr_list c.args.update.now.attrs) (valid-accepted c.args.ctx.now c.args.update.now (sym c.in_default.ensures.why)).some
 
 pub returns-clause-taken : goal.returns-clause-taken
 returns-clause-taken c =
+    on_ok_weaker c.append_valid.result
+    (λ p.
     valid-taken c.args.ctx.now c.args.update.now
-    (record {
-      withdrawn = (c.in_ok-append_body.ensures.ranges).withdrawn;
-      attributes = (c.in_ok-append_body.ensures.ranges).attributes;
-      others = c.in_default.ensures.kinds refl;
-      nlri = (c.in_ok-append_body.ensures.ranges).nlri;
-    })
-    (sym c.in_default.ensures.why) (measured_fits c.args.ctx.now c.args.update.now c.in-Some-measure.lengths c.in-Some-measure.ensures)
+    (record { withdrawn = (p.1).withdrawn; attributes = (p.1).attributes; others = c.in_default.ensures.kinds refl; nlri = (p.1).nlri })
+    (sym c.in_default.ensures.why) (ltb-false 4077 (length (written_body c.args.ctx.now c.args.update.now)) p.0))
+    c.append_valid.ensures.fits

@@ -1,19 +1,22 @@
-use Rattle.std.proofs.Common.{ap, subst}
-use Rattle.bgp_engine.specs.declared.cleaning.CleanPage.{CleanPage}
+use Rattle.std.proofs.Common.{option_map, sym, subst, ◌∙◌}
 use Rattle.bgp_engine.specs.declared.opening.Stage.{Stage}
-use Rattle.bgp_engine.specs.steps.Cleaning.{clean_walk, page_starts}
-use Rattle.bgp_engine.specs.steps.Starting.{ReadyAt}
-use Rattle.bgp_engine.proofs.Startings.{closes_none, closes_unagreed}
+use Rattle.bgp_engine.specs.steps.Starting.{ReadyAt, starts_of}
+use Rattle.bgp_engine.specs.steps.Walking.{walk_of}
+use Rattle.bgp_engine.proofs.Startings.{closes_none, closes_unagreed, unknown}
 use Rattle.bgp_engine.proofs.starting.StartingEngine.finish.Goals as goal
 
 pub returns-in-Unagreed : goal.returns-in-Unagreed
-returns-in-Unagreed c =
-    let w = c.args.self.now.walk in
-    rw c.in-Unagreed.is (closes_unagreed (page_starts w.page) (clean_walk w) w.page.octets.items)
+returns-in-Unagreed g c =
+    let self = c.args.self.now in
+    let w = self.walk in
+    let from = starts_of g.P.Page.fits g.P.Page.rules g.P.Page.plan (option_map (λ t. t.now) self.theirs) w.page in
+    rw c.in-Unagreed.is (closes_unagreed from (walk_of g.P.Page.rules w) (g.P.Page.told w.page))
 
-pub returns-in-First-2 : goal.returns-in-First-2
-returns-in-First-2 c =
-    let w = c.args.self.now.walk in
-    let first = subst (λ (s : Stage). ReadyAt s (clean_walk w)) c.in-First.is c.requires in
-    rw (c.in-First.is, ap (λ (p : CleanPage). p.octets.items) c.begin_without.ensures.same)
-    (closes_none (page_starts w.page) (clean_walk w) w.page.octets.items first.waits c.if-begin_without.ensures.begins)
+pub returns-in-First : goal.returns-in-First
+returns-in-First g c =
+    let self = c.args.self.now in
+    let w = self.walk in
+    let from = starts_of g.P.Page.fits g.P.Page.rules g.P.Page.plan (option_map (λ t. t.now) self.theirs) w.page in
+    let first = subst (λ (s : Stage). ReadyAt s (walk_of g.P.Page.rules w)) c.in-First.is c.requires in
+    rw c.in-First.is
+    (closes_none from (walk_of g.P.Page.rules w) (g.P.Page.told w.page) first.waits (unknown g.P.Page.fits g.P.Page.rules g.P.Page.plan self.theirs w.page (sym c.is_some.ensures ∙ c.if-is_some.true)))

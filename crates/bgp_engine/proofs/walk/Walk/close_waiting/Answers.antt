@@ -1,23 +1,19 @@
 use Rattle.std.proofs.Common.{sym}
 use Rattle.std.proofs.lemmas.Result.{err_from_is_err_and}
-use Rattle.bgp_engine.specs.steps.Walking.{walk_of}
 use Rattle.bgp_engine.proofs.Walks.{some_closing, closes_waiting}
 use Rattle.bgp_engine.proofs.walk.Walk.close_waiting.Goals as goal
 
 pub returns-in_err-last : goal.returns-in_err-last
 returns-in_err-last g c =
-    let w = c.args.self.now in
     let p = err_from_is_err_and c.from_residual.result c.from_residual.ensures.1 in
-    rw (p.1, p.2) (some_closing (walk_of g.P.Page.rules w) (rw c.requires.ended c.requires.waits))
+    rw (p.1, p.2) (some_closing _ (rw c.requires.ended c.requires.waits))
 
 pub returns-in_err-rest : goal.returns-in_err-rest
 returns-in_err-rest g c =
-    let w = c.args.self.now in
     let p = err_from_is_err_and c.from_residual-in_err-rest.result c.from_residual-in_err-rest.ensures.1 in
-    rw (p.1, p.2) (some_closing (walk_of g.P.Page.rules w) (rw c.requires.ended c.requires.waits))
+    rw (p.1, p.2) (some_closing _ (rw c.requires.ended c.requires.waits))
 
 pub returns : goal.returns
 returns g c =
-    let w = c.args.self.now in
-    closes_waiting (walk_of g.P.Page.rules w) c.held.result (g.P.Page.told w.page) (g.P.Page.told c.last.new.self) (g.P.Page.told c.rest.new.self) c.answer.result c.requires.ended c.requires.waits
+    closes_waiting _ c.held.result _ _ _ _ c.requires.ended c.requires.waits
     c.held.ensures.value c.answer.ensures.kind c.in_ok-last.ensures.writes (rw (sym c.last.ensures.rules, sym c.octets.ensures) c.in_ok-rest.ensures.writes) (rw (sym c.last.ensures.rules, sym c.rest.ensures.rules) c.answer.ensures.value)

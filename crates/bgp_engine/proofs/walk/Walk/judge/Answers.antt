@@ -1,12 +1,10 @@
 use Rattle.std.proofs.Common.{inl, inr}
-use Rattle.bgp_engine.specs.steps.Walking.{walk_of}
-use Rattle.bgp_engine.proofs.Walks.{Moves-none, Moves-pulled, Moves-pulled-fault, not_waiting}
+use Rattle.bgp_engine.proofs.Walks.{Moves-none, Moves-fault, Moves-message, not_waiting}
 use Rattle.bgp_engine.proofs.walk.Walk.judge.Goals as goal
 
 pub returns-in-Feed-clause-moves : goal.returns-in-Feed-clause-moves
 returns-in-Feed-clause-moves g c =
-    let w = c.args.self.now in
-    Moves-none (walk_of g.P.Page.rules w) (g.P.Page.told w.page) c.args.octets.now (record { counting = c.requires.counting; waits = c.in-Feed.ensures.waits })
+    Moves-none _ _ _ (record { counting = c.requires.counting; waits = c.in-Feed.ensures.waits })
 
 pub returns-in_ok-class-in-Frame-clause-open : goal.returns-in_ok-class-in-Frame-clause-open
 returns-in_ok-class-in-Frame-clause-open g c none waits =
@@ -14,10 +12,8 @@ returns-in_ok-class-in-Frame-clause-open g c none waits =
 
 pub returns-in_ok-class-in-Frame-clause-moves : goal.returns-in_ok-class-in-Frame-clause-moves
 returns-in_ok-class-in-Frame-clause-moves g c =
-    let w = c.args.self.now in
-    let old = walk_of g.P.Page.rules w in
     rw (c.count.ensures, c.clear.ensures, c.message.ensures.rules)
-    (Moves-pulled old c.args.octets.now (g.P.Page.told w.page) (g.P.Page.told c.message.new.self) c.in-Frame.taken c.requires.counting c.in-Frame.frame c.in_ok-class-in-Frame.class c.in-Frame.ensures c.requires.room c.in_ok-class-in-Frame.ensures.writes)
+    (Moves-message _ _ _ _ _ c.requires.counting c.in-Frame.ensures.0.takes.within _ c.in-Frame.ensures.1.0 _ _ c.in-Frame.ensures.1.1 c.requires.room c.in_ok-class-in-Frame.ensures.writes)
 
 pub returns-in_ok-fault-in-Fault-clause-open : goal.returns-in_ok-fault-in-Fault-clause-open
 returns-in_ok-fault-in-Fault-clause-open g c none waits =
@@ -26,7 +22,5 @@ returns-in_ok-fault-in-Fault-clause-open g c none waits =
 
 pub returns-in_ok-fault-in-Fault-clause-moves : goal.returns-in_ok-fault-in-Fault-clause-moves
 returns-in_ok-fault-in-Fault-clause-moves g c =
-    let w = c.args.self.now in
-    let old = walk_of g.P.Page.rules w in
     rw (c.count_fault.ensures, c.fault.ensures.rules)
-    (Moves-pulled-fault old c.args.octets.now (g.P.Page.told w.page) (g.P.Page.told c.fault.new.self) c.in-Fault.taken c.requires.counting c.in-Fault.fault c.in-Fault.ensures (rw c.pulled-header.ensures at c.in_ok-fault-in-Fault.ensures.writes))
+    (Moves-fault _ _ _ _ _ c.requires.counting c.in-Fault.ensures.0.takes.within _ c.in-Fault.ensures.1.0 c.in-Fault.ensures.1.1 (rw c.pulled-header.ensures at c.in_ok-fault-in-Fault.ensures.writes))

@@ -14,8 +14,8 @@ invariant_of-result c =
     record {
       short = omega arith;
       misses = c.none.ensures ∙ ap (missing_of (record { withdrawn = []; attributes = []; nlri = [] })) (sym none);
-      keeps = ap (λ (s : SummaryValue). s.kept) c.new.ensures ∙ ap (λ (ms : List Mark). kept_in (kept_of ms)) (sym none);
-      noted = ap (λ (s : SummaryValue). s.notes) c.new.ensures ∙ ap (λ (ms : List Mark). list_any (λ (m : Mark). is_noted m.judged) ms) (sym none);
+      keeps = ap (λ (s : SummaryValue). s.kept) c.new.ensures.value ∙ ap (λ (ms : List Mark). kept_in (kept_of ms)) (sym none);
+      noted = ap (λ (s : SummaryValue). s.notes) c.new.ensures.value ∙ ap (λ (ms : List Mark). list_any (λ (m : Mark). is_noted m.judged) ms) (sym none);
     }
 
 pub returns : goal.returns

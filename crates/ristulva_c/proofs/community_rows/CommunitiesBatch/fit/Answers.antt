@@ -23,7 +23,7 @@ pub count_communities-requires : goal.count_communities-requires
 count_communities-requires c =
     let a = (update_value c.in-Update.update.now).attrs in
     let kept : attrs_in (outcome_value c.args.outcome.now) ≡ Some a = ap (λ (v : OutcomeView). attrs_in (outcome_value v)) c.in-Update.is in
-    let has : a.communities ≡ Some (communities_value c.in-Some.communities) = sym (ap (λ (x : Attrs). x.communities) c.kept.ensures.known) ∙ ap (option_map communities_value) c.in-Some.is in
+    let has : a.communities ≡ Some (communities_value c.in-Some.communities) = sym (ap (λ (x : Attrs). x.communities) c.kept.ensures.known) ∙ sym c.communities.ensures ∙ ap (option_map communities_value) c.in-Some.is in
     omega (arith, (few_in c.args.body.now (outcome_value c.args.outcome.now) c.are_octets.ensures c.requires a kept).communities (communities_value c.in-Some.communities) has, c.requires.short)
 
 pub returns-in-Some-clause-few : goal.returns-in-Some-clause-few
