@@ -51,7 +51,7 @@ pub fn rule<'a>(ctx: &Context, has_nlri: bool, tlv: &Tlv<'a>) -> Ruling<'a>
     }
 }
 
-/// The same judgement of an attribute, with its value where it is kept: then the attribute is one that [`rule`] keeps.
+/// A ruling on an attribute, with its value where it is kept: [`rule`] has to keep it then.
 #[inline(always)]
 pub fn with_value<'a>(
     ctx: &Context,

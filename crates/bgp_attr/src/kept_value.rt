@@ -16,7 +16,8 @@ use crate::tlv::Tlv;
 use bgp_numbers::attribute;
 use bgp_open::Context;
 
-/// The value of an attribute that is kept in a context, of this type. `has_nlri` is that of its judgement. Who knows the type asks for no other.
+/// The value of an attribute of a type that is kept in a context. `has_nlri` is that of its judgement. The type is told, so that who knows it pays
+/// for no other.
 #[tactic(auto, unfolding(crate::specs::Judgement::type_row))]
 #[inline(always)]
 pub fn kept_attr<'a>(ctx: &Context, has_nlri: bool, kind: u8, tlv: &Tlv<'a>) -> AttrView<'a>
