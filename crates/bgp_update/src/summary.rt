@@ -12,7 +12,7 @@ ghost use Rattle.bgp_update.specs.Summary.{is_noted, summary_value, summary_behi
 
 use crate::kept_view::KeptView;
 use crate::mark::MarkIter;
-use bgp_attr::{Ruling, Tlv};
+use bgp_attr::{Ruling, Tlv, reset_by};
 use bgp_frame::NotificationView;
 use bgp_open::Context;
 use bgp_wire::OctetSet;
@@ -52,11 +52,12 @@ impl<'a> Summary<'a> {
         }
     }
 
-    /// With one more mark, of what isn't kept.
+    /// With one more mark, of what isn't kept: an attribute of these octets.
     #[inline(always)]
-    fn refuse(&mut self, ruling: Ruling<'a>)
-        requires { keeps ruling ≡ false }
-        ensures adds { (a : Attr) → Adds self.old (ruled ruling.entry a) self.new }
+    fn refuse(&mut self, whole: &'a [u8], ruling: Ruling)
+        requires refuses { keeps ruling ≡ false }
+        requires short { length whole.now ≤ 4075 }
+        ensures adds { (a : Attr) → Adds self.old (ruled ruling whole.now a) self.new }
         ensures of { self.new.kept ≡ self.old.kept }
     {
         match ruling {
@@ -66,22 +67,22 @@ impl<'a> Summary<'a> {
                 self.notes = true;
                 self.withdraws = true;
             }
-            Ruling::Reset(why) => self.reset = self.reset.or(Some(why)),
+            Ruling::Reset(subcode) => self.reset = self.reset.or(Some(reset_by(subcode, whole))),
         }
     }
 
     /// With one more mark, of an attribute of the field that is judged so; what is kept goes to the place of its type.
     #[inline(always)]
-    fn add(&mut self, tlv: &Tlv<'a>, ruling: Ruling<'a>)
+    fn add(&mut self, tlv: &Tlv<'a>, ruling: Ruling)
         requires there { tlv_at self.old.kept.field.now tlv.now.at ≡ Some (tlv_value tlv.now) }
         requires kept { keeps ruling ≡ true → IsTrue (is_kept (judgement self.old.kept.ctx self.old.kept.has_nlri (tlv_value tlv.now))) }
-        requires small { tlv.now.at ≤ 4075 }
-        ensures adds { Adds self.old (ruled ruling.entry (type_row self.old.kept.ctx self.old.kept.has_nlri (tlv_value tlv.now)).value) self.new }
+        requires small { (tlv.now.at ≤ 4075) × (length tlv.now.whole.now ≤ 4075) }
+        ensures adds { Adds self.old (ruled ruling tlv.now.whole.now (type_row self.old.kept.ctx self.old.kept.has_nlri (tlv_value tlv.now)).value) self.new }
         ensures of { AreOf self.new.kept self.old.kept.ctx self.old.kept.has_nlri self.old.kept.field.now }
     {
         match ruling {
             Ruling::Keep => self.kept.put(tlv),
-            _ => self.refuse(ruling),
+            _ => self.refuse(tlv.whole, ruling),
         }
     }
 
@@ -94,7 +95,7 @@ impl<'a> Summary<'a> {
         ensures last { tlvs_left marks.new.tlvs ≡ [] }
     {
         if let Some(mark) = marks.next_cut() {
-            self.refuse(mark.ruling);
+            self.refuse(&[], mark.ruling);
         }
     }
 

@@ -35,7 +35,7 @@ add-requires c =
       kept = λ keeps.
           subst (λ (ctx : Context). IsTrue (is_kept (judgement ctx kept.has_nlri t))) (stays.0 ∙ sym same.0)
           (subst (λ (nlri : Bool). IsTrue (is_kept (judgement marks.ctx nlri t))) (stays.1 ∙ sym same.1) (c.rule-ruling.ensures.kept keeps));
-      small = c.in-Some.ensures.small.0;
+      small = c.in-Some.ensures.small;
     }
 
 pub field-preserved : goal.field-preserved
@@ -48,9 +48,9 @@ field-preserved c =
     let judged = judged_next marks (placed_tlv c.in-Some.tlv) in
     let mark : Mark = record { at = c.in-Some.tlv.at; kind = c.in-Some.tlv.kind; judged = judged } in
     let types = types_of_field c.args.field.now in
-    let is : judged ≡ ruled c.rule-ruling.result (type_row kept.ctx kept.has_nlri t).value =
+    let is : judged ≡ ruled c.rule-ruling.result t.whole (type_row kept.ctx kept.has_nlri t).value =
     sym c.rule-ruling.ensures.judged
-    ∙ ap₂ (λ (ctx : Context) (nlri : Bool). ruled c.rule-ruling.result (type_row ctx nlri t).value) (stays.0 ∙ sym same.0) (stays.1 ∙ sym same.1) in
+    ∙ ap₂ (λ (ctx : Context) (nlri : Bool). ruled c.rule-ruling.result t.whole (type_row ctx nlri t).value) (stays.0 ∙ sym same.0) (stays.1 ∙ sym same.1) in
     let more = c.add.ensures.of in
     let ruled_on = c.rule-ruling.ensures.of in (
       summary_step (summary_value c.field.self) (summary_value c.add.new.self)
