@@ -62,7 +62,7 @@ pub(crate) fn cut(rest: &[u8]) -> Ruling
 }
 
 /// How an attribute that isn't kept is judged, as one that has no value.
-pub(crate) fn unkept(ruling: Ruling) -> FoundAttr<'static>
+pub(crate) fn unkept<'a>(ruling: Ruling) -> FoundAttr<'a>
     requires { keeps ruling ≡ false }
     ensures { (a : Attr) → found_attr_value result ≡ ruled ruling [] a }
 {

@@ -4,9 +4,11 @@ ghost use Rattle.std.specs.Prelude.{◌≡◌, ℕ, Bool, ◌≤◌, false, true
 ghost use Rattle.bgp_attr.specs.Ruling.{keeps, ruled};
 ghost use Rattle.bgp_attr.specs.declared.attr.Attr.{Attr};
 ghost use Rattle.bgp_attr.specs.TlvIter.{tlvs_left};
+ghost use Rattle.bgp_update.specs.KeptView.{known_of, known_value};
 ghost use Rattle.bgp_update.specs.MarkIter.{marks_left, HasTypes};
 ghost use Rattle.bgp_update.specs.Marks.{field_marks};
 ghost use Rattle.bgp_update.specs.Notes.{types_of_field};
+ghost use Rattle.bgp_update.specs.Taken.{attrs_of, kept_of};
 ghost use Rattle.bgp_wire.specs.OctetSet.{has_octet};
 ghost use Rattle.bgp_update.specs.Summary.{is_noted, summary_value, summary_behind, summary_of};
 
@@ -104,6 +106,7 @@ impl<'a> Summary<'a> {
     pub(crate) fn sum_up(&mut self, ctx: &Context, has_nlri: bool, field: &'a [u8]) -> OctetSet
         requires { length field.now ≤ 4075 }
         ensures marks { summary_value self.new ≡ summary_of (field_marks ctx.now has_nlri field.now) }
+        ensures known { known_value self.new.kept ≡ known_of (attrs_of (kept_of (field_marks ctx.now has_nlri field.now))) }
         ensures types { (kind : ℕ) → has_octet result kind ≡ types_of_field field.now kind }
     {
         *self = Summary::new(ctx, has_nlri, field);
