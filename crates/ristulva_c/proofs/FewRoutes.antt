@@ -31,13 +31,13 @@ use Rattle.bgp_update.specs.Marks.{Mark, malformed, marks_of, placed_tlvs}
 use Rattle.bgp_update.specs.Notes.{gone_ip4, gone_ip6, reached_ip4, reached_ip6, is_reachable, notes_of}
 use Rattle.bgp_update.specs.Notes as notes
 use Rattle.bgp_update.specs.Parts.{Parts, has_nlri, parts_of}
-use Rattle.bgp_update.specs.Taken.{kept_by, kept_of, attrs_of, update_of}
+use Rattle.bgp_update.specs.Taken.{kept_by, kept_of, attrs_of, update_of, as_mp_reach, as_mp_unreach}
 use Rattle.bgp_update.specs.Verdict.{is_withdrawn, of_parts, reset_of, unless_reset, without_reset}
 use Rattle.bgp_update.specs.declared.verdict.Verdict.TheVariants as verdict
-use Rattle.bgp_update.proofs.AttrSlots.{first_in, as_mp_reach, as_mp_unreach, attrs_of-slots}
+use Rattle.bgp_update.proofs.AttrSlots.{attrs_of-slots}
 use Rattle.bgp_update.proofs.Bodies.{length-body, parts-body}
 use Rattle.bgp_update.proofs.Lists.{find-passes}
-use Rattle.bgp_update.proofs.TypeLemmas.{taken-mp_reach, taken-mp_unreach}
+use Rattle.bgp_update.proofs.TypeLemmas.{first_in, taken-mp_reach, taken-mp_unreach}
 use Rattle.bgp_msg.specs.declared.message.Message.TheVariants as message
 use Rattle.bgp_msg.specs.declared.outcome.Outcome.{Outcome}
 use Rattle.bgp_msg.specs.declared.outcome.Outcome.TheVariants as outcome

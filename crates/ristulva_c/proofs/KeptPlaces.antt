@@ -23,12 +23,12 @@ use Rattle.bgp_attr.specs.Written.{type_of}
 use Rattle.bgp_attr.proofs.TestRows.{kept-value, row-at, row_at}
 use Rattle.bgp_update.specs.Marks.{malformed, carries_routes, repeated, marks_behind, placed_tlvs, field_marks, marks_of}
 use Rattle.bgp_update.specs.Parts.{Parts, has_nlri}
-use Rattle.bgp_update.specs.Taken.{kept_by, kept_of, attrs_of}
-use Rattle.bgp_update.proofs.AttrSlots.{first_in, as_as_path, as_communities, as_as4_path, as_large, attrs_of-slots}
+use Rattle.bgp_update.specs.Taken.{kept_by, kept_of, attrs_of, as_as_path, as_communities, as_as4_path, as_large}
+use Rattle.bgp_update.proofs.AttrSlots.{attrs_of-slots}
 use Rattle.bgp_update.proofs.KeptMarks.{keep-type, with_cut-kept}
 use Rattle.bgp_update.proofs.Options.{option_or-none}
 use Rattle.bgp_update.proofs.Lists.{eqb-swap, find-passes}
-use Rattle.bgp_update.proofs.TypeLemmas.{Taken, Is, Other, first_in-append, taken-as_path, taken-communities, taken-as4_path, taken-large}
+use Rattle.bgp_update.proofs.TypeLemmas.{first_in, Taken, Is, Other, first_in-append, taken-as_path, taken-communities, taken-as4_path, taken-large}
 use Rattle.ristulva_c.specs.Places.{first_of_type}
 
 repeated-by : (b : Bool) → kept_by (cond b (judged.Reset malformed) (judged.Discard why.Repeated)) ≡ []
