@@ -121,7 +121,7 @@ impl<'a, P: Page> Starting<'a, P> {
     ghost use Rattle.std.specs.Prelude.{◌≡◌, ◌+◌, ◌<◌, ◌≤◌, ◌^◌, ◌++◌, [], None, length, IfOk, OnOk, OnErr};
     ghost use Rattle.bgp_engine.specs.declared.opening.Stage.TheVariants as stage;
     ghost use Rattle.bgp_engine.specs.steps.Engine.{IsTotal, Takes};
-    ghost use Rattle.bgp_engine.specs.steps.Starting.{GoesOn, IsFirst, ReadyIn, reports_in, room_in, starting_of};
+    ghost use Rattle.bgp_engine.specs.steps.Starting.{GoesOn, IsFirst, ReadyIn, reports_in, starting_of};
     ghost use Rattle.bgp_engine.specs.steps.Walking.{IsCounting, IsGoing, IsReady, reports_of, room_of, walk_of};
 
     /// At the front of a stream.
@@ -168,8 +168,7 @@ impl<'a, P: Page> Starting<'a, P> {
             (GoesOn (starting_of P.fits P.rules P.plan self.new))
             (P.told self.old.walk.page) (P.told self.new.walk.page) octets.now over) }
         ensures ready { OnOk result (ReadyIn (starting_of P.fits P.rules P.plan self.new)) }
-        ensures room { OnOk result (room_in (starting_of P.fits P.rules P.plan self.old)
-            ≤ room_in (starting_of P.fits P.rules P.plan self.new) + length octets.now) }
+        ensures room { OnOk result (room_of (walk_of P.rules self.old.walk) ≤ room_of (walk_of P.rules self.new.walk) + length octets.now) }
         ensures memory { OnErr result (IsTotal (reports_in (starting_of P.fits P.rules P.plan self.old))) }
     {
         let taken = self.walk.framer.feed(octets);
@@ -186,7 +185,8 @@ impl<'a, P: Page> Starting<'a, P> {
 }
 
 impl<P: Page> Engine for Starting<'_, P> {
-    ghost use Rattle.bgp_engine.specs.steps.Starting.{Starting, GoesOn, ReadyIn, reports_in, room_in, starting_of};
+    ghost use Rattle.bgp_engine.specs.steps.Starting.{Starting, GoesOn, ReadyIn, reports_in, starting_of};
+    ghost use Rattle.bgp_engine.specs.steps.Walking.{room_of};
 
     ghost State = { Starting P.Outcome };
 
@@ -200,7 +200,7 @@ impl<P: Page> Engine for Starting<'_, P> {
 
     ghost ready = { λ s. ReadyIn s };
 
-    ghost room = { λ s. room_in s };
+    ghost room = { λ s. room_of s.walk };
 
     fn take(&mut self, octets: &[u8]) -> Result<bool, AllocError> {
         match self.stage {

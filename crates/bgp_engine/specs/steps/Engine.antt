@@ -7,6 +7,10 @@ use Rattle.bgp_engine.specs.declared.fault.ToolFault.TheVariants as fault
 use Rattle.bgp_engine.specs.Report.{Report, behind, IsOver, IsWaiting, IsWordless}
 use Rattle.bgp_engine.specs.Run.{Reports}
 
+-- these reports, of streams of octets
+abbrev pub OfOctets : Reports → Reports
+OfOctets reports stream r = AreOctets stream × reports stream r
+
 -- however the stream goes on behind the octets, what is reported of it from old on is what is reported from new on, behind the lines
 abbrev pub GoesOn : Reports → List ℕ → List ℕ → Reports → Type 0
 GoesOn old octets lines new = (later : List ℕ) (r : Report) → new later r → old (octets ++ later) (behind lines r)

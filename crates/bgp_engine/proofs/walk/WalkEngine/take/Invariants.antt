@@ -1,4 +1,4 @@
-use Rattle.std.proofs.Common.{◌+◌, ◌≤◌, ◌^◌, length}
+use Rattle.std.proofs.Common.{length}
 use Rattle.bgp_engine.specs.steps.Walking.{IsGoing, Moves, walk_of}
 use Rattle.bgp_engine.proofs.walk.WalkEngine.take.Given as goal
 
@@ -11,7 +11,6 @@ invariant-stream g l =
     record {
       moves : Moves (walk_of rules old) (walk_of rules now) (told old.page) (told now.page) l.fn.octets l.rest;
       going : IsGoing (walk_of rules now);
-      room : now.place + length now.framer + length l.rest ≤ 2 ^ 60;
     }
 
 abbrev pub decreases-stream : goal.decreases-stream
