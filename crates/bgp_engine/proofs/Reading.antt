@@ -5,7 +5,7 @@ use Rattle.std.specs.Io.KnownBytes.{Consumes, Appends, IsAtEnd, Keeps}
 use Rattle.std.proofs.KnownBytes.{Consumes-nil, Consumes-trans, Consumes-kept, Appends-nil, Appends-trans}
 use Rattle.std.proofs.lemmas.List.{append-nil}
 use Rattle.bgp_wire.specs.Octets.{AreOctets}
-use Rattle.bgp_wire.proofs.OctetLemmas.{AreOctets-nil, AreOctets-append}
+use Rattle.bgp_wire.proofs.OctetLemmas.{AreOctets-nil, AreOctets-append, AreOctets-back}
 use Rattle.bgp_frame.specs.declared.end.End.{End}
 use Rattle.hex.specs.Hex.{is_hex_digit}
 use Rattle.bgp_engine.specs.declared.fault.ToolFault.{ToolFault}
@@ -41,7 +41,8 @@ module _ (reports0 : Reports) (hex : Bool) (r0 w0 : Option (List ℕ)) where
   pub record Reached (reports : Reports) (r w : Option (List ℕ)) (text written told : List ℕ) : Type 0 where
     pub read : Consumes r0 r text
     pub wrote : Appends w0 w written
-    pub lifts : (q : Report) → reports [] q → OfOctets reports0 (stream_of hex text) (behind (written ++ told) q)
+    pub are : AreOctets text
+    pub lifts : (q : Report) → reports [] q → reports0 (stream_of hex text) (behind (written ++ told) q)
 
 abbrev io : Option (List ℕ) → Option (List ℕ) → Option (List ℕ) → Option (List ℕ) → Io
 io r0 w0 r w = record { reader_old = r0; reader_new = r; writer_old = w0; writer_new = w }
@@ -72,7 +73,7 @@ module _ {reports0 : Reports} {hex : Bool} {r0 w0 : Option (List ℕ)} where
     more_front front rest = (front ++ rest, append_assoc written front rest)
 
     pub fails_read : (q : Report) → reports [] q → Fails (OfOctets reports0) hex (io r0 w0 r w) fault.Read
-    fails_read q g = record { text = text; read = s.read; report = behind (written ++ told) q; reported = s.lifts q g; written = written; wrote = s.wrote; is_fault = more_front told q.lines }
+    fails_read q g = record { text = text; read = s.read; report = behind (written ++ told) q; reported = (stream_octets hex text s.are, s.lifts q g); written = written; wrote = s.wrote; is_fault = more_front told q.lines }
 
     -- all that was collected was written
     pub fails_bad : (n : ℕ) (q : Report) → reports [] q → q.lines ≡ [] → Appends w w1 told → IsBadAt hex text r q.end_of n → Fails (OfOctets reports0) hex (io r0 w0 r w1) (fault.BadHex n)
@@ -80,7 +81,7 @@ module _ {reports0 : Reports} {hex : Bool} {r0 w0 : Option (List ℕ)} where
       text = text;
       read = s.read;
       report = behind (written ++ told) q;
-      reported = s.lifts q g;
+      reported = (stream_octets hex text s.are, s.lifts q g);
       written = written ++ told;
       wrote = Appends-trans w0 w w1 written told s.wrote more;
       is_fault = (sym (ap (λ (x : List ℕ). (written ++ told) ++ x) none ∙ append-nil (written ++ told)), bad);
@@ -95,7 +96,7 @@ module _ {reports0 : Reports} {hex : Bool} {r0 w0 : Option (List ℕ)} where
       text = text;
       read = s.read;
       report = behind (written ++ told) q;
-      reported = s.lifts q g;
+      reported = (stream_octets hex text s.are, s.lifts q g);
       written = written ++ a.front;
       wrote = Appends-trans w0 w w1 written a.front s.wrote a.appends;
       is_fault = (a.is_front.0, sym (all_of q none) ∙ ap (λ (x : List ℕ). written ++ x) a.is_front.1 ∙ sym (append_assoc written a.front a.is_front.0));
@@ -118,7 +119,7 @@ module _ {reports0 : Reports} {hex : Bool} {r0 w0 : Option (List ℕ)} where
       text = text;
       read = s.read;
       report = behind (written ++ told) a.report;
-      reported = s.lifts a.report a.reported;
+      reported = (stream_octets hex text s.are, s.lifts a.report a.reported);
       answers = a.answers;
       wrote = subst (Appends w0 w1) (all_of a.report a.none) (Appends-trans w0 w w1 written (told ++ a.report.last) s.wrote a.wrote);
       all_read = all_read a.report a.reported;
@@ -132,7 +133,7 @@ module _ {reports0 : Reports} {hex : Bool} {r0 w0 : Option (List ℕ)} where
       text = text;
       read = s.read;
       report = behind (written ++ told) a.report;
-      reported = s.lifts a.report a.reported;
+      reported = (stream_octets hex text s.are, s.lifts a.report a.reported);
       written = written ++ (told ++ a.report.last);
       wrote = Appends-trans w0 w w1 written (told ++ a.report.last) s.wrote a.wrote;
       is_fault = is (behind (written ++ told) a.report) (written ++ (told ++ a.report.last)) (all_of a.report a.none) a.answers (all_read a.report a.reported);
@@ -143,7 +144,7 @@ module _ {reports0 : Reports} {hex : Bool} {r0 w0 : Option (List ℕ)} where
       text = text;
       read = s.read;
       report = behind (written ++ told) a.report;
-      reported = s.lifts a.report a.reported;
+      reported = (stream_octets hex text s.are, s.lifts a.report a.reported);
       written = written;
       wrote = subst (Appends w0 w1) (append-nil written) (Appends-trans w0 w w1 written [] s.wrote a.wrote);
       is_fault = more_front told a.report.lines;
@@ -203,31 +204,25 @@ module _ {reports0 : Reports} {hex : Bool} {r0 w0 : Option (List ℕ)} where
       pub fails_block : IsTotal reports → Fails (OfOctets reports0) hex (record { reader_old = r0; reader_new = r1; writer_old = w0; writer_new = w }) fault.Memory
       fails_block total =
           let rest : List ℕ = stream_of hex (pending reader ++ (block ++ [])) in
-          let found = total rest (rest_octets hex reader.pending s.raw) in
+          let all : AreOctets (stream_of hex (s.text ++ block)) = stream_octets hex (s.text ++ block) more_are in
+          let found = total rest (AreOctets-back s.octets rest (subst AreOctets all_octets all)) in
           record {
             text = s.text ++ block;
             read = more_read;
             report = behind s.lines found.0;
-            reported = (stream_octets hex _ more_are, subst (λ (x : List ℕ). reports0 x (behind s.lines found.0)) (sym all_octets) (s.goes_on rest found.0 found.1));
+            reported = (all, subst (λ (x : List ℕ). reports0 x (behind s.lines found.0)) (sym all_octets) (s.goes_on rest found.0 found.1));
             written = s.lines;
             wrote = s.wrote;
             is_fault = (found.0.lines, refl);
           }
-        where
-          rest_octets : (h : Bool) (o : Option ℕ) → (h ≡ false → o ≡ None) → AreOctets (stream_of h (option_to_list o ++ (block ++ [])))
-          rest_octets true o raw = spelled-octets (option_to_list o ++ (block ++ []))
-          rest_octets false None raw = subst AreOctets (sym (append-nil block)) octets
-          rest_octets false (Some c) raw = let bad = raw refl in absurd cc
 
       -- what is reported behind the block, is reported of the whole
       lifts : {reports1 : Reports} (told told1 octets lines later : List ℕ) → told ≡ [] → GoesOn reports octets lines reports1 → told1 ≡ told ++ lines → stream_of hex (s.text ++ block) ≡ (s.octets ++ octets) ++ later → (q : Report) → reports1 later q
-          → OfOctets reports0 (stream_of hex (s.text ++ block)) (behind (s.lines ++ told1) q)
-      lifts {reports1} told told1 octets lines later none on is same q g = (
-        stream_octets hex _ more_are,
-        subst (λ (x : List ℕ). reports0 x (behind (s.lines ++ told1) q)) (sym same)
-        (subst (λ (t : List ℕ). reports0 ((s.octets ++ octets) ++ later) (behind (s.lines ++ t) q)) (sym (is ∙ ap (λ (t : List ℕ). t ++ lines) none))
-        (goes_further reports0 reports reports1 s.octets octets s.lines lines s.goes_on on later q g)),
-      )
+          → reports0 (stream_of hex (s.text ++ block)) (behind (s.lines ++ told1) q)
+      lifts {reports1} told told1 octets lines later none on is same q g =
+          subst (λ (x : List ℕ). reports0 x (behind (s.lines ++ told1) q)) (sym same)
+          (subst (λ (t : List ℕ). reports0 ((s.octets ++ octets) ++ later) (behind (s.lines ++ t) q)) (sym (is ∙ ap (λ (t : List ℕ). t ++ lines) none))
+          (goes_further reports0 reports reports1 s.octets octets s.lines lines s.goes_on on later q g))
 
       module _ {reports1 : Reports} {going1 : Type 0} {reader1 : HexText} {told told1 : List ℕ} (none : told ≡ []) where
         pub Reading-block : (w1 : Option (List ℕ)) → length block ≤ 4096 → (m : MeetsBlock hex reader reader1 reports reports1 going1 told told1 block) → Appends w w1 told1 → Reading reports0 hex r0 w0 reports1 going1 r1 w1 reader1 (turns + 1)
@@ -256,10 +251,10 @@ module _ {reports0 : Reports} {hex : Bool} {r0 w0 : Option (List ℕ)} where
         bad_octets n m = all_octets ∙ ap (λ (x : List ℕ). s.octets ++ x) (m.spells.stream []) ∙ sym (append-nil (s.octets ++ m.octets))
 
         pub Reached-block : MeetsBlock hex reader reader1 reports reports1 going1 told told1 block → Reached reports0 hex r0 w0 reports1 r1 w (s.text ++ block) s.lines told1
-        Reached-block m = record { read = more_read; wrote = s.wrote; lifts = lifts told told1 m.octets m.takes.lines [] none m.takes.goes_on m.takes.told (block_octets m) }
+        Reached-block m = record { read = more_read; wrote = s.wrote; are = more_are; lifts = lifts told told1 m.octets m.takes.lines [] none m.takes.goes_on m.takes.told (block_octets m) }
 
         pub Reached-bad : (n : ℕ) → MeetsBad hex reader reader1 reports reports1 going1 told told1 block n → Reached reports0 hex r0 w0 reports1 r1 w (s.text ++ block) s.lines told1
-        Reached-bad n m = record { read = more_read; wrote = s.wrote; lifts = lifts told told1 m.octets m.takes.lines [] none m.takes.goes_on m.takes.told (bad_octets n m) }
+        Reached-bad n m = record { read = more_read; wrote = s.wrote; are = more_are; lifts = lifts told told1 m.octets m.takes.lines [] none m.takes.goes_on m.takes.told (bad_octets n m) }
 
         pub Reached-over : MeetsOver hex reader reader1 reports reports1 going1 told told1 block → Reached reports0 hex r0 w0 reports1 r1 w (s.text ++ block) s.lines told1
         Reached-over m =
@@ -267,6 +262,7 @@ module _ {reports0 : Reports} {hex : Bool} {r0 w0 : Option (List ℕ)} where
             record {
               read = more_read;
               wrote = s.wrote;
+              are = more_are;
               lifts = λ q g. lifts told told1 m.octets m.takes.lines front.0 none m.takes.goes_on m.takes.told (all_octets ∙ ap (λ (x : List ℕ). s.octets ++ x) front.1 ∙ sym (append_assoc s.octets m.octets front.0)) q (m.takes.stands.always [] front.0 q g);
             }
 
@@ -285,11 +281,10 @@ module _ {reports0 : Reports} {hex : Bool} {r0 w0 : Option (List ℕ)} where
       Reached-none = record {
         read = more;
         wrote = s.wrote;
-        lifts = λ q g. (
-          stream_octets hex s.text s.are,
-          subst (λ (x : List ℕ). reports0 x (behind (s.lines ++ told) q)) (sym all_spelled)
-          (subst (λ (l : List ℕ). reports0 (s.octets ++ []) (behind l q)) (sym (append-nil s.lines) ∙ ap (λ (t : List ℕ). s.lines ++ t) (sym none)) (s.goes_on [] q g)),
-        );
+        are = s.are;
+        lifts = λ q g.
+            subst (λ (x : List ℕ). reports0 x (behind (s.lines ++ told) q)) (sym all_spelled)
+            (subst (λ (l : List ℕ). reports0 (s.octets ++ []) (behind l q)) (sym (append-nil s.lines) ∙ ap (λ (t : List ℕ). s.lines ++ t) (sym none)) (s.goes_on [] q g));
       }
 
       -- the reader ended with the first digit of a pair

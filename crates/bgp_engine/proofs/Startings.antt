@@ -38,7 +38,7 @@ use Rattle.bgp_engine.specs.steps.Engine.{ClosesBy, GoesOn, Rests, Takes}
 use Rattle.bgp_engine.specs.steps.Pages.{Plan}
 use Rattle.bgp_engine.specs.steps.Starting as steps
 use Rattle.bgp_engine.specs.steps.Starting.{SettlesOn, start_of, starts_of, IsFresh, Settles, reports_in, starting}
-use Rattle.bgp_engine.specs.steps.Walking.{Walking, IsCounting, IsGoing, reports_of, walking}
+use Rattle.bgp_engine.specs.steps.Walking.{Walking, IsCounting, IsReady, reports_of, walking}
 use Rattle.bgp_engine.proofs.FirstOpens.{waits_part, frame_first, frame_whole, fault_whole, fault_first}
 use Rattle.bgp_engine.proofs.Reading.{goes_further}
 use Rattle.bgp_engine.proofs.Walks.{counts_on, heard, heard_report, reports_report}
@@ -136,13 +136,16 @@ module _ {Outcome : Type 0} (starts : Starts Outcome) where
     handed_walk len = walking rules1 [] (place + len) (counted tally len class.Took) None
 
     counts_held : IsCounting held_walk
-    counts_held = record { open_ended = c.open_ended; octets = c.octets; place = c.place; messages = c.messages; took = c.took; withdrawn = c.withdrawn; resets = c.resets }
+    counts_held = record { octets = c.octets; place = c.place; counts = c.counts }
+
+    unended : ended ≡ None
+    unended = ap (λ (w : Walking Outcome). w.ended) fresh
 
     from_front : Stops held → (later : List ℕ) (r : Report) → AreOctets later → reports_of held_walk later r → IsReport rules1 0 no_tally (held ++ later) r
     from_front stops later r octets q =
         let long = Stops-wanted held stops in
         subst (λ (w : Walking Outcome). IsReport rules1 w.place w.tally (held ++ later) r) fresh
-        (reports_report held_walk later r c.open_ended (record { octets = c.octets; within = omega (arith, long.1) }) octets q)
+        (reports_report held_walk later r unended (record { octets = c.octets; within = omega (arith, long.1) }) octets q)
 
     module _ (told : List ℕ) (m : Message) (f : IsFrame m held) where
       pub settles_unagreed : (told1 : List ℕ) → (starts (Some m) ≡ None) × (told1 ≡ told) → Settles stage.Unagreed starts held told told1 held_walk
@@ -152,7 +155,7 @@ module _ {Outcome : Type 0} (starts : Starts Outcome) where
       settles_plain told1 b = record {
         lines = [];
         told = b.1 ∙ sym (append-nil told);
-        settles = (counts_held, λ later r octets q. plain held m f later rules1 r b.0 (from_front (inl (m, f)) later r octets q));
+        settles = (unended, counts_held, λ later r octets q. plain held m f later rules1 r b.0 (from_front (inl (m, f)) later r octets q));
       }
 
       from_behind : (later : List ℕ) (r : Report) → AreOctets later → reports_of (handed_walk (length held)) later r → IsReport rules1 (length held) (counted no_tally (length held) class.Took) later r
@@ -168,7 +171,8 @@ module _ {Outcome : Type 0} (starts : Starts Outcome) where
             lines = b.0;
             told = b.2;
             settles = (
-              counts_on (walking rules held place tally ended) c rules1 (length held) (omega (arith, length-IsFrame m held f)) (omega arith) class.Took,
+              refl,
+              counts_on (walking rules held place tally ended) c rules1 (length held) class.Took (omega (arith, length-IsFrame m held f)) (omega arith),
               λ later r octets q. handed held m f later rules1 b.0 r b.1 (from_behind later r octets q),
             );
           })
@@ -186,7 +190,7 @@ module _ {Outcome : Type 0} (starts : Starts Outcome) where
       settles_fault b = record {
         lines = [];
         told = same ∙ sym (append-nil told);
-        settles = (counts_held, λ later r octets q. without (held ++ later) (none_read later) rules1 r b (from_front (inr (size, (h, faulty))) later r octets q));
+        settles = (unended, counts_held, λ later r octets q. without (held ++ later) (none_read later) rules1 r b (from_front (inr (size, (h, faulty))) later r octets q));
       }
 
       pub settles_fault_unagreed : starts None ≡ None → Settles stage.Unagreed starts held told told1 held_walk
@@ -244,13 +248,13 @@ module _ {Outcome : Type 0} (starts : Starts Outcome) where
       stands = record { report = unagreed end.Reset; reported = refl; none = refl; over = λ r q. subst (λ (x : Report). IsOver x.end_of) (sym q) tt; always = λ later more r q. q };
     }
 
-    pub takes_agreed : (starts1 : Starts Outcome) (w2 : Walking Outcome) (t2 : List ℕ) (over : Bool) → Settles stage.Agreed starts fed t0 t1 w1 → Takes (reports_of w1) (reports_of w2) (IsGoing w2) t1 t2 (drop n octets) over
+    pub takes_agreed : (starts1 : Starts Outcome) (w2 : Walking Outcome) (t2 : List ℕ) (over : Bool) → Settles stage.Agreed starts fed t0 t1 w1 → Takes (reports_of w1) (reports_of w2) (IsReady w2) t1 t2 (drop n octets) over
         → Takes (reports_in (starting starts stage.First w0)) (reports_in (starting starts1 stage.Agreed w2)) (steps.GoesOn (starting starts1 stage.Agreed w2)) t0 t2 octets over
     takes_agreed starts1 w2 t2 over s p =
-        subst (λ (x : List ℕ). Takes (reports_in (starting starts stage.First w0)) (reports_of w2) (IsGoing w2) t0 t2 x over) (take-append-drop n octets)
-        (takes_behind (reports_in (starting starts stage.First w0)) (reports_of w1) (reports_of w2) (IsGoing w2) t0 t1 t2 (take n octets) (drop n octets) s.lines over s.told
+        subst (λ (x : List ℕ). Takes (reports_in (starting starts stage.First w0)) (reports_of w2) (IsReady w2) t0 t2 x over) (take-append-drop n octets)
+        (takes_behind (reports_in (starting starts stage.First w0)) (reports_of w1) (reports_of w2) (IsReady w2) t0 t1 t2 (take n octets) (drop n octets) s.lines over s.told
         (λ later r q are.
-        subst (λ (x : List ℕ). ReportedFrom starts x (behind s.lines r)) (append_assoc w0.held (take n octets) later) (s.settles.1 later r (AreOctets-back (take n octets) later are) q)) p)
+        subst (λ (x : List ℕ). ReportedFrom starts x (behind s.lines r)) (append_assoc w0.held (take n octets) later) (s.settles.2 later r (AreOctets-back (take n octets) later are) q)) p)
 
   -- ---- where a stream ends
 

@@ -122,7 +122,7 @@ impl<'a, P: Page> Starting<'a, P> {
     ghost use Rattle.bgp_engine.specs.declared.opening.Stage.TheVariants as stage;
     ghost use Rattle.bgp_engine.specs.steps.Engine.{IsTotal, Takes};
     ghost use Rattle.bgp_engine.specs.steps.Starting.{GoesOn, IsFirst, ReadyIn, reports_in, starting_of};
-    ghost use Rattle.bgp_engine.specs.steps.Walking.{IsCounting, IsGoing, IsReady, reports_of, room_of, walk_of};
+    ghost use Rattle.bgp_engine.specs.steps.Walking.{IsCounting, IsReady, reports_of, room_of, walk_of};
 
     /// At the front of a stream.
     pub(crate) fn new(alloc: Global, theirs: Option<&'a [u8]>, page: P) -> Starting<'a, P>
@@ -142,19 +142,17 @@ impl<'a, P: Page> Starting<'a, P> {
 
     // Judges what is held, and what stands behind it.
     fn walk_on(&mut self, later: &[u8]) -> Result<bool, AllocError>
+        requires unended { self.old.walk.ended ≡ None }
         requires counting { IsCounting (walk_of P.rules self.old.walk) }
         requires room { self.old.walk.place + length self.old.walk.framer + length later.now ≤ 2 ^ 60 }
         ensures takes { IfOk result (λ over. Takes
-            (reports_of (walk_of P.rules self.old.walk)) (reports_of (walk_of P.rules self.new.walk)) (IsGoing (walk_of P.rules self.new.walk))
+            (reports_of (walk_of P.rules self.old.walk)) (reports_of (walk_of P.rules self.new.walk)) (IsReady (walk_of P.rules self.new.walk))
             (P.told self.old.walk.page) (P.told self.new.walk.page) later.now over) }
         ensures ready { OnOk result (IsReady (walk_of P.rules self.new.walk)) }
         ensures room { OnOk result (2 ^ 60 ≤ room_of (walk_of P.rules self.new.walk) + (self.old.walk.place + length self.old.walk.framer + length later.now)) }
         ensures same { self.new ≡ record self.old { walk = self.new.walk } }
     {
         self.walk.judge(&[])?;
-        if self.walk.ended.is_some() {
-            return Ok(true);
-        }
         self.walk.take(later)
     }
 

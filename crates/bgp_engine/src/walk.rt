@@ -47,7 +47,7 @@ impl<P: Page> Walk<P> {
     ghost use Rattle.bgp_engine.specs.Rules.{counted};
     ghost use Rattle.bgp_engine.specs.Tally.{no_tally};
     ghost use Rattle.bgp_engine.specs.steps.Pages.{is_last};
-    ghost use Rattle.bgp_engine.specs.steps.Walking.{Hears, IsCounting, IsGoing, IsJudged, IsReady, reports_of, reset_if, walk_of};
+    ghost use Rattle.bgp_engine.specs.steps.Walking.{Hears, IsCounting, IsJudged, IsReady, all_counts, reports_of, reset_if, walk_of};
     ghost use Rattle.bgp_engine.specs.steps.Engine.{Closes};
 
     /// A walk at the front of a stream.
@@ -72,11 +72,8 @@ impl<P: Page> Walk<P> {
     // Counts a message of so many octets.
     pub(crate) fn count(&mut self, len: u16, class: Class)
         requires place { self.old.place < 2 ^ 61 }
-        requires messages { self.old.tally.messages ≤ self.old.place }
-        requires took { self.old.tally.took ≤ self.old.place }
-        requires withdrawn { self.old.tally.withdrawn ≤ self.old.place }
-        requires resets { self.old.tally.resets ≤ self.old.place }
-        requires open { self.old.ended ≡ None }
+        requires counts { all_counts self.old.tally ≤ self.old.place }
+        requires unended { self.old.ended ≡ None }
         requires some { 0 < len }
         ensures { self.new ≡ record self.old {
             place = self.old.place + (if is_last class then 0 else len); tally = counted self.old.tally len class; ended = reset_if (is_last class) } }
@@ -97,7 +94,7 @@ impl<P: Page> Walk<P> {
     // Counts a header's fault, behind which nothing can be read.
     fn count_fault(&mut self)
         requires place { self.old.place < 2 ^ 61 }
-        requires resets { self.old.tally.resets ≤ self.old.place }
+        requires counts { all_counts self.old.tally ≤ self.old.place }
         ensures { self.new ≡ record self.old { tally = counted self.old.tally 0 class.Reset; ended = Some end.Head } }
     {
         self.tally.resets += 1;
@@ -106,7 +103,8 @@ impl<P: Page> Walk<P> {
 
     // Judges what is held, or what octets begin with where nothing is held. Answers how many of the octets it took, where there was something to judge.
     pub(crate) fn judge(&mut self, octets: &[u8]) -> Result<Option<usize>, AllocError>
-        requires { IsCounting (walk_of P.rules self.old) }
+        requires unended { self.old.ended ≡ None }
+        requires counting { IsCounting (walk_of P.rules self.old) }
         ensures { IfOk result (λ found. IsJudged
             (walk_of P.rules self.old) (walk_of P.rules self.new)
             (P.told self.old.page) (P.told self.new.page) octets.now found) }
@@ -132,7 +130,8 @@ impl<P: Page> Walk<P> {
 
     // Takes octets up to the end of a message, which is judged where it stands if it is whole there. Answers how many it took.
     fn step(&mut self, octets: &[u8]) -> Result<usize, AllocError>
-        requires going { IsGoing (walk_of P.rules self.old) }
+        requires unended { self.old.ended ≡ None }
+        requires ready { IsReady (walk_of P.rules self.old) }
         requires room { self.old.place + length self.old.framer + length octets.now ≤ 2 ^ 60 }
         ensures hears { IfOk result (λ n. Hears
             (walk_of P.rules self.old) (walk_of P.rules self.new)
@@ -178,7 +177,7 @@ impl<P: Page> Walk<P> {
 
 impl<P: Page> Engine for Walk<P> {
     ghost use Rattle.std.specs.Prelude.{◌≡◌, ◌+◌, ◌≤◌, [], None, length, IfOk, OnOk, OnErr};
-    ghost use Rattle.bgp_engine.specs.steps.Walking.{Walking, IsGoing, IsReady, reports_of, room_of, walk_of};
+    ghost use Rattle.bgp_engine.specs.steps.Walking.{Walking, IsReady, reports_of, room_of, walk_of};
 
     ghost State = { Walking P.Outcome };
 
@@ -188,7 +187,7 @@ impl<P: Page> Engine for Walk<P> {
 
     ghost reports = { λ w. reports_of w };
 
-    ghost going = { λ w. IsGoing w };
+    ghost going = { λ w. IsReady w };
 
     ghost ready = { λ w. IsReady w };
 
@@ -196,15 +195,15 @@ impl<P: Page> Engine for Walk<P> {
 
     fn take(&mut self, octets: &[u8]) -> Result<bool, AllocError> {
         let mut rest = octets;
-        'stream: while !rest.is_empty() {
-            let taken = self.step(rest)?;
-            if self.ended.is_some() {
-                return Ok(true);
+        'stream: while self.ended.is_none() {
+            if rest.is_empty() {
+                return Ok(false);
             }
+            let taken = self.step(rest)?;
             let (_, later) = rest.split_at(taken);
             rest = later;
         }
-        Ok(false)
+        Ok(true)
     }
 
     fn finish(&mut self) -> Result<Tally, ToolFault> {

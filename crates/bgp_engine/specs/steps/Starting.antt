@@ -17,7 +17,7 @@ use Rattle.bgp_engine.specs.Report.{Report, behind}
 use Rattle.bgp_engine.specs.Rules.{Rules}
 use Rattle.bgp_engine.specs.Tally.{no_tally}
 use Rattle.bgp_engine.specs.steps.Pages.{Plan}
-use Rattle.bgp_engine.specs.steps.Walking.{Walking, IsCounting, IsGoing, IsReady, reports_of, walk_of, walking}
+use Rattle.bgp_engine.specs.steps.Walking.{Walking, IsCounting, IsReady, reports_of, walk_of, walking}
 
 -- how the stream is read, how far it has come, and the walk over it, which holds the first message until that is whole
 pub record Starting (Outcome : Type 0) : Type 0 where
@@ -76,7 +76,7 @@ module _ {Outcome : Type 0} where
 
   abbrev pub GoesAt : Stage → Walking Outcome → Type 0
   GoesAt stage.First w = IsFirst w
-  GoesAt stage.Agreed w = IsGoing w
+  GoesAt stage.Agreed w = IsReady w
   GoesAt stage.Unagreed w = ⊥
 
   abbrev pub GoesOn : Starting Outcome → Type 0
@@ -95,7 +95,7 @@ module _ {Outcome : Type 0} where
   abbrev pub SettlesAt : Stage → Starts Outcome → List ℕ → List ℕ → Walking Outcome → Type 0
   SettlesAt stage.First starts held lines w = IsFirst w × (w.held ≡ held) × (lines ≡ [])
   SettlesAt stage.Agreed starts held lines w =
-      IsCounting w × ((later : List ℕ) (r : Report) → AreOctets later → reports_of w later r → ReportedFrom starts (held ++ later) (behind lines r))
+      (w.ended ≡ None) × IsCounting w × ((later : List ℕ) (r : Report) → AreOctets later → reports_of w later r → ReportedFrom starts (held ++ later) (behind lines r))
   SettlesAt stage.Unagreed starts held lines w = ((later : List ℕ) → ReportedFrom starts (held ++ later) (unagreed end.Reset)) × (lines ≡ [])
 
   pub record Settles (stage : Stage) (starts : Starts Outcome) (held told_old told_new : List ℕ) (w : Walking Outcome) : Type 0 where

@@ -22,12 +22,8 @@ pub record Walking (Outcome : Type 0) : Type 0 where
   pub tally : Tally
   pub ended : Option End
 
--- what is written of a message or of a header with a fault, and where the walk stands behind it
-pub record Said : Type 0 where
-  pub line : List ℕ
-  pub place : ℕ
-  pub tally : Tally
-  pub ended : Option End
+abbrev pub all_counts : Tally → ℕ
+all_counts t = t.messages + t.took + t.withdrawn + t.resets
 
 abbrev pub reset_if : Bool → Option End
 reset_if resets = if resets then Some end.Reset else None
@@ -36,6 +32,11 @@ reset_if resets = if resets then Some end.Reset else None
 abbrev pub end_by : Option End → ℕ → End
 end_by None held = end.Wait held
 end_by (Some e) held = e
+
+-- a stream that has ended goes no further
+abbrev pub IsOverIf : Option End → Type 0
+IsOverIf None = Unit {0}
+IsOverIf (Some e) = IsOver e
 
 module _ {Outcome : Type 0} where
   abbrev pub walking : Rules Outcome → List ℕ → ℕ → Tally → Option End → Walking Outcome
@@ -54,23 +55,21 @@ module _ {Outcome : Type 0} where
   ended_by rules (Ok m) = reset_if (rules.judge.resets (rules.judge.of_message m))
   ended_by rules (Err f) = Some end.Head
 
-  abbrev pub said_of : Walking Outcome → ℕ × Outcome → Option End → Said
-  said_of w o ended = record {
-    line = w.rules.line w.place o.0 w.held o.1;
-    place = w.place + passed w.rules o;
-    tally = counted w.tally o.0 (w.rules.class o.1);
-    ended = ended;
-  }
+  -- what is written of it, and the walk behind it
+  abbrev pub comes : Walking Outcome → Result Message HeadFault → List ℕ × Walking Outcome
+  comes w what =
+      let o = outcome w.rules what in
+      (w.rules.line w.place o.0 w.held o.1, walking w.rules [] (w.place + passed w.rules o) (counted w.tally o.0 (w.rules.class o.1)) (ended_by w.rules what))
 
-  -- a walk takes octets until its stream has ended, and writes a line of each message
-  abbrev pub walker : Hearer (Walking Outcome) Said ℕ
+  -- a walk takes octets until its stream has ended
+  abbrev pub walker : Hearer (Walking Outcome) (List ℕ × Walking Outcome) ℕ
   walker = record {
     held = λ w. w.held;
-    holding = λ w held. walking w.rules held w.place w.tally w.ended;
+    holding = λ w held. record w { held = held };
     listens = λ w. is_none w.ended;
-    comes = λ w what. said_of w (outcome w.rules what) (ended_by w.rules what);
-    actions = λ said. said.line;
-    behind = λ w said. walking w.rules [] said.place said.tally said.ended;
+    comes = comes;
+    actions = λ said. said.0;
+    behind = λ w said. record said.1 { held = [] };
   }
 
   -- what is reported where the stream goes no further
@@ -86,23 +85,15 @@ module _ {Outcome : Type 0} where
 
   -- no number passes its type
   pub record IsCounting (w : Walking Outcome) : Type 0 where
-    pub open_ended : w.ended ≡ None
     pub octets : AreOctets w.held
     pub place : w.place + length w.held ≤ 2 ^ 60
-    pub messages : w.tally.messages ≤ w.place
-    pub took : w.tally.took ≤ w.place
-    pub withdrawn : w.tally.withdrawn ≤ w.place
-    pub resets : w.tally.resets ≤ w.place
+    pub counts : all_counts w.tally ≤ w.place
 
-  -- the stream goes on
-  pub record IsGoing (w : Walking Outcome) : Type 0 where
-    pub counting : IsCounting w
-    pub waits : Waits w.held
-
-  -- nothing is missing for a last report
+  -- nothing is missing for a last report, and a walk can count on where its stream goes on
   pub record IsReady (w : Walking Outcome) : Type 0 where
     pub waits : Waits w.held
-    pub over : (e : End) → w.ended ≡ Some e → IsOver e
+    pub counting : w.ended ≡ None → IsCounting w
+    pub over : IsOverIf w.ended
 
   -- how many octets more can be counted
   abbrev pub room_of : Walking Outcome → ℕ
@@ -126,4 +117,3 @@ module _ {Outcome : Type 0} where
     pub left : left_to_do walker old octets ≡ hearing.behind lines (left_to_do walker new rest)
     pub count : new.place + length new.held + length rest ≤ old.place + length old.held + length octets
     pub ready : IsReady new
-    pub counting : new.ended ≡ None → IsCounting new
