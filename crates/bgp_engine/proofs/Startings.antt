@@ -1,14 +1,14 @@
 -- Steps of an engine that takes the first message of its stream by a rule of its own.
-use Rattle.std.proofs.Common.{◌≡◌, ℕ, ◌+◌, Bool, true, false, Bor, List, [], ◌++◌, length, take, drop, Option, option_map, Some, None, Result, Ok, Err, refl, sym, ap, subst, ◌∙◌, append_assoc, arith, inl, inr}
+use Rattle.std.proofs.Common.{◌≡◌, ℕ, ◌+◌, ◌≤◌, Bool, true, false, Bor, List, [], ◌++◌, length, take, drop, Option, option_map, Some, None, Result, Ok, Err, refl, sym, ap, subst, ◌∙◌, append_assoc, arith, inl, inr}
 use Rattle.std.specs.Prelude.{is_some, if◌then◌else◌, OnErr}
 use Rattle.std.specs.Option.{unwrap_or}
 use Rattle.std.proofs.lemmas.List.{append-nil, length-append, take_all, take-append-drop}
 use Rattle.bgp_wire.specs.Octets.{AreOctets}
-use Rattle.bgp_wire.proofs.OctetLemmas.{AreOctets-back, AreOctets-drop}
+use Rattle.bgp_wire.proofs.OctetLemmas.{AreOctets-append, AreOctets-back, AreOctets-drop}
 use Rattle.bgp_frame.specs.declared.end.End.{End}
 use Rattle.bgp_frame.specs.declared.end.End.TheVariants as end
 use Rattle.bgp_frame.specs.declared.fault.HeadFault.{HeadFault}
-use Rattle.bgp_frame.specs.Frame.{Message, octets_of, IsFrame, Waits}
+use Rattle.bgp_frame.specs.Frame.{Message, octets_of, IsFrame, Waits, wanted}
 use Rattle.bgp_frame.specs.Head.{head_of}
 use Rattle.bgp_frame.specs.Takes as frame
 use Rattle.bgp_frame.specs.Takes.{Stops}
@@ -34,7 +34,7 @@ use Rattle.bgp_engine.specs.Rules.{Rules, counted, report_of, IsReport}
 use Rattle.bgp_engine.specs.Run.{Answers, Io, Reports}
 use Rattle.bgp_engine.specs.Tally.{no_tally}
 use Rattle.bgp_engine.specs.steps.Cleaning.{clean_plan, page_rules, starts_for}
-use Rattle.bgp_engine.specs.steps.Engine.{ClosesBy, GoesOn, Rests, Takes}
+use Rattle.bgp_engine.specs.steps.Engine.{Closes, ClosesBy, GoesOn, IsTotal, Rests, Takes}
 use Rattle.bgp_engine.specs.steps.Pages.{Plan}
 use Rattle.bgp_engine.specs.steps.Starting as steps
 use Rattle.bgp_engine.specs.steps.Starting.{SettlesOn, start_of, starts_of, IsFresh, Settles, reports_in, starting}
@@ -58,6 +58,24 @@ pub on_err : {T E : Type 0} (r : Result T E) (P : Type 0) → P → OnErr r P
 on_err (Ok x) P p = tt
 on_err (Err e) P p = p
 
+closes_as : (a b : Reports) (t0 t1 : List ℕ) (answer : Result Tally ToolFault) → ((r : Report) → a [] r → b [] r) → Closes a t0 t1 answer → Closes b t0 t1 answer
+closes_as a b t0 t1 answer on closes = by_answer answer closes
+  where
+    by_report : (e : Result Tally ToolFault) → ClosesBy a t0 t1 e → ClosesBy b t0 t1 e
+    by_report e c = record { report = c.report; reported = on c.report c.reported; none = c.none; told = c.told; answers = c.answers }
+
+    by_answer : (e : Result Tally ToolFault) → Closes a t0 t1 e → Closes b t0 t1 e
+    by_answer (Ok tally) c = by_report (Ok tally) c
+    by_answer (Err fault.Memory) c = (c.0, on c.0 c.1, c.2)
+    by_answer (Err (fault.Narrow n)) c = by_report (Err (fault.Narrow n)) c
+    by_answer (Err (fault.Clean n why)) c = (c.0, by_report (Err (fault.Clean n why)) c.1)
+    by_answer (Err fault.NoOpen) c = by_report (Err fault.NoOpen) c
+    by_answer (Err fault.Read) c = c
+    by_answer (Err fault.Write) c = c
+    by_answer (Err (fault.BadHex n)) c = c
+    by_answer (Err (fault.Script n)) c = c
+    by_answer (Err fault.Net) c = c
+
 -- ---- octets of the first message
 
 -- where that waits, all were fed
@@ -79,7 +97,7 @@ module _ {Outcome : Type 0} (starts : Starts Outcome) where
   part_first : (s : List ℕ) → Waits s → first_message s ≡ None
   part_first s waits = rw (waits_part s waits) refl
 
-  pub total : (s : List ℕ) → AreOctets s → (r : Report) × ReportedFrom starts s r
+  total : (s : List ℕ) → AreOctets s → (r : Report) × ReportedFrom starts s r
   total s octets = by_first (first_message s)
     where
       by_text : (rules : Rules Outcome) (len : ℕ) (text : Option (List ℕ)) → (r : Report) × ReportedAs rules text len s r
@@ -99,6 +117,9 @@ module _ {Outcome : Type 0} (starts : Starts Outcome) where
       by_first : (o : Option Message) → (r : Report) × ReportedAt starts o s r
       by_first None = by_none (starts None)
       by_first (Some m) = by_start (length (octets_of m)) (starts (Some m))
+
+  pub first_total : (w : Walking Outcome) → IsCounting w → IsTotal (reports_in (starting starts stage.First w))
+  first_total w c later octets = let found = total (w.held ++ later) (AreOctets-append w.held later c.octets octets) in (found.0, λ are. found.1)
 
   -- ---- the first message is there
 
@@ -141,11 +162,17 @@ module _ {Outcome : Type 0} (starts : Starts Outcome) where
     unended : ended ≡ None
     unended = ap (λ (w : Walking Outcome). w.ended) fresh
 
-    from_front : Stops held → (later : List ℕ) (r : Report) → AreOctets later → reports_of held_walk later r → IsReport rules1 0 no_tally (held ++ later) r
-    from_front stops later r octets q =
-        let long = Stops-wanted held stops in
+    from_front : length held ≤ wanted held → (later : List ℕ) (r : Report) → AreOctets later → reports_of held_walk later r → IsReport rules1 0 no_tally (held ++ later) r
+    from_front within later r octets q =
         subst (λ (w : Walking Outcome). IsReport rules1 w.place w.tally (held ++ later) r) fresh
-        (reports_report held_walk later r unended (record { octets = c.octets; within = omega (arith, long.1) }) octets q)
+        (reports_report held_walk later r unended (record { octets = c.octets; within = within }) octets q)
+
+    -- a stream that ends with a first message that waits
+    pub closes_first : (t0 t1 : List ℕ) (answer : Result Tally ToolFault) → Waits held → starts None ≡ Some (record { rules = rules1; first = None }) → Closes (reports_of held_walk) t0 t1 answer
+        → Closes (reports_in (starting starts stage.First held_walk)) t0 t1 answer
+    closes_first t0 t1 answer waits e closes =
+        let none = part_first (held ++ []) (subst Waits (sym (append-nil held)) waits) in
+        closes_as _ _ t0 t1 answer (λ r q octets. without (held ++ []) none rules1 r e (from_front (omega (arith, waits)) [] r octets q)) closes
 
     module _ (told : List ℕ) (m : Message) (f : IsFrame m held) where
       pub settles_unagreed : (told1 : List ℕ) → (starts (Some m) ≡ None) × (told1 ≡ told) → Settles stage.Unagreed starts held told told1 held_walk
@@ -155,13 +182,14 @@ module _ {Outcome : Type 0} (starts : Starts Outcome) where
       settles_plain told1 b = record {
         lines = [];
         told = b.1 ∙ sym (append-nil told);
-        settles = (unended, counts_held, λ later r octets q. plain held m f later rules1 r b.0 (from_front (inl (m, f)) later r octets q));
+        settles = (unended, counts_held, λ later r octets q. plain held m f later rules1 r b.0 (from_front (let long = Stops-wanted held (inl (m, f)) in omega (arith, long.1)) later r octets q));
       }
 
       from_behind : (later : List ℕ) (r : Report) → AreOctets later → reports_of (handed_walk (length held)) later r → IsReport rules1 (length held) (counted no_tally (length held) class.Took) later r
       from_behind later r octets q =
-          subst (λ (w : Walking Outcome). IsReport rules1 (w.place + length held) (counted w.tally (length held) class.Took) later r) fresh
-          (reports_report (handed_walk (length held)) later r refl IsHeld_nil octets q)
+          subst (λ (n : ℕ). IsReport rules1 n (counted no_tally (length held) class.Took) later r) (let same : 0 + length held ≡ length held = omega arith in same)
+          (subst (λ (w : Walking Outcome). IsReport rules1 (w.place + length held) (counted w.tally (length held) class.Took) later r) fresh
+          (reports_report (handed_walk (length held)) later r refl IsHeld_nil octets q))
 
       pub settles_handed : (told1 : List ℕ) (len : ℕ) → len ≡ length held → ((text : List ℕ) × (starts (Some m) ≡ Some (record { rules = rules1; first = Some text })) × (told1 ≡ told ++ text))
           → Settles stage.Agreed starts held told told1 (handed_walk len)
@@ -190,7 +218,7 @@ module _ {Outcome : Type 0} (starts : Starts Outcome) where
       settles_fault b = record {
         lines = [];
         told = same ∙ sym (append-nil told);
-        settles = (unended, counts_held, λ later r octets q. without (held ++ later) (none_read later) rules1 r b (from_front (inr (size, (h, faulty))) later r octets q));
+        settles = (unended, counts_held, λ later r octets q. without (held ++ later) (none_read later) rules1 r b (from_front (let long = Stops-wanted held (inr (size, (h, faulty))) in omega (arith, long.1)) later r octets q));
       }
 
       pub settles_fault_unagreed : starts None ≡ None → Settles stage.Unagreed starts held told told1 held_walk
