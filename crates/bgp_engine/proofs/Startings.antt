@@ -34,7 +34,7 @@ use Rattle.bgp_engine.specs.Rules.{Rules, counted, report_of, IsReport}
 use Rattle.bgp_engine.specs.Run.{Answers, Io, Reports}
 use Rattle.bgp_engine.specs.Tally.{no_tally}
 use Rattle.bgp_engine.specs.steps.Cleaning.{clean_plan, page_rules, starts_for}
-use Rattle.bgp_engine.specs.steps.Engine.{Closes, ClosesBy, GoesOn, IsTotal, Rests, Takes}
+use Rattle.bgp_engine.specs.steps.Engine.{Closes, GoesOn, IsTotal, Rests, Takes}
 use Rattle.bgp_engine.specs.steps.Pages.{Plan}
 use Rattle.bgp_engine.specs.steps.Starting as steps
 use Rattle.bgp_engine.specs.steps.Starting.{SettlesOn, start_of, starts_of, IsFresh, Settles, reports_in, starting}
@@ -57,24 +57,6 @@ takes_behind a b d going t0 t1 t2 x y lines over told on p = record {
 pub on_err : {T E : Type 0} (r : Result T E) (P : Type 0) → P → OnErr r P
 on_err (Ok x) P p = tt
 on_err (Err e) P p = p
-
-closes_as : (a b : Reports) (t0 t1 : List ℕ) (answer : Result Tally ToolFault) → ((r : Report) → a [] r → b [] r) → Closes a t0 t1 answer → Closes b t0 t1 answer
-closes_as a b t0 t1 answer on closes = by_answer answer closes
-  where
-    by_report : (e : Result Tally ToolFault) → ClosesBy a t0 t1 e → ClosesBy b t0 t1 e
-    by_report e c = record { report = c.report; reported = on c.report c.reported; none = c.none; told = c.told; answers = c.answers }
-
-    by_answer : (e : Result Tally ToolFault) → Closes a t0 t1 e → Closes b t0 t1 e
-    by_answer (Ok tally) c = by_report (Ok tally) c
-    by_answer (Err fault.Memory) c = (c.0, on c.0 c.1, c.2)
-    by_answer (Err (fault.Narrow n)) c = by_report (Err (fault.Narrow n)) c
-    by_answer (Err (fault.Clean n why)) c = (c.0, by_report (Err (fault.Clean n why)) c.1)
-    by_answer (Err fault.NoOpen) c = by_report (Err fault.NoOpen) c
-    by_answer (Err fault.Read) c = c
-    by_answer (Err fault.Write) c = c
-    by_answer (Err (fault.BadHex n)) c = c
-    by_answer (Err (fault.Script n)) c = c
-    by_answer (Err fault.Net) c = c
 
 -- ---- octets of the first message
 
@@ -172,7 +154,8 @@ module _ {Outcome : Type 0} (starts : Starts Outcome) where
         → Closes (reports_in (starting starts stage.First held_walk)) t0 t1 answer
     closes_first t0 t1 answer waits e closes =
         let none = part_first (held ++ []) (subst Waits (sym (append-nil held)) waits) in
-        closes_as _ _ t0 t1 answer (λ r q octets. without (held ++ []) none rules1 r e (from_front (omega (arith, waits)) [] r octets q)) closes
+        let r = closes.report in
+        record { report = r; reported = λ octets. without (held ++ []) none rules1 r e (from_front (omega (arith, waits)) [] r octets closes.reported); none = closes.none; closes = closes.closes }
 
     module _ (told : List ℕ) (m : Message) (f : IsFrame m held) where
       pub settles_unagreed : (told1 : List ℕ) → (starts (Some m) ≡ None) × (told1 ≡ told) → Settles stage.Unagreed starts held told told1 held_walk
@@ -286,17 +269,16 @@ module _ {Outcome : Type 0} (starts : Starts Outcome) where
 
   -- ---- where a stream ends
 
-  pub closes_none : (w : Walking Outcome) (told : List ℕ) → Waits w.held → starts None ≡ None → ClosesBy (reports_in (starting starts stage.First w)) told told (Err fault.NoOpen)
+  pub closes_none : (w : Walking Outcome) (told : List ℕ) → Waits w.held → starts None ≡ None → Closes (reports_in (starting starts stage.First w)) told told (Err fault.NoOpen)
   closes_none w told waits e = record {
     report = unagreed (end.Wait (length w.held));
     reported = λ octets. subst (λ (x : List ℕ). ReportedFrom starts x (unagreed (end.Wait (length w.held)))) (sym (append-nil w.held)) (rw (part_first w.held waits, e, waits_part w.held waits) refl);
     none = refl;
-    told = sym (append-nil told);
-    answers = refl;
+    closes = (sym (append-nil told), refl);
   }
 
-pub closes_unagreed : {Outcome : Type 0} (starts : Starts Outcome) (w : Walking Outcome) (told : List ℕ) → ClosesBy (reports_in (starting starts stage.Unagreed w)) told told (Err fault.NoOpen)
-closes_unagreed starts w told = record { report = unagreed end.Reset; reported = refl; none = refl; told = sym (append-nil told); answers = refl }
+pub closes_unagreed : {Outcome : Type 0} (starts : Starts Outcome) (w : Walking Outcome) (told : List ℕ) → Closes (reports_in (starting starts stage.Unagreed w)) told told (Err fault.NoOpen)
+closes_unagreed starts w told = record { report = unagreed end.Reset; reported = refl; none = refl; closes = (sym (append-nil told), refl) }
 
 -- an engine's answer has no words
 pub wordless : (reports : Reports) (hex : Bool) (io : Io) (answer : Result Tally ToolFault) → Answers reports hex io answer → without_words answer ≡ answer

@@ -34,7 +34,7 @@ use Rattle.bgp_engine.specs.Rules.{Rules, messages_in, octets_at, counted, passe
 use Rattle.bgp_engine.specs.Run.{Reports}
 use Rattle.bgp_engine.specs.steps.Engine.{GoesOn, Rests, IsFinal, Takes, ClosesBy, Closes}
 use Rattle.bgp_engine.specs.steps.Pages.{Writes, WritesFault, IsAnswer, is_last}
-use Rattle.bgp_engine.specs.steps.Walking.{Walking, IsCounting, IsOverIf, IsReady, IsJudged, Hears, Moves, all_counts, closing, comes, end_by, ended_by, outcome, reported, reports_of, reset_if, room_of, walker, walking}
+use Rattle.bgp_engine.specs.steps.Walking.{Walking, IsCounting, IsReady, IsJudged, Hears, Moves, all_counts, closing, comes, end_by, ended_by, outcome, reported, reports_of, reset_if, room_of, walker, walking}
 
 pub is_hearer : {Outcome : Type 0} → IsHearer (walker {Outcome = Outcome})
 is_hearer = record { held_so = λ w held. refl; held_same = λ w. refl; held_last = λ w a b. refl; listens_so = λ w held. refl; emptied = λ w said. refl }
@@ -66,14 +66,6 @@ module _ {Outcome : Type 0} (rules : Rules Outcome) where
 
   reported_behind : (lines : List ℕ) (d : Done (Walking Outcome) ℕ) → reported (hearing.behind lines d) ≡ behind lines (reported d)
   reported_behind lines d = rw (append_assoc lines d.actions []) refl
-
-  report_waits : (place : ℕ) (tally : Tally) (s : List ℕ) → IsHeld s → Waits s → HasReport place tally s
-  report_waits place tally s can waits = record {
-    outcomes = [];
-    end_of = end.Wait (length s);
-    gives = gives_wait Outcome rules.judge s waits;
-    told = ap reported (hearings.front_by_octets walker is_hearer (front place tally) refl s nothing_waits can ∙ hearings.rests walker is_hearer (walking rules s place tally None) waits);
-  }
 
   module _ (place : ℕ) (tally : Tally) (held later : List ℕ) (can : IsHeld held) (what : Result Message HeadFault) (is : IsContent what held) where
     abbrev o : ℕ × Outcome
@@ -141,7 +133,10 @@ module _ {Outcome : Type 0} (rules : Rules Outcome) where
   reports_within zero s place tally lt octets = absurd (omega arith)
   reports_within (suc n) s place tally lt octets =
       elim (cases_lt (length s) (wanted s)) [
-        | inl waits ↦ report_waits place tally s (record { octets = octets; within = omega (arith, waits) }) waits
+        | inl waits ↦
+            let can : IsHeld s = record { octets = octets; within = omega (arith, waits) } in
+            let none = hearings.front_by_octets walker is_hearer (front place tally) refl s nothing_waits can ∙ hearings.rests walker is_hearer (walking rules s place tally None) waits in
+            record { outcomes = []; end_of = end.Wait (length s); gives = gives_wait Outcome rules.judge s waits; told = ap reported none }
         | inr long ↦
             let held : List ℕ = take (wanted s) s in
             let bounds = wanted-bounds s in
@@ -178,21 +173,17 @@ pub none_there : (o : Option End) → is_some o ≡ false → o ≡ None
 none_there None is = refl
 none_there (Some e) is = absurd cc
 
-is_over : (o : Option End) (n : ℕ) → is_some o ≡ true → IsOverIf o → IsOver (end_by o n)
-is_over None n ended over = absurd cc
-is_over (Some e) n ended over = over
-
-closes_by : (reports : Reports) (t0 t1 : List ℕ) (answer : Result Tally ToolFault) → IsAnswer answer → ClosesBy reports t0 t1 answer → Closes reports t0 t1 answer
-closes_by reports t0 t1 (Ok tally) is c = c
-closes_by reports t0 t1 (Err (fault.Narrow n)) is c = c
-closes_by reports t0 t1 (Err (fault.Clean n why)) is c = (is, c)
-closes_by reports t0 t1 (Err fault.NoOpen) is c = absurd is
-closes_by reports t0 t1 (Err fault.Memory) is c = absurd is
-closes_by reports t0 t1 (Err fault.Read) is c = absurd is
-closes_by reports t0 t1 (Err fault.Write) is c = absurd is
-closes_by reports t0 t1 (Err (fault.BadHex n)) is c = absurd is
-closes_by reports t0 t1 (Err (fault.Script n)) is c = absurd is
-closes_by reports t0 t1 (Err fault.Net) is c = absurd is
+closes_by : (report : Report) (t0 t1 : List ℕ) (answer : Result Tally ToolFault) → IsAnswer answer → t1 ≡ t0 ++ report.last → report.answer ≡ answer → ClosesBy report t0 t1 answer
+closes_by report t0 t1 (Ok tally) is told same = (told, same)
+closes_by report t0 t1 (Err (fault.Narrow n)) is told same = (told, same)
+closes_by report t0 t1 (Err (fault.Clean n why)) is told same = (is, told, same)
+closes_by report t0 t1 (Err fault.NoOpen) is told same = absurd is
+closes_by report t0 t1 (Err fault.Memory) is told same = absurd is
+closes_by report t0 t1 (Err fault.Read) is told same = absurd is
+closes_by report t0 t1 (Err fault.Write) is told same = absurd is
+closes_by report t0 t1 (Err (fault.BadHex n)) is told same = absurd is
+closes_by report t0 t1 (Err (fault.Script n)) is told same = absurd is
+closes_by report t0 t1 (Err fault.Net) is told same = absurd is
 
 module _ {Outcome : Type 0} where
   abbrev done : List ℕ → Walking Outcome → Done (Walking Outcome) ℕ
@@ -245,7 +236,7 @@ module _ {Outcome : Type 0} where
 
   module _ (w : Walking Outcome) (c : IsCounting w) where
     pub counting_ready : w.ended ≡ None → Waits w.held → IsReady w
-    counting_ready unended waits = record { waits = waits; counting = λ none. c; over = subst IsOverIf (sym unended) tt }
+    counting_ready unended waits = record { waits = waits; counting = λ none. c; over = λ ended. absurd (let not : false ≡ true = sym (ap is_some unended) ∙ ended in cc) }
 
     pub counts_on : (rules : Rules Outcome) (len : ℕ) (k : Class) → 1 < len → len ≤ length w.held → IsCounting (walking rules [] (w.place + len) (counted w.tally len k) None)
     counts_on rules len k some within =
@@ -253,15 +244,15 @@ module _ {Outcome : Type 0} where
 
     stands_by : (len : ℕ) (k : Class) → 1 < len → len ≤ length w.held → (resets : Bool)
         → Stands w (walking w.rules [] (w.place + (if resets then 0 else len)) (counted w.tally len k) (reset_if resets))
-    stands_by len k some within true = (omega arith, record { waits = nothing_waits; counting = λ none. absurd cc; over = tt })
-    stands_by len k some within false = (omega (arith, within), record { waits = nothing_waits; counting = λ none. counts_on w.rules len k some within; over = tt })
+    stands_by len k some within true = (omega arith, record { waits = nothing_waits; counting = λ none. absurd cc; over = λ ended. tt })
+    stands_by len k some within false = (omega (arith, within), record { waits = nothing_waits; counting = λ none. counts_on w.rules len k some within; over = λ ended. absurd cc })
 
     stands_judged : (what : Result Message HeadFault) → IsContent what w.held → Stands w (comes w what).1
     stands_judged (Ok m) f =
         let size = ap length f.octets in
         stands_by (length (octets_of m)) _ (omega (arith, size, length-IsFrame m w.held f)) (omega (arith, size)) (w.rules.judge.resets (w.rules.judge.of_message m))
     stands_judged (Err f) faulty =
-        (omega (arith, passed-bound (w.rules.judge.resets (w.rules.judge.of_fault f)) 0), record { waits = nothing_waits; counting = λ none. absurd cc; over = tt })
+        (omega (arith, passed-bound (w.rules.judge.resets (w.rules.judge.of_fault f)) 0), record { waits = nothing_waits; counting = λ none. absurd cc; over = λ ended. tt })
 
     judges_stand : (line : List ℕ) (new : Walking Outcome) → Judges walker w line new → Stands w new
     judges_stand line new j = subst (Stands w) (sym j.leaves) (stands_judged j.what j.is_held)
@@ -397,7 +388,7 @@ module _ {Outcome : Type 0} where
           report = closing new;
           reported = ap reported (sym (still []));
           none = refl;
-          over = λ r q. subst (λ (x : Report). IsOver x.end_of) (sym (q ∙ ap reported (still []))) (is_over new.ended (length new.held) ended p.ready.over);
+          over = λ r q. subst (λ (x : Report). IsOver x.end_of) (sym (q ∙ ap reported (still []))) (p.ready.over ended);
           always = λ later more r q. q ∙ ap reported (still later ∙ sym (still more));
         };
       }
@@ -410,20 +401,21 @@ module _ {Outcome : Type 0} where
 
   -- ---- where a stream ends
 
-  pub some_closing : (w : Walking Outcome) → IsReady w → (r : Report) × reports_of w [] r × (r.lines ≡ [])
-  some_closing w ready = (closing w, ap reported (sym (waits_still w ready.waits)), refl)
+  pub some_closing : (w : Walking Outcome) (t0 t1 : List ℕ) → IsReady w → Closes (reports_of w) t0 t1 (Err fault.Memory)
+  some_closing w t0 t1 ready = record { report = closing w; reported = ap reported (sym (waits_still w ready.waits)); none = refl; closes = tt }
 
   pub closes : (w : Walking Outcome) (e : End) (t0 t1 : List ℕ) (answer : Result Tally ToolFault) → IsReady w → end_by w.ended (length w.held) ≡ e → IsAnswer answer
       → t1 ≡ t0 ++ (w.rules.last (record w.tally { end = e }) ++ rest_of w.rules w.held e) → answer ≡ w.rules.answer (record w.tally { end = e }) w.place → Closes (reports_of w) t0 t1 answer
   closes w e t0 t1 answer ready ends is told same =
-      closes_by (reports_of w) t0 t1 answer is (record {
+      let stays : w.place + 0 ≡ w.place = omega arith in
+      let r = report_of w.rules w.place w.tally w.held [] in
+      let by = closes_by (r e) t0 t1 answer is told (ap (w.rules.answer (record w.tally { end = e })) stays ∙ sym same) in
+      record {
         report = closing w;
         reported = ap reported (sym (waits_still w ready.waits));
         none = refl;
-        told = told ∙ ap (λ (d : End). t0 ++ (w.rules.last (record w.tally { end = d }) ++ rest_of w.rules w.held d)) (sym ends);
-        answers = ap (w.rules.answer (record w.tally { end = end_by w.ended (length w.held) })) (let none : w.place + 0 ≡ w.place = omega arith in none)
-            ∙ ap (λ (d : End). w.rules.answer (record w.tally { end = d }) w.place) ends ∙ sym same;
-      })
+        closes = subst (λ (d : End). ClosesBy (r d) t0 t1 answer) (sym ends) by;
+      }
 
   -- ---- the front of a stream
 

@@ -1,5 +1,5 @@
 -- Steps of a walk over the messages of a stream, which is a hearer of octets.
-use Rattle.std.specs.Prelude.{◌≡◌, ℕ, ◌+◌, ◌-◌, ◌≤◌, ◌^◌, Bool, List, [], ◌++◌, length, is_none, Option, None, Some, Result, Ok, Err, if◌then◌else◌}
+use Rattle.std.specs.Prelude.{◌≡◌, ℕ, ◌+◌, ◌-◌, ◌≤◌, ◌^◌, Bool, true, List, [], ◌++◌, length, is_none, is_some, Option, None, Some, Result, Ok, Err, if◌then◌else◌}
 use Rattle.bgp_wire.specs.Octets.{AreOctets}
 use Rattle.bgp_frame.specs.declared.end.End.{End}
 use Rattle.bgp_frame.specs.declared.end.End.TheVariants as end
@@ -32,11 +32,6 @@ reset_if resets = if resets then Some end.Reset else None
 abbrev pub end_by : Option End → ℕ → End
 end_by None held = end.Wait held
 end_by (Some e) held = e
-
--- a stream that has ended goes no further
-abbrev pub IsOverIf : Option End → Type 0
-IsOverIf None = Unit {0}
-IsOverIf (Some e) = IsOver e
 
 module _ {Outcome : Type 0} where
   abbrev pub walking : Rules Outcome → List ℕ → ℕ → Tally → Option End → Walking Outcome
@@ -93,7 +88,7 @@ module _ {Outcome : Type 0} where
   pub record IsReady (w : Walking Outcome) : Type 0 where
     pub waits : Waits w.held
     pub counting : w.ended ≡ None → IsCounting w
-    pub over : IsOverIf w.ended
+    pub over : is_some w.ended ≡ true → IsOver (end_by w.ended (length w.held))
 
   -- how many octets more can be counted
   abbrev pub room_of : Walking Outcome → ℕ

@@ -23,9 +23,9 @@ returns-in-First g c =
 
 pub returns-in-First-2 : goal.returns-in-First-2
 returns-in-First-2 g c =
+    let page = g.P.Page in
     let self = c.args.self.now in
-    let w = self.walk in
-    let from = starts_of g.P.Page.fits g.P.Page.rules g.P.Page.plan (option_map (λ t. t.now) self.theirs) w.page in
-    let first = subst (λ (s : Stage). ReadyAt s (walk_of g.P.Page.rules w)) c.in-First-2.is c.requires in
-    rw c.in-First-2.is
-    (closes_first from _ _ _ _ _ _ first.counting first.fresh _ _ c.finish-in-First-2.result first.waits (known g.P.Page.fits g.P.Page.rules g.P.Page.plan self.theirs w.page (sym c.is_some.ensures ∙ c.if-is_some.false)) c.finish-in-First-2.ensures)
+    let from = starts_of page.fits page.rules page.plan (option_map (λ t. t.now) self.theirs) self.walk.page in
+    let first = subst (λ (s : Stage). ReadyAt s (walk_of page.rules self.walk)) c.in-First-2.is c.requires in
+    let plain = known page.fits page.rules page.plan self.theirs self.walk.page (sym c.is_some.ensures ∙ c.if-is_some.false) in
+    rw c.in-First-2.is (closes_first from _ _ _ _ _ _ first.counting first.fresh _ _ c.finish-in-First-2.result first.waits plain c.finish-in-First-2.ensures)

@@ -8,12 +8,12 @@ use Rattle.bgp_engine.proofs.walk.Walk.close_waiting.Goals as goal
 pub returns-in_err-last : goal.returns-in_err-last
 returns-in_err-last g c =
     let p = err_from_is_err_and c.from_residual.result c.from_residual.ensures.1 in
-    rw (p.1, p.2) (some_closing _ c.requires.ready)
+    rw (p.1, p.2) (some_closing _ _ _ c.requires.ready)
 
 pub returns-in_err-rest : goal.returns-in_err-rest
 returns-in_err-rest g c =
     let p = err_from_is_err_and c.from_residual-in_err-rest.result c.from_residual-in_err-rest.ensures.1 in
-    rw (p.1, p.2) (some_closing _ c.requires.ready)
+    rw (p.1, p.2) (some_closing _ _ _ c.requires.ready)
 
 pub returns : goal.returns
 returns g c =
