@@ -1,8 +1,8 @@
 -- A walk over the messages of a stream is a hearer of octets, and what it comes to octet by octet is the report of the stream.
-use Rattle.std.proofs.Common.{◌≡◌, ℕ, zero, suc, ◌+◌, ◌-◌, ◌<◌, ◌≤◌, ◌^◌, Bool, true, false, List, [], ◌∷◌, ◌++◌, length, take, drop, Option, Some, None, option_map, Result, Ok, Err, refl, sym, ap, subst, ◌∙◌, append_assoc, arith, inl, inr}
+use Rattle.std.proofs.Common.{◌≡◌, ℕ, zero, suc, ◌+◌, ◌<◌, ◌≤◌, ◌^◌, Bool, true, false, List, [], ◌∷◌, ◌++◌, length, take, drop, Option, Some, None, option_map, Result, Ok, Err, refl, sym, ap, subst, ◌∙◌, append_assoc, arith, inl, inr}
 use Rattle.std.specs.Prelude.{if◌then◌else◌, is_none, is_some, not}
 use Rattle.std.proofs.lemmas.List.{append-nil, length-append, length-drop, length-take, take-append-drop, drop-drop}
-use Rattle.std.proofs.lemmas.Bool.{cases_lt, eqb-true}
+use Rattle.std.proofs.lemmas.Bool.{cases_lt}
 use Rattle.std.proofs.Math.Dec.{eqb-suc-zero}
 use Rattle.std.proofs.Math.Seq.{take-append_seam, drop-append_seam}
 use Rattle.bgp_wire.specs.Octets.{AreOctets}
@@ -12,13 +12,12 @@ use Rattle.bgp_frame.specs.declared.end.End.TheVariants as end
 use Rattle.bgp_frame.specs.declared.fault.HeadFault.{HeadFault}
 use Rattle.bgp_frame.specs.Frame.{Message, octets_of, IsFrame, wanted, Waits}
 use Rattle.bgp_frame.specs.Framer.{IsHeld}
-use Rattle.bgp_frame.specs.Head.{head_of}
 use Rattle.bgp_frame.specs.Hearing.{Done, IsContent, Judges, PullsNext, IsFedAndJudged, behind_feed, by_feed, by_octets, done_by, left_to_do, given}
 use Rattle.bgp_frame.specs.Hearing as hearing
 use Rattle.bgp_frame.specs.Pull.{Pulls}
 use Rattle.bgp_frame.specs.Stream.{Gives}
 use Rattle.bgp_frame.specs.Takes.{Stops}
-use Rattle.bgp_frame.proofs.FrameLemmas.{head_of-append, length-IsFrame, wanted-append, wanted-bounds, wanted-Stops, Stops-wanted}
+use Rattle.bgp_frame.proofs.FrameLemmas.{head_of-append, length-IsFrame, wanted-append, wanted-bounds, wanted-Stops}
 use Rattle.bgp_frame.proofs.Hearings as hearings
 use Rattle.bgp_frame.proofs.Hearings.{IsHearer, content_is, content_stops, taken_up}
 use Rattle.bgp_frame.proofs.Pulls.{nothing_waits}
@@ -31,8 +30,7 @@ use Rattle.bgp_engine.specs.declared.fault.ToolFault.TheVariants as fault
 use Rattle.bgp_engine.specs.Tally.{no_tally}
 use Rattle.bgp_engine.specs.Report.{Report, behind, IsOver, IsWaiting}
 use Rattle.bgp_engine.specs.Rules.{Rules, messages_in, octets_at, counted, passed, total, rest_of, report_of, IsReport}
-use Rattle.bgp_engine.specs.Run.{Reports}
-use Rattle.bgp_engine.specs.steps.Engine.{GoesOn, Rests, IsFinal, Takes, ClosesBy, Closes}
+use Rattle.bgp_engine.specs.steps.Engine.{GoesOn, Rests, Takes, ClosesBy, Closes}
 use Rattle.bgp_engine.specs.steps.Pages.{Writes, WritesFault, IsAnswer, is_last}
 use Rattle.bgp_engine.specs.steps.Walking.{Walking, IsCounting, IsReady, IsJudged, Hears, Moves, all_counts, closing, comes, end_by, ended_by, outcome, reported, reports_of, reset_if, room_of, walker, walking}
 
@@ -206,8 +204,7 @@ module _ {Outcome : Type 0} where
         → IsJudged w (walking w.rules [] (w.place + (if is_last k then 0 else len)) (counted w.tally len k) (reset_if (is_last k))) t0 t1 octets (Some n)
     judges_message m len k f size writes =
         let o : Outcome = w.rules.judge.of_message m in
-        let count : len ≡ length (octets_of m) = size ∙ ap length f.octets in
-        (
+        let count : len ≡ length (octets_of m) = size ∙ ap length f.octets in (
           w.rules.line w.place (length (octets_of m)) pulled o,
           record {
             pulls = pulls;
@@ -220,8 +217,7 @@ module _ {Outcome : Type 0} where
         → IsJudged w (walking w.rules [] w.place (counted w.tally 0 class.Reset) (Some end.Head)) t0 t1 octets (Some n)
     judges_fault f faulty writes =
         let o : Outcome = w.rules.judge.of_fault f in
-        let stays : w.place ≡ w.place + passed w.rules (0, o) = omega (arith, passed-bound (w.rules.judge.resets o) 0) in
-        (
+        let stays : w.place ≡ w.place + passed w.rules (0, o) = omega (arith, passed-bound (w.rules.judge.resets o) 0) in (
           w.rules.line w.place 0 pulled o,
           record {
             pulls = pulls;

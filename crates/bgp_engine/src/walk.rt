@@ -76,7 +76,10 @@ impl<P: Page> Walk<P> {
         requires unended { self.old.ended ≡ None }
         requires some { 0 < len }
         ensures { self.new ≡ record self.old {
-            place = self.old.place + (if is_last class then 0 else len); tally = counted self.old.tally len class; ended = reset_if (is_last class) } }
+          place = self.old.place + (if is_last class then 0 else len);
+          tally = counted self.old.tally len class;
+          ended = reset_if (is_last class);
+        } }
     {
         self.tally.messages += 1;
         match class {

@@ -1,4 +1,4 @@
-use Rattle.std.proofs.Common.{◌≡◌, ◌++◌, option_map, arith, ap, length, take}
+use Rattle.std.proofs.Common.{◌≡◌, option_map, arith, ap, length, take}
 use Rattle.std.proofs.lemmas.List.{length-append, length-drop, length-take}
 use Rattle.std.proofs.lemmas.Result.{IfOk-weaker, err_from_is_err_and}
 use Rattle.bgp_engine.specs.steps.Starting.{starts_of}

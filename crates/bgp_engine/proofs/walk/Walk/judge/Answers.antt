@@ -1,4 +1,3 @@
-use Rattle.std.proofs.Common.{refl}
 use Rattle.bgp_engine.proofs.Walks.{judges_fault, judges_message}
 use Rattle.bgp_engine.proofs.walk.Walk.judge.Goals as goal
 
