@@ -1,5 +1,5 @@
 -- From a capability to those behind it.
-use Rattle.std.proofs.Common.{◌≡◌, ℕ, ◌+◌, ◌-◌, ◌≤◌, List, [], ◌∷◌, ◌++◌, length, get_or, take, drop, Some, None, refl, sym, ap, ap₂, subst, ◌∙◌, arith}
+use Rattle.std.proofs.Common.{◌≡◌, ℕ, ◌+◌, ◌-◌, ◌≤◌, List, [], ◌∷◌, ◌++◌, length, get_or, take, drop, Some, None, refl, sym, ap, ap₂, ◌∙◌, arith}
 use Rattle.std.proofs.lemmas.List.{drop-drop, drop-take}
 use Rattle.bgp_numbers.specs.declared.parameter.TheConstants.{CAPABILITIES}
 use Rattle.bgp_wire.specs.Reader.{pieces}
@@ -88,7 +88,7 @@ passes b old cs rest stop lies none e behind =
     let caps : (pieces one_capability row).0 ≡ cs = ap (λ (q : List Capability × List ℕ). q.0) (pieces-whole Capability IsCapability one_capability capability-reads cs row g.2.holds.spelled) in (
       record { in_order = omega (arith, here); before_end = omega (arith, behind); within = lies.within },
       ap₂ (λ (x y : List ℕ). (pieces one_capability x).0 ++ capabilities_of y) value after ∙ ap (λ (x : List Capability). x ++ capabilities_of rest) caps
-      ∙ sym (is_over (between b old.at old.stop) (capabilities_of later) (sym none) ∙ begins later rest cs e),
+          ∙ sym (is_over (between b old.at old.stop) (capabilities_of later) (sym none) ∙ begins later rest cs e),
     )
 
 -- nothing is left

@@ -41,7 +41,6 @@ pub use Rattle.core.proofs.option.Made.{Some-of, none_of}
 pub use Rattle.std.proofs.Common.{◌≡◌, List, [], ◌∷◌, ◌++◌, refl, sym, ap, ◌∙◌, subst, lit<}
 pub use Rattle.std.proofs.raw_atomic.Walks.{proved}
 pub use Rattle.std.specs.Prelude.{None, Some}
-pub use Rattle.std.specs.contracts.impls.GlobalAllocator.TheImpl.{ghosts}
 pub use Rattle.std_alloc.proofs.BoxSteps.Form.{D, word, box_typed, B, Bx, R, P, args, box_ty, τ}
 pub use Rattle.std_alloc.proofs.BoxSteps.Steps.{box_in, box_out}
 pub use Rattle.std_alloc.proofs.ResultValues.{and_tt}

@@ -51,7 +51,9 @@ impl SessionHandle {
         ensures { result.value ≡ Some parts.value }
     {
         let BoxParts { ptr, alloc: _ } = parts;
-        SessionHandle { body: ptr as *mut Body }
+        SessionHandle {
+            body: ptr as *mut Body,
+        }
     }
 
     /// What the box is made of, where there is one.
@@ -119,7 +121,9 @@ impl DecoderHandle {
         ensures { result.value ≡ Some parts.value }
     {
         let BoxParts { ptr, alloc: _ } = parts;
-        DecoderHandle { body: ptr as *mut Body }
+        DecoderHandle {
+            body: ptr as *mut Body,
+        }
     }
 
     /// What the box is made of, where there is one.
@@ -187,7 +191,9 @@ impl GuardHandle {
         ensures { result.value ≡ Some parts.value }
     {
         let BoxParts { ptr, alloc: _ } = parts;
-        GuardHandle { body: ptr as *mut Body }
+        GuardHandle {
+            body: ptr as *mut Body,
+        }
     }
 
     /// What the box is made of, where there is one.

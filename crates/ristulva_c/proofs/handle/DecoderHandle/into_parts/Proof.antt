@@ -1,5 +1,5 @@
 -- `into_parts` tests the pointer, and hands on what the handle owns.
-use Rattle.ristulva_c.proofs.Walks.{◌≡◌, List, [], ◌∷◌, ◌++◌, refl, sym, ap, ◌∙◌, subst, lit<, Ura, Val, vcons, vnil, SProp, ent, emp, id⊢, ftrue, fsep, Memory, Routine, WpFn, Tables, Logic, Fun, tables, tables_of, WpFn-mono, ‵, raw, ◌⊛◌, at_ret, ◌$◌, ◌∵◌, !, qed, move, keep, drop, use0, use1, join, split, fsplit, fjoin, suffices, done, live, whole, sub, agg, stop, fld, lit, bin, no_more, and_then, of_opd, first, branches, exec, returns, enter, alloc_all, pass_all, free_all, look_at, get, get_in, sets, sets_last, env, yes, layout, RattleType, Ptr, block_ptr, null_ptr, tests_null, type_at, nothing, triple_of, entered, says, Stays, stay_dropped, walk_of, ends_at, Goes-dropped, walk_Meets, handle_tells, after, Good, Some-of, none_of, None, Some, and_tt, D, word, box_typed, box_in, ghosts, Bx, plain, Slot}
+use Rattle.ristulva_c.proofs.Walks.{◌≡◌, List, [], ◌∷◌, ◌++◌, refl, sym, ap, ◌∙◌, subst, lit<, Ura, Val, vcons, vnil, SProp, ent, emp, id⊢, ftrue, fsep, Memory, Routine, WpFn, Tables, Logic, Fun, tables, tables_of, WpFn-mono, ‵, raw, ◌⊛◌, at_ret, ◌$◌, ◌∵◌, !, qed, move, keep, drop, use0, use1, join, split, fsplit, fjoin, suffices, done, live, whole, sub, agg, stop, fld, lit, bin, no_more, and_then, of_opd, first, branches, exec, returns, enter, alloc_all, pass_all, free_all, look_at, get, get_in, sets, sets_last, env, yes, layout, RattleType, Ptr, block_ptr, null_ptr, tests_null, type_at, nothing, triple_of, entered, says, Stays, stay_dropped, walk_of, ends_at, Goes-dropped, walk_Meets, handle_tells, after, Good, Some-of, none_of, None, Some, and_tt, D, word, box_typed, box_in, Bx, plain, Slot}
 use Rattle.bgp_msg.specs.contracts.decoder.Decoder.{the_row as Body}
 use Rattle.ristulva_c.specs.contracts.handle.DecoderHandle as handle
 use Rattle.bgp_msg.proofs.decoder.Decoder.TheLaws.{the_row_laws}
