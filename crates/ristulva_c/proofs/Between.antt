@@ -1,6 +1,6 @@
 -- The octets from one offset to another.
-use Rattle.std.proofs.Common.{◌≡◌, ℕ, ◌+◌, ◌-◌, ◌≤◌, List, ◌∷◌, length, take, drop, sym, ap, ◌∙◌, arith, length-drop}
-use Rattle.std.proofs.lemmas.List.{drop-take, drop-drop, length-take}
+use Rattle.std.proofs.Common.{◌≡◌, ℕ, ◌+◌, ◌-◌, ◌≤◌, List, ◌∷◌, ◌++◌, length, take, drop, sym, ap, ◌∙◌, arith, length-drop}
+use Rattle.std.proofs.lemmas.List.{drop-take, drop-drop, take-take, length-take, length-append, take_at, drop_at}
 use Rattle.bgp_prefix.specs.Prefix.{PrefixValue}
 use Rattle.bgp_prefix.specs.Run.{run_of}
 use Rattle.ristulva_c.specs.declared.prefixes.Prefixes.{Prefixes}
@@ -15,6 +15,20 @@ between_later b at n end first last =
     let whole : at + (n - at) ≡ n = omega arith in
     ap (λ (k : ℕ). drop (n - at) (take k (drop at b))) parts ∙ drop-take (n - at) (end - n) (drop at b)
     ∙ ap (take (end - n)) (drop-drop (n - at) at b ∙ ap (λ (k : ℕ). drop k b) whole)
+
+-- so many octets, and others behind them
+module _ (b : List ℕ) (at end n : ℕ) (front rest : List ℕ) (order : at ≤ end) (within : end ≤ length b) (long : length front ≡ n) (is : between b at end ≡ front ++ rest) where
+  pub fits : at + n + length rest ≡ end
+  fits = omega (arith, length_between b at end order within, ap length is, length-append front rest, long)
+
+  pub front_at : take n (drop at b) ≡ front
+  front_at = sym (take-take n (end - at) (drop at b) (omega (arith, fits))) ∙ ap (take n) is ∙ take_at front rest n long
+
+  pub later_at : between b (at + n) end ≡ rest
+  later_at =
+      sym (between_later b at (at + n) end (omega arith) (omega (arith, fits)))
+      ∙ ap (λ (k : ℕ). drop k (between b at end)) (let e : (at + n) - at ≡ n = omega arith in e)
+      ∙ ap (drop n) is ∙ drop_at front rest n long
 
 -- what is left behind a prefix, by the cursor
 pub left_behind : (b rest : List ℕ) (old new : Prefixes) (p : PrefixValue) → rest ≡ between b old.at old.end → new ≡ record old { at = new.at } → old.at ≤ new.at → new.at ≤ old.end

@@ -84,59 +84,6 @@ module _ (ctx : Context) (nlri : Bool) where
         or_right_true true = refl
         or_right_true false = refl
 
-    -- the first of the type is taken, or none is
-    this_taken : (x : Attr) (later : Option A) (v : A) → later ≡ None → option_or (option_or (as_value x) None) later ≡ Some v → Taken as_value as_attr kind x → x ≡ as_attr v
-    this_taken x later v none e (Is w is has same) =
-        let found : Some w ≡ Some v = sym (ap (λ (o : Option A). option_or (option_or o None) later) has) ∙ e in
-        is ∙ ap as_attr (let same : w ≡ v = cc in same)
-    this_taken x later v none e (Other nothing apart) =
-        absurd (let bad : None ≡ Some v = sym (ap (λ (o : Option A). option_or (option_or o None) later) nothing ∙ none) ∙ e in cc)
-
-    this_judged : (p : PlacedTlv) (ps : List PlacedTlv) (v : A) (j : Judged) (later : Option A) → judgement ctx nlri p.tlv ≡ j → later ≡ None → option_or (first_in as_value (kept_by j)) later ≡ Some v
-        → judgement ctx nlri p.tlv ≡ judged.Keep (as_attr v)
-    this_judged p ps v (judged.Keep x) later is none e = is ∙ ap (λ (y : Attr). judged.Keep y) (this_taken x later v none e (taken x))
-    this_judged p ps v (judged.Discard w) later is none e = absurd (let bad : None ≡ Some v = sym none ∙ e in cc)
-    this_judged p ps v (judged.Withdraw w) later is none e = absurd (let bad : None ≡ Some v = sym none ∙ e in cc)
-    this_judged p ps v (judged.Reset n) later is none e = absurd (let bad : None ≡ Some v = sym none ∙ e in cc)
-
-    first_by : (p : PlacedTlv) (ps : List PlacedTlv) (seen : ℕ → Bool) (v : A) (h : Bool) → eqb p.tlv.kind kind ≡ h → seen kind ≡ false
-        → first_in as_value (kept_of (marks_behind ctx nlri seen (p ∷ ps))) ≡ Some v
-        → ((also p.tlv.kind seen) kind ≡ false → first_in as_value (kept_of (marks_behind ctx nlri (also p.tlv.kind seen) ps)) ≡ Some v → IsFirst v ps) → IsFirst v (p ∷ ps)
-    first_by p ps seen v true e new has later =
-        let same : p.tlv.kind ≡ kind = eqb-true p.tlv.kind kind e in
-        let rest : List Attr = kept_of (marks_behind ctx nlri (also p.tlv.kind seen) ps) in
-        let split = sym (first_in-append as_value as_attr kind taken (kept_by (answer (seen p.tlv.kind) p)) rest) ∙ has in
-        let unseen : seen p.tlv.kind ≡ false = ap seen same ∙ new in
-        let here : option_or (first_in as_value (kept_by (judgement ctx nlri p.tlv))) (first_in as_value rest) ≡ Some v =
-        sym (ap (λ (s : Bool). option_or (first_in as_value (kept_by (answer s p))) (first_in as_value rest)) unseen) ∙ split in
-        record {
-          place = p;
-          first = ap (λ (b : Bool). cond b (Some p) (find (λ q. eqb q.tlv.kind kind) ps)) e;
-          keeps = this_judged p ps v (judgement ctx nlri p.tlv) (first_in as_value rest) refl
-              (later_none (also p.tlv.kind seen) ps (or_left (eqb kind p.tlv.kind) (seen kind) (eq-eqb kind p.tlv.kind (sym same)))) here;
-        }
-    first_by p ps seen v false e new has later =
-        let rest : List Attr = kept_of (marks_behind ctx nlri (also p.tlv.kind seen) ps) in
-        let split = sym (first_in-append as_value as_attr kind taken (kept_by (answer (seen p.tlv.kind) p)) rest) ∙ has in
-        let there : first_in as_value rest ≡ Some v =
-        sym (ap (λ (o : Option A). option_or o (first_in as_value rest)) (other_none p (seen p.tlv.kind) e)) ∙ split in
-        let found : IsFirst v ps = later (or_from (eqb kind p.tlv.kind) (seen kind) (eqb-swap kind p.tlv.kind ∙ e) new) there in
-        record {
-          place = found.place;
-          first = ap (λ (b : Bool). cond b (Some p) (find (λ q. eqb q.tlv.kind kind) ps)) e ∙ found.first;
-          keeps = found.keeps;
-        }
-
-    first_behind : (seen : ℕ → Bool) (ps : List PlacedTlv) (v : A) → seen kind ≡ false → first_in as_value (kept_of (marks_behind ctx nlri seen ps)) ≡ Some v → IsFirst v ps
-    first_behind seen [] v new has = absurd (let bad : None ≡ Some v = has in cc)
-    first_behind seen (p ∷ ps) v new has = first_by p ps seen v (eqb p.tlv.kind kind) refl new has (λ unseen more. first_behind (also p.tlv.kind seen) ps v unseen more)
-
-    pub first_kept : (field : List ℕ) (v : A) → first_in as_value (kept_of (field_marks ctx nlri field)) ≡ Some v → IsFirst v (placed_tlvs field)
-    unfolding field_marks
-    first_kept field v has =
-        first_behind none_of_them (placed_tlvs field) v refl
-        (sym (ap (first_in as_value) (with_cut-kept (marks_behind ctx nlri none_of_them (placed_tlvs field)) (length field - length (tlvs_of field).1) (tlvs_of field).1)) ∙ has)
-
     -- what the slot takes of it, and nothing where there is none of the type
     abbrev pub taken_of : Option PlacedTlv → Option A
     taken_of None = None
@@ -168,6 +115,24 @@ module _ (ctx : Context) (nlri : Bool) where
     slot_first field =
         ap (first_in as_value) (with_cut-kept (marks_behind ctx nlri none_of_them (placed_tlvs field)) (length field - length (tlvs_of field).1) (tlvs_of field).1)
         ∙ slot_behind none_of_them (placed_tlvs field) refl
+
+    -- what is taken of it is its value
+    this_taken : (x : Attr) (v : A) → option_or (as_value x) None ≡ Some v → Taken as_value as_attr kind x → x ≡ as_attr v
+    this_taken x v e (Is w is has same) =
+        let found : Some w ≡ Some v = sym (ap (λ (o : Option A). option_or o None) has) ∙ e in
+        is ∙ ap as_attr (let same : w ≡ v = cc in same)
+    this_taken x v e (Other nothing apart) = absurd (let bad : None ≡ Some v = sym (ap (λ (o : Option A). option_or o None) nothing) ∙ e in cc)
+
+    this_judged : (p : PlacedTlv) (v : A) (j : Judged) → judgement ctx nlri p.tlv ≡ j → first_in as_value (kept_by j) ≡ Some v → judgement ctx nlri p.tlv ≡ judged.Keep (as_attr v)
+    this_judged p v (judged.Keep x) is e = is ∙ ap (λ (y : Attr). judged.Keep y) (this_taken x v e (taken x))
+    this_judged p v j is e = absurd cc
+
+    first_of : (ps : List PlacedTlv) (v : A) (o : Option PlacedTlv) → find (λ q. eqb q.tlv.kind kind) ps ≡ o → taken_of o ≡ Some v → IsFirst v ps
+    first_of ps v None is e = absurd cc
+    first_of ps v (Some q) is e = record { place = q; first = is; keeps = this_judged q v (judgement ctx nlri q.tlv) refl e }
+
+    pub first_kept : (field : List ℕ) (v : A) → first_in as_value (kept_of (field_marks ctx nlri field)) ≡ Some v → IsFirst v (placed_tlvs field)
+    first_kept field v has = first_of (placed_tlvs field) v (find (λ q. eqb q.tlv.kind kind) (placed_tlvs field)) refl (sym (slot_first field) ∙ has)
 
     -- what a judgement keeps is the value of the type's row
     pub row_value : (q : PlacedTlv) (v : A) → q.tlv.kind ≡ kind → judgement ctx nlri q.tlv ≡ judged.Keep (as_attr v) → (row_at ctx nlri q.tlv kind).value ≡ as_attr v

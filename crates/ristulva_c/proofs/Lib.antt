@@ -16,9 +16,8 @@ pub mod NoteSteps
 pub mod NoteCounts
 pub mod CapabilitySteps
 pub mod OpenPlaces
+pub mod Walks
 pub mod Handles
-pub mod DecoderHandles
-pub mod GuardHandles
 pub mod Passing
 pub mod RisingSteps
 pub mod Pulled
