@@ -9,8 +9,8 @@ use Rattle.bgp_attr.specs.declared.ruling.Ruling.{Ruling}
 use Rattle.bgp_attr.specs.declared.ruling.Ruling.TheVariants as ruling
 
 -- a reset of code 3 by an attribute of these octets: a malformed list has no information
-abbrev pub reset_by : ℕ → List ℕ → Notification
-reset_by subcode whole =
+abbrev pub attribute_reset : ℕ → List ℕ → Notification
+attribute_reset subcode whole =
     record { code = UPDATE_MESSAGE; subcode = subcode; info = record { items = if subcode == MALFORMED_ATTRIBUTE_LIST then [] else whole } }
 
 -- the judgement of an attribute that has these octets and this value
@@ -18,7 +18,7 @@ abbrev pub ruled : Ruling → List ℕ → Attr → Judged
 ruled ruling.Keep whole a = judged.Keep a
 ruled (ruling.Discard w) whole a = judged.Discard w
 ruled (ruling.Withdraw w) whole a = judged.Withdraw w
-ruled (ruling.Reset subcode) whole a = judged.Reset (reset_by subcode whole)
+ruled (ruling.Reset subcode) whole a = judged.Reset (attribute_reset subcode whole)
 
 -- the attribute is kept
 abbrev pub keeps : Ruling → Bool

@@ -17,7 +17,7 @@ use crate::judge_path::{rule_as_path, rule_as4_path};
 use crate::judged::Judged;
 use crate::judged_view::JudgedView;
 use crate::kept_value::kept_attr;
-use crate::ruling::{Ruling, reset_by};
+use crate::ruling::{Ruling, attribute_reset};
 use crate::tlv::Tlv;
 use bgp_numbers::attribute;
 use bgp_open::Context;
@@ -66,7 +66,7 @@ pub fn with_value<'a>(
         Ruling::Keep => FoundAttr::Keep(kept_attr(ctx, has_nlri, tlv.kind, tlv)),
         Ruling::Discard(why) => FoundAttr::Discard(why),
         Ruling::Withdraw(why) => FoundAttr::Withdraw(why),
-        Ruling::Reset(subcode) => FoundAttr::Reset(reset_by(subcode, tlv.whole)),
+        Ruling::Reset(subcode) => FoundAttr::Reset(attribute_reset(subcode, tlv.whole)),
     }
 }
 

@@ -77,7 +77,7 @@ pub use opaque::Opaque;
 pub use origin::Origin;
 pub use path::{As4Path, AsPath, SegKind, Segment};
 pub use path_view::{PathView, SegmentIter, SegmentView};
-pub use ruling::{Ruling, reset_by};
+pub use ruling::{Ruling, attribute_reset};
 pub use tlv::{Tail, Tlv};
 pub use tlv_iter::TlvIter;
 pub use unwritable::Unwritable;

@@ -2,7 +2,7 @@
 
 ghost use Rattle.std.specs.Prelude.{◌≡◌, ◌≤◌, length};
 ghost use Rattle.bgp_frame.specs.Notification.{notification_of_view};
-ghost use Rattle.bgp_attr.specs.Ruling.{reset_by};
+ghost use Rattle.bgp_attr.specs.Ruling.{attribute_reset};
 
 use crate::why::Why;
 use bgp_frame::NotificationView;
@@ -17,16 +17,16 @@ pub enum Ruling {
     Discard(Why),
     /// Its message is treated as a withdrawal (treat-as-withdraw).
     Withdraw(Why),
-    /// The session ends with a notification of code 3 and this subcode ([`reset_by`]).
+    /// The session ends with a notification of code 3 and this subcode ([`attribute_reset`]).
     Reset(u8),
 }
 
 /// The reset of code 3 and this subcode by an attribute, with the whole attribute as it was received; a malformed list of attributes has no information
 /// (RFC 4271, section 6.3).
 #[inline(never)]
-pub fn reset_by(subcode: u8, whole: &[u8]) -> NotificationView<'_>
+pub fn attribute_reset(subcode: u8, whole: &[u8]) -> NotificationView<'_>
     requires { length whole.now ≤ 4075 }
-    ensures { notification_of_view result ≡ reset_by subcode whole.now }
+    ensures { notification_of_view result ≡ attribute_reset subcode whole.now }
 {
     let info = if subcode == MALFORMED_ATTRIBUTE_LIST { &[] } else { whole };
     NotificationView {

@@ -7,7 +7,7 @@ ghost use Rattle.bgp_attr.specs.declared.attr.Attr.{Attr};
 ghost use Rattle.bgp_frame.specs.Notification.{notification_of_view};
 ghost use Rattle.bgp_update.specs.Marks.{malformed, carries_routes, repeated, cut_kind, cut};
 
-use bgp_attr::{FoundAttr, Ruling, Why, reset_by};
+use bgp_attr::{FoundAttr, Ruling, Why, attribute_reset};
 use bgp_frame::NotificationView;
 use bgp_numbers::attribute::{MP_REACH_NLRI, MP_UNREACH_NLRI};
 use bgp_numbers::error::{MALFORMED_ATTRIBUTE_LIST, UPDATE_MESSAGE};
@@ -70,6 +70,6 @@ pub(crate) fn unkept<'a>(ruling: Ruling) -> FoundAttr<'a>
         Ruling::Keep => unreachable!(),
         Ruling::Discard(why) => FoundAttr::Discard(why),
         Ruling::Withdraw(why) => FoundAttr::Withdraw(why),
-        Ruling::Reset(subcode) => FoundAttr::Reset(reset_by(subcode, &[])),
+        Ruling::Reset(subcode) => FoundAttr::Reset(attribute_reset(subcode, &[])),
     }
 }

@@ -14,7 +14,7 @@ ghost use Rattle.bgp_update.specs.Summary.{is_noted, summary_value, summary_behi
 
 use crate::kept_view::KeptView;
 use crate::mark::MarkIter;
-use bgp_attr::{Ruling, Tlv, reset_by};
+use bgp_attr::{Ruling, Tlv, attribute_reset};
 use bgp_frame::NotificationView;
 use bgp_open::Context;
 use bgp_wire::OctetSet;
@@ -69,7 +69,7 @@ impl<'a> Summary<'a> {
                 self.notes = true;
                 self.withdraws = true;
             }
-            Ruling::Reset(subcode) => self.reset = self.reset.or(Some(reset_by(subcode, whole))),
+            Ruling::Reset(subcode) => self.reset = self.reset.or(Some(attribute_reset(subcode, whole))),
         }
     }
 
