@@ -52,12 +52,7 @@ pub fn rule(ctx: &Context, has_nlri: bool, tlv: &Tlv<'_>) -> Ruling
 
 /// A ruling on an attribute, with its value where it is kept: [`rule`] has to keep it then.
 #[inline(always)]
-pub fn with_value<'a>(
-    ctx: &Context,
-    has_nlri: bool,
-    tlv: &Tlv<'a>,
-    ruling: Ruling,
-) -> FoundAttr<'a>
+pub fn with_value<'a>(ctx: &Context, has_nlri: bool, tlv: &Tlv<'a>, ruling: Ruling) -> FoundAttr<'a>
     requires short { length tlv.now.whole.now ≤ 4075 }
     requires kept { keeps ruling ≡ true → IsTrue (is_kept (judgement ctx.now has_nlri (tlv_value tlv.now))) }
     ensures { found_attr_value result ≡ ruled ruling tlv.now.whole.now (type_row ctx.now has_nlri (tlv_value tlv.now)).value }

@@ -28,7 +28,11 @@ pub fn attribute_reset(subcode: u8, whole: &[u8]) -> NotificationView<'_>
     requires { length whole.now ≤ 4075 }
     ensures { notification_of_view result ≡ attribute_reset subcode whole.now }
 {
-    let info = if subcode == MALFORMED_ATTRIBUTE_LIST { &[] } else { whole };
+    let info = if subcode == MALFORMED_ATTRIBUTE_LIST {
+        &[]
+    } else {
+        whole
+    };
     NotificationView {
         code: UPDATE_MESSAGE,
         subcode,

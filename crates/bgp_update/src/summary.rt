@@ -69,7 +69,10 @@ impl<'a> Summary<'a> {
                 self.notes = true;
                 self.withdraws = true;
             }
-            Ruling::Reset(subcode) => self.reset = self.reset.or(Some(attribute_reset(subcode, whole))),
+            Ruling::Reset(subcode) => {
+                let reset = attribute_reset(subcode, whole);
+                self.reset = self.reset.or(Some(reset));
+            }
         }
     }
 
