@@ -109,6 +109,7 @@ fn reach_of<'a>(family: Family, value: &'a [u8]) -> MpReachView<'a>
 }
 
 /// MP_REACH_NLRI (RFC 7606, section 7.11; RFC 4760, section 7).
+#[inline(always)]
 pub(crate) fn rule_mp_reach(ctx: &Context, tlv: &Tlv<'_>) -> Ruling
     ensures { (a : Attr) → ruled result tlv.now.whole.now a ≡ decided (mp_reach_tests ctx.now (tlv_value tlv.now)) a }
 {
@@ -164,6 +165,7 @@ fn unreach_of<'a>(family: Family, value: &'a [u8]) -> MpUnreachView<'a>
 }
 
 /// MP_UNREACH_NLRI (RFC 7606, section 7.12; RFC 4760, section 7).
+#[inline(always)]
 pub(crate) fn rule_mp_unreach(ctx: &Context, tlv: &Tlv<'_>) -> Ruling
     ensures { (a : Attr) → ruled result tlv.now.whole.now a ≡ decided (mp_unreach_tests ctx.now (tlv_value tlv.now)) a }
 {
