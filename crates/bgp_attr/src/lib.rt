@@ -72,7 +72,7 @@ pub use large_iter::LargeCommIter;
 pub use large_view::first_new_triple;
 pub use mp::{MpReach, MpUnreach};
 pub use mp_view::{MpReachView, MpUnreachView};
-pub use numbers::{AsNumberIter, CommIter};
+pub use numbers::{AsNumberIter, CommIter, first_number};
 pub use opaque::Opaque;
 pub use origin::Origin;
 pub use path::{As4Path, AsPath, SegKind, Segment};
