@@ -1,6 +1,5 @@
 -- From a capability to those behind it.
 use Rattle.std.proofs.Common.{◌≡◌, ℕ, ◌+◌, ◌-◌, ◌≤◌, List, [], ◌∷◌, ◌++◌, length, get_or, take, drop, Some, None, refl, sym, ap, ap₂, ◌∙◌, arith}
-use Rattle.std.proofs.lemmas.List.{drop-drop, drop-take}
 use Rattle.bgp_numbers.specs.declared.parameter.TheConstants.{CAPABILITIES}
 use Rattle.bgp_wire.specs.Reader.{pieces}
 use Rattle.bgp_wire.proofs.Behinds.{pieces-whole}
@@ -15,15 +14,7 @@ use Rattle.ristulva_c.specs.declared.capabilities.Capabilities.{Capabilities}
 use Rattle.ristulva_c.specs.declared.capabilities.OpenCapability.{OpenCapability}
 use Rattle.ristulva_c.specs.Capabilities.{IsCapabilities, capabilities_left, IsGiven}
 use Rattle.ristulva_c.specs.Prefixes.{between}
-use Rattle.ristulva_c.proofs.Between.{fits, front_at, later_at}
-
--- two octets stand in front of a value, and others behind it
-module _ (b : List ℕ) (at end code : ℕ) (value rest : List ℕ) (order : at ≤ end) (within : end ≤ length b)
-    (is : between b at end ≡ (code ∷ length value ∷ value) ++ rest) where
-  value_at : take (length value) (drop (at + 2) b) ≡ value
-  value_at =
-      ap (take (length value)) (sym (drop-drop 2 at b)) ∙ sym (drop-take 2 (length value) (drop at b))
-      ∙ ap (drop 2) (front_at b at end (2 + length value) (code ∷ length value ∷ value) rest order within (omega arith) is)
+use Rattle.ristulva_c.proofs.Between.{fits, front_at, later_at, value_at}
 
 pub begun_fits : (b : List ℕ) (old : Capabilities) (c : Capability) (rest : List ℕ) → IsCapabilities b old → Some (c, rest) ≡ one_capability (between b old.at old.stop)
     → old.at + 2 + length rest ≤ old.stop
@@ -51,7 +42,7 @@ given b old c rest at lies e behind =
     let is : front ≡ (p.code ∷ length v ∷ v) ++ rest = g.1 ∙ ap (λ (x : List ℕ). x ++ rest) p.octets in
     let here : at ≡ old.at + n = omega (arith, fits b old.at old.stop n (p.code ∷ length v ∷ v) rest lies.in_order within (omega arith) is, behind) in
     let long : at - (old.at + 2) ≡ length v = omega (arith, here) in
-    let value : take (at - (old.at + 2)) (drop (old.at + 2) b) ≡ v = ap (λ (k : ℕ). take k (drop (old.at + 2) b)) long ∙ value_at b old.at old.stop p.code v rest lies.in_order within is in
+    let value : take (at - (old.at + 2)) (drop (old.at + 2) b) ≡ v = ap (λ (k : ℕ). take k (drop (old.at + 2) b)) long ∙ value_at b old.at old.stop (p.code ∷ length v ∷ []) v rest lies.in_order within is in
     let code : get_or front 0 0 ≡ p.code = ap (λ (x : List ℕ). get_or x 0 0) is in
     let later : between b at old.stop ≡ rest = ap (λ (k : ℕ). between b k old.stop) here ∙ later_at b old.at old.stop n (p.code ∷ length v ∷ v) rest lies.in_order within (omega arith) is in
     let start : old.at + 2 - 2 ≡ old.at = omega arith in
@@ -83,7 +74,7 @@ passes b old cs rest stop lies none e behind =
     let here : stop ≡ old.stop + n = omega (arith, fits b old.stop old.end n front rest lies.before_end lies.within (omega arith) is, behind) in
     let value : between b (old.stop + 2) stop ≡ row =
     ap (λ (k : ℕ). take k (drop (old.stop + 2) b)) (let l : stop - (old.stop + 2) ≡ length row = omega (arith, here) in l)
-    ∙ value_at b old.stop old.end CAPABILITIES row rest lies.before_end lies.within is in
+    ∙ value_at b old.stop old.end (CAPABILITIES ∷ length row ∷ []) row rest lies.before_end lies.within is in
     let after : between b stop old.end ≡ rest = ap (λ (k : ℕ). between b k old.end) here ∙ later_at b old.stop old.end n front rest lies.before_end lies.within (omega arith) is in
     let caps : (pieces one_capability row).0 ≡ cs = ap (λ (q : List Capability × List ℕ). q.0) (pieces-whole Capability IsCapability one_capability capability-reads cs row g.2.holds.spelled) in (
       record { in_order = omega (arith, here); before_end = omega (arith, behind); within = lies.within },

@@ -3,7 +3,7 @@ use Rattle.std.proofs.Common.{◌≡◌, ℕ, ◌-◌, Bool, true, false, ◌||�
 use Rattle.std.specs.List.{find}
 use Rattle.std.specs.Option.{option_or}
 use Rattle.std.proofs.lemmas.Bool.{eqb-true, eqb-false, eq-eqb, or_from, or_left}
-use Rattle.bgp_numbers.specs.declared.attribute.TheConstants.{AS_PATH, COMMUNITIES, AS4_PATH, LARGE_COMMUNITY}
+use Rattle.bgp_numbers.specs.declared.attribute.TheConstants.{AS_PATH, COMMUNITIES, MP_REACH_NLRI, MP_UNREACH_NLRI, AS4_PATH, LARGE_COMMUNITY}
 use Rattle.bgp_wire.specs.OctetSet.{also, none_of_them}
 use Rattle.bgp_open.specs.declared.context.Context.{Context}
 use Rattle.bgp_attr.specs.declared.attr.Attr.{Attr}
@@ -12,10 +12,13 @@ use Rattle.bgp_attr.specs.declared.communities.Communities.{Communities}
 use Rattle.bgp_attr.specs.declared.communities.LargeCommunities.{LargeCommunities}
 use Rattle.bgp_attr.specs.declared.judged.Judged.{Judged}
 use Rattle.bgp_attr.specs.declared.judged.Judged.TheVariants as judged
+use Rattle.bgp_attr.specs.declared.mp.MpReach.{MpReach}
+use Rattle.bgp_attr.specs.declared.mp.MpUnreach.{MpUnreach}
 use Rattle.bgp_attr.specs.declared.path.As4Path.{As4Path}
 use Rattle.bgp_attr.specs.declared.path.AsPath.{AsPath}
 use Rattle.bgp_attr.specs.declared.why.Why.TheVariants as why
 use Rattle.bgp_attr.specs.Judgement.{AttributeType, judgement}
+use Rattle.bgp_attr.specs.Mp.{mp_reach_of, mp_unreach_of}
 use Rattle.bgp_attr.specs.Path.{path_of}
 use Rattle.bgp_attr.specs.Tlv.{PlacedTlv, tlvs_of}
 use Rattle.bgp_attr.specs.Value.{as_path_form, as4_path_of, communities_of, large_of}
@@ -23,12 +26,12 @@ use Rattle.bgp_attr.specs.Written.{type_of}
 use Rattle.bgp_attr.proofs.TestRows.{kept-value, row-at, row_at}
 use Rattle.bgp_update.specs.Marks.{malformed, carries_routes, repeated, marks_behind, placed_tlvs, field_marks, marks_of}
 use Rattle.bgp_update.specs.Parts.{Parts, has_nlri}
-use Rattle.bgp_update.specs.Taken.{kept_by, kept_of, attrs_of, as_as_path, as_communities, as_as4_path, as_large}
+use Rattle.bgp_update.specs.Taken.{kept_by, kept_of, attrs_of, as_as_path, as_communities, as_mp_reach, as_mp_unreach, as_as4_path, as_large}
 use Rattle.bgp_update.proofs.AttrSlots.{attrs_of-slots}
 use Rattle.bgp_update.proofs.KeptMarks.{keep-type, with_cut-kept}
 use Rattle.bgp_update.proofs.Options.{option_or-none}
 use Rattle.bgp_update.proofs.Lists.{eqb-swap, find-passes}
-use Rattle.bgp_update.proofs.TypeLemmas.{first_in, Taken, Is, Other, first_in-append, taken-as_path, taken-communities, taken-as4_path, taken-large}
+use Rattle.bgp_update.proofs.TypeLemmas.{first_in, Taken, Is, Other, first_in-append, taken-as_path, taken-communities, taken-mp_reach, taken-mp_unreach, taken-as4_path, taken-large}
 use Rattle.ristulva_c.specs.Places.{first_of_type}
 
 repeated-by : (b : Bool) → kept_by (cond b (judged.Reset malformed) (judged.Discard why.Repeated)) ≡ []
@@ -180,4 +183,16 @@ module _ (ctx : Context) (p : Parts) where
   large_first r is =
       let f = first_kept ctx (has_nlri p) as_large (λ (x : LargeCommunities). attr.Large x) LARGE_COMMUNITY taken-large p.attributes r (sym (ap (λ a. a.large) (attrs_of-slots kept)) ∙ is) in
       let same : attr.Large (large_of f.place.tlv) ≡ attr.Large r = value_is ctx (has_nlri p) as_large (λ (x : LargeCommunities). attr.Large x) LARGE_COMMUNITY taken-large r (placed_tlvs p.attributes) f in
+      record { place = f.place; first = f.first; holds = cc }
+
+  pub reach_first : (r : MpReach) → (attrs_of kept).mp_reach ≡ Some r → Holds MP_REACH_NLRI p (λ q. r ≡ mp_reach_of q.tlv.value)
+  reach_first r is =
+      let f = first_kept ctx (has_nlri p) as_mp_reach (λ (x : MpReach). attr.MpReach x) MP_REACH_NLRI taken-mp_reach p.attributes r (sym (ap (λ a. a.mp_reach) (attrs_of-slots kept)) ∙ is) in
+      let same : attr.MpReach (mp_reach_of f.place.tlv.value) ≡ attr.MpReach r = value_is ctx (has_nlri p) as_mp_reach (λ (x : MpReach). attr.MpReach x) MP_REACH_NLRI taken-mp_reach r (placed_tlvs p.attributes) f in
+      record { place = f.place; first = f.first; holds = cc }
+
+  pub unreach_first : (r : MpUnreach) → (attrs_of kept).mp_unreach ≡ Some r → Holds MP_UNREACH_NLRI p (λ q. r ≡ mp_unreach_of q.tlv.value)
+  unreach_first r is =
+      let f = first_kept ctx (has_nlri p) as_mp_unreach (λ (x : MpUnreach). attr.MpUnreach x) MP_UNREACH_NLRI taken-mp_unreach p.attributes r (sym (ap (λ a. a.mp_unreach) (attrs_of-slots kept)) ∙ is) in
+      let same : attr.MpUnreach (mp_unreach_of f.place.tlv.value) ≡ attr.MpUnreach r = value_is ctx (has_nlri p) as_mp_unreach (λ (x : MpUnreach). attr.MpUnreach x) MP_UNREACH_NLRI taken-mp_unreach r (placed_tlvs p.attributes) f in
       record { place = f.place; first = f.first; holds = cc }

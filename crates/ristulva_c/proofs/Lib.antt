@@ -1,6 +1,5 @@
 -- Lemmas on what is told in numbers.
 pub mod Wanted
-pub mod Steps
 pub mod PrefixSteps
 pub mod Between
 pub mod TlvSteps

@@ -1,4 +1,4 @@
-use Rattle.std.proofs.Common.{◌-◌, arith}
+use Rattle.std.proofs.Common.{arith}
 use Rattle.ristulva_c.proofs.CapabilitySteps.{begun_fits, given}
 use Rattle.ristulva_c.proofs.capabilities.begun.Goals as goal
 

@@ -1,4 +1,4 @@
-use Rattle.std.proofs.Common.{◌≡◌, ◌-◌, None, sym, ap, subst, ◌∙◌, arith}
+use Rattle.std.proofs.Common.{◌≡◌, None, sym, ap, subst, ◌∙◌, arith}
 use Rattle.bgp_open.specs.Capability.{one_capability}
 use Rattle.bgp_open.specs.Parameter.{one_parameter}
 use Rattle.ristulva_c.specs.declared.capabilities.Capabilities.{Capabilities}
