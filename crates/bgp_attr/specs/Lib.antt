@@ -12,6 +12,7 @@ pub mod Written
 pub mod NumberIter
 pub mod TlvView
 pub mod TlvIter
+pub mod SegmentView
 pub mod PathView
 pub mod LargeStep
 pub mod LargeIter

@@ -45,8 +45,8 @@ pub fn aggregator_in(wide: bool, tlv: &Tlv<'_>) -> Aggregator
 }
 
 /// An AS number, of four octets where `wide`, else of two, and an address.
-fn rule_by_width<'a>(wide: bool, tlv: &Tlv<'a>) -> Ruling<'a>
-    ensures { (a : Attr) → ruled result a ≡ decided (aggregator_tests wide (tlv_value tlv.now)) a }
+fn rule_by_width(wide: bool, tlv: &Tlv<'_>) -> Ruling
+    ensures { (a : Attr) → ruled result tlv.now.whole.now a ≡ decided (aggregator_tests wide (tlv_value tlv.now)) a }
 {
     if !tlv.flags.has_class(Class::OptionalTransitive) {
         return Ruling::Withdraw(Why::Flags);
@@ -63,15 +63,15 @@ fn rule_by_width<'a>(wide: bool, tlv: &Tlv<'a>) -> Ruling<'a>
 }
 
 /// AGGREGATOR (RFC 7606, section 7.7; RFC 7607, section 2).
-pub(crate) fn rule_aggregator<'a>(ctx: &Context, tlv: &Tlv<'a>) -> Ruling<'a>
-    ensures { (a : Attr) → ruled result a ≡ decided (aggregator_tests ctx.now.as4 (tlv_value tlv.now)) a }
+pub(crate) fn rule_aggregator(ctx: &Context, tlv: &Tlv<'_>) -> Ruling
+    ensures { (a : Attr) → ruled result tlv.now.whole.now a ≡ decided (aggregator_tests ctx.now.as4 (tlv_value tlv.now)) a }
 {
     rule_by_width(ctx.as4, tlv)
 }
 
 /// AS4_AGGREGATOR (RFC 6793, sections 4.1 and 6; RFC 7607, section 2).
-pub(crate) fn rule_as4_aggregator<'a>(ctx: &Context, tlv: &Tlv<'a>) -> Ruling<'a>
-    ensures { (a : Attr) → ruled result a ≡ decided (as4_aggregator_tests ctx.now (tlv_value tlv.now)) a }
+pub(crate) fn rule_as4_aggregator(ctx: &Context, tlv: &Tlv<'_>) -> Ruling
+    ensures { (a : Attr) → ruled result tlv.now.whole.now a ≡ decided (as4_aggregator_tests ctx.now (tlv_value tlv.now)) a }
 {
     if ctx.as4 {
         return Ruling::Discard(Why::FourOctet);

@@ -14,15 +14,14 @@ use crate::class::Class;
 use crate::communities_view::{CommunitiesView, LargeView};
 use crate::large_iter::LargeCommIter;
 use crate::numbers::CommIter;
-use crate::reset::reset;
 use crate::ruling::Ruling;
 use crate::tlv::Tlv;
 use crate::why::Why;
 use bgp_numbers::error::UNRECOGNIZED_WELL_KNOWN;
 
 /// COMMUNITIES (RFC 7606, section 7.8).
-pub(crate) fn rule_communities<'a>(tlv: &Tlv<'a>) -> Ruling<'a>
-    ensures { (a : Attr) → ruled result a ≡ decided (communities_tests (tlv_value tlv.now)) a }
+pub(crate) fn rule_communities(tlv: &Tlv<'_>) -> Ruling
+    ensures { (a : Attr) → ruled result tlv.now.whole.now a ≡ decided (communities_tests (tlv_value tlv.now)) a }
 {
     if !tlv.flags.has_class(Class::OptionalTransitive) {
         return Ruling::Withdraw(Why::Flags);
@@ -44,8 +43,8 @@ pub fn communities_in<'a>(tlv: &Tlv<'a>) -> CommunitiesView<'a>
 }
 
 /// LARGE_COMMUNITY (RFC 8092, section 6).
-pub(crate) fn rule_large<'a>(tlv: &Tlv<'a>) -> Ruling<'a>
-    ensures { (a : Attr) → ruled result a ≡ decided (large_tests (tlv_value tlv.now)) a }
+pub(crate) fn rule_large(tlv: &Tlv<'_>) -> Ruling
+    ensures { (a : Attr) → ruled result tlv.now.whole.now a ≡ decided (large_tests (tlv_value tlv.now)) a }
 {
     if !tlv.flags.has_class(Class::OptionalTransitive) {
         return Ruling::Withdraw(Why::Flags);
@@ -67,12 +66,11 @@ pub fn large_in<'a>(tlv: &Tlv<'a>) -> LargeView<'a>
 }
 
 /// A type that isn't recognised (RFC 4271, section 6.3).
-pub(crate) fn rule_other<'a>(tlv: &Tlv<'a>) -> Ruling<'a>
-    requires { length tlv.now.whole.now ≤ 4075 }
-    ensures { (a : Attr) → ruled result a ≡ decided (other_tests (tlv_value tlv.now)) a }
+pub(crate) fn rule_other(tlv: &Tlv<'_>) -> Ruling
+    ensures { (a : Attr) → ruled result tlv.now.whole.now a ≡ decided (other_tests (tlv_value tlv.now)) a }
 {
     if !tlv.flags.is_optional() {
-        return reset(UNRECOGNIZED_WELL_KNOWN, tlv);
+        return Ruling::Reset(UNRECOGNIZED_WELL_KNOWN);
     }
     Ruling::Keep
 }

@@ -25,8 +25,8 @@ pub(crate) fn address<const N: usize>(octets: &[u8]) -> [u8; N]
 }
 
 /// ORIGIN (RFC 7606, section 7.1).
-pub(crate) fn rule_origin<'a>(tlv: &Tlv<'a>) -> Ruling<'a>
-    ensures { (a : Attr) → ruled result a ≡ decided (origin_tests (tlv_value tlv.now)) a }
+pub(crate) fn rule_origin(tlv: &Tlv<'_>) -> Ruling
+    ensures { (a : Attr) → ruled result tlv.now.whole.now a ≡ decided (origin_tests (tlv_value tlv.now)) a }
 {
     if !tlv.flags.has_class(Class::WellKnown) {
         return Ruling::Withdraw(Why::Flags);
@@ -53,8 +53,8 @@ pub fn origin_in(value: &[u8]) -> Origin
 }
 
 /// NEXT_HOP (RFC 7606, section 7.3).
-pub(crate) fn rule_next_hop<'a>(has_nlri: bool, tlv: &Tlv<'a>) -> Ruling<'a>
-    ensures { (a : Attr) → ruled result a ≡ decided (next_hop_tests has_nlri (tlv_value tlv.now)) a }
+pub(crate) fn rule_next_hop(has_nlri: bool, tlv: &Tlv<'_>) -> Ruling
+    ensures { (a : Attr) → ruled result tlv.now.whole.now a ≡ decided (next_hop_tests has_nlri (tlv_value tlv.now)) a }
 {
     if !has_nlri {
         return Ruling::Discard(Why::Unneeded);
@@ -85,8 +85,8 @@ pub fn four_in(octets: &[u8]) -> u32
 }
 
 /// MULTI_EXIT_DISC (RFC 7606, section 7.4).
-pub(crate) fn rule_med<'a>(tlv: &Tlv<'a>) -> Ruling<'a>
-    ensures { (a : Attr) → ruled result a ≡ decided (med_tests (tlv_value tlv.now)) a }
+pub(crate) fn rule_med(tlv: &Tlv<'_>) -> Ruling
+    ensures { (a : Attr) → ruled result tlv.now.whole.now a ≡ decided (med_tests (tlv_value tlv.now)) a }
 {
     if !tlv.flags.has_class(Class::OptionalNonTransitive) {
         return Ruling::Withdraw(Why::Flags);
@@ -98,8 +98,8 @@ pub(crate) fn rule_med<'a>(tlv: &Tlv<'a>) -> Ruling<'a>
 }
 
 /// LOCAL_PREF (RFC 7606, section 7.5).
-pub(crate) fn rule_local_pref<'a>(ctx: &Context, tlv: &Tlv<'a>) -> Ruling<'a>
-    ensures { (a : Attr) → ruled result a ≡ decided (local_pref_tests ctx.now (tlv_value tlv.now)) a }
+pub(crate) fn rule_local_pref(ctx: &Context, tlv: &Tlv<'_>) -> Ruling
+    ensures { (a : Attr) → ruled result tlv.now.whole.now a ≡ decided (local_pref_tests ctx.now (tlv_value tlv.now)) a }
 {
     if !ctx.internal {
         return Ruling::Discard(Why::External);
@@ -114,8 +114,8 @@ pub(crate) fn rule_local_pref<'a>(ctx: &Context, tlv: &Tlv<'a>) -> Ruling<'a>
 }
 
 /// ATOMIC_AGGREGATE (RFC 7606, section 7.6).
-pub(crate) fn rule_atomic<'a>(tlv: &Tlv<'a>) -> Ruling<'a>
-    ensures { (a : Attr) → ruled result a ≡ decided (atomic_tests (tlv_value tlv.now)) a }
+pub(crate) fn rule_atomic(tlv: &Tlv<'_>) -> Ruling
+    ensures { (a : Attr) → ruled result tlv.now.whole.now a ≡ decided (atomic_tests (tlv_value tlv.now)) a }
 {
     if !tlv.flags.has_class(Class::WellKnown) {
         return Ruling::Withdraw(Why::Flags);

@@ -12,7 +12,6 @@ use crate::class::Class;
 use crate::family::Family;
 use crate::judge_fixed::address;
 use crate::mp_view::{MpReachView, MpUnreachView};
-use crate::reset::reset;
 use crate::ruling::Ruling;
 use crate::tlv::Tlv;
 use crate::why::Why;
@@ -110,16 +109,16 @@ fn reach_of<'a>(family: Family, value: &'a [u8]) -> MpReachView<'a>
 }
 
 /// MP_REACH_NLRI (RFC 7606, section 7.11; RFC 4760, section 7).
-pub(crate) fn rule_mp_reach<'a>(ctx: &Context, tlv: &Tlv<'a>) -> Ruling<'a>
-    requires { length tlv.now.whole.now ≤ 4075 }
-    ensures { (a : Attr) → ruled result a ≡ decided (mp_reach_tests ctx.now (tlv_value tlv.now)) a }
+#[inline(always)]
+pub(crate) fn rule_mp_reach(ctx: &Context, tlv: &Tlv<'_>) -> Ruling
+    ensures { (a : Attr) → ruled result tlv.now.whole.now a ≡ decided (mp_reach_tests ctx.now (tlv_value tlv.now)) a }
 {
     let value = tlv.value;
     if !tlv.flags.has_class(Class::OptionalNonTransitive) {
-        return reset(OPTIONAL_ATTRIBUTE, tlv);
+        return Ruling::Reset(OPTIONAL_ATTRIBUTE);
     }
     if value.len() < 5 {
-        return reset(OPTIONAL_ATTRIBUTE, tlv);
+        return Ruling::Reset(OPTIONAL_ATTRIBUTE);
     }
     let Some(family) = family_of(value) else {
         return Ruling::Discard(Why::Family);
@@ -129,14 +128,14 @@ pub(crate) fn rule_mp_reach<'a>(ctx: &Context, tlv: &Tlv<'a>) -> Ruling<'a>
     }
     let len = usize::from(value[3]);
     if !is_next_hop_length(family, len) {
-        return reset(OPTIONAL_ATTRIBUTE, tlv);
+        return Ruling::Reset(OPTIONAL_ATTRIBUTE);
     }
     if value.len() < 5 + len {
-        return reset(OPTIONAL_ATTRIBUTE, tlv);
+        return Ruling::Reset(OPTIONAL_ATTRIBUTE);
     }
     let (_, routes) = value.split_at(5 + len);
     if !is_run(family, routes) {
-        return reset(OPTIONAL_ATTRIBUTE, tlv);
+        return Ruling::Reset(OPTIONAL_ATTRIBUTE);
     }
     Ruling::Keep
 }
@@ -166,16 +165,16 @@ fn unreach_of<'a>(family: Family, value: &'a [u8]) -> MpUnreachView<'a>
 }
 
 /// MP_UNREACH_NLRI (RFC 7606, section 7.12; RFC 4760, section 7).
-pub(crate) fn rule_mp_unreach<'a>(ctx: &Context, tlv: &Tlv<'a>) -> Ruling<'a>
-    requires { length tlv.now.whole.now ≤ 4075 }
-    ensures { (a : Attr) → ruled result a ≡ decided (mp_unreach_tests ctx.now (tlv_value tlv.now)) a }
+#[inline(always)]
+pub(crate) fn rule_mp_unreach(ctx: &Context, tlv: &Tlv<'_>) -> Ruling
+    ensures { (a : Attr) → ruled result tlv.now.whole.now a ≡ decided (mp_unreach_tests ctx.now (tlv_value tlv.now)) a }
 {
     let value = tlv.value;
     if !tlv.flags.has_class(Class::OptionalNonTransitive) {
-        return reset(OPTIONAL_ATTRIBUTE, tlv);
+        return Ruling::Reset(OPTIONAL_ATTRIBUTE);
     }
     if value.len() < 3 {
-        return reset(OPTIONAL_ATTRIBUTE, tlv);
+        return Ruling::Reset(OPTIONAL_ATTRIBUTE);
     }
     let Some(family) = family_of(value) else {
         return Ruling::Discard(Why::Family);
@@ -185,7 +184,7 @@ pub(crate) fn rule_mp_unreach<'a>(ctx: &Context, tlv: &Tlv<'a>) -> Ruling<'a>
     }
     let (_, routes) = value.split_at(3);
     if !is_run(family, routes) {
-        return reset(OPTIONAL_ATTRIBUTE, tlv);
+        return Ruling::Reset(OPTIONAL_ATTRIBUTE);
     }
     Ruling::Keep
 }

@@ -38,8 +38,9 @@ const AS4_PATH_FORM: PathForm = PathForm {
 };
 
 /// AS_PATH (RFC 7606, section 7.2; RFC 7607, section 2).
-pub(crate) fn rule_as_path<'a>(ctx: &Context, tlv: &Tlv<'a>) -> Ruling<'a>
-    ensures { (a : Attr) → ruled result a ≡ decided (as_path_tests ctx.now (tlv_value tlv.now)) a }
+#[inline(always)]
+pub(crate) fn rule_as_path(ctx: &Context, tlv: &Tlv<'_>) -> Ruling
+    ensures { (a : Attr) → ruled result tlv.now.whole.now a ≡ decided (as_path_tests ctx.now (tlv_value tlv.now)) a }
 {
     if !tlv.flags.has_class(Class::WellKnown) {
         return Ruling::Withdraw(Why::Flags);
@@ -62,8 +63,9 @@ pub fn as_path_in<'a>(ctx: &Context, value: &'a [u8]) -> PathView<'a>
 }
 
 /// AS4_PATH (RFC 6793, sections 3, 4.1 and 6; RFC 7607, section 2).
-pub(crate) fn rule_as4_path<'a>(ctx: &Context, tlv: &Tlv<'a>) -> Ruling<'a>
-    ensures { (a : Attr) → ruled result a ≡ decided (as4_path_tests ctx.now (tlv_value tlv.now)) a }
+#[inline(always)]
+pub(crate) fn rule_as4_path(ctx: &Context, tlv: &Tlv<'_>) -> Ruling
+    ensures { (a : Attr) → ruled result tlv.now.whole.now a ≡ decided (as4_path_tests ctx.now (tlv_value tlv.now)) a }
 {
     if ctx.as4 {
         return Ruling::Discard(Why::FourOctet);

@@ -17,7 +17,7 @@ use crate::judge_path::{rule_as_path, rule_as4_path};
 use crate::judged::Judged;
 use crate::judged_view::JudgedView;
 use crate::kept_value::kept_attr;
-use crate::ruling::Ruling;
+use crate::ruling::{Ruling, attribute_reset};
 use crate::tlv::Tlv;
 use bgp_numbers::attribute;
 use bgp_open::Context;
@@ -29,9 +29,8 @@ use std::alloc::{AllocError, Global};
 /// `has_nlri` says that the NLRI field of the message isn't empty.
 #[tactic(auto, unfolding(crate::specs::Judgement::type_row))]
 #[inline(always)]
-pub fn rule<'a>(ctx: &Context, has_nlri: bool, tlv: &Tlv<'a>) -> Ruling<'a>
-    requires { length tlv.now.whole.now ≤ 4075 }
-    ensures { (a : Attr) → ruled result a ≡ decided (type_row ctx.now has_nlri (tlv_value tlv.now)).tests a }
+pub fn rule(ctx: &Context, has_nlri: bool, tlv: &Tlv<'_>) -> Ruling
+    ensures { (a : Attr) → ruled result tlv.now.whole.now a ≡ decided (type_row ctx.now has_nlri (tlv_value tlv.now)).tests a }
 {
     match tlv.kind {
         attribute::ORIGIN => rule_origin(tlv),
@@ -53,20 +52,16 @@ pub fn rule<'a>(ctx: &Context, has_nlri: bool, tlv: &Tlv<'a>) -> Ruling<'a>
 
 /// A ruling on an attribute, with its value where it is kept: [`rule`] has to keep it then.
 #[inline(always)]
-pub fn with_value<'a>(
-    ctx: &Context,
-    has_nlri: bool,
-    tlv: &Tlv<'a>,
-    ruling: Ruling<'a>,
-) -> FoundAttr<'a>
-    requires { keeps ruling ≡ true → IsTrue (is_kept (judgement ctx.now has_nlri (tlv_value tlv.now))) }
-    ensures { found_attr_value result ≡ ruled ruling.entry (type_row ctx.now has_nlri (tlv_value tlv.now)).value }
+pub fn with_value<'a>(ctx: &Context, has_nlri: bool, tlv: &Tlv<'a>, ruling: Ruling) -> FoundAttr<'a>
+    requires short { length tlv.now.whole.now ≤ 4075 }
+    requires kept { keeps ruling ≡ true → IsTrue (is_kept (judgement ctx.now has_nlri (tlv_value tlv.now))) }
+    ensures { found_attr_value result ≡ ruled ruling tlv.now.whole.now (type_row ctx.now has_nlri (tlv_value tlv.now)).value }
 {
     match ruling {
         Ruling::Keep => FoundAttr::Keep(kept_attr(ctx, has_nlri, tlv.kind, tlv)),
         Ruling::Discard(why) => FoundAttr::Discard(why),
         Ruling::Withdraw(why) => FoundAttr::Withdraw(why),
-        Ruling::Reset(why) => FoundAttr::Reset(why),
+        Ruling::Reset(subcode) => FoundAttr::Reset(attribute_reset(subcode, tlv.whole)),
     }
 }
 

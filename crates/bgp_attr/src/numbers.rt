@@ -27,9 +27,9 @@ fn first_two(octets: &[u8]) -> Option<(u32, &[u8])>
     Some((u32::from(u16::from_be_bytes([number[0], number[1]])), rest))
 }
 
-/// The number at the front, of four octets where `wide`, else of two, and what follows it.
+/// The number at the front, of four octets where `wide`, else of two, highest octet first, and what follows it (RFC 4271, section 4).
 #[tactic(auto, unfolding(crate::specs::Numbers::one_number))]
-pub(crate) fn first_number(wide: bool, octets: &[u8]) -> Option<(u32, &[u8])>
+pub fn first_number(wide: bool, octets: &[u8]) -> Option<(u32, &[u8])>
     ensures { option_map (λ x. (x.0, x.1.now)) result ≡ one_number wide octets.now }
 {
     if wide {

@@ -2,9 +2,9 @@
 
 /// How a path lies in octets (RFC 6793, sections 3 and 4).
 #[derive(Clone, Copy, Debug, PartialEq, Eq)]
-pub(crate) struct PathForm {
+pub struct PathForm {
     /// Its AS numbers have four octets, not two.
-    pub(crate) wide: bool,
+    pub wide: bool,
     /// It may have segments of confederations, which are dropped (RFC 6793, sections 3 and 6).
-    pub(crate) confederations: bool,
+    pub confederations: bool,
 }

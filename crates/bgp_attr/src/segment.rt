@@ -4,7 +4,7 @@ ghost use Rattle.std.specs.Prelude.{◌≡◌, ◌==◌, option_map};
 ghost use Rattle.std.specs.List.{list_any};
 ghost use Rattle.bgp_attr.specs.Numbers.{number_width, numbers_of};
 ghost use Rattle.bgp_attr.specs.Path.{is_known, one_segment, segment_fault, path_fault, path_has_zero, kind_of_segment};
-ghost use Rattle.bgp_attr.specs.steps.SegmentView.{wire_segment};
+ghost use Rattle.bgp_attr.specs.SegmentView.{wire_segment};
 
 use crate::numbers::first_number;
 use crate::path::SegKind;
@@ -12,11 +12,13 @@ use crate::path_form::PathForm;
 use crate::why::Why;
 use bgp_numbers::segment;
 
-/// A segment of any known type, as it lies in octets.
+/// A segment of any known type, as it lies in octets (RFC 4271, section 4.3).
 #[derive(Clone, Copy)]
-pub(crate) struct RawSegment<'a> {
-    pub(crate) code: u8,
-    pub(crate) numbers: &'a [u8],
+pub struct RawSegment<'a> {
+    /// The type.
+    pub code: u8,
+    /// The octets of its AS numbers.
+    pub numbers: &'a [u8],
 }
 
 /// The octets of an AS number.
@@ -48,9 +50,9 @@ pub(crate) fn kind_of(code: u8) -> Option<SegKind>
     }
 }
 
-/// The segment at the front, and what follows it.
+/// The segment at the front of a path, and what follows it (RFC 4271, section 4.3).
 #[tactic(auto, using(crate::proofs::SegmentFronts::steps))]
-pub(crate) fn first_segment(form: PathForm, octets: &[u8]) -> Option<(RawSegment<'_>, &[u8])>
+pub fn first_segment(form: PathForm, octets: &[u8]) -> Option<(RawSegment<'_>, &[u8])>
     ensures { option_map (λ x. (wire_segment form.wide x.0, x.1.now)) result ≡ one_segment form octets.now }
 {
     let (code, rest) = octets.split_first()?;

@@ -23,7 +23,7 @@ use Rattle.bgp_update.specs.Laws.{CanBeWritten}
 use Rattle.bgp_update.specs.Marks.{Mark, field_marks, marks_of}
 use Rattle.bgp_update.specs.Parts.{Parts, parts_of}
 use Rattle.bgp_update.specs.Slots.{present, slot, attr_list}
-use Rattle.bgp_update.specs.Taken.{kept_by, kept_of, no_attrs, attrs_of, update_of}
+use Rattle.bgp_update.specs.Taken.{attrs_from, kept_by, kept_of, no_attrs, attrs_of, update_of}
 use Rattle.bgp_update.specs.Verdict.{verdict_of}
 use Rattle.bgp_update.specs.Written.{attributes_octets, written_body, is_of_other_family}
 use Rattle.bgp_update.proofs.Bodies.{body-parts, length-body}
@@ -45,7 +45,7 @@ abbrev pub unreach_attrs : Option MpUnreach → List Attr
 unreach_attrs o = present (λ (r : MpUnreach). attr.MpUnreach r) o
 
 pub unreach-list : (o : Option MpUnreach) → attr_list (with_unreach o) ≡ unreach_attrs o
-unfolding slot
+unfolding slot attrs_from
 unreach-list None = sym (recognised_types (with_unreach None) refl)
 unreach-list (Some r) = sym (recognised_types (with_unreach (Some r)) refl)
 
@@ -80,6 +80,7 @@ kept-bare (x ∷ []) f e =
 kept-bare (x ∷ y ∷ ks) f e = absurd (not_some f e)
 
 marks-end : (ms : List Mark) (f : ℕ) → family_of_marks ms ≡ Some f → (o : Option MpUnreach) × (attrs_of (kept_of ms) ≡ with_unreach o) × (family_of_end o ≡ Some f)
+unfolding attrs_from
 marks-end [] f e = (None, refl, e)
 marks-end (m ∷ []) f e = let bare = kept-bare (kept_of (m ∷ [])) f e in (Some bare.0, ap attrs_of bare.1, bare.2)
 marks-end (m ∷ n ∷ ms) f e = absurd (not_some f e)

@@ -19,6 +19,7 @@ use Rattle.bgp_open.specs.declared.fault.OpenFault.{OpenFault}
 use Rattle.bgp_open.specs.declared.message.Open.{Open}
 use Rattle.bgp_open.specs.OpenFault.{open_notification, reading_of}
 use Rattle.bgp_open.proofs.Readings.{reading-spells}
+use Rattle.bgp_update.specs.Taken.{attrs_from}
 use Rattle.bgp_update.specs.declared.invalid.Invalid.{Invalid}
 use Rattle.bgp_update.specs.declared.invalid.Invalid.TheVariants as invalid
 use Rattle.bgp_update.specs.declared.note.Note.{Note}
@@ -175,6 +176,7 @@ module _ (ctx : Context) (drops : ℕ → Bool) (first : Bool) (body octets : Li
 
   withdraw-clean : (routes : Routes) (notes : List Note) → verdict_of ctx body ≡ verdict.Withdraw routes notes
       → IsClean ctx drops first this (message.Update (withdrawal routes))
+  unfolding attrs_from
   withdraw-clean routes notes e =
       let u : Update = withdrawal routes in
       let made = withdrawal-written ctx body inside routes notes e in
@@ -195,6 +197,7 @@ module _ (ctx : Context) (drops : ℕ → Bool) (first : Bool) (body octets : Li
         ∙ ap (λ (v : Verdict). lesson_in drops (family_in ctx (parts_of body)) (of_verdict v)) (sym e)
 
     end-stays : (family : ℕ) → family_in ctx (parts_of body) ≡ Some family → family_in ctx (parts_of (written_body ctx stays)) ≡ Some family
+    unfolding attrs_from
     end-stays family is =
         let end : IsEnding u family = taken-ending ctx u body notes family e is in
         let same : stays ≡ end_update end.unreach = ap (cleaned_update drops) end.is in

@@ -11,6 +11,7 @@ use Rattle.bgp_attr.specs.declared.attr.Attr.TheVariants as attr
 use Rattle.bgp_attr.specs.declared.mp.MpReach.{MpReach}
 use Rattle.bgp_attr.specs.declared.mp.MpUnreach.{MpUnreach}
 use Rattle.bgp_attr.specs.declared.mp.MpUnreach.TheVariants as unreach
+use Rattle.bgp_update.specs.Taken.{attrs_from}
 use Rattle.bgp_update.specs.declared.routes.Routes.{Routes}
 use Rattle.bgp_update.specs.declared.update.Update.{Update}
 use Rattle.bgp_update.specs.Notes.{gone_ip4, gone_ip6, has_routes}
@@ -108,6 +109,7 @@ unreach-gone (p ∷ ps) = (refl, refl)
 
 pub withdrawal-learned : (drops : ℕ → Bool) (routes : Routes)
     → lesson_by drops None (message.Update (withdrawal routes)) ≡ record no_lesson { gone_ip4 = routes.ip4; gone_ip6 = routes.ip6 }
+unfolding attrs_from
 withdrawal-learned drops routes = λ i. record {
   peer = None;
   gone_ip4 = (ap (λ (ps : List PrefixValue). routes.ip4 ++ ps) (unreach-gone routes.ip6).0 ∙ append-nil routes.ip4) i;

@@ -32,7 +32,7 @@ use Rattle.bgp_update.specs.Marks.{marks_of}
 use Rattle.bgp_update.specs.Notes.{reached_ip4, reached_ip6, gone_ip4, gone_ip6, has_routes, is_reachable, routes_of}
 use Rattle.bgp_update.specs.Parts.{Parts, IsBody, has_nlri}
 use Rattle.bgp_update.specs.Slots.{present, attr_list}
-use Rattle.bgp_update.specs.Taken.{kept_of, attrs_of}
+use Rattle.bgp_update.specs.Taken.{attrs_from, kept_of, attrs_of}
 use Rattle.bgp_update.specs.Verdict.{first_reset, reset_of_run, reset_of, verdict_of}
 use Rattle.bgp_update.specs.Written.{attributes_octets, written_body, is_of_other_family, HasUpdateRanges}
 use Rattle.bgp_update.proofs.Bodies.{length-body}
@@ -200,6 +200,7 @@ module _ (ctx : Context) (p : Parts) (octets_w : AreOctets p.withdrawn) (octets_
       (unreach-all a (Belongs ctx (has_nlri p)) held.in_place) (reach-all a (Belongs ctx (has_nlri p)) held.in_place)
 
   accepted : IsAccepted ctx said
+  unfolding attrs_from
   accepted = record {
     complete = refl;
     next_hop = refl;
@@ -214,6 +215,7 @@ module _ (ctx : Context) (p : Parts) (octets_w : AreOctets p.withdrawn) (octets_
   }
 
   ranges : HasUpdateRanges said
+  unfolding attrs_from
   ranges =
       let u = unreach-valid a.mp_unreach (unreach-all a HasRanges held.ranges) in
       let r = reach-valid a.mp_reach (reach-all a HasRanges held.ranges) in

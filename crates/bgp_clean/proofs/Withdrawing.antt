@@ -10,7 +10,7 @@ use Rattle.bgp_attr.specs.Written.{canonical, run_octets}
 use Rattle.bgp_update.specs.declared.attrs.Attrs.{Attrs}
 use Rattle.bgp_update.specs.declared.routes.Routes.{Routes}
 use Rattle.bgp_update.specs.Slots.{slot}
-use Rattle.bgp_update.specs.Taken.{no_attrs}
+use Rattle.bgp_update.specs.Taken.{attrs_from, no_attrs}
 use Rattle.bgp_update.specs.Withdrawal.{whole_unreach, gone_octets, withdrawal_octets}
 use Rattle.bgp_update.specs.Written.{attributes_octets, body_octets, written_body}
 use Rattle.bgp_update.proofs.SlotTypes.{recognised_types}
@@ -24,11 +24,12 @@ module _ (ctx : Context) where
   known routes = flat_map (slot (gone routes)) (14 ∷ 15 ∷ 1 ∷ 2 ∷ 3 ∷ 4 ∷ 5 ∷ 6 ∷ 7 ∷ 8 ∷ 17 ∷ 18 ∷ 32 ∷ [])
 
   known-is : (routes : List PrefixValue) → flat_map (canonical ctx) (known routes) ≡ gone_octets routes
-  unfolding slot
+  unfolding slot attrs_from
   known-is [] = refl
   known-is (r ∷ rs) = append-nil (whole_unreach (unreach.Ip6 (r ∷ rs)))
 
   attributes-are : (routes : List PrefixValue) → attributes_octets ctx (gone routes) ≡ gone_octets routes
+  unfolding attrs_from
   attributes-are routes = ap (flat_map (canonical ctx)) (sym (recognised_types (gone routes) refl)) ∙ known-is routes
 
   pub withdrawal_is : (r : Routes) → written_body ctx (withdrawal r) ≡ withdrawal_octets r

@@ -5,6 +5,7 @@ use Rattle.std.specs.Io.KnownBytes.{Consumes, Appends, IsAtEnd, Keeps}
 use Rattle.std.proofs.KnownBytes.{Consumes-nil, Consumes-trans, Consumes-kept, Appends-nil, Appends-trans}
 use Rattle.std.proofs.lemmas.List.{append-nil}
 use Rattle.bgp_wire.specs.Octets.{AreOctets}
+use Rattle.bgp_wire.proofs.OctetLemmas.{AreOctets-nil, AreOctets-append, AreOctets-back}
 use Rattle.bgp_frame.specs.declared.end.End.{End}
 use Rattle.hex.specs.Hex.{is_hex_digit}
 use Rattle.bgp_engine.specs.declared.fault.ToolFault.{ToolFault}
@@ -14,7 +15,7 @@ use Rattle.bgp_engine.specs.declared.tally.Tally.{Tally}
 use Rattle.bgp_engine.specs.steps.HexSteps.{pending, place}
 use Rattle.bgp_engine.specs.Output.{IsFront, AppendsFront, FailsWithin}
 use Rattle.bgp_engine.specs.Report.{Report, behind, IsWaiting}
-use Rattle.bgp_engine.specs.steps.Engine.{GoesOn, Rests, IsTotal}
+use Rattle.bgp_engine.specs.steps.Engine.{GoesOn, Rests, IsTotal, OfOctets}
 use Rattle.bgp_engine.specs.Run.{IsFaultOf, Io, Reports, stream_of, bad_of, IsAllRead, Finishes, IsBadAt, Fails, Answers}
 use Rattle.bgp_engine.specs.steps.Blocks.{MeetsBlock, MeetsBad, MeetsOver, WritesAll, WritesNone, Finished}
 use Rattle.bgp_engine.proofs.HexPairs.{spelled-nil, spelled-digit, spelled-octets, bad_from-nil, bad_from-digit}
@@ -23,6 +24,7 @@ module _ (reports0 : Reports) (hex : Bool) (r0 w0 : Option (List ℕ)) where
   -- the text and the octets so far, and what was written of them
   pub record Reading (reports : Reports) (going : Type 0) (r w : Option (List ℕ)) (reader : HexText) (turns : ℕ) : Type 0 where
     pub text : List ℕ
+    pub are : AreOctets text
     pub read : Consumes r0 r text
     pub octets : List ℕ
     pub stream : (later : List ℕ) → stream_of hex (text ++ later) ≡ octets ++ stream_of hex (pending reader ++ later)
@@ -39,6 +41,7 @@ module _ (reports0 : Reports) (hex : Bool) (r0 w0 : Option (List ℕ)) where
   pub record Reached (reports : Reports) (r w : Option (List ℕ)) (text written told : List ℕ) : Type 0 where
     pub read : Consumes r0 r text
     pub wrote : Appends w0 w written
+    pub are : AreOctets text
     pub lifts : (q : Report) → reports [] q → reports0 (stream_of hex text) (behind (written ++ told) q)
 
 abbrev io : Option (List ℕ) → Option (List ℕ) → Option (List ℕ) → Option (List ℕ) → Io
@@ -51,8 +54,12 @@ rest_is_nothing true (Some c) raw = spelled-digit c
 rest_is_nothing false None raw = refl
 rest_is_nothing false (Some c) raw = let bad = raw refl in absurd cc
 
+pub stream_octets : (hex : Bool) (text : List ℕ) → AreOctets text → AreOctets (stream_of hex text)
+stream_octets true text are = spelled-octets text
+stream_octets false text are = are
+
 -- a front of lines that were collected and are written behind those before them
-goes_further : (reports0 reports reports1 : Reports) (octets octets1 lines lines1 : List ℕ) → GoesOn reports0 octets lines reports → GoesOn reports octets1 lines1 reports1 → GoesOn reports0 (octets ++ octets1) (lines ++ lines1) reports1
+pub goes_further : (reports0 reports reports1 : Reports) (octets octets1 lines lines1 : List ℕ) → GoesOn reports0 octets lines reports → GoesOn reports octets1 lines1 reports1 → GoesOn reports0 (octets ++ octets1) (lines ++ lines1) reports1
 goes_further reports0 reports reports1 octets octets1 lines lines1 on on1 later r g =
     subst (λ (s : List ℕ). reports0 s (behind (lines ++ lines1) r)) (sym (append_assoc octets octets1 later))
     (subst (λ (l : List ℕ). reports0 (octets ++ (octets1 ++ later)) (record { lines = l; last = r.last; end_of = r.end_of; answer = r.answer })) (sym (append_assoc lines lines1 r.lines))
@@ -65,16 +72,16 @@ module _ {reports0 : Reports} {hex : Bool} {r0 w0 : Option (List ℕ)} where
     more_front : (front : List ℕ) (rest : List ℕ) → IsFront written ((written ++ front) ++ rest)
     more_front front rest = (front ++ rest, append_assoc written front rest)
 
-    pub fails_read : (q : Report) → reports [] q → Fails reports0 hex (io r0 w0 r w) fault.Read
-    fails_read q g = record { text = text; read = s.read; report = behind (written ++ told) q; reported = s.lifts q g; written = written; wrote = s.wrote; is_fault = more_front told q.lines }
+    pub fails_read : (q : Report) → reports [] q → Fails (OfOctets reports0) hex (io r0 w0 r w) fault.Read
+    fails_read q g = record { text = text; read = s.read; report = behind (written ++ told) q; reported = (stream_octets hex text s.are, s.lifts q g); written = written; wrote = s.wrote; is_fault = more_front told q.lines }
 
     -- all that was collected was written
-    pub fails_bad : (n : ℕ) (q : Report) → reports [] q → q.lines ≡ [] → Appends w w1 told → IsBadAt hex text r q.end_of n → Fails reports0 hex (io r0 w0 r w1) (fault.BadHex n)
+    pub fails_bad : (n : ℕ) (q : Report) → reports [] q → q.lines ≡ [] → Appends w w1 told → IsBadAt hex text r q.end_of n → Fails (OfOctets reports0) hex (io r0 w0 r w1) (fault.BadHex n)
     fails_bad n q g none more bad = record {
       text = text;
       read = s.read;
       report = behind (written ++ told) q;
-      reported = s.lifts q g;
+      reported = (stream_octets hex text s.are, s.lifts q g);
       written = written ++ told;
       wrote = Appends-trans w0 w w1 written told s.wrote more;
       is_fault = (sym (ap (λ (x : List ℕ). (written ++ told) ++ x) none ∙ append-nil (written ++ told)), bad);
@@ -84,21 +91,21 @@ module _ {reports0 : Reports} {hex : Bool} {r0 w0 : Option (List ℕ)} where
     all_of q none = sym (append_assoc written told q.last) ∙ ap (λ (x : List ℕ). x ++ q.last) (sym (ap (λ (x : List ℕ). (written ++ told) ++ x) none ∙ append-nil (written ++ told)))
 
     -- a front of what was collected and is written last was written
-    pub fails_write : (q : Report) → reports [] q → q.lines ≡ [] → AppendsFront w w1 (told ++ q.last) → Fails reports0 hex (io r0 w0 r w1) fault.Write
+    pub fails_write : (q : Report) → reports [] q → q.lines ≡ [] → AppendsFront w w1 (told ++ q.last) → Fails (OfOctets reports0) hex (io r0 w0 r w1) fault.Write
     fails_write q g none a = record {
       text = text;
       read = s.read;
       report = behind (written ++ told) q;
-      reported = s.lifts q g;
+      reported = (stream_octets hex text s.are, s.lifts q g);
       written = written ++ a.front;
       wrote = Appends-trans w0 w w1 written a.front s.wrote a.appends;
       is_fault = (a.is_front.0, sym (all_of q none) ∙ ap (λ (x : List ℕ). written ++ x) a.is_front.1 ∙ sym (append_assoc written a.front a.is_front.0));
     }
 
     -- what was collected wasn't written
-    pub fails_put : (q : Report) (f : ToolFault) → reports [] q → q.lines ≡ [] → FailsWithin w w1 told f → Fails reports0 hex (io r0 w0 r w1) f
+    pub fails_put : (q : Report) (f : ToolFault) → reports [] q → q.lines ≡ [] → FailsWithin w w1 told f → Fails (OfOctets reports0) hex (io r0 w0 r w1) f
     fails_put q f g none h =
-        subst (λ (x : ToolFault). Fails reports0 hex (io r0 w0 r w1) x) (sym h.is_write)
+        subst (λ (x : ToolFault). Fails (OfOctets reports0) hex (io r0 w0 r w1) x) (sym h.is_write)
         (fails_write q g none (record {
           front = h.wrote.front;
           is_front = (h.wrote.is_front.0 ++ q.last, ap (λ (x : List ℕ). x ++ q.last) h.wrote.is_front.1 ∙ append_assoc h.wrote.front h.wrote.is_front.0 q.last);
@@ -107,12 +114,12 @@ module _ {reports0 : Reports} {hex : Bool} {r0 w0 : Option (List ℕ)} where
 
     -- ---- the answers
 
-    pub finishes : (tally : Tally) → ((q : Report) → reports [] q → IsAllRead hex text r q.end_of) → WritesAll reports told w w1 (Ok tally) → Finishes reports0 hex (io r0 w0 r w1) tally
+    pub finishes : (tally : Tally) → ((q : Report) → reports [] q → IsAllRead hex text r q.end_of) → WritesAll reports told w w1 (Ok tally) → Finishes (OfOctets reports0) hex (io r0 w0 r w1) tally
     finishes tally all_read a = record {
       text = text;
       read = s.read;
       report = behind (written ++ told) a.report;
-      reported = s.lifts a.report a.reported;
+      reported = (stream_octets hex text s.are, s.lifts a.report a.reported);
       answers = a.answers;
       wrote = subst (Appends w0 w1) (all_of a.report a.none) (Appends-trans w0 w w1 written (told ++ a.report.last) s.wrote a.wrote);
       all_read = all_read a.report a.reported;
@@ -121,29 +128,29 @@ module _ {reports0 : Reports} {hex : Bool} {r0 w0 : Option (List ℕ)} where
     -- the stream went no further, and all of its report was written
     pub fails_behind : (f : ToolFault)
         → ((report : Report) (all : List ℕ) → all ≡ report.lines ++ report.last → report.answer ≡ Err f → IsAllRead hex text r report.end_of → IsFaultOf hex text r report all f)
-        → ((q : Report) → reports [] q → IsAllRead hex text r q.end_of) → WritesAll reports told w w1 (Err f) → Fails reports0 hex (io r0 w0 r w1) f
+        → ((q : Report) → reports [] q → IsAllRead hex text r q.end_of) → WritesAll reports told w w1 (Err f) → Fails (OfOctets reports0) hex (io r0 w0 r w1) f
     fails_behind f is all_read a = record {
       text = text;
       read = s.read;
       report = behind (written ++ told) a.report;
-      reported = s.lifts a.report a.reported;
+      reported = (stream_octets hex text s.are, s.lifts a.report a.reported);
       written = written ++ (told ++ a.report.last);
       wrote = Appends-trans w0 w w1 written (told ++ a.report.last) s.wrote a.wrote;
       is_fault = is (behind (written ++ told) a.report) (written ++ (told ++ a.report.last)) (all_of a.report a.none) a.answers (all_read a.report a.reported);
     }
 
-    pub fails_memory : WritesNone reports w w1 → Fails reports0 hex (io r0 w0 r w1) fault.Memory
+    pub fails_memory : WritesNone reports w w1 → Fails (OfOctets reports0) hex (io r0 w0 r w1) fault.Memory
     fails_memory a = record {
       text = text;
       read = s.read;
       report = behind (written ++ told) a.report;
-      reported = s.lifts a.report a.reported;
+      reported = (stream_octets hex text s.are, s.lifts a.report a.reported);
       written = written;
       wrote = subst (Appends w0 w1) (append-nil written) (Appends-trans w0 w w1 written [] s.wrote a.wrote);
       is_fault = more_front told a.report.lines;
     }
 
-    pub finished : (answer : Result Tally ToolFault) → ((q : Report) → reports [] q → IsAllRead hex text r q.end_of) → Finished reports told w w1 answer → Answers reports0 hex (io r0 w0 r w1) answer
+    pub finished : (answer : Result Tally ToolFault) → ((q : Report) → reports [] q → IsAllRead hex text r q.end_of) → Finished reports told w w1 answer → Answers (OfOctets reports0) hex (io r0 w0 r w1) answer
     finished (Ok tally) all_read a = finishes tally all_read a
     finished (Err fault.Memory) all_read a = fails_memory a
     finished (Err fault.Write) all_read a = fails_write a.report a.reported a.none a.wrote
@@ -161,6 +168,7 @@ module _ {reports0 : Reports} {hex : Bool} {r0 w0 : Option (List ℕ)} where
       let nothing : pending reader ≡ [] = ap option_to_list none in
       record {
         text = [];
+        are = AreOctets-nil;
         read = Consumes-nil r0;
         octets = [];
         stream = λ later. ap (λ (p : List ℕ). stream_of hex (p ++ later)) (sym nothing);
@@ -176,7 +184,10 @@ module _ {reports0 : Reports} {hex : Bool} {r0 w0 : Option (List ℕ)} where
 
   module _ {reports : Reports} {going : Type 0} {r w : Option (List ℕ)} {reader : HexText} {turns : ℕ} (s : Reading reports0 hex r0 w0 reports going r w reader turns) where
     -- ---- a block was read, taken and written
-    module _ (r1 : Option (List ℕ)) (block : List ℕ) (more : Consumes r r1 block) where
+    module _ (r1 : Option (List ℕ)) (block : List ℕ) (octets : AreOctets block) (more : Consumes r r1 block) where
+      more_are : AreOctets (s.text ++ block)
+      more_are = AreOctets-append s.text block s.are octets
+
       more_read : Consumes r0 r1 (s.text ++ block)
       more_read = Consumes-trans r0 r r1 s.text block s.read more
 
@@ -190,24 +201,20 @@ module _ {reports0 : Reports} {hex : Bool} {r0 w0 : Option (List ℕ)} where
       all_octets = ap (stream_of hex) (sym whole_text) ∙ streams []
 
       -- the block was read, and not taken
-      pub fails_block : AreOctets block → IsTotal reports → Fails reports0 hex (record { reader_old = r0; reader_new = r1; writer_old = w0; writer_new = w }) fault.Memory
-      fails_block octets total =
+      pub fails_block : IsTotal reports → Fails (OfOctets reports0) hex (record { reader_old = r0; reader_new = r1; writer_old = w0; writer_new = w }) fault.Memory
+      fails_block total =
           let rest : List ℕ = stream_of hex (pending reader ++ (block ++ [])) in
-          let found = total rest (rest_octets hex reader.pending s.raw) in
+          let all : AreOctets (stream_of hex (s.text ++ block)) = stream_octets hex (s.text ++ block) more_are in
+          let found = total rest (AreOctets-back s.octets rest (subst AreOctets all_octets all)) in
           record {
             text = s.text ++ block;
             read = more_read;
             report = behind s.lines found.0;
-            reported = subst (λ (x : List ℕ). reports0 x (behind s.lines found.0)) (sym all_octets) (s.goes_on rest found.0 found.1);
+            reported = (all, subst (λ (x : List ℕ). reports0 x (behind s.lines found.0)) (sym all_octets) (s.goes_on rest found.0 found.1));
             written = s.lines;
             wrote = s.wrote;
             is_fault = (found.0.lines, refl);
           }
-        where
-          rest_octets : (h : Bool) (o : Option ℕ) → (h ≡ false → o ≡ None) → AreOctets (stream_of h (option_to_list o ++ (block ++ [])))
-          rest_octets true o raw = spelled-octets (option_to_list o ++ (block ++ []))
-          rest_octets false None raw = subst AreOctets (sym (append-nil block)) octets
-          rest_octets false (Some c) raw = let bad = raw refl in absurd cc
 
       -- what is reported behind the block, is reported of the whole
       lifts : {reports1 : Reports} (told told1 octets lines later : List ℕ) → told ≡ [] → GoesOn reports octets lines reports1 → told1 ≡ told ++ lines → stream_of hex (s.text ++ block) ≡ (s.octets ++ octets) ++ later → (q : Report) → reports1 later q
@@ -221,6 +228,7 @@ module _ {reports0 : Reports} {hex : Bool} {r0 w0 : Option (List ℕ)} where
         pub Reading-block : (w1 : Option (List ℕ)) → length block ≤ 4096 → (m : MeetsBlock hex reader reader1 reports reports1 going1 told told1 block) → Appends w w1 told1 → Reading reports0 hex r0 w0 reports1 going1 r1 w1 reader1 (turns + 1)
         Reading-block w1 short m wrote = record {
           text = s.text ++ block;
+          are = more_are;
           read = more_read;
           octets = s.octets ++ m.octets;
           stream = λ later.
@@ -243,10 +251,10 @@ module _ {reports0 : Reports} {hex : Bool} {r0 w0 : Option (List ℕ)} where
         bad_octets n m = all_octets ∙ ap (λ (x : List ℕ). s.octets ++ x) (m.spells.stream []) ∙ sym (append-nil (s.octets ++ m.octets))
 
         pub Reached-block : MeetsBlock hex reader reader1 reports reports1 going1 told told1 block → Reached reports0 hex r0 w0 reports1 r1 w (s.text ++ block) s.lines told1
-        Reached-block m = record { read = more_read; wrote = s.wrote; lifts = lifts told told1 m.octets m.takes.lines [] none m.takes.goes_on m.takes.told (block_octets m) }
+        Reached-block m = record { read = more_read; wrote = s.wrote; are = more_are; lifts = lifts told told1 m.octets m.takes.lines [] none m.takes.goes_on m.takes.told (block_octets m) }
 
         pub Reached-bad : (n : ℕ) → MeetsBad hex reader reader1 reports reports1 going1 told told1 block n → Reached reports0 hex r0 w0 reports1 r1 w (s.text ++ block) s.lines told1
-        Reached-bad n m = record { read = more_read; wrote = s.wrote; lifts = lifts told told1 m.octets m.takes.lines [] none m.takes.goes_on m.takes.told (bad_octets n m) }
+        Reached-bad n m = record { read = more_read; wrote = s.wrote; are = more_are; lifts = lifts told told1 m.octets m.takes.lines [] none m.takes.goes_on m.takes.told (bad_octets n m) }
 
         pub Reached-over : MeetsOver hex reader reader1 reports reports1 going1 told told1 block → Reached reports0 hex r0 w0 reports1 r1 w (s.text ++ block) s.lines told1
         Reached-over m =
@@ -254,6 +262,7 @@ module _ {reports0 : Reports} {hex : Bool} {r0 w0 : Option (List ℕ)} where
             record {
               read = more_read;
               wrote = s.wrote;
+              are = more_are;
               lifts = λ q g. lifts told told1 m.octets m.takes.lines front.0 none m.takes.goes_on m.takes.told (all_octets ∙ ap (λ (x : List ℕ). s.octets ++ x) front.1 ∙ sym (append_assoc s.octets m.octets front.0)) q (m.takes.stands.always [] front.0 q g);
             }
 
@@ -272,6 +281,7 @@ module _ {reports0 : Reports} {hex : Bool} {r0 w0 : Option (List ℕ)} where
       Reached-none = record {
         read = more;
         wrote = s.wrote;
+        are = s.are;
         lifts = λ q g.
             subst (λ (x : List ℕ). reports0 x (behind (s.lines ++ told) q)) (sym all_spelled)
             (subst (λ (l : List ℕ). reports0 (s.octets ++ []) (behind l q)) (sym (append-nil s.lines) ∙ ap (λ (t : List ℕ). s.lines ++ t) (sym none)) (s.goes_on [] q g));
@@ -299,6 +309,13 @@ module _ {reports0 : Reports} {hex : Bool} {r0 w0 : Option (List ℕ)} where
           nothing_bad : (h : Bool) (m : ℕ) → bad_of h m [] ≡ None
           nothing_bad true m = bad_from-nil m
           nothing_bad false m = refl
+
+-- what is reported by one relation is by another
+pub answers_as : (a b : Reports) (hex : Bool) (io : Io) (answer : Result Tally ToolFault) → ((s : List ℕ) (r : Report) → a s r → b s r) → Answers a hex io answer → Answers b hex io answer
+answers_as a b hex io (Ok tally) map f =
+    record { text = f.text; read = f.read; report = f.report; reported = map _ f.report f.reported; answers = f.answers; wrote = f.wrote; all_read = f.all_read }
+answers_as a b hex io (Err fault) map f =
+    record { text = f.text; read = f.read; report = f.report; reported = map _ f.report f.reported; written = f.written; wrote = f.wrote; is_fault = f.is_fault }
 
 -- ---- what a read brought
 

@@ -1,17 +1,20 @@
 -- Steps of an engine that takes the first message of its stream by a rule of its own.
-use Rattle.std.proofs.Common.{◌≡◌, ℕ, ◌+◌, Bool, true, false, Bor, List, [], ◌++◌, length, take, drop, Option, option_map, Some, None, Result, Ok, Err, refl, sym, ap, subst, ◌∙◌, append_assoc, arith, inl, inr}
+use Rattle.std.proofs.Common.{◌≡◌, ℕ, ◌+◌, ◌≤◌, Bool, true, false, Bor, List, [], ◌++◌, length, take, drop, Option, option_map, Some, None, Result, Ok, Err, refl, sym, ap, subst, ◌∙◌, append_assoc, arith, inl, inr}
 use Rattle.std.specs.Prelude.{is_some, if◌then◌else◌, OnErr}
 use Rattle.std.specs.Option.{unwrap_or}
-use Rattle.std.proofs.lemmas.List.{append-nil, length-append, take_all}
+use Rattle.std.proofs.lemmas.List.{append-nil, length-append, take_all, take-append-drop}
 use Rattle.bgp_wire.specs.Octets.{AreOctets}
-use Rattle.bgp_wire.proofs.OctetLemmas.{AreOctets-nil, AreOctets-drop}
+use Rattle.bgp_wire.proofs.OctetLemmas.{AreOctets-append, AreOctets-back, AreOctets-drop}
 use Rattle.bgp_frame.specs.declared.end.End.{End}
 use Rattle.bgp_frame.specs.declared.end.End.TheVariants as end
 use Rattle.bgp_frame.specs.declared.fault.HeadFault.{HeadFault}
-use Rattle.bgp_frame.specs.Frame.{Message, octets_of, IsFrame, Waits}
+use Rattle.bgp_frame.specs.Frame.{Message, octets_of, IsFrame, Waits, wanted}
 use Rattle.bgp_frame.specs.Head.{head_of}
 use Rattle.bgp_frame.specs.Takes as frame
+use Rattle.bgp_frame.specs.Takes.{Stops}
 use Rattle.bgp_frame.proofs.FrameLemmas.{head_of-append, length-IsFrame, Stops-wanted}
+use Rattle.bgp_frame.proofs.Holding.{IsHeld_nil}
+use Rattle.bgp_frame.proofs.Streams.{gives_wait}
 use Rattle.bgp_open.specs.declared.context.Context.{Context}
 use Rattle.bgp_wire.specs.OctetSet.{has_octet}
 use Rattle.bgp_engine.specs.declared.cleaning.CleanPage.{CleanPage}
@@ -31,33 +34,23 @@ use Rattle.bgp_engine.specs.Rules.{Rules, counted, report_of, IsReport}
 use Rattle.bgp_engine.specs.Run.{Answers, Io, Reports}
 use Rattle.bgp_engine.specs.Tally.{no_tally}
 use Rattle.bgp_engine.specs.steps.Cleaning.{clean_plan, page_rules, starts_for}
-use Rattle.bgp_engine.specs.steps.Engine.{ClosesBy, Rests, Takes}
+use Rattle.bgp_engine.specs.steps.Engine.{Closes, GoesOn, IsTotal, Rests, Takes}
 use Rattle.bgp_engine.specs.steps.Pages.{Plan}
-use Rattle.bgp_engine.specs.steps.Starting.{SettlesOn, start_of, starts_of, GoesOn, IsFresh, Settles, reports_in, starting}
-use Rattle.bgp_engine.specs.steps.Walking.{Walking, IsCounting, IsGoing, ended_by, place_behind, reports_of, walking}
+use Rattle.bgp_engine.specs.steps.Starting as steps
+use Rattle.bgp_engine.specs.steps.Starting.{SettlesOn, start_of, starts_of, IsFresh, Settles, reports_in, starting}
+use Rattle.bgp_engine.specs.steps.Walking.{Walking, IsCounting, IsReady, reports_of, walking}
 use Rattle.bgp_engine.proofs.FirstOpens.{waits_part, frame_first, frame_whole, fault_whole, fault_first}
-use Rattle.bgp_engine.proofs.Walks.{fed_whole, messages_in-bound, report_wait, some_report}
+use Rattle.bgp_engine.proofs.Reading.{goes_further}
+use Rattle.bgp_engine.proofs.Walks.{counts_on, heard, heard_report, reports_report}
 use Rattle.std.proofs.Math.Seq.{drop-append_seam}
 
--- ---- one taking behind another
+-- ---- octets are taken behind others
 
-pub takes_both : (a b d : Reports) (going going1 : Type 0) (t0 t1 t2 x y : List ℕ) (over : Bool) → Takes a b going t0 t1 x false → Takes b d going1 t1 t2 y over → Takes a d going1 t0 t2 (x ++ y) over
-takes_both a b d going going1 t0 t1 t2 x y over p q = record {
-  lines = p.lines ++ q.lines;
-  told = q.told ∙ ap (λ (t : List ℕ). t ++ q.lines) p.told ∙ append_assoc t0 p.lines q.lines;
-  goes_on = λ later r g.
-      subst (λ (s : List ℕ). a s (behind (p.lines ++ q.lines) r)) (sym (append_assoc x y later))
-      (subst (λ (l : List ℕ). a (x ++ (y ++ later)) (record { lines = l; last = r.last; end_of = r.end_of; answer = r.answer })) (sym (append_assoc p.lines q.lines r.lines))
-      (p.goes_on (y ++ later) (behind q.lines r) (q.goes_on later r g)));
-  stands = q.stands;
-}
-
--- what stands behind the end of a stream isn't taken
-pub takes_once : (a b : Reports) (going : Type 0) (t0 t1 x y : List ℕ) → Takes a b going t0 t1 x true → Takes a b going t0 t1 (x ++ y) true
-takes_once a b going t0 t1 x y p = record {
-  lines = p.lines;
-  told = p.told;
-  goes_on = λ later r g. subst (λ (s : List ℕ). a s (behind p.lines r)) (sym (append_assoc x y later)) (p.goes_on (y ++ later) r (p.stands.always later (y ++ later) r g));
+pub takes_behind : (a b d : Reports) (going : Type 0) (t0 t1 t2 x y lines : List ℕ) (over : Bool) → t1 ≡ t0 ++ lines → GoesOn a x lines b → Takes b d going t1 t2 y over → Takes a d going t0 t2 (x ++ y) over
+takes_behind a b d going t0 t1 t2 x y lines over told on p = record {
+  lines = lines ++ p.lines;
+  told = p.told ∙ ap (λ (t : List ℕ). t ++ p.lines) told ∙ append_assoc t0 lines p.lines;
+  goes_on = goes_further a b d x y lines p.lines on p.goes_on;
   stands = p.stands;
 }
 
@@ -75,9 +68,10 @@ all_fed held octets n t waits =
       | inr stops ↦ let w = Stops-wanted (held ++ take n octets) stops in absurd (omega (arith, w.1))
     ]
 
-pub no_end : (o : Option End) → is_some o ≡ false → o ≡ None
-no_end None is = refl
-no_end (Some e) is = absurd cc
+fed_whole : (held octets : List ℕ) (n : ℕ) (later : List ℕ) → (held ++ take n octets) ++ (drop n octets ++ later) ≡ held ++ (octets ++ later)
+fed_whole held octets n later =
+    append_assoc held (take n octets) (drop n octets ++ later) ∙ ap (λ (x : List ℕ). held ++ x) (sym (append_assoc (take n octets) (drop n octets) later))
+    ∙ ap (λ (x : List ℕ). held ++ (x ++ later)) (take-append-drop n octets)
 
 module _ {Outcome : Type 0} (starts : Starts Outcome) where
   -- ---- what is reported of a whole stream
@@ -85,14 +79,14 @@ module _ {Outcome : Type 0} (starts : Starts Outcome) where
   part_first : (s : List ℕ) → Waits s → first_message s ≡ None
   part_first s waits = rw (waits_part s waits) refl
 
-  pub total : (s : List ℕ) → AreOctets s → (r : Report) × ReportedFrom starts s r
+  total : (s : List ℕ) → AreOctets s → (r : Report) × ReportedFrom starts s r
   total s octets = by_first (first_message s)
     where
       by_text : (rules : Rules Outcome) (len : ℕ) (text : Option (List ℕ)) → (r : Report) × ReportedAs rules text len s r
-      by_text rules len None = some_report rules 0 no_tally s octets
+      by_text rules len None = (heard rules 0 no_tally s, heard_report rules 0 no_tally s octets)
       by_text rules len (Some text) =
-          let q = some_report rules len (counted no_tally len class.Took) (drop len s) (AreOctets-drop len s octets) in
-          (behind text q.0, record { report = q.0; rest = q.1; told = refl })
+          let r : Report = heard rules len (counted no_tally len class.Took) (drop len s) in
+          (behind text r, record { report = r; rest = heard_report rules len _ (drop len s) (AreOctets-drop len s octets); told = refl })
 
       by_start : (len : ℕ) (o : Option (Start Outcome)) → (r : Report) × ReportedWith o len s r
       by_start len None = (unagreed (unagreed_end s), refl)
@@ -100,11 +94,14 @@ module _ {Outcome : Type 0} (starts : Starts Outcome) where
 
       by_none : (o : Option (Start Outcome)) → (r : Report) × ReportedWithout o s r
       by_none None = (unagreed (unagreed_end s), refl)
-      by_none (Some x) = some_report x.rules 0 no_tally s octets
+      by_none (Some x) = (heard x.rules 0 no_tally s, heard_report x.rules 0 no_tally s octets)
 
       by_first : (o : Option Message) → (r : Report) × ReportedAt starts o s r
       by_first None = by_none (starts None)
       by_first (Some m) = by_start (length (octets_of m)) (starts (Some m))
+
+  pub first_total : (w : Walking Outcome) → IsCounting w → IsTotal (reports_in (starting starts stage.First w))
+  first_total w c later octets = let found = total (w.held ++ later) (AreOctets-append w.held later c.octets octets) in (found.0, λ are. found.1)
 
   -- ---- the first message is there
 
@@ -139,13 +136,26 @@ module _ {Outcome : Type 0} (starts : Starts Outcome) where
     held_walk = walking rules1 held place tally ended
 
     abbrev pub handed_walk : ℕ → Walking Outcome
-    handed_walk len = walking rules1 [] (place_behind place len class.Took) (counted tally len class.Took) (ended_by class.Took)
+    handed_walk len = walking rules1 [] (place + len) (counted tally len class.Took) None
 
     counts_held : IsCounting held_walk
-    counts_held = record { open_ended = c.open_ended; octets = c.octets; place = c.place; messages = c.messages; took = c.took; withdrawn = c.withdrawn; resets = c.resets }
+    counts_held = record { octets = c.octets; place = c.place; counts = c.counts }
 
-    from_front : (later : List ℕ) (r : Report) → reports_of held_walk later r → IsReport rules1 0 no_tally (held ++ later) r
-    from_front later r q = subst (λ (w : Walking Outcome). reports_of w later r) (ap (λ (w : Walking Outcome). walking rules1 w.held w.place w.tally w.ended) fresh) q
+    unended : ended ≡ None
+    unended = ap (λ (w : Walking Outcome). w.ended) fresh
+
+    from_front : length held ≤ wanted held → (later : List ℕ) (r : Report) → AreOctets later → reports_of held_walk later r → IsReport rules1 0 no_tally (held ++ later) r
+    from_front within later r octets q =
+        subst (λ (w : Walking Outcome). IsReport rules1 w.place w.tally (held ++ later) r) fresh
+        (reports_report held_walk later r unended (record { octets = c.octets; within = within }) octets q)
+
+    -- a stream that ends with a first message that waits
+    pub closes_first : (t0 t1 : List ℕ) (answer : Result Tally ToolFault) → Waits held → starts None ≡ Some (record { rules = rules1; first = None }) → Closes (reports_of held_walk) t0 t1 answer
+        → Closes (reports_in (starting starts stage.First held_walk)) t0 t1 answer
+    closes_first t0 t1 answer waits e closes =
+        let none = part_first (held ++ []) (subst Waits (sym (append-nil held)) waits) in
+        let r = closes.report in
+        record { report = r; reported = λ octets. without (held ++ []) none rules1 r e (from_front (omega (arith, waits)) [] r octets closes.reported); none = closes.none; closes = closes.closes }
 
     module _ (told : List ℕ) (m : Message) (f : IsFrame m held) where
       pub settles_unagreed : (told1 : List ℕ) → (starts (Some m) ≡ None) × (told1 ≡ told) → Settles stage.Unagreed starts held told told1 held_walk
@@ -155,33 +165,14 @@ module _ {Outcome : Type 0} (starts : Starts Outcome) where
       settles_plain told1 b = record {
         lines = [];
         told = b.1 ∙ sym (append-nil told);
-        settles = (counts_held, λ later r q. plain held m f later rules1 r b.0 (from_front later r q));
+        settles = (unended, counts_held, λ later r octets q. plain held m f later rules1 r b.0 (from_front (let long = Stops-wanted held (inl (m, f)) in omega (arith, long.1)) later r octets q));
       }
 
-      place_zero : place ≡ 0
-      place_zero = ap (λ (w : Walking Outcome). w.place) fresh
-
-      tally_none : tally ≡ no_tally
-      tally_none = ap (λ (w : Walking Outcome). w.tally) fresh
-
-      from_behind : (later : List ℕ) (r : Report) → reports_of (handed_walk (length held)) later r → IsReport rules1 (length held) (counted no_tally (length held) class.Took) later r
-      from_behind later r q =
-          subst (λ (n : ℕ). IsReport rules1 n (counted no_tally (length held) class.Took) later r) (let same : place + length held ≡ length held = omega (arith, place_zero) in same)
-          (subst (λ (t : Tally). IsReport rules1 (place + length held) (counted t (length held) class.Took) later r) tally_none q)
-
-      counts_handed : IsCounting (handed_walk (length held))
-      counts_handed =
-          let some = length-IsFrame m held f in
-          let one = messages_in-bound (length held) in
-          record {
-            open_ended = refl;
-            octets = AreOctets-nil;
-            place = omega (arith, c.place);
-            messages = omega (arith, c.messages, some, one);
-            took = omega (arith, c.took, some);
-            withdrawn = omega (arith, c.withdrawn);
-            resets = c.resets;
-          }
+      from_behind : (later : List ℕ) (r : Report) → AreOctets later → reports_of (handed_walk (length held)) later r → IsReport rules1 (length held) (counted no_tally (length held) class.Took) later r
+      from_behind later r octets q =
+          subst (λ (n : ℕ). IsReport rules1 n (counted no_tally (length held) class.Took) later r) (let same : 0 + length held ≡ length held = omega arith in same)
+          (subst (λ (w : Walking Outcome). IsReport rules1 (w.place + length held) (counted w.tally (length held) class.Took) later r) fresh
+          (reports_report (handed_walk (length held)) later r refl IsHeld_nil octets q))
 
       pub settles_handed : (told1 : List ℕ) (len : ℕ) → len ≡ length held → ((text : List ℕ) × (starts (Some m) ≡ Some (record { rules = rules1; first = Some text })) × (told1 ≡ told ++ text))
           → Settles stage.Agreed starts held told told1 (handed_walk len)
@@ -190,7 +181,11 @@ module _ {Outcome : Type 0} (starts : Starts Outcome) where
           (record {
             lines = b.0;
             told = b.2;
-            settles = (counts_handed, λ later r q. handed held m f later rules1 b.0 r b.1 (from_behind later r q));
+            settles = (
+              refl,
+              counts_on (walking rules held place tally ended) c rules1 (length held) class.Took (omega (arith, length-IsFrame m held f)) (omega arith),
+              λ later r octets q. handed held m f later rules1 b.0 r b.1 (from_behind later r octets q),
+            );
           })
 
     module _ (told told1 : List ℕ) (h : HeadFault) (size : length held ≡ 19) (faulty : head_of held ≡ Err h) (same : told1 ≡ told) where
@@ -206,7 +201,7 @@ module _ {Outcome : Type 0} (starts : Starts Outcome) where
       settles_fault b = record {
         lines = [];
         told = same ∙ sym (append-nil told);
-        settles = (counts_held, λ later r q. without (held ++ later) (none_read later) rules1 r b (from_front later r q));
+        settles = (unended, counts_held, λ later r octets q. without (held ++ later) (none_read later) rules1 r b (from_front (let long = Stops-wanted held (inr (size, (h, faulty))) in omega (arith, long.1)) later r octets q));
       }
 
       pub settles_fault_unagreed : starts None ≡ None → Settles stage.Unagreed starts held told told1 held_walk
@@ -222,7 +217,7 @@ module _ {Outcome : Type 0} (starts : Starts Outcome) where
   rests_by held waits None e = (unagreed (end.Wait (length held)), rw (part_first held waits, e, waits_part held waits) refl, refl, tt)
   rests_by held waits (Some x) e = (
     report_of x.rules 0 no_tally held [] (end.Wait (length held)),
-    rw (part_first held waits, e) (report_wait x.rules 0 no_tally held waits),
+    rw (part_first held waits, e) (record { outcomes = []; end_of = end.Wait (length held); gives = gives_wait Outcome x.rules.judge held waits; told = refl }),
     refl,
     tt,
   )
@@ -230,71 +225,60 @@ module _ {Outcome : Type 0} (starts : Starts Outcome) where
   pub first_rests : (w : Walking Outcome) → Waits w.held → Rests (reports_in (starting starts stage.First w))
   first_rests w waits =
       let q = rests_by w.held waits (starts None) refl in
-      record { report = q.0; reported = subst (λ (s : List ℕ). ReportedFrom starts s q.0) (sym (append-nil w.held)) q.1; none = q.2; waiting = q.3 }
+      record { report = q.0; reported = λ octets. subst (λ (s : List ℕ). ReportedFrom starts s q.0) (sym (append-nil w.held)) q.1; none = q.2; waiting = q.3 }
 
   module _ (w0 w1 : Walking Outcome) (octets : List ℕ) (n : ℕ) (t0 t1 : List ℕ) where
     abbrev pub fed : List ℕ
     fed = w0.held ++ take n octets
 
     pub takes_part : frame.Takes w0.held octets n → Settles stage.First starts fed t0 t1 w1
-        → Takes (reports_in (starting starts stage.First w0)) (reports_in (starting starts stage.First w1)) (GoesOn (starting starts stage.First w1)) t0 t1 octets false
+        → Takes (reports_in (starting starts stage.First w0)) (reports_in (starting starts stage.First w1)) (steps.GoesOn (starting starts stage.First w1)) t0 t1 octets false
     takes_part took s =
         let first = s.settles.0 in
         let is : w1.held ≡ fed = s.settles.1 in
         record {
           lines = s.lines;
           told = s.told;
-          goes_on = λ later r q.
+          goes_on = λ later r q are.
               subst (λ (l : List ℕ). ReportedFrom starts (w0.held ++ (octets ++ later)) (behind l r)) (sym s.settles.2)
               (subst (λ (x : List ℕ). ReportedFrom starts x r)
-              (ap (λ (x : List ℕ). x ++ later) (is ∙ ap (λ (x : List ℕ). w0.held ++ x) (all_fed w0.held octets n took (subst Waits is first.waits))) ∙ append_assoc w0.held octets later) q);
+              (ap (λ (x : List ℕ). x ++ later) (is ∙ ap (λ (x : List ℕ). w0.held ++ x) (all_fed w0.held octets n took (subst Waits is first.waits))) ∙ append_assoc w0.held octets later)
+              (q (AreOctets-back octets later are)));
           stands = (first, first_rests w1 first.waits);
         }
 
     pub takes_unagreed : Settles stage.Unagreed starts fed t0 t1 w1
-        → (starts1 : Starts Outcome) → Takes (reports_in (starting starts stage.First w0)) (reports_in (starting starts1 stage.Unagreed w1)) (GoesOn (starting starts1 stage.Unagreed w1)) t0 t1 octets true
+        → (starts1 : Starts Outcome) → Takes (reports_in (starting starts stage.First w0)) (reports_in (starting starts1 stage.Unagreed w1)) (steps.GoesOn (starting starts1 stage.Unagreed w1)) t0 t1 octets true
     takes_unagreed s starts1 = record {
       lines = s.lines;
       told = s.told;
-      goes_on = λ later r q.
+      goes_on = λ later r q are.
           subst (λ (l : List ℕ). ReportedFrom starts (w0.held ++ (octets ++ later)) (behind l r)) (sym s.settles.1)
           (subst (λ (x : Report). ReportedFrom starts (w0.held ++ (octets ++ later)) x) (sym q)
           (subst (λ (x : List ℕ). ReportedFrom starts x (unagreed end.Reset)) (fed_whole w0.held octets n later) (s.settles.0 (drop n octets ++ later))));
       stands = record { report = unagreed end.Reset; reported = refl; none = refl; over = λ r q. subst (λ (x : Report). IsOver x.end_of) (sym q) tt; always = λ later more r q. q };
     }
 
-    pub takes_agreed : (starts1 : Starts Outcome) (w2 : Walking Outcome) (t2 : List ℕ) (over : Bool) → Settles stage.Agreed starts fed t0 t1 w1 → Takes (reports_of w1) (reports_of w2) (IsGoing w2) t1 t2 (drop n octets) over
-        → Takes (reports_in (starting starts stage.First w0)) (reports_in (starting starts1 stage.Agreed w2)) (GoesOn (starting starts1 stage.Agreed w2)) t0 t2 octets over
-    takes_agreed starts1 w2 t2 over s p = record {
-      lines = s.lines ++ p.lines;
-      told = p.told ∙ ap (λ (x : List ℕ). x ++ p.lines) s.told ∙ append_assoc t0 s.lines p.lines;
-      goes_on = λ later r q.
-          subst (λ (x : List ℕ). ReportedFrom starts (w0.held ++ (octets ++ later)) (record { lines = x; last = r.last; end_of = r.end_of; answer = r.answer })) (sym (append_assoc s.lines p.lines r.lines))
-          (subst (λ (x : List ℕ). ReportedFrom starts x (behind s.lines (behind p.lines r))) (fed_whole w0.held octets n later)
-          (s.settles.1 (drop n octets ++ later) (behind p.lines r) (p.goes_on later r q)));
-      stands = p.stands;
-    }
+    pub takes_agreed : (starts1 : Starts Outcome) (w2 : Walking Outcome) (t2 : List ℕ) (over : Bool) → Settles stage.Agreed starts fed t0 t1 w1 → Takes (reports_of w1) (reports_of w2) (IsReady w2) t1 t2 (drop n octets) over
+        → Takes (reports_in (starting starts stage.First w0)) (reports_in (starting starts1 stage.Agreed w2)) (steps.GoesOn (starting starts1 stage.Agreed w2)) t0 t2 octets over
+    takes_agreed starts1 w2 t2 over s p =
+        subst (λ (x : List ℕ). Takes (reports_in (starting starts stage.First w0)) (reports_of w2) (IsReady w2) t0 t2 x over) (take-append-drop n octets)
+        (takes_behind (reports_in (starting starts stage.First w0)) (reports_of w1) (reports_of w2) (IsReady w2) t0 t1 t2 (take n octets) (drop n octets) s.lines over s.told
+        (λ later r q are.
+        subst (λ (x : List ℕ). ReportedFrom starts x (behind s.lines r)) (append_assoc w0.held (take n octets) later) (s.settles.2 later r (AreOctets-back (take n octets) later are) q)) p)
 
   -- ---- where a stream ends
 
-  pub closes_none : (w : Walking Outcome) (told : List ℕ) → Waits w.held → starts None ≡ None → ClosesBy (reports_in (starting starts stage.First w)) told told (Err fault.NoOpen)
+  pub closes_none : (w : Walking Outcome) (told : List ℕ) → Waits w.held → starts None ≡ None → Closes (reports_in (starting starts stage.First w)) told told (Err fault.NoOpen)
   closes_none w told waits e = record {
     report = unagreed (end.Wait (length w.held));
-    reported = subst (λ (x : List ℕ). ReportedFrom starts x (unagreed (end.Wait (length w.held)))) (sym (append-nil w.held)) (rw (part_first w.held waits, e, waits_part w.held waits) refl);
+    reported = λ octets. subst (λ (x : List ℕ). ReportedFrom starts x (unagreed (end.Wait (length w.held)))) (sym (append-nil w.held)) (rw (part_first w.held waits, e, waits_part w.held waits) refl);
     none = refl;
-    told = sym (append-nil told);
-    answers = refl;
+    closes = (sym (append-nil told), refl);
   }
 
-pub closes_unagreed : {Outcome : Type 0} (starts : Starts Outcome) (w : Walking Outcome) (told : List ℕ) → ClosesBy (reports_in (starting starts stage.Unagreed w)) told told (Err fault.NoOpen)
-closes_unagreed starts w told = record { report = unagreed end.Reset; reported = refl; none = refl; told = sym (append-nil told); answers = refl }
-
--- what is reported by one relation is by another
-pub answers_as : (a b : Reports) (hex : Bool) (io : Io) (answer : Result Tally ToolFault) → ((s : List ℕ) (r : Report) → a s r → b s r) → Answers a hex io answer → Answers b hex io answer
-answers_as a b hex io (Ok tally) map f =
-    record { text = f.text; read = f.read; report = f.report; reported = map _ f.report f.reported; answers = f.answers; wrote = f.wrote; all_read = f.all_read }
-answers_as a b hex io (Err fault) map f =
-    record { text = f.text; read = f.read; report = f.report; reported = map _ f.report f.reported; written = f.written; wrote = f.wrote; is_fault = f.is_fault }
+pub closes_unagreed : {Outcome : Type 0} (starts : Starts Outcome) (w : Walking Outcome) (told : List ℕ) → Closes (reports_in (starting starts stage.Unagreed w)) told told (Err fault.NoOpen)
+closes_unagreed starts w told = record { report = unagreed end.Reset; reported = refl; none = refl; closes = (sym (append-nil told), refl) }
 
 -- an engine's answer has no words
 pub wordless : (reports : Reports) (hex : Bool) (io : Io) (answer : Result Tally ToolFault) → Answers reports hex io answer → without_words answer ≡ answer

@@ -1,435 +1,428 @@
--- Reports of a stream, built from the front; and the steps of a walk over it.
-use Rattle.std.proofs.Common.{◌≡◌, ℕ, zero, suc, ◌+◌, ◌-◌, ◌≤◌, ◌^◌, Bool, true, false, cond, List, [], ◌∷◌, ◌++◌, length, take, drop, Option, Some, None, Result, Ok, Err, refl, sym, ap, subst, ◌∙◌, append_assoc, arith}
-use Rattle.std.specs.Prelude.{◌==◌, if◌then◌else◌, is_some}
-use Rattle.std.proofs.lemmas.List.{append-nil, length-append, length-drop, length-take, take-append-drop}
-use Rattle.std.proofs.lemmas.Bool.{eqb-true}
-use Rattle.std.proofs.Math.Seq.{take-append_seam}
+-- A walk over the messages of a stream is a hearer of octets, and what it comes to octet by octet is the report of the stream.
+use Rattle.std.proofs.Common.{◌≡◌, ℕ, zero, suc, ◌+◌, ◌<◌, ◌≤◌, ◌^◌, Bool, true, false, List, [], ◌∷◌, ◌++◌, length, take, drop, Option, Some, None, option_map, Result, Ok, Err, refl, sym, ap, subst, ◌∙◌, append_assoc, arith, inl, inr}
+use Rattle.std.specs.Prelude.{if◌then◌else◌, is_none, is_some, not}
+use Rattle.std.proofs.lemmas.List.{append-nil, length-append, length-drop, length-take, take-append-drop, drop-drop}
+use Rattle.std.proofs.lemmas.Bool.{cases_lt}
+use Rattle.std.proofs.Math.Dec.{eqb-suc-zero}
+use Rattle.std.proofs.Math.Seq.{take-append_seam, drop-append_seam}
 use Rattle.bgp_wire.specs.Octets.{AreOctets}
-use Rattle.bgp_wire.proofs.OctetLemmas.{AreOctets-nil, AreOctets-append}
+use Rattle.bgp_wire.proofs.OctetLemmas.{AreOctets-nil, AreOctets-append, AreOctets-take, AreOctets-drop}
 use Rattle.bgp_frame.specs.declared.end.End.{End}
 use Rattle.bgp_frame.specs.declared.end.End.TheVariants as end
 use Rattle.bgp_frame.specs.declared.fault.HeadFault.{HeadFault}
-use Rattle.bgp_frame.specs.Head.{head_of}
-use Rattle.bgp_frame.specs.Frame.{Message, octets_of, IsFrame, Waits}
+use Rattle.bgp_frame.specs.Frame.{Message, octets_of, IsFrame, wanted, Waits}
+use Rattle.bgp_frame.specs.Framer.{IsHeld}
+use Rattle.bgp_frame.specs.Hearing.{Done, IsContent, Judges, PullsNext, IsFedAndJudged, behind_feed, by_feed, by_octets, done_by, left_to_do, given}
+use Rattle.bgp_frame.specs.Hearing as hearing
+use Rattle.bgp_frame.specs.Pull.{Pulls}
 use Rattle.bgp_frame.specs.Stream.{Gives}
 use Rattle.bgp_frame.specs.Takes.{Stops}
-use Rattle.bgp_frame.proofs.FrameLemmas.{head_of-append, length-IsFrame, Stops-wanted}
+use Rattle.bgp_frame.proofs.FrameLemmas.{head_of-append, length-IsFrame, wanted-append, wanted-bounds, wanted-Stops}
+use Rattle.bgp_frame.proofs.Hearings as hearings
+use Rattle.bgp_frame.proofs.Hearings.{IsHearer, content_is, content_stops, taken_up}
 use Rattle.bgp_frame.proofs.Pulls.{nothing_waits}
-use Rattle.bgp_frame.proofs.Streams.{gives_wait, gives_fault, gives_reset, gives_more, some_reading}
+use Rattle.bgp_frame.proofs.Streams.{gives_wait, gives_fault, gives_reset, gives_more}
 use Rattle.bgp_engine.specs.declared.class.Class.{Class}
 use Rattle.bgp_engine.specs.declared.class.Class.TheVariants as class
 use Rattle.bgp_engine.specs.declared.tally.Tally.{Tally}
 use Rattle.bgp_engine.specs.declared.fault.ToolFault.{ToolFault}
-use Rattle.bgp_engine.specs.Tally.{no_tally}
-use Rattle.bgp_engine.specs.Report.{Report, behind, IsOver}
-use Rattle.bgp_engine.specs.Rules.{Rules, messages_in, octets_at, counted, passed, total, lines_from, tally_from, rest_of, report_of, IsReport}
-use Rattle.bgp_engine.specs.steps.Pages.{Writes, WritesFault, IsAnswer}
-use Rattle.bgp_engine.specs.steps.Engine.{Rests, Takes, ClosesBy, Closes}
-use Rattle.bgp_engine.specs.Run.{Reports}
 use Rattle.bgp_engine.specs.declared.fault.ToolFault.TheVariants as fault
-use Rattle.bgp_engine.specs.steps.Walking.{Walking, closing, reports_by, reports_of, IsCounting, IsGoing, IsReady, IsReadyBy, StandsBy, Moves, place_behind, ended_by, room_by, room_of, walking}
+use Rattle.bgp_engine.specs.Tally.{no_tally}
+use Rattle.bgp_engine.specs.Report.{Report, behind, IsOver, IsWaiting}
+use Rattle.bgp_engine.specs.Rules.{Rules, messages_in, octets_at, counted, passed, total, rest_of, report_of, IsReport}
+use Rattle.bgp_engine.specs.steps.Engine.{GoesOn, Rests, Takes, ClosesBy, Closes}
+use Rattle.bgp_engine.specs.steps.Pages.{Writes, WritesFault, IsAnswer, is_last}
+use Rattle.bgp_engine.specs.steps.Walking.{Walking, IsCounting, IsReady, IsJudged, Hears, Moves, all_counts, closing, comes, end_by, ended_by, outcome, reported, reports_of, reset_if, room_of, walker, walking}
 
-pub messages_in-bound : (n : ℕ) → messages_in n ≤ 1
-messages_in-bound n = one_at_most (n == 0)
-  where
-    one_at_most : (b : Bool) → (if b then 0 else 1) ≤ 1
-    one_at_most true = omega arith
-    one_at_most false = omega arith
+pub is_hearer : {Outcome : Type 0} → IsHearer (walker {Outcome = Outcome})
+is_hearer = record { held_so = λ w held. refl; held_same = λ w. refl; held_last = λ w a b. refl; listens_so = λ w held. refl; emptied = λ w said. refl }
 
-same_report : (l l1 k k1 : List ℕ) (e : End) (a a1 : Result Tally ToolFault) → l ≡ l1 → k ≡ k1 → a ≡ a1 → (let r : Report = record { lines = l; last = k; end_of = e; answer = a } in r) ≡ (record { lines = l1; last = k1; end_of = e; answer = a1 })
-same_report l l1 k k1 e a a1 p q s = rw (p, q, s) refl
-
-pub drop-front : (a b : List ℕ) (n : ℕ) → drop (length a + n) (a ++ b) ≡ drop n b
-drop-front [] b n = ap (λ (k : ℕ). drop k b) (let same : 0 + n ≡ n = omega arith in same)
-drop-front (x ∷ a) b n = ap (λ (k : ℕ). drop k (x ∷ (a ++ b))) (let same : suc (length a) + n ≡ suc (length a + n) = omega arith in same) ∙ drop-front a b n
+-- ---- what a walk comes to is a report
 
 -- the octets of a message, which isn't empty, are as many
-octets_at-some : (n : ℕ) (s : List ℕ) → 19 ≤ n → octets_at n s ≡ take n s
-octets_at-some n s le = by_test (n == 0) refl
-  where
-    by_test : (b : Bool) → (n == 0) ≡ b → take (if n == 0 then 19 else n) s ≡ take n s
-    by_test true none = let zero : n ≡ 0 = eqb-true n 0 none in absurd (omega (arith, le, zero))
-    by_test false some = rw some refl
+octets_at-some : (n : ℕ) (s : List ℕ) → 0 < n → octets_at n s ≡ take n s
+octets_at-some zero s some = absurd (omega (arith, some))
+octets_at-some (suc n) s some = rw (eqb-suc-zero n) refl
 
 module _ {Outcome : Type 0} (rules : Rules Outcome) where
-  passes : (n : ℕ) (o : Outcome) → rules.judge.resets o ≡ false → passed rules (n, o) ≡ n
-  passes n o on = rw on refl
+  abbrev pub front : ℕ → Tally → Walking Outcome
+  front place tally = walking rules [] place tally None
 
-  stays : (n : ℕ) (o : Outcome) → rules.judge.resets o ≡ true → passed rules (n, o) ≡ 0
-  stays n o is = rw is refl
+  abbrev pub heard : ℕ → Tally → List ℕ → Report
+  heard place tally s = reported (by_octets walker (front place tally) s)
 
-  nothing_passes : (o : Outcome) → passed rules (0, o) ≡ 0
-  nothing_passes o = by_either (rules.judge.resets o)
-    where
-      none : ℕ
-      none = 0
+  abbrev HasReport : ℕ → Tally → List ℕ → Type 0
+  HasReport place tally s = IsReport rules place tally s (heard place tally s)
 
-      by_either : (b : Bool) → cond b none none ≡ none
-      by_either true = refl
-      by_either false = refl
+  -- octets that can be held can be held before the others come
+  held_first : (place : ℕ) (tally : Tally) (held later : List ℕ) → IsHeld held
+      → by_octets walker (front place tally) (held ++ later) ≡ left_to_do walker (walking rules held place tally None) later
+  held_first place tally held later can =
+      hearings.in_parts walker is_hearer (front place tally) held later
+      ∙ ap (λ (d : Done (Walking Outcome) ℕ). hearing.behind d.actions (by_octets walker d.session later))
+      (hearings.front_by_octets walker is_hearer (front place tally) refl held nothing_waits can)
 
-  -- ---- a report, built from the front
+  reported_behind : (lines : List ℕ) (d : Done (Walking Outcome) ℕ) → reported (hearing.behind lines d) ≡ behind lines (reported d)
+  reported_behind lines d = rw (append_assoc lines d.actions []) refl
 
-  pub report_wait : (place : ℕ) (tally : Tally) (s : List ℕ) → Waits s → IsReport rules place tally s (report_of rules place tally s [] (end.Wait (length s)))
-  report_wait place tally s waits = record { outcomes = []; end_of = end.Wait (length s); gives = gives_wait Outcome rules.judge s waits; told = refl }
+  module _ (place : ℕ) (tally : Tally) (held later : List ℕ) (can : IsHeld held) (what : Result Message HeadFault) (is : IsContent what held) where
+    abbrev o : ℕ × Outcome
+    o = outcome rules what
 
-  pub some_report : (place : ℕ) (tally : Tally) (s : List ℕ) → AreOctets s → (r : Report) × IsReport rules place tally s r
-  some_report place tally s octets =
-      let g = some_reading Outcome rules.judge s octets in
-      (report_of rules place tally s g.0 g.1, record { outcomes = g.0; end_of = g.1; gives = g.2; told = refl })
+    abbrev next : Option End → Walking Outcome
+    next ended = walking rules [] (place + passed rules o) (counted tally o.0 (rules.class o.1)) ended
 
-  module _ (place : ℕ) (tally : Tally) (m : Message) (frame later : List ℕ) (f : IsFrame m frame) where
-    abbrev pub seen : Outcome
-    seen = rules.judge.of_message m
+    -- the report of what stands behind it
+    abbrev report_behind : List ℕ → List (ℕ × Outcome) → End → Report
+    report_behind s os e = report_of rules (place + passed rules o) (counted tally o.0 (rules.class o.1)) s os e
 
-    -- what is written of the message
-    abbrev pub seen_line : List ℕ
-    seen_line = rules.line place (length frame) (octets_of m) seen
+    its_octets : (w : Result Message HeadFault) → IsContent w held → octets_at (outcome rules w).0 (held ++ later) ≡ held
+    its_octets (Ok m) f =
+        let size : length held ≡ length (octets_of m) = ap length f.octets in
+        octets_at-some (length (octets_of m)) (held ++ later) (omega (arith, size, length-IsFrame m held f))
+        ∙ ap (λ (n : ℕ). take n (held ++ later)) (sym size) ∙ take-append_seam held later
+    its_octets (Err f) faulty = ap (λ (n : ℕ). take n (held ++ later)) (sym faulty.0) ∙ take-append_seam held later
 
-    size : length frame ≡ length (octets_of m)
-    size = ap length f.octets
-
-    -- its octets stand at the front
-    front : octets_at (length frame) (frame ++ later) ≡ octets_of m
-    front = octets_at-some (length frame) (frame ++ later) (let n = length-IsFrame m frame f in omega arith) ∙ take-append_seam frame later ∙ f.octets
-
-    behind_it : drop (length frame) (frame ++ later) ≡ later
-    behind_it = ap (λ (n : ℕ). drop n (frame ++ later)) (let same : length frame ≡ length frame + 0 = omega arith in same) ∙ drop-front frame later 0
-
-    lines_more : (o : List (ℕ × Outcome)) → rules.judge.resets seen ≡ false
-        → seen_line ++ lines_from rules (place + length frame) later o ≡ lines_from rules place (frame ++ later) ((length frame, seen) ∷ o)
-    lines_more o on = rw (passes (length frame) seen on, front, behind_it) refl
-
-    pub report_more : (r : Report) → rules.judge.resets seen ≡ false → IsReport rules (place + length frame) (counted tally (length frame) (rules.class seen)) later r → IsReport rules place tally (frame ++ later) (behind seen_line r)
-    report_more r on q =
-        let o : ℕ × Outcome = (length frame, seen) in
-        let p : passed rules o ≡ length frame = passes (length frame) seen on in
-        let t : Tally = record (tally_from rules (counted tally (length frame) (rules.class seen)) q.outcomes) { end = q.end_of } in
+    -- it is written and counted, and then what stands behind it
+    report_content : (os : List (ℕ × Outcome)) (e : End) → Gives rules.judge (held ++ later) (o ∷ os) e
+        → reported (by_octets walker (next (ended_by rules what)) later) ≡ report_behind (drop (passed rules o) (held ++ later)) os e → HasReport place tally (held ++ later)
+    report_content os e gives rest =
+        let x : Walking Outcome = walking rules held place tally None in
+        let place_is : place + passed rules o + total rules os ≡ place + (passed rules o + total rules os) = omega arith in
         record {
-          outcomes = o ∷ q.outcomes;
-          end_of = q.end_of;
-          gives = subst (λ (n : ℕ). Gives rules.judge (frame ++ later) ((n, seen) ∷ q.outcomes) q.end_of) (sym size) (gives_more Outcome rules.judge m frame later q.outcomes q.end_of f on q.gives);
-          told =
-              ap (behind seen_line) q.told
-              ∙ same_report (seen_line ++ lines_from rules (place + length frame) later q.outcomes) (lines_from rules place (frame ++ later) (o ∷ q.outcomes))
-              (rules.last t ++ rest_of rules (drop (total rules q.outcomes) later) q.end_of) (rules.last t ++ rest_of rules (drop (passed rules o + total rules q.outcomes) (frame ++ later)) q.end_of) q.end_of
-              (rules.answer t (place + length frame + total rules q.outcomes)) (rules.answer t (place + (passed rules o + total rules q.outcomes)))
-              (lines_more q.outcomes on)
-              (ap (λ (x : List ℕ). rules.last t ++ rest_of rules x q.end_of) (sym (drop-front frame later (total rules q.outcomes)) ∙ ap (λ (n : ℕ). drop (n + total rules q.outcomes) (frame ++ later)) (sym p)))
-              (ap (rules.answer t) (let same : place + length frame + total rules q.outcomes ≡ place + (passed rules o + total rules q.outcomes) = omega arith in same));
+          outcomes = o ∷ os;
+          end_of = e;
+          gives = gives;
+          told = ap reported (held_first place tally held later can
+              ∙ ap (λ c. let d : Done (Walking Outcome) ℕ = done_by walker x (option_map (walker.comes x) c) in hearing.behind d.actions (by_octets walker d.session later)) (content_is what held is))
+              ∙ reported_behind (rules.line place o.0 held o.1) (by_octets walker (next (ended_by rules what)) later)
+              ∙ ap (behind (rules.line place o.0 held o.1)) rest
+              ∙ rw (its_octets what is, drop-drop (total rules os) (passed rules o) (held ++ later), place_is) refl;
         }
 
-    pub report_reset : rules.judge.resets seen ≡ true → IsReport rules place tally (frame ++ later) (behind seen_line (closing rules place (counted tally (length frame) (rules.class seen)) end.Reset))
-    report_reset is =
-        let o : ℕ × Outcome = (length frame, seen) in
-        let p : passed rules o ≡ 0 = stays (length frame) seen is in
-        let t : Tally = record (counted tally (length frame) (rules.class seen)) { end = end.Reset } in
-        record {
-          outcomes = o ∷ [];
-          end_of = end.Reset;
-          gives = subst (λ (n : ℕ). Gives rules.judge (frame ++ later) ((n, seen) ∷ []) end.Reset) (sym size) (gives_reset Outcome rules.judge m frame later f is);
-          told = same_report (seen_line ++ []) (rules.line place (length frame) (octets_at (length frame) (frame ++ later)) seen ++ []) (rules.last t ++ []) (rules.last t ++ []) end.Reset (rules.answer t (place + 0)) (rules.answer t (place + (passed rules o + 0)))
-              (ap (λ (x : List ℕ). rules.line place (length frame) x seen ++ []) (sym front)) refl (ap (rules.answer t) (let same : place + 0 ≡ place + (passed rules o + 0) = omega arith in same));
-        }
+    -- behind the end of a stream nothing is heard
+    none_heard : (e : End) → by_octets walker (next (Some e)) later ≡ record { actions = []; session = next (Some e) }
+    none_heard e = hearings.drops_all walker is_hearer (next (Some e)) refl nothing_waits later
 
-  pub report_fault : (place : ℕ) (tally : Tally) (s : List ℕ) (f : HeadFault) → 19 ≤ length s → head_of s ≡ Err f
-      → IsReport rules place tally s (behind (rules.line place 0 (take 19 s) (rules.judge.of_fault f)) (closing rules place (counted tally 0 (rules.class (rules.judge.of_fault f))) end.Head))
-  report_fault place tally s f long faulty =
-      let o : ℕ × Outcome = (0, rules.judge.of_fault f) in
-      let p : passed rules o ≡ 0 = nothing_passes (rules.judge.of_fault f) in
-      let t : Tally = record (counted tally 0 (rules.class (rules.judge.of_fault f))) { end = end.Head } in
-      let l : List ℕ = rules.line place 0 (take 19 s) (rules.judge.of_fault f) ++ [] in
-      record {
-        outcomes = o ∷ [];
-        end_of = end.Head;
-        gives = gives_fault Outcome rules.judge s f long faulty;
-        told = same_report l l (rules.last t ++ []) (rules.last t ++ []) end.Head (rules.answer t (place + 0)) (rules.answer t (place + (passed rules o + 0)))
-            refl refl (ap (rules.answer t) (let same : place + 0 ≡ place + (passed rules o + 0) = omega arith in same));
-      }
+  module _ (n : ℕ) (shorter : (s : List ℕ) (place : ℕ) (tally : Tally) → length s < n → AreOctets s → HasReport place tally s) (place : ℕ) (tally : Tally) (held later : List ℕ) (can : IsHeld held) where
+    report_message : (m : Message) (f : IsFrame m held) → length later < n → AreOctets later → (resets : Bool) → rules.judge.resets (rules.judge.of_message m) ≡ resets → HasReport place tally (held ++ later)
+    report_message m f lt octets true is =
+        report_content place tally held later can (Ok m) f [] end.Reset (gives_reset Outcome rules.judge m held later f is)
+        (ap (λ (b : Bool). reported (by_octets walker (next place tally held later can (Ok m) f (reset_if b)) later)) is ∙ ap reported (none_heard place tally held later can (Ok m) f end.Reset))
+    report_message m f lt octets false on =
+        let x = next place tally held later can (Ok m) f None in
+        let q = shorter later x.place x.tally lt octets in
+        let rest : drop (passed rules (outcome rules (Ok m))) (held ++ later) ≡ later =
+        ap (λ (b : Bool). drop (if b then 0 else length (octets_of m)) (held ++ later)) on ∙ ap (λ (i : ℕ). drop i (held ++ later)) (sym (ap length f.octets)) ∙ drop-append_seam held later in
+        report_content place tally held later can (Ok m) f q.outcomes q.end_of (gives_more Outcome rules.judge m held later q.outcomes q.end_of f on q.gives)
+        (ap (λ (b : Bool). reported (by_octets walker (next place tally held later can (Ok m) f (reset_if b)) later)) on ∙ q.told
+        ∙ ap (λ (s : List ℕ). report_of rules x.place x.tally s q.outcomes q.end_of) (sym rest))
 
--- ---- the steps of a walk
+    report_front : Stops held → length later < n → AreOctets later → HasReport place tally (held ++ later)
+    report_front (inl whole) lt octets = report_message whole.0 whole.1 lt octets (rules.judge.resets (rules.judge.of_message whole.0)) refl
+    report_front (inr faulty) lt octets =
+        let f : HeadFault = faulty.1.0 in
+        let long : 19 ≤ length (held ++ later) = omega (arith, faulty.0, length-append held later) in
+        report_content place tally held later can (Err f) (faulty.0, faulty.1.1) [] end.Head
+        (gives_fault Outcome rules.judge (held ++ later) f long (head_of-append held later (omega (arith, faulty.0)) ∙ faulty.1.1))
+        (ap reported (none_heard place tally held later can (Err f) (faulty.0, faulty.1.1) end.Head))
 
-pub drop_none : (k : ℕ) → drop {A = ℕ} k [] ≡ []
-drop_none zero = refl
-drop_none (suc k) = refl
+  reports_within : (n : ℕ) (s : List ℕ) (place : ℕ) (tally : Tally) → length s < n → AreOctets s → HasReport place tally s
+  reports_within zero s place tally lt octets = absurd (omega arith)
+  reports_within (suc n) s place tally lt octets =
+      elim (cases_lt (length s) (wanted s)) [
+        | inl waits ↦
+            let can : IsHeld s = record { octets = octets; within = omega (arith, waits) } in
+            let none = hearings.front_by_octets walker is_hearer (front place tally) refl s nothing_waits can ∙ hearings.rests walker is_hearer (walking rules s place tally None) waits in
+            record { outcomes = []; end_of = end.Wait (length s); gives = gives_wait Outcome rules.judge s waits; told = ap reported none }
+        | inr long ↦
+            let held : List ℕ = take (wanted s) s in
+            let bounds = wanted-bounds s in
+            let size : length held ≡ wanted s = omega (arith, length-take (wanted s) s) in
+            let wants : wanted held ≡ wanted s = sym (wanted-append held (drop (wanted s) s) (omega (arith, bounds.0))) ∙ ap wanted (take-append-drop (wanted s) s) in
+            let octets_held : AreOctets held = AreOctets-take (wanted s) s octets in
+            subst (HasReport place tally) (take-append-drop (wanted s) s)
+            (report_front n (reports_within n) place tally held (drop (wanted s) s) (record { octets = octets_held; within = omega arith })
+            (wanted-Stops held octets_held (omega (arith, bounds.0)) (omega arith)) (omega (arith, bounds.0, length-drop (wanted s) s)) (AreOctets-drop (wanted s) s octets))
+      ]
 
-pub fed_whole : (held octets : List ℕ) (n : ℕ) (later : List ℕ) → (held ++ take n octets) ++ (drop n octets ++ later) ≡ held ++ (octets ++ later)
-fed_whole held octets n later =
-    append_assoc held (take n octets) (drop n octets ++ later) ∙ ap (λ (x : List ℕ). held ++ x) (sym (append_assoc (take n octets) (drop n octets) later))
-    ∙ ap (λ (x : List ℕ). held ++ (x ++ later)) (take-append-drop n octets)
+  -- each stream of octets has its report
+  pub heard_report : (place : ℕ) (tally : Tally) (s : List ℕ) → AreOctets s → HasReport place tally s
+  heard_report place tally s octets = reports_within (suc (length s)) s place tally (omega arith) octets
 
-pub not_waiting : (held octets : List ℕ) (n : ℕ) → n ≡ 0 → Waits held → Stops (held ++ take n octets) → ⊥
-not_waiting held octets n none waits stops =
-    let long = Stops-wanted held (subst Stops (ap (λ (k : ℕ). held ++ take k octets) none ∙ append-nil held) stops) in
-    omega (arith, long.1)
+-- ---- what is judged
 
-room_bound : (o : Option End) (n : ℕ) → room_by o n ≤ 2 ^ 60
-room_bound None n = omega arith
-room_bound (Some e) n = omega arith
+messages_in-bound : (n : ℕ) → messages_in n ≤ 1
+messages_in-bound zero = omega arith
+messages_in-bound (suc n) = rw (eqb-suc-zero n) (omega arith)
 
-pub some_end : (o : Option End) → is_some o ≡ true → (e : End) × (o ≡ Some e)
-some_end None is = absurd cc
-some_end (Some e) is = (e, refl)
+-- behind the end of a stream its octets don't count
+passed-bound : (resets : Bool) (n : ℕ) → (if resets then 0 else n) ≤ n
+passed-bound true n = omega arith
+passed-bound false n = omega arith
 
-closes_by : (reports : Reports) (t0 t1 : List ℕ) (answer : Result Tally ToolFault) → IsAnswer answer → ClosesBy reports t0 t1 answer → Closes reports t0 t1 answer
-closes_by reports t0 t1 (Ok tally) is c = c
-closes_by reports t0 t1 (Err (fault.Narrow n)) is c = c
-closes_by reports t0 t1 (Err (fault.Clean n why)) is c = (is, c)
-closes_by reports t0 t1 (Err fault.NoOpen) is c = absurd is
-closes_by reports t0 t1 (Err fault.Memory) is c = absurd is
-closes_by reports t0 t1 (Err fault.Read) is c = absurd is
-closes_by reports t0 t1 (Err fault.Write) is c = absurd is
-closes_by reports t0 t1 (Err (fault.BadHex n)) is c = absurd is
-closes_by reports t0 t1 (Err (fault.Script n)) is c = absurd is
-closes_by reports t0 t1 (Err fault.Net) is c = absurd is
+-- a message is counted once among the messages and once by its class
+counted-bound : (t : Tally) (len : ℕ) (k : Class) → all_counts (counted t len k) ≤ all_counts t + 2
+counted-bound t len class.Took = omega (arith, messages_in-bound len)
+counted-bound t len class.Withdrawn = omega (arith, messages_in-bound len)
+counted-bound t len class.Reset = omega (arith, messages_in-bound len)
+
+pub none_there : (o : Option End) → is_some o ≡ false → o ≡ None
+none_there None is = refl
+none_there (Some e) is = absurd cc
+
+closes_by : (report : Report) (t0 t1 : List ℕ) (answer : Result Tally ToolFault) → IsAnswer answer → t1 ≡ t0 ++ report.last → report.answer ≡ answer → ClosesBy report t0 t1 answer
+closes_by report t0 t1 (Ok tally) is told same = (told, same)
+closes_by report t0 t1 (Err (fault.Narrow n)) is told same = (told, same)
+closes_by report t0 t1 (Err (fault.Clean n why)) is told same = (is, told, same)
+closes_by report t0 t1 (Err fault.NoOpen) is told same = absurd is
+closes_by report t0 t1 (Err fault.Memory) is told same = absurd is
+closes_by report t0 t1 (Err fault.Read) is told same = absurd is
+closes_by report t0 t1 (Err fault.Write) is told same = absurd is
+closes_by report t0 t1 (Err (fault.BadHex n)) is told same = absurd is
+closes_by report t0 t1 (Err (fault.Script n)) is told same = absurd is
+closes_by report t0 t1 (Err fault.Net) is told same = absurd is
 
 module _ {Outcome : Type 0} where
-  -- what is reported where nothing has ended yet
-  pub open_reports : (w : Walking Outcome) (later : List ℕ) (r : Report) → w.ended ≡ None → IsReport w.rules w.place w.tally (w.held ++ later) r → reports_of w later r
-  open_reports w later r e q = subst (λ (x : Option End). reports_by x w.rules w.place w.tally (w.held ++ later) r) (sym e) q
+  abbrev done : List ℕ → Walking Outcome → Done (Walking Outcome) ℕ
+  done actions w = record { actions = actions; session = w }
 
-  -- nothing was taken
-  pub Moves-none : (w : Walking Outcome) (told octets : List ℕ) → IsGoing w → Moves w w told told octets octets
-  Moves-none w told octets g = record {
-    lines = [];
-    told = sym (append-nil told);
-    goes_on = λ later r q. q;
-    left = w.place + length w.held;
-    count = refl;
-    stands = subst (λ (x : Option End). StandsBy x w (w.place + length w.held)) (sym g.counting.open_ended) (g, refl);
-  }
+  -- what a walk reports of what it holds and of octets behind that is their report
+  pub reports_report : (w : Walking Outcome) (later : List ℕ) (r : Report) → w.ended ≡ None → IsHeld w.held → AreOctets later → reports_of w later r → IsReport w.rules w.place w.tally (w.held ++ later) r
+  reports_report w later r e can octets q =
+      subst (IsReport w.rules w.place w.tally (w.held ++ later))
+      (ap reported (held_first w.rules w.place w.tally w.held later can ∙ ap (λ (o : Option End). left_to_do walker (walking w.rules w.held w.place w.tally o) later) (sym e)) ∙ sym q)
+      (heard_report w.rules w.place w.tally (w.held ++ later) (AreOctets-append w.held later can.octets octets))
 
-  -- ---- octets that are pulled, up to the end of a message or of a header with a fault
+  -- ---- what is judged
 
-  module _ (old : Walking Outcome) (octets t0 t1 : List ℕ) (n : ℕ) (c : IsCounting old) (le : n ≤ length octets) where
-    abbrev frame : List ℕ
-    frame = old.held ++ take n octets
+  module _ (w : Walking Outcome) (octets t0 t1 : List ℕ) (n : ℕ) (unended : w.ended ≡ None) (pulls : Pulls w.held octets n) where
+    abbrev pulled : List ℕ
+    pulled = w.held ++ take n octets
 
-    abbrev after : List ℕ
-    after = drop n octets
+    pub judges_message : (m : Message) (len : ℕ) (k : Class) → IsFrame m pulled → len ≡ length pulled → Writes w.rules t0 t1 w.place len m k
+        → IsJudged w (walking w.rules [] (w.place + (if is_last k then 0 else len)) (counted w.tally len k) (reset_if (is_last k))) t0 t1 octets (Some n)
+    judges_message m len k f size writes =
+        let o : Outcome = w.rules.judge.of_message m in
+        let count : len ≡ length (octets_of m) = size ∙ ap length f.octets in (
+          w.rules.line w.place (length (octets_of m)) pulled o,
+          record {
+            pulls = pulls;
+            next = record { up = ap is_none unended; what = Ok m; is_held = f; does = refl; leaves = rw (sym writes.ends, writes.counts, count) refl };
+          },
+          writes.told ∙ ap (λ (i : ℕ). t0 ++ w.rules.line w.place i (octets_of m) o) count ∙ ap (λ (b : List ℕ). t0 ++ w.rules.line w.place (length (octets_of m)) b o) (sym f.octets),
+        )
 
-    lengths : length old.held + length octets ≡ length frame + length after
-    lengths = omega (arith, le, length-append old.held (take n octets), length-take n octets, length-drop n octets)
+    pub judges_fault : (f : HeadFault) → IsContent (Err f) pulled → WritesFault w.rules t0 t1 w.place pulled f
+        → IsJudged w (walking w.rules [] w.place (counted w.tally 0 class.Reset) (Some end.Head)) t0 t1 octets (Some n)
+    judges_fault f faulty writes =
+        let o : Outcome = w.rules.judge.of_fault f in
+        let stays : w.place ≡ w.place + passed w.rules (0, o) = omega (arith, passed-bound (w.rules.judge.resets o) 0) in (
+          w.rules.line w.place 0 pulled o,
+          record {
+            pulls = pulls;
+            next = record { up = ap is_none unended; what = Err f; is_held = faulty; does = refl; leaves = rw writes.counts (ap (λ (p : ℕ). walking w.rules [] p (counted w.tally 0 class.Reset) (Some end.Head)) stays) };
+          },
+          writes.told,
+        )
 
-    -- what is reported of them and of what comes, is reported of all
-    of_all : (later : List ℕ) (r : Report) → IsReport old.rules old.place old.tally (frame ++ (after ++ later)) r → reports_of old (octets ++ later) r
-    of_all later r q = open_reports old (octets ++ later) r c.open_ended (subst (λ (x : List ℕ). IsReport old.rules old.place old.tally x r) (fed_whole old.held octets n later) q)
+  -- a walk that stands behind another holds no more octets, and is ready
+  abbrev Stands : Walking Outcome → Walking Outcome → Type 0
+  Stands old new = (new.place + length new.held ≤ old.place + length old.held) × IsReady new
 
-    module _ (m : Message) (f : IsFrame m frame) where
-      abbrev next : Class → Walking Outcome
-      next k = walking old.rules [] (place_behind old.place (length frame) k) (counted old.tally (length frame) k) (ended_by k)
+  module _ (w : Walking Outcome) (c : IsCounting w) where
+    pub counting_ready : w.ended ≡ None → Waits w.held → IsReady w
+    counting_ready unended waits = record { waits = waits; counting = λ none. c; over = λ ended. absurd (let not : false ≡ true = sym (ap is_some unended) ∙ ended in cc) }
 
-      abbrev line : List ℕ
-      line = old.rules.line old.place (length frame) (octets_of m) (old.rules.judge.of_message m)
+    pub counts_on : (rules : Rules Outcome) (len : ℕ) (k : Class) → 1 < len → len ≤ length w.held → IsCounting (walking rules [] (w.place + len) (counted w.tally len k) None)
+    counts_on rules len k some within =
+        record { octets = AreOctets-nil; place = omega (arith, c.place, within); counts = omega (arith, c.counts, some, counted-bound w.tally len k) }
 
-      some : 19 ≤ length frame
-      some = let n = length-IsFrame m frame f in omega arith
+    stands_by : (len : ℕ) (k : Class) → 1 < len → len ≤ length w.held → (resets : Bool)
+        → Stands w (walking w.rules [] (w.place + (if resets then 0 else len)) (counted w.tally len k) (reset_if resets))
+    stands_by len k some within true = (omega arith, record { waits = nothing_waits; counting = λ none. absurd cc; over = λ ended. tt })
+    stands_by len k some within false = (omega (arith, within), record { waits = nothing_waits; counting = λ none. counts_on w.rules len k some within; over = λ ended. absurd cc })
 
-      module _ (fits : old.place + length old.held + length octets ≤ 2 ^ 60) where
-        going : (t : Tally) → t.messages ≤ old.place + length frame → t.took ≤ old.place + length frame → t.withdrawn ≤ old.place + length frame → t.resets ≡ 0
-            → IsGoing (walking old.rules [] (old.place + length frame) t None)
-        going t messages took withdrawn resets = record {
-          counting = record { open_ended = refl; octets = AreOctets-nil; place = omega (arith, fits, lengths); messages = messages; took = took; withdrawn = withdrawn; resets = resets };
-          waits = nothing_waits;
-        }
+    stands_judged : (what : Result Message HeadFault) → IsContent what w.held → Stands w (comes w what).1
+    stands_judged (Ok m) f =
+        let size = ap length f.octets in
+        stands_by (length (octets_of m)) _ (omega (arith, size, length-IsFrame m w.held f)) (omega (arith, size)) (w.rules.judge.resets (w.rules.judge.of_message m))
+    stands_judged (Err f) faulty =
+        (omega (arith, passed-bound (w.rules.judge.resets (w.rules.judge.of_fault f)) 0), record { waits = nothing_waits; counting = λ none. absurd cc; over = λ ended. tt })
 
-        stands : (k : Class) → StandsBy (ended_by k) (next k) (old.place + length frame)
-        stands class.Took =
-            let one = messages_in-bound (length frame) in
-            (going _ (omega (arith, c.messages, some, one)) (omega (arith, c.took, some)) (omega (arith, c.withdrawn)) c.resets, omega arith)
-        stands class.Withdrawn =
-            let one = messages_in-bound (length frame) in
-            (going _ (omega (arith, c.messages, some, one)) (omega (arith, c.took)) (omega (arith, c.withdrawn, some)) c.resets, omega arith)
-        stands class.Reset = tt
+    judges_stand : (line : List ℕ) (new : Walking Outcome) → Judges walker w line new → Stands w new
+    judges_stand line new j = subst (Stands w) (sym j.leaves) (stands_judged j.what j.is_held)
 
-      goes : (k : Class) → Writes old.rules t0 t1 old.place (length frame) m k → (later : List ℕ) (r : Report) → reports_of (next k) (after ++ later) r → reports_of old (octets ++ later) (behind line r)
-      goes class.Took w later r q =
-          of_all later (behind line r) (report_more old.rules old.place old.tally m frame (after ++ later) f r w.ends
-          (subst (λ (k : Class). IsReport old.rules (old.place + length frame) (counted old.tally (length frame) k) (after ++ later) r) w.counts q))
-      goes class.Withdrawn w later r q =
-          of_all later (behind line r) (report_more old.rules old.place old.tally m frame (after ++ later) f r w.ends
-          (subst (λ (k : Class). IsReport old.rules (old.place + length frame) (counted old.tally (length frame) k) (after ++ later) r) w.counts q))
-      goes class.Reset w later r q =
-          of_all later (behind line r) (subst (λ (x : Report). IsReport old.rules old.place old.tally (frame ++ (after ++ later)) (behind line x)) (sym (q ∙ ap (λ (k : Class). closing old.rules old.place (counted old.tally (length frame) k) end.Reset) w.counts))
-          (report_reset old.rules old.place old.tally m frame (after ++ later) f w.ends))
+  -- ---- what is heard is what is done octet by octet
 
-      pub Moves-message : (k : Class) (len : ℕ) → len ≡ length frame → old.place + length old.held + length octets ≤ 2 ^ 60 → Writes old.rules t0 t1 old.place len m k
-          → Moves old (walking old.rules [] (place_behind old.place len k) (counted old.tally len k) (ended_by k)) t0 t1 octets after
-      Moves-message k len same fits w =
-          let wrote = subst (λ (i : ℕ). Writes old.rules t0 t1 old.place i m k) same w in
-          subst (λ (i : ℕ). Moves old (walking old.rules [] (place_behind old.place i k) (counted old.tally i k) (ended_by k)) t0 t1 octets after) (sym same)
-          (record { lines = line; told = wrote.told; goes_on = goes k wrote; left = old.place + length frame; count = omega (arith, lengths); stands = stands fits k })
+  pub hears_pulled : (old new : Walking Outcome) (octets t0 t1 : List ℕ) (n : ℕ) → IsJudged old new t0 t1 octets (Some n) → Hears old new t0 t1 octets n
+  hears_pulled old new octets t0 t1 n j =
+      let h = hearings.pulls_as_fed walker is_hearer old octets n (Some j.0) new j.1 in
+      record { found = Some j.0; call = (h.fed, h.next); told = j.2 }
 
-    module _ (h : HeadFault) (size : length frame ≡ 19) (faulty : head_of frame ≡ Err h) where
-      abbrev fault_line : List ℕ → List ℕ
-      fault_line header = old.rules.line old.place 0 header (old.rules.judge.of_fault h)
+  -- nothing was there to judge, so octets were fed, and what is held then is judged
+  module _ (old mid new : Walking Outcome) (octets held t0 t1 t2 : List ℕ) (n : ℕ) (unended : old.ended ≡ None) (first : IsJudged old mid t0 t1 octets None)
+      (counts : hearing.CountsFed true mid.held octets n) (is : held ≡ mid.held ++ take n octets) where
+    is_fed : hearing.IsFed walker old octets n (behind_feed walker old octets n)
+    is_fed = (rw unended (rw first.1 at counts), refl)
 
-      pub Moves-fault : WritesFault old.rules t0 t1 old.place frame h → Moves old (walking old.rules old.held old.place (counted old.tally 0 class.Reset) (Some end.Head)) t0 t1 octets after
-      Moves-fault w = record {
-        lines = fault_line frame;
-        told = w.told;
-        goes_on = λ later r q.
-            let s : List ℕ = frame ++ (after ++ later) in
-            let front : take 19 s ≡ frame = ap (λ (k : ℕ). take k s) (sym size) ∙ take-append_seam frame (after ++ later) in
-            of_all later (behind (fault_line frame) r)
-            (subst (λ (x : Report). IsReport old.rules old.place old.tally s (behind (fault_line frame) x)) (sym (q ∙ ap (λ (k : Class). closing old.rules old.place (counted old.tally 0 k) end.Head) (sym w.counts)))
-            (subst (λ (x : List ℕ). IsReport old.rules old.place old.tally s (behind (fault_line x) (closing old.rules old.place (counted old.tally 0 (old.rules.class (old.rules.judge.of_fault h))) end.Head))) front
-            (report_fault old.rules old.place old.tally s h (omega (arith, size, length-append frame (after ++ later))) (head_of-append frame (after ++ later) (omega (arith, size)) ∙ faulty))));
-        left = old.place + length frame;
-        count = omega (arith, lengths);
-        stands = tt;
-      }
+    fed_next : (found : Option ℕ) → IsJudged (behind_feed walker old octets n) new t0 t2 [] found → Hears old new t0 t2 octets n
+    fed_next None j = record { found = None; call = (is_fed, (j.0.waits, j.1)); told = j.2 ∙ sym (append-nil t0) }
+    fed_next (Some k) j = record { found = Some j.0; call = (is_fed, hearings.judged_by_pull walker is_hearer _ k j.0 new j.1); told = j.2 }
 
-  -- ---- one step behind another
+    pub hears_fed : (found : Option ℕ) → IsJudged (walking mid.rules held mid.place mid.tally mid.ended) new t1 t2 [] found → Hears old new t0 t2 octets n
+    hears_fed found j = fed_next found (rw (is, first.1, first.2) at j)
 
-  pub Moves-more : (a b d : Walking Outcome) (t0 t1 t2 x y z : List ℕ) → Moves a b t0 t1 x y → b.ended ≡ None → Moves b d t1 t2 y z → Moves a d t0 t2 x z
-  Moves-more a b d t0 t1 t2 x y z p e q =
-      let stood = subst (λ (o : Option End). StandsBy o b p.left) e p.stands in
-      record {
+  module _ (old new : Walking Outcome) (octets t0 t1 : List ℕ) (n : ℕ) (unended : old.ended ≡ None) (ready : IsReady old) (h : Hears old new t0 t1 octets n) where
+    abbrev fed : Walking Outcome
+    fed = behind_feed walker old octets n
+
+    c : IsCounting old
+    c = ready.counting unended
+
+    up : is_none old.ended ≡ true
+    up = ap is_none unended
+
+    counts : hearing.CountsFed true old.held octets n
+    counts = taken_up (is_none old.ended) old.held octets n up h.call.0.0
+
+    pub hears_some : 0 < length octets → 0 < n
+    hears_some some = counts.1 ready.waits some
+
+    lengths : length fed.held + length (drop n octets) ≡ length old.held + length octets
+    lengths = omega (arith, counts.0.within, length-append old.held (take n octets), length-take n octets, length-drop n octets)
+
+    module _ (are : AreOctets octets) (fits : old.place + length old.held + length octets ≤ 2 ^ 60) where
+      passes : hearings.Passes walker is_hearer old octets n (given h.found) new
+      passes =
+          hearings.passes walker is_hearer old octets n h.found new
+          (record {
+            can_hold = record { octets = c.octets; within = omega (arith, ready.waits) };
+            holds_none = λ deaf. absurd (hearings.not_both (is_none old.ended) up deaf);
+          })
+          are ((hearings.feed_is_way walker is_hearer).heard old octets n h.found new h.call)
+
+      counts_fed : IsCounting fed
+      counts_fed = record { octets = AreOctets-append old.held (take n octets) c.octets (AreOctets-take n octets are); place = omega (arith, fits, lengths); counts = c.counts }
+
+      stands_fed : (o : Option (List ℕ)) → hearing.IsJudged walker fed o new → Stands fed new
+      stands_fed None j = subst (Stands fed) (sym j.1) (omega arith, counting_ready fed counts_fed unended j.0)
+      stands_fed (Some line) j = judges_stand fed counts_fed line new j
+
+      pub moves_heard : Moves old new t0 t1 octets (drop n octets)
+      moves_heard =
+          let s = stands_fed h.found h.call.1 in
+          record { lines = given h.found; told = h.told; left = passes.left; count = omega (arith, s.0, lengths); ready = s.1 }
+
+  pub moves_none : (w : Walking Outcome) (told octets : List ℕ) → IsReady w → Moves w w told told octets octets
+  moves_none w told octets ready = record { lines = []; told = sym (append-nil told); left = refl; count = omega arith; ready = ready }
+
+  pub moves_more : (a b d : Walking Outcome) (t0 t1 t2 x y z : List ℕ) → Moves a b t0 t1 x y → Moves b d t1 t2 y z → Moves a d t0 t2 x z
+  moves_more a b d t0 t1 t2 x y z p q =
+      let rest = left_to_do walker d z in record {
         lines = p.lines ++ q.lines;
         told = q.told ∙ ap (λ (t : List ℕ). t ++ q.lines) p.told ∙ append_assoc t0 p.lines q.lines;
-        goes_on = λ later r g.
-            subst (λ (l : List ℕ). reports_of a (x ++ later) (record { lines = l; last = r.last; end_of = r.end_of; answer = r.answer })) (sym (append_assoc p.lines q.lines r.lines)) (p.goes_on later (behind q.lines r) (q.goes_on later r g));
-        left = q.left;
-        count = omega (arith, q.count, p.count, stood.1);
-        stands = q.stands;
+        left = p.left ∙ ap (hearing.behind p.lines) q.left ∙ ap (λ (lines : List ℕ). done lines rest.session) (sym (append_assoc p.lines q.lines rest.actions));
+        count = omega (arith, p.count, q.count);
+        ready = q.ready;
       }
 
-  Moves-fed : (old new : Walking Outcome) (octets t0 t1 : List ℕ) (n : ℕ) → n ≤ length octets → Moves (walking old.rules (old.held ++ take n octets) old.place old.tally old.ended) new t0 t1 [] []
-      → Moves old new t0 t1 octets (drop n octets)
-  Moves-fed old new octets t0 t1 n le p = record {
-    lines = p.lines;
-    told = p.told;
-    goes_on = λ later r q. subst (λ (x : List ℕ). reports_by old.ended old.rules old.place old.tally x (behind p.lines r)) (fed_whole old.held octets n later) (p.goes_on (drop n octets ++ later) r q);
-    left = p.left;
-    count = omega (arith, p.count, le, length-append old.held (take n octets), length-take n octets, length-drop n octets);
-    stands = p.stands;
-  }
-
-  -- what is fed is judged then
-  pub Moves-judged : (old mid new : Walking Outcome) (octets held t0 t1 t2 : List ℕ) (n m k : ℕ) → n ≡ 0 → mid.ended ≡ None → Moves old mid t0 t1 octets (drop n octets)
-      → m ≤ length octets → held ≡ mid.held ++ take m octets → Moves (walking mid.rules held mid.place mid.tally mid.ended) new t1 t2 [] (drop k []) → Moves old new t0 t2 octets (drop m octets)
-  Moves-judged old mid new octets held t0 t1 t2 n m k none going p le is q =
-      Moves-more old mid new t0 t1 t2 octets octets (drop m octets) (subst (λ (i : ℕ). Moves old mid t0 t1 octets (drop i octets)) none p) going
-      (Moves-fed mid new octets t1 t2 m le (subst (λ (h : List ℕ). Moves (walking mid.rules h mid.place mid.tally mid.ended) new t1 t2 [] []) is
-      (subst (λ (x : List ℕ). Moves (walking mid.rules held mid.place mid.tally mid.ended) new t1 t2 [] x) (drop_none k) q)))
-
-  -- ---- where a stream ends
-
-  pub some_closing : (w : Walking Outcome) → IsReady w → (r : Report) × reports_of w [] r × (r.lines ≡ [])
-  some_closing w ready = by_end w.ended ready
-    where
-      by_end : (o : Option End) → IsReadyBy o w.held → (r : Report) × reports_by o w.rules w.place w.tally (w.held ++ []) r × (r.lines ≡ [])
-      by_end None waits = (
-        report_of w.rules w.place w.tally w.held [] (end.Wait (length w.held)),
-        subst (λ (x : List ℕ). IsReport w.rules w.place w.tally x (report_of w.rules w.place w.tally w.held [] (end.Wait (length w.held)))) (sym (append-nil w.held)) (report_wait w.rules w.place w.tally w.held waits),
-        refl,
-      )
-      by_end (Some e) over = (closing w.rules w.place w.tally e, refl, refl)
-
-  pub closes_over : (w : Walking Outcome) (e : End) (t0 t1 : List ℕ) (answer : Result Tally ToolFault) → w.ended ≡ Some e → IsOver e → IsAnswer answer → t1 ≡ t0 ++ w.rules.last (record w.tally { end = e })
-      → answer ≡ w.rules.answer (record w.tally { end = e }) w.place → Closes (reports_of w) t0 t1 answer
-  closes_over w e t0 t1 answer ended over is told same = closes_by (reports_of w) t0 t1 answer is (record {
-    report = closing w.rules w.place w.tally e;
-    reported = subst (λ (o : Option End). reports_by o w.rules w.place w.tally (w.held ++ []) (closing w.rules w.place w.tally e)) (sym ended) refl;
-    none = refl;
-    told = told ∙ ap (λ (x : List ℕ). t0 ++ x) (sym (append-nil (w.rules.last (record w.tally { end = e }))) ∙ ap (λ (x : List ℕ). w.rules.last (record w.tally { end = e }) ++ x) (sym (no_rest e over)));
-    answers = ap (w.rules.answer (record w.tally { end = e })) (let same : w.place + 0 ≡ w.place = omega arith in same) ∙ sym same;
-  })
-    where
-      no_rest : (d : End) → IsOver d → rest_of w.rules [] d ≡ []
-      no_rest end.Reset over = refl
-      no_rest end.Head over = refl
-      no_rest (end.Wait n) over = absurd over
-
-  pub closes_waiting : (w : Walking Outcome) (n : ℕ) (t0 t1 t2 : List ℕ) (answer : Result Tally ToolFault) → w.ended ≡ None → Waits w.held → n ≡ length w.held → IsAnswer answer
-      → t1 ≡ t0 ++ w.rules.last (record w.tally { end = end.Wait n }) → t2 ≡ t1 ++ w.rules.rest w.held → answer ≡ w.rules.answer (record w.tally { end = end.Wait n }) w.place → Closes (reports_of w) t0 t2 answer
-  closes_waiting w n t0 t1 t2 answer ended waits count is told rest same =
-      let r : Report = report_of w.rules w.place w.tally w.held [] (end.Wait n) in
-      closes_by (reports_of w) t0 t2 answer is (record {
-        report = r;
-        reported = open_reports w [] r ended
-            (subst (λ (x : List ℕ). IsReport w.rules w.place w.tally x r) (sym (append-nil w.held))
-            (subst (λ (k : ℕ). IsReport w.rules w.place w.tally w.held (report_of w.rules w.place w.tally w.held [] (end.Wait k))) (sym count) (report_wait w.rules w.place w.tally w.held waits)));
-        none = refl;
-        told = rest ∙ ap (λ (x : List ℕ). x ++ w.rules.rest w.held) told ∙ append_assoc t0 (w.rules.last (record w.tally { end = end.Wait n })) (w.rules.rest w.held);
-        answers = ap (w.rules.answer (record w.tally { end = end.Wait n })) (let same : w.place + 0 ≡ w.place = omega arith in same) ∙ sym same;
-      })
+  -- what is held is judged, and whatever follows is left to do
+  pub moves_judged : (old new : Walking Outcome) (t0 t1 rest : List ℕ) (found : Option ℕ) → old.ended ≡ None → IsCounting old → IsJudged old new t0 t1 [] found → Moves old new t0 t1 rest rest
+  moves_judged old new t0 t1 rest None unended c j =
+      subst (λ (w : Walking Outcome). Moves old w t0 t1 rest rest) (sym j.1)
+      (subst (λ (t : List ℕ). Moves old old t0 t rest rest) (sym j.2) (moves_none old t0 rest (counting_ready old c unended j.0.waits)))
+  moves_judged old new t0 t1 rest (Some n) unended c j =
+      let judges = hearings.judged_by_pull walker is_hearer old n j.0 new j.1 in
+      let s = judges_stand old c j.0 new judges in
+      record { lines = j.0; told = j.2; left = hearings.judges_left walker is_hearer old j.0 new rest judges; count = omega (arith, s.0); ready = s.1 }
 
   -- ---- a block
 
-  pub walk_total : (w : Walking Outcome) → IsCounting w → (later : List ℕ) → AreOctets later → (r : Report) × reports_of w later r
-  walk_total w c later octets =
-      let found = some_report w.rules w.place w.tally (w.held ++ later) (AreOctets-append w.held later c.octets octets) in
-      (found.0, open_reports w later found.0 c.open_ended found.1)
+  left_in_parts : (w : Walking Outcome) (a b : List ℕ)
+      → left_to_do walker w (a ++ b) ≡ hearing.behind (left_to_do walker w a).actions (by_octets walker (left_to_do walker w a).session b)
+  left_in_parts w a b =
+      let first = hearing.settled walker w in
+      let front = by_octets walker first.session a in
+      let back = by_octets walker front.session b in
+      ap (hearing.behind first.actions) (hearings.in_parts walker is_hearer first.session a b)
+      ∙ ap (λ (lines : List ℕ). done lines back.session) (sym (append_assoc first.actions front.actions back.actions))
 
-  pub takes_on : (old new : Walking Outcome) (t0 t1 octets : List ℕ) → Moves old new t0 t1 octets [] → IsGoing new → Takes (reports_of old) (reports_of new) (IsGoing new) t0 t1 octets false
-  takes_on old new t0 t1 octets p going =
-      let r : Report = report_of new.rules new.place new.tally new.held [] (end.Wait (length new.held)) in
-      record {
+  -- nothing is left to do where what is held waits and no octets come, or the stream has ended
+  pub waits_still : (w : Walking Outcome) → Waits w.held → left_to_do walker w [] ≡ done [] w
+  waits_still w waits = hearings.waiting walker is_hearer w [] waits
+
+  over_still : (w : Walking Outcome) → is_none w.ended ≡ false → Waits w.held → (later : List ℕ) → left_to_do walker w later ≡ done [] w
+  over_still w deaf waits later = hearings.waiting walker is_hearer w later waits ∙ hearings.drops_all walker is_hearer w deaf waits later
+
+  -- where the octets were heard up to a rest that does nothing, others can follow
+  pub goes_on : (old new : Walking Outcome) (t0 t1 octets rest : List ℕ) (p : Moves old new t0 t1 octets rest) → left_to_do walker new rest ≡ done [] new → GoesOn (reports_of old) octets p.lines (reports_of new)
+  goes_on old new t0 t1 octets rest p still later r q =
+      ap (behind p.lines) (q ∙ ap reported (hearings.waiting walker is_hearer new later p.ready.waits))
+      ∙ sym (reported_behind new.rules p.lines (by_octets walker new later))
+      ∙ ap reported (sym (left_in_parts old octets later
+      ∙ ap (λ (d : Done (Walking Outcome) ℕ). hearing.behind d.actions (by_octets walker d.session later))
+      (p.left ∙ ap (hearing.behind p.lines) still ∙ ap (λ (lines : List ℕ). done lines new) (append-nil p.lines))))
+
+  pub rests_at : (w : Walking Outcome) → w.ended ≡ None → IsReady w → Rests (reports_of w)
+  rests_at w unended ready =
+      let waiting = subst (λ (o : Option End). IsWaiting (end_by o (length w.held))) (sym unended) tt in
+      record { report = closing w; reported = ap reported (sym (waits_still w ready.waits)); none = refl; waiting = waiting }
+
+  pub takes_on : (old new : Walking Outcome) (t0 t1 octets : List ℕ) → Moves old new t0 t1 octets [] → new.ended ≡ None → Takes (reports_of old) (reports_of new) (IsReady new) t0 t1 octets false
+  takes_on old new t0 t1 octets p unended =
+      let on = goes_on old new t0 t1 octets [] p (waits_still new p.ready.waits) in
+      record { lines = p.lines; told = p.told; goes_on = on; stands = (p.ready, rests_at new unended p.ready) }
+
+  pub takes_over : (old new : Walking Outcome) (t0 t1 octets rest : List ℕ) → Moves old new t0 t1 octets rest → is_some new.ended ≡ true → Takes (reports_of old) (reports_of new) (IsReady new) t0 t1 octets true
+  takes_over old new t0 t1 octets rest p ended =
+      let still = over_still new (ap not ended) p.ready.waits in record {
         lines = p.lines;
         told = p.told;
-        goes_on = p.goes_on;
-        stands = (
-          going,
-          record {
-            report = r;
-            reported = open_reports new [] r going.counting.open_ended (subst (λ (x : List ℕ). IsReport new.rules new.place new.tally x r) (sym (append-nil new.held)) (report_wait new.rules new.place new.tally new.held going.waits));
-            none = refl;
-            waiting = tt;
-          },
-        );
-      }
-
-  pub takes_over : (old new : Walking Outcome) (t0 t1 octets rest : List ℕ) (e : End) → new.ended ≡ Some e → Moves old new t0 t1 octets rest → Takes (reports_of old) (reports_of new) (IsGoing new) t0 t1 octets true
-  takes_over old new t0 t1 octets rest e ended p =
-      let over : IsOver e = subst (λ (o : Option End). StandsBy o new p.left) ended p.stands in
-      let same : (later stream : List ℕ) (r : Report) → reports_of new later r → reports_by new.ended new.rules new.place new.tally stream r =
-      λ later stream r q.
-      subst (λ (o : Option End). reports_by o new.rules new.place new.tally stream r) (sym ended) (subst (λ (o : Option End). reports_by o new.rules new.place new.tally (new.held ++ later) r) ended q) in
-      record {
-        lines = p.lines;
-        told = p.told;
-        goes_on = λ later r q. p.goes_on later r (same later (new.held ++ (rest ++ later)) r q);
+        goes_on = goes_on old new t0 t1 octets rest p (still rest);
         stands = record {
-          report = closing new.rules new.place new.tally e;
-          reported = subst (λ (o : Option End). reports_by o new.rules new.place new.tally (new.held ++ []) (closing new.rules new.place new.tally e)) (sym ended) refl;
+          report = closing new;
+          reported = ap reported (sym (still []));
           none = refl;
-          over = λ r q. let is : r ≡ closing new.rules new.place new.tally e = subst (λ (o : Option End). reports_by o new.rules new.place new.tally (new.held ++ []) r) ended q in subst (λ (x : Report). IsOver x.end_of) (sym is) over;
-          always = λ later more r q. same later (new.held ++ more) r q;
+          over = λ r q. subst (λ (x : Report). IsOver x.end_of) (sym (q ∙ ap reported (still []))) (p.ready.over ended);
+          always = λ later more r q. q ∙ ap reported (still later ∙ sym (still more));
         };
       }
 
-  -- ---- how much can still be counted
+  pub room_moves : (old new : Walking Outcome) (t0 t1 octets rest : List ℕ) → Moves old new t0 t1 octets rest → room_of old ≤ room_of new + length octets
+  room_moves old new t0 t1 octets rest p = omega (arith, p.count)
 
-  room_open : (w : Walking Outcome) → w.ended ≡ None → room_of w ≡ 2 ^ 60 - (w.place + length w.held)
-  room_open w e = ap (λ (o : Option End). room_by o (w.place + length w.held)) e
+  pub walk_total : (w : Walking Outcome) (later : List ℕ) → AreOctets later → (r : Report) × reports_of w later r
+  walk_total w later octets = (reported (left_to_do walker w later), refl)
 
-  pub fits_in : (w : Walking Outcome) (n : ℕ) → IsGoing w → n ≤ room_of w → w.place + length w.held + n ≤ 2 ^ 60
-  fits_in w n going le = let room = room_open w going.counting.open_ended in omega (arith, going.counting.place)
+  -- ---- where a stream ends
 
-  pub room_over : (old new : Walking Outcome) (n : ℕ) (e : End) → new.ended ≡ Some e → room_of old ≤ room_of new + n
-  room_over old new n e ended =
-      let all : room_of new ≡ 2 ^ 60 = ap (λ (o : Option End). room_by o (new.place + length new.held)) ended in
-      omega (arith, room_bound old.ended (old.place + length old.held))
+  pub some_closing : (w : Walking Outcome) (t0 t1 : List ℕ) → IsReady w → Closes (reports_of w) t0 t1 (Err fault.Memory)
+  some_closing w t0 t1 ready = record { report = closing w; reported = ap reported (sym (waits_still w ready.waits)); none = refl; closes = tt }
 
-  pub room_on : (old new : Walking Outcome) (t0 t1 octets : List ℕ) → IsGoing old → IsGoing new → Moves old new t0 t1 octets [] → room_of old ≤ room_of new + length octets
-  room_on old new t0 t1 octets was going p =
-      let stood = subst (λ (o : Option End). StandsBy o new p.left) going.counting.open_ended p.stands in
-      let before = room_open old was.counting.open_ended in
-      let behind = room_open new going.counting.open_ended in
-      omega (arith, p.count, stood.1)
+  pub closes : (w : Walking Outcome) (e : End) (t0 t1 : List ℕ) (answer : Result Tally ToolFault) → IsReady w → end_by w.ended (length w.held) ≡ e → IsAnswer answer
+      → t1 ≡ t0 ++ (w.rules.last (record w.tally { end = e }) ++ rest_of w.rules w.held e) → answer ≡ w.rules.answer (record w.tally { end = e }) w.place → Closes (reports_of w) t0 t1 answer
+  closes w e t0 t1 answer ready ends is told same =
+      let stays : w.place + 0 ≡ w.place = omega arith in
+      let r = report_of w.rules w.place w.tally w.held [] in
+      let by = closes_by (r e) t0 t1 answer is told (ap (w.rules.answer (record w.tally { end = e })) stays ∙ sym same) in
+      record {
+        report = closing w;
+        reported = ap reported (sym (waits_still w ready.waits));
+        none = refl;
+        closes = subst (λ (d : End). ClosesBy (r d) t0 t1 answer) (sym ends) by;
+      }
 
   -- ---- the front of a stream
 
-  abbrev pub front_of : Rules Outcome → Walking Outcome
-  front_of rules = walking rules [] 0 no_tally None
+  pub front_ready : (rules : Rules Outcome) → IsReady (front rules 0 no_tally)
+  front_ready rules = counting_ready _ (record { octets = AreOctets-nil; place = omega arith; counts = omega arith }) refl nothing_waits
 
-  pub front_going : (rules : Rules Outcome) → IsGoing (front_of rules)
-  front_going rules = record {
-    counting = record { open_ended = refl; octets = AreOctets-nil; place = omega arith; messages = omega arith; took = omega arith; withdrawn = omega arith; resets = refl };
-    waits = nothing_waits;
-  }
+  pub front_report : (rules : Rules Outcome) (s : List ℕ) (r : Report) → AreOctets s × reports_of (front rules 0 no_tally) s r → IsReport rules 0 no_tally s r
+  front_report rules s r q = reports_report (front rules 0 no_tally) s r refl (record { octets = AreOctets-nil; within = omega arith }) q.0 q.1
 
-  pub front_rests : (rules : Rules Outcome) → Rests (reports_of (front_of rules))
-  front_rests rules = record { report = report_of rules 0 no_tally [] [] (end.Wait 0); reported = report_wait rules 0 no_tally [] nothing_waits; none = refl; waiting = tt }
+-- nothing is written of octets that wait where the stream is over
+pub none_wait : {Outcome : Type 0} (rules : Rules Outcome) (held : List ℕ) (e : End) → IsOver e → rest_of rules held e ≡ []
+none_wait rules held end.Reset over = refl
+none_wait rules held end.Head over = refl
+none_wait rules held (end.Wait n) over = absurd over

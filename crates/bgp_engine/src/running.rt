@@ -3,7 +3,7 @@
 ghost use Rattle.std.specs.Prelude.{◌≡◌, ◌+◌, ◌≤◌, ◌<◌, ◌^◌, false, [], None, length, IfOk, OnOk, OnErr};
 ghost use Rattle.bgp_wire.specs.Octets.{AreOctets};
 ghost use Rattle.bgp_engine.specs.steps.Blocks.{Meets, Finished};
-ghost use Rattle.bgp_engine.specs.steps.Engine.{IsTotal, Rests};
+ghost use Rattle.bgp_engine.specs.steps.Engine.{IsTotal, OfOctets, Rests};
 ghost use Rattle.bgp_engine.specs.Run.{Answers, io};
 
 use crate::engine::Engine;
@@ -91,7 +91,7 @@ pub(crate) fn run<E: Engine, R: Read, W: Write>(
     requires room { 2 ^ 50 ≤ E.room (E.state engine.old) }
     requires told { E.told engine.old ≡ [] }
     requires rests { Rests (E.reports (E.state engine.old)) }
-    ensures { Answers (E.reports (E.state engine.old)) hex (io R.remaining input.old input.new W.contents output.old output.new) result }
+    ensures { Answers (OfOctets (E.reports (E.state engine.old))) hex (io R.remaining input.old input.new W.contents output.old output.new) result }
 {
     let mut reader = HexText::new();
     let mut block = [0; 4096];

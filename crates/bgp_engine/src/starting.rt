@@ -121,8 +121,8 @@ impl<'a, P: Page> Starting<'a, P> {
     ghost use Rattle.std.specs.Prelude.{◌≡◌, ◌+◌, ◌<◌, ◌≤◌, ◌^◌, ◌++◌, [], None, length, IfOk, OnOk, OnErr};
     ghost use Rattle.bgp_engine.specs.declared.opening.Stage.TheVariants as stage;
     ghost use Rattle.bgp_engine.specs.steps.Engine.{IsTotal, Takes};
-    ghost use Rattle.bgp_engine.specs.steps.Starting.{GoesOn, IsFirst, ReadyIn, reports_in, room_in, starting_of};
-    ghost use Rattle.bgp_engine.specs.steps.Walking.{IsCounting, IsGoing, IsReady, reports_of, room_of, walk_of};
+    ghost use Rattle.bgp_engine.specs.steps.Starting.{GoesOn, IsFirst, ReadyIn, reports_in, starting_of};
+    ghost use Rattle.bgp_engine.specs.steps.Walking.{IsCounting, IsReady, reports_of, room_of, walk_of};
 
     /// At the front of a stream.
     pub(crate) fn new(alloc: Global, theirs: Option<&'a [u8]>, page: P) -> Starting<'a, P>
@@ -142,19 +142,17 @@ impl<'a, P: Page> Starting<'a, P> {
 
     // Judges what is held, and what stands behind it.
     fn walk_on(&mut self, later: &[u8]) -> Result<bool, AllocError>
+        requires unended { self.old.walk.ended ≡ None }
         requires counting { IsCounting (walk_of P.rules self.old.walk) }
         requires room { self.old.walk.place + length self.old.walk.framer + length later.now ≤ 2 ^ 60 }
         ensures takes { IfOk result (λ over. Takes
-            (reports_of (walk_of P.rules self.old.walk)) (reports_of (walk_of P.rules self.new.walk)) (IsGoing (walk_of P.rules self.new.walk))
+            (reports_of (walk_of P.rules self.old.walk)) (reports_of (walk_of P.rules self.new.walk)) (IsReady (walk_of P.rules self.new.walk))
             (P.told self.old.walk.page) (P.told self.new.walk.page) later.now over) }
         ensures ready { OnOk result (IsReady (walk_of P.rules self.new.walk)) }
         ensures room { OnOk result (2 ^ 60 ≤ room_of (walk_of P.rules self.new.walk) + (self.old.walk.place + length self.old.walk.framer + length later.now)) }
         ensures same { self.new ≡ record self.old { walk = self.new.walk } }
     {
         self.walk.judge(&[])?;
-        if self.walk.ended.is_some() {
-            return Ok(true);
-        }
         self.walk.take(later)
     }
 
@@ -168,8 +166,7 @@ impl<'a, P: Page> Starting<'a, P> {
             (GoesOn (starting_of P.fits P.rules P.plan self.new))
             (P.told self.old.walk.page) (P.told self.new.walk.page) octets.now over) }
         ensures ready { OnOk result (ReadyIn (starting_of P.fits P.rules P.plan self.new)) }
-        ensures room { OnOk result (room_in (starting_of P.fits P.rules P.plan self.old)
-            ≤ room_in (starting_of P.fits P.rules P.plan self.new) + length octets.now) }
+        ensures room { OnOk result (room_of (walk_of P.rules self.old.walk) ≤ room_of (walk_of P.rules self.new.walk) + length octets.now) }
         ensures memory { OnErr result (IsTotal (reports_in (starting_of P.fits P.rules P.plan self.old))) }
     {
         let taken = self.walk.framer.feed(octets);
@@ -186,7 +183,8 @@ impl<'a, P: Page> Starting<'a, P> {
 }
 
 impl<P: Page> Engine for Starting<'_, P> {
-    ghost use Rattle.bgp_engine.specs.steps.Starting.{Starting, GoesOn, ReadyIn, reports_in, room_in, starting_of};
+    ghost use Rattle.bgp_engine.specs.steps.Starting.{Starting, GoesOn, ReadyIn, reports_in, starting_of};
+    ghost use Rattle.bgp_engine.specs.steps.Walking.{room_of};
 
     ghost State = { Starting P.Outcome };
 
@@ -200,7 +198,7 @@ impl<P: Page> Engine for Starting<'_, P> {
 
     ghost ready = { λ s. ReadyIn s };
 
-    ghost room = { λ s. room_in s };
+    ghost room = { λ s. room_of s.walk };
 
     fn take(&mut self, octets: &[u8]) -> Result<bool, AllocError> {
         match self.stage {

@@ -40,15 +40,15 @@ fn pulled<'a>(framer: &'a Framer, octets: &'a [u8], taken: usize) -> &'a [u8]
 }
 
 impl<P: Page> Walk<P> {
-    ghost use Rattle.std.specs.Prelude.{◌≡◌, ◌+◌, ◌<◌, ◌≤◌, ◌^◌, [], None, Some, length, drop, IfOk, OnOk};
+    ghost use Rattle.std.specs.Prelude.{◌≡◌, ◌+◌, ◌<◌, ◌≤◌, ◌^◌, [], None, Some, length, if◌then◌else◌, IfOk};
+    ghost use Rattle.bgp_wire.specs.Octets.{AreOctets};
     ghost use Rattle.bgp_frame.specs.declared.end.End.TheVariants as end;
     ghost use Rattle.bgp_engine.specs.declared.class.Class.TheVariants as class;
     ghost use Rattle.bgp_engine.specs.Rules.{counted};
     ghost use Rattle.bgp_engine.specs.Tally.{no_tally};
-    ghost use Rattle.bgp_engine.specs.steps.Walking.{Walking, IsCounting, IsGoing, Moves, place_behind, ended_by, reports_of, walk_of};
-    ghost use Rattle.bgp_frame.specs.Frame.{Waits};
+    ghost use Rattle.bgp_engine.specs.steps.Pages.{is_last};
+    ghost use Rattle.bgp_engine.specs.steps.Walking.{Hears, IsCounting, IsJudged, IsReady, all_counts, reports_of, reset_if, walk_of};
     ghost use Rattle.bgp_engine.specs.steps.Engine.{Closes};
-    ghost use Rattle.bgp_engine.specs.Report.{IsOver};
 
     /// A walk at the front of a stream.
     pub(crate) fn new(page: P) -> Walk<P>
@@ -72,13 +72,14 @@ impl<P: Page> Walk<P> {
     // Counts a message of so many octets.
     pub(crate) fn count(&mut self, len: u16, class: Class)
         requires place { self.old.place < 2 ^ 61 }
-        requires messages { self.old.tally.messages ≤ self.old.place }
-        requires took { self.old.tally.took ≤ self.old.place }
-        requires withdrawn { self.old.tally.withdrawn ≤ self.old.place }
-        requires resets { self.old.tally.resets ≡ 0 }
-        requires open { self.old.ended ≡ None }
+        requires counts { all_counts self.old.tally ≤ self.old.place }
+        requires unended { self.old.ended ≡ None }
         requires some { 0 < len }
-        ensures { self.new ≡ record self.old { place = place_behind self.old.place len class; tally = counted self.old.tally len class; ended = ended_by class } }
+        ensures { self.new ≡ record self.old {
+          place = self.old.place + (if is_last class then 0 else len);
+          tally = counted self.old.tally len class;
+          ended = reset_if (is_last class);
+        } }
     {
         self.tally.messages += 1;
         match class {
@@ -95,66 +96,67 @@ impl<P: Page> Walk<P> {
 
     // Counts a header's fault, behind which nothing can be read.
     fn count_fault(&mut self)
-        requires { self.old.tally.resets ≡ 0 }
+        requires place { self.old.place < 2 ^ 61 }
+        requires counts { all_counts self.old.tally ≤ self.old.place }
         ensures { self.new ≡ record self.old { tally = counted self.old.tally 0 class.Reset; ended = Some end.Head } }
     {
         self.tally.resets += 1;
         self.ended = Some(End::Head);
     }
 
-    // Judges what is held, or what octets begin with where nothing is held. Answers how many of the octets it took.
-    pub(crate) fn judge(&mut self, octets: &[u8]) -> Result<usize, AllocError>
+    // Judges what is held, or what octets begin with where nothing is held. Answers how many of the octets it took, where there was something to judge.
+    pub(crate) fn judge(&mut self, octets: &[u8]) -> Result<Option<usize>, AllocError>
+        requires unended { self.old.ended ≡ None }
         requires counting { IsCounting (walk_of P.rules self.old) }
-        requires room { self.old.place + length self.old.framer + length octets.now ≤ 2 ^ 60 }
-        ensures within { IfOk result (λ n. n ≤ length octets.now) }
-        // Where it takes none and what is held waits, nothing was judged.
-        ensures open { IfOk result (λ n. n ≡ 0 → Waits self.old.framer → self.new.ended ≡ None) }
-        ensures moves { IfOk result (λ n. Moves
+        ensures { IfOk result (λ found. IsJudged
             (walk_of P.rules self.old) (walk_of P.rules self.new)
-            (P.told self.old.page) (P.told self.new.page) octets.now (drop n octets.now)) }
+            (P.told self.old.page) (P.told self.new.page) octets.now found) }
     {
         match self.framer.look(octets) {
-            Pull::Feed => Ok(0),
+            Pull::Feed => Ok(None),
             Pull::Frame(taken, frame) => {
                 let len = frame.len;
                 let class = self.page.message(self.place, frame)?;
                 self.count(len, class);
                 self.framer.clear();
-                Ok(taken)
+                Ok(Some(taken))
             }
             Pull::Fault(taken, fault) => {
                 let header = pulled(&self.framer, octets, taken);
                 self.page.fault(self.place, header, fault)?;
                 self.count_fault();
-                Ok(taken)
+                self.framer.clear();
+                Ok(Some(taken))
             }
         }
     }
 
     // Takes octets up to the end of a message, which is judged where it stands if it is whole there. Answers how many it took.
     fn step(&mut self, octets: &[u8]) -> Result<usize, AllocError>
-        requires going { IsGoing (walk_of P.rules self.old) }
-        requires some { 0 < length octets.now }
+        requires unended { self.old.ended ≡ None }
+        requires ready { IsReady (walk_of P.rules self.old) }
         requires room { self.old.place + length self.old.framer + length octets.now ≤ 2 ^ 60 }
-        ensures within { IfOk result (λ n. n ≤ length octets.now) }
-        ensures some { IfOk result (λ n. 0 < n) }
-        ensures moves { IfOk result (λ n. Moves
+        ensures hears { IfOk result (λ n. Hears
             (walk_of P.rules self.old) (walk_of P.rules self.new)
-            (P.told self.old.page) (P.told self.new.page) octets.now (drop n octets.now)) }
+            (P.told self.old.page) (P.told self.new.page) octets.now n) }
+        ensures octets { AreOctets octets.now }
+        ensures within { IfOk result (λ n. n ≤ length octets.now) }
+        ensures some { IfOk result (λ n. 0 < length octets.now → 0 < n) }
     {
-        let judged = self.judge(octets)?;
-        if judged > 0 {
-            return Ok(judged);
+        match self.judge(octets)? {
+            Some(taken) => Ok(taken),
+            None => {
+                let taken = self.framer.feed(octets);
+                self.judge(&[])?;
+                Ok(taken)
+            }
         }
-        let taken = self.framer.feed(octets);
-        self.judge(&[])?;
-        Ok(taken)
     }
 
     // The answer to a stream that goes no further.
     fn close(&mut self, end: End) -> Result<Tally, ToolFault>
         requires ended { self.old.ended ≡ Some end }
-        requires over { IsOver end }
+        requires ready { IsReady (walk_of P.rules self.old) }
         ensures { Closes (reports_of (walk_of P.rules self.old)) (P.told self.old.page) (P.told self.new.page) result }
     {
         let tally = Tally { end, ..self.tally };
@@ -165,7 +167,7 @@ impl<P: Page> Walk<P> {
     // The answer to a stream of which the octets that are held wait.
     fn close_waiting(&mut self) -> Result<Tally, ToolFault>
         requires ended { self.old.ended ≡ None }
-        requires waits { Waits self.old.framer }
+        requires ready { IsReady (walk_of P.rules self.old) }
         ensures { Closes (reports_of (walk_of P.rules self.old)) (P.told self.old.page) (P.told self.new.page) result }
     {
         let end = End::Wait(self.framer.held() as u16);
@@ -178,7 +180,7 @@ impl<P: Page> Walk<P> {
 
 impl<P: Page> Engine for Walk<P> {
     ghost use Rattle.std.specs.Prelude.{◌≡◌, ◌+◌, ◌≤◌, [], None, length, IfOk, OnOk, OnErr};
-    ghost use Rattle.bgp_engine.specs.steps.Walking.{Walking, IsGoing, IsReady, reports_of, room_of, walk_of};
+    ghost use Rattle.bgp_engine.specs.steps.Walking.{Walking, IsReady, reports_of, room_of, walk_of};
 
     ghost State = { Walking P.Outcome };
 
@@ -188,7 +190,7 @@ impl<P: Page> Engine for Walk<P> {
 
     ghost reports = { λ w. reports_of w };
 
-    ghost going = { λ w. IsGoing w };
+    ghost going = { λ w. IsReady w };
 
     ghost ready = { λ w. IsReady w };
 
@@ -196,15 +198,15 @@ impl<P: Page> Engine for Walk<P> {
 
     fn take(&mut self, octets: &[u8]) -> Result<bool, AllocError> {
         let mut rest = octets;
-        'stream: while !rest.is_empty() {
-            let taken = self.step(rest)?;
-            if self.ended.is_some() {
-                return Ok(true);
+        'stream: while self.ended.is_none() {
+            if rest.is_empty() {
+                return Ok(false);
             }
+            let taken = self.step(rest)?;
             let (_, later) = rest.split_at(taken);
             rest = later;
         }
-        Ok(false)
+        Ok(true)
     }
 
     fn finish(&mut self) -> Result<Tally, ToolFault> {

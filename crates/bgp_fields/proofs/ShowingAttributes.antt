@@ -25,7 +25,7 @@ use Rattle.bgp_attr.proofs.Tables.{◌&◌, by_row, entry-other}
 use Rattle.bgp_attr.proofs.TestRows.{passed, by_type, by_kept}
 use Rattle.bgp_update.specs.Marks.{malformed, carries_routes, repeated}
 use Rattle.bgp_update.specs.Verdict.{reset_by}
-use Rattle.bgp_update.proofs.AttrSlots.{as_mp_reach, as_mp_unreach}
+use Rattle.bgp_update.specs.Taken.{as_mp_reach, as_mp_unreach}
 use Rattle.bgp_fields.specs.declared.kind.FieldKind.{FieldKind}
 use Rattle.bgp_fields.specs.declared.kind.FieldKind.TheVariants as field
 use Rattle.bgp_fields.specs.declared.part.ValuePart.{ValuePart}

@@ -28,9 +28,10 @@ use Rattle.bgp_update.specs.declared.attrs.Attrs.{Attrs}
 use Rattle.bgp_update.specs.Marks.{marks_behind, field_marks, marks_of}
 use Rattle.bgp_update.specs.Notes.{gone_ip4, gone_ip6, reached_ip4, reached_ip6}
 use Rattle.bgp_update.specs.Parts.{Parts, IsBody, has_nlri}
-use Rattle.bgp_update.specs.Taken.{kept_of, attrs_of, update_of}
+use Rattle.bgp_update.specs.Taken.{kept_of, attrs_of, update_of, as_mp_reach, as_mp_unreach}
 use Rattle.bgp_update.specs.Verdict.{reset_of}
-use Rattle.bgp_update.proofs.AttrSlots.{first_in, as_mp_reach, as_mp_unreach, attrs_of-slots}
+use Rattle.bgp_update.proofs.AttrSlots.{attrs_of-slots}
+use Rattle.bgp_update.proofs.TypeLemmas.{first_in}
 use Rattle.bgp_update.proofs.KeptMarks.{with_cut-kept, row-kept}
 use Rattle.bgp_update.proofs.Lists.{flat_map-same}
 use Rattle.bgp_update.proofs.Rising.{NoneTwice}

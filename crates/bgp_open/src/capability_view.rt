@@ -72,7 +72,7 @@ fn meaning(code: u8, value: &[u8]) -> Option<CapabilityView<'_>>
 
 /// The capability at the front, and what follows it.
 #[tactic(auto, unfolding(crate::specs::Capability::one_capability))]
-pub(crate) fn first_capability(octets: &[u8]) -> Option<(CapabilityView<'_>, &[u8])>
+pub fn first_capability(octets: &[u8]) -> Option<(CapabilityView<'_>, &[u8])>
     ensures { option_map (λ x. (capability_value x.0, x.1.now)) result ≡ one_capability octets.now }
 {
     let (code, rest) = octets.split_first()?;

@@ -23,7 +23,7 @@ fn are_capabilities(octets: &[u8]) -> bool
 
 /// The octets of the capabilities in the parameter at the front, and what follows the parameter.
 #[tactic(auto, using(crate::proofs::Parameters::steps))]
-pub(crate) fn first_parameter(octets: &[u8]) -> Option<(&[u8], &[u8])>
+pub fn first_parameter(octets: &[u8]) -> Option<(&[u8], &[u8])>
     ensures { option_map (λ x. ((pieces one_capability x.0.now).0, x.1.now)) result ≡ one_parameter octets.now }
 {
     let (kind, rest) = octets.split_first()?;

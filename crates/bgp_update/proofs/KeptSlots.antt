@@ -1,32 +1,22 @@
 -- The slots of what was kept: each has the first attribute of its type.
-use Rattle.std.proofs.Common.{◌≡◌, ℕ, Bool, true, false, not, cond, eqb, List, [], ◌∷◌, ◌++◌, map, Option, Some, None, refl, sym, ap, subst, ◌∙◌}
-use Rattle.std.specs.Prelude.{is_some}
+use Rattle.std.proofs.Common.{◌≡◌, ℕ, Bool, true, false, not, ◌&&◌, cond, eqb, List, [], ◌∷◌, ◌++◌, map, Option, Some, None, refl, sym, ap, subst, ◌∙◌}
 use Rattle.std.specs.List.{flat_map, list_any, AllByRecursion}
-use Rattle.std.proofs.lemmas.Bool.{both_ways, ne_eqb, or_parts, or_from, cond-false, not_from_true}
-use Rattle.bgp_attr.specs.declared.aggregator.Aggregator.{Aggregator}
+use Rattle.std.proofs.lemmas.Bool.{both_ways, eqb-true, ne_eqb, and_parts, or_parts, or_from, cond-false, not-true, not_from_true}
 use Rattle.bgp_attr.specs.declared.attr.Attr.{Attr}
 use Rattle.bgp_attr.specs.declared.attr.Attr.TheVariants as attr
-use Rattle.bgp_attr.specs.declared.communities.Communities.{Communities}
-use Rattle.bgp_attr.specs.declared.communities.LargeCommunities.{LargeCommunities}
-use Rattle.bgp_attr.specs.declared.mp.MpReach.{MpReach}
-use Rattle.bgp_attr.specs.declared.mp.MpUnreach.{MpUnreach}
 use Rattle.bgp_attr.specs.declared.opaque.Opaque.{Opaque}
-use Rattle.bgp_attr.specs.declared.origin.Origin.{Origin}
-use Rattle.bgp_attr.specs.declared.path.As4Path.{As4Path}
-use Rattle.bgp_attr.specs.declared.path.AsPath.{AsPath}
-use Rattle.bgp_numbers.specs.declared.attribute.TheConstants.{ORIGIN, AS_PATH, NEXT_HOP, MULTI_EXIT_DISC, LOCAL_PREF, ATOMIC_AGGREGATE, AGGREGATOR, COMMUNITIES, MP_REACH_NLRI, MP_UNREACH_NLRI, AS4_PATH, AS4_AGGREGATOR, LARGE_COMMUNITY}
 use Rattle.bgp_attr.specs.Judgement.{is_recognised}
 use Rattle.bgp_attr.specs.Written.{type_of, is_misnamed}
-use Rattle.bgp_attr.proofs.Tables.{◌&◌}
 use Rattle.bgp_wire.specs.OctetSet.{also, none_of_them}
-use Rattle.bgp_update.specs.steps.Others.{as_opaque, rising_behind}
-use Rattle.bgp_update.proofs.AttrSlots.{first_in, as_origin, as_as_path, as_next_hop, as_med, as_local_pref, as_aggregator, as_communities, as_mp_reach, as_mp_unreach, as_as4_path, as_as4_aggregator, as_large, attrs_in}
+use Rattle.bgp_update.specs.declared.attrs.Attrs.{Attrs}
+use Rattle.bgp_update.specs.Taken.{is_opaque, as_opaque, first_known, rising_behind, attrs_of}
+use Rattle.bgp_update.proofs.AttrSlots.{attrs_in, attrs_of-slots}
 use Rattle.bgp_update.specs.Slots.{present, slot, canonical_order, attr_list}
 use Rattle.bgp_update.specs.Written.{has_bad_others, rise}
-use Rattle.bgp_update.proofs.Lists.{all-none, all-append, flat_map-same, all-flat_map}
+use Rattle.bgp_update.proofs.Lists.{find-passes, all-none, all-append, flat_map-same, all-flat_map}
 use Rattle.bgp_update.proofs.Rising.{NoneTwice, kinds, of_kind, rising-find, rising-rises, rising-all, rises-rise}
-use Rattle.bgp_update.proofs.TypeLemmas.{fresh-fewer, as_atomic, atomic_attr, first_of_type, Named, slot-first, taken-origin, taken-as_path, taken-next_hop, taken-med, taken-local_pref, taken-atomic, taken-aggregator, taken-communities, taken-mp_reach, taken-mp_unreach, taken-as4_path, taken-as4_aggregator, taken-large}
-use Rattle.bgp_update.proofs.SlotLemmas.{by_slot, any-atomic, atomic_slot}
+use Rattle.bgp_update.proofs.TypeLemmas.{fresh-fewer, other_kind, first_of_type, Named}
+use Rattle.bgp_update.proofs.SlotLemmas.{IsTyped, slot-from, other-from}
 
 -- ---- the unrecognised ones among attributes
 
@@ -64,30 +54,33 @@ opaque-first k other (x ∷ xs) = found-by k x (flat_map as_opaque xs) (first_of
 
 -- ---- the slots
 
-atomic-first : (o : Option Bool) → atomic_slot (is_some o) ≡ present atomic_attr o
-atomic-first None = refl
-atomic-first (Some b) = refl
+-- the first of a recognised type is the first of all that have it
+known-first : (k : ℕ) (xs : List Attr) → is_recognised k ≡ true → Named xs → present (λ x. x) (first_known xs k) ≡ first_of_type k xs
+known-first k [] known named = refl
+known-first k (x ∷ xs) known named = by (known-first k xs known named.1) x named.0 (eqb (type_of x) k) refl
+  where
+    by : present (λ z. z) (first_known xs k) ≡ first_of_type k xs → (y : Attr) → is_misnamed y ≡ false → (t : Bool) → eqb (type_of y) k ≡ t
+        → present (λ z. z) (cond (not (is_opaque y) && t) (Some y) (first_known xs k)) ≡ cond t (y ∷ []) (first_of_type k xs)
+    by later (attr.Opaque o) plain true e = absurd (both_ways (eqb o.kind k) (other_kind o.kind k known plain) e)
+    by later (attr.Opaque o) plain false e = later
+    by later _ plain true e = refl
+    by later _ plain false e = later
+
+typed-first : (k : ℕ) (xs : List Attr) → IsTyped k (first_known xs k)
+typed-first k xs x e =
+    let p = and_parts (not (is_opaque x)) (eqb (type_of x) k) (find-passes (λ a. not (is_opaque a) && eqb (type_of a) k) xs x e) in
+    (eqb-true (type_of x) k p.1, not-true (is_opaque x) p.0)
 
 module _ (xs : List Attr) (named : Named xs) (fresh : NoneTwice none_of_them (map type_of xs)) where
   pub slot-kept : (k : ℕ) → slot (attrs_in xs) k ≡ first_of_type k xs
-  slot-kept k =
-      by_slot (attrs_in xs) k (λ j ys. ys ≡ first_of_type j xs)
-      (slot-first as_origin (λ (o : Origin). attr.Origin o) ORIGIN taken-origin xs named
-      & slot-first as_as_path (λ (p : AsPath). attr.AsPath p) AS_PATH taken-as_path xs named
-      & slot-first as_next_hop (λ (addr : List ℕ). attr.NextHop addr) NEXT_HOP taken-next_hop xs named
-      & slot-first as_med (λ (n : ℕ). attr.Med n) MULTI_EXIT_DISC taken-med xs named
-      & slot-first as_local_pref (λ (n : ℕ). attr.LocalPref n) LOCAL_PREF taken-local_pref xs named
-      & (ap atomic_slot (any-atomic xs) ∙ atomic-first (first_in as_atomic xs) ∙ slot-first as_atomic atomic_attr ATOMIC_AGGREGATE taken-atomic xs named)
-      & slot-first as_aggregator (λ (g : Aggregator). attr.Aggregator g) AGGREGATOR taken-aggregator xs named
-      & slot-first as_communities (λ (c : Communities). attr.Communities c) COMMUNITIES taken-communities xs named
-      & slot-first as_mp_reach (λ (r : MpReach). attr.MpReach r) MP_REACH_NLRI taken-mp_reach xs named
-      & slot-first as_mp_unreach (λ (r : MpUnreach). attr.MpUnreach r) MP_UNREACH_NLRI taken-mp_unreach xs named
-      & slot-first as_as4_path (λ (p : As4Path). attr.As4Path p) AS4_PATH taken-as4_path xs named
-      & slot-first as_as4_aggregator (λ (g : Aggregator). attr.As4Aggregator g) AS4_AGGREGATOR taken-as4_aggregator xs named
-      & slot-first as_large (λ (l : LargeCommunities). attr.Large l) LARGE_COMMUNITY taken-large xs named
-      & tt)
-      (λ other. ap (λ (o : Option Opaque). present (λ (p : Opaque). attr.Opaque p) o) (rising-find k (flat_map as_opaque xs) [] none_of_them (λ j. refl) (opaques-fresh xs none_of_them fresh))
-      ∙ opaque-first k other xs)
+  slot-kept k = ap (λ (a : Attrs). slot a k) (sym (attrs_of-slots xs)) ∙ by (is_recognised k) refl
+    where
+      by : (b : Bool) → is_recognised k ≡ b → slot (attrs_of xs) k ≡ first_of_type k xs
+      by true known = slot-from (first_known xs) (rising_behind [] (flat_map as_opaque xs)) k (λ j. typed-first j xs) known ∙ known-first k xs known named
+      by false other =
+          other-from (first_known xs) (rising_behind [] (flat_map as_opaque xs)) k other
+          ∙ ap (λ (o : Option Opaque). present (λ (p : Opaque). attr.Opaque p) o) (rising-find k (flat_map as_opaque xs) [] none_of_them (λ j. refl) (opaques-fresh xs none_of_them fresh))
+          ∙ opaque-first k other xs
 
   -- the attributes by type, in their order
   pub kept-list : attr_list (attrs_in xs) ≡ flat_map (λ k. first_of_type k xs) canonical_order

@@ -1,45 +1,47 @@
--- Attributes that are put into their slots one after another are those of the whole.
-use Rattle.std.proofs.Common.{◌≡◌, Bool, true, false, ◌||◌, List, [], ◌∷◌, ◌++◌, refl, sym, ap, ◌∙◌}
-use Rattle.std.specs.List.{list_any}
+-- Attributes that are kept one after another are those of the whole.
+use Rattle.std.proofs.Common.{◌≡◌, ℕ, Bool, true, false, ◌||◌, ◌&&◌, not, eqb, List, [], ◌++◌, Option, refl, sym, ap, ◌∙◌}
+use Rattle.std.specs.List.{flat_map, list_any}
+use Rattle.std.proofs.lemmas.List.Folds.{find-append, list_any-append}
+use Rattle.std.specs.Option.{option_or}
 use Rattle.bgp_attr.specs.declared.attr.Attr.{Attr}
-use Rattle.bgp_attr.specs.declared.attr.Attr.TheVariants as attr
-use Rattle.bgp_update.specs.declared.attrs.Attrs.{Attrs}
-use Rattle.bgp_update.specs.KeptView.{Kept, known_of, is_opaque, put_known, with_attr, kept_in, kept_behind}
-use Rattle.bgp_update.specs.Taken.{no_attrs, put, put_all}
-use Rattle.bgp_update.proofs.AttrSlots.{or_true, or_false}
+use Rattle.bgp_attr.specs.declared.opaque.Opaque.{Opaque}
+use Rattle.bgp_attr.specs.Written.{type_of}
+use Rattle.bgp_update.specs.declared.kept_view.KeptView.{KeptView}
+use Rattle.bgp_update.specs.KeptView.{Kept, known_of, known_value, kept_value, kept_in, kept_behind}
+use Rattle.bgp_update.specs.Taken.{attrs_from, attrs_of, first_known, is_opaque, as_opaque, rising_behind}
+use Rattle.bgp_update.proofs.Options.{option_or-assoc, option_or-none}
 
-known_put : (a : Attrs) (x : Attr) → put_known (known_of a) x ≡ known_of (put a x)
-known_put a (attr.Origin o) = refl
-known_put a (attr.AsPath p) = refl
-known_put a (attr.NextHop addr) = refl
-known_put a (attr.Med n) = refl
-known_put a (attr.LocalPref n) = refl
-known_put a attr.Atomic = refl
-known_put a (attr.Aggregator g) = refl
-known_put a (attr.Communities c) = refl
-known_put a (attr.MpReach r) = refl
-known_put a (attr.MpUnreach r) = refl
-known_put a (attr.As4Path p) = refl
-known_put a (attr.As4Aggregator g) = refl
-known_put a (attr.Large l) = refl
-known_put a (attr.Opaque o) = refl
+pub or_false : (t : Bool) → (t || false) ≡ t
+or_false true = refl
+or_false false = refl
 
-or_turned : (a b c : Bool) → ((a || b) || c) ≡ (b || (a || c))
-or_turned true b c = sym (or_true b c)
-or_turned false b c = refl
+pub or_true : (t : Bool) → (t || true) ≡ true
+or_true true = refl
+or_true false = refl
 
-known_behind : (a : Attrs) (b : Bool) (xs : List Attr)
-    → kept_behind (record { known = known_of a; others = b }) xs ≡ record { known = known_of (put_all a xs); others = b || list_any is_opaque xs }
-known_behind a b [] = ap (λ (t : Bool). record { known = known_of a; others = t }) (sym (or_false b))
-known_behind a b (x ∷ xs) =
-    ap (λ (k : Attrs). kept_behind (record { known = k; others = is_opaque x || b }) xs) (known_put a x)
-    ∙ known_behind (put a x) (is_opaque x || b) xs
-    ∙ ap (λ (t : Bool). record { known = known_of (put_all (put a x) xs); others = t }) (or_turned (is_opaque x) b (list_any is_opaque xs))
+or-assoc : (a b c : Bool) → ((a || b) || c) ≡ (a || (b || c))
+or-assoc true b c = refl
+or-assoc false b c = refl
 
 -- behind none, they are those of the whole
 pub kept_whole : (kept : List Attr) → kept_behind (kept_in []) kept ≡ kept_in kept
-kept_whole kept = known_behind no_attrs false kept
+kept_whole kept = refl
+
+pub kept_none : (k : Kept) → kept_behind k [] ≡ k
+kept_none k = λ i. record { known = λ kind. option_or-none (k.known kind) i; others = or_false k.others i }
 
 pub kept_append : (k : Kept) (xs ys : List Attr) → kept_behind (kept_behind k xs) ys ≡ kept_behind k (xs ++ ys)
-kept_append k [] ys = refl
-kept_append k (x ∷ xs) ys = kept_append (with_attr k x) xs ys
+kept_append k xs ys = λ i. record {
+  known = λ kind.
+      (option_or-assoc (k.known kind) (first_known xs kind) (first_known ys kind)
+      ∙ ap (option_or (k.known kind)) (sym (find-append (λ a. not (is_opaque a) && eqb (type_of a) kind) xs ys))) i;
+  others = (or-assoc k.others (list_any is_opaque xs) (list_any is_opaque ys) ∙ ap (λ (t : Bool). k.others || t) (sym (list_any-append is_opaque xs ys))) i;
+}
+
+-- so are those of recognised types
+known_from : (first : ℕ → Option Attr) (others : List Opaque) → attrs_from first [] ≡ known_of (attrs_from first others)
+unfolding attrs_from
+known_from first others = refl
+
+pub kept_known : (k : KeptView) (kept : List Attr) → kept_value k ≡ kept_in kept → known_value k ≡ known_of (attrs_of kept)
+kept_known k kept e = ap (λ (found : Kept). attrs_from found.known []) e ∙ known_from (first_known kept) (rising_behind [] (flat_map as_opaque kept))

@@ -1,31 +1,30 @@
 -- Attributes that are kept by place: one more of them, and what stands in the slot of a type.
-use Rattle.std.proofs.Common.{◌≡◌, ℕ, zero, suc, ◌<◌, Bool, true, false, not, cond, eqb, ltb, List, [], ◌∷◌, length, get_or, set, replicate, Option, Some, None, refl, sym, ap, subst, ◌∙◌, arith}
+use Rattle.std.proofs.Common.{◌≡◌, ℕ, zero, suc, ◌<◌, Bool, true, false, not, ◌||◌, cond, eqb, ltb, List, [], ◌∷◌, length, get_or, set, replicate, Option, Some, None, refl, sym, ap, subst, ◌∙◌, arith}
 use Rattle.std.specs.Prelude.{◌-◌, is_some, option_map, slice_index_or, IfSome, IsTrue}
 use Rattle.std.specs.Option.{option_or}
 use Rattle.std.proofs.lemmas.Bool.{eqb-true, eqb-false, ltb-true, both_ways}
 use Rattle.std.proofs.lemmas.Grind.{get_or-set_at}
 use Rattle.std.proofs.lemmas.List.{get_or-set_other}
-use Rattle.bgp_numbers.specs.declared.attribute.TheConstants.{ORIGIN, AS_PATH, NEXT_HOP, MULTI_EXIT_DISC, LOCAL_PREF, ATOMIC_AGGREGATE, AGGREGATOR, COMMUNITIES, MP_REACH_NLRI, MP_UNREACH_NLRI, AS4_PATH, AS4_AGGREGATOR, LARGE_COMMUNITY}
 use Rattle.bgp_open.specs.declared.context.Context.{Context}
 use Rattle.bgp_attr.specs.declared.attr.Attr.{Attr}
-use Rattle.bgp_attr.specs.declared.attr.Attr.TheVariants as attr
 use Rattle.bgp_attr.specs.JudgedView.{is_kept}
 use Rattle.bgp_attr.specs.Judgement as judgement
 use Rattle.bgp_attr.specs.Judgement.{AttributeType, is_recognised, judgement, type_row}
-use Rattle.bgp_attr.specs.Mp.{mp_reach_of, mp_unreach_of}
-use Rattle.bgp_attr.specs.Path.{path_of}
 use Rattle.bgp_attr.specs.Tlv.{TlvValue}
+use Rattle.bgp_attr.specs.Written.{type_of}
 use Rattle.bgp_attr.specs.TlvIter.{tlv_at}
 use Rattle.bgp_attr.specs.TlvView.{tlv_value}
 use Rattle.bgp_attr.specs.declared.tlv.Tlv.{Tlv}
-use Rattle.bgp_attr.specs.Value.{aggregator_of, as4_path_of, as_path_form, communities_of, four_of, large_of, origin_of}
 use Rattle.bgp_attr.proofs.Tables.{◌&◌, entry-passes}
-use Rattle.bgp_attr.proofs.TestRows.{by_type, row-at, row_at, row-other}
-use Rattle.bgp_update.specs.KeptView.{is_opaque, put_known, with_attr}
-use Rattle.bgp_update.specs.Places.{attrs_by, tlv_placed, IsKeptAt, ArePlaced}
+use Rattle.bgp_attr.proofs.TestRows.{by_type, row-other}
+use Rattle.bgp_update.specs.KeptView.{Kept, kept_behind}
+use Rattle.bgp_update.specs.Taken.{attrs_from, first_known, is_opaque}
+use Rattle.bgp_update.specs.Places.{tlv_placed, IsKeptAt, ArePlaced}
 use Rattle.bgp_update.specs.Slots.{present, slot}
-use Rattle.bgp_update.proofs.Options.{map_filled}
-use Rattle.bgp_update.proofs.SlotLemmas.{by_slot}
+use Rattle.bgp_update.proofs.Options.{map_filled, option_or-none}
+use Rattle.bgp_update.proofs.KeptViews.{or_false, or_true}
+use Rattle.bgp_update.proofs.Lists.{eqb-swap}
+use Rattle.bgp_update.proofs.SlotLemmas.{IsTyped, slot-from, other-from}
 
 -- where there is no place, there is none
 pub none_placed : (n k : ℕ) → (let none : ℕ = 0 in get_or (replicate n none) k none ≡ none)
@@ -43,48 +42,44 @@ kind-low kind known = ltb-true kind 33 (entry-passes (λ (k : ℕ). ltb k 33) ki
 abbrev pub also_at : ℕ → TlvValue → (ℕ → Option TlvValue) → ℕ → Option TlvValue
 also_at kind t tlv = λ k. cond (eqb k kind) (option_or (tlv k) (Some t)) (tlv k)
 
-some-or : (o : Option TlvValue) (t : TlvValue) → true ≡ is_some (option_or o (Some t))
-some-or None t = refl
-some-or (Some s) t = refl
+module _ (ctx : Context) (has_nlri : Bool) (t : TlvValue) where
+  abbrev value : TlvValue → Attr
+  value = λ s. (type_row ctx has_nlri s).value
 
-module _ (ctx : Context) (has_nlri : Bool) (t : TlvValue) (tlv : ℕ → Option TlvValue) where
-  -- the attributes by type with one more are those with it in its slot
-  abbrev Puts : ℕ → AttributeType → Type 0
-  Puts kind type = (put_known (attrs_by ctx tlv) type.value ≡ attrs_by ctx (also_at kind t tlv)) × (is_opaque type.value ≡ false)
-
-  at : (kind : ℕ) (type : AttributeType) → Puts kind type → t.kind ≡ kind → Puts t.kind type
-  at kind type p e = subst (λ (k : ℕ). Puts k type) (sym e) p
-
-  filled : {A : Type 0} (f : TlvValue → A) (kind : ℕ) → option_or (option_map f (tlv kind)) (Some (f t)) ≡ option_map f (option_or (tlv kind) (Some t))
-  filled f kind = sym (map_filled f (tlv kind) t)
-
-  puts : is_recognised t.kind ≡ true → Puts t.kind (type_row ctx has_nlri t)
-  unfolding attrs_by
-  puts known =
-      by_type ctx has_nlri t (Puts t.kind)
-      (at ORIGIN (row_at ctx has_nlri t ORIGIN) (ap (λ o. record (attrs_by ctx tlv) { origin = o }) (filled (λ (s : TlvValue). origin_of s.value) ORIGIN), refl)
-      & at AS_PATH (row_at ctx has_nlri t AS_PATH) (ap (λ o. record (attrs_by ctx tlv) { as_path = o }) (filled (λ (s : TlvValue). path_of (as_path_form ctx) s.value) AS_PATH), refl)
-      & at NEXT_HOP (row_at ctx has_nlri t NEXT_HOP) (ap (λ o. record (attrs_by ctx tlv) { next_hop = o }) (filled (λ (s : TlvValue). s.value) NEXT_HOP), refl)
-      & at MULTI_EXIT_DISC (row_at ctx has_nlri t MULTI_EXIT_DISC) (ap (λ o. record (attrs_by ctx tlv) { med = o }) (filled (λ (s : TlvValue). four_of s.value) MULTI_EXIT_DISC), refl)
-      & at LOCAL_PREF (row_at ctx has_nlri t LOCAL_PREF) (ap (λ o. record (attrs_by ctx tlv) { local_pref = o }) (filled (λ (s : TlvValue). four_of s.value) LOCAL_PREF), refl)
-      & at ATOMIC_AGGREGATE (row_at ctx has_nlri t ATOMIC_AGGREGATE) (ap (λ o. record (attrs_by ctx tlv) { atomic = o }) (some-or (tlv ATOMIC_AGGREGATE) t), refl)
-      & at AGGREGATOR (row_at ctx has_nlri t AGGREGATOR) (ap (λ o. record (attrs_by ctx tlv) { aggregator = o }) (filled (aggregator_of ctx.as4) AGGREGATOR), refl)
-      & at COMMUNITIES (row_at ctx has_nlri t COMMUNITIES) (ap (λ o. record (attrs_by ctx tlv) { communities = o }) (filled communities_of COMMUNITIES), refl)
-      & at MP_REACH_NLRI (row_at ctx has_nlri t MP_REACH_NLRI) (ap (λ o. record (attrs_by ctx tlv) { mp_reach = o }) (filled (λ (s : TlvValue). mp_reach_of s.value) MP_REACH_NLRI), refl)
-      & at MP_UNREACH_NLRI (row_at ctx has_nlri t MP_UNREACH_NLRI) (ap (λ o. record (attrs_by ctx tlv) { mp_unreach = o }) (filled (λ (s : TlvValue). mp_unreach_of s.value) MP_UNREACH_NLRI), refl)
-      & at AS4_PATH (row_at ctx has_nlri t AS4_PATH) (ap (λ o. record (attrs_by ctx tlv) { as4_path = o }) (filled as4_path_of AS4_PATH), refl)
-      & at AS4_AGGREGATOR (row_at ctx has_nlri t AS4_AGGREGATOR) (ap (λ o. record (attrs_by ctx tlv) { as4_aggregator = o }) (filled (aggregator_of true) AS4_AGGREGATOR), refl)
-      & at LARGE_COMMUNITY (row_at ctx has_nlri t LARGE_COMMUNITY) (ap (λ o. record (attrs_by ctx tlv) { large = o }) (filled large_of LARGE_COMMUNITY), refl)
-      & tt)
+  -- the value of a recognised type is of that type
+  pub of_type : is_recognised t.kind ≡ true → (type_of (value t) ≡ t.kind) × (is_opaque (value t) ≡ false)
+  of_type known =
+      by_type ctx has_nlri t (λ type. (type_of type.value ≡ t.kind) × (is_opaque type.value ≡ false))
+      ((λ e. (sym e, refl)) & (λ e. (sym e, refl)) & (λ e. (sym e, refl)) & (λ e. (sym e, refl))
+      & (λ e. (sym e, refl)) & (λ e. (sym e, refl)) & (λ e. (sym e, refl)) & (λ e. (sym e, refl))
+      & (λ e. (sym e, refl)) & (λ e. (sym e, refl)) & (λ e. (sym e, refl)) & (λ e. (sym e, refl)) & (λ e. (sym e, refl)) & tt)
       (λ other. absurd (both_ways (is_recognised t.kind) other known))
 
-  pub known_more : is_recognised t.kind ≡ true → (others : Bool)
-      → with_attr (record { known = attrs_by ctx tlv; others = others }) (type_row ctx has_nlri t).value ≡ record { known = attrs_by ctx (also_at t.kind t tlv); others = others }
-  known_more known others = let p = puts known in rw (p.0, p.1) refl
+  module _ (tlv : ℕ → Option TlvValue) (others : Bool) where
+    abbrev before : Kept
+    before = record { known = λ kind. option_map value (tlv kind); others = others }
 
-  pub other_more : is_recognised t.kind ≡ false → (others : Bool)
-      → with_attr (record { known = attrs_by ctx tlv; others = others }) (type_row ctx has_nlri t).value ≡ record { known = attrs_by ctx tlv; others = true }
-  other_more other others = ap (λ (type : AttributeType). with_attr (record { known = attrs_by ctx tlv; others = others }) type.value) (row-other ctx has_nlri t other)
+    -- one more of a recognised type
+    pub known_more : is_recognised t.kind ≡ true
+        → (let after : Kept = record { known = λ kind. option_map value (also_at t.kind t tlv kind); others = others } in after) ≡ kept_behind before (value t ∷ [])
+    known_more known = λ i. record { known = λ kind. at kind (eqb kind t.kind) refl i; others = (sym (or_false others) ∙ ap (λ (b : Bool). others || (b || false)) (sym is.1)) i }
+      where
+        is : (type_of (value t) ≡ t.kind) × (is_opaque (value t) ≡ false)
+        is = of_type known
+
+        first : (kind : ℕ) → first_known (value t ∷ []) kind ≡ cond (eqb kind t.kind) (Some (value t)) None
+        first kind = rw (is.1, is.0, eqb-swap t.kind kind) refl
+
+        at : (kind : ℕ) (b : Bool) → eqb kind t.kind ≡ b → option_map value (also_at t.kind t tlv kind) ≡ option_or (option_map value (tlv kind)) (first_known (value t ∷ []) kind)
+        at kind true e = rw (first kind, e) (map_filled value (tlv kind) t)
+        at kind false e = rw (first kind, e) (sym (option_or-none (option_map value (tlv kind))))
+
+    -- and of another
+    pub other_more : is_recognised t.kind ≡ false
+        → (let after : Kept = record { known = λ kind. option_map value (tlv kind); others = true } in after) ≡ kept_behind before (value t ∷ [])
+    other_more other =
+        (λ i. record { known = λ kind. sym (option_or-none (option_map value (tlv kind))) i; others = sym (or_true others) i })
+        ∙ ap (λ (type : AttributeType). kept_behind before (type.value ∷ [])) (sym (row-other ctx has_nlri t other))
 
 -- ---- one more place
 
@@ -158,23 +153,23 @@ module _ (ctx : Context) (has_nlri : Bool) (field places : List ℕ) (all : AreP
   abbrev pub ValueThere : ℕ → List Attr → Type 0
   ValueThere kind ys = ys ≡ present (λ (t : TlvValue). (type_row ctx has_nlri t).value) (tlv_of kind)
 
-  valued : {A : Type 0} (kind : ℕ) (f : TlvValue → A) (as_attr : A → Attr) → ((t : TlvValue) → (row_at ctx has_nlri t kind).value ≡ as_attr (f t)) → ValueThere kind (present as_attr (option_map f (tlv_of kind)))
-  valued kind f as_attr same = by (tlv_of kind) refl
-    where
-      by : (o : Option TlvValue) → tlv_of kind ≡ o → present as_attr (option_map f o) ≡ present (λ (t : TlvValue). (type_row ctx has_nlri t).value) o
-      by None e = refl
-      by (Some t) e =
-          let p = kept-at kind (slice_index_or places kind 0) t refl e in
-          ap (λ (a : Attr). a ∷ []) (sym (same t) ∙ sym (ap (λ (type : AttributeType). type.value) (row-at ctx has_nlri t kind p.0)))
+  abbrev value_of : ℕ → Option Attr
+  value_of kind = option_map (λ (t : TlvValue). (type_row ctx has_nlri t).value) (tlv_of kind)
 
-  atomic-valued : ValueThere ATOMIC_AGGREGATE (cond (is_some (tlv_of ATOMIC_AGGREGATE)) (attr.Atomic ∷ []) [])
-  atomic-valued = by (tlv_of ATOMIC_AGGREGATE) refl
+  present-map : {A B : Type 0} (f : A → B) (as_attr : B → Attr) (o : Option A) → present as_attr (option_map f o) ≡ present (λ (v : A). as_attr (f v)) o
+  present-map f as_attr None = refl
+  present-map f as_attr (Some v) = refl
+
+  typed : (kind : ℕ) → IsTyped kind (value_of kind)
+  typed kind x e = by (tlv_of kind) refl e
     where
-      by : (o : Option TlvValue) → tlv_of ATOMIC_AGGREGATE ≡ o → cond (is_some o) (attr.Atomic ∷ []) [] ≡ present (λ (t : TlvValue). (type_row ctx has_nlri t).value) o
-      by None e = refl
-      by (Some t) e =
-          let p = kept-at ATOMIC_AGGREGATE (slice_index_or places ATOMIC_AGGREGATE 0) t refl e in
-          ap (λ (a : Attr). a ∷ []) (sym (ap (λ (type : AttributeType). type.value) (row-at ctx has_nlri t ATOMIC_AGGREGATE p.0)))
+      by : (o : Option TlvValue) → tlv_of kind ≡ o → option_map (λ (t : TlvValue). (type_row ctx has_nlri t).value) o ≡ Some x → (type_of x ≡ kind) × (is_opaque x ≡ false)
+      by None f g = absurd cc
+      by (Some t) f g =
+          let p = kept-at kind (slice_index_or places kind 0) t refl f in
+          let q = of_type ctx has_nlri t (ap is_recognised p.0 ∙ p.1) in
+          let same : (type_row ctx has_nlri t).value ≡ x = cc in
+          (ap type_of (sym same) ∙ q.0 ∙ p.0, ap is_opaque (sym same) ∙ q.1)
 
   nothing-valued : (kind : ℕ) → is_recognised kind ≡ false → ValueThere kind []
   nothing-valued kind other = by (tlv_of kind) refl
@@ -184,25 +179,12 @@ module _ (ctx : Context) (has_nlri : Bool) (field places : List ℕ) (all : AreP
       by (Some t) e = absurd (both_ways (is_recognised kind) other (kept-at kind (slice_index_or places kind 0) t refl e).1)
 
   -- what stands in the slot of a type is the value of the attribute there
-  pub slot-value : (kind : ℕ) → slot (attrs_by ctx tlv_of) kind ≡ present (λ (t : TlvValue). (type_row ctx has_nlri t).value) (tlv_of kind)
-  unfolding attrs_by
-  slot-value kind =
-      by_slot (attrs_by ctx tlv_of) kind ValueThere
-      (valued ORIGIN (λ (t : TlvValue). origin_of t.value) (λ o. attr.Origin o) (λ t. refl)
-      & valued AS_PATH (λ (t : TlvValue). path_of (as_path_form ctx) t.value) (λ p. attr.AsPath p) (λ t. refl)
-      & valued NEXT_HOP (λ (t : TlvValue). t.value) (λ addr. attr.NextHop addr) (λ t. refl)
-      & valued MULTI_EXIT_DISC (λ (t : TlvValue). four_of t.value) (λ n. attr.Med n) (λ t. refl)
-      & valued LOCAL_PREF (λ (t : TlvValue). four_of t.value) (λ n. attr.LocalPref n) (λ t. refl)
-      & atomic-valued
-      & valued AGGREGATOR (aggregator_of ctx.as4) (λ g. attr.Aggregator g) (λ t. refl)
-      & valued COMMUNITIES communities_of (λ c. attr.Communities c) (λ t. refl)
-      & valued MP_REACH_NLRI (λ (t : TlvValue). mp_reach_of t.value) (λ r. attr.MpReach r) (λ t. refl)
-      & valued MP_UNREACH_NLRI (λ (t : TlvValue). mp_unreach_of t.value) (λ r. attr.MpUnreach r) (λ t. refl)
-      & valued AS4_PATH as4_path_of (λ p. attr.As4Path p) (λ t. refl)
-      & valued AS4_AGGREGATOR (aggregator_of true) (λ g. attr.As4Aggregator g) (λ t. refl)
-      & valued LARGE_COMMUNITY large_of (λ l. attr.Large l) (λ t. refl)
-      & tt)
-      (λ other. nothing-valued kind other)
+  pub slot-value : (kind : ℕ) → slot (attrs_from value_of []) kind ≡ present (λ (t : TlvValue). (type_row ctx has_nlri t).value) (tlv_of kind)
+  slot-value kind = by (is_recognised kind) refl
+    where
+      by : (b : Bool) → is_recognised kind ≡ b → slot (attrs_from value_of []) kind ≡ present (λ (t : TlvValue). (type_row ctx has_nlri t).value) (tlv_of kind)
+      by true known = slot-from value_of [] kind typed known ∙ present-map (λ (t : TlvValue). (type_row ctx has_nlri t).value) (λ (x : Attr). x) (tlv_of kind)
+      by false other = other-from value_of [] kind other ∙ nothing-valued kind other
 
 -- an attribute that is judged so stands at a place of its type
 pub is_kept_at : (ctx : Context) (has_nlri : Bool) (field : List ℕ) (at : ℕ) (t : TlvValue) → tlv_at field at ≡ Some t → is_recognised t.kind ≡ true → IsTrue (is_kept (judgement ctx has_nlri t)) → IsKeptAt ctx has_nlri field t.kind at

@@ -7,9 +7,8 @@ use Rattle.bgp_attr.specs.declared.attr.Attr.{Attr}
 use Rattle.bgp_attr.specs.declared.attr.Attr.TheVariants as attr
 use Rattle.bgp_attr.specs.declared.attr_view.OpaqueView.{OpaqueView}
 use Rattle.bgp_attr.specs.declared.opaque.Opaque.{Opaque}
-use Rattle.bgp_update.specs.KeptView.{is_opaque}
-use Rattle.bgp_update.specs.steps.Others.{place_in, as_opaque, rising_behind}
-use Rattle.bgp_update.specs.Taken.{put_rising}
+use Rattle.bgp_update.specs.steps.Others.{place_in}
+use Rattle.bgp_update.specs.Taken.{put_rising, is_opaque, as_opaque, rising_behind}
 
 step : (t : Bool) (o p : OpaqueView) (os : List OpaqueView)
     → map opaque_value (insert os (place_in o.kind (map opaque_value os)) o) ≡ put_rising (opaque_value o) (map opaque_value os)

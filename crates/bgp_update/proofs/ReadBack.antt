@@ -28,8 +28,8 @@ use Rattle.bgp_update.specs.declared.verdict.Verdict.TheVariants as verdict
 use Rattle.bgp_update.specs.Parts.{Parts, parts_of, attributes_at, has_nlri}
 use Rattle.bgp_wire.specs.OctetSet.{none_of_them}
 use Rattle.bgp_update.specs.Marks.{Mark, marks_of}
-use Rattle.bgp_update.specs.Taken.{kept_of, attrs_of, update_of}
-use Rattle.bgp_update.proofs.AttrSlots.{attrs_in, attrs_of-slots, as_origin, as_as_path, as_next_hop}
+use Rattle.bgp_update.specs.Taken.{kept_of, attrs_of, update_of, as_origin, as_as_path, as_next_hop}
+use Rattle.bgp_update.proofs.AttrSlots.{attrs_in, attrs_of-slots}
 use Rattle.bgp_update.specs.Notes.{has_routes, is_reachable, has_type, missing_of, is_missing, missing_note, missing_notes, notes_of}
 use Rattle.bgp_update.specs.Slots.{present, slot, canonical_order, attr_list}
 use Rattle.bgp_update.specs.Verdict.{reset_of_run, reset_of, is_withdrawn, unless_reset, without_reset, verdict_on, of_parts, verdict_of}

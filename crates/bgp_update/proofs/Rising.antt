@@ -6,8 +6,7 @@ use Rattle.std.proofs.lemmas.Bool.{both_ways, ltb-true, ltb-false, eqb-true, eqb
 use Rattle.std.proofs.lemmas.List.{append-nil}
 use Rattle.bgp_attr.specs.declared.opaque.Opaque.{Opaque}
 use Rattle.bgp_wire.specs.OctetSet.{also}
-use Rattle.bgp_update.specs.Taken.{put_rising}
-use Rattle.bgp_update.specs.steps.Others.{rising_behind}
+use Rattle.bgp_update.specs.Taken.{put_rising, rising_behind}
 use Rattle.bgp_update.specs.Slots.{types_from}
 use Rattle.bgp_update.specs.Written.{rise_behind, rise}
 use Rattle.bgp_update.proofs.Lists.{eqb-swap, or-none, find-none, all-append, all-more, flat_map-none}

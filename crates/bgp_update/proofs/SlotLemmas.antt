@@ -3,7 +3,7 @@ use Rattle.std.proofs.Common.{◌≡◌, ℕ, ◌+◌, ◌<◌, ◌≤◌, Bool,
 use Rattle.std.specs.Prelude.{is_some}
 use Rattle.std.specs.List.{flat_map, filter, list_any, AllByRecursion}
 use Rattle.std.specs.Option.{option_or}
-use Rattle.std.proofs.lemmas.Bool.{both_ways, eqb-true, or_parts, or_cases, not-false}
+use Rattle.std.proofs.lemmas.Bool.{both_ways, eqb-true, eq-eqb, or_parts, or_cases, not-false}
 use Rattle.std.proofs.lemmas.List.Concat.{flat_map-append}
 use Rattle.bgp_numbers.specs.declared.attribute.TheConstants.{ORIGIN, AS_PATH, NEXT_HOP, MULTI_EXIT_DISC, LOCAL_PREF, ATOMIC_AGGREGATE, AGGREGATOR, COMMUNITIES, MP_REACH_NLRI, MP_UNREACH_NLRI, AS4_PATH, AS4_AGGREGATOR, LARGE_COMMUNITY}
 use Rattle.bgp_attr.specs.declared.aggregator.Aggregator.{Aggregator}
@@ -24,13 +24,14 @@ use Rattle.bgp_attr.specs.Table.{entry_of}
 use Rattle.bgp_attr.proofs.Tables.{EachRow, ◌&◌, by_row, entry-other, entry-passes}
 use Rattle.bgp_update.specs.declared.attrs.Attrs.{Attrs}
 use Rattle.bgp_update.specs.Marks.{carries_routes}
-use Rattle.bgp_update.specs.steps.Others.{as_opaque, rising_behind}
-use Rattle.bgp_update.proofs.AttrSlots.{first_in, is_atomic, as_origin, as_as_path, as_next_hop, as_med, as_local_pref, as_aggregator, as_communities, as_mp_reach, as_mp_unreach, as_as4_path, as_as4_aggregator, as_large, attrs_in}
+use Rattle.bgp_wire.specs.Then.{◌>>=◌}
+use Rattle.bgp_update.specs.Taken.{is_opaque, as_opaque, rising_behind, attrs_from, as_origin, as_as_path, as_next_hop, as_med, as_local_pref, as_aggregator, as_communities, as_mp_reach, as_mp_unreach, as_as4_path, as_as4_aggregator, as_large}
+use Rattle.bgp_update.proofs.AttrSlots.{attrs_in, named}
 use Rattle.bgp_update.specs.Slots.{present, slots, slot, types_from, canonical_order, attr_list}
 use Rattle.bgp_update.specs.Written.{has_bad_others, rise}
 use Rattle.bgp_update.proofs.Lists.{find-passes, find-none, none-all, all-none, all-more, all-among, flat_map-all_none, flat_map-same, flat_map-filter, all-flat_map}
 use Rattle.bgp_update.proofs.Rising.{of_kind, rising-same, rise-rises, types-find, listed}
-use Rattle.bgp_update.proofs.TypeLemmas.{in_order, Taken, other_kind, as_atomic, atomic_attr, Named, OfType, first-among, taken-origin, taken-as_path, taken-next_hop, taken-med, taken-local_pref, taken-atomic, taken-aggregator, taken-communities, taken-mp_reach, taken-mp_unreach, taken-as4_path, taken-as4_aggregator, taken-large}
+use Rattle.bgp_update.proofs.TypeLemmas.{in_order, first_in, Taken, Is, Other, other_kind, as_atomic, atomic_attr, Named, OfType, first-among, taken-origin, taken-as_path, taken-next_hop, taken-med, taken-local_pref, taken-atomic, taken-aggregator, taken-communities, taken-mp_reach, taken-mp_unreach, taken-as4_path, taken-as4_aggregator, taken-large}
 
 -- ---- what a slot holds
 
@@ -104,6 +105,54 @@ slot-named a k = all-more (OfSlot k) (λ x. is_misnamed x ≡ false) (slot a k) 
 pub list-named : (a : Attrs) → Named (attr_list a)
 list-named a = all-flat_map (λ x. is_misnamed x ≡ false) (slot a) canonical_order (slot-named a)
 
+-- ---- attributes that are made of those by type
+
+-- an attribute of a recognised type
+abbrev pub IsTyped : ℕ → Option Attr → Type 0
+IsTyped kind o = (x : Attr) → o ≡ Some x → (type_of x ≡ kind) × (is_opaque x ≡ false)
+
+taken_slot : {A : Type 0} (as_value : Attr → Option A) (as_attr : A → Attr) (kind : ℕ) (taken : (x : Attr) → Taken as_value as_attr kind x) (o : Option Attr) → IsTyped kind o
+    → present as_attr (o >>= as_value) ≡ present (λ x. x) o
+taken_slot as_value as_attr kind taken None typed = refl
+taken_slot as_value as_attr kind taken (Some x) typed = by (taken x)
+  where
+    by : Taken as_value as_attr kind x → present as_attr (as_value x) ≡ x ∷ []
+    by (Is v is has same) = ap (present as_attr) has ∙ ap (λ (y : Attr). y ∷ []) (sym is)
+    by (Other none other) = let p = typed x refl in absurd (both_ways (eqb (type_of x) kind) (other (named x p.1)) (eq-eqb (type_of x) kind p.0))
+
+atomic_taken : (o : Option Attr) → IsTyped ATOMIC_AGGREGATE o → atomic_slot (is_some o) ≡ present (λ x. x) o
+atomic_taken None typed = refl
+atomic_taken (Some x) typed = by (taken-atomic x)
+  where
+    by : Taken as_atomic atomic_attr ATOMIC_AGGREGATE x → attr.Atomic ∷ [] ≡ x ∷ []
+    by (Is v is has same) = ap (λ (y : Attr). y ∷ []) (sym is)
+    by (Other none other) = let p = typed x refl in absurd (both_ways (eqb (type_of x) ATOMIC_AGGREGATE) (other (named x p.1)) (eq-eqb (type_of x) ATOMIC_AGGREGATE p.0))
+
+module _ (first : ℕ → Option Attr) (others : List Opaque) (kind : ℕ) where
+  pub slot-from : ((k : ℕ) → IsTyped k (first k)) → is_recognised kind ≡ true → slot (attrs_from first others) kind ≡ present (λ x. x) (first kind)
+  unfolding attrs_from
+  slot-from typed known =
+      by_slot (attrs_from first others) kind (λ k xs. xs ≡ present (λ x. x) (first k))
+      (taken_slot as_origin (λ (o : Origin). attr.Origin o) ORIGIN taken-origin (first ORIGIN) (typed ORIGIN)
+      & taken_slot as_as_path (λ (p : AsPath). attr.AsPath p) AS_PATH taken-as_path (first AS_PATH) (typed AS_PATH)
+      & taken_slot as_next_hop (λ (addr : List ℕ). attr.NextHop addr) NEXT_HOP taken-next_hop (first NEXT_HOP) (typed NEXT_HOP)
+      & taken_slot as_med (λ (n : ℕ). attr.Med n) MULTI_EXIT_DISC taken-med (first MULTI_EXIT_DISC) (typed MULTI_EXIT_DISC)
+      & taken_slot as_local_pref (λ (n : ℕ). attr.LocalPref n) LOCAL_PREF taken-local_pref (first LOCAL_PREF) (typed LOCAL_PREF)
+      & atomic_taken (first ATOMIC_AGGREGATE) (typed ATOMIC_AGGREGATE)
+      & taken_slot as_aggregator (λ (g : Aggregator). attr.Aggregator g) AGGREGATOR taken-aggregator (first AGGREGATOR) (typed AGGREGATOR)
+      & taken_slot as_communities (λ (c : Communities). attr.Communities c) COMMUNITIES taken-communities (first COMMUNITIES) (typed COMMUNITIES)
+      & taken_slot as_mp_reach (λ (r : MpReach). attr.MpReach r) MP_REACH_NLRI taken-mp_reach (first MP_REACH_NLRI) (typed MP_REACH_NLRI)
+      & taken_slot as_mp_unreach (λ (r : MpUnreach). attr.MpUnreach r) MP_UNREACH_NLRI taken-mp_unreach (first MP_UNREACH_NLRI) (typed MP_UNREACH_NLRI)
+      & taken_slot as_as4_path (λ (p : As4Path). attr.As4Path p) AS4_PATH taken-as4_path (first AS4_PATH) (typed AS4_PATH)
+      & taken_slot as_as4_aggregator (λ (g : Aggregator). attr.As4Aggregator g) AS4_AGGREGATOR taken-as4_aggregator (first AS4_AGGREGATOR) (typed AS4_AGGREGATOR)
+      & taken_slot as_large (λ (l : LargeCommunities). attr.Large l) LARGE_COMMUNITY taken-large (first LARGE_COMMUNITY) (typed LARGE_COMMUNITY)
+      & tt)
+      (λ other. absurd (both_ways (is_recognised kind) other known))
+
+  pub other-from : is_recognised kind ≡ false → slot (attrs_from first others) kind ≡ present (λ (o : Opaque). attr.Opaque o) (of_kind kind others)
+  unfolding attrs_from
+  other-from other = slot-other (attrs_from first others) kind other
+
 -- ---- the attributes in order give the attributes back
 
 -- each type that is recognised has its place
@@ -129,21 +178,13 @@ module _ (a : Attrs) where
     field_back : is_recognised kind ≡ true → ((v : A) → as_value (as_attr v) ≡ Some v) → (o : Option A) → slot a kind ≡ present as_attr o → first_in as_value (attr_list a) ≡ o
     field_back recognised back o is = from_slot recognised ∙ ap (first_in as_value) is ∙ from_present back o
 
-atomic-any : (x : Attr) (b : Bool) (o : Option Bool) → b ≡ is_some o → (is_atomic x || b) ≡ is_some (option_or (as_atomic x) o)
-atomic-any attr.Atomic b o e = refl
-atomic-any _ b o e = e
-
-pub any-atomic : (xs : List Attr) → list_any is_atomic xs ≡ is_some (first_in as_atomic xs)
-any-atomic [] = refl
-any-atomic (x ∷ xs) = atomic-any x (list_any is_atomic xs) (first_in as_atomic xs) (any-atomic xs)
-
 atomic-slot_back : (b : Bool) → is_some (first_in as_atomic (atomic_slot b)) ≡ b
 atomic-slot_back true = refl
 atomic-slot_back false = refl
 
-atomic-back : (a : Attrs) → list_any is_atomic (attr_list a) ≡ a.atomic
+atomic-back : (a : Attrs) → is_some (first_in as_atomic (attr_list a)) ≡ a.atomic
 atomic-back a =
-    any-atomic (attr_list a) ∙ ap (λ (o : Option Bool). is_some o) (from_slot a as_atomic atomic_attr ATOMIC_AGGREGATE taken-atomic refl ∙ ap (first_in as_atomic) (slot-at a ATOMIC_AGGREGATE)) ∙ atomic-slot_back a.atomic
+    ap (λ (o : Option Bool). is_some o) (from_slot a as_atomic atomic_attr ATOMIC_AGGREGATE taken-atomic refl ∙ ap (first_in as_atomic) (slot-at a ATOMIC_AGGREGATE)) ∙ atomic-slot_back a.atomic
 
 flat_map-twice : {A B C : Type 0} (f : B → List C) (g : A → List B) (xs : List A) → flat_map f (flat_map g xs) ≡ flat_map (λ x. flat_map f (g x)) xs
 flat_map-twice f g [] = refl

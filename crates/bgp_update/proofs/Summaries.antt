@@ -12,8 +12,7 @@ use Rattle.bgp_update.specs.Marks.{Mark}
 use Rattle.bgp_update.specs.Taken.{kept_by, kept_of}
 use Rattle.bgp_update.specs.Verdict.{reset_by, first_reset, withdraws}
 use Rattle.bgp_update.specs.Summary.{SummaryValue, is_noted, summary_behind, summary_of}
-use Rattle.bgp_update.proofs.AttrSlots.{or_false}
-use Rattle.bgp_update.proofs.KeptViews.{kept_whole, kept_append}
+use Rattle.bgp_update.proofs.KeptViews.{or_false, kept_whole, kept_none, kept_append}
 use Rattle.bgp_update.proofs.Options.{option_or-assoc, option_or-none}
 
 pub kept_of-cons : (m : Mark) (ms : List Mark) → kept_of (m ∷ ms) ≡ kept_by m.judged ++ kept_of ms
@@ -62,7 +61,7 @@ no_more s = λ i. record {
   reset = option_or-none s.reset i;
   withdraws = or_false s.withdraws i;
   notes = or_false s.notes i;
-  kept = s.kept;
+  kept = kept_none s.kept i;
 }
 
 -- all behind none are those of the whole

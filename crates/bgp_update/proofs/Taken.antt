@@ -32,9 +32,8 @@ use Rattle.bgp_update.specs.declared.verdict.Verdict.TheVariants as verdict
 use Rattle.bgp_update.specs.Parts.{Parts, IsBody, has_nlri}
 use Rattle.bgp_wire.specs.OctetSet.{none_of_them}
 use Rattle.bgp_update.specs.Marks.{Mark, marks_behind, cut_mark, placed_tlvs, field_marks, marks_of}
-use Rattle.bgp_update.specs.Taken.{kept_of, attrs_of, update_of}
-use Rattle.bgp_update.specs.steps.Others.{as_opaque}
-use Rattle.bgp_update.proofs.AttrSlots.{first_in, as_origin, as_as_path, as_next_hop, as_local_pref, attrs_in}
+use Rattle.bgp_update.specs.Taken.{kept_of, attrs_of, update_of, as_opaque, as_origin, as_as_path, as_next_hop, as_local_pref}
+use Rattle.bgp_update.proofs.AttrSlots.{attrs_in}
 use Rattle.bgp_update.specs.Notes.{has_routes, is_reachable, has_type, missing_of, is_missing}
 use Rattle.bgp_update.specs.Slots.{attr_list}
 use Rattle.bgp_update.specs.Verdict.{first_reset, bad_network, reset_of_run, reset_of, withdraws, is_withdrawn, verdict_of}
@@ -44,7 +43,7 @@ use Rattle.bgp_update.specs.Laws.{CanBeWritten}
 use Rattle.bgp_update.proofs.Bodies.{length-body}
 use Rattle.bgp_update.proofs.Lists.{all-front, all-more}
 use Rattle.bgp_update.proofs.Rising.{NoneTwice, rising-all}
-use Rattle.bgp_update.proofs.TypeLemmas.{Named, some-type, taken-origin, taken-as_path, taken-next_hop}
+use Rattle.bgp_update.proofs.TypeLemmas.{first_in, Named, some-type, taken-origin, taken-as_path, taken-next_hop}
 use Rattle.bgp_update.proofs.Validity.{IsAccepted, accepted-valid}
 use Rattle.bgp_update.proofs.MarkLemmas.{IsReady}
 use Rattle.bgp_update.proofs.KeptSlots.{opaques-all, kept-all, kept-none, kept-others}

@@ -20,9 +20,8 @@ use Rattle.bgp_update.specs.declared.attrs.Attrs.{Attrs}
 use Rattle.bgp_update.specs.Parts.{Parts, has_nlri}
 use Rattle.bgp_update.specs.Marks.{Mark, marks_behind, cut_mark, placed_tlvs, field_marks, marks_of}
 use Rattle.bgp_update.specs.Slots.{present, slot, canonical_order}
-use Rattle.bgp_update.specs.Taken.{kept_of, attrs_of}
+use Rattle.bgp_update.specs.Taken.{kept_of, attrs_of, as_opaque, rising_behind}
 use Rattle.bgp_update.specs.Written.{attributes_octets, rise}
-use Rattle.bgp_update.specs.steps.Others.{as_opaque, rising_behind}
 use Rattle.bgp_update.proofs.AttrSlots.{attrs_in, attrs_of-slots}
 use Rattle.bgp_update.proofs.Lists.{all-more}
 use Rattle.bgp_update.proofs.TypeLemmas.{order-fresh, first_of_type, Named}

@@ -19,7 +19,7 @@ use Rattle.bgp_attr.specs.Judgement.{is_recognised}
 use Rattle.bgp_attr.specs.Written.{type_of, is_misnamed}
 use Rattle.bgp_wire.specs.OctetSet.{also, none_of_them}
 use Rattle.bgp_update.specs.Marks.{carries_routes}
-use Rattle.bgp_update.proofs.AttrSlots.{first_in, as_origin, as_as_path, as_next_hop, as_med, as_local_pref, as_aggregator, as_communities, as_mp_reach, as_mp_unreach, as_as4_path, as_as4_aggregator, as_large}
+use Rattle.bgp_update.specs.Taken.{as_origin, as_as_path, as_next_hop, as_med, as_local_pref, as_aggregator, as_communities, as_mp_reach, as_mp_unreach, as_as4_path, as_as4_aggregator, as_large}
 use Rattle.bgp_update.specs.Slots.{present, types_from, canonical_order}
 use Rattle.bgp_update.proofs.Rising.{NoneTwice}
 
@@ -152,6 +152,11 @@ taken-large _ = Other refl (λ named. refl)
 
 -- ---- the first of a type
 
+-- the first attribute that a slot takes
+abbrev pub first_in : {A : Type 0} → (Attr → Option A) → List Attr → Option A
+first_in slot [] = None
+first_in slot (a ∷ later) = option_or (slot a) (first_in slot later)
+
 abbrev pub first_of_type : ℕ → List Attr → List Attr
 first_of_type kind [] = []
 first_of_type kind (x ∷ later) = cond (eqb (type_of x) kind) (x ∷ []) (first_of_type kind later)
@@ -163,21 +168,7 @@ abbrev pub OfType : ℕ → List Attr → Type 0
 OfType kind xs = AllByRecursion (λ x. type_of x ≡ kind) xs
 
 module _ {A : Type 0} (as_value : Attr → Option A) (as_attr : A → Attr) (kind : ℕ) (taken : (x : Attr) → Taken as_value as_attr kind x) where
-  first-by : (x : Attr) (later : List Attr) → is_misnamed x ≡ false → present as_attr (first_in as_value later) ≡ first_of_type kind later → Taken as_value as_attr kind x
-      → present as_attr (option_or (as_value x) (first_in as_value later)) ≡ cond (eqb (type_of x) kind) (x ∷ []) (first_of_type kind later)
-  first-by x later named rest (Is v is has same) =
-      ap (λ (o : Option A). present as_attr (option_or o (first_in as_value later))) has ∙ ap (λ (y : Attr). y ∷ []) (sym is)
-      ∙ ap (λ (t : Bool). cond t (x ∷ []) (first_of_type kind later)) (sym (eq-eqb (type_of x) kind same))
-  first-by x later named rest (Other none other) =
-      ap (λ (o : Option A). present as_attr (option_or o (first_in as_value later))) none ∙ rest
-      ∙ ap (λ (t : Bool). cond t (x ∷ []) (first_of_type kind later)) (sym (other named))
-
-  -- a slot takes the first of its type
-  pub slot-first : (xs : List Attr) → Named xs → present as_attr (first_in as_value xs) ≡ first_of_type kind xs
-  slot-first [] named = refl
-  slot-first (x ∷ xs) named = first-by x xs named.0 (slot-first xs named.1) (taken x)
-
-  -- and none of another
+  -- a slot takes none of another type
   none-by : (k : ℕ) (x : Attr) (later : Option A) → (k ≡ kind → ⊥) → type_of x ≡ k → later ≡ None → Taken as_value as_attr kind x → option_or (as_value x) later ≡ None
   none-by k x later apart of_type rest (Is v is has same) = absurd (apart (sym of_type ∙ same))
   none-by k x later apart of_type rest (Other none other) = ap (λ (o : Option A). option_or o later) none ∙ rest

@@ -19,7 +19,7 @@ mark_value m = record { at = m.at; kind = m.kind; judged = found_attr_value m.ju
 
 -- nothing is kept of an attribute that is cut off, whatever its value might be
 abbrev pub cut_value : CutMark → Mark
-cut_value m = record { at = m.at; kind = m.kind; judged = ruled m.ruling attr.Atomic }
+cut_value m = record { at = m.at; kind = m.kind; judged = ruled m.ruling [] attr.Atomic }
 
 -- the context, and the field, are those that they were
 abbrev pub IsOfField : MarkIter → MarkIter → Type 0

@@ -6,8 +6,7 @@ ghost use Rattle.bgp_attr.specs.AttrView.{attr_value, opaque_value};
 ghost use Rattle.bgp_attr.specs.declared.opaque.Opaque.{Opaque};
 ghost use Rattle.bgp_update.specs.ByType.{IsByType};
 ghost use Rattle.bgp_update.specs.Iters.{attrs_left};
-ghost use Rattle.bgp_update.specs.Taken.{put_rising};
-ghost use Rattle.bgp_update.specs.steps.Others.{as_opaque, rising_behind};
+ghost use Rattle.bgp_update.specs.Taken.{put_rising, as_opaque, rising_behind};
 
 use crate::attr_iter::AttrIter;
 use bgp_attr::{AttrView, OpaqueView};

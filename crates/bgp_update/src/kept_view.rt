@@ -47,7 +47,7 @@ macro_rules! owned {
 }
 
 impl<'a> KeptView<'a> {
-    ghost use Rattle.std.specs.Prelude.{◌≤◌, option_map, slice_index_or, IfSome, IsTrue};
+    ghost use Rattle.std.specs.Prelude.{◌≤◌, ◌∷◌, option_map, slice_index_or, IfSome, IsTrue};
     ghost use Rattle.bgp_attr.specs.AttrView.{as4_path_value, attr_value};
     ghost use Rattle.bgp_attr.specs.CommunitiesView.{communities_value, large_value};
     ghost use Rattle.bgp_attr.specs.Judgement.{judgement, type_row};
@@ -56,11 +56,10 @@ impl<'a> KeptView<'a> {
     ghost use Rattle.bgp_attr.specs.PathView.{path_value};
     ghost use Rattle.bgp_attr.specs.TlvIter.{tlv_at};
     ghost use Rattle.bgp_attr.specs.TlvView.{tlv_value};
-    ghost use Rattle.bgp_update.specs.KeptView.{kept_in, kept_tlv, kept_value, known_value, with_attr};
+    ghost use Rattle.bgp_update.specs.KeptView.{kept_behind, kept_in, kept_tlv, kept_value, known_value};
     ghost use Rattle.bgp_update.specs.Slots.{present, slot};
 
     /// No attributes, of a field that is judged in a context.
-    #[tactic(auto, unfolding(crate::specs::Places::attrs_by))]
     #[inline(always)]
     pub(crate) fn new(ctx: &Context, has_nlri: bool, field: &'a [u8]) -> KeptView<'a>
         ensures value { kept_value result ≡ kept_in [] }
@@ -81,7 +80,7 @@ impl<'a> KeptView<'a> {
         requires there { tlv_at self.old.field.now tlv.now.at ≡ Some (tlv_value tlv.now) }
         requires kept { IsTrue (is_kept (judgement self.old.ctx self.old.has_nlri (tlv_value tlv.now))) }
         requires small { tlv.now.at ≤ 4075 }
-        ensures adds { kept_value self.new ≡ with_attr (kept_value self.old) (type_row self.old.ctx self.old.has_nlri (tlv_value tlv.now)).value }
+        ensures adds { kept_value self.new ≡ kept_behind (kept_value self.old) ((type_row self.old.ctx self.old.has_nlri (tlv_value tlv.now)).value ∷ []) }
         ensures of { (self.new.ctx ≡ self.old.ctx) × (self.new.has_nlri ≡ self.old.has_nlri) × (self.new.field.now ≡ self.old.field.now) }
     {
         are_all_types(&self.places);
@@ -127,7 +126,7 @@ impl<'a> KeptView<'a> {
     }
 
     /// The attributes with memory of their own, and these others. It is inlined, since it is built where it is to stand then.
-    #[tactic(auto, unfolding(crate::specs::Places::attrs_by))]
+    #[tactic(auto, unfolding(crate::specs::Taken::attrs_from))]
     #[inline(always)]
     pub(crate) fn own(&self, alloc: Global, others: List<Opaque>) -> Result<Attrs, AllocError>
         ensures { IfOk result (λ a. a ≡ record (known_value self.now) { others = others }) }
@@ -158,7 +157,7 @@ impl<'a> KeptView<'a> {
 }
 
 /// What is read where an attribute of a type is kept.
-#[tactic(auto, unfolding(bgp_attr::specs::Judgement::type_row, crate::specs::Places::attrs_by))]
+#[tactic(auto, unfolding(bgp_attr::specs::Judgement::type_row, crate::specs::Taken::attrs_from))]
 impl<'a> KeptView<'a> {
     ghost use Rattle.std.specs.Prelude.{option_map};
     ghost use Rattle.bgp_attr.specs.AttrView.{as4_path_value};

@@ -1,13 +1,13 @@
 //! Attributes that repeat, or that are cut off.
 
-ghost use Rattle.std.specs.Prelude.{◌≡◌, ◌<◌, false, length};
+ghost use Rattle.std.specs.Prelude.{◌≡◌, ◌<◌, ℕ, List, [], false, length};
 ghost use Rattle.bgp_attr.specs.FoundAttr.{found_attr_value};
 ghost use Rattle.bgp_attr.specs.Ruling.{keeps, ruled};
 ghost use Rattle.bgp_attr.specs.declared.attr.Attr.{Attr};
 ghost use Rattle.bgp_frame.specs.Notification.{notification_of_view};
 ghost use Rattle.bgp_update.specs.Marks.{malformed, carries_routes, repeated, cut_kind, cut};
 
-use bgp_attr::{FoundAttr, Ruling, Why};
+use bgp_attr::{FoundAttr, Ruling, Why, attribute_reset};
 use bgp_frame::NotificationView;
 use bgp_numbers::attribute::{MP_REACH_NLRI, MP_UNREACH_NLRI};
 use bgp_numbers::error::{MALFORMED_ATTRIBUTE_LIST, UPDATE_MESSAGE};
@@ -31,12 +31,12 @@ fn carries_routes(kind: u8) -> bool
 }
 
 /// How a second attribute of a type is judged.
-pub(crate) fn repeated(kind: u8) -> Ruling<'static>
-    ensures value { (a : Attr) → ruled result a ≡ repeated kind }
+pub(crate) fn repeated(kind: u8) -> Ruling
+    ensures value { (whole : List ℕ) (a : Attr) → ruled result whole a ≡ repeated kind }
     ensures refuses { keeps result ≡ false }
 {
     if carries_routes(kind) {
-        Ruling::Reset(malformed())
+        Ruling::Reset(MALFORMED_ATTRIBUTE_LIST)
     } else {
         Ruling::Discard(Why::Repeated)
     }
@@ -50,26 +50,26 @@ pub(crate) fn cut_kind(rest: &[u8]) -> u8
 }
 
 /// How an attribute that is cut off is judged.
-pub(crate) fn cut(rest: &[u8]) -> Ruling<'static>
-    ensures value { (a : Attr) → ruled result a ≡ cut rest.now }
+pub(crate) fn cut(rest: &[u8]) -> Ruling
+    ensures value { (whole : List ℕ) (a : Attr) → ruled result whole a ≡ cut rest.now }
     ensures refuses { keeps result ≡ false }
 {
     if rest.len() > 1 && carries_routes(cut_kind(rest)) {
-        Ruling::Reset(malformed())
+        Ruling::Reset(MALFORMED_ATTRIBUTE_LIST)
     } else {
         Ruling::Withdraw(Why::Cut)
     }
 }
 
 /// How an attribute that isn't kept is judged, as one that has no value.
-pub(crate) fn unkept(ruling: Ruling<'_>) -> FoundAttr<'_>
+pub(crate) fn unkept<'a>(ruling: Ruling) -> FoundAttr<'a>
     requires { keeps ruling ≡ false }
-    ensures { (a : Attr) → found_attr_value result ≡ ruled ruling.entry a }
+    ensures { (a : Attr) → found_attr_value result ≡ ruled ruling [] a }
 {
     match ruling {
         Ruling::Keep => unreachable!(),
         Ruling::Discard(why) => FoundAttr::Discard(why),
         Ruling::Withdraw(why) => FoundAttr::Withdraw(why),
-        Ruling::Reset(why) => FoundAttr::Reset(why),
+        Ruling::Reset(subcode) => FoundAttr::Reset(attribute_reset(subcode, &[])),
     }
 }

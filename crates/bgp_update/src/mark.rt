@@ -23,10 +23,10 @@ pub(crate) struct MarkView<'a> {
 
 /// The mark of an attribute that is cut off, which is never kept.
 #[derive(Clone, Copy)]
-pub(crate) struct CutMark<'a> {
+pub(crate) struct CutMark {
     pub(crate) at: usize,
     pub(crate) kind: u8,
-    pub(crate) ruling: Ruling<'a>,
+    pub(crate) ruling: Ruling,
     pub(crate) ghost small: { at ≤ 4075 },
     pub(crate) ghost refused: { keeps ruling ≡ false },
 }
@@ -91,9 +91,9 @@ impl<'a> MarkIter<'a> {
 
     /// Judges an attribute that was given, apart from its value.
     #[inline(always)]
-    pub(crate) fn rule(&mut self, tlv: &Tlv<'a>) -> Ruling<'a>
+    pub(crate) fn rule(&mut self, tlv: &Tlv<'a>) -> Ruling
         requires { length tlv.now.whole.now ≤ 4075 }
-        ensures judged { ruled result (type_row self.old.ctx self.old.has_nlri (tlv_value tlv.now)).value ≡ judged_next self.old (placed_tlv tlv.now) }
+        ensures judged { ruled result tlv.now.whole.now (type_row self.old.ctx self.old.has_nlri (tlv_value tlv.now)).value ≡ judged_next self.old (placed_tlv tlv.now) }
         ensures kept { keeps result ≡ true → IsTrue (is_kept (judgement self.old.ctx self.old.has_nlri (tlv_value tlv.now))) }
         ensures marks { marks_with self.old (placed_tlv tlv.now ∷ tlvs_left self.old.tlvs)
             ≡ record { at = tlv.now.at; kind = tlv.now.kind; judged = judged_next self.old (placed_tlv tlv.now) } ∷ marks_left self.new }
@@ -112,7 +112,7 @@ impl<'a> MarkIter<'a> {
 
     /// The mark of an attribute that is cut off, where no whole one is left: nothing is left behind it.
     #[inline(always)]
-    pub(crate) fn next_cut(&mut self) -> Option<CutMark<'a>>
+    pub(crate) fn next_cut(&mut self) -> Option<CutMark>
         requires { tlvs_left self.old.tlvs ≡ [] }
         ensures steps { YieldsFirstBy cut_value marks_left self.old result self.new }
         ensures types { (types : ℕ → Bool) → HasTypes self.old types → HasTypes self.new types }

@@ -5,8 +5,8 @@ ghost use Rattle.std.specs.Iterator.{YieldsFirst};
 ghost use Rattle.std.specs.List.{flat_map};
 ghost use Rattle.bgp_attr.specs.AttrView.{attr_value, opaque_value};
 ghost use Rattle.bgp_update.specs.Iters.{attrs_left};
-ghost use Rattle.bgp_update.specs.steps.Others.{place_in, as_opaque, rising_behind};
-ghost use Rattle.bgp_update.specs.Taken.{put_rising};
+ghost use Rattle.bgp_update.specs.steps.Others.{place_in};
+ghost use Rattle.bgp_update.specs.Taken.{put_rising, as_opaque, rising_behind};
 
 use crate::attr_iter::AttrIter;
 use bgp_attr::{AttrView, Opaque, OpaqueView};

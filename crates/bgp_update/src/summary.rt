@@ -4,15 +4,17 @@ ghost use Rattle.std.specs.Prelude.{◌≡◌, ℕ, Bool, ◌≤◌, false, true
 ghost use Rattle.bgp_attr.specs.Ruling.{keeps, ruled};
 ghost use Rattle.bgp_attr.specs.declared.attr.Attr.{Attr};
 ghost use Rattle.bgp_attr.specs.TlvIter.{tlvs_left};
+ghost use Rattle.bgp_update.specs.KeptView.{known_of, known_value};
 ghost use Rattle.bgp_update.specs.MarkIter.{marks_left, HasTypes};
 ghost use Rattle.bgp_update.specs.Marks.{field_marks};
 ghost use Rattle.bgp_update.specs.Notes.{types_of_field};
+ghost use Rattle.bgp_update.specs.Taken.{attrs_of, kept_of};
 ghost use Rattle.bgp_wire.specs.OctetSet.{has_octet};
 ghost use Rattle.bgp_update.specs.Summary.{is_noted, summary_value, summary_behind, summary_of};
 
 use crate::kept_view::KeptView;
 use crate::mark::MarkIter;
-use bgp_attr::{Ruling, Tlv};
+use bgp_attr::{Ruling, Tlv, attribute_reset};
 use bgp_frame::NotificationView;
 use bgp_open::Context;
 use bgp_wire::OctetSet;
@@ -52,11 +54,12 @@ impl<'a> Summary<'a> {
         }
     }
 
-    /// With one more mark, of what isn't kept.
+    /// With one more mark, of what isn't kept: an attribute of these octets.
     #[inline(always)]
-    fn refuse(&mut self, ruling: Ruling<'a>)
-        requires { keeps ruling ≡ false }
-        ensures adds { (a : Attr) → Adds self.old (ruled ruling.entry a) self.new }
+    fn refuse(&mut self, whole: &'a [u8], ruling: Ruling)
+        requires refuses { keeps ruling ≡ false }
+        requires short { length whole.now ≤ 4075 }
+        ensures adds { (a : Attr) → Adds self.old (ruled ruling whole.now a) self.new }
         ensures of { self.new.kept ≡ self.old.kept }
     {
         match ruling {
@@ -66,22 +69,25 @@ impl<'a> Summary<'a> {
                 self.notes = true;
                 self.withdraws = true;
             }
-            Ruling::Reset(why) => self.reset = self.reset.or(Some(why)),
+            Ruling::Reset(subcode) => {
+                let reset = attribute_reset(subcode, whole);
+                self.reset = self.reset.or(Some(reset));
+            }
         }
     }
 
     /// With one more mark, of an attribute of the field that is judged so; what is kept goes to the place of its type.
     #[inline(always)]
-    fn add(&mut self, tlv: &Tlv<'a>, ruling: Ruling<'a>)
+    fn add(&mut self, tlv: &Tlv<'a>, ruling: Ruling)
         requires there { tlv_at self.old.kept.field.now tlv.now.at ≡ Some (tlv_value tlv.now) }
         requires kept { keeps ruling ≡ true → IsTrue (is_kept (judgement self.old.kept.ctx self.old.kept.has_nlri (tlv_value tlv.now))) }
-        requires small { tlv.now.at ≤ 4075 }
-        ensures adds { Adds self.old (ruled ruling.entry (type_row self.old.kept.ctx self.old.kept.has_nlri (tlv_value tlv.now)).value) self.new }
+        requires small { (tlv.now.at ≤ 4075) × (length tlv.now.whole.now ≤ 4075) }
+        ensures adds { Adds self.old (ruled ruling tlv.now.whole.now (type_row self.old.kept.ctx self.old.kept.has_nlri (tlv_value tlv.now)).value) self.new }
         ensures of { AreOf self.new.kept self.old.kept.ctx self.old.kept.has_nlri self.old.kept.field.now }
     {
         match ruling {
             Ruling::Keep => self.kept.put(tlv),
-            _ => self.refuse(ruling),
+            _ => self.refuse(tlv.whole, ruling),
         }
     }
 
@@ -94,7 +100,7 @@ impl<'a> Summary<'a> {
         ensures last { tlvs_left marks.new.tlvs ≡ [] }
     {
         if let Some(mark) = marks.next_cut() {
-            self.refuse(mark.ruling);
+            self.refuse(&[], mark.ruling);
         }
     }
 
@@ -103,6 +109,7 @@ impl<'a> Summary<'a> {
     pub(crate) fn sum_up(&mut self, ctx: &Context, has_nlri: bool, field: &'a [u8]) -> OctetSet
         requires { length field.now ≤ 4075 }
         ensures marks { summary_value self.new ≡ summary_of (field_marks ctx.now has_nlri field.now) }
+        ensures known { known_value self.new.kept ≡ known_of (attrs_of (kept_of (field_marks ctx.now has_nlri field.now))) }
         ensures types { (kind : ℕ) → has_octet result kind ≡ types_of_field field.now kind }
     {
         *self = Summary::new(ctx, has_nlri, field);

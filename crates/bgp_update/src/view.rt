@@ -3,12 +3,12 @@
 ghost use Rattle.std.specs.Prelude.{◌≡◌, ◌≤◌, ◌+◌, [], length, option_map};
 ghost use Rattle.std.specs.List.{list_any};
 ghost use Rattle.bgp_update.specs.Body.{parts_value};
-ghost use Rattle.bgp_update.specs.KeptView.{kept_value, kept_in};
+ghost use Rattle.bgp_update.specs.KeptView.{known_of, known_value};
 ghost use Rattle.bgp_update.specs.Marks.{marks_of};
 ghost use Rattle.bgp_attr.specs.MpView.{reach_value};
 ghost use Rattle.bgp_update.specs.Notes.{has_routes, is_missing, is_reachable, missing_of};
 ghost use Rattle.bgp_update.specs.Summary.{is_noted, summary_value, summary_of};
-ghost use Rattle.bgp_update.specs.Taken.{kept_of, update_of};
+ghost use Rattle.bgp_update.specs.Taken.{attrs_of, is_opaque, kept_of, update_of};
 
 use crate::add_routes::own_routes;
 use crate::attr_iter::AttrIter;
@@ -40,7 +40,8 @@ pub struct UpdateView<'a> {
     pub(crate) summary: Summary<'a>,
     ghost short: { length body.withdrawn.now + length body.attributes.now ≤ 4073 },
     ghost misses: { missing ≡ missing_of (parts_value body) (marks_of ctx (parts_value body)) },
-    ghost keeps: { kept_value summary.kept ≡ kept_in (kept_of (marks_of ctx (parts_value body))) },
+    ghost known: { known_value summary.kept ≡ known_of (attrs_of (kept_of (marks_of ctx (parts_value body)))) },
+    ghost others: { summary.kept.others ≡ list_any is_opaque (kept_of (marks_of ctx (parts_value body))) },
     ghost noted: { summary.notes ≡ list_any (λ m. is_noted m.judged) (marks_of ctx (parts_value body)) },
 }
 
@@ -153,7 +154,6 @@ impl<'a> UpdateView<'a> {
     ghost use Rattle.bgp_attr.specs.AttrView.{opaque_value};
     ghost use Rattle.bgp_attr.specs.MpView.{reach_value, unreach_value};
     ghost use Rattle.bgp_update.specs.ByType.{IsByType};
-    ghost use Rattle.bgp_update.specs.KeptView.{known_value, known_of, is_opaque};
     ghost use Rattle.bgp_update.specs.Iters.{attrs_left, notes_left};
     ghost use Rattle.bgp_update.specs.MarkIter.{marks_left};
     ghost use Rattle.bgp_update.specs.Notes.{mark_notes};

@@ -1,6 +1,8 @@
 -- The octets from one offset to another.
-use Rattle.std.proofs.Common.{◌≡◌, ℕ, ◌+◌, ◌-◌, ◌≤◌, List, ◌∷◌, length, take, drop, sym, ap, ◌∙◌, arith, length-drop}
-use Rattle.std.proofs.lemmas.List.{drop-take, drop-drop, length-take}
+use Rattle.std.proofs.Common.{◌≡◌, ℕ, ◌+◌, ◌-◌, ◌≤◌, List, ◌∷◌, ◌++◌, length, take, drop, Option, Some, refl, sym, ap, ◌∙◌, arith, length-drop}
+use Rattle.std.proofs.lemmas.List.{drop-take, drop-drop, take-take, length-take, length-append, take_at, drop_at}
+use Rattle.bgp_wire.specs.Reader.{Reads, pieces}
+use Rattle.bgp_wire.proofs.Walks.{first_then}
 use Rattle.bgp_prefix.specs.Prefix.{PrefixValue}
 use Rattle.bgp_prefix.specs.Run.{run_of}
 use Rattle.ristulva_c.specs.declared.prefixes.Prefixes.{Prefixes}
@@ -15,6 +17,42 @@ between_later b at n end first last =
     let whole : at + (n - at) ≡ n = omega arith in
     ap (λ (k : ℕ). drop (n - at) (take k (drop at b))) parts ∙ drop-take (n - at) (end - n) (drop at b)
     ∙ ap (take (end - n)) (drop-drop (n - at) at b ∙ ap (λ (k : ℕ). drop k b) whole)
+
+-- so many octets, and others behind them
+module _ (b : List ℕ) (at end n : ℕ) (front rest : List ℕ) (order : at ≤ end) (within : end ≤ length b) (long : length front ≡ n) (is : between b at end ≡ front ++ rest) where
+  pub fits : at + n + length rest ≡ end
+  fits = omega (arith, length_between b at end order within, ap length is, length-append front rest, long)
+
+  pub front_at : take n (drop at b) ≡ front
+  front_at = sym (take-take n (end - at) (drop at b) (omega (arith, fits))) ∙ ap (take n) is ∙ take_at front rest n long
+
+  pub later_at : between b (at + n) end ≡ rest
+  later_at =
+      sym (between_later b at (at + n) end (omega arith) (omega (arith, fits)))
+      ∙ ap (λ (k : ℕ). drop k (between b at end)) (let e : (at + n) - at ≡ n = omega arith in e)
+      ∙ ap (drop n) is ∙ drop_at front rest n long
+
+-- a value behind a head
+pub value_at : (b : List ℕ) (at end : ℕ) (head value rest : List ℕ) → at ≤ end → end ≤ length b → between b at end ≡ (head ++ value) ++ rest → take (length value) (drop (at + length head) b) ≡ value
+value_at b at end head value rest order within is =
+    ap (take (length value)) (sym (drop-drop (length head) at b)) ∙ sym (drop-take (length head) (length value) (drop at b))
+    ∙ ap (drop (length head)) (front_at b at end (length head + length value) (head ++ value) rest order within (length-append head value) is)
+    ∙ drop_at head value (length head) refl
+
+-- a piece that a reader finds, and the pieces of what follows it
+module _ (A : Type 0) (R : A → List ℕ → Type 0) (one : List ℕ → Option (A × List ℕ)) (reads : Reads R one) (b : List ℕ) (at end : ℕ) (v : A) (rest : List ℕ)
+    (order : at ≤ end) (within : end ≤ length b) (e : Some (v, rest) ≡ one (between b at end)) where
+  abbrev found : (front : List ℕ) × (between b at end ≡ front ++ rest) × R v front
+  found = reads.gives (between b at end) v rest (sym e)
+
+  pub rest_fits : at + length found.0 + length rest ≡ end
+  rest_fits = fits b at end (length found.0) found.0 rest order within refl found.1
+
+  pub pieces_behind : (next : ℕ) → next + length rest ≡ end → (pieces one (between b at end)).0 ≡ v ∷ (pieces one (between b next end)).0
+  pieces_behind next behind =
+      let here : at + length found.0 ≡ next = omega (arith, rest_fits, behind) in
+      first_then A R one reads (between b at end) v rest e
+      ∙ ap (λ (x : List ℕ). v ∷ (pieces one x).0) (sym (later_at b at end (length found.0) found.0 rest order within refl found.1) ∙ ap (λ (k : ℕ). between b k end) here)
 
 -- what is left behind a prefix, by the cursor
 pub left_behind : (b rest : List ℕ) (old new : Prefixes) (p : PrefixValue) → rest ≡ between b old.at old.end → new ≡ record old { at = new.at } → old.at ≤ new.at → new.at ≤ old.end

@@ -1,5 +1,5 @@
 -- A message has no more routes than octets behind its header and its two lengths.
-use Rattle.std.proofs.Common.{◌≡◌, ℕ, ◌+◌, ◌-◌, ◌≤◌, Bool, true, false, cond, eqb, List, ◌++◌, length, Option, Some, None, refl, sym, ap, subst, ◌∙◌, arith}
+use Rattle.std.proofs.Common.{◌≡◌, ℕ, ◌+◌, ◌-◌, ◌≤◌, Bool, true, false, cond, eqb, List, ◌++◌, length, Option, Some, None, refl, sym, ap, ◌∙◌, arith}
 use Rattle.std.specs.Prelude.{Result, Ok, Err}
 use Rattle.std.proofs.lemmas.Bool.{eqb-true}
 use Rattle.std.proofs.lemmas.List.{length-append, length-drop, length-map}
@@ -16,28 +16,21 @@ use Rattle.bgp_open.specs.declared.message.Open.{Open}
 use Rattle.bgp_open.specs.OpenFault.{open_notification, reading_of}
 use Rattle.bgp_prefix.specs.Prefix.{PrefixValue}
 use Rattle.bgp_prefix.specs.Run.{run_of}
-use Rattle.bgp_attr.specs.declared.attr.Attr.{Attr}
-use Rattle.bgp_attr.specs.declared.attr.Attr.TheVariants as attr
-use Rattle.bgp_attr.specs.declared.judged.Judged.{Judged}
-use Rattle.bgp_attr.specs.declared.judged.Judged.TheVariants as judged
 use Rattle.bgp_attr.specs.declared.mp.MpReach.{MpReach}
 use Rattle.bgp_attr.specs.declared.mp.MpReach.TheVariants as reach
 use Rattle.bgp_attr.specs.declared.mp.MpUnreach.{MpUnreach}
 use Rattle.bgp_attr.specs.declared.mp.MpUnreach.TheVariants as unreach
-use Rattle.bgp_attr.specs.Judgement.{judgement}
 use Rattle.bgp_attr.specs.Mp.{afi_of, safi_of, next_hop_length, reached_of, withdrawn_of, mp_reach_of, mp_unreach_of}
 use Rattle.bgp_attr.specs.Tlv.{PlacedTlv}
-use Rattle.bgp_update.specs.Marks.{Mark, malformed, marks_of, placed_tlvs}
+use Rattle.bgp_update.specs.Marks.{Mark, malformed, marks_of}
 use Rattle.bgp_update.specs.Notes.{gone_ip4, gone_ip6, reached_ip4, reached_ip6, is_reachable, notes_of}
 use Rattle.bgp_update.specs.Notes as notes
-use Rattle.bgp_update.specs.Parts.{Parts, has_nlri, parts_of}
-use Rattle.bgp_update.specs.Taken.{kept_by, kept_of, attrs_of, update_of}
+use Rattle.bgp_update.specs.Parts.{Parts, parts_of}
+use Rattle.bgp_update.specs.Taken.{kept_of, attrs_of, update_of}
+use Rattle.bgp_update.specs.declared.attrs.Attrs.{Attrs}
 use Rattle.bgp_update.specs.Verdict.{is_withdrawn, of_parts, reset_of, unless_reset, without_reset}
 use Rattle.bgp_update.specs.declared.verdict.Verdict.TheVariants as verdict
-use Rattle.bgp_update.proofs.AttrSlots.{first_in, as_mp_reach, as_mp_unreach, attrs_of-slots}
 use Rattle.bgp_update.proofs.Bodies.{length-body, parts-body}
-use Rattle.bgp_update.proofs.Lists.{find-passes}
-use Rattle.bgp_update.proofs.TypeLemmas.{taken-mp_reach, taken-mp_unreach}
 use Rattle.bgp_msg.specs.declared.message.Message.TheVariants as message
 use Rattle.bgp_msg.specs.declared.outcome.Outcome.{Outcome}
 use Rattle.bgp_msg.specs.declared.outcome.Outcome.TheVariants as outcome
@@ -46,7 +39,7 @@ use Rattle.ristulva_c.specs.Places.{first_of_type}
 use Rattle.ristulva_c.specs.RouteList.{RouteValue, routes_to, reached_routes, unreached_routes, routes_of}
 use Rattle.ristulva_c.proofs.FewPieces.{few_prefixes, found_of, two_found}
 use Rattle.ristulva_c.proofs.FirstPlaces.{found_lies}
-use Rattle.ristulva_c.proofs.KeptPlaces.{slot_first, row_value, taken_of}
+use Rattle.ristulva_c.proofs.KeptPlaces.{reach_first, unreach_first}
 
 -- ---- what an attribute gives
 
@@ -89,38 +82,8 @@ module _ (v : List ℕ) where
   few_unreach = few_unreach_by (eqb (safi_of v) UNICAST) (eqb (afi_of v) IPV4) (eqb (afi_of v) IPV6) refl refl refl
 
 module _ (ctx : Context) (p : Parts) where
-  abbrev nlri : Bool
-  nlri = has_nlri p
-
-  abbrev as_reach : MpReach → Attr
-  as_reach r = attr.MpReach r
-
-  abbrev as_unreach : MpUnreach → Attr
-  as_unreach r = attr.MpUnreach r
-
-  reach_kept : (a : Bool) (q : PlacedTlv) → q.tlv.kind ≡ MP_REACH_NLRI → (x : Attr) → judgement ctx nlri q.tlv ≡ judged.Keep x → length (reached_routes a (first_in as_mp_reach (kept_by (judged.Keep x)))) ≤ length q.tlv.value
-  reach_kept a q is (attr.MpReach r) keeps =
-      let v : List ℕ = q.tlv.value in
-      let row : attr.MpReach (mp_reach_of v) ≡ attr.MpReach r = row_value ctx nlri as_mp_reach as_reach MP_REACH_NLRI taken-mp_reach q r is keeps in
-      let same : mp_reach_of v ≡ r = cc in
-      subst (λ (x : MpReach). length (reached_routes a (Some x)) ≤ length v) same (few_reach v a)
-  reach_kept a q is x keeps = omega arith
-
-  unreach_kept : (q : PlacedTlv) → q.tlv.kind ≡ MP_UNREACH_NLRI → (x : Attr) → judgement ctx nlri q.tlv ≡ judged.Keep x → length (unreached_routes (first_in as_mp_unreach (kept_by (judged.Keep x)))) ≤ length q.tlv.value
-  unreach_kept q is (attr.MpUnreach r) keeps =
-      let v : List ℕ = q.tlv.value in
-      let row : attr.MpUnreach (mp_unreach_of v) ≡ attr.MpUnreach r = row_value ctx nlri as_mp_unreach as_unreach MP_UNREACH_NLRI taken-mp_unreach q r is keeps in
-      let same : mp_unreach_of v ≡ r = cc in
-      subst (λ (x : MpUnreach). length (unreached_routes (Some x)) ≤ length v) same (few_unreach v)
-  unreach_kept q is x keeps = omega arith
-
-  reach_judged : (a : Bool) (q : PlacedTlv) → q.tlv.kind ≡ MP_REACH_NLRI → (j : Judged) → judgement ctx nlri q.tlv ≡ j → length (reached_routes a (first_in as_mp_reach (kept_by j))) ≤ length q.tlv.value
-  reach_judged a q is (judged.Keep x) e = reach_kept a q is x e
-  reach_judged a q is j e = omega arith
-
-  unreach_judged : (q : PlacedTlv) → q.tlv.kind ≡ MP_UNREACH_NLRI → (j : Judged) → judgement ctx nlri q.tlv ≡ j → length (unreached_routes (first_in as_mp_unreach (kept_by j))) ≤ length q.tlv.value
-  unreach_judged q is (judged.Keep x) e = unreach_kept q is x e
-  unreach_judged q is j e = omega arith
+  abbrev kept : Attrs
+  kept = attrs_of (kept_of (marks_of ctx p))
 
   abbrev is_reach : PlacedTlv → Bool
   is_reach t = eqb t.tlv.kind MP_REACH_NLRI
@@ -128,46 +91,41 @@ module _ (ctx : Context) (p : Parts) where
   abbrev is_unreach : PlacedTlv → Bool
   is_unreach t = eqb t.tlv.kind MP_UNREACH_NLRI
 
-  reach_found : (a : Bool) (o : Option PlacedTlv) → first_of_type MP_REACH_NLRI p ≡ o
-      → length (reached_routes a (taken_of ctx nlri as_mp_reach as_reach MP_REACH_NLRI taken-mp_reach o)) ≤ found_of o
-  reach_found a None e = omega arith
-  reach_found a (Some q) e = omega (
-    arith,
-    reach_judged a q (eqb-true q.tlv.kind MP_REACH_NLRI (find-passes is_reach (placed_tlvs p.attributes) q e)) (judgement ctx nlri q.tlv) refl,
-    (found_lies is_reach p.attributes q e).longer,
-  )
+  reach_found : (a : Bool) (o : Option MpReach) → kept.mp_reach ≡ o → length (reached_routes a o) ≤ found_of (first_of_type MP_REACH_NLRI p)
+  reach_found a None is = omega arith
+  reach_found a (Some r) is =
+      let f = reach_first ctx p r is in
+      omega (
+        arith,
+        ap (λ (x : MpReach). length (reached_routes a (Some x))) f.holds,
+        few_reach f.place.tlv.value a,
+        (found_lies is_reach p.attributes f.place f.first).longer,
+        ap found_of f.first,
+      )
 
-  unreach_found : (o : Option PlacedTlv) → first_of_type MP_UNREACH_NLRI p ≡ o
-      → length (unreached_routes (taken_of ctx nlri as_mp_unreach as_unreach MP_UNREACH_NLRI taken-mp_unreach o)) ≤ found_of o
-  unreach_found None e = omega arith
-  unreach_found (Some q) e = omega (
-    arith,
-    unreach_judged q (eqb-true q.tlv.kind MP_UNREACH_NLRI (find-passes is_unreach (placed_tlvs p.attributes) q e)) (judgement ctx nlri q.tlv) refl,
-    (found_lies is_unreach p.attributes q e).longer,
-  )
+  unreach_found : (o : Option MpUnreach) → kept.mp_unreach ≡ o → length (unreached_routes o) ≤ found_of (first_of_type MP_UNREACH_NLRI p)
+  unreach_found None is = omega arith
+  unreach_found (Some r) is =
+      let f = unreach_first ctx p r is in
+      omega (
+        arith,
+        ap (λ (x : MpUnreach). length (unreached_routes (Some x))) f.holds,
+        few_unreach f.place.tlv.value,
+        (found_lies is_unreach p.attributes f.place f.first).longer,
+        ap found_of f.first,
+      )
 
   apart : (q : PlacedTlv) → is_reach q ≡ true → is_unreach q ≡ true → ⊥
   apart q r u = let e : MP_REACH_NLRI ≡ MP_UNREACH_NLRI = sym (eqb-true q.tlv.kind MP_REACH_NLRI r) ∙ eqb-true q.tlv.kind MP_UNREACH_NLRI u in absurd (omega (arith, e))
 
   -- ---- all routes of an UPDATE
 
-  abbrev kept : List Attr
-  kept = kept_of (marks_of ctx p)
-
   pub few_routes : (a : Bool) → length (routes_of a (update_of p (marks_of ctx p))) ≤ length p.withdrawn + length p.attributes + length p.nlri
   few_routes a =
       let w = routes_to false IPV4 (run_of 4 p.withdrawn).0 in
-      let u = unreached_routes (attrs_of kept).mp_unreach in
-      let r = reached_routes a (attrs_of kept).mp_reach in
+      let u = unreached_routes kept.mp_unreach in
+      let r = reached_routes a kept.mp_reach in
       let n = routes_to a IPV4 (run_of 4 p.nlri).0 in
-      let re : length r ≤ found_of (first_of_type MP_REACH_NLRI p) =
-      subst (λ o. length (reached_routes a o) ≤ found_of (first_of_type MP_REACH_NLRI p))
-      (sym (ap (λ x. x.mp_reach) (attrs_of-slots kept) ∙ slot_first ctx nlri as_mp_reach as_reach MP_REACH_NLRI taken-mp_reach p.attributes))
-      (reach_found a (first_of_type MP_REACH_NLRI p) refl) in
-      let un : length u ≤ found_of (first_of_type MP_UNREACH_NLRI p) =
-      subst (λ o. length (unreached_routes o) ≤ found_of (first_of_type MP_UNREACH_NLRI p))
-      (sym (ap (λ x. x.mp_unreach) (attrs_of-slots kept) ∙ slot_first ctx nlri as_mp_unreach as_unreach MP_UNREACH_NLRI taken-mp_unreach p.attributes))
-      (unreach_found (first_of_type MP_UNREACH_NLRI p) refl) in
       omega (
         arith,
         length-append w (u ++ (r ++ n)),
@@ -177,8 +135,8 @@ module _ (ctx : Context) (p : Parts) where
         length-map (run_of 4 p.nlri).0 (as_route a IPV4),
         few_prefixes 4 p.withdrawn,
         few_prefixes 4 p.nlri,
-        re,
-        un,
+        reach_found a kept.mp_reach refl,
+        unreach_found kept.mp_unreach refl,
         two_found is_reach is_unreach apart p.attributes,
       )
 

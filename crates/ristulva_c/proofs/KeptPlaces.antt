@@ -3,7 +3,7 @@ use Rattle.std.proofs.Common.{◌≡◌, ℕ, ◌-◌, Bool, true, false, ◌||�
 use Rattle.std.specs.List.{find}
 use Rattle.std.specs.Option.{option_or}
 use Rattle.std.proofs.lemmas.Bool.{eqb-true, eqb-false, eq-eqb, or_from, or_left}
-use Rattle.bgp_numbers.specs.declared.attribute.TheConstants.{AS_PATH, COMMUNITIES, AS4_PATH, LARGE_COMMUNITY}
+use Rattle.bgp_numbers.specs.declared.attribute.TheConstants.{AS_PATH, COMMUNITIES, MP_REACH_NLRI, MP_UNREACH_NLRI, AS4_PATH, LARGE_COMMUNITY}
 use Rattle.bgp_wire.specs.OctetSet.{also, none_of_them}
 use Rattle.bgp_open.specs.declared.context.Context.{Context}
 use Rattle.bgp_attr.specs.declared.attr.Attr.{Attr}
@@ -12,10 +12,13 @@ use Rattle.bgp_attr.specs.declared.communities.Communities.{Communities}
 use Rattle.bgp_attr.specs.declared.communities.LargeCommunities.{LargeCommunities}
 use Rattle.bgp_attr.specs.declared.judged.Judged.{Judged}
 use Rattle.bgp_attr.specs.declared.judged.Judged.TheVariants as judged
+use Rattle.bgp_attr.specs.declared.mp.MpReach.{MpReach}
+use Rattle.bgp_attr.specs.declared.mp.MpUnreach.{MpUnreach}
 use Rattle.bgp_attr.specs.declared.path.As4Path.{As4Path}
 use Rattle.bgp_attr.specs.declared.path.AsPath.{AsPath}
 use Rattle.bgp_attr.specs.declared.why.Why.TheVariants as why
 use Rattle.bgp_attr.specs.Judgement.{AttributeType, judgement}
+use Rattle.bgp_attr.specs.Mp.{mp_reach_of, mp_unreach_of}
 use Rattle.bgp_attr.specs.Path.{path_of}
 use Rattle.bgp_attr.specs.Tlv.{PlacedTlv, tlvs_of}
 use Rattle.bgp_attr.specs.Value.{as_path_form, as4_path_of, communities_of, large_of}
@@ -23,12 +26,12 @@ use Rattle.bgp_attr.specs.Written.{type_of}
 use Rattle.bgp_attr.proofs.TestRows.{kept-value, row-at, row_at}
 use Rattle.bgp_update.specs.Marks.{malformed, carries_routes, repeated, marks_behind, placed_tlvs, field_marks, marks_of}
 use Rattle.bgp_update.specs.Parts.{Parts, has_nlri}
-use Rattle.bgp_update.specs.Taken.{kept_by, kept_of, attrs_of}
-use Rattle.bgp_update.proofs.AttrSlots.{first_in, as_as_path, as_communities, as_as4_path, as_large, attrs_of-slots}
+use Rattle.bgp_update.specs.Taken.{kept_by, kept_of, attrs_of, as_as_path, as_communities, as_mp_reach, as_mp_unreach, as_as4_path, as_large}
+use Rattle.bgp_update.proofs.AttrSlots.{attrs_of-slots}
 use Rattle.bgp_update.proofs.KeptMarks.{keep-type, with_cut-kept}
 use Rattle.bgp_update.proofs.Options.{option_or-none}
 use Rattle.bgp_update.proofs.Lists.{eqb-swap, find-passes}
-use Rattle.bgp_update.proofs.TypeLemmas.{Taken, Is, Other, first_in-append, taken-as_path, taken-communities, taken-as4_path, taken-large}
+use Rattle.bgp_update.proofs.TypeLemmas.{first_in, Taken, Is, Other, first_in-append, taken-as_path, taken-communities, taken-mp_reach, taken-mp_unreach, taken-as4_path, taken-large}
 use Rattle.ristulva_c.specs.Places.{first_of_type}
 
 repeated-by : (b : Bool) → kept_by (cond b (judged.Reset malformed) (judged.Discard why.Repeated)) ≡ []
@@ -84,59 +87,6 @@ module _ (ctx : Context) (nlri : Bool) where
         or_right_true true = refl
         or_right_true false = refl
 
-    -- the first of the type is taken, or none is
-    this_taken : (x : Attr) (later : Option A) (v : A) → later ≡ None → option_or (option_or (as_value x) None) later ≡ Some v → Taken as_value as_attr kind x → x ≡ as_attr v
-    this_taken x later v none e (Is w is has same) =
-        let found : Some w ≡ Some v = sym (ap (λ (o : Option A). option_or (option_or o None) later) has) ∙ e in
-        is ∙ ap as_attr (let same : w ≡ v = cc in same)
-    this_taken x later v none e (Other nothing apart) =
-        absurd (let bad : None ≡ Some v = sym (ap (λ (o : Option A). option_or (option_or o None) later) nothing ∙ none) ∙ e in cc)
-
-    this_judged : (p : PlacedTlv) (ps : List PlacedTlv) (v : A) (j : Judged) (later : Option A) → judgement ctx nlri p.tlv ≡ j → later ≡ None → option_or (first_in as_value (kept_by j)) later ≡ Some v
-        → judgement ctx nlri p.tlv ≡ judged.Keep (as_attr v)
-    this_judged p ps v (judged.Keep x) later is none e = is ∙ ap (λ (y : Attr). judged.Keep y) (this_taken x later v none e (taken x))
-    this_judged p ps v (judged.Discard w) later is none e = absurd (let bad : None ≡ Some v = sym none ∙ e in cc)
-    this_judged p ps v (judged.Withdraw w) later is none e = absurd (let bad : None ≡ Some v = sym none ∙ e in cc)
-    this_judged p ps v (judged.Reset n) later is none e = absurd (let bad : None ≡ Some v = sym none ∙ e in cc)
-
-    first_by : (p : PlacedTlv) (ps : List PlacedTlv) (seen : ℕ → Bool) (v : A) (h : Bool) → eqb p.tlv.kind kind ≡ h → seen kind ≡ false
-        → first_in as_value (kept_of (marks_behind ctx nlri seen (p ∷ ps))) ≡ Some v
-        → ((also p.tlv.kind seen) kind ≡ false → first_in as_value (kept_of (marks_behind ctx nlri (also p.tlv.kind seen) ps)) ≡ Some v → IsFirst v ps) → IsFirst v (p ∷ ps)
-    first_by p ps seen v true e new has later =
-        let same : p.tlv.kind ≡ kind = eqb-true p.tlv.kind kind e in
-        let rest : List Attr = kept_of (marks_behind ctx nlri (also p.tlv.kind seen) ps) in
-        let split = sym (first_in-append as_value as_attr kind taken (kept_by (answer (seen p.tlv.kind) p)) rest) ∙ has in
-        let unseen : seen p.tlv.kind ≡ false = ap seen same ∙ new in
-        let here : option_or (first_in as_value (kept_by (judgement ctx nlri p.tlv))) (first_in as_value rest) ≡ Some v =
-        sym (ap (λ (s : Bool). option_or (first_in as_value (kept_by (answer s p))) (first_in as_value rest)) unseen) ∙ split in
-        record {
-          place = p;
-          first = ap (λ (b : Bool). cond b (Some p) (find (λ q. eqb q.tlv.kind kind) ps)) e;
-          keeps = this_judged p ps v (judgement ctx nlri p.tlv) (first_in as_value rest) refl
-              (later_none (also p.tlv.kind seen) ps (or_left (eqb kind p.tlv.kind) (seen kind) (eq-eqb kind p.tlv.kind (sym same)))) here;
-        }
-    first_by p ps seen v false e new has later =
-        let rest : List Attr = kept_of (marks_behind ctx nlri (also p.tlv.kind seen) ps) in
-        let split = sym (first_in-append as_value as_attr kind taken (kept_by (answer (seen p.tlv.kind) p)) rest) ∙ has in
-        let there : first_in as_value rest ≡ Some v =
-        sym (ap (λ (o : Option A). option_or o (first_in as_value rest)) (other_none p (seen p.tlv.kind) e)) ∙ split in
-        let found : IsFirst v ps = later (or_from (eqb kind p.tlv.kind) (seen kind) (eqb-swap kind p.tlv.kind ∙ e) new) there in
-        record {
-          place = found.place;
-          first = ap (λ (b : Bool). cond b (Some p) (find (λ q. eqb q.tlv.kind kind) ps)) e ∙ found.first;
-          keeps = found.keeps;
-        }
-
-    first_behind : (seen : ℕ → Bool) (ps : List PlacedTlv) (v : A) → seen kind ≡ false → first_in as_value (kept_of (marks_behind ctx nlri seen ps)) ≡ Some v → IsFirst v ps
-    first_behind seen [] v new has = absurd (let bad : None ≡ Some v = has in cc)
-    first_behind seen (p ∷ ps) v new has = first_by p ps seen v (eqb p.tlv.kind kind) refl new has (λ unseen more. first_behind (also p.tlv.kind seen) ps v unseen more)
-
-    pub first_kept : (field : List ℕ) (v : A) → first_in as_value (kept_of (field_marks ctx nlri field)) ≡ Some v → IsFirst v (placed_tlvs field)
-    unfolding field_marks
-    first_kept field v has =
-        first_behind none_of_them (placed_tlvs field) v refl
-        (sym (ap (first_in as_value) (with_cut-kept (marks_behind ctx nlri none_of_them (placed_tlvs field)) (length field - length (tlvs_of field).1) (tlvs_of field).1)) ∙ has)
-
     -- what the slot takes of it, and nothing where there is none of the type
     abbrev pub taken_of : Option PlacedTlv → Option A
     taken_of None = None
@@ -168,6 +118,24 @@ module _ (ctx : Context) (nlri : Bool) where
     slot_first field =
         ap (first_in as_value) (with_cut-kept (marks_behind ctx nlri none_of_them (placed_tlvs field)) (length field - length (tlvs_of field).1) (tlvs_of field).1)
         ∙ slot_behind none_of_them (placed_tlvs field) refl
+
+    -- what is taken of it is its value
+    this_taken : (x : Attr) (v : A) → option_or (as_value x) None ≡ Some v → Taken as_value as_attr kind x → x ≡ as_attr v
+    this_taken x v e (Is w is has same) =
+        let found : Some w ≡ Some v = sym (ap (λ (o : Option A). option_or o None) has) ∙ e in
+        is ∙ ap as_attr (let same : w ≡ v = cc in same)
+    this_taken x v e (Other nothing apart) = absurd (let bad : None ≡ Some v = sym (ap (λ (o : Option A). option_or o None) nothing) ∙ e in cc)
+
+    this_judged : (p : PlacedTlv) (v : A) (j : Judged) → judgement ctx nlri p.tlv ≡ j → first_in as_value (kept_by j) ≡ Some v → judgement ctx nlri p.tlv ≡ judged.Keep (as_attr v)
+    this_judged p v (judged.Keep x) is e = is ∙ ap (λ (y : Attr). judged.Keep y) (this_taken x v e (taken x))
+    this_judged p v j is e = absurd cc
+
+    first_of : (ps : List PlacedTlv) (v : A) (o : Option PlacedTlv) → find (λ q. eqb q.tlv.kind kind) ps ≡ o → taken_of o ≡ Some v → IsFirst v ps
+    first_of ps v None is e = absurd cc
+    first_of ps v (Some q) is e = record { place = q; first = is; keeps = this_judged q v (judgement ctx nlri q.tlv) refl e }
+
+    pub first_kept : (field : List ℕ) (v : A) → first_in as_value (kept_of (field_marks ctx nlri field)) ≡ Some v → IsFirst v (placed_tlvs field)
+    first_kept field v has = first_of (placed_tlvs field) v (find (λ q. eqb q.tlv.kind kind) (placed_tlvs field)) refl (sym (slot_first field) ∙ has)
 
     -- what a judgement keeps is the value of the type's row
     pub row_value : (q : PlacedTlv) (v : A) → q.tlv.kind ≡ kind → judgement ctx nlri q.tlv ≡ judged.Keep (as_attr v) → (row_at ctx nlri q.tlv kind).value ≡ as_attr v
@@ -215,4 +183,16 @@ module _ (ctx : Context) (p : Parts) where
   large_first r is =
       let f = first_kept ctx (has_nlri p) as_large (λ (x : LargeCommunities). attr.Large x) LARGE_COMMUNITY taken-large p.attributes r (sym (ap (λ a. a.large) (attrs_of-slots kept)) ∙ is) in
       let same : attr.Large (large_of f.place.tlv) ≡ attr.Large r = value_is ctx (has_nlri p) as_large (λ (x : LargeCommunities). attr.Large x) LARGE_COMMUNITY taken-large r (placed_tlvs p.attributes) f in
+      record { place = f.place; first = f.first; holds = cc }
+
+  pub reach_first : (r : MpReach) → (attrs_of kept).mp_reach ≡ Some r → Holds MP_REACH_NLRI p (λ q. r ≡ mp_reach_of q.tlv.value)
+  reach_first r is =
+      let f = first_kept ctx (has_nlri p) as_mp_reach (λ (x : MpReach). attr.MpReach x) MP_REACH_NLRI taken-mp_reach p.attributes r (sym (ap (λ a. a.mp_reach) (attrs_of-slots kept)) ∙ is) in
+      let same : attr.MpReach (mp_reach_of f.place.tlv.value) ≡ attr.MpReach r = value_is ctx (has_nlri p) as_mp_reach (λ (x : MpReach). attr.MpReach x) MP_REACH_NLRI taken-mp_reach r (placed_tlvs p.attributes) f in
+      record { place = f.place; first = f.first; holds = cc }
+
+  pub unreach_first : (r : MpUnreach) → (attrs_of kept).mp_unreach ≡ Some r → Holds MP_UNREACH_NLRI p (λ q. r ≡ mp_unreach_of q.tlv.value)
+  unreach_first r is =
+      let f = first_kept ctx (has_nlri p) as_mp_unreach (λ (x : MpUnreach). attr.MpUnreach x) MP_UNREACH_NLRI taken-mp_unreach p.attributes r (sym (ap (λ a. a.mp_unreach) (attrs_of-slots kept)) ∙ is) in
+      let same : attr.MpUnreach (mp_unreach_of f.place.tlv.value) ≡ attr.MpUnreach r = value_is ctx (has_nlri p) as_mp_unreach (λ (x : MpUnreach). attr.MpUnreach x) MP_UNREACH_NLRI taken-mp_unreach r (placed_tlvs p.attributes) f in
       record { place = f.place; first = f.first; holds = cc }

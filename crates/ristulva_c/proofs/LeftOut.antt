@@ -20,11 +20,9 @@ use Rattle.bgp_attr.specs.declared.judged.Judged.TheVariants as judged
 use Rattle.bgp_attr.specs.declared.opaque.Opaque.{Opaque}
 use Rattle.bgp_update.specs.declared.note.Note.{Note}
 use Rattle.bgp_update.specs.declared.view.UpdateView.{UpdateView}
-use Rattle.bgp_update.specs.KeptView.{is_opaque}
 use Rattle.bgp_update.specs.Marks.{Mark}
-use Rattle.bgp_update.specs.Taken.{attrs_of, kept_by, kept_of, put_rising}
+use Rattle.bgp_update.specs.Taken.{attrs_of, kept_by, kept_of, put_rising, is_opaque, as_opaque, rising_behind}
 use Rattle.bgp_update.specs.View.{view_marks}
-use Rattle.bgp_update.specs.steps.Others.{as_opaque, rising_behind}
 use Rattle.bgp_update.proofs.AttrSlots.{others_of-slots}
 use Rattle.bgp_clean.specs.Opens.{Seen, none_seen, goes_on, seen_behind, understood, understood_behind}
 use Rattle.ristulva_c.specs.Notes.{note_told}

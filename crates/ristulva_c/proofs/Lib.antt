@@ -1,6 +1,5 @@
 -- Lemmas on what is told in numbers.
 pub mod Wanted
-pub mod Steps
 pub mod PrefixSteps
 pub mod Between
 pub mod TlvSteps
@@ -16,9 +15,8 @@ pub mod NoteSteps
 pub mod NoteCounts
 pub mod CapabilitySteps
 pub mod OpenPlaces
+pub mod Walks
 pub mod Handles
-pub mod DecoderHandles
-pub mod GuardHandles
 pub mod Passing
 pub mod RisingSteps
 pub mod Pulled

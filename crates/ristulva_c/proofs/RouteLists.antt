@@ -39,12 +39,12 @@ use Rattle.bgp_update.specs.Marks.{Mark, malformed, marks_of, placed_tlvs}
 use Rattle.bgp_update.specs.Notes.{gone_ip4, gone_ip6, reached_ip4, reached_ip6, is_reachable, notes_of}
 use Rattle.bgp_update.specs.Notes as notes
 use Rattle.bgp_update.specs.Parts.{Parts, has_nlri, parts_of}
-use Rattle.bgp_update.specs.Taken.{kept_by, kept_of, attrs_of, update_of}
+use Rattle.bgp_update.specs.Taken.{kept_by, kept_of, attrs_of, update_of, as_mp_reach, as_mp_unreach}
 use Rattle.bgp_update.specs.Verdict.{is_withdrawn, of_parts, reset_of, unless_reset, without_reset}
 use Rattle.bgp_update.specs.declared.verdict.Verdict.TheVariants as verdict
-use Rattle.bgp_update.proofs.AttrSlots.{first_in, as_mp_reach, as_mp_unreach, attrs_of-slots}
+use Rattle.bgp_update.proofs.AttrSlots.{attrs_of-slots}
 use Rattle.bgp_update.proofs.Lists.{find-passes}
-use Rattle.bgp_update.proofs.TypeLemmas.{taken-mp_reach, taken-mp_unreach}
+use Rattle.bgp_update.proofs.TypeLemmas.{first_in, taken-mp_reach, taken-mp_unreach}
 use Rattle.std.proofs.lemmas.Bool.{eqb-true}
 use Rattle.bgp_msg.specs.declared.message.Message.TheVariants as message
 use Rattle.bgp_msg.specs.declared.outcome.Outcome.{Outcome}
@@ -234,8 +234,8 @@ module _ (octets : List ℕ) (p : Parts) (lies : Lie octets p (parts_told (Some 
       cursor = rw is (none_lies octets);
     }
 
-    reach_kept : (q : PlacedTlv) → LiesAt p.attributes q → q.tlv.kind ≡ MP_REACH_NLRI → (x : Attr) → judgement ctx nlri q.tlv ≡ judged.Keep x → Reaches q (judged.Keep x)
-    reach_kept q at is (attr.MpReach r) keeps =
+    reach_judged : (q : PlacedTlv) → LiesAt p.attributes q → q.tlv.kind ≡ MP_REACH_NLRI → (j : Judged) → judgement ctx nlri q.tlv ≡ j → Reaches q j
+    reach_judged q at is (judged.Keep (attr.MpReach r)) keeps =
         let v : List ℕ = q.tlv.value in
         let row : attr.MpReach (mp_reach_of v) ≡ attr.MpReach r = row_value ctx nlri as_mp_reach as_reach MP_REACH_NLRI taken-mp_reach q r is keeps in
         let same : mp_reach_of v ≡ r = cc in
@@ -244,10 +244,10 @@ module _ (octets : List ℕ) (p : Parts) (lies : Lie octets p (parts_told (Some 
               ∙ ap (λ (y : MpReach). routes_to a (reach_afi y) (run_of (width_of (reach_afi y)) (reached_of v)).0) (sym same) ∙ reach_run v a ∙ ap (λ (y : MpReach). reached_routes a (Some y)) same;
           cursor = from_lies q at (reach_afi r) (5 + next_hop_length v) (reach_known r);
         }
-    reach_kept q at is x keeps = no_reach q (judged.Keep x) refl refl
+    reach_judged q at is j keeps = no_reach q j refl refl
 
-    unreach_kept : (q : PlacedTlv) → LiesAt p.attributes q → q.tlv.kind ≡ MP_UNREACH_NLRI → (x : Attr) → judgement ctx nlri q.tlv ≡ judged.Keep x → Unreaches q (judged.Keep x)
-    unreach_kept q at is (attr.MpUnreach r) keeps =
+    unreach_judged : (q : PlacedTlv) → LiesAt p.attributes q → q.tlv.kind ≡ MP_UNREACH_NLRI → (j : Judged) → judgement ctx nlri q.tlv ≡ j → Unreaches q j
+    unreach_judged q at is (judged.Keep (attr.MpUnreach r)) keeps =
         let v : List ℕ = q.tlv.value in
         let row : attr.MpUnreach (mp_unreach_of v) ≡ attr.MpUnreach r = row_value ctx nlri as_mp_unreach as_unreach MP_UNREACH_NLRI taken-mp_unreach q r is keeps in
         let same : mp_unreach_of v ≡ r = cc in
@@ -256,15 +256,7 @@ module _ (octets : List ℕ) (p : Parts) (lies : Lie octets p (parts_told (Some 
               ∙ ap (λ (y : MpUnreach). routes_to false (unreach_afi y) (run_of (width_of (unreach_afi y)) (withdrawn_of v)).0) (sym same) ∙ unreach_run v ∙ ap (λ (y : MpUnreach). unreached_routes (Some y)) same;
           cursor = from_lies q at (unreach_afi r) 3 (unreach_known r);
         }
-    unreach_kept q at is x keeps = no_unreach q (judged.Keep x) refl refl
-
-    reach_judged : (q : PlacedTlv) → LiesAt p.attributes q → q.tlv.kind ≡ MP_REACH_NLRI → (j : Judged) → judgement ctx nlri q.tlv ≡ j → Reaches q j
-    reach_judged q at is (judged.Keep x) e = reach_kept q at is x e
-    reach_judged q at is j e = no_reach q j refl refl
-
-    unreach_judged : (q : PlacedTlv) → LiesAt p.attributes q → q.tlv.kind ≡ MP_UNREACH_NLRI → (j : Judged) → judgement ctx nlri q.tlv ≡ j → Unreaches q j
-    unreach_judged q at is (judged.Keep x) e = unreach_kept q at is x e
-    unreach_judged q at is j e = no_unreach q j refl refl
+    unreach_judged q at is j keeps = no_unreach q j refl refl
 
     record ReachesAt (o : Option PlacedTlv) : Type 0 where
       routes : (a : Bool) → field_routes a octets (reach_at ctx nlri field o) ≡ reached_routes a (taken_of ctx nlri as_mp_reach as_reach MP_REACH_NLRI taken-mp_reach o)

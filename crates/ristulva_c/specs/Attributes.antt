@@ -1,6 +1,6 @@
 -- Attributes one after another, by a cursor.
-use Rattle.std.specs.Prelude.{◌≡◌, ◌+◌, ◌≤◌, ◌∷◌, ℕ, List, length, take, drop}
-use Rattle.bgp_attr.specs.Tlv.{TlvValue, PlacedTlv, tlvs_of, placed_from}
+use Rattle.std.specs.Prelude.{◌+◌, ◌≤◌, ℕ, List, length}
+use Rattle.bgp_attr.specs.Tlv.{PlacedTlv, tlvs_of, placed_from}
 use Rattle.ristulva_c.specs.declared.attributes.Attributes.{Attributes}
 use Rattle.ristulva_c.specs.declared.attributes.Attribute.{Attribute}
 use Rattle.ristulva_c.specs.Span.{octets_in}
@@ -21,12 +21,3 @@ attribute_told octets out = record {
   at = out.at;
   tlv = record { flags = out.flags; kind = out.kind; whole = between octets out.at (out.value.at + out.value.len); value = octets_in out.value octets };
 }
-
--- a piece that octets begin with: so many octets up to its value, and so many in it
-abbrev pub tlv_in : List ℕ → ℕ → ℕ → ℕ → ℕ → TlvValue
-tlv_in b flags kind head len = record { flags = flags; kind = kind; whole = take (head + len) b; value = take len (drop head b) }
-
--- octets begin with an attribute of so many octets up to its value and in it
-pub record IsFirstTlv (b : List ℕ) (flags kind head len : ℕ) : Type 0 where
-  pub first : (tlvs_of b).0 ≡ tlv_in b flags kind head len ∷ (tlvs_of (drop (head + len) b)).0
-  pub within : head + len ≤ length b

@@ -1,6 +1,6 @@
 -- Numbers one after another, by a cursor.
-use Rattle.std.specs.Prelude.{◌≡◌, ◌==◌, ◌≤◌, ◌⊎◌, ◌∷◌, ℕ, Bool, List, length, drop}
-use Rattle.bgp_attr.specs.Numbers.{number_width, numbers_of}
+use Rattle.std.specs.Prelude.{◌≡◌, ◌==◌, ◌≤◌, ◌⊎◌, ℕ, List, length}
+use Rattle.bgp_attr.specs.Numbers.{numbers_of}
 use Rattle.ristulva_c.specs.declared.numbers.Numbers.{Numbers}
 use Rattle.ristulva_c.specs.Prefixes.{between}
 
@@ -13,8 +13,3 @@ pub record IsNumbers (octets : List ℕ) (cursor : Numbers) : Type 0 where
 -- the numbers still to come
 abbrev pub numbers_left : List ℕ → Numbers → List ℕ
 numbers_left octets cursor = numbers_of (cursor.width == 4) (between octets cursor.at cursor.end)
-
--- octets begin with a number, of four octets where it is wide, else of two
-pub record FirstIs (wide : Bool) (b : List ℕ) (n : ℕ) : Type 0 where
-  pub first : numbers_of wide b ≡ n ∷ numbers_of wide (drop (number_width wide) b)
-  pub within : number_width wide ≤ length b

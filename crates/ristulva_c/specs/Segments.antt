@@ -1,5 +1,5 @@
 -- Segments of a path one after another, by a cursor.
-use Rattle.std.specs.Prelude.{◌≡◌, ◌+◌, ◌≤◌, ◌∷◌, ℕ, Bool, List, length, take, drop}
+use Rattle.std.specs.Prelude.{◌≤◌, ℕ, Bool, List, length}
 use Rattle.bgp_attr.specs.Numbers.{numbers_of}
 use Rattle.bgp_attr.specs.Path.{WireSegment, segments_of}
 use Rattle.ristulva_c.specs.declared.segments.Segments.{Segments}
@@ -24,8 +24,3 @@ segments_left octets cursor = path_segments (is_set cursor.wide) (is_set cursor.
 -- the segment that is told, with AS numbers of four octets where they are wide
 abbrev pub segment_told : Bool → List ℕ → PathSegment → WireSegment
 segment_told wide octets out = record { code = out.kind; numbers = numbers_of wide (octets_in out.numbers octets) }
-
--- octets begin with a segment whose numbers have so many octets
-pub record IsFirstSegment (wide confederations : Bool) (b : List ℕ) (code len : ℕ) : Type 0 where
-  pub first : path_segments wide confederations b ≡ record { code = code; numbers = numbers_of wide (take len (drop 2 b)) } ∷ path_segments wide confederations (drop (2 + len) b)
-  pub within : 2 + len ≤ length b

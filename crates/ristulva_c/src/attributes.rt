@@ -1,14 +1,13 @@
 //! Attributes one after another.
 
-ghost use Rattle.std.specs.Prelude.{◌≡◌, ◌+◌, ◌-◌, ◌⊎◌, ◌↔◌, ◌≤◌, [], ◌∷◌, length, drop, MatchOption};
-ghost use Rattle.bgp_attr.specs.Tlv.{tlvs_of};
+ghost use Rattle.std.specs.Prelude.{◌≡◌, ◌⊎◌, ◌↔◌, [], ◌∷◌, MatchOption};
 ghost use Rattle.ristulva_c.specs.Prefixes.{between};
-ghost use Rattle.ristulva_c.specs.Attributes.{IsAttributes, attributes_left, attribute_told, IsFirstTlv};
+ghost use Rattle.ristulva_c.specs.Attributes.{IsAttributes, attributes_left, attribute_told};
 ghost use Rattle.ristulva_c.specs.declared.status.TheConstants.{END, OK, RANGE};
 
 use crate::span::Span;
 use crate::status::{END, OK, RANGE};
-use bgp_attr::TlvIter;
+use bgp_attr::tlv_at;
 
 /// The attributes of a field that are still to come.
 #[repr(C)]
@@ -34,34 +33,6 @@ pub struct Attribute {
     pub value: Span,
 }
 
-/// An attribute at the front of octets.
-#[derive(Clone, Copy)]
-struct First {
-    flags: u8,
-    kind: u8,
-    head: usize,
-    len: usize,
-}
-
-/// The attribute at the front of octets.
-fn first_attribute(octets: &[u8]) -> Option<First>
-    ensures { MatchOption result ((tlvs_of octets.now).0 ≡ []) (λ x. IsFirstTlv octets.now x.flags x.kind x.head x.len) }
-{
-    match TlvIter::new(octets).next() {
-        None => None,
-        Some(tlv) => {
-            let len = tlv.value.len();
-            let head = tlv.whole.len() - len;
-            Some(First {
-                flags: tlv.flags.0,
-                kind: tlv.kind,
-                head,
-                len,
-            })
-        }
-    }
-}
-
 /// The octets of the field that are left, where the cursor lies in the octets.
 fn field_of<'a>(octets: &'a [u8], cursor: &Attributes) -> Option<&'a [u8]>
     ensures { MatchOption result (IsAttributes octets.now cursor.now → ⊥) (λ field. IsAttributes octets.now cursor.now × (field.now ≡ between octets.now cursor.now.at cursor.now.end)) }
@@ -71,6 +42,7 @@ fn field_of<'a>(octets: &'a [u8], cursor: &Attributes) -> Option<&'a [u8]>
 
 /// Gives the attribute that a cursor stands at, and moves the cursor behind it.
 #[unsafe(no_mangle)]
+#[tactic(auto, using(crate::proofs::TlvSteps::tlv_fits, crate::proofs::TlvSteps::value_fits))]
 pub extern "C" fn ristulva_next_attribute(
     octets: &[u8],
     cursor: &mut Attributes,
@@ -86,19 +58,21 @@ pub extern "C" fn ristulva_next_attribute(
     let Some(field) = field_of(octets, cursor) else {
         return RANGE;
     };
-    match first_attribute(field) {
+    match tlv_at(field, 0) {
         None => END,
-        Some(first) => {
+        Some(tlv) => {
+            let len = tlv.value.len() as u32;
+            let behind = cursor.at + tlv.whole.len() as u32;
             *out = Attribute {
                 at: cursor.at,
-                flags: first.flags,
-                kind: first.kind,
+                flags: tlv.flags.0,
+                kind: tlv.kind,
                 value: Span {
-                    at: cursor.at + first.head as u32,
-                    len: first.len as u32,
+                    at: behind - len,
+                    len,
                 },
             };
-            cursor.at += (first.head + first.len) as u32;
+            cursor.at = behind;
             OK
         }
     }

@@ -9,7 +9,7 @@ ghost use Rattle.ristulva_c.specs.Decoder.{IsMade, IsFreed, IsHeldTold, GivesHel
 ghost use Rattle.ristulva_c.specs.declared.status.TheConstants.{OK};
 
 use crate::context::{SessionContext, context_of};
-use crate::decoder_handle::DecoderHandle;
+use crate::handle::DecoderHandle;
 use crate::judge::{Verdict, are_octets, code_of, parts_at, tell};
 use crate::messages::{MESSAGE_MAX, put};
 use crate::parts::no_parts;

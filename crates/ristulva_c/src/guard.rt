@@ -4,7 +4,7 @@ ghost use Rattle.std.specs.Prelude.{◌≡◌, Some, option_map};
 ghost use Rattle.ristulva_c.specs.Guard.{side_of, event_of, rule_of, came_told, IsMade, IsFreed, GoesOn, IsTicked, GuardHears, HearsOf};
 ghost use Rattle.ristulva_c.specs.declared.status.TheConstants.{OK};
 
-use crate::guard_handle::GuardHandle;
+use crate::handle::GuardHandle;
 use crate::judge::code_of;
 use crate::rules::rules_of;
 use crate::sides::{event_of, happen, side_of};

@@ -1,13 +1,19 @@
-//! A session behind a handle.
+//! A session, a decoder or a guard behind a handle.
 
 ghost use Rattle.std.specs.Prelude.{◌≡◌, Option, None, Some, option_map};
 ghost use Rattle.bgp_machine.specs.Session.{Machine};
-ghost use Rattle.bgp_machine.specs.contracts.session.Session.{the_row};
+ghost use Rattle.bgp_machine.specs.contracts.session.Session.{the_row as session_row};
+ghost use Rattle.bgp_msg.specs.Decoder.{Decoding};
+ghost use Rattle.bgp_msg.specs.contracts.decoder.Decoder.{the_row as decoder_row};
+ghost use Rattle.bgp_guard.specs.Guard.{Guarding};
+ghost use Rattle.bgp_guard.specs.contracts.guard.Guard.{the_row as guard_row};
 ghost use Rattle.ristulva_c.specs.Handle.{owned};
 
 pub(crate) mod parts;
 
+use bgp_guard::Guard;
 use bgp_machine::Session;
+use bgp_msg::Decoder;
 use parts::BoxParts;
 use std::alloc::Global;
 use std::marker::Model;
@@ -17,19 +23,19 @@ use std::ptr::null_mut;
 /// What a handle points to. C never looks into it.
 #[repr(C)]
 #[derive(Drop)]
-pub struct SessionBody {}
+pub struct Body {}
 
 /// A session, or none: then it is null.
 #[repr(C)]
 #[derive(Drop)]
 pub struct SessionHandle {
-    body: *mut SessionBody,
+    body: *mut Body,
     /// The session.
     pub ghost value: { Option Machine },
 }
 
 impl Model for SessionHandle {
-    ghost also_owns = { λ h. owned the_row h.body h.value };
+    ghost also_owns = { λ h. owned session_row h.body h.value };
 }
 
 impl SessionHandle {
@@ -46,7 +52,7 @@ impl SessionHandle {
     {
         let BoxParts { ptr, alloc: _ } = parts;
         SessionHandle {
-            body: ptr as *mut SessionBody,
+            body: ptr as *mut Body,
         }
     }
 
@@ -89,10 +95,152 @@ impl SessionHandle {
 // One thread after another may have the handle.
 unsafe impl Send for SessionHandle {}
 
+/// A decoder, or none: then it is null.
+#[repr(C)]
+#[derive(Drop)]
+pub struct DecoderHandle {
+    body: *mut Body,
+    /// The decoder.
+    pub ghost value: { Option Decoding },
+}
+
+impl Model for DecoderHandle {
+    ghost also_owns = { λ h. owned decoder_row h.body h.value };
+}
+
+impl DecoderHandle {
+    /// No decoder.
+    fn none() -> DecoderHandle
+        ensures { result.value ≡ None }
+    {
+        DecoderHandle { body: null_mut() }
+    }
+
+    /// A handle that has what a box is made of.
+    fn of_parts(parts: BoxParts<Decoder, Global>) -> DecoderHandle
+        ensures { result.value ≡ Some parts.value }
+    {
+        let BoxParts { ptr, alloc: _ } = parts;
+        DecoderHandle {
+            body: ptr as *mut Body,
+        }
+    }
+
+    /// What the box is made of, where there is one.
+    fn into_parts(self, alloc: Global) -> Option<BoxParts<Decoder, Global>>
+        ensures { option_map (λ parts. parts.value) result ≡ self.value }
+    {
+        let DecoderHandle { body } = self;
+        if body.is_null() {
+            None
+        } else {
+            Some(BoxParts {
+                ptr: body as *mut Decoder,
+                alloc,
+            })
+        }
+    }
+
+    /// Takes the decoder out.
+    pub(crate) fn take(&mut self, alloc: Global) -> Option<Box<Decoder>>
+        ensures decoder { option_map (λ decoder. decoder.value) result ≡ self.old.value }
+        ensures none { self.new.value ≡ None }
+    {
+        let old = replace(self, DecoderHandle::none());
+        match old.into_parts(alloc) {
+            None => None,
+            Some(parts) => Some(parts.into_box()),
+        }
+    }
+
+    /// Puts a decoder in, where there is none.
+    pub(crate) fn put(&mut self, decoder: Box<Decoder>)
+        requires { self.old.value ≡ None }
+        ensures { self.new.value ≡ Some decoder.value }
+    {
+        *self = DecoderHandle::of_parts(BoxParts::of(decoder));
+    }
+}
+
+// One thread after another may have the handle.
+unsafe impl Send for DecoderHandle {}
+
+/// A guard, or none: then it is null.
+#[repr(C)]
+#[derive(Drop)]
+pub struct GuardHandle {
+    body: *mut Body,
+    /// The guard.
+    pub ghost value: { Option Guarding },
+}
+
+impl Model for GuardHandle {
+    ghost also_owns = { λ h. owned guard_row h.body h.value };
+}
+
+impl GuardHandle {
+    /// No guard.
+    fn none() -> GuardHandle
+        ensures { result.value ≡ None }
+    {
+        GuardHandle { body: null_mut() }
+    }
+
+    /// A handle that has what a box is made of.
+    fn of_parts(parts: BoxParts<Guard, Global>) -> GuardHandle
+        ensures { result.value ≡ Some parts.value }
+    {
+        let BoxParts { ptr, alloc: _ } = parts;
+        GuardHandle {
+            body: ptr as *mut Body,
+        }
+    }
+
+    /// What the box is made of, where there is one.
+    fn into_parts(self, alloc: Global) -> Option<BoxParts<Guard, Global>>
+        ensures { option_map (λ parts. parts.value) result ≡ self.value }
+    {
+        let GuardHandle { body } = self;
+        if body.is_null() {
+            None
+        } else {
+            Some(BoxParts {
+                ptr: body as *mut Guard,
+                alloc,
+            })
+        }
+    }
+
+    /// Takes the guard out.
+    pub(crate) fn take(&mut self, alloc: Global) -> Option<Box<Guard>>
+        ensures guard { option_map (λ guard. guard.value) result ≡ self.old.value }
+        ensures none { self.new.value ≡ None }
+    {
+        let old = replace(self, GuardHandle::none());
+        match old.into_parts(alloc) {
+            None => None,
+            Some(parts) => Some(parts.into_box()),
+        }
+    }
+
+    /// Puts a guard in, where there is none.
+    pub(crate) fn put(&mut self, guard: Box<Guard>)
+        requires { self.old.value ≡ None }
+        ensures { self.new.value ≡ Some guard.value }
+    {
+        *self = GuardHandle::of_parts(BoxParts::of(guard));
+    }
+}
+
+// One thread after another may have the handle.
+unsafe impl Send for GuardHandle {}
+
 fn crosses<T: Send>() {}
 
-// What asks for that proof: nothing is done.
+// What asks for those proofs: nothing is done.
 #[allow(dead_code)]
 fn crosses_threads() {
     crosses::<SessionHandle>();
+    crosses::<DecoderHandle>();
+    crosses::<GuardHandle>();
 }

@@ -2,7 +2,7 @@
 
 ghost use Rattle.std.specs.Prelude.{◌≡◌, ◌≤◌, length};
 ghost use Rattle.bgp_attr.specs.AttrView.{attr_value};
-ghost use Rattle.bgp_update.specs.KeptView.{is_opaque};
+ghost use Rattle.bgp_update.specs.Taken.{is_opaque};
 ghost use Rattle.bgp_update.specs.View.{update_value};
 
 use bgp_attr::AttrView;

@@ -1,16 +1,14 @@
 //! Segments of a path one after another.
 
-ghost use Rattle.std.specs.Prelude.{◌≡◌, ◌==◌, ◌+◌, ◌⊎◌, ◌↔◌, ◌≤◌, not, [], ◌∷◌, length, drop, MatchOption};
-ghost use Rattle.bgp_attr.specs.Path.{is_known, segments_of};
+ghost use Rattle.std.specs.Prelude.{◌≡◌, ◌⊎◌, ◌↔◌, [], ◌∷◌, MatchOption};
 ghost use Rattle.ristulva_c.specs.Prefixes.{between};
 ghost use Rattle.ristulva_c.specs.Context.{is_set};
-ghost use Rattle.ristulva_c.specs.Segments.{IsSegments, IsFirstSegment, segments_left, segment_told};
+ghost use Rattle.ristulva_c.specs.Segments.{IsSegments, segments_left, segment_told};
 ghost use Rattle.ristulva_c.specs.declared.status.TheConstants.{END, OK, RANGE};
 
-use crate::numbers::number_width;
 use crate::span::Span;
 use crate::status::{END, OK, RANGE};
-use bgp_numbers::segment;
+use bgp_attr::{PathForm, first_segment};
 
 /// The segments of a path that are still to come.
 #[repr(C)]
@@ -36,39 +34,6 @@ pub struct PathSegment {
     pub numbers: Span,
 }
 
-/// Whether segments of this type are read.
-fn is_known(wide: bool, confederations: bool, code: u8) -> bool
-    ensures { result ≡ is_known (record { wide = wide; confederations = confederations }) code }
-{
-    match code {
-        segment::SET | segment::SEQUENCE => true,
-        segment::CONFED_SEQUENCE | segment::CONFED_SET => confederations,
-        _ => false,
-    }
-}
-
-/// The segment at the front of octets: its type, and how many octets its numbers have.
-fn first_segment(wide: bool, confederations: bool, octets: &[u8]) -> Option<(u8, usize)>
-    ensures { MatchOption result ((segments_of (record { wide = wide; confederations = confederations }) octets.now).0 ≡ []) (λ x. IsFirstSegment wide confederations octets.now x.0 x.1) }
-{
-    if octets.len() < 2 {
-        return None;
-    }
-    let code = octets[0];
-    let count = octets[1];
-    let len = usize::from(count) * number_width(wide);
-    if octets.len() < 2 + len {
-        return None;
-    }
-    if !is_known(wide, confederations, code) {
-        return None;
-    }
-    if count == 0 {
-        return None;
-    }
-    Some((code, len))
-}
-
 /// The octets of the path that are left, where the cursor lies in the octets.
 fn field_of<'a>(octets: &'a [u8], cursor: &Segments) -> Option<&'a [u8]>
     ensures { MatchOption result (IsSegments octets.now cursor.now → ⊥) (λ field. IsSegments octets.now cursor.now × (field.now ≡ between octets.now cursor.now.at cursor.now.end)) }
@@ -78,6 +43,7 @@ fn field_of<'a>(octets: &'a [u8], cursor: &Segments) -> Option<&'a [u8]>
 
 /// Gives the segment that a cursor stands at, and moves the cursor behind it.
 #[unsafe(no_mangle)]
+#[tactic(auto, using(crate::proofs::SegmentSteps::segment_fits))]
 pub extern "C" fn ristulva_next_segment(
     octets: &[u8],
     cursor: &mut Segments,
@@ -93,17 +59,22 @@ pub extern "C" fn ristulva_next_segment(
     let Some(field) = field_of(octets, cursor) else {
         return RANGE;
     };
-    match first_segment(cursor.wide != 0, cursor.confederations != 0, field) {
+    let form = PathForm {
+        wide: cursor.wide != 0,
+        confederations: cursor.confederations != 0,
+    };
+    match first_segment(form, field) {
         None => END,
-        Some((kind, len)) => {
+        Some((segment, rest)) => {
+            let at = cursor.at + 2;
+            cursor.at = cursor.end - rest.len() as u32;
             *out = PathSegment {
-                kind,
+                kind: segment.code,
                 numbers: Span {
-                    at: cursor.at + 2,
-                    len: len as u32,
+                    at,
+                    len: cursor.at - at,
                 },
             };
-            cursor.at += (2 + len) as u32;
             OK
         }
     }

@@ -8,7 +8,7 @@ ghost use Rattle.bgp_guard.specs.Events.{sent};
 ghost use Rattle.ristulva_c.specs.declared.status.TheConstants.{OK};
 
 use crate::agreed::{ToldPeer, peer_said};
-use crate::guard_handle::GuardHandle;
+use crate::handle::GuardHandle;
 use crate::messages::put;
 use crate::sides::side_of;
 use crate::status::{NO_SESSION, OK, RANGE, STATE};

@@ -7,6 +7,10 @@ use Rattle.bgp_engine.specs.declared.fault.ToolFault.TheVariants as fault
 use Rattle.bgp_engine.specs.Report.{Report, behind, IsOver, IsWaiting, IsWordless}
 use Rattle.bgp_engine.specs.Run.{Reports}
 
+-- these reports, of streams of octets
+abbrev pub OfOctets : Reports → Reports
+OfOctets reports stream r = AreOctets stream × reports stream r
+
 -- however the stream goes on behind the octets, what is reported of it from old on is what is reported from new on, behind the lines
 abbrev pub GoesOn : Reports → List ℕ → List ℕ → Reports → Type 0
 GoesOn old octets lines new = (later : List ℕ) (r : Report) → new later r → old (octets ++ later) (behind lines r)
@@ -41,22 +45,22 @@ pub record Takes (old new : Reports) (going : Type 0) (told_old told_new octets 
 abbrev pub IsTotal : Reports → Type 0
 IsTotal reports = (later : List ℕ) → AreOctets later → (r : Report) × reports later r
 
--- the stream ends: what is written last was collected
-pub record ClosesBy (reports : Reports) (told_old told_new : List ℕ) (answer : Result Tally ToolFault) : Type 0 where
+-- what is written last was collected, and this is the answer
+abbrev pub ClosesBy : Report → List ℕ → List ℕ → Result Tally ToolFault → Type 0
+ClosesBy report told_old told_new (Ok tally) = (told_new ≡ told_old ++ report.last) × (report.answer ≡ Ok tally)
+ClosesBy report told_old told_new (Err fault.Memory) = Unit {0}
+ClosesBy report told_old told_new (Err fault.Read) = ⊥
+ClosesBy report told_old told_new (Err fault.Write) = ⊥
+ClosesBy report told_old told_new (Err (fault.BadHex n)) = ⊥
+ClosesBy report told_old told_new (Err (fault.Script n)) = ⊥
+ClosesBy report told_old told_new (Err fault.Net) = ⊥
+ClosesBy report told_old told_new (Err (fault.Narrow n)) = (told_new ≡ told_old ++ report.last) × (report.answer ≡ Err (fault.Narrow n))
+ClosesBy report told_old told_new (Err (fault.Clean n why)) = IsWordless why × (told_new ≡ told_old ++ report.last) × (report.answer ≡ Err (fault.Clean n why))
+ClosesBy report told_old told_new (Err fault.NoOpen) = (told_new ≡ told_old ++ report.last) × (report.answer ≡ Err fault.NoOpen)
+
+-- the stream ends
+pub record Closes (reports : Reports) (told_old told_new : List ℕ) (answer : Result Tally ToolFault) : Type 0 where
   pub report : Report
   pub reported : reports [] report
   pub none : report.lines ≡ []
-  pub told : told_new ≡ told_old ++ report.last
-  pub answers : report.answer ≡ answer
-
-abbrev pub Closes : Reports → List ℕ → List ℕ → Result Tally ToolFault → Type 0
-Closes reports told_old told_new (Ok tally) = ClosesBy reports told_old told_new (Ok tally)
-Closes reports told_old told_new (Err fault.Memory) = (r : Report) × reports [] r × (r.lines ≡ [])
-Closes reports told_old told_new (Err fault.Read) = ⊥
-Closes reports told_old told_new (Err fault.Write) = ⊥
-Closes reports told_old told_new (Err (fault.BadHex n)) = ⊥
-Closes reports told_old told_new (Err (fault.Script n)) = ⊥
-Closes reports told_old told_new (Err fault.Net) = ⊥
-Closes reports told_old told_new (Err (fault.Narrow n)) = ClosesBy reports told_old told_new (Err (fault.Narrow n))
-Closes reports told_old told_new (Err (fault.Clean n why)) = IsWordless why × ClosesBy reports told_old told_new (Err (fault.Clean n why))
-Closes reports told_old told_new (Err fault.NoOpen) = ClosesBy reports told_old told_new (Err fault.NoOpen)
+  pub closes : ClosesBy report told_old told_new answer

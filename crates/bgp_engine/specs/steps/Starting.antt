@@ -1,5 +1,6 @@
 -- Steps of an engine that takes the first message of its stream by a rule of its own.
-use Rattle.std.specs.Prelude.{◌≡◌, ℕ, ◌^◌, Bool, true, false, List, [], ◌++◌, Option, None, Some, option_map}
+use Rattle.std.specs.Prelude.{◌≡◌, ℕ, Bool, true, false, List, [], ◌++◌, Option, None, Some, option_map}
+use Rattle.bgp_wire.specs.Octets.{AreOctets}
 use Rattle.bgp_frame.specs.declared.end.End.TheVariants as end
 use Rattle.bgp_frame.specs.Frame.{Message, Waits}
 use Rattle.bgp_open.specs.declared.context.Context.{Context}
@@ -16,7 +17,7 @@ use Rattle.bgp_engine.specs.Report.{Report, behind}
 use Rattle.bgp_engine.specs.Rules.{Rules}
 use Rattle.bgp_engine.specs.Tally.{no_tally}
 use Rattle.bgp_engine.specs.steps.Pages.{Plan}
-use Rattle.bgp_engine.specs.steps.Walking.{Walking, IsCounting, IsGoing, IsReady, reports_of, room_of, walk_of, walking}
+use Rattle.bgp_engine.specs.steps.Walking.{Walking, IsCounting, IsReady, reports_of, walk_of, walking}
 
 -- how the stream is read, how far it has come, and the walk over it, which holds the first message until that is whole
 pub record Starting (Outcome : Type 0) : Type 0 where
@@ -55,7 +56,7 @@ module _ {Outcome : Type 0} where
   starting_of fits rules plan s = starting (starts_of fits rules plan (option_map (λ t. t.now) s.theirs) s.walk.page) s.stage (walk_of rules s.walk)
 
   abbrev pub reports_at : Stage → Starting Outcome → List ℕ → Report → Type 0
-  reports_at stage.First s later r = ReportedFrom s.starts (s.walk.held ++ later) r
+  reports_at stage.First s later r = AreOctets later → ReportedFrom s.starts (s.walk.held ++ later) r
   reports_at stage.Agreed s later r = reports_of s.walk later r
   reports_at stage.Unagreed s later r = r ≡ unagreed end.Reset
 
@@ -75,7 +76,7 @@ module _ {Outcome : Type 0} where
 
   abbrev pub GoesAt : Stage → Walking Outcome → Type 0
   GoesAt stage.First w = IsFirst w
-  GoesAt stage.Agreed w = IsGoing w
+  GoesAt stage.Agreed w = IsReady w
   GoesAt stage.Unagreed w = ⊥
 
   abbrev pub GoesOn : Starting Outcome → Type 0
@@ -90,20 +91,11 @@ module _ {Outcome : Type 0} where
   abbrev pub ReadyIn : Starting Outcome → Type 0
   ReadyIn s = ReadyAt s.stage s.walk
 
-  abbrev pub room_at : Stage → Walking Outcome → ℕ
-  room_at stage.First w = room_of w
-  room_at stage.Agreed w = room_of w
-  room_at stage.Unagreed w = 2 ^ 60
-
-  -- how many octets more can be counted
-  abbrev pub room_in : Starting Outcome → ℕ
-  room_in s = room_at s.stage s.walk
-
   -- how a stream goes on once its first octets, which are held, were looked at, with this collected
   abbrev pub SettlesAt : Stage → Starts Outcome → List ℕ → List ℕ → Walking Outcome → Type 0
   SettlesAt stage.First starts held lines w = IsFirst w × (w.held ≡ held) × (lines ≡ [])
   SettlesAt stage.Agreed starts held lines w =
-      IsCounting w × ((later : List ℕ) (r : Report) → reports_of w later r → ReportedFrom starts (held ++ later) (behind lines r))
+      (w.ended ≡ None) × IsCounting w × ((later : List ℕ) (r : Report) → AreOctets later → reports_of w later r → ReportedFrom starts (held ++ later) (behind lines r))
   SettlesAt stage.Unagreed starts held lines w = ((later : List ℕ) → ReportedFrom starts (held ++ later) (unagreed end.Reset)) × (lines ≡ [])
 
   pub record Settles (stage : Stage) (starts : Starts Outcome) (held told_old told_new : List ℕ) (w : Walking Outcome) : Type 0 where

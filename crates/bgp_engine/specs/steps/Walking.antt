@@ -1,15 +1,18 @@
--- Steps of a walk over the messages of a stream.
-use Rattle.std.specs.Prelude.{◌≡◌, ℕ, ◌+◌, ◌-◌, ◌≤◌, ◌^◌, List, [], ◌++◌, length, Option, None, Some}
+-- Steps of a walk over the messages of a stream, which is a hearer of octets.
+use Rattle.std.specs.Prelude.{◌≡◌, ℕ, ◌+◌, ◌-◌, ◌≤◌, ◌^◌, Bool, true, List, [], ◌++◌, length, is_none, is_some, Option, None, Some, Result, Ok, Err, if◌then◌else◌}
 use Rattle.bgp_wire.specs.Octets.{AreOctets}
 use Rattle.bgp_frame.specs.declared.end.End.{End}
 use Rattle.bgp_frame.specs.declared.end.End.TheVariants as end
-use Rattle.bgp_frame.specs.Frame.{Waits}
-use Rattle.bgp_engine.specs.declared.class.Class.{Class}
-use Rattle.bgp_engine.specs.declared.class.Class.TheVariants as class
+use Rattle.bgp_frame.specs.declared.fault.HeadFault.{HeadFault}
+use Rattle.bgp_frame.specs.Frame.{Message, Waits}
+use Rattle.bgp_frame.specs.Hearing.{Hearer, Done, PullsNext, by_feed, left_to_do, given}
+use Rattle.bgp_frame.specs.Hearing as hearing
+use Rattle.bgp_frame.specs.Pull.{IsToFeed}
+use Rattle.bgp_frame.specs.Stream.{outcome_of}
 use Rattle.bgp_engine.specs.declared.tally.Tally.{Tally}
 use Rattle.bgp_engine.specs.declared.walk.Walk.{Walk}
 use Rattle.bgp_engine.specs.Report.{Report, behind, IsOver}
-use Rattle.bgp_engine.specs.Rules.{Rules, IsReport, report_of}
+use Rattle.bgp_engine.specs.Rules.{Rules, counted, passed, report_of}
 
 -- the octets that are held, the place where they begin, the counts of what stands before them, and how the stream ended, if it has
 pub record Walking (Outcome : Type 0) : Type 0 where
@@ -19,26 +22,16 @@ pub record Walking (Outcome : Type 0) : Type 0 where
   pub tally : Tally
   pub ended : Option End
 
--- where the next message begins
-abbrev pub place_behind : ℕ → ℕ → Class → ℕ
-place_behind place len class.Took = place + len
-place_behind place len class.Withdrawn = place + len
-place_behind place len class.Reset = place
+abbrev pub all_counts : Tally → ℕ
+all_counts t = t.messages + t.took + t.withdrawn + t.resets
 
-abbrev pub ended_by : Class → Option End
-ended_by class.Took = None
-ended_by class.Withdrawn = None
-ended_by class.Reset = Some end.Reset
+abbrev pub reset_if : Bool → Option End
+reset_if resets = if resets then Some end.Reset else None
 
--- nothing is missing for a last report
-abbrev pub IsReadyBy : Option End → List ℕ → Type 0
-IsReadyBy None held = Waits held
-IsReadyBy (Some e) held = IsOver e
-
--- how many octets more can be counted
-abbrev pub room_by : Option End → ℕ → ℕ
-room_by None n = 2 ^ 60 - n
-room_by (Some e) n = 2 ^ 60
+-- the end of a stream that goes no further, of which so many octets are held
+abbrev pub end_by : Option End → ℕ → End
+end_by None held = end.Wait held
+end_by (Some e) held = e
 
 module _ {Outcome : Type 0} where
   abbrev pub walking : Rules Outcome → List ℕ → ℕ → Tally → Option End → Walking Outcome
@@ -48,47 +41,74 @@ module _ {Outcome : Type 0} where
   abbrev pub walk_of : {P : Type 0} → (P → Rules Outcome) → Walk P → Walking Outcome
   walk_of rules w = walking (rules w.page) w.framer w.place w.tally w.ended
 
-  -- nothing more is written of a stream that has ended, but for the last
-  abbrev pub closing : Rules Outcome → ℕ → Tally → End → Report
-  closing rules place tally e = report_of rules place tally [] [] e
+  -- the octets that it takes in number, and what comes of it
+  abbrev pub outcome : Rules Outcome → Result Message HeadFault → ℕ × Outcome
+  outcome rules (Ok m) = outcome_of rules.judge m
+  outcome rules (Err f) = (0, rules.judge.of_fault f)
 
-  abbrev pub reports_by : Option End → Rules Outcome → ℕ → Tally → List ℕ → Report → Type 0
-  reports_by None rules place tally stream r = IsReport rules place tally stream r
-  reports_by (Some e) rules place tally stream r = r ≡ closing rules place tally e
+  abbrev pub ended_by : Rules Outcome → Result Message HeadFault → Option End
+  ended_by rules (Ok m) = reset_if (rules.judge.resets (rules.judge.of_message m))
+  ended_by rules (Err f) = Some end.Head
 
+  -- what is written of it, and the walk behind it
+  abbrev pub comes : Walking Outcome → Result Message HeadFault → List ℕ × Walking Outcome
+  comes w what =
+      let o = outcome w.rules what in
+      (w.rules.line w.place o.0 w.held o.1, walking w.rules [] (w.place + passed w.rules o) (counted w.tally o.0 (w.rules.class o.1)) (ended_by w.rules what))
+
+  -- a walk takes octets until its stream has ended
+  abbrev pub walker : Hearer (Walking Outcome) (List ℕ × Walking Outcome) ℕ
+  walker = record {
+    held = λ w. w.held;
+    holding = λ w held. record w { held = held };
+    listens = λ w. is_none w.ended;
+    comes = comes;
+    actions = λ said. said.0;
+    behind = λ w said. record said.1 { held = [] };
+  }
+
+  -- what is reported where the stream goes no further
+  abbrev pub closing : Walking Outcome → Report
+  closing w = report_of w.rules w.place w.tally w.held [] (end_by w.ended (length w.held))
+
+  abbrev pub reported : Done (Walking Outcome) ℕ → Report
+  reported d = behind d.actions (closing d.session)
+
+  -- what is reported of what is held and of the octets behind it
   abbrev pub reports_of : Walking Outcome → List ℕ → Report → Type 0
-  reports_of w later r = reports_by w.ended w.rules w.place w.tally (w.held ++ later) r
+  reports_of w later r = r ≡ reported (left_to_do walker w later)
 
   -- no number passes its type
   pub record IsCounting (w : Walking Outcome) : Type 0 where
-    pub open_ended : w.ended ≡ None
     pub octets : AreOctets w.held
     pub place : w.place + length w.held ≤ 2 ^ 60
-    pub messages : w.tally.messages ≤ w.place
-    pub took : w.tally.took ≤ w.place
-    pub withdrawn : w.tally.withdrawn ≤ w.place
-    pub resets : w.tally.resets ≡ 0
+    pub counts : all_counts w.tally ≤ w.place
 
-  -- the stream goes on
-  pub record IsGoing (w : Walking Outcome) : Type 0 where
-    pub counting : IsCounting w
+  -- nothing is missing for a last report, and a walk can count on where its stream goes on
+  pub record IsReady (w : Walking Outcome) : Type 0 where
     pub waits : Waits w.held
+    pub counting : w.ended ≡ None → IsCounting w
+    pub over : is_some w.ended ≡ true → IsOver (end_by w.ended (length w.held))
 
-  abbrev pub IsReady : Walking Outcome → Type 0
-  IsReady w = IsReadyBy w.ended w.held
-
+  -- how many octets more can be counted
   abbrev pub room_of : Walking Outcome → ℕ
-  room_of w = room_by w.ended (w.place + length w.held)
+  room_of w = 2 ^ 60 - (w.place + length w.held)
 
-  abbrev pub StandsBy : Option End → Walking Outcome → ℕ → Type 0
-  StandsBy None w n = IsGoing w × (w.place + length w.held ≡ n)
-  StandsBy (Some e) w n = IsOver e
+  -- there is nothing to judge, and the octets are to be fed; or so many of them were pulled, and the line was collected
+  abbrev pub IsJudged : (old new : Walking Outcome) (told_old told_new octets : List ℕ) → Option ℕ → Type 0
+  IsJudged old new told_old told_new octets None = IsToFeed old.held octets × (new ≡ old) × (told_new ≡ told_old)
+  IsJudged old new told_old told_new octets (Some n) = (line : List ℕ) × PullsNext walker old octets n line new × (told_new ≡ told_old ++ line)
 
-  -- what is reported of the octets before, is reported of those behind, behind what was collected
-  pub record Moves (old new : Walking Outcome) (told_old told_new before after : List ℕ) : Type 0 where
+  -- so many octets were fed, with a look at what is held then, and the line was collected
+  pub record Hears (old new : Walking Outcome) (told_old told_new octets : List ℕ) (n : ℕ) : Type 0 where
+    pub found : Option (List ℕ)
+    pub call : by_feed walker old octets n found new
+    pub told : told_new ≡ told_old ++ given found
+
+  -- octets were heard up to the rest, and what was written on them was collected
+  pub record Moves (old new : Walking Outcome) (told_old told_new octets rest : List ℕ) : Type 0 where
     pub lines : List ℕ
     pub told : told_new ≡ told_old ++ lines
-    pub goes_on : (later : List ℕ) (r : Report) → reports_of new (after ++ later) r → reports_of old (before ++ later) (behind lines r)
-    pub left : ℕ
-    pub count : left + length after ≡ old.place + length old.held + length before
-    pub stands : StandsBy new.ended new left
+    pub left : left_to_do walker old octets ≡ hearing.behind lines (left_to_do walker new rest)
+    pub count : new.place + length new.held + length rest ≤ old.place + length old.held + length octets
+    pub ready : IsReady new

@@ -1,4 +1,5 @@
-use Rattle.bgp_engine.proofs.Startings.{answers_as, opened}
+use Rattle.bgp_engine.proofs.Reading.{answers_as}
+use Rattle.bgp_engine.proofs.Startings.{opened}
 use Rattle.bgp_engine.proofs.opening.open_stream.Goals as goal
 
 pub returns : goal.returns

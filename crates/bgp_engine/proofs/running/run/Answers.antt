@@ -65,7 +65,7 @@ returns-in_err-take_block g c =
     let at = c.reading in
     let p = err_from_is_err_and c.from_residual.result c.from_residual.ensures.1 in
     rw (p.1, p.2)
-    (fails_block at.invariant.reading (g.R.Read.remaining c.read.new.self) (take c.in-Ok.count c.read.new.buf) c.in-Ok.ensures.bytes.0 c.take_block.ensures.octets c.in_err-take_block.ensures.memory)
+    (fails_block at.invariant.reading (g.R.Read.remaining c.read.new.self) (take c.in-Ok.count c.read.new.buf) c.take_block.ensures.octets c.in-Ok.ensures.bytes.0 c.in_err-take_block.ensures.memory)
 
 pub returns-in-Over : goal.returns-in-Over
 returns-in-Over g c =
@@ -73,7 +73,7 @@ returns-in-Over g c =
     let s = at.invariant.reading in
     let block = take c.in-Ok.count c.read.new.buf in
     let m = rw c.in-Over.is at c.in_ok-take_block.ensures.meets in
-    let reached = Reached-over s (g.R.Read.remaining c.read.new.self) block c.in-Ok.ensures.bytes.0 at.invariant.told m in
+    let reached = Reached-over s (g.R.Read.remaining c.read.new.self) block c.take_block.ensures.octets c.in-Ok.ensures.bytes.0 at.invariant.told m in
     finished (g.W.Write.contents c.finish-in-Over.new.output) reached c.finish-in-Over.result (λ q k. inl (m.takes.stands.over q k)) c.finish-in-Over.ensures
 
 pub returns-in_err-put-in-Bad : goal.returns-in_err-put-in-Bad
@@ -86,7 +86,7 @@ returns-in_err-put-in-Bad g c =
     let m = rw c.in-Bad.is at c.in_ok-take_block.ensures.meets in
     let p = err_from_is_err_and c.from_residual-in_err-put-in-Bad.result c.from_residual-in_err-put-in-Bad.ensures.1 in
     let rests = m.takes.stands.1 in
-    let reached = Reached-bad s (g.R.Read.remaining c.read.new.self) block c.in-Ok.ensures.bytes.0 at.invariant.told c.in-Bad.place m in
+    let reached = Reached-bad s (g.R.Read.remaining c.read.new.self) block c.take_block.ensures.octets c.in-Ok.ensures.bytes.0 at.invariant.told c.in-Bad.place m in
     rw (p.1, p.2)
     (fails_put w1 reached rests.report _ rests.reported rests.none
     (subst (λ (x : List ℕ). FailsWithin w w1 x c.in_err-put-in-Bad.field-0.0) c.told.ensures c.in_err-put-in-Bad.ensures.err))
@@ -102,9 +102,9 @@ returns-in-Bad g c =
     let more = c.in-Ok.ensures.bytes.0 in
     let m = rw c.in-Bad.is at c.in_ok-take_block.ensures.meets in
     let rests = m.takes.stands.1 in
-    fails_bad w1 (Reached-bad s r1 block more at.invariant.told c.in-Bad.place m) c.in-Bad.place rests.report rests.reported rests.none
+    fails_bad w1 (Reached-bad s r1 block c.take_block.ensures.octets more at.invariant.told c.in-Bad.place m) c.in-Bad.place rests.report rests.reported rests.none
     (subst (Appends w w1) c.told.ensures c.in_ok-put-in-Bad.ensures.ok)
-    (bad_block s r1 block more at.invariant.told c.in-Bad.place rests.report.end_of rests.waiting m)
+    (bad_block s r1 block c.take_block.ensures.octets more at.invariant.told c.in-Bad.place rests.report.end_of rests.waiting m)
 
 pub returns-in_err-put : goal.returns-in_err-put
 returns-in_err-put g c =
@@ -116,7 +116,7 @@ returns-in_err-put g c =
     let m = rw c.in-Block.is at c.in_ok-take_block.ensures.meets in
     let p = err_from_is_err_and c.from_residual-in_err-put.result c.from_residual-in_err-put.ensures.1 in
     let rests = m.takes.stands.1 in
-    let reached = Reached-block s (g.R.Read.remaining c.read.new.self) block c.in-Ok.ensures.bytes.0 at.invariant.told m in
+    let reached = Reached-block s (g.R.Read.remaining c.read.new.self) block c.take_block.ensures.octets c.in-Ok.ensures.bytes.0 at.invariant.told m in
     rw (p.1, p.2)
     (fails_put w1 reached rests.report _ rests.reported rests.none
     (subst (λ (x : List ℕ). FailsWithin w w1 x c.in_err-put.field-0.0) c.told-in-reading.ensures c.in_err-put.ensures.err))
@@ -131,7 +131,7 @@ reading-preserved g c =
     let after = g.W.Write.contents c.put-in-reading.new.output in
     let block = take c.in-Ok.count c.read.new.buf in
     let m = rw c.in-Block.is at c.in_ok-take_block.ensures.meets in
-    let next = Reading-block s r1 block c.in-Ok.ensures.bytes.0 at.invariant.told after (omega (arith, length-take c.in-Ok.count c.read.new.buf)) m (subst (Appends w after) c.told-in-reading.ensures c.in_ok-put.ensures.ok) in
+    let next = Reading-block s r1 block c.take_block.ensures.octets c.in-Ok.ensures.bytes.0 at.invariant.told after (omega (arith, length-take c.in-Ok.count c.read.new.buf)) m (subst (Appends w after) c.told-in-reading.ensures c.in_ok-put.ensures.ok) in
     let same = sym c.clear.ensures.state in
     record {
       reading = subst (λ (x : e.State). Reading (e.reports (e.state c.args.engine.now)) c.args.hex (g.R.Read.remaining c.args.input.now) (g.W.Write.contents c.args.output.now) (e.reports x) (e.going x) r1 after c.take_block.new.reader (at._turn + 1)) same next;

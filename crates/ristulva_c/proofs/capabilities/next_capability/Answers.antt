@@ -1,13 +1,18 @@
-use Rattle.std.proofs.Common.{◌≡◌, ℕ, ◌+◌, None, sym, ap, ap₂, subst, ◌∙◌}
+use Rattle.std.proofs.Common.{◌≡◌, None, sym, ap, subst, ◌∙◌, arith}
+use Rattle.bgp_open.specs.Capability.{one_capability}
 use Rattle.bgp_open.specs.Parameter.{one_parameter}
 use Rattle.ristulva_c.specs.declared.capabilities.Capabilities.{Capabilities}
-use Rattle.ristulva_c.specs.Capabilities.{IsCapabilities, capabilities_left, IsFirstParameter}
+use Rattle.ristulva_c.specs.Capabilities.{IsCapabilities, capabilities_left}
 use Rattle.ristulva_c.specs.Prefixes.{between}
-use Rattle.ristulva_c.proofs.CapabilitySteps.{given_before, none_left, passes}
+use Rattle.ristulva_c.proofs.CapabilitySteps.{given_before, later_fits, none_left, passes}
 use Rattle.ristulva_c.proofs.capabilities.next_capability.Goals as goal
 
-abbrev behind : Capabilities → ℕ → Capabilities
-behind old len = record { at = old.stop + 2; stop = old.stop + 2 + len; end = old.end }
+pub parameter-smaller : goal.parameter-smaller
+parameter-smaller c =
+    let same = c.in_default.ensures.0 in
+    let lies = subst (IsCapabilities c.args.octets.now) (sym same) c.parameter.invariant.lies in
+    let fits = later_fits c.args.octets.now c.begun.new.cursor _ _ lies c.in-Some-first_parameter.ensures in
+    omega (arith, fits, ap (λ (x : Capabilities). x.stop) same, ap (λ (x : Capabilities). x.end) same)
 
 pub returns-in-Some : goal.returns-in-Some
 returns-in-Some c =
@@ -18,19 +23,18 @@ returns-in_default-first_parameter c =
     let b = c.args.octets.now in
     sym c.parameter.invariant.left
     ∙ none_left b c.parameter.cursor c.in_default.ensures.1
-    (subst (λ (x : Capabilities). one_parameter (between b x.stop x.end) ≡ None) c.in_default.ensures.0 c.in_default-first_parameter.ensures)
+    (subst (λ (x : Capabilities). one_parameter (between b x.stop x.end) ≡ None) c.in_default.ensures.0 (sym c.in_default-first_parameter.ensures))
 
 pub parameter-preserved : goal.parameter-preserved
 parameter-preserved c =
     let b = c.args.octets.now in
-    let old = c.parameter.cursor in
-    let len = c.in-Some-first_parameter.len in
-    let same : c.begun.new.cursor ≡ old = c.in_default.ensures.0 in
-    let next : behind c.begun.new.cursor c.from.result ≡ behind old len = ap₂ behind same c.from.ensures in
-    let passed = passes b old len c.parameter.invariant.lies c.in_default.ensures.1
-    (subst (λ (x : Capabilities). IsFirstParameter (between b x.stop x.end) len) same c.in-Some-first_parameter.ensures) in
+    let same = c.in_default.ensures.0 in
+    let lies = subst (IsCapabilities b) (sym same) c.parameter.invariant.lies in
+    let none = subst (λ (x : Capabilities). one_capability (between b x.at x.stop) ≡ None) (sym same) c.in_default.ensures.1 in
+    let fits = later_fits b c.begun.new.cursor _ _ lies c.in-Some-first_parameter.ensures in
+    let passed = passes b c.begun.new.cursor _ _ _ lies none c.in-Some-first_parameter.ensures (omega (arith, fits)) in
     record {
-      lies = subst (IsCapabilities b) (sym next) passed.0;
-      left = ap (capabilities_left b) next ∙ passed.1 ∙ c.parameter.invariant.left;
+      lies = passed.0;
+      left = passed.1 ∙ ap (capabilities_left b) same ∙ c.parameter.invariant.left;
       same = ap (λ (x : Capabilities). x.end) same ∙ c.parameter.invariant.same;
     }

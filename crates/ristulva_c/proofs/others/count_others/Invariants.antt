@@ -1,8 +1,7 @@
 use Rattle.std.proofs.Common.{◌≡◌, ◌+◌, length}
 use Rattle.std.specs.List.{filter}
 use Rattle.bgp_update.specs.Iters.{attrs_left}
-use Rattle.bgp_update.specs.KeptView.{is_opaque}
-use Rattle.bgp_update.specs.Taken.{kept_of}
+use Rattle.bgp_update.specs.Taken.{kept_of, is_opaque}
 use Rattle.bgp_update.specs.View.{view_marks}
 use Rattle.ristulva_c.proofs.others.count_others.Given as goal
 

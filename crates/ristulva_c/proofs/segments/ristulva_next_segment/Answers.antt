@@ -1,10 +1,20 @@
+use Rattle.std.proofs.Common.{ap, ◌∙◌}
+use Rattle.bgp_attr.specs.declared.path_form.PathForm.{PathForm}
+use Rattle.bgp_attr.specs.Path.{one_segment}
+use Rattle.bgp_attr.proofs.SegmentSteps.{no_segment}
 use Rattle.ristulva_c.specs.Context.{is_set}
+use Rattle.ristulva_c.specs.Prefixes.{between}
 use Rattle.ristulva_c.proofs.SegmentSteps.{segments_behind}
 use Rattle.ristulva_c.proofs.segments.ristulva_next_segment.Goals as goal
+
+pub returns-in-None-clause-over : goal.returns-in-None-clause-over
+returns-in-None-clause-over c over =
+    let old = c.args.cursor.now in
+    let form : PathForm = record { wide = is_set old.wide; confederations = is_set old.confederations } in
+    no_segment form (between c.args.octets.now old.at old.end) (c.in-None.ensures ∙ ap (one_segment form) c.in-Some.ensures.1)
 
 pub returns-in-Some-first_segment-clause-ok : goal.returns-in-Some-first_segment-clause-ok
 returns-in-Some-first_segment-clause-ok c ok =
     let old = c.args.cursor.now in
-    let lies = c.in-Some.ensures.0 in
-    segments_behind (is_set old.wide) (is_set old.confederations) c.args.octets.now c.in-Some.field.now old.at old.end c.in-Some-first_segment.kind c.in-Some-first_segment.len
-    c.in-Some.ensures.1 lies.in_order lies.within c.in-Some-first_segment.ensures
+    let form : PathForm = record { wide = is_set old.wide; confederations = is_set old.confederations } in
+    segments_behind form c.args.octets.now _ old _ _ c.in-Some.ensures.0 c.in-Some.ensures.1 c.in-Some-first_segment.ensures

@@ -1,7 +1,7 @@
 use Rattle.std.proofs.Common.{refl}
 use Rattle.bgp_frame.proofs.Pulls.{nothing_waits}
-use Rattle.bgp_engine.proofs.Walks.{front_going}
+use Rattle.bgp_engine.proofs.Walks.{front_ready}
 use Rattle.bgp_engine.proofs.starting.Starting.new.Goals as goal
 
 pub returns-clause-first : goal.returns-clause-first
-returns-clause-first g c = rw c.new.ensures (record { waits = nothing_waits; counting = (front_going (g.P.Page.rules c.args.page)).counting; fresh = refl })
+returns-clause-first g c = rw c.new.ensures (record { waits = nothing_waits; counting = (front_ready (g.P.Page.rules c.args.page)).counting refl; fresh = refl })

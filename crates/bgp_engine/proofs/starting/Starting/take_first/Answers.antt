@@ -1,10 +1,9 @@
-use Rattle.std.proofs.Common.{◌≡◌, ◌++◌, option_map, arith, ap, length, take}
+use Rattle.std.proofs.Common.{◌≡◌, option_map, arith, ap, length, take}
 use Rattle.std.proofs.lemmas.List.{length-append, length-drop, length-take}
 use Rattle.std.proofs.lemmas.Result.{IfOk-weaker, err_from_is_err_and}
-use Rattle.bgp_wire.proofs.OctetLemmas.{AreOctets-append}
 use Rattle.bgp_engine.specs.steps.Starting.{starts_of}
 use Rattle.bgp_engine.specs.steps.Walking.{walk_of}
-use Rattle.bgp_engine.proofs.Startings.{on_err, takes_agreed, takes_part, takes_unagreed, total}
+use Rattle.bgp_engine.proofs.Startings.{first_total, on_err, takes_agreed, takes_part, takes_unagreed}
 use Rattle.bgp_engine.proofs.starting.Starting.take_first.Goals as goal
 
 pub returns-in_err-self-clause-memory : goal.returns-in_err-self-clause-memory
@@ -12,7 +11,7 @@ returns-in_err-self-clause-memory g c =
     let w = c.args.self.now.walk in
     let from = starts_of g.P.Page.fits g.P.Page.rules g.P.Page.plan (option_map (λ t. t.now) c.args.self.now.theirs) in
     let p = err_from_is_err_and c.from_residual.result c.from_residual.ensures.1 in
-    rw (p.1, c.requires.stage) (λ later octets. total (from w.page) (w.framer ++ later) (AreOctets-append w.framer later c.requires.first.counting.octets octets))
+    rw (p.1, c.requires.stage) (first_total (from w.page) (walk_of g.P.Page.rules w) c.requires.first.counting)
 
 pub walk_on-requires-clause-room : goal.walk_on-requires-clause-room
 walk_on-requires-clause-room g c =
@@ -49,4 +48,4 @@ pub returns-in-Agreed-clause-memory : goal.returns-in-Agreed-clause-memory
 returns-in-Agreed-clause-memory g c =
     let w = c.args.self.now.walk in
     let from = starts_of g.P.Page.fits g.P.Page.rules g.P.Page.plan (option_map (λ t. t.now) c.args.self.now.theirs) in
-    rw c.requires.stage (on_err c.walk_on.result _ (λ later octets. total (from w.page) (w.framer ++ later) (AreOctets-append w.framer later c.requires.first.counting.octets octets)))
+    rw c.requires.stage (on_err c.walk_on.result _ (first_total (from w.page) (walk_of g.P.Page.rules w) c.requires.first.counting))

@@ -1,14 +1,24 @@
-use Rattle.std.proofs.Common.{sym}
+use Rattle.std.proofs.Common.{◌++◌, List, ℕ, ap, length, subst, sym, ◌∙◌}
+use Rattle.std.specs.Prelude.{is_some}
+use Rattle.std.proofs.lemmas.List.{append-nil}
 use Rattle.std.proofs.lemmas.Result.{err_from_is_err_and}
-use Rattle.bgp_engine.proofs.Walks.{some_closing, closes_over}
+use Rattle.bgp_engine.specs.Report.{IsOver}
+use Rattle.bgp_engine.specs.steps.Walking.{end_by}
+use Rattle.bgp_engine.proofs.Walks.{closes, none_wait, some_closing}
 use Rattle.bgp_engine.proofs.walk.Walk.close.Goals as goal
 
 pub returns-in_err-last : goal.returns-in_err-last
 returns-in_err-last g c =
     let p = err_from_is_err_and c.from_residual.result c.from_residual.ensures.1 in
-    rw (p.1, p.2) (some_closing _ (rw c.requires.ended c.requires.over))
+    rw (p.1, p.2) (some_closing _ _ _ c.requires.ready)
 
 pub returns : goal.returns
 returns g c =
-    closes_over _ c.args.end _ _ _ c.requires.ended c.requires.over c.answer.ensures.kind
-    c.in_ok-last.ensures.writes (rw (sym c.last.ensures.rules) c.answer.ensures.value)
+    let w = c.args.self.now in
+    let rules = g.P.Page.rules w.page in
+    let over = subst (λ o. IsOver (end_by o (length w.framer))) c.requires.ended (c.requires.ready.over (ap is_some c.requires.ended)) in
+    let none = none_wait rules w.framer c.args.end over in
+    let told = g.P.Page.told w.page in
+    let all = ap (λ (x : List ℕ). told ++ x) (sym (append-nil (rules.last (record w.tally { end = c.args.end }))) ∙ ap (λ (x : List ℕ). rules.last (record w.tally { end = c.args.end }) ++ x) (sym none)) in
+    closes _ c.args.end _ _ _ c.requires.ready (ap (λ o. end_by o (length w.framer)) c.requires.ended) c.answer.ensures.kind
+    (c.in_ok-last.ensures.writes ∙ all) (rw (sym c.last.ensures.rules) c.answer.ensures.value)

@@ -1,19 +1,26 @@
-use Rattle.std.proofs.Common.{sym}
+use Rattle.std.proofs.Common.{◌≡◌, ◌++◌, List, ℕ, ap, length, sym, ◌∙◌, append_assoc}
 use Rattle.std.proofs.lemmas.Result.{err_from_is_err_and}
-use Rattle.bgp_engine.proofs.Walks.{some_closing, closes_waiting}
+use Rattle.bgp_frame.specs.declared.end.End.TheVariants as end
+use Rattle.bgp_engine.specs.steps.Walking.{end_by}
+use Rattle.bgp_engine.proofs.Walks.{closes, some_closing}
 use Rattle.bgp_engine.proofs.walk.Walk.close_waiting.Goals as goal
 
 pub returns-in_err-last : goal.returns-in_err-last
 returns-in_err-last g c =
     let p = err_from_is_err_and c.from_residual.result c.from_residual.ensures.1 in
-    rw (p.1, p.2) (some_closing _ (rw c.requires.ended c.requires.waits))
+    rw (p.1, p.2) (some_closing _ _ _ c.requires.ready)
 
 pub returns-in_err-rest : goal.returns-in_err-rest
 returns-in_err-rest g c =
     let p = err_from_is_err_and c.from_residual-in_err-rest.result c.from_residual-in_err-rest.ensures.1 in
-    rw (p.1, p.2) (some_closing _ (rw c.requires.ended c.requires.waits))
+    rw (p.1, p.2) (some_closing _ _ _ c.requires.ready)
 
 pub returns : goal.returns
 returns g c =
-    closes_waiting _ c.held.result _ _ _ _ c.requires.ended c.requires.waits
-    c.held.ensures.value c.answer.ensures.kind c.in_ok-last.ensures.writes (rw (sym c.last.ensures.rules, sym c.octets.ensures) c.in_ok-rest.ensures.writes) (rw (sym c.last.ensures.rules, sym c.rest.ensures.rules) c.answer.ensures.value)
+    let w = c.args.self.now in
+    let rules = g.P.Page.rules w.page in
+    let told = g.P.Page.told in
+    let rest : told c.rest.new.self ≡ told c.last.new.self ++ rules.rest w.framer = rw (sym c.last.ensures.rules, sym c.octets.ensures) c.in_ok-rest.ensures.writes in
+    closes _ (end.Wait c.held.result) _ _ _ c.requires.ready (ap (λ o. end_by o (length w.framer)) c.requires.ended ∙ ap end.Wait (sym c.held.ensures.value)) c.answer.ensures.kind
+    (rest ∙ ap (λ (x : List ℕ). x ++ rules.rest w.framer) c.in_ok-last.ensures.writes ∙ append_assoc (told w.page) _ (rules.rest w.framer))
+    (rw (sym c.last.ensures.rules, sym c.rest.ensures.rules) c.answer.ensures.value)

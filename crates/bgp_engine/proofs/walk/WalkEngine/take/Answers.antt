@@ -1,35 +1,36 @@
-use Rattle.std.proofs.Common.{◌∙◌, length, sym}
+use Rattle.std.proofs.Common.{◌∙◌, ap, arith, length, not, sym}
 use Rattle.std.proofs.lemmas.Result.{err_from_is_err_and}
 use Rattle.std.proofs.lemmas.List.{nil_from_length}
 use Rattle.std.proofs.lemmas.Bool.{eqb-true}
 use Rattle.bgp_engine.specs.steps.Walking.{walk_of}
-use Rattle.bgp_engine.proofs.Walks.{Moves-none, Moves-more, fits_in, some_end, room_over, room_on, takes_on, takes_over, walk_total}
+use Rattle.bgp_engine.proofs.Walks.{moves_heard, moves_more, moves_none, none_there, takes_on, takes_over, walk_total}
 use Rattle.bgp_engine.proofs.walk.WalkEngine.take.Goals as goal
 
 pub stream-init : goal.stream-init
-stream-init g c = record { moves = Moves-none _ _ _ c.requires.going; going = c.requires.going; room = fits_in _ (length c.args.octets.now) c.requires.going c.requires.room }
+stream-init g c = record {
+  moves = moves_none _ _ _ c.requires.going;
+  fits = λ none. let counting = c.requires.going.counting none in omega (arith, counting.place, c.requires.room);
+}
+
+pub stream-preserved : goal.stream-preserved
+stream-preserved g c =
+    let at = c.stream.invariant in
+    let hears = c.in_ok-taken.ensures in
+    let unended = none_there _ (c.is_none.ensures ∙ ap not c.stream-test.true) in
+    let fits = at.fits unended in
+    let step = moves_heard _ _ _ _ _ _ unended at.moves.ready hears.hears hears.octets fits in
+    rw c.split_at.ensures.back (record { moves = moves_more _ _ _ _ _ _ _ _ _ at.moves step; fits = λ none. omega (arith, fits, step.count) })
 
 pub returns-in_err-taken-clause-memory : goal.returns-in_err-taken-clause-memory
 returns-in_err-taken-clause-memory g c =
     let p = err_from_is_err_and c.from_residual.result c.from_residual.ensures.1 in
-    rw p.1 (walk_total _ c.requires.going.counting)
+    rw p.1 (walk_total (walk_of g.P.Page.rules c.args.self.now))
 
-pub returns-then-is_some-clause-takes : goal.returns-then-is_some-clause-takes
-returns-then-is_some-clause-takes g c =
-    let e = some_end _ (sym c.is_some.ensures ∙ c.if-is_some.true) in
-    takes_over _ _ _ _ _ _ e.0 e.1 (Moves-more _ _ _ _ _ _ _ _ _ c.stream.invariant.moves c.stream.invariant.going.counting.open_ended c.in_ok-taken.ensures.moves)
-
-pub returns-then-is_some-clause-room : goal.returns-then-is_some-clause-room
-returns-then-is_some-clause-room g c =
-    let e = some_end _ (sym c.is_some.ensures ∙ c.if-is_some.true) in
-    room_over (walk_of g.P.Page.rules c.args.self.now) (walk_of g.P.Page.rules c.step.new.self) _ e.0 e.1
+pub returns-then-is_empty-clause-takes : goal.returns-then-is_empty-clause-takes
+returns-then-is_empty-clause-takes g c =
+    let none = nil_from_length c.stream.rest.now (eqb-true (length c.stream.rest.now) 0 (sym c.is_empty.ensures ∙ c.if-is_empty.true)) in
+    takes_on _ _ _ _ _ (rw none at c.stream.invariant.moves) (none_there _ (c.is_none.ensures ∙ ap not c.stream-test.true))
 
 pub returns-clause-takes : goal.returns-clause-takes
 returns-clause-takes g c =
-    let none = nil_from_length c.stream.rest.now (eqb-true (length c.stream.rest.now) 0 (sym c.is_empty.ensures ∙ c.stream-test.false)) in
-    takes_on _ _ _ _ _ (rw none at c.stream.invariant.moves) c.stream.invariant.going
-
-pub returns-clause-room : goal.returns-clause-room
-returns-clause-room g c =
-    let none = nil_from_length c.stream.rest.now (eqb-true (length c.stream.rest.now) 0 (sym c.is_empty.ensures ∙ c.stream-test.false)) in
-    room_on _ _ _ _ _ c.requires.going c.stream.invariant.going (rw none at c.stream.invariant.moves)
+    takes_over _ _ _ _ _ _ c.stream.invariant.moves (c.is_none.ensures ∙ ap not c.stream-test.false)

@@ -1,5 +1,5 @@
-use Rattle.std.proofs.Common.{◌+◌, ◌≤◌, ◌^◌, length}
-use Rattle.bgp_engine.specs.steps.Walking.{IsGoing, Moves, walk_of}
+use Rattle.std.proofs.Common.{◌≡◌, ◌+◌, ◌≤◌, ◌^◌, None, length}
+use Rattle.bgp_engine.specs.steps.Walking.{Moves, walk_of}
 use Rattle.bgp_engine.proofs.walk.WalkEngine.take.Given as goal
 
 abbrev pub invariant-stream : goal.invariant-stream
@@ -10,8 +10,7 @@ invariant-stream g l =
     let now = l.self in
     record {
       moves : Moves (walk_of rules old) (walk_of rules now) (told old.page) (told now.page) l.fn.octets l.rest;
-      going : IsGoing (walk_of rules now);
-      room : now.place + length now.framer + length l.rest ≤ 2 ^ 60;
+      fits : now.ended ≡ None → now.place + length now.framer + length l.rest ≤ 2 ^ 60;
     }
 
 abbrev pub decreases-stream : goal.decreases-stream

@@ -10,7 +10,9 @@ use Rattle.bgp_attr.specs.TlvView.{placed_tlv, tlv_value}
 use Rattle.bgp_update.specs.MarkIter.{marks_left, judged_next}
 use Rattle.bgp_update.specs.Marks.{Mark, field_marks}
 use Rattle.bgp_update.specs.Notes.{types_of_field}
-use Rattle.bgp_update.specs.Summary.{summary_value, summary_behind, summary_of}
+use Rattle.bgp_update.specs.Summary.{SummaryValue, summary_value, summary_behind, summary_of}
+use Rattle.bgp_update.specs.Taken.{kept_of}
+use Rattle.bgp_update.proofs.KeptViews.{kept_known}
 use Rattle.bgp_update.proofs.Summaries.{summary_step, summary_whole}
 use Rattle.bgp_update.proofs.summary.Summary.sum_up.Goals as goal
 
@@ -35,7 +37,7 @@ add-requires c =
       kept = λ keeps.
           subst (λ (ctx : Context). IsTrue (is_kept (judgement ctx kept.has_nlri t))) (stays.0 ∙ sym same.0)
           (subst (λ (nlri : Bool). IsTrue (is_kept (judgement marks.ctx nlri t))) (stays.1 ∙ sym same.1) (c.rule-ruling.ensures.kept keeps));
-      small = c.in-Some.ensures.small.0;
+      small = c.in-Some.ensures.small;
     }
 
 pub field-preserved : goal.field-preserved
@@ -48,9 +50,9 @@ field-preserved c =
     let judged = judged_next marks (placed_tlv c.in-Some.tlv) in
     let mark : Mark = record { at = c.in-Some.tlv.at; kind = c.in-Some.tlv.kind; judged = judged } in
     let types = types_of_field c.args.field.now in
-    let is : judged ≡ ruled c.rule-ruling.result (type_row kept.ctx kept.has_nlri t).value =
+    let is : judged ≡ ruled c.rule-ruling.result t.whole (type_row kept.ctx kept.has_nlri t).value =
     sym c.rule-ruling.ensures.judged
-    ∙ ap₂ (λ (ctx : Context) (nlri : Bool). ruled c.rule-ruling.result (type_row ctx nlri t).value) (stays.0 ∙ sym same.0) (stays.1 ∙ sym same.1) in
+    ∙ ap₂ (λ (ctx : Context) (nlri : Bool). ruled c.rule-ruling.result t.whole (type_row ctx nlri t).value) (stays.0 ∙ sym same.0) (stays.1 ∙ sym same.1) in
     let more = c.add.ensures.of in
     let ruled_on = c.rule-ruling.ensures.of in (
       summary_step (summary_value c.field.self) (summary_value c.add.new.self)
@@ -64,3 +66,8 @@ pub returns-clause-types : goal.returns-clause-types
 returns-clause-types c kind =
     let types = types_of_field c.args.field.now in
     sym (c.types.ensures kind) ∙ c.add_cut.ensures.types types (c.in_default.ensures.types types c.field.invariant.1) kind
+
+pub returns-clause-known : goal.returns-clause-known
+returns-clause-known c =
+    kept_known c.add_cut.new.self.kept (kept_of (field_marks c.args.ctx.now c.args.has_nlri c.args.field.now)) (ap (λ (s : SummaryValue). s.kept)
+    (c.add_cut.ensures.marks ∙ ap (summary_behind (summary_value c.field.self)) c.in_default.ensures.marks.1 ∙ c.field.invariant.0))

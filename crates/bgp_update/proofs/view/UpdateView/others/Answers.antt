@@ -6,9 +6,7 @@ use Rattle.bgp_attr.specs.AttrView.{opaque_value}
 use Rattle.bgp_attr.specs.declared.attr_view.OpaqueView.{OpaqueView}
 use Rattle.bgp_attr.specs.declared.opaque.Opaque.{Opaque}
 use Rattle.bgp_update.specs.Iters.{attrs_left}
-use Rattle.bgp_update.specs.KeptView.{Kept}
-use Rattle.bgp_update.specs.Taken.{kept_of, attrs_of}
-use Rattle.bgp_update.specs.steps.Others.{as_opaque, rising_behind}
+use Rattle.bgp_update.specs.Taken.{kept_of, attrs_of, as_opaque, rising_behind}
 use Rattle.bgp_update.specs.View.{view_marks}
 use Rattle.bgp_update.proofs.AttrSlots.{others_of-slots}
 use Rattle.bgp_update.proofs.Placing.{no_others}
@@ -17,7 +15,7 @@ use Rattle.bgp_update.proofs.view.UpdateView.others.Goals as goal
 pub returns-else-self : goal.returns-else-self
 returns-else-self c =
     let view = c.args.self.now in
-    let none = no_others (kept_of (view_marks view)) (sym (ap (λ (k : Kept). k.others) view.keeps) ∙ c.if-self.false) in
+    let none = no_others (kept_of (view_marks view)) (sym view.others ∙ c.if-self.false) in
     record {
       value = ap (λ (os : List OpaqueView). map opaque_value os) c.new.ensures ∙ sym (others_of-slots (kept_of (view_marks view)) ∙ ap (λ (os : List Opaque). rising_behind [] os) none);
       err = tt;

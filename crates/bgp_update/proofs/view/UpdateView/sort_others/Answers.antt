@@ -1,9 +1,8 @@
 use Rattle.std.proofs.Common.{List, [], sym, ap, ◌∙◌}
 use Rattle.std.specs.List.{flat_map}
 use Rattle.bgp_attr.specs.declared.attr.Attr.{Attr}
-use Rattle.bgp_update.specs.Taken.{kept_of}
+use Rattle.bgp_update.specs.Taken.{kept_of, as_opaque, rising_behind}
 use Rattle.bgp_update.specs.View.{view_marks}
-use Rattle.bgp_update.specs.steps.Others.{as_opaque, rising_behind}
 use Rattle.bgp_update.proofs.AttrSlots.{others_of-slots}
 use Rattle.bgp_update.proofs.Rising.{of_kind}
 use Rattle.bgp_update.proofs.view.UpdateView.sort_others.Goals as goal

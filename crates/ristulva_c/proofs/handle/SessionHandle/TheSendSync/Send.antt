@@ -1,20 +1,9 @@
 -- What a handle owns says the same to every thread.
-use mir.Raw.{raw}
-use base.Shift.{Keyless}
-use denote.Memory.{lone}
 use denote.Param.Send.{IsSend}
-use denote.RawPtr.{Ptr}
-use Rattle.std.specs.Prelude.{Option, None, Some}
-use Rattle.libc.specs.Heap.{chunk-Keyless}
-use Rattle.std_alloc.proofs.SendSync.{lies}
-use Rattle.bgp_machine.specs.contracts.session.Session as body
-use Rattle.bgp_machine.proofs.session.Session.TheSendSync.{the_send as body_send}
-use Rattle.ristulva_c.specs.Handle.{owned}
+use Rattle.bgp_machine.specs.contracts.session.Session.{the_row as Body}
+use Rattle.bgp_machine.proofs.session.Session.TheSendSync.{the_send}
+use Rattle.ristulva_c.proofs.Handles.{owned_keyless}
 use Rattle.ristulva_c.specs.contracts.handle.SessionHandle.{the_row}
 
-owned_keyless : (p : Ptr) (x : Option body.the_row.Denot) → Keyless (owned body.the_row p x)
-owned_keyless p None = tt
-owned_keyless p (Some x) = (lies body.the_row body_send p x, chunk-Keyless (raw (lone body.the_row.mir)) p)
-
 pub send : IsSend the_row
-send = record { owned = λ d vs. ((λ vss. (tt, (tt, tt))), owned_keyless d.body d.value); leaving = λ k d w. tt }
+send = record { owned = λ d vs. ((λ vss. (tt, (tt, tt))), owned_keyless Body the_send d.body d.value); leaving = λ k d w. tt }

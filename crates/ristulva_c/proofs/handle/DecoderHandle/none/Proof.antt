@@ -1,21 +1,10 @@
 -- `none` is the null pointer, behind which there is nothing.
-use Rattle.std.proofs.Common.{[], ◌∷◌, refl, lit<}
-use base.Logic.{emp}
-use denote.RawPtr.{Ptr, null_ptr}
-use denote.Steps.{nothing}
-use denote.Triple.Entry.{on_entry}
-use denote.Triple.Walked.{Stays, walk_of, says, ends_at}
-use types.Kit.{raw, ◌$◌, ◌∵◌, !, qed, drop, feq_i, suffices, group, done}
-use types.Run.{enter, lit, no_more, and_then, returns}
-use types.ByLocal.{alloc_all, pass_all, free_all, look_at, sets}
-use types.Part.{agg}
-use Rattle.std.specs.Prelude.{None}
-use Rattle.std.proofs.raw_atomic.Walks.{proved}
-use Rattle.ristulva_c.proofs.GuardHandles.{handle_in}
-use Rattle.ristulva_c.proofs.Handles.{word_of}
-use Rattle.ristulva_c.specs.contracts.guard_handle.GuardHandle.none as f
-use Rattle.ristulva_c.proofs.guard_handle.GuardHandle.none.Statement.{statement}
-use Rattle.ristulva_c.proofs.guard_handle.GuardHandle.none.Code as code
+use Rattle.ristulva_c.proofs.Walks.{[], ◌∷◌, refl, lit<, emp, Ptr, null_ptr, nothing, on_entry, Stays, walk_of, says, ends_at, raw, ◌$◌, ◌∵◌, !, qed, drop, feq_i, suffices, group, done, enter, lit, no_more, and_then, returns, alloc_all, pass_all, free_all, look_at, sets, agg, None, proved}
+use Rattle.bgp_msg.specs.contracts.decoder.Decoder.{the_row as Body}
+use Rattle.ristulva_c.proofs.Handles.{word_of, handle_in}
+use Rattle.ristulva_c.specs.contracts.handle.DecoderHandle.none as f
+use Rattle.ristulva_c.proofs.handle.DecoderHandle.none.Statement.{statement}
+use Rattle.ristulva_c.proofs.handle.DecoderHandle.none.Code as code
 
 abbrev stayed : Stays f.ended.signature.params f.ended.kept
 stayed = tt
@@ -30,4 +19,4 @@ none_spec 𝓤 𝓛 𝓜 𝓡 wired =
     sets ! (agg ! (and_then ! (lit ! tt) (no_more !))) refl (tt, (record { fits = lit< tt }, tt)) $
     returns ! (look_at ! 0 refl) $ free_all ! refl $
     suffices ! _ (ends_at 𝓛 f.ended stayed c y (word_of null_ptr) (record { body = null_ptr; value = None }) tt tt) $ says ! refl $
-    feq_i ! Ptr null_ptr null_ptr refl $ handle_in ! null_ptr None $ nothing ! $ nothing ! $ group ! 3 $ done !))
+    feq_i ! Ptr null_ptr null_ptr refl $ handle_in Body ! null_ptr None $ nothing ! $ nothing ! $ group ! 3 $ done !))

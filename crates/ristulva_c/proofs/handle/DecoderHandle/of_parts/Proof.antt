@@ -1,37 +1,19 @@
 -- `of_parts` moves the pointer, and what the parts own goes with it.
-use mathlib.Core.Path.{refl, sym, subst}
-use mathlib.Core.List.{List, [], ◌∷◌, ◌++◌}
-use seplogic.Ra.Ura.{Ura}
-use mir.Val.{Val}
-use base.Logic.{SProp, ent, emp}
-use base.Fml.{ftrue, fsep}
-use prog.Memory.{Memory}
-use prog.Routine.{Routine}
-use prog.Wp.{WpFn, Tables}
-use types.Logic.{Logic}
-use contract.Monad.{Fun}
-use contract.Running.{tables, tables_of}
-use sound.WpLaws.{WpFn-mono}
-use types.Kit.{Item, ‵, raw, ◌⊛◌, ◌$◌, ◌∵◌, !, qed, by, move, keep, drop, join, split, fsplit, fjoin, suffices, done}
-use types.Part.{whole, sub, agg}
-use types.Run.{stop, fld, no_more, and_then, of_opd, returns, enter}
-use types.ByLocal.{alloc_all, pass_all, free_all, look_at, get, get_in, sets}
-use denote.Exit.{yes}
-use denote.RawPtr.{block_ptr}
-use denote.Signature.{type_at}
-use denote.Steps.{nothing}
-use denote.Triple.Spec.{triple_of}
-use denote.Triple.Table.{entered}
-use denote.Triple.Walked.{says, Stays, stay_dropped, walk_of, ends_at, Goes-dropped, walk_Meets}
-use Rattle.std.specs.Prelude.{Some}
-use Rattle.std_alloc.proofs.BoxSteps.Form.{D, B, word, box_typed}
-use Rattle.std_alloc.proofs.BoxSteps.Steps.{box_out}
-use Rattle.ristulva_c.proofs.DecoderHandles.{E, FromParts as From, handle_in}
-use Rattle.ristulva_c.proofs.Handles.{word_of}
-use Rattle.ristulva_c.specs.contracts.decoder_handle.DecoderHandle.of_parts as F
-use Rattle.ristulva_c.specs.contracts.decoder_handle.DecoderHandle.of_parts.Key.{name as #self}
-use Rattle.ristulva_c.proofs.decoder_handle.DecoderHandle.of_parts.Statement as stated
-use Rattle.ristulva_c.proofs.decoder_handle.DecoderHandle.of_parts.Code as code
+use Rattle.ristulva_c.proofs.Walks.{refl, sym, subst, List, [], ◌∷◌, ◌++◌, Ura, Val, SProp, ent, emp, ftrue, fsep, Memory, Routine, WpFn, Tables, Logic, Fun, tables, tables_of, WpFn-mono, Item, ‵, raw, ◌⊛◌, ◌$◌, ◌∵◌, !, qed, by, keep, drop, join, split, fsplit, fjoin, suffices, done, whole, sub, agg, stop, fld, no_more, and_then, of_opd, returns, enter, alloc_all, pass_all, free_all, look_at, get, get_in, sets, yes, block_ptr, type_at, nothing, triple_of, entered, says, Stays, stay_dropped, walk_of, ends_at, Goes-dropped, walk_Meets, Some, D, B, word, box_typed, box_out, Bx, plain, Slot}
+use Rattle.bgp_msg.specs.contracts.decoder.Decoder.{the_row as Body}
+use Rattle.bgp_msg.proofs.decoder.Decoder.TheLaws.{the_row_laws}
+use Rattle.ristulva_c.proofs.Handles as H
+use Rattle.ristulva_c.proofs.Handles.{Apart, word_of, handle_in}
+use Rattle.ristulva_c.specs.contracts.handle.DecoderHandle.of_parts as F
+use Rattle.ristulva_c.specs.contracts.handle.DecoderHandle.of_parts.Key.{name as #self}
+use Rattle.ristulva_c.proofs.handle.DecoderHandle.of_parts.Statement as stated
+use Rattle.ristulva_c.proofs.handle.DecoderHandle.of_parts.Code as code
+
+abbrev E : Bx
+E = H.E Body the_row_laws
+
+abbrev From : Slot 0
+From = plain (λ _. Apart Body)
 
 abbrev stayed : Stays (F.ended).signature.params (F.ended).kept
 stayed = (stay_dropped From yes, tt)
@@ -48,7 +30,7 @@ module _ {M : Type 1} {𝓤 : Ura M} (𝓛 : Logic 𝓤) (at_mem : Memory → SP
       qed 𝓛 ((‵ ftrue ⊛ ‵ (fsep ((B E).own_val v z.0.4.0) ftrue)) ∷ raw (emp 𝓤) ∷ []) ∵ split ! $ drop ! $ fsplit ! $
       box_out E ! v z.0.4.0 (λ b o hv e ws fa.
       let made : To.Denot = record { body = block_ptr b o; value = Some v.value } in
-      fjoin ! $ handle_in ! (block_ptr b o) (Some v.value) $ keep ! (0 ∷ []) $
+      fjoin ! $ handle_in Body ! (block_ptr b o) (Some v.value) $ keep ! (0 ∷ []) $
       let w = word E hv b o in let u : Val = word_of (block_ptr b o) in
       let Γ : List (Item 𝓤) = ‵ (To.own_val made (u ∷ [])) ∷ [] in
       by ! (subst (λ (us : List Val). ent 𝓤 (types.Kit.⋆ 𝓛 Γ) (WpFn 𝓤 H 𝓣.C 𝓣.Λ code.function (us ++ []) Post)) (sym ws)

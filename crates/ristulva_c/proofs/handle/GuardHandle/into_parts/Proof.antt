@@ -1,54 +1,26 @@
 -- `into_parts` tests the pointer, and hands on what the handle owns.
-use Rattle.std.proofs.Common.{◌≡◌, List, [], ◌∷◌, ◌++◌, refl, sym, ap, ◌∙◌, subst, lit<}
-use seplogic.Ra.Ura.{Ura}
-use mir.Val.{Val, vcons, vnil}
-use base.Logic.{SProp, ent, emp, id⊢}
-use base.Fml.{ftrue, fsep}
-use prog.Memory.{Memory}
-use prog.Routine.{Routine}
-use prog.Wp.{WpFn, Tables}
-use types.Logic.{Logic}
-use contract.Monad.{Fun}
-use contract.Running.{tables, tables_of}
-use sound.WpLaws.{WpFn-mono}
-use types.Kit.{‵, raw, ◌⊛◌, at_ret, ◌$◌, ◌∵◌, !, qed, move, keep, drop, use0, use1, join, split, fsplit, fjoin, suffices, done}
-use types.Match.{live}
-use types.Part.{whole, sub, agg}
-use types.Run.{stop, fld, lit, bin, no_more, and_then, of_opd, first, branches, exec, returns, enter}
-use types.ByLocal.{alloc_all, pass_all, free_all, look_at, get, get_in, sets, sets_last, env}
-use denote.Exit.{yes}
-use denote.Param.{layout}
-use denote.RattleType.{RattleType}
-use denote.RawPtr.{Ptr, block_ptr, null_ptr, tests_null}
-use denote.Signature.{type_at}
-use denote.Steps.{nothing}
-use denote.Triple.Spec.{triple_of}
-use denote.Triple.Table.{entered}
-use denote.Triple.Walked.{says, Stays, stay_dropped, walk_of, ends_at, Goes-dropped, walk_Meets}
-use Rattle.core.proofs.alloc.Calls.{handle_tells}
-use Rattle.core.proofs.alloc.Shapes.{after}
-use Rattle.core.proofs.cell.Inside.{Good}
-use Rattle.core.proofs.option.Made.{Some-of, none_of}
-use Rattle.std.specs.Prelude.{None, Some}
-use Rattle.std_alloc.proofs.ResultValues.{and_tt}
-use Rattle.std_alloc.proofs.BoxSteps.Form.{D, word, box_typed}
-use Rattle.std_alloc.proofs.BoxSteps.Steps.{box_in}
-use Rattle.bgp_guard.specs.contracts.guard.Guard as body
-use Rattle.std.specs.contracts.alloc.Global as heap
-use Rattle.std.specs.contracts.impls.GlobalAllocator.TheImpl.{ghosts}
-use Rattle.ristulva_c.specs.contracts.handle.parts.BoxParts as parts
-use Rattle.ristulva_c.proofs.GuardHandles.{E, FromHandle as From, handle_out}
-use Rattle.ristulva_c.proofs.Handles.{FromHeap, word_of, either_owned}
-use Rattle.ristulva_c.specs.contracts.guard_handle.GuardHandle.into_parts as F
-use Rattle.ristulva_c.specs.contracts.guard_handle.GuardHandle.into_parts.Key.{name as #self}
-use Rattle.ristulva_c.proofs.guard_handle.GuardHandle.into_parts.Statement as stated
-use Rattle.ristulva_c.proofs.guard_handle.GuardHandle.into_parts.Code as code
+use Rattle.ristulva_c.proofs.Walks.{◌≡◌, List, [], ◌∷◌, ◌++◌, refl, sym, ap, ◌∙◌, subst, lit<, Ura, Val, vcons, vnil, SProp, ent, emp, id⊢, ftrue, fsep, Memory, Routine, WpFn, Tables, Logic, Fun, tables, tables_of, WpFn-mono, ‵, raw, ◌⊛◌, at_ret, ◌$◌, ◌∵◌, !, qed, move, keep, drop, use0, use1, join, split, fsplit, fjoin, suffices, done, live, whole, sub, agg, stop, fld, lit, bin, no_more, and_then, of_opd, first, branches, exec, returns, enter, alloc_all, pass_all, free_all, look_at, get, get_in, sets, sets_last, env, yes, layout, RattleType, Ptr, block_ptr, null_ptr, tests_null, type_at, nothing, triple_of, entered, says, Stays, stay_dropped, walk_of, ends_at, Goes-dropped, walk_Meets, handle_tells, after, Good, Some-of, none_of, None, Some, and_tt, D, word, box_typed, box_in, Bx, plain, Slot}
+use Rattle.bgp_guard.specs.contracts.guard.Guard.{the_row as Body}
+use Rattle.ristulva_c.specs.contracts.handle.GuardHandle as handle
+use Rattle.bgp_guard.proofs.guard.Guard.TheLaws.{the_row_laws}
+use Rattle.ristulva_c.proofs.Handles as H
+use Rattle.ristulva_c.proofs.Handles.{FromHeap, word_of, handle_out, either_owned}
+use Rattle.ristulva_c.specs.contracts.handle.GuardHandle.into_parts as F
+use Rattle.ristulva_c.specs.contracts.handle.GuardHandle.into_parts.Key.{name as #self}
+use Rattle.ristulva_c.proofs.handle.GuardHandle.into_parts.Statement as stated
+use Rattle.ristulva_c.proofs.handle.GuardHandle.into_parts.Code as code
+
+abbrev E : Bx
+E = H.E Body the_row_laws
+
+abbrev From : Slot 0
+From = plain (λ _. handle.the_row)
 
 abbrev stayed : Stays (F.ended).signature.params (F.ended).kept
 stayed = (stay_dropped From yes, (stay_dropped FromHeap yes, tt))
 
 abbrev Apart : RattleType
-Apart = parts.the_row body.the_row heap.the_row ghosts
+Apart = H.Apart Body
 
 module _ {M : Type 1} {𝓤 : Ura M} (𝓛 : Logic 𝓤) (at_mem : Memory → SProp 𝓤) (run : Routine → Fun 𝓤) (𝓣 : Tables 𝓤 𝓛.H) where
   open 𝓛 use {H}
@@ -63,8 +35,8 @@ module _ {M : Type 1} {𝓤 : Ura M} (𝓛 : Logic 𝓤) (at_mem : Memory → SP
       let d = z.0.3.0 in let a = z.0.3.1.0 in let fn = code.function in
       let Out = type_at (F.signature).result tt in
       qed 𝓛 ((‵ ftrue ⊛ ‵ (fsep ((From.row tt).own_val d z.0.4.0) (fsep ((FromHeap.row tt).own_val a z.0.4.1.0) ftrue))) ∷ raw (emp 𝓤) ∷ []) ∵ split ! $ drop ! $ fsplit ! $
-      handle_out ! d z.0.4.0 (λ ws. move ! (1 ∷ []) $ fsplit ! $ handle_tells E.al ! a z.0.4.1.0 (λ h eh fits. move ! (2 ∷ []) $
-      either_owned a body.the_row ! d.body d.value
+      handle_out Body ! d.body d.value z.0.4.0 (λ ws. move ! (1 ∷ []) $ fsplit ! $ handle_tells E.al ! a z.0.4.1.0 (λ h eh fits. move ! (2 ∷ []) $
+      either_owned a Body ! d.body d.value
       (λ is none.
       let w : Val = word_of null_ptr in
       let same : z.0.4.0 ≡ w ∷ [] = ws ∙ ap (λ (p : Ptr). word_of p ∷ []) is in

@@ -1,0 +1,9 @@
+-- What a handle owns says the same to every thread.
+use denote.Param.Send.{IsSend}
+use Rattle.bgp_guard.specs.contracts.guard.Guard.{the_row as Body}
+use Rattle.bgp_guard.proofs.guard.Guard.TheSendSync.{the_send}
+use Rattle.ristulva_c.proofs.Handles.{owned_keyless}
+use Rattle.ristulva_c.specs.contracts.handle.GuardHandle.{the_row}
+
+pub send : IsSend the_row
+send = record { owned = λ d vs. ((λ vss. (tt, (tt, tt))), owned_keyless Body the_send d.body d.value); leaving = λ k d w. tt }
