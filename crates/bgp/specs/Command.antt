@@ -4,22 +4,17 @@ use Rattle.std.specs.Io.KnownBytes.{Keeps}
 use Rattle.clap.specs.Words.{IsAmong, Text}
 use Rattle.clap.specs.declared.error.kind.ErrorKind.{ErrorKind}
 use Rattle.clap.specs.declared.error.kind.ErrorKind.TheVariants as error
-use Rattle.bgp_wire.specs.OctetSet.{has_octet}
+use Rattle.bgp_wire.specs.Prelude.{has_octet}
 use Rattle.bgp_wire.specs.declared.octet_set.OctetSet.{OctetSet}
 use Rattle.bgp_engine.specs.declared.fault.ToolFault.{ToolFault}
 use Rattle.bgp_engine.specs.declared.tally.Tally.{Tally}
+use Rattle.bgp_engine.specs.Prelude.{Io, Reports, CheckedBy, NarrowedBy, Printed, PrintedBy, Hexed, CleanedBy, CleanedIn, without_words, status_of}
 use Rattle.bgp_engine.specs.Run as engine
-use Rattle.bgp_engine.specs.Run.{Io, Reports}
-use Rattle.bgp_engine.specs.Opens.{CheckedBy, NarrowedBy}
-use Rattle.bgp_engine.specs.Print.{Printed, PrintedBy}
 use Rattle.bgp_engine.specs.declared.printing.Style.{Style}
 use Rattle.bgp_engine.specs.declared.printing.Style.TheVariants as style
 use Rattle.bgp_engine.specs.Check.{Checked}
-use Rattle.bgp_engine.specs.ToHex.{Hexed}
 use Rattle.bgp_engine.specs.FromHex.{Copied}
 use Rattle.bgp_engine.specs.Narrow.{Narrowed}
-use Rattle.bgp_engine.specs.Clean.{CleanedBy, CleanedIn, without_words}
-use Rattle.bgp_engine.specs.Tally.{status_of}
 use Rattle.bgp_words.specs.declared.request.Request.{Request}
 use Rattle.bgp_words.specs.declared.request.Request.TheVariants.{Show, Explain, Check, Narrow, Clean, ToHex, FromHex, Loop}
 use Rattle.bgp_words.specs.declared.request.Session.{Session}

@@ -3,10 +3,7 @@
 ghost use Rattle.std.specs.Prelude.{◌≡◌, false, map};
 ghost use Rattle.clap.specs.Words.{kind_of};
 ghost use Rattle.bgp.specs.Command.{Answers, HasRun, IsExplained, IsQuiet, IsWide, Runs, RunsBy, Prints, cleaned_by, style_of};
-ghost use Rattle.bgp_engine.specs.Print.{PrintedBy};
-ghost use Rattle.bgp_engine.specs.Clean.{without_words};
-ghost use Rattle.bgp_engine.specs.Opens.{CheckedBy, NarrowedBy};
-ghost use Rattle.bgp_engine.specs.Run.{io};
+ghost use Rattle.bgp_engine.specs.Prelude.{PrintedBy, without_words, CheckedBy, NarrowedBy, io};
 
 use bgp_engine::{
     Style, Tally, ToolFault, check, check_by_opens, clean_by_opens, clean_stream, from_hex,

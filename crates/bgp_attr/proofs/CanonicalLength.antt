@@ -4,10 +4,8 @@ use Rattle.std.specs.Int.{w16, to_be_bytes}
 use Rattle.std.proofs.lemmas.List.{length-append}
 use Rattle.bgp_open.specs.declared.context.Context.{Context}
 use Rattle.bgp_attr.specs.declared.attr.Attr.{Attr}
-use Rattle.bgp_attr.specs.Flags.{is_extended, flags_octet}
-use Rattle.bgp_attr.specs.Tlv.{length_octets}
-use Rattle.bgp_prefix.specs.Prefix.{PrefixValue}
-use Rattle.bgp_attr.specs.Written.{class_of, partial_of, value_octets, canonical, reach_row, run_octets}
+use Rattle.bgp_attr.specs.Prelude.{is_extended, flags_octet, length_octets, class_of, partial_of, value_octets, canonical, reach_row, run_octets}
+use Rattle.bgp_prefix.specs.Prelude.{PrefixValue}
 use Rattle.bgp_attr.proofs.FlagBits.{is_extended-flags}
 
 two_or_one : (t : Bool) (n : ℕ) → length (cond t (to_be_bytes w16 n) (n ∷ [])) ≡ cond t 2 1

@@ -2,8 +2,7 @@
 use Rattle.std.proofs.Common.{◌≡◌, ◌<◌, Bool, true, false, refl, lit<}
 use Rattle.bgp_attr.specs.declared.class.Class.{Class}
 use Rattle.bgp_attr.specs.declared.class.Class.TheVariants.{WellKnown, OptionalNonTransitive, OptionalTransitive}
-use Rattle.bgp_attr.specs.Written.{optional_class}
-use Rattle.bgp_attr.specs.Flags.{is_optional, is_transitive, is_partial, is_extended, has_class, flags_octet}
+use Rattle.bgp_attr.specs.Prelude.{optional_class, is_optional, is_transitive, is_partial, is_extended, has_class, flags_octet}
 
 pub has_class-flags : (class : Class) (partial extended : Bool) → has_class class (flags_octet class partial extended) ≡ true
 has_class-flags WellKnown true true = refl

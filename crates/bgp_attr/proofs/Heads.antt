@@ -6,8 +6,7 @@ use Rattle.std.proofs.Math.Seq.{take-append_seam, drop-append-add}
 use Rattle.std.proofs.lemmas.Bool.{lt-ltb}
 use Rattle.std.proofs.lemmas.List.{length-take}
 use Rattle.bgp_attr.specs.declared.class.Class.{Class}
-use Rattle.bgp_attr.specs.Flags.{flags_octet}
-use Rattle.bgp_attr.specs.Tlv.{tlv_octets}
+use Rattle.bgp_attr.specs.Prelude.{flags_octet, tlv_octets}
 use Rattle.bgp_attr.proofs.WrittenTlv.{head_then_value}
 
 -- a value of more than 255 octets: an octet is put in, since its length has two

@@ -3,46 +3,29 @@ use Rattle.std.proofs.Common.{◌≡◌, ℕ, ◌+◌, ◌%◌, ◌≤◌, Bool,
 use Rattle.std.proofs.lemmas.Bool.{eqb-true, eqb-false, ne_eqb, ltb-false, not-false, or_parts, or_cases, cond_both, false≢true}
 use Rattle.std.proofs.lemmas.List.{append-nil, length-take, length-drop, take_at, drop_at, take-append-drop, nil_from_length, drop-take, take-take}
 use Rattle.bgp_numbers.specs.declared.afi.TheConstants.{IPV4, IPV6}
-use Rattle.bgp_numbers.specs.declared.attribute.TheConstants.{ORIGIN, AS_PATH, NEXT_HOP, MULTI_EXIT_DISC, LOCAL_PREF, ATOMIC_AGGREGATE, AGGREGATOR, COMMUNITIES, MP_REACH_NLRI, MP_UNREACH_NLRI, AS4_PATH, AS4_AGGREGATOR, LARGE_COMMUNITY}
+use Rattle.bgp_numbers.specs.declared.attribute.TheConstants.{ORIGIN, AS_PATH, NEXT_HOP, ATOMIC_AGGREGATE, COMMUNITIES, MP_REACH_NLRI, MP_UNREACH_NLRI, AS4_PATH, LARGE_COMMUNITY}
 use Rattle.bgp_open.specs.declared.context.Context.{Context}
-use Rattle.bgp_prefix.specs.Prefix.{PrefixValue}
-use Rattle.bgp_prefix.specs.Run.{run_of}
-use Rattle.bgp_wire.specs.Octets.{AreOctets}
-use Rattle.bgp_wire.specs.Row.{Row}
+use Rattle.bgp_prefix.specs.Prelude.{PrefixValue, run_of}
+use Rattle.bgp_wire.specs.Prelude.{AreOctets, Row}
 use Rattle.bgp_wire.proofs.Behinds.{pieces-whole}
 use Rattle.bgp_attr.specs.declared.aggregator.Aggregator.{Aggregator}
-use Rattle.bgp_attr.specs.declared.attr.Attr.{Attr}
-use Rattle.bgp_attr.specs.declared.attr.Attr.TheVariants as attr
 use Rattle.bgp_attr.specs.declared.class.Class.{Class}
 use Rattle.bgp_attr.specs.declared.class.Class.TheVariants.{WellKnown, OptionalNonTransitive, OptionalTransitive}
 use Rattle.bgp_attr.specs.declared.communities.Communities.{Communities}
 use Rattle.bgp_attr.specs.declared.communities.LargeCommunities.{LargeCommunities}
 use Rattle.bgp_attr.specs.declared.family.Family.{Family}
-use Rattle.bgp_attr.specs.declared.family.Family.TheVariants as family
-use Rattle.bgp_attr.specs.declared.judged.Judged.TheVariants as judged
-use Rattle.bgp_attr.specs.declared.mp.MpReach.{MpReach}
-use Rattle.bgp_attr.specs.declared.mp.MpReach.TheVariants as reach
-use Rattle.bgp_attr.specs.declared.mp.MpUnreach.{MpUnreach}
-use Rattle.bgp_attr.specs.declared.mp.MpUnreach.TheVariants as unreach
 use Rattle.bgp_attr.specs.declared.opaque.Opaque.{Opaque}
 use Rattle.bgp_attr.specs.declared.origin.Origin.{Origin}
 use Rattle.bgp_attr.specs.declared.origin.Origin.TheVariants.{Igp, Egp, Incomplete}
 use Rattle.bgp_attr.specs.declared.path.As4Path.{As4Path}
-use Rattle.bgp_attr.specs.declared.path.AsPath.{AsPath}
-use Rattle.bgp_attr.specs.Flags.{has_class}
-use Rattle.bgp_attr.specs.Tlv.{TlvValue}
-use Rattle.bgp_attr.specs.Numbers.{number_width, number_in, IsNumber, one_number, numbers_of, IsTriple, one_triple, triples_of, each_once}
-use Rattle.bgp_attr.specs.Path.{path_of}
-use Rattle.bgp_attr.specs.Mp.{family_of, is_in_use, address_width, is_next_hop_length, next_hop_length, next_hop_of, reached_of, reach_of_family, mp_reach_of, withdrawn_of, unreach_of_family, mp_unreach_of}
-use Rattle.bgp_attr.specs.Value.{origin_of, as_path_form, as4_path_form, four_of, aggregator_of, communities_of, large_of, as4_path_of, opaque_of}
-use Rattle.bgp_attr.specs.Judgement.{has_bad_prefix, origin_tests, as_path_tests, next_hop_tests, med_tests, local_pref_tests, atomic_tests, aggregator_tests, communities_tests, mp_reach_tests, mp_unreach_tests, as4_path_tests, large_tests, other_tests, AttributeType, is_recognised, type_row, judgement}
-use Rattle.bgp_attr.specs.Spelling.{IsOfType, origin_code, IsOrigin, IsAsPath, IsNextHop, IsMed, IsLocalPref, IsAtomic, IsAggregator, IsCommunities, IsLarge, IsReach, link_octets, HasLink, IsReachValue, IsMpReach, IsUnreachValue, IsMpUnreach, IsAs4Path, IsOpaque, Spells}
+use Rattle.bgp_attr.specs.Prelude.{has_class, TlvValue, number_width, number_in, IsNumber, one_number, numbers_of, IsTriple, one_triple, triples_of, each_once, path_of, family_of, is_in_use, address_width, is_next_hop_length, next_hop_length, next_hop_of, reached_of, reach_of_family, mp_reach_of, withdrawn_of, unreach_of_family, mp_unreach_of, origin_of, as_path_form, as4_path_form, four_of, aggregator_of, communities_of, large_of, as4_path_of, opaque_of, has_bad_prefix, origin_tests, as_path_tests, next_hop_tests, four_tests, atomic_tests, aggregator_tests, communities_tests, mp_reach_tests, mp_unreach_tests, as4_path_tests, large_tests, other_tests, is_recognised, IsOfType, origin_code, IsOrigin, IsAsPath, IsNextHop, IsFour, IsAtomic, IsAggregator, IsCommunities, IsLarge, IsReach, link_octets, HasLink, IsReachValue, IsMpReach, IsUnreachValue, IsMpUnreach, IsAs4Path, IsOpaque}
+use Rattle.bgp_attr.specs.declared.family.Family.TheVariants as family
+use Rattle.bgp_attr.specs.declared.judged.Judged.TheVariants as judged
 use Rattle.bgp_attr.proofs.Readers.{IsNumber-reads, IsTriple-reads}
 use Rattle.bgp_attr.proofs.NumberRows.{number_row-whole, length-number_row, triple_row-whole, length-triple_row}
 use Rattle.bgp_attr.proofs.SegmentRows.{fault-path, path-only}
-use Rattle.bgp_attr.proofs.RouteRows.{hop_in, hop_in-length, octets-reach, octets-unreach, reach4-value, reach6-value, unreach4-value, unreach6-value}
-use Rattle.bgp_attr.proofs.Tables.{◌&◌}
-use Rattle.bgp_attr.proofs.TestRows.{NoneApplies, passed, passed_fault, row_at, row-at, row-other, by_kept, kept-value}
+use Rattle.bgp_attr.proofs.RouteRows.{hop_in, hop_in-length, octets-reach, octets-unreach}
+use Rattle.bgp_attr.proofs.TestRows.{NoneApplies, passed, passed_fault}
 
 -- ---- what is kept is spelled
 
@@ -69,38 +52,32 @@ module _ (ctx : Context) (t : TlvValue) where
   as_long : (n : ℕ) → not (eqb (length t.value) n) ≡ false → length t.value ≡ n
   as_long n e = eqb-true (length t.value) n (not-false _ e)
 
-  origin-spells : t.kind ≡ ORIGIN → NoneApplies (origin_tests t) → IsOrigin (origin_of t.value) t
+  pub origin-spells : t.kind ≡ ORIGIN → NoneApplies (origin_tests t) → IsOrigin (origin_of t.value) t
   origin-spells e none = record {
     of_type = of_type ORIGIN WellKnown e (passed _ _ none.0);
     value = origin-value t.value (as_long 1 (passed _ _ none.1.0)) (ltb-false 2 _ (passed _ _ none.1.1.0));
   }
 
-  as_path-spells : t.kind ≡ AS_PATH → NoneApplies (as_path_tests ctx t) → IsAsPath ctx (path_of (as_path_form ctx) t.value) t
+  pub as_path-spells : t.kind ≡ AS_PATH → NoneApplies (as_path_tests ctx t) → IsAsPath ctx (path_of (as_path_form ctx) t.value) t
   as_path-spells e none = record {
     of_type = of_type AS_PATH WellKnown e (passed _ _ none.0);
     path = fault-path (as_path_form ctx) t.value (passed_fault (λ fault. judged.Withdraw fault) _ none.1.0);
   }
 
-  next_hop-spells : (has_nlri : Bool) → t.kind ≡ NEXT_HOP → NoneApplies (next_hop_tests has_nlri t) → IsNextHop t.value t
+  pub next_hop-spells : (has_nlri : Bool) → t.kind ≡ NEXT_HOP → NoneApplies (next_hop_tests has_nlri t) → IsNextHop t.value t
   next_hop-spells has_nlri e none = record {
     of_type = of_type NEXT_HOP WellKnown e (passed _ _ none.1.0);
     four = as_long 4 (passed _ _ none.1.1.0);
     value = refl;
   }
 
-  med-spells : t.kind ≡ MULTI_EXIT_DISC → NoneApplies (med_tests t) → IsMed (four_of t.value) t
-  med-spells e none = record {
-    of_type = of_type MULTI_EXIT_DISC OptionalNonTransitive e (passed _ _ none.0);
+  pub four-spells : (kind : ℕ) (class : Class) → t.kind ≡ kind → NoneApplies (four_tests class t) → IsFour kind class (four_of t.value) t
+  four-spells kind class e none = record {
+    of_type = of_type kind class e (passed _ _ none.0);
     value = record { as_wide = as_long 4 (passed _ _ none.1.0); value = refl };
   }
 
-  local_pref-spells : t.kind ≡ LOCAL_PREF → NoneApplies (local_pref_tests ctx t) → IsLocalPref (four_of t.value) t
-  local_pref-spells e none = record {
-    of_type = of_type LOCAL_PREF WellKnown e (passed _ _ none.1.0);
-    value = record { as_wide = as_long 4 (passed _ _ none.1.1.0); value = refl };
-  }
-
-  atomic-spells : t.kind ≡ ATOMIC_AGGREGATE → NoneApplies (atomic_tests t) → IsAtomic t
+  pub atomic-spells : t.kind ≡ ATOMIC_AGGREGATE → NoneApplies (atomic_tests t) → IsAtomic t
   atomic-spells e none = record {
     of_type = of_type ATOMIC_AGGREGATE WellKnown e (passed _ _ none.0);
     value = nil_from_length t.value (as_long 0 (passed _ _ none.1.0));
@@ -142,14 +119,14 @@ module _ (ctx : Context) (t : TlvValue) where
         partial = refl;
       }
 
-  as4_path-spells : t.kind ≡ AS4_PATH → NoneApplies (as4_path_tests ctx t) → IsAs4Path (as4_path_of t) t
+  pub as4_path-spells : t.kind ≡ AS4_PATH → NoneApplies (as4_path_tests ctx t) → IsAs4Path (as4_path_of t) t
   as4_path-spells e none = record {
     of_type = of_type AS4_PATH OptionalTransitive e (passed _ _ none.1.0);
     path = fault-path as4_path_form t.value (passed_fault (λ fault. judged.Discard fault) _ none.1.1.1.0);
     partial = refl;
   }
 
-  other-spells : is_recognised t.kind ≡ false → NoneApplies (other_tests t) → IsOpaque (opaque_of t) t
+  pub other-spells : is_recognised t.kind ≡ false → NoneApplies (other_tests t) → IsOpaque (opaque_of t) t
   other-spells e none = record { other = e; optional = not-false _ (passed _ _ none.0); kind = refl; transitive = refl; partial = refl; value = refl }
 
   -- ---- routes
@@ -228,25 +205,15 @@ module _ (ctx : Context) (t : TlvValue) where
       value = unreach-value (family_of v) refl (ltb-false _ _ (passed _ _ none.1.0)) (not-false _ (passed _ _ none.1.1.0)) (passed _ _ none.1.1.1.0);
     }
 
--- ---- every type
-
-pub kept-spells : (ctx : Context) (has_nlri : Bool) (t : TlvValue) (a : Attr) → AreOctets t.value → judgement ctx has_nlri t ≡ judged.Keep a → Spells ctx t a
-kept-spells ctx has_nlri t a octets keeps =
-    by_kept ctx has_nlri t (Spells ctx t)
-    (origin-spells ctx t & as_path-spells ctx t & next_hop-spells ctx t has_nlri & med-spells ctx t & local_pref-spells ctx t & atomic-spells ctx t
-    & aggregator-spells ctx t AGGREGATOR ctx.as4 & communities-spells ctx t & mp_reach-spells ctx t octets & mp_unreach-spells ctx t octets
-    & as4_path-spells ctx t & (λ e none. aggregator-spells ctx t AS4_AGGREGATOR true e none.1) & large-spells ctx t & tt)
-    (other-spells ctx t) a keeps
-
 -- ---- and nothing else
 
-module _ (ctx : Context) (has_nlri : Bool) (t : TlvValue) where
-  origin-only : (o : Origin) (b : List ℕ) → b ≡ origin_code o ∷ [] → origin_of b ≡ o
+module _ (t : TlvValue) where
+  pub origin-only : (o : Origin) (b : List ℕ) → b ≡ origin_code o ∷ [] → origin_of b ≡ o
   origin-only Igp b e = ap origin_of e
   origin-only Egp b e = ap origin_of e
   origin-only Incomplete b e = ap origin_of e
 
-  aggregator-only : (kind : ℕ) (wide : Bool) (a : Aggregator) → IsAggregator kind wide a t → aggregator_of wide t ≡ a
+  pub aggregator-only : (kind : ℕ) (wide : Bool) (a : Aggregator) → IsAggregator kind wide a t → aggregator_of wide t ≡ a
   aggregator-only kind wide a s =
       let width : length s.number ≡ number_width wide = (s.asn).as_wide in
       let front : take (number_width wide) t.value ≡ s.number = ap (take (number_width wide)) s.value ∙ take_at s.number a.addr (number_width wide) width in
@@ -254,46 +221,19 @@ module _ (ctx : Context) (has_nlri : Bool) (t : TlvValue) where
       let value : number_in wide (take (number_width wide) t.value) ≡ (a.asn).0 = ap (λ (b : List ℕ). number_in wide b) front ∙ sym (s.asn).value in
       λ i. record { asn = record { 0 = value i }; addr = back i; partial = sym s.partial i }
 
-  communities-only : (c : Communities) → IsCommunities c t → communities_of t ≡ c
+  pub communities-only : (c : Communities) → IsCommunities c t → communities_of t ≡ c
   communities-only c s =
       let row = pieces-whole ℕ (IsNumber true) (one_number true) (IsNumber-reads true) c.values t.value s.row in
       λ i. record { partial = sym s.partial i; values = (row i).0 }
 
-  large-only : (l : LargeCommunities) → IsLarge l t → large_of t ≡ l
+  pub large-only : (l : LargeCommunities) → IsLarge l t → large_of t ≡ l
   large-only l s =
       let row = pieces-whole (List ℕ) IsTriple one_triple IsTriple-reads s.triples t.value s.row in
       let values : each_once (triples_of t.value) ≡ l.values = ap (λ (q : List (List ℕ) × List ℕ). each_once q.0) row ∙ sym s.values in
       λ i. record { partial = sym s.partial i; values = values i }
 
-  as4_path-only : (p : As4Path) → IsAs4Path p t → as4_path_of t ≡ p
+  pub as4_path-only : (p : As4Path) → IsAs4Path p t → as4_path_of t ≡ p
   as4_path-only p s = λ i. record { partial = sym s.partial i; path = sym (path-only as4_path_form p.path t.value s.path) i }
 
-  opaque-only : (o : Opaque) → IsOpaque o t → opaque_of t ≡ o
+  pub opaque-only : (o : Opaque) → IsOpaque o t → opaque_of t ≡ o
   opaque-only o s = λ i. record { kind = sym s.kind i; transitive = sym s.transitive i; partial = sym s.partial i; value = sym s.value i }
-
-  value-at : (kind : ℕ) → t.kind ≡ kind → (type_row ctx has_nlri t).value ≡ (row_at ctx has_nlri t kind).value
-  value-at kind e = ap (λ (type : AttributeType). type.value) (row-at ctx has_nlri t kind e)
-
-  -- what is spelled is the value
-  pub spells-value : (b : Attr) → Spells ctx t b → (type_row ctx has_nlri t).value ≡ b
-  spells-value (attr.Origin o) s = value-at ORIGIN (s.of_type).kind_is ∙ ap (λ (x : Origin). attr.Origin x) (origin-only o t.value s.value)
-  spells-value (attr.AsPath p) s = value-at AS_PATH (s.of_type).kind_is ∙ ap (λ (x : AsPath). attr.AsPath x) (sym (path-only (as_path_form ctx) p t.value s.path))
-  spells-value (attr.NextHop addr) s = value-at NEXT_HOP (s.of_type).kind_is ∙ ap (λ (x : List ℕ). attr.NextHop x) s.value
-  spells-value (attr.Med n) s = value-at MULTI_EXIT_DISC (s.of_type).kind_is ∙ ap (λ (x : ℕ). attr.Med x) (sym (s.value).value)
-  spells-value (attr.LocalPref n) s = value-at LOCAL_PREF (s.of_type).kind_is ∙ ap (λ (x : ℕ). attr.LocalPref x) (sym (s.value).value)
-  spells-value attr.Atomic s = value-at ATOMIC_AGGREGATE (s.of_type).kind_is
-  spells-value (attr.Aggregator a) s = value-at AGGREGATOR (s.of_type).kind_is ∙ ap (λ (x : Aggregator). attr.Aggregator x) (aggregator-only AGGREGATOR ctx.as4 a s)
-  spells-value (attr.Communities c) s = value-at COMMUNITIES (s.of_type).kind_is ∙ ap (λ (x : Communities). attr.Communities x) (communities-only c s)
-  spells-value (attr.MpReach (reach.Ip4 hop routes)) s =
-      value-at MP_REACH_NLRI (s.of_type).kind_is ∙ ap (λ (x : MpReach). attr.MpReach x) (reach4-value hop routes t.value (s.value).0 (s.value).1)
-  spells-value (attr.MpReach (reach.Ip6 hop link routes)) s =
-      value-at MP_REACH_NLRI (s.of_type).kind_is ∙ ap (λ (x : MpReach). attr.MpReach x) (reach6-value hop link routes t.value (s.value).0 (s.value).1 (s.value).2)
-  spells-value (attr.MpUnreach (unreach.Ip4 routes)) s = value-at MP_UNREACH_NLRI (s.of_type).kind_is ∙ ap (λ (x : MpUnreach). attr.MpUnreach x) (unreach4-value routes t.value s.value)
-  spells-value (attr.MpUnreach (unreach.Ip6 routes)) s = value-at MP_UNREACH_NLRI (s.of_type).kind_is ∙ ap (λ (x : MpUnreach). attr.MpUnreach x) (unreach6-value routes t.value s.value)
-  spells-value (attr.As4Path p) s = value-at AS4_PATH (s.of_type).kind_is ∙ ap (λ (x : As4Path). attr.As4Path x) (as4_path-only p s)
-  spells-value (attr.As4Aggregator a) s = value-at AS4_AGGREGATOR (s.of_type).kind_is ∙ ap (λ (x : Aggregator). attr.As4Aggregator x) (aggregator-only AS4_AGGREGATOR true a s)
-  spells-value (attr.Large l) s = value-at LARGE_COMMUNITY (s.of_type).kind_is ∙ ap (λ (x : LargeCommunities). attr.Large x) (large-only l s)
-  spells-value (attr.Opaque o) s = ap (λ (type : AttributeType). type.value) (row-other ctx has_nlri t s.other) ∙ ap (λ (x : Opaque). attr.Opaque x) (opaque-only o s)
-
-pub kept-only : (ctx : Context) (has_nlri : Bool) (t : TlvValue) (a b : Attr) → judgement ctx has_nlri t ≡ judged.Keep a → Spells ctx t b → b ≡ a
-kept-only ctx has_nlri t a b keeps s = sym (spells-value ctx has_nlri t b s) ∙ kept-value ctx has_nlri t a keeps

@@ -5,12 +5,11 @@ use Rattle.std.specs.Cmp.Lexicographic.{pointwise}
 use Rattle.std.proofs.lemmas.List.{length-append, length-take, length-drop, take_at, drop_at, drop-drop, take-append-drop}
 use Rattle.std.proofs.Math.ListN.{drop_of_length-le}
 use Rattle.std.proofs.Math.Seq.{take-append-add}
-use Rattle.bgp_wire.specs.Reader.{pieces}
+use Rattle.bgp_wire.specs.Prelude.{pieces}
 use Rattle.bgp_wire.proofs.Rows.{Row-push}
 use Rattle.bgp_wire.proofs.Behinds.{pieces-whole, Row-pieces}
 use Rattle.bgp_wire.proofs.Walks.{shorter, first_then, no_more}
-use Rattle.bgp_attr.specs.Numbers.{IsTriple, one_triple, triples_of, same_triple, once_behind}
-use Rattle.bgp_attr.specs.LargeStep.{IsRowUpTo, new_from}
+use Rattle.bgp_attr.specs.Prelude.{IsTriple, one_triple, triples_of, same_triple, once_behind, IsRowUpTo, new_from}
 use Rattle.bgp_attr.proofs.Readers.{IsTriple-reads}
 
 pub no_triples : pieces one_triple [] ≡ ([], [])

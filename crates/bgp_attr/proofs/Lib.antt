@@ -19,6 +19,7 @@ pub mod RouteRows
 pub mod Kept
 pub mod Rewriting
 pub mod WrittenOctets
+pub mod EachType
 pub mod Writes
 pub mod WrittenTlv
 pub mod Heads

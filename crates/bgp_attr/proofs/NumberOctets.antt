@@ -5,10 +5,9 @@ use Rattle.std.specs.Int.{w32, from_be_bytes}
 use Rattle.std.proofs.lemmas.List.Folds.{flat_map-map}
 use Rattle.std.proofs.lemmas.Nat.{be_bytes_4}
 use Rattle.bgp_prefix.specs.declared.as_number.AsNumber.{AsNumber}
-use Rattle.bgp_wire.specs.Octets.{AreOctets}
+use Rattle.bgp_wire.specs.Prelude.{AreOctets}
 use Rattle.bgp_wire.proofs.OctetLemmas.{AreOctets-take}
-use Rattle.bgp_attr.specs.Numbers.{one_number, numbers_of, number_octets, row_octets}
-use Rattle.bgp_attr.specs.Path.{as_number}
+use Rattle.bgp_attr.specs.Prelude.{one_number, numbers_of, number_octets, row_octets, as_number}
 use Rattle.bgp_attr.proofs.Readers.{four_first}
 use Rattle.bgp_attr.proofs.NumberSteps.{number_then, no_number}
 

@@ -6,15 +6,12 @@ use Rattle.std.proofs.Math.Nat.{mul_comm}
 use Rattle.std.proofs.lemmas.Bool.{cases_lt}
 use Rattle.std.proofs.lemmas.Nat.{from_be_bytes-to_be_bytes_2, from_be_bytes-to_be_bytes_4, mod-mul-add}
 use Rattle.std.proofs.lemmas.List.{append-nil, length-append, length-take, take-append-drop, nil_from_length}
-use Rattle.bgp_wire.specs.Octets.{AreOctets}
-use Rattle.bgp_wire.specs.Row.{Row, Splits}
-use Rattle.bgp_wire.specs.Reader.{pieces}
+use Rattle.bgp_wire.specs.Prelude.{AreOctets, Row, Splits, pieces}
 use Rattle.bgp_wire.proofs.OctetLemmas.{AreOctets-front, AreOctets-back, AreOctets-take, AreOctets-drop}
 use Rattle.bgp_wire.proofs.Pieces.{Splits-pieces}
 use Rattle.bgp_wire.proofs.Behinds.{pieces-whole}
 use Rattle.bgp_prefix.specs.declared.as_number.AsNumber.{AsNumber}
-use Rattle.bgp_attr.specs.Numbers.{number_width, number_in, IsNumber, one_number, numbers_of, number_octets, row_octets, IsTriple, one_triple, triples_of, triple_octets}
-use Rattle.bgp_attr.specs.Written.{IsFourOctets, IsThreeNumbers}
+use Rattle.bgp_attr.specs.Prelude.{number_width, number_in, IsNumber, one_number, numbers_of, number_octets, row_octets, IsTriple, one_triple, triples_of, triple_octets, IsFourOctets, IsThreeNumbers}
 use Rattle.bgp_attr.proofs.Readers.{IsNumber-reads, IsTriple-reads}
 
 -- ---- one number

@@ -2,8 +2,7 @@
 use Rattle.std.proofs.Common.{◌≡◌, ℕ, ◌<◌, ◌/◌, Bool, true, false, ◌||◌, List, [], ◌∷◌, length, map, suc, Some, None, arith, refl, sym, ap, ◌∙◌}
 use Rattle.std.specs.List.{list_any}
 use Rattle.bgp_wire.proofs.Walks.{shorter, first_then, no_more}
-use Rattle.bgp_attr.specs.Numbers.{IsNumber, number_width, one_number, numbers_of}
-use Rattle.bgp_attr.specs.Path.{as_number}
+use Rattle.bgp_attr.specs.Prelude.{IsNumber, number_width, one_number, numbers_of, as_number}
 use Rattle.bgp_attr.proofs.Readers.{IsNumber-reads, two_first, four_first}
 
 module _ (wide : Bool) (b : List ℕ) where

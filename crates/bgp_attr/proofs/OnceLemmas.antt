@@ -4,8 +4,7 @@ use Rattle.std.specs.List.{list_any, AllByRecursion}
 use Rattle.std.proofs.lemmas.Bool.{false≢true, both_ways, eqb-true, and_parts, or_parts, or_from, cond-false, cond_both, false_from_ne_true}
 use Rattle.std.proofs.lemmas.List.{append-nil}
 use Rattle.std.proofs.lemmas.List.Folds.{list_any-append}
-use Rattle.bgp_attr.specs.Numbers.{same_triple, once_behind, each_once}
-use Rattle.bgp_attr.specs.Written.{repeats}
+use Rattle.bgp_attr.specs.Prelude.{same_triple, once_behind, each_once, repeats}
 
 -- ---- the test of two triples
 

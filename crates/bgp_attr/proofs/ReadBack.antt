@@ -1,13 +1,13 @@
 -- What is written of an attribute is one whole attribute, and is kept as the value that was written.
-use Rattle.std.proofs.Common.{◌≡◌, ℕ, ◌+◌, ◌*◌, ◌%◌, ◌^◌, ◌<◌, ◌≤◌, Bool, true, false, not, ◌&&◌, cond, eqb, ltb, List, [], ◌∷◌, ◌++◌, length, take, drop, Option, Some, None, refl, sym, ap, ap₂, ◌∙◌, arith}
+use Rattle.std.proofs.Common.{◌≡◌, ℕ, ◌+◌, ◌*◌, ◌%◌, ◌^◌, ◌<◌, ◌≤◌, Bool, true, false, not, cond, eqb, ltb, List, [], ◌∷◌, ◌++◌, length, take, drop, Option, Some, None, refl, sym, ap, ap₂, ◌∙◌, arith}
 use Rattle.std.specs.Int.{w16, to_be_bytes}
-use Rattle.std.specs.List.{flat_map, list_any, AllByRecursion}
-use Rattle.std.proofs.lemmas.Bool.{true≢false, le-ltb, ltb-false, eqb-false, eq-eqb, ne_eqb, or_parts, or_from, or_left, or_right}
-use Rattle.std.proofs.lemmas.Nat.{from_be_bytes-to_be_bytes_2, from_be_bytes-to_be_bytes_4}
+use Rattle.std.specs.List.{flat_map, AllByRecursion}
+use Rattle.std.proofs.lemmas.Bool.{le-ltb, ltb-false, eq-eqb, ne_eqb, or_from, or_left, or_right}
+use Rattle.std.proofs.lemmas.Nat.{from_be_bytes-to_be_bytes_2}
 use Rattle.std.proofs.lemmas.List.{length-append, take_at, drop_at}
 use Rattle.bgp_numbers.specs.declared.attribute.TheConstants.{AGGREGATOR, AS4_AGGREGATOR}
 use Rattle.bgp_numbers.specs.declared.afi.TheConstants.{IPV4, IPV6}
-use Rattle.bgp_prefix.specs.Prefix.{PrefixValue, IsValid}
+use Rattle.bgp_prefix.specs.Prelude.{PrefixValue, IsValid}
 use Rattle.bgp_open.specs.declared.context.Context.{Context}
 use Rattle.bgp_attr.specs.declared.aggregator.Aggregator.{Aggregator}
 use Rattle.bgp_attr.specs.declared.communities.Communities.{Communities}
@@ -15,34 +15,26 @@ use Rattle.bgp_attr.specs.declared.communities.LargeCommunities.{LargeCommunitie
 use Rattle.bgp_attr.specs.declared.path.As4Path.{As4Path}
 use Rattle.bgp_attr.specs.declared.path.AsPath.{AsPath}
 use Rattle.bgp_attr.specs.declared.family.Family.{Family}
-use Rattle.bgp_attr.specs.declared.family.Family.TheVariants as family
 use Rattle.bgp_attr.specs.declared.mp.MpReach.{MpReach}
-use Rattle.bgp_attr.specs.declared.mp.MpReach.TheVariants as reach
 use Rattle.bgp_attr.specs.declared.mp.MpUnreach.{MpUnreach}
-use Rattle.bgp_attr.specs.declared.mp.MpUnreach.TheVariants as unreach
-use Rattle.bgp_attr.specs.Mp.{family_of, is_in_use, address_width, is_next_hop_length, next_hop_length, reached_of, mp_reach_of, withdrawn_of, mp_unreach_of}
+use Rattle.bgp_attr.specs.Prelude.{family_of, is_in_use, address_width, is_next_hop_length, next_hop_length, reached_of, mp_reach_of, withdrawn_of, mp_unreach_of, is_extended, has_class, flags_octet, TlvValue, IsTlv, number_of_length, length_octets, number_width, number_in, number_octets, row_octets, triple_octets, each_once, origin_of, as_path_form, as4_path_form, aggregator_of, path_of, has_bad_prefix, mp_reach_tests, mp_unreach_tests, aggregator_tests, AttributeType, is_recognised, judgement, origin_code, IsReach, link_octets, HasLink, IsUnreach, optional_class, made, type_of, written_tlv, canonical, aggregator_octets, reach_row, reach_octets, unreach_row, unreach_octets, path_octets, repeats, IsFourOctets, IsThreeNumbers, is_writable}
 use Rattle.bgp_attr.specs.declared.class.Class.{Class}
 use Rattle.bgp_attr.specs.declared.class.Class.TheVariants.{WellKnown, OptionalNonTransitive, OptionalTransitive}
 use Rattle.bgp_attr.specs.declared.attr.Attr.{Attr}
-use Rattle.bgp_attr.specs.declared.attr.Attr.TheVariants as attr
-use Rattle.bgp_attr.specs.declared.judged.Judged.TheVariants as judged
 use Rattle.bgp_attr.specs.declared.opaque.Opaque.{Opaque}
 use Rattle.bgp_attr.specs.declared.origin.Origin.{Origin}
 use Rattle.bgp_attr.specs.declared.origin.Origin.TheVariants.{Igp, Egp, Incomplete}
-use Rattle.bgp_attr.specs.Flags.{is_extended, has_class, flags_octet}
-use Rattle.bgp_attr.specs.Tlv.{TlvValue, IsTlv, number_of_length, length_octets}
-use Rattle.bgp_attr.specs.Numbers.{number_width, number_in, number_octets, row_octets, triple_octets, each_once}
-use Rattle.bgp_attr.specs.Value.{origin_of, as_path_form, as4_path_form, aggregator_of}
-use Rattle.bgp_attr.specs.Path.{path_of}
-use Rattle.bgp_attr.specs.Judgement.{has_bad_prefix, mp_reach_tests, mp_unreach_tests, aggregator_tests, AttributeType, is_recognised, judgement}
-use Rattle.bgp_attr.specs.Spelling.{origin_code, IsReach, link_octets, HasLink, IsUnreach}
-use Rattle.bgp_attr.specs.Written.{optional_class, made, type_of, written_tlv, canonical, aggregator_octets, reach_row, reach_octets, unreach_row, unreach_octets, any_number, is_above_two_octets, is_bad_segment, HasLinkRange, Belongs, path_octets, repeats, IsFourOctets, IsThreeNumbers, is_writable, HasRanges}
+use Rattle.bgp_attr.specs.declared.family.Family.TheVariants as family
+use Rattle.bgp_attr.specs.declared.mp.MpReach.TheVariants as reach
+use Rattle.bgp_attr.specs.declared.mp.MpUnreach.TheVariants as unreach
+use Rattle.bgp_attr.specs.declared.attr.Attr.TheVariants as attr
+use Rattle.bgp_attr.specs.declared.judged.Judged.TheVariants as judged
 use Rattle.bgp_attr.proofs.FlagBits.{has_class-flags, is_partial-flags, is_optional-flags, is_transitive-flags}
 use Rattle.bgp_attr.proofs.NumberRows.{Fits, number_in-octets, length-number_octets, length-row_octets, numbers_of-row_octets, length-triples, triples_of-octets}
 use Rattle.bgp_attr.proofs.SegmentRows.{CanStand, path_of-octets, path_fault-octets, path_has_zero-octets, length-even, length-least}
 use Rattle.bgp_attr.proofs.OnceLemmas.{each_once-same}
 use Rattle.bgp_attr.proofs.RouteRows.{afi_number, reach-family, reach-hop_length, reach-long, reach-longer, reach-good, reach4-value, reach6-value, reach_row-spells, unreach-family, unreach-long, unreach-good, unreach4-value, unreach6-value, unreach_row-spells}
-use Rattle.bgp_attr.proofs.TestRows.{NoneApplies, pass, pass_fault, row_at, row-at, row-other, keeps, Writes, writable-Writes}
+use Rattle.bgp_attr.proofs.TestRows.{NoneApplies, pass, pass_fault, row_at, row-at, row-other, keeps, writable-Writes}
 
 -- ---- one whole attribute
 
@@ -83,7 +75,7 @@ module _ (ctx : Context) (has_nlri : Bool) where
   abbrev ThisKept : Attr → Type 0
   ThisKept a = judgement ctx has_nlri (written_tlv ctx a) ≡ judged.Keep a
 
-  this-kept : (a : Attr) → (let type : AttributeType = row_at ctx has_nlri (written_tlv ctx a) (type_of a) in type.value ≡ a → NoneApplies type.tests → ThisKept a)
+  pub this-kept : (a : Attr) → (let type : AttributeType = row_at ctx has_nlri (written_tlv ctx a) (type_of a) in type.value ≡ a → NoneApplies type.tests → ThisKept a)
   this-kept a value none = keeps ctx has_nlri (written_tlv ctx a) _ a (row-at ctx has_nlri (written_tlv ctx a) (type_of a) refl) value none
 
   origin-back : (o : Origin) → origin_of (origin_code o ∷ []) ≡ o
@@ -105,20 +97,6 @@ module _ (ctx : Context) (has_nlri : Bool) where
   kept-next_hop addr four given =
       this-kept (attr.NextHop addr) refl
       (pass _ _ (ap not given), (pass _ _ (flags-right WellKnown false (ltb 255 (length addr))), (pass _ _ (is_long 4 addr four), tt)))
-
-  pub kept-med : (n : ℕ) → IsFourOctets n → ThisKept (attr.Med n)
-  kept-med n small =
-      this-kept (attr.Med n) (ap (λ (x : ℕ). attr.Med x) (from_be_bytes-to_be_bytes_4 n small))
-      (refl, (refl, tt))
-
-  pub kept-local_pref : (n : ℕ) → IsFourOctets n → ctx.internal ≡ true → ThisKept (attr.LocalPref n)
-  kept-local_pref n small internal =
-      this-kept (attr.LocalPref n) (ap (λ (x : ℕ). attr.LocalPref x) (from_be_bytes-to_be_bytes_4 n small))
-      (pass _ _ (ap not internal), (refl, (refl, tt)))
-
-  pub kept-atomic : ThisKept attr.Atomic
-  kept-atomic =
-      this-kept attr.Atomic refl (refl, (refl, tt))
 
   -- an AS number and an address
   module _ (wide : Bool) (a : Aggregator) (small : Fits wide (a.asn).0) (nonzero : eqb (a.asn).0 0 ≡ false) (four : length a.addr ≡ 4) (kind : ℕ) where
@@ -305,51 +283,3 @@ module _ (ctx : Context) (has_nlri : Bool) where
       let s : IsUnreach IPV6 16 routes (unreach_row IPV6 routes) = unreach_row-spells family.Ip6 16 routes valid in
       kept-unreach (unreach.Ip6 routes) (unreach-passes family.Ip6 routes (written_tlv ctx (attr.MpUnreach (unreach.Ip6 routes)))
       (flags-right OptionalNonTransitive false (ltb 255 (length (unreach_row IPV6 routes)))) s used) (unreach6-value routes (unreach_row IPV6 routes) s)
-
--- ---- every attribute
-
-not_both : (b x : Bool) → (not b && x) ≡ false → b ≡ false → x ≡ false
-not_both true x e is = absurd (true≢false is)
-not_both false x e is = e
-
-fits_where : (b : Bool) (n : ℕ) → IsFourOctets n → (not b && ltb 65535 n) ≡ false → Fits b n
-fits_where true n small e = small
-fits_where false n small e = let low : n ≤ 65535 = ltb-false 65535 n e in omega arith
-
-not_as4 : (b : Bool) → (b && true) ≡ false → b ≡ false
-not_as4 b e = sym (at b) ∙ e
-  where
-    at : (b : Bool) → (b && true) ≡ b
-    at true = refl
-    at false = refl
-
-some_from : {A : Type 0} (xs : List A) → eqb (length xs) 0 ≡ false → 0 < length xs
-some_from xs e = omega (arith, eqb-false (length xs) 0 e)
-
-link-has : (link : Option (List ℕ)) → HasLinkRange link → HasLink link
-link-has None range = record { wide = tt }
-link-has (Some addr) range = record { wide = range.wide }
-
-kept : (ctx : Context) (has_nlri : Bool) (a : Attr) → HasRanges a → Writes ctx a → Belongs ctx has_nlri a → judgement ctx has_nlri (written_tlv ctx a) ≡ judged.Keep a
-kept ctx has_nlri (attr.Origin o) r w in_place = kept-origin ctx has_nlri o
-kept ctx has_nlri (attr.AsPath p) r w in_place =
-    kept-as_path ctx has_nlri p (record { ranges = r; low = not_both ctx.as4 (any_number is_above_two_octets p) w.narrow; good = w.some; nonzero = w.nonzero })
-kept ctx has_nlri (attr.NextHop addr) r w in_place = kept-next_hop ctx has_nlri addr r.wide in_place
-kept ctx has_nlri (attr.Med n) r w in_place = kept-med ctx has_nlri n r
-kept ctx has_nlri (attr.LocalPref n) r w in_place = kept-local_pref ctx has_nlri n r in_place
-kept ctx has_nlri attr.Atomic r w in_place = kept-atomic ctx has_nlri
-kept ctx has_nlri (attr.Aggregator a) r w in_place = kept-aggregator ctx has_nlri a (fits_where ctx.as4 (a.asn).0 r.0 w.narrow) w.nonzero (r.1).wide
-kept ctx has_nlri (attr.Communities c) r w in_place = kept-communities ctx has_nlri c r (some_from c.values w.some)
-kept ctx has_nlri (attr.MpReach (reach.Ip4 hop routes)) r w in_place = kept-reach4 ctx has_nlri hop routes (r.0).wide r.1 in_place
-kept ctx has_nlri (attr.MpReach (reach.Ip6 hop link routes)) r w in_place = kept-reach6 ctx has_nlri hop link routes (r.0).wide (link-has link r.1) r.2 in_place
-kept ctx has_nlri (attr.MpUnreach (unreach.Ip4 routes)) r w in_place = kept-unreach4 ctx has_nlri routes r in_place
-kept ctx has_nlri (attr.MpUnreach (unreach.Ip6 routes)) r w in_place = kept-unreach6 ctx has_nlri routes r in_place
-kept ctx has_nlri (attr.As4Path p) r w in_place =
-    let some = or_parts (eqb (length (p.path).segments) 0) (list_any is_bad_segment (p.path).segments) w.some in
-    kept-as4_path ctx has_nlri p (not_as4 ctx.as4 w.allowed) (record { ranges = r; low = λ e. absurd (true≢false e); good = some.1; nonzero = w.nonzero }) (some_from (p.path).segments some.0)
-kept ctx has_nlri (attr.As4Aggregator a) r w in_place = kept-as4_aggregator ctx has_nlri a (not_as4 ctx.as4 w.allowed) r.0 w.nonzero (r.1).wide
-kept ctx has_nlri (attr.Large l) r w in_place = kept-large ctx has_nlri l r (some_from l.values w.some) w.once
-kept ctx has_nlri (attr.Opaque o) r w in_place = kept-opaque ctx has_nlri o w.named
-
-pub written-kept : (ctx : Context) (has_nlri : Bool) (a : Attr) → HasRanges a → is_writable ctx a ≡ true → Belongs ctx has_nlri a → judgement ctx has_nlri (written_tlv ctx a) ≡ judged.Keep a
-written-kept ctx has_nlri a r e in_place = kept ctx has_nlri a r (writable-Writes ctx a e) in_place

@@ -1,18 +1,14 @@
 -- Attributes, numbers, triples and segments are read as they are spelled.
 use Rattle.std.proofs.Common.{◌≡◌, ℕ, ◌<◌, Bool, true, false, cond, List, [], ◌∷◌, ◌++◌, length, take, drop, Option, Some, None, refl, sym, ap, subst, ◌∙◌, append_assoc, arith}
 use Rattle.std.specs.Int.{w16, w32, from_be_bytes}
-use Rattle.bgp_wire.specs.Reader.{Reads}
+use Rattle.bgp_wire.specs.Prelude.{Reads, ◌>>=◌, first_octets, behind_count}
 use Rattle.std.proofs.lemmas.List.{length-append, take_at, drop_at, drop-drop}
 use Rattle.std.proofs.Math.Seq.{take-length}
-use Rattle.bgp_wire.specs.Then.{◌>>=◌}
-use Rattle.bgp_wire.specs.Behind.{first_octets, behind_count}
 use Rattle.bgp_wire.proofs.Firsts.{both_steps, first_octets-at, first_octets-gives}
 use Rattle.bgp_wire.proofs.Pieces.{found_same, found_not}
 use Rattle.bgp_wire.proofs.Behinds.{BehindCount-reads}
 use Rattle.bgp_attr.specs.declared.path_form.PathForm.{PathForm}
-use Rattle.bgp_attr.specs.Tlv.{TlvValue, length_width, number_of_length, IsTlv, one_tlv}
-use Rattle.bgp_attr.specs.Numbers.{number_width, number_in, IsNumber, one_number, IsTriple, one_triple}
-use Rattle.bgp_attr.specs.Path.{WireSegment, is_known, IsSegment, segment_of, one_segment}
+use Rattle.bgp_attr.specs.Prelude.{TlvValue, length_width, number_of_length, IsTlv, one_tlv, number_width, number_in, IsNumber, one_number, IsTriple, one_triple, WireSegment, is_known, IsSegment, segment_of, one_segment}
 
 -- ---- numbers
 

@@ -1,45 +1,35 @@
 -- An attribute that is kept can be written where it was read, in no more octets.
-use Rattle.std.proofs.Common.{◌≡◌, ℕ, suc, ◌+◌, ◌^◌, ◌<◌, ◌≤◌, Bool, true, false, not, ◌&&◌, cond, eqb, ltb, List, [], ◌∷◌, ◌++◌, length, take, drop, Option, Some, None, refl, sym, ap, subst, ◌∙◌, arith}
+use Rattle.std.proofs.Common.{◌≡◌, ℕ, suc, ◌+◌, ◌^◌, ◌<◌, ◌≤◌, Bool, true, false, not, ◌&&◌, ◌||◌, cond, eqb, ltb, List, [], ◌∷◌, ◌++◌, length, take, drop, Option, Some, None, refl, sym, ap, subst, ◌∙◌, arith}
 use Rattle.std.specs.List.{flat_map, AllByRecursion}
 use Rattle.std.specs.Int.{w16, to_be_bytes, from_be_bytes}
-use Rattle.std.proofs.lemmas.Bool.{eqb-true, ne_eqb, ltb-true, le-ltb, not-false, or_from, and_left, and_right}
+use Rattle.std.proofs.lemmas.Bool.{eqb-true, ne_eqb, ltb-true, le-ltb, not-false, or_from, or_parts, and_left, and_right}
 use Rattle.std.proofs.lemmas.List.{length-append, length-drop}
 use Rattle.bgp_numbers.specs.declared.attribute.TheConstants.{COMMUNITIES, MP_REACH_NLRI, MP_UNREACH_NLRI, LARGE_COMMUNITY}
 use Rattle.bgp_open.specs.declared.context.Context.{Context}
-use Rattle.bgp_wire.specs.Octets.{AreOctets}
+use Rattle.bgp_wire.specs.Prelude.{AreOctets}
 use Rattle.bgp_wire.proofs.OctetLemmas.{AreOctets-front, AreOctets-back, AreOctets-take, AreOctets-drop}
 use Rattle.bgp_attr.specs.declared.attr.Attr.{Attr}
-use Rattle.bgp_attr.specs.declared.attr.Attr.TheVariants as attr
 use Rattle.bgp_attr.specs.declared.class.Class.{Class}
+use Rattle.bgp_attr.specs.declared.mp.MpReach.{MpReach}
+use Rattle.bgp_attr.specs.declared.mp.MpUnreach.{MpUnreach}
+use Rattle.bgp_attr.specs.Prelude.{is_extended, flags_octet, TlvValue, number_of_length, IsTlv, number_width, number_in, number_octets, numbers_of, triples_of, each_once, triple_octets, path_of, family_of, is_in_use, mp_reach_of, mp_unreach_of, origin_of, as_path_form, as4_path_form, four_of, aggregator_of, communities_of, large_of, as4_path_of, opaque_of, origin_tests, as_path_tests, next_hop_tests, four_tests, aggregator_tests, communities_tests, mp_reach_tests, mp_unreach_tests, as4_path_tests, as4_aggregator_tests, large_tests, is_recognised, link_octets, HasLink, IsReachValue, IsUnreachValue, made, value_octets, class_of, partial_of, type_of, aggregator_octets, is_too_wide, is_as4, is_empty, is_misnamed, has_as_zero, stands_twice, is_too_long, Belongs, IsThreeNumbers, IsAddress, HasLinkRange, HasRanges, CanBeWritten}
+use Rattle.bgp_attr.specs.declared.attr.Attr.TheVariants as attr
 use Rattle.bgp_attr.specs.declared.family.Family.TheVariants as family
 use Rattle.bgp_attr.specs.declared.judged.Judged.TheVariants as judged
-use Rattle.bgp_attr.specs.declared.mp.MpReach.{MpReach}
 use Rattle.bgp_attr.specs.declared.mp.MpReach.TheVariants as reach
-use Rattle.bgp_attr.specs.declared.mp.MpUnreach.{MpUnreach}
 use Rattle.bgp_attr.specs.declared.mp.MpUnreach.TheVariants as unreach
-use Rattle.bgp_attr.specs.Flags.{is_extended, flags_octet}
-use Rattle.bgp_attr.specs.Tlv.{TlvValue, number_of_length, IsTlv}
-use Rattle.bgp_attr.specs.Numbers.{number_width, number_in, number_octets, numbers_of, triples_of, each_once, triple_octets}
-use Rattle.bgp_attr.specs.Path.{path_of}
-use Rattle.bgp_attr.specs.Mp.{family_of, is_in_use, mp_reach_of, mp_unreach_of}
-use Rattle.bgp_attr.specs.Value.{origin_of, as_path_form, as4_path_form, four_of, aggregator_of, communities_of, large_of, as4_path_of, opaque_of}
-use Rattle.bgp_attr.specs.Judgement.{origin_tests, as_path_tests, next_hop_tests, med_tests, local_pref_tests, aggregator_tests, communities_tests, mp_reach_tests, mp_unreach_tests, as4_path_tests, as4_aggregator_tests, large_tests, is_recognised, judgement}
-use Rattle.bgp_attr.specs.Spelling.{link_octets, HasLink, IsReachValue, IsUnreachValue}
-use Rattle.bgp_attr.specs.Written.{made, value_octets, class_of, partial_of, type_of, aggregator_octets, is_too_wide, is_as4, is_empty, is_misnamed, has_as_zero, stands_twice, is_too_long, Belongs, IsThreeNumbers, IsAddress, HasLinkRange, HasRanges}
-use Rattle.bgp_attr.specs.Laws.{CanBeWritten}
 use Rattle.bgp_attr.proofs.FlagBits.{is_extended-flags}
 use Rattle.bgp_attr.proofs.NumberRows.{Fits, Fits-four, number_in-small, length-number_octets, length-row_octets, length-number_row, number_row-small, length-triple_row, triple_row-small, length-triples}
 use Rattle.bgp_attr.proofs.OnceLemmas.{each_once-repeats, each_once-all, each_once-shorter, each_once-some}
 use Rattle.bgp_attr.proofs.SegmentRows.{path-rewrites}
 use Rattle.bgp_attr.proofs.RouteRows.{reach-family, reach-hop_octets, reach-valid, reach-rewritten, unreach-family, unreach-valid, unreach-rewritten}
 use Rattle.bgp_attr.proofs.Kept.{communities-spells, large-spells, mp_reach-spells, mp_unreach-spells}
-use Rattle.bgp_attr.proofs.Tables.{◌&◌}
-use Rattle.bgp_attr.proofs.TestRows.{NoneApplies, passed, passed_fault, Writes-writable, by_kept}
+use Rattle.bgp_attr.proofs.TestRows.{NoneApplies, passed, passed_fault, Writes-writable}
 
 -- ---- what each value needs, but for its length field
 
 -- the attribute's value can be written, in no more octets than it had
-record Rewritten (ctx : Context) (has_nlri : Bool) (t : TlvValue) (a : Attr) : Type 0 where
+pub record Rewritten (ctx : Context) (has_nlri : Bool) (t : TlvValue) (a : Attr) : Type 0 where
   narrow : is_too_wide ctx a ≡ false
   allowed : (ctx.as4 && is_as4 a) ≡ false
   some : is_empty a ≡ false
@@ -59,54 +49,52 @@ number_narrow true n small = refl
 number_narrow false n small = le-ltb 65535 n (omega arith)
 
 module _ (ctx : Context) (has_nlri : Bool) (t : TlvValue) (octets : AreOctets t.value) where
+  rewritten : (a : Attr) → is_too_wide ctx a ≡ false → (ctx.as4 && is_as4 a) ≡ false → is_empty a ≡ false → is_misnamed a ≡ false → has_as_zero a ≡ false → stands_twice a ≡ false
+      → Belongs ctx has_nlri a → HasRanges a → length (value_octets ctx a) ≤ length t.value → Rewritten ctx has_nlri t a
+  rewritten a narrow allowed some named nonzero once in_place ranges shorter =
+      record { narrow = narrow; allowed = allowed; some = some; named = named; nonzero = nonzero; once = once; in_place = in_place; ranges = ranges; shorter = shorter }
+
   none_as4 : (ctx.as4 && false) ≡ false
   none_as4 = and_right ctx.as4 false refl
 
-  origin-rewritten : NoneApplies (origin_tests t) → Rewritten ctx has_nlri t (attr.Origin (origin_of t.value))
-  origin-rewritten none =
-      let long : length t.value ≡ 1 = eqb-true (length t.value) 1 (not-false _ (passed _ _ none.1.0)) in
-      record { narrow = refl; allowed = none_as4; some = refl; named = refl; nonzero = refl; once = refl; in_place = tt; ranges = tt; shorter = omega arith }
+  -- an attribute that no reason but a place or a range can keep from being written
+  abbrev IsPlain : Attr → Type 0
+  IsPlain a = (is_as4 a || (is_too_wide ctx a || (is_empty a || (is_misnamed a || (has_as_zero a || stands_twice a))))) ≡ false
 
-  as_path-rewritten : NoneApplies (as_path_tests ctx t) → Rewritten ctx has_nlri t (attr.AsPath (path_of (as_path_form ctx) t.value))
+  pub plain : (a : Attr) → IsPlain a → Belongs ctx has_nlri a → HasRanges a → length (value_octets ctx a) ≤ length t.value → Rewritten ctx has_nlri t a
+  plain a quiet in_place ranges shorter =
+      let p = or_parts (is_as4 a) _ quiet in
+      let q = or_parts (is_too_wide ctx a) _ p.1 in
+      let r = or_parts (is_empty a) _ q.1 in
+      let s = or_parts (is_misnamed a) _ r.1 in
+      let u = or_parts (has_as_zero a) (stands_twice a) s.1 in
+      rewritten a q.0 (and_right ctx.as4 (is_as4 a) p.0) r.0 s.0 u.0 u.1 in_place ranges shorter
+
+  as_long : (n : ℕ) → not (eqb (length t.value) n) ≡ false → length t.value ≡ n
+  as_long n e = eqb-true (length t.value) n (not-false _ e)
+
+  pub origin-rewritten : NoneApplies (origin_tests t) → Rewritten ctx has_nlri t (attr.Origin (origin_of t.value))
+  origin-rewritten none = let long : length t.value ≡ 1 = as_long 1 (passed _ _ none.1.0) in plain (attr.Origin (origin_of t.value)) refl tt tt (omega arith)
+
+  pub as_path-rewritten : NoneApplies (as_path_tests ctx t) → Rewritten ctx has_nlri t (attr.AsPath (path_of (as_path_form ctx) t.value))
   as_path-rewritten none =
       let r = path-rewrites (as_path_form ctx) t.value octets (passed_fault (λ fault. judged.Withdraw fault) _ none.1.0) (passed _ _ none.1.1.0) in
-      record { narrow = narrow_where ctx.as4 _ r.low; allowed = none_as4; some = r.good; named = refl; nonzero = r.nonzero; once = refl; in_place = tt; ranges = r.ranges; shorter = r.shorter }
+      rewritten (attr.AsPath (path_of (as_path_form ctx) t.value)) (narrow_where ctx.as4 _ r.low) none_as4 r.good refl r.nonzero refl tt r.ranges r.shorter
 
-  next_hop-rewritten : NoneApplies (next_hop_tests has_nlri t) → Rewritten ctx has_nlri t (attr.NextHop t.value)
-  next_hop-rewritten none = record {
-    narrow = refl;
-    allowed = none_as4;
-    some = refl;
-    named = refl;
-    nonzero = refl;
-    once = refl;
-    in_place = not-false _ (passed _ _ none.0);
-    ranges = record { wide = eqb-true (length t.value) 4 (not-false _ (passed _ _ none.1.1.0)); octets = octets };
-    shorter = omega arith;
-  }
+  pub next_hop-rewritten : NoneApplies (next_hop_tests has_nlri t) → Rewritten ctx has_nlri t (attr.NextHop t.value)
+  next_hop-rewritten none =
+      plain (attr.NextHop t.value) refl (not-false _ (passed _ _ none.0)) (record { wide = as_long 4 (passed _ _ none.1.1.0); octets = octets }) (omega arith)
 
-  med-rewritten : NoneApplies (med_tests t) → Rewritten ctx has_nlri t (attr.Med (four_of t.value))
-  med-rewritten none =
-      let long : length t.value ≡ 4 = eqb-true (length t.value) 4 (not-false _ (passed _ _ none.1.0)) in
-      record { narrow = refl; allowed = none_as4; some = refl; named = refl; nonzero = refl; once = refl; in_place = tt; ranges = number_in-small true t.value octets; shorter = omega arith }
+  -- a number of four octets, where it has a place
+  pub four-rewritten : (class : Class) (as_attr : ℕ → Attr) → IsPlain (as_attr (four_of t.value)) → length (value_octets ctx (as_attr (four_of t.value))) ≡ 4
+      → (four_of t.value < 2 ^ 32 → HasRanges (as_attr (four_of t.value))) → Belongs ctx has_nlri (as_attr (four_of t.value)) → NoneApplies (four_tests class t)
+      → Rewritten ctx has_nlri t (as_attr (four_of t.value))
+  four-rewritten class as_attr quiet four small in_place none =
+      let long : length t.value ≡ 4 = as_long 4 (passed _ _ none.1.0) in
+      plain (as_attr (four_of t.value)) quiet in_place (small (number_in-small true t.value octets)) (omega (arith, four, long))
 
-  local_pref-rewritten : NoneApplies (local_pref_tests ctx t) → Rewritten ctx has_nlri t (attr.LocalPref (four_of t.value))
-  local_pref-rewritten none =
-      let long : length t.value ≡ 4 = eqb-true (length t.value) 4 (not-false _ (passed _ _ none.1.1.0)) in
-      record {
-        narrow = refl;
-        allowed = none_as4;
-        some = refl;
-        named = refl;
-        nonzero = refl;
-        once = refl;
-        in_place = not-false _ (passed _ _ none.0);
-        ranges = number_in-small true t.value octets;
-        shorter = omega arith;
-      }
-
-  atomic-rewritten : Rewritten ctx has_nlri t attr.Atomic
-  atomic-rewritten = record { narrow = refl; allowed = none_as4; some = refl; named = refl; nonzero = refl; once = refl; in_place = tt; ranges = tt; shorter = omega arith }
+  pub atomic-rewritten : Rewritten ctx has_nlri t attr.Atomic
+  atomic-rewritten = plain attr.Atomic refl tt tt (omega arith)
 
   -- the AS number and the address of an aggregator
   module _ (wide : Bool) (none : NoneApplies (aggregator_tests wide t)) where
@@ -120,7 +108,7 @@ module _ (ctx : Context) (has_nlri : Bool) (t : TlvValue) (octets : AreOctets t.
     asn_nonzero = passed _ _ none.1.1.0
 
     long_is : length t.value ≡ number_width wide + 4
-    long_is = eqb-true (length t.value) (number_width wide + 4) (not-false _ (passed _ _ none.1.0))
+    long_is = as_long (number_width wide + 4) (passed _ _ none.1.0)
 
     address : IsAddress 4 (drop (number_width wide) t.value)
     address = record { wide = omega (arith, length-drop (number_width wide) t.value, long_is); octets = AreOctets-drop (number_width wide) t.value octets }
@@ -129,83 +117,41 @@ module _ (ctx : Context) (has_nlri : Bool) (t : TlvValue) (octets : AreOctets t.
     as_short =
         omega (arith, length-append (number_octets wide asn) (drop (number_width wide) t.value), length-number_octets wide asn, length-drop (number_width wide) t.value, long_is)
 
-  aggregator-rewritten : NoneApplies (aggregator_tests ctx.as4 t) → Rewritten ctx has_nlri t (attr.Aggregator (aggregator_of ctx.as4 t))
-  aggregator-rewritten none = record {
-    narrow = number_narrow ctx.as4 (asn ctx.as4 none) (asn_fits ctx.as4 none);
-    allowed = none_as4;
-    some = refl;
-    named = refl;
-    nonzero = asn_nonzero ctx.as4 none;
-    once = refl;
-    in_place = tt;
-    ranges = (Fits-four ctx.as4 (asn ctx.as4 none) (asn_fits ctx.as4 none), address ctx.as4 none);
-    shorter = as_short ctx.as4 none;
-  }
+  pub aggregator-rewritten : NoneApplies (aggregator_tests ctx.as4 t) → Rewritten ctx has_nlri t (attr.Aggregator (aggregator_of ctx.as4 t))
+  aggregator-rewritten none =
+      let fits = asn_fits ctx.as4 none in
+      rewritten (attr.Aggregator (aggregator_of ctx.as4 t)) (number_narrow ctx.as4 (asn ctx.as4 none) fits) none_as4 refl refl (asn_nonzero ctx.as4 none) refl tt
+      (Fits-four ctx.as4 (asn ctx.as4 none) fits, address ctx.as4 none) (as_short ctx.as4 none)
 
-  as4_aggregator-rewritten : NoneApplies (as4_aggregator_tests ctx t) → Rewritten ctx has_nlri t (attr.As4Aggregator (aggregator_of true t))
-  as4_aggregator-rewritten none = record {
-    narrow = refl;
-    allowed = and_left ctx.as4 true (passed _ _ none.0);
-    some = refl;
-    named = refl;
-    nonzero = asn_nonzero true none.1;
-    once = refl;
-    in_place = tt;
-    ranges = (asn_fits true none.1, address true none.1);
-    shorter = as_short true none.1;
-  }
+  pub as4_aggregator-rewritten : NoneApplies (as4_aggregator_tests ctx t) → Rewritten ctx has_nlri t (attr.As4Aggregator (aggregator_of true t))
+  as4_aggregator-rewritten none =
+      rewritten (attr.As4Aggregator (aggregator_of true t)) refl (and_left ctx.as4 true (passed _ _ none.0)) refl refl (asn_nonzero true none.1) refl tt
+      (asn_fits true none.1, address true none.1) (as_short true none.1)
 
-  communities-rewritten : t.kind ≡ COMMUNITIES → NoneApplies (communities_tests t) → Rewritten ctx has_nlri t (attr.Communities (communities_of t))
+  pub communities-rewritten : t.kind ≡ COMMUNITIES → NoneApplies (communities_tests t) → Rewritten ctx has_nlri t (attr.Communities (communities_of t))
   communities-rewritten e none =
       let s = communities-spells ctx t e none in
       let some : 0 < length (numbers_of true t.value) = s.some in
-      record {
-        narrow = refl;
-        allowed = none_as4;
-        some = ne_eqb (length (numbers_of true t.value)) 0 (λ (e : length (numbers_of true t.value) ≡ 0). absurd (omega arith));
-        named = refl;
-        nonzero = refl;
-        once = refl;
-        in_place = tt;
-        ranges = number_row-small true (numbers_of true t.value) t.value octets s.row;
-        shorter = omega (arith, length-row_octets true (numbers_of true t.value), length-number_row true (numbers_of true t.value) t.value s.row);
-      }
+      rewritten (attr.Communities (communities_of t)) refl none_as4 (ne_eqb (length (numbers_of true t.value)) 0 (λ (e : length (numbers_of true t.value) ≡ 0). absurd (omega arith)))
+      refl refl refl tt (number_row-small true (numbers_of true t.value) t.value octets s.row)
+      (omega (arith, length-row_octets true (numbers_of true t.value), length-number_row true (numbers_of true t.value) t.value s.row))
 
-  large-rewritten : t.kind ≡ LARGE_COMMUNITY → NoneApplies (large_tests t) → Rewritten ctx has_nlri t (attr.Large (large_of t))
+  pub large-rewritten : t.kind ≡ LARGE_COMMUNITY → NoneApplies (large_tests t) → Rewritten ctx has_nlri t (attr.Large (large_of t))
   large-rewritten e none =
       let s = large-spells ctx t e none in
-      let small = triple_row-small s.triples t.value octets s.row in
+      let all = each_once-all IsThreeNumbers s.triples (triple_row-small s.triples t.value octets s.row) in
       let some : 0 < length (each_once (triples_of t.value)) = subst (λ (xs : List (List ℕ)). 0 < length xs) (sym s.values) (each_once-some s.triples s.some) in
-      record {
-        narrow = refl;
-        allowed = none_as4;
-        some = ne_eqb (length (each_once (triples_of t.value))) 0 (λ (e : length (each_once (triples_of t.value)) ≡ 0). absurd (omega arith));
-        named = refl;
-        nonzero = refl;
-        once = each_once-repeats (triples_of t.value);
-        in_place = tt;
-        ranges = subst (λ (xs : List (List ℕ)). AllByRecursion IsThreeNumbers xs) (sym s.values) (each_once-all IsThreeNumbers s.triples small);
-        shorter = omega (arith, ap (λ (xs : List (List ℕ)). length (flat_map triple_octets xs)) s.values, length-triples (each_once s.triples) (each_once-all IsThreeNumbers s.triples small), each_once-shorter s.triples, length-triple_row s.triples t.value s.row);
-      }
+      rewritten (attr.Large (large_of t)) refl none_as4 (ne_eqb (length (each_once (triples_of t.value))) 0 (λ (e : length (each_once (triples_of t.value)) ≡ 0). absurd (omega arith)))
+      refl refl (each_once-repeats (triples_of t.value)) tt (subst (λ (xs : List (List ℕ)). AllByRecursion IsThreeNumbers xs) (sym s.values) all)
+      (omega (arith, ap (λ (xs : List (List ℕ)). length (flat_map triple_octets xs)) s.values, length-triples (each_once s.triples) all, each_once-shorter s.triples, length-triple_row s.triples t.value s.row))
 
-  as4_path-rewritten : NoneApplies (as4_path_tests ctx t) → Rewritten ctx has_nlri t (attr.As4Path (as4_path_of t))
+  pub as4_path-rewritten : NoneApplies (as4_path_tests ctx t) → Rewritten ctx has_nlri t (attr.As4Path (as4_path_of t))
   as4_path-rewritten none =
       let r = path-rewrites as4_path_form t.value octets (passed_fault (λ fault. judged.Discard fault) _ none.1.1.1.0) (passed _ _ none.1.1.1.1.0) in
-      record {
-        narrow = refl;
-        allowed = and_left ctx.as4 true (passed _ _ none.0);
-        some = or_from _ _ (passed _ _ none.1.1.1.1.1.0) r.good;
-        named = refl;
-        nonzero = r.nonzero;
-        once = refl;
-        in_place = tt;
-        ranges = r.ranges;
-        shorter = r.shorter;
-      }
+      rewritten (attr.As4Path (as4_path_of t)) refl (and_left ctx.as4 true (passed _ _ none.0)) (or_from _ _ (passed _ _ none.1.1.1.1.1.0) r.good) refl r.nonzero refl tt r.ranges r.shorter
 
-  other-rewritten : is_recognised t.kind ≡ false → t.kind < 256 → Rewritten ctx has_nlri t (attr.Opaque (opaque_of t))
-  other-rewritten e small =
-      record { narrow = refl; allowed = none_as4; some = refl; named = e; nonzero = refl; once = refl; in_place = tt; ranges = (small, octets); shorter = omega arith }
+  pub other-rewritten : is_recognised t.kind ≡ false → t.kind < 256 → Rewritten ctx has_nlri t (attr.Opaque (opaque_of t))
+  other-rewritten e small = rewritten (attr.Opaque (opaque_of t)) refl none_as4 refl e refl refl tt (small, octets) (omega arith)
 
   -- ---- routes
 
@@ -214,70 +160,29 @@ module _ (ctx : Context) (has_nlri : Bool) (t : TlvValue) (octets : AreOctets t.
   link_range hop (Some addr) has both = record { wide = has.wide; octets = AreOctets-back hop addr both }
 
   reach-rewrites : (r : MpReach) → IsReachValue r t.value → is_in_use ctx (family_of t.value) ≡ true → Rewritten ctx has_nlri t (attr.MpReach r)
-  reach-rewrites (reach.Ip4 hop routes) s used = record {
-    narrow = refl;
-    allowed = none_as4;
-    some = refl;
-    named = refl;
-    nonzero = refl;
-    once = refl;
-    in_place = ap (is_in_use ctx) (sym (reach-family family.Ip4 4 hop routes t.value s.1)) ∙ used;
-    ranges = (record { wide = s.0; octets = reach-hop_octets family.Ip4 4 hop routes t.value octets s.1 }, reach-valid family.Ip4 4 hop routes t.value octets s.1);
-    shorter = omega (arith, reach-rewritten family.Ip4 4 hop routes t.value octets s.1);
-  }
+  reach-rewrites (reach.Ip4 hop routes) s used =
+      plain (attr.MpReach (reach.Ip4 hop routes)) refl (ap (is_in_use ctx) (sym (reach-family family.Ip4 4 hop routes t.value s.1)) ∙ used)
+      (record { wide = s.0; octets = reach-hop_octets family.Ip4 4 hop routes t.value octets s.1 }, reach-valid family.Ip4 4 hop routes t.value octets s.1)
+      (omega (arith, reach-rewritten family.Ip4 4 hop routes t.value octets s.1))
   reach-rewrites (reach.Ip6 hop link routes) s used =
       let both : AreOctets (hop ++ link_octets link) = reach-hop_octets family.Ip6 16 (hop ++ link_octets link) routes t.value octets s.2 in
-      record {
-        narrow = refl;
-        allowed = none_as4;
-        some = refl;
-        named = refl;
-        nonzero = refl;
-        once = refl;
-        in_place = ap (is_in_use ctx) (sym (reach-family family.Ip6 16 (hop ++ link_octets link) routes t.value s.2)) ∙ used;
-        ranges = (record { wide = s.0; octets = AreOctets-front hop (link_octets link) both }, link_range hop link s.1 both, reach-valid family.Ip6 16 (hop ++ link_octets link) routes t.value octets s.2);
-        shorter = omega (arith, reach-rewritten family.Ip6 16 (hop ++ link_octets link) routes t.value octets s.2);
-      }
+      plain (attr.MpReach (reach.Ip6 hop link routes)) refl (ap (is_in_use ctx) (sym (reach-family family.Ip6 16 (hop ++ link_octets link) routes t.value s.2)) ∙ used)
+      (record { wide = s.0; octets = AreOctets-front hop (link_octets link) both }, link_range hop link s.1 both, reach-valid family.Ip6 16 (hop ++ link_octets link) routes t.value octets s.2)
+      (omega (arith, reach-rewritten family.Ip6 16 (hop ++ link_octets link) routes t.value octets s.2))
 
   unreach-rewrites : (r : MpUnreach) → IsUnreachValue r t.value → is_in_use ctx (family_of t.value) ≡ true → Rewritten ctx has_nlri t (attr.MpUnreach r)
-  unreach-rewrites (unreach.Ip4 routes) s used = record {
-    narrow = refl;
-    allowed = none_as4;
-    some = refl;
-    named = refl;
-    nonzero = refl;
-    once = refl;
-    in_place = ap (is_in_use ctx) (sym (unreach-family family.Ip4 4 routes t.value s)) ∙ used;
-    ranges = unreach-valid family.Ip4 4 routes t.value octets s;
-    shorter = omega (arith, unreach-rewritten family.Ip4 4 routes t.value octets s);
-  }
-  unreach-rewrites (unreach.Ip6 routes) s used = record {
-    narrow = refl;
-    allowed = none_as4;
-    some = refl;
-    named = refl;
-    nonzero = refl;
-    once = refl;
-    in_place = ap (is_in_use ctx) (sym (unreach-family family.Ip6 16 routes t.value s)) ∙ used;
-    ranges = unreach-valid family.Ip6 16 routes t.value octets s;
-    shorter = omega (arith, unreach-rewritten family.Ip6 16 routes t.value octets s);
-  }
+  unreach-rewrites (unreach.Ip4 routes) s used =
+      plain (attr.MpUnreach (unreach.Ip4 routes)) refl (ap (is_in_use ctx) (sym (unreach-family family.Ip4 4 routes t.value s)) ∙ used)
+      (unreach-valid family.Ip4 4 routes t.value octets s) (omega (arith, unreach-rewritten family.Ip4 4 routes t.value octets s))
+  unreach-rewrites (unreach.Ip6 routes) s used =
+      plain (attr.MpUnreach (unreach.Ip6 routes)) refl (ap (is_in_use ctx) (sym (unreach-family family.Ip6 16 routes t.value s)) ∙ used)
+      (unreach-valid family.Ip6 16 routes t.value octets s) (omega (arith, unreach-rewritten family.Ip6 16 routes t.value octets s))
 
-  mp_reach-rewritten : t.kind ≡ MP_REACH_NLRI → NoneApplies (mp_reach_tests ctx t) → Rewritten ctx has_nlri t (attr.MpReach (mp_reach_of t.value))
+  pub mp_reach-rewritten : t.kind ≡ MP_REACH_NLRI → NoneApplies (mp_reach_tests ctx t) → Rewritten ctx has_nlri t (attr.MpReach (mp_reach_of t.value))
   mp_reach-rewritten e none = reach-rewrites (mp_reach_of t.value) (mp_reach-spells ctx t octets e none).value (not-false _ (passed _ _ none.1.1.0))
 
-  mp_unreach-rewritten : t.kind ≡ MP_UNREACH_NLRI → NoneApplies (mp_unreach_tests ctx t) → Rewritten ctx has_nlri t (attr.MpUnreach (mp_unreach_of t.value))
+  pub mp_unreach-rewritten : t.kind ≡ MP_UNREACH_NLRI → NoneApplies (mp_unreach_tests ctx t) → Rewritten ctx has_nlri t (attr.MpUnreach (mp_unreach_of t.value))
   mp_unreach-rewritten e none = unreach-rewrites (mp_unreach_of t.value) (mp_unreach-spells ctx t octets e none).value (not-false _ (passed _ _ none.1.1.0))
-
-  -- ---- every type
-
-  kept-rewrites : (a : Attr) → judgement ctx has_nlri t ≡ judged.Keep a → t.kind < 256 → Rewritten ctx has_nlri t a
-  kept-rewrites a keeps small =
-      by_kept ctx has_nlri t (Rewritten ctx has_nlri t)
-      ((λ e none. origin-rewritten none) & (λ e none. as_path-rewritten none) & (λ e none. next_hop-rewritten none) & (λ e none. med-rewritten none)
-      & (λ e none. local_pref-rewritten none) & (λ e none. atomic-rewritten) & (λ e none. aggregator-rewritten none) & communities-rewritten
-      & mp_reach-rewritten & mp_unreach-rewritten & (λ e none. as4_path-rewritten none) & (λ e none. as4_aggregator-rewritten none) & large-rewritten & tt)
-      (λ e none. other-rewritten e small) a keeps
 
 -- ---- the length field
 
@@ -313,13 +218,10 @@ length-made class partial kind value =
     ap (λ (b : Bool). suc (suc (length (cond b (to_be_bytes w16 (length value)) (length value ∷ []) ++ value)))) extended
     ∙ ap (λ (n : ℕ). suc (suc n)) (length-append (cond (ltb 255 (length value)) (to_be_bytes w16 (length value)) (length value ∷ [])) value)
 
-pub kept-rewritten : (ctx : Context) (has_nlri : Bool) (t : TlvValue) (a : Attr) (b : List ℕ) → IsTlv t b → AreOctets b → judgement ctx has_nlri t ≡ judged.Keep a → CanBeWritten ctx has_nlri a b
-kept-rewritten ctx has_nlri t a b s octets keeps =
-    let all : AreOctets (t.flags ∷ t.kind ∷ (s.size ++ t.value)) = subst AreOctets s.octets octets in
-    let behind : AreOctets (s.size ++ t.value) = λ i. all (suc (suc i)) in
-    let kind : t.kind < 256 = all 1 in
-    let r = kept-rewrites ctx has_nlri t (AreOctets-back s.size t.value behind) a keeps kind in
-    let h = size-holds s.size (is_extended t.flags) (AreOctets-front s.size t.value behind) s.wide in
+-- what can be written but for its length field can be written behind one
+pub rewritten-fits : (ctx : Context) (has_nlri : Bool) (t : TlvValue) (a : Attr) (b : List ℕ) (s : IsTlv t b) → AreOctets s.size → Rewritten ctx has_nlri t a → CanBeWritten ctx has_nlri a b
+rewritten-fits ctx has_nlri t a b s octets r =
+    let h = size-holds s.size (is_extended t.flags) octets s.wide in
     let low : number_of_length s.size < 2 ^ 16 = h.low in
     let shorter : length (value_octets ctx a) ≤ length t.value = r.shorter in
     let field = field-shorter s.size (length t.value) (length (value_octets ctx a)) (ltb 255 (length (value_octets ctx a))) h s.counted shorter refl in

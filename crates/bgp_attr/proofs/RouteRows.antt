@@ -7,23 +7,18 @@ use Rattle.std.proofs.lemmas.Nat.{be_bytes_2}
 use Rattle.std.proofs.lemmas.List.{length-append, length-take, length-drop, take_at, drop_at, take-append-drop, nil_from_length}
 use Rattle.bgp_numbers.specs.declared.afi.TheConstants.{IPV4, IPV6}
 use Rattle.bgp_numbers.specs.declared.safi.TheConstants.{UNICAST}
-use Rattle.bgp_prefix.specs.Prefix.{PrefixValue, IsValid, IsPrefix, one_prefix}
-use Rattle.bgp_prefix.specs.Run.{run_of}
+use Rattle.bgp_prefix.specs.Prelude.{PrefixValue, IsValid, IsPrefix, one_prefix, run_of}
 use Rattle.bgp_prefix.proofs.PrefixLemmas.{IsPrefix-reads, IsPrefix-valid}
 use Rattle.bgp_prefix.proofs.RunLemmas.{Row-prefixes}
 use Rattle.bgp_prefix.proofs.LawLemmas.{row_is_run, Row-rewritten}
-use Rattle.bgp_wire.specs.Octets.{AreOctets}
-use Rattle.bgp_wire.specs.Row.{Row}
+use Rattle.bgp_wire.specs.Prelude.{AreOctets, Row}
 use Rattle.bgp_wire.proofs.OctetLemmas.{AreOctets-front, AreOctets-back, AreOctets-drop}
 use Rattle.bgp_wire.proofs.Behinds.{Row-pieces}
 use Rattle.bgp_attr.specs.declared.family.Family.{Family}
+use Rattle.bgp_attr.specs.Prelude.{afi_of, safi_of, family_of, next_hop_length, next_hop_of, reached_of, mp_reach_of, withdrawn_of, mp_unreach_of, has_bad_prefix, IsReach, link_octets, HasLink, IsUnreach, run_octets, reach_row, unreach_row}
 use Rattle.bgp_attr.specs.declared.family.Family.TheVariants as family
 use Rattle.bgp_attr.specs.declared.mp.MpReach.TheVariants as reach
 use Rattle.bgp_attr.specs.declared.mp.MpUnreach.TheVariants as unreach
-use Rattle.bgp_attr.specs.Mp.{afi_of, safi_of, family_of, next_hop_length, next_hop_of, reached_of, mp_reach_of, withdrawn_of, mp_unreach_of}
-use Rattle.bgp_attr.specs.Judgement.{has_bad_prefix}
-use Rattle.bgp_attr.specs.Spelling.{IsReach, link_octets, HasLink, IsUnreach}
-use Rattle.bgp_attr.specs.Written.{run_octets, reach_row, unreach_row}
 
 -- ---- rows of prefixes
 

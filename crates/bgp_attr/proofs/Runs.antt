@@ -2,8 +2,8 @@
 use Rattle.std.proofs.Common.{◌≡◌, ℕ, Bool, true, false, not, eqb, List, [], ◌∷◌, length, refl, sym, ap, IsTrue}
 use Rattle.std.proofs.lemmas.Bool.{true≢false}
 use Rattle.std.proofs.Math.Dec.{eqb-suc-zero}
-use Rattle.bgp_prefix.specs.Run.{run_of}
-use Rattle.bgp_attr.specs.Judgement.{has_bad_prefix}
+use Rattle.bgp_prefix.specs.Prelude.{run_of}
+use Rattle.bgp_attr.specs.Prelude.{has_bad_prefix}
 
 rest_test : (t : Bool) (rest : List ℕ) → (IsTrue t → rest ≡ []) → (rest ≡ [] → IsTrue t) → not t ≡ not (eqb (length rest) 0)
 rest_test true rest only all = ap (λ (r : List ℕ). not (eqb (length r) 0)) (sym (only refl))

@@ -3,11 +3,9 @@ use Rattle.std.proofs.Common.{◌≡◌, ◌≢◌, ℕ, zero, suc, ◌+◌, ◌
 use Rattle.std.proofs.lemmas.Bool.{cases_lt, eq-eqb, ne_eqb, le-leb, lt-leb}
 use Rattle.std.proofs.lemmas.List.{length-take, length-drop, take-append-drop, drop-drop}
 use Rattle.std.proofs.Math.Seq.{take-append-add}
-use Rattle.bgp_wire.specs.Reader.{then_pieces, pieces_within}
-use Rattle.bgp_wire.specs.Behind.{behind_count}
+use Rattle.bgp_wire.specs.Prelude.{then_pieces, pieces_within, behind_count}
 use Rattle.bgp_attr.specs.declared.path_form.PathForm.{PathForm}
-use Rattle.bgp_attr.specs.Numbers.{number_width, number_in, one_number, numbers_of}
-use Rattle.bgp_attr.specs.Path.{WireSegment, is_known, segment_of, one_segment}
+use Rattle.bgp_attr.specs.Prelude.{number_width, number_in, one_number, numbers_of, WireSegment, is_known, segment_of, one_segment}
 use Rattle.bgp_attr.proofs.Readers.{IsNumber-reads}
 use Rattle.bgp_attr.proofs.NumberSteps.{number_then, no_number}
 

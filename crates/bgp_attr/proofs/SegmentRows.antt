@@ -6,8 +6,7 @@ use Rattle.std.proofs.lemmas.List.{length-append, length-map}
 use Rattle.std.proofs.lemmas.List.Concat.{flat_map-append}
 use Rattle.std.proofs.lemmas.List.Folds.{list_any-append}
 use Rattle.bgp_prefix.specs.declared.as_number.AsNumber.{AsNumber}
-use Rattle.bgp_wire.specs.Octets.{AreOctets}
-use Rattle.bgp_wire.specs.Row.{Row}
+use Rattle.bgp_wire.specs.Prelude.{AreOctets, Row}
 use Rattle.bgp_wire.proofs.OctetLemmas.{AreOctets-front, AreOctets-back}
 use Rattle.bgp_wire.proofs.Behinds.{pieces-whole, Row-pieces}
 use Rattle.bgp_attr.specs.declared.path.SegKind.{SegKind}
@@ -15,11 +14,8 @@ use Rattle.bgp_attr.specs.declared.path.SegKind.TheVariants.{Set, Seq}
 use Rattle.bgp_attr.specs.declared.path.Segment.{Segment}
 use Rattle.bgp_attr.specs.declared.path.AsPath.{AsPath}
 use Rattle.bgp_attr.specs.declared.path_form.PathForm.{PathForm}
+use Rattle.bgp_attr.specs.Prelude.{number_width, row_octets, WireSegment, is_known, IsSegment, one_segment, segments_of, as_number, kind_of_segment, segment_kept_as, kept_segment, path_of, segment_fault, path_fault, path_has_zero, IsPath, segment_code, segment_octets, path_octets, any_number, is_above_two_octets, is_zero, is_bad_segment, IsFourOctets, HasPathRanges}
 use Rattle.bgp_attr.specs.declared.why.Why.TheVariants as why
-use Rattle.bgp_attr.specs.Numbers.{number_width, row_octets}
-use Rattle.bgp_attr.specs.Path.{WireSegment, is_known, IsSegment, one_segment, segments_of, as_number, kind_of_segment, segment_kept_as, kept_segment, path_of, segment_fault, path_fault, path_has_zero}
-use Rattle.bgp_attr.specs.Spelling.{IsPath}
-use Rattle.bgp_attr.specs.Written.{segment_code, segment_octets, path_octets, any_number, is_above_two_octets, is_zero, is_bad_segment, IsFourOctets, HasPathRanges}
 use Rattle.bgp_attr.proofs.Readers.{IsSegment-reads}
 use Rattle.bgp_attr.proofs.SegmentSteps.{has_zero}
 use Rattle.bgp_attr.proofs.NumberRows.{number_of, Fits, Fits-four, Row-numbers, length-row_octets, length-number_row, number_row-small}

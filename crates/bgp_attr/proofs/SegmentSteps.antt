@@ -7,7 +7,7 @@ use Rattle.bgp_wire.proofs.Walks.{shorter, first_then, no_more, same_rest, all_r
 use Rattle.bgp_prefix.specs.declared.as_number.AsNumber.{AsNumber}
 use Rattle.bgp_attr.specs.declared.path.SegKind.{SegKind}
 use Rattle.bgp_attr.specs.declared.path_form.PathForm.{PathForm}
-use Rattle.bgp_attr.specs.Path.{WireSegment, IsSegment, one_segment, segments_of, kept_segment, path_has_zero, as_number, kind_of_segment, segment_kept_as, kept_segments_of}
+use Rattle.bgp_attr.specs.Prelude.{WireSegment, IsSegment, one_segment, segments_of, kept_segment, path_has_zero, as_number, kind_of_segment, segment_kept_as, kept_segments_of}
 use Rattle.bgp_attr.proofs.Readers.{IsSegment-reads}
 
 -- a number of the segment is 0

@@ -2,7 +2,7 @@
 use Rattle.std.proofs.Common.{◌≡◌, ℕ, Bool, true, false, not, ◌||◌, cond, eqb, List, [], ◌∷◌, inl, inr, refl, sym, ap, subst, ◌∙◌}
 use Rattle.std.specs.List.{list_any}
 use Rattle.std.proofs.lemmas.Bool.{true≢false, false≢true, eqb-true, not-false, or_parts, or_cases}
-use Rattle.bgp_attr.specs.Table.{has_entry, entry_of}
+use Rattle.bgp_attr.specs.Prelude.{has_entry, entry_of}
 
 -- a fact for each row
 abbrev pub EachRow : {A : Type 0} → (ℕ → A → Type 0) → List (ℕ × A) → Type 0

@@ -5,21 +5,17 @@ use Rattle.std.specs.Prelude.{option_map, is_none, not, ◌==◌, if◌then◌el
 use Rattle.std.specs.List.{AllByRecursion}
 use Rattle.std.proofs.lemmas.Bool.{true≢false, false≢true}
 use Rattle.bgp_numbers.specs.declared.error.TheConstants.{UPDATE_MESSAGE}
-use Rattle.bgp_wire.specs.Then.{when}
+use Rattle.bgp_wire.specs.Prelude.{when}
 use Rattle.bgp_open.specs.declared.context.Context.{Context}
 use Rattle.bgp_attr.specs.declared.attr.Attr.{Attr}
 use Rattle.bgp_attr.specs.declared.judged.Judged.{Judged}
+use Rattle.bgp_attr.specs.declared.why.Why.{Why}
+use Rattle.bgp_attr.specs.declared.path_form.PathForm.{PathForm}
+use Rattle.bgp_attr.specs.Prelude.{TlvValue, entry_of, is_known, segment_fault, segments_of, path_fault, AttributeType, is_recognised, types, other_type, type_row, decided, judgement, is_too_wide, is_as4, is_empty, is_misnamed, has_as_zero, stands_twice, is_too_long, why_unless, is_writable}
 use Rattle.bgp_attr.specs.declared.judged.Judged.TheVariants as judged
 use Rattle.bgp_attr.specs.declared.unwritable.Unwritable.{Unwritable}
-use Rattle.bgp_attr.specs.declared.why.Why.{Why}
 use Rattle.bgp_attr.specs.declared.why.Why.TheVariants as why
-use Rattle.bgp_attr.specs.declared.path_form.PathForm.{PathForm}
-use Rattle.bgp_attr.specs.Tlv.{TlvValue}
-use Rattle.bgp_attr.specs.Table.{entry_of}
-use Rattle.bgp_attr.specs.Path.{is_known, segment_fault, segments_of, path_fault}
-use Rattle.bgp_attr.specs.Judgement.{aggregator_tests, AttributeType, is_recognised, types, other_type, type_row, decided, judgement}
-use Rattle.bgp_attr.specs.Written.{is_too_wide, is_as4, is_empty, is_misnamed, has_as_zero, stands_twice, is_too_long, why_unless, is_writable}
-use Rattle.bgp_attr.proofs.Tables.{EachRow, ◌&◌, by_row, entry-other}
+use Rattle.bgp_attr.proofs.Tables.{EachRow, by_row, entry-other}
 
 -- ---- tests in their order
 
@@ -63,17 +59,17 @@ Refuses None = Unit {0}
 Refuses (Some j) = IsRefusal j
 
 -- each test refuses, where it applies
-record AllRefuse (tests : List (Option Judged)) : Type 0 where
-  each : AllByRecursion Refuses tests
+pub record AllRefuse (tests : List (Option Judged)) : Type 0 where
+  pub each : AllByRecursion Refuses tests
 
-no_more : AllRefuse []
+pub no_more : AllRefuse []
 no_more = record { each = tt }
 
 when_refuses : (b : Bool) (j : Judged) → IsRefusal j → Refuses (when b j)
 when_refuses true j h = h
 when_refuses false j h = tt
 
-test : {tests : List (Option Judged)} (b : Bool) (j : Judged) → IsRefusal j → AllRefuse tests → AllRefuse (when b j ∷ tests)
+pub test : {tests : List (Option Judged)} (b : Bool) (j : Judged) → IsRefusal j → AllRefuse tests → AllRefuse (when b j ∷ tests)
 test b j h later = record { each = (when_refuses b j h, later.each) }
 
 abbrev IsOfOneIfAny : Option Why → Type 0
@@ -84,7 +80,7 @@ mapped_refuses : (f : Why → Judged) (o : Option Why) → IsOfOneIfAny o → ((
 mapped_refuses f None one h = tt
 mapped_refuses f (Some w) one h = h w one
 
-fault : {tests : List (Option Judged)} (f : Why → Judged) (o : Option Why) → IsOfOneIfAny o → ((w : Why) → IsOfOne w → IsRefusal (f w)) → AllRefuse tests → AllRefuse (option_map f o ∷ tests)
+pub fault : {tests : List (Option Judged)} (f : Why → Judged) (o : Option Why) → IsOfOneIfAny o → ((w : Why) → IsOfOne w → IsRefusal (f w)) → AllRefuse tests → AllRefuse (option_map f o ∷ tests)
 fault f o one h later = record { each = (mapped_refuses f o one h, later.each) }
 
 -- a fault of a path is none of them
@@ -98,16 +94,16 @@ rest_of_one form [] = tt
 rest_of_one form (code ∷ []) = tt
 rest_of_one form (code ∷ count ∷ b) = segment_of_one (not (is_known form code)) (count == 0)
 
-path_of_one : (form : PathForm) (b : List ℕ) → IsOfOneIfAny (path_fault form b)
+pub path_of_one : (form : PathForm) (b : List ℕ) → IsOfOneIfAny (path_fault form b)
 path_of_one form b = rest_of_one form (segments_of form b).1
 
 -- where only refusals are answered, a value is kept by no test
-decided-kept : (tests : List (Option Judged)) (a b : Attr) → AllByRecursion Refuses tests → decided tests a ≡ judged.Keep b → NoneApplies tests × (a ≡ b)
+pub decided-kept : (tests : List (Option Judged)) (a b : Attr) → AllByRecursion Refuses tests → decided tests a ≡ judged.Keep b → NoneApplies tests × (a ≡ b)
 decided-kept [] a b all e = (tt, cc)
 decided-kept (None ∷ tests) a b all e = let p = decided-kept tests a b all.1 e in ((refl, p.0), p.1)
 decided-kept (Some j ∷ tests) a b all e = absurd (subst IsRefusal e all.0)
 
-decided_by : (P : Judged → Type 0) (a : Attr) → P (judged.Keep a) → ((j : Judged) → IsRefusal j → P j) → (tests : List (Option Judged)) → AllByRecursion Refuses tests → P (decided tests a)
+pub decided_by : (P : Judged → Type 0) (a : Attr) → P (judged.Keep a) → ((j : Judged) → IsRefusal j → P j) → (tests : List (Option Judged)) → AllByRecursion Refuses tests → P (decided tests a)
 decided_by P a kept refused [] all = kept
 decided_by P a kept refused (None ∷ tests) all = decided_by P a kept refused tests all.1
 decided_by P a kept refused (Some j ∷ tests) all = refused j all.0
@@ -143,47 +139,6 @@ module _ (ctx : Context) (has_nlri : Bool) (t : TlvValue) where
   pub keeps : (type : AttributeType) (a : Attr) → type_row ctx has_nlri t ≡ type → type.value ≡ a → NoneApplies type.tests → judgement ctx has_nlri t ≡ judged.Keep a
   keeps type a is value none =
       ap (λ (y : AttributeType). decided y.tests y.value) is ∙ none-decided type.tests type.value none ∙ ap (λ (x : Attr). judged.Keep x) value
-
-  aggregator_refuses : (wide : Bool) → AllRefuse (aggregator_tests wide t)
-  aggregator_refuses wide = test _ _ tt (test _ _ tt (test _ _ tt no_more))
-
-  tests_refuse : AllRefuse (type_row ctx has_nlri t).tests
-  tests_refuse =
-      by_type (λ type. AllRefuse type.tests)
-      ((λ origin. test _ _ tt (test _ _ tt (test _ _ tt no_more)))
-      & (λ as_path. test _ _ tt (fault _ _ (path_of_one _ _) (λ w one. tt) (test _ _ tt no_more)))
-      & (λ next_hop. test _ _ tt (test _ _ tt (test _ _ tt no_more)))
-      & (λ med. test _ _ tt (test _ _ tt no_more))
-      & (λ local_pref. test _ _ tt (test _ _ tt (test _ _ tt no_more)))
-      & (λ atomic. test _ _ tt (test _ _ tt no_more))
-      & (λ aggregator. aggregator_refuses ctx.as4)
-      & (λ communities. test _ _ tt (test _ _ tt no_more))
-      & (λ mp_reach. test _ _ refl (test _ _ refl (test _ _ tt (test _ _ refl (test _ _ refl (test _ _ refl no_more))))))
-      & (λ mp_unreach. test _ _ refl (test _ _ refl (test _ _ tt (test _ _ refl no_more))))
-      & (λ as4_path. test _ _ tt (test _ _ tt (test _ _ tt (fault _ _ (path_of_one _ _) (λ w one. one) (test _ _ tt (test _ _ tt no_more))))))
-      & (λ as4_aggregator. test _ _ tt (aggregator_refuses true))
-      & (λ large. test _ _ tt (test _ _ tt no_more))
-      & tt)
-      (λ other. test _ _ refl no_more)
-
-  -- what holds of all that is kept and of each refusal holds of the judgement
-  pub by_answer : (P : Judged → Type 0) → ((a : Attr) → P (judged.Keep a)) → ((j : Judged) → IsRefusal j → P j) → P (judgement ctx has_nlri t)
-  by_answer P kept refused = let type : AttributeType = type_row ctx has_nlri t in decided_by P type.value (kept type.value) refused type.tests tests_refuse.each
-
-  -- the first of its type isn't repeated
-  pub not_repeated : judgement ctx has_nlri t ≡ judged.Discard why.Repeated → ⊥
-  not_repeated = by_answer (λ j. j ≡ judged.Discard why.Repeated → ⊥) (λ a e. absurd cc) (λ j refused e. subst IsRefusal e refused)
-
-  pub kept-tests : (a : Attr) → judgement ctx has_nlri t ≡ judged.Keep a → NoneApplies (type_row ctx has_nlri t).tests
-  kept-tests a e = let type : AttributeType = type_row ctx has_nlri t in (decided-kept type.tests type.value a tests_refuse.each e).0
-
-  pub kept-value : (a : Attr) → judgement ctx has_nlri t ≡ judged.Keep a → (type_row ctx has_nlri t).value ≡ a
-  kept-value a e = let type : AttributeType = type_row ctx has_nlri t in (decided-kept type.tests type.value a tests_refuse.each e).1
-
-  -- what holds of the value of each row whose tests pass holds of an attribute that is kept
-  pub by_kept : (P : Attr → Type 0) → EachRow (λ kind type. t.kind ≡ kind → NoneApplies type.tests → P type.value) (types ctx has_nlri t)
-      → (is_recognised t.kind ≡ false → NoneApplies (other_type t).tests → P (other_type t).value) → (a : Attr) → judgement ctx has_nlri t ≡ judged.Keep a → P a
-  by_kept P each other a e = subst P (kept-value a e) (by_type (λ type. NoneApplies type.tests → P type.value) each other (kept-tests a e))
 
 -- ---- what is written
 

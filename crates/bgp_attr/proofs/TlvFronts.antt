@@ -5,15 +5,11 @@ use Rattle.std.proofs.Math.Seq.{take-append-add}
 use Rattle.std.proofs.lemmas.Bool.{le-leb, lt-leb}
 use Rattle.std.proofs.lemmas.Nat.{be_bytes_2}
 use Rattle.std.proofs.lemmas.List.{length-append, length-take, length-drop}
-use Rattle.bgp_wire.specs.Octets.{AreOctets}
-use Rattle.bgp_wire.specs.Then.{◌>>=◌}
-use Rattle.bgp_wire.specs.Behind.{first_octets}
+use Rattle.bgp_wire.specs.Prelude.{AreOctets, ◌>>=◌, first_octets}
 use Rattle.bgp_wire.proofs.Firsts.{first_octets-at}
 use Rattle.bgp_wire.proofs.OctetLemmas.{AreOctets-take}
 use Rattle.bgp_wire.proofs.Pieces.{found_same, found_not}
-use Rattle.bgp_attr.specs.Flags.{is_extended}
-use Rattle.bgp_attr.specs.Tlv.{TlvValue, length_width, one_tlv, length_octets, tlv_octets}
-use Rattle.bgp_attr.specs.steps.LengthField.{length_field}
+use Rattle.bgp_attr.specs.Prelude.{is_extended, TlvValue, length_width, one_tlv, length_octets, tlv_octets, length_field}
 use Rattle.bgp_attr.proofs.Readers.{tlv_with, with_value, behind_size}
 
 -- the octets in front of what follows a value

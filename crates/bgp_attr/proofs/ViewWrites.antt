@@ -3,7 +3,7 @@ use Rattle.std.proofs.Common.{◌≡◌, ℕ, ◌+◌, ◌<◌, List, [], ◌∷
 use Rattle.std.specs.List.{flat_map}
 use Rattle.std.proofs.lemmas.List.{append-nil}
 use Rattle.std.proofs.lemmas.List.Concat.{flat_map-cons}
-use Rattle.bgp_wire.specs.steps.Output.{Extends}
+use Rattle.bgp_wire.specs.Prelude.{Extends}
 use Rattle.bgp_wire.proofs.Rooms.{extends_more, lacks}
 
 -- what is there, and those still to come, are what was there and all of them

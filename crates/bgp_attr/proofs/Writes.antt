@@ -4,8 +4,7 @@ use Rattle.std.specs.List.{flat_map}
 use Rattle.std.proofs.lemmas.List.Folds.{flat_map-map}
 use Rattle.bgp_prefix.specs.declared.as_number.AsNumber.{AsNumber}
 use Rattle.bgp_attr.specs.declared.path.Segment.{Segment}
-use Rattle.bgp_attr.specs.Numbers.{number_octets}
-use Rattle.bgp_attr.specs.Written.{segment_code, segment_octets}
+use Rattle.bgp_attr.specs.Prelude.{number_octets, segment_code, segment_octets}
 use Rattle.bgp_attr.proofs.NumberRows.{number_of}
 
 -- a segment's type and count, and then its numbers

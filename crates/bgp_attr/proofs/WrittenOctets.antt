@@ -4,32 +4,20 @@ use Rattle.std.specs.List.{flat_map, list_any, AllByRecursion}
 use Rattle.std.specs.Int.{w16, w32, byte_at, bytes_high_first, to_be_bytes}
 use Rattle.std.proofs.lemmas.Bool.{ltb-false, or_parts}
 use Rattle.std.proofs.lemmas.List.{length-append}
-use Rattle.bgp_numbers.specs.declared.afi.TheConstants.{IPV4, IPV6}
 use Rattle.bgp_numbers.specs.declared.safi.TheConstants.{UNICAST}
-use Rattle.bgp_open.specs.declared.context.Context.{Context}
-use Rattle.bgp_prefix.specs.Bits.{octets_for}
-use Rattle.bgp_prefix.specs.Prefix.{PrefixValue, IsValid, spelling_of}
-use Rattle.bgp_wire.specs.Octets.{AreOctets}
+use Rattle.bgp_prefix.specs.Prelude.{octets_for, PrefixValue, IsValid, spelling_of}
+use Rattle.bgp_wire.specs.Prelude.{AreOctets}
 use Rattle.bgp_wire.proofs.OctetLemmas.{AreOctets-nil, AreOctets-one, AreOctets-append, AreOctets-take}
 use Rattle.bgp_attr.specs.declared.aggregator.Aggregator.{Aggregator}
-use Rattle.bgp_attr.specs.declared.attr.Attr.{Attr}
-use Rattle.bgp_attr.specs.declared.attr.Attr.TheVariants as attr
 use Rattle.bgp_attr.specs.declared.class.Class.{Class}
-use Rattle.bgp_attr.specs.declared.mp.MpReach.TheVariants as reach
-use Rattle.bgp_attr.specs.declared.mp.MpUnreach.TheVariants as unreach
 use Rattle.bgp_attr.specs.declared.origin.Origin.{Origin}
 use Rattle.bgp_attr.specs.declared.origin.Origin.TheVariants.{Igp, Egp, Incomplete}
 use Rattle.bgp_attr.specs.declared.path.SegKind.{SegKind}
 use Rattle.bgp_attr.specs.declared.path.SegKind.TheVariants.{Set, Seq}
 use Rattle.bgp_attr.specs.declared.path.Segment.{Segment}
-use Rattle.bgp_attr.specs.Flags.{is_extended, flags_octet}
-use Rattle.bgp_attr.specs.Tlv.{length_octets, tlv_octets}
-use Rattle.bgp_attr.specs.Numbers.{number_octets, row_octets, triple_octets}
-use Rattle.bgp_attr.specs.Spelling.{origin_code, link_octets}
-use Rattle.bgp_attr.specs.Written.{made, canonical, value_octets, class_of, partial_of, type_of, segment_code, segment_octets, aggregator_octets, run_octets, reach_row, unreach_row, is_bad_segment, is_writable, IsAddress, HasLinkRange, HasRanges}
+use Rattle.bgp_attr.specs.Prelude.{is_extended, flags_octet, length_octets, tlv_octets, number_octets, row_octets, triple_octets, origin_code, link_octets, made, segment_code, segment_octets, aggregator_octets, run_octets, reach_row, unreach_row, is_bad_segment, IsAddress, HasLinkRange}
 use Rattle.bgp_attr.proofs.NumberRows.{number_of}
 use Rattle.bgp_attr.proofs.FlagBits.{is_extended-flags, flags_octet-small}
-use Rattle.bgp_attr.proofs.TestRows.{Writes, writable-Writes}
 
 pub AreOctets-cons : (x : ℕ) (b : List ℕ) → x < 256 → AreOctets b → AreOctets (x ∷ b)
 AreOctets-cons x b lt octets zero = lt
@@ -62,7 +50,7 @@ pub AreOctets-row : (wide : Bool) (ns : List ℕ) → AreOctets (row_octets wide
 AreOctets-row wide [] = AreOctets-nil
 AreOctets-row wide (n ∷ ns) = AreOctets-append (number_octets wide n) (row_octets wide ns) (AreOctets-number wide n) (AreOctets-row wide ns)
 
-triples-octets : (ts : List (List ℕ)) → AreOctets (flat_map triple_octets ts)
+pub triples-octets : (ts : List (List ℕ)) → AreOctets (flat_map triple_octets ts)
 triples-octets [] = AreOctets-nil
 triples-octets (t ∷ ts) = AreOctets-append (triple_octets t) (flat_map triple_octets ts) (AreOctets-row true t) (triples-octets ts)
 
@@ -72,7 +60,7 @@ code_small : (kind : SegKind) → segment_code kind < 256
 code_small Set = lit< tt
 code_small Seq = lit< tt
 
-path-octets : (wide : Bool) (ss : List Segment) → list_any is_bad_segment ss ≡ false → AreOctets (flat_map (segment_octets wide) ss)
+pub path-octets : (wide : Bool) (ss : List Segment) → list_any is_bad_segment ss ≡ false → AreOctets (flat_map (segment_octets wide) ss)
 path-octets wide [] good = AreOctets-nil
 path-octets wide (s ∷ ss) good =
     let p = or_parts (is_bad_segment s) (list_any is_bad_segment ss) good in
@@ -87,65 +75,29 @@ pub spelling_of-octets : (width : ℕ) (p : PrefixValue) → width ≤ 16 → Is
 unfolding spelling_of
 spelling_of-octets width p narrow valid = AreOctets-cons p.len (take (octets_for p.len) p.addr) (omega (arith, valid.allowed)) (AreOctets-take (octets_for p.len) p.addr valid.octets)
 
-run-octets : (width : ℕ) (ps : List PrefixValue) → width ≤ 16 → AllByRecursion (IsValid width) ps → AreOctets (run_octets ps)
+pub run-octets : (width : ℕ) (ps : List PrefixValue) → width ≤ 16 → AllByRecursion (IsValid width) ps → AreOctets (run_octets ps)
 run-octets width [] narrow valid = AreOctets-nil
 run-octets width (p ∷ ps) narrow valid = AreOctets-append (spelling_of p) (run_octets ps) (spelling_of-octets width p narrow valid.0) (run-octets width ps narrow valid.1)
 
-reach-octets : (afi : ℕ) (hop : List ℕ) (routes : List PrefixValue) → length hop < 256 → AreOctets hop → AreOctets (run_octets routes) → AreOctets (reach_row afi hop routes)
+pub reach-octets : (afi : ℕ) (hop : List ℕ) (routes : List PrefixValue) → length hop < 256 → AreOctets hop → AreOctets (run_octets routes) → AreOctets (reach_row afi hop routes)
 reach-octets afi hop routes short octets run =
     AreOctets-append (to_be_bytes w16 afi) (UNICAST ∷ length hop ∷ (hop ++ (0 ∷ run_octets routes))) (AreOctets-two afi)
     (AreOctets-cons UNICAST (length hop ∷ (hop ++ (0 ∷ run_octets routes))) (lit< tt) (AreOctets-cons (length hop) (hop ++ (0 ∷ run_octets routes)) short (AreOctets-append hop (0 ∷ run_octets routes) octets (AreOctets-cons 0 (run_octets routes) (lit< tt) run))))
 
-unreach-octets : (afi : ℕ) (routes : List PrefixValue) → AreOctets (run_octets routes) → AreOctets (unreach_row afi routes)
+pub unreach-octets : (afi : ℕ) (routes : List PrefixValue) → AreOctets (run_octets routes) → AreOctets (unreach_row afi routes)
 unreach-octets afi routes run = AreOctets-append (to_be_bytes w16 afi) (UNICAST ∷ run_octets routes) (AreOctets-two afi) (AreOctets-cons UNICAST (run_octets routes) (lit< tt) run)
 
-link-octets : (hop : List ℕ) (link : Option (List ℕ)) → IsAddress 16 hop → HasLinkRange link → (length (hop ++ link_octets link) < 256) × AreOctets (hop ++ link_octets link)
+pub link-octets : (hop : List ℕ) (link : Option (List ℕ)) → IsAddress 16 hop → HasLinkRange link → (length (hop ++ link_octets link) < 256) × AreOctets (hop ++ link_octets link)
 link-octets hop None one range = (omega (arith, length-append hop [], one.wide), AreOctets-append hop [] one.octets AreOctets-nil)
 link-octets hop (Some addr) one range = (omega (arith, length-append hop addr, one.wide, range.wide), AreOctets-append hop addr one.octets range.octets)
 
-aggregator-octets : (wide : Bool) (a : Aggregator) → IsAddress 4 a.addr → AreOctets (aggregator_octets wide a)
+pub aggregator-octets : (wide : Bool) (a : Aggregator) → IsAddress 4 a.addr → AreOctets (aggregator_octets wide a)
 aggregator-octets wide a addr = AreOctets-append (number_octets wide (a.asn).0) a.addr (AreOctets-number wide (a.asn).0) addr.octets
 
-code-octet : (o : Origin) → origin_code o < 256
+pub code-octet : (o : Origin) → origin_code o < 256
 code-octet Igp = lit< tt
 code-octet Egp = lit< tt
 code-octet Incomplete = lit< tt
-
-value-octets : (ctx : Context) (a : Attr) → HasRanges a → Writes ctx a → AreOctets (value_octets ctx a)
-value-octets ctx (attr.Origin o) r w = AreOctets-one (origin_code o) (code-octet o)
-value-octets ctx (attr.AsPath p) r w = path-octets ctx.as4 p.segments w.some
-value-octets ctx (attr.NextHop addr) r w = r.octets
-value-octets ctx (attr.Med n) r w = AreOctets-four n
-value-octets ctx (attr.LocalPref n) r w = AreOctets-four n
-value-octets ctx attr.Atomic r w = AreOctets-nil
-value-octets ctx (attr.Aggregator a) r w = aggregator-octets ctx.as4 a r.1
-value-octets ctx (attr.Communities c) r w = AreOctets-row true c.values
-value-octets ctx (attr.MpReach (reach.Ip4 hop routes)) r w = reach-octets IPV4 hop routes (omega (arith, (r.0).wide)) (r.0).octets (run-octets 4 routes (omega arith) r.1)
-value-octets ctx (attr.MpReach (reach.Ip6 hop link routes)) r w =
-    let both = link-octets hop link r.0 r.1 in
-    reach-octets IPV6 (hop ++ link_octets link) routes both.0 both.1 (run-octets 16 routes (omega arith) r.2)
-value-octets ctx (attr.MpUnreach (unreach.Ip4 routes)) r w = unreach-octets IPV4 routes (run-octets 4 routes (omega arith) r)
-value-octets ctx (attr.MpUnreach (unreach.Ip6 routes)) r w = unreach-octets IPV6 routes (run-octets 16 routes (omega arith) r)
-value-octets ctx (attr.As4Path p) r w = path-octets true (p.path).segments (or_parts (eqb (length (p.path).segments) 0) (list_any is_bad_segment (p.path).segments) w.some).1
-value-octets ctx (attr.As4Aggregator a) r w = aggregator-octets true a r.1
-value-octets ctx (attr.Large l) r w = triples-octets l.values
-value-octets ctx (attr.Opaque o) r w = r.1
-
-type-octet : (a : Attr) → HasRanges a → type_of a < 256
-type-octet (attr.Origin o) r = lit< tt
-type-octet (attr.AsPath p) r = lit< tt
-type-octet (attr.NextHop addr) r = lit< tt
-type-octet (attr.Med n) r = lit< tt
-type-octet (attr.LocalPref n) r = lit< tt
-type-octet attr.Atomic r = lit< tt
-type-octet (attr.Aggregator a) r = lit< tt
-type-octet (attr.Communities c) r = lit< tt
-type-octet (attr.MpReach m) r = lit< tt
-type-octet (attr.MpUnreach m) r = lit< tt
-type-octet (attr.As4Path p) r = lit< tt
-type-octet (attr.As4Aggregator a) r = lit< tt
-type-octet (attr.Large l) r = lit< tt
-type-octet (attr.Opaque o) r = r.0
 
 -- ---- the whole attribute
 
@@ -161,6 +113,3 @@ made-octets class partial kind value small octets =
     at flags low e =
         AreOctets-cons flags (kind ∷ (length_octets flags (length value) ++ value)) low (AreOctets-cons kind (length_octets flags (length value) ++ value) small (
         AreOctets-append (length_octets flags (length value)) value (size-octets (is_extended flags) (length value) e) octets))
-
-pub canonical-octets : (ctx : Context) (a : Attr) → HasRanges a → is_writable ctx a ≡ true → AreOctets (canonical ctx a)
-canonical-octets ctx a r e = made-octets (class_of a) (partial_of a) (type_of a) (value_octets ctx a) (type-octet a r) (value-octets ctx a r (writable-Writes ctx a e))

@@ -2,8 +2,7 @@
 use Rattle.std.proofs.Common.{◌≡◌, ℕ, Bool, cond, List, [], ◌∷◌, ◌++◌, length, sym, ap, ◌∙◌, append_assoc}
 use Rattle.std.specs.Int.{w16, to_be_bytes}
 use Rattle.bgp_attr.specs.declared.class.Class.{Class}
-use Rattle.bgp_attr.specs.Flags.{is_extended, flags_octet}
-use Rattle.bgp_attr.specs.Tlv.{tlv_octets}
+use Rattle.bgp_attr.specs.Prelude.{is_extended, flags_octet, tlv_octets}
 use Rattle.bgp_attr.proofs.FlagBits.{is_extended-flags}
 
 -- the head that the code writes is that of the flags

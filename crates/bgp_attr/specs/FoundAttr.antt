@@ -1,5 +1,5 @@
 -- How an attribute is judged, told in a few words.
-use Rattle.bgp_frame.specs.Notification.{notification_of_view}
+use Rattle.bgp_frame.specs.Prelude.{notification_of_view}
 use Rattle.bgp_attr.specs.declared.judged.Judged.{Judged}
 use Rattle.bgp_attr.specs.declared.judged.Judged.TheVariants as judged
 use Rattle.bgp_attr.specs.declared.found_attr.FoundAttr.{FoundAttr}

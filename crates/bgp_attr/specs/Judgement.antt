@@ -3,9 +3,9 @@
 use Rattle.std.specs.Prelude.{ℕ, ◌+◌, ◌%◌, Bool, not, ◌||◌, ◌==◌, nat_lt, List, [], ◌∷◌, length, take, map, slice_index, Option, None, Some, option_map}
 use Rattle.bgp_numbers.specs.declared.attribute.TheConstants.{ORIGIN, AS_PATH, NEXT_HOP, MULTI_EXIT_DISC, LOCAL_PREF, ATOMIC_AGGREGATE, AGGREGATOR, COMMUNITIES, MP_REACH_NLRI, MP_UNREACH_NLRI, AS4_PATH, AS4_AGGREGATOR, LARGE_COMMUNITY}
 use Rattle.bgp_numbers.specs.declared.error.TheConstants.{UPDATE_MESSAGE, OPTIONAL_ATTRIBUTE, UNRECOGNIZED_WELL_KNOWN}
-use Rattle.bgp_wire.specs.Then.{when}
+use Rattle.bgp_wire.specs.Prelude.{when}
 use Rattle.bgp_open.specs.declared.context.Context.{Context}
-use Rattle.bgp_prefix.specs.Run.{run_of}
+use Rattle.bgp_prefix.specs.Prelude.{run_of}
 use Rattle.bgp_attr.specs.declared.class.Class.{Class}
 use Rattle.bgp_attr.specs.declared.class.Class.TheVariants.{WellKnown, OptionalNonTransitive, OptionalTransitive}
 use Rattle.bgp_attr.specs.declared.attr.Attr.{Attr}
@@ -65,16 +65,17 @@ next_hop_tests has_nlri t =
     when (has_other_flags WellKnown t) (Withdraw why.Flags) ∷
     when (is_not_long 4 t) (Withdraw why.Length) ∷ []
 
-abbrev pub med_tests : TlvValue → List (Option Judged)
-med_tests t =
-    when (has_other_flags OptionalNonTransitive t) (Withdraw why.Flags) ∷
+-- a number of four octets
+abbrev pub four_tests : Class → TlvValue → List (Option Judged)
+four_tests class t =
+    when (has_other_flags class t) (Withdraw why.Flags) ∷
     when (is_not_long 4 t) (Withdraw why.Length) ∷ []
 
-abbrev pub local_pref_tests : Context → TlvValue → List (Option Judged)
-local_pref_tests ctx t =
+-- the same where it stays inside one system
+abbrev pub internal_tests : Context → Class → TlvValue → List (Option Judged)
+internal_tests ctx class t =
     when (not ctx.internal) (Discard why.External) ∷
-    when (has_other_flags WellKnown t) (Withdraw why.Flags) ∷
-    when (is_not_long 4 t) (Withdraw why.Length) ∷ []
+    four_tests class t
 
 abbrev pub atomic_tests : TlvValue → List (Option Judged)
 atomic_tests t =
@@ -147,8 +148,8 @@ recognised =
     (ORIGIN, λ ctx has_nlri t. tested (origin_tests t) (attr.Origin (origin_of t.value))) ∷
     (AS_PATH, λ ctx has_nlri t. tested (as_path_tests ctx t) (attr.AsPath (path_of (as_path_form ctx) t.value))) ∷
     (NEXT_HOP, λ ctx has_nlri t. tested (next_hop_tests has_nlri t) (attr.NextHop t.value)) ∷
-    (MULTI_EXIT_DISC, λ ctx has_nlri t. tested (med_tests t) (attr.Med (four_of t.value))) ∷
-    (LOCAL_PREF, λ ctx has_nlri t. tested (local_pref_tests ctx t) (attr.LocalPref (four_of t.value))) ∷
+    (MULTI_EXIT_DISC, λ ctx has_nlri t. tested (four_tests OptionalNonTransitive t) (attr.Med (four_of t.value))) ∷
+    (LOCAL_PREF, λ ctx has_nlri t. tested (internal_tests ctx WellKnown t) (attr.LocalPref (four_of t.value))) ∷
     (ATOMIC_AGGREGATE, λ ctx has_nlri t. tested (atomic_tests t) attr.Atomic) ∷
     (AGGREGATOR, λ ctx has_nlri t. tested (aggregator_tests ctx.as4 t) (attr.Aggregator (aggregator_of ctx.as4 t))) ∷
     (COMMUNITIES, λ ctx has_nlri t. tested (communities_tests t) (attr.Communities (communities_of t))) ∷

@@ -1,6 +1,6 @@
 -- Large communities, each at its first place, a step at a time.
 use Rattle.std.specs.Prelude.{◌≡◌, ℕ, ◌≤◌, List, [], ◌∷◌, length, take, drop, Option, None, Some}
-use Rattle.bgp_wire.specs.Reader.{pieces}
+use Rattle.bgp_wire.specs.Prelude.{pieces}
 use Rattle.bgp_attr.specs.Numbers.{one_triple, triples_of, once_behind}
 
 -- the octets up to a place are triples alone

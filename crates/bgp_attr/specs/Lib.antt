@@ -23,6 +23,6 @@ pub mod Ruling
 pub mod FoundAttr
 pub mod JudgedView
 pub mod Laws
-pub mod AttrRef
 pub mod Headed
+pub mod Prelude
 pub mod steps

@@ -1,5 +1,5 @@
 -- What borrowed routes of other address families are.
-use Rattle.bgp_prefix.specs.PrefixIter.{prefixes_left}
+use Rattle.bgp_prefix.specs.Prelude.{prefixes_left}
 use Rattle.bgp_attr.specs.declared.mp.MpReach.{MpReach}
 use Rattle.bgp_attr.specs.declared.mp.MpReach.TheVariants as reach
 use Rattle.bgp_attr.specs.declared.mp.MpUnreach.{MpUnreach}

@@ -2,9 +2,7 @@
 use Rattle.std.specs.Prelude.{◌≡◌, ℕ, Bool, true, false, List, [], ◌∷◌, ◌++◌, ◌&&◌, ◌==◌, length, take, drop, Option, Some, if◌then◌else◌}
 use Rattle.std.specs.List.{flat_map, list_any}
 use Rattle.std.specs.Int.{w16, w32, to_be_bytes, from_be_bytes}
-use Rattle.bgp_wire.specs.Reader.{pieces}
-use Rattle.bgp_wire.specs.Behind.{first_octets}
-use Rattle.bgp_wire.specs.Then.{◌>>=◌}
+use Rattle.bgp_wire.specs.Prelude.{pieces, first_octets, ◌>>=◌}
 
 -- the octets of a number: four where it is wide, else two
 abbrev pub number_width : Bool → ℕ

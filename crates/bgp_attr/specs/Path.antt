@@ -3,8 +3,7 @@ use Rattle.std.specs.Prelude.{◌≡◌, ◌<◌, ℕ, Bool, not, ◌&&◌, ◌|
 use Rattle.std.specs.List.{flat_map, list_any}
 use Rattle.bgp_numbers.specs.declared.segment.TheConstants.{SET, SEQUENCE, CONFED_SEQUENCE, CONFED_SET}
 use Rattle.bgp_prefix.specs.declared.as_number.AsNumber.{AsNumber}
-use Rattle.bgp_wire.specs.Reader.{pieces}
-use Rattle.bgp_wire.specs.Behind.{BehindCount, behind_count}
+use Rattle.bgp_wire.specs.Prelude.{pieces, BehindCount, behind_count}
 use Rattle.bgp_attr.specs.declared.path.SegKind.{SegKind}
 use Rattle.bgp_attr.specs.declared.path.SegKind.TheVariants.{Set, Seq}
 use Rattle.bgp_attr.specs.declared.path.Segment.{Segment}

@@ -7,8 +7,8 @@ use Rattle.bgp_numbers.specs.declared.afi.TheConstants.{IPV4, IPV6}
 use Rattle.bgp_numbers.specs.declared.safi.TheConstants.{UNICAST}
 use Rattle.bgp_numbers.specs.declared.attribute.TheConstants.{ORIGIN, AS_PATH, NEXT_HOP, MULTI_EXIT_DISC, LOCAL_PREF, ATOMIC_AGGREGATE, AGGREGATOR, COMMUNITIES, MP_REACH_NLRI, MP_UNREACH_NLRI, AS4_PATH, AS4_AGGREGATOR, LARGE_COMMUNITY}
 use Rattle.bgp_open.specs.declared.context.Context.{Context}
-use Rattle.bgp_prefix.specs.Prefix.{PrefixValue, IsPrefix}
-use Rattle.bgp_wire.specs.Row.{Row}
+use Rattle.bgp_prefix.specs.Prelude.{PrefixValue, IsPrefix}
+use Rattle.bgp_wire.specs.Prelude.{Row}
 use Rattle.bgp_attr.specs.declared.aggregator.Aggregator.{Aggregator}
 use Rattle.bgp_attr.specs.declared.attr.Attr.{Attr}
 use Rattle.bgp_attr.specs.declared.attr.Attr.TheVariants as attr
@@ -62,12 +62,9 @@ pub record IsNextHop (addr : List ℕ) (t : TlvValue) : Type 0 where
   pub four : length addr ≡ 4
   pub value : t.value ≡ addr
 
-pub record IsMed (n : ℕ) (t : TlvValue) : Type 0 where
-  pub of_type : IsOfType MULTI_EXIT_DISC OptionalNonTransitive t
-  pub value : IsNumber true n t.value
-
-pub record IsLocalPref (n : ℕ) (t : TlvValue) : Type 0 where
-  pub of_type : IsOfType LOCAL_PREF WellKnown t
+-- a number of four octets
+pub record IsFour (kind : ℕ) (class : Class) (n : ℕ) (t : TlvValue) : Type 0 where
+  pub of_type : IsOfType kind class t
   pub value : IsNumber true n t.value
 
 pub record IsAtomic (t : TlvValue) : Type 0 where
@@ -154,8 +151,8 @@ abbrev pub Spells : Context → TlvValue → Attr → Type 0
 Spells ctx t (attr.Origin o) = IsOrigin o t
 Spells ctx t (attr.AsPath p) = IsAsPath ctx p t
 Spells ctx t (attr.NextHop addr) = IsNextHop addr t
-Spells ctx t (attr.Med n) = IsMed n t
-Spells ctx t (attr.LocalPref n) = IsLocalPref n t
+Spells ctx t (attr.Med n) = IsFour MULTI_EXIT_DISC OptionalNonTransitive n t
+Spells ctx t (attr.LocalPref n) = IsFour LOCAL_PREF WellKnown n t
 Spells ctx t attr.Atomic = IsAtomic t
 Spells ctx t (attr.Aggregator a) = IsAggregator AGGREGATOR ctx.as4 a t
 Spells ctx t (attr.Communities c) = IsCommunities c t

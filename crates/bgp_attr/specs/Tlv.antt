@@ -2,9 +2,7 @@
 -- Extended Length bit is set, else one.
 use Rattle.std.specs.Prelude.{◌≡◌, ℕ, ◌+◌, List, [], ◌∷◌, ◌++◌, length, Option, None, Some, if◌then◌else◌}
 use Rattle.std.specs.Int.{w16, to_be_bytes, from_be_bytes}
-use Rattle.bgp_wire.specs.Then.{◌>>=◌}
-use Rattle.bgp_wire.specs.Reader.{pieces}
-use Rattle.bgp_wire.specs.Behind.{first_octets}
+use Rattle.bgp_wire.specs.Prelude.{◌>>=◌, pieces, first_octets}
 use Rattle.bgp_attr.specs.Flags.{is_extended}
 
 -- an attribute before it is judged: its flags, its type, all its octets, and those of its value

@@ -1,13 +1,10 @@
 //! Writing an attribute whose value is put before its head: nothing is measured.
 
 ghost use Rattle.std.specs.Prelude.{◌≡◌, ◌+◌, ◌<◌, ◌≤◌, [], ◌∷◌, ◌++◌, length, take, drop, OnOk, OnErr};
-ghost use Rattle.bgp_attr.specs.AttrView.{attr_value};
-ghost use Rattle.bgp_attr.specs.Headed.{headed};
-ghost use Rattle.bgp_attr.specs.Written.{made};
+ghost use Rattle.bgp_attr.specs.Prelude.{attr_value, headed, made};
 
-use crate::attr_view::AttrView;
-use crate::form::{Form, form_of_view};
-use crate::write::flags_octet;
+use crate::attr::{AttrView, Form, form_of_view};
+use crate::value_writing::flags_octet;
 use bgp_wire::Output;
 use std::alloc::AllocError;
 

@@ -1,8 +1,7 @@
 //! The first segment of a path that is kept.
 
 ghost use Rattle.std.specs.Prelude.{◌≡◌, [], ◌∷◌, MatchOption};
-ghost use Rattle.bgp_attr.specs.Path.{kept_segments_of};
-ghost use Rattle.bgp_attr.specs.PathView.{segment_value};
+ghost use Rattle.bgp_attr.specs.Prelude.{kept_segments_of, segment_value};
 
 use crate::numbers::AsNumberIter;
 use crate::path_form::PathForm;

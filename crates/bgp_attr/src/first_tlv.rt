@@ -1,11 +1,7 @@
 //! The attribute at the front of octets.
 
 ghost use Rattle.std.specs.Prelude.{◌≡◌, ◌<◌, ◌≤◌, length, option_map, Some, None, IfSome};
-ghost use Rattle.bgp_attr.specs.Flags.{is_extended};
-ghost use Rattle.bgp_attr.specs.Tlv.{one_tlv, tlvs_of};
-ghost use Rattle.bgp_attr.specs.TlvIter.{tlv_at};
-ghost use Rattle.bgp_attr.specs.TlvView.{tlv_value};
-ghost use Rattle.bgp_attr.specs.steps.LengthField.{length_field};
+ghost use Rattle.bgp_attr.specs.Prelude.{is_extended, one_tlv, tlvs_of, tlv_at, tlv_value, length_field};
 
 use crate::flags::Flags;
 use crate::tlv::Tlv;

@@ -1,7 +1,7 @@
 //! The flags octet of an attribute.
 
 ghost use Rattle.std.specs.Prelude.{◌≡◌};
-ghost use Rattle.bgp_attr.specs.Flags.{is_optional, is_transitive, is_partial, is_extended, has_class};
+ghost use Rattle.bgp_attr.specs.Prelude.{is_optional, is_transitive, is_partial, is_extended, has_class};
 
 use crate::class::Class;
 

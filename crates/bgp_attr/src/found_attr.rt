@@ -2,7 +2,7 @@
 
 ghost use Rattle.std.specs.Prelude.{◌≡◌};
 
-use crate::attr_view::AttrView;
+use crate::attr::AttrView;
 use crate::judged_view::JudgedView;
 use crate::why::Why;
 use bgp_frame::NotificationView;

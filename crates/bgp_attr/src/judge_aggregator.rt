@@ -2,11 +2,7 @@
 
 ghost use Rattle.std.specs.Prelude.{◌≡◌, ◌+◌, true, length};
 ghost use Rattle.bgp_attr.specs.declared.attr.Attr.{Attr};
-ghost use Rattle.bgp_attr.specs.Numbers.{number_in, number_width};
-ghost use Rattle.bgp_attr.specs.TlvView.{tlv_value};
-ghost use Rattle.bgp_attr.specs.Value.{aggregator_of};
-ghost use Rattle.bgp_attr.specs.Judgement.{decided, aggregator_tests, as4_aggregator_tests};
-ghost use Rattle.bgp_attr.specs.Ruling.{ruled};
+ghost use Rattle.bgp_attr.specs.Prelude.{number_in, number_width, tlv_value, aggregator_of, decided, aggregator_tests, as4_aggregator_tests, ruled};
 
 use crate::aggregator::Aggregator;
 use crate::class::Class;

@@ -2,18 +2,13 @@
 
 ghost use Rattle.std.specs.Prelude.{◌≡◌, ◌≤◌, length};
 ghost use Rattle.bgp_attr.specs.declared.attr.Attr.{Attr};
-ghost use Rattle.bgp_attr.specs.TlvView.{tlv_value};
-ghost use Rattle.bgp_attr.specs.Value.{communities_of, large_of, opaque_of};
-ghost use Rattle.bgp_attr.specs.Judgement.{decided, communities_tests, large_tests, other_tests};
-ghost use Rattle.bgp_attr.specs.AttrView.{opaque_value};
-ghost use Rattle.bgp_attr.specs.CommunitiesView.{communities_value, large_value};
-ghost use Rattle.bgp_attr.specs.Ruling.{ruled};
+ghost use Rattle.bgp_attr.specs.Prelude.{tlv_value, communities_of, large_of, opaque_of, decided, communities_tests, large_tests, other_tests, opaque_value, communities_value, large_value, ruled};
 
-use crate::attr_view::OpaqueView;
 use crate::class::Class;
 use crate::communities_view::{CommunitiesView, LargeView};
 use crate::large_iter::LargeCommIter;
 use crate::numbers::CommIter;
+use crate::opaque::OpaqueView;
 use crate::ruling::Ruling;
 use crate::tlv::Tlv;
 use crate::why::Why;

@@ -2,10 +2,7 @@
 
 ghost use Rattle.std.specs.Prelude.{◌≡◌, ◌≤◌, length, take};
 ghost use Rattle.bgp_attr.specs.declared.attr.Attr.{Attr};
-ghost use Rattle.bgp_attr.specs.TlvView.{tlv_value};
-ghost use Rattle.bgp_attr.specs.Value.{origin_of, four_of};
-ghost use Rattle.bgp_attr.specs.Judgement.{decided, origin_tests, next_hop_tests, med_tests, local_pref_tests, atomic_tests};
-ghost use Rattle.bgp_attr.specs.Ruling.{ruled};
+ghost use Rattle.bgp_attr.specs.Prelude.{tlv_value, origin_of, four_of, decided, origin_tests, next_hop_tests, four_tests, internal_tests, atomic_tests, ruled};
 
 use crate::class::Class;
 use crate::origin::Origin;
@@ -84,11 +81,12 @@ pub fn four_in(octets: &[u8]) -> u32
     u32::from_be_bytes([octets[0], octets[1], octets[2], octets[3]])
 }
 
-/// MULTI_EXIT_DISC (RFC 7606, section 7.4).
-pub(crate) fn rule_med(tlv: &Tlv<'_>) -> Ruling
-    ensures { (a : Attr) → ruled result tlv.now.whole.now a ≡ decided (med_tests (tlv_value tlv.now)) a }
+/// An attribute that is a number of four octets, as MULTI_EXIT_DISC is (RFC 7606, section 7.4).
+#[inline(always)]
+pub(crate) fn rule_four(class: Class, tlv: &Tlv<'_>) -> Ruling
+    ensures { (a : Attr) → ruled result tlv.now.whole.now a ≡ decided (four_tests class (tlv_value tlv.now)) a }
 {
-    if !tlv.flags.has_class(Class::OptionalNonTransitive) {
+    if !tlv.flags.has_class(class) {
         return Ruling::Withdraw(Why::Flags);
     }
     if tlv.value.len() != 4 {
@@ -97,20 +95,15 @@ pub(crate) fn rule_med(tlv: &Tlv<'_>) -> Ruling
     Ruling::Keep
 }
 
-/// LOCAL_PREF (RFC 7606, section 7.5).
-pub(crate) fn rule_local_pref(ctx: &Context, tlv: &Tlv<'_>) -> Ruling
-    ensures { (a : Attr) → ruled result tlv.now.whole.now a ≡ decided (local_pref_tests ctx.now (tlv_value tlv.now)) a }
+/// The same where it stays inside one system, as LOCAL_PREF does (RFC 7606, section 7.5).
+#[inline(always)]
+pub(crate) fn rule_internal(ctx: &Context, class: Class, tlv: &Tlv<'_>) -> Ruling
+    ensures { (a : Attr) → ruled result tlv.now.whole.now a ≡ decided (internal_tests ctx.now class (tlv_value tlv.now)) a }
 {
     if !ctx.internal {
         return Ruling::Discard(Why::External);
     }
-    if !tlv.flags.has_class(Class::WellKnown) {
-        return Ruling::Withdraw(Why::Flags);
-    }
-    if tlv.value.len() != 4 {
-        return Ruling::Withdraw(Why::Length);
-    }
-    Ruling::Keep
+    rule_four(class, tlv)
 }
 
 /// ATOMIC_AGGREGATE (RFC 7606, section 7.6).

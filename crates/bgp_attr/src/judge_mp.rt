@@ -2,11 +2,7 @@
 
 ghost use Rattle.std.specs.Prelude.{◌≡◌, ◌==◌, ◌≤◌, ◌+◌, not, IsTrue, Some, None, length, take, drop, if◌then◌else◌};
 ghost use Rattle.bgp_attr.specs.declared.attr.Attr.{Attr};
-ghost use Rattle.bgp_attr.specs.TlvView.{tlv_value};
-ghost use Rattle.bgp_attr.specs.Mp.{IsReachable, family_of, is_in_use, address_width, is_next_hop_length, next_hop_length, reach_of_family, unreach_of_family, mp_reach_of, mp_unreach_of};
-ghost use Rattle.bgp_attr.specs.Judgement.{decided, has_bad_prefix, mp_reach_tests, mp_unreach_tests};
-ghost use Rattle.bgp_attr.specs.MpView.{reach_value, unreach_value};
-ghost use Rattle.bgp_attr.specs.Ruling.{ruled};
+ghost use Rattle.bgp_attr.specs.Prelude.{tlv_value, IsReachable, family_of, is_in_use, address_width, is_next_hop_length, next_hop_length, reach_of_family, unreach_of_family, mp_reach_of, mp_unreach_of, decided, has_bad_prefix, mp_reach_tests, mp_unreach_tests, reach_value, unreach_value, ruled};
 
 use crate::class::Class;
 use crate::family::Family;

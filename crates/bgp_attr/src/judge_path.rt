@@ -2,19 +2,12 @@
 
 ghost use Rattle.std.specs.Prelude.{◌≡◌};
 ghost use Rattle.bgp_attr.specs.declared.attr.Attr.{Attr};
-ghost use Rattle.bgp_attr.specs.TlvView.{tlv_value};
-ghost use Rattle.bgp_attr.specs.Path.{path_of};
-ghost use Rattle.bgp_attr.specs.Value.{as_path_form, as4_path_of};
-ghost use Rattle.bgp_attr.specs.Judgement.{decided, as_path_tests, as4_path_tests};
-ghost use Rattle.bgp_attr.specs.AttrView.{as4_path_value};
-ghost use Rattle.bgp_attr.specs.PathView.{path_value};
-ghost use Rattle.bgp_attr.specs.Ruling.{ruled};
+ghost use Rattle.bgp_attr.specs.Prelude.{tlv_value, path_of, as_path_form, as4_path_of, decided, as_path_tests, as4_path_tests, as4_path_value, path_value, ruled};
 
-use crate::attr_view::As4PathView;
 use crate::class::Class;
 use crate::first_kept::first_kept;
 use crate::path_form::PathForm;
-use crate::path_view::PathView;
+use crate::path_view::{As4PathView, PathView};
 use crate::ruling::Ruling;
 use crate::segment::path_faults;
 use crate::tlv::Tlv;

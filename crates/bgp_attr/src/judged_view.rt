@@ -2,7 +2,7 @@
 
 ghost use Rattle.std.specs.Prelude.{◌≡◌, IfOk, OnErr, IsTrue};
 
-use crate::attr_view::AttrView;
+use crate::attr::AttrView;
 use crate::judged::Judged;
 use crate::why::Why;
 use bgp_frame::Notification;

@@ -1,22 +1,24 @@
-//! The judgement of one attribute.
+//! The judgement of one attribute, and its value where it is kept.
 
 ghost use Rattle.std.specs.Prelude.{◌≡◌, ◌≤◌, true, length, IfOk, OnErr, IsTrue};
-ghost use Rattle.bgp_attr.specs.TlvView.{tlv_value};
-ghost use Rattle.bgp_attr.specs.Judgement.{judgement, decided, type_row};
+ghost use Rattle.bgp_attr.specs.Prelude.{attr_value, is_recognised, judgement, decided, type_row, tlv_value, found_attr_value, judged_value, is_kept, keeps, ruled};
 ghost use Rattle.bgp_attr.specs.declared.attr.Attr.{Attr};
-ghost use Rattle.bgp_attr.specs.FoundAttr.{found_attr_value};
-ghost use Rattle.bgp_attr.specs.JudgedView.{judged_value, is_kept};
-ghost use Rattle.bgp_attr.specs.Ruling.{keeps, ruled};
 
+use crate::attr::AttrView;
+use crate::class::Class;
 use crate::found_attr::FoundAttr;
-use crate::judge_aggregator::{rule_aggregator, rule_as4_aggregator};
-use crate::judge_communities::{rule_communities, rule_large, rule_other};
-use crate::judge_fixed::{rule_atomic, rule_local_pref, rule_med, rule_next_hop, rule_origin};
-use crate::judge_mp::{rule_mp_reach, rule_mp_unreach};
-use crate::judge_path::{rule_as_path, rule_as4_path};
+use crate::judge_aggregator::{aggregator_in, rule_aggregator, rule_as4_aggregator};
+use crate::judge_communities::{
+    communities_in, large_in, opaque_in, rule_communities, rule_large, rule_other,
+};
+use crate::judge_fixed::{
+    four_in, next_hop_in, origin_in, rule_atomic, rule_four, rule_internal, rule_next_hop,
+    rule_origin,
+};
+use crate::judge_mp::{reach_in, rule_mp_reach, rule_mp_unreach, unreach_in};
+use crate::judge_path::{as_path_in, as4_path_in, rule_as_path, rule_as4_path};
 use crate::judged::Judged;
 use crate::judged_view::JudgedView;
-use crate::kept_value::kept_attr;
 use crate::ruling::{Ruling, attribute_reset};
 use crate::tlv::Tlv;
 use bgp_numbers::attribute;
@@ -36,8 +38,8 @@ pub fn rule(ctx: &Context, has_nlri: bool, tlv: &Tlv<'_>) -> Ruling
         attribute::ORIGIN => rule_origin(tlv),
         attribute::AS_PATH => rule_as_path(ctx, tlv),
         attribute::NEXT_HOP => rule_next_hop(has_nlri, tlv),
-        attribute::MULTI_EXIT_DISC => rule_med(tlv),
-        attribute::LOCAL_PREF => rule_local_pref(ctx, tlv),
+        attribute::MULTI_EXIT_DISC => rule_four(Class::OptionalNonTransitive, tlv),
+        attribute::LOCAL_PREF => rule_internal(ctx, Class::WellKnown, tlv),
         attribute::ATOMIC_AGGREGATE => rule_atomic(tlv),
         attribute::AGGREGATOR => rule_aggregator(ctx, tlv),
         attribute::COMMUNITIES => rule_communities(tlv),
@@ -47,6 +49,33 @@ pub fn rule(ctx: &Context, has_nlri: bool, tlv: &Tlv<'_>) -> Ruling
         attribute::AS4_AGGREGATOR => rule_as4_aggregator(ctx, tlv),
         attribute::LARGE_COMMUNITY => rule_large(tlv),
         _ => rule_other(tlv),
+    }
+}
+
+/// The value of an attribute of a type that is kept in a context. `has_nlri` is that of its judgement. The type is told, so that who knows it pays
+/// for no other.
+#[tactic(auto, unfolding(crate::specs::Judgement::type_row))]
+#[inline(always)]
+pub fn kept_attr<'a>(ctx: &Context, has_nlri: bool, kind: u8, tlv: &Tlv<'a>) -> AttrView<'a>
+    requires kind { tlv.now.kind ≡ kind }
+    requires kept { IsTrue (is_kept (judgement ctx.now has_nlri (tlv_value tlv.now))) }
+    ensures { attr_value result ≡ (type_row ctx.now has_nlri (tlv_value tlv.now)).value }
+{
+    match kind {
+        attribute::ORIGIN => AttrView::Origin(origin_in(tlv.value)),
+        attribute::AS_PATH => AttrView::AsPath(as_path_in(ctx, tlv.value)),
+        attribute::NEXT_HOP => AttrView::NextHop(next_hop_in(tlv.value)),
+        attribute::MULTI_EXIT_DISC => AttrView::Med(four_in(tlv.value)),
+        attribute::LOCAL_PREF => AttrView::LocalPref(four_in(tlv.value)),
+        attribute::ATOMIC_AGGREGATE => AttrView::Atomic,
+        attribute::AGGREGATOR => AttrView::Aggregator(aggregator_in(ctx.as4, tlv)),
+        attribute::COMMUNITIES => AttrView::Communities(communities_in(tlv)),
+        attribute::MP_REACH_NLRI => AttrView::MpReach(reach_in(tlv.value)),
+        attribute::MP_UNREACH_NLRI => AttrView::MpUnreach(unreach_in(tlv.value)),
+        attribute::AS4_PATH => AttrView::As4Path(as4_path_in(tlv)),
+        attribute::AS4_AGGREGATOR => AttrView::As4Aggregator(aggregator_in(true, tlv)),
+        attribute::LARGE_COMMUNITY => AttrView::Large(large_in(tlv)),
+        _ => AttrView::Opaque(opaque_in(tlv)),
     }
 }
 
@@ -96,4 +125,26 @@ pub fn judge(
     ensures err { OnErr result (IsTrue (is_kept (judgement ctx.now has_nlri (tlv_value tlv.now)))) }
 {
     judge_view(ctx, has_nlri, tlv).own(alloc)
+}
+
+/// Whether a type is recognised.
+pub fn is_recognised(kind: u8) -> bool
+    ensures { result ≡ is_recognised kind }
+{
+    match kind {
+        attribute::ORIGIN
+        | attribute::AS_PATH
+        | attribute::NEXT_HOP
+        | attribute::MULTI_EXIT_DISC
+        | attribute::LOCAL_PREF
+        | attribute::ATOMIC_AGGREGATE
+        | attribute::AGGREGATOR
+        | attribute::COMMUNITIES
+        | attribute::MP_REACH_NLRI
+        | attribute::MP_UNREACH_NLRI
+        | attribute::AS4_PATH
+        | attribute::AS4_AGGREGATOR
+        | attribute::LARGE_COMMUNITY => true,
+        _ => false,
+    }
 }

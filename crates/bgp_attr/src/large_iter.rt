@@ -1,7 +1,7 @@
 //! Large communities, one after another.
 
 ghost use Rattle.std.specs.Prelude.{◌≡◌, ◌≤◌, length, take, []};
-ghost use Rattle.bgp_wire.specs.Reader.{pieces};
+ghost use Rattle.bgp_wire.specs.Prelude.{pieces};
 ghost use Rattle.bgp_attr.specs.Numbers.{one_triple};
 
 use crate::large_view::first_new_triple;

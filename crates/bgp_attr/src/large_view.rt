@@ -2,8 +2,7 @@
 
 ghost use Rattle.std.specs.Prelude.{◌≡◌, ◌≤◌, length, take, [], ◌∷◌, option_map, MatchOption};
 ghost use Rattle.std.specs.List.{list_any};
-ghost use Rattle.bgp_attr.specs.Numbers.{one_triple, triples_of, same_triple};
-ghost use Rattle.bgp_attr.specs.LargeStep.{IsRowUpTo, new_from, GivesNew};
+ghost use Rattle.bgp_attr.specs.Prelude.{one_triple, triples_of, same_triple, IsRowUpTo, new_from, GivesNew};
 
 /// The three numbers at the front, and what follows them: cut off at once, since each triple is compared with all before it.
 #[tactic(auto, using(crate::proofs::Fronts::twelve_taken, crate::proofs::Fronts::twelve_short))]

@@ -1,20 +1,12 @@
 //! Laws over the definitions alone: these functions do nothing, and their contracts are what is proved.
 
 ghost use Rattle.std.specs.Prelude.{◌≡◌, ℕ, Bool, true, List};
-ghost use Rattle.bgp_wire.specs.Octets.{AreOctets};
-ghost use Rattle.bgp_wire.specs.Row.{IsPrefixFree, Splits};
-ghost use Rattle.bgp_wire.specs.Reader.{Reads};
+ghost use Rattle.bgp_wire.specs.Prelude.{AreOctets, IsPrefixFree, Splits, Reads};
 ghost use Rattle.bgp_open.specs.declared.context.Context.{Context};
 ghost use Rattle.bgp_attr.specs.declared.attr.Attr.{Attr};
-ghost use Rattle.bgp_attr.specs.declared.judged.Judged.TheVariants.{Keep};
 ghost use Rattle.bgp_attr.specs.declared.path_form.PathForm.{PathForm};
-ghost use Rattle.bgp_attr.specs.Tlv.{TlvValue, IsTlv, one_tlv, tlvs_of};
-ghost use Rattle.bgp_attr.specs.Numbers.{IsNumber, one_number, IsTriple, one_triple};
-ghost use Rattle.bgp_attr.specs.Path.{IsSegment, one_segment};
-ghost use Rattle.bgp_attr.specs.Judgement.{judgement};
-ghost use Rattle.bgp_attr.specs.Spelling.{Spells};
-ghost use Rattle.bgp_attr.specs.Written.{written_tlv, canonical, is_writable, Belongs, HasRanges};
-ghost use Rattle.bgp_attr.specs.Laws.{CanBeWritten};
+ghost use Rattle.bgp_attr.specs.Prelude.{TlvValue, IsTlv, one_tlv, tlvs_of, IsNumber, one_number, IsTriple, one_triple, IsSegment, one_segment, judgement, Spells, written_tlv, canonical, is_writable, Belongs, HasRanges, CanBeWritten};
+ghost use Rattle.bgp_attr.specs.declared.judged.Judged.TheVariants.{Keep};
 
 /// The readers of attributes, of segments of paths, of numbers and of large communities find each
 /// one that stands at the front, and nothing else.

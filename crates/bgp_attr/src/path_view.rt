@@ -5,7 +5,7 @@ ghost use Rattle.bgp_attr.specs.Path.{path_of};
 
 use crate::first_kept::first_kept;
 use crate::numbers::AsNumberIter;
-use crate::path::{AsPath, SegKind, Segment};
+use crate::path::{As4Path, AsPath, SegKind, Segment};
 use crate::path_form::PathForm;
 use bgp_wire::List;
 use std::alloc::{AllocError, Global};
@@ -105,3 +105,30 @@ impl<'a> Iterator for SegmentIter<'a> {
 }
 
 impl<'a> FusedIterator for SegmentIter<'a> {}
+
+/// AS4_PATH, borrowed.
+#[derive(Clone, Copy)]
+pub struct As4PathView<'a> {
+    /// The Partial bit.
+    pub partial: bool,
+    /// The path, of at least one segment in what is read.
+    pub path: PathView<'a>,
+}
+
+impl As4PathView<'_> {
+    ghost use Rattle.bgp_attr.specs.AttrView.{as4_path_value};
+
+    /// The value, with memory of its own.
+    ///
+    /// # Errors
+    /// `AllocError` where an allocation failed.
+    pub fn own(self, alloc: Global) -> Result<As4Path, AllocError>
+        ensures { IfOk result (λ p. p ≡ as4_path_value self.entry) }
+    {
+        let path = self.path.own(alloc)?;
+        Ok(As4Path {
+            partial: self.partial,
+            path,
+        })
+    }
+}

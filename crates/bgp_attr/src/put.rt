@@ -2,10 +2,8 @@
 
 ghost use Rattle.std.specs.Prelude.{◌≡◌, ◌<◌, ◌+◌, ◌≤◌, ℕ, List, ◌++◌, length, map, true, false, OnOk, OnErr};
 ghost use Rattle.std.specs.List.{flat_map, list_any, AllByRecursion};
-ghost use Rattle.bgp_wire.specs.Octets.{AreOctets};
-ghost use Rattle.bgp_wire.specs.steps.Output.{Extends};
-ghost use Rattle.bgp_attr.specs.Numbers.{number_octets, row_octets, triple_octets};
-ghost use Rattle.bgp_attr.specs.Written.{segment_code, segment_octets, is_bad_segment, IsFourOctets, IsThreeNumbers, IsAddress};
+ghost use Rattle.bgp_wire.specs.Prelude.{AreOctets, Extends};
+ghost use Rattle.bgp_attr.specs.Prelude.{number_octets, row_octets, triple_octets, segment_code, segment_octets, is_bad_segment, IsFourOctets, IsThreeNumbers, IsAddress};
 
 use crate::path::{SegKind, Segment};
 use bgp_numbers::segment;

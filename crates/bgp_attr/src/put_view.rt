@@ -2,21 +2,16 @@
 
 ghost use Rattle.std.specs.Prelude.{◌≡◌, ◌<◌, ◌≤◌, ◌+◌, ◌-◌, ◌%◌, ◌++◌, false, true, length, OnOk, OnErr};
 ghost use Rattle.std.specs.List.{flat_map, list_any};
-ghost use Rattle.bgp_wire.specs.steps.Output.{Extends};
-ghost use Rattle.bgp_attr.specs.MpView.{reach_value, unreach_value};
-ghost use Rattle.bgp_attr.specs.NumberIter.{as_numbers_left, communities_left};
-ghost use Rattle.bgp_attr.specs.LargeIter.{triples_left};
-ghost use Rattle.bgp_attr.specs.Numbers.{number_octets, numbers_of, row_octets, triple_octets};
-ghost use Rattle.bgp_attr.specs.PathView.{path_value, segment_value};
-ghost use Rattle.bgp_attr.specs.Written.{is_bad_segment, path_octets, reach_octets, reach_row, segment_octets, unreach_octets, unreach_row};
-ghost use Rattle.bgp_prefix.specs.PrefixIter.{prefixes_left};
+ghost use Rattle.bgp_wire.specs.Prelude.{Extends};
+ghost use Rattle.bgp_attr.specs.Prelude.{reach_value, unreach_value, as_numbers_left, communities_left, triples_left, number_octets, numbers_of, row_octets, triple_octets, path_value, segment_value, is_bad_segment, path_octets, reach_octets, reach_row, segment_octets, unreach_octets, unreach_row};
+ghost use Rattle.bgp_prefix.specs.Prelude.{prefixes_left};
 
 use crate::large_iter::LargeCommIter;
 use crate::mp_view::{MpReachView, MpUnreachView};
 use crate::numbers::{AsNumberIter, CommIter};
 use crate::path_view::{PathView, SegmentView};
 use crate::put::{put_number, put_octets, put_triple, segment_code};
-use crate::write::{address_octets, put_hops};
+use crate::value_writing::{address_octets, put_hops};
 use bgp_numbers::{afi, safi};
 use bgp_prefix::PrefixIter;
 use bgp_wire::Output;

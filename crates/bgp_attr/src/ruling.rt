@@ -1,8 +1,8 @@
 //! How one attribute is judged, apart from its value.
 
 ghost use Rattle.std.specs.Prelude.{◌≡◌, ◌≤◌, length};
-ghost use Rattle.bgp_frame.specs.Notification.{notification_of_view};
-ghost use Rattle.bgp_attr.specs.Ruling.{attribute_reset};
+ghost use Rattle.bgp_frame.specs.Prelude.{notification_of_view};
+ghost use Rattle.bgp_attr.specs.Prelude.{attribute_reset};
 
 use crate::why::Why;
 use bgp_frame::NotificationView;

@@ -2,9 +2,7 @@
 
 ghost use Rattle.std.specs.Prelude.{◌≡◌, ◌==◌, option_map};
 ghost use Rattle.std.specs.List.{list_any};
-ghost use Rattle.bgp_attr.specs.Numbers.{number_width, numbers_of};
-ghost use Rattle.bgp_attr.specs.Path.{is_known, one_segment, segment_fault, path_fault, path_has_zero, kind_of_segment};
-ghost use Rattle.bgp_attr.specs.SegmentView.{wire_segment};
+ghost use Rattle.bgp_attr.specs.Prelude.{number_width, numbers_of, is_known, one_segment, segment_fault, path_fault, path_has_zero, kind_of_segment, wire_segment};
 
 use crate::numbers::first_number;
 use crate::path::SegKind;

@@ -2,14 +2,11 @@
 
 ghost use Rattle.std.specs.Prelude.{◌≡◌};
 ghost use Rattle.std.specs.List.{list_any};
-ghost use Rattle.bgp_attr.specs.AttrRef.{ref_value};
-ghost use Rattle.bgp_attr.specs.Numbers.{same_triple};
-ghost use Rattle.bgp_attr.specs.Judgement.{is_recognised};
-ghost use Rattle.bgp_attr.specs.Written.{any_number, is_above_two_octets, is_zero, is_too_wide, is_as4, is_bad_segment, is_empty, is_misnamed, has_as_zero, repeats, stands_twice};
+ghost use Rattle.bgp_attr.specs.Prelude.{ref_value, same_triple, any_number, is_above_two_octets, is_zero, is_too_wide, is_as4, is_bad_segment, is_empty, is_misnamed, has_as_zero, repeats, stands_twice};
 
-use crate::attr_ref::AttrRef;
+use crate::attr::AttrRef;
+use crate::judging::is_recognised;
 use crate::path::{AsPath, Segment};
-use bgp_numbers::attribute;
 use bgp_open::Context;
 
 /// Why an attribute can't be written in a context: the first reason in this order.
@@ -103,28 +100,6 @@ pub fn is_empty(attr: AttrRef<'_>) -> bool
         AttrRef::As4Path(path) => path.path.segments.is_empty() || has_bad_segment(&path.path),
         AttrRef::Communities(communities) => communities.values.is_empty(),
         AttrRef::Large(communities) => communities.values.is_empty(),
-        _ => false,
-    }
-}
-
-/// Whether a type is recognised.
-pub fn is_recognised(kind: u8) -> bool
-    ensures { result ≡ is_recognised kind }
-{
-    match kind {
-        attribute::ORIGIN
-        | attribute::AS_PATH
-        | attribute::NEXT_HOP
-        | attribute::MULTI_EXIT_DISC
-        | attribute::LOCAL_PREF
-        | attribute::ATOMIC_AGGREGATE
-        | attribute::AGGREGATOR
-        | attribute::COMMUNITIES
-        | attribute::MP_REACH_NLRI
-        | attribute::MP_UNREACH_NLRI
-        | attribute::AS4_PATH
-        | attribute::AS4_AGGREGATOR
-        | attribute::LARGE_COMMUNITY => true,
         _ => false,
     }
 }

@@ -1,15 +1,13 @@
 //! Which attributes are written.
 
 ghost use Rattle.std.specs.Prelude.{◌≡◌, false, true, length};
-ghost use Rattle.bgp_attr.specs.AttrRef.{ref_value};
-ghost use Rattle.bgp_attr.specs.Written.{unwritable, is_empty, is_too_long, is_writable};
+ghost use Rattle.bgp_attr.specs.Prelude.{ref_value, unwritable, is_empty, is_too_long, is_writable};
 
-use crate::attr::Attr;
-use crate::attr_ref::AttrRef;
+use crate::attr::{Attr, AttrRef};
 use crate::unwritable::{
     Unwritable, has_as_zero, is_as4, is_empty, is_misnamed, is_too_wide, stands_twice,
 };
-use crate::write::put_value;
+use crate::value_writing::put_value;
 use bgp_open::Context;
 use bgp_wire::Counter;
 

@@ -8,20 +8,14 @@ use Rattle.std.proofs.lemmas.List.{length-append}
 use Rattle.bgp_numbers.specs.declared.afi.TheConstants.{IPV4, IPV6}
 use Rattle.bgp_numbers.specs.declared.capability.TheConstants.{MULTIPROTOCOL, FOUR_OCTET_AS}
 use Rattle.bgp_numbers.specs.declared.parameter.TheConstants.{CAPABILITIES}
-use Rattle.bgp_wire.specs.Octets.{AreOctets}
-use Rattle.bgp_wire.specs.Row.{Row}
+use Rattle.bgp_wire.specs.Prelude.{AreOctets, Row}
 use Rattle.bgp_wire.proofs.OctetLemmas.{AreOctets-front, AreOctets-back, AreOctets-drop}
 use Rattle.bgp_open.specs.declared.capability.Capability.{Capability}
 use Rattle.bgp_open.specs.declared.capability.Capability.TheVariants.{Multi, As4, Other}
 use Rattle.bgp_open.specs.declared.message.Open.{Open}
-use Rattle.bgp_open.specs.Agreement.{peer_as_of}
-use Rattle.bgp_open.specs.Capability.{multi_of, as4_of, IsCapability}
-use Rattle.bgp_open.specs.Open.{is_short_hold, is_zero_id, parameters_of, joined, IsOpen}
-use Rattle.bgp_open.specs.Parameter.{IsParameter}
-use Rattle.bgp_open.specs.Peer.{first_as4, is_unicast}
-use Rattle.bgp_open.specs.Written.{capability_octets, row_octets, parameter_octets, canonical, is_misnamed, is_bad_row, is_bad, HasRange, HasRanges}
+use Rattle.bgp_open.specs.Prelude.{peer_as_of, multi_of, as4_of, IsCapability, is_short_hold, is_zero_id, parameters_of, joined, IsOpen, IsParameter, first_as4, is_unicast, capability_octets, row_octets, parameter_octets, canonical, is_misnamed, is_bad_row, is_bad, HasRange, HasRanges}
 use Rattle.bgp_update.proofs.Lists.{all-none, none-all, all-append}
-use Rattle.bgp_clean.specs.Opens.{Seen, none_seen, goes_on, seen_behind, understood_behind, understood, cleaned_open, is_multi, lacks_family}
+use Rattle.bgp_clean.specs.Prelude.{Seen, none_seen, goes_on, seen_behind, understood_behind, understood, cleaned_open, is_multi, lacks_family}
 
 -- ---- those that are understood
 

@@ -6,22 +6,18 @@ use Rattle.std.proofs.lemmas.List.{length-append}
 use Rattle.std.proofs.lemmas.List.Concat.{flat_map-append}
 use Rattle.bgp_open.specs.declared.context.Context.{Context}
 use Rattle.bgp_attr.specs.declared.attr.Attr.{Attr}
-use Rattle.bgp_attr.specs.declared.attr.Attr.TheVariants as attr
 use Rattle.bgp_attr.specs.declared.opaque.Opaque.{Opaque}
-use Rattle.bgp_attr.specs.Judgement.{is_recognised}
-use Rattle.bgp_attr.specs.Table.{entry_of}
-use Rattle.bgp_attr.specs.Written.{canonical, run_octets, is_too_wide, is_as4, is_empty, has_as_zero, stands_twice, HasRanges}
+use Rattle.bgp_attr.specs.Prelude.{is_recognised, entry_of, canonical, run_octets, is_too_wide, is_as4, is_empty, has_as_zero, stands_twice, HasRanges}
+use Rattle.bgp_attr.specs.declared.attr.Attr.TheVariants as attr
 use Rattle.bgp_update.specs.declared.attrs.Attrs.{Attrs}
 use Rattle.bgp_update.specs.declared.update.Update.{Update}
-use Rattle.bgp_update.specs.Laws.{CanBeWritten}
-use Rattle.bgp_update.specs.Slots.{present, slots, slot, canonical_order, attr_list}
-use Rattle.bgp_update.specs.Written.{attributes_octets, is_of_other_family, rise, has_bad_others, any_attr, HasUpdateRanges}
+use Rattle.bgp_update.specs.Prelude.{CanBeWritten, present, slots, slot, canonical_order, attr_list, attributes_octets, is_of_other_family, rise, has_bad_others, any_attr, HasUpdateRanges}
 use Rattle.bgp_update.proofs.Bodies.{length-body}
 use Rattle.bgp_update.proofs.Lists.{all-none, none-all, all-carried}
 use Rattle.bgp_update.proofs.Rising.{of_kind, RisesFrom, rise-rises, rises-rise}
 use Rattle.bgp_update.proofs.SlotLemmas.{other_slot, slot-at}
 use Rattle.bgp_update.proofs.Validity.{IsAccepted, valid-accepted, accepted-valid}
-use Rattle.bgp_clean.specs.Updates.{cleaned_attrs, cleaned_update}
+use Rattle.bgp_clean.specs.Prelude.{cleaned_attrs, cleaned_update}
 
 -- ---- filtered lists
 

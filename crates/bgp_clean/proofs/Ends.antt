@@ -6,34 +6,26 @@ use Rattle.std.proofs.lemmas.Bool.{both_ways, eqb-true, or_parts, not-false}
 use Rattle.std.proofs.lemmas.List.{nil_from_length}
 use Rattle.bgp_numbers.specs.declared.afi.TheConstants.{IPV4}
 use Rattle.bgp_open.specs.declared.context.Context.{Context}
-use Rattle.bgp_prefix.specs.Prefix.{PrefixValue}
-use Rattle.bgp_prefix.specs.Run.{run_of}
+use Rattle.bgp_prefix.specs.Prelude.{PrefixValue, run_of}
 use Rattle.bgp_prefix.proofs.LawLemmas.{row_is_run}
 use Rattle.bgp_attr.specs.declared.attr.Attr.{Attr}
-use Rattle.bgp_attr.specs.declared.attr.Attr.TheVariants as attr
 use Rattle.bgp_attr.specs.declared.judged.Judged.{Judged}
 use Rattle.bgp_attr.specs.declared.mp.MpUnreach.{MpUnreach}
+use Rattle.bgp_attr.specs.Prelude.{canonical, is_writable, Belongs, HasRanges}
+use Rattle.bgp_attr.specs.declared.attr.Attr.TheVariants as attr
 use Rattle.bgp_attr.specs.declared.mp.MpUnreach.TheVariants as unreach
-use Rattle.bgp_attr.specs.Written.{canonical, is_writable, Belongs, HasRanges}
 use Rattle.bgp_update.specs.declared.attrs.Attrs.{Attrs}
 use Rattle.bgp_update.specs.declared.note.Note.{Note}
 use Rattle.bgp_update.specs.declared.update.Update.{Update}
+use Rattle.bgp_update.specs.Prelude.{CanBeWritten, Mark, field_marks, marks_of, Parts, parts_of, present, slot, attr_list, attrs_from, kept_by, kept_of, no_attrs, attrs_of, update_of, verdict_of, attributes_octets, written_body, is_of_other_family}
 use Rattle.bgp_update.specs.declared.verdict.Verdict.TheVariants as verdict
-use Rattle.bgp_update.specs.Laws.{CanBeWritten}
-use Rattle.bgp_update.specs.Marks.{Mark, field_marks, marks_of}
-use Rattle.bgp_update.specs.Parts.{Parts, parts_of}
-use Rattle.bgp_update.specs.Slots.{present, slot, attr_list}
-use Rattle.bgp_update.specs.Taken.{attrs_from, kept_by, kept_of, no_attrs, attrs_of, update_of}
-use Rattle.bgp_update.specs.Verdict.{verdict_of}
-use Rattle.bgp_update.specs.Written.{attributes_octets, written_body, is_of_other_family}
 use Rattle.bgp_update.proofs.Bodies.{body-parts, length-body}
 use Rattle.bgp_update.proofs.MarkLemmas.{KeepsAll, field-keep}
 use Rattle.bgp_update.proofs.QuietMarks.{no_marks}
 use Rattle.bgp_update.proofs.ReadBack.{valid-writable}
 use Rattle.bgp_update.proofs.SlotTypes.{recognised_types}
 use Rattle.bgp_update.proofs.Validity.{valid-accepted}
-use Rattle.bgp_clean.specs.Updates.{bare_family, family_of_kept, family_of_marks, end_of_rib, is_bare, says_nothing}
-use Rattle.bgp_clean.specs.Clean.{family_in}
+use Rattle.bgp_clean.specs.Prelude.{bare_family, family_of_kept, family_of_marks, end_of_rib, is_bare, says_nothing, family_in}
 use Rattle.bgp_update.proofs.Verdicts.{taken-of}
 
 -- ---- an MP_UNREACH_NLRI alone

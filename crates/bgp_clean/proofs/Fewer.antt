@@ -6,21 +6,18 @@ use Rattle.std.proofs.lemmas.Grind.{flat_map-append}
 use Rattle.std.proofs.lemmas.List.{length-append}
 use Rattle.bgp_open.specs.declared.context.Context.{Context}
 use Rattle.bgp_attr.specs.declared.attr.Attr.{Attr}
-use Rattle.bgp_attr.specs.declared.attr.Attr.TheVariants as attr
 use Rattle.bgp_attr.specs.declared.opaque.Opaque.{Opaque}
-use Rattle.bgp_attr.specs.Judgement.{is_recognised}
-use Rattle.bgp_attr.specs.Table.{has_entry, entry_of}
-use Rattle.bgp_attr.specs.Written.{canonical, is_writable, run_octets}
+use Rattle.bgp_attr.specs.Prelude.{is_recognised, has_entry, entry_of, canonical, is_writable, run_octets}
+use Rattle.bgp_attr.specs.declared.attr.Attr.TheVariants as attr
 use Rattle.bgp_update.specs.declared.attrs.Attrs.{Attrs}
 use Rattle.bgp_update.specs.declared.update.Update.{Update}
-use Rattle.bgp_update.specs.Slots.{present, slots, slot, canonical_order, attr_list}
-use Rattle.bgp_update.specs.Written.{attributes_octets, invalid_of, written_body}
+use Rattle.bgp_update.specs.Prelude.{present, slots, slot, canonical_order, attr_list, attributes_octets, invalid_of, written_body}
 use Rattle.bgp_update.proofs.Bodies.{length-body}
 use Rattle.bgp_update.proofs.Filtered.{find-dropped, find-kept}
 use Rattle.bgp_update.proofs.Lists.{all-append, all-front, all-back}
 use Rattle.bgp_update.proofs.ReadBack.{none-long, short-writable}
 use Rattle.bgp_update.proofs.SlotLemmas.{slot-at, slot-other, other_slot}
-use Rattle.bgp_clean.specs.Updates.{cleaned_attrs, cleaned_update}
+use Rattle.bgp_clean.specs.Prelude.{cleaned_attrs, cleaned_update}
 
 -- ---- an entry of a table that has it
 

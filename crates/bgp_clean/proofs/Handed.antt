@@ -3,50 +3,40 @@ use Rattle.std.proofs.Common.{◌≡◌, ℕ, ◌+◌, ◌≤◌, Bool, true, fa
 use Rattle.std.specs.Prelude.{is_some}
 use Rattle.std.proofs.lemmas.Bool.{not_from_false}
 use Rattle.std.proofs.lemmas.List.{length-drop}
-use Rattle.bgp_wire.specs.Octets.{AreOctets}
+use Rattle.bgp_wire.specs.Prelude.{AreOctets}
 use Rattle.bgp_wire.proofs.OctetLemmas.{AreOctets-back}
 use Rattle.bgp_frame.specs.declared.kind.Kind.{Kind}
+use Rattle.bgp_frame.specs.Prelude.{IsFrame, header}
 use Rattle.bgp_frame.specs.declared.kind.Kind.TheVariants as kind
 use Rattle.bgp_frame.specs.declared.notification.Notification.{Notification}
 use Rattle.bgp_frame.specs.Frame as frame
-use Rattle.bgp_frame.specs.Frame.{IsFrame}
-use Rattle.bgp_frame.specs.Head.{header}
 use Rattle.bgp_frame.proofs.FrameLemmas.{length-octets_of, length-IsFrame}
 use Rattle.bgp_frame.proofs.Headers.{below_4097}
 use Rattle.bgp_open.specs.declared.context.Context.{Context}
 use Rattle.bgp_open.specs.declared.capability.Capability.{Capability}
 use Rattle.bgp_open.specs.declared.fault.OpenFault.{OpenFault}
 use Rattle.bgp_open.specs.declared.message.Open.{Open}
-use Rattle.bgp_open.specs.OpenFault.{open_notification, reading_of}
+use Rattle.bgp_open.specs.Prelude.{open_notification, reading_of}
 use Rattle.bgp_open.proofs.Readings.{reading-spells}
-use Rattle.bgp_update.specs.Taken.{attrs_from}
+use Rattle.bgp_update.specs.Prelude.{attrs_from, parts_of, verdict_of, written_body}
 use Rattle.bgp_update.specs.declared.invalid.Invalid.{Invalid}
-use Rattle.bgp_update.specs.declared.invalid.Invalid.TheVariants as invalid
 use Rattle.bgp_update.specs.declared.note.Note.{Note}
 use Rattle.bgp_update.specs.declared.routes.Routes.{Routes}
 use Rattle.bgp_update.specs.declared.update.Update.{Update}
 use Rattle.bgp_update.specs.declared.verdict.Verdict.{Verdict}
+use Rattle.bgp_update.specs.declared.invalid.Invalid.TheVariants as invalid
 use Rattle.bgp_update.specs.declared.verdict.Verdict.TheVariants as verdict
 use Rattle.bgp_update.specs.Laws as updates
-use Rattle.bgp_update.specs.Parts.{parts_of}
-use Rattle.bgp_update.specs.Verdict.{verdict_of}
-use Rattle.bgp_update.specs.Written.{written_body}
 use Rattle.bgp_update.proofs.ReadBack.{valid-taken}
 use Rattle.bgp_update.proofs.Taken.{taken-written}
 use Rattle.bgp_msg.specs.declared.message.Message.{Message}
+use Rattle.bgp_msg.specs.Prelude.{HasMessageRanges, IsTakenAsItself, of_open_fault, of_reading, of_verdict, notification_in, written, canonical, body_of, invalid_of}
 use Rattle.bgp_msg.specs.declared.message.Message.TheVariants as message
-use Rattle.bgp_msg.specs.Laws.{HasMessageRanges, IsTakenAsItself}
-use Rattle.bgp_msg.specs.Outcome.{of_open_fault, of_reading, of_verdict, notification_in}
-use Rattle.bgp_msg.specs.Written.{written, canonical, body_of, invalid_of}
 use Rattle.bgp_msg.proofs.Itself.{valid-itself}
 use Rattle.bgp_msg.proofs.ReadOpens.{read-good, read-short}
 use Rattle.bgp_clean.specs.declared.fault.CleanFault.{CleanFault}
+use Rattle.bgp_clean.specs.Prelude.{family_in, ended_family, handed_update, handed, cleaned_outcome, cleaned, IsClean, no_lesson, lesson_by, lesson_in, lesson, cleaned_open, lacks_family, cleaned_update, withdrawal, says_nothing}
 use Rattle.bgp_clean.specs.declared.fault.CleanFault.TheVariants as fault
-use Rattle.bgp_clean.specs.Clean.{family_in, ended_family, handed_update, handed, cleaned_outcome, cleaned}
-use Rattle.bgp_clean.specs.Laws.{IsClean}
-use Rattle.bgp_clean.specs.Lesson.{no_lesson, lesson_by, lesson_in, lesson}
-use Rattle.bgp_clean.specs.Opens.{cleaned_open, lacks_family}
-use Rattle.bgp_clean.specs.Updates.{cleaned_update, withdrawal, says_nothing}
 use Rattle.bgp_clean.proofs.Dropped.{dropped-written, dropped-again}
 use Rattle.bgp_clean.proofs.Ends.{IsEnding, end_update, taken-ending, unending, written-end}
 use Rattle.bgp_clean.proofs.Lessons.{nothing-learned, cleaned-learned, withdrawal-learned}

@@ -1,26 +1,22 @@
 -- What a hearer learns of an UPDATE that is cleaned: the same, and nothing where it says nothing.
-use Rattle.std.proofs.Common.{◌≡◌, ℕ, Bool, true, false, ◌&&◌, ◌||◌, eqb, ltb, List, [], ◌∷◌, ◌++◌, length, Option, Some, None, refl, ap, ap₂, subst, ◌∙◌, if◌then◌else◌}
+use Rattle.std.proofs.Common.{◌≡◌, ℕ, Bool, true, false, ◌&&◌, ◌||◌, eqb, ltb, List, [], ◌∷◌, ◌++◌, length, Option, Some, None, refl, ap, ap₂, ◌∙◌, if◌then◌else◌}
 use Rattle.std.specs.Prelude.{is_some}
 use Rattle.std.specs.List.{AllByRecursion}
 use Rattle.std.proofs.lemmas.Bool.{false≢true, cond-false, eqb-true, and_parts}
 use Rattle.std.proofs.lemmas.List.{append-nil, nil_from_length}
 use Rattle.bgp_numbers.specs.declared.attribute.TheConstants.{MP_REACH_NLRI, MP_UNREACH_NLRI}
-use Rattle.bgp_prefix.specs.Prefix.{PrefixValue}
+use Rattle.bgp_prefix.specs.Prelude.{PrefixValue}
 use Rattle.bgp_attr.specs.declared.attr.Attr.{Attr}
-use Rattle.bgp_attr.specs.declared.attr.Attr.TheVariants as attr
 use Rattle.bgp_attr.specs.declared.mp.MpReach.{MpReach}
 use Rattle.bgp_attr.specs.declared.mp.MpUnreach.{MpUnreach}
+use Rattle.bgp_attr.specs.declared.attr.Attr.TheVariants as attr
 use Rattle.bgp_attr.specs.declared.mp.MpUnreach.TheVariants as unreach
-use Rattle.bgp_update.specs.Taken.{attrs_from}
+use Rattle.bgp_update.specs.Prelude.{attrs_from, gone_ip4, gone_ip6, has_routes, present, attr_list, announces}
 use Rattle.bgp_update.specs.declared.routes.Routes.{Routes}
 use Rattle.bgp_update.specs.declared.update.Update.{Update}
-use Rattle.bgp_update.specs.Notes.{gone_ip4, gone_ip6, has_routes}
-use Rattle.bgp_update.specs.Slots.{present, attr_list}
-use Rattle.bgp_update.specs.Written.{announces}
-use Rattle.bgp_update.proofs.SlotLemmas.{slot-at, slot-all}
+use Rattle.bgp_update.proofs.SlotLemmas.{field-all}
 use Rattle.bgp_msg.specs.declared.message.Message.TheVariants as message
-use Rattle.bgp_clean.specs.Updates.{cleaned_attrs, cleaned_update, unreach_of, withdrawal, bare_family, is_bare, says_nothing}
-use Rattle.bgp_clean.specs.Lesson.{Lesson, no_lesson, announced_by, lesson_by}
+use Rattle.bgp_clean.specs.Prelude.{cleaned_attrs, cleaned_update, unreach_of, withdrawal, bare_family, is_bare, says_nothing, Lesson, no_lesson, announced_by, lesson_by}
 use Rattle.bgp_clean.proofs.Dropped.{dropped-again}
 
 -- an MP_UNREACH_NLRI without routes
@@ -55,13 +51,11 @@ module _ (u : Update) (nothing : says_nothing u ≡ true) where
 
   none-reached : u.attrs.mp_reach ≡ None
   none-reached =
-      no-reach u.attrs.mp_reach
-      (subst (λ (xs : List Attr). AllByRecursion Bare xs) (slot-at u.attrs MP_REACH_NLRI) (slot-all Bare u.attrs MP_REACH_NLRI refl all))
+      no-reach u.attrs.mp_reach (field-all Bare u.attrs MP_REACH_NLRI refl all)
 
   none-gone : (gone_ip4 u.attrs.mp_unreach ≡ []) × (gone_ip6 u.attrs.mp_unreach ≡ [])
   none-gone =
-      no-gone u.attrs.mp_unreach
-      (subst (λ (xs : List Attr). AllByRecursion Bare xs) (slot-at u.attrs MP_UNREACH_NLRI) (slot-all Bare u.attrs MP_UNREACH_NLRI refl all))
+      no-gone u.attrs.mp_unreach (field-all Bare u.attrs MP_UNREACH_NLRI refl all)
 
   none-withdrawn : u.withdrawn ≡ []
   none-withdrawn = nil_from_length u.withdrawn (eqb-true (length u.withdrawn) 0 parts.0)

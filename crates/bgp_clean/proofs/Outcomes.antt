@@ -2,36 +2,31 @@
 use Rattle.std.proofs.Common.{◌≡◌, ℕ, ◌+◌, ◌≤◌, Bool, true, false, cond, List, [], ◌∷◌, ◌++◌, length, drop, Option, Some, None, Result, Ok, Err, refl, sym, ap, ap₂, subst, ◌∙◌, arith}
 use Rattle.std.specs.Prelude.{slice_index}
 use Rattle.std.proofs.lemmas.List.{nil_from_length}
-use Rattle.bgp_wire.specs.Octets.{AreOctets}
+use Rattle.bgp_wire.specs.Prelude.{AreOctets}
 use Rattle.bgp_frame.specs.declared.kind.Kind.{Kind}
+use Rattle.bgp_frame.specs.Prelude.{octets_of, header, IsLength}
 use Rattle.bgp_frame.specs.declared.kind.Kind.TheVariants as kind
 use Rattle.bgp_frame.specs.declared.notification.Notification.{Notification}
 use Rattle.bgp_frame.specs.Frame as frame
-use Rattle.bgp_frame.specs.Frame.{octets_of}
-use Rattle.bgp_frame.specs.Head.{header}
-use Rattle.bgp_frame.specs.Kind.{IsLength}
 use Rattle.bgp_frame.proofs.FrameLemmas.{length-octets_of}
 use Rattle.bgp_open.specs.declared.context.Context.{Context}
 use Rattle.bgp_open.specs.declared.fault.OpenFault.{OpenFault}
 use Rattle.bgp_open.specs.declared.message.Open.{Open}
-use Rattle.bgp_open.specs.OpenFault.{open_notification, reading_of}
-use Rattle.bgp_open.specs.Written.{is_bad}
+use Rattle.bgp_open.specs.Prelude.{open_notification, reading_of, is_bad}
 use Rattle.bgp_update.specs.declared.invalid.Invalid.{Invalid}
-use Rattle.bgp_update.specs.declared.invalid.Invalid.TheVariants as invalid
 use Rattle.bgp_update.specs.declared.note.Note.{Note}
 use Rattle.bgp_update.specs.declared.routes.Routes.{Routes}
 use Rattle.bgp_update.specs.declared.update.Update.{Update}
 use Rattle.bgp_update.specs.declared.verdict.Verdict.{Verdict}
+use Rattle.bgp_update.specs.Prelude.{verdict_of, withdrawal_octets}
+use Rattle.bgp_update.specs.declared.invalid.Invalid.TheVariants as invalid
 use Rattle.bgp_update.specs.declared.verdict.Verdict.TheVariants as verdict
-use Rattle.bgp_update.specs.Verdict.{verdict_of}
-use Rattle.bgp_update.specs.Withdrawal.{withdrawal_octets}
 use Rattle.bgp_update.specs.Written as updates
 use Rattle.bgp_update.proofs.Withdrawals.{withdrawal-short}
 use Rattle.bgp_msg.specs.declared.message.Message.TheVariants as message
 use Rattle.bgp_msg.specs.declared.outcome.Outcome.{Outcome}
+use Rattle.bgp_msg.specs.Prelude.{of_open_fault, of_reading, of_verdict, of_body, notification_in, out_of, canonical, kind_of, notification_octets, written}
 use Rattle.bgp_msg.specs.declared.outcome.Outcome.TheVariants as outcome
-use Rattle.bgp_msg.specs.Outcome.{of_open_fault, of_reading, of_verdict, of_body, notification_in, out_of}
-use Rattle.bgp_msg.specs.Written.{canonical, kind_of, notification_octets, written}
 use Rattle.bgp_msg.proofs.TakenMessages.{taken-body}
 
 good-by : (t : Bool) → (let why : Option Invalid = cond t (Some invalid.BadOpen) None in why ≡ None) → t ≡ false

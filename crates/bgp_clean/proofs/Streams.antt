@@ -2,25 +2,19 @@
 use Rattle.std.proofs.Common.{◌≡◌, ℕ, Bool, true, false, List, [], ◌∷◌, ◌++◌, length, map, take, Result, Ok, Err, refl, sym, ap, ap₂, subst, arith}
 use Rattle.std.specs.List.{flat_map, AllByRecursion}
 use Rattle.std.proofs.lemmas.List.{append-nil}
-use Rattle.bgp_wire.specs.Octets.{AreOctets}
-use Rattle.bgp_wire.specs.Row.{Row}
+use Rattle.bgp_wire.specs.Prelude.{AreOctets, Row}
 use Rattle.bgp_wire.proofs.OctetLemmas.{AreOctets-front, AreOctets-back}
 use Rattle.bgp_frame.specs.declared.end.End.TheVariants as end
 use Rattle.bgp_frame.specs.Frame as frame
-use Rattle.bgp_frame.specs.Frame.{IsFrame, Waits}
+use Rattle.bgp_frame.specs.Prelude.{IsFrame, Waits}
 use Rattle.bgp_frame.specs.Stream as stream
 use Rattle.bgp_frame.proofs.FrameLemmas.{wanted-bounds}
 use Rattle.bgp_open.specs.declared.context.Context.{Context}
 use Rattle.bgp_msg.specs.declared.message.Message.{Message}
 use Rattle.bgp_msg.specs.declared.outcome.Outcome.{Outcome}
-use Rattle.bgp_msg.specs.Laws.{IsTakenAsItself}
-use Rattle.bgp_msg.specs.Outcome.{is_reset, stream_rules}
-use Rattle.bgp_msg.specs.Written.{canonical, written}
+use Rattle.bgp_msg.specs.Prelude.{IsTakenAsItself, is_reset, stream_rules, canonical, written}
 use Rattle.bgp_clean.specs.declared.fault.CleanFault.{CleanFault}
-use Rattle.bgp_clean.specs.Clean.{cleaned}
-use Rattle.bgp_clean.specs.Laws.{IsClean, outcome_of, NoLonger, IsCleanStream}
-use Rattle.bgp_clean.specs.Lesson.{Lesson, lesson}
-use Rattle.bgp_clean.specs.Stream.{handed_then, cleaned_from, cleaned_stream}
+use Rattle.bgp_clean.specs.Prelude.{cleaned, IsClean, outcome_of, NoLonger, IsCleanStream, Lesson, lesson, handed_then, cleaned_from, cleaned_stream}
 use Rattle.bgp_clean.proofs.Handed.{handed-clean}
 
 module _ (ctx : Context) (drops : ℕ → Bool) where

@@ -7,10 +7,8 @@ use Rattle.bgp_numbers.specs.declared.afi.TheConstants.{IPV4, IPV6}
 use Rattle.bgp_open.specs.declared.capability.Capability.{Capability}
 use Rattle.bgp_open.specs.declared.capability.Capability.TheVariants.{Multi, As4, Other}
 use Rattle.bgp_open.specs.declared.message.Open.{Open}
-use Rattle.bgp_open.specs.Open.{is_short_hold, is_zero_id}
-use Rattle.bgp_open.specs.Peer.{is_unicast}
-use Rattle.bgp_open.specs.Written.{capability_octets, row_octets, is_misnamed, is_bad_row, is_bad}
-use Rattle.bgp_clean.specs.Opens.{Seen, none_seen, goes_on, seen_behind, understood, understood_behind, cleaned_open}
+use Rattle.bgp_open.specs.Prelude.{is_short_hold, is_zero_id, is_unicast, capability_octets, row_octets, is_misnamed, is_bad_row, is_bad}
+use Rattle.bgp_clean.specs.Prelude.{Seen, none_seen, goes_on, seen_behind, understood, understood_behind, cleaned_open}
 
 -- ---- in no more octets
 

@@ -5,20 +5,17 @@ use Rattle.std.specs.Option.{option_or}
 use Rattle.std.proofs.lemmas.Bool.{both_ways, false≢true, eqb-true, and_parts, and_right, or_from, not_from_true}
 use Rattle.std.proofs.lemmas.List.{append-nil, length-append}
 use Rattle.std.proofs.lemmas.List.Concat.{flat_map-append}
-use Rattle.bgp_wire.specs.Octets.{AreOctets}
-use Rattle.bgp_wire.specs.Row.{Row}
+use Rattle.bgp_wire.specs.Prelude.{AreOctets, Row}
 use Rattle.bgp_open.specs.declared.context.Context.{Context}
-use Rattle.bgp_prefix.specs.Prefix.{PrefixValue, IsValid, IsPrefix, spelling_of}
-use Rattle.bgp_prefix.specs.Run.{run_of}
+use Rattle.bgp_prefix.specs.Prelude.{PrefixValue, IsValid, IsPrefix, spelling_of, run_of}
 use Rattle.bgp_prefix.proofs.LawLemmas.{Row-rewritten}
 use Rattle.bgp_attr.specs.declared.attr.Attr.{Attr}
-use Rattle.bgp_attr.specs.declared.attr.Attr.TheVariants as attr
 use Rattle.bgp_attr.specs.declared.mp.MpReach.{MpReach}
-use Rattle.bgp_attr.specs.declared.mp.MpReach.TheVariants as reach
 use Rattle.bgp_attr.specs.declared.mp.MpUnreach.{MpUnreach}
+use Rattle.bgp_attr.specs.Prelude.{link_octets, canonical, run_octets, is_too_wide, is_as4, is_empty, has_as_zero, stands_twice, Belongs, HasRanges, value_octets}
+use Rattle.bgp_attr.specs.declared.attr.Attr.TheVariants as attr
+use Rattle.bgp_attr.specs.declared.mp.MpReach.TheVariants as reach
 use Rattle.bgp_attr.specs.declared.mp.MpUnreach.TheVariants as unreach
-use Rattle.bgp_attr.specs.Spelling.{link_octets}
-use Rattle.bgp_attr.specs.Written.{canonical, run_octets, is_too_wide, is_as4, is_empty, has_as_zero, stands_twice, Belongs, HasRanges, value_octets}
 use Rattle.bgp_numbers.specs.declared.afi.TheConstants.{IPV4, IPV6}
 use Rattle.bgp_attr.proofs.CanonicalLength.{length-canonical, reach_added}
 use Rattle.bgp_attr.proofs.RouteRows.{prefixes-valid}
@@ -26,21 +23,15 @@ use Rattle.bgp_update.specs.declared.attrs.Attrs.{Attrs}
 use Rattle.bgp_update.specs.declared.note.Note.{Note}
 use Rattle.bgp_update.specs.declared.routes.Routes.{Routes}
 use Rattle.bgp_update.specs.declared.update.Update.{Update}
+use Rattle.bgp_update.specs.Prelude.{CanBeWritten, marks_of, reached_ip4, reached_ip6, gone_ip4, gone_ip6, has_routes, is_reachable, routes_of, Parts, IsBody, present, attr_list, attrs_from, kept_of, attrs_of, first_reset, reset_of_run, reset_of, verdict_of, attributes_octets, written_body, is_of_other_family, HasUpdateRanges}
 use Rattle.bgp_update.specs.declared.verdict.Verdict.TheVariants as verdict
-use Rattle.bgp_update.specs.Laws.{CanBeWritten}
-use Rattle.bgp_update.specs.Marks.{marks_of}
-use Rattle.bgp_update.specs.Notes.{reached_ip4, reached_ip6, gone_ip4, gone_ip6, has_routes, is_reachable, routes_of}
-use Rattle.bgp_update.specs.Parts.{Parts, IsBody, has_nlri}
-use Rattle.bgp_update.specs.Slots.{present, attr_list}
-use Rattle.bgp_update.specs.Taken.{attrs_from, kept_of, attrs_of}
-use Rattle.bgp_update.specs.Verdict.{first_reset, reset_of_run, reset_of, verdict_of}
-use Rattle.bgp_update.specs.Written.{attributes_octets, written_body, is_of_other_family, HasUpdateRanges}
+use Rattle.bgp_update.specs.Parts.{has_nlri}
 use Rattle.bgp_update.proofs.Bodies.{length-body}
 use Rattle.bgp_update.proofs.KeptMarks.{or-parts}
 use Rattle.bgp_update.proofs.Lists.{all-append}
 use Rattle.bgp_update.proofs.Taken.{run-row, row-some}
 use Rattle.bgp_update.proofs.Validity.{IsAccepted, accepted-valid}
-use Rattle.bgp_clean.specs.Updates.{unreach_of, withdrawal, is_bare, says_nothing}
+use Rattle.bgp_clean.specs.Prelude.{unreach_of, withdrawal, is_bare, says_nothing}
 use Rattle.bgp_clean.proofs.Ends.{unreach_attrs, unreach-list}
 use Rattle.bgp_clean.proofs.HeldAttributes.{AreHeld, are-held, reach_attr, unreach_attr, reach-all, unreach-all, both-within}
 use Rattle.bgp_update.proofs.Verdicts.{has-parts, withdrawn-of}

@@ -3,18 +3,15 @@ use Rattle.std.proofs.Common.{◌≡◌, ℕ, List, [], ◌∷◌, refl, sym, ap
 use Rattle.std.specs.List.{flat_map}
 use Rattle.std.proofs.lemmas.List.{append-nil}
 use Rattle.bgp_open.specs.declared.context.Context.{Context}
-use Rattle.bgp_prefix.specs.Prefix.{PrefixValue}
+use Rattle.bgp_prefix.specs.Prelude.{PrefixValue}
 use Rattle.bgp_attr.specs.declared.attr.Attr.{Attr}
+use Rattle.bgp_attr.specs.Prelude.{canonical, run_octets}
 use Rattle.bgp_attr.specs.declared.mp.MpUnreach.TheVariants as unreach
-use Rattle.bgp_attr.specs.Written.{canonical, run_octets}
 use Rattle.bgp_update.specs.declared.attrs.Attrs.{Attrs}
 use Rattle.bgp_update.specs.declared.routes.Routes.{Routes}
-use Rattle.bgp_update.specs.Slots.{slot}
-use Rattle.bgp_update.specs.Taken.{attrs_from, no_attrs}
-use Rattle.bgp_update.specs.Withdrawal.{whole_unreach, gone_octets, withdrawal_octets}
-use Rattle.bgp_update.specs.Written.{attributes_octets, body_octets, written_body}
+use Rattle.bgp_update.specs.Prelude.{slot, attrs_from, no_attrs, whole_unreach, gone_octets, withdrawal_octets, attributes_octets, body_octets, written_body}
 use Rattle.bgp_update.proofs.SlotTypes.{recognised_types}
-use Rattle.bgp_clean.specs.Updates.{unreach_of, withdrawal}
+use Rattle.bgp_clean.specs.Prelude.{unreach_of, withdrawal}
 
 module _ (ctx : Context) where
   abbrev gone : List PrefixValue → Attrs

@@ -2,7 +2,7 @@
 use Rattle.std.specs.Prelude.{◌≡◌, ℕ, List, ◌++◌, Result, Ok, Err}
 use Rattle.bgp_open.specs.declared.context.Context.{Context}
 use Rattle.bgp_msg.specs.declared.message.Message.{Message}
-use Rattle.bgp_msg.specs.Written.{canonical}
+use Rattle.bgp_msg.specs.Prelude.{canonical}
 use Rattle.bgp_clean.specs.declared.cleaned.Cleaned.{Cleaned}
 use Rattle.bgp_clean.specs.declared.cleaned.Cleaned.TheVariants.{HandedOn, Ends}
 use Rattle.bgp_clean.specs.declared.fault.CleanFault.{CleanFault}

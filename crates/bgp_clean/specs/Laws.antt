@@ -2,15 +2,12 @@
 use Rattle.std.specs.Prelude.{◌≡◌, ◌≤◌, ℕ, Bool, List, [], ◌∷◌, length, map, take, Ok}
 use Rattle.bgp_frame.specs.declared.end.End.TheVariants as end
 use Rattle.bgp_frame.specs.Frame as frame
-use Rattle.bgp_frame.specs.Frame.{octets_of}
-use Rattle.bgp_frame.specs.Stream.{Gives}
+use Rattle.bgp_frame.specs.Prelude.{octets_of, Gives}
 use Rattle.bgp_open.specs.declared.context.Context.{Context}
 use Rattle.bgp_msg.specs.declared.message.Message.{Message}
 use Rattle.bgp_msg.specs.declared.outcome.Outcome.{Outcome}
+use Rattle.bgp_msg.specs.Prelude.{IsTakenAsItself, stream_rules, canonical, written}
 use Rattle.bgp_msg.specs.declared.outcome.Outcome.TheVariants as outcome
-use Rattle.bgp_msg.specs.Laws.{IsTakenAsItself}
-use Rattle.bgp_msg.specs.Outcome.{stream_rules}
-use Rattle.bgp_msg.specs.Written.{canonical, written}
 use Rattle.bgp_clean.specs.Clean.{cleaned}
 use Rattle.bgp_clean.specs.Lesson.{lesson}
 use Rattle.bgp_clean.specs.Stream.{cleaned_stream, cleaned_octets}

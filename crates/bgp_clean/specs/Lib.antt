@@ -6,4 +6,5 @@ pub mod Lesson
 pub mod Stream
 pub mod Laws
 pub mod Cleaned
+pub mod Prelude
 pub mod steps

@@ -5,7 +5,7 @@ use Rattle.bgp_numbers.specs.declared.afi.TheConstants.{IPV4, IPV6}
 use Rattle.bgp_open.specs.declared.capability.Capability.{Capability}
 use Rattle.bgp_open.specs.declared.capability.Capability.TheVariants.{Multi, As4, Other}
 use Rattle.bgp_open.specs.declared.message.Open.{Open}
-use Rattle.bgp_open.specs.Peer.{is_unicast}
+use Rattle.bgp_open.specs.Prelude.{is_unicast}
 
 -- which of the three were there before: IPv4 unicast, IPv6 unicast, AS numbers of four octets
 pub record Seen : Type 0 where

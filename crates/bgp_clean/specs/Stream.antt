@@ -4,7 +4,7 @@ use Rattle.std.specs.List.{flat_map}
 use Rattle.bgp_frame.specs.Frame as frame
 use Rattle.bgp_open.specs.declared.context.Context.{Context}
 use Rattle.bgp_msg.specs.declared.message.Message.{Message}
-use Rattle.bgp_msg.specs.Written.{canonical}
+use Rattle.bgp_msg.specs.Prelude.{canonical}
 use Rattle.bgp_clean.specs.declared.fault.CleanFault.{CleanFault}
 use Rattle.bgp_clean.specs.Clean.{cleaned}
 

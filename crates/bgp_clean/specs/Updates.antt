@@ -1,14 +1,13 @@
 -- What goes on of an UPDATE (RFC 7606), and which one says nothing.
 use Rattle.std.specs.Prelude.{ℕ, Bool, true, is_some, ◌&&◌, ◌==◌, List, [], ◌∷◌, length, Option, None, Some}
-use Rattle.bgp_prefix.specs.Prefix.{PrefixValue}
+use Rattle.bgp_prefix.specs.Prelude.{PrefixValue}
 use Rattle.bgp_attr.specs.declared.attr.Attr.{Attr}
 use Rattle.bgp_attr.specs.declared.mp.MpUnreach.{MpUnreach}
 use Rattle.bgp_attr.specs.declared.mp.MpUnreach.TheVariants as unreach
 use Rattle.bgp_update.specs.declared.attrs.Attrs.{Attrs}
 use Rattle.bgp_update.specs.declared.routes.Routes.{Routes}
 use Rattle.bgp_update.specs.declared.update.Update.{Update}
-use Rattle.bgp_update.specs.Slots.{attr_list}
-use Rattle.bgp_update.specs.Taken.{no_attrs}
+use Rattle.bgp_update.specs.Prelude.{attr_list, no_attrs}
 use Rattle.bgp_update.specs.Without.{attrs_without, update_without}
 pub use Rattle.bgp_update.specs.EndOfRib.{bare_family, family_of_kept, family_of_marks, end_of_rib}
 

@@ -1,19 +1,13 @@
 //! Cleaning a message.
 
 ghost use Rattle.std.specs.Prelude.{◌≡◌, ◌+◌, ◌<◌, ◌≤◌, Ok, length, IfOk, OnErr};
-ghost use Rattle.bgp_wire.specs.OctetSet.{has_octet};
-ghost use Rattle.bgp_wire.specs.Octets.{AreOctets};
-ghost use Rattle.bgp_frame.specs.Frame.{octets_of};
-ghost use Rattle.bgp_frame.specs.Kind.{IsLength};
-ghost use Rattle.bgp_frame.specs.Step.{message_in};
-ghost use Rattle.bgp_update.specs.View.{routes_value};
-ghost use Rattle.bgp_update.specs.Withdrawal.{withdrawal_octets};
+ghost use Rattle.bgp_wire.specs.Prelude.{has_octet, AreOctets};
+ghost use Rattle.bgp_frame.specs.Prelude.{octets_of, IsLength, message_in};
+ghost use Rattle.bgp_update.specs.Prelude.{routes_value, withdrawal_octets};
 ghost use Rattle.bgp_msg.specs.declared.message.Message.{Message};
+ghost use Rattle.bgp_msg.specs.Prelude.{canonical};
 ghost use Rattle.bgp_msg.specs.declared.message.Message.TheVariants as message;
-ghost use Rattle.bgp_msg.specs.Written.{canonical};
-ghost use Rattle.bgp_clean.specs.Clean.{cleaned};
-ghost use Rattle.bgp_clean.specs.Cleaned.{IsCleaned};
-ghost use Rattle.bgp_clean.specs.Updates.{withdrawal};
+ghost use Rattle.bgp_clean.specs.Prelude.{cleaned, IsCleaned, withdrawal};
 
 use crate::cleaned::Cleaned;
 use crate::fault::CleanFault;

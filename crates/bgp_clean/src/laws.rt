@@ -1,14 +1,12 @@
 //! Laws of cleaning. Each is the contract of a function that does nothing.
 
 ghost use Rattle.std.specs.Prelude.{◌≡◌, ℕ, Bool, List, Ok};
-ghost use Rattle.bgp_wire.specs.Octets.{AreOctets};
-ghost use Rattle.bgp_wire.specs.Row.{Row};
+ghost use Rattle.bgp_wire.specs.Prelude.{AreOctets, Row};
 ghost use Rattle.bgp_frame.specs.Frame as frame;
-ghost use Rattle.bgp_frame.specs.Frame.{IsFrame};
+ghost use Rattle.bgp_frame.specs.Prelude.{IsFrame};
 ghost use Rattle.bgp_open.specs.declared.context.Context.{Context};
 ghost use Rattle.bgp_msg.specs.declared.message.Message.{Message};
-ghost use Rattle.bgp_clean.specs.Clean.{cleaned};
-ghost use Rattle.bgp_clean.specs.Laws.{IsClean, IsCleanStream};
+ghost use Rattle.bgp_clean.specs.Prelude.{cleaned, IsClean, IsCleanStream};
 
 /// What is handed on of a message is accepted without a note in the same context, is unchanged where it is cleaned again, is no longer than the message,
 /// and teaches a hearer what RFC 7606 has the hearer of the message learn.

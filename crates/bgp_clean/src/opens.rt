@@ -2,17 +2,10 @@
 
 ghost use Rattle.std.specs.Prelude.{◌≡◌, ◌+◌, ◌<◌, ◌≤◌, ◌||◌, ◌++◌, false, length, IfOk, OnOk, OnErr};
 ghost use Rattle.bgp_msg.specs.declared.message.Message.TheVariants as message;
-ghost use Rattle.bgp_msg.specs.Written.{canonical};
+ghost use Rattle.bgp_msg.specs.Prelude.{canonical};
 ghost use Rattle.bgp_numbers.specs.declared.afi.TheConstants.{IPV4, IPV6};
-ghost use Rattle.bgp_open.specs.CapabilityIter.{capabilities_left};
-ghost use Rattle.bgp_open.specs.CapabilityView.{capability_value};
-ghost use Rattle.bgp_open.specs.OpenView.{open_value};
-ghost use Rattle.bgp_open.specs.Peer.{is_unicast};
-ghost use Rattle.bgp_open.specs.Written.{capability_octets, is_bad, row_octets};
-ghost use Rattle.bgp_clean.specs.Clean.{handed_open};
-ghost use Rattle.bgp_clean.specs.Cleaned.{IsCleaned};
-ghost use Rattle.bgp_clean.specs.Opens.{none_seen, goes_on, seen_behind, understood, cleaned_open, is_multi, lacks_family};
-ghost use Rattle.bgp_clean.specs.steps.Seen.{seen_value};
+ghost use Rattle.bgp_open.specs.Prelude.{capabilities_left, capability_value, open_value, is_unicast, capability_octets, is_bad, row_octets};
+ghost use Rattle.bgp_clean.specs.Prelude.{handed_open, IsCleaned, none_seen, goes_on, seen_behind, understood, cleaned_open, is_multi, lacks_family, seen_value};
 
 use crate::cleaned::Cleaned;
 use crate::fault::CleanFault;

@@ -2,18 +2,13 @@
 
 ghost use Rattle.std.specs.Prelude.{◌≡◌, ◌+◌, ◌<◌, ◌≤◌, ◌++◌, true, is_some, None, Ok, length, IfOk, OnOk, OnErr};
 ghost use Rattle.std.specs.List.{AllByRecursion};
-ghost use Rattle.bgp_attr.specs.Written.{is_writable};
-ghost use Rattle.bgp_update.specs.Slots.{attr_list};
-ghost use Rattle.bgp_frame.specs.Step.{message_in};
-ghost use Rattle.bgp_wire.specs.OctetSet.{has_octet};
-ghost use Rattle.bgp_update.specs.Chosen.{chosen_update};
+ghost use Rattle.bgp_attr.specs.Prelude.{is_writable};
+ghost use Rattle.bgp_update.specs.Prelude.{attr_list, chosen_update, update_value, invalid_of, written_body};
+ghost use Rattle.bgp_frame.specs.Prelude.{message_in};
+ghost use Rattle.bgp_wire.specs.Prelude.{has_octet};
 ghost use Rattle.bgp_update.specs.ChosenIter.{chosen_left};
-ghost use Rattle.bgp_update.specs.View.{update_value};
-ghost use Rattle.bgp_update.specs.Written.{invalid_of, written_body};
-ghost use Rattle.bgp_msg.specs.Written.{canonical};
-ghost use Rattle.bgp_clean.specs.Clean.{ended_family, handed_update};
-ghost use Rattle.bgp_clean.specs.Cleaned.{IsCleaned};
-ghost use Rattle.bgp_clean.specs.Updates.{cleaned_update, is_bare, says_nothing};
+ghost use Rattle.bgp_msg.specs.Prelude.{canonical};
+ghost use Rattle.bgp_clean.specs.Prelude.{ended_family, handed_update, IsCleaned, cleaned_update, is_bare, says_nothing};
 
 use crate::cleaned::Cleaned;
 use crate::whole::{Body, put_whole};

@@ -1,8 +1,7 @@
 //! A whole message that is handed on: room for a header comes first, then the body, then the header.
 
 ghost use Rattle.std.specs.Prelude.{◌≡◌, ◌+◌, ◌<◌, ◌++◌, length, OnOk, OnErr};
-ghost use Rattle.bgp_frame.specs.Frame.{octets_of};
-ghost use Rattle.bgp_frame.specs.Kind.{IsLength};
+ghost use Rattle.bgp_frame.specs.Prelude.{octets_of, IsLength};
 ghost use Rattle.bgp_clean.specs.steps.Bodies.{kind_in, octets_in, message_of, IsWritable};
 
 use bgp_frame::Kind;

@@ -3,12 +3,7 @@ use Rattle.std.proofs.Common.{◌≡◌, ℕ, Bool, true, false, List, [], ◌++
 use Rattle.std.specs.Prelude.{option_to_list, MatchOption}
 use Rattle.std.proofs.lemmas.List.{append-nil}
 use Rattle.bgp_engine.specs.declared.hex_text.HexText.{HexText}
-use Rattle.bgp_engine.specs.HexText.{spelled}
-use Rattle.bgp_engine.specs.steps.HexSteps.{pending, Continues, Breaks}
-use Rattle.bgp_engine.specs.Output.{IsFront}
-use Rattle.bgp_engine.specs.steps.Engine.{Takes}
-use Rattle.bgp_engine.specs.Run.{Reports, stream_of}
-use Rattle.bgp_engine.specs.steps.Blocks.{Spells, SpellsNoMore, MeetsOver}
+use Rattle.bgp_engine.specs.Prelude.{spelled, pending, Continues, Breaks, IsFront, Takes, Reports, stream_of, Spells, SpellsNoMore, MeetsOver}
 
 nothing_pending : (reader : HexText) → reader.pending ≡ None → pending reader ≡ []
 nothing_pending reader e = ap option_to_list e

@@ -4,7 +4,7 @@ use Rattle.std.specs.Prelude.{unwrap_or}
 use Rattle.std.specs.List.{range_with_len}
 use Rattle.std.proofs.lemmas.List.FromFn.{get_or-map-range_with_len}
 use Rattle.hex.specs.Hex.{hex_digit_value}
-use Rattle.bgp_engine.specs.steps.HexDigits.{value_or_none}
+use Rattle.bgp_engine.specs.Prelude.{value_or_none}
 use Rattle.bgp_engine.proofs.HexPairs.{digit_value_bound}
 
 pub in_table : (c : ℕ) → c < 256 → get_or (map value_or_none (range_with_len 0 256)) c 0 ≡ value_or_none c

@@ -4,11 +4,10 @@ use Rattle.std.proofs.lemmas.Bool.{lt-ltb, le-ltb}
 use Rattle.std.proofs.Math.Seq.{drop-append_seam}
 use Rattle.std.proofs.lemmas.List.{length-append, take-append-drop, take-append-le, take_all}
 use Rattle.bgp_frame.specs.declared.fault.HeadFault.{HeadFault}
-use Rattle.bgp_frame.specs.Head.{head_of, header}
-use Rattle.bgp_frame.specs.Frame.{Message, octets_of, IsFrame, Waits, wanted, wanted_by}
+use Rattle.bgp_frame.specs.Prelude.{head_of, header, Message, octets_of, IsFrame, Waits, wanted, wanted_by}
 use Rattle.bgp_frame.proofs.FrameLemmas.{head_of-append, head_of-IsFrame, length-IsFrame, wanted-append, wanted_by_head, IsFrame-wanted}
 use Rattle.bgp_frame.proofs.Headers.{length-header}
-use Rattle.bgp_engine.specs.File.{is_part, first_message, first_open, open_in}
+use Rattle.bgp_engine.specs.Prelude.{is_part, first_message, first_open, open_in}
 
 pub waits_part : (s : List ℕ) → Waits s → is_part s ≡ true
 waits_part s waits = lt-ltb (length s) (wanted s) waits

@@ -3,9 +3,9 @@ use Rattle.std.proofs.Common.{◌≡◌, ℕ, zero, suc, ◌+◌, ◌-◌, ◌*�
 use Rattle.std.specs.Prelude.{unwrap_or}
 use Rattle.std.proofs.lemmas.Bool.{leb-true, and_parts, eqb-true, or_cases, false_from_ne_true, false≢true}
 use Rattle.hex.specs.Hex.{is_hex_digit}
-use Rattle.bgp_wire.specs.Octets.{AreOctets}
+use Rattle.bgp_wire.specs.Prelude.{AreOctets}
 use Rattle.bgp_wire.proofs.OctetLemmas.{AreOctets-nil}
-use Rattle.bgp_engine.specs.HexText.{is_blank, digit_value, spelled, bad_from}
+use Rattle.bgp_engine.specs.Prelude.{is_blank, digit_value, spelled, bad_from}
 
 -- ---- one character at the front of a text
 

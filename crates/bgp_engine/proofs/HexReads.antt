@@ -5,11 +5,9 @@ use Rattle.std.specs.Prelude.{option_to_list}
 use Rattle.std.specs.Option.{option_map}
 use Rattle.hex.specs.Hex.{is_hex_digit}
 use Rattle.bgp_engine.specs.declared.hex_text.HexText.{HexText}
-use Rattle.bgp_engine.specs.HexText.{is_blank, digit_value, spelled, bad_from}
-use Rattle.bgp_engine.specs.steps.HexDigits.{FirstPair, IsPair}
-use Rattle.bgp_wire.specs.Octets.{AreOctets}
+use Rattle.bgp_engine.specs.Prelude.{is_blank, digit_value, spelled, bad_from, FirstPair, IsPair, pending, place, Continues, Breaks, ReadsPairs}
+use Rattle.bgp_wire.specs.Prelude.{AreOctets}
 use Rattle.bgp_wire.proofs.OctetLemmas.{AreOctets-nil, AreOctets-push, AreOctets-append}
-use Rattle.bgp_engine.specs.steps.HexSteps.{pending, place, Continues, Breaks, ReadsPairs}
 use Rattle.bgp_engine.proofs.HexPairs.{spelled-pair, spelled-half, spelled-blank, spelled-bad, bad_from-pair, bad_from-half, bad_from-blank, bad_from-bad}
 
 module _ (old new : HexText) (c : ℕ) where

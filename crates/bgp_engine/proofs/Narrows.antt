@@ -1,27 +1,25 @@
 -- An UPDATE that is accepted where AS numbers have four octets can be told to a speaker with two.
 use Rattle.std.proofs.Common.{◌≡◌, ◌≤◌, ◌+◌, ℕ, true, length, arith, List, Option, Some, None, Result, Ok, Err, refl, subst}
 use Rattle.std.proofs.lemmas.Bool.{le-ltb}
-use Rattle.bgp_wire.specs.Octets.{AreOctets}
-use Rattle.bgp_frame.specs.Kind.{IsLength}
+use Rattle.bgp_wire.specs.Prelude.{AreOctets}
+use Rattle.bgp_frame.specs.Prelude.{IsLength}
 use Rattle.bgp_frame.specs.declared.kind.Kind.{Kind}
 use Rattle.bgp_frame.specs.declared.kind.Kind.TheVariants as kind
 use Rattle.bgp_frame.specs.declared.notification.Notification.{Notification}
 use Rattle.bgp_open.specs.declared.context.Context.{Context}
 use Rattle.bgp_open.specs.declared.fault.OpenFault.{OpenFault}
 use Rattle.bgp_open.specs.declared.message.Open.{Open}
-use Rattle.bgp_open.specs.OpenFault.{open_notification, reading_of}
+use Rattle.bgp_open.specs.Prelude.{open_notification, reading_of}
 use Rattle.bgp_update.specs.declared.note.Note.{Note}
 use Rattle.bgp_update.specs.declared.update.Update.{Update}
 use Rattle.bgp_update.specs.declared.verdict.Verdict.{Verdict}
+use Rattle.bgp_update.specs.Prelude.{CanBeTold, written_body, verdict_of}
 use Rattle.bgp_update.specs.declared.verdict.Verdict.TheVariants as verdict
-use Rattle.bgp_update.specs.Told.{CanBeTold}
-use Rattle.bgp_update.specs.Written.{written_body}
-use Rattle.bgp_update.specs.Verdict.{verdict_of}
 use Rattle.bgp_update.proofs.Taken.{taken-written}
 use Rattle.bgp_msg.specs.declared.message.Message.TheVariants as message
 use Rattle.bgp_msg.specs.declared.outcome.Outcome.{Outcome}
+use Rattle.bgp_msg.specs.Prelude.{of_open_fault, of_reading, of_verdict, of_body}
 use Rattle.bgp_msg.specs.declared.outcome.Outcome.TheVariants as outcome
-use Rattle.bgp_msg.specs.Outcome.{of_open_fault, of_reading, of_verdict, of_body}
 
 same_update : (x u : Update) (ns notes : List Note) → (let taken : Outcome = outcome.Took (message.Update x) ns in taken ≡ outcome.Took (message.Update u) notes) → x ≡ u
 same_update x u ns notes is = cc

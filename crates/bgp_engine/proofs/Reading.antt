@@ -4,20 +4,15 @@ use Rattle.std.specs.Prelude.{option_to_list, Result, Ok, Err}
 use Rattle.std.specs.Io.KnownBytes.{Consumes, Appends, IsAtEnd, Keeps}
 use Rattle.std.proofs.KnownBytes.{Consumes-nil, Consumes-trans, Consumes-kept, Appends-nil, Appends-trans}
 use Rattle.std.proofs.lemmas.List.{append-nil}
-use Rattle.bgp_wire.specs.Octets.{AreOctets}
+use Rattle.bgp_wire.specs.Prelude.{AreOctets}
 use Rattle.bgp_wire.proofs.OctetLemmas.{AreOctets-nil, AreOctets-append, AreOctets-back}
 use Rattle.bgp_frame.specs.declared.end.End.{End}
 use Rattle.hex.specs.Hex.{is_hex_digit}
 use Rattle.bgp_engine.specs.declared.fault.ToolFault.{ToolFault}
-use Rattle.bgp_engine.specs.declared.fault.ToolFault.TheVariants as fault
 use Rattle.bgp_engine.specs.declared.hex_text.HexText.{HexText}
 use Rattle.bgp_engine.specs.declared.tally.Tally.{Tally}
-use Rattle.bgp_engine.specs.steps.HexSteps.{pending, place}
-use Rattle.bgp_engine.specs.Output.{IsFront, AppendsFront, FailsWithin}
-use Rattle.bgp_engine.specs.Report.{Report, behind, IsWaiting}
-use Rattle.bgp_engine.specs.steps.Engine.{GoesOn, Rests, IsTotal, OfOctets}
-use Rattle.bgp_engine.specs.Run.{IsFaultOf, Io, Reports, stream_of, bad_of, IsAllRead, Finishes, IsBadAt, Fails, Answers}
-use Rattle.bgp_engine.specs.steps.Blocks.{MeetsBlock, MeetsBad, MeetsOver, WritesAll, WritesNone, Finished}
+use Rattle.bgp_engine.specs.Prelude.{pending, place, IsFront, AppendsFront, FailsWithin, Report, behind, IsWaiting, GoesOn, Rests, IsTotal, OfOctets, IsFaultOf, Io, Reports, stream_of, bad_of, IsAllRead, Finishes, IsBadAt, Fails, Answers, MeetsBlock, MeetsBad, MeetsOver, WritesAll, WritesNone, Finished}
+use Rattle.bgp_engine.specs.declared.fault.ToolFault.TheVariants as fault
 use Rattle.bgp_engine.proofs.HexPairs.{spelled-nil, spelled-digit, spelled-octets, bad_from-nil, bad_from-digit}
 
 module _ (reports0 : Reports) (hex : Bool) (r0 w0 : Option (List ℕ)) where

@@ -2,12 +2,8 @@
 use Rattle.std.proofs.Common.{◌≡◌, ℕ, Bool, ◌&&◌, eqb, List, Ok, refl, ap, ◌∙◌}
 use Rattle.std.proofs.lemmas.Bool.{eqb-true}
 use Rattle.bgp_open.specs.declared.context.Context.{Context}
-use Rattle.bgp_open.specs.Agreement.{agreement, context_of, peer_as_of, same_id}
-use Rattle.bgp_open.specs.Config.{Settings, IsAllowed}
-use Rattle.bgp_open.specs.Own.{own_of}
+use Rattle.bgp_open.specs.Prelude.{agreement, context_of, peer_as_of, same_id, Settings, IsAllowed, own_of, agreed_context, settings_of, said_by}
 use Rattle.bgp_open.proofs.Agreements.{accepted, finds_ip4, finds_ip6, has_as4, peer_as-own}
-use Rattle.bgp_open.specs.Agreed.{agreed_context, settings_of}
-use Rattle.bgp_open.specs.Peer.{said_by}
 
 same_settings : (l m n h : ℕ) (i : List ℕ) (p q r p1 q1 r1 : Bool) → l ≡ m → p ≡ p1 → q ≡ q1 → r ≡ r1
     → (let s : Settings = record { local_as = l; peer_as = n; id = i; hold = h; as4 = p; ip4 = q; ip6 = r } in

@@ -3,42 +3,27 @@ use Rattle.std.proofs.Common.{◌≡◌, ℕ, ◌+◌, ◌≤◌, Bool, true, fa
 use Rattle.std.specs.Prelude.{is_some, if◌then◌else◌, OnErr}
 use Rattle.std.specs.Option.{unwrap_or}
 use Rattle.std.proofs.lemmas.List.{append-nil, length-append, take_all, take-append-drop}
-use Rattle.bgp_wire.specs.Octets.{AreOctets}
+use Rattle.bgp_wire.specs.Prelude.{AreOctets, has_octet}
 use Rattle.bgp_wire.proofs.OctetLemmas.{AreOctets-append, AreOctets-back, AreOctets-drop}
 use Rattle.bgp_frame.specs.declared.end.End.{End}
-use Rattle.bgp_frame.specs.declared.end.End.TheVariants as end
 use Rattle.bgp_frame.specs.declared.fault.HeadFault.{HeadFault}
-use Rattle.bgp_frame.specs.Frame.{Message, octets_of, IsFrame, Waits, wanted}
-use Rattle.bgp_frame.specs.Head.{head_of}
+use Rattle.bgp_frame.specs.Prelude.{Message, octets_of, IsFrame, Waits, wanted, head_of, Stops}
+use Rattle.bgp_frame.specs.declared.end.End.TheVariants as end
 use Rattle.bgp_frame.specs.Takes as frame
-use Rattle.bgp_frame.specs.Takes.{Stops}
 use Rattle.bgp_frame.proofs.FrameLemmas.{head_of-append, length-IsFrame, Stops-wanted}
 use Rattle.bgp_frame.proofs.Holding.{IsHeld_nil}
 use Rattle.bgp_frame.proofs.Streams.{gives_wait}
 use Rattle.bgp_open.specs.declared.context.Context.{Context}
-use Rattle.bgp_wire.specs.OctetSet.{has_octet}
 use Rattle.bgp_engine.specs.declared.cleaning.CleanPage.{CleanPage}
 use Rattle.bgp_engine.specs.declared.class.Class.TheVariants as class
 use Rattle.bgp_engine.specs.declared.fault.Stop.TheVariants as stop
 use Rattle.bgp_engine.specs.declared.fault.ToolFault.{ToolFault}
-use Rattle.bgp_engine.specs.declared.fault.ToolFault.TheVariants as fault
 use Rattle.bgp_engine.specs.declared.tally.Tally.{Tally}
+use Rattle.bgp_engine.specs.Prelude.{start_in, without_words, first_message, first_open, is_part, open_at, open_in, Start, Starts, ReportedAt, ReportedAs, ReportedFrom, ReportedWith, ReportedWithout, ReportedBy, ReportedIn, fit_of, unagreed, unagreed_end, Report, behind, IsOver, IsWaiting, Rules, counted, report_of, IsReport, Answers, Io, Reports, no_tally, Closes, GoesOn, IsTotal, Rests, Takes, Plan, SettlesOn, start_of, starts_of, IsFresh, Settles, reports_in, starting, Walking, IsCounting, IsReady, reports_of, walking, agreed}
+use Rattle.bgp_engine.specs.declared.fault.ToolFault.TheVariants as fault
 use Rattle.bgp_engine.specs.declared.opening.Stage.TheVariants as stage
-use Rattle.bgp_engine.specs.Agree.{agreed}
-use Rattle.bgp_engine.specs.Clean.{start_in, without_words}
-use Rattle.bgp_engine.specs.File.{first_message, first_open, is_part, open_at, open_in}
-use Rattle.bgp_engine.specs.First.{Start, Starts, ReportedAt, ReportedAs, ReportedFrom, ReportedWith, ReportedWithout}
-use Rattle.bgp_engine.specs.Opens.{ReportedBy, ReportedIn, fit_of, unagreed, unagreed_end}
-use Rattle.bgp_engine.specs.Report.{Report, behind, IsOver, IsWaiting}
-use Rattle.bgp_engine.specs.Rules.{Rules, counted, report_of, IsReport}
-use Rattle.bgp_engine.specs.Run.{Answers, Io, Reports}
-use Rattle.bgp_engine.specs.Tally.{no_tally}
 use Rattle.bgp_engine.specs.steps.Cleaning.{clean_plan, page_rules, starts_for}
-use Rattle.bgp_engine.specs.steps.Engine.{Closes, GoesOn, IsTotal, Rests, Takes}
-use Rattle.bgp_engine.specs.steps.Pages.{Plan}
 use Rattle.bgp_engine.specs.steps.Starting as steps
-use Rattle.bgp_engine.specs.steps.Starting.{SettlesOn, start_of, starts_of, IsFresh, Settles, reports_in, starting}
-use Rattle.bgp_engine.specs.steps.Walking.{Walking, IsCounting, IsReady, reports_of, walking}
 use Rattle.bgp_engine.proofs.FirstOpens.{waits_part, frame_first, frame_whole, fault_whole, fault_first}
 use Rattle.bgp_engine.proofs.Reading.{goes_further}
 use Rattle.bgp_engine.proofs.Walks.{counts_on, heard, heard_report, reports_report}

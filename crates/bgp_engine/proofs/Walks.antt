@@ -5,18 +5,13 @@ use Rattle.std.proofs.lemmas.List.{append-nil, length-append, length-drop, lengt
 use Rattle.std.proofs.lemmas.Bool.{cases_lt}
 use Rattle.std.proofs.Math.Dec.{eqb-suc-zero}
 use Rattle.std.proofs.Math.Seq.{take-append_seam, drop-append_seam}
-use Rattle.bgp_wire.specs.Octets.{AreOctets}
+use Rattle.bgp_wire.specs.Prelude.{AreOctets}
 use Rattle.bgp_wire.proofs.OctetLemmas.{AreOctets-nil, AreOctets-append, AreOctets-take, AreOctets-drop}
 use Rattle.bgp_frame.specs.declared.end.End.{End}
-use Rattle.bgp_frame.specs.declared.end.End.TheVariants as end
 use Rattle.bgp_frame.specs.declared.fault.HeadFault.{HeadFault}
-use Rattle.bgp_frame.specs.Frame.{Message, octets_of, IsFrame, wanted, Waits}
-use Rattle.bgp_frame.specs.Framer.{IsHeld}
-use Rattle.bgp_frame.specs.Hearing.{Done, IsContent, Judges, PullsNext, IsFedAndJudged, behind_feed, by_feed, by_octets, done_by, left_to_do, given}
+use Rattle.bgp_frame.specs.Prelude.{Message, octets_of, IsFrame, wanted, Waits, IsHeld, Done, IsContent, Judges, PullsNext, IsFedAndJudged, behind_feed, by_feed, by_octets, done_by, left_to_do, given, Pulls, Gives, Stops}
+use Rattle.bgp_frame.specs.declared.end.End.TheVariants as end
 use Rattle.bgp_frame.specs.Hearing as hearing
-use Rattle.bgp_frame.specs.Pull.{Pulls}
-use Rattle.bgp_frame.specs.Stream.{Gives}
-use Rattle.bgp_frame.specs.Takes.{Stops}
 use Rattle.bgp_frame.proofs.FrameLemmas.{head_of-append, length-IsFrame, wanted-append, wanted-bounds, wanted-Stops}
 use Rattle.bgp_frame.proofs.Hearings as hearings
 use Rattle.bgp_frame.proofs.Hearings.{IsHearer, content_is, content_stops, taken_up}
@@ -26,13 +21,8 @@ use Rattle.bgp_engine.specs.declared.class.Class.{Class}
 use Rattle.bgp_engine.specs.declared.class.Class.TheVariants as class
 use Rattle.bgp_engine.specs.declared.tally.Tally.{Tally}
 use Rattle.bgp_engine.specs.declared.fault.ToolFault.{ToolFault}
+use Rattle.bgp_engine.specs.Prelude.{no_tally, Report, behind, IsOver, IsWaiting, Rules, messages_in, octets_at, counted, passed, total, rest_of, report_of, IsReport, GoesOn, Rests, Takes, ClosesBy, Closes, Writes, WritesFault, IsAnswer, is_last, Walking, IsCounting, IsReady, IsJudged, Hears, Moves, all_counts, closing, comes, end_by, ended_by, outcome, reported, reports_of, reset_if, room_of, walker, walking}
 use Rattle.bgp_engine.specs.declared.fault.ToolFault.TheVariants as fault
-use Rattle.bgp_engine.specs.Tally.{no_tally}
-use Rattle.bgp_engine.specs.Report.{Report, behind, IsOver, IsWaiting}
-use Rattle.bgp_engine.specs.Rules.{Rules, messages_in, octets_at, counted, passed, total, rest_of, report_of, IsReport}
-use Rattle.bgp_engine.specs.steps.Engine.{GoesOn, Rests, Takes, ClosesBy, Closes}
-use Rattle.bgp_engine.specs.steps.Pages.{Writes, WritesFault, IsAnswer, is_last}
-use Rattle.bgp_engine.specs.steps.Walking.{Walking, IsCounting, IsReady, IsJudged, Hears, Moves, all_counts, closing, comes, end_by, ended_by, outcome, reported, reports_of, reset_if, room_of, walker, walking}
 
 pub is_hearer : {Outcome : Type 0} → IsHearer (walker {Outcome = Outcome})
 is_hearer = record { held_so = λ w held. refl; held_same = λ w. refl; held_last = λ w a b. refl; listens_so = λ w held. refl; emptied = λ w said. refl }

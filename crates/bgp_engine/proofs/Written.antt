@@ -5,7 +5,7 @@ use Rattle.std.specs.Io.KnownBytes.{Keeps, Appends, WriteAppends}
 use Rattle.std.proofs.KnownBytes.{Appends-nil, Appends-trans}
 use Rattle.std.proofs.lemmas.List.{append-nil, take-append-drop}
 use Rattle.bgp_engine.specs.declared.fault.ToolFault.TheVariants.{Write}
-use Rattle.bgp_engine.specs.Output.{FailsWithin}
+use Rattle.bgp_engine.specs.Prelude.{FailsWithin}
 
 -- what was written, and what is left of the text
 pub record HasWritten (old new : Option (List ℕ)) (text rest : List ℕ) : Type 0 where

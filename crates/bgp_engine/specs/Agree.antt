@@ -2,7 +2,7 @@
 use Rattle.std.specs.Prelude.{Option, None, Some}
 use Rattle.bgp_open.specs.declared.context.Context.{Context}
 use Rattle.bgp_open.specs.declared.message.Open.{Open}
-use Rattle.bgp_open.specs.Agreed.{agreed_context}
+use Rattle.bgp_open.specs.Prelude.{agreed_context}
 
 -- it takes two OPENs to agree
 abbrev pub agreed : Option Open → Option Open → Option Context

@@ -3,7 +3,7 @@ use Rattle.std.specs.Prelude.{ℕ, List, [], ◌∷◌, ◌++◌, codes, Ok}
 use Rattle.std.specs.Fmt.{decimal}
 use Rattle.bgp_open.specs.declared.context.Context.{Context}
 use Rattle.bgp_msg.specs.declared.outcome.Outcome.{Outcome}
-use Rattle.bgp_msg.specs.Outcome.{stream_rules}
+use Rattle.bgp_msg.specs.Prelude.{stream_rules}
 use Rattle.bgp_text.specs.End.{end_line}
 use Rattle.bgp_engine.specs.declared.tally.Tally.{Tally}
 use Rattle.bgp_engine.specs.Rules.{Rules, IsReport}

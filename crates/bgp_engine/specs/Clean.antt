@@ -2,18 +2,18 @@
 use Rattle.std.specs.Prelude.{ℕ, Bool, true, false, ◌==◌, List, [], Option, None, Some, option_map, is_err, Result, Ok, Err, if◌then◌else◌}
 use Rattle.std.specs.Result.{result_ok}
 use Rattle.bgp_frame.specs.declared.end.End.{End}
-use Rattle.bgp_frame.specs.declared.end.End.TheVariants as end
 use Rattle.bgp_frame.specs.declared.fault.HeadFault.{HeadFault}
 use Rattle.bgp_frame.specs.declared.kind.Kind.{Kind}
+use Rattle.bgp_frame.specs.Prelude.{head_notification}
+use Rattle.bgp_frame.specs.declared.end.End.TheVariants as end
 use Rattle.bgp_frame.specs.declared.kind.Kind.TheVariants as kind
 use Rattle.bgp_frame.specs.Frame as frame
-use Rattle.bgp_frame.specs.Head.{head_notification}
 use Rattle.bgp_open.specs.declared.context.Context.{Context}
 use Rattle.bgp_msg.specs.declared.message.Message.{Message}
-use Rattle.bgp_msg.specs.Written.{canonical}
+use Rattle.bgp_msg.specs.Prelude.{canonical}
 use Rattle.bgp_clean.specs.declared.fault.CleanFault.{CleanFault}
+use Rattle.bgp_clean.specs.Prelude.{cleaned}
 use Rattle.bgp_clean.specs.declared.fault.CleanFault.TheVariants as clean
-use Rattle.bgp_clean.specs.Clean.{cleaned}
 use Rattle.bgp_engine.specs.declared.class.Class.{Class}
 use Rattle.bgp_engine.specs.declared.class.Class.TheVariants as class
 use Rattle.bgp_engine.specs.declared.fault.Stop.TheVariants as stop

@@ -2,12 +2,11 @@
 use Rattle.std.specs.Prelude.{ℕ, Bool, nat_lt, List, length, drop, take, Option, None, Some, option_map, Result, Ok, Err, if◌then◌else◌}
 use Rattle.std.specs.Result.{result_ok}
 use Rattle.bgp_frame.specs.declared.kind.Kind.{Kind}
+use Rattle.bgp_frame.specs.Prelude.{Message, wanted, head_of}
 use Rattle.bgp_frame.specs.declared.kind.Kind.TheVariants as kind
-use Rattle.bgp_frame.specs.Frame.{Message, wanted}
-use Rattle.bgp_frame.specs.Head.{head_of}
 use Rattle.bgp_open.specs.declared.fault.OpenFault.{OpenFault}
 use Rattle.bgp_open.specs.declared.message.Open.{Open}
-use Rattle.bgp_open.specs.OpenFault.{reading_of}
+use Rattle.bgp_open.specs.Prelude.{reading_of}
 
 -- the first message isn't whole
 abbrev pub is_part : List ℕ → Bool

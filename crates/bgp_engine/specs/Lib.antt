@@ -20,4 +20,5 @@ pub mod Agree
 pub mod Opens
 pub mod Print
 pub mod First
+pub mod Prelude
 pub mod steps

@@ -1,18 +1,16 @@
 -- What `narrow` writes: the messages of a session with AS numbers of four octets, as a speaker with two octets is told them (RFC 6793).
 use Rattle.std.specs.Prelude.{ℕ, false, not, ◌&&◌, ◌==◌, List, [], Option, None, Some, is_none, unwrap_or, Result, Ok, Err, if◌then◌else◌}
 use Rattle.bgp_frame.specs.declared.end.End.{End}
+use Rattle.bgp_frame.specs.Prelude.{octets_of}
 use Rattle.bgp_frame.specs.declared.end.End.TheVariants as end
 use Rattle.bgp_frame.specs.Frame as frame
-use Rattle.bgp_frame.specs.Frame.{octets_of}
 use Rattle.bgp_open.specs.declared.context.Context.{Context}
-use Rattle.bgp_update.specs.As4.{narrowed_update}
-use Rattle.bgp_update.specs.Widths.{with_as4}
+use Rattle.bgp_update.specs.Prelude.{narrowed_update, with_as4}
 use Rattle.bgp_msg.specs.declared.message.Message.{Message}
-use Rattle.bgp_msg.specs.declared.message.Message.TheVariants as message
 use Rattle.bgp_msg.specs.declared.outcome.Outcome.{Outcome}
+use Rattle.bgp_msg.specs.Prelude.{out_of, canonical, is_valid, is_too_long}
+use Rattle.bgp_msg.specs.declared.message.Message.TheVariants as message
 use Rattle.bgp_msg.specs.declared.outcome.Outcome.TheVariants as outcome
-use Rattle.bgp_msg.specs.Outcome.{out_of}
-use Rattle.bgp_msg.specs.Written.{canonical, is_valid, is_too_long}
 use Rattle.bgp_engine.specs.declared.class.Class.{Class}
 use Rattle.bgp_engine.specs.declared.class.Class.TheVariants as class
 use Rattle.bgp_engine.specs.declared.fault.ToolFault.{ToolFault}

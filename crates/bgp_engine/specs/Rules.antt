@@ -1,8 +1,8 @@
 -- What an engine makes of the messages of a stream.
 use Rattle.std.specs.Prelude.{◌≡◌, ℕ, ◌+◌, ◌==◌, List, [], ◌∷◌, ◌++◌, take, drop, Result, if◌then◌else◌}
 use Rattle.bgp_frame.specs.declared.end.End.{End}
+use Rattle.bgp_frame.specs.Prelude.{StreamRules, Gives}
 use Rattle.bgp_frame.specs.declared.end.End.TheVariants as end
-use Rattle.bgp_frame.specs.Stream.{StreamRules, Gives}
 use Rattle.bgp_engine.specs.declared.class.Class.{Class}
 use Rattle.bgp_engine.specs.declared.class.Class.TheVariants as class
 use Rattle.bgp_engine.specs.declared.tally.Tally.{Tally}

@@ -2,9 +2,7 @@
 use Rattle.std.specs.Prelude.{ℕ, List, [], ◌∷◌, ◌++◌, codes, Result, Ok, Err, is_err}
 use Rattle.hex.specs.Hex.{encode_lower}
 use Rattle.bgp_frame.specs.declared.fault.HeadFault.{HeadFault}
-use Rattle.bgp_frame.specs.Frame.{Message, octets_of}
-use Rattle.bgp_frame.specs.Head.{head_notification}
-use Rattle.bgp_frame.specs.Stream.{as_it_is}
+use Rattle.bgp_frame.specs.Prelude.{Message, octets_of, head_notification, as_it_is}
 use Rattle.bgp_text.specs.Info.{notification_text}
 use Rattle.bgp_engine.specs.declared.class.Class.{Class}
 use Rattle.bgp_engine.specs.declared.class.Class.TheVariants as class

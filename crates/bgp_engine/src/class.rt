@@ -1,8 +1,8 @@
 //! What a message counts as.
 
 ghost use Rattle.std.specs.Prelude.{◌≡◌};
-ghost use Rattle.bgp_msg.specs.OutcomeView.{outcome_value};
-ghost use Rattle.bgp_engine.specs.Show.{class_of};
+ghost use Rattle.bgp_msg.specs.Prelude.{outcome_value};
+ghost use Rattle.bgp_engine.specs.Prelude.{class_of};
 
 use bgp_msg::OutcomeView;
 

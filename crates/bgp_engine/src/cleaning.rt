@@ -1,10 +1,9 @@
 //! The engine `clean_stream`.
 
 ghost use Rattle.std.specs.Prelude.{◌≡◌, ◌+◌, [], length, option_map, IfOk};
-ghost use Rattle.bgp_wire.specs.OctetSet.{has_octet};
-ghost use Rattle.bgp_frame.specs.Kind.{IsLength};
+ghost use Rattle.bgp_wire.specs.Prelude.{has_octet};
+ghost use Rattle.bgp_frame.specs.Prelude.{IsLength, message_in};
 ghost use Rattle.bgp_frame.specs.declared.kind.Kind.TheVariants as kind;
-ghost use Rattle.bgp_frame.specs.Step.{message_in};
 ghost use Rattle.bgp_engine.specs.Clean.{CleanedBy, CleanedIn, without_words};
 ghost use Rattle.bgp_engine.specs.First.{ReportedFrom};
 ghost use Rattle.bgp_engine.specs.Run.{Answers, io};

@@ -2,11 +2,8 @@
 
 ghost use Rattle.std.specs.Prelude.{◌≡◌, ◌+◌, ◌≤◌, ◌++◌, [], Ok, Err, length, IfOk, OnOk, if◌then◌else◌};
 ghost use Rattle.std.specs.String.{string_bytes};
-ghost use Rattle.bgp_frame.specs.Frame.{octets_of};
-ghost use Rattle.bgp_frame.specs.Kind.{IsLength};
-ghost use Rattle.bgp_frame.specs.Step.{message_in};
-ghost use Rattle.bgp_msg.specs.Outcome.{of_fault, out_of};
-ghost use Rattle.bgp_msg.specs.OutcomeView.{outcome_value};
+ghost use Rattle.bgp_frame.specs.Prelude.{octets_of, IsLength, message_in};
+ghost use Rattle.bgp_msg.specs.Prelude.{of_fault, out_of, outcome_value};
 ghost use Rattle.bgp_engine.specs.steps.PageSteps.{WritesHeard};
 ghost use Rattle.bgp_text.specs.Explained.{explained_lines};
 ghost use Rattle.bgp_engine.specs.Explain.{heard_lines};

@@ -1,8 +1,8 @@
 //! The OPEN that octets begin with.
 
 ghost use Rattle.std.specs.Prelude.{◌≡◌, ◌+◌, length, IfOk};
-ghost use Rattle.bgp_frame.specs.Kind.{IsLength};
-ghost use Rattle.bgp_engine.specs.File.{first_open, open_in};
+ghost use Rattle.bgp_frame.specs.Prelude.{IsLength};
+ghost use Rattle.bgp_engine.specs.Prelude.{first_open, open_in};
 
 use bgp_frame::{Frame, Kind, Step, front};
 use bgp_open::{Open, view_open};

@@ -2,10 +2,7 @@
 
 ghost use Rattle.std.specs.Prelude.{◌≡◌, Ok};
 ghost use Rattle.bgp_open.specs.declared.context.Context.{Context};
-ghost use Rattle.bgp_open.specs.Agreement.{agreement};
-ghost use Rattle.bgp_open.specs.Config.{Settings, IsAllowed};
-ghost use Rattle.bgp_open.specs.Own.{own_of};
-ghost use Rattle.bgp_open.specs.Agreed.{agreed_context};
+ghost use Rattle.bgp_open.specs.Prelude.{agreement, Settings, IsAllowed, own_of, agreed_context};
 
 /// Where a speaker accepts another's OPEN, the context that it finds is what its own OPEN and the other's agree on.
 pub fn opens_agree_as_speakers_do()

@@ -1,16 +1,11 @@
 //! The engine `narrow_stream`.
 
 ghost use Rattle.std.specs.Prelude.{◌≡◌, ◌+◌, ◌≤◌, ◌++◌, true, false, length, None, Some, IfOk, OnOk};
-ghost use Rattle.bgp_wire.specs.Octets.{AreOctets};
-ghost use Rattle.bgp_frame.specs.Frame.{octets_of};
-ghost use Rattle.bgp_frame.specs.Kind.{IsLength};
-ghost use Rattle.bgp_frame.specs.Step.{message_in};
-ghost use Rattle.bgp_msg.specs.Outcome.{out_of};
+ghost use Rattle.bgp_wire.specs.Prelude.{AreOctets};
+ghost use Rattle.bgp_frame.specs.Prelude.{octets_of, IsLength, message_in};
+ghost use Rattle.bgp_msg.specs.Prelude.{out_of};
 ghost use Rattle.bgp_msg.specs.declared.message.Message.TheVariants as message;
-ghost use Rattle.bgp_update.specs.As4.{narrowed_update};
-ghost use Rattle.bgp_update.specs.Told.{CanBeTold};
-ghost use Rattle.bgp_update.specs.View.{update_value};
-ghost use Rattle.bgp_update.specs.Widths.{with_as4};
+ghost use Rattle.bgp_update.specs.Prelude.{narrowed_update, CanBeTold, update_value, with_as4};
 ghost use Rattle.bgp_engine.specs.steps.PageSteps.{WritesNarrow};
 ghost use Rattle.bgp_engine.specs.Narrow.{Narrowed, written_in, narrowed_outcome, narrow_answer};
 ghost use Rattle.bgp_engine.specs.Run.{Answers, io};

@@ -2,7 +2,7 @@
 
 ghost use Rattle.std.specs.Prelude.{◌≡◌, ◌++◌, OnOk};
 ghost use Rattle.std.specs.String.{string_bytes};
-ghost use Rattle.bgp_msg.specs.OutcomeView.{outcome_value};
+ghost use Rattle.bgp_msg.specs.Prelude.{outcome_value};
 ghost use Rattle.bgp_engine.specs.OnlyFaults.{is_fault, where_fault};
 
 use crate::form::Form;

@@ -1,15 +1,9 @@
 //! The messages of a stream whose first one tells the context.
 
 ghost use Rattle.std.specs.Prelude.{◌≡◌, ◌+◌, [], None, Some, length, IfOk};
-ghost use Rattle.bgp_frame.specs.Kind.{IsLength};
-ghost use Rattle.bgp_frame.specs.Frame.{Message};
+ghost use Rattle.bgp_frame.specs.Prelude.{IsLength, Message};
 ghost use Rattle.bgp_open.specs.declared.context.Context.{Context};
-ghost use Rattle.bgp_engine.specs.Agree.{agreed};
-ghost use Rattle.bgp_engine.specs.File.{first_open, open_in};
-ghost use Rattle.bgp_engine.specs.Opens.{ReportedBy};
-ghost use Rattle.bgp_engine.specs.Rules.{IsReport};
-ghost use Rattle.bgp_engine.specs.Run.{Answers, io};
-ghost use Rattle.bgp_engine.specs.Tally.{no_tally};
+ghost use Rattle.bgp_engine.specs.Prelude.{agreed, first_open, open_in, ReportedBy, IsReport, Answers, io, no_tally};
 
 use crate::fault::ToolFault;
 use crate::file::{first_open, open_in};

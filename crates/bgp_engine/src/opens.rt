@@ -1,8 +1,7 @@
 //! The engines that judge a stream in the context that its own OPEN and that of the other direction agree on.
 
 ghost use Rattle.std.specs.Prelude.{◌≡◌, true, false};
-ghost use Rattle.bgp_engine.specs.Opens.{CheckedBy, NarrowedBy, ShownBy, ShownJsonBy};
-ghost use Rattle.bgp_engine.specs.Run.{Answers, io};
+ghost use Rattle.bgp_engine.specs.Prelude.{CheckedBy, NarrowedBy, ShownBy, ShownJsonBy, Answers, io};
 
 use crate::checked::CheckPage;
 use crate::fault::ToolFault;

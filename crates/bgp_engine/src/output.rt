@@ -2,7 +2,7 @@
 
 ghost use Rattle.std.specs.Prelude.{OnOk, IfErr};
 ghost use Rattle.std.specs.Io.KnownBytes.{Appends};
-ghost use Rattle.bgp_engine.specs.Output.{FailsWithin};
+ghost use Rattle.bgp_engine.specs.Prelude.{FailsWithin};
 
 use crate::fault::ToolFault;
 use std::io::Write;

@@ -1,8 +1,7 @@
 //! What an engine writes of the messages of a stream.
 
 ghost use Rattle.std.specs.Prelude.{ℕ, Bool, true, List, Option, None, Some, ◌≡◌, ◌+◌, ◌++◌, [], length, IfOk, OnOk};
-ghost use Rattle.bgp_frame.specs.Kind.{IsLength};
-ghost use Rattle.bgp_frame.specs.Step.{message_in};
+ghost use Rattle.bgp_frame.specs.Prelude.{IsLength, message_in};
 ghost use Rattle.bgp_open.specs.declared.context.Context.{Context};
 ghost use Rattle.bgp_engine.specs.Rules.{Rules};
 ghost use Rattle.bgp_engine.specs.steps.Pages.{Plan, TakesFirst, Writes, WritesFault, IsAnswer};

@@ -2,8 +2,7 @@
 
 ghost use Rattle.std.specs.Prelude.{true, false};
 ghost use Rattle.bgp_engine.specs.declared.printing.Style.TheVariants as style;
-ghost use Rattle.bgp_engine.specs.Print.{Printed, PrintedBy};
-ghost use Rattle.bgp_engine.specs.Run.{Answers, io};
+ghost use Rattle.bgp_engine.specs.Prelude.{Printed, PrintedBy, Answers, io};
 
 use crate::explaining::ExplainPage;
 use crate::fault::ToolFault;

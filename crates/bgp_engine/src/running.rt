@@ -1,10 +1,8 @@
 //! From a reader through an engine to a writer.
 
 ghost use Rattle.std.specs.Prelude.{◌≡◌, ◌+◌, ◌≤◌, ◌<◌, ◌^◌, false, [], None, length, IfOk, OnOk, OnErr};
-ghost use Rattle.bgp_wire.specs.Octets.{AreOctets};
-ghost use Rattle.bgp_engine.specs.steps.Blocks.{Meets, Finished};
-ghost use Rattle.bgp_engine.specs.steps.Engine.{IsTotal, OfOctets, Rests};
-ghost use Rattle.bgp_engine.specs.Run.{Answers, io};
+ghost use Rattle.bgp_wire.specs.Prelude.{AreOctets};
+ghost use Rattle.bgp_engine.specs.Prelude.{Meets, Finished, IsTotal, OfOctets, Rests, Answers, io};
 
 use crate::engine::Engine;
 use crate::fault::ToolFault;

@@ -1,6 +1,6 @@
 //! The engine `show --json`.
 
-ghost use Rattle.bgp_engine.specs.Run.{Answers, io};
+ghost use Rattle.bgp_engine.specs.Prelude.{Answers, io};
 ghost use Rattle.bgp_engine.specs.ShowJson.{ShownJson};
 
 use crate::fault::ToolFault;

@@ -1,7 +1,7 @@
 //! The counts of a run, and the status that follows from them.
 
 ghost use Rattle.std.specs.Prelude.{◌≡◌};
-ghost use Rattle.bgp_engine.specs.Tally.{status_of};
+ghost use Rattle.bgp_engine.specs.Prelude.{status_of};
 
 use crate::fault::ToolFault;
 use bgp_frame::End;

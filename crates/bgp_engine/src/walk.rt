@@ -1,7 +1,7 @@
 //! The messages of a stream that comes block by block.
 
 ghost use Rattle.std.specs.Prelude.{◌≡◌, [], ◌++◌, take};
-ghost use Rattle.bgp_frame.specs.Pull.{Pulls};
+ghost use Rattle.bgp_frame.specs.Prelude.{Pulls};
 ghost use Rattle.bgp_engine.specs.Rules.{IsReport};
 ghost use Rattle.bgp_engine.specs.Run.{Answers, io};
 ghost use Rattle.bgp_engine.specs.Tally.{no_tally};

@@ -1,33 +1,30 @@
 -- No field of a message that is accepted without a note is unread.
 use Rattle.std.proofs.Common.{◌≡◌, ℕ, ◌+◌, ◌≤◌, List, [], length, Some, None, Result, Ok, Err, refl, sym, ap, subst, ◌∙◌, arith}
 use Rattle.std.proofs.lemmas.List.{length-append, nil_from_length}
-use Rattle.bgp_wire.specs.Octets.{AreOctets}
+use Rattle.bgp_wire.specs.Prelude.{AreOctets}
 use Rattle.bgp_wire.proofs.OctetLemmas.{AreOctets-back}
 use Rattle.bgp_frame.specs.declared.kind.Kind.{Kind}
+use Rattle.bgp_frame.specs.Prelude.{octets_of, IsFrame, header, IsLength}
 use Rattle.bgp_frame.specs.declared.kind.Kind.TheVariants as kind
 use Rattle.bgp_frame.specs.Frame as frame
-use Rattle.bgp_frame.specs.Frame.{octets_of, IsFrame}
-use Rattle.bgp_frame.specs.Head.{header}
-use Rattle.bgp_frame.specs.Kind.{IsLength}
 use Rattle.bgp_open.specs.declared.context.Context.{Context}
 use Rattle.bgp_open.specs.declared.fault.OpenFault.{OpenFault}
-use Rattle.bgp_open.specs.declared.fault.OpenFault.TheVariants.{Version, Parameter, UnknownParameter, Hold, Identifier, Memory}
+use Rattle.bgp_open.specs.declared.fault.OpenFault.TheVariants.{Version, Parameter, UnknownParameter, Memory}
 use Rattle.bgp_open.specs.declared.message.Open.{Open}
-use Rattle.bgp_open.specs.OpenFault.{reading_of}
+use Rattle.bgp_open.specs.Prelude.{reading_of}
+use Rattle.bgp_open.specs.declared.fault.OpenFault.TheVariants.{Hold, Identifier}
 use Rattle.bgp_open.proofs.Readings.{reading-spells}
 use Rattle.bgp_update.specs.declared.note.Note.{Note}
 use Rattle.bgp_update.specs.declared.verdict.Verdict.{Verdict}
+use Rattle.bgp_update.specs.Prelude.{verdict_of}
 use Rattle.bgp_update.specs.declared.verdict.Verdict.TheVariants as verdict
-use Rattle.bgp_update.specs.Verdict.{verdict_of}
 use Rattle.bgp_msg.specs.declared.message.Message.{Message}
-use Rattle.bgp_msg.specs.declared.message.Message.TheVariants as message
 use Rattle.bgp_msg.specs.declared.outcome.Outcome.{Outcome}
+use Rattle.bgp_msg.specs.Prelude.{of_reading, of_verdict, of_body, out_of}
+use Rattle.bgp_msg.specs.declared.message.Message.TheVariants as message
 use Rattle.bgp_msg.specs.declared.outcome.Outcome.TheVariants as outcome
-use Rattle.bgp_msg.specs.Outcome.{of_reading, of_verdict, of_body, out_of}
 use Rattle.bgp_fields.specs.declared.part.MessagePart.TheVariants as part
-use Rattle.bgp_fields.specs.Fields.{fields_of}
-use Rattle.bgp_fields.specs.Laws.{AllRead}
-use Rattle.bgp_fields.specs.Parts.{body_part}
+use Rattle.bgp_fields.specs.Prelude.{fields_of, AllRead, body_part}
 use Rattle.bgp_fields.proofs.Readable.{MessageRead, message-none}
 use Rattle.bgp_fields.proofs.ReadableMessages.{update-read, open-read, notification-read, header-read}
 use Rattle.bgp_update.proofs.Verdicts.{IsTaken, taken-of}

@@ -1,14 +1,12 @@
 -- The first attribute that asks for a reset or a withdrawal, attribute by attribute.
 use Rattle.std.proofs.Common.{◌≡◌, ℕ, ◌+◌, ◌-◌, ◌<◌, ◌≤◌, Bool, true, false, cond, List, [], ◌∷◌, ◌++◌, length, Some, None, sym, ap, ap₂, ◌∙◌, arith}
 use Rattle.std.specs.List.{list_all}
-use Rattle.bgp_wire.specs.OctetSet.{also}
+use Rattle.bgp_wire.specs.Prelude.{also}
 use Rattle.bgp_open.specs.declared.context.Context.{Context}
-use Rattle.bgp_attr.specs.Judgement.{judgement}
-use Rattle.bgp_attr.specs.Tlv.{PlacedTlv}
-use Rattle.bgp_update.specs.Marks.{Mark, repeated, marks_behind, cut, cut_mark}
-use Rattle.bgp_update.specs.steps.Small.{is_small}
+use Rattle.bgp_attr.specs.Prelude.{judgement, PlacedTlv}
+use Rattle.bgp_update.specs.Prelude.{Mark, repeated, marks_behind, cut, cut_mark, is_small}
 use Rattle.bgp_update.proofs.SmallLemmas.{both_small}
-use Rattle.bgp_fields.specs.Places.{asks_for, first_asking}
+use Rattle.bgp_fields.specs.Prelude.{asks_for, first_asking}
 
 module _ (resets : Bool) (ctx : Context) (nlri : Bool) where
   -- an attribute asks, behind others of these types

@@ -2,9 +2,9 @@
 use Rattle.std.proofs.Common.{◌≡◌, ℕ, List, [], ◌∷◌, ◌≤◌, length, Option, Some, None, refl, sym, ap, ◌∙◌, arith}
 use Rattle.std.proofs.lemmas.List.{length-append}
 use Rattle.bgp_wire.proofs.Pieces.{pieces-some, pieces-none}
-use Rattle.bgp_attr.specs.Tlv.{TlvValue, IsTlv, one_tlv, PlacedTlv, tlvs_of, placed_from}
+use Rattle.bgp_attr.specs.Prelude.{TlvValue, IsTlv, one_tlv, PlacedTlv, tlvs_of, placed_from}
 use Rattle.bgp_attr.proofs.Readers.{IsTlv-reads}
-use Rattle.bgp_fields.specs.Places.{attribute_extent}
+use Rattle.bgp_fields.specs.Prelude.{attribute_extent}
 
 first-same : (p q : PlacedTlv) (ps qs : List PlacedTlv) → p ∷ ps ≡ q ∷ qs → p ≡ q
 first-same p q ps qs e = cc

@@ -3,10 +3,8 @@ use Rattle.std.proofs.Common.{◌≡◌, ℕ, ◌+◌, ◌≤◌, List, [], ◌+
 use Rattle.std.proofs.lemmas.List.{append-nil, length-append, drop_at, take-append-drop, nil_from_length}
 use Rattle.bgp_frame.specs.declared.kind.Kind.{Kind}
 use Rattle.bgp_frame.specs.declared.fault.HeadFault.{HeadFault}
+use Rattle.bgp_frame.specs.Prelude.{octets_of, IsFrame, Waits, wanted, header, head_of, type_field, code_of, kind_of}
 use Rattle.bgp_frame.specs.Frame as frame
-use Rattle.bgp_frame.specs.Frame.{octets_of, IsFrame, Waits, wanted}
-use Rattle.bgp_frame.specs.Head.{header, head_of, type_field}
-use Rattle.bgp_frame.specs.Kind.{code_of, kind_of}
 use Rattle.bgp_frame.proofs.HeadLemmas.{kind_of-code_of}
 use Rattle.bgp_frame.proofs.FrameLemmas.{head_of-append, length-IsFrame, head_of-IsFrame, wanted_by_head, wanted-append, IsFrame-wanted, head_at}
 use Rattle.bgp_frame.proofs.Headers.{length-header}

@@ -8,14 +8,12 @@ use Rattle.bgp_fields.specs.declared.field.Field.{Field}
 use Rattle.bgp_fields.specs.declared.field.Group.{Group}
 use Rattle.bgp_fields.specs.declared.kind.FieldKind.TheVariants.{Unread}
 use Rattle.bgp_fields.specs.declared.part.MessagePart.{MessagePart}
-use Rattle.bgp_fields.specs.declared.part.MessagePart.TheVariants as message
 use Rattle.bgp_fields.specs.declared.part.SectionPart.{SectionPart}
-use Rattle.bgp_fields.specs.declared.part.SectionPart.TheVariants as section
 use Rattle.bgp_fields.specs.declared.part.ValuePart.{ValuePart}
+use Rattle.bgp_fields.specs.Prelude.{no_fields, value_fields, section_fields, message_fields, fields_of, Tiles, octets_in, AreTheOctets, value_plan, section_plan, message_plan}
+use Rattle.bgp_fields.specs.declared.part.MessagePart.TheVariants as message
+use Rattle.bgp_fields.specs.declared.part.SectionPart.TheVariants as section
 use Rattle.bgp_fields.specs.declared.part.ValuePart.TheVariants as value
-use Rattle.bgp_fields.specs.Fields.{no_fields, value_fields, section_fields, message_fields, fields_of}
-use Rattle.bgp_fields.specs.Laws.{Tiles, octets_in, AreTheOctets}
-use Rattle.bgp_fields.specs.Parts.{value_plan, section_plan, message_plan}
 use Rattle.bgp_fields.proofs.Tilings.{Tiles-to, walk-tiles}
 
 -- fields from a place on, up to the end, are the octets from there on

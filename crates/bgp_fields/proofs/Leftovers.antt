@@ -1,7 +1,7 @@
 -- What is left where no piece can be read, found piece by piece.
 use Rattle.std.proofs.Common.{◌≡◌, ℕ, ◌<◌, List, length, Option, Some, None, refl, sym, ap, ◌∙◌}
 use Rattle.std.specs.Prelude.{option_map}
-use Rattle.bgp_wire.specs.Reader.{Reads, pieces}
+use Rattle.bgp_wire.specs.Prelude.{Reads, pieces}
 use Rattle.bgp_wire.proofs.Walks.{shorter, same_rest, all_rest}
 
 abbrev pub behind : {A : Type 0} → Option (A × List ℕ) → Option (List ℕ)

@@ -3,7 +3,7 @@ use Rattle.std.proofs.Common.{◌≡◌, ℕ, true, false, ◌==◌, ◌+◌, �
 use Rattle.std.proofs.lemmas.Bool.{true≢false, eqb-true}
 use Rattle.std.proofs.lemmas.List.{append_assoc, drop-set-lt, length-append, length-map, map-append, take-append-drop, take_more_set, length-set, nil_from_length}
 use Rattle.bgp_fields.specs.declared.field.Field.{Field}
-use Rattle.bgp_fields.specs.steps.Listing.{listed}
+use Rattle.bgp_fields.specs.Prelude.{listed}
 
 module _ (T : Type 0) where
   -- none is listed

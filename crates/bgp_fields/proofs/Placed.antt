@@ -6,54 +6,42 @@ use Rattle.std.specs.Option.{option_or}
 use Rattle.std.proofs.lemmas.Bool.{true≢false, leb-true, or_parts, or_cases, cond_both}
 use Rattle.std.proofs.Math.Dec.{eqb-suc-zero}
 use Rattle.std.proofs.lemmas.List.{length-append, length-drop, length-take-le}
-use Rattle.bgp_wire.specs.Octets.{AreOctets}
-use Rattle.bgp_wire.specs.OctetSet.{also, none_of_them}
-use Rattle.bgp_wire.specs.Reader.{pieces}
-use Rattle.bgp_wire.specs.Row.{Row}
-use Rattle.bgp_wire.specs.Then.{when}
+use Rattle.bgp_wire.specs.Prelude.{AreOctets, also, none_of_them, pieces, Row, when}
 use Rattle.bgp_wire.proofs.OctetLemmas.{AreOctets-back}
 use Rattle.bgp_wire.proofs.Pieces.{Splits-pieces}
 use Rattle.bgp_wire.proofs.Walks.{nothing_at}
 use Rattle.bgp_numbers.specs.declared.parameter.TheConstants.{CAPABILITIES}
 use Rattle.bgp_numbers.specs.declared.TheConstants.{VERSION}
 use Rattle.bgp_frame.specs.declared.kind.Kind.{Kind}
+use Rattle.bgp_frame.specs.Prelude.{IsFrame, header, IsLength}
 use Rattle.bgp_frame.specs.declared.kind.Kind.TheVariants as kind
 use Rattle.bgp_frame.specs.declared.notification.Notification.{Notification}
 use Rattle.bgp_frame.specs.Frame as frame
-use Rattle.bgp_frame.specs.Frame.{IsFrame}
-use Rattle.bgp_frame.specs.Head.{header}
-use Rattle.bgp_frame.specs.Kind.{IsLength}
 use Rattle.bgp_frame.proofs.FrameLemmas.{length-IsFrame}
 use Rattle.bgp_open.specs.declared.capability.Capability.{Capability}
 use Rattle.bgp_open.specs.declared.context.Context.{Context}
 use Rattle.bgp_open.specs.declared.fault.OpenFault.{OpenFault}
-use Rattle.bgp_open.specs.declared.fault.OpenFault.TheVariants.{Version, Parameter, UnknownParameter, Hold, Identifier}
-use Rattle.bgp_open.specs.Capability.{IsCapability, one_capability}
-use Rattle.bgp_open.specs.Open.{version_of, length_of, parameters_of, hold_of, id_of, is_short_hold, is_zero_id}
-use Rattle.bgp_open.specs.OpenFault.{first_fault, rest_fault, open_fault, open_of, or_fault}
-use Rattle.bgp_open.specs.Parameter.{IsParameter, one_parameter}
+use Rattle.bgp_open.specs.declared.fault.OpenFault.TheVariants.{Version, Parameter, UnknownParameter}
+use Rattle.bgp_open.specs.Prelude.{IsCapability, one_capability, version_of, length_of, parameters_of, hold_of, id_of, is_short_hold, is_zero_id, first_fault, rest_fault, open_fault, open_of, or_fault, IsParameter, one_parameter}
+use Rattle.bgp_open.specs.declared.fault.OpenFault.TheVariants.{Hold, Identifier}
 use Rattle.bgp_open.proofs.Capabilities.{capability-reads}
 use Rattle.bgp_open.proofs.Parameters.{parameter-reads, one_parameter-tests}
-use Rattle.bgp_prefix.specs.Prefix.{PrefixValue, IsPrefix, one_prefix}
-use Rattle.bgp_prefix.specs.Run.{run_of}
+use Rattle.bgp_prefix.specs.Prelude.{PrefixValue, IsPrefix, one_prefix, run_of}
 use Rattle.bgp_prefix.proofs.PrefixLemmas.{IsPrefix-reads}
 use Rattle.bgp_attr.specs.declared.judged.Judged.{Judged}
+use Rattle.bgp_attr.specs.Prelude.{TlvValue, IsTlv, one_tlv, tlvs_of, placed_from}
 use Rattle.bgp_attr.specs.declared.judged.Judged.TheVariants as judged
-use Rattle.bgp_attr.specs.Tlv.{TlvValue, IsTlv, one_tlv, tlvs_of, placed_from}
 use Rattle.bgp_attr.proofs.Readers.{IsTlv-reads}
 use Rattle.bgp_update.specs.declared.verdict.Verdict.{Verdict}
+use Rattle.bgp_update.specs.Prelude.{kept_of, attrs_of, update_of, Mark, malformed, marks_behind, cut_mark, field_marks, marks_of, has_routes, is_reachable, notes_of, routes_of, missing_in, missing_of, is_missing, types_of_field, Parts, attributes_at, behind_two, parts_of, reset_by, first_reset, bad_network, reset_of_run, reset_of, withdraws, is_withdrawn, unless_reset, verdict_on, of_parts, verdict_of}
 use Rattle.bgp_update.specs.declared.verdict.Verdict.TheVariants as verdict
-use Rattle.bgp_update.specs.Taken.{kept_of, attrs_of, update_of}
 use Rattle.bgp_msg.specs.declared.outcome.Outcome.{Outcome}
+use Rattle.bgp_msg.specs.Prelude.{of_reading, of_verdict, of_body, out_of, is_reset}
 use Rattle.bgp_msg.specs.declared.outcome.Outcome.TheVariants as outcome
-use Rattle.bgp_msg.specs.Outcome.{of_reading, of_verdict, of_body, out_of, is_reset}
-use Rattle.bgp_update.specs.Marks.{Mark, malformed, marks_behind, cut_mark, field_marks, marks_of}
-use Rattle.bgp_update.specs.Notes.{has_routes, is_reachable, notes_of, routes_of, missing_in, missing_of, is_missing, types_of_field}
-use Rattle.bgp_update.specs.Parts.{Parts, has_nlri, attributes_at, behind_two, parts_of}
-use Rattle.bgp_update.specs.Verdict.{reset_by, first_reset, bad_network, reset_of_run, reset_of, withdraws, is_withdrawn, unless_reset, verdict_on, of_parts, verdict_of}
+use Rattle.bgp_update.specs.Parts.{has_nlri}
 use Rattle.bgp_update.proofs.Bodies.{parts-body, behind_two-gives, length-body}
 use Rattle.bgp_fields.specs.declared.field.Span.{Span}
-use Rattle.bgp_fields.specs.Places.{span, attribute_extent, attribute_place, asks_for, first_asking, asking_place, bad_prefix, run_place, length_place, parts_place, update_place, body_place, reset_place, item_extent, capability_place, parameter_place, parameters_place, open_place, HasPlace}
+use Rattle.bgp_fields.specs.Prelude.{span, attribute_extent, attribute_place, asks_for, first_asking, asking_place, bad_prefix, run_place, length_place, parts_place, update_place, body_place, reset_place, item_extent, capability_place, parameter_place, parameters_place, open_place, HasPlace}
 use Rattle.bgp_fields.proofs.Extents.{extent-short}
 
 -- ---- OPENs

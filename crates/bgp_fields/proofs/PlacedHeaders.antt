@@ -4,10 +4,9 @@ use Rattle.std.specs.Cmp.Lexicographic.{pointwise}
 use Rattle.std.proofs.lemmas.Bool.{true≢false, eqb-true}
 use Rattle.bgp_frame.specs.declared.kind.Kind.{Kind}
 use Rattle.bgp_frame.specs.declared.fault.HeadFault.{HeadFault}
+use Rattle.bgp_frame.specs.Prelude.{has_marker, length_field, type_field, head_for, head_of, kind_of, is_length}
 use Rattle.bgp_frame.specs.declared.fault.HeadFault.TheVariants as fault
-use Rattle.bgp_frame.specs.Head.{has_marker, length_field, type_field, head_for, head_of}
-use Rattle.bgp_frame.specs.Kind.{kind_of, is_length}
-use Rattle.bgp_fields.specs.Places.{first_other, header_place, HasPlace}
+use Rattle.bgp_fields.specs.Prelude.{first_other, header_place, HasPlace}
 
 step-by : (k at x : ℕ) (b : List ℕ) (t : Bool) → (x == 255) ≡ t → (nat_eq 255 x && pointwise nat_eq (replicate k 255) (take k b)) ≡ false
     → (pointwise nat_eq (replicate k 255) (take k b) ≡ false → first_other (at + 1) b < at + 1 + k) → first_other at (x ∷ b) < at + suc k

@@ -4,36 +4,33 @@ use Rattle.std.specs.List.{flat_map}
 use Rattle.std.proofs.lemmas.Bool.{true≢false, le-leb, lt-ltb}
 use Rattle.std.proofs.lemmas.List.Concat.{flat_map-cons}
 use Rattle.bgp_numbers.specs.declared.attribute.TheConstants.{ORIGIN, AS_PATH, NEXT_HOP}
-use Rattle.bgp_wire.specs.Octets.{AreOctets}
+use Rattle.bgp_wire.specs.Prelude.{AreOctets}
 use Rattle.bgp_wire.proofs.OctetLemmas.{AreOctets-back}
 use Rattle.bgp_frame.specs.declared.kind.Kind.{Kind}
+use Rattle.bgp_frame.specs.Prelude.{IsFrame, header}
 use Rattle.bgp_frame.specs.declared.kind.Kind.TheVariants as kind
 use Rattle.bgp_frame.specs.Frame as frame
-use Rattle.bgp_frame.specs.Frame.{IsFrame}
-use Rattle.bgp_frame.specs.Head.{header}
 use Rattle.bgp_frame.proofs.FrameLemmas.{length-IsFrame}
 use Rattle.bgp_open.specs.declared.context.Context.{Context}
-use Rattle.bgp_open.specs.OpenFault.{reading_of}
+use Rattle.bgp_open.specs.Prelude.{reading_of}
 use Rattle.bgp_attr.specs.declared.judged.Judged.{Judged}
-use Rattle.bgp_attr.specs.declared.judged.Judged.TheVariants as judged
 use Rattle.bgp_attr.specs.declared.why.Why.{Why}
+use Rattle.bgp_attr.specs.declared.judged.Judged.TheVariants as judged
 use Rattle.bgp_update.specs.declared.missing.Missing.{Missing}
 use Rattle.bgp_update.specs.declared.note.Note.{Note}
 use Rattle.bgp_update.specs.declared.routes.Routes.{Routes}
 use Rattle.bgp_update.specs.declared.update.Update.{Update}
 use Rattle.bgp_update.specs.declared.verdict.Verdict.{Verdict}
+use Rattle.bgp_update.specs.Prelude.{Mark, marks_of, mark_notes, missing_note, missing_notes, missing_of, notes_of, Parts, attributes_at, parts_of, verdict_of}
 use Rattle.bgp_update.specs.declared.verdict.Verdict.TheVariants as verdict
-use Rattle.bgp_update.specs.Marks.{Mark, marks_of}
-use Rattle.bgp_update.specs.Notes.{mark_notes, missing_note, missing_notes, missing_of, notes_of}
-use Rattle.bgp_update.specs.Parts.{Parts, has_nlri, attributes_at, parts_of}
-use Rattle.bgp_update.specs.Verdict.{verdict_of}
+use Rattle.bgp_update.specs.Parts.{has_nlri}
 use Rattle.bgp_update.proofs.Bodies.{parts-body, length-body}
 use Rattle.bgp_msg.specs.declared.message.Message.{Message}
-use Rattle.bgp_msg.specs.declared.message.Message.TheVariants as message
 use Rattle.bgp_msg.specs.declared.outcome.Outcome.{Outcome}
+use Rattle.bgp_msg.specs.Prelude.{of_verdict, of_body, out_of}
+use Rattle.bgp_msg.specs.declared.message.Message.TheVariants as message
 use Rattle.bgp_msg.specs.declared.outcome.Outcome.TheVariants as outcome
-use Rattle.bgp_msg.specs.Outcome.{of_verdict, of_body, out_of}
-use Rattle.bgp_fields.specs.Places.{says_missing, note_place_in, note_place, HasPlace, ArePlaced}
+use Rattle.bgp_fields.specs.Prelude.{says_missing, note_place_in, note_place, HasPlace, ArePlaced}
 use Rattle.bgp_fields.proofs.Placed.{AllIn, field-in, attribute-placed}
 use Rattle.bgp_fields.proofs.Routed.{open-not, open-gone}
 use Rattle.bgp_update.proofs.Verdicts.{taken-of, withdrawn-of}

@@ -8,15 +8,12 @@ use Rattle.bgp_fields.specs.declared.field.Group.{Group}
 use Rattle.bgp_fields.specs.declared.kind.FieldKind.{FieldKind}
 use Rattle.bgp_fields.specs.declared.kind.FieldKind.TheVariants.{Unread}
 use Rattle.bgp_fields.specs.declared.part.MessagePart.{MessagePart}
-use Rattle.bgp_fields.specs.declared.part.MessagePart.TheVariants as message
 use Rattle.bgp_fields.specs.declared.part.SectionPart.{SectionPart}
-use Rattle.bgp_fields.specs.declared.part.SectionPart.TheVariants as section
 use Rattle.bgp_fields.specs.declared.part.ValuePart.{ValuePart}
+use Rattle.bgp_fields.specs.Prelude.{no_fields, value_fields, section_fields, message_fields, is_unread, AllRead, behind, alone, nothing_inside, nothing_in_section, value_plan, section_plan, message_plan, Plan, fit, group_from, Telling, told, walk}
+use Rattle.bgp_fields.specs.declared.part.MessagePart.TheVariants as message
+use Rattle.bgp_fields.specs.declared.part.SectionPart.TheVariants as section
 use Rattle.bgp_fields.specs.declared.part.ValuePart.TheVariants as value
-use Rattle.bgp_fields.specs.Fields.{no_fields, value_fields, section_fields, message_fields}
-use Rattle.bgp_fields.specs.Laws.{is_unread, AllRead}
-use Rattle.bgp_fields.specs.Parts.{behind, alone, nothing_inside, nothing_in_section, value_plan, section_plan, message_plan}
-use Rattle.bgp_fields.specs.Walk.{Plan, fit, group_from, Telling, told, walk}
 use Rattle.bgp_fields.proofs.Walks.{walk-none, walk-told}
 
 pub read-append : (fs gs : List Field) → AllRead fs → AllRead gs → AllRead (fs ++ gs)

@@ -4,21 +4,19 @@ use Rattle.std.proofs.lemmas.Bool.{eqb-true, not-false}
 use Rattle.std.proofs.lemmas.List.{nil_from_length}
 use Rattle.bgp_numbers.specs.declared.attribute.TheConstants.{ORIGIN, AS_PATH, NEXT_HOP, MULTI_EXIT_DISC, LOCAL_PREF, ATOMIC_AGGREGATE, AGGREGATOR, COMMUNITIES, MP_REACH_NLRI, MP_UNREACH_NLRI, AS4_PATH, AS4_AGGREGATOR, LARGE_COMMUNITY}
 use Rattle.bgp_open.specs.declared.context.Context.{Context}
-use Rattle.bgp_wire.specs.Octets.{AreOctets}
+use Rattle.bgp_wire.specs.Prelude.{AreOctets}
 use Rattle.bgp_attr.specs.declared.attr.Attr.{Attr}
+use Rattle.bgp_attr.specs.Prelude.{number_width, IsNumber, IsTriple, TlvValue, as_path_form, as4_path_form, aggregator_tests, judgement}
 use Rattle.bgp_attr.specs.declared.judged.Judged.TheVariants as judged
-use Rattle.bgp_attr.specs.Numbers.{number_width, IsNumber, IsTriple}
-use Rattle.bgp_attr.specs.Tlv.{TlvValue}
-use Rattle.bgp_attr.specs.Value.{as_path_form, as4_path_form}
-use Rattle.bgp_attr.specs.Judgement.{aggregator_tests, judgement}
 use Rattle.bgp_attr.proofs.Kept.{aggregator-spells, communities-spells, large-spells, mp_reach-spells, mp_unreach-spells}
 use Rattle.bgp_attr.proofs.SegmentRows.{fault-path}
 use Rattle.bgp_attr.proofs.Tables.{◌&◌, entry-other}
-use Rattle.bgp_attr.proofs.TestRows.{NoneApplies, passed, passed_fault, by_kept}
+use Rattle.bgp_attr.proofs.TestRows.{NoneApplies, passed, passed_fault}
+use Rattle.bgp_attr.proofs.EachType.{by_kept}
 use Rattle.bgp_fields.specs.declared.kind.FieldKind.TheVariants as field
 use Rattle.bgp_fields.specs.declared.part.ValuePart.{ValuePart}
+use Rattle.bgp_fields.specs.Prelude.{attribute_values, attribute_value}
 use Rattle.bgp_fields.specs.declared.part.ValuePart.TheVariants as value
-use Rattle.bgp_fields.specs.Parts.{attribute_values, attribute_value}
 use Rattle.bgp_fields.proofs.Readable.{ValueRead, value-none, value-front}
 use Rattle.bgp_fields.proofs.ReadableValues.{one-read, row-read, all-read, path-read}
 use Rattle.bgp_fields.proofs.ReadableRoutes.{reach-read, unreach-read}

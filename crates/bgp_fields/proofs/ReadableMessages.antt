@@ -4,36 +4,31 @@ use Rattle.std.specs.Int.{w16, to_be_bytes}
 use Rattle.std.specs.List.{AllByRecursion}
 use Rattle.std.proofs.lemmas.List.{append-nil}
 use Rattle.std.proofs.lemmas.Nat.{from_be_bytes-to_be_bytes_2}
-use Rattle.bgp_wire.specs.Octets.{AreOctets}
-use Rattle.bgp_wire.specs.OctetSet.{also, none_of_them}
-use Rattle.bgp_wire.specs.Row.{Row}
+use Rattle.bgp_wire.specs.Prelude.{AreOctets, also, none_of_them, Row}
 use Rattle.bgp_wire.proofs.Behinds.{Row-pieces}
 use Rattle.bgp_wire.proofs.OctetLemmas.{AreOctets-front, AreOctets-back}
 use Rattle.bgp_frame.specs.declared.kind.Kind.{Kind}
+use Rattle.bgp_frame.specs.Prelude.{header, marker, kind_of, code_of}
 use Rattle.bgp_frame.specs.declared.kind.Kind.TheVariants as kind
-use Rattle.bgp_frame.specs.Head.{header, marker}
-use Rattle.bgp_frame.specs.Kind.{kind_of, code_of}
 use Rattle.bgp_open.specs.declared.context.Context.{Context}
-use Rattle.bgp_open.specs.Open.{IsOpen}
+use Rattle.bgp_open.specs.Prelude.{IsOpen}
 use Rattle.bgp_open.specs.declared.message.Open.{Open}
-use Rattle.bgp_prefix.specs.Prefix.{PrefixValue, IsPrefix}
+use Rattle.bgp_prefix.specs.Prelude.{PrefixValue, IsPrefix}
 use Rattle.bgp_attr.specs.declared.attr.Attr.{Attr}
 use Rattle.bgp_attr.specs.declared.judged.Judged.{Judged}
+use Rattle.bgp_attr.specs.Prelude.{judgement, TlvValue, IsTlv, one_tlv, tlvs_of, placed_from}
 use Rattle.bgp_attr.specs.declared.judged.Judged.TheVariants as judged
-use Rattle.bgp_attr.specs.Judgement.{judgement}
-use Rattle.bgp_attr.specs.Tlv.{TlvValue, IsTlv, one_tlv, tlvs_of, placed_from}
 use Rattle.bgp_attr.proofs.Readers.{IsTlv-reads}
-use Rattle.bgp_update.specs.Marks.{Mark, repeated, carries_routes, marks_behind, cut_mark, field_marks, marks_of}
-use Rattle.bgp_update.specs.Parts.{Parts, IsBody, has_nlri}
-use Rattle.bgp_update.specs.Verdict.{first_reset, reset_of_run}
+use Rattle.bgp_update.specs.Prelude.{Mark, repeated, carries_routes, marks_behind, cut_mark, field_marks, marks_of, Parts, IsBody, first_reset, reset_of_run}
+use Rattle.bgp_update.specs.declared.update.Update.{Update}
+use Rattle.bgp_update.specs.Parts.{has_nlri}
 use Rattle.bgp_update.proofs.Bodies.{parts-body}
 use Rattle.bgp_update.proofs.KeptMarks.{or-parts}
 use Rattle.bgp_update.proofs.Taken.{run-row}
-use Rattle.bgp_update.specs.declared.update.Update.{Update}
 use Rattle.bgp_fields.specs.declared.kind.FieldKind.TheVariants as field
 use Rattle.bgp_fields.specs.declared.part.MessagePart.TheVariants as message
 use Rattle.bgp_fields.specs.declared.part.SectionPart.TheVariants as section
-use Rattle.bgp_fields.specs.Parts.{alone, body_part, first_of, two_of, prefix_len}
+use Rattle.bgp_fields.specs.Prelude.{alone, body_part, first_of, two_of, prefix_len}
 use Rattle.bgp_fields.proofs.Readable.{SectionRead, MessageRead, message-none, message-front, message-behind}
 use Rattle.bgp_fields.proofs.ReadableSections.{AreKept, withdrawn-read, attributes-read, parameters-read}
 use Rattle.bgp_fields.proofs.ReadableValues.{prefix-long}

@@ -4,14 +4,13 @@ use Rattle.std.proofs.lemmas.List.{append-nil, length-append}
 use Rattle.bgp_numbers.specs.declared.afi.TheConstants.{IPV4, IPV6}
 use Rattle.bgp_numbers.specs.declared.safi.TheConstants.{UNICAST}
 use Rattle.bgp_open.specs.declared.context.Context.{Context}
-use Rattle.bgp_prefix.specs.Prefix.{PrefixValue, IsPrefix}
-use Rattle.bgp_wire.specs.Row.{Row}
-use Rattle.bgp_attr.specs.Mp.{afi_of, safi_of, family_of, is_in_use, mp_reach_of, mp_unreach_of}
-use Rattle.bgp_attr.specs.Spelling.{IsReach, link_octets, HasLink, IsReachValue, IsUnreach, IsUnreachValue}
+use Rattle.bgp_prefix.specs.Prelude.{PrefixValue, IsPrefix}
+use Rattle.bgp_wire.specs.Prelude.{Row}
+use Rattle.bgp_attr.specs.Prelude.{afi_of, safi_of, family_of, is_in_use, mp_reach_of, mp_unreach_of, IsReach, link_octets, HasLink, IsReachValue, IsUnreach, IsUnreachValue}
 use Rattle.bgp_fields.specs.declared.kind.FieldKind.TheVariants as field
 use Rattle.bgp_fields.specs.declared.part.ValuePart.{ValuePart}
+use Rattle.bgp_fields.specs.Prelude.{one, hop_behind, behind_family, value_plan}
 use Rattle.bgp_fields.specs.declared.part.ValuePart.TheVariants as value
-use Rattle.bgp_fields.specs.Parts.{one, hop_behind, behind_family, value_plan}
 use Rattle.bgp_fields.proofs.Readable.{ValueRead, value-front}
 use Rattle.bgp_fields.proofs.ReadableValues.{prefixes-read}
 

@@ -6,24 +6,20 @@ use Rattle.std.proofs.lemmas.List.{length-append}
 use Rattle.std.proofs.Math.Dec.{eqb-suc-zero}
 use Rattle.bgp_numbers.specs.declared.capability.TheConstants.{MULTIPROTOCOL, FOUR_OCTET_AS}
 use Rattle.bgp_numbers.specs.declared.parameter.TheConstants.{CAPABILITIES}
-use Rattle.bgp_wire.specs.Octets.{AreOctets}
-use Rattle.bgp_wire.specs.Row.{Row}
+use Rattle.bgp_wire.specs.Prelude.{AreOctets, Row}
 use Rattle.bgp_wire.proofs.OctetLemmas.{AreOctets-front, AreOctets-back}
 use Rattle.bgp_open.specs.declared.capability.Capability.{Capability}
 use Rattle.bgp_open.specs.declared.context.Context.{Context}
-use Rattle.bgp_open.specs.Capability.{multi_of, as4_of, capability_of, IsCapability}
-use Rattle.bgp_open.specs.Parameter.{IsParameter}
-use Rattle.bgp_prefix.specs.Prefix.{PrefixValue, IsPrefix}
+use Rattle.bgp_open.specs.Prelude.{multi_of, as4_of, capability_of, IsCapability, IsParameter}
+use Rattle.bgp_prefix.specs.Prelude.{PrefixValue, IsPrefix}
 use Rattle.bgp_attr.specs.declared.attr.Attr.{Attr}
+use Rattle.bgp_attr.specs.Prelude.{is_extended, judgement, TlvValue, length_width, number_of_length, IsTlv}
 use Rattle.bgp_attr.specs.declared.judged.Judged.TheVariants as judged
-use Rattle.bgp_attr.specs.Flags.{is_extended}
-use Rattle.bgp_attr.specs.Judgement.{judgement}
-use Rattle.bgp_attr.specs.Tlv.{TlvValue, length_width, number_of_length, IsTlv}
 use Rattle.bgp_fields.specs.declared.kind.FieldKind.TheVariants as field
 use Rattle.bgp_fields.specs.declared.part.SectionPart.TheVariants as section
 use Rattle.bgp_fields.specs.declared.part.ValuePart.{ValuePart}
+use Rattle.bgp_fields.specs.Prelude.{leaf, first_of, two_of, prefix_len, nothing_inside, attribute_value, attribute_len, capability_value, capability_behind}
 use Rattle.bgp_fields.specs.declared.part.ValuePart.TheVariants as value
-use Rattle.bgp_fields.specs.Parts.{leaf, first_of, two_of, prefix_len, nothing_inside, attribute_value, attribute_len, capability_value, capability_behind}
 use Rattle.bgp_fields.proofs.Readable.{ValueRead, SectionRead, value-none, section-none, value-front, section-front, section-behind}
 use Rattle.bgp_fields.proofs.ReadableValues.{prefix-long}
 use Rattle.bgp_fields.proofs.ReadableAttributes.{kept-read}

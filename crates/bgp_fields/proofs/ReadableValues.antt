@@ -3,18 +3,15 @@ use Rattle.std.proofs.Common.{◌≡◌, ℕ, suc, ◌+◌, ◌-◌, ◌*◌, �
 use Rattle.std.proofs.lemmas.Bool.{le-leb, lt-ltb}
 use Rattle.std.proofs.lemmas.List.{append-nil, length-append}
 use Rattle.bgp_open.specs.declared.context.Context.{Context}
-use Rattle.bgp_prefix.specs.Bits.{octets_for}
-use Rattle.bgp_prefix.specs.Prefix.{PrefixValue, IsPrefix}
-use Rattle.bgp_wire.specs.Row.{Row}
-use Rattle.bgp_attr.specs.Numbers.{number_width, IsNumber}
-use Rattle.bgp_attr.specs.Path.{WireSegment, IsSegment}
+use Rattle.bgp_prefix.specs.Prelude.{octets_for, PrefixValue, IsPrefix}
+use Rattle.bgp_wire.specs.Prelude.{Row}
+use Rattle.bgp_attr.specs.Prelude.{number_width, IsNumber, WireSegment, IsSegment}
 use Rattle.bgp_attr.proofs.NumberRows.{length-number_row}
 use Rattle.bgp_fields.specs.declared.kind.FieldKind.{FieldKind}
-use Rattle.bgp_fields.specs.declared.kind.FieldKind.TheVariants as field
 use Rattle.bgp_fields.specs.declared.part.ValuePart.{ValuePart}
+use Rattle.bgp_fields.specs.Prelude.{is_unread, one, first_of, prefix_len, width_of, numbers_behind, behind_number}
+use Rattle.bgp_fields.specs.declared.kind.FieldKind.TheVariants as field
 use Rattle.bgp_fields.specs.declared.part.ValuePart.TheVariants as value
-use Rattle.bgp_fields.specs.Laws.{is_unread}
-use Rattle.bgp_fields.specs.Parts.{one, first_of, prefix_len, width_of, numbers_behind, behind_number}
 use Rattle.bgp_fields.proofs.Readable.{ValueRead, value-none, value-front}
 
 -- the octets of a prefix

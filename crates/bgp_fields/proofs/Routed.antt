@@ -2,36 +2,31 @@
 use Rattle.std.proofs.Common.{◌≡◌, ℕ, ◌+◌, List, ◌++◌, length, Some, None, Result, Ok, Err, refl, sym, ap, ap₂, subst, ◌∙◌}
 use Rattle.std.specs.Int.{w16, to_be_bytes}
 use Rattle.bgp_frame.specs.declared.kind.Kind.{Kind}
+use Rattle.bgp_frame.specs.Prelude.{octets_of, IsFrame, header}
 use Rattle.bgp_frame.specs.declared.kind.Kind.TheVariants as kind
 use Rattle.bgp_frame.specs.Frame as frame
-use Rattle.bgp_frame.specs.Frame.{octets_of, IsFrame}
-use Rattle.bgp_frame.specs.Head.{header}
-use Rattle.bgp_wire.specs.Octets.{AreOctets}
+use Rattle.bgp_wire.specs.Prelude.{AreOctets}
 use Rattle.bgp_wire.proofs.OctetLemmas.{AreOctets-front, AreOctets-back}
 use Rattle.bgp_open.specs.declared.context.Context.{Context}
 use Rattle.bgp_open.specs.declared.fault.OpenFault.{OpenFault}
-use Rattle.bgp_open.specs.declared.fault.OpenFault.TheVariants.{Version, Parameter, UnknownParameter, Hold, Identifier, Memory}
+use Rattle.bgp_open.specs.declared.fault.OpenFault.TheVariants.{Version, Parameter, UnknownParameter, Memory}
 use Rattle.bgp_open.specs.declared.message.Open.{Open}
-use Rattle.bgp_open.specs.OpenFault.{reading_of}
-use Rattle.bgp_prefix.specs.Prefix.{PrefixValue}
+use Rattle.bgp_open.specs.Prelude.{reading_of}
+use Rattle.bgp_open.specs.declared.fault.OpenFault.TheVariants.{Hold, Identifier}
+use Rattle.bgp_prefix.specs.Prelude.{PrefixValue}
 use Rattle.bgp_update.specs.declared.note.Note.{Note}
 use Rattle.bgp_update.specs.declared.routes.Routes.{Routes}
 use Rattle.bgp_update.specs.declared.update.Update.{Update}
 use Rattle.bgp_update.specs.declared.verdict.Verdict.{Verdict}
+use Rattle.bgp_update.specs.Prelude.{marks_of, routes_of, Parts, parts_of, update_of, reset_of, verdict_of}
 use Rattle.bgp_update.specs.declared.verdict.Verdict.TheVariants as verdict
-use Rattle.bgp_update.specs.Marks.{marks_of}
-use Rattle.bgp_update.specs.Notes.{routes_of}
-use Rattle.bgp_update.specs.Parts.{Parts, parts_of}
-use Rattle.bgp_update.specs.Taken.{update_of}
-use Rattle.bgp_update.specs.Verdict.{reset_of, verdict_of}
 use Rattle.bgp_update.proofs.Bodies.{parts-body}
 use Rattle.bgp_msg.specs.declared.message.Message.{Message}
-use Rattle.bgp_msg.specs.declared.message.Message.TheVariants as message
 use Rattle.bgp_msg.specs.declared.outcome.Outcome.{Outcome}
+use Rattle.bgp_msg.specs.Prelude.{of_reading, of_verdict, of_body, out_of}
+use Rattle.bgp_msg.specs.declared.message.Message.TheVariants as message
 use Rattle.bgp_msg.specs.declared.outcome.Outcome.TheVariants as outcome
-use Rattle.bgp_msg.specs.Outcome.{of_reading, of_verdict, of_body, out_of}
-use Rattle.bgp_fields.specs.Fields.{fields_of}
-use Rattle.bgp_fields.specs.Shown.{ShowsRoutes, ShowsWithdrawal}
+use Rattle.bgp_fields.specs.Prelude.{fields_of, ShowsRoutes, ShowsWithdrawal}
 use Rattle.bgp_fields.proofs.ShownRoutes.{routes-shown}
 use Rattle.bgp_update.proofs.Verdicts.{taken-of, withdrawn-of}
 

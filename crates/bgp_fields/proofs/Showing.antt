@@ -3,14 +3,12 @@ use Rattle.std.proofs.Common.{◌≡◌, ℕ, ◌+◌, ◌<◌, Bool, true, fals
 use Rattle.std.specs.Prelude.{is_some}
 use Rattle.std.proofs.lemmas.List.{append-nil, drop_at, take_at, drop-drop, take-take, drop-take, length-append}
 use Rattle.std.proofs.lemmas.List.Concat.{flat_map-cons, flat_map-append}
-use Rattle.bgp_prefix.specs.Prefix.{PrefixValue, IsPrefix, one_prefix}
+use Rattle.bgp_prefix.specs.Prelude.{PrefixValue, IsPrefix, one_prefix}
 use Rattle.bgp_prefix.proofs.PrefixLemmas.{IsPrefix-reads}
 use Rattle.bgp_fields.specs.declared.field.Field.{Field}
 use Rattle.bgp_fields.specs.declared.field.Group.{Group}
 use Rattle.bgp_fields.specs.declared.kind.FieldKind.{FieldKind}
-use Rattle.bgp_fields.specs.Laws.{octets_in}
-use Rattle.bgp_fields.specs.Shown.{prefix_width, prefix_alone, prefix_in, prefixes_shown}
-use Rattle.bgp_fields.specs.Walk.{Plan, fit, group_from, Telling, walk}
+use Rattle.bgp_fields.specs.Prelude.{octets_in, prefix_width, prefix_alone, prefix_in, prefixes_shown, Plan, fit, group_from, Telling, walk}
 use Rattle.bgp_fields.proofs.Walks.{walk-none, walk-told}
 use Rattle.bgp_fields.proofs.Readable.{fit-whole}
 

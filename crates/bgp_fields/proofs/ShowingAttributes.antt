@@ -4,33 +4,29 @@ use Rattle.std.proofs.lemmas.Bool.{not-false, ltb-false, true≢false, false≢t
 use Rattle.std.proofs.lemmas.List.{append-nil}
 use Rattle.bgp_numbers.specs.declared.attribute.TheConstants.{ORIGIN, AS_PATH, NEXT_HOP, MULTI_EXIT_DISC, LOCAL_PREF, ATOMIC_AGGREGATE, AGGREGATOR, COMMUNITIES, MP_REACH_NLRI, MP_UNREACH_NLRI, AS4_PATH, AS4_AGGREGATOR, LARGE_COMMUNITY}
 use Rattle.bgp_frame.specs.declared.notification.Notification.{Notification}
-use Rattle.bgp_wire.specs.Octets.{AreOctets}
-use Rattle.bgp_wire.specs.Then.{when}
+use Rattle.bgp_wire.specs.Prelude.{AreOctets, when}
 use Rattle.bgp_open.specs.declared.context.Context.{Context}
-use Rattle.bgp_prefix.specs.Prefix.{PrefixValue}
+use Rattle.bgp_prefix.specs.Prelude.{PrefixValue}
 use Rattle.bgp_attr.specs.declared.attr.Attr.{Attr}
 use Rattle.bgp_attr.specs.declared.judged.Judged.{Judged}
-use Rattle.bgp_attr.specs.declared.judged.Judged.TheVariants as judged
 use Rattle.bgp_attr.specs.declared.mp.MpReach.{MpReach}
 use Rattle.bgp_attr.specs.declared.mp.MpUnreach.{MpUnreach}
 use Rattle.bgp_attr.specs.declared.why.Why.{Why}
+use Rattle.bgp_attr.specs.Prelude.{family_of, is_in_use, address_width, is_next_hop_length, next_hop_length, reached_of, mp_reach_of, withdrawn_of, mp_unreach_of, TlvValue, is_shorter, has_bad_prefix, mp_reach_tests, mp_unreach_tests, AttributeType, is_recognised, decided, judgement}
+use Rattle.bgp_attr.specs.declared.judged.Judged.TheVariants as judged
 use Rattle.bgp_attr.specs.declared.why.Why.TheVariants as why
 use Rattle.bgp_attr.specs.declared.attr.Attr.TheVariants as attr
 use Rattle.bgp_numbers.specs.declared.error.TheConstants.{UPDATE_MESSAGE, OPTIONAL_ATTRIBUTE}
-use Rattle.bgp_attr.specs.Mp.{family_of, is_in_use, address_width, is_next_hop_length, next_hop_length, reached_of, mp_reach_of, withdrawn_of, mp_unreach_of}
-use Rattle.bgp_attr.specs.Tlv.{TlvValue}
-use Rattle.bgp_attr.specs.Judgement.{is_shorter, has_bad_prefix, mp_reach_tests, mp_unreach_tests, AttributeType, is_recognised, decided, judgement}
 use Rattle.bgp_attr.proofs.Kept.{mp_reach-spells, mp_unreach-spells}
 use Rattle.bgp_attr.proofs.Tables.{◌&◌, by_row, entry-other}
-use Rattle.bgp_attr.proofs.TestRows.{passed, by_type, by_kept}
-use Rattle.bgp_update.specs.Marks.{malformed, carries_routes, repeated}
-use Rattle.bgp_update.specs.Verdict.{reset_by}
-use Rattle.bgp_update.specs.Taken.{as_mp_reach, as_mp_unreach}
+use Rattle.bgp_attr.proofs.TestRows.{passed, by_type}
+use Rattle.bgp_attr.proofs.EachType.{by_kept}
+use Rattle.bgp_update.specs.Prelude.{malformed, carries_routes, repeated, reset_by, as_mp_reach, as_mp_unreach}
 use Rattle.bgp_fields.specs.declared.kind.FieldKind.{FieldKind}
-use Rattle.bgp_fields.specs.declared.kind.FieldKind.TheVariants as field
 use Rattle.bgp_fields.specs.declared.part.ValuePart.{ValuePart}
+use Rattle.bgp_fields.specs.Prelude.{attribute_values, attribute_value}
+use Rattle.bgp_fields.specs.declared.kind.FieldKind.TheVariants as field
 use Rattle.bgp_fields.specs.declared.part.ValuePart.TheVariants as value
-use Rattle.bgp_fields.specs.Parts.{attribute_values, attribute_value}
 use Rattle.bgp_fields.proofs.ShowingValues.{is_plain, ValueShows, plain-shows, reach_shown, unreach_shown, reach-shows, unreach-shows, unused-shows}
 
 -- it is discarded, and the session goes on

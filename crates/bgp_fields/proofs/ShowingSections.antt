@@ -3,30 +3,23 @@ use Rattle.std.proofs.Common.{◌≡◌, ℕ, ◌+◌, ◌<◌, ◌≤◌, nat_l
 use Rattle.std.specs.List.{flat_map}
 use Rattle.std.proofs.lemmas.Bool.{leb-true, le-leb, lt-ltb, false_from_ne_true}
 use Rattle.std.proofs.lemmas.List.{append-nil, length-drop, length-take-le, take-append-drop}
-use Rattle.bgp_wire.specs.Octets.{AreOctets}
-use Rattle.bgp_wire.specs.OctetSet.{also}
-use Rattle.bgp_wire.specs.Row.{Row}
+use Rattle.bgp_wire.specs.Prelude.{AreOctets, also, Row}
 use Rattle.bgp_wire.proofs.OctetLemmas.{AreOctets-front, AreOctets-back}
 use Rattle.bgp_open.specs.declared.context.Context.{Context}
-use Rattle.bgp_prefix.specs.Prefix.{PrefixValue, IsPrefix}
-use Rattle.bgp_attr.specs.Flags.{is_extended}
-use Rattle.bgp_attr.specs.Judgement.{judgement}
-use Rattle.bgp_attr.specs.Tlv.{TlvValue, length_width, number_of_length, IsTlv, one_tlv, placed_from}
-use Rattle.bgp_update.specs.Marks.{Mark, repeated, marks_behind}
-use Rattle.bgp_update.specs.Verdict.{reset_by, first_reset}
+use Rattle.bgp_prefix.specs.Prelude.{PrefixValue, IsPrefix}
+use Rattle.bgp_attr.specs.Prelude.{is_extended, judgement, TlvValue, length_width, number_of_length, IsTlv, one_tlv, placed_from}
+use Rattle.bgp_update.specs.Prelude.{Mark, repeated, marks_behind, reset_by, first_reset}
 use Rattle.bgp_update.proofs.KeptMarks.{or-parts}
 use Rattle.bgp_fields.specs.declared.field.Group.{Group}
 use Rattle.bgp_fields.specs.declared.kind.FieldKind.{FieldKind}
-use Rattle.bgp_fields.specs.declared.kind.FieldKind.TheVariants as field
 use Rattle.bgp_fields.specs.declared.part.MessagePart.{MessagePart}
-use Rattle.bgp_fields.specs.declared.part.MessagePart.TheVariants as message
 use Rattle.bgp_fields.specs.declared.part.SectionPart.{SectionPart}
-use Rattle.bgp_fields.specs.declared.part.SectionPart.TheVariants as section
 use Rattle.bgp_fields.specs.declared.part.ValuePart.{ValuePart}
+use Rattle.bgp_fields.specs.Prelude.{no_fields, value_fields, section_fields, message_fields, alone, leaf, opening, behind, first_of, prefix_len, nothing_inside, attribute_value, attribute_len, value_plan, section_plan, message_plan, Plan, fit}
+use Rattle.bgp_fields.specs.declared.kind.FieldKind.TheVariants as field
+use Rattle.bgp_fields.specs.declared.part.MessagePart.TheVariants as message
+use Rattle.bgp_fields.specs.declared.part.SectionPart.TheVariants as section
 use Rattle.bgp_fields.specs.declared.part.ValuePart.TheVariants as value
-use Rattle.bgp_fields.specs.Fields.{no_fields, value_fields, section_fields, message_fields}
-use Rattle.bgp_fields.specs.Parts.{alone, leaf, opening, behind, first_of, prefix_len, nothing_inside, attribute_value, attribute_len, value_plan, section_plan, message_plan}
-use Rattle.bgp_fields.specs.Walk.{Plan, fit}
 use Rattle.bgp_fields.proofs.Walks.{walk-none}
 use Rattle.bgp_fields.proofs.ReadableSections.{attribute-long}
 use Rattle.bgp_fields.proofs.Steps.{width-some}

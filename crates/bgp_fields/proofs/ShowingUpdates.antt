@@ -7,35 +7,28 @@ use Rattle.std.proofs.lemmas.List.{append-nil, take_at}
 use Rattle.std.proofs.lemmas.List.Concat.{flat_map-cons, flat_map-append}
 use Rattle.std.proofs.lemmas.Nat.{from_be_bytes-to_be_bytes_2}
 use Rattle.bgp_frame.specs.declared.kind.Kind.TheVariants as kind
-use Rattle.bgp_frame.specs.Head.{header, marker}
-use Rattle.bgp_frame.specs.Kind.{code_of}
-use Rattle.bgp_wire.specs.Octets.{AreOctets}
-use Rattle.bgp_wire.specs.OctetSet.{none_of_them}
+use Rattle.bgp_frame.specs.Prelude.{header, marker, code_of}
+use Rattle.bgp_wire.specs.Prelude.{AreOctets, none_of_them}
 use Rattle.bgp_wire.proofs.OctetLemmas.{AreOctets-front, AreOctets-back}
 use Rattle.bgp_wire.proofs.Pieces.{Splits-pieces}
 use Rattle.bgp_wire.proofs.Walks.{nothing_at}
 use Rattle.bgp_open.specs.declared.context.Context.{Context}
-use Rattle.bgp_prefix.specs.Prefix.{PrefixValue}
-use Rattle.bgp_prefix.specs.Run.{run_of}
+use Rattle.bgp_prefix.specs.Prelude.{PrefixValue, run_of}
 use Rattle.bgp_attr.specs.declared.judged.Judged.{Judged}
+use Rattle.bgp_attr.specs.Prelude.{TlvValue, IsTlv, one_tlv, tlvs_of, placed_from}
 use Rattle.bgp_attr.specs.declared.judged.Judged.TheVariants as judged
-use Rattle.bgp_attr.specs.Tlv.{TlvValue, IsTlv, one_tlv, tlvs_of, placed_from}
 use Rattle.bgp_attr.proofs.Readers.{IsTlv-reads}
-use Rattle.bgp_update.specs.Marks.{Mark, marks_behind, cut_mark, field_marks, marks_of}
-use Rattle.bgp_update.specs.Parts.{Parts, IsBody, has_nlri}
-use Rattle.bgp_update.specs.Taken.{kept_by, kept_of}
-use Rattle.bgp_update.specs.Verdict.{reset_by, first_reset, reset_of_run, reset_of}
+use Rattle.bgp_update.specs.Prelude.{Mark, marks_behind, cut_mark, field_marks, marks_of, Parts, IsBody, kept_by, kept_of, reset_by, first_reset, reset_of_run, reset_of}
+use Rattle.bgp_update.specs.Parts.{has_nlri}
 use Rattle.bgp_update.proofs.KeptMarks.{or-parts, with_cut-kept}
 use Rattle.bgp_update.proofs.Taken.{run-row}
 use Rattle.bgp_fields.specs.declared.kind.FieldKind.{FieldKind}
-use Rattle.bgp_fields.specs.declared.kind.FieldKind.TheVariants as field
 use Rattle.bgp_fields.specs.declared.part.MessagePart.{MessagePart}
-use Rattle.bgp_fields.specs.declared.part.MessagePart.TheVariants as message
 use Rattle.bgp_fields.specs.declared.part.SectionPart.{SectionPart}
+use Rattle.bgp_fields.specs.Prelude.{section_fields, fields_of, alone, behind, two_of, message_plan, prefixes_shown}
+use Rattle.bgp_fields.specs.declared.kind.FieldKind.TheVariants as field
+use Rattle.bgp_fields.specs.declared.part.MessagePart.TheVariants as message
 use Rattle.bgp_fields.specs.declared.part.SectionPart.TheVariants as section
-use Rattle.bgp_fields.specs.Fields.{section_fields, fields_of}
-use Rattle.bgp_fields.specs.Parts.{alone, behind, two_of, message_plan}
-use Rattle.bgp_fields.specs.Shown.{prefixes_shown}
 use Rattle.bgp_fields.proofs.Showing.{is_prefix, pick, pick-nil, shows-step, shows-leaf}
 use Rattle.bgp_fields.proofs.ShowingAttributes.{attr_shown, judged_shown}
 use Rattle.bgp_fields.proofs.ShowingSections.{SectionShows, MessageShows, none-section, withdrawn-shows, nlri-shows, marks_shown, attributes-show}

@@ -6,24 +6,19 @@ use Rattle.bgp_numbers.specs.declared.afi.TheConstants.{IPV4, IPV6}
 use Rattle.bgp_numbers.specs.declared.safi.TheConstants.{UNICAST}
 use Rattle.bgp_numbers.specs.declared.capability.TheConstants.{MULTIPROTOCOL, FOUR_OCTET_AS}
 use Rattle.bgp_open.specs.declared.context.Context.{Context}
-use Rattle.bgp_prefix.specs.Prefix.{PrefixValue, IsPrefix}
-use Rattle.bgp_wire.specs.Row.{Row}
-use Rattle.bgp_attr.specs.Numbers.{number_width}
-use Rattle.bgp_attr.specs.Mp.{afi_of, safi_of, family_of, is_in_use, mp_reach_of, mp_unreach_of}
-use Rattle.bgp_attr.specs.Spelling.{IsReach, link_octets, HasLink, IsReachValue, IsUnreach, IsUnreachValue}
+use Rattle.bgp_prefix.specs.Prelude.{PrefixValue, IsPrefix}
+use Rattle.bgp_wire.specs.Prelude.{Row}
+use Rattle.bgp_attr.specs.Prelude.{number_width, afi_of, safi_of, family_of, is_in_use, mp_reach_of, mp_unreach_of, IsReach, link_octets, HasLink, IsReachValue, IsUnreach, IsUnreachValue}
 use Rattle.bgp_attr.specs.declared.mp.MpReach.{MpReach}
-use Rattle.bgp_attr.specs.declared.mp.MpReach.TheVariants as reach
 use Rattle.bgp_attr.specs.declared.mp.MpUnreach.{MpUnreach}
+use Rattle.bgp_attr.specs.declared.mp.MpReach.TheVariants as reach
 use Rattle.bgp_attr.specs.declared.mp.MpUnreach.TheVariants as unreach
 use Rattle.bgp_fields.specs.declared.field.Group.{Group}
 use Rattle.bgp_fields.specs.declared.kind.FieldKind.{FieldKind}
-use Rattle.bgp_fields.specs.declared.kind.FieldKind.TheVariants as field
 use Rattle.bgp_fields.specs.declared.part.ValuePart.{ValuePart}
+use Rattle.bgp_fields.specs.Prelude.{no_fields, value_fields, one, first_of, prefix_len, width_of, behind_family, hop_behind, capability_value, value_plan, prefix_width, prefix_in, Plan, fit, group_from, Telling, walk_within, walk}
+use Rattle.bgp_fields.specs.declared.kind.FieldKind.TheVariants as field
 use Rattle.bgp_fields.specs.declared.part.ValuePart.TheVariants as value
-use Rattle.bgp_fields.specs.Fields.{no_fields, value_fields}
-use Rattle.bgp_fields.specs.Parts.{one, first_of, prefix_len, width_of, behind_family, hop_behind, capability_value, value_plan}
-use Rattle.bgp_fields.specs.Shown.{prefix_width, prefix_in}
-use Rattle.bgp_fields.specs.Walk.{Plan, fit, group_from, Telling, walk_within, walk}
 use Rattle.bgp_fields.proofs.ReadableValues.{prefix-long}
 use Rattle.bgp_fields.proofs.Showing.{is_prefix, NonePrefix, none-append, pick, pick-nil, pick-append, prefix-in, none-shown, Shows, nothing-shows, shows-step, shows-leaf}
 

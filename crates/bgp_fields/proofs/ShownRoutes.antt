@@ -1,82 +1,78 @@
 -- Routes by family and place.
-use Rattle.std.proofs.Common.{◌≡◌, ℕ, Bool, true, false, eqb, List, [], ◌∷◌, ◌++◌, map, Option, Some, None, refl, sym, ap, ap₂, subst, ◌∙◌}
+use Rattle.std.proofs.Common.{◌≡◌, ℕ, Bool, true, false, not, cond, eqb, List, [], ◌∷◌, ◌++◌, map, Option, Some, None, refl, sym, ap, ap₂, subst, ◌∙◌}
 use Rattle.std.specs.List.{flat_map}
-use Rattle.std.specs.Option.{option_or}
-use Rattle.std.proofs.lemmas.Bool.{true≢false, or_left, or_right, eq-eqb}
+use Rattle.std.proofs.lemmas.Bool.{true≢false, and_parts, eqb-true, or_left, or_right, eq-eqb}
 use Rattle.std.proofs.lemmas.List.{append-nil}
 use Rattle.std.proofs.lemmas.List.Concat.{flat_map-cons}
 use Rattle.bgp_numbers.specs.declared.attribute.TheConstants.{MP_REACH_NLRI, MP_UNREACH_NLRI}
 use Rattle.bgp_frame.specs.declared.kind.Kind.TheVariants as kind
-use Rattle.bgp_frame.specs.Head.{header}
-use Rattle.bgp_wire.specs.Octets.{AreOctets}
-use Rattle.bgp_wire.specs.OctetSet.{also, none_of_them}
+use Rattle.bgp_frame.specs.Prelude.{header}
+use Rattle.bgp_wire.specs.Prelude.{◌>>=◌, AreOctets, also, none_of_them}
 use Rattle.bgp_wire.proofs.OctetLemmas.{AreOctets-front}
 use Rattle.bgp_wire.proofs.Pieces.{Splits-pieces}
 use Rattle.bgp_open.specs.declared.context.Context.{Context}
-use Rattle.bgp_prefix.specs.Prefix.{PrefixValue}
-use Rattle.bgp_prefix.specs.Run.{run_of}
+use Rattle.bgp_prefix.specs.Prelude.{PrefixValue, run_of}
 use Rattle.bgp_attr.specs.declared.attr.Attr.{Attr}
-use Rattle.bgp_attr.specs.declared.attr.Attr.TheVariants as attr
 use Rattle.bgp_attr.specs.declared.mp.MpReach.{MpReach}
-use Rattle.bgp_attr.specs.declared.mp.MpReach.TheVariants as reach
 use Rattle.bgp_attr.specs.declared.mp.MpUnreach.{MpUnreach}
+use Rattle.bgp_attr.specs.Prelude.{TlvValue, IsTlv, one_tlv, tlvs_of, placed_from, type_of}
+use Rattle.bgp_attr.specs.declared.attr.Attr.TheVariants as attr
+use Rattle.bgp_attr.specs.declared.mp.MpReach.TheVariants as reach
 use Rattle.bgp_attr.specs.declared.mp.MpUnreach.TheVariants as unreach
-use Rattle.bgp_attr.specs.Tlv.{TlvValue, IsTlv, one_tlv, tlvs_of, placed_from}
-use Rattle.bgp_attr.specs.Written.{type_of}
 use Rattle.bgp_attr.proofs.Readers.{IsTlv-reads}
-use Rattle.bgp_update.specs.declared.attrs.Attrs.{Attrs}
-use Rattle.bgp_update.specs.Marks.{marks_behind, field_marks, marks_of}
-use Rattle.bgp_update.specs.Notes.{gone_ip4, gone_ip6, reached_ip4, reached_ip6}
-use Rattle.bgp_update.specs.Parts.{Parts, IsBody, has_nlri}
-use Rattle.bgp_update.specs.Taken.{kept_of, attrs_of, update_of, as_mp_reach, as_mp_unreach}
-use Rattle.bgp_update.specs.Verdict.{reset_of}
-use Rattle.bgp_update.proofs.AttrSlots.{attrs_of-slots}
-use Rattle.bgp_update.proofs.TypeLemmas.{first_in}
+use Rattle.bgp_update.specs.Prelude.{marks_behind, field_marks, marks_of, gone_ip4, gone_ip6, reached_ip4, reached_ip6, Parts, IsBody, kept_of, attrs_from, attrs_of, first_known, is_opaque, update_of, as_mp_reach, as_mp_unreach, reset_of}
+use Rattle.bgp_update.specs.Parts.{has_nlri}
+use Rattle.bgp_update.proofs.TypeLemmas.{is_of}
 use Rattle.bgp_update.proofs.KeptMarks.{with_cut-kept, row-kept}
 use Rattle.bgp_update.proofs.Lists.{flat_map-same}
 use Rattle.bgp_update.proofs.Rising.{NoneTwice}
 use Rattle.bgp_fields.specs.declared.kind.FieldKind.{FieldKind}
+use Rattle.bgp_fields.specs.Prelude.{fields_of, is_withdrawn_prefix, is_unreach_prefix4, is_unreach_prefix6, is_reach_prefix4, is_reach_prefix6, is_nlri_prefix, prefixes_shown, ShowsRoutes}
 use Rattle.bgp_fields.specs.declared.kind.FieldKind.TheVariants as field
-use Rattle.bgp_fields.specs.Fields.{fields_of}
-use Rattle.bgp_fields.specs.Shown.{is_withdrawn_prefix, is_unreach_prefix4, is_unreach_prefix6, is_reach_prefix4, is_reach_prefix6, is_nlri_prefix, prefixes_shown, ShowsRoutes}
 use Rattle.bgp_fields.proofs.Showing.{pick}
 use Rattle.bgp_fields.proofs.ShowingAttributes.{reach_opt, unreach_opt, attr_shown}
 use Rattle.bgp_fields.proofs.ShowingUpdates.{update-shows}
 
 -- ---- a slot has the one attribute of its type
 
-module _ (A : Type 0) (slot : Attr → Option A) (kind : ℕ) (typed : (x : Attr) (a : A) → slot x ≡ Some a → type_of x ≡ kind) (g : Option A → List PrefixValue) (none : g None ≡ []) where
-  none-by : (x : Attr) (seen : ℕ → Bool) (o : Option A) → slot x ≡ o → seen kind ≡ true → seen (type_of x) ≡ false → g o ≡ []
-  none-by x seen None is old new = none
-  none-by x seen (Some a) is old new = absurd (true≢false (sym old ∙ ap seen (sym (typed x a is)) ∙ new))
+module _ (A : Type 0) (slot : Attr → Option A) (kind : ℕ) (alone : (x : Attr) → (first_known (x ∷ []) kind >>= slot) ≡ slot x) (g : Option A → List PrefixValue) (none : g None ≡ []) where
+  type-is : (x : Attr) → is_of kind x ≡ true → type_of x ≡ kind
+  type-is x is = eqb-true (type_of x) kind (and_parts (not (is_opaque x)) (eqb (type_of x) kind) is).1
+
+  other-none : (x : Attr) → is_of kind x ≡ false → g (slot x) ≡ []
+  other-none x other = ap g (sym (alone x) ∙ ap (λ (t : Bool). cond t (Some x) None >>= slot) other) ∙ none
+
+  none-by : (x : Attr) (seen : ℕ → Bool) (t : Bool) → is_of kind x ≡ t → seen kind ≡ true → seen (type_of x) ≡ false → g (slot x) ≡ []
+  none-by x seen true is old new = absurd (true≢false (sym old ∙ ap seen (sym (type-is x is)) ∙ new))
+  none-by x seen false is old new = other-none x is
 
   none-left : (seen : ℕ → Bool) (xs : List Attr) → seen kind ≡ true → NoneTwice seen (map type_of xs) → flat_map (λ x. g (slot x)) xs ≡ []
   none-left seen [] old fresh = refl
   none-left seen (x ∷ xs) old fresh =
       flat_map-cons (λ (y : Attr). g (slot y)) x xs
-      ∙ ap₂ (λ (a b : List PrefixValue). a ++ b) (none-by x seen (slot x) refl old fresh.0)
+      ∙ ap₂ (λ (a b : List PrefixValue). a ++ b) (none-by x seen (is_of kind x) refl old fresh.0)
       (none-left (also (type_of x) seen) xs (or_right (eqb kind (type_of x)) (seen kind) old) fresh.1)
 
-  first-by : (x : Attr) (xs : List Attr) (seen : ℕ → Bool) (o : Option A) → slot x ≡ o → NoneTwice (also (type_of x) seen) (map type_of xs)
-      → flat_map (λ y. g (slot y)) xs ≡ g (first_in slot xs) → g o ++ flat_map (λ y. g (slot y)) xs ≡ g (option_or o (first_in slot xs))
-  first-by x xs seen None is fresh later = ap₂ (λ (a b : List PrefixValue). a ++ b) none later
-  first-by x xs seen (Some a) is fresh later =
-      ap (λ (b : List PrefixValue). g (Some a) ++ b)
-      (none-left (also (type_of x) seen) xs (or_left (eqb kind (type_of x)) (seen kind) (eq-eqb kind (type_of x) (sym (typed x a is)))) fresh)
-      ∙ append-nil (g (Some a))
+  first-by : (x : Attr) (xs : List Attr) (seen : ℕ → Bool) (t : Bool) → is_of kind x ≡ t → NoneTwice (also (type_of x) seen) (map type_of xs)
+      → flat_map (λ y. g (slot y)) xs ≡ g (first_known xs kind >>= slot) → g (slot x) ++ flat_map (λ y. g (slot y)) xs ≡ g (cond t (Some x) (first_known xs kind) >>= slot)
+  first-by x xs seen true is fresh later =
+      ap (λ (b : List PrefixValue). g (slot x) ++ b)
+      (none-left (also (type_of x) seen) xs (or_left (eqb kind (type_of x)) (seen kind) (eq-eqb kind (type_of x) (sym (type-is x is)))) fresh)
+      ∙ append-nil (g (slot x))
+  first-by x xs seen false is fresh later = ap₂ (λ (a b : List PrefixValue). a ++ b) (other-none x is) later
 
-  pub first-only : (seen : ℕ → Bool) (xs : List Attr) → NoneTwice seen (map type_of xs) → flat_map (λ x. g (slot x)) xs ≡ g (first_in slot xs)
+  pub first-only : (seen : ℕ → Bool) (xs : List Attr) → NoneTwice seen (map type_of xs) → flat_map (λ x. g (slot x)) xs ≡ g (first_known xs kind >>= slot)
   first-only seen [] fresh = sym none
   first-only seen (x ∷ xs) fresh =
-      flat_map-cons (λ (y : Attr). g (slot y)) x xs ∙ first-by x xs seen (slot x) refl fresh.1 (first-only (also (type_of x) seen) xs fresh.1)
+      flat_map-cons (λ (y : Attr). g (slot y)) x xs ∙ first-by x xs seen (is_of kind x) refl fresh.1 (first-only (also (type_of x) seen) xs fresh.1)
 
-reach-typed : (x : Attr) (r : MpReach) → as_mp_reach x ≡ Some r → type_of x ≡ MP_REACH_NLRI
-reach-typed (attr.MpReach q) r e = refl
-reach-typed _ r e = absurd cc
+reach-alone : (x : Attr) → (first_known (x ∷ []) MP_REACH_NLRI >>= as_mp_reach) ≡ as_mp_reach x
+reach-alone (attr.MpReach r) = refl
+reach-alone _ = refl
 
-unreach-typed : (x : Attr) (r : MpUnreach) → as_mp_unreach x ≡ Some r → type_of x ≡ MP_UNREACH_NLRI
-unreach-typed (attr.MpUnreach q) r e = refl
-unreach-typed _ r e = absurd cc
+unreach-alone : (x : Attr) → (first_known (x ∷ []) MP_UNREACH_NLRI >>= as_mp_unreach) ≡ as_mp_unreach x
+unreach-alone (attr.MpUnreach r) = refl
+unreach-alone _ = refl
 
 -- ---- what is shown of attributes that are kept, no type twice
 
@@ -87,19 +83,19 @@ module _ (ctx : Context) (xs : List Attr) (seen : ℕ → Bool) (fresh : NoneTwi
   -- where nothing is shown of MP_UNREACH_NLRI
   reach-all : (chosen : FieldKind → Bool) (g : Option MpReach → List PrefixValue) → g None ≡ [] → ((o : Option MpReach) → reach_opt ctx chosen o ≡ g o)
       → ((o : Option MpUnreach) → unreach_opt ctx chosen o ≡ []) → all chosen ≡ g (attrs_of xs).mp_reach
+  unfolding attrs_from
   reach-all chosen g none same empty =
       flat_map-same (attr_shown ctx chosen) (λ x. g (as_mp_reach x)) xs
       (λ x. ap₂ (λ (a b : List PrefixValue). a ++ b) (same (as_mp_reach x)) (empty (as_mp_unreach x)) ∙ append-nil (g (as_mp_reach x)))
-      ∙ first-only MpReach as_mp_reach MP_REACH_NLRI reach-typed g none seen xs fresh
-      ∙ ap (λ (a : Attrs). g a.mp_reach) (sym (attrs_of-slots xs))
+      ∙ first-only MpReach as_mp_reach MP_REACH_NLRI reach-alone g none seen xs fresh
 
   unreach-all : (chosen : FieldKind → Bool) (g : Option MpUnreach → List PrefixValue) → g None ≡ [] → ((o : Option MpUnreach) → unreach_opt ctx chosen o ≡ g o)
       → ((o : Option MpReach) → reach_opt ctx chosen o ≡ []) → all chosen ≡ g (attrs_of xs).mp_unreach
+  unfolding attrs_from
   unreach-all chosen g none same empty =
       flat_map-same (attr_shown ctx chosen) (λ x. g (as_mp_unreach x)) xs
       (λ x. ap₂ (λ (a b : List PrefixValue). a ++ b) (empty (as_mp_reach x)) (same (as_mp_unreach x)))
-      ∙ first-only MpUnreach as_mp_unreach MP_UNREACH_NLRI unreach-typed g none seen xs fresh
-      ∙ ap (λ (a : Attrs). g a.mp_unreach) (sym (attrs_of-slots xs))
+      ∙ first-only MpUnreach as_mp_unreach MP_UNREACH_NLRI unreach-alone g none seen xs fresh
 
   no-reach : (chosen : FieldKind → Bool) → chosen field.ReachPrefix4 ≡ false → chosen field.ReachPrefix6 ≡ false → (o : Option MpReach) → reach_opt ctx chosen o ≡ []
   no-reach chosen a b None = refl

@@ -1,29 +1,24 @@
 -- One step of an iterator of fields.
 use Rattle.std.proofs.Common.{◌≡◌, ℕ, ◌+◌, ◌-◌, ◌<◌, ◌≤◌, cond, Bool, true, false, List, [], ◌∷◌, ◌++◌, length, take, drop, Option, Some, None, refl, sym, ap, ap₂, ◌∙◌, arith, length-drop}
 use Rattle.std.proofs.lemmas.List.{length-take-le, drop-drop, append_assoc}
-use Rattle.bgp_attr.specs.Flags.{is_extended}
-use Rattle.bgp_attr.specs.Tlv.{length_width}
+use Rattle.bgp_attr.specs.Prelude.{is_extended, length_width}
 use Rattle.bgp_open.specs.declared.context.Context.{Context}
 use Rattle.bgp_fields.specs.declared.field.Field.{Field}
 use Rattle.bgp_fields.specs.declared.field.Group.{Group}
 use Rattle.bgp_fields.specs.declared.kind.FieldKind.{FieldKind}
 use Rattle.bgp_fields.specs.declared.kind.FieldKind.TheVariants.{Unread, AttributeFlags, AttributeType, AttributeLength}
-use Rattle.bgp_fields.specs.declared.head.Head.{Head}
 use Rattle.bgp_fields.specs.declared.part.MessagePart.{MessagePart}
-use Rattle.bgp_fields.specs.declared.part.MessagePart.TheVariants as message
 use Rattle.bgp_fields.specs.declared.part.SectionPart.{SectionPart}
-use Rattle.bgp_fields.specs.declared.part.SectionPart.TheVariants as section
 use Rattle.bgp_fields.specs.declared.part.ValuePart.{ValuePart}
+use Rattle.bgp_fields.specs.Prelude.{no_fields, value_fields, section_fields, message_fields, value_plan, section_plan, message_plan, leaf, opening, nothing_inside, attribute_value, attribute_len, IsHead, head_fields, value_planned, section_planned, message_planned, Plan, fit, group_from}
+use Rattle.bgp_fields.specs.declared.head.Head.{Head}
+use Rattle.bgp_fields.specs.declared.part.MessagePart.TheVariants as message
+use Rattle.bgp_fields.specs.declared.part.SectionPart.TheVariants as section
 use Rattle.bgp_fields.specs.declared.part.ValuePart.TheVariants as value
 use Rattle.bgp_fields.specs.declared.plan.ValuePlan.{ValuePlan}
 use Rattle.bgp_fields.specs.declared.plan.SectionPlan.{SectionPlan}
 use Rattle.bgp_fields.specs.declared.plan.MessagePlan.{MessagePlan}
-use Rattle.bgp_fields.specs.Fields.{no_fields, value_fields, section_fields, message_fields}
-use Rattle.bgp_fields.specs.Parts.{value_plan, section_plan, message_plan, leaf, opening, nothing_inside, attribute_value, attribute_len}
 use Rattle.bgp_fields.specs.Parts as Parts
-use Rattle.bgp_fields.specs.steps.Heads.{IsHead, head_fields}
-use Rattle.bgp_fields.specs.steps.Plans.{value_planned, section_planned, message_planned}
-use Rattle.bgp_fields.specs.Walk.{Plan, fit, group_from}
 use Rattle.bgp_fields.proofs.Walks.{Fits, fit-same, walk-none, walk-told, walk-split, fits-told}
 
 -- a field of a value

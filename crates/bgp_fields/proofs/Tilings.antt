@@ -3,8 +3,7 @@ use Rattle.std.proofs.Common.{◌≡◌, ℕ, zero, suc, ◌+◌, ◌-◌, ◌�
 use Rattle.std.proofs.lemmas.List.{length-take-le}
 use Rattle.bgp_fields.specs.declared.field.Field.{Field}
 use Rattle.bgp_fields.specs.declared.field.Group.{Group}
-use Rattle.bgp_fields.specs.Laws.{Tiles}
-use Rattle.bgp_fields.specs.Walk.{Plan, fit, group_from, Telling, walk_within, walk}
+use Rattle.bgp_fields.specs.Prelude.{Tiles, Plan, fit, group_from, Telling, walk_within, walk}
 use Rattle.bgp_fields.proofs.Walks.{fit-fits, shorter}
 
 pub Tiles-append : (from middle next to : ℕ) (fs gs : List Field) → Tiles from middle fs → middle ≡ next → Tiles next to gs → Tiles from to (fs ++ gs)

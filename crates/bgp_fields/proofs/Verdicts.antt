@@ -5,10 +5,7 @@ use Rattle.std.proofs.lemmas.List.Concat.{flat_map-cons}
 use Rattle.bgp_attr.specs.declared.attr.Attr.{Attr}
 use Rattle.bgp_attr.specs.declared.judged.Judged.{Judged}
 use Rattle.bgp_attr.specs.declared.judged.Judged.TheVariants as judged
-use Rattle.bgp_update.specs.Marks.{Mark}
-use Rattle.bgp_update.specs.Notes.{mark_notes, missing_notes, missing_of, notes_of}
-use Rattle.bgp_update.specs.Parts.{Parts, attributes_at}
-use Rattle.bgp_update.specs.Verdict.{reset_by, first_reset, reset_of}
+use Rattle.bgp_update.specs.Prelude.{Mark, mark_notes, missing_notes, missing_of, notes_of, Parts, attributes_at, reset_by, first_reset, reset_of}
 use Rattle.bgp_update.proofs.KeptMarks.{or-parts}
 
 -- ---- marks without reset and note

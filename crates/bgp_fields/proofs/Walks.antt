@@ -5,7 +5,7 @@ use Rattle.std.proofs.lemmas.Bool.{and_parts, leb-true, ltb-true, le-leb, lt-ltb
 use Rattle.bgp_fields.specs.declared.field.Field.{Field}
 use Rattle.bgp_fields.specs.declared.field.Group.{Group}
 use Rattle.bgp_fields.specs.declared.kind.FieldKind.TheVariants.{Unread}
-use Rattle.bgp_fields.specs.Walk.{Plan, fit, group_from, Telling, told, walk_within, walk}
+use Rattle.bgp_fields.specs.Prelude.{Plan, fit, group_from, Telling, told, walk_within, walk}
 
 module _ (I S : Type 0) where
   -- a plan that fits n octets has one of them at least, and no more than there are

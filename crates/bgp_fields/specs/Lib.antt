@@ -6,4 +6,5 @@ pub mod FieldIter
 pub mod Laws
 pub mod Shown
 pub mod Places
+pub mod Prelude
 pub mod steps

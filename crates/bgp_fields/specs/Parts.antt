@@ -8,14 +8,11 @@ use Rattle.bgp_numbers.specs.declared.segment.TheConstants.{SET, SEQUENCE, CONFE
 use Rattle.bgp_numbers.specs.declared.afi.TheConstants.{IPV4, IPV6}
 use Rattle.bgp_numbers.specs.declared.safi.TheConstants.{UNICAST}
 use Rattle.bgp_frame.specs.declared.kind.Kind.{Kind}
+use Rattle.bgp_frame.specs.Prelude.{kind_of}
 use Rattle.bgp_frame.specs.declared.kind.Kind.TheVariants as kind
-use Rattle.bgp_frame.specs.Kind.{kind_of}
 use Rattle.bgp_open.specs.declared.context.Context.{Context}
-use Rattle.bgp_prefix.specs.Bits.{octets_for}
-use Rattle.bgp_attr.specs.Numbers.{number_width}
-use Rattle.bgp_attr.specs.Flags.{is_extended}
-use Rattle.bgp_attr.specs.Tlv.{length_width}
-use Rattle.bgp_attr.specs.Table.{entry_of}
+use Rattle.bgp_prefix.specs.Prelude.{octets_for}
+use Rattle.bgp_attr.specs.Prelude.{number_width, is_extended, length_width, entry_of}
 use Rattle.bgp_fields.specs.declared.kind.FieldKind.{FieldKind}
 use Rattle.bgp_fields.specs.declared.kind.FieldKind.TheVariants as field
 use Rattle.bgp_fields.specs.declared.part.MessagePart.{MessagePart}

@@ -2,30 +2,25 @@
 use Rattle.std.specs.Prelude.{◌≡◌, ℕ, ◌<◌, ◌≤◌, ◌+◌, ◌-◌, min, Bool, true, false, not, ◌&&◌, ◌==◌, nat_le, nat_lt, List, [], ◌∷◌, length, take, drop, Option, None, Some, option_map, if◌then◌else◌}
 use Rattle.std.specs.List.{AllByRecursion}
 use Rattle.std.specs.Option.{option_or}
-use Rattle.bgp_wire.specs.Then.{when}
-use Rattle.bgp_wire.specs.Reader.{pieces}
+use Rattle.bgp_wire.specs.Prelude.{when, pieces}
 use Rattle.bgp_numbers.specs.declared.TheConstants.{VERSION}
 use Rattle.bgp_numbers.specs.declared.parameter.TheConstants.{CAPABILITIES}
 use Rattle.bgp_frame.specs.declared.fault.HeadFault.{HeadFault}
-use Rattle.bgp_frame.specs.declared.fault.HeadFault.TheVariants as fault
 use Rattle.bgp_frame.specs.declared.kind.Kind.{Kind}
+use Rattle.bgp_frame.specs.declared.fault.HeadFault.TheVariants as fault
 use Rattle.bgp_frame.specs.declared.kind.Kind.TheVariants as kind
 use Rattle.bgp_frame.specs.Frame as frame
 use Rattle.bgp_open.specs.declared.context.Context.{Context}
-use Rattle.bgp_open.specs.Capability.{one_capability}
-use Rattle.bgp_open.specs.Open.{version_of, length_of, parameters_of, hold_of, id_of, is_short_hold, is_zero_id}
-use Rattle.bgp_open.specs.Parameter.{one_parameter}
-use Rattle.bgp_prefix.specs.Bits.{octets_for}
-use Rattle.bgp_prefix.specs.Run.{run_of}
+use Rattle.bgp_open.specs.Prelude.{one_capability, version_of, length_of, parameters_of, hold_of, id_of, is_short_hold, is_zero_id, one_parameter}
+use Rattle.bgp_prefix.specs.Prelude.{octets_for, run_of}
 use Rattle.bgp_attr.specs.declared.judged.Judged.{Judged}
-use Rattle.bgp_attr.specs.declared.judged.Judged.TheVariants as judged
 use Rattle.bgp_attr.specs.declared.why.Why.{Why}
+use Rattle.bgp_attr.specs.Prelude.{TlvValue, one_tlv}
+use Rattle.bgp_attr.specs.declared.judged.Judged.TheVariants as judged
 use Rattle.bgp_attr.specs.declared.why.Why.TheVariants as why
-use Rattle.bgp_attr.specs.Tlv.{TlvValue, one_tlv}
 use Rattle.bgp_update.specs.declared.note.Note.{Note}
-use Rattle.bgp_update.specs.Marks.{Mark, marks_of}
-use Rattle.bgp_update.specs.Parts.{Parts, attributes_at, behind_two, parts_of}
-use Rattle.bgp_msg.specs.Outcome.{out_of, is_reset}
+use Rattle.bgp_update.specs.Prelude.{Mark, marks_of, Parts, attributes_at, behind_two, parts_of}
+use Rattle.bgp_msg.specs.Prelude.{out_of, is_reset}
 use Rattle.bgp_fields.specs.declared.field.Span.{Span}
 
 -- so many octets from a place on

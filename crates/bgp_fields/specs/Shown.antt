@@ -1,10 +1,10 @@
 -- The routes that prefix fields show, by family and place.
 use Rattle.std.specs.Prelude.{◌≡◌, ◌++◌, ℕ, Bool, true, false, List, [], ◌∷◌, Option, None, Some, if◌then◌else◌}
 use Rattle.std.specs.List.{flat_map}
-use Rattle.bgp_prefix.specs.Prefix.{PrefixValue, one_prefix}
+use Rattle.bgp_prefix.specs.Prelude.{PrefixValue, one_prefix}
 use Rattle.bgp_update.specs.declared.routes.Routes.{Routes}
 use Rattle.bgp_update.specs.declared.update.Update.{Update}
-use Rattle.bgp_update.specs.Notes.{gone_ip4, gone_ip6, reached_ip4, reached_ip6}
+use Rattle.bgp_update.specs.Prelude.{gone_ip4, gone_ip6, reached_ip4, reached_ip6}
 use Rattle.bgp_fields.specs.declared.field.Field.{Field}
 use Rattle.bgp_fields.specs.declared.kind.FieldKind.{FieldKind}
 use Rattle.bgp_fields.specs.declared.kind.FieldKind.TheVariants.{WithdrawnPrefix, UnreachPrefix4, UnreachPrefix6, ReachPrefix4, ReachPrefix6, NlriPrefix}

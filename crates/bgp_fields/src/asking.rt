@@ -1,12 +1,10 @@
 //! The first attribute that asks for a reset, or for a withdrawal.
 
 ghost use Rattle.std.specs.Prelude.{◌≡◌, ◌≤◌, ◌+◌, length, IfSome, if◌then◌else◌};
-ghost use Rattle.bgp_wire.specs.OctetSet.{has_octet};
-ghost use Rattle.bgp_attr.specs.FoundAttr.{found_attr_value};
-ghost use Rattle.bgp_attr.specs.Judgement.{judgement};
-ghost use Rattle.bgp_attr.specs.TlvView.{tlv_value};
-ghost use Rattle.bgp_update.specs.Marks.{carries_routes, repeated, cut, field_marks};
-ghost use Rattle.bgp_fields.specs.Places.{asks_for, first_asking};
+ghost use Rattle.bgp_wire.specs.Prelude.{has_octet};
+ghost use Rattle.bgp_attr.specs.Prelude.{found_attr_value, judgement, tlv_value};
+ghost use Rattle.bgp_update.specs.Prelude.{carries_routes, repeated, cut, field_marks};
+ghost use Rattle.bgp_fields.specs.Prelude.{asks_for, first_asking};
 
 use bgp_attr::{FoundAttr, Tail, Tlv, TlvIter, judge_attribute};
 use bgp_numbers::attribute::{MP_REACH_NLRI, MP_UNREACH_NLRI};

@@ -1,7 +1,7 @@
 //! The flags, the type and the length of an attribute, all at once.
 
 ghost use Rattle.std.specs.Prelude.{◌≡◌, IfSome};
-ghost use Rattle.bgp_fields.specs.steps.Heads.{IsHead};
+ghost use Rattle.bgp_fields.specs.Prelude.{IsHead};
 
 use crate::section_plan::length_in;
 

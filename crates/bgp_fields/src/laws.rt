@@ -1,24 +1,20 @@
 //! Laws of the fields of a message. Each is the contract of a function that does nothing.
 
 ghost use Rattle.std.specs.Prelude.{◌≡◌, ◌≤◌, ℕ, List, [], Err, Some, length};
-ghost use Rattle.bgp_wire.specs.Octets.{AreOctets};
+ghost use Rattle.bgp_wire.specs.Prelude.{AreOctets};
 ghost use Rattle.bgp_frame.specs.Frame as frame;
-ghost use Rattle.bgp_frame.specs.Frame.{IsFrame};
+ghost use Rattle.bgp_frame.specs.Prelude.{IsFrame, head_of};
 ghost use Rattle.bgp_frame.specs.declared.fault.HeadFault.{HeadFault};
-ghost use Rattle.bgp_frame.specs.Head.{head_of};
 ghost use Rattle.bgp_frame.specs.declared.notification.Notification.{Notification};
 ghost use Rattle.bgp_open.specs.declared.context.Context.{Context};
 ghost use Rattle.bgp_update.specs.declared.note.Note.{Note};
 ghost use Rattle.bgp_update.specs.declared.routes.Routes.{Routes};
 ghost use Rattle.bgp_update.specs.declared.update.Update.{Update};
 ghost use Rattle.bgp_msg.specs.declared.message.Message.{Message};
-ghost use Rattle.bgp_msg.specs.declared.message.Message.TheVariants as message;
 ghost use Rattle.bgp_msg.specs.declared.outcome.Outcome.TheVariants.{Reset, Took, Withdraw};
-ghost use Rattle.bgp_msg.specs.Outcome.{out_of};
-ghost use Rattle.bgp_fields.specs.Fields.{fields_of};
-ghost use Rattle.bgp_fields.specs.Laws.{AllRead, AreTheOctets};
-ghost use Rattle.bgp_fields.specs.Places.{ArePlaced, HasPlace, header_place, reset_place};
-ghost use Rattle.bgp_fields.specs.Shown.{ShowsRoutes, ShowsWithdrawal};
+ghost use Rattle.bgp_msg.specs.Prelude.{out_of};
+ghost use Rattle.bgp_msg.specs.declared.message.Message.TheVariants as message;
+ghost use Rattle.bgp_fields.specs.Prelude.{fields_of, AllRead, AreTheOctets, ArePlaced, HasPlace, header_place, reset_place, ShowsRoutes, ShowsWithdrawal};
 
 /// The fields of a message are its octets, whatever they are: each field begins where the one before it ends and has an octet at least, none is given
 /// twice and none left out.

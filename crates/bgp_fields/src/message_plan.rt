@@ -1,12 +1,11 @@
 //! What stands next in a message.
 
 ghost use Rattle.std.specs.Prelude.{◌≡◌};
-ghost use Rattle.bgp_frame.specs.Kind.{kind_of};
+ghost use Rattle.bgp_frame.specs.Prelude.{kind_of};
 ghost use Rattle.bgp_fields.specs.declared.kind.FieldKind.TheVariants.{ParametersLength, Unread};
+ghost use Rattle.bgp_fields.specs.Prelude.{alone, behind, body_part, message_plan, message_planned};
 ghost use Rattle.bgp_fields.specs.declared.part.MessagePart.TheVariants as message;
 ghost use Rattle.bgp_fields.specs.declared.part.SectionPart.TheVariants as section;
-ghost use Rattle.bgp_fields.specs.Parts.{alone, behind, body_part, message_plan};
-ghost use Rattle.bgp_fields.specs.steps.Plans.{message_planned};
 
 use crate::kind::FieldKind;
 use crate::octets::{octet, prefix_len, two};

@@ -1,7 +1,7 @@
 //! The first octets of what is left.
 
 ghost use Rattle.std.specs.Prelude.{◌≡◌, slice_index};
-ghost use Rattle.bgp_fields.specs.Parts.{two_of, prefix_len, width_of};
+ghost use Rattle.bgp_fields.specs.Prelude.{two_of, prefix_len, width_of};
 
 /// An octet, or 0 behind the last one.
 pub(crate) fn octet(octets: &[u8], at: usize) -> u8

@@ -1,8 +1,8 @@
 //! The place of an OPEN's fault.
 
 ghost use Rattle.std.specs.Prelude.{◌≡◌, ◌≤◌, length};
-ghost use Rattle.bgp_open.specs.Open.{is_short_hold, is_zero_id};
-ghost use Rattle.bgp_fields.specs.Places.{item_extent, capability_place, parameter_place, parameters_place, open_place};
+ghost use Rattle.bgp_open.specs.Prelude.{is_short_hold, is_zero_id};
+ghost use Rattle.bgp_fields.specs.Prelude.{item_extent, capability_place, parameter_place, parameters_place, open_place};
 
 use crate::field::Span;
 use crate::place::span;

@@ -2,17 +2,12 @@
 
 ghost use Rattle.std.specs.Prelude.{◌≡◌, ◌≤◌, ◌+◌, Err, Some, length, drop, option_map};
 ghost use Rattle.bgp_frame.specs.declared.fault.HeadFault.{HeadFault};
+ghost use Rattle.bgp_frame.specs.Prelude.{IsFrame, head_of, IsLength, message_in};
 ghost use Rattle.bgp_frame.specs.Frame as frame;
-ghost use Rattle.bgp_frame.specs.Frame.{IsFrame};
-ghost use Rattle.bgp_frame.specs.Head.{head_of};
-ghost use Rattle.bgp_frame.specs.Kind.{IsLength};
-ghost use Rattle.bgp_frame.specs.Step.{message_in};
-ghost use Rattle.bgp_attr.specs.Tlv.{one_tlv};
-ghost use Rattle.bgp_update.specs.Marks.{marks_of};
-ghost use Rattle.bgp_update.specs.Parts.{attributes_at, behind_two, parts_of};
-ghost use Rattle.bgp_msg.specs.Outcome.{out_of, is_reset};
-ghost use Rattle.bgp_fields.specs.Places.{span, body_place, reset_place, first_other, header_place, attribute_extent, attribute_place, asking_place, bad_prefix, run_place, length_place, parts_place, update_place, note_place, says_missing};
-ghost use Rattle.bgp_fields.specs.steps.Sections.{sections_value};
+ghost use Rattle.bgp_attr.specs.Prelude.{one_tlv};
+ghost use Rattle.bgp_update.specs.Prelude.{marks_of, attributes_at, behind_two, parts_of};
+ghost use Rattle.bgp_msg.specs.Prelude.{out_of, is_reset};
+ghost use Rattle.bgp_fields.specs.Prelude.{span, body_place, reset_place, first_other, header_place, attribute_extent, attribute_place, asking_place, bad_prefix, run_place, length_place, parts_place, update_place, note_place, says_missing, sections_value};
 
 use crate::asking::first_asking;
 use crate::field::Span;

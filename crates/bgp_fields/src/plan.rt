@@ -5,8 +5,7 @@ ghost use Rattle.bgp_fields.specs.declared.kind.FieldKind.TheVariants.{Unread};
 ghost use Rattle.bgp_fields.specs.declared.part.ValuePart.TheVariants as value;
 ghost use Rattle.bgp_fields.specs.declared.part.SectionPart.TheVariants as section;
 ghost use Rattle.bgp_fields.specs.declared.part.MessagePart.TheVariants as message;
-ghost use Rattle.bgp_fields.specs.steps.Plans.{value_planned, section_planned, message_planned};
-ghost use Rattle.bgp_fields.specs.Walk.{fit};
+ghost use Rattle.bgp_fields.specs.Prelude.{value_planned, section_planned, message_planned, fit};
 
 use crate::kind::FieldKind;
 use crate::part::{MessagePart, SectionPart, ValuePart};

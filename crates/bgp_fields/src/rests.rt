@@ -1,11 +1,9 @@
 //! What is left where no prefix, capability or parameter can be read.
 
 ghost use Rattle.std.specs.Prelude.{◌≡◌, ◌≤◌, length, is_some, option_map};
-ghost use Rattle.bgp_wire.specs.Reader.{pieces};
-ghost use Rattle.bgp_prefix.specs.Prefix.{one_prefix};
-ghost use Rattle.bgp_prefix.specs.Run.{run_of};
-ghost use Rattle.bgp_open.specs.Capability.{capability_of, one_capability};
-ghost use Rattle.bgp_open.specs.Parameter.{one_parameter};
+ghost use Rattle.bgp_wire.specs.Prelude.{pieces};
+ghost use Rattle.bgp_prefix.specs.Prelude.{one_prefix, run_of};
+ghost use Rattle.bgp_open.specs.Prelude.{capability_of, one_capability, one_parameter};
 
 use bgp_numbers::{capability, parameter};
 

@@ -1,9 +1,8 @@
 //! What stands next in Withdrawn Routes, Path Attributes or Optional Parameters.
 
 ghost use Rattle.std.specs.Prelude.{◌≡◌};
-ghost use Rattle.bgp_attr.specs.Tlv.{length_width};
-ghost use Rattle.bgp_fields.specs.Parts.{attribute_value, attribute_len, nothing_inside, leaf, opening, behind, parameter_value, section_plan};
-ghost use Rattle.bgp_fields.specs.steps.Plans.{section_planned};
+ghost use Rattle.bgp_attr.specs.Prelude.{length_width};
+ghost use Rattle.bgp_fields.specs.Prelude.{attribute_value, attribute_len, nothing_inside, leaf, opening, behind, parameter_value, section_plan, section_planned};
 ghost use Rattle.bgp_fields.specs.declared.kind.FieldKind.TheVariants.{AttributeLength, ParameterLength};
 ghost use Rattle.bgp_fields.specs.declared.part.SectionPart.TheVariants as section;
 

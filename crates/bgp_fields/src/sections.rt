@@ -1,8 +1,8 @@
 //! The sections of an UPDATE's body.
 
 ghost use Rattle.std.specs.Prelude.{◌≡◌, ◌≤◌, ◌+◌, length, option_map, IfSome};
-ghost use Rattle.bgp_update.specs.Parts.{behind_two, parts_of};
-ghost use Rattle.bgp_fields.specs.steps.Sections.{sections_value};
+ghost use Rattle.bgp_update.specs.Prelude.{behind_two, parts_of};
+ghost use Rattle.bgp_fields.specs.Prelude.{sections_value};
 
 /// Withdrawn Routes, Path Attributes and NLRI.
 #[derive(Clone, Copy)]

@@ -1,11 +1,10 @@
 //! What stands next in the value of an attribute or of a parameter.
 
 ghost use Rattle.std.specs.Prelude.{◌≡◌, if◌then◌else◌};
-ghost use Rattle.bgp_fields.specs.Parts.{is_segment, numbers_behind, behind_number, behind_family, hop_behind, hop_plan, reach_prefixes, capability_value, capability_behind, one, opening, value_plan};
+ghost use Rattle.bgp_fields.specs.Prelude.{is_segment, numbers_behind, behind_number, behind_family, hop_behind, hop_plan, reach_prefixes, capability_value, capability_behind, one, opening, value_plan, value_planned};
 ghost use Rattle.bgp_fields.specs.declared.kind.FieldKind.TheVariants.{CapabilityCode, CapabilityLength, SegmentType, AsNumber, Address};
 ghost use Rattle.bgp_fields.specs.declared.part.ValuePart.TheVariants as value;
-ghost use Rattle.bgp_fields.specs.steps.Plans.{value_planned};
-ghost use Rattle.bgp_attr.specs.Numbers.{number_width};
+ghost use Rattle.bgp_attr.specs.Prelude.{number_width};
 
 use crate::kind::FieldKind;
 use crate::octets::{octet, prefix_len, two};

@@ -3,11 +3,8 @@ use Rattle.std.proofs.Common.{◌≡◌, ℕ, ◌≤◌, ◌⊎◌, List, length
 use Rattle.std.specs.Result.{result_map_both}
 use Rattle.std.proofs.lemmas.Bool.{cases_lt, le-ltb, lt-ltb}
 use Rattle.bgp_frame.specs.declared.fault.HeadFault.{HeadFault}
-use Rattle.bgp_frame.specs.Frame.{Message, IsFrame, wanted_by, wanted, Waits}
-use Rattle.bgp_frame.specs.Framer.{IsHeld}
-use Rattle.bgp_frame.specs.Head.{head_of}
+use Rattle.bgp_frame.specs.Prelude.{Message, IsFrame, wanted_by, wanted, Waits, IsHeld, head_of, content, content_of}
 use Rattle.bgp_frame.proofs.FrameLemmas.{head_of-IsFrame, IsFrame-wanted, wanted_by_head, wanted-bounds, IsFrame-head_of}
-use Rattle.bgp_frame.specs.Content.{content, content_of}
 
 -- enough octets come to their content
 pub enough : (b : List ℕ) → wanted b ≤ length b → content_of b ≡ Some (content b)

@@ -3,11 +3,9 @@ use Rattle.std.proofs.Common.{◌≡◌, ℕ, zero, suc, ◌+◌, ◌-◌, ◌<�
 use Rattle.std.proofs.Math.Seq.{take-add}
 use Rattle.std.proofs.lemmas.Bool.{cases_lt}
 use Rattle.std.proofs.lemmas.List.{append-nil, length-append, length-drop, length-take, take_rest}
-use Rattle.bgp_wire.specs.Octets.{AreOctets}
+use Rattle.bgp_wire.specs.Prelude.{AreOctets}
 use Rattle.bgp_wire.proofs.OctetLemmas.{AreOctets-append, AreOctets-take, AreOctets-drop}
-use Rattle.bgp_frame.specs.Frame.{wanted, Waits}
-use Rattle.bgp_frame.specs.Takes.{Stops, Takes}
-use Rattle.bgp_frame.specs.Framer.{IsHeld}
+use Rattle.bgp_frame.specs.Prelude.{wanted, Waits, Stops, Takes, IsHeld}
 use Rattle.bgp_frame.proofs.FrameLemmas.{wanted-bounds, wanted-append, Stops-wanted, wanted-Stops}
 
 -- what waits and is given an octet takes one

@@ -4,15 +4,12 @@ use Rattle.std.specs.Int.{w16, to_be_bytes}
 use Rattle.std.proofs.lemmas.Bool.{cases_lt, cases_order, le-ltb, lt-ltb}
 use Rattle.std.proofs.lemmas.List.{length-replicate, length-append, length-drop, take-append-le, take-append-drop, get_or_append_left, drop_more}
 use Rattle.std.proofs.lemmas.Nat.{be_bytes_2, from_be_bytes-to_be_bytes_2}
-use Rattle.bgp_wire.specs.Octets.{AreOctets}
+use Rattle.bgp_wire.specs.Prelude.{AreOctets}
 use Rattle.bgp_wire.proofs.OctetLemmas.{AreOctets-append}
 use Rattle.bgp_frame.specs.declared.kind.Kind.{Kind}
 use Rattle.bgp_frame.specs.declared.header.Header.{Header}
 use Rattle.bgp_frame.specs.declared.fault.HeadFault.{HeadFault}
-use Rattle.bgp_frame.specs.Kind.{code_of, IsLength}
-use Rattle.bgp_frame.specs.Head.{marker, header, length_field, type_field, head_of}
-use Rattle.bgp_frame.specs.Frame.{Message, octets_of, IsFrame, IsWhole, wanted_by, wanted}
-use Rattle.bgp_frame.specs.Takes.{Stops, Takes}
+use Rattle.bgp_frame.specs.Prelude.{code_of, IsLength, marker, header, length_field, type_field, head_of, Message, octets_of, IsFrame, IsWhole, wanted_by, wanted, Stops, Takes}
 use Rattle.bgp_frame.proofs.Headers.{below_4097, length-header}
 use Rattle.bgp_frame.proofs.HeadLemmas.{Says-head_of, head_of-Says, above_18}
 

@@ -4,12 +4,12 @@ use Rattle.std.proofs.lemmas.Bool.{eqb-true, leb-true, le-leb, le-ltb, and_parts
 use Rattle.std.proofs.lemmas.Slice.Eq.{bytes_eq-Decides}
 use Rattle.bgp_numbers.specs.declared.message.TheConstants.{OPEN, UPDATE, NOTIFICATION, KEEPALIVE}
 use Rattle.bgp_frame.specs.declared.kind.Kind.{Kind}
-use Rattle.bgp_frame.specs.declared.kind.Kind.TheVariants.{Open, Update, Notification, Keepalive}
+use Rattle.bgp_frame.specs.declared.kind.Kind.TheVariants.{Open, Update, Keepalive}
 use Rattle.bgp_frame.specs.declared.header.Header.{Header}
 use Rattle.bgp_frame.specs.declared.fault.HeadFault.{HeadFault}
+use Rattle.bgp_frame.specs.Prelude.{code_of, kind_of, least_length, most_length, IsLength, is_length, marker, has_marker, length_field, type_field, head_for, head_of}
+use Rattle.bgp_frame.specs.declared.kind.Kind.TheVariants.{Notification}
 use Rattle.bgp_frame.specs.declared.fault.HeadFault.TheVariants as fault
-use Rattle.bgp_frame.specs.Kind.{code_of, kind_of, least_length, most_length, IsLength, is_length}
-use Rattle.bgp_frame.specs.Head.{marker, has_marker, length_field, type_field, head_for, head_of}
 use Rattle.bgp_frame.proofs.Headers.{below_4097}
 
 -- ---- kinds

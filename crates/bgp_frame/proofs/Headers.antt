@@ -2,10 +2,9 @@
 use Rattle.std.proofs.Common.{◌≡◌, ℕ, ◌+◌, ◌≤◌, List, ◌++◌, length, refl, ap, arith}
 use Rattle.std.proofs.lemmas.List.{length-append}
 use Rattle.bgp_frame.specs.declared.kind.Kind.{Kind}
-use Rattle.bgp_frame.specs.declared.kind.Kind.TheVariants.{Open, Update, Notification, Keepalive}
-use Rattle.bgp_frame.specs.Kind.{IsLength, most_length}
-use Rattle.bgp_frame.specs.Head.{header}
-use Rattle.bgp_frame.specs.Frame.{IsFrame}
+use Rattle.bgp_frame.specs.declared.kind.Kind.TheVariants.{Open, Update, Keepalive}
+use Rattle.bgp_frame.specs.Prelude.{IsLength, most_length, header, IsFrame}
+use Rattle.bgp_frame.specs.declared.kind.Kind.TheVariants.{Notification}
 
 most_is_most : (kind : Kind) → most_length kind ≤ 4096
 most_is_most Open = omega arith

@@ -4,15 +4,10 @@ use Rattle.std.specs.List.{flat_map}
 use Rattle.std.proofs.Math.Seq.{take-add}
 use Rattle.std.proofs.lemmas.Bool.{cases_lt}
 use Rattle.std.proofs.lemmas.List.{append-nil, length-append, length-drop, take_all, take-append-drop}
-use Rattle.bgp_wire.specs.Octets.{AreOctets}
+use Rattle.bgp_wire.specs.Prelude.{AreOctets}
 use Rattle.bgp_wire.proofs.OctetLemmas.{AreOctets-drop, AreOctets-front, AreOctets-back}
 use Rattle.bgp_frame.specs.declared.fault.HeadFault.{HeadFault}
-use Rattle.bgp_frame.specs.Content.{content, content_of}
-use Rattle.bgp_frame.specs.Frame.{Message, wanted, Waits}
-use Rattle.bgp_frame.specs.Framer.{IsHeld}
-use Rattle.bgp_frame.specs.Pull.{Pulls, IsToFeed}
-use Rattle.bgp_frame.specs.Takes.{Stops, Takes}
-use Rattle.bgp_frame.specs.Hearing.{Hearer, IsContent, CountsFed, with_octet, Done, behind, one_if_any, behind_feed, IsFed, Judges, PullsNext, IsPulled, IsFedAndJudged, by_feed, judged, done_by, settled, by_octet, by_octets, IsAtRest, IsReady, left_to_do, weight, Way, given, Run, all_octets, Calls, Runs, CanBeHeard}
+use Rattle.bgp_frame.specs.Prelude.{content, content_of, Message, wanted, Waits, IsHeld, Pulls, IsToFeed, Stops, Takes, Hearer, IsContent, CountsFed, with_octet, Done, behind, one_if_any, behind_feed, IsFed, Judges, PullsNext, IsPulled, IsFedAndJudged, by_feed, judged, done_by, settled, by_octet, by_octets, IsAtRest, IsReady, left_to_do, weight, Way, given, Run, all_octets, Calls, Runs, CanBeHeard}
 use Rattle.bgp_frame.proofs.Contents.{enough, content_of-waits, content_of-frame, content_of-fault}
 use Rattle.bgp_frame.proofs.Feeding.{takes_some, Fills, Fills-takes, Fills-held}
 use Rattle.bgp_frame.proofs.FrameLemmas.{one_count, wanted_under, wanted-append, wanted-bounds, wanted-Stops, Stops-wanted}

@@ -2,16 +2,13 @@
 use Rattle.std.proofs.Common.{◌≡◌, ℕ, ◌+◌, ◌-◌, ◌<◌, ◌≤◌, ◌⊎◌, List, [], length, take, drop, Ok, Err, sym, ap, subst, ◌∙◌, arith, inl, inr}
 use Rattle.std.specs.List.{slice_range}
 use Rattle.std.proofs.lemmas.List.{length-take, take-append-drop, take_all, drop-take}
-use Rattle.bgp_wire.specs.Octets.{AreOctets}
+use Rattle.bgp_wire.specs.Prelude.{AreOctets}
 use Rattle.bgp_wire.proofs.OctetLemmas.{AreOctets-nil, AreOctets-take}
 use Rattle.bgp_frame.specs.declared.header.Header.{Header}
 use Rattle.bgp_frame.specs.declared.fault.HeadFault.{HeadFault}
-use Rattle.bgp_frame.specs.Head.{head_of}
+use Rattle.bgp_frame.specs.Prelude.{head_of, Message, IsFrame, wanted_by, wanted, Waits, IsHeld, ShowsFront, ShowsStep}
 use Rattle.bgp_frame.specs.declared.step.Step.{Step}
 use Rattle.bgp_frame.specs.declared.step.Step.TheVariants as step
-use Rattle.bgp_frame.specs.Frame.{Message, IsFrame, wanted_by, wanted, Waits}
-use Rattle.bgp_frame.specs.Framer.{IsHeld}
-use Rattle.bgp_frame.specs.Step.{ShowsFront, ShowsStep}
 use Rattle.bgp_frame.proofs.HeadLemmas.{Says-head_of, above_18}
 use Rattle.bgp_frame.proofs.FrameLemmas.{head_of-append, length-IsFrame, wanted_under, wanted_by_head, wanted-append, IsFrame-wanted, IsFrame-head_of}
 

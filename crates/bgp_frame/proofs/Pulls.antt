@@ -2,14 +2,10 @@
 use Rattle.std.proofs.Common.{◌≡◌, ℕ, ◌≤◌, List, [], ◌∷◌, ◌++◌, ◌⊎◌, length, take, drop, refl, sym, ap, subst, ◌∙◌, arith, inl, inr}
 use Rattle.std.proofs.lemmas.List.{length-take, take-append-drop, append-nil}
 use Rattle.bgp_frame.specs.declared.fault.HeadFault.{HeadFault}
-use Rattle.bgp_frame.specs.declared.pull.Pull.TheVariants as pull
 use Rattle.bgp_frame.specs.declared.step.Frame.{Frame}
+use Rattle.bgp_frame.specs.Prelude.{head_of, wanted, Waits, Stops, ShowsFront, ShowsStep, Pulls, IsPull}
+use Rattle.bgp_frame.specs.declared.pull.Pull.TheVariants as pull
 use Rattle.bgp_frame.specs.declared.step.Step.TheVariants as step
-use Rattle.bgp_frame.specs.Head.{head_of}
-use Rattle.bgp_frame.specs.Frame.{wanted, Waits}
-use Rattle.bgp_frame.specs.Takes.{Stops}
-use Rattle.bgp_frame.specs.Step.{ShowsFront, ShowsStep}
-use Rattle.bgp_frame.specs.Pull.{Pulls, IsPull}
 use Rattle.bgp_frame.proofs.FrameLemmas.{head_of-append, wanted-append, wanted-bounds, Stops-wanted}
 
 pub nothing_waits : Waits []

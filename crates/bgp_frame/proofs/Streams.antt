@@ -3,17 +3,14 @@ use Rattle.std.proofs.Common.{◌≡◌, ℕ, zero, suc, ◌+◌, ◌<◌, ◌�
 use Rattle.std.specs.List.{AllByRecursion}
 use Rattle.std.proofs.lemmas.Bool.{lt-ltb, le-ltb, ltb-true, ltb-false}
 use Rattle.std.proofs.lemmas.List.{append-nil, append_cancel_left, length-append, length-drop, length-take, take_at, drop_at, take-append-drop}
-use Rattle.bgp_wire.specs.Octets.{AreOctets}
-use Rattle.bgp_wire.specs.Row.{Row, IsPrefixFree}
+use Rattle.bgp_wire.specs.Prelude.{AreOctets, Row, IsPrefixFree}
 use Rattle.bgp_wire.proofs.OctetLemmas.{AreOctets-take, AreOctets-drop}
 use Rattle.bgp_frame.specs.declared.kind.Kind.{Kind}
 use Rattle.bgp_frame.specs.declared.end.End.{End}
-use Rattle.bgp_frame.specs.declared.end.End.TheVariants as end
 use Rattle.bgp_frame.specs.declared.header.Header.{Header}
 use Rattle.bgp_frame.specs.declared.fault.HeadFault.{HeadFault}
-use Rattle.bgp_frame.specs.Head.{header, head_of}
-use Rattle.bgp_frame.specs.Frame.{Message, octets_of, IsFrame, wanted_by, wanted, Waits}
-use Rattle.bgp_frame.specs.Stream.{StreamRules, outcome_of, GoesOn, EndsBy, Gives, HasOneReading}
+use Rattle.bgp_frame.specs.Prelude.{header, head_of, Message, octets_of, IsFrame, wanted_by, wanted, Waits, StreamRules, outcome_of, GoesOn, EndsBy, Gives, HasOneReading}
+use Rattle.bgp_frame.specs.declared.end.End.TheVariants as end
 use Rattle.bgp_frame.proofs.HeadLemmas.{said_same}
 use Rattle.bgp_frame.proofs.FrameLemmas.{head_at, head_of-append, length-IsFrame, head_of-IsFrame, IsFrame-head_of, wanted_by_head, wanted-append, wanted-bounds, IsFrame-wanted}
 

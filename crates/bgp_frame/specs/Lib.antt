@@ -11,3 +11,4 @@ pub mod Step
 pub mod Pull
 pub mod Stream
 pub mod Hearing
+pub mod Prelude

@@ -1,9 +1,7 @@
 //! Headers: made, and read.
 
 ghost use Rattle.std.specs.Prelude.{◌≡◌, ◌↔◌, ◌+◌, ◌≤◌, ◌++◌, List, ℕ, IsTrue, length, take, replicate};
-ghost use Rattle.bgp_frame.specs.Kind.{IsLength};
-ghost use Rattle.bgp_frame.specs.Head.{header, has_marker, head_of};
-ghost use Rattle.bgp_frame.specs.Frame.{IsFrame, wanted};
+ghost use Rattle.bgp_frame.specs.Prelude.{IsLength, header, has_marker, head_of, IsFrame, wanted};
 
 use crate::fault::HeadFault;
 use crate::kind::Kind;

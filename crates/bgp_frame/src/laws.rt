@@ -1,14 +1,10 @@
 //! Laws of frames, headers and streams. Each is the contract of a function that does nothing.
 
 ghost use Rattle.std.specs.Prelude.{◌≡◌, ◌↔◌, ℕ, Bool, List, ◌++◌, length, Result, Ok};
-ghost use Rattle.bgp_wire.specs.Octets.{AreOctets};
-ghost use Rattle.bgp_wire.specs.Row.{IsPrefixFree};
+ghost use Rattle.bgp_wire.specs.Prelude.{AreOctets, IsPrefixFree};
 ghost use Rattle.bgp_frame.specs.declared.header.Header.{Header};
 ghost use Rattle.bgp_frame.specs.declared.fault.HeadFault.{HeadFault};
-ghost use Rattle.bgp_frame.specs.Head.{head_of};
-ghost use Rattle.bgp_frame.specs.Frame.{Message, IsFrame, IsWhole};
-ghost use Rattle.bgp_frame.specs.Takes.{Takes};
-ghost use Rattle.bgp_frame.specs.Stream.{HasOneReading, as_it_is};
+ghost use Rattle.bgp_frame.specs.Prelude.{head_of, Message, IsFrame, IsWhole, Takes, HasOneReading, as_it_is};
 
 /// No message begins another, and the octets of one have one kind and one body.
 pub fn frames_are_prefix_free()

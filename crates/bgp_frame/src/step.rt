@@ -1,7 +1,6 @@
 //! What the first octets of a stream are.
 
-ghost use Rattle.bgp_frame.specs.Framer.{IsHeld};
-ghost use Rattle.bgp_frame.specs.Step.{ShowsFront, ShowsStep};
+ghost use Rattle.bgp_frame.specs.Prelude.{IsHeld, ShowsFront, ShowsStep};
 
 use crate::fault::HeadFault;
 use crate::header::{HEADER_LEN, Header, read_head};

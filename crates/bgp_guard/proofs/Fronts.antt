@@ -1,16 +1,12 @@
 -- Octets that are fed at once do what they do one by one.
 use Rattle.std.proofs.Common.{◌≡◌, ℕ, Bool, true, List, [], ◌∷◌, ◌++◌, take, refl, sym, ap, subst, ◌∙◌}
 use Rattle.std.proofs.lemmas.List.{append-nil}
-use Rattle.bgp_frame.specs.Frame.{Waits}
-use Rattle.bgp_frame.specs.Framer.{IsHeld}
+use Rattle.bgp_frame.specs.Prelude.{Waits, IsHeld}
 use Rattle.bgp_frame.proofs.Contents.{content_of-waits}
 use Rattle.bgp_frame.proofs.Hearings.{all_held}
 use Rattle.bgp_guard.specs.declared.rules.Rules.{Rules}
-use Rattle.bgp_guard.specs.Guard.{Sight, listens_in}
+use Rattle.bgp_guard.specs.Prelude.{Sight, listens_in, CameFrom, CameIn, Counts, IsHeardBy, heard, heard_as, holding, octet_by, by_octet, by_octets, IsSettled}
 use Rattle.bgp_guard.specs.declared.came.Came.{Came}
-use Rattle.bgp_guard.specs.Came.{CameFrom, CameIn, Counts, IsHeardBy}
-use Rattle.bgp_guard.specs.Hearing.{heard, heard_as, holding, octet_by, by_octet, by_octets}
-use Rattle.bgp_guard.specs.steps.Seeing.{IsSettled}
 
 module _ (rules : Rules) (silent : Bool) (s : Sight) (up : listens_in s ≡ true) where
   takes_one : (held : List ℕ) (octet : ℕ) → by_octet rules silent (holding s held) octet ≡ heard rules silent (holding s (held ++ octet ∷ []))

@@ -3,38 +3,28 @@ use Rattle.std.proofs.Common.{◌≡◌, ℕ, zero, suc, ◌+◌, ◌<◌, Bool,
 use Rattle.std.specs.Prelude.{◌&&◌, not, is_some}
 use Rattle.std.proofs.lemmas.Bool.{true≢false, and_parts, cases_lt}
 use Rattle.std.proofs.lemmas.List.{append-nil, length-append}
-use Rattle.bgp_wire.specs.Octets.{AreOctets}
+use Rattle.bgp_wire.specs.Prelude.{AreOctets, has_octet}
 use Rattle.bgp_wire.proofs.OctetLemmas.{AreOctets-append}
-use Rattle.bgp_wire.specs.OctetSet.{has_octet}
 use Rattle.bgp_frame.specs.declared.fault.HeadFault.{HeadFault}
 use Rattle.bgp_frame.specs.declared.kind.Kind.{Kind}
+use Rattle.bgp_frame.specs.Prelude.{IsFrame, Waits, IsHeld, head_notification, content_of}
 use Rattle.bgp_frame.specs.declared.kind.Kind.TheVariants as kind
 use Rattle.bgp_frame.specs.Frame as frame
-use Rattle.bgp_frame.specs.Frame.{IsFrame, Waits}
-use Rattle.bgp_frame.specs.Framer.{IsHeld}
-use Rattle.bgp_frame.specs.Head.{head_notification}
 use Rattle.bgp_frame.proofs.FrameLemmas.{wanted-append, wanted-bounds}
 use Rattle.bgp_open.specs.declared.context.Context.{Context}
 use Rattle.bgp_open.specs.declared.message.Open.{Open}
-use Rattle.bgp_open.specs.OpenFault.{reading_of}
-use Rattle.bgp_open.specs.Peer.{Said, said_by}
+use Rattle.bgp_open.specs.Prelude.{reading_of, Said, said_by}
 use Rattle.bgp_msg.specs.declared.message.Message.{Message}
+use Rattle.bgp_msg.specs.Prelude.{out_of}
 use Rattle.bgp_msg.specs.declared.message.Message.TheVariants as message
-use Rattle.bgp_msg.specs.Outcome.{out_of}
 use Rattle.bgp_clean.specs.declared.fault.CleanFault.{CleanFault}
-use Rattle.bgp_clean.specs.Clean.{cleaned, ended_family}
-use Rattle.bgp_frame.specs.Content.{content_of}
+use Rattle.bgp_clean.specs.Prelude.{cleaned, ended_family}
 use Rattle.bgp_frame.proofs.Contents.{content_of-message}
 use Rattle.bgp_frame.proofs.Hearings.{none_waits}
 use Rattle.bgp_guard.specs.declared.rules.Rules.{Rules}
 use Rattle.bgp_guard.specs.declared.stage.Stage.{Stage}
+use Rattle.bgp_guard.specs.Prelude.{Answers, answered, notice, reset_by, unexpected, Half, Sight, listens_in, agreed, answers_to, context_in, done, handed_on, handed_or, heard, heard_as, holding, octet_by, placed, said_as, IsHandedOver, Seen, Trail, came_behind, octet_seen, both_open, misplaced, subcode_of}
 use Rattle.bgp_guard.specs.declared.stage.Stage.TheVariants as stage
-use Rattle.bgp_guard.specs.Answers.{Answers, answered, notice, reset_by, unexpected}
-use Rattle.bgp_guard.specs.Guard.{Half, Sight, listens_in}
-use Rattle.bgp_guard.specs.Hearing.{agreed, answers_to, context_in, done, handed_on, handed_or, heard, heard_as, holding, octet_by, placed, said_as}
-use Rattle.bgp_guard.specs.Laws.{IsHandedOver}
-use Rattle.bgp_guard.specs.Life.{Seen, Trail, came_behind, octet_seen}
-use Rattle.bgp_guard.specs.Place.{both_open, misplaced, subcode_of}
 use Rattle.bgp_guard.proofs.Lanes.{Alive, alive_ends, alive_held, alive_on, alive_open, kept_push, notified, open_same, opened_push, place_same, refit}
 use Rattle.bgp_guard.proofs.Passed.{open_by}
 

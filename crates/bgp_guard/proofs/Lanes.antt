@@ -4,34 +4,29 @@ use Rattle.std.specs.Prelude.{◌&&◌, is_some}
 use Rattle.std.specs.List.{flat_map, AllByRecursion}
 use Rattle.std.proofs.lemmas.Bool.{true≢false, and_parts}
 use Rattle.std.proofs.lemmas.List.{append-nil, take-append-drop}
-use Rattle.bgp_wire.specs.OctetSet.{has_octet}
-use Rattle.bgp_wire.specs.Row.{Row}
+use Rattle.bgp_wire.specs.Prelude.{has_octet, Row}
 use Rattle.bgp_wire.proofs.Rows.{Row-push}
 use Rattle.bgp_frame.specs.declared.kind.Kind.{Kind}
+use Rattle.bgp_frame.specs.Prelude.{IsFrame, Waits, IsHeld}
 use Rattle.bgp_frame.specs.declared.kind.Kind.TheVariants as kind
 use Rattle.bgp_frame.specs.declared.notification.Notification.{Notification}
 use Rattle.bgp_frame.specs.Frame as frame
-use Rattle.bgp_frame.specs.Frame.{IsFrame, Waits}
-use Rattle.bgp_frame.specs.Framer.{IsHeld}
 use Rattle.bgp_frame.proofs.Holding.{IsHeld_nil}
 use Rattle.bgp_open.specs.declared.context.Context.{Context}
 use Rattle.bgp_open.specs.declared.message.Open.{Open}
-use Rattle.bgp_open.specs.Peer.{Said, said_by}
+use Rattle.bgp_open.specs.Prelude.{Said, said_by}
 use Rattle.bgp_update.specs.declared.verdict.Verdict.{Verdict}
+use Rattle.bgp_update.specs.Prelude.{verdict_of}
 use Rattle.bgp_update.specs.declared.verdict.Verdict.TheVariants as verdict
-use Rattle.bgp_update.specs.Verdict.{verdict_of}
 use Rattle.bgp_update.proofs.Lists.{all-append}
 use Rattle.bgp_msg.specs.declared.message.Message.{Message}
+use Rattle.bgp_msg.specs.Prelude.{of_verdict, canonical}
 use Rattle.bgp_msg.specs.declared.message.Message.TheVariants as message
-use Rattle.bgp_msg.specs.Outcome.{of_verdict}
-use Rattle.bgp_msg.specs.Written.{canonical}
 use Rattle.bgp_clean.specs.declared.fault.CleanFault.{CleanFault}
-use Rattle.bgp_clean.specs.Clean.{cleaned, cleaned_outcome}
-use Rattle.bgp_clean.specs.Stream.{handed_then, cleaned_from}
+use Rattle.bgp_clean.specs.Prelude.{cleaned, cleaned_outcome, handed_then, cleaned_from}
 use Rattle.bgp_guard.specs.declared.rules.Rules.{Rules}
-use Rattle.bgp_guard.specs.Hearing.{agreed, said_as}
+use Rattle.bgp_guard.specs.Prelude.{agreed, said_as, IsAllHandedOver, IsHandedOver, IsKept, IsNoNotification, direction, own_octets}
 use Rattle.bgp_frame.proofs.Pulls.{nothing_waits}
-use Rattle.bgp_guard.specs.Laws.{IsAllHandedOver, IsHandedOver, IsKept, IsNoNotification, direction, own_octets}
 
 -- ---- what is handed on of a message depends on little
 

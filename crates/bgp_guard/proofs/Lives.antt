@@ -7,16 +7,11 @@ use Rattle.std.proofs.lemmas.List.{append-nil}
 use Rattle.bgp_frame.proofs.Holding.{IsHeld_nil}
 use Rattle.bgp_guard.specs.declared.rules.Rules.{Rules}
 use Rattle.bgp_guard.specs.declared.side.Side.{Side}
-use Rattle.bgp_guard.specs.declared.side.Side.TheVariants as side
 use Rattle.bgp_guard.specs.declared.stage.Stage.{Stage}
+use Rattle.bgp_guard.specs.Prelude.{late_answer, notice, rejected, Half, runs, agreed, closed_if, is_waiting, late, ticked_in, unreached_if, waited, HandsOn, HandsOver, IsOctetIn, Event, Stood, Unreached, Octet, Closed, Sent, Ticked, Life, Seen, Trail, born, by_event, happens, life, life_behind, life_from, sent_seen}
+use Rattle.bgp_guard.specs.declared.side.Side.TheVariants as side
 use Rattle.bgp_guard.specs.declared.stage.Stage.TheVariants as stage
 use Rattle.bgp_guard.specs.declared.stage.TheConstants.{OPEN_SECONDS}
-use Rattle.bgp_guard.specs.Answers.{late_answer, notice, rejected}
-use Rattle.bgp_guard.specs.Guard.{Half, runs}
-use Rattle.bgp_guard.specs.Hearing.{agreed}
-use Rattle.bgp_guard.specs.Events.{closed_if, is_waiting, late, ticked_in, unreached_if, waited}
-use Rattle.bgp_guard.specs.Laws.{HandsOn, HandsOver, IsOctetIn}
-use Rattle.bgp_guard.specs.Life.{Event, Stood, Unreached, Octet, Closed, Sent, Ticked, Life, Seen, Trail, born, by_event, happens, life, life_behind, life_from, sent_seen}
 use Rattle.bgp_frame.proofs.Pulls.{nothing_waits}
 use Rattle.bgp_guard.proofs.Hears.{Goes, Lane, octet_goes}
 use Rattle.bgp_guard.proofs.Lanes.{Alive, alive_all, alive_ends, alive_sent, over_lost, over_sent}

@@ -1,38 +1,32 @@
 -- What is handed on of a message, as octets.
 use Rattle.std.proofs.Common.{◌≡◌, ℕ, ◌≤◌, Bool, true, false, cond, List, [], length, drop, Option, Some, None, Result, Ok, Err, refl, sym, ap, subst, ◌∙◌, arith}
 use Rattle.std.specs.Prelude.{◌||◌, not, is_some}
-use Rattle.bgp_wire.specs.Octets.{AreOctets}
+use Rattle.bgp_wire.specs.Prelude.{AreOctets}
 use Rattle.bgp_frame.specs.declared.kind.Kind.{Kind}
+use Rattle.bgp_frame.specs.Prelude.{IsFrame}
 use Rattle.bgp_frame.specs.declared.kind.Kind.TheVariants as kind
 use Rattle.bgp_frame.specs.Frame as frame
-use Rattle.bgp_frame.specs.Frame.{IsFrame}
 use Rattle.bgp_frame.proofs.Headers.{below_4097}
 use Rattle.bgp_open.specs.declared.context.Context.{Context}
 use Rattle.bgp_open.specs.declared.fault.OpenFault.{OpenFault}
 use Rattle.bgp_open.specs.declared.message.Open.{Open}
-use Rattle.bgp_open.specs.OpenFault.{open_notification, reading_of}
+use Rattle.bgp_open.specs.Prelude.{open_notification, reading_of}
 use Rattle.bgp_frame.specs.declared.notification.Notification.{Notification}
 use Rattle.bgp_update.specs.declared.update.Update.{Update}
 use Rattle.bgp_update.specs.declared.verdict.Verdict.{Verdict}
+use Rattle.bgp_update.specs.Prelude.{verdict_of}
 use Rattle.bgp_update.specs.declared.verdict.Verdict.TheVariants as verdict
-use Rattle.bgp_update.specs.Verdict.{verdict_of}
 use Rattle.bgp_msg.specs.declared.message.Message.{Message}
-use Rattle.bgp_msg.specs.declared.message.Message.TheVariants as message
 use Rattle.bgp_msg.specs.declared.outcome.Outcome.{Outcome}
+use Rattle.bgp_msg.specs.Prelude.{notification_in, of_open_fault, of_reading, of_verdict, out_of, canonical, written}
+use Rattle.bgp_msg.specs.declared.message.Message.TheVariants as message
 use Rattle.bgp_msg.specs.declared.outcome.Outcome.TheVariants as outcome
-use Rattle.bgp_msg.specs.Outcome.{notification_in, of_open_fault, of_reading, of_verdict, out_of}
-use Rattle.bgp_msg.specs.Written.{canonical, written}
 use Rattle.bgp_clean.specs.declared.cleaned.Cleaned.{Cleaned}
 use Rattle.bgp_clean.specs.declared.cleaned.Cleaned.TheVariants.{HandedOn, Ends}
 use Rattle.bgp_clean.specs.declared.fault.CleanFault.{CleanFault}
-use Rattle.bgp_clean.specs.Clean.{cleaned, cleaned_outcome, ended_family}
-use Rattle.bgp_clean.specs.Cleaned.{IsCleaned}
-use Rattle.bgp_clean.specs.Laws.{IsClean}
-use Rattle.bgp_clean.specs.Opens.{cleaned_open, lacks_family}
-use Rattle.bgp_clean.specs.Updates.{cleaned_update, withdrawal, says_nothing}
+use Rattle.bgp_clean.specs.Prelude.{cleaned, cleaned_outcome, ended_family, IsCleaned, IsClean, cleaned_open, lacks_family, cleaned_update, withdrawal, says_nothing}
 use Rattle.bgp_clean.proofs.Handed.{handed-clean}
-use Rattle.bgp_guard.specs.Hearing.{said_as}
-use Rattle.bgp_guard.specs.steps.Seeing.{CanBeRead, IsReadOpen, IsReadIn}
+use Rattle.bgp_guard.specs.Prelude.{said_as, CanBeRead, IsReadOpen, IsReadIn}
 
 -- ---- an OPEN that is handed on is an OPEN, and is read as it
 

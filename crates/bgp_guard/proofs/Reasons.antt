@@ -4,21 +4,16 @@ use Rattle.std.specs.Prelude.{◌&&◌, ◌||◌, not, nat_lt, is_some, if◌the
 use Rattle.std.proofs.lemmas.Bool.{true≢false, and_parts, ltb-false}
 use Rattle.bgp_frame.specs.declared.fault.HeadFault.{HeadFault}
 use Rattle.bgp_frame.specs.declared.kind.Kind.{Kind}
+use Rattle.bgp_frame.specs.Prelude.{content_of}
 use Rattle.bgp_frame.specs.declared.kind.Kind.TheVariants as kind
 use Rattle.bgp_frame.specs.Frame as frame
 use Rattle.bgp_msg.specs.declared.message.Message.{Message}
-use Rattle.bgp_frame.specs.Content.{content_of}
 use Rattle.bgp_guard.specs.declared.rules.Rules.{Rules}
-use Rattle.bgp_guard.specs.declared.side.Side.TheVariants as side
 use Rattle.bgp_guard.specs.declared.stage.Stage.{Stage}
+use Rattle.bgp_guard.specs.Prelude.{Answers, Guarding, Sight, listens_in, runs, comes_of, done, heard_as, holding, octet_by, closed_if, is_waiting, ticked_in, unreached_if, waited, late, EndsBy, EndsContent, EndsHearing, HasReason, IsLast, IsAnsweredOr, RunsOrHasReason, Event, Stood, Unreached, Octet, Closed, Sent, Ticked, Life, born, happens, life, life_behind, life_from}
+use Rattle.bgp_guard.specs.declared.side.Side.TheVariants as side
 use Rattle.bgp_guard.specs.declared.stage.Stage.TheVariants as stage
 use Rattle.bgp_guard.specs.declared.stage.TheConstants.{OPEN_SECONDS}
-use Rattle.bgp_guard.specs.Answers.{Answers}
-use Rattle.bgp_guard.specs.Guard.{Guarding, Sight, listens_in, runs}
-use Rattle.bgp_guard.specs.Hearing.{comes_of, done, heard_as, holding, octet_by}
-use Rattle.bgp_guard.specs.Events.{closed_if, is_waiting, ticked_in, unreached_if, waited, late}
-use Rattle.bgp_guard.specs.Laws.{EndsBy, EndsContent, EndsHearing, HasReason, IsLast, IsAnsweredOr, RunsOrHasReason}
-use Rattle.bgp_guard.specs.Life.{Event, Stood, Unreached, Octet, Closed, Sent, Ticked, Life, born, happens, life, life_behind, life_from}
 
 -- it ran, and has ended
 no_end : (n : ℕ) → runs (stage.Runs n) ≡ false → ⊥

@@ -4,7 +4,7 @@ use Rattle.std.specs.Prelude.{◌↔◌, if◌then◌else◌}
 use Rattle.std.specs.Str.{bytes_eq}
 use Rattle.std.proofs.lemmas.Slice.Eq.{bytes_eq-Decides}
 use Rattle.std.proofs.lemmas.Bool.{true≢false, le-ltb}
-use Rattle.bgp_wire.specs.OctetSet.{has_octet}
+use Rattle.bgp_wire.specs.Prelude.{has_octet}
 use Rattle.bgp_frame.specs.declared.kind.Kind.{Kind}
 use Rattle.bgp_frame.specs.declared.kind.Kind.TheVariants as kind
 use Rattle.bgp_frame.specs.Frame as frame
@@ -12,21 +12,14 @@ use Rattle.bgp_frame.specs.declared.notification.NotificationView.{NotificationV
 use Rattle.bgp_open.specs.declared.context.Context.{Context}
 use Rattle.bgp_msg.specs.declared.message.Message.{Message}
 use Rattle.bgp_msg.specs.declared.outcome_view.OutcomeView.{OutcomeView}
+use Rattle.bgp_msg.specs.Prelude.{out_of, outcome_value, canonical}
 use Rattle.bgp_msg.specs.declared.outcome_view.OutcomeView.TheVariants as view
-use Rattle.bgp_msg.specs.Outcome.{out_of}
-use Rattle.bgp_msg.specs.OutcomeView.{outcome_value}
-use Rattle.bgp_msg.specs.Written.{canonical}
 use Rattle.bgp_clean.specs.declared.fault.CleanFault.{CleanFault}
-use Rattle.bgp_clean.specs.Clean.{cleaned}
+use Rattle.bgp_clean.specs.Prelude.{cleaned}
 use Rattle.bgp_guard.specs.declared.rules.Rules.{Rules}
 use Rattle.bgp_guard.specs.declared.stage.Stage.{Stage}
+use Rattle.bgp_guard.specs.Prelude.{Half, Guarding, Sight, runs, Answers, answered, reject_both, answers_to, cleans, context_in, handed_on, handed_or, said_as, stage_behind, told_late, late, waited, HasRoom, half_behind, said_for, IsReadIn}
 use Rattle.bgp_guard.specs.declared.stage.Stage.TheVariants as stage
-use Rattle.bgp_guard.specs.Guard.{Half, Guarding, Sight, runs}
-use Rattle.bgp_guard.specs.Answers.{Answers, answered, reject_both}
-use Rattle.bgp_guard.specs.Hearing.{answers_to, cleans, context_in, handed_on, handed_or, said_as, stage_behind}
-use Rattle.bgp_guard.specs.Events.{told_late, late, waited}
-use Rattle.bgp_guard.specs.Halves.{HasRoom}
-use Rattle.bgp_guard.specs.steps.Seeing.{half_behind, said_for, IsReadIn}
 
 -- ---- a second
 

@@ -2,13 +2,11 @@
 use Rattle.std.specs.Prelude.{ℕ, List, [], ◌∷◌, ◌++◌, Option, None, Some}
 use Rattle.bgp_numbers.specs.declared.error.TheConstants.{HOLD_TIMER_EXPIRED, FINITE_STATE_MACHINE, CEASE, UNSPECIFIC, ADMINISTRATIVE_RESET, CONNECTION_REJECTED}
 use Rattle.bgp_frame.specs.declared.kind.Kind.{Kind}
+use Rattle.bgp_frame.specs.Prelude.{octets_of, code_of, notification_with}
 use Rattle.bgp_frame.specs.declared.kind.Kind.TheVariants as kind
 use Rattle.bgp_frame.specs.declared.notification.Notification.{Notification}
-use Rattle.bgp_frame.specs.Frame.{octets_of}
-use Rattle.bgp_frame.specs.Kind.{code_of}
-use Rattle.bgp_frame.specs.ShortNotification.{notification_with}
-use Rattle.bgp_msg.specs.Written.{notification_octets}
-use Rattle.bgp_open.specs.Peer.{Said}
+use Rattle.bgp_msg.specs.Prelude.{notification_octets}
+use Rattle.bgp_open.specs.Prelude.{Said}
 use Rattle.bgp_guard.specs.declared.stage.Stage.TheVariants as stage
 use Rattle.bgp_guard.specs.declared.stage.TheConstants.{DRAIN_SECONDS}
 use Rattle.bgp_guard.specs.Guard.{Half, Sight}

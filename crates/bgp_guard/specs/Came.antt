@@ -2,14 +2,11 @@
 use Rattle.std.specs.Prelude.{◌≡◌, ◌↔◌, ◌<◌, ℕ, Bool, true, false, List, [], ◌++◌, length, take, Option, None, Some, Result, Ok, Err}
 use Rattle.bgp_frame.specs.declared.fault.HeadFault.{HeadFault}
 use Rattle.bgp_frame.specs.declared.kind.Kind.{Kind}
+use Rattle.bgp_frame.specs.Prelude.{octets_of, head_notification, Takes, content_of}
 use Rattle.bgp_frame.specs.declared.notification.Notification.{Notification}
 use Rattle.bgp_frame.specs.Frame as frame
-use Rattle.bgp_frame.specs.Frame.{octets_of}
-use Rattle.bgp_frame.specs.Head.{head_notification}
-use Rattle.bgp_frame.specs.Takes.{Takes}
 use Rattle.bgp_msg.specs.declared.message.Message.{Message}
-use Rattle.bgp_msg.specs.Written.{canonical}
-use Rattle.bgp_frame.specs.Content.{content_of}
+use Rattle.bgp_msg.specs.Prelude.{canonical}
 use Rattle.bgp_guard.specs.declared.came.Came.{Came}
 use Rattle.bgp_guard.specs.declared.came.Came.TheVariants.{Nothing, HandedOn, Answered}
 use Rattle.bgp_guard.specs.declared.side.Side.{Side}

@@ -1,6 +1,6 @@
 -- What a guard keeps of its two sides, and where it stands.
 use Rattle.std.specs.Prelude.{ℕ, zero, suc, Bool, true, false, not, ◌&&◌, nat_le, List, [], length, Option, None}
-use Rattle.bgp_open.specs.Peer.{Said}
+use Rattle.bgp_open.specs.Prelude.{Said}
 use Rattle.bgp_guard.specs.declared.rules.Rules.{Rules}
 use Rattle.bgp_guard.specs.declared.side.Side.{Side}
 use Rattle.bgp_guard.specs.declared.side.Side.TheVariants as side

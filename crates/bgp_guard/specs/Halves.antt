@@ -1,6 +1,6 @@
 -- What the code keeps, as the definitions have it.
 use Rattle.std.specs.Prelude.{◌≡◌, ℕ, ◌≤◌, true, List, length, option_map}
-use Rattle.bgp_open.specs.Peer.{said_of}
+use Rattle.bgp_open.specs.Prelude.{said_of}
 use Rattle.bgp_guard.specs.declared.line.Half as code
 use Rattle.bgp_guard.specs.declared.line.Line.{Line}
 use Rattle.bgp_guard.specs.declared.stage.Stage.{Stage}

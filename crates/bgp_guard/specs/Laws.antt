@@ -1,27 +1,24 @@
 -- What the law of the guard says of the octets of one side, and of those that the other was given.
 use Rattle.std.specs.Prelude.{◌≡◌, ◌<◌, ◌≤◌, ◌⊎◌, ◌&&◌, ℕ, suc, Bool, true, false, List, [], ◌∷◌, ◌++◌, map, is_some, Option, None, Some, Result, Ok, Err}
 use Rattle.std.specs.List.{flat_map, AllByRecursion}
-use Rattle.bgp_wire.specs.OctetSet.{has_octet}
-use Rattle.bgp_wire.specs.Row.{Row}
+use Rattle.bgp_wire.specs.Prelude.{has_octet, Row}
 use Rattle.bgp_frame.specs.declared.fault.HeadFault.{HeadFault}
+use Rattle.bgp_frame.specs.Prelude.{IsFrame, Waits, content_of}
 use Rattle.bgp_frame.specs.declared.kind.Kind.TheVariants as kind
 use Rattle.bgp_frame.specs.declared.notification.Notification.{Notification}
 use Rattle.bgp_frame.specs.Frame as frame
-use Rattle.bgp_frame.specs.Frame.{IsFrame, Waits}
 use Rattle.bgp_open.specs.declared.context.Context.{Context}
 use Rattle.bgp_open.specs.declared.message.Open.{Open}
-use Rattle.bgp_open.specs.Peer.{Said, said_by}
+use Rattle.bgp_open.specs.Prelude.{Said, said_by}
 use Rattle.bgp_msg.specs.declared.message.Message.{Message}
+use Rattle.bgp_msg.specs.Prelude.{canonical}
 use Rattle.bgp_msg.specs.declared.message.Message.TheVariants as message
-use Rattle.bgp_msg.specs.Written.{canonical}
-use Rattle.bgp_clean.specs.Clean.{cleaned}
-use Rattle.bgp_clean.specs.Stream.{cleaned_stream}
+use Rattle.bgp_clean.specs.Prelude.{cleaned, cleaned_stream}
 use Rattle.bgp_guard.specs.declared.rules.Rules.{Rules}
 use Rattle.bgp_guard.specs.declared.side.Side.{Side}
 use Rattle.bgp_guard.specs.declared.stage.Stage.{Stage}
 use Rattle.bgp_guard.specs.declared.stage.Stage.TheVariants as stage
 use Rattle.bgp_guard.specs.declared.stage.TheConstants.{OPEN_SECONDS}
-use Rattle.bgp_frame.specs.Content.{content_of}
 use Rattle.bgp_guard.specs.Answers.{Answers, notice}
 use Rattle.bgp_guard.specs.Guard.{Sight, is_silent, listens_in, runs}
 use Rattle.bgp_guard.specs.Hearing.{agreed, comes_of, holding, said_as}

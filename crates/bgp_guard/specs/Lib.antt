@@ -8,4 +8,5 @@ pub mod Events
 pub mod Came
 pub mod Life
 pub mod Laws
+pub mod Prelude
 pub mod steps

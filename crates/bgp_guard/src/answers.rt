@@ -1,13 +1,8 @@
 //! The NOTIFICATIONs that a guard sends itself.
 
 ghost use Rattle.std.specs.Prelude.{◌≡◌, ◌≤◌, ◌++◌, ℕ, List, length};
-ghost use Rattle.bgp_frame.specs.Notification.{notification_of_view};
-ghost use Rattle.bgp_frame.specs.ShortNotification.{short_value};
-ghost use Rattle.bgp_guard.specs.Answers.{notice, reset_over, rejected, unexpected, answered, reset_by, reject_both};
-ghost use Rattle.bgp_guard.specs.Events.{told_late};
-ghost use Rattle.bgp_guard.specs.Came.{IsAnswered};
-ghost use Rattle.bgp_guard.specs.Halves.{half_with};
-ghost use Rattle.bgp_guard.specs.steps.Seeing.{sight_with};
+ghost use Rattle.bgp_frame.specs.Prelude.{notification_of_view, short_value};
+ghost use Rattle.bgp_guard.specs.Prelude.{notice, reset_over, rejected, unexpected, answered, reset_by, reject_both, told_late, IsAnswered, half_with, sight_with};
 
 use crate::came::Came;
 use crate::line::Line;

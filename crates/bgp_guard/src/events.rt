@@ -1,10 +1,8 @@
 //! Events that bring no octets, as one side sees them.
 
 ghost use Rattle.std.specs.Prelude.{◌≡◌, ◌≤◌, length};
-ghost use Rattle.bgp_frame.specs.Frame.{Waits};
-ghost use Rattle.bgp_guard.specs.Events.{closed, unreached};
-ghost use Rattle.bgp_guard.specs.Halves.{HasRoom};
-ghost use Rattle.bgp_guard.specs.steps.Seeing.{sight_of};
+ghost use Rattle.bgp_frame.specs.Prelude.{Waits};
+ghost use Rattle.bgp_guard.specs.Prelude.{closed, unreached, HasRoom, sight_of};
 
 use crate::answers::{rejected, tell};
 use crate::line::Half;

@@ -4,7 +4,7 @@ ghost use Rattle.std.specs.Prelude.{◌≡◌, true, IfOk, option_map};
 ghost use Rattle.bgp_guard.specs.Guard.{closes, fresh, half, has_ended, listens};
 ghost use Rattle.bgp_guard.specs.Came.{IsHeard};
 ghost use Rattle.bgp_guard.specs.Events.{closed, for_side, is_waiting, sent, stood, ticked, unreached, waited};
-ghost use Rattle.bgp_open.specs.Peer.{said_of};
+ghost use Rattle.bgp_open.specs.Prelude.{said_of};
 
 use crate::answers::tell_late;
 use crate::came::Came;

@@ -1,23 +1,13 @@
 //! Handing a message on.
 
 ghost use Rattle.std.specs.Prelude.{◌≡◌, ◌+◌, ◌≤◌, ℕ, List, false, length, drop, option_map};
-ghost use Rattle.bgp_wire.specs.Octets.{AreOctets};
-ghost use Rattle.bgp_frame.specs.Frame.{IsFrame};
-ghost use Rattle.bgp_frame.specs.Kind.{IsLength};
-ghost use Rattle.bgp_frame.specs.Step.{message_in};
-ghost use Rattle.bgp_open.specs.OpenFault.{reading_of};
-ghost use Rattle.bgp_open.specs.Peer.{said_of};
+ghost use Rattle.bgp_wire.specs.Prelude.{AreOctets};
+ghost use Rattle.bgp_frame.specs.Prelude.{IsFrame, IsLength, message_in};
+ghost use Rattle.bgp_open.specs.Prelude.{reading_of, said_of};
 ghost use Rattle.bgp_msg.specs.declared.message.Message.{Message};
+ghost use Rattle.bgp_msg.specs.Prelude.{out_of, canonical};
 ghost use Rattle.bgp_msg.specs.declared.message.Message.TheVariants as message;
-ghost use Rattle.bgp_msg.specs.Outcome.{out_of};
-ghost use Rattle.bgp_msg.specs.Written.{canonical};
-ghost use Rattle.bgp_guard.specs.Guard.{runs};
-ghost use Rattle.bgp_guard.specs.Place.{misplaced};
-ghost use Rattle.bgp_guard.specs.Answers.{answered};
-ghost use Rattle.bgp_guard.specs.Hearing.{agreed, answers_to, cleans, comes_of, context_in, done, handed_on, said_as, stage_behind};
-ghost use Rattle.bgp_guard.specs.Came.{CameBy, IsAnswered, IsHandedOn};
-ghost use Rattle.bgp_guard.specs.Halves.{half_with, HasRoom};
-ghost use Rattle.bgp_guard.specs.steps.Seeing.{half_behind, said_for, said_in, sight_with, CanBeRead, IsReadIn};
+ghost use Rattle.bgp_guard.specs.Prelude.{runs, misplaced, answered, agreed, answers_to, cleans, comes_of, context_in, done, handed_on, said_as, stage_behind, CameBy, IsAnswered, IsHandedOn, half_with, HasRoom, half_behind, said_for, said_in, sight_with, CanBeRead, IsReadIn};
 
 use crate::answers::{reject, reset, unexpected};
 use crate::came::Came;

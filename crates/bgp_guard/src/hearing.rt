@@ -1,12 +1,8 @@
 //! What the octets of a side do.
 
 ghost use Rattle.std.specs.Prelude.{◌≡◌, ◌≤◌, length};
-ghost use Rattle.bgp_frame.specs.Frame.{Waits};
-ghost use Rattle.bgp_frame.specs.Framer.{IsHeld};
-ghost use Rattle.bgp_guard.specs.Guard.{listens_in};
-ghost use Rattle.bgp_guard.specs.Came.{IsHeardBy};
-ghost use Rattle.bgp_guard.specs.Halves.{HasRoom};
-ghost use Rattle.bgp_guard.specs.steps.Seeing.{sight_of, IsSettled};
+ghost use Rattle.bgp_frame.specs.Prelude.{Waits, IsHeld};
+ghost use Rattle.bgp_guard.specs.Prelude.{listens_in, IsHeardBy, HasRoom, sight_of, IsSettled};
 
 use crate::answers::reset;
 use crate::came::Came;

@@ -4,8 +4,7 @@ ghost use Rattle.std.specs.Prelude.{List};
 ghost use Rattle.std.specs.List.{AllByRecursion};
 ghost use Rattle.bgp_guard.specs.declared.rules.Rules.{Rules};
 ghost use Rattle.bgp_guard.specs.declared.side.Side.{Side};
-ghost use Rattle.bgp_guard.specs.Life.{Event, life};
-ghost use Rattle.bgp_guard.specs.Laws.{HandsOn, IsOctetIn, RunsOrHasReason};
+ghost use Rattle.bgp_guard.specs.Prelude.{Event, life, HandsOn, IsOctetIn, RunsOrHasReason};
 
 /// Whatever happens, in whatever order, what a side was given is a beginning of the cleaned form of what came from the other: whole messages, in order, and
 /// then nothing or one NOTIFICATION of the guard's own, which never stands behind one of the other side. While the guard runs it is all of that but for

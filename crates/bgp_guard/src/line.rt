@@ -1,8 +1,7 @@
 //! What a guard keeps of a side.
 
 ghost use Rattle.std.specs.Prelude.{◌≡◌, IfOk};
-ghost use Rattle.bgp_guard.specs.Guard.{absent};
-ghost use Rattle.bgp_guard.specs.Halves.{half_of};
+ghost use Rattle.bgp_guard.specs.Prelude.{absent, half_of};
 
 use crate::way::Way;
 use bgp_frame::Framer;

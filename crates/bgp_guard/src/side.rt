@@ -1,7 +1,7 @@
 //! The two sides of a guard.
 
 ghost use Rattle.std.specs.Prelude.{◌≡◌};
-ghost use Rattle.bgp_guard.specs.Guard.{other_side};
+ghost use Rattle.bgp_guard.specs.Prelude.{other_side};
 
 /// A side of a guard.
 #[derive(Clone, Copy, Debug, PartialEq, Eq, Hash)]

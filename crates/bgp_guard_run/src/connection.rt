@@ -2,9 +2,7 @@
 
 ghost use Rattle.std.specs.Prelude.{◌≡◌, drop, IfOk, OnErr};
 ghost use Rattle.std.specs.Io.KnownBytes.{WriteAppends};
-ghost use Rattle.bgp_guard.specs.Came.{IsHeard};
-ghost use Rattle.bgp_guard.specs.Events.{for_side, sent};
-ghost use Rattle.bgp_guard.specs.Guard.{half};
+ghost use Rattle.bgp_guard.specs.Prelude.{IsHeard, for_side, sent, half};
 
 use crate::log::Log;
 use crate::piece::{PIECE, Piece};

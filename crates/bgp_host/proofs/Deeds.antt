@@ -5,8 +5,7 @@ use Rattle.std.proofs.lemmas.List.{append-nil, map-append}
 use Rattle.std.proofs.lemmas.Grind.{flat_map-append}
 use Rattle.bgp_machine.specs.declared.action.Action.{Action}
 use Rattle.bgp_host.specs.declared.link.Link.{Link}
-use Rattle.bgp_host.specs.Records.{Call, Grows}
-use Rattle.bgp_host.specs.Deeds.{ticks_of, notices_of, calls_of, link_of, Deed, all_calls, link_behind, Records, Asks, CarriesOut}
+use Rattle.bgp_host.specs.Prelude.{Call, Grows, ticks_of, notices_of, calls_of, link_of, Deed, all_calls, link_behind, Records, Asks, CarriesOut}
 use Rattle.bgp_host.proofs.Records.{grows_both, grows_none}
 
 pub calls_both : (own : List ℕ) (link : Link) (a b : List Deed) → all_calls own link (a ++ b) ≡ all_calls own link a ++ all_calls own (link_behind link a) b

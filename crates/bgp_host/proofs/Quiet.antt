@@ -4,17 +4,14 @@ use Rattle.bgp_machine.specs.declared.action.Action.{Action}
 use Rattle.bgp_machine.specs.declared.action.Action.TheVariants.{Connect, Close, SendOpen, SendKeepalive, SendNotification, Arm, Disarm, Announce, Withdraw, Flush}
 use Rattle.bgp_machine.specs.declared.event.Event.TheVariants.{Connected, Failed}
 use Rattle.bgp_machine.specs.declared.state.State.{State}
-use Rattle.bgp_machine.specs.declared.state.State.TheVariants as state
 use Rattle.bgp_machine.specs.declared.timer.Timer.{Timer}
-use Rattle.bgp_machine.specs.declared.timer.Timer.TheVariants as timer
 use Rattle.bgp_machine.specs.declared.timer.Timers.{Timers}
-use Rattle.bgp_machine.specs.Standing.{Standing}
-use Rattle.bgp_machine.specs.Table.{on_event, only_if, disarmed, flushed}
+use Rattle.bgp_machine.specs.Prelude.{Standing, on_event, only_if, disarmed, flushed}
+use Rattle.bgp_machine.specs.declared.state.State.TheVariants as state
+use Rattle.bgp_machine.specs.declared.timer.Timer.TheVariants as timer
 use Rattle.bgp_host.specs.declared.link.Link.{Link}
 use Rattle.bgp_host.specs.declared.link.Link.TheVariants.{Same, Up, Down}
-use Rattle.bgp_host.specs.Deeds.{Deed, actions_of, sent, link_of, link_behind}
-use Rattle.bgp_host.specs.Turns.{Cause, Told, Gives, first_link, Hosted, RunsFrom}
-use Rattle.bgp_host.specs.steps.Steps.{OneTurn, IsNotUp}
+use Rattle.bgp_host.specs.Prelude.{Deed, actions_of, sent, link_of, link_behind, Cause, Told, Gives, first_link, Hosted, RunsFrom, OneTurn, IsNotUp}
 use Rattle.bgp_host.proofs.Turns.{runs_none}
 
 -- ---- actions that ask nothing of the connection that can fail

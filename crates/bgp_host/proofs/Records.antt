@@ -2,7 +2,7 @@
 use Rattle.std.proofs.Common.{List, [], ◌++◌, sym, ap, Option, None, Some, Result, Ok, Err, ◌∙◌, append_assoc}
 use Rattle.std.specs.Result.{OnErr}
 use Rattle.std.proofs.lemmas.List.{append-nil}
-use Rattle.bgp_host.specs.Records.{Grows}
+use Rattle.bgp_host.specs.Prelude.{Grows}
 
 pub grows_none : {A : Type 0} → (record_ : Option (List A)) → Grows record_ record_ []
 grows_none None = tt

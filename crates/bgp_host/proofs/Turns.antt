@@ -6,15 +6,10 @@ use Rattle.std.proofs.lemmas.List.{append-nil}
 use Rattle.arrayvec.specs.ArrayVec.{ArrayVec}
 use Rattle.bgp_update.specs.declared.update.Update.{Update}
 use Rattle.bgp_machine.specs.declared.action.Action.{Action}
-use Rattle.bgp_machine.specs.Pulling.{IsPulled}
-use Rattle.bgp_machine.specs.Sending.{IsSent}
-use Rattle.bgp_machine.specs.Session.{Machine, own_octets}
+use Rattle.bgp_machine.specs.Prelude.{IsPulled, IsSent, Machine, own_octets}
 use Rattle.bgp_host.specs.declared.link.Link.{Link}
 use Rattle.bgp_host.specs.declared.link.Link.TheVariants.{Same}
-use Rattle.bgp_host.specs.Records.{Call, Sent, Tick, Notice, Grows}
-use Rattle.bgp_host.specs.Deeds.{sends, sent, all_calls, Records, Answers}
-use Rattle.bgp_host.specs.Turns.{Cause, Told, Heard, Gave, Gives, first_calls, first_link, Turn, link_after, turn_ticks, turn_notices, IsDue, Goes, cause_if_free, causes_of, Hosted, hosted, RunsFrom, Runs, ArePulls, HearsAll, HearsSome, SendsOne}
-use Rattle.bgp_host.specs.steps.Steps.{Acts, OneTurn, PullsOn, PullsNone, PullsOnce}
+use Rattle.bgp_host.specs.Prelude.{Call, Sent, Tick, Notice, Grows, sends, sent, all_calls, Records, Answers, Cause, Told, Heard, Gave, Gives, first_calls, first_link, Turn, link_after, turn_ticks, turn_notices, IsDue, Goes, cause_if_free, causes_of, Hosted, hosted, RunsFrom, Runs, ArePulls, HearsAll, HearsSome, SendsOne, Acts, OneTurn, PullsOn, PullsNone, PullsOnce}
 use Rattle.bgp_host.proofs.Records.{grows_none, grows_both}
 
 -- ---- one call

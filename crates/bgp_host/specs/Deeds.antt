@@ -3,7 +3,7 @@ use Rattle.std.specs.Prelude.{◌≡◌, ℕ, Bool, true, false, List, [], ◌�
 use Rattle.std.specs.List.{flat_map}
 use Rattle.bgp_frame.specs.declared.kind.Kind.TheVariants as kind
 use Rattle.bgp_frame.specs.declared.notification.Notification.{Notification}
-use Rattle.bgp_frame.specs.Frame.{octets_of}
+use Rattle.bgp_frame.specs.Prelude.{octets_of}
 use Rattle.bgp_msg.specs.Written as written
 use Rattle.bgp_machine.specs.declared.action.Action.{Action}
 use Rattle.bgp_machine.specs.declared.action.Action.TheVariants.{Connect, Close, SendOpen, SendKeepalive, SendNotification, Arm, Disarm, Announce, Withdraw, Flush}

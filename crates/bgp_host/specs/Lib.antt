@@ -2,4 +2,5 @@
 pub mod Records
 pub mod Deeds
 pub mod Turns
+pub mod Prelude
 pub mod steps

@@ -5,13 +5,9 @@ use Rattle.arrayvec.specs.ArrayVec.{ArrayVec}
 use Rattle.bgp_update.specs.declared.update.Update.{Update}
 use Rattle.bgp_machine.specs.declared.action.Action.{Action}
 use Rattle.bgp_machine.specs.declared.event.Event.{Event}
-use Rattle.bgp_machine.specs.declared.event.Event.TheVariants as event
 use Rattle.bgp_machine.specs.declared.state.State.{State}
-use Rattle.bgp_machine.specs.Pulling.{IsPulled}
-use Rattle.bgp_machine.specs.Sending.{IsSent}
-use Rattle.bgp_machine.specs.Session.{Machine, own_octets, after_event}
-use Rattle.bgp_machine.specs.Standing.{listens}
-use Rattle.bgp_machine.specs.Table.{happens}
+use Rattle.bgp_machine.specs.Prelude.{IsPulled, IsSent, Machine, own_octets, after_event, listens, happens}
+use Rattle.bgp_machine.specs.declared.event.Event.TheVariants as event
 use Rattle.bgp_host.specs.declared.link.Link.{Link}
 use Rattle.bgp_host.specs.declared.link.Link.TheVariants.{Same, Up, Down}
 use Rattle.bgp_host.specs.Records.{Call, Sent, Tick, Notice, Stood, Grows}

@@ -1,8 +1,7 @@
 //! Carrying out actions.
 
 ghost use Rattle.std.specs.Prelude.{◌≡◌, [], ◌∷◌};
-ghost use Rattle.bgp_host.specs.Records.{Sought, Grows};
-ghost use Rattle.bgp_host.specs.Deeds.{notification_octets, ticks_of, notices_of, sends, sought, sent, Answers, Asks, CarriesOut};
+ghost use Rattle.bgp_host.specs.Prelude.{Sought, Grows, notification_octets, ticks_of, notices_of, sends, sought, sent, Answers, Asks, CarriesOut};
 
 use crate::clock::Clock;
 use crate::connection::Connection;

@@ -1,11 +1,9 @@
 //! The owner of a session.
 
 ghost use Rattle.std.specs.Prelude.{◌≡◌, [], ◌∷◌, IfOk, IfErr, OnOk, OnErr};
-ghost use Rattle.bgp_machine.specs.Sending.{IsRefused};
-ghost use Rattle.bgp_machine.specs.Session.{fresh, own_octets};
+ghost use Rattle.bgp_machine.specs.Prelude.{IsRefused, fresh, own_octets};
 ghost use Rattle.bgp_host.specs.declared.link.Link.TheVariants.{Same};
-ghost use Rattle.bgp_host.specs.Turns.{Told, hosted, RunsFrom, Runs, HearsAll, HearsSome, SendsOne};
-ghost use Rattle.bgp_host.specs.steps.Steps.{Acts, OneTurn, IsNotUp, PullsOnce, taken_by};
+ghost use Rattle.bgp_host.specs.Prelude.{Told, hosted, RunsFrom, Runs, HearsAll, HearsSome, SendsOne, Acts, OneTurn, IsNotUp, PullsOnce, taken_by};
 
 use crate::acting::{carry_out, put};
 use crate::clock::Clock;

@@ -2,13 +2,11 @@
 use Rattle.std.proofs.Common.{◌≡◌, ℕ, true, List, [], ◌∷◌, ◌++◌, map, Ok, Err, sym, ap, subst, ◌∙◌, append_assoc}
 use Rattle.std.proofs.lemmas.List.{append-nil}
 use Rattle.bgp_engine.specs.declared.fault.ToolFault.{ToolFault}
-use Rattle.bgp_engine.specs.Output.{AppendsFront, FailsWithin}
+use Rattle.bgp_engine.specs.Prelude.{AppendsFront, FailsWithin}
 use Rattle.bgp_session.specs.declared.moves.Move.{Move}
 use Rattle.bgp_session.specs.declared.report.Report.{Report}
 use Rattle.bgp_session.specs.declared.side.Side.TheVariants.{A, B}
-use Rattle.bgp_session.specs.Report.{IsReported, sights_behind}
-use Rattle.bgp_session.specs.Sight.{Came, observed}
-use Rattle.bgp_session.specs.Wire.{failed_behind}
+use Rattle.bgp_session.specs.Prelude.{IsReported, sights_behind, Came, observed, failed_behind}
 use Rattle.bgp_script.specs.declared.script.Script.{Script}
 use Rattle.bgp_script.specs.ReportText.{report_text}
 use Rattle.bgp_script.specs.Script.{script_of}

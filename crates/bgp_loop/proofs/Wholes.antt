@@ -3,10 +3,8 @@ use Rattle.std.proofs.Common.{◌≡◌, ℕ, ◌≤◌, Bool, true, false, List
 use Rattle.std.proofs.lemmas.Bool.{eq-eqb, eqb-true}
 use Rattle.std.proofs.lemmas.List.{length-take-le, take-append-drop, take_all}
 use Rattle.bgp_frame.specs.declared.fault.HeadFault.{HeadFault}
-use Rattle.bgp_frame.specs.Frame.{Message, IsFrame, wanted_by, wanted, Waits}
-use Rattle.bgp_frame.specs.Head.{head_of}
+use Rattle.bgp_frame.specs.Prelude.{Message, IsFrame, wanted_by, wanted, Waits, head_of, content}
 use Rattle.bgp_frame.proofs.FrameLemmas.{length-IsFrame, IsFrame-wanted, wanted_by_head, wanted-append}
-use Rattle.bgp_frame.specs.Content.{content}
 use Rattle.bgp_frame.proofs.Contents.{enough, content_of-frame, content_of-fault}
 use Rattle.bgp_loop.specs.Trace.{whole_of}
 

@@ -3,12 +3,10 @@ use Rattle.std.specs.Prelude.{◌≡◌, ◌⊎◌, ℕ, Bool, true, List, ◌++
 use Rattle.std.specs.Io.KnownBytes.{Keeps, Appends}
 use Rattle.bgp_engine.specs.declared.tally.Tally.{Tally}
 use Rattle.bgp_engine.specs.declared.fault.ToolFault.{ToolFault}
+use Rattle.bgp_engine.specs.Prelude.{AppendsFront, no_tally}
 use Rattle.bgp_engine.specs.declared.fault.ToolFault.TheVariants as fault
-use Rattle.bgp_engine.specs.Output.{AppendsFront}
-use Rattle.bgp_engine.specs.Tally.{no_tally}
 use Rattle.bgp_session.specs.declared.report.Report.{Report}
-use Rattle.bgp_session.specs.Report.{IsReported}
-use Rattle.bgp_session.specs.Wire.{failed_behind}
+use Rattle.bgp_session.specs.Prelude.{IsReported, failed_behind}
 use Rattle.bgp_script.specs.declared.script.Script.{Script}
 use Rattle.bgp_script.specs.ReportText.{report_text}
 use Rattle.bgp_script.specs.Script.{script_of}

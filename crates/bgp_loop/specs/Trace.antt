@@ -1,18 +1,16 @@
 -- What is written of a run, move by move.
 use Rattle.std.specs.Prelude.{ℕ, ◌+◌, ◌==◌, min, false, List, [], ◌∷◌, ◌++◌, length, Option, None, Some, Result, Ok, Err, codes, if◌then◌else◌}
 use Rattle.bgp_frame.specs.declared.fault.HeadFault.{HeadFault}
-use Rattle.bgp_frame.specs.Frame.{Message, wanted}
+use Rattle.bgp_frame.specs.Prelude.{Message, wanted, content}
 use Rattle.bgp_open.specs.declared.context.Context.{Context}
 use Rattle.bgp_machine.specs.declared.event.Event.{Event}
 use Rattle.bgp_machine.specs.declared.event.Event.TheVariants.{Connected}
-use Rattle.bgp_frame.specs.Content.{content}
-use Rattle.bgp_msg.specs.Outcome.{out_of, of_fault}
+use Rattle.bgp_msg.specs.Prelude.{out_of, of_fault}
 use Rattle.bgp_text.specs.Outcome.{outcome_lines}
 use Rattle.bgp_session.specs.declared.report.Report.{Report}
 use Rattle.bgp_session.specs.declared.side.Side.{Side}
 use Rattle.bgp_session.specs.declared.side.Side.TheVariants.{A, B}
-use Rattle.bgp_session.specs.Report.{sights_behind}
-use Rattle.bgp_session.specs.Sight.{Sight, Begun, Told, Came, Heard, Tried, Ended, observed}
+use Rattle.bgp_session.specs.Prelude.{sights_behind, Sight, Begun, Told, Came, Heard, Tried, Ended, observed}
 use Rattle.bgp_script.specs.declared.script.Script.{Script}
 use Rattle.bgp_script.specs.NoteList.{side_name}
 use Rattle.bgp_script.specs.TraceText.{move_line, step_line, event_words, heard_words, tried_words, cut_line}

@@ -2,7 +2,7 @@
 
 ghost use Rattle.std.specs.Prelude.{◌≡◌, true, IfOk, IfErr};
 ghost use Rattle.bgp_engine.specs.declared.fault.ToolFault.TheVariants.{Net};
-ghost use Rattle.bgp_session.specs.Wire.{failed_after};
+ghost use Rattle.bgp_session.specs.Prelude.{failed_after};
 ghost use Rattle.bgp_loop.specs.Carried.{IsCarried, IsPassed};
 
 use bgp_engine::ToolFault;

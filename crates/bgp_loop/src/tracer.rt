@@ -2,8 +2,7 @@
 
 ghost use Rattle.std.specs.Prelude.{◌≡◌, ◌+◌, ◌++◌, codes, length, OnOk};
 ghost use Rattle.std.specs.String.{string_bytes};
-ghost use Rattle.bgp_frame.specs.Kind.{IsLength};
-ghost use Rattle.bgp_frame.specs.Step.{message_in};
+ghost use Rattle.bgp_frame.specs.Prelude.{IsLength, message_in};
 ghost use Rattle.bgp_script.specs.NoteList.{side_name};
 ghost use Rattle.bgp_loop.specs.Trace.{nothing_came, with_octets, behind_message, message_lines, fault_lines, heard_lines, context_or_none, nothing_traced, begins_at, message_heard};
 ghost use Rattle.bgp_loop.specs.steps.Whole.{ShowsWhole};

@@ -1,18 +1,15 @@
 -- What is made of a message, state by state.
 use Rattle.std.proofs.Common.{◌≡◌, true, Option, Some, refl, sym, ap, subst, ◌∙◌, inr}
 use Rattle.bgp_frame.specs.declared.kind.Kind.TheVariants as kind
-use Rattle.bgp_frame.specs.Frame.{Message}
+use Rattle.bgp_frame.specs.Prelude.{Message}
 use Rattle.bgp_open.specs.declared.context.Context.{Context}
-use Rattle.bgp_open.specs.Config.{Settings}
-use Rattle.bgp_update.specs.Verdict.{verdict_of, has_value}
+use Rattle.bgp_open.specs.Prelude.{Settings}
+use Rattle.bgp_update.specs.Prelude.{verdict_of, has_value}
 use Rattle.bgp_machine.specs.declared.heard.Heard.{Heard}
-use Rattle.bgp_machine.specs.declared.heard.Heard.TheVariants as heard
 use Rattle.bgp_machine.specs.declared.state.State.{State}
+use Rattle.bgp_machine.specs.Prelude.{on_heard, suits, has_routes, SaysVerdict, IsSaid, Hears, Standing, listens, TakesMemory, on_message}
+use Rattle.bgp_machine.specs.declared.heard.Heard.TheVariants as heard
 use Rattle.bgp_machine.specs.declared.state.State.TheVariants as state
-use Rattle.bgp_machine.specs.Heard.{on_heard, suits, has_routes, SaysVerdict, IsSaid, Hears}
-use Rattle.bgp_machine.specs.Standing.{Standing, listens}
-use Rattle.bgp_machine.specs.Session.{TakesMemory}
-use Rattle.bgp_machine.specs.Table.{on_message}
 
 -- only an UPDATE in Established has routes
 quiet_in_open_sent : (h : Heard) → suits state.OpenSent h ≡ true → has_routes h ≡ true → ⊥

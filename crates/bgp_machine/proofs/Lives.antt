@@ -1,40 +1,31 @@
 -- What is kept through a whole life: what the octets that were taken are, in each state.
 use Rattle.std.proofs.Common.{◌≡◌, ℕ, Bool, true, false, List, [], ◌∷◌, ◌++◌, take, Option, Some, None, Result, Ok, Err, option_map, refl, sym, ap, subst, ap₂, ◌∙◌, append_assoc, arith, if◌then◌else◌}
 use Rattle.std.proofs.lemmas.List.{append-nil, nil_from_length}
-use Rattle.bgp_wire.specs.Octets.{AreOctets}
+use Rattle.bgp_wire.specs.Prelude.{AreOctets}
 use Rattle.bgp_frame.specs.declared.fault.HeadFault.{HeadFault}
-use Rattle.bgp_frame.specs.declared.notification.Notification.{Notification}
 use Rattle.bgp_frame.specs.declared.kind.Kind.{Kind}
+use Rattle.bgp_frame.specs.Prelude.{Message, IsFrame, IsHeld, content_of, CountsFed, done_by}
+use Rattle.bgp_frame.specs.declared.notification.Notification.{Notification}
 use Rattle.bgp_frame.specs.declared.kind.Kind.TheVariants as kind
-use Rattle.bgp_frame.specs.Frame.{Message, IsFrame}
-use Rattle.bgp_frame.specs.Framer.{IsHeld}
 use Rattle.bgp_frame.proofs.FrameLemmas.{length-IsFrame}
 use Rattle.bgp_frame.proofs.Holding.{IsHeld_nil}
 use Rattle.bgp_open.specs.declared.agreement.PeerFault.{PeerFault}
 use Rattle.bgp_open.specs.declared.context.Context.{Context}
 use Rattle.bgp_open.specs.declared.fault.OpenFault.{OpenFault}
 use Rattle.bgp_open.specs.declared.message.Open.{Open}
-use Rattle.bgp_open.specs.Agreement.{agreement}
-use Rattle.bgp_open.specs.Config.{Settings}
-use Rattle.bgp_open.specs.Peer.{Said, said_by}
-use Rattle.bgp_open.specs.OpenFault.{open_notification, reading_of}
+use Rattle.bgp_open.specs.Prelude.{agreement, Settings, Said, said_by, open_notification, reading_of}
 use Rattle.bgp_update.specs.declared.verdict.Verdict.{Verdict}
+use Rattle.bgp_update.specs.Prelude.{verdict_of}
 use Rattle.bgp_update.specs.declared.verdict.Verdict.TheVariants as verdict
-use Rattle.bgp_update.specs.Verdict.{verdict_of}
 use Rattle.bgp_machine.specs.declared.action.Action.{Action}
 use Rattle.bgp_machine.specs.declared.event.Event.{Event}
-use Rattle.bgp_machine.specs.declared.event.Event.TheVariants as event
 use Rattle.bgp_machine.specs.declared.state.State.{State}
+use Rattle.bgp_machine.specs.declared.timer.Timers.{Timers}
+use Rattle.bgp_machine.specs.Prelude.{Standing, runs, listens, Step, on_agreement, answered, on_open, on_verdict, on_update, on_message, hears, happens, Machine, kept, holding, hearer, by_pull, Call, Told, Fed, Stepped, Pulled, Life, born, connects, taken_behind, told, stepped, Eats, Goes, Lives, BeginsByOpenAndKeepalive}
+use Rattle.bgp_machine.specs.declared.event.Event.TheVariants as event
 use Rattle.bgp_machine.specs.declared.state.State.TheVariants as state
 use Rattle.bgp_machine.specs.declared.timer.Timer.TheVariants as timer
-use Rattle.bgp_machine.specs.declared.timer.Timers.{Timers}
-use Rattle.bgp_machine.specs.Standing.{Standing, runs, listens}
-use Rattle.bgp_machine.specs.Table.{Step, on_agreement, answered, on_open, on_verdict, on_update, on_message, hears, happens}
-use Rattle.bgp_frame.specs.Content.{content_of}
-use Rattle.bgp_frame.specs.Hearing.{CountsFed, done_by}
-use Rattle.bgp_machine.specs.Session.{Machine, kept, holding, hearer}
-use Rattle.bgp_machine.specs.Run.{by_pull}
-use Rattle.bgp_machine.specs.Life.{Call, Told, Fed, Stepped, Pulled, Looked, Life, born, connects, taken_behind, told, stepped, Eats, Goes, Lives, BeginsByOpenAndKeepalive}
+use Rattle.bgp_machine.specs.Life.{Looked}
 use Rattle.bgp_frame.proofs.Contents.{content_of-message}
 use Rattle.bgp_machine.proofs.Cuttings.{is_hearer, looks_pull, pulls_as_fed}
 use Rattle.bgp_frame.proofs.Hearings.{fed_holds, settled_by}

@@ -2,25 +2,17 @@
 use Rattle.std.proofs.Common.{◌≡◌, ℕ, ◌⊎◌, Bool, true, false, List, [], ◌++◌, take, Option, Some, None, Result, Ok, Err, refl, sym, ap, subst, ◌∙◌, inl, inr}
 use Rattle.arrayvec.specs.ArrayVec.{ArrayVec}
 use Rattle.bgp_frame.specs.declared.fault.HeadFault.{HeadFault}
-use Rattle.bgp_frame.specs.declared.pull.Pull.TheVariants as pull
 use Rattle.bgp_frame.specs.declared.step.Frame.{Frame}
-use Rattle.bgp_frame.specs.Content.{content_of}
-use Rattle.bgp_frame.specs.Frame.{Message, Waits}
-use Rattle.bgp_frame.specs.Pull.{Pulls, IsToFeed, IsPull}
+use Rattle.bgp_frame.specs.Prelude.{content_of, Message, Waits, Pulls, IsToFeed, IsPull, IsContent}
+use Rattle.bgp_frame.specs.declared.pull.Pull.TheVariants as pull
 use Rattle.bgp_frame.proofs.Contents.{content_of-frame, content_of-fault}
 use Rattle.bgp_frame.proofs.Pulls.{held_or_front}
-use Rattle.bgp_open.specs.Config.{Settings}
-use Rattle.bgp_frame.specs.Hearing.{IsContent}
+use Rattle.bgp_open.specs.Prelude.{Settings}
 use Rattle.bgp_frame.proofs.Hearings as hearings
 use Rattle.bgp_machine.specs.declared.action.Action.{Action}
 use Rattle.bgp_machine.specs.declared.heard.Heard.{Heard}
-use Rattle.bgp_machine.specs.Heard.{on_heard, has_routes, IsSaid, Hears, HearsFault}
-use Rattle.bgp_machine.specs.Cutting.{IsAtRest, CanRest}
-use Rattle.bgp_machine.specs.Look.{Looked, gone, step_of, Finds}
-use Rattle.bgp_machine.specs.Standing.{Standing, listens}
-use Rattle.bgp_machine.specs.Table.{Step, hears}
-use Rattle.bgp_machine.specs.Session.{Machine, holding, hearer, IsFed, IsJudged, HeldTakesMemory}
-use Rattle.bgp_machine.specs.Pulling.{IsPulled, FrontTakesMemory}
+use Rattle.bgp_machine.specs.Prelude.{on_heard, has_routes, IsSaid, Hears, HearsFault, IsAtRest, CanRest, gone, step_of, Finds, Standing, listens, Step, hears, Machine, holding, hearer, IsFed, IsJudged, HeldTakesMemory, IsPulled, FrontTakesMemory}
+use Rattle.bgp_machine.specs.Look.{Looked}
 use Rattle.bgp_machine.proofs.Cuttings.{is_hearer, pulls_as_fed}
 
 true_not : (b : Bool) → b ≡ false → b ≡ true → ⊥

@@ -3,22 +3,18 @@ use Rattle.std.proofs.Common.{◌≡◌, ℕ, Bool, true, false, ◌||◌, ◌/�
 use Rattle.std.specs.List.{list_any}
 use Rattle.std.proofs.lemmas.List.Folds.{list_any-append}
 use Rattle.bgp_frame.specs.declared.notification.Notification.{Notification}
-use Rattle.bgp_frame.specs.Notification.{notification_of_view}
-use Rattle.bgp_frame.specs.ShortNotification.{short_value}
+use Rattle.bgp_frame.specs.Prelude.{notification_of_view, short_value}
 use Rattle.bgp_open.specs.declared.context.Context.{Context}
 use Rattle.bgp_machine.specs.declared.action.Action.{Action}
 use Rattle.bgp_machine.specs.declared.action.Action.TheVariants.{Close, SendKeepalive, SendNotification, Arm, Disarm}
 use Rattle.bgp_machine.specs.declared.event.Event.{Event}
-use Rattle.bgp_machine.specs.declared.event.Event.TheVariants as event
 use Rattle.bgp_machine.specs.declared.heard.Heard.{Heard}
-use Rattle.bgp_machine.specs.declared.heard.Heard.TheVariants as heard
 use Rattle.bgp_machine.specs.declared.state.State.{State}
+use Rattle.bgp_machine.specs.Prelude.{takes_memory, on_heard, has_routes, Standing, runs, expired, hold_in, Step, only_if, disarmed, flushed, leave, reset, hold_on, held_too_long, cease, on_event, happens}
+use Rattle.bgp_machine.specs.declared.event.Event.TheVariants as event
+use Rattle.bgp_machine.specs.declared.heard.Heard.TheVariants as heard
 use Rattle.bgp_machine.specs.declared.state.State.TheVariants as state
 use Rattle.bgp_machine.specs.declared.timer.Timer.TheVariants as timer
-use Rattle.bgp_machine.specs.ActionView.{takes_memory}
-use Rattle.bgp_machine.specs.Heard.{on_heard, has_routes}
-use Rattle.bgp_machine.specs.Standing.{Standing, runs, expired, hold_in}
-use Rattle.bgp_machine.specs.Table.{Step, only_if, disarmed, flushed, leave, reset, hold_on, held_too_long, cease, on_event, happens}
 
 abbrev Quiet : List Action → Type 0
 Quiet actions = list_any takes_memory actions ≡ false

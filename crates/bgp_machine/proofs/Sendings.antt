@@ -2,13 +2,11 @@
 use Rattle.std.proofs.Common.{◌≡◌, Bool, true, false, Option, Some, None, refl, sym, ap, subst}
 use Rattle.bgp_open.specs.declared.context.Context.{Context}
 use Rattle.bgp_update.specs.declared.invalid.Invalid.{Invalid}
-use Rattle.bgp_update.specs.declared.invalid.Invalid.TheVariants as invalid
 use Rattle.bgp_update.specs.declared.update.Update.{Update}
-use Rattle.bgp_update.specs.As4.{HasNoAs4, narrowed_update}
-use Rattle.bgp_update.specs.Widths.{with_as4}
-use Rattle.bgp_update.specs.Written.{invalid_of}
+use Rattle.bgp_update.specs.Prelude.{HasNoAs4, narrowed_update, with_as4, invalid_of}
+use Rattle.bgp_update.specs.declared.invalid.Invalid.TheVariants as invalid
 use Rattle.bgp_update.proofs.Widths.{wide_update_has_no_as4, narrowed_update_is_valid}
-use Rattle.bgp_machine.specs.Sending.{is_mixed, or_mixed, why_unsent}
+use Rattle.bgp_machine.specs.Prelude.{is_mixed, or_mixed, why_unsent}
 
 or_mixed_none : (mixed : Bool) (why : Option Invalid) → or_mixed mixed why ≡ None → why ≡ None
 or_mixed_none false why is = is

@@ -4,12 +4,10 @@ use Rattle.bgp_open.specs.declared.context.Context.{Context}
 use Rattle.bgp_update.specs.declared.update.Update.{Update}
 use Rattle.bgp_machine.specs.declared.action.Action.{Action}
 use Rattle.bgp_machine.specs.declared.send_fault.SendFault.{SendFault}
-use Rattle.bgp_machine.specs.declared.send_fault.SendFault.TheVariants as fault
 use Rattle.bgp_machine.specs.declared.state.State.{State}
+use Rattle.bgp_machine.specs.Prelude.{why_unsent, is_told_too_long, told_octets, unless_invalid, refusal_at, refusal_of, keepalive_on, IsSent, LacksMemory, IsRefused, IsTellFault, Machine, established_in}
+use Rattle.bgp_machine.specs.declared.send_fault.SendFault.TheVariants as fault
 use Rattle.bgp_machine.specs.declared.state.State.TheVariants as state
-use Rattle.bgp_machine.specs.Sending.{why_unsent, is_told_too_long, told_octets, unless_invalid, refusal_at, refusal_of, keepalive_on, IsSent, LacksMemory, IsRefused, IsTellFault}
-use Rattle.bgp_machine.specs.Session.{Machine}
-use Rattle.bgp_machine.specs.Standing.{established_in}
 
 refusal_by : (st : State) (c : Option Context) (ctx : Context) (u : Update) → established_in st c ≡ Some ctx → refusal_at st c u ≡ unless_invalid (why_unsent ctx u) (is_told_too_long ctx u)
 refusal_by state.Idle c ctx u is = absurd cc

@@ -7,16 +7,14 @@ use Rattle.bgp_numbers.specs.declared.attribute.TheConstants.{AS4_PATH, AS4_AGGR
 use Rattle.bgp_prefix.specs.declared.as_number.AsNumber.{AsNumber}
 use Rattle.bgp_attr.specs.declared.aggregator.Aggregator.{Aggregator}
 use Rattle.bgp_attr.specs.declared.attr.Attr.{Attr}
-use Rattle.bgp_attr.specs.declared.attr.Attr.TheVariants as attr
 use Rattle.bgp_attr.specs.declared.path.Segment.{Segment}
 use Rattle.bgp_attr.specs.declared.path.AsPath.{AsPath}
 use Rattle.bgp_attr.specs.declared.path.As4Path.{As4Path}
-use Rattle.bgp_attr.specs.Written.{any_number, is_above_two_octets, IsFourOctets, HasPathRanges, HasRanges}
+use Rattle.bgp_attr.specs.Prelude.{any_number, is_above_two_octets, IsFourOctets, HasPathRanges, HasRanges}
+use Rattle.bgp_attr.specs.declared.attr.Attr.TheVariants as attr
 use Rattle.bgp_update.specs.declared.attrs.Attrs.{Attrs}
 use Rattle.bgp_update.specs.declared.update.Update.{Update}
-use Rattle.bgp_update.specs.As4.{narrow_aggregator, wide_path, wide_aggregator, narrowed, narrowed_update, HasNoAs4}
-use Rattle.bgp_update.specs.Slots.{present, slot, canonical_order, attr_list}
-use Rattle.bgp_update.specs.Written.{HasUpdateRanges}
+use Rattle.bgp_update.specs.Prelude.{narrow_aggregator, wide_path, wide_aggregator, narrowed, narrowed_update, HasNoAs4, present, slot, canonical_order, attr_list, HasUpdateRanges}
 use Rattle.bgp_update.proofs.Lists.{all-carried}
 use Rattle.bgp_update.proofs.SlotLemmas.{slot-all}
 use Rattle.bgp_update.proofs.Widths.{by_narrowed, same-slot}

@@ -1,8 +1,7 @@
 -- What a session wants done, while what it concerns lies in octets.
 use Rattle.std.specs.Prelude.{Bool, true, false}
-use Rattle.bgp_frame.specs.Notification.{notification_of_view}
-use Rattle.bgp_update.specs.As4.{onward_of, rebuilt}
-use Rattle.bgp_update.specs.View.{routes_value, update_value}
+use Rattle.bgp_frame.specs.Prelude.{notification_of_view}
+use Rattle.bgp_update.specs.Prelude.{onward_of, rebuilt, routes_value, update_value}
 use Rattle.bgp_machine.specs.declared.action.Action.{Action}
 use Rattle.bgp_machine.specs.declared.action.Action.TheVariants as action
 use Rattle.bgp_machine.specs.declared.action_view.ActionView.{ActionView}

@@ -1,9 +1,8 @@
 -- Octets that a session hears in pieces, by whatever calls, and octet by octet.
 use Rattle.std.specs.Prelude.{◌≡◌, ℕ, List, Option, None, Some}
 use Rattle.arrayvec.specs.ArrayVec.{ArrayVec}
-use Rattle.bgp_frame.specs.Frame.{Waits}
+use Rattle.bgp_frame.specs.Prelude.{Waits, Run, Runs, CanBeHeard}
 use Rattle.bgp_frame.specs.Hearing as hearing
-use Rattle.bgp_frame.specs.Hearing.{Run, Runs, CanBeHeard}
 use Rattle.bgp_machine.specs.declared.action.Action.{Action}
 use Rattle.bgp_machine.specs.Session.{Machine, hearer}
 

@@ -1,22 +1,14 @@
 -- What a session makes of what it hears, as views of it.
 use Rattle.std.specs.Prelude.{◌≡◌, Bool, true, false, [], ◌∷◌, Option, None, Some, Ok, Err}
 use Rattle.bgp_frame.specs.declared.fault.HeadFault.{HeadFault}
+use Rattle.bgp_frame.specs.Prelude.{Message, notification_of_view, short_value}
 use Rattle.bgp_frame.specs.declared.kind.Kind.TheVariants as kind
-use Rattle.bgp_frame.specs.Frame.{Message}
-use Rattle.bgp_frame.specs.Notification.{notification_of_view}
-use Rattle.bgp_frame.specs.ShortNotification.{short_value}
 use Rattle.bgp_open.specs.declared.context.Context.{Context}
-use Rattle.bgp_open.specs.Agreement.{agreement}
-use Rattle.bgp_open.specs.Config.{Settings}
-use Rattle.bgp_open.specs.OpenFault.{reading_of}
-use Rattle.bgp_open.specs.OpenView.{open_value}
-use Rattle.bgp_open.specs.Peer.{said_by}
+use Rattle.bgp_open.specs.Prelude.{agreement, Settings, reading_of, open_value, said_by}
 use Rattle.bgp_update.specs.declared.verdict.Verdict.{Verdict}
+use Rattle.bgp_update.specs.Prelude.{onward_of, rebuilt, verdict_of, notes_value, routes_value, update_value}
 use Rattle.bgp_update.specs.declared.verdict.Verdict.TheVariants as verdict
-use Rattle.bgp_update.specs.As4.{onward_of, rebuilt}
-use Rattle.bgp_update.specs.Verdict.{verdict_of}
-use Rattle.bgp_update.specs.View.{notes_value, routes_value, update_value}
-use Rattle.bgp_msg.specs.Outcome.{notification_in}
+use Rattle.bgp_msg.specs.Prelude.{notification_in}
 use Rattle.bgp_machine.specs.declared.action.Action.TheVariants.{Close, Announce, Withdraw}
 use Rattle.bgp_machine.specs.declared.heard.Heard.{Heard}
 use Rattle.bgp_machine.specs.declared.heard.Heard.TheVariants as heard

@@ -10,4 +10,5 @@ pub mod Sending
 pub mod Session
 pub mod Standing
 pub mod Table
+pub mod Prelude
 pub mod steps

@@ -1,14 +1,11 @@
 -- Whole lives of a session: calls from Idle on, in any order.
 use Rattle.std.specs.Prelude.{◌≡◌, ℕ, Bool, true, false, List, [], ◌∷◌, ◌++◌, take, Option, Some, Ok}
-use Rattle.bgp_wire.specs.Octets.{AreOctets}
+use Rattle.bgp_wire.specs.Prelude.{AreOctets}
 use Rattle.bgp_frame.specs.declared.kind.Kind.TheVariants as kind
-use Rattle.bgp_frame.specs.Frame.{IsFrame}
-use Rattle.bgp_frame.specs.Hearing.{Way}
+use Rattle.bgp_frame.specs.Prelude.{IsFrame, Way}
 use Rattle.bgp_open.specs.declared.context.Context.{Context}
 use Rattle.bgp_open.specs.declared.message.Open.{Open}
-use Rattle.bgp_open.specs.Agreement.{agreement}
-use Rattle.bgp_open.specs.Config.{Settings}
-use Rattle.bgp_open.specs.OpenFault.{reading_of}
+use Rattle.bgp_open.specs.Prelude.{agreement, Settings, reading_of}
 use Rattle.bgp_machine.specs.declared.action.Action.{Action}
 use Rattle.bgp_machine.specs.declared.event.Event.{Event}
 use Rattle.bgp_machine.specs.declared.event.Event.TheVariants as event

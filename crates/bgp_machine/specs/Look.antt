@@ -1,12 +1,11 @@
 -- What a look at a session and a piece finds.
 use Rattle.std.specs.Prelude.{◌≡◌, ◌≤◌, ◌⊎◌, ◌++◌, ℕ, true, List, [], length, take, Option, None, Some, Ok}
 use Rattle.arrayvec.specs.ArrayVec.{ArrayVec}
-use Rattle.bgp_frame.specs.Frame.{Message}
+use Rattle.bgp_frame.specs.Prelude.{Message, content_of}
 use Rattle.bgp_machine.specs.declared.action.Action.{Action}
 use Rattle.bgp_machine.specs.declared.heard.Heard.{Heard}
 use Rattle.bgp_machine.specs.Heard.{has_routes, on_heard, IsSaid}
 use Rattle.bgp_machine.specs.Pulling.{FrontTakesMemory, IsPulled}
-use Rattle.bgp_frame.specs.Content.{content_of}
 use Rattle.bgp_machine.specs.Session.{Machine, Going, IsFed, HeldTakesMemory}
 use Rattle.bgp_machine.specs.Standing.{Standing}
 use Rattle.bgp_machine.specs.Table.{Step}

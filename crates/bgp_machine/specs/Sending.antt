@@ -2,13 +2,11 @@
 use Rattle.std.specs.Prelude.{◌≡◌, ◌⊎◌, ℕ, ◌+◌, ◌/◌, Bool, true, false, nat_lt, List, ◌++◌, length, Option, None, Some, is_some, if◌then◌else◌}
 use Rattle.bgp_open.specs.declared.context.Context.{Context}
 use Rattle.bgp_update.specs.declared.invalid.Invalid.{Invalid}
-use Rattle.bgp_update.specs.declared.invalid.Invalid.TheVariants as invalid
 use Rattle.bgp_update.specs.declared.update.Update.{Update}
-use Rattle.bgp_update.specs.As4.{narrowed_update}
-use Rattle.bgp_update.specs.Widths.{with_as4}
-use Rattle.bgp_update.specs.Written.{invalid_of}
+use Rattle.bgp_update.specs.Prelude.{narrowed_update, with_as4, invalid_of}
+use Rattle.bgp_update.specs.declared.invalid.Invalid.TheVariants as invalid
 use Rattle.bgp_msg.specs.declared.message.Message.TheVariants as message
-use Rattle.bgp_msg.specs.Written.{canonical, is_too_long}
+use Rattle.bgp_msg.specs.Prelude.{canonical, is_too_long}
 use Rattle.bgp_machine.specs.declared.action.Action.{Action}
 use Rattle.bgp_machine.specs.declared.action.Action.TheVariants.{Arm}
 use Rattle.bgp_machine.specs.declared.send_fault.SendFault.{SendFault}

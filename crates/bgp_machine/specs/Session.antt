@@ -2,16 +2,12 @@
 use Rattle.std.specs.Prelude.{◌≡◌, ◌⊎◌, ℕ, Bool, true, false, List, [], Option, None, Some, option_map, Ok}
 use Rattle.arrayvec.specs.ArrayVec.{ArrayVec}
 use Rattle.bgp_frame.specs.declared.kind.Kind.TheVariants as kind
-use Rattle.bgp_frame.specs.Content.{content_of}
-use Rattle.bgp_frame.specs.Frame.{Message, octets_of}
+use Rattle.bgp_frame.specs.Prelude.{content_of, Message, octets_of, Hearer}
 use Rattle.bgp_frame.specs.Hearing as hearing
-use Rattle.bgp_frame.specs.Hearing.{Hearer}
 use Rattle.bgp_open.specs.declared.context.Context.{Context}
-use Rattle.bgp_open.specs.Config.{Settings}
-use Rattle.bgp_open.specs.OpenFault.{open_fault}
-use Rattle.bgp_open.specs.Own.{own_of}
+use Rattle.bgp_open.specs.Prelude.{Settings, open_fault, own_of}
 use Rattle.bgp_open.specs.Written as opens
-use Rattle.bgp_update.specs.Verdict.{verdict_of, has_value}
+use Rattle.bgp_update.specs.Prelude.{verdict_of, has_value}
 use Rattle.bgp_machine.specs.declared.action.Action.{Action}
 use Rattle.bgp_machine.specs.declared.event.Event.{Event}
 use Rattle.bgp_machine.specs.declared.state.State.TheVariants as state

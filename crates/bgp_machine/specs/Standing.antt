@@ -1,7 +1,7 @@
 -- Where a session stands (RFC 4271, section 8).
 use Rattle.std.specs.Prelude.{ℕ, Bool, true, false, Option, None, Some}
 use Rattle.bgp_open.specs.declared.context.Context.{Context}
-use Rattle.bgp_open.specs.Peer.{Said, said_of}
+use Rattle.bgp_open.specs.Prelude.{Said, said_of}
 use Rattle.bgp_machine.specs.declared.phase.Phase.{Phase}
 use Rattle.bgp_machine.specs.declared.phase.Phase.TheVariants as phase
 use Rattle.bgp_machine.specs.declared.state.State.{State}

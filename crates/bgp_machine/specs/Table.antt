@@ -4,23 +4,17 @@ use Rattle.std.specs.Prelude.{ℕ, ◌/◌, Bool, true, false, nat_lt, List, [],
 use Rattle.bgp_numbers.specs.declared.error.TheConstants.{OPEN_MESSAGE, HOLD_TIMER_EXPIRED, FINITE_STATE_MACHINE, CEASE, UNSPECIFIC, UNEXPECTED_IN_OPEN_SENT, UNEXPECTED_IN_OPEN_CONFIRM, UNEXPECTED_IN_ESTABLISHED}
 use Rattle.bgp_frame.specs.declared.fault.HeadFault.{HeadFault}
 use Rattle.bgp_frame.specs.declared.kind.Kind.{Kind}
+use Rattle.bgp_frame.specs.Prelude.{Message, head_notification, code_of}
 use Rattle.bgp_frame.specs.declared.kind.Kind.TheVariants as kind
 use Rattle.bgp_frame.specs.declared.notification.Notification.{Notification}
-use Rattle.bgp_frame.specs.Frame.{Message}
-use Rattle.bgp_frame.specs.Head.{head_notification}
-use Rattle.bgp_frame.specs.Kind.{code_of}
 use Rattle.bgp_open.specs.declared.agreement.PeerFault.{PeerFault}
 use Rattle.bgp_open.specs.declared.context.Context.{Context}
 use Rattle.bgp_open.specs.declared.message.Open.{Open}
-use Rattle.bgp_open.specs.Config.{Settings}
-use Rattle.bgp_open.specs.Agreement.{agreement, peer_notification}
-use Rattle.bgp_open.specs.Peer.{Said, said_by}
+use Rattle.bgp_open.specs.Prelude.{Settings, agreement, peer_notification, Said, said_by, open_notification, reading_of}
 use Rattle.bgp_open.specs.declared.fault.OpenFault.{OpenFault}
-use Rattle.bgp_open.specs.OpenFault.{open_notification, reading_of}
 use Rattle.bgp_update.specs.declared.verdict.Verdict.{Verdict}
+use Rattle.bgp_update.specs.Prelude.{onward_of, rebuilt, verdict_of}
 use Rattle.bgp_update.specs.declared.verdict.Verdict.TheVariants as verdict
-use Rattle.bgp_update.specs.As4.{onward_of, rebuilt}
-use Rattle.bgp_update.specs.Verdict.{verdict_of}
 use Rattle.bgp_machine.specs.declared.action.Action.{Action}
 use Rattle.bgp_machine.specs.declared.action.Action.TheVariants.{Close, SendOpen, SendKeepalive, SendNotification, Arm, Disarm, Announce, Withdraw, Flush}
 use Rattle.bgp_machine.specs.declared.action.Action.TheVariants as action

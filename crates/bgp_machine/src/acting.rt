@@ -1,12 +1,11 @@
 //! What is done on what is heard.
 
 ghost use Rattle.std.specs.Prelude.{◌≡◌, ◌<◌, ◌++◌, [], ◌∷◌, length, true, Some};
-ghost use Rattle.bgp_open.specs.Peer.{said_of};
+ghost use Rattle.bgp_open.specs.Prelude.{said_of};
 ghost use Rattle.bgp_machine.specs.declared.action.Action.TheVariants.{Close};
+ghost use Rattle.bgp_machine.specs.Prelude.{on_heard, suits, accepted, go, hold_on, leave};
 ghost use Rattle.bgp_machine.specs.declared.heard.Heard.TheVariants as heard;
 ghost use Rattle.bgp_machine.specs.declared.state.State.TheVariants as state;
-ghost use Rattle.bgp_machine.specs.Heard.{on_heard, suits};
-ghost use Rattle.bgp_machine.specs.Table.{accepted, go, hold_on, leave};
 
 use crate::action_view::ActionView;
 use crate::action_views::ActionViews;

@@ -1,8 +1,7 @@
 //! What is to be done, in order.
 
 ghost use Rattle.std.specs.Prelude.{◌≡◌, ◌<◌, ◌≤◌, ◌+◌, ◌++◌, ◌∷◌, [], length, take, true, false, OnOk, OnErr};
-ghost use Rattle.bgp_update.specs.As4.{onward_of, rebuilt};
-ghost use Rattle.bgp_update.specs.View.{routes_value, update_value};
+ghost use Rattle.bgp_update.specs.Prelude.{onward_of, rebuilt, routes_value, update_value};
 ghost use Rattle.bgp_machine.specs.declared.action.Action.TheVariants.{Announce, Arm, Close, Withdraw};
 ghost use Rattle.bgp_machine.specs.ActionView.{action_of, takes_memory};
 

@@ -1,10 +1,9 @@
 //! What events do.
 
 ghost use Rattle.std.specs.Prelude.{◌≡◌, []};
-ghost use Rattle.bgp_frame.specs.Notification.{notification_of_view};
+ghost use Rattle.bgp_frame.specs.Prelude.{notification_of_view};
 ghost use Rattle.bgp_machine.specs.declared.event.Event.TheVariants as event;
-ghost use Rattle.bgp_machine.specs.Standing.{expired};
-ghost use Rattle.bgp_machine.specs.Table.{on_event, happens, held_too_long, cease};
+ghost use Rattle.bgp_machine.specs.Prelude.{expired, on_event, happens, held_too_long, cease};
 
 use crate::action_view::ActionView;
 use crate::action_views::ActionViews;

@@ -2,17 +2,11 @@
 
 ghost use Rattle.std.specs.Prelude.{◌≡◌, ◌+◌, ◌≤◌, length, true, Some};
 ghost use Rattle.bgp_frame.specs.declared.kind.Kind.TheVariants as kind;
-ghost use Rattle.bgp_frame.specs.Kind.{IsLength};
-ghost use Rattle.bgp_frame.specs.Notification.{notification_of_view};
-ghost use Rattle.bgp_frame.specs.ShortNotification.{short_value};
-ghost use Rattle.bgp_frame.specs.Step.{message_in};
-ghost use Rattle.bgp_open.specs.Config.{Settings};
-ghost use Rattle.bgp_open.specs.OpenFault.{open_notification, reading_of};
-ghost use Rattle.bgp_update.specs.Verdict.{has_value, verdict_of};
+ghost use Rattle.bgp_frame.specs.Prelude.{IsLength, notification_of_view, short_value, message_in};
+ghost use Rattle.bgp_open.specs.Prelude.{Settings, open_notification, reading_of};
+ghost use Rattle.bgp_update.specs.Prelude.{has_value, verdict_of};
 ghost use Rattle.bgp_machine.specs.declared.state.State.TheVariants as state;
-ghost use Rattle.bgp_machine.specs.Heard.{has_routes, on_heard, suits, IsFaultOf, IsHeardOf, IsSaid, SaysVerdict};
-ghost use Rattle.bgp_machine.specs.Standing.{Standing};
-ghost use Rattle.bgp_machine.specs.Table.{answered, on_message, on_open, on_verdict, reset, unexpected};
+ghost use Rattle.bgp_machine.specs.Prelude.{has_routes, on_heard, suits, IsFaultOf, IsHeardOf, IsSaid, SaysVerdict, Standing, answered, on_message, on_open, on_verdict, reset, unexpected};
 
 use crate::heard::Heard;
 use crate::phase::Phase;

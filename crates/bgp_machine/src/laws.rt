@@ -2,16 +2,13 @@
 
 ghost use Rattle.std.specs.Prelude.{◌≡◌, ℕ, List};
 ghost use Rattle.std.specs.List.{flat_map};
-ghost use Rattle.bgp_wire.specs.Octets.{AreOctets};
-ghost use Rattle.bgp_frame.specs.Hearing.{all_octets, Run, Runs};
-ghost use Rattle.bgp_open.specs.Config.{Settings};
+ghost use Rattle.bgp_wire.specs.Prelude.{AreOctets};
+ghost use Rattle.bgp_frame.specs.Prelude.{all_octets, Run, Runs};
+ghost use Rattle.bgp_open.specs.Prelude.{Settings};
 ghost use Rattle.bgp_machine.specs.declared.action.Action.{Action};
 ghost use Rattle.bgp_machine.specs.declared.event.Event.{Event};
+ghost use Rattle.bgp_machine.specs.Prelude.{Machine, fresh, after_event, IsAtRest, Piece, joined, Cuts, CanBeFed, by_octets, by_look, by_pull, CanBePulled, Call, Life, born, Lives, BeginsByOpenAndKeepalive};
 ghost use Rattle.bgp_machine.specs.declared.state.State.TheVariants as state;
-ghost use Rattle.bgp_machine.specs.Session.{Machine, fresh, after_event};
-ghost use Rattle.bgp_machine.specs.Cutting.{IsAtRest, Piece, joined, Cuts, CanBeFed, by_octets};
-ghost use Rattle.bgp_machine.specs.Run.{by_look, by_pull, CanBePulled};
-ghost use Rattle.bgp_machine.specs.Life.{Call, Life, born, Lives, BeginsByOpenAndKeepalive};
 
 /// Whatever is called for, in whatever order: where a session is Established, the octets that it has read since its connection stands begin
 /// with an OPEN that it accepted, from which it has its context, and then a KEEPALIVE.

@@ -1,8 +1,8 @@
 //! The state of a session, with what belongs to it.
 
 ghost use Rattle.std.specs.Prelude.{◌≡◌, option_map};
-ghost use Rattle.bgp_open.specs.Peer.{said_of};
-ghost use Rattle.bgp_machine.specs.Standing.{state_in, context_in, peer_in};
+ghost use Rattle.bgp_open.specs.Prelude.{said_of};
+ghost use Rattle.bgp_machine.specs.Prelude.{state_in, context_in, peer_in};
 
 use crate::state::State;
 use bgp_open::{Context, Peer};

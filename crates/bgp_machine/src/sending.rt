@@ -1,11 +1,10 @@
 //! Sending routes.
 
 ghost use Rattle.std.specs.Prelude.{◌≡◌, ◌⊎◌, ◌++◌, true, false, None, Some, IfOk, IfErr, OnOk, OnErr};
-ghost use Rattle.bgp_update.specs.As4.{HasNoAs4, narrowed_update};
-ghost use Rattle.bgp_update.specs.Written.{invalid_of, HasUpdateRanges};
+ghost use Rattle.bgp_update.specs.Prelude.{HasNoAs4, narrowed_update, invalid_of, HasUpdateRanges};
 ghost use Rattle.bgp_msg.specs.declared.message.Message.TheVariants as message;
-ghost use Rattle.bgp_msg.specs.Written.{canonical, is_too_long};
-ghost use Rattle.bgp_machine.specs.Sending.{is_mixed, why_unsent, told_octets, is_told_too_long, keepalive_on, IsSent, IsRefused, IsPutFault, IsTellFault};
+ghost use Rattle.bgp_msg.specs.Prelude.{canonical, is_too_long};
+ghost use Rattle.bgp_machine.specs.Prelude.{is_mixed, why_unsent, told_octets, is_told_too_long, keepalive_on, IsSent, IsRefused, IsPutFault, IsTellFault};
 
 use crate::action::{Action, Actions};
 use crate::send_fault::SendFault;

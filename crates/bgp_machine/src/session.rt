@@ -1,8 +1,8 @@
 //! The session of one connection.
 
 ghost use Rattle.std.specs.Prelude.{◌≡◌, ◌≤◌, ◌<◌, [], false, length, option_map};
-ghost use Rattle.bgp_frame.specs.Frame.{Waits};
-ghost use Rattle.bgp_open.specs.Peer.{said_of};
+ghost use Rattle.bgp_frame.specs.Prelude.{Waits};
+ghost use Rattle.bgp_open.specs.Prelude.{said_of};
 ghost use Rattle.bgp_machine.specs.Cutting.{IsAtRest};
 ghost use Rattle.bgp_machine.specs.Look.{gone, IsLook};
 ghost use Rattle.bgp_machine.specs.Standing.{listens, runs};

@@ -2,7 +2,7 @@
 
 ghost use Rattle.std.specs.Prelude.{◌≡◌, ◌+◌, ◌<◌, ◌≤◌, [], ◌∷◌, ◌++◌, length, true, false};
 ghost use Rattle.bgp_machine.specs.declared.action.Action.TheVariants.{SendNotification, Close, Disarm};
-ghost use Rattle.bgp_frame.specs.Notification.{notification_of_view};
+ghost use Rattle.bgp_frame.specs.Prelude.{notification_of_view};
 ghost use Rattle.bgp_machine.specs.Standing.{established_in, idle, listens};
 ghost use Rattle.bgp_machine.specs.Table.{only_if, flushed, leave, reset};
 

@@ -1,10 +1,7 @@
 //! What a session does with the octets that it is fed.
 
 ghost use Rattle.std.specs.Prelude.{◌≡◌, ◌⊎◌, [], false, true, IfOk, OnOk, OnErr};
-ghost use Rattle.bgp_machine.specs.Cutting.{RestsUnless, RestsBehind};
-ghost use Rattle.bgp_machine.specs.Look.{IsOwnLook};
-ghost use Rattle.bgp_machine.specs.Session.{IsJudged, HeldTakesMemory};
-ghost use Rattle.bgp_machine.specs.Pulling.{IsPulled, IsFedAndStepped, FrontTakesMemory, where_found};
+ghost use Rattle.bgp_machine.specs.Prelude.{RestsUnless, RestsBehind, IsOwnLook, IsJudged, HeldTakesMemory, IsPulled, IsFedAndStepped, FrontTakesMemory, where_found};
 
 use crate::action::Actions;
 use crate::look::Next;

@@ -5,20 +5,16 @@ use Rattle.std.specs.List.{flat_map}
 use Rattle.std.proofs.lemmas.Grind.{flat_map-append}
 use Rattle.std.proofs.lemmas.List.{append-nil, take_more, take-append-drop, length-append}
 use Rattle.bgp_frame.specs.declared.end.End.{End}
-use Rattle.bgp_frame.specs.declared.end.End.TheVariants as end
 use Rattle.bgp_frame.specs.declared.fault.HeadFault.{HeadFault}
-use Rattle.bgp_frame.specs.Frame.{Message, octets_of, Waits}
-use Rattle.bgp_frame.specs.Stream.{Gives, StreamRules, outcome_of}
+use Rattle.bgp_frame.specs.Prelude.{Message, octets_of, Waits, Gives, StreamRules, outcome_of, IsContent}
+use Rattle.bgp_frame.specs.declared.end.End.TheVariants as end
 use Rattle.bgp_frame.proofs.FrameLemmas.{head_of-append, length-octets_of}
 use Rattle.bgp_frame.proofs.Pulls.{nothing_waits}
 use Rattle.bgp_frame.proofs.Streams.{gives_wait, gives_fault, gives_reset, gives_more}
 use Rattle.bgp_open.specs.declared.context.Context.{Context}
 use Rattle.bgp_msg.specs.declared.outcome.Outcome.{Outcome}
-use Rattle.bgp_frame.specs.Hearing.{IsContent}
-use Rattle.bgp_msg.specs.Outcome.{is_reset, stream_rules}
-use Rattle.bgp_msg.specs.Decoder.{Decoding, fresh, holding, given_by, IsNext}
+use Rattle.bgp_msg.specs.Prelude.{is_reset, stream_rules, Decoding, fresh, holding, given_by, IsNext, IsLater, Stands, Decodes, end_behind}
 use Rattle.bgp_msg.proofs.Pulls.{one_out}
-use Rattle.bgp_msg.specs.steps.Decoding.{IsLater, Stands, Decodes, end_behind}
 
 abbrev pub Outs : Type 0
 Outs = List (ℕ × Outcome)

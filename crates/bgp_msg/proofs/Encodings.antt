@@ -6,27 +6,26 @@ use Rattle.std.proofs.lemmas.Bool.{ltb-true, ltb-false, true≢false, or_parts}
 use Rattle.std.proofs.lemmas.List.{length-append}
 use Rattle.bgp_frame.specs.declared.kind.Kind.TheVariants as kind
 use Rattle.bgp_frame.specs.declared.notification.Notification.{Notification}
-use Rattle.bgp_frame.specs.Kind.{IsLength}
+use Rattle.bgp_frame.specs.Prelude.{IsLength}
 use Rattle.bgp_frame.proofs.FrameLemmas.{length-octets_of}
 use Rattle.bgp_open.specs.declared.context.Context.{Context}
 use Rattle.bgp_open.specs.declared.message.Open.{Open}
-use Rattle.bgp_open.specs.Open.{IsOpen, is_short_hold, is_zero_id}
-use Rattle.bgp_open.specs.OpenFault.{reading_of}
+use Rattle.bgp_open.specs.Prelude.{IsOpen, is_short_hold, is_zero_id, reading_of}
 use Rattle.bgp_open.specs.Written as opens
 use Rattle.bgp_open.proofs.Readings.{spelling-reads}
 use Rattle.bgp_update.specs.declared.invalid.Invalid.{Invalid}
-use Rattle.bgp_update.specs.declared.invalid.Invalid.TheVariants as invalid
 use Rattle.bgp_update.specs.declared.update.Update.{Update}
-use Rattle.bgp_attr.specs.Written.{run_octets}
 use Rattle.bgp_update.specs.declared.write.WriteFault.{WriteFault}
-use Rattle.bgp_update.specs.declared.write.WriteFault.TheVariants.{NotValid, TooLong, Memory}
+use Rattle.bgp_update.specs.declared.write.WriteFault.TheVariants.{NotValid, Memory}
+use Rattle.bgp_update.specs.declared.invalid.Invalid.TheVariants as invalid
+use Rattle.bgp_attr.specs.Prelude.{run_octets}
+use Rattle.bgp_update.specs.declared.write.WriteFault.TheVariants.{TooLong}
 use Rattle.bgp_update.specs.Written as updates
 use Rattle.bgp_update.proofs.Bodies.{length-body}
 use Rattle.bgp_msg.specs.declared.message.Message.{Message}
-use Rattle.bgp_msg.specs.declared.message.Message.TheVariants as message
 use Rattle.bgp_msg.specs.declared.outcome.Outcome.TheVariants.{Took}
-use Rattle.bgp_msg.specs.Outcome.{of_reading}
-use Rattle.bgp_msg.specs.Written.{written, invalid_open, is_valid, is_too_long}
+use Rattle.bgp_msg.specs.Prelude.{of_reading, written, invalid_open, is_valid, is_too_long}
+use Rattle.bgp_msg.specs.declared.message.Message.TheVariants as message
 
 abbrev some_invalid : Invalid → Option Invalid
 some_invalid why = Some why

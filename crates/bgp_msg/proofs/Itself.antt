@@ -1,22 +1,19 @@
 -- A valid message that fits is taken as itself.
 use Rattle.std.proofs.Common.{◌≡◌, ◌+◌, ◌≤◌, Bool, true, false, cond, length, Option, Some, None, refl, ap, arith}
-use Rattle.bgp_frame.specs.Frame.{IsFrame}
-use Rattle.bgp_frame.specs.Kind.{IsLength}
+use Rattle.bgp_frame.specs.Prelude.{IsFrame, IsLength}
 use Rattle.bgp_frame.proofs.FrameLemmas.{length-octets_of}
 use Rattle.bgp_open.specs.declared.context.Context.{Context}
 use Rattle.bgp_open.specs.Written as opens
 use Rattle.bgp_open.proofs.Spellings.{good-spells}
-use Rattle.bgp_attr.specs.Written.{run_octets}
+use Rattle.bgp_attr.specs.Prelude.{run_octets}
 use Rattle.bgp_update.specs.declared.invalid.Invalid.{Invalid}
 use Rattle.bgp_update.specs.declared.invalid.Invalid.TheVariants as invalid
 use Rattle.bgp_update.specs.Written as updates
 use Rattle.bgp_update.proofs.Bodies.{length-body}
 use Rattle.bgp_update.proofs.ReadBack.{valid-taken}
 use Rattle.bgp_msg.specs.declared.message.Message.{Message}
+use Rattle.bgp_msg.specs.Prelude.{of_verdict, kind_of, body_of, written, invalid_of, canonical, HasMessageRanges, IsTakenAsItself}
 use Rattle.bgp_msg.specs.declared.message.Message.TheVariants as message
-use Rattle.bgp_msg.specs.Outcome.{of_verdict}
-use Rattle.bgp_msg.specs.Written.{kind_of, body_of, written, invalid_of, canonical}
-use Rattle.bgp_msg.specs.Laws.{HasMessageRanges, IsTakenAsItself}
 use Rattle.bgp_msg.proofs.Encodings.{open_taken}
 
 abbrev some : Invalid → Option Invalid

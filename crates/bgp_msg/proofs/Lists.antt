@@ -5,9 +5,8 @@ use Rattle.bgp_frame.specs.declared.kind.Kind.TheVariants as kind
 use Rattle.bgp_frame.specs.Frame as frame
 use Rattle.bgp_open.specs.declared.context.Context.{Context}
 use Rattle.bgp_msg.specs.declared.outcome.Outcome.{Outcome}
+use Rattle.bgp_msg.specs.Prelude.{of_body, out_of, is_reset, has_lists}
 use Rattle.bgp_msg.specs.declared.outcome.Outcome.TheVariants as outcome
-use Rattle.bgp_msg.specs.Outcome.{of_body, out_of, is_reset}
-use Rattle.bgp_msg.specs.OutcomeView.{has_lists}
 
 of_kind : (ctx : Context) (k : Kind) (body : List ℕ) → has_lists (of_body ctx k body) ≡ true → (k ≡ kind.Open) ⊎ (k ≡ kind.Update)
 of_kind ctx kind.Open body e = inl refl

@@ -3,11 +3,9 @@ use Rattle.std.proofs.Common.{◌≡◌, ℕ, ◌≤◌, ◌⊎◌, Bool, true, 
 use Rattle.std.proofs.lemmas.Bool.{not-true}
 use Rattle.bgp_frame.specs.declared.fault.HeadFault.{HeadFault}
 use Rattle.bgp_frame.specs.declared.step.Frame.{Frame}
+use Rattle.bgp_frame.specs.Prelude.{Message, Waits, ShowsFront, IsToFeed, IsPull, IsContent, Judges}
 use Rattle.bgp_frame.specs.declared.pull.Pull.TheVariants as pull
 use Rattle.bgp_frame.specs.declared.step.Step.TheVariants as step
-use Rattle.bgp_frame.specs.Frame.{Message, Waits}
-use Rattle.bgp_frame.specs.Step.{ShowsFront}
-use Rattle.bgp_frame.specs.Pull.{IsToFeed, IsPull}
 use Rattle.bgp_frame.proofs.FrameLemmas.{length-IsFrame}
 use Rattle.bgp_frame.proofs.Pulls.{held_or_front, none_held, pull_frame, nothing_waits}
 use Rattle.bgp_update.specs.declared.note.Note.{Note}
@@ -15,13 +13,8 @@ use Rattle.bgp_update.specs.declared.update.Update.{Update}
 use Rattle.bgp_msg.specs.declared.look.Look.TheVariants as look
 use Rattle.bgp_msg.specs.declared.message.Message.TheVariants as message
 use Rattle.bgp_msg.specs.declared.outcome.Outcome.{Outcome}
+use Rattle.bgp_msg.specs.Prelude.{out_of, of_fault, has_lists, Decoding, TakesMemory, FrontTakesMemory, given_by, holding, behind, decoder, IsPulled, IsFedAndNext, IsAtFront, IsLook}
 use Rattle.bgp_msg.specs.declared.outcome.Outcome.TheVariants as outcome
-use Rattle.bgp_frame.specs.Hearing.{IsContent, Judges}
-use Rattle.bgp_msg.specs.Outcome.{out_of, of_fault}
-use Rattle.bgp_msg.specs.OutcomeView.{has_lists}
-use Rattle.bgp_msg.specs.Decoder.{Decoding, TakesMemory, FrontTakesMemory, given_by, holding, behind, decoder, IsPulled, IsFedAndNext}
-use Rattle.bgp_msg.specs.steps.Early.{IsAtFront}
-use Rattle.bgp_msg.specs.Look.{IsLook}
 use Rattle.bgp_frame.proofs.Hearings as hearings
 use Rattle.bgp_msg.proofs.Lists.{lists_have_kinds, lists_go_on}
 

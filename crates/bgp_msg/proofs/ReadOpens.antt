@@ -5,16 +5,12 @@ use Rattle.std.proofs.lemmas.Bool.{or_from, le-ltb}
 use Rattle.std.proofs.lemmas.Grind.{flat_map-append}
 use Rattle.std.proofs.lemmas.List.{length-append, length-drop}
 use Rattle.std.proofs.lemmas.List.Folds.{list_any-append}
-use Rattle.bgp_wire.specs.Octets.{AreOctets}
-use Rattle.bgp_wire.specs.Row.{Row}
+use Rattle.bgp_wire.specs.Prelude.{AreOctets, Row}
 use Rattle.bgp_numbers.specs.declared.capability.TheConstants.{MULTIPROTOCOL, FOUR_OCTET_AS}
 use Rattle.bgp_open.specs.declared.capability.Capability.{Capability}
 use Rattle.bgp_open.specs.declared.capability.Capability.TheVariants.{Other}
 use Rattle.bgp_open.specs.declared.message.Open.{Open}
-use Rattle.bgp_open.specs.Capability.{multi_of, as4_of, IsCapability}
-use Rattle.bgp_open.specs.Parameter.{IsParameter}
-use Rattle.bgp_open.specs.Open.{is_short_hold, is_zero_id, parameters_of, joined, IsOpen}
-use Rattle.bgp_open.specs.Written.{capability_octets, row_octets, parameter_octets, canonical, is_misnamed, is_bad_row, is_bad}
+use Rattle.bgp_open.specs.Prelude.{multi_of, as4_of, IsCapability, IsParameter, is_short_hold, is_zero_id, parameters_of, joined, IsOpen, capability_octets, row_octets, parameter_octets, canonical, is_misnamed, is_bad_row, is_bad}
 use Rattle.bgp_open.proofs.Readings.{short-hold, zero-id}
 
 -- ---- one capability

@@ -4,11 +4,11 @@ use Rattle.std.specs.Result.{is_ok}
 use Rattle.std.proofs.Math.Seq.{take-append_seam, drop-append_seam, drop-append-add}
 use Rattle.std.proofs.lemmas.List.{append_assoc, length-append}
 use Rattle.bgp_frame.specs.declared.kind.Kind.{Kind}
-use Rattle.bgp_frame.specs.Head.{header}
+use Rattle.bgp_frame.specs.Prelude.{header}
 use Rattle.bgp_update.specs.declared.invalid.Invalid.{Invalid}
 use Rattle.bgp_update.specs.declared.write.WriteFault.{WriteFault}
 use Rattle.bgp_update.specs.declared.write.WriteFault.TheVariants.{NotValid}
-use Rattle.bgp_msg.specs.steps.Room.{refusal_of}
+use Rattle.bgp_msg.specs.Prelude.{refusal_of}
 use Rattle.bgp_msg.proofs.Encodings.{not_ok, not_memory}
 
 module _ (old room body mid : List ℕ) where

@@ -1,35 +1,31 @@
 -- A message that was taken can be written, in no more octets.
 use Rattle.std.proofs.Common.{◌≡◌, ℕ, ◌+◌, ◌≤◌, Bool, cond, List, [], length, Option, Some, None, Result, Ok, Err, refl, sym, ap, subst, arith}
 use Rattle.std.proofs.lemmas.List.{length-drop}
-use Rattle.bgp_wire.specs.Octets.{AreOctets}
+use Rattle.bgp_wire.specs.Prelude.{AreOctets}
 use Rattle.bgp_wire.proofs.OctetLemmas.{AreOctets-back}
 use Rattle.bgp_frame.specs.declared.kind.Kind.{Kind}
+use Rattle.bgp_frame.specs.Prelude.{IsFrame, octets_of, header, IsLength}
 use Rattle.bgp_frame.specs.declared.kind.Kind.TheVariants as kind
 use Rattle.bgp_frame.specs.declared.notification.Notification.{Notification}
 use Rattle.bgp_frame.specs.Frame as frame
-use Rattle.bgp_frame.specs.Frame.{IsFrame, octets_of}
-use Rattle.bgp_frame.specs.Head.{header}
-use Rattle.bgp_frame.specs.Kind.{IsLength}
 use Rattle.bgp_frame.proofs.FrameLemmas.{length-octets_of, length-IsFrame}
 use Rattle.bgp_open.specs.declared.context.Context.{Context}
 use Rattle.bgp_open.specs.declared.fault.OpenFault.{OpenFault}
 use Rattle.bgp_open.specs.declared.message.Open.{Open}
-use Rattle.bgp_open.specs.OpenFault.{open_notification, reading_of}
+use Rattle.bgp_open.specs.Prelude.{open_notification, reading_of}
 use Rattle.bgp_open.proofs.Readings.{reading-spells}
 use Rattle.bgp_update.specs.declared.invalid.Invalid.{Invalid}
-use Rattle.bgp_update.specs.declared.invalid.Invalid.TheVariants as invalid
 use Rattle.bgp_update.specs.declared.note.Note.{Note}
 use Rattle.bgp_update.specs.declared.verdict.Verdict.{Verdict}
+use Rattle.bgp_update.specs.Prelude.{verdict_of}
+use Rattle.bgp_update.specs.declared.invalid.Invalid.TheVariants as invalid
 use Rattle.bgp_update.specs.declared.verdict.Verdict.TheVariants as verdict
-use Rattle.bgp_update.specs.Verdict.{verdict_of}
 use Rattle.bgp_update.proofs.Taken.{taken-written}
 use Rattle.bgp_msg.specs.declared.message.Message.{Message}
-use Rattle.bgp_msg.specs.declared.message.Message.TheVariants as message
 use Rattle.bgp_msg.specs.declared.outcome.Outcome.{Outcome}
+use Rattle.bgp_msg.specs.Prelude.{of_open_fault, of_reading, of_verdict, notification_in, of_body, out_of, written, invalid_of, body_of, CanBeWritten}
+use Rattle.bgp_msg.specs.declared.message.Message.TheVariants as message
 use Rattle.bgp_msg.specs.declared.outcome.Outcome.TheVariants as outcome
-use Rattle.bgp_msg.specs.Outcome.{of_open_fault, of_reading, of_verdict, notification_in, of_body, out_of}
-use Rattle.bgp_msg.specs.Written.{written, invalid_of, body_of}
-use Rattle.bgp_msg.specs.Laws.{CanBeWritten}
 use Rattle.bgp_msg.proofs.ReadOpens.{read-good, read-short}
 
 abbrev taken : Message → List Note → Outcome

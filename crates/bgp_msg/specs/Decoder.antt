@@ -1,11 +1,10 @@
 -- What a decoder holds, and what it gives.
 use Rattle.std.specs.Prelude.{◌≡◌, ◌≤◌, ◌⊎◌, ℕ, Bool, false, not, List, [], ◌∷◌, length, take, Option, option_map, Result, Ok, Err}
 use Rattle.bgp_frame.specs.declared.fault.HeadFault.{HeadFault}
+use Rattle.bgp_frame.specs.Prelude.{octets_of, IsFrame, Hearer}
 use Rattle.bgp_frame.specs.declared.kind.Kind.TheVariants as kind
 use Rattle.bgp_frame.specs.Frame as frame
-use Rattle.bgp_frame.specs.Frame.{octets_of, IsFrame}
 use Rattle.bgp_frame.specs.Hearing as hearing
-use Rattle.bgp_frame.specs.Hearing.{Hearer}
 use Rattle.bgp_open.specs.declared.context.Context.{Context}
 use Rattle.bgp_msg.specs.declared.outcome.Outcome.{Outcome}
 use Rattle.bgp_msg.specs.Outcome.{out_of, of_fault, is_reset}

@@ -1,9 +1,9 @@
 -- What the laws of messages say of one that was taken, and of one that was written.
 use Rattle.std.specs.Prelude.{◌≡◌, ◌≤◌, ℕ, List, [], length, None}
-use Rattle.bgp_frame.specs.Frame.{IsFrame}
+use Rattle.bgp_frame.specs.Prelude.{IsFrame}
 use Rattle.bgp_open.specs.declared.context.Context.{Context}
-use Rattle.bgp_open.specs.Written.{HasRanges}
-use Rattle.bgp_update.specs.Written.{HasUpdateRanges}
+use Rattle.bgp_open.specs.Prelude.{HasRanges}
+use Rattle.bgp_update.specs.Prelude.{HasUpdateRanges}
 use Rattle.bgp_msg.specs.declared.message.Message.{Message}
 use Rattle.bgp_msg.specs.declared.message.Message.TheVariants as message
 use Rattle.bgp_msg.specs.declared.outcome.Outcome.TheVariants.{Took}

@@ -6,4 +6,5 @@ pub mod Seen
 pub mod Decoder
 pub mod Look
 pub mod Laws
+pub mod Prelude
 pub mod steps

@@ -1,8 +1,8 @@
 -- What a borrowed outcome is.
 use Rattle.std.specs.Prelude.{Bool, true, false, []}
-use Rattle.bgp_frame.specs.Notification.{notification_of_view}
-use Rattle.bgp_open.specs.OpenView.{open_value}
-use Rattle.bgp_update.specs.View.{update_value, notes_value, routes_value}
+use Rattle.bgp_frame.specs.Prelude.{notification_of_view}
+use Rattle.bgp_open.specs.Prelude.{open_value}
+use Rattle.bgp_update.specs.Prelude.{update_value, notes_value, routes_value}
 use Rattle.bgp_msg.specs.declared.message.Message.TheVariants as message
 use Rattle.bgp_msg.specs.declared.outcome.Outcome.{Outcome}
 use Rattle.bgp_msg.specs.declared.outcome.Outcome.TheVariants as outcome

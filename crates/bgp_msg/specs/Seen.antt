@@ -1,6 +1,6 @@
 -- What a stream of octets comes to in a context, and how it ends.
 use Rattle.std.specs.Prelude.{ℕ, List}
-use Rattle.bgp_frame.specs.Stream.{Gives}
+use Rattle.bgp_frame.specs.Prelude.{Gives}
 use Rattle.bgp_open.specs.declared.context.Context.{Context}
 use Rattle.bgp_msg.specs.declared.seen.Seen.{Seen}
 use Rattle.bgp_msg.specs.Outcome.{stream_rules}

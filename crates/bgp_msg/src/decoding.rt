@@ -2,8 +2,8 @@
 
 ghost use Rattle.std.specs.Prelude.{◌≡◌, ◌<◌, ◌≤◌, [], false, length, drop, IfOk};
 ghost use Rattle.std.specs.List.{flat_map};
-ghost use Rattle.bgp_frame.specs.Frame.{Waits};
-ghost use Rattle.bgp_msg.specs.steps.Decoding.{IsTaken, Decodes, end_behind};
+ghost use Rattle.bgp_frame.specs.Prelude.{Waits};
+ghost use Rattle.bgp_msg.specs.Prelude.{IsTaken, Decodes, end_behind};
 ghost use Rattle.bgp_msg.specs.Seen.{IsSeen};
 
 use crate::decoder::Decoder;

@@ -1,14 +1,14 @@
 //! Writing a message.
 
 ghost use Rattle.std.specs.Prelude.{◌≡◌, ◌+◌, ◌≤◌, ◌++◌, ◌↔◌, [], Some, false, length, IsTrue, IsErrOf, OnOk, OnErr};
-ghost use Rattle.bgp_frame.specs.Frame.{IsFrame};
-ghost use Rattle.bgp_open.specs.Open.{IsOpen};
+ghost use Rattle.bgp_frame.specs.Prelude.{IsFrame};
+ghost use Rattle.bgp_open.specs.Prelude.{IsOpen};
 ghost use Rattle.bgp_open.specs.Written as opens;
 ghost use Rattle.bgp_update.specs.declared.invalid.Invalid.{Invalid};
-ghost use Rattle.bgp_update.specs.declared.write.WriteFault.TheVariants.{NotValid, TooLong};
+ghost use Rattle.bgp_update.specs.declared.write.WriteFault.TheVariants.{NotValid};
+ghost use Rattle.bgp_update.specs.declared.write.WriteFault.TheVariants.{TooLong};
 ghost use Rattle.bgp_msg.specs.declared.outcome.Outcome.TheVariants.{Took};
-ghost use Rattle.bgp_msg.specs.Outcome.{out_of};
-ghost use Rattle.bgp_msg.specs.Written.{notification_octets, written, canonical, invalid_open, invalid_of, is_valid, is_too_long};
+ghost use Rattle.bgp_msg.specs.Prelude.{out_of, notification_octets, written, canonical, invalid_open, invalid_of, is_valid, is_too_long};
 
 use crate::message::Message;
 use crate::whole::{Body, put_whole};

@@ -1,9 +1,8 @@
 //! The header of a message that is written: room for it comes first, then the body, then the header, which says how long both are.
 
 ghost use Rattle.std.specs.Prelude.{◌≡◌, ◌+◌, ◌≤◌, ◌++◌, length, take, drop};
-ghost use Rattle.bgp_frame.specs.Head.{header};
-ghost use Rattle.bgp_frame.specs.Kind.{IsLength};
-ghost use Rattle.bgp_msg.specs.steps.Room.{room_of, refusal_of};
+ghost use Rattle.bgp_frame.specs.Prelude.{header, IsLength};
+ghost use Rattle.bgp_msg.specs.Prelude.{room_of, refusal_of};
 
 use bgp_frame::{Kind, head};
 use bgp_update::WriteFault;

@@ -1,17 +1,14 @@
 //! Laws of messages and streams. Each is the contract of a function that does nothing.
 
 ghost use Rattle.std.specs.Prelude.{◌≡◌, ◌≤◌, List, ℕ, length, None};
-ghost use Rattle.bgp_wire.specs.Octets.{AreOctets};
+ghost use Rattle.bgp_wire.specs.Prelude.{AreOctets};
 ghost use Rattle.bgp_frame.specs.Frame as frame;
-ghost use Rattle.bgp_frame.specs.Frame.{IsFrame};
-ghost use Rattle.bgp_frame.specs.Stream.{HasOneReading};
+ghost use Rattle.bgp_frame.specs.Prelude.{IsFrame, HasOneReading};
 ghost use Rattle.bgp_open.specs.declared.context.Context.{Context};
 ghost use Rattle.bgp_update.specs.declared.note.Note.{Note};
 ghost use Rattle.bgp_msg.specs.declared.message.Message.{Message};
 ghost use Rattle.bgp_msg.specs.declared.outcome.Outcome.TheVariants.{Took};
-ghost use Rattle.bgp_msg.specs.Outcome.{out_of, stream_rules};
-ghost use Rattle.bgp_msg.specs.Written.{canonical, invalid_of};
-ghost use Rattle.bgp_msg.specs.Laws.{CanBeWritten, HasMessageRanges, IsTakenAsItself};
+ghost use Rattle.bgp_msg.specs.Prelude.{out_of, stream_rules, canonical, invalid_of, CanBeWritten, HasMessageRanges, IsTakenAsItself};
 
 /// Each stream of octets has exactly one list of outcomes and one end, in each context.
 pub fn streams_have_one_reading()

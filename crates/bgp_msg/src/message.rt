@@ -1,7 +1,7 @@
 //! Messages.
 
 ghost use Rattle.std.specs.Prelude.{◌≡◌, IfOk};
-ghost use Rattle.bgp_msg.specs.Written.{kind_of};
+ghost use Rattle.bgp_msg.specs.Prelude.{kind_of};
 
 use bgp_frame::{Kind, Notification};
 use bgp_open::Open;

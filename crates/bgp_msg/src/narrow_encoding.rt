@@ -2,12 +2,9 @@
 
 ghost use Rattle.std.specs.Prelude.{◌≡◌, ◌+◌, ◌≤◌, ◌++◌, ◌∷◌, false, true, length, IsTrue, IsErrOf, OnOk, OnErr};
 ghost use Rattle.bgp_update.specs.declared.view_narrowing.NarrowFault.TheVariants.{TooLong};
-ghost use Rattle.bgp_update.specs.As4.{narrowed_update};
-ghost use Rattle.bgp_update.specs.Told.{CanBeTold};
-ghost use Rattle.bgp_update.specs.View.{update_value};
-ghost use Rattle.bgp_update.specs.Widths.{with_as4};
+ghost use Rattle.bgp_update.specs.Prelude.{narrowed_update, CanBeTold, update_value, with_as4};
 ghost use Rattle.bgp_msg.specs.declared.message.Message.TheVariants as message;
-ghost use Rattle.bgp_msg.specs.Written.{canonical, is_valid, is_too_long};
+ghost use Rattle.bgp_msg.specs.Prelude.{canonical, is_valid, is_too_long};
 
 use crate::header::{put_header, put_room};
 use bgp_frame::Kind;

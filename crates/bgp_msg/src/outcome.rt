@@ -1,7 +1,7 @@
 //! The outcome of a message.
 
 ghost use Rattle.std.specs.Prelude.{◌≡◌, IfOk};
-ghost use Rattle.bgp_msg.specs.Outcome.{is_reset};
+ghost use Rattle.bgp_msg.specs.Prelude.{is_reset};
 
 use crate::message::Message;
 use bgp_frame::Notification;

@@ -1,7 +1,7 @@
 //! The outcome of a message, from borrowed octets.
 
 ghost use Rattle.std.specs.Prelude.{◌≡◌, [], true, IfOk, OnErr};
-ghost use Rattle.bgp_update.specs.View.{update_value, notes_value, routes_value};
+ghost use Rattle.bgp_update.specs.Prelude.{update_value, notes_value, routes_value};
 ghost use Rattle.bgp_msg.specs.declared.message.Message.TheVariants as message;
 ghost use Rattle.bgp_msg.specs.declared.outcome.Outcome.TheVariants as outcome;
 

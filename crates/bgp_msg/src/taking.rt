@@ -1,13 +1,10 @@
 //! The outcome of a whole message.
 
 ghost use Rattle.std.specs.Prelude.{◌≡◌, ◌+◌, ◌≤◌, ◌⊎◌, false, length, IfOk, OnErr};
-ghost use Rattle.bgp_frame.specs.Kind.{IsLength};
-ghost use Rattle.bgp_frame.specs.Notification.{notification_of_view};
-ghost use Rattle.bgp_frame.specs.Step.{message_in};
-ghost use Rattle.bgp_open.specs.OpenFault.{open_notification, reading_of};
-ghost use Rattle.bgp_update.specs.Verdict.{verdict_of};
-ghost use Rattle.bgp_msg.specs.Outcome.{of_open_fault, of_reading, of_verdict, notification_in, out_of, is_reset};
-ghost use Rattle.bgp_msg.specs.OutcomeView.{outcome_value};
+ghost use Rattle.bgp_frame.specs.Prelude.{IsLength, notification_of_view, message_in};
+ghost use Rattle.bgp_open.specs.Prelude.{open_notification, reading_of};
+ghost use Rattle.bgp_update.specs.Prelude.{verdict_of};
+ghost use Rattle.bgp_msg.specs.Prelude.{of_open_fault, of_reading, of_verdict, notification_in, out_of, is_reset, outcome_value};
 
 use crate::outcome::Outcome;
 use crate::outcome_view::OutcomeView;

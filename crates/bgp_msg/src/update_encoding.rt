@@ -2,10 +2,11 @@
 
 ghost use Rattle.std.specs.Prelude.{◌≡◌, ◌++◌, ◌↔◌, Some, IsTrue, IsErrOf, OnOk, OnErr};
 ghost use Rattle.bgp_update.specs.declared.invalid.Invalid.{Invalid};
-ghost use Rattle.bgp_update.specs.declared.write.WriteFault.TheVariants.{NotValid, TooLong};
-ghost use Rattle.bgp_update.specs.Written.{HasUpdateRanges};
+ghost use Rattle.bgp_update.specs.declared.write.WriteFault.TheVariants.{NotValid};
+ghost use Rattle.bgp_update.specs.Prelude.{HasUpdateRanges};
+ghost use Rattle.bgp_update.specs.declared.write.WriteFault.TheVariants.{TooLong};
 ghost use Rattle.bgp_msg.specs.declared.message.Message.TheVariants as message;
-ghost use Rattle.bgp_msg.specs.Written.{canonical, invalid_of, is_valid, is_too_long};
+ghost use Rattle.bgp_msg.specs.Prelude.{canonical, invalid_of, is_valid, is_too_long};
 
 use crate::whole::{Body, put_whole};
 use bgp_frame::Kind;

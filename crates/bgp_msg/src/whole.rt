@@ -1,10 +1,10 @@
 //! A whole message that is written: room for a header comes first, then the body, then the header.
 
 ghost use Rattle.std.specs.Prelude.{◌≡◌, ◌+◌, ◌++◌, ◌↔◌, Some, length, IsTrue, IsErrOf, OnOk, OnErr};
-ghost use Rattle.bgp_frame.specs.Frame.{IsFrame};
-ghost use Rattle.bgp_frame.specs.Kind.{IsLength};
+ghost use Rattle.bgp_frame.specs.Prelude.{IsFrame, IsLength};
 ghost use Rattle.bgp_update.specs.declared.invalid.Invalid.{Invalid};
-ghost use Rattle.bgp_update.specs.declared.write.WriteFault.TheVariants.{NotValid, TooLong};
+ghost use Rattle.bgp_update.specs.declared.write.WriteFault.TheVariants.{NotValid};
+ghost use Rattle.bgp_update.specs.declared.write.WriteFault.TheVariants.{TooLong};
 ghost use Rattle.bgp_msg.specs.Written.{kind_of, body_of, written, canonical, invalid_of, is_valid, is_too_long};
 
 use crate::header::{give_up, put_header, put_room};

@@ -10,13 +10,9 @@ use Rattle.bgp_numbers.specs.declared.TheConstants.{AS_TRANS}
 use Rattle.bgp_numbers.specs.declared.afi.TheConstants.{IPV4, IPV6}
 use Rattle.bgp_numbers.specs.declared.safi.TheConstants.{UNICAST}
 use Rattle.bgp_open.specs.declared.capability.Capability.TheVariants.{Multi, As4}
-use Rattle.bgp_open.specs.declared.agreement.PeerFault.TheVariants as peer
 use Rattle.bgp_open.specs.declared.context.Context.{Context}
-use Rattle.bgp_open.specs.Open.{is_wide}
-use Rattle.bgp_open.specs.Config.{Settings, IsAllowed}
-use Rattle.bgp_open.specs.Own.{field_for, offered, own_of}
-use Rattle.bgp_open.specs.Agreement.{peer_as_of, same_id, context_of, agreement}
-use Rattle.bgp_open.specs.Peer.{first_as4, is_unicast}
+use Rattle.bgp_open.specs.Prelude.{is_wide, Settings, IsAllowed, field_for, offered, own_of, peer_as_of, same_id, context_of, agreement, first_as4, is_unicast}
+use Rattle.bgp_open.specs.declared.agreement.PeerFault.TheVariants as peer
 use Rattle.bgp_open.proofs.Configs.{allowed-wide}
 
 -- ---- both sides

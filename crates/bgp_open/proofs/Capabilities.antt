@@ -1,12 +1,10 @@
 -- A capability is read by its reader.
 use Rattle.std.proofs.Common.{◌≡◌, ℕ, ◌<◌, List, [], ◌∷◌, ◌++◌, length, Option, Some, refl, sym, ap, ◌∙◌, arith}
-use Rattle.bgp_wire.specs.Then.{◌>>=◌}
-use Rattle.bgp_wire.specs.Reader.{Reads}
-use Rattle.bgp_wire.specs.Behind.{first_octets}
+use Rattle.bgp_wire.specs.Prelude.{◌>>=◌, Reads, first_octets}
 use Rattle.bgp_wire.proofs.Firsts.{both_steps, first_octets-finds, first_octets-gives}
 use Rattle.bgp_wire.proofs.Pieces.{found_same, found_not}
 use Rattle.bgp_open.specs.declared.capability.Capability.{Capability}
-use Rattle.bgp_open.specs.Capability.{capability_of, IsCapability, one_capability}
+use Rattle.bgp_open.specs.Prelude.{capability_of, IsCapability, one_capability}
 
 finds : (c : Capability) (front back : List ℕ) → IsCapability c front → one_capability (front ++ back) ≡ Some (c, back)
 unfolding one_capability

@@ -3,12 +3,10 @@ use Rattle.std.proofs.Common.{◌≡◌, ℕ, ◌<◌, List, [], ◌∷◌, ◌+
 use Rattle.std.specs.List.{flat_map}
 use Rattle.std.proofs.lemmas.List.{append-nil}
 use Rattle.std.proofs.lemmas.List.Concat.{flat_map-cons}
-use Rattle.bgp_wire.specs.Reader.{pieces}
+use Rattle.bgp_wire.specs.Prelude.{pieces}
 use Rattle.bgp_wire.proofs.Walks.{shorter, first_then, no_more}
 use Rattle.bgp_open.specs.declared.capability.Capability.{Capability}
-use Rattle.bgp_open.specs.Capability.{IsCapability, one_capability}
-use Rattle.bgp_open.specs.CapabilityIter.{capabilities_of}
-use Rattle.bgp_open.specs.Parameter.{IsParameter, one_parameter}
+use Rattle.bgp_open.specs.Prelude.{IsCapability, one_capability, capabilities_of, IsParameter, one_parameter}
 use Rattle.bgp_open.proofs.Capabilities.{capability-reads}
 use Rattle.bgp_open.proofs.Parameters.{parameter-reads}
 

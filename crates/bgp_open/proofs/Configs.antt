@@ -1,8 +1,7 @@
 -- What an allowed configuration is.
 use Rattle.std.proofs.Common.{◌≡◌, Bool, true, false, not, ◌&&◌, cond, eqb, Some, None, refl}
 use Rattle.bgp_open.specs.declared.config.BadConfig.TheVariants.{LocalAs, PeerAs, Identifier, Hold, AsWidth}
-use Rattle.bgp_open.specs.Open.{is_short_hold, is_wide, is_zero_id}
-use Rattle.bgp_open.specs.Config.{Settings, IsAllowed}
+use Rattle.bgp_open.specs.Prelude.{is_short_hold, is_wide, is_zero_id, Settings, IsAllowed}
 
 record NoneApplies (a b c d e : Bool) : Type 0 where
   local_as : a ≡ false

@@ -2,19 +2,14 @@
 use Rattle.std.proofs.Common.{◌≡◌, List, ap, ◌∙◌, ℕ, ◌<◌, ◌^◌, Bool, true, false, cond, ◌++◌, length, refl, arith}
 use Rattle.std.specs.List.{list_any, AllByRecursion}
 use Rattle.std.proofs.lemmas.Bool.{ltb-false}
-use Rattle.bgp_wire.specs.Row.{Row}
-use Rattle.bgp_wire.specs.Reader.{pieces}
+use Rattle.bgp_wire.specs.Prelude.{Row, pieces}
 use Rattle.bgp_wire.proofs.Behinds.{pieces-whole}
 use Rattle.bgp_numbers.specs.declared.TheConstants.{AS_TRANS}
 use Rattle.bgp_numbers.specs.declared.afi.TheConstants.{IPV4, IPV6}
 use Rattle.bgp_numbers.specs.declared.safi.TheConstants.{UNICAST}
 use Rattle.bgp_open.specs.declared.capability.Capability.{Capability}
 use Rattle.bgp_open.specs.declared.capability.Capability.TheVariants.{Multi, As4}
-use Rattle.bgp_open.specs.Capability.{IsCapability, one_capability}
-use Rattle.bgp_open.specs.Open.{is_wide, IsOpen}
-use Rattle.bgp_open.specs.Config.{Settings, IsAllowed}
-use Rattle.bgp_open.specs.Own.{offered, own_caps, own_of}
-use Rattle.bgp_open.specs.Written.{row_octets, canonical, is_misnamed, HasRange}
+use Rattle.bgp_open.specs.Prelude.{IsCapability, one_capability, is_wide, IsOpen, Settings, IsAllowed, offered, own_caps, own_of, row_octets, canonical, is_misnamed, HasRange}
 use Rattle.bgp_open.proofs.Capabilities.{capability-reads}
 use Rattle.bgp_open.proofs.Configs.{allowed-id, allowed-hold}
 use Rattle.bgp_open.proofs.Spellings.{canonical-spells, ranges-spell}

@@ -1,16 +1,13 @@
 -- A parameter is read by its reader.
 use Rattle.std.proofs.Common.{◌≡◌, ℕ, ◌<◌, Bool, true, false, cond, eqb, leb, take, drop, List, [], ◌∷◌, ◌++◌, length, Option, Some, None, refl, ap, ◌∙◌, arith}
 use Rattle.std.proofs.lemmas.Bool.{eqb-true}
-use Rattle.bgp_wire.specs.Reader.{pieces}
-use Rattle.bgp_wire.specs.Reader.{Reads}
-use Rattle.bgp_wire.specs.Behind.{BehindLength, behind_length}
+use Rattle.bgp_wire.specs.Prelude.{pieces, Reads, BehindLength, behind_length}
 use Rattle.bgp_wire.proofs.Firsts.{cond-then}
 use Rattle.bgp_wire.proofs.Pieces.{found_not}
 use Rattle.bgp_wire.proofs.Behinds.{BehindLength-reads}
 use Rattle.bgp_numbers.specs.declared.parameter.TheConstants.{CAPABILITIES}
 use Rattle.bgp_open.specs.declared.capability.Capability.{Capability}
-use Rattle.bgp_open.specs.Capability.{IsCapability, one_capability}
-use Rattle.bgp_open.specs.Parameter.{IsParameter, one_parameter}
+use Rattle.bgp_open.specs.Prelude.{IsCapability, one_capability, IsParameter, one_parameter}
 use Rattle.bgp_open.proofs.Capabilities.{capability-reads}
 
 value_reads : Reads (BehindLength IsCapability) (behind_length one_capability)

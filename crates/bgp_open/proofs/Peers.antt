@@ -6,8 +6,7 @@ use Rattle.bgp_numbers.specs.declared.afi.TheConstants.{IPV4, IPV6}
 use Rattle.bgp_open.specs.declared.capability.Capability.{Capability}
 use Rattle.bgp_open.specs.declared.capability.Capability.TheVariants.{Multi, As4, Other}
 use Rattle.bgp_open.specs.declared.message.Open.{Open}
-use Rattle.bgp_open.specs.Capability.{code_of}
-use Rattle.bgp_open.specs.Peer.{Told, first_as4, is_unicast, codes_of, told_by, plain, also_offers, offering}
+use Rattle.bgp_open.specs.Prelude.{code_of, Told, first_as4, is_unicast, codes_of, told_by, plain, also_offers, offering}
 
 or_none : (p : Bool) → (p || false) ≡ p
 or_none true = refl

@@ -2,18 +2,16 @@
 use Rattle.std.proofs.Common.{◌≡◌, ◌≢◌, ℕ, ◌≤◌, Bool, true, false, not, ◌&&◌, cond, eqb, ltb, List, [], ◌∷◌, length, Option, Some, None, Result, Ok, Err, refl, sym, ap, subst, ◌∙◌}
 use Rattle.std.specs.Prelude.{IfOk}
 use Rattle.std.proofs.lemmas.Bool.{eqb-true, eq-eqb, ne_eqb, true≢false}
-use Rattle.bgp_wire.specs.Then.{when}
-use Rattle.bgp_wire.specs.Reader.{pieces}
+use Rattle.bgp_wire.specs.Prelude.{when, pieces}
 use Rattle.bgp_wire.proofs.Behinds.{pieces-whole, Row-pieces}
 use Rattle.bgp_numbers.specs.declared.TheConstants.{VERSION}
 use Rattle.bgp_numbers.specs.declared.parameter.TheConstants.{CAPABILITIES}
 use Rattle.bgp_open.specs.declared.capability.Capability.{Capability}
 use Rattle.bgp_open.specs.declared.message.Open.{Open}
 use Rattle.bgp_open.specs.declared.fault.OpenFault.{OpenFault}
-use Rattle.bgp_open.specs.declared.fault.OpenFault.TheVariants.{Version, Parameter, UnknownParameter, Hold, Identifier, Memory}
-use Rattle.bgp_open.specs.Parameter.{IsParameter, one_parameter}
-use Rattle.bgp_open.specs.Open.{version_of, as_field_of, hold_of, id_of, length_of, parameters_of, IsHold, zero_id, is_short_hold, is_zero_id, joined, IsOpen}
-use Rattle.bgp_open.specs.OpenFault.{first_fault, rest_fault, open_fault, open_of, or_fault, reading_of, FailsAs, IsReadAs, HasValueOrFault}
+use Rattle.bgp_open.specs.declared.fault.OpenFault.TheVariants.{Version, Parameter, UnknownParameter, Memory}
+use Rattle.bgp_open.specs.Prelude.{IsParameter, one_parameter, version_of, as_field_of, hold_of, id_of, length_of, parameters_of, IsHold, zero_id, is_short_hold, is_zero_id, joined, IsOpen, first_fault, rest_fault, open_fault, open_of, or_fault, reading_of, FailsAs, IsReadAs, HasValueOrFault}
+use Rattle.bgp_open.specs.declared.fault.OpenFault.TheVariants.{Hold, Identifier}
 use Rattle.bgp_open.proofs.Parameters.{parameter-reads}
 
 -- ---- the tests one by one

@@ -5,17 +5,14 @@ use Rattle.std.specs.List.{list_any, AllByRecursion}
 use Rattle.std.specs.Int.{w16, w32, to_be_bytes}
 use Rattle.std.proofs.lemmas.Bool.{true≢false}
 use Rattle.std.proofs.lemmas.Nat.{from_be_bytes-to_be_bytes_2, from_be_bytes-to_be_bytes_4}
-use Rattle.bgp_wire.specs.Row.{Row}
+use Rattle.bgp_wire.specs.Prelude.{Row}
 use Rattle.bgp_wire.proofs.Rows.{Row-one}
 use Rattle.bgp_numbers.specs.declared.parameter.TheConstants.{CAPABILITIES}
 use Rattle.bgp_numbers.specs.declared.capability.TheConstants.{MULTIPROTOCOL, FOUR_OCTET_AS}
 use Rattle.bgp_open.specs.declared.capability.Capability.{Capability}
 use Rattle.bgp_open.specs.declared.capability.Capability.TheVariants.{Multi, As4, Other}
 use Rattle.bgp_open.specs.declared.message.Open.{Open}
-use Rattle.bgp_open.specs.Capability.{IsCapability}
-use Rattle.bgp_open.specs.Parameter.{IsParameter}
-use Rattle.bgp_open.specs.Open.{IsHold, zero_id, is_short_hold, is_zero_id, joined, IsOpen}
-use Rattle.bgp_open.specs.Written.{capability_octets, row_octets, parameter_octets, body_octets, canonical, is_misnamed, is_bad_row, is_bad, HasRange, HasRanges}
+use Rattle.bgp_open.specs.Prelude.{IsCapability, IsParameter, IsHold, zero_id, is_short_hold, is_zero_id, joined, IsOpen, capability_octets, row_octets, parameter_octets, body_octets, canonical, is_misnamed, is_bad_row, is_bad, HasRange, HasRanges}
 use Rattle.bgp_open.proofs.Capabilities.{capability-reads}
 use Rattle.bgp_open.proofs.Readings.{hold-short, id-zero}
 

@@ -4,11 +4,10 @@ use Rattle.std.specs.List.{list_any}
 use Rattle.std.proofs.lemmas.Bool.{lt-ltb, le-ltb}
 use Rattle.std.proofs.lemmas.List.{length-append, take_more, take_all, flat_map_more}
 use Rattle.std.proofs.lemmas.List.Folds.{length-flat_map-take, list_any_at, list_any_more}
-use Rattle.bgp_wire.specs.Row.{Row}
+use Rattle.bgp_wire.specs.Prelude.{Row}
 use Rattle.bgp_wire.proofs.Rows.{Row-push}
 use Rattle.bgp_open.specs.declared.capability.Capability.{Capability}
-use Rattle.bgp_open.specs.Capability.{IsCapability}
-use Rattle.bgp_open.specs.Written.{capability_octets, row_octets, is_misnamed, is_bad_row}
+use Rattle.bgp_open.specs.Prelude.{IsCapability, capability_octets, row_octets, is_misnamed, is_bad_row}
 
 -- b is the written row of the capabilities, and can stand in a parameter
 pub record IsRowOf (caps : List Capability) (b : List ℕ) : Type 0 where

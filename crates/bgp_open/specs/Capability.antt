@@ -1,8 +1,7 @@
 -- Capabilities as octets (RFC 5492, section 4): a code, the length of the value, the value.
 use Rattle.std.specs.Prelude.{◌≡◌, ℕ, ◌==◌, List, [], ◌∷◌, length, Option, None, Some, if◌then◌else◌}
 use Rattle.std.specs.Int.{w16, w32, from_be_bytes}
-use Rattle.bgp_wire.specs.Then.{◌>>=◌}
-use Rattle.bgp_wire.specs.Behind.{first_octets}
+use Rattle.bgp_wire.specs.Prelude.{◌>>=◌, first_octets}
 use Rattle.bgp_numbers.specs.declared.capability.TheConstants.{MULTIPROTOCOL, FOUR_OCTET_AS}
 use Rattle.bgp_open.specs.declared.capability.Capability.{Capability}
 use Rattle.bgp_open.specs.declared.capability.Capability.TheVariants.{Multi, As4, Other}

@@ -1,6 +1,6 @@
 -- The capabilities that an iterator has left.
 use Rattle.std.specs.Prelude.{ℕ, List, ◌++◌}
-use Rattle.bgp_wire.specs.Reader.{pieces}
+use Rattle.bgp_wire.specs.Prelude.{pieces}
 use Rattle.bgp_open.specs.declared.capability.Capability.{Capability}
 use Rattle.bgp_open.specs.declared.capability_iter.CapabilityIter.{CapabilityIter}
 use Rattle.bgp_open.specs.Capability.{one_capability}

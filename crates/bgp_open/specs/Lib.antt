@@ -12,3 +12,4 @@ pub mod Peer
 pub mod Agreement
 pub mod Agreed
 pub mod Written
+pub mod Prelude

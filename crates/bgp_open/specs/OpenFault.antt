@@ -1,7 +1,6 @@
 -- What is wrong with the body of an OPEN, and the answer (RFC 4271, sections 6.2 and 4.5). The order of the tests is this project's own.
 use Rattle.std.specs.Prelude.{◌≡◌, ◌==◌, ◌≢◌, ℕ, not, nat_lt, List, [], ◌∷◌, length, Option, None, Some, Result, Ok, Err, IsOk, if◌then◌else◌}
-use Rattle.bgp_wire.specs.Then.{when}
-use Rattle.bgp_wire.specs.Reader.{pieces}
+use Rattle.bgp_wire.specs.Prelude.{when, pieces}
 use Rattle.bgp_numbers.specs.declared.TheConstants.{VERSION}
 use Rattle.bgp_numbers.specs.declared.parameter.TheConstants.{CAPABILITIES}
 use Rattle.bgp_numbers.specs.declared.error.TheConstants.{OPEN_MESSAGE, UNSPECIFIC, UNSUPPORTED_VERSION, BAD_IDENTIFIER, UNSUPPORTED_PARAMETER, UNACCEPTABLE_HOLD_TIME}

@@ -1,7 +1,7 @@
 -- Optional parameters of an OPEN (RFC 4271, section 4.2): a type, the length of the value, the value.
 -- A parameter of type 2 holds capabilities, none, one or many (RFC 5492, section 4).
 use Rattle.std.specs.Prelude.{◌≡◌, ℕ, ◌==◌, List, [], ◌∷◌, Option, None, if◌then◌else◌}
-use Rattle.bgp_wire.specs.Behind.{BehindLength, behind_length}
+use Rattle.bgp_wire.specs.Prelude.{BehindLength, behind_length}
 use Rattle.bgp_numbers.specs.declared.parameter.TheConstants.{CAPABILITIES}
 use Rattle.bgp_open.specs.declared.capability.Capability.{Capability}
 use Rattle.bgp_open.specs.Capability.{IsCapability, one_capability}

@@ -2,7 +2,7 @@
 use Rattle.std.specs.Prelude.{ℕ, Bool, false, ◌&&◌, ◌||◌, ◌==◌, List, [], ◌∷◌, Option, None, Some, unwrap_or}
 use Rattle.std.specs.List.{filter, list_any, range_with_len}
 use Rattle.std.specs.Option.{option_or}
-use Rattle.bgp_wire.specs.OctetSet.{also, has_octet, none_of_them}
+use Rattle.bgp_wire.specs.Prelude.{also, has_octet, none_of_them}
 use Rattle.bgp_numbers.specs.declared.afi.TheConstants.{IPV4, IPV6}
 use Rattle.bgp_numbers.specs.declared.safi.TheConstants.{UNICAST}
 use Rattle.bgp_open.specs.declared.capability.Capability.{Capability}

@@ -2,7 +2,7 @@
 use Rattle.std.specs.Prelude.{◌≡◌, ◌<◌, ◌^◌, ◌||◌, ◌==◌, ℕ, Bool, false, nat_lt, List, [], ◌∷◌, ◌++◌, length}
 use Rattle.std.specs.List.{flat_map, list_any, AllByRecursion}
 use Rattle.std.specs.Int.{w16, w32, to_be_bytes}
-use Rattle.bgp_wire.specs.Octets.{AreOctets}
+use Rattle.bgp_wire.specs.Prelude.{AreOctets}
 use Rattle.bgp_numbers.specs.declared.TheConstants.{VERSION}
 use Rattle.bgp_numbers.specs.declared.parameter.TheConstants.{CAPABILITIES}
 use Rattle.bgp_numbers.specs.declared.capability.TheConstants.{MULTIPROTOCOL, FOUR_OCTET_AS}

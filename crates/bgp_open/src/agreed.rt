@@ -1,8 +1,7 @@
 //! What two speakers agree on, by what both said of themselves.
 
 ghost use Rattle.std.specs.Prelude.{◌≡◌};
-ghost use Rattle.bgp_open.specs.Agreed.{agreed_with};
-ghost use Rattle.bgp_open.specs.Peer.{said_of};
+ghost use Rattle.bgp_open.specs.Prelude.{agreed_with, said_of};
 
 use crate::context::Context;
 use crate::peer::Peer;

@@ -1,8 +1,7 @@
 //! What two speakers agree on.
 
 ghost use Rattle.std.specs.Prelude.{◌≡◌};
-ghost use Rattle.bgp_open.specs.Agreement.{agreement, agreement_with};
-ghost use Rattle.bgp_open.specs.Peer.{said_of};
+ghost use Rattle.bgp_open.specs.Prelude.{agreement, agreement_with, said_of};
 
 use crate::config::Config;
 use crate::context::Context;

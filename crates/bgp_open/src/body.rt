@@ -1,7 +1,7 @@
 //! The octets of an OPEN's body.
 
 ghost use Rattle.std.specs.Prelude.{◌≡◌, ◌≤◌, length};
-ghost use Rattle.bgp_open.specs.Written.{body_octets};
+ghost use Rattle.bgp_open.specs.Prelude.{body_octets};
 
 use arrayvec::ArrayVec;
 use bgp_numbers::{VERSION, parameter};

@@ -1,7 +1,7 @@
 //! Capabilities.
 
 ghost use Rattle.std.specs.Prelude.{◌≡◌, IfOk};
-ghost use Rattle.bgp_open.specs.CapabilityView.{capability_value};
+ghost use Rattle.bgp_open.specs.Prelude.{capability_value};
 
 use crate::capability_view::CapabilityView;
 use bgp_wire::{List, TryCopy};

@@ -1,7 +1,7 @@
 //! The capabilities of an OPEN, one after another.
 
 ghost use Rattle.std.specs.Prelude.{MatchOption, IfOk, ◌≡◌, [], ◌∷◌};
-ghost use Rattle.bgp_wire.specs.Reader.{pieces};
+ghost use Rattle.bgp_wire.specs.Prelude.{pieces};
 ghost use Rattle.bgp_open.specs.Capability.{one_capability};
 ghost use Rattle.bgp_open.specs.CapabilityIter.{capabilities_of, capabilities_left};
 ghost use Rattle.bgp_open.specs.CapabilityView.{capability_value};

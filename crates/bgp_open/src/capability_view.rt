@@ -1,8 +1,7 @@
 //! Capabilities that still lie in the octets that were read.
 
 ghost use Rattle.std.specs.Prelude.{◌≡◌, option_map, IfOk};
-ghost use Rattle.bgp_open.specs.Capability.{capability_of, code_of, one_capability};
-ghost use Rattle.bgp_open.specs.CapabilityView.{capability_value};
+ghost use Rattle.bgp_open.specs.Prelude.{capability_of, code_of, one_capability, capability_value};
 
 use crate::capability::Capability;
 use bgp_numbers::capability;

@@ -2,7 +2,7 @@
 
 ghost use Rattle.std.specs.Prelude.{◌≡◌, ◌≤◌, length, option_map};
 ghost use Rattle.bgp_open.specs.declared.fault.OpenFault.TheVariants.{Memory};
-ghost use Rattle.bgp_frame.specs.Notification.{notification_of_view};
+ghost use Rattle.bgp_frame.specs.Prelude.{notification_of_view};
 ghost use Rattle.bgp_open.specs.OpenFault.{open_error, open_notification};
 
 use bgp_frame::{Notification, NotificationView};

@@ -1,7 +1,7 @@
 //! Tests of what stands in the fields of an OPEN.
 
 ghost use Rattle.std.specs.Prelude.{◌≡◌};
-ghost use Rattle.bgp_open.specs.Open.{is_short_hold, is_wide, is_zero_id};
+ghost use Rattle.bgp_open.specs.Prelude.{is_short_hold, is_wide, is_zero_id};
 
 /// Whether a Hold Time is 1 or 2 seconds (RFC 4271, section 4.2).
 pub(crate) fn is_short_hold(hold: u16) -> bool

@@ -1,18 +1,11 @@
 //! Laws over the definitions alone: these functions do nothing, and their contracts are what is proved.
 
 ghost use Rattle.std.specs.Prelude.{◌≡◌, ℕ, ◌≤◌, false, List, length, Ok};
-ghost use Rattle.bgp_wire.specs.Row.{IsPrefixFree, Splits};
-ghost use Rattle.bgp_wire.specs.Reader.{Reads, pieces};
+ghost use Rattle.bgp_wire.specs.Prelude.{IsPrefixFree, Splits, Reads, pieces};
 ghost use Rattle.bgp_open.specs.declared.capability.Capability.{Capability};
 ghost use Rattle.bgp_open.specs.declared.message.Open.{Open};
-ghost use Rattle.bgp_open.specs.Written.{canonical, is_bad, HasRanges};
+ghost use Rattle.bgp_open.specs.Prelude.{canonical, is_bad, HasRanges, Settings, IsAllowed, own_of, agreement, IsCapability, one_capability, IsParameter, one_parameter, open_fault, reading_of, HasValueOrFault};
 ghost use Rattle.bgp_open.specs.declared.context.Context.{Context};
-ghost use Rattle.bgp_open.specs.Config.{Settings, IsAllowed};
-ghost use Rattle.bgp_open.specs.Own.{own_of};
-ghost use Rattle.bgp_open.specs.Agreement.{agreement};
-ghost use Rattle.bgp_open.specs.Capability.{IsCapability, one_capability};
-ghost use Rattle.bgp_open.specs.Parameter.{IsParameter, one_parameter};
-ghost use Rattle.bgp_open.specs.OpenFault.{open_fault, reading_of, HasValueOrFault};
 
 /// No capability begins another one, and the octets of each have one meaning (RFC 5492, section 4).
 pub fn capabilities_are_prefix_free()

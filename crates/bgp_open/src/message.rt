@@ -1,7 +1,7 @@
 //! The OPEN.
 
 ghost use Rattle.std.specs.Prelude.{◌≡◌, IfOk};
-ghost use Rattle.bgp_open.specs.Peer.{said_by, said_of};
+ghost use Rattle.bgp_open.specs.Prelude.{said_by, said_of};
 
 use crate::capability::Capability;
 use crate::peer::Peer;

@@ -1,11 +1,9 @@
 //! What a speaker says of itself.
 
 ghost use Rattle.std.specs.Prelude.{◌≡◌, IfOk};
-ghost use Rattle.bgp_frame.specs.Frame.{IsFrame};
+ghost use Rattle.bgp_frame.specs.Prelude.{IsFrame};
 ghost use Rattle.bgp_frame.specs.declared.kind.Kind.TheVariants as kind;
-ghost use Rattle.bgp_open.specs.Open.{IsOpen};
-ghost use Rattle.bgp_open.specs.Own.{field_for, own_caps, own_of};
-ghost use Rattle.bgp_open.specs.Written.{row_octets, canonical};
+ghost use Rattle.bgp_open.specs.Prelude.{IsOpen, field_for, own_caps, own_of, row_octets, canonical};
 
 use crate::body::open_body;
 use crate::capability::Capability;

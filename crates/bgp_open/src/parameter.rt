@@ -1,10 +1,8 @@
 //! Optional parameters as they lie in the octets that were read.
 
 ghost use Rattle.std.specs.Prelude.{◌≡◌, ◌==◌, length, option_map};
-ghost use Rattle.bgp_wire.specs.Reader.{pieces};
-ghost use Rattle.bgp_open.specs.Capability.{one_capability};
-ghost use Rattle.bgp_open.specs.Parameter.{one_parameter};
-ghost use Rattle.bgp_open.specs.OpenFault.{rest_fault};
+ghost use Rattle.bgp_wire.specs.Prelude.{pieces};
+ghost use Rattle.bgp_open.specs.Prelude.{one_capability, one_parameter, rest_fault};
 
 use crate::capability_view::first_capability;
 use crate::fault::OpenFault;

@@ -1,8 +1,7 @@
 //! What is kept of a peer's OPEN.
 
 ghost use Rattle.std.specs.Prelude.{◌≡◌};
-ghost use Rattle.bgp_open.specs.Peer.{is_unicast};
-ghost use Rattle.bgp_open.specs.CapabilityView.{capability_value};
+ghost use Rattle.bgp_open.specs.Prelude.{is_unicast, capability_value};
 
 use crate::capability_view::CapabilityView;
 use bgp_numbers::{afi, safi};

@@ -3,9 +3,7 @@
 ghost use Rattle.std.specs.Prelude.{◌≡◌, ◌≢◌, ◌≤◌, length, IfOk, IfErr, Ok};
 ghost use Rattle.bgp_open.specs.declared.fault.OpenFault.TheVariants.{Memory};
 ghost use Rattle.bgp_open.specs.declared.message.Open.{Open};
-ghost use Rattle.bgp_open.specs.Open.{IsOpen};
-ghost use Rattle.bgp_open.specs.OpenFault.{open_fault, reading_of, IsReadAs};
-ghost use Rattle.bgp_open.specs.OpenView.{IsViewedAs};
+ghost use Rattle.bgp_open.specs.Prelude.{IsOpen, open_fault, reading_of, IsReadAs, IsViewedAs};
 
 use crate::fault::OpenFault;
 use crate::field::{is_short_hold, is_zero_id};

@@ -2,9 +2,8 @@
 
 ghost use Rattle.std.specs.Prelude.{◌≡◌, ◌≤◌, ◌+◌, ◌++◌, ◌↔◌, length, not, IsTrue, IsNone, IfSome};
 ghost use Rattle.std.specs.Bool.{OnTrue};
-ghost use Rattle.bgp_wire.specs.Row.{Row};
-ghost use Rattle.bgp_open.specs.Capability.{IsCapability};
-ghost use Rattle.bgp_open.specs.Written.{capability_octets, row_octets, is_misnamed, is_bad_row};
+ghost use Rattle.bgp_wire.specs.Prelude.{Row};
+ghost use Rattle.bgp_open.specs.Prelude.{IsCapability, capability_octets, row_octets, is_misnamed, is_bad_row};
 
 use crate::capability::Capability;
 use arrayvec::ArrayVec;

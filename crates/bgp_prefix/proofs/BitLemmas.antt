@@ -9,9 +9,9 @@ use Rattle.std.proofs.lemmas.Nat.Bits.{bit_at-zero, bit_at_cat_low, bit_at_cat_h
 use Rattle.std.proofs.lemmas.List.{append-nil, length-append, length-replicate, get_or-replicate, get_or_past, get_or_append_left, get_or-append_right, same_lists, get_or_default, take_all, take_more, take-take, set_at, take-append-drop, length-take, length-drop}
 use Rattle.std.proofs.lemmas.Bool.Decides.{Decides-eqb}
 use Rattle.std.proofs.lemmas.Slice.Eq.{slice_eq-Decides}
-use Rattle.bgp_wire.specs.Octets.{AreOctets}
+use Rattle.bgp_wire.specs.Prelude.{AreOctets}
 use Rattle.bgp_wire.proofs.OctetLemmas.{AreOctets-append, AreOctets-drop}
-use Rattle.bgp_prefix.specs.Bits.{octets_for, bit_of, HasNoBitPast, first_bits, leading_bits, address_of}
+use Rattle.bgp_prefix.specs.Prelude.{octets_for, bit_of, HasNoBitPast, first_bits, leading_bits, address_of}
 
 -- ---- one octet
 

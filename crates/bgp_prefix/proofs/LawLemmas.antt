@@ -6,16 +6,13 @@ use Rattle.std.proofs.lemmas.Bool.{cases_lt, leb-true, leb-false, lt-ltb, le-ltb
 use Rattle.std.proofs.lemmas.Nat.Bits.{same_from_bits_below}
 use Rattle.std.proofs.lemmas.List.{length-append, get_or_default, same_lists}
 use Rattle.std.proofs.lemmas.List.Elements.{All-head, All-tail}
-use Rattle.bgp_wire.specs.Octets.{AreOctets}
-use Rattle.bgp_wire.specs.Row.{Row, IsPrefixFree, Splits}
+use Rattle.bgp_wire.specs.Prelude.{AreOctets, Row, IsPrefixFree, Splits}
 use Rattle.bgp_wire.proofs.OctetLemmas.{AreOctets-front, AreOctets-back}
 use Rattle.bgp_wire.proofs.Pieces.{found, found_not, Reads-prefix_free, Splits-pieces, pieces-Splits}
 use Rattle.bgp_wire.proofs.Behinds.{pieces-whole}
 use Rattle.bgp_wire.proofs.Walks.{nothing_at}
 use Rattle.bgp_prefix.specs.declared.fault.RunFault.TheVariants.{TooLong, PastEnd}
-use Rattle.bgp_prefix.specs.Bits.{octets_for, bit_of, address_of}
-use Rattle.bgp_prefix.specs.Prefix.{PrefixValue, IsValid, IsPrefix, HasFirstBits, prefix_of, one_prefix, spelling_of}
-use Rattle.bgp_prefix.specs.Run.{run_of, run_fault}
+use Rattle.bgp_prefix.specs.Prelude.{octets_for, bit_of, address_of, PrefixValue, IsValid, IsPrefix, HasFirstBits, prefix_of, one_prefix, spelling_of, run_of, run_fault}
 use Rattle.bgp_prefix.proofs.BitLemmas.{length-address_of, AreOctets-address_of, bit_of-address_of, HasNoBitPast-address_of}
 use Rattle.bgp_prefix.proofs.PrefixLemmas.{IsPrefix-reads, IsPrefix-length, IsPrefix-spelling_of, IsPrefix-valid}
 

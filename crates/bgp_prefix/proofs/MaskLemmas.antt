@@ -4,8 +4,7 @@ use Rattle.std.specs.List.{range_with_len}
 use Rattle.std.specs.Int.Bits.{bit_and}
 use Rattle.std.proofs.lemmas.List.FromFn.{get_or-map-range_with_len}
 use Rattle.std.proofs.lemmas.Nat.Bits.{and_high_mask}
-use Rattle.bgp_prefix.specs.Bits.{first_bits}
-use Rattle.bgp_prefix.specs.steps.Mask.{mask_of}
+use Rattle.bgp_prefix.specs.Prelude.{first_bits, mask_of}
 
 -- octet k of the row for 256 + r bits
 abbrev pub in_row : ℕ → ℕ → ℕ

@@ -2,11 +2,9 @@
 use Rattle.std.proofs.Common.{◌≡◌, ℕ, suc, ◌*◌, ◌≤◌, Bool, true, false, cond, leb, ◌&&◌, List, [], ◌∷◌, ◌++◌, length, take, drop, Some, None, refl, sym, ap, ◌∙◌, subst, arith}
 use Rattle.std.proofs.lemmas.Bool.{leb-true, le-leb}
 use Rattle.std.proofs.lemmas.List.{length-append, length-take, take_at, drop_at, take-append-drop}
-use Rattle.bgp_wire.specs.Octets.{AreOctets}
-use Rattle.bgp_wire.specs.Reader.{Reads}
+use Rattle.bgp_wire.specs.Prelude.{AreOctets, Reads}
 use Rattle.bgp_wire.proofs.Pieces.{found, found_same, found_not}
-use Rattle.bgp_prefix.specs.Bits.{octets_for, address_of}
-use Rattle.bgp_prefix.specs.Prefix.{PrefixValue, IsValid, IsPrefix, prefix_of, one_prefix, spelling_of}
+use Rattle.bgp_prefix.specs.Prelude.{octets_for, address_of, PrefixValue, IsValid, IsPrefix, prefix_of, one_prefix, spelling_of}
 use Rattle.bgp_prefix.proofs.BitLemmas.{length-address_of, AreOctets-address_of, HasNoBitPast-address_of, leading_bits-whole, address_of-take}
 
 both_true : (s t : Bool) → (s && t) ≡ true → (s ≡ true) × (t ≡ true)

@@ -1,11 +1,10 @@
 -- Which fault a run has, and that what is written is a row. How a run is gone through, prefix by prefix, stands in `Rattle.bgp_wire.proofs.Walks`.
 use Rattle.std.proofs.Common.{◌≡◌, ℕ, ◌*◌, Bool, true, false, cond, ltb, List, [], ◌∷◌, Some, None, Err, refl, sym, ap}
 use Rattle.std.specs.List.{flat_map, slice_get, AllByRecursion}
-use Rattle.bgp_wire.specs.Row.{Row}
+use Rattle.bgp_wire.specs.Prelude.{Row}
 use Rattle.bgp_prefix.specs.declared.fault.RunFault.{RunFault}
 use Rattle.bgp_prefix.specs.declared.fault.RunFault.TheVariants.{TooLong, PastEnd, Memory}
-use Rattle.bgp_prefix.specs.Prefix.{PrefixValue, IsValid, IsPrefix, spelling_of}
-use Rattle.bgp_prefix.specs.Run.{run_of, fault_at, run_fault, IsReading}
+use Rattle.bgp_prefix.specs.Prelude.{PrefixValue, IsValid, IsPrefix, spelling_of, run_of, fault_at, run_fault, IsReading}
 use Rattle.bgp_prefix.proofs.PrefixLemmas.{IsPrefix-spelling_of}
 
 -- ---- reading

@@ -3,9 +3,7 @@ use Rattle.std.proofs.Common.{◌≡◌, ℕ, ◌+◌, ◌-◌, ◌*◌, ◌<◌
 use Rattle.std.specs.Int.Bits.{bit_and}
 use Rattle.std.proofs.Math.Seq.{take-append_seam}
 use Rattle.std.proofs.lemmas.List.{length-append}
-use Rattle.bgp_prefix.specs.Bits.{octets_for, first_bits, leading_bits, address_of}
-use Rattle.bgp_prefix.specs.Prefix.{prefix_of, spelling_of}
-use Rattle.bgp_prefix.specs.steps.Mask.{mask_of}
+use Rattle.bgp_prefix.specs.Prelude.{octets_for, first_bits, leading_bits, address_of, prefix_of, spelling_of, mask_of}
 use Rattle.bgp_prefix.proofs.BitLemmas.{length-leading_bits, leading_bits-append}
 use Rattle.bgp_prefix.proofs.MaskLemmas.{masked}
 

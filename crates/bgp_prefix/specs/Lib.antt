@@ -5,4 +5,5 @@ pub mod Order
 pub mod Run
 pub mod PrefixIter
 pub mod Text
+pub mod Prelude
 pub mod steps

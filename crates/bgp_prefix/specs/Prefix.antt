@@ -1,6 +1,6 @@
 -- Prefixes and their spelling (RFC 4271, section 4.3; RFC 4760, section 5). An address has `width` octets: 4 or 16.
 use Rattle.std.specs.Prelude.{◌≡◌, ℕ, ◌+◌, ◌*◌, ◌<◌, ◌≤◌, List, [], ◌∷◌, length, take, drop, Option, None, Some, nat_le, ◌&&◌, if◌then◌else◌}
-use Rattle.bgp_wire.specs.Octets.{AreOctets}
+use Rattle.bgp_wire.specs.Prelude.{AreOctets}
 use Rattle.bgp_prefix.specs.Bits.{octets_for, bit_of, HasNoBitPast, leading_bits, address_of}
 
 -- a prefix: its length in bits, and the octets of its address

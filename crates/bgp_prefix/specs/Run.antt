@@ -1,6 +1,6 @@
 -- Runs: octets that are a row of prefixes, and what is wrong with others (RFC 4271, section 4.3).
 use Rattle.std.specs.Prelude.{◌≡◌, ℕ, ◌*◌, ◌<◌, List, [], ◌∷◌, length, Option, None, Some, Result, Ok, Err, nat_lt, if◌then◌else◌}
-use Rattle.bgp_wire.specs.Reader.{pieces}
+use Rattle.bgp_wire.specs.Prelude.{pieces}
 use Rattle.bgp_prefix.specs.declared.fault.RunFault.{RunFault}
 use Rattle.bgp_prefix.specs.declared.fault.RunFault.TheVariants.{TooLong, PastEnd, Memory}
 use Rattle.bgp_prefix.specs.Prefix.{PrefixValue, one_prefix}

@@ -1,8 +1,8 @@
 //! The first bits of octets, from the highest bit of the first octet.
 
 ghost use Rattle.std.specs.Prelude.{◌≡◌, ◌≤◌, ◌*◌, ◌↔◌, length, IsTrue};
-ghost use Rattle.bgp_wire.specs.Octets.{AreOctets};
-ghost use Rattle.bgp_prefix.specs.Bits.{octets_for, address_of, HasNoBitPast};
+ghost use Rattle.bgp_wire.specs.Prelude.{AreOctets};
+ghost use Rattle.bgp_prefix.specs.Prelude.{octets_for, address_of, HasNoBitPast};
 
 use crate::mask::mask;
 

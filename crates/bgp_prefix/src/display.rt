@@ -1,7 +1,7 @@
 //! Prefixes as text.
 
 ghost use Rattle.std.specs.Prelude.{Some};
-ghost use Rattle.bgp_prefix.specs.Text.{ipv4_text, ipv6_text};
+ghost use Rattle.bgp_prefix.specs.Prelude.{ipv4_text, ipv6_text};
 
 use crate::address::Address;
 use crate::prefix::Prefix;

@@ -1,10 +1,8 @@
 //! The prefix at the front of octets, before it is a value.
 
 ghost use Rattle.std.specs.Prelude.{◌≡◌, ◌≤◌, ◌*◌, ◌∷◌, ◌++◌, length, take, IfSome, option_map};
-ghost use Rattle.bgp_wire.specs.Octets.{AreOctets};
-ghost use Rattle.bgp_prefix.specs.Bits.{octets_for, address_of};
-ghost use Rattle.bgp_prefix.specs.Prefix.{prefix_of, one_prefix};
-ghost use Rattle.bgp_prefix.specs.Run.{run_of};
+ghost use Rattle.bgp_wire.specs.Prelude.{AreOctets};
+ghost use Rattle.bgp_prefix.specs.Prelude.{octets_for, address_of, prefix_of, one_prefix, run_of};
 
 use crate::bits::{address, is_allowed, octets_for};
 

@@ -1,5 +1,8 @@
 //! The prefixes of octets, one after another.
 
+ghost use Rattle.std.specs.Prelude.{◌≡◌, option_map};
+ghost use Rattle.bgp_prefix.specs.Prefix.{one_prefix};
+
 use crate::front::{cut_front, skip_run};
 use crate::prefix::Prefix;
 use std::iter::FusedIterator;
@@ -16,8 +19,18 @@ pub type PrefixIter4<'a> = PrefixIter<'a, 4>;
 /// The IPv6 prefixes of octets.
 pub type PrefixIter6<'a> = PrefixIter<'a, 16>;
 
+/// The prefix at the front of octets, and what follows it (RFC 4271, section 4.3). None where its length is too long, or the octets end before as many
+/// bits.
+#[inline(always)]
+pub fn first_prefix<const W: usize>(octets: &[u8]) -> Option<(Prefix<W>, &[u8])>
+    ensures { option_map (λ x. (x.0, x.1.now)) result ≡ one_prefix W octets.now }
+{
+    let front = cut_front::<W>(octets)?;
+    Some((Prefix::from_front(front), front.after))
+}
+
 impl<'a, const W: usize> PrefixIter<'a, W> {
-    ghost use Rattle.std.specs.Prelude.{◌≡◌, length};
+    ghost use Rattle.std.specs.Prelude.{length};
     ghost use Rattle.bgp_prefix.specs.Run.{run_of};
     ghost use Rattle.bgp_prefix.specs.PrefixIter.{prefixes_left};
 

@@ -3,14 +3,9 @@
 ghost use Rattle.std.specs.Prelude.{◌≡◌, ◌⊎◌, ℕ, ◌+◌, ◌*◌, ◌<◌, ◌≤◌, Some, All};
 ghost use Rattle.std.specs.Prelude.{List, [], ◌∷◌, ◌++◌, length};
 ghost use Rattle.std.specs.List.{flat_map};
-ghost use Rattle.bgp_wire.specs.Octets.{AreOctets};
-ghost use Rattle.bgp_wire.specs.Row.{Row, IsPrefixFree, Splits};
-ghost use Rattle.bgp_wire.specs.Reader.{Reads};
+ghost use Rattle.bgp_wire.specs.Prelude.{AreOctets, Row, IsPrefixFree, Splits, Reads};
 ghost use Rattle.bgp_prefix.specs.declared.fault.RunFault.TheVariants.{TooLong, PastEnd};
-ghost use Rattle.bgp_prefix.specs.Bits.{octets_for};
-ghost use Rattle.bgp_prefix.specs.Prefix.{PrefixValue, IsValid, IsPrefix, HasFirstBits};
-ghost use Rattle.bgp_prefix.specs.Prefix.{one_prefix, spelling_of};
-ghost use Rattle.bgp_prefix.specs.Run.{run_of, run_fault};
+ghost use Rattle.bgp_prefix.specs.Prelude.{octets_for, PrefixValue, IsValid, IsPrefix, HasFirstBits, one_prefix, spelling_of, run_of, run_fault};
 
 /// No spelling of a prefix begins another one, and each has one value.
 pub fn spellings_are_prefix_free()

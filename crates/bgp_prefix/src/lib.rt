@@ -17,6 +17,6 @@ mod run;
 pub use address::Address;
 pub use as_number::{AS_TRANS, AsNumber};
 pub use fault::RunFault;
-pub use iter::{PrefixIter, PrefixIter4, PrefixIter6};
+pub use iter::{PrefixIter, PrefixIter4, PrefixIter6, first_prefix};
 pub use prefix::{Prefix, Prefix4, Prefix6};
 pub use run::{check_run4, check_run6, read_run4, read_run6, write_run, write_run4, write_run6};

@@ -1,7 +1,7 @@
 //! Which bits of an octet are among the first ones of an address.
 
 ghost use Rattle.std.specs.Prelude.{◌≡◌};
-ghost use Rattle.bgp_prefix.specs.steps.Mask.{mask_of};
+ghost use Rattle.bgp_prefix.specs.Prelude.{mask_of};
 
 // Row `r` has the masks for `256 + r` bits, an octet each. Those for fewer bits begin further on in a row: all masks of an address lie side by side,
 // and so they are put to its octets at once.

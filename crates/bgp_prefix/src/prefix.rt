@@ -2,7 +2,7 @@
 
 ghost use Rattle.std.specs.Prelude.{◌≡◌, ◌<◌, ◌≤◌, ◌+◌, ◌*◌, ◌↔◌, ◌++◌, length, take};
 ghost use Rattle.std.specs.Prelude.{IsSome, IfSome, OnOk, OnErr};
-ghost use Rattle.bgp_wire.specs.steps.Output.{Extends};
+ghost use Rattle.bgp_wire.specs.Prelude.{Extends};
 ghost use Rattle.bgp_prefix.specs.Bits.{octets_for, HasNoBitPast};
 ghost use Rattle.bgp_prefix.specs.Prefix.{IsValid, prefix_of, spelling_of};
 

@@ -2,11 +2,8 @@
 
 ghost use Rattle.std.specs.Prelude.{◌≡◌, ◌+◌, ◌<◌, ◌++◌, ◌∷◌, ℕ, List, true, length, OnOk, OnErr};
 ghost use Rattle.std.specs.List.{flat_map};
-ghost use Rattle.bgp_wire.specs.steps.Output.{Extends};
-ghost use Rattle.bgp_prefix.specs.Bits.{octets_for, leading_bits};
-ghost use Rattle.bgp_prefix.specs.Prefix.{spelling_of};
-ghost use Rattle.bgp_prefix.specs.PrefixIter.{prefixes_left};
-ghost use Rattle.bgp_prefix.specs.Run.{run_of};
+ghost use Rattle.bgp_wire.specs.Prelude.{Extends};
+ghost use Rattle.bgp_prefix.specs.Prelude.{octets_for, leading_bits, spelling_of, prefixes_left, run_of};
 
 use crate::front::{Front, cut_front};
 use crate::iter::PrefixIter;

@@ -2,10 +2,8 @@
 
 ghost use Rattle.std.specs.Prelude.{◌≡◌, ◌<◌, ◌+◌, ◌↔◌, [], ◌++◌, length, IsTrue, OnOk, OnErr};
 ghost use Rattle.std.specs.List.{flat_map, AllByRecursion};
-ghost use Rattle.bgp_wire.specs.Row.{Row};
-ghost use Rattle.bgp_wire.specs.steps.Output.{Extends};
-ghost use Rattle.bgp_prefix.specs.Prefix.{IsPrefix, IsValid, spelling_of};
-ghost use Rattle.bgp_prefix.specs.Run.{run_of, fault_at, IsReading};
+ghost use Rattle.bgp_wire.specs.Prelude.{Row, Extends};
+ghost use Rattle.bgp_prefix.specs.Prelude.{IsPrefix, IsValid, spelling_of, run_of, fault_at, IsReading};
 
 use crate::bits::is_allowed;
 use crate::fault::RunFault;

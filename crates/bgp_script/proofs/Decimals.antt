@@ -5,7 +5,7 @@ use Rattle.std.proofs.lemmas.List.{append-nil}
 use Rattle.std.proofs.lemmas.Fmt.{decimal_digit, decimal_step, decimal_by_steps}
 use Rattle.std.specs.Fmt.{decimal}
 use Rattle.bgp_script.specs.Number.{digit_of, digits_behind, is_spelled, number_of}
-use Rattle.bgp_wire.specs.Then.{◌>>=◌}
+use Rattle.bgp_wire.specs.Prelude.{◌>>=◌}
 
 -- ---- digits
 

@@ -3,7 +3,7 @@ use Rattle.std.proofs.Common.{◌≡◌, ℕ, ◌+◌, ◌*◌, ◌<◌, ◌≤�
 use Rattle.std.proofs.lemmas.Bool.{lt-leb, le-leb}
 use Rattle.std.proofs.lemmas.List.{at_drop_more, at_drop_all}
 use Rattle.bgp_script.specs.Number.{digit_of, digits_behind, at_most}
-use Rattle.bgp_wire.specs.Then.{◌>>=◌}
+use Rattle.bgp_wire.specs.Prelude.{◌>>=◌}
 
 above : (b : Bool) (n : ℕ) → b ≡ false → cond b (Some n) None ≡ None
 above true n e = absurd cc

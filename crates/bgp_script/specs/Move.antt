@@ -3,20 +3,20 @@ use Rattle.std.specs.Prelude.{ℕ, Bool, true, ◌&&◌, ◌==◌, nat_le, List,
 use Rattle.std.specs.Option.{option_map}
 use Rattle.std.specs.Result.{result_ok}
 use Rattle.hex.specs.Hex.{decode_of}
-use Rattle.bgp_open.specs.Config.{Settings}
+use Rattle.bgp_open.specs.Prelude.{Settings}
 use Rattle.bgp_open.specs.declared.context.Context.{Context}
 use Rattle.bgp_update.specs.declared.update.Update.{Update}
 use Rattle.bgp_update.specs.declared.verdict.Verdict.{Verdict}
 use Rattle.bgp_update.specs.declared.verdict.Verdict.TheVariants.{Take, Withdraw, Reset}
-use Rattle.bgp_update.specs.Verdict.{verdict_of}
+use Rattle.bgp_update.specs.Prelude.{verdict_of}
 use Rattle.bgp_machine.specs.declared.timer.Timer.{Timer}
 use Rattle.bgp_machine.specs.declared.timer.Timer.TheVariants as timer
 use Rattle.bgp_session.specs.declared.moves.Move.{Move}
-use Rattle.bgp_session.specs.declared.moves.Move.TheVariants as move
 use Rattle.bgp_session.specs.declared.side.Side.{Side}
 use Rattle.bgp_session.specs.declared.side.Side.TheVariants.{A, B}
+use Rattle.bgp_session.specs.declared.moves.Move.TheVariants as move
 use Rattle.bgp_script.specs.declared.speakers.Speakers.{Speakers}
-use Rattle.bgp_wire.specs.Then.{◌>>=◌}
+use Rattle.bgp_wire.specs.Prelude.{◌>>=◌}
 use Rattle.bgp_script.specs.Pieces.{one_piece, if_done}
 use Rattle.bgp_script.specs.Number.{one_number}
 

@@ -1,6 +1,6 @@
 -- Numbers in decimal, without sign or leading zeros.
 use Rattle.std.specs.Prelude.{ℕ, ◌+◌, ◌-◌, ◌*◌, Bool, false, not, ◌&&◌, ◌||◌, ◌==◌, nat_le, List, [], ◌∷◌, length, Option, Some, None, if◌then◌else◌}
-use Rattle.bgp_wire.specs.Then.{◌>>=◌}
+use Rattle.bgp_wire.specs.Prelude.{◌>>=◌}
 use Rattle.bgp_script.specs.Pieces.{pieces_at, one_piece, behind, if_done}
 
 abbrev pub is_digit : ℕ → Bool

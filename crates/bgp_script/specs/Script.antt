@@ -1,6 +1,6 @@
 -- A script: two speakers and the moves of a schedule.
 use Rattle.std.specs.Prelude.{ℕ, List, [], ◌∷◌, Option, Some, None, Result, Ok, Err, codes}
-use Rattle.bgp_open.specs.Config.{Settings}
+use Rattle.bgp_open.specs.Prelude.{Settings}
 use Rattle.bgp_session.specs.declared.moves.Move.{Move}
 use Rattle.bgp_script.specs.declared.script.Script.{Script}
 use Rattle.bgp_script.specs.declared.speakers.Speakers.{Speakers}

@@ -1,9 +1,9 @@
 -- The line of a speaker: its side, and what it is set to.
 use Rattle.std.specs.Prelude.{ℕ, List, Option, codes}
 use Rattle.std.specs.Result.{result_ok}
-use Rattle.bgp_open.specs.Config.{Settings, config_of}
+use Rattle.bgp_open.specs.Prelude.{Settings, config_of}
 use Rattle.bgp_script.specs.declared.speaker.Flags.{Flags}
-use Rattle.bgp_wire.specs.Then.{◌>>=◌}
+use Rattle.bgp_wire.specs.Prelude.{◌>>=◌}
 use Rattle.bgp_script.specs.Pieces.{behind, one_flag, if_done}
 use Rattle.bgp_script.specs.Number.{number_behind, address_behind}
 

@@ -1,12 +1,11 @@
 -- What acting leaves as it is, and in which order it can be done.
 use Rattle.std.proofs.Common.{◌≡◌, List, [], ◌∷◌, ◌++◌, refl, sym, ap, ◌∙◌}
-use Rattle.bgp_open.specs.Config.{Settings}
+use Rattle.bgp_open.specs.Prelude.{Settings}
 use Rattle.bgp_machine.specs.declared.action.Action.{Action}
+use Rattle.bgp_machine.specs.Prelude.{Machine, own_octets}
 use Rattle.bgp_machine.specs.declared.action.Action.TheVariants as action
-use Rattle.bgp_machine.specs.Session.{Machine, own_octets}
 use Rattle.bgp_session.specs.declared.side.Side.{Side}
-use Rattle.bgp_session.specs.steps.Feeding.{with_machine}
-use Rattle.bgp_session.specs.Pair.{with_session, towards, Pair, pair, acted, all_acted}
+use Rattle.bgp_session.specs.Prelude.{with_machine, with_session, towards, Pair, pair, acted, all_acted}
 
 module _ (side : Side) where
   -- the session stays as it is

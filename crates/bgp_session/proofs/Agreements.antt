@@ -6,17 +6,14 @@ use Rattle.std.proofs.Math.Bool.{and_comm}
 use Rattle.bgp_numbers.specs.declared.afi.TheConstants.{IPV4, IPV6}
 use Rattle.bgp_numbers.specs.declared.safi.TheConstants.{UNICAST}
 use Rattle.bgp_open.specs.declared.agreement.PeerFault.{PeerFault}
-use Rattle.bgp_open.specs.declared.agreement.PeerFault.TheVariants as peer
 use Rattle.bgp_open.specs.declared.capability.Capability.TheVariants.{Multi, As4}
 use Rattle.bgp_open.specs.declared.context.Context.{Context}
-use Rattle.bgp_open.specs.Config.{Settings}
-use Rattle.bgp_open.specs.Own.{offered, own_of}
-use Rattle.bgp_open.specs.Agreement.{peer_as_of, same_id, context_of, agreement, peer_notification}
-use Rattle.bgp_open.specs.Peer.{first_as4}
+use Rattle.bgp_open.specs.Prelude.{Settings, offered, own_of, peer_as_of, same_id, context_of, agreement, peer_notification, first_as4}
+use Rattle.bgp_open.specs.declared.agreement.PeerFault.TheVariants as peer
 use Rattle.bgp_open.proofs.Agreements.{accepted, has_as4, peer_as-own}
 use Rattle.bgp_session.specs.declared.moves.Move.{Move}
 use Rattle.bgp_session.specs.declared.side.Side.{Side}
-use Rattle.bgp_session.specs.Laws.{CanBeSet, HasReason, both_wide}
+use Rattle.bgp_session.specs.Prelude.{CanBeSet, HasReason, both_wide}
 
 -- the test of a peer's AS number, and that of its identifier
 abbrev is_peer : Settings → Settings → Bool

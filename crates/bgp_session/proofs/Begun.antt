@@ -1,23 +1,18 @@
 -- Where an end hasn't left, a round has begun.
 use Rattle.std.proofs.Common.{◌≡◌, ℕ, zero, suc, Bool, true, false, List, [], ◌∷◌, take, drop, Option, None, Some, refl, ◌∙◌, if◌then◌else◌}
-use Rattle.bgp_open.specs.Config.{Settings}
+use Rattle.bgp_open.specs.Prelude.{Settings}
 use Rattle.bgp_machine.specs.declared.action.Action.{Action}
-use Rattle.bgp_machine.specs.declared.action.Action.TheVariants as action
 use Rattle.bgp_machine.specs.declared.event.Event.{Event}
-use Rattle.bgp_machine.specs.declared.event.Event.TheVariants as event
 use Rattle.bgp_machine.specs.declared.send_fault.SendFault.{SendFault}
-use Rattle.bgp_machine.specs.Cutting.{by_octets}
-use Rattle.bgp_machine.specs.Sending.{refusal_of}
-use Rattle.bgp_machine.specs.Session.{after_event}
-use Rattle.bgp_machine.specs.Standing.{listens}
-use Rattle.bgp_machine.specs.Table.{happens}
+use Rattle.bgp_machine.specs.Prelude.{by_octets, refusal_of, after_event, listens, happens}
+use Rattle.bgp_machine.specs.declared.action.Action.TheVariants as action
+use Rattle.bgp_machine.specs.declared.event.Event.TheVariants as event
 use Rattle.bgp_update.specs.declared.update.Update.{Update}
 use Rattle.bgp_session.specs.declared.moves.Move.{Move}
-use Rattle.bgp_session.specs.declared.moves.Move.TheVariants as move
 use Rattle.bgp_session.specs.declared.side.Side.{Side}
 use Rattle.bgp_session.specs.declared.side.Side.TheVariants.{A, B}
-use Rattle.bgp_session.specs.Pair.{End, with_session, Pair, pair, acted, all_acted, before_event, told, fed, sent}
-use Rattle.bgp_session.specs.World.{World, begins, end_of, seen_by, with_pair, tells, feeds, stands, tells_if, state_of, fails_up, emptied, lost_if, lost, seeks, refused_at, ran, answer_of, later_of, can_join, joins, joined_if, delivers_on, delivered, drawn, delivers, sent_or, sends, moved, all_moved}
+use Rattle.bgp_session.specs.Prelude.{End, with_session, Pair, pair, acted, all_acted, before_event, told, fed, sent, World, begins, end_of, seen_by, with_pair, tells, feeds, stands, tells_if, state_of, fails_up, emptied, lost_if, lost, seeks, refused_at, ran, answer_of, later_of, can_join, joins, joined_if, delivers_on, delivered, drawn, delivers, sent_or, sends, moved, all_moved}
+use Rattle.bgp_session.specs.declared.moves.Move.TheVariants as move
 
 -- an end that hasn't left behind it had not before
 pub record Stays (p q : Pair) : Type 0 where

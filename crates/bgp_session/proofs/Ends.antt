@@ -4,19 +4,16 @@ use Rattle.std.specs.List.{AllByRecursion}
 use Rattle.std.proofs.lemmas.List.{append-nil}
 use Rattle.bgp_frame.specs.declared.notification.Notification.{Notification}
 use Rattle.bgp_open.specs.declared.context.Context.{Context}
-use Rattle.bgp_open.specs.Agreement.{agreement}
-use Rattle.bgp_open.specs.Config.{Settings}
-use Rattle.bgp_open.specs.Own.{own_of}
+use Rattle.bgp_open.specs.Prelude.{agreement, Settings, own_of}
 use Rattle.bgp_machine.specs.declared.action.Action.{Action}
 use Rattle.bgp_machine.specs.declared.state.State.{State}
-use Rattle.bgp_machine.specs.declared.state.State.TheVariants as state
 use Rattle.bgp_machine.specs.declared.timer.Timers.{Timers}
-use Rattle.bgp_machine.specs.Standing.{listens}
-use Rattle.bgp_machine.specs.Table.{only_if, disarmed, flushed}
+use Rattle.bgp_machine.specs.Prelude.{listens, only_if, disarmed, flushed}
+use Rattle.bgp_machine.specs.declared.state.State.TheVariants as state
 use Rattle.bgp_update.specs.declared.path_info.PathInfo.{PathInfo}
 use Rattle.bgp_update.specs.declared.update.Update.{Update}
 use Rattle.bgp_session.specs.declared.side.Side.{Side}
-use Rattle.bgp_session.specs.Pair.{End, with_session, away, towards, Note, Pair, pair, notification_octets, note_of, acted, all_acted}
+use Rattle.bgp_session.specs.Prelude.{End, with_session, away, towards, Note, Pair, pair, notification_octets, note_of, acted, all_acted}
 use Rattle.bgp_session.proofs.Facts.{notification_spelled}
 use Rattle.bgp_session.proofs.Sayings.{SaidNotification, Stage, next, EndsAt, Ended}
 use Rattle.bgp_session.proofs.Ways.{IsDeaf, Goes, front_of, sender_goes, sender_says}

@@ -2,19 +2,17 @@
 use Rattle.std.proofs.Common.{Bool, true, false, List, [], ◌∷◌, ◌++◌, ℕ, None, ◌≡◌, refl, sym, ap, if◌then◌else◌}
 use Rattle.std.proofs.lemmas.List.{append-nil}
 use Rattle.bgp_frame.specs.declared.notification.Notification.{Notification}
-use Rattle.bgp_open.specs.Config.{Settings}
+use Rattle.bgp_open.specs.Prelude.{Settings}
 use Rattle.bgp_machine.specs.declared.event.Event.{Event}
-use Rattle.bgp_machine.specs.declared.event.Event.TheVariants as event
 use Rattle.bgp_machine.specs.declared.state.State.{State}
-use Rattle.bgp_machine.specs.declared.state.State.TheVariants as state
 use Rattle.bgp_machine.specs.declared.timer.Timer.{Timer}
-use Rattle.bgp_machine.specs.declared.timer.Timer.TheVariants as timer
 use Rattle.bgp_machine.specs.declared.timer.Timers.{Timers}
-use Rattle.bgp_machine.specs.Session.{kept}
-use Rattle.bgp_machine.specs.Standing.{listens, runs, timers_with}
-use Rattle.bgp_machine.specs.Table.{Step, disarmed, flushed, cease, held_too_long}
+use Rattle.bgp_machine.specs.Prelude.{kept, listens, runs, timers_with, Step, disarmed, flushed, cease, held_too_long}
+use Rattle.bgp_machine.specs.declared.event.Event.TheVariants as event
+use Rattle.bgp_machine.specs.declared.state.State.TheVariants as state
+use Rattle.bgp_machine.specs.declared.timer.Timer.TheVariants as timer
 use Rattle.bgp_session.specs.declared.side.Side.{Side}
-use Rattle.bgp_session.specs.Pair.{End, with_session, away, towards, keepalive_octets, notification_octets, Note, Pair, pair, note_of, all_acted, told}
+use Rattle.bgp_session.specs.Prelude.{End, with_session, away, towards, keepalive_octets, notification_octets, Note, Pair, pair, note_of, all_acted, told}
 use Rattle.bgp_session.proofs.Facts.{keepalive_spelled}
 use Rattle.bgp_session.proofs.Sayings.{SaidKeepalive, Stage, next, EndsAt, Runs}
 use Rattle.bgp_session.proofs.Ways.{MaySay, sender_says}

@@ -5,36 +5,28 @@ use Rattle.bgp_numbers.specs.declared.afi.TheConstants.{IPV4, IPV6}
 use Rattle.bgp_numbers.specs.declared.safi.TheConstants.{UNICAST}
 use Rattle.bgp_frame.specs.declared.notification.Notification.{Notification}
 use Rattle.bgp_frame.specs.declared.kind.Kind.TheVariants as kind
-use Rattle.bgp_frame.specs.Frame.{Message, octets_of, IsFrame}
-use Rattle.bgp_frame.specs.Kind.{IsLength}
+use Rattle.bgp_frame.specs.Prelude.{Message, octets_of, IsFrame, IsLength}
 use Rattle.bgp_frame.proofs.FrameLemmas.{length-octets_of}
 use Rattle.bgp_msg.specs.declared.message.Message.TheVariants as message
 use Rattle.bgp_msg.proofs.Itself.{valid-itself}
 use Rattle.bgp_open.specs.declared.capability.Capability.TheVariants.{Multi, As4}
 use Rattle.bgp_open.specs.declared.context.Context.{Context}
-use Rattle.bgp_open.specs.Config.{Settings}
-use Rattle.bgp_open.specs.Open.{IsOpen}
-use Rattle.bgp_open.specs.OpenFault.{reading_of}
-use Rattle.bgp_open.specs.Own.{field_for, offered, own_of}
+use Rattle.bgp_open.specs.Prelude.{Settings, IsOpen, reading_of, field_for, offered, own_of}
 use Rattle.bgp_open.specs.Written as opens
 use Rattle.bgp_open.proofs.Owns.{own-spells}
 use Rattle.bgp_open.proofs.Readings.{spelling-reads}
-use Rattle.bgp_machine.specs.Sending.{why_unsent, told_with, told_in, told_octets, is_told_too_long}
-use Rattle.bgp_machine.specs.Session.{own_octets}
+use Rattle.bgp_machine.specs.Prelude.{why_unsent, told_with, told_in, told_octets, is_told_too_long, own_octets}
 use Rattle.bgp_machine.proofs.Sendings.{told_valid, told_narrow, told_narrow_valid}
 use Rattle.bgp_attr.specs.declared.aggregator.Aggregator.{Aggregator}
 use Rattle.bgp_attr.specs.declared.path.AsPath.{AsPath}
 use Rattle.bgp_attr.specs.declared.path.As4Path.{As4Path}
 use Rattle.bgp_update.specs.declared.path_info.PathInfo.{PathInfo}
 use Rattle.bgp_update.specs.declared.update.Update.{Update}
+use Rattle.bgp_update.specs.Prelude.{onward_of, rebuilt_by, rebuilt, HasNoAs4, verdict_of, written_body, invalid_of, HasUpdateRanges}
 use Rattle.bgp_update.specs.declared.verdict.Verdict.TheVariants as verdict
-use Rattle.bgp_update.specs.As4.{onward_of, rebuilt_by, rebuilt, HasNoAs4}
-use Rattle.bgp_update.specs.Verdict.{verdict_of}
-use Rattle.bgp_update.specs.Written.{written_body, invalid_of, HasUpdateRanges}
 use Rattle.bgp_update.proofs.Narrowing.{narrowed-rebuilt}
 use Rattle.bgp_update.proofs.ReadBack.{valid-taken}
-use Rattle.bgp_session.specs.Laws.{CanBeSet, heard}
-use Rattle.bgp_session.specs.Pair.{keepalive_octets, notification_octets}
+use Rattle.bgp_session.specs.Prelude.{CanBeSet, heard, keepalive_octets, notification_octets}
 use Rattle.bgp_session.proofs.Narrowed.{narrowed_ranges}
 use Rattle.bgp_session.proofs.Sayings.{Said, SaidOpen, SaidKeepalive, SaidNotification, SaidUpdate, open_body, notification_body, update_body, message_of, spelling, IsTold, Fits}
 

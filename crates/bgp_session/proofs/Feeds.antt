@@ -1,20 +1,14 @@
 -- A pair goes on by pulls as by the octets that they take.
 use Rattle.std.proofs.Common.{◌≡◌, ℕ, zero, suc, ◌<◌, List, [], ◌∷◌, drop, Option, None, Some, refl, sym, ap, subst, ◌∙◌, arith}
 use Rattle.arrayvec.specs.ArrayVec.{ArrayVec}
-use Rattle.bgp_wire.specs.Octets.{AreOctets}
-use Rattle.bgp_frame.specs.Hearing.{with_octet, done_by}
+use Rattle.bgp_wire.specs.Prelude.{AreOctets}
+use Rattle.bgp_frame.specs.Prelude.{with_octet, done_by}
 use Rattle.bgp_frame.proofs.Hearings.{Passes, waits_at, waiting, passes, lighter, judges_lighter, call_ends, pull_waits}
 use Rattle.bgp_machine.specs.declared.action.Action.{Action}
-use Rattle.bgp_machine.specs.Cutting.{IsAtRest, Done, settled, by_octet, by_octets}
-use Rattle.bgp_machine.specs.Pulling.{IsPulled}
-use Rattle.bgp_machine.specs.steps.Ready.{IsReady, left_to_do, weight}
-use Rattle.bgp_machine.specs.Session.{Machine, holding, hearer, judged}
-use Rattle.bgp_machine.specs.Standing.{listens}
-use Rattle.bgp_machine.specs.Table.{Step}
+use Rattle.bgp_machine.specs.Prelude.{IsAtRest, Done, settled, by_octet, by_octets, IsPulled, IsReady, left_to_do, weight, Machine, holding, hearer, judged, listens, Step}
 use Rattle.bgp_machine.proofs.Cuttings.{is_hearer, pulls_as_fed}
 use Rattle.bgp_session.specs.declared.side.Side.{Side}
-use Rattle.bgp_session.specs.steps.Feeding.{with_machine, fed_on, FeedsOn}
-use Rattle.bgp_session.specs.Pair.{Pair, all_acted, fed}
+use Rattle.bgp_session.specs.Prelude.{with_machine, fed_on, FeedsOn, Pair, all_acted, fed}
 use Rattle.bgp_session.proofs.Acts.{all_keeps, all_moves, acted_both}
 
 -- ---- the settings of a session stay

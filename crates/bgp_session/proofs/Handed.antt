@@ -2,14 +2,10 @@
 use Rattle.std.proofs.Common.{◌≡◌, ℕ, ◌≤◌, Bool, true, List, [], ◌++◌, length, take, Result, Ok, Err, sym, ap, subst, ◌∙◌}
 use Rattle.std.specs.Result.{IfOk}
 use Rattle.std.proofs.lemmas.List.{append-nil, take_all}
-use Rattle.bgp_open.specs.Config.{Settings}
+use Rattle.bgp_open.specs.Prelude.{Settings}
 use Rattle.bgp_session.specs.declared.moves.Move.{Move}
 use Rattle.bgp_session.specs.declared.report.Report.{Report}
-use Rattle.bgp_session.specs.steps.Playing.{Plays}
-use Rattle.bgp_session.specs.Report.{report_of, calls_behind, sights_behind}
-use Rattle.bgp_session.specs.Sight.{Sight, observed}
-use Rattle.bgp_session.specs.Wire.{Call, Grows, Trace}
-use Rattle.bgp_session.specs.World.{World, begins, Turn, calls_in, sights_in, Ran, all_moved}
+use Rattle.bgp_session.specs.Prelude.{Plays, report_of, calls_behind, sights_behind, Sight, observed, Call, Grows, Trace, World, begins, Turn, calls_in, sights_in, Ran, all_moved}
 use Rattle.bgp_session.proofs.Plays.{wired}
 
 module _ {S : Type 0} (honest : Bool) (after : S → Sight → S) (a b : Settings) (moves : List Move) (w : World) (start answers : List Bool) (none : start ≡ []) (trace_old trace_new : Trace S) (i : ℕ)

@@ -4,31 +4,24 @@ use Rattle.std.specs.List.{AllByRecursion}
 use Rattle.std.proofs.lemmas.List.{append-nil, map-append}
 use Rattle.bgp_frame.proofs.Pulls.{nothing_waits}
 use Rattle.bgp_open.specs.declared.agreement.PeerFault.{PeerFault}
-use Rattle.bgp_open.specs.declared.agreement.PeerFault.TheVariants as peer
 use Rattle.bgp_open.specs.declared.context.Context.{Context}
 use Rattle.bgp_open.specs.declared.fault.OpenFault.{OpenFault}
 use Rattle.bgp_open.specs.declared.message.Open.{Open}
-use Rattle.bgp_open.specs.Agreement.{agreement, peer_notification}
-use Rattle.bgp_open.specs.Peer.{said_by}
-use Rattle.bgp_open.specs.Config.{Settings}
-use Rattle.bgp_open.specs.Own.{own_of}
-use Rattle.bgp_open.specs.OpenFault.{reading_of}
+use Rattle.bgp_open.specs.Prelude.{agreement, peer_notification, said_by, Settings, own_of, reading_of}
+use Rattle.bgp_open.specs.declared.agreement.PeerFault.TheVariants as peer
 use Rattle.bgp_machine.specs.declared.action.Action.TheVariants as action
 use Rattle.bgp_machine.specs.declared.state.State.{State}
+use Rattle.bgp_machine.specs.declared.timer.Timers.{Timers}
+use Rattle.bgp_machine.specs.Prelude.{told_in, Standing, agreed, Step, go, on_agreement, on_open, on_verdict, on_update, on_message}
 use Rattle.bgp_machine.specs.declared.state.State.TheVariants as state
 use Rattle.bgp_machine.specs.declared.timer.Timer.TheVariants as timer
-use Rattle.bgp_machine.specs.declared.timer.Timers.{Timers}
-use Rattle.bgp_machine.specs.Sending.{told_in}
-use Rattle.bgp_machine.specs.Standing.{Standing, agreed}
-use Rattle.bgp_machine.specs.Table.{Step, go, on_agreement, on_open, on_verdict, on_update, on_message}
 use Rattle.bgp_update.specs.declared.path_info.PathInfo.{PathInfo}
 use Rattle.bgp_update.specs.declared.update.Update.{Update}
 use Rattle.bgp_update.specs.declared.verdict.Verdict.{Verdict}
+use Rattle.bgp_update.specs.Prelude.{onward_of, rebuilt}
 use Rattle.bgp_update.specs.declared.verdict.Verdict.TheVariants as verdict
-use Rattle.bgp_update.specs.As4.{onward_of, rebuilt}
 use Rattle.bgp_session.specs.declared.side.Side.{Side}
-use Rattle.bgp_session.specs.Laws.{CanBeSet, heard}
-use Rattle.bgp_session.specs.Pair.{End, with_session, towards, keepalive_octets, notification_octets, Note, Pair, pair, note_of, all_acted}
+use Rattle.bgp_session.specs.Prelude.{CanBeSet, heard, End, with_session, towards, keepalive_octets, notification_octets, Note, Pair, pair, note_of, all_acted}
 use Rattle.bgp_session.proofs.Facts.{keepalive_spelled, open_read, update_read, update_heard}
 use Rattle.bgp_session.proofs.Sayings.{Said, SaidOpen, SaidKeepalive, SaidNotification, SaidUpdate, open_body, update_body, message_of, spellings, updates_of, updates_in, Fits, Stage, WantsOpen, WantsKeepalive, Runs, next, Follows, EndsAt}
 use Rattle.bgp_session.proofs.Ways.{MaySay, sender_goes, sender_says}

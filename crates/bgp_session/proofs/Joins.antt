@@ -1,21 +1,19 @@
 -- A connection that is made: both ends are told, and each has an OPEN in flight towards it.
 use Rattle.std.proofs.Common.{◌≡◌, ℕ, Bool, true, false, List, [], ◌∷◌, ◌++◌, refl, sym, ap, subst, ◌∙◌}
 use Rattle.std.proofs.lemmas.List.{append-nil}
-use Rattle.bgp_frame.specs.Frame.{Waits}
+use Rattle.bgp_frame.specs.Prelude.{Waits}
 use Rattle.bgp_frame.proofs.Pulls.{nothing_waits}
-use Rattle.bgp_open.specs.Config.{Settings}
+use Rattle.bgp_open.specs.Prelude.{Settings}
 use Rattle.bgp_machine.specs.declared.action.Action.TheVariants as action
 use Rattle.bgp_machine.specs.declared.event.Event.TheVariants as event
 use Rattle.bgp_machine.specs.declared.state.State.{State}
+use Rattle.bgp_machine.specs.declared.timer.Timers.{Timers}
+use Rattle.bgp_machine.specs.Prelude.{Machine, own_octets, timers_behind}
 use Rattle.bgp_machine.specs.declared.state.State.TheVariants as state
 use Rattle.bgp_machine.specs.declared.timer.Timer.TheVariants as timer
 use Rattle.bgp_machine.specs.declared.timer.TheConstants.{OPEN_HOLD_SECONDS}
-use Rattle.bgp_machine.specs.declared.timer.Timers.{Timers}
-use Rattle.bgp_machine.specs.Session.{Machine, own_octets}
-use Rattle.bgp_machine.specs.Table.{timers_behind}
 use Rattle.bgp_session.specs.declared.side.Side.{Side}
-use Rattle.bgp_session.specs.Pair.{End, with_session, towards, Note, Pair, pair, told}
-use Rattle.bgp_session.specs.World.{seeks, joined_end}
+use Rattle.bgp_session.specs.Prelude.{End, with_session, towards, Note, Pair, pair, told, seeks, joined_end}
 use Rattle.bgp_session.proofs.Facts.{open_spelled}
 use Rattle.bgp_session.proofs.Sayings.{SaidOpen, spelling, WantsOpen, WantsKeepalive}
 use Rattle.bgp_session.proofs.Ways.{IsHearing}

@@ -1,17 +1,16 @@
 -- A connection that is lost: each end leaves, and what it heard is a front of what was said.
 use Rattle.std.proofs.Common.{◌≡◌, ℕ, Bool, true, false, not, List, [], refl, sym, ◌∙◌}
 use Rattle.std.specs.List.{AllByRecursion}
-use Rattle.bgp_open.specs.Config.{Settings}
+use Rattle.bgp_open.specs.Prelude.{Settings}
 use Rattle.bgp_machine.specs.declared.event.Event.TheVariants as event
 use Rattle.bgp_machine.specs.declared.state.State.{State}
-use Rattle.bgp_machine.specs.declared.state.State.TheVariants as state
 use Rattle.bgp_machine.specs.declared.timer.Timers.{Timers}
-use Rattle.bgp_machine.specs.Standing.{listens}
+use Rattle.bgp_machine.specs.Prelude.{listens}
+use Rattle.bgp_machine.specs.declared.state.State.TheVariants as state
 use Rattle.bgp_update.specs.declared.path_info.PathInfo.{PathInfo}
 use Rattle.bgp_update.specs.declared.update.Update.{Update}
 use Rattle.bgp_session.specs.declared.side.Side.{Side}
-use Rattle.bgp_session.specs.Laws.{IsFrontHeard}
-use Rattle.bgp_session.specs.Pair.{End, away, Note, Pair, pair, told}
+use Rattle.bgp_session.specs.Prelude.{IsFrontHeard, End, away, Note, Pair, pair, told}
 use Rattle.bgp_session.proofs.Ways.{Goes}
 use Rattle.bgp_session.proofs.Ends.{IsEnd, IsSound, IsOut, quietly, idle_out, connect_out, active_out, in_state, gone_to, idle_in}
 

@@ -4,11 +4,9 @@ use Rattle.std.specs.List.{AllByRecursion}
 use Rattle.bgp_numbers.specs.declared.TheConstants.{AS_TRANS}
 use Rattle.bgp_prefix.specs.declared.as_number.AsNumber.{AsNumber}
 use Rattle.bgp_attr.specs.declared.path.Segment.{Segment}
-use Rattle.bgp_attr.specs.Path.{as_number}
-use Rattle.bgp_attr.specs.Written.{is_above_two_octets, IsFourOctets, HasRanges}
+use Rattle.bgp_attr.specs.Prelude.{as_number, is_above_two_octets, IsFourOctets, HasRanges}
 use Rattle.bgp_update.specs.declared.update.Update.{Update}
-use Rattle.bgp_update.specs.As4.{narrow_number, narrow_segment, narrowed_update}
-use Rattle.bgp_update.specs.Written.{HasUpdateRanges}
+use Rattle.bgp_update.specs.Prelude.{narrow_number, narrow_segment, narrowed_update, HasUpdateRanges}
 use Rattle.bgp_update.proofs.Widths.{Carries, told-all}
 
 -- ---- numbers and segments

@@ -2,28 +2,22 @@
 use Rattle.std.proofs.Common.{◌≡◌, ℕ, Bool, true, List, [], ◌∷◌, ◌++◌, length, map, Option, None, Some, Ok, option_map, refl, sym, ap, subst, ◌∙◌, append_assoc, arith, inl, inr}
 use Rattle.std.specs.List.{AllByRecursion}
 use Rattle.std.proofs.lemmas.List.{length-append}
-use Rattle.bgp_frame.specs.Frame.{Message, IsFrame, Waits}
+use Rattle.bgp_frame.specs.Prelude.{Message, IsFrame, Waits, done_by, with_octet}
 use Rattle.bgp_frame.specs.declared.fault.HeadFault.{HeadFault}
 use Rattle.bgp_frame.proofs.Pulls.{nothing_waits}
 use Rattle.std.specs.Prelude.{Result}
-use Rattle.bgp_open.specs.Config.{Settings}
+use Rattle.bgp_open.specs.Prelude.{Settings}
 use Rattle.bgp_machine.specs.declared.action.Action.{Action}
 use Rattle.bgp_machine.specs.declared.state.State.{State}
-use Rattle.bgp_machine.specs.declared.state.State.TheVariants as state
 use Rattle.bgp_machine.specs.declared.timer.Timers.{Timers}
-use Rattle.bgp_frame.specs.Hearing.{done_by, with_octet}
+use Rattle.bgp_machine.specs.Prelude.{Done, settled, by_octet, by_octets, Machine, holding, hearer, after_step, listens, Step, hears}
+use Rattle.bgp_machine.specs.declared.state.State.TheVariants as state
 use Rattle.bgp_frame.proofs.Hearings as hearings
-use Rattle.bgp_machine.specs.Cutting.{Done, settled, by_octet, by_octets}
-use Rattle.bgp_machine.specs.Session.{Machine, holding, hearer, after_step}
-use Rattle.bgp_machine.specs.Standing.{listens}
-use Rattle.bgp_machine.specs.Table.{Step, hears}
 use Rattle.bgp_frame.proofs.Contents.{content_of-frame}
 use Rattle.bgp_machine.proofs.Cuttings.{is_hearer}
 use Rattle.bgp_update.specs.declared.update.Update.{Update}
 use Rattle.bgp_session.specs.declared.side.Side.{Side}
-use Rattle.bgp_session.specs.steps.Feeding.{with_machine}
-use Rattle.bgp_session.specs.Laws.{heard}
-use Rattle.bgp_session.specs.Pair.{End, Note, Pair, pair, all_acted, fed}
+use Rattle.bgp_session.specs.Prelude.{with_machine, heard, End, Note, Pair, pair, all_acted, fed}
 use Rattle.bgp_session.proofs.Acts.{all_keeps, all_moves, acted_both}
 use Rattle.bgp_session.proofs.Facts.{spelled_frame}
 use Rattle.bgp_session.proofs.Feeds.{octets_settings}

@@ -3,26 +3,22 @@ use Rattle.std.proofs.Common.{◌≡◌, ℕ, Bool, true, false, not, List, [], 
 use Rattle.std.specs.List.{All, AllByRecursion, Contains}
 use Rattle.std.proofs.lemmas.List.{append-nil}
 use Rattle.std.proofs.lemmas.List.Elements.{All-contains_itself, All-from_recursion, recursion_from_All}
-use Rattle.bgp_frame.specs.Frame.{Waits}
+use Rattle.bgp_frame.specs.Prelude.{Waits}
 use Rattle.bgp_open.specs.declared.context.Context.{Context}
-use Rattle.bgp_open.specs.Agreement.{agreement}
-use Rattle.bgp_open.specs.Config.{Settings}
-use Rattle.bgp_open.specs.Own.{own_of}
+use Rattle.bgp_open.specs.Prelude.{agreement, Settings, own_of}
 use Rattle.bgp_open.proofs.Agreements.{both_agree}
 use Rattle.bgp_machine.specs.declared.state.State.{State}
+use Rattle.bgp_machine.specs.Prelude.{listens}
 use Rattle.bgp_machine.specs.declared.state.State.TheVariants as state
 use Rattle.bgp_machine.specs.declared.timer.Timer.TheVariants as timer
-use Rattle.bgp_machine.specs.Standing.{listens}
 use Rattle.bgp_update.specs.declared.path_info.PathInfo.{PathInfo}
 use Rattle.bgp_update.specs.declared.update.Update.{Update}
 use Rattle.bgp_session.specs.declared.moves.Move.{Move}
-use Rattle.bgp_session.specs.declared.moves.Move.TheVariants as move
 use Rattle.bgp_session.specs.declared.report.Round.{Round}
 use Rattle.bgp_session.specs.declared.side.Side.{Side}
 use Rattle.bgp_session.specs.declared.side.Side.TheVariants.{A, B}
-use Rattle.bgp_session.specs.Laws.{CanBeSet, HaveSentRanges, world_behind, context_at, BothAgree, NoteHasReason, RoundHasReasons, both_wide, heard, HearsFronts, HeardAll}
-use Rattle.bgp_session.specs.Pair.{Note}
-use Rattle.bgp_session.specs.World.{World, begins, end_of, round_of, with_round, rounds_of}
+use Rattle.bgp_session.specs.Prelude.{CanBeSet, HaveSentRanges, world_behind, context_at, BothAgree, NoteHasReason, RoundHasReasons, both_wide, heard, HearsFronts, HeardAll, Note, World, begins, end_of, round_of, with_round, rounds_of}
+use Rattle.bgp_session.specs.declared.moves.Move.TheVariants as move
 use Rattle.bgp_session.proofs.Agreements.{agreed_width, wide_swaps, refused_for}
 use Rattle.bgp_session.proofs.Begun.{begun_behind}
 use Rattle.bgp_session.proofs.Ends.{HasContext}

@@ -6,10 +6,7 @@ use Rattle.std.proofs.Math.Dec.{eqb-suc-zero}
 use Rattle.std.proofs.Math.Seq.{take-suc}
 use Rattle.bgp_session.specs.declared.moves.Move.{Move}
 use Rattle.bgp_session.specs.declared.side.Side.{Side}
-use Rattle.bgp_session.specs.steps.Playing.{Wired, Gives, Observes, PlaysOn, Plays, Delivers, passed_seen, Passes}
-use Rattle.bgp_session.specs.Sight.{Sight, Begun, observed}
-use Rattle.bgp_session.specs.Wire.{failed_after, failed_behind, Call, Joined, Handed, Cut, Grows, answers_in, Trace, trace}
-use Rattle.bgp_session.specs.World.{World, end_of, stands, feeds_seen, lost_seen, Turn, Asks, Shows, calls_in, sights_in, Ran, ran, behind, shown, asked, answer_of, later_of, joins, joins_seen, joined_if, delivers_on, delivered, drawn, delivers, moved, cut_behind, cut_if, played, all_moved}
+use Rattle.bgp_session.specs.Prelude.{Wired, Gives, Observes, PlaysOn, Plays, Delivers, passed_seen, Passes, Sight, Begun, observed, failed_after, failed_behind, Call, Joined, Handed, Cut, Grows, answers_in, Trace, trace, World, end_of, stands, feeds_seen, lost_seen, Turn, Asks, Shows, calls_in, sights_in, Ran, ran, behind, shown, asked, answer_of, later_of, joins, joins_seen, joined_if, delivers_on, delivered, drawn, delivers, moved, cut_behind, cut_if, played, all_moved}
 
 abbrev pub wired : {S : Type 0} → Bool → (S → Sight → S) → List Bool → List Bool → Trace S → Trace S → Wired S
 wired honest after old new trace_old trace_new = record { honest = honest; after = after; old = old; new = new; trace_old = trace_old; trace_new = trace_new }

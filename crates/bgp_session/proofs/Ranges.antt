@@ -5,12 +5,7 @@ use Rattle.std.proofs.lemmas.List.{append-nil, take_all}
 use Rattle.std.proofs.Math.Seq.{take-suc}
 use Rattle.bgp_session.specs.declared.moves.Move.{Move}
 use Rattle.bgp_session.specs.declared.report.Report.{Report}
-use Rattle.bgp_session.specs.Laws.{SendsRanges, AllSendRanges}
-use Rattle.bgp_session.specs.steps.Playing.{Plays, HaveSoFar}
-use Rattle.bgp_session.specs.Report.{report_of}
-use Rattle.bgp_session.specs.Sight.{Sight}
-use Rattle.bgp_session.specs.Wire.{Trace}
-use Rattle.bgp_session.specs.World.{World, Ran, moved, played, all_moved}
+use Rattle.bgp_session.specs.Prelude.{SendsRanges, AllSendRanges, Plays, HaveSoFar, report_of, Sight, Trace, World, Ran, moved, played, all_moved}
 use Rattle.bgp_session.proofs.Plays.{wired}
 
 sends_last : (moves : List Move) (one : Move) (w : World) (answers : List Bool) → AllSendRanges moves w answers → SendsRanges (all_moved moves w answers).world one

@@ -3,13 +3,11 @@ use Rattle.std.proofs.Common.{◌≡◌, Bool, List, [], ◌++◌, Result, Ok, E
 use Rattle.std.specs.Result.{IfOk}
 use Rattle.std.specs.List.{All}
 use Rattle.std.proofs.lemmas.List.{append-nil}
-use Rattle.bgp_open.specs.Config.{Settings}
+use Rattle.bgp_open.specs.Prelude.{Settings}
 use Rattle.bgp_session.specs.declared.moves.Move.{Move}
 use Rattle.bgp_session.specs.declared.report.Report.{Report}
 use Rattle.bgp_session.specs.declared.report.Round.{Round}
-use Rattle.bgp_session.specs.Laws.{CanBeSet, HaveSentRanges, world_behind, RoundHasReasons, both_wide, HearsFronts}
-use Rattle.bgp_session.specs.Report.{IsReported}
-use Rattle.bgp_session.specs.World.{Ran, rounds_of}
+use Rattle.bgp_session.specs.Prelude.{CanBeSet, HaveSentRanges, world_behind, RoundHasReasons, both_wide, HearsFronts, IsReported, Ran, rounds_of}
 use Rattle.bgp_session.proofs.Outcomes.{reasons, fronts}
 
 module _ (a b : Settings) (moves : List Move) (report : Report) (can_a : CanBeSet a) (can_b : CanBeSet b) (ranges : HaveSentRanges a b moves report.answers)

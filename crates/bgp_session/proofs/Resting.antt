@@ -2,20 +2,16 @@
 use Rattle.std.proofs.Common.{◌≡◌, ℕ, List, [], ◌∷◌, Option, None, Some, Result, Ok, Err, refl, sym, ap, ap₂, subst, ◌∙◌}
 use Rattle.std.specs.Result.{IfOk, OnOk}
 use Rattle.bgp_machine.specs.declared.action.Action.{Action}
-use Rattle.bgp_machine.specs.declared.action.Action.TheVariants as action
 use Rattle.bgp_machine.specs.declared.event.Event.{Event}
-use Rattle.bgp_machine.specs.declared.event.Event.TheVariants as event
 use Rattle.bgp_machine.specs.declared.send_fault.SendFault.{SendFault}
-use Rattle.bgp_machine.specs.Cutting.{IsAtRest, by_octets}
-use Rattle.bgp_machine.specs.Session.{after_event}
-use Rattle.bgp_machine.specs.Table.{happens}
+use Rattle.bgp_machine.specs.Prelude.{IsAtRest, by_octets, after_event, happens}
+use Rattle.bgp_machine.specs.declared.action.Action.TheVariants as action
+use Rattle.bgp_machine.specs.declared.event.Event.TheVariants as event
 use Rattle.bgp_machine.proofs.Cuttings.{event_rests}
 use Rattle.bgp_update.specs.declared.update.Update.{Update}
 use Rattle.bgp_session.specs.declared.side.Side.{Side}
 use Rattle.bgp_session.specs.declared.side.Side.TheVariants.{A, B}
-use Rattle.bgp_session.specs.Pair.{End, with_session, before_event, Pair, pair, acted, all_acted, told, fed}
-use Rattle.bgp_session.specs.steps.Playing.{Rests, Sends, IsTried}
-use Rattle.bgp_session.specs.World.{World, seen_by, with_pair, tells, new_round}
+use Rattle.bgp_session.specs.Prelude.{End, with_session, before_event, Pair, pair, acted, all_acted, told, fed, Rests, Sends, IsTried, World, seen_by, with_pair, tells, new_round}
 use Rattle.bgp_session.proofs.Acts.{all_keeps}
 
 module _ (side : Side) where

@@ -2,19 +2,17 @@
 use Rattle.std.proofs.Common.{◌≡◌, ℕ, Bool, false, List, [], ◌∷◌, ◌++◌, Option, None, Some, Ok}
 use Rattle.bgp_frame.specs.declared.kind.Kind.TheVariants as kind
 use Rattle.bgp_frame.specs.declared.notification.Notification.{Notification}
-use Rattle.bgp_frame.specs.Frame.{Message, octets_of}
+use Rattle.bgp_frame.specs.Prelude.{Message, octets_of}
 use Rattle.bgp_msg.specs.Written as written
 use Rattle.bgp_open.specs.declared.context.Context.{Context}
-use Rattle.bgp_open.specs.Agreement.{agreement}
-use Rattle.bgp_open.specs.Config.{Settings}
-use Rattle.bgp_open.specs.Own.{own_of}
+use Rattle.bgp_open.specs.Prelude.{agreement, Settings, own_of}
 use Rattle.bgp_open.specs.Written as opens
 use Rattle.bgp_machine.specs.declared.state.State.{State}
+use Rattle.bgp_machine.specs.Prelude.{why_unsent, told_in, is_told_too_long}
 use Rattle.bgp_machine.specs.declared.state.State.TheVariants as state
-use Rattle.bgp_machine.specs.Sending.{why_unsent, told_in, is_told_too_long}
 use Rattle.bgp_update.specs.declared.update.Update.{Update}
+use Rattle.bgp_update.specs.Prelude.{HasUpdateRanges}
 use Rattle.bgp_update.specs.Written as updates
-use Rattle.bgp_update.specs.Written.{HasUpdateRanges}
 
 -- ---- messages
 

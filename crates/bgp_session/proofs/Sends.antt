@@ -1,18 +1,16 @@
 -- An UPDATE that is sent keeps what is kept of two ends.
 use Rattle.std.proofs.Common.{◌≡◌, ℕ, Bool, true, false, List, [], ◌∷◌, ◌++◌, Option, None, Some, Ok, refl, ap, subst, ◌∙◌}
 use Rattle.bgp_open.specs.declared.context.Context.{Context}
-use Rattle.bgp_open.specs.Agreement.{agreement}
-use Rattle.bgp_open.specs.Config.{Settings}
-use Rattle.bgp_open.specs.Own.{own_of}
+use Rattle.bgp_open.specs.Prelude.{agreement, Settings, own_of}
 use Rattle.bgp_machine.specs.declared.send_fault.SendFault.TheVariants as fault
 use Rattle.bgp_machine.specs.declared.state.State.{State}
-use Rattle.bgp_machine.specs.declared.state.State.TheVariants as state
 use Rattle.bgp_machine.specs.declared.timer.Timers.{Timers}
-use Rattle.bgp_machine.specs.Sending.{why_unsent, is_told_too_long, told_octets, unless_invalid, refusal_in, refusal_of}
+use Rattle.bgp_machine.specs.Prelude.{why_unsent, is_told_too_long, told_octets, unless_invalid, refusal_in, refusal_of}
+use Rattle.bgp_machine.specs.declared.state.State.TheVariants as state
 use Rattle.bgp_update.specs.declared.invalid.Invalid.{Invalid}
 use Rattle.bgp_update.specs.declared.update.Update.{Update}
-use Rattle.bgp_update.specs.Written.{HasUpdateRanges}
-use Rattle.bgp_session.specs.Pair.{End, told_by, Note, Pair, pair, sent}
+use Rattle.bgp_update.specs.Prelude.{HasUpdateRanges}
+use Rattle.bgp_session.specs.Prelude.{End, told_by, Note, Pair, pair, sent}
 use Rattle.bgp_session.proofs.Facts.{update_spelled}
 use Rattle.bgp_session.proofs.Sayings.{SaidUpdate, IsTold, Stage, next, EndsAt, Runs}
 use Rattle.bgp_session.proofs.Ways.{MaySay, sender_says}

@@ -3,27 +3,17 @@ use Rattle.std.proofs.Common.{◌≡◌, ℕ, ◌≤◌, Bool, true, false, List
 use Rattle.std.specs.Option.{option_copied}
 use Rattle.std.proofs.lemmas.List.{append-nil, take-append-drop}
 use Rattle.arrayvec.specs.ArrayVec.{ArrayVec}
-use Rattle.bgp_wire.specs.Octets.{AreOctets}
+use Rattle.bgp_wire.specs.Prelude.{AreOctets}
 use Rattle.bgp_open.specs.declared.context.Context.{Context}
 use Rattle.bgp_frame.specs.declared.fault.HeadFault.{HeadFault}
-use Rattle.bgp_frame.specs.Frame.{Message, Waits}
-use Rattle.bgp_frame.specs.Framer.{IsHeld}
-use Rattle.bgp_frame.specs.Takes.{Takes}
+use Rattle.bgp_frame.specs.Prelude.{Message, Waits, IsHeld, Takes, CountsFed, Judges, behind_feed, with_octet}
 use Rattle.bgp_machine.specs.declared.action.Action.{Action}
 use Rattle.bgp_machine.specs.declared.state.State.{State}
-use Rattle.bgp_machine.specs.Cutting.{IsAtRest, Done, settled, by_octet, by_octets}
-use Rattle.bgp_machine.specs.Pulling.{IsPulled}
-use Rattle.bgp_machine.specs.steps.Ready.{IsReady}
-use Rattle.bgp_machine.specs.Session.{Machine, holding, hearer}
-use Rattle.bgp_machine.specs.Standing.{listens}
-use Rattle.bgp_machine.specs.Table.{hears}
+use Rattle.bgp_machine.specs.Prelude.{IsAtRest, Done, settled, by_octet, by_octets, IsPulled, IsReady, Machine, holding, hearer, listens, hears}
 use Rattle.bgp_machine.proofs.Cuttings.{is_hearer, pulls_as_fed}
-use Rattle.bgp_frame.specs.Hearing.{CountsFed, Judges, behind_feed, with_octet}
 use Rattle.bgp_frame.proofs.Hearings.{IsHeld-fed, all_held, content_is, counts_within, empty_waits, front_by_octets, idles, judged_empty, none_left, none_more, pull_waits, rests, settled_by, took_none, waits_at, waits_or_stops}
 use Rattle.bgp_session.specs.declared.side.Side.{Side}
-use Rattle.bgp_session.specs.steps.Feeding.{with_machine, left_seen}
-use Rattle.bgp_session.specs.Pair.{Pair, all_acted}
-use Rattle.bgp_session.specs.Sight.{Sight, Came, Heard, observed, step_seen, settled_seen, came_if, octet_seen, octets_seen}
+use Rattle.bgp_session.specs.Prelude.{with_machine, left_seen, Pair, all_acted, Sight, Came, Heard, observed, step_seen, settled_seen, came_if, octet_seen, octets_seen}
 use Rattle.bgp_session.proofs.Acts.{all_keeps}
 use Rattle.bgp_session.proofs.Plays.{observed_both}
 

@@ -3,7 +3,7 @@ use Rattle.std.proofs.Common.{◌≡◌, ℕ, ◌+◌, ◌≤◌, ◌⊎◌, Lis
 use Rattle.std.proofs.Math.Seq.{take-append_seam, drop-append_seam}
 use Rattle.std.proofs.lemmas.Bool.{cases_lt}
 use Rattle.std.proofs.lemmas.List.{append-nil, length-append}
-use Rattle.bgp_frame.specs.Frame.{Message, IsFrame, wanted, Waits}
+use Rattle.bgp_frame.specs.Prelude.{Message, IsFrame, wanted, Waits}
 use Rattle.bgp_frame.proofs.FrameLemmas.{length-IsFrame, IsFrame-wanted, wanted_under, wanted-append}
 
 -- fronts of one length are one

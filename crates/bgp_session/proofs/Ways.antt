@@ -2,15 +2,14 @@
 use Rattle.std.proofs.Common.{◌≡◌, ℕ, Bool, true, false, not, List, [], ◌∷◌, ◌++◌, map, Option, None, Some, refl, sym, ap, subst, ◌∙◌, append_assoc}
 use Rattle.std.specs.List.{AllByRecursion}
 use Rattle.std.proofs.lemmas.List.{append-nil}
-use Rattle.bgp_frame.specs.Frame.{Waits}
-use Rattle.bgp_open.specs.Config.{Settings}
+use Rattle.bgp_frame.specs.Prelude.{Waits}
+use Rattle.bgp_open.specs.Prelude.{Settings}
 use Rattle.bgp_machine.specs.declared.state.State.{State}
+use Rattle.bgp_machine.specs.Prelude.{listens}
 use Rattle.bgp_machine.specs.declared.state.State.TheVariants as state
-use Rattle.bgp_machine.specs.Standing.{listens}
 use Rattle.bgp_update.specs.declared.path_info.PathInfo.{PathInfo}
 use Rattle.bgp_update.specs.declared.update.Update.{Update}
-use Rattle.bgp_session.specs.Laws.{heard, IsFrontHeard}
-use Rattle.bgp_session.specs.Pair.{flying}
+use Rattle.bgp_session.specs.Prelude.{heard, IsFrontHeard, flying}
 use Rattle.bgp_session.proofs.Sayings.{Said, spelling, spellings, updates_of, updates_in, Fits, Stage, WantsOpen, WantsKeepalive, Runs, next, Follows, EndsAt}
 
 -- ---- what is kept

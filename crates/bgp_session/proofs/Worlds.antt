@@ -4,28 +4,22 @@ use Rattle.std.specs.List.{AllByRecursion}
 use Rattle.std.proofs.Math.Seq.{drop-nil}
 use Rattle.std.proofs.lemmas.List.{length-take, length-drop, take-append-drop}
 use Rattle.bgp_open.specs.declared.context.Context.{Context}
-use Rattle.bgp_open.specs.Agreement.{agreement}
-use Rattle.bgp_open.specs.Config.{Settings}
-use Rattle.bgp_open.specs.Own.{own_of}
+use Rattle.bgp_open.specs.Prelude.{agreement, Settings, own_of}
 use Rattle.bgp_machine.specs.declared.event.Event.{Event}
-use Rattle.bgp_machine.specs.declared.event.Event.TheVariants as event
 use Rattle.bgp_machine.specs.declared.send_fault.SendFault.{SendFault}
 use Rattle.bgp_machine.specs.declared.state.State.{State}
+use Rattle.bgp_machine.specs.Prelude.{refusal_of, own_octets, listens}
+use Rattle.bgp_machine.specs.declared.event.Event.TheVariants as event
 use Rattle.bgp_machine.specs.declared.state.State.TheVariants as state
-use Rattle.bgp_machine.specs.Sending.{refusal_of}
-use Rattle.bgp_machine.specs.Session.{own_octets}
-use Rattle.bgp_machine.specs.Standing.{listens}
 use Rattle.bgp_update.specs.declared.path_info.PathInfo.{PathInfo}
 use Rattle.bgp_update.specs.declared.update.Update.{Update}
-use Rattle.bgp_update.specs.Written.{HasUpdateRanges}
+use Rattle.bgp_update.specs.Prelude.{HasUpdateRanges}
 use Rattle.bgp_session.specs.declared.moves.Move.{Move}
-use Rattle.bgp_session.specs.declared.moves.Move.TheVariants as move
 use Rattle.bgp_session.specs.declared.report.Round.{Round}
 use Rattle.bgp_session.specs.declared.side.Side.{Side}
 use Rattle.bgp_session.specs.declared.side.Side.TheVariants.{A, B}
-use Rattle.bgp_session.specs.Laws.{IsFrontHeard, HearsFronts, HasRangesUnless, SendsRanges, AllSendRanges}
-use Rattle.bgp_session.specs.Pair.{End, with_flight, towards, Note, Pair, pair, told, sent}
-use Rattle.bgp_session.specs.World.{World, begins, end_of, seen_by, with_pair, tells, feeds, stands, tells_if, state_of, fails_up, emptied, lost_if, lost, seeks, round_of, with_round, rounds_of, new_round, ran, answer_of, later_of, can_join, joins, joined_if, delivers_on, delivered, drawn, delivers, sent_or, moved, all_moved}
+use Rattle.bgp_session.specs.Prelude.{IsFrontHeard, HearsFronts, HasRangesUnless, SendsRanges, AllSendRanges, End, with_flight, towards, Note, Pair, pair, told, sent, World, begins, end_of, seen_by, with_pair, tells, feeds, stands, tells_if, state_of, fails_up, emptied, lost_if, lost, seeks, round_of, with_round, rounds_of, new_round, ran, answer_of, later_of, can_join, joins, joined_if, delivers_on, delivered, drawn, delivers, sent_or, moved, all_moved}
+use Rattle.bgp_session.specs.declared.moves.Move.TheVariants as move
 use Rattle.bgp_session.proofs.Sayings.{WantsOpen, WantsKeepalive, Runs}
 use Rattle.bgp_session.proofs.Ways.{IsHearing, Goes, front_of}
 use Rattle.bgp_session.proofs.Ends.{IsEnd, IsSound, turned}

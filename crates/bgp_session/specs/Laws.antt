@@ -3,16 +3,13 @@ use Rattle.std.specs.Prelude.{◌≡◌, ◌≢◌, ◌<◌, ◌^◌, ◌⊎◌,
 use Rattle.std.specs.List.{All, Contains}
 use Rattle.bgp_numbers.specs.declared.error.TheConstants.{OPEN_MESSAGE, BAD_PEER_AS, BAD_IDENTIFIER, HOLD_TIMER_EXPIRED, UNSPECIFIC, CEASE}
 use Rattle.bgp_open.specs.declared.context.Context.{Context}
-use Rattle.bgp_open.specs.Agreement.{agreement}
-use Rattle.bgp_open.specs.Config.{Settings, IsAllowed}
-use Rattle.bgp_open.specs.Own.{own_of}
+use Rattle.bgp_open.specs.Prelude.{agreement, Settings, IsAllowed, own_of}
 use Rattle.bgp_machine.specs.declared.timer.Timer.TheVariants.{Hold}
 use Rattle.bgp_machine.specs.declared.send_fault.SendFault.{SendFault}
-use Rattle.bgp_machine.specs.Sending.{told_with, refusal_of}
+use Rattle.bgp_machine.specs.Prelude.{told_with, refusal_of}
 use Rattle.bgp_update.specs.declared.path_info.PathInfo.{PathInfo}
 use Rattle.bgp_update.specs.declared.update.Update.{Update}
-use Rattle.bgp_update.specs.As4.{onward_of}
-use Rattle.bgp_update.specs.Written.{HasUpdateRanges}
+use Rattle.bgp_update.specs.Prelude.{onward_of, HasUpdateRanges}
 use Rattle.bgp_session.specs.declared.moves.Move.{Move}
 use Rattle.bgp_session.specs.declared.moves.Move.TheVariants as move
 use Rattle.bgp_session.specs.declared.report.Round.{Round}

@@ -5,4 +5,5 @@ pub mod Wire
 pub mod Sight
 pub mod Report
 pub mod Laws
+pub mod Prelude
 pub mod steps

@@ -2,18 +2,15 @@
 use Rattle.std.specs.Prelude.{ℕ, Bool, true, false, List, [], ◌∷◌, ◌++◌, Option, None, Some}
 use Rattle.bgp_frame.specs.declared.kind.Kind.TheVariants as kind
 use Rattle.bgp_frame.specs.declared.notification.Notification.{Notification}
-use Rattle.bgp_frame.specs.Frame.{octets_of}
+use Rattle.bgp_frame.specs.Prelude.{octets_of}
 use Rattle.bgp_msg.specs.Written as written
 use Rattle.bgp_open.specs.declared.context.Context.{Context}
-use Rattle.bgp_open.specs.Config.{Settings}
+use Rattle.bgp_open.specs.Prelude.{Settings}
 use Rattle.bgp_machine.specs.declared.action.Action.{Action}
 use Rattle.bgp_machine.specs.declared.action.Action.TheVariants.{Close, SendOpen, SendKeepalive, SendNotification, Announce, Withdraw}
 use Rattle.bgp_machine.specs.declared.event.Event.{Event}
 use Rattle.bgp_machine.specs.declared.event.Event.TheVariants.{Failed}
-use Rattle.bgp_machine.specs.Cutting.{by_octets}
-use Rattle.bgp_machine.specs.Sending.{told_octets}
-use Rattle.bgp_machine.specs.Session.{Machine, fresh, own_octets, after_event}
-use Rattle.bgp_machine.specs.Table.{happens}
+use Rattle.bgp_machine.specs.Prelude.{by_octets, told_octets, Machine, fresh, own_octets, after_event, happens}
 use Rattle.bgp_update.specs.declared.path_info.PathInfo.{PathInfo}
 use Rattle.bgp_update.specs.declared.routes.Routes.{Routes}
 use Rattle.bgp_update.specs.declared.update.Update.{Update}

@@ -1,6 +1,6 @@
 -- What is reported of a schedule.
 use Rattle.std.specs.Prelude.{◌≡◌, Bool, List, ◌++◌}
-use Rattle.bgp_open.specs.Config.{Settings}
+use Rattle.bgp_open.specs.Prelude.{Settings}
 use Rattle.bgp_session.specs.declared.moves.Move.{Move}
 use Rattle.bgp_session.specs.declared.report.Report.{Report}
 use Rattle.bgp_session.specs.Sight.{Sight}

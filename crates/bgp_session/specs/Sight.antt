@@ -5,12 +5,8 @@ use Rattle.bgp_machine.specs.declared.action.Action.{Action}
 use Rattle.bgp_machine.specs.declared.event.Event.{Event}
 use Rattle.bgp_machine.specs.declared.send_fault.SendFault.{SendFault}
 use Rattle.bgp_machine.specs.declared.state.State.{State}
-use Rattle.bgp_frame.specs.Hearing.{with_octet}
-use Rattle.bgp_machine.specs.Cutting.{by_octet}
-use Rattle.bgp_machine.specs.Sending.{refusal_of, keepalive_on}
-use Rattle.bgp_machine.specs.Session.{Machine, holding, judged}
-use Rattle.bgp_machine.specs.Standing.{listens}
-use Rattle.bgp_machine.specs.Table.{Step, happens}
+use Rattle.bgp_machine.specs.Prelude.{by_octet, refusal_of, keepalive_on, Machine, holding, judged, listens, Step, happens}
+use Rattle.bgp_frame.specs.Prelude.{with_octet}
 use Rattle.bgp_update.specs.declared.update.Update.{Update}
 use Rattle.bgp_session.specs.declared.moves.Move.{Move}
 use Rattle.bgp_session.specs.declared.side.Side.{Side}

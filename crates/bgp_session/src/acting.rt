@@ -1,13 +1,8 @@
 //! What one end does, and what the other has of it.
 
 ghost use Rattle.std.specs.Prelude.{◌≡◌, [], ◌∷◌, IfOk, OnOk};
-ghost use Rattle.bgp_machine.specs.Cutting.{IsAtRest};
-ghost use Rattle.bgp_session.specs.Pair.{pair, acted, all_acted, told, fed};
-ghost use Rattle.bgp_machine.specs.steps.Ready.{IsReady};
-ghost use Rattle.bgp_session.specs.steps.Feeding.{Feeds, SeesPull};
-ghost use Rattle.bgp_session.specs.Laws.{HasRangesUnless};
-ghost use Rattle.bgp_session.specs.steps.Playing.{Sends};
-ghost use Rattle.bgp_session.specs.Sight.{observed, event_seen, octets_seen, tried_seen};
+ghost use Rattle.bgp_machine.specs.Prelude.{IsAtRest, IsReady};
+ghost use Rattle.bgp_session.specs.Prelude.{pair, acted, all_acted, told, fed, Feeds, SeesPull, HasRangesUnless, Sends, observed, event_seen, octets_seen, tried_seen};
 
 use crate::observer::Observer;
 use crate::side::Side;

@@ -3,13 +3,11 @@
 
 ghost use Rattle.std.specs.Prelude.{◌≡◌, Bool, true, false, List, []};
 ghost use Rattle.std.specs.List.{All};
-ghost use Rattle.bgp_open.specs.Config.{Settings};
+ghost use Rattle.bgp_open.specs.Prelude.{Settings};
 ghost use Rattle.bgp_session.specs.declared.moves.Move.{Move};
 ghost use Rattle.bgp_session.specs.declared.report.Report.{Report};
 ghost use Rattle.bgp_session.specs.declared.side.Side.{Side};
-ghost use Rattle.bgp_session.specs.Report.{IsReported};
-ghost use Rattle.bgp_session.specs.World.{rounds_of, end_of};
-ghost use Rattle.bgp_session.specs.Laws.{CanBeSet, HaveSentRanges, world_behind, BothAgree, RoundHasReasons, HearsFronts, HeardAll, both_wide};
+ghost use Rattle.bgp_session.specs.Prelude.{IsReported, rounds_of, end_of, CanBeSet, HaveSentRanges, world_behind, BothAgree, RoundHasReasons, HearsFronts, HeardAll, both_wide};
 
 pub use bgp_machine::laws::{
     any_pieces_can_be_fed, any_pieces_can_be_pulled, cuts_change_nothing,

@@ -1,8 +1,7 @@
 //! Two speakers, and the connection between them.
 
 ghost use Rattle.std.specs.Prelude.{◌≡◌, take, IfOk, OnOk};
-ghost use Rattle.bgp_machine.specs.Standing.{listens};
-ghost use Rattle.bgp_machine.specs.Sending.{refusal_of};
+ghost use Rattle.bgp_machine.specs.Prelude.{listens, refusal_of};
 ghost use Rattle.bgp_session.specs.Laws.{HasRangesUnless};
 ghost use Rattle.bgp_session.specs.steps.Playing.{Rests, IsTried};
 ghost use Rattle.bgp_session.specs.Sight.{observed};

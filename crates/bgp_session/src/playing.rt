@@ -2,12 +2,7 @@
 
 ghost use Rattle.std.specs.Prelude.{◌≡◌, true, [], ◌∷◌, IfOk, OnOk};
 ghost use Rattle.std.specs.List.{All};
-ghost use Rattle.bgp_session.specs.Laws.{CanBeSet, SendsRanges, HaveSentRanges, RoundHasReasons, HearsFronts, both_wide};
-ghost use Rattle.bgp_session.specs.steps.Playing.{Rests, Plays, Passes};
-ghost use Rattle.bgp_session.specs.Report.{IsReported, calls_behind, sights_behind};
-ghost use Rattle.bgp_session.specs.Sight.{observed};
-ghost use Rattle.bgp_session.specs.Wire.{failed_after, failed_behind, Handed, Grows, HasAnswered, trace};
-ghost use Rattle.bgp_session.specs.World.{calls_in, sights_in, joined_if, can_join, delivers, moved, cut_behind, played};
+ghost use Rattle.bgp_session.specs.Prelude.{CanBeSet, SendsRanges, HaveSentRanges, RoundHasReasons, HearsFronts, both_wide, Rests, Plays, Passes, IsReported, calls_behind, sights_behind, observed, failed_after, failed_behind, Handed, Grows, HasAnswered, trace, calls_in, sights_in, joined_if, can_join, delivers, moved, cut_behind, played};
 
 use crate::moves::Move;
 use crate::observer::{Nobody, Observer};

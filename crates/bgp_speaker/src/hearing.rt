@@ -1,7 +1,7 @@
 //! The octets of the peer: each whole message is printed, and handed to the session.
 
 ghost use Rattle.std.specs.Prelude.{◌+◌, length};
-ghost use Rattle.bgp_frame.specs.Kind.{IsLength};
+ghost use Rattle.bgp_frame.specs.Prelude.{IsLength};
 
 use crate::tcp::TcpConnection;
 use crate::timers::Timers;

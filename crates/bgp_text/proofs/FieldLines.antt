@@ -3,8 +3,8 @@ use Rattle.std.proofs.Common.{◌≡◌, ℕ, Bool, true, false, List, [], ◌�
 use Rattle.std.specs.List.{flat_map}
 use Rattle.std.specs.Iterator.{YieldsFirst}
 use Rattle.bgp_update.specs.declared.note.Note.{Note}
+use Rattle.bgp_update.specs.Prelude.{notes_left}
 use Rattle.bgp_update.specs.declared.note_iter.NoteIter.{NoteIter}
-use Rattle.bgp_update.specs.Iters.{notes_left}
 use Rattle.bgp_text.specs.declared.field_lines.Noting.{Noting}
 use Rattle.bgp_fields.specs.declared.field.Field.{Field}
 use Rattle.bgp_text.specs.FieldLines.{field_line, is_at, is_in, note_reason, noted_lines, unplaced_line}

@@ -4,23 +4,20 @@ use Rattle.std.specs.Option.{option_or}
 use Rattle.bgp_numbers.specs.declared.error.TheConstants.{UPDATE_MESSAGE}
 use Rattle.bgp_frame.specs.declared.notification.Notification.{Notification}
 use Rattle.bgp_open.specs.declared.context.Context.{Context}
-use Rattle.bgp_prefix.specs.Run.{run_of}
+use Rattle.bgp_prefix.specs.Prelude.{run_of}
 use Rattle.bgp_attr.specs.declared.judged.Judged.{Judged}
+use Rattle.bgp_attr.specs.Prelude.{judgement, TlvValue, PlacedTlv, tlvs_of}
 use Rattle.bgp_attr.specs.declared.judged.Judged.TheVariants as judged
 use Rattle.bgp_attr.specs.declared.why.Why.TheVariants as why
-use Rattle.bgp_attr.specs.Judgement.{judgement}
-use Rattle.bgp_attr.specs.Tlv.{TlvValue, PlacedTlv, tlvs_of}
-use Rattle.bgp_attr.proofs.TestRows.{IsRefusal, by_answer}
+use Rattle.bgp_attr.proofs.TestRows.{IsRefusal}
+use Rattle.bgp_attr.proofs.EachType.{by_answer}
 use Rattle.bgp_update.specs.declared.verdict.Verdict.{Verdict}
+use Rattle.bgp_update.specs.Prelude.{Mark, malformed, carries_routes, repeated, cut_kind, placed_tlvs, marks_behind, field_marks, cut_mark, marks_of, is_reachable, notes_of, routes_of, Parts, parts_of, update_of, first_reset, reset_by, bad_network, reset_of_run, reset_of, is_withdrawn, without_reset, unless_reset, of_parts, verdict_of}
 use Rattle.bgp_update.specs.declared.verdict.Verdict.TheVariants as verdict
-use Rattle.bgp_wire.specs.OctetSet.{also, none_of_them}
-use Rattle.bgp_update.specs.Marks.{Mark, malformed, carries_routes, repeated, cut_kind, placed_tlvs, marks_behind, field_marks, cut_mark, marks_of}
-use Rattle.bgp_update.specs.Notes.{is_reachable, notes_of, routes_of}
-use Rattle.bgp_update.specs.Parts.{Parts, parts_of, has_nlri}
-use Rattle.bgp_update.specs.Taken.{update_of}
-use Rattle.bgp_update.specs.Verdict.{first_reset, reset_by, bad_network, reset_of_run, reset_of, is_withdrawn, without_reset, unless_reset, of_parts, verdict_of}
+use Rattle.bgp_wire.specs.Prelude.{also, none_of_them}
+use Rattle.bgp_update.specs.Parts.{has_nlri}
 use Rattle.bgp_msg.specs.declared.outcome.Outcome.TheVariants as outcome
-use Rattle.bgp_msg.specs.Outcome.{of_verdict}
+use Rattle.bgp_msg.specs.Prelude.{of_verdict}
 
 -- ---- how an attribute is judged
 

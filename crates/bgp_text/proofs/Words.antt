@@ -3,7 +3,7 @@ use Rattle.std.proofs.Common.{◌≡◌, ℕ, zero, suc, false, ◌^◌, ◌/◌
 use Rattle.std.specs.Fmt.{decimal, digit_glyph}
 use Rattle.std.specs.Prelude.{slice_index}
 use Rattle.std.specs.Str.{IsAscii}
-use Rattle.bgp_prefix.specs.Text.{hex_octet, ipv4_address_text, ipv6_address_text, groups_text}
+use Rattle.bgp_prefix.specs.Prelude.{hex_octet, ipv4_address_text, ipv6_address_text, groups_text}
 use Rattle.std.proofs.lemmas.Fmt.{length-decimal-le, IsAscii-decimal}
 use Rattle.std.proofs.lemmas.Str.{IsAscii-append}
 use Rattle.std.proofs.lemmas.Bool.Decides.{nat_tests}

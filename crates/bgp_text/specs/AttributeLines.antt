@@ -1,12 +1,12 @@
 -- The lines of attributes.
 use Rattle.std.specs.Prelude.{ℕ, Bool, true, false, List, [], ◌∷◌, ◌++◌, codes}
 use Rattle.std.specs.Fmt.{decimal}
-use Rattle.bgp_prefix.specs.Text.{ipv4_address_text}
+use Rattle.bgp_prefix.specs.Prelude.{ipv4_address_text}
 use Rattle.bgp_attr.specs.declared.aggregator.Aggregator.{Aggregator}
 use Rattle.bgp_attr.specs.declared.attr.Attr.{Attr}
-use Rattle.bgp_attr.specs.declared.attr.Attr.TheVariants as attr
 use Rattle.bgp_attr.specs.declared.opaque.Opaque.{Opaque}
 use Rattle.bgp_attr.specs.declared.origin.Origin.{Origin}
+use Rattle.bgp_attr.specs.declared.attr.Attr.TheVariants as attr
 use Rattle.bgp_attr.specs.declared.origin.Origin.TheVariants as origin
 use Rattle.bgp_text.specs.CommunityLines.{communities_line, large_line}
 use Rattle.bgp_text.specs.Info.{info_text}

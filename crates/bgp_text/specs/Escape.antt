@@ -3,7 +3,7 @@ use Rattle.std.specs.Prelude.{ℕ, ◌==◌, List, ◌++◌, codes, if◌then◌
 use Rattle.std.specs.List.{flat_map}
 use Rattle.std.specs.Str.{chars}
 use Rattle.std.specs.Char.{encode_utf8, is_control}
-use Rattle.bgp_prefix.specs.Text.{hex_octet}
+use Rattle.bgp_prefix.specs.Prelude.{hex_octet}
 
 -- a character as RFC 8259, section 7, has it: a quotation mark and a backslash behind a backslash, a control character by its number
 abbrev pub escaped : ℕ → List ℕ

@@ -5,7 +5,7 @@ use Rattle.bgp_open.specs.declared.context.Context.{Context}
 use Rattle.bgp_msg.specs.declared.outcome.Outcome.{Outcome}
 use Rattle.bgp_msg.specs.declared.outcome.Outcome.TheVariants as outcome
 use Rattle.bgp_fields.specs.declared.field.Span.{Span}
-use Rattle.bgp_fields.specs.Fields.{fields_of}
+use Rattle.bgp_fields.specs.Prelude.{fields_of}
 use Rattle.bgp_text.specs.FieldLines.{noted_lines, faulty_line}
 use Rattle.bgp_text.specs.Outcome.{outcome_lines}
 

@@ -3,9 +3,8 @@ use Rattle.std.specs.Prelude.{ℕ, Bool, true, false, ◌==◌, List, [], ◌∷
 use Rattle.std.specs.List.{flat_map}
 use Rattle.std.specs.Fmt.{decimal}
 use Rattle.std.specs.Int.{w16, w32, from_be_bytes}
-use Rattle.bgp_prefix.specs.Run.{run_of}
-use Rattle.bgp_prefix.specs.Text.{ipv4_address_text, ipv6_address_text, ipv4_text, ipv6_text}
-use Rattle.bgp_attr.specs.Flags.{is_optional, is_transitive, is_partial, is_extended}
+use Rattle.bgp_prefix.specs.Prelude.{run_of, ipv4_address_text, ipv6_address_text, ipv4_text, ipv6_text}
+use Rattle.bgp_attr.specs.Prelude.{is_optional, is_transitive, is_partial, is_extended}
 use Rattle.bgp_names.specs.Attributes.{attribute_name, origin_name, segment_name}
 use Rattle.bgp_names.specs.Capabilities.{capability_name, parameter_name}
 use Rattle.bgp_names.specs.Errors.{error_name, subcode_name}

@@ -3,9 +3,9 @@ use Rattle.std.specs.Prelude.{ℕ, ◌/◌, ◌%◌, true, List, [], ◌∷◌, 
 use Rattle.std.specs.Fmt.{decimal}
 use Rattle.bgp_attr.specs.declared.aggregator.Aggregator.{Aggregator}
 use Rattle.bgp_attr.specs.declared.attr.Attr.{Attr}
-use Rattle.bgp_attr.specs.declared.attr.Attr.TheVariants as attr
 use Rattle.bgp_attr.specs.declared.opaque.Opaque.{Opaque}
 use Rattle.bgp_attr.specs.declared.origin.Origin.{Origin}
+use Rattle.bgp_attr.specs.declared.attr.Attr.TheVariants as attr
 use Rattle.bgp_names.specs.Attributes.{attribute_name}
 use Rattle.bgp_text.specs.AttributeLines.{origin_name}
 use Rattle.bgp_text.specs.Json.{quoted, octets_json, boolean, member, listed, where_named}

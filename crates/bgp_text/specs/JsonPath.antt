@@ -4,8 +4,8 @@ use Rattle.std.specs.Fmt.{decimal}
 use Rattle.bgp_prefix.specs.declared.as_number.AsNumber.{AsNumber}
 use Rattle.bgp_attr.specs.declared.path.AsPath.{AsPath}
 use Rattle.bgp_attr.specs.declared.path.SegKind.{SegKind}
-use Rattle.bgp_attr.specs.declared.path.SegKind.TheVariants as seg_kind
 use Rattle.bgp_attr.specs.declared.path.Segment.{Segment}
+use Rattle.bgp_attr.specs.declared.path.SegKind.TheVariants as seg_kind
 use Rattle.bgp_text.specs.Json.{quoted, member, listed}
 
 abbrev pub segment_type : SegKind → List ℕ

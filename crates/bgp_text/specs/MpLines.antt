@@ -1,10 +1,10 @@
 -- The lines of MP_REACH_NLRI and MP_UNREACH_NLRI.
 use Rattle.std.specs.Prelude.{ℕ, List, [], ◌∷◌, ◌++◌, codes, Option, None, Some}
 use Rattle.std.specs.List.{flat_map}
-use Rattle.bgp_prefix.specs.Text.{ipv4_address_text, ipv6_address_text, ipv4_text, ipv6_text}
+use Rattle.bgp_prefix.specs.Prelude.{ipv4_address_text, ipv6_address_text, ipv4_text, ipv6_text}
 use Rattle.bgp_attr.specs.declared.mp.MpReach.{MpReach}
-use Rattle.bgp_attr.specs.declared.mp.MpReach.TheVariants as reach
 use Rattle.bgp_attr.specs.declared.mp.MpUnreach.{MpUnreach}
+use Rattle.bgp_attr.specs.declared.mp.MpReach.TheVariants as reach
 use Rattle.bgp_attr.specs.declared.mp.MpUnreach.TheVariants as unreach
 use Rattle.bgp_text.specs.Lines.{line_of}
 

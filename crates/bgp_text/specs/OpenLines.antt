@@ -2,7 +2,7 @@
 use Rattle.std.specs.Prelude.{ℕ, List, [], ◌∷◌, ◌++◌, codes}
 use Rattle.std.specs.List.{flat_map}
 use Rattle.std.specs.Fmt.{decimal}
-use Rattle.bgp_prefix.specs.Text.{ipv4_address_text}
+use Rattle.bgp_prefix.specs.Prelude.{ipv4_address_text}
 use Rattle.bgp_open.specs.declared.capability.Capability.{Capability}
 use Rattle.bgp_open.specs.declared.capability.Capability.TheVariants.{Multi, As4, Other}
 use Rattle.bgp_open.specs.declared.message.Open.{Open}

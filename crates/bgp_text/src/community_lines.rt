@@ -2,8 +2,7 @@
 
 ghost use Rattle.std.specs.Prelude.{◌≡◌, ◌++◌, OnOk};
 ghost use Rattle.std.specs.String.{string_bytes};
-ghost use Rattle.bgp_attr.specs.LargeIter.{triples_left};
-ghost use Rattle.bgp_attr.specs.NumberIter.{communities_left};
+ghost use Rattle.bgp_attr.specs.Prelude.{triples_left, communities_left};
 ghost use Rattle.bgp_text.specs.CommunityLines.{communities_line, large_line};
 
 use crate::short::{Short, put_row};

@@ -4,7 +4,7 @@ ghost use Rattle.std.specs.Prelude.{◌≡◌, ◌<◌, ◌++◌, codes, OnOk};
 ghost use Rattle.std.specs.List.{flat_map};
 ghost use Rattle.std.specs.Str.{chars};
 ghost use Rattle.std.specs.String.{string_bytes};
-ghost use Rattle.bgp_prefix.specs.Text.{hex_octet};
+ghost use Rattle.bgp_prefix.specs.Prelude.{hex_octet};
 ghost use Rattle.bgp_text.specs.Escape.{escaped, escaped_string};
 
 use crate::json::put_octet;

@@ -3,10 +3,10 @@
 ghost use Rattle.std.specs.Prelude.{◌≡◌, ◌≤◌, ◌++◌, [], ◌∷◌, ℕ, List, true, codes, length, take, drop, OnOk};
 ghost use Rattle.std.specs.List.{flat_map};
 ghost use Rattle.std.specs.String.{string_bytes};
-ghost use Rattle.bgp_prefix.specs.Text.{hex_octet};
-ghost use Rattle.bgp_frame.specs.Notification.{notification_of_view};
-ghost use Rattle.bgp_update.specs.Iters.{notes_left};
-ghost use Rattle.bgp_fields.specs.FieldIter.{fields_left};
+ghost use Rattle.bgp_prefix.specs.Prelude.{hex_octet};
+ghost use Rattle.bgp_frame.specs.Prelude.{notification_of_view};
+ghost use Rattle.bgp_update.specs.Prelude.{notes_left};
+ghost use Rattle.bgp_fields.specs.Prelude.{fields_left};
 ghost use Rattle.bgp_fields.specs.declared.field.Field.{Field as FieldValue};
 ghost use Rattle.bgp_text.specs.steps.Rows.{row_of, note_at, noting_lines, plain_line};
 ghost use Rattle.bgp_text.specs.FieldLines.{margin, field_text, field_line, note_reason, is_at, is_in, unplaced_line, noted_lines, reset_reason, overlaps, holds, faulty_line};

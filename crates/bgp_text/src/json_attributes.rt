@@ -2,9 +2,7 @@
 
 ghost use Rattle.std.specs.Prelude.{◌≡◌, ◌++◌, map, codes, OnOk};
 ghost use Rattle.std.specs.String.{string_bytes};
-ghost use Rattle.bgp_attr.specs.AttrView.{attr_value, opaque_value};
-ghost use Rattle.bgp_attr.specs.LargeIter.{triples_left};
-ghost use Rattle.bgp_attr.specs.NumberIter.{communities_left};
+ghost use Rattle.bgp_attr.specs.Prelude.{attr_value, opaque_value, triples_left, communities_left};
 ghost use Rattle.bgp_text.specs.Json.{member, listed};
 ghost use Rattle.bgp_text.specs.JsonAttributes.{aggregator_json, community_json, large_json, others_member, attribute_member};
 

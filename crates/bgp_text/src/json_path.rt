@@ -3,7 +3,7 @@
 ghost use Rattle.std.specs.Prelude.{◌≡◌, ◌++◌, OnOk};
 ghost use Rattle.std.specs.List.{flat_map};
 ghost use Rattle.std.specs.String.{string_bytes};
-ghost use Rattle.bgp_attr.specs.PathView.{segment_value, path_value, segments_left};
+ghost use Rattle.bgp_attr.specs.Prelude.{segment_value, path_value, segments_left};
 ghost use Rattle.bgp_text.specs.Json.{member, behind_comma, joined};
 ghost use Rattle.bgp_text.specs.JsonPath.{segment_type, segment_json, path_json};
 

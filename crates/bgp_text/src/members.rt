@@ -3,9 +3,7 @@
 ghost use Rattle.std.specs.Prelude.{◌≡◌, ◌++◌, OnOk};
 ghost use Rattle.std.specs.List.{flat_map};
 ghost use Rattle.std.specs.String.{string_bytes};
-ghost use Rattle.bgp_update.specs.KeptView.{known_value};
-ghost use Rattle.bgp_update.specs.Slots.{slot};
-ghost use Rattle.bgp_update.specs.View.{update_value};
+ghost use Rattle.bgp_update.specs.Prelude.{known_value, slot, update_value};
 ghost use Rattle.bgp_text.specs.Members.{printed, printed_attributes};
 
 use bgp_attr::{AttrView, OpaqueView};

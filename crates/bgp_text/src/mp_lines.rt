@@ -3,7 +3,7 @@
 ghost use Rattle.std.specs.Prelude.{◌≡◌, ◌+◌, ◌≤◌, ◌++◌, codes, OnOk};
 ghost use Rattle.std.specs.List.{flat_map};
 ghost use Rattle.std.specs.String.{string_bytes};
-ghost use Rattle.bgp_attr.specs.MpView.{reach_value, unreach_value};
+ghost use Rattle.bgp_attr.specs.Prelude.{reach_value, unreach_value};
 ghost use Rattle.bgp_text.specs.Lines.{line_of};
 ghost use Rattle.bgp_text.specs.MpLines.{ip6_next_line, family_line, reach_lines, unreach_lines};
 

@@ -4,10 +4,10 @@ ghost use Rattle.std.specs.Prelude.{true, ◌≡◌, ◌≤◌, ◌++◌, length
 ghost use Rattle.std.specs.Char.{is_ascii};
 ghost use Rattle.std.specs.List.{list_all};
 ghost use Rattle.std.specs.String.{string_bytes};
-ghost use Rattle.bgp_frame.specs.Notification.{notification_of_view};
-ghost use Rattle.bgp_open.specs.OpenView.{open_value};
-ghost use Rattle.bgp_update.specs.View.{update_value, notes_value, routes_value};
-ghost use Rattle.bgp_msg.specs.OutcomeView.{outcome_value};
+ghost use Rattle.bgp_frame.specs.Prelude.{notification_of_view};
+ghost use Rattle.bgp_open.specs.Prelude.{open_value};
+ghost use Rattle.bgp_update.specs.Prelude.{update_value, notes_value, routes_value};
+ghost use Rattle.bgp_msg.specs.Prelude.{outcome_value};
 ghost use Rattle.bgp_msg.specs.declared.message.Message.TheVariants as message;
 ghost use Rattle.bgp_text.specs.Outcome.{head_line, reset_name, message_lines, took_lines, withdraw_lines};
 ghost use Rattle.bgp_text.specs.Outcome.{notification_line, reset_line, outcome_lines};

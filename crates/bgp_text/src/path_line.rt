@@ -3,7 +3,7 @@
 ghost use Rattle.std.specs.Prelude.{◌≡◌, ◌++◌, OnOk, codes};
 ghost use Rattle.std.specs.List.{flat_map};
 ghost use Rattle.std.specs.String.{string_bytes};
-ghost use Rattle.bgp_attr.specs.PathView.{path_value, segment_value, segments_left};
+ghost use Rattle.bgp_attr.specs.Prelude.{path_value, segment_value, segments_left};
 ghost use Rattle.bgp_text.specs.PathLine.{kind_name, segment_text, path_text, path_line};
 
 use crate::short::{Short, put_row};

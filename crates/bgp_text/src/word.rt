@@ -4,7 +4,7 @@ ghost use Rattle.std.specs.Prelude.{true, false, ◌≡◌, ◌+◌, ◌≤◌, 
 ghost use Rattle.std.specs.Char.{is_ascii};
 ghost use Rattle.std.specs.Fmt.{decimal, digit_glyph};
 ghost use Rattle.std.specs.List.{list_all};
-ghost use Rattle.bgp_prefix.specs.Text.{hex_octet};
+ghost use Rattle.bgp_prefix.specs.Prelude.{hex_octet};
 
 use crate::decimal::write_digits;
 use crate::digits::Digits;

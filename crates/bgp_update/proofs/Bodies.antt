@@ -4,11 +4,9 @@ use Rattle.std.specs.Int.{w16, byte_at, to_be_bytes, from_be_bytes}
 use Rattle.std.proofs.lemmas.Bool.{leb-true, le-leb}
 use Rattle.std.proofs.lemmas.Nat.{from_be_bytes-to_be_bytes_2, be_bytes_2}
 use Rattle.std.proofs.lemmas.List.{length-append, length-take, take_at, drop_at, take-append-drop}
-use Rattle.bgp_wire.specs.Octets.{AreOctets}
+use Rattle.bgp_wire.specs.Prelude.{AreOctets, ◌>>=◌}
 use Rattle.bgp_wire.proofs.OctetLemmas.{AreOctets-front, AreOctets-back}
-use Rattle.bgp_wire.specs.Then.{◌>>=◌}
-use Rattle.bgp_update.specs.Written.{body_octets}
-use Rattle.bgp_update.specs.Parts.{Parts, IsBody, behind_two, parts_of}
+use Rattle.bgp_update.specs.Prelude.{body_octets, Parts, IsBody, behind_two, parts_of}
 
 -- ---- a row behind its length in two octets
 

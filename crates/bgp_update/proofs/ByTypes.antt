@@ -4,10 +4,10 @@ use Rattle.std.specs.Prelude.{option_map}
 use Rattle.std.proofs.lemmas.Bool.{eqb-true, eqb-false, ltb-true, ne_eqb}
 use Rattle.std.proofs.lemmas.Grind.{get_or-set_at}
 use Rattle.std.proofs.lemmas.List.{get_or-set_other}
-use Rattle.bgp_attr.specs.AttrView.{opaque_value}
-use Rattle.bgp_attr.specs.declared.attr_view.OpaqueView.{OpaqueView}
+use Rattle.bgp_attr.specs.Prelude.{opaque_value}
+use Rattle.bgp_attr.specs.declared.opaque.OpaqueView.{OpaqueView}
 use Rattle.bgp_attr.specs.declared.opaque.Opaque.{Opaque}
-use Rattle.bgp_update.specs.Taken.{put_rising}
+use Rattle.bgp_update.specs.Prelude.{put_rising}
 use Rattle.bgp_update.proofs.Rising.{of_kind, find-by}
 
 -- where none stands

@@ -5,9 +5,8 @@ use Rattle.std.proofs.lemmas.List.{append-nil}
 use Rattle.std.proofs.lemmas.List.Folds.{list_any-append}
 use Rattle.bgp_open.specs.declared.context.Context.{Context}
 use Rattle.bgp_attr.specs.declared.attr.Attr.{Attr}
-use Rattle.bgp_attr.specs.Written.{is_too_wide, is_as4, is_empty, has_as_zero, stands_twice}
-use Rattle.bgp_update.specs.steps.Failed.{failed_by, also_failed}
-use Rattle.bgp_update.specs.Written.{is_of_other_family}
+use Rattle.bgp_attr.specs.Prelude.{is_too_wide, is_as4, is_empty, has_as_zero, stands_twice}
+use Rattle.bgp_update.specs.Prelude.{failed_by, also_failed, is_of_other_family}
 
 any-push : (test : Attr → Bool) (xs : List Attr) (x : Attr) → list_any test (xs ++ x ∷ []) ≡ (list_any test xs || test x)
 any-push test xs x = list_any-append test xs (x ∷ []) ∙ ap (λ (b : Bool). list_any test xs || b) (or-nil (test x))

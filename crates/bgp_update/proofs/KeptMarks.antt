@@ -9,37 +9,22 @@ use Rattle.std.proofs.lemmas.List.Concat.{flat_map-append}
 use Rattle.std.proofs.lemmas.List.Folds.{list_any-append}
 use Rattle.bgp_numbers.specs.declared.attribute.TheConstants.{ORIGIN, AS_PATH, NEXT_HOP}
 use Rattle.bgp_frame.specs.declared.notification.Notification.{Notification}
-use Rattle.bgp_wire.specs.Octets.{AreOctets}
-use Rattle.bgp_wire.specs.Row.{Row}
+use Rattle.bgp_wire.specs.Prelude.{AreOctets, Row, when, also}
 use Rattle.bgp_wire.proofs.OctetLemmas.{AreOctets-front, AreOctets-back}
-use Rattle.bgp_wire.specs.Then.{when}
 use Rattle.bgp_open.specs.declared.context.Context.{Context}
 use Rattle.bgp_attr.specs.declared.attr.Attr.{Attr}
 use Rattle.bgp_attr.specs.declared.judged.Judged.{Judged}
-use Rattle.bgp_attr.specs.declared.judged.Judged.TheVariants as judged
 use Rattle.bgp_attr.specs.declared.why.Why.{Why}
+use Rattle.bgp_attr.specs.Prelude.{TlvValue, IsTlv, placed_from, AttributeType, type_row, decided, judgement, canonical, type_of}
+use Rattle.bgp_attr.specs.declared.judged.Judged.TheVariants as judged
 use Rattle.bgp_attr.specs.declared.why.Why.TheVariants as why
-use Rattle.bgp_attr.specs.Tlv.{TlvValue, IsTlv, placed_from}
-use Rattle.bgp_attr.specs.Judgement.{AttributeType, type_row, decided, judgement}
-use Rattle.bgp_attr.specs.Written.{canonical, type_of}
-use Rattle.bgp_attr.proofs.Tables.{◌&◌}
-use Rattle.bgp_attr.proofs.TestRows.{row-at, by_type, kept-value}
-use Rattle.bgp_attr.proofs.Rewriting.{kept-rewritten}
-use Rattle.bgp_wire.specs.OctetSet.{also}
-use Rattle.bgp_update.specs.Marks.{Mark, malformed, carries_routes, repeated, marks_behind, cut_mark}
-use Rattle.bgp_update.specs.Taken.{kept_by, kept_of}
-use Rattle.bgp_update.specs.Verdict.{reset_by, first_reset, withdraws}
+use Rattle.bgp_attr.proofs.TestRows.{row-at}
+use Rattle.bgp_attr.proofs.EachType.{kept-type, kept-rewritten}
+use Rattle.bgp_update.specs.Prelude.{Mark, malformed, carries_routes, repeated, marks_behind, cut_mark, kept_by, kept_of, reset_by, first_reset, withdraws}
 use Rattle.bgp_update.proofs.Lists.{eqb-swap}
 use Rattle.bgp_update.proofs.Rising.{NoneTwice}
 use Rattle.bgp_update.proofs.TypeLemmas.{fresh-fewer}
 use Rattle.bgp_update.proofs.MarkLemmas.{IsReady}
-
--- ---- the type of what is kept
-
-pub keep-type : (ctx : Context) (has_nlri : Bool) (t : TlvValue) (x : Attr) → judgement ctx has_nlri t ≡ judged.Keep x → type_of x ≡ t.kind
-keep-type ctx has_nlri t x keeps =
-    ap type_of (sym (kept-value ctx has_nlri t x keeps))
-    ∙ by_type ctx has_nlri t (λ type. type_of type.value ≡ t.kind) (sym & sym & sym & sym & sym & sym & sym & sym & sym & sym & sym & sym & sym & tt) (λ other. refl)
 
 -- ---- what no row drops
 
@@ -143,7 +128,7 @@ module _ (ctx : Context) (has_nlri : Bool) where
       record {
         ready = (record { writable = w.writable; in_place = w.in_place; ranges = w.ranges }, k.ready);
         shorter = omega (arith, length-append (canonical ctx x) (flat_map (canonical ctx) xs), k.shorter);
-        fresh = subst (λ (i : ℕ). (seen i ≡ false) × NoneTwice (also i seen) (map type_of xs)) (sym (keep-type ctx has_nlri t x is)) (new, k.fresh);
+        fresh = subst (λ (i : ℕ). (seen i ≡ false) × NoneTwice (also i seen) (map type_of xs)) (sym (kept-type ctx has_nlri t x is)) (new, k.fresh);
       }
   one-more t front seen xs n spelled octets false new (judged.Discard w) is k = dropped t.kind seen xs n (length front) k
   one-more t front seen xs n spelled octets false new (judged.Withdraw w) is k = dropped t.kind seen xs n (length front) k
@@ -169,7 +154,7 @@ module _ (ctx : Context) (has_nlri : Bool) where
     this-kept : (t : TlvValue) (xs : List Attr) (s : Bool) → s ≡ false → (j : Judged) → judgement ctx has_nlri t ≡ j → t.kind ≡ kind → GoesOn (cond s (repeated t.kind) j)
         → among (kept_by (cond s (repeated t.kind) j) ++ xs) ≡ true
     this-kept t xs true new j is same on = absurd (true≢false new)
-    this-kept t xs false new (judged.Keep x) is same on = or_left (eqb (type_of x) kind) (among xs) (eq-eqb (type_of x) kind (keep-type ctx has_nlri t x is ∙ same))
+    this-kept t xs false new (judged.Keep x) is same on = or_left (eqb (type_of x) kind) (among xs) (eq-eqb (type_of x) kind (kept-type ctx has_nlri t x is ∙ same))
     this-kept t xs false new (judged.Discard w) is same on = absurd (stays t same w is)
     this-kept t xs false new (judged.Withdraw w) is same on = absurd (true≢false on.no_withdrawal)
     this-kept t xs false new (judged.Reset n) is same on = absurd (let e : Some n ≡ None = on.no_reset in cc)

@@ -5,10 +5,9 @@ use Rattle.std.proofs.lemmas.List.Folds.{find-append, list_any-append}
 use Rattle.std.specs.Option.{option_or}
 use Rattle.bgp_attr.specs.declared.attr.Attr.{Attr}
 use Rattle.bgp_attr.specs.declared.opaque.Opaque.{Opaque}
-use Rattle.bgp_attr.specs.Written.{type_of}
+use Rattle.bgp_attr.specs.Prelude.{type_of}
 use Rattle.bgp_update.specs.declared.kept_view.KeptView.{KeptView}
-use Rattle.bgp_update.specs.KeptView.{Kept, known_of, known_value, kept_value, kept_in, kept_behind}
-use Rattle.bgp_update.specs.Taken.{attrs_from, attrs_of, first_known, is_opaque, as_opaque, rising_behind}
+use Rattle.bgp_update.specs.Prelude.{Kept, known_of, known_value, kept_value, kept_in, kept_behind, attrs_from, attrs_of, first_known, is_opaque, as_opaque, rising_behind}
 use Rattle.bgp_update.proofs.Options.{option_or-assoc, option_or-none}
 
 pub or_false : (t : Bool) → (t || false) ≡ t

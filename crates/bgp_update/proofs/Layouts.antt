@@ -4,8 +4,7 @@ use Rattle.std.specs.Int.{w16, to_be_bytes}
 use Rattle.std.proofs.Math.Seq.{take-append_seam, drop-append-add}
 use Rattle.std.proofs.lemmas.List.{length-append}
 use Rattle.bgp_update.specs.declared.laying.Places.{Places}
-use Rattle.bgp_update.specs.Written.{body_octets}
-use Rattle.bgp_update.specs.steps.Layout.{LaysOut}
+use Rattle.bgp_update.specs.Prelude.{body_octets, LaysOut}
 
 -- a number in the room for it
 set_in : (at len : ℕ) (front back l new : List ℕ) → at ≡ length front → l ≡ front ++ 0 ∷ 0 ∷ back → new ≡ take at l ++ (to_be_bytes w16 len ++ drop (at + 2) l)

@@ -1,6 +1,5 @@
 pub mod SmallLemmas
 pub mod Options
-pub mod AttrSlots
 pub mod KeptViews
 pub mod Placed
 pub mod Summaries

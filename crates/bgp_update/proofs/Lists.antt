@@ -1,7 +1,9 @@
 -- Lists that are joined, searched and tested: what the other lemmas say of attributes, for lists of anything.
-use Rattle.std.proofs.Common.{◌≡◌, ℕ, Bool, true, false, cond, eqb, List, [], ◌∷◌, ◌++◌, Option, Some, None, inl, inr, refl, sym, ap, ap₂, subst, ◌∙◌}
+use Rattle.std.proofs.Common.{◌≡◌, ℕ, Bool, true, false, not, ◌||◌, cond, eqb, List, [], ◌∷◌, ◌++◌, Option, Some, None, inl, inr, refl, sym, ap, ap₂, subst, ◌∙◌}
+use Rattle.std.specs.Prelude.{is_none}
 use Rattle.std.specs.List.{flat_map, filter, find, list_any, AllByRecursion}
 use Rattle.std.specs.Option.{option_or}
+use Rattle.std.proofs.lemmas.List.Folds.{find-append}
 use Rattle.std.proofs.lemmas.Bool.{false≢true, eqb-true, ne_eqb, or_parts, or_cases, or_from}
 use Rattle.std.proofs.lemmas.Bool.Decides.{eqb_tells}
 
@@ -30,6 +32,19 @@ module _ {A : Type 0} where
   pub find-passes : (test : A → Bool) (xs : List A) (y : A) → find test xs ≡ Some y → test y ≡ true
   find-passes test [] y e = absurd cc
   find-passes test (x ∷ xs) y e = find-by test x y xs (test x) refl (find-passes test xs y) e
+
+  pub none-found : (test : A → Bool) (xs : List A) → is_none (find test xs) ≡ not (list_any test xs)
+  none-found test [] = refl
+  none-found test (x ∷ xs) = by (test x) (none-found test xs)
+    where
+      by : (t : Bool) → is_none (find test xs) ≡ not (list_any test xs) → is_none (cond t (Some x) (find test xs)) ≡ not (t || list_any test xs)
+      by true later = refl
+      by false later = later
+
+  -- two tests that agree find the same
+  pub find-same : (test other : A → Bool) (xs : List A) → AllByRecursion (λ x. test x ≡ other x) xs → find test xs ≡ find other xs
+  find-same test other [] same = refl
+  find-same test other (x ∷ xs) same = ap₂ (λ (t : Bool) (o : Option A). cond t (Some x) o) same.0 (find-same test other xs same.1)
 
   pub all-none : (test : A → Bool) (xs : List A) → AllByRecursion (λ x. test x ≡ false) xs → list_any test xs ≡ false
   all-none test [] all = refl
@@ -102,3 +117,19 @@ module _ {A : Type 0} where
   all-carried P Q f g [] each all = tt
   all-carried P Q f g (k ∷ ks) each all =
       all-append Q (g k) (flat_map g ks) (each k (all-front P (f k) (flat_map f ks) all)) (all-carried P Q f g ks each (all-back P (f k) (flat_map f ks) all))
+
+  -- where none of another number passes, what is found is found among those of the number
+  pub find-among : (test : A → Bool) (f : ℕ → List A) (kind : ℕ) (ks : List ℕ) → ((k : ℕ) → eqb k kind ≡ false → find test (f k) ≡ None)
+      → find test (flat_map f ks) ≡ cond (list_any (λ k. eqb k kind) ks) (find test (f kind)) None
+  find-among test f kind [] apart = refl
+  find-among test f kind (k ∷ ks) apart =
+      find-append test (f k) (flat_map f ks) ∙ ap (λ (o : Option A). option_or (find test (f k)) o) (find-among test f kind ks apart) ∙ by (eqb k kind) refl (list_any (λ j. eqb j kind) ks)
+    where
+      twice : (o : Option A) (b : Bool) → option_or o (cond b o None) ≡ o
+      twice None true = refl
+      twice None false = refl
+      twice (Some x) b = refl
+
+      by : (t : Bool) → eqb k kind ≡ t → (b : Bool) → option_or (find test (f k)) (cond b (find test (f kind)) None) ≡ cond (t || b) (find test (f kind)) None
+      by true e b = ap (λ (j : ℕ). option_or (find test (f j)) (cond b (find test (f kind)) None)) (eqb-true k kind e) ∙ twice (find test (f kind)) b
+      by false e b = ap (λ (o : Option A). option_or o (cond b (find test (f kind)) None)) (apart k e)

@@ -4,22 +4,17 @@ use Rattle.std.specs.List.{flat_map, list_any, AllByRecursion}
 use Rattle.std.specs.Option.{option_or}
 use Rattle.std.proofs.lemmas.Bool.{cond-false, or_parts, or_from}
 use Rattle.std.proofs.lemmas.List.{append-nil}
-use Rattle.bgp_wire.specs.Row.{Row}
+use Rattle.bgp_wire.specs.Prelude.{Row, also, none_of_them}
 use Rattle.bgp_wire.proofs.Behinds.{pieces-whole}
 use Rattle.bgp_open.specs.declared.context.Context.{Context}
 use Rattle.bgp_attr.specs.declared.attr.Attr.{Attr}
 use Rattle.bgp_attr.specs.declared.judged.Judged.{Judged}
+use Rattle.bgp_attr.specs.Prelude.{TlvValue, IsTlv, one_tlv, tlvs_of, placed_from, judgement, written_tlv, canonical, type_of, is_writable, Belongs, HasRanges}
 use Rattle.bgp_attr.specs.declared.judged.Judged.TheVariants as judged
-use Rattle.bgp_attr.specs.Tlv.{TlvValue, IsTlv, one_tlv, tlvs_of, placed_from}
-use Rattle.bgp_attr.specs.Judgement.{judgement}
-use Rattle.bgp_attr.specs.Written.{written_tlv, canonical, type_of, is_writable, Belongs, HasRanges}
 use Rattle.bgp_attr.proofs.Readers.{IsTlv-reads}
-use Rattle.bgp_attr.proofs.ReadBack.{written-spells, written-kept}
-use Rattle.bgp_wire.specs.OctetSet.{also, none_of_them}
-use Rattle.bgp_update.specs.Marks.{Mark, repeated, marks_behind, cut_mark, field_marks}
-use Rattle.bgp_update.specs.Taken.{kept_by, kept_of}
-use Rattle.bgp_update.specs.Notes.{mark_notes}
-use Rattle.bgp_update.specs.Verdict.{first_reset, reset_by, withdraws}
+use Rattle.bgp_attr.proofs.ReadBack.{written-spells}
+use Rattle.bgp_attr.proofs.EachType.{written-kept}
+use Rattle.bgp_update.specs.Prelude.{Mark, repeated, marks_behind, cut_mark, field_marks, kept_by, kept_of, mark_notes, first_reset, reset_by, withdraws}
 use Rattle.bgp_update.proofs.Rising.{NoneTwice}
 use Rattle.bgp_update.proofs.TypeLemmas.{fresh-fewer, OfType}
 

@@ -11,10 +11,9 @@ use Rattle.bgp_attr.specs.declared.aggregator.Aggregator.{Aggregator}
 use Rattle.bgp_attr.specs.declared.path.Segment.{Segment}
 use Rattle.bgp_attr.specs.declared.path.AsPath.{AsPath}
 use Rattle.bgp_attr.specs.declared.path.As4Path.{As4Path}
-use Rattle.bgp_attr.specs.Path.{as_number}
-use Rattle.bgp_attr.specs.Written.{any_number, is_above_two_octets}
+use Rattle.bgp_attr.specs.Prelude.{as_number, any_number, is_above_two_octets}
 use Rattle.bgp_update.specs.declared.attrs.Attrs.{Attrs}
-use Rattle.bgp_update.specs.As4.{items_by, items_in, items_of, lead, joined, rebuilt_path, rebuilt_by, rebuilt, narrow_number, narrow_segment, narrow_path, wide_path, narrow_aggregator, wide_aggregator, narrowed, HasNoAs4}
+use Rattle.bgp_update.specs.Prelude.{items_by, items_in, items_of, lead, joined, rebuilt_path, rebuilt_by, rebuilt, narrow_number, narrow_segment, narrow_path, wide_path, narrow_aggregator, wide_aggregator, narrowed, HasNoAs4}
 
 -- ---- where no number is wide, nothing changes
 

@@ -3,7 +3,7 @@ use Rattle.std.proofs.Common.{◌≡◌, ℕ, ◌+◌, ◌≤◌, Bool, true, fa
 use Rattle.std.specs.Int.{w16, from_be_bytes}
 use Rattle.std.proofs.lemmas.Bool.{leb-true}
 use Rattle.std.proofs.lemmas.List.{length-take, length-drop}
-use Rattle.bgp_update.specs.Parts.{Parts, behind_two, parts_of}
+use Rattle.bgp_update.specs.Prelude.{Parts, behind_two, parts_of}
 use Rattle.bgp_update.proofs.Bodies.{with_attributes, with_withdrawn}
 
 module _ {A : Type 0} where

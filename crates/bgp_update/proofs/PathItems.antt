@@ -4,17 +4,16 @@ use Rattle.std.specs.List.{flat_map}
 use Rattle.std.proofs.lemmas.List.{length-append, length-map}
 use Rattle.std.proofs.lemmas.List.Concat.{flat_map-cons}
 use Rattle.std.proofs.lemmas.List.Sums.{sum_by-append}
-use Rattle.bgp_wire.specs.Row.{Row}
+use Rattle.bgp_wire.specs.Prelude.{Row}
 use Rattle.bgp_wire.proofs.Pieces.{Splits-pieces}
 use Rattle.bgp_attr.specs.declared.path.SegKind.{SegKind}
 use Rattle.bgp_attr.specs.declared.path.SegKind.TheVariants.{Set, Seq}
 use Rattle.bgp_attr.specs.declared.path.Segment.{Segment}
 use Rattle.bgp_attr.specs.declared.path_form.PathForm.{PathForm}
-use Rattle.bgp_attr.specs.Numbers.{number_width}
-use Rattle.bgp_attr.specs.Path.{WireSegment, IsSegment, one_segment, segments_of, kept_segment, segment_kept_as, kind_of_segment, kept_segments_of, as_number}
+use Rattle.bgp_attr.specs.Prelude.{number_width, WireSegment, IsSegment, one_segment, segments_of, kept_segment, segment_kept_as, kind_of_segment, kept_segments_of, as_number}
 use Rattle.bgp_attr.proofs.Readers.{IsSegment-reads}
 use Rattle.bgp_attr.proofs.NumberRows.{length-number_row}
-use Rattle.bgp_update.specs.As4.{items_in, items_of, lead}
+use Rattle.bgp_update.specs.Prelude.{items_in, items_of, lead}
 
 -- ---- no more items than octets
 

@@ -1,30 +1,23 @@
 -- Attributes that are kept by place: one more of them, and what stands in the slot of a type.
-use Rattle.std.proofs.Common.{◌≡◌, ℕ, zero, suc, ◌<◌, Bool, true, false, not, ◌||◌, cond, eqb, ltb, List, [], ◌∷◌, length, get_or, set, replicate, Option, Some, None, refl, sym, ap, subst, ◌∙◌, arith}
+use Rattle.std.proofs.Common.{◌≡◌, ℕ, zero, suc, ◌<◌, Bool, true, false, not, ◌||◌, cond, eqb, ltb, List, [], ◌∷◌, length, get_or, set, replicate, Option, Some, None, refl, sym, ap, ap₂, subst, ◌∙◌, arith}
 use Rattle.std.specs.Prelude.{◌-◌, is_some, option_map, slice_index_or, IfSome, IsTrue}
 use Rattle.std.specs.Option.{option_or}
-use Rattle.std.proofs.lemmas.Bool.{eqb-true, eqb-false, ltb-true, both_ways}
+use Rattle.std.proofs.lemmas.Bool.{eqb-true, eqb-false, and_parts, ltb-true, both_ways, not-true}
 use Rattle.std.proofs.lemmas.Grind.{get_or-set_at}
 use Rattle.std.proofs.lemmas.List.{get_or-set_other}
 use Rattle.bgp_open.specs.declared.context.Context.{Context}
 use Rattle.bgp_attr.specs.declared.attr.Attr.{Attr}
-use Rattle.bgp_attr.specs.JudgedView.{is_kept}
+use Rattle.bgp_attr.specs.Prelude.{is_kept, AttributeType, is_recognised, judgement, other_type, type_row, types, TlvValue, type_of, tlv_at, tlv_value}
 use Rattle.bgp_attr.specs.Judgement as judgement
-use Rattle.bgp_attr.specs.Judgement.{AttributeType, is_recognised, judgement, type_row}
-use Rattle.bgp_attr.specs.Tlv.{TlvValue}
-use Rattle.bgp_attr.specs.Written.{type_of}
-use Rattle.bgp_attr.specs.TlvIter.{tlv_at}
-use Rattle.bgp_attr.specs.TlvView.{tlv_value}
 use Rattle.bgp_attr.specs.declared.tlv.Tlv.{Tlv}
-use Rattle.bgp_attr.proofs.Tables.{◌&◌, entry-passes}
-use Rattle.bgp_attr.proofs.TestRows.{by_type, row-other}
-use Rattle.bgp_update.specs.KeptView.{Kept, kept_behind}
-use Rattle.bgp_update.specs.Taken.{attrs_from, first_known, is_opaque}
-use Rattle.bgp_update.specs.Places.{tlv_placed, IsKeptAt, ArePlaced}
-use Rattle.bgp_update.specs.Slots.{present, slot}
+use Rattle.bgp_attr.proofs.Tables.{by_row, entry-passes}
+use Rattle.bgp_attr.proofs.TestRows.{row-other}
+use Rattle.bgp_update.specs.Prelude.{Kept, kept_behind, attrs_from, first_known, is_opaque, tlv_placed, IsKeptAt, ArePlaced, present, slot}
 use Rattle.bgp_update.proofs.Options.{map_filled, option_or-none}
 use Rattle.bgp_update.proofs.KeptViews.{or_false, or_true}
 use Rattle.bgp_update.proofs.Lists.{eqb-swap}
-use Rattle.bgp_update.proofs.SlotLemmas.{IsTyped, slot-from, other-from}
+use Rattle.bgp_update.proofs.SlotLemmas.{each-row, IsTyped, slot-from, other-from}
+use Rattle.bgp_update.proofs.TypeLemmas.{is_of}
 
 -- where there is no place, there is none
 pub none_placed : (n k : ℕ) → (let none : ℕ = 0 in get_or (replicate n none) k none ≡ none)
@@ -47,13 +40,11 @@ module _ (ctx : Context) (has_nlri : Bool) (t : TlvValue) where
   value = λ s. (type_row ctx has_nlri s).value
 
   -- the value of a recognised type is of that type
-  pub of_type : is_recognised t.kind ≡ true → (type_of (value t) ≡ t.kind) × (is_opaque (value t) ≡ false)
+  pub of_type : is_recognised t.kind ≡ true → is_of t.kind (value t) ≡ true
+  unfolding type_row
   of_type known =
-      by_type ctx has_nlri t (λ type. (type_of type.value ≡ t.kind) × (is_opaque type.value ≡ false))
-      ((λ e. (sym e, refl)) & (λ e. (sym e, refl)) & (λ e. (sym e, refl)) & (λ e. (sym e, refl))
-      & (λ e. (sym e, refl)) & (λ e. (sym e, refl)) & (λ e. (sym e, refl)) & (λ e. (sym e, refl))
-      & (λ e. (sym e, refl)) & (λ e. (sym e, refl)) & (λ e. (sym e, refl)) & (λ e. (sym e, refl)) & (λ e. (sym e, refl)) & tt)
-      (λ other. absurd (both_ways (is_recognised t.kind) other known))
+      by_row t.kind (other_type t) (λ kind type. is_of kind type.value ≡ true) (types ctx has_nlri t)
+      (each-row (λ kind type. is_of kind type.value) (λ kind type. true) (types ctx has_nlri t) refl) (λ other. absurd (both_ways (is_recognised t.kind) other known))
 
   module _ (tlv : ℕ → Option TlvValue) (others : Bool) where
     abbrev before : Kept
@@ -65,7 +56,7 @@ module _ (ctx : Context) (has_nlri : Bool) (t : TlvValue) where
     known_more known = λ i. record { known = λ kind. at kind (eqb kind t.kind) refl i; others = (sym (or_false others) ∙ ap (λ (b : Bool). others || (b || false)) (sym is.1)) i }
       where
         is : (type_of (value t) ≡ t.kind) × (is_opaque (value t) ≡ false)
-        is = of_type known
+        is = let p = and_parts (not (is_opaque (value t))) (eqb (type_of (value t)) t.kind) (of_type known) in (eqb-true (type_of (value t)) t.kind p.1, not-true (is_opaque (value t)) p.0)
 
         first : (kind : ℕ) → first_known (value t ∷ []) kind ≡ cond (eqb kind t.kind) (Some (value t)) None
         first kind = rw (is.1, is.0, eqb-swap t.kind kind) refl
@@ -163,13 +154,13 @@ module _ (ctx : Context) (has_nlri : Bool) (field places : List ℕ) (all : AreP
   typed : (kind : ℕ) → IsTyped kind (value_of kind)
   typed kind x e = by (tlv_of kind) refl e
     where
-      by : (o : Option TlvValue) → tlv_of kind ≡ o → option_map (λ (t : TlvValue). (type_row ctx has_nlri t).value) o ≡ Some x → (type_of x ≡ kind) × (is_opaque x ≡ false)
+      by : (o : Option TlvValue) → tlv_of kind ≡ o → option_map (λ (t : TlvValue). (type_row ctx has_nlri t).value) o ≡ Some x → is_of kind x ≡ true
       by None f g = absurd cc
       by (Some t) f g =
           let p = kept-at kind (slice_index_or places kind 0) t refl f in
           let q = of_type ctx has_nlri t (ap is_recognised p.0 ∙ p.1) in
           let same : (type_row ctx has_nlri t).value ≡ x = cc in
-          (ap type_of (sym same) ∙ q.0 ∙ p.0, ap is_opaque (sym same) ∙ q.1)
+          ap₂ (λ (k : ℕ) (y : Attr). is_of k y) (sym p.0) (sym same) ∙ q
 
   nothing-valued : (kind : ℕ) → is_recognised kind ≡ false → ValueThere kind []
   nothing-valued kind other = by (tlv_of kind) refl
@@ -183,7 +174,7 @@ module _ (ctx : Context) (has_nlri : Bool) (field places : List ℕ) (all : AreP
   slot-value kind = by (is_recognised kind) refl
     where
       by : (b : Bool) → is_recognised kind ≡ b → slot (attrs_from value_of []) kind ≡ present (λ (t : TlvValue). (type_row ctx has_nlri t).value) (tlv_of kind)
-      by true known = slot-from value_of [] kind typed known ∙ present-map (λ (t : TlvValue). (type_row ctx has_nlri t).value) (λ (x : Attr). x) (tlv_of kind)
+      by true known = slot-from value_of [] kind (typed kind) known ∙ present-map (λ (t : TlvValue). (type_row ctx has_nlri t).value) (λ (x : Attr). x) (tlv_of kind)
       by false other = other-from value_of [] kind other ∙ nothing-valued kind other
 
 -- an attribute that is judged so stands at a place of its type

@@ -2,13 +2,12 @@
 use Rattle.std.proofs.Common.{◌≡◌, suc, Bool, true, false, cond, ltb, List, [], ◌∷◌, ◌++◌, map, refl, sym, ap, ◌∙◌, true≢false}
 use Rattle.std.specs.List.{insert, flat_map, list_any}
 use Rattle.std.proofs.lemmas.Bool.{or_parts}
-use Rattle.bgp_attr.specs.AttrView.{opaque_value}
+use Rattle.bgp_attr.specs.Prelude.{opaque_value}
 use Rattle.bgp_attr.specs.declared.attr.Attr.{Attr}
-use Rattle.bgp_attr.specs.declared.attr.Attr.TheVariants as attr
-use Rattle.bgp_attr.specs.declared.attr_view.OpaqueView.{OpaqueView}
+use Rattle.bgp_attr.specs.declared.opaque.OpaqueView.{OpaqueView}
 use Rattle.bgp_attr.specs.declared.opaque.Opaque.{Opaque}
-use Rattle.bgp_update.specs.steps.Others.{place_in}
-use Rattle.bgp_update.specs.Taken.{put_rising, is_opaque, as_opaque, rising_behind}
+use Rattle.bgp_attr.specs.declared.attr.Attr.TheVariants as attr
+use Rattle.bgp_update.specs.Prelude.{place_in, put_rising, is_opaque, as_opaque, rising_behind}
 
 step : (t : Bool) (o p : OpaqueView) (os : List OpaqueView)
     → map opaque_value (insert os (place_in o.kind (map opaque_value os)) o) ≡ put_rising (opaque_value o) (map opaque_value os)

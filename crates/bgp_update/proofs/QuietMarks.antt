@@ -7,12 +7,9 @@ use Rattle.bgp_wire.specs.Reader as reader
 use Rattle.bgp_attr.specs.declared.judged.Judged.{Judged}
 use Rattle.bgp_attr.specs.declared.judged.Judged.TheVariants as judged
 use Rattle.bgp_open.specs.declared.context.Context.{Context}
-use Rattle.bgp_update.specs.Marks.{Mark, field_marks}
+use Rattle.bgp_update.specs.Prelude.{Mark, field_marks, Parts, attributes_at, is_missing, mark_notes, missing_notes, missing_of, notes_of, is_noted}
 use Rattle.bgp_update.specs.declared.missing.Missing.{Missing}
 use Rattle.bgp_update.specs.declared.note.Note.{Note}
-use Rattle.bgp_update.specs.Parts.{Parts, attributes_at}
-use Rattle.bgp_update.specs.Notes.{is_missing, mark_notes, missing_notes, missing_of, notes_of}
-use Rattle.bgp_update.specs.Summary.{is_noted}
 
 no_note : (at place kind : ℕ) (j : Judged) → is_noted j ≡ false → mark_notes at (record { at = place; kind = kind; judged = j }) ≡ []
 no_note at place kind (judged.Keep a) quiet = refl

@@ -8,38 +8,29 @@ use Rattle.std.proofs.lemmas.List.{length-append}
 use Rattle.bgp_numbers.specs.declared.attribute.TheConstants.{ORIGIN, AS_PATH, NEXT_HOP, LOCAL_PREF}
 use Rattle.bgp_frame.specs.declared.notification.Notification.{Notification}
 use Rattle.bgp_open.specs.declared.context.Context.{Context}
-use Rattle.bgp_prefix.specs.Prefix.{PrefixValue, IsValid, spelling_of}
-use Rattle.bgp_prefix.specs.Run.{run_of}
+use Rattle.bgp_prefix.specs.Prelude.{PrefixValue, IsValid, spelling_of, run_of}
 use Rattle.bgp_prefix.proofs.RunLemmas.{Row-prefixes}
 use Rattle.bgp_prefix.proofs.LawLemmas.{row_is_run}
 use Rattle.bgp_attr.specs.declared.attr.Attr.{Attr}
+use Rattle.bgp_attr.specs.Prelude.{TlvValue, entry_of, placed_from, length_octets, written_tlv, canonical, value_octets, run_octets, type_of, is_too_wide, is_as4, is_empty, is_misnamed, has_as_zero, stands_twice, is_too_long, is_writable, Belongs, HasRanges}
 use Rattle.bgp_attr.specs.declared.attr.Attr.TheVariants as attr
 use Rattle.bgp_attr.specs.declared.mp.MpReach.TheVariants as reach
 use Rattle.bgp_attr.specs.declared.mp.MpUnreach.TheVariants as unreach
-use Rattle.bgp_attr.specs.declared.origin.Origin.{Origin}
-use Rattle.bgp_attr.specs.declared.path.AsPath.{AsPath}
-use Rattle.bgp_attr.specs.Tlv.{TlvValue, placed_from, length_octets}
-use Rattle.bgp_attr.specs.Written.{written_tlv, canonical, value_octets, run_octets, type_of, is_too_wide, is_as4, is_empty, is_misnamed, has_as_zero, stands_twice, is_too_long, is_writable, Belongs, HasRanges}
 use Rattle.bgp_attr.proofs.TestRows.{Writes-writable}
 use Rattle.bgp_update.specs.declared.attrs.Attrs.{Attrs}
 use Rattle.bgp_update.specs.declared.note.Note.{Note}
 use Rattle.bgp_update.specs.declared.update.Update.{Update}
+use Rattle.bgp_update.specs.Prelude.{Parts, parts_of, attributes_at, Mark, marks_of, kept_of, attrs_of, update_of, has_routes, is_reachable, has_type, missing_of, is_missing, missing_note, missing_notes, notes_of, present, slots, slot, canonical_order, attr_list, reset_of_run, reset_of, is_withdrawn, unless_reset, without_reset, verdict_on, of_parts, verdict_of, attributes_octets, written_body, announces, is_of_other_family, invalid_of, HasUpdateRanges}
 use Rattle.bgp_update.specs.declared.verdict.Verdict.TheVariants as verdict
-use Rattle.bgp_update.specs.Parts.{Parts, parts_of, attributes_at, has_nlri}
-use Rattle.bgp_wire.specs.OctetSet.{none_of_them}
-use Rattle.bgp_update.specs.Marks.{Mark, marks_of}
-use Rattle.bgp_update.specs.Taken.{kept_of, attrs_of, update_of, as_origin, as_as_path, as_next_hop}
-use Rattle.bgp_update.proofs.AttrSlots.{attrs_in, attrs_of-slots}
-use Rattle.bgp_update.specs.Notes.{has_routes, is_reachable, has_type, missing_of, is_missing, missing_note, missing_notes, notes_of}
-use Rattle.bgp_update.specs.Slots.{present, slot, canonical_order, attr_list}
-use Rattle.bgp_update.specs.Verdict.{reset_of_run, reset_of, is_withdrawn, unless_reset, without_reset, verdict_on, of_parts, verdict_of}
-use Rattle.bgp_update.specs.Written.{attributes_octets, written_body, announces, is_of_other_family, any_attr, invalid_of, HasUpdateRanges}
+use Rattle.bgp_update.specs.Parts.{has_nlri}
+use Rattle.bgp_wire.specs.Prelude.{none_of_them}
 use Rattle.bgp_update.specs.Written as written
 use Rattle.bgp_update.proofs.Bodies.{body-parts, length-body}
 use Rattle.bgp_update.proofs.Lists.{none-all, all-more, all-both, all-flat_map}
 use Rattle.bgp_update.proofs.Rising.{NoneTwice}
-use Rattle.bgp_update.proofs.TypeLemmas.{order-fresh, taken-origin, taken-as_path, taken-next_hop, type-none}
-use Rattle.bgp_update.proofs.SlotLemmas.{slot-at, slot-is, slot-types, list-named, slots-back}
+use Rattle.bgp_update.proofs.TypeLemmas.{order-fresh}
+use Rattle.bgp_update.proofs.SlotLemmas.{other_slot, slot-at, slot-is, slot-types, list-named, list-back}
+use Rattle.bgp_update.proofs.KeptSlots.{field-lacks}
 use Rattle.bgp_update.proofs.Validity.{IsAccepted, valid-accepted}
 use Rattle.bgp_update.proofs.MarkLemmas.{KeepsAll, keeps-kept, keeps-no_reset, keeps-no_withdrawal, keeps-no_note, IsReady, AreReady, written-tlvs, field-keep, slots-fresh}
 
@@ -57,26 +48,19 @@ placed-other ctx nlri k hop pref (attr.LocalPref n) e = absurd (eqb-false k LOCA
 placed-other ctx nlri k hop pref _ e = tt
 
 module _ (ctx : Context) (nlri : Bool) (a : Attrs) (hop : is_some a.next_hop ≡ true → nlri ≡ true) (pref : is_some a.local_pref ≡ true → ctx.internal ≡ true) where
-  placed-next_hop : AllByRecursion (Placed ctx nlri) (slot a NEXT_HOP)
-  placed-next_hop = subst (λ (xs : List Attr). AllByRecursion (Placed ctx nlri) xs) (sym (slot-at a NEXT_HOP)) (by a.next_hop hop)
-    where
-      by : (o : Option (List ℕ)) → (is_some o ≡ true → nlri ≡ true) → AllByRecursion (Placed ctx nlri) (present (λ (addr : List ℕ). attr.NextHop addr) o)
-      by None given = tt
-      by (Some addr) given = (given refl, tt)
+  placed-present : {A : Type 0} (as_attr : A → Attr) (o : Option A) → ((v : A) → is_some o ≡ true → Placed ctx nlri (as_attr v)) → AllByRecursion (Placed ctx nlri) (present as_attr o)
+  placed-present as_attr None given = tt
+  placed-present as_attr (Some v) given = (given v refl, tt)
 
-  placed-local_pref : AllByRecursion (Placed ctx nlri) (slot a LOCAL_PREF)
-  placed-local_pref = subst (λ (xs : List Attr). AllByRecursion (Placed ctx nlri) xs) (sym (slot-at a LOCAL_PREF)) (by a.local_pref pref)
-    where
-      by : (o : Option ℕ) → (is_some o ≡ true → ctx.internal ≡ true) → AllByRecursion (Placed ctx nlri) (present (λ (n : ℕ). attr.LocalPref n) o)
-      by None given = tt
-      by (Some n) given = (given refl, tt)
+  placed-at : (k kind : ℕ) → eqb k kind ≡ true → AllByRecursion (Placed ctx nlri) (entry_of kind (slots a) (other_slot a kind)) → AllByRecursion (Placed ctx nlri) (slot a k)
+  placed-at k kind same all = subst (λ (xs : List Attr). AllByRecursion (Placed ctx nlri) xs) (sym (ap (slot a) (eqb-true k kind same) ∙ slot-at a kind)) all
 
   placed-slot : (k : ℕ) → AllByRecursion (Placed ctx nlri) (slot a k)
   placed-slot k = by (eqb k NEXT_HOP) refl (eqb k LOCAL_PREF) refl
     where
       by : (b : Bool) → eqb k NEXT_HOP ≡ b → (c : Bool) → eqb k LOCAL_PREF ≡ c → AllByRecursion (Placed ctx nlri) (slot a k)
-      by true e c f = subst (λ (j : ℕ). AllByRecursion (Placed ctx nlri) (slot a j)) (sym (eqb-true k NEXT_HOP e)) placed-next_hop
-      by false e true f = subst (λ (j : ℕ). AllByRecursion (Placed ctx nlri) (slot a j)) (sym (eqb-true k LOCAL_PREF f)) placed-local_pref
+      by true e c f = placed-at k NEXT_HOP e (placed-present attr.NextHop a.next_hop (λ addr is. hop is))
+      by false e true f = placed-at k LOCAL_PREF f (placed-present attr.LocalPref a.local_pref (λ n is. pref is))
       by false e false f = all-more (λ x. type_of x ≡ k) (Placed ctx nlri) (slot a k) (placed-other ctx nlri k e f) (slot-types a k)
 
 belongs : (ctx : Context) (nlri : Bool) (x : Attr) → Placed ctx nlri x → is_of_other_family ctx x ≡ false → Belongs ctx nlri x
@@ -239,11 +223,11 @@ module _ (ctx : Context) (u : Update) (ranges : HasUpdateRanges u) (valid : inva
   all-keep : KeepsAll marks xs
   all-keep = field-keep ctx (has_nlri parts) xs are-ready (list-fresh u.attrs)
 
-  list-back : attrs_in xs ≡ u.attrs
-  list-back = slots-back u.attrs acc.others ranges.others
+  attrs-back : attrs_of xs ≡ u.attrs
+  attrs-back = list-back u.attrs acc.others ranges.others
 
   kept-back : attrs_of (kept_of marks) ≡ u.attrs
-  kept-back = ap attrs_of (keeps-kept marks xs all-keep) ∙ attrs_of-slots xs ∙ list-back
+  kept-back = ap attrs_of (keeps-kept marks xs all-keep) ∙ attrs-back
 
   reachable-same : is_reachable parts marks ≡ announces u
   reachable-same = ap₂ (λ (x y : Bool). x || y) nlri-same (ap (λ (b : Attrs). has_routes b.mp_reach) kept-back)
@@ -253,14 +237,10 @@ module _ (ctx : Context) (u : Update) (ranges : HasUpdateRanges u) (valid : inva
       ap (λ (q : List TlvValue × List ℕ). list_any (λ p. eqb p.tlv.kind kind) (placed_from 0 q.0)) (written-tlvs ctx (has_nlri parts) xs are-ready)
       ∙ has-by ctx kind xs 0
 
-  no-origin : has_type ORIGIN parts ≡ false → is_none a.origin ≡ true
-  no-origin e = ap (λ (o : Option Origin). is_none o) (ap (λ (b : Attrs). b.origin) (sym list-back) ∙ type-none as_origin (λ (o : Origin). attr.Origin o) ORIGIN taken-origin xs (sym (has-same ORIGIN) ∙ e))
-
-  no-as_path : has_type AS_PATH parts ≡ false → is_none a.as_path ≡ true
-  no-as_path e = ap (λ (o : Option AsPath). is_none o) (ap (λ (b : Attrs). b.as_path) (sym list-back) ∙ type-none as_as_path (λ (p : AsPath). attr.AsPath p) AS_PATH taken-as_path xs (sym (has-same AS_PATH) ∙ e))
-
-  no-next_hop : has_type NEXT_HOP parts ≡ false → is_none a.next_hop ≡ true
-  no-next_hop e = ap (λ (o : Option (List ℕ)). is_none o) (ap (λ (b : Attrs). b.next_hop) (sym list-back) ∙ type-none as_next_hop (λ (addr : List ℕ). attr.NextHop addr) NEXT_HOP taken-next_hop xs (sym (has-same NEXT_HOP) ∙ e))
+  -- the field of a type is empty where the message lacks the type
+  no-field : {A : Type 0} (as_attr : A → Attr) (o : Option A) (kind : ℕ) → slot a kind ≡ present as_attr o → has_type kind parts ≡ false → is_none o ≡ true
+  no-field as_attr o kind is e =
+      field-lacks xs (list-named u.attrs) (list-fresh u.attrs) as_attr o kind (ap (λ (b : Attrs). slot b kind) attrs-back ∙ is) ∙ ap not (sym (has-same kind) ∙ e)
 
   record Complete : Type 0 where
     origin : (is_reachable parts marks && not (has_type ORIGIN parts)) ≡ false
@@ -272,9 +252,9 @@ module _ (ctx : Context) (u : Update) (ranges : HasUpdateRanges u) (valid : inva
       let p = or_parts (announces u && (is_none a.origin || is_none a.as_path)) (written.has_nlri u && is_none a.next_hop) acc.complete in
       let q = of-both (announces u) (is_none a.origin) (is_none a.as_path) p.0 in
       record {
-        origin = not-missing (is_reachable parts marks) (has_type ORIGIN parts) (is_none a.origin) (ap (λ (b : Bool). b && is_none a.origin) reachable-same ∙ q.0) no-origin;
-        as_path = not-missing (is_reachable parts marks) (has_type AS_PATH parts) (is_none a.as_path) (ap (λ (b : Bool). b && is_none a.as_path) reachable-same ∙ q.1) no-as_path;
-        next_hop = not-missing (has_nlri parts) (has_type NEXT_HOP parts) (is_none a.next_hop) (ap (λ (b : Bool). b && is_none a.next_hop) nlri-same ∙ p.1) no-next_hop;
+        origin = not-missing (is_reachable parts marks) (has_type ORIGIN parts) (is_none a.origin) (ap (λ (b : Bool). b && is_none a.origin) reachable-same ∙ q.0) (no-field attr.Origin a.origin ORIGIN (slot-at a ORIGIN));
+        as_path = not-missing (is_reachable parts marks) (has_type AS_PATH parts) (is_none a.as_path) (ap (λ (b : Bool). b && is_none a.as_path) reachable-same ∙ q.1) (no-field attr.AsPath a.as_path AS_PATH (slot-at a AS_PATH));
+        next_hop = not-missing (has_nlri parts) (has_type NEXT_HOP parts) (is_none a.next_hop) (ap (λ (b : Bool). b && is_none a.next_hop) nlri-same ∙ p.1) (no-field attr.NextHop a.next_hop NEXT_HOP (slot-at a NEXT_HOP));
       }
 
   none-missing : is_missing (missing_of parts marks) ≡ false

@@ -1,16 +1,14 @@
 -- A mark says that an attribute is repeated exactly where one of its type stands before it.
 use Rattle.std.proofs.Common.{◌≡◌, ℕ, ◌-◌, Bool, true, false, ◌&&◌, ◌||◌, nat_lt, eqb, List, [], ◌∷◌, ◌++◌, length, refl, sym, ap, ◌∙◌, arith, if◌then◌else◌}
 use Rattle.std.proofs.lemmas.List.{append_assoc}
-use Rattle.bgp_wire.specs.OctetSet.{also, none_of_them}
+use Rattle.bgp_wire.specs.Prelude.{also, none_of_them}
 use Rattle.bgp_open.specs.declared.context.Context.{Context}
 use Rattle.bgp_attr.specs.declared.judged.Judged.{Judged}
+use Rattle.bgp_attr.specs.Prelude.{judgement, PlacedTlv, tlvs_of}
 use Rattle.bgp_attr.specs.declared.judged.Judged.TheVariants as judged
 use Rattle.bgp_attr.specs.declared.why.Why.TheVariants as why
-use Rattle.bgp_attr.specs.Judgement.{judgement}
-use Rattle.bgp_attr.specs.Tlv.{PlacedTlv, tlvs_of}
-use Rattle.bgp_attr.proofs.TestRows.{not_repeated}
-use Rattle.bgp_update.specs.Laws.{stands_in, IsRepeated, IsMarkBehind, HasMarkBehind}
-use Rattle.bgp_update.specs.Marks.{Mark, malformed, carries_routes, repeated, cut, cut_kind, placed_tlvs, marks_behind, cut_mark, field_marks}
+use Rattle.bgp_attr.proofs.EachType.{not_repeated}
+use Rattle.bgp_update.specs.Prelude.{stands_in, IsRepeated, IsMarkBehind, HasMarkBehind, Mark, malformed, carries_routes, repeated, cut, cut_kind, placed_tlvs, marks_behind, cut_mark, field_marks}
 use Rattle.bgp_update.proofs.Lists.{eqb-swap}
 use Rattle.bgp_update.proofs.MarkTypes.{or_past}
 

@@ -5,10 +5,8 @@ use Rattle.std.specs.Option.{option_or}
 use Rattle.std.proofs.lemmas.Bool.{both_ways, ltb-true, ltb-false, eqb-true, eqb-false, lt-ltb, ne_eqb, and_parts, and_from, or_parts}
 use Rattle.std.proofs.lemmas.List.{append-nil}
 use Rattle.bgp_attr.specs.declared.opaque.Opaque.{Opaque}
-use Rattle.bgp_wire.specs.OctetSet.{also}
-use Rattle.bgp_update.specs.Taken.{put_rising, rising_behind}
-use Rattle.bgp_update.specs.Slots.{types_from}
-use Rattle.bgp_update.specs.Written.{rise_behind, rise}
+use Rattle.bgp_wire.specs.Prelude.{also}
+use Rattle.bgp_update.specs.Prelude.{put_rising, rising_behind, types_from, rise_behind, rise}
 use Rattle.bgp_update.proofs.Lists.{eqb-swap, or-none, find-none, all-append, all-more, flat_map-none}
 
 -- no type stands twice, nor is it among those that were seen

@@ -2,7 +2,7 @@
 use Rattle.std.proofs.Common.{◌≡◌, ℕ, Bool, true, false, eqb, List, [], ◌∷◌, length, refl, sym, IsTrue}
 use Rattle.std.proofs.Math.Dec.{eqb-suc-zero}
 use Rattle.std.proofs.lemmas.Bool.{true≢false}
-use Rattle.bgp_prefix.specs.Run.{run_of}
+use Rattle.bgp_prefix.specs.Prelude.{run_of}
 
 pub rest_test : (rest : List ℕ) (t : Bool) → (IsTrue t → rest ≡ []) → (rest ≡ [] → IsTrue t) → eqb (length rest) 0 ≡ t
 rest_test [] true only all = refl

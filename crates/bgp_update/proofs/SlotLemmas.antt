@@ -1,37 +1,23 @@
--- The slots of attributes: what each holds, those of what was kept, and that they give the attributes back.
-use Rattle.std.proofs.Common.{◌≡◌, ℕ, ◌+◌, ◌<◌, ◌≤◌, Bool, true, false, not, ◌||◌, cond, eqb, List, [], ◌∷◌, ◌++◌, length, Option, Some, None, inl, inr, refl, sym, ap, ◌∙◌, arith}
+-- The slots of attributes: each holds the one attribute of its type, and all of them give the attributes back.
+use Rattle.std.proofs.Common.{◌≡◌, ℕ, ◌+◌, ◌<◌, ◌≤◌, Bool, true, false, not, ◌&&◌, cond, eqb, List, [], ◌∷◌, ◌++◌, length, map, Option, Some, None, inl, inr, refl, sym, ap, subst, ◌∙◌, arith}
 use Rattle.std.specs.Prelude.{is_some}
 use Rattle.std.specs.List.{flat_map, filter, list_any, AllByRecursion}
-use Rattle.std.specs.Option.{option_or}
-use Rattle.std.proofs.lemmas.Bool.{both_ways, eqb-true, eq-eqb, or_parts, or_cases, not-false}
+use Rattle.std.proofs.lemmas.Bool.{both_ways, eqb-true, and_parts, and_right, or_parts, or_cases, not-false, not-true}
 use Rattle.std.proofs.lemmas.List.Concat.{flat_map-append}
 use Rattle.bgp_numbers.specs.declared.attribute.TheConstants.{ORIGIN, AS_PATH, NEXT_HOP, MULTI_EXIT_DISC, LOCAL_PREF, ATOMIC_AGGREGATE, AGGREGATOR, COMMUNITIES, MP_REACH_NLRI, MP_UNREACH_NLRI, AS4_PATH, AS4_AGGREGATOR, LARGE_COMMUNITY}
-use Rattle.bgp_attr.specs.declared.aggregator.Aggregator.{Aggregator}
+use Rattle.bgp_open.specs.declared.context.Context.{Context}
 use Rattle.bgp_attr.specs.declared.attr.Attr.{Attr}
-use Rattle.bgp_attr.specs.declared.attr.Attr.TheVariants as attr
-use Rattle.bgp_attr.specs.declared.communities.Communities.{Communities}
-use Rattle.bgp_attr.specs.declared.communities.LargeCommunities.{LargeCommunities}
-use Rattle.bgp_attr.specs.declared.mp.MpReach.{MpReach}
-use Rattle.bgp_attr.specs.declared.mp.MpUnreach.{MpUnreach}
 use Rattle.bgp_attr.specs.declared.opaque.Opaque.{Opaque}
-use Rattle.bgp_attr.specs.declared.origin.Origin.{Origin}
-use Rattle.bgp_attr.specs.declared.path.As4Path.{As4Path}
-use Rattle.bgp_attr.specs.declared.path.AsPath.{AsPath}
-use Rattle.bgp_attr.specs.Judgement.{is_recognised}
-use Rattle.bgp_attr.specs.Written.{type_of, is_misnamed}
+use Rattle.bgp_attr.specs.Prelude.{TlvValue, is_recognised, other_type, type_of, is_misnamed, entry_of}
+use Rattle.bgp_attr.specs.declared.attr.Attr.TheVariants as attr
 use Rattle.bgp_attr.specs.Judgement as judgement
-use Rattle.bgp_attr.specs.Table.{entry_of}
-use Rattle.bgp_attr.proofs.Tables.{EachRow, ◌&◌, by_row, entry-other, entry-passes}
+use Rattle.bgp_attr.proofs.Tables.{EachRow, by_row, entry-other, entry-passes}
 use Rattle.bgp_update.specs.declared.attrs.Attrs.{Attrs}
-use Rattle.bgp_update.specs.Marks.{carries_routes}
-use Rattle.bgp_wire.specs.Then.{◌>>=◌}
-use Rattle.bgp_update.specs.Taken.{is_opaque, as_opaque, rising_behind, attrs_from, as_origin, as_as_path, as_next_hop, as_med, as_local_pref, as_aggregator, as_communities, as_mp_reach, as_mp_unreach, as_as4_path, as_as4_aggregator, as_large}
-use Rattle.bgp_update.proofs.AttrSlots.{attrs_in, named}
-use Rattle.bgp_update.specs.Slots.{present, slots, slot, types_from, canonical_order, attr_list}
-use Rattle.bgp_update.specs.Written.{has_bad_others, rise}
-use Rattle.bgp_update.proofs.Lists.{find-passes, find-none, none-all, all-none, all-more, all-among, flat_map-all_none, flat_map-same, flat_map-filter, all-flat_map}
+use Rattle.bgp_update.specs.Prelude.{carries_routes, is_opaque, as_opaque, rising_behind, attrs_from, attrs_of, first_known, as_origin, as_as_path, as_next_hop, as_med, as_local_pref, as_aggregator, as_communities, as_mp_reach, as_mp_unreach, as_as4_path, as_as4_aggregator, as_large, present, slots, slot, types_from, canonical_order, attr_list, has_bad_others, rise}
+use Rattle.bgp_wire.specs.Prelude.{◌>>=◌}
+use Rattle.bgp_update.proofs.Lists.{find-passes, find-none, find-among, none-all, all-none, all-more, all-among, flat_map-all_none, flat_map-same, flat_map-filter, all-flat_map}
 use Rattle.bgp_update.proofs.Rising.{of_kind, rising-same, rise-rises, types-find, listed}
-use Rattle.bgp_update.proofs.TypeLemmas.{in_order, first_in, Taken, Is, Other, other_kind, as_atomic, atomic_attr, Named, OfType, first-among, taken-origin, taken-as_path, taken-next_hop, taken-med, taken-local_pref, taken-atomic, taken-aggregator, taken-communities, taken-mp_reach, taken-mp_unreach, taken-as4_path, taken-as4_aggregator, taken-large}
+use Rattle.bgp_update.proofs.TypeLemmas.{in_order, is_of, at_most_one, other_kind, Named, OfType}
 
 -- ---- what a slot holds
 
@@ -48,10 +34,104 @@ module _ (a : Attrs) (kind : ℕ) where
   unfolding slot
   slot-other other = entry-other kind (other_slot a kind) (slots a) other
 
-  -- a fact for each slot of the table, and one for that of all other types
-  pub by_slot : (P : ℕ → List Attr → Type 0) → EachRow P (slots a) → (is_recognised kind ≡ false → P kind (other_slot a kind)) → P kind (slot a kind)
-  unfolding slot
-  by_slot P each other = by_row kind (other_slot a kind) P (slots a) each other
+-- ---- all recognised types at once
+
+-- what is the same for all rows of a table is the same for each
+pub each-row : {A B : Type 0} (f g : ℕ → A → B) (rows : List (ℕ × A)) → map (λ row. f row.0 row.1) rows ≡ map (λ row. g row.0 row.1) rows → EachRow (λ kind a. f kind a ≡ g kind a) rows
+each-row f g [] same = tt
+each-row f g (row ∷ rows) same =
+    let this : f row.0 row.1 ≡ g row.0 row.1 = cc in
+    let rest : map (λ row. f row.0 row.1) rows ≡ map (λ row. g row.0 row.1) rows = cc in
+    (this, each-row f g rows rest)
+
+-- and what is the same for all recognised types, for each
+pub at_each : {A : Type 0} (f g : ℕ → A) → map (λ row. f row.0) judgement.recognised ≡ map (λ row. g row.0) judgement.recognised → (kind : ℕ) → is_recognised kind ≡ true → f kind ≡ g kind
+at_each f g same kind known =
+    by_row kind (λ (ctx : Context) (has_nlri : Bool) (t : TlvValue). other_type t) (λ k row. f k ≡ g k) judgement.recognised (each-row (λ k row. f k) (λ k row. g k) judgement.recognised same)
+    (λ none. absurd (both_ways (is_recognised kind) none known))
+
+-- ---- attributes that are made of those by type
+
+-- an attribute of a recognised type
+abbrev pub IsTyped : ℕ → Option Attr → Type 0
+IsTyped kind o = (x : Attr) → o ≡ Some x → is_of kind x ≡ true
+
+pub typed-first : (kind : ℕ) (xs : List Attr) → IsTyped kind (first_known xs kind)
+typed-first kind xs = find-passes (is_of kind) xs
+
+-- an attribute stands in the slot of its type
+alone : (others : List Opaque) (x : Attr)
+    → map (λ row. cond (is_of row.0 x) (slot (attrs_from (λ k. Some x) others) row.0) []) judgement.recognised ≡ map (λ row. cond (is_of row.0 x) (x ∷ []) []) judgement.recognised
+unfolding slot attrs_from
+alone others (attr.Opaque o) = refl
+alone others _ = refl
+
+module _ (first : ℕ → Option Attr) (others : List Opaque) (kind : ℕ) where
+  pub slot-from : IsTyped kind (first kind) → is_recognised kind ≡ true → slot (attrs_from first others) kind ≡ at_most_one (first kind)
+  unfolding slot attrs_from
+  slot-from typed known =
+      at_each (λ k. slot (attrs_from first others) k) (λ k. slot (attrs_from (λ j. first k) others) k) refl kind known ∙ by (first kind) typed
+    where
+      by : (o : Option Attr) → IsTyped kind o → slot (attrs_from (λ j. o) others) kind ≡ at_most_one o
+      by None typed = at_each (λ k. slot (attrs_from (λ j. None) others) k) (λ k. []) refl kind known
+      by (Some x) typed =
+          subst (λ (t : Bool). cond t (slot (attrs_from (λ j. Some x) others) kind) [] ≡ cond t (x ∷ []) []) (typed x refl)
+          (at_each (λ k. cond (is_of k x) (slot (attrs_from (λ j. Some x) others) k) []) (λ k. cond (is_of k x) (x ∷ []) []) (alone others x) kind known)
+
+  pub other-from : is_recognised kind ≡ false → slot (attrs_from first others) kind ≡ present (λ (o : Opaque). attr.Opaque o) (of_kind kind others)
+  unfolding attrs_from
+  other-from other = slot-other (attrs_from first others) kind other
+
+-- they are made of those of recognised types alone
+attrs-agree : (first second : ℕ → Option Attr) (others : List Opaque) → ((kind : ℕ) → is_recognised kind ≡ true → first kind ≡ second kind) → attrs_from first others ≡ attrs_from second others
+unfolding attrs_from
+attrs-agree first second others same = ap (λ (f : ℕ → Option Attr). attrs_from (λ k. cond (is_recognised k) (f k) None) others) (λ i. λ k. known k (is_recognised k) refl i)
+  where
+    known : (k : ℕ) (b : Bool) → is_recognised k ≡ b → cond b (first k) None ≡ cond b (second k) None
+    known k true e = same k e
+    known k false e = refl
+
+-- ---- what the slots have gives the attributes back
+
+back : {A : Type 0} (as_attr : A → Attr) (as_value : Attr → Option A) (kind : ℕ) → ((v : A) → (first_known (as_attr v ∷ []) kind >>= as_value) ≡ Some v)
+    → (o : Option A) → (first_known (present as_attr o) kind >>= as_value) ≡ o
+back as_attr as_value kind each None = refl
+back as_attr as_value kind each (Some v) = each v
+
+abbrev pub atomic_slot : Bool → List Attr
+atomic_slot b = cond b (attr.Atomic ∷ []) []
+
+atomic-back : (b : Bool) → is_some (first_known (atomic_slot b) ATOMIC_AGGREGATE) ≡ b
+atomic-back true = refl
+atomic-back false = refl
+
+module _ (a : Attrs) where
+  abbrev in_slot : ℕ → Option Attr
+  in_slot k = first_known (slot a k) k
+
+  -- one more type is one more line here, and the only one among these facts
+  pub fields-back : attrs_from in_slot a.others ≡ a
+  unfolding slot attrs_from
+  fields-back = λ i. record {
+    origin = back attr.Origin as_origin ORIGIN (λ v. refl) a.origin i;
+    as_path = back attr.AsPath as_as_path AS_PATH (λ v. refl) a.as_path i;
+    next_hop = back attr.NextHop as_next_hop NEXT_HOP (λ v. refl) a.next_hop i;
+    med = back attr.Med as_med MULTI_EXIT_DISC (λ v. refl) a.med i;
+    local_pref = back attr.LocalPref as_local_pref LOCAL_PREF (λ v. refl) a.local_pref i;
+    atomic = atomic-back a.atomic i;
+    aggregator = back attr.Aggregator as_aggregator AGGREGATOR (λ v. refl) a.aggregator i;
+    communities = back attr.Communities as_communities COMMUNITIES (λ v. refl) a.communities i;
+    mp_reach = back attr.MpReach as_mp_reach MP_REACH_NLRI (λ v. refl) a.mp_reach i;
+    mp_unreach = back attr.MpUnreach as_mp_unreach MP_UNREACH_NLRI (λ v. refl) a.mp_unreach i;
+    as4_path = back attr.As4Path as_as4_path AS4_PATH (λ v. refl) a.as4_path i;
+    as4_aggregator = back attr.As4Aggregator as_as4_aggregator AS4_AGGREGATOR (λ v. refl) a.as4_aggregator i;
+    large = back attr.Large as_large LARGE_COMMUNITY (λ v. refl) a.large i;
+    others = a.others;
+  }
+
+  -- so a slot has the first of its type and no more
+  slot-first : (kind : ℕ) → is_recognised kind ≡ true → slot a kind ≡ at_most_one (in_slot kind)
+  slot-first kind known = ap (λ (b : Attrs). slot b kind) (sym fields-back) ∙ slot-from in_slot a.others kind (typed-first kind (slot a kind)) known
 
 -- ---- the attributes of a slot are of its type
 
@@ -69,89 +149,29 @@ present-is : {A : Type 0} (kind : ℕ) (as_attr : A → Attr) (o : Option A) →
 present-is kind as_attr None each = record { all = tt; few = omega arith }
 present-is kind as_attr (Some v) each = record { all = (each v refl, tt); few = omega arith }
 
-abbrev pub atomic_slot : Bool → List Attr
-atomic_slot b = cond b (attr.Atomic ∷ []) []
-
-atomic-is : (b : Bool) → IsSlot ATOMIC_AGGREGATE (atomic_slot b)
-atomic-is true = record { all = (record { of_type = refl; named = refl }, tt); few = omega arith }
-atomic-is false = record { all = tt; few = omega arith }
+of-slot : (kind : ℕ) (x : Attr) → is_of kind x ≡ true → OfSlot kind x
+of-slot kind x is = let p = and_parts (not (is_opaque x)) (eqb (type_of x) kind) is in record { of_type = eqb-true (type_of x) kind p.1; named = plain x (not-true (is_opaque x) p.0) }
+  where
+    plain : (y : Attr) → is_opaque y ≡ false → is_misnamed y ≡ false
+    plain (attr.Opaque o) e = absurd cc
+    plain _ e = refl
 
 pub slot-is : (a : Attrs) (k : ℕ) → IsSlot k (slot a k)
-slot-is a k =
-    by_slot a k IsSlot
-    (present-is ORIGIN (λ (o : Origin). attr.Origin o) a.origin (λ v e. record { of_type = refl; named = refl })
-    & present-is AS_PATH (λ (p : AsPath). attr.AsPath p) a.as_path (λ v e. record { of_type = refl; named = refl })
-    & present-is NEXT_HOP (λ (addr : List ℕ). attr.NextHop addr) a.next_hop (λ v e. record { of_type = refl; named = refl })
-    & present-is MULTI_EXIT_DISC (λ (n : ℕ). attr.Med n) a.med (λ v e. record { of_type = refl; named = refl })
-    & present-is LOCAL_PREF (λ (n : ℕ). attr.LocalPref n) a.local_pref (λ v e. record { of_type = refl; named = refl })
-    & atomic-is a.atomic
-    & present-is AGGREGATOR (λ (g : Aggregator). attr.Aggregator g) a.aggregator (λ v e. record { of_type = refl; named = refl })
-    & present-is COMMUNITIES (λ (c : Communities). attr.Communities c) a.communities (λ v e. record { of_type = refl; named = refl })
-    & present-is MP_REACH_NLRI (λ (r : MpReach). attr.MpReach r) a.mp_reach (λ v e. record { of_type = refl; named = refl })
-    & present-is MP_UNREACH_NLRI (λ (r : MpUnreach). attr.MpUnreach r) a.mp_unreach (λ v e. record { of_type = refl; named = refl })
-    & present-is AS4_PATH (λ (p : As4Path). attr.As4Path p) a.as4_path (λ v e. record { of_type = refl; named = refl })
-    & present-is AS4_AGGREGATOR (λ (g : Aggregator). attr.As4Aggregator g) a.as4_aggregator (λ v e. record { of_type = refl; named = refl })
-    & present-is LARGE_COMMUNITY (λ (l : LargeCommunities). attr.Large l) a.large (λ v e. record { of_type = refl; named = refl })
-    & tt)
-    (λ other. present-is k (λ (o : Opaque). attr.Opaque o) (of_kind k a.others) (λ o found.
-    (let same : o.kind ≡ k = eqb-true o.kind k (find-passes (λ p. eqb p.kind k) a.others o found) in record { of_type = same; named = ap is_recognised same ∙ other })))
+slot-is a k = by (is_recognised k) refl
+  where
+    by : (b : Bool) → is_recognised k ≡ b → IsSlot k (slot a k)
+    by true known =
+        subst (IsSlot k) (sym (slot-first a k known)) (present-is k (λ (x : Attr). x) (first_known (slot a k) k) (λ x found. of-slot k x (typed-first k (slot a k) x found)))
+    by false other =
+        subst (IsSlot k) (sym (slot-other a k other)) (present-is k (λ (o : Opaque). attr.Opaque o) (of_kind k a.others) (λ o found.
+        (let same : o.kind ≡ k = eqb-true o.kind k (find-passes (λ p. eqb p.kind k) a.others o found) in record { of_type = same; named = ap is_recognised same ∙ other })))
 
 pub slot-types : (a : Attrs) (k : ℕ) → OfType k (slot a k)
 slot-types a k = all-more (OfSlot k) (λ x. type_of x ≡ k) (slot a k) (λ x s. s.of_type) (slot-is a k).all
 
-pub slot-named : (a : Attrs) (k : ℕ) → Named (slot a k)
-slot-named a k = all-more (OfSlot k) (λ x. is_misnamed x ≡ false) (slot a k) (λ x s. s.named) (slot-is a k).all
-
 pub list-named : (a : Attrs) → Named (attr_list a)
-list-named a = all-flat_map (λ x. is_misnamed x ≡ false) (slot a) canonical_order (slot-named a)
-
--- ---- attributes that are made of those by type
-
--- an attribute of a recognised type
-abbrev pub IsTyped : ℕ → Option Attr → Type 0
-IsTyped kind o = (x : Attr) → o ≡ Some x → (type_of x ≡ kind) × (is_opaque x ≡ false)
-
-taken_slot : {A : Type 0} (as_value : Attr → Option A) (as_attr : A → Attr) (kind : ℕ) (taken : (x : Attr) → Taken as_value as_attr kind x) (o : Option Attr) → IsTyped kind o
-    → present as_attr (o >>= as_value) ≡ present (λ x. x) o
-taken_slot as_value as_attr kind taken None typed = refl
-taken_slot as_value as_attr kind taken (Some x) typed = by (taken x)
-  where
-    by : Taken as_value as_attr kind x → present as_attr (as_value x) ≡ x ∷ []
-    by (Is v is has same) = ap (present as_attr) has ∙ ap (λ (y : Attr). y ∷ []) (sym is)
-    by (Other none other) = let p = typed x refl in absurd (both_ways (eqb (type_of x) kind) (other (named x p.1)) (eq-eqb (type_of x) kind p.0))
-
-atomic_taken : (o : Option Attr) → IsTyped ATOMIC_AGGREGATE o → atomic_slot (is_some o) ≡ present (λ x. x) o
-atomic_taken None typed = refl
-atomic_taken (Some x) typed = by (taken-atomic x)
-  where
-    by : Taken as_atomic atomic_attr ATOMIC_AGGREGATE x → attr.Atomic ∷ [] ≡ x ∷ []
-    by (Is v is has same) = ap (λ (y : Attr). y ∷ []) (sym is)
-    by (Other none other) = let p = typed x refl in absurd (both_ways (eqb (type_of x) ATOMIC_AGGREGATE) (other (named x p.1)) (eq-eqb (type_of x) ATOMIC_AGGREGATE p.0))
-
-module _ (first : ℕ → Option Attr) (others : List Opaque) (kind : ℕ) where
-  pub slot-from : ((k : ℕ) → IsTyped k (first k)) → is_recognised kind ≡ true → slot (attrs_from first others) kind ≡ present (λ x. x) (first kind)
-  unfolding attrs_from
-  slot-from typed known =
-      by_slot (attrs_from first others) kind (λ k xs. xs ≡ present (λ x. x) (first k))
-      (taken_slot as_origin (λ (o : Origin). attr.Origin o) ORIGIN taken-origin (first ORIGIN) (typed ORIGIN)
-      & taken_slot as_as_path (λ (p : AsPath). attr.AsPath p) AS_PATH taken-as_path (first AS_PATH) (typed AS_PATH)
-      & taken_slot as_next_hop (λ (addr : List ℕ). attr.NextHop addr) NEXT_HOP taken-next_hop (first NEXT_HOP) (typed NEXT_HOP)
-      & taken_slot as_med (λ (n : ℕ). attr.Med n) MULTI_EXIT_DISC taken-med (first MULTI_EXIT_DISC) (typed MULTI_EXIT_DISC)
-      & taken_slot as_local_pref (λ (n : ℕ). attr.LocalPref n) LOCAL_PREF taken-local_pref (first LOCAL_PREF) (typed LOCAL_PREF)
-      & atomic_taken (first ATOMIC_AGGREGATE) (typed ATOMIC_AGGREGATE)
-      & taken_slot as_aggregator (λ (g : Aggregator). attr.Aggregator g) AGGREGATOR taken-aggregator (first AGGREGATOR) (typed AGGREGATOR)
-      & taken_slot as_communities (λ (c : Communities). attr.Communities c) COMMUNITIES taken-communities (first COMMUNITIES) (typed COMMUNITIES)
-      & taken_slot as_mp_reach (λ (r : MpReach). attr.MpReach r) MP_REACH_NLRI taken-mp_reach (first MP_REACH_NLRI) (typed MP_REACH_NLRI)
-      & taken_slot as_mp_unreach (λ (r : MpUnreach). attr.MpUnreach r) MP_UNREACH_NLRI taken-mp_unreach (first MP_UNREACH_NLRI) (typed MP_UNREACH_NLRI)
-      & taken_slot as_as4_path (λ (p : As4Path). attr.As4Path p) AS4_PATH taken-as4_path (first AS4_PATH) (typed AS4_PATH)
-      & taken_slot as_as4_aggregator (λ (g : Aggregator). attr.As4Aggregator g) AS4_AGGREGATOR taken-as4_aggregator (first AS4_AGGREGATOR) (typed AS4_AGGREGATOR)
-      & taken_slot as_large (λ (l : LargeCommunities). attr.Large l) LARGE_COMMUNITY taken-large (first LARGE_COMMUNITY) (typed LARGE_COMMUNITY)
-      & tt)
-      (λ other. absurd (both_ways (is_recognised kind) other known))
-
-  pub other-from : is_recognised kind ≡ false → slot (attrs_from first others) kind ≡ present (λ (o : Opaque). attr.Opaque o) (of_kind kind others)
-  unfolding attrs_from
-  other-from other = slot-other (attrs_from first others) kind other
+list-named a =
+    all-flat_map (λ x. is_misnamed x ≡ false) (slot a) canonical_order (λ k. all-more (OfSlot k) (λ x. is_misnamed x ≡ false) (slot a k) (λ x s. s.named) (slot-is a k).all)
 
 -- ---- the attributes in order give the attributes back
 
@@ -164,27 +184,19 @@ recognised-stands k recognised = entry-passes in_order k judgement.recognised re
 pub slot-all : (P : Attr → Type 0) (a : Attrs) (kind : ℕ) → is_recognised kind ≡ true → AllByRecursion P (attr_list a) → AllByRecursion P (slot a kind)
 slot-all P a kind recognised all = all-among P (slot a) kind canonical_order (recognised-stands kind recognised) all
 
-module _ (a : Attrs) where
-  module _ {A : Type 0} (as_value : Attr → Option A) (as_attr : A → Attr) (kind : ℕ) (taken : (x : Attr) → Taken as_value as_attr kind x) where
-    from_slot : is_recognised kind ≡ true → first_in as_value (attr_list a) ≡ first_in as_value (slot a kind)
-    from_slot recognised =
-        first-among as_value as_attr kind taken (slot a) canonical_order (slot-types a)
-        ∙ ap (λ (t : Bool). cond t (first_in as_value (slot a kind)) None) (recognised-stands kind recognised)
+pub field-all : (P : Attr → Type 0) (a : Attrs) (kind : ℕ) → is_recognised kind ≡ true → AllByRecursion P (attr_list a) → AllByRecursion P (entry_of kind (slots a) (other_slot a kind))
+field-all P a kind recognised all = subst (λ (xs : List Attr). AllByRecursion P xs) (slot-at a kind) (slot-all P a kind recognised all)
 
-    from_present : ((v : A) → as_value (as_attr v) ≡ Some v) → (o : Option A) → first_in as_value (present as_attr o) ≡ o
-    from_present back None = refl
-    from_present back (Some v) = ap (λ (o : Option A). option_or o None) (back v)
-
-    field_back : is_recognised kind ≡ true → ((v : A) → as_value (as_attr v) ≡ Some v) → (o : Option A) → slot a kind ≡ present as_attr o → first_in as_value (attr_list a) ≡ o
-    field_back recognised back o is = from_slot recognised ∙ ap (first_in as_value) is ∙ from_present back o
-
-atomic-slot_back : (b : Bool) → is_some (first_in as_atomic (atomic_slot b)) ≡ b
-atomic-slot_back true = refl
-atomic-slot_back false = refl
-
-atomic-back : (a : Attrs) → is_some (first_in as_atomic (attr_list a)) ≡ a.atomic
-atomic-back a =
-    ap (λ (o : Option Bool). is_some o) (from_slot a as_atomic atomic_attr ATOMIC_AGGREGATE taken-atomic refl ∙ ap (first_in as_atomic) (slot-at a ATOMIC_AGGREGATE)) ∙ atomic-slot_back a.atomic
+-- among all attributes, the first of a type is that of its slot
+first-listed : (a : Attrs) (kind : ℕ) → is_recognised kind ≡ true → first_known (attr_list a) kind ≡ first_known (slot a kind) kind
+first-listed a kind known =
+    find-among (is_of kind) (slot a) kind canonical_order apart ∙ ap (λ (t : Bool). cond t (first_known (slot a kind) kind) None) (recognised-stands kind known)
+  where
+    apart : (k : ℕ) → eqb k kind ≡ false → first_known (slot a k) kind ≡ None
+    apart k other =
+        find-none (is_of kind) (slot a k)
+        (all-none (is_of kind) (slot a k) (all-more (λ x. type_of x ≡ k) (λ x. is_of kind x ≡ false) (slot a k)
+        (λ x same. ap (λ (j : ℕ). not (is_opaque x) && eqb j kind) same ∙ ap (λ (t : Bool). not (is_opaque x) && t) other ∙ and_right (not (is_opaque x)) false refl) (slot-types a k)))
 
 flat_map-twice : {A B C : Type 0} (f : B → List C) (g : A → List B) (xs : List A) → flat_map f (flat_map g xs) ≡ flat_map (λ x. flat_map f (g x)) xs
 flat_map-twice f g [] = refl
@@ -240,20 +252,7 @@ others-back a good small =
     ∙ order-others a.others p.1 rises small)
     ∙ rising-same a.others [] 0 (rise-rises a.others rises) tt
 
-pub slots-back : (a : Attrs) → has_bad_others a.others ≡ false → AllByRecursion (λ o. o.kind < 256) a.others → attrs_in (attr_list a) ≡ a
-slots-back a good small = λ i. record {
-  origin = field_back a as_origin (λ (o : Origin). attr.Origin o) ORIGIN taken-origin refl (λ v. refl) a.origin (slot-at a ORIGIN) i;
-  as_path = field_back a as_as_path (λ (p : AsPath). attr.AsPath p) AS_PATH taken-as_path refl (λ v. refl) a.as_path (slot-at a AS_PATH) i;
-  next_hop = field_back a as_next_hop (λ (addr : List ℕ). attr.NextHop addr) NEXT_HOP taken-next_hop refl (λ v. refl) a.next_hop (slot-at a NEXT_HOP) i;
-  med = field_back a as_med (λ (n : ℕ). attr.Med n) MULTI_EXIT_DISC taken-med refl (λ v. refl) a.med (slot-at a MULTI_EXIT_DISC) i;
-  local_pref = field_back a as_local_pref (λ (n : ℕ). attr.LocalPref n) LOCAL_PREF taken-local_pref refl (λ v. refl) a.local_pref (slot-at a LOCAL_PREF) i;
-  atomic = atomic-back a i;
-  aggregator = field_back a as_aggregator (λ (g : Aggregator). attr.Aggregator g) AGGREGATOR taken-aggregator refl (λ v. refl) a.aggregator (slot-at a AGGREGATOR) i;
-  communities = field_back a as_communities (λ (c : Communities). attr.Communities c) COMMUNITIES taken-communities refl (λ v. refl) a.communities (slot-at a COMMUNITIES) i;
-  mp_reach = field_back a as_mp_reach (λ (r : MpReach). attr.MpReach r) MP_REACH_NLRI taken-mp_reach refl (λ v. refl) a.mp_reach (slot-at a MP_REACH_NLRI) i;
-  mp_unreach = field_back a as_mp_unreach (λ (r : MpUnreach). attr.MpUnreach r) MP_UNREACH_NLRI taken-mp_unreach refl (λ v. refl) a.mp_unreach (slot-at a MP_UNREACH_NLRI) i;
-  as4_path = field_back a as_as4_path (λ (p : As4Path). attr.As4Path p) AS4_PATH taken-as4_path refl (λ v. refl) a.as4_path (slot-at a AS4_PATH) i;
-  as4_aggregator = field_back a as_as4_aggregator (λ (g : Aggregator). attr.As4Aggregator g) AS4_AGGREGATOR taken-as4_aggregator refl (λ v. refl) a.as4_aggregator (slot-at a AS4_AGGREGATOR) i;
-  large = field_back a as_large (λ (l : LargeCommunities). attr.Large l) LARGE_COMMUNITY taken-large refl (λ v. refl) a.large (slot-at a LARGE_COMMUNITY) i;
-  others = others-back a good small i;
-}
+pub list-back : (a : Attrs) → has_bad_others a.others ≡ false → AllByRecursion (λ o. o.kind < 256) a.others → attrs_of (attr_list a) ≡ a
+list-back a good small =
+    ap (λ (os : List Opaque). attrs_from (first_known (attr_list a)) os) (others-back a good small)
+    ∙ attrs-agree (first_known (attr_list a)) (λ k. first_known (slot a k) k) a.others (first-listed a) ∙ fields-back a

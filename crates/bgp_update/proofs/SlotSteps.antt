@@ -3,7 +3,7 @@ use Rattle.std.proofs.Common.{◌≡◌, ℕ, ◌+◌, ◌<◌, ◌≤◌, List,
 use Rattle.std.specs.List.{flat_map, AllByRecursion}
 use Rattle.std.proofs.lemmas.Grind.{flat_map-append}
 use Rattle.std.proofs.lemmas.List.{append-nil, length-append, take_more, take_all, take-append-drop}
-use Rattle.bgp_wire.specs.steps.Output.{Extends}
+use Rattle.bgp_wire.specs.Prelude.{Extends}
 use Rattle.bgp_wire.proofs.Writes.{IsWritten}
 use Rattle.bgp_update.proofs.Lists.{all-append, all-front, all-back}
 

@@ -1,22 +1,20 @@
 -- Which types a walk over the attributes has to look at.
-use Rattle.std.proofs.Common.{◌≡◌, ℕ, ◌<◌, Bool, true, false, not, eqb, ltb, List, [], ◌∷◌, length, take, ap, refl, ◌∙◌, arith}
+use Rattle.std.proofs.Common.{◌≡◌, ℕ, ◌<◌, Bool, true, false, not, eqb, ltb, List, [], length, take, ap, refl, ◌∙◌, arith}
 use Rattle.std.specs.List.{flat_map, filter, list_any}
 use Rattle.std.proofs.lemmas.Bool.{both_ways, lt-ltb, ltb-true, ltb-false, ne_eqb, not-false, not-true}
 use Rattle.bgp_attr.specs.declared.attr.Attr.TheVariants as attr
 use Rattle.bgp_attr.specs.declared.opaque.Opaque.{Opaque}
-use Rattle.bgp_attr.specs.Judgement.{is_recognised}
+use Rattle.bgp_attr.specs.Prelude.{is_recognised}
 use Rattle.bgp_attr.specs.Judgement as judgement
 use Rattle.bgp_attr.proofs.Tables.{entry-passes}
 use Rattle.bgp_update.specs.declared.attrs.Attrs.{Attrs}
-use Rattle.bgp_update.specs.Slots.{present, slot, canonical_order, attr_list}
+use Rattle.bgp_update.specs.declared.attrs.TheConstants.{RECOGNISED}
+use Rattle.bgp_update.specs.Prelude.{present, slot, canonical_order, attr_list}
 use Rattle.bgp_update.proofs.Lists.{flat_map-filter, find-none, all-none, all-more, none-all}
 use Rattle.bgp_update.proofs.Rising.{of_kind}
 use Rattle.bgp_update.proofs.SlotLemmas.{slot-other}
 
-abbrev recognised : List ℕ
-recognised = 14 ∷ 15 ∷ 1 ∷ 2 ∷ 3 ∷ 4 ∷ 5 ∷ 6 ∷ 7 ∷ 8 ∷ 17 ∷ 18 ∷ 32 ∷ []
-
-are-recognised : recognised ≡ filter is_recognised canonical_order
+are-recognised : RECOGNISED ≡ filter is_recognised canonical_order
 unfolding canonical_order
 are-recognised = refl
 
@@ -25,7 +23,7 @@ module _ (a : Attrs) (none : a.others ≡ []) where
   unrecognised k other = slot-other a k other ∙ ap (λ (os : List Opaque). present (λ (o : Opaque). attr.Opaque o) (of_kind k os)) none
 
   -- where no attribute is of a type that isn't recognised
-  pub recognised_types : flat_map (slot a) recognised ≡ attr_list a
+  pub recognised_types : flat_map (slot a) RECOGNISED ≡ attr_list a
   recognised_types = ap (flat_map (slot a)) are-recognised ∙ flat_map-filter (slot a) is_recognised canonical_order unrecognised
 
 pub order_long : length canonical_order ≡ 256

@@ -3,11 +3,11 @@ use Rattle.std.proofs.Common.{◌≡◌, ℕ, ◌+◌, ◌≤◌, Bool, true, fa
 use Rattle.std.specs.List.{list_all}
 use Rattle.std.proofs.lemmas.Bool.{le-leb, leb-true}
 use Rattle.std.proofs.lemmas.List.{length-append}
-use Rattle.bgp_wire.specs.Row.{Row}
+use Rattle.bgp_wire.specs.Prelude.{Row}
 use Rattle.bgp_wire.proofs.Pieces.{Splits-pieces}
-use Rattle.bgp_attr.specs.Tlv.{TlvValue, IsTlv, PlacedTlv, one_tlv, tlvs_of, placed_from}
+use Rattle.bgp_attr.specs.Prelude.{TlvValue, IsTlv, PlacedTlv, one_tlv, tlvs_of, placed_from}
 use Rattle.bgp_attr.proofs.Readers.{IsTlv-reads}
-use Rattle.bgp_update.specs.steps.Small.{is_small}
+use Rattle.bgp_update.specs.Prelude.{is_small}
 
 row_small : (ts : List TlvValue) (at : ℕ) (row : List ℕ) → Row IsTlv ts row → at + length row ≤ 4075 → list_all is_small (placed_from at ts) ≡ true
 row_small [] at row p le = refl

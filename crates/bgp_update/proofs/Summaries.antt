@@ -7,11 +7,7 @@ use Rattle.std.proofs.lemmas.List.Concat.{flat_map-cons}
 use Rattle.bgp_frame.specs.declared.notification.Notification.{Notification}
 use Rattle.bgp_attr.specs.declared.attr.Attr.{Attr}
 use Rattle.bgp_attr.specs.declared.judged.Judged.{Judged}
-use Rattle.bgp_update.specs.KeptView.{Kept, kept_behind}
-use Rattle.bgp_update.specs.Marks.{Mark}
-use Rattle.bgp_update.specs.Taken.{kept_by, kept_of}
-use Rattle.bgp_update.specs.Verdict.{reset_by, first_reset, withdraws}
-use Rattle.bgp_update.specs.Summary.{SummaryValue, is_noted, summary_behind, summary_of}
+use Rattle.bgp_update.specs.Prelude.{Kept, kept_behind, Mark, kept_by, kept_of, reset_by, first_reset, withdraws, SummaryValue, is_noted, summary_behind, summary_of}
 use Rattle.bgp_update.proofs.KeptViews.{or_false, kept_whole, kept_none, kept_append}
 use Rattle.bgp_update.proofs.Options.{option_or-assoc, option_or-none}
 

@@ -1,15 +1,15 @@
 -- The first attribute of each type has no more octets than all attributes.
-use Rattle.std.proofs.Common.{◌≡◌, ℕ, ◌+◌, ◌≤◌, Bool, true, false, cond, eqb, List, [], ◌∷◌, ◌++◌, length, refl, ap, ap₂, ◌∙◌, arith}
-use Rattle.std.specs.List.{flat_map, list_any}
+use Rattle.std.proofs.Common.{◌≡◌, ℕ, ◌+◌, ◌≤◌, Bool, true, false, cond, eqb, List, [], ◌∷◌, ◌++◌, length, Some, refl, ap, ap₂, ◌∙◌, arith}
+use Rattle.std.specs.List.{flat_map, find, list_any}
 use Rattle.std.proofs.lemmas.Bool.{or_parts, or_left}
 use Rattle.std.proofs.lemmas.List.{length-append}
 use Rattle.std.proofs.lemmas.List.Concat.{flat_map-append}
 use Rattle.bgp_attr.specs.declared.attr.Attr.{Attr}
-use Rattle.bgp_attr.specs.Written.{type_of}
-use Rattle.bgp_wire.specs.OctetSet.{also}
+use Rattle.bgp_attr.specs.Prelude.{type_of}
+use Rattle.bgp_wire.specs.Prelude.{also}
 use Rattle.bgp_update.proofs.Lists.{eqb-swap, flat_map-none}
 use Rattle.bgp_update.proofs.Rising.{NoneTwice}
-use Rattle.bgp_update.proofs.TypeLemmas.{fresh-none, first_of_type}
+use Rattle.bgp_update.proofs.TypeLemmas.{fresh-none, at_most_one, first_of_type}
 
 abbrev firsts : List ℕ → List Attr → List Attr
 firsts ks xs = flat_map (λ k. first_of_type k xs) ks
@@ -19,7 +19,7 @@ firsts-without : (x : Attr) (xs : List Attr) (ks : List ℕ) → list_any (λ k.
 firsts-without x xs [] e = refl
 firsts-without x xs (k ∷ ks) e =
     let p = or_parts (eqb k (type_of x)) (list_any (λ j. eqb j (type_of x)) ks) e in
-    ap₂ (λ (a b : List Attr). a ++ b) (ap (λ (t : Bool). cond t (x ∷ []) (first_of_type k xs)) (eqb-swap (type_of x) k ∙ p.0)) (firsts-without x xs ks p.1)
+    ap₂ (λ (a b : List Attr). a ++ b) (ap (λ (t : Bool). at_most_one (cond t (Some x) (find (λ y. eqb (type_of y) k) xs))) (eqb-swap (type_of x) k ∙ p.0)) (firsts-without x xs ks p.1)
 
 module _ (f : Attr → List ℕ) where
   abbrev total : List Attr → ℕ
@@ -30,7 +30,7 @@ module _ (f : Attr → List ℕ) where
 
   more-by : (x : Attr) (xs : List Attr) (k : ℕ) (ks : List ℕ) (seen : ℕ → Bool) (t : Bool) → eqb (type_of x) k ≡ t → NoneTwice (also k seen) ks
       → total (firsts ks (x ∷ xs)) ≤ length (f x) + total (firsts ks xs)
-      → total (cond t (x ∷ []) (first_of_type k xs) ++ firsts ks (x ∷ xs)) ≤ length (f x) + total (first_of_type k xs ++ firsts ks xs)
+      → total (at_most_one (cond t (Some x) (find (λ y. eqb (type_of y) k) xs)) ++ firsts ks (x ∷ xs)) ≤ length (f x) + total (first_of_type k xs ++ firsts ks xs)
   more-by x xs k ks seen true e fresh later =
       let none = fresh-none (type_of x) (also k seen) ks (or_left (eqb (type_of x) k) (seen (type_of x)) e) fresh in
       let same : total (firsts ks (x ∷ xs)) ≡ total (firsts ks xs) = ap total (firsts-without x xs ks none) in

@@ -6,16 +6,12 @@ use Rattle.std.proofs.lemmas.List.{length-append, length-map}
 use Rattle.bgp_open.specs.declared.context.Context.{Context}
 use Rattle.bgp_attr.specs.declared.aggregator.Aggregator.{Aggregator}
 use Rattle.bgp_attr.specs.declared.attr.Attr.{Attr}
-use Rattle.bgp_attr.specs.declared.attr.Attr.TheVariants as attr
 use Rattle.bgp_attr.specs.declared.path.Segment.{Segment}
-use Rattle.bgp_attr.specs.Written.{segment_octets, aggregator_octets, type_of, is_too_long, is_writable}
+use Rattle.bgp_attr.specs.Prelude.{segment_octets, aggregator_octets, type_of, is_too_long, is_writable}
+use Rattle.bgp_attr.specs.declared.attr.Attr.TheVariants as attr
 use Rattle.bgp_attr.proofs.SegmentRows.{length-segment}
 use Rattle.bgp_update.specs.declared.update.Update.{Update}
-use Rattle.bgp_update.specs.As4.{narrow_number, narrow_segment, narrow_aggregator, narrowed, narrowed_update}
-use Rattle.bgp_update.specs.Slots.{attr_list}
-use Rattle.bgp_update.specs.Told.{CanBeTold}
-use Rattle.bgp_update.specs.Widths.{with_as4}
-use Rattle.bgp_update.specs.Written.{written_body}
+use Rattle.bgp_update.specs.Prelude.{narrow_number, narrow_segment, narrow_aggregator, narrowed, narrowed_update, attr_list, CanBeTold, with_as4, written_body}
 use Rattle.bgp_update.proofs.ReadBack.{none-long, short-writable}
 use Rattle.bgp_update.proofs.Widths.{is_narrowed, Carries, told-all, narrowed_update_is_valid}
 

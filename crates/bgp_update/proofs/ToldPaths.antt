@@ -5,10 +5,9 @@ use Rattle.std.proofs.lemmas.List.{length-map}
 use Rattle.std.proofs.lemmas.List.Folds.{flat_map-map}
 use Rattle.bgp_prefix.specs.declared.as_number.AsNumber.{AsNumber}
 use Rattle.bgp_attr.specs.declared.path.Segment.{Segment}
-use Rattle.bgp_attr.specs.Numbers.{number_octets}
-use Rattle.bgp_attr.specs.Written.{segment_code, segment_octets}
+use Rattle.bgp_attr.specs.Prelude.{number_octets, segment_code, segment_octets}
 use Rattle.bgp_attr.proofs.Writes.{segment_written}
-use Rattle.bgp_update.specs.As4.{narrow_number, narrow_segment}
+use Rattle.bgp_update.specs.Prelude.{narrow_number, narrow_segment}
 
 pub narrow_written : (s : Segment) (code count : ℕ) (old head new : List ℕ) → code ≡ segment_code s.kind → count ≡ length s.numbers → head ≡ old ++ code ∷ count ∷ []
     → new ≡ head ++ flat_map (λ (n : AsNumber). number_octets false (narrow_number n).0) s.numbers → new ≡ old ++ segment_octets false (narrow_segment s)

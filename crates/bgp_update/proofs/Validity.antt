@@ -1,10 +1,10 @@
 -- What it means that an UPDATE isn't refused, test by test.
 use Rattle.std.proofs.Common.{◌≡◌, Bool, true, false, ◌&&◌, Option, None, refl, ap, ◌∙◌}
 use Rattle.bgp_open.specs.declared.context.Context.{Context}
-use Rattle.bgp_attr.specs.Written.{is_too_wide, is_as4, is_empty, has_as_zero, stands_twice}
+use Rattle.bgp_attr.specs.Prelude.{is_too_wide, is_as4, is_empty, has_as_zero, stands_twice}
 use Rattle.bgp_update.specs.declared.invalid.Invalid.{Invalid}
 use Rattle.bgp_update.specs.declared.update.Update.{Update}
-use Rattle.bgp_update.specs.Written.{lacks_some, has_needless_next_hop, has_outside_preference, is_of_other_family, has_bad_others, any_attr, refused_if, invalid_of}
+use Rattle.bgp_update.specs.Prelude.{lacks_some, has_needless_next_hop, has_outside_preference, is_of_other_family, has_bad_others, any_attr, refused_if, invalid_of}
 
 -- each reason not to write an UPDATE, absent
 pub record IsAccepted (ctx : Context) (u : Update) : Type 0 where

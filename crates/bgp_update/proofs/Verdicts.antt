@@ -1,7 +1,7 @@
 -- What a verdict that isn't a reset says of a body: its parts, and what is taken or withdrawn of them.
 use Rattle.std.proofs.Common.{◌≡◌, ℕ, Bool, true, false, cond, List, length, Option, Some, None, refl, subst}
 use Rattle.std.specs.Int.{w16, to_be_bytes}
-use Rattle.bgp_wire.specs.Octets.{AreOctets}
+use Rattle.bgp_wire.specs.Prelude.{AreOctets}
 use Rattle.bgp_wire.proofs.OctetLemmas.{AreOctets-front, AreOctets-back}
 use Rattle.bgp_frame.specs.declared.notification.Notification.{Notification}
 use Rattle.bgp_open.specs.declared.context.Context.{Context}
@@ -9,12 +9,8 @@ use Rattle.bgp_update.specs.declared.note.Note.{Note}
 use Rattle.bgp_update.specs.declared.routes.Routes.{Routes}
 use Rattle.bgp_update.specs.declared.update.Update.{Update}
 use Rattle.bgp_update.specs.declared.verdict.Verdict.{Verdict}
+use Rattle.bgp_update.specs.Prelude.{Mark, malformed, marks_of, is_reachable, notes_of, routes_of, Parts, IsBody, parts_of, update_of, reset_of, is_withdrawn, unless_reset, of_parts, verdict_of}
 use Rattle.bgp_update.specs.declared.verdict.Verdict.TheVariants as verdict
-use Rattle.bgp_update.specs.Marks.{Mark, malformed, marks_of}
-use Rattle.bgp_update.specs.Notes.{is_reachable, notes_of, routes_of}
-use Rattle.bgp_update.specs.Parts.{Parts, IsBody, parts_of}
-use Rattle.bgp_update.specs.Taken.{update_of}
-use Rattle.bgp_update.specs.Verdict.{reset_of, is_withdrawn, unless_reset, of_parts, verdict_of}
 use Rattle.bgp_update.proofs.Bodies.{parts-body}
 
 abbrev take : Update → List Note → Verdict

@@ -5,29 +5,23 @@ use Rattle.std.specs.List.{list_any, AllByRecursion}
 use Rattle.std.proofs.lemmas.Bool.{true≢false, false≢true, eqb-true, ne_eqb, or_parts, or_from}
 use Rattle.std.proofs.lemmas.List.{length-map}
 use Rattle.bgp_numbers.specs.declared.TheConstants.{AS_TRANS}
-use Rattle.bgp_numbers.specs.declared.attribute.TheConstants.{ORIGIN, AS_PATH, NEXT_HOP, MULTI_EXIT_DISC, LOCAL_PREF, ATOMIC_AGGREGATE, AGGREGATOR, COMMUNITIES, MP_REACH_NLRI, MP_UNREACH_NLRI, AS4_PATH, AS4_AGGREGATOR, LARGE_COMMUNITY}
+use Rattle.bgp_numbers.specs.declared.attribute.TheConstants.{AS_PATH, AGGREGATOR, AS4_PATH, AS4_AGGREGATOR}
 use Rattle.bgp_open.specs.declared.context.Context.{Context}
 use Rattle.bgp_prefix.specs.declared.as_number.AsNumber.{AsNumber}
 use Rattle.bgp_attr.specs.declared.aggregator.Aggregator.{Aggregator}
 use Rattle.bgp_attr.specs.declared.attr.Attr.{Attr}
-use Rattle.bgp_attr.specs.declared.attr.Attr.TheVariants as attr
-use Rattle.bgp_attr.specs.declared.mp.MpReach.TheVariants as reach
-use Rattle.bgp_attr.specs.declared.mp.MpUnreach.TheVariants as unreach
 use Rattle.bgp_attr.specs.declared.path.Segment.{Segment}
 use Rattle.bgp_attr.specs.declared.path.AsPath.{AsPath}
 use Rattle.bgp_attr.specs.declared.path.As4Path.{As4Path}
-use Rattle.bgp_attr.specs.Path.{as_number}
-use Rattle.bgp_attr.specs.Table.{entry_of}
-use Rattle.bgp_attr.proofs.Tables.{◌&◌}
-use Rattle.bgp_attr.specs.Written.{type_of, any_number, is_above_two_octets, is_zero, is_bad_segment, is_too_wide, is_as4, is_empty, has_as_zero, stands_twice}
+use Rattle.bgp_attr.specs.Prelude.{as_number, is_recognised, type_of, any_number, is_above_two_octets, is_zero, is_bad_segment, is_too_wide, is_as4, is_empty, has_as_zero, stands_twice}
+use Rattle.bgp_attr.specs.declared.attr.Attr.TheVariants as attr
+use Rattle.bgp_attr.specs.declared.mp.MpReach.TheVariants as reach
+use Rattle.bgp_attr.specs.declared.mp.MpUnreach.TheVariants as unreach
 use Rattle.bgp_update.specs.declared.attrs.Attrs.{Attrs}
 use Rattle.bgp_update.specs.declared.update.Update.{Update}
-use Rattle.bgp_update.specs.As4.{narrow_number, narrow_segment, narrow_path, wide_path, narrow_aggregator, wide_aggregator, narrowed, narrowed_update, HasNoAs4}
-use Rattle.bgp_update.specs.Slots.{present, slots, slot, canonical_order, attr_list}
-use Rattle.bgp_update.specs.Widths.{with_as4}
-use Rattle.bgp_update.specs.Written.{lacks_some, is_of_other_family, invalid_of}
+use Rattle.bgp_update.specs.Prelude.{narrow_number, narrow_segment, narrow_path, wide_path, narrow_aggregator, wide_aggregator, narrowed, narrowed_update, HasNoAs4, present, slot, canonical_order, attr_list, with_as4, lacks_some, is_of_other_family, invalid_of}
 use Rattle.bgp_update.proofs.Lists.{none-all, all-none, all-carried, all-both}
-use Rattle.bgp_update.proofs.SlotLemmas.{other_slot, slot-at, slot-other, by_slot, slot-types, slot-all}
+use Rattle.bgp_update.proofs.SlotLemmas.{slot-other, at_each, slot-types, slot-all, field-all}
 use Rattle.bgp_update.proofs.Validity.{valid-accepted, accepted-valid}
 
 -- ---- what is told of the four attributes of AS numbers, and of all others
@@ -49,17 +43,14 @@ by_narrowed P path aggregator as4_path as4_aggregator rest k = by (eqb k AS_PATH
 
 -- each other slot is told as it is
 pub same-slot : (a : Attrs) (k : ℕ) → is_narrowed k ≡ false → slot (narrowed a) k ≡ slot a k
-same-slot a k =
-    by_slot a k (λ j xs. is_narrowed j ≡ false → slot (narrowed a) j ≡ xs)
-    (told ORIGIN & changed & told NEXT_HOP & told MULTI_EXIT_DISC & told LOCAL_PREF & told ATOMIC_AGGREGATE & changed & told COMMUNITIES & told MP_REACH_NLRI & told MP_UNREACH_NLRI
-    & changed & changed & told LARGE_COMMUNITY & tt)
-    (λ other e. slot-other (narrowed a) k other)
+unfolding slot
+same-slot a k same = by (is_recognised k) refl
   where
-    told : (j : ℕ) → false ≡ false → slot (narrowed a) j ≡ entry_of j (slots (narrowed a)) (other_slot (narrowed a) j)
-    told j e = slot-at (narrowed a) j
-
-    changed : {A : Type 0} → true ≡ false → A
-    changed e = absurd (true≢false e)
+    by : (b : Bool) → is_recognised k ≡ b → slot (narrowed a) k ≡ slot a k
+    by true known =
+        subst (λ (t : Bool). cond t [] (slot (narrowed a) k) ≡ cond t [] (slot a k)) same
+        (at_each (λ j. cond (is_narrowed j) [] (slot (narrowed a) j)) (λ j. cond (is_narrowed j) [] (slot a j)) refl k known)
+    by false other = slot-other (narrowed a) k other ∙ sym (slot-other a k other)
 
 -- what holds of each attribute makes something hold of each that is told
 pub record Carries (P Q : Attr → Type 0) : Type 0 where
@@ -239,8 +230,8 @@ none-as4 : (a : Attrs) → list_any is_as4 (attr_list a) ≡ false → HasNoAs4 
 none-as4 a none =
     let all = none-all is_as4 (attr_list a) none in
     record {
-      path = no-path a.as4_path (subst (λ (xs : List Attr). AllByRecursion (λ x. is_as4 x ≡ false) xs) (slot-at a AS4_PATH) (slot-all (λ x. is_as4 x ≡ false) a AS4_PATH refl all));
-      aggregator = no-aggregator a.as4_aggregator (subst (λ (xs : List Attr). AllByRecursion (λ x. is_as4 x ≡ false) xs) (slot-at a AS4_AGGREGATOR) (slot-all (λ x. is_as4 x ≡ false) a AS4_AGGREGATOR refl all));
+      path = no-path a.as4_path (field-all (λ x. is_as4 x ≡ false) a AS4_PATH refl all);
+      aggregator = no-aggregator a.as4_aggregator (field-all (λ x. is_as4 x ≡ false) a AS4_AGGREGATOR refl all);
     }
 
 pub wide_update_has_no_as4 : (ctx : Context) (u : Update) → ctx.as4 ≡ true → invalid_of ctx u ≡ None → HasNoAs4 u.attrs

@@ -3,32 +3,23 @@ use Rattle.std.proofs.Common.{◌≡◌, ℕ, ◌+◌, ◌≤◌, Bool, true, fa
 use Rattle.std.specs.List.{filter, flat_map}
 use Rattle.std.proofs.lemmas.Grind.{flat_map-append}
 use Rattle.std.proofs.lemmas.List.{append-nil, length-append}
-use Rattle.bgp_wire.specs.Octets.{AreOctets}
+use Rattle.bgp_wire.specs.Prelude.{AreOctets}
 use Rattle.bgp_open.specs.declared.context.Context.{Context}
-use Rattle.bgp_prefix.specs.Prefix.{PrefixValue, spelling_of}
-use Rattle.bgp_prefix.specs.Run.{run_of}
+use Rattle.bgp_prefix.specs.Prelude.{PrefixValue, spelling_of, run_of}
 use Rattle.bgp_prefix.proofs.LawLemmas.{Row-rewritten}
 use Rattle.bgp_attr.specs.declared.attr.Attr.{Attr}
-use Rattle.bgp_attr.specs.declared.attr.Attr.TheVariants as attr
 use Rattle.bgp_attr.specs.declared.mp.MpReach.{MpReach}
-use Rattle.bgp_attr.specs.declared.mp.MpReach.TheVariants as reach
 use Rattle.bgp_attr.specs.declared.mp.MpUnreach.{MpUnreach}
+use Rattle.bgp_attr.specs.Prelude.{link_octets, canonical, run_octets, value_octets}
+use Rattle.bgp_attr.specs.declared.attr.Attr.TheVariants as attr
+use Rattle.bgp_attr.specs.declared.mp.MpReach.TheVariants as reach
 use Rattle.bgp_attr.specs.declared.mp.MpUnreach.TheVariants as unreach
-use Rattle.bgp_attr.specs.Spelling.{link_octets}
-use Rattle.bgp_attr.specs.Written.{canonical, run_octets, value_octets}
 use Rattle.bgp_attr.proofs.CanonicalLength.{length-canonical}
 use Rattle.bgp_update.specs.declared.attrs.Attrs.{Attrs}
 use Rattle.bgp_update.specs.declared.note.Note.{Note}
 use Rattle.bgp_update.specs.declared.routes.Routes.{Routes}
+use Rattle.bgp_update.specs.Prelude.{carries_routes, marks_of, gone_ip4, gone_ip6, reached_ip4, reached_ip6, routes_of, Parts, IsBody, present, slot, types_from, canonical_order, kept_of, attrs_of, first_reset, reset_of_run, reset_of, verdict_of, gone_octets, withdrawal_octets, attributes_octets}
 use Rattle.bgp_update.specs.declared.verdict.Verdict.TheVariants as verdict
-use Rattle.bgp_update.specs.Marks.{carries_routes, marks_of}
-use Rattle.bgp_update.specs.Notes.{gone_ip4, gone_ip6, reached_ip4, reached_ip6, routes_of}
-use Rattle.bgp_update.specs.Parts.{Parts, IsBody}
-use Rattle.bgp_update.specs.Slots.{present, slot, types_from, canonical_order}
-use Rattle.bgp_update.specs.Taken.{kept_of, attrs_of}
-use Rattle.bgp_update.specs.Verdict.{first_reset, reset_of_run, reset_of, verdict_of}
-use Rattle.bgp_update.specs.Withdrawal.{gone_octets, withdrawal_octets}
-use Rattle.bgp_update.specs.Written.{attributes_octets}
 use Rattle.bgp_update.proofs.Verdicts.{has-parts, withdrawn-of}
 use Rattle.bgp_update.proofs.Bodies.{length-body}
 use Rattle.bgp_update.proofs.KeptMarks.{or-parts}

@@ -1,7 +1,7 @@
 -- Attributes of unrecognised types that are found by their type.
 use Rattle.std.specs.Prelude.{◌≡◌, ◌==◌, ℕ, List, Option, None, option_map, slice_index_or}
 use Rattle.std.specs.List.{find}
-use Rattle.bgp_attr.specs.AttrView.{opaque_value}
+use Rattle.bgp_attr.specs.Prelude.{opaque_value}
 use Rattle.bgp_attr.specs.declared.opaque.Opaque.{Opaque}
 use Rattle.bgp_update.specs.declared.by_type.ByType.{ByType}
 

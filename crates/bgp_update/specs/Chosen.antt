@@ -1,7 +1,7 @@
 -- The attributes that are chosen of an UPDATE.
 use Rattle.std.specs.Prelude.{not, List}
 use Rattle.std.specs.List.{filter}
-use Rattle.bgp_wire.specs.OctetSet.{has_octet}
+use Rattle.bgp_wire.specs.Prelude.{has_octet}
 use Rattle.bgp_attr.specs.declared.opaque.Opaque.{Opaque}
 use Rattle.bgp_update.specs.declared.attrs.Attrs.{Attrs}
 use Rattle.bgp_update.specs.declared.chosen.Chosen.{Chosen}

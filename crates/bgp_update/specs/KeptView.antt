@@ -2,16 +2,15 @@
 use Rattle.std.specs.Prelude.{ℕ, Bool, ◌||◌, List, [], map, Option, option_map, slice_index_or}
 use Rattle.std.specs.List.{list_any}
 use Rattle.std.specs.Option.{option_or}
-use Rattle.bgp_attr.specs.AttrView.{opaque_value}
-use Rattle.bgp_attr.specs.Judgement.{type_row}
-use Rattle.bgp_attr.specs.Tlv.{TlvValue}
+use Rattle.bgp_attr.specs.Prelude.{opaque_value, type_row, TlvValue}
 use Rattle.bgp_attr.specs.declared.attr.Attr.{Attr}
-use Rattle.bgp_attr.specs.declared.attr_view.OpaqueView.{OpaqueView}
+use Rattle.bgp_attr.specs.declared.opaque.OpaqueView.{OpaqueView}
 use Rattle.bgp_attr.specs.declared.opaque.Opaque.{Opaque}
 use Rattle.bgp_update.specs.declared.attrs.Attrs.{Attrs}
 use Rattle.bgp_update.specs.declared.kept_view.KeptView.{KeptView}
 use Rattle.bgp_update.specs.Places.{tlv_placed}
-use Rattle.bgp_update.specs.Taken.{attrs_from, first_known, is_opaque}
+use Rattle.bgp_update.specs.Fields.{attrs_from, is_opaque}
+use Rattle.bgp_update.specs.Taken.{first_known}
 
 -- the attribute of each recognised type, and whether there are others
 pub record Kept : Type 0 where

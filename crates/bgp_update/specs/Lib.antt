@@ -1,6 +1,7 @@
 -- UPDATE: its parts, the verdict on it, and how it is written.
 pub mod Parts
 pub mod Marks
+pub mod Fields
 pub mod Taken
 pub mod Notes
 pub mod Verdict
@@ -25,4 +26,5 @@ pub mod Laws
 pub mod Told
 pub mod EndOfRib
 pub mod Withdrawal
+pub mod Prelude
 pub mod steps

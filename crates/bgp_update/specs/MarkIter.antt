@@ -1,18 +1,14 @@
 -- What borrowed marks are, and what an iterator of them has left.
 use Rattle.std.specs.Prelude.{◌≡◌, ℕ, ◌-◌, Bool, ◌||◌, ◌==◌, List, [], ◌++◌, length, if◌then◌else◌}
 use Rattle.std.specs.List.{list_any}
-use Rattle.bgp_attr.specs.FoundAttr.{found_attr_value}
-use Rattle.bgp_attr.specs.Judgement.{judgement}
-use Rattle.bgp_attr.specs.Ruling.{ruled}
-use Rattle.bgp_attr.specs.declared.attr.Attr.TheVariants as attr
+use Rattle.bgp_attr.specs.Prelude.{found_attr_value, judgement, ruled, PlacedTlv, tlvs_left, rest_left}
 use Rattle.bgp_attr.specs.declared.judged.Judged.{Judged}
-use Rattle.bgp_attr.specs.Tlv.{PlacedTlv}
-use Rattle.bgp_attr.specs.TlvIter.{tlvs_left, rest_left}
+use Rattle.bgp_attr.specs.declared.attr.Attr.TheVariants as attr
 use Rattle.bgp_update.specs.declared.mark.CutMark.{CutMark}
 use Rattle.bgp_update.specs.declared.mark.MarkView.{MarkView}
 use Rattle.bgp_update.specs.declared.mark.MarkIter.{MarkIter}
 use Rattle.bgp_update.specs.Marks.{Mark, marks_behind, repeated, cut_mark}
-use Rattle.bgp_wire.specs.OctetSet.{has_octet}
+use Rattle.bgp_wire.specs.Prelude.{has_octet}
 
 abbrev pub mark_value : MarkView → Mark
 mark_value m = record { at = m.at; kind = m.kind; judged = found_attr_value m.judged }

@@ -1,15 +1,14 @@
 -- How each attribute of a field is judged, by its offset (RFC 4271, section 6.3; RFC 7606, sections 3 to 5).
 use Rattle.std.specs.Prelude.{ℕ, ◌-◌, Bool, ◌&&◌, ◌||◌, ◌==◌, nat_lt, List, [], ◌∷◌, ◌++◌, length, if◌then◌else◌}
-use Rattle.bgp_wire.specs.OctetSet.{also, none_of_them}
+use Rattle.bgp_wire.specs.Prelude.{also, none_of_them}
 use Rattle.bgp_numbers.specs.declared.attribute.TheConstants.{MP_REACH_NLRI, MP_UNREACH_NLRI}
 use Rattle.bgp_numbers.specs.declared.error.TheConstants.{UPDATE_MESSAGE, MALFORMED_ATTRIBUTE_LIST}
 use Rattle.bgp_frame.specs.declared.notification.Notification.{Notification}
 use Rattle.bgp_open.specs.declared.context.Context.{Context}
 use Rattle.bgp_attr.specs.declared.judged.Judged.{Judged}
+use Rattle.bgp_attr.specs.Prelude.{PlacedTlv, tlvs_of, placed_from, judgement}
 use Rattle.bgp_attr.specs.declared.judged.Judged.TheVariants as judged
 use Rattle.bgp_attr.specs.declared.why.Why.TheVariants as why
-use Rattle.bgp_attr.specs.Tlv.{PlacedTlv, tlvs_of, placed_from}
-use Rattle.bgp_attr.specs.Judgement.{judgement}
 use Rattle.bgp_update.specs.Parts.{Parts, has_nlri}
 
 -- an attribute's offset in the field, its type, and how it is judged

@@ -2,8 +2,7 @@
 -- each length in two octets, and Network Layer Reachability Information up to the end.
 use Rattle.std.specs.Prelude.{◌≡◌, ◌<◌, ◌^◌, ◌+◌, ℕ, Bool, List, [], ◌∷◌, ◌++◌, length, Option, None, Some, nat_lt}
 use Rattle.std.specs.Int.{w16, to_be_bytes, from_be_bytes}
-use Rattle.bgp_wire.specs.Then.{◌>>=◌}
-use Rattle.bgp_wire.specs.Behind.{first_octets}
+use Rattle.bgp_wire.specs.Prelude.{◌>>=◌, first_octets}
 
 pub record Parts : Type 0 where
   pub withdrawn : List ℕ

@@ -1,6 +1,6 @@
 -- What a borrowed path, and who aggregated, are.
 use Rattle.std.specs.Prelude.{List, ◌++◌, option_map}
-use Rattle.bgp_attr.specs.PathView.{path_value, segments_left}
+use Rattle.bgp_attr.specs.Prelude.{path_value, segments_left}
 use Rattle.bgp_attr.specs.declared.path.Segment.{Segment}
 use Rattle.bgp_attr.specs.declared.path.AsPath.{AsPath}
 use Rattle.bgp_update.specs.As4.{lead}

@@ -1,10 +1,7 @@
 -- Where the attributes of a message that are kept lie, by type.
 use Rattle.std.specs.Prelude.{◌≡◌, ℕ, zero, suc, Bool, true, List, Option, None, Some, is_some, slice_index_or, IsTrue}
 use Rattle.bgp_open.specs.declared.context.Context.{Context}
-use Rattle.bgp_attr.specs.JudgedView.{is_kept}
-use Rattle.bgp_attr.specs.Judgement.{is_recognised, judgement}
-use Rattle.bgp_attr.specs.Tlv.{TlvValue}
-use Rattle.bgp_attr.specs.TlvIter.{tlv_at}
+use Rattle.bgp_attr.specs.Prelude.{is_kept, is_recognised, judgement, TlvValue, tlv_at}
 
 -- the attribute at a place, which is 0 where there is none, else one more than its offset in the field
 abbrev pub tlv_placed : List ℕ → ℕ → Option TlvValue

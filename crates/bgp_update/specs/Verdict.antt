@@ -5,7 +5,7 @@ use Rattle.std.specs.Option.{option_or}
 use Rattle.bgp_numbers.specs.declared.error.TheConstants.{UPDATE_MESSAGE, INVALID_NETWORK_FIELD}
 use Rattle.bgp_frame.specs.declared.notification.Notification.{Notification}
 use Rattle.bgp_open.specs.declared.context.Context.{Context}
-use Rattle.bgp_prefix.specs.Run.{run_of}
+use Rattle.bgp_prefix.specs.Prelude.{run_of}
 use Rattle.bgp_attr.specs.declared.judged.Judged.{Judged}
 use Rattle.bgp_attr.specs.declared.judged.Judged.TheVariants as judged
 use Rattle.bgp_update.specs.declared.verdict.Verdict.{Verdict}

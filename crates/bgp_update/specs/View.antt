@@ -1,9 +1,9 @@
 -- What a borrowed UPDATE is.
 use Rattle.std.specs.Prelude.{List, map}
-use Rattle.bgp_attr.specs.AttrView.{opaque_value}
-use Rattle.bgp_attr.specs.declared.attr_view.OpaqueView.{OpaqueView}
+use Rattle.bgp_attr.specs.Prelude.{opaque_value}
+use Rattle.bgp_attr.specs.declared.opaque.OpaqueView.{OpaqueView}
 use Rattle.bgp_attr.specs.declared.opaque.Opaque.{Opaque}
-use Rattle.bgp_frame.specs.Notification.{notification_of_view}
+use Rattle.bgp_frame.specs.Prelude.{notification_of_view}
 use Rattle.bgp_update.specs.declared.note.Note.{Note}
 use Rattle.bgp_update.specs.declared.routes.Routes.{Routes}
 use Rattle.bgp_update.specs.declared.update.Update.{Update}

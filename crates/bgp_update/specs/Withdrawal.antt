@@ -1,11 +1,10 @@
 -- The UPDATE that withdraws routes: IPv4 in Withdrawn Routes, IPv6 in MP_UNREACH_NLRI.
 use Rattle.std.specs.Prelude.{ℕ, List, [], ◌∷◌}
-use Rattle.bgp_prefix.specs.Prefix.{PrefixValue}
+use Rattle.bgp_prefix.specs.Prelude.{PrefixValue}
 use Rattle.bgp_attr.specs.declared.attr.Attr.TheVariants as attr
 use Rattle.bgp_attr.specs.declared.mp.MpUnreach.{MpUnreach}
+use Rattle.bgp_attr.specs.Prelude.{headed, run_octets, unreach_octets}
 use Rattle.bgp_attr.specs.declared.mp.MpUnreach.TheVariants as unreach
-use Rattle.bgp_attr.specs.Headed.{headed}
-use Rattle.bgp_attr.specs.Written.{run_octets, unreach_octets}
 use Rattle.bgp_update.specs.declared.routes.Routes.{Routes}
 use Rattle.bgp_update.specs.Written.{body_octets}
 

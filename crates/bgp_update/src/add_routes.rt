@@ -1,7 +1,7 @@
 //! Prefixes, collected.
 
 ghost use Rattle.std.specs.Prelude.{◌≡◌, ◌++◌, IfOk, OnOk};
-ghost use Rattle.bgp_prefix.specs.PrefixIter.{prefixes_left};
+ghost use Rattle.bgp_prefix.specs.Prelude.{prefixes_left};
 
 use bgp_prefix::{Prefix, PrefixIter};
 use bgp_wire::List;

@@ -1,7 +1,7 @@
 //! The items of AS paths, and the first of them.
 
 ghost use Rattle.std.specs.Prelude.{◌≡◌, ◌≤◌, ◌++◌, take, IfOk, OnOk};
-ghost use Rattle.bgp_update.specs.As4.{items_in, items_of, front_by, lead};
+ghost use Rattle.bgp_update.specs.Prelude.{items_in, items_of, front_by, lead};
 
 use bgp_attr::{SegKind, Segment};
 use bgp_prefix::AsNumber;

@@ -1,7 +1,7 @@
 //! The kept attributes of a message, one after another.
 
 ghost use Rattle.std.specs.Prelude.{◌≡◌, [], ◌∷◌, MatchOption};
-ghost use Rattle.bgp_attr.specs.AttrView.{attr_value};
+ghost use Rattle.bgp_attr.specs.Prelude.{attr_value};
 ghost use Rattle.bgp_update.specs.MarkIter.{marks_left};
 ghost use Rattle.bgp_update.specs.Taken.{kept_of};
 

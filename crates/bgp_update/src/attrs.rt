@@ -1,10 +1,15 @@
-//! The attributes of a message as values.
+//! The attributes of a message as values, and by their types.
 
-ghost use Rattle.std.specs.Prelude.{◌≡◌, IfOk};
+ghost use Rattle.std.specs.Prelude.{◌≡◌, ◌==◌, IfOk, option_map};
+ghost use Rattle.std.specs.List.{find};
+ghost use Rattle.bgp_attr.specs.Prelude.{ref_value};
+ghost use Rattle.bgp_update.specs.Prelude.{present, slot};
 
 use bgp_attr::{
-    Aggregator, As4Path, AsPath, Communities, LargeCommunities, MpReach, MpUnreach, Opaque, Origin,
+    Aggregator, As4Path, AsPath, AttrRef, Communities, LargeCommunities, MpReach, MpUnreach,
+    Opaque, Origin,
 };
+use bgp_numbers::attribute;
 use bgp_wire::List;
 use std::alloc::{AllocError, Global};
 
@@ -40,6 +45,9 @@ pub struct Attrs {
     /// Those of types that aren't recognised, rising in type.
     pub others: List<Opaque>,
 }
+
+/// The recognised types in the order in which they are written.
+pub(crate) const RECOGNISED: [u8; 13] = [14, 15, 1, 2, 3, 4, 5, 6, 7, 8, 17, 18, 32];
 
 /// What is copied where there is something.
 macro_rules! copied {
@@ -82,5 +90,42 @@ impl Attrs {
             large,
             others,
         })
+    }
+}
+
+/// The attribute of a type that isn't recognised.
+fn other(others: &[Opaque], kind: u8) -> Option<&Opaque>
+    ensures { option_map (λ o. o.now) result ≡ find (λ o. o.kind == kind) others.now }
+{
+    'others: for other in others {
+        if other.kind == kind {
+            return Some(other);
+        }
+    }
+    None
+}
+
+/// The attribute of a type: at most one.
+#[tactic(auto, unfolding(crate::specs::Slots::slot))]
+#[inline(always)]
+pub(crate) fn slot(attrs: &Attrs, kind: u8) -> Option<AttrRef<'_>>
+    ensures { present ref_value result ≡ slot attrs.now kind }
+{
+    match kind {
+        attribute::ORIGIN => Some(AttrRef::Origin(attrs.origin?)),
+        attribute::AS_PATH => Some(AttrRef::AsPath(attrs.as_path.as_ref()?)),
+        attribute::NEXT_HOP => Some(AttrRef::NextHop(attrs.next_hop.as_ref()?)),
+        attribute::MULTI_EXIT_DISC => Some(AttrRef::Med(attrs.med?)),
+        attribute::LOCAL_PREF => Some(AttrRef::LocalPref(attrs.local_pref?)),
+        attribute::ATOMIC_AGGREGATE if attrs.atomic => Some(AttrRef::Atomic),
+        attribute::ATOMIC_AGGREGATE => None,
+        attribute::AGGREGATOR => Some(AttrRef::Aggregator(attrs.aggregator.as_ref()?)),
+        attribute::COMMUNITIES => Some(AttrRef::Communities(attrs.communities.as_ref()?)),
+        attribute::MP_REACH_NLRI => Some(AttrRef::MpReach(attrs.mp_reach.as_ref()?)),
+        attribute::MP_UNREACH_NLRI => Some(AttrRef::MpUnreach(attrs.mp_unreach.as_ref()?)),
+        attribute::AS4_PATH => Some(AttrRef::As4Path(attrs.as4_path.as_ref()?)),
+        attribute::AS4_AGGREGATOR => Some(AttrRef::As4Aggregator(attrs.as4_aggregator.as_ref()?)),
+        attribute::LARGE_COMMUNITY => Some(AttrRef::Large(attrs.large.as_ref()?)),
+        _ => Some(AttrRef::Opaque(other(&attrs.others, kind)?)),
     }
 }

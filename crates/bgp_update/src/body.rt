@@ -1,8 +1,7 @@
 //! The parts of an UPDATE's body.
 
 ghost use Rattle.std.specs.Prelude.{◌≡◌, option_map};
-ghost use Rattle.bgp_update.specs.Parts.{behind_two, parts_of};
-ghost use Rattle.bgp_update.specs.Body.{parts_value};
+ghost use Rattle.bgp_update.specs.Prelude.{behind_two, parts_of, parts_value};
 
 /// The parts of a body (RFC 4271, section 4.3).
 #[derive(Clone, Copy)]

@@ -2,11 +2,9 @@
 
 ghost use Rattle.std.specs.Prelude.{◌≡◌, ◌==◌, List, [], length, option_map};
 ghost use Rattle.std.specs.List.{find, flat_map};
-ghost use Rattle.bgp_attr.specs.AttrView.{attr_value, opaque_value};
+ghost use Rattle.bgp_attr.specs.Prelude.{attr_value, opaque_value};
 ghost use Rattle.bgp_attr.specs.declared.opaque.Opaque.{Opaque};
-ghost use Rattle.bgp_update.specs.ByType.{IsByType};
-ghost use Rattle.bgp_update.specs.Iters.{attrs_left};
-ghost use Rattle.bgp_update.specs.Taken.{put_rising, as_opaque, rising_behind};
+ghost use Rattle.bgp_update.specs.Prelude.{IsByType, attrs_left, put_rising, as_opaque, rising_behind};
 
 use crate::attr_iter::AttrIter;
 use bgp_attr::{AttrView, OpaqueView};

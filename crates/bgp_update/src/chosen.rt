@@ -4,9 +4,10 @@ ghost use Rattle.std.specs.Prelude.{option_map};
 ghost use Rattle.bgp_update.specs.Found.{IsFound};
 ghost use Rattle.bgp_update.specs.View.{update_value};
 
+use crate::attrs::RECOGNISED;
 use crate::by_type::ByType;
 use crate::kept_view::KeptView;
-use crate::slot::{RECOGNISED, order};
+use crate::order::order;
 use crate::slot_iter::OfType;
 use crate::view::UpdateView;
 use bgp_attr::OpaqueView;

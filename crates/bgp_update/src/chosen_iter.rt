@@ -1,7 +1,7 @@
 //! The attributes that are chosen of an UPDATE, in the order in which they are written.
 
 ghost use Rattle.std.specs.Prelude.{◌≡◌};
-ghost use Rattle.bgp_attr.specs.AttrView.{attr_value};
+ghost use Rattle.bgp_attr.specs.Prelude.{attr_value};
 ghost use Rattle.bgp_update.specs.Chosen.{chosen_attrs};
 ghost use Rattle.bgp_update.specs.Slots.{attr_list};
 

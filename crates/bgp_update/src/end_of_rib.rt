@@ -1,12 +1,9 @@
 //! The End-of-RIB (RFC 4724, section 2).
 
 ghost use Rattle.std.specs.Prelude.{◌≡◌, ◌≤◌, length, is_some};
-ghost use Rattle.bgp_attr.specs.AttrView.{attr_value};
-ghost use Rattle.bgp_update.specs.Body.{parts_value};
+ghost use Rattle.bgp_attr.specs.Prelude.{attr_value};
+ghost use Rattle.bgp_update.specs.Prelude.{parts_value, attrs_left, marks_left, parts_of};
 ghost use Rattle.bgp_update.specs.EndOfRib.{bare_family, family_of_kept, family_of_marks, end_of_rib, family_in};
-ghost use Rattle.bgp_update.specs.Iters.{attrs_left};
-ghost use Rattle.bgp_update.specs.MarkIter.{marks_left};
-ghost use Rattle.bgp_update.specs.Parts.{parts_of};
 
 use crate::attr_iter::AttrIter;
 use crate::body::{Body, split_body};

@@ -1,14 +1,12 @@
 //! What keeps the attributes of a message from being written, found in one pass over them.
 
 ghost use Rattle.std.specs.Prelude.{◌≡◌, []};
-ghost use Rattle.bgp_attr.specs.AttrRef.{ref_value};
-ghost use Rattle.bgp_update.specs.steps.Failed.{failed_by, also_failed, first_of};
-ghost use Rattle.bgp_update.specs.Slots.{attr_list};
-ghost use Rattle.bgp_update.specs.Written.{is_of_other_family};
+ghost use Rattle.bgp_attr.specs.Prelude.{ref_value};
+ghost use Rattle.bgp_update.specs.Prelude.{failed_by, also_failed, first_of, attr_list, is_of_other_family};
 
-use crate::attrs::Attrs;
+use crate::attrs::{Attrs, slot};
 use crate::invalid::Invalid;
-use crate::slot::{slot, types_of};
+use crate::order::types_of;
 use bgp_attr::unwritable::{has_as_zero, is_as4, is_empty, is_too_wide, stands_twice};
 use bgp_attr::{AttrRef, MpReach, MpUnreach};
 use bgp_open::Context;

@@ -1,7 +1,7 @@
 //! The path that AS_PATH and AS4_PATH give together, borrowed.
 
 ghost use Rattle.std.specs.Prelude.{◌≡◌, IfOk};
-ghost use Rattle.bgp_attr.specs.PathView.{path_value};
+ghost use Rattle.bgp_attr.specs.Prelude.{path_value};
 ghost use Rattle.bgp_update.specs.As4.{joined};
 
 use crate::view_items::{items_of, next_leading};

@@ -1,11 +1,8 @@
 //! The verdict on the body of an UPDATE.
 
 ghost use Rattle.std.specs.Prelude.{◌≡◌, ◌≤◌, ◌+◌, length, option_map};
-ghost use Rattle.bgp_frame.specs.Notification.{notification_of_view};
-ghost use Rattle.bgp_update.specs.Body.{parts_value};
-ghost use Rattle.bgp_update.specs.Marks.{marks_of};
-ghost use Rattle.bgp_update.specs.Verdict.{bad_network, reset_of_run, verdict_on, verdict_of};
-ghost use Rattle.bgp_update.specs.View.{view_value};
+ghost use Rattle.bgp_frame.specs.Prelude.{notification_of_view};
+ghost use Rattle.bgp_update.specs.Prelude.{parts_value, marks_of, bad_network, reset_of_run, verdict_on, verdict_of, view_value};
 
 use crate::body::{Body, split_body};
 use crate::found::Found;

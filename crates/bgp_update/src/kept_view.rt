@@ -4,11 +4,10 @@ ghost use Rattle.std.specs.Prelude.{◌≡◌, [], length, Some, IfOk};
 ghost use Rattle.bgp_update.specs.Places.{ArePlaced};
 
 use crate::attrs::Attrs;
-use bgp_attr::unwritable::is_recognised;
 use bgp_attr::{
     Aggregator, As4PathView, AttrView, CommunitiesView, LargeView, MpReachView, MpUnreachView,
     Opaque, Origin, PathView, Tlv, aggregator_in, as_path_in, as4_path_in, communities_in, four_in,
-    kept_attr, large_in, next_hop_in, origin_in, reach_in, tlv_at, unreach_in,
+    is_recognised, kept_attr, large_in, next_hop_in, origin_in, reach_in, tlv_at, unreach_in,
 };
 use bgp_numbers::attribute;
 use bgp_open::Context;
@@ -57,7 +56,8 @@ impl<'a> KeptView<'a> {
     ghost use Rattle.bgp_attr.specs.TlvIter.{tlv_at};
     ghost use Rattle.bgp_attr.specs.TlvView.{tlv_value};
     ghost use Rattle.bgp_update.specs.KeptView.{kept_behind, kept_in, kept_tlv, kept_value, known_value};
-    ghost use Rattle.bgp_update.specs.Slots.{present, slot};
+    ghost use Rattle.bgp_update.specs.Fields.{present};
+    ghost use Rattle.bgp_update.specs.Slots.{slot};
 
     /// No attributes, of a field that is judged in a context.
     #[inline(always)]
@@ -126,7 +126,7 @@ impl<'a> KeptView<'a> {
     }
 
     /// The attributes with memory of their own, and these others. It is inlined, since it is built where it is to stand then.
-    #[tactic(auto, unfolding(crate::specs::Taken::attrs_from))]
+    #[tactic(auto, unfolding(crate::specs::Fields::attrs_from))]
     #[inline(always)]
     pub(crate) fn own(&self, alloc: Global, others: List<Opaque>) -> Result<Attrs, AllocError>
         ensures { IfOk result (λ a. a ≡ record (known_value self.now) { others = others }) }
@@ -157,7 +157,7 @@ impl<'a> KeptView<'a> {
 }
 
 /// What is read where an attribute of a type is kept.
-#[tactic(auto, unfolding(bgp_attr::specs::Judgement::type_row, crate::specs::Taken::attrs_from))]
+#[tactic(auto, unfolding(bgp_attr::specs::Judgement::type_row, crate::specs::Fields::attrs_from))]
 impl<'a> KeptView<'a> {
     ghost use Rattle.std.specs.Prelude.{option_map};
     ghost use Rattle.bgp_attr.specs.AttrView.{as4_path_value};

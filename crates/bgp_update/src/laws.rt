@@ -2,23 +2,14 @@
 
 ghost use Rattle.std.specs.Prelude.{◌≡◌, ◌==◌, ◌≤◌, ℕ, Bool, true, false, List, [], ◌∷◌, ◌++◌, length, Some, None};
 ghost use Rattle.std.specs.List.{find};
-ghost use Rattle.bgp_wire.specs.Octets.{AreOctets};
+ghost use Rattle.bgp_wire.specs.Prelude.{AreOctets};
 ghost use Rattle.bgp_open.specs.declared.context.Context.{Context};
-ghost use Rattle.bgp_attr.specs.Tlv.{PlacedTlv};
-ghost use Rattle.bgp_attr.specs.Written.{type_of};
+ghost use Rattle.bgp_attr.specs.Prelude.{PlacedTlv, type_of};
 ghost use Rattle.bgp_update.specs.declared.attrs.Attrs.{Attrs};
 ghost use Rattle.bgp_update.specs.declared.note.Note.{Note};
 ghost use Rattle.bgp_update.specs.declared.update.Update.{Update};
 ghost use Rattle.bgp_update.specs.declared.verdict.Verdict.TheVariants.{Take};
-ghost use Rattle.bgp_update.specs.Parts.{Parts, IsBody, parts_of};
-ghost use Rattle.bgp_update.specs.Marks.{cut, marks_of, placed_tlvs};
-ghost use Rattle.bgp_update.specs.Taken.{kept_of, attrs_of};
-ghost use Rattle.bgp_update.specs.Slots.{present, slot};
-ghost use Rattle.bgp_update.specs.Verdict.{verdict_of};
-ghost use Rattle.bgp_update.specs.Written.{written_body, invalid_of, rise, HasUpdateRanges};
-ghost use Rattle.bgp_update.specs.Laws.{CanBeWritten, IsRepeated, HasMarkBehind};
-ghost use Rattle.bgp_update.specs.As4.{HasNoAs4, narrowed, narrowed_update, rebuilt};
-ghost use Rattle.bgp_update.specs.Widths.{with_as4};
+ghost use Rattle.bgp_update.specs.Prelude.{Parts, IsBody, parts_of, cut, marks_of, placed_tlvs, kept_of, attrs_of, present, slot, verdict_of, written_body, invalid_of, rise, HasUpdateRanges, CanBeWritten, IsRepeated, HasMarkBehind, HasNoAs4, narrowed, narrowed_update, rebuilt, with_as4};
 
 /// What a speaker with AS numbers of two octets is told gives the path and the aggregator back.
 pub fn narrowed_paths_are_rebuilt()

@@ -2,9 +2,8 @@
 
 ghost use Rattle.std.specs.Prelude.{◌≡◌, ◌<◌, ◌≤◌, ◌+◌, ◌++◌, [], ◌∷◌, ℕ, List, length, take, drop, OnOk, OnErr};
 ghost use Rattle.std.specs.Int.{w16, to_be_bytes};
-ghost use Rattle.bgp_wire.specs.steps.Output.{Extends};
-ghost use Rattle.bgp_update.specs.Written.{body_octets};
-ghost use Rattle.bgp_update.specs.steps.Layout.{LaysOut};
+ghost use Rattle.bgp_wire.specs.Prelude.{Extends};
+ghost use Rattle.bgp_update.specs.Prelude.{body_octets, LaysOut};
 
 use bgp_wire::Output;
 use std::alloc::AllocError;

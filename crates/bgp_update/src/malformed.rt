@@ -1,11 +1,10 @@
 //! Attributes that repeat, or that are cut off.
 
 ghost use Rattle.std.specs.Prelude.{◌≡◌, ◌<◌, ℕ, List, [], false, length};
-ghost use Rattle.bgp_attr.specs.FoundAttr.{found_attr_value};
-ghost use Rattle.bgp_attr.specs.Ruling.{keeps, ruled};
+ghost use Rattle.bgp_attr.specs.Prelude.{found_attr_value, keeps, ruled};
 ghost use Rattle.bgp_attr.specs.declared.attr.Attr.{Attr};
-ghost use Rattle.bgp_frame.specs.Notification.{notification_of_view};
-ghost use Rattle.bgp_update.specs.Marks.{malformed, carries_routes, repeated, cut_kind, cut};
+ghost use Rattle.bgp_frame.specs.Prelude.{notification_of_view};
+ghost use Rattle.bgp_update.specs.Prelude.{malformed, carries_routes, repeated, cut_kind, cut};
 
 use bgp_attr::{FoundAttr, Ruling, Why, attribute_reset};
 use bgp_frame::NotificationView;

@@ -2,8 +2,7 @@
 
 ghost use Rattle.std.specs.Prelude.{◌≡◌, ◌≤◌, false, true, length};
 ghost use Rattle.std.specs.List.{list_all};
-ghost use Rattle.bgp_attr.specs.Ruling.{keeps};
-ghost use Rattle.bgp_attr.specs.TlvIter.{tlvs_left};
+ghost use Rattle.bgp_attr.specs.Prelude.{keeps, tlvs_left};
 ghost use Rattle.bgp_update.specs.steps.Small.{is_small};
 
 use crate::malformed::{cut, cut_kind, repeated, unkept};

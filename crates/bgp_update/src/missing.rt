@@ -2,8 +2,8 @@
 
 ghost use Rattle.std.specs.Prelude.{◌≡◌, ◌&&◌, not, false};
 ghost use Rattle.bgp_numbers.specs.declared.attribute.TheConstants.{ORIGIN, AS_PATH, NEXT_HOP};
-ghost use Rattle.bgp_update.specs.Notes.{missing_in};
-ghost use Rattle.bgp_wire.specs.OctetSet.{has_octet};
+ghost use Rattle.bgp_update.specs.Prelude.{missing_in};
+ghost use Rattle.bgp_wire.specs.Prelude.{has_octet};
 
 use bgp_numbers::attribute;
 use bgp_wire::OctetSet;

@@ -3,14 +3,9 @@
 ghost use Rattle.std.specs.Prelude.{◌≡◌, ◌++◌, false, true, option_map, OnOk, OnErr};
 ghost use Rattle.std.specs.List.{flat_map, AllByRecursion};
 ghost use Rattle.bgp_attr.specs.declared.attr.Attr.TheVariants as attr;
-ghost use Rattle.bgp_attr.specs.AttrView.{attr_value};
-ghost use Rattle.bgp_attr.specs.PathView.{path_value};
-ghost use Rattle.bgp_wire.specs.steps.Output.{Extends};
-ghost use Rattle.bgp_attr.specs.Written.{canonical, is_writable};
-ghost use Rattle.bgp_update.specs.As4.{wide_path};
-ghost use Rattle.bgp_update.specs.Slots.{attr_list, present, slot};
-ghost use Rattle.bgp_update.specs.Written.{attributes_octets};
-ghost use Rattle.bgp_update.specs.steps.ToldSlot.{told_attrs};
+ghost use Rattle.bgp_attr.specs.Prelude.{attr_value, path_value, canonical, is_writable};
+ghost use Rattle.bgp_wire.specs.Prelude.{Extends};
+ghost use Rattle.bgp_update.specs.Prelude.{wide_path, attr_list, present, slot, attributes_octets, told_attrs};
 
 use crate::kept_view::KeptView;
 use crate::slot_iter::{Row, view_slot};

@@ -3,10 +3,8 @@
 ghost use Rattle.std.specs.Prelude.{◌≡◌, ◌≤◌, [], length, map, IfOk, OnOk};
 ghost use Rattle.std.specs.Iterator.{YieldsFirst};
 ghost use Rattle.std.specs.List.{flat_map};
-ghost use Rattle.bgp_attr.specs.AttrView.{attr_value, opaque_value};
-ghost use Rattle.bgp_update.specs.Iters.{attrs_left};
-ghost use Rattle.bgp_update.specs.steps.Others.{place_in};
-ghost use Rattle.bgp_update.specs.Taken.{put_rising, as_opaque, rising_behind};
+ghost use Rattle.bgp_attr.specs.Prelude.{attr_value, opaque_value};
+ghost use Rattle.bgp_update.specs.Prelude.{attrs_left, place_in, put_rising, as_opaque, rising_behind};
 
 use crate::attr_iter::AttrIter;
 use bgp_attr::{AttrView, Opaque, OpaqueView};

@@ -2,7 +2,7 @@
 
 ghost use Rattle.std.specs.Prelude.{◌≡◌};
 ghost use Rattle.std.specs.List.{filter};
-ghost use Rattle.bgp_update.specs.As4.{onward_of};
+ghost use Rattle.bgp_update.specs.Prelude.{onward_of};
 
 use crate::update::Update;
 use bgp_attr::Opaque;

@@ -1,11 +1,8 @@
 //! The path of a route and who aggregated it, read without memory.
 
 ghost use Rattle.std.specs.Prelude.{◌≡◌, option_map, IfOk};
-ghost use Rattle.bgp_attr.specs.AttrView.{as4_path_value};
-ghost use Rattle.bgp_attr.specs.PathView.{path_value};
-ghost use Rattle.bgp_update.specs.As4.{rebuilt_path, rebuilt};
-ghost use Rattle.bgp_update.specs.KeptView.{known_value};
-ghost use Rattle.bgp_update.specs.PathInfoView.{joined_value, info_value};
+ghost use Rattle.bgp_attr.specs.Prelude.{as4_path_value, path_value};
+ghost use Rattle.bgp_update.specs.Prelude.{rebuilt_path, rebuilt, known_value, joined_value, info_value};
 
 use crate::joined_path::JoinedPathView;
 use crate::kept_view::KeptView;

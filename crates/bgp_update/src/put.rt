@@ -2,14 +2,12 @@
 
 ghost use Rattle.std.specs.Prelude.{◌≡◌, ◌<◌, ◌≤◌, ◌+◌, ◌++◌, false, length, OnOk, OnErr};
 ghost use Rattle.std.specs.List.{flat_map, AllByRecursion};
-ghost use Rattle.bgp_wire.specs.steps.Output.{Extends};
-ghost use Rattle.bgp_attr.specs.AttrRef.{ref_value};
-ghost use Rattle.bgp_attr.specs.Written.{canonical, is_empty, HasRanges};
-ghost use Rattle.bgp_update.specs.Slots.{present, attr_list};
-ghost use Rattle.bgp_update.specs.Written.{attributes_octets};
+ghost use Rattle.bgp_wire.specs.Prelude.{Extends};
+ghost use Rattle.bgp_attr.specs.Prelude.{ref_value, canonical, is_empty, HasRanges};
+ghost use Rattle.bgp_update.specs.Prelude.{present, attr_list, attributes_octets};
 
-use crate::attrs::Attrs;
-use crate::slot::{slot, types_of};
+use crate::attrs::{Attrs, slot};
+use crate::order::types_of;
 use bgp_attr::{AttrRef, put_attr};
 use bgp_open::Context;
 use bgp_wire::Output;

@@ -2,8 +2,7 @@
 
 ghost use Rattle.std.specs.Prelude.{◌≡◌, ◌≤◌, length, IfOk, OnErr, IsTrue};
 ghost use Rattle.bgp_update.specs.declared.verdict.Verdict.TheVariants as verdict;
-ghost use Rattle.bgp_update.specs.Verdict.{verdict_of, has_value};
-ghost use Rattle.bgp_update.specs.View.{update_value, routes_value, notes_value, view_value};
+ghost use Rattle.bgp_update.specs.Prelude.{verdict_of, has_value, update_value, routes_value, notes_value, view_value};
 
 use crate::judge_body::view_update;
 use crate::verdict::Verdict;

@@ -3,7 +3,7 @@
 ghost use Rattle.std.specs.Prelude.{◌≡◌, Option, None, option_map, if◌then◌else◌, IfOk};
 ghost use Rattle.bgp_attr.specs.declared.path.AsPath.{AsPath};
 ghost use Rattle.bgp_attr.specs.declared.path.As4Path.{As4Path};
-ghost use Rattle.bgp_update.specs.As4.{is_as_trans, joined, rebuilt_path, rebuilt_by, rebuilt};
+ghost use Rattle.bgp_update.specs.Prelude.{is_as_trans, joined, rebuilt_path, rebuilt_by, rebuilt};
 
 use crate::as4_items::{add_copies, add_lead, items_of};
 use crate::attrs::Attrs;

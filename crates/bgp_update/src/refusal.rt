@@ -2,9 +2,9 @@
 
 ghost use Rattle.std.specs.Prelude.{◌≡◌, ◌<◌, true, false, None};
 ghost use Rattle.std.specs.List.{list_any, AllByRecursion};
-ghost use Rattle.bgp_attr.specs.Judgement.{is_recognised};
-ghost use Rattle.bgp_update.specs.Notes.{has_routes};
-ghost use Rattle.bgp_update.specs.Written.{has_nlri, announces, lacks_some, has_needless_next_hop, has_outside_preference, has_bad_others, rise, invalid_of};
+ghost use Rattle.bgp_attr.specs.Prelude.{is_recognised};
+ghost use Rattle.bgp_update.specs.Prelude.{has_routes, announces, lacks_some, has_needless_next_hop, has_outside_preference, has_bad_others, rise, invalid_of};
+ghost use Rattle.bgp_update.specs.Written.{has_nlri};
 
 use crate::failed::Failed;
 use crate::invalid::Invalid;

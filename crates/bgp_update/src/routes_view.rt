@@ -1,7 +1,7 @@
 //! The routes of a message, where they lie.
 
 ghost use Rattle.std.specs.Prelude.{◌≡◌, IfOk};
-ghost use Rattle.bgp_update.specs.View.{routes_value};
+ghost use Rattle.bgp_update.specs.Prelude.{routes_value};
 
 use crate::add_routes::add_routes;
 use crate::routes::Routes;

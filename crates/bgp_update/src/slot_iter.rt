@@ -2,15 +2,15 @@
 
 ghost use Rattle.std.specs.Prelude.{◌≡◌, [], ◌∷◌, MatchOption};
 ghost use Rattle.std.specs.List.{flat_map};
-ghost use Rattle.bgp_attr.specs.AttrView.{attr_value};
+ghost use Rattle.bgp_attr.specs.Prelude.{attr_value};
+ghost use Rattle.bgp_update.specs.Fields.{present};
 ghost use Rattle.bgp_update.specs.KeptView.{attrs_with, with_others};
-ghost use Rattle.bgp_update.specs.Slots.{present, slot, attr_list};
+ghost use Rattle.bgp_update.specs.Slots.{slot, attr_list};
 
 use crate::kept_view::KeptView;
 use crate::others::step;
 use crate::told_slot::{other, told_types};
-use bgp_attr::unwritable::is_recognised;
-use bgp_attr::{AttrView, OpaqueView};
+use bgp_attr::{AttrView, OpaqueView, is_recognised};
 use std::iter::FusedIterator;
 
 /// Where attributes of types that aren't recognised are found by their type.

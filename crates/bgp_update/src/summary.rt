@@ -1,16 +1,10 @@
 //! The marks of a field in sum.
 
 ghost use Rattle.std.specs.Prelude.{◌≡◌, ℕ, Bool, ◌≤◌, false, true, [], length};
-ghost use Rattle.bgp_attr.specs.Ruling.{keeps, ruled};
+ghost use Rattle.bgp_attr.specs.Prelude.{keeps, ruled, tlvs_left};
 ghost use Rattle.bgp_attr.specs.declared.attr.Attr.{Attr};
-ghost use Rattle.bgp_attr.specs.TlvIter.{tlvs_left};
-ghost use Rattle.bgp_update.specs.KeptView.{known_of, known_value};
-ghost use Rattle.bgp_update.specs.MarkIter.{marks_left, HasTypes};
-ghost use Rattle.bgp_update.specs.Marks.{field_marks};
-ghost use Rattle.bgp_update.specs.Notes.{types_of_field};
-ghost use Rattle.bgp_update.specs.Taken.{attrs_of, kept_of};
-ghost use Rattle.bgp_wire.specs.OctetSet.{has_octet};
-ghost use Rattle.bgp_update.specs.Summary.{is_noted, summary_value, summary_behind, summary_of};
+ghost use Rattle.bgp_update.specs.Prelude.{known_of, known_value, marks_left, HasTypes, field_marks, types_of_field, attrs_of, kept_of, is_noted, summary_value, summary_behind, summary_of};
+ghost use Rattle.bgp_wire.specs.Prelude.{has_octet};
 
 use crate::kept_view::KeptView;
 use crate::mark::MarkIter;

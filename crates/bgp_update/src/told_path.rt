@@ -3,13 +3,9 @@
 ghost use Rattle.std.specs.Prelude.{◌≡◌, ◌≤◌, ◌++◌, false, true, length, option_map, OnOk, OnErr};
 ghost use Rattle.std.specs.List.{flat_map, list_any, AllByRecursion};
 ghost use Rattle.bgp_attr.specs.declared.attr.Attr.TheVariants as attr;
-ghost use Rattle.bgp_wire.specs.steps.Output.{Extends};
-ghost use Rattle.bgp_attr.specs.NumberIter.{as_numbers_left};
-ghost use Rattle.bgp_attr.specs.Numbers.{number_octets};
-ghost use Rattle.bgp_attr.specs.PathView.{path_value, segment_value};
-ghost use Rattle.bgp_attr.specs.Written.{any_number, canonical, is_above_two_octets, is_bad_segment, is_writable, path_octets, segment_code, segment_octets};
-ghost use Rattle.bgp_update.specs.Slots.{present};
-ghost use Rattle.bgp_update.specs.As4.{narrow_number, narrow_path, narrow_segment};
+ghost use Rattle.bgp_wire.specs.Prelude.{Extends};
+ghost use Rattle.bgp_attr.specs.Prelude.{as_numbers_left, number_octets, path_value, segment_value, any_number, canonical, is_above_two_octets, is_bad_segment, is_writable, path_octets, segment_code, segment_octets};
+ghost use Rattle.bgp_update.specs.Prelude.{present, narrow_number, narrow_path, narrow_segment};
 
 use crate::two_octets::narrow_number;
 use bgp_attr::{AsNumberIter, AttrView, PathView, SegKind, SegmentView, begin_attr, finish_attr};

@@ -2,14 +2,13 @@
 
 ghost use Rattle.std.specs.Prelude.{◌≡◌, ◌==◌, nat_lt, map, option_map};
 ghost use Rattle.std.specs.List.{find, flat_map, list_any};
-ghost use Rattle.bgp_attr.specs.AttrView.{as4_path_value, opaque_value};
-ghost use Rattle.bgp_attr.specs.PathView.{path_value};
+ghost use Rattle.bgp_attr.specs.Prelude.{as4_path_value, opaque_value, path_value};
 ghost use Rattle.bgp_update.specs.declared.attrs.Attrs.{Attrs};
-ghost use Rattle.bgp_update.specs.As4.{wide_path};
-ghost use Rattle.bgp_update.specs.Slots.{slot, attr_list};
+ghost use Rattle.bgp_update.specs.Prelude.{wide_path, slot, attr_list};
 
+use crate::attrs::RECOGNISED;
+use crate::order::{COMMON, order};
 use crate::others::step;
-use crate::slot::{COMMON, RECOGNISED, order};
 use crate::told_path::is_wide_path;
 use bgp_attr::{As4PathView, OpaqueView, PathView};
 

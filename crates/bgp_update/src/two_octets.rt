@@ -2,8 +2,8 @@
 
 ghost use Rattle.std.specs.Prelude.{◌≡◌, option_map, IfOk, OnOk, OnErr};
 ghost use Rattle.std.specs.List.{list_any};
-ghost use Rattle.bgp_attr.specs.Written.{any_number, is_above_two_octets};
-ghost use Rattle.bgp_update.specs.As4.{HasNoAs4, narrow_number, narrow_segment, narrow_path, wide_path, narrow_aggregator, wide_aggregator, narrowed, narrowed_update};
+ghost use Rattle.bgp_attr.specs.Prelude.{any_number, is_above_two_octets};
+ghost use Rattle.bgp_update.specs.Prelude.{HasNoAs4, narrow_number, narrow_segment, narrow_path, wide_path, narrow_aggregator, wide_aggregator, narrowed, narrowed_update};
 
 use crate::attrs::Attrs;
 use crate::update::Update;

@@ -5,10 +5,11 @@ ghost use Rattle.std.specs.List.{list_any};
 ghost use Rattle.bgp_update.specs.Body.{parts_value};
 ghost use Rattle.bgp_update.specs.KeptView.{known_of, known_value};
 ghost use Rattle.bgp_update.specs.Marks.{marks_of};
-ghost use Rattle.bgp_attr.specs.MpView.{reach_value};
+ghost use Rattle.bgp_attr.specs.Prelude.{reach_value};
 ghost use Rattle.bgp_update.specs.Notes.{has_routes, is_missing, is_reachable, missing_of};
 ghost use Rattle.bgp_update.specs.Summary.{is_noted, summary_value, summary_of};
-ghost use Rattle.bgp_update.specs.Taken.{attrs_of, is_opaque, kept_of, update_of};
+ghost use Rattle.bgp_update.specs.Fields.{is_opaque};
+ghost use Rattle.bgp_update.specs.Taken.{attrs_of, kept_of, update_of};
 
 use crate::add_routes::own_routes;
 use crate::attr_iter::AttrIter;

@@ -1,9 +1,8 @@
 //! The items of borrowed paths, and the first of them.
 
 ghost use Rattle.std.specs.Prelude.{◌≡◌, [], ◌∷◌, MatchOption};
-ghost use Rattle.bgp_attr.specs.NumberIter.{as_numbers_left};
-ghost use Rattle.bgp_attr.specs.PathView.{path_value, segment_value, segments_left};
-ghost use Rattle.bgp_update.specs.As4.{items_in, items_of, front_by, lead};
+ghost use Rattle.bgp_attr.specs.Prelude.{as_numbers_left, path_value, segment_value, segments_left};
+ghost use Rattle.bgp_update.specs.Prelude.{items_in, items_of, front_by, lead};
 
 use bgp_attr::{PathView, SegKind, SegmentIter, SegmentView};
 

@@ -2,8 +2,8 @@
 
 ghost use Rattle.std.specs.Prelude.{◌≡◌, ◌++◌, false, true, length, IfOk, OnOk, OnErr, IsTrue, IsErrOf};
 ghost use Rattle.std.specs.List.{AllByRecursion};
-ghost use Rattle.bgp_wire.specs.steps.Output.{Extends};
-ghost use Rattle.bgp_attr.specs.Written.{is_writable};
+ghost use Rattle.bgp_wire.specs.Prelude.{Extends};
+ghost use Rattle.bgp_attr.specs.Prelude.{is_writable};
 ghost use Rattle.bgp_update.specs.As4.{narrowed, narrowed_update};
 ghost use Rattle.bgp_update.specs.Slots.{attr_list};
 ghost use Rattle.bgp_update.specs.Told.{CanBeTold};

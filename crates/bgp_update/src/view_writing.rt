@@ -2,23 +2,18 @@
 
 ghost use Rattle.std.specs.Prelude.{◌≡◌, ◌<◌, ◌+◌, ◌≤◌, ℕ, List, [], ◌∷◌, ◌++◌, if◌then◌else◌, true, length, IfOk, OnOk, OnErr};
 ghost use Rattle.std.specs.List.{flat_map, AllByRecursion};
-ghost use Rattle.bgp_wire.specs.steps.Output.{Extends};
+ghost use Rattle.bgp_wire.specs.Prelude.{Extends};
 ghost use Rattle.bgp_attr.specs.declared.attr.Attr.TheVariants as attr;
-ghost use Rattle.bgp_attr.specs.AttrView.{attr_value};
-ghost use Rattle.bgp_attr.specs.Written.{canonical, is_writable, run_octets};
-ghost use Rattle.bgp_update.specs.KeptView.{with_others};
-ghost use Rattle.bgp_update.specs.Slots.{attr_list, slot};
-ghost use Rattle.bgp_update.specs.declared.slot.TheConstants.{RECOGNISED};
+ghost use Rattle.bgp_attr.specs.Prelude.{attr_value, canonical, is_writable, run_octets};
+ghost use Rattle.bgp_update.specs.Prelude.{with_others, attr_list, slot, update_among, attributes_octets, body_octets, written_body, LaysOut};
+ghost use Rattle.bgp_update.specs.declared.attrs.TheConstants.{RECOGNISED};
 ghost use Rattle.bgp_update.specs.steps.Progress.{IsSoFar};
-ghost use Rattle.bgp_update.specs.View.{update_among};
-ghost use Rattle.bgp_prefix.specs.PrefixIter.{prefixes_left};
-ghost use Rattle.bgp_update.specs.Written.{attributes_octets, body_octets, written_body};
-ghost use Rattle.bgp_update.specs.steps.Layout.{LaysOut};
+ghost use Rattle.bgp_prefix.specs.Prelude.{prefixes_left};
 
+use crate::attrs::RECOGNISED;
 use crate::chosen::Chosen;
 use crate::kept_view::KeptView;
 use crate::laying::{Places, put_room, set_lengths};
-use crate::slot::RECOGNISED;
 use crate::slot_iter::{OfType, Row, view_slot};
 use crate::view::UpdateView;
 use bgp_attr::{AttrView, OpaqueView, write_attr_view};
@@ -67,7 +62,7 @@ fn put_next<'a, const AT: usize, S: OfType<'a>, O: Output>(
     others: &S,
     out: &mut O,
 ) -> Result<(), AllocError>
-    requires at { AT < 13 }
+    requires at { AT < length RECOGNISED }
     requires writable { AllByRecursion (λ a. is_writable ctx.now a ≡ true) (flat_map (slot (with_others kept.now (S.others others.now))) RECOGNISED) }
     ensures { (start : List ℕ) → IsSoFar (canonical ctx.now) (slot (with_others kept.now (S.others others.now))) RECOGNISED O.room start AT (O.written out.old) before
         → IsSoFar (canonical ctx.now) (slot (with_others kept.now (S.others others.now))) RECOGNISED O.room start (AT + 1) (O.written out.new) result }
@@ -84,7 +79,7 @@ fn put_recognised<'a, S: OfType<'a>, O: Output>(
     out: &mut O,
 ) -> Result<(), AllocError>
     requires { AllByRecursion (λ a. is_writable ctx.now a ≡ true) (flat_map (slot (with_others kept.now (S.others others.now))) RECOGNISED) }
-    ensures { IsSoFar (canonical ctx.now) (slot (with_others kept.now (S.others others.now))) RECOGNISED O.room (O.written out.old) 13 (O.written out.new) result }
+    ensures { IsSoFar (canonical ctx.now) (slot (with_others kept.now (S.others others.now))) RECOGNISED O.room (O.written out.old) (length RECOGNISED) (O.written out.new) result }
 {
     let mut put = put_next::<0, S, O>(Ok(()), ctx, kept, others, out);
     put = put_next::<1, S, O>(put, ctx, kept, others, out);

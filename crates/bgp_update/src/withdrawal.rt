@@ -1,14 +1,10 @@
 //! Writing the UPDATE that withdraws the routes of one.
 
 ghost use Rattle.std.specs.Prelude.{◌≡◌, ◌<◌, ◌+◌, ◌≤◌, ◌++◌, [], nat_lt, length, option_map, IfOk, OnOk, OnErr};
-ghost use Rattle.bgp_attr.specs.MpView.{reach_value, unreach_value};
-ghost use Rattle.bgp_wire.specs.steps.Output.{Extends};
-ghost use Rattle.bgp_attr.specs.Written.{run_octets};
+ghost use Rattle.bgp_attr.specs.Prelude.{reach_value, unreach_value, run_octets};
+ghost use Rattle.bgp_wire.specs.Prelude.{Extends};
 ghost use Rattle.bgp_numbers.specs.declared.afi.TheConstants.{IPV6};
-ghost use Rattle.bgp_update.specs.Notes.{gone_ip4, gone_ip6, reached_ip4, reached_ip6};
-ghost use Rattle.bgp_update.specs.View.{routes_value};
-ghost use Rattle.bgp_update.specs.Withdrawal.{gone_octets, withdrawal_octets};
-ghost use Rattle.bgp_update.specs.steps.Layout.{LaysOut};
+ghost use Rattle.bgp_update.specs.Prelude.{gone_ip4, gone_ip6, reached_ip4, reached_ip6, routes_value, gone_octets, withdrawal_octets, LaysOut};
 ghost use Rattle.bgp_update.specs.steps.RoutesView.{all_routes};
 
 use crate::laying::{Places, put_room, set_lengths};

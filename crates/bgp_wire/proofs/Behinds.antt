@@ -3,9 +3,7 @@ use Rattle.std.proofs.Common.{◌≡◌, ℕ, zero, suc, ◌<◌, Bool, true, fa
 use Rattle.std.proofs.lemmas.Bool.{eqb-true, eq-eqb}
 use Rattle.std.proofs.Math.Dec.{eqb-suc-zero}
 use Rattle.std.proofs.lemmas.List.{append-nil}
-use Rattle.bgp_wire.specs.Row.{Row, Splits}
-use Rattle.bgp_wire.specs.Reader.{Reads, then_pieces, pieces_within, pieces}
-use Rattle.bgp_wire.specs.Behind.{BehindLength, BehindCount, first_octets, behind_length, behind_count}
+use Rattle.bgp_wire.specs.Prelude.{Row, Splits, Reads, then_pieces, pieces_within, pieces, BehindLength, BehindCount, first_octets, behind_length, behind_count}
 use Rattle.bgp_wire.proofs.Firsts.{both_steps, first_octets-finds, first_octets-gives}
 use Rattle.bgp_wire.proofs.Pieces.{found_same, found_not, pieces-none, pieces-row, none_at_end, Splits-pieces}
 

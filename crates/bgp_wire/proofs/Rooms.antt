@@ -1,7 +1,7 @@
 -- A write in several parts is refused only where the whole had no room.
 use Rattle.std.proofs.Common.{◌≡◌, ℕ, ◌+◌, ◌<◌, List, ◌++◌, length, ap, ◌∙◌, append_assoc, arith}
 use Rattle.std.proofs.lemmas.List.{length-append}
-use Rattle.bgp_wire.specs.steps.Output.{Extends}
+use Rattle.bgp_wire.specs.Prelude.{Extends}
 
 -- what is there and what is left are what was there and the whole: a refusal of the first part of what is left is one of the whole
 pub lacks : (room : ℕ) (old whole now left part later : List ℕ) → now ++ left ≡ old ++ whole → left ≡ part ++ later → room < length now + length part

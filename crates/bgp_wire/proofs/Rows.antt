@@ -1,7 +1,7 @@
 -- Laws of rows and splits, for any spelling.
 use Rattle.std.proofs.Common.{◌≡◌, ℕ, ◌<◌, List, [], ◌∷◌, ◌++◌, length, refl, sym, ap, subst, ◌∙◌, append_assoc, arith}
 use Rattle.std.proofs.lemmas.List.{append-nil, append_cancel_left}
-use Rattle.bgp_wire.specs.Row.{Row, IsPrefixFree}
+use Rattle.bgp_wire.specs.Prelude.{Row, IsPrefixFree}
 
 module _ {A : Type 0} (R : A → List ℕ → Type 0) where
   -- a row of one

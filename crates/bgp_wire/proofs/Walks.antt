@@ -3,8 +3,7 @@ use Rattle.std.proofs.Common.{◌≡◌, ℕ, ◌+◌, ◌<◌, ◌≤◌, List,
 use Rattle.std.specs.List.{flat_map}
 use Rattle.std.proofs.lemmas.List.{append-nil, length-append}
 use Rattle.std.proofs.lemmas.List.Concat.{flat_map-cons}
-use Rattle.bgp_wire.specs.Row.{Row}
-use Rattle.bgp_wire.specs.Reader.{Reads, pieces}
+use Rattle.bgp_wire.specs.Prelude.{Row, Reads, pieces}
 use Rattle.bgp_wire.proofs.Pieces.{shrinks, pieces-some, pieces-none, none_stuck, Splits-pieces}
 
 module _ (A : Type 0) (R : A → List ℕ → Type 0) (one : List ℕ → Option (A × List ℕ)) (reads : Reads R one) where

@@ -5,4 +5,5 @@ pub mod Then
 pub mod Reader
 pub mod Behind
 pub mod OctetSet
+pub mod Prelude
 pub mod steps

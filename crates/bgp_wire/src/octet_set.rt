@@ -1,7 +1,7 @@
 //! Sets of octets.
 
 ghost use Rattle.std.specs.Prelude.{◌≡◌};
-ghost use Rattle.bgp_wire.specs.OctetSet.{also, has_octet, none_of_them};
+ghost use Rattle.bgp_wire.specs.Prelude.{also, has_octet, none_of_them};
 
 /// A set of octets, as the codes of capabilities or the types of attributes: a bit for each, in 32 octets.
 #[derive(Clone, Copy)]

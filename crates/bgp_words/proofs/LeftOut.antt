@@ -4,9 +4,8 @@ use Rattle.std.proofs.lemmas.Bool.{and_parts, eqb-true, leb-true, ltb-true, not-
 use Rattle.std.specs.Str.{all_ascii_digits}
 use Rattle.std.specs.Str.Parse.{digits_value}
 use Rattle.clap.specs.Words.{Row, Text, first_of}
-use Rattle.bgp_attr.specs.Judgement.{is_recognised}
-use Rattle.bgp_wire.specs.OctetSet.{also, none_of_them}
-use Rattle.bgp_wire.specs.Then.{◌>>=◌, when}
+use Rattle.bgp_attr.specs.Prelude.{is_recognised}
+use Rattle.bgp_wire.specs.Prelude.{also, none_of_them, ◌>>=◌, when}
 use Rattle.bgp_words.specs.CommandLine.{drops_by, is_set, types_in}
 use Rattle.bgp_words.specs.Laws.{AreUnrecognised}
 use Rattle.bgp_words.specs.TypeList.{all_but, is_other, octet_of, type_of, types_behind, words_of}

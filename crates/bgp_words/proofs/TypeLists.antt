@@ -5,8 +5,7 @@ use Rattle.std.proofs.lemmas.Str.Parse.{IsNumeralModel, numerals_by_value, parse
 use Rattle.std.specs.Result.{OkIff, result_ok}
 use Rattle.std.specs.Str.{all_ascii_digits}
 use Rattle.std.specs.Str.Parse.{ParsesUnsigned, digits_value}
-use Rattle.bgp_wire.specs.OctetSet.{also}
-use Rattle.bgp_wire.specs.Then.{when}
+use Rattle.bgp_wire.specs.Prelude.{also, when}
 use Rattle.bgp_words.specs.TypeList.{octet_of}
 
 -- ---- numbers

@@ -1,8 +1,8 @@
 -- What laws of the command line say of words.
 use Rattle.std.specs.Prelude.{◌≡◌, ◌<◌, ℕ, Bool, true, false, List, [], Some}
 use Rattle.clap.specs.Words.{Text}
-use Rattle.bgp_attr.specs.Judgement.{is_recognised}
-use Rattle.bgp_wire.specs.OctetSet.{none_of_them}
+use Rattle.bgp_attr.specs.Prelude.{is_recognised}
+use Rattle.bgp_wire.specs.Prelude.{none_of_them}
 use Rattle.bgp_wire.specs.declared.octet_set.OctetSet.{OctetSet}
 use Rattle.bgp_open.specs.declared.context.Context.{Context}
 use Rattle.bgp_words.specs.declared.request.Request.{Request}

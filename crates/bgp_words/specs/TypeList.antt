@@ -4,9 +4,8 @@ use Rattle.std.specs.List.{slice_split}
 use Rattle.std.specs.Str.{all_ascii_digits}
 use Rattle.std.specs.Str.Parse.{digits_value}
 use Rattle.clap.specs.Words.{Text}
-use Rattle.bgp_attr.specs.Judgement.{is_recognised}
-use Rattle.bgp_wire.specs.OctetSet.{also, none_of_them}
-use Rattle.bgp_wire.specs.Then.{◌>>=◌, when}
+use Rattle.bgp_attr.specs.Prelude.{is_recognised}
+use Rattle.bgp_wire.specs.Prelude.{also, none_of_them, ◌>>=◌, when}
 
 -- the words between commas: one more than there are commas
 abbrev pub words_of : Text → List Text

@@ -3,7 +3,7 @@
 ghost use Rattle.std.specs.Prelude.{◌≡◌, option_map, IfOk};
 ghost use Rattle.clap.specs.Words.{first_of, found_of, kind_of, rows_of};
 ghost use Rattle.clap.specs.declared.error.kind.ErrorKind.TheVariants as error;
-ghost use Rattle.bgp_wire.specs.OctetSet.{has_octet};
+ghost use Rattle.bgp_wire.specs.Prelude.{has_octet};
 ghost use Rattle.bgp_words.specs.CommandLine.{drops_in, drops_twice, passes_alone, types_in};
 
 use crate::commands::{DROP, DROP_UNKNOWN, PASS, judging_command};

@@ -3,7 +3,7 @@
 ghost use Rattle.std.specs.Prelude.{◌≡◌, ℕ, Bool, List, [], ◌∷◌, codes, true, false, Some};
 ghost use Rattle.clap.specs.Words.{Text};
 ghost use Rattle.clap.specs.declared.error.kind.ErrorKind.TheVariants as error;
-ghost use Rattle.bgp_wire.specs.OctetSet.{also, none_of_them};
+ghost use Rattle.bgp_wire.specs.Prelude.{also, none_of_them};
 ghost use Rattle.bgp_words.specs.declared.request.Request.TheVariants.{Show, Explain, Check, Narrow, ToHex, FromHex, Loop};
 ghost use Rattle.bgp_words.specs.declared.request.Session.TheVariants.{Flags, Opens};
 ghost use Rattle.bgp_words.specs.CommandLine.{drops_of, faults_of};

@@ -1,8 +1,8 @@
 //! Lists of attribute types that aren't recognised.
 
 ghost use Rattle.std.specs.Prelude.{◌≡◌, map, option_map, IfOk};
-ghost use Rattle.bgp_attr.specs.Judgement.{is_recognised};
-ghost use Rattle.bgp_wire.specs.OctetSet.{has_octet};
+ghost use Rattle.bgp_attr.specs.Prelude.{is_recognised};
+ghost use Rattle.bgp_wire.specs.Prelude.{has_octet};
 ghost use Rattle.bgp_words.specs.TypeList.{all_but, is_other, octet_of, type_of, types_of, words_of};
 
 use bgp_numbers::attribute;

@@ -2,12 +2,12 @@
 use Rattle.std.proofs.Common.{◌≡◌, ℕ, ◌+◌, ◌-◌, ◌<◌, ◌≤◌, Bool, cond, eqb, List, [], ◌∷◌, ◌++◌, length, drop, refl, sym, ap, subst, ◌∙◌, arith}
 use Rattle.std.proofs.lemmas.Bool.{eq-eqb, ne_eqb}
 use Rattle.std.proofs.lemmas.List.{append-nil, append_assoc, length-drop}
-use Rattle.bgp_frame.specs.Frame.{Waits, wanted}
+use Rattle.bgp_frame.specs.Prelude.{Waits, wanted}
 use Rattle.bgp_frame.specs.declared.step.Step.TheVariants as step
 use Rattle.bgp_open.specs.declared.context.Context.{Context}
 use Rattle.ristulva_c.specs.Batch.{Giving, Taken, IsTaken, Stand, octets_taken, rows_taken, EndsAt, TakesAll}
 use Rattle.ristulva_c.specs.declared.status.TheConstants.{INCOMPLETE, OK}
-use Rattle.ristulva_c.specs.steps.Batch.{Holds, Takes, Stops}
+use Rattle.ristulva_c.specs.Prelude.{Holds, Takes, Stops}
 use Rattle.ristulva_c.proofs.Rows.{hold_length}
 
 module _ {Row : Type 0} (gives : Giving Row) (ctx : Context) (octets : List ℕ) where
@@ -32,9 +32,6 @@ rows_more [] t = append-nil t.rows
 rows_more (m ∷ ms) t = ap (λ (rs : List _). m.rows ++ rs) (rows_more ms t) ∙ sym (append_assoc m.rows (rows_taken ms) t.rows)
 
 module _ {Row : Type 0} (gives : Giving Row) (ctx : Context) (octets : List ℕ) where
-  pub walk_begins : (list : List Row) → IsWalk gives ctx octets 0 0 list list
-  walk_begins list = record { messages = []; stand = tt; summed = refl; within = omega arith; holds = record { stand = refl; counted = refl; room = omega arith } }
-
   pub walk_more : (at len from to : ℕ) (before list next : List Row) → IsWalk gives ctx octets at from before list → Takes gives ctx octets at len from to list next
       → IsWalk gives ctx octets (at + len) to before next
   walk_more at len from to before list next w t =

@@ -1,12 +1,9 @@
 -- The octets from one offset to another.
 use Rattle.std.proofs.Common.{◌≡◌, ℕ, ◌+◌, ◌-◌, ◌≤◌, List, ◌∷◌, ◌++◌, length, take, drop, Option, Some, refl, sym, ap, ◌∙◌, arith, length-drop}
 use Rattle.std.proofs.lemmas.List.{drop-take, drop-drop, take-take, length-take, length-append, take_at, drop_at}
-use Rattle.bgp_wire.specs.Reader.{Reads, pieces}
+use Rattle.bgp_wire.specs.Prelude.{Reads, pieces}
 use Rattle.bgp_wire.proofs.Walks.{first_then}
-use Rattle.bgp_prefix.specs.Prefix.{PrefixValue}
-use Rattle.bgp_prefix.specs.Run.{run_of}
-use Rattle.ristulva_c.specs.declared.prefixes.Prefixes.{Prefixes}
-use Rattle.ristulva_c.specs.Prefixes.{width_of, between, prefixes_left}
+use Rattle.ristulva_c.specs.Prelude.{between}
 
 pub length_between : (b : List ℕ) (at end : ℕ) → at ≤ end → end ≤ length b → length (between b at end) + at ≡ end
 length_between b at end order within = omega (arith, length-take (end - at) (drop at b), length-drop at b)
@@ -53,12 +50,3 @@ module _ (A : Type 0) (R : A → List ℕ → Type 0) (one : List ℕ → Option
       let here : at + length found.0 ≡ next = omega (arith, rest_fits, behind) in
       first_then A R one reads (between b at end) v rest e
       ∙ ap (λ (x : List ℕ). v ∷ (pieces one x).0) (sym (later_at b at end (length found.0) found.0 rest order within refl found.1) ∙ ap (λ (k : ℕ). between b k end) here)
-
--- what is left behind a prefix, by the cursor
-pub left_behind : (b rest : List ℕ) (old new : Prefixes) (p : PrefixValue) → rest ≡ between b old.at old.end → new ≡ record old { at = new.at } → old.at ≤ new.at → new.at ≤ old.end
-    → (run_of (width_of old.afi) rest).0 ≡ p ∷ (run_of (width_of old.afi) (drop (new.at - old.at) rest)).0 → prefixes_left b old ≡ p ∷ prefixes_left b new
-left_behind b rest old new p is same first last gives =
-    let later : drop (new.at - old.at) rest ≡ between b new.at old.end = ap (drop (new.at - old.at)) is ∙ between_later b old.at new.at old.end first last in
-    ap (λ (x : List ℕ). (run_of (width_of old.afi) x).0) (sym is) ∙ gives
-    ∙ ap (λ (x : List ℕ). p ∷ (run_of (width_of old.afi) x).0) later
-    ∙ ap (λ (c : Prefixes). p ∷ (run_of (width_of c.afi) (between b new.at c.end)).0) (sym same)

@@ -1,19 +1,16 @@
 -- From a capability to those behind it.
 use Rattle.std.proofs.Common.{◌≡◌, ℕ, ◌+◌, ◌-◌, ◌≤◌, List, [], ◌∷◌, ◌++◌, length, get_or, take, drop, Some, None, refl, sym, ap, ap₂, ◌∙◌, arith}
 use Rattle.bgp_numbers.specs.declared.parameter.TheConstants.{CAPABILITIES}
-use Rattle.bgp_wire.specs.Reader.{pieces}
+use Rattle.bgp_wire.specs.Prelude.{pieces}
 use Rattle.bgp_wire.proofs.Behinds.{pieces-whole}
 use Rattle.bgp_open.specs.declared.capability.Capability.{Capability}
-use Rattle.bgp_open.specs.Capability.{IsCapability, capability_of, one_capability}
-use Rattle.bgp_open.specs.CapabilityIter.{capabilities_of}
-use Rattle.bgp_open.specs.Parameter.{one_parameter}
+use Rattle.bgp_open.specs.Prelude.{IsCapability, capability_of, one_capability, capabilities_of, one_parameter}
 use Rattle.bgp_open.proofs.Capabilities.{capability-reads}
 use Rattle.bgp_open.proofs.Parameters.{parameter-reads}
 use Rattle.bgp_open.proofs.CapabilityIters.{goes_on, is_over, begins, ends}
 use Rattle.ristulva_c.specs.declared.capabilities.Capabilities.{Capabilities}
+use Rattle.ristulva_c.specs.Prelude.{IsCapabilities, capabilities_left, IsGiven, between}
 use Rattle.ristulva_c.specs.declared.capabilities.OpenCapability.{OpenCapability}
-use Rattle.ristulva_c.specs.Capabilities.{IsCapabilities, capabilities_left, IsGiven}
-use Rattle.ristulva_c.specs.Prefixes.{between}
 use Rattle.ristulva_c.proofs.Between.{fits, front_at, later_at, value_at}
 
 pub begun_fits : (b : List ℕ) (old : Capabilities) (c : Capability) (rest : List ℕ) → IsCapabilities b old → Some (c, rest) ≡ one_capability (between b old.at old.stop)

@@ -1,19 +1,19 @@
 -- What is handed on stands behind what was there, and is clean.
 use Rattle.std.proofs.Common.{◌≡◌, ℕ, Bool, List, ◌++◌, take, Result, Ok, Err, sym, subst, ◌∙◌}
 use Rattle.std.proofs.lemmas.List.{append-nil}
-use Rattle.bgp_wire.specs.Octets.{AreOctets}
+use Rattle.bgp_wire.specs.Prelude.{AreOctets}
 use Rattle.bgp_wire.proofs.OctetLemmas.{AreOctets-take}
 use Rattle.bgp_frame.specs.declared.step.Step.{Step}
+use Rattle.bgp_frame.specs.Prelude.{ShowsFront, message_in}
 use Rattle.bgp_frame.specs.declared.step.Step.TheVariants as step
-use Rattle.bgp_frame.specs.Step.{ShowsFront, message_in}
 use Rattle.bgp_open.specs.declared.context.Context.{Context}
 use Rattle.bgp_msg.specs.declared.message.Message.{Message}
 use Rattle.bgp_clean.specs.declared.cleaned.Cleaned.{Cleaned}
 use Rattle.bgp_clean.specs.declared.cleaned.Cleaned.TheVariants.{HandedOn, Ends}
 use Rattle.bgp_clean.specs.declared.fault.CleanFault.{CleanFault}
-use Rattle.bgp_clean.specs.Cleaned.{IsCleaned}
+use Rattle.bgp_clean.specs.Prelude.{IsCleaned}
 use Rattle.bgp_clean.proofs.Handed.{handed-clean}
-use Rattle.ristulva_c.specs.Clean.{handed_octets, Cleaning, Hands, HandsClean, IsHandedOn}
+use Rattle.ristulva_c.specs.Prelude.{handed_octets, Cleaning, Hands, HandsClean, IsHandedOn}
 
 pub appended : (ctx : Context) (handed : Result Message CleanFault) (old new : List ℕ) (what : Cleaned) → IsCleaned ctx handed old new what → new ≡ old ++ handed_octets ctx handed
 appended ctx (Ok n) old new HandedOn is = is

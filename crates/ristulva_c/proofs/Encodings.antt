@@ -1,20 +1,20 @@
--- What is written of an UPDATE.
+-- What is written and sent of an UPDATE.
 use Rattle.std.proofs.Common.{◌≡◌, Bool, true, false, not, cond, ℕ, ◌+◌, ◌≤◌, List, [], ◌++◌, length, Option, Some, None, refl, ap, ◌∙◌, arith}
 use Rattle.std.proofs.lemmas.Bool.{le-ltb}
 use Rattle.std.specs.Prelude.{is_none, IsTrue}
-use Rattle.bgp_wire.specs.Octets.{AreOctets}
+use Rattle.bgp_wire.specs.Prelude.{AreOctets}
 use Rattle.bgp_frame.proofs.FrameLemmas.{length-octets_of}
 use Rattle.bgp_open.specs.declared.context.Context.{Context}
 use Rattle.bgp_update.specs.declared.invalid.Invalid.{Invalid}
 use Rattle.bgp_update.specs.declared.note.Note.{Note}
 use Rattle.bgp_update.specs.declared.update.Update.{Update}
+use Rattle.bgp_update.specs.Prelude.{HasNoAs4, invalid_of as invalid_in, verdict_of, written_body}
 use Rattle.bgp_update.specs.declared.verdict.Verdict.TheVariants as verdict
-use Rattle.bgp_update.specs.Verdict.{verdict_of}
-use Rattle.bgp_update.specs.Written.{written_body}
 use Rattle.bgp_update.proofs.Taken.{taken-written}
+use Rattle.bgp_update.proofs.Widths.{wide_update_has_no_as4}
 use Rattle.bgp_msg.specs.declared.message.Message.TheVariants as message
-use Rattle.bgp_msg.specs.Written.{canonical, written, invalid_of, is_valid, is_too_long}
-use Rattle.ristulva_c.specs.Encode.{encoded_of, short_of, written_of}
+use Rattle.bgp_msg.specs.Prelude.{canonical, written, invalid_of, is_valid, is_too_long}
+use Rattle.ristulva_c.specs.Prelude.{encoded_of, short_of, written_of}
 
 none_valid : (o : Option Invalid) → ((why : Invalid) → o ≡ Some why → ⊥) → is_none o ≡ true
 none_valid None never = refl
@@ -58,3 +58,11 @@ module _ (ctx : Context) (u : Update) where
   writes_nothing why bad =
       let not_good : is_valid ctx (message.Update u) ≡ false = ap is_none bad in
       rw not_good refl
+
+-- what is accepted is valid
+pub taken_is_valid : (ctx : Context) (body : List ℕ) (u : Update) (notes : List Note) → AreOctets body → verdict_of ctx body ≡ verdict.Take u notes → invalid_in ctx u ≡ None
+taken_is_valid ctx body u notes octets e = let can = taken-written ctx body u notes octets e in can.valid
+
+-- and has no attribute for AS numbers of two octets, where they have four
+pub taken_has_no_as4 : (ctx : Context) (body : List ℕ) (u : Update) (notes : List Note) → ctx.as4 ≡ true → AreOctets body → verdict_of ctx body ≡ verdict.Take u notes → HasNoAs4 u.attrs
+taken_has_no_as4 ctx body u notes wide octets e = wide_update_has_no_as4 ctx u wide (taken_is_valid ctx body u notes octets e)

@@ -1,38 +1,24 @@
 -- The octets at the offsets that are told of an UPDATE hold its paths and communities.
-use Rattle.std.proofs.Common.{◌≡◌, ℕ, ◌+◌, ◌≤◌, Bool, true, false, cond, eqb, List, length, take, Option, Some, None, refl, sym, ap, ◌∙◌}
-use Rattle.std.specs.Prelude.{Result, Ok, Err, is_some, option_map}
+use Rattle.std.proofs.Common.{◌≡◌, ℕ, ◌+◌, ◌≤◌, true, eqb, List, length, take, Option, Some, None, sym, ap, ◌∙◌}
+use Rattle.std.specs.Prelude.{is_some, option_map}
 use Rattle.std.specs.List.{find}
 use Rattle.bgp_numbers.specs.declared.attribute.TheConstants.{AS_PATH, AS4_PATH, COMMUNITIES, LARGE_COMMUNITY}
-use Rattle.bgp_wire.specs.Octets.{AreOctets}
-use Rattle.bgp_frame.specs.Frame.{Message, IsFrame}
+use Rattle.bgp_wire.specs.Prelude.{AreOctets}
+use Rattle.bgp_frame.specs.Prelude.{Message, IsFrame}
 use Rattle.bgp_frame.specs.declared.kind.Kind.{Kind}
-use Rattle.bgp_frame.specs.declared.kind.Kind.TheVariants as kind
-use Rattle.bgp_frame.specs.declared.notification.Notification.{Notification}
 use Rattle.bgp_open.specs.declared.context.Context.{Context}
-use Rattle.bgp_open.specs.declared.fault.OpenFault.{OpenFault}
-use Rattle.bgp_open.specs.declared.message.Open.{Open}
-use Rattle.bgp_open.specs.OpenFault.{open_notification, reading_of}
-use Rattle.bgp_attr.specs.Numbers.{numbers_of, triples_of, each_once}
-use Rattle.bgp_attr.specs.Path.{path_of}
-use Rattle.bgp_attr.specs.Tlv.{PlacedTlv}
-use Rattle.bgp_attr.specs.Value.{as_path_form, as4_path_form}
+use Rattle.bgp_attr.specs.Prelude.{numbers_of, triples_of, each_once, path_of, PlacedTlv, as_path_form, as4_path_form}
 use Rattle.bgp_attr.specs.declared.communities.Communities.{Communities}
 use Rattle.bgp_attr.specs.declared.communities.LargeCommunities.{LargeCommunities}
 use Rattle.bgp_attr.specs.declared.path.As4Path.{As4Path}
 use Rattle.bgp_update.specs.declared.attrs.Attrs.{Attrs}
-use Rattle.bgp_update.specs.declared.verdict.Verdict.TheVariants as verdict
-use Rattle.bgp_update.specs.Marks.{malformed, marks_of, placed_tlvs}
-use Rattle.bgp_update.specs.Notes.{is_reachable, notes_of, routes_of}
-use Rattle.bgp_update.specs.Parts.{Parts, parts_of}
-use Rattle.bgp_update.specs.Taken.{kept_of, attrs_of, update_of}
-use Rattle.bgp_update.specs.Verdict.{is_withdrawn, of_parts, reset_of, unless_reset, without_reset}
-use Rattle.bgp_msg.specs.Outcome.{of_open_fault, of_reading, of_verdict, out_of}
-use Rattle.ristulva_c.specs.Facts.{attrs_in, PathsLie, paths_told}
-use Rattle.ristulva_c.specs.Parts.{parts_told, fields_of, Lie}
-use Rattle.ristulva_c.specs.Places.{first_of_type, value_at, value_in, kept_at}
-use Rattle.ristulva_c.specs.Span.{octets_in}
+use Rattle.bgp_update.specs.Prelude.{marks_of, placed_tlvs, Parts, parts_of, kept_of, attrs_of}
+use Rattle.bgp_msg.specs.declared.outcome.Outcome.{Outcome}
+use Rattle.bgp_msg.specs.Prelude.{out_of}
+use Rattle.ristulva_c.specs.Prelude.{attrs_in, PathsLie, paths_told, parts_told, fields_of, Lie, first_of_type, value_at, value_in, kept_at, octets_in}
 use Rattle.ristulva_c.proofs.FirstPlaces.{found_lies}
 use Rattle.ristulva_c.proofs.KeptPlaces.{path_first, as4_path_first, communities_first, large_first}
+use Rattle.ristulva_c.proofs.Outcomes.{by_kind}
 use Rattle.ristulva_c.proofs.PartPlaces.{lie}
 use Rattle.ristulva_c.proofs.RouteLists.{room_in, value_there}
 
@@ -52,36 +38,12 @@ pub record AreKept (ctx : Context) (body : List ℕ) (a : Attrs) : Type 0 where
   pub whole : parts_of body ≡ Some parts
   pub kept : a ≡ attrs_of (kept_of (marks_of ctx parts))
 
-module _ (ctx : Context) (body : List ℕ) (a : Attrs) where
-  module _ (p : Parts) (whole : parts_of body ≡ Some p) where
-    by_tests : (w r : Bool) → attrs_in (of_verdict (cond w
-        (cond r (verdict.Withdraw (routes_of p (marks_of ctx p)) (notes_of p (marks_of ctx p))) (verdict.Reset malformed))
-        (verdict.Take (update_of p (marks_of ctx p)) (notes_of p (marks_of ctx p))))) ≡ Some a → AreKept ctx body a
-    by_tests true true is = absurd (let bad : None ≡ Some a = is in cc)
-    by_tests true false is = absurd (let bad : None ≡ Some a = is in cc)
-    by_tests false r is = record { parts = p; whole = whole; kept = let same : Some (attrs_of (kept_of (marks_of ctx p))) ≡ Some a = is in cc }
-
-    by_reset : (n : Option Notification) → attrs_in (of_verdict (unless_reset n (without_reset p (marks_of ctx p)))) ≡ Some a → AreKept ctx body a
-    by_reset (Some n) is = absurd (let bad : None ≡ Some a = is in cc)
-    by_reset None is = by_tests (is_withdrawn p (marks_of ctx p)) (is_reachable p (marks_of ctx p)) is
-
-  by_parts : (o : Option Parts) → parts_of body ≡ o → attrs_in (of_verdict (of_parts ctx o)) ≡ Some a → AreKept ctx body a
-  by_parts None whole is = absurd (let bad : None ≡ Some a = is in cc)
-  by_parts (Some p) whole is = by_reset p whole (reset_of p (marks_of ctx p)) is
-
-  by_fault : (n : Option Notification) → attrs_in (of_open_fault n) ≡ Some a → AreKept ctx body a
-  by_fault (Some n) is = absurd (let bad : None ≡ Some a = is in cc)
-  by_fault None is = absurd (let bad : None ≡ Some a = is in cc)
-
-  by_reading : (r : Result Open OpenFault) → attrs_in (of_reading r) ≡ Some a → AreKept ctx body a
-  by_reading (Ok o) is = absurd (let bad : None ≡ Some a = is in cc)
-  by_reading (Err fault) is = by_fault (open_notification fault) is
-
-  pub are_kept : (k : Kind) → attrs_in (out_of ctx (record { kind = k; body = body })) ≡ Some a → AreKept ctx body a
-  are_kept kind.Open is = by_reading (reading_of body) is
-  are_kept kind.Update is = by_parts (parts_of body) refl is
-  are_kept kind.Notification is = absurd (let bad : None ≡ Some a = is in cc)
-  are_kept kind.Keepalive is = absurd (let bad : None ≡ Some a = is in cc)
+pub are_kept : (ctx : Context) (body : List ℕ) (a : Attrs) (k : Kind) → attrs_in (out_of ctx (record { kind = k; body = body })) ≡ Some a → AreKept ctx body a
+are_kept ctx body a k =
+    let none : None ≡ Some a → AreKept ctx body a = λ is. absurd cc in
+    by_kind ctx body (λ (o : Outcome). attrs_in o ≡ Some a → AreKept ctx body a) (record { reset = λ n. none; open_taken = λ o. none; notification = λ n. none; keepalive = none })
+    (λ p whole is. record { parts = p; whole = whole; kept = let same : Some (attrs_of (kept_of (marks_of ctx p))) ≡ Some a = is in cc })
+    (λ p whole. none) k
 
 -- ---- what lies there
 

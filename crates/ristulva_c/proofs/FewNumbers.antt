@@ -1,13 +1,12 @@
 -- A message has no more numbers in its path, and no more communities, than octets behind its header and its two lengths.
 use Rattle.std.proofs.Common.{◌≡◌, ℕ, suc, ◌+◌, ◌-◌, ◌*◌, ◌≤◌, Bool, true, false, cond, eqb, ltb, List, [], ◌∷◌, ◌++◌, length, Option, Some, None, refl, sym, ap, subst, ◌∙◌, arith}
 use Rattle.std.specs.List.{flat_map, list_any}
-use Rattle.std.proofs.lemmas.Bool.{eqb-true}
 use Rattle.std.proofs.lemmas.List.{length-append, length-map, length-take}
 use Rattle.std.proofs.lemmas.List.Concat.{flat_map-cons}
 use Rattle.bgp_numbers.specs.declared.attribute.TheConstants.{AS_PATH, AS4_PATH}
-use Rattle.bgp_wire.specs.Octets.{AreOctets}
-use Rattle.bgp_wire.specs.Row.{Row}
+use Rattle.bgp_wire.specs.Prelude.{AreOctets, Row}
 use Rattle.bgp_wire.proofs.Pieces.{Splits-pieces}
+use Rattle.bgp_wire.proofs.Walks.{not_more}
 use Rattle.bgp_frame.specs.declared.kind.Kind.{Kind}
 use Rattle.bgp_open.specs.declared.context.Context.{Context}
 use Rattle.bgp_prefix.specs.declared.as_number.AsNumber.{AsNumber}
@@ -20,27 +19,20 @@ use Rattle.bgp_attr.specs.declared.path.SegKind.{SegKind}
 use Rattle.bgp_attr.specs.declared.path.SegKind.TheVariants.{Set, Seq}
 use Rattle.bgp_attr.specs.declared.path.Segment.{Segment}
 use Rattle.bgp_attr.specs.declared.path_form.PathForm.{PathForm}
-use Rattle.bgp_attr.specs.Numbers.{number_width, one_number, one_triple, triples_of, same_triple, once_behind}
-use Rattle.bgp_attr.specs.Path.{WireSegment, IsSegment, one_segment, segments_of, kept_segment, segment_kept_as, kind_of_segment, as_number, path_of}
-use Rattle.bgp_attr.specs.Tlv.{PlacedTlv}
-use Rattle.bgp_attr.specs.Value.{as_path_form, as4_path_form}
-use Rattle.bgp_attr.proofs.Readers.{IsSegment-reads}
+use Rattle.bgp_attr.specs.Prelude.{number_width, IsNumber, one_number, IsTriple, one_triple, triples_of, same_triple, once_behind, WireSegment, IsSegment, one_segment, segments_of, kept_segment, segment_kept_as, kind_of_segment, as_number, path_of, as_path_form, as4_path_form}
+use Rattle.bgp_attr.proofs.Readers.{IsNumber-reads, IsSegment-reads, IsTriple-reads}
 use Rattle.bgp_attr.proofs.NumberRows.{length-number_row}
-use Rattle.bgp_update.specs.As4.{items_of, items_behind, front_by, lead, rebuilt_path, rebuilt_by, rebuilt, is_as_trans}
-use Rattle.bgp_update.specs.Marks.{marks_of}
-use Rattle.bgp_update.specs.Parts.{Parts}
-use Rattle.bgp_update.specs.Taken.{kept_of, attrs_of}
+use Rattle.bgp_update.specs.Prelude.{items_of, items_behind, front_by, lead, rebuilt_path, rebuilt_by, rebuilt, is_as_trans, marks_of, Parts, kept_of, attrs_of}
 use Rattle.bgp_update.specs.declared.attrs.Attrs.{Attrs}
 use Rattle.bgp_update.specs.declared.path_info.PathInfo.{PathInfo}
 use Rattle.bgp_update.proofs.Bodies.{length-body, parts-body}
-use Rattle.bgp_msg.specs.Outcome.{out_of}
-use Rattle.ristulva_c.specs.Facts.{attrs_in}
-use Rattle.ristulva_c.specs.Places.{first_of_type}
-use Rattle.ristulva_c.specs.steps.NumberRows.{numbers_in}
+use Rattle.bgp_msg.specs.Prelude.{out_of}
+use Rattle.ristulva_c.specs.Prelude.{attrs_in, numbers_in, community_row, communities_told, community_rows, large_row, large_told, large_rows, path_rows, number_rows, IsViewed}
 use Rattle.ristulva_c.proofs.FactPlaces.{are_kept}
-use Rattle.ristulva_c.proofs.FewPieces.{few_pieces, found_of, two_found}
 use Rattle.ristulva_c.proofs.FirstPlaces.{found_lies}
 use Rattle.ristulva_c.proofs.KeptPlaces.{path_first, as4_path_first, communities_first, large_first}
+use Rattle.bgp_msg.specs.declared.outcome.Outcome.{Outcome}
+use Rattle.ristulva_c.proofs.NumberRows.{rows_count}
 
 -- ---- the segments of a path, and their numbers
 
@@ -60,22 +52,23 @@ kept_weight : (kind : Option SegKind) (numbers : List ℕ) → weight (segment_k
 kept_weight None numbers = omega arith
 kept_weight (Some kind) numbers = omega (arith, length-map numbers as_number)
 
-at_least : (wide : Bool) (n len : ℕ) → len ≡ number_width wide * n → n ≤ len
+at_least : (wide : Bool) (n len : ℕ) → len ≡ number_width wide * n → 2 * n ≤ len
 at_least true n len e = omega (arith, e)
 at_least false n len e = omega (arith, e)
 
-row_weight : (form : PathForm) (ss : List WireSegment) (b : List ℕ) → Row (IsSegment form) ss b → weight (flat_map kept_segment ss) ≤ length b
+row_weight : (form : PathForm) (ss : List WireSegment) (b : List ℕ) → Row (IsSegment form) ss b → 2 * weight (flat_map kept_segment ss) ≤ length b
 row_weight form [] b row = omega arith
 row_weight form (s ∷ ss) b row =
     let p = row.3 in
-    let numbers : length s.numbers ≤ length (p.counted).row = at_least form.wide _ _ (length-number_row form.wide s.numbers (p.counted).row (p.counted).spelled) in
+    let numbers : 2 * length s.numbers ≤ length (p.counted).row = at_least form.wide _ _ (length-number_row form.wide s.numbers (p.counted).row (p.counted).spelled) in
     let front : length row.0 ≡ suc (suc (length (p.counted).row)) = ap length p.octets ∙ ap suc (ap length (p.counted).octets) in
     let both : weight (flat_map kept_segment (s ∷ ss)) ≡ weight (kept_segment s) + weight (flat_map kept_segment ss) =
     ap weight (flat_map-cons kept_segment s ss) ∙ weight-append (kept_segment s) (flat_map kept_segment ss) in
     let first : weight (kept_segment s) ≤ suc (length s.numbers) = kept_weight (kind_of_segment s.code) s.numbers in
     omega (arith, both, first, numbers, front, row_weight form ss row.1 row.4, ap length row.2, length-append row.0 row.1)
 
-path_weight : (form : PathForm) (b : List ℕ) → weight (path_of form b).segments ≤ length b
+-- each takes two octets at least
+path_weight : (form : PathForm) (b : List ℕ) → 2 * weight (path_of form b).segments ≤ length b
 path_weight form b =
     let s = Splits-pieces WireSegment (IsSegment form) (one_segment form) (IsSegment-reads form) b in
     omega (arith, row_weight form (segments_of form b).0 s.row s.spelled, ap length s.whole, length-append s.row (segments_of form b).1)
@@ -144,41 +137,22 @@ module _ (ctx : Context) (p : Parts) where
   abbrev kept : Attrs
   kept = attrs_of (kept_of (marks_of ctx p))
 
-  abbrev is_path : PlacedTlv → Bool
-  is_path t = eqb t.tlv.kind AS_PATH
-
-  abbrev is_as4_path : PlacedTlv → Bool
-  is_as4_path t = eqb t.tlv.kind AS4_PATH
-
-  apart : (q : PlacedTlv) → is_path q ≡ true → is_as4_path q ≡ true → ⊥
-  apart q r u = let e : AS_PATH ≡ AS4_PATH = sym (eqb-true q.tlv.kind AS_PATH r) ∙ eqb-true q.tlv.kind AS4_PATH u in absurd (omega (arith, e))
-
-  path_found : (o : Option AsPath) → kept.as_path ≡ o → path_weight_of o ≤ found_of (first_of_type AS_PATH p)
+  path_found : (o : Option AsPath) → kept.as_path ≡ o → 2 * path_weight_of o ≤ length p.attributes
   path_found None is = omega arith
   path_found (Some r) is =
       let f = path_first ctx p r is in
-      omega (
-        arith,
-        ap (λ (x : AsPath). weight x.segments) f.holds,
-        path_weight (as_path_form ctx) f.place.tlv.value,
-        (found_lies is_path p.attributes f.place f.first).longer,
-        ap found_of f.first,
-      )
+      let l = found_lies (λ t. eqb t.tlv.kind AS_PATH) p.attributes f.place f.first in
+      omega (arith, ap (λ (x : AsPath). weight x.segments) f.holds, path_weight (as_path_form ctx) f.place.tlv.value, l.longer, l.within)
 
-  as4_path_found : (o : Option As4Path) → kept.as4_path ≡ o → as4_weight_of o ≤ found_of (first_of_type AS4_PATH p)
+  as4_path_found : (o : Option As4Path) → kept.as4_path ≡ o → 2 * as4_weight_of o ≤ length p.attributes
   as4_path_found None is = omega arith
   as4_path_found (Some r) is =
       let f = as4_path_first ctx p r is in
-      omega (
-        arith,
-        ap (λ (x : As4Path). weight x.path.segments) f.holds,
-        path_weight as4_path_form f.place.tlv.value,
-        (found_lies is_as4_path p.attributes f.place f.first).longer,
-        ap found_of f.first,
-      )
+      let l = found_lies (λ t. eqb t.tlv.kind AS4_PATH) p.attributes f.place f.first in
+      omega (arith, ap (λ (x : As4Path). weight x.path.segments) f.holds, path_weight as4_path_form f.place.tlv.value, l.longer, l.within)
 
-  few_numbers : (most : ℕ) → length p.attributes ≤ most → HasFewNumbers most kept
-  few_numbers most short = record {
+  kept_few : (most : ℕ) → length p.attributes ≤ most → HasFewNumbers most kept
+  kept_few most short = record {
     path = λ r is. omega (
       arith,
       numbers_weigh r.segments,
@@ -186,21 +160,46 @@ module _ (ctx : Context) (p : Parts) where
       rebuilt_weight kept.aggregator kept.as4_aggregator kept.as_path kept.as4_path,
       path_found kept.as_path refl,
       as4_path_found kept.as4_path refl,
-      two_found is_path is_as4_path apart p.attributes,
       short,
     );
     communities = λ c is.
         let f = communities_first ctx p c is in
         let l = found_lies (λ t. eqb t.tlv.kind 8) p.attributes f.place f.first in
-        omega (arith, ap (λ (x : Communities). length x.values) f.holds, few_pieces (one_number true) f.place.tlv.value, l.longer, l.within, short);
+        omega (arith, ap (λ (x : Communities). length x.values) f.holds, not_more ℕ (IsNumber true) (one_number true) (IsNumber-reads true) f.place.tlv.value, l.longer, l.within, short);
     large = λ c is.
         let f = large_first ctx p c is in
         let l = found_lies (λ t. eqb t.tlv.kind 32) p.attributes f.place f.first in
-        omega (arith, ap (λ (x : LargeCommunities). length x.values) f.holds, few_once [] (triples_of f.place.tlv.value), few_pieces one_triple f.place.tlv.value, l.longer, l.within, short);
+        omega (arith, ap (λ (x : LargeCommunities). length x.values) f.holds, few_once [] (triples_of f.place.tlv.value), not_more (List ℕ) IsTriple one_triple IsTriple-reads f.place.tlv.value, l.longer, l.within, short);
   }
 
 pub has_few_numbers : (ctx : Context) (kind : Kind) (body : List ℕ) (a : Attrs) → AreOctets body → attrs_in (out_of ctx (record { kind = kind; body = body })) ≡ Some a → HasFewNumbers (length body - 4) a
 has_few_numbers ctx kind body a are is =
     let k = are_kept ctx body a kind is in
     subst (HasFewNumbers (length body - 4)) (sym k.kept)
-    (few_numbers ctx k.parts (length body - 4) (omega (arith, ap length (parts-body body k.parts are k.whole).octets ∙ length-body k.parts.withdrawn k.parts.attributes k.parts.nlri)))
+    (kept_few ctx k.parts (length body - 4) (omega (arith, ap length (parts-body body k.parts are k.whole).octets ∙ length-body k.parts.withdrawn k.parts.attributes k.parts.nlri)))
+
+-- ---- the rows that they give
+
+few_some : {A Row : Type 0} (most : ℕ) (rows : Option A → List Row) → rows None ≡ [] → (x : Option A) → ((a : A) → x ≡ Some a → length (rows (Some a)) ≤ most) → length (rows x) ≤ most
+few_some most rows none None some = omega (arith, ap length none)
+few_some most rows none (Some a) some = some a refl
+
+module _ (body : List ℕ) (o : Outcome) (are : AreOctets body) (w : IsViewed body o) where
+  abbrev most : ℕ
+  most = length body - 4
+
+  pub few_in : (a : Attrs) → attrs_in o ≡ Some a → HasFewNumbers most a
+  few_in a is = has_few_numbers w.ctx w.kind body a are (sym (ap attrs_in w.outcome) ∙ is)
+
+  module _ (at : ℕ) where
+    pub few_numbers : length (number_rows at (attrs_in o)) ≤ most
+    few_numbers = few_some most (number_rows at) refl (attrs_in o)
+        (λ a is. few_some most (path_rows at) refl (rebuilt a).path (λ r has. omega (arith, rows_count at 0 r.segments, (few_in a is).path r has)))
+
+    pub few_communities : length (community_rows at (attrs_in o)) ≤ most
+    few_communities = few_some most (community_rows at) refl (attrs_in o)
+        (λ a is. few_some most (communities_told at) refl a.communities (λ c has. omega (arith, length-map c.values (community_row at), (few_in a is).communities c has)))
+
+    pub few_large : length (large_rows at (attrs_in o)) ≤ most
+    few_large = few_some most (large_rows at) refl (attrs_in o)
+        (λ a is. few_some most (large_told at) refl a.large (λ l has. omega (arith, length-map l.values (large_row at), (few_in a is).large l has)))

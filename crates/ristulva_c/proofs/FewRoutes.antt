@@ -1,85 +1,107 @@
 -- A message has no more routes than octets behind its header and its two lengths.
-use Rattle.std.proofs.Common.{◌≡◌, ℕ, ◌+◌, ◌-◌, ◌≤◌, Bool, true, false, cond, eqb, List, ◌++◌, length, Option, Some, None, refl, sym, ap, ◌∙◌, arith}
-use Rattle.std.specs.Prelude.{Result, Ok, Err}
+use Rattle.std.proofs.Common.{◌≡◌, ℕ, ◌+◌, ◌-◌, ◌≤◌, Bool, true, false, eqb, List, ◌++◌, length, Option, Some, None, refl, sym, ap, ◌∙◌, arith, cond, [], ◌∷◌}
 use Rattle.std.proofs.lemmas.Bool.{eqb-true}
 use Rattle.std.proofs.lemmas.List.{length-append, length-drop, length-map}
 use Rattle.bgp_numbers.specs.declared.afi.TheConstants.{IPV4, IPV6}
-use Rattle.bgp_numbers.specs.declared.safi.TheConstants.{UNICAST}
 use Rattle.bgp_numbers.specs.declared.attribute.TheConstants.{MP_REACH_NLRI, MP_UNREACH_NLRI}
-use Rattle.bgp_wire.specs.Octets.{AreOctets}
+use Rattle.bgp_wire.specs.Prelude.{AreOctets, Row}
 use Rattle.bgp_frame.specs.declared.kind.Kind.{Kind}
-use Rattle.bgp_frame.specs.declared.kind.Kind.TheVariants as kind
-use Rattle.bgp_frame.specs.declared.notification.Notification.{Notification}
 use Rattle.bgp_open.specs.declared.context.Context.{Context}
-use Rattle.bgp_open.specs.declared.fault.OpenFault.{OpenFault}
-use Rattle.bgp_open.specs.declared.message.Open.{Open}
-use Rattle.bgp_open.specs.OpenFault.{open_notification, reading_of}
-use Rattle.bgp_prefix.specs.Prefix.{PrefixValue}
-use Rattle.bgp_prefix.specs.Run.{run_of}
+use Rattle.bgp_prefix.specs.Prelude.{PrefixValue, run_of, IsPrefix, one_prefix}
 use Rattle.bgp_attr.specs.declared.mp.MpReach.{MpReach}
-use Rattle.bgp_attr.specs.declared.mp.MpReach.TheVariants as reach
 use Rattle.bgp_attr.specs.declared.mp.MpUnreach.{MpUnreach}
+use Rattle.bgp_attr.specs.Prelude.{next_hop_length, reached_of, withdrawn_of, mp_reach_of, mp_unreach_of, PlacedTlv, TlvValue, IsTlv, one_tlv, tlvs_of, placed_from}
+use Rattle.bgp_attr.specs.declared.mp.MpReach.TheVariants as reach
 use Rattle.bgp_attr.specs.declared.mp.MpUnreach.TheVariants as unreach
-use Rattle.bgp_attr.specs.Mp.{afi_of, safi_of, next_hop_length, reached_of, withdrawn_of, mp_reach_of, mp_unreach_of}
-use Rattle.bgp_attr.specs.Tlv.{PlacedTlv}
-use Rattle.bgp_update.specs.Marks.{Mark, malformed, marks_of}
-use Rattle.bgp_update.specs.Notes.{gone_ip4, gone_ip6, reached_ip4, reached_ip6, is_reachable, notes_of}
-use Rattle.bgp_update.specs.Notes as notes
-use Rattle.bgp_update.specs.Parts.{Parts, parts_of}
-use Rattle.bgp_update.specs.Taken.{kept_of, attrs_of, update_of}
+use Rattle.bgp_update.specs.Prelude.{Mark, marks_of, gone_ip4, gone_ip6, reached_ip4, reached_ip6, Parts, parts_of, kept_of, attrs_of, update_of, placed_tlvs}
 use Rattle.bgp_update.specs.declared.attrs.Attrs.{Attrs}
-use Rattle.bgp_update.specs.Verdict.{is_withdrawn, of_parts, reset_of, unless_reset, without_reset}
-use Rattle.bgp_update.specs.declared.verdict.Verdict.TheVariants as verdict
+use Rattle.bgp_update.specs.Notes as notes
 use Rattle.bgp_update.proofs.Bodies.{length-body, parts-body}
 use Rattle.bgp_msg.specs.declared.message.Message.TheVariants as message
 use Rattle.bgp_msg.specs.declared.outcome.Outcome.{Outcome}
+use Rattle.bgp_msg.specs.Prelude.{out_of}
 use Rattle.bgp_msg.specs.declared.outcome.Outcome.TheVariants as outcome
-use Rattle.bgp_msg.specs.Outcome.{of_open_fault, of_reading, of_verdict, out_of}
-use Rattle.ristulva_c.specs.Places.{first_of_type}
-use Rattle.ristulva_c.specs.RouteList.{RouteValue, routes_to, reached_routes, unreached_routes, routes_of}
-use Rattle.ristulva_c.proofs.FewPieces.{few_prefixes, found_of, two_found}
+use Rattle.ristulva_c.specs.Prelude.{width_of, first_of_type, reach_afi, unreach_afi, RouteValue, routes_to, reached_routes, unreached_routes, routes_of}
 use Rattle.ristulva_c.proofs.FirstPlaces.{found_lies}
 use Rattle.ristulva_c.proofs.KeptPlaces.{reach_first, unreach_first}
+use Rattle.ristulva_c.proofs.Outcomes.{by_kind}
+use Rattle.ristulva_c.proofs.RouteLists.{reach_run, unreach_run}
+use Rattle.std.specs.List.{find}
+use Rattle.bgp_wire.proofs.Pieces.{Splits-pieces}
+use Rattle.bgp_wire.proofs.Walks.{not_more}
+use Rattle.bgp_prefix.proofs.PrefixLemmas.{IsPrefix-reads}
+use Rattle.bgp_attr.proofs.Readers.{IsTlv-reads}
+
+few_prefixes : (width : ℕ) (b : List ℕ) → length (run_of width b).0 ≤ length b
+few_prefixes width b = not_more PrefixValue (IsPrefix width) (one_prefix width) (IsPrefix-reads width) b
+
+-- ---- attributes of two types
+
+-- all octets of attributes
+abbrev whole_of : List PlacedTlv → ℕ
+whole_of [] = 0
+whole_of (q ∷ qs) = length q.tlv.whole + whole_of qs
+
+-- those of one that is found
+abbrev found_of : Option PlacedTlv → ℕ
+found_of None = 0
+found_of (Some q) = length q.tlv.whole
+
+found_by : (q : PlacedTlv) (qs : List PlacedTlv) (o : Option PlacedTlv) (b : Bool) → found_of o ≤ whole_of qs → found_of (cond b (Some q) o) ≤ whole_of (q ∷ qs)
+found_by q qs o true le = omega arith
+found_by q qs o false le = omega (arith, le)
+
+found_in : (test : PlacedTlv → Bool) (qs : List PlacedTlv) → found_of (find test qs) ≤ whole_of qs
+found_in test [] = omega arith
+found_in test (q ∷ qs) = found_by q qs (find test qs) (test q) (found_in test qs)
+
+both_by : (q : PlacedTlv) (qs : List PlacedTlv) (o u : Option PlacedTlv) (a b : Bool) → (a ≡ true → b ≡ true → ⊥) → found_of o ≤ whole_of qs → found_of u ≤ whole_of qs → found_of o + found_of u ≤ whole_of qs
+    → found_of (cond a (Some q) o) + found_of (cond b (Some q) u) ≤ whole_of (q ∷ qs)
+both_by q qs o u true true apart one two both = absurd (apart refl refl)
+both_by q qs o u true false apart one two both = omega (arith, two)
+both_by q qs o u false true apart one two both = omega (arith, one)
+both_by q qs o u false false apart one two both = omega (arith, both)
+
+-- what two tests find that never hold both
+both_found : (test other : PlacedTlv → Bool) → ((q : PlacedTlv) → test q ≡ true → other q ≡ true → ⊥) → (qs : List PlacedTlv) → found_of (find test qs) + found_of (find other qs) ≤ whole_of qs
+both_found test other apart [] = omega arith
+both_found test other apart (q ∷ qs) =
+    both_by q qs (find test qs) (find other qs) (test q) (other q) (apart q) (found_in test qs) (found_in other qs) (both_found test other apart qs)
+
+whole_row : (ts : List TlvValue) (row : List ℕ) (at : ℕ) → Row IsTlv ts row → whole_of (placed_from at ts) ≤ length row
+whole_row [] row at spelled = omega arith
+whole_row (t ∷ ts) row at spelled =
+    omega (arith, ap length spelled.2, length-append spelled.0 spelled.1, ap length spelled.3.whole, whole_row ts spelled.1 (at + length t.whole) spelled.4)
+
+-- they have no more octets than the field
+two_found : (test other : PlacedTlv → Bool) → ((q : PlacedTlv) → test q ≡ true → other q ≡ true → ⊥) → (field : List ℕ)
+    → found_of (find test (placed_tlvs field)) + found_of (find other (placed_tlvs field)) ≤ length field
+two_found test other apart field =
+    let s = Splits-pieces TlvValue IsTlv one_tlv IsTlv-reads field in
+    omega (
+      arith,
+      both_found test other apart (placed_tlvs field),
+      whole_row (tlvs_of field).0 s.row 0 s.spelled,
+      ap length s.whole,
+      length-append s.row (tlvs_of field).1,
+    )
 
 -- ---- what an attribute gives
 
 abbrev as_route : Bool → ℕ → PrefixValue → RouteValue
 as_route announced afi p = record { announced = announced; afi = afi; prefix = p }
 
-module _ (v : List ℕ) where
-  few_reached : (a : Bool) (afi width : ℕ) → length (routes_to a afi (run_of width (reached_of v)).0) ≤ length v
-  few_reached a afi width = omega (
-    arith,
-    length-map (run_of width (reached_of v)).0 (as_route a afi),
-    few_prefixes width (reached_of v),
-    length-drop (5 + next_hop_length v) v,
-  )
+few_reach : (v : List ℕ) (a : Bool) → length (reached_routes a (Some (mp_reach_of v))) ≤ length v
+few_reach v a =
+    let afi = reach_afi (mp_reach_of v) in
+    let run = run_of (width_of afi) (reached_of v) in
+    omega (arith, ap length (reach_run v a), length-map run.0 (as_route a afi), few_prefixes (width_of afi) (reached_of v), length-drop (5 + next_hop_length v) v)
 
-  few_reach_by : (a s f x : Bool) → eqb (safi_of v) UNICAST ≡ s → eqb (afi_of v) IPV4 ≡ f → eqb (afi_of v) IPV6 ≡ x → length (reached_routes a (Some (mp_reach_of v))) ≤ length v
-  few_reach_by a false f x es ef ex = rw es (few_reached a IPV4 4)
-  few_reach_by a true true x es ef ex = rw (es, ef) (few_reached a IPV4 4)
-  few_reach_by a true false true es ef ex = rw (es, ef, ex) (few_reached a IPV6 16)
-  few_reach_by a true false false es ef ex = rw (es, ef, ex) (few_reached a IPV4 4)
-
-  few_reach : (a : Bool) → length (reached_routes a (Some (mp_reach_of v))) ≤ length v
-  few_reach a = few_reach_by a (eqb (safi_of v) UNICAST) (eqb (afi_of v) IPV4) (eqb (afi_of v) IPV6) refl refl refl
-
-  few_gone : (afi width : ℕ) → length (routes_to false afi (run_of width (withdrawn_of v)).0) ≤ length v
-  few_gone afi width = omega (
-    arith,
-    length-map (run_of width (withdrawn_of v)).0 (as_route false afi),
-    few_prefixes width (withdrawn_of v),
-    length-drop 3 v,
-  )
-
-  few_unreach_by : (s f x : Bool) → eqb (safi_of v) UNICAST ≡ s → eqb (afi_of v) IPV4 ≡ f → eqb (afi_of v) IPV6 ≡ x → length (unreached_routes (Some (mp_unreach_of v))) ≤ length v
-  few_unreach_by false f x es ef ex = rw es (few_gone IPV4 4)
-  few_unreach_by true true x es ef ex = rw (es, ef) (few_gone IPV4 4)
-  few_unreach_by true false true es ef ex = rw (es, ef, ex) (few_gone IPV6 16)
-  few_unreach_by true false false es ef ex = rw (es, ef, ex) (few_gone IPV4 4)
-
-  few_unreach : length (unreached_routes (Some (mp_unreach_of v))) ≤ length v
-  few_unreach = few_unreach_by (eqb (safi_of v) UNICAST) (eqb (afi_of v) IPV4) (eqb (afi_of v) IPV6) refl refl refl
+few_unreach : (v : List ℕ) → length (unreached_routes (Some (mp_unreach_of v))) ≤ length v
+few_unreach v =
+    let afi = unreach_afi (mp_unreach_of v) in
+    let run = run_of (width_of afi) (withdrawn_of v) in
+    omega (arith, ap length (unreach_run v), length-map run.0 (as_route false afi), few_prefixes (width_of afi) (withdrawn_of v), length-drop 3 v)
 
 module _ (ctx : Context) (p : Parts) where
   abbrev kept : Attrs
@@ -189,39 +211,11 @@ HasFew most (outcome.Took message.Keepalive notes) = Unit {0}
 HasFew most (outcome.Withdraw all notes) = length all.ip4 + length all.ip6 ≤ most
 HasFew most (outcome.Reset n) = Unit {0}
 
-module _ (ctx : Context) (body : List ℕ) (are : AreOctets body) where
-  abbrev most : ℕ
-  most = length body - 4
+room : (body : List ℕ) → AreOctets body → (p : Parts) → parts_of body ≡ Some p → length p.withdrawn + length p.attributes + length p.nlri ≤ length body - 4
+room body are p whole = omega (arith, ap length (parts-body body p are whole).octets ∙ length-body p.withdrawn p.attributes p.nlri)
 
-  module _ (p : Parts) (whole : parts_of body ≡ Some p) where
-    room : length p.withdrawn + length p.attributes + length p.nlri ≤ most
-    room = omega (arith, ap length (parts-body body p are whole).octets ∙ length-body p.withdrawn p.attributes p.nlri)
-
-    by_tests : (w r : Bool) → HasFew most (of_verdict (cond w
-        (cond r (verdict.Withdraw (notes.routes_of p (marks_of ctx p)) (notes_of p (marks_of ctx p))) (verdict.Reset malformed))
-        (verdict.Take (update_of p (marks_of ctx p)) (notes_of p (marks_of ctx p)))))
-    by_tests true true = omega (arith, few_routes ctx p false, all_count p (marks_of ctx p), room)
-    by_tests true false = tt
-    by_tests false r = λ a. omega (arith, few_routes ctx p a, room)
-
-    by_reset : (n : Option Notification) → HasFew most (of_verdict (unless_reset n (without_reset p (marks_of ctx p))))
-    by_reset (Some n) = tt
-    by_reset None = by_tests (is_withdrawn p (marks_of ctx p)) (is_reachable p (marks_of ctx p))
-
-  by_parts : (o : Option Parts) → parts_of body ≡ o → HasFew most (of_verdict (of_parts ctx o))
-  by_parts None whole = tt
-  by_parts (Some p) whole = by_reset p whole (reset_of p (marks_of ctx p))
-
-  by_fault : (n : Option Notification) → HasFew most (of_open_fault n)
-  by_fault (Some n) = tt
-  by_fault None = tt
-
-  by_reading : (r : Result Open OpenFault) → HasFew most (of_reading r)
-  by_reading (Ok o) = tt
-  by_reading (Err fault) = by_fault (open_notification fault)
-
-  pub has_few : (k : Kind) → HasFew most (out_of ctx (record { kind = k; body = body }))
-  has_few kind.Open = by_reading (reading_of body)
-  has_few kind.Update = by_parts (parts_of body) refl
-  has_few kind.Notification = tt
-  has_few kind.Keepalive = tt
+pub has_few : (ctx : Context) (body : List ℕ) → AreOctets body → (k : Kind) → HasFew (length body - 4) (out_of ctx (record { kind = k; body = body }))
+has_few ctx body are k =
+    by_kind ctx body (HasFew (length body - 4)) (record { reset = λ n. tt; open_taken = λ o. tt; notification = λ n. tt; keepalive = tt })
+    (λ p whole a. omega (arith, few_routes ctx p a, room body are p whole))
+    (λ p whole. omega (arith, few_routes ctx p false, all_count p (marks_of ctx p), room body are p whole)) k

@@ -2,7 +2,7 @@
 use Rattle.std.proofs.Common.{◌≡◌, Some, refl}
 use Rattle.bgp_fields.specs.declared.kind.FieldKind.{FieldKind}
 use Rattle.bgp_fields.specs.declared.kind.FieldKind.TheVariants as field
-use Rattle.ristulva_c.specs.FieldKinds.{number_of_kind, kind_of}
+use Rattle.ristulva_c.specs.Prelude.{number_of_kind, kind_of}
 
 pub kind_back : (k : FieldKind) → kind_of (number_of_kind k) ≡ Some k
 unfolding kind_of

@@ -3,12 +3,11 @@ use Rattle.std.proofs.Common.{◌≡◌, ℕ, true, false, nat_le, ◌+◌, ◌�
 use Rattle.std.proofs.lemmas.List.{length-map}
 use Rattle.bgp_open.specs.declared.context.Context.{Context}
 use Rattle.bgp_fields.specs.declared.field.Field.{Field}
-use Rattle.bgp_fields.specs.Fields.{fields_of}
-use Rattle.bgp_fields.specs.Laws.{Tiles}
+use Rattle.bgp_fields.specs.Prelude.{fields_of, Tiles}
 use Rattle.bgp_fields.proofs.Joined.{fields-octets}
 use Rattle.ristulva_c.specs.declared.fields.ToldField.{ToldField}
 use Rattle.ristulva_c.specs.declared.status.TheConstants.{OK, ROOM}
-use Rattle.ristulva_c.specs.Fields.{field_told, IsFilled}
+use Rattle.ristulva_c.specs.Prelude.{field_told, IsFilled}
 
 -- ---- how many there are
 

@@ -2,11 +2,11 @@
 use Rattle.std.proofs.Common.{◌≡◌, ℕ, ◌+◌, ◌-◌, ◌≤◌, Bool, true, false, cond, List, [], ◌∷◌, ◌++◌, length, take, drop, Some, None, append_assoc, refl, sym, ap, ◌∙◌, arith}
 use Rattle.std.specs.List.{find}
 use Rattle.std.proofs.lemmas.List.{length-append, drop_at, take_at, drop-drop, drop-take, take-take}
-use Rattle.bgp_wire.specs.Row.{Row}
+use Rattle.bgp_wire.specs.Prelude.{Row}
 use Rattle.bgp_wire.proofs.Pieces.{Splits-pieces}
-use Rattle.bgp_attr.specs.Tlv.{TlvValue, PlacedTlv, IsTlv, one_tlv, tlvs_of, placed_from}
+use Rattle.bgp_attr.specs.Prelude.{TlvValue, PlacedTlv, IsTlv, one_tlv, tlvs_of, placed_from}
 use Rattle.bgp_attr.proofs.Readers.{IsTlv-reads}
-use Rattle.bgp_update.specs.Marks.{placed_tlvs}
+use Rattle.bgp_update.specs.Prelude.{placed_tlvs}
 
 -- an attribute's value lies there in octets, behind what is in front of it
 pub record LiesAt (b : List ℕ) (p : PlacedTlv) : Type 0 where

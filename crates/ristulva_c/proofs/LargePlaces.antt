@@ -1,14 +1,12 @@
 -- Places of a cursor over large communities.
 use Rattle.std.proofs.Common.{◌≡◌, ℕ, ◌+◌, ◌-◌, ◌%◌, ◌≤◌, List, ◌∷◌, length, take, Some, sym, ap, ap₂, ◌∙◌, arith, length-take}
 use Rattle.bgp_wire.proofs.Behinds.{pieces-whole, Row-pieces}
-use Rattle.bgp_attr.specs.Numbers.{IsTriple, one_triple, triples_of, once_behind, each_once}
-use Rattle.bgp_attr.specs.LargeStep.{IsRowUpTo, new_from, GivesNew}
+use Rattle.bgp_attr.specs.Prelude.{IsTriple, one_triple, triples_of, once_behind, each_once, IsRowUpTo, new_from, GivesNew}
 use Rattle.bgp_attr.proofs.Readers.{IsTriple-reads}
 use Rattle.bgp_attr.proofs.LargeSteps.{no_triples}
 use Rattle.bgp_attr.proofs.NumberRows.{triple_row-whole, length-triple_row}
 use Rattle.ristulva_c.specs.declared.large.LargeCommunities.{LargeCommunities}
-use Rattle.ristulva_c.specs.Prefixes.{between}
-use Rattle.ristulva_c.specs.Large.{IsLarge, large_left}
+use Rattle.ristulva_c.specs.Prelude.{between, IsLarge, large_left}
 use Rattle.ristulva_c.proofs.Between.{length_between}
 
 -- twelve by twelve the octets are triples alone

@@ -2,31 +2,24 @@
 use Rattle.std.proofs.Common.{◌≡◌, ◌≤◌, ◌<◌, ◌+◌, ℕ, Bool, true, false, cond, ltb, List, [], ◌∷◌, ◌++◌, length, map, refl, ap, ◌∙◌, arith}
 use Rattle.std.specs.List.{filter, flat_map}
 use Rattle.std.proofs.lemmas.List.{length-append, length-drop, length-map}
-use Rattle.bgp_wire.specs.Reader.{pieces}
-use Rattle.bgp_wire.specs.Row.{Row}
+use Rattle.bgp_wire.specs.Prelude.{pieces, Row}
 use Rattle.bgp_wire.proofs.Pieces.{Splits-pieces}
 use Rattle.bgp_open.specs.declared.capability.Capability.{Capability}
+use Rattle.bgp_open.specs.Prelude.{IsCapability, joined, parameters_of, open_value, IsParameter, one_parameter}
 use Rattle.bgp_open.specs.declared.open_view.OpenView.{OpenView}
-use Rattle.bgp_open.specs.Capability.{IsCapability}
-use Rattle.bgp_open.specs.Open.{joined, parameters_of}
-use Rattle.bgp_open.specs.OpenView.{open_value}
-use Rattle.bgp_open.specs.Parameter.{IsParameter, one_parameter}
 use Rattle.bgp_open.proofs.Capabilities.{capability-reads}
 use Rattle.bgp_open.proofs.Parameters.{parameter-reads}
 use Rattle.bgp_attr.specs.declared.attr.Attr.{Attr}
-use Rattle.bgp_attr.specs.declared.attr.Attr.TheVariants as attr
 use Rattle.bgp_attr.specs.declared.judged.Judged.{Judged}
-use Rattle.bgp_attr.specs.declared.judged.Judged.TheVariants as judged
 use Rattle.bgp_attr.specs.declared.opaque.Opaque.{Opaque}
+use Rattle.bgp_attr.specs.declared.attr.Attr.TheVariants as attr
+use Rattle.bgp_attr.specs.declared.judged.Judged.TheVariants as judged
 use Rattle.bgp_update.specs.declared.note.Note.{Note}
 use Rattle.bgp_update.specs.declared.view.UpdateView.{UpdateView}
-use Rattle.bgp_update.specs.Marks.{Mark}
-use Rattle.bgp_update.specs.Taken.{attrs_of, kept_by, kept_of, put_rising, is_opaque, as_opaque, rising_behind}
-use Rattle.bgp_update.specs.View.{view_marks}
-use Rattle.bgp_update.proofs.AttrSlots.{others_of-slots}
-use Rattle.bgp_clean.specs.Opens.{Seen, none_seen, goes_on, seen_behind, understood, understood_behind}
-use Rattle.ristulva_c.specs.Notes.{note_told}
-use Rattle.ristulva_c.specs.steps.LeftOut.{is_left_out}
+use Rattle.bgp_update.specs.Prelude.{Mark, attrs_of, kept_by, kept_of, put_rising, is_opaque, as_opaque, rising_behind, view_marks}
+use Rattle.bgp_update.proofs.KeptSlots.{others_of-kept}
+use Rattle.bgp_clean.specs.Prelude.{Seen, none_seen, goes_on, seen_behind, understood, understood_behind}
+use Rattle.ristulva_c.specs.Prelude.{note_told, is_left_out}
 use Rattle.ristulva_c.proofs.NoteCounts.{few_view_marks}
 
 -- each note is told
@@ -69,7 +62,7 @@ module _ (drops : ℕ → Bool) where
   -- those that are kept and left out are as many as stand in their order
   pub kept_left_out : (kept : List Attr) → length (filter (is_left_out drops) kept) ≡ length (filter test (attrs_of kept).others)
   kept_left_out kept =
-      omega (arith, opaque-count kept, rising-count (flat_map as_opaque kept) [], ap (λ (os : List Opaque). length (filter test os)) (others_of-slots kept))
+      omega (arith, opaque-count kept, rising-count (flat_map as_opaque kept) [], ap (λ (os : List Opaque). length (filter test os)) (others_of-kept kept))
 
 few-by : (t : Bool) (x : Attr) (ys xs : List Attr) → length ys ≤ length xs → length (cond t (x ∷ ys) ys) ≤ length (x ∷ xs)
 few-by true x ys xs le = omega (arith, le)

@@ -8,8 +8,7 @@ pub mod LargePlaces
 pub mod SegmentSteps
 pub mod RouteSpans
 pub mod Encodings
-pub mod Narrowings
-pub mod Sendings
+pub mod Outcomes
 pub mod PartPlaces
 pub mod NoteSteps
 pub mod NoteCounts
@@ -17,6 +16,7 @@ pub mod CapabilitySteps
 pub mod OpenPlaces
 pub mod Walks
 pub mod Handles
+pub mod HandleWalks
 pub mod Passing
 pub mod RisingSteps
 pub mod Pulled
@@ -27,11 +27,9 @@ pub mod KeptPlaces
 pub mod RouteLists
 pub mod OriginAs
 pub mod FactPlaces
-pub mod FewPieces
 pub mod FewRoutes
 pub mod FewNumbers
 pub mod NumberRows
-pub mod NumberCounts
 pub mod RouteRows
 pub mod FieldKindRows
 pub mod Rows

@@ -2,22 +2,17 @@
 use Rattle.std.proofs.Common.{◌≡◌, ℕ, suc, ◌+◌, ◌-◌, ◌*◌, ◌≤◌, Bool, true, false, cond, List, [], ◌∷◌, ◌++◌, length, refl, ap, ◌∙◌, arith}
 use Rattle.std.specs.List.{flat_map}
 use Rattle.std.proofs.lemmas.List.{length-append, length-map}
-use Rattle.bgp_wire.specs.OctetSet.{none_of_them, also}
-use Rattle.bgp_wire.specs.Row.{Row}
+use Rattle.bgp_wire.specs.Prelude.{none_of_them, also, Row}
 use Rattle.bgp_wire.proofs.Pieces.{Splits-pieces}
 use Rattle.bgp_open.specs.declared.context.Context.{Context}
 use Rattle.bgp_attr.specs.declared.judged.Judged.{Judged}
+use Rattle.bgp_attr.specs.Prelude.{is_extended, TlvValue, IsTlv, PlacedTlv, length_width, one_tlv, tlvs_of, placed_from}
 use Rattle.bgp_attr.specs.declared.judged.Judged.TheVariants as judged
-use Rattle.bgp_attr.specs.Flags.{is_extended}
-use Rattle.bgp_attr.specs.Tlv.{TlvValue, IsTlv, PlacedTlv, length_width, one_tlv, tlvs_of, placed_from}
 use Rattle.bgp_attr.proofs.Readers.{IsTlv-reads}
 use Rattle.bgp_update.specs.declared.missing.Missing.{Missing}
 use Rattle.bgp_update.specs.declared.view.UpdateView.{UpdateView}
-use Rattle.bgp_update.specs.Body.{parts_value}
-use Rattle.bgp_update.specs.Marks.{Mark, marks_behind, cut_mark, placed_tlvs, field_marks}
-use Rattle.bgp_update.specs.Notes.{why_not, mark_notes, missing_note, missing_notes, missing_of}
-use Rattle.bgp_update.specs.Parts.{attributes_at, has_nlri}
-use Rattle.bgp_update.specs.View.{view_marks, notes_value}
+use Rattle.bgp_update.specs.Prelude.{parts_value, Mark, marks_behind, cut_mark, placed_tlvs, field_marks, why_not, mark_notes, missing_note, missing_notes, missing_of, attributes_at, view_marks, notes_value}
+use Rattle.bgp_update.specs.Parts.{has_nlri}
 
 -- ---- attributes
 
@@ -48,10 +43,6 @@ length-placed at (t ∷ ts) = ap suc (length-placed (at + length t.whole) ts)
 length-behind : (ctx : Context) (nlri : Bool) (seen : ℕ → Bool) (ps : List PlacedTlv) → length (marks_behind ctx nlri seen ps) ≡ length ps
 length-behind ctx nlri seen [] = refl
 length-behind ctx nlri seen (p ∷ ps) = ap suc (length-behind ctx nlri (also p.tlv.kind seen) ps)
-
-length-cut : (at : ℕ) (rest : List ℕ) → length (cut_mark at rest) ≤ length rest
-length-cut at [] = omega arith
-length-cut at (flags ∷ rest) = omega arith
 
 one_cut : (at : ℕ) (rest : List ℕ) → length (cut_mark at rest) ≤ 1
 one_cut at [] = omega arith

@@ -5,12 +5,11 @@ use Rattle.std.proofs.lemmas.List.{length-drop}
 use Rattle.bgp_attr.specs.declared.why.Why.{Why}
 use Rattle.bgp_attr.specs.declared.why.Why.TheVariants as why
 use Rattle.bgp_update.specs.declared.note.Note.{Note}
-use Rattle.bgp_update.specs.Parts.{Parts, parts_of, attributes_at}
+use Rattle.bgp_update.specs.Prelude.{Parts, parts_of, attributes_at}
 use Rattle.bgp_update.proofs.PartLengths.{parts_within}
-use Rattle.bgp_fields.specs.Places.{attribute_place, is_attribute, note_place, note_place_in, says_missing}
+use Rattle.bgp_fields.specs.Prelude.{attribute_place, is_attribute, note_place, note_place_in, says_missing}
 use Rattle.ristulva_c.specs.declared.notes.ToldNote.{ToldNote}
-use Rattle.ristulva_c.specs.Faults.{noted_place}
-use Rattle.ristulva_c.specs.Notes.{note_told, number_of_why}
+use Rattle.ristulva_c.specs.Prelude.{noted_place, note_told, number_of_why}
 
 abbrev note_at : ℕ → ℕ → Why → Note
 note_at at kind w = record { at = at; kind = kind; why = w }

@@ -1,9 +1,9 @@
 -- Notes in a list of the caller's.
 use Rattle.std.proofs.Common.{◌≡◌, ℕ, suc, ◌+◌, ◌<◌, ◌≤◌, List, [], ◌∷◌, ◌++◌, length, map, set, refl, sym, ap, ◌∙◌, arith}
-use Rattle.std.proofs.lemmas.List.{append-nil, append_assoc, length-append, length-map, length_push, map-append}
+use Rattle.std.proofs.lemmas.List.{append_assoc, length-append, length-map, length_push, map-append}
 use Rattle.bgp_update.specs.declared.note.Note.{Note}
 use Rattle.ristulva_c.specs.declared.notes.ToldNote.{ToldNote}
-use Rattle.ristulva_c.specs.Notes.{note_told, listed}
+use Rattle.ristulva_c.specs.Prelude.{note_told, listed}
 
 pub length-listed : (ns places : List ToldNote) → length (listed ns places) ≡ length places
 length-listed [] places = refl
@@ -44,9 +44,6 @@ pub record IsSoFar (all left : List Note) (count : ℕ) (list places : List Told
   pub counted : length done ≡ count
   pub lists : list ≡ listed (map note_told done) places
 
-pub none_yet : (all left : List Note) (places : List ToldNote) → left ≡ all → IsSoFar all left 0 places places
-none_yet all left places is = record { done = []; whole = sym is; counted = refl; lists = refl }
-
 -- what putting one more promises
 abbrev pub Puts : ℕ → Note → List ToldNote → List ToldNote → Type 0
 Puts count note list new = (before places : List ToldNote) → length before ≡ count → list ≡ listed before places → new ≡ listed (before ++ note_told note ∷ []) places
@@ -61,11 +58,6 @@ one_more all left later count list new places note so_far is puts =
       counted = length_push done note ∙ ap (λ (n : ℕ). n + 1) so_far.counted;
       lists = puts (map note_told done) places (length-map done note_told ∙ so_far.counted) so_far.lists ∙ ap (λ (l : List ToldNote). listed l places) (sym (map-append note_told done (note ∷ [])));
     }
-
-pub all_listed : (all left : List Note) (count : ℕ) (list places : List ToldNote) → IsSoFar all left count list places → left ≡ [] → (list ≡ listed (map note_told all) places) × (count ≡ length (map note_told all))
-all_listed all left count list places so_far none =
-    let same : all ≡ so_far.done = so_far.whole ∙ ap (λ (l : List Note). so_far.done ++ l) none ∙ append-nil so_far.done in
-    (so_far.lists ∙ ap (λ (l : List Note). listed (map note_told l) places) (sym same), sym so_far.counted ∙ sym (ap length same) ∙ sym (length-map all note_told))
 
 pub few_so_far : (all left : List Note) (count : ℕ) (list places : List ToldNote) → IsSoFar all left count list places → length all ≤ 1361 → count + length left ≤ 1361
 few_so_far all left count list places so_far few = omega (arith, ap length so_far.whole, length-append so_far.done left, so_far.counted, few)

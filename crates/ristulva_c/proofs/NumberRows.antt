@@ -1,11 +1,9 @@
 -- The numbers of a path in rows, segment by segment.
-use Rattle.std.proofs.Common.{◌≡◌, ℕ, ◌+◌, ◌≤◌, List, [], ◌∷◌, ◌++◌, length, map, refl, sym, ap, ap₂, subst, ◌∙◌, arith}
+use Rattle.std.proofs.Common.{◌≡◌, ℕ, ◌+◌, List, [], ◌∷◌, ◌++◌, length, map, refl, sym, ap, ap₂, subst, ◌∙◌, arith}
 use Rattle.std.proofs.lemmas.List.{append-nil, append_assoc, length-append, length-map}
 use Rattle.bgp_attr.specs.declared.path.Segment.{Segment}
 use Rattle.ristulva_c.specs.declared.number_rows.NumberRow.{NumberRow}
-use Rattle.ristulva_c.specs.NumberRows.{number_row, segment_rows}
-use Rattle.ristulva_c.specs.steps.Batch.{Adds}
-use Rattle.ristulva_c.specs.steps.NumberRows.{numbers_in}
+use Rattle.ristulva_c.specs.Prelude.{number_row, segment_rows, Adds, numbers_in}
 use Rattle.ristulva_c.proofs.Rows.{adds_none, adds_join}
 
 pub rows_count : (message segment : ℕ) (ss : List Segment) → length (segment_rows message segment ss) ≡ numbers_in ss
@@ -27,32 +25,16 @@ path_begins message all from list = record { done = []; whole = refl; place = om
 
 pub path_more : (message : ℕ) (all left later : List Segment) (segment from to next : ℕ) (before list after : List NumberRow) (s : Segment)
     → IsPathWriting message all left segment from to before list → left ≡ s ∷ later → Adds (map (number_row message segment s.kind) s.numbers) to next list after
-    → next ≡ to + length s.numbers → IsPathWriting message all later (segment + 1) from next before after
+    → next ≡ to + length (map (number_row message segment s.kind) s.numbers) → IsPathWriting message all later (segment + 1) from next before after
 path_more message all left later segment from to next before list after s w is adds counted =
     let rows = map (number_row message segment s.kind) s.numbers in
     record {
       done = w.done ++ rows;
       whole = w.whole ∙ ap (λ (ss : List Segment). w.done ++ segment_rows message segment ss) is ∙ sym (append_assoc w.done rows (segment_rows message (segment + 1) later));
       place = omega (arith, w.place, ap length is);
-      counted = omega (arith, w.counted, counted, length-append w.done rows, length-map s.numbers (number_row message segment s.kind));
+      counted = omega (arith, w.counted, counted, length-append w.done rows);
       adds = adds_join w.done rows from to next before list after w.adds adds;
     }
-
--- the segment's numbers have room
-pub path_room : (message : ℕ) (all left later : List Segment) (segment from to n : ℕ) (before list : List NumberRow) (s : Segment)
-    → IsPathWriting message all left segment from to before list → left ≡ s ∷ later → from + length (segment_rows message 0 all) ≤ n → to + length s.numbers ≤ n
-path_room message all left later segment from to n before list s w is room =
-    let rows = map (number_row message segment s.kind) s.numbers in
-    omega (
-      arith,
-      room,
-      w.counted,
-      ap length w.whole,
-      length-append w.done (segment_rows message segment left),
-      ap (λ (ss : List Segment). length (segment_rows message segment ss)) is,
-      length-append rows (segment_rows message (segment + 1) later),
-      length-map s.numbers (number_row message segment s.kind),
-    )
 
 pub path_done : (message : ℕ) (all left : List Segment) (segment from to : ℕ) (before list : List NumberRow) → IsPathWriting message all left segment from to before list → left ≡ []
     → Adds (segment_rows message 0 all) from to before list

@@ -1,10 +1,9 @@
 -- From a number to those behind it.
 use Rattle.std.proofs.Common.{◌≡◌, ℕ, ◌+◌, ◌-◌, ◌≤◌, Bool, List, ◌∷◌, length, Some, ap, ◌∙◌, arith}
-use Rattle.bgp_attr.specs.Numbers.{IsNumber, one_number, numbers_of}
+use Rattle.bgp_attr.specs.Prelude.{IsNumber, one_number, numbers_of}
 use Rattle.bgp_attr.proofs.Readers.{IsNumber-reads}
 use Rattle.ristulva_c.specs.declared.numbers.Numbers.{Numbers}
-use Rattle.ristulva_c.specs.Prefixes.{between}
-use Rattle.ristulva_c.specs.Numbers.{IsNumbers}
+use Rattle.ristulva_c.specs.Prelude.{between, IsNumbers}
 use Rattle.ristulva_c.proofs.Between.{rest_fits, pieces_behind}
 
 module _ (wide : Bool) (b field : List ℕ) (old : Numbers) (n : ℕ) (rest : List ℕ) (lies : IsNumbers b old) (is : field ≡ between b old.at old.end) (e : Some (n, rest) ≡ one_number wide field) where

@@ -2,24 +2,21 @@
 use Rattle.std.proofs.Common.{◌≡◌, ℕ, ◌+◌, ◌-◌, ◌≤◌, List, ◌++◌, length, take, drop, Option, None, Some, Result, Ok, Err, refl, sym, ap, ◌∙◌, arith}
 use Rattle.std.proofs.lemmas.List.{drop-take, drop-drop, drop_at, length-take}
 use Rattle.bgp_frame.specs.declared.kind.Kind.{Kind}
+use Rattle.bgp_frame.specs.Prelude.{least_length, Message, IsFrame, header}
 use Rattle.bgp_frame.specs.declared.kind.Kind.TheVariants as kind
-use Rattle.bgp_frame.specs.Kind.{least_length}
 use Rattle.bgp_frame.specs.declared.notification.Notification.{Notification}
-use Rattle.bgp_frame.specs.Frame.{Message, IsFrame}
-use Rattle.bgp_frame.specs.Head.{header}
 use Rattle.bgp_frame.proofs.Headers.{length-header}
 use Rattle.bgp_open.specs.declared.context.Context.{Context}
 use Rattle.bgp_open.specs.declared.fault.OpenFault.{OpenFault}
 use Rattle.bgp_open.specs.declared.message.Open.{Open}
-use Rattle.bgp_open.specs.CapabilityIter.{capabilities_of}
-use Rattle.bgp_open.specs.OpenFault.{open_fault, open_notification, open_of, or_fault, reading_of}
+use Rattle.bgp_open.specs.Prelude.{capabilities_of, open_fault, open_notification, open_of, or_fault, reading_of}
 use Rattle.bgp_open.proofs.CapabilityIters.{none_begun}
 use Rattle.bgp_update.specs.declared.verdict.Verdict.{Verdict}
+use Rattle.bgp_update.specs.Prelude.{verdict_of}
 use Rattle.bgp_update.specs.declared.verdict.Verdict.TheVariants as verdict
-use Rattle.bgp_update.specs.Verdict.{verdict_of}
-use Rattle.bgp_msg.specs.Outcome.{of_open_fault, of_reading, of_verdict, of_body}
-use Rattle.ristulva_c.specs.Opens.{accepted, accepted_in, read_in, Gives, cursor_of}
-use Rattle.ristulva_c.specs.Prefixes.{between}
+use Rattle.bgp_msg.specs.Prelude.{of_open_fault, of_reading, of_verdict, of_body}
+use Rattle.ristulva_c.specs.Prelude.{accepted, accepted_in, read_in, Gives, between}
+use Rattle.ristulva_c.specs.Opens.{cursor_of}
 
 -- the outcome of a message, in any context
 verdict_none : (v : Verdict) → accepted (of_verdict v) ≡ None

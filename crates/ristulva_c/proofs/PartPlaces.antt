@@ -2,14 +2,13 @@
 use Rattle.std.proofs.Common.{◌≡◌, ℕ, ◌+◌, List, ◌++◌, length, take, drop, Some, append_assoc, refl, sym, ap, subst, ◌∙◌, arith}
 use Rattle.std.specs.Int.{w16, to_be_bytes}
 use Rattle.std.proofs.lemmas.List.{drop-drop, drop_at, take_at, take-append-drop}
-use Rattle.bgp_wire.specs.Octets.{AreOctets}
+use Rattle.bgp_wire.specs.Prelude.{AreOctets}
 use Rattle.bgp_wire.proofs.OctetLemmas.{AreOctets-take, AreOctets-back}
-use Rattle.bgp_frame.specs.Frame.{Message, IsFrame}
-use Rattle.bgp_frame.specs.Head.{header}
+use Rattle.bgp_frame.specs.Prelude.{Message, IsFrame, header}
 use Rattle.bgp_frame.proofs.Headers.{length-header}
-use Rattle.bgp_update.specs.Parts.{Parts, IsBody, parts_of}
+use Rattle.bgp_update.specs.Prelude.{Parts, IsBody, parts_of}
 use Rattle.bgp_update.proofs.Bodies.{parts-body}
-use Rattle.ristulva_c.specs.Parts.{parts_told, Lie}
+use Rattle.ristulva_c.specs.Prelude.{parts_told, Lie}
 
 -- what stands behind a piece
 behind : (b pre post : List ℕ) (n m : ℕ) → drop n b ≡ pre ++ post → m ≡ n + length pre → drop m b ≡ post

@@ -1,7 +1,7 @@
 -- The types but for some.
 use Rattle.std.proofs.Common.{◌≡◌, ℕ, ◌+◌, Bool, true, false, ◌&&◌, ◌||◌, ◌==◌, nat_lt, refl, sym, ap, ◌∙◌, inl, inr, arith}
 use Rattle.std.proofs.lemmas.Bool.{lt-ltb, le-ltb, eqb-true, eqb-false, cases_lt, false≢true}
-use Rattle.bgp_wire.specs.OctetSet.{also}
+use Rattle.bgp_wire.specs.Prelude.{also}
 
 module _ (good : ℕ → Bool) where
   abbrev below : ℕ → ℕ → Bool

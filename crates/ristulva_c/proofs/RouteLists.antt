@@ -6,64 +6,44 @@ use Rattle.std.proofs.lemmas.List.Elements.{filter-append}
 use Rattle.bgp_numbers.specs.declared.afi.TheConstants.{IPV4, IPV6}
 use Rattle.bgp_numbers.specs.declared.safi.TheConstants.{UNICAST}
 use Rattle.bgp_numbers.specs.declared.attribute.TheConstants.{MP_REACH_NLRI, MP_UNREACH_NLRI}
-use Rattle.bgp_wire.specs.Octets.{AreOctets}
+use Rattle.bgp_wire.specs.Prelude.{◌>>=◌, AreOctets}
 use Rattle.bgp_wire.proofs.OctetLemmas.{AreOctets-take, AreOctets-back}
-use Rattle.bgp_frame.specs.Head.{header}
-use Rattle.bgp_frame.proofs.Headers.{length-header}
-use Rattle.bgp_update.proofs.Bodies.{length-body, parts-body}
-use Rattle.bgp_frame.specs.Frame.{Message, IsFrame}
+use Rattle.bgp_frame.specs.Prelude.{header, Message, IsFrame}
 use Rattle.bgp_frame.specs.declared.fault.HeadFault.{HeadFault}
 use Rattle.bgp_frame.specs.declared.kind.Kind.{Kind}
-use Rattle.bgp_frame.specs.declared.kind.Kind.TheVariants as kind
-use Rattle.bgp_frame.specs.declared.notification.Notification.{Notification}
+use Rattle.bgp_frame.proofs.Headers.{length-header}
+use Rattle.bgp_update.proofs.Bodies.{length-body, parts-body}
 use Rattle.bgp_open.specs.declared.context.Context.{Context}
-use Rattle.bgp_open.specs.declared.fault.OpenFault.{OpenFault}
-use Rattle.bgp_open.specs.declared.message.Open.{Open}
-use Rattle.bgp_open.specs.OpenFault.{open_notification, reading_of}
-use Rattle.std.specs.Prelude.{Result, Ok, Err, is_some}
-use Rattle.bgp_prefix.specs.Prefix.{PrefixValue}
-use Rattle.bgp_prefix.specs.Run.{run_of}
+use Rattle.std.specs.Prelude.{is_some}
+use Rattle.bgp_prefix.specs.Prelude.{PrefixValue, run_of}
 use Rattle.bgp_prefix.proofs.LawLemmas.{row_is_run}
 use Rattle.bgp_attr.specs.declared.attr.Attr.{Attr}
-use Rattle.bgp_attr.specs.declared.attr.Attr.TheVariants as attr
 use Rattle.bgp_attr.specs.declared.judged.Judged.{Judged}
-use Rattle.bgp_attr.specs.declared.judged.Judged.TheVariants as judged
 use Rattle.bgp_attr.specs.declared.mp.MpReach.{MpReach}
-use Rattle.bgp_attr.specs.declared.mp.MpReach.TheVariants as reach
 use Rattle.bgp_attr.specs.declared.mp.MpUnreach.{MpUnreach}
+use Rattle.bgp_attr.specs.Prelude.{judgement, afi_of, safi_of, next_hop_length, reached_of, withdrawn_of, mp_reach_of, mp_unreach_of, PlacedTlv}
+use Rattle.bgp_attr.specs.declared.attr.Attr.TheVariants as attr
+use Rattle.bgp_attr.specs.declared.judged.Judged.TheVariants as judged
+use Rattle.bgp_attr.specs.declared.mp.MpReach.TheVariants as reach
 use Rattle.bgp_attr.specs.declared.mp.MpUnreach.TheVariants as unreach
-use Rattle.bgp_attr.specs.Judgement.{judgement}
-use Rattle.bgp_attr.specs.Mp.{afi_of, safi_of, next_hop_length, reached_of, withdrawn_of, mp_reach_of, mp_unreach_of}
-use Rattle.bgp_attr.specs.Tlv.{PlacedTlv}
-use Rattle.bgp_update.specs.Marks.{Mark, malformed, marks_of, placed_tlvs}
-use Rattle.bgp_update.specs.Notes.{gone_ip4, gone_ip6, reached_ip4, reached_ip6, is_reachable, notes_of}
+use Rattle.bgp_update.specs.Prelude.{Mark, marks_of, placed_tlvs, gone_ip4, gone_ip6, reached_ip4, reached_ip6, notes_of, Parts, parts_of, kept_by, kept_of, attrs_from, attrs_of, first_known, update_of, as_mp_reach, as_mp_unreach}
 use Rattle.bgp_update.specs.Notes as notes
-use Rattle.bgp_update.specs.Parts.{Parts, has_nlri, parts_of}
-use Rattle.bgp_update.specs.Taken.{kept_by, kept_of, attrs_of, update_of, as_mp_reach, as_mp_unreach}
-use Rattle.bgp_update.specs.Verdict.{is_withdrawn, of_parts, reset_of, unless_reset, without_reset}
-use Rattle.bgp_update.specs.declared.verdict.Verdict.TheVariants as verdict
-use Rattle.bgp_update.proofs.AttrSlots.{attrs_of-slots}
+use Rattle.bgp_update.specs.Parts.{has_nlri}
+use Rattle.bgp_attr.proofs.EachType.{kept-type}
 use Rattle.bgp_update.proofs.Lists.{find-passes}
-use Rattle.bgp_update.proofs.TypeLemmas.{first_in, taken-mp_reach, taken-mp_unreach}
 use Rattle.std.proofs.lemmas.Bool.{eqb-true}
 use Rattle.bgp_msg.specs.declared.message.Message.TheVariants as message
 use Rattle.bgp_msg.specs.declared.outcome.Outcome.{Outcome}
+use Rattle.bgp_msg.specs.Prelude.{of_fault, out_of}
 use Rattle.bgp_msg.specs.declared.outcome.Outcome.TheVariants as outcome
-use Rattle.bgp_msg.specs.Outcome.{of_fault, of_open_fault, of_reading, of_verdict, out_of}
 use Rattle.ristulva_c.specs.declared.prefixes.Prefixes.{Prefixes}
-use Rattle.ristulva_c.specs.declared.route_list.RouteCursor.{RouteCursor}
 use Rattle.ristulva_c.specs.declared.span.Span.{Span}
-use Rattle.ristulva_c.specs.Facts.{attrs_in}
-use Rattle.ristulva_c.specs.Opens.{flag_of}
-use Rattle.ristulva_c.specs.Context.{is_set}
-use Rattle.ristulva_c.specs.Parts.{parts_told, Lie}
-use Rattle.ristulva_c.specs.Places.{first_of_type}
-use Rattle.ristulva_c.specs.Prefixes.{width_of, IsCursor, prefixes_left}
-use Rattle.ristulva_c.specs.RouteList.{RouteValue, routes_to, reached_routes, unreached_routes, routes_of, is_of, AreWithdrawn, AreRoutes, loses_ip6, has_ip6, carries_ip6, field_routes, routes_left, IsRouteCursor, Begins}
-use Rattle.ristulva_c.specs.Span.{octets_in}
-use Rattle.ristulva_c.specs.steps.RouteList.{no_prefixes, no_routes, reach_afi, unreach_afi, value_from, reach_by, unreach_by, reach_at, unreach_at, cursor_of, cursor_by}
+use Rattle.ristulva_c.specs.Prelude.{attrs_in, flag_of, is_set, parts_told, Lie, first_of_type, width_of, IsCursor, prefixes_left, RouteValue, routes_to, reached_routes, unreached_routes, routes_of, is_of, AreWithdrawn, AreRoutes, loses_ip6, has_ip6, carries_ip6, field_routes, routes_left, IsRouteCursor, Begins, octets_in, no_prefixes, no_routes, reach_afi, unreach_afi, value_from, prefixes_by, prefixes_at, cursor_by}
+use Rattle.ristulva_c.specs.declared.route_list.RouteCursor.{RouteCursor}
+use Rattle.ristulva_c.specs.steps.RouteList.{cursor_of}
 use Rattle.ristulva_c.proofs.FirstPlaces.{LiesAt, found_lies, in_part}
 use Rattle.ristulva_c.proofs.KeptPlaces.{slot_first, row_value, taken_of}
+use Rattle.ristulva_c.proofs.Outcomes.{by_kind}
 use Rattle.ristulva_c.proofs.PartPlaces.{lie}
 use Rattle.ristulva_c.proofs.RouteSpans.{behind_in}
 
@@ -103,7 +83,7 @@ of_kind k b = find (λ q. eqb q.tlv.kind k) (placed_tlvs b)
 
 pub cursor_is : (ctx : Context) (a : Bool) (p : Parts) (w n : ℕ) (b : List ℕ) (un re : Option PlacedTlv) (gone come : Prefixes) (l : Bool) (an lo : ℕ)
     → w ≡ length p.withdrawn → n ≡ length p.nlri → b ≡ p.attributes → un ≡ of_kind MP_UNREACH_NLRI b → re ≡ of_kind MP_REACH_NLRI b
-    → gone ≡ unreach_at ctx (nat_lt 0 n) (23 + w) un → come ≡ reach_at ctx (nat_lt 0 n) (23 + w) re → l ≡ (not ctx.ip6 && (has_ip6 re || has_ip6 un)) → an ≡ flag_of a → lo ≡ flag_of l
+    → gone ≡ prefixes_at ctx (nat_lt 0 n) (23 + w) un → come ≡ prefixes_at ctx (nat_lt 0 n) (23 + w) re → l ≡ (not ctx.ip6 && (has_ip6 re || has_ip6 un)) → an ≡ flag_of a → lo ≡ flag_of l
     → ◌≡◌ {A = RouteCursor} (record {
       withdrawn = record { at = 21; end = 21 + w; afi = IPV4 };
       unreached = gone;
@@ -115,10 +95,10 @@ pub cursor_is : (ctx : Context) (a : Bool) (p : Parts) (w n : ℕ) (b : List ℕ
 cursor_is ctx a p w n b un re gone come l an lo is_w is_n is_b is_un is_re is_gone is_come is_l is_an is_lo =
     let first_un : un ≡ of_kind MP_UNREACH_NLRI p.attributes = is_un ∙ ap (of_kind MP_UNREACH_NLRI) is_b in
     let first_re : re ≡ of_kind MP_REACH_NLRI p.attributes = is_re ∙ ap (of_kind MP_REACH_NLRI) is_b in
-    let all_gone : gone ≡ unreach_at ctx (has_nlri p) (23 + length p.withdrawn) (of_kind MP_UNREACH_NLRI p.attributes) =
-    is_gone ∙ (λ i. unreach_at ctx (nat_lt 0 (is_n i)) (23 + is_w i) (first_un i)) in
-    let all_come : come ≡ reach_at ctx (has_nlri p) (23 + length p.withdrawn) (of_kind MP_REACH_NLRI p.attributes) =
-    is_come ∙ (λ i. reach_at ctx (nat_lt 0 (is_n i)) (23 + is_w i) (first_re i)) in
+    let all_gone : gone ≡ prefixes_at ctx (has_nlri p) (23 + length p.withdrawn) (of_kind MP_UNREACH_NLRI p.attributes) =
+    is_gone ∙ (λ i. prefixes_at ctx (nat_lt 0 (is_n i)) (23 + is_w i) (first_un i)) in
+    let all_come : come ≡ prefixes_at ctx (has_nlri p) (23 + length p.withdrawn) (of_kind MP_REACH_NLRI p.attributes) =
+    is_come ∙ (λ i. prefixes_at ctx (nat_lt 0 (is_n i)) (23 + is_w i) (first_re i)) in
     let all_lost : lo ≡ flag_of (not ctx.ip6 && carries_ip6 (Some p)) = is_lo ∙ ap flag_of (is_l ∙ (λ i. not ctx.ip6 && (has_ip6 (first_re i) || has_ip6 (first_un i)))) in
     λ i. record {
       withdrawn = record { at = 21; end = 21 + is_w i; afi = IPV4 };
@@ -137,6 +117,41 @@ begins_fault octets fault = plain octets (of_fault fault) (nothing_left octets f
 
 run_left : (octets : List ℕ) (at n : ℕ) → prefixes_left octets (record { at = at; end = at + n; afi = IPV4 }) ≡ (run_of 4 (octets_in (record { at = at; len = n }) octets)).0
 run_left octets at n = ap (λ (k : ℕ). (run_of 4 (take k (drop at octets))).0) (let e : (at + n) - at ≡ n = omega arith in e)
+
+-- ---- MP_REACH_NLRI and MP_UNREACH_NLRI
+
+reach_known : (r : MpReach) → (reach_afi r ≡ IPV4) ⊎ (reach_afi r ≡ IPV6)
+reach_known (reach.Ip4 hop routes) = inl refl
+reach_known (reach.Ip6 hop link routes) = inr refl
+
+unreach_known : (r : MpUnreach) → (unreach_afi r ≡ IPV4) ⊎ (unreach_afi r ≡ IPV6)
+unreach_known (unreach.Ip4 routes) = inl refl
+unreach_known (unreach.Ip6 routes) = inr refl
+
+module _ (v : List ℕ) where
+  abbrev pub ReachRuns : Bool → Type 0
+  ReachRuns a = routes_to a (reach_afi (mp_reach_of v)) (run_of (width_of (reach_afi (mp_reach_of v))) (reached_of v)).0 ≡ reached_routes a (Some (mp_reach_of v))
+
+  reach_by_tests : (a s f x : Bool) → eqb (safi_of v) UNICAST ≡ s → eqb (afi_of v) IPV4 ≡ f → eqb (afi_of v) IPV6 ≡ x → ReachRuns a
+  reach_by_tests a false f x es ef ex = rw es refl
+  reach_by_tests a true true x es ef ex = rw (es, ef) refl
+  reach_by_tests a true false true es ef ex = rw (es, ef, ex) refl
+  reach_by_tests a true false false es ef ex = rw (es, ef, ex) refl
+
+  pub reach_run : (a : Bool) → ReachRuns a
+  reach_run a = reach_by_tests a (eqb (safi_of v) UNICAST) (eqb (afi_of v) IPV4) (eqb (afi_of v) IPV6) refl refl refl
+
+  abbrev pub UnreachRuns : Type 0
+  UnreachRuns = routes_to false (unreach_afi (mp_unreach_of v)) (run_of (width_of (unreach_afi (mp_unreach_of v))) (withdrawn_of v)).0 ≡ unreached_routes (Some (mp_unreach_of v))
+
+  unreach_by_tests : (s f x : Bool) → eqb (safi_of v) UNICAST ≡ s → eqb (afi_of v) IPV4 ≡ f → eqb (afi_of v) IPV6 ≡ x → UnreachRuns
+  unreach_by_tests false f x es ef ex = rw es refl
+  unreach_by_tests true true x es ef ex = rw (es, ef) refl
+  unreach_by_tests true false true es ef ex = rw (es, ef, ex) refl
+  unreach_by_tests true false false es ef ex = rw (es, ef, ex) refl
+
+  pub unreach_run : UnreachRuns
+  unreach_run = unreach_by_tests (eqb (safi_of v) UNICAST) (eqb (afi_of v) IPV4) (eqb (afi_of v) IPV6) refl refl refl
 
 module _ (octets : List ℕ) (p : Parts) (lies : Lie octets p (parts_told (Some p))) (room : 23 + length p.withdrawn + length p.attributes + length p.nlri ≤ length octets) where
   abbrev field : ℕ
@@ -168,117 +183,62 @@ module _ (octets : List ℕ) (p : Parts) (lies : Lie octets p (parts_told (Some 
       known = known;
     }
 
-  -- ---- MP_REACH_NLRI and MP_UNREACH_NLRI
-
-  reach_known : (r : MpReach) → (reach_afi r ≡ IPV4) ⊎ (reach_afi r ≡ IPV6)
-  reach_known (reach.Ip4 hop routes) = inl refl
-  reach_known (reach.Ip6 hop link routes) = inr refl
-
-  unreach_known : (r : MpUnreach) → (unreach_afi r ≡ IPV4) ⊎ (unreach_afi r ≡ IPV6)
-  unreach_known (unreach.Ip4 routes) = inl refl
-  unreach_known (unreach.Ip6 routes) = inr refl
-
-  module _ (v : List ℕ) where
-    abbrev ReachRuns : Bool → Type 0
-    ReachRuns a = routes_to a (reach_afi (mp_reach_of v)) (run_of (width_of (reach_afi (mp_reach_of v))) (reached_of v)).0 ≡ reached_routes a (Some (mp_reach_of v))
-
-    reach_by_tests : (a s f x : Bool) → eqb (safi_of v) UNICAST ≡ s → eqb (afi_of v) IPV4 ≡ f → eqb (afi_of v) IPV6 ≡ x → ReachRuns a
-    reach_by_tests a false f x es ef ex = rw es refl
-    reach_by_tests a true true x es ef ex = rw (es, ef) refl
-    reach_by_tests a true false true es ef ex = rw (es, ef, ex) refl
-    reach_by_tests a true false false es ef ex = rw (es, ef, ex) refl
-
-    reach_run : (a : Bool) → ReachRuns a
-    reach_run a = reach_by_tests a (eqb (safi_of v) UNICAST) (eqb (afi_of v) IPV4) (eqb (afi_of v) IPV6) refl refl refl
-
-    abbrev UnreachRuns : Type 0
-    UnreachRuns = routes_to false (unreach_afi (mp_unreach_of v)) (run_of (width_of (unreach_afi (mp_unreach_of v))) (withdrawn_of v)).0 ≡ unreached_routes (Some (mp_unreach_of v))
-
-    unreach_by_tests : (s f x : Bool) → eqb (safi_of v) UNICAST ≡ s → eqb (afi_of v) IPV4 ≡ f → eqb (afi_of v) IPV6 ≡ x → UnreachRuns
-    unreach_by_tests false f x es ef ex = rw es refl
-    unreach_by_tests true true x es ef ex = rw (es, ef) refl
-    unreach_by_tests true false true es ef ex = rw (es, ef, ex) refl
-    unreach_by_tests true false false es ef ex = rw (es, ef, ex) refl
-
-    unreach_run : UnreachRuns
-    unreach_run = unreach_by_tests (eqb (safi_of v) UNICAST) (eqb (afi_of v) IPV4) (eqb (afi_of v) IPV6) refl refl refl
-
   module _ (ctx : Context) where
     abbrev nlri : Bool
     nlri = has_nlri p
 
-    abbrev as_reach : MpReach → Attr
-    as_reach r = attr.MpReach r
+    -- the cursor at an attribute's prefixes gives these routes
+    record Gives (a : Bool) (routes : List RouteValue) (c : Prefixes) : Type 0 where
+      gives : field_routes a octets c ≡ routes
+      cursor : IsCursor octets c
 
-    abbrev as_unreach : MpUnreach → Attr
-    as_unreach r = attr.MpUnreach r
+    nothing : (a : Bool) (routes : List RouteValue) → routes ≡ [] → Gives a routes no_prefixes
+    nothing a routes none = record { gives = none_routes a octets ∙ sym none; cursor = none_lies octets }
 
-    -- the prefixes that an attribute gives, and what the slot takes of it
-    record Reaches (q : PlacedTlv) (j : Judged) : Type 0 where
-      routes : (a : Bool) → field_routes a octets (reach_by field q j) ≡ reached_routes a (first_in as_mp_reach (kept_by j))
-      cursor : IsCursor octets (reach_by field q j)
-
-    record Unreaches (q : PlacedTlv) (j : Judged) : Type 0 where
-      routes : field_routes false octets (unreach_by field q j) ≡ unreached_routes (first_in as_mp_unreach (kept_by j))
-      cursor : IsCursor octets (unreach_by field q j)
-
-    no_reach : (q : PlacedTlv) (j : Judged) → reach_by field q j ≡ no_prefixes → first_in as_mp_reach (kept_by j) ≡ None → Reaches q j
-    no_reach q j is none = record {
-      routes = λ a. ap (field_routes a octets) is ∙ none_routes a octets ∙ sym (ap (reached_routes a) none);
-      cursor = rw is (none_lies octets);
-    }
-
-    no_unreach : (q : PlacedTlv) (j : Judged) → unreach_by field q j ≡ no_prefixes → first_in as_mp_unreach (kept_by j) ≡ None → Unreaches q j
-    no_unreach q j is none = record {
-      routes = ap (field_routes false octets) is ∙ none_routes false octets ∙ sym (ap unreached_routes none);
-      cursor = rw is (none_lies octets);
-    }
-
-    reach_judged : (q : PlacedTlv) → LiesAt p.attributes q → q.tlv.kind ≡ MP_REACH_NLRI → (j : Judged) → judgement ctx nlri q.tlv ≡ j → Reaches q j
-    reach_judged q at is (judged.Keep (attr.MpReach r)) keeps =
+    -- what the slot takes of it
+    reach_judged : (a : Bool) (q : PlacedTlv) → LiesAt p.attributes q → q.tlv.kind ≡ MP_REACH_NLRI → (j : Judged) → judgement ctx nlri q.tlv ≡ j
+        → Gives a (reached_routes a (first_known (kept_by j) MP_REACH_NLRI >>= as_mp_reach)) (prefixes_by field q j)
+    reach_judged a q at is (judged.Keep (attr.MpReach r)) keeps =
         let v : List ℕ = q.tlv.value in
-        let row : attr.MpReach (mp_reach_of v) ≡ attr.MpReach r = row_value ctx nlri as_mp_reach as_reach MP_REACH_NLRI taken-mp_reach q r is keeps in
+        let row : attr.MpReach (mp_reach_of v) ≡ attr.MpReach r = row_value ctx nlri MP_REACH_NLRI q (attr.MpReach r) is keeps in
         let same : mp_reach_of v ≡ r = cc in
         record {
-          routes = λ a. ap (routes_to a (reach_afi r)) (from_left q at (reach_afi r) (5 + next_hop_length v))
+          gives = ap (routes_to a (reach_afi r)) (from_left q at (reach_afi r) (5 + next_hop_length v))
               ∙ ap (λ (y : MpReach). routes_to a (reach_afi y) (run_of (width_of (reach_afi y)) (reached_of v)).0) (sym same) ∙ reach_run v a ∙ ap (λ (y : MpReach). reached_routes a (Some y)) same;
           cursor = from_lies q at (reach_afi r) (5 + next_hop_length v) (reach_known r);
         }
-    reach_judged q at is j keeps = no_reach q j refl refl
+    reach_judged a q at is (judged.Keep (attr.MpUnreach r)) keeps =
+        absurd (let other : MP_UNREACH_NLRI ≡ MP_REACH_NLRI = kept-type ctx nlri q.tlv (attr.MpUnreach r) keeps ∙ is in omega (arith, other))
+    reach_judged a q at is j keeps = nothing a _ refl
 
-    unreach_judged : (q : PlacedTlv) → LiesAt p.attributes q → q.tlv.kind ≡ MP_UNREACH_NLRI → (j : Judged) → judgement ctx nlri q.tlv ≡ j → Unreaches q j
+    unreach_judged : (q : PlacedTlv) → LiesAt p.attributes q → q.tlv.kind ≡ MP_UNREACH_NLRI → (j : Judged) → judgement ctx nlri q.tlv ≡ j
+        → Gives false (unreached_routes (first_known (kept_by j) MP_UNREACH_NLRI >>= as_mp_unreach)) (prefixes_by field q j)
     unreach_judged q at is (judged.Keep (attr.MpUnreach r)) keeps =
         let v : List ℕ = q.tlv.value in
-        let row : attr.MpUnreach (mp_unreach_of v) ≡ attr.MpUnreach r = row_value ctx nlri as_mp_unreach as_unreach MP_UNREACH_NLRI taken-mp_unreach q r is keeps in
+        let row : attr.MpUnreach (mp_unreach_of v) ≡ attr.MpUnreach r = row_value ctx nlri MP_UNREACH_NLRI q (attr.MpUnreach r) is keeps in
         let same : mp_unreach_of v ≡ r = cc in
         record {
-          routes = ap (routes_to false (unreach_afi r)) (from_left q at (unreach_afi r) 3)
+          gives = ap (routes_to false (unreach_afi r)) (from_left q at (unreach_afi r) 3)
               ∙ ap (λ (y : MpUnreach). routes_to false (unreach_afi y) (run_of (width_of (unreach_afi y)) (withdrawn_of v)).0) (sym same) ∙ unreach_run v ∙ ap (λ (y : MpUnreach). unreached_routes (Some y)) same;
           cursor = from_lies q at (unreach_afi r) 3 (unreach_known r);
         }
-    unreach_judged q at is j keeps = no_unreach q j refl refl
+    unreach_judged q at is (judged.Keep (attr.MpReach r)) keeps =
+        absurd (let other : MP_REACH_NLRI ≡ MP_UNREACH_NLRI = kept-type ctx nlri q.tlv (attr.MpReach r) keeps ∙ is in omega (arith, other))
+    unreach_judged q at is j keeps = nothing false _ refl
 
-    record ReachesAt (o : Option PlacedTlv) : Type 0 where
-      routes : (a : Bool) → field_routes a octets (reach_at ctx nlri field o) ≡ reached_routes a (taken_of ctx nlri as_mp_reach as_reach MP_REACH_NLRI taken-mp_reach o)
-      cursor : IsCursor octets (reach_at ctx nlri field o)
+    module _ {A : Type 0} (as_value : Attr → Option A) (kind : ℕ) (a : Bool) (routes : Option A → List RouteValue) (none : routes None ≡ [])
+        (judged_is : (q : PlacedTlv) → LiesAt p.attributes q → q.tlv.kind ≡ kind → Gives a (routes (first_known (kept_by (judgement ctx nlri q.tlv)) kind >>= as_value)) (prefixes_by field q (judgement ctx nlri q.tlv))) where
+      found : (o : Option PlacedTlv) → first_of_type kind p ≡ o → Gives a (routes (taken_of ctx nlri kind o >>= as_value)) (prefixes_at ctx nlri field o)
+      found None e = nothing a (routes None) none
+      found (Some q) e =
+          let test = λ (t : PlacedTlv). eqb t.tlv.kind kind in
+          judged_is q (found_lies test p.attributes q e) (eqb-true q.tlv.kind kind (find-passes test (placed_tlvs p.attributes) q e))
 
-    record UnreachesAt (o : Option PlacedTlv) : Type 0 where
-      routes : field_routes false octets (unreach_at ctx nlri field o) ≡ unreached_routes (taken_of ctx nlri as_mp_unreach as_unreach MP_UNREACH_NLRI taken-mp_unreach o)
-      cursor : IsCursor octets (unreach_at ctx nlri field o)
+    reach_found : (a : Bool) → Gives a (reached_routes a (taken_of ctx nlri MP_REACH_NLRI (first_of_type MP_REACH_NLRI p) >>= as_mp_reach)) (prefixes_at ctx nlri field (first_of_type MP_REACH_NLRI p))
+    reach_found a = found as_mp_reach MP_REACH_NLRI a (reached_routes a) refl (λ q at is. reach_judged a q at is (judgement ctx nlri q.tlv) refl) (first_of_type MP_REACH_NLRI p) refl
 
-    reach_found : (o : Option PlacedTlv) → first_of_type MP_REACH_NLRI p ≡ o → ReachesAt o
-    reach_found None e = record { routes = λ a. none_routes a octets; cursor = none_lies octets }
-    reach_found (Some q) e =
-        let test = λ (t : PlacedTlv). eqb t.tlv.kind MP_REACH_NLRI in
-        let r = reach_judged q (found_lies test p.attributes q e) (eqb-true q.tlv.kind MP_REACH_NLRI (find-passes test (placed_tlvs p.attributes) q e)) (judgement ctx nlri q.tlv) refl in
-        record { routes = r.routes; cursor = r.cursor }
-
-    unreach_found : (o : Option PlacedTlv) → first_of_type MP_UNREACH_NLRI p ≡ o → UnreachesAt o
-    unreach_found None e = record { routes = none_routes false octets; cursor = none_lies octets }
-    unreach_found (Some q) e =
-        let test = λ (t : PlacedTlv). eqb t.tlv.kind MP_UNREACH_NLRI in
-        let r = unreach_judged q (found_lies test p.attributes q e) (eqb-true q.tlv.kind MP_UNREACH_NLRI (find-passes test (placed_tlvs p.attributes) q e)) (judgement ctx nlri q.tlv) refl in
-        record { routes = r.routes; cursor = r.cursor }
+    unreach_found : Gives false (unreached_routes (taken_of ctx nlri MP_UNREACH_NLRI (first_of_type MP_UNREACH_NLRI p) >>= as_mp_unreach)) (prefixes_at ctx nlri field (first_of_type MP_UNREACH_NLRI p))
+    unreach_found = found as_mp_unreach MP_UNREACH_NLRI false unreached_routes refl (λ q at is. unreach_judged q at is (judgement ctx nlri q.tlv) refl) (first_of_type MP_UNREACH_NLRI p) refl
 
     -- ---- all four fields
 
@@ -286,13 +246,12 @@ module _ (octets : List ℕ) (p : Parts) (lies : Lie octets p (parts_told (Some 
     kept = kept_of (marks_of ctx p)
 
     all_left : (a l : Bool) → routes_left octets (cursor_of ctx a l p) ≡ routes_of a (update_of p (marks_of ctx p))
+    unfolding attrs_from
     all_left a l =
-        let un = unreach_found (first_of_type MP_UNREACH_NLRI p) refl in
-        let re = reach_found (first_of_type MP_REACH_NLRI p) refl in
         let gone : field_routes false octets (cursor_of ctx a l p).unreached ≡ unreached_routes (attrs_of kept).mp_unreach =
-        un.routes ∙ ap unreached_routes (sym (ap (λ x. x.mp_unreach) (attrs_of-slots kept) ∙ slot_first ctx nlri as_mp_unreach as_unreach MP_UNREACH_NLRI taken-mp_unreach p.attributes)) in
+        unreach_found.gives ∙ ap (λ (o : Option Attr). unreached_routes (o >>= as_mp_unreach)) (sym (slot_first ctx nlri MP_UNREACH_NLRI p.attributes)) in
         let come : field_routes a octets (cursor_of ctx a l p).reached ≡ reached_routes a (attrs_of kept).mp_reach =
-        re.routes a ∙ ap (reached_routes a) (sym (ap (λ x. x.mp_reach) (attrs_of-slots kept) ∙ slot_first ctx nlri as_mp_reach as_reach MP_REACH_NLRI taken-mp_reach p.attributes)) in
+        (reach_found a).gives ∙ ap (λ (o : Option Attr). reached_routes a (o >>= as_mp_reach)) (sym (slot_first ctx nlri MP_REACH_NLRI p.attributes)) in
         let w : field_routes false octets (cursor_of ctx a l p).withdrawn ≡ routes_to false IPV4 (run_of 4 p.withdrawn).0 =
         ap (routes_to false IPV4) (run_left octets 21 (length p.withdrawn) ∙ ap (λ (x : List ℕ). (run_of 4 x).0) lies.withdrawn) in
         let n : field_routes a octets (cursor_of ctx a l p).nlri ≡ routes_to a IPV4 (run_of 4 p.nlri).0 =
@@ -304,8 +263,8 @@ module _ (octets : List ℕ) (p : Parts) (lies : Lie octets p (parts_told (Some 
     all_lie : (a l : Bool) → IsRouteCursor octets (cursor_of ctx a l p)
     all_lie a l = record {
       withdrawn = record { within = record { in_order = omega arith; within = omega (arith, room) }; known = inl refl };
-      unreached = (unreach_found (first_of_type MP_UNREACH_NLRI p) refl).cursor;
-      reached = (reach_found (first_of_type MP_REACH_NLRI p) refl).cursor;
+      unreached = unreach_found.cursor;
+      reached = (reach_found a).cursor;
       nlri = record { within = record { in_order = omega arith; within = omega (arith, room) }; known = inl refl };
     }
 
@@ -416,36 +375,17 @@ module _ (ctx : Context) (octets : List ℕ) where
           loses_ip6 = refl;
         }
 
-    by_tests : (is_withdrawn is_reachable : Bool) → BeginsFor (Some p) (of_verdict (cond is_withdrawn
-        (cond is_reachable (verdict.Withdraw (notes.routes_of p (marks_of ctx p)) (notes_of p (marks_of ctx p))) (verdict.Reset malformed))
-        (verdict.Take (update_of p (marks_of ctx p)) (notes_of p (marks_of ctx p)))))
-    by_tests true true = withdrawn
-    by_tests true false = plain octets (outcome.Reset malformed) (nothing_left octets false) refl
-    by_tests false reachable = taken
-
-    by_reset : (n : Option Notification) → BeginsFor (Some p) (of_verdict (unless_reset n (without_reset p (marks_of ctx p))))
-    by_reset (Some n) = plain octets (outcome.Reset n) (nothing_left octets false) refl
-    by_reset None = by_tests (is_withdrawn p (marks_of ctx p)) (is_reachable p (marks_of ctx p))
-
-  by_parts : (o : Option Parts) → ((p : Parts) → o ≡ Some p → Lie octets p (parts_told (Some p)) × (23 + length p.withdrawn + length p.attributes + length p.nlri ≤ length octets)) → BeginsFor o (of_verdict (of_parts ctx o))
-  by_parts None there = plain octets (outcome.Reset malformed) (nothing_left octets false) refl
-  by_parts (Some p) there = let h = there p refl in by_reset p h.0 h.1 (reset_of p (marks_of ctx p))
-
-  -- an OPEN has no routes, whatever comes of it
-  by_fault : (parts : Option Parts) (n : Option Notification) → BeginsFor parts (of_open_fault n)
-  by_fault parts (Some n) = plain octets (outcome.Reset n) (nothing_left octets false) refl
-  by_fault parts None = plain octets (of_open_fault None) (nothing_left octets false) refl
-
-  by_reading : (parts : Option Parts) (r : Result Open OpenFault) → BeginsFor parts (of_reading r)
-  by_reading parts (Ok o) = plain octets (of_reading (Ok o)) (nothing_left octets false) refl
-  by_reading parts (Err fault) = by_fault parts (open_notification fault)
-
-  by_kind : (k : Kind) (body : List ℕ) → ((p : Parts) → parts_of body ≡ Some p → Lie octets p (parts_told (Some p)) × (23 + length p.withdrawn + length p.attributes + length p.nlri ≤ length octets))
+  by_body : (k : Kind) (body : List ℕ) → ((p : Parts) → parts_of body ≡ Some p → Lie octets p (parts_told (Some p)) × (23 + length p.withdrawn + length p.attributes + length p.nlri ≤ length octets))
       → BeginsFor (parts_of body) (out_of ctx (record { kind = k; body = body }))
-  by_kind kind.Open body there = by_reading (parts_of body) (reading_of body)
-  by_kind kind.Update body there = by_parts (parts_of body) there
-  by_kind kind.Notification body there = plain octets (out_of ctx (record { kind = kind.Notification; body = body })) (nothing_left octets false) refl
-  by_kind kind.Keepalive body there = plain octets (out_of ctx (record { kind = kind.Keepalive; body = body })) (nothing_left octets false) refl
+  by_body k body there =
+      let no = nothing_left octets false in
+      by_kind ctx body (BeginsFor (parts_of body)) (record {
+        reset = λ n. plain octets (outcome.Reset n) no refl;
+        open_taken = λ o. plain octets (outcome.Took (message.Open o) []) no refl;
+        notification = λ n. plain octets (outcome.Took (message.Notification n) []) no refl;
+        keepalive = plain octets (outcome.Took message.Keepalive []) no refl;
+      })
+      (λ p is. let h = there p is in rw is (taken p h.0 h.1)) (λ p is. let h = there p is in rw is (withdrawn p h.0 h.1)) k
 
 -- the parts of a message have room in its octets
 pub room_in : (octets : List ℕ) (n : ℕ) (m : Message) → AreOctets octets → IsFrame m (take n octets) → (p : Parts) → parts_of m.body ≡ Some p
@@ -462,4 +402,4 @@ room_in octets n m are frame p is =
     )
 
 pub begins : (ctx : Context) (octets : List ℕ) (n : ℕ) (m : Message) → AreOctets octets → IsFrame m (take n octets) → BeginsFor ctx octets (parts_of m.body) (out_of ctx m)
-begins ctx octets n m are frame = by_kind ctx octets m.kind m.body (λ p is. (lie octets n m p are frame is, room_in octets n m are frame p is))
+begins ctx octets n m are frame = by_body ctx octets m.kind m.body (λ p is. (lie octets n m p are frame is, room_in octets n m are frame p is))

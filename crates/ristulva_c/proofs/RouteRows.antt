@@ -3,28 +3,22 @@ use Rattle.std.proofs.Common.{◌≡◌, ℕ, ◌+◌, ◌-◌, ◌≤◌, ◌�
 use Rattle.std.specs.Borrow.{Bor}
 use Rattle.std.proofs.lemmas.List.{length-append, length-map, map-append}
 use Rattle.bgp_numbers.specs.declared.afi.TheConstants.{IPV4, IPV6}
-use Rattle.bgp_prefix.specs.Prefix.{PrefixValue}
+use Rattle.bgp_prefix.specs.Prelude.{PrefixValue}
 use Rattle.bgp_attr.specs.declared.mp.MpReach.{MpReach}
-use Rattle.bgp_attr.specs.declared.mp.MpReach.TheVariants as reach
 use Rattle.bgp_attr.specs.declared.mp.MpUnreach.{MpUnreach}
+use Rattle.bgp_attr.specs.declared.mp.MpReach.TheVariants as reach
 use Rattle.bgp_attr.specs.declared.mp.MpUnreach.TheVariants as unreach
-use Rattle.bgp_wire.specs.Octets.{AreOctets}
-use Rattle.bgp_update.specs.Body.{parts_value}
-use Rattle.bgp_update.specs.Parts.{Parts}
-use Rattle.bgp_update.specs.View.{update_value, view_marks}
+use Rattle.bgp_wire.specs.Prelude.{AreOctets}
+use Rattle.bgp_update.specs.Prelude.{parts_value, Parts, update_value, view_marks}
 use Rattle.bgp_update.specs.declared.update.Update.{Update}
 use Rattle.bgp_update.specs.declared.view.UpdateView.{UpdateView}
 use Rattle.bgp_msg.specs.declared.outcome_view.OutcomeView.{OutcomeView}
+use Rattle.bgp_msg.specs.Prelude.{outcome_value}
 use Rattle.bgp_msg.specs.declared.outcome_view.OutcomeView.TheVariants as view
-use Rattle.bgp_msg.specs.OutcomeView.{outcome_value}
 use Rattle.ristulva_c.specs.declared.facts.Paths.{Paths}
 use Rattle.ristulva_c.specs.declared.judge.TheConstants.{UPDATE, WITHDRAW}
 use Rattle.ristulva_c.specs.declared.route_rows.RouteRow.{RouteRow}
-use Rattle.ristulva_c.specs.RouteList.{routes_to, reached_routes, unreached_routes, routes_of}
-use Rattle.ristulva_c.specs.Facts.{paths_told}
-use Rattle.ristulva_c.specs.RouteRows.{prefix_row, withdrawn_row, announced_row, row_by, route_row, GivesRoutes}
-use Rattle.ristulva_c.specs.steps.Batch.{IsViewed}
-use Rattle.ristulva_c.specs.steps.RouteRows.{no_prefix, with_prefix, prefix_rows, reached_rows, unreached_rows, update_rows, rows_seen}
+use Rattle.ristulva_c.specs.Prelude.{routes_to, reached_routes, unreached_routes, routes_of, paths_told, prefix_row, withdrawn_row, announced_row, row_by, route_row, GivesRoutes, IsViewed, no_prefix, with_prefix, prefix_rows, reached_rows, unreached_rows, update_rows, rows_seen}
 use Rattle.ristulva_c.proofs.FewRoutes.{HasFew, has_few, all_count}
 use Rattle.ristulva_c.proofs.RouteLists.{all_withdrawn}
 
@@ -37,27 +31,23 @@ by_paths message verdict afi (Some paths) p = refl
 by_paths message verdict afi None p = refl
 
 module _ (message verdict : ℕ) (paths : Option Paths) where
-  away_are : (afi : ℕ) (ps : List PrefixValue) → prefix_rows (field_row message verdict None) afi ps ≡ map (route_row message verdict paths) (routes_to false afi ps)
-  away_are afi [] = refl
-  away_are afi (p ∷ ps) = ap (λ (rows : List RouteRow). with_prefix (field_row message verdict None) afi p ∷ rows) (away_are afi ps)
-
-  come_are : (afi : ℕ) (ps : List PrefixValue) → prefix_rows (field_row message verdict paths) afi ps ≡ map (route_row message verdict paths) (routes_to true afi ps)
-  come_are afi [] = refl
-  come_are afi (p ∷ ps) = ap₂ (λ (x : RouteRow) (rows : List RouteRow). x ∷ rows) (by_paths message verdict afi paths p) (come_are afi ps)
-
   -- the row of routes that are announced, or withdrawn too
   abbrev come_row : Bool → RouteRow
   come_row true = field_row message verdict paths
   come_row false = field_row message verdict None
 
+  row_is : (a : Bool) (afi : ℕ) (p : PrefixValue) → with_prefix (come_row a) afi p ≡ route_row message verdict paths (record { announced = a; afi = afi; prefix = p })
+  row_is true afi p = by_paths message verdict afi paths p
+  row_is false afi p = refl
+
   field_are : (a : Bool) (afi : ℕ) (ps : List PrefixValue) → prefix_rows (come_row a) afi ps ≡ map (route_row message verdict paths) (routes_to a afi ps)
-  field_are true afi ps = come_are afi ps
-  field_are false afi ps = away_are afi ps
+  field_are a afi [] = refl
+  field_are a afi (p ∷ ps) = ap₂ (λ (x : RouteRow) (rows : List RouteRow). x ∷ rows) (row_is a afi p) (field_are a afi ps)
 
   unreached_are : (u : Option MpUnreach) → unreached_rows (field_row message verdict None) u ≡ map (route_row message verdict paths) (unreached_routes u)
   unreached_are None = refl
-  unreached_are (Some (unreach.Ip4 routes)) = away_are IPV4 routes
-  unreached_are (Some (unreach.Ip6 routes)) = away_are IPV6 routes
+  unreached_are (Some (unreach.Ip4 routes)) = field_are false IPV4 routes
+  unreached_are (Some (unreach.Ip6 routes)) = field_are false IPV6 routes
 
   reached_are : (a : Bool) (r : Option MpReach) → reached_rows (come_row a) r ≡ map (route_row message verdict paths) (reached_routes a r)
   reached_are a None = refl
@@ -72,7 +62,7 @@ module _ (message verdict : ℕ) (paths : Option Paths) where
       let x = unreached_routes u.attrs.mp_unreach in
       let y = reached_routes a u.attrs.mp_reach in
       let z = routes_to a IPV4 u.nlri in
-      ap₂ ◌++◌ (away_are IPV4 u.withdrawn) (ap₂ ◌++◌ (unreached_are u.attrs.mp_unreach) (ap₂ ◌++◌ (reached_are a u.attrs.mp_reach) (field_are a IPV4 u.nlri)))
+      ap₂ ◌++◌ (field_are false IPV4 u.withdrawn) (ap₂ ◌++◌ (unreached_are u.attrs.mp_unreach) (ap₂ ◌++◌ (reached_are a u.attrs.mp_reach) (field_are a IPV4 u.nlri)))
       ∙ sym (map-append f w (x ++ (y ++ z)) ∙ ap (λ (r : List RouteRow). map f w ++ r) (map-append f x (y ++ z) ∙ ap (λ (r : List RouteRow). map f x ++ r) (map-append f y z)))
 
 -- ---- those of a message

@@ -4,13 +4,11 @@ use Rattle.std.proofs.lemmas.Bool.{eq-eqb, ne_eqb}
 use Rattle.std.proofs.lemmas.List.{length-take}
 use Rattle.bgp_numbers.specs.declared.afi.TheConstants.{IPV4, IPV6}
 use Rattle.bgp_numbers.specs.declared.safi.TheConstants.{UNICAST}
-use Rattle.bgp_prefix.specs.Run.{run_of}
-use Rattle.bgp_attr.specs.Mp.{afi_of, safi_of, next_hop_length, reached_of, withdrawn_of, mp_reach_of, mp_unreach_of}
+use Rattle.bgp_prefix.specs.Prelude.{run_of}
+use Rattle.bgp_attr.specs.Prelude.{afi_of, safi_of, next_hop_length, reached_of, withdrawn_of, mp_reach_of, mp_unreach_of}
 use Rattle.ristulva_c.specs.declared.span.Span.{Span}
 use Rattle.ristulva_c.specs.declared.prefixes.Prefixes.{Prefixes}
-use Rattle.ristulva_c.specs.Span.{octets_in}
-use Rattle.ristulva_c.specs.Prefixes.{width_of, between, prefixes_left}
-use Rattle.ristulva_c.specs.Routes.{reach_prefixes, unreach_prefixes, LiesIn, HasFamily, IsReachValue}
+use Rattle.ristulva_c.specs.Prelude.{octets_in, width_of, between, prefixes_left, reach_prefixes, unreach_prefixes, LiesIn, IsReachValue}
 use Rattle.ristulva_c.proofs.Between.{between_later}
 
 -- six isn't four
@@ -18,25 +16,13 @@ other : (n : ℕ) → n ≡ IPV6 → n ≢ IPV4
 other n is e = omega (arith, is, e)
 
 module _ (v : List ℕ) (unicast : safi_of v ≡ UNICAST) where
-  reach4 : afi_of v ≡ IPV4 → reach_prefixes (mp_reach_of v) ≡ (run_of (width_of (afi_of v)) (reached_of v)).0
-  reach4 is = rw (eq-eqb (safi_of v) UNICAST unicast, eq-eqb (afi_of v) IPV4 is) refl
-
-  reach6 : afi_of v ≡ IPV6 → reach_prefixes (mp_reach_of v) ≡ (run_of (width_of (afi_of v)) (reached_of v)).0
-  reach6 is = rw (eq-eqb (safi_of v) UNICAST unicast, ne_eqb (afi_of v) IPV4 (other (afi_of v) is), eq-eqb (afi_of v) IPV6 is) refl
-
-  unreach4 : afi_of v ≡ IPV4 → unreach_prefixes (mp_unreach_of v) ≡ (run_of (width_of (afi_of v)) (withdrawn_of v)).0
-  unreach4 is = rw (eq-eqb (safi_of v) UNICAST unicast, eq-eqb (afi_of v) IPV4 is) refl
-
-  unreach6 : afi_of v ≡ IPV6 → unreach_prefixes (mp_unreach_of v) ≡ (run_of (width_of (afi_of v)) (withdrawn_of v)).0
-  unreach6 is = rw (eq-eqb (safi_of v) UNICAST unicast, ne_eqb (afi_of v) IPV4 (other (afi_of v) is), eq-eqb (afi_of v) IPV6 is) refl
-
   reach : (afi_of v ≡ IPV4) ⊎ (afi_of v ≡ IPV6) → reach_prefixes (mp_reach_of v) ≡ (run_of (width_of (afi_of v)) (reached_of v)).0
-  reach (inl is) = reach4 is
-  reach (inr is) = reach6 is
+  reach (inl is) = rw (eq-eqb (safi_of v) UNICAST unicast, eq-eqb (afi_of v) IPV4 is) refl
+  reach (inr is) = rw (eq-eqb (safi_of v) UNICAST unicast, ne_eqb (afi_of v) IPV4 (other (afi_of v) is), eq-eqb (afi_of v) IPV6 is) refl
 
   unreach : (afi_of v ≡ IPV4) ⊎ (afi_of v ≡ IPV6) → unreach_prefixes (mp_unreach_of v) ≡ (run_of (width_of (afi_of v)) (withdrawn_of v)).0
-  unreach (inl is) = unreach4 is
-  unreach (inr is) = unreach6 is
+  unreach (inl is) = rw (eq-eqb (safi_of v) UNICAST unicast, eq-eqb (afi_of v) IPV4 is) refl
+  unreach (inr is) = rw (eq-eqb (safi_of v) UNICAST unicast, ne_eqb (afi_of v) IPV4 (other (afi_of v) is), eq-eqb (afi_of v) IPV6 is) refl
 
 -- the octets of a span behind its first n
 pub behind_in : (octets : List ℕ) (span : Span) (n : ℕ) → n ≤ span.len → between octets (span.at + n) (span.at + span.len) ≡ drop n (octets_in span octets)
@@ -61,9 +47,3 @@ module _ (octets v : List ℕ) (span : Span) (c : Prefixes) (lies : LiesIn span 
   reach_left value same =
       left (5 + next_hop_length v) value.long same ∙ sym (reach v value.family.unicast value.family.known)
       ∙ ap (λ (x : List ℕ). reach_prefixes (mp_reach_of x)) is
-
-  pub unreach_left : HasFamily v → c ≡ record { at = span.at + 3; end = span.at + span.len; afi = afi_of v }
-      → prefixes_left octets c ≡ unreach_prefixes (mp_unreach_of (octets_in span octets))
-  unreach_left value same =
-      left 3 value.long same ∙ sym (unreach v value.unicast value.known)
-      ∙ ap (λ (x : List ℕ). unreach_prefixes (mp_unreach_of x)) is

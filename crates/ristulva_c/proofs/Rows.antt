@@ -1,7 +1,7 @@
 -- Rows in a list of the caller's, one behind another.
 use Rattle.std.proofs.Common.{◌≡◌, ℕ, ◌+◌, ◌<◌, ◌≤◌, List, [], ◌∷◌, ◌++◌, length, map, drop, set, refl, sym, ap, subst, ◌∙◌, arith}
-use Rattle.std.proofs.lemmas.List.{append-nil, append_assoc, drop-drop, length-append, length-drop, length_push, map-append, set-append_right}
-use Rattle.ristulva_c.specs.steps.Batch.{Holds, Adds}
+use Rattle.std.proofs.lemmas.List.{append-nil, append_assoc, drop-drop, length-append, length-drop, length_push, set-append_right}
+use Rattle.ristulva_c.specs.Prelude.{Holds, Adds}
 
 set_first : {A : Type 0} (ys : List A) (y : A) → 0 < length ys → set ys 0 y ≡ y ∷ drop 1 ys
 set_first [] y some = absurd (omega arith)
@@ -36,38 +36,43 @@ pub adds_join : {A : Type 0} (xs ys : List A) (a b c : ℕ) (l m n : List A) →
 adds_join xs ys a b c l m n before behind first places h =
     subst (λ (r : List _). Holds r c n places) (append_assoc first xs ys) (behind (first ++ xs) places (before first places h))
 
--- of some items those that are done have their rows, and the others are left
-pub record IsWriting {A B : Type 0} (told : A → B) (all left : List A) (from to : ℕ) (before list : List B) : Type 0 where
+-- of some rows those that are done are written, and the others are left
+pub record IsWriting {A : Type 0} (all left : List A) (from to : ℕ) (before list : List A) : Type 0 where
   pub done : List A
   pub whole : all ≡ done ++ left
   pub counted : to ≡ from + length done
-  pub adds : Adds (map told done) from to before list
+  pub adds : Adds done from to before list
 
-pub writes_none : {A B : Type 0} (told : A → B) (all : List A) (from : ℕ) (list : List B) → IsWriting told all all from from list list
-writes_none told all from list = record { done = []; whole = refl; counted = omega arith; adds = adds_none from list }
-
-pub writes_more : {A B : Type 0} (told : A → B) (all left later : List A) (from to : ℕ) (before list : List B) (x : A) (row : B)
-    → IsWriting told all left from to before list → left ≡ x ∷ later → row ≡ told x → to < length list
-    → IsWriting told all later from (to + 1) before (set list to row)
-writes_more told all left later from to before list x row w is same room = record {
-  done = w.done ++ x ∷ [];
-  whole = w.whole ∙ ap (λ (l : List _). w.done ++ l) is ∙ sym (append_assoc w.done (x ∷ []) later);
-  counted = omega (arith, w.counted, length_push w.done x);
-  adds = λ first places h.
-      let here = w.adds first places h in
-      let next = hold_next (first ++ map told w.done) to list places row here (omega (arith, hold_length (first ++ map told w.done) to list places here, room)) in
-      subst (λ (r : List _). Holds r (to + 1) (set list to row) places)
-      (append_assoc first (map told w.done) (row ∷ []) ∙ ap (λ (r : List _). first ++ r) (ap (λ (y : _). map told w.done ++ y ∷ []) same ∙ sym (map-append told w.done (x ∷ []))))
-      next;
-}
+pub writes_none : {A : Type 0} (all : List A) (from : ℕ) (list : List A) → IsWriting all all from from list list
+writes_none all from list = record { done = []; whole = refl; counted = omega arith; adds = adds_none from list }
 
 -- the next place is there
-pub place_left : {A B : Type 0} (told : A → B) (all left later : List A) (from to : ℕ) (before list : List B) (x : A)
-    → IsWriting told all left from to before list → left ≡ x ∷ later → from + length all ≤ length list → to < length list
-place_left told all left later from to before list x w is room = omega (arith, w.counted, ap length w.whole, length-append w.done left, ap length is, room)
+pub place_left : {A : Type 0} (all left later : List A) (from to : ℕ) (before list : List A) (row : A)
+    → IsWriting all left from to before list → left ≡ row ∷ later → from + length all ≤ length list → to < length list
+place_left all left later from to before list row w is room = omega (arith, w.counted, ap length w.whole, length-append w.done left, ap length is, room)
 
-pub all_written : {A B : Type 0} (told : A → B) (all left : List A) (from to : ℕ) (before list : List B) → IsWriting told all left from to before list → left ≡ []
-    → Adds (map told all) from to before list × (to ≡ from + length all)
-all_written told all left from to before list w none =
+pub writes_more : {A : Type 0} (all left later : List A) (from to : ℕ) (before list : List A) (row : A)
+    → IsWriting all left from to before list → left ≡ row ∷ later → from + length all ≤ length list → IsWriting all later from (to + 1) before (set list to row)
+writes_more all left later from to before list row w is room = record {
+  done = w.done ++ row ∷ [];
+  whole = w.whole ∙ ap (λ (l : List _). w.done ++ l) is ∙ sym (append_assoc w.done (row ∷ []) later);
+  counted = omega (arith, w.counted, length_push w.done row);
+  adds = λ first places h.
+      let here = w.adds first places h in
+      subst (λ (r : List _). Holds r (to + 1) (set list to row) places) (append_assoc first w.done (row ∷ []))
+      (hold_next (first ++ w.done) to list places row here (omega (arith, hold_length (first ++ w.done) to list places here, place_left all left later from to before list row w is room)));
+}
+
+pub all_written : {A : Type 0} (all left : List A) (from to : ℕ) (before list : List A) → IsWriting all left from to before list → left ≡ []
+    → Adds all from to before list × (to ≡ from + length all)
+all_written all left from to before list w none =
     let same : all ≡ w.done = w.whole ∙ ap (λ (l : List _). w.done ++ l) none ∙ append-nil w.done in
-    (subst (λ (l : List _). Adds (map told l) from to before list) (sym same) w.adds, w.counted ∙ ap (λ (l : List _). from + length l) (sym same))
+    (subst (λ (l : List _). Adds l from to before list) (sym same) w.adds, w.counted ∙ ap (λ (l : List _). from + length l) (sym same))
+
+-- ---- rows of items
+
+pub told_first : {A B : Type 0} (told : A → B) (items later : List A) (x : A) → items ≡ x ∷ later → map told items ≡ told x ∷ map told later
+told_first told items later x is = ap (map told) is
+
+pub told_none : {A B : Type 0} (told : A → B) (items : List A) → items ≡ [] → map told items ≡ []
+told_none told items none = ap (map told) none

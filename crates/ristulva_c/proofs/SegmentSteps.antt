@@ -2,12 +2,10 @@
 use Rattle.std.proofs.Common.{◌≡◌, ℕ, ◌+◌, ◌-◌, ◌≤◌, List, [], ◌∷◌, ◌++◌, length, take, drop, Some, sym, ap, ◌∙◌, arith}
 use Rattle.bgp_wire.proofs.Behinds.{pieces-whole}
 use Rattle.bgp_attr.specs.declared.path_form.PathForm.{PathForm}
-use Rattle.bgp_attr.specs.Numbers.{IsNumber, one_number, numbers_of}
-use Rattle.bgp_attr.specs.Path.{WireSegment, IsSegment, one_segment, segments_of}
+use Rattle.bgp_attr.specs.Prelude.{IsNumber, one_number, numbers_of, WireSegment, IsSegment, one_segment, segments_of}
 use Rattle.bgp_attr.proofs.Readers.{IsNumber-reads, IsSegment-reads}
 use Rattle.ristulva_c.specs.declared.segments.Segments.{Segments}
-use Rattle.ristulva_c.specs.Prefixes.{between}
-use Rattle.ristulva_c.specs.Segments.{IsSegments}
+use Rattle.ristulva_c.specs.Prelude.{between, IsSegments}
 use Rattle.ristulva_c.proofs.Between.{fits, value_at, pieces_behind}
 
 module _ (form : PathForm) (b field : List ℕ) (old : Segments) (s : WireSegment) (rest : List ℕ) (lies : IsSegments b old) (is : field ≡ between b old.at old.end)

@@ -1,14 +1,12 @@
 -- From an attribute to those behind it.
 use Rattle.std.proofs.Common.{◌≡◌, ℕ, ◌+◌, ◌-◌, ◌≤◌, List, [], ◌∷◌, ◌++◌, length, take, drop, Option, Some, None, option_map, refl, sym, ap, ap₂, ◌∙◌, arith}
 use Rattle.std.proofs.lemmas.List.{length-append}
-use Rattle.bgp_attr.specs.Tlv.{TlvValue, IsTlv, one_tlv, placed_from}
-use Rattle.bgp_attr.specs.TlvIter.{tlv_at}
+use Rattle.bgp_attr.specs.Prelude.{TlvValue, IsTlv, one_tlv, placed_from, tlv_at}
 use Rattle.bgp_attr.proofs.Readers.{IsTlv-reads}
 use Rattle.bgp_wire.proofs.Walks.{no_more}
 use Rattle.ristulva_c.specs.declared.attributes.Attributes.{Attributes}
 use Rattle.ristulva_c.specs.declared.attributes.Attribute.{Attribute}
-use Rattle.ristulva_c.specs.Prefixes.{between}
-use Rattle.ristulva_c.specs.Attributes.{IsAttributes, attributes_left, attribute_told}
+use Rattle.ristulva_c.specs.Prelude.{between, IsAttributes, attributes_left, attribute_told}
 use Rattle.ristulva_c.proofs.Between.{fits, front_at, value_at, pieces_behind}
 
 -- what is found, with what follows it

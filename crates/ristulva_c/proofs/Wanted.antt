@@ -1,7 +1,6 @@
 -- How many octets are wanted.
 use Rattle.std.proofs.Common.{◌≡◌, ℕ, ◌≤◌, List, length, Ok, Err, refl, sym, ap, ◌∙◌, arith}
-use Rattle.bgp_frame.specs.Head.{length_field, head_of}
-use Rattle.bgp_frame.specs.Frame.{wanted_by, wanted, Waits}
+use Rattle.bgp_frame.specs.Prelude.{length_field, head_of, wanted_by, wanted, Waits}
 use Rattle.bgp_frame.proofs.HeadLemmas.{Says-head_of}
 use Rattle.bgp_frame.proofs.FrameLemmas.{wanted_by_head}
 

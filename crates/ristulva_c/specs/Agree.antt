@@ -1,11 +1,11 @@
 -- What two OPENs agree on.
 use Rattle.std.specs.Prelude.{◌≡◌, ℕ, List, Option, None, Some, Result, Ok, Err}
 use Rattle.bgp_frame.specs.declared.step.Step.{Step}
+use Rattle.bgp_frame.specs.Prelude.{ShowsFront}
 use Rattle.bgp_frame.specs.declared.step.Step.TheVariants as step
-use Rattle.bgp_frame.specs.Step.{ShowsFront}
 use Rattle.bgp_open.specs.declared.context.Context.{Context}
 use Rattle.bgp_open.specs.declared.message.Open.{Open}
-use Rattle.bgp_open.specs.Agreed.{agreed_context}
+use Rattle.bgp_open.specs.Prelude.{agreed_context}
 use Rattle.ristulva_c.specs.declared.context.SessionContext.{SessionContext}
 use Rattle.ristulva_c.specs.declared.status.TheConstants.{INCOMPLETE, OK, REFUSED}
 use Rattle.ristulva_c.specs.Agreed.{context_said}

@@ -1,8 +1,8 @@
 -- What both speakers of a session agreed on, and what the peer said of itself.
 use Rattle.std.specs.Prelude.{◌≡◌, ℕ, Bool, Option, None, Some, is_some, if◌then◌else◌}
 use Rattle.bgp_open.specs.declared.context.Context.{Context}
-use Rattle.bgp_open.specs.Peer.{Said, number_of}
-use Rattle.bgp_machine.specs.Session.{Machine, own_octets}
+use Rattle.bgp_open.specs.Prelude.{Said, number_of}
+use Rattle.bgp_machine.specs.Prelude.{Machine, own_octets}
 use Rattle.ristulva_c.specs.declared.agreed.ToldPeer.{ToldPeer}
 use Rattle.ristulva_c.specs.declared.context.SessionContext.{SessionContext}
 use Rattle.ristulva_c.specs.declared.status.TheConstants.{NO_SESSION, OK, STATE}

@@ -1,6 +1,6 @@
 -- Attributes one after another, by a cursor.
 use Rattle.std.specs.Prelude.{◌+◌, ◌≤◌, ℕ, List, length}
-use Rattle.bgp_attr.specs.Tlv.{PlacedTlv, tlvs_of, placed_from}
+use Rattle.bgp_attr.specs.Prelude.{PlacedTlv, tlvs_of, placed_from}
 use Rattle.ristulva_c.specs.declared.attributes.Attributes.{Attributes}
 use Rattle.ristulva_c.specs.declared.attributes.Attribute.{Attribute}
 use Rattle.ristulva_c.specs.Span.{octets_in}

@@ -2,12 +2,12 @@
 use Rattle.std.specs.Prelude.{◌≡◌, ◌+◌, ◌-◌, ◌<◌, ◌≤◌, ◌==◌, ◌⊎◌, ℕ, true, false, List, [], ◌∷◌, ◌++◌, length, drop, Option, if◌then◌else◌}
 use Rattle.bgp_frame.specs.declared.step.Frame.{Frame}
 use Rattle.bgp_frame.specs.declared.step.Step.{Step}
+use Rattle.bgp_frame.specs.Prelude.{ShowsFront}
 use Rattle.bgp_frame.specs.declared.step.Step.TheVariants as step
-use Rattle.bgp_frame.specs.Step.{ShowsFront}
 use Rattle.bgp_open.specs.declared.context.Context.{Context}
-use Rattle.bgp_update.specs.Parts.{Parts, parts_of}
+use Rattle.bgp_update.specs.Prelude.{Parts, parts_of}
 use Rattle.bgp_msg.specs.declared.outcome.Outcome.{Outcome}
-use Rattle.bgp_msg.specs.Outcome.{is_reset, out_of}
+use Rattle.bgp_msg.specs.Prelude.{is_reset, out_of}
 use Rattle.ristulva_c.specs.declared.status.TheConstants.{INCOMPLETE, OK, REFUSED, ROOM}
 
 -- which rows a message gives: by where it begins, by its parts, and by its outcome

@@ -1,9 +1,8 @@
 -- Capabilities of an OPEN one after another, by a cursor (RFC 5492, section 4).
 use Rattle.std.specs.Prelude.{◌≡◌, ◌+◌, ◌-◌, ◌≤◌, ◌∷◌, ◌++◌, ℕ, List, length, Some}
-use Rattle.bgp_wire.specs.Reader.{pieces}
+use Rattle.bgp_wire.specs.Prelude.{pieces}
 use Rattle.bgp_open.specs.declared.capability.Capability.{Capability}
-use Rattle.bgp_open.specs.Capability.{capability_of, one_capability}
-use Rattle.bgp_open.specs.CapabilityIter.{capabilities_of}
+use Rattle.bgp_open.specs.Prelude.{capability_of, one_capability, capabilities_of}
 use Rattle.ristulva_c.specs.declared.capabilities.Capabilities.{Capabilities}
 use Rattle.ristulva_c.specs.declared.capabilities.OpenCapability.{OpenCapability}
 use Rattle.ristulva_c.specs.Prefixes.{between}

@@ -1,22 +1,19 @@
 -- What is handed on of a message, in numbers.
 use Rattle.std.specs.Prelude.{◌≡◌, ◌-◌, ℕ, Bool, false, List, [], ◌∷◌, length, Result, Ok, Err}
 use Rattle.std.specs.List.{filter}
-use Rattle.bgp_wire.specs.OctetSet.{also, none_of_them}
+use Rattle.bgp_wire.specs.Prelude.{also, none_of_them}
 use Rattle.bgp_frame.specs.declared.step.Step.{Step}
+use Rattle.bgp_frame.specs.Prelude.{ShowsFront, message_in}
 use Rattle.bgp_frame.specs.declared.step.Step.TheVariants as step
-use Rattle.bgp_frame.specs.Step.{ShowsFront, message_in}
 use Rattle.bgp_open.specs.declared.context.Context.{Context}
 use Rattle.bgp_msg.specs.declared.message.Message.{Message}
-use Rattle.bgp_msg.specs.declared.message.Message.TheVariants as message
 use Rattle.bgp_msg.specs.declared.outcome.Outcome.{Outcome}
+use Rattle.bgp_msg.specs.Prelude.{out_of, of_fault, canonical}
+use Rattle.bgp_msg.specs.declared.message.Message.TheVariants as message
 use Rattle.bgp_msg.specs.declared.outcome.Outcome.TheVariants as outcome
-use Rattle.bgp_msg.specs.Outcome.{out_of, of_fault}
-use Rattle.bgp_msg.specs.Written.{canonical}
 use Rattle.bgp_clean.specs.declared.fault.CleanFault.{CleanFault}
+use Rattle.bgp_clean.specs.Prelude.{cleaned, cleaned_outcome, IsClean, understood}
 use Rattle.bgp_clean.specs.declared.fault.CleanFault.TheVariants as fault
-use Rattle.bgp_clean.specs.Clean.{cleaned, cleaned_outcome}
-use Rattle.bgp_clean.specs.Laws.{IsClean}
-use Rattle.bgp_clean.specs.Opens.{understood}
 use Rattle.ristulva_c.specs.declared.cleaning.ToldCleaned.{ToldCleaned}
 use Rattle.ristulva_c.specs.declared.cleaning.TheConstants.{HANDED_ON, ENDS_RESET, ENDS_LATE_OPEN, ENDS_NO_FAMILY}
 use Rattle.ristulva_c.specs.declared.status.TheConstants.{INCOMPLETE}

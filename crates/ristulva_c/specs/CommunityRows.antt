@@ -2,7 +2,7 @@
 use Rattle.std.specs.Prelude.{◌≡◌, ℕ, List, [], map, slice_index, Option, Some, None}
 use Rattle.bgp_attr.specs.declared.communities.Communities.{Communities}
 use Rattle.bgp_attr.specs.declared.communities.LargeCommunities.{LargeCommunities}
-use Rattle.bgp_update.specs.Parts.{Parts}
+use Rattle.bgp_update.specs.Prelude.{Parts}
 use Rattle.bgp_update.specs.declared.attrs.Attrs.{Attrs}
 use Rattle.bgp_msg.specs.declared.outcome.Outcome.{Outcome}
 use Rattle.ristulva_c.specs.declared.community_rows.CommunityRow.{CommunityRow}

@@ -1,5 +1,5 @@
 -- What a speaker is to be set to, as C says it.
-use Rattle.bgp_open.specs.Config.{Settings}
+use Rattle.bgp_open.specs.Prelude.{Settings}
 use Rattle.ristulva_c.specs.declared.config.SpeakerConfig.{SpeakerConfig}
 use Rattle.ristulva_c.specs.Context.{is_set}
 

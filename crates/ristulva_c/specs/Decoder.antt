@@ -2,16 +2,12 @@
 use Rattle.std.specs.Prelude.{◌≡◌, ◌<◌, ◌≤◌, ◌⊎◌, ℕ, true, false, List, ◌++◌, length, take, Option, None, Some, Result}
 use Rattle.bgp_frame.specs.declared.fault.HeadFault.{HeadFault}
 use Rattle.bgp_frame.specs.declared.step.Step.{Step}
+use Rattle.bgp_frame.specs.Prelude.{Message, Waits, ShowsStep, IsContent}
 use Rattle.bgp_frame.specs.declared.step.Step.TheVariants as step
-use Rattle.bgp_frame.specs.Frame.{Message, Waits}
-use Rattle.bgp_frame.specs.Step.{ShowsStep}
 use Rattle.bgp_open.specs.declared.context.Context.{Context}
 use Rattle.bgp_msg.specs.declared.outcome.Outcome.{Outcome}
-use Rattle.bgp_msg.specs.Decoder.{Decoding, Going, given_by, behind, fresh, holding, IsBehind, IsFed}
-use Rattle.bgp_frame.specs.Hearing.{IsContent}
+use Rattle.bgp_msg.specs.Prelude.{Decoding, Going, given_by, behind, fresh, holding, IsBehind, IsFed, IsLook, out_of, of_fault}
 use Rattle.bgp_msg.specs.declared.look.Look.TheVariants as look
-use Rattle.bgp_msg.specs.Look.{IsLook}
-use Rattle.bgp_msg.specs.Outcome.{out_of, of_fault}
 use Rattle.ristulva_c.specs.declared.status.TheConstants.{IN_USE, INCOMPLETE, MEMORY, NO_SESSION, OK, ROOM, STATE}
 use Rattle.ristulva_c.specs.Copied.{copied}
 use Rattle.ristulva_c.specs.Judge as judge

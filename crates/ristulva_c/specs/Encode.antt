@@ -4,12 +4,10 @@ use Rattle.bgp_open.specs.declared.context.Context.{Context}
 use Rattle.bgp_update.specs.declared.note.Note.{Note}
 use Rattle.bgp_update.specs.declared.update.Update.{Update}
 use Rattle.bgp_update.specs.declared.verdict.Verdict.{Verdict}
+use Rattle.bgp_update.specs.Prelude.{narrowed_update, verdict_of, with_as4}
 use Rattle.bgp_update.specs.declared.verdict.Verdict.TheVariants as verdict
-use Rattle.bgp_update.specs.As4.{narrowed_update}
-use Rattle.bgp_update.specs.Verdict.{verdict_of}
-use Rattle.bgp_update.specs.Widths.{with_as4}
 use Rattle.bgp_msg.specs.declared.message.Message.TheVariants as message
-use Rattle.bgp_msg.specs.Written.{canonical, is_valid, is_too_long}
+use Rattle.bgp_msg.specs.Prelude.{canonical, is_valid, is_too_long}
 use Rattle.ristulva_c.specs.declared.encode.Coded.{Coded}
 use Rattle.ristulva_c.specs.declared.encode.Coded.TheVariants as coded
 use Rattle.ristulva_c.specs.declared.status.TheConstants.{MEMORY, RANGE, REFUSED, UNWRITABLE}

@@ -3,32 +3,28 @@ use Rattle.std.specs.Prelude.{◌≡◌, ◌++◌, ℕ, true, List, [], ◌∷�
 use Rattle.bgp_numbers.specs.declared.afi.TheConstants.{IPV4, IPV6}
 use Rattle.bgp_numbers.specs.declared.attribute.TheConstants.{AS_PATH, AS4_PATH, COMMUNITIES, LARGE_COMMUNITY}
 use Rattle.bgp_frame.specs.declared.step.Step.{Step}
+use Rattle.bgp_frame.specs.Prelude.{ShowsFront}
 use Rattle.bgp_frame.specs.declared.step.Step.TheVariants as step
-use Rattle.bgp_frame.specs.Step.{ShowsFront}
 use Rattle.bgp_open.specs.declared.context.Context.{Context}
 use Rattle.bgp_prefix.specs.declared.as_number.AsNumber.{AsNumber}
 use Rattle.bgp_attr.specs.declared.aggregator.Aggregator.{Aggregator}
 use Rattle.bgp_attr.specs.declared.communities.Communities.{Communities}
 use Rattle.bgp_attr.specs.declared.communities.LargeCommunities.{LargeCommunities}
 use Rattle.bgp_attr.specs.declared.mp.MpReach.{MpReach}
-use Rattle.bgp_attr.specs.declared.mp.MpReach.TheVariants as reach
 use Rattle.bgp_attr.specs.declared.origin.Origin.{Origin}
 use Rattle.bgp_attr.specs.declared.path.AsPath.{AsPath}
 use Rattle.bgp_attr.specs.declared.path.As4Path.{As4Path}
 use Rattle.bgp_attr.specs.declared.path.SegKind.{SegKind}
 use Rattle.bgp_attr.specs.declared.path.SegKind.TheVariants.{Set, Seq}
 use Rattle.bgp_attr.specs.declared.path.Segment.{Segment}
-use Rattle.bgp_attr.specs.Numbers.{numbers_of, triples_of, each_once}
-use Rattle.bgp_attr.specs.Path.{path_of}
-use Rattle.bgp_attr.specs.Spelling.{origin_code}
-use Rattle.bgp_attr.specs.Value.{as_path_form, as4_path_form}
+use Rattle.bgp_attr.specs.Prelude.{numbers_of, triples_of, each_once, path_of, origin_code, as_path_form, as4_path_form}
+use Rattle.bgp_attr.specs.declared.mp.MpReach.TheVariants as reach
 use Rattle.bgp_update.specs.declared.attrs.Attrs.{Attrs}
-use Rattle.bgp_update.specs.As4.{rebuilt}
-use Rattle.bgp_update.specs.Parts.{Parts, parts_of}
+use Rattle.bgp_update.specs.Prelude.{rebuilt, Parts, parts_of}
 use Rattle.bgp_msg.specs.declared.message.Message.TheVariants as message
 use Rattle.bgp_msg.specs.declared.outcome.Outcome.{Outcome}
+use Rattle.bgp_msg.specs.Prelude.{out_of}
 use Rattle.bgp_msg.specs.declared.outcome.Outcome.TheVariants as outcome
-use Rattle.bgp_msg.specs.Outcome.{out_of}
 use Rattle.ristulva_c.specs.declared.facts.Facts.{Facts}
 use Rattle.ristulva_c.specs.declared.facts.Hops.{Hops}
 use Rattle.ristulva_c.specs.declared.facts.Paths.{Paths}

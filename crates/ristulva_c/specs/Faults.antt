@@ -1,12 +1,12 @@
 -- The place of the fault of a message, and of what a note on it is about.
 use Rattle.std.specs.Prelude.{◌≡◌, ◌==◌, ◌-◌, ◌||◌, ℕ, List, drop, take, nat_lt, Option, None, Some, if◌then◌else◌}
 use Rattle.bgp_frame.specs.declared.step.Step.{Step}
+use Rattle.bgp_frame.specs.Prelude.{message_in, ShowsFront}
 use Rattle.bgp_frame.specs.declared.step.Step.TheVariants as step
-use Rattle.bgp_frame.specs.Step.{message_in, ShowsFront}
 use Rattle.bgp_open.specs.declared.context.Context.{Context}
 use Rattle.bgp_attr.specs.declared.why.Why.TheVariants as why
 use Rattle.bgp_fields.specs.declared.field.Span as fields
-use Rattle.bgp_fields.specs.Places.{header_place, note_place, reset_place}
+use Rattle.bgp_fields.specs.Prelude.{header_place, note_place, reset_place}
 use Rattle.ristulva_c.specs.declared.notes.ToldNote.{ToldNote}
 use Rattle.ristulva_c.specs.declared.span.Span.{Span}
 use Rattle.ristulva_c.specs.declared.status.TheConstants.{INCOMPLETE, OK}

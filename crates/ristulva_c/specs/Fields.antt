@@ -1,12 +1,12 @@
 -- The fields of a message in numbers.
 use Rattle.std.specs.Prelude.{◌≡◌, ◌≤◌, ℕ, List, length, map, take, nat_le, Option, None, Some, if◌then◌else◌}
 use Rattle.bgp_frame.specs.declared.step.Step.{Step}
+use Rattle.bgp_frame.specs.Prelude.{ShowsFront}
 use Rattle.bgp_frame.specs.declared.step.Step.TheVariants as step
-use Rattle.bgp_frame.specs.Step.{ShowsFront}
 use Rattle.bgp_open.specs.declared.context.Context.{Context}
 use Rattle.bgp_fields.specs.declared.field.Field.{Field}
 use Rattle.bgp_fields.specs.declared.field.Group.{Group}
-use Rattle.bgp_fields.specs.Fields.{fields_of}
+use Rattle.bgp_fields.specs.Prelude.{fields_of}
 use Rattle.ristulva_c.specs.declared.fields.ToldField.{ToldField}
 use Rattle.ristulva_c.specs.declared.status.TheConstants.{INCOMPLETE, OK, ROOM}
 use Rattle.ristulva_c.specs.Copied.{copied}

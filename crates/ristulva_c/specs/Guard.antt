@@ -1,15 +1,13 @@
 -- What the calls on a guard do.
 use Rattle.std.specs.Prelude.{◌≡◌, ◌⊎◌, ℕ, Bool, not, ◌&&◌, ◌==◌, nat_lt, List, length, take, Option, None, Some, if◌then◌else◌}
-use Rattle.bgp_wire.specs.OctetSet.{has_octet}
-use Rattle.bgp_frame.specs.Kind.{code_of}
+use Rattle.bgp_wire.specs.Prelude.{has_octet}
+use Rattle.bgp_frame.specs.Prelude.{code_of}
 use Rattle.bgp_guard.specs.declared.came.Came.{Came}
-use Rattle.bgp_guard.specs.declared.came.Came.TheVariants as came
 use Rattle.bgp_guard.specs.declared.rules.Rules.{Rules}
 use Rattle.bgp_guard.specs.declared.side.Side.{Side}
+use Rattle.bgp_guard.specs.Prelude.{Guarding, Sight, fresh, half, listens, closes, has_ended, for_side, stood, unreached, closed, ticked, IsHeard}
+use Rattle.bgp_guard.specs.declared.came.Came.TheVariants as came
 use Rattle.bgp_guard.specs.declared.side.Side.TheVariants as side
-use Rattle.bgp_guard.specs.Guard.{Guarding, Sight, fresh, half, listens, closes, has_ended}
-use Rattle.bgp_guard.specs.Events.{for_side, stood, unreached, closed, ticked}
-use Rattle.bgp_guard.specs.Came.{IsHeard}
 use Rattle.ristulva_c.specs.declared.agreed.ToldPeer.{ToldPeer}
 use Rattle.ristulva_c.specs.declared.guard.ToldCame.{ToldCame}
 use Rattle.ristulva_c.specs.declared.guard.TheConstants.{CAME_NOTHING, CAME_HANDED_ON, CAME_ANSWERED}

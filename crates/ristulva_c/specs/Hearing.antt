@@ -1,14 +1,12 @@
 -- What a session hears, in numbers, and what it does on it.
 use Rattle.std.specs.Prelude.{◌≡◌, ◌<◌, ◌≤◌, ◌⊎◌, ℕ, false, true, List, length, take, drop, Option, None, Some}
 use Rattle.bgp_frame.specs.declared.notification.Notification.{Notification}
-use Rattle.bgp_frame.specs.Notification.{notification_of_view}
-use Rattle.bgp_frame.specs.ShortNotification.{short_value}
-use Rattle.bgp_update.specs.Parts.{parts_of}
+use Rattle.bgp_frame.specs.Prelude.{notification_of_view, short_value}
+use Rattle.bgp_update.specs.Prelude.{parts_of}
 use Rattle.bgp_machine.specs.declared.heard.Heard.{Heard}
+use Rattle.bgp_machine.specs.Prelude.{IsLook, gone, step_of, Machine, Going, listens}
 use Rattle.bgp_machine.specs.declared.heard.Heard.TheVariants as heard
-use Rattle.bgp_machine.specs.Look.{Looked, IsLook, gone, step_of}
-use Rattle.bgp_machine.specs.Session.{Machine, Going}
-use Rattle.bgp_machine.specs.Standing.{listens}
+use Rattle.bgp_machine.specs.Look.{Looked}
 use Rattle.ristulva_c.specs.declared.hearing.ToldHeard.{ToldHeard}
 use Rattle.ristulva_c.specs.declared.judge.TheConstants.{OPEN, UPDATE, NOTIFICATION, KEEPALIVE, WITHDRAW, RESET}
 use Rattle.ristulva_c.specs.declared.parts.ToldParts.{ToldParts}

@@ -1,6 +1,6 @@
 -- Large communities one after another, by a cursor.
 use Rattle.std.specs.Prelude.{◌≡◌, ◌≤◌, ◌-◌, ◌%◌, ℕ, List, length}
-use Rattle.bgp_attr.specs.LargeStep.{new_from}
+use Rattle.bgp_attr.specs.Prelude.{new_from}
 use Rattle.ristulva_c.specs.declared.large.LargeCommunities.{LargeCommunities}
 use Rattle.ristulva_c.specs.Prefixes.{between}
 

@@ -40,4 +40,5 @@ pub mod Guard
 pub mod FieldKinds
 pub mod Fields
 pub mod Faults
+pub mod Prelude
 pub mod steps

@@ -1,15 +1,15 @@
 -- The notes on an UPDATE, in numbers (RFC 7606, section 6).
 use Rattle.std.specs.Prelude.{◌≡◌, ◌==◌, ◌+◌, ◌≤◌, ℕ, List, [], ◌∷◌, length, map, nat_le, if◌then◌else◌}
 use Rattle.bgp_frame.specs.declared.step.Step.{Step}
+use Rattle.bgp_frame.specs.Prelude.{ShowsFront}
 use Rattle.bgp_frame.specs.declared.step.Step.TheVariants as step
-use Rattle.bgp_frame.specs.Step.{ShowsFront}
 use Rattle.bgp_open.specs.declared.context.Context.{Context}
 use Rattle.bgp_attr.specs.declared.why.Why.{Why}
 use Rattle.bgp_attr.specs.declared.why.Why.TheVariants as why
 use Rattle.bgp_update.specs.declared.note.Note.{Note}
 use Rattle.bgp_msg.specs.declared.outcome.Outcome.{Outcome}
+use Rattle.bgp_msg.specs.Prelude.{out_of}
 use Rattle.bgp_msg.specs.declared.outcome.Outcome.TheVariants as outcome
-use Rattle.bgp_msg.specs.Outcome.{out_of}
 use Rattle.ristulva_c.specs.declared.notes.ToldNote.{ToldNote}
 use Rattle.ristulva_c.specs.declared.status.TheConstants.{INCOMPLETE, OK, ROOM}
 

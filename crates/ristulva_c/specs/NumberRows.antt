@@ -5,8 +5,7 @@ use Rattle.bgp_attr.specs.declared.path.AsPath.{AsPath}
 use Rattle.bgp_attr.specs.declared.path.SegKind.{SegKind}
 use Rattle.bgp_attr.specs.declared.path.SegKind.TheVariants.{Set, Seq}
 use Rattle.bgp_attr.specs.declared.path.Segment.{Segment}
-use Rattle.bgp_update.specs.As4.{rebuilt}
-use Rattle.bgp_update.specs.Parts.{Parts}
+use Rattle.bgp_update.specs.Prelude.{rebuilt, Parts}
 use Rattle.bgp_update.specs.declared.attrs.Attrs.{Attrs}
 use Rattle.bgp_msg.specs.declared.outcome.Outcome.{Outcome}
 use Rattle.ristulva_c.specs.declared.number_rows.NumberRow.{NumberRow}

@@ -1,6 +1,6 @@
 -- Numbers one after another, by a cursor.
 use Rattle.std.specs.Prelude.{◌≡◌, ◌==◌, ◌≤◌, ◌⊎◌, ℕ, List, length}
-use Rattle.bgp_attr.specs.Numbers.{numbers_of}
+use Rattle.bgp_attr.specs.Prelude.{numbers_of}
 use Rattle.ristulva_c.specs.declared.numbers.Numbers.{Numbers}
 use Rattle.ristulva_c.specs.Prefixes.{between}
 

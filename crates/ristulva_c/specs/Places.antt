@@ -1,9 +1,8 @@
 -- Where the attributes of a type lie in an UPDATE's message (RFC 4271, section 4.3).
 use Rattle.std.specs.Prelude.{◌+◌, ◌-◌, ◌==◌, ℕ, Bool, length, Option, Some, None, if◌then◌else◌}
 use Rattle.std.specs.List.{find}
-use Rattle.bgp_attr.specs.Tlv.{PlacedTlv}
-use Rattle.bgp_update.specs.Marks.{placed_tlvs}
-use Rattle.bgp_update.specs.Parts.{Parts}
+use Rattle.bgp_attr.specs.Prelude.{PlacedTlv}
+use Rattle.bgp_update.specs.Prelude.{placed_tlvs, Parts}
 use Rattle.ristulva_c.specs.declared.span.Span.{Span}
 use Rattle.ristulva_c.specs.Span.{no_span}
 

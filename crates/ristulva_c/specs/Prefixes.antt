@@ -1,8 +1,7 @@
 -- Prefixes one after another, by a cursor.
 use Rattle.std.specs.Prelude.{◌≡◌, ◌==◌, ◌≤◌, ◌-◌, ◌⊎◌, ℕ, List, length, take, drop, replicate, if◌then◌else◌}
 use Rattle.bgp_numbers.specs.declared.afi.TheConstants.{IPV4, IPV6}
-use Rattle.bgp_prefix.specs.Prefix.{PrefixValue}
-use Rattle.bgp_prefix.specs.Run.{run_of}
+use Rattle.bgp_prefix.specs.Prelude.{PrefixValue, run_of}
 use Rattle.ristulva_c.specs.declared.prefixes.Prefixes.{Prefixes}
 use Rattle.ristulva_c.specs.declared.prefixes.RoutePrefix.{RoutePrefix}
 

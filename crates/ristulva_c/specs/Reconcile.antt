@@ -3,9 +3,7 @@ use Rattle.std.specs.Prelude.{ℕ, List, Option, None, option_map, false, true}
 use Rattle.bgp_open.specs.declared.context.Context.{Context}
 use Rattle.bgp_update.specs.declared.attrs.Attrs.{Attrs}
 use Rattle.bgp_update.specs.declared.update.Update.{Update}
-use Rattle.bgp_update.specs.As4.{rebuilt}
-use Rattle.bgp_update.specs.Verdict.{verdict_of}
-use Rattle.bgp_update.specs.Widths.{with_as4}
+use Rattle.bgp_update.specs.Prelude.{rebuilt, verdict_of, with_as4}
 use Rattle.ristulva_c.specs.Encode.{Comes, taken_of, written_of}
 use Rattle.ristulva_c.specs.Text.{Writing}
 

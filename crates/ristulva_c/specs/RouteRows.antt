@@ -1,7 +1,7 @@
 -- The routes of messages in rows.
 use Rattle.std.specs.Prelude.{◌≡◌, ℕ, ◌++◌, List, [], ◌∷◌, length, map, drop, Option, Some, None, if◌then◌else◌}
-use Rattle.bgp_prefix.specs.Prefix.{PrefixValue}
-use Rattle.bgp_update.specs.Parts.{Parts}
+use Rattle.bgp_prefix.specs.Prelude.{PrefixValue}
+use Rattle.bgp_update.specs.Prelude.{Parts}
 use Rattle.bgp_update.specs.declared.attrs.Attrs.{Attrs}
 use Rattle.bgp_msg.specs.declared.outcome.Outcome.{Outcome}
 use Rattle.ristulva_c.specs.declared.facts.Paths.{Paths}

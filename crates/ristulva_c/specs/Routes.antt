@@ -2,12 +2,12 @@
 use Rattle.std.specs.Prelude.{◌≡◌, ◌+◌, ◌^◌, ◌<◌, ◌≤◌, ◌⊎◌, ℕ, List, length, take}
 use Rattle.bgp_numbers.specs.declared.afi.TheConstants.{IPV4, IPV6}
 use Rattle.bgp_numbers.specs.declared.safi.TheConstants.{UNICAST}
-use Rattle.bgp_prefix.specs.Prefix.{PrefixValue}
+use Rattle.bgp_prefix.specs.Prelude.{PrefixValue}
 use Rattle.bgp_attr.specs.declared.mp.MpReach.{MpReach}
-use Rattle.bgp_attr.specs.declared.mp.MpReach.TheVariants as reach
 use Rattle.bgp_attr.specs.declared.mp.MpUnreach.{MpUnreach}
+use Rattle.bgp_attr.specs.Prelude.{afi_of, safi_of, next_hop_length, next_hop_of}
+use Rattle.bgp_attr.specs.declared.mp.MpReach.TheVariants as reach
 use Rattle.bgp_attr.specs.declared.mp.MpUnreach.TheVariants as unreach
-use Rattle.bgp_attr.specs.Mp.{afi_of, safi_of, next_hop_length, next_hop_of}
 use Rattle.ristulva_c.specs.declared.span.Span.{Span}
 use Rattle.ristulva_c.specs.Span.{octets_in}
 

@@ -1,7 +1,6 @@
 -- Segments of a path one after another, by a cursor.
 use Rattle.std.specs.Prelude.{◌≤◌, ℕ, Bool, List, length}
-use Rattle.bgp_attr.specs.Numbers.{numbers_of}
-use Rattle.bgp_attr.specs.Path.{WireSegment, segments_of}
+use Rattle.bgp_attr.specs.Prelude.{numbers_of, WireSegment, segments_of}
 use Rattle.ristulva_c.specs.declared.segments.Segments.{Segments}
 use Rattle.ristulva_c.specs.declared.segments.PathSegment.{PathSegment}
 use Rattle.ristulva_c.specs.Context.{is_set}

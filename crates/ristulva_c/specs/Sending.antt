@@ -2,13 +2,11 @@
 use Rattle.std.specs.Prelude.{◌≡◌, ◌<◌, ◌≤◌, ◌⊎◌, ℕ, true, false, List, [], length, Option, None, Some}
 use Rattle.bgp_open.specs.declared.context.Context.{Context}
 use Rattle.bgp_update.specs.declared.update.Update.{Update}
-use Rattle.bgp_update.specs.Verdict.{verdict_of}
-use Rattle.bgp_update.specs.Widths.{with_as4}
+use Rattle.bgp_update.specs.Prelude.{verdict_of, with_as4}
 use Rattle.bgp_machine.specs.declared.action.Action as machine
 use Rattle.bgp_machine.specs.declared.state.State.{State}
+use Rattle.bgp_machine.specs.Prelude.{is_mixed, is_told_too_long, keepalive_on, IsSent, Machine}
 use Rattle.bgp_machine.specs.declared.state.State.TheVariants as state
-use Rattle.bgp_machine.specs.Sending.{is_mixed, is_told_too_long, keepalive_on, IsSent}
-use Rattle.bgp_machine.specs.Session.{Machine}
 use Rattle.ristulva_c.specs.declared.sending.Outgoing.{Outgoing}
 use Rattle.ristulva_c.specs.declared.sending.Outgoing.TheVariants as outgoing
 use Rattle.ristulva_c.specs.declared.status.TheConstants.{MEMORY, MIXED, NO_SESSION, OK, RANGE, REFUSED, STATE, UNWRITABLE}

@@ -1,11 +1,10 @@
 -- What the calls on a session do.
 use Rattle.std.specs.Prelude.{◌≡◌, ◌<◌, ◌≤◌, ◌⊎◌, ℕ, List, length, Option, None, Some, Result, Ok, Err}
 use Rattle.bgp_open.specs.declared.config.BadConfig.{BadConfig}
-use Rattle.bgp_open.specs.Config.{Settings}
+use Rattle.bgp_open.specs.Prelude.{Settings}
 use Rattle.bgp_machine.specs.declared.action.Action as machine
 use Rattle.bgp_machine.specs.declared.event.Event.{Event}
-use Rattle.bgp_machine.specs.Session.{Machine, fresh, own_octets, after_event}
-use Rattle.bgp_machine.specs.Table.{happens}
+use Rattle.bgp_machine.specs.Prelude.{Machine, fresh, own_octets, after_event, happens}
 use Rattle.ristulva_c.specs.declared.actions.Actions.{Actions}
 use Rattle.ristulva_c.specs.declared.status.TheConstants.{OK, NO_SESSION, MEMORY, RANGE, ROOM, CONFIG, IN_USE}
 use Rattle.ristulva_c.specs.Actions.{actions_told, octets_sent}

@@ -1,10 +1,10 @@
 -- The states and the timers of a session, and what happens to it, as numbers.
 use Rattle.std.specs.Prelude.{ℕ, ◌==◌, Option, None, Some, if◌then◌else◌}
 use Rattle.bgp_machine.specs.declared.event.Event.{Event}
-use Rattle.bgp_machine.specs.declared.event.Event.TheVariants as event
 use Rattle.bgp_machine.specs.declared.state.State.{State}
-use Rattle.bgp_machine.specs.declared.state.State.TheVariants as state
 use Rattle.bgp_machine.specs.declared.timer.Timer.{Timer}
+use Rattle.bgp_machine.specs.declared.event.Event.TheVariants as event
+use Rattle.bgp_machine.specs.declared.state.State.TheVariants as state
 use Rattle.bgp_machine.specs.declared.timer.Timer.TheVariants as timer
 use Rattle.ristulva_c.specs.declared.states.TheConstants.{IDLE, CONNECT, ACTIVE, OPEN_SENT, OPEN_CONFIRM, ESTABLISHED, RETRY_TIMER, HOLD_TIMER, KEEPALIVE_TIMER, START, STOP, RETRY_EXPIRED, HOLD_EXPIRED, KEEPALIVE_EXPIRED, CONNECTED, FAILED}
 

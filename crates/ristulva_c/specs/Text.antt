@@ -1,10 +1,10 @@
 -- The printed form of a message, in a buffer of the caller's.
 use Rattle.std.specs.Prelude.{◌≡◌, ◌⊎◌, ℕ, List, length, nat_le, Option, Some, None, if◌then◌else◌}
 use Rattle.bgp_frame.specs.declared.step.Step.{Step}
+use Rattle.bgp_frame.specs.Prelude.{ShowsFront}
 use Rattle.bgp_frame.specs.declared.step.Step.TheVariants as step
-use Rattle.bgp_frame.specs.Step.{ShowsFront}
 use Rattle.bgp_open.specs.declared.context.Context.{Context}
-use Rattle.bgp_msg.specs.Outcome.{out_of, of_fault}
+use Rattle.bgp_msg.specs.Prelude.{out_of, of_fault}
 use Rattle.bgp_text.specs.Outcome.{outcome_lines}
 use Rattle.ristulva_c.specs.declared.status.TheConstants.{INCOMPLETE, MEMORY, OK, ROOM}
 use Rattle.ristulva_c.specs.Copied.{copied}

@@ -1,8 +1,8 @@
 //! What a session wants done.
 
 ghost use Rattle.std.specs.Prelude.{◌≡◌, ◌≤◌, ◌∷◌, [], length, map};
-ghost use Rattle.bgp_machine.specs.ActionView.{action_of};
-ghost use Rattle.ristulva_c.specs.Actions.{plain, no_action, action_told, first_told, rest_of, count_of, actions_told};
+ghost use Rattle.bgp_machine.specs.Prelude.{action_of};
+ghost use Rattle.ristulva_c.specs.Prelude.{plain, no_action, action_told, first_told, rest_of, count_of, actions_told};
 
 use crate::states::number_of_timer;
 use bgp_machine::ActionView;

@@ -1,11 +1,11 @@
 //! What two OPENs agree on.
 
 ghost use Rattle.std.specs.Prelude.{◌≡◌, ◌+◌, ℕ, Result, length};
-ghost use Rattle.bgp_frame.specs.Kind.{IsLength};
+ghost use Rattle.bgp_frame.specs.Prelude.{IsLength};
 ghost use Rattle.bgp_frame.specs.declared.step.Step.TheVariants as step;
 ghost use Rattle.bgp_open.specs.declared.message.Open.{Open};
 ghost use Rattle.ristulva_c.specs.Agree.{or_refused, AgreesBy, AreAgreed};
-ghost use Rattle.ristulva_c.specs.Opens.{accepted_in};
+ghost use Rattle.ristulva_c.specs.Prelude.{accepted_in};
 ghost use Rattle.ristulva_c.specs.steps.Agree.{IsPeer, IsPeerAt};
 
 use crate::agreed::context_said;

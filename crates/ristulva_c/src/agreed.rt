@@ -1,9 +1,10 @@
 //! What both speakers of a session agreed on, and what the peer said of itself.
 
 ghost use Rattle.std.specs.Prelude.{◌≡◌, Some};
-ghost use Rattle.bgp_wire.specs.OctetSet.{has_octet};
-ghost use Rattle.bgp_open.specs.Peer.{rising, said_of};
-ghost use Rattle.ristulva_c.specs.Agreed.{context_said, peer_said, IsContextTold, IsPeerTold, IsOpenTold, IsCodesTold};
+ghost use Rattle.bgp_wire.specs.Prelude.{has_octet};
+ghost use Rattle.bgp_open.specs.Prelude.{rising, said_of};
+ghost use Rattle.ristulva_c.specs.Prelude.{context_said, peer_said, IsContextTold, IsOpenTold, IsCodesTold};
+ghost use Rattle.ristulva_c.specs.Agreed.{IsPeerTold};
 
 use crate::context::SessionContext;
 use crate::handle::SessionHandle;

@@ -1,8 +1,7 @@
 //! Attributes one after another.
 
 ghost use Rattle.std.specs.Prelude.{◌≡◌, ◌⊎◌, ◌↔◌, [], ◌∷◌, MatchOption};
-ghost use Rattle.ristulva_c.specs.Prefixes.{between};
-ghost use Rattle.ristulva_c.specs.Attributes.{IsAttributes, attributes_left, attribute_told};
+ghost use Rattle.ristulva_c.specs.Prelude.{between, IsAttributes, attributes_left, attribute_told};
 ghost use Rattle.ristulva_c.specs.declared.status.TheConstants.{END, OK, RANGE};
 
 use crate::span::Span;

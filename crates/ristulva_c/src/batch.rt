@@ -1,7 +1,7 @@
 //! Batches: what messages that stand one behind another give, in rows of a list of the caller's.
 
 ghost use Rattle.std.specs.Prelude.{◌≡◌, ◌+◌, ◌<◌, ◌≤◌, length, MatchResult};
-ghost use Rattle.bgp_frame.specs.Kind.{IsLength};
+ghost use Rattle.bgp_frame.specs.Prelude.{IsLength};
 ghost use Rattle.ristulva_c.specs.Batch.{IsBatch, TakesAll};
 ghost use Rattle.ristulva_c.specs.Context.{context_of};
 ghost use Rattle.ristulva_c.specs.steps.Batch.{Takes, Stops, TakesFrame, StopsAtFrame};

@@ -1,9 +1,8 @@
 //! Capabilities of an OPEN one after another.
 
 ghost use Rattle.std.specs.Prelude.{◌≡◌, ◌⊎◌, ◌↔◌, None, [], IsTrue, MatchOption};
-ghost use Rattle.bgp_open.specs.Capability.{one_capability};
-ghost use Rattle.ristulva_c.specs.Prefixes.{between};
-ghost use Rattle.ristulva_c.specs.Capabilities.{IsCapabilities, IsGiven, capabilities_left};
+ghost use Rattle.bgp_open.specs.Prelude.{one_capability};
+ghost use Rattle.ristulva_c.specs.Prelude.{between, IsCapabilities, IsGiven, capabilities_left};
 ghost use Rattle.ristulva_c.specs.declared.status.TheConstants.{END, OK, RANGE};
 
 use crate::span::Span;

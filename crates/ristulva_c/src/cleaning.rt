@@ -1,19 +1,15 @@
 //! What is handed on of a message.
 
 ghost use Rattle.std.specs.Prelude.{◌≡◌, ◌+◌, ℕ, Bool, List, [], Result, length};
-ghost use Rattle.bgp_wire.specs.OctetSet.{has_octet};
-ghost use Rattle.bgp_frame.specs.Kind.{IsLength};
-ghost use Rattle.bgp_frame.specs.Step.{message_in};
+ghost use Rattle.bgp_wire.specs.Prelude.{has_octet};
+ghost use Rattle.bgp_frame.specs.Prelude.{IsLength, message_in};
 ghost use Rattle.bgp_frame.specs.declared.step.Step.TheVariants as step;
 ghost use Rattle.bgp_open.specs.declared.context.Context.{Context};
 ghost use Rattle.bgp_msg.specs.declared.message.Message.{Message};
-ghost use Rattle.bgp_msg.specs.Outcome.{out_of};
-ghost use Rattle.bgp_msg.specs.OutcomeView.{outcome_value};
+ghost use Rattle.bgp_msg.specs.Prelude.{out_of, outcome_value};
 ghost use Rattle.bgp_clean.specs.declared.fault.CleanFault.{CleanFault};
-ghost use Rattle.bgp_clean.specs.Clean.{cleaned};
-ghost use Rattle.bgp_clean.specs.Cleaned.{IsCleaned};
-ghost use Rattle.ristulva_c.specs.Context.{context_of, is_set};
-ghost use Rattle.ristulva_c.specs.Clean.{types_in, discarded_in, left_out_in, caps_left_out_in, end_told, handed_told, cleaned_told, handed_octets, Hands, IsHandedOn};
+ghost use Rattle.bgp_clean.specs.Prelude.{cleaned, IsCleaned};
+ghost use Rattle.ristulva_c.specs.Prelude.{context_of, is_set, types_in, discarded_in, left_out_in, caps_left_out_in, end_told, handed_told, cleaned_told, handed_octets, Hands, IsHandedOn};
 
 use crate::context::{SessionContext, context_of};
 use crate::judge::{RESET, are_octets, number_of};

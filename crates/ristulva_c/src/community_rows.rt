@@ -1,16 +1,13 @@
 //! Communities and large communities in rows.
 
-ghost use Rattle.std.specs.Prelude.{◌≡◌, ◌+◌, ◌≤◌, length, map};
-ghost use Rattle.bgp_attr.specs.LargeIter.{triples_left};
-ghost use Rattle.bgp_attr.specs.NumberIter.{communities_left};
 ghost use Rattle.ristulva_c.specs.Batch.{IsBatch};
-ghost use Rattle.ristulva_c.specs.CommunityRows.{community_row, large_row, GivesCommunities, GivesLarge};
+ghost use Rattle.ristulva_c.specs.CommunityRows.{GivesCommunities, GivesLarge};
 ghost use Rattle.ristulva_c.specs.Context.{context_of};
-ghost use Rattle.ristulva_c.specs.steps.Batch.{Adds};
 
 use crate::batch::{Batch, take_all};
 use crate::context::SessionContext;
 use crate::judge::are_octets;
+use crate::rows_left::{Rows, count_rows, put_rows};
 use bgp_attr::{CommIter, LargeCommIter};
 use bgp_msg::OutcomeView;
 
@@ -42,78 +39,60 @@ pub struct LargeRow {
     pub reserved: u32,
 }
 
-/// How many communities are left.
-fn count_communities(communities: CommIter<'_>) -> usize
-    requires { length (communities_left communities) ≤ 4073 }
-    ensures { result ≡ length (communities_left communities.entry) }
-{
-    let mut count = 0;
-    let mut left = communities;
-    'communities: while left.next().is_some() {
-        count += 1;
-    }
-    count
+/// The communities of a message that are to come.
+#[derive(Clone, Copy)]
+struct CommunitiesLeft<'a> {
+    message: u64,
+    values: CommIter<'a>,
 }
 
-/// Writes communities from a place of a list on. Answers the place behind them.
-fn put_communities(
-    message: u64,
-    communities: CommIter<'_>,
-    list: &mut [CommunityRow],
-    from: usize,
-) -> usize
-    requires { from + length (communities_left communities) ≤ length list.old }
-    ensures { Adds (map (community_row message) (communities_left communities.entry)) from result list.old list.new }
-{
-    let mut to = from;
-    let mut left = communities;
-    'communities: while let Some(value) = left.next() {
-        list[to] = CommunityRow {
-            message,
+impl<'a> Rows for CommunitiesLeft<'a> {
+    ghost use Rattle.std.specs.Prelude.{map};
+    ghost use Rattle.bgp_attr.specs.Prelude.{communities_left};
+    ghost use Rattle.ristulva_c.specs.CommunityRows.{community_row};
+
+    type Row = CommunityRow;
+
+    ghost left = { λ rows. map (community_row rows.message) (communities_left rows.values) };
+
+    #[tactic(auto, using(crate::proofs::Rows::told_first, crate::proofs::Rows::told_none))]
+    fn next_row(&mut self) -> Option<CommunityRow> {
+        let value = self.values.next()?;
+        Some(CommunityRow {
+            message: self.message,
             value,
             reserved: 0,
-        };
-        to += 1;
+        })
     }
-    to
 }
 
-/// How many large communities are left.
-fn count_large(communities: LargeCommIter<'_>) -> usize
-    requires { length (triples_left communities) ≤ 4073 }
-    ensures { result ≡ length (triples_left communities.entry) }
-{
-    let mut count = 0;
-    let mut left = communities;
-    'communities: while left.next().is_some() {
-        count += 1;
-    }
-    count
-}
-
-/// Writes large communities from a place of a list on. Answers the place behind them.
-fn put_large(
+/// The large communities of a message that are to come.
+#[derive(Clone, Copy)]
+struct LargeLeft<'a> {
     message: u64,
-    communities: LargeCommIter<'_>,
-    list: &mut [LargeRow],
-    from: usize,
-) -> usize
-    requires { from + length (triples_left communities) ≤ length list.old }
-    ensures { Adds (map (large_row message) (triples_left communities.entry)) from result list.old list.new }
-{
-    let mut to = from;
-    let mut left = communities;
-    'communities: while let Some(numbers) = left.next() {
-        list[to] = LargeRow {
-            message,
+    values: LargeCommIter<'a>,
+}
+
+impl<'a> Rows for LargeLeft<'a> {
+    ghost use Rattle.std.specs.Prelude.{map};
+    ghost use Rattle.bgp_attr.specs.Prelude.{triples_left};
+    ghost use Rattle.ristulva_c.specs.CommunityRows.{large_row};
+
+    type Row = LargeRow;
+
+    ghost left = { λ rows. map (large_row rows.message) (triples_left rows.values) };
+
+    #[tactic(auto, using(crate::proofs::Rows::told_first, crate::proofs::Rows::told_none))]
+    fn next_row(&mut self) -> Option<LargeRow> {
+        let numbers = self.values.next()?;
+        Some(LargeRow {
+            message: self.message,
             global: numbers[0],
             local1: numbers[1],
             local2: numbers[2],
             reserved: 0,
-        };
-        to += 1;
+        })
     }
-    to
 }
 
 /// The communities of messages.
@@ -138,7 +117,13 @@ impl Batch for Communities {
         match outcome {
             OutcomeView::Update(update) => match update.kept().communities() {
                 None => true,
-                Some(communities) => count_communities(communities.values) <= room,
+                Some(communities) => {
+                    let left = CommunitiesLeft {
+                        message: 0,
+                        values: communities.values,
+                    };
+                    count_rows(left) <= room
+                }
             },
             _ => true,
         }
@@ -155,7 +140,13 @@ impl Batch for Communities {
         match outcome {
             OutcomeView::Update(update) => match update.kept().communities() {
                 None => from,
-                Some(communities) => put_communities(at, communities.values, list, from),
+                Some(communities) => {
+                    let left = CommunitiesLeft {
+                        message: at,
+                        values: communities.values,
+                    };
+                    put_rows(left, list, from)
+                }
             },
             _ => from,
         }
@@ -184,7 +175,13 @@ impl Batch for LargeCommunities {
         match outcome {
             OutcomeView::Update(update) => match update.kept().large() {
                 None => true,
-                Some(communities) => count_large(communities.values) <= room,
+                Some(communities) => {
+                    let left = LargeLeft {
+                        message: 0,
+                        values: communities.values,
+                    };
+                    count_rows(left) <= room
+                }
             },
             _ => true,
         }
@@ -201,7 +198,13 @@ impl Batch for LargeCommunities {
         match outcome {
             OutcomeView::Update(update) => match update.kept().large() {
                 None => from,
-                Some(communities) => put_large(at, communities.values, list, from),
+                Some(communities) => {
+                    let left = LargeLeft {
+                        message: at,
+                        values: communities.values,
+                    };
+                    put_rows(left, list, from)
+                }
             },
             _ => from,
         }

@@ -1,8 +1,8 @@
 //! What a speaker is to be set to, as C says it.
 
 ghost use Rattle.std.specs.Prelude.{◌≡◌};
-ghost use Rattle.bgp_open.specs.Config.{config_of};
-ghost use Rattle.ristulva_c.specs.Config.{settings_of};
+ghost use Rattle.bgp_open.specs.Prelude.{config_of};
+ghost use Rattle.ristulva_c.specs.Prelude.{settings_of};
 
 use bgp_open::{BadConfig, Config, Speaker};
 

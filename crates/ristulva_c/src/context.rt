@@ -1,7 +1,7 @@
 //! What a session agreed on, as C says it.
 
 ghost use Rattle.std.specs.Prelude.{◌≡◌};
-ghost use Rattle.ristulva_c.specs.Context.{context_of};
+ghost use Rattle.ristulva_c.specs.Prelude.{context_of};
 
 use bgp_open::Context;
 

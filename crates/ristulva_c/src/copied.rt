@@ -1,7 +1,7 @@
 //! Octets into a buffer of the caller's.
 
 ghost use Rattle.std.specs.Prelude.{◌≡◌, length, nat_le};
-ghost use Rattle.ristulva_c.specs.Copied.{copied};
+ghost use Rattle.ristulva_c.specs.Prelude.{copied};
 
 /// Copies octets to the front of a buffer, where it has room. Answers whether it had.
 pub(crate) fn copy_into(octets: &[u8], buffer: &mut [u8]) -> bool

@@ -2,10 +2,10 @@
 
 ghost use Rattle.std.specs.Prelude.{◌≡◌, ◌+◌, ◌<◌, ◌≤◌, ◌⊎◌, false, [], ◌++◌, Some, length, take};
 ghost use Rattle.bgp_open.specs.declared.context.Context.{Context};
-ghost use Rattle.bgp_msg.specs.Decoder.{Decoding};
-ghost use Rattle.bgp_msg.specs.OutcomeView.{outcome_value};
-ghost use Rattle.ristulva_c.specs.Context.{context_of};
-ghost use Rattle.ristulva_c.specs.Decoder.{IsMade, IsFreed, IsHeldTold, GivesHeld, IsWholeTold, IsFoundTold, Pulls, PullsWithRoom};
+ghost use Rattle.bgp_msg.specs.Prelude.{Decoding, outcome_value};
+ghost use Rattle.ristulva_c.specs.Prelude.{context_of, IsHeldTold, GivesHeld, IsWholeTold, Pulls, PullsWithRoom};
+ghost use Rattle.ristulva_c.specs.Decoder.{IsFoundTold};
+ghost use Rattle.ristulva_c.specs.Decoder.{IsMade, IsFreed};
 ghost use Rattle.ristulva_c.specs.declared.status.TheConstants.{OK};
 
 use crate::context::{SessionContext, context_of};
@@ -74,7 +74,7 @@ pub extern "C" fn ristulva_decoder_held(
 }
 
 /// The octets that are held once so many of the piece are fed: nothing is held, or nothing is fed.
-fn behind_feed<'a>(decoder: &'a Decoder, piece: &'a [u8], count: usize) -> &'a [u8]
+fn held_by<'a>(decoder: &'a Decoder, piece: &'a [u8], count: usize) -> &'a [u8]
     requires within { count ≤ length piece.now }
     requires either { (count ≡ 0) ⊎ (decoder.now.held ≡ []) }
     ensures { result.now ≡ decoder.now.held ++ take count piece.now }
@@ -130,25 +130,13 @@ fn tell_found(
     match decoder.look(piece, &mut view) {
         Look::Feed => None,
         Look::Message(count, _, outcome, next) => {
-            tell_whole(
-                behind_feed(decoder, piece, count),
-                &outcome,
-                message,
-                info,
-                out,
-            );
+            tell_whole(held_by(decoder, piece, count), &outcome, message, info, out);
             Some((count, next))
         }
         Look::Fault(count, fault, next) => {
             let why = fault.answer();
             let outcome = OutcomeView::Reset(why.view());
-            tell_whole(
-                behind_feed(decoder, piece, count),
-                &outcome,
-                message,
-                info,
-                out,
-            );
+            tell_whole(held_by(decoder, piece, count), &outcome, message, info, out);
             Some((count, next))
         }
     }

@@ -1,13 +1,8 @@
 //! UPDATEs in their written form.
 
 ghost use Rattle.std.specs.Prelude.{◌≡◌, ◌≤◌, true, false, ℕ, List, Option, None, Some, length, option_map, IfOk};
-ghost use Rattle.bgp_update.specs.As4.{HasNoAs4};
-ghost use Rattle.bgp_update.specs.Widths.{with_as4};
-ghost use Rattle.bgp_update.specs.Written.{invalid_of};
-ghost use Rattle.bgp_update.specs.Verdict.{verdict_of};
-ghost use Rattle.bgp_update.specs.View.{update_value, notes_value};
-ghost use Rattle.ristulva_c.specs.Context.{context_of};
-ghost use Rattle.ristulva_c.specs.Encode.{taken_of, without_notes, written_of, encoded_of, narrowed_of, IsCoded, Writes, IsEncoded, IsNarrowed};
+ghost use Rattle.bgp_update.specs.Prelude.{HasNoAs4, with_as4, invalid_of, verdict_of, update_value, notes_value};
+ghost use Rattle.ristulva_c.specs.Prelude.{context_of, taken_of, without_notes, written_of, encoded_of, narrowed_of, IsCoded, Writes, IsEncoded, IsNarrowed};
 
 use crate::context::{SessionContext, context_of};
 use crate::judge::are_octets;

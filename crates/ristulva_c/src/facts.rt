@@ -1,17 +1,11 @@
 //! What everybody asks of an UPDATE, of the attributes that are kept.
 
 ghost use Rattle.std.specs.Prelude.{◌≡◌, ◌+◌, ◌≤◌, length, option_map, is_some};
-ghost use Rattle.bgp_frame.specs.Kind.{IsLength};
-ghost use Rattle.bgp_frame.specs.Step.{message_in};
-ghost use Rattle.bgp_attr.specs.MpView.{reach_value};
-ghost use Rattle.bgp_update.specs.KeptView.{known_value};
-ghost use Rattle.bgp_update.specs.Parts.{parts_of};
-ghost use Rattle.bgp_update.specs.PathInfoView.{info_value};
-ghost use Rattle.bgp_update.specs.View.{update_value};
-ghost use Rattle.bgp_msg.specs.Outcome.{out_of};
-ghost use Rattle.ristulva_c.specs.Context.{context_of};
-ghost use Rattle.ristulva_c.specs.steps.RouteRows.{AreWithin};
-ghost use Rattle.ristulva_c.specs.Facts.{mp_afi, mp_hop, mp_link, hops_told, paths_told, aggregator_as, aggregator_address, origin_number, facts_told, attrs_in, TellsFacts, AreFacts};
+ghost use Rattle.bgp_frame.specs.Prelude.{IsLength, message_in};
+ghost use Rattle.bgp_attr.specs.Prelude.{reach_value};
+ghost use Rattle.bgp_update.specs.Prelude.{known_value, parts_of, info_value, update_value};
+ghost use Rattle.bgp_msg.specs.Prelude.{out_of};
+ghost use Rattle.ristulva_c.specs.Prelude.{context_of, AreWithin, mp_afi, mp_hop, mp_link, hops_told, paths_told, aggregator_as, aggregator_address, origin_number, facts_told, attrs_in, TellsFacts, AreFacts};
 
 use crate::context::{SessionContext, context_of};
 use crate::judge::are_octets;

@@ -1,11 +1,9 @@
 //! The place of the fault of a message, and of what a note on it is about.
 
 ghost use Rattle.std.specs.Prelude.{◌≡◌, ◌≤◌, ℕ, List, length, drop};
-ghost use Rattle.bgp_fields.specs.Places.{note_place};
+ghost use Rattle.bgp_fields.specs.Prelude.{note_place};
 ghost use Rattle.bgp_update.specs.declared.note.Note.{Note as NoteValue};
-ghost use Rattle.ristulva_c.specs.Context.{context_of};
-ghost use Rattle.ristulva_c.specs.Faults.{place_told, noted_place, IsFault, IsNotePlace};
-ghost use Rattle.ristulva_c.specs.Notes.{note_told};
+ghost use Rattle.ristulva_c.specs.Prelude.{context_of, place_told, noted_place, IsFault, IsNotePlace, note_told};
 
 use crate::context::{SessionContext, context_of};
 use crate::fields::first;

@@ -2,7 +2,7 @@
 
 ghost use Rattle.std.specs.Prelude.{◌≡◌, Some};
 ghost use Rattle.bgp_fields.specs.declared.kind.FieldKind.{FieldKind as Kind};
-ghost use Rattle.ristulva_c.specs.FieldKinds.{number_of_kind, kind_of, Names};
+ghost use Rattle.ristulva_c.specs.Prelude.{number_of_kind, kind_of, Names};
 
 use crate::status::RANGE;
 use crate::written::write;

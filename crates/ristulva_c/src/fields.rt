@@ -1,7 +1,7 @@
 //! The fields of a message, and the places of its faults.
 
 ghost use Rattle.std.specs.Prelude.{◌≡◌, ◌≤◌, ◌++◌, length, map, take, drop, nat_le};
-ghost use Rattle.bgp_fields.specs.FieldIter.{fields_left};
+ghost use Rattle.bgp_fields.specs.Prelude.{fields_left};
 ghost use Rattle.ristulva_c.specs.Context.{context_of};
 ghost use Rattle.ristulva_c.specs.Fields.{group_at, group_code, field_told, fields_told, IsFilled, AreFields};
 

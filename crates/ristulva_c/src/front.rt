@@ -1,8 +1,7 @@
 //! What stands at the front of octets.
 
 ghost use Rattle.std.specs.Prelude.{◌≡◌};
-ghost use Rattle.bgp_frame.specs.Frame.{wanted, Waits};
-ghost use Rattle.bgp_frame.specs.Step.{ShowsFront};
+ghost use Rattle.bgp_frame.specs.Prelude.{wanted, Waits, ShowsFront};
 ghost use Rattle.ristulva_c.specs.declared.status.TheConstants.{OK};
 ghost use Rattle.ristulva_c.specs.Front.{fault_told, step_told, IsFound};
 

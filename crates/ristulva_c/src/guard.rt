@@ -1,7 +1,8 @@
 //! A guard's life: it is made, told what happens, hears octets, and is freed.
 
 ghost use Rattle.std.specs.Prelude.{◌≡◌, Some, option_map};
-ghost use Rattle.ristulva_c.specs.Guard.{side_of, event_of, rule_of, came_told, IsMade, IsFreed, GoesOn, IsTicked, GuardHears, HearsOf};
+ghost use Rattle.ristulva_c.specs.Prelude.{side_of, rule_of, came_told, GoesOn, IsTicked, GuardHears, HearsOf};
+ghost use Rattle.ristulva_c.specs.Guard.{event_of, IsMade, IsFreed};
 ghost use Rattle.ristulva_c.specs.declared.status.TheConstants.{OK};
 
 use crate::handle::GuardHandle;

@@ -1,11 +1,11 @@
 //! A session, a decoder or a guard behind a handle.
 
 ghost use Rattle.std.specs.Prelude.{◌≡◌, Option, None, Some, option_map};
-ghost use Rattle.bgp_machine.specs.Session.{Machine};
+ghost use Rattle.bgp_machine.specs.Prelude.{Machine};
 ghost use Rattle.bgp_machine.specs.contracts.session.Session.{the_row as session_row};
-ghost use Rattle.bgp_msg.specs.Decoder.{Decoding};
+ghost use Rattle.bgp_msg.specs.Prelude.{Decoding};
 ghost use Rattle.bgp_msg.specs.contracts.decoder.Decoder.{the_row as decoder_row};
-ghost use Rattle.bgp_guard.specs.Guard.{Guarding};
+ghost use Rattle.bgp_guard.specs.Prelude.{Guarding};
 ghost use Rattle.bgp_guard.specs.contracts.guard.Guard.{the_row as guard_row};
 ghost use Rattle.ristulva_c.specs.Handle.{owned};
 

@@ -1,7 +1,7 @@
 //! What a session hears.
 
 ghost use Rattle.std.specs.Prelude.{◌≡◌, ◌≤◌, ◌⊎◌, Some, length, take, drop};
-ghost use Rattle.bgp_frame.specs.Notification.{notification_of_view};
+ghost use Rattle.bgp_frame.specs.Prelude.{notification_of_view};
 ghost use Rattle.ristulva_c.specs.Hearing.{number_of_heard, said_in, parts_heard, heard_told, SessionHears, HearsFirst, IsFoundTold};
 
 use crate::actions::{Actions, actions_told};

@@ -1,15 +1,12 @@
 //! The outcome of a message.
 
 ghost use Rattle.std.specs.Prelude.{◌≡◌, ◌+◌, ◌≤◌, length, nat_le, if◌then◌else◌};
-ghost use Rattle.bgp_wire.specs.Octets.{AreOctets};
-ghost use Rattle.bgp_frame.specs.Notification.{notification_of_view};
-ghost use Rattle.bgp_frame.specs.Kind.{IsLength, code_of};
+ghost use Rattle.bgp_wire.specs.Prelude.{AreOctets};
+ghost use Rattle.bgp_frame.specs.Prelude.{notification_of_view, IsLength, code_of};
 ghost use Rattle.bgp_frame.specs.declared.step.Step.TheVariants as step;
 ghost use Rattle.bgp_open.specs.declared.context.Context.{Context};
-ghost use Rattle.bgp_msg.specs.OutcomeView.{outcome_value};
-ghost use Rattle.ristulva_c.specs.Context.{context_of};
-ghost use Rattle.ristulva_c.specs.Copied.{copied};
-ghost use Rattle.ristulva_c.specs.Judge.{number_of, said_by, verdict_told, parts_at, Answers, IsJudged};
+ghost use Rattle.bgp_msg.specs.Prelude.{outcome_value};
+ghost use Rattle.ristulva_c.specs.Prelude.{context_of, copied, number_of, said_by, verdict_told, parts_at, Answers, IsJudged};
 ghost use Rattle.ristulva_c.specs.declared.status.TheConstants.{INCOMPLETE, OK, ROOM};
 
 use crate::context::{SessionContext, context_of};

@@ -1,9 +1,8 @@
 //! Large communities one after another.
 
 ghost use Rattle.std.specs.Prelude.{◌≡◌, ◌-◌, ◌⊎◌, ◌↔◌, ◌≤◌, length, [], ◌∷◌, MatchOption};
-ghost use Rattle.bgp_attr.specs.Numbers.{triples_of, each_once};
-ghost use Rattle.ristulva_c.specs.Prefixes.{between};
-ghost use Rattle.ristulva_c.specs.Large.{IsLarge, large_left};
+ghost use Rattle.bgp_attr.specs.Prelude.{triples_of, each_once};
+ghost use Rattle.ristulva_c.specs.Prelude.{between, IsLarge, large_left};
 ghost use Rattle.ristulva_c.specs.declared.status.TheConstants.{END, OK, RANGE};
 
 use crate::status::{END, OK, RANGE};

@@ -2,12 +2,12 @@
 
 ghost use Rattle.std.specs.Prelude.{◌≡◌, ◌-◌, length};
 ghost use Rattle.std.specs.List.{filter};
-ghost use Rattle.bgp_wire.specs.OctetSet.{has_octet};
-ghost use Rattle.bgp_attr.specs.AttrView.{attr_value};
-ghost use Rattle.bgp_open.specs.OpenView.{open_value};
-ghost use Rattle.bgp_update.specs.View.{update_value};
-ghost use Rattle.bgp_clean.specs.Opens.{understood};
-ghost use Rattle.ristulva_c.specs.steps.LeftOut.{is_left_out};
+ghost use Rattle.bgp_wire.specs.Prelude.{has_octet};
+ghost use Rattle.bgp_attr.specs.Prelude.{attr_value};
+ghost use Rattle.bgp_open.specs.Prelude.{open_value};
+ghost use Rattle.bgp_update.specs.Prelude.{update_value};
+ghost use Rattle.bgp_clean.specs.Prelude.{understood};
+ghost use Rattle.ristulva_c.specs.Prelude.{is_left_out};
 
 use bgp_attr::AttrView;
 use bgp_clean::count_understood;

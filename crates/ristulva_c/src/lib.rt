@@ -40,6 +40,7 @@ mod reconcile;
 mod route_list;
 mod route_rows;
 mod routes;
+mod rows_left;
 mod rules;
 mod segments;
 mod sending;

@@ -1,10 +1,9 @@
 //! The octets that a session sends.
 
 ghost use Rattle.std.specs.Prelude.{◌≡◌, length, map, option_map, IfSome, MatchOption};
-ghost use Rattle.bgp_frame.specs.Notification.{notification_of_view};
-ghost use Rattle.bgp_machine.specs.ActionView.{action_of};
-ghost use Rattle.ristulva_c.specs.Actions.{notification_octets, octets_sent, message_of};
-ghost use Rattle.ristulva_c.specs.Copied.{copied};
+ghost use Rattle.bgp_frame.specs.Prelude.{notification_of_view};
+ghost use Rattle.bgp_machine.specs.Prelude.{action_of};
+ghost use Rattle.ristulva_c.specs.Prelude.{notification_octets, octets_sent, message_of, copied};
 
 use crate::copied::copy_into;
 use arrayvec::ArrayVec;

@@ -1,13 +1,12 @@
 //! The notes on an UPDATE.
 
 ghost use Rattle.std.specs.Prelude.{◌≡◌, ◌+◌, ◌≤◌, List, [], ◌∷◌, ◌++◌, length, map};
-ghost use Rattle.bgp_frame.specs.Kind.{IsLength};
+ghost use Rattle.bgp_frame.specs.Prelude.{IsLength};
 ghost use Rattle.bgp_frame.specs.declared.step.Step.TheVariants as step;
-ghost use Rattle.bgp_update.specs.View.{notes_value};
-ghost use Rattle.bgp_msg.specs.OutcomeView.{outcome_value};
-ghost use Rattle.ristulva_c.specs.Context.{context_of};
+ghost use Rattle.bgp_update.specs.Prelude.{notes_value};
+ghost use Rattle.bgp_msg.specs.Prelude.{outcome_value};
+ghost use Rattle.ristulva_c.specs.Prelude.{context_of, number_of_why, note_told, told_in, listed, Lists, IsNoted};
 ghost use Rattle.ristulva_c.specs.declared.notes.ToldNote.{ToldNote};
-ghost use Rattle.ristulva_c.specs.Notes.{number_of_why, note_told, told_in, listed, Lists, IsNoted};
 
 use crate::context::{SessionContext, context_of};
 use crate::status::{INCOMPLETE, OK, ROOM};

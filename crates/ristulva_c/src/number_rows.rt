@@ -1,17 +1,17 @@
 //! The AS numbers of paths in rows.
 
-ghost use Rattle.std.specs.Prelude.{◌≡◌, ◌+◌, ◌≤◌, length, map, option_map};
-ghost use Rattle.bgp_attr.specs.NumberIter.{as_numbers_left};
-ghost use Rattle.bgp_update.specs.PathInfoView.{joined_value};
+ghost use Rattle.std.specs.Prelude.{◌≡◌, ◌+◌, ◌≤◌, length};
+ghost use Rattle.bgp_update.specs.Prelude.{joined_value};
 ghost use Rattle.ristulva_c.specs.Batch.{IsBatch};
 ghost use Rattle.ristulva_c.specs.Context.{context_of};
 ghost use Rattle.ristulva_c.specs.NumberRows.{set_flag, number_row, segment_rows, path_rows, GivesNumbers};
 ghost use Rattle.ristulva_c.specs.steps.Batch.{Adds};
-ghost use Rattle.ristulva_c.specs.steps.NumberRows.{numbers_in, with_number};
+ghost use Rattle.ristulva_c.specs.steps.NumberRows.{numbers_in};
 
 use crate::batch::{Batch, take_all};
 use crate::context::SessionContext;
 use crate::judge::are_octets;
+use crate::rows_left::{Rows, put_rows};
 use bgp_attr::{AsNumberIter, SegKind};
 use bgp_msg::OutcomeView;
 use bgp_update::JoinedPathView;
@@ -42,27 +42,30 @@ fn set_flag(kind: SegKind) -> u8
     }
 }
 
-/// Writes the numbers of a segment from a place of a list on, by a row that has all but the number. Answers the place behind them.
-fn put_numbers(
-    numbers: AsNumberIter<'_>,
-    row: &NumberRow,
-    list: &mut [NumberRow],
-    from: usize,
-) -> usize
-    requires { from + length (as_numbers_left numbers) ≤ length list.old }
-    ensures adds { Adds (map (with_number row.now) (as_numbers_left numbers.entry)) from result list.old list.new }
-    ensures to { result ≡ from + length (as_numbers_left numbers.entry) }
-{
-    let mut to = from;
-    let mut left = numbers;
-    'numbers: while let Some(number) = left.next() {
-        list[to] = NumberRow {
+/// The numbers of a segment that are to come, and a row that has all but the number.
+#[derive(Clone, Copy)]
+struct NumbersLeft<'a> {
+    numbers: AsNumberIter<'a>,
+    row: NumberRow,
+}
+
+impl<'a> Rows for NumbersLeft<'a> {
+    ghost use Rattle.std.specs.Prelude.{map};
+    ghost use Rattle.bgp_attr.specs.Prelude.{as_numbers_left};
+    ghost use Rattle.ristulva_c.specs.steps.NumberRows.{with_number};
+
+    type Row = NumberRow;
+
+    ghost left = { λ rows. map (with_number rows.row) (as_numbers_left rows.numbers) };
+
+    #[tactic(auto, using(crate::proofs::Rows::told_first, crate::proofs::Rows::told_none))]
+    fn next_row(&mut self) -> Option<NumberRow> {
+        let number = self.numbers.next()?;
+        Some(NumberRow {
             number: number.0,
-            ..*row
-        };
-        to += 1;
+            ..self.row
+        })
     }
-    to
 }
 
 /// Writes the numbers of a path.
@@ -82,7 +85,11 @@ fn put_path(message: u64, path: &JoinedPathView<'_>, list: &mut [NumberRow], fro
             set: set_flag(found.kind),
             reserved: 0,
         };
-        to = put_numbers(found.numbers, &row, list, to);
+        let numbers = NumbersLeft {
+            numbers: found.numbers,
+            row,
+        };
+        to = put_rows(numbers, list, to);
         segment += 1;
     }
     to

@@ -1,8 +1,7 @@
 //! Numbers one after another.
 
 ghost use Rattle.std.specs.Prelude.{◌≡◌, ◌==◌, ◌⊎◌, ◌↔◌, [], ◌∷◌, MatchOption};
-ghost use Rattle.ristulva_c.specs.Prefixes.{between};
-ghost use Rattle.ristulva_c.specs.Numbers.{IsNumbers, numbers_left};
+ghost use Rattle.ristulva_c.specs.Prelude.{between, IsNumbers, numbers_left};
 ghost use Rattle.ristulva_c.specs.declared.status.TheConstants.{END, OK, RANGE};
 
 use crate::status::{END, OK, RANGE};

@@ -1,9 +1,9 @@
 //! What an OPEN says.
 
 ghost use Rattle.std.specs.Prelude.{◌≡◌, ◌+◌, length};
-ghost use Rattle.bgp_frame.specs.Kind.{IsLength};
-ghost use Rattle.bgp_open.specs.OpenView.{open_value};
-ghost use Rattle.ristulva_c.specs.Opens.{flag_of, open_told, accepted_in, TellsOpen, IsOpened};
+ghost use Rattle.bgp_frame.specs.Prelude.{IsLength};
+ghost use Rattle.bgp_open.specs.Prelude.{open_value};
+ghost use Rattle.ristulva_c.specs.Prelude.{flag_of, open_told, accepted_in, TellsOpen, IsOpened};
 
 use crate::capabilities::Capabilities;
 use crate::status::{INCOMPLETE, OK, REFUSED};

@@ -1,10 +1,9 @@
 //! The AS that a route came from.
 
 ghost use Rattle.std.specs.Prelude.{◌≡◌, Option};
-ghost use Rattle.bgp_attr.specs.NumberIter.{as_numbers_left};
-ghost use Rattle.bgp_attr.specs.PathView.{segment_value};
-ghost use Rattle.bgp_update.specs.PathInfoView.{info_value, joined_value};
-ghost use Rattle.ristulva_c.specs.Facts.{last_number, last_by, origin_in, origin_of};
+ghost use Rattle.bgp_attr.specs.Prelude.{as_numbers_left, segment_value};
+ghost use Rattle.bgp_update.specs.Prelude.{info_value, joined_value};
+ghost use Rattle.ristulva_c.specs.Prelude.{last_number, last_by, origin_in, origin_of};
 
 use bgp_attr::{AsNumberIter, SegKind, SegmentView};
 use bgp_update::{JoinedPathView, PathInfoView};

@@ -1,9 +1,8 @@
 //! How many attributes of unrecognised types are kept.
 
 ghost use Rattle.std.specs.Prelude.{◌≡◌, ◌≤◌, length};
-ghost use Rattle.bgp_attr.specs.AttrView.{attr_value};
-ghost use Rattle.bgp_update.specs.Taken.{is_opaque};
-ghost use Rattle.bgp_update.specs.View.{update_value};
+ghost use Rattle.bgp_attr.specs.Prelude.{attr_value};
+ghost use Rattle.bgp_update.specs.Prelude.{is_opaque, update_value};
 
 use bgp_attr::AttrView;
 use bgp_update::UpdateView;

@@ -1,8 +1,8 @@
 //! The parts of an UPDATE.
 
 ghost use Rattle.std.specs.Prelude.{◌≡◌, ◌+◌, ◌≤◌, None, length, option_map, IfSome};
-ghost use Rattle.bgp_update.specs.Parts.{behind_two, parts_of};
-ghost use Rattle.ristulva_c.specs.Parts.{parts_told, lengths_of, fields_of};
+ghost use Rattle.bgp_update.specs.Prelude.{behind_two, parts_of};
+ghost use Rattle.ristulva_c.specs.Prelude.{parts_told, lengths_of, fields_of};
 
 use crate::span::Span;
 

@@ -2,10 +2,9 @@
 
 ghost use Rattle.std.specs.Prelude.{◌≡◌, ◌==◌, ◌+◌, ◌≤◌, length, option_map, IfSome};
 ghost use Rattle.std.specs.List.{find};
-ghost use Rattle.bgp_attr.specs.TlvView.{placed_tlv};
-ghost use Rattle.bgp_update.specs.Marks.{placed_tlvs};
-ghost use Rattle.bgp_update.specs.Parts.{parts_of};
-ghost use Rattle.ristulva_c.specs.Places.{value_at, value_in, kept_at};
+ghost use Rattle.bgp_attr.specs.Prelude.{placed_tlv};
+ghost use Rattle.bgp_update.specs.Prelude.{placed_tlvs, parts_of};
+ghost use Rattle.ristulva_c.specs.Prelude.{value_at, value_in, kept_at};
 
 use crate::parts::fields_of;
 use crate::span::Span;

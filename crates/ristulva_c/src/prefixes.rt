@@ -1,15 +1,14 @@
 //! Prefixes one after another.
 
-ghost use Rattle.std.specs.Prelude.{◌≡◌, ◌+◌, ◌-◌, ◌⊎◌, ◌↔◌, ◌≤◌, true, false, [], ◌∷◌, length, drop, MatchOption};
-ghost use Rattle.bgp_prefix.specs.Bits.{octets_for};
-ghost use Rattle.bgp_prefix.specs.Run.{run_of};
-ghost use Rattle.ristulva_c.specs.Prefixes.{between, IsWithin, IsCursor, prefixes_left, IsPadded, prefix_told};
+ghost use Rattle.std.specs.Prelude.{◌≡◌, ◌⊎◌, ◌↔◌, ◌≤◌, true, false, [], ◌∷◌, length, MatchOption};
+ghost use Rattle.ristulva_c.specs.Prelude.{width_of, between, IsWithin, IsCursor, prefixes_left, IsPadded, prefix_told, prefix_row};
 ghost use Rattle.bgp_numbers.specs.declared.afi.TheConstants.{IPV4, IPV6};
 ghost use Rattle.ristulva_c.specs.declared.status.TheConstants.{END, OK, RANGE};
 
+use crate::copied::copy_into;
 use crate::status::{END, OK, RANGE};
 use bgp_numbers::afi;
-use bgp_prefix::{Prefix, PrefixIter4, PrefixIter6};
+use bgp_prefix::{Prefix, PrefixIter4, PrefixIter6, first_prefix};
 
 /// The prefixes of a field that are still to come.
 #[repr(C)]
@@ -35,53 +34,18 @@ pub struct RoutePrefix {
     pub addr: [u8; 16],
 }
 
-/// How many octets stand for a prefix.
-fn octets_of<const W: usize>(prefix: &Prefix<W>) -> usize
-    ensures { result ≡ 1 + octets_for prefix.now.len }
+/// A prefix as it is told.
+pub(crate) fn prefix_row<const W: usize>(afi: u16, prefix: &Prefix<W>) -> RoutePrefix
+    requires { W ≤ 16 }
+    ensures value { result ≡ prefix_row afi prefix.now }
+    ensures wide { length prefix.now.addr ≡ W }
 {
-    1 + usize::from(prefix.len()).div_ceil(8)
-}
-
-/// The first IPv4 prefix of octets, and its octets in number.
-fn first4(octets: &[u8]) -> Option<(Prefix<4>, usize)>
-    ensures { MatchOption result ((run_of 4 octets.now).0 ≡ []) (λ x. ((run_of 4 octets.now).0 ≡ x.0 ∷ (run_of 4 (drop x.1 octets.now)).0) × (x.1 ≤ length octets.now)) }
-{
-    let prefix = PrefixIter4::new(octets).next()?;
-    Some((prefix, octets_of(&prefix)))
-}
-
-/// The first IPv6 prefix of octets, and its octets in number.
-fn first6(octets: &[u8]) -> Option<(Prefix<16>, usize)>
-    ensures { MatchOption result ((run_of 16 octets.now).0 ≡ []) (λ x. ((run_of 16 octets.now).0 ≡ x.0 ∷ (run_of 16 (drop x.1 octets.now)).0) × (x.1 ≤ length octets.now)) }
-{
-    let prefix = PrefixIter6::new(octets).next()?;
-    Some((prefix, octets_of(&prefix)))
-}
-
-/// An IPv4 prefix as it is told.
-fn told4(prefix: &Prefix<4>) -> RoutePrefix
-    ensures value { prefix_told result ≡ prefix.now }
-    ensures padded { IsPadded result }
-    ensures afi { result.afi ≡ IPV4 }
-{
-    let [a, b, c, d] = prefix.addr();
+    let mut addr = [0; 16];
+    copy_into(&prefix.addr(), &mut addr);
     RoutePrefix {
-        afi: afi::IPV4,
+        afi,
         len: prefix.len(),
-        addr: [a, b, c, d, 0, 0, 0, 0, 0, 0, 0, 0, 0, 0, 0, 0],
-    }
-}
-
-/// An IPv6 prefix as it is told.
-fn told6(prefix: &Prefix<16>) -> RoutePrefix
-    ensures value { prefix_told result ≡ prefix.now }
-    ensures padded { IsPadded result }
-    ensures afi { result.afi ≡ IPV6 }
-{
-    RoutePrefix {
-        afi: afi::IPV6,
-        len: prefix.len(),
-        addr: prefix.addr(),
+        addr,
     }
 }
 
@@ -103,51 +67,11 @@ pub(crate) fn is_cursor(octets: &[u8], cursor: &Prefixes) -> bool
     }
 }
 
-/// Moves a cursor behind an IPv4 prefix, and tells the prefix.
-fn next4(rest: &[u8], cursor: &mut Prefixes, out: &mut RoutePrefix) -> u32
-    requires { length rest.now + cursor.old.at ≡ cursor.old.end }
-    ensures ok { result ≡ OK → (run_of 4 rest.now).0 ≡ prefix_told out.new ∷ (run_of 4 (drop (cursor.new.at - cursor.old.at) rest.now)).0 }
-    ensures place { result ≡ OK → (out.new.afi ≡ IPV4) × ((cursor.old.at ≤ cursor.new.at) × (cursor.new.at ≤ cursor.old.end)) }
-    ensures padded { result ≡ OK → IsPadded out.new }
-    ensures same { cursor.new ≡ record cursor.old { at = cursor.new.at } }
-    ensures over { result ≡ END → (run_of 4 rest.now).0 ≡ [] }
-    ensures kept { result ≡ END → (cursor.new ≡ cursor.old) × (out.new ≡ out.old) }
-    ensures known { (result ≡ OK) ⊎ (result ≡ END) }
-{
-    match first4(rest) {
-        None => END,
-        Some((prefix, count)) => {
-            *out = told4(&prefix);
-            cursor.at += count as u32;
-            OK
-        }
-    }
-}
-
-/// Moves a cursor behind an IPv6 prefix, and tells the prefix.
-fn next6(rest: &[u8], cursor: &mut Prefixes, out: &mut RoutePrefix) -> u32
-    requires { length rest.now + cursor.old.at ≡ cursor.old.end }
-    ensures ok { result ≡ OK → (run_of 16 rest.now).0 ≡ prefix_told out.new ∷ (run_of 16 (drop (cursor.new.at - cursor.old.at) rest.now)).0 }
-    ensures place { result ≡ OK → (out.new.afi ≡ IPV6) × ((cursor.old.at ≤ cursor.new.at) × (cursor.new.at ≤ cursor.old.end)) }
-    ensures padded { result ≡ OK → IsPadded out.new }
-    ensures same { cursor.new ≡ record cursor.old { at = cursor.new.at } }
-    ensures over { result ≡ END → (run_of 16 rest.now).0 ≡ [] }
-    ensures kept { result ≡ END → (cursor.new ≡ cursor.old) × (out.new ≡ out.old) }
-    ensures known { (result ≡ OK) ⊎ (result ≡ END) }
-{
-    match first6(rest) {
-        None => END,
-        Some((prefix, count)) => {
-            *out = told6(&prefix);
-            cursor.at += count as u32;
-            OK
-        }
-    }
-}
-
-/// Gives the prefix that a cursor stands at, and moves the cursor behind it.
-#[tactic(auto, using(crate::proofs::Between::length_between))]
-pub(crate) fn next_prefix(octets: &[u8], cursor: &mut Prefixes, out: &mut RoutePrefix) -> u32
+/// Gives the prefix of this width that a cursor stands at, and moves the cursor behind it.
+#[tactic(auto, using(crate::proofs::PrefixSteps::prefix_fits))]
+fn next_of<const W: usize>(octets: &[u8], cursor: &mut Prefixes, out: &mut RoutePrefix) -> u32
+    requires width { width_of cursor.old.afi ≡ W }
+    requires known { (cursor.old.afi ≡ IPV4) ⊎ (cursor.old.afi ≡ IPV6) }
     ensures ok { result ≡ OK → prefixes_left octets.now cursor.old ≡ prefix_told out.new ∷ prefixes_left octets.now cursor.new }
     ensures afi { result ≡ OK → out.new.afi ≡ cursor.old.afi }
     ensures padded { result ≡ OK → IsPadded out.new }
@@ -158,13 +82,16 @@ pub(crate) fn next_prefix(octets: &[u8], cursor: &mut Prefixes, out: &mut RouteP
     ensures field { cursor.new ≡ record cursor.old { at = cursor.new.at } }
     ensures known { (result ≡ OK) ⊎ ((result ≡ END) ⊎ (result ≡ RANGE)) }
 {
-    match rest_of(octets, cursor) {
-        None => RANGE,
-        Some(rest) => match cursor.afi {
-            afi::IPV4 => next4(rest, cursor, out),
-            afi::IPV6 => next6(rest, cursor, out),
-            _ => RANGE,
-        },
+    let Some(field) = rest_of(octets, cursor) else {
+        return RANGE;
+    };
+    match first_prefix::<W>(field) {
+        None => END,
+        Some(found) => {
+            *out = prefix_row(cursor.afi, &found.0);
+            cursor.at = cursor.end - found.1.len() as u32;
+            OK
+        }
     }
 }
 
@@ -185,7 +112,11 @@ pub extern "C" fn ristulva_next_prefix(
     ensures field { cursor.new ≡ record cursor.old { at = cursor.new.at } }
     ensures known { (result ≡ OK) ⊎ ((result ≡ END) ⊎ (result ≡ RANGE)) }
 {
-    next_prefix(octets, cursor, out)
+    match cursor.afi {
+        afi::IPV4 => next_of::<4>(octets, cursor, out),
+        afi::IPV6 => next_of::<16>(octets, cursor, out),
+        _ => RANGE,
+    }
 }
 
 /// Tells how many prefixes a cursor still gives: it stays where it is.

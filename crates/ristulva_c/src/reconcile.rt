@@ -1,12 +1,8 @@
 //! UPDATEs of a session with AS numbers of two octets, as speakers with four see them.
 
 ghost use Rattle.std.specs.Prelude.{◌≡◌, ◌≤◌, false, Some, length, option_map, IfOk, OnOk};
-ghost use Rattle.bgp_update.specs.Verdict.{verdict_of};
-ghost use Rattle.bgp_update.specs.View.{update_value, notes_value};
-ghost use Rattle.bgp_update.specs.Widths.{with_as4};
-ghost use Rattle.ristulva_c.specs.Context.{context_of};
-ghost use Rattle.ristulva_c.specs.Encode.{taken_of, without_notes, IsCoded};
-ghost use Rattle.ristulva_c.specs.Reconcile.{rebuilt_attrs, reconciled_of, IsReconciled};
+ghost use Rattle.bgp_update.specs.Prelude.{verdict_of, update_value, notes_value, with_as4};
+ghost use Rattle.ristulva_c.specs.Prelude.{context_of, taken_of, without_notes, IsCoded, rebuilt_attrs, reconciled_of, IsReconciled};
 
 use crate::context::{SessionContext, context_of};
 use crate::encode::{Coded, or_memory, tell, with_as4, written};

@@ -2,21 +2,13 @@
 
 ghost use Rattle.std.specs.Prelude.{◌≡◌, ◌+◌, ◌⊎◌, ◌↔◌, ◌≤◌, ◌&&◌, ◌||◌, not, true, false, [], ◌∷◌, length, Some, option_map, IfSome};
 ghost use Rattle.bgp_numbers.specs.declared.afi.TheConstants.{IPV4, IPV6};
-ghost use Rattle.bgp_frame.specs.Kind.{IsLength};
-ghost use Rattle.bgp_frame.specs.Step.{message_in};
+ghost use Rattle.bgp_frame.specs.Prelude.{IsLength, message_in};
 ghost use Rattle.bgp_open.specs.declared.context.Context.{Context};
-ghost use Rattle.bgp_attr.specs.MpView.{reach_value, unreach_value};
-ghost use Rattle.bgp_attr.specs.Mp.{next_hop_length};
-ghost use Rattle.bgp_attr.specs.TlvView.{placed_tlv, tlv_value};
-ghost use Rattle.bgp_attr.specs.FoundAttr.{found_attr_value};
-ghost use Rattle.bgp_update.specs.Parts.{Parts, parts_of};
-ghost use Rattle.bgp_msg.specs.Outcome.{out_of};
-ghost use Rattle.bgp_msg.specs.OutcomeView.{outcome_value};
-ghost use Rattle.ristulva_c.specs.Opens.{flag_of};
-ghost use Rattle.ristulva_c.specs.Context.{context_of, is_set};
-ghost use Rattle.ristulva_c.specs.Prefixes.{IsCursor, IsPadded};
-ghost use Rattle.ristulva_c.specs.RouteList.{is_ip6, has_ip6, carries_ip6, loses_ip6, field_routes, routes_left, moved, route_told, IsRouteCursor, AreBegun};
-ghost use Rattle.ristulva_c.specs.steps.RouteList.{no_prefixes, no_routes, reach_afi, unreach_afi, value_from, reach_by, unreach_by, reach_at, unreach_at, cursor_of, cursor_by};
+ghost use Rattle.bgp_attr.specs.Prelude.{reach_value, unreach_value, next_hop_length, placed_tlv, tlv_value, found_attr_value};
+ghost use Rattle.bgp_update.specs.Prelude.{Parts, parts_of};
+ghost use Rattle.bgp_msg.specs.Prelude.{out_of, outcome_value};
+ghost use Rattle.ristulva_c.specs.Prelude.{flag_of, context_of, is_set, IsCursor, IsPadded, is_ip6, has_ip6, carries_ip6, loses_ip6, field_routes, routes_left, moved, route_told, IsRouteCursor, AreBegun, no_prefixes, no_routes, reach_afi, unreach_afi, value_from, prefixes_by, prefixes_at, cursor_by};
+ghost use Rattle.ristulva_c.specs.steps.RouteList.{cursor_of};
 ghost use Rattle.ristulva_c.specs.declared.status.TheConstants.{END, INCOMPLETE, OK, RANGE};
 
 use crate::context::{SessionContext, context_of};
@@ -24,7 +16,7 @@ use crate::judge::are_octets;
 use crate::opens::flag_of;
 use crate::parts::fields_of;
 use crate::places::first_of_type;
-use crate::prefixes::{Prefixes, RoutePrefix, is_cursor, next_prefix};
+use crate::prefixes::{Prefixes, RoutePrefix, is_cursor, ristulva_next_prefix};
 use crate::status::{END, INCOMPLETE, OK, RANGE};
 use bgp_attr::{AttrView, FoundAttr, MpReachView, MpUnreachView, Tlv, judge_attribute};
 use bgp_frame::{Frame, Step, front};
@@ -134,27 +126,16 @@ fn value_from(afi: u16, field: usize, skipped: usize, tlv: &Tlv<'_>) -> Prefixes
     }
 }
 
-/// The prefixes of MP_REACH_NLRI, where it is kept.
-fn reach_by(field: usize, tlv: &Tlv<'_>, judged: &FoundAttr<'_>) -> Prefixes
+/// The prefixes of MP_REACH_NLRI or MP_UNREACH_NLRI, where it is kept.
+fn prefixes_by(field: usize, tlv: &Tlv<'_>, judged: &FoundAttr<'_>) -> Prefixes
     requires room { field + tlv.now.at + length tlv.now.whole.now ≤ 4096 }
     requires longer { length tlv.now.value.now ≤ length tlv.now.whole.now }
-    ensures { result ≡ reach_by field (placed_tlv tlv.now) (found_attr_value judged.now) }
+    ensures { result ≡ prefixes_by field (placed_tlv tlv.now) (found_attr_value judged.now) }
 {
     match judged {
         FoundAttr::Keep(AttrView::MpReach(reach)) => {
             value_from(reach_afi(reach), field, 5 + next_hop_length(tlv.value), tlv)
         }
-        _ => no_prefixes(),
-    }
-}
-
-/// The prefixes of MP_UNREACH_NLRI, where it is kept.
-fn unreach_by(field: usize, tlv: &Tlv<'_>, judged: &FoundAttr<'_>) -> Prefixes
-    requires room { field + tlv.now.at + length tlv.now.whole.now ≤ 4096 }
-    requires longer { length tlv.now.value.now ≤ length tlv.now.whole.now }
-    ensures { result ≡ unreach_by field (placed_tlv tlv.now) (found_attr_value judged.now) }
-{
-    match judged {
         FoundAttr::Keep(AttrView::MpUnreach(unreach)) => {
             value_from(unreach_afi(unreach), field, 3, tlv)
         }
@@ -162,25 +143,14 @@ fn unreach_by(field: usize, tlv: &Tlv<'_>, judged: &FoundAttr<'_>) -> Prefixes
     }
 }
 
-/// The prefixes of MP_REACH_NLRI, where there is one.
-fn reach_at(ctx: &Context, nlri: bool, field: usize, tlv: &Option<Tlv<'_>>) -> Prefixes
+/// The same, where there is one.
+fn prefixes_at(ctx: &Context, nlri: bool, field: usize, tlv: &Option<Tlv<'_>>) -> Prefixes
     requires { IfSome tlv.now (λ t. (field + t.at + length t.whole.now ≤ 4096) × ((length t.whole.now ≤ 4075) × (length t.value.now ≤ length t.whole.now))) }
-    ensures { result ≡ reach_at ctx.now nlri field (option_map placed_tlv tlv.now) }
+    ensures { result ≡ prefixes_at ctx.now nlri field (option_map placed_tlv tlv.now) }
 {
     match tlv {
         None => no_prefixes(),
-        Some(tlv) => reach_by(field, tlv, &judge_attribute(ctx, nlri, tlv)),
-    }
-}
-
-/// The prefixes of MP_UNREACH_NLRI, where there is one.
-fn unreach_at(ctx: &Context, nlri: bool, field: usize, tlv: &Option<Tlv<'_>>) -> Prefixes
-    requires { IfSome tlv.now (λ t. (field + t.at + length t.whole.now ≤ 4096) × ((length t.whole.now ≤ 4075) × (length t.value.now ≤ length t.whole.now))) }
-    ensures { result ≡ unreach_at ctx.now nlri field (option_map placed_tlv tlv.now) }
-{
-    match tlv {
-        None => no_prefixes(),
-        Some(tlv) => unreach_by(field, tlv, &judge_attribute(ctx, nlri, tlv)),
+        Some(tlv) => prefixes_by(field, tlv, &judge_attribute(ctx, nlri, tlv)),
     }
 }
 
@@ -233,8 +203,8 @@ fn cursor_of(
             end: (21 + withdrawn) as u32,
             afi: afi::IPV4,
         },
-        unreached: unreach_at(ctx, nlri > 0, 23 + withdrawn, &unreach),
-        reached: reach_at(ctx, nlri > 0, 23 + withdrawn, &reach),
+        unreached: prefixes_at(ctx, nlri > 0, 23 + withdrawn, &unreach),
+        reached: prefixes_at(ctx, nlri > 0, 23 + withdrawn, &reach),
         nlri: Prefixes {
             at: behind as u32,
             end: (behind + nlri) as u32,
@@ -316,7 +286,7 @@ fn next_in(octets: &[u8], announced: bool, cursor: &mut Prefixes, out: &mut Rout
     ensures field { cursor.new ≡ record cursor.old { at = cursor.new.at } }
 {
     let mut prefix = out.prefix;
-    if next_prefix(octets, cursor, &mut prefix) != OK {
+    if ristulva_next_prefix(octets, cursor, &mut prefix) != OK {
         return false;
     }
     *out = Route {

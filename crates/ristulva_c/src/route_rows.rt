@@ -1,29 +1,28 @@
 //! The routes of messages in rows.
 
 ghost use Rattle.std.specs.Prelude.{◌≡◌, ◌+◌, ◌≤◌, length, option_map};
-ghost use Rattle.bgp_prefix.specs.PrefixIter.{prefixes_left};
-ghost use Rattle.bgp_attr.specs.MpView.{reach_value, unreach_value};
-ghost use Rattle.bgp_update.specs.Parts.{parts_of};
-ghost use Rattle.bgp_update.specs.View.{update_value};
-ghost use Rattle.bgp_msg.specs.OutcomeView.{outcome_value};
+ghost use Rattle.bgp_prefix.specs.Prelude.{prefixes_left};
+ghost use Rattle.bgp_attr.specs.Prelude.{reach_value, unreach_value};
+ghost use Rattle.bgp_update.specs.Prelude.{parts_of, update_value};
+ghost use Rattle.bgp_msg.specs.Prelude.{outcome_value};
 ghost use Rattle.ristulva_c.specs.Batch.{IsBatch};
 ghost use Rattle.ristulva_c.specs.Context.{context_of};
 ghost use Rattle.ristulva_c.specs.Facts.{paths_told};
-ghost use Rattle.ristulva_c.specs.RouteRows.{GivesRoutes, place_of, prefix_row, withdrawn_row, announced_row};
+ghost use Rattle.ristulva_c.specs.RouteRows.{GivesRoutes, place_of, withdrawn_row, announced_row};
 ghost use Rattle.ristulva_c.specs.steps.Batch.{Adds};
 ghost use Rattle.ristulva_c.specs.steps.RouteRows.{AreWithin, no_prefix, prefix_rows, reached_rows, unreached_rows, update_rows};
 
 use crate::batch::{Batch, take_all};
 use crate::context::SessionContext;
-use crate::copied::copy_into;
 use crate::facts::{Paths, paths_told};
 use crate::judge::{UPDATE, WITHDRAW, are_octets};
-use crate::prefixes::RoutePrefix;
+use crate::prefixes::{RoutePrefix, prefix_row};
+use crate::rows_left::{Rows, put_rows};
 use crate::span::Span;
 use bgp_attr::{MpReachView, MpUnreachView};
 use bgp_msg::OutcomeView;
 use bgp_numbers::afi;
-use bgp_prefix::{Prefix, PrefixIter};
+use bgp_prefix::PrefixIter;
 use bgp_update::UpdateView;
 
 /// Where octets lie in a message: of none, at 0, where there are none.
@@ -78,20 +77,6 @@ fn place_of(span: Span) -> Place
     }
 }
 
-/// A prefix as it is told.
-fn prefix_row<const W: usize>(afi: u16, prefix: &Prefix<W>) -> RoutePrefix
-    requires { W ≤ 16 }
-    ensures { result ≡ prefix_row afi prefix.now }
-{
-    let mut addr = [0; 16];
-    copy_into(&prefix.addr(), &mut addr);
-    RoutePrefix {
-        afi,
-        len: prefix.len(),
-        addr,
-    }
-}
-
 /// The row of a route that is withdrawn, but for its prefix.
 fn withdrawn_row(message: u64, verdict: u8) -> RouteRow
     ensures { result ≡ withdrawn_row message verdict no_prefix }
@@ -132,6 +117,34 @@ fn announced_row(message: u64, verdict: u8, paths: &Paths) -> RouteRow
     }
 }
 
+/// The prefixes of a field that are to come, and a row that has all but the prefix.
+#[derive(Clone, Copy)]
+struct PrefixesLeft<'a, const W: usize> {
+    afi: u16,
+    prefixes: PrefixIter<'a, W>,
+    row: RouteRow,
+    ghost short: { W ≤ 16 },
+}
+
+impl<'a, const W: usize> Rows for PrefixesLeft<'a, W> {
+    ghost use Rattle.std.specs.Prelude.{map};
+    ghost use Rattle.bgp_prefix.specs.Prelude.{prefixes_left};
+    ghost use Rattle.ristulva_c.specs.steps.RouteRows.{with_prefix};
+
+    type Row = RouteRow;
+
+    ghost left = { λ rows. map (with_prefix rows.row rows.afi) (prefixes_left rows.prefixes) };
+
+    #[tactic(auto, using(crate::proofs::Rows::told_first, crate::proofs::Rows::told_none))]
+    fn next_row(&mut self) -> Option<RouteRow> {
+        let prefix = self.prefixes.next()?;
+        Some(RouteRow {
+            prefix: prefix_row(self.afi, &prefix),
+            ..self.row
+        })
+    }
+}
+
 /// Writes rows of prefixes from a place of a list on. Answers the place behind them.
 fn put_prefixes<const W: usize>(
     afi: u16,
@@ -141,20 +154,16 @@ fn put_prefixes<const W: usize>(
     from: usize,
 ) -> usize
     requires width { W ≤ 16 }
-    requires room { from + length (prefixes_left prefixes) ≤ length list.old }
+    requires room { from + length (prefix_rows row.now afi (prefixes_left prefixes)) ≤ length list.old }
     ensures adds { Adds (prefix_rows row.now afi (prefixes_left prefixes.entry)) from result list.old list.new }
-    ensures to { result ≡ from + length (prefixes_left prefixes.entry) }
+    ensures to { result ≡ from + length (prefix_rows row.now afi (prefixes_left prefixes.entry)) }
 {
-    let mut to = from;
-    let mut left = prefixes;
-    'prefixes: while let Some(prefix) = left.next() {
-        list[to] = RouteRow {
-            prefix: prefix_row(afi, &prefix),
-            ..*row
-        };
-        to += 1;
-    }
-    to
+    let left = PrefixesLeft {
+        afi,
+        prefixes,
+        row: *row,
+    };
+    put_rows(left, list, from)
 }
 
 /// Writes the rows of MP_REACH_NLRI.

@@ -1,10 +1,8 @@
 //! Where the prefixes of MP_REACH_NLRI and MP_UNREACH_NLRI lie.
 
 ghost use Rattle.std.specs.Prelude.{◌≡◌, ◌+◌, ◌⊎◌, ◌↔◌, ◌≤◌, length, MatchOption};
-ghost use Rattle.bgp_attr.specs.Mp.{afi_of, next_hop_length, mp_reach_of, mp_unreach_of};
-ghost use Rattle.ristulva_c.specs.Span.{octets_in};
-ghost use Rattle.ristulva_c.specs.Prefixes.{prefixes_left};
-ghost use Rattle.ristulva_c.specs.Routes.{reach_prefixes, unreach_prefixes, hop_of, LiesIn, HasFamily, IsReachValue, IsReach, IsUnreach};
+ghost use Rattle.bgp_attr.specs.Prelude.{afi_of, next_hop_length, mp_reach_of, mp_unreach_of};
+ghost use Rattle.ristulva_c.specs.Prelude.{octets_in, prefixes_left, reach_prefixes, unreach_prefixes, hop_of, LiesIn, HasFamily, IsReachValue, IsReach, IsUnreach};
 ghost use Rattle.ristulva_c.specs.declared.status.TheConstants.{OK, RANGE};
 
 use crate::prefixes::Prefixes;

@@ -1,8 +1,8 @@
 //! Which attributes a guard hands on.
 
 ghost use Rattle.std.specs.Prelude.{◌≡◌, not};
-ghost use Rattle.bgp_wire.specs.OctetSet.{has_octet};
-ghost use Rattle.ristulva_c.specs.Guard.{all_but, IsSetTo};
+ghost use Rattle.bgp_wire.specs.Prelude.{has_octet};
+ghost use Rattle.ristulva_c.specs.Prelude.{all_but, IsSetTo};
 
 use crate::cleaning::set_of;
 use bgp_guard::Rules;

@@ -1,9 +1,7 @@
 //! Segments of a path one after another.
 
 ghost use Rattle.std.specs.Prelude.{◌≡◌, ◌⊎◌, ◌↔◌, [], ◌∷◌, MatchOption};
-ghost use Rattle.ristulva_c.specs.Prefixes.{between};
-ghost use Rattle.ristulva_c.specs.Context.{is_set};
-ghost use Rattle.ristulva_c.specs.Segments.{IsSegments, segments_left, segment_told};
+ghost use Rattle.ristulva_c.specs.Prelude.{between, is_set, IsSegments, segments_left, segment_told};
 ghost use Rattle.ristulva_c.specs.declared.status.TheConstants.{END, OK, RANGE};
 
 use crate::span::Span;

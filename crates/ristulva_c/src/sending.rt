@@ -1,16 +1,11 @@
 //! An UPDATE as a session sends it.
 
 ghost use Rattle.std.specs.Prelude.{◌≡◌, ◌<◌, ◌≤◌, ◌⊎◌, true, None, Some, length};
-ghost use Rattle.bgp_update.specs.Verdict.{verdict_of};
-ghost use Rattle.bgp_update.specs.View.{update_value, notes_value};
-ghost use Rattle.bgp_update.specs.Widths.{with_as4};
-ghost use Rattle.bgp_update.specs.Written.{invalid_of};
+ghost use Rattle.bgp_update.specs.Prelude.{verdict_of, update_value, notes_value, with_as4, invalid_of};
 ghost use Rattle.bgp_machine.specs.declared.state.State.TheVariants as state;
-ghost use Rattle.bgp_machine.specs.Sending.{keepalive_on};
-ghost use Rattle.ristulva_c.specs.Actions.{actions_told};
-ghost use Rattle.ristulva_c.specs.Encode.{taken_of, without_notes};
+ghost use Rattle.bgp_machine.specs.Prelude.{keepalive_on};
+ghost use Rattle.ristulva_c.specs.Prelude.{actions_told, taken_of, without_notes, WithRoom};
 ghost use Rattle.ristulva_c.specs.Sending.{IsOutgoing, Sends, SendsBody};
-ghost use Rattle.ristulva_c.specs.Session.{WithRoom};
 
 use crate::actions::{Actions, actions_told};
 use crate::encode::with_as4;

@@ -1,9 +1,9 @@
 //! A session's life: it is made, told what happens, and freed.
 
 ghost use Rattle.std.specs.Prelude.{◌≡◌, ◌≤◌, ◌⊎◌};
-ghost use Rattle.bgp_open.specs.Config.{config_of};
-ghost use Rattle.ristulva_c.specs.Config.{settings_of};
-ghost use Rattle.ristulva_c.specs.Session.{IsMade, IsFreed, IsStateTold, Follows, WithRoom};
+ghost use Rattle.bgp_open.specs.Prelude.{config_of};
+ghost use Rattle.ristulva_c.specs.Prelude.{settings_of, IsStateTold, Follows, WithRoom};
+ghost use Rattle.ristulva_c.specs.Session.{IsMade, IsFreed};
 ghost use Rattle.ristulva_c.specs.States.{event_of};
 
 use crate::actions::{Actions, actions_told};

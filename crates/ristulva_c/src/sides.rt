@@ -1,8 +1,9 @@
 //! The sides of a guard, and what happens to one, as numbers.
 
 ghost use Rattle.std.specs.Prelude.{◌≡◌, ◌==◌};
-ghost use Rattle.bgp_guard.specs.Events.{for_side};
-ghost use Rattle.ristulva_c.specs.Guard.{side_of, event_of, rule_of};
+ghost use Rattle.bgp_guard.specs.Prelude.{for_side};
+ghost use Rattle.ristulva_c.specs.Prelude.{side_of, rule_of};
+ghost use Rattle.ristulva_c.specs.Guard.{event_of};
 
 use bgp_guard::{Guard, Side};
 

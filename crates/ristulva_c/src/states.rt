@@ -1,8 +1,9 @@
 //! The states and the timers of a session, and what happens to it, as numbers.
 
 ghost use Rattle.std.specs.Prelude.{◌≡◌, ◌==◌};
-ghost use Rattle.ristulva_c.specs.States.{number_of_state, number_of_timer, event_of};
-ghost use Rattle.bgp_machine.specs.Standing.{listens};
+ghost use Rattle.ristulva_c.specs.Prelude.{number_of_state, number_of_timer};
+ghost use Rattle.ristulva_c.specs.States.{event_of};
+ghost use Rattle.bgp_machine.specs.Prelude.{listens};
 
 use bgp_machine::{Event, State, Timer};
 

@@ -2,12 +2,10 @@
 
 ghost use Rattle.std.specs.Prelude.{◌≡◌, ◌+◌, ◌≤◌, ℕ, List, Some, length, IfOk};
 ghost use Rattle.std.specs.String.{string_bytes};
-ghost use Rattle.bgp_frame.specs.Kind.{IsLength};
-ghost use Rattle.bgp_frame.specs.Step.{message_in};
-ghost use Rattle.bgp_msg.specs.Outcome.{out_of, of_fault};
+ghost use Rattle.bgp_frame.specs.Prelude.{IsLength, message_in};
+ghost use Rattle.bgp_msg.specs.Prelude.{out_of, of_fault};
 ghost use Rattle.bgp_text.specs.Outcome.{outcome_lines};
-ghost use Rattle.ristulva_c.specs.Context.{context_of};
-ghost use Rattle.ristulva_c.specs.Text.{Prints, IsPrinted};
+ghost use Rattle.ristulva_c.specs.Prelude.{context_of, Prints, IsPrinted};
 
 use crate::context::{SessionContext, context_of};
 use crate::status::{INCOMPLETE, MEMORY};

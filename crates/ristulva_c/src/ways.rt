@@ -1,10 +1,9 @@
 //! What a guard asks of its owner, and what is on the way to its sides.
 
 ghost use Rattle.std.specs.Prelude.{◌≡◌, ◌≤◌, Some, length, take};
-ghost use Rattle.ristulva_c.specs.Guard.{side_of, asks_told, GoesOn, IsAsked, IsFrontOf, ShowsWay, IsPeerTold};
-ghost use Rattle.ristulva_c.specs.Agreed.{IsKnown};
-ghost use Rattle.bgp_guard.specs.Guard.{half};
-ghost use Rattle.bgp_guard.specs.Events.{sent};
+ghost use Rattle.ristulva_c.specs.Prelude.{side_of, asks_told, GoesOn, IsAsked, IsFrontOf, ShowsWay, IsKnown};
+ghost use Rattle.ristulva_c.specs.Guard.{IsPeerTold};
+ghost use Rattle.bgp_guard.specs.Prelude.{half, sent};
 ghost use Rattle.ristulva_c.specs.declared.status.TheConstants.{OK};
 
 use crate::agreed::{ToldPeer, peer_said};

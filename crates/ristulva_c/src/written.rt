@@ -1,6 +1,6 @@
 //! A text or a message into a buffer of the caller's.
 
-ghost use Rattle.ristulva_c.specs.Text.{IsWritten};
+ghost use Rattle.ristulva_c.specs.Prelude.{IsWritten};
 
 use crate::copied::copy_into;
 use crate::status::{OK, ROOM};

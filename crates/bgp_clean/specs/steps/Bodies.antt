@@ -5,12 +5,8 @@ use Rattle.bgp_frame.specs.declared.kind.Kind.{Kind}
 use Rattle.bgp_frame.specs.declared.kind.Kind.TheVariants as kind
 use Rattle.bgp_frame.specs.Frame as frame
 use Rattle.bgp_open.specs.declared.context.Context.{Context}
-use Rattle.bgp_attr.specs.Written.{is_writable}
-use Rattle.bgp_update.specs.Slots.{attr_list}
-use Rattle.bgp_update.specs.Chosen.{chosen_update}
-use Rattle.bgp_update.specs.View.{routes_value}
-use Rattle.bgp_update.specs.Withdrawal.{withdrawal_octets}
-use Rattle.bgp_update.specs.Written.{written_body}
+use Rattle.bgp_attr.specs.Prelude.{is_writable}
+use Rattle.bgp_update.specs.Prelude.{attr_list, chosen_update, routes_value, withdrawal_octets, written_body}
 use Rattle.bgp_clean.specs.declared.whole.Body.{Body}
 use Rattle.bgp_clean.specs.declared.whole.Body.TheVariants as body
 

@@ -1,6 +1,6 @@
 -- Steps of an engine: what it makes of octets, and how it goes on behind them.
 use Rattle.std.specs.Prelude.{◌≡◌, ℕ, Bool, true, false, List, [], ◌++◌, Result, Ok, Err}
-use Rattle.bgp_wire.specs.Octets.{AreOctets}
+use Rattle.bgp_wire.specs.Prelude.{AreOctets}
 use Rattle.bgp_engine.specs.declared.tally.Tally.{Tally}
 use Rattle.bgp_engine.specs.declared.fault.ToolFault.{ToolFault}
 use Rattle.bgp_engine.specs.declared.fault.ToolFault.TheVariants as fault

@@ -1,6 +1,6 @@
 -- A reader of hexadecimal text, character by character.
 use Rattle.std.specs.Prelude.{◌≡◌, ℕ, ◌+◌, ◌-◌, ◌*◌, List, [], ◌∷◌, ◌++◌, length, Some, option_to_list}
-use Rattle.bgp_wire.specs.Octets.{AreOctets}
+use Rattle.bgp_wire.specs.Prelude.{AreOctets}
 use Rattle.bgp_engine.specs.declared.hex_text.HexText.{HexText}
 use Rattle.bgp_engine.specs.declared.hex_text.Taken.{Taken}
 use Rattle.bgp_engine.specs.declared.hex_text.Taken.TheVariants as taken

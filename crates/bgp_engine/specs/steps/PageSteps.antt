@@ -2,7 +2,7 @@
 use Rattle.std.specs.Prelude.{◌≡◌, ℕ, Bool, List, [], ◌++◌, Option, unwrap_or}
 use Rattle.bgp_open.specs.declared.context.Context.{Context}
 use Rattle.bgp_msg.specs.declared.outcome.Outcome.{Outcome}
-use Rattle.bgp_msg.specs.Outcome.{is_reset}
+use Rattle.bgp_msg.specs.Prelude.{is_reset}
 use Rattle.bgp_engine.specs.declared.class.Class.{Class}
 use Rattle.bgp_fields.specs.declared.field.Span.{Span}
 use Rattle.bgp_engine.specs.Explain.{heard_lines}

@@ -1,8 +1,8 @@
 -- Steps of an engine that takes the first message of its stream by a rule of its own.
 use Rattle.std.specs.Prelude.{◌≡◌, ℕ, Bool, true, false, List, [], ◌++◌, Option, None, Some, option_map}
-use Rattle.bgp_wire.specs.Octets.{AreOctets}
+use Rattle.bgp_wire.specs.Prelude.{AreOctets}
 use Rattle.bgp_frame.specs.declared.end.End.TheVariants as end
-use Rattle.bgp_frame.specs.Frame.{Message, Waits}
+use Rattle.bgp_frame.specs.Prelude.{Message, Waits}
 use Rattle.bgp_open.specs.declared.context.Context.{Context}
 use Rattle.bgp_engine.specs.declared.opening.Stage.{Stage}
 use Rattle.bgp_engine.specs.declared.opening.Stage.TheVariants as stage

@@ -1,14 +1,11 @@
 -- Steps of a walk over the messages of a stream, which is a hearer of octets.
 use Rattle.std.specs.Prelude.{◌≡◌, ℕ, ◌+◌, ◌-◌, ◌≤◌, ◌^◌, Bool, true, List, [], ◌++◌, length, is_none, is_some, Option, None, Some, Result, Ok, Err, if◌then◌else◌}
-use Rattle.bgp_wire.specs.Octets.{AreOctets}
+use Rattle.bgp_wire.specs.Prelude.{AreOctets}
 use Rattle.bgp_frame.specs.declared.end.End.{End}
-use Rattle.bgp_frame.specs.declared.end.End.TheVariants as end
 use Rattle.bgp_frame.specs.declared.fault.HeadFault.{HeadFault}
-use Rattle.bgp_frame.specs.Frame.{Message, Waits}
-use Rattle.bgp_frame.specs.Hearing.{Hearer, Done, PullsNext, by_feed, left_to_do, given}
+use Rattle.bgp_frame.specs.Prelude.{Message, Waits, Hearer, Done, PullsNext, by_feed, left_to_do, given, IsToFeed, outcome_of}
+use Rattle.bgp_frame.specs.declared.end.End.TheVariants as end
 use Rattle.bgp_frame.specs.Hearing as hearing
-use Rattle.bgp_frame.specs.Pull.{IsToFeed}
-use Rattle.bgp_frame.specs.Stream.{outcome_of}
 use Rattle.bgp_engine.specs.declared.tally.Tally.{Tally}
 use Rattle.bgp_engine.specs.declared.walk.Walk.{Walk}
 use Rattle.bgp_engine.specs.Report.{Report, behind, IsOver}

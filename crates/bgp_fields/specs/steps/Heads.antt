@@ -1,6 +1,6 @@
 -- The flags, the type and the length of an attribute, all at once.
 use Rattle.std.specs.Prelude.{◌≡◌, ◌+◌, ◌≤◌, ℕ, List, [], ◌∷◌, length, take, drop, Some}
-use Rattle.bgp_attr.specs.Tlv.{length_width}
+use Rattle.bgp_attr.specs.Prelude.{length_width}
 use Rattle.bgp_fields.specs.declared.field.Field.{Field}
 use Rattle.bgp_fields.specs.declared.head.Head.{Head}
 use Rattle.bgp_fields.specs.declared.kind.FieldKind.TheVariants.{AttributeFlags, AttributeType, AttributeLength}

@@ -1,5 +1,5 @@
 -- What borrowed sections of a body are.
-use Rattle.bgp_update.specs.Parts.{Parts}
+use Rattle.bgp_update.specs.Prelude.{Parts}
 use Rattle.bgp_fields.specs.declared.sections.Sections.{Sections}
 
 abbrev pub sections_value : Sections → Parts

@@ -4,8 +4,7 @@ use Rattle.bgp_frame.specs.declared.kind.Kind.{Kind}
 use Rattle.bgp_frame.specs.declared.kind.Kind.TheVariants as kind
 use Rattle.bgp_open.specs.declared.fault.OpenFault.{OpenFault}
 use Rattle.bgp_open.specs.declared.message.Open.{Open}
-use Rattle.bgp_open.specs.OpenFault.{reading_of}
-use Rattle.bgp_open.specs.Peer.{Said, said_by}
+use Rattle.bgp_open.specs.Prelude.{reading_of, Said, said_by}
 use Rattle.bgp_msg.specs.declared.message.Message.{Message}
 use Rattle.bgp_msg.specs.declared.message.Message.TheVariants as message
 use Rattle.bgp_guard.specs.declared.came.Came.{Came}

@@ -2,8 +2,7 @@
 use Rattle.std.specs.Prelude.{◌≡◌, ◌<◌, ◌≤◌, ℕ, Bool, true, false, nat_lt, List, [], ◌∷◌, length, drop, Option, None, Some, if◌then◌else◌}
 use Rattle.bgp_machine.specs.declared.action.Action.{Action}
 use Rattle.bgp_machine.specs.declared.state.State.{State}
-use Rattle.bgp_machine.specs.Standing.{listens}
-use Rattle.bgp_machine.specs.steps.Ready.{weight}
+use Rattle.bgp_machine.specs.Prelude.{listens, weight}
 use Rattle.bgp_host.specs.declared.link.Link.{Link}
 use Rattle.bgp_host.specs.declared.link.Link.TheVariants.{Up}
 use Rattle.bgp_host.specs.Records.{Notice, Stood, Grows}

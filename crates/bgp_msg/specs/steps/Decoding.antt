@@ -1,9 +1,8 @@
 -- Steps of decoding a stream: what octets that were taken come to, and how it goes on behind them.
 use Rattle.std.specs.Prelude.{◌≡◌, ◌==◌, ◌<◌, ◌≤◌, ℕ, false, List, [], ◌++◌, length, take, Option, None, Some, if◌then◌else◌}
 use Rattle.bgp_frame.specs.declared.end.End.{End}
+use Rattle.bgp_frame.specs.Prelude.{Waits, Gives}
 use Rattle.bgp_frame.specs.declared.end.End.TheVariants as end
-use Rattle.bgp_frame.specs.Frame.{Waits}
-use Rattle.bgp_frame.specs.Stream.{Gives}
 use Rattle.bgp_open.specs.declared.context.Context.{Context}
 use Rattle.bgp_msg.specs.declared.outcome.Outcome.{Outcome}
 use Rattle.bgp_msg.specs.Outcome.{stream_rules}

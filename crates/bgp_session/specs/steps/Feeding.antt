@@ -1,8 +1,6 @@
 -- Steps of the proof that pulling a piece does, and shows, what its octets do one by one. Only private functions cite them.
 use Rattle.std.specs.Prelude.{◌≡◌, ◌<◌, ◌≤◌, ℕ, List, ◌++◌, length, drop, Option, None, Some}
-use Rattle.bgp_machine.specs.Cutting.{IsAtRest, settled}
-use Rattle.bgp_machine.specs.steps.Ready.{IsReady, left_to_do, weight}
-use Rattle.bgp_machine.specs.Session.{Machine}
+use Rattle.bgp_machine.specs.Prelude.{IsAtRest, settled, IsReady, left_to_do, weight, Machine}
 use Rattle.bgp_session.specs.declared.side.Side.{Side}
 use Rattle.bgp_session.specs.Pair.{with_session, Pair, pair, all_acted}
 use Rattle.bgp_session.specs.Sight.{Sight, observed, settled_seen, octets_seen}

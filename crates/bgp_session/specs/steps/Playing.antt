@@ -1,7 +1,6 @@
 -- Steps of the proof that moves are made as they are defined. Only private functions cite them.
 use Rattle.std.specs.Prelude.{◌≡◌, ◌≤◌, ℕ, Bool, true, false, List, [], ◌∷◌, ◌++◌, length, Option, None, Some}
-use Rattle.bgp_machine.specs.Cutting.{IsAtRest}
-use Rattle.bgp_machine.specs.Sending.{refusal_of}
+use Rattle.bgp_machine.specs.Prelude.{IsAtRest, refusal_of}
 use Rattle.bgp_machine.specs.declared.send_fault.SendFault.{SendFault}
 use Rattle.bgp_update.specs.declared.update.Update.{Update}
 use Rattle.bgp_session.specs.declared.moves.Move.{Move}

@@ -1,7 +1,7 @@
 //! Wires that fail at a call, that change what they are given, and that record it: what `run_loop` writes then.
 
 ghost use Rattle.std.specs.Prelude.{◌≡◌, ◌+◌, true, false, nat_lt, if◌then◌else◌};
-ghost use Rattle.bgp_session.specs.Wire.{failed_after};
+ghost use Rattle.bgp_session.specs.Prelude.{failed_after};
 
 use bgp_loop::run_loop;
 use bgp_script::SCRIPT_MAX;

@@ -3,7 +3,7 @@ use Rattle.std.specs.Prelude.{Bool, ◌&&◌, ◌||◌, List, Option, None}
 use Rattle.std.specs.List.{list_any}
 use Rattle.bgp_open.specs.declared.context.Context.{Context}
 use Rattle.bgp_attr.specs.declared.attr.Attr.{Attr}
-use Rattle.bgp_attr.specs.Written.{is_too_wide, is_as4, is_empty, has_as_zero, stands_twice}
+use Rattle.bgp_attr.specs.Prelude.{is_too_wide, is_as4, is_empty, has_as_zero, stands_twice}
 use Rattle.bgp_update.specs.declared.failed.Failed.{Failed}
 use Rattle.bgp_update.specs.declared.invalid.Invalid.{Invalid}
 use Rattle.bgp_update.specs.declared.invalid.Invalid.TheVariants as invalid

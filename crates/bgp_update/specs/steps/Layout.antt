@@ -2,8 +2,8 @@
 use Rattle.std.specs.Prelude.{◌≡◌, ◌+◌, ℕ, List, ◌∷◌, ◌++◌, length}
 use Rattle.std.specs.List.{AllByRecursion}
 use Rattle.bgp_open.specs.declared.context.Context.{Context}
-use Rattle.bgp_prefix.specs.Prefix.{IsValid}
-use Rattle.bgp_attr.specs.Written.{run_octets, HasRanges}
+use Rattle.bgp_prefix.specs.Prelude.{IsValid}
+use Rattle.bgp_attr.specs.Prelude.{run_octets, HasRanges}
 use Rattle.bgp_update.specs.declared.update.Update.{Update}
 use Rattle.bgp_update.specs.declared.laying.Places.{Places}
 use Rattle.bgp_update.specs.Slots.{attr_list}

@@ -1,7 +1,7 @@
 -- How far the attributes of a row of types are written.
 use Rattle.std.specs.Prelude.{◌≡◌, ℕ, ◌+◌, ◌<◌, List, ◌++◌, length, take, Result, OnOk, OnErr}
 use Rattle.std.specs.List.{flat_map}
-use Rattle.bgp_wire.specs.steps.Output.{Extends}
+use Rattle.bgp_wire.specs.Prelude.{Extends}
 use Rattle.bgp_attr.specs.declared.attr.Attr.{Attr}
 
 -- those of so many types are written behind what was there, or there was no room for all of them

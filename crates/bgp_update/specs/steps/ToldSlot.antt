@@ -1,6 +1,6 @@
 -- The attributes that are told, while their values lie in octets.
 use Rattle.std.specs.Prelude.{List}
-use Rattle.bgp_attr.specs.declared.attr_view.OpaqueView.{OpaqueView}
+use Rattle.bgp_attr.specs.declared.opaque.OpaqueView.{OpaqueView}
 use Rattle.bgp_update.specs.declared.attrs.Attrs.{Attrs}
 use Rattle.bgp_update.specs.declared.kept_view.KeptView.{KeptView}
 use Rattle.bgp_update.specs.As4.{narrowed}

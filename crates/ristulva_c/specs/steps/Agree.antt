@@ -1,10 +1,10 @@
 -- What an OPEN at the front of octets tells of its speaker, where there is one.
 use Rattle.std.specs.Prelude.{◌≡◌, ℕ, List, Result, Ok, Err}
 use Rattle.bgp_frame.specs.declared.step.Step.{Step}
-use Rattle.bgp_frame.specs.Step.{ShowsFront}
+use Rattle.bgp_frame.specs.Prelude.{ShowsFront}
 use Rattle.bgp_open.specs.declared.message.Open.{Open}
+use Rattle.bgp_open.specs.Prelude.{said_by, said_of}
 use Rattle.bgp_open.specs.declared.peer.Peer.{Peer}
-use Rattle.bgp_open.specs.Peer.{said_by, said_of}
 use Rattle.ristulva_c.specs.Agree.{open_at}
 
 abbrev pub IsPeer : Result Open ℕ → Result Peer ℕ → Type 0

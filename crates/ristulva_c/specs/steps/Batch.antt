@@ -3,12 +3,12 @@ use Rattle.std.specs.Prelude.{◌≡◌, ◌+◌, ◌-◌, ◌<◌, ◌≤◌, �
 use Rattle.bgp_frame.specs.declared.kind.Kind.{Kind}
 use Rattle.bgp_frame.specs.declared.step.Frame.{Frame}
 use Rattle.bgp_frame.specs.declared.step.Step.{Step}
+use Rattle.bgp_frame.specs.Prelude.{ShowsFront}
 use Rattle.bgp_frame.specs.declared.step.Step.TheVariants as step
-use Rattle.bgp_frame.specs.Step.{ShowsFront}
 use Rattle.bgp_open.specs.declared.context.Context.{Context}
-use Rattle.bgp_update.specs.Parts.{parts_of}
+use Rattle.bgp_update.specs.Prelude.{parts_of}
 use Rattle.bgp_msg.specs.declared.outcome.Outcome.{Outcome}
-use Rattle.bgp_msg.specs.Outcome.{is_reset, out_of}
+use Rattle.bgp_msg.specs.Prelude.{is_reset, out_of}
 use Rattle.ristulva_c.specs.Batch.{Giving, IsTaken, EndsAt, outcome_in}
 
 -- an outcome is that of a message with this body

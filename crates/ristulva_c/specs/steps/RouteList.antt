@@ -5,15 +5,14 @@ use Rattle.bgp_numbers.specs.declared.attribute.TheConstants.{MP_REACH_NLRI, MP_
 use Rattle.bgp_open.specs.declared.context.Context.{Context}
 use Rattle.bgp_attr.specs.declared.attr.Attr.TheVariants as attr
 use Rattle.bgp_attr.specs.declared.judged.Judged.{Judged}
-use Rattle.bgp_attr.specs.declared.judged.Judged.TheVariants as judged
 use Rattle.bgp_attr.specs.declared.mp.MpReach.{MpReach}
-use Rattle.bgp_attr.specs.declared.mp.MpReach.TheVariants as reach
 use Rattle.bgp_attr.specs.declared.mp.MpUnreach.{MpUnreach}
+use Rattle.bgp_attr.specs.Prelude.{judgement, next_hop_length, PlacedTlv}
+use Rattle.bgp_attr.specs.declared.judged.Judged.TheVariants as judged
+use Rattle.bgp_attr.specs.declared.mp.MpReach.TheVariants as reach
 use Rattle.bgp_attr.specs.declared.mp.MpUnreach.TheVariants as unreach
-use Rattle.bgp_attr.specs.Judgement.{judgement}
-use Rattle.bgp_attr.specs.Mp.{next_hop_length}
-use Rattle.bgp_attr.specs.Tlv.{PlacedTlv}
-use Rattle.bgp_update.specs.Parts.{Parts, has_nlri}
+use Rattle.bgp_update.specs.Prelude.{Parts}
+use Rattle.bgp_update.specs.Parts.{has_nlri}
 use Rattle.bgp_msg.specs.declared.message.Message.TheVariants as message
 use Rattle.bgp_msg.specs.declared.outcome.Outcome.{Outcome}
 use Rattle.bgp_msg.specs.declared.outcome.Outcome.TheVariants as outcome
@@ -45,27 +44,21 @@ value_from afi field skipped q = record {
   afi = afi;
 }
 
-abbrev pub reach_by : ℕ → PlacedTlv → Judged → Prefixes
-reach_by field q (judged.Keep (attr.MpReach r)) = value_from (reach_afi r) field (5 + next_hop_length q.tlv.value) q
-reach_by field q _ = no_prefixes
+-- the prefixes of MP_REACH_NLRI or MP_UNREACH_NLRI, where it is kept
+abbrev pub prefixes_by : ℕ → PlacedTlv → Judged → Prefixes
+prefixes_by field q (judged.Keep (attr.MpReach r)) = value_from (reach_afi r) field (5 + next_hop_length q.tlv.value) q
+prefixes_by field q (judged.Keep (attr.MpUnreach r)) = value_from (unreach_afi r) field 3 q
+prefixes_by field q _ = no_prefixes
 
-abbrev pub unreach_by : ℕ → PlacedTlv → Judged → Prefixes
-unreach_by field q (judged.Keep (attr.MpUnreach r)) = value_from (unreach_afi r) field 3 q
-unreach_by field q _ = no_prefixes
-
-abbrev pub reach_at : Context → Bool → ℕ → Option PlacedTlv → Prefixes
-reach_at ctx nlri field None = no_prefixes
-reach_at ctx nlri field (Some q) = reach_by field q (judgement ctx nlri q.tlv)
-
-abbrev pub unreach_at : Context → Bool → ℕ → Option PlacedTlv → Prefixes
-unreach_at ctx nlri field None = no_prefixes
-unreach_at ctx nlri field (Some q) = unreach_by field q (judgement ctx nlri q.tlv)
+abbrev pub prefixes_at : Context → Bool → ℕ → Option PlacedTlv → Prefixes
+prefixes_at ctx nlri field None = no_prefixes
+prefixes_at ctx nlri field (Some q) = prefixes_by field q (judgement ctx nlri q.tlv)
 
 abbrev pub cursor_of : Context → Bool → Bool → Parts → RouteCursor
 cursor_of ctx announces loses p = record {
   withdrawn = record { at = 21; end = 21 + length p.withdrawn; afi = IPV4 };
-  unreached = unreach_at ctx (has_nlri p) (23 + length p.withdrawn) (first_of_type MP_UNREACH_NLRI p);
-  reached = reach_at ctx (has_nlri p) (23 + length p.withdrawn) (first_of_type MP_REACH_NLRI p);
+  unreached = prefixes_at ctx (has_nlri p) (23 + length p.withdrawn) (first_of_type MP_UNREACH_NLRI p);
+  reached = prefixes_at ctx (has_nlri p) (23 + length p.withdrawn) (first_of_type MP_REACH_NLRI p);
   nlri = record { at = 23 + length p.withdrawn + length p.attributes; end = 23 + length p.withdrawn + length p.attributes + length p.nlri; afi = IPV4 };
   announces = flag_of announces;
   loses_ip6 = flag_of loses;

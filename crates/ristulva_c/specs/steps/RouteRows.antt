@@ -1,14 +1,13 @@
 -- The rows of an UPDATE's routes, field by field.
 use Rattle.std.specs.Prelude.{◌+◌, ◌≤◌, ℕ, List, [], ◌++◌, map, Option, Some, None}
 use Rattle.bgp_numbers.specs.declared.afi.TheConstants.{IPV4, IPV6}
-use Rattle.bgp_prefix.specs.Prefix.{PrefixValue}
+use Rattle.bgp_prefix.specs.Prelude.{PrefixValue}
 use Rattle.bgp_attr.specs.declared.mp.MpReach.{MpReach}
-use Rattle.bgp_attr.specs.declared.mp.MpReach.TheVariants as reach
 use Rattle.bgp_attr.specs.declared.mp.MpUnreach.{MpUnreach}
+use Rattle.bgp_attr.specs.declared.mp.MpReach.TheVariants as reach
 use Rattle.bgp_attr.specs.declared.mp.MpUnreach.TheVariants as unreach
 use Rattle.bgp_update.specs.declared.update.Update.{Update}
-use Rattle.bgp_update.specs.Parts.{Parts}
-use Rattle.bgp_update.specs.View.{update_value}
+use Rattle.bgp_update.specs.Prelude.{Parts, update_value}
 use Rattle.bgp_msg.specs.declared.outcome_view.OutcomeView.{OutcomeView}
 use Rattle.bgp_msg.specs.declared.outcome_view.OutcomeView.TheVariants as view
 use Rattle.ristulva_c.specs.declared.facts.Paths.{Paths}

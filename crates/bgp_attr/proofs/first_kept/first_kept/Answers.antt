@@ -1,6 +1,5 @@
 use Rattle.std.proofs.Common.{sym, ◌∙◌}
-use Rattle.bgp_attr.specs.NumberIter.{as_numbers_left}
-use Rattle.bgp_attr.specs.SegmentView.{wire_segment}
+use Rattle.bgp_attr.specs.Prelude.{as_numbers_left, wire_segment}
 use Rattle.bgp_attr.proofs.SegmentSteps.{segment_shorter, kept_first, kept_later, none_kept}
 use Rattle.bgp_attr.proofs.first_kept.first_kept.Goals as goal
 

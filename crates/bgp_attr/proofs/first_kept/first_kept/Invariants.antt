@@ -1,5 +1,5 @@
 use Rattle.std.proofs.Common.{◌≡◌, length}
-use Rattle.bgp_attr.specs.Path.{kept_segments_of}
+use Rattle.bgp_attr.specs.Prelude.{kept_segments_of}
 use Rattle.bgp_attr.proofs.first_kept.first_kept.Given as goal
 
 -- what is left keeps as much

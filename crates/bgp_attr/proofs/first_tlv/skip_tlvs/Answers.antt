@@ -1,6 +1,6 @@
 use Rattle.std.proofs.Common.{sym, ◌∙◌}
 use Rattle.bgp_wire.proofs.Walks.{shorter, same_rest, all_rest}
-use Rattle.bgp_attr.specs.Tlv.{TlvValue, IsTlv, one_tlv}
+use Rattle.bgp_attr.specs.Prelude.{TlvValue, IsTlv, one_tlv}
 use Rattle.bgp_attr.proofs.Readers.{IsTlv-reads}
 use Rattle.bgp_attr.proofs.first_tlv.skip_tlvs.Goals as goal
 

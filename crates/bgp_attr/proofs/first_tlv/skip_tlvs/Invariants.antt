@@ -1,5 +1,5 @@
 use Rattle.std.proofs.Common.{◌≡◌, length}
-use Rattle.bgp_attr.specs.Tlv.{tlvs_of}
+use Rattle.bgp_attr.specs.Prelude.{tlvs_of}
 use Rattle.bgp_attr.proofs.first_tlv.skip_tlvs.Given as goal
 
 -- what is left has the same rest

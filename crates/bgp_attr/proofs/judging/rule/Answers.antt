@@ -1,6 +1,6 @@
 use Rattle.std.proofs.Common.{◌∙◌}
 use Rattle.bgp_numbers.specs.declared.attribute.TheConstants.{AS_PATH, MULTI_EXIT_DISC, AGGREGATOR, MP_REACH_NLRI, MP_UNREACH_NLRI, AS4_PATH, AS4_AGGREGATOR, LARGE_COMMUNITY}
-use Rattle.bgp_attr.specs.TlvView.{tlv_value}
+use Rattle.bgp_attr.specs.Prelude.{tlv_value}
 use Rattle.bgp_attr.proofs.TestRows.{tests-at}
 use Rattle.bgp_attr.proofs.judging.rule.Goals as goal
 
@@ -8,7 +8,7 @@ pub returns-in-2 : goal.returns-in-2
 returns-in-2 c a = c.rule_as_path.ensures a ∙ tests-at c.args.ctx.now c.args.has_nlri (tlv_value c.args.tlv.now) AS_PATH c.in-2.is a
 
 pub returns-in-4 : goal.returns-in-4
-returns-in-4 c a = c.rule_med.ensures a ∙ tests-at c.args.ctx.now c.args.has_nlri (tlv_value c.args.tlv.now) MULTI_EXIT_DISC c.in-4.is a
+returns-in-4 c a = c.rule_four.ensures a ∙ tests-at c.args.ctx.now c.args.has_nlri (tlv_value c.args.tlv.now) MULTI_EXIT_DISC c.in-4.is a
 
 pub returns-in-7 : goal.returns-in-7
 returns-in-7 c a = c.rule_aggregator.ensures a ∙ tests-at c.args.ctx.now c.args.has_nlri (tlv_value c.args.tlv.now) AGGREGATOR c.in-7.is a

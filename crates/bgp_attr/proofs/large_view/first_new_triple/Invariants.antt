@@ -1,5 +1,5 @@
 use Rattle.std.proofs.Common.{◌≡◌, ◌-◌, length}
-use Rattle.bgp_attr.specs.LargeStep.{IsRowUpTo, new_from}
+use Rattle.bgp_attr.specs.Prelude.{IsRowUpTo, new_from}
 use Rattle.bgp_attr.proofs.large_view.first_new_triple.Given as goal
 
 -- from here on as much is new

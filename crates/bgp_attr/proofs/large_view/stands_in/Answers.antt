@@ -1,5 +1,5 @@
 use Rattle.std.proofs.Common.{sym, ◌∙◌, rules}
-use Rattle.bgp_attr.specs.Numbers.{same_triple}
+use Rattle.bgp_attr.specs.Prelude.{same_triple}
 use Rattle.bgp_attr.proofs.LargeSteps.{same_triple_is, triple_shorter, any_triple_first, any_triple_later, any_triple_none}
 use Rattle.bgp_attr.proofs.large_view.stands_in.Goals as goal
 

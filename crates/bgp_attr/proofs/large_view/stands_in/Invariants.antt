@@ -1,6 +1,6 @@
 use Rattle.std.proofs.Common.{◌≡◌, length}
 use Rattle.std.specs.List.{list_any}
-use Rattle.bgp_attr.specs.Numbers.{triples_of, same_triple}
+use Rattle.bgp_attr.specs.Prelude.{triples_of, same_triple}
 use Rattle.bgp_attr.proofs.large_view.stands_in.Given as goal
 
 -- the triple is among what is left exactly where it is among all

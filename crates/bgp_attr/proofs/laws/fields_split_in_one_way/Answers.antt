@@ -1,5 +1,5 @@
 use Rattle.bgp_wire.proofs.Pieces.{Splits-pieces, pieces-Splits}
-use Rattle.bgp_attr.specs.Tlv.{TlvValue, IsTlv, one_tlv}
+use Rattle.bgp_attr.specs.Prelude.{TlvValue, IsTlv, one_tlv}
 use Rattle.bgp_attr.proofs.Readers.{IsTlv-reads}
 use Rattle.bgp_attr.proofs.laws.fields_split_in_one_way.Goals as goal
 

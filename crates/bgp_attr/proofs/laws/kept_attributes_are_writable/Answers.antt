@@ -1,4 +1,4 @@
-use Rattle.bgp_attr.proofs.Rewriting.{kept-rewritten}
+use Rattle.bgp_attr.proofs.EachType.{kept-rewritten}
 use Rattle.bgp_attr.proofs.laws.kept_attributes_are_writable.Goals as goal
 
 pub returns : goal.returns

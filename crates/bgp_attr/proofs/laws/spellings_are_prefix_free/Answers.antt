@@ -1,8 +1,6 @@
 use Rattle.std.proofs.Common.{ℕ, List}
 use Rattle.bgp_wire.proofs.Pieces.{Reads-prefix_free}
-use Rattle.bgp_attr.specs.Tlv.{TlvValue, IsTlv, one_tlv}
-use Rattle.bgp_attr.specs.Numbers.{IsNumber, one_number, IsTriple, one_triple}
-use Rattle.bgp_attr.specs.Path.{WireSegment, IsSegment, one_segment}
+use Rattle.bgp_attr.specs.Prelude.{TlvValue, IsTlv, one_tlv, IsNumber, one_number, IsTriple, one_triple, WireSegment, IsSegment, one_segment}
 use Rattle.bgp_attr.proofs.Readers.{IsTlv-reads, IsNumber-reads, IsTriple-reads, IsSegment-reads}
 use Rattle.bgp_attr.proofs.laws.spellings_are_prefix_free.Goals as goal
 

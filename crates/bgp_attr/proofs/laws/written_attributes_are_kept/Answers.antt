@@ -1,5 +1,6 @@
-use Rattle.bgp_attr.proofs.ReadBack.{written-spells, written-kept}
-use Rattle.bgp_attr.proofs.WrittenOctets.{canonical-octets}
+use Rattle.bgp_attr.proofs.EachType.{written-kept}
+use Rattle.bgp_attr.proofs.ReadBack.{written-spells}
+use Rattle.bgp_attr.proofs.EachType.{canonical-octets}
 use Rattle.bgp_attr.proofs.laws.written_attributes_are_kept.Goals as goal
 
 pub returns : goal.returns

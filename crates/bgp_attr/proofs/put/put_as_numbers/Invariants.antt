@@ -1,6 +1,5 @@
 use Rattle.std.proofs.Common.{take}
-use Rattle.bgp_attr.specs.Numbers.{number_octets}
-use Rattle.bgp_attr.specs.Written.{IsFourOctets}
+use Rattle.bgp_attr.specs.Prelude.{number_octets, IsFourOctets}
 use Rattle.bgp_wire.proofs.Writes.{IsWritten}
 use Rattle.bgp_attr.proofs.put.put_as_numbers.Given as goal
 

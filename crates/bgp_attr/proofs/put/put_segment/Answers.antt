@@ -4,7 +4,7 @@ use Rattle.std.proofs.lemmas.Result.{on_ok_weaker, on_err_weaker}
 use Rattle.std.proofs.lemmas.List.{length-append}
 use Rattle.std.proofs.lemmas.List.Folds.{flat_map-map}
 use Rattle.bgp_prefix.specs.declared.as_number.AsNumber.{AsNumber}
-use Rattle.bgp_attr.specs.Numbers.{number_octets}
+use Rattle.bgp_attr.specs.Prelude.{number_octets}
 use Rattle.bgp_attr.proofs.NumberRows.{number_of}
 use Rattle.bgp_attr.proofs.Writes.{segment_written}
 use Rattle.bgp_attr.proofs.put.put_segment.Goals as goal

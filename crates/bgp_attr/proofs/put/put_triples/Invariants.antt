@@ -1,6 +1,5 @@
 use Rattle.std.proofs.Common.{take}
-use Rattle.bgp_attr.specs.Numbers.{triple_octets}
-use Rattle.bgp_attr.specs.Written.{IsThreeNumbers}
+use Rattle.bgp_attr.specs.Prelude.{triple_octets, IsThreeNumbers}
 use Rattle.bgp_wire.proofs.Writes.{IsWritten}
 use Rattle.bgp_attr.proofs.put.put_triples.Given as goal
 

@@ -1,8 +1,7 @@
 use Rattle.std.proofs.Common.{◌≡◌, List, ◌∷◌, rules}
 use Rattle.std.proofs.lemmas.Result.{err_from_is_err_and}
 use Rattle.bgp_prefix.specs.declared.as_number.AsNumber.{AsNumber}
-use Rattle.bgp_attr.specs.NumberIter.{as_numbers_left}
-use Rattle.bgp_attr.specs.Numbers.{number_octets}
+use Rattle.bgp_attr.specs.Prelude.{as_numbers_left, number_octets}
 use Rattle.bgp_attr.proofs.ViewWrites.{no_room}
 use Rattle.bgp_attr.proofs.put_view.put_each_number.Goals as goal
 

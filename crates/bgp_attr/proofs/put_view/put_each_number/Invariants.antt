@@ -1,5 +1,4 @@
-use Rattle.bgp_attr.specs.NumberIter.{as_numbers_left}
-use Rattle.bgp_attr.specs.Numbers.{number_octets}
+use Rattle.bgp_attr.specs.Prelude.{as_numbers_left, number_octets}
 use Rattle.bgp_attr.proofs.ViewWrites.{IsWriting}
 use Rattle.bgp_attr.proofs.put_view.put_each_number.Given as goal
 

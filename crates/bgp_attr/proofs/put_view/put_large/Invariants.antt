@@ -1,5 +1,4 @@
-use Rattle.bgp_attr.specs.LargeIter.{triples_left}
-use Rattle.bgp_attr.specs.Numbers.{triple_octets}
+use Rattle.bgp_attr.specs.Prelude.{triples_left, triple_octets}
 use Rattle.bgp_attr.proofs.ViewWrites.{IsWriting}
 use Rattle.bgp_attr.proofs.put_view.put_large.Given as goal
 

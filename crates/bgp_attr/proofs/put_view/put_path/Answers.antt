@@ -1,8 +1,7 @@
 use Rattle.std.proofs.Common.{◌≡◌, List, ◌∷◌, rules}
 use Rattle.std.proofs.lemmas.Result.{err_from_is_err_and}
 use Rattle.bgp_attr.specs.declared.path.Segment.{Segment}
-use Rattle.bgp_attr.specs.PathView.{path_value, segment_value, segments_left}
-use Rattle.bgp_attr.specs.Written.{segment_octets}
+use Rattle.bgp_attr.specs.Prelude.{path_value, segment_value, segments_left, segment_octets}
 use Rattle.bgp_attr.proofs.ViewWrites.{no_room}
 use Rattle.bgp_attr.proofs.put_view.put_path.Goals as goal
 

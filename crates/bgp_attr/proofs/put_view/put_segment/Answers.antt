@@ -2,9 +2,7 @@ use Rattle.std.proofs.Common.{ℕ, [], ◌∷◌, ◌++◌, length, refl, ap, ap
 use Rattle.std.proofs.lemmas.Result.{on_ok_weaker, on_err_weaker}
 use Rattle.std.proofs.lemmas.List.{length-append}
 use Rattle.std.proofs.lemmas.List.Folds.{flat_map-map}
-use Rattle.bgp_attr.specs.NumberIter.{as_numbers_left}
-use Rattle.bgp_attr.specs.Numbers.{number_octets}
-use Rattle.bgp_attr.specs.PathView.{segment_value}
+use Rattle.bgp_attr.specs.Prelude.{as_numbers_left, number_octets, segment_value}
 use Rattle.bgp_attr.proofs.NumberRows.{number_of}
 use Rattle.bgp_attr.proofs.Writes.{segment_written}
 use Rattle.bgp_attr.proofs.put_view.put_segment.Goals as goal

@@ -1,7 +1,6 @@
 use Rattle.std.proofs.Common.{◌≡◌, length}
 use Rattle.std.specs.List.{list_any}
-use Rattle.bgp_attr.specs.Numbers.{numbers_of}
-use Rattle.bgp_attr.specs.Written.{is_zero}
+use Rattle.bgp_attr.specs.Prelude.{numbers_of, is_zero}
 use Rattle.bgp_attr.proofs.segment.has_zero.Given as goal
 
 -- a zero is among what is left exactly where one is among all

@@ -1,6 +1,6 @@
 use Rattle.std.proofs.Common.{Bool, ◌||◌, sym, ap, ◌∙◌}
 use Rattle.std.proofs.Math.Bool.{or-false}
-use Rattle.bgp_attr.specs.Path.{segment_fault, path_has_zero}
+use Rattle.bgp_attr.specs.Prelude.{segment_fault, path_has_zero}
 use Rattle.bgp_attr.proofs.SegmentSteps.{segment_rest, segment_shorter, no_segment_rest, zero_then, no_zero}
 use Rattle.bgp_attr.proofs.segment.path_faults.Goals as goal
 

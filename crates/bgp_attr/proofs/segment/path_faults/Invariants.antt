@@ -1,5 +1,5 @@
 use Rattle.std.proofs.Common.{◌≡◌, ◌||◌, length}
-use Rattle.bgp_attr.specs.Path.{segments_of, path_has_zero}
+use Rattle.bgp_attr.specs.Prelude.{segments_of, path_has_zero}
 use Rattle.bgp_attr.proofs.segment.path_faults.Given as goal
 
 -- what is left has the same rest, and a zero is in what was walked or in what is left exactly where one is in the whole

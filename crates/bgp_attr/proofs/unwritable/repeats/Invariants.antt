@@ -1,5 +1,5 @@
 use Rattle.std.proofs.Common.{◌≡◌, length}
-use Rattle.bgp_attr.specs.Written.{repeats}
+use Rattle.bgp_attr.specs.Prelude.{repeats}
 use Rattle.bgp_attr.proofs.unwritable.repeats.Given as goal
 
 -- what is left repeats exactly where the whole does

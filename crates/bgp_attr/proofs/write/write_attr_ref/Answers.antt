@@ -1,6 +1,6 @@
 use Rattle.std.proofs.lemmas.Result.{on_ok_weaker}
-use Rattle.bgp_attr.specs.AttrRef.{ref_value}
-use Rattle.bgp_attr.proofs.ReadBack.{written-kept}
+use Rattle.bgp_attr.specs.Prelude.{ref_value}
+use Rattle.bgp_attr.proofs.EachType.{written-kept}
 use Rattle.bgp_attr.proofs.write.write_attr_ref.Goals as goal
 
 pub returns-clause-kept : goal.returns-clause-kept

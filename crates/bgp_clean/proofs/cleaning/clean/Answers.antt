@@ -1,16 +1,14 @@
 use Rattle.std.proofs.Common.{IfOk, sym, ap, subst, ◌∙◌}
 use Rattle.std.specs.Prelude.{is_some}
-use Rattle.bgp_wire.specs.OctetSet.{has_octet}
-use Rattle.bgp_frame.specs.Notification.{notification_of_view}
-use Rattle.bgp_frame.specs.Step.{message_in}
-use Rattle.bgp_open.specs.OpenView.{open_value}
-use Rattle.bgp_update.specs.View.{update_value, notes_value, routes_value}
+use Rattle.bgp_wire.specs.Prelude.{has_octet}
+use Rattle.bgp_frame.specs.Prelude.{notification_of_view, message_in}
+use Rattle.bgp_open.specs.Prelude.{open_value}
+use Rattle.bgp_update.specs.Prelude.{update_value, notes_value, routes_value}
 use Rattle.bgp_msg.specs.declared.message.Message.TheVariants as message
 use Rattle.bgp_msg.specs.declared.outcome.Outcome.{Outcome}
 use Rattle.bgp_msg.specs.declared.outcome_view.OutcomeView.{OutcomeView}
-use Rattle.bgp_msg.specs.OutcomeView.{outcome_value}
-use Rattle.bgp_clean.specs.Clean.{ended_family, cleaned_outcome}
-use Rattle.bgp_clean.specs.Cleaned.{IsCleaned}
+use Rattle.bgp_msg.specs.Prelude.{outcome_value}
+use Rattle.bgp_clean.specs.Prelude.{ended_family, cleaned_outcome, IsCleaned}
 use Rattle.bgp_clean.proofs.Outcomes.{at_most, open_good, update_valid, update_short, withdrawal_short, notification_same, keepalive_same}
 use Rattle.bgp_clean.proofs.cleaning.clean.Goals as goal
 

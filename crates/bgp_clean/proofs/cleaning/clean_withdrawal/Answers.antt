@@ -1,7 +1,7 @@
 use Rattle.std.proofs.Common.{ℕ, List, ◌++◌, ◌+◌, length, sym, ap, ◌∙◌}
 use Rattle.bgp_frame.specs.declared.kind.Kind.TheVariants as kind
-use Rattle.bgp_frame.specs.Head.{header}
-use Rattle.bgp_update.specs.View.{routes_value}
+use Rattle.bgp_frame.specs.Prelude.{header}
+use Rattle.bgp_update.specs.Prelude.{routes_value}
 use Rattle.bgp_clean.proofs.Withdrawing.{withdrawal_is}
 use Rattle.bgp_clean.proofs.cleaning.clean_withdrawal.Goals as goal
 

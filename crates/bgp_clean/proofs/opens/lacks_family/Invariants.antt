@@ -1,10 +1,8 @@
 use Rattle.std.proofs.Common.{◌≡◌, ◌||◌, length}
 use Rattle.std.specs.List.{list_any}
 use Rattle.bgp_numbers.specs.declared.afi.TheConstants.{IPV4, IPV6}
-use Rattle.bgp_open.specs.CapabilityIter.{capabilities_left}
-use Rattle.bgp_open.specs.OpenView.{open_value}
-use Rattle.bgp_open.specs.Peer.{is_unicast}
-use Rattle.bgp_clean.specs.Opens.{is_multi}
+use Rattle.bgp_open.specs.Prelude.{capabilities_left, open_value, is_unicast}
+use Rattle.bgp_clean.specs.Prelude.{is_multi}
 use Rattle.bgp_clean.proofs.opens.lacks_family.Given as goal
 
 -- those so far, and those still to come, are all

@@ -1,11 +1,10 @@
 use Rattle.std.proofs.Common.{◌≡◌, ℕ, List, ◌++◌, ◌+◌, length, ap, ◌∙◌}
 use Rattle.std.proofs.lemmas.Result.{on_ok_weaker}
 use Rattle.bgp_frame.specs.declared.kind.Kind.TheVariants as kind
-use Rattle.bgp_frame.specs.Head.{header}
+use Rattle.bgp_frame.specs.Prelude.{header}
 use Rattle.bgp_open.specs.declared.capability.Capability.{Capability}
-use Rattle.bgp_open.specs.OpenView.{open_value}
-use Rattle.bgp_open.specs.Written.{body_octets, canonical, row_octets}
-use Rattle.bgp_clean.specs.Opens.{cleaned_open, understood}
+use Rattle.bgp_open.specs.Prelude.{open_value, body_octets, canonical, row_octets}
+use Rattle.bgp_clean.specs.Prelude.{cleaned_open, understood}
 use Rattle.bgp_clean.proofs.opens.put_open.Goals as goal
 
 pub returns-clause-ok : goal.returns-clause-ok

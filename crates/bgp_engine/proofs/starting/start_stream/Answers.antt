@@ -1,11 +1,7 @@
 use Rattle.std.proofs.Common.{ℕ, ◌++◌, List, option_map, subst}
-use Rattle.bgp_wire.specs.Octets.{AreOctets}
+use Rattle.bgp_wire.specs.Prelude.{AreOctets}
 use Rattle.bgp_engine.specs.declared.opening.Stage.{Stage}
-use Rattle.bgp_engine.specs.First.{ReportedFrom}
-use Rattle.bgp_engine.specs.Run.{Answers, io}
-use Rattle.bgp_engine.specs.steps.Engine.{OfOctets}
-use Rattle.bgp_engine.specs.steps.Starting.{reports_in, starting, starts_of}
-use Rattle.bgp_engine.specs.steps.Walking.{walk_of}
+use Rattle.bgp_engine.specs.Prelude.{ReportedFrom, Answers, io, OfOctets, reports_in, starting, starts_of, walk_of}
 use Rattle.bgp_engine.proofs.Reading.{answers_as}
 use Rattle.bgp_engine.proofs.Startings.{first_rests}
 use Rattle.bgp_engine.proofs.starting.start_stream.Goals as goal

@@ -1,13 +1,10 @@
 use Rattle.std.proofs.Common.{ℕ, ◌-◌, Bool, List, ◌++◌, length, sym, ap, ap₂, ◌∙◌, arith}
 use Rattle.std.specs.List.{list_all}
-use Rattle.bgp_wire.specs.OctetSet.{has_octet, none_of_them}
-use Rattle.bgp_attr.specs.Tlv.{PlacedTlv, placed_from, tlvs_of}
-use Rattle.bgp_attr.specs.TlvIter.{tlvs_left, rest_left}
-use Rattle.bgp_attr.specs.TlvView.{placed_tlv}
-use Rattle.bgp_update.specs.Marks.{marks_behind, cut_mark, field_marks}
-use Rattle.bgp_update.specs.steps.Small.{is_small}
+use Rattle.bgp_wire.specs.Prelude.{has_octet, none_of_them}
+use Rattle.bgp_attr.specs.Prelude.{PlacedTlv, placed_from, tlvs_of, tlvs_left, rest_left, placed_tlv}
+use Rattle.bgp_update.specs.Prelude.{marks_behind, cut_mark, field_marks, is_small}
 use Rattle.bgp_update.proofs.SmallLemmas.{field_small}
-use Rattle.bgp_fields.specs.Places.{first_asking}
+use Rattle.bgp_fields.specs.Prelude.{first_asking}
 use Rattle.bgp_fields.proofs.Askings.{asking-here, asking-later, first-small}
 use Rattle.bgp_fields.proofs.asking.first_asking.Goals as goal
 

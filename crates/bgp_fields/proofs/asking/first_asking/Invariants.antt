@@ -1,10 +1,9 @@
 use Rattle.std.proofs.Common.{◌≡◌, ◌-◌, ◌++◌, length, true}
 use Rattle.std.specs.List.{list_all}
-use Rattle.bgp_wire.specs.OctetSet.{has_octet}
-use Rattle.bgp_attr.specs.TlvIter.{tlvs_left, rest_left}
-use Rattle.bgp_update.specs.Marks.{marks_behind, cut_mark, field_marks}
-use Rattle.bgp_update.specs.steps.Small.{is_small}
-use Rattle.bgp_fields.specs.Places.{first_asking}
+use Rattle.bgp_wire.specs.Prelude.{has_octet}
+use Rattle.bgp_attr.specs.Prelude.{tlvs_left, rest_left}
+use Rattle.bgp_update.specs.Prelude.{marks_behind, cut_mark, field_marks, is_small}
+use Rattle.bgp_fields.specs.Prelude.{first_asking}
 use Rattle.bgp_fields.proofs.asking.first_asking.Given as goal
 
 -- the first of what is left is the first of all

@@ -2,11 +2,8 @@ use Rattle.std.proofs.Common.{ℕ, ◌+◌, List, ◌++◌, length, take, drop, 
 use Rattle.bgp_fields.specs.declared.kind.FieldKind.TheVariants.{Unread}
 use Rattle.bgp_fields.specs.declared.part.ValuePart.{ValuePart}
 use Rattle.bgp_fields.specs.declared.part.SectionPart.{SectionPart}
+use Rattle.bgp_fields.specs.Prelude.{value_fields, section_fields, section_plan, Plan, fit, section_planned}
 use Rattle.bgp_fields.specs.declared.part.SectionPart.TheVariants as section
-use Rattle.bgp_fields.specs.Fields.{value_fields, section_fields}
-use Rattle.bgp_fields.specs.Parts.{section_plan}
-use Rattle.bgp_fields.specs.Walk.{Plan, fit}
-use Rattle.bgp_fields.specs.steps.Plans.{section_planned}
 use Rattle.bgp_fields.proofs.Walks.{walk-none, walk-some, walk-split, lengths}
 use Rattle.bgp_fields.proofs.Listings.{listing, place_left, one_more, room_left, more, all_listed, some_left, none_left}
 use Rattle.bgp_fields.proofs.listing.list_any_section.Goals as goal

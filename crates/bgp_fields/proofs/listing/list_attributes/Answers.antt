@@ -1,10 +1,9 @@
 use Rattle.std.proofs.Common.{◌+◌, List, ◌++◌, length, Option, ap, ap₂, sym, ◌∙◌, arith, refl}
 use Rattle.bgp_fields.specs.declared.field.Field.{Field}
 use Rattle.bgp_fields.specs.declared.field.Group.{Group}
-use Rattle.bgp_fields.specs.declared.part.SectionPart.TheVariants as section
 use Rattle.bgp_fields.specs.declared.part.ValuePart.{ValuePart}
-use Rattle.bgp_fields.specs.Fields.{value_fields, section_fields}
-use Rattle.bgp_fields.specs.steps.Heads.{head_fields}
+use Rattle.bgp_fields.specs.Prelude.{value_fields, section_fields, head_fields}
+use Rattle.bgp_fields.specs.declared.part.SectionPart.TheVariants as section
 use Rattle.bgp_fields.proofs.Steps.{attribute-next, head-long}
 use Rattle.bgp_fields.proofs.Listings.{more, room_behind}
 use Rattle.bgp_fields.proofs.listing.list_attributes.Goals as goal

@@ -1,6 +1,6 @@
 use Rattle.std.proofs.Common.{◌≡◌, ◌≤◌, ◌+◌, length}
 use Rattle.bgp_fields.specs.declared.part.SectionPart.TheVariants as section
-use Rattle.bgp_fields.specs.Fields.{section_fields}
+use Rattle.bgp_fields.specs.Prelude.{section_fields}
 use Rattle.bgp_fields.proofs.Listings.{IsListing}
 use Rattle.bgp_fields.proofs.listing.list_attributes.Given as goal
 

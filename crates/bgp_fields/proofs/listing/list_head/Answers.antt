@@ -3,7 +3,7 @@ use Rattle.bgp_fields.specs.declared.field.Field.{Field}
 use Rattle.bgp_fields.specs.declared.field.Group.{Group}
 use Rattle.bgp_fields.specs.declared.kind.FieldKind.{FieldKind}
 use Rattle.bgp_fields.specs.declared.kind.FieldKind.TheVariants.{AttributeFlags, AttributeType, AttributeLength}
-use Rattle.bgp_fields.specs.steps.Listing.{listed}
+use Rattle.bgp_fields.specs.Prelude.{listed}
 use Rattle.bgp_fields.proofs.Listings.{listed-three}
 use Rattle.bgp_fields.proofs.listing.list_head.Goals as goal
 

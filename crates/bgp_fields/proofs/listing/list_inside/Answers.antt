@@ -4,10 +4,8 @@ use Rattle.bgp_fields.specs.declared.field.Field.{Field}
 use Rattle.bgp_fields.specs.declared.field.Group.{Group}
 use Rattle.bgp_fields.specs.declared.kind.FieldKind.TheVariants.{Unread}
 use Rattle.bgp_fields.specs.declared.part.ValuePart.{ValuePart}
+use Rattle.bgp_fields.specs.Prelude.{no_fields, value_fields, value_plan, listed}
 use Rattle.bgp_fields.specs.declared.part.ValuePart.TheVariants as value
-use Rattle.bgp_fields.specs.Fields.{no_fields, value_fields}
-use Rattle.bgp_fields.specs.Parts.{value_plan}
-use Rattle.bgp_fields.specs.steps.Listing.{listed}
 use Rattle.bgp_fields.proofs.Walks.{walk-none}
 use Rattle.bgp_fields.proofs.Listings.{listed-none, none_left}
 use Rattle.bgp_fields.proofs.listing.list_inside.Goals as goal

@@ -1,12 +1,9 @@
 use Rattle.std.proofs.Common.{ℕ, ◌+◌, List, ◌++◌, length, take, drop, None, ap, sym, ◌∙◌, arith, refl}
 use Rattle.bgp_fields.specs.declared.kind.FieldKind.TheVariants.{Unread}
 use Rattle.bgp_fields.specs.declared.part.MessagePart.{MessagePart}
-use Rattle.bgp_fields.specs.declared.part.MessagePart.TheVariants as message
 use Rattle.bgp_fields.specs.declared.part.SectionPart.{SectionPart}
-use Rattle.bgp_fields.specs.Fields.{section_fields, message_fields}
-use Rattle.bgp_fields.specs.Parts.{message_plan}
-use Rattle.bgp_fields.specs.Walk.{Plan, fit}
-use Rattle.bgp_fields.specs.steps.Plans.{message_planned}
+use Rattle.bgp_fields.specs.Prelude.{section_fields, message_fields, message_plan, Plan, fit, message_planned}
+use Rattle.bgp_fields.specs.declared.part.MessagePart.TheVariants as message
 use Rattle.bgp_fields.proofs.Walks.{walk-none, walk-some, walk-split, lengths}
 use Rattle.bgp_fields.proofs.Listings.{listing, place_left, one_more, room_left, more, all_listed, some_left, none_left}
 use Rattle.bgp_fields.proofs.listing.list_message.Goals as goal

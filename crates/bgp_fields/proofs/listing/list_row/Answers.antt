@@ -2,9 +2,8 @@ use Rattle.std.proofs.Common.{ℕ, ◌+◌, ◌≤◌, List, [], length, drop, a
 use Rattle.std.proofs.lemmas.List.{append-nil, length-drop}
 use Rattle.bgp_fields.specs.declared.kind.FieldKind.TheVariants.{Unread}
 use Rattle.bgp_fields.specs.declared.part.ValuePart.{ValuePart}
+use Rattle.bgp_fields.specs.Prelude.{no_fields, value_fields, value_plan}
 use Rattle.bgp_fields.specs.declared.part.ValuePart.TheVariants as value
-use Rattle.bgp_fields.specs.Fields.{no_fields, value_fields}
-use Rattle.bgp_fields.specs.Parts.{value_plan}
 use Rattle.bgp_fields.proofs.Walks.{walk-some}
 use Rattle.bgp_fields.proofs.Steps.{row-next}
 use Rattle.bgp_fields.proofs.Listings.{place_left, one_more, more, all_listed}

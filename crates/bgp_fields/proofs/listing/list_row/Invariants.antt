@@ -1,5 +1,5 @@
 use Rattle.std.proofs.Common.{◌≡◌, ◌≤◌, ◌+◌, length}
-use Rattle.bgp_fields.specs.Fields.{value_fields}
+use Rattle.bgp_fields.specs.Prelude.{value_fields}
 use Rattle.bgp_fields.proofs.Listings.{IsListing}
 use Rattle.bgp_fields.proofs.listing.list_row.Given as goal
 

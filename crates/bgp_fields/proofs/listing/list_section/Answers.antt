@@ -4,11 +4,9 @@ use Rattle.bgp_fields.specs.declared.field.Field.{Field}
 use Rattle.bgp_fields.specs.declared.field.Group.{Group}
 use Rattle.bgp_fields.specs.declared.kind.FieldKind.TheVariants.{Unread}
 use Rattle.bgp_fields.specs.declared.part.SectionPart.{SectionPart}
-use Rattle.bgp_fields.specs.declared.part.SectionPart.TheVariants as section
 use Rattle.bgp_fields.specs.declared.part.ValuePart.{ValuePart}
-use Rattle.bgp_fields.specs.Fields.{value_fields, section_fields}
-use Rattle.bgp_fields.specs.Parts.{section_plan}
-use Rattle.bgp_fields.specs.steps.Listing.{listed}
+use Rattle.bgp_fields.specs.Prelude.{value_fields, section_fields, section_plan, listed}
+use Rattle.bgp_fields.specs.declared.part.SectionPart.TheVariants as section
 use Rattle.bgp_fields.proofs.Walks.{walk-none}
 use Rattle.bgp_fields.proofs.Listings.{listed-none, none_left}
 use Rattle.bgp_fields.proofs.listing.list_section.Goals as goal

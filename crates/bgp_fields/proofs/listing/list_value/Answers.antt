@@ -1,11 +1,8 @@
 use Rattle.std.proofs.Common.{ℕ, ◌+◌, List, length, ap, sym, ◌∙◌, arith, length-drop, refl}
 use Rattle.bgp_fields.specs.declared.kind.FieldKind.TheVariants.{Unread}
 use Rattle.bgp_fields.specs.declared.part.ValuePart.{ValuePart}
+use Rattle.bgp_fields.specs.Prelude.{no_fields, value_fields, value_plan, Plan, fit, value_planned}
 use Rattle.bgp_fields.specs.declared.part.ValuePart.TheVariants as value
-use Rattle.bgp_fields.specs.Fields.{no_fields, value_fields}
-use Rattle.bgp_fields.specs.Parts.{value_plan}
-use Rattle.bgp_fields.specs.Walk.{Plan, fit}
-use Rattle.bgp_fields.specs.steps.Plans.{value_planned}
 use Rattle.bgp_fields.proofs.Walks.{walk-none, walk-some, fits-told}
 use Rattle.bgp_fields.proofs.Steps.{value-next}
 use Rattle.bgp_fields.proofs.Listings.{listing, place_left, one_more, all_listed, some_left, none_left}

@@ -1,5 +1,5 @@
 use Rattle.std.proofs.Common.{◌≡◌, ◌+◌, length}
-use Rattle.bgp_fields.specs.Places.{first_other}
+use Rattle.bgp_fields.specs.Prelude.{first_other}
 use Rattle.bgp_fields.proofs.place.first_other.Given as goal
 
 abbrev pub invariant-marker : goal.invariant-marker

@@ -1,4 +1,4 @@
-use Rattle.bgp_frame.specs.Stream.{as_it_is}
+use Rattle.bgp_frame.specs.Prelude.{as_it_is}
 use Rattle.bgp_frame.proofs.Streams.{HasOneReading-octets}
 use Rattle.bgp_frame.proofs.laws.streams_have_one_reading.Goals as goal
 

@@ -1,7 +1,6 @@
 use Rattle.std.proofs.Common.{ap₂, ◌∙◌}
 use Rattle.bgp_frame.specs.declared.notification.Notification.{Notification}
-use Rattle.bgp_guard.specs.Answers.{answered}
-use Rattle.bgp_guard.specs.steps.Seeing.{sight_with}
+use Rattle.bgp_guard.specs.Prelude.{answered, sight_with}
 use Rattle.bgp_guard.proofs.answers.reject.Goals as goal
 
 pub returns-clause-after : goal.returns-clause-after

@@ -1,8 +1,7 @@
 use Rattle.std.proofs.Common.{ap, ◌∙◌}
 use Rattle.bgp_frame.specs.declared.notification.Notification.{Notification}
-use Rattle.bgp_frame.specs.Notification.{notification_of_view}
-use Rattle.bgp_guard.specs.Answers.{answered}
-use Rattle.bgp_guard.specs.steps.Seeing.{sight_with}
+use Rattle.bgp_frame.specs.Prelude.{notification_of_view}
+use Rattle.bgp_guard.specs.Prelude.{answered, sight_with}
 use Rattle.bgp_guard.proofs.answers.reset.Goals as goal
 
 pub returns-clause-after : goal.returns-clause-after

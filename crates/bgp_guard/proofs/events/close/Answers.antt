@@ -1,5 +1,5 @@
 use Rattle.std.proofs.Common.{sym, subst}
-use Rattle.bgp_frame.specs.Frame.{Waits}
+use Rattle.bgp_frame.specs.Prelude.{Waits}
 use Rattle.bgp_frame.proofs.Pulls.{nothing_waits}
 use Rattle.bgp_guard.proofs.events.close.Goals as goal
 

@@ -1,9 +1,7 @@
 use Rattle.std.proofs.Common.{◌++◌, List, ℕ, length, refl, ap, ◌∙◌, arith}
 use Rattle.std.proofs.lemmas.List.{length-append}
-use Rattle.bgp_msg.specs.Written.{canonical}
-use Rattle.bgp_guard.specs.Hearing.{context_in, said_as}
-use Rattle.bgp_guard.specs.Halves.{half_with}
-use Rattle.bgp_guard.specs.steps.Seeing.{sight_with}
+use Rattle.bgp_msg.specs.Prelude.{canonical}
+use Rattle.bgp_guard.specs.Prelude.{context_in, said_as, half_with, sight_with}
 use Rattle.bgp_guard.proofs.Sights.{handed, said-same, same_octets}
 use Rattle.bgp_guard.proofs.handing.hand_on.Goals as goal
 

@@ -1,13 +1,10 @@
 use Rattle.std.proofs.Common.{ℕ, List, Result, Ok, Err, sym, ap, subst, ◌∙◌}
-use Rattle.bgp_wire.specs.OctetSet.{has_octet}
-use Rattle.bgp_frame.specs.Step.{message_in}
+use Rattle.bgp_wire.specs.Prelude.{has_octet}
+use Rattle.bgp_frame.specs.Prelude.{message_in}
 use Rattle.bgp_open.specs.declared.context.Context.{Context}
 use Rattle.bgp_msg.specs.declared.message.Message.{Message}
-use Rattle.bgp_msg.specs.Written.{canonical}
-use Rattle.bgp_guard.specs.Answers.{Answers}
-use Rattle.bgp_guard.specs.Came.{CameBy, IsHandedOn}
-use Rattle.bgp_guard.specs.Hearing.{context_in, done, said_as}
-use Rattle.bgp_guard.specs.steps.Seeing.{sight_with}
+use Rattle.bgp_msg.specs.Prelude.{canonical}
+use Rattle.bgp_guard.specs.Prelude.{Answers, CameBy, IsHandedOn, context_in, done, said_as, sight_with}
 use Rattle.bgp_guard.proofs.Passed.{passed_page, stopped}
 use Rattle.bgp_guard.proofs.Sights.{cleans_by}
 use Rattle.bgp_guard.proofs.handing.pass.Goals as goal

@@ -1,8 +1,7 @@
 use Rattle.std.proofs.Common.{◌-◌, Some, length, drop, sym, ap, ◌∙◌, arith}
 use Rattle.std.proofs.lemmas.List.{length-drop, take_all}
-use Rattle.bgp_open.specs.OpenFault.{reading_of}
-use Rattle.bgp_open.specs.Peer.{Said}
-use Rattle.bgp_guard.specs.steps.Seeing.{said_in}
+use Rattle.bgp_open.specs.Prelude.{reading_of, Said}
+use Rattle.bgp_guard.specs.Prelude.{said_in}
 use Rattle.bgp_guard.proofs.handing.peer_of.Goals as goal
 
 pub returns-in-Ok : goal.returns-in-Ok

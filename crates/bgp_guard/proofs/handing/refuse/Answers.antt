@@ -1,12 +1,8 @@
 use Rattle.std.proofs.Common.{◌≡◌, [], ap, sym, subst, ◌∙◌}
-use Rattle.bgp_frame.specs.Notification.{notification_of_view}
-use Rattle.bgp_frame.specs.Step.{message_in}
+use Rattle.bgp_frame.specs.Prelude.{notification_of_view, message_in}
 use Rattle.bgp_msg.specs.declared.outcome.Outcome.{Outcome}
-use Rattle.bgp_msg.specs.Outcome.{out_of}
-use Rattle.bgp_guard.specs.Answers.{Answers, answered, reset_by, reject_both}
-use Rattle.bgp_guard.specs.Came.{IsAnswered}
-use Rattle.bgp_guard.specs.Hearing.{answers_to}
-use Rattle.bgp_guard.specs.steps.Seeing.{sight_with}
+use Rattle.bgp_msg.specs.Prelude.{out_of}
+use Rattle.bgp_guard.specs.Prelude.{Answers, answered, reset_by, reject_both, IsAnswered, answers_to, sight_with}
 use Rattle.bgp_guard.proofs.Sights.{no_reset, over}
 use Rattle.bgp_guard.proofs.handing.refuse.Goals as goal
 

@@ -1,12 +1,7 @@
 use Rattle.std.proofs.Common.{◌≡◌, ℕ, [], Option, Some, sym, ap, subst, ◌∙◌}
 use Rattle.bgp_frame.specs.declared.notification.Notification.{Notification}
-use Rattle.bgp_frame.specs.Notification.{notification_of_view}
-use Rattle.bgp_frame.specs.Step.{message_in}
-use Rattle.bgp_guard.specs.Answers.{answered, reset_by}
-use Rattle.bgp_guard.specs.Came.{CameBy, IsAnswered}
-use Rattle.bgp_guard.specs.Hearing.{done, placed}
-use Rattle.bgp_guard.specs.Place.{misplaced}
-use Rattle.bgp_guard.specs.steps.Seeing.{sight_with}
+use Rattle.bgp_frame.specs.Prelude.{notification_of_view, message_in}
+use Rattle.bgp_guard.specs.Prelude.{answered, reset_by, CameBy, IsAnswered, done, placed, misplaced, sight_with}
 use Rattle.bgp_guard.proofs.Sights.{over, no_room}
 use Rattle.bgp_guard.proofs.handing.take.Goals as goal
 

@@ -1,15 +1,10 @@
 use Rattle.std.proofs.Common.{ℕ, [], List, Option, Result, sym, ap, subst, ◌∙◌}
 use Rattle.bgp_frame.specs.declared.fault.HeadFault.{HeadFault}
+use Rattle.bgp_frame.specs.Prelude.{Message, Waits, notification_of_view, message_in}
 use Rattle.bgp_frame.specs.declared.notification.Notification.{Notification}
-use Rattle.bgp_frame.specs.Frame.{Message, Waits}
-use Rattle.bgp_frame.specs.Notification.{notification_of_view}
-use Rattle.bgp_frame.specs.Step.{message_in}
 use Rattle.bgp_frame.proofs.Contents.{content_of-frame, content_of-fault}
 use Rattle.bgp_frame.proofs.Pulls.{nothing_waits}
-use Rattle.bgp_guard.specs.Answers.{answered, reset_by}
-use Rattle.bgp_guard.specs.Came.{CameOf, IsAnswered}
-use Rattle.bgp_guard.specs.Hearing.{heard_as, holding}
-use Rattle.bgp_guard.specs.steps.Seeing.{sight_of, sight_with}
+use Rattle.bgp_guard.specs.Prelude.{answered, reset_by, CameOf, IsAnswered, heard_as, holding, sight_of, sight_with}
 use Rattle.bgp_guard.proofs.Sights.{over, no_room}
 use Rattle.bgp_guard.proofs.hearing.settle.Goals as goal
 

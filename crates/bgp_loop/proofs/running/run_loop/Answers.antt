@@ -1,7 +1,7 @@
 use Rattle.std.proofs.Common.{List, refl, subst, ◌∙◌}
 use Rattle.std.specs.Io.KnownBytes.{Appends}
 use Rattle.bgp_session.specs.declared.moves.Move.{Move}
-use Rattle.bgp_session.specs.Report.{IsReported}
+use Rattle.bgp_session.specs.Prelude.{IsReported}
 use Rattle.bgp_loop.proofs.running.run_loop.Goals as goal
 
 pub returns : goal.returns

@@ -1,6 +1,5 @@
 use Rattle.std.proofs.Common.{ℕ, take, subst}
-use Rattle.bgp_frame.specs.Frame.{Message}
-use Rattle.bgp_frame.specs.Kind.{IsLength}
+use Rattle.bgp_frame.specs.Prelude.{Message, IsLength}
 use Rattle.bgp_frame.proofs.FrameLemmas.{length-IsFrame}
 use Rattle.bgp_loop.proofs.Wholes.{whole_frame, other_frame, whole_fault, other_fault}
 use Rattle.bgp_loop.proofs.tracer.whole.Goals as goal

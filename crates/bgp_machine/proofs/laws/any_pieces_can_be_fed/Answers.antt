@@ -1,5 +1,5 @@
-use Rattle.bgp_frame.specs.Hearing.{by_feed}
-use Rattle.bgp_machine.specs.Session.{hearer}
+use Rattle.bgp_frame.specs.Prelude.{by_feed}
+use Rattle.bgp_machine.specs.Prelude.{hearer}
 use Rattle.bgp_machine.proofs.Cuttings.{is_hearer}
 use Rattle.bgp_frame.proofs.Hearings.{feed_is_way, can_be_heard, can_feed}
 use Rattle.bgp_machine.proofs.laws.any_pieces_can_be_fed.Goals as goal

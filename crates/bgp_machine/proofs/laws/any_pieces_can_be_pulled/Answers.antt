@@ -1,5 +1,4 @@
-use Rattle.bgp_machine.specs.Run.{by_pull}
-use Rattle.bgp_machine.specs.Session.{hearer}
+use Rattle.bgp_machine.specs.Prelude.{by_pull, hearer}
 use Rattle.bgp_machine.proofs.Cuttings.{is_hearer}
 use Rattle.bgp_frame.proofs.Hearings.{pull_is_way, can_be_heard, can_pull}
 use Rattle.bgp_machine.proofs.laws.any_pieces_can_be_pulled.Goals as goal

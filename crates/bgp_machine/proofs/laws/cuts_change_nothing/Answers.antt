@@ -1,5 +1,5 @@
-use Rattle.bgp_frame.specs.Hearing.{by_feed}
-use Rattle.bgp_machine.specs.Session.{hearer}
+use Rattle.bgp_frame.specs.Prelude.{by_feed}
+use Rattle.bgp_machine.specs.Prelude.{hearer}
 use Rattle.bgp_machine.proofs.Cuttings.{is_hearer}
 use Rattle.bgp_frame.proofs.Hearings.{feed_is_way, runs_agree}
 use Rattle.bgp_machine.proofs.laws.cuts_change_nothing.Goals as goal

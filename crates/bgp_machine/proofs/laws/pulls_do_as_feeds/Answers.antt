@@ -1,6 +1,5 @@
-use Rattle.bgp_frame.specs.Hearing.{by_feed}
-use Rattle.bgp_machine.specs.Run.{by_look, by_pull}
-use Rattle.bgp_machine.specs.Session.{hearer}
+use Rattle.bgp_frame.specs.Prelude.{by_feed}
+use Rattle.bgp_machine.specs.Prelude.{by_look, by_pull, hearer}
 use Rattle.bgp_machine.proofs.Cuttings.{is_hearer, look_is_way}
 use Rattle.bgp_frame.proofs.Hearings.{feed_is_way, pull_is_way, runs_agree}
 use Rattle.bgp_machine.proofs.laws.pulls_do_as_feeds.Goals as goal

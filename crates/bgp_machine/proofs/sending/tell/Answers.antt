@@ -3,10 +3,10 @@ use Rattle.std.proofs.Common.{◌≡◌, Bool, None, ◌++◌, sym, ap, subst, �
 use Rattle.std.specs.Result.{OnOk}
 use Rattle.std.proofs.lemmas.Result.{on_ok_weaker}
 use Rattle.bgp_update.specs.declared.update.Update.{Update}
-use Rattle.bgp_update.specs.Written.{invalid_of, HasUpdateRanges}
+use Rattle.bgp_update.specs.Prelude.{invalid_of, HasUpdateRanges}
 use Rattle.bgp_msg.specs.declared.message.Message.TheVariants as message
-use Rattle.bgp_msg.specs.Written.{canonical}
-use Rattle.bgp_machine.specs.Sending.{told_with}
+use Rattle.bgp_msg.specs.Prelude.{canonical}
+use Rattle.bgp_machine.specs.Prelude.{told_with}
 use Rattle.bgp_machine.proofs.Sendings.{told_valid, told_narrow, told_narrow_valid}
 use Rattle.bgp_machine.proofs.Widened.{widened_ranges}
 use Rattle.bgp_machine.proofs.sending.tell.Goals as goal

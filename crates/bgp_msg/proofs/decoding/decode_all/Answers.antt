@@ -2,11 +2,9 @@ use Rattle.std.proofs.Common.{◌≡◌, ◌+◌, ℕ, List, [], None, Some, tak
 use Rattle.std.specs.List.{flat_map}
 use Rattle.std.proofs.lemmas.List.{take_all}
 use Rattle.bgp_frame.specs.declared.end.End.TheVariants as end
-use Rattle.bgp_frame.specs.Stream.{Gives}
+use Rattle.bgp_frame.specs.Prelude.{Gives}
 use Rattle.bgp_frame.proofs.Pulls.{nothing_waits}
-use Rattle.bgp_msg.specs.Outcome.{stream_rules}
-use Rattle.bgp_msg.specs.Decoder.{Decoding, fresh}
-use Rattle.bgp_msg.specs.steps.Decoding.{Decodes}
+use Rattle.bgp_msg.specs.Prelude.{stream_rules, Decoding, fresh, Decodes}
 use Rattle.bgp_msg.proofs.Decodings.{Outs, decodes_from, octets_in, one_more, ends_early, waits_at_end}
 use Rattle.bgp_msg.proofs.decoding.decode_all.Goals as goal
 

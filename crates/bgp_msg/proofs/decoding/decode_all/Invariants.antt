@@ -1,7 +1,6 @@
 use Rattle.std.proofs.Common.{take, [], None}
 use Rattle.std.specs.List.{flat_map}
-use Rattle.bgp_msg.specs.Decoder.{fresh}
-use Rattle.bgp_msg.specs.steps.Decoding.{Decodes}
+use Rattle.bgp_msg.specs.Prelude.{fresh, Decodes}
 use Rattle.bgp_msg.proofs.decoding.decode_all.Given as goal
 
 -- the stream goes on behind the pieces so far

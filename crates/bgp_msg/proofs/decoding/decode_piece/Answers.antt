@@ -1,6 +1,6 @@
 use Rattle.std.proofs.Common.{List, ℕ, drop, Option, None, Some, sym, subst}
 use Rattle.bgp_frame.specs.declared.end.End.{End}
-use Rattle.bgp_msg.specs.steps.Decoding.{Decodes}
+use Rattle.bgp_msg.specs.Prelude.{Decodes}
 use Rattle.bgp_msg.proofs.Decodings.{decodes_from, further, over}
 use Rattle.bgp_msg.proofs.decoding.decode_piece.Goals as goal
 

@@ -1,5 +1,5 @@
 use Rattle.std.proofs.Common.{length, None}
-use Rattle.bgp_msg.specs.steps.Decoding.{Decodes}
+use Rattle.bgp_msg.specs.Prelude.{Decodes}
 use Rattle.bgp_msg.proofs.decoding.decode_piece.Given as goal
 
 -- the stream goes on behind what was taken of the piece

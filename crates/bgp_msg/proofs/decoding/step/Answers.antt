@@ -1,7 +1,7 @@
 use Rattle.std.proofs.Common.{ℕ, drop, Option, Some, sym, subst}
 use Rattle.bgp_frame.specs.declared.end.End.{End}
 use Rattle.bgp_msg.specs.declared.outcome.Outcome.{Outcome}
-use Rattle.bgp_msg.specs.steps.Decoding.{IsTaken, Decodes}
+use Rattle.bgp_msg.specs.Prelude.{IsTaken, Decodes}
 use Rattle.bgp_msg.proofs.Decodings.{step_none, step_reset, step_on}
 use Rattle.bgp_msg.proofs.decoding.step.Goals as goal
 

@@ -1,6 +1,6 @@
 use Rattle.bgp_frame.proofs.Streams.{HasOneReading-octets}
 use Rattle.bgp_msg.specs.declared.outcome.Outcome.{Outcome}
-use Rattle.bgp_msg.specs.Outcome.{stream_rules}
+use Rattle.bgp_msg.specs.Prelude.{stream_rules}
 use Rattle.bgp_msg.proofs.laws.streams_have_one_reading.Goals as goal
 
 pub returns : goal.returns

@@ -2,13 +2,10 @@ use Rattle.std.proofs.Common.{◌≡◌, true, false, ap}
 use Rattle.std.specs.Prelude.{is_none}
 use Rattle.bgp_open.specs.declared.context.Context.{Context}
 use Rattle.bgp_update.specs.declared.update.Update.{Update}
-use Rattle.bgp_update.specs.As4.{narrowed_update}
-use Rattle.bgp_update.specs.Told.{CanBeTold}
-use Rattle.bgp_update.specs.View.{update_value}
-use Rattle.bgp_update.specs.Widths.{with_as4}
+use Rattle.bgp_update.specs.Prelude.{narrowed_update, CanBeTold, update_value, with_as4}
 use Rattle.bgp_update.proofs.Widths.{narrowed_update_is_valid}
 use Rattle.bgp_msg.specs.declared.message.Message.TheVariants as message
-use Rattle.bgp_msg.specs.Written.{is_valid}
+use Rattle.bgp_msg.specs.Prelude.{is_valid}
 use Rattle.bgp_msg.proofs.narrow_encoding.encode_narrowed.Goals as goal
 
 told_valid : (ctx : Context) (u : Update) → CanBeTold ctx u → is_valid (with_as4 false ctx) (message.Update (narrowed_update u)) ≡ true

@@ -1,6 +1,5 @@
 use Rattle.std.proofs.Common.{ℕ, Bool, List, ◌≡◌, ◌++◌, length, sym, ap, ◌∙◌}
-use Rattle.bgp_msg.specs.steps.Room.{room_of}
-use Rattle.bgp_msg.specs.Written.{kind_of, body_of}
+use Rattle.bgp_msg.specs.Prelude.{room_of, kind_of, body_of}
 use Rattle.bgp_msg.proofs.Rooms.{headed, where_ok, refused, accepted}
 use Rattle.bgp_msg.proofs.whole.put_whole.Goals as goal
 

@@ -1,4 +1,4 @@
-use Rattle.bgp_open.specs.Written.{canonical}
+use Rattle.bgp_open.specs.Prelude.{canonical}
 use Rattle.bgp_open.proofs.Readings.{spelling-reads}
 use Rattle.bgp_open.proofs.Spellings.{good-spells}
 use Rattle.bgp_open.proofs.laws.a_written_open_is_read_back.Goals as goal

@@ -1,6 +1,6 @@
 use Rattle.bgp_wire.proofs.Pieces.{Reads-prefix_free}
 use Rattle.bgp_open.specs.declared.capability.Capability.{Capability}
-use Rattle.bgp_open.specs.Capability.{IsCapability, one_capability}
+use Rattle.bgp_open.specs.Prelude.{IsCapability, one_capability}
 use Rattle.bgp_open.proofs.Capabilities.{capability-reads}
 use Rattle.bgp_open.proofs.laws.capabilities_are_prefix_free.Goals as goal
 

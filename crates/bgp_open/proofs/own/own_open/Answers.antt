@@ -1,5 +1,5 @@
 use Rattle.std.proofs.Common.{◌≡◌, ◌∙◌, arith, rules}
-use Rattle.bgp_open.specs.Own.{own_caps}
+use Rattle.bgp_open.specs.Prelude.{own_caps}
 use Rattle.bgp_open.proofs.Owns.{own-read}
 use Rattle.bgp_open.proofs.own.own_open.Goals as goal
 

@@ -1,8 +1,7 @@
 use Rattle.std.proofs.Common.{◌≡◌, ℕ, List, length, eqb, sym, ap, ◌∙◌}
-use Rattle.bgp_wire.specs.Reader.{pieces}
+use Rattle.bgp_wire.specs.Prelude.{pieces}
 use Rattle.bgp_open.specs.declared.capability.Capability.{Capability}
-use Rattle.bgp_open.specs.Capability.{IsCapability, one_capability}
-use Rattle.bgp_open.specs.CapabilityView.{capability_value}
+use Rattle.bgp_open.specs.Prelude.{IsCapability, one_capability, capability_value}
 use Rattle.bgp_open.proofs.Capabilities.{capability-reads}
 use Rattle.bgp_wire.proofs.Walks.{shorter, same_rest, all_rest}
 use Rattle.bgp_open.proofs.parameter.are_capabilities.Goals as goal

@@ -1,6 +1,6 @@
 use Rattle.std.proofs.Common.{◌≡◌, length}
-use Rattle.bgp_wire.specs.Reader.{pieces}
-use Rattle.bgp_open.specs.Capability.{one_capability}
+use Rattle.bgp_wire.specs.Prelude.{pieces}
+use Rattle.bgp_open.specs.Prelude.{one_capability}
 use Rattle.bgp_open.proofs.parameter.are_capabilities.Given as goal
 
 -- what is left has the same rest

@@ -1,9 +1,7 @@
 use Rattle.std.proofs.Common.{◌≡◌, sym, ap, ◌∙◌, List}
-use Rattle.bgp_wire.specs.Reader.{pieces}
+use Rattle.bgp_wire.specs.Prelude.{pieces}
 use Rattle.bgp_open.specs.declared.capability.Capability.{Capability}
-use Rattle.bgp_open.specs.Capability.{one_capability}
-use Rattle.bgp_open.specs.Parameter.{IsParameter, one_parameter}
-use Rattle.bgp_open.specs.OpenFault.{rest_fault}
+use Rattle.bgp_open.specs.Prelude.{one_capability, IsParameter, one_parameter, rest_fault}
 use Rattle.bgp_open.proofs.Parameters.{parameter-reads}
 use Rattle.bgp_wire.proofs.Walks.{shorter, same_rest, all_rest}
 use Rattle.bgp_open.proofs.parameter.parameters_fault.Goals as goal

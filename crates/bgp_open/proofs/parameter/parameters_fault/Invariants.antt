@@ -1,6 +1,6 @@
 use Rattle.std.proofs.Common.{◌≡◌, length}
-use Rattle.bgp_wire.specs.Reader.{pieces}
-use Rattle.bgp_open.specs.Parameter.{one_parameter}
+use Rattle.bgp_wire.specs.Prelude.{pieces}
+use Rattle.bgp_open.specs.Prelude.{one_parameter}
 use Rattle.bgp_open.proofs.parameter.parameters_fault.Given as goal
 
 -- what is left has the same rest

@@ -1,5 +1,5 @@
 use Rattle.std.proofs.Common.{◌≡◌, ◌-◌, ◌++◌, take, replicate}
-use Rattle.bgp_prefix.specs.Bits.{leading_bits}
+use Rattle.bgp_prefix.specs.Prelude.{leading_bits}
 use Rattle.bgp_prefix.proofs.bits.address.Given as goal
 
 -- the octets so far are cleared, and the others are 0

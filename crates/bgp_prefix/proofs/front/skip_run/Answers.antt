@@ -1,6 +1,6 @@
 use Rattle.std.proofs.Common.{◌+◌, ◌≤◌, length, sym, ◌∙◌, arith, rules}
 use Rattle.bgp_wire.proofs.Walks.{shorter, same_rest, all_rest, not_more, counts, counted}
-use Rattle.bgp_prefix.specs.Prefix.{PrefixValue, IsPrefix, one_prefix}
+use Rattle.bgp_prefix.specs.Prelude.{PrefixValue, IsPrefix, one_prefix}
 use Rattle.bgp_prefix.proofs.PrefixLemmas.{IsPrefix-reads}
 use Rattle.bgp_prefix.proofs.front.skip_run.Goals as goal
 

@@ -4,9 +4,7 @@ use Rattle.std.proofs.lemmas.List.Concat.{flat_map-cons}
 use Rattle.std.specs.List.{flat_map}
 use Rattle.bgp_wire.proofs.Rooms.{extends_more, lacks}
 use Rattle.bgp_wire.proofs.Walks.{shorter, adds, added, first_then}
-use Rattle.bgp_prefix.specs.Bits.{leading_bits}
-use Rattle.bgp_prefix.specs.Prefix.{PrefixValue, IsPrefix, one_prefix, prefix_of, spelling_of}
-use Rattle.bgp_prefix.specs.Run.{run_of}
+use Rattle.bgp_prefix.specs.Prelude.{leading_bits, PrefixValue, IsPrefix, one_prefix, prefix_of, spelling_of, run_of}
 use Rattle.bgp_prefix.proofs.PrefixLemmas.{IsPrefix-reads}
 use Rattle.bgp_prefix.proofs.WrittenFronts.{written_front}
 use Rattle.bgp_prefix.proofs.rewriting.append_octets.Goals as goal

@@ -1,8 +1,7 @@
 use Rattle.std.proofs.Common.{◌≡◌, ◌++◌, length}
 use Rattle.std.specs.List.{flat_map}
-use Rattle.bgp_wire.specs.steps.Output.{Extends}
-use Rattle.bgp_prefix.specs.Prefix.{spelling_of}
-use Rattle.bgp_prefix.specs.Run.{run_of}
+use Rattle.bgp_wire.specs.Prelude.{Extends}
+use Rattle.bgp_prefix.specs.Prelude.{spelling_of, run_of}
 use Rattle.bgp_prefix.proofs.rewriting.append_octets.Given as goal
 
 -- what is there so far, and the prefixes of what is left, are what was there and all the prefixes

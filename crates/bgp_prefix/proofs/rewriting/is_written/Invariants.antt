@@ -1,7 +1,6 @@
 use Rattle.std.proofs.Common.{◌≡◌, length}
 use Rattle.std.specs.List.{flat_map}
-use Rattle.bgp_prefix.specs.Prefix.{spelling_of}
-use Rattle.bgp_prefix.specs.Run.{run_of}
+use Rattle.bgp_prefix.specs.Prelude.{spelling_of, run_of}
 use Rattle.bgp_prefix.proofs.rewriting.is_written.Given as goal
 
 -- where what is left is as it is written, all octets are

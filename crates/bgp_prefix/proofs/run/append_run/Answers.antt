@@ -1,6 +1,6 @@
 use Rattle.std.proofs.lemmas.Result.{err_from_is_err_and}
 use Rattle.bgp_wire.proofs.Writes.{some_written, one_lacks}
-use Rattle.bgp_prefix.specs.Prefix.{IsValid, spelling_of}
+use Rattle.bgp_prefix.specs.Prelude.{IsValid, spelling_of}
 use Rattle.bgp_prefix.proofs.run.append_run.Goals as goal
 
 pub returns-in_err-append_to-clause-err : goal.returns-in_err-append_to-clause-err

@@ -1,6 +1,6 @@
 use Rattle.std.proofs.Common.{take}
 use Rattle.bgp_wire.proofs.Writes.{IsWritten}
-use Rattle.bgp_prefix.specs.Prefix.{IsValid, spelling_of}
+use Rattle.bgp_prefix.specs.Prelude.{IsValid, spelling_of}
 use Rattle.bgp_prefix.proofs.run.append_run.Given as goal
 
 -- the prefixes so far are written

@@ -1,5 +1,5 @@
 use Rattle.std.proofs.Common.{◌≡◌, ◌++◌, length}
-use Rattle.bgp_prefix.specs.Run.{run_of}
+use Rattle.bgp_prefix.specs.Prelude.{run_of}
 use Rattle.bgp_prefix.proofs.run.read_run.Given as goal
 
 -- the prefixes so far and those of what is left are all the prefixes, and the same is left behind them

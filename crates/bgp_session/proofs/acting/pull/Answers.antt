@@ -1,10 +1,7 @@
 use Rattle.std.proofs.Common.{◌≡◌, drop, sym, subst, arith}
-use Rattle.bgp_machine.specs.Cutting.{IsAtRest}
+use Rattle.bgp_machine.specs.Prelude.{IsAtRest, IsReady}
 use Rattle.bgp_session.specs.contracts.speaker.Speaker.{the_view}
-use Rattle.bgp_machine.specs.steps.Ready.{IsReady}
-use Rattle.bgp_session.specs.steps.Feeding.{fed_on, with_machine, FeedsOn, left_seen}
-use Rattle.bgp_session.specs.Pair.{End, Pair, pair}
-use Rattle.bgp_session.specs.Sight.{observed}
+use Rattle.bgp_session.specs.Prelude.{fed_on, with_machine, FeedsOn, left_seen, End, Pair, pair, observed}
 use Rattle.bgp_session.proofs.Feeds.{acts_on, takes_more, ends_so}
 use Rattle.bgp_session.proofs.Sights.{context_copied, saw_step, saw_more, saw_none}
 use Rattle.bgp_session.proofs.acting.pull.Goals as goal

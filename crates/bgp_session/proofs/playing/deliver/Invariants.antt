@@ -1,7 +1,5 @@
 use Rattle.std.proofs.Common.{◌≡◌, length}
-use Rattle.bgp_session.specs.steps.Playing.{Rests, Delivers}
-use Rattle.bgp_session.specs.World.{delivers}
-use Rattle.bgp_session.specs.Wire.{trace}
+use Rattle.bgp_session.specs.Prelude.{Rests, Delivers, delivers, trace}
 use Rattle.bgp_session.proofs.playing.deliver.Given as goal
 
 -- the pieces so far have passed, and the others are left

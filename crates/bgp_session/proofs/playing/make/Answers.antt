@@ -1,7 +1,7 @@
 use Rattle.std.proofs.Common.{refl}
 use Rattle.bgp_machine.specs.declared.event.Event.TheVariants as event
 use Rattle.bgp_session.specs.declared.moves.Move.TheVariants as move
-use Rattle.bgp_session.specs.World.{tells, tells_seen, refused_at, refused_seen, lost, lost_seen, sends, sends_seen}
+use Rattle.bgp_session.specs.Prelude.{tells, tells_seen, refused_at, refused_seen, lost, lost_seen, sends, sends_seen}
 use Rattle.bgp_session.proofs.Plays.{moves_quietly}
 use Rattle.bgp_session.proofs.playing.make.Goals as goal
 

@@ -1,5 +1,5 @@
 use Rattle.std.proofs.Common.{refl}
-use Rattle.bgp_session.specs.Wire.{trace}
+use Rattle.bgp_session.specs.Prelude.{trace}
 use Rattle.bgp_session.proofs.Plays.{grows_none, plays_cut, ok_so}
 use Rattle.bgp_session.proofs.playing.play.Goals as goal
 

@@ -1,7 +1,5 @@
 use Rattle.std.proofs.Common.{◌≡◌, take}
-use Rattle.bgp_session.specs.steps.Playing.{Rests, Plays, HaveSoFar}
-use Rattle.bgp_session.specs.World.{begins, all_moved}
-use Rattle.bgp_session.specs.Wire.{trace}
+use Rattle.bgp_session.specs.Prelude.{Rests, Plays, HaveSoFar, begins, all_moved, trace}
 use Rattle.bgp_session.proofs.playing.run.Given as goal
 
 -- the moves so far were played

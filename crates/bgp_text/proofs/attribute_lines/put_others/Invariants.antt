@@ -1,7 +1,7 @@
 use Rattle.std.proofs.Common.{◌≡◌, ◌++◌, map, take}
 use Rattle.std.specs.List.{flat_map}
 use Rattle.std.specs.String.{string_bytes}
-use Rattle.bgp_attr.specs.AttrView.{opaque_value}
+use Rattle.bgp_attr.specs.Prelude.{opaque_value}
 use Rattle.bgp_text.specs.AttributeLines.{opaque_line}
 use Rattle.bgp_text.proofs.attribute_lines.put_others.Given as goal
 

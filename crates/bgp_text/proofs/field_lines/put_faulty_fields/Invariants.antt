@@ -1,8 +1,8 @@
 use Rattle.std.proofs.Common.{◌≡◌, ◌++◌, length}
 use Rattle.std.specs.List.{flat_map}
 use Rattle.std.specs.String.{string_bytes}
-use Rattle.bgp_frame.specs.Notification.{notification_of_view}
-use Rattle.bgp_fields.specs.FieldIter.{fields_left}
+use Rattle.bgp_frame.specs.Prelude.{notification_of_view}
+use Rattle.bgp_fields.specs.Prelude.{fields_left}
 use Rattle.bgp_text.specs.FieldLines.{faulty_line}
 use Rattle.bgp_text.proofs.field_lines.put_faulty_fields.Given as goal
 

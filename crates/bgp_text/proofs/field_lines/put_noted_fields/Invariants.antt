@@ -1,7 +1,7 @@
 use Rattle.std.proofs.Common.{◌≡◌, ◌++◌, length}
 use Rattle.std.specs.String.{string_bytes}
-use Rattle.bgp_update.specs.Iters.{notes_left}
-use Rattle.bgp_fields.specs.FieldIter.{fields_left}
+use Rattle.bgp_update.specs.Prelude.{notes_left}
+use Rattle.bgp_fields.specs.Prelude.{fields_left}
 use Rattle.bgp_text.specs.FieldLines.{noted_lines}
 use Rattle.bgp_text.specs.steps.Rows.{noting_lines}
 use Rattle.bgp_text.proofs.field_lines.put_noted_fields.Given as goal

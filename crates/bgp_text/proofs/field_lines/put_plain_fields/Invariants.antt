@@ -1,7 +1,7 @@
 use Rattle.std.proofs.Common.{◌≡◌, ◌++◌, length}
 use Rattle.std.specs.List.{flat_map}
 use Rattle.std.specs.String.{string_bytes}
-use Rattle.bgp_fields.specs.FieldIter.{fields_left}
+use Rattle.bgp_fields.specs.Prelude.{fields_left}
 use Rattle.bgp_text.specs.steps.Rows.{plain_line}
 use Rattle.bgp_text.proofs.field_lines.put_plain_fields.Given as goal
 

@@ -1,7 +1,7 @@
 use Rattle.std.proofs.Common.{◌≡◌, ◌++◌, length}
 use Rattle.std.specs.List.{flat_map}
 use Rattle.std.specs.String.{string_bytes}
-use Rattle.bgp_update.specs.Iters.{notes_left}
+use Rattle.bgp_update.specs.Prelude.{notes_left}
 use Rattle.bgp_text.specs.FieldLines.{unplaced_line}
 use Rattle.bgp_text.specs.steps.Rows.{row_of}
 use Rattle.bgp_text.proofs.field_lines.put_unplaced_row.Given as goal

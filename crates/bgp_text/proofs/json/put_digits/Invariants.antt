@@ -1,7 +1,7 @@
 use Rattle.std.proofs.Common.{◌≡◌, ◌++◌, take}
 use Rattle.std.specs.List.{flat_map}
 use Rattle.std.specs.String.{string_bytes}
-use Rattle.bgp_prefix.specs.Text.{hex_octet}
+use Rattle.bgp_prefix.specs.Prelude.{hex_octet}
 use Rattle.bgp_text.proofs.json.put_digits.Given as goal
 
 -- the text so far has the digits of the octets so far

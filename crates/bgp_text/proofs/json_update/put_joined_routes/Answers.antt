@@ -1,7 +1,7 @@
 use Rattle.std.proofs.Common.{◌≡◌, ◌++◌, ℕ, List, [], OnOk, subst, ap, sym, ◌∙◌, append_assoc}
 use Rattle.std.specs.List.{flat_map}
 use Rattle.std.specs.String.{string_bytes}
-use Rattle.bgp_prefix.specs.Prefix.{PrefixValue}
+use Rattle.bgp_prefix.specs.Prelude.{PrefixValue}
 use Rattle.bgp_text.specs.Json.{behind_comma, joined}
 use Rattle.bgp_text.specs.JsonAddress.{prefix4_json, prefix6_json}
 use Rattle.bgp_text.proofs.JsonLists.{joined_second, joined_both}

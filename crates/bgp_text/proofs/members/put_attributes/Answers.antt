@@ -1,8 +1,7 @@
 use Rattle.std.proofs.Common.{◌≡◌, ℕ, List, OnOk, subst}
 use Rattle.std.specs.List.{flat_map}
 use Rattle.std.specs.String.{string_bytes}
-use Rattle.bgp_update.specs.KeptView.{known_value}
-use Rattle.bgp_update.specs.Slots.{slot}
+use Rattle.bgp_update.specs.Prelude.{known_value, slot}
 use Rattle.bgp_text.specs.Members.{printed_attributes}
 use Rattle.bgp_text.proofs.PrintedSlots.{all_slots}
 use Rattle.bgp_text.proofs.members.put_attributes.Goals as goal

@@ -1,9 +1,8 @@
 use Rattle.std.proofs.Common.{◌≡◌, ◌++◌, List, ℕ, OnOk, subst, map, append_assoc}
 use Rattle.std.specs.String.{string_bytes}
-use Rattle.bgp_attr.specs.AttrView.{opaque_value}
-use Rattle.bgp_prefix.specs.PrefixIter.{prefixes_left}
-use Rattle.bgp_update.specs.KeptView.{known_value}
-use Rattle.bgp_update.specs.View.{update_value}
+use Rattle.bgp_attr.specs.Prelude.{opaque_value}
+use Rattle.bgp_prefix.specs.Prelude.{prefixes_left}
+use Rattle.bgp_update.specs.Prelude.{known_value, update_value}
 use Rattle.bgp_update.specs.declared.update.Update.{Update}
 use Rattle.bgp_text.specs.Members.{Shown, printed, printed_attributes}
 use Rattle.bgp_text.proofs.PrintedSlots.{known_printed}

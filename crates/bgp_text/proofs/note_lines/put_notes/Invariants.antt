@@ -1,8 +1,7 @@
 use Rattle.std.proofs.Common.{◌≡◌, ◌++◌}
 use Rattle.std.specs.List.{flat_map}
 use Rattle.std.specs.String.{string_bytes}
-use Rattle.bgp_update.specs.Iters.{notes_left}
-use Rattle.bgp_update.specs.View.{notes_value}
+use Rattle.bgp_update.specs.Prelude.{notes_left, notes_value}
 use Rattle.bgp_text.specs.NoteLines.{note_line}
 use Rattle.bgp_text.proofs.note_lines.put_notes.Given as goal
 

@@ -1,7 +1,7 @@
 use Rattle.std.proofs.Common.{◌≡◌, ◌++◌}
 use Rattle.std.specs.List.{flat_map}
 use Rattle.std.specs.String.{string_bytes}
-use Rattle.bgp_attr.specs.PathView.{segments_left}
+use Rattle.bgp_attr.specs.Prelude.{segments_left}
 use Rattle.bgp_text.specs.PathLine.{segment_text}
 use Rattle.bgp_text.proofs.path_line.put_segments.Given as goal
 

@@ -1,5 +1,5 @@
 use Rattle.std.proofs.Common.{◌≡◌, ◌++◌}
-use Rattle.bgp_prefix.specs.PrefixIter.{prefixes_left}
+use Rattle.bgp_prefix.specs.Prelude.{prefixes_left}
 use Rattle.bgp_update.proofs.add_routes.add_routes.Given as goal
 
 -- those so far, and those still to come, are all

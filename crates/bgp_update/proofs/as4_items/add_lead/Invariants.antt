@@ -1,5 +1,5 @@
 use Rattle.std.proofs.Common.{◌≡◌, ◌++◌, drop}
-use Rattle.bgp_update.specs.As4.{lead}
+use Rattle.bgp_update.specs.Prelude.{lead}
 use Rattle.bgp_update.proofs.as4_items.add_lead.Given as goal
 
 -- what is there, and the lead of what is left, are the whole

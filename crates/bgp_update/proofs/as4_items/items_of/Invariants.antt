@@ -1,5 +1,5 @@
 use Rattle.std.proofs.Common.{◌≡◌, ◌*◌, ◌≤◌, take}
-use Rattle.bgp_update.specs.As4.{items_of}
+use Rattle.bgp_update.specs.Prelude.{items_of}
 use Rattle.bgp_update.proofs.as4_items.items_of.Given as goal
 
 -- the items of those so far, each of which has no more than a length can be

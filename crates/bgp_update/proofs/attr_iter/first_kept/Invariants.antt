@@ -1,6 +1,5 @@
 use Rattle.std.proofs.Common.{◌≡◌}
-use Rattle.bgp_update.specs.MarkIter.{marks_left}
-use Rattle.bgp_update.specs.Taken.{kept_of}
+use Rattle.bgp_update.specs.Prelude.{marks_left, kept_of}
 use Rattle.bgp_update.proofs.attr_iter.first_kept.Given as goal
 
 -- what is left keeps as much

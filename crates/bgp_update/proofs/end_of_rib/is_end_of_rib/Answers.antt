@@ -1,5 +1,5 @@
 use Rattle.std.proofs.Common.{arith}
-use Rattle.bgp_update.specs.Body.{parts_value}
+use Rattle.bgp_update.specs.Prelude.{parts_value}
 use Rattle.bgp_update.proofs.PartLengths.{parts_within}
 use Rattle.bgp_update.proofs.end_of_rib.is_end_of_rib.Goals as goal
 

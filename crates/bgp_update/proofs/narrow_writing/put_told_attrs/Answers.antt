@@ -2,9 +2,8 @@ use Rattle.std.proofs.Common.{◌≡◌, ◌<◌, get_or, length, true, refl, sy
 use Rattle.std.specs.List.{AllByRecursion}
 use Rattle.std.proofs.lemmas.Result.{err_from_is_err_and}
 use Rattle.bgp_attr.specs.declared.attr.Attr.{Attr}
-use Rattle.bgp_attr.specs.Written.{canonical, is_writable}
-use Rattle.bgp_update.specs.Slots.{slot}
-use Rattle.bgp_update.specs.steps.ToldSlot.{told_attrs}
+use Rattle.bgp_attr.specs.Prelude.{canonical, is_writable}
+use Rattle.bgp_update.specs.Prelude.{slot, told_attrs}
 use Rattle.bgp_update.proofs.SlotSteps.{so_far, all_of_type, type_written, written_more}
 use Rattle.bgp_update.proofs.narrow_writing.put_told_attrs.Goals as goal
 

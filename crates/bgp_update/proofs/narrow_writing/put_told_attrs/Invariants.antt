@@ -1,7 +1,6 @@
-use Rattle.bgp_attr.specs.Written.{canonical}
+use Rattle.bgp_attr.specs.Prelude.{canonical}
 use Rattle.bgp_wire.proofs.Writes.{IsWritten}
-use Rattle.bgp_update.specs.Slots.{slot}
-use Rattle.bgp_update.specs.steps.ToldSlot.{told_attrs}
+use Rattle.bgp_update.specs.Prelude.{slot, told_attrs}
 use Rattle.bgp_update.proofs.SlotSteps.{so_far}
 use Rattle.bgp_update.proofs.narrow_writing.put_told_attrs.Given as goal
 

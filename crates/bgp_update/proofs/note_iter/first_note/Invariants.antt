@@ -1,7 +1,6 @@
 use Rattle.std.proofs.Common.{◌≡◌}
 use Rattle.std.specs.List.{flat_map}
-use Rattle.bgp_update.specs.MarkIter.{marks_left}
-use Rattle.bgp_update.specs.Notes.{mark_notes}
+use Rattle.bgp_update.specs.Prelude.{marks_left, mark_notes}
 use Rattle.bgp_update.proofs.note_iter.first_note.Given as goal
 
 -- what is left has as many notes

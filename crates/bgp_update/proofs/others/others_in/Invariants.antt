@@ -1,8 +1,7 @@
 use Rattle.std.proofs.Common.{◌≡◌, [], map}
 use Rattle.std.specs.List.{flat_map}
-use Rattle.bgp_attr.specs.AttrView.{opaque_value}
-use Rattle.bgp_update.specs.Iters.{attrs_left}
-use Rattle.bgp_update.specs.Taken.{as_opaque, rising_behind}
+use Rattle.bgp_attr.specs.Prelude.{opaque_value}
+use Rattle.bgp_update.specs.Prelude.{attrs_left, as_opaque, rising_behind}
 use Rattle.bgp_update.proofs.others.others_in.Given as goal
 
 -- those so far, and those still to come, are all

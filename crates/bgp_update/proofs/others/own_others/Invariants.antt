@@ -1,5 +1,5 @@
 use Rattle.std.proofs.Common.{◌≡◌, ◌++◌, length, map}
-use Rattle.bgp_attr.specs.AttrView.{opaque_value}
+use Rattle.bgp_attr.specs.Prelude.{opaque_value}
 use Rattle.bgp_update.proofs.others.own_others.Given as goal
 
 -- those so far, and those still to come, are all

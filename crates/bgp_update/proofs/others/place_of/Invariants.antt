@@ -1,6 +1,6 @@
 use Rattle.std.proofs.Common.{◌≡◌, ◌+◌, length, map}
-use Rattle.bgp_attr.specs.AttrView.{opaque_value}
-use Rattle.bgp_update.specs.steps.Others.{place_in}
+use Rattle.bgp_attr.specs.Prelude.{opaque_value}
+use Rattle.bgp_update.specs.Prelude.{place_in}
 use Rattle.bgp_update.proofs.others.place_of.Given as goal
 
 -- those so far are lower

@@ -2,8 +2,8 @@ use Rattle.std.proofs.Common.{◌≡◌, ◌+◌, ◌<◌, get_or, length, false
 use Rattle.std.specs.List.{AllByRecursion, flat_map}
 use Rattle.std.proofs.lemmas.Result.{err_from_is_err_and}
 use Rattle.bgp_attr.specs.declared.attr.Attr.{Attr}
-use Rattle.bgp_attr.specs.Written.{canonical, is_empty, HasRanges}
-use Rattle.bgp_update.specs.Slots.{slot}
+use Rattle.bgp_attr.specs.Prelude.{canonical, is_empty, HasRanges}
+use Rattle.bgp_update.specs.Prelude.{slot}
 use Rattle.bgp_update.proofs.SlotSteps.{so_far, all_of_type, type_lacks, written_more}
 use Rattle.bgp_update.proofs.put.put_attributes.Goals as goal
 

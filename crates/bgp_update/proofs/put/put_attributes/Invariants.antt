@@ -1,6 +1,6 @@
 use Rattle.bgp_wire.proofs.Writes.{IsWritten}
-use Rattle.bgp_attr.specs.Written.{canonical, HasRanges}
-use Rattle.bgp_update.specs.Slots.{slot}
+use Rattle.bgp_attr.specs.Prelude.{canonical, HasRanges}
+use Rattle.bgp_update.specs.Prelude.{slot}
 use Rattle.bgp_update.proofs.SlotSteps.{so_far}
 use Rattle.bgp_update.proofs.put.put_attributes.Given as goal
 

@@ -1,6 +1,6 @@
 use Rattle.std.proofs.Common.{◌≡◌, ◌<◌, length}
 use Rattle.std.specs.List.{AllByRecursion}
-use Rattle.bgp_update.specs.Written.{rise}
+use Rattle.bgp_update.specs.Prelude.{rise}
 use Rattle.bgp_update.proofs.refusal.rise.Given as goal
 
 -- all types rise where those that are left do, and those in front are types

@@ -1,7 +1,6 @@
 use Rattle.std.proofs.Common.{◌≡◌, length}
 use Rattle.std.specs.List.{flat_map}
-use Rattle.bgp_update.specs.KeptView.{with_others}
-use Rattle.bgp_update.specs.Slots.{slot}
+use Rattle.bgp_update.specs.Prelude.{with_others, slot}
 use Rattle.bgp_update.proofs.slot_iter.first_slot.Given as goal
 
 -- those so far have none

@@ -1,7 +1,6 @@
 use Rattle.std.proofs.Common.{◌≡◌}
 use Rattle.std.specs.List.{list_any}
-use Rattle.bgp_attr.specs.NumberIter.{as_numbers_left}
-use Rattle.bgp_attr.specs.Written.{is_above_two_octets}
+use Rattle.bgp_attr.specs.Prelude.{as_numbers_left, is_above_two_octets}
 use Rattle.bgp_update.proofs.told_path.has_wide_number.Given as goal
 
 -- none of those so far does

@@ -1,8 +1,7 @@
 use Rattle.std.proofs.Common.{false}
-use Rattle.bgp_attr.specs.NumberIter.{as_numbers_left}
-use Rattle.bgp_attr.specs.Numbers.{number_octets}
+use Rattle.bgp_attr.specs.Prelude.{as_numbers_left, number_octets}
 use Rattle.bgp_attr.proofs.ViewWrites.{IsWriting}
-use Rattle.bgp_update.specs.As4.{narrow_number}
+use Rattle.bgp_update.specs.Prelude.{narrow_number}
 use Rattle.bgp_update.proofs.told_path.put_numbers.Given as goal
 
 -- those so far are written

@@ -1,9 +1,8 @@
 use Rattle.std.proofs.Common.{◌≡◌, false, map}
 use Rattle.std.specs.List.{list_any}
-use Rattle.bgp_attr.specs.PathView.{path_value, segments_left}
-use Rattle.bgp_attr.specs.Written.{is_bad_segment, segment_octets}
+use Rattle.bgp_attr.specs.Prelude.{path_value, segments_left, is_bad_segment, segment_octets}
 use Rattle.bgp_attr.proofs.ViewWrites.{IsWriting}
-use Rattle.bgp_update.specs.As4.{narrow_path, narrow_segment}
+use Rattle.bgp_update.specs.Prelude.{narrow_path, narrow_segment}
 use Rattle.bgp_update.proofs.told_path.put_path.Given as goal
 
 -- those so far are written, and each of the others has a count

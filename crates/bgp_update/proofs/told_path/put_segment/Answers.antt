@@ -1,5 +1,5 @@
 use Rattle.std.proofs.lemmas.Result.{on_ok_weaker}
-use Rattle.bgp_attr.specs.PathView.{segment_value}
+use Rattle.bgp_attr.specs.Prelude.{segment_value}
 use Rattle.bgp_update.proofs.ToldPaths.{narrow_written}
 use Rattle.bgp_update.proofs.told_path.put_segment.Goals as goal
 

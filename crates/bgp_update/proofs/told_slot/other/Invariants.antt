@@ -1,6 +1,6 @@
 use Rattle.std.proofs.Common.{◌≡◌, eqb, length, map}
 use Rattle.std.specs.List.{find}
-use Rattle.bgp_attr.specs.AttrView.{opaque_value}
+use Rattle.bgp_attr.specs.Prelude.{opaque_value}
 use Rattle.bgp_update.proofs.told_slot.other.Given as goal
 
 -- none of those so far is of the type

@@ -3,8 +3,8 @@ use Rattle.std.specs.List.{flat_map, list_any}
 use Rattle.std.proofs.lemmas.List.{length-take, nil_from_length}
 use Rattle.std.proofs.lemmas.Bool.{eqb-true}
 use Rattle.bgp_attr.specs.declared.opaque.Opaque.{Opaque}
-use Rattle.bgp_attr.specs.AttrView.{opaque_value}
-use Rattle.bgp_update.specs.Slots.{slot}
+use Rattle.bgp_attr.specs.Prelude.{opaque_value}
+use Rattle.bgp_update.specs.Prelude.{slot}
 use Rattle.bgp_update.proofs.SlotTypes.{order_long, recognised_types, common_types}
 use Rattle.bgp_update.proofs.told_slot.told_types.Goals as goal
 

@@ -1,5 +1,5 @@
 use Rattle.std.proofs.Common.{◌≡◌, take, map}
-use Rattle.bgp_update.specs.As4.{narrow_segment}
+use Rattle.bgp_update.specs.Prelude.{narrow_segment}
 use Rattle.bgp_update.proofs.two_octets.narrow_path.Given as goal
 
 -- the segments so far

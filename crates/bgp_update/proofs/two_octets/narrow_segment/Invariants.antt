@@ -1,5 +1,5 @@
 use Rattle.std.proofs.Common.{◌≡◌, take, map}
-use Rattle.bgp_update.specs.As4.{narrow_number}
+use Rattle.bgp_update.specs.Prelude.{narrow_number}
 use Rattle.bgp_update.proofs.two_octets.narrow_segment.Given as goal
 
 -- the numbers so far

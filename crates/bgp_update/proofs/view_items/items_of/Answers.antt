@@ -1,7 +1,7 @@
 use Rattle.std.proofs.Common.{ap, ◌∙◌, arith}
 use Rattle.std.proofs.lemmas.List.Sums.{sum_by-cons}
-use Rattle.bgp_attr.specs.PathView.{segment_value, segments_left}
-use Rattle.bgp_update.specs.As4.{items_in, items_of}
+use Rattle.bgp_attr.specs.Prelude.{segment_value, segments_left}
+use Rattle.bgp_update.specs.Prelude.{items_in, items_of}
 use Rattle.bgp_update.proofs.PathItems.{items_within}
 use Rattle.bgp_update.proofs.view_items.items_of.Goals as goal
 

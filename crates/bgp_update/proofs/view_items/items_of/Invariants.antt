@@ -1,6 +1,6 @@
 use Rattle.std.proofs.Common.{◌≡◌, ◌+◌}
-use Rattle.bgp_attr.specs.PathView.{path_value, segments_left}
-use Rattle.bgp_update.specs.As4.{items_of}
+use Rattle.bgp_attr.specs.Prelude.{path_value, segments_left}
+use Rattle.bgp_update.specs.Prelude.{items_of}
 use Rattle.bgp_update.proofs.view_items.items_of.Given as goal
 
 -- the items so far, and those of what is left, are all

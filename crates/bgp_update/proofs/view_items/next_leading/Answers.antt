@@ -1,6 +1,6 @@
 use Rattle.std.proofs.Common.{◌≡◌, ℕ, [], sym, ap, ◌∙◌, arith}
-use Rattle.bgp_attr.specs.PathView.{segments_left}
-use Rattle.bgp_update.specs.As4.{lead}
+use Rattle.bgp_attr.specs.Prelude.{segments_left}
+use Rattle.bgp_update.specs.Prelude.{lead}
 use Rattle.bgp_update.proofs.PathItems.{no_lead}
 use Rattle.bgp_update.proofs.view_items.next_leading.Goals as goal
 

@@ -1,6 +1,6 @@
 use Rattle.std.proofs.Common.{◌≡◌, length}
-use Rattle.bgp_attr.specs.PathView.{segments_left}
-use Rattle.bgp_update.specs.As4.{lead}
+use Rattle.bgp_attr.specs.Prelude.{segments_left}
+use Rattle.bgp_update.specs.Prelude.{lead}
 use Rattle.bgp_update.proofs.view_items.next_leading.Given as goal
 
 -- what is left has the same first items

@@ -2,11 +2,10 @@ use Rattle.std.proofs.Common.{◌≡◌, ◌+◌, ◌<◌, get_or, length, true,
 use Rattle.std.specs.List.{AllByRecursion, flat_map}
 use Rattle.std.proofs.lemmas.Result.{err_from_is_err_and}
 use Rattle.bgp_attr.specs.declared.attr.Attr.{Attr}
-use Rattle.bgp_attr.specs.Written.{canonical, is_writable}
-use Rattle.bgp_update.specs.KeptView.{with_others}
-use Rattle.bgp_update.specs.Slots.{slot}
+use Rattle.bgp_attr.specs.Prelude.{canonical, is_writable}
+use Rattle.bgp_update.specs.Prelude.{with_others, slot}
 use Rattle.bgp_update.proofs.SlotSteps.{so_far, all_of_type, type_written, type_lacks, written_more, asks_nothing}
-use Rattle.bgp_update.specs.declared.slot.TheConstants.{RECOGNISED}
+use Rattle.bgp_update.specs.declared.attrs.TheConstants.{RECOGNISED}
 use Rattle.bgp_update.proofs.SlotTypes.{recognised_types}
 use Rattle.bgp_update.proofs.view_writing.put_attrs.Goals as goal
 

@@ -1,7 +1,6 @@
-use Rattle.bgp_attr.specs.Written.{canonical}
+use Rattle.bgp_attr.specs.Prelude.{canonical}
 use Rattle.bgp_wire.proofs.Writes.{IsWritten}
-use Rattle.bgp_update.specs.KeptView.{with_others}
-use Rattle.bgp_update.specs.Slots.{slot}
+use Rattle.bgp_update.specs.Prelude.{with_others, slot}
 use Rattle.bgp_update.proofs.SlotSteps.{so_far}
 use Rattle.bgp_update.proofs.view_writing.put_attrs.Given as goal
 

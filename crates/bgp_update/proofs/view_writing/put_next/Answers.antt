@@ -2,11 +2,10 @@ use Rattle.std.proofs.Common.{◌≡◌, get_or, true, refl, ◌++◌, take}
 use Rattle.std.specs.List.{flat_map}
 use Rattle.std.proofs.lemmas.Result.{on_ok_weaker, on_err_weaker}
 use Rattle.bgp_attr.specs.declared.attr.Attr.{Attr}
-use Rattle.bgp_attr.specs.Written.{canonical, is_writable}
+use Rattle.bgp_attr.specs.Prelude.{canonical, is_writable}
 use Rattle.bgp_wire.proofs.Writes.{IsWritten}
-use Rattle.bgp_update.specs.KeptView.{with_others}
-use Rattle.bgp_update.specs.Slots.{slot}
-use Rattle.bgp_update.specs.declared.slot.TheConstants.{RECOGNISED}
+use Rattle.bgp_update.specs.Prelude.{with_others, slot}
+use Rattle.bgp_update.specs.declared.attrs.TheConstants.{RECOGNISED}
 use Rattle.bgp_update.proofs.SlotSteps.{so_far, all_of_type, type_written, type_lacks, written_more, asks_nothing}
 use Rattle.bgp_update.proofs.view_writing.put_next.Goals as goal
 

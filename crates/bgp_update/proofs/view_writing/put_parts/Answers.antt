@@ -1,7 +1,6 @@
-use Rattle.bgp_prefix.specs.PrefixIter.{prefixes_left}
-use Rattle.bgp_attr.specs.Written.{run_octets}
-use Rattle.bgp_update.specs.KeptView.{with_others}
-use Rattle.bgp_update.specs.Written.{attributes_octets}
+use Rattle.bgp_prefix.specs.Prelude.{prefixes_left}
+use Rattle.bgp_attr.specs.Prelude.{run_octets}
+use Rattle.bgp_update.specs.Prelude.{with_others, attributes_octets}
 use Rattle.bgp_update.proofs.Layouts.{laid-out}
 use Rattle.bgp_update.proofs.view_writing.put_parts.Goals as goal
 

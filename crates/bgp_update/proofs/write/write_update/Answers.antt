@@ -1,9 +1,8 @@
 use Rattle.std.proofs.Common.{length, refl, sym}
 use Rattle.std.proofs.lemmas.Bool.{ltb-false}
 use Rattle.std.proofs.lemmas.Result.{on_ok_weaker}
-use Rattle.bgp_attr.specs.Written.{is_empty}
-use Rattle.bgp_update.specs.Slots.{attr_list}
-use Rattle.bgp_update.specs.Written.{written_body}
+use Rattle.bgp_attr.specs.Prelude.{is_empty}
+use Rattle.bgp_update.specs.Prelude.{attr_list, written_body}
 use Rattle.bgp_update.proofs.Lists.{none-all}
 use Rattle.bgp_update.proofs.ReadBack.{valid-taken}
 use Rattle.bgp_update.proofs.Validity.{valid-accepted}

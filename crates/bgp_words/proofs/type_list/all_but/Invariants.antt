@@ -1,5 +1,5 @@
 use Rattle.std.proofs.Common.{◌≡◌, ◌≤◌, ℕ, ◌&&◌, nat_lt}
-use Rattle.bgp_wire.specs.OctetSet.{has_octet}
+use Rattle.bgp_wire.specs.Prelude.{has_octet}
 use Rattle.bgp_words.specs.TypeList.{is_other}
 use Rattle.bgp_words.proofs.type_list.all_but.Given as goal
 

@@ -1,5 +1,5 @@
 use Rattle.std.proofs.Common.{◌≡◌, map, drop}
-use Rattle.bgp_wire.specs.OctetSet.{has_octet}
+use Rattle.bgp_wire.specs.Prelude.{has_octet}
 use Rattle.bgp_words.specs.TypeList.{types_behind, types_of}
 use Rattle.bgp_words.proofs.type_list.types_of.Given as goal
 

@@ -1,5 +1,5 @@
 use Rattle.std.proofs.Common.{arith}
-use Rattle.bgp_wire.specs.OctetSet.{has_octet}
+use Rattle.bgp_wire.specs.Prelude.{has_octet}
 use Rattle.ristulva_c.proofs.RisingSteps.{all_there}
 use Rattle.ristulva_c.proofs.agreed.rising.Goals as goal
 

@@ -1,7 +1,7 @@
 use Rattle.std.proofs.Common.{◌-◌, length, inr, refl, sym, ap, subst, ◌∙◌}
 use Rattle.std.proofs.lemmas.Bool.{leb-false}
-use Rattle.bgp_update.specs.Parts.{parts_of}
-use Rattle.bgp_msg.specs.Outcome.{is_reset}
+use Rattle.bgp_update.specs.Prelude.{parts_of}
+use Rattle.bgp_msg.specs.Prelude.{is_reset}
 use Rattle.bgp_msg.specs.declared.outcome.Outcome.{Outcome}
 use Rattle.ristulva_c.proofs.batch.take_frame.Goals as goal
 

@@ -1,9 +1,7 @@
 use Rattle.std.proofs.Common.{◌≡◌, None, sym, ap, subst, ◌∙◌, arith}
-use Rattle.bgp_open.specs.Capability.{one_capability}
-use Rattle.bgp_open.specs.Parameter.{one_parameter}
+use Rattle.bgp_open.specs.Prelude.{one_capability, one_parameter}
 use Rattle.ristulva_c.specs.declared.capabilities.Capabilities.{Capabilities}
-use Rattle.ristulva_c.specs.Capabilities.{IsCapabilities, capabilities_left}
-use Rattle.ristulva_c.specs.Prefixes.{between}
+use Rattle.ristulva_c.specs.Prelude.{IsCapabilities, capabilities_left, between}
 use Rattle.ristulva_c.proofs.CapabilitySteps.{given_before, later_fits, none_left, passes}
 use Rattle.ristulva_c.proofs.capabilities.next_capability.Goals as goal
 

@@ -1,5 +1,5 @@
 use Rattle.std.proofs.Common.{◌≡◌, ◌-◌}
-use Rattle.ristulva_c.specs.Capabilities.{IsCapabilities, capabilities_left}
+use Rattle.ristulva_c.specs.Prelude.{IsCapabilities, capabilities_left}
 use Rattle.ristulva_c.proofs.capabilities.next_capability.Given as goal
 
 -- the parameters that were passed had no capabilities

@@ -1,7 +1,6 @@
-use Rattle.bgp_wire.specs.OctetSet.{has_octet}
+use Rattle.bgp_wire.specs.Prelude.{has_octet}
 use Rattle.bgp_frame.specs.declared.step.Step.TheVariants as step
-use Rattle.ristulva_c.specs.Clean.{types_in}
-use Rattle.ristulva_c.specs.Context.{context_of, is_set}
+use Rattle.ristulva_c.specs.Prelude.{types_in, context_of, is_set}
 use Rattle.ristulva_c.proofs.Cleanings.{handed_on, handed_on_by}
 use Rattle.ristulva_c.proofs.cleaning.ristulva_clean.Goals as goal
 

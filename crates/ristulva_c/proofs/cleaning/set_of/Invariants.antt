@@ -1,6 +1,6 @@
 use Rattle.std.proofs.Common.{◌≡◌, drop}
-use Rattle.bgp_wire.specs.OctetSet.{has_octet}
-use Rattle.ristulva_c.specs.Clean.{types_in, with_types}
+use Rattle.bgp_wire.specs.Prelude.{has_octet}
+use Rattle.ristulva_c.specs.Prelude.{types_in, with_types}
 use Rattle.ristulva_c.proofs.cleaning.set_of.Given as goal
 
 -- the set, and the types that are left, are all of them

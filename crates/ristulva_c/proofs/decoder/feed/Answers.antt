@@ -1,6 +1,6 @@
 use Rattle.std.proofs.Common.{◌≡◌, List, ℕ, false, Some, refl, ap, subst, ◌∙◌, inl, inr}
-use Rattle.bgp_frame.specs.Frame.{Waits}
-use Rattle.bgp_msg.specs.Decoder.{Decoding, holding}
+use Rattle.bgp_frame.specs.Prelude.{Waits}
+use Rattle.bgp_msg.specs.Prelude.{Decoding, holding}
 use Rattle.ristulva_c.proofs.Pulled.{waits, all_fed}
 use Rattle.ristulva_c.proofs.decoder.feed.Goals as goal
 

@@ -1,14 +1,11 @@
 use Rattle.std.proofs.Common.{◌≡◌, ℕ, List, ◌++◌, take, sym, ap, subst, ◌∙◌, false}
 use Rattle.bgp_frame.specs.declared.notification.Notification.{Notification}
-use Rattle.bgp_frame.specs.Notification.{notification_of_view}
+use Rattle.bgp_frame.specs.Prelude.{notification_of_view}
 use Rattle.bgp_msg.specs.declared.outcome.Outcome.{Outcome}
+use Rattle.bgp_msg.specs.Prelude.{behind, of_fault, is_reset, outcome_value}
 use Rattle.bgp_msg.specs.declared.outcome.Outcome.TheVariants as outcome
-use Rattle.bgp_msg.specs.Decoder.{behind}
-use Rattle.bgp_msg.specs.Outcome.{of_fault, is_reset}
-use Rattle.bgp_msg.specs.OutcomeView.{outcome_value}
 use Rattle.ristulva_c.specs.declared.status.TheConstants.{OK}
-use Rattle.ristulva_c.specs.Decoder.{GivesHeld, IsWholeTold}
-use Rattle.ristulva_c.specs.Judge.{Judging}
+use Rattle.ristulva_c.specs.Prelude.{GivesHeld, IsWholeTold, Judging}
 use Rattle.ristulva_c.proofs.Pulled.{fed, gives}
 use Rattle.ristulva_c.proofs.decoder.tell_found.Goals as goal
 
@@ -19,10 +16,10 @@ returns-in-Message c =
     let n = c.in-Message.count in
     let o = outcome_value c.in-Message.outcome in
     let j : Judging = record { status = OK; before = c.args.out.now; behind = c.tell_whole.new.out; info_before = c.args.info.now; info_behind = c.tell_whole.new.info } in
-    let given : GivesHeld (record { ctx = d.ctx; held = c.behind_feed.result.now; stopped = false }) o =
-    subst (λ (x : List ℕ). GivesHeld (record { ctx = d.ctx; held = x; stopped = false }) o) (sym c.behind_feed.ensures) (gives d piece n c.in-Message.field-1 o (behind d o) c.in-Message.ensures.0) in (
+    let given : GivesHeld (record { ctx = d.ctx; held = c.held_by.result.now; stopped = false }) o =
+    subst (λ (x : List ℕ). GivesHeld (record { ctx = d.ctx; held = x; stopped = false }) o) (sym c.held_by.ensures) (gives d piece n c.in-Message.field-1 o (behind d o) c.in-Message.ensures.0) in (
       fed d piece n c.in-Message.field-1 o (behind d o) c.in-Message.ensures.0,
-      (o, (c.in-Message.ensures.1, subst (λ (x : List ℕ). IsWholeTold d.ctx x o j c.args.message.now c.tell_whole.new.message) c.behind_feed.ensures (c.tell_whole.ensures d.ctx given))),
+      (o, (c.in-Message.ensures.1, subst (λ (x : List ℕ). IsWholeTold d.ctx x o j c.args.message.now c.tell_whole.new.message) c.held_by.ensures (c.tell_whole.ensures d.ctx given))),
     )
 
 pub returns-in-Fault : goal.returns-in-Fault
@@ -34,9 +31,9 @@ returns-in-Fault c =
     let said : Outcome = outcome.Reset (notification_of_view c.view.result) in
     let is : said ≡ o = ap (λ (x : Notification). outcome.Reset x) (c.view.ensures ∙ c.answer-why.ensures) in
     let j : Judging = record { status = OK; before = c.args.out.now; behind = c.tell_whole-in-Fault.new.out; info_before = c.args.info.now; info_behind = c.tell_whole-in-Fault.new.info } in
-    let given : GivesHeld (record { ctx = d.ctx; held = c.behind_feed-in-Fault.result.now; stopped = false }) said =
-    subst (λ (x : List ℕ). GivesHeld (record { ctx = d.ctx; held = x; stopped = false }) said) (sym c.behind_feed-in-Fault.ensures)
+    let given : GivesHeld (record { ctx = d.ctx; held = c.held_by-in-Fault.result.now; stopped = false }) said =
+    subst (λ (x : List ℕ). GivesHeld (record { ctx = d.ctx; held = x; stopped = false }) said) (sym c.held_by-in-Fault.ensures)
     (subst (λ (x : Outcome). GivesHeld (record { ctx = d.ctx; held = d.held ++ take n piece; stopped = false }) x) (sym is) (gives d piece n 0 o (behind d o) c.in-Fault.ensures.0)) in (
       fed d piece n 0 o (behind d o) c.in-Fault.ensures.0,
-      (said, ((c.in-Fault.ensures.1.0, c.in-Fault.ensures.1.1 ∙ ap is_reset (sym is)), subst (λ (x : List ℕ). IsWholeTold d.ctx x said j c.args.message.now c.tell_whole-in-Fault.new.message) c.behind_feed-in-Fault.ensures (c.tell_whole-in-Fault.ensures d.ctx given))),
+      (said, ((c.in-Fault.ensures.1.0, c.in-Fault.ensures.1.1 ∙ ap is_reset (sym is)), subst (λ (x : List ℕ). IsWholeTold d.ctx x said j c.args.message.now c.tell_whole-in-Fault.new.message) c.held_by-in-Fault.ensures (c.tell_whole-in-Fault.ensures d.ctx given))),
     )

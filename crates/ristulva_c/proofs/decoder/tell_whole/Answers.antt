@@ -1,14 +1,11 @@
 use Rattle.std.proofs.Common.{◌≡◌, ℕ, false, None, Ok, Err, ap, subst, ◌∙◌, refl, length}
 use Rattle.bgp_frame.specs.declared.step.Step.TheVariants as step
-use Rattle.bgp_frame.specs.Kind.{code_of}
-use Rattle.bgp_frame.specs.Frame.{Message}
+use Rattle.bgp_frame.specs.Prelude.{code_of, Message}
 use Rattle.bgp_msg.specs.declared.outcome.Outcome.{Outcome}
-use Rattle.bgp_msg.specs.Decoder.{Decoding}
-use Rattle.bgp_msg.specs.OutcomeView.{outcome_value}
+use Rattle.bgp_msg.specs.Prelude.{Decoding, outcome_value}
 use Rattle.ristulva_c.specs.declared.parts.ToldParts.{ToldParts}
 use Rattle.ristulva_c.specs.declared.status.TheConstants.{OK}
-use Rattle.ristulva_c.specs.Judge.{Judging, IsTold, parts_at, said_by, verdict_told}
-use Rattle.ristulva_c.specs.Parts.{parts_told}
+use Rattle.ristulva_c.specs.Prelude.{Judging, IsTold, parts_at, said_by, verdict_told, parts_told}
 use Rattle.ristulva_c.proofs.PartPlaces.{lie}
 use Rattle.ristulva_c.proofs.Pulled.{not_more, shows, outcome_of, enough}
 use Rattle.ristulva_c.proofs.decoder.tell_whole.Goals as goal

@@ -2,11 +2,9 @@ use Rattle.std.proofs.Common.{◌≡◌, ℕ, List, Option, Some, IfOk, false, a
 use Rattle.bgp_open.specs.declared.context.Context.{Context}
 use Rattle.bgp_update.specs.declared.attrs.Attrs.{Attrs}
 use Rattle.bgp_update.specs.declared.update.Update.{Update}
-use Rattle.bgp_update.specs.As4.{narrowed_update}
-use Rattle.bgp_update.specs.View.{update_value}
-use Rattle.bgp_update.specs.Widths.{with_as4}
+use Rattle.bgp_update.specs.Prelude.{narrowed_update, update_value, with_as4}
 use Rattle.bgp_update.proofs.Widths.{narrowed_update_is_valid}
-use Rattle.ristulva_c.specs.Encode.{written_of, IsCoded}
+use Rattle.ristulva_c.specs.Prelude.{written_of, IsCoded}
 use Rattle.ristulva_c.proofs.Encodings.{valid_written}
 use Rattle.ristulva_c.proofs.encode.renarrowed.Goals as goal
 

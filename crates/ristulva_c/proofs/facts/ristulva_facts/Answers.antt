@@ -1,5 +1,5 @@
 use Rattle.bgp_frame.specs.declared.step.Step.TheVariants as step
-use Rattle.ristulva_c.specs.Context.{context_of}
+use Rattle.ristulva_c.specs.Prelude.{context_of}
 use Rattle.ristulva_c.proofs.FactPlaces.{all_lie}
 use Rattle.ristulva_c.proofs.facts.ristulva_facts.Goals as goal
 

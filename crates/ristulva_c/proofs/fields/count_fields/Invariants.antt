@@ -1,5 +1,5 @@
 use Rattle.std.proofs.Common.{◌≡◌, ◌+◌, length}
-use Rattle.bgp_fields.specs.FieldIter.{fields_left}
+use Rattle.bgp_fields.specs.Prelude.{fields_left}
 use Rattle.ristulva_c.proofs.fields.count_fields.Given as goal
 
 abbrev pub invariant-fields : goal.invariant-fields

@@ -1,7 +1,6 @@
 use Rattle.std.proofs.Common.{ℕ, List, subst}
 use Rattle.bgp_frame.specs.declared.step.Step.TheVariants as step
-use Rattle.ristulva_c.specs.Context.{context_of}
-use Rattle.ristulva_c.specs.Fields.{fields_told, IsFilled}
+use Rattle.ristulva_c.specs.Prelude.{context_of, fields_told, IsFilled}
 use Rattle.ristulva_c.proofs.fields.ristulva_fields.Goals as goal
 
 pub returns-in-Frame : goal.returns-in-Frame

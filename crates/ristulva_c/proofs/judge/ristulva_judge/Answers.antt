@@ -1,5 +1,5 @@
 use Rattle.bgp_frame.specs.declared.step.Step.TheVariants as step
-use Rattle.ristulva_c.specs.Context.{context_of}
+use Rattle.ristulva_c.specs.Prelude.{context_of}
 use Rattle.ristulva_c.proofs.PartPlaces.{lie}
 use Rattle.ristulva_c.proofs.judge.ristulva_judge.Goals as goal
 

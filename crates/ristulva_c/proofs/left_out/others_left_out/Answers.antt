@@ -1,10 +1,9 @@
 use Rattle.std.proofs.Common.{List, length, ap, arith}
 use Rattle.std.specs.List.{filter}
 use Rattle.bgp_attr.specs.declared.attr.Attr.{Attr}
-use Rattle.bgp_wire.specs.OctetSet.{has_octet}
-use Rattle.bgp_update.specs.Taken.{kept_of}
-use Rattle.bgp_update.specs.View.{view_marks}
-use Rattle.ristulva_c.specs.steps.LeftOut.{is_left_out}
+use Rattle.bgp_wire.specs.Prelude.{has_octet}
+use Rattle.bgp_update.specs.Prelude.{kept_of, view_marks}
+use Rattle.ristulva_c.specs.Prelude.{is_left_out}
 use Rattle.ristulva_c.proofs.LeftOut.{few_left_out, kept_left_out}
 use Rattle.ristulva_c.proofs.left_out.others_left_out.Goals as goal
 

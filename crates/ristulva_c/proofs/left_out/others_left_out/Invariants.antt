@@ -1,10 +1,8 @@
 use Rattle.std.proofs.Common.{◌≡◌, ◌+◌, length}
 use Rattle.std.specs.List.{filter}
-use Rattle.bgp_wire.specs.OctetSet.{has_octet}
-use Rattle.bgp_update.specs.Iters.{attrs_left}
-use Rattle.bgp_update.specs.Taken.{kept_of}
-use Rattle.bgp_update.specs.View.{view_marks}
-use Rattle.ristulva_c.specs.steps.LeftOut.{is_left_out}
+use Rattle.bgp_wire.specs.Prelude.{has_octet}
+use Rattle.bgp_update.specs.Prelude.{attrs_left, kept_of, view_marks}
+use Rattle.ristulva_c.specs.Prelude.{is_left_out}
 use Rattle.ristulva_c.proofs.left_out.others_left_out.Given as goal
 
 -- those so far, and those still to come, are all

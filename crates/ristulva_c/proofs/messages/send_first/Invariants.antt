@@ -1,6 +1,6 @@
 use Rattle.std.proofs.Common.{◌≡◌, map, drop}
-use Rattle.bgp_machine.specs.ActionView.{action_of}
-use Rattle.ristulva_c.specs.Actions.{octets_sent}
+use Rattle.bgp_machine.specs.Prelude.{action_of}
+use Rattle.ristulva_c.specs.Prelude.{octets_sent}
 use Rattle.ristulva_c.proofs.messages.send_first.Given as goal
 
 -- nothing was sent so far: what is sent is what the actions that are left send

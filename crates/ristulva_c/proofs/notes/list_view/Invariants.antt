@@ -1,5 +1,4 @@
-use Rattle.bgp_update.specs.Iters.{notes_left}
-use Rattle.bgp_update.specs.View.{notes_value}
+use Rattle.bgp_update.specs.Prelude.{notes_left, notes_value}
 use Rattle.ristulva_c.proofs.NoteSteps.{IsSoFar}
 use Rattle.ristulva_c.proofs.notes.list_view.Given as goal
 

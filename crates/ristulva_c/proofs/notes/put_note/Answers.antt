@@ -1,6 +1,6 @@
 use Rattle.std.proofs.Common.{[], ◌∷◌, ◌++◌, ap, ◌∙◌}
 use Rattle.ristulva_c.specs.declared.notes.ToldNote.{ToldNote}
-use Rattle.ristulva_c.specs.Notes.{listed}
+use Rattle.ristulva_c.specs.Prelude.{listed}
 use Rattle.ristulva_c.proofs.NoteSteps.{put_one, put_none}
 use Rattle.ristulva_c.proofs.notes.put_note.Goals as goal
 

@@ -1,6 +1,6 @@
 use Rattle.std.proofs.Common.{◌≡◌, ◌+◌, length}
-use Rattle.bgp_update.specs.PathInfoView.{joined_value, joined_left}
-use Rattle.ristulva_c.specs.steps.NumberRows.{numbers_in}
+use Rattle.bgp_update.specs.Prelude.{joined_value, joined_left}
+use Rattle.ristulva_c.specs.Prelude.{numbers_in}
 use Rattle.ristulva_c.proofs.number_rows.count_path.Given as goal
 
 abbrev pub invariant-path : goal.invariant-path

@@ -1,12 +1,9 @@
-use Rattle.std.proofs.Common.{ℕ, List, map, sym, subst}
-use Rattle.bgp_prefix.specs.declared.as_number.AsNumber.{AsNumber}
-use Rattle.bgp_attr.specs.NumberIter.{as_numbers_left}
-use Rattle.bgp_attr.specs.PathView.{segment_value}
+use Rattle.std.proofs.Common.{ℕ, ◌+◌, List, length, map, sym, ap, subst, ◌∙◌}
+use Rattle.bgp_attr.specs.Prelude.{as_numbers_left, segment_value}
 use Rattle.bgp_attr.specs.declared.path.Segment.{Segment}
-use Rattle.bgp_update.specs.PathInfoView.{joined_value, joined_left}
+use Rattle.bgp_update.specs.Prelude.{joined_value, joined_left}
 use Rattle.ristulva_c.specs.declared.number_rows.NumberRow.{NumberRow}
-use Rattle.ristulva_c.specs.steps.Batch.{Adds}
-use Rattle.ristulva_c.specs.steps.NumberRows.{with_number}
+use Rattle.ristulva_c.specs.Prelude.{Adds, with_number}
 use Rattle.ristulva_c.proofs.NumberRows.{IsPathWriting, path_begins, path_more, path_done}
 use Rattle.ristulva_c.proofs.number_rows.put_path.Goals as goal
 
@@ -19,11 +16,11 @@ path-init c =
 pub path-preserved : goal.path-preserved
 path-preserved c =
     let row : ℕ → NumberRow = λ set. record { message = c.args.message; number = 0; segment = c.path.segment; set = set; reserved = 0 } in
-    let numbers : List AsNumber = as_numbers_left c.in-Some.found.numbers in
-    path_more c.args.message (joined_value c.args.path.now).segments (joined_left c.path.left) (joined_left c.next.new.self) c.path.segment c.args.from c.path.to c.put_numbers-to.result
-    c.args.list.now c.path.list c.put_numbers-to.new.list (segment_value c.in-Some.found) c.path.invariant c.in-Some.ensures.steps
-    (subst (λ (set : ℕ). Adds (map (with_number (row set)) numbers) c.path.to c.put_numbers-to.result c.path.list c.put_numbers-to.new.list) c.set_flag.ensures c.put_numbers-to.ensures.adds)
-    c.put_numbers-to.ensures.to
+    let rows : ℕ → List NumberRow = λ set. map (with_number (row set)) (as_numbers_left c.in-Some.found.numbers) in
+    path_more c.args.message (joined_value c.args.path.now).segments (joined_left c.path.left) (joined_left c.next.new.self) c.path.segment c.args.from c.path.to c.put_rows-to.result
+    c.args.list.now c.path.list c.put_rows-to.new.list (segment_value c.in-Some.found) c.path.invariant c.in-Some.ensures.steps
+    (subst (λ (set : ℕ). Adds (rows set) c.path.to c.put_rows-to.result c.path.list c.put_rows-to.new.list) c.set_flag.ensures c.put_rows-to.ensures.adds)
+    (c.put_rows-to.ensures.to ∙ ap (λ (set : ℕ). c.path.to + length (rows set)) c.set_flag.ensures)
 
 pub returns : goal.returns
 returns c =

@@ -1,5 +1,5 @@
 use Rattle.std.proofs.Common.{length}
-use Rattle.bgp_update.specs.PathInfoView.{joined_value, joined_left}
+use Rattle.bgp_update.specs.Prelude.{joined_value, joined_left}
 use Rattle.ristulva_c.proofs.NumberRows.{IsPathWriting}
 use Rattle.ristulva_c.proofs.number_rows.put_path.Given as goal
 

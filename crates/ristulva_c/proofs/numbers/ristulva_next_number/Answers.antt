@@ -1,7 +1,7 @@
 use Rattle.std.proofs.Common.{◌≡◌, ◌-◌, ◌∷◌, [], Bool, length, subst, ap, ◌∙◌}
-use Rattle.bgp_attr.specs.Numbers.{numbers_of, one_number}
+use Rattle.bgp_attr.specs.Prelude.{numbers_of, one_number}
 use Rattle.bgp_attr.proofs.NumberSteps.{no_number}
-use Rattle.ristulva_c.specs.Prefixes.{between}
+use Rattle.ristulva_c.specs.Prelude.{between}
 use Rattle.ristulva_c.proofs.NumberSteps.{numbers_behind}
 use Rattle.ristulva_c.proofs.numbers.ristulva_next_number.Goals as goal
 

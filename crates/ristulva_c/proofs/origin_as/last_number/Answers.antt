@@ -1,4 +1,4 @@
-use Rattle.bgp_attr.specs.NumberIter.{as_numbers_left}
+use Rattle.bgp_attr.specs.Prelude.{as_numbers_left}
 use Rattle.ristulva_c.proofs.OriginAs.{last_is}
 use Rattle.ristulva_c.proofs.origin_as.last_number.Goals as goal
 

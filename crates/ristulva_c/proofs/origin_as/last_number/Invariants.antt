@@ -1,7 +1,6 @@
 use Rattle.std.proofs.Common.{◌≡◌, length}
-use Rattle.bgp_attr.specs.NumberIter.{as_numbers_left}
-use Rattle.ristulva_c.specs.Facts.{last_number}
-use Rattle.ristulva_c.specs.steps.OriginAs.{last_behind}
+use Rattle.bgp_attr.specs.Prelude.{as_numbers_left}
+use Rattle.ristulva_c.specs.Prelude.{last_number, last_behind}
 use Rattle.ristulva_c.proofs.origin_as.last_number.Given as goal
 
 -- the last of those still to come, or else the last so far, is the last of all

@@ -1,7 +1,6 @@
 use Rattle.std.proofs.Common.{◌≡◌, length}
-use Rattle.bgp_update.specs.PathInfoView.{joined_value, joined_left}
-use Rattle.ristulva_c.specs.Facts.{origin_in}
-use Rattle.ristulva_c.specs.steps.OriginAs.{origin_behind}
+use Rattle.bgp_update.specs.Prelude.{joined_value, joined_left}
+use Rattle.ristulva_c.specs.Prelude.{origin_in, origin_behind}
 use Rattle.ristulva_c.proofs.origin_as.origin_in.Given as goal
 
 -- what the segments still to come end in, or else those so far, is what all end in

@@ -1,8 +1,7 @@
 use Rattle.std.proofs.Common.{List, length, ap, arith}
 use Rattle.std.specs.List.{filter}
 use Rattle.bgp_attr.specs.declared.attr.Attr.{Attr}
-use Rattle.bgp_update.specs.Taken.{kept_of, is_opaque}
-use Rattle.bgp_update.specs.View.{view_marks}
+use Rattle.bgp_update.specs.Prelude.{kept_of, is_opaque, view_marks}
 use Rattle.ristulva_c.proofs.LeftOut.{few_others, all_others}
 use Rattle.ristulva_c.proofs.others.count_others.Goals as goal
 

@@ -1,8 +1,6 @@
 use Rattle.std.proofs.Common.{◌≡◌, ◌+◌, length}
 use Rattle.std.specs.List.{filter}
-use Rattle.bgp_update.specs.Iters.{attrs_left}
-use Rattle.bgp_update.specs.Taken.{kept_of, is_opaque}
-use Rattle.bgp_update.specs.View.{view_marks}
+use Rattle.bgp_update.specs.Prelude.{attrs_left, kept_of, is_opaque, view_marks}
 use Rattle.ristulva_c.proofs.others.count_others.Given as goal
 
 -- those so far, and those still to come, are all

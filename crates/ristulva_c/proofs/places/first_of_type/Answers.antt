@@ -1,9 +1,7 @@
 use Rattle.std.proofs.Common.{◌==◌, cond, Some, sym, ap, ◌∙◌}
 use Rattle.std.specs.List.{find}
 use Rattle.std.proofs.lemmas.Bool.{eq-eqb}
-use Rattle.bgp_attr.specs.Tlv.{PlacedTlv}
-use Rattle.bgp_attr.specs.TlvIter.{tlvs_left}
-use Rattle.bgp_attr.specs.TlvView.{placed_tlv}
+use Rattle.bgp_attr.specs.Prelude.{PlacedTlv, tlvs_left, placed_tlv}
 use Rattle.ristulva_c.proofs.FirstPlaces.{found_lies}
 use Rattle.ristulva_c.proofs.places.first_of_type.Goals as goal
 

@@ -1,7 +1,7 @@
 use Rattle.std.proofs.Common.{◌≡◌, ◌==◌, length}
 use Rattle.std.specs.List.{find}
-use Rattle.bgp_attr.specs.TlvIter.{tlvs_left}
-use Rattle.bgp_update.specs.Marks.{placed_tlvs}
+use Rattle.bgp_attr.specs.Prelude.{tlvs_left}
+use Rattle.bgp_update.specs.Prelude.{placed_tlvs}
 use Rattle.ristulva_c.proofs.places.first_of_type.Given as goal
 
 -- the first among those still to come is the first of all

@@ -2,10 +2,8 @@ use Rattle.std.proofs.Common.{◌≡◌, Some, IfOk, true, ap, subst, ◌∙◌}
 use Rattle.bgp_open.specs.declared.context.Context.{Context}
 use Rattle.bgp_update.specs.declared.attrs.Attrs.{Attrs}
 use Rattle.bgp_update.specs.declared.update.Update.{Update}
-use Rattle.bgp_update.specs.View.{update_value}
-use Rattle.bgp_update.specs.Widths.{with_as4}
-use Rattle.ristulva_c.specs.Encode.{written_of, IsCoded}
-use Rattle.ristulva_c.specs.Reconcile.{rebuilt_update}
+use Rattle.bgp_update.specs.Prelude.{update_value, with_as4}
+use Rattle.ristulva_c.specs.Prelude.{written_of, IsCoded, rebuilt_update}
 use Rattle.ristulva_c.proofs.reconcile.rebuilt.Goals as goal
 
 pub returns : goal.returns

@@ -1,6 +1,6 @@
 use Rattle.std.proofs.Common.{refl}
 use Rattle.bgp_frame.specs.declared.step.Step.TheVariants as step
-use Rattle.ristulva_c.specs.Context.{context_of}
+use Rattle.ristulva_c.specs.Prelude.{context_of}
 use Rattle.ristulva_c.proofs.RouteLists.{begins, begins_fault}
 use Rattle.ristulva_c.proofs.route_list.ristulva_begin_routes.Goals as goal
 

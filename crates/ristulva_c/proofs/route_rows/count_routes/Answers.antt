@@ -1,7 +1,6 @@
 use Rattle.std.proofs.Common.{length, ap, ◌∙◌, arith}
-use Rattle.bgp_update.specs.View.{update_value}
-use Rattle.ristulva_c.specs.RouteRows.{withdrawn_row}
-use Rattle.ristulva_c.specs.steps.RouteRows.{no_prefix, unreached_rows, reached_rows}
+use Rattle.bgp_update.specs.Prelude.{update_value}
+use Rattle.ristulva_c.specs.Prelude.{withdrawn_row, no_prefix, unreached_rows, reached_rows}
 use Rattle.ristulva_c.proofs.RouteRows.{update_count}
 use Rattle.ristulva_c.proofs.route_rows.count_routes.Goals as goal
 

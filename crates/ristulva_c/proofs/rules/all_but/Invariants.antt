@@ -1,5 +1,5 @@
 use Rattle.std.proofs.Common.{◌≡◌, ◌≤◌, ℕ, not, ◌&&◌, nat_lt}
-use Rattle.bgp_wire.specs.OctetSet.{has_octet}
+use Rattle.bgp_wire.specs.Prelude.{has_octet}
 use Rattle.ristulva_c.proofs.rules.all_but.Given as goal
 
 -- those below the octet are there

@@ -1,9 +1,8 @@
 use Rattle.std.proofs.Common.{ap, ◌∙◌}
 use Rattle.bgp_attr.specs.declared.path_form.PathForm.{PathForm}
-use Rattle.bgp_attr.specs.Path.{one_segment}
+use Rattle.bgp_attr.specs.Prelude.{one_segment}
 use Rattle.bgp_attr.proofs.SegmentSteps.{no_segment}
-use Rattle.ristulva_c.specs.Context.{is_set}
-use Rattle.ristulva_c.specs.Prefixes.{between}
+use Rattle.ristulva_c.specs.Prelude.{is_set, between}
 use Rattle.ristulva_c.proofs.SegmentSteps.{segments_behind}
 use Rattle.ristulva_c.proofs.segments.ristulva_next_segment.Goals as goal
 

@@ -1,9 +1,8 @@
 use Rattle.std.proofs.Common.{◌≡◌, None, sym, ap, subst, ◌∙◌}
 use Rattle.bgp_open.specs.declared.context.Context.{Context}
 use Rattle.bgp_update.specs.declared.found.Found.{Found}
-use Rattle.bgp_update.specs.View.{update_value, notes_value, found_value}
-use Rattle.bgp_update.specs.Written.{invalid_of}
-use Rattle.ristulva_c.proofs.Sendings.{taken_is_valid}
+use Rattle.bgp_update.specs.Prelude.{update_value, notes_value, found_value, invalid_of}
+use Rattle.ristulva_c.proofs.Encodings.{taken_is_valid}
 use Rattle.ristulva_c.proofs.sending.made_of.Goals as goal
 
 pub whole-requires-clause-valid : goal.whole-requires-clause-valid

@@ -1,5 +1,5 @@
 use Rattle.std.proofs.Common.{◌≡◌, [], rules}
-use Rattle.bgp_attr.specs.NumberIter.{as_numbers_left}
+use Rattle.bgp_attr.specs.Prelude.{as_numbers_left}
 use Rattle.bgp_attr.proofs.NumberSteps.{as_number_then, no_as_number}
 use Rattle.bgp_attr.proofs.numbers.AsNumberIterIterator.next.Goals as goal
 

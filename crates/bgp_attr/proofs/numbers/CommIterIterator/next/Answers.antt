@@ -1,5 +1,5 @@
 use Rattle.std.proofs.Common.{◌≡◌, [], true, rules}
-use Rattle.bgp_attr.specs.NumberIter.{communities_left}
+use Rattle.bgp_attr.specs.Prelude.{communities_left}
 use Rattle.bgp_attr.proofs.NumberSteps.{number_then, no_number}
 use Rattle.bgp_attr.proofs.numbers.CommIterIterator.next.Goals as goal
 

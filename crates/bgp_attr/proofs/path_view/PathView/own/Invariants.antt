@@ -1,5 +1,5 @@
 use Rattle.std.proofs.Common.{◌≡◌, ◌++◌}
-use Rattle.bgp_attr.specs.PathView.{path_value, segments_left}
+use Rattle.bgp_attr.specs.Prelude.{path_value, segments_left}
 use Rattle.bgp_attr.proofs.path_view.PathView.own.Given as goal
 
 -- the segments so far, and those still to come, are all

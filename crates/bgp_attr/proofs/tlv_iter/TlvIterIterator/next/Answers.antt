@@ -1,6 +1,5 @@
 use Rattle.std.proofs.Common.{ap, ◌∙◌, refl, rules}
-use Rattle.bgp_attr.specs.Tlv.{one_tlv}
-use Rattle.bgp_attr.specs.TlvView.{tlv_value}
+use Rattle.bgp_attr.specs.Prelude.{one_tlv, tlv_value}
 use Rattle.bgp_attr.proofs.TlvSteps.{none_placed, rest_within, first_placed, stands, rest_stays}
 use Rattle.bgp_attr.proofs.tlv_iter.TlvIterIterator.next.Goals as goal
 

@@ -1,5 +1,5 @@
 use Rattle.std.proofs.Common.{ap, ◌∙◌, rules}
-use Rattle.bgp_engine.specs.Show.{class_of}
+use Rattle.bgp_engine.specs.Prelude.{class_of}
 use Rattle.bgp_engine.proofs.explaining.ExplainPage.put_frame.Goals as goal
 
 pub returns-clause-writes : goal.returns-clause-writes

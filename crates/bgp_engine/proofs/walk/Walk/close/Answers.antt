@@ -2,8 +2,7 @@ use Rattle.std.proofs.Common.{◌++◌, List, ℕ, ap, length, subst, sym, ◌�
 use Rattle.std.specs.Prelude.{is_some}
 use Rattle.std.proofs.lemmas.List.{append-nil}
 use Rattle.std.proofs.lemmas.Result.{err_from_is_err_and}
-use Rattle.bgp_engine.specs.Report.{IsOver}
-use Rattle.bgp_engine.specs.steps.Walking.{end_by}
+use Rattle.bgp_engine.specs.Prelude.{IsOver, end_by}
 use Rattle.bgp_engine.proofs.Walks.{closes, none_wait, some_closing}
 use Rattle.bgp_engine.proofs.walk.Walk.close.Goals as goal
 

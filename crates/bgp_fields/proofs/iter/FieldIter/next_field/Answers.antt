@@ -1,6 +1,6 @@
 use Rattle.std.proofs.Common.{◌≡◌, ℕ, Bool, true, ◌==◌, List, length, sym, ◌∙◌}
 use Rattle.std.proofs.lemmas.Bool.{eqb-true}
-use Rattle.bgp_fields.specs.FieldIter.{section_at, message_at}
+use Rattle.bgp_fields.specs.Prelude.{section_at, message_at}
 use Rattle.bgp_fields.proofs.Steps.{nothing-left}
 use Rattle.bgp_fields.proofs.iter.FieldIter.next_field.Goals as goal
 

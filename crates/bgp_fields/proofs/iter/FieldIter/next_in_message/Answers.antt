@@ -2,10 +2,9 @@ use Rattle.std.proofs.Common.{◌+◌, ◌∷◌, ◌++◌, length, take, drop, 
 use Rattle.bgp_fields.specs.declared.field.Field.{Field}
 use Rattle.bgp_fields.specs.declared.kind.FieldKind.TheVariants.{Unread}
 use Rattle.bgp_fields.specs.declared.part.MessagePart.{MessagePart}
-use Rattle.bgp_fields.specs.declared.part.MessagePart.TheVariants as message
 use Rattle.bgp_fields.specs.declared.part.SectionPart.{SectionPart}
-use Rattle.bgp_fields.specs.Fields.{value_fields, section_fields, message_fields}
-use Rattle.bgp_fields.specs.Walk.{Plan, fit}
+use Rattle.bgp_fields.specs.Prelude.{value_fields, section_fields, message_fields, Plan, fit}
+use Rattle.bgp_fields.specs.declared.part.MessagePart.TheVariants as message
 use Rattle.bgp_fields.proofs.Steps.{message-step}
 use Rattle.bgp_fields.proofs.iter.FieldIter.next_in_message.Goals as goal
 

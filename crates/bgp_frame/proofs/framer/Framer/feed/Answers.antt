@@ -1,5 +1,5 @@
 use Rattle.std.proofs.Common.{ap, ◌∙◌, ◌+◌, arith}
-use Rattle.bgp_frame.specs.Frame.{wanted}
+use Rattle.bgp_frame.specs.Prelude.{wanted}
 use Rattle.bgp_frame.proofs.FrameLemmas.{wanted-bounds}
 use Rattle.bgp_frame.proofs.Feeding.{Fed, feeds, takes_some}
 use Rattle.bgp_frame.proofs.framer.Framer.feed.Goals as goal

@@ -1,7 +1,6 @@
 use Rattle.std.proofs.Common.{◌≡◌, length, sym, ap, subst, arith}
-use Rattle.bgp_frame.specs.Frame.{Waits}
-use Rattle.bgp_guard.specs.Guard.{Half, absent}
-use Rattle.bgp_guard.specs.Halves.{half_of}
+use Rattle.bgp_frame.specs.Prelude.{Waits}
+use Rattle.bgp_guard.specs.Prelude.{Half, absent, half_of}
 use Rattle.bgp_frame.proofs.Pulls.{nothing_waits}
 use Rattle.bgp_guard.proofs.guard.Guard.new.Goals as goal
 

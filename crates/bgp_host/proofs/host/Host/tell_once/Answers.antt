@@ -1,8 +1,6 @@
 use Rattle.std.proofs.Common.{subst, sym}
-use Rattle.bgp_machine.specs.Session.{Machine}
-use Rattle.bgp_host.specs.Deeds.{Records}
-use Rattle.bgp_host.specs.Turns.{Told}
-use Rattle.bgp_host.specs.steps.Steps.{OneTurn}
+use Rattle.bgp_machine.specs.Prelude.{Machine}
+use Rattle.bgp_host.specs.Prelude.{Records, Told, OneTurn}
 use Rattle.bgp_host.proofs.Records.{grows_none}
 use Rattle.bgp_host.proofs.Turns.{at, one_turn}
 use Rattle.bgp_host.proofs.host.Host.tell_once.Goals as goal

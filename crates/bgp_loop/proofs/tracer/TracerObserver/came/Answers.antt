@@ -2,7 +2,7 @@ use Rattle.std.proofs.Common.{Result, Ok, Err, map, sym, ap, ◌∙◌}
 use Rattle.std.specs.Result.{OnOk}
 use Rattle.bgp_session.specs.declared.side.Side.{Side}
 use Rattle.bgp_session.specs.declared.side.Side.TheVariants.{A, B}
-use Rattle.bgp_session.specs.Sight.{Came, observed}
+use Rattle.bgp_session.specs.Prelude.{Came, observed}
 use Rattle.bgp_loop.specs.contracts.tracer.Tracer.{the_view}
 use Rattle.bgp_loop.specs.Trace.{Traced, with_coming, traced}
 use Rattle.bgp_loop.proofs.Traces.{came_to_a, came_to_b}

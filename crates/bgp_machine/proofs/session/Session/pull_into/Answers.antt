@@ -1,7 +1,5 @@
 use Rattle.std.proofs.Common.{ℕ, Option, Some, sym, subst}
-use Rattle.bgp_machine.specs.Look.{IsOwnLook}
-use Rattle.bgp_machine.specs.Pulling.{IsFedAndStepped}
-use Rattle.bgp_machine.specs.Session.{Machine, Going}
+use Rattle.bgp_machine.specs.Prelude.{IsOwnLook, IsFedAndStepped, Machine, Going}
 use Rattle.bgp_machine.proofs.Cuttings.{pulls_as_fed}
 use Rattle.bgp_machine.proofs.Looks.{fed_rests}
 use Rattle.bgp_machine.proofs.session.Session.pull_into.Goals as goal

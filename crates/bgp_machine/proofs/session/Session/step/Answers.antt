@@ -1,6 +1,5 @@
 use Rattle.std.proofs.Common.{ℕ, [], Option, refl, subst}
-use Rattle.bgp_machine.specs.Look.{IsOwnLook}
-use Rattle.bgp_machine.specs.Session.{Going}
+use Rattle.bgp_machine.specs.Prelude.{IsOwnLook, Going}
 use Rattle.bgp_machine.proofs.Looks.{held_waits}
 use Rattle.bgp_machine.proofs.session.Session.step.Goals as goal
 

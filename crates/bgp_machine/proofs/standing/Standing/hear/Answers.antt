@@ -1,7 +1,7 @@
 -- The state is that of the arm.
 use Rattle.std.proofs.Common.{◌≡◌, Some, sym, ap, ◌∙◌}
 use Rattle.bgp_machine.specs.declared.state.State.TheVariants as state
-use Rattle.bgp_machine.specs.Standing.{Standing, state_in, context_in}
+use Rattle.bgp_machine.specs.Prelude.{Standing, state_in, context_in}
 use Rattle.bgp_machine.proofs.Hearings.{hears_in_open_sent, hears_in_open_confirm, hears_in_established}
 use Rattle.bgp_machine.proofs.standing.Standing.hear.Goals as goal
 

@@ -1,7 +1,6 @@
 use Rattle.std.proofs.Common.{ap, subst, arith}
 use Rattle.bgp_msg.specs.declared.outcome_view.OutcomeView.{OutcomeView}
-use Rattle.bgp_msg.specs.steps.Early.{IsAtFront}
-use Rattle.bgp_msg.specs.OutcomeView.{outcome_value, has_lists}
+use Rattle.bgp_msg.specs.Prelude.{IsAtFront, outcome_value, has_lists}
 use Rattle.bgp_msg.proofs.Pulls.{whole_at_front, front_takes_memory, on_err_any}
 use Rattle.bgp_msg.proofs.decoder.Decoder.early.Goals as goal
 

@@ -1,10 +1,9 @@
 use Rattle.std.proofs.Common.{List, [], ◌∷◌, length, ℕ, Bool, true, not, Some, Ok, Err, refl, ap, ap₂, subst, ◌∙◌}
 use Rattle.std.proofs.lemmas.Result.{err_from_is_err_and}
-use Rattle.bgp_msg.specs.Decoder.{Decoding, IsNext, TakesMemory}
+use Rattle.bgp_msg.specs.Prelude.{Decoding, IsNext, TakesMemory, is_reset}
 use Rattle.bgp_msg.specs.declared.outcome.Outcome.{Outcome}
-use Rattle.bgp_frame.specs.Frame.{Waits}
 use Rattle.bgp_msg.specs.declared.outcome.Outcome.TheVariants.{Reset}
-use Rattle.bgp_msg.specs.Outcome.{is_reset}
+use Rattle.bgp_frame.specs.Prelude.{Waits}
 use Rattle.bgp_msg.proofs.Pulls.{stopped_waits}
 use Rattle.bgp_msg.proofs.decoder.Decoder.next.Goals as goal
 

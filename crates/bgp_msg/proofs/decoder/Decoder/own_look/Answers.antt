@@ -1,5 +1,4 @@
-use Rattle.bgp_msg.specs.OutcomeView.{outcome_value}
-use Rattle.bgp_msg.specs.Decoder.{behind}
+use Rattle.bgp_msg.specs.Prelude.{outcome_value, behind}
 use Rattle.bgp_msg.proofs.Pulls.{pulled_takes_memory, on_err_any}
 use Rattle.bgp_msg.proofs.decoder.Decoder.own_look.Goals as goal
 

@@ -1,8 +1,6 @@
 use Rattle.std.proofs.Common.{◌≡◌, [], ◌++◌, ap, ◌∙◌, List, ℕ}
-use Rattle.bgp_wire.specs.Reader.{pieces}
-use Rattle.bgp_open.specs.Capability.{one_capability}
-use Rattle.bgp_open.specs.CapabilityIter.{capabilities_of}
-use Rattle.bgp_open.specs.CapabilityView.{capability_value}
+use Rattle.bgp_wire.specs.Prelude.{pieces}
+use Rattle.bgp_open.specs.Prelude.{one_capability, capabilities_of, capability_value}
 use Rattle.bgp_open.proofs.CapabilityIters.{none_begun, goes_on, is_over, begins, ends, smaller}
 use Rattle.bgp_open.proofs.capability_iter.CapabilityIter.begin.Goals as goal
 

@@ -1,5 +1,5 @@
 use Rattle.std.proofs.Common.{◌≡◌, [], length}
-use Rattle.bgp_open.specs.CapabilityIter.{capabilities_of}
+use Rattle.bgp_open.specs.Prelude.{capabilities_of}
 use Rattle.bgp_open.proofs.capability_iter.CapabilityIter.begin.Given as goal
 
 -- nothing is begun, and the parameters that were passed are empty

@@ -1,7 +1,6 @@
 use Rattle.std.proofs.Common.{MatchOption, ◌≡◌, [], ◌∷◌, List, sym, subst}
 use Rattle.bgp_open.specs.declared.capability.Capability.{Capability}
-use Rattle.bgp_open.specs.CapabilityIter.{capabilities_of, capabilities_left}
-use Rattle.bgp_open.specs.CapabilityView.{capability_value}
+use Rattle.bgp_open.specs.Prelude.{capabilities_of, capabilities_left, capability_value}
 use Rattle.bgp_open.proofs.CapabilityIters.{goes_on, is_over}
 use Rattle.bgp_open.proofs.capability_iter.CapabilityIter.next_capability.Goals as goal
 

@@ -1,5 +1,5 @@
 use Rattle.std.proofs.Common.{◌≡◌, ◌++◌}
-use Rattle.bgp_open.specs.CapabilityIter.{capabilities_left}
+use Rattle.bgp_open.specs.Prelude.{capabilities_left}
 use Rattle.bgp_open.proofs.capability_iter.CapabilityIter.own.Given as goal
 
 -- the list so far and what is left are all

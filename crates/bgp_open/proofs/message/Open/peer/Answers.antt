@@ -1,5 +1,5 @@
 use Rattle.std.proofs.Common.{ap, ◌∙◌}
-use Rattle.bgp_open.specs.Peer.{Told, offering}
+use Rattle.bgp_open.specs.Prelude.{Told, offering}
 use Rattle.bgp_open.proofs.Peers.{offering-open}
 use Rattle.bgp_open.proofs.message.Open.peer.Goals as goal
 

@@ -1,5 +1,5 @@
 use Rattle.std.proofs.Common.{◌≡◌, drop}
-use Rattle.bgp_open.specs.Peer.{told_by, told_of, offering}
+use Rattle.bgp_open.specs.Prelude.{told_by, told_of, offering}
 use Rattle.bgp_open.proofs.message.Open.peer.Given as goal
 
 -- with what is left, all is told

@@ -1,6 +1,5 @@
 use Rattle.std.proofs.Common.{ap, ◌∙◌}
-use Rattle.bgp_open.specs.CapabilityIter.{capabilities_left}
-use Rattle.bgp_open.specs.OpenView.{open_value}
+use Rattle.bgp_open.specs.Prelude.{capabilities_left, open_value}
 use Rattle.bgp_open.proofs.Peers.{told}
 use Rattle.bgp_open.proofs.open_view.OpenView.peer.Goals as goal
 

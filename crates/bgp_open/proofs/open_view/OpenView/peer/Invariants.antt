@@ -1,7 +1,5 @@
 use Rattle.std.proofs.Common.{◌≡◌}
-use Rattle.bgp_open.specs.CapabilityIter.{capabilities_left}
-use Rattle.bgp_open.specs.OpenView.{open_value}
-use Rattle.bgp_open.specs.Peer.{told_by, told_of, offering}
+use Rattle.bgp_open.specs.Prelude.{capabilities_left, open_value, told_by, told_of, offering}
 use Rattle.bgp_open.proofs.open_view.OpenView.peer.Given as goal
 
 -- with what is left, all is told

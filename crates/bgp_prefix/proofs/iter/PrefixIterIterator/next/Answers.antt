@@ -1,7 +1,6 @@
 use Rattle.std.proofs.Common.{ℕ, ◌≡◌, List, [], ◌∷◌, ap, ◌∙◌, sym, Some, rules}
 use Rattle.bgp_wire.proofs.Walks.{first_then, no_more}
-use Rattle.bgp_prefix.specs.Prefix.{PrefixValue, IsPrefix, one_prefix}
-use Rattle.bgp_prefix.specs.Run.{run_of}
+use Rattle.bgp_prefix.specs.Prelude.{PrefixValue, IsPrefix, one_prefix, run_of}
 use Rattle.bgp_prefix.proofs.PrefixLemmas.{IsPrefix-reads}
 use Rattle.bgp_prefix.proofs.iter.PrefixIterIterator.next.Goals as goal
 

@@ -1,5 +1,5 @@
 use Rattle.bgp_wire.proofs.Walks.{not_more}
-use Rattle.bgp_prefix.specs.Prefix.{PrefixValue, IsPrefix, one_prefix}
+use Rattle.bgp_prefix.specs.Prelude.{PrefixValue, IsPrefix, one_prefix}
 use Rattle.bgp_prefix.proofs.PrefixLemmas.{IsPrefix-reads}
 use Rattle.bgp_prefix.proofs.iter.PrefixIterIterator.size_hint.Goals as goal
 

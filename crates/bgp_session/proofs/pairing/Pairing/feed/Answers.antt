@@ -1,6 +1,5 @@
 use Rattle.std.proofs.Common.{sym, subst}
-use Rattle.bgp_session.specs.Pair.{Pair, pair}
-use Rattle.bgp_session.specs.steps.Playing.{Rests}
+use Rattle.bgp_session.specs.Prelude.{Pair, pair, Rests}
 use Rattle.bgp_session.proofs.Resting.{on_ok_both, fed_both}
 use Rattle.bgp_session.proofs.pairing.Pairing.feed.Goals as goal
 

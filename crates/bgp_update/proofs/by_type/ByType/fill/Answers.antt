@@ -1,8 +1,7 @@
 use Rattle.std.proofs.Common.{[], refl, ap, ◌∙◌}
 use Rattle.std.specs.List.{flat_map}
-use Rattle.bgp_attr.specs.AttrView.{attr_value}
-use Rattle.bgp_update.specs.Iters.{attrs_left}
-use Rattle.bgp_update.specs.Taken.{as_opaque, rising_behind}
+use Rattle.bgp_attr.specs.Prelude.{attr_value}
+use Rattle.bgp_update.specs.Prelude.{attrs_left, as_opaque, rising_behind}
 use Rattle.bgp_update.proofs.Placing.{others_step, others_all}
 use Rattle.bgp_update.proofs.Rising.{of_kind}
 use Rattle.bgp_update.proofs.by_type.ByType.fill.Goals as goal

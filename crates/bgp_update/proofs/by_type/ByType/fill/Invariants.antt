@@ -1,9 +1,7 @@
 use Rattle.std.proofs.Common.{◌≡◌, [], List, length}
 use Rattle.std.specs.List.{flat_map}
 use Rattle.bgp_attr.specs.declared.opaque.Opaque.{Opaque}
-use Rattle.bgp_update.specs.ByType.{IsByType}
-use Rattle.bgp_update.specs.Iters.{attrs_left}
-use Rattle.bgp_update.specs.Taken.{as_opaque, rising_behind}
+use Rattle.bgp_update.specs.Prelude.{IsByType, attrs_left, as_opaque, rising_behind}
 use Rattle.bgp_update.proofs.by_type.ByType.fill.Given as goal
 
 -- those so far stand there, and with those still to come they are all

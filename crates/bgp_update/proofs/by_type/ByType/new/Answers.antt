@@ -1,6 +1,6 @@
 use Rattle.std.proofs.Common.{ap}
 use Rattle.std.specs.Prelude.{option_map}
-use Rattle.bgp_attr.specs.AttrView.{opaque_value}
+use Rattle.bgp_attr.specs.Prelude.{opaque_value}
 use Rattle.bgp_update.proofs.ByTypes.{none_at}
 use Rattle.bgp_update.proofs.by_type.ByType.new.Goals as goal
 

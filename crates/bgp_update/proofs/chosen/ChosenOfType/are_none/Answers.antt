@@ -1,9 +1,8 @@
 use Rattle.std.proofs.Common.{◌≡◌, not, [], None, sym, ap, ◌∙◌, rules}
 use Rattle.std.specs.Prelude.{option_map}
 use Rattle.std.specs.List.{filter}
-use Rattle.bgp_wire.specs.OctetSet.{has_octet}
-use Rattle.bgp_update.specs.Found.{found_at}
-use Rattle.bgp_update.specs.View.{update_value}
+use Rattle.bgp_wire.specs.Prelude.{has_octet}
+use Rattle.bgp_update.specs.Prelude.{found_at, update_value}
 use Rattle.bgp_update.proofs.ByTypes.{none_found}
 use Rattle.bgp_update.proofs.chosen.ChosenOfType.are_none.Goals as goal
 

@@ -1,9 +1,7 @@
 use Rattle.std.proofs.Common.{sym, ap, ◌∙◌}
 use Rattle.std.specs.Prelude.{option_map}
-use Rattle.bgp_wire.specs.OctetSet.{has_octet}
-use Rattle.bgp_update.specs.ByType.{IsByType}
-use Rattle.bgp_update.specs.Found.{found_at}
-use Rattle.bgp_update.specs.View.{update_value}
+use Rattle.bgp_wire.specs.Prelude.{has_octet}
+use Rattle.bgp_update.specs.Prelude.{IsByType, found_at, update_value}
 use Rattle.bgp_update.proofs.Filtered.{find-dropped, find-kept}
 use Rattle.bgp_update.proofs.chosen.ChosenOfType.of_type.Goals as goal
 

@@ -1,10 +1,9 @@
 use Rattle.std.proofs.Common.{◌+◌, ◌<◌, get_or, take, length, List, ap, refl, ◌∙◌, arith}
 use Rattle.std.specs.List.{flat_map}
 use Rattle.bgp_attr.specs.declared.attr.Attr.{Attr}
-use Rattle.bgp_attr.specs.AttrRef.{ref_value}
+use Rattle.bgp_attr.specs.Prelude.{ref_value}
 use Rattle.bgp_update.specs.declared.failed.Failed.{Failed}
-use Rattle.bgp_update.specs.steps.Failed.{failed_by, also_failed}
-use Rattle.bgp_update.specs.Slots.{slot}
+use Rattle.bgp_update.specs.Prelude.{failed_by, also_failed, slot}
 use Rattle.bgp_update.proofs.SlotSteps.{so_far, one_type, all_walked}
 use Rattle.bgp_update.proofs.FailedSteps.{with_one, with_none}
 use Rattle.bgp_update.proofs.failed.Failed.of.Goals as goal

@@ -1,6 +1,5 @@
 use Rattle.std.proofs.Common.{◌≡◌}
-use Rattle.bgp_update.specs.steps.Failed.{failed_by}
-use Rattle.bgp_update.specs.Slots.{slot}
+use Rattle.bgp_update.specs.Prelude.{failed_by, slot}
 use Rattle.bgp_update.proofs.SlotSteps.{so_far}
 use Rattle.bgp_update.proofs.failed.Failed.of.Given as goal
 

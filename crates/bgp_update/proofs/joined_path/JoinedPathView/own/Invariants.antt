@@ -1,5 +1,5 @@
 use Rattle.std.proofs.Common.{◌≡◌, ◌++◌}
-use Rattle.bgp_update.specs.PathInfoView.{joined_value, joined_left}
+use Rattle.bgp_update.specs.Prelude.{joined_value, joined_left}
 use Rattle.bgp_update.proofs.joined_path.JoinedPathView.own.Given as goal
 
 -- the segments so far, and those still to come, are all

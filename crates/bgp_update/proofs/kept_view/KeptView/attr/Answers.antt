@@ -1,8 +1,7 @@
 use Rattle.std.proofs.Common.{[], ◌∷◌, sym, ap, ◌∙◌}
-use Rattle.bgp_attr.specs.Judgement.{type_row}
-use Rattle.bgp_attr.specs.Tlv.{TlvValue}
+use Rattle.bgp_attr.specs.Prelude.{type_row, TlvValue}
 use Rattle.bgp_attr.specs.declared.attr.Attr.{Attr}
-use Rattle.bgp_update.specs.Slots.{present}
+use Rattle.bgp_update.specs.Prelude.{present}
 use Rattle.bgp_update.proofs.Placed.{slot-value}
 use Rattle.bgp_update.proofs.kept_view.KeptView.attr.Goals as goal
 

@@ -1,9 +1,8 @@
 use Rattle.std.proofs.Common.{false, sym, ◌∙◌}
 use Rattle.std.specs.Prelude.{option_map}
 use Rattle.bgp_attr.specs.declared.attr.Attr.{Attr}
-use Rattle.bgp_attr.specs.Judgement.{type_row}
-use Rattle.bgp_attr.specs.Tlv.{TlvValue}
-use Rattle.bgp_update.specs.Places.{tlv_placed}
+use Rattle.bgp_attr.specs.Prelude.{type_row, TlvValue}
+use Rattle.bgp_update.specs.Prelude.{tlv_placed}
 use Rattle.bgp_update.proofs.Placed.{none_placed}
 use Rattle.bgp_update.proofs.kept_view.KeptView.new.Goals as goal
 

@@ -1,11 +1,8 @@
 use Rattle.std.proofs.Common.{◌≡◌, ◌+◌, ◌<◌, ℕ, suc, true, length, set, Option, sym, ap, subst, ◌∙◌, arith}
 use Rattle.std.specs.Prelude.{slice_index_or, option_map}
-use Rattle.bgp_attr.specs.Judgement.{is_recognised, type_row}
-use Rattle.bgp_attr.specs.Tlv.{TlvValue}
-use Rattle.bgp_attr.specs.TlvView.{tlv_value}
+use Rattle.bgp_attr.specs.Prelude.{is_recognised, type_row, TlvValue, tlv_value}
 use Rattle.bgp_update.specs.declared.kept_view.KeptView.{KeptView}
-use Rattle.bgp_update.specs.KeptView.{Kept, kept_tlv}
-use Rattle.bgp_update.specs.Places.{tlv_placed, IsKeptAt, ArePlaced}
+use Rattle.bgp_update.specs.Prelude.{Kept, kept_tlv, tlv_placed, IsKeptAt, ArePlaced}
 use Rattle.bgp_update.proofs.Placed.{kind-low, also_at, known_more, other_more, one_more, more-placed, no_more, is_kept_at}
 use Rattle.bgp_update.proofs.kept_view.KeptView.put.Goals as goal
 

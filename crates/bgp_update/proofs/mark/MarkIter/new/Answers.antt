@@ -1,6 +1,6 @@
 use Rattle.std.proofs.Common.{ℕ, Bool, ◌||◌, eqb, List, ap₂}
 use Rattle.std.specs.List.{list_any}
-use Rattle.bgp_attr.specs.Tlv.{PlacedTlv}
+use Rattle.bgp_attr.specs.Prelude.{PlacedTlv}
 use Rattle.bgp_update.proofs.mark.MarkIter.new.Goals as goal
 
 pub returns-clause-types : goal.returns-clause-types

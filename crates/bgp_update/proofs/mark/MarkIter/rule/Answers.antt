@@ -1,7 +1,6 @@
 use Rattle.std.proofs.Common.{◌∷◌, refl}
-use Rattle.bgp_attr.specs.TlvIter.{tlvs_left}
-use Rattle.bgp_attr.specs.TlvView.{placed_tlv}
-use Rattle.bgp_wire.specs.OctetSet.{has_octet}
+use Rattle.bgp_attr.specs.Prelude.{tlvs_left, placed_tlv}
+use Rattle.bgp_wire.specs.Prelude.{has_octet}
 use Rattle.bgp_update.proofs.MarkTypes.{types_step}
 use Rattle.bgp_update.proofs.mark.MarkIter.rule.Goals as goal
 

@@ -1,6 +1,5 @@
 use Rattle.std.proofs.Common.{ap}
-use Rattle.bgp_attr.specs.Judgement.{type_row}
-use Rattle.bgp_attr.specs.TlvView.{tlv_value}
+use Rattle.bgp_attr.specs.Prelude.{type_row, tlv_value}
 use Rattle.bgp_update.specs.declared.kept_view.KeptView.{KeptView}
 use Rattle.bgp_update.proofs.summary.Summary.add.Goals as goal
 

@@ -1,8 +1,6 @@
 use Rattle.std.proofs.Common.{List, ◌∷◌, refl, sym, ap, ◌∙◌}
 use Rattle.bgp_attr.specs.declared.attr.Attr.TheVariants as attr
-use Rattle.bgp_update.specs.MarkIter.{cut_value, marks_left}
-use Rattle.bgp_update.specs.Marks.{Mark}
-use Rattle.bgp_update.specs.Summary.{summary_value, summary_behind}
+use Rattle.bgp_update.specs.Prelude.{cut_value, marks_left, Mark, summary_value, summary_behind}
 use Rattle.bgp_update.proofs.Summaries.{summary_all}
 use Rattle.bgp_update.proofs.summary.Summary.add_cut.Goals as goal
 

@@ -1,17 +1,8 @@
 use Rattle.std.proofs.Common.{◌≡◌, Bool, List, ℕ, sym, ap, ap₂, subst, ◌∙◌}
 use Rattle.std.specs.Prelude.{IsTrue}
 use Rattle.bgp_open.specs.declared.context.Context.{Context}
-use Rattle.bgp_attr.specs.Judgement.{judgement, type_row}
-use Rattle.bgp_attr.specs.JudgedView.{is_kept}
-use Rattle.bgp_attr.specs.Ruling.{ruled}
-use Rattle.bgp_attr.specs.Tlv.{TlvValue}
-use Rattle.bgp_attr.specs.TlvIter.{tlv_at}
-use Rattle.bgp_attr.specs.TlvView.{placed_tlv, tlv_value}
-use Rattle.bgp_update.specs.MarkIter.{marks_left, judged_next}
-use Rattle.bgp_update.specs.Marks.{Mark, field_marks}
-use Rattle.bgp_update.specs.Notes.{types_of_field}
-use Rattle.bgp_update.specs.Summary.{SummaryValue, summary_value, summary_behind, summary_of}
-use Rattle.bgp_update.specs.Taken.{kept_of}
+use Rattle.bgp_attr.specs.Prelude.{judgement, type_row, is_kept, ruled, TlvValue, tlv_at, placed_tlv, tlv_value}
+use Rattle.bgp_update.specs.Prelude.{marks_left, judged_next, Mark, field_marks, types_of_field, SummaryValue, summary_value, summary_behind, summary_of, kept_of}
 use Rattle.bgp_update.proofs.KeptViews.{kept_known}
 use Rattle.bgp_update.proofs.Summaries.{summary_step, summary_whole}
 use Rattle.bgp_update.proofs.summary.Summary.sum_up.Goals as goal

@@ -1,8 +1,5 @@
 use Rattle.std.proofs.Common.{◌≡◌, length}
-use Rattle.bgp_update.specs.MarkIter.{marks_left, HasTypes}
-use Rattle.bgp_update.specs.Marks.{field_marks}
-use Rattle.bgp_update.specs.Notes.{types_of_field}
-use Rattle.bgp_update.specs.Summary.{AreOf, summary_value, summary_behind, summary_of}
+use Rattle.bgp_update.specs.Prelude.{marks_left, HasTypes, field_marks, types_of_field, AreOf, summary_value, summary_behind, summary_of}
 use Rattle.bgp_update.proofs.summary.Summary.sum_up.Given as goal
 
 -- those so far and those still to come are all, and so are their types; and what is kept is of the field that is walked

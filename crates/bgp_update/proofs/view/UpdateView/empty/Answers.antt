@@ -1,10 +1,6 @@
 use Rattle.std.proofs.Common.{false, List, [], arith, sym, ap, ◌∙◌}
 use Rattle.std.specs.List.{list_any}
-use Rattle.bgp_update.specs.KeptView.{known_of}
-use Rattle.bgp_update.specs.Marks.{Mark}
-use Rattle.bgp_update.specs.Notes.{missing_of}
-use Rattle.bgp_update.specs.Summary.{SummaryValue, is_noted}
-use Rattle.bgp_update.specs.Taken.{attrs_from, attrs_of, is_opaque, kept_of, update_of}
+use Rattle.bgp_update.specs.Prelude.{known_of, Mark, missing_of, SummaryValue, is_noted, attrs_from, attrs_of, is_opaque, kept_of, update_of}
 use Rattle.bgp_update.proofs.KeptViews.{kept_known}
 use Rattle.bgp_update.proofs.QuietMarks.{no_marks}
 use Rattle.bgp_update.proofs.view.UpdateView.empty.Goals as goal

@@ -1,4 +1,4 @@
-use Rattle.bgp_update.specs.Body.{parts_value}
+use Rattle.bgp_update.specs.Prelude.{parts_value}
 use Rattle.bgp_update.proofs.PartLengths.{parts_within}
 use Rattle.bgp_update.proofs.view.UpdateView.judge.Goals as goal
 

@@ -1,6 +1,5 @@
 use Rattle.std.proofs.Common.{sym, ◌∙◌}
-use Rattle.bgp_update.specs.Body.{parts_value}
-use Rattle.bgp_update.specs.View.{view_marks}
+use Rattle.bgp_update.specs.Prelude.{parts_value, view_marks}
 use Rattle.bgp_update.proofs.QuietMarks.{no_notes}
 use Rattle.bgp_update.proofs.view.UpdateView.own_notes.Goals as goal
 

@@ -1,13 +1,12 @@
 use Rattle.std.proofs.Common.{List, [], sym, ap, ◌∙◌}
 use Rattle.std.specs.List.{flat_map}
 use Rattle.bgp_attr.specs.declared.attr.Attr.{Attr}
-use Rattle.bgp_update.specs.Taken.{kept_of, as_opaque, rising_behind}
-use Rattle.bgp_update.specs.View.{view_marks}
-use Rattle.bgp_update.proofs.AttrSlots.{others_of-slots}
+use Rattle.bgp_update.specs.Prelude.{kept_of, as_opaque, rising_behind, view_marks}
+use Rattle.bgp_update.proofs.KeptSlots.{others_of-kept}
 use Rattle.bgp_update.proofs.Rising.{of_kind}
 use Rattle.bgp_update.proofs.view.UpdateView.sort_others.Goals as goal
 
 pub returns : goal.returns
 returns c = λ k.
     c.fill.ensures k
-    ∙ ap (of_kind k) (ap (λ (xs : List Attr). rising_behind [] (flat_map as_opaque xs)) c.attrs.ensures ∙ sym (others_of-slots (kept_of (view_marks c.args.self.now))))
+    ∙ ap (of_kind k) (ap (λ (xs : List Attr). rising_behind [] (flat_map as_opaque xs)) c.attrs.ensures ∙ sym (others_of-kept (kept_of (view_marks c.args.self.now))))

@@ -1,10 +1,8 @@
 use Rattle.std.proofs.Common.{◌≡◌, true, sym, subst}
 use Rattle.std.specs.List.{AllByRecursion}
 use Rattle.bgp_open.specs.declared.context.Context.{Context}
-use Rattle.bgp_attr.specs.Written.{is_writable}
-use Rattle.bgp_update.specs.As4.{narrowed}
-use Rattle.bgp_update.specs.Slots.{attr_list}
-use Rattle.bgp_update.specs.View.{update_value}
+use Rattle.bgp_attr.specs.Prelude.{is_writable}
+use Rattle.bgp_update.specs.Prelude.{narrowed, attr_list, update_value}
 use Rattle.bgp_update.proofs.ToldAttributes.{told_writable}
 use Rattle.bgp_update.proofs.view.UpdateView.write_narrowed.Goals as goal
 

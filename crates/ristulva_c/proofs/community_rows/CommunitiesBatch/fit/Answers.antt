@@ -1,14 +1,14 @@
 use Rattle.std.proofs.Common.{◌≡◌, length, Some, sym, ap, ◌∙◌, arith}
 use Rattle.std.specs.Prelude.{option_map}
 use Rattle.std.proofs.lemmas.Bool.{le-leb}
-use Rattle.bgp_attr.specs.CommunitiesView.{communities_value}
-use Rattle.bgp_update.specs.View.{update_value}
+use Rattle.std.proofs.lemmas.List.{length-map}
+use Rattle.bgp_attr.specs.Prelude.{communities_value}
+use Rattle.bgp_update.specs.Prelude.{update_value}
 use Rattle.bgp_update.specs.declared.attrs.Attrs.{Attrs}
-use Rattle.bgp_msg.specs.OutcomeView.{outcome_value}
+use Rattle.bgp_msg.specs.Prelude.{outcome_value}
 use Rattle.bgp_msg.specs.declared.outcome_view.OutcomeView.{OutcomeView}
-use Rattle.ristulva_c.specs.CommunityRows.{community_rows}
-use Rattle.ristulva_c.specs.Facts.{attrs_in}
-use Rattle.ristulva_c.proofs.NumberCounts.{few_in, few_communities}
+use Rattle.ristulva_c.specs.Prelude.{community_row, community_rows, attrs_in}
+use Rattle.ristulva_c.proofs.FewNumbers.{few_in, few_communities}
 use Rattle.ristulva_c.proofs.community_rows.CommunitiesBatch.fit.Goals as goal
 
 pub returns-then-body-room-clause-fit : goal.returns-then-body-room-clause-fit
@@ -19,12 +19,12 @@ returns-then-body-room-clause-fit c at =
 pub returns-then-body-room-clause-few : goal.returns-then-body-room-clause-few
 returns-then-body-room-clause-few c at = omega (arith, few_communities c.args.body.now (outcome_value c.args.outcome.now) c.are_octets.ensures c.requires at, c.requires.short)
 
-pub count_communities-requires : goal.count_communities-requires
-count_communities-requires c =
+pub count_rows-requires : goal.count_rows-requires
+count_rows-requires c =
     let a = (update_value c.in-Update.update.now).attrs in
     let kept : attrs_in (outcome_value c.args.outcome.now) ≡ Some a = ap (λ (v : OutcomeView). attrs_in (outcome_value v)) c.in-Update.is in
     let has : a.communities ≡ Some (communities_value c.in-Some.communities) = sym (ap (λ (x : Attrs). x.communities) c.kept.ensures.known) ∙ sym c.communities.ensures ∙ ap (option_map communities_value) c.in-Some.is in
-    omega (arith, (few_in c.args.body.now (outcome_value c.args.outcome.now) c.are_octets.ensures c.requires a kept).communities (communities_value c.in-Some.communities) has, c.requires.short)
+    omega (arith, length-map (communities_value c.in-Some.communities).values (community_row 0), (few_in c.args.body.now (outcome_value c.args.outcome.now) c.are_octets.ensures c.requires a kept).communities (communities_value c.in-Some.communities) has, c.requires.short)
 
 pub returns-in-Some-clause-few : goal.returns-in-Some-clause-few
 returns-in-Some-clause-few c at = omega (arith, few_communities c.args.body.now (outcome_value c.args.outcome.now) c.are_octets.ensures c.requires at, c.requires.short)

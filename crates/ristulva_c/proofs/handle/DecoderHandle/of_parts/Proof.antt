@@ -1,16 +1,13 @@
 -- `of_parts` moves the pointer, and what the parts own goes with it.
-use Rattle.ristulva_c.proofs.Walks.{refl, sym, subst, List, [], ◌∷◌, ◌++◌, Ura, Val, SProp, ent, emp, ftrue, fsep, Memory, Routine, WpFn, Tables, Logic, Fun, tables, tables_of, WpFn-mono, Item, ‵, raw, ◌⊛◌, ◌$◌, ◌∵◌, !, qed, by, keep, drop, join, split, fsplit, fjoin, suffices, done, whole, sub, agg, stop, fld, no_more, and_then, of_opd, returns, enter, alloc_all, pass_all, free_all, look_at, get, get_in, sets, yes, block_ptr, type_at, nothing, triple_of, entered, says, Stays, stay_dropped, walk_of, ends_at, Goes-dropped, walk_Meets, Some, D, B, word, box_typed, box_out, Bx, plain, Slot}
+use Rattle.ristulva_c.proofs.Walks.{[], ◌∷◌, refl, id⊢, WpFn, Tables, tables, tables_of, WpFn-mono, ‵, ◌$◌, ◌∵◌, !, qed, join, fjoin, suffices, done, yes, nothing, triple_of, entered, says, Stays, stay_dropped, walk_of, ends_at, Goes-dropped, walk_Meets, Some, plain, Slot}
 use Rattle.bgp_msg.specs.contracts.decoder.Decoder.{the_row as Body}
 use Rattle.bgp_msg.proofs.decoder.Decoder.TheLaws.{the_row_laws}
-use Rattle.ristulva_c.proofs.Handles as H
-use Rattle.ristulva_c.proofs.Handles.{Apart, word_of, handle_in}
+use Rattle.ristulva_c.proofs.Handles.{Apart, held}
+use Rattle.ristulva_c.proofs.HandleWalks.{moves_in}
+use Rattle.ristulva_c.specs.contracts.handle.DecoderHandle as handle
 use Rattle.ristulva_c.specs.contracts.handle.DecoderHandle.of_parts as F
-use Rattle.ristulva_c.specs.contracts.handle.DecoderHandle.of_parts.Key.{name as #self}
 use Rattle.ristulva_c.proofs.handle.DecoderHandle.of_parts.Statement as stated
 use Rattle.ristulva_c.proofs.handle.DecoderHandle.of_parts.Code as code
-
-abbrev E : Bx
-E = H.E Body the_row_laws
 
 abbrev From : Slot 0
 From = plain (λ _. Apart Body)
@@ -18,32 +15,14 @@ From = plain (λ _. Apart Body)
 abbrev stayed : Stays (F.ended).signature.params (F.ended).kept
 stayed = (stay_dropped From yes, tt)
 
-module _ {M : Type 1} {𝓤 : Ura M} (𝓛 : Logic 𝓤) (at_mem : Memory → SProp 𝓤) (run : Routine → Fun 𝓤) (𝓣 : Tables 𝓤 𝓛.H) where
-  open 𝓛 use {H}
-
-  walk : (z : (walk_of 𝓛 F.ended stayed (F.clauses 𝓛 at_mem run)).Ghost)
-      → ent 𝓤 ((walk_of 𝓛 F.ended stayed (F.clauses 𝓛 at_mem run)).pre z) (WpFn 𝓤 H 𝓣.C 𝓣.Λ code.function (z.0.4.0 ++ []) ((walk_of 𝓛 F.ended stayed (F.clauses 𝓛 at_mem run)).post z))
-  walk z =
-      let Post = (walk_of 𝓛 F.ended stayed (F.clauses 𝓛 at_mem run)).post z in
-      let v : D E = record { ptr = z.0.3.0.ptr; alloc = z.0.3.0.alloc; value = z.0.3.0.value } in
-      let To = type_at (F.signature).result tt in
-      qed 𝓛 ((‵ ftrue ⊛ ‵ (fsep ((B E).own_val v z.0.4.0) ftrue)) ∷ raw (emp 𝓤) ∷ []) ∵ split ! $ drop ! $ fsplit ! $
-      box_out E ! v z.0.4.0 (λ b o hv e ws fa.
-      let made : To.Denot = record { body = block_ptr b o; value = Some v.value } in
-      fjoin ! $ handle_in Body ! (block_ptr b o) (Some v.value) $ keep ! (0 ∷ []) $
-      let w = word E hv b o in let u : Val = word_of (block_ptr b o) in
-      let Γ : List (Item 𝓤) = ‵ (To.own_val made (u ∷ [])) ∷ [] in
-      by ! (subst (λ (us : List Val). ent 𝓤 (types.Kit.⋆ 𝓛 Γ) (WpFn 𝓤 H 𝓣.C 𝓣.Λ code.function (us ++ []) Post)) (sym ws)
-      (qed 𝓛 Γ ∵ enter ! 𝓣.C 𝓣.Λ code.function (w ∷ []) _ $ alloc_all ! (λ ls. pass_all ! refl (box_typed E hv b o fa, tt) $
-      sets ! (of_opd ! (get_in ! (fld ! refl (stop !)) (sub ! 0 refl (whole !)))) refl (tt, tt) $ sets ! (of_opd ! (get ! refl)) refl (tt, tt) $
-      sets ! (agg ! (and_then ! (get ! refl) (no_more !))) refl (tt, (tt, tt)) $ returns ! (look_at ! 0 refl) $ free_all ! refl $
-      suffices ! _ (ends_at 𝓛 F.ended stayed (F.clauses 𝓛 at_mem run) z u made (tt, tt) (tt, tt)) $ says ! refl $
-      nothing ! $ nothing ! $ fjoin ! $ join ! $ nothing ! $ join ! $ done !))))
-
 pub of_parts_spec : {M : Type 1} → stated.statement M
 unfolding tables_of
 of_parts_spec 𝓤 𝓛 𝓜 𝓡 wired =
     let 𝓣 : Tables 𝓤 𝓛.H = tables_of 𝓤 𝓛.H 𝓜 (tables 𝓤 𝓛.H 𝓜 𝓡 𝓡.env) in
-    entered 𝓤 𝓛.H (triple_of 𝓛 F.signature (F.spec 𝓛 𝓜.mem 𝓡.returns)) 𝓣.C 𝓣.Λ #self code.function (code.unfolded 𝓤 𝓛.H 𝓜 𝓡 wired)
-    (walk_Meets 𝓛 F.ended stayed (Goes-dropped 𝓛 0 From yes (λ κs x f. refl), tt) (F.clauses 𝓛 𝓜.mem 𝓡.returns) (WpFn 𝓤 𝓛.H 𝓣.C 𝓣.Λ code.function) (WpFn-mono 𝓤 𝓛.H 𝓛.laws 𝓣 code.function)
-    (walk 𝓛 𝓜.mem 𝓡.returns 𝓣))
+    let c = F.clauses 𝓛 𝓜.mem 𝓡.returns in let W = walk_of 𝓛 F.ended stayed c in
+    entered 𝓤 𝓛.H (triple_of 𝓛 F.signature (F.spec 𝓛 𝓜.mem 𝓡.returns)) 𝓣.C 𝓣.Λ F.Key.name code.function (code.unfolded 𝓤 𝓛.H 𝓜 𝓡 wired)
+    (walk_Meets 𝓛 F.ended stayed (Goes-dropped 𝓛 0 From yes (λ κs x f. refl), tt) c (WpFn 𝓤 𝓛.H 𝓣.C 𝓣.Λ code.function) (WpFn-mono 𝓤 𝓛.H 𝓛.laws 𝓣 code.function)
+    (λ z. let v = z.0.3.0 in
+    moves_in 𝓛 𝓣 (handle.struct).name Body the_row_laws (λ w b o. id⊢ 𝓤 _) (record { ptr = v.ptr; alloc = v.alloc; value = v.value }) z.0.4.0 (W.post z) (λ p u.
+    qed 𝓛 (‵ (held Body p (Some v.value) (u ∷ [])) ∷ []) ∵ suffices ! _ (ends_at 𝓛 F.ended stayed c z u (record { body = p; value = Some v.value }) (tt, tt) (tt, tt)) $
+    says ! refl $ nothing ! $ nothing ! $ fjoin ! $ join ! $ nothing ! $ join ! $ done !)))

@@ -1,15 +1,12 @@
 use Rattle.std.proofs.Common.{◌≡◌, leb, length, Some, sym, ap, ◌∙◌, arith}
 use Rattle.std.specs.Prelude.{option_map}
 use Rattle.std.proofs.lemmas.Bool.{le-leb}
-use Rattle.bgp_update.specs.As4.{rebuilt}
-use Rattle.bgp_update.specs.PathInfoView.{joined_value}
-use Rattle.bgp_update.specs.View.{update_value}
+use Rattle.bgp_update.specs.Prelude.{rebuilt, joined_value, update_value}
 use Rattle.bgp_update.specs.declared.path_info.PathInfo.{PathInfo}
-use Rattle.bgp_msg.specs.OutcomeView.{outcome_value}
+use Rattle.bgp_msg.specs.Prelude.{outcome_value}
 use Rattle.bgp_msg.specs.declared.outcome_view.OutcomeView.{OutcomeView}
-use Rattle.ristulva_c.specs.NumberRows.{path_rows, number_rows}
-use Rattle.ristulva_c.specs.Facts.{attrs_in}
-use Rattle.ristulva_c.proofs.NumberCounts.{few_in, few_numbers}
+use Rattle.ristulva_c.specs.Prelude.{path_rows, number_rows, attrs_in}
+use Rattle.ristulva_c.proofs.FewNumbers.{few_in, few_numbers}
 use Rattle.ristulva_c.proofs.NumberRows.{rows_count}
 use Rattle.ristulva_c.proofs.number_rows.PathNumbersBatch.fit.Goals as goal
 

@@ -1,7 +1,7 @@
 use Rattle.std.proofs.Common.{length, sym, arith}
 use Rattle.std.proofs.lemmas.Bool.{le-leb}
-use Rattle.bgp_update.specs.Parts.{parts_of}
-use Rattle.ristulva_c.specs.steps.RouteRows.{rows_seen}
+use Rattle.bgp_update.specs.Prelude.{parts_of}
+use Rattle.ristulva_c.specs.Prelude.{rows_seen}
 use Rattle.ristulva_c.proofs.RouteRows.{gives_rows, few_rows, few_update}
 use Rattle.ristulva_c.proofs.route_rows.RoutesBatch.fit.Goals as goal
 
