@@ -1,10 +1,8 @@
 -- What is owed of each type, type by type: its tests refuse, what they let pass is spelled by its octets and by no others, can be written and is read back.
-use Rattle.std.proofs.Common.{◌≡◌, ℕ, Bool, true, false, ◌&&◌, List, ◌∷◌, Option, Some, None, refl, sym, ap, subst, ◌∙◌, ◌≤◌, not, eqb, ◌++◌, length, arith, ◌<◌, ltb, suc, lit<}
-use Rattle.std.specs.List.{list_any}
-use Rattle.std.proofs.lemmas.Bool.{true≢false, eqb-false, ltb-false, not-false, or_parts}
-use Rattle.std.proofs.lemmas.Nat.{from_be_bytes-to_be_bytes_4}
+use Rattle.bgp_wire.proofs.Std.{◌≡◌, ℕ, Bool, true, false, ◌&&◌, List, ◌∷◌, Option, Some, None, refl, sym, ap, subst, ◌∙◌, ◌≤◌, not, eqb, ◌++◌, length, arith, ◌<◌, ltb, suc, lit<, list_any, eqb-false, ltb-false, not-false, or_parts}
+use Rattle.std.proofs.lemmas.Bool.{true≢false}
 use Rattle.bgp_numbers.specs.declared.afi.TheConstants.{IPV4, IPV6}
-use Rattle.bgp_numbers.specs.declared.attribute.TheConstants.{ORIGIN, AS_PATH, NEXT_HOP, MULTI_EXIT_DISC, LOCAL_PREF, ATOMIC_AGGREGATE, AGGREGATOR, COMMUNITIES, MP_REACH_NLRI, MP_UNREACH_NLRI, AS4_PATH, AS4_AGGREGATOR, LARGE_COMMUNITY}
+use Rattle.bgp_numbers.specs.declared.attribute.TheConstants as attribute
 use Rattle.bgp_wire.specs.Prelude.{AreOctets}
 use Rattle.bgp_open.specs.declared.context.Context.{Context}
 use Rattle.bgp_wire.proofs.OctetLemmas.{AreOctets-front, AreOctets-back, AreOctets-nil, AreOctets-one}
@@ -14,7 +12,7 @@ use Rattle.bgp_attr.specs.Prelude.{TlvValue, aggregator_tests, AttributeType, is
 use Rattle.bgp_attr.specs.declared.judged.Judged.TheVariants as judged
 use Rattle.bgp_attr.specs.declared.why.Why.TheVariants as why
 use Rattle.bgp_attr.specs.declared.aggregator.Aggregator.{Aggregator}
-use Rattle.bgp_attr.specs.declared.class.Class.TheVariants.{WellKnown, OptionalNonTransitive}
+use Rattle.bgp_attr.specs.declared.class.Class.TheVariants as class
 use Rattle.bgp_attr.specs.declared.communities.Communities.{Communities}
 use Rattle.bgp_attr.specs.declared.communities.LargeCommunities.{LargeCommunities}
 use Rattle.bgp_attr.specs.declared.mp.MpReach.{MpReach}
@@ -26,13 +24,13 @@ use Rattle.bgp_attr.specs.declared.path.AsPath.{AsPath}
 use Rattle.bgp_attr.specs.declared.attr.Attr.TheVariants as attr
 use Rattle.bgp_attr.specs.declared.mp.MpReach.TheVariants as reach
 use Rattle.bgp_attr.specs.declared.mp.MpUnreach.TheVariants as unreach
-use Rattle.bgp_attr.proofs.Tables.{EachRow, ◌&◌}
+use Rattle.bgp_attr.proofs.Tables.{EachRow, ◌&◌, same-back}
 use Rattle.bgp_attr.proofs.NumberRows.{Fits}
 use Rattle.bgp_attr.proofs.SegmentRows.{path-only}
 use Rattle.bgp_attr.proofs.RouteRows.{reach4-value, reach6-value, unreach4-value, unreach6-value}
 use Rattle.bgp_attr.proofs.TestRows.{NoneApplies, pass, passed, IsRefusal, AllRefuse, no_more, test, fault, path_of_one, decided-kept, decided_by, row_at, row-at, row-other, by_type, keeps, Writes, writable-Writes}
 use Rattle.bgp_attr.proofs.Kept.{origin-spells, as_path-spells, next_hop-spells, four-spells, atomic-spells, aggregator-spells, communities-spells, large-spells, as4_path-spells, other-spells, mp_reach-spells, mp_unreach-spells, origin-only, aggregator-only, communities-only, large-only, as4_path-only, opaque-only}
-use Rattle.bgp_attr.proofs.ReadBack.{this-kept, kept-origin, kept-next_hop, kept-aggregator, kept-as4_aggregator, kept-opaque, kept-as_path, kept-as4_path, kept-communities, kept-large, kept-reach4, kept-reach6, kept-unreach4, kept-unreach6}
+use Rattle.bgp_attr.proofs.ReadBack.{this-kept, kept-four, four-passes, kept-origin, kept-next_hop, kept-aggregator, kept-as4_aggregator, kept-opaque, kept-as_path, kept-as4_path, kept-communities, kept-large, kept-reach4, kept-reach6, kept-unreach4, kept-unreach6}
 use Rattle.bgp_attr.proofs.Rewriting.{Rewritten, origin-rewritten, as_path-rewritten, next_hop-rewritten, four-rewritten, atomic-rewritten, aggregator-rewritten, as4_aggregator-rewritten, communities-rewritten, large-rewritten, as4_path-rewritten, other-rewritten, mp_reach-rewritten, mp_unreach-rewritten, rewritten-fits}
 use Rattle.bgp_attr.proofs.WrittenOctets.{AreOctets-four, AreOctets-row, triples-octets, path-octets, run-octets, reach-octets, unreach-octets, link-octets, aggregator-octets, code-octet, made-octets}
 
@@ -79,7 +77,7 @@ module _ (ctx : Context) (has_nlri : Bool) (t : TlvValue) where
   pub kept-type : (a : Attr) → judgement ctx has_nlri t ≡ judged.Keep a → type_of a ≡ t.kind
   kept-type a keeps =
       ap type_of (sym (kept-value a keeps))
-      ∙ by_type ctx has_nlri t (λ type. type_of type.value ≡ t.kind) (sym & sym & sym & sym & sym & sym & sym & sym & sym & sym & sym & sym & sym & tt) (λ other. refl)
+      ∙ by_type ctx has_nlri t (λ type. type_of type.value ≡ t.kind) (same-back t.kind (λ type. type_of type.value) (types ctx has_nlri t) refl) (λ other. refl)
 
   -- what holds of the value of each row whose tests pass holds of an attribute that is kept
   pub by_kept : (P : Attr → Type 0) → EachRow (λ kind type. t.kind ≡ kind → NoneApplies type.tests → P type.value) (types ctx has_nlri t)
@@ -88,14 +86,31 @@ module _ (ctx : Context) (has_nlri : Bool) (t : TlvValue) where
 
 -- ---- what is kept is spelled, and nothing else is
 
+-- what is owed of what is kept: it is spelled, and can be written again
+abbrev Fulfils : Context → Bool → TlvValue → Attr → Type 0
+Fulfils ctx has_nlri t a = Spells ctx t a × (t.kind < 256 → Rewritten ctx has_nlri t a)
+
+kept-fulfils : (ctx : Context) (has_nlri : Bool) (t : TlvValue) (a : Attr) → AreOctets t.value → judgement ctx has_nlri t ≡ judged.Keep a → Fulfils ctx has_nlri t a
+kept-fulfils ctx has_nlri t a o keeps =
+    by_kept ctx has_nlri t (Fulfils ctx has_nlri t)
+    ((λ e none. (origin-spells ctx t e none, λ small. origin-rewritten ctx has_nlri t o none))
+    & (λ e none. (as_path-spells ctx t e none, λ small. as_path-rewritten ctx has_nlri t o none))
+    & (λ e none. (next_hop-spells ctx t has_nlri e none, λ small. next_hop-rewritten ctx has_nlri t o none))
+    & (λ e none. (four-spells ctx t attribute.MULTI_EXIT_DISC class.OptionalNonTransitive e none, λ small. four-rewritten ctx has_nlri t o class.OptionalNonTransitive (λ n partial. attr.Med n) refl refl (λ low. low) tt none))
+    & (λ e none. (four-spells ctx t attribute.LOCAL_PREF class.WellKnown e none.1, λ small. four-rewritten ctx has_nlri t o class.WellKnown (λ n partial. attr.LocalPref n) refl refl (λ low. low) (not-false _ (passed _ _ none.0)) none.1))
+    & (λ e none. (atomic-spells ctx t e none, λ small. atomic-rewritten ctx has_nlri t o))
+    & (λ e none. (aggregator-spells ctx t attribute.AGGREGATOR ctx.as4 e none, λ small. aggregator-rewritten ctx has_nlri t o none))
+    & (λ e none. (communities-spells ctx t e none, λ small. communities-rewritten ctx has_nlri t o e none))
+    & (λ e none. (mp_reach-spells ctx t o e none, λ small. mp_reach-rewritten ctx has_nlri t o e none))
+    & (λ e none. (mp_unreach-spells ctx t o e none, λ small. mp_unreach-rewritten ctx has_nlri t o e none))
+    & (λ e none. (as4_path-spells ctx t e none, λ small. as4_path-rewritten ctx has_nlri t o none))
+    & (λ e none. (aggregator-spells ctx t attribute.AS4_AGGREGATOR true e none.1, λ small. as4_aggregator-rewritten ctx has_nlri t o none))
+    & (λ e none. (large-spells ctx t e none, λ small. large-rewritten ctx has_nlri t o e none))
+    & tt)
+    (λ e none. (other-spells ctx t e none, other-rewritten ctx has_nlri t o e)) a keeps
+
 pub kept-spells : (ctx : Context) (has_nlri : Bool) (t : TlvValue) (a : Attr) → AreOctets t.value → judgement ctx has_nlri t ≡ judged.Keep a → Spells ctx t a
-kept-spells ctx has_nlri t a octets keeps =
-    by_kept ctx has_nlri t (Spells ctx t)
-    (origin-spells ctx t & as_path-spells ctx t & next_hop-spells ctx t has_nlri & four-spells ctx t MULTI_EXIT_DISC OptionalNonTransitive
-    & (λ e none. four-spells ctx t LOCAL_PREF WellKnown e none.1) & atomic-spells ctx t
-    & aggregator-spells ctx t AGGREGATOR ctx.as4 & communities-spells ctx t & mp_reach-spells ctx t octets & mp_unreach-spells ctx t octets
-    & as4_path-spells ctx t & (λ e none. aggregator-spells ctx t AS4_AGGREGATOR true e none.1) & large-spells ctx t & tt)
-    (other-spells ctx t) a keeps
+kept-spells ctx has_nlri t a octets keeps = (kept-fulfils ctx has_nlri t a octets keeps).0
 
 module _ (ctx : Context) (has_nlri : Bool) (t : TlvValue) where
   value-at : (kind : ℕ) → t.kind ≡ kind → (type_row ctx has_nlri t).value ≡ (row_at ctx has_nlri t kind).value
@@ -103,23 +118,23 @@ module _ (ctx : Context) (has_nlri : Bool) (t : TlvValue) where
 
   -- what is spelled is the value
   pub spells-value : (b : Attr) → Spells ctx t b → (type_row ctx has_nlri t).value ≡ b
-  spells-value (attr.Origin o) s = value-at ORIGIN (s.of_type).kind_is ∙ ap (λ (x : Origin). attr.Origin x) (origin-only t o t.value s.value)
-  spells-value (attr.AsPath p) s = value-at AS_PATH (s.of_type).kind_is ∙ ap (λ (x : AsPath). attr.AsPath x) (sym (path-only (as_path_form ctx) p t.value s.path))
-  spells-value (attr.NextHop addr) s = value-at NEXT_HOP (s.of_type).kind_is ∙ ap (λ (x : List ℕ). attr.NextHop x) s.value
-  spells-value (attr.Med n) s = value-at MULTI_EXIT_DISC (s.of_type).kind_is ∙ ap (λ (x : ℕ). attr.Med x) (sym (s.value).value)
-  spells-value (attr.LocalPref n) s = value-at LOCAL_PREF (s.of_type).kind_is ∙ ap (λ (x : ℕ). attr.LocalPref x) (sym (s.value).value)
-  spells-value attr.Atomic s = value-at ATOMIC_AGGREGATE (s.of_type).kind_is
-  spells-value (attr.Aggregator a) s = value-at AGGREGATOR (s.of_type).kind_is ∙ ap (λ (x : Aggregator). attr.Aggregator x) (aggregator-only t AGGREGATOR ctx.as4 a s)
-  spells-value (attr.Communities c) s = value-at COMMUNITIES (s.of_type).kind_is ∙ ap (λ (x : Communities). attr.Communities x) (communities-only t c s)
+  spells-value (attr.Origin o) s = value-at attribute.ORIGIN (s.of_type).kind_is ∙ ap (λ (x : Origin). attr.Origin x) (origin-only t o t.value s.value)
+  spells-value (attr.AsPath p) s = value-at attribute.AS_PATH (s.of_type).kind_is ∙ ap (λ (x : AsPath). attr.AsPath x) (sym (path-only (as_path_form ctx) p t.value s.path))
+  spells-value (attr.NextHop addr) s = value-at attribute.NEXT_HOP (s.of_type).kind_is ∙ ap (λ (x : List ℕ). attr.NextHop x) s.value
+  spells-value (attr.Med n) s = value-at attribute.MULTI_EXIT_DISC (s.of_type).kind_is ∙ ap (λ (x : ℕ). attr.Med x) (sym (s.value).value)
+  spells-value (attr.LocalPref n) s = value-at attribute.LOCAL_PREF (s.of_type).kind_is ∙ ap (λ (x : ℕ). attr.LocalPref x) (sym (s.value).value)
+  spells-value attr.Atomic s = value-at attribute.ATOMIC_AGGREGATE (s.of_type).kind_is
+  spells-value (attr.Aggregator a) s = value-at attribute.AGGREGATOR (s.of_type).kind_is ∙ ap (λ (x : Aggregator). attr.Aggregator x) (aggregator-only t attribute.AGGREGATOR ctx.as4 a s)
+  spells-value (attr.Communities c) s = value-at attribute.COMMUNITIES (s.of_type).kind_is ∙ ap (λ (x : Communities). attr.Communities x) (communities-only t c s)
   spells-value (attr.MpReach (reach.Ip4 hop routes)) s =
-      value-at MP_REACH_NLRI (s.of_type).kind_is ∙ ap (λ (x : MpReach). attr.MpReach x) (reach4-value hop routes t.value (s.value).0 (s.value).1)
+      value-at attribute.MP_REACH_NLRI (s.of_type).kind_is ∙ ap (λ (x : MpReach). attr.MpReach x) (reach4-value hop routes t.value (s.value).0 (s.value).1)
   spells-value (attr.MpReach (reach.Ip6 hop link routes)) s =
-      value-at MP_REACH_NLRI (s.of_type).kind_is ∙ ap (λ (x : MpReach). attr.MpReach x) (reach6-value hop link routes t.value (s.value).0 (s.value).1 (s.value).2)
-  spells-value (attr.MpUnreach (unreach.Ip4 routes)) s = value-at MP_UNREACH_NLRI (s.of_type).kind_is ∙ ap (λ (x : MpUnreach). attr.MpUnreach x) (unreach4-value routes t.value s.value)
-  spells-value (attr.MpUnreach (unreach.Ip6 routes)) s = value-at MP_UNREACH_NLRI (s.of_type).kind_is ∙ ap (λ (x : MpUnreach). attr.MpUnreach x) (unreach6-value routes t.value s.value)
-  spells-value (attr.As4Path p) s = value-at AS4_PATH (s.of_type).kind_is ∙ ap (λ (x : As4Path). attr.As4Path x) (as4_path-only t p s)
-  spells-value (attr.As4Aggregator a) s = value-at AS4_AGGREGATOR (s.of_type).kind_is ∙ ap (λ (x : Aggregator). attr.As4Aggregator x) (aggregator-only t AS4_AGGREGATOR true a s)
-  spells-value (attr.Large l) s = value-at LARGE_COMMUNITY (s.of_type).kind_is ∙ ap (λ (x : LargeCommunities). attr.Large x) (large-only t l s)
+      value-at attribute.MP_REACH_NLRI (s.of_type).kind_is ∙ ap (λ (x : MpReach). attr.MpReach x) (reach6-value hop link routes t.value (s.value).0 (s.value).1 (s.value).2)
+  spells-value (attr.MpUnreach (unreach.Ip4 routes)) s = value-at attribute.MP_UNREACH_NLRI (s.of_type).kind_is ∙ ap (λ (x : MpUnreach). attr.MpUnreach x) (unreach4-value routes t.value s.value)
+  spells-value (attr.MpUnreach (unreach.Ip6 routes)) s = value-at attribute.MP_UNREACH_NLRI (s.of_type).kind_is ∙ ap (λ (x : MpUnreach). attr.MpUnreach x) (unreach6-value routes t.value s.value)
+  spells-value (attr.As4Path p) s = value-at attribute.AS4_PATH (s.of_type).kind_is ∙ ap (λ (x : As4Path). attr.As4Path x) (as4_path-only t p s)
+  spells-value (attr.As4Aggregator a) s = value-at attribute.AS4_AGGREGATOR (s.of_type).kind_is ∙ ap (λ (x : Aggregator). attr.As4Aggregator x) (aggregator-only t attribute.AS4_AGGREGATOR true a s)
+  spells-value (attr.Large l) s = value-at attribute.LARGE_COMMUNITY (s.of_type).kind_is ∙ ap (λ (x : LargeCommunities). attr.Large x) (large-only t l s)
   spells-value (attr.Opaque o) s = ap (λ (type : AttributeType). type.value) (row-other ctx has_nlri t s.other) ∙ ap (λ (x : Opaque). attr.Opaque x) (opaque-only t o s)
 
 pub kept-only : (ctx : Context) (has_nlri : Bool) (t : TlvValue) (a b : Attr) → judgement ctx has_nlri t ≡ judged.Keep a → Spells ctx t b → b ≡ a
@@ -131,18 +146,10 @@ pub kept-rewritten : (ctx : Context) (has_nlri : Bool) (t : TlvValue) (a : Attr)
 kept-rewritten ctx has_nlri t a b s octets keeps =
     let all : AreOctets (t.flags ∷ t.kind ∷ (s.size ++ t.value)) = subst AreOctets s.octets octets in
     let behind : AreOctets (s.size ++ t.value) = λ i. all (suc (suc i)) in
-    let o : AreOctets t.value = AreOctets-back s.size t.value behind in
-    rewritten-fits ctx has_nlri t a b s (AreOctets-front s.size t.value behind) (
-    by_kept ctx has_nlri t (Rewritten ctx has_nlri t)
-    ((λ e none. origin-rewritten ctx has_nlri t o none) & (λ e none. as_path-rewritten ctx has_nlri t o none) & (λ e none. next_hop-rewritten ctx has_nlri t o none)
-    & (λ e none. four-rewritten ctx has_nlri t o OptionalNonTransitive (λ (n : ℕ). attr.Med n) refl refl (λ small. small) tt none)
-    & (λ e none. four-rewritten ctx has_nlri t o WellKnown (λ (n : ℕ). attr.LocalPref n) refl refl (λ small. small) (not-false _ (passed _ _ none.0)) none.1)
-    & (λ e none. atomic-rewritten ctx has_nlri t o) & (λ e none. aggregator-rewritten ctx has_nlri t o none) & communities-rewritten ctx has_nlri t o
-    & mp_reach-rewritten ctx has_nlri t o & mp_unreach-rewritten ctx has_nlri t o & (λ e none. as4_path-rewritten ctx has_nlri t o none)
-    & (λ e none. as4_aggregator-rewritten ctx has_nlri t o none) & large-rewritten ctx has_nlri t o & tt)
-    (λ e none. other-rewritten ctx has_nlri t o e (all 1)) a keeps)
+    let kept = kept-fulfils ctx has_nlri t a (AreOctets-back s.size t.value behind) keeps in
+    rewritten-fits ctx has_nlri t a b s (AreOctets-front s.size t.value behind) (kept.1 (all 1))
 
--- ---- what is written is kept as the value that was written
+-- ---- what is written is octets, and is kept as the value that was written
 
 not_both : (b x : Bool) → (not b && x) ≡ false → b ≡ false → x ≡ false
 not_both true x e is = absurd (true≢false is)
@@ -166,68 +173,53 @@ link-has : (link : Option (List ℕ)) → HasLinkRange link → HasLink link
 link-has None range = record { wide = tt }
 link-has (Some addr) range = record { wide = range.wide }
 
-kept : (ctx : Context) (has_nlri : Bool) (a : Attr) → HasRanges a → Writes ctx a → Belongs ctx has_nlri a → judgement ctx has_nlri (written_tlv ctx a) ≡ judged.Keep a
-kept ctx has_nlri (attr.Origin o) r w in_place = kept-origin ctx has_nlri o
-kept ctx has_nlri (attr.AsPath p) r w in_place =
-    kept-as_path ctx has_nlri p (record { ranges = r; low = not_both ctx.as4 (any_number is_above_two_octets p) w.narrow; good = w.some; nonzero = w.nonzero })
-kept ctx has_nlri (attr.NextHop addr) r w in_place = kept-next_hop ctx has_nlri addr r.wide in_place
-kept ctx has_nlri (attr.Med n) r w in_place = this-kept ctx has_nlri (attr.Med n) (ap (λ (x : ℕ). attr.Med x) (from_be_bytes-to_be_bytes_4 n r)) (refl, (refl, tt))
-kept ctx has_nlri (attr.LocalPref n) r w in_place =
-    this-kept ctx has_nlri (attr.LocalPref n) (ap (λ (x : ℕ). attr.LocalPref x) (from_be_bytes-to_be_bytes_4 n r)) (pass _ _ (ap not in_place), (refl, (refl, tt)))
-kept ctx has_nlri attr.Atomic r w in_place = this-kept ctx has_nlri attr.Atomic refl (refl, (refl, tt))
-kept ctx has_nlri (attr.Aggregator a) r w in_place = kept-aggregator ctx has_nlri a (fits_where ctx.as4 (a.asn).0 r.0 w.narrow) w.nonzero (r.1).wide
-kept ctx has_nlri (attr.Communities c) r w in_place = kept-communities ctx has_nlri c r (some_from c.values w.some)
-kept ctx has_nlri (attr.MpReach (reach.Ip4 hop routes)) r w in_place = kept-reach4 ctx has_nlri hop routes (r.0).wide r.1 in_place
-kept ctx has_nlri (attr.MpReach (reach.Ip6 hop link routes)) r w in_place = kept-reach6 ctx has_nlri hop link routes (r.0).wide (link-has link r.1) r.2 in_place
-kept ctx has_nlri (attr.MpUnreach (unreach.Ip4 routes)) r w in_place = kept-unreach4 ctx has_nlri routes r in_place
-kept ctx has_nlri (attr.MpUnreach (unreach.Ip6 routes)) r w in_place = kept-unreach6 ctx has_nlri routes r in_place
-kept ctx has_nlri (attr.As4Path p) r w in_place =
+-- what is owed of the value that is written: it is kept as it was, where the attribute belongs, and it is octets
+record Owed (ctx : Context) (has_nlri : Bool) (a : Attr) : Type 0 where
+  kept : Belongs ctx has_nlri a → judgement ctx has_nlri (written_tlv ctx a) ≡ judged.Keep a
+  octets : AreOctets (value_octets ctx a)
+
+owed : (ctx : Context) (has_nlri : Bool) (a : Attr) → HasRanges a → Writes ctx a → Owed ctx has_nlri a
+owed ctx has_nlri (attr.Origin o) r w = record { kept = λ in_place. kept-origin ctx has_nlri o; octets = AreOctets-one (origin_code o) (code-octet o) }
+owed ctx has_nlri (attr.AsPath p) r w = record {
+  kept = λ in_place. kept-as_path ctx has_nlri p (record { ranges = r; low = not_both ctx.as4 (any_number is_above_two_octets p) w.narrow; good = w.some; nonzero = w.nonzero });
+  octets = path-octets ctx.as4 p.segments w.some;
+}
+owed ctx has_nlri (attr.NextHop addr) r w = record { kept = kept-next_hop ctx has_nlri addr r.wide; octets = r.octets }
+owed ctx has_nlri (attr.Med n) r w = record { kept = λ in_place. kept-four ctx has_nlri class.OptionalNonTransitive false (λ n partial. attr.Med n) n r refl (four-passes class.OptionalNonTransitive false attribute.MULTI_EXIT_DISC n); octets = AreOctets-four n }
+owed ctx has_nlri (attr.LocalPref n) r w =
+    let passes = four-passes class.WellKnown false attribute.LOCAL_PREF n in
+    record { kept = λ in_place. kept-four ctx has_nlri class.WellKnown false (λ n partial. attr.LocalPref n) n r refl (pass _ _ (ap not in_place), passes); octets = AreOctets-four n }
+owed ctx has_nlri attr.Atomic r w = record { kept = λ in_place. this-kept ctx has_nlri attr.Atomic refl (refl, (refl, tt)); octets = AreOctets-nil }
+owed ctx has_nlri (attr.Aggregator a) r w =
+    record { kept = λ in_place. kept-aggregator ctx has_nlri a (fits_where ctx.as4 (a.asn).0 r.0 w.narrow) w.nonzero (r.1).wide; octets = aggregator-octets ctx.as4 a r.1 }
+owed ctx has_nlri (attr.Communities c) r w = record { kept = λ in_place. kept-communities ctx has_nlri c r (some_from c.values w.some); octets = AreOctets-row true c.values }
+owed ctx has_nlri (attr.MpReach (reach.Ip4 hop routes)) r w = record {
+  kept = kept-reach4 ctx has_nlri hop routes (r.0).wide r.1;
+  octets = reach-octets IPV4 hop routes (omega (arith, (r.0).wide)) (r.0).octets (run-octets 4 routes (omega arith) r.1);
+}
+owed ctx has_nlri (attr.MpReach (reach.Ip6 hop link routes)) r w =
+    let both = link-octets hop link r.0 r.1 in
+    record {
+      kept = kept-reach6 ctx has_nlri hop link routes (r.0).wide (link-has link r.1) r.2;
+      octets = reach-octets IPV6 (hop ++ link_octets link) routes both.0 both.1 (run-octets 16 routes (omega arith) r.2);
+    }
+owed ctx has_nlri (attr.MpUnreach (unreach.Ip4 routes)) r w = record { kept = kept-unreach4 ctx has_nlri routes r; octets = unreach-octets IPV4 routes (run-octets 4 routes (omega arith) r) }
+owed ctx has_nlri (attr.MpUnreach (unreach.Ip6 routes)) r w = record { kept = kept-unreach6 ctx has_nlri routes r; octets = unreach-octets IPV6 routes (run-octets 16 routes (omega arith) r) }
+owed ctx has_nlri (attr.As4Path p) r w =
     let some = or_parts (eqb (length (p.path).segments) 0) (list_any is_bad_segment (p.path).segments) w.some in
-    kept-as4_path ctx has_nlri p (not_as4 ctx.as4 w.allowed) (record { ranges = r; low = λ e. absurd (true≢false e); good = some.1; nonzero = w.nonzero }) (some_from (p.path).segments some.0)
-kept ctx has_nlri (attr.As4Aggregator a) r w in_place = kept-as4_aggregator ctx has_nlri a (not_as4 ctx.as4 w.allowed) r.0 w.nonzero (r.1).wide
-kept ctx has_nlri (attr.Large l) r w in_place = kept-large ctx has_nlri l r (some_from l.values w.some) w.once
-kept ctx has_nlri (attr.Opaque o) r w in_place = kept-opaque ctx has_nlri o w.named
+    let kept = kept-as4_path ctx has_nlri p (not_as4 ctx.as4 w.allowed) (record { ranges = r; low = λ e. absurd (true≢false e); good = some.1; nonzero = w.nonzero }) (some_from (p.path).segments some.0) in
+    record { kept = λ in_place. kept; octets = path-octets true (p.path).segments some.1 }
+owed ctx has_nlri (attr.As4Aggregator a) r w =
+    record { kept = λ in_place. kept-as4_aggregator ctx has_nlri a (not_as4 ctx.as4 w.allowed) r.0 w.nonzero (r.1).wide; octets = aggregator-octets true a r.1 }
+owed ctx has_nlri (attr.Large l) r w = record { kept = λ in_place. kept-large ctx has_nlri l r (some_from l.values w.some) w.once; octets = triples-octets l.values }
+owed ctx has_nlri (attr.Opaque o) r w = record { kept = λ in_place. kept-opaque ctx has_nlri o w.named; octets = r.1 }
 
 pub written-kept : (ctx : Context) (has_nlri : Bool) (a : Attr) → HasRanges a → is_writable ctx a ≡ true → Belongs ctx has_nlri a → judgement ctx has_nlri (written_tlv ctx a) ≡ judged.Keep a
-written-kept ctx has_nlri a r e in_place = kept ctx has_nlri a r (writable-Writes ctx a e) in_place
-
--- ---- and it is octets
-
-value-octets : (ctx : Context) (a : Attr) → HasRanges a → Writes ctx a → AreOctets (value_octets ctx a)
-value-octets ctx (attr.Origin o) r w = AreOctets-one (origin_code o) (code-octet o)
-value-octets ctx (attr.AsPath p) r w = path-octets ctx.as4 p.segments w.some
-value-octets ctx (attr.NextHop addr) r w = r.octets
-value-octets ctx (attr.Med n) r w = AreOctets-four n
-value-octets ctx (attr.LocalPref n) r w = AreOctets-four n
-value-octets ctx attr.Atomic r w = AreOctets-nil
-value-octets ctx (attr.Aggregator a) r w = aggregator-octets ctx.as4 a r.1
-value-octets ctx (attr.Communities c) r w = AreOctets-row true c.values
-value-octets ctx (attr.MpReach (reach.Ip4 hop routes)) r w = reach-octets IPV4 hop routes (omega (arith, (r.0).wide)) (r.0).octets (run-octets 4 routes (omega arith) r.1)
-value-octets ctx (attr.MpReach (reach.Ip6 hop link routes)) r w =
-    let both = link-octets hop link r.0 r.1 in
-    reach-octets IPV6 (hop ++ link_octets link) routes both.0 both.1 (run-octets 16 routes (omega arith) r.2)
-value-octets ctx (attr.MpUnreach (unreach.Ip4 routes)) r w = unreach-octets IPV4 routes (run-octets 4 routes (omega arith) r)
-value-octets ctx (attr.MpUnreach (unreach.Ip6 routes)) r w = unreach-octets IPV6 routes (run-octets 16 routes (omega arith) r)
-value-octets ctx (attr.As4Path p) r w = path-octets true (p.path).segments (or_parts (eqb (length (p.path).segments) 0) (list_any is_bad_segment (p.path).segments) w.some).1
-value-octets ctx (attr.As4Aggregator a) r w = aggregator-octets true a r.1
-value-octets ctx (attr.Large l) r w = triples-octets l.values
-value-octets ctx (attr.Opaque o) r w = r.1
+written-kept ctx has_nlri a r e = (owed ctx has_nlri a r (writable-Writes ctx a e)).kept
 
 type-octet : (a : Attr) → HasRanges a → type_of a < 256
-type-octet (attr.Origin o) r = lit< tt
-type-octet (attr.AsPath p) r = lit< tt
-type-octet (attr.NextHop addr) r = lit< tt
-type-octet (attr.Med n) r = lit< tt
-type-octet (attr.LocalPref n) r = lit< tt
-type-octet attr.Atomic r = lit< tt
-type-octet (attr.Aggregator a) r = lit< tt
-type-octet (attr.Communities c) r = lit< tt
-type-octet (attr.MpReach m) r = lit< tt
-type-octet (attr.MpUnreach m) r = lit< tt
-type-octet (attr.As4Path p) r = lit< tt
-type-octet (attr.As4Aggregator a) r = lit< tt
-type-octet (attr.Large l) r = lit< tt
 type-octet (attr.Opaque o) r = r.0
+type-octet _ r = lit< tt
 
 pub canonical-octets : (ctx : Context) (a : Attr) → HasRanges a → is_writable ctx a ≡ true → AreOctets (canonical ctx a)
-canonical-octets ctx a r e = made-octets (class_of a) (partial_of a) (type_of a) (value_octets ctx a) (type-octet a r) (value-octets ctx a r (writable-Writes ctx a e))
+canonical-octets ctx a r e = made-octets (class_of a) (partial_of a) (type_of a) (value_octets ctx a) (type-octet a r) (owed ctx true a r (writable-Writes ctx a e)).octets

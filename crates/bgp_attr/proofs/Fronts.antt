@@ -1,7 +1,5 @@
 -- A number at the front of octets, as the code cuts it off.
-use Rattle.std.proofs.Common.{◌≡◌, ℕ, ◌<◌, ◌≤◌, true, false, List, [], ◌∷◌, length, get_or, take, drop, Some, None, refl, ap, arith}
-use Rattle.std.specs.Int.{w16, w32, from_be_bytes}
-use Rattle.std.proofs.lemmas.Bool.{le-leb, lt-leb}
+use Rattle.bgp_wire.proofs.Std.{◌≡◌, ℕ, ◌<◌, ◌≤◌, true, false, List, [], ◌∷◌, length, get_or, take, drop, Some, None, refl, ap, arith, w16, w32, from_be_bytes, le-leb, lt-leb}
 use Rattle.bgp_attr.specs.Prelude.{one_number, one_triple}
 
 four_cells : (b : List ℕ) → 4 ≤ length b → take 4 b ≡ get_or (take 4 b) 0 0 ∷ get_or (take 4 b) 1 0 ∷ get_or (take 4 b) 2 0 ∷ get_or (take 4 b) 3 0 ∷ []

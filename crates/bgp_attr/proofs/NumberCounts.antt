@@ -1,7 +1,6 @@
 -- The first of the numbers that octets begin with.
-use Rattle.std.proofs.Common.{◌≡◌, ℕ, zero, suc, ◌+◌, ◌*◌, ◌<◌, ◌≤◌, Bool, true, false, List, [], ◌∷◌, ◌++◌, length, map, take, drop, refl, sym, ap, ap₂, ◌∙◌, arith}
-use Rattle.std.proofs.lemmas.List.{length-take, length-drop, take-append-drop, length-map, take-map}
-use Rattle.std.proofs.Math.Seq.{take-append-add}
+use Rattle.bgp_wire.proofs.Std.{◌≡◌, ℕ, zero, suc, ◌+◌, ◌*◌, ◌<◌, ◌≤◌, Bool, true, false, List, [], ◌∷◌, ◌++◌, length, map, take, drop, refl, sym, ap, ap₂, ◌∙◌, arith, take-append-drop, length-map, take-map, take-append-add}
+use Rattle.std.proofs.lemmas.List.{length-take, length-drop}
 use Rattle.bgp_attr.specs.Prelude.{number_width, number_in, numbers_of, as_number}
 use Rattle.bgp_attr.proofs.NumberSteps.{number_then, no_number, number_count}
 use Rattle.bgp_attr.proofs.SegmentFronts.{number_there, number_short, number_with}

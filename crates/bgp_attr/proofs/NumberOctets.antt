@@ -1,9 +1,5 @@
 -- Numbers of four octets are written as the octets that they were read from.
-use Rattle.std.proofs.Common.{◌≡◌, ℕ, suc, ◌-◌, ◌%◌, Bool, true, List, [], ◌∷◌, ◌++◌, length, take, map, None, refl, sym, ap, ap₂, ◌∙◌, arith}
-use Rattle.std.specs.List.{flat_map}
-use Rattle.std.specs.Int.{w32, from_be_bytes}
-use Rattle.std.proofs.lemmas.List.Folds.{flat_map-map}
-use Rattle.std.proofs.lemmas.Nat.{be_bytes_4}
+use Rattle.bgp_wire.proofs.Std.{◌≡◌, ℕ, suc, ◌-◌, ◌%◌, Bool, true, List, [], ◌∷◌, ◌++◌, length, take, map, None, refl, sym, ap, ap₂, ◌∙◌, arith, flat_map, w32, from_be_bytes, flat_map-map, be_bytes_4}
 use Rattle.bgp_prefix.specs.declared.as_number.AsNumber.{AsNumber}
 use Rattle.bgp_wire.specs.Prelude.{AreOctets}
 use Rattle.bgp_wire.proofs.OctetLemmas.{AreOctets-take}

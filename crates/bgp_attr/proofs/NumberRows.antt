@@ -1,11 +1,7 @@
 -- Rows of numbers, and of large communities: their lengths, their ranges, and that what is written of them is read back.
-use Rattle.std.proofs.Common.{◌≡◌, ℕ, ◌+◌, ◌*◌, ◌%◌, ◌^◌, ◌<◌, Bool, true, false, List, [], ◌∷◌, ◌++◌, length, take, drop, refl, sym, ap, subst, ◌∙◌, inl, inr, lit<, arith}
-use Rattle.std.specs.List.{flat_map, AllByRecursion}
-use Rattle.std.specs.Int.{w16, w32, to_be_bytes, from_be_bytes}
+use Rattle.bgp_wire.proofs.Std.{◌≡◌, ℕ, ◌+◌, ◌*◌, ◌%◌, ◌^◌, ◌<◌, Bool, true, false, List, [], ◌∷◌, ◌++◌, length, take, drop, refl, sym, ap, subst, ◌∙◌, inl, inr, lit<, arith, flat_map, AllByRecursion, w16, w32, to_be_bytes, from_be_bytes, cases_lt, from_be_bytes-to_be_bytes_2, from_be_bytes-to_be_bytes_4, mod-mul-add, take-append-drop, nil_from_length}
 use Rattle.std.proofs.Math.Nat.{mul_comm}
-use Rattle.std.proofs.lemmas.Bool.{cases_lt}
-use Rattle.std.proofs.lemmas.Nat.{from_be_bytes-to_be_bytes_2, from_be_bytes-to_be_bytes_4, mod-mul-add}
-use Rattle.std.proofs.lemmas.List.{append-nil, length-append, length-take, take-append-drop, nil_from_length}
+use Rattle.std.proofs.lemmas.List.{append-nil, length-append, length-take}
 use Rattle.bgp_wire.specs.Prelude.{AreOctets, Row, Splits, pieces}
 use Rattle.bgp_wire.proofs.OctetLemmas.{AreOctets-front, AreOctets-back, AreOctets-take, AreOctets-drop}
 use Rattle.bgp_wire.proofs.Pieces.{Splits-pieces}

@@ -1,6 +1,5 @@
 -- Numbers, triples and segments one after the other, a step at a time.
-use Rattle.std.proofs.Common.{◌≡◌, ℕ, ◌<◌, ◌/◌, Bool, true, false, ◌||◌, List, [], ◌∷◌, length, map, suc, Some, None, arith, refl, sym, ap, ◌∙◌}
-use Rattle.std.specs.List.{list_any}
+use Rattle.bgp_wire.proofs.Std.{◌≡◌, ℕ, ◌<◌, ◌/◌, Bool, true, false, ◌||◌, List, [], ◌∷◌, length, map, suc, Some, None, arith, refl, sym, ap, ◌∙◌, list_any}
 use Rattle.bgp_wire.proofs.Walks.{shorter, first_then, no_more}
 use Rattle.bgp_attr.specs.Prelude.{IsNumber, number_width, one_number, numbers_of, as_number}
 use Rattle.bgp_attr.proofs.Readers.{IsNumber-reads, two_first, four_first}

@@ -1,9 +1,7 @@
 -- Triples, each at its first place alone: nothing is dropped where none repeats, and what is left has no repeats.
-use Rattle.std.proofs.Common.{◌≡◌, ℕ, ◌<◌, ◌≤◌, true, false, ◌||◌, ◌&&◌, eqb, List, [], ◌∷◌, ◌++◌, length, refl, sym, ap, subst, ◌∙◌, append_assoc, arith}
-use Rattle.std.specs.List.{list_any, AllByRecursion}
-use Rattle.std.proofs.lemmas.Bool.{false≢true, both_ways, eqb-true, and_parts, or_parts, or_from, cond-false, cond_both, false_from_ne_true}
+use Rattle.bgp_wire.proofs.Std.{◌≡◌, ℕ, ◌<◌, ◌≤◌, true, false, ◌||◌, ◌&&◌, eqb, List, [], ◌∷◌, ◌++◌, length, refl, sym, ap, subst, ◌∙◌, append_assoc, arith, list_any, AllByRecursion, false≢true, both_ways, and_parts, or_parts, or_from, cond-false, cond_both, false_from_ne_true, list_any-append}
+use Rattle.std.proofs.lemmas.Bool.{eqb-true}
 use Rattle.std.proofs.lemmas.List.{append-nil}
-use Rattle.std.proofs.lemmas.List.Folds.{list_any-append}
 use Rattle.bgp_attr.specs.Prelude.{same_triple, once_behind, each_once, repeats}
 
 -- ---- the test of two triples

@@ -1,10 +1,7 @@
 -- What is written of an attribute is one whole attribute, and is kept as the value that was written.
-use Rattle.std.proofs.Common.{◌≡◌, ℕ, ◌+◌, ◌*◌, ◌%◌, ◌^◌, ◌<◌, ◌≤◌, Bool, true, false, not, cond, eqb, ltb, List, [], ◌∷◌, ◌++◌, length, take, drop, Option, Some, None, refl, sym, ap, ap₂, ◌∙◌, arith}
-use Rattle.std.specs.Int.{w16, to_be_bytes}
-use Rattle.std.specs.List.{flat_map, AllByRecursion}
-use Rattle.std.proofs.lemmas.Bool.{le-ltb, ltb-false, eq-eqb, ne_eqb, or_from, or_left, or_right}
-use Rattle.std.proofs.lemmas.Nat.{from_be_bytes-to_be_bytes_2}
-use Rattle.std.proofs.lemmas.List.{length-append, take_at, drop_at}
+use Rattle.bgp_wire.proofs.Std.{◌≡◌, ℕ, ◌+◌, ◌*◌, ◌%◌, ◌^◌, ◌<◌, ◌≤◌, Bool, true, false, not, cond, eqb, ltb, List, [], ◌∷◌, ◌++◌, length, take, drop, Option, Some, None, refl, sym, ap, ap₂, ◌∙◌, arith, w16, w32, to_be_bytes, flat_map, AllByRecursion, le-ltb, ltb-false, or_from, or_left, or_right, from_be_bytes-to_be_bytes_2, from_be_bytes-to_be_bytes_4, take_at, drop_at}
+use Rattle.std.proofs.lemmas.Bool.{eq-eqb, ne_eqb}
+use Rattle.std.proofs.lemmas.List.{length-append}
 use Rattle.bgp_numbers.specs.declared.attribute.TheConstants.{AGGREGATOR, AS4_AGGREGATOR}
 use Rattle.bgp_numbers.specs.declared.afi.TheConstants.{IPV4, IPV6}
 use Rattle.bgp_prefix.specs.Prelude.{PrefixValue, IsValid}
@@ -17,7 +14,7 @@ use Rattle.bgp_attr.specs.declared.path.AsPath.{AsPath}
 use Rattle.bgp_attr.specs.declared.family.Family.{Family}
 use Rattle.bgp_attr.specs.declared.mp.MpReach.{MpReach}
 use Rattle.bgp_attr.specs.declared.mp.MpUnreach.{MpUnreach}
-use Rattle.bgp_attr.specs.Prelude.{family_of, is_in_use, address_width, is_next_hop_length, next_hop_length, reached_of, mp_reach_of, withdrawn_of, mp_unreach_of, is_extended, has_class, flags_octet, TlvValue, IsTlv, number_of_length, length_octets, number_width, number_in, number_octets, row_octets, triple_octets, each_once, origin_of, as_path_form, as4_path_form, aggregator_of, path_of, has_bad_prefix, mp_reach_tests, mp_unreach_tests, aggregator_tests, AttributeType, is_recognised, judgement, origin_code, IsReach, link_octets, HasLink, IsUnreach, optional_class, made, type_of, written_tlv, canonical, aggregator_octets, reach_row, reach_octets, unreach_row, unreach_octets, path_octets, repeats, IsFourOctets, IsThreeNumbers, is_writable}
+use Rattle.bgp_attr.specs.Prelude.{family_of, is_in_use, address_width, is_next_hop_length, next_hop_length, reached_of, mp_reach_of, withdrawn_of, mp_unreach_of, is_extended, has_class, flags_octet, TlvValue, IsTlv, number_of_length, length_octets, number_width, number_in, number_octets, row_octets, triple_octets, each_once, origin_of, as_path_form, as4_path_form, aggregator_of, path_of, has_bad_prefix, mp_reach_tests, mp_unreach_tests, aggregator_tests, AttributeType, is_recognised, judgement, origin_code, IsReach, link_octets, HasLink, IsUnreach, optional_class, made, type_of, written_tlv, canonical, aggregator_octets, reach_row, reach_octets, unreach_row, unreach_octets, path_octets, repeats, IsFourOctets, IsThreeNumbers, is_writable, four_of, four_tests, is_partial}
 use Rattle.bgp_attr.specs.declared.class.Class.{Class}
 use Rattle.bgp_attr.specs.declared.class.Class.TheVariants.{WellKnown, OptionalNonTransitive, OptionalTransitive}
 use Rattle.bgp_attr.specs.declared.attr.Attr.{Attr}
@@ -71,12 +68,22 @@ flags-right class partial extended = ap not (has_class-flags class partial exten
 is_long : (n : ℕ) (value : List ℕ) → length value ≡ n → not (eqb (length value) n) ≡ false
 is_long n value e = ap not (eq-eqb (length value) n e)
 
+pub four-passes : (class : Class) (partial : Bool) (kind n : ℕ) → NoneApplies (four_tests class (made class partial kind (to_be_bytes w32 n)))
+four-passes class partial kind n = (pass _ _ (flags-right class partial false), (refl, tt))
+
 module _ (ctx : Context) (has_nlri : Bool) where
   abbrev ThisKept : Attr → Type 0
   ThisKept a = judgement ctx has_nlri (written_tlv ctx a) ≡ judged.Keep a
 
   pub this-kept : (a : Attr) → (let type : AttributeType = row_at ctx has_nlri (written_tlv ctx a) (type_of a) in type.value ≡ a → NoneApplies type.tests → ThisKept a)
   this-kept a value none = keeps ctx has_nlri (written_tlv ctx a) _ a (row-at ctx has_nlri (written_tlv ctx a) (type_of a) refl) value none
+
+  -- a number of four octets, in what is made of it and of the Partial bit
+  pub kept-four : (class : Class) (partial : Bool) (as_attr : ℕ → Bool → Attr) (n : ℕ) → IsFourOctets n
+      → (let type : AttributeType = row_at ctx has_nlri (written_tlv ctx (as_attr n partial)) (type_of (as_attr n partial)) in
+      type.value ≡ as_attr (four_of (to_be_bytes w32 n)) (is_partial (flags_octet class partial false)) → NoneApplies type.tests → ThisKept (as_attr n partial))
+  kept-four class partial as_attr n small value none =
+      this-kept (as_attr n partial) (value ∙ (λ i. as_attr (from_be_bytes-to_be_bytes_4 n small i) (is_partial-flags class partial false i))) none
 
   origin-back : (o : Origin) → origin_of (origin_code o ∷ []) ≡ o
   origin-back Igp = refl

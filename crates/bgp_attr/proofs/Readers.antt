@@ -1,9 +1,7 @@
 -- Attributes, numbers, triples and segments are read as they are spelled.
-use Rattle.std.proofs.Common.{◌≡◌, ℕ, ◌<◌, Bool, true, false, cond, List, [], ◌∷◌, ◌++◌, length, take, drop, Option, Some, None, refl, sym, ap, subst, ◌∙◌, append_assoc, arith}
-use Rattle.std.specs.Int.{w16, w32, from_be_bytes}
+use Rattle.bgp_wire.proofs.Std.{◌≡◌, ℕ, ◌<◌, Bool, true, false, cond, List, [], ◌∷◌, ◌++◌, length, take, drop, Option, Some, None, refl, sym, ap, subst, ◌∙◌, append_assoc, arith, w16, w32, from_be_bytes, take_at, drop_at, take-length}
 use Rattle.bgp_wire.specs.Prelude.{Reads, ◌>>=◌, first_octets, behind_count}
-use Rattle.std.proofs.lemmas.List.{length-append, take_at, drop_at, drop-drop}
-use Rattle.std.proofs.Math.Seq.{take-length}
+use Rattle.std.proofs.lemmas.List.{length-append, drop-drop}
 use Rattle.bgp_wire.proofs.Firsts.{both_steps, first_octets-at, first_octets-gives}
 use Rattle.bgp_wire.proofs.Pieces.{found_same, found_not}
 use Rattle.bgp_wire.proofs.Behinds.{BehindCount-reads}

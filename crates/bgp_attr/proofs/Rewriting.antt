@@ -1,8 +1,6 @@
 -- An attribute that is kept can be written where it was read, in no more octets.
-use Rattle.std.proofs.Common.{◌≡◌, ℕ, suc, ◌+◌, ◌^◌, ◌<◌, ◌≤◌, Bool, true, false, not, ◌&&◌, ◌||◌, cond, eqb, ltb, List, [], ◌∷◌, ◌++◌, length, take, drop, Option, Some, None, refl, sym, ap, subst, ◌∙◌, arith}
-use Rattle.std.specs.List.{flat_map, AllByRecursion}
-use Rattle.std.specs.Int.{w16, to_be_bytes, from_be_bytes}
-use Rattle.std.proofs.lemmas.Bool.{eqb-true, ne_eqb, ltb-true, le-ltb, not-false, or_from, or_parts, and_left, and_right}
+use Rattle.bgp_wire.proofs.Std.{◌≡◌, ℕ, suc, ◌+◌, ◌^◌, ◌<◌, ◌≤◌, Bool, true, false, not, ◌&&◌, ◌||◌, cond, eqb, ltb, List, [], ◌∷◌, ◌++◌, length, take, drop, Option, Some, None, refl, sym, ap, subst, ◌∙◌, arith, flat_map, AllByRecursion, w16, to_be_bytes, from_be_bytes, ltb-true, le-ltb, not-false, or_from, or_parts, and_left, and_right}
+use Rattle.std.proofs.lemmas.Bool.{eqb-true, ne_eqb}
 use Rattle.std.proofs.lemmas.List.{length-append, length-drop}
 use Rattle.bgp_numbers.specs.declared.attribute.TheConstants.{COMMUNITIES, MP_REACH_NLRI, MP_UNREACH_NLRI, LARGE_COMMUNITY}
 use Rattle.bgp_open.specs.declared.context.Context.{Context}
@@ -12,7 +10,7 @@ use Rattle.bgp_attr.specs.declared.attr.Attr.{Attr}
 use Rattle.bgp_attr.specs.declared.class.Class.{Class}
 use Rattle.bgp_attr.specs.declared.mp.MpReach.{MpReach}
 use Rattle.bgp_attr.specs.declared.mp.MpUnreach.{MpUnreach}
-use Rattle.bgp_attr.specs.Prelude.{is_extended, flags_octet, TlvValue, number_of_length, IsTlv, number_width, number_in, number_octets, numbers_of, triples_of, each_once, triple_octets, path_of, family_of, is_in_use, mp_reach_of, mp_unreach_of, origin_of, as_path_form, as4_path_form, four_of, aggregator_of, communities_of, large_of, as4_path_of, opaque_of, origin_tests, as_path_tests, next_hop_tests, four_tests, aggregator_tests, communities_tests, mp_reach_tests, mp_unreach_tests, as4_path_tests, as4_aggregator_tests, large_tests, is_recognised, link_octets, HasLink, IsReachValue, IsUnreachValue, made, value_octets, class_of, partial_of, type_of, aggregator_octets, is_too_wide, is_as4, is_empty, is_misnamed, has_as_zero, stands_twice, is_too_long, Belongs, IsThreeNumbers, IsAddress, HasLinkRange, HasRanges, CanBeWritten}
+use Rattle.bgp_attr.specs.Prelude.{is_extended, is_partial, flags_octet, TlvValue, number_of_length, IsTlv, number_width, number_in, number_octets, numbers_of, triples_of, each_once, triple_octets, path_of, family_of, is_in_use, mp_reach_of, mp_unreach_of, origin_of, as_path_form, as4_path_form, four_of, aggregator_of, communities_of, large_of, as4_path_of, opaque_of, origin_tests, as_path_tests, next_hop_tests, four_tests, aggregator_tests, communities_tests, mp_reach_tests, mp_unreach_tests, as4_path_tests, as4_aggregator_tests, large_tests, is_recognised, link_octets, HasLink, IsReachValue, IsUnreachValue, made, value_octets, class_of, partial_of, type_of, aggregator_octets, is_too_wide, is_as4, is_empty, is_misnamed, has_as_zero, stands_twice, is_too_long, Belongs, IsThreeNumbers, IsAddress, HasLinkRange, HasRanges, CanBeWritten}
 use Rattle.bgp_attr.specs.declared.attr.Attr.TheVariants as attr
 use Rattle.bgp_attr.specs.declared.family.Family.TheVariants as family
 use Rattle.bgp_attr.specs.declared.judged.Judged.TheVariants as judged
@@ -85,13 +83,15 @@ module _ (ctx : Context) (has_nlri : Bool) (t : TlvValue) (octets : AreOctets t.
   next_hop-rewritten none =
       plain (attr.NextHop t.value) refl (not-false _ (passed _ _ none.0)) (record { wide = as_long 4 (passed _ _ none.1.1.0); octets = octets }) (omega arith)
 
-  -- a number of four octets, where it has a place
-  pub four-rewritten : (class : Class) (as_attr : ℕ → Attr) → IsPlain (as_attr (four_of t.value)) → length (value_octets ctx (as_attr (four_of t.value))) ≡ 4
-      → (four_of t.value < 2 ^ 32 → HasRanges (as_attr (four_of t.value))) → Belongs ctx has_nlri (as_attr (four_of t.value)) → NoneApplies (four_tests class t)
-      → Rewritten ctx has_nlri t (as_attr (four_of t.value))
+  -- a number of four octets, where it has a place, in what is made of it and of the Partial bit
+  abbrev four_in : (ℕ → Bool → Attr) → Attr
+  four_in as_attr = as_attr (four_of t.value) (is_partial t.flags)
+
+  pub four-rewritten : (class : Class) (as_attr : ℕ → Bool → Attr) → IsPlain (four_in as_attr) → length (value_octets ctx (four_in as_attr)) ≡ 4
+      → (four_of t.value < 2 ^ 32 → HasRanges (four_in as_attr)) → Belongs ctx has_nlri (four_in as_attr) → NoneApplies (four_tests class t) → Rewritten ctx has_nlri t (four_in as_attr)
   four-rewritten class as_attr quiet four small in_place none =
       let long : length t.value ≡ 4 = as_long 4 (passed _ _ none.1.0) in
-      plain (as_attr (four_of t.value)) quiet in_place (small (number_in-small true t.value octets)) (omega (arith, four, long))
+      plain (four_in as_attr) quiet in_place (small (number_in-small true t.value octets)) (omega (arith, four, long))
 
   pub atomic-rewritten : Rewritten ctx has_nlri t attr.Atomic
   atomic-rewritten = plain attr.Atomic refl tt tt (omega arith)

@@ -1,5 +1,5 @@
 -- Whether octets are prefixes alone, as a test.
-use Rattle.std.proofs.Common.{◌≡◌, ℕ, Bool, true, false, not, eqb, List, [], ◌∷◌, length, refl, sym, ap, IsTrue}
+use Rattle.bgp_wire.proofs.Std.{◌≡◌, ℕ, Bool, true, false, not, eqb, List, [], ◌∷◌, length, refl, sym, ap, IsTrue}
 use Rattle.std.proofs.lemmas.Bool.{true≢false}
 use Rattle.std.proofs.Math.Dec.{eqb-suc-zero}
 use Rattle.bgp_prefix.specs.Prelude.{run_of}

@@ -1,7 +1,6 @@
 -- Tables: what holds of each row holds of the entry that is found.
-use Rattle.std.proofs.Common.{◌≡◌, ℕ, Bool, true, false, not, ◌||◌, cond, eqb, List, [], ◌∷◌, inl, inr, refl, sym, ap, subst, ◌∙◌}
-use Rattle.std.specs.List.{list_any}
-use Rattle.std.proofs.lemmas.Bool.{true≢false, false≢true, eqb-true, not-false, or_parts, or_cases}
+use Rattle.bgp_wire.proofs.Std.{◌≡◌, ℕ, Bool, true, false, not, ◌||◌, cond, eqb, List, [], ◌∷◌, map, inl, inr, refl, sym, ap, subst, ◌∙◌, list_any, false≢true, not-false, or_parts, or_cases}
+use Rattle.std.proofs.lemmas.Bool.{true≢false, eqb-true}
 use Rattle.bgp_attr.specs.Prelude.{has_entry, entry_of}
 
 -- a fact for each row
@@ -14,6 +13,14 @@ abbrev pub ◌&◌ : {P Q : Type 0} → P → Q → P × Q
 p & q = (p, q)
 
 infixr 5 ◌&◌
+-- an entry that says the number of its row, as one equation of the whole table tells of each, says that which was looked for
+pub same-back : {A : Type 0} (kind : ℕ) (number : A → ℕ) (rows : List (ℕ × A)) → map (λ row. number row.1) rows ≡ map (λ row. row.0) rows → EachRow (λ k a. kind ≡ k → number a ≡ kind) rows
+same-back kind number [] same = tt
+same-back kind number (row ∷ rows) same =
+    let this : number row.1 ≡ row.0 = cc in
+    let rest : map (λ row. number row.1) rows ≡ map (λ row. row.0) rows = cc in
+    (λ e. this ∙ sym e, same-back kind number rows rest)
+
 module _ {A : Type 0} (kind : ℕ) (other : A) where
   row-or : (P : ℕ → A → Type 0) (row : ℕ × A) (rows : List (ℕ × A)) (b : Bool) → eqb kind row.0 ≡ b → P row.0 row.1
       → ((has_entry kind rows ≡ false → P kind other) → P kind (entry_of kind rows other)) → ((b || has_entry kind rows) ≡ false → P kind other)

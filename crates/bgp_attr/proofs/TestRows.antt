@@ -1,9 +1,8 @@
 -- Tests in their order: what it means that no test applies, and the row of each type. And the reasons why an attribute isn't written,
 -- in theirs.
-use Rattle.std.proofs.Common.{◌≡◌, ℕ, Bool, true, false, ◌&&◌, List, [], ◌∷◌, Option, Some, None, refl, sym, ap, subst, ◌∙◌}
+use Rattle.bgp_wire.proofs.Std.{◌≡◌, ℕ, Bool, true, false, ◌&&◌, List, [], ◌∷◌, Option, Some, None, refl, sym, ap, subst, ◌∙◌, AllByRecursion, false≢true}
 use Rattle.std.specs.Prelude.{option_map, is_none, not, ◌==◌, if◌then◌else◌}
-use Rattle.std.specs.List.{AllByRecursion}
-use Rattle.std.proofs.lemmas.Bool.{true≢false, false≢true}
+use Rattle.std.proofs.lemmas.Bool.{true≢false}
 use Rattle.bgp_numbers.specs.declared.error.TheConstants.{UPDATE_MESSAGE}
 use Rattle.bgp_wire.specs.Prelude.{when}
 use Rattle.bgp_open.specs.declared.context.Context.{Context}
@@ -123,8 +122,8 @@ module _ (ctx : Context) (has_nlri : Bool) (t : TlvValue) where
   judged-at kind e = ap (λ (type : AttributeType). decided type.tests type.value) (row-at kind e)
 
   -- its tests
-  pub tests-at : (kind : ℕ) → t.kind ≡ kind → (a : Attr) → decided (row_at kind).tests a ≡ decided (type_row ctx has_nlri t).tests a
-  tests-at kind e a = ap (λ (type : AttributeType). decided type.tests a) (sym (row-at kind e))
+  pub tests_at : (kind : ℕ) → t.kind ≡ kind → (a : Attr) → decided (row_at kind).tests a ≡ decided (type_row ctx has_nlri t).tests a
+  tests_at kind e a = ap (λ (type : AttributeType). decided type.tests a) (sym (row-at kind e))
 
   pub row-other : is_recognised t.kind ≡ false → type_row ctx has_nlri t ≡ other_type t
   unfolding type_row

@@ -1,9 +1,5 @@
 -- An attribute at the front of octets, as the code cuts it off.
-use Rattle.std.proofs.Common.{◌≡◌, ℕ, suc, ◌+◌, ◌-◌, ◌<◌, ◌≤◌, Bool, true, false, cond, List, [], ◌∷◌, ◌++◌, length, take, drop, Option, Some, None, refl, sym, ap, subst, ◌∙◌, arith}
-use Rattle.std.specs.Int.{w16, to_be_bytes, from_be_bytes}
-use Rattle.std.proofs.Math.Seq.{take-append-add}
-use Rattle.std.proofs.lemmas.Bool.{le-leb, lt-leb}
-use Rattle.std.proofs.lemmas.Nat.{be_bytes_2}
+use Rattle.bgp_wire.proofs.Std.{◌≡◌, ℕ, suc, ◌+◌, ◌-◌, ◌<◌, ◌≤◌, Bool, true, false, cond, List, [], ◌∷◌, ◌++◌, length, take, drop, Option, Some, None, refl, sym, ap, subst, ◌∙◌, arith, w16, to_be_bytes, from_be_bytes, take-append-add, le-leb, lt-leb, be_bytes_2}
 use Rattle.std.proofs.lemmas.List.{length-append, length-take, length-drop}
 use Rattle.bgp_wire.specs.Prelude.{AreOctets, ◌>>=◌, first_octets}
 use Rattle.bgp_wire.proofs.Firsts.{first_octets-at}
@@ -145,6 +141,16 @@ len_pos [] e = refl
 len_pos (x ∷ b) e = absurd (omega arith)
 
 -- fewer than two octets begin no attribute
+pub none_below_three : (b : List ℕ) → length b < 3 → one_tlv b ≡ None
+none_below_three [] lt = tlv_nil 0 0
+none_below_three (flags ∷ []) lt = tlv_one flags 0
+none_below_three (flags ∷ kind ∷ []) lt = tlv_none flags kind [] (no_octets (is_extended flags))
+  where
+    no_octets : (ext : Bool) → None ≡ length_field ext []
+    no_octets true = refl
+    no_octets false = refl
+none_below_three (flags ∷ kind ∷ n ∷ b) lt = absurd (omega (arith, lt))
+
 pub no_flags : (b : List ℕ) → length b ≡ 0 → one_tlv b ≡ None
 no_flags b e = ap one_tlv (len_pos b e) ∙ tlv_nil 0 0
 

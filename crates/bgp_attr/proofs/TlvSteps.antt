@@ -1,6 +1,6 @@
 -- The attributes of a field one after the other, a step at a time.
-use Rattle.std.proofs.Common.{◌≡◌, ℕ, ◌+◌, ◌-◌, ◌≤◌, List, [], ◌∷◌, length, drop, Some, None, option_map, refl, sym, ap, ap₂, ◌∙◌, arith}
-use Rattle.std.proofs.lemmas.List.{length-append, length-drop, drop_at, drop-drop}
+use Rattle.bgp_wire.proofs.Std.{◌≡◌, ℕ, ◌+◌, ◌-◌, ◌≤◌, List, [], ◌∷◌, length, drop, Some, None, option_map, refl, sym, ap, ap₂, ◌∙◌, arith, drop_at}
+use Rattle.std.proofs.lemmas.List.{length-append, length-drop, drop-drop}
 use Rattle.bgp_wire.proofs.Walks.{first_then, no_more, same_rest, shorter}
 use Rattle.bgp_attr.specs.Prelude.{TlvValue, IsTlv, one_tlv, tlvs_of, placed_from, tlv_at}
 use Rattle.bgp_attr.proofs.Readers.{IsTlv-reads}

@@ -1,6 +1,5 @@
 -- An attribute that is written: its head, and then its value.
-use Rattle.std.proofs.Common.{◌≡◌, ℕ, Bool, cond, List, [], ◌∷◌, ◌++◌, length, sym, ap, ◌∙◌, append_assoc}
-use Rattle.std.specs.Int.{w16, to_be_bytes}
+use Rattle.bgp_wire.proofs.Std.{◌≡◌, ℕ, Bool, cond, List, [], ◌∷◌, ◌++◌, length, sym, ap, ◌∙◌, append_assoc, w16, to_be_bytes}
 use Rattle.bgp_attr.specs.declared.class.Class.{Class}
 use Rattle.bgp_attr.specs.Prelude.{is_extended, flags_octet, tlv_octets}
 use Rattle.bgp_attr.proofs.FlagBits.{is_extended-flags}

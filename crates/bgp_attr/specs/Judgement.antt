@@ -1,7 +1,7 @@
 -- The judgement of one attribute, the first of its type in a message (RFC 4271, section 6.3; RFC 7606, sections 3 to 7; RFC 7607).
 -- A row for each type: its tests in their order, each with its answer. The first that applies decides; where none does, the attribute is kept.
 use Rattle.std.specs.Prelude.{ℕ, ◌+◌, ◌%◌, Bool, not, ◌||◌, ◌==◌, nat_lt, List, [], ◌∷◌, length, take, map, slice_index, Option, None, Some, option_map}
-use Rattle.bgp_numbers.specs.declared.attribute.TheConstants.{ORIGIN, AS_PATH, NEXT_HOP, MULTI_EXIT_DISC, LOCAL_PREF, ATOMIC_AGGREGATE, AGGREGATOR, COMMUNITIES, MP_REACH_NLRI, MP_UNREACH_NLRI, AS4_PATH, AS4_AGGREGATOR, LARGE_COMMUNITY}
+use Rattle.bgp_numbers.specs.declared.attribute.TheConstants as attribute
 use Rattle.bgp_numbers.specs.declared.error.TheConstants.{UPDATE_MESSAGE, OPTIONAL_ATTRIBUTE, UNRECOGNIZED_WELL_KNOWN}
 use Rattle.bgp_wire.specs.Prelude.{when}
 use Rattle.bgp_open.specs.declared.context.Context.{Context}
@@ -145,19 +145,20 @@ tested tests value = record { tests = tests; value = value }
 -- a row for each type that is recognised; has_nlri says that the NLRI field of the message isn't empty
 abbrev pub recognised : List (ℕ × (Context → Bool → TlvValue → AttributeType))
 recognised =
-    (ORIGIN, λ ctx has_nlri t. tested (origin_tests t) (attr.Origin (origin_of t.value))) ∷
-    (AS_PATH, λ ctx has_nlri t. tested (as_path_tests ctx t) (attr.AsPath (path_of (as_path_form ctx) t.value))) ∷
-    (NEXT_HOP, λ ctx has_nlri t. tested (next_hop_tests has_nlri t) (attr.NextHop t.value)) ∷
-    (MULTI_EXIT_DISC, λ ctx has_nlri t. tested (four_tests OptionalNonTransitive t) (attr.Med (four_of t.value))) ∷
-    (LOCAL_PREF, λ ctx has_nlri t. tested (internal_tests ctx WellKnown t) (attr.LocalPref (four_of t.value))) ∷
-    (ATOMIC_AGGREGATE, λ ctx has_nlri t. tested (atomic_tests t) attr.Atomic) ∷
-    (AGGREGATOR, λ ctx has_nlri t. tested (aggregator_tests ctx.as4 t) (attr.Aggregator (aggregator_of ctx.as4 t))) ∷
-    (COMMUNITIES, λ ctx has_nlri t. tested (communities_tests t) (attr.Communities (communities_of t))) ∷
-    (MP_REACH_NLRI, λ ctx has_nlri t. tested (mp_reach_tests ctx t) (attr.MpReach (mp_reach_of t.value))) ∷
-    (MP_UNREACH_NLRI, λ ctx has_nlri t. tested (mp_unreach_tests ctx t) (attr.MpUnreach (mp_unreach_of t.value))) ∷
-    (AS4_PATH, λ ctx has_nlri t. tested (as4_path_tests ctx t) (attr.As4Path (as4_path_of t))) ∷
-    (AS4_AGGREGATOR, λ ctx has_nlri t. tested (as4_aggregator_tests ctx t) (attr.As4Aggregator (aggregator_of Bool.true t))) ∷
-    (LARGE_COMMUNITY, λ ctx has_nlri t. tested (large_tests t) (attr.Large (large_of t))) ∷ []
+    (attribute.ORIGIN, λ ctx has_nlri t. tested (origin_tests t) (attr.Origin (origin_of t.value))) ∷
+    (attribute.AS_PATH, λ ctx has_nlri t. tested (as_path_tests ctx t) (attr.AsPath (path_of (as_path_form ctx) t.value))) ∷
+    (attribute.NEXT_HOP, λ ctx has_nlri t. tested (next_hop_tests has_nlri t) (attr.NextHop t.value)) ∷
+    (attribute.MULTI_EXIT_DISC, λ ctx has_nlri t. tested (four_tests OptionalNonTransitive t) (attr.Med (four_of t.value))) ∷
+    (attribute.LOCAL_PREF, λ ctx has_nlri t. tested (internal_tests ctx WellKnown t) (attr.LocalPref (four_of t.value))) ∷
+    (attribute.ATOMIC_AGGREGATE, λ ctx has_nlri t. tested (atomic_tests t) attr.Atomic) ∷
+    (attribute.AGGREGATOR, λ ctx has_nlri t. tested (aggregator_tests ctx.as4 t) (attr.Aggregator (aggregator_of ctx.as4 t))) ∷
+    (attribute.COMMUNITIES, λ ctx has_nlri t. tested (communities_tests t) (attr.Communities (communities_of t))) ∷
+    (attribute.MP_REACH_NLRI, λ ctx has_nlri t. tested (mp_reach_tests ctx t) (attr.MpReach (mp_reach_of t.value))) ∷
+    (attribute.MP_UNREACH_NLRI, λ ctx has_nlri t. tested (mp_unreach_tests ctx t) (attr.MpUnreach (mp_unreach_of t.value))) ∷
+    (attribute.AS4_PATH, λ ctx has_nlri t. tested (as4_path_tests ctx t) (attr.As4Path (as4_path_of t))) ∷
+    (attribute.AS4_AGGREGATOR, λ ctx has_nlri t. tested (as4_aggregator_tests ctx t) (attr.As4Aggregator (aggregator_of Bool.true t))) ∷
+    (attribute.LARGE_COMMUNITY, λ ctx has_nlri t. tested (large_tests t) (attr.Large (large_of t))) ∷
+    []
 
 abbrev pub is_recognised : ℕ → Bool
 is_recognised kind = has_entry kind recognised

@@ -5,7 +5,7 @@ use Rattle.std.specs.List.{flat_map}
 use Rattle.std.specs.Int.{w16, to_be_bytes}
 use Rattle.bgp_numbers.specs.declared.afi.TheConstants.{IPV4, IPV6}
 use Rattle.bgp_numbers.specs.declared.safi.TheConstants.{UNICAST}
-use Rattle.bgp_numbers.specs.declared.attribute.TheConstants.{ORIGIN, AS_PATH, NEXT_HOP, MULTI_EXIT_DISC, LOCAL_PREF, ATOMIC_AGGREGATE, AGGREGATOR, COMMUNITIES, MP_REACH_NLRI, MP_UNREACH_NLRI, AS4_PATH, AS4_AGGREGATOR, LARGE_COMMUNITY}
+use Rattle.bgp_numbers.specs.declared.attribute.TheConstants as attribute
 use Rattle.bgp_open.specs.declared.context.Context.{Context}
 use Rattle.bgp_prefix.specs.Prelude.{PrefixValue, IsPrefix}
 use Rattle.bgp_wire.specs.Prelude.{Row}
@@ -44,7 +44,7 @@ origin_code Egp = 1
 origin_code Incomplete = 2
 
 pub record IsOrigin (o : Origin) (t : TlvValue) : Type 0 where
-  pub of_type : IsOfType ORIGIN WellKnown t
+  pub of_type : IsOfType attribute.ORIGIN WellKnown t
   pub value : t.value ≡ origin_code o ∷ []
 
 -- a row of segments, of which those of confederations are dropped
@@ -54,11 +54,11 @@ pub record IsPath (form : PathForm) (p : AsPath) (b : List ℕ) : Type 0 where
   pub kept : p.segments ≡ flat_map kept_segment segments
 
 pub record IsAsPath (ctx : Context) (p : AsPath) (t : TlvValue) : Type 0 where
-  pub of_type : IsOfType AS_PATH WellKnown t
+  pub of_type : IsOfType attribute.AS_PATH WellKnown t
   pub path : IsPath (as_path_form ctx) p t.value
 
 pub record IsNextHop (addr : List ℕ) (t : TlvValue) : Type 0 where
-  pub of_type : IsOfType NEXT_HOP WellKnown t
+  pub of_type : IsOfType attribute.NEXT_HOP WellKnown t
   pub four : length addr ≡ 4
   pub value : t.value ≡ addr
 
@@ -68,7 +68,7 @@ pub record IsFour (kind : ℕ) (class : Class) (n : ℕ) (t : TlvValue) : Type 0
   pub value : IsNumber true n t.value
 
 pub record IsAtomic (t : TlvValue) : Type 0 where
-  pub of_type : IsOfType ATOMIC_AGGREGATE WellKnown t
+  pub of_type : IsOfType attribute.ATOMIC_AGGREGATE WellKnown t
   pub value : t.value ≡ []
 
 -- an AS number and an address
@@ -81,14 +81,14 @@ pub record IsAggregator (kind : ℕ) (wide : Bool) (a : Aggregator) (t : TlvValu
   pub partial : a.partial ≡ is_partial t.flags
 
 pub record IsCommunities (c : Communities) (t : TlvValue) : Type 0 where
-  pub of_type : IsOfType COMMUNITIES OptionalTransitive t
+  pub of_type : IsOfType attribute.COMMUNITIES OptionalTransitive t
   pub row : Row (IsNumber true) c.values t.value
   pub some : 0 < length c.values
   pub partial : c.partial ≡ is_partial t.flags
 
 -- a row of triples, each kept at its first place alone (RFC 8092, section 3)
 pub record IsLarge (l : LargeCommunities) (t : TlvValue) : Type 0 where
-  pub of_type : IsOfType LARGE_COMMUNITY OptionalTransitive t
+  pub of_type : IsOfType attribute.LARGE_COMMUNITY OptionalTransitive t
   pub triples : List (List ℕ)
   pub row : Row IsTriple triples t.value
   pub some : 0 < length triples
@@ -115,7 +115,7 @@ IsReachValue (reach.Ip4 hop routes) b = (length hop ≡ 4) × IsReach IPV4 4 hop
 IsReachValue (reach.Ip6 hop link routes) b = (length hop ≡ 16) × HasLink link × IsReach IPV6 16 (hop ++ link_octets link) routes b
 
 pub record IsMpReach (r : MpReach) (t : TlvValue) : Type 0 where
-  pub of_type : IsOfType MP_REACH_NLRI OptionalNonTransitive t
+  pub of_type : IsOfType attribute.MP_REACH_NLRI OptionalNonTransitive t
   pub value : IsReachValue r t.value
 
 -- a family and a row of prefixes
@@ -129,11 +129,11 @@ IsUnreachValue (unreach.Ip4 routes) b = IsUnreach IPV4 4 routes b
 IsUnreachValue (unreach.Ip6 routes) b = IsUnreach IPV6 16 routes b
 
 pub record IsMpUnreach (r : MpUnreach) (t : TlvValue) : Type 0 where
-  pub of_type : IsOfType MP_UNREACH_NLRI OptionalNonTransitive t
+  pub of_type : IsOfType attribute.MP_UNREACH_NLRI OptionalNonTransitive t
   pub value : IsUnreachValue r t.value
 
 pub record IsAs4Path (p : As4Path) (t : TlvValue) : Type 0 where
-  pub of_type : IsOfType AS4_PATH OptionalTransitive t
+  pub of_type : IsOfType attribute.AS4_PATH OptionalTransitive t
   pub path : IsPath as4_path_form p.path t.value
   pub partial : p.partial ≡ is_partial t.flags
 
@@ -151,14 +151,14 @@ abbrev pub Spells : Context → TlvValue → Attr → Type 0
 Spells ctx t (attr.Origin o) = IsOrigin o t
 Spells ctx t (attr.AsPath p) = IsAsPath ctx p t
 Spells ctx t (attr.NextHop addr) = IsNextHop addr t
-Spells ctx t (attr.Med n) = IsFour MULTI_EXIT_DISC OptionalNonTransitive n t
-Spells ctx t (attr.LocalPref n) = IsFour LOCAL_PREF WellKnown n t
+Spells ctx t (attr.Med n) = IsFour attribute.MULTI_EXIT_DISC OptionalNonTransitive n t
+Spells ctx t (attr.LocalPref n) = IsFour attribute.LOCAL_PREF WellKnown n t
 Spells ctx t attr.Atomic = IsAtomic t
-Spells ctx t (attr.Aggregator a) = IsAggregator AGGREGATOR ctx.as4 a t
+Spells ctx t (attr.Aggregator a) = IsAggregator attribute.AGGREGATOR ctx.as4 a t
 Spells ctx t (attr.Communities c) = IsCommunities c t
 Spells ctx t (attr.MpReach r) = IsMpReach r t
 Spells ctx t (attr.MpUnreach r) = IsMpUnreach r t
 Spells ctx t (attr.As4Path p) = IsAs4Path p t
-Spells ctx t (attr.As4Aggregator a) = IsAggregator AS4_AGGREGATOR true a t
+Spells ctx t (attr.As4Aggregator a) = IsAggregator attribute.AS4_AGGREGATOR true a t
 Spells ctx t (attr.Large l) = IsLarge l t
 Spells ctx t (attr.Opaque o) = IsOpaque o t

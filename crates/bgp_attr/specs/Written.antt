@@ -5,7 +5,7 @@ use Rattle.std.specs.Int.{w16, w32, to_be_bytes}
 use Rattle.bgp_numbers.specs.declared.afi.TheConstants.{IPV4, IPV6}
 use Rattle.bgp_numbers.specs.declared.safi.TheConstants.{UNICAST}
 use Rattle.bgp_numbers.specs.declared.segment.TheConstants.{SET, SEQUENCE}
-use Rattle.bgp_numbers.specs.declared.attribute.TheConstants.{ORIGIN, AS_PATH, NEXT_HOP, MULTI_EXIT_DISC, LOCAL_PREF, ATOMIC_AGGREGATE, AGGREGATOR, COMMUNITIES, MP_REACH_NLRI, MP_UNREACH_NLRI, AS4_PATH, AS4_AGGREGATOR, LARGE_COMMUNITY}
+use Rattle.bgp_numbers.specs.declared.attribute.TheConstants as attribute
 use Rattle.bgp_open.specs.declared.context.Context.{Context}
 use Rattle.bgp_prefix.specs.Prelude.{PrefixValue, IsValid, spelling_of}
 use Rattle.bgp_wire.specs.Prelude.{AreOctets}
@@ -79,19 +79,19 @@ abbrev pub optional_class : Bool → Class
 optional_class transitive = if transitive then OptionalTransitive else OptionalNonTransitive
 
 abbrev pub form_of : Attr → Form
-form_of (attr.Origin o) = form ORIGIN WellKnown false (λ wide. origin_code o ∷ [])
-form_of (attr.AsPath p) = form AS_PATH WellKnown false (λ wide. path_octets wide p)
-form_of (attr.NextHop addr) = form NEXT_HOP WellKnown false (λ wide. addr)
-form_of (attr.Med n) = form MULTI_EXIT_DISC OptionalNonTransitive false (λ wide. to_be_bytes w32 n)
-form_of (attr.LocalPref n) = form LOCAL_PREF WellKnown false (λ wide. to_be_bytes w32 n)
-form_of attr.Atomic = form ATOMIC_AGGREGATE WellKnown false (λ wide. [])
-form_of (attr.Aggregator a) = form AGGREGATOR OptionalTransitive a.partial (λ wide. aggregator_octets wide a)
-form_of (attr.Communities c) = form COMMUNITIES OptionalTransitive c.partial (λ wide. row_octets true c.values)
-form_of (attr.MpReach r) = form MP_REACH_NLRI OptionalNonTransitive false (λ wide. reach_octets r)
-form_of (attr.MpUnreach r) = form MP_UNREACH_NLRI OptionalNonTransitive false (λ wide. unreach_octets r)
-form_of (attr.As4Path p) = form AS4_PATH OptionalTransitive p.partial (λ wide. path_octets true p.path)
-form_of (attr.As4Aggregator a) = form AS4_AGGREGATOR OptionalTransitive a.partial (λ wide. aggregator_octets true a)
-form_of (attr.Large l) = form LARGE_COMMUNITY OptionalTransitive l.partial (λ wide. flat_map triple_octets l.values)
+form_of (attr.Origin o) = form attribute.ORIGIN WellKnown false (λ wide. origin_code o ∷ [])
+form_of (attr.AsPath p) = form attribute.AS_PATH WellKnown false (λ wide. path_octets wide p)
+form_of (attr.NextHop addr) = form attribute.NEXT_HOP WellKnown false (λ wide. addr)
+form_of (attr.Med n) = form attribute.MULTI_EXIT_DISC OptionalNonTransitive false (λ wide. to_be_bytes w32 n)
+form_of (attr.LocalPref n) = form attribute.LOCAL_PREF WellKnown false (λ wide. to_be_bytes w32 n)
+form_of attr.Atomic = form attribute.ATOMIC_AGGREGATE WellKnown false (λ wide. [])
+form_of (attr.Aggregator a) = form attribute.AGGREGATOR OptionalTransitive a.partial (λ wide. aggregator_octets wide a)
+form_of (attr.Communities c) = form attribute.COMMUNITIES OptionalTransitive c.partial (λ wide. row_octets true c.values)
+form_of (attr.MpReach r) = form attribute.MP_REACH_NLRI OptionalNonTransitive false (λ wide. reach_octets r)
+form_of (attr.MpUnreach r) = form attribute.MP_UNREACH_NLRI OptionalNonTransitive false (λ wide. unreach_octets r)
+form_of (attr.As4Path p) = form attribute.AS4_PATH OptionalTransitive p.partial (λ wide. path_octets true p.path)
+form_of (attr.As4Aggregator a) = form attribute.AS4_AGGREGATOR OptionalTransitive a.partial (λ wide. aggregator_octets true a)
+form_of (attr.Large l) = form attribute.LARGE_COMMUNITY OptionalTransitive l.partial (λ wide. flat_map triple_octets l.values)
 form_of (attr.Opaque o) = form o.kind (optional_class o.transitive) o.partial (λ wide. o.value)
 
 abbrev pub type_of : Attr → ℕ

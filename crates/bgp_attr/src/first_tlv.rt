@@ -26,6 +26,10 @@ pub(crate) fn first_tlv(at: usize, octets: &[u8]) -> Option<(Tlv<'_>, &[u8])>
     ensures found { option_map (λ x. (tlv_value x.0, x.1.now)) result ≡ one_tlv octets.now }
     ensures at { IfSome result (λ x. x.0.at ≡ at) }
 {
+    // An attribute has three octets at least: one test, in place of one for each.
+    if octets.len() < 3 {
+        return None;
+    }
     let (flags, rest) = octets.split_first()?;
     let (kind, rest) = rest.split_first()?;
     let flags = Flags(*flags);

@@ -29,7 +29,7 @@ use std::alloc::{AllocError, Global};
 /// (RFC 4271, section 6.3; RFC 7606, sections 3 to 7; RFC 7607). The attribute has at most 4075 octets, as each of a message has.
 ///
 /// `has_nlri` says that the NLRI field of the message isn't empty.
-#[tactic(auto, unfolding(crate::specs::Judgement::type_row))]
+#[tactic(auto, using(crate::proofs::TestRows::tests_at), unfolding(crate::specs::Judgement::type_row))]
 #[inline(always)]
 pub fn rule(ctx: &Context, has_nlri: bool, tlv: &Tlv<'_>) -> Ruling
     ensures { (a : Attr) → ruled result tlv.now.whole.now a ≡ decided (type_row ctx.now has_nlri (tlv_value tlv.now)).tests a }
@@ -132,19 +132,19 @@ pub fn is_recognised(kind: u8) -> bool
     ensures { result ≡ is_recognised kind }
 {
     match kind {
-        attribute::ORIGIN
-        | attribute::AS_PATH
-        | attribute::NEXT_HOP
-        | attribute::MULTI_EXIT_DISC
-        | attribute::LOCAL_PREF
-        | attribute::ATOMIC_AGGREGATE
-        | attribute::AGGREGATOR
-        | attribute::COMMUNITIES
-        | attribute::MP_REACH_NLRI
-        | attribute::MP_UNREACH_NLRI
-        | attribute::AS4_PATH
-        | attribute::AS4_AGGREGATOR
-        | attribute::LARGE_COMMUNITY => true,
+        attribute::ORIGIN => true,
+        attribute::AS_PATH => true,
+        attribute::NEXT_HOP => true,
+        attribute::MULTI_EXIT_DISC => true,
+        attribute::LOCAL_PREF => true,
+        attribute::ATOMIC_AGGREGATE => true,
+        attribute::AGGREGATOR => true,
+        attribute::COMMUNITIES => true,
+        attribute::MP_REACH_NLRI => true,
+        attribute::MP_UNREACH_NLRI => true,
+        attribute::AS4_PATH => true,
+        attribute::AS4_AGGREGATOR => true,
+        attribute::LARGE_COMMUNITY => true,
         _ => false,
     }
 }

@@ -30,10 +30,14 @@ impl<'a> TlvIter<'a> {
     }
 
     /// What stands behind the last attribute: the same, however many have been given.
+    #[inline(always)]
     pub fn tail(&self) -> Tail<'a>
         ensures { IsTail (rest_left self.now) result }
     {
         let (_, left) = self.field.split_at(self.at);
+        if left.is_empty() {
+            return Tail::End;
+        }
         let rest = skip_tlvs(left);
         if rest.is_empty() {
             Tail::End

@@ -1,10 +1,10 @@
 -- An OPEN with the capabilities that are understood alone: it can be written where the OPEN was read, says the same, and stays so.
-use Rattle.std.proofs.Common.{◌≡◌, ℕ, zero, suc, ◌<◌, ◌≤◌, ◌^◌, Bool, true, false, ◌||◌, cond, eqb, ltb, List, [], ◌∷◌, ◌++◌, length, Option, Some, None, refl, sym, ap, ap₂, subst, ◌∙◌, arith}
+use Rattle.bgp_wire.proofs.Std.{◌≡◌, ℕ, zero, suc, ◌<◌, ◌≤◌, ◌^◌, Bool, true, false, ◌||◌, cond, eqb, List, [], ◌∷◌, ◌++◌, length, Option, Some, refl, sym, ap, ap₂, subst, ◌∙◌, arith, w16, w32, from_be_bytes, list_any, AllByRecursion, or_parts}
 use Rattle.std.specs.Prelude.{unwrap_or}
-use Rattle.std.specs.Int.{w16, w32, from_be_bytes}
-use Rattle.std.specs.List.{list_any, AllByRecursion}
-use Rattle.std.proofs.lemmas.Bool.{true≢false, or_parts, or_from, le-ltb, ltb-false}
+use Rattle.std.proofs.lemmas.Bool.{true≢false}
 use Rattle.std.proofs.lemmas.List.{length-append}
+use Rattle.std.proofs.lemmas.Option.{same_Some, none-some}
+use Rattle.bgp_clean.proofs.Understood.{row-shorter}
 use Rattle.bgp_numbers.specs.declared.afi.TheConstants.{IPV4, IPV6}
 use Rattle.bgp_numbers.specs.declared.capability.TheConstants.{MULTIPROTOCOL, FOUR_OCTET_AS}
 use Rattle.bgp_numbers.specs.declared.parameter.TheConstants.{CAPABILITIES}
@@ -13,8 +13,8 @@ use Rattle.bgp_wire.proofs.OctetLemmas.{AreOctets-front, AreOctets-back, AreOcte
 use Rattle.bgp_open.specs.declared.capability.Capability.{Capability}
 use Rattle.bgp_open.specs.declared.capability.Capability.TheVariants.{Multi, As4, Other}
 use Rattle.bgp_open.specs.declared.message.Open.{Open}
-use Rattle.bgp_open.specs.Prelude.{peer_as_of, multi_of, as4_of, IsCapability, is_short_hold, is_zero_id, parameters_of, joined, IsOpen, IsParameter, first_as4, is_unicast, capability_octets, row_octets, parameter_octets, canonical, is_misnamed, is_bad_row, is_bad, HasRange, HasRanges}
-use Rattle.bgp_update.proofs.Lists.{all-none, none-all, all-append}
+use Rattle.bgp_open.specs.Prelude.{peer_as_of, multi_of, as4_of, IsCapability, parameters_of, joined, IsOpen, IsParameter, first_as4, is_unicast, row_octets, parameter_octets, canonical, HasRange, HasRanges}
+use Rattle.bgp_update.proofs.Lists.{all-append}
 use Rattle.bgp_clean.specs.Prelude.{Seen, none_seen, goes_on, seen_behind, understood_behind, understood, cleaned_open, is_multi, lacks_family}
 
 -- ---- those that are understood
@@ -56,15 +56,6 @@ understood-all P seen (c ∷ later) all = by (goes_on seen c) (understood-all P 
         → AllByRecursion P (cond t (c ∷ understood_behind (seen_behind seen c) later) (understood_behind (seen_behind seen c) later))
     by true rest = (all.0, rest)
     by false rest = rest
-
-understood-shorter : (seen : Seen) (caps : List Capability) → length (row_octets (understood_behind seen caps)) ≤ length (row_octets caps)
-understood-shorter seen [] = omega arith
-understood-shorter seen (c ∷ later) = by (understood_behind (seen_behind seen c) later) (goes_on seen c) (understood-shorter (seen_behind seen c) later)
-  where
-    by : (rest : List Capability) (t : Bool) → length (row_octets rest) ≤ length (row_octets later)
-        → length (row_octets (cond t (c ∷ rest) rest)) ≤ length (row_octets (c ∷ later))
-    by rest true le = omega (arith, length-append (capability_octets c) (row_octets rest), length-append (capability_octets c) (row_octets later))
-    by rest false le = omega (arith, length-append (capability_octets c) (row_octets later))
 
 -- ---- what they say
 
@@ -137,34 +128,28 @@ four-small b octets = omega (arith, octets 0, octets 1, octets 2, octets 3)
 abbrev one : Capability → Option Capability
 one c = Some c
 
-same : (c d : Capability) → one c ≡ one d → c ≡ d
-same c d e = cc
-
-not_one : (c : Capability) → None ≡ one c → ⊥
-not_one c e = absurd cc
-
 multi-range : (value : List ℕ) (c : Capability) → AreOctets value → multi_of value ≡ Some c → HasRange c
 multi-range (high ∷ low ∷ reserved ∷ subsequent ∷ []) c octets e =
-    subst HasRange (same _ c e) (two-small (high ∷ low ∷ []) (AreOctets-front (high ∷ low ∷ []) (reserved ∷ subsequent ∷ []) octets), octets 3)
-multi-range [] c octets e = absurd (not_one c e)
-multi-range (a ∷ []) c octets e = absurd (not_one c e)
-multi-range (a ∷ b ∷ []) c octets e = absurd (not_one c e)
-multi-range (a ∷ b ∷ d ∷ []) c octets e = absurd (not_one c e)
-multi-range (a ∷ b ∷ d ∷ f ∷ g ∷ more) c octets e = absurd (not_one c e)
+    subst HasRange (same_Some _ c e) (two-small (high ∷ low ∷ []) (AreOctets-front (high ∷ low ∷ []) (reserved ∷ subsequent ∷ []) octets), octets 3)
+multi-range [] c octets e = absurd (none-some c e)
+multi-range (a ∷ []) c octets e = absurd (none-some c e)
+multi-range (a ∷ b ∷ []) c octets e = absurd (none-some c e)
+multi-range (a ∷ b ∷ d ∷ []) c octets e = absurd (none-some c e)
+multi-range (a ∷ b ∷ d ∷ f ∷ g ∷ more) c octets e = absurd (none-some c e)
 
 as4-range : (value : List ℕ) (c : Capability) → AreOctets value → as4_of value ≡ Some c → HasRange c
-as4-range (x ∷ y ∷ z ∷ w ∷ []) c octets e = subst HasRange (same _ c e) (four-small (x ∷ y ∷ z ∷ w ∷ []) octets)
-as4-range [] c octets e = absurd (not_one c e)
-as4-range (a ∷ []) c octets e = absurd (not_one c e)
-as4-range (a ∷ b ∷ []) c octets e = absurd (not_one c e)
-as4-range (a ∷ b ∷ d ∷ []) c octets e = absurd (not_one c e)
-as4-range (a ∷ b ∷ d ∷ f ∷ g ∷ more) c octets e = absurd (not_one c e)
+as4-range (x ∷ y ∷ z ∷ w ∷ []) c octets e = subst HasRange (same_Some _ c e) (four-small (x ∷ y ∷ z ∷ w ∷ []) octets)
+as4-range [] c octets e = absurd (none-some c e)
+as4-range (a ∷ []) c octets e = absurd (none-some c e)
+as4-range (a ∷ b ∷ []) c octets e = absurd (none-some c e)
+as4-range (a ∷ b ∷ d ∷ []) c octets e = absurd (none-some c e)
+as4-range (a ∷ b ∷ d ∷ f ∷ g ∷ more) c octets e = absurd (none-some c e)
 
 range-by : (code : ℕ) (value : List ℕ) (c : Capability) (t u : Bool) → code < 256 → AreOctets value
     → cond t (multi_of value) (cond u (as4_of value) (one (Other code value))) ≡ Some c → HasRange c
 range-by code value c true u small octets e = multi-range value c octets e
 range-by code value c false true small octets e = as4-range value c octets e
-range-by code value c false false small octets e = subst HasRange (same (Other code value) c e) (small, octets)
+range-by code value c false false small octets e = subst HasRange (same_Some (Other code value) c e) (small, octets)
 
 capability-range : (c : Capability) (b : List ℕ) → AreOctets b → IsCapability c b → HasRange c
 capability-range c b octets s =
@@ -216,24 +201,13 @@ module _ (o : Open) where
   pub cleaned-ranges : HasRanges o → HasRanges (cleaned_open o)
   cleaned-ranges r = record { as_field = r.as_field; hold = r.hold; id = r.id; id_octets = r.id_octets; caps = understood-all HasRange none_seen o.caps r.caps }
 
-  pub cleaned-good : is_bad o ≡ false → is_bad (cleaned_open o) ≡ false
-  cleaned-good good =
-      let hold = or_parts (is_short_hold o.hold) (is_zero_id o.id || is_bad_row o.caps) good in
-      let id = or_parts (is_zero_id o.id) (is_bad_row o.caps) hold.1 in
-      let row = or_parts (ltb 253 (length (row_octets o.caps))) (list_any is_misnamed o.caps) id.1 in
-      let few : length (row_octets (understood o.caps)) ≤ 253 = omega (arith, understood-shorter none_seen o.caps, ltb-false 253 (length (row_octets o.caps)) row.0) in
-      or_from (is_short_hold o.hold) (is_zero_id o.id || is_bad_row (understood o.caps)) hold.0
-      (or_from (is_zero_id o.id) (is_bad_row (understood o.caps)) id.0
-      (or_from (ltb 253 (length (row_octets (understood o.caps)))) (list_any is_misnamed (understood o.caps)) (le-ltb _ _ few)
-      (all-none is_misnamed (understood o.caps) (understood-all (λ c. is_misnamed c ≡ false) none_seen o.caps (none-all is_misnamed o.caps row.1)))))
-
   pub cleaned-shorter : length (canonical (cleaned_open o)) ≤ length (canonical o)
   cleaned-shorter =
       let row : List ℕ = row_octets o.caps in
       let fewer : List ℕ = row_octets (understood o.caps) in
       omega (
         arith,
-        parameter-shorter fewer row (understood-shorter none_seen o.caps),
+        parameter-shorter fewer row (row-shorter none_seen o.caps),
         length-append o.id (length (parameter_octets row) ∷ parameter_octets row),
         length-append o.id (length (parameter_octets fewer) ∷ parameter_octets fewer),
       )

@@ -1,9 +1,8 @@
 -- Which UPDATEs are an End-of-RIB: what is taken of one, and what is read where one was written.
-use Rattle.std.proofs.Common.{◌≡◌, ℕ, ◌+◌, ◌≤◌, Bool, true, false, not, ◌&&◌, ◌||◌, cond, eqb, List, [], ◌∷◌, ◌++◌, length, Option, Some, None, refl, sym, ap, subst, ◌∙◌, arith}
+use Rattle.bgp_wire.proofs.Std.{◌≡◌, ℕ, ◌+◌, ◌≤◌, Bool, true, false, not, ◌&&◌, ◌||◌, cond, eqb, List, [], ◌∷◌, ◌++◌, length, Option, Some, None, refl, sym, ap, subst, ◌∙◌, arith, flat_map, list_any, AllByRecursion, both_ways, or_parts, not-false, nil_from_length}
 use Rattle.std.specs.Prelude.{is_some}
-use Rattle.std.specs.List.{flat_map, list_any, AllByRecursion}
-use Rattle.std.proofs.lemmas.Bool.{both_ways, eqb-true, or_parts, not-false}
-use Rattle.std.proofs.lemmas.List.{nil_from_length}
+use Rattle.std.proofs.lemmas.Bool.{eqb-true}
+use Rattle.std.proofs.lemmas.Option.{none-some}
 use Rattle.bgp_numbers.specs.declared.afi.TheConstants.{IPV4}
 use Rattle.bgp_open.specs.declared.context.Context.{Context}
 use Rattle.bgp_prefix.specs.Prelude.{PrefixValue, run_of}
@@ -57,25 +56,22 @@ pub record IsEnding (u : Update) (family : ℕ) : Type 0 where
 
 -- ---- what is taken of an End-of-RIB
 
-not_some : (f : ℕ) → None ≡ Some f → ⊥
-not_some f e = absurd cc
-
 bare-unreach : (x : Attr) (f : ℕ) → bare_family x ≡ Some f → (r : MpUnreach) × (x ≡ attr.MpUnreach r)
 bare-unreach (attr.MpUnreach r) f e = (r, refl)
-bare-unreach x f e = absurd (not_some f e)
+bare-unreach x f e = absurd (none-some f e)
 
 kept-bare : (ks : List Attr) (f : ℕ) → family_of_kept ks ≡ Some f → (r : MpUnreach) × (ks ≡ attr.MpUnreach r ∷ []) × (bare_family (attr.MpUnreach r) ≡ Some f)
-kept-bare [] f e = absurd (not_some f e)
+kept-bare [] f e = absurd (none-some f e)
 kept-bare (x ∷ []) f e =
     let is = bare-unreach x f e in
     (is.0, ap (λ (y : Attr). y ∷ []) is.1, ap bare_family (sym is.1) ∙ e)
-kept-bare (x ∷ y ∷ ks) f e = absurd (not_some f e)
+kept-bare (x ∷ y ∷ ks) f e = absurd (none-some f e)
 
 marks-end : (ms : List Mark) (f : ℕ) → family_of_marks ms ≡ Some f → (o : Option MpUnreach) × (attrs_of (kept_of ms) ≡ with_unreach o) × (family_of_end o ≡ Some f)
 unfolding attrs_from
 marks-end [] f e = (None, refl, e)
 marks-end (m ∷ []) f e = let bare = kept-bare (kept_of (m ∷ [])) f e in (Some bare.0, ap attrs_of bare.1, bare.2)
-marks-end (m ∷ n ∷ ms) f e = absurd (not_some f e)
+marks-end (m ∷ n ∷ ms) f e = absurd (none-some f e)
 
 run-none : (b : List ℕ) → eqb (length b) 0 ≡ true → (run_of 4 b).0 ≡ []
 run-none b e =
@@ -93,8 +89,8 @@ module _ (ctx : Context) (p : Parts) (f : ℕ) where
   ending-by true true no_w no_n e =
       let end = marks-end (marks_of ctx p) f e in
       record { unreach = end.0; is = same-update _ _ _ _ (run-none p.withdrawn no_w) end.1 (run-none p.nlri no_n); of_family = end.2 }
-  ending-by true false no_w no_n e = absurd (not_some f e)
-  ending-by false n no_w no_n e = absurd (not_some f e)
+  ending-by true false no_w no_n e = absurd (none-some f e)
+  ending-by false n no_w no_n e = absurd (none-some f e)
 
   pub ending : end_of_rib ctx p ≡ Some f → IsEnding (update_of p (marks_of ctx p)) f
   ending e = ending-by (eqb (length p.withdrawn) 0) (eqb (length p.nlri) 0) refl refl e

@@ -1,8 +1,8 @@
 -- What is handed on of a message is clean, kind by kind.
-use Rattle.std.proofs.Common.{◌≡◌, ℕ, ◌+◌, ◌≤◌, Bool, true, false, not, ◌||◌, cond, List, [], length, Option, Some, None, Result, Ok, Err, refl, sym, ap, ap₂, subst, ◌∙◌, arith}
+use Rattle.bgp_wire.proofs.Std.{◌≡◌, ℕ, ◌+◌, ◌≤◌, Bool, true, false, not, ◌||◌, cond, List, [], length, Option, Some, None, Result, Ok, Err, refl, sym, ap, ap₂, subst, ◌∙◌, arith, not_from_false}
 use Rattle.std.specs.Prelude.{is_some}
-use Rattle.std.proofs.lemmas.Bool.{not_from_false}
 use Rattle.std.proofs.lemmas.List.{length-drop}
+use Rattle.bgp_clean.proofs.Understood.{understood_good}
 use Rattle.bgp_wire.specs.Prelude.{AreOctets}
 use Rattle.bgp_wire.proofs.OctetLemmas.{AreOctets-back}
 use Rattle.bgp_frame.specs.declared.kind.Kind.{Kind}
@@ -40,16 +40,16 @@ use Rattle.bgp_clean.specs.declared.fault.CleanFault.TheVariants as fault
 use Rattle.bgp_clean.proofs.Dropped.{dropped-written, dropped-again}
 use Rattle.bgp_clean.proofs.Ends.{IsEnding, end_update, taken-ending, unending, written-end}
 use Rattle.bgp_clean.proofs.Lessons.{nothing-learned, cleaned-learned, withdrawal-learned}
-use Rattle.bgp_clean.proofs.CleanedOpens.{read-ranges, cleaned-ranges, cleaned-good, cleaned-shorter, cleaned-again, cleaned-lacks_none, cleaned-peer_as}
+use Rattle.bgp_clean.proofs.CleanedOpens.{read-ranges, cleaned-ranges, cleaned-shorter, cleaned-again, cleaned-lacks_none, cleaned-peer_as}
 use Rattle.bgp_clean.proofs.Withdrawals.{withdrawal-written}
 
 abbrev ok : Message → Result Message CleanFault
 ok n = Ok n
 
-ok-same : (m n : Message) → ok m ≡ ok n → m ≡ n
+pub ok-same : (m n : Message) → ok m ≡ ok n → m ≡ n
 ok-same m n e = cc
 
-not_ok : (f : CleanFault) (n : Message) → Err f ≡ ok n → ⊥
+pub not_ok : (f : CleanFault) (n : Message) → Err f ≡ ok n → ⊥
 not_ok f n e = absurd cc
 
 abbrev framed : Kind → List ℕ → frame.Message
@@ -105,7 +105,7 @@ module _ (ctx : Context) (drops : ℕ → Bool) (first : Bool) (body octets : Li
       let n : Message = message.Open (cleaned_open o) in
       let inside : AreOctets body = body-octets ctx drops first kind.Open body octets are f in
       let spelled = reading-spells body (omega (arith, long ctx drops first kind.Open body octets are f, f.allowed.least)) o e in
-      let good = cleaned-good o (read-good o body inside spelled) in
+      let good = understood_good o (read-good o body inside spelled) in
       let w : IsWritten ctx (framed kind.Open body) n =
       is-written ctx drops first kind.Open body octets are f n (cleaned-ranges o (read-ranges o body inside spelled))
       (ap (λ (t : Bool). cond t (some_invalid invalid.BadOpen) None) good) (omega (arith, cleaned-shorter o, read-short o body inside spelled)) in

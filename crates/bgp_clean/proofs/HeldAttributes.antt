@@ -1,9 +1,7 @@
 -- The attributes that are kept of a message, whatever its verdict: each is within its ranges and belongs there, and the field has as many octets or more.
-use Rattle.std.proofs.Common.{◌≡◌, ℕ, ◌+◌, ◌≤◌, Bool, List, ◌∷◌, ◌++◌, length, refl, ap, ◌∙◌, arith}
-use Rattle.std.specs.List.{flat_map, filter, AllByRecursion}
+use Rattle.bgp_wire.proofs.Std.{◌≡◌, ℕ, ◌+◌, ◌≤◌, Bool, List, ◌∷◌, ◌++◌, length, refl, ap, ◌∙◌, arith, flat_map, filter, AllByRecursion, flat_map-append}
 use Rattle.std.specs.Prelude.{not}
 use Rattle.std.proofs.lemmas.List.{length-append}
-use Rattle.std.proofs.lemmas.List.Concat.{flat_map-append}
 use Rattle.bgp_numbers.specs.declared.attribute.TheConstants.{MP_REACH_NLRI, MP_UNREACH_NLRI}
 use Rattle.bgp_wire.specs.Prelude.{AreOctets}
 use Rattle.bgp_open.specs.declared.context.Context.{Context}

@@ -1,7 +1,5 @@
 -- An OPEN with the capabilities that are understood alone is valid where the whole one is.
-use Rattle.std.proofs.Common.{◌≡◌, ℕ, ◌+◌, ◌≤◌, Bool, true, false, ◌||◌, cond, ltb, List, [], ◌∷◌, length, refl, arith}
-use Rattle.std.specs.List.{list_any}
-use Rattle.std.proofs.lemmas.Bool.{false≢true, or_parts, or_from, ltb-false, le-ltb}
+use Rattle.bgp_wire.proofs.Std.{◌≡◌, ℕ, ◌+◌, ◌≤◌, Bool, true, false, ◌||◌, cond, ltb, List, [], ◌∷◌, length, refl, arith, list_any, false≢true, or_parts, or_from, ltb-false, le-ltb}
 use Rattle.std.proofs.lemmas.List.{length-append}
 use Rattle.bgp_numbers.specs.declared.afi.TheConstants.{IPV4, IPV6}
 use Rattle.bgp_open.specs.declared.capability.Capability.{Capability}
@@ -17,7 +15,7 @@ row-by : (t : Bool) (c : Capability) (more later : List Capability) → length (
 row-by true c more later le = omega (arith, le, length-append (capability_octets c) (row_octets more), length-append (capability_octets c) (row_octets later))
 row-by false c more later le = omega (arith, le, length-append (capability_octets c) (row_octets later))
 
-row-shorter : (seen : Seen) (caps : List Capability) → length (row_octets (understood_behind seen caps)) ≤ length (row_octets caps)
+pub row-shorter : (seen : Seen) (caps : List Capability) → length (row_octets (understood_behind seen caps)) ≤ length (row_octets caps)
 row-shorter seen [] = omega arith
 row-shorter seen (c ∷ caps) = row-by (goes_on seen c) c (understood_behind (seen_behind seen c) caps) caps (row-shorter (seen_behind seen c) caps)
 

@@ -1,6 +1,5 @@
 -- The UPDATE that withdraws routes, as it is written.
-use Rattle.std.proofs.Common.{◌≡◌, ℕ, List, [], ◌∷◌, refl, sym, ap, ◌∙◌}
-use Rattle.std.specs.List.{flat_map}
+use Rattle.bgp_wire.proofs.Std.{◌≡◌, ℕ, List, [], ◌∷◌, refl, sym, ap, ◌∙◌, flat_map}
 use Rattle.std.proofs.lemmas.List.{append-nil}
 use Rattle.bgp_open.specs.declared.context.Context.{Context}
 use Rattle.bgp_prefix.specs.Prelude.{PrefixValue}

@@ -1,5 +1,5 @@
 -- One block of text: as it stands, or as hexadecimal text.
-use Rattle.std.proofs.Common.{◌≡◌, ℕ, Bool, true, false, List, [], ◌++◌, Option, Some, None, refl, sym, ap, subst, ◌∙◌, arith}
+use Rattle.bgp_wire.proofs.Std.{◌≡◌, ℕ, Bool, true, false, List, [], ◌++◌, Option, Some, None, refl, sym, ap, subst, ◌∙◌, arith}
 use Rattle.std.specs.Prelude.{option_to_list, MatchOption}
 use Rattle.std.proofs.lemmas.List.{append-nil}
 use Rattle.bgp_engine.specs.declared.hex_text.HexText.{HexText}

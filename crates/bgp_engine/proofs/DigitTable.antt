@@ -1,7 +1,6 @@
 -- The table of digits.
-use Rattle.std.proofs.Common.{◌≡◌, ℕ, ◌+◌, ◌<◌, ◌≤◌, map, get_or, Option, Some, None, refl, ap, arith}
+use Rattle.bgp_wire.proofs.Std.{◌≡◌, ℕ, ◌+◌, ◌<◌, ◌≤◌, map, get_or, Option, Some, None, refl, ap, arith, range_with_len}
 use Rattle.std.specs.Prelude.{unwrap_or}
-use Rattle.std.specs.List.{range_with_len}
 use Rattle.std.proofs.lemmas.List.FromFn.{get_or-map-range_with_len}
 use Rattle.hex.specs.Hex.{hex_digit_value}
 use Rattle.bgp_engine.specs.Prelude.{value_or_none}

@@ -1,6 +1,5 @@
 -- An UPDATE that is accepted where AS numbers have four octets can be told to a speaker with two.
-use Rattle.std.proofs.Common.{◌≡◌, ◌≤◌, ◌+◌, ℕ, true, length, arith, List, Option, Some, None, Result, Ok, Err, refl, subst}
-use Rattle.std.proofs.lemmas.Bool.{le-ltb}
+use Rattle.bgp_wire.proofs.Std.{◌≡◌, ◌≤◌, ◌+◌, ℕ, true, length, arith, List, Option, Some, None, Result, Ok, Err, refl, subst, le-ltb}
 use Rattle.bgp_wire.specs.Prelude.{AreOctets}
 use Rattle.bgp_frame.specs.Prelude.{IsLength}
 use Rattle.bgp_frame.specs.declared.kind.Kind.{Kind}

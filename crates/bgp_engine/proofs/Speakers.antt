@@ -1,5 +1,5 @@
 -- What a speaker's own OPEN tells of its settings.
-use Rattle.std.proofs.Common.{◌≡◌, ℕ, Bool, ◌&&◌, eqb, List, Ok, refl, ap, ◌∙◌}
+use Rattle.bgp_wire.proofs.Std.{◌≡◌, ℕ, Bool, ◌&&◌, eqb, List, Ok, refl, ap, ◌∙◌}
 use Rattle.std.proofs.lemmas.Bool.{eqb-true}
 use Rattle.bgp_open.specs.declared.context.Context.{Context}
 use Rattle.bgp_open.specs.Prelude.{agreement, context_of, peer_as_of, same_id, Settings, IsAllowed, own_of, agreed_context, settings_of, said_by}

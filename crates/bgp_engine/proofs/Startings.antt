@@ -1,8 +1,7 @@
 -- Steps of an engine that takes the first message of its stream by a rule of its own.
-use Rattle.std.proofs.Common.{◌≡◌, ℕ, ◌+◌, ◌≤◌, Bool, true, false, Bor, List, [], ◌++◌, length, take, drop, Option, option_map, Some, None, Result, Ok, Err, refl, sym, ap, subst, ◌∙◌, append_assoc, arith, inl, inr}
+use Rattle.bgp_wire.proofs.Std.{◌≡◌, ℕ, ◌+◌, ◌≤◌, Bool, true, false, Bor, List, [], ◌++◌, length, take, drop, Option, option_map, Some, None, Result, Ok, Err, refl, sym, ap, subst, ◌∙◌, append_assoc, arith, inl, inr, unwrap_or, take-append-drop, drop-append_seam}
 use Rattle.std.specs.Prelude.{is_some, if◌then◌else◌, OnErr}
-use Rattle.std.specs.Option.{unwrap_or}
-use Rattle.std.proofs.lemmas.List.{append-nil, length-append, take_all, take-append-drop}
+use Rattle.std.proofs.lemmas.List.{append-nil, length-append, take_all}
 use Rattle.bgp_wire.specs.Prelude.{AreOctets, has_octet}
 use Rattle.bgp_wire.proofs.OctetLemmas.{AreOctets-append, AreOctets-back, AreOctets-drop}
 use Rattle.bgp_frame.specs.declared.end.End.{End}
@@ -27,7 +26,6 @@ use Rattle.bgp_engine.specs.steps.Starting as steps
 use Rattle.bgp_engine.proofs.FirstOpens.{waits_part, frame_first, frame_whole, fault_whole, fault_first}
 use Rattle.bgp_engine.proofs.Reading.{goes_further}
 use Rattle.bgp_engine.proofs.Walks.{counts_on, heard, heard_report, reports_report}
-use Rattle.std.proofs.Math.Seq.{drop-append_seam}
 
 -- ---- octets are taken behind others
 

@@ -1,5 +1,5 @@
 -- The octets of an attribute.
-use Rattle.std.proofs.Common.{◌≡◌, ℕ, List, [], ◌∷◌, ◌≤◌, length, Option, Some, None, refl, sym, ap, ◌∙◌, arith}
+use Rattle.bgp_wire.proofs.Std.{◌≡◌, ℕ, List, [], ◌∷◌, ◌≤◌, length, Option, Some, None, refl, sym, ap, ◌∙◌, arith}
 use Rattle.std.proofs.lemmas.List.{length-append}
 use Rattle.bgp_wire.proofs.Pieces.{pieces-some, pieces-none}
 use Rattle.bgp_attr.specs.Prelude.{TlvValue, IsTlv, one_tlv, PlacedTlv, tlvs_of, placed_from}

@@ -1,11 +1,10 @@
 -- Each reset has a place, within its message.
-use Rattle.std.proofs.Common.{◌≡◌, ℕ, ◌+◌, ◌-◌, ◌<◌, ◌≤◌, ◌&&◌, ◌||◌, ◌==◌, nat_lt, nat_le, Bool, true, false, cond, not, List, [], ◌∷◌, ◌++◌, length, take, drop, Option, Some, None, inl, inr, refl, sym, ap, ap₂, subst, ◌∙◌, arith}
+use Rattle.bgp_wire.proofs.Std.{◌≡◌, ℕ, ◌+◌, ◌-◌, ◌<◌, ◌≤◌, ◌&&◌, ◌||◌, ◌==◌, nat_lt, nat_le, Bool, true, false, cond, not, List, [], ◌∷◌, ◌++◌, length, take, drop, Option, Some, None, inl, inr, refl, sym, ap, ap₂, subst, ◌∙◌, arith, list_any, AllByRecursion, option_or, leb-true, or_parts, or_cases, cond_both, length-take-le}
 use Rattle.std.specs.Prelude.{option_map}
-use Rattle.std.specs.List.{list_any, AllByRecursion}
-use Rattle.std.specs.Option.{option_or}
-use Rattle.std.proofs.lemmas.Bool.{true≢false, leb-true, or_parts, or_cases, cond_both}
+use Rattle.std.proofs.lemmas.Bool.{true≢false}
 use Rattle.std.proofs.Math.Dec.{eqb-suc-zero}
-use Rattle.std.proofs.lemmas.List.{length-append, length-drop, length-take-le}
+use Rattle.std.proofs.lemmas.List.{length-append, length-drop}
+use Rattle.bgp_open.proofs.Readings.{rest_some}
 use Rattle.bgp_wire.specs.Prelude.{AreOctets, also, none_of_them, pieces, Row, when}
 use Rattle.bgp_wire.proofs.OctetLemmas.{AreOctets-back}
 use Rattle.bgp_wire.proofs.Pieces.{Splits-pieces}
@@ -21,7 +20,7 @@ use Rattle.bgp_frame.proofs.FrameLemmas.{length-IsFrame}
 use Rattle.bgp_open.specs.declared.capability.Capability.{Capability}
 use Rattle.bgp_open.specs.declared.context.Context.{Context}
 use Rattle.bgp_open.specs.declared.fault.OpenFault.{OpenFault}
-use Rattle.bgp_open.specs.declared.fault.OpenFault.TheVariants.{Version, Parameter, UnknownParameter}
+use Rattle.bgp_open.specs.declared.fault.OpenFault.TheVariants.{Version, Parameter}
 use Rattle.bgp_open.specs.Prelude.{IsCapability, one_capability, version_of, length_of, parameters_of, hold_of, id_of, is_short_hold, is_zero_id, first_fault, rest_fault, open_fault, open_of, or_fault, IsParameter, one_parameter}
 use Rattle.bgp_open.specs.declared.fault.OpenFault.TheVariants.{Hold, Identifier}
 use Rattle.bgp_open.proofs.Capabilities.{capability-reads}
@@ -100,15 +99,10 @@ rest-some : (rest : List ℕ) (f : OpenFault) → rest_fault rest ≡ Some f →
 rest-some [] f e = absurd cc
 rest-some (x ∷ rest) f e = omega arith
 
-some-fault : (short unknown : Bool) → cond short (Some Parameter) (cond unknown (Some UnknownParameter) (Some Parameter)) ≡ None → ⊥
-some-fault true unknown e = absurd cc
-some-fault false true e = absurd cc
-some-fault false false e = absurd cc
-
 rest-none : (at : ℕ) (rest : List ℕ) → rest_fault rest ≡ None → parameter_place at rest ≡ None
 rest-none at [] e = refl
 rest-none at (kind ∷ []) e = absurd cc
-rest-none at (kind ∷ n ∷ value) e = absurd (some-fault (nat_lt (length value) n) (not (kind == CAPABILITIES)) e)
+rest-none at (kind ∷ n ∷ value) e = absurd (rest_some (nat_lt (length value) n) (not (kind == CAPABILITIES)) e)
 
 -- a place that is there stands in front
 or-placed : (N : ℕ) (p later : Option Span) → HasPlace N p → HasPlace N (option_or p later)

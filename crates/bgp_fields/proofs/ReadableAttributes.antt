@@ -1,5 +1,5 @@
 -- Attributes that are kept can be read to their end.
-use Rattle.std.proofs.Common.{◌≡◌, ℕ, ◌<◌, Bool, true, false, eqb, not, List, length, None, refl, sym, subst, arith}
+use Rattle.std.proofs.Common.{◌≡◌, ℕ, Bool, true, false, eqb, not, List, length, None, refl, sym, subst, arith}
 use Rattle.std.proofs.lemmas.Bool.{eqb-true, not-false}
 use Rattle.std.proofs.lemmas.List.{nil_from_length}
 use Rattle.bgp_numbers.specs.declared.attribute.TheConstants.{ORIGIN, AS_PATH, NEXT_HOP, MULTI_EXIT_DISC, LOCAL_PREF, ATOMIC_AGGREGATE, AGGREGATOR, COMMUNITIES, MP_REACH_NLRI, MP_UNREACH_NLRI, AS4_PATH, AS4_AGGREGATOR, LARGE_COMMUNITY}
@@ -18,7 +18,7 @@ use Rattle.bgp_fields.specs.declared.part.ValuePart.{ValuePart}
 use Rattle.bgp_fields.specs.Prelude.{attribute_values, attribute_value}
 use Rattle.bgp_fields.specs.declared.part.ValuePart.TheVariants as value
 use Rattle.bgp_fields.proofs.Readable.{ValueRead, value-none, value-front}
-use Rattle.bgp_fields.proofs.ReadableValues.{one-read, row-read, all-read, path-read}
+use Rattle.bgp_fields.proofs.ReadableValues.{one-read, row-read, all-read, path-read, width-some}
 use Rattle.bgp_fields.proofs.ReadableRoutes.{reach-read, unreach-read}
 
 module _ (ctx : Context) (t : TlvValue) where
@@ -32,15 +32,11 @@ module _ (ctx : Context) (t : TlvValue) where
   at-kind : (kind : ℕ) → t.kind ≡ kind → KindRead kind → KindRead t.kind
   at-kind kind e read = subst KindRead (sym e) read
 
-  width-some : (wide : Bool) → 0 < number_width wide
-  width-some true = omega arith
-  width-some false = omega arith
-
   aggregator-read : (kind : ℕ) (wide : Bool) → t.kind ≡ kind → NoneApplies (aggregator_tests wide t) → ValueRead ctx (value.Aggregator wide) t.value
   aggregator-read kind wide e none =
       let s = aggregator-spells ctx t kind wide e none in
       subst (ValueRead ctx (value.Aggregator wide)) (sym s.value)
-      (value-front ctx (value.Aggregator wide) s.number _ None field.AsNumber (number_width wide) (value.One field.Address 4) refl (s.asn).as_wide (width-some wide) refl
+      (value-front ctx (value.Aggregator wide) s.number _ None field.AsNumber (number_width wide) (value.One field.Address 4) refl (s.asn).as_wide (width-some ctx wide) refl
       (one-read ctx field.Address 4 _ s.four (omega arith) refl))
 
   none-read : (part : ValuePart) → length t.value ≡ 0 → ValueRead ctx part t.value

@@ -1,15 +1,12 @@
 -- Messages that are accepted without a note can be read to their end.
-use Rattle.std.proofs.Common.{◌≡◌, ℕ, ◌+◌, ◌≤◌, Bool, true, false, cond, List, [], ◌∷◌, ◌++◌, length, Option, Some, refl, sym, ap, subst, arith}
-use Rattle.std.specs.Int.{w16, to_be_bytes}
-use Rattle.std.specs.List.{AllByRecursion}
+use Rattle.bgp_wire.proofs.Std.{◌≡◌, ℕ, ◌+◌, ◌≤◌, Bool, true, false, cond, List, [], ◌∷◌, ◌++◌, length, Option, Some, refl, sym, ap, subst, arith, w16, to_be_bytes, AllByRecursion, from_be_bytes-to_be_bytes_2}
 use Rattle.std.proofs.lemmas.List.{append-nil}
-use Rattle.std.proofs.lemmas.Nat.{from_be_bytes-to_be_bytes_2}
+use Rattle.bgp_frame.proofs.HeadLemmas.{kind_of-code_of}
 use Rattle.bgp_wire.specs.Prelude.{AreOctets, also, none_of_them, Row}
 use Rattle.bgp_wire.proofs.Behinds.{Row-pieces}
 use Rattle.bgp_wire.proofs.OctetLemmas.{AreOctets-front, AreOctets-back}
 use Rattle.bgp_frame.specs.declared.kind.Kind.{Kind}
-use Rattle.bgp_frame.specs.Prelude.{header, marker, kind_of, code_of}
-use Rattle.bgp_frame.specs.declared.kind.Kind.TheVariants as kind
+use Rattle.bgp_frame.specs.Prelude.{header, marker, code_of}
 use Rattle.bgp_open.specs.declared.context.Context.{Context}
 use Rattle.bgp_open.specs.Prelude.{IsOpen}
 use Rattle.bgp_open.specs.declared.message.Open.{Open}
@@ -148,11 +145,5 @@ module _ (ctx : Context) where
   header-read k n body later =
       message-front ctx message.Marker marker (to_be_bytes w16 n ++ (code_of k ∷ body)) field.Marker 16 message.Length refl refl (omega arith) refl
       (message-front ctx message.Length (to_be_bytes w16 n) (code_of k ∷ body) field.MessageLength 2 message.Kind refl refl (omega arith) refl
-      (message-front ctx message.Kind (code_of k ∷ []) body field.MessageType 1 (body_part (Some k)) (ap (λ (o : Option Kind). alone field.MessageType 1 (body_part o)) (same-kind k))
+      (message-front ctx message.Kind (code_of k ∷ []) body field.MessageType 1 (body_part (Some k)) (ap (λ (o : Option Kind). alone field.MessageType 1 (body_part o)) (kind_of-code_of k))
       refl (omega arith) refl later))
-    where
-      same-kind : (k : Kind) → kind_of (code_of k) ≡ Some k
-      same-kind kind.Open = refl
-      same-kind kind.Update = refl
-      same-kind kind.Notification = refl
-      same-kind kind.Keepalive = refl

@@ -1,5 +1,5 @@
 -- Values of MP_REACH_NLRI and MP_UNREACH_NLRI that are kept, and capabilities, can be read to their end.
-use Rattle.std.proofs.Common.{◌≡◌, ℕ, ◌==◌, Bool, true, false, cond, List, [], ◌∷◌, ◌++◌, length, Option, Some, None, refl, sym, ap, subst, ◌∙◌, append_assoc, arith}
+use Rattle.bgp_wire.proofs.Std.{◌≡◌, ℕ, ◌==◌, Bool, true, false, cond, List, [], ◌∷◌, ◌++◌, length, Option, Some, None, refl, sym, ap, subst, ◌∙◌, append_assoc, arith}
 use Rattle.std.proofs.lemmas.List.{append-nil, length-append}
 use Rattle.bgp_numbers.specs.declared.afi.TheConstants.{IPV4, IPV6}
 use Rattle.bgp_numbers.specs.declared.safi.TheConstants.{UNICAST}
@@ -50,10 +50,10 @@ module _ (ctx : Context) where
       value-front ctx (value.Afi reach) (high ∷ low ∷ []) (UNICAST ∷ back) None field.Afi 2 (value.Safi reach afi) is refl (omega arith) refl
       (value-front ctx (value.Safi reach afi) (UNICAST ∷ []) back None field.Safi 1 next (ap (λ (p : ValuePart). one field.Safi 1 p) used) refl (omega arith) refl later)
 
-  used4 : (reach : Bool) → ctx.ip4 ≡ true → behind_family ctx reach IPV4 UNICAST ≡ cond reach (value.NextHopLength false) (value.Prefixes field.UnreachPrefix4 false)
+  pub used4 : (reach : Bool) → ctx.ip4 ≡ true → behind_family ctx reach IPV4 UNICAST ≡ cond reach (value.NextHopLength false) (value.Prefixes field.UnreachPrefix4 false)
   used4 reach e = rw e refl
 
-  used6 : (reach : Bool) → ctx.ip6 ≡ true → behind_family ctx reach IPV6 UNICAST ≡ cond reach (value.NextHopLength true) (value.Prefixes field.UnreachPrefix6 true)
+  pub used6 : (reach : Bool) → ctx.ip6 ≡ true → behind_family ctx reach IPV6 UNICAST ≡ cond reach (value.NextHopLength true) (value.Prefixes field.UnreachPrefix6 true)
   used6 reach e = rw e refl
 
   pub reach4-read : (hop : List ℕ) (routes : List PrefixValue) (b : List ℕ) → length hop ≡ 4 → IsReach IPV4 4 hop routes b → ctx.ip4 ≡ true → ValueRead ctx (value.Afi true) b

@@ -1,7 +1,5 @@
 -- Withdrawn Routes, attributes that are kept and parameters of an OPEN can be read to their end.
-use Rattle.std.proofs.Common.{◌≡◌, ℕ, ◌+◌, ◌<◌, ◌≤◌, ◌==◌, Bool, true, false, cond, List, [], ◌∷◌, ◌++◌, length, Some, None, refl, sym, ap, subst, ◌∙◌, append_assoc, arith}
-use Rattle.std.specs.List.{AllByRecursion}
-use Rattle.std.proofs.lemmas.Bool.{le-ltb}
+use Rattle.bgp_wire.proofs.Std.{◌≡◌, ℕ, ◌+◌, ◌<◌, ◌≤◌, ◌==◌, Bool, true, false, cond, List, [], ◌∷◌, ◌++◌, length, Some, None, refl, sym, ap, subst, ◌∙◌, append_assoc, arith, AllByRecursion, le-ltb}
 use Rattle.std.proofs.lemmas.List.{length-append}
 use Rattle.std.proofs.Math.Dec.{eqb-suc-zero}
 use Rattle.bgp_numbers.specs.declared.capability.TheConstants.{MULTIPROTOCOL, FOUR_OCTET_AS}
@@ -69,7 +67,7 @@ module _ (ctx : Context) where
       (attribute_len t.flags rest) section.AttributeFlags refl is.wide (width-some t.flags) (sym says) refl
       (kept-read ctx t has_nlri a octets keeps) later)))
 
-  value-octets : (t : TlvValue) (front : List ℕ) → IsTlv t front → AreOctets front → AreOctets t.value
+  pub value-octets : (t : TlvValue) (front : List ℕ) → IsTlv t front → AreOctets front → AreOctets t.value
   value-octets t front is octets = AreOctets-back (t.flags ∷ t.kind ∷ is.size) t.value (subst AreOctets is.octets octets)
 
   pub attributes-read : (has_nlri : Bool) (ts : List TlvValue) (b : List ℕ) → Row IsTlv ts b → AreOctets b → AreKept has_nlri ts → SectionRead ctx section.AttributeFlags b

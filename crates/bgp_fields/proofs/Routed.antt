@@ -1,8 +1,7 @@
 -- The prefix fields of an UPDATE that is accepted, or treated as a withdrawal, are its routes.
-use Rattle.std.proofs.Common.{◌≡◌, ℕ, ◌+◌, List, ◌++◌, length, Some, None, Result, Ok, Err, refl, sym, ap, ap₂, subst, ◌∙◌}
-use Rattle.std.specs.Int.{w16, to_be_bytes}
+use Rattle.bgp_wire.proofs.Std.{◌≡◌, ℕ, ◌+◌, List, ◌++◌, length, Some, None, Result, Ok, Err, refl, sym, ap, ap₂, subst, ◌∙◌, w16, to_be_bytes}
 use Rattle.bgp_frame.specs.declared.kind.Kind.{Kind}
-use Rattle.bgp_frame.specs.Prelude.{octets_of, IsFrame, header}
+use Rattle.bgp_frame.specs.Prelude.{IsFrame, header}
 use Rattle.bgp_frame.specs.declared.kind.Kind.TheVariants as kind
 use Rattle.bgp_frame.specs.Frame as frame
 use Rattle.bgp_wire.specs.Prelude.{AreOctets}

@@ -1,8 +1,7 @@
 -- The prefixes that fields show, a field at a time.
-use Rattle.std.proofs.Common.{◌≡◌, ℕ, ◌+◌, ◌<◌, Bool, true, false, cond, List, [], ◌∷◌, ◌++◌, length, take, drop, Option, Some, None, refl, sym, ap, ap₂, subst, ◌∙◌, arith}
+use Rattle.bgp_wire.proofs.Std.{◌≡◌, ℕ, ◌+◌, ◌<◌, Bool, true, false, cond, List, [], ◌∷◌, ◌++◌, length, take, drop, Option, Some, None, refl, sym, ap, ap₂, subst, ◌∙◌, arith, drop_at, take_at, take-take, drop-take, flat_map-cons, flat_map-append}
 use Rattle.std.specs.Prelude.{is_some}
-use Rattle.std.proofs.lemmas.List.{append-nil, drop_at, take_at, drop-drop, take-take, drop-take, length-append}
-use Rattle.std.proofs.lemmas.List.Concat.{flat_map-cons, flat_map-append}
+use Rattle.std.proofs.lemmas.List.{append-nil, drop-drop, length-append}
 use Rattle.bgp_prefix.specs.Prelude.{PrefixValue, IsPrefix, one_prefix}
 use Rattle.bgp_prefix.proofs.PrefixLemmas.{IsPrefix-reads}
 use Rattle.bgp_fields.specs.declared.field.Field.{Field}

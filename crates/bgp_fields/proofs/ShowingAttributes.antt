@@ -1,6 +1,6 @@
 -- The prefixes that an attribute shows are the routes that are kept of it.
-use Rattle.std.proofs.Common.{◌≡◌, ℕ, ◌+◌, Bool, true, false, cond, not, List, [], ◌∷◌, ◌++◌, length, Option, Some, None, refl, sym, ap, subst, arith}
-use Rattle.std.proofs.lemmas.Bool.{not-false, ltb-false, true≢false, false≢true}
+use Rattle.bgp_wire.proofs.Std.{◌≡◌, ℕ, ◌+◌, Bool, true, false, cond, not, List, [], ◌∷◌, ◌++◌, length, Option, Some, None, refl, sym, ap, subst, arith, not-false, ltb-false, not-true}
+use Rattle.std.proofs.lemmas.Bool.{true≢false}
 use Rattle.std.proofs.lemmas.List.{append-nil}
 use Rattle.bgp_numbers.specs.declared.attribute.TheConstants.{ORIGIN, AS_PATH, NEXT_HOP, MULTI_EXIT_DISC, LOCAL_PREF, ATOMIC_AGGREGATE, AGGREGATOR, COMMUNITIES, MP_REACH_NLRI, MP_UNREACH_NLRI, AS4_PATH, AS4_AGGREGATOR, LARGE_COMMUNITY}
 use Rattle.bgp_frame.specs.declared.notification.Notification.{Notification}
@@ -71,10 +71,6 @@ unreach-tests : (ctx : Context) (t : TlvValue) (x : Attr) → IsDropped (decided
 unreach-tests ctx t x d =
     unreach-dropped _ (is_shorter 3 t) (not (is_in_use ctx (family_of t.value)))
     (has_bad_prefix (address_width (family_of t.value)) (withdrawn_of t.value)) (says t) why.Family x d
-
-not-true : (b : Bool) → not b ≡ true → b ≡ false
-not-true false e = refl
-not-true true e = absurd (false≢true e)
 
 -- a type that carries no routes shows none
 plain-kind : (ctx : Context) (kind : ℕ) → carries_routes kind ≡ false → is_plain (attribute_value ctx kind) ≡ true

@@ -1,8 +1,7 @@
 -- The prefixes that Withdrawn Routes, Path Attributes and NLRI show.
-use Rattle.std.proofs.Common.{◌≡◌, ℕ, ◌+◌, ◌<◌, ◌≤◌, nat_le, Bool, true, false, cond, List, [], ◌∷◌, ◌++◌, length, take, drop, Option, None, refl, sym, ap, subst, ◌∙◌, append_assoc, arith}
-use Rattle.std.specs.List.{flat_map}
-use Rattle.std.proofs.lemmas.Bool.{leb-true, le-leb, lt-ltb, false_from_ne_true}
-use Rattle.std.proofs.lemmas.List.{append-nil, length-drop, length-take-le, take-append-drop}
+use Rattle.bgp_wire.proofs.Std.{◌≡◌, ℕ, ◌+◌, ◌<◌, ◌≤◌, nat_le, Bool, true, false, cond, List, [], ◌∷◌, ◌++◌, length, take, drop, Option, None, refl, sym, ap, subst, ◌∙◌, append_assoc, arith, flat_map, leb-true, le-leb, false_from_ne_true, length-take-le, take-append-drop}
+use Rattle.std.proofs.lemmas.Bool.{lt-ltb}
+use Rattle.std.proofs.lemmas.List.{append-nil, length-drop}
 use Rattle.bgp_wire.specs.Prelude.{AreOctets, also, Row}
 use Rattle.bgp_wire.proofs.OctetLemmas.{AreOctets-front, AreOctets-back}
 use Rattle.bgp_open.specs.declared.context.Context.{Context}
@@ -21,7 +20,7 @@ use Rattle.bgp_fields.specs.declared.part.MessagePart.TheVariants as message
 use Rattle.bgp_fields.specs.declared.part.SectionPart.TheVariants as section
 use Rattle.bgp_fields.specs.declared.part.ValuePart.TheVariants as value
 use Rattle.bgp_fields.proofs.Walks.{walk-none}
-use Rattle.bgp_fields.proofs.ReadableSections.{attribute-long}
+use Rattle.bgp_fields.proofs.ReadableSections.{attribute-long, value-octets}
 use Rattle.bgp_fields.proofs.Steps.{width-some}
 use Rattle.bgp_fields.proofs.ReadableValues.{prefix-long}
 use Rattle.bgp_fields.proofs.Showing.{is_prefix, pick, pick-nil, pick-append, prefix-in, Shows, nothing-shows, shows-fit, shows-step, shows-leaf}
@@ -170,9 +169,6 @@ module _ (ctx : Context) (chosen : FieldKind → Bool) where
 
   -- ---- all attributes
 
-  value-octets : (t : TlvValue) (front : List ℕ) → IsTlv t front → AreOctets front → AreOctets t.value
-  value-octets t front is octets = AreOctets-back (t.flags ∷ t.kind ∷ is.size) t.value (subst AreOctets is.octets octets)
-
   abbrev pub marks_shown : List Mark → List PrefixValue
   marks_shown ms = flat_map (λ m. judged_shown ctx chosen m.judged) ms
 
@@ -189,4 +185,4 @@ module _ (ctx : Context) (chosen : FieldKind → Bool) where
       let grouped : row ++ rest ≡ spelled.0 ++ (spelled.1 ++ rest) = ap (λ (b : List ℕ). b ++ rest) spelled.2 ∙ append_assoc spelled.0 spelled.1 rest in
       subst (λ (c : List ℕ). SectionShows section.AttributeFlags c (marks_shown (marks_behind ctx nlri seen (placed_from place (t ∷ ts))))) (sym grouped)
       (attribute-shows t spelled.0 (spelled.1 ++ rest) (judged_shown ctx chosen (cond (seen t.kind) (repeated t.kind) (judgement ctx nlri t))) (marks_shown ms) spelled.3
-      (judged-shows ctx chosen nlri t (seen t.kind) (value-octets t spelled.0 spelled.3 (AreOctets-front spelled.0 spelled.1 all)) resets.0) later)
+      (judged-shows ctx chosen nlri t (seen t.kind) (value-octets ctx t spelled.0 spelled.3 (AreOctets-front spelled.0 spelled.1 all)) resets.0) later)

@@ -1,11 +1,6 @@
 -- The prefix fields of an UPDATE that isn't answered by a reset are its routes.
-use Rattle.std.proofs.Common.{◌≡◌, ℕ, ◌-◌, ◌<◌, Bool, false, List, [], ◌∷◌, ◌++◌, length, take, None, refl, sym, ap, ap₂, subst, ◌∙◌, arith}
-use Rattle.std.specs.Int.{w16, to_be_bytes}
-use Rattle.std.specs.List.{flat_map}
-use Rattle.std.specs.Option.{option_or}
-use Rattle.std.proofs.lemmas.List.{append-nil, take_at}
-use Rattle.std.proofs.lemmas.List.Concat.{flat_map-cons, flat_map-append}
-use Rattle.std.proofs.lemmas.Nat.{from_be_bytes-to_be_bytes_2}
+use Rattle.bgp_wire.proofs.Std.{◌≡◌, ℕ, ◌-◌, ◌<◌, Bool, false, List, [], ◌∷◌, ◌++◌, length, take, None, refl, sym, ap, ap₂, subst, ◌∙◌, arith, w16, to_be_bytes, flat_map, option_or, take_at, flat_map-cons, flat_map-append, from_be_bytes-to_be_bytes_2}
+use Rattle.std.proofs.lemmas.List.{append-nil}
 use Rattle.bgp_frame.specs.declared.kind.Kind.TheVariants as kind
 use Rattle.bgp_frame.specs.Prelude.{header, marker, code_of}
 use Rattle.bgp_wire.specs.Prelude.{AreOctets, none_of_them}

@@ -1,7 +1,8 @@
 -- The prefixes that the value of an attribute shows.
-use Rattle.std.proofs.Common.{◌≡◌, ℕ, zero, suc, ◌+◌, ◌-◌, ◌*◌, ◌<◌, ◌≤◌, ◌&&◌, ◌==◌, nat_lt, nat_le, Bool, true, false, cond, not, List, [], ◌∷◌, ◌++◌, length, take, drop, Option, Some, None, refl, sym, ap, subst, ◌∙◌, append_assoc, arith}
-use Rattle.std.proofs.lemmas.Bool.{cond_both, eqb-true}
+use Rattle.bgp_wire.proofs.Std.{◌≡◌, ℕ, zero, suc, ◌+◌, ◌-◌, ◌*◌, ◌<◌, ◌≤◌, ◌&&◌, ◌==◌, nat_lt, nat_le, Bool, true, false, cond, not, List, [], ◌∷◌, ◌++◌, length, take, drop, Option, Some, None, refl, sym, ap, subst, ◌∙◌, append_assoc, arith, cond_both, not-true}
+use Rattle.std.proofs.lemmas.Bool.{eqb-true}
 use Rattle.std.proofs.lemmas.List.{append-nil, length-append}
+use Rattle.bgp_fields.proofs.ReadableRoutes.{used4, used6}
 use Rattle.bgp_numbers.specs.declared.afi.TheConstants.{IPV4, IPV6}
 use Rattle.bgp_numbers.specs.declared.safi.TheConstants.{UNICAST}
 use Rattle.bgp_numbers.specs.declared.capability.TheConstants.{MULTIPROTOCOL, FOUR_OCTET_AS}
@@ -49,13 +50,6 @@ is_plain (value.All kind) = not (is_prefix kind)
 -- a plan of no prefix, and then of none
 abbrev Plain : Plan (Unit {0}) ValuePart → Type 0
 Plain p = (is_prefix p.kind ≡ false) × (is_plain p.next ≡ true)
-
-not-true : (b : Bool) → not b ≡ true → b ≡ false
-not-true false e = refl
-not-true true e = absurd (let no : false ≡ true = e in cc)
-
-not-false : (b : Bool) → b ≡ false → not b ≡ true
-not-false b e = ap not e
 
 either : (b : Bool) (x y : ValuePart) → is_plain x ≡ true → is_plain y ≡ true → is_plain (cond b x y) ≡ true
 either true x y p q = p
@@ -187,12 +181,6 @@ module _ (ctx : Context) (chosen : FieldKind → Bool) where
       leaf (value.Afi reach) (high ∷ low ∷ []) (safi ∷ back) field.Afi 2 (value.Safi reach afi) ps is refl (omega arith) refl
       (leaf (value.Safi reach afi) (safi ∷ []) back field.Safi 1 next ps (ap (λ (p : ValuePart). one field.Safi 1 p) used) refl (omega arith) refl later)
 
-  used4 : (reach : Bool) → ctx.ip4 ≡ true → behind_family ctx reach IPV4 UNICAST ≡ cond reach (value.NextHopLength false) (value.Prefixes field.UnreachPrefix4 false)
-  used4 reach e = rw e refl
-
-  used6 : (reach : Bool) → ctx.ip6 ≡ true → behind_family ctx reach IPV6 UNICAST ≡ cond reach (value.NextHopLength true) (value.Prefixes field.UnreachPrefix6 true)
-  used6 reach e = rw e refl
-
   -- what an attribute that is kept shows
   abbrev pub reach_shown : MpReach → List PrefixValue
   reach_shown (reach.Ip4 hop routes) = pick (chosen field.ReachPrefix4) routes
@@ -206,7 +194,7 @@ module _ (ctx : Context) (chosen : FieldKind → Bool) where
       → ValueShows (value.Afi true) b (pick (chosen field.ReachPrefix4) routes)
   reach4-shows hop routes b four is used =
       subst (λ (c : List ℕ). ValueShows (value.Afi true) c (pick (chosen field.ReachPrefix4) routes)) (sym is.octets)
-      (family-shows true IPV4 0 1 UNICAST (length hop ∷ (hop ++ (is.reserved ∷ is.row))) (value.NextHopLength false) _ refl (used4 true used)
+      (family-shows true IPV4 0 1 UNICAST (length hop ∷ (hop ++ (is.reserved ∷ is.row))) (value.NextHopLength false) _ refl (used4 ctx true used)
       (leaf (value.NextHopLength false) (length hop ∷ []) (hop ++ (is.reserved ∷ is.row)) field.NextHopLength 1 (value.NextHop false 4) _
       (ap (λ (n : ℕ). one field.NextHopLength 1 (hop_behind false n)) four) refl (omega arith) refl
       (leaf (value.NextHop false 4) hop (is.reserved ∷ is.row) field.NextHop 4 (value.Reserved false) _ refl four (omega arith) refl
@@ -217,20 +205,20 @@ module _ (ctx : Context) (chosen : FieldKind → Bool) where
   reach6-shows hop link routes b long linked is used =
       let both = hop ++ link_octets link in
       subst (λ (c : List ℕ). ValueShows (value.Afi true) c (pick (chosen field.ReachPrefix6) routes)) (sym is.octets)
-      (family-shows true IPV6 0 2 UNICAST (length both ∷ (both ++ (is.reserved ∷ is.row))) (value.NextHopLength true) _ refl (used6 true used)
+      (family-shows true IPV6 0 2 UNICAST (length both ∷ (both ++ (is.reserved ∷ is.row))) (value.NextHopLength true) _ refl (used6 ctx true used)
       (leaf (value.NextHopLength true) (length both ∷ []) (both ++ (is.reserved ∷ is.row)) field.NextHopLength 1 (hop_behind true (length both)) _
       refl refl (omega arith) refl (hop6-shows hop link is.row is.reserved routes long linked is.prefixes)))
 
   unreach4-shows : (routes : List PrefixValue) (b : List ℕ) → IsUnreach IPV4 4 routes b → ctx.ip4 ≡ true → ValueShows (value.Afi false) b (pick (chosen field.UnreachPrefix4) routes)
   unreach4-shows routes b is used =
       subst (λ (c : List ℕ). ValueShows (value.Afi false) c (pick (chosen field.UnreachPrefix4) routes)) (sym is.octets)
-      (family-shows false IPV4 0 1 UNICAST is.row (value.Prefixes field.UnreachPrefix4 false) _ refl (used4 false used)
+      (family-shows false IPV4 0 1 UNICAST is.row (value.Prefixes field.UnreachPrefix4 false) _ refl (used4 ctx false used)
       (prefixes-show field.UnreachPrefix4 false refl routes is.row is.prefixes))
 
   unreach6-shows : (routes : List PrefixValue) (b : List ℕ) → IsUnreach IPV6 16 routes b → ctx.ip6 ≡ true → ValueShows (value.Afi false) b (pick (chosen field.UnreachPrefix6) routes)
   unreach6-shows routes b is used =
       subst (λ (c : List ℕ). ValueShows (value.Afi false) c (pick (chosen field.UnreachPrefix6) routes)) (sym is.octets)
-      (family-shows false IPV6 0 2 UNICAST is.row (value.Prefixes field.UnreachPrefix6 true) _ refl (used6 false used)
+      (family-shows false IPV6 0 2 UNICAST is.row (value.Prefixes field.UnreachPrefix6 true) _ refl (used6 ctx false used)
       (prefixes-show field.UnreachPrefix6 true refl routes is.row is.prefixes))
 
   -- by the family that stands in front

@@ -1,6 +1,6 @@
 -- One step of an iterator of fields.
-use Rattle.std.proofs.Common.{◌≡◌, ℕ, ◌+◌, ◌-◌, ◌<◌, ◌≤◌, cond, Bool, true, false, List, [], ◌∷◌, ◌++◌, length, take, drop, Option, Some, None, refl, sym, ap, ap₂, ◌∙◌, arith, length-drop}
-use Rattle.std.proofs.lemmas.List.{length-take-le, drop-drop, append_assoc}
+use Rattle.bgp_wire.proofs.Std.{◌≡◌, ℕ, ◌+◌, ◌-◌, ◌<◌, ◌≤◌, cond, Bool, true, false, List, [], ◌∷◌, ◌++◌, length, take, drop, Option, Some, None, refl, sym, ap, ap₂, ◌∙◌, arith, length-drop, length-take-le}
+use Rattle.std.proofs.lemmas.List.{drop-drop, append_assoc}
 use Rattle.bgp_attr.specs.Prelude.{is_extended, length_width}
 use Rattle.bgp_open.specs.declared.context.Context.{Context}
 use Rattle.bgp_fields.specs.declared.field.Field.{Field}

@@ -1,7 +1,7 @@
 -- A walk, a field at a time.
-use Rattle.std.proofs.Common.{◌≡◌, ℕ, zero, suc, ◌+◌, ◌<◌, ◌≤◌, ◌&&◌, nat_lt, nat_le, cond, List, [], ◌∷◌, ◌++◌, length, take, drop, Option, None, refl, sym, ap, ap₂, subst, ◌∙◌, arith, length-drop}
-use Rattle.std.proofs.lemmas.List.{drop-drop, length-take-le}
-use Rattle.std.proofs.lemmas.Bool.{and_parts, leb-true, ltb-true, le-leb, lt-ltb, cond_both}
+use Rattle.bgp_wire.proofs.Std.{◌≡◌, ℕ, zero, suc, ◌+◌, ◌<◌, ◌≤◌, ◌&&◌, nat_lt, nat_le, cond, List, [], ◌∷◌, ◌++◌, length, take, drop, Option, None, refl, sym, ap, ap₂, subst, ◌∙◌, arith, length-drop, length-take-le, and_parts, leb-true, ltb-true, le-leb, cond_both}
+use Rattle.std.proofs.lemmas.List.{drop-drop}
+use Rattle.std.proofs.lemmas.Bool.{lt-ltb}
 use Rattle.bgp_fields.specs.declared.field.Field.{Field}
 use Rattle.bgp_fields.specs.declared.field.Group.{Group}
 use Rattle.bgp_fields.specs.declared.kind.FieldKind.TheVariants.{Unread}

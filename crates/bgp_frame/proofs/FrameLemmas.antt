@@ -1,9 +1,7 @@
 -- Frames and their headers: what is whole, what is faulty, and how much is wanted.
-use Rattle.std.proofs.Common.{◌≡◌, ℕ, zero, suc, ◌+◌, ◌-◌, ◌<◌, ◌≤◌, ◌^◌, List, [], ◌∷◌, ◌++◌, length, take, drop, get_or, replicate, ◌↔◌, Result, Ok, Err, refl, sym, ap, subst, ◌∙◌, arith, inl, inr}
-use Rattle.std.specs.Int.{w16, to_be_bytes}
-use Rattle.std.proofs.lemmas.Bool.{cases_lt, cases_order, le-ltb, lt-ltb}
-use Rattle.std.proofs.lemmas.List.{length-replicate, length-append, length-drop, take-append-le, take-append-drop, get_or_append_left, drop_more}
-use Rattle.std.proofs.lemmas.Nat.{be_bytes_2, from_be_bytes-to_be_bytes_2}
+use Rattle.bgp_wire.proofs.Std.{◌≡◌, ℕ, zero, suc, ◌+◌, ◌-◌, ◌<◌, ◌≤◌, ◌^◌, List, [], ◌∷◌, ◌++◌, length, take, drop, get_or, replicate, ◌↔◌, Result, Ok, Err, refl, sym, ap, subst, ◌∙◌, arith, inl, inr, w16, to_be_bytes, cases_lt, cases_order, le-ltb, length-replicate, take-append-le, take-append-drop, get_or_append_left, drop_more, be_bytes_2, from_be_bytes-to_be_bytes_2}
+use Rattle.std.proofs.lemmas.Bool.{lt-ltb}
+use Rattle.std.proofs.lemmas.List.{length-append, length-drop}
 use Rattle.bgp_wire.specs.Prelude.{AreOctets}
 use Rattle.bgp_wire.proofs.OctetLemmas.{AreOctets-append}
 use Rattle.bgp_frame.specs.declared.kind.Kind.{Kind}

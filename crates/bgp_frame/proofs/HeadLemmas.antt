@@ -1,6 +1,6 @@
 -- What a header says, and what it is made of.
-use Rattle.std.proofs.Common.{◌≡◌, ℕ, ◌≤◌, Bool, true, false, not, cond, ◌||◌, eqb, ltb, leb, List, take, Option, Some, None, Result, Ok, Err, refl, sym, ap, subst, arith}
-use Rattle.std.proofs.lemmas.Bool.{eqb-true, leb-true, le-leb, le-ltb, and_parts}
+use Rattle.bgp_wire.proofs.Std.{◌≡◌, ℕ, ◌≤◌, Bool, true, false, not, cond, ◌||◌, eqb, ltb, leb, List, take, Option, Some, None, Result, Ok, Err, refl, sym, ap, subst, arith, leb-true, le-leb, le-ltb, and_parts}
+use Rattle.std.proofs.lemmas.Bool.{eqb-true}
 use Rattle.std.proofs.lemmas.Slice.Eq.{bytes_eq-Decides}
 use Rattle.bgp_numbers.specs.declared.message.TheConstants.{OPEN, UPDATE, NOTIFICATION, KEEPALIVE}
 use Rattle.bgp_frame.specs.declared.kind.Kind.{Kind}

@@ -1,7 +1,6 @@
 -- What stands at the front of a piece, and what can be held.
-use Rattle.std.proofs.Common.{◌≡◌, ℕ, ◌+◌, ◌-◌, ◌<◌, ◌≤◌, ◌⊎◌, List, [], length, take, drop, Ok, Err, sym, ap, subst, ◌∙◌, arith, inl, inr}
-use Rattle.std.specs.List.{slice_range}
-use Rattle.std.proofs.lemmas.List.{length-take, take-append-drop, take_all, drop-take}
+use Rattle.bgp_wire.proofs.Std.{◌≡◌, ℕ, ◌+◌, ◌-◌, ◌<◌, ◌≤◌, ◌⊎◌, List, [], length, take, drop, Ok, Err, sym, ap, subst, ◌∙◌, arith, inl, inr, slice_range, take-append-drop, drop-take}
+use Rattle.std.proofs.lemmas.List.{length-take, take_all}
 use Rattle.bgp_wire.specs.Prelude.{AreOctets}
 use Rattle.bgp_wire.proofs.OctetLemmas.{AreOctets-nil, AreOctets-take}
 use Rattle.bgp_frame.specs.declared.header.Header.{Header}

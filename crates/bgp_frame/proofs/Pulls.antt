@@ -1,6 +1,6 @@
 -- What is pulled from a piece behind what is held.
-use Rattle.std.proofs.Common.{◌≡◌, ℕ, ◌≤◌, List, [], ◌∷◌, ◌++◌, ◌⊎◌, length, take, drop, refl, sym, ap, subst, ◌∙◌, arith, inl, inr}
-use Rattle.std.proofs.lemmas.List.{length-take, take-append-drop, append-nil}
+use Rattle.bgp_wire.proofs.Std.{◌≡◌, ℕ, ◌≤◌, List, [], ◌∷◌, ◌++◌, ◌⊎◌, length, take, drop, refl, sym, ap, subst, ◌∙◌, arith, inl, inr, take-append-drop}
+use Rattle.std.proofs.lemmas.List.{length-take, append-nil}
 use Rattle.bgp_frame.specs.declared.fault.HeadFault.{HeadFault}
 use Rattle.bgp_frame.specs.declared.step.Frame.{Frame}
 use Rattle.bgp_frame.specs.Prelude.{head_of, wanted, Waits, Stops, ShowsFront, ShowsStep, Pulls, IsPull}

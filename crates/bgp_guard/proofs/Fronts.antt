@@ -1,5 +1,5 @@
 -- Octets that are fed at once do what they do one by one.
-use Rattle.std.proofs.Common.{◌≡◌, ℕ, Bool, true, List, [], ◌∷◌, ◌++◌, take, refl, sym, ap, subst, ◌∙◌}
+use Rattle.bgp_wire.proofs.Std.{◌≡◌, ℕ, Bool, true, List, [], ◌∷◌, ◌++◌, take, refl, sym, ap, subst, ◌∙◌}
 use Rattle.std.proofs.lemmas.List.{append-nil}
 use Rattle.bgp_frame.specs.Prelude.{Waits, IsHeld}
 use Rattle.bgp_frame.proofs.Contents.{content_of-waits}

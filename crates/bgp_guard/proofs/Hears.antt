@@ -1,7 +1,7 @@
 -- An octet of a side keeps both directions handed over.
-use Rattle.std.proofs.Common.{◌≡◌, ℕ, zero, suc, ◌+◌, ◌<◌, Bool, true, false, cond, List, [], ◌∷◌, ◌++◌, length, Option, Some, None, option_map, Result, Ok, Err, refl, sym, ap, subst, ◌∙◌, arith, inl, inr}
+use Rattle.bgp_wire.proofs.Std.{◌≡◌, ℕ, zero, suc, ◌+◌, ◌<◌, Bool, true, false, cond, List, [], ◌∷◌, ◌++◌, length, Option, Some, None, option_map, Result, Ok, Err, refl, sym, ap, subst, ◌∙◌, arith, inl, inr, and_parts, cases_lt, not-false}
 use Rattle.std.specs.Prelude.{◌&&◌, not, is_some}
-use Rattle.std.proofs.lemmas.Bool.{true≢false, and_parts, cases_lt}
+use Rattle.std.proofs.lemmas.Bool.{true≢false}
 use Rattle.std.proofs.lemmas.List.{append-nil, length-append}
 use Rattle.bgp_wire.specs.Prelude.{AreOctets, has_octet}
 use Rattle.bgp_wire.proofs.OctetLemmas.{AreOctets-append}
@@ -64,10 +64,6 @@ in_place : (b : Bool) (subcode : ℕ) → (let found : Option ℕ = cond b (Some
 in_place true subcode e = absurd cc
 in_place false subcode e = refl
 
-not_false : (b : Bool) → not b ≡ false → b ≡ true
-not_false true e = refl
-not_false false e = absurd (true≢false e)
-
 no_peer : (p : Option Said) → is_some p ≡ false → p ≡ None
 no_peer None e = refl
 no_peer (Some said) e = absurd (true≢false e)
@@ -126,13 +122,13 @@ module _ (rules : Rules) (silent others : Bool) (n : ℕ) (this other : Half) (t
     update_goes : (body : List ℕ) → IsFrame (record { kind = kind.Update; body = body }) (this.held ++ octet ∷ []) → misplaced free kind.Update ≡ None
         → cleaned ctx (has_octet rules.drops) true (record { kind = kind.Update; body = body }) ≡ Ok m → Goes rules silent others (seen (handed_on silent free kind.Update m))
     update_goes body f placed is =
-        let both : (both_open free && this.ready) ≡ true = not_false (both_open free && this.ready) (in_place (not (both_open free && this.ready)) (subcode_of free) placed) in
+        let both : (both_open free && this.ready) ≡ true = not-false (both_open free && this.ready) (in_place (not (both_open free && this.ready)) (subcode_of free) placed) in
         record { this = on_goes kind.Update body (λ e. absurd cc) (λ e. absurd cc) f (and_parts (both_open free) this.ready both).0 is; other = b }
 
     keepalive_goes : (body : List ℕ) → IsFrame (record { kind = kind.Keepalive; body = body }) (this.held ++ octet ∷ []) → misplaced free kind.Keepalive ≡ None
         → cleaned ctx (has_octet rules.drops) true (record { kind = kind.Keepalive; body = body }) ≡ Ok m → Goes rules silent others (seen (handed_on silent free kind.Keepalive m))
     keepalive_goes body f placed is =
-        let both : both_open free ≡ true = not_false (both_open free) (in_place (not (both_open free)) (subcode_of free) placed) in
+        let both : both_open free ≡ true = not-false (both_open free) (in_place (not (both_open free)) (subcode_of free) placed) in
         record { this = on_goes kind.Keepalive body (λ e. absurd cc) (λ e. absurd cc) f both is; other = b }
 
     notification_goes : (body : List ℕ) → IsFrame (record { kind = kind.Notification; body = body }) (this.held ++ octet ∷ [])

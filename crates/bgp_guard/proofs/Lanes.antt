@@ -1,9 +1,8 @@
 -- The messages of a side, as they are handed on.
-use Rattle.std.proofs.Common.{◌≡◌, ℕ, Bool, true, false, List, [], ◌∷◌, ◌++◌, map, take, drop, Option, Some, None, Result, Ok, refl, sym, ap, subst, ◌∙◌, append_assoc, inl, inr}
+use Rattle.bgp_wire.proofs.Std.{◌≡◌, ℕ, Bool, true, false, List, [], ◌∷◌, ◌++◌, map, take, drop, Option, Some, None, Result, Ok, refl, sym, ap, subst, ◌∙◌, append_assoc, inl, inr, flat_map, AllByRecursion, and_parts, take-append-drop}
 use Rattle.std.specs.Prelude.{◌&&◌, is_some}
-use Rattle.std.specs.List.{flat_map, AllByRecursion}
-use Rattle.std.proofs.lemmas.Bool.{true≢false, and_parts}
-use Rattle.std.proofs.lemmas.List.{append-nil, take-append-drop}
+use Rattle.std.proofs.lemmas.Bool.{true≢false}
+use Rattle.std.proofs.lemmas.List.{append-nil}
 use Rattle.bgp_wire.specs.Prelude.{has_octet, Row}
 use Rattle.bgp_wire.proofs.Rows.{Row-push}
 use Rattle.bgp_frame.specs.declared.kind.Kind.{Kind}

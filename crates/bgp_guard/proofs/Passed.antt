@@ -25,7 +25,7 @@ use Rattle.bgp_clean.specs.declared.cleaned.Cleaned.{Cleaned}
 use Rattle.bgp_clean.specs.declared.cleaned.Cleaned.TheVariants.{HandedOn, Ends}
 use Rattle.bgp_clean.specs.declared.fault.CleanFault.{CleanFault}
 use Rattle.bgp_clean.specs.Prelude.{cleaned, cleaned_outcome, ended_family, IsCleaned, IsClean, cleaned_open, lacks_family, cleaned_update, withdrawal, says_nothing}
-use Rattle.bgp_clean.proofs.Handed.{handed-clean}
+use Rattle.bgp_clean.proofs.Handed.{handed-clean, ok-same, not_ok}
 use Rattle.bgp_guard.specs.Prelude.{said_as, CanBeRead, IsReadOpen, IsReadIn}
 
 -- ---- an OPEN that is handed on is an OPEN, and is read as it
@@ -33,20 +33,14 @@ use Rattle.bgp_guard.specs.Prelude.{said_as, CanBeRead, IsReadOpen, IsReadIn}
 abbrev ok : Message → Result Message CleanFault
 ok n = Ok n
 
-same_message : (n m : Message) → ok n ≡ ok m → n ≡ m
-same_message n m e = cc
-
-no_message : (f : CleanFault) (m : Message) → Err f ≡ ok m → ⊥
-no_message f m e = absurd cc
-
 handed_by : (o : Open) (n : Message) (lacks : Bool) → cond lacks (Err (Rattle.bgp_clean.specs.declared.fault.CleanFault.TheVariants.NoFamily)) (ok (message.Open (cleaned_open o))) ≡ ok n
     → (p : Open) × (n ≡ message.Open p)
-handed_by o n true e = absurd (no_message _ n e)
-handed_by o n false e = (cleaned_open o, sym (same_message _ n e))
+handed_by o n true e = absurd (not_ok _ n e)
+handed_by o n false e = (cleaned_open o, sym (ok-same _ n e))
 
 fault_by : (drops : ℕ → Bool) (ends : Bool) (n : Message) (why : Option Notification) → cleaned_outcome drops true ends (of_open_fault why) ≡ ok n → (p : Open) × (n ≡ message.Open p)
-fault_by drops ends n None e = absurd (no_message _ n e)
-fault_by drops ends n (Some why) e = absurd (no_message _ n e)
+fault_by drops ends n None e = absurd (not_ok _ n e)
+fault_by drops ends n (Some why) e = absurd (not_ok _ n e)
 
 pub open_by : (drops : ℕ → Bool) (ends : Bool) (n : Message) (r : Result Open OpenFault) → cleaned_outcome drops true ends (of_reading r) ≡ ok n → (p : Open) × (n ≡ message.Open p)
 open_by drops ends n (Ok o) e = handed_by o n (lacks_family o) e
@@ -70,16 +64,16 @@ read_by (Err fault) p e = absurd (no_open (open_notification fault) p e)
 -- ---- what is handed on of other messages
 
 said_update : (b : Bool) (u : Update) (n : Message) → ok (cond b (message.Update u) message.Keepalive) ≡ ok n → said_as true n ≡ message.Keepalive
-said_update true u n e = ap (said_as true) (sym (same_message (message.Update u) n e))
-said_update false u n e = ap (said_as true) (sym (same_message message.Keepalive n e))
+said_update true u n e = ap (said_as true) (sym (ok-same (message.Update u) n e))
+said_update false u n e = ap (said_as true) (sym (ok-same message.Keepalive n e))
 
 update_by : (drops : ℕ → Bool) (ends : Bool) (n : Message) (v : Verdict) → cleaned_outcome drops true ends (of_verdict v) ≡ ok n → said_as true n ≡ message.Keepalive
 update_by drops ends n (verdict.Take u notes) e = said_update (ends || not (says_nothing (cleaned_update drops u))) (cleaned_update drops u) n e
-update_by drops ends n (verdict.Withdraw routes notes) e = ap (said_as true) (sym (same_message (message.Update (withdrawal routes)) n e))
-update_by drops ends n (verdict.Reset why) e = absurd (no_message _ n e)
+update_by drops ends n (verdict.Withdraw routes notes) e = ap (said_as true) (sym (ok-same (message.Update (withdrawal routes)) n e))
+update_by drops ends n (verdict.Reset why) e = absurd (not_ok _ n e)
 
 itself : (m n : Message) → said_as true m ≡ m → ok m ≡ ok n → said_as true n ≡ n
-itself m n is e = subst (λ (x : Message). said_as true x ≡ x) (same_message m n e) is
+itself m n is e = subst (λ (x : Message). said_as true x ≡ x) (ok-same m n e) is
 
 -- ---- what a message that is handed on is, as octets
 

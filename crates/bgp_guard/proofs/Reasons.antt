@@ -1,7 +1,7 @@
 -- Why a guard has ended.
-use Rattle.std.proofs.Common.{◌≡◌, ◌≤◌, ℕ, suc, Bool, true, false, List, [], ◌∷◌, ◌++◌, Option, Some, None, Result, Ok, Err, refl, sym, ap, subst, ◌∙◌, append_assoc}
+use Rattle.bgp_wire.proofs.Std.{◌≡◌, ◌≤◌, ℕ, suc, Bool, true, false, List, [], ◌∷◌, ◌++◌, Option, Some, None, Result, Ok, Err, refl, sym, ap, subst, ◌∙◌, append_assoc, and_parts, ltb-false, not-true}
 use Rattle.std.specs.Prelude.{◌&&◌, ◌||◌, not, nat_lt, is_some, if◌then◌else◌}
-use Rattle.std.proofs.lemmas.Bool.{true≢false, and_parts, ltb-false}
+use Rattle.std.proofs.lemmas.Bool.{true≢false}
 use Rattle.bgp_frame.specs.declared.fault.HeadFault.{HeadFault}
 use Rattle.bgp_frame.specs.declared.kind.Kind.{Kind}
 use Rattle.bgp_frame.specs.Prelude.{content_of}
@@ -43,12 +43,8 @@ octet_ends rules silent s octet false up ran ends = absurd (true≢false (sym ra
 
 -- ---- other events
 
-not_true : (b : Bool) → not b ≡ true → b ≡ false
-not_true true e = absurd (true≢false (sym e))
-not_true false e = refl
-
 unreached_ends : (s : Sight) (b : Bool) → (runs s.stage && not s.this.stands) ≡ b → runs s.stage ≡ true → runs (unreached_if b s).stage ≡ false → s.this.stands ≡ false
-unreached_ends s true is ran ends = not_true s.this.stands (and_parts (runs s.stage) (not s.this.stands) is).1
+unreached_ends s true is ran ends = not-true s.this.stands (and_parts (runs s.stage) (not s.this.stands) is).1
 unreached_ends s false is ran ends = absurd (true≢false (sym ran ∙ ends))
 
 closed_ends : (s : Sight) (b : Bool) → s.this.stands ≡ b → runs s.stage ≡ true → runs (closed_if b s).stage ≡ false → s.this.stands ≡ true
@@ -63,7 +59,7 @@ waited_ends : (g : Guarding) (n : ℕ) (b : Bool) → is_waiting g ≡ b → run
     → (OPEN_SECONDS ≤ suc n) × ((is_some g.outer.peer && is_some g.inner.peer) ≡ false)
 waited_ends g n true is ran ends = (
   late_at g n (nat_lt (suc n) OPEN_SECONDS) refl ends,
-  not_true (is_some g.outer.peer && is_some g.inner.peer) (and_parts (g.outer.stands || g.inner.stands) (not (is_some g.outer.peer && is_some g.inner.peer)) is).1,
+  not-true (is_some g.outer.peer && is_some g.inner.peer) (and_parts (g.outer.stands || g.inner.stands) (not (is_some g.outer.peer && is_some g.inner.peer)) is).1,
 )
 waited_ends g n false is ran ends = absurd (true≢false (sym ran ∙ ends))
 

@@ -1,9 +1,9 @@
 -- What a side sees behind an event.
-use Rattle.std.proofs.Common.{◌≡◌, ℕ, suc, ◌≤◌, Bool, true, false, List, ◌++◌, Result, refl, sym, ap, ap₂, ◌∙◌, arith}
+use Rattle.bgp_wire.proofs.Std.{◌≡◌, ℕ, suc, ◌≤◌, Bool, true, false, List, ◌++◌, Result, refl, sym, ap, ap₂, ◌∙◌, arith, le-ltb}
 use Rattle.std.specs.Prelude.{◌↔◌, if◌then◌else◌}
 use Rattle.std.specs.Str.{bytes_eq}
 use Rattle.std.proofs.lemmas.Slice.Eq.{bytes_eq-Decides}
-use Rattle.std.proofs.lemmas.Bool.{true≢false, le-ltb}
+use Rattle.std.proofs.lemmas.Bool.{true≢false}
 use Rattle.bgp_wire.specs.Prelude.{has_octet}
 use Rattle.bgp_frame.specs.declared.kind.Kind.{Kind}
 use Rattle.bgp_frame.specs.declared.kind.Kind.TheVariants as kind

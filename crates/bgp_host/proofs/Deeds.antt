@@ -1,7 +1,6 @@
 -- Deeds behind deeds, and what they asked.
-use Rattle.std.proofs.Common.{◌≡◌, ℕ, List, [], ◌∷◌, ◌++◌, length, Option, refl, sym, ap, subst, ◌∙◌, append_assoc, arith}
-use Rattle.std.specs.List.{flat_map}
-use Rattle.std.proofs.lemmas.List.{append-nil, map-append}
+use Rattle.bgp_wire.proofs.Std.{◌≡◌, ℕ, List, [], ◌∷◌, ◌++◌, length, Option, refl, sym, ap, subst, ◌∙◌, append_assoc, arith, flat_map, map-append}
+use Rattle.std.proofs.lemmas.List.{append-nil}
 use Rattle.std.proofs.lemmas.Grind.{flat_map-append}
 use Rattle.bgp_machine.specs.declared.action.Action.{Action}
 use Rattle.bgp_host.specs.declared.link.Link.{Link}

@@ -1,5 +1,5 @@
 -- Records that grow, and deeds behind deeds.
-use Rattle.std.proofs.Common.{List, [], ◌++◌, sym, ap, Option, None, Some, Result, Ok, Err, ◌∙◌, append_assoc}
+use Rattle.bgp_wire.proofs.Std.{List, [], ◌++◌, sym, ap, Option, None, Some, Result, Ok, Err, ◌∙◌, append_assoc}
 use Rattle.std.specs.Result.{OnErr}
 use Rattle.std.proofs.lemmas.List.{append-nil}
 use Rattle.bgp_host.specs.Prelude.{Grows}

@@ -1,5 +1,5 @@
 -- What is written of a run.
-use Rattle.std.proofs.Common.{◌≡◌, ℕ, true, List, [], ◌∷◌, ◌++◌, map, Ok, Err, sym, ap, subst, ◌∙◌, append_assoc}
+use Rattle.bgp_wire.proofs.Std.{◌≡◌, ℕ, true, List, [], ◌∷◌, ◌++◌, map, Ok, Err, sym, ap, subst, ◌∙◌, append_assoc}
 use Rattle.std.proofs.lemmas.List.{append-nil}
 use Rattle.bgp_engine.specs.declared.fault.ToolFault.{ToolFault}
 use Rattle.bgp_engine.specs.Prelude.{AppendsFront, FailsWithin}

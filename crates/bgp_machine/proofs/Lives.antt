@@ -1,6 +1,6 @@
 -- What is kept through a whole life: what the octets that were taken are, in each state.
-use Rattle.std.proofs.Common.{◌≡◌, ℕ, Bool, true, false, List, [], ◌∷◌, ◌++◌, take, Option, Some, None, Result, Ok, Err, option_map, refl, sym, ap, subst, ap₂, ◌∙◌, append_assoc, arith, if◌then◌else◌}
-use Rattle.std.proofs.lemmas.List.{append-nil, nil_from_length}
+use Rattle.bgp_wire.proofs.Std.{◌≡◌, ℕ, Bool, true, false, List, [], ◌∷◌, ◌++◌, take, Option, Some, None, Result, Ok, Err, option_map, refl, sym, ap, subst, ap₂, ◌∙◌, append_assoc, arith, if◌then◌else◌, nil_from_length}
+use Rattle.std.proofs.lemmas.List.{append-nil}
 use Rattle.bgp_wire.specs.Prelude.{AreOctets}
 use Rattle.bgp_frame.specs.declared.fault.HeadFault.{HeadFault}
 use Rattle.bgp_frame.specs.declared.kind.Kind.{Kind}
@@ -21,7 +21,7 @@ use Rattle.bgp_machine.specs.declared.action.Action.{Action}
 use Rattle.bgp_machine.specs.declared.event.Event.{Event}
 use Rattle.bgp_machine.specs.declared.state.State.{State}
 use Rattle.bgp_machine.specs.declared.timer.Timers.{Timers}
-use Rattle.bgp_machine.specs.Prelude.{Standing, runs, listens, Step, on_agreement, answered, on_open, on_verdict, on_update, on_message, hears, happens, Machine, kept, holding, hearer, by_pull, Call, Told, Fed, Stepped, Pulled, Life, born, connects, taken_behind, told, stepped, Eats, Goes, Lives, BeginsByOpenAndKeepalive}
+use Rattle.bgp_machine.specs.Prelude.{Standing, runs, listens, Step, on_agreement, answered, on_open, on_verdict, on_update, on_message, hears, happens, Machine, kept, holding, hearer, by_pull, Call, Told, Fed, Stepped, Pulled, Life, born, connects, taken_behind, told, stepped, Eats, Goes, Lives, BeginsByOpenAndKeepalive, IsAgreedOpen}
 use Rattle.bgp_machine.specs.declared.event.Event.TheVariants as event
 use Rattle.bgp_machine.specs.declared.state.State.TheVariants as state
 use Rattle.bgp_machine.specs.declared.timer.Timer.TheVariants as timer
@@ -32,14 +32,8 @@ use Rattle.bgp_frame.proofs.Hearings.{fed_holds, settled_by}
 
 -- the octets are an OPEN that was accepted and gave the context, and what is held
 record BeginsByOpen (s : Settings) (context : Option Context) (held octets : List ℕ) : Type 0 where
-  body : List ℕ
   spelled : List ℕ
-  is_open : IsFrame (record { kind = kind.Open; body = body }) spelled
-  said : Open
-  is_read : reading_of body ≡ Ok said
-  agreed : Context
-  accepted : agreement s said ≡ Ok agreed
-  gave : context ≡ Some agreed
+  opened : IsAgreedOpen s context spelled
   in_order : octets ≡ spelled ++ held
 
 -- what the octets are that were taken, in each state
@@ -115,14 +109,8 @@ module _ (s : Settings) (ctx : Option Context) (peer : Option Said) (running : T
   agreement_keeps : (body : List ℕ) (said : Open) (r : Result Context PeerFault) (taken : List ℕ) → IsFrame (record { kind = kind.Open; body = body }) held
       → reading_of body ≡ Ok said → agreement s said ≡ r → taken ≡ held → StandsEmptied taken (on_agreement (at state.OpenSent) (said_by said) r)
   agreement_keeps body said (Ok agreed) taken frame read is h = record {
-    body = body;
     spelled = held;
-    is_open = frame;
-    said = said;
-    is_read = read;
-    agreed = agreed;
-    accepted = is;
-    gave = refl;
+    opened = record { body = body; is_open = frame; said = said; is_read = read; agreed = agreed; accepted = is; gave = refl };
     in_order = h ∙ sym (append-nil held);
   }
   agreement_keeps body said (Err fault) taken frame read is h = refl
@@ -153,14 +141,8 @@ module _ (s : Settings) (ctx : Option Context) (peer : Option Said) (running : T
 
   keepalive_keeps : (body taken : List ℕ) → IsFrame (record { kind = kind.Keepalive; body = body }) held → BeginsByOpen s ctx held taken → BeginsByOpenAndKeepalive s ctx taken
   keepalive_keeps body taken frame o = record {
-    open_body = o.body;
     open_octets = o.spelled;
-    is_open = o.is_open;
-    said = o.said;
-    is_read = o.is_read;
-    agreed = o.agreed;
-    accepted = o.accepted;
-    gave = o.gave;
+    opened = o.opened;
     keepalive_octets = held;
     is_keepalive = subst (λ (b : List ℕ). IsFrame (record { kind = kind.Keepalive; body = b }) held) (no_body body frame) frame;
     rest = [];
@@ -235,25 +217,13 @@ fed_stands s state.Connect ctx held piece taken n counts h = ap (λ (k : ℕ). h
 fed_stands s state.Active ctx held piece taken n counts h = ap (λ (k : ℕ). held ++ take k piece) counts ∙ append-nil held ∙ h
 fed_stands s state.OpenSent ctx held piece taken n counts h = ap (λ (t : List ℕ). t ++ take n piece) h
 fed_stands s state.OpenConfirm ctx held piece taken n counts o = record {
-  body = o.body;
   spelled = o.spelled;
-  is_open = o.is_open;
-  said = o.said;
-  is_read = o.is_read;
-  agreed = o.agreed;
-  accepted = o.accepted;
-  gave = o.gave;
+  opened = o.opened;
   in_order = ap (λ (t : List ℕ). t ++ take n piece) o.in_order ∙ append_assoc o.spelled held (take n piece);
 }
 fed_stands s state.Established ctx held piece taken n counts o = record {
-  open_body = o.open_body;
   open_octets = o.open_octets;
-  is_open = o.is_open;
-  said = o.said;
-  is_read = o.is_read;
-  agreed = o.agreed;
-  accepted = o.accepted;
-  gave = o.gave;
+  opened = o.opened;
   keepalive_octets = o.keepalive_octets;
   is_keepalive = o.is_keepalive;
   rest = o.rest ++ take n piece;

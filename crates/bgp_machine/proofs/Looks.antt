@@ -1,5 +1,5 @@
 -- What a look finds is what a pull does.
-use Rattle.std.proofs.Common.{◌≡◌, ℕ, ◌⊎◌, Bool, true, false, List, [], ◌++◌, take, Option, Some, None, Result, Ok, Err, refl, sym, ap, subst, ◌∙◌, inl, inr}
+use Rattle.bgp_wire.proofs.Std.{◌≡◌, ℕ, ◌⊎◌, true, false, List, [], ◌++◌, take, Option, Some, None, Result, Ok, Err, refl, sym, ap, subst, ◌∙◌, inl, inr, both_ways}
 use Rattle.arrayvec.specs.ArrayVec.{ArrayVec}
 use Rattle.bgp_frame.specs.declared.fault.HeadFault.{HeadFault}
 use Rattle.bgp_frame.specs.declared.step.Frame.{Frame}
@@ -14,9 +14,6 @@ use Rattle.bgp_machine.specs.declared.heard.Heard.{Heard}
 use Rattle.bgp_machine.specs.Prelude.{on_heard, has_routes, IsSaid, Hears, HearsFault, IsAtRest, CanRest, gone, step_of, Finds, Standing, listens, Step, hears, Machine, holding, hearer, IsFed, IsJudged, HeldTakesMemory, IsPulled, FrontTakesMemory}
 use Rattle.bgp_machine.specs.Look.{Looked}
 use Rattle.bgp_machine.proofs.Cuttings.{is_hearer, pulls_as_fed}
-
-true_not : (b : Bool) → b ≡ false → b ≡ true → ⊥
-true_not b is also = let no : false ≡ true = sym is ∙ also in cc
 
 same_content : (m other : Message) (o : Option (Result Message HeadFault)) → o ≡ Some (Ok m) → o ≡ Some (Ok other) → m ≡ other
 same_content m other o is also = let same : Some (Ok m) ≡ Some (Ok other) = sym is ∙ also in cc
@@ -68,7 +65,7 @@ module _ (s : Settings) (x : Standing) (held piece : List ℕ) (n : ℕ) (h : He
         same = refl;
         pulls = pulls (Err f) found.0 is.up found.1 (is.does s);
         within = found.0.takes.within;
-        memory = λ has. absurd (true_not (has_routes h) is.none has);
+        memory = λ has. absurd (both_ways (has_routes h) is.none has);
         said = λ other says. absurd (not_both other f octets content says);
       }
 

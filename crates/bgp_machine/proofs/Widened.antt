@@ -1,8 +1,6 @@
 -- Each number of an UPDATE is within its field where each number is of what a speaker with AS numbers of two octets is told of it.
-use Rattle.std.proofs.Common.{◌≡◌, ℕ, Bool, true, false, cond, List, [], ◌∷◌, Option, Some, None, subst, refl, sym, arith}
+use Rattle.bgp_wire.proofs.Std.{◌≡◌, ℕ, Bool, true, false, cond, List, [], ◌∷◌, Option, Some, None, subst, refl, sym, arith, list_any, AllByRecursion, ltb-false, or_parts}
 use Rattle.std.specs.Prelude.{option_map}
-use Rattle.std.specs.List.{list_any, AllByRecursion}
-use Rattle.std.proofs.lemmas.Bool.{ltb-false, or_parts}
 use Rattle.bgp_numbers.specs.declared.attribute.TheConstants.{AS4_PATH, AS4_AGGREGATOR}
 use Rattle.bgp_prefix.specs.declared.as_number.AsNumber.{AsNumber}
 use Rattle.bgp_attr.specs.declared.aggregator.Aggregator.{Aggregator}

@@ -78,16 +78,20 @@ abbrev pub Lives : Life → List Call → Life → Type 0
 Lives a [] b = b ≡ a
 Lives a (call ∷ later) b = (m : Life) × Goes a call m × Lives m later b
 
--- the octets begin with an OPEN that was accepted and gave the context, and then a KEEPALIVE
-pub record BeginsByOpenAndKeepalive (s : Settings) (context : Option Context) (octets : List ℕ) : Type 0 where
-  pub open_body : List ℕ
-  pub open_octets : List ℕ
-  pub is_open : IsFrame (record { kind = kind.Open; body = open_body }) open_octets
+-- the octets are an OPEN that was accepted and gave the context
+pub record IsAgreedOpen (s : Settings) (context : Option Context) (octets : List ℕ) : Type 0 where
+  pub body : List ℕ
+  pub is_open : IsFrame (record { kind = kind.Open; body = body }) octets
   pub said : Open
-  pub is_read : reading_of open_body ≡ Ok said
+  pub is_read : reading_of body ≡ Ok said
   pub agreed : Context
   pub accepted : agreement s said ≡ Ok agreed
   pub gave : context ≡ Some agreed
+
+-- the octets begin with an OPEN that was accepted and gave the context, and then a KEEPALIVE
+pub record BeginsByOpenAndKeepalive (s : Settings) (context : Option Context) (octets : List ℕ) : Type 0 where
+  pub open_octets : List ℕ
+  pub opened : IsAgreedOpen s context open_octets
   pub keepalive_octets : List ℕ
   pub is_keepalive : IsFrame (record { kind = kind.Keepalive; body = [] }) keepalive_octets
   pub rest : List ℕ

@@ -2,7 +2,7 @@
 pub use Rattle.bgp_machine.specs.ActionView.{action_of, takes_memory}
 pub use Rattle.bgp_machine.specs.Cutting.{CanBeFed, CanRest, Cuts, Done, IsAtRest, Piece, RestsBehind, RestsUnless, by_octet, by_octets, joined, settled}
 pub use Rattle.bgp_machine.specs.Heard.{Hears, HearsFault, IsFaultOf, IsHeardOf, IsSaid, SaysVerdict, has_routes, on_heard, suits}
-pub use Rattle.bgp_machine.specs.Life.{BeginsByOpenAndKeepalive, Call, Eats, Fed, Goes, Life, Lives, Pulled, Stepped, Told, born, connects, stepped, taken_behind, told}
+pub use Rattle.bgp_machine.specs.Life.{BeginsByOpenAndKeepalive, Call, Eats, Fed, Goes, IsAgreedOpen, Life, Lives, Pulled, Stepped, Told, born, connects, stepped, taken_behind, told}
 pub use Rattle.bgp_machine.specs.Look.{Finds, IsLook, IsOwnLook, gone, step_of}
 pub use Rattle.bgp_machine.specs.Pulling.{FrontTakesMemory, IsFedAndStepped, IsPulled, where_found}
 pub use Rattle.bgp_machine.specs.Run.{CanBePulled, by_look, by_pull}

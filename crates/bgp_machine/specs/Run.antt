@@ -1,7 +1,7 @@
 -- Pieces that a session hears, each call behind call until nothing more comes of it.
 use Rattle.std.specs.Prelude.{◌≡◌, ℕ, List, Option, None, Some}
 use Rattle.bgp_frame.specs.Hearing as hearing
-use Rattle.bgp_frame.specs.Prelude.{Way, CanBeHeard}
+use Rattle.bgp_frame.specs.Prelude.{CanBeHeard}
 use Rattle.bgp_machine.specs.declared.action.Action.{Action}
 use Rattle.bgp_machine.specs.Look.{Looked, IsLook, gone, step_of}
 use Rattle.bgp_machine.specs.Session.{Machine, IsFed, hearer}

@@ -1,6 +1,6 @@
 //! What is done on what is heard.
 
-ghost use Rattle.std.specs.Prelude.{◌≡◌, ◌<◌, ◌++◌, [], ◌∷◌, length, true, Some};
+ghost use Rattle.std.specs.Prelude.{◌≡◌, ◌<◌, ◌++◌, [], ◌∷◌, length, true, false, Some};
 ghost use Rattle.bgp_open.specs.Prelude.{said_of};
 ghost use Rattle.bgp_machine.specs.declared.action.Action.TheVariants.{Close};
 ghost use Rattle.bgp_machine.specs.Prelude.{on_heard, suits, accepted, go, hold_on, leave};
@@ -74,6 +74,31 @@ impl Standing {
     {
         actions.push(ActionView::Close);
         self.leave(actions);
+    }
+
+    /// Does what is to be done on what leaves the session where it stands: on an UPDATE that doesn't end it, or a KEEPALIVE, while the Hold Timer runs.
+    /// Answers whether that was heard, as it mostly is; nothing is done on anything else.
+    #[inline(always)]
+    pub(crate) fn stays<'a>(&self, heard: &'a Heard<'a>, actions: &mut ActionViews<'a>) -> bool
+        requires { actions.old ≡ [] }
+        ensures actions { result ≡ true → actions.new ≡ (on_heard self.now heard.entry.now).actions }
+        ensures same { result ≡ true → (on_heard self.now heard.entry.now).next ≡ self.now }
+        ensures none { result ≡ false → actions.new ≡ [] }
+    {
+        let Some(context) = self.established() else {
+            return false;
+        };
+        if context.hold == 0 || !self.timers.hold {
+            return false;
+        }
+        match heard {
+            Heard::Update(view) => actions.push(ActionView::Announce(view)),
+            Heard::Withdraw(view) => actions.push(ActionView::Withdraw(view)),
+            Heard::Keepalive => {}
+            _ => return false,
+        }
+        actions.push(ActionView::Arm(Timer::Hold, context.hold));
+        true
     }
 
     /// Does what is to be done on what was heard.

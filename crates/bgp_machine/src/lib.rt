@@ -12,7 +12,6 @@ mod heard;
 mod hearing;
 pub mod laws;
 mod look;
-mod origin;
 mod phase;
 mod send_fault;
 mod sending;

@@ -3,25 +3,27 @@
 use crate::action::Actions;
 use crate::action_views::ActionViews;
 use crate::heard::Heard;
-use crate::origin::Origin;
 use crate::session::Session;
 use crate::standing::Standing;
 use std::alloc::{AllocError, Global};
 use std::marker::Model;
+use std::snapshot::Snapshot;
 
 /// Where a session goes on: what [`Session::go`] takes. It belongs to the session as it was at the look, and to one in the same state.
 #[derive(Drop)]
 pub struct Next {
-    pub(crate) standing: Standing,
-    origin: Origin,
+    /// None: it stands as it stood.
+    pub(crate) standing: Option<Standing>,
+    origin: Snapshot<Session>,
 }
 
 impl Model for Next {
+    ghost use Rattle.std.specs.Prelude.{unwrap_or};
     ghost use Rattle.bgp_machine.specs.Session.{Going};
 
     ghost Value = { Going };
 
-    ghost view = { λ n. record { from = n.origin.session; standing = n.standing } };
+    ghost view = { λ n. record { from = n.origin.value; standing = unwrap_or n.standing n.origin.value.standing } };
 }
 
 /// A message, or a header with a fault, as a session hears it; what is to be done on it, and where the session goes on. It takes no memory: it
@@ -78,11 +80,30 @@ impl<'a> Look<'a> {
         ensures from { result.from ≡ self.now.was }
         ensures next { result.standing ≡ (step_of self.now).next }
     {
-        let mut standing = self.was.standing().copy();
         actions.clear();
+        if self.was.standing().stays(&self.heard, actions) {
+            return Next {
+                standing: None,
+                origin: Snapshot::of(self.was),
+            };
+        }
+        self.turn(actions)
+    }
+
+    /// The same of what is rarer, in a function of its own: a call clears the room of all that it makes.
+    #[inline(never)]
+    fn turn(&'a self, actions: &mut ActionViews<'a>) -> Next
+        requires { actions.old ≡ [] }
+        ensures actions { actions.new ≡ (step_of self.now).actions }
+        ensures from { result.from ≡ self.now.was }
+        ensures next { result.standing ≡ (step_of self.now).next }
+    {
+        let mut standing = self.was.standing().copy();
         standing.act(&self.heard, actions);
-        let origin = Origin::of(self.was);
-        Next { standing, origin }
+        Next {
+            standing: Some(standing),
+            origin: Snapshot::of(self.was),
+        }
     }
 
     /// Puts what is to be done into a set, each action with memory of its own; what was in it before is gone. Answers where the session goes on.

@@ -180,7 +180,10 @@ impl Session {
         requires { next.from ≡ self.old }
         ensures { self.new ≡ gone self.old next.standing }
     {
-        self.standing = next.standing;
+        let standing = next.standing;
+        if let Some(standing) = standing {
+            self.standing = standing;
+        }
         self.framer.clear();
     }
 }

@@ -1,8 +1,7 @@
 -- Bodies that are written are as long as their kind allows, and come to the message that was meant.
-use Rattle.std.proofs.Common.{cond, ◌||◌, ◌≡◌, ℕ, ◌+◌, ◌≤◌, Bool, true, false, ltb, List, [], ◌∷◌, length, Option, Some, None, Result, Ok, Err, IsTrue, OnOk, IsErrOf, refl, sym, ap, arith}
+use Rattle.bgp_wire.proofs.Std.{cond, ◌||◌, ◌≡◌, ℕ, ◌+◌, ◌≤◌, Bool, true, false, ltb, List, [], ◌∷◌, length, Option, Some, None, Result, Ok, Err, IsTrue, OnOk, IsErrOf, refl, sym, ap, arith, list_any, ltb-true, ltb-false, or_parts}
 use Rattle.std.specs.Prelude.{is_none}
-use Rattle.std.specs.List.{list_any}
-use Rattle.std.proofs.lemmas.Bool.{ltb-true, ltb-false, true≢false, or_parts}
+use Rattle.std.proofs.lemmas.Bool.{true≢false}
 use Rattle.std.proofs.lemmas.List.{length-append}
 use Rattle.bgp_frame.specs.declared.kind.Kind.TheVariants as kind
 use Rattle.bgp_frame.specs.declared.notification.Notification.{Notification}

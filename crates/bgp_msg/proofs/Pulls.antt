@@ -1,6 +1,5 @@
 -- A decoder is a hearer of octets, and what it finds by a look is what a pull gives.
-use Rattle.std.proofs.Common.{◌≡◌, ℕ, ◌≤◌, ◌⊎◌, Bool, true, false, not, List, [], ◌∷◌, ◌++◌, length, take, Result, Ok, Err, OnErr, Option, Some, option_map, refl, sym, ap, ap₂, subst, ◌∙◌, arith, inl, inr}
-use Rattle.std.proofs.lemmas.Bool.{not-true}
+use Rattle.bgp_wire.proofs.Std.{◌≡◌, ℕ, ◌≤◌, ◌⊎◌, Bool, true, false, not, List, [], ◌∷◌, ◌++◌, length, take, Result, Ok, Err, OnErr, Option, Some, option_map, refl, sym, ap, ap₂, subst, ◌∙◌, arith, inl, inr, not-true}
 use Rattle.bgp_frame.specs.declared.fault.HeadFault.{HeadFault}
 use Rattle.bgp_frame.specs.declared.step.Frame.{Frame}
 use Rattle.bgp_frame.specs.Prelude.{Message, Waits, ShowsFront, IsToFeed, IsPull, IsContent, Judges}

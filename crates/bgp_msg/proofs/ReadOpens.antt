@@ -1,10 +1,8 @@
 -- An OPEN that was read can be written, in no more octets.
-use Rattle.std.proofs.Common.{◌≡◌, ℕ, suc, ◌+◌, ◌≤◌, Bool, true, false, ◌||◌, cond, eqb, ltb, List, [], ◌∷◌, ◌++◌, length, Option, Some, None, refl, sym, ap, subst, ◌∙◌, arith}
-use Rattle.std.specs.List.{list_any}
-use Rattle.std.proofs.lemmas.Bool.{or_from, le-ltb}
+use Rattle.bgp_wire.proofs.Std.{◌≡◌, ℕ, suc, ◌+◌, ◌≤◌, Bool, true, false, ◌||◌, cond, eqb, ltb, List, [], ◌∷◌, ◌++◌, length, Option, Some, refl, sym, ap, subst, ◌∙◌, arith, list_any, or_from, le-ltb, list_any-append}
 use Rattle.std.proofs.lemmas.Grind.{flat_map-append}
 use Rattle.std.proofs.lemmas.List.{length-append, length-drop}
-use Rattle.std.proofs.lemmas.List.Folds.{list_any-append}
+use Rattle.std.proofs.lemmas.Option.{same_Some, none-some}
 use Rattle.bgp_wire.specs.Prelude.{AreOctets, Row}
 use Rattle.bgp_numbers.specs.declared.capability.TheConstants.{MULTIPROTOCOL, FOUR_OCTET_AS}
 use Rattle.bgp_open.specs.declared.capability.Capability.{Capability}
@@ -22,32 +20,26 @@ IsAlike c n = (length (capability_octets c) ≡ suc (suc n)) × (is_misnamed c �
 abbrev one : Capability → Option Capability
 one c = Some c
 
-same : (c d : Capability) → one c ≡ one d → c ≡ d
-same c d e = cc
-
-not_one : (c : Capability) → None ≡ one c → ⊥
-not_one c e = absurd cc
-
 multi-alike : (value : List ℕ) (c : Capability) → multi_of value ≡ Some c → IsAlike c (length value)
-multi-alike (high ∷ low ∷ reserved ∷ subsequent ∷ []) c e = subst (λ (d : Capability). IsAlike d 4) (same _ c e) (refl, refl)
-multi-alike [] c e = absurd (not_one c e)
-multi-alike (a ∷ []) c e = absurd (not_one c e)
-multi-alike (a ∷ b ∷ []) c e = absurd (not_one c e)
-multi-alike (a ∷ b ∷ d ∷ []) c e = absurd (not_one c e)
-multi-alike (a ∷ b ∷ d ∷ f ∷ g ∷ more) c e = absurd (not_one c e)
+multi-alike (high ∷ low ∷ reserved ∷ subsequent ∷ []) c e = subst (λ (d : Capability). IsAlike d 4) (same_Some _ c e) (refl, refl)
+multi-alike [] c e = absurd (none-some c e)
+multi-alike (a ∷ []) c e = absurd (none-some c e)
+multi-alike (a ∷ b ∷ []) c e = absurd (none-some c e)
+multi-alike (a ∷ b ∷ d ∷ []) c e = absurd (none-some c e)
+multi-alike (a ∷ b ∷ d ∷ f ∷ g ∷ more) c e = absurd (none-some c e)
 
 as4-alike : (value : List ℕ) (c : Capability) → as4_of value ≡ Some c → IsAlike c (length value)
-as4-alike (x ∷ y ∷ z ∷ w ∷ []) c e = subst (λ (d : Capability). IsAlike d 4) (same _ c e) (refl, refl)
-as4-alike [] c e = absurd (not_one c e)
-as4-alike (a ∷ []) c e = absurd (not_one c e)
-as4-alike (a ∷ b ∷ []) c e = absurd (not_one c e)
-as4-alike (a ∷ b ∷ d ∷ []) c e = absurd (not_one c e)
-as4-alike (a ∷ b ∷ d ∷ f ∷ g ∷ more) c e = absurd (not_one c e)
+as4-alike (x ∷ y ∷ z ∷ w ∷ []) c e = subst (λ (d : Capability). IsAlike d 4) (same_Some _ c e) (refl, refl)
+as4-alike [] c e = absurd (none-some c e)
+as4-alike (a ∷ []) c e = absurd (none-some c e)
+as4-alike (a ∷ b ∷ []) c e = absurd (none-some c e)
+as4-alike (a ∷ b ∷ d ∷ []) c e = absurd (none-some c e)
+as4-alike (a ∷ b ∷ d ∷ f ∷ g ∷ more) c e = absurd (none-some c e)
 
 alike-by : (code : ℕ) (value : List ℕ) (c : Capability) (t u : Bool) → eqb code MULTIPROTOCOL ≡ t → eqb code FOUR_OCTET_AS ≡ u → cond t (multi_of value) (cond u (as4_of value) (one (Other code value))) ≡ Some c → IsAlike c (length value)
 alike-by code value c true u e f is = multi-alike value c is
 alike-by code value c false true e f is = as4-alike value c is
-alike-by code value c false false e f is = subst (λ (d : Capability). IsAlike d (length value)) (same (Other code value) c is) (refl, or_from (eqb code MULTIPROTOCOL) (eqb code FOUR_OCTET_AS) e f)
+alike-by code value c false false e f is = subst (λ (d : Capability). IsAlike d (length value)) (same_Some (Other code value) c is) (refl, or_from (eqb code MULTIPROTOCOL) (eqb code FOUR_OCTET_AS) e f)
 
 capability-alike : (c : Capability) (b : List ℕ) → IsCapability c b → (length (capability_octets c) ≡ length b) × (is_misnamed c ≡ false)
 capability-alike c b s =

@@ -1,7 +1,6 @@
 -- A header in the room for it, in front of a body.
-use Rattle.std.proofs.Common.{◌≡◌, ℕ, ◌+◌, ◌≤◌, List, ◌++◌, length, take, drop, ◌↔◌, true, Result, Ok, Err, IsErrOf, OnOk, OnErr, sym, ap, ap₂, subst, ◌∙◌, arith, true≢false}
+use Rattle.bgp_wire.proofs.Std.{◌≡◌, ℕ, ◌+◌, ◌≤◌, List, ◌++◌, length, take, drop, ◌↔◌, true, Result, Ok, Err, IsErrOf, OnOk, OnErr, sym, ap, ap₂, subst, ◌∙◌, arith, true≢false, take-append_seam, drop-append_seam, drop-append-add}
 use Rattle.std.specs.Result.{is_ok}
-use Rattle.std.proofs.Math.Seq.{take-append_seam, drop-append_seam, drop-append-add}
 use Rattle.std.proofs.lemmas.List.{append_assoc, length-append}
 use Rattle.bgp_frame.specs.declared.kind.Kind.{Kind}
 use Rattle.bgp_frame.specs.Prelude.{header}

@@ -11,7 +11,6 @@ pub mod laws;
 mod look;
 mod message;
 mod narrow_encoding;
-mod origin;
 mod outcome;
 mod outcome_view;
 mod seen;

@@ -3,17 +3,17 @@
 ghost use Rattle.std.specs.Prelude.{◌≡◌};
 
 use crate::decoder::Decoder;
-use crate::origin::Origin;
 use crate::outcome_view::OutcomeView;
 use bgp_frame::HeadFault;
 use std::marker::Model;
+use std::snapshot::Snapshot;
 
 /// Where a decoder goes on behind what a look found: what [`Decoder::go`] takes. It belongs to the decoder as it was at the look, and to one in
 /// the same state.
 #[derive(Drop)]
 pub struct Next {
     resets: bool,
-    origin: Origin,
+    origin: Snapshot<Decoder>,
 }
 
 impl Model for Next {
@@ -21,7 +21,7 @@ impl Model for Next {
 
     ghost Value = { Going };
 
-    ghost view = { λ n. record { from = n.origin.decoder; resets = n.resets } };
+    ghost view = { λ n. record { from = n.origin.value; resets = n.resets } };
 }
 
 impl Next {
@@ -29,7 +29,7 @@ impl Next {
     pub(crate) fn new(decoder: &Decoder, resets: bool) -> Next
         ensures { result ≡ record { from = decoder.now; resets = resets } }
     {
-        let origin = Origin::of(decoder);
+        let origin = Snapshot::of(decoder);
         Next { resets, origin }
     }
 

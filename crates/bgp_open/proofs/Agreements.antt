@@ -1,7 +1,6 @@
 -- The first AS number among capabilities, and that both sides of a session agree.
-use Rattle.std.proofs.Common.{◌≡◌, ℕ, Bool, true, false, not, ◌&&◌, cond, eqb, ◌++◌, Option, Some, None, Ok, Err, refl, sym, ap, ◌∙◌, inl, inr}
+use Rattle.bgp_wire.proofs.Std.{◌≡◌, ℕ, Bool, true, false, not, ◌&&◌, cond, eqb, List, ◌++◌, Option, Some, None, Ok, Err, refl, sym, ap, ◌∙◌, inl, inr, list_any}
 use Rattle.std.specs.Prelude.{is_some, unwrap_or, min}
-use Rattle.std.specs.List.{list_any}
 use Rattle.std.proofs.lemmas.Bool.{eqb-true, eq-eqb, ne_eqb, true≢false}
 use Rattle.std.proofs.lemmas.Bool.Decides.{eqb_tells}
 use Rattle.std.proofs.Math.Bool.{and_comm}
@@ -9,6 +8,7 @@ use Rattle.std.proofs.Math.Nat.{min_comm}
 use Rattle.bgp_numbers.specs.declared.TheConstants.{AS_TRANS}
 use Rattle.bgp_numbers.specs.declared.afi.TheConstants.{IPV4, IPV6}
 use Rattle.bgp_numbers.specs.declared.safi.TheConstants.{UNICAST}
+use Rattle.bgp_open.specs.declared.capability.Capability.{Capability}
 use Rattle.bgp_open.specs.declared.capability.Capability.TheVariants.{Multi, As4}
 use Rattle.bgp_open.specs.declared.context.Context.{Context}
 use Rattle.bgp_open.specs.Prelude.{is_wide, Settings, IsAllowed, field_for, offered, own_of, peer_as_of, same_id, context_of, agreement, first_as4, is_unicast}
@@ -18,42 +18,32 @@ use Rattle.bgp_open.proofs.Configs.{allowed-wide}
 -- ---- both sides
 
 -- what a speaker offers is found again
-finds_as4 : (p q r : Bool) (n : ℕ) → first_as4 (offered p (Multi IPV4 UNICAST) ++ (offered q (Multi IPV6 UNICAST) ++ offered r (As4 n))) ≡ cond r (Some n) None
-finds_as4 false false false n = refl
-finds_as4 false false true n = refl
-finds_as4 false true false n = refl
-finds_as4 false true true n = refl
-finds_as4 true false false n = refl
-finds_as4 true false true n = refl
-finds_as4 true true false n = refl
-finds_as4 true true true n = refl
+abbrev offers : Bool → Bool → Bool → ℕ → List Capability
+offers p q r n = offered p (Multi IPV4 UNICAST) ++ (offered q (Multi IPV6 UNICAST) ++ offered r (As4 n))
 
-pub finds_ip4 : (p q r : Bool) (n : ℕ) → list_any (is_unicast IPV4) (offered p (Multi IPV4 UNICAST) ++ (offered q (Multi IPV6 UNICAST) ++ offered r (As4 n))) ≡ p
-finds_ip4 false false false n = refl
-finds_ip4 false false true n = refl
-finds_ip4 false true false n = refl
-finds_ip4 false true true n = refl
-finds_ip4 true false false n = refl
-finds_ip4 true false true n = refl
-finds_ip4 true true false n = refl
-finds_ip4 true true true n = refl
+finds : (p q r : Bool) (n : ℕ)
+    → (first_as4 (offers p q r n) ≡ cond r (Some n) None) × ((list_any (is_unicast IPV4) (offers p q r n) ≡ p) × (list_any (is_unicast IPV6) (offers p q r n) ≡ q))
+finds false false false n = (refl, (refl, refl))
+finds false false true n = (refl, (refl, refl))
+finds false true false n = (refl, (refl, refl))
+finds false true true n = (refl, (refl, refl))
+finds true false false n = (refl, (refl, refl))
+finds true false true n = (refl, (refl, refl))
+finds true true false n = (refl, (refl, refl))
+finds true true true n = (refl, (refl, refl))
 
-pub finds_ip6 : (p q r : Bool) (n : ℕ) → list_any (is_unicast IPV6) (offered p (Multi IPV4 UNICAST) ++ (offered q (Multi IPV6 UNICAST) ++ offered r (As4 n))) ≡ q
-finds_ip6 false false false n = refl
-finds_ip6 false false true n = refl
-finds_ip6 false true false n = refl
-finds_ip6 false true true n = refl
-finds_ip6 true false false n = refl
-finds_ip6 true false true n = refl
-finds_ip6 true true false n = refl
-finds_ip6 true true true n = refl
+pub finds_ip4 : (p q r : Bool) (n : ℕ) → list_any (is_unicast IPV4) (offers p q r n) ≡ p
+finds_ip4 p q r n = (finds p q r n).1.0
+
+pub finds_ip6 : (p q r : Bool) (n : ℕ) → list_any (is_unicast IPV6) (offers p q r n) ≡ q
+finds_ip6 p q r n = (finds p q r n).1.1
 
 is_some_of : (r : Bool) (n : ℕ) → is_some (cond r (Some n) None) ≡ r
 is_some_of true n = refl
 is_some_of false n = refl
 
-pub has_as4 : (p q r : Bool) (n : ℕ) → is_some (first_as4 (offered p (Multi IPV4 UNICAST) ++ (offered q (Multi IPV6 UNICAST) ++ offered r (As4 n)))) ≡ r
-has_as4 p q r n = ap is_some (finds_as4 p q r n) ∙ is_some_of r n
+pub has_as4 : (p q r : Bool) (n : ℕ) → is_some (first_as4 (offers p q r n)) ≡ r
+has_as4 p q r n = ap is_some (finds p q r n).0 ∙ is_some_of r n
 
 number_of : (as4 : Bool) (wide : Bool) (n : ℕ) → (wide && not as4) ≡ false → unwrap_or (cond as4 (Some n) None) (cond wide AS_TRANS n) ≡ n
 number_of true wide n h = refl
@@ -63,7 +53,7 @@ number_of false true n h = absurd (true≢false h)
 -- an allowed speaker's own AS number is what its peer finds
 pub peer_as-own : (s : Settings) → IsAllowed s → peer_as_of (own_of s) ≡ s.local_as
 peer_as-own s allowed =
-    ap (λ (o : Option ℕ). unwrap_or o (field_for s.local_as)) (finds_as4 s.ip4 s.ip6 s.as4 s.local_as)
+    ap (λ (o : Option ℕ). unwrap_or o (field_for s.local_as)) (finds s.ip4 s.ip6 s.as4 s.local_as).0
     ∙ number_of s.as4 (is_wide s.local_as) s.local_as (allowed-wide s allowed)
 
 abbrev shared : Settings → Settings → Context

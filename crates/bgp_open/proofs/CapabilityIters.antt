@@ -1,8 +1,6 @@
 -- One step of an iterator over capabilities.
-use Rattle.std.proofs.Common.{◌≡◌, ℕ, ◌<◌, List, [], ◌∷◌, ◌++◌, length, Some, None, refl, ap, ◌∙◌}
-use Rattle.std.specs.List.{flat_map}
+use Rattle.bgp_wire.proofs.Std.{◌≡◌, ℕ, ◌<◌, List, [], ◌∷◌, ◌++◌, length, Some, None, refl, ap, ◌∙◌, flat_map, flat_map-cons}
 use Rattle.std.proofs.lemmas.List.{append-nil}
-use Rattle.std.proofs.lemmas.List.Concat.{flat_map-cons}
 use Rattle.bgp_wire.specs.Prelude.{pieces}
 use Rattle.bgp_wire.proofs.Walks.{shorter, first_then, no_more}
 use Rattle.bgp_open.specs.declared.capability.Capability.{Capability}

@@ -1,7 +1,5 @@
 -- What a speaker says of itself is spelled by its written form, and its capabilities are read from their row.
-use Rattle.std.proofs.Common.{◌≡◌, List, ap, ◌∙◌, ℕ, ◌<◌, ◌^◌, Bool, true, false, cond, ◌++◌, length, refl, arith}
-use Rattle.std.specs.List.{list_any, AllByRecursion}
-use Rattle.std.proofs.lemmas.Bool.{ltb-false}
+use Rattle.bgp_wire.proofs.Std.{◌≡◌, List, ap, ◌∙◌, ℕ, ◌<◌, ◌^◌, Bool, true, false, cond, ◌++◌, length, refl, arith, list_any, AllByRecursion, ltb-false}
 use Rattle.bgp_wire.specs.Prelude.{Row, pieces}
 use Rattle.bgp_wire.proofs.Behinds.{pieces-whole}
 use Rattle.bgp_numbers.specs.declared.TheConstants.{AS_TRANS}

@@ -2,19 +2,12 @@
 use Rattle.std.proofs.Common.{◌≡◌, ℕ, Bool, true, false, ◌||◌, eqb, List, [], ◌∷◌, Option, Some, None, refl, sym, ◌∙◌}
 use Rattle.std.specs.List.{list_any}
 use Rattle.std.specs.Option.{option_or}
+use Rattle.std.proofs.Math.Bool.{or-false, or_assoc}
 use Rattle.bgp_numbers.specs.declared.afi.TheConstants.{IPV4, IPV6}
 use Rattle.bgp_open.specs.declared.capability.Capability.{Capability}
 use Rattle.bgp_open.specs.declared.capability.Capability.TheVariants.{Multi, As4, Other}
 use Rattle.bgp_open.specs.declared.message.Open.{Open}
 use Rattle.bgp_open.specs.Prelude.{code_of, Told, first_as4, is_unicast, codes_of, told_by, plain, also_offers, offering}
-
-or_none : (p : Bool) → (p || false) ≡ p
-or_none true = refl
-or_none false = refl
-
-or_both : (p q r : Bool) → ((p || q) || r) ≡ (p || (q || r))
-or_both true q r = refl
-or_both false q r = refl
 
 or_turned : (p q r : Bool) → ((q || p) || r) ≡ (p || (q || r))
 or_turned true true r = refl
@@ -52,11 +45,11 @@ same f h i m n a b d e s t p q r u = rw (p, q, r, u) refl
 offering-with : (p : Told) (caps : List Capability) → offering p caps ≡ with p caps
 offering-with p [] =
     sym (same p.as_field p.hold p.id _ p.as4 _ p.ip4 _ p.ip6 (λ code. p.codes code || false) p.codes
-    (number-none p.as4) (or_none p.ip4) (or_none p.ip6) (λ i code. or_none (p.codes code) i))
+    (number-none p.as4) (or-false p.ip4) (or-false p.ip6) (λ i code. or-false (p.codes code) i))
 offering-with p (c ∷ later) =
     offering-with (also_offers p c) later
     ∙ same p.as_field p.hold p.id _ _ _ _ _ _ (λ code. (eqb code (code_of c) || p.codes code) || codes_of later code) (λ code. p.codes code || codes_of (c ∷ later) code)
-    (number-both p.as4 c later) (or_both p.ip4 (is_unicast IPV4 c) _) (or_both p.ip6 (is_unicast IPV6 c) _)
+    (number-both p.as4 c later) (or_assoc p.ip4 (is_unicast IPV4 c) _) (or_assoc p.ip6 (is_unicast IPV6 c) _)
     (λ i code. or_turned (p.codes code) (eqb code (code_of c)) (codes_of later code) i)
 
 -- an OPEN tells what its capabilities tell one by one

@@ -1,5 +1,5 @@
 -- An OPEN is read as what it spells, and what is read is spelled so.
-use Rattle.std.proofs.Common.{◌≡◌, ◌≢◌, ℕ, ◌≤◌, Bool, true, false, not, ◌&&◌, cond, eqb, ltb, List, [], ◌∷◌, length, Option, Some, None, Result, Ok, Err, refl, sym, ap, subst, ◌∙◌}
+use Rattle.bgp_wire.proofs.Std.{◌≡◌, ◌≢◌, ℕ, ◌≤◌, Bool, true, false, not, ◌&&◌, cond, eqb, ltb, List, [], ◌∷◌, length, Option, Some, None, Result, Ok, Err, refl, sym, ap, subst, ◌∙◌, not-false}
 use Rattle.std.specs.Prelude.{IfOk}
 use Rattle.std.proofs.lemmas.Bool.{eqb-true, eq-eqb, ne_eqb, true≢false}
 use Rattle.bgp_wire.specs.Prelude.{when, pieces}
@@ -38,7 +38,7 @@ all_false true true true true ne = absurd (ne refl refl refl refl)
 pub zero-id : (a b c d : ℕ) → (a ∷ b ∷ c ∷ d ∷ []) ≢ zero_id → is_zero_id (a ∷ b ∷ c ∷ d ∷ []) ≡ false
 zero-id a b c d ne = all_false (eqb a 0) (eqb b 0) (eqb c 0) (eqb d 0) (λ p q r s. ne (rw (eqb-true a 0 p, eqb-true b 0 q, eqb-true c 0 r, eqb-true d 0 s) refl))
 
-rest_some : (short unknown : Bool) → cond short (Some Parameter) (cond unknown (Some UnknownParameter) (Some Parameter)) ≡ None → ⊥
+pub rest_some : (short unknown : Bool) → cond short (Some Parameter) (cond unknown (Some UnknownParameter) (Some Parameter)) ≡ None → ⊥
 rest_some true unknown e = absurd cc
 rest_some false true e = absurd cc
 rest_some false false e = absurd cc
@@ -70,10 +70,6 @@ none-passes false false (Some f) h z e = absurd cc
 none-passes false false None true z e = absurd cc
 none-passes false false None false true e = absurd cc
 none-passes false false None false false e = record { version = refl; counted = refl; row = refl; hold = refl; id = refl }
-
-not-false : (t : Bool) → not t ≡ false → t ≡ true
-not-false true e = refl
-not-false false e = absurd (true≢false e)
 
 -- ---- a body and its value
 

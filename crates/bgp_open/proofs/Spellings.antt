@@ -1,10 +1,6 @@
 -- The written form of an OPEN spells it.
-use Rattle.std.proofs.Common.{◌≡◌, ◌≢◌, ℕ, ◌<◌, ◌^◌, Bool, true, false, ◌||◌, eqb, ltb, Some, List, [], ◌∷◌, ◌++◌, length, refl, sym, ap, subst, arith}
+use Rattle.bgp_wire.proofs.Std.{◌≡◌, ◌≢◌, ℕ, ◌<◌, ◌^◌, false, ◌||◌, eqb, ltb, Some, List, [], ◌∷◌, ◌++◌, length, refl, sym, ap, subst, arith, list_any, AllByRecursion, w16, w32, to_be_bytes, or_parts, from_be_bytes-to_be_bytes_2, from_be_bytes-to_be_bytes_4}
 use Rattle.std.proofs.lemmas.List.{append-nil, length-append}
-use Rattle.std.specs.List.{list_any, AllByRecursion}
-use Rattle.std.specs.Int.{w16, w32, to_be_bytes}
-use Rattle.std.proofs.lemmas.Bool.{true≢false}
-use Rattle.std.proofs.lemmas.Nat.{from_be_bytes-to_be_bytes_2, from_be_bytes-to_be_bytes_4}
 use Rattle.bgp_wire.specs.Prelude.{Row}
 use Rattle.bgp_wire.proofs.Rows.{Row-one}
 use Rattle.bgp_numbers.specs.declared.parameter.TheConstants.{CAPABILITIES}
@@ -72,10 +68,6 @@ canonical-spells o caps row small_as small_hold four allowed given are is p =
 
 -- ---- capabilities within their fields
 
-either_false : (p q : Bool) → (p || q) ≡ false → (p ≡ false) × (q ≡ false)
-either_false true q e = absurd (true≢false e)
-either_false false q e = (refl, e)
-
 capability-spells : (c : Capability) → HasRange c → is_misnamed c ≡ false → IsCapability c (capability_octets c)
 capability-spells (Multi family subsequent) small name = record {
   code = MULTIPROTOCOL;
@@ -90,19 +82,19 @@ capability-spells (As4 number) small name = record {
   means = ap (λ (n : ℕ). Some (As4 n)) (from_be_bytes-to_be_bytes_4 number small);
 }
 capability-spells (Other code value) small name =
-    let other = either_false (eqb code MULTIPROTOCOL) (eqb code FOUR_OCTET_AS) name in
+    let other = or_parts (eqb code MULTIPROTOCOL) (eqb code FOUR_OCTET_AS) name in
     record { code = code; value = value; octets = refl; means = rw (other.0, other.1) refl }
 
 pub ranges-spell : (caps : List Capability) → AllByRecursion HasRange caps → list_any is_misnamed caps ≡ false → Row IsCapability caps (row_octets caps)
 ranges-spell [] small names = refl
 ranges-spell (c ∷ caps) small names =
-    let other = either_false (is_misnamed c) (list_any is_misnamed caps) names in
+    let other = or_parts (is_misnamed c) (list_any is_misnamed caps) names in
     (capability_octets c, row_octets caps, refl, capability-spells c small.0 other.0, ranges-spell caps small.1 other.1)
 
 -- an OPEN that isn't bad is spelled by its written form
 pub good-spells : (o : Open) → HasRanges o → is_bad o ≡ false → IsOpen o (canonical o)
 good-spells o small good =
-    let hold = either_false (is_short_hold o.hold) (is_zero_id o.id || is_bad_row o.caps) good in
-    let id = either_false (is_zero_id o.id) (is_bad_row o.caps) hold.1 in
-    let names = either_false (ltb 253 (length (row_octets o.caps))) (list_any is_misnamed o.caps) id.1 in
+    let hold = or_parts (is_short_hold o.hold) (is_zero_id o.id || is_bad_row o.caps) good in
+    let id = or_parts (is_zero_id o.id) (is_bad_row o.caps) hold.1 in
+    let names = or_parts (ltb 253 (length (row_octets o.caps))) (list_any is_misnamed o.caps) id.1 in
     canonical-spells o o.caps (row_octets o.caps) small.as_field small.hold small.id hold.0 id.0 refl refl (ranges-spell o.caps small.caps names.1)

@@ -4,6 +4,7 @@ use Rattle.std.specs.List.{list_any}
 use Rattle.std.proofs.lemmas.Bool.{lt-ltb, le-ltb}
 use Rattle.std.proofs.lemmas.List.{length-append, take_more, take_all, flat_map_more}
 use Rattle.std.proofs.lemmas.List.Folds.{length-flat_map-take, list_any_at, list_any_more}
+use Rattle.std.proofs.Math.Bool.{or-true}
 use Rattle.bgp_wire.specs.Prelude.{Row}
 use Rattle.bgp_wire.proofs.Rows.{Row-push}
 use Rattle.bgp_open.specs.declared.capability.Capability.{Capability}
@@ -37,13 +38,9 @@ row-whole caps i b le so_far = subst (λ (cs : List Capability). IsRowOf cs b) (
 
 -- ---- which rows can't stand in a parameter
 
-or_true : (t : Bool) → (t || true) ≡ true
-or_true true = refl
-or_true false = refl
-
 pub row-misnamed : (caps : List Capability) (i : ℕ) (x : Capability) → i < length caps → x ≡ get_or caps i x → true ≡ is_misnamed x → is_bad_row caps ≡ true
 row-misnamed caps i x lt is name =
-    ap (λ (t : Bool). ltb 253 (length (row_octets caps)) || t) (list_any_at is_misnamed caps i x lt (ap is_misnamed (sym is) ∙ sym name)) ∙ or_true (ltb 253 (length (row_octets caps)))
+    ap (λ (t : Bool). ltb 253 (length (row_octets caps)) || t) (list_any_at is_misnamed caps i x lt (ap is_misnamed (sym is) ∙ sym name)) ∙ or-true (ltb 253 (length (row_octets caps)))
 
 pub row-long : (caps : List Capability) (i : ℕ) (x : Capability) (b : List ℕ) → i < length caps → x ≡ get_or caps i x → IsRowOf (take i caps) b
     → (length b + length (capability_octets x) ≤ 253 → ⊥) → is_bad_row caps ≡ true

@@ -1,12 +1,9 @@
 -- The first bits of octets: which bits they have, and how they are computed octet by octet.
-use Rattle.std.proofs.Common.{◌≡◌, ℕ, zero, suc, Bool, eqb, IsTrue, ◌+◌, ◌-◌, ◌*◌, ◌/◌, ◌%◌, ◌^◌, ◌<◌, ◌≤◌, List, [], ◌∷◌, ◌++◌, length, get_or, take, drop, set, replicate, refl, sym, ap, ◌∙◌, append_assoc, add-zero, arith, inl, inr, ap₂}
-use Rattle.std.specs.Int.{bit_at}
+use Rattle.bgp_wire.proofs.Std.{◌≡◌, ℕ, zero, suc, Bool, eqb, IsTrue, ◌+◌, ◌-◌, ◌*◌, ◌/◌, ◌%◌, ◌^◌, ◌<◌, ◌≤◌, List, [], ◌∷◌, ◌++◌, length, get_or, take, drop, set, replicate, refl, sym, ap, ◌∙◌, append_assoc, add-zero, arith, inl, inr, ap₂, bit_at, cases_lt, pow_pos, pow-add, length-replicate, get_or-replicate, get_or_past, get_or_append_left, get_or-append_right, same_lists, get_or_default, take_more, take-take, set_at, take-append-drop}
 use Rattle.std.specs.Cmp.Lexicographic.{pointwise}
 use Rattle.std.proofs.Math.Nat.{div-div-eq-div-mul, div-mul-le_self}
-use Rattle.std.proofs.lemmas.Bool.{cases_lt}
-use Rattle.std.proofs.lemmas.Nat.{pow_pos, pow-add}
 use Rattle.std.proofs.lemmas.Nat.Bits.{bit_at-zero, bit_at_cat_low, bit_at_cat_high, same_from_bits_below}
-use Rattle.std.proofs.lemmas.List.{append-nil, length-append, length-replicate, get_or-replicate, get_or_past, get_or_append_left, get_or-append_right, same_lists, get_or_default, take_all, take_more, take-take, set_at, take-append-drop, length-take, length-drop}
+use Rattle.std.proofs.lemmas.List.{append-nil, length-append, take_all, length-take, length-drop}
 use Rattle.std.proofs.lemmas.Bool.Decides.{Decides-eqb}
 use Rattle.std.proofs.lemmas.Slice.Eq.{slice_eq-Decides}
 use Rattle.bgp_wire.specs.Prelude.{AreOctets}

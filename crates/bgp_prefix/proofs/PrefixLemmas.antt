@@ -1,15 +1,10 @@
 -- Prefixes are read as they are spelled, and what is written is one spelling.
-use Rattle.std.proofs.Common.{◌≡◌, ℕ, suc, ◌*◌, ◌≤◌, Bool, true, false, cond, leb, ◌&&◌, List, [], ◌∷◌, ◌++◌, length, take, drop, Some, None, refl, sym, ap, ◌∙◌, subst, arith}
-use Rattle.std.proofs.lemmas.Bool.{leb-true, le-leb}
-use Rattle.std.proofs.lemmas.List.{length-append, length-take, take_at, drop_at, take-append-drop}
+use Rattle.bgp_wire.proofs.Std.{◌≡◌, ℕ, suc, ◌*◌, ◌≤◌, Bool, true, false, cond, leb, ◌&&◌, List, [], ◌∷◌, ◌++◌, length, take, drop, Some, None, refl, sym, ap, ◌∙◌, subst, arith, leb-true, le-leb, and_parts, take_at, drop_at, take-append-drop}
+use Rattle.std.proofs.lemmas.List.{length-append, length-take}
 use Rattle.bgp_wire.specs.Prelude.{AreOctets, Reads}
 use Rattle.bgp_wire.proofs.Pieces.{found, found_same, found_not}
 use Rattle.bgp_prefix.specs.Prelude.{octets_for, address_of, PrefixValue, IsValid, IsPrefix, prefix_of, one_prefix, spelling_of}
 use Rattle.bgp_prefix.proofs.BitLemmas.{length-address_of, AreOctets-address_of, HasNoBitPast-address_of, leading_bits-whole, address_of-take}
-
-both_true : (s t : Bool) → (s && t) ≡ true → (s ≡ true) × (t ≡ true)
-both_true true t e = (refl, e)
-both_true false t e = absurd cc
 
 module _ (width : ℕ) where
   -- ---- the reader
@@ -27,7 +22,7 @@ module _ (width : ℕ) where
       → (front : List ℕ) × (l ∷ b ≡ front ++ back) × IsPrefix width p front
   one_gives l b p back true both e =
       let k = octets_for l in
-      let tests = both_true (leb l (8 * width)) (leb k (length b)) both in
+      let tests = and_parts (leb l (8 * width)) (leb k (length b)) both in
       let held : length (take k b) ≡ k = omega (arith, length-take k b, leb-true _ _ tests.1) in
       subst (λ (q : PrefixValue × List ℕ). (front : List ℕ) × (l ∷ b ≡ front ++ q.1) × IsPrefix width q.0 front)
       (found_same PrefixValue (prefix_of width l (take k b), drop k b) (p, back) e) (

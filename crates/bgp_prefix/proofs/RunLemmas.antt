@@ -1,6 +1,5 @@
 -- Which fault a run has, and that what is written is a row. How a run is gone through, prefix by prefix, stands in `Rattle.bgp_wire.proofs.Walks`.
-use Rattle.std.proofs.Common.{◌≡◌, ℕ, ◌*◌, Bool, true, false, cond, ltb, List, [], ◌∷◌, Some, None, Err, refl, sym, ap}
-use Rattle.std.specs.List.{flat_map, slice_get, AllByRecursion}
+use Rattle.bgp_wire.proofs.Std.{◌≡◌, ℕ, ◌*◌, Bool, true, false, cond, ltb, List, [], ◌∷◌, Some, None, Err, refl, sym, ap, flat_map, slice_get, AllByRecursion}
 use Rattle.bgp_wire.specs.Prelude.{Row}
 use Rattle.bgp_prefix.specs.declared.fault.RunFault.{RunFault}
 use Rattle.bgp_prefix.specs.declared.fault.RunFault.TheVariants.{TooLong, PastEnd, Memory}

@@ -1,7 +1,6 @@
 -- Prefixes that are written as they lie in octets.
-use Rattle.std.proofs.Common.{◌≡◌, ℕ, ◌+◌, ◌-◌, ◌*◌, ◌<◌, ◌≤◌, List, [], ◌∷◌, ◌++◌, length, take, replicate, refl, sym, ap, ap₂, ◌∙◌, append_assoc, arith}
+use Rattle.bgp_wire.proofs.Std.{◌≡◌, ℕ, ◌+◌, ◌-◌, ◌*◌, ◌<◌, ◌≤◌, List, [], ◌∷◌, ◌++◌, length, take, replicate, refl, sym, ap, ap₂, ◌∙◌, append_assoc, arith, take-append_seam}
 use Rattle.std.specs.Int.Bits.{bit_and}
-use Rattle.std.proofs.Math.Seq.{take-append_seam}
 use Rattle.std.proofs.lemmas.List.{length-append}
 use Rattle.bgp_prefix.specs.Prelude.{octets_for, first_bits, leading_bits, address_of, prefix_of, spelling_of, mask_of}
 use Rattle.bgp_prefix.proofs.BitLemmas.{length-leading_bits, leading_bits-append}

@@ -30,7 +30,7 @@ pub fn first_prefix<const W: usize>(octets: &[u8]) -> Option<(Prefix<W>, &[u8])>
 }
 
 impl<'a, const W: usize> PrefixIter<'a, W> {
-    ghost use Rattle.std.specs.Prelude.{length};
+    ghost use Rattle.std.specs.Prelude.{length, nat_lt};
     ghost use Rattle.bgp_prefix.specs.Run.{run_of};
     ghost use Rattle.bgp_prefix.specs.PrefixIter.{prefixes_left};
 
@@ -39,6 +39,17 @@ impl<'a, const W: usize> PrefixIter<'a, W> {
         ensures { prefixes_left result ≡ (run_of W octets.now).0 }
     {
         PrefixIter { rest: octets }
+    }
+
+    /// Whether a prefix is still to come.
+    #[inline(always)]
+    pub fn has_next(&self) -> bool
+        ensures { result ≡ nat_lt 0 (length (prefixes_left self.now)) }
+    {
+        match cut_front::<W>(self.rest) {
+            Some(_) => true,
+            None => false,
+        }
     }
 
     /// How many prefixes are still to come.

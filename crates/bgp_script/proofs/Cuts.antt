@@ -1,7 +1,5 @@
 -- Where a text is cut.
-use Rattle.std.proofs.Common.{◌≡◌, ℕ, suc, ◌+◌, ◌-◌, ◌<◌, ◌≤◌, Bool, true, false, cond, not, eqb, ltb, List, [], ◌∷◌, length, take, drop, take_all, length-drop, Some, None, refl, sym, subst, ap, ◌∙◌, arith}
-use Rattle.std.proofs.lemmas.Bool.{ltb-true, ltb-false}
-use Rattle.std.specs.List.{position, position_or_len, onto_first}
+use Rattle.bgp_wire.proofs.Std.{◌≡◌, ℕ, suc, ◌+◌, ◌-◌, ◌<◌, ◌≤◌, Bool, true, false, cond, not, eqb, ltb, List, [], ◌∷◌, length, take, drop, take_all, length-drop, Some, None, refl, sym, subst, ap, ◌∙◌, arith, ltb-true, ltb-false, position, position_or_len, onto_first}
 use Rattle.bgp_script.specs.Lines.{lines_of}
 use Rattle.bgp_script.specs.Pieces.{pieces_at, is_none_left}
 

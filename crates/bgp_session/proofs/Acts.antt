@@ -8,23 +8,6 @@ use Rattle.bgp_session.specs.declared.side.Side.{Side}
 use Rattle.bgp_session.specs.Prelude.{with_machine, with_session, towards, Pair, pair, acted, all_acted}
 
 module _ (side : Side) where
-  -- the session stays as it is
-  acted_keeps : (p : Pair) (a : Action) → (acted side p a).this.session ≡ p.this.session
-  acted_keeps p action.Connect = refl
-  acted_keeps p action.Close = refl
-  acted_keeps p action.SendOpen = refl
-  acted_keeps p action.SendKeepalive = refl
-  acted_keeps p (action.SendNotification why) = refl
-  acted_keeps p (action.Arm timer seconds) = refl
-  acted_keeps p (action.Disarm timer) = refl
-  acted_keeps p (action.Announce u info) = refl
-  acted_keeps p (action.Withdraw routes) = refl
-  acted_keeps p action.Flush = refl
-
-  pub all_keeps : (p : Pair) (actions : List Action) → (all_acted side p actions).this.session ≡ p.this.session
-  all_keeps p [] = refl
-  all_keeps p (a ∷ later) = all_keeps (acted side p a) later ∙ acted_keeps p a
-
   -- the session can be changed before or behind, where its settings stay
   acted_moves : (p : Pair) (x : Machine) (a : Action) → x.settings ≡ p.this.session.settings → acted side (with_machine p x) a ≡ with_machine (acted side p a) x
   acted_moves p x action.Connect same = refl
@@ -37,6 +20,14 @@ module _ (side : Side) where
   acted_moves p x (action.Announce u info) same = refl
   acted_moves p x (action.Withdraw routes) same = refl
   acted_moves p x action.Flush same = refl
+
+  -- so it stays as it is
+  acted_keeps : (p : Pair) (a : Action) → (acted side p a).this.session ≡ p.this.session
+  acted_keeps p a = ap (λ (q : Pair). q.this.session) (acted_moves p p.this.session a refl)
+
+  pub all_keeps : (p : Pair) (actions : List Action) → (all_acted side p actions).this.session ≡ p.this.session
+  all_keeps p [] = refl
+  all_keeps p (a ∷ later) = all_keeps (acted side p a) later ∙ acted_keeps p a
 
   pub all_moves : (p : Pair) (x : Machine) (actions : List Action) → x.settings ≡ p.this.session.settings
       → all_acted side (with_machine p x) actions ≡ with_machine (all_acted side p actions) x

@@ -1,14 +1,10 @@
 -- What both sides agree on, and why one refuses the other.
-use Rattle.std.proofs.Common.{◌≡◌, ◌≢◌, ◌⊎◌, ℕ, Bool, true, false, not, ◌&&◌, cond, eqb, List, [], ◌∷◌, ◌++◌, Ok, Err, refl, sym, ap, ◌∙◌, inl, inr}
-use Rattle.std.specs.Prelude.{is_some}
-use Rattle.std.proofs.lemmas.Bool.{eqb-true, eq-eqb, true≢false, false≢true}
+use Rattle.bgp_wire.proofs.Std.{◌≡◌, ◌≢◌, ◌⊎◌, ℕ, Bool, true, false, not, ◌&&◌, cond, eqb, List, [], ◌∷◌, Ok, Err, refl, sym, ap, ◌∙◌, inl, inr, false≢true, and_parts}
+use Rattle.std.proofs.lemmas.Bool.{eqb-true, eq-eqb, true≢false}
 use Rattle.std.proofs.Math.Bool.{and_comm}
-use Rattle.bgp_numbers.specs.declared.afi.TheConstants.{IPV4, IPV6}
-use Rattle.bgp_numbers.specs.declared.safi.TheConstants.{UNICAST}
 use Rattle.bgp_open.specs.declared.agreement.PeerFault.{PeerFault}
-use Rattle.bgp_open.specs.declared.capability.Capability.TheVariants.{Multi, As4}
 use Rattle.bgp_open.specs.declared.context.Context.{Context}
-use Rattle.bgp_open.specs.Prelude.{Settings, offered, own_of, peer_as_of, same_id, context_of, agreement, peer_notification, first_as4}
+use Rattle.bgp_open.specs.Prelude.{Settings, own_of, peer_as_of, same_id, context_of, agreement, peer_notification}
 use Rattle.bgp_open.specs.declared.agreement.PeerFault.TheVariants as peer
 use Rattle.bgp_open.proofs.Agreements.{accepted, has_as4, peer_as-own}
 use Rattle.bgp_session.specs.declared.moves.Move.{Move}
@@ -40,15 +36,11 @@ refused false same x fault e = inl (let is : Err peer.PeerAs ≡ Err fault = e i
 refused true true x fault e = inr (let is : Err peer.Identifier ≡ Err fault = e in cc, refl)
 refused true false x fault e = absurd (let no : Ok x ≡ Err fault = e in cc)
 
-both_true : (p q : Bool) → (p && q) ≡ true → (p ≡ true) × (q ≡ true)
-both_true true q e = (refl, e)
-both_true false q e = absurd (false≢true e)
-
 same_id_is : (x y : List ℕ) → same_id x y ≡ true → x ≡ y
 same_id_is (a ∷ b ∷ c ∷ d ∷ []) (e ∷ f ∷ g ∷ h ∷ []) is =
-    let one = both_true (eqb a e) (eqb b f && (eqb c g && eqb d h)) is in
-    let two = both_true (eqb b f) (eqb c g && eqb d h) one.1 in
-    let three = both_true (eqb c g) (eqb d h) two.1 in
+    let one = and_parts (eqb a e) (eqb b f && (eqb c g && eqb d h)) is in
+    let two = and_parts (eqb b f) (eqb c g && eqb d h) one.1 in
+    let three = and_parts (eqb c g) (eqb d h) two.1 in
     let p : a ≡ e = eqb-true a e one.0 in
     let q : b ≡ f = eqb-true b f two.0 in
     let r : c ≡ g = eqb-true c g three.0 in
@@ -65,7 +57,7 @@ module _ (side : Side) (moves : List Move) (s t : Settings) (can : CanBeSet t) w
   reason_by peer.PeerAs (inr r) = absurd (let no : peer.PeerAs ≡ peer.Identifier = r.0 in cc)
   reason_by peer.Identifier (inl r) = absurd (let no : peer.Identifier ≡ peer.PeerAs = r.0 in cc)
   reason_by peer.Identifier (inr r) =
-      let both = both_true (eqb s.local_as s.peer_as) (same_id t.id s.id) r.1 in
+      let both = and_parts (eqb s.local_as s.peer_as) (same_id t.id s.id) r.1 in
       inr (inl (record { code_is = refl; subcode_is = refl; one_as = eqb-true s.local_as s.peer_as both.0; same_id = same_id_is t.id s.id both.1 }))
 
   pub refused_for : (fault : PeerFault) → agreement s (own_of t) ≡ Err fault → HasReason s t side moves (peer_notification fault).code (peer_notification fault).subcode

@@ -1,7 +1,7 @@
 -- Two ends of a connection: what is kept of both, and how one of them leaves.
-use Rattle.std.proofs.Common.{◌≡◌, ℕ, Bool, true, false, not, List, [], ◌∷◌, ◌++◌, Option, None, Some, Ok, refl, sym, ap, subst, ◌∙◌}
-use Rattle.std.specs.List.{AllByRecursion}
+use Rattle.bgp_wire.proofs.Std.{◌≡◌, ℕ, Bool, true, false, not, List, [], ◌∷◌, ◌++◌, Option, None, Some, Ok, refl, sym, ap, subst, ◌∙◌, AllByRecursion}
 use Rattle.std.proofs.lemmas.List.{append-nil}
+use Rattle.bgp_wire.proofs.Writes.{all_push}
 use Rattle.bgp_frame.specs.declared.notification.Notification.{Notification}
 use Rattle.bgp_open.specs.declared.context.Context.{Context}
 use Rattle.bgp_open.specs.Prelude.{agreement, Settings, own_of}
@@ -85,10 +85,6 @@ module _ (side : Side) (P : Pair → Type 0) where
   armed true a p same h = subst P (sym (same p)) h
 
 -- ---- notes
-
-note_more : (allowed : Note → Type 0) (notes : List Note) (n : Note) → AllByRecursion allowed notes → allowed n → AllByRecursion allowed (notes ++ n ∷ [])
-note_more allowed [] n all is = (is, tt)
-note_more allowed (m ∷ notes) n all is = (all.0, note_more allowed notes n all.1 is)
 
 -- ---- states
 
@@ -198,7 +194,7 @@ module _ (wide : Bool) (mine theirs : Settings) (allowed : Note → Type 0) (sid
             sender_says wide mine theirs old new (SaidNotification why) (λ last ends. record { behind = Ended; is_next = can last ends why; ends = out.ends Ended }) short
             (notification_octets why) (notification_spelled mine why) e.sent e.sent (sym (append-nil e.sent)) other.got
             other.session.standing.state other.session.held [] other.flight other.left s.other.left s.to_other;
-        notes = note_more allowed notes (note_of side why) s.notes may;
+        notes = all_push allowed notes (note_of side why) s.notes may;
       }
 
       context_kept : e.session.standing.context ≡ None → HasContext mine theirs new e.session.standing.context

@@ -1,5 +1,5 @@
 -- An event keeps what is kept of two ends.
-use Rattle.std.proofs.Common.{Bool, true, false, List, [], ◌∷◌, ◌++◌, ℕ, None, ◌≡◌, refl, sym, ap, if◌then◌else◌}
+use Rattle.bgp_wire.proofs.Std.{Bool, true, false, List, [], ◌∷◌, ◌++◌, ℕ, None, ◌≡◌, refl, sym, ap, if◌then◌else◌}
 use Rattle.std.proofs.lemmas.List.{append-nil}
 use Rattle.bgp_frame.specs.declared.notification.Notification.{Notification}
 use Rattle.bgp_open.specs.Prelude.{Settings}

@@ -1,6 +1,5 @@
 -- What two ends need to know of what is below them: how messages are spelled and read, and what both agree on.
-use Rattle.std.proofs.Common.{◌≡◌, ℕ, ◌+◌, ◌≤◌, Bool, true, false, List, [], ◌∷◌, ◌++◌, length, Option, None, Some, Ok, refl, ap, ◌∙◌, arith}
-use Rattle.std.proofs.lemmas.Bool.{ltb-false}
+use Rattle.bgp_wire.proofs.Std.{◌≡◌, ℕ, ◌+◌, ◌≤◌, Bool, true, false, List, [], ◌∷◌, ◌++◌, length, Option, None, Some, Ok, refl, ap, ◌∙◌, arith, ltb-false}
 use Rattle.bgp_numbers.specs.declared.afi.TheConstants.{IPV4, IPV6}
 use Rattle.bgp_numbers.specs.declared.safi.TheConstants.{UNICAST}
 use Rattle.bgp_frame.specs.declared.notification.Notification.{Notification}

@@ -1,5 +1,5 @@
 -- What a wire was asked, once all moves are played.
-use Rattle.std.proofs.Common.{◌≡◌, ℕ, ◌≤◌, Bool, true, List, [], ◌++◌, length, take, Result, Ok, Err, sym, ap, subst, ◌∙◌}
+use Rattle.bgp_wire.proofs.Std.{◌≡◌, ℕ, ◌≤◌, Bool, true, List, [], ◌++◌, length, take, Result, Ok, Err, sym, ap, subst, ◌∙◌}
 use Rattle.std.specs.Result.{IfOk}
 use Rattle.std.proofs.lemmas.List.{append-nil, take_all}
 use Rattle.bgp_open.specs.Prelude.{Settings}

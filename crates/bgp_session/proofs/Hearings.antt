@@ -1,7 +1,6 @@
 -- A message that is heard keeps what is kept of two ends.
-use Rattle.std.proofs.Common.{◌≡◌, ◌/◌, ℕ, Bool, true, false, List, [], ◌∷◌, ◌++◌, map, Option, Some, Result, Ok, Err, refl, sym, ap, subst, ◌∙◌, append_assoc, if◌then◌else◌, nat_lt}
-use Rattle.std.specs.List.{AllByRecursion}
-use Rattle.std.proofs.lemmas.List.{append-nil, map-append}
+use Rattle.bgp_wire.proofs.Std.{◌≡◌, ◌/◌, ℕ, Bool, true, false, List, [], ◌∷◌, ◌++◌, map, Option, Some, Result, Ok, Err, refl, sym, ap, subst, ◌∙◌, append_assoc, if◌then◌else◌, nat_lt, AllByRecursion, map-append}
+use Rattle.std.proofs.lemmas.List.{append-nil}
 use Rattle.bgp_frame.proofs.Pulls.{nothing_waits}
 use Rattle.bgp_open.specs.declared.agreement.PeerFault.{PeerFault}
 use Rattle.bgp_open.specs.declared.context.Context.{Context}
@@ -97,17 +96,9 @@ module _ (wide : Bool) (mine theirs : Settings) (allowed : Note → Type 0) (sid
       other = record { settings = was.other.settings; context = was.other.context; left = was.other.left; none_gone = was.other.none_gone };
       to_this = record {
         waits = nothing_waits;
-        coming = record {
-          pending = h.pending;
-          last = h.last;
-          spelled = h.rest;
-          follows = h.follows;
-          ends = h.ends;
-          fit = h.fit;
-          front = h.front;
-          got_so = h.got_so;
-          sent_so = h.sent_so;
-        };
+        last = h.last;
+        ends = h.ends;
+        coming = record { pending = h.pending; spelled = h.rest; follows = h.follows; fit = h.fit; front = h.front; got_so = h.got_so; sent_so = h.sent_so };
       };
       to_other =
           sender_says wide mine theirs state.OpenSent state.OpenConfirm SaidKeepalive confirms tt keepalive_octets (keepalive_spelled mine) e.sent e.sent (sym (append-nil e.sent)) other.got
@@ -161,7 +152,9 @@ module _ (wide : Bool) (mine theirs : Settings) (allowed : Note → Type 0) (sid
       other = was.other;
       to_this = record {
         waits = nothing_waits;
-        coming = record { pending = h.pending; last = h.last; spelled = h.rest; follows = follows; ends = h.ends; fit = h.fit; front = front; got_so = got_so; sent_so = sent_so };
+        last = h.last;
+        ends = h.ends;
+        coming = record { pending = h.pending; spelled = h.rest; follows = follows; fit = h.fit; front = front; got_so = got_so; sent_so = sent_so };
       };
       to_other = sender_goes wide mine theirs other.session.standing.state other.session.held [] other.flight st state.Established e.sent other.got ran was.to_other;
       notes = was.notes;

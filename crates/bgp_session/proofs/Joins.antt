@@ -1,5 +1,5 @@
 -- A connection that is made: both ends are told, and each has an OPEN in flight towards it.
-use Rattle.std.proofs.Common.{◌≡◌, ℕ, Bool, true, false, List, [], ◌∷◌, ◌++◌, refl, sym, ap, subst, ◌∙◌}
+use Rattle.bgp_wire.proofs.Std.{◌≡◌, ℕ, Bool, true, false, List, [], ◌∷◌, ◌++◌, refl, sym, ap, subst, ◌∙◌}
 use Rattle.std.proofs.lemmas.List.{append-nil}
 use Rattle.bgp_frame.specs.Prelude.{Waits}
 use Rattle.bgp_frame.proofs.Pulls.{nothing_waits}
@@ -78,16 +78,16 @@ module _ (wide : Bool) where
   begun_hears : (mine theirs : Settings) (e : End) (other : Settings) → other ≡ theirs → CanJoin mine theirs e → IsHearing wide theirs mine WantsOpen e.session.held (own_octets other) state.OpenSent [] []
   begun_hears mine theirs e other is c = record {
     waits = subst Waits (sym c.holds_none) nothing_waits;
+    last = WantsKeepalive;
+    ends = refl;
     coming = record {
       pending = SaidOpen ∷ [];
-      last = WantsKeepalive;
       spelled =
           ap (λ (h : List ℕ). h ++ own_octets other) c.holds_none
           ∙ ap own_octets is
           ∙ open_spelled theirs
           ∙ sym (append-nil (spelling theirs SaidOpen));
       follows = refl;
-      ends = refl;
       fit = (tt, tt);
       front = [];
       got_so = refl;

@@ -1,6 +1,5 @@
 -- Each number of an UPDATE that is told to a speaker with AS numbers of two octets is within its field.
-use Rattle.std.proofs.Common.{Bool, true, false, cond, List, [], ◌∷◌, map, arith}
-use Rattle.std.specs.List.{AllByRecursion}
+use Rattle.bgp_wire.proofs.Std.{Bool, true, false, cond, List, [], ◌∷◌, map, arith, AllByRecursion}
 use Rattle.bgp_numbers.specs.declared.TheConstants.{AS_TRANS}
 use Rattle.bgp_prefix.specs.declared.as_number.AsNumber.{AsNumber}
 use Rattle.bgp_attr.specs.declared.path.Segment.{Segment}

@@ -1,6 +1,5 @@
 -- Octets that are fed keep what is kept of two ends.
-use Rattle.std.proofs.Common.{◌≡◌, ℕ, Bool, true, List, [], ◌∷◌, ◌++◌, length, map, Option, None, Some, Ok, option_map, refl, sym, ap, subst, ◌∙◌, append_assoc, arith, inl, inr}
-use Rattle.std.specs.List.{AllByRecursion}
+use Rattle.bgp_wire.proofs.Std.{◌≡◌, ℕ, Bool, true, List, [], ◌∷◌, ◌++◌, length, map, Option, Some, Ok, option_map, refl, sym, ap, subst, ◌∙◌, append_assoc, arith, inl, inr, AllByRecursion}
 use Rattle.std.proofs.lemmas.List.{length-append}
 use Rattle.bgp_frame.specs.Prelude.{Message, IsFrame, Waits, done_by, with_octet}
 use Rattle.bgp_frame.specs.declared.fault.HeadFault.{HeadFault}
@@ -102,12 +101,12 @@ module _ (wide : Bool) (mine theirs : Settings) (allowed : Note → Type 0) (sid
           other = was.other;
           to_this = way more (record {
             waits = waits;
+            last = last;
+            ends = ends;
             coming = record {
               pending = m ∷ later;
-              last = last;
               spelled = append_assoc held (octet ∷ []) (hand ++ e.flight) ∙ spelled;
               follows = follows;
-              ends = ends;
               fit = fit;
               front = front;
               got_so = got_so;
@@ -155,7 +154,7 @@ module _ (wide : Bool) (mine theirs : Settings) (allowed : Note → Type 0) (sid
         ]
 
     up_keeps : IsHearing wide theirs mine from held (octet ∷ (hand ++ e.flight)) other.session.standing.state other.sent e.got → KeepsAt st
-    up_keeps h = let c = h.coming in by_pending c.pending c.last h.waits c.spelled c.follows c.ends c.fit c.front c.got_so c.sent_so
+    up_keeps h = let c = h.coming in by_pending c.pending h.last h.waits c.spelled c.follows h.ends c.fit c.front c.got_so c.sent_so
 
   -- where it isn't
   out_keeps : (st : State) → IsOut st → Was st → KeepsAt st

@@ -1,9 +1,9 @@
 -- How turns over a wire are put together.
-use Rattle.std.proofs.Common.{◌≡◌, ℕ, zero, suc, ◌+◌, ◌<◌, ◌≤◌, Bool, true, false, List, [], ◌∷◌, ◌++◌, length, map, take, drop, get_or, if◌then◌else◌, ◌==◌, refl, sym, ap, ap₂, Option, None, Some, Result, Ok, Err, subst, ◌∙◌, append_assoc, arith}
+use Rattle.bgp_wire.proofs.Std.{◌≡◌, ℕ, zero, suc, ◌+◌, ◌<◌, ◌≤◌, Bool, true, false, List, [], ◌∷◌, ◌++◌, length, map, take, drop, get_or, if◌then◌else◌, ◌==◌, refl, sym, ap, ap₂, Option, None, Some, Result, subst, ◌∙◌, append_assoc, arith, take-suc}
 use Rattle.std.specs.Result.{OnOk}
 use Rattle.std.proofs.lemmas.List.{append-nil, length-drop, length-take}
 use Rattle.std.proofs.Math.Dec.{eqb-suc-zero}
-use Rattle.std.proofs.Math.Seq.{take-suc}
+use Rattle.bgp_session.proofs.Resting.{on_ok_both}
 use Rattle.bgp_session.specs.declared.moves.Move.{Move}
 use Rattle.bgp_session.specs.declared.side.Side.{Side}
 use Rattle.bgp_session.specs.Prelude.{Wired, Gives, Observes, PlaysOn, Plays, Delivers, passed_seen, Passes, Sight, Begun, observed, failed_after, failed_behind, Call, Joined, Handed, Cut, Grows, answers_in, Trace, trace, World, end_of, stands, feeds_seen, lost_seen, Turn, Asks, Shows, calls_in, sights_in, Ran, ran, behind, shown, asked, answer_of, later_of, joins, joins_seen, joined_if, delivers_on, delivered, drawn, delivers, moved, cut_behind, cut_if, played, all_moved}
@@ -126,16 +126,6 @@ module _ {S : Type 0} (honest : Bool) (after : S → Sight → S) where
     goes_on = λ is later. same later;
   }
 
--- where a call succeeds, the rest of it holds too
-both_ok : {T E P Q R : Type 0} → (P → Q → R) → (r : Result T E) → OnOk r P → OnOk r Q → OnOk r R
-both_ok f (Ok v) p q = f p q
-both_ok f (Err e) p q = tt
-
--- what a call ensures where it succeeds is enough
-pub ok_so : {T E P Q : Type 0} → (P → Q) → (r : Result T E) → OnOk r P → OnOk r Q
-ok_so f (Ok v) p = f p
-ok_so f (Err e) p = tt
-
 -- a move that asks nothing of the wire was made
 pub moves_shown : {S : Type 0} (honest : Bool) (after : S → Sight → S) (answers : List Bool) (old new : Trace S) (one two : Move) (w v made : World) (sights : List Sight) → one ≡ two
     → ((later : List Bool) → moved two w later ≡ shown sights (ran made later)) → new.failed ≡ old.failed → Grows old.calls new.calls []
@@ -152,7 +142,7 @@ pub moves_quietly : {S T E : Type 0} (honest : Bool) (after : S → Sight → S)
     (sights : List Sight) (r : Result T E) → one ≡ two → ((later : List Bool) → moved two w later ≡ shown sights (ran made later))
     → OnOk r (v ≡ made) → OnOk r (t ≡ observed after s sights) → OnOk r (Plays (wired honest after answers answers (trace failed calls s) (trace failed calls t)) (moved one w) v)
 moves_quietly honest after answers failed calls s t one two w v made sights r is same told seen =
-    both_ok (moves_shown honest after answers (trace failed calls s) (trace failed calls t) one two w v made sights is same refl (grows_none calls)) r told seen
+    on_ok_both (moves_shown honest after answers (trace failed calls s) (trace failed calls t) one two w v made sights is same refl (grows_none calls)) r told seen
 
 -- both sides were told what the wire answered
 pub joins_asked : {S T E : Type 0} (honest : Bool) (after : S → Sight → S) (old new : List Bool) (trace_old trace_new : Trace S) (w v : World) (can answer : Bool) (r : Result T E)
@@ -160,7 +150,7 @@ pub joins_asked : {S T E : Type 0} (honest : Bool) (after : S → Sight → S) (
     → OnOk r (v ≡ joins answer w) → OnOk r (trace_new.seen ≡ observed after trace_old.seen (joins_seen answer w))
     → OnOk r (Plays (wired honest after old new trace_old trace_new) (joined_if can w) v)
 joins_asked honest after old new trace_old trace_new w v can answer r is told counted kept made seen =
-    both_ok (λ same sees. record {
+    on_ok_both (λ same sees. record {
       given = answer ∷ [];
       turns = Asks (Joined answer) ∷ map Shows (joins_seen answer w);
       answers = record {

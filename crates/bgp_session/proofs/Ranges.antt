@@ -1,8 +1,7 @@
 -- Each number of what was sent is within its field, move by move.
-use Rattle.std.proofs.Common.{◌≡◌, ℕ, suc, ◌+◌, ◌<◌, Bool, true, List, [], ◌∷◌, ◌++◌, ◌≤◌, length, take, get_or, Result, Ok, Err, sym, ap, subst, ◌∙◌, append_assoc, arith}
+use Rattle.bgp_wire.proofs.Std.{◌≡◌, ℕ, suc, ◌+◌, ◌<◌, Bool, true, List, [], ◌∷◌, ◌++◌, ◌≤◌, length, take, get_or, Result, Ok, Err, sym, ap, subst, ◌∙◌, append_assoc, arith, take-suc}
 use Rattle.std.specs.Result.{IfOk}
 use Rattle.std.proofs.lemmas.List.{append-nil, take_all}
-use Rattle.std.proofs.Math.Seq.{take-suc}
 use Rattle.bgp_session.specs.declared.moves.Move.{Move}
 use Rattle.bgp_session.specs.declared.report.Report.{Report}
 use Rattle.bgp_session.specs.Prelude.{SendsRanges, AllSendRanges, Plays, HaveSoFar, report_of, Sight, Trace, World, Ran, moved, played, all_moved}

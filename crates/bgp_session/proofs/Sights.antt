@@ -1,7 +1,6 @@
 -- What a pull shows is what the octets that it takes show one by one.
-use Rattle.std.proofs.Common.{◌≡◌, ℕ, ◌≤◌, Bool, true, false, List, [], ◌∷◌, ◌++◌, length, map, take, drop, Option, None, Some, option_map, Result, Bor, refl, sym, ap, ap₂, subst, ◌∙◌, append_assoc, arith, inl, inr}
-use Rattle.std.specs.Option.{option_copied}
-use Rattle.std.proofs.lemmas.List.{append-nil, take-append-drop}
+use Rattle.bgp_wire.proofs.Std.{◌≡◌, ℕ, ◌≤◌, Bool, true, false, List, [], ◌∷◌, ◌++◌, length, map, take, drop, Option, None, Some, option_map, Result, Bor, refl, sym, ap, ap₂, subst, ◌∙◌, append_assoc, inl, inr, option_copied, take-append-drop}
+use Rattle.std.proofs.lemmas.List.{append-nil}
 use Rattle.arrayvec.specs.ArrayVec.{ArrayVec}
 use Rattle.bgp_wire.specs.Prelude.{AreOctets}
 use Rattle.bgp_open.specs.declared.context.Context.{Context}

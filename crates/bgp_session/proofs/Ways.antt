@@ -1,7 +1,7 @@
 -- One way of a connection: what was said on it, what is in flight, and what was heard.
-use Rattle.std.proofs.Common.{◌≡◌, ℕ, Bool, true, false, not, List, [], ◌∷◌, ◌++◌, map, Option, None, Some, refl, sym, ap, subst, ◌∙◌, append_assoc}
-use Rattle.std.specs.List.{AllByRecursion}
+use Rattle.bgp_wire.proofs.Std.{◌≡◌, ℕ, Bool, true, false, not, List, [], ◌∷◌, ◌++◌, map, Option, None, Some, refl, sym, ap, subst, ◌∙◌, append_assoc, AllByRecursion}
 use Rattle.std.proofs.lemmas.List.{append-nil}
+use Rattle.bgp_wire.proofs.Writes.{all_push}
 use Rattle.bgp_frame.specs.Prelude.{Waits}
 use Rattle.bgp_open.specs.Prelude.{Settings}
 use Rattle.bgp_machine.specs.declared.state.State.{State}
@@ -15,12 +15,10 @@ use Rattle.bgp_session.proofs.Sayings.{Said, spelling, spellings, updates_of, up
 -- ---- what is kept
 
 -- messages of a speaker of the settings s come to one of the settings t, which wants them from this stage on
-pub record Coming (wide : Bool) (s t : Settings) (from : Stage) (sender : State) (octets : List ℕ) (sent : List Update) (got : List (Update × PathInfo)) : Type 0 where
+pub record Coming (wide : Bool) (s t : Settings) (from last : Stage) (octets : List ℕ) (sent : List Update) (got : List (Update × PathInfo)) : Type 0 where
   pub pending : List Said
-  pub last : Stage
   pub spelled : octets ≡ spellings s pending
   pub follows : Follows (Some from) pending last
-  pub ends : EndsAt sender last
   pub fit : AllByRecursion (Fits wide s t) pending
   pub front : List Update
   pub got_so : got ≡ map (heard wide) front
@@ -29,7 +27,9 @@ pub record Coming (wide : Bool) (s t : Settings) (from : Stage) (sender : State)
 -- the hearer takes octets: what it holds waits
 pub record IsHearing (wide : Bool) (s t : Settings) (from : Stage) (held rest : List ℕ) (sender : State) (sent : List Update) (got : List (Update × PathInfo)) : Type 0 where
   pub waits : Waits held
-  pub coming : Coming wide s t from sender (held ++ rest) sent got
+  pub last : Stage
+  pub ends : EndsAt sender last
+  pub coming : Coming wide s t from last (held ++ rest) sent got
 
 -- it has left: nothing is held or in flight
 pub record IsDeaf (wide : Bool) (held flight : List ℕ) (sent : List Update) (got : List (Update × PathInfo)) : Type 0 where
@@ -67,22 +67,18 @@ updates_more [] m = append-nil (updates_of m)
 updates_more (x ∷ ms) m =
     ap (λ (l : List Update). updates_of x ++ l) (updates_more ms m) ∙ sym (append_assoc (updates_of x) (updates_in ms) (updates_of m))
 
-fit_more : (P : Said → Type 0) (ms : List Said) (m : Said) → AllByRecursion P ms → P m → AllByRecursion P (ms ++ m ∷ [])
-fit_more P [] m all fits = (fits, tt)
-fit_more P (x ∷ ms) m all fits = (all.0, fit_more P ms m all.1 fits)
-
 module _ (wide : Bool) (s t : Settings) where
   -- ---- the front
 
-  coming_front : (from : Stage) (sender : State) (octets : List ℕ) (sent : List Update) (got : List (Update × PathInfo))
-      → Coming wide s t from sender octets sent got → IsFrontHeard wide sent got
-  coming_front from sender octets sent got c = record { front = c.front; later = updates_in c.pending; in_order = c.sent_so; hears = c.got_so }
+  coming_front : (from last : Stage) (octets : List ℕ) (sent : List Update) (got : List (Update × PathInfo))
+      → Coming wide s t from last octets sent got → IsFrontHeard wide sent got
+  coming_front from last octets sent got c = record { front = c.front; later = updates_in c.pending; in_order = c.sent_so; hears = c.got_so }
 
   pub front_of : (hearer : State) (held hand flight : List ℕ) (sender : State) (sent : List Update) (got : List (Update × PathInfo))
       → Goes wide s t hearer held hand flight sender sent got → IsFrontHeard wide sent got
-  front_of state.OpenSent held hand flight sender sent got g = coming_front WantsOpen sender (held ++ (hand ++ flight)) sent got g.coming
-  front_of state.OpenConfirm held hand flight sender sent got g = coming_front WantsKeepalive sender (held ++ (hand ++ flight)) sent got g.coming
-  front_of state.Established held hand flight sender sent got g = coming_front Runs sender (held ++ (hand ++ flight)) sent got g.coming
+  front_of state.OpenSent held hand flight sender sent got g = coming_front WantsOpen g.last (held ++ (hand ++ flight)) sent got g.coming
+  front_of state.OpenConfirm held hand flight sender sent got g = coming_front WantsKeepalive g.last (held ++ (hand ++ flight)) sent got g.coming
+  front_of state.Established held hand flight sender sent got g = coming_front Runs g.last (held ++ (hand ++ flight)) sent got g.coming
   front_of state.Idle held hand flight sender sent got g = g.hears
   front_of state.Connect held hand flight sender sent got g = g.hears
   front_of state.Active held hand flight sender sent got g = g.hears
@@ -91,22 +87,7 @@ module _ (wide : Bool) (s t : Settings) where
 
   module _ (from : Stage) (held rest : List ℕ) (old new : State) (sent : List Update) (got : List (Update × PathInfo)) (goes : (last : Stage) → EndsAt old last → EndsAt new last) where
     hearing_goes : IsHearing wide s t from held rest old sent got → IsHearing wide s t from held rest new sent got
-    hearing_goes h =
-        let c = h.coming in
-        record {
-          waits = h.waits;
-          coming = record {
-            pending = c.pending;
-            last = c.last;
-            spelled = c.spelled;
-            follows = c.follows;
-            ends = goes c.last c.ends;
-            fit = c.fit;
-            front = c.front;
-            got_so = c.got_so;
-            sent_so = c.sent_so;
-          };
-        }
+    hearing_goes h = record { waits = h.waits; last = h.last; ends = goes h.last h.ends; coming = h.coming }
 
   pub sender_goes : (hearer : State) (held hand flight : List ℕ) (old new : State) (sent : List Update) (got : List (Update × PathInfo))
       → ((last : Stage) → EndsAt old last → EndsAt new last) → Goes wide s t hearer held hand flight old sent got → Goes wide s t hearer held hand flight new sent got
@@ -124,20 +105,20 @@ module _ (wide : Bool) (s t : Settings) where
     hearing_says : (from : Stage) (held rest : List ℕ) → IsHearing wide s t from held rest old sent got → IsHearing wide s t from held (rest ++ octets) new sent_new got
     hearing_says from held rest h =
         let c = h.coming in
-        let says = may c.last c.ends in
+        let says = may h.last h.ends in
         record {
           waits = h.waits;
+          last = says.behind;
+          ends = says.ends;
           coming = record {
             pending = c.pending ++ m ∷ [];
-            last = says.behind;
             spelled =
                 sym (append_assoc held rest octets)
                 ∙ ap (λ (l : List ℕ). l ++ octets) c.spelled
                 ∙ ap (λ (l : List ℕ). spellings s c.pending ++ l) spelled
                 ∙ sym (spellings_more s c.pending m);
-            follows = follows_more (Some from) c.pending m c.last says.behind c.follows says.is_next;
-            ends = says.ends;
-            fit = fit_more (Fits wide s t) c.pending m c.fit fits;
+            follows = follows_more (Some from) c.pending m h.last says.behind c.follows says.is_next;
+            fit = all_push (Fits wide s t) c.pending m c.fit fits;
             front = c.front;
             got_so = c.got_so;
             sent_so =

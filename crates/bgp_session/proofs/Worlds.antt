@@ -1,8 +1,7 @@
 -- What is kept of two ends is kept by each move.
-use Rattle.std.proofs.Common.{◌≡◌, ℕ, zero, suc, ◌≤◌, Bool, true, false, List, [], ◌∷◌, ◌++◌, length, take, drop, Option, None, Some, Ok, refl, sym, ap, subst, ◌∙◌, arith, if◌then◌else◌}
-use Rattle.std.specs.List.{AllByRecursion}
-use Rattle.std.proofs.Math.Seq.{drop-nil}
-use Rattle.std.proofs.lemmas.List.{length-take, length-drop, take-append-drop}
+use Rattle.bgp_wire.proofs.Std.{◌≡◌, ℕ, zero, suc, ◌≤◌, Bool, true, false, List, [], ◌∷◌, ◌++◌, length, take, drop, Option, None, Some, Ok, refl, sym, ap, subst, ◌∙◌, arith, if◌then◌else◌, AllByRecursion, drop-nil, take-append-drop}
+use Rattle.std.proofs.lemmas.List.{length-take, length-drop}
+use Rattle.bgp_wire.proofs.Writes.{all_push}
 use Rattle.bgp_open.specs.declared.context.Context.{Context}
 use Rattle.bgp_open.specs.Prelude.{agreement, Settings, own_of}
 use Rattle.bgp_machine.specs.declared.event.Event.{Event}
@@ -41,10 +40,6 @@ both_seek : (p q s : Bool) → (if p then (if q then (if s then false else true)
 both_seek true true s is = (refl, refl)
 both_seek true false s is = absurd (let not : false ≡ true = is in cc)
 both_seek false q s is = absurd (let not : false ≡ true = is in cc)
-
-all_more : {X : Type 0} (P : X → Type 0) (xs : List X) (x : X) → AllByRecursion P xs → P x → AllByRecursion P (xs ++ x ∷ [])
-all_more P [] x all is = (is, tt)
-all_more P (y ∷ xs) x all is = (all.0, all_more P xs x all.1 is)
 
 -- what is drawn out of the flight is in hand
 draws : (wide : Bool) (s t : Settings) (st : State) (held flight : List ℕ) (k : ℕ) (sender : State) (sent_so : List Update) (got : List (Update × PathInfo))
@@ -123,7 +118,7 @@ module _ (wide : Bool) (a b : Settings) (allowed : Note → Type 0) (know : Both
   }
 
   with_round_keeps : (begun : Bool) (over : List Round) (round : Round) → RoundsKeep over → RoundKeeps wide allowed round → RoundsKeep (with_round begun over round)
-  with_round_keeps true over round all is = all_more (RoundKeeps wide allowed) over round all is
+  with_round_keeps true over round all is = all_push (RoundKeeps wide allowed) over round all is
   with_round_keeps false over round all is = all
 
   pub rounds_keep : (w : World) → IsSoundWorld w → RoundsKeep (rounds_of w)

@@ -1,8 +1,6 @@
 -- Lists of JSON whose values are made from others, and lists behind lists.
-use Rattle.std.proofs.Common.{◌≡◌, ℕ, List, [], ◌∷◌, ◌++◌, map, refl, ap, sym, ◌∙◌, append_assoc}
+use Rattle.bgp_wire.proofs.Std.{◌≡◌, ℕ, List, [], ◌∷◌, ◌++◌, map, refl, ap, sym, ◌∙◌, append_assoc, flat_map, flat_map-map}
 use Rattle.std.specs.Prelude.{codes}
-use Rattle.std.specs.List.{flat_map}
-use Rattle.std.proofs.lemmas.List.Folds.{flat_map-map}
 use Rattle.std.proofs.lemmas.Grind.{flat_map-append}
 use Rattle.bgp_text.specs.Json.{behind_comma, joined, listed}
 

@@ -1,5 +1,5 @@
 -- Digits in front of a short text.
-use Rattle.std.proofs.Common.{◌≡◌, ℕ, zero, suc, false, ◌^◌, ◌/◌, ◌%◌, ◌<◌, ◌≤◌, List, ◌∷◌, ◌++◌, length, arith, subst, sym, ap, ◌∙◌, append_assoc}
+use Rattle.std.proofs.Common.{◌≡◌, ℕ, false, ◌^◌, ◌/◌, ◌%◌, ◌<◌, ◌≤◌, List, ◌∷◌, ◌++◌, length, arith, subst, sym, ap, ◌∙◌, append_assoc}
 use Rattle.std.specs.Fmt.{decimal, digit_glyph}
 use Rattle.std.specs.Prelude.{slice_index}
 use Rattle.std.specs.Str.{IsAscii}
@@ -7,6 +7,7 @@ use Rattle.bgp_prefix.specs.Prelude.{hex_octet, ipv4_address_text, ipv6_address_
 use Rattle.std.proofs.lemmas.Fmt.{length-decimal-le, IsAscii-decimal}
 use Rattle.std.proofs.lemmas.Str.{IsAscii-append}
 use Rattle.std.proofs.lemmas.Bool.Decides.{nat_tests}
+use Rattle.std.proofs.lemmas.Str.Ascii.{IsAscii-cons}
 
 -- how many digits a number of so many bits has at most
 pub digits_of_8 : (n : ℕ) → n < 2 ^ 8 → length (decimal n) ≤ 3
@@ -24,22 +25,17 @@ digits_of_64 n small = length-decimal-le 20 n (omega arith) (omega arith) small
 pub number_ascii : (n : ℕ) (later text : List ℕ) → n < 2 ^ 64 → IsAscii later → text ≡ decimal n ++ later → IsAscii text
 number_ascii n later text small ascii is = subst IsAscii (sym is) (IsAscii-append (decimal n) later (IsAscii-decimal n small) ascii)
 
--- a character in front of others
-ascii_behind : (mark : ℕ) (later : List ℕ) → mark < 128 → IsAscii later → IsAscii (mark ∷ later)
-ascii_behind mark later is ascii zero = is
-ascii_behind mark later is ascii (suc i) = ascii i
-
 pub marked_ascii : (mark n : ℕ) (later text : List ℕ) → mark < 128 → n < 2 ^ 64 → IsAscii later → text ≡ mark ∷ (decimal n ++ later) → IsAscii text
 marked_ascii mark n later text is_mark small ascii is =
-    subst IsAscii (sym is) (ascii_behind mark (decimal n ++ later) is_mark (IsAscii-append (decimal n) later (IsAscii-decimal n small) ascii))
+    subst IsAscii (sym is) (IsAscii-cons mark (decimal n ++ later) is_mark (IsAscii-append (decimal n) later (IsAscii-decimal n small) ascii))
 
 glyph_small : (d : ℕ) → d < 16 → digit_glyph false d < 128
 glyph_small d small = grind (arith, nat_tests)
 
 octet_ascii : (octet : ℕ) (later : List ℕ) → octet < 256 → IsAscii later → IsAscii (hex_octet octet ++ later)
 octet_ascii octet later fits ascii =
-    ascii_behind (digit_glyph false (octet / 16)) (digit_glyph false (octet % 16) ∷ later) (glyph_small (octet / 16) (omega (arith, fits)))
-    (ascii_behind (digit_glyph false (octet % 16)) later (glyph_small (octet % 16) (omega arith)) ascii)
+    IsAscii-cons (digit_glyph false (octet / 16)) (digit_glyph false (octet % 16) ∷ later) (glyph_small (octet / 16) (omega (arith, fits)))
+    (IsAscii-cons (digit_glyph false (octet % 16)) later (glyph_small (octet % 16) (omega arith)) ascii)
 
 pub hex_ascii : (high low : ℕ) (later text : List ℕ) → high < 256 → low < 256 → IsAscii later → text ≡ hex_octet high ++ (hex_octet low ++ later) → IsAscii text
 hex_ascii high low later text high_fits low_fits ascii is =

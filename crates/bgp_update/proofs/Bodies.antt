@@ -1,9 +1,6 @@
 -- A body is its parts in exactly one way.
-use Rattle.std.proofs.Common.{◌≡◌, ℕ, ◌+◌, ◌<◌, ◌^◌, Bool, true, false, cond, leb, List, [], ◌∷◌, ◌++◌, length, take, drop, Option, Some, None, refl, sym, ap, subst, ◌∙◌, arith}
-use Rattle.std.specs.Int.{w16, byte_at, to_be_bytes, from_be_bytes}
-use Rattle.std.proofs.lemmas.Bool.{leb-true, le-leb}
-use Rattle.std.proofs.lemmas.Nat.{from_be_bytes-to_be_bytes_2, be_bytes_2}
-use Rattle.std.proofs.lemmas.List.{length-append, length-take, take_at, drop_at, take-append-drop}
+use Rattle.bgp_wire.proofs.Std.{◌≡◌, ℕ, ◌+◌, ◌<◌, ◌^◌, Bool, true, false, cond, leb, List, [], ◌∷◌, ◌++◌, length, take, drop, Option, Some, None, refl, sym, ap, subst, ◌∙◌, arith, w16, byte_at, to_be_bytes, from_be_bytes, leb-true, le-leb, from_be_bytes-to_be_bytes_2, be_bytes_2, take_at, drop_at, take-append-drop}
+use Rattle.std.proofs.lemmas.List.{length-append, length-take}
 use Rattle.bgp_wire.specs.Prelude.{AreOctets, ◌>>=◌}
 use Rattle.bgp_wire.proofs.OctetLemmas.{AreOctets-front, AreOctets-back}
 use Rattle.bgp_update.specs.Prelude.{body_octets, Parts, IsBody, behind_two, parts_of}

@@ -1,7 +1,6 @@
 -- Attributes of unrecognised types, without some types: each other type is found as it was.
-use Rattle.std.proofs.Common.{◌≡◌, ℕ, Bool, true, false, not, cond, eqb, List, [], ◌∷◌, Option, Some, None, refl, sym, ap, ◌∙◌}
-use Rattle.std.specs.List.{filter, find}
-use Rattle.std.proofs.lemmas.Bool.{eqb-true, both_ways}
+use Rattle.bgp_wire.proofs.Std.{◌≡◌, ℕ, Bool, true, false, not, cond, eqb, List, [], ◌∷◌, Option, Some, None, refl, sym, ap, ◌∙◌, filter, find, both_ways}
+use Rattle.std.proofs.lemmas.Bool.{eqb-true}
 use Rattle.bgp_attr.specs.declared.opaque.Opaque.{Opaque}
 
 module _ (drops : ℕ → Bool) (k : ℕ) where

@@ -1,8 +1,7 @@
 -- The slots of what was kept: each has the first attribute of its type.
-use Rattle.std.proofs.Common.{◌≡◌, ℕ, Bool, true, false, not, cond, eqb, List, [], ◌∷◌, ◌++◌, length, map, Option, Some, None, refl, sym, ap, subst, ◌∙◌}
+use Rattle.bgp_wire.proofs.Std.{◌≡◌, ℕ, Bool, true, false, not, cond, eqb, List, [], ◌∷◌, ◌++◌, length, map, Option, Some, None, refl, sym, ap, subst, ◌∙◌, flat_map, find, list_any, AllByRecursion, both_ways, or_parts, or_from, not_from_true}
 use Rattle.std.specs.Prelude.{is_none}
-use Rattle.std.specs.List.{flat_map, find, list_any, AllByRecursion}
-use Rattle.std.proofs.lemmas.Bool.{both_ways, ne_eqb, or_parts, or_from, not_from_true}
+use Rattle.std.proofs.lemmas.Bool.{ne_eqb}
 use Rattle.bgp_attr.specs.declared.attr.Attr.{Attr}
 use Rattle.bgp_attr.specs.declared.opaque.Opaque.{Opaque}
 use Rattle.bgp_attr.specs.Prelude.{is_recognised, type_of, is_misnamed}

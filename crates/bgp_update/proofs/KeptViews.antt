@@ -1,8 +1,5 @@
 -- Attributes that are kept one after another are those of the whole.
-use Rattle.std.proofs.Common.{◌≡◌, ℕ, Bool, true, false, ◌||◌, ◌&&◌, not, eqb, List, [], ◌++◌, Option, refl, sym, ap, ◌∙◌}
-use Rattle.std.specs.List.{flat_map, list_any}
-use Rattle.std.proofs.lemmas.List.Folds.{find-append, list_any-append}
-use Rattle.std.specs.Option.{option_or}
+use Rattle.bgp_wire.proofs.Std.{◌≡◌, ℕ, Bool, true, false, ◌||◌, ◌&&◌, not, eqb, List, [], ◌++◌, Option, refl, sym, ap, ◌∙◌, flat_map, list_any, find-append, list_any-append, option_or}
 use Rattle.bgp_attr.specs.declared.attr.Attr.{Attr}
 use Rattle.bgp_attr.specs.declared.opaque.Opaque.{Opaque}
 use Rattle.bgp_attr.specs.Prelude.{type_of}

@@ -1,10 +1,7 @@
 -- Lists that are joined, searched and tested: what the other lemmas say of attributes, for lists of anything.
-use Rattle.std.proofs.Common.{◌≡◌, ℕ, Bool, true, false, not, ◌||◌, cond, eqb, List, [], ◌∷◌, ◌++◌, Option, Some, None, inl, inr, refl, sym, ap, ap₂, subst, ◌∙◌}
+use Rattle.bgp_wire.proofs.Std.{◌≡◌, ℕ, Bool, true, false, not, ◌||◌, cond, eqb, List, [], ◌∷◌, ◌++◌, Option, Some, None, inl, inr, refl, sym, ap, ap₂, subst, ◌∙◌, flat_map, filter, find, list_any, AllByRecursion, option_or, find-append, false≢true, or_parts, or_cases, or_from}
 use Rattle.std.specs.Prelude.{is_none}
-use Rattle.std.specs.List.{flat_map, filter, find, list_any, AllByRecursion}
-use Rattle.std.specs.Option.{option_or}
-use Rattle.std.proofs.lemmas.List.Folds.{find-append}
-use Rattle.std.proofs.lemmas.Bool.{false≢true, eqb-true, ne_eqb, or_parts, or_cases, or_from}
+use Rattle.std.proofs.lemmas.Bool.{eqb-true, ne_eqb}
 use Rattle.std.proofs.lemmas.Bool.Decides.{eqb_tells}
 
 pub eqb-swap : (a b : ℕ) → eqb a b ≡ eqb b a

@@ -1,8 +1,5 @@
 -- Marks of which each keeps its attribute, and of attributes of which no type stands twice.
-use Rattle.std.proofs.Common.{◌≡◌, ℕ, ◌+◌, ◌-◌, ◌≤◌, Bool, true, false, eqb, List, [], ◌∷◌, ◌++◌, length, map, None, refl, sym, ap, ap₂, subst, ◌∙◌, arith}
-use Rattle.std.specs.List.{flat_map, list_any, AllByRecursion}
-use Rattle.std.specs.Option.{option_or}
-use Rattle.std.proofs.lemmas.Bool.{cond-false, or_parts, or_from}
+use Rattle.bgp_wire.proofs.Std.{◌≡◌, ℕ, ◌+◌, ◌-◌, ◌≤◌, Bool, true, false, eqb, List, [], ◌∷◌, ◌++◌, length, map, None, refl, sym, ap, ap₂, subst, ◌∙◌, arith, flat_map, list_any, AllByRecursion, option_or, cond-false, or_parts, or_from}
 use Rattle.std.proofs.lemmas.List.{append-nil}
 use Rattle.bgp_wire.specs.Prelude.{Row, also, none_of_them}
 use Rattle.bgp_wire.proofs.Behinds.{pieces-whole}

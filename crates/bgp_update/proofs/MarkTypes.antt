@@ -1,6 +1,5 @@
 -- The types that were seen, mark by mark.
-use Rattle.std.proofs.Common.{◌≡◌, ℕ, Bool, true, false, ◌||◌, eqb, List, ◌∷◌, refl, sym, ap, ◌∙◌}
-use Rattle.std.specs.List.{list_any}
+use Rattle.bgp_wire.proofs.Std.{◌≡◌, ℕ, Bool, true, false, ◌||◌, eqb, List, ◌∷◌, refl, sym, ap, ◌∙◌, list_any}
 use Rattle.bgp_attr.specs.Prelude.{PlacedTlv}
 use Rattle.bgp_wire.specs.Prelude.{also}
 use Rattle.bgp_update.proofs.Lists.{eqb-swap}

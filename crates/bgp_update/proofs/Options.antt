@@ -1,7 +1,6 @@
 -- The first of values that may be there.
-use Rattle.std.proofs.Common.{◌≡◌, Option, Some, None, refl}
+use Rattle.bgp_wire.proofs.Std.{◌≡◌, Option, Some, None, refl, option_or}
 use Rattle.std.specs.Prelude.{option_map}
-use Rattle.std.specs.Option.{option_or}
 
 module _ {A : Type 0} where
   pub option_or-assoc : (a b c : Option A) → option_or (option_or a b) c ≡ option_or a (option_or b c)

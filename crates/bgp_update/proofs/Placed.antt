@@ -1,8 +1,7 @@
 -- Attributes that are kept by place: one more of them, and what stands in the slot of a type.
-use Rattle.std.proofs.Common.{◌≡◌, ℕ, zero, suc, ◌<◌, Bool, true, false, not, ◌||◌, cond, eqb, ltb, List, [], ◌∷◌, length, get_or, set, replicate, Option, Some, None, refl, sym, ap, ap₂, subst, ◌∙◌, arith}
+use Rattle.bgp_wire.proofs.Std.{◌≡◌, ℕ, zero, suc, ◌<◌, Bool, true, false, not, ◌||◌, cond, eqb, ltb, List, [], ◌∷◌, length, get_or, set, replicate, Option, Some, None, refl, sym, ap, ap₂, subst, ◌∙◌, arith, option_or, eqb-false, and_parts, ltb-true, both_ways, not-true}
 use Rattle.std.specs.Prelude.{◌-◌, is_some, option_map, slice_index_or, IfSome, IsTrue}
-use Rattle.std.specs.Option.{option_or}
-use Rattle.std.proofs.lemmas.Bool.{eqb-true, eqb-false, and_parts, ltb-true, both_ways, not-true}
+use Rattle.std.proofs.lemmas.Bool.{eqb-true}
 use Rattle.std.proofs.lemmas.Grind.{get_or-set_at}
 use Rattle.std.proofs.lemmas.List.{get_or-set_other}
 use Rattle.bgp_open.specs.declared.context.Context.{Context}
@@ -12,6 +11,7 @@ use Rattle.bgp_attr.specs.Judgement as judgement
 use Rattle.bgp_attr.specs.declared.tlv.Tlv.{Tlv}
 use Rattle.bgp_attr.proofs.Tables.{by_row, entry-passes}
 use Rattle.bgp_attr.proofs.TestRows.{row-other}
+use Rattle.bgp_update.specs.declared.kept_view.TheConstants.{TYPES}
 use Rattle.bgp_update.specs.Prelude.{Kept, kept_behind, attrs_from, first_known, is_opaque, tlv_placed, IsKeptAt, ArePlaced, present, slot}
 use Rattle.bgp_update.proofs.Options.{map_filled, option_or-none}
 use Rattle.bgp_update.proofs.KeptViews.{or_false, or_true}
@@ -26,8 +26,8 @@ none_placed (suc n) zero = refl
 none_placed (suc n) (suc k) = none_placed n k
 
 -- each recognised type has a place
-pub kind-low : (kind : ℕ) → is_recognised kind ≡ true → kind < 33
-kind-low kind known = ltb-true kind 33 (entry-passes (λ (k : ℕ). ltb k 33) kind judgement.recognised refl known)
+pub kind-low : (kind : ℕ) → is_recognised kind ≡ true → kind < TYPES
+kind-low kind known = ltb-true kind TYPES (entry-passes (λ (k : ℕ). ltb k TYPES) kind judgement.recognised refl known)
 
 -- ---- one more attribute
 

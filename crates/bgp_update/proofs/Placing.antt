@@ -1,7 +1,5 @@
 -- An attribute of an unrecognised type, put in its place by type; and what is left where none is of such a type.
-use Rattle.std.proofs.Common.{◌≡◌, suc, Bool, true, false, cond, ltb, List, [], ◌∷◌, ◌++◌, map, refl, sym, ap, ◌∙◌, true≢false}
-use Rattle.std.specs.List.{insert, flat_map, list_any}
-use Rattle.std.proofs.lemmas.Bool.{or_parts}
+use Rattle.bgp_wire.proofs.Std.{◌≡◌, suc, Bool, true, false, cond, ltb, List, [], ◌∷◌, ◌++◌, map, refl, sym, ap, ◌∙◌, true≢false, insert, flat_map, list_any, or_parts}
 use Rattle.bgp_attr.specs.Prelude.{opaque_value}
 use Rattle.bgp_attr.specs.declared.attr.Attr.{Attr}
 use Rattle.bgp_attr.specs.declared.opaque.OpaqueView.{OpaqueView}

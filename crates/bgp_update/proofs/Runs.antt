@@ -1,5 +1,5 @@
 -- Whether octets are IPv4 prefixes alone.
-use Rattle.std.proofs.Common.{◌≡◌, ℕ, Bool, true, false, eqb, List, [], ◌∷◌, length, refl, sym, IsTrue}
+use Rattle.bgp_wire.proofs.Std.{◌≡◌, ℕ, Bool, true, false, eqb, List, [], ◌∷◌, length, refl, sym, IsTrue}
 use Rattle.std.proofs.Math.Dec.{eqb-suc-zero}
 use Rattle.std.proofs.lemmas.Bool.{true≢false}
 use Rattle.bgp_prefix.specs.Prelude.{run_of}

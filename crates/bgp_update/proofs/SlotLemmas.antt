@@ -1,10 +1,8 @@
 -- The slots of attributes: each holds the one attribute of its type, and all of them give the attributes back.
-use Rattle.std.proofs.Common.{◌≡◌, ℕ, ◌+◌, ◌<◌, ◌≤◌, Bool, true, false, not, ◌&&◌, cond, eqb, List, [], ◌∷◌, ◌++◌, length, map, Option, Some, None, inl, inr, refl, sym, ap, subst, ◌∙◌, arith}
+use Rattle.bgp_wire.proofs.Std.{◌≡◌, ℕ, ◌+◌, ◌<◌, ◌≤◌, Bool, true, false, not, ◌&&◌, cond, eqb, List, [], ◌∷◌, ◌++◌, length, map, Option, Some, None, inl, inr, refl, sym, ap, subst, ◌∙◌, arith, flat_map, filter, list_any, AllByRecursion, both_ways, and_parts, and_right, or_parts, or_cases, not-false, not-true, flat_map-append}
 use Rattle.std.specs.Prelude.{is_some}
-use Rattle.std.specs.List.{flat_map, filter, list_any, AllByRecursion}
-use Rattle.std.proofs.lemmas.Bool.{both_ways, eqb-true, and_parts, and_right, or_parts, or_cases, not-false, not-true}
-use Rattle.std.proofs.lemmas.List.Concat.{flat_map-append}
-use Rattle.bgp_numbers.specs.declared.attribute.TheConstants.{ORIGIN, AS_PATH, NEXT_HOP, MULTI_EXIT_DISC, LOCAL_PREF, ATOMIC_AGGREGATE, AGGREGATOR, COMMUNITIES, MP_REACH_NLRI, MP_UNREACH_NLRI, AS4_PATH, AS4_AGGREGATOR, LARGE_COMMUNITY}
+use Rattle.std.proofs.lemmas.Bool.{eqb-true}
+use Rattle.bgp_numbers.specs.declared.attribute.TheConstants as attribute
 use Rattle.bgp_open.specs.declared.context.Context.{Context}
 use Rattle.bgp_attr.specs.declared.attr.Attr.{Attr}
 use Rattle.bgp_attr.specs.declared.opaque.Opaque.{Opaque}
@@ -13,7 +11,8 @@ use Rattle.bgp_attr.specs.declared.attr.Attr.TheVariants as attr
 use Rattle.bgp_attr.specs.Judgement as judgement
 use Rattle.bgp_attr.proofs.Tables.{EachRow, by_row, entry-other, entry-passes}
 use Rattle.bgp_update.specs.declared.attrs.Attrs.{Attrs}
-use Rattle.bgp_update.specs.Prelude.{carries_routes, is_opaque, as_opaque, rising_behind, attrs_from, attrs_of, first_known, as_origin, as_as_path, as_next_hop, as_med, as_local_pref, as_aggregator, as_communities, as_mp_reach, as_mp_unreach, as_as4_path, as_as4_aggregator, as_large, present, slots, slot, types_from, canonical_order, attr_list, has_bad_others, rise}
+use Rattle.bgp_update.specs.Prelude.{carries_routes, is_opaque, as_opaque, rising_behind, attrs_from, attrs_of, first_known, present, slots, slot, types_from, canonical_order, attr_list, has_bad_others, rise}
+use Rattle.bgp_update.specs.Fields as fields
 use Rattle.bgp_wire.specs.Prelude.{◌>>=◌}
 use Rattle.bgp_update.proofs.Lists.{find-passes, find-none, find-among, none-all, all-none, all-more, all-among, flat_map-all_none, flat_map-same, flat_map-filter, all-flat_map}
 use Rattle.bgp_update.proofs.Rising.{of_kind, rising-same, rise-rises, types-find, listed}
@@ -101,7 +100,7 @@ back as_attr as_value kind each (Some v) = each v
 abbrev pub atomic_slot : Bool → List Attr
 atomic_slot b = cond b (attr.Atomic ∷ []) []
 
-atomic-back : (b : Bool) → is_some (first_known (atomic_slot b) ATOMIC_AGGREGATE) ≡ b
+atomic-back : (b : Bool) → is_some (first_known (atomic_slot b) attribute.ATOMIC_AGGREGATE) ≡ b
 atomic-back true = refl
 atomic-back false = refl
 
@@ -113,19 +112,19 @@ module _ (a : Attrs) where
   pub fields-back : attrs_from in_slot a.others ≡ a
   unfolding slot attrs_from
   fields-back = λ i. record {
-    origin = back attr.Origin as_origin ORIGIN (λ v. refl) a.origin i;
-    as_path = back attr.AsPath as_as_path AS_PATH (λ v. refl) a.as_path i;
-    next_hop = back attr.NextHop as_next_hop NEXT_HOP (λ v. refl) a.next_hop i;
-    med = back attr.Med as_med MULTI_EXIT_DISC (λ v. refl) a.med i;
-    local_pref = back attr.LocalPref as_local_pref LOCAL_PREF (λ v. refl) a.local_pref i;
+    origin = back attr.Origin (elim [ attr.Origin o ↦ Some o | _ ↦ None ]) attribute.ORIGIN (λ v. refl) a.origin i;
+    as_path = back attr.AsPath fields.as_as_path attribute.AS_PATH (λ v. refl) a.as_path i;
+    next_hop = back attr.NextHop (elim [ attr.NextHop addr ↦ Some addr | _ ↦ None ]) attribute.NEXT_HOP (λ v. refl) a.next_hop i;
+    med = back attr.Med (elim [ attr.Med n ↦ Some n | _ ↦ None ]) attribute.MULTI_EXIT_DISC (λ v. refl) a.med i;
+    local_pref = back attr.LocalPref (elim [ attr.LocalPref n ↦ Some n | _ ↦ None ]) attribute.LOCAL_PREF (λ v. refl) a.local_pref i;
     atomic = atomic-back a.atomic i;
-    aggregator = back attr.Aggregator as_aggregator AGGREGATOR (λ v. refl) a.aggregator i;
-    communities = back attr.Communities as_communities COMMUNITIES (λ v. refl) a.communities i;
-    mp_reach = back attr.MpReach as_mp_reach MP_REACH_NLRI (λ v. refl) a.mp_reach i;
-    mp_unreach = back attr.MpUnreach as_mp_unreach MP_UNREACH_NLRI (λ v. refl) a.mp_unreach i;
-    as4_path = back attr.As4Path as_as4_path AS4_PATH (λ v. refl) a.as4_path i;
-    as4_aggregator = back attr.As4Aggregator as_as4_aggregator AS4_AGGREGATOR (λ v. refl) a.as4_aggregator i;
-    large = back attr.Large as_large LARGE_COMMUNITY (λ v. refl) a.large i;
+    aggregator = back attr.Aggregator (elim [ attr.Aggregator a ↦ Some a | _ ↦ None ]) attribute.AGGREGATOR (λ v. refl) a.aggregator i;
+    communities = back attr.Communities fields.as_communities attribute.COMMUNITIES (λ v. refl) a.communities i;
+    mp_reach = back attr.MpReach fields.as_mp_reach attribute.MP_REACH_NLRI (λ v. refl) a.mp_reach i;
+    mp_unreach = back attr.MpUnreach fields.as_mp_unreach attribute.MP_UNREACH_NLRI (λ v. refl) a.mp_unreach i;
+    as4_path = back attr.As4Path fields.as_as4_path attribute.AS4_PATH (λ v. refl) a.as4_path i;
+    as4_aggregator = back attr.As4Aggregator (elim [ attr.As4Aggregator a ↦ Some a | _ ↦ None ]) attribute.AS4_AGGREGATOR (λ v. refl) a.as4_aggregator i;
+    large = back attr.Large fields.as_large attribute.LARGE_COMMUNITY (λ v. refl) a.large i;
     others = a.others;
   }
 
@@ -225,17 +224,17 @@ slot-opaque a none k = by (is_recognised k) refl
     by false other = ap (flat_map as_opaque) (slot-other a k other) ∙ one_opaque (of_kind k a.others)
 
 order-find : (n : ℕ) (os : List Opaque) → list_any (λ o. is_recognised o.kind) os ≡ false → rise os ≡ true → AllByRecursion (λ o. o.kind < 0 + n) os
-    → flat_map (λ k. listed (of_kind k os)) (MP_REACH_NLRI ∷ MP_UNREACH_NLRI ∷ filter (λ kind. not (carries_routes kind)) (types_from 0 n)) ≡ os
+    → flat_map (λ k. listed (of_kind k os)) (attribute.MP_REACH_NLRI ∷ attribute.MP_UNREACH_NLRI ∷ filter (λ kind. not (carries_routes kind)) (types_from 0 n)) ≡ os
 order-find n os none rises small =
-    ap (λ (b : List Opaque). b ++ (listed (of_kind MP_UNREACH_NLRI os) ++ flat_map (λ k. listed (of_kind k os)) (filter (λ kind. not (carries_routes kind)) (types_from 0 n)))) (unfound MP_REACH_NLRI os refl none)
-    ∙ ap (λ (b : List Opaque). b ++ flat_map (λ k. listed (of_kind k os)) (filter (λ kind. not (carries_routes kind)) (types_from 0 n))) (unfound MP_UNREACH_NLRI os refl none)
+    ap (λ (b : List Opaque). b ++ (listed (of_kind attribute.MP_UNREACH_NLRI os) ++ flat_map (λ k. listed (of_kind k os)) (filter (λ kind. not (carries_routes kind)) (types_from 0 n)))) (unfound attribute.MP_REACH_NLRI os refl none)
+    ∙ ap (λ (b : List Opaque). b ++ flat_map (λ k. listed (of_kind k os)) (filter (λ kind. not (carries_routes kind)) (types_from 0 n))) (unfound attribute.MP_UNREACH_NLRI os refl none)
     ∙ flat_map-filter (λ k. listed (of_kind k os)) (λ kind. not (carries_routes kind)) (types_from 0 n) (λ k e. carrying k (not-false (carries_routes k) e))
     ∙ types-find n 0 os (rise-rises os rises) small
   where
     carrying : (k : ℕ) → carries_routes k ≡ true → listed (of_kind k os) ≡ []
-    carrying k e = elim (or_cases (eqb k MP_REACH_NLRI) (eqb k MP_UNREACH_NLRI) e) [
-      | inl same ↦ ap (λ (j : ℕ). listed (of_kind j os)) (eqb-true k MP_REACH_NLRI same) ∙ unfound MP_REACH_NLRI os refl none
-      | inr same ↦ ap (λ (j : ℕ). listed (of_kind j os)) (eqb-true k MP_UNREACH_NLRI same) ∙ unfound MP_UNREACH_NLRI os refl none
+    carrying k e = elim (or_cases (eqb k attribute.MP_REACH_NLRI) (eqb k attribute.MP_UNREACH_NLRI) e) [
+      | inl same ↦ ap (λ (j : ℕ). listed (of_kind j os)) (eqb-true k attribute.MP_REACH_NLRI same) ∙ unfound attribute.MP_REACH_NLRI os refl none
+      | inr same ↦ ap (λ (j : ℕ). listed (of_kind j os)) (eqb-true k attribute.MP_UNREACH_NLRI same) ∙ unfound attribute.MP_UNREACH_NLRI os refl none
     ]
 
 order-others : (os : List Opaque) → list_any (λ o. is_recognised o.kind) os ≡ false → rise os ≡ true → AllByRecursion (λ o. o.kind < 256) os

@@ -1,8 +1,7 @@
 -- A walk over the types in order: the attributes so far, one type more, and all of them.
-use Rattle.std.proofs.Common.{◌≡◌, ℕ, ◌+◌, ◌<◌, ◌≤◌, List, [], ◌∷◌, ◌++◌, length, get_or, take, drop, sym, ap, subst, ◌∙◌, append_assoc, arith}
-use Rattle.std.specs.List.{flat_map, AllByRecursion}
+use Rattle.bgp_wire.proofs.Std.{◌≡◌, ℕ, ◌+◌, ◌<◌, ◌≤◌, List, [], ◌∷◌, ◌++◌, length, get_or, take, drop, sym, ap, subst, ◌∙◌, append_assoc, arith, flat_map, AllByRecursion, take_more, take-append-drop}
 use Rattle.std.proofs.lemmas.Grind.{flat_map-append}
-use Rattle.std.proofs.lemmas.List.{append-nil, length-append, take_more, take_all, take-append-drop}
+use Rattle.std.proofs.lemmas.List.{append-nil, length-append, take_all}
 use Rattle.bgp_wire.specs.Prelude.{Extends}
 use Rattle.bgp_wire.proofs.Writes.{IsWritten}
 use Rattle.bgp_update.proofs.Lists.{all-append, all-front, all-back}

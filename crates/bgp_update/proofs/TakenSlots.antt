@@ -1,7 +1,5 @@
 -- What the slots of a message's attributes hold: of each type the first that was kept.
-use Rattle.std.proofs.Common.{◌≡◌, ℕ, ◌-◌, ◌≤◌, true, false, not, List, ◌++◌, length, refl, ap, subst, sym, ◌∙◌, arith}
-use Rattle.std.specs.List.{flat_map, list_any, AllByRecursion}
-use Rattle.std.proofs.lemmas.Bool.{or_parts, not-false}
+use Rattle.bgp_wire.proofs.Std.{◌≡◌, ℕ, ◌-◌, ◌≤◌, true, false, not, List, ◌++◌, length, refl, ap, subst, sym, ◌∙◌, arith, flat_map, list_any, AllByRecursion, or_parts, not-false}
 use Rattle.std.proofs.lemmas.List.{length-append}
 use Rattle.bgp_wire.specs.Prelude.{AreOctets, none_of_them, Splits}
 use Rattle.bgp_wire.proofs.OctetLemmas.{AreOctets-front}

@@ -1,7 +1,6 @@
 -- The order of the types has each once, and what an attribute's type says of it.
-use Rattle.std.proofs.Common.{◌≡◌, ℕ, zero, suc, ◌+◌, ◌≤◌, Bool, true, false, not, ◌||◌, ◌&&◌, cond, eqb, List, [], ◌∷◌, Option, refl, ap, ◌∙◌, arith}
-use Rattle.std.specs.List.{filter, find, list_any, AllByRecursion}
-use Rattle.std.proofs.lemmas.Bool.{both_ways, ne_eqb, or_parts, or_from, or_right, not-true}
+use Rattle.bgp_wire.proofs.Std.{◌≡◌, ℕ, zero, suc, ◌+◌, ◌≤◌, Bool, true, false, not, ◌||◌, ◌&&◌, cond, eqb, List, [], ◌∷◌, Option, refl, ap, ◌∙◌, arith, filter, find, list_any, AllByRecursion, both_ways, or_parts, or_from, or_right, not-true}
+use Rattle.std.proofs.lemmas.Bool.{ne_eqb}
 use Rattle.bgp_attr.specs.declared.attr.Attr.{Attr}
 use Rattle.bgp_attr.specs.Prelude.{is_recognised, type_of, is_misnamed}
 use Rattle.bgp_numbers.specs.declared.attribute.TheConstants.{MP_REACH_NLRI, MP_UNREACH_NLRI}

@@ -1,6 +1,5 @@
 -- What a verdict that isn't a reset says of a body: its parts, and what is taken or withdrawn of them.
-use Rattle.std.proofs.Common.{◌≡◌, ℕ, Bool, true, false, cond, List, length, Option, Some, None, refl, subst}
-use Rattle.std.specs.Int.{w16, to_be_bytes}
+use Rattle.bgp_wire.proofs.Std.{◌≡◌, ℕ, Bool, true, false, cond, List, length, Option, Some, None, refl, subst, w16, to_be_bytes}
 use Rattle.bgp_wire.specs.Prelude.{AreOctets}
 use Rattle.bgp_wire.proofs.OctetLemmas.{AreOctets-front, AreOctets-back}
 use Rattle.bgp_frame.specs.declared.notification.Notification.{Notification}

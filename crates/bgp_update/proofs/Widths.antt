@@ -1,9 +1,7 @@
 -- A valid UPDATE with AS numbers of four octets has no AS4 attribute, and what a speaker with two octets is told of it is valid there.
-use Rattle.std.proofs.Common.{◌≡◌, ℕ, Bool, true, false, ◌&&◌, ◌||◌, cond, eqb, ltb, List, [], ◌∷◌, length, map, Option, Some, None, subst, refl, sym, ap, ◌∙◌}
+use Rattle.bgp_wire.proofs.Std.{◌≡◌, ℕ, Bool, true, false, ◌&&◌, ◌||◌, cond, eqb, ltb, List, [], ◌∷◌, length, map, Option, Some, None, subst, refl, sym, ap, ◌∙◌, list_any, AllByRecursion, false≢true, or_parts, or_from, length-map}
 use Rattle.std.specs.Prelude.{option_map, is_none}
-use Rattle.std.specs.List.{list_any, AllByRecursion}
-use Rattle.std.proofs.lemmas.Bool.{true≢false, false≢true, eqb-true, ne_eqb, or_parts, or_from}
-use Rattle.std.proofs.lemmas.List.{length-map}
+use Rattle.std.proofs.lemmas.Bool.{true≢false, eqb-true, ne_eqb}
 use Rattle.bgp_numbers.specs.declared.TheConstants.{AS_TRANS}
 use Rattle.bgp_numbers.specs.declared.attribute.TheConstants.{AS_PATH, AGGREGATOR, AS4_PATH, AS4_AGGREGATOR}
 use Rattle.bgp_open.specs.declared.context.Context.{Context}

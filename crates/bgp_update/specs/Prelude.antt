@@ -3,7 +3,7 @@ pub use Rattle.bgp_update.specs.Parts.{IsBody, Parts, attributes_at, behind_two}
 unfoldable pub use Rattle.bgp_update.specs.Parts.{parts_of}
 pub use Rattle.bgp_update.specs.Marks.{Mark, carries_routes, cut, cut_kind, cut_mark, malformed, marks_behind, marks_of, placed_tlvs, repeated}
 unfoldable pub use Rattle.bgp_update.specs.Marks.{field_marks}
-pub use Rattle.bgp_update.specs.Fields.{as_aggregator, as_as4_aggregator, as_as4_path, as_as_path, as_communities, as_large, as_local_pref, as_med, as_mp_reach, as_mp_unreach, as_next_hop, as_opaque, as_origin, is_opaque, present, slots}
+pub use Rattle.bgp_update.specs.Fields.{as_as4_path, as_as_path, as_communities, as_large, as_mp_reach, as_mp_unreach, as_opaque, is_opaque, present, slots}
 unfoldable pub use Rattle.bgp_update.specs.Fields.{attrs_from}
 pub use Rattle.bgp_update.specs.Taken.{attrs_of, first_known, kept_by, kept_of, no_attrs, put_rising, rising_behind, update_of}
 pub use Rattle.bgp_update.specs.Notes.{gone_ip4, gone_ip6, has_routes, has_type, is_missing, is_reachable, mark_notes, missing_in, missing_note, missing_notes, missing_of, notes_of, reached_ip4, reached_ip6, routes_of, types_of_field, why_not}

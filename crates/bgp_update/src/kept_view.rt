@@ -2,17 +2,20 @@
 
 ghost use Rattle.std.specs.Prelude.{◌≡◌, [], length, Some, IfOk};
 ghost use Rattle.bgp_update.specs.Places.{ArePlaced};
+ghost use Rattle.bgp_update.specs.declared.kept_view.TheConstants.{TYPES};
 
 use crate::attrs::Attrs;
 use bgp_attr::{
     Aggregator, As4PathView, AttrView, CommunitiesView, LargeView, MpReachView, MpUnreachView,
-    Opaque, Origin, PathView, Tlv, aggregator_in, as_path_in, as4_path_in, communities_in, four_in,
-    is_recognised, kept_attr, large_in, next_hop_in, origin_in, reach_in, tlv_at, unreach_in,
+    Opaque, Origin, PathView, Tlv, is_recognised, kept_attr, tlv_at,
 };
 use bgp_numbers::attribute;
 use bgp_open::Context;
 use bgp_wire::List;
 use std::alloc::{AllocError, Global};
+
+/// One more than the highest recognised type.
+const TYPES: usize = 33;
 
 /// The path attributes of an UPDATE that are kept, at most one of each type: where each lies that is recognised. It is read when it is asked for.
 #[derive(Clone, Copy)]
@@ -22,17 +25,27 @@ pub struct KeptView<'a> {
     /// The attribute field.
     field: &'a [u8],
     /// By type: one more than the offset of the attribute that is kept, or 0.
-    places: [u16; 33],
+    places: [u16; TYPES],
     /// Whether there are others, of types that aren't recognised.
     pub others: bool,
     ghost placed: { ArePlaced ctx has_nlri field.now places },
 }
 
 /// There is a place for each recognised type.
-fn are_all_types(places: &[u16; 33])
-    ensures { length places.now ≡ 33 }
+fn are_all_types(places: &[u16; TYPES])
+    ensures { length places.now ≡ TYPES }
 {
     let _len = places.len();
+}
+
+/// The value of an attribute, where it is of this type.
+macro_rules! only {
+    ($attr:expr, $Variant:ident) => {
+        match $attr {
+            Some(AttrView::$Variant(value)) => Some(value),
+            _ => None,
+        }
+    };
 }
 
 /// What is owned where there is something.
@@ -46,7 +59,7 @@ macro_rules! owned {
 }
 
 impl<'a> KeptView<'a> {
-    ghost use Rattle.std.specs.Prelude.{◌≤◌, ◌∷◌, option_map, slice_index_or, IfSome, IsTrue};
+    ghost use Rattle.std.specs.Prelude.{◌≤◌, ◌∷◌, None, option_map, slice_index_or, IfSome, IsTrue};
     ghost use Rattle.bgp_attr.specs.AttrView.{as4_path_value, attr_value};
     ghost use Rattle.bgp_attr.specs.CommunitiesView.{communities_value, large_value};
     ghost use Rattle.bgp_attr.specs.Judgement.{judgement, type_row};
@@ -55,7 +68,7 @@ impl<'a> KeptView<'a> {
     ghost use Rattle.bgp_attr.specs.PathView.{path_value};
     ghost use Rattle.bgp_attr.specs.TlvIter.{tlv_at};
     ghost use Rattle.bgp_attr.specs.TlvView.{tlv_value};
-    ghost use Rattle.bgp_update.specs.KeptView.{kept_behind, kept_in, kept_tlv, kept_value, known_value};
+    ghost use Rattle.bgp_update.specs.KeptView.{kept_attr, kept_behind, kept_in, kept_tlv, kept_value, known_value};
     ghost use Rattle.bgp_update.specs.Fields.{present};
     ghost use Rattle.bgp_update.specs.Slots.{slot};
 
@@ -69,7 +82,7 @@ impl<'a> KeptView<'a> {
             ctx: *ctx,
             has_nlri,
             field,
-            places: [0; 33],
+            places: [0; TYPES],
             others: false,
         }
     }
@@ -116,13 +129,45 @@ impl<'a> KeptView<'a> {
         tlv_at(self.field, place - 1)
     }
 
+    /// The attribute of a type, where it is recognised and kept: its value is read here alone.
+    #[inline(always)]
+    fn known(&self, kind: u8) -> Option<AttrView<'a>>
+        ensures { option_map attr_value result ≡ kept_attr self.now kind }
+    {
+        let tlv = self.tlv(kind)?;
+        Some(kept_attr(&self.ctx, self.has_nlri, kind, &tlv))
+    }
+
     /// The attribute of a type, where it is recognised and kept.
     #[inline(always)]
     pub fn attr(&self, kind: u8) -> Option<AttrView<'a>>
         ensures { present attr_value result ≡ slot (known_value self.now) kind }
     {
-        let tlv = self.tlv(kind)?;
-        Some(kept_attr(&self.ctx, self.has_nlri, kind, &tlv))
+        self.known(kind)
+    }
+
+    /// The attributes that take no memory, and these others.
+    #[tactic(auto, unfolding(crate::specs::Fields::attrs_from))]
+    #[inline(always)]
+    fn values(&self, others: List<Opaque>) -> Attrs
+        ensures { result ≡ record (known_value self.now) { as_path = None; communities = None; mp_reach = None; mp_unreach = None; as4_path = None; large = None; others = others } }
+    {
+        Attrs {
+            origin: self.origin(),
+            as_path: None,
+            next_hop: self.next_hop(),
+            med: self.med(),
+            local_pref: self.local_pref(),
+            atomic: self.atomic(),
+            aggregator: self.aggregator(),
+            communities: None,
+            mp_reach: None,
+            mp_unreach: None,
+            as4_path: None,
+            as4_aggregator: self.as4_aggregator(),
+            large: None,
+            others,
+        }
     }
 
     /// The attributes with memory of their own, and these others. It is inlined, since it is built where it is to stand then.
@@ -138,26 +183,19 @@ impl<'a> KeptView<'a> {
         let as4_path = owned!(self.as4_path(), alloc);
         let large = owned!(self.large(), alloc);
         Ok(Attrs {
-            origin: self.origin(),
             as_path,
-            next_hop: self.next_hop(),
-            med: self.med(),
-            local_pref: self.local_pref(),
-            atomic: self.atomic(),
-            aggregator: self.aggregator(),
             communities,
             mp_reach,
             mp_unreach,
             as4_path,
-            as4_aggregator: self.as4_aggregator(),
             large,
-            others,
+            ..self.values(others)
         })
     }
 }
 
 /// What is read where an attribute of a type is kept.
-#[tactic(auto, unfolding(bgp_attr::specs::Judgement::type_row, crate::specs::Fields::attrs_from))]
+#[tactic(auto, unfolding(crate::specs::Fields::attrs_from))]
 impl<'a> KeptView<'a> {
     ghost use Rattle.std.specs.Prelude.{option_map};
     ghost use Rattle.bgp_attr.specs.AttrView.{as4_path_value};
@@ -171,8 +209,7 @@ impl<'a> KeptView<'a> {
     pub fn origin(&self) -> Option<Origin>
         ensures { result ≡ (known_value self.now).origin }
     {
-        let tlv = self.tlv(attribute::ORIGIN)?;
-        Some(origin_in(tlv.value))
+        only!(self.known(attribute::ORIGIN), Origin)
     }
 
     /// AS_PATH (RFC 4271, section 5.1.2).
@@ -180,8 +217,7 @@ impl<'a> KeptView<'a> {
     pub fn as_path(&self) -> Option<PathView<'a>>
         ensures { option_map path_value result ≡ (known_value self.now).as_path }
     {
-        let tlv = self.tlv(attribute::AS_PATH)?;
-        Some(as_path_in(&self.ctx, tlv.value))
+        only!(self.known(attribute::AS_PATH), AsPath)
     }
 
     /// NEXT_HOP: an IPv4 address (RFC 4271, section 5.1.3).
@@ -189,8 +225,7 @@ impl<'a> KeptView<'a> {
     pub fn next_hop(&self) -> Option<[u8; 4]>
         ensures { result ≡ (known_value self.now).next_hop }
     {
-        let tlv = self.tlv(attribute::NEXT_HOP)?;
-        Some(next_hop_in(tlv.value))
+        only!(self.known(attribute::NEXT_HOP), NextHop)
     }
 
     /// MULTI_EXIT_DISC (RFC 4271, section 5.1.4).
@@ -198,8 +233,7 @@ impl<'a> KeptView<'a> {
     pub fn med(&self) -> Option<u32>
         ensures { result ≡ (known_value self.now).med }
     {
-        let tlv = self.tlv(attribute::MULTI_EXIT_DISC)?;
-        Some(four_in(tlv.value))
+        only!(self.known(attribute::MULTI_EXIT_DISC), Med)
     }
 
     /// LOCAL_PREF (RFC 4271, section 5.1.5).
@@ -207,8 +241,7 @@ impl<'a> KeptView<'a> {
     pub fn local_pref(&self) -> Option<u32>
         ensures { result ≡ (known_value self.now).local_pref }
     {
-        let tlv = self.tlv(attribute::LOCAL_PREF)?;
-        Some(four_in(tlv.value))
+        only!(self.known(attribute::LOCAL_PREF), LocalPref)
     }
 
     /// Whether ATOMIC_AGGREGATE is there (RFC 4271, section 5.1.6).
@@ -224,8 +257,7 @@ impl<'a> KeptView<'a> {
     pub fn aggregator(&self) -> Option<Aggregator>
         ensures { result ≡ (known_value self.now).aggregator }
     {
-        let tlv = self.tlv(attribute::AGGREGATOR)?;
-        Some(aggregator_in(self.ctx.as4, &tlv))
+        only!(self.known(attribute::AGGREGATOR), Aggregator)
     }
 
     /// COMMUNITIES (RFC 1997).
@@ -233,8 +265,7 @@ impl<'a> KeptView<'a> {
     pub fn communities(&self) -> Option<CommunitiesView<'a>>
         ensures { option_map communities_value result ≡ (known_value self.now).communities }
     {
-        let tlv = self.tlv(attribute::COMMUNITIES)?;
-        Some(communities_in(&tlv))
+        only!(self.known(attribute::COMMUNITIES), Communities)
     }
 
     /// MP_REACH_NLRI (RFC 4760, section 3).
@@ -242,8 +273,7 @@ impl<'a> KeptView<'a> {
     pub fn reach(&self) -> Option<MpReachView<'a>>
         ensures { option_map reach_value result ≡ (known_value self.now).mp_reach }
     {
-        let tlv = self.tlv(attribute::MP_REACH_NLRI)?;
-        Some(reach_in(tlv.value))
+        only!(self.known(attribute::MP_REACH_NLRI), MpReach)
     }
 
     /// MP_UNREACH_NLRI (RFC 4760, section 4).
@@ -251,8 +281,7 @@ impl<'a> KeptView<'a> {
     pub fn unreach(&self) -> Option<MpUnreachView<'a>>
         ensures { option_map unreach_value result ≡ (known_value self.now).mp_unreach }
     {
-        let tlv = self.tlv(attribute::MP_UNREACH_NLRI)?;
-        Some(unreach_in(tlv.value))
+        only!(self.known(attribute::MP_UNREACH_NLRI), MpUnreach)
     }
 
     /// AS4_PATH (RFC 6793, section 3).
@@ -260,8 +289,7 @@ impl<'a> KeptView<'a> {
     pub fn as4_path(&self) -> Option<As4PathView<'a>>
         ensures { option_map as4_path_value result ≡ (known_value self.now).as4_path }
     {
-        let tlv = self.tlv(attribute::AS4_PATH)?;
-        Some(as4_path_in(&tlv))
+        only!(self.known(attribute::AS4_PATH), As4Path)
     }
 
     /// AS4_AGGREGATOR (RFC 6793, section 3).
@@ -269,8 +297,7 @@ impl<'a> KeptView<'a> {
     pub fn as4_aggregator(&self) -> Option<Aggregator>
         ensures { result ≡ (known_value self.now).as4_aggregator }
     {
-        let tlv = self.tlv(attribute::AS4_AGGREGATOR)?;
-        Some(aggregator_in(true, &tlv))
+        only!(self.known(attribute::AS4_AGGREGATOR), As4Aggregator)
     }
 
     /// LARGE_COMMUNITY (RFC 8092).
@@ -278,7 +305,6 @@ impl<'a> KeptView<'a> {
     pub fn large(&self) -> Option<LargeView<'a>>
         ensures { option_map large_value result ≡ (known_value self.now).large }
     {
-        let tlv = self.tlv(attribute::LARGE_COMMUNITY)?;
-        Some(large_in(&tlv))
+        only!(self.known(attribute::LARGE_COMMUNITY), Large)
     }
 }

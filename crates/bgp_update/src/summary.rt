@@ -85,8 +85,8 @@ impl<'a> Summary<'a> {
         }
     }
 
-    /// Adds the mark of an attribute that is cut off, where the whole ones are all added.
-    #[inline(never)]
+    /// Adds the mark of an attribute that is cut off, where the whole ones are all added. It is inlined, so that the marks stay in registers.
+    #[inline(always)]
     fn add_cut(&mut self, marks: &mut MarkIter<'a>)
         requires { tlvs_left marks.old.tlvs ≡ [] }
         ensures marks { summary_value self.new ≡ summary_behind (summary_value self.old) (marks_left marks.old) }

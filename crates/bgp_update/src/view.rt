@@ -63,14 +63,8 @@ fn has_routes(reach: &Option<MpReachView<'_>>) -> bool
 {
     match reach {
         None => false,
-        Some(MpReachView::Ip4 { nlri, .. }) => {
-            let mut nlri = *nlri;
-            nlri.next().is_some()
-        }
-        Some(MpReachView::Ip6 { nlri, .. }) => {
-            let mut nlri = *nlri;
-            nlri.next().is_some()
-        }
+        Some(MpReachView::Ip4 { nlri, .. }) => nlri.has_next(),
+        Some(MpReachView::Ip6 { nlri, .. }) => nlri.has_next(),
     }
 }
 

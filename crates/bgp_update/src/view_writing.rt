@@ -93,7 +93,8 @@ fn put_recognised<'a, S: OfType<'a>, O: Output>(
     put = put_next::<9, S, O>(put, ctx, kept, others, out);
     put = put_next::<10, S, O>(put, ctx, kept, others, out);
     put = put_next::<11, S, O>(put, ctx, kept, others, out);
-    put_next::<12, S, O>(put, ctx, kept, others, out)
+    put = put_next::<12, S, O>(put, ctx, kept, others, out);
+    put
 }
 
 /// Adds the attributes; some octets may stay where there was no room.

@@ -1,3 +1,4 @@
+pub mod Std
 pub mod OctetLemmas
 pub mod Rows
 pub mod Pieces

@@ -1,7 +1,6 @@
 -- Parts of octets are octets, and so are octets joined.
-use Rattle.std.proofs.Common.{ℕ, zero, suc, ◌+◌, ◌-◌, ◌<◌, List, [], ◌∷◌, ◌++◌, length, get_or, take, drop, refl, arith, inl, inr}
-use Rattle.std.proofs.lemmas.Bool.{cases_lt}
-use Rattle.std.proofs.lemmas.List.{length-take, get_or-drop, get_or-take, get_or_past, get_or_append_left, get_or-append_right, get_or-append-add}
+use Rattle.bgp_wire.proofs.Std.{ℕ, zero, suc, ◌+◌, ◌-◌, ◌<◌, List, [], ◌∷◌, ◌++◌, length, get_or, take, drop, refl, arith, inl, inr, cases_lt, get_or-drop, get_or-take, get_or_past, get_or_append_left, get_or-append_right, get_or-append-add}
+use Rattle.std.proofs.lemmas.List.{length-take}
 use Rattle.bgp_wire.specs.Prelude.{AreOctets}
 
 pub AreOctets-nil : AreOctets []

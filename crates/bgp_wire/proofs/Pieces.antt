@@ -1,6 +1,6 @@
 -- What a reader finds is what the spelling says: for any spelling and any reader of it.
-use Rattle.std.proofs.Common.{◌≡◌, ℕ, zero, suc, ◌<◌, ◌≤◌, List, [], ◌∷◌, ◌++◌, length, Option, Some, None, refl, sym, ap, ◌∙◌, append_assoc, arith}
-use Rattle.std.proofs.lemmas.List.{append-nil, append_cancel_right, length-append}
+use Rattle.bgp_wire.proofs.Std.{◌≡◌, ℕ, zero, suc, ◌<◌, ◌≤◌, List, [], ◌∷◌, ◌++◌, length, Option, Some, None, refl, sym, ap, ◌∙◌, append_assoc, arith, append_cancel_right}
+use Rattle.std.proofs.lemmas.List.{append-nil, length-append}
 use Rattle.bgp_wire.specs.Prelude.{Row, IsPrefixFree, Splits, Reads, then_pieces, pieces_within, pieces}
 
 module _ (A : Type 0) where

@@ -1,8 +1,6 @@
 -- Rows that are written value by value.
-use Rattle.std.proofs.Common.{◌≡◌, ℕ, ◌+◌, ◌<◌, ◌≤◌, List, [], ◌∷◌, ◌++◌, length, get_or, take, sym, ap, subst, ◌∙◌, append_assoc, arith}
-use Rattle.std.specs.List.{flat_map, AllByRecursion}
-use Rattle.std.proofs.lemmas.List.{append-nil, length-append, take_more, take_all, flat_map_more}
-use Rattle.std.proofs.lemmas.List.Folds.{length-flat_map-take}
+use Rattle.bgp_wire.proofs.Std.{◌≡◌, ℕ, ◌+◌, ◌<◌, ◌≤◌, List, [], ◌∷◌, ◌++◌, length, get_or, take, sym, ap, subst, ◌∙◌, append_assoc, arith, flat_map, AllByRecursion, take_more, flat_map_more, length-flat_map-take}
+use Rattle.std.proofs.lemmas.List.{append-nil, length-append, take_all}
 use Rattle.bgp_wire.specs.Prelude.{Extends}
 
 -- each element, and one more

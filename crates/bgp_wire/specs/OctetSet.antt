@@ -1,5 +1,5 @@
 -- Sets of octets, as tests: bit k of the words is octet k.
-use Rattle.std.specs.Prelude.{ℕ, ◌/◌, ◌%◌, Bool, false, ◌==◌, ◌||◌}
+use Rattle.std.specs.Prelude.{ℕ, ◌/◌, ◌%◌, Bool, false, not, ◌&&◌, ◌==◌, ◌||◌, nat_lt}
 use Rattle.std.specs.Int.{bit_at}
 use Rattle.std.specs.List.{slice_index_or}
 use Rattle.bgp_wire.specs.declared.octet_set.OctetSet.{OctetSet}
@@ -15,3 +15,7 @@ none_of_them octet = false
 -- a set with an octet more
 abbrev pub also : ℕ → (ℕ → Bool) → ℕ → Bool
 also octet set = λ k. (k == octet) || set k
+
+-- every octet but these
+abbrev pub all_but : (ℕ → Bool) → ℕ → Bool
+all_but set = λ octet. nat_lt octet 256 && not (set octet)

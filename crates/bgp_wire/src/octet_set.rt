@@ -1,7 +1,7 @@
 //! Sets of octets.
 
 ghost use Rattle.std.specs.Prelude.{◌≡◌};
-ghost use Rattle.bgp_wire.specs.Prelude.{also, has_octet, none_of_them};
+ghost use Rattle.bgp_wire.specs.Prelude.{all_but, also, has_octet, none_of_them};
 
 /// A set of octets, as the codes of capabilities or the types of attributes: a bit for each, in 32 octets.
 #[derive(Clone, Copy)]
@@ -33,5 +33,15 @@ impl OctetSet {
         let place = usize::from(octet / 64);
         let word = self.words[place];
         self.words[place] = word | 1u64 << (octet % 64);
+    }
+
+    /// Every octet but those in the set.
+    pub fn others(&self) -> OctetSet
+        ensures { has_octet result ≡ all_but (has_octet self.now) }
+    {
+        let [first, second, third, fourth] = self.words;
+        OctetSet {
+            words: [!first, !second, !third, !fourth],
+        }
     }
 }

@@ -1,7 +1,6 @@
 -- What a parse found of a command and its flags.
-use Rattle.std.proofs.Common.{◌≡◌, List, [], ◌∷◌, Option, None, Some, Result, option_map, refl, sym, ap, subst, ◌∙◌, inl, inr}
+use Rattle.bgp_wire.proofs.Std.{◌≡◌, List, [], ◌∷◌, Option, None, Some, Result, option_map, refl, sym, ap, subst, ◌∙◌, inl, inr, Box, Global}
 use Rattle.clap.specs.Words.{FailsBy, HasKind, Kinds, Row, Text, subcommand_name_of, subcommand_of, subcommand_rows, subcommand_rows_of}
-use Rattle.std.proofs.Common.{Box, Global}
 use Rattle.std.specs.Box.{box_value}
 use Rattle.clap.specs.declared.parser.matches.ArgMatches.{ArgMatches}
 use Rattle.clap.specs.declared.parser.matches.ArgMatches.TheViews.{out-ArgMatches, out-SubCommand}

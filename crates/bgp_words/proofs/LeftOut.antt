@@ -1,8 +1,9 @@
 -- What is left out isn't recognised.
-use Rattle.std.proofs.Common.{◌≡◌, ℕ, ◌<◌, Bool, true, false, not, ◌&&◌, ◌==◌, nat_le, nat_lt, List, [], ◌∷◌, length, Option, None, Some, option_map, refl, sym, subst, inl, inr, cond, codes, arith}
-use Rattle.std.proofs.lemmas.Bool.{and_parts, eqb-true, leb-true, ltb-true, not-true, or_cases}
+use Rattle.bgp_wire.proofs.Std.{◌≡◌, ℕ, ◌<◌, Bool, true, false, not, ◌&&◌, ◌==◌, nat_le, nat_lt, List, [], ◌∷◌, length, Option, None, Some, option_map, refl, sym, subst, inl, inr, cond, codes, arith, and_parts, leb-true, ltb-true, not-true, or_cases}
+use Rattle.std.proofs.lemmas.Bool.{eqb-true}
 use Rattle.std.specs.Str.{all_ascii_digits}
 use Rattle.std.specs.Str.Parse.{digits_value}
+use Rattle.std.proofs.lemmas.Option.{same_Some}
 use Rattle.clap.specs.Words.{Row, Text, first_of}
 use Rattle.bgp_attr.specs.Prelude.{is_recognised}
 use Rattle.bgp_wire.specs.Prelude.{also, none_of_them, ◌>>=◌, when}
@@ -44,10 +45,7 @@ one_more types n all is kind there = elim (or_cases (kind == n) (types kind) the
 ]
 
 behind : (words : List Text) (types found : ℕ → Bool) → AreUnrecognised types → types_behind types words ≡ Some found → AreUnrecognised found
-behind [] types found all e = subst (λ (o : ℕ → Bool). AreUnrecognised o) (some_is e) all
-  where
-    some_is : Some types ≡ Some found → types ≡ found
-    some_is e = cc
+behind [] types found all e = subst (λ (o : ℕ → Bool). AreUnrecognised o) (same_Some types found e) all
 behind (word ∷ words) types found all e =
     let g = given (type_of word) (λ kind. types_behind (also kind types) words) found e in
     behind words (also g.0 types) found (one_more types g.0 all (is_type word g.0 g.1)) g.2
@@ -56,10 +54,7 @@ none_there : AreUnrecognised none_of_them
 none_there kind there = absurd cc
 
 list : (o : Option Text) (found : ℕ → Bool) → types_in o ≡ Some found → AreUnrecognised found
-list None found e = subst (λ (types : ℕ → Bool). AreUnrecognised types) (some_is e) none_there
-  where
-    some_is : Some none_of_them ≡ Some found → none_of_them ≡ found
-    some_is e = cc
+list None found e = subst (λ (types : ℕ → Bool). AreUnrecognised types) (same_Some none_of_them found e) none_there
 list (Some text) found e = behind (words_of text) none_of_them found none_there e
 
 -- ---- all other types
@@ -72,10 +67,7 @@ others types kind there =
 
 all_others : (o : Option (ℕ → Bool)) (found : ℕ → Bool) → option_map all_but o ≡ Some found → AreUnrecognised found
 all_others None found e = absurd cc
-all_others (Some types) found e = subst (λ (s : ℕ → Bool). AreUnrecognised s) (some_is e) (others types)
-  where
-    some_is : Some (all_but types) ≡ Some found → all_but types ≡ found
-    some_is e = cc
+all_others (Some types) found e = subst (λ (s : ℕ → Bool). AreUnrecognised s) (same_Some (all_but types) found e) (others types)
 
 either : (b : Bool) (pass drop : Option Text) (found : ℕ → Bool)
     → cond b (option_map all_but (types_in pass)) (types_in drop) ≡ Some found → AreUnrecognised found

@@ -1,12 +1,15 @@
 -- Lists of types.
-use Rattle.std.proofs.Common.{◌≡◌, ◌≢◌, ℕ, suc, ◌+◌, ◌<◌, ◌^◌, Bool, true, false, ◌&&◌, ◌||◌, ◌==◌, nat_le, nat_lt, List, [], ◌∷◌, length, get_or, Some, None, Result, Ok, Err, refl, sym, ap, ◌∙◌, inl, inr, arith}
-use Rattle.std.proofs.lemmas.Bool.{and_parts, leb-true, lt-ltb, le-ltb, ltb-true, le-leb, eqb-true, eqb-false, cases_lt, false≢true}
+use Rattle.bgp_wire.proofs.Std.{◌≡◌, ◌≢◌, ℕ, suc, ◌<◌, ◌^◌, Bool, true, false, not, ◌&&◌, ◌||◌, ◌==◌, nat_le, nat_lt, List, [], ◌∷◌, length, get_or, Some, None, Result, Ok, Err, refl, sym, ap, ◌∙◌, arith, and_parts, leb-true, ltb-true, le-leb}
+use Rattle.std.proofs.lemmas.Bool.{lt-ltb}
 use Rattle.std.proofs.lemmas.Str.Parse.{IsNumeralModel, numerals_by_value, parse_plain, tells_all_ascii_digits}
 use Rattle.std.specs.Result.{OkIff, result_ok}
 use Rattle.std.specs.Str.{all_ascii_digits}
 use Rattle.std.specs.Str.Parse.{ParsesUnsigned, digits_value}
+use Rattle.bgp_wire.specs.Prelude as wire
 use Rattle.bgp_wire.specs.Prelude.{also, when}
-use Rattle.bgp_words.specs.TypeList.{octet_of}
+use Rattle.bgp_attr.specs.Prelude.{has_entry}
+use Rattle.bgp_attr.specs.Judgement.{recognised}
+use Rattle.bgp_words.specs.TypeList.{all_but, octet_of}
 
 -- ---- numbers
 
@@ -44,33 +47,17 @@ signed (c ∷ word) is = let plus : c ≡ 43 = is in rw (plus, lt-ltb 0 (suc (le
 
 -- ---- all other types
 
-module _ (good : ℕ → Bool) where
-  abbrev below : ℕ → ℕ → Bool
-  below n kind = nat_lt kind n && good kind
+abbrev kept : {A : Type 0} → List (ℕ × A) → (ℕ → Bool) → ℕ → Bool
+kept [] set = set
+kept (row ∷ rows) set = also row.0 (kept rows set)
 
-  at : (b c d g : Bool) → (b ≡ true → (c ≡ false) × (d ≡ true) × (g ≡ true)) → (b ≡ false → c ≡ d) → (b || (c && g)) ≡ (d && g)
-  at true c d g here there = let is = here refl in rw (is.1, is.2) refl
-  at false c d g here there = rw (there refl) refl
+apart : (b c d s : Bool) → not c ≡ (not d && not s) → not (b || c) ≡ (not (b || d) && not s)
+apart true c d s h = refl
+apart false c d s h = h
 
-  same_below : (kind n : ℕ) → ¬ (kind ≡ n) → nat_lt kind n ≡ nat_lt kind (n + 1)
-  same_below kind n other = elim (cases_lt kind n) [
-    | inl lower ↦ lt-ltb kind n lower ∙ sym (lt-ltb kind (n + 1) (omega arith))
-    | inr upper ↦ le-ltb kind n upper ∙ sym (le-ltb kind (n + 1) (omega (arith, other)))
-  ]
+outside : {A : Type 0} (rows : List (ℕ × A)) (set : ℕ → Bool) (kind : ℕ) → not (kept rows set kind) ≡ (not (has_entry kind rows) && not (set kind))
+outside [] set kind = refl
+outside (row ∷ rows) set kind = apart (kind == row.0) (kept rows set kind) (has_entry kind rows) (set kind) (outside rows set kind)
 
-  -- one more, which is to be there
-  pub one_more : (set : ℕ → Bool) (n : ℕ) → good n ≡ true → ((kind : ℕ) → set kind ≡ below n kind) → (kind : ℕ) → also n set kind ≡ below (n + 1) kind
-  one_more set n is h kind = rw (h kind) (at (kind == n) (nat_lt kind n) (nat_lt kind (n + 1)) (good kind)
-      (λ e. let same = eqb-true kind n e in (le-ltb kind n (omega (arith, same)), lt-ltb kind (n + 1) (omega (arith, same)), ap good same ∙ is))
-      (λ e. same_below kind n (eqb-false kind n e)))
-
-  none : (b c g : Bool) → (g ≡ true → b ≡ c) → (b && g) ≡ (c && g)
-  none b c true h = rw (h refl) refl
-  none true true false h = refl
-  none true false false h = refl
-  none false true false h = refl
-  none false false false h = refl
-
-  -- one that isn't
-  pub no_more : (set : ℕ → Bool) (n : ℕ) → good n ≡ false → ((kind : ℕ) → set kind ≡ below n kind) → (kind : ℕ) → set kind ≡ below (n + 1) kind
-  no_more set n isnt h kind = h kind ∙ none (nat_lt kind n) (nat_lt kind (n + 1)) (good kind) (λ is. same_below kind n (λ same. false≢true (sym isnt ∙ ap good (sym same) ∙ is)))
+pub others : (set : ℕ → Bool) → wire.all_but (kept recognised set) ≡ all_but set
+others set i kind = nat_lt kind 256 && outside recognised set kind i

@@ -1,10 +1,10 @@
 //! Lists of attribute types that aren't recognised.
 
 ghost use Rattle.std.specs.Prelude.{◌≡◌, map, option_map, IfOk};
-ghost use Rattle.bgp_attr.specs.Prelude.{is_recognised};
 ghost use Rattle.bgp_wire.specs.Prelude.{has_octet};
-ghost use Rattle.bgp_words.specs.TypeList.{all_but, is_other, octet_of, type_of, types_of, words_of};
+ghost use Rattle.bgp_words.specs.TypeList.{all_but, octet_of, type_of, types_of, words_of};
 
+use bgp_attr::is_recognised;
 use bgp_numbers::attribute;
 use bgp_wire::OctetSet;
 use std::alloc::{AllocError, Global};
@@ -24,28 +24,6 @@ fn octet_of(word: &str) -> Option<u8>
         return None;
     }
     word.parse::<u8>().ok()
-}
-
-// Whether a type is recognised.
-fn is_recognised(kind: u8) -> bool
-    ensures { result ≡ is_recognised kind }
-{
-    match kind {
-        attribute::ORIGIN
-        | attribute::AS_PATH
-        | attribute::NEXT_HOP
-        | attribute::MULTI_EXIT_DISC
-        | attribute::LOCAL_PREF
-        | attribute::ATOMIC_AGGREGATE
-        | attribute::AGGREGATOR
-        | attribute::COMMUNITIES
-        | attribute::MP_REACH_NLRI
-        | attribute::MP_UNREACH_NLRI
-        | attribute::AS4_PATH
-        | attribute::AS4_AGGREGATOR
-        | attribute::LARGE_COMMUNITY => true,
-        _ => false,
-    }
 }
 
 // The type that a word names, where it is one that isn't recognised.
@@ -87,23 +65,24 @@ pub fn list_fault(alloc: Global, list: &str) -> Result<String, AllocError> {
     format!(in alloc; "it is no list of types")
 }
 
-// Whether a type isn't recognised, and none of these.
-fn is_other(types: &OctetSet, kind: u8) -> bool
-    ensures { result ≡ is_other (has_octet types.now) kind }
-{
-    !is_recognised(kind) && !types.contains(kind)
-}
-
 /// Every type that isn't recognised, but these.
 pub fn all_but(types: OctetSet) -> OctetSet
     ensures { has_octet result ≡ all_but (has_octet types) }
 {
-    let mut others = OctetSet::new();
-    'types: for octet in 0..256_u16 {
-        let kind = octet as u8;
-        if is_other(&types, kind) {
-            others.insert(kind);
-        }
-    }
-    others
+    // The recognised ones too, from the last row of their table to the first.
+    let mut kept = types;
+    kept.insert(attribute::LARGE_COMMUNITY);
+    kept.insert(attribute::AS4_AGGREGATOR);
+    kept.insert(attribute::AS4_PATH);
+    kept.insert(attribute::MP_UNREACH_NLRI);
+    kept.insert(attribute::MP_REACH_NLRI);
+    kept.insert(attribute::COMMUNITIES);
+    kept.insert(attribute::AGGREGATOR);
+    kept.insert(attribute::ATOMIC_AGGREGATE);
+    kept.insert(attribute::LOCAL_PREF);
+    kept.insert(attribute::MULTI_EXIT_DISC);
+    kept.insert(attribute::NEXT_HOP);
+    kept.insert(attribute::AS_PATH);
+    kept.insert(attribute::ORIGIN);
+    kept.others()
 }

@@ -1,6 +1,6 @@
 -- The octets from one offset to another.
-use Rattle.std.proofs.Common.{◌≡◌, ℕ, ◌+◌, ◌-◌, ◌≤◌, List, ◌∷◌, ◌++◌, length, take, drop, Option, Some, refl, sym, ap, ◌∙◌, arith, length-drop}
-use Rattle.std.proofs.lemmas.List.{drop-take, drop-drop, take-take, length-take, length-append, take_at, drop_at}
+use Rattle.bgp_wire.proofs.Std.{◌≡◌, ℕ, ◌+◌, ◌-◌, ◌≤◌, List, ◌∷◌, ◌++◌, length, take, drop, Option, Some, refl, sym, ap, ◌∙◌, arith, length-drop, drop-take, take-take, take_at, drop_at}
+use Rattle.std.proofs.lemmas.List.{drop-drop, length-take, length-append}
 use Rattle.bgp_wire.specs.Prelude.{Reads, pieces}
 use Rattle.bgp_wire.proofs.Walks.{first_then}
 use Rattle.ristulva_c.specs.Prelude.{between}

@@ -1,5 +1,5 @@
 -- What is handed on stands behind what was there, and is clean.
-use Rattle.std.proofs.Common.{◌≡◌, ℕ, Bool, List, ◌++◌, take, Result, Ok, Err, sym, subst, ◌∙◌}
+use Rattle.bgp_wire.proofs.Std.{◌≡◌, ℕ, Bool, List, ◌++◌, take, Result, Ok, Err, sym, subst, ◌∙◌}
 use Rattle.std.proofs.lemmas.List.{append-nil}
 use Rattle.bgp_wire.specs.Prelude.{AreOctets}
 use Rattle.bgp_wire.proofs.OctetLemmas.{AreOctets-take}

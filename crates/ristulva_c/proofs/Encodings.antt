@@ -1,6 +1,6 @@
 -- What is written and sent of an UPDATE.
 use Rattle.std.proofs.Common.{◌≡◌, Bool, true, false, not, cond, ℕ, ◌+◌, ◌≤◌, List, [], ◌++◌, length, Option, Some, None, refl, ap, ◌∙◌, arith}
-use Rattle.std.proofs.lemmas.Bool.{le-ltb}
+use Rattle.std.proofs.lemmas.Bool.{le-ltb, false_from_ne_true}
 use Rattle.std.specs.Prelude.{is_none, IsTrue}
 use Rattle.bgp_wire.specs.Prelude.{AreOctets}
 use Rattle.bgp_frame.proofs.FrameLemmas.{length-octets_of}
@@ -20,10 +20,6 @@ none_valid : (o : Option Invalid) → ((why : Invalid) → o ≡ Some why → �
 none_valid None never = refl
 none_valid (Some why) never = absurd (never why refl)
 
-not_long : (b : Bool) → (b ≡ true → ⊥) → b ≡ false
-not_long false never = refl
-not_long true never = absurd (never refl)
-
 module _ (ctx : Context) (u : Update) where
   abbrev all : List ℕ → Option (List ℕ)
   all octets = Some octets
@@ -32,7 +28,7 @@ module _ (ctx : Context) (u : Update) where
       → (IsTrue (is_valid ctx (message.Update u)) × IsTrue (is_too_long ctx (message.Update u)) → ⊥) → octets ≡ old ++ canonical ctx (message.Update u) → written_of ctx u ≡ Some octets
   writes_all old octets none valid short is =
       let good : is_valid ctx (message.Update u) ≡ true = none_valid (invalid_of ctx (message.Update u)) valid in
-      let fits : is_too_long ctx (message.Update u) ≡ false = not_long (is_too_long ctx (message.Update u)) (λ long. short (good, long)) in
+      let fits : is_too_long ctx (message.Update u) ≡ false = false_from_ne_true (is_too_long ctx (message.Update u)) (λ long. short (good, long)) in
       let same : octets ≡ canonical ctx (message.Update u) = is ∙ ap (λ (x : List ℕ). x ++ canonical ctx (message.Update u)) none in
       rw (good, fits, same) refl
 

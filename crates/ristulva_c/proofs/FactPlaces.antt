@@ -1,7 +1,6 @@
 -- The octets at the offsets that are told of an UPDATE hold its paths and communities.
-use Rattle.std.proofs.Common.{◌≡◌, ℕ, ◌+◌, ◌≤◌, true, eqb, List, length, take, Option, Some, None, sym, ap, ◌∙◌}
+use Rattle.bgp_wire.proofs.Std.{◌≡◌, ℕ, ◌+◌, ◌≤◌, true, eqb, List, length, take, Option, Some, None, sym, ap, ◌∙◌, find}
 use Rattle.std.specs.Prelude.{is_some, option_map}
-use Rattle.std.specs.List.{find}
 use Rattle.bgp_numbers.specs.declared.attribute.TheConstants.{AS_PATH, AS4_PATH, COMMUNITIES, LARGE_COMMUNITY}
 use Rattle.bgp_wire.specs.Prelude.{AreOctets}
 use Rattle.bgp_frame.specs.Prelude.{Message, IsFrame}

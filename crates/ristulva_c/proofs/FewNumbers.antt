@@ -1,8 +1,9 @@
 -- A message has no more numbers in its path, and no more communities, than octets behind its header and its two lengths.
 use Rattle.std.proofs.Common.{◌≡◌, ℕ, suc, ◌+◌, ◌-◌, ◌*◌, ◌≤◌, Bool, true, false, cond, eqb, ltb, List, [], ◌∷◌, ◌++◌, length, Option, Some, None, refl, sym, ap, subst, ◌∙◌, arith}
-use Rattle.std.specs.List.{flat_map, list_any}
+use Rattle.std.specs.List.{flat_map}
 use Rattle.std.proofs.lemmas.List.{length-append, length-map, length-take}
 use Rattle.std.proofs.lemmas.List.Concat.{flat_map-cons}
+use Rattle.bgp_attr.proofs.OnceLemmas.{each_once-shorter}
 use Rattle.bgp_numbers.specs.declared.attribute.TheConstants.{AS_PATH, AS4_PATH}
 use Rattle.bgp_wire.specs.Prelude.{AreOctets, Row}
 use Rattle.bgp_wire.proofs.Pieces.{Splits-pieces}
@@ -19,7 +20,7 @@ use Rattle.bgp_attr.specs.declared.path.SegKind.{SegKind}
 use Rattle.bgp_attr.specs.declared.path.SegKind.TheVariants.{Set, Seq}
 use Rattle.bgp_attr.specs.declared.path.Segment.{Segment}
 use Rattle.bgp_attr.specs.declared.path_form.PathForm.{PathForm}
-use Rattle.bgp_attr.specs.Prelude.{number_width, IsNumber, one_number, IsTriple, one_triple, triples_of, same_triple, once_behind, WireSegment, IsSegment, one_segment, segments_of, kept_segment, segment_kept_as, kind_of_segment, as_number, path_of, as_path_form, as4_path_form}
+use Rattle.bgp_attr.specs.Prelude.{number_width, IsNumber, one_number, IsTriple, one_triple, triples_of, WireSegment, IsSegment, one_segment, segments_of, kept_segment, segment_kept_as, kind_of_segment, as_number, path_of, as_path_form, as4_path_form}
 use Rattle.bgp_attr.proofs.Readers.{IsNumber-reads, IsSegment-reads, IsTriple-reads}
 use Rattle.bgp_attr.proofs.NumberRows.{length-number_row}
 use Rattle.bgp_update.specs.Prelude.{items_of, items_behind, front_by, lead, rebuilt_path, rebuilt_by, rebuilt, is_as_trans, marks_of, Parts, kept_of, attrs_of}
@@ -115,16 +116,6 @@ rebuilt_weight (Some a) (Some wide) path as4_path = by_stand_in (is_as_trans a) 
 rebuilt_weight (Some a) None path as4_path = rebuilt_path_weight path as4_path
 rebuilt_weight None w path as4_path = rebuilt_path_weight path as4_path
 
--- ---- large communities
-
-once_by : (x : List ℕ) (xs rest : List (List ℕ)) (b : Bool) → length rest ≤ length xs → length (cond b rest (x ∷ rest)) ≤ length (x ∷ xs)
-once_by x xs rest true le = omega (arith, le)
-once_by x xs rest false le = omega (arith, le)
-
-few_once : (before xs : List (List ℕ)) → length (once_behind before xs) ≤ length xs
-few_once before [] = omega arith
-few_once before (x ∷ xs) = once_by x xs (once_behind (before ++ x ∷ []) xs) (list_any (same_triple x) before) (few_once (before ++ x ∷ []) xs)
-
 -- ---- the attributes of an UPDATE that is accepted
 
 -- so many numbers at most stand in them
@@ -169,7 +160,7 @@ module _ (ctx : Context) (p : Parts) where
     large = λ c is.
         let f = large_first ctx p c is in
         let l = found_lies (λ t. eqb t.tlv.kind 32) p.attributes f.place f.first in
-        omega (arith, ap (λ (x : LargeCommunities). length x.values) f.holds, few_once [] (triples_of f.place.tlv.value), not_more (List ℕ) IsTriple one_triple IsTriple-reads f.place.tlv.value, l.longer, l.within, short);
+        omega (arith, ap (λ (x : LargeCommunities). length x.values) f.holds, each_once-shorter (triples_of f.place.tlv.value), not_more (List ℕ) IsTriple one_triple IsTriple-reads f.place.tlv.value, l.longer, l.within, short);
   }
 
 pub has_few_numbers : (ctx : Context) (kind : Kind) (body : List ℕ) (a : Attrs) → AreOctets body → attrs_in (out_of ctx (record { kind = kind; body = body })) ≡ Some a → HasFewNumbers (length body - 4) a

@@ -1,6 +1,5 @@
 -- Fields in a list of the caller's.
-use Rattle.std.proofs.Common.{◌≡◌, ℕ, true, false, nat_le, ◌+◌, ◌≤◌, List, [], ◌∷◌, ◌++◌, length, map, drop, refl, sym, ap, ◌∙◌, arith}
-use Rattle.std.proofs.lemmas.List.{length-map}
+use Rattle.bgp_wire.proofs.Std.{◌≡◌, ℕ, true, false, nat_le, ◌+◌, ◌≤◌, List, [], ◌∷◌, ◌++◌, length, map, drop, refl, sym, ap, ◌∙◌, arith, length-map}
 use Rattle.bgp_open.specs.declared.context.Context.{Context}
 use Rattle.bgp_fields.specs.declared.field.Field.{Field}
 use Rattle.bgp_fields.specs.Prelude.{fields_of, Tiles}

@@ -1,7 +1,6 @@
 -- Where the attributes of a field lie in it, and in a message.
-use Rattle.std.proofs.Common.{◌≡◌, ℕ, ◌+◌, ◌-◌, ◌≤◌, Bool, true, false, cond, List, [], ◌∷◌, ◌++◌, length, take, drop, Some, None, append_assoc, refl, sym, ap, ◌∙◌, arith}
-use Rattle.std.specs.List.{find}
-use Rattle.std.proofs.lemmas.List.{length-append, drop_at, take_at, drop-drop, drop-take, take-take}
+use Rattle.bgp_wire.proofs.Std.{◌≡◌, ℕ, ◌+◌, ◌-◌, ◌≤◌, Bool, true, false, cond, List, [], ◌∷◌, ◌++◌, length, take, drop, Some, None, append_assoc, refl, sym, ap, ◌∙◌, arith, find, drop_at, take_at, drop-take, take-take}
+use Rattle.std.proofs.lemmas.List.{length-append, drop-drop}
 use Rattle.bgp_wire.specs.Prelude.{Row}
 use Rattle.bgp_wire.proofs.Pieces.{Splits-pieces}
 use Rattle.bgp_attr.specs.Prelude.{TlvValue, PlacedTlv, IsTlv, one_tlv, tlvs_of, placed_from}

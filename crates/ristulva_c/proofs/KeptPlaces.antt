@@ -1,9 +1,6 @@
 -- What a slot keeps is the value of the first attribute of its type.
-use Rattle.std.proofs.Common.{◌≡◌, ℕ, ◌-◌, Bool, true, false, not, cond, eqb, List, [], ◌∷◌, length, Option, Some, None, refl, sym, ap, ◌∙◌}
-use Rattle.std.specs.List.{find}
-use Rattle.std.specs.Option.{option_or}
-use Rattle.std.proofs.lemmas.Bool.{eqb-true, eq-eqb, and_right, or_from, or_left, or_right}
-use Rattle.std.proofs.lemmas.List.Folds.{find-append}
+use Rattle.bgp_wire.proofs.Std.{◌≡◌, ℕ, ◌-◌, Bool, true, false, not, cond, eqb, List, [], ◌∷◌, length, Option, Some, None, refl, sym, ap, ◌∙◌, find, option_or, and_right, or_from, or_left, or_right, find-append}
+use Rattle.std.proofs.lemmas.Bool.{eqb-true, eq-eqb}
 use Rattle.bgp_numbers.specs.declared.attribute.TheConstants.{AS_PATH, COMMUNITIES, MP_REACH_NLRI, MP_UNREACH_NLRI, AS4_PATH, LARGE_COMMUNITY}
 use Rattle.bgp_wire.specs.Prelude.{◌>>=◌, also, none_of_them}
 use Rattle.bgp_open.specs.declared.context.Context.{Context}

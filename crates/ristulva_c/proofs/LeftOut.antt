@@ -1,7 +1,6 @@
 -- What is left out of a message.
-use Rattle.std.proofs.Common.{◌≡◌, ◌≤◌, ◌<◌, ◌+◌, ℕ, Bool, true, false, cond, ltb, List, [], ◌∷◌, ◌++◌, length, map, refl, ap, ◌∙◌, arith}
-use Rattle.std.specs.List.{filter, flat_map}
-use Rattle.std.proofs.lemmas.List.{length-append, length-drop, length-map}
+use Rattle.bgp_wire.proofs.Std.{◌≡◌, ◌≤◌, ◌<◌, ◌+◌, ℕ, Bool, true, false, cond, ltb, List, [], ◌∷◌, ◌++◌, length, map, refl, ap, ◌∙◌, arith, filter, flat_map, length-map}
+use Rattle.std.proofs.lemmas.List.{length-append, length-drop}
 use Rattle.bgp_wire.specs.Prelude.{pieces, Row}
 use Rattle.bgp_wire.proofs.Pieces.{Splits-pieces}
 use Rattle.bgp_open.specs.declared.capability.Capability.{Capability}

@@ -17,7 +17,6 @@ pub mod OpenPlaces
 pub mod Walks
 pub mod Handles
 pub mod HandleWalks
-pub mod Passing
 pub mod RisingSteps
 pub mod Pulled
 pub mod LeftOut

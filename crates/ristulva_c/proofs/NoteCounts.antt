@@ -1,7 +1,6 @@
 -- How many notes there are: an attribute has three octets at least.
-use Rattle.std.proofs.Common.{◌≡◌, ℕ, suc, ◌+◌, ◌-◌, ◌*◌, ◌≤◌, Bool, true, false, cond, List, [], ◌∷◌, ◌++◌, length, refl, ap, ◌∙◌, arith}
-use Rattle.std.specs.List.{flat_map}
-use Rattle.std.proofs.lemmas.List.{length-append, length-map}
+use Rattle.bgp_wire.proofs.Std.{◌≡◌, ℕ, suc, ◌+◌, ◌-◌, ◌*◌, ◌≤◌, Bool, true, false, cond, List, [], ◌∷◌, ◌++◌, length, refl, ap, ◌∙◌, arith, flat_map, length-map}
+use Rattle.std.proofs.lemmas.List.{length-append}
 use Rattle.bgp_wire.specs.Prelude.{none_of_them, also, Row}
 use Rattle.bgp_wire.proofs.Pieces.{Splits-pieces}
 use Rattle.bgp_open.specs.declared.context.Context.{Context}

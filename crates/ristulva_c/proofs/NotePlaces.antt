@@ -1,6 +1,6 @@
 -- The place of a note as it is told.
-use Rattle.std.proofs.Common.{◌≡◌, ℕ, ◌+◌, ◌-◌, ◌<◌, ◌≤◌, ◌&&◌, ◌||◌, ◌==◌, Bool, true, false, List, length, drop, Option, None, Some, refl, sym, arith, nat_lt, nat_le, if◌then◌else◌}
-use Rattle.std.proofs.lemmas.Bool.{eqb-true, le-ltb, lt-leb}
+use Rattle.std.proofs.Common.{◌≡◌, ℕ, ◌+◌, ◌-◌, ◌<◌, ◌≤◌, ◌||◌, ◌==◌, Bool, true, false, List, length, drop, Option, None, Some, refl, sym, arith, nat_lt, nat_le, if◌then◌else◌}
+use Rattle.std.proofs.lemmas.Bool.{eqb-true, le-ltb, lt-leb, and_right}
 use Rattle.std.proofs.lemmas.List.{length-drop}
 use Rattle.bgp_attr.specs.declared.why.Why.{Why}
 use Rattle.bgp_attr.specs.declared.why.Why.TheVariants as why
@@ -13,10 +13,6 @@ use Rattle.ristulva_c.specs.Prelude.{noted_place, note_told, number_of_why}
 
 abbrev note_at : ℕ → ℕ → Why → Note
 note_at at kind w = record { at = at; kind = kind; why = w }
-
-and_not : (a b : Bool) → b ≡ false → (a && b) ≡ false
-and_not true b is = is
-and_not false b is = refl
 
 -- ---- no place
 
@@ -39,7 +35,7 @@ far_in : (b : List ℕ) (n : Note) (o : Option Parts) → o ≡ parts_of b → l
 far_in b n None found short far = refl
 far_in b n (Some p) found short far =
     let out : nat_lt n.at (attributes_at p + length p.attributes) ≡ false = le-ltb n.at (attributes_at p + length p.attributes) (omega (arith, parts_within b p found short, far)) in
-    outside n p (and_not (nat_le (attributes_at p) n.at) (nat_lt n.at (attributes_at p + length p.attributes)) out)
+    outside n p (and_right (nat_le (attributes_at p) n.at) (nat_lt n.at (attributes_at p + length p.attributes)) out)
 
 -- nor has one behind all octets of a message
 far_none : (octets : List ℕ) (n : Note) → length octets ≤ 4096 → 4077 < n.at → note_place (drop 19 octets) n ≡ None

@@ -1,7 +1,6 @@
 -- The octets of an UPDATE's parts.
-use Rattle.std.proofs.Common.{◌≡◌, ℕ, ◌+◌, List, ◌++◌, length, take, drop, Some, append_assoc, refl, sym, ap, subst, ◌∙◌, arith}
-use Rattle.std.specs.Int.{w16, to_be_bytes}
-use Rattle.std.proofs.lemmas.List.{drop-drop, drop_at, take_at, take-append-drop}
+use Rattle.bgp_wire.proofs.Std.{◌≡◌, ℕ, ◌+◌, List, ◌++◌, length, take, drop, Some, append_assoc, refl, sym, ap, subst, ◌∙◌, arith, w16, to_be_bytes, drop_at, take_at, take-append-drop}
+use Rattle.std.proofs.lemmas.List.{drop-drop}
 use Rattle.bgp_wire.specs.Prelude.{AreOctets}
 use Rattle.bgp_wire.proofs.OctetLemmas.{AreOctets-take, AreOctets-back}
 use Rattle.bgp_frame.specs.Prelude.{Message, IsFrame, header}

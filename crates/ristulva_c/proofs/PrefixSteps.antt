@@ -1,6 +1,5 @@
 -- From a prefix to those behind it.
-use Rattle.std.proofs.Common.{◌≡◌, ℕ, ◌+◌, ◌-◌, ◌≤◌, List, ◌∷◌, length, drop, Some, ap, ◌∙◌, arith}
-use Rattle.std.proofs.lemmas.List.{take_at}
+use Rattle.bgp_wire.proofs.Std.{◌≡◌, ℕ, ◌+◌, ◌-◌, ◌≤◌, List, ◌∷◌, length, drop, Some, ap, ◌∙◌, arith, take_at}
 use Rattle.bgp_prefix.specs.Prelude.{PrefixValue, IsPrefix, one_prefix, run_of}
 use Rattle.bgp_prefix.proofs.PrefixLemmas.{IsPrefix-reads}
 use Rattle.ristulva_c.specs.declared.prefixes.Prefixes.{Prefixes}

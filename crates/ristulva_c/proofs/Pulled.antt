@@ -1,6 +1,5 @@
 -- What a decoder gives of the octets that it holds, in pieces.
-use Rattle.std.proofs.Common.{◌≡◌, ℕ, ◌≤◌, ◌⊎◌, Bool, false, not, nat_le, if◌then◌else◌, List, [], ◌++◌, length, take, Result, Ok, Err, Some, refl, sym, ap, subst, ◌∙◌, arith, inl, inr}
-use Rattle.std.proofs.lemmas.Bool.{both_ways, le-leb}
+use Rattle.bgp_wire.proofs.Std.{◌≡◌, ℕ, ◌≤◌, ◌⊎◌, Bool, false, not, nat_le, if◌then◌else◌, List, [], ◌++◌, length, take, Result, Ok, Err, Some, refl, sym, ap, subst, ◌∙◌, arith, inl, inr, both_ways, le-leb}
 use Rattle.std.proofs.lemmas.List.{take_all}
 use Rattle.bgp_wire.specs.Prelude.{AreOctets}
 use Rattle.bgp_frame.specs.declared.fault.HeadFault.{HeadFault}

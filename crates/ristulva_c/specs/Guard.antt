@@ -1,6 +1,6 @@
 -- What the calls on a guard do.
-use Rattle.std.specs.Prelude.{◌≡◌, ◌⊎◌, ℕ, Bool, not, ◌&&◌, ◌==◌, nat_lt, List, length, take, Option, None, Some, if◌then◌else◌}
-use Rattle.bgp_wire.specs.Prelude.{has_octet}
+use Rattle.std.specs.Prelude.{◌≡◌, ◌⊎◌, ℕ, ◌==◌, List, length, take, Option, None, Some, if◌then◌else◌}
+use Rattle.bgp_wire.specs.Prelude.{all_but, has_octet}
 use Rattle.bgp_frame.specs.Prelude.{code_of}
 use Rattle.bgp_guard.specs.declared.came.Came.{Came}
 use Rattle.bgp_guard.specs.declared.rules.Rules.{Rules}
@@ -56,10 +56,6 @@ asks_told side g = record {
 }
 
 -- ---- a guard is made, and freed
-
--- every type but these
-abbrev pub all_but : (ℕ → Bool) → ℕ → Bool
-all_but types = λ kind. nat_lt kind 256 && not (types kind)
 
 -- unrecognised attributes are left out but for these types, and the inner speaker's routes stay inside where that is asked for
 pub record IsSetTo (pass : List ℕ) (inside : ℕ) (rules : Rules) : Type 0 where

@@ -67,8 +67,9 @@ pub(crate) fn is_cursor(octets: &[u8], cursor: &Prefixes) -> bool
     }
 }
 
-/// Gives the prefix of this width that a cursor stands at, and moves the cursor behind it.
+/// Gives the prefix of this width that a cursor stands at, and moves the cursor behind it. It isn't inlined, so that each width saves its own registers.
 #[tactic(auto, using(crate::proofs::PrefixSteps::prefix_fits))]
+#[inline(never)]
 fn next_of<const W: usize>(octets: &[u8], cursor: &mut Prefixes, out: &mut RoutePrefix) -> u32
     requires width { width_of cursor.old.afi ≡ W }
     requires known { (cursor.old.afi ≡ IPV4) ⊎ (cursor.old.afi ≡ IPV6) }

@@ -1,4 +1,4 @@
-use Rattle.std.proofs.Common.{ℕ, ◌+◌, ◌-◌, List, [], ◌∷◌, get_or, refl, ap, arith}
+use Rattle.bgp_wire.proofs.Std.{ℕ, ◌+◌, ◌-◌, List, [], ◌∷◌, get_or, refl, ap, arith}
 use Rattle.std.proofs.lemmas.List.{length-drop}
 use Rattle.bgp_attr.proofs.Heads.{finished_long}
 use Rattle.bgp_attr.proofs.finishing.finish.Goals as goal

@@ -1,6 +1,9 @@
 use Rattle.std.proofs.Common.{sym, arith}
-use Rattle.bgp_attr.proofs.TlvFronts.{no_flags, no_kind, no_length, no_value, is_one_tlv, is_spelled, after_shorter}
+use Rattle.bgp_attr.proofs.TlvFronts.{none_below_three, no_flags, no_kind, no_length, no_value, is_one_tlv, is_spelled, after_shorter}
 use Rattle.bgp_attr.proofs.first_tlv.first_tlv.Goals as goal
+
+pub returns-then-octets-lt3-clause-found : goal.returns-then-octets-lt3-clause-found
+returns-then-octets-lt3-clause-found c = sym (none_below_three c.args.octets.now c.if-octets-lt3.true)
 
 pub returns-in_err-flags-clause-found : goal.returns-in_err-flags-clause-found
 returns-in_err-flags-clause-found c = rw c.from_residual.ensures (sym (no_flags c.args.octets.now c.in_err-flags.ensures.cases))

@@ -1,5 +1,4 @@
-use Rattle.std.proofs.Common.{ℕ, List, ap, ◌∙◌}
-use Rattle.std.specs.List.{list_any}
+use Rattle.bgp_wire.proofs.Std.{ℕ, List, ap, ◌∙◌, list_any}
 use Rattle.bgp_attr.specs.Prelude.{one_triple, triples_of, same_triple}
 use Rattle.bgp_attr.proofs.LargeSteps.{nothing_new, none_new, up_more, seen_before, not_before}
 use Rattle.bgp_attr.proofs.large_view.first_new_triple.Goals as goal

@@ -1,5 +1,4 @@
-use Rattle.std.proofs.Common.{◌≡◌, length}
-use Rattle.std.specs.List.{list_any}
+use Rattle.bgp_wire.proofs.Std.{◌≡◌, length, list_any}
 use Rattle.bgp_attr.specs.Prelude.{triples_of, same_triple}
 use Rattle.bgp_attr.proofs.large_view.stands_in.Given as goal
 

@@ -1,7 +1,5 @@
-use Rattle.std.proofs.Common.{true, get_or}
+use Rattle.bgp_wire.proofs.Std.{true, get_or, get_or_default, err_from_is_err_and}
 use Rattle.bgp_attr.specs.Prelude.{number_octets, IsFourOctets}
-use Rattle.std.proofs.lemmas.List.{get_or_default}
-use Rattle.std.proofs.lemmas.Result.{err_from_is_err_and}
 use Rattle.bgp_wire.proofs.Writes.{some_written, one_lacks}
 use Rattle.bgp_attr.proofs.put.put_numbers.Goals as goal
 

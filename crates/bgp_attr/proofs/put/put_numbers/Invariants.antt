@@ -1,5 +1,4 @@
-use Rattle.std.proofs.Common.{take}
-use Rattle.std.proofs.Common.{true}
+use Rattle.bgp_wire.proofs.Std.{take, true}
 use Rattle.bgp_attr.specs.Prelude.{number_octets, IsFourOctets}
 use Rattle.bgp_wire.proofs.Writes.{IsWritten}
 use Rattle.bgp_attr.proofs.put.put_numbers.Given as goal

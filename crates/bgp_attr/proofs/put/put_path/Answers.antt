@@ -1,6 +1,5 @@
-use Rattle.std.specs.List.{AllByRecursion}
+use Rattle.bgp_wire.proofs.Std.{AllByRecursion, err_from_is_err_and}
 use Rattle.bgp_attr.specs.Prelude.{segment_octets, IsFourOctets}
-use Rattle.std.proofs.lemmas.Result.{err_from_is_err_and}
 use Rattle.bgp_wire.proofs.Writes.{some_written, one_lacks}
 use Rattle.bgp_attr.proofs.put.put_path.Goals as goal
 

@@ -1,5 +1,4 @@
-use Rattle.std.proofs.Common.{take}
-use Rattle.std.specs.List.{AllByRecursion}
+use Rattle.bgp_wire.proofs.Std.{take, AllByRecursion}
 use Rattle.bgp_attr.specs.Prelude.{segment_octets, IsFourOctets}
 use Rattle.bgp_wire.proofs.Writes.{IsWritten}
 use Rattle.bgp_attr.proofs.put.put_path.Given as goal

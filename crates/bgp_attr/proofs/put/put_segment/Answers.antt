@@ -1,8 +1,5 @@
-use Rattle.std.proofs.Common.{ℕ, List, [], ◌∷◌, ◌++◌, length, ap, ap₂, ◌∙◌, arith}
-use Rattle.std.specs.List.{flat_map}
-use Rattle.std.proofs.lemmas.Result.{on_ok_weaker, on_err_weaker}
+use Rattle.bgp_wire.proofs.Std.{ℕ, List, [], ◌∷◌, ◌++◌, length, ap, ap₂, ◌∙◌, arith, flat_map, on_ok_weaker, on_err_weaker, flat_map-map}
 use Rattle.std.proofs.lemmas.List.{length-append}
-use Rattle.std.proofs.lemmas.List.Folds.{flat_map-map}
 use Rattle.bgp_prefix.specs.declared.as_number.AsNumber.{AsNumber}
 use Rattle.bgp_attr.specs.Prelude.{number_octets}
 use Rattle.bgp_attr.proofs.NumberRows.{number_of}

@@ -1,7 +1,5 @@
-use Rattle.std.proofs.Common.{[], get_or}
+use Rattle.bgp_wire.proofs.Std.{[], get_or, get_or_default, err_from_is_err_and}
 use Rattle.bgp_attr.specs.Prelude.{triple_octets, IsThreeNumbers}
-use Rattle.std.proofs.lemmas.List.{get_or_default}
-use Rattle.std.proofs.lemmas.Result.{err_from_is_err_and}
 use Rattle.bgp_wire.proofs.Writes.{some_written, one_lacks}
 use Rattle.bgp_attr.proofs.put.put_triples.Goals as goal
 

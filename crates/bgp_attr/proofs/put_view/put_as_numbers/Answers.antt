@@ -1,5 +1,4 @@
-use Rattle.std.proofs.Common.{ℕ, Bool, List, ◌++◌, length, true, sym, ap, ◌∙◌, arith}
-use Rattle.std.proofs.lemmas.Result.{on_ok_weaker, on_err_weaker}
+use Rattle.bgp_wire.proofs.Std.{ℕ, Bool, List, ◌++◌, length, true, sym, ap, ◌∙◌, arith, on_ok_weaker, on_err_weaker}
 use Rattle.bgp_attr.specs.Prelude.{numbers_of, row_octets}
 use Rattle.bgp_attr.proofs.NumberOctets.{as_number_octets}
 use Rattle.bgp_attr.proofs.put_view.put_as_numbers.Goals as goal

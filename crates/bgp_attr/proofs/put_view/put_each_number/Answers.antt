@@ -1,5 +1,4 @@
-use Rattle.std.proofs.Common.{◌≡◌, List, ◌∷◌, rules}
-use Rattle.std.proofs.lemmas.Result.{err_from_is_err_and}
+use Rattle.bgp_wire.proofs.Std.{◌≡◌, List, ◌∷◌, rules, err_from_is_err_and}
 use Rattle.bgp_prefix.specs.declared.as_number.AsNumber.{AsNumber}
 use Rattle.bgp_attr.specs.Prelude.{as_numbers_left, number_octets}
 use Rattle.bgp_attr.proofs.ViewWrites.{no_room}

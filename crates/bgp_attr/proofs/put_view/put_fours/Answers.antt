@@ -1,5 +1,4 @@
-use Rattle.std.proofs.Common.{ℕ, List, ◌++◌, length, ap, ◌∙◌, arith}
-use Rattle.std.proofs.lemmas.Result.{on_ok_weaker, on_err_weaker}
+use Rattle.bgp_wire.proofs.Std.{ℕ, List, ◌++◌, length, ap, ◌∙◌, arith, on_ok_weaker, on_err_weaker}
 use Rattle.bgp_attr.proofs.NumberOctets.{four_octets}
 use Rattle.bgp_attr.proofs.put_view.put_fours.Goals as goal
 

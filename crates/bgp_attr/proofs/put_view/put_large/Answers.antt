@@ -1,5 +1,4 @@
-use Rattle.std.proofs.Common.{◌≡◌, ℕ, List, ◌∷◌, rules}
-use Rattle.std.proofs.lemmas.Result.{err_from_is_err_and}
+use Rattle.bgp_wire.proofs.Std.{◌≡◌, ℕ, List, ◌∷◌, rules, err_from_is_err_and}
 use Rattle.bgp_attr.specs.Prelude.{triples_left, triple_octets}
 use Rattle.bgp_attr.proofs.ViewWrites.{no_room}
 use Rattle.bgp_attr.proofs.put_view.put_large.Goals as goal

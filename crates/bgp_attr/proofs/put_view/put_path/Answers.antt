@@ -1,5 +1,4 @@
-use Rattle.std.proofs.Common.{◌≡◌, List, ◌∷◌, rules}
-use Rattle.std.proofs.lemmas.Result.{err_from_is_err_and}
+use Rattle.bgp_wire.proofs.Std.{◌≡◌, List, ◌∷◌, rules, err_from_is_err_and}
 use Rattle.bgp_attr.specs.declared.path.Segment.{Segment}
 use Rattle.bgp_attr.specs.Prelude.{path_value, segment_value, segments_left, segment_octets}
 use Rattle.bgp_attr.proofs.ViewWrites.{no_room}

@@ -1,5 +1,4 @@
-use Rattle.std.proofs.Common.{◌≡◌, false}
-use Rattle.std.specs.List.{list_any}
+use Rattle.bgp_wire.proofs.Std.{◌≡◌, false, list_any}
 use Rattle.bgp_attr.specs.Prelude.{path_value, segments_left, is_bad_segment, segment_octets}
 use Rattle.bgp_attr.proofs.ViewWrites.{IsWriting}
 use Rattle.bgp_attr.proofs.put_view.put_path.Given as goal

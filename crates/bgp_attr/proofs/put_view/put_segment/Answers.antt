@@ -1,7 +1,5 @@
-use Rattle.std.proofs.Common.{ℕ, [], ◌∷◌, ◌++◌, length, refl, ap, ap₂, ◌∙◌, arith}
-use Rattle.std.proofs.lemmas.Result.{on_ok_weaker, on_err_weaker}
+use Rattle.bgp_wire.proofs.Std.{ℕ, [], ◌∷◌, ◌++◌, length, refl, ap, ap₂, ◌∙◌, arith, on_ok_weaker, on_err_weaker, flat_map-map}
 use Rattle.std.proofs.lemmas.List.{length-append}
-use Rattle.std.proofs.lemmas.List.Folds.{flat_map-map}
 use Rattle.bgp_attr.specs.Prelude.{as_numbers_left, number_octets, segment_value}
 use Rattle.bgp_attr.proofs.NumberRows.{number_of}
 use Rattle.bgp_attr.proofs.Writes.{segment_written}

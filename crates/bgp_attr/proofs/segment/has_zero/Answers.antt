@@ -1,4 +1,4 @@
-use Rattle.std.proofs.Common.{sym, ◌∙◌}
+use Rattle.bgp_wire.proofs.Std.{sym, ◌∙◌}
 use Rattle.std.proofs.lemmas.Bool.{eq-eqb, ne_eqb}
 use Rattle.bgp_attr.specs.Prelude.{is_zero}
 use Rattle.bgp_attr.proofs.NumberSteps.{number_shorter, any_number_first, any_number_later, any_number_none}

@@ -1,5 +1,4 @@
-use Rattle.std.proofs.Common.{◌≡◌, length}
-use Rattle.std.specs.List.{list_any}
+use Rattle.bgp_wire.proofs.Std.{◌≡◌, length, list_any}
 use Rattle.bgp_attr.specs.Prelude.{numbers_of, is_zero}
 use Rattle.bgp_attr.proofs.segment.has_zero.Given as goal
 

@@ -1,5 +1,4 @@
-use Rattle.std.proofs.Common.{◌≡◌, ℕ, List, ◌++◌, ◌+◌, length, ap, ◌∙◌}
-use Rattle.std.proofs.lemmas.Result.{on_ok_weaker}
+use Rattle.bgp_wire.proofs.Std.{◌≡◌, ℕ, List, ◌++◌, ◌+◌, length, ap, ◌∙◌, on_ok_weaker}
 use Rattle.bgp_frame.specs.declared.kind.Kind.TheVariants as kind
 use Rattle.bgp_frame.specs.Prelude.{header}
 use Rattle.bgp_open.specs.declared.capability.Capability.{Capability}

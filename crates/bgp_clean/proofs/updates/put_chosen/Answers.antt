@@ -1,11 +1,10 @@
 use Rattle.std.proofs.Common.{◌≡◌, ◌++◌, Bool, not, ◌||◌, sym, ap₂, subst, ◌∙◌}
 use Rattle.std.specs.Prelude.{OnOk, if◌then◌else◌}
-use Rattle.bgp_frame.specs.Prelude.{message_in}
 use Rattle.bgp_msg.specs.declared.message.Message.{Message}
 use Rattle.bgp_msg.specs.Prelude.{canonical}
 use Rattle.bgp_msg.specs.declared.message.Message.TheVariants as message
 use Rattle.bgp_update.specs.Prelude.{chosen_update}
-use Rattle.bgp_clean.specs.Prelude.{ended_family, handed_update}
+use Rattle.bgp_clean.specs.Prelude.{handed_update}
 use Rattle.bgp_clean.proofs.updates.put_chosen.Goals as goal
 
 pub returns-then-not-ends_rib-clause-ok : goal.returns-then-not-ends_rib-clause-ok

@@ -1,6 +1,5 @@
-use Rattle.std.proofs.Common.{ℕ, take, sym, subst}
+use Rattle.bgp_wire.proofs.Std.{ℕ, take, sym, subst, take_rest}
 use Rattle.std.specs.Io.KnownBytes.{Appends}
-use Rattle.std.proofs.lemmas.List.{take_rest}
 use Rattle.bgp_engine.proofs.Written.{HasWritten-more, appends_count}
 use Rattle.bgp_engine.proofs.output.put.Goals as goal
 

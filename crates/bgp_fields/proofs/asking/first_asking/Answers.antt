@@ -1,5 +1,4 @@
-use Rattle.std.proofs.Common.{ℕ, ◌-◌, Bool, List, ◌++◌, length, sym, ap, ap₂, ◌∙◌, arith}
-use Rattle.std.specs.List.{list_all}
+use Rattle.bgp_wire.proofs.Std.{ℕ, ◌-◌, Bool, List, ◌++◌, length, sym, ap, ap₂, ◌∙◌, arith, list_all}
 use Rattle.bgp_wire.specs.Prelude.{has_octet, none_of_them}
 use Rattle.bgp_attr.specs.Prelude.{PlacedTlv, placed_from, tlvs_of, tlvs_left, rest_left, placed_tlv}
 use Rattle.bgp_update.specs.Prelude.{marks_behind, cut_mark, field_marks, is_small}

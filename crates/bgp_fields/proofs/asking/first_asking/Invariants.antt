@@ -1,5 +1,4 @@
-use Rattle.std.proofs.Common.{◌≡◌, ◌-◌, ◌++◌, length, true}
-use Rattle.std.specs.List.{list_all}
+use Rattle.bgp_wire.proofs.Std.{◌≡◌, ◌-◌, ◌++◌, length, true, list_all}
 use Rattle.bgp_wire.specs.Prelude.{has_octet}
 use Rattle.bgp_attr.specs.Prelude.{tlvs_left, rest_left}
 use Rattle.bgp_update.specs.Prelude.{marks_behind, cut_mark, field_marks, is_small}

@@ -1,4 +1,4 @@
-use Rattle.std.proofs.Common.{ℕ, ◌+◌, ◌≤◌, List, [], length, drop, ap, sym, ◌∙◌, arith, refl}
+use Rattle.bgp_wire.proofs.Std.{ℕ, ◌+◌, ◌≤◌, List, [], length, drop, ap, sym, ◌∙◌, arith, refl}
 use Rattle.std.proofs.lemmas.List.{append-nil, length-drop}
 use Rattle.bgp_fields.specs.declared.kind.FieldKind.TheVariants.{Unread}
 use Rattle.bgp_fields.specs.declared.part.ValuePart.{ValuePart}

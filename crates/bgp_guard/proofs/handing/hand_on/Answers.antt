@@ -1,4 +1,4 @@
-use Rattle.std.proofs.Common.{◌++◌, List, ℕ, length, refl, ap, ◌∙◌, arith}
+use Rattle.bgp_wire.proofs.Std.{◌++◌, List, ℕ, length, refl, ap, ◌∙◌, arith}
 use Rattle.std.proofs.lemmas.List.{length-append}
 use Rattle.bgp_msg.specs.Prelude.{canonical}
 use Rattle.bgp_guard.specs.Prelude.{context_in, said_as, half_with, sight_with}

@@ -1,4 +1,4 @@
-use Rattle.std.proofs.Common.{◌-◌, Some, length, drop, sym, ap, ◌∙◌, arith}
+use Rattle.bgp_wire.proofs.Std.{◌-◌, Some, length, drop, sym, ap, ◌∙◌, arith}
 use Rattle.std.proofs.lemmas.List.{length-drop, take_all}
 use Rattle.bgp_open.specs.Prelude.{reading_of, Said}
 use Rattle.bgp_guard.specs.Prelude.{said_in}

@@ -1,5 +1,4 @@
-use Rattle.std.proofs.Common.{refl, subst, ◌∙◌}
-use Rattle.std.proofs.lemmas.Result.{err_from_is_err_and}
+use Rattle.bgp_wire.proofs.Std.{refl, subst, ◌∙◌, err_from_is_err_and}
 use Rattle.std.specs.Io.KnownBytes.{Appends}
 use Rattle.bgp_loop.specs.Loop.{Io, IsTraced}
 use Rattle.bgp_loop.proofs.Traces.{traces_so, fails_so}

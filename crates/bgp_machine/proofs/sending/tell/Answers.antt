@@ -1,7 +1,6 @@
 -- What is told is valid as it is told.
-use Rattle.std.proofs.Common.{◌≡◌, Bool, None, ◌++◌, sym, ap, subst, ◌∙◌}
+use Rattle.bgp_wire.proofs.Std.{◌≡◌, Bool, None, ◌++◌, sym, ap, subst, ◌∙◌, on_ok_weaker}
 use Rattle.std.specs.Result.{OnOk}
-use Rattle.std.proofs.lemmas.Result.{on_ok_weaker}
 use Rattle.bgp_update.specs.declared.update.Update.{Update}
 use Rattle.bgp_update.specs.Prelude.{invalid_of, HasUpdateRanges}
 use Rattle.bgp_msg.specs.declared.message.Message.TheVariants as message

@@ -1,5 +1,4 @@
-use Rattle.std.proofs.Common.{◌≡◌, ◌+◌, ℕ, List, [], None, Some, take, length, Bor, refl, sym, subst, arith}
-use Rattle.std.specs.List.{flat_map}
+use Rattle.bgp_wire.proofs.Std.{◌≡◌, ◌+◌, ℕ, List, [], None, Some, take, length, Bor, refl, sym, subst, arith, flat_map}
 use Rattle.std.proofs.lemmas.List.{take_all}
 use Rattle.bgp_frame.specs.declared.end.End.TheVariants as end
 use Rattle.bgp_frame.specs.Prelude.{Gives}

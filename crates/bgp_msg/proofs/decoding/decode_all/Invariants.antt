@@ -1,5 +1,4 @@
-use Rattle.std.proofs.Common.{take, [], None}
-use Rattle.std.specs.List.{flat_map}
+use Rattle.bgp_wire.proofs.Std.{take, [], None, flat_map}
 use Rattle.bgp_msg.specs.Prelude.{fresh, Decodes}
 use Rattle.bgp_msg.proofs.decoding.decode_all.Given as goal
 

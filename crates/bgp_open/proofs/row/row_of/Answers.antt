@@ -1,6 +1,6 @@
-use Rattle.std.proofs.Common.{refl, sym, ap, ◌∙◌}
+use Rattle.bgp_wire.proofs.Std.{refl, sym, ap, ◌∙◌, false≢true}
 use Rattle.std.specs.Prelude.{not}
-use Rattle.std.proofs.lemmas.Bool.{true≢false, false≢true}
+use Rattle.std.proofs.lemmas.Bool.{true≢false}
 use Rattle.bgp_open.proofs.WrittenRows.{row-starts, row-grows, row-whole, row-misnamed, row-long, row-good}
 use Rattle.bgp_open.proofs.row.row_of.Goals as goal
 

@@ -1,7 +1,6 @@
-use Rattle.std.proofs.Common.{ℕ, ◌≡◌, [], ◌∷◌, ◌++◌, ap, ◌∙◌, length, rules, arith}
+use Rattle.bgp_wire.proofs.Std.{ℕ, ◌≡◌, [], ◌∷◌, ◌++◌, ap, ◌∙◌, length, rules, arith, err_from_is_err_and}
 use Rattle.std.specs.Int.Bits.{bit_and}
 use Rattle.std.proofs.lemmas.List.{length-append}
-use Rattle.std.proofs.lemmas.Result.{err_from_is_err_and}
 use Rattle.bgp_prefix.proofs.BitLemmas.{length-leading_bits}
 use Rattle.bgp_prefix.proofs.WrittenFronts.{front_written}
 use Rattle.bgp_prefix.proofs.rewriting.append_front.Goals as goal

@@ -1,7 +1,4 @@
-use Rattle.std.proofs.Common.{List, ℕ, ◌∷◌, ◌++◌, ap, sym, ◌∙◌}
-use Rattle.std.proofs.lemmas.Result.{err_from_is_err_and}
-use Rattle.std.proofs.lemmas.List.Concat.{flat_map-cons}
-use Rattle.std.specs.List.{flat_map}
+use Rattle.bgp_wire.proofs.Std.{List, ℕ, ◌∷◌, ◌++◌, ap, sym, ◌∙◌, err_from_is_err_and, flat_map-cons, flat_map}
 use Rattle.bgp_wire.proofs.Rooms.{extends_more, lacks}
 use Rattle.bgp_wire.proofs.Walks.{shorter, adds, added, first_then}
 use Rattle.bgp_prefix.specs.Prelude.{leading_bits, PrefixValue, IsPrefix, one_prefix, prefix_of, spelling_of, run_of}

@@ -1,4 +1,4 @@
-use Rattle.std.proofs.Common.{ap, sym, ◌∙◌, rules}
+use Rattle.bgp_wire.proofs.Std.{ap, sym, ◌∙◌, rules}
 use Rattle.std.proofs.lemmas.Bool.{eqb-true}
 use Rattle.std.specs.Int.Bits.{bit_and}
 use Rattle.bgp_prefix.proofs.WrittenFronts.{clear_front}

@@ -1,8 +1,5 @@
-use Rattle.std.proofs.Common.{◌≡◌, List, ℕ, ◌++◌, length, ap, sym, ◌∙◌, rules}
+use Rattle.bgp_wire.proofs.Std.{◌≡◌, List, ℕ, ◌++◌, length, ap, sym, ◌∙◌, rules, nil_from_length, flat_map-cons, flat_map}
 use Rattle.std.proofs.lemmas.Bool.{eqb-true}
-use Rattle.std.proofs.lemmas.List.{nil_from_length}
-use Rattle.std.proofs.lemmas.List.Concat.{flat_map-cons}
-use Rattle.std.specs.List.{flat_map}
 use Rattle.bgp_wire.proofs.Walks.{first_then, no_more}
 use Rattle.bgp_prefix.specs.Prelude.{leading_bits, PrefixValue, IsPrefix, one_prefix, prefix_of, spelling_of, run_of}
 use Rattle.bgp_prefix.proofs.PrefixLemmas.{IsPrefix-reads}

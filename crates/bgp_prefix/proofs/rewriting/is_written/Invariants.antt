@@ -1,5 +1,4 @@
-use Rattle.std.proofs.Common.{◌≡◌, length}
-use Rattle.std.specs.List.{flat_map}
+use Rattle.bgp_wire.proofs.Std.{◌≡◌, length, flat_map}
 use Rattle.bgp_prefix.specs.Prelude.{spelling_of, run_of}
 use Rattle.bgp_prefix.proofs.rewriting.is_written.Given as goal
 

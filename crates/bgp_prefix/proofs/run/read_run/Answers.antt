@@ -1,5 +1,4 @@
-use Rattle.std.proofs.Common.{ℕ, List, [], ◌∷◌, ◌++◌, ap, ◌∙◌}
-use Rattle.std.proofs.lemmas.Result.{err_from_is_err_and}
+use Rattle.bgp_wire.proofs.Std.{ℕ, List, [], ◌∷◌, ◌++◌, ap, ◌∙◌, err_from_is_err_and}
 use Rattle.bgp_wire.proofs.Walks.{shorter, same_rest, pushes, not_none, has_read}
 use Rattle.bgp_prefix.specs.Prelude.{PrefixValue, IsPrefix, one_prefix}
 use Rattle.bgp_prefix.proofs.PrefixLemmas.{IsPrefix-reads}

@@ -1,4 +1,4 @@
-use Rattle.std.proofs.Common.{◌≡◌, ◌++◌, drop}
+use Rattle.bgp_wire.proofs.Std.{◌≡◌, ◌++◌, drop}
 use Rattle.std.specs.String.{string_bytes}
 use Rattle.bgp_script.specs.NoteList.{own_notes, notes_text}
 use Rattle.bgp_script.proofs.NoteLists.{notes_on}

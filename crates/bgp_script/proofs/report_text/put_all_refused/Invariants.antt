@@ -1,5 +1,4 @@
-use Rattle.std.proofs.Common.{◌≡◌, ◌++◌, take}
-use Rattle.std.specs.List.{flat_map}
+use Rattle.bgp_wire.proofs.Std.{◌≡◌, ◌++◌, take, flat_map}
 use Rattle.std.specs.String.{string_bytes}
 use Rattle.bgp_script.specs.ReportText.{refused_line}
 use Rattle.bgp_script.proofs.report_text.put_all_refused.Given as goal

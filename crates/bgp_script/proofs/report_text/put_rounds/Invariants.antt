@@ -1,4 +1,4 @@
-use Rattle.std.proofs.Common.{◌≡◌, ◌+◌, ◌++◌, drop}
+use Rattle.bgp_wire.proofs.Std.{◌≡◌, ◌+◌, ◌++◌, drop}
 use Rattle.std.specs.String.{string_bytes}
 use Rattle.bgp_script.specs.ReportText.{rounds_from}
 use Rattle.bgp_script.proofs.report_text.put_rounds.Given as goal

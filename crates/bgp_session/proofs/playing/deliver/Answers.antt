@@ -1,4 +1,4 @@
-use Rattle.std.proofs.Common.{length, sym, ap, ◌∙◌, refl, arith}
+use Rattle.bgp_wire.proofs.Std.{length, sym, ap, ◌∙◌, refl, arith}
 use Rattle.bgp_session.specs.Prelude.{delivers, trace}
 use Rattle.bgp_session.proofs.Plays.{delivers_first, goes_further, stops_there, ends_empty, ends_left}
 use Rattle.std.specs.Vec.{vec_len}

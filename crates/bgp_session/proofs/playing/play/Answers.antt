@@ -1,11 +1,12 @@
 use Rattle.std.proofs.Common.{refl}
+use Rattle.bgp_session.proofs.Resting.{on_ok}
 use Rattle.bgp_session.specs.Prelude.{trace}
-use Rattle.bgp_session.proofs.Plays.{grows_none, plays_cut, ok_so}
+use Rattle.bgp_session.proofs.Plays.{grows_none, plays_cut}
 use Rattle.bgp_session.proofs.playing.play.Goals as goal
 
 pub returns-clause-plays : goal.returns-clause-plays
 returns-clause-plays g c =
-    ok_so (plays_cut (g.W.Wire.honest c.args.wire.now) g.O.Observer.after c.args.answers.now c.make.new.answers
+    on_ok (plays_cut (g.W.Wire.honest c.args.wire.now) g.O.Observer.after c.args.answers.now c.make.new.answers
     (trace (g.W.Wire.failed c.args.wire.now) (g.W.Wire.calls c.args.wire.now) (g.O.Observer.seen c.args.observer.now))
     (trace (g.W.Wire.failed c.args.wire.now) (g.W.Wire.calls c.args.wire.now) (g.O.Observer.seen c.begun.new.self))
     (trace (g.W.Wire.failed c.make.new.wire) (g.W.Wire.calls c.make.new.wire) (g.O.Observer.seen c.make.new.observer))

@@ -1,5 +1,4 @@
-use Rattle.std.proofs.Common.{◌≡◌, ◌++◌, map, take}
-use Rattle.std.specs.List.{flat_map}
+use Rattle.bgp_wire.proofs.Std.{◌≡◌, ◌++◌, map, take, flat_map}
 use Rattle.std.specs.String.{string_bytes}
 use Rattle.bgp_attr.specs.Prelude.{opaque_value}
 use Rattle.bgp_text.specs.AttributeLines.{opaque_line}

@@ -1,5 +1,4 @@
-use Rattle.std.proofs.Common.{◌≡◌, ◌++◌, IsUtf8, chars, string_bytes}
-use Rattle.std.specs.List.{flat_map}
+use Rattle.bgp_wire.proofs.Std.{◌≡◌, ◌++◌, IsUtf8, chars, string_bytes, flat_map}
 use Rattle.std.specs.Str.Iter.{chars_rest}
 use Rattle.bgp_text.specs.Escape.{escaped}
 use Rattle.bgp_text.proofs.escape.put_characters.Given as goal

@@ -1,4 +1,4 @@
-use Rattle.std.proofs.Common.{◌≡◌, ◌++◌, length}
+use Rattle.bgp_wire.proofs.Std.{◌≡◌, ◌++◌, length}
 use Rattle.std.specs.String.{string_bytes}
 use Rattle.bgp_update.specs.Prelude.{notes_left}
 use Rattle.bgp_fields.specs.Prelude.{fields_left}

@@ -1,5 +1,4 @@
-use Rattle.std.proofs.Common.{◌≡◌, ◌++◌, length}
-use Rattle.std.specs.List.{flat_map}
+use Rattle.bgp_wire.proofs.Std.{◌≡◌, ◌++◌, length, flat_map}
 use Rattle.std.specs.String.{string_bytes}
 use Rattle.bgp_update.specs.Prelude.{notes_left}
 use Rattle.bgp_text.specs.FieldLines.{unplaced_line}

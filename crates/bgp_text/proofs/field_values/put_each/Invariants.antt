@@ -1,5 +1,4 @@
-use Rattle.std.proofs.Common.{◌≡◌, ◌++◌, codes, length}
-use Rattle.std.specs.List.{flat_map}
+use Rattle.bgp_wire.proofs.Std.{◌≡◌, ◌++◌, codes, length, flat_map}
 use Rattle.std.specs.String.{string_bytes}
 use Rattle.bgp_text.proofs.field_values.put_each.Given as goal
 

@@ -1,4 +1,4 @@
-use Rattle.std.proofs.Common.{◌≡◌, ◌++◌, List, OnOk, subst}
+use Rattle.bgp_wire.proofs.Std.{◌≡◌, ◌++◌, List, OnOk, subst}
 use Rattle.std.specs.String.{string_bytes}
 use Rattle.bgp_update.specs.declared.note.Note.{Note}
 use Rattle.bgp_text.specs.JsonNotes.{notes_member}

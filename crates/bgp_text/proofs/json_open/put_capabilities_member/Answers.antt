@@ -1,4 +1,4 @@
-use Rattle.std.proofs.Common.{◌≡◌, ◌++◌, ℕ, List, OnOk, subst, ap, ◌∙◌, append_assoc, codes}
+use Rattle.bgp_wire.proofs.Std.{◌≡◌, ◌++◌, ℕ, List, OnOk, subst, ap, ◌∙◌, append_assoc, codes}
 use Rattle.std.specs.String.{string_bytes}
 use Rattle.bgp_text.specs.Json.{named, listed}
 use Rattle.bgp_text.specs.JsonOpen.{capability_json}

@@ -1,5 +1,4 @@
-use Rattle.std.proofs.Common.{◌≡◌, ◌++◌, take}
-use Rattle.std.specs.List.{flat_map}
+use Rattle.bgp_wire.proofs.Std.{◌≡◌, ◌++◌, take, flat_map}
 use Rattle.std.specs.String.{string_bytes}
 use Rattle.bgp_text.specs.Json.{behind_comma}
 use Rattle.bgp_text.specs.JsonOpen.{capability_json}

@@ -1,5 +1,4 @@
-use Rattle.std.proofs.Common.{◌≡◌, ◌++◌, ℕ, List, [], OnOk, subst, ap, sym, ◌∙◌, append_assoc}
-use Rattle.std.specs.List.{flat_map}
+use Rattle.bgp_wire.proofs.Std.{◌≡◌, ◌++◌, ℕ, List, [], OnOk, subst, ap, sym, ◌∙◌, append_assoc, flat_map}
 use Rattle.std.specs.String.{string_bytes}
 use Rattle.bgp_prefix.specs.Prelude.{PrefixValue}
 use Rattle.bgp_text.specs.Json.{behind_comma, joined}

@@ -1,5 +1,4 @@
-use Rattle.std.proofs.Common.{◌≡◌, ℕ, List, OnOk, subst}
-use Rattle.std.specs.List.{flat_map}
+use Rattle.bgp_wire.proofs.Std.{◌≡◌, ℕ, List, OnOk, subst, flat_map}
 use Rattle.std.specs.String.{string_bytes}
 use Rattle.bgp_update.specs.Prelude.{known_value, slot}
 use Rattle.bgp_text.specs.Members.{printed_attributes}

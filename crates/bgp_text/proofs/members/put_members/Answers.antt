@@ -1,4 +1,4 @@
-use Rattle.std.proofs.Common.{◌≡◌, ◌++◌, List, ℕ, OnOk, subst, map, append_assoc}
+use Rattle.bgp_wire.proofs.Std.{◌≡◌, ◌++◌, List, ℕ, OnOk, subst, map, append_assoc}
 use Rattle.std.specs.String.{string_bytes}
 use Rattle.bgp_attr.specs.Prelude.{opaque_value}
 use Rattle.bgp_prefix.specs.Prelude.{prefixes_left}

@@ -1,5 +1,4 @@
-use Rattle.std.proofs.Common.{◌≡◌, ◌++◌}
-use Rattle.std.specs.List.{flat_map}
+use Rattle.bgp_wire.proofs.Std.{◌≡◌, ◌++◌, flat_map}
 use Rattle.std.specs.String.{string_bytes}
 use Rattle.bgp_attr.specs.Prelude.{segments_left}
 use Rattle.bgp_text.specs.PathLine.{segment_text}

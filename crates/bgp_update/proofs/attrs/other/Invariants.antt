@@ -1,5 +1,4 @@
-use Rattle.std.proofs.Common.{◌≡◌, eqb, drop}
-use Rattle.std.specs.List.{find}
+use Rattle.bgp_wire.proofs.Std.{◌≡◌, eqb, drop, find}
 use Rattle.bgp_update.proofs.attrs.other.Given as goal
 
 -- none of those so far is of the type

@@ -1,5 +1,4 @@
-use Rattle.std.proofs.Common.{◌≡◌}
-use Rattle.std.specs.List.{flat_map}
+use Rattle.bgp_wire.proofs.Std.{◌≡◌, flat_map}
 use Rattle.bgp_update.specs.Prelude.{marks_left, mark_notes}
 use Rattle.bgp_update.proofs.note_iter.first_note.Given as goal
 

@@ -1,4 +1,4 @@
-use Rattle.std.proofs.Common.{length, ap, arith}
+use Rattle.bgp_wire.proofs.Std.{length, ap, arith}
 use Rattle.std.proofs.lemmas.List.{length-take}
 use Rattle.bgp_update.proofs.SlotTypes.{order_long}
 use Rattle.bgp_update.proofs.order.types_of.Goals as goal

@@ -1,5 +1,4 @@
-use Rattle.std.proofs.Common.{◌≡◌, [], map}
-use Rattle.std.specs.List.{flat_map}
+use Rattle.bgp_wire.proofs.Std.{◌≡◌, [], map, flat_map}
 use Rattle.bgp_attr.specs.Prelude.{opaque_value}
 use Rattle.bgp_update.specs.Prelude.{attrs_left, as_opaque, rising_behind}
 use Rattle.bgp_update.proofs.others.others_in.Given as goal

@@ -1,5 +1,4 @@
-use Rattle.std.proofs.Common.{◌∙◌, ap, rules}
-use Rattle.std.specs.List.{filter}
+use Rattle.bgp_wire.proofs.Std.{◌∙◌, ap, rules, filter}
 use Rattle.std.proofs.lemmas.Fn.{filter_same}
 use Rattle.bgp_attr.specs.declared.opaque.Opaque.{Opaque}
 use Rattle.bgp_update.proofs.passing_on.transitive.Goals as goal

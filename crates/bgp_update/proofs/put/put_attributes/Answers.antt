@@ -1,6 +1,4 @@
-use Rattle.std.proofs.Common.{◌≡◌, ◌+◌, ◌<◌, get_or, length, false, refl, sym, subst, List, arith}
-use Rattle.std.specs.List.{AllByRecursion, flat_map}
-use Rattle.std.proofs.lemmas.Result.{err_from_is_err_and}
+use Rattle.bgp_wire.proofs.Std.{◌≡◌, ◌+◌, ◌<◌, get_or, length, false, refl, sym, subst, List, arith, AllByRecursion, flat_map, err_from_is_err_and}
 use Rattle.bgp_attr.specs.declared.attr.Attr.{Attr}
 use Rattle.bgp_attr.specs.Prelude.{canonical, is_empty, HasRanges}
 use Rattle.bgp_update.specs.Prelude.{slot}

@@ -1,5 +1,4 @@
-use Rattle.std.proofs.Common.{◌≡◌, ◌<◌, length}
-use Rattle.std.specs.List.{AllByRecursion}
+use Rattle.bgp_wire.proofs.Std.{◌≡◌, ◌<◌, length, AllByRecursion}
 use Rattle.bgp_update.specs.Prelude.{rise}
 use Rattle.bgp_update.proofs.refusal.rise.Given as goal
 

@@ -1,5 +1,4 @@
-use Rattle.std.proofs.Common.{◌≡◌, length}
-use Rattle.std.specs.List.{flat_map}
+use Rattle.bgp_wire.proofs.Std.{◌≡◌, length, flat_map}
 use Rattle.bgp_update.specs.Prelude.{with_others, slot}
 use Rattle.bgp_update.proofs.slot_iter.first_slot.Given as goal
 

@@ -1,5 +1,4 @@
-use Rattle.std.proofs.Common.{◌≡◌}
-use Rattle.std.specs.List.{list_any}
+use Rattle.bgp_wire.proofs.Std.{◌≡◌, list_any}
 use Rattle.bgp_attr.specs.Prelude.{as_numbers_left, is_above_two_octets}
 use Rattle.bgp_update.proofs.told_path.has_wide_number.Given as goal
 

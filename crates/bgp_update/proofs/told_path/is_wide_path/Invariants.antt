@@ -1,5 +1,4 @@
-use Rattle.std.proofs.Common.{◌≡◌}
-use Rattle.std.specs.List.{list_any}
+use Rattle.bgp_wire.proofs.Std.{◌≡◌, list_any}
 use Rattle.bgp_attr.specs.Prelude.{path_value, segments_left, any_number, is_above_two_octets}
 use Rattle.bgp_update.proofs.told_path.is_wide_path.Given as goal
 

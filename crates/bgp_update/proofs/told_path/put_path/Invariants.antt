@@ -1,5 +1,4 @@
-use Rattle.std.proofs.Common.{◌≡◌, false, map}
-use Rattle.std.specs.List.{list_any}
+use Rattle.bgp_wire.proofs.Std.{◌≡◌, false, map, list_any}
 use Rattle.bgp_attr.specs.Prelude.{path_value, segments_left, is_bad_segment, segment_octets}
 use Rattle.bgp_attr.proofs.ViewWrites.{IsWriting}
 use Rattle.bgp_update.specs.Prelude.{narrow_path, narrow_segment}

@@ -1,5 +1,4 @@
-use Rattle.std.proofs.Common.{◌≡◌, ltb, length, map}
-use Rattle.std.specs.List.{list_any}
+use Rattle.bgp_wire.proofs.Std.{◌≡◌, ltb, length, map, list_any}
 use Rattle.bgp_attr.specs.Prelude.{opaque_value}
 use Rattle.bgp_update.proofs.told_slot.are_uncommon.Given as goal
 

@@ -1,5 +1,4 @@
-use Rattle.std.proofs.Common.{◌≡◌, eqb, length, map}
-use Rattle.std.specs.List.{find}
+use Rattle.bgp_wire.proofs.Std.{◌≡◌, eqb, length, map, find}
 use Rattle.bgp_attr.specs.Prelude.{opaque_value}
 use Rattle.bgp_update.proofs.told_slot.other.Given as goal
 

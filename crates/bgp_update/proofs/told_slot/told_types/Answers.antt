@@ -1,6 +1,5 @@
-use Rattle.std.proofs.Common.{◌≡◌, ℕ, false, ltb, List, [], length, map, take, ap, sym, ◌∙◌, arith}
-use Rattle.std.specs.List.{flat_map, list_any}
-use Rattle.std.proofs.lemmas.List.{length-take, nil_from_length}
+use Rattle.bgp_wire.proofs.Std.{◌≡◌, ℕ, false, ltb, List, [], length, map, take, ap, sym, ◌∙◌, arith, flat_map, list_any, nil_from_length}
+use Rattle.std.proofs.lemmas.List.{length-take}
 use Rattle.std.proofs.lemmas.Bool.{eqb-true}
 use Rattle.bgp_attr.specs.declared.opaque.Opaque.{Opaque}
 use Rattle.bgp_attr.specs.Prelude.{opaque_value}

@@ -1,6 +1,4 @@
-use Rattle.std.proofs.Common.{◌≡◌, ◌+◌, ◌<◌, get_or, length, true, refl, sym, subst, List, ◌++◌, OnOk, OnErr, rules, arith}
-use Rattle.std.specs.List.{AllByRecursion, flat_map}
-use Rattle.std.proofs.lemmas.Result.{err_from_is_err_and}
+use Rattle.bgp_wire.proofs.Std.{◌≡◌, ◌+◌, ◌<◌, get_or, length, true, refl, sym, subst, List, ◌++◌, OnOk, OnErr, rules, arith, AllByRecursion, flat_map, err_from_is_err_and}
 use Rattle.bgp_attr.specs.declared.attr.Attr.{Attr}
 use Rattle.bgp_attr.specs.Prelude.{canonical, is_writable}
 use Rattle.bgp_update.specs.Prelude.{with_others, slot}

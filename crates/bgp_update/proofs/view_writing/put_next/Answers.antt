@@ -1,6 +1,4 @@
-use Rattle.std.proofs.Common.{◌≡◌, get_or, true, refl, ◌++◌, take}
-use Rattle.std.specs.List.{flat_map}
-use Rattle.std.proofs.lemmas.Result.{on_ok_weaker, on_err_weaker}
+use Rattle.bgp_wire.proofs.Std.{◌≡◌, get_or, true, refl, ◌++◌, take, flat_map, on_ok_weaker, on_err_weaker}
 use Rattle.bgp_attr.specs.declared.attr.Attr.{Attr}
 use Rattle.bgp_attr.specs.Prelude.{canonical, is_writable}
 use Rattle.bgp_wire.proofs.Writes.{IsWritten}

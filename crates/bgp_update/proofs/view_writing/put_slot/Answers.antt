@@ -1,6 +1,5 @@
-use Rattle.std.proofs.Common.{[], sym, ◌∙◌}
+use Rattle.bgp_wire.proofs.Std.{[], sym, ◌∙◌, on_err_weaker}
 use Rattle.std.proofs.lemmas.List.{append-nil}
-use Rattle.std.proofs.lemmas.Result.{on_err_weaker}
 use Rattle.bgp_update.proofs.view_writing.put_slot.Goals as goal
 
 pub returns-in-Some-clause-err : goal.returns-in-Some-clause-err

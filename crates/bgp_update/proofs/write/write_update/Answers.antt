@@ -1,6 +1,4 @@
-use Rattle.std.proofs.Common.{length, refl, sym}
-use Rattle.std.proofs.lemmas.Bool.{ltb-false}
-use Rattle.std.proofs.lemmas.Result.{on_ok_weaker}
+use Rattle.bgp_wire.proofs.Std.{length, refl, sym, ltb-false, on_ok_weaker}
 use Rattle.bgp_attr.specs.Prelude.{is_empty}
 use Rattle.bgp_update.specs.Prelude.{attr_list, written_body}
 use Rattle.bgp_update.proofs.Lists.{none-all}

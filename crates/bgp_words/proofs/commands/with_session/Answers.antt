@@ -1,5 +1,4 @@
-use Rattle.std.proofs.Common.{codes, ap, ◌∙◌}
-use Rattle.std.proofs.lemmas.Result.{IfOk-weaker}
+use Rattle.bgp_wire.proofs.Std.{codes, ap, ◌∙◌, IfOk-weaker}
 use Rattle.clap.specs.Words.{App}
 use Rattle.bgp_words.specs.CommandLine.{with_option}
 use Rattle.bgp_words.proofs.commands.with_session.Goals as goal

@@ -1,5 +1,4 @@
-use Rattle.std.proofs.Common.{◌≡◌, map, List, [], sym, ap, subst, ◌∙◌}
-use Rattle.std.proofs.lemmas.Result.{IfOk-weaker, err_from_is_err_and}
+use Rattle.bgp_wire.proofs.Std.{◌≡◌, map, List, [], sym, ap, subst, ◌∙◌, IfOk-weaker, err_from_is_err_and}
 use Rattle.clap.specs.Words.{App, FailsBy, HasKind, Kinds, Text, app_of, fault_of, found_of, rows_of, is_simple, is_simple_and_free, subcommand_of, subcommand_rows_of}
 use Rattle.bgp_words.specs.CommandLine.{bgp_command, kinds_of}
 use Rattle.bgp_words.proofs.Flags.{asks_behind, fails_behind, found_both, has_kind-first, name-rows}

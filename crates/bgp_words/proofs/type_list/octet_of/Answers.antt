@@ -1,4 +1,4 @@
-use Rattle.std.proofs.Common.{lit<, sym, ◌∙◌}
+use Rattle.bgp_wire.proofs.Std.{lit<, sym, ◌∙◌}
 use Rattle.std.proofs.lemmas.Bool.{true≢false}
 use Rattle.std.proofs.lemmas.Str.Pattern.{starts_char}
 use Rattle.bgp_words.proofs.TypeLists.{parsed}

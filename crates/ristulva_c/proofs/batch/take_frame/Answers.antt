@@ -1,5 +1,4 @@
-use Rattle.std.proofs.Common.{◌-◌, length, inr, refl, sym, ap, subst, ◌∙◌}
-use Rattle.std.proofs.lemmas.Bool.{leb-false}
+use Rattle.bgp_wire.proofs.Std.{◌-◌, length, inr, refl, sym, ap, subst, ◌∙◌, leb-false}
 use Rattle.bgp_update.specs.Prelude.{parts_of}
 use Rattle.bgp_msg.specs.Prelude.{is_reset}
 use Rattle.bgp_msg.specs.declared.outcome.Outcome.{Outcome}

@@ -1,4 +1,4 @@
-use Rattle.std.proofs.Common.{sym}
+use Rattle.bgp_wire.proofs.Std.{sym}
 use Rattle.std.proofs.lemmas.List.{take_all}
 use Rattle.ristulva_c.proofs.hearing.longest.Goals as goal
 

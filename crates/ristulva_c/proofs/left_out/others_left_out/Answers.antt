@@ -1,5 +1,4 @@
-use Rattle.std.proofs.Common.{List, length, ap, arith}
-use Rattle.std.specs.List.{filter}
+use Rattle.bgp_wire.proofs.Std.{List, length, ap, arith, filter}
 use Rattle.bgp_attr.specs.declared.attr.Attr.{Attr}
 use Rattle.bgp_wire.specs.Prelude.{has_octet}
 use Rattle.bgp_update.specs.Prelude.{kept_of, view_marks}

@@ -1,5 +1,4 @@
-use Rattle.std.proofs.Common.{◌≡◌, ◌+◌, length}
-use Rattle.std.specs.List.{filter}
+use Rattle.bgp_wire.proofs.Std.{◌≡◌, ◌+◌, length, filter}
 use Rattle.bgp_wire.specs.Prelude.{has_octet}
 use Rattle.bgp_update.specs.Prelude.{attrs_left, kept_of, view_marks}
 use Rattle.ristulva_c.specs.Prelude.{is_left_out}

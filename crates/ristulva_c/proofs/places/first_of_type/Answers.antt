@@ -1,5 +1,4 @@
-use Rattle.std.proofs.Common.{◌==◌, cond, Some, sym, ap, ◌∙◌}
-use Rattle.std.specs.List.{find}
+use Rattle.bgp_wire.proofs.Std.{◌==◌, cond, Some, sym, ap, ◌∙◌, find}
 use Rattle.std.proofs.lemmas.Bool.{eq-eqb}
 use Rattle.bgp_attr.specs.Prelude.{PlacedTlv, tlvs_left, placed_tlv}
 use Rattle.ristulva_c.proofs.FirstPlaces.{found_lies}

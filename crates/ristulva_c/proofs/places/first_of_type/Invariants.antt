@@ -1,5 +1,4 @@
-use Rattle.std.proofs.Common.{◌≡◌, ◌==◌, length}
-use Rattle.std.specs.List.{find}
+use Rattle.bgp_wire.proofs.Std.{◌≡◌, ◌==◌, length, find}
 use Rattle.bgp_attr.specs.Prelude.{tlvs_left}
 use Rattle.bgp_update.specs.Prelude.{placed_tlvs}
 use Rattle.ristulva_c.proofs.places.first_of_type.Given as goal

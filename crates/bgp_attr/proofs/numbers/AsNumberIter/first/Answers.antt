@@ -1,4 +1,4 @@
-use Rattle.std.proofs.Common.{◌*◌, ◌≤◌, length, ap, arith}
+use Rattle.bgp_wire.proofs.Std.{◌*◌, ◌≤◌, length, ap, arith}
 use Rattle.std.proofs.lemmas.List.{length-take}
 use Rattle.bgp_attr.proofs.NumberCounts.{fits, first_numbers}
 use Rattle.bgp_attr.proofs.numbers.AsNumberIter.first.Goals as goal

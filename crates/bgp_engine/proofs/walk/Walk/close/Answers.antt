@@ -1,7 +1,6 @@
-use Rattle.std.proofs.Common.{◌++◌, List, ℕ, ap, length, subst, sym, ◌∙◌}
+use Rattle.bgp_wire.proofs.Std.{◌++◌, List, ℕ, ap, length, subst, sym, ◌∙◌, err_from_is_err_and}
 use Rattle.std.specs.Prelude.{is_some}
 use Rattle.std.proofs.lemmas.List.{append-nil}
-use Rattle.std.proofs.lemmas.Result.{err_from_is_err_and}
 use Rattle.bgp_engine.specs.Prelude.{IsOver, end_by}
 use Rattle.bgp_engine.proofs.Walks.{closes, none_wait, some_closing}
 use Rattle.bgp_engine.proofs.walk.Walk.close.Goals as goal

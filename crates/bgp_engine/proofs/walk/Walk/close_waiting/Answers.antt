@@ -1,5 +1,4 @@
-use Rattle.std.proofs.Common.{◌≡◌, ◌++◌, List, ℕ, ap, length, sym, ◌∙◌, append_assoc}
-use Rattle.std.proofs.lemmas.Result.{err_from_is_err_and}
+use Rattle.bgp_wire.proofs.Std.{◌≡◌, ◌++◌, List, ℕ, ap, length, sym, ◌∙◌, append_assoc, err_from_is_err_and}
 use Rattle.bgp_frame.specs.declared.end.End.TheVariants as end
 use Rattle.bgp_engine.specs.Prelude.{end_by}
 use Rattle.bgp_engine.proofs.Walks.{closes, some_closing}

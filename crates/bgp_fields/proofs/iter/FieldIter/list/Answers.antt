@@ -1,5 +1,5 @@
-use Rattle.std.proofs.Common.{ℕ, ◌+◌, [], ◌++◌, length, map, drop, None, refl, sym, ap, ◌∙◌, arith}
-use Rattle.std.proofs.lemmas.List.{append-nil, length-map}
+use Rattle.bgp_wire.proofs.Std.{ℕ, ◌+◌, [], ◌++◌, length, map, drop, None, refl, sym, ap, ◌∙◌, arith, length-map}
+use Rattle.std.proofs.lemmas.List.{append-nil}
 use Rattle.bgp_fields.specs.Prelude.{value_fields, section_fields, message_fields, fields_left}
 use Rattle.bgp_fields.proofs.Listings.{listing, more, all_listed}
 use Rattle.bgp_fields.proofs.iter.FieldIter.list.Goals as goal

@@ -1,5 +1,4 @@
-use Rattle.std.proofs.Common.{◌≡◌, ◌-◌, ◌≤◌, length, drop, ap, ◌∙◌, arith}
-use Rattle.std.specs.List.{slice_range}
+use Rattle.bgp_wire.proofs.Std.{◌≡◌, ◌-◌, ◌≤◌, length, drop, ap, ◌∙◌, arith, slice_range}
 use Rattle.std.proofs.lemmas.List.{length-take}
 use Rattle.bgp_guard.proofs.Ranges.{less_front}
 use Rattle.bgp_guard.proofs.way.Way.take_off.Goals as goal

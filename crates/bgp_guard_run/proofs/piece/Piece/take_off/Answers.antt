@@ -1,5 +1,5 @@
 use Rattle.std.proofs.Common.{◌-◌, ◌≤◌, drop, ap, ◌∙◌, arith}
-use Rattle.bgp_guard_run.proofs.Ranges.{less_front}
+use Rattle.bgp_guard.proofs.Ranges.{less_front}
 use Rattle.bgp_guard_run.proofs.piece.Piece.take_off.Goals as goal
 
 pub returns-then-n-self : goal.returns-then-n-self

@@ -1,5 +1,4 @@
-use Rattle.std.proofs.Common.{List, [], ◌∷◌, length, ℕ, Bool, true, not, Some, Ok, Err, refl, ap, ap₂, subst, ◌∙◌}
-use Rattle.std.proofs.lemmas.Result.{err_from_is_err_and}
+use Rattle.bgp_wire.proofs.Std.{List, [], ◌∷◌, length, ℕ, Bool, true, not, Some, Ok, Err, refl, ap, ap₂, subst, ◌∙◌, err_from_is_err_and}
 use Rattle.bgp_msg.specs.Prelude.{Decoding, IsNext, TakesMemory, is_reset}
 use Rattle.bgp_msg.specs.declared.outcome.Outcome.{Outcome}
 use Rattle.bgp_msg.specs.declared.outcome.Outcome.TheVariants.{Reset}

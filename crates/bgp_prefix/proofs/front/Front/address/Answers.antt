@@ -1,4 +1,4 @@
-use Rattle.std.proofs.Common.{ap, length, ◌∙◌, arith}
+use Rattle.bgp_wire.proofs.Std.{ap, length, ◌∙◌, arith}
 use Rattle.std.proofs.lemmas.List.{length-take}
 use Rattle.bgp_prefix.proofs.BitLemmas.{address_of-chunk}
 use Rattle.bgp_prefix.proofs.front.Front.address.Goals as goal

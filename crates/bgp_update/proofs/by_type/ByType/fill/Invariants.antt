@@ -1,5 +1,4 @@
-use Rattle.std.proofs.Common.{◌≡◌, [], List, length}
-use Rattle.std.specs.List.{flat_map}
+use Rattle.bgp_wire.proofs.Std.{◌≡◌, [], List, length, flat_map}
 use Rattle.bgp_attr.specs.declared.opaque.Opaque.{Opaque}
 use Rattle.bgp_update.specs.Prelude.{IsByType, attrs_left, as_opaque, rising_behind}
 use Rattle.bgp_update.proofs.by_type.ByType.fill.Given as goal

@@ -1,6 +1,5 @@
-use Rattle.std.proofs.Common.{◌≡◌, not, [], None, sym, ap, ◌∙◌, rules}
+use Rattle.bgp_wire.proofs.Std.{◌≡◌, not, [], None, sym, ap, ◌∙◌, rules, filter}
 use Rattle.std.specs.Prelude.{option_map}
-use Rattle.std.specs.List.{filter}
 use Rattle.bgp_wire.specs.Prelude.{has_octet}
 use Rattle.bgp_update.specs.Prelude.{found_at, update_value}
 use Rattle.bgp_update.proofs.ByTypes.{none_found}

@@ -1,5 +1,4 @@
-use Rattle.std.proofs.Common.{◌+◌, ◌<◌, get_or, take, length, List, ap, refl, ◌∙◌, arith}
-use Rattle.std.specs.List.{flat_map}
+use Rattle.bgp_wire.proofs.Std.{◌+◌, ◌<◌, get_or, take, length, List, ap, refl, ◌∙◌, arith, flat_map}
 use Rattle.bgp_attr.specs.declared.attr.Attr.{Attr}
 use Rattle.bgp_attr.specs.Prelude.{ref_value}
 use Rattle.bgp_update.specs.declared.failed.Failed.{Failed}

@@ -1,5 +1,4 @@
-use Rattle.std.proofs.Common.{ℕ, Bool, ◌||◌, eqb, List, ap₂}
-use Rattle.std.specs.List.{list_any}
+use Rattle.bgp_wire.proofs.Std.{ℕ, Bool, ◌||◌, eqb, List, ap₂, list_any}
 use Rattle.bgp_attr.specs.Prelude.{PlacedTlv}
 use Rattle.bgp_update.proofs.mark.MarkIter.new.Goals as goal
 

@@ -1,5 +1,4 @@
-use Rattle.std.proofs.Common.{false, List, [], arith, sym, ap, ◌∙◌}
-use Rattle.std.specs.List.{list_any}
+use Rattle.bgp_wire.proofs.Std.{false, List, [], arith, sym, ap, ◌∙◌, list_any}
 use Rattle.bgp_update.specs.Prelude.{known_of, Mark, missing_of, SummaryValue, is_noted, attrs_from, attrs_of, is_opaque, kept_of, update_of}
 use Rattle.bgp_update.proofs.KeptViews.{kept_known}
 use Rattle.bgp_update.proofs.QuietMarks.{no_marks}

@@ -1,5 +1,4 @@
-use Rattle.std.proofs.Common.{false, sym, ap, ◌∙◌}
-use Rattle.std.specs.List.{flat_map}
+use Rattle.bgp_wire.proofs.Std.{false, sym, ap, ◌∙◌, flat_map}
 use Rattle.bgp_update.specs.Prelude.{mark_notes, view_marks}
 use Rattle.bgp_update.proofs.QuietMarks.{quiet_marks, no_marks}
 use Rattle.bgp_update.proofs.view.UpdateView.noted_marks.Goals as goal

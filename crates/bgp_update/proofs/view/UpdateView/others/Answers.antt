@@ -1,6 +1,4 @@
-use Rattle.std.proofs.Common.{◌≡◌, List, [], map, sym, ap, ◌∙◌}
-use Rattle.std.proofs.lemmas.Result.{IfOk-weaker}
-use Rattle.std.specs.List.{flat_map}
+use Rattle.bgp_wire.proofs.Std.{◌≡◌, List, [], map, sym, ap, ◌∙◌, IfOk-weaker, flat_map}
 use Rattle.bgp_attr.specs.declared.attr.Attr.{Attr}
 use Rattle.bgp_attr.specs.Prelude.{opaque_value}
 use Rattle.bgp_attr.specs.declared.opaque.OpaqueView.{OpaqueView}

@@ -1,5 +1,4 @@
-use Rattle.std.proofs.Common.{List, [], sym, ap, ◌∙◌}
-use Rattle.std.specs.List.{flat_map}
+use Rattle.bgp_wire.proofs.Std.{List, [], sym, ap, ◌∙◌, flat_map}
 use Rattle.bgp_attr.specs.declared.attr.Attr.{Attr}
 use Rattle.bgp_update.specs.Prelude.{kept_of, as_opaque, rising_behind, view_marks}
 use Rattle.bgp_update.proofs.KeptSlots.{others_of-kept}

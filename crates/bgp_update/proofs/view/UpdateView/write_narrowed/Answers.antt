@@ -1,5 +1,4 @@
-use Rattle.std.proofs.Common.{◌≡◌, true, sym, subst}
-use Rattle.std.specs.List.{AllByRecursion}
+use Rattle.bgp_wire.proofs.Std.{◌≡◌, true, sym, subst, AllByRecursion}
 use Rattle.bgp_open.specs.declared.context.Context.{Context}
 use Rattle.bgp_attr.specs.Prelude.{is_writable}
 use Rattle.bgp_update.specs.Prelude.{narrowed, attr_list, update_value}

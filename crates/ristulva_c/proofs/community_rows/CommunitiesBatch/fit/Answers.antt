@@ -1,7 +1,5 @@
-use Rattle.std.proofs.Common.{◌≡◌, length, Some, sym, ap, ◌∙◌, arith}
+use Rattle.bgp_wire.proofs.Std.{◌≡◌, length, Some, sym, ap, ◌∙◌, arith, le-leb, length-map}
 use Rattle.std.specs.Prelude.{option_map}
-use Rattle.std.proofs.lemmas.Bool.{le-leb}
-use Rattle.std.proofs.lemmas.List.{length-map}
 use Rattle.bgp_attr.specs.Prelude.{communities_value}
 use Rattle.bgp_update.specs.Prelude.{update_value}
 use Rattle.bgp_update.specs.declared.attrs.Attrs.{Attrs}

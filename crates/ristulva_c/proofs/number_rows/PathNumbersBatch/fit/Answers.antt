@@ -1,6 +1,5 @@
-use Rattle.std.proofs.Common.{◌≡◌, leb, length, Some, sym, ap, ◌∙◌, arith}
+use Rattle.bgp_wire.proofs.Std.{◌≡◌, leb, length, Some, sym, ap, ◌∙◌, arith, le-leb}
 use Rattle.std.specs.Prelude.{option_map}
-use Rattle.std.proofs.lemmas.Bool.{le-leb}
 use Rattle.bgp_update.specs.Prelude.{rebuilt, joined_value, update_value}
 use Rattle.bgp_update.specs.declared.path_info.PathInfo.{PathInfo}
 use Rattle.bgp_msg.specs.Prelude.{outcome_value}

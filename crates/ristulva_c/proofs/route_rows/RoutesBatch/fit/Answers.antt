@@ -1,5 +1,4 @@
-use Rattle.std.proofs.Common.{length, sym, arith}
-use Rattle.std.proofs.lemmas.Bool.{le-leb}
+use Rattle.bgp_wire.proofs.Std.{length, sym, arith, le-leb}
 use Rattle.bgp_update.specs.Prelude.{parts_of}
 use Rattle.ristulva_c.specs.Prelude.{rows_seen}
 use Rattle.ristulva_c.proofs.RouteRows.{gives_rows, few_rows, few_update}

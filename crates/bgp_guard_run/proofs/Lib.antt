@@ -1,2 +1,0 @@
--- Lemmas on the program.
-pub mod Ranges
