@@ -42,6 +42,7 @@ impl Next {
 }
 
 /// What a pull from a piece would give, as a view that takes no memory: it points into the piece, or into what the decoder holds.
+/// Who matches it gives each part a name: the borrow checker doesn't cover a match that leaves one out.
 #[derive(Drop)]
 pub enum Look<'a> {
     /// A whole message: how many octets of the piece a pull would consume (none where the message is held), how many octets the message has,

@@ -54,22 +54,6 @@ impl Page {
         Ok(())
     }
 
-    /// Adds the lines of the message that a decoder finds in octets, as a view.
-    fn put_found(
-        &mut self,
-        alloc: Global,
-        decoder: &Decoder,
-        len: u16,
-        octets: &[u8],
-    ) -> Result<(), Trouble> {
-        let mut place = UpdateView::empty();
-        match decoder.look(octets, &mut place) {
-            Look::Message(_taken, _len, view, _next) => self.put_view(alloc, len, &view),
-            Look::Fault(_taken, _fault, _next) => Err(NO_VIEW),
-            Look::Feed => Err(NO_VIEW),
-        }
-    }
-
     /// Adds the lines of a message that is accepted, but those of notes: it is written where it was read, and its view printed.
     fn put_message(
         &mut self,
@@ -80,7 +64,12 @@ impl Page {
     ) -> Result<(), Trouble> {
         let octets = octets_of(alloc, ctx, message)?;
         let decoder = Decoder::new(*ctx);
-        self.put_found(alloc, &decoder, len, octets.as_slice())
+        let mut place = UpdateView::empty();
+        match decoder.look(octets.as_slice(), &mut place) {
+            Look::Message(_taken, _len, view, _next) => self.put_view(alloc, len, &view),
+            Look::Fault(_taken, _fault, _next) => Err(NO_VIEW),
+            Look::Feed => Err(NO_VIEW),
+        }
     }
 
     /// Adds the lines of notes.
