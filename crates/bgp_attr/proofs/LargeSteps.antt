@@ -1,6 +1,5 @@
 -- Large communities, each at its first place, a step at a time.
-use Rattle.bgp_wire.proofs.Std.{◌≡◌, ℕ, ◌+◌, ◌<◌, ◌≤◌, Bool, true, false, ◌||◌, ◌&&◌, cond, eqb, List, [], ◌∷◌, ◌++◌, length, take, drop, Some, None, refl, sym, ap, ap₂, ◌∙◌, arith, list_any, take_at, drop_at, take-append-drop, take-append-add}
-use Rattle.std.specs.Cmp.Lexicographic.{pointwise}
+use Rattle.bgp_wire.proofs.Std.{◌≡◌, ℕ, ◌+◌, ◌<◌, ◌≤◌, Bool, true, false, ◌||◌, ◌&&◌, cond, List, [], ◌∷◌, ◌++◌, length, take, drop, Some, None, refl, sym, ap, ap₂, ◌∙◌, arith, list_any, take_at, drop_at, take-append-drop, take-append-add}
 use Rattle.std.proofs.lemmas.List.{length-append, length-take, length-drop, drop-drop}
 use Rattle.std.proofs.Math.ListN.{drop_of_length-le}
 use Rattle.bgp_wire.specs.Prelude.{pieces}
@@ -15,20 +14,14 @@ no_triples = pieces-whole (List ℕ) IsTriple one_triple IsTriple-reads [] [] re
 
 -- ---- the same triple
 
-and_true : (t : Bool) → (t && true) ≡ t
-and_true true = refl
-and_true false = refl
-
-pub same_triple_is : (x y : List ℕ) → length x ≡ 3 → length y ≡ 3 → same_triple x y ≡ pointwise eqb x y
-same_triple_is (a ∷ b ∷ c ∷ []) (p ∷ q ∷ r ∷ []) e f = ap (λ (t : Bool). eqb a p && (eqb b q && t)) (sym (and_true (eqb c r)))
-same_triple_is [] y e f = absurd (omega arith)
-same_triple_is (a ∷ []) y e f = absurd (omega arith)
-same_triple_is (a ∷ b ∷ []) y e f = absurd (omega arith)
-same_triple_is (a ∷ b ∷ c ∷ d ∷ x) y e f = absurd (omega arith)
-same_triple_is (a ∷ b ∷ c ∷ []) [] e f = absurd (omega arith)
-same_triple_is (a ∷ b ∷ c ∷ []) (p ∷ []) e f = absurd (omega arith)
-same_triple_is (a ∷ b ∷ c ∷ []) (p ∷ q ∷ []) e f = absurd (omega arith)
-same_triple_is (a ∷ b ∷ c ∷ []) (p ∷ q ∷ r ∷ s ∷ y) e f = absurd (omega arith)
+-- the last number first
+pub last_first : (a b c : Bool) → (c && (a && b)) ≡ (a && (b && c))
+last_first true true true = refl
+last_first true true false = refl
+last_first true false true = refl
+last_first true false false = refl
+last_first false b true = refl
+last_first false b false = refl
 
 -- ---- a triple among those of octets
 

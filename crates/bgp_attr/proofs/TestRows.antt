@@ -3,6 +3,7 @@
 use Rattle.bgp_wire.proofs.Std.{◌≡◌, ℕ, Bool, true, false, ◌&&◌, List, [], ◌∷◌, Option, Some, None, refl, sym, ap, subst, ◌∙◌, AllByRecursion, false≢true}
 use Rattle.std.specs.Prelude.{option_map, is_none, not, ◌==◌, if◌then◌else◌}
 use Rattle.std.proofs.lemmas.Bool.{true≢false}
+use Rattle.std.specs.Option.{option_or}
 use Rattle.bgp_numbers.specs.declared.error.TheConstants.{UPDATE_MESSAGE}
 use Rattle.bgp_wire.specs.Prelude.{when}
 use Rattle.bgp_open.specs.declared.context.Context.{Context}
@@ -95,6 +96,13 @@ rest_of_one form (code ∷ count ∷ b) = segment_of_one (not (is_known form cod
 
 pub path_of_one : (form : PathForm) (b : List ℕ) → IsOfOneIfAny (path_fault form b)
 path_of_one form b = rest_of_one form (segments_of form b).1
+
+-- a path's fault and its AS number 0, which are found in one walk, are two tests
+pub path_decided : (answer : Why → Judged) (o : Option Why) (has_zero : Bool) (tests : List (Option Judged)) (a : Attr)
+    → decided (option_map answer (option_or o (when has_zero why.AsZero)) ∷ tests) a ≡ decided (option_map answer o ∷ when has_zero (answer why.AsZero) ∷ tests) a
+path_decided answer None true tests a = refl
+path_decided answer None false tests a = refl
+path_decided answer (Some w) has_zero tests a = refl
 
 -- where only refusals are answered, a value is kept by no test
 pub decided-kept : (tests : List (Option Judged)) (a b : Attr) → AllByRecursion Refuses tests → decided tests a ≡ judged.Keep b → NoneApplies tests × (a ≡ b)

@@ -1,9 +1,10 @@
 -- AS paths (RFC 4271, section 4.3; RFC 6793, section 3). A segment is a type, a count, and as many AS numbers, one at least.
 use Rattle.std.specs.Prelude.{◌≡◌, ◌<◌, ℕ, Bool, not, ◌&&◌, ◌||◌, ◌==◌, List, [], ◌∷◌, length, map, Option, None, Some, if◌then◌else◌}
 use Rattle.std.specs.List.{flat_map, list_any}
+use Rattle.std.specs.Option.{option_or}
 use Rattle.bgp_numbers.specs.declared.segment.TheConstants.{SET, SEQUENCE, CONFED_SEQUENCE, CONFED_SET}
 use Rattle.bgp_prefix.specs.declared.as_number.AsNumber.{AsNumber}
-use Rattle.bgp_wire.specs.Prelude.{pieces, BehindCount, behind_count}
+use Rattle.bgp_wire.specs.Prelude.{when, pieces, BehindCount, behind_count}
 use Rattle.bgp_attr.specs.declared.path.SegKind.{SegKind}
 use Rattle.bgp_attr.specs.declared.path.SegKind.TheVariants.{Set, Seq}
 use Rattle.bgp_attr.specs.declared.path.Segment.{Segment}
@@ -86,3 +87,7 @@ path_fault form b = segment_fault form (segments_of form b).1
 -- an AS number 0 stands in a segment, also in one that is dropped (RFC 7607, section 2)
 abbrev pub path_has_zero : PathForm → List ℕ → Bool
 path_has_zero form b = list_any (λ s. list_any (λ n. n == 0) s.numbers) (segments_of form b).0
+
+-- why a path is malformed: its first fault, or else an AS number 0
+abbrev pub why_malformed : PathForm → List ℕ → Option Why
+why_malformed form b = option_or (path_fault form b) (when (path_has_zero form b) why.AsZero)

@@ -4,7 +4,7 @@ pub use Rattle.bgp_attr.specs.Tlv.{IsTlv, PlacedTlv, TlvValue, length_octets, le
 unfoldable pub use Rattle.bgp_attr.specs.Tlv.{one_tlv}
 pub use Rattle.bgp_attr.specs.Numbers.{IsNumber, IsTriple, each_once, number_in, number_octets, number_width, numbers_of, once_behind, row_octets, same_triple, triple_octets, triples_of}
 unfoldable pub use Rattle.bgp_attr.specs.Numbers.{one_number, one_triple}
-pub use Rattle.bgp_attr.specs.Path.{IsSegment, WireSegment, as_number, is_known, kept_segment, kept_segments_of, kind_of_segment, path_fault, path_has_zero, path_of, segment_fault, segment_kept_as, segment_of, segments_of}
+pub use Rattle.bgp_attr.specs.Path.{IsSegment, WireSegment, as_number, is_known, kept_segment, kept_segments_of, kind_of_segment, path_fault, path_has_zero, path_of, segment_fault, segment_kept_as, segment_of, segments_of, why_malformed}
 unfoldable pub use Rattle.bgp_attr.specs.Path.{one_segment}
 pub use Rattle.bgp_attr.specs.Mp.{IsReachable, address_width, afi_of, family_of, is_in_use, is_next_hop_length, mp_reach_of, mp_unreach_of, next_hop_length, next_hop_of, reach_of_family, reached_of, safi_of, unreach_of_family, withdrawn_of}
 pub use Rattle.bgp_attr.specs.Table.{entry_of, has_entry}

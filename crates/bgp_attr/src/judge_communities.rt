@@ -60,8 +60,8 @@ pub fn large_in<'a>(tlv: &Tlv<'a>) -> LargeView<'a>
     }
 }
 
-/// A type that isn't recognised (RFC 4271, section 6.3).
-pub(crate) fn rule_other(tlv: &Tlv<'_>) -> Ruling
+/// How an attribute of a type that isn't recognised is judged, the first of its type (RFC 4271, section 6.3).
+pub fn rule_other(tlv: &Tlv<'_>) -> Ruling
     ensures { (a : Attr) → ruled result tlv.now.whole.now a ≡ decided (other_tests (tlv_value tlv.now)) a }
 {
     if !tlv.flags.is_optional() {

@@ -9,7 +9,7 @@ use crate::first_kept::first_kept;
 use crate::path_form::PathForm;
 use crate::path_view::{As4PathView, PathView};
 use crate::ruling::Ruling;
-use crate::segment::path_faults;
+use crate::segment::why_malformed;
 use crate::tlv::Tlv;
 use crate::why::Why;
 use bgp_open::Context;
@@ -31,6 +31,7 @@ const AS4_PATH_FORM: PathForm = PathForm {
 };
 
 /// AS_PATH (RFC 7606, section 7.2; RFC 7607, section 2).
+#[tactic(auto, using(crate::proofs::TestRows::path_decided))]
 #[inline(always)]
 pub(crate) fn rule_as_path(ctx: &Context, tlv: &Tlv<'_>) -> Ruling
     ensures { (a : Attr) → ruled result tlv.now.whole.now a ≡ decided (as_path_tests ctx.now (tlv_value tlv.now)) a }
@@ -38,14 +39,10 @@ pub(crate) fn rule_as_path(ctx: &Context, tlv: &Tlv<'_>) -> Ruling
     if !tlv.flags.has_class(Class::WellKnown) {
         return Ruling::Withdraw(Why::Flags);
     }
-    let (fault, has_zero) = path_faults(as_path_form(ctx), tlv.value);
-    if let Some(fault) = fault {
-        return Ruling::Withdraw(fault);
+    match why_malformed(as_path_form(ctx), tlv.value) {
+        Some(why) => Ruling::Withdraw(why),
+        None => Ruling::Keep,
     }
-    if has_zero {
-        return Ruling::Withdraw(Why::AsZero);
-    }
-    Ruling::Keep
 }
 
 /// The AS_PATH of a value that is kept.
@@ -56,6 +53,7 @@ pub fn as_path_in<'a>(ctx: &Context, value: &'a [u8]) -> PathView<'a>
 }
 
 /// AS4_PATH (RFC 6793, sections 3, 4.1 and 6; RFC 7607, section 2).
+#[tactic(auto, using(crate::proofs::TestRows::path_decided))]
 #[inline(always)]
 pub(crate) fn rule_as4_path(ctx: &Context, tlv: &Tlv<'_>) -> Ruling
     ensures { (a : Attr) → ruled result tlv.now.whole.now a ≡ decided (as4_path_tests ctx.now (tlv_value tlv.now)) a }
@@ -69,12 +67,8 @@ pub(crate) fn rule_as4_path(ctx: &Context, tlv: &Tlv<'_>) -> Ruling
     if tlv.value.len() % 2 != 0 || tlv.value.len() < 6 {
         return Ruling::Discard(Why::Length);
     }
-    let (fault, has_zero) = path_faults(AS4_PATH_FORM, tlv.value);
-    if let Some(fault) = fault {
-        return Ruling::Discard(fault);
-    }
-    if has_zero {
-        return Ruling::Discard(Why::AsZero);
+    if let Some(why) = why_malformed(AS4_PATH_FORM, tlv.value) {
+        return Ruling::Discard(why);
     }
     if first_kept(AS4_PATH_FORM, tlv.value).is_none() {
         return Ruling::Discard(Why::Emptied);

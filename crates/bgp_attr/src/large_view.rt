@@ -16,14 +16,24 @@ fn first_triple(octets: &[u8]) -> Option<([u32; 3], &[u8])>
     Some(([first, second, third], rest))
 }
 
+/// Whether two triples are the same. The last numbers are compared first, since those of one network differ there, if at all.
+#[tactic(auto, using(crate::proofs::LargeSteps::last_first))]
+#[inline(always)]
+pub(crate) fn is_same(one: &[u32; 3], other: &[u32; 3]) -> bool
+    ensures { result ≡ same_triple one.now other.now }
+{
+    let [a, b, c] = *one;
+    let [x, y, z] = *other;
+    c == z && a == x && b == y
+}
+
 /// Whether the triple is among those of these octets.
 fn stands_in(triple: [u32; 3], octets: &[u8]) -> bool
     ensures { result ≡ list_any (same_triple triple) (triples_of octets.now) }
 {
     let mut rest = octets;
     'row: while let Some(found) = first_triple(rest) {
-        let other = found.0;
-        if triple == other {
+        if is_same(&triple, &found.0) {
             return true;
         }
         rest = found.1;

@@ -55,7 +55,7 @@ pub use first_tlv::tlv_at;
 pub use flags::Flags;
 pub use found_attr::FoundAttr;
 pub use judge_aggregator::aggregator_in;
-pub use judge_communities::{communities_in, large_in, opaque_in};
+pub use judge_communities::{communities_in, large_in, opaque_in, rule_other};
 pub use judge_fixed::{four_in, next_hop_in, origin_in};
 pub use judge_mp::{reach_in, unreach_in};
 pub use judge_path::{as_path_in, as4_path_in};

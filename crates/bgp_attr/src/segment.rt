@@ -1,8 +1,10 @@
 //! Segments of a path as they lie in octets.
 
-ghost use Rattle.std.specs.Prelude.{◌≡◌, ◌==◌, option_map};
+ghost use Rattle.std.specs.Prelude.{◌≡◌, ◌==◌, Some, option_map};
+ghost use Rattle.std.specs.Option.{option_or};
 ghost use Rattle.std.specs.List.{list_any};
-ghost use Rattle.bgp_attr.specs.Prelude.{number_width, numbers_of, is_known, one_segment, segment_fault, path_fault, path_has_zero, kind_of_segment, wire_segment};
+ghost use Rattle.bgp_attr.specs.Prelude.{number_width, numbers_of, is_known, one_segment, segment_fault, path_fault, why_malformed, kind_of_segment, wire_segment};
+ghost use Rattle.bgp_attr.specs.declared.why.Why.TheVariants as why;
 
 use crate::numbers::first_number;
 use crate::path::SegKind;
@@ -94,16 +96,38 @@ fn has_zero(wide: bool, octets: &[u8]) -> bool
     false
 }
 
-/// What a path is wrong in: its first fault, and whether an AS number 0 stands in a segment, also in one that is dropped. It is walked once.
-pub(crate) fn path_faults(form: PathForm, octets: &[u8]) -> (Option<Why>, bool)
-    ensures fault { result.0 ≡ path_fault form octets.now }
-    ensures zero { result.1 ≡ path_has_zero form octets.now }
+/// The first fault of a path.
+fn path_fault(form: PathForm, octets: &[u8]) -> Option<Why>
+    ensures { result ≡ path_fault form octets.now }
 {
     let mut rest = octets;
-    let mut zero = false;
-    'path: while let Some((segment, after)) = first_segment(form, rest) {
-        zero |= has_zero(form.wide, segment.numbers);
+    'path: while let Some((_, after)) = first_segment(form, rest) {
         rest = after;
     }
-    (segment_fault(form, rest), zero)
+    segment_fault(form, rest)
+}
+
+/// Why a path is malformed in which an AS number 0 stands before these octets, which is rare.
+#[inline(never)]
+fn why_behind_zero(form: PathForm, octets: &[u8]) -> Option<Why>
+    ensures { result ≡ option_or (path_fault form octets.now) (Some why.AsZero) }
+{
+    match path_fault(form, octets) {
+        None => Some(Why::AsZero),
+        fault => fault,
+    }
+}
+
+/// Why a path is malformed: its first fault, or else an AS number 0 in a segment, also in one that is dropped (RFC 7607, section 2).
+pub(crate) fn why_malformed(form: PathForm, octets: &[u8]) -> Option<Why>
+    ensures { result ≡ why_malformed form octets.now }
+{
+    let mut rest = octets;
+    'path: while let Some((segment, after)) = first_segment(form, rest) {
+        if has_zero(form.wide, segment.numbers) {
+            return why_behind_zero(form, after);
+        }
+        rest = after;
+    }
+    segment_fault(form, rest)
 }

@@ -6,6 +6,7 @@ ghost use Rattle.bgp_attr.specs.Prelude.{ref_value, same_triple, any_number, is_
 
 use crate::attr::AttrRef;
 use crate::judging::is_recognised;
+use crate::large_view::is_same;
 use crate::path::{AsPath, Segment};
 use bgp_open::Context;
 
@@ -127,19 +128,11 @@ pub fn has_as_zero(attr: AttrRef<'_>) -> bool
     }
 }
 
-/// Whether two triples are the same.
-#[tactic(auto, using(crate::proofs::LargeSteps::same_triple_is))]
-fn same_triple(a: &[u32; 3], b: &[u32; 3]) -> bool
-    ensures { result ≡ same_triple a.now b.now }
-{
-    *a == *b
-}
-
 /// Whether a triple is among others.
 fn is_among(triple: &[u32; 3], others: &[[u32; 3]]) -> bool
     ensures { result ≡ list_any (same_triple triple.now) others.now }
 {
-    others.iter().any(|other| same_triple(triple, other))
+    others.iter().any(|other| is_same(triple, other))
 }
 
 /// Whether a triple stands among those behind it too.

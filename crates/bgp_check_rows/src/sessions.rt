@@ -84,36 +84,20 @@ fn pull_again(
     Ok(session.pull(alloc, octets)?)
 }
 
-/// Feeds octets, with steps until nothing comes, and what is left again while any is taken.
-fn feed(
+/// Hands octets over, and what is left again while any is taken.
+fn take(
     alloc: Global,
     session: &mut Session,
     octets: &[u8],
+    way: Way,
     page: &mut Page,
 ) -> Result<(), Trouble> {
     let mut rest = octets;
     for _ in 0..u16::MAX {
-        let taken = session.feed(rest);
-        rest = rest.get(taken..).unwrap_or(&[]);
-        match step_again(alloc, session, page)? {
-            Some(actions) => put_actions(alloc, page, session, &actions)?,
-            None if taken == 0 => break,
-            None => {}
-        }
-    }
-    Ok(())
-}
-
-/// Pulls octets, and what is left again while any is taken.
-fn pull(
-    alloc: Global,
-    session: &mut Session,
-    octets: &[u8],
-    page: &mut Page,
-) -> Result<(), Trouble> {
-    let mut rest = octets;
-    for _ in 0..u16::MAX {
-        let (taken, found) = pull_again(alloc, session, rest, page)?;
+        let (taken, found) = match way {
+            Way::Whole | Way::Octets => (session.feed(rest), step_again(alloc, session, page)?),
+            Way::Pulled => pull_again(alloc, session, rest, page)?,
+        };
         rest = rest.get(taken..).unwrap_or(&[]);
         match found {
             Some(actions) => put_actions(alloc, page, session, &actions)?,
@@ -124,7 +108,7 @@ fn pull(
     Ok(())
 }
 
-/// Hands octets over.
+/// Hands octets over, in one piece or one by one.
 fn hear(
     alloc: Global,
     session: &mut Session,
@@ -133,14 +117,13 @@ fn hear(
     page: &mut Page,
 ) -> Result<(), Trouble> {
     match way {
-        Way::Whole => feed(alloc, session, octets, page),
+        Way::Whole | Way::Pulled => take(alloc, session, octets, way, page),
         Way::Octets => {
             for octet in octets {
-                feed(alloc, session, &[*octet], page)?;
+                take(alloc, session, &[*octet], way, page)?;
             }
             Ok(())
         }
-        Way::Pulled => pull(alloc, session, octets, page),
     }
 }
 

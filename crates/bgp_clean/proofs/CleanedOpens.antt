@@ -1,21 +1,14 @@
 -- An OPEN with the capabilities that are understood alone: it can be written where the OPEN was read, says the same, and stays so.
-use Rattle.bgp_wire.proofs.Std.{◌≡◌, ℕ, zero, suc, ◌<◌, ◌≤◌, ◌^◌, Bool, true, false, ◌||◌, cond, eqb, List, [], ◌∷◌, ◌++◌, length, Option, Some, refl, sym, ap, ap₂, subst, ◌∙◌, arith, w16, w32, from_be_bytes, list_any, AllByRecursion, or_parts}
-use Rattle.std.specs.Prelude.{unwrap_or}
-use Rattle.std.proofs.lemmas.Bool.{true≢false}
-use Rattle.std.proofs.lemmas.List.{length-append}
-use Rattle.std.proofs.lemmas.Option.{same_Some, none-some}
+use Rattle.bgp_clean.proofs.Prelude.{◌≡◌, ℕ, zero, suc, ◌<◌, ◌≤◌, ◌^◌, Bool, true, false, ◌||◌, cond, eqb, List, [], ◌∷◌, ◌++◌, length, Option, Some, refl}
+use Rattle.bgp_clean.proofs.Prelude.{sym, ap, ap₂, subst, ◌∙◌, arith, w16, w32, from_be_bytes, list_any, AllByRecursion, or_parts, unwrap_or, true≢false}
+use Rattle.bgp_clean.proofs.Prelude.{length-append, same_Some, none-some, IPV4, IPV6, AreOctets, Row, AreOctets-front, AreOctets-back, AreOctets-drop}
+use Rattle.bgp_clean.proofs.Prelude.{Capability, Multi, As4, Other, Open, peer_as_of, multi_of, as4_of, IsCapability, parameters_of, joined, IsOpen}
+use Rattle.bgp_clean.proofs.Prelude.{IsParameter, first_as4, is_unicast, row_octets, parameter_octets, HasRange, all-append, Seen, none_seen, goes_on}
+use Rattle.bgp_clean.proofs.Prelude.{seen_behind, understood_behind, understood, cleaned_open, is_multi, lacks_family}
 use Rattle.bgp_clean.proofs.Understood.{row-shorter}
-use Rattle.bgp_numbers.specs.declared.afi.TheConstants.{IPV4, IPV6}
 use Rattle.bgp_numbers.specs.declared.capability.TheConstants.{MULTIPROTOCOL, FOUR_OCTET_AS}
 use Rattle.bgp_numbers.specs.declared.parameter.TheConstants.{CAPABILITIES}
-use Rattle.bgp_wire.specs.Prelude.{AreOctets, Row}
-use Rattle.bgp_wire.proofs.OctetLemmas.{AreOctets-front, AreOctets-back, AreOctets-drop}
-use Rattle.bgp_open.specs.declared.capability.Capability.{Capability}
-use Rattle.bgp_open.specs.declared.capability.Capability.TheVariants.{Multi, As4, Other}
-use Rattle.bgp_open.specs.declared.message.Open.{Open}
-use Rattle.bgp_open.specs.Prelude.{peer_as_of, multi_of, as4_of, IsCapability, parameters_of, joined, IsOpen, IsParameter, first_as4, is_unicast, row_octets, parameter_octets, canonical, HasRange, HasRanges}
-use Rattle.bgp_update.proofs.Lists.{all-append}
-use Rattle.bgp_clean.specs.Prelude.{Seen, none_seen, goes_on, seen_behind, understood_behind, understood, cleaned_open, is_multi, lacks_family}
+use Rattle.bgp_open.specs.Prelude.{canonical, HasRanges}
 
 -- ---- those that are understood
 

@@ -1,21 +1,12 @@
 -- An UPDATE without the unrecognised attributes that are left out: it can be written where the UPDATE can, in no more octets.
-use Rattle.bgp_wire.proofs.Std.{◌≡◌, ◌⊎◌, inl, inr, ℕ, ◌+◌, ◌<◌, ◌≤◌, Bool, true, false, not, ◌&&◌, cond, eqb, List, [], ◌∷◌, ◌++◌, length, Option, Some, None, refl, sym, ap, subst, ◌∙◌, arith, flat_map, filter, list_any, AllByRecursion, both_ways, cond-false, or_parts, or_from, not-false, not_from_true, flat_map-append}
-use Rattle.std.proofs.lemmas.Bool.{ne_eqb}
-use Rattle.std.proofs.lemmas.List.{length-append}
-use Rattle.bgp_open.specs.declared.context.Context.{Context}
-use Rattle.bgp_attr.specs.declared.attr.Attr.{Attr}
-use Rattle.bgp_attr.specs.declared.opaque.Opaque.{Opaque}
-use Rattle.bgp_attr.specs.Prelude.{is_recognised, entry_of, canonical, run_octets, is_too_wide, is_as4, is_empty, has_as_zero, stands_twice, HasRanges}
-use Rattle.bgp_attr.specs.declared.attr.Attr.TheVariants as attr
-use Rattle.bgp_update.specs.declared.attrs.Attrs.{Attrs}
-use Rattle.bgp_update.specs.declared.update.Update.{Update}
-use Rattle.bgp_update.specs.Prelude.{CanBeWritten, present, slots, slot, canonical_order, attr_list, attributes_octets, is_of_other_family, rise, has_bad_others, any_attr, HasUpdateRanges}
-use Rattle.bgp_update.proofs.Bodies.{length-body}
-use Rattle.bgp_update.proofs.Lists.{all-none, none-all, all-carried}
+use Rattle.bgp_clean.proofs.Prelude.{◌≡◌, ◌⊎◌, inl, inr, ℕ, ◌+◌, ◌<◌, ◌≤◌, Bool, true, false, not, ◌&&◌, cond, eqb, List, [], ◌∷◌, ◌++◌, length, Option, Some}
+use Rattle.bgp_clean.proofs.Prelude.{None, refl, sym, ap, subst, ◌∙◌, arith, flat_map, filter, list_any, AllByRecursion, both_ways, cond-false, or_parts}
+use Rattle.bgp_clean.proofs.Prelude.{or_from, not-false, not_from_true, flat_map-append, ne_eqb, length-append, Context, Attr, Opaque, is_recognised}
+use Rattle.bgp_clean.proofs.Prelude.{entry_of, canonical, run_octets, is_too_wide, is_as4, is_empty, has_as_zero, stands_twice, HasRanges, Attrs, Update}
+use Rattle.bgp_clean.proofs.Prelude.{CanBeWritten, present, slots, slot, canonical_order, attr_list, attributes_octets, is_of_other_family, rise}
+use Rattle.bgp_clean.proofs.Prelude.{has_bad_others, any_attr, HasUpdateRanges, length-body, all-none, none-all, all-carried, other_slot, slot-at, IsAccepted}
+use Rattle.bgp_clean.proofs.Prelude.{valid-accepted, accepted-valid, cleaned_attrs, cleaned_update}
 use Rattle.bgp_update.proofs.Rising.{of_kind, RisesFrom, rise-rises, rises-rise}
-use Rattle.bgp_update.proofs.SlotLemmas.{other_slot, slot-at}
-use Rattle.bgp_update.proofs.Validity.{IsAccepted, valid-accepted, accepted-valid}
-use Rattle.bgp_clean.specs.Prelude.{cleaned_attrs, cleaned_update}
 
 -- ---- filtered lists
 
@@ -87,9 +78,9 @@ module _ (drops : ℕ → Bool) where
           ∙ later
 
   other-by : (k : ℕ) (os : List Opaque) (d : Bool) → drops k ≡ d
-      → IsSameOrNone (present (λ (o : Opaque). attr.Opaque o) (of_kind k (filter stays os))) (present (λ (o : Opaque). attr.Opaque o) (of_kind k os))
-  other-by k os true e = inr (ap (λ (x : Option Opaque). present (λ (o : Opaque). attr.Opaque o) x) (find-dropped k e os))
-  other-by k os false e = inl (ap (λ (x : Option Opaque). present (λ (o : Opaque). attr.Opaque o) x) (find-stays k e os))
+      → IsSameOrNone (present (λ (o : Opaque). Attr.Opaque o) (of_kind k (filter stays os))) (present (λ (o : Opaque). Attr.Opaque o) (of_kind k os))
+  other-by k os true e = inr (ap (λ (x : Option Opaque). present (λ (o : Opaque). Attr.Opaque o) x) (find-dropped k e os))
+  other-by k os false e = inl (ap (λ (x : Option Opaque). present (λ (o : Opaque). Attr.Opaque o) x) (find-stays k e os))
 
   -- of each type, the attribute that was there, or none
   dropped-slot : (a : Attrs) (k : ℕ) → IsSameOrNone (slot (cleaned_attrs drops a) k) (slot a k)

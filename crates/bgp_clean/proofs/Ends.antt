@@ -1,31 +1,14 @@
 -- Which UPDATEs are an End-of-RIB: what is taken of one, and what is read where one was written.
-use Rattle.bgp_wire.proofs.Std.{◌≡◌, ℕ, ◌+◌, ◌≤◌, Bool, true, false, not, ◌&&◌, ◌||◌, cond, eqb, List, [], ◌∷◌, ◌++◌, length, Option, Some, None, refl, sym, ap, subst, ◌∙◌, arith, flat_map, list_any, AllByRecursion, both_ways, or_parts, not-false, nil_from_length}
-use Rattle.std.specs.Prelude.{is_some}
-use Rattle.std.proofs.lemmas.Bool.{eqb-true}
-use Rattle.std.proofs.lemmas.Option.{none-some}
-use Rattle.bgp_numbers.specs.declared.afi.TheConstants.{IPV4}
-use Rattle.bgp_open.specs.declared.context.Context.{Context}
-use Rattle.bgp_prefix.specs.Prelude.{PrefixValue, run_of}
-use Rattle.bgp_prefix.proofs.LawLemmas.{row_is_run}
-use Rattle.bgp_attr.specs.declared.attr.Attr.{Attr}
+use Rattle.bgp_clean.proofs.Prelude.{◌≡◌, ℕ, ◌+◌, ◌≤◌, Bool, true, false, not, ◌&&◌, ◌||◌, cond, eqb, List, [], ◌∷◌, ◌++◌, length, Option, Some, None, refl}
+use Rattle.bgp_clean.proofs.Prelude.{sym, ap, subst, ◌∙◌, arith, flat_map, list_any, AllByRecursion, both_ways, or_parts, not-false, nil_from_length, is_some}
+use Rattle.bgp_clean.proofs.Prelude.{eqb-true, none-some, IPV4, Context, PrefixValue, run_of, row_is_run, Attr, MpUnreach, canonical, is_writable, Belongs}
+use Rattle.bgp_clean.proofs.Prelude.{HasRanges, Attrs, Note, Update, CanBeWritten, Mark, field_marks, marks_of, Parts, parts_of, present, slot, attr_list}
+use Rattle.bgp_clean.proofs.Prelude.{attrs_from, kept_by, kept_of, no_attrs, attrs_of, update_of, verdict_of, attributes_octets, written_body}
+use Rattle.bgp_clean.proofs.Prelude.{is_of_other_family, Verdict, body-parts, length-body, valid-writable, recognised_types, valid-accepted, bare_family}
+use Rattle.bgp_clean.proofs.Prelude.{family_of_kept, family_of_marks, end_of_rib, is_bare, says_nothing, family_in, taken-of}
 use Rattle.bgp_attr.specs.declared.judged.Judged.{Judged}
-use Rattle.bgp_attr.specs.declared.mp.MpUnreach.{MpUnreach}
-use Rattle.bgp_attr.specs.Prelude.{canonical, is_writable, Belongs, HasRanges}
-use Rattle.bgp_attr.specs.declared.attr.Attr.TheVariants as attr
-use Rattle.bgp_attr.specs.declared.mp.MpUnreach.TheVariants as unreach
-use Rattle.bgp_update.specs.declared.attrs.Attrs.{Attrs}
-use Rattle.bgp_update.specs.declared.note.Note.{Note}
-use Rattle.bgp_update.specs.declared.update.Update.{Update}
-use Rattle.bgp_update.specs.Prelude.{CanBeWritten, Mark, field_marks, marks_of, Parts, parts_of, present, slot, attr_list, attrs_from, kept_by, kept_of, no_attrs, attrs_of, update_of, verdict_of, attributes_octets, written_body, is_of_other_family}
-use Rattle.bgp_update.specs.declared.verdict.Verdict.TheVariants as verdict
-use Rattle.bgp_update.proofs.Bodies.{body-parts, length-body}
 use Rattle.bgp_update.proofs.MarkLemmas.{KeepsAll, field-keep}
 use Rattle.bgp_update.proofs.QuietMarks.{no_marks}
-use Rattle.bgp_update.proofs.ReadBack.{valid-writable}
-use Rattle.bgp_update.proofs.SlotTypes.{recognised_types}
-use Rattle.bgp_update.proofs.Validity.{valid-accepted}
-use Rattle.bgp_clean.specs.Prelude.{bare_family, family_of_kept, family_of_marks, end_of_rib, is_bare, says_nothing, family_in}
-use Rattle.bgp_update.proofs.Verdicts.{taken-of}
 
 -- ---- an MP_UNREACH_NLRI alone
 
@@ -33,7 +16,7 @@ abbrev pub with_unreach : Option MpUnreach → Attrs
 with_unreach o = record no_attrs { mp_unreach = o }
 
 abbrev pub unreach_attrs : Option MpUnreach → List Attr
-unreach_attrs o = present (λ (r : MpUnreach). attr.MpUnreach r) o
+unreach_attrs o = present (λ (r : MpUnreach). Attr.MpUnreach r) o
 
 pub unreach-list : (o : Option MpUnreach) → attr_list (with_unreach o) ≡ unreach_attrs o
 unfolding slot attrs_from
@@ -46,7 +29,7 @@ end_update o = record { withdrawn = []; attrs = with_unreach o; nlri = [] }
 
 abbrev pub family_of_end : Option MpUnreach → Option ℕ
 family_of_end None = Some IPV4
-family_of_end (Some r) = bare_family (attr.MpUnreach r)
+family_of_end (Some r) = bare_family (Attr.MpUnreach r)
 
 -- the UPDATE is the End-of-RIB of this family
 pub record IsEnding (u : Update) (family : ℕ) : Type 0 where
@@ -56,11 +39,11 @@ pub record IsEnding (u : Update) (family : ℕ) : Type 0 where
 
 -- ---- what is taken of an End-of-RIB
 
-bare-unreach : (x : Attr) (f : ℕ) → bare_family x ≡ Some f → (r : MpUnreach) × (x ≡ attr.MpUnreach r)
-bare-unreach (attr.MpUnreach r) f e = (r, refl)
+bare-unreach : (x : Attr) (f : ℕ) → bare_family x ≡ Some f → (r : MpUnreach) × (x ≡ Attr.MpUnreach r)
+bare-unreach (Attr.MpUnreach r) f e = (r, refl)
 bare-unreach x f e = absurd (none-some f e)
 
-kept-bare : (ks : List Attr) (f : ℕ) → family_of_kept ks ≡ Some f → (r : MpUnreach) × (ks ≡ attr.MpUnreach r ∷ []) × (bare_family (attr.MpUnreach r) ≡ Some f)
+kept-bare : (ks : List Attr) (f : ℕ) → family_of_kept ks ≡ Some f → (r : MpUnreach) × (ks ≡ Attr.MpUnreach r ∷ []) × (bare_family (Attr.MpUnreach r) ≡ Some f)
 kept-bare [] f e = absurd (none-some f e)
 kept-bare (x ∷ []) f e =
     let is = bare-unreach x f e in
@@ -106,7 +89,7 @@ end-says_nothing o f e = ap is_bare (unreach-list o) ∙ bare-end o f e
 
 module _ (ctx : Context) (u : Update) where
   -- an UPDATE that is taken from an End-of-RIB is that
-  pub taken-ending : (body : List ℕ) (notes : List Note) (f : ℕ) → verdict_of ctx body ≡ verdict.Take u notes → family_in ctx (parts_of body) ≡ Some f → IsEnding u f
+  pub taken-ending : (body : List ℕ) (notes : List Note) (f : ℕ) → verdict_of ctx body ≡ Verdict.Take u notes → family_in ctx (parts_of body) ≡ Some f → IsEnding u f
   taken-ending body notes f e is_end =
       let is = taken-of ctx body u notes e in
       subst (λ (v : Update). IsEnding v f) is.update (ending ctx is.parts f (ap (family_in ctx) (sym is.found) ∙ is_end))
@@ -118,7 +101,7 @@ module _ (ctx : Context) (u : Update) where
       absurd (both_ways (says_nothing u) more (ap says_nothing end.is ∙ end-says_nothing end.unreach f end.of_family))
 
   -- an UPDATE that says something is taken from no End-of-RIB
-  pub unending : (body : List ℕ) (notes : List Note) → verdict_of ctx body ≡ verdict.Take u notes → says_nothing u ≡ false → family_in ctx (parts_of body) ≡ None
+  pub unending : (body : List ℕ) (notes : List Note) → verdict_of ctx body ≡ Verdict.Take u notes → says_nothing u ≡ false → family_in ctx (parts_of body) ≡ None
   unending body notes e more =
       let is = taken-of ctx body u notes e in
       ap (family_in ctx) is.found ∙ unending-by more is.parts is.update (end_of_rib ctx is.parts) refl
@@ -130,9 +113,9 @@ one-mark [] x keeps = absurd keeps
 one-mark (m ∷ []) x keeps = ap (λ (j : Judged). family_of_kept (kept_by j ++ [])) keeps.0
 one-mark (m ∷ n ∷ ms) x keeps = absurd keeps.1
 
-in-use : (ctx : Context) (r : MpUnreach) → (is_of_other_family ctx (attr.MpUnreach r) || false) ≡ false → Belongs ctx false (attr.MpUnreach r)
-in-use ctx (unreach.Ip4 routes) e = not-false ctx.ip4 (or_parts (not ctx.ip4) false e).0
-in-use ctx (unreach.Ip6 routes) e = not-false ctx.ip6 (or_parts (not ctx.ip6) false e).0
+in-use : (ctx : Context) (r : MpUnreach) → (is_of_other_family ctx (Attr.MpUnreach r) || false) ≡ false → Belongs ctx false (Attr.MpUnreach r)
+in-use ctx (MpUnreach.Ip4 routes) e = not-false ctx.ip4 (or_parts (not ctx.ip4) false e).0
+in-use ctx (MpUnreach.Ip6 routes) e = not-false ctx.ip6 (or_parts (not ctx.ip6) false e).0
 
 module _ (ctx : Context) (o : Option MpUnreach) (body : List ℕ) (can : CanBeWritten ctx (end_update o) body) (short : length body ≤ 4077) where
   abbrev octets : List ℕ
@@ -154,8 +137,8 @@ module _ (ctx : Context) (o : Option MpUnreach) (body : List ℕ) (can : CanBeWr
       → family_of_marks (field_marks ctx false (flat_map (canonical ctx) (unreach_attrs q))) ≡ Some f
   family-by None f e family writable ranges = ap family_of_marks (no_marks ctx false) ∙ e
   family-by (Some r) f e family writable ranges =
-      one-mark (field_marks ctx false (flat_map (canonical ctx) (attr.MpUnreach r ∷ []))) (attr.MpUnreach r)
-      (field-keep ctx false (attr.MpUnreach r ∷ []) (record { writable = writable.0; in_place = in-use ctx r family; ranges = ranges.0 }, tt) (refl, tt)) ∙ e
+      one-mark (field_marks ctx false (flat_map (canonical ctx) (Attr.MpUnreach r ∷ []))) (Attr.MpUnreach r)
+      (field-keep ctx false (Attr.MpUnreach r ∷ []) (record { writable = writable.0; in_place = in-use ctx r family; ranges = ranges.0 }, tt) (refl, tt)) ∙ e
 
   -- it is that of the same family
   pub written-end : (f : ℕ) → family_of_end o ≡ Some f → family_in ctx (parts_of (written_body ctx (end_update o))) ≡ Some f

@@ -1,21 +1,11 @@
 -- An UPDATE without some of its unrecognised attributes: each other slot is as it was, so it can be written in no more octets.
-use Rattle.bgp_wire.proofs.Std.{◌≡◌, ℕ, ◌+◌, ◌≤◌, Bool, true, false, ◌||◌, cond, eqb, List, [], ◌∷◌, ◌++◌, length, None, ◌⊎◌, inl, inr, refl, sym, ap, subst, ◌∙◌, arith, flat_map, AllByRecursion, false≢true}
-use Rattle.std.proofs.lemmas.Grind.{flat_map-append}
-use Rattle.std.proofs.lemmas.List.{length-append}
-use Rattle.bgp_open.specs.declared.context.Context.{Context}
-use Rattle.bgp_attr.specs.declared.attr.Attr.{Attr}
-use Rattle.bgp_attr.specs.declared.opaque.Opaque.{Opaque}
-use Rattle.bgp_attr.specs.Prelude.{is_recognised, has_entry, entry_of, canonical, is_writable, run_octets}
-use Rattle.bgp_attr.specs.declared.attr.Attr.TheVariants as attr
-use Rattle.bgp_update.specs.declared.attrs.Attrs.{Attrs}
-use Rattle.bgp_update.specs.declared.update.Update.{Update}
-use Rattle.bgp_update.specs.Prelude.{present, slots, slot, canonical_order, attr_list, attributes_octets, invalid_of, written_body}
-use Rattle.bgp_update.proofs.Bodies.{length-body}
+use Rattle.bgp_clean.proofs.Prelude.{◌≡◌, ℕ, ◌+◌, ◌≤◌, Bool, true, false, ◌||◌, cond, eqb, List, [], ◌∷◌, ◌++◌, length, None, ◌⊎◌, inl, inr, refl, sym, ap}
+use Rattle.bgp_clean.proofs.Prelude.{subst, ◌∙◌, arith, flat_map, AllByRecursion, false≢true, flat_map-append, length-append, Context, Attr, Opaque}
+use Rattle.bgp_clean.proofs.Prelude.{is_recognised, has_entry, entry_of, canonical, is_writable, run_octets, Attrs, Update, present, slots, slot}
+use Rattle.bgp_clean.proofs.Prelude.{canonical_order, attr_list, attributes_octets, written_body, length-body, all-append, all-front, all-back, none-long}
+use Rattle.bgp_clean.proofs.Prelude.{short-writable, slot-at, slot-other, other_slot, cleaned_attrs, cleaned_update}
+use Rattle.bgp_update.specs.Prelude.{invalid_of}
 use Rattle.bgp_update.proofs.Filtered.{find-dropped, find-kept}
-use Rattle.bgp_update.proofs.Lists.{all-append, all-front, all-back}
-use Rattle.bgp_update.proofs.ReadBack.{none-long, short-writable}
-use Rattle.bgp_update.proofs.SlotLemmas.{slot-at, slot-other, other_slot}
-use Rattle.bgp_clean.specs.Prelude.{cleaned_attrs, cleaned_update}
 
 -- ---- an entry of a table that has it
 
@@ -36,8 +26,8 @@ module _ (drops : ℕ → Bool) (a : Attrs) where
   fewer = cleaned_attrs drops a
 
   other-by : (k : ℕ) (t : Bool) → drops k ≡ t → (other_slot fewer k ≡ other_slot a k) ⊎ (other_slot fewer k ≡ [])
-  other-by k true e = inr (ap (present (λ (o : Opaque). attr.Opaque o)) (find-dropped drops k e a.others))
-  other-by k false e = inl (ap (present (λ (o : Opaque). attr.Opaque o)) (find-kept drops k e a.others))
+  other-by k true e = inr (ap (present (λ (o : Opaque). Attr.Opaque o)) (find-dropped drops k e a.others))
+  other-by k false e = inl (ap (present (λ (o : Opaque). Attr.Opaque o)) (find-kept drops k e a.others))
 
   slot-by : (k : ℕ) (t : Bool) → is_recognised k ≡ t → (slot fewer k ≡ slot a k) ⊎ (slot fewer k ≡ [])
   slot-by k true e = inl (slot-at fewer k ∙ entry-same k (other_slot fewer k) (other_slot a k) (slots a) e ∙ sym (slot-at a k))

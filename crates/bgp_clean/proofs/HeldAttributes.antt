@@ -1,19 +1,8 @@
 -- The attributes that are kept of a message, whatever its verdict: each is within its ranges and belongs there, and the field has as many octets or more.
-use Rattle.bgp_wire.proofs.Std.{◌≡◌, ℕ, ◌+◌, ◌≤◌, Bool, List, ◌∷◌, ◌++◌, length, refl, ap, ◌∙◌, arith, flat_map, filter, AllByRecursion, flat_map-append}
-use Rattle.std.specs.Prelude.{not}
-use Rattle.std.proofs.lemmas.List.{length-append}
-use Rattle.bgp_numbers.specs.declared.attribute.TheConstants.{MP_REACH_NLRI, MP_UNREACH_NLRI}
-use Rattle.bgp_wire.specs.Prelude.{AreOctets}
-use Rattle.bgp_open.specs.declared.context.Context.{Context}
-use Rattle.bgp_attr.specs.declared.attr.Attr.{Attr}
-use Rattle.bgp_attr.specs.declared.mp.MpReach.{MpReach}
-use Rattle.bgp_attr.specs.declared.mp.MpUnreach.{MpUnreach}
-use Rattle.bgp_attr.specs.Prelude.{Belongs, HasRanges}
-use Rattle.bgp_attr.specs.declared.attr.Attr.TheVariants as attr
-use Rattle.bgp_update.specs.declared.attrs.Attrs.{Attrs}
-use Rattle.bgp_update.specs.Prelude.{carries_routes, marks_of, Parts, present, types_from, slot, canonical_order, attr_list, kept_of, attrs_of, attributes_octets}
-use Rattle.bgp_update.specs.Parts.{has_nlri}
-use Rattle.bgp_update.proofs.SlotLemmas.{slot-at, field-all}
+use Rattle.bgp_clean.proofs.Prelude.{◌≡◌, ℕ, ◌+◌, ◌≤◌, Bool, List, ◌∷◌, ◌++◌, length, refl, ap, ◌∙◌, arith, flat_map, filter, AllByRecursion, flat_map-append}
+use Rattle.bgp_clean.proofs.Prelude.{not, length-append, MP_REACH_NLRI, MP_UNREACH_NLRI, AreOctets, Context, Attr, MpReach, MpUnreach, Belongs, HasRanges}
+use Rattle.bgp_clean.proofs.Prelude.{Attrs, carries_routes, marks_of, Parts, present, types_from, slot, canonical_order, attr_list, kept_of, attrs_of}
+use Rattle.bgp_clean.proofs.Prelude.{attributes_octets, has_nlri, slot-at, field-all}
 use Rattle.bgp_update.proofs.TakenSlots.{each-slot, attributes-shorter}
 
 -- attributes of n octets at most, each within its ranges, and where it belongs
@@ -34,10 +23,10 @@ module _ (ctx : Context) (p : Parts) (octets : AreOctets p.attributes) where
 
 module _ (a : Attrs) where
   abbrev pub reach_attr : List Attr
-  reach_attr = present (λ (r : MpReach). attr.MpReach r) a.mp_reach
+  reach_attr = present (λ (r : MpReach). Attr.MpReach r) a.mp_reach
 
   abbrev pub unreach_attr : List Attr
-  unreach_attr = present (λ (r : MpUnreach). attr.MpUnreach r) a.mp_unreach
+  unreach_attr = present (λ (r : MpUnreach). Attr.MpUnreach r) a.mp_unreach
 
   pub reach-all : (P : Attr → Type 0) → AllByRecursion P (attr_list a) → AllByRecursion P reach_attr
   reach-all P all = field-all P a MP_REACH_NLRI refl all

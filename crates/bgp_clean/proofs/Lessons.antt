@@ -1,21 +1,9 @@
 -- What a hearer learns of an UPDATE that is cleaned: the same, and nothing where it says nothing.
-use Rattle.bgp_wire.proofs.Std.{◌≡◌, ℕ, Bool, true, false, ◌&&◌, ◌||◌, eqb, ltb, List, [], ◌∷◌, ◌++◌, length, Option, Some, None, refl, ap, ap₂, ◌∙◌, if◌then◌else◌, AllByRecursion, false≢true, cond-false, and_parts, nil_from_length}
-use Rattle.std.specs.Prelude.{is_some}
-use Rattle.std.proofs.lemmas.Bool.{eqb-true}
-use Rattle.std.proofs.lemmas.List.{append-nil}
-use Rattle.bgp_numbers.specs.declared.attribute.TheConstants.{MP_REACH_NLRI, MP_UNREACH_NLRI}
-use Rattle.bgp_prefix.specs.Prelude.{PrefixValue}
-use Rattle.bgp_attr.specs.declared.attr.Attr.{Attr}
-use Rattle.bgp_attr.specs.declared.mp.MpReach.{MpReach}
-use Rattle.bgp_attr.specs.declared.mp.MpUnreach.{MpUnreach}
-use Rattle.bgp_attr.specs.declared.attr.Attr.TheVariants as attr
-use Rattle.bgp_attr.specs.declared.mp.MpUnreach.TheVariants as unreach
-use Rattle.bgp_update.specs.Prelude.{attrs_from, gone_ip4, gone_ip6, has_routes, present, attr_list, announces}
-use Rattle.bgp_update.specs.declared.routes.Routes.{Routes}
-use Rattle.bgp_update.specs.declared.update.Update.{Update}
-use Rattle.bgp_update.proofs.SlotLemmas.{field-all}
-use Rattle.bgp_msg.specs.declared.message.Message.TheVariants as message
-use Rattle.bgp_clean.specs.Prelude.{cleaned_attrs, cleaned_update, unreach_of, withdrawal, bare_family, is_bare, says_nothing, Lesson, no_lesson, announced_by, lesson_by}
+use Rattle.bgp_clean.proofs.Prelude.{◌≡◌, ℕ, Bool, true, false, ◌&&◌, ◌||◌, eqb, ltb, List, [], ◌∷◌, ◌++◌, length, Option, Some, None, refl, ap, ap₂, ◌∙◌}
+use Rattle.bgp_clean.proofs.Prelude.{if◌then◌else◌, AllByRecursion, false≢true, cond-false, and_parts, nil_from_length, is_some, eqb-true, append-nil}
+use Rattle.bgp_clean.proofs.Prelude.{MP_REACH_NLRI, MP_UNREACH_NLRI, PrefixValue, Attr, MpReach, MpUnreach, attrs_from, gone_ip4, gone_ip6, has_routes}
+use Rattle.bgp_clean.proofs.Prelude.{present, attr_list, announces, Routes, Update, field-all, Message, cleaned_attrs, cleaned_update, unreach_of, withdrawal}
+use Rattle.bgp_clean.proofs.Prelude.{bare_family, is_bare, says_nothing, Lesson, no_lesson, announced_by, lesson_by}
 use Rattle.bgp_clean.proofs.Dropped.{dropped-again}
 
 -- an MP_UNREACH_NLRI without routes
@@ -27,16 +15,16 @@ all-bare [] e = tt
 all-bare (x ∷ []) e = (e, tt)
 all-bare (x ∷ y ∷ xs) e = absurd (false≢true e)
 
-no-reach : (o : Option MpReach) → AllByRecursion Bare (present (λ (r : MpReach). attr.MpReach r) o) → o ≡ None
+no-reach : (o : Option MpReach) → AllByRecursion Bare (present (λ (r : MpReach). Attr.MpReach r) o) → o ≡ None
 no-reach None all = refl
 no-reach (Some r) all = absurd (false≢true all.0)
 
-no-gone : (o : Option MpUnreach) → AllByRecursion Bare (present (λ (r : MpUnreach). attr.MpUnreach r) o) → (gone_ip4 o ≡ []) × (gone_ip6 o ≡ [])
+no-gone : (o : Option MpUnreach) → AllByRecursion Bare (present (λ (r : MpUnreach). Attr.MpUnreach r) o) → (gone_ip4 o ≡ []) × (gone_ip6 o ≡ [])
 no-gone None all = (refl, refl)
-no-gone (Some (unreach.Ip4 [])) all = (refl, refl)
-no-gone (Some (unreach.Ip4 (p ∷ ps))) all = absurd (false≢true all.0)
-no-gone (Some (unreach.Ip6 [])) all = (refl, refl)
-no-gone (Some (unreach.Ip6 (p ∷ ps))) all = absurd (false≢true all.0)
+no-gone (Some (MpUnreach.Ip4 [])) all = (refl, refl)
+no-gone (Some (MpUnreach.Ip4 (p ∷ ps))) all = absurd (false≢true all.0)
+no-gone (Some (MpUnreach.Ip6 [])) all = (refl, refl)
+no-gone (Some (MpUnreach.Ip6 (p ∷ ps))) all = absurd (false≢true all.0)
 
 module _ (u : Update) (nothing : says_nothing u ≡ true) where
   parts : (eqb (length u.withdrawn) 0 ≡ true) × ((eqb (length u.nlri) 0 && is_bare (attr_list u.attrs)) ≡ true)
@@ -65,7 +53,7 @@ module _ (u : Update) (nothing : says_nothing u ≡ true) where
   none-announced : (ltb 0 (length u.nlri) || has_routes u.attrs.mp_reach) ≡ false
   none-announced = ap₂ (λ (ps : List PrefixValue) (o : Option MpReach). ltb 0 (length ps) || has_routes o) none-in_nlri none-reached
 
-  pub nothing-learned : (drops : ℕ → Bool) → lesson_by drops None (message.Update u) ≡ no_lesson
+  pub nothing-learned : (drops : ℕ → Bool) → lesson_by drops None (Message.Update u) ≡ no_lesson
   nothing-learned drops = λ i. record {
     peer = None;
     gone_ip4 = ap₂ (λ (ps qs : List PrefixValue). ps ++ qs) none-withdrawn none-gone.0 i;
@@ -91,7 +79,7 @@ learned family u stays = record {
 
 -- without the attributes that are left out, the same is learned
 pub cleaned-learned : (drops : ℕ → Bool) (family : Option ℕ) (u : Update)
-    → lesson_by drops family (message.Update (cleaned_update drops u)) ≡ lesson_by drops family (message.Update u)
+    → lesson_by drops family (Message.Update (cleaned_update drops u)) ≡ lesson_by drops family (Message.Update u)
 cleaned-learned drops family u = ap (learned family u) (dropped-again drops u)
 
 -- ---- routes that are withdrawn
@@ -101,7 +89,7 @@ unreach-gone [] = (refl, refl)
 unreach-gone (p ∷ ps) = (refl, refl)
 
 pub withdrawal-learned : (drops : ℕ → Bool) (routes : Routes)
-    → lesson_by drops None (message.Update (withdrawal routes)) ≡ record no_lesson { gone_ip4 = routes.ip4; gone_ip6 = routes.ip6 }
+    → lesson_by drops None (Message.Update (withdrawal routes)) ≡ record no_lesson { gone_ip4 = routes.ip4; gone_ip6 = routes.ip6 }
 unfolding attrs_from
 withdrawal-learned drops routes = λ i. record {
   peer = None;

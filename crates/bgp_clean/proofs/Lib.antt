@@ -1,4 +1,5 @@
 -- Lemmas on cleaned messages and streams.
+pub mod Prelude
 pub mod CleanedOpens
 pub mod Dropped
 pub mod Ends

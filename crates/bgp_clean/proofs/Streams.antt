@@ -1,19 +1,12 @@
 -- A cleaned stream is clean, message by message.
-use Rattle.bgp_wire.proofs.Std.{◌≡◌, ℕ, Bool, true, false, List, [], ◌∷◌, ◌++◌, length, map, take, Result, Ok, Err, refl, sym, ap, ap₂, subst, arith, flat_map, AllByRecursion}
-use Rattle.std.proofs.lemmas.List.{append-nil}
-use Rattle.bgp_wire.specs.Prelude.{AreOctets, Row}
-use Rattle.bgp_wire.proofs.OctetLemmas.{AreOctets-front, AreOctets-back}
-use Rattle.bgp_frame.specs.declared.end.End.TheVariants as end
+use Rattle.bgp_clean.proofs.Prelude.{◌≡◌, ℕ, Bool, true, false, List, [], ◌∷◌, ◌++◌, length, map, take, Result, Ok, Err, refl, sym, ap, ap₂, subst, arith}
+use Rattle.bgp_clean.proofs.Prelude.{flat_map, AllByRecursion, append-nil, AreOctets, Row, AreOctets-front, AreOctets-back, IsFrame, Waits, wanted-bounds}
+use Rattle.bgp_clean.proofs.Prelude.{Context, Message, Outcome, IsTakenAsItself, is_reset, stream_rules, written, CleanFault, cleaned, IsClean, outcome_of}
+use Rattle.bgp_clean.proofs.Prelude.{NoLonger, IsCleanStream, Lesson, lesson, handed_then, cleaned_from, cleaned_stream}
+use Rattle.bgp_frame.specs.declared.end.End.{End}
 use Rattle.bgp_frame.specs.Frame as frame
-use Rattle.bgp_frame.specs.Prelude.{IsFrame, Waits}
 use Rattle.bgp_frame.specs.Stream as stream
-use Rattle.bgp_frame.proofs.FrameLemmas.{wanted-bounds}
-use Rattle.bgp_open.specs.declared.context.Context.{Context}
-use Rattle.bgp_msg.specs.declared.message.Message.{Message}
-use Rattle.bgp_msg.specs.declared.outcome.Outcome.{Outcome}
-use Rattle.bgp_msg.specs.Prelude.{IsTakenAsItself, is_reset, stream_rules, canonical, written}
-use Rattle.bgp_clean.specs.declared.fault.CleanFault.{CleanFault}
-use Rattle.bgp_clean.specs.Prelude.{cleaned, IsClean, outcome_of, NoLonger, IsCleanStream, Lesson, lesson, handed_then, cleaned_from, cleaned_stream}
+use Rattle.bgp_msg.specs.Prelude.{canonical}
 use Rattle.bgp_clean.proofs.Handed.{handed-clean}
 
 module _ (ctx : Context) (drops : ℕ → Bool) where
@@ -66,7 +59,7 @@ module _ (ctx : Context) where
   waits : Waits []
   waits = omega (arith, (wanted-bounds []).0)
 
-  gives : (ns : List Message) → AllByRecursion (IsTakenAsItself ctx) ns → stream.Gives (stream_rules ctx) (flat_map (canonical ctx) ns) (map (outcome_of ctx) ns) (end.Wait 0)
+  gives : (ns : List Message) → AllByRecursion (IsTakenAsItself ctx) ns → stream.Gives (stream_rules ctx) (flat_map (canonical ctx) ns) (map (outcome_of ctx) ns) (End.Wait 0)
   gives ns taken = record {
     messages = map (written ctx) ns;
     row = flat_map (canonical ctx) ns;

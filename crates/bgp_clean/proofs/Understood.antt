@@ -1,12 +1,8 @@
 -- An OPEN with the capabilities that are understood alone is valid where the whole one is.
-use Rattle.bgp_wire.proofs.Std.{◌≡◌, ℕ, ◌+◌, ◌≤◌, Bool, true, false, ◌||◌, cond, ltb, List, [], ◌∷◌, length, refl, arith, list_any, false≢true, or_parts, or_from, ltb-false, le-ltb}
-use Rattle.std.proofs.lemmas.List.{length-append}
-use Rattle.bgp_numbers.specs.declared.afi.TheConstants.{IPV4, IPV6}
-use Rattle.bgp_open.specs.declared.capability.Capability.{Capability}
-use Rattle.bgp_open.specs.declared.capability.Capability.TheVariants.{Multi, As4, Other}
-use Rattle.bgp_open.specs.declared.message.Open.{Open}
-use Rattle.bgp_open.specs.Prelude.{is_short_hold, is_zero_id, is_unicast, capability_octets, row_octets, is_misnamed, is_bad_row, is_bad}
-use Rattle.bgp_clean.specs.Prelude.{Seen, none_seen, goes_on, seen_behind, understood, understood_behind, cleaned_open}
+use Rattle.bgp_clean.proofs.Prelude.{◌≡◌, ℕ, ◌+◌, ◌≤◌, Bool, true, false, ◌||◌, cond, ltb, List, [], ◌∷◌, length, refl, arith, list_any, false≢true, or_parts}
+use Rattle.bgp_clean.proofs.Prelude.{or_from, ltb-false, le-ltb, length-append, IPV4, IPV6, Capability, Multi, As4, Other, Open, is_short_hold, is_zero_id}
+use Rattle.bgp_clean.proofs.Prelude.{is_unicast, capability_octets, row_octets, is_misnamed, is_bad_row, is_bad, Seen, none_seen, goes_on, seen_behind}
+use Rattle.bgp_clean.proofs.Prelude.{understood, understood_behind, cleaned_open}
 
 -- ---- in no more octets
 

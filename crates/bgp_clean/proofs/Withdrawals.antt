@@ -1,48 +1,29 @@
 -- The UPDATE that withdraws a message's routes: it can be written where the message was read, in no more octets, and says something.
-use Rattle.bgp_wire.proofs.Std.{◌≡◌, ℕ, ◌+◌, ◌≤◌, Bool, true, false, not, cond, eqb, ltb, List, [], ◌∷◌, ◌++◌, length, Option, Some, None, refl, sym, ap, subst, ◌∙◌, arith, flat_map, list_any, AllByRecursion, option_or, both_ways, false≢true, and_parts, and_right, or_from, not_from_true, flat_map-append}
-use Rattle.std.proofs.lemmas.Bool.{eqb-true}
-use Rattle.std.proofs.lemmas.List.{append-nil, length-append}
-use Rattle.bgp_wire.specs.Prelude.{AreOctets, Row}
-use Rattle.bgp_open.specs.declared.context.Context.{Context}
-use Rattle.bgp_prefix.specs.Prelude.{PrefixValue, IsValid, IsPrefix, spelling_of, run_of}
-use Rattle.bgp_prefix.proofs.LawLemmas.{Row-rewritten}
-use Rattle.bgp_attr.specs.declared.attr.Attr.{Attr}
-use Rattle.bgp_attr.specs.declared.mp.MpReach.{MpReach}
-use Rattle.bgp_attr.specs.declared.mp.MpUnreach.{MpUnreach}
-use Rattle.bgp_attr.specs.Prelude.{link_octets, canonical, run_octets, is_too_wide, is_as4, is_empty, has_as_zero, stands_twice, Belongs, HasRanges, value_octets}
-use Rattle.bgp_attr.specs.declared.attr.Attr.TheVariants as attr
-use Rattle.bgp_attr.specs.declared.mp.MpReach.TheVariants as reach
-use Rattle.bgp_attr.specs.declared.mp.MpUnreach.TheVariants as unreach
-use Rattle.bgp_numbers.specs.declared.afi.TheConstants.{IPV4, IPV6}
+use Rattle.bgp_clean.proofs.Prelude.{◌≡◌, ℕ, ◌+◌, ◌≤◌, Bool, true, false, not, cond, eqb, ltb, List, [], ◌∷◌, ◌++◌, length, Option, Some, None, refl, sym, ap}
+use Rattle.bgp_clean.proofs.Prelude.{subst, ◌∙◌, arith, flat_map, list_any, AllByRecursion, option_or, both_ways, false≢true, and_parts, and_right, or_from}
+use Rattle.bgp_clean.proofs.Prelude.{not_from_true, flat_map-append, eqb-true, append-nil, length-append, AreOctets, Row, Context, PrefixValue, IsValid}
+use Rattle.bgp_clean.proofs.Prelude.{IsPrefix, spelling_of, run_of, Row-rewritten, Attr, MpReach, MpUnreach, link_octets, canonical, run_octets, is_too_wide}
+use Rattle.bgp_clean.proofs.Prelude.{is_as4, is_empty, has_as_zero, stands_twice, Belongs, HasRanges, value_octets, IPV4, IPV6, Attrs, Note, Routes, Update}
+use Rattle.bgp_clean.proofs.Prelude.{CanBeWritten, marks_of, reached_ip4, reached_ip6, gone_ip4, gone_ip6, has_routes, is_reachable, routes_of, Parts, IsBody}
+use Rattle.bgp_clean.proofs.Prelude.{present, attr_list, attrs_from, kept_of, attrs_of, first_reset, reset_of_run, reset_of, verdict_of, attributes_octets}
+use Rattle.bgp_clean.proofs.Prelude.{written_body, is_of_other_family, HasUpdateRanges, Verdict, has_nlri, length-body, all-append, run-row, row-some}
+use Rattle.bgp_clean.proofs.Prelude.{IsAccepted, accepted-valid, unreach_of, withdrawal, is_bare, says_nothing, has-parts, withdrawn-of}
 use Rattle.bgp_attr.proofs.CanonicalLength.{length-canonical, reach_added}
 use Rattle.bgp_attr.proofs.RouteRows.{prefixes-valid}
-use Rattle.bgp_update.specs.declared.attrs.Attrs.{Attrs}
-use Rattle.bgp_update.specs.declared.note.Note.{Note}
-use Rattle.bgp_update.specs.declared.routes.Routes.{Routes}
-use Rattle.bgp_update.specs.declared.update.Update.{Update}
-use Rattle.bgp_update.specs.Prelude.{CanBeWritten, marks_of, reached_ip4, reached_ip6, gone_ip4, gone_ip6, has_routes, is_reachable, routes_of, Parts, IsBody, present, attr_list, attrs_from, kept_of, attrs_of, first_reset, reset_of_run, reset_of, verdict_of, attributes_octets, written_body, is_of_other_family, HasUpdateRanges}
-use Rattle.bgp_update.specs.declared.verdict.Verdict.TheVariants as verdict
-use Rattle.bgp_update.specs.Parts.{has_nlri}
-use Rattle.bgp_update.proofs.Bodies.{length-body}
 use Rattle.bgp_update.proofs.KeptMarks.{or-parts}
-use Rattle.bgp_update.proofs.Lists.{all-append}
-use Rattle.bgp_update.proofs.Taken.{run-row, row-some}
-use Rattle.bgp_update.proofs.Validity.{IsAccepted, accepted-valid}
-use Rattle.bgp_clean.specs.Prelude.{unreach_of, withdrawal, is_bare, says_nothing}
 use Rattle.bgp_clean.proofs.Ends.{unreach_attrs, unreach-list}
 use Rattle.bgp_clean.proofs.HeldAttributes.{AreHeld, are-held, reach_attr, unreach_attr, reach-all, unreach-all, both-within}
-use Rattle.bgp_update.proofs.Verdicts.{has-parts, withdrawn-of}
 
 -- an attribute that withdraws IPv6 routes, where there are some
 abbrev gone_attr : List PrefixValue → List Attr
 gone_attr ps = unreach_attrs (unreach_of ps)
 
 abbrev reach_list : Option MpReach → List Attr
-reach_list o = present (λ (r : MpReach). attr.MpReach r) o
+reach_list o = present (λ (r : MpReach). Attr.MpReach r) o
 
-gone-none : (test : Attr → Bool) → ((r : MpUnreach) → test (attr.MpUnreach r) ≡ false) → (ps : List PrefixValue) → list_any test (gone_attr ps) ≡ false
+gone-none : (test : Attr → Bool) → ((r : MpUnreach) → test (Attr.MpUnreach r) ≡ false) → (ps : List PrefixValue) → list_any test (gone_attr ps) ≡ false
 gone-none test none [] = refl
-gone-none test none (p ∷ ps) = or_from (test (attr.MpUnreach (unreach.Ip6 (p ∷ ps)))) false (none (unreach.Ip6 (p ∷ ps))) refl
+gone-none test none (p ∷ ps) = or_from (test (Attr.MpUnreach (MpUnreach.Ip6 (p ∷ ps)))) false (none (MpUnreach.Ip6 (p ∷ ps))) refl
 
 -- ---- lengths
 
@@ -69,10 +50,10 @@ module _ (ctx : Context) where
 
   size-gone : (ps : List PrefixValue) → size (gone_attr ps) ≤ 7 + run ps
   size-gone [] = omega arith
-  size-gone (p ∷ ps) = let most = (size-one (attr.MpUnreach (unreach.Ip6 (p ∷ ps)))).1 in omega arith
+  size-gone (p ∷ ps) = let most = (size-one (Attr.MpUnreach (MpUnreach.Ip6 (p ∷ ps)))).1 in omega arith
 
   -- as much as it has in an attribute of its own, where there is one
-  size-own : (ps : List PrefixValue) → size (gone_attr ps) ≤ size (attr.MpUnreach (unreach.Ip6 ps) ∷ [])
+  size-own : (ps : List PrefixValue) → size (gone_attr ps) ≤ size (Attr.MpUnreach (MpUnreach.Ip6 ps) ∷ [])
   size-own [] = omega arith
   size-own (p ∷ ps) = omega arith
 
@@ -81,31 +62,31 @@ module _ (ctx : Context) where
     abbrev Fit : Type 0
     Fit = run (gone_ip4 u) + (run (reached_ip4 r) + size (gone_attr (gone_ip6 u ++ reached_ip6 r))) ≤ size (reach_list r) + size (unreach_attrs u)
 
-  reach4-least : (hop : List ℕ) (ps : List PrefixValue) → run ps ≤ size (attr.MpReach (reach.Ip4 hop ps) ∷ [])
-  reach4-least hop ps = let least = (size-one (attr.MpReach (reach.Ip4 hop ps))).0 in omega (arith, reach_added IPV4 hop ps)
+  reach4-least : (hop : List ℕ) (ps : List PrefixValue) → run ps ≤ size (Attr.MpReach (MpReach.Ip4 hop ps) ∷ [])
+  reach4-least hop ps = let least = (size-one (Attr.MpReach (MpReach.Ip4 hop ps))).0 in omega (arith, reach_added IPV4 hop ps)
 
-  reach6-least : (hop : List ℕ) (link : Option (List ℕ)) (ps : List PrefixValue) → 8 + run ps ≤ size (attr.MpReach (reach.Ip6 hop link ps) ∷ [])
-  reach6-least hop link ps = let least = (size-one (attr.MpReach (reach.Ip6 hop link ps))).0 in omega (arith, reach_added IPV6 (hop ++ link_octets link) ps)
+  reach6-least : (hop : List ℕ) (link : Option (List ℕ)) (ps : List PrefixValue) → 8 + run ps ≤ size (Attr.MpReach (MpReach.Ip6 hop link ps) ∷ [])
+  reach6-least hop link ps = let least = (size-one (Attr.MpReach (MpReach.Ip6 hop link ps))).0 in omega (arith, reach_added IPV6 (hop ++ link_octets link) ps)
 
-  unreach4-least : (ps : List PrefixValue) → run ps ≤ size (attr.MpUnreach (unreach.Ip4 ps) ∷ [])
-  unreach4-least ps = let least = (size-one (attr.MpUnreach (unreach.Ip4 ps))).0 in omega arith
+  unreach4-least : (ps : List PrefixValue) → run ps ≤ size (Attr.MpUnreach (MpUnreach.Ip4 ps) ∷ [])
+  unreach4-least ps = let least = (size-one (Attr.MpUnreach (MpUnreach.Ip4 ps))).0 in omega arith
 
-  unreach6-least : (ps : List PrefixValue) → 6 + run ps ≤ size (attr.MpUnreach (unreach.Ip6 ps) ∷ [])
-  unreach6-least ps = let least = (size-one (attr.MpUnreach (unreach.Ip6 ps))).0 in omega arith
+  unreach6-least : (ps : List PrefixValue) → 6 + run ps ≤ size (Attr.MpUnreach (MpUnreach.Ip6 ps) ∷ [])
+  unreach6-least ps = let least = (size-one (Attr.MpUnreach (MpUnreach.Ip6 ps))).0 in omega arith
 
-  own-alone : (ps : List PrefixValue) → size (gone_attr (ps ++ [])) ≤ size (attr.MpUnreach (unreach.Ip6 ps) ∷ [])
-  own-alone ps = subst (λ (qs : List PrefixValue). size (gone_attr qs) ≤ size (attr.MpUnreach (unreach.Ip6 ps) ∷ [])) (sym (append-nil ps)) (size-own ps)
+  own-alone : (ps : List PrefixValue) → size (gone_attr (ps ++ [])) ≤ size (Attr.MpUnreach (MpUnreach.Ip6 ps) ∷ [])
+  own-alone ps = subst (λ (qs : List PrefixValue). size (gone_attr qs) ≤ size (Attr.MpUnreach (MpUnreach.Ip6 ps) ∷ [])) (sym (append-nil ps)) (size-own ps)
 
   routes-fit : (u : Option MpUnreach) (r : Option MpReach) → Fit u r
   routes-fit None None = omega arith
-  routes-fit None (Some (reach.Ip4 hop ps)) = omega (arith, reach4-least hop ps)
-  routes-fit None (Some (reach.Ip6 hop link ps)) = omega (arith, reach6-least hop link ps, size-gone ps)
-  routes-fit (Some (unreach.Ip4 qs)) None = omega (arith, unreach4-least qs)
-  routes-fit (Some (unreach.Ip4 qs)) (Some (reach.Ip4 hop ps)) = omega (arith, unreach4-least qs, reach4-least hop ps)
-  routes-fit (Some (unreach.Ip4 qs)) (Some (reach.Ip6 hop link ps)) = omega (arith, unreach4-least qs, reach6-least hop link ps, size-gone ps)
-  routes-fit (Some (unreach.Ip6 qs)) None = omega (arith, own-alone qs)
-  routes-fit (Some (unreach.Ip6 qs)) (Some (reach.Ip4 hop ps)) = omega (arith, own-alone qs, reach4-least hop ps)
-  routes-fit (Some (unreach.Ip6 qs)) (Some (reach.Ip6 hop link ps)) = omega (arith, unreach6-least qs, reach6-least hop link ps, size-gone (qs ++ ps), run-append qs ps)
+  routes-fit None (Some (MpReach.Ip4 hop ps)) = omega (arith, reach4-least hop ps)
+  routes-fit None (Some (MpReach.Ip6 hop link ps)) = omega (arith, reach6-least hop link ps, size-gone ps)
+  routes-fit (Some (MpUnreach.Ip4 qs)) None = omega (arith, unreach4-least qs)
+  routes-fit (Some (MpUnreach.Ip4 qs)) (Some (MpReach.Ip4 hop ps)) = omega (arith, unreach4-least qs, reach4-least hop ps)
+  routes-fit (Some (MpUnreach.Ip4 qs)) (Some (MpReach.Ip6 hop link ps)) = omega (arith, unreach4-least qs, reach6-least hop link ps, size-gone ps)
+  routes-fit (Some (MpUnreach.Ip6 qs)) None = omega (arith, own-alone qs)
+  routes-fit (Some (MpUnreach.Ip6 qs)) (Some (MpReach.Ip4 hop ps)) = omega (arith, own-alone qs, reach4-least hop ps)
+  routes-fit (Some (MpUnreach.Ip6 qs)) (Some (MpReach.Ip6 hop link ps)) = omega (arith, unreach6-least qs, reach6-least hop link ps, size-gone (qs ++ ps), run-append qs ps)
 
   -- ---- families and ranges
 
@@ -117,22 +98,22 @@ module _ (ctx : Context) where
       → AllByRecursion (Belongs ctx nlri) (unreach_attrs u) → AllByRecursion (Belongs ctx nlri) (reach_list r)
       → list_any (is_of_other_family ctx) (gone_attr (gone_ip6 u ++ reached_ip6 r)) ≡ false
   in-family nlri None None a b = refl
-  in-family nlri None (Some (reach.Ip4 hop ps)) a b = refl
-  in-family nlri None (Some (reach.Ip6 hop link ps)) a b = of-family6 ps b.0
-  in-family nlri (Some (unreach.Ip4 qs)) None a b = refl
-  in-family nlri (Some (unreach.Ip4 qs)) (Some (reach.Ip4 hop ps)) a b = refl
-  in-family nlri (Some (unreach.Ip4 qs)) (Some (reach.Ip6 hop link ps)) a b = of-family6 ps b.0
-  in-family nlri (Some (unreach.Ip6 qs)) r a b = of-family6 (qs ++ reached_ip6 r) a.0
+  in-family nlri None (Some (MpReach.Ip4 hop ps)) a b = refl
+  in-family nlri None (Some (MpReach.Ip6 hop link ps)) a b = of-family6 ps b.0
+  in-family nlri (Some (MpUnreach.Ip4 qs)) None a b = refl
+  in-family nlri (Some (MpUnreach.Ip4 qs)) (Some (MpReach.Ip4 hop ps)) a b = refl
+  in-family nlri (Some (MpUnreach.Ip4 qs)) (Some (MpReach.Ip6 hop link ps)) a b = of-family6 ps b.0
+  in-family nlri (Some (MpUnreach.Ip6 qs)) r a b = of-family6 (qs ++ reached_ip6 r) a.0
 
 unreach-valid : (u : Option MpUnreach) → AllByRecursion HasRanges (unreach_attrs u) → AllByRecursion (IsValid 4) (gone_ip4 u) × AllByRecursion (IsValid 16) (gone_ip6 u)
 unreach-valid None all = (tt, tt)
-unreach-valid (Some (unreach.Ip4 ps)) all = (all.0, tt)
-unreach-valid (Some (unreach.Ip6 ps)) all = (tt, all.0)
+unreach-valid (Some (MpUnreach.Ip4 ps)) all = (all.0, tt)
+unreach-valid (Some (MpUnreach.Ip6 ps)) all = (tt, all.0)
 
 reach-valid : (r : Option MpReach) → AllByRecursion HasRanges (reach_list r) → AllByRecursion (IsValid 4) (reached_ip4 r) × AllByRecursion (IsValid 16) (reached_ip6 r)
 reach-valid None all = (tt, tt)
-reach-valid (Some (reach.Ip4 hop ps)) all = ((all.0).1, tt)
-reach-valid (Some (reach.Ip6 hop link ps)) all = (tt, (all.0).2)
+reach-valid (Some (MpReach.Ip4 hop ps)) all = ((all.0).1, tt)
+reach-valid (Some (MpReach.Ip6 hop link ps)) all = (tt, (all.0).2)
 
 gone-ranges : (ps : List PrefixValue) → AllByRecursion (IsValid 16) ps → AllByRecursion HasRanges (gone_attr ps)
 gone-ranges [] valid = tt
@@ -263,7 +244,7 @@ module _ (ctx : Context) (p : Parts) (octets_w : AreOctets p.withdrawn) (octets_
   is-withdrawal : (body : List ℕ) → IsBody p body → IsWithdrawal (routes_of p (marks_of ctx p)) body
   is-withdrawal body s = (record { valid = accepted-valid ctx said accepted; ranges = ranges; no_longer = no-longer body s }, says-by (says_nothing said) refl)
 
-pub withdrawal-written : (ctx : Context) (body : List ℕ) → AreOctets body → (routes : Routes) (notes : List Note) → verdict_of ctx body ≡ verdict.Withdraw routes notes
+pub withdrawal-written : (ctx : Context) (body : List ℕ) → AreOctets body → (routes : Routes) (notes : List Note) → verdict_of ctx body ≡ Verdict.Withdraw routes notes
     → CanBeWritten ctx (withdrawal routes) body × (says_nothing (withdrawal routes) ≡ false)
 withdrawal-written ctx body octets routes notes e =
     let is = withdrawn-of ctx body routes notes e in

@@ -1,16 +1,8 @@
 -- The UPDATE that withdraws routes, as it is written.
-use Rattle.bgp_wire.proofs.Std.{◌≡◌, ℕ, List, [], ◌∷◌, refl, sym, ap, ◌∙◌, flat_map}
-use Rattle.std.proofs.lemmas.List.{append-nil}
-use Rattle.bgp_open.specs.declared.context.Context.{Context}
-use Rattle.bgp_prefix.specs.Prelude.{PrefixValue}
-use Rattle.bgp_attr.specs.declared.attr.Attr.{Attr}
-use Rattle.bgp_attr.specs.Prelude.{canonical, run_octets}
-use Rattle.bgp_attr.specs.declared.mp.MpUnreach.TheVariants as unreach
-use Rattle.bgp_update.specs.declared.attrs.Attrs.{Attrs}
-use Rattle.bgp_update.specs.declared.routes.Routes.{Routes}
-use Rattle.bgp_update.specs.Prelude.{slot, attrs_from, no_attrs, whole_unreach, gone_octets, withdrawal_octets, attributes_octets, body_octets, written_body}
-use Rattle.bgp_update.proofs.SlotTypes.{recognised_types}
-use Rattle.bgp_clean.specs.Prelude.{unreach_of, withdrawal}
+use Rattle.bgp_clean.proofs.Prelude.{◌≡◌, ℕ, List, [], ◌∷◌, refl, sym, ap, ◌∙◌, flat_map, append-nil, Context, PrefixValue, Attr, canonical, run_octets}
+use Rattle.bgp_clean.proofs.Prelude.{MpUnreach, Attrs, Routes, slot, attrs_from, no_attrs, whole_unreach, gone_octets, withdrawal_octets, attributes_octets}
+use Rattle.bgp_clean.proofs.Prelude.{written_body, recognised_types, unreach_of, withdrawal}
+use Rattle.bgp_update.specs.Prelude.{body_octets}
 
 module _ (ctx : Context) where
   abbrev gone : List PrefixValue → Attrs
@@ -22,7 +14,7 @@ module _ (ctx : Context) where
   known-is : (routes : List PrefixValue) → flat_map (canonical ctx) (known routes) ≡ gone_octets routes
   unfolding slot attrs_from
   known-is [] = refl
-  known-is (r ∷ rs) = append-nil (whole_unreach (unreach.Ip6 (r ∷ rs)))
+  known-is (r ∷ rs) = append-nil (whole_unreach (MpUnreach.Ip6 (r ∷ rs)))
 
   attributes-are : (routes : List PrefixValue) → attributes_octets ctx (gone routes) ≡ gone_octets routes
   unfolding attrs_from

@@ -7,7 +7,6 @@ use Rattle.bgp_open.specs.declared.context.Context.{Context}
 use Rattle.bgp_msg.specs.declared.message.Message.{Message}
 use Rattle.bgp_msg.specs.declared.outcome.Outcome.{Outcome}
 use Rattle.bgp_msg.specs.Prelude.{IsTakenAsItself, stream_rules, canonical, written}
-use Rattle.bgp_msg.specs.declared.outcome.Outcome.TheVariants as outcome
 use Rattle.bgp_clean.specs.Clean.{cleaned}
 use Rattle.bgp_clean.specs.Lesson.{lesson}
 use Rattle.bgp_clean.specs.Stream.{cleaned_stream, cleaned_octets}
@@ -22,7 +21,7 @@ pub record IsClean (ctx : Context) (drops : ℕ → Bool) (first : Bool) (m : fr
 
 -- a message that is accepted, without notes
 abbrev pub outcome_of : Context → Message → ℕ × Outcome
-outcome_of ctx n = (length (canonical ctx n), outcome.Took n [])
+outcome_of ctx n = (length (canonical ctx n), Outcome.Took n [])
 
 -- no message is longer than the one it came from
 abbrev pub NoLonger : Context → List Message → List frame.Message → Type 0

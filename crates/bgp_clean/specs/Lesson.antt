@@ -13,8 +13,6 @@ use Rattle.bgp_update.specs.Prelude.{gone_ip4, gone_ip6, announces}
 use Rattle.bgp_msg.specs.declared.message.Message.{Message}
 use Rattle.bgp_msg.specs.declared.outcome.Outcome.{Outcome}
 use Rattle.bgp_msg.specs.Prelude.{out_of}
-use Rattle.bgp_msg.specs.declared.message.Message.TheVariants as message
-use Rattle.bgp_msg.specs.declared.outcome.Outcome.TheVariants as outcome
 use Rattle.bgp_clean.specs.Opens.{understood}
 use Rattle.bgp_clean.specs.Updates.{cleaned_attrs}
 use Rattle.bgp_clean.specs.Clean.{ended_family}
@@ -53,8 +51,8 @@ announced_by drops u =
 
 -- of a message that is accepted, which is an End-of-RIB of this family or of none
 abbrev pub lesson_by : (ℕ → Bool) → Option ℕ → Message → Lesson
-lesson_by drops family (message.Open o) = record no_lesson { peer = Some (peer_of o) }
-lesson_by drops family (message.Update u) = record {
+lesson_by drops family (Message.Open o) = record no_lesson { peer = Some (peer_of o) }
+lesson_by drops family (Message.Update u) = record {
   peer = None;
   gone_ip4 = u.withdrawn ++ gone_ip4 u.attrs.mp_unreach;
   gone_ip6 = gone_ip6 u.attrs.mp_unreach;
@@ -62,13 +60,13 @@ lesson_by drops family (message.Update u) = record {
   ended = family;
   said = None;
 }
-lesson_by drops family (message.Notification n) = record no_lesson { said = Some n }
-lesson_by drops family message.Keepalive = no_lesson
+lesson_by drops family (Message.Notification n) = record no_lesson { said = Some n }
+lesson_by drops family Message.Keepalive = no_lesson
 
 abbrev pub lesson_in : (ℕ → Bool) → Option ℕ → Outcome → Lesson
-lesson_in drops family (outcome.Took said notes) = lesson_by drops family said
-lesson_in drops family (outcome.Withdraw routes notes) = record no_lesson { gone_ip4 = routes.ip4; gone_ip6 = routes.ip6 }
-lesson_in drops family (outcome.Reset n) = no_lesson
+lesson_in drops family (Outcome.Took said notes) = lesson_by drops family said
+lesson_in drops family (Outcome.Withdraw routes notes) = record no_lesson { gone_ip4 = routes.ip4; gone_ip6 = routes.ip6 }
+lesson_in drops family (Outcome.Reset n) = no_lesson
 
 -- what a hearer learns of a message, where unrecognised attributes of these types are nothing to learn
 abbrev pub lesson : Context → (ℕ → Bool) → frame.Message → Lesson

@@ -3,7 +3,6 @@ use Rattle.std.specs.Prelude.{ℕ, Bool, true, is_some, ◌&&◌, ◌==◌, List
 use Rattle.bgp_prefix.specs.Prelude.{PrefixValue}
 use Rattle.bgp_attr.specs.declared.attr.Attr.{Attr}
 use Rattle.bgp_attr.specs.declared.mp.MpUnreach.{MpUnreach}
-use Rattle.bgp_attr.specs.declared.mp.MpUnreach.TheVariants as unreach
 use Rattle.bgp_update.specs.declared.attrs.Attrs.{Attrs}
 use Rattle.bgp_update.specs.declared.routes.Routes.{Routes}
 use Rattle.bgp_update.specs.declared.update.Update.{Update}
@@ -24,7 +23,7 @@ cleaned_update drops u = update_without drops u
 
 abbrev pub unreach_of : List PrefixValue → Option MpUnreach
 unreach_of [] = None
-unreach_of (route ∷ routes) = Some (unreach.Ip6 (route ∷ routes))
+unreach_of (route ∷ routes) = Some (MpUnreach.Ip6 (route ∷ routes))
 
 -- the UPDATE that withdraws these routes: IPv4 in Withdrawn Routes, IPv6 in MP_UNREACH_NLRI
 abbrev pub withdrawal : Routes → Update

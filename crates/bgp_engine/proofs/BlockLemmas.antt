@@ -1,40 +1,14 @@
 -- One block of text: as it stands, or as hexadecimal text.
-use Rattle.bgp_wire.proofs.Std.{◌≡◌, ℕ, Bool, true, false, List, [], ◌++◌, Option, Some, None, refl, sym, ap, subst, ◌∙◌, arith}
-use Rattle.std.specs.Prelude.{option_to_list, MatchOption}
-use Rattle.std.proofs.lemmas.List.{append-nil}
-use Rattle.bgp_engine.specs.declared.hex_text.HexText.{HexText}
-use Rattle.bgp_engine.specs.Prelude.{spelled, pending, Continues, Breaks, IsFront, Takes, Reports, stream_of, Spells, SpellsNoMore, MeetsOver}
+use Rattle.bgp_engine.proofs.Prelude.{◌≡◌, ℕ, Bool, true, false, List, [], ◌++◌, Option, Some, None, refl, sym, ap, subst, ◌∙◌, arith, option_to_list}
+use Rattle.bgp_engine.proofs.Prelude.{MatchOption, append-nil, HexText, spelled, pending, Continues, Breaks, IsFront, Takes, Reports, stream_of}
+use Rattle.bgp_engine.proofs.Prelude.{MeetsOver}
 
 nothing_pending : (reader : HexText) → reader.pending ≡ None → pending reader ≡ []
 nothing_pending reader e = ap option_to_list e
 
--- text as it stands
-pub Spells-raw : (hex : Bool) (reader : HexText) (block : List ℕ) → hex ≡ false → (hex ≡ false → reader.pending ≡ None) → Spells hex reader block block reader
-Spells-raw hex reader block raw none = subst (λ (h : Bool). Spells h reader block block reader) (sym raw) as_it_stands
-  where
-    nothing : pending reader ≡ []
-    nothing = nothing_pending reader (none raw)
-
-    as_it_stands : Spells false reader block block reader
-    as_it_stands = record {
-      stream = λ later. ap (λ (p : List ℕ). p ++ (block ++ later)) nothing ∙ ap (λ (p : List ℕ). block ++ (p ++ later)) (sym nothing);
-      bad = λ later. refl;
-      raw = λ _. none raw;
-      seen = omega arith;
-    }
-
 pub front_raw : (hex : Bool) (reader : HexText) (block : List ℕ) → hex ≡ false → (hex ≡ false → reader.pending ≡ None) → (later : List ℕ) → IsFront block (stream_of hex (pending reader ++ (block ++ later)))
 front_raw hex reader block raw none later =
     subst (λ (h : Bool). IsFront block (stream_of h (pending reader ++ (block ++ later)))) (sym raw) (later, ap (λ (p : List ℕ). p ++ (block ++ later)) (nothing_pending reader (none raw)))
-
--- hexadecimal text
-pub Spells-hex : (hex : Bool) (old new : HexText) (block octets : List ℕ) → hex ≡ true → Continues old block octets new → Spells hex old block octets new
-Spells-hex hex old new block octets is c =
-    subst (λ (h : Bool). Spells h old block octets new) (sym is)
-    (record { stream = c.spells; bad = c.is_bad; raw = λ e. absurd (let bad : true ≡ false = e in cc); seen = omega (arith, c.counts) })
-
-pub SpellsNoMore-hex : (hex : Bool) (old : HexText) (block octets : List ℕ) (n : ℕ) → hex ≡ true → Breaks old block octets n → SpellsNoMore hex old block octets n
-SpellsNoMore-hex hex old block octets n is b = subst (λ (h : Bool). SpellsNoMore h old block octets n) (sym is) (record { stream = b.spells; bad = b.is_bad })
 
 pub front_hex : (hex : Bool) (old new : HexText) (block octets : List ℕ) (bad : Option ℕ) → hex ≡ true → MatchOption bad (Continues old block octets new) (Breaks old block octets) → (later : List ℕ)
     → IsFront octets (stream_of hex (pending old ++ (block ++ later)))

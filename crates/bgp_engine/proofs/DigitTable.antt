@@ -1,9 +1,7 @@
 -- The table of digits.
-use Rattle.bgp_wire.proofs.Std.{◌≡◌, ℕ, ◌+◌, ◌<◌, ◌≤◌, map, get_or, Option, Some, None, refl, ap, arith, range_with_len}
-use Rattle.std.specs.Prelude.{unwrap_or}
+use Rattle.bgp_engine.proofs.Prelude.{◌≡◌, ℕ, ◌+◌, ◌<◌, ◌≤◌, map, get_or, Option, Some, None, refl, ap, arith, range_with_len, unwrap_or, hex_digit_value}
+use Rattle.bgp_engine.proofs.Prelude.{value_or_none}
 use Rattle.std.proofs.lemmas.List.FromFn.{get_or-map-range_with_len}
-use Rattle.hex.specs.Hex.{hex_digit_value}
-use Rattle.bgp_engine.specs.Prelude.{value_or_none}
 use Rattle.bgp_engine.proofs.HexPairs.{digit_value_bound}
 
 pub in_table : (c : ℕ) → c < 256 → get_or (map value_or_none (range_with_len 0 256)) c 0 ≡ value_or_none c

@@ -1,9 +1,6 @@
 -- Octets as digits.
-use Rattle.std.proofs.Common.{◌≡◌, ℕ, ◌+◌, ◌/◌, ◌%◌, List, [], ◌∷◌, ◌++◌, length, refl, sym, ap, ◌∙◌, append_assoc}
-use Rattle.std.specs.Prelude.{slice_index, OnOk, Result, Ok, Err, is_ok, if◌then◌else◌}
-use Rattle.hex.specs.Hex.{encode_lower, encode_with, lower_digits}
-use Rattle.bgp_frame.specs.Prelude.{header, Message}
-use Rattle.bgp_engine.specs.Prelude.{hex_line}
+use Rattle.bgp_engine.proofs.Prelude.{◌≡◌, ℕ, ◌+◌, ◌/◌, ◌%◌, List, [], ◌∷◌, ◌++◌, length, refl, sym, ap, ◌∙◌, append_assoc, slice_index, OnOk, Result, Ok}
+use Rattle.bgp_engine.proofs.Prelude.{Err, is_ok, if◌then◌else◌, encode_lower, encode_with, lower_digits, header, Message, hex_line}
 
 pub encode_lower-append : (a b : List ℕ) → encode_lower (a ++ b) ≡ encode_lower a ++ encode_lower b
 unfolding encode_with

@@ -1,12 +1,10 @@
 -- The first message of a stream.
-use Rattle.bgp_wire.proofs.Std.{◌≡◌, ℕ, ◌+◌, ◌≤◌, true, false, List, ◌++◌, length, take, drop, Option, Some, None, Err, refl, sym, ap, ◌∙◌, arith, le-ltb, drop-append_seam, take-append-drop, take-append-le}
+use Rattle.bgp_engine.proofs.Prelude.{◌≡◌, ℕ, ◌+◌, ◌≤◌, true, false, List, ◌++◌, length, take, drop, Option, Some, None, Err, refl, sym, ap, ◌∙◌, arith}
+use Rattle.bgp_engine.proofs.Prelude.{le-ltb, drop-append_seam, take-append-drop, take-append-le, length-append, take_all, HeadFault, head_of, header}
+use Rattle.bgp_engine.proofs.Prelude.{Message, octets_of, IsFrame, Waits, wanted, wanted_by, head_of-append, head_of-IsFrame, length-IsFrame, wanted-append}
+use Rattle.bgp_engine.proofs.Prelude.{wanted_by_head, IsFrame-wanted, is_part, first_message, first_open, open_in}
 use Rattle.std.proofs.lemmas.Bool.{lt-ltb}
-use Rattle.std.proofs.lemmas.List.{length-append, take_all}
-use Rattle.bgp_frame.specs.declared.fault.HeadFault.{HeadFault}
-use Rattle.bgp_frame.specs.Prelude.{head_of, header, Message, octets_of, IsFrame, Waits, wanted, wanted_by}
-use Rattle.bgp_frame.proofs.FrameLemmas.{head_of-append, head_of-IsFrame, length-IsFrame, wanted-append, wanted_by_head, IsFrame-wanted}
 use Rattle.bgp_frame.proofs.Headers.{length-header}
-use Rattle.bgp_engine.specs.Prelude.{is_part, first_message, first_open, open_in}
 
 pub waits_part : (s : List ℕ) → Waits s → is_part s ≡ true
 waits_part s waits = lt-ltb (length s) (wanted s) waits
@@ -48,12 +46,6 @@ module _ (s : List ℕ) (f : HeadFault) (long : 19 ≤ length s) (faulty : head_
 
   pub fault_first : first_message s ≡ None
   fault_first = rw (fault_whole, faulty) refl
-
-  pub fault_open : first_open s ≡ None
-  fault_open = rw fault_first refl
-
-pub part_open : (s : List ℕ) → Waits s → first_open s ≡ None
-part_open s waits = rw (waits_part s waits) refl
 
 -- a message at the front
 pub front_open : (s : List ℕ) (m : Message) (n : ℕ) → (n ≤ length s) × IsFrame m (take n s) → open_in m.kind m.body ≡ first_open s

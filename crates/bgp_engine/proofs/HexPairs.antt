@@ -1,11 +1,7 @@
 -- Pairs of digits, and text behind them.
-use Rattle.bgp_wire.proofs.Std.{◌≡◌, ℕ, zero, suc, ◌+◌, ◌-◌, ◌*◌, ◌<◌, ◌≤◌, Bool, true, false, cond, ◌&&◌, ◌||◌, eqb, leb, List, [], ◌∷◌, Some, None, refl, sym, subst, ◌∙◌, arith, inl, inr, leb-true, and_parts, or_cases, false_from_ne_true, false≢true}
-use Rattle.std.specs.Prelude.{unwrap_or}
-use Rattle.std.proofs.lemmas.Bool.{eqb-true}
-use Rattle.hex.specs.Hex.{is_hex_digit}
-use Rattle.bgp_wire.specs.Prelude.{AreOctets}
-use Rattle.bgp_wire.proofs.OctetLemmas.{AreOctets-nil}
-use Rattle.bgp_engine.specs.Prelude.{is_blank, digit_value, spelled, bad_from}
+use Rattle.bgp_engine.proofs.Prelude.{◌≡◌, ℕ, zero, suc, ◌+◌, ◌-◌, ◌*◌, ◌<◌, ◌≤◌, Bool, true, false, cond, ◌&&◌, ◌||◌, eqb, leb, List, [], ◌∷◌, Some, None}
+use Rattle.bgp_engine.proofs.Prelude.{refl, sym, subst, ◌∙◌, arith, inl, inr, leb-true, and_parts, or_cases, false_from_ne_true, false≢true, unwrap_or}
+use Rattle.bgp_engine.proofs.Prelude.{eqb-true, is_hex_digit, AreOctets, AreOctets-nil, is_blank, digit_value, spelled, bad_from}
 
 -- ---- one character at the front of a text
 

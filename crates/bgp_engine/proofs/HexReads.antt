@@ -1,13 +1,8 @@
 -- What a reader of hexadecimal text makes of one character.
-use Rattle.bgp_wire.proofs.Std.{◌≡◌, ℕ, ◌+◌, ◌-◌, ◌*◌, ◌<◌, ◌≤◌, true, false, List, [], ◌∷◌, ◌++◌, length, Option, Some, None, refl, sym, ap, subst, ◌∙◌, append_assoc, add-zero, arith}
-use Rattle.std.proofs.lemmas.List.{append-nil, length-append}
-use Rattle.std.specs.Prelude.{option_to_list}
-use Rattle.std.specs.Option.{option_map}
-use Rattle.hex.specs.Hex.{is_hex_digit}
-use Rattle.bgp_engine.specs.declared.hex_text.HexText.{HexText}
-use Rattle.bgp_engine.specs.Prelude.{is_blank, digit_value, spelled, bad_from, FirstPair, IsPair, pending, place, Continues, Breaks, ReadsPairs}
-use Rattle.bgp_wire.specs.Prelude.{AreOctets}
-use Rattle.bgp_wire.proofs.OctetLemmas.{AreOctets-nil, AreOctets-push, AreOctets-append}
+use Rattle.bgp_engine.proofs.Prelude.{◌≡◌, ℕ, ◌+◌, ◌-◌, ◌*◌, ◌<◌, ◌≤◌, true, false, List, [], ◌∷◌, ◌++◌, length, Option, Some, None, refl, sym, ap, subst}
+use Rattle.bgp_engine.proofs.Prelude.{◌∙◌, append_assoc, add-zero, arith, append-nil, length-append, option_to_list, option_map, is_hex_digit, HexText}
+use Rattle.bgp_engine.proofs.Prelude.{is_blank, digit_value, spelled, bad_from, FirstPair, IsPair, pending, place, Continues, Breaks, ReadsPairs, AreOctets}
+use Rattle.bgp_engine.proofs.Prelude.{AreOctets-nil, AreOctets-push, AreOctets-append}
 use Rattle.bgp_engine.proofs.HexPairs.{spelled-pair, spelled-half, spelled-blank, spelled-bad, bad_from-pair, bad_from-half, bad_from-blank, bad_from-bad}
 
 module _ (old new : HexText) (c : ℕ) where
@@ -68,18 +63,6 @@ module _ (old new : HexText) (c : ℕ) where
     counts = count;
   }
 
-  -- the first digit of a pair
-  pub reads_first : old.pending ≡ None → new.pending ≡ Some c → new.seen ≡ old.seen + 1 → Continues old (c ∷ []) [] new
-  reads_first was is count = record {
-    spells = λ later.
-        ap (λ (p : List ℕ). spelled (p ++ (c ∷ later))) (pending_is old None was) ∙ ap (λ (p : List ℕ). spelled (p ++ later)) (sym (pending_is new (Some c) is));
-    is_bad = λ later.
-        ap (λ (p : List ℕ). bad_from (old.seen - length p) (p ++ (c ∷ later))) (pending_is old None was)
-        ∙ ap (λ (n : ℕ). bad_from n (c ∷ later)) (let same : old.seen - 0 ≡ new.seen - 1 = omega arith in same)
-        ∙ ap (λ (p : List ℕ). bad_from (new.seen - length p) (p ++ later)) (sym (pending_is new (Some c) is));
-    counts = count;
-  }
-
   -- a character between pairs that is neither a digit nor a blank
   pub breaks_between : old.pending ≡ None → is_blank c ≡ false → is_hex_digit c ≡ false → Breaks old (c ∷ []) [] old.seen
   breaks_between was blank digit = record {
@@ -94,22 +77,6 @@ Continues-then a b c text more octets others p q = record {
       ap (λ (x : List ℕ). spelled (pending a ++ x)) (append_assoc text more later) ∙ p.spells (more ++ later) ∙ ap (λ (x : List ℕ). octets ++ x) (q.spells later) ∙ sym (append_assoc octets others (spelled (pending c ++ later)));
   is_bad = λ later. ap (λ (x : List ℕ). bad_from (place a) (pending a ++ x)) (append_assoc text more later) ∙ p.is_bad (more ++ later) ∙ q.is_bad later;
   counts = q.counts ∙ ap (λ (n : ℕ). n + length more) p.counts ∙ (let same : a.seen + length text + length more ≡ a.seen + length (text ++ more) = omega (arith, length-append text more) in same);
-}
-
-pub Continues-breaks : (a b : HexText) (text more octets others : List ℕ) (n : ℕ) → Continues a text octets b → Breaks b more others n → Breaks a (text ++ more) (octets ++ others) n
-Continues-breaks a b text more octets others n p q = record {
-  spells = λ later. ap (λ (x : List ℕ). spelled (pending a ++ x)) (append_assoc text more later) ∙ p.spells (more ++ later) ∙ ap (λ (x : List ℕ). octets ++ x) (q.spells later);
-  is_bad = λ later. ap (λ (x : List ℕ). bad_from (place a) (pending a ++ x)) (append_assoc text more later) ∙ p.is_bad (more ++ later) ∙ q.is_bad later;
-}
-
-pub Continues-none : (a : HexText) → Continues a [] [] a
-Continues-none a = record { spells = λ later. refl; is_bad = λ later. refl; counts = sym (add-zero a.seen) }
-
--- what follows a bad character changes nothing
-pub Breaks-longer : (a : HexText) (text more octets : List ℕ) (n : ℕ) → Breaks a text octets n → Breaks a (text ++ more) octets n
-Breaks-longer a text more octets n p = record {
-  spells = λ later. ap (λ (x : List ℕ). spelled (pending a ++ x)) (append_assoc text more later) ∙ p.spells (more ++ later);
-  is_bad = λ later. ap (λ (x : List ℕ). bad_from (place a) (pending a ++ x)) (append_assoc text more later) ∙ p.is_bad (more ++ later);
 }
 
 -- ---- pairs from the front of a text
@@ -161,13 +128,6 @@ ReadsPairs-more a text rest behind was octets last octet p none f lt put =
     ReadsPairs-next a (read_on a (length text - length rest)) (read_on a (length text - length behind)) text rest behind was octets last octet p none f refl
     (omega (arith, ap length f.splits, ap length p.splits, length-append p.front rest)) lt put
 
--- what the octets of the pairs need, and what is left
-pub ReadsPairs-sizes : (a b : HexText) (text rest was octets : List ℕ) → ReadsPairs a text rest was octets b → 2 * length octets + length rest ≡ 2 * length was + length text
-ReadsPairs-sizes a b text rest was octets p = omega (arith, ap length p.splits, length-append p.front rest, ap length p.puts, length-append was p.added, p.even)
-
-pub ReadsPairs-seen : (a b : HexText) (text rest was octets : List ℕ) → ReadsPairs a text rest was octets b → b.seen + length rest ≡ a.seen + length text
-ReadsPairs-seen a b text rest was octets p = omega (arith, ap length p.splits, length-append p.front rest, p.continues.counts)
-
 -- ---- the characters of a block in turn
 
 -- what is read of a text so far
@@ -177,15 +137,6 @@ pub record Decodes (start : HexText) (text rest octets : List ℕ) (now : HexTex
   pub so_far : Continues start front octets now
   pub few : 2 * length octets + length (pending now) ≤ length front + length (pending start)
   pub are_octets : AreOctets octets
-
-pub Decodes-none : (start : HexText) (text octets : List ℕ) → octets ≡ [] → Decodes start text text octets start
-Decodes-none start text octets none = subst (λ (o : List ℕ). Decodes start text text o start) (sym none) record {
-  front = [];
-  splits = refl;
-  so_far = Continues-none start;
-  few = omega arith;
-  are_octets = AreOctets-nil;
-}
 
 -- a character and then pairs
 pub Decodes-next : (start b m c : HexText) (text rest behind later octets more middle last : List ℕ) (ch : ℕ) → Decodes start text rest octets b → rest ≡ ch ∷ behind
@@ -202,21 +153,9 @@ Decodes-next start b m c text rest behind later octets more middle last ch d nex
       are_octets = subst AreOctets (sym put) (AreOctets-append (octets ++ more) p.added (AreOctets-append octets more d.are_octets small) p.are_octets);
     }
 
-pub Decodes-breaks : (start b : HexText) (text rest behind octets : List ℕ) (ch n : ℕ) → Decodes start text rest octets b → rest ≡ ch ∷ behind → Breaks b (ch ∷ []) [] n → Breaks start text octets n
-Decodes-breaks start b text rest behind octets ch n d next bad =
-    let front : Breaks start (d.front ++ ch ∷ []) (octets ++ []) n = Continues-breaks start b d.front (ch ∷ []) octets [] n d.so_far bad in
-    let all = Breaks-longer start (d.front ++ ch ∷ []) behind (octets ++ []) n front in
-    let whole : (d.front ++ ch ∷ []) ++ behind ≡ text = append_assoc d.front (ch ∷ []) behind ∙ ap (λ (t : List ℕ). d.front ++ t) (sym next) ∙ sym d.splits in
-    subst (λ (o : List ℕ). Breaks start text o n) (append-nil octets) (subst (λ (t : List ℕ). Breaks start t (octets ++ []) n) whole all)
-
 empty : (rest : List ℕ) → length rest ≡ 0 → rest ≡ []
 empty [] none = refl
 empty (x ∷ rest) none = absurd cc
-
-pub Decodes-all : (start b : HexText) (text rest octets : List ℕ) → Decodes start text rest octets b → length rest ≡ 0 → Continues start text octets b
-Decodes-all start b text rest octets d none =
-    let whole : text ≡ d.front = d.splits ∙ ap (λ (t : List ℕ). d.front ++ t) (empty rest none) ∙ append-nil d.front in
-    subst (λ (t : List ℕ). Continues start t octets b) (sym whole) d.so_far
 
 option_short : (o : Option ℕ) → length (option_to_list o) ≤ 1
 option_short None = omega arith

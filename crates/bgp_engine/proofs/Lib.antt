@@ -1,3 +1,4 @@
+pub mod Prelude
 pub mod HexPairs
 pub mod DigitTable
 pub mod HexReads

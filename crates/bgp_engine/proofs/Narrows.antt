@@ -1,31 +1,23 @@
 -- An UPDATE that is accepted where AS numbers have four octets can be told to a speaker with two.
-use Rattle.bgp_wire.proofs.Std.{◌≡◌, ◌≤◌, ◌+◌, ℕ, true, length, arith, List, Option, Some, None, Result, Ok, Err, refl, subst, le-ltb}
-use Rattle.bgp_wire.specs.Prelude.{AreOctets}
-use Rattle.bgp_frame.specs.Prelude.{IsLength}
+use Rattle.bgp_engine.proofs.Prelude.{◌≡◌, ◌≤◌, ◌+◌, ℕ, true, length, arith, List, Option, Some, None, Result, Ok, Err, refl, subst, le-ltb, AreOctets}
+use Rattle.bgp_engine.proofs.Prelude.{IsLength, Context, Open, open_notification, reading_of, CanBeTold, written_body, verdict_of, of_open_fault, of_reading}
+use Rattle.bgp_engine.proofs.Prelude.{of_verdict, of_body}
 use Rattle.bgp_frame.specs.declared.kind.Kind.{Kind}
-use Rattle.bgp_frame.specs.declared.kind.Kind.TheVariants as kind
 use Rattle.bgp_frame.specs.declared.notification.Notification.{Notification}
-use Rattle.bgp_open.specs.declared.context.Context.{Context}
 use Rattle.bgp_open.specs.declared.fault.OpenFault.{OpenFault}
-use Rattle.bgp_open.specs.declared.message.Open.{Open}
-use Rattle.bgp_open.specs.Prelude.{open_notification, reading_of}
 use Rattle.bgp_update.specs.declared.note.Note.{Note}
 use Rattle.bgp_update.specs.declared.update.Update.{Update}
 use Rattle.bgp_update.specs.declared.verdict.Verdict.{Verdict}
-use Rattle.bgp_update.specs.Prelude.{CanBeTold, written_body, verdict_of}
-use Rattle.bgp_update.specs.declared.verdict.Verdict.TheVariants as verdict
 use Rattle.bgp_update.proofs.Taken.{taken-written}
-use Rattle.bgp_msg.specs.declared.message.Message.TheVariants as message
+use Rattle.bgp_msg.specs.declared.message.Message.{Message}
 use Rattle.bgp_msg.specs.declared.outcome.Outcome.{Outcome}
-use Rattle.bgp_msg.specs.Prelude.{of_open_fault, of_reading, of_verdict, of_body}
-use Rattle.bgp_msg.specs.declared.outcome.Outcome.TheVariants as outcome
 
-same_update : (x u : Update) (ns notes : List Note) → (let taken : Outcome = outcome.Took (message.Update x) ns in taken ≡ outcome.Took (message.Update u) notes) → x ≡ u
+same_update : (x u : Update) (ns notes : List Note) → (let taken : Outcome = Outcome.Took (Message.Update x) ns in taken ≡ Outcome.Took (Message.Update u) notes) → x ≡ u
 same_update x u ns notes is = cc
 
 module _ (ctx : Context) (wide : ctx.as4 ≡ true) (u : Update) (notes : List Note) where
   abbrev taken : Outcome
-  taken = outcome.Took (message.Update u) notes
+  taken = Outcome.Took (Message.Update u) notes
 
   fault_told : (n : Option Notification) → of_open_fault n ≡ taken → CanBeTold ctx u
   fault_told (Some n) is = absurd cc
@@ -36,18 +28,18 @@ module _ (ctx : Context) (wide : ctx.as4 ≡ true) (u : Update) (notes : List No
   open_told (Err f) is = fault_told (open_notification f) is
 
   update_told : (body : List ℕ) → AreOctets body → length body ≤ 4077 → (v : Verdict) → verdict_of ctx body ≡ v → of_verdict v ≡ taken → CanBeTold ctx u
-  update_told body octets short (verdict.Take x ns) e is =
+  update_told body octets short (Verdict.Take x ns) e is =
       let can = taken-written ctx body x ns octets e in
       subst (CanBeTold ctx) (same_update x u ns notes is) (record {
         wide = wide;
         valid = can.valid;
         short = le-ltb 4077 (length (written_body ctx x)) (omega (arith, can.no_longer, short));
       })
-  update_told body octets short (verdict.Withdraw routes ns) e is = absurd cc
-  update_told body octets short (verdict.Reset n) e is = absurd cc
+  update_told body octets short (Verdict.Withdraw routes ns) e is = absurd cc
+  update_told body octets short (Verdict.Reset n) e is = absurd cc
 
   pub taken_told : (k : Kind) (body : List ℕ) → AreOctets body → IsLength k (19 + length body) → of_body ctx k body ≡ taken → CanBeTold ctx u
-  taken_told kind.Open body octets allowed is = open_told (reading_of body) is
-  taken_told kind.Update body octets allowed is = update_told body octets (omega (arith, allowed.most)) (verdict_of ctx body) refl is
-  taken_told kind.Notification body octets allowed is = absurd cc
-  taken_told kind.Keepalive body octets allowed is = absurd cc
+  taken_told Kind.Open body octets allowed is = open_told (reading_of body) is
+  taken_told Kind.Update body octets allowed is = update_told body octets (omega (arith, allowed.most)) (verdict_of ctx body) refl is
+  taken_told Kind.Notification body octets allowed is = absurd cc
+  taken_told Kind.Keepalive body octets allowed is = absurd cc

@@ -1,18 +1,10 @@
 -- What a run keeps from one block to the next, and what follows from it where it stops.
-use Rattle.bgp_wire.proofs.Std.{◌≡◌, ℕ, ◌+◌, ◌-◌, ◌*◌, ◌≤◌, Bool, true, false, List, [], ◌∷◌, ◌++◌, length, take, Option, Some, None, refl, sym, ap, subst, ◌∙◌, append_assoc, arith, inl, inr}
-use Rattle.std.specs.Prelude.{option_to_list, Result, Ok, Err}
-use Rattle.std.specs.Io.KnownBytes.{Consumes, Appends, IsAtEnd, Keeps}
-use Rattle.std.proofs.KnownBytes.{Consumes-nil, Consumes-trans, Consumes-kept, Appends-nil, Appends-trans}
-use Rattle.std.proofs.lemmas.List.{append-nil}
-use Rattle.bgp_wire.specs.Prelude.{AreOctets}
-use Rattle.bgp_wire.proofs.OctetLemmas.{AreOctets-nil, AreOctets-append, AreOctets-back}
-use Rattle.bgp_frame.specs.declared.end.End.{End}
-use Rattle.hex.specs.Hex.{is_hex_digit}
-use Rattle.bgp_engine.specs.declared.fault.ToolFault.{ToolFault}
-use Rattle.bgp_engine.specs.declared.hex_text.HexText.{HexText}
-use Rattle.bgp_engine.specs.declared.tally.Tally.{Tally}
-use Rattle.bgp_engine.specs.Prelude.{pending, place, IsFront, AppendsFront, FailsWithin, Report, behind, IsWaiting, GoesOn, Rests, IsTotal, OfOctets, IsFaultOf, Io, Reports, stream_of, bad_of, IsAllRead, Finishes, IsBadAt, Fails, Answers, MeetsBlock, MeetsBad, MeetsOver, WritesAll, WritesNone, Finished}
-use Rattle.bgp_engine.specs.declared.fault.ToolFault.TheVariants as fault
+use Rattle.bgp_engine.proofs.Prelude.{◌≡◌, ℕ, ◌+◌, ◌-◌, ◌*◌, ◌≤◌, Bool, true, false, List, [], ◌∷◌, ◌++◌, length, take, Option, Some, None, refl, sym, ap}
+use Rattle.bgp_engine.proofs.Prelude.{subst, ◌∙◌, append_assoc, arith, inl, inr, option_to_list, Result, Ok, Err, Consumes, Appends, IsAtEnd, Keeps}
+use Rattle.bgp_engine.proofs.Prelude.{Consumes-nil, Consumes-trans, Consumes-kept, Appends-nil, Appends-trans, append-nil, AreOctets, AreOctets-nil}
+use Rattle.bgp_engine.proofs.Prelude.{AreOctets-append, AreOctets-back, End, is_hex_digit, ToolFault, HexText, Tally, pending, place, IsFront, AppendsFront}
+use Rattle.bgp_engine.proofs.Prelude.{FailsWithin, Report, behind, IsWaiting, GoesOn, Rests, IsTotal, OfOctets, IsFaultOf, Io, Reports, stream_of, bad_of}
+use Rattle.bgp_engine.proofs.Prelude.{IsAllRead, Finishes, IsBadAt, Fails, Answers, MeetsBlock, MeetsBad, MeetsOver, WritesAll, WritesNone, Finished}
 use Rattle.bgp_engine.proofs.HexPairs.{spelled-nil, spelled-digit, spelled-octets, bad_from-nil, bad_from-digit}
 
 module _ (reports0 : Reports) (hex : Bool) (r0 w0 : Option (List ℕ)) where
@@ -67,11 +59,11 @@ module _ {reports0 : Reports} {hex : Bool} {r0 w0 : Option (List ℕ)} where
     more_front : (front : List ℕ) (rest : List ℕ) → IsFront written ((written ++ front) ++ rest)
     more_front front rest = (front ++ rest, append_assoc written front rest)
 
-    pub fails_read : (q : Report) → reports [] q → Fails (OfOctets reports0) hex (io r0 w0 r w) fault.Read
+    pub fails_read : (q : Report) → reports [] q → Fails (OfOctets reports0) hex (io r0 w0 r w) ToolFault.Read
     fails_read q g = record { text = text; read = s.read; report = behind (written ++ told) q; reported = (stream_octets hex text s.are, s.lifts q g); written = written; wrote = s.wrote; is_fault = more_front told q.lines }
 
     -- all that was collected was written
-    pub fails_bad : (n : ℕ) (q : Report) → reports [] q → q.lines ≡ [] → Appends w w1 told → IsBadAt hex text r q.end_of n → Fails (OfOctets reports0) hex (io r0 w0 r w1) (fault.BadHex n)
+    pub fails_bad : (n : ℕ) (q : Report) → reports [] q → q.lines ≡ [] → Appends w w1 told → IsBadAt hex text r q.end_of n → Fails (OfOctets reports0) hex (io r0 w0 r w1) (ToolFault.BadHex n)
     fails_bad n q g none more bad = record {
       text = text;
       read = s.read;
@@ -86,7 +78,7 @@ module _ {reports0 : Reports} {hex : Bool} {r0 w0 : Option (List ℕ)} where
     all_of q none = sym (append_assoc written told q.last) ∙ ap (λ (x : List ℕ). x ++ q.last) (sym (ap (λ (x : List ℕ). (written ++ told) ++ x) none ∙ append-nil (written ++ told)))
 
     -- a front of what was collected and is written last was written
-    pub fails_write : (q : Report) → reports [] q → q.lines ≡ [] → AppendsFront w w1 (told ++ q.last) → Fails (OfOctets reports0) hex (io r0 w0 r w1) fault.Write
+    pub fails_write : (q : Report) → reports [] q → q.lines ≡ [] → AppendsFront w w1 (told ++ q.last) → Fails (OfOctets reports0) hex (io r0 w0 r w1) ToolFault.Write
     fails_write q g none a = record {
       text = text;
       read = s.read;
@@ -134,7 +126,7 @@ module _ {reports0 : Reports} {hex : Bool} {r0 w0 : Option (List ℕ)} where
       is_fault = is (behind (written ++ told) a.report) (written ++ (told ++ a.report.last)) (all_of a.report a.none) a.answers (all_read a.report a.reported);
     }
 
-    pub fails_memory : WritesNone reports w w1 → Fails (OfOctets reports0) hex (io r0 w0 r w1) fault.Memory
+    pub fails_memory : WritesNone reports w w1 → Fails (OfOctets reports0) hex (io r0 w0 r w1) ToolFault.Memory
     fails_memory a = record {
       text = text;
       read = s.read;
@@ -147,15 +139,15 @@ module _ {reports0 : Reports} {hex : Bool} {r0 w0 : Option (List ℕ)} where
 
     pub finished : (answer : Result Tally ToolFault) → ((q : Report) → reports [] q → IsAllRead hex text r q.end_of) → Finished reports told w w1 answer → Answers (OfOctets reports0) hex (io r0 w0 r w1) answer
     finished (Ok tally) all_read a = finishes tally all_read a
-    finished (Err fault.Memory) all_read a = fails_memory a
-    finished (Err fault.Write) all_read a = fails_write a.report a.reported a.none a.wrote
-    finished (Err fault.Read) all_read a = absurd a
-    finished (Err (fault.BadHex n)) all_read a = absurd a
-    finished (Err (fault.Script n)) all_read a = absurd a
-    finished (Err fault.Net) all_read a = absurd a
-    finished (Err (fault.Narrow n)) all_read a = fails_behind (fault.Narrow n) (λ report all whole answer read. (whole, answer, read)) all_read a
-    finished (Err (fault.Clean n why)) all_read a = fails_behind (fault.Clean n why) (λ report all whole answer read. (a.0, whole, answer, read)) all_read a.1
-    finished (Err fault.NoOpen) all_read a = fails_behind fault.NoOpen (λ report all whole answer read. (whole, answer, read)) all_read a
+    finished (Err ToolFault.Memory) all_read a = fails_memory a
+    finished (Err ToolFault.Write) all_read a = fails_write a.report a.reported a.none a.wrote
+    finished (Err ToolFault.Read) all_read a = absurd a
+    finished (Err (ToolFault.BadHex n)) all_read a = absurd a
+    finished (Err (ToolFault.Script n)) all_read a = absurd a
+    finished (Err ToolFault.Net) all_read a = absurd a
+    finished (Err (ToolFault.Narrow n)) all_read a = fails_behind (ToolFault.Narrow n) (λ report all whole answer read. (whole, answer, read)) all_read a
+    finished (Err (ToolFault.Clean n why)) all_read a = fails_behind (ToolFault.Clean n why) (λ report all whole answer read. (a.0, whole, answer, read)) all_read a.1
+    finished (Err ToolFault.NoOpen) all_read a = fails_behind ToolFault.NoOpen (λ report all whole answer read. (whole, answer, read)) all_read a
 
   -- nothing was read yet
   pub Reading-none : (going : Type 0) (reader : HexText) → going → Rests reports0 → reader.pending ≡ None → reader.seen ≡ 0 → Reading reports0 hex r0 w0 reports0 going r0 w0 reader 0
@@ -196,7 +188,7 @@ module _ {reports0 : Reports} {hex : Bool} {r0 w0 : Option (List ℕ)} where
       all_octets = ap (stream_of hex) (sym whole_text) ∙ streams []
 
       -- the block was read, and not taken
-      pub fails_block : IsTotal reports → Fails (OfOctets reports0) hex (record { reader_old = r0; reader_new = r1; writer_old = w0; writer_new = w }) fault.Memory
+      pub fails_block : IsTotal reports → Fails (OfOctets reports0) hex (record { reader_old = r0; reader_new = r1; writer_old = w0; writer_new = w }) ToolFault.Memory
       fails_block total =
           let rest : List ℕ = stream_of hex (pending reader ++ (block ++ [])) in
           let all : AreOctets (stream_of hex (s.text ++ block)) = stream_octets hex (s.text ++ block) more_are in

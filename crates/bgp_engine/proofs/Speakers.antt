@@ -1,8 +1,6 @@
 -- What a speaker's own OPEN tells of its settings.
-use Rattle.bgp_wire.proofs.Std.{◌≡◌, ℕ, Bool, ◌&&◌, eqb, List, Ok, refl, ap, ◌∙◌}
-use Rattle.std.proofs.lemmas.Bool.{eqb-true}
-use Rattle.bgp_open.specs.declared.context.Context.{Context}
-use Rattle.bgp_open.specs.Prelude.{agreement, context_of, peer_as_of, same_id, Settings, IsAllowed, own_of, agreed_context, settings_of, said_by}
+use Rattle.bgp_engine.proofs.Prelude.{◌≡◌, ℕ, Bool, ◌&&◌, eqb, List, Ok, refl, ap, ◌∙◌, eqb-true, Context, agreement, context_of, peer_as_of, same_id}
+use Rattle.bgp_engine.proofs.Prelude.{Settings, IsAllowed, own_of, agreed_context, settings_of, said_by}
 use Rattle.bgp_open.proofs.Agreements.{accepted, finds_ip4, finds_ip6, has_as4, peer_as-own}
 
 same_settings : (l m n h : ℕ) (i : List ℕ) (p q r p1 q1 r1 : Bool) → l ≡ m → p ≡ p1 → q ≡ q1 → r ≡ r1

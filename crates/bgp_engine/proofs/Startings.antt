@@ -1,26 +1,18 @@
 -- Steps of an engine that takes the first message of its stream by a rule of its own.
-use Rattle.bgp_wire.proofs.Std.{◌≡◌, ℕ, ◌+◌, ◌≤◌, Bool, true, false, Bor, List, [], ◌++◌, length, take, drop, Option, option_map, Some, None, Result, Ok, Err, refl, sym, ap, subst, ◌∙◌, append_assoc, arith, inl, inr, unwrap_or, take-append-drop, drop-append_seam}
-use Rattle.std.specs.Prelude.{is_some, if◌then◌else◌, OnErr}
-use Rattle.std.proofs.lemmas.List.{append-nil, length-append, take_all}
-use Rattle.bgp_wire.specs.Prelude.{AreOctets, has_octet}
-use Rattle.bgp_wire.proofs.OctetLemmas.{AreOctets-append, AreOctets-back, AreOctets-drop}
-use Rattle.bgp_frame.specs.declared.end.End.{End}
-use Rattle.bgp_frame.specs.declared.fault.HeadFault.{HeadFault}
-use Rattle.bgp_frame.specs.Prelude.{Message, octets_of, IsFrame, Waits, wanted, head_of, Stops}
-use Rattle.bgp_frame.specs.declared.end.End.TheVariants as end
+use Rattle.bgp_engine.proofs.Prelude.{◌≡◌, ℕ, ◌+◌, ◌≤◌, Bool, true, false, Bor, List, [], ◌++◌, length, take, drop, Option, option_map, Some, None, Result}
+use Rattle.bgp_engine.proofs.Prelude.{Ok, Err, refl, sym, ap, subst, ◌∙◌, append_assoc, arith, inl, inr, unwrap_or, take-append-drop, drop-append_seam}
+use Rattle.bgp_engine.proofs.Prelude.{is_some, if◌then◌else◌, OnErr, append-nil, length-append, take_all, AreOctets, has_octet, AreOctets-append}
+use Rattle.bgp_engine.proofs.Prelude.{AreOctets-back, AreOctets-drop, End, HeadFault, Message, octets_of, IsFrame, Waits, wanted, head_of}
+use Rattle.bgp_engine.proofs.Prelude.{head_of-append, length-IsFrame, Stops-wanted, gives_wait, Context, Class, ToolFault, Tally, start_in, without_words}
+use Rattle.bgp_engine.proofs.Prelude.{first_message, first_open, is_part, open_at, open_in, Start, Starts, ReportedAt, ReportedAs, ReportedFrom, ReportedWith}
+use Rattle.bgp_engine.proofs.Prelude.{ReportedWithout, ReportedBy, ReportedIn, fit_of, unagreed, unagreed_end, Report, behind, IsOver, IsWaiting, Rules}
+use Rattle.bgp_engine.proofs.Prelude.{counted, report_of, IsReport, Answers, Io, Reports, no_tally, Closes, GoesOn, IsTotal, Rests, Takes, Plan}
+use Rattle.bgp_engine.proofs.Prelude.{start_of, starts_of, IsFresh, Settles, reports_in, starting, Walking, IsCounting, IsReady, reports_of, walking, agreed}
+use Rattle.bgp_engine.proofs.Prelude.{Stage}
 use Rattle.bgp_frame.specs.Takes as frame
-use Rattle.bgp_frame.proofs.FrameLemmas.{head_of-append, length-IsFrame, Stops-wanted}
 use Rattle.bgp_frame.proofs.Holding.{IsHeld_nil}
-use Rattle.bgp_frame.proofs.Streams.{gives_wait}
-use Rattle.bgp_open.specs.declared.context.Context.{Context}
 use Rattle.bgp_engine.specs.declared.cleaning.CleanPage.{CleanPage}
-use Rattle.bgp_engine.specs.declared.class.Class.TheVariants as class
-use Rattle.bgp_engine.specs.declared.fault.Stop.TheVariants as stop
-use Rattle.bgp_engine.specs.declared.fault.ToolFault.{ToolFault}
-use Rattle.bgp_engine.specs.declared.tally.Tally.{Tally}
-use Rattle.bgp_engine.specs.Prelude.{start_in, without_words, first_message, first_open, is_part, open_at, open_in, Start, Starts, ReportedAt, ReportedAs, ReportedFrom, ReportedWith, ReportedWithout, ReportedBy, ReportedIn, fit_of, unagreed, unagreed_end, Report, behind, IsOver, IsWaiting, Rules, counted, report_of, IsReport, Answers, Io, Reports, no_tally, Closes, GoesOn, IsTotal, Rests, Takes, Plan, SettlesOn, start_of, starts_of, IsFresh, Settles, reports_in, starting, Walking, IsCounting, IsReady, reports_of, walking, agreed}
-use Rattle.bgp_engine.specs.declared.fault.ToolFault.TheVariants as fault
-use Rattle.bgp_engine.specs.declared.opening.Stage.TheVariants as stage
+use Rattle.bgp_engine.specs.declared.fault.Stop.{Stop}
 use Rattle.bgp_engine.specs.steps.Cleaning.{clean_plan, page_rules, starts_for}
 use Rattle.bgp_engine.specs.steps.Starting as steps
 use Rattle.bgp_engine.proofs.FirstOpens.{waits_part, frame_first, frame_whole, fault_whole, fault_first}
@@ -68,7 +60,7 @@ module _ {Outcome : Type 0} (starts : Starts Outcome) where
       by_text : (rules : Rules Outcome) (len : ℕ) (text : Option (List ℕ)) → (r : Report) × ReportedAs rules text len s r
       by_text rules len None = (heard rules 0 no_tally s, heard_report rules 0 no_tally s octets)
       by_text rules len (Some text) =
-          let r : Report = heard rules len (counted no_tally len class.Took) (drop len s) in
+          let r : Report = heard rules len (counted no_tally len Class.Took) (drop len s) in
           (behind text r, record { report = r; rest = heard_report rules len _ (drop len s) (AreOctets-drop len s octets); told = refl })
 
       by_start : (len : ℕ) (o : Option (Start Outcome)) → (r : Report) × ReportedWith o len s r
@@ -83,7 +75,7 @@ module _ {Outcome : Type 0} (starts : Starts Outcome) where
       by_first None = by_none (starts None)
       by_first (Some m) = by_start (length (octets_of m)) (starts (Some m))
 
-  pub first_total : (w : Walking Outcome) → IsCounting w → IsTotal (reports_in (starting starts stage.First w))
+  pub first_total : (w : Walking Outcome) → IsCounting w → IsTotal (reports_in (starting starts Stage.First w))
   first_total w c later octets = let found = total (w.held ++ later) (AreOctets-append w.held later c.octets octets) in (found.0, λ are. found.1)
 
   -- ---- the first message is there
@@ -93,17 +85,17 @@ module _ {Outcome : Type 0} (starts : Starts Outcome) where
     plain rules r e q = rw (frame_first m held f later, e) q
 
     pub handed : (rules : Rules Outcome) (text : List ℕ) (r : Report) → starts (Some m) ≡ Some (record { rules = rules; first = Some text })
-        → IsReport rules (length held) (counted no_tally (length held) class.Took) later r → ReportedFrom starts (held ++ later) (behind text r)
+        → IsReport rules (length held) (counted no_tally (length held) Class.Took) later r → ReportedFrom starts (held ++ later) (behind text r)
     handed rules text r e q =
         rw (frame_first m held f later, e)
         (record {
           report = r;
-          rest = subst (λ (n : ℕ). IsReport rules n (counted no_tally n class.Took) (drop n (held ++ later)) r) (ap length f.octets)
-              (subst (λ (x : List ℕ). IsReport rules (length held) (counted no_tally (length held) class.Took) x r) (sym (drop-append_seam held later)) q);
+          rest = subst (λ (n : ℕ). IsReport rules n (counted no_tally n Class.Took) (drop n (held ++ later)) r) (ap length f.octets)
+              (subst (λ (x : List ℕ). IsReport rules (length held) (counted no_tally (length held) Class.Took) x r) (sym (drop-append_seam held later)) q);
           told = refl;
         })
 
-    pub unagreed_with : starts (Some m) ≡ None → ReportedFrom starts (held ++ later) (unagreed end.Reset)
+    pub unagreed_with : starts (Some m) ≡ None → ReportedFrom starts (held ++ later) (unagreed End.Reset)
     unagreed_with e = rw (frame_first m held f later, e, frame_whole m held f later) refl
 
   -- ---- none can be read
@@ -119,7 +111,7 @@ module _ {Outcome : Type 0} (starts : Starts Outcome) where
     held_walk = walking rules1 held place tally ended
 
     abbrev pub handed_walk : ℕ → Walking Outcome
-    handed_walk len = walking rules1 [] (place + len) (counted tally len class.Took) None
+    handed_walk len = walking rules1 [] (place + len) (counted tally len Class.Took) None
 
     counts_held : IsCounting held_walk
     counts_held = record { octets = c.octets; place = c.place; counts = c.counts }
@@ -134,39 +126,39 @@ module _ {Outcome : Type 0} (starts : Starts Outcome) where
 
     -- a stream that ends with a first message that waits
     pub closes_first : (t0 t1 : List ℕ) (answer : Result Tally ToolFault) → Waits held → starts None ≡ Some (record { rules = rules1; first = None }) → Closes (reports_of held_walk) t0 t1 answer
-        → Closes (reports_in (starting starts stage.First held_walk)) t0 t1 answer
+        → Closes (reports_in (starting starts Stage.First held_walk)) t0 t1 answer
     closes_first t0 t1 answer waits e closes =
         let none = part_first (held ++ []) (subst Waits (sym (append-nil held)) waits) in
         let r = closes.report in
         record { report = r; reported = λ octets. without (held ++ []) none rules1 r e (from_front (omega (arith, waits)) [] r octets closes.reported); none = closes.none; closes = closes.closes }
 
     module _ (told : List ℕ) (m : Message) (f : IsFrame m held) where
-      pub settles_unagreed : (told1 : List ℕ) → (starts (Some m) ≡ None) × (told1 ≡ told) → Settles stage.Unagreed starts held told told1 held_walk
+      pub settles_unagreed : (told1 : List ℕ) → (starts (Some m) ≡ None) × (told1 ≡ told) → Settles Stage.Unagreed starts held told told1 held_walk
       settles_unagreed told1 b = record { lines = []; told = b.1 ∙ sym (append-nil told); settles = (λ later. unagreed_with held m f later b.0, refl) }
 
-      pub settles_plain : (told1 : List ℕ) → (starts (Some m) ≡ Some (record { rules = rules1; first = None })) × (told1 ≡ told) → Settles stage.Agreed starts held told told1 held_walk
+      pub settles_plain : (told1 : List ℕ) → (starts (Some m) ≡ Some (record { rules = rules1; first = None })) × (told1 ≡ told) → Settles Stage.Agreed starts held told told1 held_walk
       settles_plain told1 b = record {
         lines = [];
         told = b.1 ∙ sym (append-nil told);
         settles = (unended, counts_held, λ later r octets q. plain held m f later rules1 r b.0 (from_front (let long = Stops-wanted held (inl (m, f)) in omega (arith, long.1)) later r octets q));
       }
 
-      from_behind : (later : List ℕ) (r : Report) → AreOctets later → reports_of (handed_walk (length held)) later r → IsReport rules1 (length held) (counted no_tally (length held) class.Took) later r
+      from_behind : (later : List ℕ) (r : Report) → AreOctets later → reports_of (handed_walk (length held)) later r → IsReport rules1 (length held) (counted no_tally (length held) Class.Took) later r
       from_behind later r octets q =
-          subst (λ (n : ℕ). IsReport rules1 n (counted no_tally (length held) class.Took) later r) (let same : 0 + length held ≡ length held = omega arith in same)
-          (subst (λ (w : Walking Outcome). IsReport rules1 (w.place + length held) (counted w.tally (length held) class.Took) later r) fresh
+          subst (λ (n : ℕ). IsReport rules1 n (counted no_tally (length held) Class.Took) later r) (let same : 0 + length held ≡ length held = omega arith in same)
+          (subst (λ (w : Walking Outcome). IsReport rules1 (w.place + length held) (counted w.tally (length held) Class.Took) later r) fresh
           (reports_report (handed_walk (length held)) later r refl IsHeld_nil octets q))
 
       pub settles_handed : (told1 : List ℕ) (len : ℕ) → len ≡ length held → ((text : List ℕ) × (starts (Some m) ≡ Some (record { rules = rules1; first = Some text })) × (told1 ≡ told ++ text))
-          → Settles stage.Agreed starts held told told1 (handed_walk len)
+          → Settles Stage.Agreed starts held told told1 (handed_walk len)
       settles_handed told1 len same b =
-          subst (λ (n : ℕ). Settles stage.Agreed starts held told told1 (handed_walk n)) (sym same)
+          subst (λ (n : ℕ). Settles Stage.Agreed starts held told told1 (handed_walk n)) (sym same)
           (record {
             lines = b.0;
             told = b.2;
             settles = (
               refl,
-              counts_on (walking rules held place tally ended) c rules1 (length held) class.Took (omega (arith, length-IsFrame m held f)) (omega arith),
+              counts_on (walking rules held place tally ended) c rules1 (length held) Class.Took (omega (arith, length-IsFrame m held f)) (omega arith),
               λ later r octets q. handed held m f later rules1 b.0 r b.1 (from_behind later r octets q),
             );
           })
@@ -180,14 +172,14 @@ module _ {Outcome : Type 0} (starts : Starts Outcome) where
       no_part later =
           fault_whole (held ++ later) h (omega (arith, size, length-append held later)) (head_of-append held later (omega (arith, size)) ∙ faulty)
 
-      pub settles_fault : starts None ≡ Some (record { rules = rules1; first = None }) → Settles stage.Agreed starts held told told1 held_walk
+      pub settles_fault : starts None ≡ Some (record { rules = rules1; first = None }) → Settles Stage.Agreed starts held told told1 held_walk
       settles_fault b = record {
         lines = [];
         told = same ∙ sym (append-nil told);
         settles = (unended, counts_held, λ later r octets q. without (held ++ later) (none_read later) rules1 r b (from_front (let long = Stops-wanted held (inr (size, (h, faulty))) in omega (arith, long.1)) later r octets q));
       }
 
-      pub settles_fault_unagreed : starts None ≡ None → Settles stage.Unagreed starts held told told1 held_walk
+      pub settles_fault_unagreed : starts None ≡ None → Settles Stage.Unagreed starts held told told1 held_walk
       settles_fault_unagreed e = record {
         lines = [];
         told = same ∙ sym (append-nil told);
@@ -197,15 +189,15 @@ module _ {Outcome : Type 0} (starts : Starts Outcome) where
   -- ---- a block of octets
 
   rests_by : (held : List ℕ) → Waits held → (o : Option (Start Outcome)) → starts None ≡ o → (r : Report) × ReportedFrom starts held r × (r.lines ≡ []) × IsWaiting r.end_of
-  rests_by held waits None e = (unagreed (end.Wait (length held)), rw (part_first held waits, e, waits_part held waits) refl, refl, tt)
+  rests_by held waits None e = (unagreed (End.Wait (length held)), rw (part_first held waits, e, waits_part held waits) refl, refl, tt)
   rests_by held waits (Some x) e = (
-    report_of x.rules 0 no_tally held [] (end.Wait (length held)),
-    rw (part_first held waits, e) (record { outcomes = []; end_of = end.Wait (length held); gives = gives_wait Outcome x.rules.judge held waits; told = refl }),
+    report_of x.rules 0 no_tally held [] (End.Wait (length held)),
+    rw (part_first held waits, e) (record { outcomes = []; end_of = End.Wait (length held); gives = gives_wait Outcome x.rules.judge held waits; told = refl }),
     refl,
     tt,
   )
 
-  pub first_rests : (w : Walking Outcome) → Waits w.held → Rests (reports_in (starting starts stage.First w))
+  pub first_rests : (w : Walking Outcome) → Waits w.held → Rests (reports_in (starting starts Stage.First w))
   first_rests w waits =
       let q = rests_by w.held waits (starts None) refl in
       record { report = q.0; reported = λ octets. subst (λ (s : List ℕ). ReportedFrom starts s q.0) (sym (append-nil w.held)) q.1; none = q.2; waiting = q.3 }
@@ -214,8 +206,8 @@ module _ {Outcome : Type 0} (starts : Starts Outcome) where
     abbrev pub fed : List ℕ
     fed = w0.held ++ take n octets
 
-    pub takes_part : frame.Takes w0.held octets n → Settles stage.First starts fed t0 t1 w1
-        → Takes (reports_in (starting starts stage.First w0)) (reports_in (starting starts stage.First w1)) (steps.GoesOn (starting starts stage.First w1)) t0 t1 octets false
+    pub takes_part : frame.Takes w0.held octets n → Settles Stage.First starts fed t0 t1 w1
+        → Takes (reports_in (starting starts Stage.First w0)) (reports_in (starting starts Stage.First w1)) (steps.GoesOn (starting starts Stage.First w1)) t0 t1 octets false
     takes_part took s =
         let first = s.settles.0 in
         let is : w1.held ≡ fed = s.settles.1 in
@@ -230,53 +222,53 @@ module _ {Outcome : Type 0} (starts : Starts Outcome) where
           stands = (first, first_rests w1 first.waits);
         }
 
-    pub takes_unagreed : Settles stage.Unagreed starts fed t0 t1 w1
-        → (starts1 : Starts Outcome) → Takes (reports_in (starting starts stage.First w0)) (reports_in (starting starts1 stage.Unagreed w1)) (steps.GoesOn (starting starts1 stage.Unagreed w1)) t0 t1 octets true
+    pub takes_unagreed : Settles Stage.Unagreed starts fed t0 t1 w1
+        → (starts1 : Starts Outcome) → Takes (reports_in (starting starts Stage.First w0)) (reports_in (starting starts1 Stage.Unagreed w1)) (steps.GoesOn (starting starts1 Stage.Unagreed w1)) t0 t1 octets true
     takes_unagreed s starts1 = record {
       lines = s.lines;
       told = s.told;
       goes_on = λ later r q are.
           subst (λ (l : List ℕ). ReportedFrom starts (w0.held ++ (octets ++ later)) (behind l r)) (sym s.settles.1)
           (subst (λ (x : Report). ReportedFrom starts (w0.held ++ (octets ++ later)) x) (sym q)
-          (subst (λ (x : List ℕ). ReportedFrom starts x (unagreed end.Reset)) (fed_whole w0.held octets n later) (s.settles.0 (drop n octets ++ later))));
-      stands = record { report = unagreed end.Reset; reported = refl; none = refl; over = λ r q. subst (λ (x : Report). IsOver x.end_of) (sym q) tt; always = λ later more r q. q };
+          (subst (λ (x : List ℕ). ReportedFrom starts x (unagreed End.Reset)) (fed_whole w0.held octets n later) (s.settles.0 (drop n octets ++ later))));
+      stands = record { report = unagreed End.Reset; reported = refl; none = refl; over = λ r q. subst (λ (x : Report). IsOver x.end_of) (sym q) tt; always = λ later more r q. q };
     }
 
-    pub takes_agreed : (starts1 : Starts Outcome) (w2 : Walking Outcome) (t2 : List ℕ) (over : Bool) → Settles stage.Agreed starts fed t0 t1 w1 → Takes (reports_of w1) (reports_of w2) (IsReady w2) t1 t2 (drop n octets) over
-        → Takes (reports_in (starting starts stage.First w0)) (reports_in (starting starts1 stage.Agreed w2)) (steps.GoesOn (starting starts1 stage.Agreed w2)) t0 t2 octets over
+    pub takes_agreed : (starts1 : Starts Outcome) (w2 : Walking Outcome) (t2 : List ℕ) (over : Bool) → Settles Stage.Agreed starts fed t0 t1 w1 → Takes (reports_of w1) (reports_of w2) (IsReady w2) t1 t2 (drop n octets) over
+        → Takes (reports_in (starting starts Stage.First w0)) (reports_in (starting starts1 Stage.Agreed w2)) (steps.GoesOn (starting starts1 Stage.Agreed w2)) t0 t2 octets over
     takes_agreed starts1 w2 t2 over s p =
-        subst (λ (x : List ℕ). Takes (reports_in (starting starts stage.First w0)) (reports_of w2) (IsReady w2) t0 t2 x over) (take-append-drop n octets)
-        (takes_behind (reports_in (starting starts stage.First w0)) (reports_of w1) (reports_of w2) (IsReady w2) t0 t1 t2 (take n octets) (drop n octets) s.lines over s.told
+        subst (λ (x : List ℕ). Takes (reports_in (starting starts Stage.First w0)) (reports_of w2) (IsReady w2) t0 t2 x over) (take-append-drop n octets)
+        (takes_behind (reports_in (starting starts Stage.First w0)) (reports_of w1) (reports_of w2) (IsReady w2) t0 t1 t2 (take n octets) (drop n octets) s.lines over s.told
         (λ later r q are.
         subst (λ (x : List ℕ). ReportedFrom starts x (behind s.lines r)) (append_assoc w0.held (take n octets) later) (s.settles.2 later r (AreOctets-back (take n octets) later are) q)) p)
 
   -- ---- where a stream ends
 
-  pub closes_none : (w : Walking Outcome) (told : List ℕ) → Waits w.held → starts None ≡ None → Closes (reports_in (starting starts stage.First w)) told told (Err fault.NoOpen)
+  pub closes_none : (w : Walking Outcome) (told : List ℕ) → Waits w.held → starts None ≡ None → Closes (reports_in (starting starts Stage.First w)) told told (Err ToolFault.NoOpen)
   closes_none w told waits e = record {
-    report = unagreed (end.Wait (length w.held));
-    reported = λ octets. subst (λ (x : List ℕ). ReportedFrom starts x (unagreed (end.Wait (length w.held)))) (sym (append-nil w.held)) (rw (part_first w.held waits, e, waits_part w.held waits) refl);
+    report = unagreed (End.Wait (length w.held));
+    reported = λ octets. subst (λ (x : List ℕ). ReportedFrom starts x (unagreed (End.Wait (length w.held)))) (sym (append-nil w.held)) (rw (part_first w.held waits, e, waits_part w.held waits) refl);
     none = refl;
     closes = (sym (append-nil told), refl);
   }
 
-pub closes_unagreed : {Outcome : Type 0} (starts : Starts Outcome) (w : Walking Outcome) (told : List ℕ) → Closes (reports_in (starting starts stage.Unagreed w)) told told (Err fault.NoOpen)
-closes_unagreed starts w told = record { report = unagreed end.Reset; reported = refl; none = refl; closes = (sym (append-nil told), refl) }
+pub closes_unagreed : {Outcome : Type 0} (starts : Starts Outcome) (w : Walking Outcome) (told : List ℕ) → Closes (reports_in (starting starts Stage.Unagreed w)) told told (Err ToolFault.NoOpen)
+closes_unagreed starts w told = record { report = unagreed End.Reset; reported = refl; none = refl; closes = (sym (append-nil told), refl) }
 
 -- an engine's answer has no words
 pub wordless : (reports : Reports) (hex : Bool) (io : Io) (answer : Result Tally ToolFault) → Answers reports hex io answer → without_words answer ≡ answer
 wordless reports hex io (Ok tally) a = refl
-wordless reports hex io (Err fault.Memory) a = refl
-wordless reports hex io (Err fault.Read) a = refl
-wordless reports hex io (Err fault.Write) a = refl
-wordless reports hex io (Err (fault.BadHex n)) a = refl
-wordless reports hex io (Err (fault.Script n)) a = refl
-wordless reports hex io (Err fault.Net) a = refl
-wordless reports hex io (Err (fault.Narrow n)) a = refl
-wordless reports hex io (Err (fault.Clean n stop.Unsaid)) a = refl
-wordless reports hex io (Err (fault.Clean n stop.Incomplete)) a = refl
-wordless reports hex io (Err (fault.Clean n (stop.At why))) a = absurd a.is_fault.0
-wordless reports hex io (Err fault.NoOpen) a = refl
+wordless reports hex io (Err ToolFault.Memory) a = refl
+wordless reports hex io (Err ToolFault.Read) a = refl
+wordless reports hex io (Err ToolFault.Write) a = refl
+wordless reports hex io (Err (ToolFault.BadHex n)) a = refl
+wordless reports hex io (Err (ToolFault.Script n)) a = refl
+wordless reports hex io (Err ToolFault.Net) a = refl
+wordless reports hex io (Err (ToolFault.Narrow n)) a = refl
+wordless reports hex io (Err (ToolFault.Clean n Stop.Unsaid)) a = refl
+wordless reports hex io (Err (ToolFault.Clean n Stop.Incomplete)) a = refl
+wordless reports hex io (Err (ToolFault.Clean n (Stop.At why))) a = absurd a.is_fault.0
+wordless reports hex io (Err ToolFault.NoOpen) a = refl
 
 -- ---- how a page's stream is read
 
@@ -291,21 +283,6 @@ module _ {P Outcome : Type 0} (fits : Context → Bool) (rules : P → Rules Out
   pub unknown : (o : Option (Bor (List ℕ))) (page : P) → is_some o ≡ true → from (option_map (λ t. t.now) o) page None ≡ None
   unknown None page is = absurd cc
   unknown (Some theirs) page is = refl
-
-  module _ (theirs : List ℕ) (old new : P) (m : Message) where
-    none_agreed : None ≡ agreed (open_in m.kind m.body) (first_open theirs) → from (Some theirs) old (Some m) ≡ None
-    none_agreed e = ap (λ (o : Option Context). option_map (λ ctx. start_of m (plan old (Some ctx))) (fit_of fits o)) (sym e)
-
-    -- both agree on a context, and the page has it where that will do
-    pub agrees_on : (ctx : Context) (b : Bool) → Some ctx ≡ agreed (open_in m.kind m.body) (first_open theirs) → b ≡ fits ctx → (b ≡ true → plan new None ≡ plan old (Some ctx))
-        → SettlesOn b (from (Some theirs) old (Some m)) (plan new None) m
-    agrees_on ctx true e is same =
-        ap (λ (o : Option Context). option_map (λ c. start_of m (plan old (Some c))) (fit_of fits o)) (sym e)
-        ∙ ap (λ (b : Bool). option_map (λ c. start_of m (plan old (Some c))) (if b then Some ctx else None)) (sym is)
-        ∙ ap (λ (p : Plan Outcome). Some (start_of m p)) (sym (same refl))
-    agrees_on ctx false e is same =
-        ap (λ (o : Option Context). option_map (λ c. start_of m (plan old (Some c))) (fit_of fits o)) (sym e)
-        ∙ ap (λ (b : Bool). option_map (λ c. start_of m (plan old (Some c))) (if b then Some ctx else None)) (sym is)
 
   -- no first message has a rule of its own: the stream is reported in the context that both agree on
   pub opened : (theirs : List ℕ) (page : P) → ((ctx : Context) (m : Message) → (plan page (Some ctx)).first m ≡ None) → (s : List ℕ) (r : Report)

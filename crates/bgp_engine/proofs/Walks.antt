@@ -1,26 +1,19 @@
 -- A walk over the messages of a stream is a hearer of octets, and what it comes to octet by octet is the report of the stream.
-use Rattle.bgp_wire.proofs.Std.{◌≡◌, ℕ, zero, suc, ◌+◌, ◌<◌, ◌≤◌, ◌^◌, Bool, true, false, List, [], ◌∷◌, ◌++◌, length, take, drop, Option, Some, None, option_map, Result, Ok, Err, refl, sym, ap, subst, ◌∙◌, append_assoc, arith, inl, inr, take-append-drop, cases_lt, take-append_seam, drop-append_seam}
-use Rattle.std.specs.Prelude.{if◌then◌else◌, is_none, is_some, not}
-use Rattle.std.proofs.lemmas.List.{append-nil, length-append, length-drop, length-take, drop-drop}
+use Rattle.bgp_engine.proofs.Prelude.{◌≡◌, ℕ, zero, suc, ◌+◌, ◌<◌, ◌≤◌, ◌^◌, Bool, true, false, List, [], ◌∷◌, ◌++◌, length, take, drop, Option, Some, None}
+use Rattle.bgp_engine.proofs.Prelude.{option_map, Result, Ok, Err, refl, sym, ap, subst, ◌∙◌, append_assoc, arith, inl, inr, take-append-drop, cases_lt}
+use Rattle.bgp_engine.proofs.Prelude.{take-append_seam, drop-append_seam, if◌then◌else◌, is_none, is_some, not, append-nil, length-append, length-drop}
+use Rattle.bgp_engine.proofs.Prelude.{length-take, drop-drop, AreOctets, AreOctets-nil, AreOctets-append, AreOctets-take, AreOctets-drop, End, HeadFault}
+use Rattle.bgp_engine.proofs.Prelude.{Message, octets_of, IsFrame, wanted, Waits, IsHeld, Done, IsContent, Judges, behind_feed}
+use Rattle.bgp_engine.proofs.Prelude.{by_octets, done_by, left_to_do, given, Pulls, Gives, Stops, head_of-append, length-IsFrame, wanted-append}
+use Rattle.bgp_engine.proofs.Prelude.{wanted-bounds, wanted-Stops, nothing_waits, gives_wait, gives_fault, gives_reset, gives_more, Class, Tally, ToolFault}
+use Rattle.bgp_engine.proofs.Prelude.{no_tally, Report, behind, IsOver, IsWaiting, Rules, messages_in, octets_at, counted, passed, total, rest_of, report_of}
+use Rattle.bgp_engine.proofs.Prelude.{IsReport, GoesOn, Rests, Takes, ClosesBy, Closes, Writes, WritesFault, IsAnswer, is_last, Walking, IsCounting, IsReady}
+use Rattle.bgp_engine.proofs.Prelude.{IsJudged, Hears, Moves, all_counts, closing, comes, end_by, ended_by, outcome, reported, reports_of, reset_if}
+use Rattle.bgp_engine.proofs.Prelude.{walker, walking}
 use Rattle.std.proofs.Math.Dec.{eqb-suc-zero}
-use Rattle.bgp_wire.specs.Prelude.{AreOctets}
-use Rattle.bgp_wire.proofs.OctetLemmas.{AreOctets-nil, AreOctets-append, AreOctets-take, AreOctets-drop}
-use Rattle.bgp_frame.specs.declared.end.End.{End}
-use Rattle.bgp_frame.specs.declared.fault.HeadFault.{HeadFault}
-use Rattle.bgp_frame.specs.Prelude.{Message, octets_of, IsFrame, wanted, Waits, IsHeld, Done, IsContent, Judges, PullsNext, IsFedAndJudged, behind_feed, by_feed, by_octets, done_by, left_to_do, given, Pulls, Gives, Stops}
-use Rattle.bgp_frame.specs.declared.end.End.TheVariants as end
 use Rattle.bgp_frame.specs.Hearing as hearing
-use Rattle.bgp_frame.proofs.FrameLemmas.{head_of-append, length-IsFrame, wanted-append, wanted-bounds, wanted-Stops}
 use Rattle.bgp_frame.proofs.Hearings as hearings
-use Rattle.bgp_frame.proofs.Hearings.{IsHearer, content_is, content_stops, taken_up}
-use Rattle.bgp_frame.proofs.Pulls.{nothing_waits}
-use Rattle.bgp_frame.proofs.Streams.{gives_wait, gives_fault, gives_reset, gives_more}
-use Rattle.bgp_engine.specs.declared.class.Class.{Class}
-use Rattle.bgp_engine.specs.declared.class.Class.TheVariants as class
-use Rattle.bgp_engine.specs.declared.tally.Tally.{Tally}
-use Rattle.bgp_engine.specs.declared.fault.ToolFault.{ToolFault}
-use Rattle.bgp_engine.specs.Prelude.{no_tally, Report, behind, IsOver, IsWaiting, Rules, messages_in, octets_at, counted, passed, total, rest_of, report_of, IsReport, GoesOn, Rests, Takes, ClosesBy, Closes, Writes, WritesFault, IsAnswer, is_last, Walking, IsCounting, IsReady, IsJudged, Hears, Moves, all_counts, closing, comes, end_by, ended_by, outcome, reported, reports_of, reset_if, room_of, walker, walking}
-use Rattle.bgp_engine.specs.declared.fault.ToolFault.TheVariants as fault
+use Rattle.bgp_frame.proofs.Hearings.{IsHearer, content_is, taken_up}
 
 pub is_hearer : {Outcome : Type 0} → IsHearer (walker {Outcome = Outcome})
 is_hearer = record { held_so = λ w held. refl; held_same = λ w. refl; held_last = λ w a b. refl; listens_so = λ w held. refl; emptied = λ w said. refl }
@@ -95,8 +88,8 @@ module _ {Outcome : Type 0} (rules : Rules Outcome) where
   module _ (n : ℕ) (shorter : (s : List ℕ) (place : ℕ) (tally : Tally) → length s < n → AreOctets s → HasReport place tally s) (place : ℕ) (tally : Tally) (held later : List ℕ) (can : IsHeld held) where
     report_message : (m : Message) (f : IsFrame m held) → length later < n → AreOctets later → (resets : Bool) → rules.judge.resets (rules.judge.of_message m) ≡ resets → HasReport place tally (held ++ later)
     report_message m f lt octets true is =
-        report_content place tally held later can (Ok m) f [] end.Reset (gives_reset Outcome rules.judge m held later f is)
-        (ap (λ (b : Bool). reported (by_octets walker (next place tally held later can (Ok m) f (reset_if b)) later)) is ∙ ap reported (none_heard place tally held later can (Ok m) f end.Reset))
+        report_content place tally held later can (Ok m) f [] End.Reset (gives_reset Outcome rules.judge m held later f is)
+        (ap (λ (b : Bool). reported (by_octets walker (next place tally held later can (Ok m) f (reset_if b)) later)) is ∙ ap reported (none_heard place tally held later can (Ok m) f End.Reset))
     report_message m f lt octets false on =
         let x = next place tally held later can (Ok m) f None in
         let q = shorter later x.place x.tally lt octets in
@@ -111,9 +104,9 @@ module _ {Outcome : Type 0} (rules : Rules Outcome) where
     report_front (inr faulty) lt octets =
         let f : HeadFault = faulty.1.0 in
         let long : 19 ≤ length (held ++ later) = omega (arith, faulty.0, length-append held later) in
-        report_content place tally held later can (Err f) (faulty.0, faulty.1.1) [] end.Head
+        report_content place tally held later can (Err f) (faulty.0, faulty.1.1) [] End.Head
         (gives_fault Outcome rules.judge (held ++ later) f long (head_of-append held later (omega (arith, faulty.0)) ∙ faulty.1.1))
-        (ap reported (none_heard place tally held later can (Err f) (faulty.0, faulty.1.1) end.Head))
+        (ap reported (none_heard place tally held later can (Err f) (faulty.0, faulty.1.1) End.Head))
 
   reports_within : (n : ℕ) (s : List ℕ) (place : ℕ) (tally : Tally) → length s < n → AreOctets s → HasReport place tally s
   reports_within zero s place tally lt octets = absurd (omega arith)
@@ -122,7 +115,7 @@ module _ {Outcome : Type 0} (rules : Rules Outcome) where
         | inl waits ↦
             let can : IsHeld s = record { octets = octets; within = omega (arith, waits) } in
             let none = hearings.front_by_octets walker is_hearer (front place tally) refl s nothing_waits can ∙ hearings.rests walker is_hearer (walking rules s place tally None) waits in
-            record { outcomes = []; end_of = end.Wait (length s); gives = gives_wait Outcome rules.judge s waits; told = ap reported none }
+            record { outcomes = []; end_of = End.Wait (length s); gives = gives_wait Outcome rules.judge s waits; told = ap reported none }
         | inr long ↦
             let held : List ℕ = take (wanted s) s in
             let bounds = wanted-bounds s in
@@ -151,9 +144,9 @@ passed-bound false n = omega arith
 
 -- a message is counted once among the messages and once by its class
 counted-bound : (t : Tally) (len : ℕ) (k : Class) → all_counts (counted t len k) ≤ all_counts t + 2
-counted-bound t len class.Took = omega (arith, messages_in-bound len)
-counted-bound t len class.Withdrawn = omega (arith, messages_in-bound len)
-counted-bound t len class.Reset = omega (arith, messages_in-bound len)
+counted-bound t len Class.Took = omega (arith, messages_in-bound len)
+counted-bound t len Class.Withdrawn = omega (arith, messages_in-bound len)
+counted-bound t len Class.Reset = omega (arith, messages_in-bound len)
 
 pub none_there : (o : Option End) → is_some o ≡ false → o ≡ None
 none_there None is = refl
@@ -161,15 +154,15 @@ none_there (Some e) is = absurd cc
 
 closes_by : (report : Report) (t0 t1 : List ℕ) (answer : Result Tally ToolFault) → IsAnswer answer → t1 ≡ t0 ++ report.last → report.answer ≡ answer → ClosesBy report t0 t1 answer
 closes_by report t0 t1 (Ok tally) is told same = (told, same)
-closes_by report t0 t1 (Err (fault.Narrow n)) is told same = (told, same)
-closes_by report t0 t1 (Err (fault.Clean n why)) is told same = (is, told, same)
-closes_by report t0 t1 (Err fault.NoOpen) is told same = absurd is
-closes_by report t0 t1 (Err fault.Memory) is told same = absurd is
-closes_by report t0 t1 (Err fault.Read) is told same = absurd is
-closes_by report t0 t1 (Err fault.Write) is told same = absurd is
-closes_by report t0 t1 (Err (fault.BadHex n)) is told same = absurd is
-closes_by report t0 t1 (Err (fault.Script n)) is told same = absurd is
-closes_by report t0 t1 (Err fault.Net) is told same = absurd is
+closes_by report t0 t1 (Err (ToolFault.Narrow n)) is told same = (told, same)
+closes_by report t0 t1 (Err (ToolFault.Clean n why)) is told same = (is, told, same)
+closes_by report t0 t1 (Err ToolFault.NoOpen) is told same = absurd is
+closes_by report t0 t1 (Err ToolFault.Memory) is told same = absurd is
+closes_by report t0 t1 (Err ToolFault.Read) is told same = absurd is
+closes_by report t0 t1 (Err ToolFault.Write) is told same = absurd is
+closes_by report t0 t1 (Err (ToolFault.BadHex n)) is told same = absurd is
+closes_by report t0 t1 (Err (ToolFault.Script n)) is told same = absurd is
+closes_by report t0 t1 (Err ToolFault.Net) is told same = absurd is
 
 module _ {Outcome : Type 0} where
   abbrev done : List ℕ → Walking Outcome → Done (Walking Outcome) ℕ
@@ -202,14 +195,14 @@ module _ {Outcome : Type 0} where
         )
 
     pub judges_fault : (f : HeadFault) → IsContent (Err f) pulled → WritesFault w.rules t0 t1 w.place pulled f
-        → IsJudged w (walking w.rules [] w.place (counted w.tally 0 class.Reset) (Some end.Head)) t0 t1 octets (Some n)
+        → IsJudged w (walking w.rules [] w.place (counted w.tally 0 Class.Reset) (Some End.Head)) t0 t1 octets (Some n)
     judges_fault f faulty writes =
         let o : Outcome = w.rules.judge.of_fault f in
         let stays : w.place ≡ w.place + passed w.rules (0, o) = omega (arith, passed-bound (w.rules.judge.resets o) 0) in (
           w.rules.line w.place 0 pulled o,
           record {
             pulls = pulls;
-            next = record { up = ap is_none unended; what = Err f; is_held = faulty; does = refl; leaves = rw writes.counts (ap (λ (p : ℕ). walking w.rules [] p (counted w.tally 0 class.Reset) (Some end.Head)) stays) };
+            next = record { up = ap is_none unended; what = Err f; is_held = faulty; does = refl; leaves = rw writes.counts (ap (λ (p : ℕ). walking w.rules [] p (counted w.tally 0 Class.Reset) (Some End.Head)) stays) };
           },
           writes.told,
         )
@@ -377,15 +370,12 @@ module _ {Outcome : Type 0} where
         };
       }
 
-  pub room_moves : (old new : Walking Outcome) (t0 t1 octets rest : List ℕ) → Moves old new t0 t1 octets rest → room_of old ≤ room_of new + length octets
-  room_moves old new t0 t1 octets rest p = omega (arith, p.count)
-
   pub walk_total : (w : Walking Outcome) (later : List ℕ) → AreOctets later → (r : Report) × reports_of w later r
   walk_total w later octets = (reported (left_to_do walker w later), refl)
 
   -- ---- where a stream ends
 
-  pub some_closing : (w : Walking Outcome) (t0 t1 : List ℕ) → IsReady w → Closes (reports_of w) t0 t1 (Err fault.Memory)
+  pub some_closing : (w : Walking Outcome) (t0 t1 : List ℕ) → IsReady w → Closes (reports_of w) t0 t1 (Err ToolFault.Memory)
   some_closing w t0 t1 ready = record { report = closing w; reported = ap reported (sym (waits_still w ready.waits)); none = refl; closes = tt }
 
   pub closes : (w : Walking Outcome) (e : End) (t0 t1 : List ℕ) (answer : Result Tally ToolFault) → IsReady w → end_by w.ended (length w.held) ≡ e → IsAnswer answer
@@ -411,6 +401,6 @@ module _ {Outcome : Type 0} where
 
 -- nothing is written of octets that wait where the stream is over
 pub none_wait : {Outcome : Type 0} (rules : Rules Outcome) (held : List ℕ) (e : End) → IsOver e → rest_of rules held e ≡ []
-none_wait rules held end.Reset over = refl
-none_wait rules held end.Head over = refl
-none_wait rules held (end.Wait n) over = absurd over
+none_wait rules held End.Reset over = refl
+none_wait rules held End.Head over = refl
+none_wait rules held (End.Wait n) over = absurd over

@@ -1,20 +1,13 @@
 -- A text that is written part by part.
-use Rattle.bgp_wire.proofs.Std.{◌≡◌, ℕ, List, [], ◌++◌, take, drop, Option, Some, None, Result, Ok, Err, refl, sym, ap, subst, ◌∙◌, append_assoc, take-append-drop}
+use Rattle.bgp_engine.proofs.Prelude.{◌≡◌, ℕ, List, [], ◌++◌, take, drop, Option, Some, None, Result, Ok, Err, refl, sym, ap, ◌∙◌, append_assoc}
+use Rattle.bgp_engine.proofs.Prelude.{take-append-drop, Keeps, Appends, WriteAppends, Appends-trans, append-nil}
 use Rattle.std.specs.Result.{result_unwrap_or}
-use Rattle.std.specs.Io.KnownBytes.{Keeps, Appends, WriteAppends}
-use Rattle.std.proofs.KnownBytes.{Appends-nil, Appends-trans}
-use Rattle.std.proofs.lemmas.List.{append-nil}
-use Rattle.bgp_engine.specs.declared.fault.ToolFault.TheVariants.{Write}
-use Rattle.bgp_engine.specs.Prelude.{FailsWithin}
 
 -- what was written, and what is left of the text
 pub record HasWritten (old new : Option (List ℕ)) (text rest : List ℕ) : Type 0 where
   pub front : List ℕ
   pub parts : text ≡ front ++ rest
   pub appends : Appends old new front
-
-pub HasWritten-none : (old : Option (List ℕ)) (text : List ℕ) → HasWritten old old text text
-HasWritten-none old text = record { front = []; parts = refl; appends = Appends-nil old }
 
 Keeps-appends : (old new : Option (List ℕ)) → Keeps old new → Appends old new []
 Keeps-appends None new h = tt
@@ -32,11 +25,3 @@ HasWritten-more old mid new text rest n h more = record {
   parts = h.parts ∙ ap (λ (x : List ℕ). h.front ++ x) (sym (take-append-drop n rest)) ∙ sym (append_assoc h.front (take n rest) (drop n rest));
   appends = Appends-trans old mid new h.front (take n rest) h.appends more;
 }
-
-pub HasWritten-all : (old new : Option (List ℕ)) (text rest : List ℕ) → HasWritten old new text rest → rest ≡ [] → Appends old new text
-HasWritten-all old new text rest h none = subst (Appends old new) (sym (h.parts ∙ ap (λ (x : List ℕ). h.front ++ x) none ∙ append-nil h.front)) h.appends
-
-pub HasWritten-failed : (old mid new : Option (List ℕ)) (text rest : List ℕ) (n : ℕ) → HasWritten old mid text rest → Appends mid new (take n rest) → FailsWithin old new text Write
-HasWritten-failed old mid new text rest n h more =
-    let all = HasWritten-more old mid new text rest n h more in
-    record { is_write = refl; wrote = record { front = all.front; is_front = (drop n rest, all.parts); appends = all.appends } }

@@ -1,10 +1,7 @@
 -- What `check` prints.
 use Rattle.std.specs.Prelude.{ℕ, List, [], ◌∷◌, ◌++◌, codes, Ok}
+use Rattle.bgp_engine.specs.Below.{Context, Outcome, stream_rules, end_line}
 use Rattle.std.specs.Fmt.{decimal}
-use Rattle.bgp_open.specs.declared.context.Context.{Context}
-use Rattle.bgp_msg.specs.declared.outcome.Outcome.{Outcome}
-use Rattle.bgp_msg.specs.Prelude.{stream_rules}
-use Rattle.bgp_text.specs.End.{end_line}
 use Rattle.bgp_engine.specs.declared.tally.Tally.{Tally}
 use Rattle.bgp_engine.specs.Rules.{Rules, IsReport}
 use Rattle.bgp_engine.specs.Run.{Reports}

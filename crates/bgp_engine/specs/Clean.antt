@@ -1,21 +1,11 @@
 -- What `clean` writes: the messages of a stream as they are handed on, up to the first of which nothing is (RFC 7606).
 use Rattle.std.specs.Prelude.{ℕ, Bool, true, false, ◌==◌, List, [], Option, None, Some, option_map, is_err, Result, Ok, Err, if◌then◌else◌}
-use Rattle.std.specs.Result.{result_ok}
-use Rattle.bgp_frame.specs.declared.end.End.{End}
-use Rattle.bgp_frame.specs.declared.fault.HeadFault.{HeadFault}
-use Rattle.bgp_frame.specs.declared.kind.Kind.{Kind}
-use Rattle.bgp_frame.specs.Prelude.{head_notification}
-use Rattle.bgp_frame.specs.declared.end.End.TheVariants as end
-use Rattle.bgp_frame.specs.declared.kind.Kind.TheVariants as kind
+use Rattle.bgp_engine.specs.Below.{result_ok}
+use Rattle.bgp_engine.specs.Below.{End, HeadFault, Kind, head_notification, Context, canonical, CleanFault}
 use Rattle.bgp_frame.specs.Frame as frame
-use Rattle.bgp_open.specs.declared.context.Context.{Context}
 use Rattle.bgp_msg.specs.declared.message.Message.{Message}
-use Rattle.bgp_msg.specs.Prelude.{canonical}
-use Rattle.bgp_clean.specs.declared.fault.CleanFault.{CleanFault}
 use Rattle.bgp_clean.specs.Prelude.{cleaned}
-use Rattle.bgp_clean.specs.declared.fault.CleanFault.TheVariants as clean
 use Rattle.bgp_engine.specs.declared.class.Class.{Class}
-use Rattle.bgp_engine.specs.declared.class.Class.TheVariants as class
 use Rattle.bgp_engine.specs.declared.fault.Stop.TheVariants as stop
 use Rattle.bgp_engine.specs.declared.fault.ToolFault.{ToolFault}
 use Rattle.bgp_engine.specs.declared.fault.ToolFault.TheVariants.{Clean}
@@ -32,17 +22,17 @@ clean_line ctx (Ok n) = canonical ctx n
 clean_line ctx (Err f) = []
 
 abbrev pub clean_class : Result Message CleanFault → Class
-clean_class (Ok n) = class.Took
-clean_class (Err f) = class.Reset
+clean_class (Ok n) = Class.Took
+clean_class (Err f) = Class.Reset
 
 -- the offset where it ends before the stream does
 abbrev pub clean_answer : End → Tally → ℕ → Result Tally ToolFault
-clean_answer end.Reset tally place = Err (Clean place stop.Unsaid)
-clean_answer end.Head tally place = Err (Clean place stop.Unsaid)
-clean_answer (end.Wait n) tally place = if n == 0 then Ok tally else Err (Clean place stop.Incomplete)
+clean_answer End.Reset tally place = Err (Clean place stop.Unsaid)
+clean_answer End.Head tally place = Err (Clean place stop.Unsaid)
+clean_answer (End.Wait n) tally place = if n == 0 then Ok tally else Err (Clean place stop.Incomplete)
 
 abbrev pub fault_of_head : HeadFault → Result Message CleanFault
-fault_of_head f = Err (clean.Reset (head_notification f).code (head_notification f).subcode)
+fault_of_head f = Err (CleanFault.Reset (head_notification f).code (head_notification f).subcode)
 
 -- of the messages behind the first
 abbrev pub clean_rules : Context → (ℕ → Bool) → Rules (Result Message CleanFault)
@@ -57,7 +47,7 @@ clean_rules ctx drops = record {
 
 -- The first message is handed on by itself where it is an OPEN that is: any other message is handed on wherever it stands
 abbrev pub first_line : Context → (ℕ → Bool) → frame.Message → Kind → Option (List ℕ)
-first_line ctx drops m kind.Open = option_map (canonical ctx) (result_ok (cleaned ctx drops true m))
+first_line ctx drops m Kind.Open = option_map (canonical ctx) (result_ok (cleaned ctx drops true m))
 first_line ctx drops m _ = None
 
 abbrev pub first_of : Context → (ℕ → Bool) → Option frame.Message → Option (List ℕ)

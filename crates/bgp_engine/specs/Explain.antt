@@ -1,9 +1,6 @@
 -- What `explain` prints.
 use Rattle.std.specs.Prelude.{ℕ, Bool, List, [], Ok, if◌then◌else◌}
-use Rattle.bgp_open.specs.declared.context.Context.{Context}
-use Rattle.bgp_msg.specs.declared.outcome.Outcome.{Outcome}
-use Rattle.bgp_text.specs.End.{end_line}
-use Rattle.bgp_text.specs.Explained.{explained_lines}
+use Rattle.bgp_engine.specs.Below.{Context, Outcome, end_line, explained_lines}
 use Rattle.bgp_engine.specs.Heard.{Heard, heard_in, place_in}
 use Rattle.bgp_engine.specs.Rules.{Rules, IsReport}
 use Rattle.bgp_engine.specs.Run.{Reports}

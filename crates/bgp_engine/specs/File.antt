@@ -1,12 +1,8 @@
 -- The OPEN that octets begin with. An OPEN is judged alike in every context.
 use Rattle.std.specs.Prelude.{ℕ, Bool, nat_lt, List, length, drop, take, Option, None, Some, option_map, Result, Ok, Err, if◌then◌else◌}
-use Rattle.std.specs.Result.{result_ok}
-use Rattle.bgp_frame.specs.declared.kind.Kind.{Kind}
-use Rattle.bgp_frame.specs.Prelude.{Message, wanted, head_of}
-use Rattle.bgp_frame.specs.declared.kind.Kind.TheVariants as kind
+use Rattle.bgp_engine.specs.Below.{result_ok, Kind}
+use Rattle.bgp_engine.specs.Below.{Message, wanted, head_of, Open, reading_of}
 use Rattle.bgp_open.specs.declared.fault.OpenFault.{OpenFault}
-use Rattle.bgp_open.specs.declared.message.Open.{Open}
-use Rattle.bgp_open.specs.Prelude.{reading_of}
 
 -- the first message isn't whole
 abbrev pub is_part : List ℕ → Bool
@@ -24,10 +20,10 @@ open_by (Err fault) = None
 
 -- a message of this kind and body is an OPEN that is taken
 abbrev pub open_in : Kind → List ℕ → Option Open
-open_in kind.Open body = open_by (reading_of body)
-open_in kind.Update body = None
-open_in kind.Notification body = None
-open_in kind.Keepalive body = None
+open_in Kind.Open body = open_by (reading_of body)
+open_in Kind.Update body = None
+open_in Kind.Notification body = None
+open_in Kind.Keepalive body = None
 
 abbrev pub open_at : Option Message → Option Open
 open_at None = None

@@ -1,6 +1,6 @@
 -- What an engine makes of a stream whose first message it takes by a rule of its own.
 use Rattle.std.specs.Prelude.{◌≡◌, ℕ, List, drop, length, Option, None, Some}
-use Rattle.bgp_frame.specs.Prelude.{Message, octets_of}
+use Rattle.bgp_engine.specs.Below.{Message, octets_of}
 use Rattle.bgp_engine.specs.declared.class.Class.TheVariants as class
 use Rattle.bgp_engine.specs.File.{first_message}
 use Rattle.bgp_engine.specs.Opens.{unagreed, unagreed_end}

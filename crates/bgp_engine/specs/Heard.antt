@@ -1,12 +1,6 @@
 -- What is printed of: a message, or a header with a fault, and what it comes to.
-use Rattle.std.specs.Prelude.{List, ℕ, Option, Some, Result, Ok, Err}
-use Rattle.bgp_frame.specs.declared.fault.HeadFault.{HeadFault}
-use Rattle.bgp_frame.specs.Prelude.{Message, StreamRules}
-use Rattle.bgp_open.specs.declared.context.Context.{Context}
-use Rattle.bgp_msg.specs.declared.outcome.Outcome.{Outcome}
-use Rattle.bgp_msg.specs.Prelude.{is_reset, of_fault, out_of}
-use Rattle.bgp_fields.specs.declared.field.Span.{Span}
-use Rattle.bgp_fields.specs.Prelude.{header_place, reset_place}
+use Rattle.bgp_engine.specs.Below.{List, ℕ, Option, Some, Result, Ok, Err, HeadFault, Message, StreamRules, Context, Outcome, is_reset, of_fault, out_of}
+use Rattle.bgp_engine.specs.Below.{Span, header_place, reset_place}
 
 -- a message or a header with a fault, and its outcome
 pub record Heard : Type 0 where

@@ -1,4 +1,5 @@
 -- What the engines read, write and count.
+pub mod Below
 pub mod Tally
 pub mod HexText
 pub mod Output

@@ -1,18 +1,9 @@
 -- What `narrow` writes: the messages of a session with AS numbers of four octets, as a speaker with two octets is told them (RFC 6793).
 use Rattle.std.specs.Prelude.{ℕ, false, not, ◌&&◌, ◌==◌, List, [], Option, None, Some, is_none, unwrap_or, Result, Ok, Err, if◌then◌else◌}
-use Rattle.bgp_frame.specs.declared.end.End.{End}
-use Rattle.bgp_frame.specs.Prelude.{octets_of}
-use Rattle.bgp_frame.specs.declared.end.End.TheVariants as end
+use Rattle.bgp_engine.specs.Below.{End, octets_of, Context, narrowed_update, with_as4, Outcome, out_of, canonical, is_valid, is_too_long}
 use Rattle.bgp_frame.specs.Frame as frame
-use Rattle.bgp_open.specs.declared.context.Context.{Context}
-use Rattle.bgp_update.specs.Prelude.{narrowed_update, with_as4}
 use Rattle.bgp_msg.specs.declared.message.Message.{Message}
-use Rattle.bgp_msg.specs.declared.outcome.Outcome.{Outcome}
-use Rattle.bgp_msg.specs.Prelude.{out_of, canonical, is_valid, is_too_long}
-use Rattle.bgp_msg.specs.declared.message.Message.TheVariants as message
-use Rattle.bgp_msg.specs.declared.outcome.Outcome.TheVariants as outcome
 use Rattle.bgp_engine.specs.declared.class.Class.{Class}
-use Rattle.bgp_engine.specs.declared.class.Class.TheVariants as class
 use Rattle.bgp_engine.specs.declared.fault.ToolFault.{ToolFault}
 use Rattle.bgp_engine.specs.declared.fault.ToolFault.TheVariants.{Narrow}
 use Rattle.bgp_engine.specs.declared.tally.Tally.{Tally}
@@ -26,26 +17,26 @@ written_in ctx m = if is_valid ctx m && not (is_too_long ctx m) then Some (canon
 
 -- an UPDATE is narrowed, and every other message goes on octet for octet
 abbrev pub narrowed_message : Context → frame.Message → Message → Option (List ℕ)
-narrowed_message ctx m (message.Update u) = written_in (with_as4 false ctx) (message.Update (narrowed_update u))
-narrowed_message ctx m (message.Open o) = Some (octets_of m)
-narrowed_message ctx m (message.Notification n) = Some (octets_of m)
-narrowed_message ctx m message.Keepalive = Some (octets_of m)
+narrowed_message ctx m (Message.Update u) = written_in (with_as4 false ctx) (Message.Update (narrowed_update u))
+narrowed_message ctx m (Message.Open o) = Some (octets_of m)
+narrowed_message ctx m (Message.Notification n) = Some (octets_of m)
+narrowed_message ctx m Message.Keepalive = Some (octets_of m)
 
 -- only a message that is taken can be narrowed
 abbrev pub narrowed_outcome : Context → frame.Message → Outcome → Option (List ℕ)
-narrowed_outcome ctx m (outcome.Took said notes) = narrowed_message ctx m said
-narrowed_outcome ctx m (outcome.Withdraw routes notes) = None
-narrowed_outcome ctx m (outcome.Reset n) = None
+narrowed_outcome ctx m (Outcome.Took said notes) = narrowed_message ctx m said
+narrowed_outcome ctx m (Outcome.Withdraw routes notes) = None
+narrowed_outcome ctx m (Outcome.Reset n) = None
 
 abbrev pub narrowed_class : Option (List ℕ) → Class
-narrowed_class None = class.Reset
-narrowed_class (Some octets) = class.Took
+narrowed_class None = Class.Reset
+narrowed_class (Some octets) = Class.Took
 
 -- the place where it can't go on, where there is one
 abbrev pub narrow_answer : End → Tally → ℕ → Result Tally ToolFault
-narrow_answer end.Reset tally place = Err (Narrow place)
-narrow_answer end.Head tally place = Err (Narrow place)
-narrow_answer (end.Wait n) tally place = if n == 0 then Ok tally else Err (Narrow place)
+narrow_answer End.Reset tally place = Err (Narrow place)
+narrow_answer End.Head tally place = Err (Narrow place)
+narrow_answer (End.Wait n) tally place = if n == 0 then Ok tally else Err (Narrow place)
 
 -- it stops at the first message that can't be narrowed, and at a header's fault
 abbrev pub narrow_rules : Context → Rules (Option (List ℕ))

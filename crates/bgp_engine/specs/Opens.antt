@@ -1,8 +1,6 @@
 -- What an engine makes of a stream in the context that its first OPEN and that of the other direction agree on.
 use Rattle.std.specs.Prelude.{◌≡◌, ℕ, Bool, true, List, [], length, Option, None, Some, Err, if◌then◌else◌}
-use Rattle.bgp_frame.specs.declared.end.End.{End}
-use Rattle.bgp_frame.specs.declared.end.End.TheVariants as end
-use Rattle.bgp_open.specs.declared.context.Context.{Context}
+use Rattle.bgp_engine.specs.Below.{End, Context}
 use Rattle.bgp_engine.specs.declared.fault.ToolFault.TheVariants.{NoOpen}
 use Rattle.bgp_engine.specs.Agree.{agreed}
 use Rattle.bgp_engine.specs.Check.{Checked}
@@ -19,7 +17,7 @@ unagreed e = record { lines = []; last = []; end_of = e; answer = Err NoOpen }
 
 -- the octets of the first message wait, or it is there, and whatever follows it isn't read
 abbrev pub unagreed_end : List ℕ → End
-unagreed_end stream = if is_part stream then end.Wait (length stream) else end.Reset
+unagreed_end stream = if is_part stream then End.Wait (length stream) else End.Reset
 
 abbrev pub ReportedIn : Option Context → (Context → Reports) → List ℕ → Report → Type 0
 ReportedIn (Some ctx) reports stream r = reports ctx stream r

@@ -1,11 +1,6 @@
 -- What is printed of a stream, in each style.
-use Rattle.std.specs.Prelude.{ℕ, Bool, true, false, List}
-use Rattle.bgp_open.specs.declared.context.Context.{Context}
-use Rattle.bgp_text.specs.End.{end_line}
-use Rattle.bgp_text.specs.JsonEnd.{end_json}
-use Rattle.bgp_text.specs.JsonOutcome.{outcome_json}
+use Rattle.bgp_engine.specs.Below.{ℕ, Bool, true, false, List, Context, end_line, end_json, outcome_json}
 use Rattle.bgp_engine.specs.declared.printing.Style.{Style}
-use Rattle.bgp_engine.specs.declared.printing.Style.TheVariants as style
 use Rattle.bgp_engine.specs.Explain.{Explained}
 use Rattle.bgp_engine.specs.OnlyFaults.{is_fault, where_fault}
 use Rattle.bgp_engine.specs.Opens.{ReportedBy}
@@ -17,12 +12,12 @@ use Rattle.bgp_engine.specs.Tally.{no_tally}
 
 -- what is printed of a stream in a style: of all messages, or of those alone that aren't accepted without a note and of NOTIFICATIONs
 abbrev pub Printed : Style → Bool → Context → Reports
-Printed style.Lines false = Shown
-Printed style.Lines true = λ ctx. IsReport (printed_rules (where_fault shown_lines) end_line ctx) 0 no_tally
-Printed style.Json false = ShownJson
-Printed style.Json true = λ ctx. IsReport (printed_rules (where_fault outcome_json) end_json ctx) 0 no_tally
-Printed style.Explained false = Explained (λ _. true)
-Printed style.Explained true = Explained is_fault
+Printed Style.Lines false = Shown
+Printed Style.Lines true = λ ctx. IsReport (printed_rules (where_fault shown_lines) end_line ctx) 0 no_tally
+Printed Style.Json false = ShownJson
+Printed Style.Json true = λ ctx. IsReport (printed_rules (where_fault outcome_json) end_json ctx) 0 no_tally
+Printed Style.Explained false = Explained (λ _. true)
+Printed Style.Explained true = Explained is_fault
 
 -- the same in the context that both OPENs agree on
 abbrev pub PrintedBy : Style → Bool → List ℕ → Reports

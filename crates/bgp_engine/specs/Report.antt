@@ -1,10 +1,8 @@
 -- What an engine writes of a stream of octets, and what it answers.
 use Rattle.std.specs.Prelude.{ℕ, List, ◌++◌, Result}
-use Rattle.bgp_frame.specs.declared.end.End.{End}
-use Rattle.bgp_frame.specs.declared.end.End.TheVariants as end
+use Rattle.bgp_engine.specs.Below.{End}
 use Rattle.bgp_engine.specs.declared.tally.Tally.{Tally}
 use Rattle.bgp_engine.specs.declared.fault.Stop.{Stop}
-use Rattle.bgp_engine.specs.declared.fault.Stop.TheVariants as stop
 use Rattle.bgp_engine.specs.declared.fault.ToolFault.{ToolFault}
 
 -- what is written of the stream's messages, what is written last, how the stream ends, and the answer
@@ -20,17 +18,17 @@ behind lines r = record { lines = lines ++ r.lines; last = r.last; end_of = r.en
 
 -- nothing is said of why a cleaned stream ends before its stream does, but that a message is incomplete: who answers adds the words
 abbrev pub IsWordless : Stop → Type 0
-IsWordless stop.Unsaid = Unit {0}
-IsWordless stop.Incomplete = Unit {0}
-IsWordless (stop.At why) = ⊥
+IsWordless Stop.Unsaid = Unit {0}
+IsWordless Stop.Incomplete = Unit {0}
+IsWordless (Stop.At why) = ⊥
 
 -- the stream goes no further, whatever follows
 abbrev pub IsOver : End → Type 0
-IsOver end.Reset = Unit {0}
-IsOver end.Head = Unit {0}
-IsOver (end.Wait n) = ⊥
+IsOver End.Reset = Unit {0}
+IsOver End.Head = Unit {0}
+IsOver (End.Wait n) = ⊥
 
 abbrev pub IsWaiting : End → Type 0
-IsWaiting end.Reset = ⊥
-IsWaiting end.Head = ⊥
-IsWaiting (end.Wait n) = Unit {0}
+IsWaiting End.Reset = ⊥
+IsWaiting End.Head = ⊥
+IsWaiting (End.Wait n) = Unit {0}

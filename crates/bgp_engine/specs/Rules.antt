@@ -1,10 +1,7 @@
 -- What an engine makes of the messages of a stream.
 use Rattle.std.specs.Prelude.{◌≡◌, ℕ, ◌+◌, ◌==◌, List, [], ◌∷◌, ◌++◌, take, drop, Result, if◌then◌else◌}
-use Rattle.bgp_frame.specs.declared.end.End.{End}
-use Rattle.bgp_frame.specs.Prelude.{StreamRules, Gives}
-use Rattle.bgp_frame.specs.declared.end.End.TheVariants as end
+use Rattle.bgp_engine.specs.Below.{End, StreamRules, Gives}
 use Rattle.bgp_engine.specs.declared.class.Class.{Class}
-use Rattle.bgp_engine.specs.declared.class.Class.TheVariants as class
 use Rattle.bgp_engine.specs.declared.tally.Tally.{Tally}
 use Rattle.bgp_engine.specs.declared.fault.ToolFault.{ToolFault}
 use Rattle.bgp_engine.specs.Report.{Report}
@@ -30,9 +27,9 @@ abbrev pub octets_at : ℕ → List ℕ → List ℕ
 octets_at len stream = take (if len == 0 then 19 else len) stream
 
 abbrev pub counted : Tally → ℕ → Class → Tally
-counted tally len class.Took = record tally { messages = tally.messages + messages_in len; took = tally.took + 1 }
-counted tally len class.Withdrawn = record tally { messages = tally.messages + messages_in len; withdrawn = tally.withdrawn + 1 }
-counted tally len class.Reset = record tally { messages = tally.messages + messages_in len; resets = tally.resets + 1 }
+counted tally len Class.Took = record tally { messages = tally.messages + messages_in len; took = tally.took + 1 }
+counted tally len Class.Withdrawn = record tally { messages = tally.messages + messages_in len; withdrawn = tally.withdrawn + 1 }
+counted tally len Class.Reset = record tally { messages = tally.messages + messages_in len; resets = tally.resets + 1 }
 
 module _ {Outcome : Type 0} (rules : Rules Outcome) where
   -- the octets of an outcome that lets the stream go on
@@ -55,9 +52,9 @@ module _ {Outcome : Type 0} (rules : Rules Outcome) where
 
   -- what is written of the octets that wait
   abbrev pub rest_of : List ℕ → End → List ℕ
-  rest_of waiting end.Reset = []
-  rest_of waiting end.Head = []
-  rest_of waiting (end.Wait n) = rules.rest waiting
+  rest_of waiting End.Reset = []
+  rest_of waiting End.Head = []
+  rest_of waiting (End.Wait n) = rules.rest waiting
 
   -- the report of a stream behind what was counted before, from its place on
   abbrev pub report_of : ℕ → Tally → List ℕ → List (ℕ × Outcome) → End → Report

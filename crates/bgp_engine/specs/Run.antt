@@ -1,10 +1,9 @@
 -- What an engine reads, writes and answers.
 use Rattle.std.specs.Prelude.{◌≡◌, ◌⊎◌, ℕ, Bool, true, false, List, ◌++◌, Option, None, Some, Result, Ok, Err, MatchResult}
-use Rattle.std.specs.Io.KnownBytes.{Consumes, Appends, IsAtEnd}
-use Rattle.bgp_frame.specs.declared.end.End.{End}
+use Rattle.bgp_engine.specs.Below.{Consumes, Appends, IsAtEnd}
+use Rattle.bgp_engine.specs.Below.{End}
 use Rattle.bgp_engine.specs.declared.tally.Tally.{Tally}
 use Rattle.bgp_engine.specs.declared.fault.ToolFault.{ToolFault}
-use Rattle.bgp_engine.specs.declared.fault.ToolFault.TheVariants as fault
 use Rattle.bgp_engine.specs.HexText.{spelled, bad_from}
 use Rattle.bgp_engine.specs.Output.{IsFront}
 use Rattle.bgp_engine.specs.Report.{Report, IsOver, IsWaiting, IsWordless}
@@ -59,18 +58,18 @@ pub record IsBadAt (hex : Bool) (text : List ℕ) (reader_new : Option (List ℕ
 -- what each fault says of the text, of its stream's report, and of what was written: a front of the lines; of all where the writer
 -- failed; all of it where the stream can't be narrowed or cleaned, or has no context, and then there is nothing to write
 abbrev pub IsFaultOf : Bool → List ℕ → Option (List ℕ) → Report → List ℕ → ToolFault → Type 0
-IsFaultOf hex text reader_new report written fault.Memory = IsFront written report.lines
-IsFaultOf hex text reader_new report written fault.Read = IsFront written report.lines
-IsFaultOf hex text reader_new report written fault.Write = IsFront written (report.lines ++ report.last)
-IsFaultOf hex text reader_new report written (fault.BadHex n) = (written ≡ report.lines) × IsBadAt hex text reader_new report.end_of n
-IsFaultOf hex text reader_new report written (fault.Narrow n) =
-    (written ≡ report.lines ++ report.last) × (report.answer ≡ Err (fault.Narrow n)) × IsAllRead hex text reader_new report.end_of
-IsFaultOf hex text reader_new report written (fault.Clean n why) =
-    IsWordless why × (written ≡ report.lines ++ report.last) × (report.answer ≡ Err (fault.Clean n why)) × IsAllRead hex text reader_new report.end_of
-IsFaultOf hex text reader_new report written fault.NoOpen =
-    (written ≡ report.lines ++ report.last) × (report.answer ≡ Err fault.NoOpen) × IsAllRead hex text reader_new report.end_of
-IsFaultOf hex text reader_new report written (fault.Script n) = ⊥
-IsFaultOf hex text reader_new report written fault.Net = ⊥
+IsFaultOf hex text reader_new report written ToolFault.Memory = IsFront written report.lines
+IsFaultOf hex text reader_new report written ToolFault.Read = IsFront written report.lines
+IsFaultOf hex text reader_new report written ToolFault.Write = IsFront written (report.lines ++ report.last)
+IsFaultOf hex text reader_new report written (ToolFault.BadHex n) = (written ≡ report.lines) × IsBadAt hex text reader_new report.end_of n
+IsFaultOf hex text reader_new report written (ToolFault.Narrow n) =
+    (written ≡ report.lines ++ report.last) × (report.answer ≡ Err (ToolFault.Narrow n)) × IsAllRead hex text reader_new report.end_of
+IsFaultOf hex text reader_new report written (ToolFault.Clean n why) =
+    IsWordless why × (written ≡ report.lines ++ report.last) × (report.answer ≡ Err (ToolFault.Clean n why)) × IsAllRead hex text reader_new report.end_of
+IsFaultOf hex text reader_new report written ToolFault.NoOpen =
+    (written ≡ report.lines ++ report.last) × (report.answer ≡ Err ToolFault.NoOpen) × IsAllRead hex text reader_new report.end_of
+IsFaultOf hex text reader_new report written (ToolFault.Script n) = ⊥
+IsFaultOf hex text reader_new report written ToolFault.Net = ⊥
 
 -- A text was read, and what was written is of the report of its stream.
 pub record Fails (reports : Reports) (hex : Bool) (io : Io) (f : ToolFault) : Type 0 where

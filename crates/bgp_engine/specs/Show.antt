@@ -1,14 +1,7 @@
 -- What `show` prints.
-use Rattle.std.specs.Prelude.{ℕ, List, [], Option, Ok}
-use Rattle.bgp_frame.specs.declared.end.End.{End}
-use Rattle.bgp_open.specs.declared.context.Context.{Context}
-use Rattle.bgp_msg.specs.declared.outcome.Outcome.{Outcome}
-use Rattle.bgp_msg.specs.declared.outcome.Outcome.TheVariants as outcome
-use Rattle.bgp_fields.specs.declared.field.Span.{Span}
+use Rattle.bgp_engine.specs.Below.{ℕ, List, [], Option, Ok, End, Context, Outcome, Span, end_line}
 use Rattle.bgp_text.specs.Outcome.{outcome_lines}
-use Rattle.bgp_text.specs.End.{end_line}
 use Rattle.bgp_engine.specs.declared.class.Class.{Class}
-use Rattle.bgp_engine.specs.declared.class.Class.TheVariants as class
 use Rattle.bgp_engine.specs.Heard.{Heard, heard_in, place_in}
 use Rattle.bgp_engine.specs.Rules.{Rules, IsReport}
 use Rattle.bgp_engine.specs.Run.{Reports}
@@ -16,9 +9,9 @@ use Rattle.bgp_engine.specs.Tally.{no_tally}
 
 -- what an outcome counts as
 abbrev pub class_of : Outcome → Class
-class_of (outcome.Took m notes) = class.Took
-class_of (outcome.Withdraw routes notes) = class.Withdrawn
-class_of (outcome.Reset n) = class.Reset
+class_of (Outcome.Took m notes) = Class.Took
+class_of (Outcome.Withdraw routes notes) = Class.Withdrawn
+class_of (Outcome.Reset n) = Class.Reset
 
 -- the text of each outcome, with the octets for which it is a reset, and behind them that of the end
 abbrev pub printed_rules : (ℕ → ℕ → Option Span → Outcome → List ℕ) → (End → List ℕ) → Context → Rules Heard

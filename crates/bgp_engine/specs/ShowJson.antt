@@ -1,7 +1,5 @@
 -- What `show --json` prints.
-use Rattle.bgp_open.specs.declared.context.Context.{Context}
-use Rattle.bgp_text.specs.JsonEnd.{end_json}
-use Rattle.bgp_text.specs.JsonOutcome.{outcome_json}
+use Rattle.bgp_engine.specs.Below.{Context, end_json, outcome_json}
 use Rattle.bgp_engine.specs.Rules.{IsReport}
 use Rattle.bgp_engine.specs.Run.{Reports}
 use Rattle.bgp_engine.specs.Show.{printed_rules}

@@ -1,11 +1,9 @@
 -- What `to-hex` prints.
 use Rattle.std.specs.Prelude.{ℕ, List, [], ◌∷◌, ◌++◌, codes, Result, Ok, Err, is_err}
-use Rattle.hex.specs.Hex.{encode_lower}
-use Rattle.bgp_frame.specs.declared.fault.HeadFault.{HeadFault}
-use Rattle.bgp_frame.specs.Prelude.{Message, octets_of, head_notification, as_it_is}
+use Rattle.bgp_engine.specs.Below.{encode_lower, HeadFault, Message, octets_of, head_notification}
+use Rattle.bgp_engine.specs.Below.{as_it_is}
 use Rattle.bgp_text.specs.Info.{notification_text}
 use Rattle.bgp_engine.specs.declared.class.Class.{Class}
-use Rattle.bgp_engine.specs.declared.class.Class.TheVariants as class
 use Rattle.bgp_engine.specs.Rules.{Rules, IsReport}
 use Rattle.bgp_engine.specs.Run.{Reports}
 use Rattle.bgp_engine.specs.Tally.{no_tally}
@@ -25,8 +23,8 @@ framed_line (Ok m) = hex_line m
 framed_line (Err f) = fault_line f
 
 abbrev pub framed_class : Framed → Class
-framed_class (Ok m) = class.Took
-framed_class (Err f) = class.Reset
+framed_class (Ok m) = Class.Took
+framed_class (Err f) = Class.Reset
 
 -- the octets that wait, if there are any
 abbrev pub rest_line : List ℕ → List ℕ

@@ -1,7 +1,7 @@
 //! The engine `check`.
 
 ghost use Rattle.std.specs.Prelude.{◌≡◌, ◌+◌, ◌≤◌, ◌++◌, length, IfOk, OnOk};
-ghost use Rattle.std.specs.String.{string_bytes};
+ghost use Rattle.bgp_engine.specs.Below.{string_bytes};
 ghost use Rattle.bgp_engine.specs.Check.{Checked, counts_line};
 ghost use Rattle.bgp_engine.specs.Run.{Answers, io};
 
@@ -40,11 +40,9 @@ pub(crate) struct CheckPage {
 }
 
 impl Page for CheckPage {
-    ghost use Rattle.std.specs.Prelude.{true};
-    ghost use Rattle.std.specs.String.{string_bytes};
+    ghost use Rattle.bgp_engine.specs.Below.{true, string_bytes, unwrap_or};
     ghost use Rattle.bgp_msg.specs.declared.outcome.Outcome as outcomes;
     ghost use Rattle.bgp_engine.specs.Check.{check_rules};
-    ghost use Rattle.std.specs.Option.{unwrap_or};
     ghost use Rattle.bgp_engine.specs.steps.Pages.{plain};
 
     ghost Outcome = { outcomes.Outcome };

@@ -1,7 +1,7 @@
 //! What a message counts as.
 
 ghost use Rattle.std.specs.Prelude.{◌≡◌};
-ghost use Rattle.bgp_msg.specs.Prelude.{outcome_value};
+ghost use Rattle.bgp_engine.specs.Below.{outcome_value};
 ghost use Rattle.bgp_engine.specs.Prelude.{class_of};
 
 use bgp_msg::OutcomeView;

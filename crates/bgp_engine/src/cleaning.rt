@@ -1,8 +1,7 @@
 //! The engine `clean_stream`.
 
 ghost use Rattle.std.specs.Prelude.{◌≡◌, ◌+◌, [], length, option_map, IfOk};
-ghost use Rattle.bgp_wire.specs.Prelude.{has_octet};
-ghost use Rattle.bgp_frame.specs.Prelude.{IsLength, message_in};
+ghost use Rattle.bgp_engine.specs.Below.{has_octet, IsLength, message_in};
 ghost use Rattle.bgp_frame.specs.declared.kind.Kind.TheVariants as kind;
 ghost use Rattle.bgp_engine.specs.Clean.{CleanedBy, CleanedIn, without_words};
 ghost use Rattle.bgp_engine.specs.First.{ReportedFrom};
@@ -59,11 +58,8 @@ fn reason(fault: HeadFault) -> CleanFault {
 }
 
 impl Page for CleanPage {
-    ghost use Rattle.std.specs.Prelude.{true, Result};
-    ghost use Rattle.std.specs.Option.{unwrap_or};
-    ghost use Rattle.bgp_wire.specs.OctetSet.{has_octet};
+    ghost use Rattle.bgp_engine.specs.Below.{true, Result, unwrap_or, has_octet, CleanFault};
     ghost use Rattle.bgp_msg.specs.declared.message.Message.{Message};
-    ghost use Rattle.bgp_clean.specs.declared.fault.CleanFault.{CleanFault};
     ghost use Rattle.bgp_engine.specs.steps.Cleaning.{clean_plan, page_rules};
 
     ghost Outcome = { Result Message CleanFault };

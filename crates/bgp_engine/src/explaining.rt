@@ -1,11 +1,9 @@
 //! The page of `explain`.
 
 ghost use Rattle.std.specs.Prelude.{◌≡◌, ◌+◌, ◌≤◌, ◌++◌, [], Ok, Err, length, IfOk, OnOk, if◌then◌else◌};
-ghost use Rattle.std.specs.String.{string_bytes};
-ghost use Rattle.bgp_frame.specs.Prelude.{octets_of, IsLength, message_in};
-ghost use Rattle.bgp_msg.specs.Prelude.{of_fault, out_of, outcome_value};
+ghost use Rattle.bgp_engine.specs.Below.{string_bytes, octets_of, IsLength, message_in};
+ghost use Rattle.bgp_engine.specs.Below.{of_fault, out_of, outcome_value, explained_lines};
 ghost use Rattle.bgp_engine.specs.steps.PageSteps.{WritesHeard};
-ghost use Rattle.bgp_text.specs.Explained.{explained_lines};
 ghost use Rattle.bgp_engine.specs.Explain.{heard_lines};
 
 use crate::class::{Class, class_of};
@@ -120,11 +118,9 @@ impl<C: Choice> ExplainPage<C> {
 }
 
 impl<C: Choice> Page for ExplainPage<C> {
-    ghost use Rattle.std.specs.Prelude.{true};
-    ghost use Rattle.std.specs.String.{string_bytes};
+    ghost use Rattle.bgp_engine.specs.Below.{true, string_bytes, unwrap_or};
     ghost use Rattle.bgp_engine.specs.Explain.{explained_rules};
     ghost use Rattle.bgp_engine.specs.Heard.{Heard};
-    ghost use Rattle.std.specs.Option.{unwrap_or};
     ghost use Rattle.bgp_engine.specs.steps.Pages.{plain};
 
     ghost Outcome = { Heard };

@@ -1,7 +1,7 @@
 //! The OPEN that octets begin with.
 
 ghost use Rattle.std.specs.Prelude.{◌≡◌, ◌+◌, length, IfOk};
-ghost use Rattle.bgp_frame.specs.Prelude.{IsLength};
+ghost use Rattle.bgp_engine.specs.Below.{IsLength};
 ghost use Rattle.bgp_engine.specs.Prelude.{first_open, open_in};
 
 use bgp_frame::{Frame, Kind, Step, front};

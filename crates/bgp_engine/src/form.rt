@@ -1,7 +1,7 @@
 //! The forms in which `show` prints.
 
 ghost use Rattle.std.specs.Prelude.{◌≡◌, ◌++◌, OnOk};
-ghost use Rattle.std.specs.String.{string_bytes};
+ghost use Rattle.bgp_engine.specs.Below.{string_bytes};
 
 use bgp_fields::Span;
 use bgp_frame::End;
@@ -12,11 +12,7 @@ use std::alloc::{AllocError, Global};
 /// How the outcome of a message and the end of a stream are printed.
 pub(crate) trait Form {
     ghost use Rattle.std.specs.Prelude.{ℕ, List, Option, ◌≡◌, ◌++◌, OnOk};
-    ghost use Rattle.std.specs.String.{string_bytes};
-    ghost use Rattle.bgp_frame.specs.declared.end.End.{End};
-    ghost use Rattle.bgp_msg.specs.declared.outcome.Outcome.{Outcome};
-    ghost use Rattle.bgp_msg.specs.OutcomeView.{outcome_value};
-    ghost use Rattle.bgp_fields.specs.declared.field.Span.{Span};
+    ghost use Rattle.bgp_engine.specs.Below.{string_bytes, End, Outcome, outcome_value, Span};
 
     /// The text of an outcome, at its place, of a message of so many octets, with those of them for which it is a reset.
     ghost shown: { ℕ → ℕ → Option Span → Outcome → List ℕ };
@@ -74,8 +70,7 @@ impl Form for Lines {
 pub(crate) struct Json;
 
 impl Form for Json {
-    ghost use Rattle.bgp_text.specs.JsonEnd.{end_json};
-    ghost use Rattle.bgp_text.specs.JsonOutcome.{outcome_json};
+    ghost use Rattle.bgp_engine.specs.Below.{end_json, outcome_json};
 
     ghost shown = { outcome_json };
 

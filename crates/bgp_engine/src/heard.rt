@@ -1,9 +1,7 @@
 //! The octets for which a message is answered by a reset.
 
 ghost use Rattle.std.specs.Prelude.{◌≡◌, ◌+◌, length};
-ghost use Rattle.bgp_frame.specs.Prelude.{IsLength, message_in};
-ghost use Rattle.bgp_msg.specs.Prelude.{out_of, outcome_value};
-ghost use Rattle.bgp_fields.specs.Prelude.{reset_place};
+ghost use Rattle.bgp_engine.specs.Below.{IsLength, message_in, out_of, outcome_value, reset_place};
 
 use bgp_fields::{Span, message_span};
 use bgp_frame::Frame;

@@ -1,8 +1,7 @@
 //! Hexadecimal text, in whatever blocks it comes.
 
 ghost use Rattle.std.specs.Prelude.{◌≡◌, ◌+◌, ◌*◌, ◌≤◌, ◌<◌, ◌^◌, true, None, is_some, IfSome};
-ghost use Rattle.std.specs.Option.{ForSome};
-ghost use Rattle.hex.specs.Hex.{hex_digit_value, is_hex_digit};
+ghost use Rattle.bgp_engine.specs.Below.{ForSome, hex_digit_value, is_hex_digit};
 ghost use Rattle.bgp_engine.specs.HexText.{is_blank, digit_value};
 ghost use Rattle.bgp_engine.specs.steps.HexDigits.{value_or_none, FirstPair, IsPair};
 
@@ -115,8 +114,8 @@ fn first_pair(text: &[u8]) -> Option<(u8, &[u8])>
 
 impl HexText {
     ghost use Rattle.std.specs.Prelude.{◌≡◌, ◌+◌, ◌-◌, ◌≤◌, ◌<◌, ◌^◌, [], None, length, MatchOption};
+    ghost use Rattle.bgp_engine.specs.Below.{AreOctets};
     ghost use Rattle.std.specs.Option.{option_map};
-    ghost use Rattle.bgp_wire.specs.Octets.{AreOctets};
     ghost use Rattle.bgp_engine.specs.steps.HexSteps.{ReadsOn, Continues, Breaks, ReadsPairs};
 
     /// A reader at the front of a text.

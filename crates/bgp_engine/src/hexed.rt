@@ -1,8 +1,7 @@
 //! The engine `to_hex`.
 
 ghost use Rattle.std.specs.Prelude.{◌≡◌, ◌+◌, ◌≤◌, ◌++◌, false, length, OnOk};
-ghost use Rattle.hex.specs.Hex.{encode_lower};
-ghost use Rattle.bgp_frame.specs.Prelude.{IsLength, message_in};
+ghost use Rattle.bgp_engine.specs.Below.{encode_lower, IsLength, message_in};
 ghost use Rattle.bgp_engine.specs.Run.{Answers, io};
 ghost use Rattle.bgp_engine.specs.ToHex.{Hexed, hex_line, fault_line, rest_line};
 

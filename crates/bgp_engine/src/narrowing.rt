@@ -1,11 +1,9 @@
 //! The engine `narrow_stream`.
 
 ghost use Rattle.std.specs.Prelude.{◌≡◌, ◌+◌, ◌≤◌, ◌++◌, true, false, length, None, Some, IfOk, OnOk};
-ghost use Rattle.bgp_wire.specs.Prelude.{AreOctets};
-ghost use Rattle.bgp_frame.specs.Prelude.{octets_of, IsLength, message_in};
-ghost use Rattle.bgp_msg.specs.Prelude.{out_of};
+ghost use Rattle.bgp_engine.specs.Below.{AreOctets, octets_of, IsLength, message_in};
+ghost use Rattle.bgp_engine.specs.Below.{out_of, narrowed_update, CanBeTold, update_value, with_as4};
 ghost use Rattle.bgp_msg.specs.declared.message.Message.TheVariants as message;
-ghost use Rattle.bgp_update.specs.Prelude.{narrowed_update, CanBeTold, update_value, with_as4};
 ghost use Rattle.bgp_engine.specs.steps.PageSteps.{WritesNarrow};
 ghost use Rattle.bgp_engine.specs.Narrow.{Narrowed, written_in, narrowed_outcome, narrow_answer};
 ghost use Rattle.bgp_engine.specs.Run.{Answers, io};
@@ -90,9 +88,8 @@ pub(crate) struct NarrowPage {
 }
 
 impl Page for NarrowPage {
-    ghost use Rattle.std.specs.Prelude.{ℕ, List, Option};
+    ghost use Rattle.bgp_engine.specs.Below.{ℕ, List, Option, unwrap_or};
     ghost use Rattle.bgp_engine.specs.Narrow.{narrow_rules};
-    ghost use Rattle.std.specs.Option.{unwrap_or};
     ghost use Rattle.bgp_engine.specs.steps.Pages.{plain};
 
     ghost Outcome = { Option (List ℕ) };

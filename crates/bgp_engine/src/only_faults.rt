@@ -1,8 +1,7 @@
 //! Which messages are printed.
 
 ghost use Rattle.std.specs.Prelude.{◌≡◌, ◌++◌, OnOk};
-ghost use Rattle.std.specs.String.{string_bytes};
-ghost use Rattle.bgp_msg.specs.Prelude.{outcome_value};
+ghost use Rattle.bgp_engine.specs.Below.{string_bytes, outcome_value};
 ghost use Rattle.bgp_engine.specs.OnlyFaults.{is_fault, where_fault};
 
 use crate::form::Form;
@@ -25,8 +24,7 @@ pub(crate) fn is_fault(outcome: &OutcomeView<'_>) -> bool
 /// Which messages are printed.
 pub(crate) trait Choice {
     ghost use Rattle.std.specs.Prelude.{Bool, ◌≡◌};
-    ghost use Rattle.bgp_msg.specs.declared.outcome.Outcome.{Outcome};
-    ghost use Rattle.bgp_msg.specs.OutcomeView.{outcome_value};
+    ghost use Rattle.bgp_engine.specs.Below.{Outcome, outcome_value};
 
     /// Those with these outcomes.
     ghost printed: { Outcome → Bool };

@@ -1,8 +1,7 @@
 //! The messages of a stream whose first one tells the context.
 
 ghost use Rattle.std.specs.Prelude.{◌≡◌, ◌+◌, [], None, Some, length, IfOk};
-ghost use Rattle.bgp_frame.specs.Prelude.{IsLength, Message};
-ghost use Rattle.bgp_open.specs.declared.context.Context.{Context};
+ghost use Rattle.bgp_engine.specs.Below.{IsLength, Message, Context};
 ghost use Rattle.bgp_engine.specs.Prelude.{agreed, first_open, open_in, ReportedBy, IsReport, Answers, io, no_tally};
 
 use crate::fault::ToolFault;

@@ -1,7 +1,6 @@
 //! Text to a writer.
 
-ghost use Rattle.std.specs.Prelude.{OnOk, IfErr};
-ghost use Rattle.std.specs.Io.KnownBytes.{Appends};
+ghost use Rattle.bgp_engine.specs.Below.{OnOk, IfErr, Appends};
 ghost use Rattle.bgp_engine.specs.Prelude.{FailsWithin};
 
 use crate::fault::ToolFault;

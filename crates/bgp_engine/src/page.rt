@@ -1,8 +1,7 @@
 //! What an engine writes of the messages of a stream.
 
 ghost use Rattle.std.specs.Prelude.{ℕ, Bool, true, List, Option, None, Some, ◌≡◌, ◌+◌, ◌++◌, [], length, IfOk, OnOk};
-ghost use Rattle.bgp_frame.specs.Prelude.{IsLength, message_in};
-ghost use Rattle.bgp_open.specs.declared.context.Context.{Context};
+ghost use Rattle.bgp_engine.specs.Below.{IsLength, message_in, Context};
 ghost use Rattle.bgp_engine.specs.Rules.{Rules};
 ghost use Rattle.bgp_engine.specs.steps.Pages.{Plan, TakesFirst, Writes, WritesFault, IsAnswer};
 
@@ -15,8 +14,7 @@ use std::alloc::AllocError;
 
 /// Judges message by message, and collects what is written of each.
 pub(crate) trait Page {
-    ghost use Rattle.std.specs.Prelude.{ℕ, Bool, List, Option};
-    ghost use Rattle.bgp_open.specs.declared.context.Context.{Context};
+    ghost use Rattle.bgp_engine.specs.Below.{ℕ, Bool, List, Option, Context};
     ghost use Rattle.bgp_engine.specs.Rules.{Rules};
     ghost use Rattle.bgp_engine.specs.steps.Pages.{Plan};
 

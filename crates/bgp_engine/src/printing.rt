@@ -1,7 +1,5 @@
 //! What is printed of a stream, in each style.
 
-ghost use Rattle.std.specs.Prelude.{true, false};
-ghost use Rattle.bgp_engine.specs.declared.printing.Style.TheVariants as style;
 ghost use Rattle.bgp_engine.specs.Prelude.{Printed, PrintedBy, Answers, io};
 
 use crate::explaining::ExplainPage;
@@ -86,66 +84,6 @@ pub fn print_within<R: Read, W: Write>(
     }
 }
 
-/// The lines of all messages, explained, by both OPENs.
-fn explain_by<R: Read, W: Write>(
-    alloc: Global,
-    turns: u32,
-    theirs: &[u8],
-    hex: bool,
-    input: &mut R,
-    output: &mut W,
-) -> Result<Tally, ToolFault>
-    ensures { Answers (PrintedBy style.Explained false theirs.now) hex (io R.remaining input.old input.new W.contents output.old output.new) result }
-{
-    let page = ExplainPage::new(alloc, UNKNOWN, Every);
-    open_stream(alloc, turns, theirs, hex, page, input, output)
-}
-
-/// Those of what `--only-faults` prints.
-fn explain_faults_by<R: Read, W: Write>(
-    alloc: Global,
-    turns: u32,
-    theirs: &[u8],
-    hex: bool,
-    input: &mut R,
-    output: &mut W,
-) -> Result<Tally, ToolFault>
-    ensures { Answers (PrintedBy style.Explained true theirs.now) hex (io R.remaining input.old input.new W.contents output.old output.new) result }
-{
-    let page = ExplainPage::new(alloc, UNKNOWN, Faulty);
-    open_stream(alloc, turns, theirs, hex, page, input, output)
-}
-
-/// The same, as `show` prints it.
-fn show_faults_by<R: Read, W: Write>(
-    alloc: Global,
-    turns: u32,
-    theirs: &[u8],
-    hex: bool,
-    input: &mut R,
-    output: &mut W,
-) -> Result<Tally, ToolFault>
-    ensures { Answers (PrintedBy style.Lines true theirs.now) hex (io R.remaining input.old input.new W.contents output.old output.new) result }
-{
-    let page = ShowPage::new(alloc, UNKNOWN, OnlyFaults { form: Lines });
-    open_stream(alloc, turns, theirs, hex, page, input, output)
-}
-
-/// The same, as `show --json` prints it.
-fn show_json_faults_by<R: Read, W: Write>(
-    alloc: Global,
-    turns: u32,
-    theirs: &[u8],
-    hex: bool,
-    input: &mut R,
-    output: &mut W,
-) -> Result<Tally, ToolFault>
-    ensures { Answers (PrintedBy style.Json true theirs.now) hex (io R.remaining input.old input.new W.contents output.old output.new) result }
-{
-    let page = ShowPage::new(alloc, UNKNOWN, OnlyFaults { form: Json });
-    open_stream(alloc, turns, theirs, hex, page, input, output)
-}
-
 /// [`print`] in the context that both OPENs agree on, as in [`show_by_opens`](crate::show_by_opens).
 ///
 /// # Errors
@@ -192,9 +130,21 @@ pub fn print_by_opens_within<R: Read, W: Write>(
     match (style, only_faults) {
         (Style::Lines, false) => show_by_opens_within(alloc, turns, theirs, hex, input, output),
         (Style::Json, false) => show_json_by_opens_within(alloc, turns, theirs, hex, input, output),
-        (Style::Explained, false) => explain_by(alloc, turns, theirs, hex, input, output),
-        (Style::Lines, true) => show_faults_by(alloc, turns, theirs, hex, input, output),
-        (Style::Json, true) => show_json_faults_by(alloc, turns, theirs, hex, input, output),
-        (Style::Explained, true) => explain_faults_by(alloc, turns, theirs, hex, input, output),
+        (Style::Explained, false) => {
+            let page = ExplainPage::new(alloc, UNKNOWN, Every);
+            open_stream(alloc, turns, theirs, hex, page, input, output)
+        }
+        (Style::Lines, true) => {
+            let page = ShowPage::new(alloc, UNKNOWN, OnlyFaults { form: Lines });
+            open_stream(alloc, turns, theirs, hex, page, input, output)
+        }
+        (Style::Json, true) => {
+            let page = ShowPage::new(alloc, UNKNOWN, OnlyFaults { form: Json });
+            open_stream(alloc, turns, theirs, hex, page, input, output)
+        }
+        (Style::Explained, true) => {
+            let page = ExplainPage::new(alloc, UNKNOWN, Faulty);
+            open_stream(alloc, turns, theirs, hex, page, input, output)
+        }
     }
 }

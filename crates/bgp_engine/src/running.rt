@@ -1,7 +1,7 @@
 //! From a reader through an engine to a writer.
 
 ghost use Rattle.std.specs.Prelude.{◌≡◌, ◌+◌, ◌≤◌, ◌<◌, ◌^◌, false, [], None, length, IfOk, OnOk, OnErr};
-ghost use Rattle.bgp_wire.specs.Prelude.{AreOctets};
+ghost use Rattle.bgp_engine.specs.Below.{AreOctets};
 ghost use Rattle.bgp_engine.specs.Prelude.{Meets, Finished, IsTotal, OfOctets, Rests, Answers, io};
 
 use crate::engine::Engine;

@@ -1,10 +1,8 @@
 //! The engine `show`.
 
 ghost use Rattle.std.specs.Prelude.{◌≡◌, ◌+◌, ◌++◌, [], Some, length, IfOk, OnOk};
-ghost use Rattle.std.specs.String.{string_bytes};
-ghost use Rattle.bgp_frame.specs.Prelude.{IsLength, message_in};
-ghost use Rattle.bgp_msg.specs.Prelude.{of_fault, out_of};
-ghost use Rattle.bgp_fields.specs.Prelude.{header_place, reset_place};
+ghost use Rattle.bgp_engine.specs.Below.{string_bytes, IsLength, message_in, of_fault, out_of, header_place};
+ghost use Rattle.bgp_engine.specs.Below.{reset_place};
 ghost use Rattle.bgp_engine.specs.Run.{Answers, io};
 ghost use Rattle.bgp_engine.specs.steps.PageSteps.{WritesOutcome};
 ghost use Rattle.bgp_engine.specs.Show.{Shown};
@@ -35,7 +33,7 @@ pub(crate) struct ShowPage<F> {
 
 impl<F: Form> ShowPage<F> {
     ghost use Rattle.std.specs.Prelude.{◌≡◌, []};
-    ghost use Rattle.std.specs.String.{string_bytes};
+    ghost use Rattle.bgp_engine.specs.Below.{string_bytes};
 
     /// Nothing so far.
     pub(crate) fn new(alloc: Global, ctx: Context, form: F) -> ShowPage<F>
@@ -97,11 +95,9 @@ fn put_fault<F: Form>(
 }
 
 impl<F: Form> Page for ShowPage<F> {
-    ghost use Rattle.std.specs.Prelude.{true};
-    ghost use Rattle.std.specs.String.{string_bytes};
+    ghost use Rattle.bgp_engine.specs.Below.{true, string_bytes, unwrap_or};
     ghost use Rattle.bgp_engine.specs.Heard.{Heard};
     ghost use Rattle.bgp_engine.specs.Show.{printed_rules};
-    ghost use Rattle.std.specs.Option.{unwrap_or};
     ghost use Rattle.bgp_engine.specs.steps.Pages.{plain};
 
     ghost Outcome = { Heard };

@@ -1,7 +1,7 @@
 //! The messages of a stream whose first one may tell the context, or be taken by a rule of its own.
 
 ghost use Rattle.std.specs.Prelude.{◌≡◌, ◌+◌, [], None, Some, length, option_map, IfOk};
-ghost use Rattle.bgp_frame.specs.Prelude.{IsLength, message_in};
+ghost use Rattle.bgp_engine.specs.Below.{IsLength, message_in};
 ghost use Rattle.bgp_engine.specs.First.{ReportedFrom};
 ghost use Rattle.bgp_engine.specs.Run.{Answers, io};
 ghost use Rattle.bgp_engine.specs.steps.Starting.{Begins, SettlesOn, starts_of};

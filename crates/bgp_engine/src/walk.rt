@@ -1,7 +1,7 @@
 //! The messages of a stream that comes block by block.
 
 ghost use Rattle.std.specs.Prelude.{◌≡◌, [], ◌++◌, take};
-ghost use Rattle.bgp_frame.specs.Prelude.{Pulls};
+ghost use Rattle.bgp_engine.specs.Below.{Pulls};
 ghost use Rattle.bgp_engine.specs.Rules.{IsReport};
 ghost use Rattle.bgp_engine.specs.Run.{Answers, io};
 ghost use Rattle.bgp_engine.specs.Tally.{no_tally};
@@ -41,7 +41,7 @@ fn pulled<'a>(framer: &'a Framer, octets: &'a [u8], taken: usize) -> &'a [u8]
 
 impl<P: Page> Walk<P> {
     ghost use Rattle.std.specs.Prelude.{◌≡◌, ◌+◌, ◌<◌, ◌≤◌, ◌^◌, [], None, Some, length, if◌then◌else◌, IfOk};
-    ghost use Rattle.bgp_wire.specs.Octets.{AreOctets};
+    ghost use Rattle.bgp_engine.specs.Below.{AreOctets};
     ghost use Rattle.bgp_frame.specs.declared.end.End.TheVariants as end;
     ghost use Rattle.bgp_engine.specs.declared.class.Class.TheVariants as class;
     ghost use Rattle.bgp_engine.specs.Rules.{counted};

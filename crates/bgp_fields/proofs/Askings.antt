@@ -1,11 +1,7 @@
 -- The first attribute that asks for a reset or a withdrawal, attribute by attribute.
-use Rattle.bgp_wire.proofs.Std.{◌≡◌, ℕ, ◌+◌, ◌-◌, ◌<◌, ◌≤◌, Bool, true, false, cond, List, [], ◌∷◌, ◌++◌, length, Some, None, sym, ap, ap₂, ◌∙◌, arith, list_all}
-use Rattle.bgp_wire.specs.Prelude.{also}
-use Rattle.bgp_open.specs.declared.context.Context.{Context}
-use Rattle.bgp_attr.specs.Prelude.{judgement, PlacedTlv}
-use Rattle.bgp_update.specs.Prelude.{Mark, repeated, marks_behind, cut, cut_mark, is_small}
-use Rattle.bgp_update.proofs.SmallLemmas.{both_small}
-use Rattle.bgp_fields.specs.Prelude.{asks_for, first_asking}
+use Rattle.bgp_fields.proofs.Prelude.{◌≡◌, ℕ, ◌+◌, ◌-◌, ◌<◌, ◌≤◌, Bool, true, false, cond, List, [], ◌∷◌, ◌++◌, length, Some, sym, ap, ap₂, ◌∙◌, arith}
+use Rattle.bgp_fields.proofs.Prelude.{list_all, also, Context, judgement, PlacedTlv, Mark, repeated, marks_behind, cut_mark, is_small, both_small}
+use Rattle.bgp_fields.proofs.Prelude.{asks_for, first_asking}
 
 module _ (resets : Bool) (ctx : Context) (nlri : Bool) where
   -- an attribute asks, behind others of these types
@@ -26,24 +22,6 @@ module _ (resets : Bool) (ctx : Context) (nlri : Bool) where
       ap₂ (λ (x : ℕ → Bool) (r : List ℕ). first_asking resets (marks_behind ctx nlri x ps ++ cut_mark (place - length r) r)) seen_is (sym same)
       ∙ sym (ap (λ (t : Bool). cond t (Some p.at) (first_asking resets (marks_behind ctx nlri (also p.tlv.kind seen) ps ++ tail))) not)
       ∙ ap (λ (x : List PlacedTlv). first_asking resets (marks_behind ctx nlri seen x ++ tail)) (sym e)
-
-  -- no attribute is left, and what is cut off asks or doesn't
-  pub asking-cut : (seen : ℕ → Bool) (ps : List PlacedTlv) (at : ℕ) (rest b : List ℕ) → ps ≡ [] → b ≡ rest → 0 < length rest → asks_for resets (cut rest) ≡ true
-      → first_asking resets (marks_behind ctx nlri seen ps ++ cut_mark at b) ≡ Some at
-  asking-cut seen ps at [] b none same some is = absurd (omega arith)
-  asking-cut seen ps at (x ∷ rest) b none same some is =
-      ap₂ (λ (y : List PlacedTlv) (r : List ℕ). first_asking resets (marks_behind ctx nlri seen y ++ cut_mark at r)) none same
-      ∙ ap (λ (t : Bool). cond t (Some at) None) is
-
-  pub asking-not : (seen : ℕ → Bool) (ps : List PlacedTlv) (at : ℕ) (rest b : List ℕ) → ps ≡ [] → b ≡ rest → asks_for resets (cut rest) ≡ false
-      → first_asking resets (marks_behind ctx nlri seen ps ++ cut_mark at b) ≡ None
-  asking-not seen ps at [] b none same is = ap₂ (λ (y : List PlacedTlv) (r : List ℕ). first_asking resets (marks_behind ctx nlri seen y ++ cut_mark at r)) none same
-  asking-not seen ps at (x ∷ rest) b none same is =
-      ap₂ (λ (y : List PlacedTlv) (r : List ℕ). first_asking resets (marks_behind ctx nlri seen y ++ cut_mark at r)) none same
-      ∙ ap (λ (t : Bool). cond t (Some at) None) is
-
-  pub asking-none : (seen : ℕ → Bool) (ps : List PlacedTlv) (at : ℕ) (b : List ℕ) → ps ≡ [] → b ≡ [] → first_asking resets (marks_behind ctx nlri seen ps ++ cut_mark at b) ≡ None
-  asking-none seen ps at b none same = ap₂ (λ (y : List PlacedTlv) (r : List ℕ). first_asking resets (marks_behind ctx nlri seen y ++ cut_mark at r)) none same
 
 pub first-small : (qs : List PlacedTlv) (p : PlacedTlv) (ps : List PlacedTlv) → qs ≡ p ∷ ps → list_all is_small qs ≡ true
     → (p.at + length p.tlv.whole ≤ 4075) × (list_all is_small ps ≡ true)

@@ -1,10 +1,6 @@
 -- The octets of an attribute.
-use Rattle.bgp_wire.proofs.Std.{◌≡◌, ℕ, List, [], ◌∷◌, ◌≤◌, length, Option, Some, None, refl, sym, ap, ◌∙◌, arith}
-use Rattle.std.proofs.lemmas.List.{length-append}
-use Rattle.bgp_wire.proofs.Pieces.{pieces-some, pieces-none}
-use Rattle.bgp_attr.specs.Prelude.{TlvValue, IsTlv, one_tlv, PlacedTlv, tlvs_of, placed_from}
-use Rattle.bgp_attr.proofs.Readers.{IsTlv-reads}
-use Rattle.bgp_fields.specs.Prelude.{attribute_extent}
+use Rattle.bgp_fields.proofs.Prelude.{◌≡◌, ℕ, List, [], ◌∷◌, ◌≤◌, length, Option, Some, None, refl, sym, ap, ◌∙◌, arith, length-append, pieces-some}
+use Rattle.bgp_fields.proofs.Prelude.{pieces-none, TlvValue, IsTlv, one_tlv, PlacedTlv, tlvs_of, placed_from, IsTlv-reads, attribute_extent}
 
 first-same : (p q : PlacedTlv) (ps qs : List PlacedTlv) → p ∷ ps ≡ q ∷ qs → p ≡ q
 first-same p q ps qs e = cc

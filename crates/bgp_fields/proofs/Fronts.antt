@@ -1,12 +1,9 @@
 -- What stands at the front of octets that are a whole message, or begin with a header with a fault.
-use Rattle.bgp_wire.proofs.Std.{◌≡◌, ℕ, ◌+◌, ◌≤◌, List, [], ◌++◌, length, take, drop, Option, Some, Result, Ok, Err, sym, ap, ◌∙◌, arith, drop_at, take-append-drop, nil_from_length}
-use Rattle.std.proofs.lemmas.List.{append-nil, length-append}
-use Rattle.bgp_frame.specs.declared.kind.Kind.{Kind}
-use Rattle.bgp_frame.specs.declared.fault.HeadFault.{HeadFault}
-use Rattle.bgp_frame.specs.Prelude.{IsFrame, Waits, wanted, header, head_of, type_field, code_of, kind_of}
+use Rattle.bgp_fields.proofs.Prelude.{◌≡◌, ℕ, ◌+◌, ◌≤◌, List, [], ◌++◌, length, take, drop, Option, Some, Result, Ok, Err, sym, ap, ◌∙◌, arith, drop_at}
+use Rattle.bgp_fields.proofs.Prelude.{take-append-drop, nil_from_length, append-nil, length-append, Kind, HeadFault, IsFrame, Waits, wanted, header, head_of}
+use Rattle.bgp_fields.proofs.Prelude.{type_field, code_of, kind_of, kind_of-code_of, head_of-append, length-IsFrame, head_of-IsFrame, wanted_by_head}
+use Rattle.bgp_fields.proofs.Prelude.{wanted-append, IsFrame-wanted, head_at}
 use Rattle.bgp_frame.specs.Frame as frame
-use Rattle.bgp_frame.proofs.HeadLemmas.{kind_of-code_of}
-use Rattle.bgp_frame.proofs.FrameLemmas.{head_of-append, length-IsFrame, head_of-IsFrame, wanted_by_head, wanted-append, IsFrame-wanted, head_at}
 use Rattle.bgp_frame.proofs.Headers.{length-header}
 
 pub no-wait : (m : frame.Message) (b : List ℕ) → IsFrame m b → Waits b → ⊥

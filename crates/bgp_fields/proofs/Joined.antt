@@ -1,17 +1,8 @@
 -- The fields of a message, joined, are the message.
-use Rattle.bgp_wire.proofs.Std.{◌≡◌, ℕ, ◌+◌, List, [], ◌∷◌, ◌++◌, length, take, drop, Option, None, refl, sym, ap, ◌∙◌, arith, flat_map, take-append-drop, drop_all, flat_map-cons}
-use Rattle.std.proofs.lemmas.List.{drop-drop}
-use Rattle.bgp_open.specs.declared.context.Context.{Context}
-use Rattle.bgp_fields.specs.declared.field.Field.{Field}
-use Rattle.bgp_fields.specs.declared.field.Group.{Group}
-use Rattle.bgp_fields.specs.declared.kind.FieldKind.TheVariants.{Unread}
-use Rattle.bgp_fields.specs.declared.part.MessagePart.{MessagePart}
-use Rattle.bgp_fields.specs.declared.part.SectionPart.{SectionPart}
-use Rattle.bgp_fields.specs.declared.part.ValuePart.{ValuePart}
-use Rattle.bgp_fields.specs.Prelude.{no_fields, value_fields, section_fields, message_fields, fields_of, Tiles, octets_in, AreTheOctets, value_plan, section_plan, message_plan}
-use Rattle.bgp_fields.specs.declared.part.MessagePart.TheVariants as message
-use Rattle.bgp_fields.specs.declared.part.SectionPart.TheVariants as section
-use Rattle.bgp_fields.specs.declared.part.ValuePart.TheVariants as value
+use Rattle.bgp_fields.proofs.Prelude.{◌≡◌, ℕ, ◌+◌, List, [], ◌∷◌, ◌++◌, length, take, drop, Option, None, refl, sym, ap, ◌∙◌, arith, flat_map}
+use Rattle.bgp_fields.proofs.Prelude.{take-append-drop, drop_all, flat_map-cons, drop-drop, Context, Field, Group, Unread, MessagePart, SectionPart}
+use Rattle.bgp_fields.proofs.Prelude.{ValuePart, no_fields, value_fields, section_fields, message_fields, fields_of, Tiles, octets_in, AreTheOctets}
+use Rattle.bgp_fields.proofs.Prelude.{value_plan, section_plan, message_plan}
 use Rattle.bgp_fields.proofs.Tilings.{Tiles-to, walk-tiles}
 
 -- fields from a place on, up to the end, are the octets from there on
@@ -29,17 +20,17 @@ none-tiles none at group [] = omega arith
 none-tiles none at group (x ∷ b) = (refl, omega arith, refl)
 
 value-tiles : (ctx : Context) (part : ValuePart) (at : ℕ) (group : Option Group) (b : List ℕ) → Tiles at (at + length b) (value_fields ctx part at group b)
-value-tiles ctx = walk-tiles (Unit {0}) ValuePart (value.All Unread) (value_plan ctx) no_fields none-tiles
+value-tiles ctx = walk-tiles (Unit {0}) ValuePart (ValuePart.All Unread) (value_plan ctx) no_fields none-tiles
 
 section-tiles : (ctx : Context) (part : SectionPart) (at : ℕ) (group : Option Group) (b : List ℕ)
     → Tiles at (at + length b) (section_fields ctx part at group b)
-section-tiles ctx = walk-tiles ValuePart SectionPart (section.All Unread) (section_plan ctx) (value_fields ctx) (value-tiles ctx)
+section-tiles ctx = walk-tiles ValuePart SectionPart (SectionPart.All Unread) (section_plan ctx) (value_fields ctx) (value-tiles ctx)
 
 message-tiles : (ctx : Context) (part : MessagePart) (at : ℕ) (group : Option Group) (b : List ℕ)
     → Tiles at (at + length b) (message_fields ctx part at group b)
-message-tiles ctx = walk-tiles SectionPart MessagePart (message.All Unread) message_plan (section_fields ctx) (section-tiles ctx)
+message-tiles ctx = walk-tiles SectionPart MessagePart (MessagePart.All Unread) message_plan (section_fields ctx) (section-tiles ctx)
 
 pub fields-octets : (ctx : Context) (octets : List ℕ) → AreTheOctets octets (fields_of ctx octets)
 fields-octets ctx octets =
-    let tiles : Tiles 0 (length octets) (fields_of ctx octets) = Tiles-to 0 (0 + length octets) (length octets) (fields_of ctx octets) (omega arith) (message-tiles ctx message.Marker 0 None octets) in
+    let tiles : Tiles 0 (length octets) (fields_of ctx octets) = Tiles-to 0 (0 + length octets) (length octets) (fields_of ctx octets) (omega arith) (message-tiles ctx MessagePart.Marker 0 None octets) in
     record { placed = tiles; joined = joined octets 0 (fields_of ctx octets) tiles }

@@ -1,8 +1,6 @@
 -- What is left where no piece can be read, found piece by piece.
-use Rattle.std.proofs.Common.{◌≡◌, ℕ, ◌<◌, List, length, Option, Some, None, refl, sym, ap, ◌∙◌}
-use Rattle.std.specs.Prelude.{option_map}
-use Rattle.bgp_wire.specs.Prelude.{Reads, pieces}
-use Rattle.bgp_wire.proofs.Walks.{shorter, same_rest, all_rest}
+use Rattle.bgp_fields.proofs.Prelude.{◌≡◌, ℕ, ◌<◌, List, length, Option, Some, None, refl, sym, ap, ◌∙◌, option_map, Reads, pieces, shorter, same_rest}
+use Rattle.bgp_fields.proofs.Prelude.{all_rest}
 
 abbrev pub behind : {A : Type 0} → Option (A × List ℕ) → Option (List ℕ)
 behind o = option_map (λ x. x.1) o

@@ -1,4 +1,5 @@
 -- Lemmas on the fields of a message.
+pub mod Prelude
 pub mod Walks
 pub mod Steps
 pub mod Listings

@@ -1,9 +1,7 @@
 -- Fields in a list, one after another.
-use Rattle.bgp_wire.proofs.Std.{◌≡◌, ℕ, true, false, ◌==◌, ◌+◌, ◌<◌, ◌≤◌, List, [], ◌∷◌, ◌++◌, length, map, take, drop, set, refl, sym, ap, ap₂, ◌∙◌, arith, drop-set-lt, length-map, map-append, take-append-drop, take_more_set, nil_from_length}
-use Rattle.std.proofs.lemmas.Bool.{true≢false, eqb-true}
-use Rattle.std.proofs.lemmas.List.{append_assoc, length-append, length-set}
-use Rattle.bgp_fields.specs.declared.field.Field.{Field}
-use Rattle.bgp_fields.specs.Prelude.{listed}
+use Rattle.bgp_fields.proofs.Prelude.{◌≡◌, ℕ, true, false, ◌==◌, ◌+◌, ◌<◌, ◌≤◌, List, [], ◌∷◌, ◌++◌, length, map, take, drop, set, refl, sym, ap, ap₂, ◌∙◌}
+use Rattle.bgp_fields.proofs.Prelude.{arith, drop-set-lt, length-map, map-append, take-append-drop, take_more_set, nil_from_length, true≢false, eqb-true}
+use Rattle.bgp_fields.proofs.Prelude.{append_assoc, length-append, length-set, Field, listed}
 
 module _ (T : Type 0) where
   -- none is listed

@@ -1,46 +1,22 @@
 -- Each reset has a place, within its message.
-use Rattle.bgp_wire.proofs.Std.{◌≡◌, ℕ, ◌+◌, ◌-◌, ◌<◌, ◌≤◌, ◌&&◌, ◌||◌, ◌==◌, nat_lt, nat_le, Bool, true, false, cond, not, List, [], ◌∷◌, ◌++◌, length, take, drop, Option, Some, None, inl, inr, refl, sym, ap, ap₂, subst, ◌∙◌, arith, list_any, AllByRecursion, option_or, leb-true, or_parts, or_cases, cond_both, length-take-le}
-use Rattle.std.specs.Prelude.{option_map}
-use Rattle.std.proofs.lemmas.Bool.{true≢false}
-use Rattle.std.proofs.Math.Dec.{eqb-suc-zero}
-use Rattle.std.proofs.lemmas.List.{length-append, length-drop}
-use Rattle.bgp_open.proofs.Readings.{rest_some}
-use Rattle.bgp_wire.specs.Prelude.{AreOctets, also, none_of_them, pieces, Row, when}
-use Rattle.bgp_wire.proofs.OctetLemmas.{AreOctets-back}
-use Rattle.bgp_wire.proofs.Pieces.{Splits-pieces}
-use Rattle.bgp_wire.proofs.Walks.{nothing_at}
-use Rattle.bgp_numbers.specs.declared.parameter.TheConstants.{CAPABILITIES}
+use Rattle.bgp_fields.proofs.Prelude.{◌≡◌, ℕ, ◌+◌, ◌-◌, ◌<◌, ◌≤◌, ◌&&◌, ◌||◌, ◌==◌, nat_lt, nat_le, Bool, true, false, cond, not, List, [], ◌∷◌, ◌++◌, length}
+use Rattle.bgp_fields.proofs.Prelude.{take, drop, Option, Some, None, inl, inr, refl, sym, ap, ap₂, subst, ◌∙◌, arith, list_any, AllByRecursion, option_or}
+use Rattle.bgp_fields.proofs.Prelude.{leb-true, or_parts, or_cases, cond_both, length-take-le, option_map, true≢false, eqb-suc-zero, length-append}
+use Rattle.bgp_fields.proofs.Prelude.{length-drop, rest_some, AreOctets, also, none_of_them, pieces, Row, when, AreOctets-back, Splits-pieces, nothing_at}
+use Rattle.bgp_fields.proofs.Prelude.{CAPABILITIES, Kind, IsFrame, header, IsLength, Notification, length-IsFrame, Capability, Context, OpenFault, Version}
+use Rattle.bgp_fields.proofs.Prelude.{Parameter, IsCapability, one_capability, version_of, length_of, parameters_of, hold_of, id_of, is_short_hold}
+use Rattle.bgp_fields.proofs.Prelude.{is_zero_id, first_fault, rest_fault, open_fault, open_of, or_fault, IsParameter, one_parameter, Hold, Identifier}
+use Rattle.bgp_fields.proofs.Prelude.{capability-reads, parameter-reads, one_parameter-tests, PrefixValue, IsPrefix, one_prefix, run_of, IsPrefix-reads}
+use Rattle.bgp_fields.proofs.Prelude.{Judged, TlvValue, IsTlv, one_tlv, tlvs_of, placed_from, IsTlv-reads, Verdict, kept_of, attrs_of, update_of, Mark}
+use Rattle.bgp_fields.proofs.Prelude.{malformed, marks_behind, cut_mark, field_marks, marks_of, has_routes, is_reachable, notes_of, routes_of, missing_in}
+use Rattle.bgp_fields.proofs.Prelude.{missing_of, is_missing, types_of_field, Parts, attributes_at, behind_two, parts_of, reset_by, first_reset, bad_network}
+use Rattle.bgp_fields.proofs.Prelude.{reset_of_run, reset_of, withdraws, is_withdrawn, unless_reset, verdict_on, of_parts, verdict_of, Outcome, of_reading}
+use Rattle.bgp_fields.proofs.Prelude.{of_verdict, of_body, out_of, is_reset, has_nlri, parts-body, behind_two-gives, length-body, span, attribute_extent}
+use Rattle.bgp_fields.proofs.Prelude.{attribute_place, asks_for, first_asking, asking_place, bad_prefix, run_place, length_place, parts_place, update_place}
+use Rattle.bgp_fields.proofs.Prelude.{body_place, reset_place, item_extent, capability_place, parameter_place, parameters_place, open_place, HasPlace}
 use Rattle.bgp_numbers.specs.declared.TheConstants.{VERSION}
-use Rattle.bgp_frame.specs.declared.kind.Kind.{Kind}
-use Rattle.bgp_frame.specs.Prelude.{IsFrame, header, IsLength}
-use Rattle.bgp_frame.specs.declared.kind.Kind.TheVariants as kind
-use Rattle.bgp_frame.specs.declared.notification.Notification.{Notification}
 use Rattle.bgp_frame.specs.Frame as frame
-use Rattle.bgp_frame.proofs.FrameLemmas.{length-IsFrame}
-use Rattle.bgp_open.specs.declared.capability.Capability.{Capability}
-use Rattle.bgp_open.specs.declared.context.Context.{Context}
-use Rattle.bgp_open.specs.declared.fault.OpenFault.{OpenFault}
-use Rattle.bgp_open.specs.declared.fault.OpenFault.TheVariants.{Version, Parameter}
-use Rattle.bgp_open.specs.Prelude.{IsCapability, one_capability, version_of, length_of, parameters_of, hold_of, id_of, is_short_hold, is_zero_id, first_fault, rest_fault, open_fault, open_of, or_fault, IsParameter, one_parameter}
-use Rattle.bgp_open.specs.declared.fault.OpenFault.TheVariants.{Hold, Identifier}
-use Rattle.bgp_open.proofs.Capabilities.{capability-reads}
-use Rattle.bgp_open.proofs.Parameters.{parameter-reads, one_parameter-tests}
-use Rattle.bgp_prefix.specs.Prelude.{PrefixValue, IsPrefix, one_prefix, run_of}
-use Rattle.bgp_prefix.proofs.PrefixLemmas.{IsPrefix-reads}
-use Rattle.bgp_attr.specs.declared.judged.Judged.{Judged}
-use Rattle.bgp_attr.specs.Prelude.{TlvValue, IsTlv, one_tlv, tlvs_of, placed_from}
-use Rattle.bgp_attr.specs.declared.judged.Judged.TheVariants as judged
-use Rattle.bgp_attr.proofs.Readers.{IsTlv-reads}
-use Rattle.bgp_update.specs.declared.verdict.Verdict.{Verdict}
-use Rattle.bgp_update.specs.Prelude.{kept_of, attrs_of, update_of, Mark, malformed, marks_behind, cut_mark, field_marks, marks_of, has_routes, is_reachable, notes_of, routes_of, missing_in, missing_of, is_missing, types_of_field, Parts, attributes_at, behind_two, parts_of, reset_by, first_reset, bad_network, reset_of_run, reset_of, withdraws, is_withdrawn, unless_reset, verdict_on, of_parts, verdict_of}
-use Rattle.bgp_update.specs.declared.verdict.Verdict.TheVariants as verdict
-use Rattle.bgp_msg.specs.declared.outcome.Outcome.{Outcome}
-use Rattle.bgp_msg.specs.Prelude.{of_reading, of_verdict, of_body, out_of, is_reset}
-use Rattle.bgp_msg.specs.declared.outcome.Outcome.TheVariants as outcome
-use Rattle.bgp_update.specs.Parts.{has_nlri}
-use Rattle.bgp_update.proofs.Bodies.{parts-body, behind_two-gives, length-body}
 use Rattle.bgp_fields.specs.declared.field.Span.{Span}
-use Rattle.bgp_fields.specs.Prelude.{span, attribute_extent, attribute_place, asks_for, first_asking, asking_place, bad_prefix, run_place, length_place, parts_place, update_place, body_place, reset_place, item_extent, capability_place, parameter_place, parameters_place, open_place, HasPlace}
 use Rattle.bgp_fields.proofs.Extents.{extent-short}
 
 -- ---- OPENs
@@ -203,10 +179,10 @@ asks-more resets false at ms later = later
 
 reset-one : (m : Mark) (ms : List Mark) (n : Notification) (j : Judged) → m.judged ≡ j → option_or (reset_by j) (first_reset ms) ≡ Some n
     → (first_reset ms ≡ Some n → Asks true ms) → Asks true (m ∷ ms)
-reset-one m ms n (judged.Reset r) is e later = (m.at, ap (λ (j : Judged). cond (asks_for true j) (Some m.at) (first_asking true ms)) is)
-reset-one m ms n (judged.Keep a) is e later = asks-more true (asks_for true m.judged) m.at ms (later e)
-reset-one m ms n (judged.Discard w) is e later = asks-more true (asks_for true m.judged) m.at ms (later e)
-reset-one m ms n (judged.Withdraw w) is e later = asks-more true (asks_for true m.judged) m.at ms (later e)
+reset-one m ms n (Judged.Reset r) is e later = (m.at, ap (λ (j : Judged). cond (asks_for true j) (Some m.at) (first_asking true ms)) is)
+reset-one m ms n (Judged.Keep a) is e later = asks-more true (asks_for true m.judged) m.at ms (later e)
+reset-one m ms n (Judged.Discard w) is e later = asks-more true (asks_for true m.judged) m.at ms (later e)
+reset-one m ms n (Judged.Withdraw w) is e later = asks-more true (asks_for true m.judged) m.at ms (later e)
 
 resets-ask : (ms : List Mark) (n : Notification) → first_reset ms ≡ Some n → Asks true ms
 resets-ask [] n e = absurd cc
@@ -214,10 +190,10 @@ resets-ask (m ∷ ms) n e = reset-one m ms n m.judged refl e (λ later. resets-a
 
 none-one : (m : Mark) (ms : List Mark) (j : Judged) → m.judged ≡ j → option_or (reset_by j) (first_reset ms) ≡ None
     → (first_reset ms ≡ None → first_asking true ms ≡ None) → first_asking true (m ∷ ms) ≡ None
-none-one m ms (judged.Reset r) is e later = absurd cc
-none-one m ms (judged.Keep a) is e later = ap (λ (j : Judged). cond (asks_for true j) (Some m.at) (first_asking true ms)) is ∙ later e
-none-one m ms (judged.Discard w) is e later = ap (λ (j : Judged). cond (asks_for true j) (Some m.at) (first_asking true ms)) is ∙ later e
-none-one m ms (judged.Withdraw w) is e later = ap (λ (j : Judged). cond (asks_for true j) (Some m.at) (first_asking true ms)) is ∙ later e
+none-one m ms (Judged.Reset r) is e later = absurd cc
+none-one m ms (Judged.Keep a) is e later = ap (λ (j : Judged). cond (asks_for true j) (Some m.at) (first_asking true ms)) is ∙ later e
+none-one m ms (Judged.Discard w) is e later = ap (λ (j : Judged). cond (asks_for true j) (Some m.at) (first_asking true ms)) is ∙ later e
+none-one m ms (Judged.Withdraw w) is e later = ap (λ (j : Judged). cond (asks_for true j) (Some m.at) (first_asking true ms)) is ∙ later e
 
 none-asks : (ms : List Mark) → first_reset ms ≡ None → first_asking true ms ≡ None
 none-asks [] e = refl
@@ -225,10 +201,10 @@ none-asks (m ∷ ms) e = none-one m ms m.judged refl e (λ later. none-asks ms l
 
 withdraw-one : (m : Mark) (ms : List Mark) (j : Judged) → m.judged ≡ j → (withdraws j || list_any (λ m. withdraws m.judged) ms) ≡ true
     → (list_any (λ m. withdraws m.judged) ms ≡ true → Asks false ms) → Asks false (m ∷ ms)
-withdraw-one m ms (judged.Withdraw w) is e later = (m.at, ap (λ (j : Judged). cond (asks_for false j) (Some m.at) (first_asking false ms)) is)
-withdraw-one m ms (judged.Keep a) is e later = asks-more false (asks_for false m.judged) m.at ms (later e)
-withdraw-one m ms (judged.Discard w) is e later = asks-more false (asks_for false m.judged) m.at ms (later e)
-withdraw-one m ms (judged.Reset n) is e later = asks-more false (asks_for false m.judged) m.at ms (later e)
+withdraw-one m ms (Judged.Withdraw w) is e later = (m.at, ap (λ (j : Judged). cond (asks_for false j) (Some m.at) (first_asking false ms)) is)
+withdraw-one m ms (Judged.Keep a) is e later = asks-more false (asks_for false m.judged) m.at ms (later e)
+withdraw-one m ms (Judged.Discard w) is e later = asks-more false (asks_for false m.judged) m.at ms (later e)
+withdraw-one m ms (Judged.Reset n) is e later = asks-more false (asks_for false m.judged) m.at ms (later e)
 
 withdraws-ask : (ms : List Mark) → list_any (λ m. withdraws m.judged) ms ≡ true → Asks false ms
 withdraws-ask [] e = absurd (true≢false (sym e))
@@ -309,13 +285,13 @@ module _ (ctx : Context) (p : Parts) (N : ℕ) (le : 23 + (length p.withdrawn + 
 -- ---- the verdict
 
 abbrev reset : Notification → Verdict
-reset n = verdict.Reset n
+reset n = Verdict.Reset n
 
 module _ (ctx : Context) (body : List ℕ) (octets : AreOctets body) (n : Notification) where
   -- without a reset by itself, the message announces nothing and would be withdrawn
   asks-by : (p : Parts) (o : Option Notification) (withdrawn reachable : Bool) → o ≡ None → is_withdrawn p (marks_of ctx p) ≡ withdrawn → is_reachable p (marks_of ctx p) ≡ reachable
-      → unless_reset o (cond withdrawn (cond reachable (verdict.Withdraw (routes_of p (marks_of ctx p)) (notes_of p (marks_of ctx p))) (verdict.Reset malformed))
-      (verdict.Take (update_of p (marks_of ctx p)) (notes_of p (marks_of ctx p)))) ≡ reset n → Asks false (marks_of ctx p)
+      → unless_reset o (cond withdrawn (cond reachable (Verdict.Withdraw (routes_of p (marks_of ctx p)) (notes_of p (marks_of ctx p))) (Verdict.Reset malformed))
+      (Verdict.Take (update_of p (marks_of ctx p)) (notes_of p (marks_of ctx p)))) ≡ reset n → Asks false (marks_of ctx p)
   asks-by p (Some m) withdrawn reachable none w r e = absurd cc
   asks-by p None true true none w r e = absurd cc
   asks-by p None false reachable none w r e = absurd cc
@@ -351,12 +327,12 @@ module _ (ctx : Context) (body : List ℕ) (octets : AreOctets body) (n : Notifi
 -- ---- messages
 
 abbrev out-reset : Notification → Outcome
-out-reset n = outcome.Reset n
+out-reset n = Outcome.Reset n
 
 verdict-reset : (v : Verdict) (n : Notification) → of_verdict v ≡ out-reset n → v ≡ reset n
-verdict-reset (verdict.Take u notes) n e = absurd cc
-verdict-reset (verdict.Withdraw routes notes) n e = absurd cc
-verdict-reset (verdict.Reset m) n e = cc
+verdict-reset (Verdict.Take u notes) n e = absurd cc
+verdict-reset (Verdict.Withdraw routes notes) n e = absurd cc
+verdict-reset (Verdict.Reset m) n e = cc
 
 reading-by : (body : List ℕ) (f : Option OpenFault) (n : Notification) → open_fault body ≡ f → of_reading (or_fault f (open_of body)) ≡ out-reset n → 10 ≤ length body
     → HasPlace (19 + length body) (open_place body)
@@ -365,13 +341,13 @@ reading-by body (Some fault) n is e long = open-placed body fault long is
 
 kind-placed : (ctx : Context) (k : Kind) (body : List ℕ) (n : Notification) → AreOctets body → IsLength k (19 + length body) → of_body ctx k body ≡ out-reset n
     → HasPlace (19 + length body) (body_place ctx k body)
-kind-placed ctx kind.Open body n octets allowed e = reading-by body (open_fault body) n refl e (omega (arith, allowed.least))
-kind-placed ctx kind.Update body n octets allowed e =
+kind-placed ctx Kind.Open body n octets allowed e = reading-by body (open_fault body) n refl e (omega (arith, allowed.least))
+kind-placed ctx Kind.Update body n octets allowed e =
     update-by ctx body octets n (parts_of body) refl (omega (arith, allowed.least)) (verdict-reset (verdict_of ctx body) n e)
-kind-placed ctx kind.Notification body n octets allowed e = absurd cc
-kind-placed ctx kind.Keepalive body n octets allowed e = absurd cc
+kind-placed ctx Kind.Notification body n octets allowed e = absurd cc
+kind-placed ctx Kind.Keepalive body n octets allowed e = absurd cc
 
-pub reset-placed : (ctx : Context) (m : frame.Message) (octets : List ℕ) (n : Notification) → AreOctets octets → IsFrame m octets → out_of ctx m ≡ outcome.Reset n
+pub reset-placed : (ctx : Context) (m : frame.Message) (octets : List ℕ) (n : Notification) → AreOctets octets → IsFrame m octets → out_of ctx m ≡ Outcome.Reset n
     → HasPlace (length octets) (reset_place ctx m)
 reset-placed ctx m octets n all is e =
     let head = header m.kind (19 + length m.body) in

@@ -1,12 +1,8 @@
 -- Each fault of a header has a place.
-use Rattle.bgp_wire.proofs.Std.{◌≡◌, ℕ, zero, suc, ◌+◌, ◌<◌, ◌≤◌, ◌||◌, ◌&&◌, ◌==◌, nat_eq, nat_lt, Bool, true, false, cond, List, [], ◌∷◌, length, take, replicate, Option, Some, None, Err, refl, sym, ap, subst, ◌∙◌, arith}
+use Rattle.bgp_fields.proofs.Prelude.{◌≡◌, ℕ, zero, suc, ◌+◌, ◌<◌, ◌≤◌, ◌||◌, ◌&&◌, ◌==◌, nat_eq, nat_lt, Bool, true, false, cond, List, [], ◌∷◌, length}
+use Rattle.bgp_fields.proofs.Prelude.{take, replicate, Option, Some, None, Err, refl, sym, ap, subst, ◌∙◌, arith, true≢false, eqb-true, Kind, HeadFault}
+use Rattle.bgp_fields.proofs.Prelude.{has_marker, length_field, type_field, head_for, head_of, kind_of, is_length, first_other, header_place, HasPlace}
 use Rattle.std.specs.Cmp.Lexicographic.{pointwise}
-use Rattle.std.proofs.lemmas.Bool.{true≢false, eqb-true}
-use Rattle.bgp_frame.specs.declared.kind.Kind.{Kind}
-use Rattle.bgp_frame.specs.declared.fault.HeadFault.{HeadFault}
-use Rattle.bgp_frame.specs.Prelude.{has_marker, length_field, type_field, head_for, head_of, kind_of, is_length}
-use Rattle.bgp_frame.specs.declared.fault.HeadFault.TheVariants as fault
-use Rattle.bgp_fields.specs.Prelude.{first_other, header_place, HasPlace}
 
 step-by : (k at x : ℕ) (b : List ℕ) (t : Bool) → (x == 255) ≡ t → (nat_eq 255 x && pointwise nat_eq (replicate k 255) (take k b)) ≡ false
     → (pointwise nat_eq (replicate k 255) (take k b) ≡ false → first_other (at + 1) b < at + 1 + k) → first_other at (x ∷ b) < at + suc k
@@ -24,27 +20,27 @@ other-within (suc k) at [] le e = absurd (omega (arith, le))
 other-within (suc k) at (x ∷ b) le e = step-by k at x b (x == 255) refl e (λ rest. other-within k (at + 1) b (omega (arith, le)) rest)
 
 -- a Marker is at fault where it isn't one
-fits-not : (k : Kind) (code n : ℕ) (t : Bool) → is_length k n ≡ t → head_for (Some k) code n ≡ Err fault.Marker → ⊥
+fits-not : (k : Kind) (code n : ℕ) (t : Bool) → is_length k n ≡ t → head_for (Some k) code n ≡ Err HeadFault.Marker → ⊥
 fits-not k code n true is e = absurd (let no = rw is at e in cc)
 fits-not k code n false is e = absurd (let no = rw is at e in cc)
 
-kind-not : (o : Option Kind) (code n : ℕ) → head_for o code n ≡ Err fault.Marker → ⊥
+kind-not : (o : Option Kind) (code n : ℕ) → head_for o code n ≡ Err HeadFault.Marker → ⊥
 kind-not None code n e = absurd cc
 kind-not (Some k) code n e = fits-not k code n (is_length k n) refl e
 
-length-not : (bad : Bool) (o : Option Kind) (code n : ℕ) → cond bad (Err (fault.Length n)) (head_for o code n) ≡ Err fault.Marker → ⊥
+length-not : (bad : Bool) (o : Option Kind) (code n : ℕ) → cond bad (Err (HeadFault.Length n)) (head_for o code n) ≡ Err HeadFault.Marker → ⊥
 length-not true o code n e = absurd cc
 length-not false o code n e = kind-not o code n e
 
-marker-by : (h : List ℕ) (t : Bool) → has_marker h ≡ t → head_of h ≡ Err fault.Marker → t ≡ false
+marker-by : (h : List ℕ) (t : Bool) → has_marker h ≡ t → head_of h ≡ Err HeadFault.Marker → t ≡ false
 unfolding head_of
 marker-by h false is e = refl
 marker-by h true is e =
     absurd (length-not (nat_lt (length_field h) 19 || nat_lt 4096 (length_field h)) (kind_of (type_field h)) (type_field h) (length_field h) (rw is at e))
 
 pub header-placed : (octets : List ℕ) (f : HeadFault) → 19 ≤ length octets → head_of octets ≡ Err f → HasPlace 19 (Some (header_place octets f))
-header-placed octets fault.Marker long e =
+header-placed octets HeadFault.Marker long e =
     let other = other-within 16 0 octets (omega (arith, long)) (marker-by octets (has_marker octets) refl e) in
     (omega arith, omega (arith, other))
-header-placed octets (fault.Length n) long e = (omega arith, omega arith)
-header-placed octets (fault.Kind code) long e = (omega arith, omega arith)
+header-placed octets (HeadFault.Length n) long e = (omega arith, omega arith)
+header-placed octets (HeadFault.Kind code) long e = (omega arith, omega arith)

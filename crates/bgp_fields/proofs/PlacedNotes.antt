@@ -1,37 +1,14 @@
 -- Each note on an UPDATE has a place, unless it says that an attribute is missing.
-use Rattle.bgp_wire.proofs.Std.{◌≡◌, ℕ, ◌+◌, ◌-◌, ◌<◌, ◌≤◌, Bool, true, false, List, [], ◌∷◌, ◌++◌, length, Option, Some, refl, sym, ap, subst, ◌∙◌, arith, flat_map, le-leb, flat_map-cons}
-use Rattle.std.proofs.lemmas.Bool.{true≢false, lt-ltb}
-use Rattle.bgp_numbers.specs.declared.attribute.TheConstants.{ORIGIN, AS_PATH, NEXT_HOP}
-use Rattle.bgp_wire.specs.Prelude.{AreOctets}
-use Rattle.bgp_wire.proofs.OctetLemmas.{AreOctets-back}
-use Rattle.bgp_frame.specs.declared.kind.Kind.{Kind}
-use Rattle.bgp_frame.specs.Prelude.{IsFrame, header}
-use Rattle.bgp_frame.specs.declared.kind.Kind.TheVariants as kind
+use Rattle.bgp_fields.proofs.Prelude.{◌≡◌, ℕ, ◌+◌, ◌-◌, ◌<◌, ◌≤◌, Bool, true, false, List, [], ◌∷◌, ◌++◌, length, Option, Some, refl, sym, ap, subst, ◌∙◌}
+use Rattle.bgp_fields.proofs.Prelude.{arith, flat_map, le-leb, flat_map-cons, true≢false, lt-ltb, ORIGIN, AS_PATH, NEXT_HOP, AreOctets, AreOctets-back, Kind}
+use Rattle.bgp_fields.proofs.Prelude.{IsFrame, header, length-IsFrame, Context, reading_of, Judged, Why, Note, Routes, Update, Verdict, Mark, marks_of}
+use Rattle.bgp_fields.proofs.Prelude.{mark_notes, missing_note, missing_notes, missing_of, notes_of, Parts, attributes_at, parts_of, verdict_of, has_nlri}
+use Rattle.bgp_fields.proofs.Prelude.{parts-body, length-body, Message, Outcome, of_verdict, of_body, out_of, says_missing, note_place_in, note_place}
+use Rattle.bgp_fields.proofs.Prelude.{HasPlace, ArePlaced, taken-of, withdrawn-of}
 use Rattle.bgp_frame.specs.Frame as frame
-use Rattle.bgp_frame.proofs.FrameLemmas.{length-IsFrame}
-use Rattle.bgp_open.specs.declared.context.Context.{Context}
-use Rattle.bgp_open.specs.Prelude.{reading_of}
-use Rattle.bgp_attr.specs.declared.judged.Judged.{Judged}
-use Rattle.bgp_attr.specs.declared.why.Why.{Why}
-use Rattle.bgp_attr.specs.declared.judged.Judged.TheVariants as judged
 use Rattle.bgp_update.specs.declared.missing.Missing.{Missing}
-use Rattle.bgp_update.specs.declared.note.Note.{Note}
-use Rattle.bgp_update.specs.declared.routes.Routes.{Routes}
-use Rattle.bgp_update.specs.declared.update.Update.{Update}
-use Rattle.bgp_update.specs.declared.verdict.Verdict.{Verdict}
-use Rattle.bgp_update.specs.Prelude.{Mark, marks_of, mark_notes, missing_note, missing_notes, missing_of, notes_of, Parts, attributes_at, parts_of, verdict_of}
-use Rattle.bgp_update.specs.declared.verdict.Verdict.TheVariants as verdict
-use Rattle.bgp_update.specs.Parts.{has_nlri}
-use Rattle.bgp_update.proofs.Bodies.{parts-body, length-body}
-use Rattle.bgp_msg.specs.declared.message.Message.{Message}
-use Rattle.bgp_msg.specs.declared.outcome.Outcome.{Outcome}
-use Rattle.bgp_msg.specs.Prelude.{of_verdict, of_body, out_of}
-use Rattle.bgp_msg.specs.declared.message.Message.TheVariants as message
-use Rattle.bgp_msg.specs.declared.outcome.Outcome.TheVariants as outcome
-use Rattle.bgp_fields.specs.Prelude.{says_missing, note_place_in, note_place, HasPlace, ArePlaced}
 use Rattle.bgp_fields.proofs.Placed.{AllIn, field-in, attribute-placed}
 use Rattle.bgp_fields.proofs.Routed.{open-not, open-gone}
-use Rattle.bgp_update.proofs.Verdicts.{taken-of, withdrawn-of}
 
 abbrev Placed : ℕ → List ℕ → Note → Type 0
 Placed n body note = says_missing note.why ≡ false → HasPlace n (note_place body note)
@@ -52,10 +29,10 @@ module _ (p : Parts) (n : ℕ) (body : List ℕ) (found : parts_of body ≡ Some
       (attribute-placed p n at le inside))
 
   mark-by : (at type : ℕ) (j : Judged) → at < length p.attributes → ArePlaced n body (mark_notes (attributes_at p) (record { at = at; kind = type; judged = j }))
-  mark-by at type (judged.Keep a) inside = tt
-  mark-by at type (judged.Reset r) inside = tt
-  mark-by at type (judged.Discard w) inside = (one-note at type w inside, tt)
-  mark-by at type (judged.Withdraw w) inside = (one-note at type w inside, tt)
+  mark-by at type (Judged.Keep a) inside = tt
+  mark-by at type (Judged.Reset r) inside = tt
+  mark-by at type (Judged.Discard w) inside = (one-note at type w inside, tt)
+  mark-by at type (Judged.Withdraw w) inside = (one-note at type w inside, tt)
 
   marks-placed : (ms : List Mark) → AllIn (length p.attributes) ms → ArePlaced n body (flat_map (mark_notes (attributes_at p)) ms)
   marks-placed [] all = tt
@@ -83,50 +60,50 @@ module _ (ctx : Context) where
       let long = ap length (parts-body body p octets found).octets ∙ length-body p.withdrawn p.attributes p.nlri in
       notes-placed p (19 + length body) body found (omega (arith, long)) ctx
 
-  same-notes : (m o : Message) (ns ms : List Note) → (let one : Outcome = outcome.Took m ns in one ≡ outcome.Took o ms) → ns ≡ ms
+  same-notes : (m o : Message) (ns ms : List Note) → (let one : Outcome = Outcome.Took m ns in one ≡ Outcome.Took o ms) → ns ≡ ms
   same-notes m o ns ms e = cc
 
-  gone-notes : (r s : Routes) (ns ms : List Note) → (let one : Outcome = outcome.Withdraw r ns in one ≡ outcome.Withdraw s ms) → ns ≡ ms
+  gone-notes : (r s : Routes) (ns ms : List Note) → (let one : Outcome = Outcome.Withdraw r ns in one ≡ Outcome.Withdraw s ms) → ns ≡ ms
   gone-notes r s ns ms e = cc
 
-  taken-by : (body : List ℕ) (u : Update) (notes : List Note) → AreOctets body → (v : Verdict) → verdict_of ctx body ≡ v → of_verdict v ≡ outcome.Took (message.Update u) notes
+  taken-by : (body : List ℕ) (u : Update) (notes : List Note) → AreOctets body → (v : Verdict) → verdict_of ctx body ≡ v → of_verdict v ≡ Outcome.Took (Message.Update u) notes
       → ArePlaced (19 + length body) body notes
-  taken-by body u notes octets (verdict.Take w ns) is e =
+  taken-by body u notes octets (Verdict.Take w ns) is e =
       let taken = taken-of ctx body w ns is in
-      subst (ArePlaced (19 + length body) body) (taken.notes_are ∙ same-notes (message.Update w) (message.Update u) ns notes e) (parts-placed body taken.parts octets taken.found)
-  taken-by body u notes octets (verdict.Withdraw routes ns) is e = absurd cc
-  taken-by body u notes octets (verdict.Reset n) is e = absurd cc
+      subst (ArePlaced (19 + length body) body) (taken.notes_are ∙ same-notes (Message.Update w) (Message.Update u) ns notes e) (parts-placed body taken.parts octets taken.found)
+  taken-by body u notes octets (Verdict.Withdraw routes ns) is e = absurd cc
+  taken-by body u notes octets (Verdict.Reset n) is e = absurd cc
 
-  taken-kind : (k : Kind) (body : List ℕ) (u : Update) (notes : List Note) → AreOctets body → of_body ctx k body ≡ outcome.Took (message.Update u) notes
+  taken-kind : (k : Kind) (body : List ℕ) (u : Update) (notes : List Note) → AreOctets body → of_body ctx k body ≡ Outcome.Took (Message.Update u) notes
       → ArePlaced (19 + length body) body notes
-  taken-kind kind.Open body u notes octets e = absurd (open-not ctx u notes (reading_of body) e)
-  taken-kind kind.Update body u notes octets e = taken-by body u notes octets (verdict_of ctx body) refl e
-  taken-kind kind.Notification body u notes octets e = absurd cc
-  taken-kind kind.Keepalive body u notes octets e = absurd cc
+  taken-kind Kind.Open body u notes octets e = absurd (open-not ctx u notes (reading_of body) e)
+  taken-kind Kind.Update body u notes octets e = taken-by body u notes octets (verdict_of ctx body) refl e
+  taken-kind Kind.Notification body u notes octets e = absurd cc
+  taken-kind Kind.Keepalive body u notes octets e = absurd cc
 
-  gone-by : (body : List ℕ) (routes : Routes) (notes : List Note) → AreOctets body → (v : Verdict) → verdict_of ctx body ≡ v → of_verdict v ≡ outcome.Withdraw routes notes
+  gone-by : (body : List ℕ) (routes : Routes) (notes : List Note) → AreOctets body → (v : Verdict) → verdict_of ctx body ≡ v → of_verdict v ≡ Outcome.Withdraw routes notes
       → ArePlaced (19 + length body) body notes
-  gone-by body routes notes octets (verdict.Withdraw r ns) is e =
+  gone-by body routes notes octets (Verdict.Withdraw r ns) is e =
       let gone = withdrawn-of ctx body r ns is in
       subst (ArePlaced (19 + length body) body) (gone.notes_are ∙ gone-notes r routes ns notes e) (parts-placed body gone.parts octets gone.found)
-  gone-by body routes notes octets (verdict.Take u ns) is e = absurd cc
-  gone-by body routes notes octets (verdict.Reset n) is e = absurd cc
+  gone-by body routes notes octets (Verdict.Take u ns) is e = absurd cc
+  gone-by body routes notes octets (Verdict.Reset n) is e = absurd cc
 
-  gone-kind : (k : Kind) (body : List ℕ) (routes : Routes) (notes : List Note) → AreOctets body → of_body ctx k body ≡ outcome.Withdraw routes notes
+  gone-kind : (k : Kind) (body : List ℕ) (routes : Routes) (notes : List Note) → AreOctets body → of_body ctx k body ≡ Outcome.Withdraw routes notes
       → ArePlaced (19 + length body) body notes
-  gone-kind kind.Open body routes notes octets e = absurd (open-gone ctx routes notes (reading_of body) e)
-  gone-kind kind.Update body routes notes octets e = gone-by body routes notes octets (verdict_of ctx body) refl e
-  gone-kind kind.Notification body routes notes octets e = absurd cc
-  gone-kind kind.Keepalive body routes notes octets e = absurd cc
+  gone-kind Kind.Open body routes notes octets e = absurd (open-gone ctx routes notes (reading_of body) e)
+  gone-kind Kind.Update body routes notes octets e = gone-by body routes notes octets (verdict_of ctx body) refl e
+  gone-kind Kind.Notification body routes notes octets e = absurd cc
+  gone-kind Kind.Keepalive body routes notes octets e = absurd cc
 
 pub taken-notes : (ctx : Context) (m : frame.Message) (octets : List ℕ) (u : Update) (notes : List Note) → AreOctets octets → IsFrame m octets
-    → out_of ctx m ≡ outcome.Took (message.Update u) notes → ArePlaced (length octets) m.body notes
+    → out_of ctx m ≡ Outcome.Took (Message.Update u) notes → ArePlaced (length octets) m.body notes
 taken-notes ctx m octets u notes all is e =
     subst (λ (k : ℕ). ArePlaced k m.body notes) (sym (length-IsFrame m octets is))
     (taken-kind ctx m.kind m.body u notes (AreOctets-back (header m.kind (19 + length m.body)) m.body (subst AreOctets is.octets all)) e)
 
 pub withdrawn-notes : (ctx : Context) (m : frame.Message) (octets : List ℕ) (routes : Routes) (notes : List Note) → AreOctets octets → IsFrame m octets
-    → out_of ctx m ≡ outcome.Withdraw routes notes → ArePlaced (length octets) m.body notes
+    → out_of ctx m ≡ Outcome.Withdraw routes notes → ArePlaced (length octets) m.body notes
 withdrawn-notes ctx m octets routes notes all is e =
     subst (λ (k : ℕ). ArePlaced k m.body notes) (sym (length-IsFrame m octets is))
     (gone-kind ctx m.kind m.body routes notes (AreOctets-back (header m.kind (19 + length m.body)) m.body (subst AreOctets is.octets all)) e)

@@ -1,19 +1,8 @@
 -- Octets that can be read to their end.
-use Rattle.bgp_wire.proofs.Std.{◌≡◌, ℕ, ◌+◌, ◌<◌, ◌≤◌, false, List, [], ◌∷◌, ◌++◌, length, take, drop, Option, refl, sym, ap, subst, ◌∙◌, arith, le-leb, drop_at, take_at}
-use Rattle.std.proofs.lemmas.Bool.{lt-ltb}
-use Rattle.std.proofs.lemmas.List.{drop-drop, length-append}
-use Rattle.bgp_open.specs.declared.context.Context.{Context}
-use Rattle.bgp_fields.specs.declared.field.Field.{Field}
-use Rattle.bgp_fields.specs.declared.field.Group.{Group}
-use Rattle.bgp_fields.specs.declared.kind.FieldKind.{FieldKind}
-use Rattle.bgp_fields.specs.declared.kind.FieldKind.TheVariants.{Unread}
-use Rattle.bgp_fields.specs.declared.part.MessagePart.{MessagePart}
-use Rattle.bgp_fields.specs.declared.part.SectionPart.{SectionPart}
-use Rattle.bgp_fields.specs.declared.part.ValuePart.{ValuePart}
-use Rattle.bgp_fields.specs.Prelude.{no_fields, value_fields, section_fields, message_fields, is_unread, AllRead, behind, alone, nothing_inside, nothing_in_section, value_plan, section_plan, message_plan, Plan, fit, group_from, Telling, told, walk}
-use Rattle.bgp_fields.specs.declared.part.MessagePart.TheVariants as message
-use Rattle.bgp_fields.specs.declared.part.SectionPart.TheVariants as section
-use Rattle.bgp_fields.specs.declared.part.ValuePart.TheVariants as value
+use Rattle.bgp_fields.proofs.Prelude.{◌≡◌, ℕ, ◌+◌, ◌<◌, ◌≤◌, false, List, [], ◌∷◌, ◌++◌, length, take, drop, Option, refl, sym, ap, subst, ◌∙◌, arith, le-leb}
+use Rattle.bgp_fields.proofs.Prelude.{drop_at, take_at, lt-ltb, drop-drop, length-append, Context, Field, Group, FieldKind, Unread, MessagePart, SectionPart}
+use Rattle.bgp_fields.proofs.Prelude.{ValuePart, no_fields, value_fields, section_fields, message_fields, is_unread, AllRead, behind, alone, nothing_inside}
+use Rattle.bgp_fields.proofs.Prelude.{nothing_in_section, value_plan, section_plan, message_plan, Plan, fit, group_from, Telling, told, walk}
 use Rattle.bgp_fields.proofs.Walks.{walk-none, walk-told}
 
 pub read-append : (fs gs : List Field) → AllRead fs → AllRead gs → AllRead (fs ++ gs)
@@ -56,13 +45,13 @@ module _ (ctx : Context) where
   MessageRead part b = (at : ℕ) (group : Option Group) → AllRead (message_fields ctx part at group b)
 
   pub value-none : (part : ValuePart) → ValueRead part []
-  value-none part at group = subst AllRead (sym (walk-none (Unit {0}) ValuePart (value.All Unread) (value_plan ctx) no_fields part at group)) tt
+  value-none part at group = subst AllRead (sym (walk-none (Unit {0}) ValuePart (ValuePart.All Unread) (value_plan ctx) no_fields part at group)) tt
 
   pub section-none : (part : SectionPart) → SectionRead part []
-  section-none part at group = subst AllRead (sym (walk-none ValuePart SectionPart (section.All Unread) (section_plan ctx) (value_fields ctx) part at group)) tt
+  section-none part at group = subst AllRead (sym (walk-none ValuePart SectionPart (SectionPart.All Unread) (section_plan ctx) (value_fields ctx) part at group)) tt
 
   pub message-none : (part : MessagePart) → MessageRead part []
-  message-none part at group = subst AllRead (sym (walk-none SectionPart MessagePart (message.All Unread) message_plan (section_fields ctx) part at group)) tt
+  message-none part at group = subst AllRead (sym (walk-none SectionPart MessagePart (MessagePart.All Unread) message_plan (section_fields ctx) part at group)) tt
 
   -- ---- a field in front of others
 
@@ -73,7 +62,7 @@ module _ (ctx : Context) where
       → value_plan ctx part (front ++ back) ≡ record { kind = kind; len = n; begins = begins; inner = tt; inner_len = 0; next = next }
       → length front ≡ n → 0 < n → is_unread kind ≡ false → ValueRead next back → ValueRead part (front ++ back)
   value-front part front back begins kind n next is long some known later =
-      read-step (Unit {0}) ValuePart (value.All Unread) (value_plan ctx) no_fields part (front ++ back)
+      read-step (Unit {0}) ValuePart (ValuePart.All Unread) (value_plan ctx) no_fields part (front ++ back)
       (record { kind = kind; len = n; begins = begins; inner = tt; inner_len = 0; next = next }) is some (omega (arith, length-append front back, long)) known
       (λ at group. tt)
       (subst (ValueRead next) (sym (plan_at n (front ++ back) ∙ drop_at front back n long)) later)
@@ -82,7 +71,7 @@ module _ (ctx : Context) where
       → section_plan ctx part (front ++ back) ≡ record { kind = kind; len = n; begins = begins; inner = nothing_inside; inner_len = 0; next = next }
       → length front ≡ n → 0 < n → is_unread kind ≡ false → SectionRead next back → SectionRead part (front ++ back)
   section-front part front back begins kind n next is long some known later =
-      read-step ValuePart SectionPart (section.All Unread) (section_plan ctx) (value_fields ctx) part (front ++ back)
+      read-step ValuePart SectionPart (SectionPart.All Unread) (section_plan ctx) (value_fields ctx) part (front ++ back)
       (record { kind = kind; len = n; begins = begins; inner = nothing_inside; inner_len = 0; next = next }) is some (omega (arith, length-append front back, long)) known
       (value-none nothing_inside)
       (subst (SectionRead next) (sym (plan_at n (front ++ back) ∙ drop_at front back n long)) later)
@@ -91,7 +80,7 @@ module _ (ctx : Context) where
       → message_plan part (front ++ back) ≡ alone kind n next
       → length front ≡ n → 0 < n → is_unread kind ≡ false → MessageRead next back → MessageRead part (front ++ back)
   message-front part front back kind n next is long some known later =
-      read-step SectionPart MessagePart (message.All Unread) message_plan (section_fields ctx) part (front ++ back)
+      read-step SectionPart MessagePart (MessagePart.All Unread) message_plan (section_fields ctx) part (front ++ back)
       (alone kind n next) is some (omega (arith, length-append front back, long)) known
       (section-none nothing_in_section)
       (subst (MessageRead next) (sym (plan_at n (front ++ back) ∙ drop_at front back n long)) later)
@@ -113,7 +102,7 @@ module _ (ctx : Context) where
       → length front ≡ n → 0 < n → length inside ≡ k → is_unread kind ≡ false → ValueRead inner inside → SectionRead next back
       → SectionRead part (front ++ (inside ++ back))
   section-behind part front inside back kind n inner k next is long some held known within later =
-      read-step ValuePart SectionPart (section.All Unread) (section_plan ctx) (value_fields ctx) part (front ++ (inside ++ back))
+      read-step ValuePart SectionPart (SectionPart.All Unread) (section_plan ctx) (value_fields ctx) part (front ++ (inside ++ back))
       (behind kind n inner k next) is some (fits_at front inside back n k long held) known
       (subst (ValueRead inner) (sym (inside_at front inside back n k long held)) within)
       (subst (SectionRead next) (sym (rest_at front inside back n k long held)) later)
@@ -123,7 +112,7 @@ module _ (ctx : Context) where
       → length front ≡ n → 0 < n → length inside ≡ k → is_unread kind ≡ false → SectionRead inner inside → MessageRead next back
       → MessageRead part (front ++ (inside ++ back))
   message-behind part front inside back kind n inner k next is long some held known within later =
-      read-step SectionPart MessagePart (message.All Unread) message_plan (section_fields ctx) part (front ++ (inside ++ back))
+      read-step SectionPart MessagePart (MessagePart.All Unread) message_plan (section_fields ctx) part (front ++ (inside ++ back))
       (behind kind n inner k next) is some (fits_at front inside back n k long held) known
       (subst (SectionRead inner) (sym (inside_at front inside back n k long held)) within)
       (subst (MessageRead next) (sym (rest_at front inside back n k long held)) later)

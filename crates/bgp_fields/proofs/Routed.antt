@@ -1,41 +1,19 @@
 -- The prefix fields of an UPDATE that is accepted, or treated as a withdrawal, are its routes.
-use Rattle.bgp_wire.proofs.Std.{◌≡◌, ℕ, ◌+◌, List, ◌++◌, length, Some, None, Result, Ok, Err, refl, sym, ap, ap₂, subst, ◌∙◌, w16, to_be_bytes}
-use Rattle.bgp_frame.specs.declared.kind.Kind.{Kind}
-use Rattle.bgp_frame.specs.Prelude.{IsFrame, header}
-use Rattle.bgp_frame.specs.declared.kind.Kind.TheVariants as kind
+use Rattle.bgp_fields.proofs.Prelude.{◌≡◌, ℕ, ◌+◌, List, ◌++◌, length, Some, None, Result, Ok, Err, refl, sym, ap, ap₂, subst, ◌∙◌, w16, to_be_bytes, Kind}
+use Rattle.bgp_fields.proofs.Prelude.{IsFrame, header, AreOctets, AreOctets-front, AreOctets-back, Context, OpenFault, Version, Parameter, UnknownParameter}
+use Rattle.bgp_fields.proofs.Prelude.{Memory, Open, reading_of, Hold, Identifier, PrefixValue, Note, Routes, Update, Verdict, marks_of, routes_of, Parts}
+use Rattle.bgp_fields.proofs.Prelude.{parts_of, update_of, reset_of, verdict_of, parts-body, Message, Outcome, of_reading, of_verdict, of_body, out_of}
+use Rattle.bgp_fields.proofs.Prelude.{fields_of, ShowsRoutes, ShowsWithdrawal, taken-of, withdrawn-of}
 use Rattle.bgp_frame.specs.Frame as frame
-use Rattle.bgp_wire.specs.Prelude.{AreOctets}
-use Rattle.bgp_wire.proofs.OctetLemmas.{AreOctets-front, AreOctets-back}
-use Rattle.bgp_open.specs.declared.context.Context.{Context}
-use Rattle.bgp_open.specs.declared.fault.OpenFault.{OpenFault}
-use Rattle.bgp_open.specs.declared.fault.OpenFault.TheVariants.{Version, Parameter, UnknownParameter, Memory}
-use Rattle.bgp_open.specs.declared.message.Open.{Open}
-use Rattle.bgp_open.specs.Prelude.{reading_of}
-use Rattle.bgp_open.specs.declared.fault.OpenFault.TheVariants.{Hold, Identifier}
-use Rattle.bgp_prefix.specs.Prelude.{PrefixValue}
-use Rattle.bgp_update.specs.declared.note.Note.{Note}
-use Rattle.bgp_update.specs.declared.routes.Routes.{Routes}
-use Rattle.bgp_update.specs.declared.update.Update.{Update}
-use Rattle.bgp_update.specs.declared.verdict.Verdict.{Verdict}
-use Rattle.bgp_update.specs.Prelude.{marks_of, routes_of, Parts, parts_of, update_of, reset_of, verdict_of}
-use Rattle.bgp_update.specs.declared.verdict.Verdict.TheVariants as verdict
-use Rattle.bgp_update.proofs.Bodies.{parts-body}
-use Rattle.bgp_msg.specs.declared.message.Message.{Message}
-use Rattle.bgp_msg.specs.declared.outcome.Outcome.{Outcome}
-use Rattle.bgp_msg.specs.Prelude.{of_reading, of_verdict, of_body, out_of}
-use Rattle.bgp_msg.specs.declared.message.Message.TheVariants as message
-use Rattle.bgp_msg.specs.declared.outcome.Outcome.TheVariants as outcome
-use Rattle.bgp_fields.specs.Prelude.{fields_of, ShowsRoutes, ShowsWithdrawal}
 use Rattle.bgp_fields.proofs.ShownRoutes.{routes-shown}
-use Rattle.bgp_update.proofs.Verdicts.{taken-of, withdrawn-of}
 
 abbrev took : Message → List Note → Outcome
-took said notes = outcome.Took said notes
+took said notes = Outcome.Took said notes
 
 abbrev withdraw : Routes → List Note → Outcome
-withdraw routes notes = outcome.Withdraw routes notes
+withdraw routes notes = Outcome.Withdraw routes notes
 
-same-update : (u v : Update) (ns ms : List Note) → took (message.Update u) ns ≡ took (message.Update v) ms → u ≡ v
+same-update : (u v : Update) (ns ms : List Note) → took (Message.Update u) ns ≡ took (Message.Update v) ms → u ≡ v
 same-update u v ns ms e = cc
 
 same-routes : (r s : Routes) (ns ms : List Note) → withdraw r ns ≡ withdraw s ms → r ≡ s
@@ -43,7 +21,7 @@ same-routes r s ns ms e = cc
 
 module _ (ctx : Context) where
   abbrev whole : List ℕ → List ℕ
-  whole body = header kind.Update (19 + length body) ++ body
+  whole body = header Kind.Update (19 + length body) ++ body
 
   -- the octets of these parts show the routes of these parts
   parts-shown : (body : List ℕ) (p : Parts) → AreOctets body → parts_of body ≡ Some p → reset_of p (marks_of ctx p) ≡ None
@@ -57,16 +35,16 @@ module _ (ctx : Context) where
 
   -- ---- accepted
 
-  update-by : (body : List ℕ) (u : Update) (notes : List Note) → AreOctets body → (v : Verdict) → verdict_of ctx body ≡ v → of_verdict v ≡ took (message.Update u) notes
+  update-by : (body : List ℕ) (u : Update) (notes : List Note) → AreOctets body → (v : Verdict) → verdict_of ctx body ≡ v → of_verdict v ≡ took (Message.Update u) notes
       → ShowsRoutes (whole body) (fields_of ctx (whole body)) u
-  update-by body u notes octets (verdict.Take w ns) is e =
+  update-by body u notes octets (Verdict.Take w ns) is e =
       let taken = taken-of ctx body w ns is in
       let same : w ≡ u = same-update w u ns notes e in
       subst (ShowsRoutes (whole body) (fields_of ctx (whole body))) (taken.update ∙ same) (parts-shown body taken.parts octets taken.found taken.no_reset)
-  update-by body u notes octets (verdict.Withdraw routes ns) is e = absurd cc
-  update-by body u notes octets (verdict.Reset n) is e = absurd cc
+  update-by body u notes octets (Verdict.Withdraw routes ns) is e = absurd cc
+  update-by body u notes octets (Verdict.Reset n) is e = absurd cc
 
-  pub open-not : (u : Update) (notes : List Note) (r : Result Open OpenFault) → of_reading r ≡ took (message.Update u) notes → ⊥
+  pub open-not : (u : Update) (notes : List Note) (r : Result Open OpenFault) → of_reading r ≡ took (Message.Update u) notes → ⊥
   open-not u notes (Ok o) e = absurd cc
   open-not u notes (Err Version) e = absurd cc
   open-not u notes (Err Parameter) e = absurd cc
@@ -75,12 +53,12 @@ module _ (ctx : Context) where
   open-not u notes (Err Identifier) e = absurd cc
   open-not u notes (Err Memory) e = absurd cc
 
-  kind-by : (k : Kind) (body : List ℕ) (u : Update) (notes : List Note) → AreOctets body → of_body ctx k body ≡ took (message.Update u) notes
+  kind-by : (k : Kind) (body : List ℕ) (u : Update) (notes : List Note) → AreOctets body → of_body ctx k body ≡ took (Message.Update u) notes
       → ShowsRoutes (header k (19 + length body) ++ body) (fields_of ctx (header k (19 + length body) ++ body)) u
-  kind-by kind.Open body u notes octets e = absurd (open-not u notes (reading_of body) e)
-  kind-by kind.Update body u notes octets e = update-by body u notes octets (verdict_of ctx body) refl e
-  kind-by kind.Notification body u notes octets e = absurd cc
-  kind-by kind.Keepalive body u notes octets e = absurd cc
+  kind-by Kind.Open body u notes octets e = absurd (open-not u notes (reading_of body) e)
+  kind-by Kind.Update body u notes octets e = update-by body u notes octets (verdict_of ctx body) refl e
+  kind-by Kind.Notification body u notes octets e = absurd cc
+  kind-by Kind.Keepalive body u notes octets e = absurd cc
 
   -- ---- treated as a withdrawal
 
@@ -94,11 +72,11 @@ module _ (ctx : Context) where
 
   gone-by : (body : List ℕ) (routes : Routes) (notes : List Note) → AreOctets body → (v : Verdict) → verdict_of ctx body ≡ v → of_verdict v ≡ withdraw routes notes
       → ShowsWithdrawal (whole body) (fields_of ctx (whole body)) routes
-  gone-by body routes notes octets (verdict.Withdraw r ns) is e =
+  gone-by body routes notes octets (Verdict.Withdraw r ns) is e =
       let gone = withdrawn-of ctx body r ns is in
       shown-withdrawal (whole body) gone.parts routes (parts-shown body gone.parts octets gone.found gone.no_reset) (gone.routes_are ∙ same-routes r routes ns notes e)
-  gone-by body routes notes octets (verdict.Take u ns) is e = absurd cc
-  gone-by body routes notes octets (verdict.Reset n) is e = absurd cc
+  gone-by body routes notes octets (Verdict.Take u ns) is e = absurd cc
+  gone-by body routes notes octets (Verdict.Reset n) is e = absurd cc
 
   pub open-gone : (routes : Routes) (notes : List Note) (r : Result Open OpenFault) → of_reading r ≡ withdraw routes notes → ⊥
   open-gone routes notes (Ok o) e = absurd cc
@@ -111,19 +89,19 @@ module _ (ctx : Context) where
 
   kind-gone : (k : Kind) (body : List ℕ) (routes : Routes) (notes : List Note) → AreOctets body → of_body ctx k body ≡ withdraw routes notes
       → ShowsWithdrawal (header k (19 + length body) ++ body) (fields_of ctx (header k (19 + length body) ++ body)) routes
-  kind-gone kind.Open body routes notes octets e = absurd (open-gone routes notes (reading_of body) e)
-  kind-gone kind.Update body routes notes octets e = gone-by body routes notes octets (verdict_of ctx body) refl e
-  kind-gone kind.Notification body routes notes octets e = absurd cc
-  kind-gone kind.Keepalive body routes notes octets e = absurd cc
+  kind-gone Kind.Open body routes notes octets e = absurd (open-gone routes notes (reading_of body) e)
+  kind-gone Kind.Update body routes notes octets e = gone-by body routes notes octets (verdict_of ctx body) refl e
+  kind-gone Kind.Notification body routes notes octets e = absurd cc
+  kind-gone Kind.Keepalive body routes notes octets e = absurd cc
 
 pub accepted-routes : (ctx : Context) (m : frame.Message) (octets : List ℕ) (u : Update) (notes : List Note) → AreOctets octets → IsFrame m octets
-    → out_of ctx m ≡ outcome.Took (message.Update u) notes → ShowsRoutes octets (fields_of ctx octets) u
+    → out_of ctx m ≡ Outcome.Took (Message.Update u) notes → ShowsRoutes octets (fields_of ctx octets) u
 accepted-routes ctx m octets u notes all is e =
     let body : AreOctets m.body = AreOctets-back (header m.kind (19 + length m.body)) m.body (subst AreOctets is.octets all) in
     subst (λ (b : List ℕ). ShowsRoutes b (fields_of ctx b) u) (sym is.octets) (kind-by ctx m.kind m.body u notes body e)
 
 pub withdrawn-routes : (ctx : Context) (m : frame.Message) (octets : List ℕ) (routes : Routes) (notes : List Note) → AreOctets octets → IsFrame m octets
-    → out_of ctx m ≡ outcome.Withdraw routes notes → ShowsWithdrawal octets (fields_of ctx octets) routes
+    → out_of ctx m ≡ Outcome.Withdraw routes notes → ShowsWithdrawal octets (fields_of ctx octets) routes
 withdrawn-routes ctx m octets routes notes all is e =
     let body : AreOctets m.body = AreOctets-back (header m.kind (19 + length m.body)) m.body (subst AreOctets is.octets all) in
     subst (λ (b : List ℕ). ShowsWithdrawal b (fields_of ctx b) routes) (sym is.octets) (kind-gone ctx m.kind m.body routes notes body e)

@@ -1,13 +1,9 @@
 -- The prefixes that fields show, a field at a time.
-use Rattle.bgp_wire.proofs.Std.{◌≡◌, ℕ, ◌+◌, ◌<◌, Bool, true, false, cond, List, [], ◌∷◌, ◌++◌, length, take, drop, Option, Some, None, refl, sym, ap, ap₂, subst, ◌∙◌, arith, drop_at, take_at, take-take, drop-take, flat_map-cons, flat_map-append}
+use Rattle.bgp_fields.proofs.Prelude.{◌≡◌, ℕ, ◌+◌, ◌<◌, Bool, true, false, cond, List, [], ◌∷◌, ◌++◌, length, take, drop, Option, Some, None, refl, sym, ap}
+use Rattle.bgp_fields.proofs.Prelude.{ap₂, subst, ◌∙◌, arith, drop_at, take_at, take-take, drop-take, flat_map-cons, flat_map-append, append-nil, drop-drop}
+use Rattle.bgp_fields.proofs.Prelude.{length-append, PrefixValue, IsPrefix, one_prefix, IsPrefix-reads, Field, Group, FieldKind, octets_in, prefix_width}
+use Rattle.bgp_fields.proofs.Prelude.{prefix_alone, prefix_in, prefixes_shown, Plan, fit, group_from, Telling, walk}
 use Rattle.std.specs.Prelude.{is_some}
-use Rattle.std.proofs.lemmas.List.{append-nil, drop-drop, length-append}
-use Rattle.bgp_prefix.specs.Prelude.{PrefixValue, IsPrefix, one_prefix}
-use Rattle.bgp_prefix.proofs.PrefixLemmas.{IsPrefix-reads}
-use Rattle.bgp_fields.specs.declared.field.Field.{Field}
-use Rattle.bgp_fields.specs.declared.field.Group.{Group}
-use Rattle.bgp_fields.specs.declared.kind.FieldKind.{FieldKind}
-use Rattle.bgp_fields.specs.Prelude.{octets_in, prefix_width, prefix_alone, prefix_in, prefixes_shown, Plan, fit, group_from, Telling, walk}
 use Rattle.bgp_fields.proofs.Walks.{walk-none, walk-told}
 use Rattle.bgp_fields.proofs.Readable.{fit-whole}
 

@@ -1,42 +1,24 @@
 -- The prefixes that an attribute shows are the routes that are kept of it.
-use Rattle.bgp_wire.proofs.Std.{◌≡◌, ℕ, ◌+◌, Bool, true, false, cond, not, List, [], ◌∷◌, ◌++◌, length, Option, Some, None, refl, sym, ap, subst, arith, not-false, ltb-false, not-true}
-use Rattle.std.proofs.lemmas.Bool.{true≢false}
-use Rattle.std.proofs.lemmas.List.{append-nil}
-use Rattle.bgp_numbers.specs.declared.attribute.TheConstants.{ORIGIN, AS_PATH, NEXT_HOP, MULTI_EXIT_DISC, LOCAL_PREF, ATOMIC_AGGREGATE, AGGREGATOR, COMMUNITIES, MP_REACH_NLRI, MP_UNREACH_NLRI, AS4_PATH, AS4_AGGREGATOR, LARGE_COMMUNITY}
-use Rattle.bgp_frame.specs.declared.notification.Notification.{Notification}
-use Rattle.bgp_wire.specs.Prelude.{AreOctets, when}
-use Rattle.bgp_open.specs.declared.context.Context.{Context}
-use Rattle.bgp_prefix.specs.Prelude.{PrefixValue}
-use Rattle.bgp_attr.specs.declared.attr.Attr.{Attr}
-use Rattle.bgp_attr.specs.declared.judged.Judged.{Judged}
-use Rattle.bgp_attr.specs.declared.mp.MpReach.{MpReach}
-use Rattle.bgp_attr.specs.declared.mp.MpUnreach.{MpUnreach}
-use Rattle.bgp_attr.specs.declared.why.Why.{Why}
-use Rattle.bgp_attr.specs.Prelude.{family_of, is_in_use, address_width, is_next_hop_length, next_hop_length, reached_of, mp_reach_of, withdrawn_of, mp_unreach_of, TlvValue, is_shorter, has_bad_prefix, mp_reach_tests, mp_unreach_tests, AttributeType, is_recognised, decided, judgement}
-use Rattle.bgp_attr.specs.declared.judged.Judged.TheVariants as judged
-use Rattle.bgp_attr.specs.declared.why.Why.TheVariants as why
-use Rattle.bgp_attr.specs.declared.attr.Attr.TheVariants as attr
+use Rattle.bgp_fields.proofs.Prelude.{◌≡◌, ℕ, ◌+◌, Bool, true, false, cond, not, List, [], ◌∷◌, ◌++◌, length, Option, Some, None, refl, sym, ap, subst, arith}
+use Rattle.bgp_fields.proofs.Prelude.{not-false, ltb-false, not-true, true≢false, append-nil, ORIGIN, AS_PATH, NEXT_HOP, MULTI_EXIT_DISC, LOCAL_PREF}
+use Rattle.bgp_fields.proofs.Prelude.{ATOMIC_AGGREGATE, AGGREGATOR, COMMUNITIES, MP_REACH_NLRI, MP_UNREACH_NLRI, AS4_PATH, AS4_AGGREGATOR, LARGE_COMMUNITY}
+use Rattle.bgp_fields.proofs.Prelude.{Notification, AreOctets, when, Context, PrefixValue, Attr, Judged, MpReach, MpUnreach, Why, family_of, is_in_use}
+use Rattle.bgp_fields.proofs.Prelude.{address_width, is_next_hop_length, next_hop_length, reached_of, mp_reach_of, withdrawn_of, mp_unreach_of, TlvValue}
+use Rattle.bgp_fields.proofs.Prelude.{is_shorter, has_bad_prefix, mp_reach_tests, mp_unreach_tests, is_recognised, decided, judgement, mp_reach-spells}
+use Rattle.bgp_fields.proofs.Prelude.{mp_unreach-spells, ◌&◌, by_row, entry-other, passed, by_type, by_kept, malformed, carries_routes, repeated, reset_by}
+use Rattle.bgp_fields.proofs.Prelude.{as_mp_reach, as_mp_unreach, FieldKind, ValuePart, attribute_values, attribute_value}
+use Rattle.bgp_attr.specs.Prelude.{AttributeType}
 use Rattle.bgp_numbers.specs.declared.error.TheConstants.{UPDATE_MESSAGE, OPTIONAL_ATTRIBUTE}
-use Rattle.bgp_attr.proofs.Kept.{mp_reach-spells, mp_unreach-spells}
-use Rattle.bgp_attr.proofs.Tables.{◌&◌, by_row, entry-other}
-use Rattle.bgp_attr.proofs.TestRows.{passed, by_type}
-use Rattle.bgp_attr.proofs.EachType.{by_kept}
-use Rattle.bgp_update.specs.Prelude.{malformed, carries_routes, repeated, reset_by, as_mp_reach, as_mp_unreach}
-use Rattle.bgp_fields.specs.declared.kind.FieldKind.{FieldKind}
-use Rattle.bgp_fields.specs.declared.part.ValuePart.{ValuePart}
-use Rattle.bgp_fields.specs.Prelude.{attribute_values, attribute_value}
-use Rattle.bgp_fields.specs.declared.kind.FieldKind.TheVariants as field
-use Rattle.bgp_fields.specs.declared.part.ValuePart.TheVariants as value
 use Rattle.bgp_fields.proofs.ShowingValues.{is_plain, ValueShows, plain-shows, reach_shown, unreach_shown, reach-shows, unreach-shows, unused-shows}
 
 -- it is discarded, and the session goes on
 abbrev IsDropped : Judged → Type 0
-IsDropped (judged.Discard w) = Unit {0}
-IsDropped (judged.Withdraw w) = Unit {0}
+IsDropped (Judged.Discard w) = Unit {0}
+IsDropped (Judged.Withdraw w) = Unit {0}
 IsDropped _ = ⊥
 
 reach-dropped : (a b c d e f : Bool) (n : Notification) (w : Why) (x : Attr)
-    → IsDropped (decided (when a (judged.Reset n) ∷ when b (judged.Reset n) ∷ when c (judged.Discard w) ∷ when d (judged.Reset n) ∷ when e (judged.Reset n) ∷ when f (judged.Reset n) ∷ []) x)
+    → IsDropped (decided (when a (Judged.Reset n) ∷ when b (Judged.Reset n) ∷ when c (Judged.Discard w) ∷ when d (Judged.Reset n) ∷ when e (Judged.Reset n) ∷ when f (Judged.Reset n) ∷ []) x)
     → (b ≡ false) × (c ≡ true)
 reach-dropped true b c d e f n w x is = absurd is
 reach-dropped false true c d e f n w x is = absurd is
@@ -47,7 +29,7 @@ reach-dropped false false false false false true n w x is = absurd is
 reach-dropped false false false false false false n w x is = absurd is
 
 unreach-dropped : (a b c d : Bool) (n : Notification) (w : Why) (x : Attr)
-    → IsDropped (decided (when a (judged.Reset n) ∷ when b (judged.Reset n) ∷ when c (judged.Discard w) ∷ when d (judged.Reset n) ∷ []) x)
+    → IsDropped (decided (when a (Judged.Reset n) ∷ when b (Judged.Reset n) ∷ when c (Judged.Discard w) ∷ when d (Judged.Reset n) ∷ []) x)
     → (b ≡ false) × (c ≡ true)
 unreach-dropped true b c d n w x is = absurd is
 unreach-dropped false true c d n w x is = absurd is
@@ -64,18 +46,18 @@ reach-tests : (ctx : Context) (t : TlvValue) (x : Attr) → IsDropped (decided (
 reach-tests ctx t x d =
     reach-dropped _ (is_shorter 5 t) (not (is_in_use ctx (family_of t.value)))
     (not (is_next_hop_length (family_of t.value) (next_hop_length t.value))) (is_shorter (5 + next_hop_length t.value) t)
-    (has_bad_prefix (address_width (family_of t.value)) (reached_of t.value)) (says t) why.Family x d
+    (has_bad_prefix (address_width (family_of t.value)) (reached_of t.value)) (says t) Why.Family x d
 
 unreach-tests : (ctx : Context) (t : TlvValue) (x : Attr) → IsDropped (decided (mp_unreach_tests ctx t) x)
     → (is_shorter 3 t ≡ false) × (not (is_in_use ctx (family_of t.value)) ≡ true)
 unreach-tests ctx t x d =
     unreach-dropped _ (is_shorter 3 t) (not (is_in_use ctx (family_of t.value)))
-    (has_bad_prefix (address_width (family_of t.value)) (withdrawn_of t.value)) (says t) why.Family x d
+    (has_bad_prefix (address_width (family_of t.value)) (withdrawn_of t.value)) (says t) Why.Family x d
 
 -- a type that carries no routes shows none
 plain-kind : (ctx : Context) (kind : ℕ) → carries_routes kind ≡ false → is_plain (attribute_value ctx kind) ≡ true
 plain-kind ctx kind none =
-    by_row kind (value.All field.AttributeValue) (λ (k : ℕ) (part : ValuePart). carries_routes k ≡ false → is_plain part ≡ true) (attribute_values ctx)
+    by_row kind (ValuePart.All FieldKind.AttributeValue) (λ (k : ℕ) (part : ValuePart). carries_routes k ≡ false → is_plain part ≡ true) (attribute_values ctx)
     ((λ e. refl) & (λ e. refl) & (λ e. refl) & (λ e. refl) & (λ e. refl) & (λ e. refl) & (λ e. refl) & (λ e. refl)
     & (λ e. absurd (true≢false e)) & (λ e. absurd (true≢false e)) & (λ e. refl) & (λ e. refl) & (λ e. refl) & tt)
     (λ other e. refl) none
@@ -94,7 +76,7 @@ module _ (ctx : Context) (chosen : FieldKind → Bool) where
   attr_shown a = reach_opt (as_mp_reach a) ++ unreach_opt (as_mp_unreach a)
 
   abbrev pub judged_shown : Judged → List PrefixValue
-  judged_shown (judged.Keep a) = attr_shown a
+  judged_shown (Judged.Keep a) = attr_shown a
   judged_shown _ = []
 
   module _ (nlri : Bool) (t : TlvValue) where
@@ -109,9 +91,9 @@ module _ (ctx : Context) (chosen : FieldKind → Bool) where
 
     other-shows : is_recognised t.kind ≡ false → Here []
     other-shows other =
-        plain-shows ctx chosen (attribute_value ctx t.kind) t.value (ap is_plain (entry-other t.kind (value.All field.AttributeValue) (attribute_values ctx) other))
+        plain-shows ctx chosen (attribute_value ctx t.kind) t.value (ap is_plain (entry-other t.kind (ValuePart.All FieldKind.AttributeValue) (attribute_values ctx) other))
 
-    kept-shows : (a : Attr) → AreOctets t.value → judgement ctx nlri t ≡ judged.Keep a → Here (attr_shown a)
+    kept-shows : (a : Attr) → AreOctets t.value → judgement ctx nlri t ≡ Judged.Keep a → Here (attr_shown a)
     kept-shows a octets keeps =
         by_kept ctx nlri t (λ (x : Attr). Here (attr_shown x))
         ((λ e none. plain-at ORIGIN e refl) & (λ e none. plain-at AS_PATH e refl) & (λ e none. plain-at NEXT_HOP e refl) & (λ e none. plain-at MULTI_EXIT_DISC e refl)
@@ -127,18 +109,18 @@ module _ (ctx : Context) (chosen : FieldKind → Bool) where
         by_type ctx nlri t (λ (type : AttributeType). IsDropped (decided type.tests type.value) → Here [])
         ((λ e d. plain-at ORIGIN e refl) & (λ e d. plain-at AS_PATH e refl) & (λ e d. plain-at NEXT_HOP e refl) & (λ e d. plain-at MULTI_EXIT_DISC e refl)
         & (λ e d. plain-at LOCAL_PREF e refl) & (λ e d. plain-at ATOMIC_AGGREGATE e refl) & (λ e d. plain-at AGGREGATOR e refl) & (λ e d. plain-at COMMUNITIES e refl)
-        & (λ e d. let tests = reach-tests ctx t (attr.MpReach (mp_reach_of t.value)) d in let long = ltb-false (length t.value) 5 tests.0 in
+        & (λ e d. let tests = reach-tests ctx t (Attr.MpReach (mp_reach_of t.value)) d in let long = ltb-false (length t.value) 5 tests.0 in
         at-kind MP_REACH_NLRI [] e (unused-shows ctx chosen true t.value (omega (arith, long)) (not-true _ tests.1)))
-        & (λ e d. let tests = unreach-tests ctx t (attr.MpUnreach (mp_unreach_of t.value)) d in
+        & (λ e d. let tests = unreach-tests ctx t (Attr.MpUnreach (mp_unreach_of t.value)) d in
         at-kind MP_UNREACH_NLRI [] e (unused-shows ctx chosen false t.value (ltb-false (length t.value) 3 tests.0) (not-true _ tests.1)))
         & (λ e d. plain-at AS4_PATH e refl) & (λ e d. plain-at AS4_AGGREGATOR e refl) & (λ e d. plain-at LARGE_COMMUNITY e refl) & tt)
         (λ other d. other-shows other)
 
     first-shows : (j : Judged) → judgement ctx nlri t ≡ j → AreOctets t.value → reset_by j ≡ None → Here (judged_shown j)
-    first-shows (judged.Keep a) is octets goes = kept-shows a octets is
-    first-shows (judged.Discard w) is octets goes = dropped-shows (subst IsDropped (sym is) tt)
-    first-shows (judged.Withdraw w) is octets goes = dropped-shows (subst IsDropped (sym is) tt)
-    first-shows (judged.Reset n) is octets goes = absurd cc
+    first-shows (Judged.Keep a) is octets goes = kept-shows a octets is
+    first-shows (Judged.Discard w) is octets goes = dropped-shows (subst IsDropped (sym is) tt)
+    first-shows (Judged.Withdraw w) is octets goes = dropped-shows (subst IsDropped (sym is) tt)
+    first-shows (Judged.Reset n) is octets goes = absurd cc
 
     repeated-shows : (routes : Bool) → carries_routes t.kind ≡ routes → reset_by (repeated t.kind) ≡ None → Here (judged_shown (repeated t.kind))
     repeated-shows true e goes = absurd (let is : Some malformed ≡ None = rw e at goes in cc)

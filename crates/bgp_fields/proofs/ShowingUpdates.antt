@@ -1,29 +1,11 @@
 -- The prefix fields of an UPDATE that isn't answered by a reset are its routes.
-use Rattle.bgp_wire.proofs.Std.{◌≡◌, ℕ, ◌-◌, ◌<◌, Bool, false, List, [], ◌∷◌, ◌++◌, length, take, None, refl, sym, ap, ap₂, subst, ◌∙◌, arith, w16, to_be_bytes, flat_map, option_or, take_at, flat_map-cons, flat_map-append, from_be_bytes-to_be_bytes_2}
-use Rattle.std.proofs.lemmas.List.{append-nil}
-use Rattle.bgp_frame.specs.declared.kind.Kind.TheVariants as kind
-use Rattle.bgp_frame.specs.Prelude.{header, marker, code_of}
-use Rattle.bgp_wire.specs.Prelude.{AreOctets, none_of_them}
-use Rattle.bgp_wire.proofs.OctetLemmas.{AreOctets-front, AreOctets-back}
-use Rattle.bgp_wire.proofs.Pieces.{Splits-pieces}
-use Rattle.bgp_wire.proofs.Walks.{nothing_at}
-use Rattle.bgp_open.specs.declared.context.Context.{Context}
-use Rattle.bgp_prefix.specs.Prelude.{PrefixValue, run_of}
-use Rattle.bgp_attr.specs.declared.judged.Judged.{Judged}
-use Rattle.bgp_attr.specs.Prelude.{TlvValue, IsTlv, one_tlv, tlvs_of, placed_from}
-use Rattle.bgp_attr.specs.declared.judged.Judged.TheVariants as judged
-use Rattle.bgp_attr.proofs.Readers.{IsTlv-reads}
-use Rattle.bgp_update.specs.Prelude.{Mark, marks_behind, cut_mark, field_marks, marks_of, Parts, IsBody, kept_by, kept_of, reset_by, first_reset, reset_of_run, reset_of}
-use Rattle.bgp_update.specs.Parts.{has_nlri}
-use Rattle.bgp_update.proofs.KeptMarks.{or-parts, with_cut-kept}
-use Rattle.bgp_update.proofs.Taken.{run-row}
-use Rattle.bgp_fields.specs.declared.kind.FieldKind.{FieldKind}
-use Rattle.bgp_fields.specs.declared.part.MessagePart.{MessagePart}
-use Rattle.bgp_fields.specs.declared.part.SectionPart.{SectionPart}
-use Rattle.bgp_fields.specs.Prelude.{section_fields, fields_of, alone, behind, two_of, message_plan, prefixes_shown}
-use Rattle.bgp_fields.specs.declared.kind.FieldKind.TheVariants as field
-use Rattle.bgp_fields.specs.declared.part.MessagePart.TheVariants as message
-use Rattle.bgp_fields.specs.declared.part.SectionPart.TheVariants as section
+use Rattle.bgp_fields.proofs.Prelude.{◌≡◌, ℕ, ◌-◌, ◌<◌, Bool, false, List, [], ◌∷◌, ◌++◌, length, take, None, refl, sym, ap, ap₂, subst, ◌∙◌, arith, w16}
+use Rattle.bgp_fields.proofs.Prelude.{to_be_bytes, flat_map, option_or, take_at, flat_map-cons, flat_map-append, from_be_bytes-to_be_bytes_2, append-nil}
+use Rattle.bgp_fields.proofs.Prelude.{Kind, header, marker, code_of, AreOctets, none_of_them, AreOctets-front, AreOctets-back, Splits-pieces, nothing_at}
+use Rattle.bgp_fields.proofs.Prelude.{Context, PrefixValue, run_of, Judged, TlvValue, IsTlv, one_tlv, tlvs_of, placed_from, IsTlv-reads, Mark, marks_behind}
+use Rattle.bgp_fields.proofs.Prelude.{cut_mark, field_marks, marks_of, Parts, IsBody, kept_by, kept_of, reset_by, first_reset, reset_of_run, reset_of}
+use Rattle.bgp_fields.proofs.Prelude.{has_nlri, or-parts, with_cut-kept, run-row, FieldKind, MessagePart, SectionPart, section_fields, fields_of, alone}
+use Rattle.bgp_fields.proofs.Prelude.{behind, two_of, message_plan, prefixes_shown}
 use Rattle.bgp_fields.proofs.Showing.{is_prefix, pick, pick-nil, shows-step, shows-leaf}
 use Rattle.bgp_fields.proofs.ShowingAttributes.{attr_shown, judged_shown}
 use Rattle.bgp_fields.proofs.ShowingSections.{SectionShows, MessageShows, none-section, withdrawn-shows, nlri-shows, marks_shown, attributes-show}
@@ -41,10 +23,10 @@ module _ (ctx : Context) (chosen : FieldKind → Bool) where
   shown ms = marks_shown ctx chosen ms
 
   mark-kept : (j : Judged) → judged_shown ctx chosen j ≡ flat_map (attr_shown ctx chosen) (kept_by j)
-  mark-kept (judged.Keep a) = sym (append-nil (attr_shown ctx chosen a))
-  mark-kept (judged.Discard w) = refl
-  mark-kept (judged.Withdraw w) = refl
-  mark-kept (judged.Reset n) = refl
+  mark-kept (Judged.Keep a) = sym (append-nil (attr_shown ctx chosen a))
+  mark-kept (Judged.Discard w) = refl
+  mark-kept (Judged.Withdraw w) = refl
+  mark-kept (Judged.Reset n) = refl
 
   -- what is shown is that of what is kept
   marks-kept : (ms : List Mark) → marks_shown ctx chosen ms ≡ flat_map (attr_shown ctx chosen) (kept_of ms)
@@ -56,7 +38,7 @@ module _ (ctx : Context) (chosen : FieldKind → Bool) where
       ∙ ap (flat_map (attr_shown ctx chosen)) (sym (flat_map-cons (λ (n : Mark). kept_by n.judged) m ms))
 
   pub field-shows : (nlri : Bool) (b : List ℕ) → AreOctets b → first_reset (field_marks ctx nlri b) ≡ None
-      → SectionShows ctx chosen section.AttributeFlags b (flat_map (attr_shown ctx chosen) (kept_of (field_marks ctx nlri b)))
+      → SectionShows ctx chosen SectionPart.AttributeFlags b (flat_map (attr_shown ctx chosen) (kept_of (field_marks ctx nlri b)))
   unfolding field_marks
   field-shows nlri b octets goes =
       let ts = (tlvs_of b).0 in
@@ -65,8 +47,8 @@ module _ (ctx : Context) (chosen : FieldKind → Bool) where
       let s = Splits-pieces TlvValue IsTlv one_tlv IsTlv-reads b in
       let same : flat_map (attr_shown ctx chosen) (kept_of (ms ++ cut_mark (length b - length rest) rest)) ≡ marks_shown ctx chosen ms =
       ap (flat_map (attr_shown ctx chosen)) (with_cut-kept ms (length b - length rest) rest) ∙ sym (marks-kept ms) in
-      subst (SectionShows ctx chosen section.AttributeFlags b) (sym same)
-      (subst (λ (c : List ℕ). SectionShows ctx chosen section.AttributeFlags c (marks_shown ctx chosen ms)) (sym s.whole)
+      subst (SectionShows ctx chosen SectionPart.AttributeFlags b) (sym same)
+      (subst (λ (c : List ℕ). SectionShows ctx chosen SectionPart.AttributeFlags c (marks_shown ctx chosen ms)) (sym s.whole)
       (attributes-show ctx chosen nlri none_of_them 0 ts s.row rest s.spelled (AreOctets-front s.row rest (subst AreOctets s.whole octets))
       (nothing_at TlvValue IsTlv one_tlv IsTlv-reads b) (resets-front ms (cut_mark (length b - length rest) rest) goes)))
 
@@ -76,39 +58,39 @@ module _ (ctx : Context) (chosen : FieldKind → Bool) where
       → message_plan part (front ++ back) ≡ alone kind n next → length front ≡ n → 0 < n → is_prefix kind ≡ false
       → MessageShows ctx chosen next back later → MessageShows ctx chosen part (front ++ back) later
   message-leaf part front back kind n next later is long some known behind_it =
-      shows-leaf chosen SectionPart MessagePart (message.All field.Unread) message_plan (section_fields ctx) part front back (alone kind n next) later is long some refl known
-      (λ at group. none-section ctx chosen (section.All field.Unread) at group) behind_it
+      shows-leaf chosen SectionPart MessagePart (MessagePart.All FieldKind.Unread) message_plan (section_fields ctx) part front back (alone kind n next) later is long some refl known
+      (λ at group. none-section ctx chosen (SectionPart.All FieldKind.Unread) at group) behind_it
 
   body-shows : (p : Parts) (body : List ℕ) (withdrawn attributes nlri : List PrefixValue) → IsBody p body
-      → SectionShows ctx chosen section.Withdrawn p.withdrawn withdrawn → SectionShows ctx chosen section.AttributeFlags p.attributes attributes
-      → MessageShows ctx chosen message.Nlri p.nlri nlri → MessageShows ctx chosen message.WithdrawnLength body (withdrawn ++ (attributes ++ nlri))
+      → SectionShows ctx chosen SectionPart.Withdrawn p.withdrawn withdrawn → SectionShows ctx chosen SectionPart.AttributeFlags p.attributes attributes
+      → MessageShows ctx chosen MessagePart.Nlri p.nlri nlri → MessageShows ctx chosen MessagePart.WithdrawnLength body (withdrawn ++ (attributes ++ nlri))
   body-shows p body withdrawn attributes nlri is w a n =
       let size = to_be_bytes w16 (length p.attributes) in
       let rest = size ++ (p.attributes ++ p.nlri) in
       let front = to_be_bytes w16 (length p.withdrawn) in
-      subst (λ (c : List ℕ). MessageShows ctx chosen message.WithdrawnLength c (withdrawn ++ (attributes ++ nlri))) (sym is.octets)
-      (shows-step chosen SectionPart MessagePart (message.All field.Unread) message_plan (section_fields ctx) message.WithdrawnLength front p.withdrawn rest
-      (behind field.WithdrawnLength 2 section.Withdrawn (two_of (front ++ (p.withdrawn ++ rest))) message.AttributesLength) [] withdrawn (attributes ++ nlri)
-      refl refl (omega arith) (sym (from_be_bytes-to_be_bytes_2 (length p.withdrawn) is.withdrawn_fits)) (pick-nil (chosen field.WithdrawnLength)) w
-      (shows-step chosen SectionPart MessagePart (message.All field.Unread) message_plan (section_fields ctx) message.AttributesLength size p.attributes p.nlri
-      (behind field.AttributesLength 2 section.AttributeFlags (two_of rest) message.Nlri) [] attributes nlri
-      refl refl (omega arith) (sym (from_be_bytes-to_be_bytes_2 (length p.attributes) is.attributes_fit)) (pick-nil (chosen field.AttributesLength)) a n))
+      subst (λ (c : List ℕ). MessageShows ctx chosen MessagePart.WithdrawnLength c (withdrawn ++ (attributes ++ nlri))) (sym is.octets)
+      (shows-step chosen SectionPart MessagePart (MessagePart.All FieldKind.Unread) message_plan (section_fields ctx) MessagePart.WithdrawnLength front p.withdrawn rest
+      (behind FieldKind.WithdrawnLength 2 SectionPart.Withdrawn (two_of (front ++ (p.withdrawn ++ rest))) MessagePart.AttributesLength) [] withdrawn (attributes ++ nlri)
+      refl refl (omega arith) (sym (from_be_bytes-to_be_bytes_2 (length p.withdrawn) is.withdrawn_fits)) (pick-nil (chosen FieldKind.WithdrawnLength)) w
+      (shows-step chosen SectionPart MessagePart (MessagePart.All FieldKind.Unread) message_plan (section_fields ctx) MessagePart.AttributesLength size p.attributes p.nlri
+      (behind FieldKind.AttributesLength 2 SectionPart.AttributeFlags (two_of rest) MessagePart.Nlri) [] attributes nlri
+      refl refl (omega arith) (sym (from_be_bytes-to_be_bytes_2 (length p.attributes) is.attributes_fit)) (pick-nil (chosen FieldKind.AttributesLength)) a n))
 
-  header-shows : (n : ℕ) (body : List ℕ) (ps : List PrefixValue) → MessageShows ctx chosen message.WithdrawnLength body ps
-      → MessageShows ctx chosen message.Marker (header kind.Update n ++ body) ps
+  header-shows : (n : ℕ) (body : List ℕ) (ps : List PrefixValue) → MessageShows ctx chosen MessagePart.WithdrawnLength body ps
+      → MessageShows ctx chosen MessagePart.Marker (header Kind.Update n ++ body) ps
   header-shows n body ps later =
-      message-leaf message.Marker marker (to_be_bytes w16 n ++ (code_of kind.Update ∷ body)) field.Marker 16 message.Length ps refl refl (omega arith) refl
-      (message-leaf message.Length (to_be_bytes w16 n) (code_of kind.Update ∷ body) field.MessageLength 2 message.Kind ps refl refl (omega arith) refl
-      (message-leaf message.Kind (code_of kind.Update ∷ []) body field.MessageType 1 message.WithdrawnLength ps refl refl (omega arith) refl later))
+      message-leaf MessagePart.Marker marker (to_be_bytes w16 n ++ (code_of Kind.Update ∷ body)) FieldKind.Marker 16 MessagePart.Length ps refl refl (omega arith) refl
+      (message-leaf MessagePart.Length (to_be_bytes w16 n) (code_of Kind.Update ∷ body) FieldKind.MessageLength 2 MessagePart.Kind ps refl refl (omega arith) refl
+      (message-leaf MessagePart.Kind (code_of Kind.Update ∷ []) body FieldKind.MessageType 1 MessagePart.WithdrawnLength ps refl refl (omega arith) refl later))
 
   -- all prefixes of these kinds that an UPDATE shows
   pub update-shows : (p : Parts) (n : ℕ) (body : List ℕ) → AreOctets body → IsBody p body → reset_of p (marks_of ctx p) ≡ None
-      → prefixes_shown chosen (header kind.Update n ++ body) (fields_of ctx (header kind.Update n ++ body))
-      ≡ pick (chosen field.WithdrawnPrefix) (run_of 4 p.withdrawn).0
-      ++ (flat_map (attr_shown ctx chosen) (kept_of (marks_of ctx p)) ++ pick (chosen field.NlriPrefix) (run_of 4 p.nlri).0)
+      → prefixes_shown chosen (header Kind.Update n ++ body) (fields_of ctx (header Kind.Update n ++ body))
+      ≡ pick (chosen FieldKind.WithdrawnPrefix) (run_of 4 p.withdrawn).0
+      ++ (flat_map (attr_shown ctx chosen) (kept_of (marks_of ctx p)) ++ pick (chosen FieldKind.NlriPrefix) (run_of 4 p.nlri).0)
   update-shows p n body octets is goes =
       let marks = marks_of ctx p in
-      let whole = header kind.Update n ++ body in
+      let whole = header Kind.Update n ++ body in
       let resets = or-parts (first_reset marks) _ goes in
       let runs = or-parts (reset_of_run p.withdrawn) (reset_of_run p.nlri) resets.1 in
       let later : AreOctets (p.withdrawn ++ (to_be_bytes w16 (length p.attributes) ++ (p.attributes ++ p.nlri))) =

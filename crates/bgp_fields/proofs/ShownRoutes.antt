@@ -1,32 +1,15 @@
 -- Routes by family and place.
-use Rattle.bgp_wire.proofs.Std.{◌≡◌, ℕ, Bool, true, false, not, cond, eqb, List, [], ◌∷◌, ◌++◌, map, Option, Some, None, refl, sym, ap, ap₂, subst, ◌∙◌, flat_map, and_parts, or_left, or_right, flat_map-cons}
-use Rattle.std.proofs.lemmas.Bool.{true≢false, eqb-true, eq-eqb}
-use Rattle.std.proofs.lemmas.List.{append-nil}
-use Rattle.bgp_numbers.specs.declared.attribute.TheConstants.{MP_REACH_NLRI, MP_UNREACH_NLRI}
-use Rattle.bgp_frame.specs.declared.kind.Kind.TheVariants as kind
-use Rattle.bgp_frame.specs.Prelude.{header}
-use Rattle.bgp_wire.specs.Prelude.{◌>>=◌, AreOctets, also, none_of_them}
-use Rattle.bgp_wire.proofs.OctetLemmas.{AreOctets-front}
-use Rattle.bgp_wire.proofs.Pieces.{Splits-pieces}
-use Rattle.bgp_open.specs.declared.context.Context.{Context}
-use Rattle.bgp_prefix.specs.Prelude.{PrefixValue, run_of}
-use Rattle.bgp_attr.specs.declared.attr.Attr.{Attr}
-use Rattle.bgp_attr.specs.declared.mp.MpReach.{MpReach}
-use Rattle.bgp_attr.specs.declared.mp.MpUnreach.{MpUnreach}
-use Rattle.bgp_attr.specs.Prelude.{TlvValue, IsTlv, one_tlv, tlvs_of, placed_from, type_of}
-use Rattle.bgp_attr.specs.declared.attr.Attr.TheVariants as attr
-use Rattle.bgp_attr.specs.declared.mp.MpReach.TheVariants as reach
-use Rattle.bgp_attr.specs.declared.mp.MpUnreach.TheVariants as unreach
-use Rattle.bgp_attr.proofs.Readers.{IsTlv-reads}
-use Rattle.bgp_update.specs.Prelude.{marks_behind, field_marks, marks_of, gone_ip4, gone_ip6, reached_ip4, reached_ip6, Parts, IsBody, kept_of, attrs_from, attrs_of, first_known, is_opaque, update_of, as_mp_reach, as_mp_unreach, reset_of}
-use Rattle.bgp_update.specs.Parts.{has_nlri}
+use Rattle.bgp_fields.proofs.Prelude.{◌≡◌, ℕ, Bool, true, false, not, cond, eqb, List, [], ◌∷◌, ◌++◌, map, Option, Some, None, refl, sym, ap, ap₂, subst, ◌∙◌}
+use Rattle.bgp_fields.proofs.Prelude.{flat_map, and_parts, or_left, or_right, flat_map-cons, true≢false, eqb-true, eq-eqb, append-nil, MP_REACH_NLRI}
+use Rattle.bgp_fields.proofs.Prelude.{MP_UNREACH_NLRI, Kind, header, ◌>>=◌, AreOctets, also, none_of_them, AreOctets-front, Splits-pieces, Context}
+use Rattle.bgp_fields.proofs.Prelude.{PrefixValue, run_of, Attr, MpReach, MpUnreach, TlvValue, IsTlv, one_tlv, tlvs_of, placed_from, type_of, IsTlv-reads}
+use Rattle.bgp_fields.proofs.Prelude.{marks_behind, field_marks, marks_of, gone_ip4, gone_ip6, reached_ip4, reached_ip6, Parts, IsBody, kept_of, attrs_from}
+use Rattle.bgp_fields.proofs.Prelude.{attrs_of, first_known, is_opaque, update_of, as_mp_reach, as_mp_unreach, reset_of, has_nlri, with_cut-kept, row-kept}
+use Rattle.bgp_fields.proofs.Prelude.{FieldKind, fields_of, is_withdrawn_prefix, is_unreach_prefix4, is_unreach_prefix6, is_reach_prefix4, is_reach_prefix6}
+use Rattle.bgp_fields.proofs.Prelude.{is_nlri_prefix, prefixes_shown, ShowsRoutes}
 use Rattle.bgp_update.proofs.TypeLemmas.{is_of}
-use Rattle.bgp_update.proofs.KeptMarks.{with_cut-kept, row-kept}
 use Rattle.bgp_update.proofs.Lists.{flat_map-same}
 use Rattle.bgp_update.proofs.Rising.{NoneTwice}
-use Rattle.bgp_fields.specs.declared.kind.FieldKind.{FieldKind}
-use Rattle.bgp_fields.specs.Prelude.{fields_of, is_withdrawn_prefix, is_unreach_prefix4, is_unreach_prefix6, is_reach_prefix4, is_reach_prefix6, is_nlri_prefix, prefixes_shown, ShowsRoutes}
-use Rattle.bgp_fields.specs.declared.kind.FieldKind.TheVariants as field
 use Rattle.bgp_fields.proofs.Showing.{pick}
 use Rattle.bgp_fields.proofs.ShowingAttributes.{reach_opt, unreach_opt, attr_shown}
 use Rattle.bgp_fields.proofs.ShowingUpdates.{update-shows}
@@ -65,11 +48,11 @@ module _ (A : Type 0) (slot : Attr → Option A) (kind : ℕ) (alone : (x : Attr
       flat_map-cons (λ (y : Attr). g (slot y)) x xs ∙ first-by x xs seen (is_of kind x) refl fresh.1 (first-only (also (type_of x) seen) xs fresh.1)
 
 reach-alone : (x : Attr) → (first_known (x ∷ []) MP_REACH_NLRI >>= as_mp_reach) ≡ as_mp_reach x
-reach-alone (attr.MpReach r) = refl
+reach-alone (Attr.MpReach r) = refl
 reach-alone _ = refl
 
 unreach-alone : (x : Attr) → (first_known (x ∷ []) MP_UNREACH_NLRI >>= as_mp_unreach) ≡ as_mp_unreach x
-unreach-alone (attr.MpUnreach r) = refl
+unreach-alone (Attr.MpUnreach r) = refl
 unreach-alone _ = refl
 
 -- ---- what is shown of attributes that are kept, no type twice
@@ -95,35 +78,35 @@ module _ (ctx : Context) (xs : List Attr) (seen : ℕ → Bool) (fresh : NoneTwi
       (λ x. ap₂ (λ (a b : List PrefixValue). a ++ b) (empty (as_mp_reach x)) (same (as_mp_unreach x)))
       ∙ first-only MpUnreach as_mp_unreach MP_UNREACH_NLRI unreach-alone g none seen xs fresh
 
-  no-reach : (chosen : FieldKind → Bool) → chosen field.ReachPrefix4 ≡ false → chosen field.ReachPrefix6 ≡ false → (o : Option MpReach) → reach_opt ctx chosen o ≡ []
+  no-reach : (chosen : FieldKind → Bool) → chosen FieldKind.ReachPrefix4 ≡ false → chosen FieldKind.ReachPrefix6 ≡ false → (o : Option MpReach) → reach_opt ctx chosen o ≡ []
   no-reach chosen a b None = refl
-  no-reach chosen a b (Some (reach.Ip4 hop routes)) = ap (λ (t : Bool). pick t routes) a
-  no-reach chosen a b (Some (reach.Ip6 hop link routes)) = ap (λ (t : Bool). pick t routes) b
+  no-reach chosen a b (Some (MpReach.Ip4 hop routes)) = ap (λ (t : Bool). pick t routes) a
+  no-reach chosen a b (Some (MpReach.Ip6 hop link routes)) = ap (λ (t : Bool). pick t routes) b
 
-  no-unreach : (chosen : FieldKind → Bool) → chosen field.UnreachPrefix4 ≡ false → chosen field.UnreachPrefix6 ≡ false → (o : Option MpUnreach) → unreach_opt ctx chosen o ≡ []
+  no-unreach : (chosen : FieldKind → Bool) → chosen FieldKind.UnreachPrefix4 ≡ false → chosen FieldKind.UnreachPrefix6 ≡ false → (o : Option MpUnreach) → unreach_opt ctx chosen o ≡ []
   no-unreach chosen a b None = refl
-  no-unreach chosen a b (Some (unreach.Ip4 routes)) = ap (λ (t : Bool). pick t routes) a
-  no-unreach chosen a b (Some (unreach.Ip6 routes)) = ap (λ (t : Bool). pick t routes) b
+  no-unreach chosen a b (Some (MpUnreach.Ip4 routes)) = ap (λ (t : Bool). pick t routes) a
+  no-unreach chosen a b (Some (MpUnreach.Ip6 routes)) = ap (λ (t : Bool). pick t routes) b
 
   same-reach4 : (o : Option MpReach) → reach_opt ctx is_reach_prefix4 o ≡ reached_ip4 o
   same-reach4 None = refl
-  same-reach4 (Some (reach.Ip4 hop routes)) = refl
-  same-reach4 (Some (reach.Ip6 hop link routes)) = refl
+  same-reach4 (Some (MpReach.Ip4 hop routes)) = refl
+  same-reach4 (Some (MpReach.Ip6 hop link routes)) = refl
 
   same-reach6 : (o : Option MpReach) → reach_opt ctx is_reach_prefix6 o ≡ reached_ip6 o
   same-reach6 None = refl
-  same-reach6 (Some (reach.Ip4 hop routes)) = refl
-  same-reach6 (Some (reach.Ip6 hop link routes)) = refl
+  same-reach6 (Some (MpReach.Ip4 hop routes)) = refl
+  same-reach6 (Some (MpReach.Ip6 hop link routes)) = refl
 
   same-unreach4 : (o : Option MpUnreach) → unreach_opt ctx is_unreach_prefix4 o ≡ gone_ip4 o
   same-unreach4 None = refl
-  same-unreach4 (Some (unreach.Ip4 routes)) = refl
-  same-unreach4 (Some (unreach.Ip6 routes)) = refl
+  same-unreach4 (Some (MpUnreach.Ip4 routes)) = refl
+  same-unreach4 (Some (MpUnreach.Ip6 routes)) = refl
 
   same-unreach6 : (o : Option MpUnreach) → unreach_opt ctx is_unreach_prefix6 o ≡ gone_ip6 o
   same-unreach6 None = refl
-  same-unreach6 (Some (unreach.Ip4 routes)) = refl
-  same-unreach6 (Some (unreach.Ip6 routes)) = refl
+  same-unreach6 (Some (MpUnreach.Ip4 routes)) = refl
+  same-unreach6 (Some (MpUnreach.Ip6 routes)) = refl
 
   pub reach4-all : all is_reach_prefix4 ≡ reached_ip4 (attrs_of xs).mp_reach
   reach4-all = reach-all is_reach_prefix4 reached_ip4 refl same-reach4 (no-unreach is_reach_prefix4 refl refl)
@@ -137,8 +120,8 @@ module _ (ctx : Context) (xs : List Attr) (seen : ℕ → Bool) (fresh : NoneTwi
   pub unreach6-all : all is_unreach_prefix6 ≡ gone_ip6 (attrs_of xs).mp_unreach
   unreach6-all = unreach-all is_unreach_prefix6 gone_ip6 refl same-unreach6 (no-reach is_unreach_prefix6 refl refl)
 
-  pub none-all : (chosen : FieldKind → Bool) → chosen field.ReachPrefix4 ≡ false → chosen field.ReachPrefix6 ≡ false
-      → chosen field.UnreachPrefix4 ≡ false → chosen field.UnreachPrefix6 ≡ false → all chosen ≡ []
+  pub none-all : (chosen : FieldKind → Bool) → chosen FieldKind.ReachPrefix4 ≡ false → chosen FieldKind.ReachPrefix6 ≡ false
+      → chosen FieldKind.UnreachPrefix4 ≡ false → chosen FieldKind.UnreachPrefix6 ≡ false → all chosen ≡ []
   none-all chosen a b c d = reach-all chosen (λ o. []) refl (no-reach chosen a b) (no-unreach chosen c d)
 
 -- ---- a whole UPDATE
@@ -151,17 +134,17 @@ kept-fresh ctx nlri b octets =
     (row-kept ctx nlri (tlvs_of b).0 s.row 0 none_of_them s.spelled (AreOctets-front s.row (tlvs_of b).1 (subst AreOctets s.whole octets))).fresh
 
 pub routes-shown : (ctx : Context) (p : Parts) (n : ℕ) (body : List ℕ) → AreOctets body → AreOctets p.attributes → IsBody p body → reset_of p (marks_of ctx p) ≡ None
-    → ShowsRoutes (header kind.Update n ++ body) (fields_of ctx (header kind.Update n ++ body)) (update_of p (marks_of ctx p))
+    → ShowsRoutes (header Kind.Update n ++ body) (fields_of ctx (header Kind.Update n ++ body)) (update_of p (marks_of ctx p))
 routes-shown ctx p n body octets attributes is goes =
     let xs = kept_of (marks_of ctx p) in
     let w = (run_of 4 p.withdrawn).0 in
     let r = (run_of 4 p.nlri).0 in
     let fresh = kept-fresh ctx (has_nlri p) p.attributes attributes in
-    let shows : (chosen : FieldKind → Bool) → prefixes_shown chosen (header kind.Update n ++ body) (fields_of ctx (header kind.Update n ++ body))
-    ≡ pick (chosen field.WithdrawnPrefix) w ++ (flat_map (attr_shown ctx chosen) xs ++ pick (chosen field.NlriPrefix) r)
+    let shows : (chosen : FieldKind → Bool) → prefixes_shown chosen (header Kind.Update n ++ body) (fields_of ctx (header Kind.Update n ++ body))
+    ≡ pick (chosen FieldKind.WithdrawnPrefix) w ++ (flat_map (attr_shown ctx chosen) xs ++ pick (chosen FieldKind.NlriPrefix) r)
     = λ chosen. update-shows ctx chosen p n body octets is goes in
-    let none : (chosen : FieldKind → Bool) → chosen field.ReachPrefix4 ≡ false → chosen field.ReachPrefix6 ≡ false → chosen field.UnreachPrefix4 ≡ false
-    → chosen field.UnreachPrefix6 ≡ false → flat_map (attr_shown ctx chosen) xs ≡ [] = none-all ctx xs none_of_them fresh in
+    let none : (chosen : FieldKind → Bool) → chosen FieldKind.ReachPrefix4 ≡ false → chosen FieldKind.ReachPrefix6 ≡ false → chosen FieldKind.UnreachPrefix4 ≡ false
+    → chosen FieldKind.UnreachPrefix6 ≡ false → flat_map (attr_shown ctx chosen) xs ≡ [] = none-all ctx xs none_of_them fresh in
     record {
       withdrawn = shows is_withdrawn_prefix ∙ ap (λ (a : List PrefixValue). w ++ (a ++ [])) (none is_withdrawn_prefix refl refl refl refl) ∙ append-nil w;
       unreach4 = shows is_unreach_prefix4 ∙ append-nil _ ∙ unreach4-all ctx xs none_of_them fresh;

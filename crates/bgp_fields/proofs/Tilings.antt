@@ -1,8 +1,6 @@
 -- The fields of octets are the octets.
-use Rattle.bgp_wire.proofs.Std.{◌≡◌, ℕ, zero, suc, ◌+◌, ◌-◌, ◌≤◌, List, [], ◌∷◌, ◌++◌, length, take, drop, Option, refl, sym, subst, ◌∙◌, arith, length-drop, length-take-le}
-use Rattle.bgp_fields.specs.declared.field.Field.{Field}
-use Rattle.bgp_fields.specs.declared.field.Group.{Group}
-use Rattle.bgp_fields.specs.Prelude.{Tiles, Plan, fit, group_from, Telling, walk_within, walk}
+use Rattle.bgp_fields.proofs.Prelude.{◌≡◌, ℕ, zero, suc, ◌+◌, ◌-◌, ◌≤◌, List, [], ◌∷◌, ◌++◌, length, take, drop, Option, refl, sym, subst, ◌∙◌, arith}
+use Rattle.bgp_fields.proofs.Prelude.{length-drop, length-take-le, Field, Group, Tiles, Plan, fit, group_from, Telling, walk_within, walk}
 use Rattle.bgp_fields.proofs.Walks.{fit-fits, shorter}
 
 pub Tiles-append : (from middle next to : ℕ) (fs gs : List Field) → Tiles from middle fs → middle ≡ next → Tiles next to gs → Tiles from to (fs ++ gs)

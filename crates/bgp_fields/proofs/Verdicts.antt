@@ -1,26 +1,22 @@
 -- What a verdict that isn't a reset says of a body.
-use Rattle.bgp_wire.proofs.Std.{◌≡◌, ℕ, List, [], ◌∷◌, ◌++◌, None, refl, sym, ◌∙◌, flat_map, AllByRecursion, flat_map-cons}
-use Rattle.bgp_attr.specs.declared.attr.Attr.{Attr}
-use Rattle.bgp_attr.specs.declared.judged.Judged.{Judged}
-use Rattle.bgp_attr.specs.declared.judged.Judged.TheVariants as judged
-use Rattle.bgp_update.specs.Prelude.{Mark, mark_notes, missing_notes, missing_of, notes_of, Parts, attributes_at, reset_by, first_reset, reset_of}
-use Rattle.bgp_update.proofs.KeptMarks.{or-parts}
+use Rattle.bgp_fields.proofs.Prelude.{◌≡◌, ℕ, List, [], ◌∷◌, ◌++◌, None, refl, sym, ◌∙◌, flat_map, AllByRecursion, flat_map-cons, Attr, Judged, Mark}
+use Rattle.bgp_fields.proofs.Prelude.{mark_notes, missing_notes, missing_of, notes_of, Parts, attributes_at, reset_by, first_reset, reset_of, or-parts}
 
 -- ---- marks without reset and note
 
 -- the mark says that the attribute is kept
 abbrev pub IsKept : Judged → Type 0
-IsKept j = (a : Attr) × (j ≡ judged.Keep a)
+IsKept j = (a : Attr) × (j ≡ Judged.Keep a)
 
 first-nil : {A : Type 0} (xs ys : List A) → xs ++ ys ≡ [] → (xs ≡ []) × (ys ≡ [])
 first-nil [] ys e = (refl, e)
 first-nil (x ∷ xs) ys e = absurd cc
 
 kept-mark : (at place kind : ℕ) (j : Judged) → reset_by j ≡ None → mark_notes at (record { at = place; kind = kind; judged = j }) ≡ [] → IsKept j
-kept-mark at place kind (judged.Keep a) r n = (a, refl)
-kept-mark at place kind (judged.Discard w) r n = absurd cc
-kept-mark at place kind (judged.Withdraw w) r n = absurd cc
-kept-mark at place kind (judged.Reset m) r n = absurd cc
+kept-mark at place kind (Judged.Keep a) r n = (a, refl)
+kept-mark at place kind (Judged.Discard w) r n = absurd cc
+kept-mark at place kind (Judged.Withdraw w) r n = absurd cc
+kept-mark at place kind (Judged.Reset m) r n = absurd cc
 
 pub kept-marks : (at : ℕ) (ms : List Mark) → first_reset ms ≡ None → flat_map (mark_notes at) ms ≡ [] → AllByRecursion (λ m. IsKept m.judged) ms
 kept-marks at [] r n = tt

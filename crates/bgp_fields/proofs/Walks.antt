@@ -1,11 +1,7 @@
 -- A walk, a field at a time.
-use Rattle.bgp_wire.proofs.Std.{◌≡◌, ℕ, zero, suc, ◌+◌, ◌<◌, ◌≤◌, ◌&&◌, nat_lt, nat_le, cond, List, [], ◌∷◌, ◌++◌, length, take, drop, Option, None, refl, sym, ap, ap₂, subst, ◌∙◌, arith, length-drop, length-take-le, and_parts, leb-true, ltb-true, le-leb, cond_both}
-use Rattle.std.proofs.lemmas.List.{drop-drop}
-use Rattle.std.proofs.lemmas.Bool.{lt-ltb}
-use Rattle.bgp_fields.specs.declared.field.Field.{Field}
-use Rattle.bgp_fields.specs.declared.field.Group.{Group}
-use Rattle.bgp_fields.specs.declared.kind.FieldKind.TheVariants.{Unread}
-use Rattle.bgp_fields.specs.Prelude.{Plan, fit, group_from, Telling, told, walk_within, walk}
+use Rattle.bgp_fields.proofs.Prelude.{◌≡◌, ℕ, zero, suc, ◌+◌, ◌<◌, ◌≤◌, ◌&&◌, nat_lt, nat_le, cond, List, [], ◌∷◌, ◌++◌, length, take, drop, Option, None}
+use Rattle.bgp_fields.proofs.Prelude.{refl, sym, ap, ap₂, subst, ◌∙◌, arith, length-drop, length-take-le, and_parts, leb-true, ltb-true, le-leb, cond_both}
+use Rattle.bgp_fields.proofs.Prelude.{drop-drop, lt-ltb, Field, Group, Unread, Plan, fit, group_from, Telling, told, walk_within, walk}
 
 module _ (I S : Type 0) where
   -- a plan that fits n octets has one of them at least, and no more than there are

@@ -9,18 +9,13 @@ use Rattle.bgp_numbers.specs.declared.afi.TheConstants.{IPV4, IPV6}
 use Rattle.bgp_numbers.specs.declared.safi.TheConstants.{UNICAST}
 use Rattle.bgp_frame.specs.declared.kind.Kind.{Kind}
 use Rattle.bgp_frame.specs.Prelude.{kind_of}
-use Rattle.bgp_frame.specs.declared.kind.Kind.TheVariants as kind
 use Rattle.bgp_open.specs.declared.context.Context.{Context}
 use Rattle.bgp_prefix.specs.Prelude.{octets_for}
 use Rattle.bgp_attr.specs.Prelude.{number_width, is_extended, length_width, entry_of}
 use Rattle.bgp_fields.specs.declared.kind.FieldKind.{FieldKind}
-use Rattle.bgp_fields.specs.declared.kind.FieldKind.TheVariants as field
 use Rattle.bgp_fields.specs.declared.part.MessagePart.{MessagePart}
-use Rattle.bgp_fields.specs.declared.part.MessagePart.TheVariants as message
 use Rattle.bgp_fields.specs.declared.part.SectionPart.{SectionPart}
-use Rattle.bgp_fields.specs.declared.part.SectionPart.TheVariants as section
 use Rattle.bgp_fields.specs.declared.part.ValuePart.{ValuePart}
-use Rattle.bgp_fields.specs.declared.part.ValuePart.TheVariants as value
 use Rattle.bgp_fields.specs.Walk.{Plan}
 
 -- ---- words of the tables
@@ -56,22 +51,22 @@ behind kind n inner inner_len next = record { kind = kind; len = n; begins = Non
 -- what the value of an attribute begins with, by its type
 abbrev pub attribute_values : Context → List (ℕ × ValuePart)
 attribute_values ctx =
-    (ORIGIN, value.One field.Origin 1) ∷
-    (AS_PATH, value.Segment ctx.as4 false) ∷
-    (NEXT_HOP, value.One field.Address 4) ∷
-    (MULTI_EXIT_DISC, value.One field.Med 4) ∷
-    (LOCAL_PREF, value.One field.LocalPref 4) ∷
-    (ATOMIC_AGGREGATE, value.All field.Unread) ∷
-    (AGGREGATOR, value.Aggregator ctx.as4) ∷
-    (COMMUNITIES, value.Row field.Community 4) ∷
-    (MP_REACH_NLRI, value.Afi true) ∷
-    (MP_UNREACH_NLRI, value.Afi false) ∷
-    (AS4_PATH, value.Segment true true) ∷
-    (AS4_AGGREGATOR, value.Aggregator true) ∷
-    (LARGE_COMMUNITY, value.Row field.LargeCommunity 12) ∷ []
+    (ORIGIN, ValuePart.One FieldKind.Origin 1) ∷
+    (AS_PATH, ValuePart.Segment ctx.as4 false) ∷
+    (NEXT_HOP, ValuePart.One FieldKind.Address 4) ∷
+    (MULTI_EXIT_DISC, ValuePart.One FieldKind.Med 4) ∷
+    (LOCAL_PREF, ValuePart.One FieldKind.LocalPref 4) ∷
+    (ATOMIC_AGGREGATE, ValuePart.All FieldKind.Unread) ∷
+    (AGGREGATOR, ValuePart.Aggregator ctx.as4) ∷
+    (COMMUNITIES, ValuePart.Row FieldKind.Community 4) ∷
+    (MP_REACH_NLRI, ValuePart.Afi true) ∷
+    (MP_UNREACH_NLRI, ValuePart.Afi false) ∷
+    (AS4_PATH, ValuePart.Segment true true) ∷
+    (AS4_AGGREGATOR, ValuePart.Aggregator true) ∷
+    (LARGE_COMMUNITY, ValuePart.Row FieldKind.LargeCommunity 12) ∷ []
 
 abbrev pub attribute_value : Context → ℕ → ValuePart
-attribute_value ctx type = entry_of type (attribute_values ctx) (value.All field.AttributeValue)
+attribute_value ctx type = entry_of type (attribute_values ctx) (ValuePart.All FieldKind.AttributeValue)
 
 -- segments of this type are read: those of confederations in an AS4_PATH alone (RFC 6793, section 3)
 abbrev pub is_segment : Bool → ℕ → Bool
@@ -80,30 +75,30 @@ is_segment confederations code = (code == SET) || ((code == SEQUENCE) || (confed
 -- what follows the count of a segment in so many octets, that of the count among them: as many AS numbers, one at least
 abbrev pub numbers_behind : Bool → Bool → ℕ → ℕ → ValuePart
 numbers_behind wide confederations count n =
-    if nat_lt 0 count && nat_le (1 + count * number_width wide) n then value.Numbers wide confederations count else value.All field.Unread
+    if nat_lt 0 count && nat_le (1 + count * number_width wide) n then ValuePart.Numbers wide confederations count else ValuePart.All FieldKind.Unread
 
 -- what follows an AS number, where so many were left with it
 abbrev pub behind_number : Bool → Bool → ℕ → ValuePart
 behind_number wide confederations left =
-    if nat_lt 1 left then value.Numbers wide confederations (left - 1) else value.Segment wide confederations
+    if nat_lt 1 left then ValuePart.Numbers wide confederations (left - 1) else ValuePart.Segment wide confederations
 
 -- what follows the family of MP_REACH_NLRI or MP_UNREACH_NLRI, where it is in use (RFC 4760, sections 3 and 4)
 abbrev pub behind_family : Context → Bool → ℕ → ℕ → ValuePart
 behind_family ctx reach afi safi =
     if (safi == UNICAST) && ((afi == IPV4) && ctx.ip4)
-    then (if reach then value.NextHopLength false else value.Prefixes field.UnreachPrefix4 false) else (
+    then (if reach then ValuePart.NextHopLength false else ValuePart.Prefixes FieldKind.UnreachPrefix4 false) else (
     if (safi == UNICAST) && ((afi == IPV6) && ctx.ip6)
-    then (if reach then value.NextHopLength true else value.Prefixes field.UnreachPrefix6 true) else
-    value.All field.Unread)
+    then (if reach then ValuePart.NextHopLength true else ValuePart.Prefixes FieldKind.UnreachPrefix6 true) else
+    ValuePart.All FieldKind.Unread)
 
 -- what follows the length of a next hop: one address, and for IPv6 it may be two (RFC 2545, section 3)
 abbrev pub hop_behind : Bool → ℕ → ValuePart
-hop_behind true n = if (n == 16) || (n == 32) then value.NextHop true n else value.All field.Unread
-hop_behind false n = if n == 4 then value.NextHop false n else value.All field.Unread
+hop_behind true n = if (n == 16) || (n == 32) then ValuePart.NextHop true n else ValuePart.All FieldKind.Unread
+hop_behind false n = if n == 4 then ValuePart.NextHop false n else ValuePart.All FieldKind.Unread
 
 abbrev pub reach_prefixes : Bool → ValuePart
-reach_prefixes true = value.Prefixes field.ReachPrefix6 true
-reach_prefixes false = value.Prefixes field.ReachPrefix4 false
+reach_prefixes true = ValuePart.Prefixes FieldKind.ReachPrefix6 true
+reach_prefixes false = ValuePart.Prefixes FieldKind.ReachPrefix4 false
 
 -- the octets of an address
 abbrev pub width_of : Bool → ℕ
@@ -112,15 +107,15 @@ width_of ip6 = if ip6 then 16 else 4
 -- the value of a capability: those of two codes have four octets (RFC 4760, section 8; RFC 6793, section 3)
 abbrev pub capability_value : ℕ → ℕ → ValuePart
 capability_value code n =
-    if code == MULTIPROTOCOL then (if n == 4 then value.CapabilityAfi else value.Capability field.Unread n) else (
-    if code == FOUR_OCTET_AS then (if n == 4 then value.Capability field.AsNumber n else value.Capability field.Unread n) else
-    value.Capability field.CapabilityValue n)
+    if code == MULTIPROTOCOL then (if n == 4 then ValuePart.CapabilityAfi else ValuePart.Capability FieldKind.Unread n) else (
+    if code == FOUR_OCTET_AS then (if n == 4 then ValuePart.Capability FieldKind.AsNumber n else ValuePart.Capability FieldKind.Unread n) else
+    ValuePart.Capability FieldKind.CapabilityValue n)
 
 -- what follows the length of a capability in so many octets, that of the length among them
 abbrev pub capability_behind : ℕ → ℕ → ℕ → ValuePart
 capability_behind code len n =
-    if nat_lt n (1 + len) then value.All field.Unread else (
-    if len == 0 then value.CapabilityCode else
+    if nat_lt n (1 + len) then ValuePart.All FieldKind.Unread else (
+    if len == 0 then ValuePart.CapabilityCode else
     capability_value code len)
 
 -- one field of so many octets, in which nothing else stands
@@ -129,39 +124,39 @@ one kind n next = leaf tt kind n next
 
 -- a next hop of so many octets, the first address alone where there are two
 abbrev pub hop_plan : Bool → ℕ → Plan (Unit {0}) ValuePart
-hop_plan ip6 n = if n == 32 then one field.NextHop 16 value.LinkLocal else one field.NextHop n (value.Reserved ip6)
+hop_plan ip6 n = if n == 32 then one FieldKind.NextHop 16 ValuePart.LinkLocal else one FieldKind.NextHop n (ValuePart.Reserved ip6)
 
 -- what stands next in the value of an attribute or of a parameter
 abbrev pub value_plan : Context → ValuePart → List ℕ → Plan (Unit {0}) ValuePart
-value_plan ctx (value.One kind n) b = one kind n (value.All field.Unread)
-value_plan ctx (value.Row kind n) b = one kind n (value.Row kind n)
-value_plan ctx (value.Prefixes kind ip6) b = one kind (prefix_len (width_of ip6) (first_of b)) (value.Prefixes kind ip6)
-value_plan ctx (value.Aggregator wide) b = one field.AsNumber (number_width wide) (value.One field.Address 4)
-value_plan ctx (value.Segment wide confederations) b =
-    one field.SegmentType (if is_segment confederations (first_of b) then 1 else 0) (value.SegmentCount wide confederations)
-value_plan ctx (value.SegmentCount wide confederations) b =
-    one field.SegmentCount 1 (numbers_behind wide confederations (first_of b) (length b))
-value_plan ctx (value.Numbers wide confederations left) b =
-    one field.AsNumber (number_width wide) (behind_number wide confederations left)
-value_plan ctx (value.Afi reach) b = one field.Afi 2 (value.Safi reach (two_of b))
-value_plan ctx (value.Safi reach afi) b = one field.Safi 1 (behind_family ctx reach afi (first_of b))
-value_plan ctx (value.NextHopLength ip6) b = one field.NextHopLength 1 (hop_behind ip6 (first_of b))
-value_plan ctx (value.NextHop ip6 n) b = hop_plan ip6 n
-value_plan ctx value.LinkLocal b = one field.LinkLocal 16 (value.Reserved true)
-value_plan ctx (value.Reserved ip6) b = one field.Reserved 1 (reach_prefixes ip6)
-value_plan ctx value.CapabilityCode b = opening tt field.CapabilityCode (first_of b) (value.CapabilityLength (first_of b))
-value_plan ctx (value.CapabilityLength code) b = one field.CapabilityLength 1 (capability_behind code (first_of b) (length b))
-value_plan ctx (value.Capability kind n) b = one kind n value.CapabilityCode
-value_plan ctx value.CapabilityAfi b = one field.Afi 2 value.CapabilityReserved
-value_plan ctx value.CapabilityReserved b = one field.Reserved 1 value.CapabilitySafi
-value_plan ctx value.CapabilitySafi b = one field.Safi 1 value.CapabilityCode
-value_plan ctx (value.All kind) b = one kind (length b) (value.All field.Unread)
+value_plan ctx (ValuePart.One kind n) b = one kind n (ValuePart.All FieldKind.Unread)
+value_plan ctx (ValuePart.Row kind n) b = one kind n (ValuePart.Row kind n)
+value_plan ctx (ValuePart.Prefixes kind ip6) b = one kind (prefix_len (width_of ip6) (first_of b)) (ValuePart.Prefixes kind ip6)
+value_plan ctx (ValuePart.Aggregator wide) b = one FieldKind.AsNumber (number_width wide) (ValuePart.One FieldKind.Address 4)
+value_plan ctx (ValuePart.Segment wide confederations) b =
+    one FieldKind.SegmentType (if is_segment confederations (first_of b) then 1 else 0) (ValuePart.SegmentCount wide confederations)
+value_plan ctx (ValuePart.SegmentCount wide confederations) b =
+    one FieldKind.SegmentCount 1 (numbers_behind wide confederations (first_of b) (length b))
+value_plan ctx (ValuePart.Numbers wide confederations left) b =
+    one FieldKind.AsNumber (number_width wide) (behind_number wide confederations left)
+value_plan ctx (ValuePart.Afi reach) b = one FieldKind.Afi 2 (ValuePart.Safi reach (two_of b))
+value_plan ctx (ValuePart.Safi reach afi) b = one FieldKind.Safi 1 (behind_family ctx reach afi (first_of b))
+value_plan ctx (ValuePart.NextHopLength ip6) b = one FieldKind.NextHopLength 1 (hop_behind ip6 (first_of b))
+value_plan ctx (ValuePart.NextHop ip6 n) b = hop_plan ip6 n
+value_plan ctx ValuePart.LinkLocal b = one FieldKind.LinkLocal 16 (ValuePart.Reserved true)
+value_plan ctx (ValuePart.Reserved ip6) b = one FieldKind.Reserved 1 (reach_prefixes ip6)
+value_plan ctx ValuePart.CapabilityCode b = opening tt FieldKind.CapabilityCode (first_of b) (ValuePart.CapabilityLength (first_of b))
+value_plan ctx (ValuePart.CapabilityLength code) b = one FieldKind.CapabilityLength 1 (capability_behind code (first_of b) (length b))
+value_plan ctx (ValuePart.Capability kind n) b = one kind n ValuePart.CapabilityCode
+value_plan ctx ValuePart.CapabilityAfi b = one FieldKind.Afi 2 ValuePart.CapabilityReserved
+value_plan ctx ValuePart.CapabilityReserved b = one FieldKind.Reserved 1 ValuePart.CapabilitySafi
+value_plan ctx ValuePart.CapabilitySafi b = one FieldKind.Safi 1 ValuePart.CapabilityCode
+value_plan ctx (ValuePart.All kind) b = one kind (length b) (ValuePart.All FieldKind.Unread)
 
 -- ---- Withdrawn Routes, Path Attributes and Optional Parameters
 
 -- what is inside of a parameter (RFC 5492, section 4)
 abbrev pub parameter_value : ℕ → ValuePart
-parameter_value code = if code == CAPABILITIES then value.CapabilityCode else value.All field.Unread
+parameter_value code = if code == CAPABILITIES then ValuePart.CapabilityCode else ValuePart.All FieldKind.Unread
 
 -- the length of an attribute with these flags: of two octets where the Extended Length bit is set, else of one (RFC 4271, section 4.3)
 abbrev pub attribute_len : ℕ → List ℕ → ℕ
@@ -169,31 +164,31 @@ attribute_len flags b = if is_extended flags then two_of b else first_of b
 
 -- of a field that is no length
 abbrev pub nothing_inside : ValuePart
-nothing_inside = value.All field.Unread
+nothing_inside = ValuePart.All FieldKind.Unread
 
 -- what stands next in a section
 abbrev pub section_plan : Context → SectionPart → List ℕ → Plan ValuePart SectionPart
-section_plan ctx section.Withdrawn b = leaf nothing_inside field.WithdrawnPrefix (prefix_len 4 (first_of b)) section.Withdrawn
-section_plan ctx section.ParameterType b = opening nothing_inside field.ParameterType (first_of b) (section.ParameterLength (first_of b))
-section_plan ctx (section.ParameterLength code) b =
-    behind field.ParameterLength 1 (parameter_value code) (first_of b) section.ParameterType
-section_plan ctx section.AttributeFlags b = opening nothing_inside field.AttributeFlags (second_of b) (section.AttributeType (first_of b))
-section_plan ctx (section.AttributeType flags) b = leaf nothing_inside field.AttributeType 1 (section.AttributeLength flags (first_of b))
-section_plan ctx (section.AttributeLength flags code) b =
-    behind field.AttributeLength (length_width flags) (attribute_value ctx code) (attribute_len flags b) section.AttributeFlags
-section_plan ctx (section.All kind) b = leaf nothing_inside kind (length b) (section.All field.Unread)
+section_plan ctx SectionPart.Withdrawn b = leaf nothing_inside FieldKind.WithdrawnPrefix (prefix_len 4 (first_of b)) SectionPart.Withdrawn
+section_plan ctx SectionPart.ParameterType b = opening nothing_inside FieldKind.ParameterType (first_of b) (SectionPart.ParameterLength (first_of b))
+section_plan ctx (SectionPart.ParameterLength code) b =
+    behind FieldKind.ParameterLength 1 (parameter_value code) (first_of b) SectionPart.ParameterType
+section_plan ctx SectionPart.AttributeFlags b = opening nothing_inside FieldKind.AttributeFlags (second_of b) (SectionPart.AttributeType (first_of b))
+section_plan ctx (SectionPart.AttributeType flags) b = leaf nothing_inside FieldKind.AttributeType 1 (SectionPart.AttributeLength flags (first_of b))
+section_plan ctx (SectionPart.AttributeLength flags code) b =
+    behind FieldKind.AttributeLength (length_width flags) (attribute_value ctx code) (attribute_len flags b) SectionPart.AttributeFlags
+section_plan ctx (SectionPart.All kind) b = leaf nothing_inside kind (length b) (SectionPart.All FieldKind.Unread)
 
 -- ---- messages
 
 -- what a body begins with, by the type of its message
 abbrev pub body_part : Option Kind → MessagePart
-body_part (Some kind.Open) = message.Version
-body_part (Some kind.Update) = message.WithdrawnLength
-body_part (Some kind.Notification) = message.ErrorCode
-body_part _ = message.All field.Unread
+body_part (Some Kind.Open) = MessagePart.Version
+body_part (Some Kind.Update) = MessagePart.WithdrawnLength
+body_part (Some Kind.Notification) = MessagePart.ErrorCode
+body_part _ = MessagePart.All FieldKind.Unread
 
 abbrev pub nothing_in_section : SectionPart
-nothing_in_section = section.All field.Unread
+nothing_in_section = SectionPart.All FieldKind.Unread
 
 -- one field in no section
 abbrev pub alone : FieldKind → ℕ → MessagePart → Plan SectionPart MessagePart
@@ -201,17 +196,17 @@ alone kind n next = leaf nothing_in_section kind n next
 
 -- what stands next in a message
 abbrev pub message_plan : MessagePart → List ℕ → Plan SectionPart MessagePart
-message_plan message.Marker b = alone field.Marker 16 message.Length
-message_plan message.Length b = alone field.MessageLength 2 message.Kind
-message_plan message.Kind b = alone field.MessageType 1 (body_part (kind_of (first_of b)))
-message_plan message.Version b = alone field.Version 1 message.MyAs
-message_plan message.MyAs b = alone field.MyAs 2 message.HoldTime
-message_plan message.HoldTime b = alone field.HoldTime 2 message.Identifier
-message_plan message.Identifier b = alone field.Identifier 4 message.ParametersLength
-message_plan message.ParametersLength b = behind field.ParametersLength 1 section.ParameterType (first_of b) (message.All field.Unread)
-message_plan message.WithdrawnLength b = behind field.WithdrawnLength 2 section.Withdrawn (two_of b) message.AttributesLength
-message_plan message.AttributesLength b = behind field.AttributesLength 2 section.AttributeFlags (two_of b) message.Nlri
-message_plan message.Nlri b = alone field.NlriPrefix (prefix_len 4 (first_of b)) message.Nlri
-message_plan message.ErrorCode b = alone field.ErrorCode 1 message.ErrorSubcode
-message_plan message.ErrorSubcode b = alone field.ErrorSubcode 1 (message.All field.Data)
-message_plan (message.All kind) b = alone kind (length b) (message.All field.Unread)
+message_plan MessagePart.Marker b = alone FieldKind.Marker 16 MessagePart.Length
+message_plan MessagePart.Length b = alone FieldKind.MessageLength 2 MessagePart.Kind
+message_plan MessagePart.Kind b = alone FieldKind.MessageType 1 (body_part (kind_of (first_of b)))
+message_plan MessagePart.Version b = alone FieldKind.Version 1 MessagePart.MyAs
+message_plan MessagePart.MyAs b = alone FieldKind.MyAs 2 MessagePart.HoldTime
+message_plan MessagePart.HoldTime b = alone FieldKind.HoldTime 2 MessagePart.Identifier
+message_plan MessagePart.Identifier b = alone FieldKind.Identifier 4 MessagePart.ParametersLength
+message_plan MessagePart.ParametersLength b = behind FieldKind.ParametersLength 1 SectionPart.ParameterType (first_of b) (MessagePart.All FieldKind.Unread)
+message_plan MessagePart.WithdrawnLength b = behind FieldKind.WithdrawnLength 2 SectionPart.Withdrawn (two_of b) MessagePart.AttributesLength
+message_plan MessagePart.AttributesLength b = behind FieldKind.AttributesLength 2 SectionPart.AttributeFlags (two_of b) MessagePart.Nlri
+message_plan MessagePart.Nlri b = alone FieldKind.NlriPrefix (prefix_len 4 (first_of b)) MessagePart.Nlri
+message_plan MessagePart.ErrorCode b = alone FieldKind.ErrorCode 1 MessagePart.ErrorSubcode
+message_plan MessagePart.ErrorSubcode b = alone FieldKind.ErrorSubcode 1 (MessagePart.All FieldKind.Data)
+message_plan (MessagePart.All kind) b = alone kind (length b) (MessagePart.All FieldKind.Unread)

@@ -7,8 +7,6 @@ use Rattle.bgp_numbers.specs.declared.TheConstants.{VERSION}
 use Rattle.bgp_numbers.specs.declared.parameter.TheConstants.{CAPABILITIES}
 use Rattle.bgp_frame.specs.declared.fault.HeadFault.{HeadFault}
 use Rattle.bgp_frame.specs.declared.kind.Kind.{Kind}
-use Rattle.bgp_frame.specs.declared.fault.HeadFault.TheVariants as fault
-use Rattle.bgp_frame.specs.declared.kind.Kind.TheVariants as kind
 use Rattle.bgp_frame.specs.Frame as frame
 use Rattle.bgp_open.specs.declared.context.Context.{Context}
 use Rattle.bgp_open.specs.Prelude.{one_capability, version_of, length_of, parameters_of, hold_of, id_of, is_short_hold, is_zero_id, one_parameter}
@@ -16,8 +14,6 @@ use Rattle.bgp_prefix.specs.Prelude.{octets_for, run_of}
 use Rattle.bgp_attr.specs.declared.judged.Judged.{Judged}
 use Rattle.bgp_attr.specs.declared.why.Why.{Why}
 use Rattle.bgp_attr.specs.Prelude.{TlvValue, one_tlv}
-use Rattle.bgp_attr.specs.declared.judged.Judged.TheVariants as judged
-use Rattle.bgp_attr.specs.declared.why.Why.TheVariants as why
 use Rattle.bgp_update.specs.declared.note.Note.{Note}
 use Rattle.bgp_update.specs.Prelude.{Mark, marks_of, Parts, attributes_at, behind_two, parts_of}
 use Rattle.bgp_msg.specs.Prelude.{out_of, is_reset}
@@ -36,9 +32,9 @@ first_other at (x ∷ b) = if x == 255 then first_other (at + 1) b else at
 
 -- an octet of the Marker, the Length or the Type
 abbrev pub header_place : List ℕ → HeadFault → Span
-header_place octets fault.Marker = span (first_other 0 octets) 1
-header_place octets (fault.Length n) = span 16 2
-header_place octets (fault.Kind code) = span 18 1
+header_place octets HeadFault.Marker = span (first_other 0 octets) 1
+header_place octets (HeadFault.Length n) = span 16 2
+header_place octets (HeadFault.Kind code) = span 18 1
 
 -- ---- UPDATEs (RFC 4271, section 6.3; RFC 7606)
 
@@ -53,8 +49,8 @@ attribute_place p at = span (19 + attributes_at p + at) (attribute_extent (drop 
 
 -- it asks for a reset, or else for a withdrawal
 abbrev pub asks_for : Bool → Judged → Bool
-asks_for resets (judged.Reset n) = resets
-asks_for resets (judged.Withdraw w) = not resets
+asks_for resets (Judged.Reset n) = resets
+asks_for resets (Judged.Withdraw w) = not resets
 asks_for resets _ = false
 
 -- the place in the field of the first attribute that does
@@ -96,7 +92,7 @@ update_place ctx body (Some p) = parts_place p (marks_of ctx p)
 -- ---- notes
 
 abbrev pub says_missing : Why → Bool
-says_missing why.Missing = true
+says_missing Why.Missing = true
 says_missing _ = false
 
 -- the place is one of the path attributes
@@ -150,8 +146,8 @@ open_place body =
 -- ---- messages
 
 abbrev pub body_place : Context → Kind → List ℕ → Option Span
-body_place ctx kind.Open body = open_place body
-body_place ctx kind.Update body = update_place ctx body (parts_of body)
+body_place ctx Kind.Open body = open_place body
+body_place ctx Kind.Update body = update_place ctx body (parts_of body)
 body_place ctx _ body = None
 
 -- the octets for which a whole message is answered by a reset, where it is

@@ -1,11 +1,7 @@
 -- Octets that are fed at once do what they do one by one.
-use Rattle.bgp_wire.proofs.Std.{◌≡◌, ℕ, Bool, true, List, [], ◌∷◌, ◌++◌, take, refl, sym, ap, subst, ◌∙◌}
-use Rattle.std.proofs.lemmas.List.{append-nil}
-use Rattle.bgp_frame.specs.Prelude.{Waits, IsHeld}
-use Rattle.bgp_frame.proofs.Contents.{content_of-waits}
-use Rattle.bgp_frame.proofs.Hearings.{all_held}
-use Rattle.bgp_guard.specs.declared.rules.Rules.{Rules}
-use Rattle.bgp_guard.specs.Prelude.{Sight, listens_in, CameFrom, CameIn, Counts, IsHeardBy, heard, heard_as, holding, octet_by, by_octet, by_octets, IsSettled}
+use Rattle.bgp_guard.proofs.Prelude.{◌≡◌, ℕ, Bool, true, List, [], ◌∷◌, ◌++◌, take, refl, sym, ap, subst, ◌∙◌, append-nil, Waits, IsHeld, content_of-waits}
+use Rattle.bgp_guard.proofs.Prelude.{all_held, Rules, Sight, listens_in, CameFrom, CameIn, Counts, IsHeardBy, heard, heard_as, holding, octet_by, by_octet}
+use Rattle.bgp_guard.proofs.Prelude.{by_octets, IsSettled}
 use Rattle.bgp_guard.specs.declared.came.Came.{Came}
 
 module _ (rules : Rules) (silent : Bool) (s : Sight) (up : listens_in s ≡ true) where

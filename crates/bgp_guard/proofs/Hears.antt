@@ -1,30 +1,14 @@
 -- An octet of a side keeps both directions handed over.
-use Rattle.bgp_wire.proofs.Std.{◌≡◌, ℕ, zero, suc, ◌+◌, ◌<◌, Bool, true, false, cond, List, [], ◌∷◌, ◌++◌, length, Option, Some, None, option_map, Result, Ok, Err, refl, sym, ap, subst, ◌∙◌, arith, inl, inr, and_parts, cases_lt, not-false}
-use Rattle.std.specs.Prelude.{◌&&◌, not, is_some}
-use Rattle.std.proofs.lemmas.Bool.{true≢false}
-use Rattle.std.proofs.lemmas.List.{append-nil, length-append}
-use Rattle.bgp_wire.specs.Prelude.{AreOctets, has_octet}
+use Rattle.bgp_guard.proofs.Prelude.{◌≡◌, ℕ, zero, suc, ◌+◌, ◌<◌, Bool, true, false, cond, List, [], ◌∷◌, ◌++◌, length, Option, Some, None, option_map}
+use Rattle.bgp_guard.proofs.Prelude.{Result, Ok, Err, refl, sym, ap, subst, ◌∙◌, arith, inl, inr, and_parts, cases_lt, not-false, ◌&&◌, not, is_some}
+use Rattle.bgp_guard.proofs.Prelude.{true≢false, append-nil, length-append, AreOctets, has_octet, HeadFault, Kind, IsFrame, Waits, IsHeld, head_notification}
+use Rattle.bgp_guard.proofs.Prelude.{content_of, Context, Open, reading_of, Said, said_by, Message, out_of, CleanFault, cleaned, ended_family}
+use Rattle.bgp_guard.proofs.Prelude.{content_of-message, none_waits, Rules, Stage, Answers, answered, notice, reset_by, unexpected, Half, Sight, listens_in}
+use Rattle.bgp_guard.proofs.Prelude.{agreed, answers_to, context_in, done, handed_on, handed_or, heard, heard_as, holding, octet_by, placed, said_as}
+use Rattle.bgp_guard.proofs.Prelude.{IsHandedOver, Seen, Trail, came_behind, octet_seen, both_open, misplaced, subcode_of}
 use Rattle.bgp_wire.proofs.OctetLemmas.{AreOctets-append}
-use Rattle.bgp_frame.specs.declared.fault.HeadFault.{HeadFault}
-use Rattle.bgp_frame.specs.declared.kind.Kind.{Kind}
-use Rattle.bgp_frame.specs.Prelude.{IsFrame, Waits, IsHeld, head_notification, content_of}
-use Rattle.bgp_frame.specs.declared.kind.Kind.TheVariants as kind
 use Rattle.bgp_frame.specs.Frame as frame
 use Rattle.bgp_frame.proofs.FrameLemmas.{wanted-append, wanted-bounds}
-use Rattle.bgp_open.specs.declared.context.Context.{Context}
-use Rattle.bgp_open.specs.declared.message.Open.{Open}
-use Rattle.bgp_open.specs.Prelude.{reading_of, Said, said_by}
-use Rattle.bgp_msg.specs.declared.message.Message.{Message}
-use Rattle.bgp_msg.specs.Prelude.{out_of}
-use Rattle.bgp_msg.specs.declared.message.Message.TheVariants as message
-use Rattle.bgp_clean.specs.declared.fault.CleanFault.{CleanFault}
-use Rattle.bgp_clean.specs.Prelude.{cleaned, ended_family}
-use Rattle.bgp_frame.proofs.Contents.{content_of-message}
-use Rattle.bgp_frame.proofs.Hearings.{none_waits}
-use Rattle.bgp_guard.specs.declared.rules.Rules.{Rules}
-use Rattle.bgp_guard.specs.declared.stage.Stage.{Stage}
-use Rattle.bgp_guard.specs.Prelude.{Answers, answered, notice, reset_by, unexpected, Half, Sight, listens_in, agreed, answers_to, context_in, done, handed_on, handed_or, heard, heard_as, holding, octet_by, placed, said_as, IsHandedOver, Seen, Trail, came_behind, octet_seen, both_open, misplaced, subcode_of}
-use Rattle.bgp_guard.specs.declared.stage.Stage.TheVariants as stage
 use Rattle.bgp_guard.proofs.Lanes.{Alive, alive_ends, alive_held, alive_on, alive_open, kept_push, notified, open_same, opened_push, place_same, refit}
 use Rattle.bgp_guard.proofs.Passed.{open_by}
 
@@ -50,8 +34,8 @@ held_more held octet is waits small =
 -- ---- both directions
 
 abbrev pub Lane : Rules → Stage → Bool → List ℕ → Option Said → Option Said → List ℕ → List ℕ → List ℕ → Type 0
-Lane rules (stage.Runs n) silent held kept others came given way = Alive rules silent held kept others came given way
-Lane rules (stage.Ends n) silent held kept others came given way = IsHandedOver rules silent (agreed kept others) kept came given way
+Lane rules (Stage.Runs n) silent held kept others came given way = Alive rules silent held kept others came given way
+Lane rules (Stage.Ends n) silent held kept others came given way = IsHandedOver rules silent (agreed kept others) kept came given way
 
 pub record Goes (rules : Rules) (silent others : Bool) (s : Seen) : Type 0 where
   pub this : Lane rules s.sight.stage silent s.sight.this.held s.sight.this.peer s.sight.other.peer s.this.came s.other.given s.sight.other.way
@@ -71,7 +55,7 @@ no_peer (Some said) e = absurd (true≢false e)
 module _ (rules : Rules) (silent others : Bool) (n : ℕ) (this other : Half) (t o : Trail) (octet : ℕ)
     (a : Alive rules silent this.held this.peer other.peer t.came o.given other.way) (b : Alive rules others other.held other.peer this.peer o.came t.given this.way) where
   abbrev sight : Sight
-  sight = record { stage = stage.Runs n; this = this; other = other }
+  sight = record { stage = Stage.Runs n; this = this; other = other }
 
   -- nothing is held
   abbrev free : Sight
@@ -97,20 +81,20 @@ module _ (rules : Rules) (silent others : Bool) (n : ℕ) (this other : Half) (t
     abbrev ctx : Context
     ctx = context_in free
 
-    open_goes : (body : List ℕ) (p : Open) → IsFrame (record { kind = kind.Open; body = body }) (this.held ++ octet ∷ []) → misplaced free kind.Open ≡ None
-        → cleaned ctx (has_octet rules.drops) true (record { kind = kind.Open; body = body }) ≡ Ok m → m ≡ message.Open p → Goes rules silent others (seen (handed_on silent free kind.Open m))
+    open_goes : (body : List ℕ) (p : Open) → IsFrame (record { kind = Kind.Open; body = body }) (this.held ++ octet ∷ []) → misplaced free Kind.Open ≡ None
+        → cleaned ctx (has_octet rules.drops) true (record { kind = Kind.Open; body = body }) ≡ Ok m → m ≡ Message.Open p → Goes rules silent others (seen (handed_on silent free Kind.Open m))
     open_goes body p f placed is same =
         let none : this.peer ≡ None = no_peer this.peer (in_place (is_some this.peer) (subcode_of free) placed) in
-        let handed : (c : Context) → cleaned c (has_octet rules.drops) true (record { kind = kind.Open; body = body }) ≡ Ok (message.Open p) =
-        λ c. open_same (has_octet rules.drops) true kind.Open body c ctx refl ∙ is ∙ ap (λ (x : Message). Ok x) same in
+        let handed : (c : Context) → cleaned c (has_octet rules.drops) true (record { kind = Kind.Open; body = body }) ≡ Ok (Message.Open p) =
+        λ c. open_same (has_octet rules.drops) true Kind.Open body c ctx refl ∙ is ∙ ap (λ (x : Message). Ok x) same in
         let fresh : Alive rules silent this.held None other.peer t.came o.given other.way = subst (λ (k : Option Said). Alive rules silent this.held k other.peer t.came o.given other.way) none a in
-        subst (λ (x : Message). Goes rules silent others (seen (handed_on silent free kind.Open x))) (sym same) (record {
-          this = alive_open rules silent this.held other.peer t.came o.given other.way fresh octet (record { kind = kind.Open; body = body }) p f handed (λ e. absurd cc) ctx;
+        subst (λ (x : Message). Goes rules silent others (seen (handed_on silent free Kind.Open x))) (sym same) (record {
+          this = alive_open rules silent this.held other.peer t.came o.given other.way fresh octet (record { kind = Kind.Open; body = body }) p f handed (λ e. absurd cc) ctx;
           other = refit rules others other.held other.peer this.peer (Some (said_by p)) o.came t.given this.way (ap is_some none) b;
         })
 
     -- behind both OPENs
-    on_goes : (k : Kind) (body : List ℕ) → (k ≡ kind.Open → ⊥) → (k ≡ kind.Notification → ⊥) → IsFrame (record { kind = k; body = body }) (this.held ++ octet ∷ []) → both_open free ≡ true
+    on_goes : (k : Kind) (body : List ℕ) → (k ≡ Kind.Open → ⊥) → (k ≡ Kind.Notification → ⊥) → IsFrame (record { kind = k; body = body }) (this.held ++ octet ∷ []) → both_open free ≡ true
         → cleaned ctx (has_octet rules.drops) true (record { kind = k; body = body }) ≡ Ok m
         → Alive rules silent [] this.peer other.peer (t.came ++ octet ∷ []) o.given (other.way ++ Rattle.bgp_msg.specs.Written.canonical ctx (said_as silent m))
     on_goes k body no_open no_notice f both is =
@@ -119,37 +103,37 @@ module _ (rules : Rules) (silent others : Bool) (n : ℕ) (this other : Half) (t
         no_notice
         (λ at. place_same ctx (has_octet rules.drops) at k body no_open ∙ is)
 
-    update_goes : (body : List ℕ) → IsFrame (record { kind = kind.Update; body = body }) (this.held ++ octet ∷ []) → misplaced free kind.Update ≡ None
-        → cleaned ctx (has_octet rules.drops) true (record { kind = kind.Update; body = body }) ≡ Ok m → Goes rules silent others (seen (handed_on silent free kind.Update m))
+    update_goes : (body : List ℕ) → IsFrame (record { kind = Kind.Update; body = body }) (this.held ++ octet ∷ []) → misplaced free Kind.Update ≡ None
+        → cleaned ctx (has_octet rules.drops) true (record { kind = Kind.Update; body = body }) ≡ Ok m → Goes rules silent others (seen (handed_on silent free Kind.Update m))
     update_goes body f placed is =
         let both : (both_open free && this.ready) ≡ true = not-false (both_open free && this.ready) (in_place (not (both_open free && this.ready)) (subcode_of free) placed) in
-        record { this = on_goes kind.Update body (λ e. absurd cc) (λ e. absurd cc) f (and_parts (both_open free) this.ready both).0 is; other = b }
+        record { this = on_goes Kind.Update body (λ e. absurd cc) (λ e. absurd cc) f (and_parts (both_open free) this.ready both).0 is; other = b }
 
-    keepalive_goes : (body : List ℕ) → IsFrame (record { kind = kind.Keepalive; body = body }) (this.held ++ octet ∷ []) → misplaced free kind.Keepalive ≡ None
-        → cleaned ctx (has_octet rules.drops) true (record { kind = kind.Keepalive; body = body }) ≡ Ok m → Goes rules silent others (seen (handed_on silent free kind.Keepalive m))
+    keepalive_goes : (body : List ℕ) → IsFrame (record { kind = Kind.Keepalive; body = body }) (this.held ++ octet ∷ []) → misplaced free Kind.Keepalive ≡ None
+        → cleaned ctx (has_octet rules.drops) true (record { kind = Kind.Keepalive; body = body }) ≡ Ok m → Goes rules silent others (seen (handed_on silent free Kind.Keepalive m))
     keepalive_goes body f placed is =
         let both : both_open free ≡ true = not-false (both_open free) (in_place (not (both_open free)) (subcode_of free) placed) in
-        record { this = on_goes kind.Keepalive body (λ e. absurd cc) (λ e. absurd cc) f both is; other = b }
+        record { this = on_goes Kind.Keepalive body (λ e. absurd cc) (λ e. absurd cc) f both is; other = b }
 
-    notification_goes : (body : List ℕ) → IsFrame (record { kind = kind.Notification; body = body }) (this.held ++ octet ∷ [])
-        → cleaned ctx (has_octet rules.drops) true (record { kind = kind.Notification; body = body }) ≡ Ok m → Goes rules silent others (seen (handed_on silent free kind.Notification m))
+    notification_goes : (body : List ℕ) → IsFrame (record { kind = Kind.Notification; body = body }) (this.held ++ octet ∷ [])
+        → cleaned ctx (has_octet rules.drops) true (record { kind = Kind.Notification; body = body }) ≡ Ok m → Goes rules silent others (seen (handed_on silent free Kind.Notification m))
     notification_goes body f is = record {
       this =
-          notified rules silent this.held this.peer other.peer t.came o.given other.way a octet (record { kind = kind.Notification; body = body }) m f
-          (kept_push rules silent ctx a.messages (record { kind = kind.Notification; body = body }) this.peer a.opened)
-          (λ at. place_same ctx (has_octet rules.drops) at kind.Notification body (λ e. absurd cc) ∙ is);
+          notified rules silent this.held this.peer other.peer t.came o.given other.way a octet (record { kind = Kind.Notification; body = body }) m f
+          (kept_push rules silent ctx a.messages (record { kind = Kind.Notification; body = body }) this.peer a.opened)
+          (λ at. place_same ctx (has_octet rules.drops) at Kind.Notification body (λ e. absurd cc) ∙ is);
       other =
           alive_ends rules others other.held other.peer this.peer o.came t.given this.way b [] o.came this.way [] None (sym (append-nil o.came)) (append-nil this.way ∙ sym (append-nil this.way));
     }
 
     by_kind : (k : Kind) (body : List ℕ) → IsFrame (record { kind = k; body = body }) (this.held ++ octet ∷ []) → misplaced free k ≡ None
         → cleaned ctx (has_octet rules.drops) true (record { kind = k; body = body }) ≡ Ok m → Goes rules silent others (seen (handed_on silent free k m))
-    by_kind kind.Open body f placed is =
-        let found = open_by (has_octet rules.drops) (is_some (ended_family ctx (record { kind = kind.Open; body = body }))) m (reading_of body) is in
+    by_kind Kind.Open body f placed is =
+        let found = open_by (has_octet rules.drops) (is_some (ended_family ctx (record { kind = Kind.Open; body = body }))) m (reading_of body) is in
         open_goes body found.0 f placed is found.1
-    by_kind kind.Update body f placed is = update_goes body f placed is
-    by_kind kind.Notification body f placed is = notification_goes body f is
-    by_kind kind.Keepalive body f placed is = keepalive_goes body f placed is
+    by_kind Kind.Update body f placed is = update_goes body f placed is
+    by_kind Kind.Notification body f placed is = notification_goes body f is
+    by_kind Kind.Keepalive body f placed is = keepalive_goes body f placed is
 
   by_cleaned : (m : frame.Message) → IsFrame m (this.held ++ octet ∷ []) → misplaced free m.kind ≡ None → (r : Result Message CleanFault)
       → cleaned (context_in free) (has_octet rules.drops) true m ≡ r → Goes rules silent others (seen (done silent free m.kind (handed_or (out_of (context_in free) m) r)))
@@ -188,8 +172,8 @@ read_by : (rules : Rules) (silent others : Bool) (octet : ℕ) (st : Stage) (thi
     → Goes rules silent others (record { sight = record { stage = st; this = this; other = other }; this = t; other = o })
     → Goes rules silent others (octet_by_seen b rules silent octet (record { sight = record { stage = st; this = this; other = other }; this = t; other = o }))
 read_by rules silent others octet st this other t o small false e goes = goes
-read_by rules silent others octet (stage.Runs n) this other t o small true e goes = heard_goes rules silent others n this other t o octet goes.this goes.other small
-read_by rules silent others octet (stage.Ends n) this other t o small true e goes = absurd (true≢false (sym e))
+read_by rules silent others octet (Stage.Runs n) this other t o small true e goes = heard_goes rules silent others n this other t o octet goes.this goes.other small
+read_by rules silent others octet (Stage.Ends n) this other t o small true e goes = absurd (true≢false (sym e))
 
 pub octet_goes : (rules : Rules) (silent others : Bool) (octet : ℕ) (s : Seen) → octet < 256 → Goes rules silent others s → Goes rules silent others (octet_seen rules silent octet s)
 octet_goes rules silent others octet s small goes =

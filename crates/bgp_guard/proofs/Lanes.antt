@@ -1,54 +1,35 @@
 -- The messages of a side, as they are handed on.
-use Rattle.bgp_wire.proofs.Std.{◌≡◌, ℕ, Bool, true, false, List, [], ◌∷◌, ◌++◌, map, take, drop, Option, Some, None, Result, Ok, refl, sym, ap, subst, ◌∙◌, append_assoc, inl, inr, flat_map, AllByRecursion, and_parts, take-append-drop}
-use Rattle.std.specs.Prelude.{◌&&◌, is_some}
-use Rattle.std.proofs.lemmas.Bool.{true≢false}
-use Rattle.std.proofs.lemmas.List.{append-nil}
-use Rattle.bgp_wire.specs.Prelude.{has_octet, Row}
+use Rattle.bgp_guard.proofs.Prelude.{◌≡◌, ℕ, Bool, true, false, List, [], ◌∷◌, ◌++◌, map, take, drop, Option, Some, None, Result, Ok, refl, sym, ap, subst}
+use Rattle.bgp_guard.proofs.Prelude.{◌∙◌, append_assoc, inl, inr, flat_map, AllByRecursion, and_parts, take-append-drop, ◌&&◌, is_some, true≢false}
+use Rattle.bgp_guard.proofs.Prelude.{append-nil, has_octet, Row, Kind, IsFrame, Waits, IsHeld, Notification, IsHeld_nil, Context, Open, Said, said_by}
+use Rattle.bgp_guard.proofs.Prelude.{Verdict, verdict_of, Message, of_verdict, canonical, CleanFault, cleaned, cleaned_outcome, handed_then, cleaned_from}
+use Rattle.bgp_guard.proofs.Prelude.{Rules, agreed, said_as, IsAllHandedOver, IsHandedOver, IsKept, IsNoNotification, direction, own_octets, nothing_waits}
 use Rattle.bgp_wire.proofs.Rows.{Row-push}
-use Rattle.bgp_frame.specs.declared.kind.Kind.{Kind}
-use Rattle.bgp_frame.specs.Prelude.{IsFrame, Waits, IsHeld}
-use Rattle.bgp_frame.specs.declared.kind.Kind.TheVariants as kind
-use Rattle.bgp_frame.specs.declared.notification.Notification.{Notification}
 use Rattle.bgp_frame.specs.Frame as frame
-use Rattle.bgp_frame.proofs.Holding.{IsHeld_nil}
-use Rattle.bgp_open.specs.declared.context.Context.{Context}
-use Rattle.bgp_open.specs.declared.message.Open.{Open}
-use Rattle.bgp_open.specs.Prelude.{Said, said_by}
-use Rattle.bgp_update.specs.declared.verdict.Verdict.{Verdict}
-use Rattle.bgp_update.specs.Prelude.{verdict_of}
-use Rattle.bgp_update.specs.declared.verdict.Verdict.TheVariants as verdict
 use Rattle.bgp_update.proofs.Lists.{all-append}
-use Rattle.bgp_msg.specs.declared.message.Message.{Message}
-use Rattle.bgp_msg.specs.Prelude.{of_verdict, canonical}
-use Rattle.bgp_msg.specs.declared.message.Message.TheVariants as message
-use Rattle.bgp_clean.specs.declared.fault.CleanFault.{CleanFault}
-use Rattle.bgp_clean.specs.Prelude.{cleaned, cleaned_outcome, handed_then, cleaned_from}
-use Rattle.bgp_guard.specs.declared.rules.Rules.{Rules}
-use Rattle.bgp_guard.specs.Prelude.{agreed, said_as, IsAllHandedOver, IsHandedOver, IsKept, IsNoNotification, direction, own_octets}
-use Rattle.bgp_frame.proofs.Pulls.{nothing_waits}
 
 -- ---- what is handed on of a message depends on little
 
 -- of an OPEN on no context
-pub open_same : (drops : ℕ → Bool) (first : Bool) (k : Kind) (body : List ℕ) (ctx other : Context) → k ≡ kind.Open
+pub open_same : (drops : ℕ → Bool) (first : Bool) (k : Kind) (body : List ℕ) (ctx other : Context) → k ≡ Kind.Open
     → cleaned ctx drops first (record { kind = k; body = body }) ≡ cleaned other drops first (record { kind = k; body = body })
-open_same drops first kind.Open body ctx other is = refl
-open_same drops first kind.Update body ctx other is = absurd cc
-open_same drops first kind.Notification body ctx other is = absurd cc
-open_same drops first kind.Keepalive body ctx other is = absurd cc
+open_same drops first Kind.Open body ctx other is = refl
+open_same drops first Kind.Update body ctx other is = absurd cc
+open_same drops first Kind.Notification body ctx other is = absurd cc
+open_same drops first Kind.Keepalive body ctx other is = absurd cc
 
 verdict_same : (drops : ℕ → Bool) (ends first : Bool) (v : Verdict) → cleaned_outcome drops first ends (of_verdict v) ≡ cleaned_outcome drops true ends (of_verdict v)
-verdict_same drops ends first (verdict.Take u notes) = refl
-verdict_same drops ends first (verdict.Withdraw routes notes) = refl
-verdict_same drops ends first (verdict.Reset n) = refl
+verdict_same drops ends first (Verdict.Take u notes) = refl
+verdict_same drops ends first (Verdict.Withdraw routes notes) = refl
+verdict_same drops ends first (Verdict.Reset n) = refl
 
 -- of another message not on its place in the stream
-pub place_same : (ctx : Context) (drops : ℕ → Bool) (first : Bool) (k : Kind) (body : List ℕ) → (k ≡ kind.Open → ⊥)
+pub place_same : (ctx : Context) (drops : ℕ → Bool) (first : Bool) (k : Kind) (body : List ℕ) → (k ≡ Kind.Open → ⊥)
     → cleaned ctx drops first (record { kind = k; body = body }) ≡ cleaned ctx drops true (record { kind = k; body = body })
-place_same ctx drops first kind.Open body not = absurd (not refl)
-place_same ctx drops first kind.Update body not = verdict_same drops _ first (verdict_of ctx body)
-place_same ctx drops first kind.Notification body not = refl
-place_same ctx drops first kind.Keepalive body not = refl
+place_same ctx drops first Kind.Open body not = absurd (not refl)
+place_same ctx drops first Kind.Update body not = verdict_same drops _ first (verdict_of ctx body)
+place_same ctx drops first Kind.Notification body not = refl
+place_same ctx drops first Kind.Keepalive body not = refl
 
 module _ (rules : Rules) (silent : Bool) where
   abbrev said_octets : Context → Message → List ℕ
@@ -115,7 +96,7 @@ module _ (rules : Rules) (silent : Bool) where
     pub later : List frame.Message
     pub is : messages ≡ first ∷ later
     pub value : Open
-    pub handed : (ctx : Context) → cleaned ctx (has_octet rules.drops) true first ≡ Ok (message.Open value)
+    pub handed : (ctx : Context) → cleaned ctx (has_octet rules.drops) true first ≡ Ok (Message.Open value)
     pub says : said ≡ said_by value
 
   abbrev pub OpenedBy : List frame.Message → Option Said → Type 0
@@ -234,11 +215,11 @@ module _ (rules : Rules) (silent : Bool) where
 
   -- the OPEN comes first
   module _ (held : List ℕ) (others : Option Said) (came given way : List ℕ) (a : Alive held None others came given way) (octet : ℕ) (m : frame.Message) (o : Open)
-      (f : IsFrame m (held ++ octet ∷ [])) (handed : (ctx : Context) → cleaned ctx (has_octet rules.drops) true m ≡ Ok (message.Open o)) (is_open : IsNoNotification m) where
-    same_said : said_as silent (message.Open o) ≡ message.Open o
+      (f : IsFrame m (held ++ octet ∷ [])) (handed : (ctx : Context) → cleaned ctx (has_octet rules.drops) true m ≡ Ok (Message.Open o)) (is_open : IsNoNotification m) where
+    same_said : said_as silent (Message.Open o) ≡ Message.Open o
     same_said = by silent
       where
-        by : (b : Bool) → said_as b (message.Open o) ≡ message.Open o
+        by : (b : Bool) → said_as b (Message.Open o) ≡ Message.Open o
         by true = refl
         by false = refl
 
@@ -248,24 +229,24 @@ module _ (rules : Rules) (silent : Bool) where
     alone : a.messages ++ m ∷ [] ≡ m ∷ []
     alone = ap (λ (ms : List frame.Message). ms ++ m ∷ []) a.opened
 
-    open_put : (c d : Context) → given ++ (way ++ said_octets c (message.Open o)) ≡ said_octets d (message.Open o)
+    open_put : (c d : Context) → given ++ (way ++ said_octets c (Message.Open o)) ≡ said_octets d (Message.Open o)
     open_put c d =
-        sym (append_assoc given way (said_octets c (message.Open o)))
-        ∙ ap (λ (x : List ℕ). x ++ said_octets c (message.Open o)) none_put
+        sym (append_assoc given way (said_octets c (Message.Open o)))
+        ∙ ap (λ (x : List ℕ). x ++ said_octets c (Message.Open o)) none_put
         ∙ ap (canonical c) same_said
         ∙ sym (ap (canonical d) same_said)
 
-    pub alive_open : (c : Context) → Alive [] (Some (said_by o)) others (came ++ octet ∷ []) given (way ++ said_octets c (message.Open o))
+    pub alive_open : (c : Context) → Alive [] (Some (said_by o)) others (came ++ octet ∷ []) given (way ++ said_octets c (Message.Open o))
     alive_open c = record {
       messages = a.messages ++ m ∷ [];
       row = a.row ++ (held ++ octet ∷ []);
-      whole = whole_row held None others came given way a octet m (message.Open o) f;
-      frames = frames_row held None others came given way a octet m (message.Open o) f;
+      whole = whole_row held None others came given way a octet m (Message.Open o) f;
+      frames = frames_row held None others came given way a octet m (Message.Open o) f;
       can_hold = IsHeld_nil;
       waits = nothing_waits;
       opened = record { first = m; later = []; is = alone; value = o; handed = handed; says = refl };
       hands = λ d fits. subst (Hands d true (a.messages ++ m ∷ [])) (sym (open_put c d))
-          (subst (λ (ms : List frame.Message). Hands d true ms (said_octets d (message.Open o))) (sym alone) (hands_first d m (message.Open o) (handed d)));
+          (subst (λ (ms : List frame.Message). Hands d true ms (said_octets d (Message.Open o))) (sym alone) (hands_first d m (Message.Open o) (handed d)));
       none = all-append IsNoNotification a.messages (m ∷ []) a.none (is_open, tt);
     }
 

@@ -1,4 +1,5 @@
 -- Lemmas on the guard.
+pub mod Prelude
 pub mod Fronts
 pub mod Hears
 pub mod Lanes

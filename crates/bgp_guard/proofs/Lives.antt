@@ -1,17 +1,9 @@
 -- Whatever happens, both directions stay handed over.
-use Rattle.bgp_wire.proofs.Std.{◌≡◌, ℕ, suc, Bool, true, false, List, [], ◌∷◌, ◌++◌, Some, None, refl, sym, ◌∙◌, AllByRecursion}
-use Rattle.std.specs.Prelude.{◌&&◌, not, nat_lt, if◌then◌else◌}
-use Rattle.std.proofs.lemmas.Bool.{true≢false}
-use Rattle.std.proofs.lemmas.List.{append-nil}
-use Rattle.bgp_frame.proofs.Holding.{IsHeld_nil}
-use Rattle.bgp_guard.specs.declared.rules.Rules.{Rules}
-use Rattle.bgp_guard.specs.declared.side.Side.{Side}
-use Rattle.bgp_guard.specs.declared.stage.Stage.{Stage}
-use Rattle.bgp_guard.specs.Prelude.{late_answer, notice, rejected, Half, runs, agreed, closed_if, is_waiting, late, ticked_in, unreached_if, waited, HandsOn, HandsOver, IsOctetIn, Event, Stood, Unreached, Octet, Closed, Sent, Ticked, Life, Seen, Trail, born, by_event, happens, life, life_behind, life_from, sent_seen}
-use Rattle.bgp_guard.specs.declared.side.Side.TheVariants as side
-use Rattle.bgp_guard.specs.declared.stage.Stage.TheVariants as stage
-use Rattle.bgp_guard.specs.declared.stage.TheConstants.{OPEN_SECONDS}
-use Rattle.bgp_frame.proofs.Pulls.{nothing_waits}
+use Rattle.bgp_guard.proofs.Prelude.{◌≡◌, ℕ, suc, Bool, true, false, List, [], ◌∷◌, ◌++◌, Some, None, refl, sym, ◌∙◌, AllByRecursion, ◌&&◌, not, nat_lt}
+use Rattle.bgp_guard.proofs.Prelude.{if◌then◌else◌, true≢false, append-nil, IsHeld_nil, Rules, Side, Stage, late_answer, notice, rejected, Half, runs, agreed}
+use Rattle.bgp_guard.proofs.Prelude.{closed_if, is_waiting, late, ticked_in, unreached_if, waited, HandsOn, HandsOver, IsOctetIn, Event, Stood, Unreached}
+use Rattle.bgp_guard.proofs.Prelude.{Octet, Closed, Sent, Ticked, Life, Seen, Trail, born, by_event, happens, life, life_behind, life_from, sent_seen}
+use Rattle.bgp_guard.proofs.Prelude.{OPEN_SECONDS, nothing_waits}
 use Rattle.bgp_guard.proofs.Hears.{Goes, Lane, octet_goes}
 use Rattle.bgp_guard.proofs.Lanes.{Alive, alive_all, alive_ends, alive_sent, over_lost, over_sent}
 
@@ -23,18 +15,18 @@ module _ (rules : Rules) (silent others : Bool) (this other : Half) (t o : Trail
   unreached_by : (st : Stage) (b : Bool) → (runs st && not this.stands) ≡ b → Goes rules silent others (seen st)
       → Goes rules silent others (by_event (unreached_if b) (seen st))
   unreached_by st false e goes = goes
-  unreached_by (stage.Runs n) true e goes = record {
+  unreached_by (Stage.Runs n) true e goes = record {
     this =
         alive_ends rules silent this.held this.peer other.peer t.came o.given other.way goes.this [] t.came (other.way ++ notice rejected) [] (Some rejected) (sym (append-nil t.came))
         (append-nil (other.way ++ notice rejected));
     other = alive_ends rules others other.held other.peer this.peer o.came t.given this.way goes.other [] o.came [] this.way None (sym (append-nil o.came)) (sym (append-nil this.way));
   }
-  unreached_by (stage.Ends n) true e goes = absurd (true≢false (sym e))
+  unreached_by (Stage.Ends n) true e goes = absurd (true≢false (sym e))
 
   -- a side has closed
   closed_by : (st : Stage) (b : Bool) → Goes rules silent others (seen st) → Goes rules silent others (by_event (closed_if b) (seen st))
   closed_by st false goes = goes
-  closed_by (stage.Runs n) true goes = record {
+  closed_by (Stage.Runs n) true goes = record {
     this =
         alive_ends rules silent this.held this.peer other.peer t.came o.given other.way goes.this [] t.came other.way [] None (sym (append-nil t.came))
         (append-nil other.way ∙ sym (append-nil other.way));
@@ -42,32 +34,32 @@ module _ (rules : Rules) (silent others : Bool) (this other : Half) (t o : Trail
         alive_ends rules others other.held other.peer this.peer o.came t.given this.way goes.other [] o.came [] this.way None (sym (append-nil o.came))
         (sym (append-nil this.way));
   }
-  closed_by (stage.Ends n) true goes = record {
+  closed_by (Stage.Ends n) true goes = record {
     this = goes.this;
     other = over_lost rules others (agreed other.peer this.peer) other.peer o.came t.given this.way goes.other;
   }
 
   -- octets are sent to a side
   sent_by : (st : Stage) (n : ℕ) → Goes rules silent others (seen st) → Goes rules silent others (sent_seen n (seen st))
-  sent_by (stage.Runs s) n goes = record { this = goes.this; other = alive_sent rules others n other.held other.peer this.peer o.came t.given this.way goes.other }
-  sent_by (stage.Ends s) n goes = record { this = goes.this; other = over_sent rules others n (agreed other.peer this.peer) other.peer o.came t.given this.way goes.other }
+  sent_by (Stage.Runs s) n goes = record { this = goes.this; other = alive_sent rules others n other.held other.peer this.peer o.came t.given this.way goes.other }
+  sent_by (Stage.Ends s) n goes = record { this = goes.this; other = over_sent rules others n (agreed other.peer this.peer) other.peer o.came t.given this.way goes.other }
 
 -- ---- a guard
 
 -- both directions, as the outer side sees them
 abbrev Holds : Life → Type 0
-Holds a = Goes a.guard.rules false a.guard.rules.one_way (life_from side.Outer a)
+Holds a = Goes a.guard.rules false a.guard.rules.one_way (life_from Side.Outer a)
 
 -- and as the inner side does
-turned : (a : Life) → Holds a → Goes a.guard.rules a.guard.rules.one_way false (life_from side.Inner a)
+turned : (a : Life) → Holds a → Goes a.guard.rules a.guard.rules.one_way false (life_from Side.Inner a)
 turned a h = record { this = h.other; other = h.this }
 
-turned_back : (a : Life) → Goes a.guard.rules a.guard.rules.one_way false (life_from side.Inner a) → Holds a
+turned_back : (a : Life) → Goes a.guard.rules a.guard.rules.one_way false (life_from Side.Inner a) → Holds a
 turned_back a h = record { this = h.other; other = h.this }
 
 late_holds : (rules : Rules) (n : ℕ) (outer inner : Half) (t o : Trail)
-    → Holds (record { guard = record { rules = rules; stage = stage.Runs n; outer = outer; inner = inner }; outer = t; inner = o })
-    → Holds (record { guard = late (record { rules = rules; stage = stage.Runs n; outer = outer; inner = inner }); outer = t; inner = o })
+    → Holds (record { guard = record { rules = rules; stage = Stage.Runs n; outer = outer; inner = inner }; outer = t; inner = o })
+    → Holds (record { guard = late (record { rules = rules; stage = Stage.Runs n; outer = outer; inner = inner }); outer = t; inner = o })
 late_holds rules n outer inner t o h = record {
   this =
       alive_ends rules false outer.held outer.peer inner.peer t.came o.given inner.way h.this [] t.came (inner.way ++ notice (late_answer inner.peer)) [] (Some (late_answer inner.peer))
@@ -78,13 +70,13 @@ late_holds rules n outer inner t o h = record {
 }
 
 waited_holds : (rules : Rules) (n : ℕ) (outer inner : Half) (t o : Trail) (b : Bool)
-    → Holds (record { guard = record { rules = rules; stage = stage.Runs n; outer = outer; inner = inner }; outer = t; inner = o })
-    → Holds (record { guard = waited n b (record { rules = rules; stage = stage.Runs n; outer = outer; inner = inner }); outer = t; inner = o })
+    → Holds (record { guard = record { rules = rules; stage = Stage.Runs n; outer = outer; inner = inner }; outer = t; inner = o })
+    → Holds (record { guard = waited n b (record { rules = rules; stage = Stage.Runs n; outer = outer; inner = inner }); outer = t; inner = o })
 waited_holds rules n outer inner t o false h = h
 waited_holds rules n outer inner t o true h = by (nat_lt (suc n) OPEN_SECONDS)
   where
     by : (b : Bool) → Holds (record {
-      guard = if b then record { rules = rules; stage = stage.Runs (suc n); outer = outer; inner = inner } else late (record { rules = rules; stage = stage.Runs n; outer = outer; inner = inner });
+      guard = if b then record { rules = rules; stage = Stage.Runs (suc n); outer = outer; inner = inner } else late (record { rules = rules; stage = Stage.Runs n; outer = outer; inner = inner });
       outer = t;
       inner = o;
     })
@@ -94,29 +86,29 @@ waited_holds rules n outer inner t o true h = by (nat_lt (suc n) OPEN_SECONDS)
 ticked_holds : (rules : Rules) (st : Stage) (outer inner : Half) (t o : Trail)
     → Holds (record { guard = record { rules = rules; stage = st; outer = outer; inner = inner }; outer = t; inner = o })
     → Holds (record { guard = ticked_in st (record { rules = rules; stage = st; outer = outer; inner = inner }); outer = t; inner = o })
-ticked_holds rules (stage.Runs n) outer inner t o h =
-    waited_holds rules n outer inner t o (is_waiting (record { rules = rules; stage = stage.Runs n; outer = outer; inner = inner })) h
-ticked_holds rules (stage.Ends n) outer inner t o h = record { this = h.this; other = h.other }
+ticked_holds rules (Stage.Runs n) outer inner t o h =
+    waited_holds rules n outer inner t o (is_waiting (record { rules = rules; stage = Stage.Runs n; outer = outer; inner = inner })) h
+ticked_holds rules (Stage.Ends n) outer inner t o h = record { this = h.this; other = h.other }
 
 happens_holds : (a : Life) (e : Event) → IsOctetIn e → Holds a → Holds (happens a e)
-happens_holds a (Stood side.Outer) is h = record { this = h.this; other = h.other }
-happens_holds a (Stood side.Inner) is h = record { this = h.this; other = h.other }
-happens_holds a (Unreached side.Outer) is h =
+happens_holds a (Stood Side.Outer) is h = record { this = h.this; other = h.other }
+happens_holds a (Stood Side.Inner) is h = record { this = h.this; other = h.other }
+happens_holds a (Unreached Side.Outer) is h =
     unreached_by a.guard.rules false a.guard.rules.one_way a.guard.outer a.guard.inner a.outer a.inner a.guard.stage (runs a.guard.stage && not a.guard.outer.stands) refl h
-happens_holds a (Unreached side.Inner) is h =
-    turned_back (happens a (Unreached side.Inner))
+happens_holds a (Unreached Side.Inner) is h =
+    turned_back (happens a (Unreached Side.Inner))
     (unreached_by a.guard.rules a.guard.rules.one_way false a.guard.inner a.guard.outer a.inner a.outer a.guard.stage (runs a.guard.stage && not a.guard.inner.stands) refl (turned a h))
-happens_holds a (Octet side.Outer octet) is h = octet_goes a.guard.rules false a.guard.rules.one_way octet (life_from side.Outer a) is h
-happens_holds a (Octet side.Inner octet) is h =
-    turned_back (happens a (Octet side.Inner octet)) (octet_goes a.guard.rules a.guard.rules.one_way false octet (life_from side.Inner a) is (turned a h))
-happens_holds a (Closed side.Outer) is h =
+happens_holds a (Octet Side.Outer octet) is h = octet_goes a.guard.rules false a.guard.rules.one_way octet (life_from Side.Outer a) is h
+happens_holds a (Octet Side.Inner octet) is h =
+    turned_back (happens a (Octet Side.Inner octet)) (octet_goes a.guard.rules a.guard.rules.one_way false octet (life_from Side.Inner a) is (turned a h))
+happens_holds a (Closed Side.Outer) is h =
     closed_by a.guard.rules false a.guard.rules.one_way a.guard.outer a.guard.inner a.outer a.inner a.guard.stage a.guard.outer.stands h
-happens_holds a (Closed side.Inner) is h =
-    turned_back (happens a (Closed side.Inner))
+happens_holds a (Closed Side.Inner) is h =
+    turned_back (happens a (Closed Side.Inner))
     (closed_by a.guard.rules a.guard.rules.one_way false a.guard.inner a.guard.outer a.inner a.outer a.guard.stage a.guard.inner.stands (turned a h))
-happens_holds a (Sent side.Outer n) is h = sent_by a.guard.rules false a.guard.rules.one_way a.guard.outer a.guard.inner a.outer a.inner a.guard.stage n h
-happens_holds a (Sent side.Inner n) is h =
-    turned_back (happens a (Sent side.Inner n)) (sent_by a.guard.rules a.guard.rules.one_way false a.guard.inner a.guard.outer a.inner a.outer a.guard.stage n (turned a h))
+happens_holds a (Sent Side.Outer n) is h = sent_by a.guard.rules false a.guard.rules.one_way a.guard.outer a.guard.inner a.outer a.inner a.guard.stage n h
+happens_holds a (Sent Side.Inner n) is h =
+    turned_back (happens a (Sent Side.Inner n)) (sent_by a.guard.rules a.guard.rules.one_way false a.guard.inner a.guard.outer a.inner a.outer a.guard.stage n (turned a h))
 happens_holds a Ticked is h = ticked_holds a.guard.rules a.guard.stage a.guard.outer a.guard.inner a.outer a.inner h
 
 holds_behind : (a : Life) (events : List Event) → AllByRecursion IsOctetIn events → Holds a → Holds (life_behind a events)
@@ -140,12 +132,12 @@ born_lane rules silent = record {
 
 lane_hands : (rules : Rules) (st : Stage) (silent : Bool) (a b : Half) (came given : List ℕ) → Lane rules st silent a.held a.peer b.peer came given b.way
     → HandsOver st rules silent a.peer b.peer came given b.way
-lane_hands rules (stage.Runs n) silent a b came given lane = alive_all rules silent a.held a.peer b.peer came given b.way lane
-lane_hands rules (stage.Ends n) silent a b came given lane = lane
+lane_hands rules (Stage.Runs n) silent a b came given lane = alive_all rules silent a.held a.peer b.peer came given b.way lane
+lane_hands rules (Stage.Ends n) silent a b came given lane = lane
 
 hands_on : (a : Life) (of : Side) → Holds a → HandsOn a of
-hands_on a side.Outer h = lane_hands a.guard.rules a.guard.stage false a.guard.outer a.guard.inner a.outer.came a.inner.given h.this
-hands_on a side.Inner h = lane_hands a.guard.rules a.guard.stage a.guard.rules.one_way a.guard.inner a.guard.outer a.inner.came a.outer.given h.other
+hands_on a Side.Outer h = lane_hands a.guard.rules a.guard.stage false a.guard.outer a.guard.inner a.outer.came a.inner.given h.this
+hands_on a Side.Inner h = lane_hands a.guard.rules a.guard.stage a.guard.rules.one_way a.guard.inner a.guard.outer a.inner.came a.outer.given h.other
 
 pub a_guard_hands_on : (rules : Rules) (events : List Event) (of : Side) → AllByRecursion IsOctetIn events → HandsOn (life rules events) of
 a_guard_hands_on rules events of all =

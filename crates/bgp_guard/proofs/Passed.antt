@@ -1,54 +1,38 @@
 -- What is handed on of a message, as octets.
-use Rattle.std.proofs.Common.{◌≡◌, ℕ, ◌≤◌, Bool, true, false, cond, List, [], length, drop, Option, Some, None, Result, Ok, Err, refl, sym, ap, subst, ◌∙◌, arith}
-use Rattle.std.specs.Prelude.{◌||◌, not, is_some}
-use Rattle.bgp_wire.specs.Prelude.{AreOctets}
-use Rattle.bgp_frame.specs.declared.kind.Kind.{Kind}
-use Rattle.bgp_frame.specs.Prelude.{IsFrame}
-use Rattle.bgp_frame.specs.declared.kind.Kind.TheVariants as kind
+use Rattle.bgp_guard.proofs.Prelude.{◌≡◌, ℕ, ◌≤◌, Bool, true, false, cond, List, [], length, drop, Option, Some, None, Result, Ok, Err, refl, sym, ap, subst}
+use Rattle.bgp_guard.proofs.Prelude.{◌∙◌, arith, ◌||◌, not, is_some, AreOctets, Kind, IsFrame, Context, Open, open_notification, reading_of, Notification}
+use Rattle.bgp_guard.proofs.Prelude.{Verdict, verdict_of, Message, Outcome, notification_in, of_open_fault, of_reading, of_verdict, out_of, canonical}
+use Rattle.bgp_guard.proofs.Prelude.{written, CleanFault, cleaned, cleaned_outcome, ended_family, IsCleaned, IsClean, cleaned_open, lacks_family}
+use Rattle.bgp_guard.proofs.Prelude.{cleaned_update, withdrawal, says_nothing, said_as, CanBeRead, IsReadOpen, IsReadIn}
 use Rattle.bgp_frame.specs.Frame as frame
 use Rattle.bgp_frame.proofs.Headers.{below_4097}
-use Rattle.bgp_open.specs.declared.context.Context.{Context}
 use Rattle.bgp_open.specs.declared.fault.OpenFault.{OpenFault}
-use Rattle.bgp_open.specs.declared.message.Open.{Open}
-use Rattle.bgp_open.specs.Prelude.{open_notification, reading_of}
-use Rattle.bgp_frame.specs.declared.notification.Notification.{Notification}
 use Rattle.bgp_update.specs.declared.update.Update.{Update}
-use Rattle.bgp_update.specs.declared.verdict.Verdict.{Verdict}
-use Rattle.bgp_update.specs.Prelude.{verdict_of}
-use Rattle.bgp_update.specs.declared.verdict.Verdict.TheVariants as verdict
-use Rattle.bgp_msg.specs.declared.message.Message.{Message}
-use Rattle.bgp_msg.specs.declared.outcome.Outcome.{Outcome}
-use Rattle.bgp_msg.specs.Prelude.{notification_in, of_open_fault, of_reading, of_verdict, out_of, canonical, written}
-use Rattle.bgp_msg.specs.declared.message.Message.TheVariants as message
-use Rattle.bgp_msg.specs.declared.outcome.Outcome.TheVariants as outcome
 use Rattle.bgp_clean.specs.declared.cleaned.Cleaned.{Cleaned}
 use Rattle.bgp_clean.specs.declared.cleaned.Cleaned.TheVariants.{HandedOn, Ends}
-use Rattle.bgp_clean.specs.declared.fault.CleanFault.{CleanFault}
-use Rattle.bgp_clean.specs.Prelude.{cleaned, cleaned_outcome, ended_family, IsCleaned, IsClean, cleaned_open, lacks_family, cleaned_update, withdrawal, says_nothing}
 use Rattle.bgp_clean.proofs.Handed.{handed-clean, ok-same, not_ok}
-use Rattle.bgp_guard.specs.Prelude.{said_as, CanBeRead, IsReadOpen, IsReadIn}
 
 -- ---- an OPEN that is handed on is an OPEN, and is read as it
 
 abbrev ok : Message → Result Message CleanFault
 ok n = Ok n
 
-handed_by : (o : Open) (n : Message) (lacks : Bool) → cond lacks (Err (Rattle.bgp_clean.specs.declared.fault.CleanFault.TheVariants.NoFamily)) (ok (message.Open (cleaned_open o))) ≡ ok n
-    → (p : Open) × (n ≡ message.Open p)
+handed_by : (o : Open) (n : Message) (lacks : Bool) → cond lacks (Err (Rattle.bgp_clean.specs.declared.fault.CleanFault.TheVariants.NoFamily)) (ok (Message.Open (cleaned_open o))) ≡ ok n
+    → (p : Open) × (n ≡ Message.Open p)
 handed_by o n true e = absurd (not_ok _ n e)
 handed_by o n false e = (cleaned_open o, sym (ok-same _ n e))
 
-fault_by : (drops : ℕ → Bool) (ends : Bool) (n : Message) (why : Option Notification) → cleaned_outcome drops true ends (of_open_fault why) ≡ ok n → (p : Open) × (n ≡ message.Open p)
+fault_by : (drops : ℕ → Bool) (ends : Bool) (n : Message) (why : Option Notification) → cleaned_outcome drops true ends (of_open_fault why) ≡ ok n → (p : Open) × (n ≡ Message.Open p)
 fault_by drops ends n None e = absurd (not_ok _ n e)
 fault_by drops ends n (Some why) e = absurd (not_ok _ n e)
 
-pub open_by : (drops : ℕ → Bool) (ends : Bool) (n : Message) (r : Result Open OpenFault) → cleaned_outcome drops true ends (of_reading r) ≡ ok n → (p : Open) × (n ≡ message.Open p)
+pub open_by : (drops : ℕ → Bool) (ends : Bool) (n : Message) (r : Result Open OpenFault) → cleaned_outcome drops true ends (of_reading r) ≡ ok n → (p : Open) × (n ≡ Message.Open p)
 open_by drops ends n (Ok o) e = handed_by o n (lacks_family o) e
 open_by drops ends n (Err fault) e = fault_by drops ends n (open_notification fault) e
 
 -- what was read comes back
 abbrev took : Open → Outcome
-took o = outcome.Took (message.Open o) []
+took o = Outcome.Took (Message.Open o) []
 
 same_open : (o p : Open) → took o ≡ took p → o ≡ p
 same_open o p e = cc
@@ -63,14 +47,14 @@ read_by (Err fault) p e = absurd (no_open (open_notification fault) p e)
 
 -- ---- what is handed on of other messages
 
-said_update : (b : Bool) (u : Update) (n : Message) → ok (cond b (message.Update u) message.Keepalive) ≡ ok n → said_as true n ≡ message.Keepalive
-said_update true u n e = ap (said_as true) (sym (ok-same (message.Update u) n e))
-said_update false u n e = ap (said_as true) (sym (ok-same message.Keepalive n e))
+said_update : (b : Bool) (u : Update) (n : Message) → ok (cond b (Message.Update u) Message.Keepalive) ≡ ok n → said_as true n ≡ Message.Keepalive
+said_update true u n e = ap (said_as true) (sym (ok-same (Message.Update u) n e))
+said_update false u n e = ap (said_as true) (sym (ok-same Message.Keepalive n e))
 
-update_by : (drops : ℕ → Bool) (ends : Bool) (n : Message) (v : Verdict) → cleaned_outcome drops true ends (of_verdict v) ≡ ok n → said_as true n ≡ message.Keepalive
-update_by drops ends n (verdict.Take u notes) e = said_update (ends || not (says_nothing (cleaned_update drops u))) (cleaned_update drops u) n e
-update_by drops ends n (verdict.Withdraw routes notes) e = ap (said_as true) (sym (ok-same (message.Update (withdrawal routes)) n e))
-update_by drops ends n (verdict.Reset why) e = absurd (not_ok _ n e)
+update_by : (drops : ℕ → Bool) (ends : Bool) (n : Message) (v : Verdict) → cleaned_outcome drops true ends (of_verdict v) ≡ ok n → said_as true n ≡ Message.Keepalive
+update_by drops ends n (Verdict.Take u notes) e = said_update (ends || not (says_nothing (cleaned_update drops u))) (cleaned_update drops u) n e
+update_by drops ends n (Verdict.Withdraw routes notes) e = ap (said_as true) (sym (ok-same (Message.Update (withdrawal routes)) n e))
+update_by drops ends n (Verdict.Reset why) e = absurd (not_ok _ n e)
 
 itself : (m n : Message) → said_as true m ≡ m → ok m ≡ ok n → said_as true n ≡ n
 itself m n is e = subst (λ (x : Message). said_as true x ≡ x) (ok-same m n e) is
@@ -88,22 +72,22 @@ pub record IsPassed (ctx : Context) (drops : ℕ → Bool) (m : frame.Message) (
 module _ (ctx : Context) (drops : ℕ → Bool) where
   reads : (k : Kind) (body octets : List ℕ) (n : Message) → octets ≡ canonical ctx n → cleaned ctx drops true (record { kind = k; body = body }) ≡ ok n
       → IsClean ctx drops true (record { kind = k; body = body }) n → IsReadIn k n octets × CanBeRead k octets
-  reads kind.Open body octets n is e clean =
-      let found = open_by drops (is_some (ended_family ctx (record { kind = kind.Open; body = body }))) n (reading_of body) e in
+  reads Kind.Open body octets n is e clean =
+      let found = open_by drops (is_some (ended_family ctx (record { kind = Kind.Open; body = body }))) n (reading_of body) e in
       by found.0 found.1
     where
-      by : (o : Open) → n ≡ message.Open o → IsReadOpen n octets × (29 ≤ length octets)
+      by : (o : Open) → n ≡ Message.Open o → IsReadOpen n octets × (29 ≤ length octets)
       by o same =
-          let whole : IsFrame (written ctx (message.Open o)) (canonical ctx (message.Open o)) = subst (λ (x : Message). IsFrame (written ctx x) (canonical ctx x)) same clean.taken.whole in
-          let taken : out_of ctx (written ctx (message.Open o)) ≡ outcome.Took (message.Open o) [] =
-          subst (λ (x : Message). out_of ctx (written ctx x) ≡ outcome.Took x []) same clean.taken.taken in
-          let are : octets ≡ canonical ctx (message.Open o) = is ∙ ap (canonical ctx) same in (
+          let whole : IsFrame (written ctx (Message.Open o)) (canonical ctx (Message.Open o)) = subst (λ (x : Message). IsFrame (written ctx x) (canonical ctx x)) same clean.taken.whole in
+          let taken : out_of ctx (written ctx (Message.Open o)) ≡ Outcome.Took (Message.Open o) [] =
+          subst (λ (x : Message). out_of ctx (written ctx x) ≡ Outcome.Took x []) same clean.taken.taken in
+          let are : octets ≡ canonical ctx (Message.Open o) = is ∙ ap (canonical ctx) same in (
             record { value = o; is = same; reads = ap (λ (b : List ℕ). reading_of (drop 19 b)) are ∙ read_by _ o taken },
             subst (λ (b : List ℕ). 29 ≤ length b) (sym are) whole.allowed.least,
           )
-  reads kind.Update body octets n is e clean = (update_by drops (is_some (ended_family ctx (record { kind = kind.Update; body = body }))) n (verdict_of ctx body) e, tt)
-  reads kind.Notification body octets n is e clean = (itself (message.Notification (notification_in body)) n refl e, tt)
-  reads kind.Keepalive body octets n is e clean = (itself message.Keepalive n refl e, tt)
+  reads Kind.Update body octets n is e clean = (update_by drops (is_some (ended_family ctx (record { kind = Kind.Update; body = body }))) n (verdict_of ctx body) e, tt)
+  reads Kind.Notification body octets n is e clean = (itself (Message.Notification (notification_in body)) n refl e, tt)
+  reads Kind.Keepalive body octets n is e clean = (itself Message.Keepalive n refl e, tt)
 
   passes : (m : frame.Message) (whole octets : List ℕ) (n : Message) → AreOctets whole → IsFrame m whole → octets ≡ canonical ctx n → cleaned ctx drops true m ≡ ok n
       → IsPassed ctx drops m octets

@@ -1,6 +1,6 @@
 -- Ranges of a room that is written to.
-use Rattle.bgp_wire.proofs.Std.{◌≡◌, ℕ, ◌+◌, ◌-◌, ◌≤◌, List, ◌++◌, length, take, drop, sym, ap, ◌∙◌, arith, slice_range, drop-take, drop-append-le, take-append-add, take-append_seam}
-use Rattle.std.proofs.lemmas.List.{drop-drop, length-take, length-drop}
+use Rattle.bgp_guard.proofs.Prelude.{◌≡◌, ℕ, ◌+◌, ◌-◌, ◌≤◌, List, ◌++◌, length, take, drop, sym, ap, ◌∙◌, arith, slice_range, drop-take, drop-append-le}
+use Rattle.bgp_guard.proofs.Prelude.{take-append-add, take-append_seam, drop-drop, length-take, length-drop}
 
 pub less_front : (n start end : ℕ) (xs : List ℕ) → n ≤ end - start → slice_range xs (start + n) end ≡ drop n (slice_range xs start end)
 less_front n start end xs within =

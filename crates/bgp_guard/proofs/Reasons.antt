@@ -1,33 +1,21 @@
 -- Why a guard has ended.
-use Rattle.bgp_wire.proofs.Std.{◌≡◌, ◌≤◌, ℕ, suc, Bool, true, false, List, [], ◌∷◌, ◌++◌, Option, Some, None, Result, Ok, Err, refl, sym, ap, subst, ◌∙◌, append_assoc, and_parts, ltb-false, not-true}
-use Rattle.std.specs.Prelude.{◌&&◌, ◌||◌, not, nat_lt, is_some, if◌then◌else◌}
-use Rattle.std.proofs.lemmas.Bool.{true≢false}
-use Rattle.bgp_frame.specs.declared.fault.HeadFault.{HeadFault}
-use Rattle.bgp_frame.specs.declared.kind.Kind.{Kind}
-use Rattle.bgp_frame.specs.Prelude.{content_of}
-use Rattle.bgp_frame.specs.declared.kind.Kind.TheVariants as kind
+use Rattle.bgp_guard.proofs.Prelude.{◌≡◌, ◌≤◌, ℕ, suc, Bool, true, false, List, [], ◌∷◌, ◌++◌, Option, Some, None, Result, Ok, Err, refl, sym, ap, subst, ◌∙◌}
+use Rattle.bgp_guard.proofs.Prelude.{append_assoc, and_parts, ltb-false, not-true, ◌&&◌, ◌||◌, not, nat_lt, is_some, if◌then◌else◌, true≢false, HeadFault}
+use Rattle.bgp_guard.proofs.Prelude.{Kind, content_of, Message, Rules, Stage, Answers, Guarding, Sight, listens_in, runs, comes_of, done, heard_as, holding}
+use Rattle.bgp_guard.proofs.Prelude.{octet_by, closed_if, is_waiting, ticked_in, unreached_if, waited, late, EndsBy, EndsContent, EndsHearing, HasReason}
+use Rattle.bgp_guard.proofs.Prelude.{IsLast, IsAnsweredOr, RunsOrHasReason, Event, Stood, Unreached, Octet, Closed, Sent, Ticked, Life, born, happens, life}
+use Rattle.bgp_guard.proofs.Prelude.{life_behind, life_from, Side, OPEN_SECONDS}
 use Rattle.bgp_frame.specs.Frame as frame
-use Rattle.bgp_msg.specs.declared.message.Message.{Message}
-use Rattle.bgp_guard.specs.declared.rules.Rules.{Rules}
-use Rattle.bgp_guard.specs.declared.stage.Stage.{Stage}
-use Rattle.bgp_guard.specs.Prelude.{Answers, Guarding, Sight, listens_in, runs, comes_of, done, heard_as, holding, octet_by, closed_if, is_waiting, ticked_in, unreached_if, waited, late, EndsBy, EndsContent, EndsHearing, HasReason, IsLast, IsAnsweredOr, RunsOrHasReason, Event, Stood, Unreached, Octet, Closed, Sent, Ticked, Life, born, happens, life, life_behind, life_from}
-use Rattle.bgp_guard.specs.declared.side.Side.TheVariants as side
-use Rattle.bgp_guard.specs.declared.stage.Stage.TheVariants as stage
-use Rattle.bgp_guard.specs.declared.stage.TheConstants.{OPEN_SECONDS}
-
--- it ran, and has ended
-no_end : (n : ℕ) → runs (stage.Runs n) ≡ false → ⊥
-no_end n e = true≢false e
 
 -- ---- octets
 
 kind_ends : (silent : Bool) (s : Sight) (k : Kind) (m : frame.Message) (r : Result Message Answers) → runs s.stage ≡ true → k ≡ m.kind → runs (done silent s k r).stage ≡ false
     → IsAnsweredOr r m
 kind_ends silent s k m (Err answers) ran same ends = tt
-kind_ends silent s kind.Notification m (Ok n) ran same ends = sym same
-kind_ends silent s kind.Open m (Ok n) ran same ends = absurd (true≢false (sym ran ∙ ends))
-kind_ends silent s kind.Update m (Ok n) ran same ends = absurd (true≢false (sym ran ∙ ends))
-kind_ends silent s kind.Keepalive m (Ok n) ran same ends = absurd (true≢false (sym ran ∙ ends))
+kind_ends silent s Kind.Notification m (Ok n) ran same ends = sym same
+kind_ends silent s Kind.Open m (Ok n) ran same ends = absurd (true≢false (sym ran ∙ ends))
+kind_ends silent s Kind.Update m (Ok n) ran same ends = absurd (true≢false (sym ran ∙ ends))
+kind_ends silent s Kind.Keepalive m (Ok n) ran same ends = absurd (true≢false (sym ran ∙ ends))
 
 content_ends : (rules : Rules) (silent : Bool) (s : Sight) (held : List ℕ) (c : Option (Result frame.Message HeadFault)) → runs s.stage ≡ true
     → runs (heard_as rules silent (holding s held) c).stage ≡ false → EndsContent rules s c
@@ -51,7 +39,7 @@ closed_ends : (s : Sight) (b : Bool) → s.this.stands ≡ b → runs s.stage �
 closed_ends s true is ran ends = is
 closed_ends s false is ran ends = absurd (true≢false (sym ran ∙ ends))
 
-late_at : (g : Guarding) (n : ℕ) (b : Bool) → nat_lt (suc n) OPEN_SECONDS ≡ b → runs (if b then record g { stage = stage.Runs (suc n) } else late g).stage ≡ false → OPEN_SECONDS ≤ suc n
+late_at : (g : Guarding) (n : ℕ) (b : Bool) → nat_lt (suc n) OPEN_SECONDS ≡ b → runs (if b then record g { stage = Stage.Runs (suc n) } else late g).stage ≡ false → OPEN_SECONDS ≤ suc n
 late_at g n true is ends = absurd (true≢false ends)
 late_at g n false is ends = ltb-false (suc n) OPEN_SECONDS is
 
@@ -65,24 +53,24 @@ waited_ends g n false is ran ends = absurd (true≢false (sym ran ∙ ends))
 
 ticked_ends : (g : Guarding) (st : Stage) → runs st ≡ true → runs g.stage ≡ true → runs (ticked_in st g).stage ≡ false
     → IsLast st × ((is_some g.outer.peer && is_some g.inner.peer) ≡ false)
-ticked_ends g (stage.Runs n) up ran ends = waited_ends g n (is_waiting g) refl ran ends
-ticked_ends g (stage.Ends n) up ran ends = absurd (true≢false (sym up))
+ticked_ends g (Stage.Runs n) up ran ends = waited_ends g n (is_waiting g) refl ran ends
+ticked_ends g (Stage.Ends n) up ran ends = absurd (true≢false (sym up))
 
 event_ends : (a : Life) (e : Event) → runs a.guard.stage ≡ true → runs (happens a e).guard.stage ≡ false → EndsBy a e
-event_ends a (Stood side.Outer) ran ends = absurd (true≢false (sym ran ∙ ends))
-event_ends a (Stood side.Inner) ran ends = absurd (true≢false (sym ran ∙ ends))
-event_ends a (Unreached side.Outer) ran ends =
-    unreached_ends (life_from side.Outer a).sight (runs a.guard.stage && not a.guard.outer.stands) refl ran ends
-event_ends a (Unreached side.Inner) ran ends =
-    unreached_ends (life_from side.Inner a).sight (runs a.guard.stage && not a.guard.inner.stands) refl ran ends
-event_ends a (Octet side.Outer octet) ran ends =
-    octet_ends a.guard.rules false (life_from side.Outer a).sight octet (listens_in (life_from side.Outer a).sight) refl ran ends
-event_ends a (Octet side.Inner octet) ran ends =
-    octet_ends a.guard.rules a.guard.rules.one_way (life_from side.Inner a).sight octet (listens_in (life_from side.Inner a).sight) refl ran ends
-event_ends a (Closed side.Outer) ran ends = closed_ends (life_from side.Outer a).sight a.guard.outer.stands refl ran ends
-event_ends a (Closed side.Inner) ran ends = closed_ends (life_from side.Inner a).sight a.guard.inner.stands refl ran ends
-event_ends a (Sent side.Outer n) ran ends = absurd (true≢false (sym ran ∙ ends))
-event_ends a (Sent side.Inner n) ran ends = absurd (true≢false (sym ran ∙ ends))
+event_ends a (Stood Side.Outer) ran ends = absurd (true≢false (sym ran ∙ ends))
+event_ends a (Stood Side.Inner) ran ends = absurd (true≢false (sym ran ∙ ends))
+event_ends a (Unreached Side.Outer) ran ends =
+    unreached_ends (life_from Side.Outer a).sight (runs a.guard.stage && not a.guard.outer.stands) refl ran ends
+event_ends a (Unreached Side.Inner) ran ends =
+    unreached_ends (life_from Side.Inner a).sight (runs a.guard.stage && not a.guard.inner.stands) refl ran ends
+event_ends a (Octet Side.Outer octet) ran ends =
+    octet_ends a.guard.rules false (life_from Side.Outer a).sight octet (listens_in (life_from Side.Outer a).sight) refl ran ends
+event_ends a (Octet Side.Inner octet) ran ends =
+    octet_ends a.guard.rules a.guard.rules.one_way (life_from Side.Inner a).sight octet (listens_in (life_from Side.Inner a).sight) refl ran ends
+event_ends a (Closed Side.Outer) ran ends = closed_ends (life_from Side.Outer a).sight a.guard.outer.stands refl ran ends
+event_ends a (Closed Side.Inner) ran ends = closed_ends (life_from Side.Inner a).sight a.guard.inner.stands refl ran ends
+event_ends a (Sent Side.Outer n) ran ends = absurd (true≢false (sym ran ∙ ends))
+event_ends a (Sent Side.Inner n) ran ends = absurd (true≢false (sym ran ∙ ends))
 event_ends a Ticked ran ends = ticked_ends a.guard a.guard.stage ran ran ends
 
 -- ---- lists of events
@@ -112,5 +100,5 @@ pub a_guard_has_reason : (rules : Rules) (events : List Event) → RunsOrHasReas
 a_guard_has_reason rules events = by (life rules events).guard.stage refl
   where
     by : (st : Stage) → (life rules events).guard.stage ≡ st → RunsOrHasReason st rules events
-    by (stage.Runs n) e = tt
-    by (stage.Ends n) e = reason_behind rules [] events refl (ap runs e)
+    by (Stage.Runs n) e = tt
+    by (Stage.Ends n) e = reason_behind rules [] events refl (ap runs e)

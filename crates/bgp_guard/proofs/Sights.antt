@@ -1,43 +1,31 @@
 -- What a side sees behind an event.
-use Rattle.bgp_wire.proofs.Std.{◌≡◌, ℕ, suc, ◌≤◌, Bool, true, false, List, ◌++◌, Result, refl, sym, ap, ap₂, ◌∙◌, arith, le-ltb}
-use Rattle.std.specs.Prelude.{◌↔◌, if◌then◌else◌}
+use Rattle.bgp_guard.proofs.Prelude.{◌≡◌, ℕ, suc, ◌≤◌, Bool, true, false, List, ◌++◌, Result, refl, sym, ap, ap₂, ◌∙◌, arith, le-ltb, ◌↔◌, if◌then◌else◌}
+use Rattle.bgp_guard.proofs.Prelude.{true≢false, has_octet, Kind, Context, Message, out_of, outcome_value, canonical, CleanFault, cleaned, Rules, Stage, Half}
+use Rattle.bgp_guard.proofs.Prelude.{Guarding, Sight, runs, Answers, answered, reject_both, answers_to, cleans, context_in, handed_on, handed_or, said_as}
+use Rattle.bgp_guard.proofs.Prelude.{stage_behind, told_late, late, waited, HasRoom, half_behind, said_for, IsReadIn}
 use Rattle.std.specs.Str.{bytes_eq}
 use Rattle.std.proofs.lemmas.Slice.Eq.{bytes_eq-Decides}
-use Rattle.std.proofs.lemmas.Bool.{true≢false}
-use Rattle.bgp_wire.specs.Prelude.{has_octet}
-use Rattle.bgp_frame.specs.declared.kind.Kind.{Kind}
-use Rattle.bgp_frame.specs.declared.kind.Kind.TheVariants as kind
 use Rattle.bgp_frame.specs.Frame as frame
 use Rattle.bgp_frame.specs.declared.notification.NotificationView.{NotificationView}
-use Rattle.bgp_open.specs.declared.context.Context.{Context}
-use Rattle.bgp_msg.specs.declared.message.Message.{Message}
 use Rattle.bgp_msg.specs.declared.outcome_view.OutcomeView.{OutcomeView}
-use Rattle.bgp_msg.specs.Prelude.{out_of, outcome_value, canonical}
-use Rattle.bgp_msg.specs.declared.outcome_view.OutcomeView.TheVariants as view
-use Rattle.bgp_clean.specs.declared.fault.CleanFault.{CleanFault}
-use Rattle.bgp_clean.specs.Prelude.{cleaned}
-use Rattle.bgp_guard.specs.declared.rules.Rules.{Rules}
-use Rattle.bgp_guard.specs.declared.stage.Stage.{Stage}
-use Rattle.bgp_guard.specs.Prelude.{Half, Guarding, Sight, runs, Answers, answered, reject_both, answers_to, cleans, context_in, handed_on, handed_or, said_as, stage_behind, told_late, late, waited, HasRoom, half_behind, said_for, IsReadIn}
-use Rattle.bgp_guard.specs.declared.stage.Stage.TheVariants as stage
 
 -- ---- a second
 
 pub late_waited : (g : Guarding) (n : ℕ) (outer inner : Half) → 239 ≤ n → outer ≡ told_late g.outer → inner ≡ told_late g.inner
-    → record { rules = g.rules; stage = stage.Ends 10; outer = outer; inner = inner } ≡ waited n true g
+    → record { rules = g.rules; stage = Stage.Ends 10; outer = outer; inner = inner } ≡ waited n true g
 late_waited g n outer inner over o i =
-    ap₂ (λ (x y : Half). record { rules = g.rules; stage = stage.Ends 10; outer = x; inner = y }) o i
-    ∙ sym (ap (λ (b : Bool). if b then record g { stage = stage.Runs (suc n) } else late g) (le-ltb (suc n) 240 (omega (arith, over))))
+    ap₂ (λ (x y : Half). record { rules = g.rules; stage = Stage.Ends 10; outer = x; inner = y }) o i
+    ∙ sym (ap (λ (b : Bool). if b then record g { stage = Stage.Runs (suc n) } else late g) (le-ltb (suc n) 240 (omega (arith, over))))
 
 -- ---- answers
 
-pub no_reset : (v : OutcomeView) → ((why : NotificationView) → v ≡ view.Reset why → ⊥) → answers_to (outcome_value v) ≡ reject_both
-no_reset (view.Open x) not = refl
-no_reset (view.Update x) not = refl
-no_reset (view.Notification x) not = refl
-no_reset view.Keepalive not = refl
-no_reset (view.Withdraw x) not = refl
-no_reset (view.Reset why) not = absurd (not why refl)
+pub no_reset : (v : OutcomeView) → ((why : NotificationView) → v ≡ OutcomeView.Reset why → ⊥) → answers_to (outcome_value v) ≡ reject_both
+no_reset (OutcomeView.Open x) not = refl
+no_reset (OutcomeView.Update x) not = refl
+no_reset (OutcomeView.Notification x) not = refl
+no_reset OutcomeView.Keepalive not = refl
+no_reset (OutcomeView.Withdraw x) not = refl
+no_reset (OutcomeView.Reset why) not = absurd (not why refl)
 
 pub over : (s t : Sight) (a : Answers) → t ≡ answered s a → runs t.stage ≡ false
 over s t a e = ap (λ (x : Sight). runs x.stage) e
@@ -50,10 +38,10 @@ no_room stage way not = λ up. absurd (true≢false (sym up ∙ not))
 
 pub said-same : (silent : Bool) (kind : Kind) (n : Message) (b : List ℕ) → IsReadIn kind n b → said_for silent kind n ≡ said_as silent n
 said-same false kind n b read = refl
-said-same true kind.Open n b read = read.is ∙ sym (ap (said_as true) read.is)
-said-same true kind.Update n b read = sym read
-said-same true kind.Notification n b read = sym read
-said-same true kind.Keepalive n b read = sym read
+said-same true Kind.Open n b read = read.is ∙ sym (ap (said_as true) read.is)
+said-same true Kind.Update n b read = sym read
+said-same true Kind.Notification n b read = sym read
+said-same true Kind.Keepalive n b read = sym read
 
 pub handed : (silent : Bool) (s : Sight) (kind : Kind) (n : Message) (stage : Stage) (this : Half) (way : List ℕ) → stage ≡ stage_behind kind s.stage
     → this ≡ half_behind kind n s.this → way ≡ s.other.way ++ canonical (context_in s) (said_as silent n)

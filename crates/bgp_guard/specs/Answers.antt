@@ -3,7 +3,6 @@ use Rattle.std.specs.Prelude.{ℕ, List, [], ◌∷◌, ◌++◌, Option, None, 
 use Rattle.bgp_numbers.specs.declared.error.TheConstants.{HOLD_TIMER_EXPIRED, FINITE_STATE_MACHINE, CEASE, UNSPECIFIC, ADMINISTRATIVE_RESET, CONNECTION_REJECTED}
 use Rattle.bgp_frame.specs.declared.kind.Kind.{Kind}
 use Rattle.bgp_frame.specs.Prelude.{octets_of, code_of, notification_with}
-use Rattle.bgp_frame.specs.declared.kind.Kind.TheVariants as kind
 use Rattle.bgp_frame.specs.declared.notification.Notification.{Notification}
 use Rattle.bgp_msg.specs.Prelude.{notification_octets}
 use Rattle.bgp_open.specs.Prelude.{Said}
@@ -13,7 +12,7 @@ use Rattle.bgp_guard.specs.Guard.{Half, Sight}
 
 -- the whole message
 abbrev pub notice : Notification → List ℕ
-notice n = octets_of (record { kind = kind.Notification; body = notification_octets n })
+notice n = octets_of (record { kind = Kind.Notification; body = notification_octets n })
 
 -- the side was reset from the other side
 abbrev pub reset_over : Notification

@@ -3,9 +3,7 @@ use Rattle.std.specs.Prelude.{ℕ, zero, suc, Bool, true, false, not, ◌&&◌, 
 use Rattle.bgp_open.specs.Prelude.{Said}
 use Rattle.bgp_guard.specs.declared.rules.Rules.{Rules}
 use Rattle.bgp_guard.specs.declared.side.Side.{Side}
-use Rattle.bgp_guard.specs.declared.side.Side.TheVariants as side
 use Rattle.bgp_guard.specs.declared.stage.Stage.{Stage}
-use Rattle.bgp_guard.specs.declared.stage.Stage.TheVariants as stage
 use Rattle.bgp_guard.specs.declared.way.TheConstants.{ROOM}
 
 -- What is kept of a side: whether its connection stands; the octets of an incomplete message that came from it; what its OPEN says, once that was
@@ -28,11 +26,11 @@ pub record Guarding : Type 0 where
 
 -- no side stands yet
 abbrev pub fresh : Rules → Guarding
-fresh rules = record { rules = rules; stage = stage.Runs 0; outer = absent; inner = absent }
+fresh rules = record { rules = rules; stage = Stage.Runs 0; outer = absent; inner = absent }
 
 abbrev pub other_side : Side → Side
-other_side side.Outer = side.Inner
-other_side side.Inner = side.Outer
+other_side Side.Outer = Side.Inner
+other_side Side.Inner = Side.Outer
 
 -- ---- as one side sees it: each rule is written once, for a side and the other
 
@@ -42,23 +40,23 @@ pub record Sight : Type 0 where
   pub other : Half
 
 abbrev pub seen_from : Side → Guarding → Sight
-seen_from side.Outer g = record { stage = g.stage; this = g.outer; other = g.inner }
-seen_from side.Inner g = record { stage = g.stage; this = g.inner; other = g.outer }
+seen_from Side.Outer g = record { stage = g.stage; this = g.outer; other = g.inner }
+seen_from Side.Inner g = record { stage = g.stage; this = g.inner; other = g.outer }
 
 abbrev pub guard_of : Side → Rules → Sight → Guarding
-guard_of side.Outer rules s = record { rules = rules; stage = s.stage; outer = s.this; inner = s.other }
-guard_of side.Inner rules s = record { rules = rules; stage = s.stage; outer = s.other; inner = s.this }
+guard_of Side.Outer rules s = record { rules = rules; stage = s.stage; outer = s.this; inner = s.other }
+guard_of Side.Inner rules s = record { rules = rules; stage = s.stage; outer = s.other; inner = s.this }
 
 -- the routes of this side aren't handed on
 abbrev pub is_silent : Side → Rules → Bool
-is_silent side.Outer rules = false
-is_silent side.Inner rules = rules.one_way
+is_silent Side.Outer rules = false
+is_silent Side.Inner rules = rules.one_way
 
 -- ---- what it asks of its owner
 
 abbrev pub runs : Stage → Bool
-runs (stage.Runs n) = true
-runs (stage.Ends n) = false
+runs (Stage.Runs n) = true
+runs (Stage.Ends n) = false
 
 -- nothing is read any more
 abbrev pub has_ended : Guarding → Bool
@@ -77,13 +75,13 @@ is_empty _ = false
 
 -- a side is to be closed once the guard has ended and nothing is on its way to it, or the seconds for that are over
 abbrev pub closes_with : Stage → List ℕ → Bool
-closes_with (stage.Runs n) way = false
-closes_with (stage.Ends zero) way = true
-closes_with (stage.Ends (suc n)) way = is_empty way
+closes_with (Stage.Runs n) way = false
+closes_with (Stage.Ends zero) way = true
+closes_with (Stage.Ends (suc n)) way = is_empty way
 
 abbrev pub half : Side → Guarding → Half
-half side.Outer g = g.outer
-half side.Inner g = g.inner
+half Side.Outer g = g.outer
+half Side.Inner g = g.inner
 
 abbrev pub closes : Side → Guarding → Bool
 closes side g = closes_with g.stage (half side g).way

@@ -4,19 +4,15 @@ use Rattle.bgp_wire.specs.Prelude.{has_octet}
 use Rattle.bgp_frame.specs.declared.fault.HeadFault.{HeadFault}
 use Rattle.bgp_frame.specs.declared.kind.Kind.{Kind}
 use Rattle.bgp_frame.specs.Prelude.{head_notification, content_of}
-use Rattle.bgp_frame.specs.declared.kind.Kind.TheVariants as kind
 use Rattle.bgp_frame.specs.Frame as frame
 use Rattle.bgp_open.specs.declared.context.Context.{Context}
 use Rattle.bgp_open.specs.Prelude.{agreed_with, Said, said_by}
 use Rattle.bgp_msg.specs.declared.message.Message.{Message}
 use Rattle.bgp_msg.specs.declared.outcome.Outcome.{Outcome}
 use Rattle.bgp_msg.specs.Prelude.{out_of, canonical}
-use Rattle.bgp_msg.specs.declared.message.Message.TheVariants as message
-use Rattle.bgp_msg.specs.declared.outcome.Outcome.TheVariants as outcome
 use Rattle.bgp_clean.specs.declared.fault.CleanFault.{CleanFault}
 use Rattle.bgp_clean.specs.Prelude.{cleaned}
 use Rattle.bgp_guard.specs.declared.stage.Stage.{Stage}
-use Rattle.bgp_guard.specs.declared.stage.Stage.TheVariants as stage
 use Rattle.bgp_guard.specs.declared.stage.TheConstants.{DRAIN_SECONDS}
 use Rattle.bgp_guard.specs.declared.rules.Rules.{Rules}
 use Rattle.bgp_guard.specs.Guard.{Sight, listens_in}
@@ -39,7 +35,7 @@ context_in s = agreed s.this.peer s.other.peer
 
 -- the message's own fault is told; an OPEN without one loses all of its families
 abbrev pub answers_to : Outcome → Answers
-answers_to (outcome.Reset n) = reset_by n
+answers_to (Outcome.Reset n) = reset_by n
 answers_to _ = reject_both
 
 abbrev pub handed_or : Outcome → Result Message CleanFault → Result Message Answers
@@ -60,21 +56,21 @@ comes_of rules s m = placed rules s m (misplaced s m.kind)
 
 -- what an OPEN says is kept as it is handed on
 abbrev pub peer_behind : Kind → Message → Option Said → Option Said
-peer_behind kind.Open (message.Open o) before = Some (said_by o)
+peer_behind Kind.Open (Message.Open o) before = Some (said_by o)
 peer_behind _ _ before = before
 
 abbrev pub ready_behind : Kind → Bool → Bool
-ready_behind kind.Keepalive before = true
+ready_behind Kind.Keepalive before = true
 ready_behind _ before = before
 
 -- a NOTIFICATION ends both directions
 abbrev pub stage_behind : Kind → Stage → Stage
-stage_behind kind.Notification before = stage.Ends DRAIN_SECONDS
+stage_behind Kind.Notification before = Stage.Ends DRAIN_SECONDS
 stage_behind _ before = before
 
 -- routes that stay inside: a KEEPALIVE is in place of their UPDATE
 abbrev pub said_as : Bool → Message → Message
-said_as true (message.Update u) = message.Keepalive
+said_as true (Message.Update u) = Message.Keepalive
 said_as _ n = n
 
 abbrev pub handed_on : Bool → Sight → Kind → Message → Sight

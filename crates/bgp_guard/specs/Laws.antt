@@ -12,12 +12,10 @@ use Rattle.bgp_open.specs.declared.message.Open.{Open}
 use Rattle.bgp_open.specs.Prelude.{Said, said_by}
 use Rattle.bgp_msg.specs.declared.message.Message.{Message}
 use Rattle.bgp_msg.specs.Prelude.{canonical}
-use Rattle.bgp_msg.specs.declared.message.Message.TheVariants as message
 use Rattle.bgp_clean.specs.Prelude.{cleaned, cleaned_stream}
 use Rattle.bgp_guard.specs.declared.rules.Rules.{Rules}
 use Rattle.bgp_guard.specs.declared.side.Side.{Side}
 use Rattle.bgp_guard.specs.declared.stage.Stage.{Stage}
-use Rattle.bgp_guard.specs.declared.stage.Stage.TheVariants as stage
 use Rattle.bgp_guard.specs.declared.stage.TheConstants.{OPEN_SECONDS}
 use Rattle.bgp_guard.specs.Answers.{Answers, notice}
 use Rattle.bgp_guard.specs.Guard.{Sight, is_silent, listens_in, runs}
@@ -41,7 +39,7 @@ pub record IsFirst (rules : Rules) (ctx : Context) (messages : List frame.Messag
   pub later : List frame.Message
   pub is : messages ≡ first ∷ later
   pub value : Open
-  pub handed : cleaned ctx (has_octet rules.drops) true first ≡ Ok (message.Open value)
+  pub handed : cleaned ctx (has_octet rules.drops) true first ≡ Ok (Message.Open value)
   pub says : said ≡ said_by value
 
 -- what is kept of an OPEN is what the OPEN says that was handed on
@@ -77,8 +75,8 @@ pub record IsAllHandedOver (rules : Rules) (silent : Bool) (ctx : Context) (kept
 
 -- in the context that both OPENs agree on
 abbrev pub HandsOver : Stage → Rules → Bool → Option Said → Option Said → List ℕ → List ℕ → List ℕ → Type 0
-HandsOver (stage.Runs n) rules silent kept others came given way = IsAllHandedOver rules silent (agreed kept others) kept came given way
-HandsOver (stage.Ends n) rules silent kept others came given way = IsHandedOver rules silent (agreed kept others) kept came given way
+HandsOver (Stage.Runs n) rules silent kept others came given way = IsAllHandedOver rules silent (agreed kept others) kept came given way
+HandsOver (Stage.Ends n) rules silent kept others came given way = IsHandedOver rules silent (agreed kept others) kept came given way
 
 abbrev pub IsOctetIn : Event → Type 0
 IsOctetIn (Octet side octet) = octet < 256
@@ -108,8 +106,8 @@ EndsHearing rules s octet = (listens_in s ≡ true) × EndsContent rules s (cont
 
 -- with one second more the OPENs have had their time
 abbrev pub IsLast : Stage → Type 0
-IsLast (stage.Runs n) = OPEN_SECONDS ≤ suc n
-IsLast (stage.Ends n) = ⊥
+IsLast (Stage.Runs n) = OPEN_SECONDS ≤ suc n
+IsLast (Stage.Ends n) = ⊥
 
 -- an event ends a guard that runs: a side erred, sent a NOTIFICATION, closed or can't be reached, or an OPEN was missing for too long
 abbrev pub EndsBy : Life → Event → Type 0
@@ -129,5 +127,5 @@ pub record HasReason (rules : Rules) (events : List Event) : Type 0 where
   pub ends : EndsBy (life rules before) event
 
 abbrev pub RunsOrHasReason : Stage → Rules → List Event → Type 0
-RunsOrHasReason (stage.Runs n) rules events = Unit {0}
-RunsOrHasReason (stage.Ends n) rules events = HasReason rules events
+RunsOrHasReason (Stage.Runs n) rules events = Unit {0}
+RunsOrHasReason (Stage.Ends n) rules events = HasReason rules events

@@ -2,7 +2,6 @@
 use Rattle.std.specs.Prelude.{ℕ, Bool, true, false, List, [], ◌∷◌, ◌++◌, take}
 use Rattle.bgp_guard.specs.declared.rules.Rules.{Rules}
 use Rattle.bgp_guard.specs.declared.side.Side.{Side}
-use Rattle.bgp_guard.specs.declared.side.Side.TheVariants as side
 use Rattle.bgp_guard.specs.Guard.{Guarding, Sight, fresh, seen_from, guard_of, is_silent, listens_in}
 use Rattle.bgp_guard.specs.Hearing.{by_octet}
 use Rattle.bgp_guard.specs.Events.{stood, unreached, closed, sent, ticked}
@@ -39,12 +38,12 @@ abbrev pub born : Rules → Life
 born rules = record { guard = fresh rules; outer = no_trail; inner = no_trail }
 
 abbrev pub life_from : Side → Life → Seen
-life_from side.Outer a = record { sight = seen_from side.Outer a.guard; this = a.outer; other = a.inner }
-life_from side.Inner a = record { sight = seen_from side.Inner a.guard; this = a.inner; other = a.outer }
+life_from Side.Outer a = record { sight = seen_from Side.Outer a.guard; this = a.outer; other = a.inner }
+life_from Side.Inner a = record { sight = seen_from Side.Inner a.guard; this = a.inner; other = a.outer }
 
 abbrev pub life_of : Side → Rules → Seen → Life
-life_of side.Outer rules s = record { guard = guard_of side.Outer rules s.sight; outer = s.this; inner = s.other }
-life_of side.Inner rules s = record { guard = guard_of side.Inner rules s.sight; outer = s.other; inner = s.this }
+life_of Side.Outer rules s = record { guard = guard_of Side.Outer rules s.sight; outer = s.this; inner = s.other }
+life_of Side.Inner rules s = record { guard = guard_of Side.Inner rules s.sight; outer = s.other; inner = s.this }
 
 -- ---- events, as the side sees them that they are of
 

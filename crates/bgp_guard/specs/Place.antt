@@ -2,7 +2,6 @@
 use Rattle.std.specs.Prelude.{ℕ, Bool, false, not, ◌&&◌, Option, None, Some, is_some, if◌then◌else◌}
 use Rattle.bgp_numbers.specs.declared.error.TheConstants.{UNEXPECTED_IN_OPEN_SENT, UNEXPECTED_IN_OPEN_CONFIRM, UNEXPECTED_IN_ESTABLISHED}
 use Rattle.bgp_frame.specs.declared.kind.Kind.{Kind}
-use Rattle.bgp_frame.specs.declared.kind.Kind.TheVariants as kind
 use Rattle.bgp_guard.specs.Guard.{Sight}
 
 -- both OPENs were handed on
@@ -11,10 +10,10 @@ both_open s = is_some s.this.peer && is_some s.other.peer
 
 -- an OPEN comes once, a KEEPALIVE behind both OPENs, an UPDATE behind its side's own KEEPALIVE; a NOTIFICATION at any time
 abbrev pub is_misplaced : Sight → Kind → Bool
-is_misplaced s kind.Open = is_some s.this.peer
-is_misplaced s kind.Update = not (both_open s && s.this.ready)
-is_misplaced s kind.Notification = false
-is_misplaced s kind.Keepalive = not (both_open s)
+is_misplaced s Kind.Open = is_some s.this.peer
+is_misplaced s Kind.Update = not (both_open s && s.this.ready)
+is_misplaced s Kind.Notification = false
+is_misplaced s Kind.Keepalive = not (both_open s)
 
 -- the subcode says where the side stands
 abbrev pub subcode_of : Sight → ℕ

@@ -1,20 +1,12 @@
 //! The command line.
 
 use crate::help::HELP;
-use clap::{Arg, ArgAction, Command};
+use bgp_words::{Behind, with_flags};
+use clap::Command;
 use std::alloc::{AllocError, Global};
 
-/// What stands behind a flag.
-#[derive(Clone, Copy)]
-enum Behind {
-    Nothing,
-    /// A value of this name.
-    Value(&'static str),
-    /// A value of this name, and the flag may be there again.
-    Values(&'static str),
-    /// A value of this name, and the flag has to be there.
-    Needed(&'static str),
-}
+/// The program's name.
+pub(crate) const NAME: &str = "bgp_guard_run";
 
 /// The flags, with what stands behind them, and their help.
 const FLAGS: [(&str, Behind, &str); 9] = [
@@ -61,32 +53,17 @@ const FLAGS: [(&str, Behind, &str); 9] = [
     ("seconds", Behind::Value("N"), "End after so many seconds"),
 ];
 
-// A flag of that list.
-fn flag<'a>(alloc: Global, name: &'a str, behind: Behind, help: &'a str) -> Arg<'a> {
-    let flag = Arg::new(alloc, name).long(name).help(help);
-    match behind {
-        Behind::Nothing => flag.action(ArgAction::SetTrue),
-        Behind::Value(value) => flag.value_name(value),
-        Behind::Values(value) => flag.value_name(value).action(ArgAction::Append),
-        Behind::Needed(value) => flag.value_name(value).required(true),
-    }
-}
-
 // The command without its flags.
 fn bare<'a>(alloc: Global) -> Result<Command<'a>, AllocError> {
-    Command::new(alloc, "bgp_guard_run")
+    Command::new(alloc, NAME)
         .about("Stand between two BGP-4 speakers, and hand on what is clean")
         .after_help(HELP)
         .version("0.4.0")
         .no_binary_name(true)
-        .bin_name("bgp_guard_run")
+        .bin_name(NAME)
 }
 
 /// The whole command line.
 pub(crate) fn guard<'a>(alloc: Global) -> Result<Command<'a>, AllocError> {
-    let mut command = bare(alloc)?;
-    for (name, behind, help) in FLAGS {
-        command = command.arg(flag(alloc, name, behind, help))?;
-    }
-    Ok(command)
+    with_flags(alloc, bare(alloc)?, &FLAGS)
 }

@@ -4,8 +4,7 @@ use crate::commands::guard;
 use crate::neighbours::{Neighbour, NeighbourFault, fault_of, neighbour_of};
 use bgp_guard::Rules;
 use bgp_wire::OctetSet;
-use bgp_words::{all_but, list_fault, types_of};
-use clap::error::ErrorKind;
+use bgp_words::{all_but, bad_value, list_fault, types_of};
 use clap::{ArgMatches, Error};
 use std::alloc::Global;
 use std::net::SocketAddr;
@@ -38,13 +37,7 @@ pub(crate) struct Request {
 
 // An error of a value.
 fn bad(alloc: Global, text: &str) -> Error {
-    match guard(alloc) {
-        Ok(mut command) => match command.error(ErrorKind::ValueValidation, text) {
-            Ok(error) => error,
-            Err(error) => Error::from(error),
-        },
-        Err(error) => Error::from(error),
-    }
+    bad_value(guard(alloc), text)
 }
 
 // The number that an argument has, where it has one.

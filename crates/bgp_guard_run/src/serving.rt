@@ -5,7 +5,6 @@ use crate::log::{Log, Name};
 use crate::neighbours::{Admission, admit};
 use crate::request::Request;
 use crate::session::{Ends, Session};
-use crate::status::DONE;
 use crate::why::Why;
 use bgp_guard::Side;
 use bgp_guard_net::connect_from;
@@ -343,5 +342,5 @@ pub(crate) fn serve(rt: &HostRuntime, request: &Request) -> io::Result<u8> {
     let mut server = Server::new(rt, request)?;
     server.run()?;
     server.stop()?;
-    Ok(DONE)
+    Ok(0)
 }

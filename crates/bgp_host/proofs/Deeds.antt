@@ -1,10 +1,7 @@
 -- Deeds behind deeds, and what they asked.
-use Rattle.bgp_wire.proofs.Std.{◌≡◌, ℕ, List, [], ◌∷◌, ◌++◌, length, Option, refl, sym, ap, subst, ◌∙◌, append_assoc, arith, flat_map, map-append}
-use Rattle.std.proofs.lemmas.List.{append-nil}
-use Rattle.std.proofs.lemmas.Grind.{flat_map-append}
-use Rattle.bgp_machine.specs.declared.action.Action.{Action}
-use Rattle.bgp_host.specs.declared.link.Link.{Link}
-use Rattle.bgp_host.specs.Prelude.{Call, Grows, ticks_of, notices_of, calls_of, link_of, Deed, all_calls, link_behind, Records, Asks, CarriesOut}
+use Rattle.bgp_host.proofs.Prelude.{◌≡◌, ℕ, List, [], ◌∷◌, ◌++◌, length, Option, refl, sym, ap, subst, ◌∙◌, append_assoc, arith, flat_map, map-append}
+use Rattle.bgp_host.proofs.Prelude.{append-nil, flat_map-append, Action, Link, Call, Grows, ticks_of, notices_of, calls_of, link_of, Deed, all_calls}
+use Rattle.bgp_host.proofs.Prelude.{link_behind, Records, Asks, CarriesOut}
 use Rattle.bgp_host.proofs.Records.{grows_both, grows_none}
 
 pub calls_both : (own : List ℕ) (link : Link) (a b : List Deed) → all_calls own link (a ++ b) ≡ all_calls own link a ++ all_calls own (link_behind link a) b

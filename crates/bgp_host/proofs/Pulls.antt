@@ -1,17 +1,12 @@
 -- What a pull takes, and what it leaves.
-use Rattle.std.proofs.Common.{◌≡◌, ℕ, zero, suc, ◌<◌, ◌≤◌, Bool, true, false, nat_lt, List, [], ◌∷◌, length, drop, None, Some, refl, sym, ap, subst, ◌∙◌, arith, inl, inr, if◌then◌else◌}
-use Rattle.arrayvec.specs.ArrayVec.{ArrayVec}
+use Rattle.bgp_host.proofs.Prelude.{◌≡◌, ℕ, zero, suc, ◌<◌, ◌≤◌, Bool, true, false, nat_lt, List, [], ◌∷◌, length, drop, None, Some, refl, sym, ap, subst}
+use Rattle.bgp_host.proofs.Prelude.{◌∙◌, arith, inl, inr, if◌then◌else◌, ArrayVec, Action, Connected, Failed, IsPulled, where_found, Machine, own_octets}
+use Rattle.bgp_host.proofs.Prelude.{kept, hearer, listens, weight, happens, State, Link, Same, Up, Down, Deed, actions_of, link_behind, Records, Cause, Told}
+use Rattle.bgp_host.proofs.Prelude.{Heard, Gives, Turn, link_after, Goes, causes_of, Hosted, Runs, RunsFrom, Acts, PullsOn, PullsNone, PullsOnce, taken_by}
 use Rattle.bgp_frame.specs.Prelude.{one_if_any}
 use Rattle.bgp_frame.proofs.Hearings.{counts_within, judges_lighter, lighter, none_left, not_both, taken_up}
-use Rattle.bgp_machine.specs.declared.action.Action.{Action}
 use Rattle.bgp_machine.specs.declared.event.Event.{Event}
-use Rattle.bgp_machine.specs.declared.event.Event.TheVariants.{Connected, Failed}
-use Rattle.bgp_machine.specs.Prelude.{IsPulled, where_found, Machine, own_octets, kept, hearer, listens, weight, happens}
-use Rattle.bgp_machine.specs.declared.state.State.{State}
 use Rattle.bgp_machine.proofs.Cuttings.{is_hearer, pulls_as_fed}
-use Rattle.bgp_host.specs.declared.link.Link.{Link}
-use Rattle.bgp_host.specs.declared.link.Link.TheVariants.{Same, Up, Down}
-use Rattle.bgp_host.specs.Prelude.{Deed, actions_of, link_behind, Records, Cause, Told, Heard, Gives, Turn, link_after, Goes, causes_of, Hosted, Runs, RunsFrom, Acts, PullsOn, PullsNone, PullsOnce, taken_by}
 use Rattle.bgp_host.proofs.Records.{grows_none}
 use Rattle.bgp_host.proofs.Turns.{at, one_turn, next_turn}
 

@@ -1,17 +1,10 @@
 -- What a session that is told what became of its connection does to the connection: behind `Failed` nothing, and behind `Connected` none is sought.
-use Rattle.std.proofs.Common.{◌≡◌, Bool, true, false, List, [], ◌∷◌, ◌++◌, ◌⊎◌, inl, inr, refl, sym, ap, subst, ◌∙◌}
-use Rattle.bgp_machine.specs.declared.action.Action.{Action}
+use Rattle.bgp_host.proofs.Prelude.{◌≡◌, Bool, true, false, List, [], ◌∷◌, ◌++◌, ◌⊎◌, inl, inr, refl, sym, ap, subst, ◌∙◌, Action, Connected, Failed, State}
+use Rattle.bgp_host.proofs.Prelude.{Standing, on_event, only_if, disarmed, flushed, Link, Same, Up, Down, Deed, actions_of, sent, link_of, link_behind, Cause}
+use Rattle.bgp_host.proofs.Prelude.{Told, Gives, first_link, Hosted, RunsFrom, OneTurn, IsNotUp}
 use Rattle.bgp_machine.specs.declared.action.Action.TheVariants.{Connect, Close, SendOpen, SendKeepalive, SendNotification, Arm, Disarm, Announce, Withdraw, Flush}
-use Rattle.bgp_machine.specs.declared.event.Event.TheVariants.{Connected, Failed}
-use Rattle.bgp_machine.specs.declared.state.State.{State}
 use Rattle.bgp_machine.specs.declared.timer.Timer.{Timer}
 use Rattle.bgp_machine.specs.declared.timer.Timers.{Timers}
-use Rattle.bgp_machine.specs.Prelude.{Standing, on_event, only_if, disarmed, flushed}
-use Rattle.bgp_machine.specs.declared.state.State.TheVariants as state
-use Rattle.bgp_machine.specs.declared.timer.Timer.TheVariants as timer
-use Rattle.bgp_host.specs.declared.link.Link.{Link}
-use Rattle.bgp_host.specs.declared.link.Link.TheVariants.{Same, Up, Down}
-use Rattle.bgp_host.specs.Prelude.{Deed, actions_of, sent, link_of, link_behind, Cause, Told, Gives, first_link, Hosted, RunsFrom, OneTurn, IsNotUp}
 use Rattle.bgp_host.proofs.Turns.{runs_none}
 
 -- ---- actions that ask nothing of the connection that can fail
@@ -52,27 +45,27 @@ only_still true t = (tt, tt)
 only_still false t = tt
 
 flushed_still : (st : State) → AreStill (flushed st)
-flushed_still state.Idle = tt
-flushed_still state.Connect = tt
-flushed_still state.Active = tt
-flushed_still state.OpenSent = tt
-flushed_still state.OpenConfirm = tt
-flushed_still state.Established = (tt, tt)
+flushed_still State.Idle = tt
+flushed_still State.Connect = tt
+flushed_still State.Active = tt
+flushed_still State.OpenSent = tt
+flushed_still State.OpenConfirm = tt
+flushed_still State.Established = (tt, tt)
 
 left_still : (t : Timers) (st : State) → AreStill (disarmed t ++ flushed st)
 left_still t st =
     still_both (disarmed t) (flushed st)
-    (still_both (only_if t.retry (Disarm timer.Retry)) (only_if t.hold (Disarm timer.Hold) ++ only_if t.keepalive (Disarm timer.Keepalive)) (only_still t.retry timer.Retry)
-    (still_both (only_if t.hold (Disarm timer.Hold)) (only_if t.keepalive (Disarm timer.Keepalive)) (only_still t.hold timer.Hold) (only_still t.keepalive timer.Keepalive)))
+    (still_both (only_if t.retry (Disarm Timer.Retry)) (only_if t.hold (Disarm Timer.Hold) ++ only_if t.keepalive (Disarm Timer.Keepalive)) (only_still t.retry Timer.Retry)
+    (still_both (only_if t.hold (Disarm Timer.Hold)) (only_if t.keepalive (Disarm Timer.Keepalive)) (only_still t.hold Timer.Hold) (only_still t.keepalive Timer.Keepalive)))
     (flushed_still st)
 
 failed_still : (x : Standing) (st : State) → AreStill (on_event x st Failed).actions
-failed_still x state.Idle = tt
-failed_still x state.Connect = left_still x.running x.state
-failed_still x state.Active = left_still x.running x.state
-failed_still x state.OpenSent = (tt, (tt, tt))
-failed_still x state.OpenConfirm = left_still x.running x.state
-failed_still x state.Established = left_still x.running x.state
+failed_still x State.Idle = tt
+failed_still x State.Connect = left_still x.running x.state
+failed_still x State.Active = left_still x.running x.state
+failed_still x State.OpenSent = (tt, (tt, tt))
+failed_still x State.OpenConfirm = left_still x.running x.state
+failed_still x State.Established = left_still x.running x.state
 
 -- a session that is told that its connection failed leaves it at that
 pub failed_ends : (old new : Hosted) (link : Link) → OneTurn (Told Failed) old new link → link ≡ Same
@@ -117,12 +110,12 @@ all_not_up link [] none not = not
 all_not_up link (d ∷ deeds) none not = all_not_up (link_of link d.action d.answer) deeds none.1 (step_not_up link d.action d.answer none.0 not)
 
 connected_seeks_none : (x : Standing) (st : State) → SeekNone (on_event x st Connected).actions
-connected_seeks_none x state.Idle = tt
-connected_seeks_none x state.Connect = (tt, (tt, (tt, tt)))
-connected_seeks_none x state.Active = (tt, (tt, (tt, tt)))
-connected_seeks_none x state.OpenSent = tt
-connected_seeks_none x state.OpenConfirm = tt
-connected_seeks_none x state.Established = tt
+connected_seeks_none x State.Idle = tt
+connected_seeks_none x State.Connect = (tt, (tt, (tt, tt)))
+connected_seeks_none x State.Active = (tt, (tt, (tt, tt)))
+connected_seeks_none x State.OpenSent = tt
+connected_seeks_none x State.OpenConfirm = tt
+connected_seeks_none x State.Established = tt
 
 -- a session that is told that its connection stands seeks none
 pub connected_ends : (old new : Hosted) (link : Link) → OneTurn (Told Connected) old new link → IsNotUp link

@@ -1,8 +1,5 @@
 -- Records that grow, and deeds behind deeds.
-use Rattle.bgp_wire.proofs.Std.{List, [], ◌++◌, sym, ap, Option, None, Some, Result, Ok, Err, ◌∙◌, append_assoc}
-use Rattle.std.specs.Result.{OnErr}
-use Rattle.std.proofs.lemmas.List.{append-nil}
-use Rattle.bgp_host.specs.Prelude.{Grows}
+use Rattle.bgp_host.proofs.Prelude.{List, [], ◌++◌, sym, ap, Option, None, Some, Result, Ok, Err, ◌∙◌, append_assoc, OnErr, append-nil, Grows}
 
 pub grows_none : {A : Type 0} → (record_ : Option (List A)) → Grows record_ record_ []
 grows_none None = tt

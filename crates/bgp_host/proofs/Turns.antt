@@ -1,14 +1,10 @@
 -- Calls of a session, one behind the other.
-use Rattle.bgp_wire.proofs.Std.{◌≡◌, ℕ, List, [], ◌∷◌, ◌++◌, drop, Option, None, Some, refl, sym, ap, ap₂, subst, ◌∙◌, append_assoc, inl, inr, flat_map}
-use Rattle.std.proofs.lemmas.Grind.{flat_map-append}
-use Rattle.std.proofs.lemmas.List.{append-nil}
-use Rattle.arrayvec.specs.ArrayVec.{ArrayVec}
+use Rattle.bgp_host.proofs.Prelude.{◌≡◌, ℕ, List, [], ◌∷◌, ◌++◌, drop, Option, None, Some, refl, sym, ap, ap₂, subst, ◌∙◌, append_assoc, inl, inr, flat_map}
+use Rattle.bgp_host.proofs.Prelude.{flat_map-append, append-nil, ArrayVec, Action, IsPulled, IsSent, Machine, own_octets, Link, Same, Call, Sent, Tick}
+use Rattle.bgp_host.proofs.Prelude.{Notice, Grows, sends, sent, all_calls, Records, Answers, Cause, Told, Heard, Gave, Gives, first_calls, first_link, Turn}
+use Rattle.bgp_host.proofs.Prelude.{link_after, turn_ticks, turn_notices, IsDue, Goes, cause_if_free, causes_of, Hosted, hosted, RunsFrom, Runs, ArePulls}
+use Rattle.bgp_host.proofs.Prelude.{HearsAll, HearsSome, SendsOne, Acts, OneTurn, PullsOn, PullsNone, PullsOnce}
 use Rattle.bgp_update.specs.declared.update.Update.{Update}
-use Rattle.bgp_machine.specs.declared.action.Action.{Action}
-use Rattle.bgp_machine.specs.Prelude.{IsPulled, IsSent, Machine, own_octets}
-use Rattle.bgp_host.specs.declared.link.Link.{Link}
-use Rattle.bgp_host.specs.declared.link.Link.TheVariants.{Same}
-use Rattle.bgp_host.specs.Prelude.{Call, Sent, Tick, Notice, Grows, sends, sent, all_calls, Records, Answers, Cause, Told, Heard, Gave, Gives, first_calls, first_link, Turn, link_after, turn_ticks, turn_notices, IsDue, Goes, cause_if_free, causes_of, Hosted, hosted, RunsFrom, Runs, ArePulls, HearsAll, HearsSome, SendsOne, Acts, OneTurn, PullsOn, PullsNone, PullsOnce}
 use Rattle.bgp_host.proofs.Records.{grows_none, grows_both}
 
 -- ---- one call

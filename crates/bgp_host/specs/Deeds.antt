@@ -1,23 +1,12 @@
 -- Actions that are carried out, in order: what each asks of the connection, the clock and the observer.
 use Rattle.std.specs.Prelude.{◌≡◌, ℕ, Bool, true, false, List, [], ◌∷◌, ◌++◌, map, Option}
 use Rattle.std.specs.List.{flat_map}
-use Rattle.bgp_frame.specs.declared.kind.Kind.TheVariants as kind
-use Rattle.bgp_frame.specs.declared.notification.Notification.{Notification}
-use Rattle.bgp_frame.specs.Prelude.{octets_of}
-use Rattle.bgp_msg.specs.Written as written
 use Rattle.bgp_machine.specs.declared.action.Action.{Action}
 use Rattle.bgp_machine.specs.declared.action.Action.TheVariants.{Connect, Close, SendOpen, SendKeepalive, SendNotification, Arm, Disarm, Announce, Withdraw, Flush}
+use Rattle.bgp_machine.specs.Prelude.{keepalive_octets, notification_octets}
 use Rattle.bgp_host.specs.declared.link.Link.{Link}
 use Rattle.bgp_host.specs.declared.link.Link.TheVariants.{Up, Down}
 use Rattle.bgp_host.specs.Records.{Call, Sought, Sent, Closed, Tick, Armed, Disarmed, Notice, Announced, Withdrawn, Flushed, Grows}
-
--- ---- what is sent
-
-abbrev pub keepalive_octets : List ℕ
-keepalive_octets = octets_of (record { kind = kind.Keepalive; body = [] })
-
-abbrev pub notification_octets : Notification → List ℕ
-notification_octets why = octets_of (record { kind = kind.Notification; body = written.notification_octets why })
 
 -- ---- what an action asks for
 

@@ -7,7 +7,6 @@ use Rattle.bgp_machine.specs.declared.action.Action.{Action}
 use Rattle.bgp_machine.specs.declared.event.Event.{Event}
 use Rattle.bgp_machine.specs.declared.state.State.{State}
 use Rattle.bgp_machine.specs.Prelude.{IsPulled, IsSent, Machine, own_octets, after_event, listens, happens}
-use Rattle.bgp_machine.specs.declared.event.Event.TheVariants as event
 use Rattle.bgp_host.specs.declared.link.Link.{Link}
 use Rattle.bgp_host.specs.declared.link.Link.TheVariants.{Same, Up, Down}
 use Rattle.bgp_host.specs.Records.{Call, Sent, Tick, Notice, Stood, Grows}
@@ -74,8 +73,8 @@ pub record IsTurn (x : Machine) (t : Turn) (y : Machine) : Type 0 where
 -- a connection that stands, or that failed, is told at once
 abbrev pub IsDue : Link → Cause → Type 0
 IsDue Same cause = Unit {0}
-IsDue Up cause = cause ≡ Told event.Connected
-IsDue Down cause = cause ≡ Told event.Failed
+IsDue Up cause = cause ≡ Told Event.Connected
+IsDue Down cause = cause ≡ Told Event.Failed
 
 pub record GoesOn (later : Link → Machine → Type 0) (link : Link) (x : Machine) (t : Turn) : Type 0 where
   pub is_due : IsDue link t.cause

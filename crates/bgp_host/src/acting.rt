@@ -1,7 +1,8 @@
 //! Carrying out actions.
 
 ghost use Rattle.std.specs.Prelude.{◌≡◌, [], ◌∷◌};
-ghost use Rattle.bgp_host.specs.Prelude.{Sought, Grows, notification_octets, ticks_of, notices_of, sends, sought, sent, Answers, Asks, CarriesOut};
+ghost use Rattle.bgp_machine.specs.Prelude.{notification_octets};
+ghost use Rattle.bgp_host.specs.Prelude.{Sought, Grows, ticks_of, notices_of, sends, sought, sent, Answers, Asks, CarriesOut};
 
 use crate::clock::Clock;
 use crate::connection::Connection;

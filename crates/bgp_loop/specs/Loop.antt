@@ -4,7 +4,6 @@ use Rattle.std.specs.Io.KnownBytes.{Keeps, Appends}
 use Rattle.bgp_engine.specs.declared.tally.Tally.{Tally}
 use Rattle.bgp_engine.specs.declared.fault.ToolFault.{ToolFault}
 use Rattle.bgp_engine.specs.Prelude.{AppendsFront, no_tally}
-use Rattle.bgp_engine.specs.declared.fault.ToolFault.TheVariants as fault
 use Rattle.bgp_session.specs.declared.report.Report.{Report}
 use Rattle.bgp_session.specs.Prelude.{IsReported, failed_behind}
 use Rattle.bgp_script.specs.declared.script.Script.{Script}
@@ -49,15 +48,15 @@ pub record IsFaulty (text : List ℕ) (io : Io) (n : ℕ) : Type 0 where
 
 abbrev pub Answers : List ℕ → Io → Result Tally ToolFault → Type 0
 Answers text io (Ok tally) = Finishes text io tally
-Answers text io (Err fault.Memory) = Keeps io.writer_old io.writer_new
-Answers text io (Err fault.Write) = FailsToWrite text io
-Answers text io (Err (fault.Script n)) = IsFaulty text io n
-Answers text io (Err fault.Read) = ⊥
-Answers text io (Err (fault.BadHex n)) = ⊥
-Answers text io (Err (fault.Narrow n)) = ⊥
-Answers text io (Err (fault.Clean n why)) = ⊥
-Answers text io (Err fault.NoOpen) = ⊥
-Answers text io (Err fault.Net) = ⊥
+Answers text io (Err ToolFault.Memory) = Keeps io.writer_old io.writer_new
+Answers text io (Err ToolFault.Write) = FailsToWrite text io
+Answers text io (Err (ToolFault.Script n)) = IsFaulty text io n
+Answers text io (Err ToolFault.Read) = ⊥
+Answers text io (Err (ToolFault.BadHex n)) = ⊥
+Answers text io (Err (ToolFault.Narrow n)) = ⊥
+Answers text io (Err (ToolFault.Clean n why)) = ⊥
+Answers text io (Err ToolFault.NoOpen) = ⊥
+Answers text io (Err ToolFault.Net) = ⊥
 
 -- ---- what came of each move is written before the report
 
@@ -83,9 +82,9 @@ pub record FailsToTrace (text : List ℕ) (io : Io) : Type 0 where
 
 abbrev pub AnswersTrace : List ℕ → Io → Result Tally ToolFault → Type 0
 AnswersTrace text io (Ok tally) = FinishesTrace text io tally
-AnswersTrace text io (Err fault.Memory) = Keeps io.writer_old io.writer_new
-AnswersTrace text io (Err fault.Write) = FailsToTrace text io
-AnswersTrace text io (Err (fault.Script n)) = IsFaulty text io n
+AnswersTrace text io (Err ToolFault.Memory) = Keeps io.writer_old io.writer_new
+AnswersTrace text io (Err ToolFault.Write) = FailsToTrace text io
+AnswersTrace text io (Err (ToolFault.Script n)) = IsFaulty text io n
 AnswersTrace text io (Err _) = ⊥
 
 -- ---- a script in a file
@@ -98,15 +97,15 @@ pub record IsOfText (writer_old writer_new : Option (List ℕ)) (outcome : Resul
 
 -- memory ran out, or the file couldn't be read
 abbrev pub IsOfFile : ToolFault → Type 0
-IsOfFile fault.Memory = Unit {0}
-IsOfFile fault.Read = Unit {0}
+IsOfFile ToolFault.Memory = Unit {0}
+IsOfFile ToolFault.Read = Unit {0}
 IsOfFile _ = ⊥
 
 -- memory ran out, the file couldn't be read or has too many octets, or the listener couldn't be set up
 abbrev pub IsOfSetUp : ToolFault → Type 0
-IsOfSetUp fault.Memory = Unit {0}
-IsOfSetUp fault.Read = Unit {0}
-IsOfSetUp fault.Net = Unit {0}
+IsOfSetUp ToolFault.Memory = Unit {0}
+IsOfSetUp ToolFault.Read = Unit {0}
+IsOfSetUp ToolFault.Net = Unit {0}
 IsOfSetUp _ = ⊥
 
 abbrev pub RunsFile : Option (List ℕ) → Option (List ℕ) → Result Tally ToolFault → Type 0

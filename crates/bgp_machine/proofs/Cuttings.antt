@@ -1,12 +1,8 @@
 -- A session is a hearer of octets: pulls, looks and feeds are ways to hear them, and events leave it at rest.
-use Rattle.std.proofs.Common.{◌≡◌, ℕ, Bool, true, false, List, [], Option, Some, None, refl, sym, subst}
-use Rattle.bgp_open.specs.Prelude.{Settings}
-use Rattle.bgp_machine.specs.declared.action.Action.{Action}
-use Rattle.bgp_machine.specs.declared.event.Event.{Event}
-use Rattle.bgp_machine.specs.Prelude.{IsAtRest, by_look, by_pull, Machine, fresh, kept, after_event, hearer, Standing, listens, happens}
-use Rattle.bgp_frame.specs.Prelude.{IsFedAndJudged}
+use Rattle.bgp_machine.proofs.Prelude.{◌≡◌, ℕ, Bool, true, false, List, [], Option, Some, None, refl, sym, subst, Settings, Action, Event, IsAtRest, by_look}
+use Rattle.bgp_machine.proofs.Prelude.{by_pull, Machine, fresh, kept, after_event, hearer, Standing, listens, happens, IsFedAndJudged, IsHearer, IsWay}
+use Rattle.bgp_machine.proofs.Prelude.{not_both, waits_at, rests_ready, rests_empty, pull_is_way}
 use Rattle.bgp_frame.proofs.Hearings as hearings
-use Rattle.bgp_frame.proofs.Hearings.{IsHearer, IsWay, not_both, waits_at, ready_at, rests_ready, rests_empty, pull_is_way}
 
 pub is_hearer : IsHearer hearer
 is_hearer = record {

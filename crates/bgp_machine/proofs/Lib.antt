@@ -1,9 +1,9 @@
 -- Lemmas of the session.
+pub mod Prelude
 pub mod Cuttings
 pub mod Hearings
 pub mod Lives
 pub mod Looks
-pub mod Quiet
 pub mod Sendings
 pub mod Sent
 pub mod Widened

@@ -1,34 +1,22 @@
 -- What is kept through a whole life: what the octets that were taken are, in each state.
-use Rattle.bgp_wire.proofs.Std.{◌≡◌, ℕ, Bool, true, false, List, [], ◌∷◌, ◌++◌, take, Option, Some, None, Result, Ok, Err, option_map, refl, sym, ap, subst, ap₂, ◌∙◌, append_assoc, arith, if◌then◌else◌, nil_from_length}
+use Rattle.bgp_machine.proofs.Prelude.{◌≡◌, ℕ, Bool, true, false, List, [], ◌∷◌, ◌++◌, take, Option, Some, None, Result, Ok, Err, option_map, refl, sym, ap}
+use Rattle.bgp_machine.proofs.Prelude.{subst, ap₂, ◌∙◌, append_assoc, arith, if◌then◌else◌, nil_from_length, HeadFault, Kind, Message, IsFrame, IsHeld}
+use Rattle.bgp_machine.proofs.Prelude.{content_of, CountsFed, done_by, Notification, Context, agreement, Settings, Said, said_by, open_notification}
+use Rattle.bgp_machine.proofs.Prelude.{reading_of, verdict_of, Action, Event, State, Standing, runs, listens, Step, on_agreement, answered, on_open}
+use Rattle.bgp_machine.proofs.Prelude.{on_verdict, on_update, on_message, hears, happens, Machine, kept, holding, hearer, by_pull, Call, Told, Fed, Stepped}
+use Rattle.bgp_machine.proofs.Prelude.{Pulled, Life, born, connects, taken_behind, told, stepped, Eats, Goes, Lives, BeginsByOpenAndKeepalive, IsAgreedOpen}
+use Rattle.bgp_machine.proofs.Prelude.{Timer, content_of-message, fed_holds, settled_by}
 use Rattle.std.proofs.lemmas.List.{append-nil}
 use Rattle.bgp_wire.specs.Prelude.{AreOctets}
-use Rattle.bgp_frame.specs.declared.fault.HeadFault.{HeadFault}
-use Rattle.bgp_frame.specs.declared.kind.Kind.{Kind}
-use Rattle.bgp_frame.specs.Prelude.{Message, IsFrame, IsHeld, content_of, CountsFed, done_by}
-use Rattle.bgp_frame.specs.declared.notification.Notification.{Notification}
-use Rattle.bgp_frame.specs.declared.kind.Kind.TheVariants as kind
 use Rattle.bgp_frame.proofs.FrameLemmas.{length-IsFrame}
 use Rattle.bgp_frame.proofs.Holding.{IsHeld_nil}
 use Rattle.bgp_open.specs.declared.agreement.PeerFault.{PeerFault}
-use Rattle.bgp_open.specs.declared.context.Context.{Context}
 use Rattle.bgp_open.specs.declared.fault.OpenFault.{OpenFault}
 use Rattle.bgp_open.specs.declared.message.Open.{Open}
-use Rattle.bgp_open.specs.Prelude.{agreement, Settings, Said, said_by, open_notification, reading_of}
 use Rattle.bgp_update.specs.declared.verdict.Verdict.{Verdict}
-use Rattle.bgp_update.specs.Prelude.{verdict_of}
-use Rattle.bgp_update.specs.declared.verdict.Verdict.TheVariants as verdict
-use Rattle.bgp_machine.specs.declared.action.Action.{Action}
-use Rattle.bgp_machine.specs.declared.event.Event.{Event}
-use Rattle.bgp_machine.specs.declared.state.State.{State}
 use Rattle.bgp_machine.specs.declared.timer.Timers.{Timers}
-use Rattle.bgp_machine.specs.Prelude.{Standing, runs, listens, Step, on_agreement, answered, on_open, on_verdict, on_update, on_message, hears, happens, Machine, kept, holding, hearer, by_pull, Call, Told, Fed, Stepped, Pulled, Life, born, connects, taken_behind, told, stepped, Eats, Goes, Lives, BeginsByOpenAndKeepalive, IsAgreedOpen}
-use Rattle.bgp_machine.specs.declared.event.Event.TheVariants as event
-use Rattle.bgp_machine.specs.declared.state.State.TheVariants as state
-use Rattle.bgp_machine.specs.declared.timer.Timer.TheVariants as timer
 use Rattle.bgp_machine.specs.Life.{Looked}
-use Rattle.bgp_frame.proofs.Contents.{content_of-message}
 use Rattle.bgp_machine.proofs.Cuttings.{is_hearer, looks_pull, pulls_as_fed}
-use Rattle.bgp_frame.proofs.Hearings.{fed_holds, settled_by}
 
 -- the octets are an OPEN that was accepted and gave the context, and what is held
 record BeginsByOpen (s : Settings) (context : Option Context) (held octets : List ℕ) : Type 0 where
@@ -38,9 +26,9 @@ record BeginsByOpen (s : Settings) (context : Option Context) (held octets : Lis
 
 -- what the octets are that were taken, in each state
 abbrev Stands : Settings → State → Option Context → List ℕ → List ℕ → Type 0
-Stands s state.OpenSent ctx held taken = taken ≡ held
-Stands s state.OpenConfirm ctx held taken = BeginsByOpen s ctx held taken
-Stands s state.Established ctx held taken = BeginsByOpenAndKeepalive s ctx taken
+Stands s State.OpenSent ctx held taken = taken ≡ held
+Stands s State.OpenConfirm ctx held taken = BeginsByOpen s ctx held taken
+Stands s State.Established ctx held taken = BeginsByOpenAndKeepalive s ctx taken
 Stands s _ ctx held taken = held ≡ []
 
 by_if : {A : Type 0} (P : A → Type 0) (b : Bool) (x y : A) → P x → P y → P (if b then x else y)
@@ -55,48 +43,48 @@ module _ (s : Settings) (ctx : Option Context) (peer : Option Said) (running : T
 
   event_keeps : (st : State) (e : Event) (taken : List ℕ) → Stands s st ctx held taken
       → StandsBehind held (taken_behind (connects st e) taken) (happens (record { state = st; context = ctx; peer = peer; running = running }) e)
-  event_keeps state.Idle event.Start taken h = refl
-  event_keeps state.Idle event.Stop taken h = refl
-  event_keeps state.Idle event.Connected taken h = refl
-  event_keeps state.Idle event.Failed taken h = refl
-  event_keeps state.Idle (event.Expired timer.Retry) taken h = by_if (λ (x : Step). StandsBehind held taken x) (runs running timer.Retry) _ _ refl refl
-  event_keeps state.Idle (event.Expired timer.Hold) taken h = by_if (λ (x : Step). StandsBehind held taken x) (runs running timer.Hold) _ _ refl refl
-  event_keeps state.Idle (event.Expired timer.Keepalive) taken h = by_if (λ (x : Step). StandsBehind held taken x) (runs running timer.Keepalive) _ _ refl refl
-  event_keeps state.Connect event.Start taken h = refl
-  event_keeps state.Connect event.Stop taken h = refl
-  event_keeps state.Connect event.Connected taken h = sym h
-  event_keeps state.Connect event.Failed taken h = refl
-  event_keeps state.Connect (event.Expired timer.Retry) taken h = by_if (λ (x : Step). StandsBehind held taken x) (runs running timer.Retry) _ _ refl refl
-  event_keeps state.Connect (event.Expired timer.Hold) taken h = by_if (λ (x : Step). StandsBehind held taken x) (runs running timer.Hold) _ _ refl refl
-  event_keeps state.Connect (event.Expired timer.Keepalive) taken h = by_if (λ (x : Step). StandsBehind held taken x) (runs running timer.Keepalive) _ _ refl refl
-  event_keeps state.Active event.Start taken h = refl
-  event_keeps state.Active event.Stop taken h = refl
-  event_keeps state.Active event.Connected taken h = sym h
-  event_keeps state.Active event.Failed taken h = refl
-  event_keeps state.Active (event.Expired timer.Retry) taken h = by_if (λ (x : Step). StandsBehind held taken x) (runs running timer.Retry) _ _ refl refl
-  event_keeps state.Active (event.Expired timer.Hold) taken h = by_if (λ (x : Step). StandsBehind held taken x) (runs running timer.Hold) _ _ refl refl
-  event_keeps state.Active (event.Expired timer.Keepalive) taken h = by_if (λ (x : Step). StandsBehind held taken x) (runs running timer.Keepalive) _ _ refl refl
-  event_keeps state.OpenSent event.Start taken h = h
-  event_keeps state.OpenSent event.Stop taken h = refl
-  event_keeps state.OpenSent event.Connected taken h = h
-  event_keeps state.OpenSent event.Failed taken h = refl
-  event_keeps state.OpenSent (event.Expired timer.Retry) taken h = by_if (λ (x : Step). StandsBehind held taken x) (runs running timer.Retry) _ _ h h
-  event_keeps state.OpenSent (event.Expired timer.Hold) taken h = by_if (λ (x : Step). StandsBehind held taken x) (runs running timer.Hold) _ _ refl h
-  event_keeps state.OpenSent (event.Expired timer.Keepalive) taken h = by_if (λ (x : Step). StandsBehind held taken x) (runs running timer.Keepalive) _ _ h h
-  event_keeps state.OpenConfirm event.Start taken h = h
-  event_keeps state.OpenConfirm event.Stop taken h = refl
-  event_keeps state.OpenConfirm event.Connected taken h = h
-  event_keeps state.OpenConfirm event.Failed taken h = refl
-  event_keeps state.OpenConfirm (event.Expired timer.Retry) taken h = by_if (λ (x : Step). StandsBehind held taken x) (runs running timer.Retry) _ _ h h
-  event_keeps state.OpenConfirm (event.Expired timer.Hold) taken h = by_if (λ (x : Step). StandsBehind held taken x) (runs running timer.Hold) _ _ refl h
-  event_keeps state.OpenConfirm (event.Expired timer.Keepalive) taken h = by_if (λ (x : Step). StandsBehind held taken x) (runs running timer.Keepalive) _ _ h h
-  event_keeps state.Established event.Start taken h = h
-  event_keeps state.Established event.Stop taken h = refl
-  event_keeps state.Established event.Connected taken h = h
-  event_keeps state.Established event.Failed taken h = refl
-  event_keeps state.Established (event.Expired timer.Retry) taken h = by_if (λ (x : Step). StandsBehind held taken x) (runs running timer.Retry) _ _ h h
-  event_keeps state.Established (event.Expired timer.Hold) taken h = by_if (λ (x : Step). StandsBehind held taken x) (runs running timer.Hold) _ _ refl h
-  event_keeps state.Established (event.Expired timer.Keepalive) taken h = by_if (λ (x : Step). StandsBehind held taken x) (runs running timer.Keepalive) _ _ h h
+  event_keeps State.Idle Event.Start taken h = refl
+  event_keeps State.Idle Event.Stop taken h = refl
+  event_keeps State.Idle Event.Connected taken h = refl
+  event_keeps State.Idle Event.Failed taken h = refl
+  event_keeps State.Idle (Event.Expired Timer.Retry) taken h = by_if (λ (x : Step). StandsBehind held taken x) (runs running Timer.Retry) _ _ refl refl
+  event_keeps State.Idle (Event.Expired Timer.Hold) taken h = by_if (λ (x : Step). StandsBehind held taken x) (runs running Timer.Hold) _ _ refl refl
+  event_keeps State.Idle (Event.Expired Timer.Keepalive) taken h = by_if (λ (x : Step). StandsBehind held taken x) (runs running Timer.Keepalive) _ _ refl refl
+  event_keeps State.Connect Event.Start taken h = refl
+  event_keeps State.Connect Event.Stop taken h = refl
+  event_keeps State.Connect Event.Connected taken h = sym h
+  event_keeps State.Connect Event.Failed taken h = refl
+  event_keeps State.Connect (Event.Expired Timer.Retry) taken h = by_if (λ (x : Step). StandsBehind held taken x) (runs running Timer.Retry) _ _ refl refl
+  event_keeps State.Connect (Event.Expired Timer.Hold) taken h = by_if (λ (x : Step). StandsBehind held taken x) (runs running Timer.Hold) _ _ refl refl
+  event_keeps State.Connect (Event.Expired Timer.Keepalive) taken h = by_if (λ (x : Step). StandsBehind held taken x) (runs running Timer.Keepalive) _ _ refl refl
+  event_keeps State.Active Event.Start taken h = refl
+  event_keeps State.Active Event.Stop taken h = refl
+  event_keeps State.Active Event.Connected taken h = sym h
+  event_keeps State.Active Event.Failed taken h = refl
+  event_keeps State.Active (Event.Expired Timer.Retry) taken h = by_if (λ (x : Step). StandsBehind held taken x) (runs running Timer.Retry) _ _ refl refl
+  event_keeps State.Active (Event.Expired Timer.Hold) taken h = by_if (λ (x : Step). StandsBehind held taken x) (runs running Timer.Hold) _ _ refl refl
+  event_keeps State.Active (Event.Expired Timer.Keepalive) taken h = by_if (λ (x : Step). StandsBehind held taken x) (runs running Timer.Keepalive) _ _ refl refl
+  event_keeps State.OpenSent Event.Start taken h = h
+  event_keeps State.OpenSent Event.Stop taken h = refl
+  event_keeps State.OpenSent Event.Connected taken h = h
+  event_keeps State.OpenSent Event.Failed taken h = refl
+  event_keeps State.OpenSent (Event.Expired Timer.Retry) taken h = by_if (λ (x : Step). StandsBehind held taken x) (runs running Timer.Retry) _ _ h h
+  event_keeps State.OpenSent (Event.Expired Timer.Hold) taken h = by_if (λ (x : Step). StandsBehind held taken x) (runs running Timer.Hold) _ _ refl h
+  event_keeps State.OpenSent (Event.Expired Timer.Keepalive) taken h = by_if (λ (x : Step). StandsBehind held taken x) (runs running Timer.Keepalive) _ _ h h
+  event_keeps State.OpenConfirm Event.Start taken h = h
+  event_keeps State.OpenConfirm Event.Stop taken h = refl
+  event_keeps State.OpenConfirm Event.Connected taken h = h
+  event_keeps State.OpenConfirm Event.Failed taken h = refl
+  event_keeps State.OpenConfirm (Event.Expired Timer.Retry) taken h = by_if (λ (x : Step). StandsBehind held taken x) (runs running Timer.Retry) _ _ h h
+  event_keeps State.OpenConfirm (Event.Expired Timer.Hold) taken h = by_if (λ (x : Step). StandsBehind held taken x) (runs running Timer.Hold) _ _ refl h
+  event_keeps State.OpenConfirm (Event.Expired Timer.Keepalive) taken h = by_if (λ (x : Step). StandsBehind held taken x) (runs running Timer.Keepalive) _ _ h h
+  event_keeps State.Established Event.Start taken h = h
+  event_keeps State.Established Event.Stop taken h = refl
+  event_keeps State.Established Event.Connected taken h = h
+  event_keeps State.Established Event.Failed taken h = refl
+  event_keeps State.Established (Event.Expired Timer.Retry) taken h = by_if (λ (x : Step). StandsBehind held taken x) (runs running Timer.Retry) _ _ h h
+  event_keeps State.Established (Event.Expired Timer.Hold) taken h = by_if (λ (x : Step). StandsBehind held taken x) (runs running Timer.Hold) _ _ refl h
+  event_keeps State.Established (Event.Expired Timer.Keepalive) taken h = by_if (λ (x : Step). StandsBehind held taken x) (runs running Timer.Keepalive) _ _ h h
 
   -- ---- messages
 
@@ -106,8 +94,8 @@ module _ (s : Settings) (ctx : Option Context) (peer : Option Said) (running : T
   abbrev at : State → Standing
   at st = record { state = st; context = ctx; peer = peer; running = running }
 
-  agreement_keeps : (body : List ℕ) (said : Open) (r : Result Context PeerFault) (taken : List ℕ) → IsFrame (record { kind = kind.Open; body = body }) held
-      → reading_of body ≡ Ok said → agreement s said ≡ r → taken ≡ held → StandsEmptied taken (on_agreement (at state.OpenSent) (said_by said) r)
+  agreement_keeps : (body : List ℕ) (said : Open) (r : Result Context PeerFault) (taken : List ℕ) → IsFrame (record { kind = Kind.Open; body = body }) held
+      → reading_of body ≡ Ok said → agreement s said ≡ r → taken ≡ held → StandsEmptied taken (on_agreement (at State.OpenSent) (said_by said) r)
   agreement_keeps body said (Ok agreed) taken frame read is h = record {
     spelled = held;
     opened = record { body = body; is_open = frame; said = said; is_read = read; agreed = agreed; accepted = is; gave = refl };
@@ -115,67 +103,67 @@ module _ (s : Settings) (ctx : Option Context) (peer : Option Said) (running : T
   }
   agreement_keeps body said (Err fault) taken frame read is h = refl
 
-  answer_keeps : (why : Option Notification) (taken : List ℕ) → StandsEmptied taken (answered (at state.OpenSent) why)
+  answer_keeps : (why : Option Notification) (taken : List ℕ) → StandsEmptied taken (answered (at State.OpenSent) why)
   answer_keeps (Some why) taken = refl
   answer_keeps None taken = refl
 
-  open_keeps : (body : List ℕ) (r : Result Open OpenFault) (taken : List ℕ) → IsFrame (record { kind = kind.Open; body = body }) held
-      → reading_of body ≡ r → taken ≡ held → StandsEmptied taken (on_open s (at state.OpenSent) r)
+  open_keeps : (body : List ℕ) (r : Result Open OpenFault) (taken : List ℕ) → IsFrame (record { kind = Kind.Open; body = body }) held
+      → reading_of body ≡ r → taken ≡ held → StandsEmptied taken (on_open s (at State.OpenSent) r)
   open_keeps body (Ok said) taken frame read h = agreement_keeps body said (agreement s said) taken frame read refl h
   open_keeps body (Err fault) taken frame read h = answer_keeps (open_notification fault) taken
 
-  verdict_keeps : (v : Verdict) (taken : List ℕ) → BeginsByOpenAndKeepalive s ctx taken → StandsEmptied taken (on_verdict (at state.Established) v)
-  verdict_keeps (verdict.Take u notes) taken h = h
-  verdict_keeps (verdict.Withdraw routes notes) taken h = h
-  verdict_keeps (verdict.Reset why) taken h = refl
+  verdict_keeps : (v : Verdict) (taken : List ℕ) → BeginsByOpenAndKeepalive s ctx taken → StandsEmptied taken (on_verdict (at State.Established) v)
+  verdict_keeps (Verdict.Take u notes) taken h = h
+  verdict_keeps (Verdict.Withdraw routes notes) taken h = h
+  verdict_keeps (Verdict.Reset why) taken h = refl
 
-  update_keeps : (c : Option Context) (body taken : List ℕ) → BeginsByOpenAndKeepalive s ctx taken → StandsEmptied taken (on_update (at state.Established) c body)
+  update_keeps : (c : Option Context) (body taken : List ℕ) → BeginsByOpenAndKeepalive s ctx taken → StandsEmptied taken (on_update (at State.Established) c body)
   update_keeps (Some c) body taken h = verdict_keeps (verdict_of c body) taken h
   update_keeps None body taken h = h
 
-  no_body : (body : List ℕ) → IsFrame (record { kind = kind.Keepalive; body = body }) held → body ≡ []
+  no_body : (body : List ℕ) → IsFrame (record { kind = Kind.Keepalive; body = body }) held → body ≡ []
   no_body body frame =
-      let long = length-IsFrame (record { kind = kind.Keepalive; body = body }) held frame in
+      let long = length-IsFrame (record { kind = Kind.Keepalive; body = body }) held frame in
       let most = frame.allowed.most in
       nil_from_length body (omega arith)
 
-  keepalive_keeps : (body taken : List ℕ) → IsFrame (record { kind = kind.Keepalive; body = body }) held → BeginsByOpen s ctx held taken → BeginsByOpenAndKeepalive s ctx taken
+  keepalive_keeps : (body taken : List ℕ) → IsFrame (record { kind = Kind.Keepalive; body = body }) held → BeginsByOpen s ctx held taken → BeginsByOpenAndKeepalive s ctx taken
   keepalive_keeps body taken frame o = record {
     open_octets = o.spelled;
     opened = o.opened;
     keepalive_octets = held;
-    is_keepalive = subst (λ (b : List ℕ). IsFrame (record { kind = kind.Keepalive; body = b }) held) (no_body body frame) frame;
+    is_keepalive = subst (λ (b : List ℕ). IsFrame (record { kind = Kind.Keepalive; body = b }) held) (no_body body frame) frame;
     rest = [];
     in_order = o.in_order ∙ ap (λ (k : List ℕ). o.spelled ++ k) (sym (append-nil held));
   }
 
   message_keeps : (st : State) (k : Kind) (body taken : List ℕ) → IsFrame (record { kind = k; body = body }) held
       → Stands s st ctx held taken → StandsEmptied taken (on_message s (at st) st k body)
-  message_keeps state.Idle k body taken frame h = refl
-  message_keeps state.Connect k body taken frame h = refl
-  message_keeps state.Active k body taken frame h = refl
-  message_keeps state.OpenSent kind.Open body taken frame h = open_keeps body (reading_of body) taken frame refl h
-  message_keeps state.OpenSent kind.Update body taken frame h = refl
-  message_keeps state.OpenSent kind.Notification body taken frame h = refl
-  message_keeps state.OpenSent kind.Keepalive body taken frame h = refl
-  message_keeps state.OpenConfirm kind.Open body taken frame h = refl
-  message_keeps state.OpenConfirm kind.Update body taken frame h = refl
-  message_keeps state.OpenConfirm kind.Notification body taken frame h = refl
-  message_keeps state.OpenConfirm kind.Keepalive body taken frame h = keepalive_keeps body taken frame h
-  message_keeps state.Established kind.Open body taken frame h = refl
-  message_keeps state.Established kind.Update body taken frame h = update_keeps ctx body taken h
-  message_keeps state.Established kind.Notification body taken frame h = refl
-  message_keeps state.Established kind.Keepalive body taken frame h = h
+  message_keeps State.Idle k body taken frame h = refl
+  message_keeps State.Connect k body taken frame h = refl
+  message_keeps State.Active k body taken frame h = refl
+  message_keeps State.OpenSent Kind.Open body taken frame h = open_keeps body (reading_of body) taken frame refl h
+  message_keeps State.OpenSent Kind.Update body taken frame h = refl
+  message_keeps State.OpenSent Kind.Notification body taken frame h = refl
+  message_keeps State.OpenSent Kind.Keepalive body taken frame h = refl
+  message_keeps State.OpenConfirm Kind.Open body taken frame h = refl
+  message_keeps State.OpenConfirm Kind.Update body taken frame h = refl
+  message_keeps State.OpenConfirm Kind.Notification body taken frame h = refl
+  message_keeps State.OpenConfirm Kind.Keepalive body taken frame h = keepalive_keeps body taken frame h
+  message_keeps State.Established Kind.Open body taken frame h = refl
+  message_keeps State.Established Kind.Update body taken frame h = update_keeps ctx body taken h
+  message_keeps State.Established Kind.Notification body taken frame h = refl
+  message_keeps State.Established Kind.Keepalive body taken frame h = h
 
   hears_keeps : (st : State) (what : Result Message HeadFault) (taken : List ℕ) → IsHeld held → content_of held ≡ Some what
       → Stands s st ctx held taken → StandsEmptied taken (hears s (at st) what)
   hears_keeps st (Ok m) taken is content h = message_keeps st m.kind m.body taken (content_of-message m held is content) h
-  hears_keeps state.Idle (Err f) taken is content h = refl
-  hears_keeps state.Connect (Err f) taken is content h = refl
-  hears_keeps state.Active (Err f) taken is content h = refl
-  hears_keeps state.OpenSent (Err f) taken is content h = refl
-  hears_keeps state.OpenConfirm (Err f) taken is content h = refl
-  hears_keeps state.Established (Err f) taken is content h = refl
+  hears_keeps State.Idle (Err f) taken is content h = refl
+  hears_keeps State.Connect (Err f) taken is content h = refl
+  hears_keeps State.Active (Err f) taken is content h = refl
+  hears_keeps State.OpenSent (Err f) taken is content h = refl
+  hears_keeps State.OpenConfirm (Err f) taken is content h = refl
+  hears_keeps State.Established (Err f) taken is content h = refl
 
 -- ---- calls
 
@@ -212,16 +200,16 @@ judged_keeps s a (Some what) sound is =
 
 fed_stands : (s : Settings) (st : State) (ctx : Option Context) (held piece taken : List ℕ) (n : ℕ) → CountsFed (listens st) held piece n
     → Stands s st ctx held taken → Stands s st ctx (held ++ take n piece) (taken ++ take n piece)
-fed_stands s state.Idle ctx held piece taken n counts h = ap (λ (k : ℕ). held ++ take k piece) counts ∙ append-nil held ∙ h
-fed_stands s state.Connect ctx held piece taken n counts h = ap (λ (k : ℕ). held ++ take k piece) counts ∙ append-nil held ∙ h
-fed_stands s state.Active ctx held piece taken n counts h = ap (λ (k : ℕ). held ++ take k piece) counts ∙ append-nil held ∙ h
-fed_stands s state.OpenSent ctx held piece taken n counts h = ap (λ (t : List ℕ). t ++ take n piece) h
-fed_stands s state.OpenConfirm ctx held piece taken n counts o = record {
+fed_stands s State.Idle ctx held piece taken n counts h = ap (λ (k : ℕ). held ++ take k piece) counts ∙ append-nil held ∙ h
+fed_stands s State.Connect ctx held piece taken n counts h = ap (λ (k : ℕ). held ++ take k piece) counts ∙ append-nil held ∙ h
+fed_stands s State.Active ctx held piece taken n counts h = ap (λ (k : ℕ). held ++ take k piece) counts ∙ append-nil held ∙ h
+fed_stands s State.OpenSent ctx held piece taken n counts h = ap (λ (t : List ℕ). t ++ take n piece) h
+fed_stands s State.OpenConfirm ctx held piece taken n counts o = record {
   spelled = o.spelled;
   opened = o.opened;
   in_order = ap (λ (t : List ℕ). t ++ take n piece) o.in_order ∙ append_assoc o.spelled held (take n piece);
 }
-fed_stands s state.Established ctx held piece taken n counts o = record {
+fed_stands s State.Established ctx held piece taken n counts o = record {
   open_octets = o.open_octets;
   opened = o.opened;
   keepalive_octets = o.keepalive_octets;
@@ -272,7 +260,7 @@ lives_keep s a [] b sound lives = subst (λ (l : Life). Sound s l) (sym lives) s
 lives_keep s a (call ∷ later) b sound lives = lives_keep s lives.0 later b (goes_keeps s a call lives.0 sound lives.1) lives.2
 
 pub established_behind : (s : Settings) (calls : List Call) (life : Life) → Lives (born s) calls life
-    → life.session.standing.state ≡ state.Established → BeginsByOpenAndKeepalive s life.session.standing.context life.taken
+    → life.session.standing.state ≡ State.Established → BeginsByOpenAndKeepalive s life.session.standing.context life.taken
 established_behind s calls life lives up =
     let sound = lives_keep s (born s) calls life (record { settings = refl; can_hold = IsHeld_nil; stands = refl }) lives in
     let x = life.session in

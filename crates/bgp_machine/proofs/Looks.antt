@@ -1,18 +1,14 @@
 -- What a look finds is what a pull does.
-use Rattle.bgp_wire.proofs.Std.{◌≡◌, ℕ, ◌⊎◌, true, false, List, [], ◌++◌, take, Option, Some, None, Result, Ok, Err, refl, sym, ap, subst, ◌∙◌, inl, inr, both_ways}
+use Rattle.bgp_machine.proofs.Prelude.{◌≡◌, ℕ, ◌⊎◌, true, false, List, [], ◌++◌, take, Option, Some, None, Result, Ok, Err, refl, sym, ap, subst, ◌∙◌, inl}
+use Rattle.bgp_machine.proofs.Prelude.{inr, both_ways, HeadFault, content_of, Message, Waits, Pulls, IsToFeed, IsPull, IsContent, content_of-frame}
+use Rattle.bgp_machine.proofs.Prelude.{content_of-fault, Settings, Action, Heard, on_heard, has_routes, IsSaid, Hears, HearsFault, IsAtRest, CanRest, gone}
+use Rattle.bgp_machine.proofs.Prelude.{step_of, Finds, Standing, listens, Step, hears, Machine, holding, hearer, IsFed, IsJudged, HeldTakesMemory, IsPulled}
+use Rattle.bgp_machine.proofs.Prelude.{FrontTakesMemory, Looked}
 use Rattle.arrayvec.specs.ArrayVec.{ArrayVec}
-use Rattle.bgp_frame.specs.declared.fault.HeadFault.{HeadFault}
 use Rattle.bgp_frame.specs.declared.step.Frame.{Frame}
-use Rattle.bgp_frame.specs.Prelude.{content_of, Message, Waits, Pulls, IsToFeed, IsPull, IsContent}
-use Rattle.bgp_frame.specs.declared.pull.Pull.TheVariants as pull
-use Rattle.bgp_frame.proofs.Contents.{content_of-frame, content_of-fault}
+use Rattle.bgp_frame.specs.declared.pull.Pull.{Pull}
 use Rattle.bgp_frame.proofs.Pulls.{held_or_front}
-use Rattle.bgp_open.specs.Prelude.{Settings}
 use Rattle.bgp_frame.proofs.Hearings as hearings
-use Rattle.bgp_machine.specs.declared.action.Action.{Action}
-use Rattle.bgp_machine.specs.declared.heard.Heard.{Heard}
-use Rattle.bgp_machine.specs.Prelude.{on_heard, has_routes, IsSaid, Hears, HearsFault, IsAtRest, CanRest, gone, step_of, Finds, Standing, listens, Step, hears, Machine, holding, hearer, IsFed, IsJudged, HeldTakesMemory, IsPulled, FrontTakesMemory}
-use Rattle.bgp_machine.specs.Look.{Looked}
 use Rattle.bgp_machine.proofs.Cuttings.{is_hearer, pulls_as_fed}
 
 same_content : (m other : Message) (o : Option (Result Message HeadFault)) → o ≡ Some (Ok m) → o ≡ Some (Ok other) → m ≡ other
@@ -46,7 +42,7 @@ module _ (s : Settings) (x : Standing) (held piece : List ℕ) (n : ℕ) (h : He
         | inr p ↦ inr (record { none_held = p.0; n = n; within = is.takes.within; takes = p.1 })
       ]
 
-  pub finds_message : (frame : Frame) → IsPull held piece (pull.Frame n frame) → Hears s x (record { kind = frame.kind; body = frame.body.now }) h → Finds me piece looked
+  pub finds_message : (frame : Frame) → IsPull held piece (Pull.Frame n frame) → Hears s x (record { kind = frame.kind; body = frame.body.now }) h → Finds me piece looked
   finds_message frame found is =
       let m : Message = record { kind = frame.kind; body = frame.body.now } in
       let content = content_of-frame m octets found.1.0 in
@@ -58,7 +54,7 @@ module _ (s : Settings) (x : Standing) (held piece : List ℕ) (n : ℕ) (h : He
         said = λ other says. subst (λ (y : Message). IsSaid s x y h) (same_content m other (content_of octets) content says) is.said;
       }
 
-  pub finds_fault : (f : HeadFault) → IsPull held piece (pull.Fault n f) → HearsFault x f h → Finds me piece looked
+  pub finds_fault : (f : HeadFault) → IsPull held piece (Pull.Fault n f) → HearsFault x f h → Finds me piece looked
   finds_fault f found is =
       let content = content_of-fault octets f found.1.0 found.1.1 in
       record {
@@ -73,9 +69,6 @@ module _ (s : Settings) (x : Standing) (held piece : List ℕ) (n : ℕ) (h : He
 
 pub feeds : (old : Machine) (piece : List ℕ) → IsToFeed old.held piece → (n : ℕ) (new : Machine) → IsFed old piece n new → IsPulled old piece n None new
 feeds old piece to_feed n new fed = hearings.to_feed hearer is_hearer old piece n new (listens old.standing.state) refl (λ up. to_feed) fed
-
-pub deaf_feeds : (old : Machine) (piece : List ℕ) → listens old.standing.state ≡ false → (n : ℕ) (new : Machine) → IsFed old piece n new → IsPulled old piece n None new
-deaf_feeds old piece deaf n new fed = hearings.to_feed hearer is_hearer old piece n new false deaf (λ up. absurd cc) fed
 
 -- ---- as the code has them
 

@@ -1,37 +1,24 @@
 -- What is sent in Established, and why it isn't.
-use Rattle.std.proofs.Common.{◌≡◌, ℕ, ◌⊎◌, Bool, true, false, List, ◌++◌, Option, Some, None, refl, ap, ◌∙◌, inl, inr}
-use Rattle.bgp_open.specs.declared.context.Context.{Context}
-use Rattle.bgp_update.specs.declared.update.Update.{Update}
-use Rattle.bgp_machine.specs.declared.action.Action.{Action}
+use Rattle.bgp_machine.proofs.Prelude.{◌≡◌, ℕ, ◌⊎◌, Bool, true, false, List, ◌++◌, Option, Some, None, refl, ap, ◌∙◌, inl, inr, Context, Update, Action}
+use Rattle.bgp_machine.proofs.Prelude.{State, why_unsent, is_told_too_long, told_octets, unless_invalid, refusal_at, refusal_of, keepalive_on, IsSent}
+use Rattle.bgp_machine.proofs.Prelude.{LacksMemory, IsRefused, IsTellFault, Machine, established_in}
 use Rattle.bgp_machine.specs.declared.send_fault.SendFault.{SendFault}
-use Rattle.bgp_machine.specs.declared.state.State.{State}
-use Rattle.bgp_machine.specs.Prelude.{why_unsent, is_told_too_long, told_octets, unless_invalid, refusal_at, refusal_of, keepalive_on, IsSent, LacksMemory, IsRefused, IsTellFault, Machine, established_in}
-use Rattle.bgp_machine.specs.declared.send_fault.SendFault.TheVariants as fault
-use Rattle.bgp_machine.specs.declared.state.State.TheVariants as state
 
 refusal_by : (st : State) (c : Option Context) (ctx : Context) (u : Update) → established_in st c ≡ Some ctx → refusal_at st c u ≡ unless_invalid (why_unsent ctx u) (is_told_too_long ctx u)
-refusal_by state.Idle c ctx u is = absurd cc
-refusal_by state.Connect c ctx u is = absurd cc
-refusal_by state.Active c ctx u is = absurd cc
-refusal_by state.OpenSent c ctx u is = absurd cc
-refusal_by state.OpenConfirm c ctx u is = absurd cc
-refusal_by state.Established c ctx u is = rw is refl
+refusal_by State.Idle c ctx u is = absurd cc
+refusal_by State.Connect c ctx u is = absurd cc
+refusal_by State.Active c ctx u is = absurd cc
+refusal_by State.OpenSent c ctx u is = absurd cc
+refusal_by State.OpenConfirm c ctx u is = absurd cc
+refusal_by State.Established c ctx u is = rw is refl
 
 agreed_by : (st : State) (c : Option Context) (ctx : Context) → established_in st c ≡ Some ctx → c ≡ Some ctx
-agreed_by state.Idle c ctx is = absurd cc
-agreed_by state.Connect c ctx is = absurd cc
-agreed_by state.Active c ctx is = absurd cc
-agreed_by state.OpenSent c ctx is = absurd cc
-agreed_by state.OpenConfirm c ctx is = absurd cc
-agreed_by state.Established c ctx is = is
-
-pub not_established : (st : State) (c : Option Context) (u : Update) → established_in st c ≡ None → refusal_at st c u ≡ Some fault.NotEstablished
-not_established state.Idle c u is = refl
-not_established state.Connect c u is = refl
-not_established state.Active c u is = refl
-not_established state.OpenSent c u is = refl
-not_established state.OpenConfirm c u is = refl
-not_established state.Established c u is = rw is refl
+agreed_by State.Idle c ctx is = absurd cc
+agreed_by State.Connect c ctx is = absurd cc
+agreed_by State.Active c ctx is = absurd cc
+agreed_by State.OpenSent c ctx is = absurd cc
+agreed_by State.OpenConfirm c ctx is = absurd cc
+agreed_by State.Established c ctx is = is
 
 module _ (x : Machine) (u : Update) (ctx : Context) (is : established_in x.standing.state x.standing.context ≡ Some ctx) where
   agreed : x.standing.context ≡ Some ctx
@@ -49,10 +36,10 @@ module _ (x : Machine) (u : Update) (ctx : Context) (is : established_in x.stand
   lacks false is_long none may = record { context = ctx; agreed = agreed; may_lack = inl (refusal_long false none is_long) }
 
   pub refused : (why : SendFault) → why_unsent ctx u ≡ None → IsTellFault ctx.as4 (is_told_too_long ctx u) why → IsRefused x u why
-  refused fault.NotEstablished none told = absurd told
-  refused (fault.NotValid w) none told = absurd told
-  refused fault.TooLong none told = refusal_long true none told
-  refused fault.Memory none told = lacks (is_told_too_long ctx u) refl none told
+  refused SendFault.NotEstablished none told = absurd told
+  refused (SendFault.NotValid w) none told = absurd told
+  refused SendFault.TooLong none told = refusal_long true none told
+  refused SendFault.Memory none told = lacks (is_told_too_long ctx u) refl none told
 
   pub sent : (actions : List Action) (before after : List ℕ) → why_unsent ctx u ≡ None → is_told_too_long ctx u ≡ false → actions ≡ keepalive_on ctx
       → after ≡ before ++ told_octets ctx u → IsSent x u actions before after

@@ -1,6 +1,7 @@
 -- Each number of an UPDATE is within its field where each number is of what a speaker with AS numbers of two octets is told of it.
-use Rattle.bgp_wire.proofs.Std.{◌≡◌, ℕ, Bool, true, false, cond, List, [], ◌∷◌, Option, Some, None, subst, refl, sym, arith, list_any, AllByRecursion, ltb-false, or_parts}
-use Rattle.std.specs.Prelude.{option_map}
+use Rattle.bgp_machine.proofs.Prelude.{◌≡◌, ℕ, Bool, true, false, cond, List, [], ◌∷◌, Option, Some, None, subst, refl, sym, arith, list_any, AllByRecursion}
+use Rattle.bgp_machine.proofs.Prelude.{ltb-false, or_parts, option_map, Update, narrow_aggregator, wide_path, wide_aggregator, narrowed, narrowed_update}
+use Rattle.bgp_machine.proofs.Prelude.{HasNoAs4, present, slot, canonical_order, attr_list, HasUpdateRanges, by_narrowed, same-slot}
 use Rattle.bgp_numbers.specs.declared.attribute.TheConstants.{AS4_PATH, AS4_AGGREGATOR}
 use Rattle.bgp_prefix.specs.declared.as_number.AsNumber.{AsNumber}
 use Rattle.bgp_attr.specs.declared.aggregator.Aggregator.{Aggregator}
@@ -9,13 +10,9 @@ use Rattle.bgp_attr.specs.declared.path.Segment.{Segment}
 use Rattle.bgp_attr.specs.declared.path.AsPath.{AsPath}
 use Rattle.bgp_attr.specs.declared.path.As4Path.{As4Path}
 use Rattle.bgp_attr.specs.Prelude.{any_number, is_above_two_octets, IsFourOctets, HasPathRanges, HasRanges}
-use Rattle.bgp_attr.specs.declared.attr.Attr.TheVariants as attr
 use Rattle.bgp_update.specs.declared.attrs.Attrs.{Attrs}
-use Rattle.bgp_update.specs.declared.update.Update.{Update}
-use Rattle.bgp_update.specs.Prelude.{narrow_aggregator, wide_path, wide_aggregator, narrowed, narrowed_update, HasNoAs4, present, slot, canonical_order, attr_list, HasUpdateRanges}
 use Rattle.bgp_update.proofs.Lists.{all-carried}
 use Rattle.bgp_update.proofs.SlotLemmas.{slot-all}
-use Rattle.bgp_update.proofs.Widths.{by_narrowed, same-slot}
 
 -- ---- numbers that need no four octets
 
@@ -39,31 +36,31 @@ abbrev pub AllFit : List Attr → Type 0
 AllFit xs = AllByRecursion HasRanges xs
 
 -- a path that needs four octets is told as it is
-path_by : (p : AsPath) (t : Bool) → any_number is_above_two_octets p ≡ t → AllFit (present (λ (w : As4Path). attr.As4Path w) (cond t (Some (record { partial = false; path = p })) None)) → HasPathRanges p
+path_by : (p : AsPath) (t : Bool) → any_number is_above_two_octets p ≡ t → AllFit (present (λ (w : As4Path). Attr.As4Path w) (cond t (Some (record { partial = false; path = p })) None)) → HasPathRanges p
 path_by p true is all = all.0
 path_by p false is all = segments_small p.segments is
 
-path_back : (o : Option AsPath) → AllFit (present (λ (w : As4Path). attr.As4Path w) (wide_path o)) → AllFit (present (λ (p : AsPath). attr.AsPath p) o)
+path_back : (o : Option AsPath) → AllFit (present (λ (w : As4Path). Attr.As4Path w) (wide_path o)) → AllFit (present (λ (p : AsPath). Attr.AsPath p) o)
 path_back None all = tt
 path_back (Some p) all = (path_by p (any_number is_above_two_octets p) refl all, tt)
 
-number_by : (g : Aggregator) (t : Bool) → is_above_two_octets (g.asn).0 ≡ t → AllFit (present (λ (w : Aggregator). attr.As4Aggregator w) (cond t (Some g) None)) → IsFourOctets (g.asn).0
+number_by : (g : Aggregator) (t : Bool) → is_above_two_octets (g.asn).0 ≡ t → AllFit (present (λ (w : Aggregator). Attr.As4Aggregator w) (cond t (Some g) None)) → IsFourOctets (g.asn).0
 number_by g true is all = all.0.0
 number_by g false is all = let small = ltb-false 65535 (g.asn).0 is in omega arith
 
-aggregator_back : (o : Option Aggregator) → AllFit (present (λ (g : Aggregator). attr.Aggregator g) (option_map narrow_aggregator o))
-    → AllFit (present (λ (w : Aggregator). attr.As4Aggregator w) (wide_aggregator o)) → AllFit (present (λ (g : Aggregator). attr.Aggregator g) o)
+aggregator_back : (o : Option Aggregator) → AllFit (present (λ (g : Aggregator). Attr.Aggregator g) (option_map narrow_aggregator o))
+    → AllFit (present (λ (w : Aggregator). Attr.As4Aggregator w) (wide_aggregator o)) → AllFit (present (λ (g : Aggregator). Attr.Aggregator g) o)
 aggregator_back None told wide = tt
 aggregator_back (Some g) told wide = ((number_by g (is_above_two_octets (g.asn).0) refl wide, told.0.1), tt)
 
 -- ---- all of them
 
 module _ (a : Attrs) (none : HasNoAs4 a) where
-  no_path : AllFit (present (λ (w : As4Path). attr.As4Path w) a.as4_path)
-  no_path = subst (λ (o : Option As4Path). AllFit (present (λ (w : As4Path). attr.As4Path w) o)) (sym none.path) tt
+  no_path : AllFit (present (λ (w : As4Path). Attr.As4Path w) a.as4_path)
+  no_path = subst (λ (o : Option As4Path). AllFit (present (λ (w : As4Path). Attr.As4Path w) o)) (sym none.path) tt
 
-  no_aggregator : AllFit (present (λ (g : Aggregator). attr.As4Aggregator g) a.as4_aggregator)
-  no_aggregator = subst (λ (o : Option Aggregator). AllFit (present (λ (g : Aggregator). attr.As4Aggregator g) o)) (sym none.aggregator) tt
+  no_aggregator : AllFit (present (λ (g : Aggregator). Attr.As4Aggregator g) a.as4_aggregator)
+  no_aggregator = subst (λ (o : Option Aggregator). AllFit (present (λ (g : Aggregator). Attr.As4Aggregator g) o)) (sym none.aggregator) tt
 
   slot_back : AllFit (slot (narrowed a) AS4_PATH) → AllFit (slot (narrowed a) AS4_AGGREGATOR) → (k : ℕ) → AllFit (slot (narrowed a) k) → AllFit (slot a k)
   unfolding slot

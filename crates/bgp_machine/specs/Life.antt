@@ -8,9 +8,7 @@ use Rattle.bgp_open.specs.declared.message.Open.{Open}
 use Rattle.bgp_open.specs.Prelude.{agreement, Settings, reading_of}
 use Rattle.bgp_machine.specs.declared.action.Action.{Action}
 use Rattle.bgp_machine.specs.declared.event.Event.{Event}
-use Rattle.bgp_machine.specs.declared.event.Event.TheVariants as event
 use Rattle.bgp_machine.specs.declared.state.State.{State}
-use Rattle.bgp_machine.specs.declared.state.State.TheVariants as state
 use Rattle.bgp_machine.specs.Cutting.{settled}
 use Rattle.bgp_machine.specs.Run.{by_look, by_pull}
 use Rattle.bgp_machine.specs.Session.{Machine, fresh, after_event, IsFed}
@@ -33,8 +31,8 @@ born s = record { session = fresh s; taken = [] }
 
 -- the event brings the session a connection
 abbrev pub connects : State → Event → Bool
-connects state.Connect event.Connected = true
-connects state.Active event.Connected = true
+connects State.Connect Event.Connected = true
+connects State.Active Event.Connected = true
 connects _ _ = false
 
 abbrev pub taken_behind : Bool → List ℕ → List ℕ

@@ -4,15 +4,12 @@ use Rattle.bgp_open.specs.declared.context.Context.{Context}
 use Rattle.bgp_update.specs.declared.invalid.Invalid.{Invalid}
 use Rattle.bgp_update.specs.declared.update.Update.{Update}
 use Rattle.bgp_update.specs.Prelude.{narrowed_update, with_as4, invalid_of}
-use Rattle.bgp_update.specs.declared.invalid.Invalid.TheVariants as invalid
 use Rattle.bgp_msg.specs.declared.message.Message.TheVariants as message
 use Rattle.bgp_msg.specs.Prelude.{canonical, is_too_long}
 use Rattle.bgp_machine.specs.declared.action.Action.{Action}
 use Rattle.bgp_machine.specs.declared.action.Action.TheVariants.{Arm}
 use Rattle.bgp_machine.specs.declared.send_fault.SendFault.{SendFault}
-use Rattle.bgp_machine.specs.declared.send_fault.SendFault.TheVariants as fault
 use Rattle.bgp_machine.specs.declared.state.State.{State}
-use Rattle.bgp_machine.specs.declared.state.State.TheVariants as state
 use Rattle.bgp_machine.specs.declared.timer.Timer.TheVariants as timer
 use Rattle.bgp_machine.specs.Session.{Machine}
 use Rattle.bgp_machine.specs.Table.{only_if}
@@ -29,9 +26,9 @@ is_mixed u = nat_lt 1 (one_if (nat_lt 0 (length u.withdrawn)) + one_if (nat_lt 0
 -- that, of number 9, among the reasons for any message: the lowest number counts
 abbrev pub or_mixed : Bool → Option Invalid → Option Invalid
 or_mixed false why = why
-or_mixed true None = Some invalid.Mixed
-or_mixed true (Some invalid.AsZero) = Some invalid.Mixed
-or_mixed true (Some invalid.Twice) = Some invalid.Mixed
+or_mixed true None = Some Invalid.Mixed
+or_mixed true (Some Invalid.AsZero) = Some Invalid.Mixed
+or_mixed true (Some Invalid.Twice) = Some Invalid.Mixed
 or_mixed true (Some why) = Some why
 
 -- routes are given with AS numbers of four octets, whatever the session has
@@ -56,16 +53,16 @@ is_told_too_long ctx u = is_too_long ctx (message.Update (told_in ctx u))
 
 -- the first reason not to send, where there is one
 abbrev pub unless_invalid : Option Invalid → Bool → Option SendFault
-unless_invalid (Some why) long = Some (fault.NotValid why)
-unless_invalid None long = if long then Some fault.TooLong else None
+unless_invalid (Some why) long = Some (SendFault.NotValid why)
+unless_invalid None long = if long then Some SendFault.TooLong else None
 
 abbrev pub refusal_in : Option Context → Update → Option SendFault
-refusal_in None u = Some fault.NotEstablished
+refusal_in None u = Some SendFault.NotEstablished
 refusal_in (Some ctx) u = unless_invalid (why_unsent ctx u) (is_told_too_long ctx u)
 
 abbrev pub refusal_at : State → Option Context → Update → Option SendFault
-refusal_at state.Established ctx u = refusal_in ctx u
-refusal_at _ ctx u = Some fault.NotEstablished
+refusal_at State.Established ctx u = refusal_in ctx u
+refusal_at _ ctx u = Some SendFault.NotEstablished
 
 abbrev pub refusal_of : Machine → Update → Option SendFault
 refusal_of x u = refusal_at x.standing.state x.standing.context u
@@ -88,20 +85,20 @@ pub record IsSent (x : Machine) (u : Update) (actions : List Action) (before aft
 pub record LacksMemory (x : Machine) (u : Update) : Type 0 where
   pub context : Context
   pub agreed : x.standing.context ≡ Some context
-  pub may_lack : (refusal_of x u ≡ None) ⊎ ((context.as4 ≡ false) × (refusal_of x u ≡ Some fault.TooLong))
+  pub may_lack : (refusal_of x u ≡ None) ⊎ ((context.as4 ≡ false) × (refusal_of x u ≡ Some SendFault.TooLong))
 
 abbrev pub IsRefused : Machine → Update → SendFault → Type 0
-IsRefused x u fault.Memory = LacksMemory x u
+IsRefused x u SendFault.Memory = LacksMemory x u
 IsRefused x u fault = refusal_of x u ≡ Some fault
 
 -- ---- steps of the proof: why an UPDATE that is valid isn't appended
 
 abbrev pub IsPutFault : Bool → SendFault → Type 0
-IsPutFault long fault.TooLong = long ≡ true
-IsPutFault long fault.Memory = long ≡ false
+IsPutFault long SendFault.TooLong = long ≡ true
+IsPutFault long SendFault.Memory = long ≡ false
 IsPutFault long _ = ⊥
 
 abbrev pub IsTellFault : Bool → Bool → SendFault → Type 0
-IsTellFault as4 long fault.TooLong = long ≡ true
-IsTellFault as4 long fault.Memory = (as4 ≡ false) ⊎ (long ≡ false)
+IsTellFault as4 long SendFault.TooLong = long ≡ true
+IsTellFault as4 long SendFault.Memory = (as4 ≡ false) ⊎ (long ≡ false)
 IsTellFault as4 long _ = ⊥

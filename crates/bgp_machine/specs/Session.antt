@@ -2,12 +2,14 @@
 use Rattle.std.specs.Prelude.{◌≡◌, ◌⊎◌, ℕ, Bool, true, false, List, [], Option, None, Some, option_map, Ok}
 use Rattle.arrayvec.specs.ArrayVec.{ArrayVec}
 use Rattle.bgp_frame.specs.declared.kind.Kind.TheVariants as kind
+use Rattle.bgp_frame.specs.declared.notification.Notification.{Notification}
 use Rattle.bgp_frame.specs.Prelude.{content_of, Message, octets_of, Hearer}
 use Rattle.bgp_frame.specs.Hearing as hearing
 use Rattle.bgp_open.specs.declared.context.Context.{Context}
 use Rattle.bgp_open.specs.Prelude.{Settings, open_fault, own_of}
 use Rattle.bgp_open.specs.Written as opens
 use Rattle.bgp_update.specs.Prelude.{verdict_of, has_value}
+use Rattle.bgp_msg.specs.Written as messages
 use Rattle.bgp_machine.specs.declared.action.Action.{Action}
 use Rattle.bgp_machine.specs.declared.event.Event.{Event}
 use Rattle.bgp_machine.specs.declared.state.State.TheVariants as state
@@ -30,6 +32,14 @@ holding x held = record { settings = x.settings; standing = x.standing; held = h
 -- the whole message of the speaker's own OPEN
 unfoldable pub own_octets : Settings → List ℕ
 own_octets s = octets_of (record { kind = kind.Open; body = opens.canonical (own_of s) })
+
+-- the whole message of a KEEPALIVE
+abbrev pub keepalive_octets : List ℕ
+keepalive_octets = octets_of (record { kind = kind.Keepalive; body = [] })
+
+-- the whole message of a NOTIFICATION
+abbrev pub notification_octets : Notification → List ℕ
+notification_octets why = octets_of (record { kind = kind.Notification; body = messages.notification_octets why })
 
 -- ---- events
 

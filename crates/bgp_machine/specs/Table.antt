@@ -5,7 +5,6 @@ use Rattle.bgp_numbers.specs.declared.error.TheConstants.{OPEN_MESSAGE, HOLD_TIM
 use Rattle.bgp_frame.specs.declared.fault.HeadFault.{HeadFault}
 use Rattle.bgp_frame.specs.declared.kind.Kind.{Kind}
 use Rattle.bgp_frame.specs.Prelude.{Message, head_notification, code_of}
-use Rattle.bgp_frame.specs.declared.kind.Kind.TheVariants as kind
 use Rattle.bgp_frame.specs.declared.notification.Notification.{Notification}
 use Rattle.bgp_open.specs.declared.agreement.PeerFault.{PeerFault}
 use Rattle.bgp_open.specs.declared.context.Context.{Context}
@@ -14,10 +13,8 @@ use Rattle.bgp_open.specs.Prelude.{Settings, agreement, peer_notification, Said,
 use Rattle.bgp_open.specs.declared.fault.OpenFault.{OpenFault}
 use Rattle.bgp_update.specs.declared.verdict.Verdict.{Verdict}
 use Rattle.bgp_update.specs.Prelude.{onward_of, rebuilt, verdict_of}
-use Rattle.bgp_update.specs.declared.verdict.Verdict.TheVariants as verdict
 use Rattle.bgp_machine.specs.declared.action.Action.{Action}
 use Rattle.bgp_machine.specs.declared.action.Action.TheVariants.{Close, SendOpen, SendKeepalive, SendNotification, Arm, Disarm, Announce, Withdraw, Flush}
-use Rattle.bgp_machine.specs.declared.action.Action.TheVariants as action
 use Rattle.bgp_machine.specs.declared.event.Event.{Event}
 use Rattle.bgp_machine.specs.declared.event.Event.TheVariants.{Start, Stop, Connected, Failed, Expired}
 use Rattle.bgp_machine.specs.declared.state.State.{State}
@@ -94,14 +91,14 @@ keepalive_seconds ctx = hold_in ctx / 3
 -- ---- events
 
 abbrev pub on_event : Standing → State → Event → Step
-on_event x Idle Start = go x (Arm Retry RETRY_SECONDS ∷ action.Connect ∷ []) Connect
+on_event x Idle Start = go x (Arm Retry RETRY_SECONDS ∷ Action.Connect ∷ []) Connect
 on_event x Connect Connected = go x (Disarm Retry ∷ SendOpen ∷ Arm Hold OPEN_HOLD_SECONDS ∷ []) OpenSent
 on_event x Connect Failed = leave x []
-on_event x Connect (Expired Retry) = go x (Close ∷ Arm Retry RETRY_SECONDS ∷ action.Connect ∷ []) Connect
+on_event x Connect (Expired Retry) = go x (Close ∷ Arm Retry RETRY_SECONDS ∷ Action.Connect ∷ []) Connect
 on_event x Connect Stop = leave x (Close ∷ [])
 on_event x Active Connected = go x (Disarm Retry ∷ SendOpen ∷ Arm Hold OPEN_HOLD_SECONDS ∷ []) OpenSent
 on_event x Active Failed = leave x []
-on_event x Active (Expired Retry) = go x (Arm Retry RETRY_SECONDS ∷ action.Connect ∷ []) Connect
+on_event x Active (Expired Retry) = go x (Arm Retry RETRY_SECONDS ∷ Action.Connect ∷ []) Connect
 on_event x Active Stop = leave x (Close ∷ [])
 on_event x OpenSent Failed = go x (Disarm Hold ∷ Arm Retry RETRY_SECONDS ∷ []) Active
 on_event x OpenSent (Expired Hold) = reset x held_too_long
@@ -144,9 +141,9 @@ on_open s x (Ok o) = on_agreement x (said_by o) (agreement s o)
 on_open s x (Err fault) = answered x (open_notification fault)
 
 abbrev pub on_verdict : Standing → Verdict → Step
-on_verdict x (verdict.Take u notes) = go x (Announce (onward_of u) (rebuilt u.attrs) ∷ hold_on x.context) Established
-on_verdict x (verdict.Withdraw routes notes) = go x (Withdraw routes ∷ hold_on x.context) Established
-on_verdict x (verdict.Reset why) = reset x why
+on_verdict x (Verdict.Take u notes) = go x (Announce (onward_of u) (rebuilt u.attrs) ∷ hold_on x.context) Established
+on_verdict x (Verdict.Withdraw routes notes) = go x (Withdraw routes ∷ hold_on x.context) Established
+on_verdict x (Verdict.Reset why) = reset x why
 
 -- an UPDATE is judged in the context of the session
 abbrev pub on_update : Standing → Option Context → List ℕ → Step
@@ -154,18 +151,18 @@ on_update x (Some ctx) body = on_verdict x (verdict_of ctx body)
 on_update x None body = nothing x
 
 abbrev pub on_message : Settings → Standing → State → Kind → List ℕ → Step
-on_message s x OpenSent kind.Open body = on_open s x (reading_of body)
-on_message s x OpenSent kind.Update body = reset x (unexpected UNEXPECTED_IN_OPEN_SENT kind.Update)
-on_message s x OpenSent kind.Notification body = leave x (Close ∷ [])
-on_message s x OpenSent kind.Keepalive body = reset x (unexpected UNEXPECTED_IN_OPEN_SENT kind.Keepalive)
-on_message s x OpenConfirm kind.Open body = reset x (unexpected UNEXPECTED_IN_OPEN_CONFIRM kind.Open)
-on_message s x OpenConfirm kind.Update body = reset x (unexpected UNEXPECTED_IN_OPEN_CONFIRM kind.Update)
-on_message s x OpenConfirm kind.Notification body = leave x (Close ∷ [])
-on_message s x OpenConfirm kind.Keepalive body = go x (hold_on x.context) Established
-on_message s x Established kind.Open body = reset x (unexpected UNEXPECTED_IN_ESTABLISHED kind.Open)
-on_message s x Established kind.Update body = on_update x x.context body
-on_message s x Established kind.Notification body = leave x (Close ∷ [])
-on_message s x Established kind.Keepalive body = go x (hold_on x.context) Established
+on_message s x OpenSent Kind.Open body = on_open s x (reading_of body)
+on_message s x OpenSent Kind.Update body = reset x (unexpected UNEXPECTED_IN_OPEN_SENT Kind.Update)
+on_message s x OpenSent Kind.Notification body = leave x (Close ∷ [])
+on_message s x OpenSent Kind.Keepalive body = reset x (unexpected UNEXPECTED_IN_OPEN_SENT Kind.Keepalive)
+on_message s x OpenConfirm Kind.Open body = reset x (unexpected UNEXPECTED_IN_OPEN_CONFIRM Kind.Open)
+on_message s x OpenConfirm Kind.Update body = reset x (unexpected UNEXPECTED_IN_OPEN_CONFIRM Kind.Update)
+on_message s x OpenConfirm Kind.Notification body = leave x (Close ∷ [])
+on_message s x OpenConfirm Kind.Keepalive body = go x (hold_on x.context) Established
+on_message s x Established Kind.Open body = reset x (unexpected UNEXPECTED_IN_ESTABLISHED Kind.Open)
+on_message s x Established Kind.Update body = on_update x x.context body
+on_message s x Established Kind.Notification body = leave x (Close ∷ [])
+on_message s x Established Kind.Keepalive body = go x (hold_on x.context) Established
 on_message s x _ kind body = nothing x
 
 -- ---- headers with a fault

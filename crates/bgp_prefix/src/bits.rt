@@ -4,7 +4,7 @@ ghost use Rattle.std.specs.Prelude.{◌≡◌, ◌≤◌, ◌*◌, ◌↔◌, le
 ghost use Rattle.bgp_wire.specs.Prelude.{AreOctets};
 ghost use Rattle.bgp_prefix.specs.Prelude.{octets_for, address_of, HasNoBitPast};
 
-use crate::mask::mask;
+use crate::mask::masks;
 
 /// The least number of octets that holds `len` bits.
 pub(crate) fn octets_for(len: u8) -> usize
@@ -28,9 +28,10 @@ pub(crate) fn address<const W: usize>(len: u8, octets: &[u8]) -> [u8; W]
     // A caller that holds an array learns here what its elements are.
     ensures octets { AreOctets octets.now }
 {
+    let masks = masks::<W>(len);
     let mut addr = [0; W];
     for (i, octet) in octets.iter().enumerate() {
-        addr[i] = *octet & mask(len, i);
+        addr[i] = *octet & masks[i];
     }
     addr
 }

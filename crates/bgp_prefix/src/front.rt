@@ -16,7 +16,7 @@ pub(crate) struct Front<'a> {
 }
 
 impl<'a> Front<'a> {
-    /// The address: where as many octets follow as it has, they are masked at once, those behind the prefix among them.
+    /// The address: where as many octets follow as it has, they are read and masked as one word, those behind the prefix among them.
     #[inline(always)]
     pub(crate) fn address<const W: usize>(&self) -> [u8; W]
         requires allowed { self.now.len ≤ 8 * W }
@@ -26,7 +26,7 @@ impl<'a> Front<'a> {
         ensures octets { AreOctets self.now.read.now }
     {
         match self.behind.first_chunk::<W>() {
-            Some(octets) => address(self.len, octets),
+            Some(&octets) => address(self.len, &octets),
             None => address(self.len, self.read),
         }
     }

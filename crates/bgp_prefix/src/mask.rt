@@ -1,6 +1,6 @@
 //! Which bits of an octet are among the first ones of an address.
 
-ghost use Rattle.std.specs.Prelude.{◌≡◌};
+ghost use Rattle.std.specs.Prelude.{◌≡◌, ◌<◌, ℕ, slice_index};
 ghost use Rattle.bgp_prefix.specs.Prelude.{mask_of};
 
 // Row `r` has the masks for `256 + r` bits, an octet each. Those for fewer bits begin further on in a row: all masks of an address lie side by side,
@@ -58,4 +58,16 @@ pub(crate) fn mask(len: u8, i: usize) -> u8
     } else {
         0
     }
+}
+
+/// The masks of all octets of an address: an array of their own, so that they are put to its octets as one word.
+#[inline(always)]
+pub(crate) fn masks<const W: usize>(len: u8) -> [u8; W]
+    ensures { (i : ℕ) → i < W → slice_index result i ≡ mask_of len i }
+{
+    let mut masks = [0; W];
+    for i in 0..W {
+        masks[i] = mask(len, i);
+    }
+    masks
 }

@@ -70,6 +70,7 @@ impl<const W: usize> Prefix<W> {
     }
 
     /// The prefix that the front of octets stands for. Bits past the length are ignored.
+    #[inline(always)]
     pub(crate) fn from_front(front: Front<'_>) -> Prefix<W>
         requires allowed { front.len ≤ 8 * W }
         requires held { length front.read.now ≡ octets_for front.len }

@@ -10,11 +10,9 @@ use Rattle.bgp_update.specs.declared.verdict.Verdict.{Verdict}
 use Rattle.bgp_update.specs.declared.verdict.Verdict.TheVariants.{Take, Withdraw, Reset}
 use Rattle.bgp_update.specs.Prelude.{verdict_of}
 use Rattle.bgp_machine.specs.declared.timer.Timer.{Timer}
-use Rattle.bgp_machine.specs.declared.timer.Timer.TheVariants as timer
 use Rattle.bgp_session.specs.declared.moves.Move.{Move}
 use Rattle.bgp_session.specs.declared.side.Side.{Side}
 use Rattle.bgp_session.specs.declared.side.Side.TheVariants.{A, B}
-use Rattle.bgp_session.specs.declared.moves.Move.TheVariants as move
 use Rattle.bgp_script.specs.declared.speakers.Speakers.{Speakers}
 use Rattle.bgp_wire.specs.Prelude.{◌>>=◌}
 use Rattle.bgp_script.specs.Pieces.{one_piece, if_done}
@@ -30,9 +28,9 @@ side_of word =
 
 abbrev pub timer_of : List ℕ → Option Timer
 timer_of word =
-    if bytes_eq word (codes "retry") then Some timer.Retry else (
-    if bytes_eq word (codes "hold") then Some timer.Hold else (
-    if bytes_eq word (codes "keepalive") then Some timer.Keepalive else
+    if bytes_eq word (codes "retry") then Some Timer.Retry else (
+    if bytes_eq word (codes "hold") then Some Timer.Hold else (
+    if bytes_eq word (codes "keepalive") then Some Timer.Keepalive else
     None))
 
 abbrev pub one_side : List (List ℕ) → Option (Side × List (List ℕ))
@@ -85,31 +83,31 @@ abbrev pub deliver_of : List (List ℕ) → Option Move
 deliver_of words = do
   side ← one_side words
   count ← one_number 65535 side.1
-  if count.0 == 0 then None else if_done count.1 (move.Deliver side.0 count.0)
+  if count.0 == 0 then None else if_done count.1 (Move.Deliver side.0 count.0)
 
 abbrev pub expire_of : List (List ℕ) → Option Move
 expire_of words = do
   side ← one_side words
   name ← one_piece side.1
   timer ← timer_of name.0
-  if_done name.1 (move.Expire side.0 timer)
+  if_done name.1 (Move.Expire side.0 timer)
 
 abbrev pub send_of : Speakers → List (List ℕ) → Option Move
 send_of speakers words = do
   side ← one_side words
   word ← one_piece side.1
   update ← update_of (speaker_at speakers side.0) word.0
-  if_done word.1 (move.Send side.0 update)
+  if_done word.1 (Move.Send side.0 update)
 
 -- the words behind a name, but for `send`
 unfoldable pub plain_of : List ℕ → List (List ℕ) → Option Move
 plain_of name words =
-    if bytes_eq name (codes "start") then option_map move.Start (last_side words) else (
-    if bytes_eq name (codes "stop") then option_map move.Stop (last_side words) else (
-    if bytes_eq name (codes "join") then if_done words move.Join else (
-    if bytes_eq name (codes "refuse") then option_map move.Refuse (last_side words) else (
+    if bytes_eq name (codes "start") then option_map Move.Start (last_side words) else (
+    if bytes_eq name (codes "stop") then option_map Move.Stop (last_side words) else (
+    if bytes_eq name (codes "join") then if_done words Move.Join else (
+    if bytes_eq name (codes "refuse") then option_map Move.Refuse (last_side words) else (
     if bytes_eq name (codes "deliver") then deliver_of words else (
-    if bytes_eq name (codes "lose") then if_done words move.Lose else (
+    if bytes_eq name (codes "lose") then if_done words Move.Lose else (
     if bytes_eq name (codes "expire") then expire_of words else
     None))))))
 

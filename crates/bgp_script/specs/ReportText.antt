@@ -4,8 +4,6 @@ use Rattle.std.specs.Fmt.{decimal}
 use Rattle.std.specs.List.{flat_map}
 use Rattle.bgp_machine.specs.declared.send_fault.SendFault.{SendFault}
 use Rattle.bgp_machine.specs.declared.state.State.{State}
-use Rattle.bgp_machine.specs.declared.send_fault.SendFault.TheVariants as send_fault
-use Rattle.bgp_machine.specs.declared.state.State.TheVariants as state
 use Rattle.bgp_session.specs.declared.report.Report.{Report}
 use Rattle.bgp_session.specs.declared.report.Round.{Round}
 use Rattle.bgp_session.specs.declared.side.Side.{Side}
@@ -29,21 +27,21 @@ rounds_from number [] = []
 rounds_from number (r ∷ rounds) = round_lines number r ++ rounds_from (number + 1) rounds
 
 abbrev pub fault_number : SendFault → ℕ
-fault_number send_fault.NotEstablished = 1
-fault_number (send_fault.NotValid why) = 2
-fault_number send_fault.TooLong = 3
-fault_number send_fault.Memory = 4
+fault_number SendFault.NotEstablished = 1
+fault_number (SendFault.NotValid why) = 2
+fault_number SendFault.TooLong = 3
+fault_number SendFault.Memory = 4
 
 abbrev pub refused_line : Side × SendFault → List ℕ
 refused_line r = codes "refused " ++ (side_name r.0 ++ (codes " " ++ (decimal (fault_number r.1) ++ 10 ∷ [])))
 
 abbrev pub state_name : State → List ℕ
-state_name state.Idle = codes "Idle"
-state_name state.Connect = codes "Connect"
-state_name state.Active = codes "Active"
-state_name state.OpenSent = codes "OpenSent"
-state_name state.OpenConfirm = codes "OpenConfirm"
-state_name state.Established = codes "Established"
+state_name State.Idle = codes "Idle"
+state_name State.Connect = codes "Connect"
+state_name State.Active = codes "Active"
+state_name State.OpenSent = codes "OpenSent"
+state_name State.OpenConfirm = codes "OpenConfirm"
+state_name State.Established = codes "Established"
 
 abbrev pub state_line : Side → State → List ℕ
 state_line side s = codes "state " ++ (side_name side ++ (codes " " ++ (state_name s ++ 10 ∷ [])))

@@ -1,25 +1,20 @@
 -- What acting leaves as it is, and in which order it can be done.
-use Rattle.std.proofs.Common.{◌≡◌, List, [], ◌∷◌, ◌++◌, refl, sym, ap, ◌∙◌}
-use Rattle.bgp_open.specs.Prelude.{Settings}
-use Rattle.bgp_machine.specs.declared.action.Action.{Action}
-use Rattle.bgp_machine.specs.Prelude.{Machine, own_octets}
-use Rattle.bgp_machine.specs.declared.action.Action.TheVariants as action
-use Rattle.bgp_session.specs.declared.side.Side.{Side}
-use Rattle.bgp_session.specs.Prelude.{with_machine, with_session, towards, Pair, pair, acted, all_acted}
+use Rattle.bgp_session.proofs.Prelude.{◌≡◌, List, [], ◌∷◌, ◌++◌, refl, sym, ap, ◌∙◌, Settings, Action, Machine, own_octets, Side, with_machine, with_session}
+use Rattle.bgp_session.proofs.Prelude.{towards, Pair, pair, acted, all_acted}
 
 module _ (side : Side) where
   -- the session can be changed before or behind, where its settings stay
   acted_moves : (p : Pair) (x : Machine) (a : Action) → x.settings ≡ p.this.session.settings → acted side (with_machine p x) a ≡ with_machine (acted side p a) x
-  acted_moves p x action.Connect same = refl
-  acted_moves p x action.Close same = refl
-  acted_moves p x action.SendOpen same = ap (λ (s : Settings). pair (with_session p.this x) (towards p.other (own_octets s)) p.notes) same
-  acted_moves p x action.SendKeepalive same = refl
-  acted_moves p x (action.SendNotification why) same = refl
-  acted_moves p x (action.Arm timer seconds) same = refl
-  acted_moves p x (action.Disarm timer) same = refl
-  acted_moves p x (action.Announce u info) same = refl
-  acted_moves p x (action.Withdraw routes) same = refl
-  acted_moves p x action.Flush same = refl
+  acted_moves p x Action.Connect same = refl
+  acted_moves p x Action.Close same = refl
+  acted_moves p x Action.SendOpen same = ap (λ (s : Settings). pair (with_session p.this x) (towards p.other (own_octets s)) p.notes) same
+  acted_moves p x Action.SendKeepalive same = refl
+  acted_moves p x (Action.SendNotification why) same = refl
+  acted_moves p x (Action.Arm timer seconds) same = refl
+  acted_moves p x (Action.Disarm timer) same = refl
+  acted_moves p x (Action.Announce u info) same = refl
+  acted_moves p x (Action.Withdraw routes) same = refl
+  acted_moves p x Action.Flush same = refl
 
   -- so it stays as it is
   acted_keeps : (p : Pair) (a : Action) → (acted side p a).this.session ≡ p.this.session

@@ -1,15 +1,8 @@
 -- What both sides agree on, and why one refuses the other.
-use Rattle.bgp_wire.proofs.Std.{◌≡◌, ◌≢◌, ◌⊎◌, ℕ, Bool, true, false, not, ◌&&◌, cond, eqb, List, [], ◌∷◌, Ok, Err, refl, sym, ap, ◌∙◌, inl, inr, false≢true, and_parts}
-use Rattle.std.proofs.lemmas.Bool.{eqb-true, eq-eqb, true≢false}
+use Rattle.bgp_session.proofs.Prelude.{◌≡◌, ◌≢◌, ◌⊎◌, ℕ, Bool, true, false, not, ◌&&◌, cond, eqb, List, [], ◌∷◌, Ok, Err, refl, sym, ap, ◌∙◌, inl, inr}
+use Rattle.bgp_session.proofs.Prelude.{false≢true, and_parts, eqb-true, eq-eqb, true≢false, PeerFault, Context, Settings, own_of, peer_as_of, same_id}
+use Rattle.bgp_session.proofs.Prelude.{context_of, agreement, peer_notification, accepted, has_as4, peer_as-own, Move, Side, CanBeSet, HasReason, both_wide}
 use Rattle.std.proofs.Math.Bool.{and_comm}
-use Rattle.bgp_open.specs.declared.agreement.PeerFault.{PeerFault}
-use Rattle.bgp_open.specs.declared.context.Context.{Context}
-use Rattle.bgp_open.specs.Prelude.{Settings, own_of, peer_as_of, same_id, context_of, agreement, peer_notification}
-use Rattle.bgp_open.specs.declared.agreement.PeerFault.TheVariants as peer
-use Rattle.bgp_open.proofs.Agreements.{accepted, has_as4, peer_as-own}
-use Rattle.bgp_session.specs.declared.moves.Move.{Move}
-use Rattle.bgp_session.specs.declared.side.Side.{Side}
-use Rattle.bgp_session.specs.Prelude.{CanBeSet, HasReason, both_wide}
 
 -- the test of a peer's AS number, and that of its identifier
 abbrev is_peer : Settings → Settings → Bool
@@ -29,11 +22,11 @@ wide_swaps s t = and_comm s.as4 t.as4
 -- ---- why a peer is refused
 
 abbrev IsRefusal : Bool → Bool → PeerFault → Type 0
-IsRefusal other same fault = ((fault ≡ peer.PeerAs) × (other ≡ false)) ⊎ ((fault ≡ peer.Identifier) × (same ≡ true))
+IsRefusal other same fault = ((fault ≡ PeerFault.PeerAs) × (other ≡ false)) ⊎ ((fault ≡ PeerFault.Identifier) × (same ≡ true))
 
-refused : (other same : Bool) (x : Context) (fault : PeerFault) → cond (not other) (Err peer.PeerAs) (cond same (Err peer.Identifier) (Ok x)) ≡ Err fault → IsRefusal other same fault
-refused false same x fault e = inl (let is : Err peer.PeerAs ≡ Err fault = e in cc, refl)
-refused true true x fault e = inr (let is : Err peer.Identifier ≡ Err fault = e in cc, refl)
+refused : (other same : Bool) (x : Context) (fault : PeerFault) → cond (not other) (Err PeerFault.PeerAs) (cond same (Err PeerFault.Identifier) (Ok x)) ≡ Err fault → IsRefusal other same fault
+refused false same x fault e = inl (let is : Err PeerFault.PeerAs ≡ Err fault = e in cc, refl)
+refused true true x fault e = inr (let is : Err PeerFault.Identifier ≡ Err fault = e in cc, refl)
 refused true false x fault e = absurd (let no : Ok x ≡ Err fault = e in cc)
 
 same_id_is : (x y : List ℕ) → same_id x y ≡ true → x ≡ y
@@ -53,10 +46,10 @@ module _ (side : Side) (moves : List Move) (s t : Settings) (can : CanBeSet t) w
   wrong_as other is = true≢false (sym (eq-eqb (peer_as_of (own_of t)) s.peer_as (peer_as-own t can.allowed ∙ is)) ∙ other)
 
   reason_by : (fault : PeerFault) → IsRefusal (is_peer s t) (has_own_id s t) fault → HasReason s t side moves (peer_notification fault).code (peer_notification fault).subcode
-  reason_by peer.PeerAs (inl r) = inl (record { code_is = refl; subcode_is = refl; other_as = wrong_as r.1 })
-  reason_by peer.PeerAs (inr r) = absurd (let no : peer.PeerAs ≡ peer.Identifier = r.0 in cc)
-  reason_by peer.Identifier (inl r) = absurd (let no : peer.Identifier ≡ peer.PeerAs = r.0 in cc)
-  reason_by peer.Identifier (inr r) =
+  reason_by PeerFault.PeerAs (inl r) = inl (record { code_is = refl; subcode_is = refl; other_as = wrong_as r.1 })
+  reason_by PeerFault.PeerAs (inr r) = absurd (let no : PeerFault.PeerAs ≡ PeerFault.Identifier = r.0 in cc)
+  reason_by PeerFault.Identifier (inl r) = absurd (let no : PeerFault.Identifier ≡ PeerFault.PeerAs = r.0 in cc)
+  reason_by PeerFault.Identifier (inr r) =
       let both = and_parts (eqb s.local_as s.peer_as) (same_id t.id s.id) r.1 in
       inr (inl (record { code_is = refl; subcode_is = refl; one_as = eqb-true s.local_as s.peer_as both.0; same_id = same_id_is t.id s.id both.1 }))
 

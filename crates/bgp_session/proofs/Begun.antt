@@ -1,18 +1,10 @@
 -- Where an end hasn't left, a round has begun.
-use Rattle.std.proofs.Common.{◌≡◌, ℕ, zero, suc, Bool, true, false, List, [], ◌∷◌, take, drop, Option, None, Some, refl, ◌∙◌, if◌then◌else◌}
-use Rattle.bgp_open.specs.Prelude.{Settings}
-use Rattle.bgp_machine.specs.declared.action.Action.{Action}
-use Rattle.bgp_machine.specs.declared.event.Event.{Event}
-use Rattle.bgp_machine.specs.declared.send_fault.SendFault.{SendFault}
-use Rattle.bgp_machine.specs.Prelude.{by_octets, refusal_of, after_event, listens, happens}
-use Rattle.bgp_machine.specs.declared.action.Action.TheVariants as action
-use Rattle.bgp_machine.specs.declared.event.Event.TheVariants as event
-use Rattle.bgp_update.specs.declared.update.Update.{Update}
-use Rattle.bgp_session.specs.declared.moves.Move.{Move}
-use Rattle.bgp_session.specs.declared.side.Side.{Side}
-use Rattle.bgp_session.specs.declared.side.Side.TheVariants.{A, B}
-use Rattle.bgp_session.specs.Prelude.{End, with_session, Pair, pair, acted, all_acted, before_event, told, fed, sent, World, begins, end_of, seen_by, with_pair, tells, feeds, stands, tells_if, state_of, fails_up, emptied, lost_if, lost, seeks, refused_at, ran, answer_of, later_of, can_join, joins, joined_if, delivers_on, delivered, drawn, delivers, sent_or, sends, moved, all_moved}
-use Rattle.bgp_session.specs.declared.moves.Move.TheVariants as move
+use Rattle.bgp_session.proofs.Prelude.{◌≡◌, ℕ, zero, suc, Bool, true, false, List, [], ◌∷◌, take, drop, Option, None, Some, refl, ◌∙◌, if◌then◌else◌}
+use Rattle.bgp_session.proofs.Prelude.{Settings, Action, Event, SendFault, by_octets, refusal_of, after_event, listens, happens, Update, Move, Side, A, B}
+use Rattle.bgp_session.proofs.Prelude.{End, with_session, Pair, pair, acted, all_acted, before_event, told, fed, sent, World, begins, end_of, seen_by}
+use Rattle.bgp_session.proofs.Prelude.{with_pair, tells, feeds, stands, tells_if, state_of, fails_up, emptied, lost_if, lost, seeks, refused_at, ran}
+use Rattle.bgp_session.proofs.Prelude.{answer_of, later_of, can_join, joins, joined_if, delivers_on, delivered, drawn, delivers, sent_or, sends, moved}
+use Rattle.bgp_session.proofs.Prelude.{all_moved}
 
 -- an end that hasn't left behind it had not before
 pub record Stays (p q : Pair) : Type 0 where
@@ -29,16 +21,16 @@ not_left : {P : Type 0} → true ≡ false → P
 not_left is = absurd (let not : true ≡ false = is in cc)
 
 acted_stays : (side : Side) (p : Pair) (a : Action) → Stays p (acted side p a)
-acted_stays side p action.Connect = same p
-acted_stays side p action.Close = record { this = λ is. not_left is; other = λ is. is }
-acted_stays side p action.SendOpen = record { this = λ is. is; other = λ is. is }
-acted_stays side p action.SendKeepalive = record { this = λ is. is; other = λ is. is }
-acted_stays side p (action.SendNotification why) = record { this = λ is. is; other = λ is. is }
-acted_stays side p (action.Arm timer seconds) = same p
-acted_stays side p (action.Disarm timer) = same p
-acted_stays side p (action.Announce u info) = record { this = λ is. is; other = λ is. is }
-acted_stays side p (action.Withdraw routes) = record { this = λ is. is; other = λ is. is }
-acted_stays side p action.Flush = same p
+acted_stays side p Action.Connect = same p
+acted_stays side p Action.Close = record { this = λ is. not_left is; other = λ is. is }
+acted_stays side p Action.SendOpen = record { this = λ is. is; other = λ is. is }
+acted_stays side p Action.SendKeepalive = record { this = λ is. is; other = λ is. is }
+acted_stays side p (Action.SendNotification why) = record { this = λ is. is; other = λ is. is }
+acted_stays side p (Action.Arm timer seconds) = same p
+acted_stays side p (Action.Disarm timer) = same p
+acted_stays side p (Action.Announce u info) = record { this = λ is. is; other = λ is. is }
+acted_stays side p (Action.Withdraw routes) = record { this = λ is. is; other = λ is. is }
+acted_stays side p Action.Flush = same p
 
 all_stay : (side : Side) (p : Pair) (actions : List Action) → Stays p (all_acted side p actions)
 all_stay side p [] = same p
@@ -46,11 +38,11 @@ all_stay side p (a ∷ later) = both p (acted side p a) (all_acted side (acted s
 
 -- the same ends, but for their sessions
 before_stays : (e : End) (event : Event) → (before_event e event).left ≡ false → e.left ≡ false
-before_stays e event.Start is = is
-before_stays e event.Stop is = is
-before_stays e event.Connected is = is
-before_stays e event.Failed is = not_left is
-before_stays e (event.Expired timer) is = is
+before_stays e Event.Start is = is
+before_stays e Event.Stop is = is
+before_stays e Event.Connected is = is
+before_stays e Event.Failed is = not_left is
+before_stays e (Event.Expired timer) is = is
 
 told_stays : (side : Side) (p : Pair) (e : Event) → Stays p (told side p e)
 told_stays side p e =
@@ -92,7 +84,7 @@ lost_if_stays true w =
     let cut : World = emptied w in
     let first : World = fails_up A cut in
     both_so w cut (fails_up B first) (record { a = λ is. is; b = λ is. is; begun = refl })
-    (both_so cut first (fails_up B first) (if_stays (listens (state_of A cut)) A event.Failed cut) (if_stays (listens (state_of B first)) B event.Failed first))
+    (both_so cut first (fails_up B first) (if_stays (listens (state_of A cut)) A Event.Failed cut) (if_stays (listens (state_of B first)) B Event.Failed first))
 
 lost_stays : (w : World) → StaysSo w (lost w)
 lost_stays w = lost_if_stays (stands w) w
@@ -140,22 +132,22 @@ stays_begun w v s h = record { a = λ is. s.begun ∙ h.a (s.a is); b = λ is. s
 joins_begun : (answer : Bool) (w : World) → HasBegun w → HasBegun (joins answer w)
 joins_begun true w h = record { a = λ is. refl; b = λ is. refl }
 joins_begun false w h =
-    let first : World = tells A event.Failed w in
-    stays_begun w (tells B event.Failed first) (both_so w first (tells B event.Failed first) (tells_stays A event.Failed w) (tells_stays B event.Failed first)) h
+    let first : World = tells A Event.Failed w in
+    stays_begun w (tells B Event.Failed first) (both_so w first (tells B Event.Failed first) (tells_stays A Event.Failed w) (tells_stays B Event.Failed first)) h
 
 joined_begun : (can : Bool) (w : World) (answers : List Bool) → HasBegun w → HasBegun (joined_if can w answers).world
 joined_begun true w answers h = joins_begun (answer_of answers) w h
 joined_begun false w answers h = h
 
 moved_begun : (one : Move) (w : World) (answers : List Bool) → HasBegun w → HasBegun (moved one w answers).world
-moved_begun (move.Start side) w answers h = stays_begun w (tells side event.Start w) (tells_stays side event.Start w) h
-moved_begun (move.Stop side) w answers h = stays_begun w (tells side event.Stop w) (tells_stays side event.Stop w) h
-moved_begun move.Join w answers h = joined_begun (can_join w) w answers h
-moved_begun (move.Refuse side) w answers h = stays_begun w (refused_at side w) (if_stays (seeks (state_of side w)) side event.Failed w) h
-moved_begun (move.Deliver side k) w answers h = stays_begun w (delivers side k w answers).world (delivers_stays side k w answers) h
-moved_begun move.Lose w answers h = stays_begun w (lost w) (lost_stays w) h
-moved_begun (move.Expire side timer) w answers h = stays_begun w (tells side (event.Expired timer) w) (tells_stays side (event.Expired timer) w) h
-moved_begun (move.Send side u) w answers h = stays_begun w (sends side u w) (sent_stays (refusal_of (end_of side w).session u) side u w) h
+moved_begun (Move.Start side) w answers h = stays_begun w (tells side Event.Start w) (tells_stays side Event.Start w) h
+moved_begun (Move.Stop side) w answers h = stays_begun w (tells side Event.Stop w) (tells_stays side Event.Stop w) h
+moved_begun Move.Join w answers h = joined_begun (can_join w) w answers h
+moved_begun (Move.Refuse side) w answers h = stays_begun w (refused_at side w) (if_stays (seeks (state_of side w)) side Event.Failed w) h
+moved_begun (Move.Deliver side k) w answers h = stays_begun w (delivers side k w answers).world (delivers_stays side k w answers) h
+moved_begun Move.Lose w answers h = stays_begun w (lost w) (lost_stays w) h
+moved_begun (Move.Expire side timer) w answers h = stays_begun w (tells side (Event.Expired timer) w) (tells_stays side (Event.Expired timer) w) h
+moved_begun (Move.Send side u) w answers h = stays_begun w (sends side u w) (sent_stays (refusal_of (end_of side w).session u) side u w) h
 
 all_begun : (moves : List Move) (w : World) (answers : List Bool) → HasBegun w → HasBegun (all_moved moves w answers).world
 all_begun [] w answers h = h

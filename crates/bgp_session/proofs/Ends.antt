@@ -1,19 +1,8 @@
 -- Two ends of a connection: what is kept of both, and how one of them leaves.
-use Rattle.bgp_wire.proofs.Std.{◌≡◌, ℕ, Bool, true, false, not, List, [], ◌∷◌, ◌++◌, Option, None, Some, Ok, refl, sym, ap, subst, ◌∙◌, AllByRecursion}
-use Rattle.std.proofs.lemmas.List.{append-nil}
-use Rattle.bgp_wire.proofs.Writes.{all_push}
-use Rattle.bgp_frame.specs.declared.notification.Notification.{Notification}
-use Rattle.bgp_open.specs.declared.context.Context.{Context}
-use Rattle.bgp_open.specs.Prelude.{agreement, Settings, own_of}
-use Rattle.bgp_machine.specs.declared.action.Action.{Action}
-use Rattle.bgp_machine.specs.declared.state.State.{State}
-use Rattle.bgp_machine.specs.declared.timer.Timers.{Timers}
-use Rattle.bgp_machine.specs.Prelude.{listens, only_if, disarmed, flushed}
-use Rattle.bgp_machine.specs.declared.state.State.TheVariants as state
-use Rattle.bgp_update.specs.declared.path_info.PathInfo.{PathInfo}
-use Rattle.bgp_update.specs.declared.update.Update.{Update}
-use Rattle.bgp_session.specs.declared.side.Side.{Side}
-use Rattle.bgp_session.specs.Prelude.{End, with_session, away, towards, Note, Pair, pair, notification_octets, note_of, acted, all_acted}
+use Rattle.bgp_session.proofs.Prelude.{◌≡◌, ℕ, Bool, true, false, not, List, [], ◌∷◌, ◌++◌, Option, None, Some, Ok, refl, sym, ap, subst, ◌∙◌, AllByRecursion}
+use Rattle.bgp_session.proofs.Prelude.{append-nil, all_push, Notification, Context, agreement, Settings, own_of, Action, State, Timers, listens, only_if}
+use Rattle.bgp_session.proofs.Prelude.{disarmed, flushed, PathInfo, Update, Side, End, with_session, away, towards, Note, Pair, pair, notification_octets}
+use Rattle.bgp_session.proofs.Prelude.{note_of, acted, all_acted}
 use Rattle.bgp_session.proofs.Facts.{notification_spelled}
 use Rattle.bgp_session.proofs.Sayings.{SaidNotification, Stage, next, EndsAt, Ended}
 use Rattle.bgp_session.proofs.Ways.{IsDeaf, Goes, front_of, sender_goes, sender_says}
@@ -27,8 +16,8 @@ pub record IsAgreed (mine theirs : Settings) (ctx : Option Context) : Type 0 whe
   pub both : agreement mine (own_of theirs) ≡ Ok agreed
 
 abbrev pub HasContext : Settings → Settings → State → Option Context → Type 0
-HasContext mine theirs state.OpenConfirm ctx = IsAgreed mine theirs ctx
-HasContext mine theirs state.Established ctx = IsAgreed mine theirs ctx
+HasContext mine theirs State.OpenConfirm ctx = IsAgreed mine theirs ctx
+HasContext mine theirs State.Established ctx = IsAgreed mine theirs ctx
 HasContext mine theirs _ ctx = ctx ≡ None
 
 pub record IsEnd (mine theirs : Settings) (e : End) : Type 0 where
@@ -58,12 +47,12 @@ turned wide mine theirs allowed this other notes s = record { this = s.other; ot
 
 module _ (side : Side) (P : Pair → Type 0) where
   flushes : (st : State) (p : Pair) → P p → P (all_acted side p (flushed st))
-  flushes state.Established p h = h
-  flushes state.Idle p h = h
-  flushes state.Connect p h = h
-  flushes state.Active p h = h
-  flushes state.OpenSent p h = h
-  flushes state.OpenConfirm p h = h
+  flushes State.Established p h = h
+  flushes State.Idle p h = h
+  flushes State.Connect p h = h
+  flushes State.Active p h = h
+  flushes State.OpenSent p h = h
+  flushes State.OpenConfirm p h = h
 
   -- timers are disarmed, and the routes are gone
   pub quietly : (t : Timers) (st : State) (p : Pair) → P p → P (all_acted side p (disarmed t ++ flushed st))
@@ -99,26 +88,26 @@ pub record IsOut (st : State) : Type 0 where
   pub none : (mine theirs : Settings) (ctx : Option Context) → HasContext mine theirs st ctx → ctx ≡ None
   pub ends : (last : Stage) → EndsAt st last
 
-pub idle_out : IsOut state.Idle
+pub idle_out : IsOut State.Idle
 idle_out = record { deaf = refl; context = λ mine theirs. refl; way = λ wide s t held hand flight sender sent got d. d; back = λ wide s t held hand flight sender sent got d. d; none = λ mine theirs ctx is. is; ends = λ last. tt }
 
-pub connect_out : IsOut state.Connect
+pub connect_out : IsOut State.Connect
 connect_out = record { deaf = refl; context = λ mine theirs. refl; way = λ wide s t held hand flight sender sent got d. d; back = λ wide s t held hand flight sender sent got d. d; none = λ mine theirs ctx is. is; ends = λ last. tt }
 
-pub active_out : IsOut state.Active
+pub active_out : IsOut State.Active
 active_out = record { deaf = refl; context = λ mine theirs. refl; way = λ wide s t held hand flight sender sent got d. d; back = λ wide s t held hand flight sender sent got d. d; none = λ mine theirs ctx is. is; ends = λ last. tt }
 
 -- where it takes octets, it has said something that a NOTIFICATION can follow
 abbrev pub CanNotify : State → Type 0
 CanNotify st = (last : Stage) → EndsAt st last → (why : Notification) → next last (SaidNotification why) ≡ Some Ended
 
-pub sent_notifies : CanNotify state.OpenSent
+pub sent_notifies : CanNotify State.OpenSent
 sent_notifies last is why = ap (λ (st : Stage). next st (SaidNotification why)) is
 
-pub confirm_notifies : CanNotify state.OpenConfirm
+pub confirm_notifies : CanNotify State.OpenConfirm
 confirm_notifies last is why = ap (λ (st : Stage). next st (SaidNotification why)) is
 
-pub established_notifies : CanNotify state.Established
+pub established_notifies : CanNotify State.Established
 established_notifies last is why = ap (λ (st : Stage). next st (SaidNotification why)) is
 
 -- ---- an end in another state

@@ -1,18 +1,7 @@
 -- An event keeps what is kept of two ends.
-use Rattle.bgp_wire.proofs.Std.{Bool, true, false, List, [], ◌∷◌, ◌++◌, ℕ, None, ◌≡◌, refl, sym, ap, if◌then◌else◌}
-use Rattle.std.proofs.lemmas.List.{append-nil}
-use Rattle.bgp_frame.specs.declared.notification.Notification.{Notification}
-use Rattle.bgp_open.specs.Prelude.{Settings}
-use Rattle.bgp_machine.specs.declared.event.Event.{Event}
-use Rattle.bgp_machine.specs.declared.state.State.{State}
-use Rattle.bgp_machine.specs.declared.timer.Timer.{Timer}
-use Rattle.bgp_machine.specs.declared.timer.Timers.{Timers}
-use Rattle.bgp_machine.specs.Prelude.{kept, listens, runs, timers_with, Step, disarmed, flushed, cease, held_too_long}
-use Rattle.bgp_machine.specs.declared.event.Event.TheVariants as event
-use Rattle.bgp_machine.specs.declared.state.State.TheVariants as state
-use Rattle.bgp_machine.specs.declared.timer.Timer.TheVariants as timer
-use Rattle.bgp_session.specs.declared.side.Side.{Side}
-use Rattle.bgp_session.specs.Prelude.{End, with_session, away, towards, keepalive_octets, notification_octets, Note, Pair, pair, note_of, all_acted, told}
+use Rattle.bgp_session.proofs.Prelude.{Bool, true, false, List, [], ◌∷◌, ◌++◌, ℕ, None, ◌≡◌, refl, sym, ap, if◌then◌else◌, append-nil, Notification, Settings}
+use Rattle.bgp_session.proofs.Prelude.{Event, State, Timer, Timers, kept, listens, runs, timers_with, Step, disarmed, flushed, cease, held_too_long, Side}
+use Rattle.bgp_session.proofs.Prelude.{End, with_session, away, towards, keepalive_octets, notification_octets, Note, Pair, pair, note_of, all_acted, told}
 use Rattle.bgp_session.proofs.Facts.{keepalive_spelled}
 use Rattle.bgp_session.proofs.Sayings.{SaidKeepalive, Stage, next, EndsAt, Runs}
 use Rattle.bgp_session.proofs.Ways.{MaySay, sender_says}
@@ -20,16 +9,16 @@ use Rattle.bgp_session.proofs.Ends.{IsSound, quietly, idle_out, connect_out, act
 
 -- which notes an event may lead to. Connections come otherwise
 abbrev pub MayNote : (Note → Type 0) → Side → Event → Type 0
-MayNote allowed side event.Connected = ⊥
-MayNote allowed side event.Stop = allowed (note_of side cease)
-MayNote allowed side (event.Expired timer.Hold) = allowed (note_of side held_too_long)
+MayNote allowed side Event.Connected = ⊥
+MayNote allowed side Event.Stop = allowed (note_of side cease)
+MayNote allowed side (Event.Expired Timer.Hold) = allowed (note_of side held_too_long)
 MayNote allowed side _ = Unit {0}
 
 -- a KEEPALIVE may be said once the other's OPEN was accepted
-confirm_says : (last : Stage) → EndsAt state.OpenConfirm last → MaySay state.OpenConfirm state.OpenConfirm SaidKeepalive last
+confirm_says : (last : Stage) → EndsAt State.OpenConfirm last → MaySay State.OpenConfirm State.OpenConfirm SaidKeepalive last
 confirm_says last is = record { behind = Runs; is_next = ap (λ (st : Stage). next st SaidKeepalive) is; ends = refl }
 
-established_says : (last : Stage) → EndsAt state.Established last → MaySay state.Established state.Established SaidKeepalive last
+established_says : (last : Stage) → EndsAt State.Established last → MaySay State.Established State.Established SaidKeepalive last
 established_says last is = record { behind = Runs; is_next = ap (λ (st : Stage). next st SaidKeepalive) is; ends = refl }
 
 module _ (wide : Bool) (mine theirs : Settings) (allowed : Note → Type 0) (side : Side) (e other : End) (notes : List Note) (running : Timers) (hand : List ℕ) where
@@ -55,8 +44,8 @@ module _ (wide : Bool) (mine theirs : Settings) (allowed : Note → Type 0) (sid
 
   -- it resets the session: to Idle
   reset_by : (st : State) → Sound (before st) → (now : Timers) (why : Notification) → CanNotify st → why.info.items ≡ [] → allowed (note_of side why)
-      → Sound (pair (gone_to e state.Idle now) (towards other (notification_octets why)) (notes ++ note_of side why ∷ []))
-  reset_by st was now why can short may = notifies wide mine theirs allowed side e other notes st running hand was state.Idle now hand idle_out why can short may
+      → Sound (pair (gone_to e State.Idle now) (towards other (notification_octets why)) (notes ++ note_of side why ∷ []))
+  reset_by st was now why can short may = notifies wide mine theirs allowed side e other notes st running hand was State.Idle now hand idle_out why can short may
 
   keepalive_said : (st : State) → ((last : Stage) → EndsAt st last → MaySay st st SaidKeepalive last) → Sound (before st) → (now : Timers)
       → Sound (pair (in_state e st now) (towards other keepalive_octets) notes)
@@ -79,29 +68,29 @@ module _ (wide : Bool) (mine theirs : Settings) (allowed : Note → Type 0) (sid
   abbrev Keeps : State → Event → Type 0
   Keeps st event = Sound (told side (before st) event)
 
-  start_keeps : (st : State) → Sound (before st) → Keeps st event.Start
-  start_keeps state.Idle was = stay state.Idle state.Connect was _ idle_out connect_out
-  start_keeps state.Connect was = stay state.Connect state.Connect was _ connect_out connect_out
-  start_keeps state.Active was = stay state.Active state.Active was _ active_out active_out
-  start_keeps state.OpenSent was = was
-  start_keeps state.OpenConfirm was = was
-  start_keeps state.Established was = was
+  start_keeps : (st : State) → Sound (before st) → Keeps st Event.Start
+  start_keeps State.Idle was = stay State.Idle State.Connect was _ idle_out connect_out
+  start_keeps State.Connect was = stay State.Connect State.Connect was _ connect_out connect_out
+  start_keeps State.Active was = stay State.Active State.Active was _ active_out active_out
+  start_keeps State.OpenSent was = was
+  start_keeps State.OpenConfirm was = was
+  start_keeps State.Established was = was
 
-  stop_keeps : (st : State) → Sound (before st) → allowed (note_of side cease) → Keeps st event.Stop
-  stop_keeps state.Idle was may = stay state.Idle state.Idle was _ idle_out idle_out
-  stop_keeps state.Connect was may = hush running state.Connect _ (leave state.Connect state.Idle was _ idle_out)
-  stop_keeps state.Active was may = hush running state.Active _ (leave state.Active state.Idle was _ idle_out)
-  stop_keeps state.OpenSent was may = hush running state.OpenSent _ (reset_by state.OpenSent was _ cease sent_notifies refl may)
-  stop_keeps state.OpenConfirm was may = hush running state.OpenConfirm _ (reset_by state.OpenConfirm was _ cease confirm_notifies refl may)
-  stop_keeps state.Established was may = hush running state.Established _ (reset_by state.Established was _ cease established_notifies refl may)
+  stop_keeps : (st : State) → Sound (before st) → allowed (note_of side cease) → Keeps st Event.Stop
+  stop_keeps State.Idle was may = stay State.Idle State.Idle was _ idle_out idle_out
+  stop_keeps State.Connect was may = hush running State.Connect _ (leave State.Connect State.Idle was _ idle_out)
+  stop_keeps State.Active was may = hush running State.Active _ (leave State.Active State.Idle was _ idle_out)
+  stop_keeps State.OpenSent was may = hush running State.OpenSent _ (reset_by State.OpenSent was _ cease sent_notifies refl may)
+  stop_keeps State.OpenConfirm was may = hush running State.OpenConfirm _ (reset_by State.OpenConfirm was _ cease confirm_notifies refl may)
+  stop_keeps State.Established was may = hush running State.Established _ (reset_by State.Established was _ cease established_notifies refl may)
 
-  failed_keeps : (st : State) → Sound (before st) → Keeps st event.Failed
-  failed_keeps state.Idle was = leave_none state.Idle state.Idle was _ was.this.context idle_out
-  failed_keeps state.Connect was = hush running state.Connect _ (leave state.Connect state.Idle was _ idle_out)
-  failed_keeps state.Active was = hush running state.Active _ (leave state.Active state.Idle was _ idle_out)
-  failed_keeps state.OpenSent was = leave_none state.OpenSent state.Active was _ was.this.context active_out
-  failed_keeps state.OpenConfirm was = hush running state.OpenConfirm _ (leave state.OpenConfirm state.Idle was _ idle_out)
-  failed_keeps state.Established was = hush running state.Established _ (leave state.Established state.Idle was _ idle_out)
+  failed_keeps : (st : State) → Sound (before st) → Keeps st Event.Failed
+  failed_keeps State.Idle was = leave_none State.Idle State.Idle was _ was.this.context idle_out
+  failed_keeps State.Connect was = hush running State.Connect _ (leave State.Connect State.Idle was _ idle_out)
+  failed_keeps State.Active was = hush running State.Active _ (leave State.Active State.Idle was _ idle_out)
+  failed_keeps State.OpenSent was = leave_none State.OpenSent State.Active was _ was.this.context active_out
+  failed_keeps State.OpenConfirm was = hush running State.OpenConfirm _ (leave State.OpenConfirm State.Idle was _ idle_out)
+  failed_keeps State.Established was = hush running State.Established _ (leave State.Established State.Idle was _ idle_out)
 
   -- ---- a timer that expires
 
@@ -124,39 +113,39 @@ module _ (wide : Bool) (mine theirs : Settings) (allowed : Note → Type 0) (sid
   idle_expires : (st : State) → Sound (before st) → IsOut st → (t : Timer) → Sound (pair (idle_in e st (stopped t)) other notes)
   idle_expires st was out t = stay st st was (stopped t) out out
 
-  expired_keeps : (st : State) (t : Timer) → Sound (before st) → MayNote allowed side (event.Expired t) → Keeps st (event.Expired t)
-  expired_keeps state.Idle t was may = if_runs (runs running t) state.Idle _ _ (idle_expires state.Idle was idle_out t) (stay state.Idle state.Idle was running idle_out idle_out)
-  expired_keeps state.Connect timer.Retry was may =
-      if_runs (runs running timer.Retry) state.Connect _ _ (leave_none state.Connect state.Connect was _ was.this.context connect_out) (stay state.Connect state.Connect was running connect_out connect_out)
-  expired_keeps state.Connect timer.Hold was may =
-      if_runs (runs running timer.Hold) state.Connect _ _ (idle_expires state.Connect was connect_out timer.Hold) (stay state.Connect state.Connect was running connect_out connect_out)
-  expired_keeps state.Connect timer.Keepalive was may =
-      if_runs (runs running timer.Keepalive) state.Connect _ _ (idle_expires state.Connect was connect_out timer.Keepalive) (stay state.Connect state.Connect was running connect_out connect_out)
-  expired_keeps state.Active timer.Retry was may =
-      if_runs (runs running timer.Retry) state.Active _ _ (stay state.Active state.Connect was _ active_out connect_out) (stay state.Active state.Active was running active_out active_out)
-  expired_keeps state.Active timer.Hold was may =
-      if_runs (runs running timer.Hold) state.Active _ _ (idle_expires state.Active was active_out timer.Hold) (stay state.Active state.Active was running active_out active_out)
-  expired_keeps state.Active timer.Keepalive was may =
-      if_runs (runs running timer.Keepalive) state.Active _ _ (idle_expires state.Active was active_out timer.Keepalive) (stay state.Active state.Active was running active_out active_out)
-  expired_keeps state.OpenSent timer.Retry was may = if_runs (runs running timer.Retry) state.OpenSent _ _ (still state.OpenSent was (stopped timer.Retry)) was
-  expired_keeps state.OpenSent timer.Hold was may =
-      if_runs (runs running timer.Hold) state.OpenSent _ _ (hush (stopped timer.Hold) state.OpenSent _ (reset_by state.OpenSent was _ held_too_long sent_notifies refl may)) was
-  expired_keeps state.OpenSent timer.Keepalive was may = if_runs (runs running timer.Keepalive) state.OpenSent _ _ (still state.OpenSent was (stopped timer.Keepalive)) was
-  expired_keeps state.OpenConfirm timer.Retry was may = if_runs (runs running timer.Retry) state.OpenConfirm _ _ (still state.OpenConfirm was (stopped timer.Retry)) was
-  expired_keeps state.OpenConfirm timer.Hold was may =
-      if_runs (runs running timer.Hold) state.OpenConfirm _ _ (hush (stopped timer.Hold) state.OpenConfirm _ (reset_by state.OpenConfirm was _ held_too_long confirm_notifies refl may)) was
-  expired_keeps state.OpenConfirm timer.Keepalive was may = if_runs (runs running timer.Keepalive) state.OpenConfirm _ _ (keepalive_said state.OpenConfirm confirm_says was _) was
-  expired_keeps state.Established timer.Retry was may = if_runs (runs running timer.Retry) state.Established _ _ (still state.Established was (stopped timer.Retry)) was
-  expired_keeps state.Established timer.Hold was may =
-      if_runs (runs running timer.Hold) state.Established _ _ (hush (stopped timer.Hold) state.Established _ (reset_by state.Established was _ held_too_long established_notifies refl may)) was
-  expired_keeps state.Established timer.Keepalive was may = if_runs (runs running timer.Keepalive) state.Established _ _ (keepalive_said state.Established established_says was _) was
+  expired_keeps : (st : State) (t : Timer) → Sound (before st) → MayNote allowed side (Event.Expired t) → Keeps st (Event.Expired t)
+  expired_keeps State.Idle t was may = if_runs (runs running t) State.Idle _ _ (idle_expires State.Idle was idle_out t) (stay State.Idle State.Idle was running idle_out idle_out)
+  expired_keeps State.Connect Timer.Retry was may =
+      if_runs (runs running Timer.Retry) State.Connect _ _ (leave_none State.Connect State.Connect was _ was.this.context connect_out) (stay State.Connect State.Connect was running connect_out connect_out)
+  expired_keeps State.Connect Timer.Hold was may =
+      if_runs (runs running Timer.Hold) State.Connect _ _ (idle_expires State.Connect was connect_out Timer.Hold) (stay State.Connect State.Connect was running connect_out connect_out)
+  expired_keeps State.Connect Timer.Keepalive was may =
+      if_runs (runs running Timer.Keepalive) State.Connect _ _ (idle_expires State.Connect was connect_out Timer.Keepalive) (stay State.Connect State.Connect was running connect_out connect_out)
+  expired_keeps State.Active Timer.Retry was may =
+      if_runs (runs running Timer.Retry) State.Active _ _ (stay State.Active State.Connect was _ active_out connect_out) (stay State.Active State.Active was running active_out active_out)
+  expired_keeps State.Active Timer.Hold was may =
+      if_runs (runs running Timer.Hold) State.Active _ _ (idle_expires State.Active was active_out Timer.Hold) (stay State.Active State.Active was running active_out active_out)
+  expired_keeps State.Active Timer.Keepalive was may =
+      if_runs (runs running Timer.Keepalive) State.Active _ _ (idle_expires State.Active was active_out Timer.Keepalive) (stay State.Active State.Active was running active_out active_out)
+  expired_keeps State.OpenSent Timer.Retry was may = if_runs (runs running Timer.Retry) State.OpenSent _ _ (still State.OpenSent was (stopped Timer.Retry)) was
+  expired_keeps State.OpenSent Timer.Hold was may =
+      if_runs (runs running Timer.Hold) State.OpenSent _ _ (hush (stopped Timer.Hold) State.OpenSent _ (reset_by State.OpenSent was _ held_too_long sent_notifies refl may)) was
+  expired_keeps State.OpenSent Timer.Keepalive was may = if_runs (runs running Timer.Keepalive) State.OpenSent _ _ (still State.OpenSent was (stopped Timer.Keepalive)) was
+  expired_keeps State.OpenConfirm Timer.Retry was may = if_runs (runs running Timer.Retry) State.OpenConfirm _ _ (still State.OpenConfirm was (stopped Timer.Retry)) was
+  expired_keeps State.OpenConfirm Timer.Hold was may =
+      if_runs (runs running Timer.Hold) State.OpenConfirm _ _ (hush (stopped Timer.Hold) State.OpenConfirm _ (reset_by State.OpenConfirm was _ held_too_long confirm_notifies refl may)) was
+  expired_keeps State.OpenConfirm Timer.Keepalive was may = if_runs (runs running Timer.Keepalive) State.OpenConfirm _ _ (keepalive_said State.OpenConfirm confirm_says was _) was
+  expired_keeps State.Established Timer.Retry was may = if_runs (runs running Timer.Retry) State.Established _ _ (still State.Established was (stopped Timer.Retry)) was
+  expired_keeps State.Established Timer.Hold was may =
+      if_runs (runs running Timer.Hold) State.Established _ _ (hush (stopped Timer.Hold) State.Established _ (reset_by State.Established was _ held_too_long established_notifies refl may)) was
+  expired_keeps State.Established Timer.Keepalive was may = if_runs (runs running Timer.Keepalive) State.Established _ _ (keepalive_said State.Established established_says was _) was
 
   keeps_at : (st : State) (event : Event) → Sound (before st) → MayNote allowed side event → Keeps st event
-  keeps_at st event.Start was may = start_keeps st was
-  keeps_at st event.Stop was may = stop_keeps st was may
-  keeps_at st event.Connected was may = absurd may
-  keeps_at st event.Failed was may = failed_keeps st was
-  keeps_at st (event.Expired t) was may = expired_keeps st t was may
+  keeps_at st Event.Start was may = start_keeps st was
+  keeps_at st Event.Stop was may = stop_keeps st was may
+  keeps_at st Event.Connected was may = absurd may
+  keeps_at st Event.Failed was may = failed_keeps st was
+  keeps_at st (Event.Expired t) was may = expired_keeps st t was may
 
 -- an event other than a connection keeps what is kept
 pub event_keeps : (wide : Bool) (mine theirs : Settings) (allowed : Note → Type 0) (side : Side) (hand : List ℕ) (p : Pair) (e : Event)

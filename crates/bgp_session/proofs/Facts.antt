@@ -1,31 +1,23 @@
 -- What two ends need to know of what is below them: how messages are spelled and read, and what both agree on.
-use Rattle.bgp_wire.proofs.Std.{◌≡◌, ℕ, ◌+◌, ◌≤◌, Bool, true, false, List, [], ◌∷◌, ◌++◌, length, Option, None, Some, Ok, refl, ap, ◌∙◌, arith, ltb-false}
+use Rattle.bgp_session.proofs.Prelude.{◌≡◌, ℕ, ◌+◌, ◌≤◌, Bool, true, false, List, [], ◌∷◌, ◌++◌, length, Option, None, Some, Ok, refl, ap, ◌∙◌, arith}
+use Rattle.bgp_session.proofs.Prelude.{ltb-false, Notification, Kind, Message, octets_of, IsFrame, IsLength, length-octets_of, Context, Settings, IsOpen}
+use Rattle.bgp_session.proofs.Prelude.{reading_of, field_for, offered, own_of, why_unsent, told_with, told_in, told_octets, is_told_too_long, own_octets}
+use Rattle.bgp_session.proofs.Prelude.{PathInfo, Update, onward_of, rebuilt_by, rebuilt, HasNoAs4, verdict_of, written_body, invalid_of, HasUpdateRanges}
+use Rattle.bgp_session.proofs.Prelude.{Verdict, CanBeSet, heard, keepalive_octets, notification_octets}
+use Rattle.bgp_msg.specs.declared.message.Message.TheVariants as message
 use Rattle.bgp_numbers.specs.declared.afi.TheConstants.{IPV4, IPV6}
 use Rattle.bgp_numbers.specs.declared.safi.TheConstants.{UNICAST}
-use Rattle.bgp_frame.specs.declared.notification.Notification.{Notification}
-use Rattle.bgp_frame.specs.declared.kind.Kind.TheVariants as kind
-use Rattle.bgp_frame.specs.Prelude.{Message, octets_of, IsFrame, IsLength}
-use Rattle.bgp_frame.proofs.FrameLemmas.{length-octets_of}
-use Rattle.bgp_msg.specs.declared.message.Message.TheVariants as message
 use Rattle.bgp_msg.proofs.Itself.{valid-itself}
 use Rattle.bgp_open.specs.declared.capability.Capability.TheVariants.{Multi, As4}
-use Rattle.bgp_open.specs.declared.context.Context.{Context}
-use Rattle.bgp_open.specs.Prelude.{Settings, IsOpen, reading_of, field_for, offered, own_of}
 use Rattle.bgp_open.specs.Written as opens
 use Rattle.bgp_open.proofs.Owns.{own-spells}
 use Rattle.bgp_open.proofs.Readings.{spelling-reads}
-use Rattle.bgp_machine.specs.Prelude.{why_unsent, told_with, told_in, told_octets, is_told_too_long, own_octets}
 use Rattle.bgp_machine.proofs.Sendings.{told_valid, told_narrow, told_narrow_valid}
 use Rattle.bgp_attr.specs.declared.aggregator.Aggregator.{Aggregator}
 use Rattle.bgp_attr.specs.declared.path.AsPath.{AsPath}
 use Rattle.bgp_attr.specs.declared.path.As4Path.{As4Path}
-use Rattle.bgp_update.specs.declared.path_info.PathInfo.{PathInfo}
-use Rattle.bgp_update.specs.declared.update.Update.{Update}
-use Rattle.bgp_update.specs.Prelude.{onward_of, rebuilt_by, rebuilt, HasNoAs4, verdict_of, written_body, invalid_of, HasUpdateRanges}
-use Rattle.bgp_update.specs.declared.verdict.Verdict.TheVariants as verdict
 use Rattle.bgp_update.proofs.Narrowing.{narrowed-rebuilt}
 use Rattle.bgp_update.proofs.ReadBack.{valid-taken}
-use Rattle.bgp_session.specs.Prelude.{CanBeSet, heard, keepalive_octets, notification_octets}
 use Rattle.bgp_session.proofs.Narrowed.{narrowed_ranges}
 use Rattle.bgp_session.proofs.Sayings.{Said, SaidOpen, SaidKeepalive, SaidNotification, SaidUpdate, open_body, notification_body, update_body, message_of, spelling, IsTold, Fits}
 
@@ -128,10 +120,10 @@ module _ (wide : Bool) (s t : Settings) where
       (valid-itself ctx (message.Update (told_in ctx u)) (ranges_by ctx u told.sendable told.ranges ctx.as4) (valid_by ctx u told.sendable told.ranges ctx.as4 refl)
       (within ctx u told.short)).whole
 
-  pub update_read : (ctx : Context) (u : Update) → IsTold wide s t ctx u → verdict_of ctx (update_body ctx u) ≡ verdict.Take (told_in ctx u) []
+  pub update_read : (ctx : Context) (u : Update) → IsTold wide s t ctx u → verdict_of ctx (update_body ctx u) ≡ Verdict.Take (told_in ctx u) []
   unfolding update_body
   update_read ctx u told =
-      let long = length-octets_of (record { kind = kind.Update; body = written_body ctx (told_in ctx u) }) in
+      let long = length-octets_of (record { kind = Kind.Update; body = written_body ctx (told_in ctx u) }) in
       let most = within ctx u told.short in
       valid-taken ctx (told_in ctx u) (ranges_by ctx u told.sendable told.ranges ctx.as4) (valid_by ctx u told.sendable told.ranges ctx.as4 refl) (omega arith)
 

@@ -1,14 +1,8 @@
 -- A pair goes on by pulls as by the octets that they take.
-use Rattle.std.proofs.Common.{◌≡◌, ℕ, zero, suc, ◌<◌, List, [], ◌∷◌, drop, Option, None, Some, refl, sym, ap, subst, ◌∙◌, arith}
-use Rattle.arrayvec.specs.ArrayVec.{ArrayVec}
-use Rattle.bgp_wire.specs.Prelude.{AreOctets}
-use Rattle.bgp_frame.specs.Prelude.{with_octet, done_by}
-use Rattle.bgp_frame.proofs.Hearings.{Passes, waits_at, waiting, passes, lighter, judges_lighter, call_ends, pull_waits}
-use Rattle.bgp_machine.specs.declared.action.Action.{Action}
-use Rattle.bgp_machine.specs.Prelude.{IsAtRest, Done, settled, by_octet, by_octets, IsPulled, IsReady, left_to_do, weight, Machine, holding, hearer, judged, listens, Step}
-use Rattle.bgp_machine.proofs.Cuttings.{is_hearer, pulls_as_fed}
-use Rattle.bgp_session.specs.declared.side.Side.{Side}
-use Rattle.bgp_session.specs.Prelude.{with_machine, fed_on, FeedsOn, Pair, all_acted, fed}
+use Rattle.bgp_session.proofs.Prelude.{◌≡◌, ℕ, zero, suc, ◌<◌, List, [], ◌∷◌, drop, Option, None, Some, refl, sym, ap, subst, ◌∙◌, arith, ArrayVec, AreOctets}
+use Rattle.bgp_session.proofs.Prelude.{with_octet, done_by, Passes, passes, lighter, judges_lighter, call_ends, pull_waits, Action}
+use Rattle.bgp_session.proofs.Prelude.{IsAtRest, Done, settled, by_octet, by_octets, IsPulled, IsReady, left_to_do, weight, Machine, holding, hearer, judged}
+use Rattle.bgp_session.proofs.Prelude.{listens, Step, is_hearer, pulls_as_fed, Side, with_machine, fed_on, FeedsOn, Pair, all_acted}
 use Rattle.bgp_session.proofs.Acts.{all_keeps, all_moves, acted_both}
 
 -- ---- the settings of a session stay
@@ -53,12 +47,6 @@ module _ (side : Side) (p : Pair) (piece : List ℕ) where
       ready = subst IsReady (sym session) passes.ready;
       goes_on = goes_on;
     }
-
--- a session at rest has nothing to do but what comes
-pub fed_from : (side : Side) (p : Pair) (piece : List ℕ) → IsAtRest p.this.session → fed side p piece ≡ fed_on side p piece
-fed_from side p piece rest =
-    let x : Machine = p.this.session in
-    ap (λ (e : Done). all_acted side (with_machine p e.session) e.actions) (sym (waiting hearer is_hearer x piece (waits_at hearer is_hearer x rest.nothing_to_do)))
 
 -- ---- what the code has of a pull
 

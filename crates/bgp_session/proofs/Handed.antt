@@ -1,11 +1,7 @@
 -- What a wire was asked, once all moves are played.
-use Rattle.bgp_wire.proofs.Std.{◌≡◌, ℕ, ◌≤◌, Bool, true, List, [], ◌++◌, length, take, Result, Ok, Err, sym, ap, subst, ◌∙◌}
-use Rattle.std.specs.Result.{IfOk}
-use Rattle.std.proofs.lemmas.List.{append-nil, take_all}
-use Rattle.bgp_open.specs.Prelude.{Settings}
-use Rattle.bgp_session.specs.declared.moves.Move.{Move}
-use Rattle.bgp_session.specs.declared.report.Report.{Report}
-use Rattle.bgp_session.specs.Prelude.{Plays, report_of, calls_behind, sights_behind, Sight, observed, Call, Grows, Trace, World, begins, Turn, calls_in, sights_in, Ran, all_moved}
+use Rattle.bgp_session.proofs.Prelude.{◌≡◌, ℕ, ◌≤◌, Bool, true, List, [], ◌++◌, length, take, Result, Ok, Err, sym, ap, subst, ◌∙◌, IfOk, append-nil}
+use Rattle.bgp_session.proofs.Prelude.{take_all, Settings, Move, Report, Plays, report_of, calls_behind, sights_behind, Sight, observed, Call, Grows, Trace}
+use Rattle.bgp_session.proofs.Prelude.{World, begins, Turn, calls_in, sights_in, Ran, all_moved}
 use Rattle.bgp_session.proofs.Plays.{wired}
 
 module _ {S : Type 0} (honest : Bool) (after : S → Sight → S) (a b : Settings) (moves : List Move) (w : World) (start answers : List Bool) (none : start ≡ []) (trace_old trace_new : Trace S) (i : ℕ)

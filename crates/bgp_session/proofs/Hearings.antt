@@ -1,26 +1,12 @@
 -- A message that is heard keeps what is kept of two ends.
-use Rattle.bgp_wire.proofs.Std.{◌≡◌, ◌/◌, ℕ, Bool, true, false, List, [], ◌∷◌, ◌++◌, map, Option, Some, Result, Ok, Err, refl, sym, ap, subst, ◌∙◌, append_assoc, if◌then◌else◌, nat_lt, AllByRecursion, map-append}
-use Rattle.std.proofs.lemmas.List.{append-nil}
-use Rattle.bgp_frame.proofs.Pulls.{nothing_waits}
-use Rattle.bgp_open.specs.declared.agreement.PeerFault.{PeerFault}
-use Rattle.bgp_open.specs.declared.context.Context.{Context}
+use Rattle.bgp_session.proofs.Prelude.{◌≡◌, ◌/◌, ℕ, Bool, true, false, List, [], ◌∷◌, ◌++◌, map, Option, Some, Result, Ok, Err, refl, sym, ap, subst, ◌∙◌}
+use Rattle.bgp_session.proofs.Prelude.{append_assoc, if◌then◌else◌, nat_lt, AllByRecursion, map-append, append-nil, nothing_waits, PeerFault, Context}
+use Rattle.bgp_session.proofs.Prelude.{agreement, peer_notification, said_by, Settings, own_of, reading_of, Action, State, Timers, told_in, Standing, agreed}
+use Rattle.bgp_session.proofs.Prelude.{Step, go, on_agreement, on_open, on_verdict, on_update, on_message, Timer, PathInfo, Update, Verdict, onward_of}
+use Rattle.bgp_session.proofs.Prelude.{rebuilt, Side, CanBeSet, heard, End, with_session, towards, keepalive_octets, notification_octets, Note, Pair, pair}
+use Rattle.bgp_session.proofs.Prelude.{note_of, all_acted}
 use Rattle.bgp_open.specs.declared.fault.OpenFault.{OpenFault}
 use Rattle.bgp_open.specs.declared.message.Open.{Open}
-use Rattle.bgp_open.specs.Prelude.{agreement, peer_notification, said_by, Settings, own_of, reading_of}
-use Rattle.bgp_open.specs.declared.agreement.PeerFault.TheVariants as peer
-use Rattle.bgp_machine.specs.declared.action.Action.TheVariants as action
-use Rattle.bgp_machine.specs.declared.state.State.{State}
-use Rattle.bgp_machine.specs.declared.timer.Timers.{Timers}
-use Rattle.bgp_machine.specs.Prelude.{told_in, Standing, agreed, Step, go, on_agreement, on_open, on_verdict, on_update, on_message}
-use Rattle.bgp_machine.specs.declared.state.State.TheVariants as state
-use Rattle.bgp_machine.specs.declared.timer.Timer.TheVariants as timer
-use Rattle.bgp_update.specs.declared.path_info.PathInfo.{PathInfo}
-use Rattle.bgp_update.specs.declared.update.Update.{Update}
-use Rattle.bgp_update.specs.declared.verdict.Verdict.{Verdict}
-use Rattle.bgp_update.specs.Prelude.{onward_of, rebuilt}
-use Rattle.bgp_update.specs.declared.verdict.Verdict.TheVariants as verdict
-use Rattle.bgp_session.specs.declared.side.Side.{Side}
-use Rattle.bgp_session.specs.Prelude.{CanBeSet, heard, End, with_session, towards, keepalive_octets, notification_octets, Note, Pair, pair, note_of, all_acted}
 use Rattle.bgp_session.proofs.Facts.{keepalive_spelled, open_read, update_read, update_heard}
 use Rattle.bgp_session.proofs.Sayings.{Said, SaidOpen, SaidKeepalive, SaidNotification, SaidUpdate, open_body, update_body, message_of, spellings, updates_of, updates_in, Fits, Stage, WantsOpen, WantsKeepalive, Runs, next, Follows, EndsAt}
 use Rattle.bgp_session.proofs.Ways.{MaySay, sender_goes, sender_says}
@@ -46,11 +32,11 @@ pub record HeardAt (wide : Bool) (mine theirs : Settings) (e other : End) (hand 
   pub rest : hand ++ e.flight ≡ spellings theirs pending
 
 short_fault : (fault : PeerFault) → (peer_notification fault).info.items ≡ []
-short_fault peer.PeerAs = refl
-short_fault peer.Identifier = refl
+short_fault PeerFault.PeerAs = refl
+short_fault PeerFault.Identifier = refl
 
 -- an OPEN is answered by a KEEPALIVE
-confirms : (last : Stage) → EndsAt state.OpenSent last → MaySay state.OpenSent state.OpenConfirm SaidKeepalive last
+confirms : (last : Stage) → EndsAt State.OpenSent last → MaySay State.OpenSent State.OpenConfirm SaidKeepalive last
 confirms last is = record { behind = Runs; is_next = ap (λ (st : Stage). next st SaidKeepalive) is; ends = refl }
 
 module _ (wide : Bool) (mine theirs : Settings) (allowed : Note → Type 0) (side : Side) (know : Know mine theirs allowed side) (e other : End) (notes : List Note)
@@ -75,16 +61,16 @@ module _ (wide : Bool) (mine theirs : Settings) (allowed : Note → Type 0) (sid
   abbrev Behind : Step → Type 0
   Behind step = Sound (by_heard step)
 
-  leave : (st : State) → Was st → (now : Timers) → Sound (pair (gone_to e state.Idle now) other notes)
-  leave st was now = leaves wide mine theirs allowed side e other notes st running in_hand was state.Idle now hand idle_out
+  leave : (st : State) → Was st → (now : Timers) → Sound (pair (gone_to e State.Idle now) other notes)
+  leave st was now = leaves wide mine theirs allowed side e other notes st running in_hand was State.Idle now hand idle_out
 
   -- ---- an OPEN is accepted, or refused
 
   -- a session in OpenConfirm
   abbrev confirmed : Context → Timers → End
-  confirmed c now = with_session e (record { settings = e.session.settings; standing = record { state = state.OpenConfirm; context = Some c; peer = Some (said_by (own_of theirs)); running = now }; held = [] })
+  confirmed c now = with_session e (record { settings = e.session.settings; standing = record { state = State.OpenConfirm; context = Some c; peer = Some (said_by (own_of theirs)); running = now }; held = [] })
 
-  module _ (was : Was state.OpenSent) (h : HearsNow WantsOpen SaidOpen) where
+  module _ (was : Was State.OpenSent) (h : HearsNow WantsOpen SaidOpen) where
     accepts : (c : Context) → agreement e.session.settings (own_of theirs) ≡ Ok c → (now : Timers) → Sound (pair (confirmed c now) (towards other keepalive_octets) notes)
     accepts c is now = record {
       this = record {
@@ -101,30 +87,30 @@ module _ (wide : Bool) (mine theirs : Settings) (allowed : Note → Type 0) (sid
         coming = record { pending = h.pending; spelled = h.rest; follows = h.follows; fit = h.fit; front = h.front; got_so = h.got_so; sent_so = h.sent_so };
       };
       to_other =
-          sender_says wide mine theirs state.OpenSent state.OpenConfirm SaidKeepalive confirms tt keepalive_octets (keepalive_spelled mine) e.sent e.sent (sym (append-nil e.sent)) other.got
+          sender_says wide mine theirs State.OpenSent State.OpenConfirm SaidKeepalive confirms tt keepalive_octets (keepalive_spelled mine) e.sent e.sent (sym (append-nil e.sent)) other.got
           other.session.standing.state other.session.held [] other.flight other.left was.other.left was.to_other;
       notes = was.notes;
     }
 
     refuses : (fault : PeerFault) → agreement e.session.settings (own_of theirs) ≡ Err fault → (now : Timers)
-        → Sound (pair (gone_to e state.Idle now) (towards other (notification_octets (peer_notification fault))) (notes ++ note_of side (peer_notification fault) ∷ []))
+        → Sound (pair (gone_to e State.Idle now) (towards other (notification_octets (peer_notification fault))) (notes ++ note_of side (peer_notification fault) ∷ []))
     refuses fault is now =
-        notifies wide mine theirs allowed side e other notes state.OpenSent running in_hand was state.Idle now hand idle_out (peer_notification fault) sent_notifies
+        notifies wide mine theirs allowed side e other notes State.OpenSent running in_hand was State.Idle now hand idle_out (peer_notification fault) sent_notifies
         (short_fault fault) (know.refuses fault (ap (λ (s : Settings). agreement s (own_of theirs)) (sym was.this.settings) ∙ is))
 
     -- with timers, or without
-    accepted_with : (c : Context) → agreement e.session.settings (own_of theirs) ≡ Ok c → (timed : Bool) → Behind (go (agreed (standing state.OpenSent) (said_by (own_of theirs)) c)
-        (if timed then action.SendKeepalive ∷ action.Arm timer.Hold c.hold ∷ action.Arm timer.Keepalive (c.hold / 3) ∷ [] else action.SendKeepalive ∷ action.Disarm timer.Hold ∷ []) state.OpenConfirm)
+    accepted_with : (c : Context) → agreement e.session.settings (own_of theirs) ≡ Ok c → (timed : Bool) → Behind (go (agreed (standing State.OpenSent) (said_by (own_of theirs)) c)
+        (if timed then Action.SendKeepalive ∷ Action.Arm Timer.Hold c.hold ∷ Action.Arm Timer.Keepalive (c.hold / 3) ∷ [] else Action.SendKeepalive ∷ Action.Disarm Timer.Hold ∷ []) State.OpenConfirm)
     accepted_with c is true = accepts c is _
     accepted_with c is false = accepts c is _
 
-    agreement_heard : (r : Result Context PeerFault) → agreement e.session.settings (own_of theirs) ≡ r → Behind (on_agreement (standing state.OpenSent) (said_by (own_of theirs)) r)
+    agreement_heard : (r : Result Context PeerFault) → agreement e.session.settings (own_of theirs) ≡ r → Behind (on_agreement (standing State.OpenSent) (said_by (own_of theirs)) r)
     agreement_heard (Ok c) is = accepted_with c is (nat_lt 0 c.hold)
-    agreement_heard (Err fault) is = quietly side Sound running state.OpenSent _ (refuses fault is _)
+    agreement_heard (Err fault) is = quietly side Sound running State.OpenSent _ (refuses fault is _)
 
-    open_heard : Behind (on_open e.session.settings (standing state.OpenSent) (reading_of (open_body theirs)))
+    open_heard : Behind (on_open e.session.settings (standing State.OpenSent) (reading_of (open_body theirs)))
     open_heard =
-        subst (λ (r : Result Open OpenFault). Behind (on_open e.session.settings (standing state.OpenSent) r)) (sym (open_read theirs know.can))
+        subst (λ (r : Result Open OpenFault). Behind (on_open e.session.settings (standing State.OpenSent) r)) (sym (open_read theirs know.can))
         (agreement_heard (agreement e.session.settings (own_of theirs)) refl)
 
   -- ---- the session goes on in Established
@@ -133,7 +119,7 @@ module _ (wide : Bool) (mine theirs : Settings) (allowed : Note → Type 0) (sid
   established now got = record {
     session = record {
       settings = e.session.settings;
-      standing = record { state = state.Established; context = e.session.standing.context; peer = e.session.standing.peer; running = now };
+      standing = record { state = State.Established; context = e.session.standing.context; peer = e.session.standing.peer; running = now };
       held = [];
     };
     left = e.left;
@@ -156,7 +142,7 @@ module _ (wide : Bool) (mine theirs : Settings) (allowed : Note → Type 0) (sid
         ends = h.ends;
         coming = record { pending = h.pending; spelled = h.rest; follows = follows; fit = h.fit; front = front; got_so = got_so; sent_so = sent_so };
       };
-      to_other = sender_goes wide mine theirs other.session.standing.state other.session.held [] other.flight st state.Established e.sent other.got ran was.to_other;
+      to_other = sender_goes wide mine theirs other.session.standing.state other.session.held [] other.flight st State.Established e.sent other.got ran was.to_other;
       notes = was.notes;
     }
 
@@ -164,25 +150,25 @@ module _ (wide : Bool) (mine theirs : Settings) (allowed : Note → Type 0) (sid
   OnMessage st m = Behind (on_message e.session.settings (standing st) st (message_of theirs m).kind (message_of theirs m).body)
 
   -- the Hold Timer begins anew, or there is none
-  keepalive_confirms : Was state.OpenConfirm → HearsNow WantsKeepalive SaidKeepalive → OnMessage state.OpenConfirm SaidKeepalive
+  keepalive_confirms : Was State.OpenConfirm → HearsNow WantsKeepalive SaidKeepalive → OnMessage State.OpenConfirm SaidKeepalive
   keepalive_confirms was h =
       armed side Sound _ _ _ (λ q. refl)
-      (runs_on state.OpenConfirm was was.this.left was.this.context (λ last is. is) WantsKeepalive SaidKeepalive h h.follows _ e.got h.front h.got_so h.sent_so)
+      (runs_on State.OpenConfirm was was.this.left was.this.context (λ last is. is) WantsKeepalive SaidKeepalive h h.follows _ e.got h.front h.got_so h.sent_so)
 
-  keepalive_runs : Was state.Established → HearsNow Runs SaidKeepalive → OnMessage state.Established SaidKeepalive
+  keepalive_runs : Was State.Established → HearsNow Runs SaidKeepalive → OnMessage State.Established SaidKeepalive
   keepalive_runs was h =
       armed side Sound _ _ _ (λ q. refl)
-      (runs_on state.Established was was.this.left was.this.context (λ last is. is) Runs SaidKeepalive h h.follows _ e.got h.front h.got_so h.sent_so)
+      (runs_on State.Established was was.this.left was.this.context (λ last is. is) Runs SaidKeepalive h h.follows _ e.got h.front h.got_so h.sent_so)
 
   -- ---- an UPDATE
 
-  module _ (was : Was state.Established) (c : Context) (u : Update) (h : HearsNow Runs (SaidUpdate c u)) where
+  module _ (was : Was State.Established) (c : Context) (u : Update) (h : HearsNow Runs (SaidUpdate c u)) where
     -- it is announced
-    take_heard : (v : Update) → (let take : Update × PathInfo = (onward_of v, rebuilt v.attrs) in take ≡ heard wide u) → Behind (on_verdict (standing state.Established) (verdict.Take v []))
+    take_heard : (v : Update) → (let take : Update × PathInfo = (onward_of v, rebuilt v.attrs) in take ≡ heard wide u) → Behind (on_verdict (standing State.Established) (Verdict.Take v []))
     take_heard v is =
         let take : Update × PathInfo = (onward_of v, rebuilt v.attrs) in
         armed side Sound _ _ _ (λ q. refl)
-        (runs_on state.Established was was.this.left was.this.context (λ last ends. ends) Runs (SaidUpdate c u) h h.follows _ (e.got ++ take ∷ []) (h.front ++ u ∷ [])
+        (runs_on State.Established was was.this.left was.this.context (λ last ends. ends) Runs (SaidUpdate c u) h h.follows _ (e.got ++ take ∷ []) (h.front ++ u ∷ [])
         (ap (λ (l : List (Update × PathInfo)). l ++ take ∷ []) h.got_so ∙ ap (λ (one : Update × PathInfo). map (heard wide) h.front ++ one ∷ []) is ∙ sym (map-append (heard wide) h.front (u ∷ [])))
         (h.sent_so ∙ sym (append_assoc h.front (u ∷ []) (updates_in h.pending))))
 
@@ -192,28 +178,28 @@ module _ (wide : Bool) (mine theirs : Settings) (allowed : Note → Type 0) (sid
         let here = was.this.context in
         here.is ∙ ap (λ (x : Context). Some x) (know.agree here.agreed c here.both h.fits.agreed)
 
-    update_heard_so : OnMessage state.Established (SaidUpdate c u)
+    update_heard_so : OnMessage State.Established (SaidUpdate c u)
     update_heard_so =
-        subst (λ (o : Option Context). Behind (on_update (standing state.Established) o (update_body c u))) (sym one_context)
-        (subst (λ (v : Verdict). Behind (on_verdict (standing state.Established) v)) (sym (update_read wide theirs mine c u h.fits))
+        subst (λ (o : Option Context). Behind (on_update (standing State.Established) o (update_body c u))) (sym one_context)
+        (subst (λ (v : Verdict). Behind (on_verdict (standing State.Established) v)) (sym (update_read wide theirs mine c u h.fits))
         (take_heard (told_in c u) (update_heard wide theirs mine c u h.fits)))
 
   -- ---- each message, where it may stand
 
-  pub sent_hears : (m : Said) → Was state.OpenSent → HearsNow WantsOpen m → OnMessage state.OpenSent m
+  pub sent_hears : (m : Said) → Was State.OpenSent → HearsNow WantsOpen m → OnMessage State.OpenSent m
   sent_hears SaidOpen was h = open_heard was h
   sent_hears SaidKeepalive was h = absurd h.follows
   sent_hears (SaidNotification why) was h = absurd h.follows
   sent_hears (SaidUpdate c u) was h = absurd h.follows
 
-  pub confirm_hears : (m : Said) → Was state.OpenConfirm → HearsNow WantsKeepalive m → OnMessage state.OpenConfirm m
+  pub confirm_hears : (m : Said) → Was State.OpenConfirm → HearsNow WantsKeepalive m → OnMessage State.OpenConfirm m
   confirm_hears SaidOpen was h = absurd h.follows
   confirm_hears SaidKeepalive was h = keepalive_confirms was h
-  confirm_hears (SaidNotification why) was h = quietly side Sound running state.OpenConfirm _ (leave state.OpenConfirm was _)
+  confirm_hears (SaidNotification why) was h = quietly side Sound running State.OpenConfirm _ (leave State.OpenConfirm was _)
   confirm_hears (SaidUpdate c u) was h = absurd h.follows
 
-  pub established_hears : (m : Said) → Was state.Established → HearsNow Runs m → OnMessage state.Established m
+  pub established_hears : (m : Said) → Was State.Established → HearsNow Runs m → OnMessage State.Established m
   established_hears SaidOpen was h = absurd h.follows
   established_hears SaidKeepalive was h = keepalive_runs was h
-  established_hears (SaidNotification why) was h = quietly side Sound running state.Established _ (leave state.Established was _)
+  established_hears (SaidNotification why) was h = quietly side Sound running State.Established _ (leave State.Established was _)
   established_hears (SaidUpdate c u) was h = update_heard_so was c u h

@@ -1,19 +1,8 @@
 -- A connection that is made: both ends are told, and each has an OPEN in flight towards it.
-use Rattle.bgp_wire.proofs.Std.{◌≡◌, ℕ, Bool, true, false, List, [], ◌∷◌, ◌++◌, refl, sym, ap, subst, ◌∙◌}
-use Rattle.std.proofs.lemmas.List.{append-nil}
-use Rattle.bgp_frame.specs.Prelude.{Waits}
-use Rattle.bgp_frame.proofs.Pulls.{nothing_waits}
-use Rattle.bgp_open.specs.Prelude.{Settings}
-use Rattle.bgp_machine.specs.declared.action.Action.TheVariants as action
-use Rattle.bgp_machine.specs.declared.event.Event.TheVariants as event
-use Rattle.bgp_machine.specs.declared.state.State.{State}
-use Rattle.bgp_machine.specs.declared.timer.Timers.{Timers}
-use Rattle.bgp_machine.specs.Prelude.{Machine, own_octets, timers_behind}
-use Rattle.bgp_machine.specs.declared.state.State.TheVariants as state
-use Rattle.bgp_machine.specs.declared.timer.Timer.TheVariants as timer
+use Rattle.bgp_session.proofs.Prelude.{◌≡◌, ℕ, Bool, true, false, List, [], ◌∷◌, ◌++◌, refl, sym, ap, subst, ◌∙◌, append-nil, Waits, nothing_waits, Settings}
+use Rattle.bgp_session.proofs.Prelude.{Action, Event, State, Timers, Machine, own_octets, timers_behind, Timer, Side, End, with_session, towards, Note, Pair}
+use Rattle.bgp_session.proofs.Prelude.{pair, told, seeks, joined_end}
 use Rattle.bgp_machine.specs.declared.timer.TheConstants.{OPEN_HOLD_SECONDS}
-use Rattle.bgp_session.specs.declared.side.Side.{Side}
-use Rattle.bgp_session.specs.Prelude.{End, with_session, towards, Note, Pair, pair, told, seeks, joined_end}
 use Rattle.bgp_session.proofs.Facts.{open_spelled}
 use Rattle.bgp_session.proofs.Sayings.{SaidOpen, spelling, WantsOpen, WantsKeepalive}
 use Rattle.bgp_session.proofs.Ways.{IsHearing}
@@ -22,12 +11,12 @@ use Rattle.bgp_session.proofs.Ends.{IsEnd, IsSound, IsOut, connect_out, active_o
 -- ---- what each end does
 
 abbrev opening_timers : Timers → Timers
-opening_timers t = timers_behind (action.Disarm timer.Retry ∷ action.SendOpen ∷ action.Arm timer.Hold OPEN_HOLD_SECONDS ∷ []) t
+opening_timers t = timers_behind (Action.Disarm Timer.Retry ∷ Action.SendOpen ∷ Action.Arm Timer.Hold OPEN_HOLD_SECONDS ∷ []) t
 
 abbrev opened_session : Machine → Machine
 opened_session x = record {
   settings = x.settings;
-  standing = record { state = state.OpenSent; context = x.standing.context; peer = x.standing.peer; running = opening_timers x.standing.running };
+  standing = record { state = State.OpenSent; context = x.standing.context; peer = x.standing.peer; running = opening_timers x.standing.running };
   held = x.held;
 }
 
@@ -35,22 +24,22 @@ opened_session x = record {
 abbrev pub opened : End → End
 opened e = with_session e (opened_session e.session)
 
-seeker : (st : State) → seeks st ≡ true → (P : State → Type 0) → P state.Connect → P state.Active → P st
-seeker state.Connect is P c a = c
-seeker state.Active is P c a = a
-seeker state.Idle is P c a = absurd (let not : false ≡ true = is in cc)
-seeker state.OpenSent is P c a = absurd (let not : false ≡ true = is in cc)
-seeker state.OpenConfirm is P c a = absurd (let not : false ≡ true = is in cc)
-seeker state.Established is P c a = absurd (let not : false ≡ true = is in cc)
+seeker : (st : State) → seeks st ≡ true → (P : State → Type 0) → P State.Connect → P State.Active → P st
+seeker State.Connect is P c a = c
+seeker State.Active is P c a = a
+seeker State.Idle is P c a = absurd (let not : false ≡ true = is in cc)
+seeker State.OpenSent is P c a = absurd (let not : false ≡ true = is in cc)
+seeker State.OpenConfirm is P c a = absurd (let not : false ≡ true = is in cc)
+seeker State.Established is P c a = absurd (let not : false ≡ true = is in cc)
 
 pub seeker_out : (st : State) → seeks st ≡ true → IsOut st
 seeker_out st is = seeker st is (λ (x : State). IsOut x) connect_out active_out
 
 pub connected : (side : Side) (p : Pair) → seeks p.this.session.standing.state ≡ true
-    → told side p event.Connected ≡ pair (opened p.this) (towards p.other (own_octets p.this.session.settings)) p.notes
+    → told side p Event.Connected ≡ pair (opened p.this) (towards p.other (own_octets p.this.session.settings)) p.notes
 connected side p is =
     seeker p.this.session.standing.state is
-    (λ (st : State). told side (pair (in_state p.this st p.this.session.standing.running) p.other p.notes) event.Connected
+    (λ (st : State). told side (pair (in_state p.this st p.this.session.standing.running) p.other p.notes) Event.Connected
     ≡ pair (opened (in_state p.this st p.this.session.standing.running)) (towards p.other (own_octets p.this.session.settings)) p.notes)
     refl refl
 
@@ -75,7 +64,7 @@ module _ (wide : Bool) where
     none_gone = refl;
   }
 
-  begun_hears : (mine theirs : Settings) (e : End) (other : Settings) → other ≡ theirs → CanJoin mine theirs e → IsHearing wide theirs mine WantsOpen e.session.held (own_octets other) state.OpenSent [] []
+  begun_hears : (mine theirs : Settings) (e : End) (other : Settings) → other ≡ theirs → CanJoin mine theirs e → IsHearing wide theirs mine WantsOpen e.session.held (own_octets other) State.OpenSent [] []
   begun_hears mine theirs e other is c = record {
     waits = subst Waits (sym c.holds_none) nothing_waits;
     last = WantsKeepalive;

@@ -1,4 +1,5 @@
 -- Lemmas of two ends.
+pub mod Prelude
 pub mod Acts
 pub mod Feeds
 pub mod Plays

@@ -1,15 +1,6 @@
 -- A connection that is lost: each end leaves, and what it heard is a front of what was said.
-use Rattle.bgp_wire.proofs.Std.{◌≡◌, ℕ, Bool, true, false, not, List, [], refl, sym, ◌∙◌, AllByRecursion}
-use Rattle.bgp_open.specs.Prelude.{Settings}
-use Rattle.bgp_machine.specs.declared.event.Event.TheVariants as event
-use Rattle.bgp_machine.specs.declared.state.State.{State}
-use Rattle.bgp_machine.specs.declared.timer.Timers.{Timers}
-use Rattle.bgp_machine.specs.Prelude.{listens}
-use Rattle.bgp_machine.specs.declared.state.State.TheVariants as state
-use Rattle.bgp_update.specs.declared.path_info.PathInfo.{PathInfo}
-use Rattle.bgp_update.specs.declared.update.Update.{Update}
-use Rattle.bgp_session.specs.declared.side.Side.{Side}
-use Rattle.bgp_session.specs.Prelude.{IsFrontHeard, End, away, Note, Pair, pair, told}
+use Rattle.bgp_session.proofs.Prelude.{◌≡◌, ℕ, Bool, true, false, not, List, [], refl, sym, ◌∙◌, AllByRecursion, Settings, Event, State, Timers, listens}
+use Rattle.bgp_session.proofs.Prelude.{PathInfo, Update, Side, IsFrontHeard, End, away, Note, Pair, pair, told}
 use Rattle.bgp_session.proofs.Ways.{Goes}
 use Rattle.bgp_session.proofs.Ends.{IsEnd, IsSound, IsOut, quietly, idle_out, connect_out, active_out, in_state, gone_to, idle_in}
 
@@ -38,7 +29,7 @@ pub record Leaves (mine theirs : Settings) (p q : Pair) : Type 0 where
 
 -- where a connection stands for the end, it is told that it failed
 abbrev pub told_if : Bool → Side → Pair → Pair
-told_if true side p = told side p event.Failed
+told_if true side p = told side p Event.Failed
 told_if false side p = p
 
 module _ (mine theirs : Settings) (side : Side) (e other : End) (notes : List Note) (running : Timers) where
@@ -59,7 +50,7 @@ module _ (mine theirs : Settings) (side : Side) (e other : End) (notes : List No
   }
 
   -- it leaves
-  goes_away : (st : State) → Was st → (now : Timers) → Leaves mine theirs (before st) (pair (gone_to e state.Idle now) other notes)
+  goes_away : (st : State) → Was st → (now : Timers) → Leaves mine theirs (before st) (pair (gone_to e State.Idle now) other notes)
   goes_away st c now = record {
     away = record {
       end = record { settings = c.end.settings; context = refl; left = refl; none_gone = c.end.none_gone };
@@ -74,7 +65,7 @@ module _ (mine theirs : Settings) (side : Side) (e other : End) (notes : List No
   }
 
   -- it seeks another connection
-  seeks_on : Was state.OpenSent → (now : Timers) → Leaves mine theirs (before state.OpenSent) (pair (away (idle_in e state.Active now)) other notes)
+  seeks_on : Was State.OpenSent → (now : Timers) → Leaves mine theirs (before State.OpenSent) (pair (away (idle_in e State.Active now)) other notes)
   seeks_on c now = record {
     away = record {
       end = record { settings = c.end.settings; context = c.end.context; left = refl; none_gone = c.end.none_gone };
@@ -89,12 +80,12 @@ module _ (mine theirs : Settings) (side : Side) (e other : End) (notes : List No
   }
 
   leaves_at : (st : State) → Was st → Leaves mine theirs (before st) (told_if (listens st) side (before st))
-  leaves_at state.Idle c = stays_away state.Idle idle_out c
-  leaves_at state.Connect c = stays_away state.Connect connect_out c
-  leaves_at state.Active c = stays_away state.Active active_out c
-  leaves_at state.OpenSent c = seeks_on c _
-  leaves_at state.OpenConfirm c = quietly side (Leaves mine theirs (before state.OpenConfirm)) running state.OpenConfirm _ (goes_away state.OpenConfirm c _)
-  leaves_at state.Established c = quietly side (Leaves mine theirs (before state.Established)) running state.Established _ (goes_away state.Established c _)
+  leaves_at State.Idle c = stays_away State.Idle idle_out c
+  leaves_at State.Connect c = stays_away State.Connect connect_out c
+  leaves_at State.Active c = stays_away State.Active active_out c
+  leaves_at State.OpenSent c = seeks_on c _
+  leaves_at State.OpenConfirm c = quietly side (Leaves mine theirs (before State.OpenConfirm)) running State.OpenConfirm _ (goes_away State.OpenConfirm c _)
+  leaves_at State.Established c = quietly side (Leaves mine theirs (before State.Established)) running State.Established _ (goes_away State.Established c _)
 
 pub fails_away : (mine theirs : Settings) (side : Side) (p : Pair) → IsCut mine theirs p.this → Leaves mine theirs p (told_if (listens p.this.session.standing.state) side p)
 fails_away mine theirs side p c = leaves_at mine theirs side p.this p.other p.notes p.this.session.standing.running p.this.session.standing.state c
@@ -120,22 +111,22 @@ both_away wide mine theirs allowed this other notes t o to_this to_other all = r
 -- an end that takes nothing holds nothing
 pub deaf_holds : (wide : Bool) (s t : Settings) (st : State) (held hand flight : List ℕ) (sender : State) (sent : List Update) (got : List (Update × PathInfo))
     → Goes wide s t st held hand flight sender sent got → listens st ≡ false → held ≡ []
-deaf_holds wide s t state.Idle held hand flight sender sent got g is = g.holds_none
-deaf_holds wide s t state.Connect held hand flight sender sent got g is = g.holds_none
-deaf_holds wide s t state.Active held hand flight sender sent got g is = g.holds_none
-deaf_holds wide s t state.OpenSent held hand flight sender sent got g is = absurd (let not : true ≡ false = is in cc)
-deaf_holds wide s t state.OpenConfirm held hand flight sender sent got g is = absurd (let not : true ≡ false = is in cc)
-deaf_holds wide s t state.Established held hand flight sender sent got g is = absurd (let not : true ≡ false = is in cc)
+deaf_holds wide s t State.Idle held hand flight sender sent got g is = g.holds_none
+deaf_holds wide s t State.Connect held hand flight sender sent got g is = g.holds_none
+deaf_holds wide s t State.Active held hand flight sender sent got g is = g.holds_none
+deaf_holds wide s t State.OpenSent held hand flight sender sent got g is = absurd (let not : true ≡ false = is in cc)
+deaf_holds wide s t State.OpenConfirm held hand flight sender sent got g is = absurd (let not : true ≡ false = is in cc)
+deaf_holds wide s t State.Established held hand flight sender sent got g is = absurd (let not : true ≡ false = is in cc)
 
 -- and what is in hand is no matter to it
 drops : (wide : Bool) (s t : Settings) (st : State) (held hand flight : List ℕ) (sender : State) (sent : List Update) (got : List (Update × PathInfo))
     → Goes wide s t st held hand flight sender sent got → not (listens st) ≡ true → Goes wide s t st held [] flight sender sent got
-drops wide s t state.Idle held hand flight sender sent got g is = g
-drops wide s t state.Connect held hand flight sender sent got g is = g
-drops wide s t state.Active held hand flight sender sent got g is = g
-drops wide s t state.OpenSent held hand flight sender sent got g is = absurd (let not : false ≡ true = is in cc)
-drops wide s t state.OpenConfirm held hand flight sender sent got g is = absurd (let not : false ≡ true = is in cc)
-drops wide s t state.Established held hand flight sender sent got g is = absurd (let not : false ≡ true = is in cc)
+drops wide s t State.Idle held hand flight sender sent got g is = g
+drops wide s t State.Connect held hand flight sender sent got g is = g
+drops wide s t State.Active held hand flight sender sent got g is = g
+drops wide s t State.OpenSent held hand flight sender sent got g is = absurd (let not : false ≡ true = is in cc)
+drops wide s t State.OpenConfirm held hand flight sender sent got g is = absurd (let not : false ≡ true = is in cc)
+drops wide s t State.Established held hand flight sender sent got g is = absurd (let not : false ≡ true = is in cc)
 
 pub drops_hand : (wide : Bool) (mine theirs : Settings) (allowed : Note → Type 0) (hand : List ℕ) (p : Pair) → IsSound wide mine theirs allowed hand p → p.this.left ≡ true
     → IsSound wide mine theirs allowed [] p

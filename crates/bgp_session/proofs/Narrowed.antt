@@ -1,11 +1,10 @@
 -- Each number of an UPDATE that is told to a speaker with AS numbers of two octets is within its field.
-use Rattle.bgp_wire.proofs.Std.{Bool, true, false, cond, List, [], ◌∷◌, map, arith, AllByRecursion}
+use Rattle.bgp_session.proofs.Prelude.{Bool, true, false, cond, List, [], ◌∷◌, map, arith, AllByRecursion, Update, narrow_number, narrow_segment}
+use Rattle.bgp_session.proofs.Prelude.{narrowed_update, HasUpdateRanges}
 use Rattle.bgp_numbers.specs.declared.TheConstants.{AS_TRANS}
 use Rattle.bgp_prefix.specs.declared.as_number.AsNumber.{AsNumber}
 use Rattle.bgp_attr.specs.declared.path.Segment.{Segment}
 use Rattle.bgp_attr.specs.Prelude.{as_number, is_above_two_octets, IsFourOctets, HasRanges}
-use Rattle.bgp_update.specs.declared.update.Update.{Update}
-use Rattle.bgp_update.specs.Prelude.{narrow_number, narrow_segment, narrowed_update, HasUpdateRanges}
 use Rattle.bgp_update.proofs.Widths.{Carries, told-all}
 
 -- ---- numbers and segments

@@ -1,22 +1,10 @@
 -- Octets that are fed keep what is kept of two ends.
-use Rattle.bgp_wire.proofs.Std.{◌≡◌, ℕ, Bool, true, List, [], ◌∷◌, ◌++◌, length, map, Option, Some, Ok, option_map, refl, sym, ap, subst, ◌∙◌, append_assoc, arith, inl, inr, AllByRecursion}
-use Rattle.std.proofs.lemmas.List.{length-append}
-use Rattle.bgp_frame.specs.Prelude.{Message, IsFrame, Waits, done_by, with_octet}
-use Rattle.bgp_frame.specs.declared.fault.HeadFault.{HeadFault}
-use Rattle.bgp_frame.proofs.Pulls.{nothing_waits}
-use Rattle.std.specs.Prelude.{Result}
-use Rattle.bgp_open.specs.Prelude.{Settings}
-use Rattle.bgp_machine.specs.declared.action.Action.{Action}
-use Rattle.bgp_machine.specs.declared.state.State.{State}
-use Rattle.bgp_machine.specs.declared.timer.Timers.{Timers}
-use Rattle.bgp_machine.specs.Prelude.{Done, settled, by_octet, by_octets, Machine, holding, hearer, after_step, listens, Step, hears}
-use Rattle.bgp_machine.specs.declared.state.State.TheVariants as state
+use Rattle.bgp_session.proofs.Prelude.{◌≡◌, ℕ, Bool, true, List, [], ◌∷◌, ◌++◌, length, map, Option, Some, Ok, option_map, refl, sym, ap, subst, ◌∙◌}
+use Rattle.bgp_session.proofs.Prelude.{append_assoc, arith, inl, inr, AllByRecursion, length-append, Message, IsFrame, Waits, done_by, with_octet, HeadFault}
+use Rattle.bgp_session.proofs.Prelude.{nothing_waits, Result, Settings, Action, State, Timers, Done, settled, by_octet, by_octets, Machine, holding, hearer}
+use Rattle.bgp_session.proofs.Prelude.{after_step, listens, Step, hears, is_hearer, Update, Side, with_machine, heard, End, Note, Pair, pair, all_acted, fed}
 use Rattle.bgp_frame.proofs.Hearings as hearings
 use Rattle.bgp_frame.proofs.Contents.{content_of-frame}
-use Rattle.bgp_machine.proofs.Cuttings.{is_hearer}
-use Rattle.bgp_update.specs.declared.update.Update.{Update}
-use Rattle.bgp_session.specs.declared.side.Side.{Side}
-use Rattle.bgp_session.specs.Prelude.{with_machine, heard, End, Note, Pair, pair, all_acted, fed}
 use Rattle.bgp_session.proofs.Acts.{all_keeps, all_moves, acted_both}
 use Rattle.bgp_session.proofs.Facts.{spelled_frame}
 use Rattle.bgp_session.proofs.Feeds.{octets_settings}
@@ -174,15 +162,15 @@ module _ (wide : Bool) (mine theirs : Settings) (allowed : Note → Type 0) (sid
       }
 
   keeps_at : (st : State) → Was st → KeepsAt st
-  keeps_at state.Idle was = out_keeps state.Idle idle_out was
-  keeps_at state.Connect was = out_keeps state.Connect connect_out was
-  keeps_at state.Active was = out_keeps state.Active active_out was
-  keeps_at state.OpenSent was =
-      up_keeps state.OpenSent WantsOpen refl (λ h is. is) (sent_hears wide mine theirs allowed side know e other notes running (octet ∷ hand) hand) was was.to_this
-  keeps_at state.OpenConfirm was =
-      up_keeps state.OpenConfirm WantsKeepalive refl (λ h is. is) (confirm_hears wide mine theirs allowed side know e other notes running (octet ∷ hand) hand) was was.to_this
-  keeps_at state.Established was =
-      up_keeps state.Established Runs refl (λ h is. is) (established_hears wide mine theirs allowed side know e other notes running (octet ∷ hand) hand) was was.to_this
+  keeps_at State.Idle was = out_keeps State.Idle idle_out was
+  keeps_at State.Connect was = out_keeps State.Connect connect_out was
+  keeps_at State.Active was = out_keeps State.Active active_out was
+  keeps_at State.OpenSent was =
+      up_keeps State.OpenSent WantsOpen refl (λ h is. is) (sent_hears wide mine theirs allowed side know e other notes running (octet ∷ hand) hand) was was.to_this
+  keeps_at State.OpenConfirm was =
+      up_keeps State.OpenConfirm WantsKeepalive refl (λ h is. is) (confirm_hears wide mine theirs allowed side know e other notes running (octet ∷ hand) hand) was was.to_this
+  keeps_at State.Established was =
+      up_keeps State.Established Runs refl (λ h is. is) (established_hears wide mine theirs allowed side know e other notes running (octet ∷ hand) hand) was was.to_this
 
 -- ---- octets
 

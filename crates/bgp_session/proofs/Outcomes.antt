@@ -1,24 +1,10 @@
 -- What comes of all moves: the laws are read off what is kept.
-use Rattle.bgp_wire.proofs.Std.{◌≡◌, ℕ, Bool, true, false, not, List, [], ◌∷◌, ◌++◌, map, Option, None, Some, Ok, refl, sym, ap, ◌∙◌, inl, inr, AllByRecursion, Contains}
-use Rattle.std.specs.List.{All}
-use Rattle.std.proofs.lemmas.List.{append-nil}
+use Rattle.bgp_session.proofs.Prelude.{◌≡◌, ℕ, Bool, true, false, not, List, [], ◌∷◌, ◌++◌, map, Option, None, Some, Ok, refl, sym, ap, ◌∙◌, inl, inr}
+use Rattle.bgp_session.proofs.Prelude.{AllByRecursion, Contains, All, append-nil, Waits, Context, agreement, Settings, own_of, both_agree, State, listens}
+use Rattle.bgp_session.proofs.Prelude.{Timer, PathInfo, Update, Move, Round, Side, A, B, CanBeSet, HaveSentRanges, world_behind, context_at, BothAgree}
+use Rattle.bgp_session.proofs.Prelude.{NoteHasReason, RoundHasReasons, both_wide, heard, HearsFronts, HeardAll, Note, World, begins, end_of, round_of}
+use Rattle.bgp_session.proofs.Prelude.{with_round, rounds_of}
 use Rattle.std.proofs.lemmas.List.Elements.{All-contains_itself, All-from_recursion, recursion_from_All}
-use Rattle.bgp_frame.specs.Prelude.{Waits}
-use Rattle.bgp_open.specs.declared.context.Context.{Context}
-use Rattle.bgp_open.specs.Prelude.{agreement, Settings, own_of}
-use Rattle.bgp_open.proofs.Agreements.{both_agree}
-use Rattle.bgp_machine.specs.declared.state.State.{State}
-use Rattle.bgp_machine.specs.Prelude.{listens}
-use Rattle.bgp_machine.specs.declared.state.State.TheVariants as state
-use Rattle.bgp_machine.specs.declared.timer.Timer.TheVariants as timer
-use Rattle.bgp_update.specs.declared.path_info.PathInfo.{PathInfo}
-use Rattle.bgp_update.specs.declared.update.Update.{Update}
-use Rattle.bgp_session.specs.declared.moves.Move.{Move}
-use Rattle.bgp_session.specs.declared.report.Round.{Round}
-use Rattle.bgp_session.specs.declared.side.Side.{Side}
-use Rattle.bgp_session.specs.declared.side.Side.TheVariants.{A, B}
-use Rattle.bgp_session.specs.Prelude.{CanBeSet, HaveSentRanges, world_behind, context_at, BothAgree, NoteHasReason, RoundHasReasons, both_wide, heard, HearsFronts, HeardAll, Note, World, begins, end_of, round_of, with_round, rounds_of}
-use Rattle.bgp_session.specs.declared.moves.Move.TheVariants as move
 use Rattle.bgp_session.proofs.Agreements.{agreed_width, wide_swaps, refused_for}
 use Rattle.bgp_session.proofs.Begun.{begun_behind}
 use Rattle.bgp_session.proofs.Ends.{HasContext}
@@ -48,16 +34,16 @@ module _ (a b : Settings) (moves : List Move) (answers : List Bool) (can_a : Can
   May one = Permits (both_wide a b) a b allowed know one
 
   may : (one : Move) → Contains moves one → May one
-  may (move.Start side) is = tt
-  may (move.Stop side) is = inr (inr (inr (record { code_is = refl; subcode_is = refl; stops = is })))
-  may move.Join is = tt
-  may (move.Refuse side) is = tt
-  may (move.Deliver side k) is = tt
-  may move.Lose is = tt
-  may (move.Expire side timer.Hold) is = inr (inr (inl (record { code_is = refl; subcode_is = refl; expires = is })))
-  may (move.Expire side timer.Retry) is = tt
-  may (move.Expire side timer.Keepalive) is = tt
-  may (move.Send side u) is = tt
+  may (Move.Start side) is = tt
+  may (Move.Stop side) is = inr (inr (inr (record { code_is = refl; subcode_is = refl; stops = is })))
+  may Move.Join is = tt
+  may (Move.Refuse side) is = tt
+  may (Move.Deliver side k) is = tt
+  may Move.Lose is = tt
+  may (Move.Expire side Timer.Hold) is = inr (inr (inl (record { code_is = refl; subcode_is = refl; expires = is })))
+  may (Move.Expire side Timer.Retry) is = tt
+  may (Move.Expire side Timer.Keepalive) is = tt
+  may (Move.Send side u) is = tt
 
   all_may : (later : List Move) → AllByRecursion (Contains moves) later → AllByRecursion May later
   all_may [] are = tt
@@ -75,12 +61,12 @@ module _ (a b : Settings) (moves : List Move) (answers : List Bool) (can_a : Can
   -- ---- both agree
 
   agreed_by : (mine theirs : Settings) (st : State) (o : Option Context) (ctx : Context) → HasContext mine theirs st o → o ≡ Some ctx → agreement mine (own_of theirs) ≡ Ok ctx
-  agreed_by mine theirs state.OpenConfirm o ctx has is = let same : Some has.agreed ≡ Some ctx = sym has.is ∙ is in let one : has.agreed ≡ ctx = cc in has.both ∙ ap (λ (c : Context). Ok c) one
-  agreed_by mine theirs state.Established o ctx has is = let same : Some has.agreed ≡ Some ctx = sym has.is ∙ is in let one : has.agreed ≡ ctx = cc in has.both ∙ ap (λ (c : Context). Ok c) one
-  agreed_by mine theirs state.Idle o ctx has is = absurd (let not : None ≡ Some ctx = sym has ∙ is in cc)
-  agreed_by mine theirs state.Connect o ctx has is = absurd (let not : None ≡ Some ctx = sym has ∙ is in cc)
-  agreed_by mine theirs state.Active o ctx has is = absurd (let not : None ≡ Some ctx = sym has ∙ is in cc)
-  agreed_by mine theirs state.OpenSent o ctx has is = absurd (let not : None ≡ Some ctx = sym has ∙ is in cc)
+  agreed_by mine theirs State.OpenConfirm o ctx has is = let same : Some has.agreed ≡ Some ctx = sym has.is ∙ is in let one : has.agreed ≡ ctx = cc in has.both ∙ ap (λ (c : Context). Ok c) one
+  agreed_by mine theirs State.Established o ctx has is = let same : Some has.agreed ≡ Some ctx = sym has.is ∙ is in let one : has.agreed ≡ ctx = cc in has.both ∙ ap (λ (c : Context). Ok c) one
+  agreed_by mine theirs State.Idle o ctx has is = absurd (let not : None ≡ Some ctx = sym has ∙ is in cc)
+  agreed_by mine theirs State.Connect o ctx has is = absurd (let not : None ≡ Some ctx = sym has ∙ is in cc)
+  agreed_by mine theirs State.Active o ctx has is = absurd (let not : None ≡ Some ctx = sym has ∙ is in cc)
+  agreed_by mine theirs State.OpenSent o ctx has is = absurd (let not : None ≡ Some ctx = sym has ∙ is in cc)
 
   pub agrees : BothAgree a b world
   agrees =
@@ -125,12 +111,12 @@ module _ (a b : Settings) (moves : List Move) (answers : List Bool) (can_a : Can
 
   goes_all : (s t : Settings) → CanBeSet s → (st : State) (held flight : List ℕ) (sender : State) (sent : List Update) (got : List (Update × PathInfo)) (left : Bool) → left ≡ not (listens st) → left ≡ false
       → flight ≡ [] → Goes (both_wide a b) s t st held [] flight sender sent got → got ≡ map (heard (both_wide a b)) sent
-  goes_all s t can state.OpenSent held flight sender sent got left is stays none g = hearing_all s t can WantsOpen held flight sender sent got none g
-  goes_all s t can state.OpenConfirm held flight sender sent got left is stays none g = hearing_all s t can WantsKeepalive held flight sender sent got none g
-  goes_all s t can state.Established held flight sender sent got left is stays none g = hearing_all s t can Runs held flight sender sent got none g
-  goes_all s t can state.Idle held flight sender sent got left is stays none g = absurd (let not : true ≡ false = sym is ∙ stays in cc)
-  goes_all s t can state.Connect held flight sender sent got left is stays none g = absurd (let not : true ≡ false = sym is ∙ stays in cc)
-  goes_all s t can state.Active held flight sender sent got left is stays none g = absurd (let not : true ≡ false = sym is ∙ stays in cc)
+  goes_all s t can State.OpenSent held flight sender sent got left is stays none g = hearing_all s t can WantsOpen held flight sender sent got none g
+  goes_all s t can State.OpenConfirm held flight sender sent got left is stays none g = hearing_all s t can WantsKeepalive held flight sender sent got none g
+  goes_all s t can State.Established held flight sender sent got left is stays none g = hearing_all s t can Runs held flight sender sent got none g
+  goes_all s t can State.Idle held flight sender sent got left is stays none g = absurd (let not : true ≡ false = sym is ∙ stays in cc)
+  goes_all s t can State.Connect held flight sender sent got left is stays none g = absurd (let not : true ≡ false = sym is ∙ stays in cc)
+  goes_all s t can State.Active held flight sender sent got left is stays none g = absurd (let not : true ≡ false = sym is ∙ stays in cc)
 
   last_round : (w : World) → w.begun ≡ true → rounds_of w ≡ w.over ++ round_of w ∷ []
   last_round w is = ap (λ (begun : Bool). with_round begun w.over (round_of w)) is

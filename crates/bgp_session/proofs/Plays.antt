@@ -1,12 +1,14 @@
 -- How turns over a wire are put together.
-use Rattle.bgp_wire.proofs.Std.{◌≡◌, ℕ, zero, suc, ◌+◌, ◌<◌, ◌≤◌, Bool, true, false, List, [], ◌∷◌, ◌++◌, length, map, take, drop, get_or, if◌then◌else◌, ◌==◌, refl, sym, ap, ap₂, Option, None, Some, Result, subst, ◌∙◌, append_assoc, arith, take-suc}
-use Rattle.std.specs.Result.{OnOk}
-use Rattle.std.proofs.lemmas.List.{append-nil, length-drop, length-take}
+use Rattle.bgp_session.proofs.Prelude.{◌≡◌, ℕ, zero, suc, ◌+◌, ◌<◌, ◌≤◌, Bool, true, false, List, [], ◌∷◌, ◌++◌, length, map, take, drop, get_or}
+use Rattle.bgp_session.proofs.Prelude.{if◌then◌else◌, ◌==◌, refl, sym, ap, ap₂, Option, None, Some, Result, subst, ◌∙◌, append_assoc, arith, take-suc, OnOk}
+use Rattle.bgp_session.proofs.Prelude.{append-nil, length-drop, length-take, Move, Side, Wired, Gives, Observes, PlaysOn, Plays, Delivers, passed_seen, Sight}
+use Rattle.bgp_session.proofs.Prelude.{Begun, observed, failed_after, failed_behind, Call, Joined, Handed, Cut, Grows, answers_in, Trace, trace, World}
+use Rattle.bgp_session.proofs.Prelude.{end_of, stands, feeds_seen, lost_seen, Turn, Asks, Shows, calls_in, sights_in, Ran, ran, behind, shown, asked}
+use Rattle.bgp_session.proofs.Prelude.{answer_of, later_of, joins, joins_seen, joined_if, delivers_on, delivered, drawn, delivers, moved, cut_behind, cut_if}
+use Rattle.bgp_session.proofs.Prelude.{played, all_moved}
 use Rattle.std.proofs.Math.Dec.{eqb-suc-zero}
 use Rattle.bgp_session.proofs.Resting.{on_ok_both}
-use Rattle.bgp_session.specs.declared.moves.Move.{Move}
-use Rattle.bgp_session.specs.declared.side.Side.{Side}
-use Rattle.bgp_session.specs.Prelude.{Wired, Gives, Observes, PlaysOn, Plays, Delivers, passed_seen, Passes, Sight, Begun, observed, failed_after, failed_behind, Call, Joined, Handed, Cut, Grows, answers_in, Trace, trace, World, end_of, stands, feeds_seen, lost_seen, Turn, Asks, Shows, calls_in, sights_in, Ran, ran, behind, shown, asked, answer_of, later_of, joins, joins_seen, joined_if, delivers_on, delivered, drawn, delivers, moved, cut_behind, cut_if, played, all_moved}
+use Rattle.bgp_session.specs.Prelude.{Passes}
 
 abbrev pub wired : {S : Type 0} → Bool → (S → Sight → S) → List Bool → List Bool → Trace S → Trace S → Wired S
 wired honest after old new trace_old trace_new = record { honest = honest; after = after; old = old; new = new; trace_old = trace_old; trace_new = trace_new }
@@ -99,21 +101,6 @@ module _ {S : Type 0} (honest : Bool) (after : S → Sight → S) where
     observes_both c d first second =
         second ∙ ap (λ (s : S). observed after s (sights_in d)) first ∙ sym (observed_both after trace_old.seen (sights_in c) (sights_in d))
         ∙ ap (observed after trace_old.seen) (sym (sights_both c d))
-
-    -- a part of a turn was played, and then the rest of it
-    pub plays_both : (turn between rest : List Bool → Ran) → PlaysOn (wired honest after old mid trace_old trace_mid) turn between
-        → PlaysOn (wired honest after mid new trace_mid trace_new) between rest → PlaysOn (wired honest after old new trace_old trace_new) turn rest
-    plays_both turn between rest first second = record {
-      given = first.given ++ second.given;
-      turns = first.turns ++ second.turns;
-      answers = gives_both first.given second.given first.turns second.turns first.answers second.answers;
-      observes = λ is. observes_both first.turns second.turns (first.observes is) (second.observes is);
-      goes_on = λ is later.
-          ap turn (append_assoc first.given second.given later)
-          ∙ first.goes_on is (second.given ++ later)
-          ∙ ap (behind first.turns) (second.goes_on is later)
-          ∙ behind_both first.turns second.turns (rest later);
-    }
 
   -- a turn that asks nothing of the wire, and shows nothing
   pub plays_quietly : (answers : List Bool) (at : Trace S) (turn rest : List Bool → Ran) → ((later : List Bool) → turn later ≡ rest later)

@@ -1,10 +1,7 @@
 -- Each number of what was sent is within its field, move by move.
-use Rattle.bgp_wire.proofs.Std.{◌≡◌, ℕ, suc, ◌+◌, ◌<◌, Bool, true, List, [], ◌∷◌, ◌++◌, ◌≤◌, length, take, get_or, Result, Ok, Err, sym, ap, subst, ◌∙◌, append_assoc, arith, take-suc}
-use Rattle.std.specs.Result.{IfOk}
-use Rattle.std.proofs.lemmas.List.{append-nil, take_all}
-use Rattle.bgp_session.specs.declared.moves.Move.{Move}
-use Rattle.bgp_session.specs.declared.report.Report.{Report}
-use Rattle.bgp_session.specs.Prelude.{SendsRanges, AllSendRanges, Plays, HaveSoFar, report_of, Sight, Trace, World, Ran, moved, played, all_moved}
+use Rattle.bgp_session.proofs.Prelude.{◌≡◌, ℕ, suc, ◌+◌, ◌<◌, Bool, true, List, [], ◌∷◌, ◌++◌, ◌≤◌, length, take, get_or, Result, Ok, Err, sym, ap, subst}
+use Rattle.bgp_session.proofs.Prelude.{◌∙◌, append_assoc, arith, take-suc, IfOk, append-nil, take_all, Move, Report, SendsRanges, AllSendRanges, Plays}
+use Rattle.bgp_session.proofs.Prelude.{HaveSoFar, report_of, Sight, Trace, World, Ran, moved, played, all_moved}
 use Rattle.bgp_session.proofs.Plays.{wired}
 
 sends_last : (moves : List Move) (one : Move) (w : World) (answers : List Bool) → AllSendRanges moves w answers → SendsRanges (all_moved moves w answers).world one

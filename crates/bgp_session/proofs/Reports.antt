@@ -1,13 +1,6 @@
 -- What is reported of a schedule keeps to the laws of its world.
-use Rattle.bgp_wire.proofs.Std.{◌≡◌, Bool, List, [], ◌++◌, Result, Ok, Err, sym, ap, subst, ◌∙◌}
-use Rattle.std.specs.Result.{IfOk}
-use Rattle.std.specs.List.{All}
-use Rattle.std.proofs.lemmas.List.{append-nil}
-use Rattle.bgp_open.specs.Prelude.{Settings}
-use Rattle.bgp_session.specs.declared.moves.Move.{Move}
-use Rattle.bgp_session.specs.declared.report.Report.{Report}
-use Rattle.bgp_session.specs.declared.report.Round.{Round}
-use Rattle.bgp_session.specs.Prelude.{CanBeSet, HaveSentRanges, world_behind, RoundHasReasons, both_wide, HearsFronts, IsReported, Ran, rounds_of}
+use Rattle.bgp_session.proofs.Prelude.{◌≡◌, Bool, List, [], ◌++◌, Result, Ok, Err, sym, ap, subst, ◌∙◌, IfOk, All, append-nil, Settings, Move, Report, Round}
+use Rattle.bgp_session.proofs.Prelude.{CanBeSet, HaveSentRanges, world_behind, RoundHasReasons, both_wide, HearsFronts, IsReported, Ran, rounds_of}
 use Rattle.bgp_session.proofs.Outcomes.{reasons, fronts}
 
 module _ (a b : Settings) (moves : List Move) (report : Report) (can_a : CanBeSet a) (can_b : CanBeSet b) (ranges : HaveSentRanges a b moves report.answers)

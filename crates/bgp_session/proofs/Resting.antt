@@ -1,43 +1,26 @@
 -- Both sessions have nothing left to do behind each move.
-use Rattle.std.proofs.Common.{◌≡◌, ℕ, List, [], ◌∷◌, Option, None, Some, Result, Ok, Err, refl, sym, ap, ap₂, subst, ◌∙◌}
-use Rattle.std.specs.Result.{IfOk, OnOk}
-use Rattle.bgp_machine.specs.declared.action.Action.{Action}
-use Rattle.bgp_machine.specs.declared.event.Event.{Event}
-use Rattle.bgp_machine.specs.declared.send_fault.SendFault.{SendFault}
-use Rattle.bgp_machine.specs.Prelude.{IsAtRest, by_octets, after_event, happens}
-use Rattle.bgp_machine.specs.declared.action.Action.TheVariants as action
-use Rattle.bgp_machine.specs.declared.event.Event.TheVariants as event
-use Rattle.bgp_machine.proofs.Cuttings.{event_rests}
-use Rattle.bgp_update.specs.declared.update.Update.{Update}
-use Rattle.bgp_session.specs.declared.side.Side.{Side}
-use Rattle.bgp_session.specs.declared.side.Side.TheVariants.{A, B}
-use Rattle.bgp_session.specs.Prelude.{End, with_session, before_event, Pair, pair, acted, all_acted, told, fed, Rests, Sends, IsTried, World, seen_by, with_pair, tells, new_round}
+use Rattle.bgp_session.proofs.Prelude.{◌≡◌, ℕ, List, [], ◌∷◌, Option, None, Some, Result, Ok, Err, refl, sym, ap, ap₂, subst, ◌∙◌, IfOk, OnOk, Action, Event}
+use Rattle.bgp_session.proofs.Prelude.{SendFault, IsAtRest, by_octets, after_event, happens, event_rests, Update, Side, A, B, End, with_session, before_event}
+use Rattle.bgp_session.proofs.Prelude.{Pair, pair, acted, all_acted, told, fed, Rests, Sends, IsTried, World, with_pair}
 use Rattle.bgp_session.proofs.Acts.{all_keeps}
 
 module _ (side : Side) where
   -- the other session stays as it is
   acted_spares : (p : Pair) (a : Action) → (acted side p a).other.session ≡ p.other.session
-  acted_spares p action.Connect = refl
-  acted_spares p action.Close = refl
-  acted_spares p action.SendOpen = refl
-  acted_spares p action.SendKeepalive = refl
-  acted_spares p (action.SendNotification why) = refl
-  acted_spares p (action.Arm timer seconds) = refl
-  acted_spares p (action.Disarm timer) = refl
-  acted_spares p (action.Announce u info) = refl
-  acted_spares p (action.Withdraw routes) = refl
-  acted_spares p action.Flush = refl
+  acted_spares p Action.Connect = refl
+  acted_spares p Action.Close = refl
+  acted_spares p Action.SendOpen = refl
+  acted_spares p Action.SendKeepalive = refl
+  acted_spares p (Action.SendNotification why) = refl
+  acted_spares p (Action.Arm timer seconds) = refl
+  acted_spares p (Action.Disarm timer) = refl
+  acted_spares p (Action.Announce u info) = refl
+  acted_spares p (Action.Withdraw routes) = refl
+  acted_spares p Action.Flush = refl
 
   pub all_spare : (p : Pair) (actions : List Action) → (all_acted side p actions).other.session ≡ p.other.session
   all_spare p [] = refl
   all_spare p (a ∷ later) = all_spare (acted side p a) later ∙ acted_spares p a
-
-  before_keeps : (e : End) (event : Event) → (before_event e event).session ≡ e.session
-  before_keeps e event.Start = refl
-  before_keeps e event.Stop = refl
-  before_keeps e event.Connected = refl
-  before_keeps e event.Failed = refl
-  before_keeps e (event.Expired timer) = refl
 
   told_rests : (p : Pair) (event : Event) → IsAtRest p.this.session → IsAtRest (told side p event).this.session
   told_rests p event rest =
@@ -51,25 +34,11 @@ module _ (side : Side) where
   pub fed_spares : (p : Pair) (octets : List ℕ) → (fed side p octets).other.session ≡ p.other.session
   fed_spares p octets = all_spare (pair (with_session p.this (by_octets p.this.session octets).session) p.other p.notes) (by_octets p.this.session octets).actions
 
-pub tells_rests : (side : Side) (event : Event) (w : World) → Rests w → Rests (tells side event w)
-tells_rests A event w rests =
-    (told_rests A (seen_by A w) event rests.0, subst IsAtRest (sym (told_spares A (seen_by A w) event)) rests.1)
-tells_rests B event w rests =
-    (subst IsAtRest (sym (told_spares B (seen_by B w) event)) rests.0, told_rests B (seen_by B w) event rests.1)
-
--- a round that begins leaves the sessions as they are
-pub round_rests : (w : World) → Rests w → Rests (new_round w)
-round_rests w rests = rests
-
 -- ---- what the code has of it
 
 pub on_ok : {T E P Q : Type 0} → (P → Q) → (r : Result T E) → OnOk r P → OnOk r Q
 on_ok f (Ok v) p = f p
 on_ok f (Err e) p = p
-
--- a world was made of this one: where the call succeeded
-pub rests_then : {T E : Type 0} (made : World → World) → ((w : World) → Rests w → Rests (made w)) → (r : Result T E) (w v : World) → OnOk r (v ≡ made w) → Rests w → OnOk r (Rests v)
-rests_then made keeps r w v is rests = on_ok (λ same. subst Rests (sym same) (keeps w rests)) r is
 
 module _ (side : Side) (p q : Pair) where
   abbrev BothRest : Pair → Type 0

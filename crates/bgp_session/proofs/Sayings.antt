@@ -1,17 +1,8 @@
 -- What one end says to the other, in which order it comes, and how it is spelled.
-use Rattle.std.proofs.Common.{◌≡◌, ℕ, Bool, false, List, [], ◌∷◌, ◌++◌, Option, None, Some, Ok}
-use Rattle.bgp_frame.specs.declared.kind.Kind.TheVariants as kind
-use Rattle.bgp_frame.specs.declared.notification.Notification.{Notification}
-use Rattle.bgp_frame.specs.Prelude.{Message, octets_of}
+use Rattle.bgp_session.proofs.Prelude.{◌≡◌, ℕ, Bool, false, List, [], ◌∷◌, ◌++◌, Option, None, Some, Ok, Kind, Notification, Message, octets_of, Context}
+use Rattle.bgp_session.proofs.Prelude.{agreement, Settings, own_of, State, why_unsent, told_in, is_told_too_long, Update, HasUpdateRanges}
 use Rattle.bgp_msg.specs.Written as written
-use Rattle.bgp_open.specs.declared.context.Context.{Context}
-use Rattle.bgp_open.specs.Prelude.{agreement, Settings, own_of}
 use Rattle.bgp_open.specs.Written as opens
-use Rattle.bgp_machine.specs.declared.state.State.{State}
-use Rattle.bgp_machine.specs.Prelude.{why_unsent, told_in, is_told_too_long}
-use Rattle.bgp_machine.specs.declared.state.State.TheVariants as state
-use Rattle.bgp_update.specs.declared.update.Update.{Update}
-use Rattle.bgp_update.specs.Prelude.{HasUpdateRanges}
 use Rattle.bgp_update.specs.Written as updates
 
 -- ---- messages
@@ -34,10 +25,10 @@ update_body ctx u = updates.written_body ctx (told_in ctx u)
 
 -- what a speaker of these settings says
 abbrev pub message_of : Settings → Said → Message
-message_of s SaidOpen = record { kind = kind.Open; body = open_body s }
-message_of s SaidKeepalive = record { kind = kind.Keepalive; body = [] }
-message_of s (SaidNotification why) = record { kind = kind.Notification; body = notification_body why }
-message_of s (SaidUpdate ctx u) = record { kind = kind.Update; body = update_body ctx u }
+message_of s SaidOpen = record { kind = Kind.Open; body = open_body s }
+message_of s SaidKeepalive = record { kind = Kind.Keepalive; body = [] }
+message_of s (SaidNotification why) = record { kind = Kind.Notification; body = notification_body why }
+message_of s (SaidUpdate ctx u) = record { kind = Kind.Update; body = update_body ctx u }
 
 unfoldable pub spelling : Settings → Said → List ℕ
 spelling s m = octets_of (message_of s m)
@@ -96,7 +87,7 @@ Follows (Some from) (m ∷ later) last = Follows (next from m) later last
 
 -- what a session has said when it is in this state: an OPEN, and behind the other's a KEEPALIVE
 abbrev pub EndsAt : State → Stage → Type 0
-EndsAt state.OpenSent last = last ≡ WantsKeepalive
-EndsAt state.OpenConfirm last = last ≡ Runs
-EndsAt state.Established last = last ≡ Runs
+EndsAt State.OpenSent last = last ≡ WantsKeepalive
+EndsAt State.OpenConfirm last = last ≡ Runs
+EndsAt State.Established last = last ≡ Runs
 EndsAt _ last = Unit {0}

@@ -1,18 +1,12 @@
 -- What a pull shows is what the octets that it takes show one by one.
-use Rattle.bgp_wire.proofs.Std.{◌≡◌, ℕ, ◌≤◌, Bool, true, false, List, [], ◌∷◌, ◌++◌, length, map, take, drop, Option, None, Some, option_map, Result, Bor, refl, sym, ap, ap₂, subst, ◌∙◌, append_assoc, inl, inr, option_copied, take-append-drop}
-use Rattle.std.proofs.lemmas.List.{append-nil}
-use Rattle.arrayvec.specs.ArrayVec.{ArrayVec}
-use Rattle.bgp_wire.specs.Prelude.{AreOctets}
-use Rattle.bgp_open.specs.declared.context.Context.{Context}
-use Rattle.bgp_frame.specs.declared.fault.HeadFault.{HeadFault}
-use Rattle.bgp_frame.specs.Prelude.{Message, Waits, IsHeld, Takes, CountsFed, Judges, behind_feed, with_octet}
-use Rattle.bgp_machine.specs.declared.action.Action.{Action}
-use Rattle.bgp_machine.specs.declared.state.State.{State}
-use Rattle.bgp_machine.specs.Prelude.{IsAtRest, Done, settled, by_octet, by_octets, IsPulled, IsReady, Machine, holding, hearer, listens, hears}
-use Rattle.bgp_machine.proofs.Cuttings.{is_hearer, pulls_as_fed}
-use Rattle.bgp_frame.proofs.Hearings.{IsHeld-fed, all_held, content_is, counts_within, empty_waits, front_by_octets, idles, judged_empty, none_left, none_more, pull_waits, rests, settled_by, took_none, waits_at, waits_or_stops}
-use Rattle.bgp_session.specs.declared.side.Side.{Side}
-use Rattle.bgp_session.specs.Prelude.{with_machine, left_seen, Pair, all_acted, Sight, Came, Heard, observed, step_seen, settled_seen, came_if, octet_seen, octets_seen}
+use Rattle.bgp_session.proofs.Prelude.{◌≡◌, ℕ, ◌≤◌, Bool, true, false, List, [], ◌∷◌, ◌++◌, map, take, drop, Option, None, Some, option_map, Result}
+use Rattle.bgp_session.proofs.Prelude.{Bor, refl, sym, ap, ap₂, subst, ◌∙◌, append_assoc, inl, inr, option_copied, take-append-drop, append-nil, ArrayVec}
+use Rattle.bgp_session.proofs.Prelude.{AreOctets, Context, HeadFault, Message, Waits, IsHeld, Takes, CountsFed, Judges, behind_feed, with_octet, Action}
+use Rattle.bgp_session.proofs.Prelude.{State, Done, settled, by_octet, by_octets, IsPulled, IsReady, Machine, holding, hearer, listens, hears}
+use Rattle.bgp_session.proofs.Prelude.{is_hearer, pulls_as_fed, IsHeld-fed, all_held, content_is, empty_waits, front_by_octets, idles}
+use Rattle.bgp_session.proofs.Prelude.{judged_empty, none_left, none_more, pull_waits, rests, settled_by, took_none, waits_or_stops, Side}
+use Rattle.bgp_session.proofs.Prelude.{with_machine, left_seen, Pair, all_acted, Sight, Came, Heard, observed, step_seen, settled_seen, came_if, octet_seen}
+use Rattle.bgp_session.proofs.Prelude.{octets_seen}
 use Rattle.bgp_session.proofs.Acts.{all_keeps}
 use Rattle.bgp_session.proofs.Plays.{observed_both}
 
@@ -33,10 +27,6 @@ module _ (side : Side) where
   left_waiting x rest waits =
       ap (λ (l : List Sight). l ++ octets_seen side (settled x).session rest) (waits_unseen x waits)
       ∙ ap (λ (d : Done). octets_seen side d.session rest) (rests hearer is_hearer x waits)
-
-  -- a session at rest shows only what comes
-  pub left_resting : (x : Machine) (rest : List ℕ) → IsAtRest x → left_seen side x rest ≡ octets_seen side x rest
-  left_resting x rest rests = left_waiting x rest (waits_at hearer is_hearer x rests.nothing_to_do)
 
   -- octets that aren't taken show nothing
   module _ (x : Machine) (deaf : listens x.standing.state ≡ false) (waits : Waits x.held) where
@@ -120,11 +110,6 @@ module _ (side : Side) where
   unseen x piece false deaf waits counts = drops_unseen x deaf waits piece
 
 -- ---- what an observer has of a pull
-
--- no more octets are taken than there are
-pub pulled_within : (x : Machine) (piece : List ℕ) (n : ℕ) (found : Option (ArrayVec Action)) (y : Machine) → IsPulled x piece n found y → n ≤ length piece
-pulled_within x piece n None y p = counts_within (listens x.standing.state) x.held piece n (pulls_as_fed x piece n None y p).fed.0
-pulled_within x piece n (Some actions) y p = p.pulls.takes.within
 
 module _ {S : Type 0} (after : S → Sight → S) (s t : S) (side : Side) (x : Machine) (piece : List ℕ) (ready : IsReady x) (octets : AreOctets piece) where
   -- once these octets came

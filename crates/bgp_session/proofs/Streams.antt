@@ -1,8 +1,7 @@
 -- One octet more, of a row of messages: the first message is whole with it, or what is held still waits.
-use Rattle.bgp_wire.proofs.Std.{◌≡◌, ℕ, ◌+◌, ◌≤◌, ◌⊎◌, List, [], ◌∷◌, ◌++◌, length, take, drop, sym, ap, ◌∙◌, append_assoc, arith, inl, inr, take-append_seam, drop-append_seam, cases_lt}
-use Rattle.std.proofs.lemmas.List.{append-nil, length-append}
-use Rattle.bgp_frame.specs.Prelude.{Message, IsFrame, wanted, Waits}
-use Rattle.bgp_frame.proofs.FrameLemmas.{length-IsFrame, IsFrame-wanted, wanted_under, wanted-append}
+use Rattle.bgp_session.proofs.Prelude.{◌≡◌, ℕ, ◌+◌, ◌≤◌, ◌⊎◌, List, [], ◌∷◌, ◌++◌, length, take, drop, sym, ap, ◌∙◌, append_assoc, arith, inl, inr}
+use Rattle.bgp_session.proofs.Prelude.{take-append_seam, drop-append_seam, cases_lt, append-nil, length-append, Message, IsFrame, wanted, Waits}
+use Rattle.bgp_session.proofs.Prelude.{length-IsFrame, IsFrame-wanted, wanted_under, wanted-append}
 
 -- fronts of one length are one
 same_front : (a b x y : List ℕ) → a ++ x ≡ b ++ y → length a ≡ length b → (a ≡ b) × (x ≡ y)

@@ -1,15 +1,6 @@
 -- One way of a connection: what was said on it, what is in flight, and what was heard.
-use Rattle.bgp_wire.proofs.Std.{◌≡◌, ℕ, Bool, true, false, not, List, [], ◌∷◌, ◌++◌, map, Option, None, Some, refl, sym, ap, subst, ◌∙◌, append_assoc, AllByRecursion}
-use Rattle.std.proofs.lemmas.List.{append-nil}
-use Rattle.bgp_wire.proofs.Writes.{all_push}
-use Rattle.bgp_frame.specs.Prelude.{Waits}
-use Rattle.bgp_open.specs.Prelude.{Settings}
-use Rattle.bgp_machine.specs.declared.state.State.{State}
-use Rattle.bgp_machine.specs.Prelude.{listens}
-use Rattle.bgp_machine.specs.declared.state.State.TheVariants as state
-use Rattle.bgp_update.specs.declared.path_info.PathInfo.{PathInfo}
-use Rattle.bgp_update.specs.declared.update.Update.{Update}
-use Rattle.bgp_session.specs.Prelude.{heard, IsFrontHeard, flying}
+use Rattle.bgp_session.proofs.Prelude.{◌≡◌, ℕ, Bool, true, false, not, List, [], ◌∷◌, ◌++◌, map, Option, None, Some, refl, sym, ap, subst, ◌∙◌, append_assoc}
+use Rattle.bgp_session.proofs.Prelude.{AllByRecursion, append-nil, all_push, Waits, Settings, State, listens, PathInfo, Update, heard, IsFrontHeard, flying}
 use Rattle.bgp_session.proofs.Sayings.{Said, spelling, spellings, updates_of, updates_in, Fits, Stage, WantsOpen, WantsKeepalive, Runs, next, Follows, EndsAt}
 
 -- ---- what is kept
@@ -39,9 +30,9 @@ pub record IsDeaf (wide : Bool) (held flight : List ℕ) (sent : List Update) (g
 
 -- by the hearer's state. Octets can be in hand that were drawn from the flight and not yet fed
 abbrev pub Goes : Bool → Settings → Settings → State → List ℕ → List ℕ → List ℕ → State → List Update → List (Update × PathInfo) → Type 0
-Goes wide s t state.OpenSent held hand flight sender sent got = IsHearing wide s t WantsOpen held (hand ++ flight) sender sent got
-Goes wide s t state.OpenConfirm held hand flight sender sent got = IsHearing wide s t WantsKeepalive held (hand ++ flight) sender sent got
-Goes wide s t state.Established held hand flight sender sent got = IsHearing wide s t Runs held (hand ++ flight) sender sent got
+Goes wide s t State.OpenSent held hand flight sender sent got = IsHearing wide s t WantsOpen held (hand ++ flight) sender sent got
+Goes wide s t State.OpenConfirm held hand flight sender sent got = IsHearing wide s t WantsKeepalive held (hand ++ flight) sender sent got
+Goes wide s t State.Established held hand flight sender sent got = IsHearing wide s t Runs held (hand ++ flight) sender sent got
 Goes wide s t _ held hand flight sender sent got = IsDeaf wide held flight sent got
 
 -- a message may be said behind what was said in the old state, and then all is said of the new one
@@ -76,12 +67,12 @@ module _ (wide : Bool) (s t : Settings) where
 
   pub front_of : (hearer : State) (held hand flight : List ℕ) (sender : State) (sent : List Update) (got : List (Update × PathInfo))
       → Goes wide s t hearer held hand flight sender sent got → IsFrontHeard wide sent got
-  front_of state.OpenSent held hand flight sender sent got g = coming_front WantsOpen g.last (held ++ (hand ++ flight)) sent got g.coming
-  front_of state.OpenConfirm held hand flight sender sent got g = coming_front WantsKeepalive g.last (held ++ (hand ++ flight)) sent got g.coming
-  front_of state.Established held hand flight sender sent got g = coming_front Runs g.last (held ++ (hand ++ flight)) sent got g.coming
-  front_of state.Idle held hand flight sender sent got g = g.hears
-  front_of state.Connect held hand flight sender sent got g = g.hears
-  front_of state.Active held hand flight sender sent got g = g.hears
+  front_of State.OpenSent held hand flight sender sent got g = coming_front WantsOpen g.last (held ++ (hand ++ flight)) sent got g.coming
+  front_of State.OpenConfirm held hand flight sender sent got g = coming_front WantsKeepalive g.last (held ++ (hand ++ flight)) sent got g.coming
+  front_of State.Established held hand flight sender sent got g = coming_front Runs g.last (held ++ (hand ++ flight)) sent got g.coming
+  front_of State.Idle held hand flight sender sent got g = g.hears
+  front_of State.Connect held hand flight sender sent got g = g.hears
+  front_of State.Active held hand flight sender sent got g = g.hears
 
   -- ---- the sender goes to another state, and says nothing
 
@@ -91,12 +82,12 @@ module _ (wide : Bool) (s t : Settings) where
 
   pub sender_goes : (hearer : State) (held hand flight : List ℕ) (old new : State) (sent : List Update) (got : List (Update × PathInfo))
       → ((last : Stage) → EndsAt old last → EndsAt new last) → Goes wide s t hearer held hand flight old sent got → Goes wide s t hearer held hand flight new sent got
-  sender_goes state.OpenSent held hand flight old new sent got goes g = hearing_goes WantsOpen held (hand ++ flight) old new sent got goes g
-  sender_goes state.OpenConfirm held hand flight old new sent got goes g = hearing_goes WantsKeepalive held (hand ++ flight) old new sent got goes g
-  sender_goes state.Established held hand flight old new sent got goes g = hearing_goes Runs held (hand ++ flight) old new sent got goes g
-  sender_goes state.Idle held hand flight old new sent got goes g = g
-  sender_goes state.Connect held hand flight old new sent got goes g = g
-  sender_goes state.Active held hand flight old new sent got goes g = g
+  sender_goes State.OpenSent held hand flight old new sent got goes g = hearing_goes WantsOpen held (hand ++ flight) old new sent got goes g
+  sender_goes State.OpenConfirm held hand flight old new sent got goes g = hearing_goes WantsKeepalive held (hand ++ flight) old new sent got goes g
+  sender_goes State.Established held hand flight old new sent got goes g = hearing_goes Runs held (hand ++ flight) old new sent got goes g
+  sender_goes State.Idle held hand flight old new sent got goes g = g
+  sender_goes State.Connect held hand flight old new sent got goes g = g
+  sender_goes State.Active held hand flight old new sent got goes g = g
 
   -- ---- the sender says a message
 
@@ -150,9 +141,9 @@ module _ (wide : Bool) (s t : Settings) where
 
     pub sender_says : (hearer : State) (held hand flight : List ℕ) (left : Bool) → left ≡ not (listens hearer) → Goes wide s t hearer held hand flight old sent got
         → Goes wide s t hearer held hand (flying left flight octets) new sent_new got
-    sender_says state.OpenSent held hand flight left is g = hearing_flies WantsOpen held hand flight left is g
-    sender_says state.OpenConfirm held hand flight left is g = hearing_flies WantsKeepalive held hand flight left is g
-    sender_says state.Established held hand flight left is g = hearing_flies Runs held hand flight left is g
-    sender_says state.Idle held hand flight left is g = deaf_flies held flight left is g
-    sender_says state.Connect held hand flight left is g = deaf_flies held flight left is g
-    sender_says state.Active held hand flight left is g = deaf_flies held flight left is g
+    sender_says State.OpenSent held hand flight left is g = hearing_flies WantsOpen held hand flight left is g
+    sender_says State.OpenConfirm held hand flight left is g = hearing_flies WantsKeepalive held hand flight left is g
+    sender_says State.Established held hand flight left is g = hearing_flies Runs held hand flight left is g
+    sender_says State.Idle held hand flight left is g = deaf_flies held flight left is g
+    sender_says State.Connect held hand flight left is g = deaf_flies held flight left is g
+    sender_says State.Active held hand flight left is g = deaf_flies held flight left is g

@@ -1,24 +1,11 @@
 -- What is kept of two ends is kept by each move.
-use Rattle.bgp_wire.proofs.Std.{◌≡◌, ℕ, zero, suc, ◌≤◌, Bool, true, false, List, [], ◌∷◌, ◌++◌, length, take, drop, Option, None, Some, Ok, refl, sym, ap, subst, ◌∙◌, arith, if◌then◌else◌, AllByRecursion, drop-nil, take-append-drop}
-use Rattle.std.proofs.lemmas.List.{length-take, length-drop}
-use Rattle.bgp_wire.proofs.Writes.{all_push}
-use Rattle.bgp_open.specs.declared.context.Context.{Context}
-use Rattle.bgp_open.specs.Prelude.{agreement, Settings, own_of}
-use Rattle.bgp_machine.specs.declared.event.Event.{Event}
-use Rattle.bgp_machine.specs.declared.send_fault.SendFault.{SendFault}
-use Rattle.bgp_machine.specs.declared.state.State.{State}
-use Rattle.bgp_machine.specs.Prelude.{refusal_of, own_octets, listens}
-use Rattle.bgp_machine.specs.declared.event.Event.TheVariants as event
-use Rattle.bgp_machine.specs.declared.state.State.TheVariants as state
-use Rattle.bgp_update.specs.declared.path_info.PathInfo.{PathInfo}
-use Rattle.bgp_update.specs.declared.update.Update.{Update}
-use Rattle.bgp_update.specs.Prelude.{HasUpdateRanges}
-use Rattle.bgp_session.specs.declared.moves.Move.{Move}
-use Rattle.bgp_session.specs.declared.report.Round.{Round}
-use Rattle.bgp_session.specs.declared.side.Side.{Side}
-use Rattle.bgp_session.specs.declared.side.Side.TheVariants.{A, B}
-use Rattle.bgp_session.specs.Prelude.{IsFrontHeard, HearsFronts, HasRangesUnless, SendsRanges, AllSendRanges, End, with_flight, towards, Note, Pair, pair, told, sent, World, begins, end_of, seen_by, with_pair, tells, feeds, stands, tells_if, state_of, fails_up, emptied, lost_if, lost, seeks, round_of, with_round, rounds_of, new_round, ran, answer_of, later_of, can_join, joins, joined_if, delivers_on, delivered, drawn, delivers, sent_or, moved, all_moved}
-use Rattle.bgp_session.specs.declared.moves.Move.TheVariants as move
+use Rattle.bgp_session.proofs.Prelude.{◌≡◌, ℕ, zero, suc, ◌≤◌, Bool, true, false, List, [], ◌∷◌, ◌++◌, length, take, drop, Option, None, Some, Ok, refl, sym}
+use Rattle.bgp_session.proofs.Prelude.{ap, subst, ◌∙◌, arith, if◌then◌else◌, AllByRecursion, drop-nil, take-append-drop, length-take, length-drop, all_push}
+use Rattle.bgp_session.proofs.Prelude.{Context, agreement, Settings, own_of, Event, SendFault, State, refusal_of, own_octets, listens, PathInfo, Update}
+use Rattle.bgp_session.proofs.Prelude.{HasUpdateRanges, Move, Round, Side, A, B, IsFrontHeard, HearsFronts, HasRangesUnless, SendsRanges, AllSendRanges, End}
+use Rattle.bgp_session.proofs.Prelude.{with_flight, towards, Note, Pair, pair, told, sent, World, begins, end_of, seen_by, with_pair, tells, feeds, stands}
+use Rattle.bgp_session.proofs.Prelude.{tells_if, state_of, fails_up, emptied, lost_if, lost, seeks, round_of, with_round, rounds_of, new_round, ran}
+use Rattle.bgp_session.proofs.Prelude.{answer_of, later_of, can_join, joins, joined_if, delivers_on, delivered, drawn, delivers, sent_or, moved, all_moved}
 use Rattle.bgp_session.proofs.Sayings.{WantsOpen, WantsKeepalive, Runs}
 use Rattle.bgp_session.proofs.Ways.{IsHearing, Goes, front_of}
 use Rattle.bgp_session.proofs.Ends.{IsEnd, IsSound, turned}
@@ -44,12 +31,12 @@ both_seek false q s is = absurd (let not : false ≡ true = is in cc)
 -- what is drawn out of the flight is in hand
 draws : (wide : Bool) (s t : Settings) (st : State) (held flight : List ℕ) (k : ℕ) (sender : State) (sent_so : List Update) (got : List (Update × PathInfo))
     → Goes wide s t st held [] flight sender sent_so got → Goes wide s t st held (take k flight) (drop k flight) sender sent_so got
-draws wide s t state.Idle held flight k sender sent_so got g = record { holds_none = g.holds_none; none_flies = ap (drop k) g.none_flies ∙ drop-nil k; hears = g.hears }
-draws wide s t state.Connect held flight k sender sent_so got g = record { holds_none = g.holds_none; none_flies = ap (drop k) g.none_flies ∙ drop-nil k; hears = g.hears }
-draws wide s t state.Active held flight k sender sent_so got g = record { holds_none = g.holds_none; none_flies = ap (drop k) g.none_flies ∙ drop-nil k; hears = g.hears }
-draws wide s t state.OpenSent held flight k sender sent_so got g = subst (λ (rest : List ℕ). IsHearing wide s t WantsOpen held rest sender sent_so got) (sym (take-append-drop k flight)) g
-draws wide s t state.OpenConfirm held flight k sender sent_so got g = subst (λ (rest : List ℕ). IsHearing wide s t WantsKeepalive held rest sender sent_so got) (sym (take-append-drop k flight)) g
-draws wide s t state.Established held flight k sender sent_so got g = subst (λ (rest : List ℕ). IsHearing wide s t Runs held rest sender sent_so got) (sym (take-append-drop k flight)) g
+draws wide s t State.Idle held flight k sender sent_so got g = record { holds_none = g.holds_none; none_flies = ap (drop k) g.none_flies ∙ drop-nil k; hears = g.hears }
+draws wide s t State.Connect held flight k sender sent_so got g = record { holds_none = g.holds_none; none_flies = ap (drop k) g.none_flies ∙ drop-nil k; hears = g.hears }
+draws wide s t State.Active held flight k sender sent_so got g = record { holds_none = g.holds_none; none_flies = ap (drop k) g.none_flies ∙ drop-nil k; hears = g.hears }
+draws wide s t State.OpenSent held flight k sender sent_so got g = subst (λ (rest : List ℕ). IsHearing wide s t WantsOpen held rest sender sent_so got) (sym (take-append-drop k flight)) g
+draws wide s t State.OpenConfirm held flight k sender sent_so got g = subst (λ (rest : List ℕ). IsHearing wide s t WantsKeepalive held rest sender sent_so got) (sym (take-append-drop k flight)) g
+draws wide s t State.Established held flight k sender sent_so got g = subst (λ (rest : List ℕ). IsHearing wide s t Runs held rest sender sent_so got) (sym (take-append-drop k flight)) g
 
 draws_end : (mine theirs : Settings) (e : End) (flight : List ℕ) → IsEnd mine theirs e → IsEnd mine theirs (with_flight e flight)
 draws_end mine theirs e flight is = record { settings = is.settings; context = is.context; left = is.left; none_gone = is.none_gone }
@@ -133,8 +120,8 @@ module _ (wide : Bool) (a b : Settings) (allowed : Note → Type 0) (know : Both
   tells_keep : (side : Side) (e : Event) (w : World) → MayNote allowed side e → IsSoundWorld w → IsSoundWorld (tells side e w)
   tells_keep side e w may s = back side w (told side (seen_by side w) e) (tells_pair side e w may (seen side w s.both)) s.over
 
-  fails_keep : (on : Bool) (side : Side) (w : World) → IsSoundWorld w → IsSoundWorld (tells_if on side event.Failed w)
-  fails_keep true side w s = tells_keep side event.Failed w tt s
+  fails_keep : (on : Bool) (side : Side) (w : World) → IsSoundWorld w → IsSoundWorld (tells_if on side Event.Failed w)
+  fails_keep true side w s = tells_keep side Event.Failed w tt s
   fails_keep false side w s = s
 
   -- ---- a loss
@@ -168,7 +155,7 @@ module _ (wide : Bool) (a b : Settings) (allowed : Note → Type 0) (know : Both
     notes = s.notes;
   }
 
-  fails_as : (side : Side) (on : Bool) (w : World) → tells_if on side event.Failed w ≡ with_pair side w (told_if on side (seen_by side w))
+  fails_as : (side : Side) (on : Bool) (w : World) → tells_if on side Event.Failed w ≡ with_pair side w (told_if on side (seen_by side w))
   fails_as A true w = refl
   fails_as A false w = refl
   fails_as B true w = refl
@@ -300,14 +287,14 @@ module _ (wide : Bool) (a b : Settings) (allowed : Note → Type 0) (know : Both
 
     joins_is : joins true w ≡ joined_world
     joins_is =
-        ap (λ (p : Pair). tells B event.Connected (with_pair A new p)) (connected A (seen_by A new) a_seeks)
+        ap (λ (p : Pair). tells B Event.Connected (with_pair A new p)) (connected A (seen_by A new) a_seeks)
         ∙ ap (with_pair B a_first) (connected B (seen_by B a_first) b_seeks)
 
     joins_keep : (answer : Bool) → IsSoundWorld (joins answer w)
     joins_keep true =
         let can = joinable w s a_seeks b_seeks in
         subst (λ (v : World). IsSoundWorld v) (sym joins_is) (record { both = begun_sound wide a b allowed w.a w.b can.0 can.1; over = rounds_keep w s })
-    joins_keep false = tells_keep B event.Failed (tells A event.Failed w) tt (tells_keep A event.Failed w tt s)
+    joins_keep false = tells_keep B Event.Failed (tells A Event.Failed w) tt (tells_keep A Event.Failed w tt s)
 
   joined_keeps : (can : Bool) (w : World) (answers : List Bool) → can_join w ≡ can → IsSoundWorld w → IsSoundWorld (joined_if can w answers).world
   joined_keeps true w answers is s =
@@ -330,19 +317,19 @@ module _ (wide : Bool) (a b : Settings) (allowed : Note → Type 0) (know : Both
 
   -- what a move needs: its notes are allowed
   abbrev pub Permits : Move → Type 0
-  Permits (move.Stop side) = MayNote allowed side event.Stop
-  Permits (move.Expire side timer) = MayNote allowed side (event.Expired timer)
+  Permits (Move.Stop side) = MayNote allowed side Event.Stop
+  Permits (Move.Expire side timer) = MayNote allowed side (Event.Expired timer)
   Permits _ = Unit {0}
 
   moved_keeps : (one : Move) (w : World) (answers : List Bool) → Permits one → SendsRanges w one → IsSoundWorld w → IsSoundWorld (moved one w answers).world
-  moved_keeps (move.Start side) w answers may ranges s = tells_keep side event.Start w tt s
-  moved_keeps (move.Stop side) w answers may ranges s = tells_keep side event.Stop w may s
-  moved_keeps move.Join w answers may ranges s = joined_keeps (can_join w) w answers refl s
-  moved_keeps (move.Refuse side) w answers may ranges s = fails_keep (seeks (state_of side w)) side w s
-  moved_keeps (move.Deliver side k) w answers may ranges s = delivers_keep side k w answers s
-  moved_keeps move.Lose w answers may ranges s = lost_keeps A [] w s.both s.over
-  moved_keeps (move.Expire side timer) w answers may ranges s = tells_keep side (event.Expired timer) w may s
-  moved_keeps (move.Send side u) w answers may ranges s = sent_keeps (refusal_of (end_of side w).session u) side u w refl ranges s
+  moved_keeps (Move.Start side) w answers may ranges s = tells_keep side Event.Start w tt s
+  moved_keeps (Move.Stop side) w answers may ranges s = tells_keep side Event.Stop w may s
+  moved_keeps Move.Join w answers may ranges s = joined_keeps (can_join w) w answers refl s
+  moved_keeps (Move.Refuse side) w answers may ranges s = fails_keep (seeks (state_of side w)) side w s
+  moved_keeps (Move.Deliver side k) w answers may ranges s = delivers_keep side k w answers s
+  moved_keeps Move.Lose w answers may ranges s = lost_keeps A [] w s.both s.over
+  moved_keeps (Move.Expire side timer) w answers may ranges s = tells_keep side (Event.Expired timer) w may s
+  moved_keeps (Move.Send side u) w answers may ranges s = sent_keeps (refusal_of (end_of side w).session u) side u w refl ranges s
 
   pub all_moved_keep : (moves : List Move) (w : World) (answers : List Bool) → AllByRecursion Permits moves → AllSendRanges moves w answers → IsSoundWorld w
       → IsSoundWorld (all_moved moves w answers).world

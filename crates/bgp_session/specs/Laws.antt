@@ -11,7 +11,6 @@ use Rattle.bgp_update.specs.declared.path_info.PathInfo.{PathInfo}
 use Rattle.bgp_update.specs.declared.update.Update.{Update}
 use Rattle.bgp_update.specs.Prelude.{onward_of, HasUpdateRanges}
 use Rattle.bgp_session.specs.declared.moves.Move.{Move}
-use Rattle.bgp_session.specs.declared.moves.Move.TheVariants as move
 use Rattle.bgp_session.specs.declared.report.Round.{Round}
 use Rattle.bgp_session.specs.declared.side.Side.{Side}
 use Rattle.bgp_session.specs.declared.side.Side.TheVariants.{A, B}
@@ -34,7 +33,7 @@ HasRangesUnless (Some fault) u = Unit {0}
 
 -- each number of what the move sends in this world
 abbrev pub SendsRanges : World → Move → Type 0
-SendsRanges w (move.Send side u) = HasRangesUnless (refusal_of (end_of side w).session u) u
+SendsRanges w (Move.Send side u) = HasRangesUnless (refusal_of (end_of side w).session u) u
 SendsRanges w _ = Unit {0}
 
 -- and of what each of these moves sends, made on what those before it left
@@ -91,13 +90,13 @@ pub record IsSameIdentifier (mine theirs : Settings) (code subcode : ℕ) : Type
 pub record IsHeldTooLong (side : Side) (moves : List Move) (code subcode : ℕ) : Type 0 where
   pub code_is : code ≡ HOLD_TIMER_EXPIRED
   pub subcode_is : subcode ≡ UNSPECIFIC
-  pub expires : Contains moves (move.Expire side Hold)
+  pub expires : Contains moves (Move.Expire side Hold)
 
 -- the side is stopped in one of the moves
 pub record IsStopped (side : Side) (moves : List Move) (code subcode : ℕ) : Type 0 where
   pub code_is : code ≡ CEASE
   pub subcode_is : subcode ≡ UNSPECIFIC
-  pub stops : Contains moves (move.Stop side)
+  pub stops : Contains moves (Move.Stop side)
 
 -- one of four reasons, for a side of the settings `mine`
 abbrev pub HasReason : Settings → Settings → Side → List Move → ℕ → ℕ → Type 0

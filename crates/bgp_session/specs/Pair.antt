@@ -1,16 +1,13 @@
 -- Two ends of one connection, of which one acts: what is said to the other, what is heard, and when an end leaves.
 use Rattle.std.specs.Prelude.{ℕ, Bool, true, false, List, [], ◌∷◌, ◌++◌, Option, None, Some}
-use Rattle.bgp_frame.specs.declared.kind.Kind.TheVariants as kind
 use Rattle.bgp_frame.specs.declared.notification.Notification.{Notification}
-use Rattle.bgp_frame.specs.Prelude.{octets_of}
-use Rattle.bgp_msg.specs.Written as written
 use Rattle.bgp_open.specs.declared.context.Context.{Context}
 use Rattle.bgp_open.specs.Prelude.{Settings}
 use Rattle.bgp_machine.specs.declared.action.Action.{Action}
 use Rattle.bgp_machine.specs.declared.action.Action.TheVariants.{Close, SendOpen, SendKeepalive, SendNotification, Announce, Withdraw}
 use Rattle.bgp_machine.specs.declared.event.Event.{Event}
 use Rattle.bgp_machine.specs.declared.event.Event.TheVariants.{Failed}
-use Rattle.bgp_machine.specs.Prelude.{by_octets, told_octets, Machine, fresh, own_octets, after_event, happens}
+use Rattle.bgp_machine.specs.Prelude.{by_octets, told_octets, Machine, fresh, own_octets, keepalive_octets, notification_octets, after_event, happens}
 use Rattle.bgp_update.specs.declared.path_info.PathInfo.{PathInfo}
 use Rattle.bgp_update.specs.declared.routes.Routes.{Routes}
 use Rattle.bgp_update.specs.declared.update.Update.{Update}
@@ -74,12 +71,6 @@ abbrev pub pair : End → End → List Note → Pair
 pair this other notes = record { this = this; other = other; notes = notes }
 
 -- ---- what is said
-
-abbrev pub keepalive_octets : List ℕ
-keepalive_octets = octets_of (record { kind = kind.Keepalive; body = [] })
-
-abbrev pub notification_octets : Notification → List ℕ
-notification_octets why = octets_of (record { kind = kind.Notification; body = written.notification_octets why })
 
 -- octets go in flight towards the other end
 abbrev pub said : Pair → List ℕ → Pair

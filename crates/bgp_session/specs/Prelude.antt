@@ -1,5 +1,5 @@
 -- The names that other crates and the proofs cite, passed on from one place. Declares nothing.
-pub use Rattle.bgp_session.specs.Pair.{End, Note, Pair, acted, all_acted, away, before_event, fed, flying, keepalive_octets, note_of, notification_octets, pair, sent, told, told_by, towards, with_flight, with_session}
+pub use Rattle.bgp_session.specs.Pair.{End, Note, Pair, acted, all_acted, away, before_event, fed, flying, note_of, pair, sent, told, told_by, towards, with_flight, with_session}
 pub use Rattle.bgp_session.specs.World.{Asks, Ran, Shows, Turn, World, all_moved, answer_of, asked, begins, behind, calls_in, can_join, cut_behind, cut_if, delivered, delivers, delivers_on, drawn, emptied, end_of, fails_up, feeds, feeds_seen, joined_end, joined_if, joins, joins_seen, later_of, lost, lost_if, lost_seen, moved, new_round, played, ran, refused_at, refused_seen, round_of, rounds_of, seeks, seen_by, sends, sends_seen, sent_or, shown, sights_in, stands, state_of, tells, tells_if, tells_seen, with_pair, with_round}
 pub use Rattle.bgp_session.specs.Wire.{Call, Cut, Grows, Handed, HasAnswered, Joined, Trace, answers_in, failed_after, failed_behind, trace}
 pub use Rattle.bgp_session.specs.Sight.{Begun, Came, Ended, Heard, Sight, Told, Tried, came_if, event_seen, observed, octet_seen, octets_seen, settled_seen, step_seen, tried_seen}

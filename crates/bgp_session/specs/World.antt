@@ -6,10 +6,7 @@ use Rattle.bgp_machine.specs.declared.event.Event.{Event}
 use Rattle.bgp_machine.specs.declared.send_fault.SendFault.{SendFault}
 use Rattle.bgp_machine.specs.declared.state.State.{State}
 use Rattle.bgp_machine.specs.Prelude.{refusal_of, listens}
-use Rattle.bgp_machine.specs.declared.event.Event.TheVariants as event
-use Rattle.bgp_machine.specs.declared.state.State.TheVariants as state
 use Rattle.bgp_session.specs.declared.moves.Move.{Move}
-use Rattle.bgp_session.specs.declared.moves.Move.TheVariants as move
 use Rattle.bgp_session.specs.declared.report.Round.{Round}
 use Rattle.bgp_session.specs.declared.side.Side.{Side}
 use Rattle.bgp_session.specs.declared.side.Side.TheVariants.{A, B}
@@ -76,7 +73,7 @@ state_of side w = (end_of side w).session.standing.state
 
 -- a side for which a connection stands is told that it failed
 abbrev pub fails_up : Side → World → World
-fails_up side w = tells_if (listens (state_of side w)) side event.Failed w
+fails_up side w = tells_if (listens (state_of side w)) side Event.Failed w
 
 -- nothing is in flight
 abbrev pub emptied : World → World
@@ -91,7 +88,7 @@ abbrev pub lost : World → World
 lost w = lost_if (stands w) w
 
 abbrev pub fails_up_seen : Side → World → List Sight
-fails_up_seen side w = tells_if_seen (listens (state_of side w)) side event.Failed w
+fails_up_seen side w = tells_if_seen (listens (state_of side w)) side Event.Failed w
 
 abbrev pub lost_if_seen : Bool → World → List Sight
 lost_if_seen true w = fails_up_seen A (emptied w) ++ fails_up_seen B (fails_up A (emptied w))
@@ -102,15 +99,15 @@ lost_seen w = lost_if_seen (stands w) w
 
 -- a side seeks a connection
 abbrev pub seeks : State → Bool
-seeks state.Connect = true
-seeks state.Active = true
+seeks State.Connect = true
+seeks State.Active = true
 seeks _ = false
 
 abbrev pub refused_at : Side → World → World
-refused_at side w = tells_if (seeks (state_of side w)) side event.Failed w
+refused_at side w = tells_if (seeks (state_of side w)) side Event.Failed w
 
 abbrev pub refused_seen : Side → World → List Sight
-refused_seen side w = tells_if_seen (seeks (state_of side w)) side event.Failed w
+refused_seen side w = tells_if_seen (seeks (state_of side w)) side Event.Failed w
 
 -- ---- rounds
 
@@ -205,12 +202,12 @@ can_join w = if seeks w.a.session.standing.state then (if seeks w.b.session.stan
 
 -- both are told whether they are connected, A first
 abbrev pub joins : Bool → World → World
-joins true w = tells B event.Connected (tells A event.Connected (new_round w))
-joins false w = tells B event.Failed (tells A event.Failed w)
+joins true w = tells B Event.Connected (tells A Event.Connected (new_round w))
+joins false w = tells B Event.Failed (tells A Event.Failed w)
 
 abbrev pub joins_seen : Bool → World → List Sight
-joins_seen true w = tells_seen A event.Connected (new_round w) ++ tells_seen B event.Connected (tells A event.Connected (new_round w))
-joins_seen false w = tells_seen A event.Failed w ++ tells_seen B event.Failed (tells A event.Failed w)
+joins_seen true w = tells_seen A Event.Connected (new_round w) ++ tells_seen B Event.Connected (tells A Event.Connected (new_round w))
+joins_seen false w = tells_seen A Event.Failed w ++ tells_seen B Event.Failed (tells A Event.Failed w)
 
 abbrev pub joined_if : Bool → World → List Bool → Ran
 joined_if true w answers = asked (Joined (answer_of answers)) (joins_seen (answer_of answers) w) (ran (joins (answer_of answers) w) (later_of answers))
@@ -255,14 +252,14 @@ sends_seen side u w = tried_seen side (end_of side w).session u ∷ []
 
 -- what a move does; the answers of the wire are used up from the front
 abbrev pub moved : Move → World → List Bool → Ran
-moved (move.Start side) w answers = shown (tells_seen side event.Start w) (ran (tells side event.Start w) answers)
-moved (move.Stop side) w answers = shown (tells_seen side event.Stop w) (ran (tells side event.Stop w) answers)
-moved move.Join w answers = joined_if (can_join w) w answers
-moved (move.Refuse side) w answers = shown (refused_seen side w) (ran (refused_at side w) answers)
-moved (move.Deliver side k) w answers = delivers side k w answers
-moved move.Lose w answers = shown (lost_seen w) (ran (lost w) answers)
-moved (move.Expire side timer) w answers = shown (tells_seen side (event.Expired timer) w) (ran (tells side (event.Expired timer) w) answers)
-moved (move.Send side u) w answers = shown (sends_seen side u w) (ran (sends side u w) answers)
+moved (Move.Start side) w answers = shown (tells_seen side Event.Start w) (ran (tells side Event.Start w) answers)
+moved (Move.Stop side) w answers = shown (tells_seen side Event.Stop w) (ran (tells side Event.Stop w) answers)
+moved Move.Join w answers = joined_if (can_join w) w answers
+moved (Move.Refuse side) w answers = shown (refused_seen side w) (ran (refused_at side w) answers)
+moved (Move.Deliver side k) w answers = delivers side k w answers
+moved Move.Lose w answers = shown (lost_seen w) (ran (lost w) answers)
+moved (Move.Expire side timer) w answers = shown (tells_seen side (Event.Expired timer) w) (ran (tells side (Event.Expired timer) w) answers)
+moved (Move.Send side u) w answers = shown (sends_seen side u w) (ran (sends side u w) answers)
 
 -- the wire is cut behind the move that ends the connection
 abbrev pub cut_behind : Bool → Bool → List Turn

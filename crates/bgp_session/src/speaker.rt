@@ -1,7 +1,8 @@
 //! One end of the connection.
 
 ghost use Rattle.std.specs.Prelude.{◌≡◌, take, drop, IfOk, OnOk};
-ghost use Rattle.bgp_session.specs.Pair.{fresh_end, away, towards, with_flight, notification_octets};
+ghost use Rattle.bgp_machine.specs.Prelude.{notification_octets};
+ghost use Rattle.bgp_session.specs.Pair.{fresh_end, away, towards, with_flight};
 
 use bgp_frame::{Kind, Notification, head};
 use bgp_machine::Session;

@@ -13,34 +13,12 @@ mod timers;
 mod updates;
 mod voice;
 
+use crate::commands::NAME;
 use crate::request::parse;
 use crate::speaking::speak;
-use crate::status::{MEMORY, MISUSE, status_of, tell};
-use clap::Error;
-use clap::error::ErrorKind;
+use bgp_words::{explain, status_of, words};
+use std::io;
 use std::process::ExitCode;
-use std::{env, io};
-
-// The words behind the program's name.
-fn words(rt: &HostRuntime) -> io::Result<Vec<String>> {
-    Ok(env::args(rt)?.skip(1).collect(rt.alloc())?)
-}
-
-// Prints the text of a command line that asks for nothing that can be done: help, or a fault.
-fn explain(rt: &HostRuntime, error: &Error) -> u8 {
-    if error.kind() == ErrorKind::OutOfMemory {
-        tell(rt, "memory");
-        return MEMORY;
-    }
-    if error.use_stderr() {
-        let _ = eprint!(rt; "{error}");
-        return MISUSE;
-    }
-    match print!(rt; "{error}") {
-        Ok(()) => 0,
-        Err(error) => status_of(rt, &error),
-    }
-}
 
 // Does what the words ask for, and answers the status.
 fn run(rt: &HostRuntime) -> io::Result<u8> {
@@ -48,13 +26,13 @@ fn run(rt: &HostRuntime) -> io::Result<u8> {
     let words: Vec<&str> = words.iter().map(|word| word.as_str()).collect(rt.alloc())?;
     match parse(rt.alloc(), &words) {
         Ok(request) => speak(rt, &request),
-        Err(error) => Ok(explain(rt, &error)),
+        Err(error) => Ok(explain(rt, NAME, &error)),
     }
 }
 
 fn main(rt: HostRuntime) -> ExitCode {
     match run(&rt) {
         Ok(status) => ExitCode::from(status),
-        Err(error) => ExitCode::from(status_of(&rt, &error)),
+        Err(error) => ExitCode::from(status_of(&rt, NAME, &error)),
     }
 }

@@ -4,7 +4,7 @@ ghost use Rattle.std.specs.Prelude.{◌≤◌, IfOk, IfSome};
 
 use crate::commands::speaker;
 use bgp_open::{BadConfig, Config};
-use clap::error::ErrorKind;
+use bgp_words::bad_value;
 use clap::{ArgMatches, Error};
 use std::alloc::Global;
 use std::net::Ipv4Addr;
@@ -28,13 +28,7 @@ pub(crate) struct Request<'a> {
 
 // An error of a value.
 fn bad(alloc: Global, text: &str) -> Error {
-    match speaker(alloc) {
-        Ok(mut command) => match command.error(ErrorKind::ValueValidation, text) {
-            Ok(error) => error,
-            Err(error) => Error::from(error),
-        },
-        Err(error) => Error::from(error),
-    }
+    bad_value(speaker(alloc), text)
 }
 
 // The number that an argument has, where it has one.

@@ -1,8 +1,9 @@
 //! The run of a session.
 
+use crate::commands::NAME;
 use crate::hearing::{Ear, Speaker, is_up};
 use crate::request::Request;
-use crate::status::{BROKEN, CLEAN, UNCLEAN, tell};
+use crate::status::{CLEAN, UNCLEAN};
 use crate::tcp::{Came, TcpConnection};
 use crate::timers::Timers;
 use crate::updates::{Reading, read_updates};
@@ -10,6 +11,7 @@ use crate::voice::{Teller, Voice};
 use bgp_host::Host;
 use bgp_machine::{Event, State};
 use bgp_update::Update;
+use bgp_words::{BROKEN, tell};
 use std::io;
 use std::io::ErrorKind;
 use std::time::{Duration, Instant};
@@ -171,7 +173,7 @@ impl<'a> Conversation<'a> {
     fn speak(&mut self) -> io::Result<u8> {
         self.host.tell(Event::Start);
         if !is_up(self.host.session().state()) {
-            tell(self.rt, "the peer can't be reached");
+            tell(self.rt, NAME, "the peer can't be reached");
             return Ok(BROKEN);
         }
         self.go_on()?;

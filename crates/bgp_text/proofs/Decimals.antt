@@ -1,8 +1,7 @@
 -- Decimal digits, three at a time.
-use Rattle.bgp_wire.proofs.Std.{◌≡◌, ℕ, zero, suc, ◌+◌, ◌-◌, ◌*◌, ◌/◌, ◌%◌, ◌^◌, ◌<◌, ◌≤◌, Bool, true, ◌&&◌, T, eqb, List, [], ◌∷◌, ◌++◌, length, get_or, drop, ap, sym, ◌∙◌, inl, inr, arith, eq-zero-or-pos, eqb→eq, append_assoc, length-append, set, length-set, drop-append-le, drop-set}
-use Rattle.std.specs.Fmt.{decimal}
-use Rattle.std.proofs.lemmas.Fmt.{decimal_digit, decimal_step}
-use Rattle.std.proofs.lemmas.List.{drop-drop}
+use Rattle.bgp_text.proofs.Prelude.{◌≡◌, ℕ, zero, suc, ◌+◌, ◌-◌, ◌*◌, ◌/◌, ◌%◌, ◌^◌, ◌<◌, ◌≤◌, Bool, true, ◌&&◌, T, eqb, List, [], ◌∷◌, ◌++◌, length, get_or}
+use Rattle.bgp_text.proofs.Prelude.{drop, ap, sym, ◌∙◌, inl, inr, arith, eq-zero-or-pos, eqb→eq, append_assoc, length-append, set, length-set, drop-append-le}
+use Rattle.bgp_text.proofs.Prelude.{drop-set, decimal, decimal_digit, decimal_step, drop-drop}
 use lib.Ieee.Fits.{and_l, and_r}
 use Rattle.bgp_text.specs.declared.decimal.TheConstants.{THREES}
 use Rattle.bgp_text.specs.steps.Digits.{three_digits}

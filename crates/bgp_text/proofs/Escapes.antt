@@ -1,7 +1,6 @@
 -- Characters of a text, and whether octets are one.
-use Rattle.std.proofs.Common.{◌≡◌, ℕ, Bool, true, false, List, [], ◌∷◌, length, chars, arith, refl}
-use Rattle.std.specs.Str.{IsUtf8, is_utf8}
-use Rattle.std.proofs.lemmas.Str.{chars-nil, IsUtf8-from_is_utf8, is_utf8-from_IsUtf8}
+use Rattle.bgp_text.proofs.Prelude.{◌≡◌, ℕ, Bool, true, false, List, [], ◌∷◌, length, chars, arith, refl, IsUtf8, is_utf8, chars-nil, IsUtf8-from_is_utf8}
+use Rattle.bgp_text.proofs.Prelude.{is_utf8-from_IsUtf8}
 
 pub no_characters : (text : List ℕ) → length text ≡ 0 → chars text ≡ []
 no_characters [] none = chars-nil

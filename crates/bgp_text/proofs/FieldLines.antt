@@ -1,13 +1,11 @@
 -- The lines of fields and notes, field by field.
-use Rattle.bgp_wire.proofs.Std.{◌≡◌, ℕ, Bool, true, false, List, [], ◌∷◌, ◌++◌, Option, None, Some, if◌then◌else◌, refl, ap, sym, ◌∙◌, append_assoc, flat_map}
+use Rattle.bgp_text.proofs.Prelude.{◌≡◌, ℕ, Bool, true, false, List, [], ◌∷◌, ◌++◌, Option, None, Some, if◌then◌else◌, refl, ap, sym, ◌∙◌, append_assoc}
+use Rattle.bgp_text.proofs.Prelude.{flat_map, Note, notes_left, field_line, is_at, is_in, note_reason, noted_lines, unplaced_line, row_of, note_at}
+use Rattle.bgp_text.proofs.Prelude.{noting_lines, plain_line}
 use Rattle.std.specs.Iterator.{YieldsFirst}
-use Rattle.bgp_update.specs.declared.note.Note.{Note}
-use Rattle.bgp_update.specs.Prelude.{notes_left}
 use Rattle.bgp_update.specs.declared.note_iter.NoteIter.{NoteIter}
 use Rattle.bgp_text.specs.declared.field_lines.Noting.{Noting}
 use Rattle.bgp_fields.specs.declared.field.Field.{Field}
-use Rattle.bgp_text.specs.FieldLines.{field_line, is_at, is_in, note_reason, noted_lines, unplaced_line}
-use Rattle.bgp_text.specs.steps.Rows.{row_of, note_at, noting_lines, plain_line}
 
 -- where no field is left
 pub at_end : (message : List ℕ) (place : ℕ) (notes : List Note) → noted_lines message place notes [] ≡ flat_map unplaced_line notes

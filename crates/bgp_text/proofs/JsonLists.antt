@@ -1,8 +1,6 @@
 -- Lists of JSON whose values are made from others, and lists behind lists.
-use Rattle.bgp_wire.proofs.Std.{◌≡◌, ℕ, List, [], ◌∷◌, ◌++◌, map, refl, ap, sym, ◌∙◌, append_assoc, flat_map, flat_map-map}
-use Rattle.std.specs.Prelude.{codes}
-use Rattle.std.proofs.lemmas.Grind.{flat_map-append}
-use Rattle.bgp_text.specs.Json.{behind_comma, joined, listed}
+use Rattle.bgp_text.proofs.Prelude.{◌≡◌, ℕ, List, [], ◌∷◌, ◌++◌, map, refl, ap, sym, ◌∙◌, append_assoc, flat_map, flat_map-map, codes, flat_map-append}
+use Rattle.bgp_text.proofs.Prelude.{behind_comma, joined, listed}
 
 pub joined_map : {A B : Type 0} (json : B → List ℕ) (value : A → B) (xs : List A)
     → joined json (map value xs) ≡ joined (λ x. json (value x)) xs

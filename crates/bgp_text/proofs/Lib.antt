@@ -1,3 +1,4 @@
+pub mod Prelude
 pub mod ResetCodes
 pub mod Words
 pub mod JsonLists

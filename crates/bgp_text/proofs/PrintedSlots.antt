@@ -1,11 +1,9 @@
 -- What is printed of the attributes of recognised types.
-use Rattle.bgp_wire.proofs.Std.{◌≡◌, ◌++◌, ℕ, List, refl, append_assoc, flat_map}
+use Rattle.bgp_text.proofs.Prelude.{◌≡◌, ◌++◌, ℕ, List, refl, append_assoc, flat_map, known_of, slot, printed_types, printed_attributes}
 use Rattle.std.proofs.lemmas.List.{append-nil}
 use Rattle.bgp_numbers.specs.declared.attribute.TheConstants.{ORIGIN, AS_PATH, NEXT_HOP, MULTI_EXIT_DISC, LOCAL_PREF, ATOMIC_AGGREGATE, AGGREGATOR, COMMUNITIES, MP_REACH_NLRI, MP_UNREACH_NLRI, AS4_PATH, AS4_AGGREGATOR, LARGE_COMMUNITY}
 use Rattle.bgp_attr.specs.declared.attr.Attr.{Attr}
-use Rattle.bgp_update.specs.Prelude.{known_of, slot}
 use Rattle.bgp_update.specs.declared.attrs.Attrs.{Attrs}
-use Rattle.bgp_text.specs.Members.{printed_types, printed_attributes}
 
 -- they are known without those of other types
 pub known_printed : (attribute : Attr → List ℕ) (a : Attrs) → printed_attributes attribute (known_of a) ≡ printed_attributes attribute a

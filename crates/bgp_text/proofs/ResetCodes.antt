@@ -1,36 +1,35 @@
 -- The codes of resets: those of the body of an UPDATE are UPDATE Message Errors.
-use Rattle.bgp_wire.proofs.Std.{◌≡◌, ℕ, ◌-◌, Bool, true, false, ◌&&◌, ◌==◌, nat_lt, List, [], ◌∷◌, ◌++◌, length, Option, None, Some, refl, subst, if◌then◌else◌, option_or}
+use Rattle.bgp_text.proofs.Prelude.{◌≡◌, ℕ, ◌-◌, Bool, true, false, ◌&&◌, ◌==◌, nat_lt, List, [], ◌∷◌, ◌++◌, length, Option, None, Some, refl, subst}
+use Rattle.bgp_text.proofs.Prelude.{if◌then◌else◌, option_or, run_of, judgement, TlvValue, PlacedTlv, tlvs_of, Mark, malformed, carries_routes, repeated}
+use Rattle.bgp_text.proofs.Prelude.{cut_kind, placed_tlvs, marks_behind, field_marks, cut_mark, marks_of, is_reachable, notes_of, routes_of, Parts, parts_of}
+use Rattle.bgp_text.proofs.Prelude.{update_of, first_reset, reset_by, bad_network, reset_of_run, reset_of, is_withdrawn, without_reset, unless_reset}
+use Rattle.bgp_text.proofs.Prelude.{of_parts, verdict_of}
 use Rattle.bgp_numbers.specs.declared.error.TheConstants.{UPDATE_MESSAGE}
 use Rattle.bgp_frame.specs.declared.notification.Notification.{Notification}
 use Rattle.bgp_open.specs.declared.context.Context.{Context}
-use Rattle.bgp_prefix.specs.Prelude.{run_of}
 use Rattle.bgp_attr.specs.declared.judged.Judged.{Judged}
-use Rattle.bgp_attr.specs.Prelude.{judgement, TlvValue, PlacedTlv, tlvs_of}
-use Rattle.bgp_attr.specs.declared.judged.Judged.TheVariants as judged
-use Rattle.bgp_attr.specs.declared.why.Why.TheVariants as why
+use Rattle.bgp_attr.specs.declared.why.Why.{Why}
 use Rattle.bgp_attr.proofs.TestRows.{IsRefusal}
 use Rattle.bgp_attr.proofs.EachType.{by_answer}
 use Rattle.bgp_update.specs.declared.verdict.Verdict.{Verdict}
-use Rattle.bgp_update.specs.Prelude.{Mark, malformed, carries_routes, repeated, cut_kind, placed_tlvs, marks_behind, field_marks, cut_mark, marks_of, is_reachable, notes_of, routes_of, Parts, parts_of, update_of, first_reset, reset_by, bad_network, reset_of_run, reset_of, is_withdrawn, without_reset, unless_reset, of_parts, verdict_of}
-use Rattle.bgp_update.specs.declared.verdict.Verdict.TheVariants as verdict
 use Rattle.bgp_wire.specs.Prelude.{also, none_of_them}
 use Rattle.bgp_update.specs.Parts.{has_nlri}
-use Rattle.bgp_msg.specs.declared.outcome.Outcome.TheVariants as outcome
+use Rattle.bgp_msg.specs.declared.outcome.Outcome.{Outcome}
 use Rattle.bgp_msg.specs.Prelude.{of_verdict}
 
 -- ---- how an attribute is judged
 
 abbrev OfJudged : Judged → Type 0
-OfJudged (judged.Keep a) = Unit {0}
-OfJudged (judged.Discard w) = Unit {0}
-OfJudged (judged.Withdraw w) = Unit {0}
-OfJudged (judged.Reset n) = n.code ≡ UPDATE_MESSAGE
+OfJudged (Judged.Keep a) = Unit {0}
+OfJudged (Judged.Discard w) = Unit {0}
+OfJudged (Judged.Withdraw w) = Unit {0}
+OfJudged (Judged.Reset n) = n.code ≡ UPDATE_MESSAGE
 
 of_refusal : (j : Judged) → IsRefusal j → OfJudged j
-of_refusal (judged.Keep a) h = tt
-of_refusal (judged.Discard w) h = tt
-of_refusal (judged.Withdraw w) h = tt
-of_refusal (judged.Reset n) h = h
+of_refusal (Judged.Keep a) h = tt
+of_refusal (Judged.Discard w) h = tt
+of_refusal (Judged.Withdraw w) h = tt
+of_refusal (Judged.Reset n) h = h
 
 of_judgement : (ctx : Context) (nlri : Bool) (t : TlvValue) → OfJudged (judgement ctx nlri t)
 of_judgement ctx nlri t = by_answer ctx nlri t OfJudged (λ a. tt) of_refusal
@@ -40,7 +39,7 @@ either true x y p q = p
 either false x y p q = q
 
 of_repeated : (kind : ℕ) → OfJudged (repeated kind)
-of_repeated kind = either (carries_routes kind) (judged.Reset malformed) (judged.Discard why.Repeated) refl tt
+of_repeated kind = either (carries_routes kind) (Judged.Reset malformed) (Judged.Discard Why.Repeated) refl tt
 
 abbrev OfMarks : List Mark → Type 0
 OfMarks [] = Unit {0}
@@ -60,7 +59,7 @@ of_marks_behind ctx nlri seen (p ∷ ps) = (
 of_cut_mark : (at : ℕ) (rest : List ℕ) → OfMarks (cut_mark at rest)
 of_cut_mark at [] = tt
 of_cut_mark at (flags ∷ rest) =
-    (either (nat_lt 1 (length (flags ∷ rest)) && carries_routes (cut_kind (flags ∷ rest))) (judged.Reset malformed) (judged.Withdraw why.Cut) refl tt, tt)
+    (either (nat_lt 1 (length (flags ∷ rest)) && carries_routes (cut_kind (flags ∷ rest))) (Judged.Reset malformed) (Judged.Withdraw Why.Cut) refl tt, tt)
 
 of_field_marks : (ctx : Context) (nlri : Bool) (field : List ℕ) → OfMarks (field_marks ctx nlri field)
 unfolding field_marks
@@ -74,10 +73,10 @@ OfReset None = Unit {0}
 OfReset (Some n) = n.code ≡ UPDATE_MESSAGE
 
 of_reset_by : (j : Judged) → OfJudged j → OfReset (reset_by j)
-of_reset_by (judged.Keep a) h = tt
-of_reset_by (judged.Discard w) h = tt
-of_reset_by (judged.Withdraw w) h = tt
-of_reset_by (judged.Reset n) h = h
+of_reset_by (Judged.Keep a) h = tt
+of_reset_by (Judged.Discard w) h = tt
+of_reset_by (Judged.Withdraw w) h = tt
+of_reset_by (Judged.Reset n) h = h
 
 of_first_of : (o p : Option Notification) → OfReset o → OfReset p → OfReset (option_or o p)
 of_first_of None p h k = k
@@ -95,9 +94,9 @@ of_run b = of_some (length (run_of 4 b).1 == 0)
     of_some false = refl
 
 abbrev OfVerdict : Verdict → Type 0
-OfVerdict (verdict.Take u notes) = Unit {0}
-OfVerdict (verdict.Withdraw routes notes) = Unit {0}
-OfVerdict (verdict.Reset n) = n.code ≡ UPDATE_MESSAGE
+OfVerdict (Verdict.Take u notes) = Unit {0}
+OfVerdict (Verdict.Withdraw routes notes) = Unit {0}
+OfVerdict (Verdict.Reset n) = n.code ≡ UPDATE_MESSAGE
 
 of_unless : (o : Option Notification) (v : Verdict) → OfReset o → OfVerdict v → OfVerdict (unless_reset o v)
 of_unless None v h k = k
@@ -115,8 +114,8 @@ of_reset_of p ms h =
 of_without_reset : (p : Parts) (ms : List Mark) → OfVerdict (without_reset p ms)
 of_without_reset p ms =
     one_of (is_withdrawn p ms)
-    (if is_reachable p ms then verdict.Withdraw (routes_of p ms) (notes_of p ms) else verdict.Reset malformed) (verdict.Take (update_of p ms) (notes_of p ms))
-    (one_of (is_reachable p ms) (verdict.Withdraw (routes_of p ms) (notes_of p ms)) (verdict.Reset malformed) tt refl) tt
+    (if is_reachable p ms then Verdict.Withdraw (routes_of p ms) (notes_of p ms) else Verdict.Reset malformed) (Verdict.Take (update_of p ms) (notes_of p ms))
+    (one_of (is_reachable p ms) (Verdict.Withdraw (routes_of p ms) (notes_of p ms)) (Verdict.Reset malformed) tt refl) tt
 
 of_known : (ctx : Context) (p : Option Parts) → OfVerdict (of_parts ctx p)
 of_known ctx None = refl
@@ -124,11 +123,11 @@ of_known ctx (Some p) =
     of_unless (reset_of p (marks_of ctx p)) (without_reset p (marks_of ctx p))
     (of_reset_of p (marks_of ctx p) (of_field_marks ctx (has_nlri p) p.attributes)) (of_without_reset p (marks_of ctx p))
 
-has_its_code : (v : Verdict) (n : Notification) → OfVerdict v → of_verdict v ≡ outcome.Reset n → n.code ≡ UPDATE_MESSAGE
-has_its_code (verdict.Take u notes) n h is = absurd cc
-has_its_code (verdict.Withdraw routes notes) n h is = absurd cc
-has_its_code (verdict.Reset m) n h is = subst (λ (x : Notification). x.code ≡ UPDATE_MESSAGE) (let e : m ≡ n = cc in e) h
+has_its_code : (v : Verdict) (n : Notification) → OfVerdict v → of_verdict v ≡ Outcome.Reset n → n.code ≡ UPDATE_MESSAGE
+has_its_code (Verdict.Take u notes) n h is = absurd cc
+has_its_code (Verdict.Withdraw routes notes) n h is = absurd cc
+has_its_code (Verdict.Reset m) n h is = subst (λ (x : Notification). x.code ≡ UPDATE_MESSAGE) (let e : m ≡ n = cc in e) h
 
 -- a reset by the body of an UPDATE is an UPDATE Message Error
-pub update_resets : (ctx : Context) (body : List ℕ) (n : Notification) → of_verdict (verdict_of ctx body) ≡ outcome.Reset n → n.code ≡ UPDATE_MESSAGE
+pub update_resets : (ctx : Context) (body : List ℕ) (n : Notification) → of_verdict (verdict_of ctx body) ≡ Outcome.Reset n → n.code ≡ UPDATE_MESSAGE
 update_resets ctx body n is = has_its_code (verdict_of ctx body) n (of_known ctx (parts_of body)) is

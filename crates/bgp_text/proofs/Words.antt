@@ -1,11 +1,8 @@
 -- Digits in front of a short text.
-use Rattle.std.proofs.Common.{◌≡◌, ℕ, false, ◌^◌, ◌/◌, ◌%◌, ◌<◌, ◌≤◌, List, ◌∷◌, ◌++◌, length, arith, subst, sym, ap, ◌∙◌, append_assoc}
-use Rattle.std.specs.Fmt.{decimal, digit_glyph}
+use Rattle.bgp_text.proofs.Prelude.{◌≡◌, ℕ, false, ◌^◌, ◌/◌, ◌%◌, ◌<◌, ◌≤◌, List, ◌∷◌, ◌++◌, length, arith, subst, sym, ap, ◌∙◌, append_assoc, decimal}
+use Rattle.bgp_text.proofs.Prelude.{digit_glyph, IsAscii, hex_octet, ipv4_address_text, ipv6_address_text, groups_text, length-decimal-le, IsAscii-decimal}
+use Rattle.bgp_text.proofs.Prelude.{IsAscii-append}
 use Rattle.std.specs.Prelude.{slice_index}
-use Rattle.std.specs.Str.{IsAscii}
-use Rattle.bgp_prefix.specs.Prelude.{hex_octet, ipv4_address_text, ipv6_address_text, groups_text}
-use Rattle.std.proofs.lemmas.Fmt.{length-decimal-le, IsAscii-decimal}
-use Rattle.std.proofs.lemmas.Str.{IsAscii-append}
 use Rattle.std.proofs.lemmas.Bool.Decides.{nat_tests}
 use Rattle.std.proofs.lemmas.Str.Ascii.{IsAscii-cons}
 

@@ -1,13 +1,6 @@
 -- The lines of attributes.
 use Rattle.std.specs.Prelude.{ℕ, Bool, true, false, List, [], ◌∷◌, ◌++◌, codes}
-use Rattle.std.specs.Fmt.{decimal}
-use Rattle.bgp_prefix.specs.Prelude.{ipv4_address_text}
-use Rattle.bgp_attr.specs.declared.aggregator.Aggregator.{Aggregator}
-use Rattle.bgp_attr.specs.declared.attr.Attr.{Attr}
-use Rattle.bgp_attr.specs.declared.opaque.Opaque.{Opaque}
-use Rattle.bgp_attr.specs.declared.origin.Origin.{Origin}
-use Rattle.bgp_attr.specs.declared.attr.Attr.TheVariants as attr
-use Rattle.bgp_attr.specs.declared.origin.Origin.TheVariants as origin
+use Rattle.bgp_text.specs.Below.{decimal, ipv4_address_text, Aggregator, Attr, Opaque, Origin}
 use Rattle.bgp_text.specs.CommunityLines.{communities_line, large_line}
 use Rattle.bgp_text.specs.Info.{info_text}
 use Rattle.bgp_text.specs.Lines.{line_of}
@@ -15,9 +8,9 @@ use Rattle.bgp_text.specs.MpLines.{reach_lines, unreach_lines}
 use Rattle.bgp_text.specs.PathLine.{path_line}
 
 abbrev pub origin_name : Origin → List ℕ
-origin_name origin.Igp = codes "IGP"
-origin_name origin.Egp = codes "EGP"
-origin_name origin.Incomplete = codes "INCOMPLETE"
+origin_name Origin.Igp = codes "IGP"
+origin_name Origin.Egp = codes "EGP"
+origin_name Origin.Incomplete = codes "INCOMPLETE"
 
 -- its AS number, and its address
 abbrev pub aggregator_line : List ℕ → Aggregator → List ℕ
@@ -36,17 +29,17 @@ opaque_line o = codes "  attr " ++ (decimal o.kind ++ (codes " " ++ (flags_text 
 
 -- an attribute: a line, or some where it carries routes
 unfoldable pub attribute_lines : Attr → List ℕ
-attribute_lines (attr.Origin o) = line_of (codes "  origin ") origin_name o
-attribute_lines (attr.AsPath p) = path_line (codes "  as_path") p
-attribute_lines (attr.NextHop addr) = line_of (codes "  next_hop ") ipv4_address_text addr
-attribute_lines (attr.Med n) = line_of (codes "  med ") decimal n
-attribute_lines (attr.LocalPref n) = line_of (codes "  local_pref ") decimal n
-attribute_lines attr.Atomic = codes "  atomic" ++ 10 ∷ []
-attribute_lines (attr.Aggregator a) = aggregator_line (codes "  aggregator ") a
-attribute_lines (attr.Communities c) = communities_line c.values
-attribute_lines (attr.MpReach r) = reach_lines r
-attribute_lines (attr.MpUnreach r) = unreach_lines r
-attribute_lines (attr.As4Path p) = path_line (codes "  as4_path") p.path
-attribute_lines (attr.As4Aggregator a) = aggregator_line (codes "  as4_aggregator ") a
-attribute_lines (attr.Large c) = large_line c.values
-attribute_lines (attr.Opaque o) = opaque_line o
+attribute_lines (Attr.Origin o) = line_of (codes "  origin ") origin_name o
+attribute_lines (Attr.AsPath p) = path_line (codes "  as_path") p
+attribute_lines (Attr.NextHop addr) = line_of (codes "  next_hop ") ipv4_address_text addr
+attribute_lines (Attr.Med n) = line_of (codes "  med ") decimal n
+attribute_lines (Attr.LocalPref n) = line_of (codes "  local_pref ") decimal n
+attribute_lines Attr.Atomic = codes "  atomic" ++ 10 ∷ []
+attribute_lines (Attr.Aggregator a) = aggregator_line (codes "  aggregator ") a
+attribute_lines (Attr.Communities c) = communities_line c.values
+attribute_lines (Attr.MpReach r) = reach_lines r
+attribute_lines (Attr.MpUnreach r) = unreach_lines r
+attribute_lines (Attr.As4Path p) = path_line (codes "  as4_path") p.path
+attribute_lines (Attr.As4Aggregator a) = aggregator_line (codes "  as4_aggregator ") a
+attribute_lines (Attr.Large c) = large_line c.values
+attribute_lines (Attr.Opaque o) = opaque_line o

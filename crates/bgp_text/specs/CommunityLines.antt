@@ -1,7 +1,6 @@
 -- The lines of COMMUNITIES and LARGE_COMMUNITY.
 use Rattle.std.specs.Prelude.{ℕ, ◌/◌, ◌%◌, List, [], ◌∷◌, ◌++◌, slice_index, codes}
-use Rattle.std.specs.List.{flat_map}
-use Rattle.std.specs.Fmt.{decimal}
+use Rattle.bgp_text.specs.Below.{flat_map, decimal}
 
 -- a community behind a space: its upper 16 bits, a colon, and its lower 16 bits
 abbrev pub community_text : ℕ → List ℕ

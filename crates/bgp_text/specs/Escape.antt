@@ -1,9 +1,6 @@
 -- What a peer wrote, as a string that a terminal and a reader of JSON can be shown.
 use Rattle.std.specs.Prelude.{ℕ, ◌==◌, List, ◌++◌, codes, if◌then◌else◌}
-use Rattle.std.specs.List.{flat_map}
-use Rattle.std.specs.Str.{chars}
-use Rattle.std.specs.Char.{encode_utf8, is_control}
-use Rattle.bgp_prefix.specs.Prelude.{hex_octet}
+use Rattle.bgp_text.specs.Below.{flat_map, chars, encode_utf8, is_control, hex_octet}
 
 -- a character as RFC 8259, section 7, has it: a quotation mark and a backslash behind a backslash, a control character by its number
 abbrev pub escaped : ℕ → List ℕ

@@ -1,16 +1,7 @@
 -- The lines of a message's fields.
 use Rattle.std.specs.Prelude.{ℕ, ◌+◌, ◌==◌, ◌&&◌, nat_lt, nat_le, Bool, false, true, List, [], ◌∷◌, ◌++◌, Option, None, Some, codes, if◌then◌else◌}
-use Rattle.std.specs.List.{flat_map}
-use Rattle.std.specs.Fmt.{decimal}
-use Rattle.bgp_prefix.specs.Prelude.{hex_octet}
-use Rattle.bgp_frame.specs.declared.notification.Notification.{Notification}
-use Rattle.bgp_update.specs.declared.note.Note.{Note}
-use Rattle.bgp_names.specs.Attributes.{attribute_name}
-use Rattle.bgp_names.specs.Errors.{subcode_name}
-use Rattle.bgp_fields.specs.declared.field.Field.{Field}
+use Rattle.bgp_text.specs.Below.{flat_map, decimal, hex_octet, Notification, Note, attribute_name, subcode_name, Field, Span, octets_in}
 use Rattle.bgp_fields.specs.declared.field.Group.{Group}
-use Rattle.bgp_fields.specs.declared.field.Span.{Span}
-use Rattle.bgp_fields.specs.Prelude.{octets_in}
 use Rattle.bgp_text.specs.FieldNames.{field_name}
 use Rattle.bgp_text.specs.FieldValues.{spaced, value_text}
 use Rattle.bgp_text.specs.NoteLines.{why_name}

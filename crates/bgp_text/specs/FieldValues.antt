@@ -1,17 +1,11 @@
 -- What a field says, behind its name.
 use Rattle.std.specs.Prelude.{ℕ, Bool, true, false, ◌==◌, List, [], ◌∷◌, ◌++◌, length, take, drop, codes, slice_index, if◌then◌else◌}
-use Rattle.std.specs.List.{flat_map}
-use Rattle.std.specs.Fmt.{decimal}
+use Rattle.bgp_text.specs.Below.{flat_map, decimal}
+use Rattle.bgp_text.specs.Below.{run_of, ipv4_address_text, ipv6_address_text, ipv4_text, ipv6_text, is_optional, is_transitive, is_partial, is_extended}
+use Rattle.bgp_text.specs.Below.{attribute_name, origin_name, segment_name, capability_name, parameter_name, error_name, subcode_name, FieldKind}
 use Rattle.std.specs.Int.{w16, w32, from_be_bytes}
-use Rattle.bgp_prefix.specs.Prelude.{run_of, ipv4_address_text, ipv6_address_text, ipv4_text, ipv6_text}
-use Rattle.bgp_attr.specs.Prelude.{is_optional, is_transitive, is_partial, is_extended}
-use Rattle.bgp_names.specs.Attributes.{attribute_name, origin_name, segment_name}
-use Rattle.bgp_names.specs.Capabilities.{capability_name, parameter_name}
-use Rattle.bgp_names.specs.Errors.{error_name, subcode_name}
 use Rattle.bgp_names.specs.Families.{afi_name, safi_name}
 use Rattle.bgp_names.specs.Messages.{message_name}
-use Rattle.bgp_fields.specs.declared.kind.FieldKind.{FieldKind}
-use Rattle.bgp_fields.specs.declared.kind.FieldKind.TheVariants as field
 use Rattle.bgp_text.specs.CommunityLines.{community_text, large_text}
 use Rattle.bgp_text.specs.Escape.{escaped_string}
 use Rattle.bgp_text.specs.Shutdown.{shutdown_text}
@@ -36,47 +30,47 @@ numbered name n = codes " " ++ (decimal n ++ spaced name)
 
 -- the fields that are a number
 abbrev pub is_number : FieldKind → Bool
-is_number field.MessageLength = true
-is_number field.MessageType = true
-is_number field.Version = true
-is_number field.MyAs = true
-is_number field.HoldTime = true
-is_number field.ParametersLength = true
-is_number field.ParameterType = true
-is_number field.ParameterLength = true
-is_number field.CapabilityCode = true
-is_number field.CapabilityLength = true
-is_number field.Afi = true
-is_number field.Safi = true
-is_number field.AsNumber = true
-is_number field.WithdrawnLength = true
-is_number field.AttributesLength = true
-is_number field.AttributeType = true
-is_number field.AttributeLength = true
-is_number field.Origin = true
-is_number field.SegmentType = true
-is_number field.SegmentCount = true
-is_number field.Med = true
-is_number field.LocalPref = true
-is_number field.NextHopLength = true
-is_number field.ErrorCode = true
+is_number FieldKind.MessageLength = true
+is_number FieldKind.MessageType = true
+is_number FieldKind.Version = true
+is_number FieldKind.MyAs = true
+is_number FieldKind.HoldTime = true
+is_number FieldKind.ParametersLength = true
+is_number FieldKind.ParameterType = true
+is_number FieldKind.ParameterLength = true
+is_number FieldKind.CapabilityCode = true
+is_number FieldKind.CapabilityLength = true
+is_number FieldKind.Afi = true
+is_number FieldKind.Safi = true
+is_number FieldKind.AsNumber = true
+is_number FieldKind.WithdrawnLength = true
+is_number FieldKind.AttributesLength = true
+is_number FieldKind.AttributeType = true
+is_number FieldKind.AttributeLength = true
+is_number FieldKind.Origin = true
+is_number FieldKind.SegmentType = true
+is_number FieldKind.SegmentCount = true
+is_number FieldKind.Med = true
+is_number FieldKind.LocalPref = true
+is_number FieldKind.NextHopLength = true
+is_number FieldKind.ErrorCode = true
 is_number _ = false
 
 -- what the registries call the octet of a field
 abbrev pub octet_name : FieldKind → ℕ → List ℕ
-octet_name field.MessageType n = message_name n
-octet_name field.ParameterType n = parameter_name n
-octet_name field.CapabilityCode n = capability_name n
-octet_name field.Safi n = safi_name n
-octet_name field.AttributeType n = attribute_name n
-octet_name field.Origin n = origin_name n
-octet_name field.SegmentType n = segment_name n
-octet_name field.ErrorCode n = error_name n
+octet_name FieldKind.MessageType n = message_name n
+octet_name FieldKind.ParameterType n = parameter_name n
+octet_name FieldKind.CapabilityCode n = capability_name n
+octet_name FieldKind.Safi n = safi_name n
+octet_name FieldKind.AttributeType n = attribute_name n
+octet_name FieldKind.Origin n = origin_name n
+octet_name FieldKind.SegmentType n = segment_name n
+octet_name FieldKind.ErrorCode n = error_name n
 octet_name _ n = []
 
 -- what they call the two octets of one
 abbrev pub pair_name : FieldKind → ℕ → List ℕ
-pair_name field.Afi n = afi_name n
+pair_name FieldKind.Afi n = afi_name n
 pair_name _ n = []
 
 -- what they call the number in a field
@@ -128,21 +122,21 @@ said_text (c ∷ characters) = codes " " ++ escaped_string (c ∷ characters)
 
 -- what a field says that isn't a number alone, or is one that means nothing without the octets before it
 abbrev pub other_text : List ℕ → FieldKind → List ℕ → List ℕ
-other_text message field.Identifier b = address_text b
-other_text message field.Address b = address_text b
-other_text message field.NextHop b = address_text b
-other_text message field.LinkLocal b = address_text b
-other_text message field.WithdrawnPrefix b = prefixes4_text b
-other_text message field.UnreachPrefix4 b = prefixes4_text b
-other_text message field.ReachPrefix4 b = prefixes4_text b
-other_text message field.NlriPrefix b = prefixes4_text b
-other_text message field.UnreachPrefix6 b = prefixes6_text b
-other_text message field.ReachPrefix6 b = prefixes6_text b
-other_text message field.AttributeFlags b = flags_text (slice_index b 0)
-other_text message field.Community b = community_text (number_in b)
-other_text message field.LargeCommunity b = large_value b
-other_text message field.ErrorSubcode b = numbered (subcode_name (code_in message) (subcode_in message)) (number_in b)
-other_text message field.Data b = said_text (shutdown_text (code_in message) (subcode_in message) b)
+other_text message FieldKind.Identifier b = address_text b
+other_text message FieldKind.Address b = address_text b
+other_text message FieldKind.NextHop b = address_text b
+other_text message FieldKind.LinkLocal b = address_text b
+other_text message FieldKind.WithdrawnPrefix b = prefixes4_text b
+other_text message FieldKind.UnreachPrefix4 b = prefixes4_text b
+other_text message FieldKind.ReachPrefix4 b = prefixes4_text b
+other_text message FieldKind.NlriPrefix b = prefixes4_text b
+other_text message FieldKind.UnreachPrefix6 b = prefixes6_text b
+other_text message FieldKind.ReachPrefix6 b = prefixes6_text b
+other_text message FieldKind.AttributeFlags b = flags_text (slice_index b 0)
+other_text message FieldKind.Community b = community_text (number_in b)
+other_text message FieldKind.LargeCommunity b = large_value b
+other_text message FieldKind.ErrorSubcode b = numbered (subcode_name (code_in message) (subcode_in message)) (number_in b)
+other_text message FieldKind.Data b = said_text (shutdown_text (code_in message) (subcode_in message) b)
 other_text message _ b = []
 
 -- what the octets of a field say, in a message

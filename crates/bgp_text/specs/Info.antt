@@ -1,8 +1,7 @@
 -- Information and notifications as text.
 use Rattle.std.specs.Prelude.{ℕ, List, [], ◌∷◌, ◌++◌, codes}
-use Rattle.std.specs.Fmt.{decimal}
+use Rattle.bgp_text.specs.Below.{decimal, Notification}
 use Rattle.hex.specs.Hex.{encode_lower}
-use Rattle.bgp_frame.specs.declared.notification.Notification.{Notification}
 
 -- information as lower case hexadecimal text, or a dash where there is none
 unfoldable pub info_text : List ℕ → List ℕ

@@ -1,7 +1,6 @@
 -- Parts of JSON text (RFC 8259), without white space.
 use Rattle.std.specs.Prelude.{ℕ, Bool, true, false, List, [], ◌∷◌, ◌++◌, codes}
-use Rattle.std.specs.List.{flat_map}
-use Rattle.bgp_prefix.specs.Prelude.{hex_octet}
+use Rattle.bgp_text.specs.Below.{flat_map, hex_octet}
 use Rattle.bgp_text.specs.Escape.{escaped_string}
 
 -- a string of characters that need no escape

@@ -1,9 +1,8 @@
 -- Addresses and prefixes as JSON strings.
 use Rattle.std.specs.Prelude.{ℕ, List, ◌++◌, codes}
-use Rattle.std.specs.Fmt.{decimal}
+use Rattle.bgp_text.specs.Below.{decimal, PrefixValue, ipv4_address_text, ipv4_text}
 use Rattle.std.specs.Net.Addr.{segments_of}
 use Rattle.std.specs.Net.Text.{hex_groups_text}
-use Rattle.bgp_prefix.specs.Prelude.{PrefixValue, ipv4_address_text, ipv4_text}
 use Rattle.bgp_text.specs.Json.{quoted}
 
 abbrev pub ip4_json : List ℕ → List ℕ

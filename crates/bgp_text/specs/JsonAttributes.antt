@@ -1,12 +1,6 @@
 -- Attributes as JSON.
 use Rattle.std.specs.Prelude.{ℕ, ◌/◌, ◌%◌, true, List, [], ◌∷◌, ◌++◌, slice_index, codes}
-use Rattle.std.specs.Fmt.{decimal}
-use Rattle.bgp_attr.specs.declared.aggregator.Aggregator.{Aggregator}
-use Rattle.bgp_attr.specs.declared.attr.Attr.{Attr}
-use Rattle.bgp_attr.specs.declared.opaque.Opaque.{Opaque}
-use Rattle.bgp_attr.specs.declared.origin.Origin.{Origin}
-use Rattle.bgp_attr.specs.declared.attr.Attr.TheVariants as attr
-use Rattle.bgp_names.specs.Attributes.{attribute_name}
+use Rattle.bgp_text.specs.Below.{decimal, Aggregator, Attr, Opaque, Origin, attribute_name}
 use Rattle.bgp_text.specs.AttributeLines.{origin_name}
 use Rattle.bgp_text.specs.Json.{quoted, octets_json, boolean, member, listed, where_named}
 use Rattle.bgp_text.specs.JsonAddress.{ip4_json}
@@ -40,17 +34,17 @@ others_member others = member (codes "others") (listed opaque_json) others
 
 -- an attribute as a member of an object; one that isn't recognised as a list by itself
 unfoldable pub attribute_member : Attr → List ℕ
-attribute_member (attr.Origin o) = member (codes "origin") origin_json o
-attribute_member (attr.AsPath p) = member (codes "as_path") path_json p
-attribute_member (attr.NextHop addr) = member (codes "next_hop") ip4_json addr
-attribute_member (attr.Med n) = member (codes "med") decimal n
-attribute_member (attr.LocalPref n) = member (codes "local_pref") decimal n
-attribute_member attr.Atomic = member (codes "atomic_aggregate") boolean true
-attribute_member (attr.Aggregator a) = member (codes "aggregator") aggregator_json a
-attribute_member (attr.Communities c) = member (codes "communities") (listed community_json) c.values
-attribute_member (attr.MpReach r) = member (codes "mp_reach") reach_json r
-attribute_member (attr.MpUnreach r) = member (codes "mp_unreach") unreach_json r
-attribute_member (attr.As4Path p) = member (codes "as4_path") path_json p.path
-attribute_member (attr.As4Aggregator a) = member (codes "as4_aggregator") aggregator_json a
-attribute_member (attr.Large c) = member (codes "large_communities") (listed large_json) c.values
-attribute_member (attr.Opaque o) = others_member (o ∷ [])
+attribute_member (Attr.Origin o) = member (codes "origin") origin_json o
+attribute_member (Attr.AsPath p) = member (codes "as_path") path_json p
+attribute_member (Attr.NextHop addr) = member (codes "next_hop") ip4_json addr
+attribute_member (Attr.Med n) = member (codes "med") decimal n
+attribute_member (Attr.LocalPref n) = member (codes "local_pref") decimal n
+attribute_member Attr.Atomic = member (codes "atomic_aggregate") boolean true
+attribute_member (Attr.Aggregator a) = member (codes "aggregator") aggregator_json a
+attribute_member (Attr.Communities c) = member (codes "communities") (listed community_json) c.values
+attribute_member (Attr.MpReach r) = member (codes "mp_reach") reach_json r
+attribute_member (Attr.MpUnreach r) = member (codes "mp_unreach") unreach_json r
+attribute_member (Attr.As4Path p) = member (codes "as4_path") path_json p.path
+attribute_member (Attr.As4Aggregator a) = member (codes "as4_aggregator") aggregator_json a
+attribute_member (Attr.Large c) = member (codes "large_communities") (listed large_json) c.values
+attribute_member (Attr.Opaque o) = others_member (o ∷ [])

@@ -1,9 +1,6 @@
 -- Notes as JSON.
 use Rattle.std.specs.Prelude.{ℕ, List, ◌++◌, codes}
-use Rattle.std.specs.Fmt.{decimal}
-use Rattle.bgp_attr.specs.declared.why.Why.{Why}
-use Rattle.bgp_update.specs.declared.note.Note.{Note}
-use Rattle.bgp_names.specs.Attributes.{attribute_name}
+use Rattle.bgp_text.specs.Below.{decimal, Why, Note, attribute_name}
 use Rattle.bgp_text.specs.Json.{quoted, member, listed, where_named}
 use Rattle.bgp_text.specs.NoteLines.{why_name}
 

@@ -1,11 +1,7 @@
 -- An OPEN as JSON.
 use Rattle.std.specs.Prelude.{ℕ, List, ◌++◌, codes}
-use Rattle.std.specs.Fmt.{decimal}
+use Rattle.bgp_text.specs.Below.{decimal, Capability, Multi, As4, Other, Open, capability_name}
 use Rattle.bgp_numbers.specs.declared.capability.TheConstants.{MULTIPROTOCOL, FOUR_OCTET_AS}
-use Rattle.bgp_open.specs.declared.capability.Capability.{Capability}
-use Rattle.bgp_open.specs.declared.capability.Capability.TheVariants.{Multi, As4, Other}
-use Rattle.bgp_open.specs.declared.message.Open.{Open}
-use Rattle.bgp_names.specs.Capabilities.{capability_name}
 use Rattle.bgp_text.specs.Json.{octets_json, member, listed, where_named}
 use Rattle.bgp_text.specs.JsonAddress.{ip4_json}
 

@@ -1,15 +1,7 @@
 -- An outcome as a line of JSON: an object.
 use Rattle.std.specs.Prelude.{ℕ, List, [], ◌++◌, Option, None, Some, codes}
-use Rattle.std.specs.Fmt.{decimal}
-use Rattle.bgp_frame.specs.declared.notification.Notification.{Notification}
-use Rattle.bgp_update.specs.declared.note.Note.{Note}
-use Rattle.bgp_update.specs.declared.routes.Routes.{Routes}
-use Rattle.bgp_msg.specs.declared.message.Message.{Message}
-use Rattle.bgp_msg.specs.declared.outcome.Outcome.{Outcome}
-use Rattle.bgp_msg.specs.declared.message.Message.TheVariants as message
-use Rattle.bgp_msg.specs.declared.outcome.Outcome.TheVariants as outcome
-use Rattle.bgp_fields.specs.declared.field.Span.{Span}
-use Rattle.bgp_names.specs.Errors.{error_name, subcode_name}
+use Rattle.bgp_text.specs.Below.{decimal, Notification, Note, Routes, Message, Outcome, Span, error_name}
+use Rattle.bgp_text.specs.Below.{subcode_name}
 use Rattle.bgp_text.specs.Json.{quoted, octets_json, member, line_end, where_named, where_said}
 use Rattle.bgp_text.specs.JsonNotes.{notes_member}
 use Rattle.bgp_text.specs.JsonOpen.{open_members}
@@ -35,12 +27,12 @@ notification_members n =
 
 -- a message that is accepted; an UPDATE with notes on attributes that are discarded: other messages have none
 unfoldable pub took_json : ℕ → ℕ → Message → List Note → List ℕ
-took_json place len (message.Open o) notes = judged place len (codes "OPEN") (codes "take") ++ (open_members o ++ line_end)
-took_json place len (message.Update u) notes =
+took_json place len (Message.Open o) notes = judged place len (codes "OPEN") (codes "take") ++ (open_members o ++ line_end)
+took_json place len (Message.Update u) notes =
     judged place len (codes "UPDATE") (codes "take") ++ (update_members u ++ (notes_member notes ++ line_end))
-took_json place len (message.Notification n) notes =
+took_json place len (Message.Notification n) notes =
     judged place len (codes "NOTIFICATION") (codes "take") ++ (notification_members n ++ line_end)
-took_json place len message.Keepalive notes = judged place len (codes "KEEPALIVE") (codes "take") ++ line_end
+took_json place len Message.Keepalive notes = judged place len (codes "KEEPALIVE") (codes "take") ++ line_end
 
 -- an UPDATE that is treated as a withdrawal, and notes on why
 abbrev pub withdraw_json : ℕ → ℕ → Routes → List Note → List ℕ
@@ -66,6 +58,6 @@ reset_json place len span n = judged place len (reset_name n.code) (codes "reset
 -- the object of an outcome, at its offset in the stream, with the octets of its message in number, 0 for a header's fault, and those of them for
 -- which it is a reset
 unfoldable pub outcome_json : ℕ → ℕ → Option Span → Outcome → List ℕ
-outcome_json place len span (outcome.Took m notes) = took_json place len m notes
-outcome_json place len span (outcome.Withdraw routes notes) = withdraw_json place len routes notes
-outcome_json place len span (outcome.Reset n) = reset_json place len span n
+outcome_json place len span (Outcome.Took m notes) = took_json place len m notes
+outcome_json place len span (Outcome.Withdraw routes notes) = withdraw_json place len routes notes
+outcome_json place len span (Outcome.Reset n) = reset_json place len span n

@@ -1,16 +1,11 @@
 -- AS paths as JSON.
 use Rattle.std.specs.Prelude.{ℕ, List, ◌++◌, codes}
-use Rattle.std.specs.Fmt.{decimal}
-use Rattle.bgp_prefix.specs.declared.as_number.AsNumber.{AsNumber}
-use Rattle.bgp_attr.specs.declared.path.AsPath.{AsPath}
-use Rattle.bgp_attr.specs.declared.path.SegKind.{SegKind}
-use Rattle.bgp_attr.specs.declared.path.Segment.{Segment}
-use Rattle.bgp_attr.specs.declared.path.SegKind.TheVariants as seg_kind
+use Rattle.bgp_text.specs.Below.{decimal, AsNumber, AsPath, SegKind, Segment}
 use Rattle.bgp_text.specs.Json.{quoted, member, listed}
 
 abbrev pub segment_type : SegKind → List ℕ
-segment_type seg_kind.Set = codes "set"
-segment_type seg_kind.Seq = codes "sequence"
+segment_type SegKind.Set = codes "set"
+segment_type SegKind.Seq = codes "sequence"
 
 abbrev pub as_number_json : AsNumber → List ℕ
 as_number_json n = decimal n.0

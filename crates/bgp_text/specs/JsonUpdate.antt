@@ -1,7 +1,6 @@
 -- An UPDATE, and routes that are withdrawn, as JSON.
 use Rattle.std.specs.Prelude.{ℕ, List, ◌++◌, codes, map}
-use Rattle.bgp_update.specs.declared.routes.Routes.{Routes}
-use Rattle.bgp_update.specs.declared.update.Update.{Update}
+use Rattle.bgp_text.specs.Below.{Routes, Update}
 use Rattle.bgp_text.specs.Json.{member, listed}
 use Rattle.bgp_text.specs.JsonAddress.{prefix4_json, prefix6_json}
 use Rattle.bgp_text.specs.JsonAttributes.{attribute_member, others_member}

@@ -1,4 +1,5 @@
 -- The printed form of messages, routes, notes and ends of streams.
+pub mod Below
 pub mod Info
 pub mod End
 pub mod Escape

@@ -1,11 +1,6 @@
 -- The details of an OPEN.
 use Rattle.std.specs.Prelude.{ℕ, List, [], ◌∷◌, ◌++◌, codes}
-use Rattle.std.specs.List.{flat_map}
-use Rattle.std.specs.Fmt.{decimal}
-use Rattle.bgp_prefix.specs.Prelude.{ipv4_address_text}
-use Rattle.bgp_open.specs.declared.capability.Capability.{Capability}
-use Rattle.bgp_open.specs.declared.capability.Capability.TheVariants.{Multi, As4, Other}
-use Rattle.bgp_open.specs.declared.message.Open.{Open}
+use Rattle.bgp_text.specs.Below.{flat_map, decimal, ipv4_address_text, Capability, Multi, As4, Other, Open}
 use Rattle.bgp_text.specs.Info.{info_text}
 
 -- My Autonomous System as it stands, the hold time, and the identifier

@@ -1,15 +1,7 @@
 -- The lines of an outcome.
 use Rattle.std.specs.Prelude.{ℕ, ◌==◌, List, [], ◌∷◌, ◌++◌, codes, if◌then◌else◌}
-use Rattle.std.specs.List.{flat_map}
-use Rattle.std.specs.Fmt.{decimal}
-use Rattle.bgp_numbers.specs.declared.error.TheConstants.{MESSAGE_HEADER, OPEN_MESSAGE}
-use Rattle.bgp_frame.specs.declared.notification.Notification.{Notification}
-use Rattle.bgp_update.specs.declared.note.Note.{Note}
-use Rattle.bgp_update.specs.declared.routes.Routes.{Routes}
-use Rattle.bgp_msg.specs.declared.message.Message.{Message}
-use Rattle.bgp_msg.specs.declared.outcome.Outcome.{Outcome}
-use Rattle.bgp_msg.specs.declared.message.Message.TheVariants as message
-use Rattle.bgp_msg.specs.declared.outcome.Outcome.TheVariants as outcome
+use Rattle.bgp_text.specs.Below.{flat_map, decimal, MESSAGE_HEADER, OPEN_MESSAGE, Notification, Note}
+use Rattle.bgp_text.specs.Below.{Routes, Message, Outcome}
 use Rattle.bgp_text.specs.Info.{notification_text}
 use Rattle.bgp_text.specs.NoteLines.{note_line}
 use Rattle.bgp_text.specs.OpenLines.{open_lines}
@@ -24,10 +16,10 @@ notification_line place len n = decimal place ++ (codes " " ++ (decimal len ++ (
 
 -- a message that is taken
 unfoldable pub message_lines : ℕ → ℕ → Message → List ℕ
-message_lines place len (message.Open o) = head_line place len (codes "OPEN") ++ open_lines o
-message_lines place len (message.Update u) = head_line place len (codes "UPDATE take") ++ update_lines u
-message_lines place len (message.Notification n) = notification_line place len n
-message_lines place len message.Keepalive = head_line place len (codes "KEEPALIVE")
+message_lines place len (Message.Open o) = head_line place len (codes "OPEN") ++ open_lines o
+message_lines place len (Message.Update u) = head_line place len (codes "UPDATE take") ++ update_lines u
+message_lines place len (Message.Notification n) = notification_line place len n
+message_lines place len Message.Keepalive = head_line place len (codes "KEEPALIVE")
 
 -- a message that is accepted, and notes on what of it is discarded
 abbrev pub took_lines : ℕ → ℕ → Message → List Note → List ℕ
@@ -50,6 +42,6 @@ reset_line place len n = decimal place ++ (codes " " ++ (decimal len ++ (codes "
 
 -- what an outcome prints, at its place in the stream and with the octets of its message in number, 0 for a header's fault
 unfoldable pub outcome_lines : ℕ → ℕ → Outcome → List ℕ
-outcome_lines place len (outcome.Took m notes) = took_lines place len m notes
-outcome_lines place len (outcome.Withdraw routes notes) = withdraw_lines place len routes notes
-outcome_lines place len (outcome.Reset n) = reset_line place len n
+outcome_lines place len (Outcome.Took m notes) = took_lines place len m notes
+outcome_lines place len (Outcome.Withdraw routes notes) = withdraw_lines place len routes notes
+outcome_lines place len (Outcome.Reset n) = reset_line place len n

@@ -1,16 +1,10 @@
 -- The lines of AS paths.
 use Rattle.std.specs.Prelude.{ℕ, List, [], ◌∷◌, ◌++◌, codes}
-use Rattle.std.specs.List.{flat_map}
-use Rattle.std.specs.Fmt.{decimal}
-use Rattle.bgp_prefix.specs.declared.as_number.AsNumber.{AsNumber}
-use Rattle.bgp_attr.specs.declared.path.AsPath.{AsPath}
-use Rattle.bgp_attr.specs.declared.path.SegKind.{SegKind}
-use Rattle.bgp_attr.specs.declared.path.Segment.{Segment}
-use Rattle.bgp_attr.specs.declared.path.SegKind.TheVariants as seg_kind
+use Rattle.bgp_text.specs.Below.{flat_map, decimal, AsNumber, AsPath, SegKind, Segment}
 
 abbrev pub kind_name : SegKind → List ℕ
-kind_name seg_kind.Set = codes "set"
-kind_name seg_kind.Seq = codes "seq"
+kind_name SegKind.Set = codes "set"
+kind_name SegKind.Seq = codes "seq"
 
 -- an AS number behind a space
 abbrev pub number_text : AsNumber → List ℕ

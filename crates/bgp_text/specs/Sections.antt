@@ -1,9 +1,7 @@
 -- The sections of the RFCs by which messages are judged.
 use Rattle.std.specs.Prelude.{ℕ, ◌==◌, ◌&&◌, List, [], ◌∷◌, codes, if◌then◌else◌}
-use Rattle.bgp_attr.specs.declared.why.Why.{Why}
-use Rattle.bgp_attr.specs.declared.why.Why.TheVariants as why
+use Rattle.bgp_text.specs.Below.{Why, MESSAGE_HEADER, OPEN_MESSAGE, UPDATE_MESSAGE, OPTIONAL_ATTRIBUTE}
 use Rattle.bgp_names.specs.Names.{named}
-use Rattle.bgp_numbers.specs.declared.error.TheConstants.{MESSAGE_HEADER, OPEN_MESSAGE, UPDATE_MESSAGE, OPTIONAL_ATTRIBUTE}
 
 -- where the value of a type of attribute is judged
 unfoldable pub value_section : ℕ → List ℕ
@@ -24,12 +22,12 @@ value_section kind = named (
 
 -- where a note is called for: by its reason, else by the type of the attribute
 unfoldable pub note_section : ℕ → Why → List ℕ
-note_section kind why.Flags = codes "RFC 7606, section 3, item c"
-note_section kind why.Missing = codes "RFC 7606, section 3, item d"
-note_section kind why.Repeated = codes "RFC 7606, section 3, item g"
-note_section kind why.Cut = codes "RFC 7606, section 4"
-note_section kind why.AsZero = codes "RFC 7607, section 2"
-note_section kind why.FourOctet = codes "RFC 6793, section 4.1"
+note_section kind Why.Flags = codes "RFC 7606, section 3, item c"
+note_section kind Why.Missing = codes "RFC 7606, section 3, item d"
+note_section kind Why.Repeated = codes "RFC 7606, section 3, item g"
+note_section kind Why.Cut = codes "RFC 7606, section 4"
+note_section kind Why.AsZero = codes "RFC 7607, section 2"
+note_section kind Why.FourOctet = codes "RFC 6793, section 4.1"
 note_section kind _ = value_section kind
 
 -- where a reset is called for

@@ -1,7 +1,7 @@
 -- What a peer says as it shuts a session down (RFC 9003, section 2).
 use Rattle.std.specs.Prelude.{ℕ, Bool, ◌==◌, ◌&&◌, ◌||◌, List, [], ◌∷◌, length, if◌then◌else◌}
-use Rattle.std.specs.Str.{is_utf8}
-use Rattle.bgp_numbers.specs.declared.error.TheConstants.{CEASE, ADMINISTRATIVE_SHUTDOWN, ADMINISTRATIVE_RESET}
+use Rattle.bgp_text.specs.Below.{is_utf8, CEASE, ADMINISTRATIVE_SHUTDOWN}
+use Rattle.bgp_text.specs.Below.{ADMINISTRATIVE_RESET}
 
 -- the octets behind an octet that counts them
 abbrev pub counted_text : List ℕ → List ℕ

@@ -1,9 +1,6 @@
 -- The lines of an UPDATE, and of routes that are withdrawn.
 use Rattle.std.specs.Prelude.{ℕ, List, ◌++◌, codes}
-use Rattle.std.specs.List.{flat_map}
-use Rattle.bgp_prefix.specs.Prelude.{ipv4_text, ipv6_text}
-use Rattle.bgp_update.specs.declared.routes.Routes.{Routes}
-use Rattle.bgp_update.specs.declared.update.Update.{Update}
+use Rattle.bgp_text.specs.Below.{flat_map, ipv4_text, ipv6_text, Routes, Update}
 use Rattle.bgp_text.specs.AttributeLines.{attribute_lines, opaque_line}
 use Rattle.bgp_text.specs.Lines.{line_of}
 use Rattle.bgp_text.specs.Members.{Shown, printed}

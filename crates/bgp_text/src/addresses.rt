@@ -1,8 +1,7 @@
 //! Addresses as text.
 
 ghost use Rattle.std.specs.Prelude.{◌≡◌, ◌+◌, ◌≤◌, ◌<◌, ◌++◌, length, codes};
-ghost use Rattle.std.specs.Fmt.{decimal};
-ghost use Rattle.bgp_prefix.specs.Prelude.{ipv4_address_text, ipv6_address_text, group_text, groups_text};
+ghost use Rattle.bgp_text.specs.Below.{decimal, ipv4_address_text, ipv6_address_text, group_text, groups_text};
 
 use crate::short::Short;
 use crate::word::Word;

@@ -1,9 +1,7 @@
 //! The lines of attributes.
 
 ghost use Rattle.std.specs.Prelude.{◌≡◌, ◌++◌, map, codes, OnOk};
-ghost use Rattle.std.specs.List.{flat_map};
-ghost use Rattle.std.specs.String.{string_bytes};
-ghost use Rattle.bgp_attr.specs.Prelude.{attr_value, opaque_value};
+ghost use Rattle.bgp_text.specs.Below.{flat_map, string_bytes, attr_value, opaque_value};
 ghost use Rattle.bgp_text.specs.Lines.{line_of};
 ghost use Rattle.bgp_text.specs.AttributeLines.{origin_name, aggregator_line, flags_text, opaque_line, attribute_lines};
 

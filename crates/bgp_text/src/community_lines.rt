@@ -1,8 +1,7 @@
 //! The lines of COMMUNITIES and LARGE_COMMUNITY.
 
 ghost use Rattle.std.specs.Prelude.{◌≡◌, ◌++◌, OnOk};
-ghost use Rattle.std.specs.String.{string_bytes};
-ghost use Rattle.bgp_attr.specs.Prelude.{triples_left, communities_left};
+ghost use Rattle.bgp_text.specs.Below.{string_bytes, triples_left, communities_left};
 ghost use Rattle.bgp_text.specs.CommunityLines.{communities_line, large_line};
 
 use crate::short::{Short, put_row};

@@ -4,7 +4,7 @@
 //! that the number hasn't lie in front of where it starts.
 
 ghost use Rattle.std.specs.Prelude.{◌≡◌, ◌+◌, ◌-◌, ◌≤◌, ◌<◌, ◌++◌, length, drop};
-ghost use Rattle.std.specs.Fmt.{decimal};
+ghost use Rattle.bgp_text.specs.Below.{decimal};
 ghost use Rattle.bgp_text.specs.steps.Digits.{three_digits};
 
 // Three digits of each number below 1000.

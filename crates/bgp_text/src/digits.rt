@@ -3,7 +3,7 @@
 /// A number whose digits a word holds.
 pub(crate) trait Digits: Copy {
     ghost use Rattle.std.specs.Prelude.{ℕ, ◌≡◌, ◌≤◌, length};
-    ghost use Rattle.std.specs.Fmt.{decimal};
+    ghost use Rattle.bgp_text.specs.Below.{decimal};
 
     /// The number.
     ghost value: { Self → ℕ };

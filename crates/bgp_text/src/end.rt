@@ -1,7 +1,7 @@
 //! The line of a stream's end.
 
 ghost use Rattle.std.specs.Prelude.{◌≡◌, ◌++◌, OnOk};
-ghost use Rattle.std.specs.String.{string_bytes};
+ghost use Rattle.bgp_text.specs.Below.{string_bytes};
 ghost use Rattle.bgp_text.specs.End.{end_line};
 
 use bgp_frame::End;

@@ -1,10 +1,7 @@
 //! What a peer wrote, as a string that a terminal and a reader of JSON can be shown.
 
 ghost use Rattle.std.specs.Prelude.{◌≡◌, ◌<◌, ◌++◌, codes, OnOk};
-ghost use Rattle.std.specs.List.{flat_map};
-ghost use Rattle.std.specs.Str.{chars};
-ghost use Rattle.std.specs.String.{string_bytes};
-ghost use Rattle.bgp_prefix.specs.Prelude.{hex_octet};
+ghost use Rattle.bgp_text.specs.Below.{flat_map, chars, string_bytes, hex_octet};
 ghost use Rattle.bgp_text.specs.Escape.{escaped, escaped_string};
 
 use crate::json::put_octet;

@@ -1,8 +1,7 @@
 //! What `explain` prints of a message.
 
 ghost use Rattle.std.specs.Prelude.{◌≡◌, ◌≤◌, ◌++◌, length, OnOk};
-ghost use Rattle.std.specs.String.{string_bytes};
-ghost use Rattle.bgp_msg.specs.Prelude.{outcome_value};
+ghost use Rattle.bgp_text.specs.Below.{string_bytes, outcome_value};
 ghost use Rattle.bgp_text.specs.Explained.{explained_fields, explained_lines};
 
 use crate::field_lines::{put_faulty_fields, put_noted_fields, put_plain_fields};

@@ -1,13 +1,8 @@
 //! The lines of a message's fields.
 
 ghost use Rattle.std.specs.Prelude.{◌≡◌, ◌≤◌, ◌++◌, [], ◌∷◌, ℕ, List, true, codes, length, take, drop, OnOk};
-ghost use Rattle.std.specs.List.{flat_map};
-ghost use Rattle.std.specs.String.{string_bytes};
-ghost use Rattle.bgp_prefix.specs.Prelude.{hex_octet};
-ghost use Rattle.bgp_frame.specs.Prelude.{notification_of_view};
-ghost use Rattle.bgp_update.specs.Prelude.{notes_left};
-ghost use Rattle.bgp_fields.specs.Prelude.{fields_left};
-ghost use Rattle.bgp_fields.specs.declared.field.Field.{Field as FieldValue};
+ghost use Rattle.bgp_text.specs.Below.{flat_map, string_bytes, hex_octet};
+ghost use Rattle.bgp_text.specs.Below.{notification_of_view, notes_left, fields_left, Field as FieldValue};
 ghost use Rattle.bgp_text.specs.steps.Rows.{row_of, note_at, noting_lines, plain_line};
 ghost use Rattle.bgp_text.specs.FieldLines.{margin, field_text, field_line, note_reason, is_at, is_in, unplaced_line, noted_lines, reset_reason, overlaps, holds, faulty_line};
 

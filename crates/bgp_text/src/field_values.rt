@@ -1,9 +1,7 @@
 //! What a field says, behind its name.
 
 ghost use Rattle.std.specs.Prelude.{◌≡◌, ◌+◌, ◌≤◌, ◌++◌, codes, slice_index, OnOk};
-ghost use Rattle.std.specs.List.{flat_map};
-ghost use Rattle.std.specs.String.{string_bytes};
-ghost use Rattle.bgp_names.specs.Errors.{subcode_name};
+ghost use Rattle.bgp_text.specs.Below.{flat_map, string_bytes, subcode_name};
 ghost use Rattle.bgp_text.specs.Shutdown.{shutdown_text};
 ghost use Rattle.bgp_text.specs.FieldValues.{number_in, spaced, numbered, is_number, octet_name, pair_name, number_name, address_text, prefixes4_text, prefixes6_text, flags_text, large_value, code_in, subcode_in, said_text, other_text, value_text};
 

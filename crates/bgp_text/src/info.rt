@@ -1,7 +1,7 @@
 //! Information and notifications as text.
 
 ghost use Rattle.std.specs.Prelude.{◌≡◌, IfOk};
-ghost use Rattle.std.specs.String.{string_bytes};
+ghost use Rattle.bgp_text.specs.Below.{string_bytes};
 ghost use Rattle.bgp_text.specs.Info.{info_text, notification_text};
 
 use bgp_frame::Notification;

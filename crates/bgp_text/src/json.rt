@@ -1,10 +1,7 @@
 //! Parts of JSON text.
 
 ghost use Rattle.std.specs.Prelude.{◌≡◌, ◌+◌, ◌≤◌, ◌++◌, OnOk};
-ghost use Rattle.std.specs.Fmt.{decimal};
-ghost use Rattle.std.specs.List.{flat_map};
-ghost use Rattle.std.specs.String.{string_bytes};
-ghost use Rattle.bgp_prefix.specs.Prelude.{hex_octet};
+ghost use Rattle.bgp_text.specs.Below.{decimal, flat_map, string_bytes, hex_octet};
 ghost use Rattle.bgp_text.specs.Json.{quoted, octets_json, boolean, named, member, line_end, where_named, where_said};
 
 use crate::escape::put_escaped;

@@ -1,7 +1,7 @@
 //! Addresses and prefixes as JSON strings.
 
 ghost use Rattle.std.specs.Prelude.{◌≡◌, ◌++◌, OnOk};
-ghost use Rattle.std.specs.String.{string_bytes};
+ghost use Rattle.bgp_text.specs.Below.{string_bytes};
 ghost use Rattle.bgp_text.specs.Json.{member};
 ghost use Rattle.bgp_text.specs.JsonAddress.{ip4_json, ip6_json, prefix4_json, prefix6_json};
 

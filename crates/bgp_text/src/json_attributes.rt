@@ -1,8 +1,7 @@
 //! Attributes as JSON.
 
 ghost use Rattle.std.specs.Prelude.{◌≡◌, ◌++◌, map, codes, OnOk};
-ghost use Rattle.std.specs.String.{string_bytes};
-ghost use Rattle.bgp_attr.specs.Prelude.{attr_value, opaque_value, triples_left, communities_left};
+ghost use Rattle.bgp_text.specs.Below.{string_bytes, attr_value, opaque_value, triples_left, communities_left};
 ghost use Rattle.bgp_text.specs.Json.{member, listed};
 ghost use Rattle.bgp_text.specs.JsonAttributes.{aggregator_json, community_json, large_json, others_member, attribute_member};
 

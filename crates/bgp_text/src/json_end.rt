@@ -1,7 +1,7 @@
 //! The object of a stream's end.
 
 ghost use Rattle.std.specs.Prelude.{◌≡◌, ◌++◌, OnOk};
-ghost use Rattle.std.specs.String.{string_bytes};
+ghost use Rattle.bgp_text.specs.Below.{string_bytes};
 ghost use Rattle.bgp_frame.specs.declared.end.End.TheVariants.{Wait};
 ghost use Rattle.bgp_text.specs.Json.{line_end};
 ghost use Rattle.bgp_text.specs.JsonEnd.{ended, end_json};

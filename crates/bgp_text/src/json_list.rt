@@ -1,8 +1,7 @@
 //! Lists of JSON.
 
 ghost use Rattle.std.specs.Prelude.{◌≡◌, ◌++◌, OnOk};
-ghost use Rattle.std.specs.List.{flat_map};
-ghost use Rattle.std.specs.String.{string_bytes};
+ghost use Rattle.bgp_text.specs.Below.{flat_map, string_bytes};
 ghost use Rattle.bgp_text.specs.Json.{member, behind_comma, joined, listed};
 
 use crate::json::put_name;
@@ -12,7 +11,7 @@ use std::alloc::AllocError;
 /// What stands in lists.
 pub(crate) trait Element: Copy {
     ghost use Rattle.std.specs.Prelude.{◌≡◌, ◌++◌, ℕ, List, OnOk};
-    ghost use Rattle.std.specs.String.{string_bytes};
+    ghost use Rattle.bgp_text.specs.Below.{string_bytes};
 
     /// Its JSON text.
     ghost json: { Self → List ℕ };

@@ -1,11 +1,9 @@
 //! MP_REACH_NLRI and MP_UNREACH_NLRI as JSON.
 
 ghost use Rattle.std.specs.Prelude.{◌≡◌, ◌++◌, codes, OnOk};
-ghost use Rattle.std.specs.String.{string_bytes};
+ghost use Rattle.bgp_text.specs.Below.{string_bytes, reach_value, unreach_value, prefixes_left};
 ghost use Rattle.bgp_attr.specs.declared.mp.MpReach.TheVariants as reach;
 ghost use Rattle.bgp_attr.specs.declared.mp.MpUnreach.TheVariants as unreach;
-ghost use Rattle.bgp_attr.specs.Prelude.{reach_value, unreach_value};
-ghost use Rattle.bgp_prefix.specs.Prelude.{prefixes_left};
 ghost use Rattle.bgp_text.specs.Json.{member};
 ghost use Rattle.bgp_text.specs.JsonAddress.{ip6_json};
 ghost use Rattle.bgp_text.specs.JsonMp.{family_json, reach_json, unreach_json};

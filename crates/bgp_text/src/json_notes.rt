@@ -1,8 +1,7 @@
 //! Notes as JSON.
 
 ghost use Rattle.std.specs.Prelude.{◌≡◌, ◌++◌, OnOk};
-ghost use Rattle.std.specs.String.{string_bytes};
-ghost use Rattle.bgp_update.specs.Prelude.{notes_value};
+ghost use Rattle.bgp_text.specs.Below.{string_bytes, notes_value};
 ghost use Rattle.bgp_text.specs.JsonNotes.{notes_member};
 
 use crate::json::{put_decimal, put_name_member, put_number_member, put_word_member};

@@ -1,9 +1,7 @@
 //! An OPEN as JSON.
 
 ghost use Rattle.std.specs.Prelude.{◌≡◌, ◌++◌, codes, OnOk};
-ghost use Rattle.std.specs.List.{flat_map};
-ghost use Rattle.std.specs.String.{string_bytes};
-ghost use Rattle.bgp_open.specs.declared.capability.Capability.TheVariants.{Multi, As4, Other};
+ghost use Rattle.bgp_text.specs.Below.{flat_map, string_bytes, Multi, As4, Other};
 ghost use Rattle.bgp_text.specs.Json.{member, behind_comma, joined, listed};
 ghost use Rattle.bgp_text.specs.JsonOpen.{code_json, capability_json, open_members, name_end};
 

@@ -1,12 +1,8 @@
 //! An outcome as a line of JSON, while it lies in octets.
 
 ghost use Rattle.std.specs.Prelude.{◌≡◌, ◌++◌, [], OnOk};
-ghost use Rattle.std.specs.Fmt.{decimal};
-ghost use Rattle.std.specs.String.{string_bytes};
-ghost use Rattle.bgp_frame.specs.Prelude.{notification_of_view};
-ghost use Rattle.bgp_open.specs.Prelude.{open_value};
-ghost use Rattle.bgp_update.specs.Prelude.{update_value, notes_value, routes_value};
-ghost use Rattle.bgp_msg.specs.Prelude.{outcome_value};
+ghost use Rattle.bgp_text.specs.Below.{decimal, string_bytes, notification_of_view, open_value, update_value, notes_value, routes_value};
+ghost use Rattle.bgp_text.specs.Below.{outcome_value};
 ghost use Rattle.bgp_msg.specs.declared.message.Message.TheVariants as message;
 ghost use Rattle.bgp_text.specs.JsonOutcome.{judged, notification_members, took_json, withdraw_json, reset_json, outcome_json, names_of, count_member, fault_members, span_members};
 

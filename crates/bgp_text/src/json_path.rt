@@ -1,9 +1,7 @@
 //! AS paths as JSON.
 
 ghost use Rattle.std.specs.Prelude.{◌≡◌, ◌++◌, OnOk};
-ghost use Rattle.std.specs.List.{flat_map};
-ghost use Rattle.std.specs.String.{string_bytes};
-ghost use Rattle.bgp_attr.specs.Prelude.{segment_value, path_value, segments_left};
+ghost use Rattle.bgp_text.specs.Below.{flat_map, string_bytes, segment_value, path_value, segments_left};
 ghost use Rattle.bgp_text.specs.Json.{member, behind_comma, joined};
 ghost use Rattle.bgp_text.specs.JsonPath.{segment_type, segment_json, path_json};
 

@@ -1,9 +1,7 @@
 //! An UPDATE, and routes that are withdrawn, as JSON.
 
 ghost use Rattle.std.specs.Prelude.{◌≡◌, ◌++◌, codes, map, OnOk};
-ghost use Rattle.std.specs.List.{flat_map};
-ghost use Rattle.std.specs.String.{string_bytes};
-ghost use Rattle.bgp_update.specs.Prelude.{routes_value};
+ghost use Rattle.bgp_text.specs.Below.{flat_map, string_bytes, routes_value};
 ghost use Rattle.bgp_text.specs.Json.{member, behind_comma, joined};
 ghost use Rattle.bgp_text.specs.JsonAddress.{prefix4_json, prefix6_json};
 ghost use Rattle.bgp_text.specs.JsonUpdate.{routes_json};

@@ -1,12 +1,10 @@
 //! Laws over the definitions alone: these functions do nothing, and their contracts are what is proved.
 
 ghost use Rattle.std.specs.Prelude.{◌≡◌, ℕ, List, codes};
+ghost use Rattle.bgp_text.specs.Below.{Notification, Context, out_of, of_fault};
 ghost use Rattle.bgp_frame.specs.declared.fault.HeadFault.{HeadFault};
 ghost use Rattle.bgp_frame.specs.declared.kind.Kind.TheVariants as kind;
-ghost use Rattle.bgp_frame.specs.declared.notification.Notification.{Notification};
-ghost use Rattle.bgp_open.specs.declared.context.Context.{Context};
 ghost use Rattle.bgp_msg.specs.declared.outcome.Outcome.TheVariants as outcome;
-ghost use Rattle.bgp_msg.specs.Prelude.{out_of, of_fault};
 ghost use Rattle.bgp_text.specs.Outcome.{reset_name};
 
 /// A reset is printed under the name of what it answers, which its code tells: a header, an OPEN or an UPDATE.

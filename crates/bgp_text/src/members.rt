@@ -1,9 +1,7 @@
 //! The members of an UPDATE, in one order for each form in which they are printed.
 
 ghost use Rattle.std.specs.Prelude.{◌≡◌, ◌++◌, OnOk};
-ghost use Rattle.std.specs.List.{flat_map};
-ghost use Rattle.std.specs.String.{string_bytes};
-ghost use Rattle.bgp_update.specs.Prelude.{known_value, slot, update_value};
+ghost use Rattle.bgp_text.specs.Below.{flat_map, string_bytes, known_value, slot, update_value};
 ghost use Rattle.bgp_text.specs.Members.{printed, printed_attributes};
 
 use bgp_attr::{AttrView, OpaqueView};
@@ -15,9 +13,7 @@ use std::alloc::{AllocError, Global};
 /// A form in which the members of an UPDATE are printed.
 pub(crate) trait Form {
     ghost use Rattle.std.specs.Prelude.{◌≡◌, ◌++◌, map, OnOk};
-    ghost use Rattle.std.specs.String.{string_bytes};
-    ghost use Rattle.bgp_attr.specs.AttrView.{attr_value, opaque_value};
-    ghost use Rattle.bgp_prefix.specs.PrefixIter.{prefixes_left};
+    ghost use Rattle.bgp_text.specs.Below.{string_bytes, attr_value, opaque_value, prefixes_left};
     ghost use Rattle.bgp_text.specs.Members.{Shown};
 
     /// How each member is printed.

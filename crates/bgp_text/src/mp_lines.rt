@@ -1,9 +1,7 @@
 //! The lines of MP_REACH_NLRI and MP_UNREACH_NLRI.
 
 ghost use Rattle.std.specs.Prelude.{◌≡◌, ◌+◌, ◌≤◌, ◌++◌, codes, OnOk};
-ghost use Rattle.std.specs.List.{flat_map};
-ghost use Rattle.std.specs.String.{string_bytes};
-ghost use Rattle.bgp_attr.specs.Prelude.{reach_value, unreach_value};
+ghost use Rattle.bgp_text.specs.Below.{flat_map, string_bytes, reach_value, unreach_value};
 ghost use Rattle.bgp_text.specs.Lines.{line_of};
 ghost use Rattle.bgp_text.specs.MpLines.{ip6_next_line, family_line, reach_lines, unreach_lines};
 

@@ -1,9 +1,7 @@
 //! The lines of notes.
 
 ghost use Rattle.std.specs.Prelude.{◌≡◌, ◌++◌, OnOk};
-ghost use Rattle.std.specs.List.{flat_map};
-ghost use Rattle.std.specs.String.{string_bytes};
-ghost use Rattle.bgp_update.specs.Prelude.{notes_value};
+ghost use Rattle.bgp_text.specs.Below.{flat_map, string_bytes, notes_value};
 ghost use Rattle.bgp_text.specs.NoteLines.{why_name, note_line};
 
 use bgp_attr::Why;

@@ -1,8 +1,7 @@
 //! The details of an OPEN.
 
 ghost use Rattle.std.specs.Prelude.{◌≡◌, ◌++◌, OnOk};
-ghost use Rattle.std.specs.List.{flat_map};
-ghost use Rattle.std.specs.String.{string_bytes};
+ghost use Rattle.bgp_text.specs.Below.{flat_map, string_bytes};
 ghost use Rattle.bgp_text.specs.OpenLines.{number_lines, other_line, capability_line, open_lines};
 
 use crate::info::info_text;

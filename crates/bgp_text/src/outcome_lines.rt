@@ -1,13 +1,8 @@
 //! The lines of an outcome, while it lies in octets.
 
 ghost use Rattle.std.specs.Prelude.{true, ◌≡◌, ◌≤◌, ◌++◌, length, OnOk};
-ghost use Rattle.std.specs.Char.{is_ascii};
-ghost use Rattle.std.specs.List.{list_all};
-ghost use Rattle.std.specs.String.{string_bytes};
-ghost use Rattle.bgp_frame.specs.Prelude.{notification_of_view};
-ghost use Rattle.bgp_open.specs.Prelude.{open_value};
-ghost use Rattle.bgp_update.specs.Prelude.{update_value, notes_value, routes_value};
-ghost use Rattle.bgp_msg.specs.Prelude.{outcome_value};
+ghost use Rattle.bgp_text.specs.Below.{is_ascii, list_all, string_bytes, notification_of_view, open_value, update_value};
+ghost use Rattle.bgp_text.specs.Below.{notes_value, routes_value, outcome_value};
 ghost use Rattle.bgp_msg.specs.declared.message.Message.TheVariants as message;
 ghost use Rattle.bgp_text.specs.Outcome.{head_line, reset_name, message_lines, took_lines, withdraw_lines};
 ghost use Rattle.bgp_text.specs.Outcome.{notification_line, reset_line, outcome_lines};

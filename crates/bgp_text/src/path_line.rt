@@ -1,9 +1,7 @@
 //! The lines of AS paths.
 
 ghost use Rattle.std.specs.Prelude.{◌≡◌, ◌++◌, OnOk, codes};
-ghost use Rattle.std.specs.List.{flat_map};
-ghost use Rattle.std.specs.String.{string_bytes};
-ghost use Rattle.bgp_attr.specs.Prelude.{path_value, segment_value, segments_left};
+ghost use Rattle.bgp_text.specs.Below.{flat_map, string_bytes, path_value, segment_value, segments_left};
 ghost use Rattle.bgp_text.specs.PathLine.{kind_name, segment_text, path_text, path_line};
 
 use crate::short::{Short, put_row};

@@ -1,9 +1,7 @@
 //! Values whose texts are short, and rows and lines of them.
 
 ghost use Rattle.std.specs.Prelude.{true, ◌≡◌, ◌+◌, ◌≤◌, ◌∷◌, ◌++◌, [], length, OnOk};
-ghost use Rattle.std.specs.Char.{is_ascii};
-ghost use Rattle.std.specs.List.{flat_map, list_all};
-ghost use Rattle.std.specs.String.{string_bytes};
+ghost use Rattle.bgp_text.specs.Below.{is_ascii, flat_map, list_all, string_bytes};
 ghost use Rattle.bgp_text.specs.Lines.{line_of};
 
 use crate::digits::Digits;

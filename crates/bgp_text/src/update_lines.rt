@@ -1,11 +1,8 @@
 //! The lines of an UPDATE, and of routes that are withdrawn.
 
 ghost use Rattle.std.specs.Prelude.{◌≡◌, ◌++◌, option_map, codes, OnOk};
-ghost use Rattle.std.specs.List.{flat_map};
-ghost use Rattle.std.specs.String.{string_bytes};
-ghost use Rattle.bgp_attr.specs.Prelude.{reach_value, unreach_value};
-ghost use Rattle.bgp_prefix.specs.Prelude.{ipv4_text, ipv6_text};
-ghost use Rattle.bgp_update.specs.Prelude.{gone_ip4, gone_ip6, reached_ip4, reached_ip6, routes_value};
+ghost use Rattle.bgp_text.specs.Below.{flat_map, string_bytes, reach_value, unreach_value, ipv4_text, ipv6_text};
+ghost use Rattle.bgp_text.specs.Below.{gone_ip4, gone_ip6, reached_ip4, reached_ip6, routes_value};
 ghost use Rattle.bgp_text.specs.Lines.{line_of};
 ghost use Rattle.bgp_text.specs.UpdateLines.{routes_lines};
 

@@ -1,10 +1,7 @@
 //! A short text that is made on the stack.
 
 ghost use Rattle.std.specs.Prelude.{true, false, ◌≡◌, ◌+◌, ◌≤◌, ◌<◌, ◌∷◌, ◌++◌, [], length, drop};
-ghost use Rattle.std.specs.Char.{is_ascii};
-ghost use Rattle.std.specs.Fmt.{decimal, digit_glyph};
-ghost use Rattle.std.specs.List.{list_all};
-ghost use Rattle.bgp_prefix.specs.Prelude.{hex_octet};
+ghost use Rattle.bgp_text.specs.Below.{is_ascii, decimal, digit_glyph, list_all, hex_octet};
 
 use crate::decimal::write_digits;
 use crate::digits::Digits;
@@ -19,7 +16,7 @@ pub(crate) struct Word {
 
 impl Model for Word {
     ghost use Rattle.std.specs.Prelude.{ℕ, List, ◌≤◌, drop};
-    ghost use Rattle.std.specs.Str.{IsAscii};
+    ghost use Rattle.bgp_text.specs.Below.{IsAscii};
 
     ghost Value = { List ℕ };
 

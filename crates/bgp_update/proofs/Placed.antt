@@ -1,18 +1,20 @@
 -- Attributes that are kept by place: one more of them, and what stands in the slot of a type.
-use Rattle.bgp_wire.proofs.Std.{◌≡◌, ℕ, zero, suc, ◌<◌, Bool, true, false, not, ◌||◌, cond, eqb, ltb, List, [], ◌∷◌, length, get_or, set, replicate, Option, Some, None, refl, sym, ap, ap₂, subst, ◌∙◌, arith, option_or, eqb-false, and_parts, ltb-true, both_ways, not-true}
-use Rattle.std.specs.Prelude.{◌-◌, is_some, option_map, slice_index_or, IfSome, IsTrue}
+use Rattle.bgp_wire.proofs.Std.{◌≡◌, ℕ, zero, suc, ◌<◌, ◌≤◌, Bool, true, false, not, ◌||◌, cond, eqb, ltb, List, [], ◌∷◌, length, get_or, set, replicate, Option, Some, None, refl, sym, ap, ap₂, subst, ◌∙◌, arith, option_or, eqb-false, and_parts, ltb-true, both_ways, not-true}
+use Rattle.std.specs.Prelude.{◌-◌, option_map, slice_index_or, IfSome, IsTrue}
 use Rattle.std.proofs.lemmas.Bool.{eqb-true}
+use Rattle.std.proofs.Math.ListN.{drop_of_length-le}
 use Rattle.std.proofs.lemmas.Grind.{get_or-set_at}
 use Rattle.std.proofs.lemmas.List.{get_or-set_other}
 use Rattle.bgp_open.specs.declared.context.Context.{Context}
 use Rattle.bgp_attr.specs.declared.attr.Attr.{Attr}
-use Rattle.bgp_attr.specs.Prelude.{is_kept, AttributeType, is_recognised, judgement, other_type, type_row, types, TlvValue, type_of, tlv_at, tlv_value}
+use Rattle.bgp_attr.specs.Prelude.{is_kept, AttributeType, is_recognised, judgement, other_type, type_row, types, TlvValue, type_of, one_tlv, tlv_at, tlv_value}
 use Rattle.bgp_attr.specs.Judgement as judgement
+use Rattle.bgp_attr.specs.Tlv as tlv
 use Rattle.bgp_attr.specs.declared.tlv.Tlv.{Tlv}
 use Rattle.bgp_attr.proofs.Tables.{by_row, entry-passes}
 use Rattle.bgp_attr.proofs.TestRows.{row-other}
-use Rattle.bgp_update.specs.declared.kept_view.TheConstants.{TYPES}
-use Rattle.bgp_update.specs.Prelude.{Kept, kept_behind, attrs_from, first_known, is_opaque, tlv_placed, IsKeptAt, ArePlaced, present, slot}
+use Rattle.bgp_update.specs.declared.kept_view.TheConstants.{TYPES, PASSED}
+use Rattle.bgp_update.specs.Prelude.{Kept, kept_behind, attrs_from, first_known, is_opaque, tlv_placed, placed_also, IsKeptAs, ArePlaced, present, slot}
 use Rattle.bgp_update.proofs.Options.{map_filled, option_or-none}
 use Rattle.bgp_update.proofs.KeptViews.{or_false, or_true}
 use Rattle.bgp_update.proofs.Lists.{eqb-swap}
@@ -74,72 +76,86 @@ module _ (ctx : Context) (has_nlri : Bool) (t : TlvValue) where
 
 -- ---- one more place
 
-module _ (field places : List ℕ) (kind : ℕ) where
-  abbrev pub placed : ℕ → Option TlvValue
-  placed = λ k. tlv_placed field (slice_index_or places k 0)
+module _ (places : List ℕ) (kind n : ℕ) (low : kind < length places) where
+  abbrev pub more : List ℕ
+  more = set places kind n
 
-  -- where there was none of the type
-  module _ (at : ℕ) (low : kind < length places) where
-    abbrev pub more : List ℕ
-    more = set places kind (suc at)
+  here : (k : ℕ) → k ≡ kind → slice_index_or more k 0 ≡ n
+  here k same = get_or-set_at places kind k n 0 same low
 
-    pub here : (k : ℕ) → k ≡ kind → slice_index_or more k 0 ≡ suc at
-    here k same = get_or-set_at places kind k (suc at) 0 same low
+  elsewhere : (k : ℕ) → (k ≡ kind → ⊥) → slice_index_or more k 0 ≡ slice_index_or places k 0
+  elsewhere k other = get_or-set_other places kind k n 0 other
 
-    pub elsewhere : (k : ℕ) → (k ≡ kind → ⊥) → slice_index_or more k 0 ≡ slice_index_or places k 0
-    elsewhere k other = get_or-set_other places kind k (suc at) 0 other
-
-    pub one_more : (t : TlvValue) → tlv_at field at ≡ Some t → slice_index_or places kind 0 ≡ 0 → (k : ℕ) → tlv_placed field (slice_index_or more k 0) ≡ also_at kind t placed k
-    one_more t there empty k = by (eqb k kind) refl
-      where
-        by : (b : Bool) → eqb k kind ≡ b → tlv_placed field (slice_index_or more k 0) ≡ cond b (option_or (placed k) (Some t)) (placed k)
-        by true e =
-            let same : k ≡ kind = eqb-true k kind e in
-            ap (tlv_placed field) (here k same) ∙ there ∙ sym (ap (λ (n : ℕ). option_or (tlv_placed field n) (Some t)) (ap (λ (j : ℕ). slice_index_or places j 0) same ∙ empty))
-        by false e = ap (tlv_placed field) (elsewhere k (eqb-false k kind e))
-
-    pub more-placed : (ctx : Context) (has_nlri : Bool) → IsKeptAt ctx has_nlri field kind at → ArePlaced ctx has_nlri field places → ArePlaced ctx has_nlri field more
-    more-placed ctx has_nlri kept old = record { each = λ k n is. by k n is (eqb k kind) refl }
-      where
-        by : (k n : ℕ) → slice_index_or more k 0 ≡ suc n → (b : Bool) → eqb k kind ≡ b → IsKeptAt ctx has_nlri field k n
-        by k n is true e =
-            let same : k ≡ kind = eqb-true k kind e in
-            let place : suc at ≡ suc n = sym (here k same) ∙ is in
-            subst (IsKeptAt ctx has_nlri field k) (let less : at ≡ n = omega (arith, place) in less) (subst (λ (j : ℕ). IsKeptAt ctx has_nlri field j at) (sym same) kept)
-        by k n is false e = old.each k n (sym (elsewhere k (eqb-false k kind e)) ∙ is)
-
-  -- where there is one, another changes nothing
-  pub no_more : (ctx : Context) (has_nlri : Bool) (t : TlvValue) → ArePlaced ctx has_nlri field places → (slice_index_or places kind 0 ≡ 0 → ⊥) → (k : ℕ) → placed k ≡ also_at kind t placed k
-  no_more ctx has_nlri t all filled k = by (eqb k kind) refl
+  -- what stands at a place, and whether something does
+  pub more_by : {A : Type 0} (f : ℕ → A) (k : ℕ) → f (slice_index_or more k 0) ≡ cond (eqb k kind) (f n) (f (slice_index_or places k 0))
+  more_by f k = by (eqb k kind) refl
     where
-      some : (o : Option TlvValue) → is_some o ≡ true → o ≡ option_or o (Some t)
-      some None is = absurd cc
-      some (Some s) is = refl
+      by : (b : Bool) → eqb k kind ≡ b → f (slice_index_or more k 0) ≡ cond b (f n) (f (slice_index_or places k 0))
+      by true e = ap f (here k (eqb-true k kind e))
+      by false e = ap f (elsewhere k (eqb-false k kind e))
 
-      there : (n : ℕ) → slice_index_or places kind 0 ≡ n → (n ≡ 0 → ⊥) → tlv_placed field n ≡ option_or (tlv_placed field n) (Some t)
-      there zero is not = absurd (not refl)
-      there (suc at) is not = some (tlv_at field at) (all.each kind at is).1
+  pub more-placed : (ctx : Context) (has_nlri : Bool) (field : List ℕ) → ((t : TlvValue) → tlv_placed field n ≡ Some t → IsKeptAs ctx has_nlri kind t)
+      → ArePlaced ctx has_nlri field places → ArePlaced ctx has_nlri field more
+  more-placed ctx has_nlri field kept old = record { each = λ k t is. by k t is (eqb k kind) refl }
+    where
+      by : (k : ℕ) (t : TlvValue) → tlv_placed field (slice_index_or more k 0) ≡ Some t → (b : Bool) → eqb k kind ≡ b → IsKeptAs ctx has_nlri k t
+      by k t is true e =
+          let same : k ≡ kind = eqb-true k kind e in
+          subst (λ (j : ℕ). IsKeptAs ctx has_nlri j t) (sym same) (kept t (ap (tlv_placed field) (sym (here k same)) ∙ is))
+      by k t is false e = old.each k t (ap (tlv_placed field) (sym (elsewhere k (eqb-false k kind e))) ∙ is)
 
-      by : (b : Bool) → eqb k kind ≡ b → placed k ≡ cond b (option_or (placed k) (Some t)) (placed k)
-      by true e = subst (λ (j : ℕ). placed j ≡ option_or (placed j) (Some t)) (sym (eqb-true k kind e)) (there (slice_index_or places kind 0) refl filled)
-      by false e = refl
+-- the type is seen then
+pub seen_also : (b : Bool) (n place : ℕ) → 0 < n → cond b (not (eqb n 0)) (not (eqb place 0)) ≡ (b || not (eqb place 0))
+seen_also false n place some = refl
+seen_also true n place some = by (eqb n 0) refl
+  where
+    by : (z : Bool) → eqb n 0 ≡ z → not (eqb n 0) ≡ true
+    by true e = let zero : n ≡ 0 = eqb-true n 0 e in absurd (omega (arith, some, zero))
+    by false e = ap not e
+
+-- where none of a type was seen there is no place
+pub first_none : (field places : List ℕ) (kind : ℕ) → not (eqb (slice_index_or places kind 0) 0) ≡ false → tlv_placed field (slice_index_or places kind 0) ≡ None
+first_none field places kind unseen = by (eqb (slice_index_or places kind 0) 0) refl
+  where
+    by : (z : Bool) → eqb (slice_index_or places kind 0) 0 ≡ z → tlv_placed field (slice_index_or places kind 0) ≡ None
+    by true e = ap (tlv_placed field) (eqb-true (slice_index_or places kind 0) 0 e)
+    by false e = absurd (both_ways (not (eqb (slice_index_or places kind 0) 0)) unseen (ap not e))
+
+-- no attribute begins so far behind a field
+pub none_so_far : (field : List ℕ) → length field ≤ 4075 → tlv_placed field PASSED ≡ None
+unfolding tlv.one_tlv
+none_so_far field short =
+    let past : length field ≤ 65534 = omega (arith, short) in
+    ap (λ (octets : List ℕ). option_map (λ (x : TlvValue × List ℕ). x.0) (one_tlv octets)) (drop_of_length-le field past)
+
+-- with one of a type of which none was there
+pub placed_first : (tlv : ℕ → Option TlvValue) (kind : ℕ) (t : TlvValue) → tlv kind ≡ None → placed_also kind (Some t) tlv ≡ also_at kind t tlv
+placed_first tlv kind t none = λ i k. by k (eqb k kind) refl i
+  where
+    by : (k : ℕ) (b : Bool) → eqb k kind ≡ b → cond b (Some t) (tlv k) ≡ cond b (option_or (tlv k) (Some t)) (tlv k)
+    by k true e = ap (λ (o : Option TlvValue). option_or o (Some t)) (sym none ∙ ap tlv (sym (eqb-true k kind e)))
+    by k false e = refl
+
+-- with none of it
+pub placed_none : (tlv : ℕ → Option TlvValue) (kind : ℕ) → tlv kind ≡ None → placed_also kind None tlv ≡ tlv
+placed_none tlv kind none = λ i k. by k (eqb k kind) refl i
+  where
+    by : (k : ℕ) (b : Bool) → eqb k kind ≡ b → cond b None (tlv k) ≡ tlv k
+    by k true e = sym none ∙ ap tlv (sym (eqb-true k kind e))
+    by k false e = refl
 
 -- ---- what is read at the place of a type
 
 module _ (ctx : Context) (has_nlri : Bool) (field places : List ℕ) (all : ArePlaced ctx has_nlri field places) where
   abbrev tlv_of : ℕ → Option TlvValue
-  tlv_of = placed field places 0
+  tlv_of = λ k. tlv_placed field (slice_index_or places k 0)
 
-  -- it is of that type, which is recognised, and kept
-  pub kept-at : (kind n : ℕ) (t : TlvValue) → slice_index_or places kind 0 ≡ n → tlv_placed field n ≡ Some t → (t.kind ≡ kind) × (is_recognised kind ≡ true) × IsTrue (is_kept (judgement ctx has_nlri t))
-  kept-at kind zero t is e = absurd cc
-  kept-at kind (suc at) t is e = let p = all.each kind at is in let q = p.2 t e in (q.0, p.0, q.1)
-
-  -- so is what is read there
+  -- it is of that type, and kept, and so is what is read there
   pub read-at : (kind n : ℕ) (o : Option Tlv) → slice_index_or places kind 0 ≡ n → 0 < n → option_map tlv_value o ≡ tlv_at field (n - 1) → IfSome o (λ t. (t.kind ≡ kind) × IsTrue (is_kept (judgement ctx has_nlri (tlv_value t))))
   read-at kind n None is some e = tt
   read-at kind zero (Some t) is some e = absurd (omega arith)
-  read-at kind (suc m) (Some t) is some e = (all.each kind m is).2 (tlv_value t) (sym (e ∙ ap (tlv_at field) (let same : suc m - 1 ≡ m = omega arith in same)))
+  read-at kind (suc m) (Some t) is some e =
+      let is_kept = all.each kind (tlv_value t) (ap (tlv_placed field) is ∙ ap (tlv_at field) (let same : m ≡ suc m - 1 = omega arith in same) ∙ sym e) in (is_kept.0, is_kept.2)
 
   abbrev pub ValueThere : ℕ → List Attr → Type 0
   ValueThere kind ys = ys ≡ present (λ (t : TlvValue). (type_row ctx has_nlri t).value) (tlv_of kind)
@@ -157,7 +173,7 @@ module _ (ctx : Context) (has_nlri : Bool) (field places : List ℕ) (all : AreP
       by : (o : Option TlvValue) → tlv_of kind ≡ o → option_map (λ (t : TlvValue). (type_row ctx has_nlri t).value) o ≡ Some x → is_of kind x ≡ true
       by None f g = absurd cc
       by (Some t) f g =
-          let p = kept-at kind (slice_index_or places kind 0) t refl f in
+          let p = all.each kind t f in
           let q = of_type ctx has_nlri t (ap is_recognised p.0 ∙ p.1) in
           let same : (type_row ctx has_nlri t).value ≡ x = cc in
           ap₂ (λ (k : ℕ) (y : Attr). is_of k y) (sym p.0) (sym same) ∙ q
@@ -167,7 +183,7 @@ module _ (ctx : Context) (has_nlri : Bool) (field places : List ℕ) (all : AreP
     where
       by : (o : Option TlvValue) → tlv_of kind ≡ o → [] ≡ present (λ (t : TlvValue). (type_row ctx has_nlri t).value) o
       by None e = refl
-      by (Some t) e = absurd (both_ways (is_recognised kind) other (kept-at kind (slice_index_or places kind 0) t refl e).1)
+      by (Some t) e = absurd (both_ways (is_recognised kind) other (all.each kind t e).1)
 
   -- what stands in the slot of a type is the value of the attribute there
   pub slot-value : (kind : ℕ) → slot (attrs_from value_of []) kind ≡ present (λ (t : TlvValue). (type_row ctx has_nlri t).value) (tlv_of kind)
@@ -176,11 +192,3 @@ module _ (ctx : Context) (has_nlri : Bool) (field places : List ℕ) (all : AreP
       by : (b : Bool) → is_recognised kind ≡ b → slot (attrs_from value_of []) kind ≡ present (λ (t : TlvValue). (type_row ctx has_nlri t).value) (tlv_of kind)
       by true known = slot-from value_of [] kind (typed kind) known ∙ present-map (λ (t : TlvValue). (type_row ctx has_nlri t).value) (λ (x : Attr). x) (tlv_of kind)
       by false other = other-from value_of [] kind other ∙ nothing-valued kind other
-
--- an attribute that is judged so stands at a place of its type
-pub is_kept_at : (ctx : Context) (has_nlri : Bool) (field : List ℕ) (at : ℕ) (t : TlvValue) → tlv_at field at ≡ Some t → is_recognised t.kind ≡ true → IsTrue (is_kept (judgement ctx has_nlri t)) → IsKeptAt ctx has_nlri field t.kind at
-is_kept_at ctx has_nlri field at t there known kept =
-    (known, ap is_some there, λ s e. (let same : t ≡ s = some-same t s (sym there ∙ e) in (sym (ap (λ (u : TlvValue). u.kind) same), subst (λ (u : TlvValue). IsTrue (is_kept (judgement ctx has_nlri u))) same kept)))
-  where
-    some-same : (t s : TlvValue) → Some t ≡ Some s → t ≡ s
-    some-same t s e = cc

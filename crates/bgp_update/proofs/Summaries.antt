@@ -1,10 +1,18 @@
 -- All marks in sum, mark by mark.
-use Rattle.bgp_wire.proofs.Std.{◌≡◌, Bool, true, false, ◌||◌, List, [], ◌∷◌, ◌++◌, Option, refl, sym, ap, ◌∙◌, list_any, option_or, flat_map-cons}
+use Rattle.bgp_wire.proofs.Std.{◌≡◌, ℕ, length, cond, Bool, true, false, ◌||◌, List, [], ◌∷◌, ◌++◌, Option, refl, sym, ap, ◌∙◌, list_any, option_or, flat_map-cons}
 use Rattle.std.proofs.lemmas.List.{append-nil}
 use Rattle.bgp_frame.specs.declared.notification.Notification.{Notification}
+use Rattle.std.specs.Prelude.{◌-◌}
+use Rattle.bgp_wire.specs.Prelude.{also, has_octet, none_of_them}
+use Rattle.bgp_wire.specs.declared.octet_set.OctetSet.{OctetSet}
+use Rattle.bgp_update.specs.declared.kept_view.KeptView.{KeptView}
+use Rattle.bgp_open.specs.declared.context.Context.{Context}
+use Rattle.bgp_attr.specs.Prelude.{PlacedTlv, is_recognised, tlvs_left, tlvs_of, rest_left}
+use Rattle.bgp_attr.specs.declared.tlv_iter.TlvIter.{TlvIter}
 use Rattle.bgp_attr.specs.declared.attr.Attr.{Attr}
 use Rattle.bgp_attr.specs.declared.judged.Judged.{Judged}
-use Rattle.bgp_update.specs.Prelude.{Kept, kept_behind, Mark, kept_by, kept_of, reset_by, first_reset, withdraws, SummaryValue, is_noted, summary_behind, summary_of}
+use Rattle.bgp_attr.specs.declared.judged.Judged.TheVariants as judged
+use Rattle.bgp_update.specs.Prelude.{Kept, kept_behind, Mark, cut_mark, judged_behind, field_marks, marks_ahead, marks_behind, placed_tlvs, saw, seen_by, kept_by, kept_of, reset_by, first_reset, withdraws, SummaryValue, is_noted, summary_behind, summary_of}
 use Rattle.bgp_update.proofs.KeptViews.{or_false, kept_whole, kept_none, kept_append}
 use Rattle.bgp_update.proofs.Options.{option_or-assoc, option_or-none}
 
@@ -49,7 +57,11 @@ by_mark s m j is reset withdrawn noted kept e f g h = λ i. record {
   kept = (h ∙ ap (λ (k : Judged). kept_behind s.kept (kept_by k)) (sym is) ∙ ap (kept_behind s.kept) (sym (one_of m))) i;
 }
 
-no_more : (s : SummaryValue) → summary_behind s [] ≡ s
+-- of one that is kept
+pub kept_mark : (s : SummaryValue) (m : Mark) (a : Attr) → m.judged ≡ judged.Keep a → record s { kept = kept_behind s.kept (a ∷ []) } ≡ summary_behind s (m ∷ [])
+kept_mark s m a is = by_mark s m (judged.Keep a) is s.reset s.withdraws s.notes (kept_behind s.kept (a ∷ [])) (sym (option_or-none s.reset)) (sym (or_false s.withdraws)) (sym (or_false s.notes)) refl
+
+pub no_more : (s : SummaryValue) → summary_behind s [] ≡ s
 no_more s = λ i. record {
   reset = option_or-none s.reset i;
   withdraws = or_false s.withdraws i;
@@ -67,3 +79,31 @@ summary_all s all left none whole = sym (no_more s) ∙ ap (summary_behind s) (s
 pub summary_step : (s now all : SummaryValue) (m : Mark) (left later : List Mark) → now ≡ summary_behind s (m ∷ []) → left ≡ m ∷ later → summary_behind s left ≡ all → summary_behind now later ≡ all
 summary_step s now all m left later e f whole =
     ap (λ (t : SummaryValue). summary_behind t later) e ∙ summary_more m later s ∙ ap (summary_behind s) (sym f) ∙ whole
+
+-- ---- the marks of a field from where it is walked to
+
+-- the next attribute is judged behind those types, and those behind it behind its type too
+pub ahead_step : (ctx : Context) (nlri : Bool) (field : List ℕ) (seen now : ℕ → Bool) (p : PlacedTlv) (it later : TlvIter)
+    → tlvs_left it ≡ p ∷ tlvs_left later → rest_left it ≡ rest_left later → now ≡ also p.tlv.kind seen
+    → marks_ahead ctx nlri field seen it ≡ record { at = p.at; kind = p.tlv.kind; judged = judged_behind ctx nlri seen p.tlv } ∷ marks_ahead ctx nlri field now later
+ahead_step ctx nlri field seen now p it later tlvs rest is =
+    (λ i. marks_behind ctx nlri seen (tlvs i) ++ cut_mark (length field - length (rest i)) (rest i))
+    ∙ ap (λ (set : ℕ → Bool). record { at = p.at; kind = p.tlv.kind; judged = judged_behind ctx nlri seen p.tlv } ∷ (marks_behind ctx nlri set (tlvs_left later) ++ cut_mark (length field - length (rest_left later)) (rest_left later))) (sym is)
+
+-- what stands behind the last is all that is left
+pub ahead_none : (ctx : Context) (nlri : Bool) (field : List ℕ) (seen : ℕ → Bool) (it : TlvIter) → tlvs_left it ≡ []
+    → marks_ahead ctx nlri field seen it ≡ cut_mark (length field - length (rest_left it)) (rest_left it)
+ahead_none ctx nlri field seen it none = ap (λ (ps : List PlacedTlv). marks_behind ctx nlri seen ps ++ cut_mark (length field - length (rest_left it)) (rest_left it)) none
+
+-- before the first, all are ahead
+pub whole_ahead : (ctx : Context) (nlri : Bool) (field : List ℕ) (seen : ℕ → Bool) (it : TlvIter) → seen ≡ none_of_them → tlvs_left it ≡ placed_tlvs field → rest_left it ≡ (tlvs_of field).1
+    → marks_ahead ctx nlri field seen it ≡ field_marks ctx nlri field
+unfolding field_marks
+whole_ahead ctx nlri field seen it none tlvs rest = λ i. marks_behind ctx nlri (none i) (tlvs i) ++ cut_mark (length field - length (rest i)) (rest i)
+
+pub none_yet : (k : KeptView) (others : OctetSet) → saw k ≡ none_of_them → has_octet others ≡ none_of_them → seen_by k others ≡ none_of_them
+none_yet k others e f = λ i kind. by kind (is_recognised kind) i
+  where
+    by : (kind : ℕ) (b : Bool) → cond b (saw k kind) (has_octet others kind) ≡ false
+    by kind true = λ i. e i kind
+    by kind false = λ i. f i kind

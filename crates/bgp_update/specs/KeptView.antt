@@ -1,7 +1,8 @@
 -- The kept attributes of a message by type: while their values lie in octets, and as they come one after another.
-use Rattle.std.specs.Prelude.{ℕ, Bool, ◌||◌, List, [], map, Option, option_map, slice_index_or}
+use Rattle.std.specs.Prelude.{◌≡◌, ℕ, Bool, not, ◌||◌, ◌==◌, List, [], map, Option, option_map, slice_index_or}
 use Rattle.std.specs.List.{list_any}
 use Rattle.std.specs.Option.{option_or}
+use Rattle.bgp_open.specs.declared.context.Context.{Context}
 use Rattle.bgp_attr.specs.Prelude.{opaque_value, type_row, TlvValue}
 use Rattle.bgp_attr.specs.declared.attr.Attr.{Attr}
 use Rattle.bgp_attr.specs.declared.opaque.OpaqueView.{OpaqueView}
@@ -41,6 +42,18 @@ attrs_with kept others = with_others kept (map opaque_value others)
 
 abbrev pub kept_value : KeptView → Kept
 kept_value k = record { known = kept_attr k; others = k.others }
+
+-- the same, where these are the octets of each type
+abbrev pub kept_with : KeptView → (ℕ → Option TlvValue) → Kept
+kept_with k tlv = record { known = λ kind. option_map (λ t. (type_row k.ctx k.has_nlri t).value) (tlv kind); others = k.others }
+
+-- an attribute of a type that is recognised was seen, whether it is kept or not
+abbrev pub saw : KeptView → ℕ → Bool
+saw k = λ kind. not (slice_index_or k.places kind 0 == 0)
+
+-- the attributes that are kept are those of a field that is judged in a context
+abbrev pub AreOf : KeptView → Context → Bool → List ℕ → Type 0
+AreOf k ctx has_nlri field = (k.ctx ≡ ctx) × (k.has_nlri ≡ has_nlri) × (k.field.now ≡ field)
 
 -- these, by type
 abbrev pub kept_in : List Attr → Kept

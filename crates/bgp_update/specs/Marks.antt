@@ -6,7 +6,7 @@ use Rattle.bgp_numbers.specs.declared.error.TheConstants.{UPDATE_MESSAGE, MALFOR
 use Rattle.bgp_frame.specs.declared.notification.Notification.{Notification}
 use Rattle.bgp_open.specs.declared.context.Context.{Context}
 use Rattle.bgp_attr.specs.declared.judged.Judged.{Judged}
-use Rattle.bgp_attr.specs.Prelude.{PlacedTlv, tlvs_of, placed_from, judgement}
+use Rattle.bgp_attr.specs.Prelude.{PlacedTlv, TlvValue, tlvs_of, placed_from, judgement}
 use Rattle.bgp_attr.specs.declared.judged.Judged.TheVariants as judged
 use Rattle.bgp_attr.specs.declared.why.Why.TheVariants as why
 use Rattle.bgp_update.specs.Parts.{Parts, has_nlri}
@@ -29,11 +29,15 @@ carries_routes kind = (kind == MP_REACH_NLRI) || (kind == MP_UNREACH_NLRI)
 abbrev pub repeated : ℕ → Judged
 repeated kind = if carries_routes kind then judged.Reset malformed else judged.Discard why.Repeated
 
+-- how an attribute is judged behind others of which these types were seen
+abbrev pub judged_behind : Context → Bool → (ℕ → Bool) → TlvValue → Judged
+judged_behind ctx nlri seen t = if seen t.kind then repeated t.kind else judgement ctx nlri t
+
 -- the marks of attributes behind others of which these types were seen
 abbrev pub marks_behind : Context → Bool → (ℕ → Bool) → List PlacedTlv → List Mark
 marks_behind ctx nlri seen [] = []
 marks_behind ctx nlri seen (p ∷ ps) =
-    record { at = p.at; kind = p.tlv.kind; judged = if seen p.tlv.kind then repeated p.tlv.kind else judgement ctx nlri p.tlv }
+    record { at = p.at; kind = p.tlv.kind; judged = judged_behind ctx nlri seen p.tlv }
     ∷ marks_behind ctx nlri (also p.tlv.kind seen) ps
 
 -- the type of an attribute that is cut off: its second octet, 0 where there is none

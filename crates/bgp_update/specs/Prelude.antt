@@ -1,7 +1,7 @@
 -- The names that other crates and the proofs cite, passed on from one place. Declares nothing.
 pub use Rattle.bgp_update.specs.Parts.{IsBody, Parts, attributes_at, behind_two}
 unfoldable pub use Rattle.bgp_update.specs.Parts.{parts_of}
-pub use Rattle.bgp_update.specs.Marks.{Mark, carries_routes, cut, cut_kind, cut_mark, malformed, marks_behind, marks_of, placed_tlvs, repeated}
+pub use Rattle.bgp_update.specs.Marks.{Mark, carries_routes, cut, cut_kind, cut_mark, judged_behind, malformed, marks_behind, marks_of, placed_tlvs, repeated}
 unfoldable pub use Rattle.bgp_update.specs.Marks.{field_marks}
 pub use Rattle.bgp_update.specs.Fields.{as_as4_path, as_as_path, as_communities, as_large, as_mp_reach, as_mp_unreach, as_opaque, is_opaque, present, slots}
 unfoldable pub use Rattle.bgp_update.specs.Fields.{attrs_from}
@@ -14,12 +14,12 @@ pub use Rattle.bgp_update.specs.Written.{HasUpdateRanges, announces, any_attr, a
 pub use Rattle.bgp_update.specs.As4.{HasNoAs4, front_by, is_as_trans, items_behind, items_by, items_in, items_of, joined, lead, narrow_aggregator, narrow_number, narrow_path, narrow_segment, narrowed, narrowed_update, onward_of, rebuilt, rebuilt_by, rebuilt_path, wide_aggregator, wide_path}
 pub use Rattle.bgp_update.specs.Widths.{with_as4}
 pub use Rattle.bgp_update.specs.Body.{parts_value}
-pub use Rattle.bgp_update.specs.MarkIter.{HasTypes, cut_value, judged_next, marks_left}
-pub use Rattle.bgp_update.specs.Places.{ArePlaced, IsKeptAt, tlv_placed}
-pub use Rattle.bgp_update.specs.KeptView.{Kept, kept_behind, kept_in, kept_tlv, kept_value, known_of, known_value, with_others}
+pub use Rattle.bgp_update.specs.MarkIter.{IsRuledNext, cut_value, judged_next, marks_left, ruled_value}
+pub use Rattle.bgp_update.specs.Places.{ArePlaced, IsKeptAs, placed_also, tlv_placed}
+pub use Rattle.bgp_update.specs.KeptView.{AreOf, Kept, kept_behind, kept_in, kept_tlv, kept_value, kept_with, known_of, known_value, saw, with_others}
 pub use Rattle.bgp_update.specs.ByType.{IsByType}
 pub use Rattle.bgp_update.specs.Found.{found_at}
-pub use Rattle.bgp_update.specs.Summary.{AreOf, SummaryValue, is_noted, summary_behind, summary_of, summary_value}
+pub use Rattle.bgp_update.specs.Summary.{SummaryValue, is_noted, marks_ahead, seen_by, summary_behind, summary_of, summary_value}
 pub use Rattle.bgp_update.specs.View.{found_value, notes_value, routes_value, update_among, update_value, view_marks, view_value}
 pub use Rattle.bgp_update.specs.Iters.{attrs_left, notes_left}
 pub use Rattle.bgp_update.specs.Chosen.{chosen_update}

@@ -7,7 +7,7 @@ ghost use Rattle.bgp_update.specs.declared.kept_view.TheConstants.{TYPES};
 use crate::attrs::Attrs;
 use bgp_attr::{
     Aggregator, As4PathView, AttrView, CommunitiesView, LargeView, MpReachView, MpUnreachView,
-    Opaque, Origin, PathView, Tlv, is_recognised, kept_attr, tlv_at,
+    Opaque, Origin, PathView, Tlv, kept_attr, tlv_at,
 };
 use bgp_numbers::attribute;
 use bgp_open::Context;
@@ -17,14 +17,17 @@ use std::alloc::{AllocError, Global};
 /// One more than the highest recognised type.
 const TYPES: usize = 33;
 
+/// The place of a type whose first attribute isn't kept: none begins there.
+const PASSED: u16 = u16::MAX;
+
 /// The path attributes of an UPDATE that are kept, at most one of each type: where each lies that is recognised. It is read when it is asked for.
 #[derive(Clone, Copy)]
 pub struct KeptView<'a> {
-    ctx: Context,
-    has_nlri: bool,
+    pub(crate) ctx: Context,
+    pub(crate) has_nlri: bool,
     /// The attribute field.
-    field: &'a [u8],
-    /// By type: one more than the offset of the attribute that is kept, or 0.
+    pub(crate) field: &'a [u8],
+    /// By type: 0 where no attribute of it was there, else one more than the offset of the first, or [`PASSED`] where that isn't kept.
     places: [u16; TYPES],
     /// Whether there are others, of types that aren't recognised.
     pub others: bool,
@@ -59,24 +62,25 @@ macro_rules! owned {
 }
 
 impl<'a> KeptView<'a> {
-    ghost use Rattle.std.specs.Prelude.{◌≤◌, ◌∷◌, None, option_map, slice_index_or, IfSome, IsTrue};
-    ghost use Rattle.bgp_attr.specs.AttrView.{as4_path_value, attr_value};
-    ghost use Rattle.bgp_attr.specs.CommunitiesView.{communities_value, large_value};
-    ghost use Rattle.bgp_attr.specs.Judgement.{judgement, type_row};
+    ghost use Rattle.std.specs.Prelude.{◌<◌, ◌≤◌, ◌∷◌, true, false, None, option_map, slice_index_or, IfSome, IsTrue};
+    ghost use Rattle.bgp_attr.specs.AttrView.{attr_value};
+    ghost use Rattle.bgp_attr.specs.Judgement.{is_recognised, judgement, type_row};
     ghost use Rattle.bgp_attr.specs.JudgedView.{is_kept};
-    ghost use Rattle.bgp_attr.specs.MpView.{reach_value, unreach_value};
-    ghost use Rattle.bgp_attr.specs.PathView.{path_value};
     ghost use Rattle.bgp_attr.specs.TlvIter.{tlv_at};
+    ghost use Rattle.bgp_attr.specs.Tlv.{TlvValue};
     ghost use Rattle.bgp_attr.specs.TlvView.{tlv_value};
-    ghost use Rattle.bgp_update.specs.KeptView.{kept_attr, kept_behind, kept_in, kept_tlv, kept_value, known_value};
+    ghost use Rattle.bgp_update.specs.KeptView.{kept_attr, kept_behind, kept_in, kept_tlv, kept_value, kept_with, known_value, saw, AreOf};
+    ghost use Rattle.bgp_update.specs.Places.{tlv_placed, placed_also, IsKeptAs};
     ghost use Rattle.bgp_update.specs.Fields.{present};
     ghost use Rattle.bgp_update.specs.Slots.{slot};
+    ghost use Rattle.bgp_wire.specs.OctetSet.{also, none_of_them};
 
     /// No attributes, of a field that is judged in a context.
     #[inline(always)]
     pub(crate) fn new(ctx: &Context, has_nlri: bool, field: &'a [u8]) -> KeptView<'a>
         ensures value { kept_value result ≡ kept_in [] }
-        ensures of { (result.ctx ≡ ctx.now) × (result.has_nlri ≡ has_nlri) × (result.field.now ≡ field.now) }
+        ensures seen { saw result ≡ none_of_them }
+        ensures of { AreOf result ctx.now has_nlri field.now }
     {
         KeptView {
             ctx: *ctx,
@@ -87,22 +91,55 @@ impl<'a> KeptView<'a> {
         }
     }
 
-    /// Adds an attribute of the field that is kept: the first of a type stands.
+    /// Whether an attribute of a recognised type was there, kept or not.
+    #[inline(always)]
+    pub(crate) fn saw(&self, kind: u8) -> bool
+        ensures { result ≡ saw self.now kind }
+    {
+        self.place(kind) != 0
+    }
+
+    /// Sets the place of a recognised type, of which no attribute was there.
+    #[inline(always)]
+    fn set(&mut self, kind: u8, place: u16)
+        requires known { is_recognised kind ≡ true }
+        requires first { saw self.old kind ≡ false }
+        requires some { 0 < place }
+        requires placed { (t : TlvValue) → tlv_placed self.old.field.now place ≡ Some t → IsKeptAs self.old.ctx self.old.has_nlri kind t }
+        ensures value { kept_value self.new ≡ kept_with self.old (placed_also kind (tlv_placed self.old.field.now place) (kept_tlv self.old)) }
+        ensures seen { saw self.new ≡ also kind (saw self.old) }
+        ensures of { AreOf self.new self.old.ctx self.old.has_nlri self.old.field.now }
+    {
+        are_all_types(&self.places);
+        self.places[usize::from(kind)] = place;
+    }
+
+    /// Adds an attribute of the field that is kept, the first of a recognised type.
     #[inline(always)]
     pub(crate) fn put(&mut self, tlv: &Tlv<'a>)
         requires there { tlv_at self.old.field.now tlv.now.at ≡ Some (tlv_value tlv.now) }
         requires kept { IsTrue (is_kept (judgement self.old.ctx self.old.has_nlri (tlv_value tlv.now))) }
+        requires known { is_recognised tlv.now.kind ≡ true }
+        requires first { saw self.old tlv.now.kind ≡ false }
         requires small { tlv.now.at ≤ 4075 }
         ensures adds { kept_value self.new ≡ kept_behind (kept_value self.old) ((type_row self.old.ctx self.old.has_nlri (tlv_value tlv.now)).value ∷ []) }
-        ensures of { (self.new.ctx ≡ self.old.ctx) × (self.new.has_nlri ≡ self.old.has_nlri) × (self.new.field.now ≡ self.old.field.now) }
+        ensures seen { saw self.new ≡ also tlv.now.kind (saw self.old) }
+        ensures of { AreOf self.new self.old.ctx self.old.has_nlri self.old.field.now }
     {
-        are_all_types(&self.places);
-        let kind = usize::from(tlv.kind);
-        if !is_recognised(tlv.kind) {
-            self.others = true;
-        } else if self.places[kind] == 0 {
-            self.places[kind] = tlv.at as u16 + 1;
-        }
+        self.set(tlv.kind, tlv.at as u16 + 1);
+    }
+
+    /// Passes over an attribute of the field that isn't kept, the first of a recognised type.
+    #[inline(always)]
+    pub(crate) fn pass(&mut self, kind: u8)
+        requires known { is_recognised kind ≡ true }
+        requires first { saw self.old kind ≡ false }
+        requires short { length self.old.field.now ≤ 4075 }
+        ensures same { kept_value self.new ≡ kept_value self.old }
+        ensures seen { saw self.new ≡ also kind (saw self.old) }
+        ensures of { AreOf self.new self.old.ctx self.old.has_nlri self.old.field.now }
+    {
+        self.set(kind, PASSED);
     }
 
     /// The place of a type: 0 where no attribute of it is kept.

@@ -2,11 +2,10 @@
 
 ghost use Rattle.std.specs.Prelude.{◌≡◌, ◌&&◌, not, false};
 ghost use Rattle.bgp_numbers.specs.declared.attribute.TheConstants.{ORIGIN, AS_PATH, NEXT_HOP};
-ghost use Rattle.bgp_update.specs.Prelude.{missing_in};
-ghost use Rattle.bgp_wire.specs.Prelude.{has_octet};
+ghost use Rattle.bgp_update.specs.Prelude.{missing_in, saw};
 
+use crate::kept_view::KeptView;
 use bgp_numbers::attribute;
-use bgp_wire::OctetSet;
 
 /// Which of the attributes that a message with routes has to have are missing (RFC 4271, section 5).
 #[derive(Clone, Copy, PartialEq, Eq)]
@@ -29,13 +28,13 @@ impl Missing {
     }
 }
 
-/// What is missing of a message whose attributes have these types, where it `reaches`, and in its NLRI field where it `has_nlri`.
-pub(crate) fn missing_in(reaches: bool, has_nlri: bool, types: &OctetSet) -> Missing
-    ensures { result ≡ missing_in reaches has_nlri (has_octet types.now) }
+/// What is missing of a message whose attributes these are, kept or not, where it `reaches`, and in its NLRI field where it `has_nlri`.
+pub(crate) fn missing_in(reaches: bool, has_nlri: bool, kept: &KeptView<'_>) -> Missing
+    ensures { result ≡ missing_in reaches has_nlri (saw kept.now) }
 {
     Missing {
-        origin: reaches && !types.contains(attribute::ORIGIN),
-        as_path: reaches && !types.contains(attribute::AS_PATH),
-        next_hop: has_nlri && !types.contains(attribute::NEXT_HOP),
+        origin: reaches && !kept.saw(attribute::ORIGIN),
+        as_path: reaches && !kept.saw(attribute::AS_PATH),
+        next_hop: has_nlri && !kept.saw(attribute::NEXT_HOP),
     }
 }

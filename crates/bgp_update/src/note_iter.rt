@@ -8,7 +8,7 @@ ghost use Rattle.bgp_update.specs.Notes.{mark_notes, missing_notes};
 use crate::mark::MarkIter;
 use crate::missing::Missing;
 use crate::note::Note;
-use bgp_attr::{FoundAttr, Why};
+use bgp_attr::{Ruling, Why};
 use bgp_numbers::attribute::{AS_PATH, NEXT_HOP, ORIGIN};
 use std::iter::FusedIterator;
 
@@ -39,13 +39,14 @@ impl<'a> NoteIter<'a> {
 }
 
 /// The first note of marks of a field at this place: the marks behind it are left.
+#[inline(always)]
 fn first_note(field_at: usize, marks: &mut MarkIter<'_>) -> Option<Note>
     requires { field_at ≤ 4077 }
     ensures { MatchOption result ((flat_map (mark_notes field_at) (marks_left marks.old) ≡ []) × (flat_map (mark_notes field_at) (marks_left marks.new) ≡ []))
         (λ n. flat_map (mark_notes field_at) (marks_left marks.old) ≡ n ∷ flat_map (mark_notes field_at) (marks_left marks.new)) }
 {
-    'field: while let Some(mark) = marks.next() {
-        if let FoundAttr::Discard(why) | FoundAttr::Withdraw(why) = mark.judged {
+    'field: while let Some(mark) = marks.next_ruled() {
+        if let Ruling::Discard(why) | Ruling::Withdraw(why) = mark.ruling {
             return Some(Note {
                 at: (field_at + mark.at) as u16,
                 kind: mark.kind,

@@ -1,14 +1,16 @@
 //! The marks of a field in sum.
 
 ghost use Rattle.std.specs.Prelude.{◌≡◌, ℕ, Bool, ◌≤◌, false, true, [], length};
-ghost use Rattle.bgp_attr.specs.Prelude.{keeps, ruled, tlvs_left};
+ghost use Rattle.bgp_attr.specs.Prelude.{keeps, ruled, is_recognised};
 ghost use Rattle.bgp_attr.specs.declared.attr.Attr.{Attr};
-ghost use Rattle.bgp_update.specs.Prelude.{known_of, known_value, marks_left, HasTypes, field_marks, types_of_field, attrs_of, kept_of, is_noted, summary_value, summary_behind, summary_of};
-ghost use Rattle.bgp_wire.specs.Prelude.{has_octet};
+ghost use Rattle.bgp_update.specs.Prelude.{known_of, known_value, field_marks, types_of_field, attrs_of, kept_of, is_noted, summary_value, summary_behind, summary_of};
+ghost use Rattle.bgp_wire.specs.Prelude.{also, has_octet, none_of_them};
 
 use crate::kept_view::KeptView;
-use crate::mark::MarkIter;
-use bgp_attr::{Ruling, Tlv, attribute_reset};
+use crate::malformed::{cut, repeated};
+use bgp_attr::{
+    Ruling, Tail, Tlv, TlvIter, attribute_reset, is_recognised, rule, rule_other, tlv_at,
+};
 use bgp_frame::NotificationView;
 use bgp_open::Context;
 use bgp_wire::OctetSet;
@@ -16,35 +18,37 @@ use bgp_wire::OctetSet;
 /// The marks of a field in sum.
 #[derive(Clone, Copy)]
 pub(crate) struct Summary<'a> {
+    /// The attributes that are kept, by place.
+    pub(crate) kept: KeptView<'a>,
     /// The first reset.
     pub(crate) reset: Option<NotificationView<'a>>,
     /// An attribute asks that the routes be withdrawn.
     pub(crate) withdraws: bool,
     /// An attribute has a note.
     pub(crate) notes: bool,
-    /// The attributes that are kept, by place.
-    pub(crate) kept: KeptView<'a>,
 }
 
 impl<'a> Summary<'a> {
-    ghost use Rattle.std.specs.Prelude.{Some, IsTrue};
-    ghost use Rattle.bgp_attr.specs.Judgement.{judgement, type_row};
-    ghost use Rattle.bgp_attr.specs.JudgedView.{is_kept};
+    ghost use Rattle.std.specs.Prelude.{List, Some};
+    ghost use Rattle.bgp_attr.specs.Tlv.{TlvValue};
     ghost use Rattle.bgp_attr.specs.TlvIter.{tlv_at};
-    ghost use Rattle.bgp_attr.specs.TlvView.{tlv_value};
-    ghost use Rattle.bgp_update.specs.Summary.{Adds, AreOf};
+    ghost use Rattle.bgp_attr.specs.TlvView.{tlv_value, IsTail};
+    ghost use Rattle.bgp_update.specs.KeptView.{saw, AreOf};
+    ghost use Rattle.bgp_update.specs.Marks.{cut_mark, judged_behind};
+    ghost use Rattle.bgp_update.specs.Summary.{Adds};
 
     /// Of no marks, of a field that is judged in a context.
     #[inline(always)]
     pub(crate) fn new(ctx: &Context, has_nlri: bool, field: &'a [u8]) -> Summary<'a>
         ensures value { summary_value result ≡ summary_of [] }
+        ensures seen { saw result.kept ≡ none_of_them }
         ensures of { AreOf result.kept ctx.now has_nlri field.now }
     {
         Summary {
+            kept: KeptView::new(ctx, has_nlri, field),
             reset: None,
             withdraws: false,
             notes: false,
-            kept: KeptView::new(ctx, has_nlri, field),
         }
     }
 
@@ -70,49 +74,97 @@ impl<'a> Summary<'a> {
         }
     }
 
-    /// With one more mark, of an attribute of the field that is judged so; what is kept goes to the place of its type.
+    /// With one more mark, of an attribute of the field of a recognised type: the first of its type is judged.
     #[inline(always)]
-    fn add(&mut self, tlv: &Tlv<'a>, ruling: Ruling)
+    fn add(&mut self, tlv: &Tlv<'a>)
+        requires known { is_recognised tlv.now.kind ≡ true }
         requires there { tlv_at self.old.kept.field.now tlv.now.at ≡ Some (tlv_value tlv.now) }
-        requires kept { keeps ruling ≡ true → IsTrue (is_kept (judgement self.old.kept.ctx self.old.kept.has_nlri (tlv_value tlv.now))) }
         requires small { (tlv.now.at ≤ 4075) × (length tlv.now.whole.now ≤ 4075) }
-        ensures adds { Adds self.old (ruled ruling tlv.now.whole.now (type_row self.old.kept.ctx self.old.kept.has_nlri (tlv_value tlv.now)).value) self.new }
+        requires short { length self.old.kept.field.now ≤ 4075 }
+        ensures adds { Adds self.old (judged_behind self.old.kept.ctx self.old.kept.has_nlri (saw self.old.kept) (tlv_value tlv.now)) self.new }
+        ensures seen { saw self.new.kept ≡ also tlv.now.kind (saw self.old.kept) }
         ensures of { AreOf self.new.kept self.old.kept.ctx self.old.kept.has_nlri self.old.kept.field.now }
     {
-        match ruling {
+        let kind = tlv.kind;
+        if self.kept.saw(kind) {
+            self.refuse(tlv.whole, repeated(kind));
+            return;
+        }
+        match rule(&self.kept.ctx, self.kept.has_nlri, tlv) {
             Ruling::Keep => self.kept.put(tlv),
-            _ => self.refuse(tlv.whole, ruling),
+            ruling => {
+                self.kept.pass(kind);
+                self.refuse(tlv.whole, ruling);
+            }
         }
     }
 
-    /// Adds the mark of an attribute that is cut off, where the whole ones are all added. It is inlined, so that the marks stay in registers.
+    /// With one more mark, of an attribute of another type, where these of them were there.
     #[inline(always)]
-    fn add_cut(&mut self, marks: &mut MarkIter<'a>)
-        requires { tlvs_left marks.old.tlvs ≡ [] }
-        ensures marks { summary_value self.new ≡ summary_behind (summary_value self.old) (marks_left marks.old) }
-        ensures types { (types : ℕ → Bool) → HasTypes marks.old types → HasTypes marks.new types }
-        ensures last { tlvs_left marks.new.tlvs ≡ [] }
+    fn add_other(&mut self, tlv: &Tlv<'a>, seen: &mut OctetSet)
+        requires other { is_recognised tlv.now.kind ≡ false }
+        requires short { length tlv.now.whole.now ≤ 4075 }
+        ensures adds { Adds self.old (judged_behind self.old.kept.ctx self.old.kept.has_nlri (has_octet seen.old) (tlv_value tlv.now)) self.new }
+        ensures seen { has_octet seen.new ≡ also tlv.now.kind (has_octet seen.old) }
+        ensures same { saw self.new.kept ≡ saw self.old.kept }
+        ensures of { AreOf self.new.kept self.old.kept.ctx self.old.kept.has_nlri self.old.kept.field.now }
     {
-        if let Some(mark) = marks.next_cut() {
-            self.refuse(&[], mark.ruling);
+        let kind = tlv.kind;
+        let is_repeated = seen.contains(kind);
+        seen.insert(kind);
+        if is_repeated {
+            self.refuse(tlv.whole, repeated(kind));
+            return;
+        }
+        match rule_other(tlv) {
+            Ruling::Keep => self.kept.others = true,
+            ruling => self.refuse(tlv.whole, ruling),
         }
     }
 
-    /// Sums up the marks of a field of at most 4075 octets; what was there is gone. Answers the types of its whole attributes.
+    /// The same of the attribute at an offset, which is read there once more: so that those of recognised types, which are most, stay in registers.
     #[inline(never)]
-    pub(crate) fn sum_up(&mut self, ctx: &Context, has_nlri: bool, field: &'a [u8]) -> OctetSet
+    fn add_other_at(&mut self, at: usize, seen: &mut OctetSet)
+        requires other { (t : TlvValue) → tlv_at self.old.kept.field.now at ≡ Some t → (is_recognised t.kind ≡ false) × (length t.whole ≤ 4075) }
+        ensures adds { (t : TlvValue) → tlv_at self.old.kept.field.now at ≡ Some t
+            → Adds self.old (judged_behind self.old.kept.ctx self.old.kept.has_nlri (has_octet seen.old) t) self.new × (has_octet seen.new ≡ also t.kind (has_octet seen.old)) }
+        ensures same { saw self.new.kept ≡ saw self.old.kept }
+        ensures of { AreOf self.new.kept self.old.kept.ctx self.old.kept.has_nlri self.old.kept.field.now }
+    {
+        if let Some(tlv) = tlv_at(self.kept.field, at) {
+            self.add_other(&tlv, seen);
+        }
+    }
+
+    /// With the mark of what stands behind the whole attributes, where something does.
+    #[inline(always)]
+    fn add_tail(&mut self, tail: Tail<'a>)
+        ensures adds { (rest : List ℕ) (at : ℕ) → IsTail rest tail.entry → summary_value self.new ≡ summary_behind (summary_value self.old) (cut_mark at rest) }
+        ensures same { self.new.kept ≡ self.old.kept }
+    {
+        if let Tail::Cut(rest) = tail {
+            self.refuse(&[], cut(rest));
+        }
+    }
+
+    /// Sums up the marks of a field of at most 4075 octets; what was there is gone.
+    #[inline(never)]
+    pub(crate) fn sum_up(&mut self, ctx: &Context, has_nlri: bool, field: &'a [u8])
         requires { length field.now ≤ 4075 }
         ensures marks { summary_value self.new ≡ summary_of (field_marks ctx.now has_nlri field.now) }
         ensures known { known_value self.new.kept ≡ known_of (attrs_of (kept_of (field_marks ctx.now has_nlri field.now))) }
-        ensures types { (kind : ℕ) → has_octet result kind ≡ types_of_field field.now kind }
+        ensures types { (kind : ℕ) → is_recognised kind ≡ true → saw self.new.kept kind ≡ types_of_field field.now kind }
     {
         *self = Summary::new(ctx, has_nlri, field);
-        let mut marks = MarkIter::new(ctx, has_nlri, field);
-        'field: while let Some(tlv) = marks.next_tlv() {
-            let ruling = marks.rule(&tlv);
-            self.add(&tlv, ruling);
+        let mut others = OctetSet::new();
+        let mut tlvs = TlvIter::new(field);
+        'field: while let Some(tlv) = tlvs.next() {
+            if is_recognised(tlv.kind) {
+                self.add(&tlv);
+            } else {
+                self.add_other_at(tlv.at, &mut others);
+            }
         }
-        self.add_cut(&mut marks);
-        marks.types()
+        self.add_tail(tlvs.tail());
     }
 }

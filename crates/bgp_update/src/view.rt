@@ -105,9 +105,9 @@ impl<'a> UpdateView<'a> {
         ensures sums { summary_value self.new.summary ≡ summary_of (marks_of ctx.now (parts_value body.entry)) }
     {
         let has_nlri = !body.nlri.is_empty();
-        let types = self.summary.sum_up(ctx, has_nlri, body.attributes);
+        self.summary.sum_up(ctx, has_nlri, body.attributes);
         let reaches = has_nlri || has_routes(&self.summary.kept.reach());
-        self.missing = missing_in(reaches, has_nlri, &types);
+        self.missing = missing_in(reaches, has_nlri, &self.summary.kept);
         self.ctx = *ctx;
         self.body = body;
     }

@@ -1,13 +1,13 @@
 -- What a parse found of a command and its flags.
-use Rattle.bgp_wire.proofs.Std.{◌≡◌, List, [], ◌∷◌, Option, None, Some, Result, option_map, refl, sym, ap, subst, ◌∙◌, inl, inr, Box, Global}
-use Rattle.clap.specs.Words.{FailsBy, HasKind, Kinds, Row, Text, subcommand_name_of, subcommand_of, subcommand_rows, subcommand_rows_of}
+use Rattle.bgp_words.proofs.Prelude.{◌≡◌, List, [], ◌∷◌, Option, None, Some, Result, option_map, refl, sym, ap, subst, ◌∙◌, inl, inr, Box, Global, FailsBy}
+use Rattle.bgp_words.proofs.Prelude.{HasKind, Kinds, Row, Text, subcommand_name_of, subcommand_of, subcommand_rows, subcommand_rows_of, Asks, IsAsked}
+use Rattle.bgp_words.proofs.Prelude.{bgp_command, drops_by, file_in, first_kinds, request_by}
 use Rattle.std.specs.Box.{box_value}
 use Rattle.clap.specs.declared.parser.matches.ArgMatches.{ArgMatches}
 use Rattle.clap.specs.declared.parser.matches.ArgMatches.TheViews.{out-ArgMatches, out-SubCommand}
 use Rattle.clap.specs.declared.parser.matches.SubCommand.{SubCommand}
 use Rattle.clap.specs.declared.error.Error.{Error}
 use Rattle.bgp_words.specs.declared.request.Request.{Request}
-use Rattle.bgp_words.specs.CommandLine.{Asks, IsAsked, bgp_command, drops_by, file_in, first_kinds, request_by}
 
 -- what was found to be wrong behind a parse without an error
 pub fails_behind : {T : Type 0} (r : Result T Error) (kinds later : Kinds) → kinds ≡ [] → FailsBy later r → FailsBy (first_kinds kinds later) r

@@ -1,15 +1,10 @@
 -- What is left out isn't recognised.
-use Rattle.bgp_wire.proofs.Std.{◌≡◌, ℕ, ◌<◌, Bool, true, false, not, ◌&&◌, ◌==◌, nat_le, nat_lt, List, [], ◌∷◌, length, Option, None, Some, option_map, refl, sym, subst, inl, inr, cond, codes, arith, and_parts, leb-true, ltb-true, not-true, or_cases}
-use Rattle.std.proofs.lemmas.Bool.{eqb-true}
-use Rattle.std.specs.Str.{all_ascii_digits}
-use Rattle.std.specs.Str.Parse.{digits_value}
+use Rattle.bgp_words.proofs.Prelude.{◌≡◌, ℕ, ◌<◌, Bool, true, false, not, ◌&&◌, ◌==◌, nat_le, nat_lt, List, [], ◌∷◌, length, Option, None, Some, option_map}
+use Rattle.bgp_words.proofs.Prelude.{refl, sym, subst, inl, inr, cond, codes, arith, and_parts, leb-true, ltb-true, not-true, or_cases, eqb-true}
+use Rattle.bgp_words.proofs.Prelude.{all_ascii_digits, digits_value, Row, Text, first_of, is_recognised, also, none_of_them, ◌>>=◌, when, drops_by, is_set}
+use Rattle.bgp_words.proofs.Prelude.{types_in, all_but, is_other, octet_of, type_of, types_behind, words_of}
 use Rattle.std.proofs.lemmas.Option.{same_Some}
-use Rattle.clap.specs.Words.{Row, Text, first_of}
-use Rattle.bgp_attr.specs.Prelude.{is_recognised}
-use Rattle.bgp_wire.specs.Prelude.{also, none_of_them, ◌>>=◌, when}
-use Rattle.bgp_words.specs.CommandLine.{drops_by, is_set, types_in}
 use Rattle.bgp_words.specs.Laws.{AreUnrecognised}
-use Rattle.bgp_words.specs.TypeList.{all_but, is_other, octet_of, type_of, types_behind, words_of}
 
 -- ---- steps that may fail
 

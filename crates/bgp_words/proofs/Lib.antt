@@ -1,3 +1,4 @@
+pub mod Prelude
 pub mod TypeLists
 pub mod CommandLines
 pub mod Flags

@@ -1,15 +1,12 @@
 -- Lists of types.
-use Rattle.bgp_wire.proofs.Std.{◌≡◌, ◌≢◌, ℕ, suc, ◌<◌, ◌^◌, Bool, true, false, not, ◌&&◌, ◌||◌, ◌==◌, nat_le, nat_lt, List, [], ◌∷◌, length, get_or, Some, None, Result, Ok, Err, refl, sym, ap, ◌∙◌, arith, and_parts, leb-true, ltb-true, le-leb}
+use Rattle.bgp_words.proofs.Prelude.{◌≡◌, ◌≢◌, ℕ, suc, ◌<◌, ◌^◌, Bool, true, false, not, ◌&&◌, ◌||◌, ◌==◌, nat_le, nat_lt, List, [], ◌∷◌, length, get_or}
+use Rattle.bgp_words.proofs.Prelude.{Some, None, Result, Ok, Err, refl, sym, ap, ◌∙◌, arith, and_parts, leb-true, ltb-true, le-leb, all_ascii_digits}
+use Rattle.bgp_words.proofs.Prelude.{ParsesUnsigned, digits_value, also, when, has_entry, all_but, octet_of}
 use Rattle.std.proofs.lemmas.Bool.{lt-ltb}
 use Rattle.std.proofs.lemmas.Str.Parse.{IsNumeralModel, numerals_by_value, parse_plain, tells_all_ascii_digits}
 use Rattle.std.specs.Result.{OkIff, result_ok}
-use Rattle.std.specs.Str.{all_ascii_digits}
-use Rattle.std.specs.Str.Parse.{ParsesUnsigned, digits_value}
 use Rattle.bgp_wire.specs.Prelude as wire
-use Rattle.bgp_wire.specs.Prelude.{also, when}
-use Rattle.bgp_attr.specs.Prelude.{has_entry}
 use Rattle.bgp_attr.specs.Judgement.{recognised}
-use Rattle.bgp_words.specs.TypeList.{all_but, octet_of}
 
 -- ---- numbers
 
@@ -39,11 +36,6 @@ by_result word (Err e) h = no_number (is_octet word) (digits_value 10 word) (λ 
 -- what `parse` answers at a word without a sign
 pub parsed : {E : Type 0} (word : List ℕ) (r : Result ℕ E) → ParsesUnsigned 8 10 word r → get_or word 0 0 ≢ 43 → result_ok r ≡ octet_of word
 parsed word r h plain = by_result word r (parse_plain own 8 word r h plain)
-
--- a word with a sign is none
-pub signed : (word : List ℕ) → get_or word 0 0 ≡ 43 → None ≡ octet_of word
-signed [] is = refl
-signed (c ∷ word) is = let plus : c ≡ 43 = is in rw (plus, lt-ltb 0 (suc (length word)) (omega arith)) refl
 
 -- ---- all other types
 

@@ -1,4 +1,4 @@
-//! The words of the command line of `bgp`, and what they ask for. Nothing is read or written here.
+//! The words of the command line of `bgp`, and what they ask for, of which nothing is read or written; and what the other programs have in common.
 #![tactic(auto)]
 
 mod commands;
@@ -7,8 +7,10 @@ mod drops;
 mod given;
 mod help;
 pub mod laws;
+mod program;
 mod request;
 mod type_list;
 
+pub use program::{BROKEN, Behind, bad_value, explain, status_of, tell, with_flags, words};
 pub use request::{Asked, Request, Session, parse};
 pub use type_list::{all_but, list_fault, types_of};

@@ -1,10 +1,6 @@
 -- Messages of a batch, one behind another.
-use Rattle.bgp_wire.proofs.Std.{◌≡◌, ℕ, ◌+◌, ◌-◌, ◌<◌, ◌≤◌, Bool, cond, eqb, List, [], ◌∷◌, ◌++◌, length, drop, refl, sym, ap, subst, ◌∙◌, arith}
-use Rattle.std.proofs.lemmas.Bool.{eq-eqb, ne_eqb}
-use Rattle.std.proofs.lemmas.List.{append-nil, append_assoc, length-drop}
-use Rattle.bgp_frame.specs.Prelude.{Waits, wanted}
+use Rattle.ristulva_c.proofs.Below.{◌≡◌, ℕ, ◌+◌, ◌-◌, ◌<◌, ◌≤◌, Bool, cond, eqb, List, [], ◌∷◌, ◌++◌, length, drop, refl, sym, ap, subst, ◌∙◌, arith, eq-eqb, ne_eqb, append-nil, append_assoc, length-drop, Waits, wanted, Context}
 use Rattle.bgp_frame.specs.declared.step.Step.TheVariants as step
-use Rattle.bgp_open.specs.declared.context.Context.{Context}
 use Rattle.ristulva_c.specs.Batch.{Giving, Taken, IsTaken, Stand, octets_taken, rows_taken, EndsAt, TakesAll}
 use Rattle.ristulva_c.specs.declared.status.TheConstants.{INCOMPLETE, OK}
 use Rattle.ristulva_c.specs.Prelude.{Holds, Takes, Stops}

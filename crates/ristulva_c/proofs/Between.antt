@@ -1,8 +1,5 @@
 -- The octets from one offset to another.
-use Rattle.bgp_wire.proofs.Std.{◌≡◌, ℕ, ◌+◌, ◌-◌, ◌≤◌, List, ◌∷◌, ◌++◌, length, take, drop, Option, Some, refl, sym, ap, ◌∙◌, arith, length-drop, drop-take, take-take, take_at, drop_at}
-use Rattle.std.proofs.lemmas.List.{drop-drop, length-take, length-append}
-use Rattle.bgp_wire.specs.Prelude.{Reads, pieces}
-use Rattle.bgp_wire.proofs.Walks.{first_then}
+use Rattle.ristulva_c.proofs.Below.{◌≡◌, ℕ, ◌+◌, ◌-◌, ◌≤◌, List, ◌∷◌, ◌++◌, length, take, drop, Option, Some, refl, sym, ap, ◌∙◌, arith, length-drop, drop-take, take-take, take_at, drop_at, drop-drop, length-take, length-append, Reads, pieces, first_then}
 use Rattle.ristulva_c.specs.Prelude.{between}
 
 pub length_between : (b : List ℕ) (at end : ℕ) → at ≤ end → end ≤ length b → length (between b at end) + at ≡ end

@@ -1,10 +1,6 @@
 -- From a capability to those behind it.
-use Rattle.std.proofs.Common.{◌≡◌, ℕ, ◌+◌, ◌-◌, ◌≤◌, List, [], ◌∷◌, ◌++◌, length, get_or, take, drop, Some, None, refl, sym, ap, ap₂, ◌∙◌, arith}
-use Rattle.bgp_numbers.specs.declared.parameter.TheConstants.{CAPABILITIES}
-use Rattle.bgp_wire.specs.Prelude.{pieces}
+use Rattle.ristulva_c.proofs.Below.{◌≡◌, ℕ, ◌+◌, ◌-◌, ◌≤◌, List, [], ◌∷◌, ◌++◌, length, get_or, take, drop, Some, None, refl, sym, ap, ap₂, ◌∙◌, arith, CAPABILITIES, pieces, Capability, IsCapability, capability_of, one_capability, capabilities_of, one_parameter}
 use Rattle.bgp_wire.proofs.Behinds.{pieces-whole}
-use Rattle.bgp_open.specs.declared.capability.Capability.{Capability}
-use Rattle.bgp_open.specs.Prelude.{IsCapability, capability_of, one_capability, capabilities_of, one_parameter}
 use Rattle.bgp_open.proofs.Capabilities.{capability-reads}
 use Rattle.bgp_open.proofs.Parameters.{parameter-reads}
 use Rattle.bgp_open.proofs.CapabilityIters.{goes_on, is_over, begins, ends}

@@ -1,12 +1,6 @@
 -- What is handed on stands behind what was there, and is clean.
-use Rattle.bgp_wire.proofs.Std.{◌≡◌, ℕ, Bool, List, ◌++◌, take, Result, Ok, Err, sym, subst, ◌∙◌}
-use Rattle.std.proofs.lemmas.List.{append-nil}
-use Rattle.bgp_wire.specs.Prelude.{AreOctets}
-use Rattle.bgp_wire.proofs.OctetLemmas.{AreOctets-take}
-use Rattle.bgp_frame.specs.declared.step.Step.{Step}
-use Rattle.bgp_frame.specs.Prelude.{ShowsFront, message_in}
+use Rattle.ristulva_c.proofs.Below.{◌≡◌, ℕ, Bool, List, ◌++◌, take, Result, Ok, Err, sym, subst, ◌∙◌, append-nil, AreOctets, Step, ShowsFront, message_in, Context, AreOctets-take}
 use Rattle.bgp_frame.specs.declared.step.Step.TheVariants as step
-use Rattle.bgp_open.specs.declared.context.Context.{Context}
 use Rattle.bgp_msg.specs.declared.message.Message.{Message}
 use Rattle.bgp_clean.specs.declared.cleaned.Cleaned.{Cleaned}
 use Rattle.bgp_clean.specs.declared.cleaned.Cleaned.TheVariants.{HandedOn, Ends}

@@ -1,19 +1,10 @@
 -- What is written and sent of an UPDATE.
-use Rattle.std.proofs.Common.{◌≡◌, Bool, true, false, not, cond, ℕ, ◌+◌, ◌≤◌, List, [], ◌++◌, length, Option, Some, None, refl, ap, ◌∙◌, arith}
-use Rattle.std.proofs.lemmas.Bool.{le-ltb, false_from_ne_true}
-use Rattle.std.specs.Prelude.{is_none, IsTrue}
-use Rattle.bgp_wire.specs.Prelude.{AreOctets}
-use Rattle.bgp_frame.proofs.FrameLemmas.{length-octets_of}
-use Rattle.bgp_open.specs.declared.context.Context.{Context}
-use Rattle.bgp_update.specs.declared.invalid.Invalid.{Invalid}
-use Rattle.bgp_update.specs.declared.note.Note.{Note}
-use Rattle.bgp_update.specs.declared.update.Update.{Update}
-use Rattle.bgp_update.specs.Prelude.{HasNoAs4, invalid_of as invalid_in, verdict_of, written_body}
+use Rattle.ristulva_c.proofs.Below.{◌≡◌, Bool, true, false, not, cond, ℕ, ◌+◌, ◌≤◌, List, [], ◌++◌, length, Option, Some, None, refl, ap, ◌∙◌, arith, le-ltb, false_from_ne_true, is_none, IsTrue, AreOctets, Context, Invalid, Note, Update, HasNoAs4, verdict_of, written_body, canonical, written, invalid_of, is_valid, is_too_long, length-octets_of}
+use Rattle.bgp_update.specs.Prelude.{invalid_of as invalid_in}
 use Rattle.bgp_update.specs.declared.verdict.Verdict.TheVariants as verdict
 use Rattle.bgp_update.proofs.Taken.{taken-written}
 use Rattle.bgp_update.proofs.Widths.{wide_update_has_no_as4}
 use Rattle.bgp_msg.specs.declared.message.Message.TheVariants as message
-use Rattle.bgp_msg.specs.Prelude.{canonical, written, invalid_of, is_valid, is_too_long}
 use Rattle.ristulva_c.specs.Prelude.{encoded_of, short_of, written_of}
 
 none_valid : (o : Option Invalid) → ((why : Invalid) → o ≡ Some why → ⊥) → is_none o ≡ true

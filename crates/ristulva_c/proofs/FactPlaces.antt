@@ -1,19 +1,5 @@
 -- The octets at the offsets that are told of an UPDATE hold its paths and communities.
-use Rattle.bgp_wire.proofs.Std.{◌≡◌, ℕ, ◌+◌, ◌≤◌, true, eqb, List, length, take, Option, Some, None, sym, ap, ◌∙◌, find}
-use Rattle.std.specs.Prelude.{is_some, option_map}
-use Rattle.bgp_numbers.specs.declared.attribute.TheConstants.{AS_PATH, AS4_PATH, COMMUNITIES, LARGE_COMMUNITY}
-use Rattle.bgp_wire.specs.Prelude.{AreOctets}
-use Rattle.bgp_frame.specs.Prelude.{Message, IsFrame}
-use Rattle.bgp_frame.specs.declared.kind.Kind.{Kind}
-use Rattle.bgp_open.specs.declared.context.Context.{Context}
-use Rattle.bgp_attr.specs.Prelude.{numbers_of, triples_of, each_once, path_of, PlacedTlv, as_path_form, as4_path_form}
-use Rattle.bgp_attr.specs.declared.communities.Communities.{Communities}
-use Rattle.bgp_attr.specs.declared.communities.LargeCommunities.{LargeCommunities}
-use Rattle.bgp_attr.specs.declared.path.As4Path.{As4Path}
-use Rattle.bgp_update.specs.declared.attrs.Attrs.{Attrs}
-use Rattle.bgp_update.specs.Prelude.{marks_of, placed_tlvs, Parts, parts_of, kept_of, attrs_of}
-use Rattle.bgp_msg.specs.declared.outcome.Outcome.{Outcome}
-use Rattle.bgp_msg.specs.Prelude.{out_of}
+use Rattle.ristulva_c.proofs.Below.{◌≡◌, ℕ, ◌+◌, ◌≤◌, true, eqb, List, length, take, Option, Some, None, sym, ap, ◌∙◌, find, is_some, option_map, AS_PATH, AS4_PATH, COMMUNITIES, LARGE_COMMUNITY, AreOctets, Message, IsFrame, Kind, Context, numbers_of, triples_of, each_once, path_of, PlacedTlv, as_path_form, as4_path_form, Communities, LargeCommunities, As4Path, Attrs, marks_of, placed_tlvs, Parts, parts_of, kept_of, attrs_of, Outcome, out_of}
 use Rattle.ristulva_c.specs.Prelude.{attrs_in, PathsLie, paths_told, parts_told, fields_of, Lie, first_of_type, value_at, value_in, kept_at, octets_in}
 use Rattle.ristulva_c.proofs.FirstPlaces.{found_lies}
 use Rattle.ristulva_c.proofs.KeptPlaces.{path_first, as4_path_first, communities_first, large_first}

@@ -1,38 +1,11 @@
 -- A message has no more numbers in its path, and no more communities, than octets behind its header and its two lengths.
-use Rattle.std.proofs.Common.{◌≡◌, ℕ, suc, ◌+◌, ◌-◌, ◌*◌, ◌≤◌, Bool, true, false, cond, eqb, ltb, List, [], ◌∷◌, ◌++◌, length, Option, Some, None, refl, sym, ap, subst, ◌∙◌, arith}
-use Rattle.std.specs.List.{flat_map}
-use Rattle.std.proofs.lemmas.List.{length-append, length-map, length-take}
-use Rattle.std.proofs.lemmas.List.Concat.{flat_map-cons}
+use Rattle.ristulva_c.proofs.Below.{◌≡◌, ℕ, suc, ◌+◌, ◌-◌, ◌*◌, ◌≤◌, Bool, true, false, cond, eqb, ltb, List, [], ◌∷◌, ◌++◌, length, Option, Some, None, refl, sym, ap, subst, ◌∙◌, arith, flat_map, length-append, length-map, length-take, flat_map-cons, AS_PATH, AS4_PATH, AreOctets, Row, Kind, Context, AsNumber, Aggregator, Communities, LargeCommunities, As4Path, AsPath, SegKind, Set, Seq, Segment, PathForm, number_width, IsNumber, one_number, IsTriple, one_triple, triples_of, WireSegment, IsSegment, one_segment, segments_of, kept_segment, segment_kept_as, kind_of_segment, as_number, path_of, as_path_form, as4_path_form, items_of, items_behind, front_by, lead, rebuilt_path, rebuilt_by, rebuilt, is_as_trans, marks_of, Parts, kept_of, attrs_of, Attrs, PathInfo, out_of, Outcome, not_more, Splits-pieces, IsNumber-reads, IsSegment-reads, IsTriple-reads, length-body, parts-body}
 use Rattle.bgp_attr.proofs.OnceLemmas.{each_once-shorter}
-use Rattle.bgp_numbers.specs.declared.attribute.TheConstants.{AS_PATH, AS4_PATH}
-use Rattle.bgp_wire.specs.Prelude.{AreOctets, Row}
-use Rattle.bgp_wire.proofs.Pieces.{Splits-pieces}
-use Rattle.bgp_wire.proofs.Walks.{not_more}
-use Rattle.bgp_frame.specs.declared.kind.Kind.{Kind}
-use Rattle.bgp_open.specs.declared.context.Context.{Context}
-use Rattle.bgp_prefix.specs.declared.as_number.AsNumber.{AsNumber}
-use Rattle.bgp_attr.specs.declared.aggregator.Aggregator.{Aggregator}
-use Rattle.bgp_attr.specs.declared.communities.Communities.{Communities}
-use Rattle.bgp_attr.specs.declared.communities.LargeCommunities.{LargeCommunities}
-use Rattle.bgp_attr.specs.declared.path.As4Path.{As4Path}
-use Rattle.bgp_attr.specs.declared.path.AsPath.{AsPath}
-use Rattle.bgp_attr.specs.declared.path.SegKind.{SegKind}
-use Rattle.bgp_attr.specs.declared.path.SegKind.TheVariants.{Set, Seq}
-use Rattle.bgp_attr.specs.declared.path.Segment.{Segment}
-use Rattle.bgp_attr.specs.declared.path_form.PathForm.{PathForm}
-use Rattle.bgp_attr.specs.Prelude.{number_width, IsNumber, one_number, IsTriple, one_triple, triples_of, WireSegment, IsSegment, one_segment, segments_of, kept_segment, segment_kept_as, kind_of_segment, as_number, path_of, as_path_form, as4_path_form}
-use Rattle.bgp_attr.proofs.Readers.{IsNumber-reads, IsSegment-reads, IsTriple-reads}
 use Rattle.bgp_attr.proofs.NumberRows.{length-number_row}
-use Rattle.bgp_update.specs.Prelude.{items_of, items_behind, front_by, lead, rebuilt_path, rebuilt_by, rebuilt, is_as_trans, marks_of, Parts, kept_of, attrs_of}
-use Rattle.bgp_update.specs.declared.attrs.Attrs.{Attrs}
-use Rattle.bgp_update.specs.declared.path_info.PathInfo.{PathInfo}
-use Rattle.bgp_update.proofs.Bodies.{length-body, parts-body}
-use Rattle.bgp_msg.specs.Prelude.{out_of}
 use Rattle.ristulva_c.specs.Prelude.{attrs_in, numbers_in, community_row, communities_told, community_rows, large_row, large_told, large_rows, path_rows, number_rows, IsViewed}
 use Rattle.ristulva_c.proofs.FactPlaces.{are_kept}
 use Rattle.ristulva_c.proofs.FirstPlaces.{found_lies}
 use Rattle.ristulva_c.proofs.KeptPlaces.{path_first, as4_path_first, communities_first, large_first}
-use Rattle.bgp_msg.specs.declared.outcome.Outcome.{Outcome}
 use Rattle.ristulva_c.proofs.NumberRows.{rows_count}
 
 -- ---- the segments of a path, and their numbers

@@ -1,35 +1,15 @@
 -- A message has no more routes than octets behind its header and its two lengths.
-use Rattle.bgp_wire.proofs.Std.{◌≡◌, ℕ, ◌+◌, ◌-◌, ◌≤◌, Bool, true, false, eqb, List, ◌++◌, length, Option, Some, None, refl, sym, ap, ◌∙◌, arith, cond, [], ◌∷◌, length-map, find}
-use Rattle.std.proofs.lemmas.Bool.{eqb-true}
-use Rattle.std.proofs.lemmas.List.{length-append, length-drop}
-use Rattle.bgp_numbers.specs.declared.afi.TheConstants.{IPV4, IPV6}
-use Rattle.bgp_numbers.specs.declared.attribute.TheConstants.{MP_REACH_NLRI, MP_UNREACH_NLRI}
-use Rattle.bgp_wire.specs.Prelude.{AreOctets, Row}
-use Rattle.bgp_frame.specs.declared.kind.Kind.{Kind}
-use Rattle.bgp_open.specs.declared.context.Context.{Context}
-use Rattle.bgp_prefix.specs.Prelude.{PrefixValue, run_of, IsPrefix, one_prefix}
-use Rattle.bgp_attr.specs.declared.mp.MpReach.{MpReach}
-use Rattle.bgp_attr.specs.declared.mp.MpUnreach.{MpUnreach}
-use Rattle.bgp_attr.specs.Prelude.{next_hop_length, reached_of, withdrawn_of, mp_reach_of, mp_unreach_of, PlacedTlv, TlvValue, IsTlv, one_tlv, tlvs_of, placed_from}
+use Rattle.ristulva_c.proofs.Below.{◌≡◌, ℕ, ◌+◌, ◌-◌, ◌≤◌, Bool, true, false, eqb, List, ◌++◌, length, Option, Some, None, refl, sym, ap, ◌∙◌, arith, cond, [], ◌∷◌, length-map, find, eqb-true, length-append, length-drop, IPV4, IPV6, MP_REACH_NLRI, MP_UNREACH_NLRI, AreOctets, Row, Kind, Context, PrefixValue, run_of, IsPrefix, one_prefix, MpReach, MpUnreach, next_hop_length, reached_of, withdrawn_of, mp_reach_of, mp_unreach_of, PlacedTlv, TlvValue, IsTlv, one_tlv, tlvs_of, placed_from, Mark, marks_of, gone_ip4, gone_ip6, reached_ip4, reached_ip6, Parts, parts_of, kept_of, attrs_of, update_of, placed_tlvs, Attrs, Outcome, out_of, not_more, Splits-pieces, IsTlv-reads, length-body, parts-body, IsPrefix-reads}
 use Rattle.bgp_attr.specs.declared.mp.MpReach.TheVariants as reach
 use Rattle.bgp_attr.specs.declared.mp.MpUnreach.TheVariants as unreach
-use Rattle.bgp_update.specs.Prelude.{Mark, marks_of, gone_ip4, gone_ip6, reached_ip4, reached_ip6, Parts, parts_of, kept_of, attrs_of, update_of, placed_tlvs}
-use Rattle.bgp_update.specs.declared.attrs.Attrs.{Attrs}
 use Rattle.bgp_update.specs.Notes as notes
-use Rattle.bgp_update.proofs.Bodies.{length-body, parts-body}
 use Rattle.bgp_msg.specs.declared.message.Message.TheVariants as message
-use Rattle.bgp_msg.specs.declared.outcome.Outcome.{Outcome}
-use Rattle.bgp_msg.specs.Prelude.{out_of}
 use Rattle.bgp_msg.specs.declared.outcome.Outcome.TheVariants as outcome
 use Rattle.ristulva_c.specs.Prelude.{width_of, first_of_type, reach_afi, unreach_afi, RouteValue, routes_to, reached_routes, unreached_routes, routes_of}
 use Rattle.ristulva_c.proofs.FirstPlaces.{found_lies}
 use Rattle.ristulva_c.proofs.KeptPlaces.{reach_first, unreach_first}
 use Rattle.ristulva_c.proofs.Outcomes.{by_kind}
 use Rattle.ristulva_c.proofs.RouteLists.{reach_run, unreach_run}
-use Rattle.bgp_wire.proofs.Pieces.{Splits-pieces}
-use Rattle.bgp_wire.proofs.Walks.{not_more}
-use Rattle.bgp_prefix.proofs.PrefixLemmas.{IsPrefix-reads}
-use Rattle.bgp_attr.proofs.Readers.{IsTlv-reads}
 
 few_prefixes : (width : ℕ) (b : List ℕ) → length (run_of width b).0 ≤ length b
 few_prefixes width b = not_more PrefixValue (IsPrefix width) (one_prefix width) (IsPrefix-reads width) b

@@ -1,6 +1,5 @@
 -- Each kind of field has a number of its own.
-use Rattle.std.proofs.Common.{◌≡◌, Some, refl}
-use Rattle.bgp_fields.specs.declared.kind.FieldKind.{FieldKind}
+use Rattle.ristulva_c.proofs.Below.{◌≡◌, Some, refl, FieldKind}
 use Rattle.bgp_fields.specs.declared.kind.FieldKind.TheVariants as field
 use Rattle.ristulva_c.specs.Prelude.{number_of_kind, kind_of}
 

@@ -1,8 +1,5 @@
 -- Fields in a list of the caller's.
-use Rattle.bgp_wire.proofs.Std.{◌≡◌, ℕ, true, false, nat_le, ◌+◌, ◌≤◌, List, [], ◌∷◌, ◌++◌, length, map, drop, refl, sym, ap, ◌∙◌, arith, length-map}
-use Rattle.bgp_open.specs.declared.context.Context.{Context}
-use Rattle.bgp_fields.specs.declared.field.Field.{Field}
-use Rattle.bgp_fields.specs.Prelude.{fields_of, Tiles}
+use Rattle.ristulva_c.proofs.Below.{◌≡◌, ℕ, true, false, nat_le, ◌+◌, ◌≤◌, List, [], ◌∷◌, ◌++◌, length, map, drop, refl, sym, ap, ◌∙◌, arith, length-map, Context, Field, fields_of, Tiles}
 use Rattle.bgp_fields.proofs.Joined.{fields-octets}
 use Rattle.ristulva_c.specs.declared.fields.ToldField.{ToldField}
 use Rattle.ristulva_c.specs.declared.status.TheConstants.{OK, ROOM}

@@ -1,11 +1,5 @@
 -- Where the attributes of a field lie in it, and in a message.
-use Rattle.bgp_wire.proofs.Std.{◌≡◌, ℕ, ◌+◌, ◌-◌, ◌≤◌, Bool, true, false, cond, List, [], ◌∷◌, ◌++◌, length, take, drop, Some, None, append_assoc, refl, sym, ap, ◌∙◌, arith, find, drop_at, take_at, drop-take, take-take}
-use Rattle.std.proofs.lemmas.List.{length-append, drop-drop}
-use Rattle.bgp_wire.specs.Prelude.{Row}
-use Rattle.bgp_wire.proofs.Pieces.{Splits-pieces}
-use Rattle.bgp_attr.specs.Prelude.{TlvValue, PlacedTlv, IsTlv, one_tlv, tlvs_of, placed_from}
-use Rattle.bgp_attr.proofs.Readers.{IsTlv-reads}
-use Rattle.bgp_update.specs.Prelude.{placed_tlvs}
+use Rattle.ristulva_c.proofs.Below.{◌≡◌, ℕ, ◌+◌, ◌-◌, ◌≤◌, Bool, true, false, cond, List, [], ◌∷◌, ◌++◌, length, take, drop, Some, None, append_assoc, refl, sym, ap, ◌∙◌, arith, find, drop_at, take_at, drop-take, take-take, length-append, drop-drop, Row, TlvValue, PlacedTlv, IsTlv, one_tlv, tlvs_of, placed_from, placed_tlvs, Splits-pieces, IsTlv-reads}
 
 -- an attribute's value lies there in octets, behind what is in front of it
 pub record LiesAt (b : List ℕ) (p : PlacedTlv) : Type 0 where

@@ -1,24 +1,9 @@
 -- What a slot keeps is the value of the first attribute of its type.
-use Rattle.bgp_wire.proofs.Std.{◌≡◌, ℕ, ◌-◌, Bool, true, false, not, cond, eqb, List, [], ◌∷◌, length, Option, Some, None, refl, sym, ap, ◌∙◌, find, option_or, and_right, or_from, or_left, or_right, find-append}
-use Rattle.std.proofs.lemmas.Bool.{eqb-true, eq-eqb}
-use Rattle.bgp_numbers.specs.declared.attribute.TheConstants.{AS_PATH, COMMUNITIES, MP_REACH_NLRI, MP_UNREACH_NLRI, AS4_PATH, LARGE_COMMUNITY}
-use Rattle.bgp_wire.specs.Prelude.{◌>>=◌, also, none_of_them}
-use Rattle.bgp_open.specs.declared.context.Context.{Context}
-use Rattle.bgp_attr.specs.declared.attr.Attr.{Attr}
-use Rattle.bgp_attr.specs.declared.communities.Communities.{Communities}
-use Rattle.bgp_attr.specs.declared.communities.LargeCommunities.{LargeCommunities}
-use Rattle.bgp_attr.specs.declared.judged.Judged.{Judged}
-use Rattle.bgp_attr.specs.declared.mp.MpReach.{MpReach}
-use Rattle.bgp_attr.specs.declared.mp.MpUnreach.{MpUnreach}
-use Rattle.bgp_attr.specs.declared.path.As4Path.{As4Path}
-use Rattle.bgp_attr.specs.declared.path.AsPath.{AsPath}
-use Rattle.bgp_attr.specs.Prelude.{AttributeType, judgement, mp_reach_of, mp_unreach_of, path_of, PlacedTlv, tlvs_of, as_path_form, as4_path_of, communities_of, large_of, type_of}
+use Rattle.ristulva_c.proofs.Below.{◌≡◌, ℕ, ◌-◌, Bool, true, false, not, cond, eqb, List, [], ◌∷◌, length, Option, Some, None, refl, sym, ap, ◌∙◌, find, option_or, and_right, or_from, or_left, or_right, find-append, eqb-true, eq-eqb, AS_PATH, COMMUNITIES, MP_REACH_NLRI, MP_UNREACH_NLRI, AS4_PATH, LARGE_COMMUNITY, ◌>>=◌, also, none_of_them, Context, Attr, Communities, LargeCommunities, Judged, MpReach, MpUnreach, As4Path, AsPath, AttributeType, judgement, mp_reach_of, mp_unreach_of, path_of, PlacedTlv, tlvs_of, as_path_form, as4_path_of, communities_of, large_of, type_of, malformed, carries_routes, repeated, marks_behind, placed_tlvs, field_marks, marks_of, Parts, kept_by, kept_of, attrs_from, attrs_of, first_known, is_opaque, as_as_path, as_communities, as_mp_reach, as_mp_unreach, as_as4_path, as_large, has_nlri}
 use Rattle.bgp_attr.specs.declared.judged.Judged.TheVariants as judged
 use Rattle.bgp_attr.specs.declared.why.Why.TheVariants as why
 use Rattle.bgp_attr.proofs.TestRows.{row-at, row_at}
 use Rattle.bgp_attr.proofs.EachType.{kept-type, kept-value}
-use Rattle.bgp_update.specs.Prelude.{malformed, carries_routes, repeated, marks_behind, placed_tlvs, field_marks, marks_of, Parts, kept_by, kept_of, attrs_from, attrs_of, first_known, is_opaque, as_as_path, as_communities, as_mp_reach, as_mp_unreach, as_as4_path, as_large}
-use Rattle.bgp_update.specs.Parts.{has_nlri}
 use Rattle.bgp_update.proofs.KeptMarks.{with_cut-kept}
 use Rattle.bgp_update.proofs.Options.{option_or-none}
 use Rattle.bgp_update.proofs.Lists.{eqb-swap, find-passes}

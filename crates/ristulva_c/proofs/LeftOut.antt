@@ -1,21 +1,9 @@
 -- What is left out of a message.
-use Rattle.bgp_wire.proofs.Std.{◌≡◌, ◌≤◌, ◌<◌, ◌+◌, ℕ, Bool, true, false, cond, ltb, List, [], ◌∷◌, ◌++◌, length, map, refl, ap, ◌∙◌, arith, filter, flat_map, length-map}
-use Rattle.std.proofs.lemmas.List.{length-append, length-drop}
-use Rattle.bgp_wire.specs.Prelude.{pieces, Row}
-use Rattle.bgp_wire.proofs.Pieces.{Splits-pieces}
-use Rattle.bgp_open.specs.declared.capability.Capability.{Capability}
-use Rattle.bgp_open.specs.Prelude.{IsCapability, joined, parameters_of, open_value, IsParameter, one_parameter}
-use Rattle.bgp_open.specs.declared.open_view.OpenView.{OpenView}
+use Rattle.ristulva_c.proofs.Below.{◌≡◌, ◌≤◌, ◌<◌, ◌+◌, ℕ, Bool, true, false, cond, ltb, List, [], ◌∷◌, ◌++◌, length, map, refl, ap, ◌∙◌, arith, filter, flat_map, length-map, length-append, length-drop, pieces, Row, Capability, IsCapability, joined, parameters_of, open_value, IsParameter, one_parameter, OpenView, Attr, Judged, Opaque, Note, UpdateView, Mark, attrs_of, kept_by, kept_of, put_rising, is_opaque, as_opaque, rising_behind, view_marks, Splits-pieces}
 use Rattle.bgp_open.proofs.Capabilities.{capability-reads}
 use Rattle.bgp_open.proofs.Parameters.{parameter-reads}
-use Rattle.bgp_attr.specs.declared.attr.Attr.{Attr}
-use Rattle.bgp_attr.specs.declared.judged.Judged.{Judged}
-use Rattle.bgp_attr.specs.declared.opaque.Opaque.{Opaque}
 use Rattle.bgp_attr.specs.declared.attr.Attr.TheVariants as attr
 use Rattle.bgp_attr.specs.declared.judged.Judged.TheVariants as judged
-use Rattle.bgp_update.specs.declared.note.Note.{Note}
-use Rattle.bgp_update.specs.declared.view.UpdateView.{UpdateView}
-use Rattle.bgp_update.specs.Prelude.{Mark, attrs_of, kept_by, kept_of, put_rising, is_opaque, as_opaque, rising_behind, view_marks}
 use Rattle.bgp_update.proofs.KeptSlots.{others_of-kept}
 use Rattle.bgp_clean.specs.Prelude.{Seen, none_seen, goes_on, seen_behind, understood, understood_behind}
 use Rattle.ristulva_c.specs.Prelude.{note_told, is_left_out}

@@ -1,4 +1,5 @@
 -- Lemmas on what is told in numbers.
+pub mod Below
 pub mod Wanted
 pub mod PrefixSteps
 pub mod Between

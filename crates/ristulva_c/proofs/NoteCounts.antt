@@ -1,17 +1,6 @@
 -- How many notes there are: an attribute has three octets at least.
-use Rattle.bgp_wire.proofs.Std.{◌≡◌, ℕ, suc, ◌+◌, ◌-◌, ◌*◌, ◌≤◌, Bool, true, false, cond, List, [], ◌∷◌, ◌++◌, length, refl, ap, ◌∙◌, arith, flat_map, length-map}
-use Rattle.std.proofs.lemmas.List.{length-append}
-use Rattle.bgp_wire.specs.Prelude.{none_of_them, also, Row}
-use Rattle.bgp_wire.proofs.Pieces.{Splits-pieces}
-use Rattle.bgp_open.specs.declared.context.Context.{Context}
-use Rattle.bgp_attr.specs.declared.judged.Judged.{Judged}
-use Rattle.bgp_attr.specs.Prelude.{is_extended, TlvValue, IsTlv, PlacedTlv, length_width, one_tlv, tlvs_of, placed_from}
+use Rattle.ristulva_c.proofs.Below.{◌≡◌, ℕ, suc, ◌+◌, ◌-◌, ◌*◌, ◌≤◌, Bool, true, false, cond, List, [], ◌∷◌, ◌++◌, length, refl, ap, ◌∙◌, arith, flat_map, length-map, length-append, none_of_them, also, Row, Context, Judged, is_extended, TlvValue, IsTlv, PlacedTlv, length_width, one_tlv, tlvs_of, placed_from, Missing, UpdateView, parts_value, Mark, marks_behind, cut_mark, placed_tlvs, field_marks, why_not, mark_notes, missing_note, missing_notes, missing_of, attributes_at, view_marks, notes_value, Splits-pieces, IsTlv-reads, has_nlri}
 use Rattle.bgp_attr.specs.declared.judged.Judged.TheVariants as judged
-use Rattle.bgp_attr.proofs.Readers.{IsTlv-reads}
-use Rattle.bgp_update.specs.declared.missing.Missing.{Missing}
-use Rattle.bgp_update.specs.declared.view.UpdateView.{UpdateView}
-use Rattle.bgp_update.specs.Prelude.{parts_value, Mark, marks_behind, cut_mark, placed_tlvs, field_marks, why_not, mark_notes, missing_note, missing_notes, missing_of, attributes_at, view_marks, notes_value}
-use Rattle.bgp_update.specs.Parts.{has_nlri}
 
 -- ---- attributes
 

@@ -1,13 +1,7 @@
 -- The place of a note as it is told.
-use Rattle.std.proofs.Common.{◌≡◌, ℕ, ◌+◌, ◌-◌, ◌<◌, ◌≤◌, ◌||◌, ◌==◌, Bool, true, false, List, length, drop, Option, None, Some, refl, sym, arith, nat_lt, nat_le, if◌then◌else◌}
-use Rattle.std.proofs.lemmas.Bool.{eqb-true, le-ltb, lt-leb, and_right}
-use Rattle.std.proofs.lemmas.List.{length-drop}
-use Rattle.bgp_attr.specs.declared.why.Why.{Why}
+use Rattle.ristulva_c.proofs.Below.{◌≡◌, ℕ, ◌+◌, ◌-◌, ◌<◌, ◌≤◌, ◌||◌, ◌==◌, Bool, true, false, List, length, drop, Option, None, Some, refl, sym, arith, nat_lt, nat_le, if◌then◌else◌, eqb-true, le-ltb, lt-leb, and_right, length-drop, Why, Note, Parts, parts_of, attributes_at, attribute_place, is_attribute, note_place, note_place_in, says_missing}
 use Rattle.bgp_attr.specs.declared.why.Why.TheVariants as why
-use Rattle.bgp_update.specs.declared.note.Note.{Note}
-use Rattle.bgp_update.specs.Prelude.{Parts, parts_of, attributes_at}
 use Rattle.bgp_update.proofs.PartLengths.{parts_within}
-use Rattle.bgp_fields.specs.Prelude.{attribute_place, is_attribute, note_place, note_place_in, says_missing}
 use Rattle.ristulva_c.specs.declared.notes.ToldNote.{ToldNote}
 use Rattle.ristulva_c.specs.Prelude.{noted_place, note_told, number_of_why}
 

@@ -1,7 +1,5 @@
 -- Notes in a list of the caller's.
-use Rattle.bgp_wire.proofs.Std.{◌≡◌, ℕ, suc, ◌+◌, ◌<◌, ◌≤◌, List, [], ◌∷◌, ◌++◌, length, map, set, refl, sym, ap, ◌∙◌, arith, length-map, length_push, map-append}
-use Rattle.std.proofs.lemmas.List.{append_assoc, length-append}
-use Rattle.bgp_update.specs.declared.note.Note.{Note}
+use Rattle.ristulva_c.proofs.Below.{◌≡◌, ℕ, suc, ◌+◌, ◌<◌, ◌≤◌, List, [], ◌∷◌, ◌++◌, length, map, set, refl, sym, ap, ◌∙◌, arith, length-map, length_push, map-append, append_assoc, length-append, Note}
 use Rattle.ristulva_c.specs.declared.notes.ToldNote.{ToldNote}
 use Rattle.ristulva_c.specs.Prelude.{note_told, listed}
 

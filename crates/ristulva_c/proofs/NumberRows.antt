@@ -1,7 +1,5 @@
 -- The numbers of a path in rows, segment by segment.
-use Rattle.bgp_wire.proofs.Std.{◌≡◌, ℕ, ◌+◌, List, [], ◌∷◌, ◌++◌, length, map, refl, sym, ap, ap₂, subst, ◌∙◌, arith, length-map}
-use Rattle.std.proofs.lemmas.List.{append-nil, append_assoc, length-append}
-use Rattle.bgp_attr.specs.declared.path.Segment.{Segment}
+use Rattle.ristulva_c.proofs.Below.{◌≡◌, ℕ, ◌+◌, List, [], ◌∷◌, ◌++◌, length, map, refl, sym, ap, ap₂, subst, ◌∙◌, arith, length-map, append-nil, append_assoc, length-append, Segment}
 use Rattle.ristulva_c.specs.declared.number_rows.NumberRow.{NumberRow}
 use Rattle.ristulva_c.specs.Prelude.{number_row, segment_rows, Adds, numbers_in}
 use Rattle.ristulva_c.proofs.Rows.{adds_none, adds_join}

@@ -1,7 +1,5 @@
 -- From a number to those behind it.
-use Rattle.std.proofs.Common.{◌≡◌, ℕ, ◌+◌, ◌-◌, ◌≤◌, Bool, List, ◌∷◌, length, Some, ap, ◌∙◌, arith}
-use Rattle.bgp_attr.specs.Prelude.{IsNumber, one_number, numbers_of}
-use Rattle.bgp_attr.proofs.Readers.{IsNumber-reads}
+use Rattle.ristulva_c.proofs.Below.{◌≡◌, ℕ, ◌+◌, ◌-◌, ◌≤◌, Bool, List, ◌∷◌, length, Some, ap, ◌∙◌, arith, IsNumber, one_number, numbers_of, IsNumber-reads}
 use Rattle.ristulva_c.specs.declared.numbers.Numbers.{Numbers}
 use Rattle.ristulva_c.specs.Prelude.{between, IsNumbers}
 use Rattle.ristulva_c.proofs.Between.{rest_fits, pieces_behind}

@@ -1,20 +1,8 @@
 -- The capabilities of an OPEN in its message.
-use Rattle.bgp_wire.proofs.Std.{◌≡◌, ℕ, ◌+◌, ◌-◌, ◌≤◌, List, ◌++◌, length, take, drop, Option, None, Some, Result, Ok, Err, refl, sym, ap, ◌∙◌, arith, drop-take, drop_at}
-use Rattle.std.proofs.lemmas.List.{drop-drop, length-take}
-use Rattle.bgp_frame.specs.declared.kind.Kind.{Kind}
-use Rattle.bgp_frame.specs.Prelude.{least_length, Message, IsFrame, header}
+use Rattle.ristulva_c.proofs.Below.{◌≡◌, ℕ, ◌+◌, ◌-◌, ◌≤◌, List, ◌++◌, length, take, drop, Option, None, Some, Result, Ok, Err, refl, sym, ap, ◌∙◌, arith, drop-take, drop_at, drop-drop, length-take, Kind, least_length, Message, IsFrame, header, Notification, Context, OpenFault, Open, capabilities_of, open_fault, open_notification, open_of, or_fault, reading_of, Verdict, verdict_of, of_open_fault, of_reading, of_verdict, of_body, length-header}
 use Rattle.bgp_frame.specs.declared.kind.Kind.TheVariants as kind
-use Rattle.bgp_frame.specs.declared.notification.Notification.{Notification}
-use Rattle.bgp_frame.proofs.Headers.{length-header}
-use Rattle.bgp_open.specs.declared.context.Context.{Context}
-use Rattle.bgp_open.specs.declared.fault.OpenFault.{OpenFault}
-use Rattle.bgp_open.specs.declared.message.Open.{Open}
-use Rattle.bgp_open.specs.Prelude.{capabilities_of, open_fault, open_notification, open_of, or_fault, reading_of}
 use Rattle.bgp_open.proofs.CapabilityIters.{none_begun}
-use Rattle.bgp_update.specs.declared.verdict.Verdict.{Verdict}
-use Rattle.bgp_update.specs.Prelude.{verdict_of}
 use Rattle.bgp_update.specs.declared.verdict.Verdict.TheVariants as verdict
-use Rattle.bgp_msg.specs.Prelude.{of_open_fault, of_reading, of_verdict, of_body}
 use Rattle.ristulva_c.specs.Prelude.{accepted, accepted_in, read_in, Gives, between}
 use Rattle.ristulva_c.specs.Opens.{cursor_of}
 

@@ -1,7 +1,5 @@
 -- The last number of a path is that of its last segment.
-use Rattle.std.proofs.Common.{◌≡◌, ℕ, List, [], ◌∷◌, Option, Some, None, refl}
-use Rattle.bgp_prefix.specs.declared.as_number.AsNumber.{AsNumber}
-use Rattle.bgp_attr.specs.declared.path.Segment.{Segment}
+use Rattle.ristulva_c.proofs.Below.{◌≡◌, ℕ, List, [], ◌∷◌, Option, Some, None, refl, AsNumber, Segment}
 use Rattle.ristulva_c.specs.Prelude.{last_number, last_by, origin_in, last_behind, origin_behind}
 
 last_more : (last : Option ℕ) (n : AsNumber) (later : List AsNumber) → last_behind last (n ∷ later) ≡ last_number (n ∷ later)

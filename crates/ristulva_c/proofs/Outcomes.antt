@@ -1,18 +1,8 @@
 -- What comes of a message, case by case.
-use Rattle.std.proofs.Common.{◌≡◌, ℕ, Bool, true, false, cond, List, [], Option, Some, None, refl}
-use Rattle.std.specs.Prelude.{Result, Ok, Err}
-use Rattle.bgp_frame.specs.declared.kind.Kind.{Kind}
+use Rattle.ristulva_c.proofs.Below.{◌≡◌, ℕ, Bool, true, false, cond, List, [], Option, Some, None, refl, Result, Ok, Err, Kind, Notification, Context, OpenFault, Open, open_notification, reading_of, malformed, marks_of, is_reachable, notes_of, routes_of, Parts, parts_of, update_of, is_withdrawn, of_parts, reset_of, unless_reset, without_reset, Outcome, of_open_fault, of_reading, of_verdict, out_of}
 use Rattle.bgp_frame.specs.declared.kind.Kind.TheVariants as kind
-use Rattle.bgp_frame.specs.declared.notification.Notification.{Notification}
-use Rattle.bgp_open.specs.declared.context.Context.{Context}
-use Rattle.bgp_open.specs.declared.fault.OpenFault.{OpenFault}
-use Rattle.bgp_open.specs.declared.message.Open.{Open}
-use Rattle.bgp_open.specs.Prelude.{open_notification, reading_of}
-use Rattle.bgp_update.specs.Prelude.{malformed, marks_of, is_reachable, notes_of, routes_of, Parts, parts_of, update_of, is_withdrawn, of_parts, reset_of, unless_reset, without_reset}
 use Rattle.bgp_update.specs.declared.verdict.Verdict.TheVariants as verdict
 use Rattle.bgp_msg.specs.declared.message.Message.TheVariants as message
-use Rattle.bgp_msg.specs.declared.outcome.Outcome.{Outcome}
-use Rattle.bgp_msg.specs.Prelude.{of_open_fault, of_reading, of_verdict, out_of}
 use Rattle.bgp_msg.specs.declared.outcome.Outcome.TheVariants as outcome
 
 -- what holds of each outcome but that of an UPDATE

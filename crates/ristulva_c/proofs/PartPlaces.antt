@@ -1,12 +1,5 @@
 -- The octets of an UPDATE's parts.
-use Rattle.bgp_wire.proofs.Std.{◌≡◌, ℕ, ◌+◌, List, ◌++◌, length, take, drop, Some, append_assoc, refl, sym, ap, subst, ◌∙◌, arith, w16, to_be_bytes, drop_at, take_at, take-append-drop}
-use Rattle.std.proofs.lemmas.List.{drop-drop}
-use Rattle.bgp_wire.specs.Prelude.{AreOctets}
-use Rattle.bgp_wire.proofs.OctetLemmas.{AreOctets-take, AreOctets-back}
-use Rattle.bgp_frame.specs.Prelude.{Message, IsFrame, header}
-use Rattle.bgp_frame.proofs.Headers.{length-header}
-use Rattle.bgp_update.specs.Prelude.{Parts, IsBody, parts_of}
-use Rattle.bgp_update.proofs.Bodies.{parts-body}
+use Rattle.ristulva_c.proofs.Below.{◌≡◌, ℕ, ◌+◌, List, ◌++◌, length, take, drop, Some, append_assoc, refl, sym, ap, subst, ◌∙◌, arith, w16, to_be_bytes, drop_at, take_at, take-append-drop, drop-drop, AreOctets, Message, IsFrame, header, Parts, IsBody, parts_of, AreOctets-take, AreOctets-back, parts-body, length-header}
 use Rattle.ristulva_c.specs.Prelude.{parts_told, Lie}
 
 -- what stands behind a piece

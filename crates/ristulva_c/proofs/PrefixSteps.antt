@@ -1,7 +1,5 @@
 -- From a prefix to those behind it.
-use Rattle.bgp_wire.proofs.Std.{◌≡◌, ℕ, ◌+◌, ◌-◌, ◌≤◌, List, ◌∷◌, length, drop, Some, ap, ◌∙◌, arith, take_at}
-use Rattle.bgp_prefix.specs.Prelude.{PrefixValue, IsPrefix, one_prefix, run_of}
-use Rattle.bgp_prefix.proofs.PrefixLemmas.{IsPrefix-reads}
+use Rattle.ristulva_c.proofs.Below.{◌≡◌, ℕ, ◌+◌, ◌-◌, ◌≤◌, List, ◌∷◌, length, drop, Some, ap, ◌∙◌, arith, take_at, PrefixValue, IsPrefix, one_prefix, run_of, IsPrefix-reads}
 use Rattle.ristulva_c.specs.declared.prefixes.Prefixes.{Prefixes}
 use Rattle.ristulva_c.specs.Facts.{no_address}
 use Rattle.ristulva_c.specs.Prelude.{width_of, between, IsWithin, prefix_told, prefix_row}

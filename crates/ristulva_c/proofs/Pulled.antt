@@ -1,15 +1,7 @@
 -- What a decoder gives of the octets that it holds, in pieces.
-use Rattle.bgp_wire.proofs.Std.{◌≡◌, ℕ, ◌≤◌, ◌⊎◌, Bool, false, not, nat_le, if◌then◌else◌, List, [], ◌++◌, length, take, Result, Ok, Err, Some, refl, sym, ap, subst, ◌∙◌, arith, inl, inr, both_ways, le-leb}
-use Rattle.std.proofs.lemmas.List.{take_all}
-use Rattle.bgp_wire.specs.Prelude.{AreOctets}
-use Rattle.bgp_frame.specs.declared.fault.HeadFault.{HeadFault}
-use Rattle.bgp_frame.specs.declared.step.Step.{Step}
-use Rattle.bgp_frame.specs.Prelude.{Message, Waits, ShowsFront, ShowsStep, Stops, Takes, IsContent}
-use Rattle.bgp_frame.proofs.FrameLemmas.{Stops-wanted}
+use Rattle.ristulva_c.proofs.Below.{◌≡◌, ℕ, ◌≤◌, ◌⊎◌, Bool, false, not, nat_le, if◌then◌else◌, List, [], ◌++◌, length, take, Result, Ok, Err, Some, refl, sym, ap, subst, ◌∙◌, arith, inl, inr, both_ways, le-leb, take_all, AreOctets, HeadFault, Step, Message, Waits, ShowsFront, ShowsStep, Stops, Takes, IsContent, Outcome, Decoding, decoder, given_by, IsFed, IsPulled, holding, IsLook, Stops-wanted}
 use Rattle.bgp_frame.proofs.Holding.{front_held}
 use Rattle.bgp_msg.specs.declared.look.Look.TheVariants as look
-use Rattle.bgp_msg.specs.declared.outcome.Outcome.{Outcome}
-use Rattle.bgp_msg.specs.Prelude.{Decoding, decoder, given_by, IsFed, IsPulled, holding, IsLook}
 use Rattle.bgp_frame.proofs.Hearings.{content_is, content_stops, counts_nothing, not_whole, pull_waits, taken_up, took_none}
 use Rattle.bgp_msg.proofs.Pulls.{is_hearer, one_out, pulls_as_fed}
 use Rattle.ristulva_c.specs.declared.status.TheConstants.{OK, ROOM}

@@ -1,10 +1,6 @@
 -- The octets of a set, one after another.
-use Rattle.bgp_wire.proofs.Std.{◌≡◌, ℕ, ◌+◌, ◌≤◌, Bool, true, false, not, List, [], ◌∷◌, ◌++◌, length, refl, sym, ap, ◌∙◌, arith, filter, range_with_len, map-id}
+use Rattle.ristulva_c.proofs.Below.{◌≡◌, ℕ, ◌+◌, ◌≤◌, Bool, true, false, not, List, [], ◌∷◌, ◌++◌, length, refl, sym, ap, ◌∙◌, arith, filter, range_with_len, map-id, rising, append-nil, length-filter_both, filter_of_map_range_with_len_more, length-range_with_len}
 use mathlib.Core.Bool.{cond}
-use Rattle.bgp_open.specs.Prelude.{rising}
-use Rattle.std.proofs.lemmas.List.{append-nil}
-use Rattle.std.proofs.lemmas.List.Filters.{length-filter_both}
-use Rattle.std.proofs.lemmas.List.FromFn.{filter_of_map_range_with_len_more, length-range_with_len}
 
 -- those below a number
 abbrev pub below : (ℕ → Bool) → ℕ → List ℕ

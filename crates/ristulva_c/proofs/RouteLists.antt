@@ -1,39 +1,14 @@
 -- The cursor over the routes of an UPDATE gives what its outcome says.
-use Rattle.bgp_wire.proofs.Std.{◌≡◌, ℕ, ◌+◌, ◌-◌, ◌≤◌, ◌⊎◌, Bool, true, false, not, ◌&&◌, ◌||◌, cond, eqb, nat_lt, List, [], ◌∷◌, ◌++◌, length, map, take, drop, min, Option, Some, None, inl, inr, refl, sym, ap, ap₂, subst, ◌∙◌, arith, filter, find, drop_min, map-append}
-use Rattle.std.proofs.lemmas.List.{append-nil, length-append, length-take}
-use Rattle.std.proofs.lemmas.List.Elements.{filter-append}
-use Rattle.bgp_numbers.specs.declared.afi.TheConstants.{IPV4, IPV6}
-use Rattle.bgp_numbers.specs.declared.safi.TheConstants.{UNICAST}
-use Rattle.bgp_numbers.specs.declared.attribute.TheConstants.{MP_REACH_NLRI, MP_UNREACH_NLRI}
-use Rattle.bgp_wire.specs.Prelude.{◌>>=◌, AreOctets}
-use Rattle.bgp_wire.proofs.OctetLemmas.{AreOctets-take, AreOctets-back}
-use Rattle.bgp_frame.specs.Prelude.{header, Message, IsFrame}
-use Rattle.bgp_frame.specs.declared.fault.HeadFault.{HeadFault}
-use Rattle.bgp_frame.specs.declared.kind.Kind.{Kind}
-use Rattle.bgp_frame.proofs.Headers.{length-header}
-use Rattle.bgp_update.proofs.Bodies.{length-body, parts-body}
-use Rattle.bgp_open.specs.declared.context.Context.{Context}
-use Rattle.std.specs.Prelude.{is_some}
-use Rattle.bgp_prefix.specs.Prelude.{PrefixValue, run_of}
+use Rattle.ristulva_c.proofs.Below.{◌≡◌, ℕ, ◌+◌, ◌-◌, ◌≤◌, ◌⊎◌, Bool, true, false, not, ◌&&◌, ◌||◌, cond, eqb, nat_lt, List, [], ◌∷◌, ◌++◌, length, map, take, drop, min, Option, Some, None, inl, inr, refl, sym, ap, ap₂, subst, ◌∙◌, arith, filter, find, drop_min, map-append, append-nil, length-append, length-take, filter-append, IPV4, IPV6, UNICAST, MP_REACH_NLRI, MP_UNREACH_NLRI, ◌>>=◌, AreOctets, header, Message, IsFrame, HeadFault, Kind, Context, is_some, PrefixValue, run_of, Attr, Judged, MpReach, MpUnreach, judgement, afi_of, safi_of, next_hop_length, reached_of, withdrawn_of, mp_reach_of, mp_unreach_of, PlacedTlv, Mark, marks_of, placed_tlvs, gone_ip4, gone_ip6, reached_ip4, reached_ip6, notes_of, Parts, parts_of, kept_by, kept_of, attrs_from, attrs_of, first_known, update_of, as_mp_reach, as_mp_unreach, eqb-true, Outcome, of_fault, out_of, AreOctets-take, AreOctets-back, length-body, parts-body, has_nlri, length-header}
 use Rattle.bgp_prefix.proofs.LawLemmas.{row_is_run}
-use Rattle.bgp_attr.specs.declared.attr.Attr.{Attr}
-use Rattle.bgp_attr.specs.declared.judged.Judged.{Judged}
-use Rattle.bgp_attr.specs.declared.mp.MpReach.{MpReach}
-use Rattle.bgp_attr.specs.declared.mp.MpUnreach.{MpUnreach}
-use Rattle.bgp_attr.specs.Prelude.{judgement, afi_of, safi_of, next_hop_length, reached_of, withdrawn_of, mp_reach_of, mp_unreach_of, PlacedTlv}
 use Rattle.bgp_attr.specs.declared.attr.Attr.TheVariants as attr
 use Rattle.bgp_attr.specs.declared.judged.Judged.TheVariants as judged
 use Rattle.bgp_attr.specs.declared.mp.MpReach.TheVariants as reach
 use Rattle.bgp_attr.specs.declared.mp.MpUnreach.TheVariants as unreach
-use Rattle.bgp_update.specs.Prelude.{Mark, marks_of, placed_tlvs, gone_ip4, gone_ip6, reached_ip4, reached_ip6, notes_of, Parts, parts_of, kept_by, kept_of, attrs_from, attrs_of, first_known, update_of, as_mp_reach, as_mp_unreach}
 use Rattle.bgp_update.specs.Notes as notes
-use Rattle.bgp_update.specs.Parts.{has_nlri}
 use Rattle.bgp_attr.proofs.EachType.{kept-type}
 use Rattle.bgp_update.proofs.Lists.{find-passes}
-use Rattle.std.proofs.lemmas.Bool.{eqb-true}
 use Rattle.bgp_msg.specs.declared.message.Message.TheVariants as message
-use Rattle.bgp_msg.specs.declared.outcome.Outcome.{Outcome}
-use Rattle.bgp_msg.specs.Prelude.{of_fault, out_of}
 use Rattle.bgp_msg.specs.declared.outcome.Outcome.TheVariants as outcome
 use Rattle.ristulva_c.specs.declared.prefixes.Prefixes.{Prefixes}
 use Rattle.ristulva_c.specs.declared.span.Span.{Span}

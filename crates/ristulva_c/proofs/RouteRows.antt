@@ -1,19 +1,8 @@
 -- The rows of an UPDATE's routes are those of the routes that it has.
-use Rattle.bgp_wire.proofs.Std.{◌≡◌, ℕ, ◌+◌, ◌-◌, ◌≤◌, ◌⊎◌, inl, inr, Bool, true, false, List, [], ◌∷◌, ◌++◌, length, map, Option, Some, None, refl, sym, ap, ap₂, subst, ◌∙◌, arith, length-map, map-append}
+use Rattle.ristulva_c.proofs.Below.{◌≡◌, ℕ, ◌+◌, ◌-◌, ◌≤◌, ◌⊎◌, inl, inr, Bool, true, false, List, [], ◌∷◌, ◌++◌, length, map, Option, Some, None, refl, sym, ap, ap₂, subst, ◌∙◌, arith, length-map, map-append, length-append, IPV4, IPV6, PrefixValue, MpReach, MpUnreach, AreOctets, parts_value, Parts, update_value, view_marks, Update, UpdateView, OutcomeView, outcome_value}
 use Rattle.std.specs.Borrow.{Bor}
-use Rattle.std.proofs.lemmas.List.{length-append}
-use Rattle.bgp_numbers.specs.declared.afi.TheConstants.{IPV4, IPV6}
-use Rattle.bgp_prefix.specs.Prelude.{PrefixValue}
-use Rattle.bgp_attr.specs.declared.mp.MpReach.{MpReach}
-use Rattle.bgp_attr.specs.declared.mp.MpUnreach.{MpUnreach}
 use Rattle.bgp_attr.specs.declared.mp.MpReach.TheVariants as reach
 use Rattle.bgp_attr.specs.declared.mp.MpUnreach.TheVariants as unreach
-use Rattle.bgp_wire.specs.Prelude.{AreOctets}
-use Rattle.bgp_update.specs.Prelude.{parts_value, Parts, update_value, view_marks}
-use Rattle.bgp_update.specs.declared.update.Update.{Update}
-use Rattle.bgp_update.specs.declared.view.UpdateView.{UpdateView}
-use Rattle.bgp_msg.specs.declared.outcome_view.OutcomeView.{OutcomeView}
-use Rattle.bgp_msg.specs.Prelude.{outcome_value}
 use Rattle.bgp_msg.specs.declared.outcome_view.OutcomeView.TheVariants as view
 use Rattle.ristulva_c.specs.declared.facts.Paths.{Paths}
 use Rattle.ristulva_c.specs.declared.judge.TheConstants.{UPDATE, WITHDRAW}

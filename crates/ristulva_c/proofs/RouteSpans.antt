@@ -1,11 +1,5 @@
 -- The prefixes of MP_REACH_NLRI and MP_UNREACH_NLRI, by a cursor.
-use Rattle.bgp_wire.proofs.Std.{◌≡◌, ◌≢◌, ℕ, ◌+◌, ◌-◌, ◌≤◌, ◌⊎◌, List, length, take, drop, inl, inr, refl, sym, ap, ◌∙◌, arith, length-drop}
-use Rattle.std.proofs.lemmas.Bool.{eq-eqb, ne_eqb}
-use Rattle.std.proofs.lemmas.List.{length-take}
-use Rattle.bgp_numbers.specs.declared.afi.TheConstants.{IPV4, IPV6}
-use Rattle.bgp_numbers.specs.declared.safi.TheConstants.{UNICAST}
-use Rattle.bgp_prefix.specs.Prelude.{run_of}
-use Rattle.bgp_attr.specs.Prelude.{afi_of, safi_of, next_hop_length, reached_of, withdrawn_of, mp_reach_of, mp_unreach_of}
+use Rattle.ristulva_c.proofs.Below.{◌≡◌, ◌≢◌, ℕ, ◌+◌, ◌-◌, ◌≤◌, ◌⊎◌, List, length, take, drop, inl, inr, refl, sym, ap, ◌∙◌, arith, length-drop, eq-eqb, ne_eqb, length-take, IPV4, IPV6, UNICAST, run_of, afi_of, safi_of, next_hop_length, reached_of, withdrawn_of, mp_reach_of, mp_unreach_of}
 use Rattle.ristulva_c.specs.declared.span.Span.{Span}
 use Rattle.ristulva_c.specs.declared.prefixes.Prefixes.{Prefixes}
 use Rattle.ristulva_c.specs.Prelude.{octets_in, width_of, between, prefixes_left, reach_prefixes, unreach_prefixes, LiesIn, IsReachValue}

@@ -1,6 +1,5 @@
 -- Rows in a list of the caller's, one behind another.
-use Rattle.bgp_wire.proofs.Std.{◌≡◌, ℕ, ◌+◌, ◌<◌, ◌≤◌, List, [], ◌∷◌, ◌++◌, length, map, drop, set, refl, sym, ap, subst, ◌∙◌, arith, length_push, set-append_right}
-use Rattle.std.proofs.lemmas.List.{append-nil, append_assoc, drop-drop, length-append, length-drop}
+use Rattle.ristulva_c.proofs.Below.{◌≡◌, ℕ, ◌+◌, ◌<◌, ◌≤◌, List, [], ◌∷◌, ◌++◌, length, map, drop, set, refl, sym, ap, subst, ◌∙◌, arith, length_push, set-append_right, append-nil, append_assoc, drop-drop, length-append, length-drop}
 use Rattle.ristulva_c.specs.Prelude.{Holds, Adds}
 
 set_first : {A : Type 0} (ys : List A) (y : A) → 0 < length ys → set ys 0 y ≡ y ∷ drop 1 ys

@@ -1,9 +1,6 @@
 -- From a segment to those behind it.
-use Rattle.std.proofs.Common.{◌≡◌, ℕ, ◌+◌, ◌-◌, ◌≤◌, List, [], ◌∷◌, ◌++◌, length, take, drop, Some, sym, ap, ◌∙◌, arith}
+use Rattle.ristulva_c.proofs.Below.{◌≡◌, ℕ, ◌+◌, ◌-◌, ◌≤◌, List, [], ◌∷◌, ◌++◌, length, take, drop, Some, sym, ap, ◌∙◌, arith, PathForm, IsNumber, one_number, numbers_of, WireSegment, IsSegment, one_segment, segments_of, IsNumber-reads, IsSegment-reads}
 use Rattle.bgp_wire.proofs.Behinds.{pieces-whole}
-use Rattle.bgp_attr.specs.declared.path_form.PathForm.{PathForm}
-use Rattle.bgp_attr.specs.Prelude.{IsNumber, one_number, numbers_of, WireSegment, IsSegment, one_segment, segments_of}
-use Rattle.bgp_attr.proofs.Readers.{IsNumber-reads, IsSegment-reads}
 use Rattle.ristulva_c.specs.declared.segments.Segments.{Segments}
 use Rattle.ristulva_c.specs.Prelude.{between, IsSegments}
 use Rattle.ristulva_c.proofs.Between.{fits, value_at, pieces_behind}

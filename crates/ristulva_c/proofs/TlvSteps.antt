@@ -1,9 +1,5 @@
 -- From an attribute to those behind it.
-use Rattle.bgp_wire.proofs.Std.{◌≡◌, ℕ, ◌+◌, ◌-◌, ◌≤◌, List, [], ◌∷◌, ◌++◌, length, take, drop, Option, Some, None, option_map, refl, sym, ap, ap₂, ◌∙◌, arith}
-use Rattle.std.proofs.lemmas.List.{length-append}
-use Rattle.bgp_attr.specs.Prelude.{TlvValue, IsTlv, one_tlv, placed_from, tlv_at}
-use Rattle.bgp_attr.proofs.Readers.{IsTlv-reads}
-use Rattle.bgp_wire.proofs.Walks.{no_more}
+use Rattle.ristulva_c.proofs.Below.{◌≡◌, ℕ, ◌+◌, ◌-◌, ◌≤◌, List, [], ◌∷◌, ◌++◌, length, take, drop, Option, Some, None, option_map, refl, sym, ap, ap₂, ◌∙◌, arith, length-append, TlvValue, IsTlv, one_tlv, placed_from, tlv_at, no_more, IsTlv-reads}
 use Rattle.ristulva_c.specs.declared.attributes.Attributes.{Attributes}
 use Rattle.ristulva_c.specs.declared.attributes.Attribute.{Attribute}
 use Rattle.ristulva_c.specs.Prelude.{between, IsAttributes, attributes_left, attribute_told}

@@ -1,8 +1,6 @@
 -- How many octets are wanted.
-use Rattle.std.proofs.Common.{◌≡◌, ℕ, ◌≤◌, List, length, Ok, Err, refl, sym, ap, ◌∙◌, arith}
-use Rattle.bgp_frame.specs.Prelude.{length_field, head_of, wanted_by, wanted, Waits}
+use Rattle.ristulva_c.proofs.Below.{◌≡◌, ℕ, ◌≤◌, List, length, Ok, Err, refl, sym, ap, ◌∙◌, arith, length_field, head_of, wanted_by, wanted, Waits, wanted_by_head}
 use Rattle.bgp_frame.proofs.HeadLemmas.{Says-head_of}
-use Rattle.bgp_frame.proofs.FrameLemmas.{wanted_by_head}
 
 by_head : (b : List ℕ) (r : _) → head_of b ≡ r → 19 ≤ length b → Waits b → wanted b ≡ length_field b
 by_head b (Ok h) e long waits = (wanted_by_head b long ∙ ap wanted_by e) ∙ sym (Says-head_of b h e).len_is

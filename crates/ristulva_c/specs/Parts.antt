@@ -4,9 +4,6 @@ use Rattle.bgp_update.specs.Parts as update
 use Rattle.ristulva_c.specs.declared.parts.ToldParts.{ToldParts}
 use Rattle.ristulva_c.specs.Span.{octets_in, no_span}
 
-abbrev pub lengths_of : update.Parts → ℕ × ℕ × ℕ
-lengths_of p = (length p.withdrawn, length p.attributes, length p.nlri)
-
 -- how long Withdrawn Routes are, the path attributes, and how long the NLRI field is
 abbrev pub fields_of : update.Parts → ℕ × List ℕ × ℕ
 fields_of p = (length p.withdrawn, p.attributes, length p.nlri)

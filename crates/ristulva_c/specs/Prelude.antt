@@ -4,7 +4,7 @@ pub use Rattle.ristulva_c.specs.Copied.{copied}
 pub use Rattle.ristulva_c.specs.Context.{context_of, is_set}
 pub use Rattle.ristulva_c.specs.Prefixes.{IsCursor, IsPadded, IsWithin, between, prefix_told, prefixes_left, width_of}
 pub use Rattle.ristulva_c.specs.Attributes.{IsAttributes, attribute_told, attributes_left}
-pub use Rattle.ristulva_c.specs.Parts.{Lie, fields_of, lengths_of, parts_told}
+pub use Rattle.ristulva_c.specs.Parts.{Lie, fields_of, parts_told}
 pub use Rattle.ristulva_c.specs.Judge.{Answers, IsJudged, IsTold, Judging, number_of, parts_at, said_by, verdict_told}
 pub use Rattle.ristulva_c.specs.Text.{IsPrinted, IsWritten, Prints}
 pub use Rattle.ristulva_c.specs.Numbers.{IsNumbers, numbers_left}

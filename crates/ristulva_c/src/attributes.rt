@@ -1,7 +1,7 @@
 //! Attributes one after another.
 
-ghost use Rattle.std.specs.Prelude.{◌≡◌, ◌⊎◌, ◌↔◌, [], ◌∷◌, MatchOption};
-ghost use Rattle.ristulva_c.specs.Prelude.{between, IsAttributes, attributes_left, attribute_told};
+ghost use Rattle.std.specs.Prelude.{◌≡◌, ◌⊎◌, ◌↔◌, [], ◌∷◌};
+ghost use Rattle.ristulva_c.specs.Prelude.{IsAttributes, attributes_left, attribute_told};
 ghost use Rattle.ristulva_c.specs.declared.status.TheConstants.{END, OK, RANGE};
 
 use crate::span::Span;
@@ -32,13 +32,6 @@ pub struct Attribute {
     pub value: Span,
 }
 
-/// The octets of the field that are left, where the cursor lies in the octets.
-fn field_of<'a>(octets: &'a [u8], cursor: &Attributes) -> Option<&'a [u8]>
-    ensures { MatchOption result (IsAttributes octets.now cursor.now → ⊥) (λ field. IsAttributes octets.now cursor.now × (field.now ≡ between octets.now cursor.now.at cursor.now.end)) }
-{
-    octets.get(cursor.at as usize..cursor.end as usize)
-}
-
 /// Gives the attribute that a cursor stands at, and moves the cursor behind it.
 #[unsafe(no_mangle)]
 #[tactic(auto, using(crate::proofs::TlvSteps::tlv_fits, crate::proofs::TlvSteps::value_fits))]
@@ -54,7 +47,7 @@ pub extern "C" fn ristulva_next_attribute(
     ensures field { cursor.new ≡ record cursor.old { at = cursor.new.at } }
     ensures known { (result ≡ OK) ⊎ ((result ≡ END) ⊎ (result ≡ RANGE)) }
 {
-    let Some(field) = field_of(octets, cursor) else {
+    let Some(field) = octets.get(cursor.at as usize..cursor.end as usize) else {
         return RANGE;
     };
     match tlv_at(field, 0) {

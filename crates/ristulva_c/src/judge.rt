@@ -1,17 +1,17 @@
 //! The outcome of a message.
 
-ghost use Rattle.std.specs.Prelude.{◌≡◌, ◌+◌, ◌≤◌, length, nat_le, if◌then◌else◌};
+ghost use Rattle.std.specs.Prelude.{◌≡◌, ◌+◌, ◌≤◌, None, length, nat_le, if◌then◌else◌, MatchOption};
 ghost use Rattle.bgp_wire.specs.Prelude.{AreOctets};
 ghost use Rattle.bgp_frame.specs.Prelude.{notification_of_view, IsLength, code_of};
 ghost use Rattle.bgp_frame.specs.declared.step.Step.TheVariants as step;
 ghost use Rattle.bgp_open.specs.declared.context.Context.{Context};
 ghost use Rattle.bgp_msg.specs.Prelude.{outcome_value};
-ghost use Rattle.ristulva_c.specs.Prelude.{context_of, copied, number_of, said_by, verdict_told, parts_at, Answers, IsJudged};
+ghost use Rattle.ristulva_c.specs.Prelude.{context_of, copied, number_of, said_by, verdict_told, parts_at, parts_told, Answers, IsJudged};
 ghost use Rattle.ristulva_c.specs.declared.status.TheConstants.{INCOMPLETE, OK, ROOM};
 
 use crate::context::{SessionContext, context_of};
 use crate::copied::copy_into;
-use crate::parts::{ToldParts, no_parts, parts_in};
+use crate::parts::{ToldParts, no_parts, told_parts};
 use crate::status::{INCOMPLETE, OK, ROOM};
 use bgp_frame::{Frame, HeadFault, Kind, NotificationView, Step, front};
 use bgp_msg::{OutcomeView, view_frame};
@@ -118,28 +118,64 @@ pub(crate) fn tell(
     if copy_into(said.info, info) { OK } else { ROOM }
 }
 
+/// Where the parts of a message lie, where it has some.
+fn found_parts(frame: &Frame<'_>) -> Option<ToldParts>
+    requires { length frame.now.body.now ≤ 4077 }
+    ensures { MatchOption result (parts_at frame.now.kind frame.now.body.now ≡ parts_told None) (λ told. told ≡ parts_at frame.now.kind frame.now.body.now) }
+{
+    match frame.kind {
+        Kind::Update => told_parts(frame.body),
+        Kind::Open | Kind::Notification | Kind::Keepalive => None,
+    }
+}
+
 /// Where the parts of a message lie.
 pub(crate) fn parts_at(frame: &Frame<'_>) -> ToldParts
     requires { length frame.now.body.now ≤ 4077 }
     ensures { result ≡ parts_at frame.now.kind frame.now.body.now }
 {
-    match frame.kind {
-        Kind::Update => parts_in(frame.body),
-        Kind::Open | Kind::Notification | Kind::Keepalive => no_parts(),
-    }
+    found_parts(frame).unwrap_or(no_parts())
 }
 
-/// Tells the outcome of a whole message.
-fn tell_frame(ctx: &SessionContext, frame: Frame<'_>, info: &mut [u8], out: &mut Verdict) -> u32
-    requires { IsLength frame.kind (19 + length frame.body.now) }
+/// Tells the outcome of a whole message whose parts lie there.
+#[inline(always)]
+fn tell_with(
+    ctx: &SessionContext,
+    frame: Frame<'_>,
+    parts: ToldParts,
+    info: &mut [u8],
+    out: &mut Verdict,
+) -> u32
+    requires allowed { IsLength frame.kind (19 + length frame.body.now) }
+    requires parts { parts ≡ parts_at frame.kind frame.body.now }
     ensures { Answers (context_of ctx.now) (step.Frame frame.entry) (record { status = result; before = out.old; behind = out.new; info_before = info.old; info_behind = info.new }) }
 {
     let kind = code_of(frame.kind);
     let len = frame.len;
-    let parts = parts_at(&frame);
     let mut view = UpdateView::empty();
     let outcome = view_frame(&context_of(ctx), frame, &mut view);
     tell(kind, len, parts, &outcome, info, out)
+}
+
+/// The same of a message that has none.
+#[inline(never)]
+fn tell_without(ctx: &SessionContext, frame: Frame<'_>, info: &mut [u8], out: &mut Verdict) -> u32
+    requires allowed { IsLength frame.kind (19 + length frame.body.now) }
+    requires none { parts_at frame.kind frame.body.now ≡ parts_told None }
+    ensures { Answers (context_of ctx.now) (step.Frame frame.entry) (record { status = result; before = out.old; behind = out.new; info_before = info.old; info_behind = info.new }) }
+{
+    tell_with(ctx, frame, no_parts(), info, out)
+}
+
+/// Tells the outcome of a whole message. What has no parts is judged elsewhere, so that the lengths of an UPDATE are looked at once.
+fn tell_frame(ctx: &SessionContext, frame: Frame<'_>, info: &mut [u8], out: &mut Verdict) -> u32
+    requires { IsLength frame.kind (19 + length frame.body.now) }
+    ensures { Answers (context_of ctx.now) (step.Frame frame.entry) (record { status = result; before = out.old; behind = out.new; info_before = info.old; info_behind = info.new }) }
+{
+    match found_parts(&frame) {
+        None => tell_without(ctx, frame, info, out),
+        Some(parts) => tell_with(ctx, frame, parts, info, out),
+    }
 }
 
 /// Tells the outcome of a header with a fault.

@@ -1,7 +1,7 @@
 //! Numbers one after another.
 
-ghost use Rattle.std.specs.Prelude.{◌≡◌, ◌==◌, ◌⊎◌, ◌↔◌, [], ◌∷◌, MatchOption};
-ghost use Rattle.ristulva_c.specs.Prelude.{between, IsNumbers, numbers_left};
+ghost use Rattle.std.specs.Prelude.{◌≡◌, ◌==◌, ◌⊎◌, ◌↔◌, [], ◌∷◌};
+ghost use Rattle.ristulva_c.specs.Prelude.{IsNumbers, numbers_left};
 ghost use Rattle.ristulva_c.specs.declared.status.TheConstants.{END, OK, RANGE};
 
 use crate::status::{END, OK, RANGE};
@@ -19,22 +19,32 @@ pub struct Numbers {
     pub width: u8,
 }
 
-/// The octets of the field that are left, and whether its numbers are wide, where the cursor lies in the octets.
-fn field_of<'a>(octets: &'a [u8], cursor: &Numbers) -> Option<(bool, &'a [u8])>
-    ensures { MatchOption result (IsNumbers octets.now cursor.now → ⊥)
-        (λ x. IsNumbers octets.now cursor.now × ((x.0 ≡ (cursor.now.width == 4)) × (x.1.now ≡ between octets.now cursor.now.at cursor.now.end))) }
+/// Gives the number that a cursor stands at, of four octets where `wide`, else of two, and moves the cursor behind it.
+#[inline(always)]
+#[tactic(auto, using(crate::proofs::NumberSteps::number_fits))]
+fn next_of(wide: bool, octets: &[u8], cursor: &mut Numbers, out: &mut u32) -> u32
+    requires known { (cursor.old.width ≡ 2) ⊎ (cursor.old.width ≡ 4) }
+    requires wide { wide ≡ (cursor.old.width == 4) }
+    ensures ok { result ≡ OK → numbers_left octets.now cursor.old ≡ out.new ∷ numbers_left octets.now cursor.new }
+    ensures over { result ≡ END → numbers_left octets.now cursor.old ≡ [] }
+    ensures range { (result ≡ RANGE) ↔ (IsNumbers octets.now cursor.old → ⊥) }
+    ensures kept { (result ≡ OK) ⊎ ((cursor.new ≡ cursor.old) × (out.new ≡ out.old)) }
+    ensures field { cursor.new ≡ record cursor.old { at = cursor.new.at } }
+    ensures known { (result ≡ OK) ⊎ ((result ≡ END) ⊎ (result ≡ RANGE)) }
 {
-    let field = octets.get(cursor.at as usize..cursor.end as usize)?;
-    match cursor.width {
-        2 => Some((false, field)),
-        4 => Some((true, field)),
-        _ => None,
-    }
+    let Some(field) = octets.get(cursor.at as usize..cursor.end as usize) else {
+        return RANGE;
+    };
+    let Some((number, rest)) = first_number(wide, field) else {
+        return END;
+    };
+    cursor.at = cursor.end - rest.len() as u32;
+    *out = number;
+    OK
 }
 
 /// Gives the number that a cursor stands at, and moves the cursor behind it.
 #[unsafe(no_mangle)]
-#[tactic(auto, using(crate::proofs::NumberSteps::number_fits))]
 pub extern "C" fn ristulva_next_number(octets: &[u8], cursor: &mut Numbers, out: &mut u32) -> u32
     ensures ok { result ≡ OK → numbers_left octets.now cursor.old ≡ out.new ∷ numbers_left octets.now cursor.new }
     ensures over { result ≡ END → numbers_left octets.now cursor.old ≡ [] }
@@ -43,15 +53,9 @@ pub extern "C" fn ristulva_next_number(octets: &[u8], cursor: &mut Numbers, out:
     ensures field { cursor.new ≡ record cursor.old { at = cursor.new.at } }
     ensures known { (result ≡ OK) ⊎ ((result ≡ END) ⊎ (result ≡ RANGE)) }
 {
-    match field_of(octets, cursor) {
-        None => RANGE,
-        Some((wide, field)) => match first_number(wide, field) {
-            None => END,
-            Some((number, rest)) => {
-                *out = number;
-                cursor.at = cursor.end - rest.len() as u32;
-                OK
-            }
-        },
+    match cursor.width {
+        2 => next_of(false, octets, cursor, out),
+        4 => next_of(true, octets, cursor, out),
+        _ => RANGE,
     }
 }

@@ -1,8 +1,8 @@
 //! The parts of an UPDATE.
 
-ghost use Rattle.std.specs.Prelude.{◌≡◌, ◌+◌, ◌≤◌, None, length, option_map, IfSome};
+ghost use Rattle.std.specs.Prelude.{◌≡◌, ◌+◌, ◌≤◌, None, length, option_map, IfSome, MatchOption};
 ghost use Rattle.bgp_update.specs.Prelude.{behind_two, parts_of};
-ghost use Rattle.ristulva_c.specs.Prelude.{parts_told, lengths_of, fields_of};
+ghost use Rattle.ristulva_c.specs.Prelude.{parts_told, fields_of};
 
 use crate::span::Span;
 
@@ -52,37 +52,32 @@ pub(crate) fn fields_of(body: &[u8]) -> Option<(usize, &[u8], usize)>
     Some((withdrawn.len(), attributes, nlri.len()))
 }
 
-/// How long the three parts of a body are, where its lengths leave room for each other.
-#[tactic(auto, unfolding(bgp_update::specs::Parts::parts_of))]
-fn lengths_of(body: &[u8]) -> Option<(usize, usize, usize)>
-    ensures value { result ≡ option_map lengths_of (parts_of body.now) }
-    ensures long { IfSome result (λ x. 4 + x.0 + x.1 + x.2 ≡ length body.now) }
+/// Where the parts lie in the message that has this body, where its lengths leave room for each other.
+pub(crate) fn told_parts(body: &[u8]) -> Option<ToldParts>
+    requires { length body.now ≤ 4077 }
+    ensures { MatchOption result (parts_of body.now ≡ None) (λ told. told ≡ parts_told (parts_of body.now)) }
 {
-    let (withdrawn, rest) = split_behind(body)?;
-    let (attributes, nlri) = split_behind(rest)?;
-    Some((withdrawn.len(), attributes.len(), nlri.len()))
+    let (withdrawn, attributes, nlri) = fields_of(body)?;
+    Some(ToldParts {
+        withdrawn: Span {
+            at: 21,
+            len: withdrawn as u32,
+        },
+        attributes: Span {
+            at: (23 + withdrawn) as u32,
+            len: attributes.len() as u32,
+        },
+        nlri: Span {
+            at: (23 + withdrawn + attributes.len()) as u32,
+            len: nlri as u32,
+        },
+    })
 }
 
-/// Where the parts lie in the message that has this body.
+/// The same, or no part lies anywhere.
 pub(crate) fn parts_in(body: &[u8]) -> ToldParts
     requires { length body.now ≤ 4077 }
     ensures { result ≡ parts_told (parts_of body.now) }
 {
-    match lengths_of(body) {
-        None => no_parts(),
-        Some((withdrawn, attributes, nlri)) => ToldParts {
-            withdrawn: Span {
-                at: 21,
-                len: withdrawn as u32,
-            },
-            attributes: Span {
-                at: (23 + withdrawn) as u32,
-                len: attributes as u32,
-            },
-            nlri: Span {
-                at: (23 + withdrawn + attributes) as u32,
-                len: nlri as u32,
-            },
-        },
-    }
+    told_parts(body).unwrap_or(no_parts())
 }

@@ -1,7 +1,7 @@
 //! Segments of a path one after another.
 
-ghost use Rattle.std.specs.Prelude.{◌≡◌, ◌⊎◌, ◌↔◌, [], ◌∷◌, MatchOption};
-ghost use Rattle.ristulva_c.specs.Prelude.{between, is_set, IsSegments, segments_left, segment_told};
+ghost use Rattle.std.specs.Prelude.{◌≡◌, ◌⊎◌, ◌↔◌, [], ◌∷◌};
+ghost use Rattle.ristulva_c.specs.Prelude.{is_set, IsSegments, segments_left, segment_told};
 ghost use Rattle.ristulva_c.specs.declared.status.TheConstants.{END, OK, RANGE};
 
 use crate::span::Span;
@@ -32,13 +32,6 @@ pub struct PathSegment {
     pub numbers: Span,
 }
 
-/// The octets of the path that are left, where the cursor lies in the octets.
-fn field_of<'a>(octets: &'a [u8], cursor: &Segments) -> Option<&'a [u8]>
-    ensures { MatchOption result (IsSegments octets.now cursor.now → ⊥) (λ field. IsSegments octets.now cursor.now × (field.now ≡ between octets.now cursor.now.at cursor.now.end)) }
-{
-    octets.get(cursor.at as usize..cursor.end as usize)
-}
-
 /// Gives the segment that a cursor stands at, and moves the cursor behind it.
 #[unsafe(no_mangle)]
 #[tactic(auto, using(crate::proofs::SegmentSteps::segment_fits))]
@@ -54,7 +47,7 @@ pub extern "C" fn ristulva_next_segment(
     ensures field { cursor.new ≡ record cursor.old { at = cursor.new.at } }
     ensures known { (result ≡ OK) ⊎ ((result ≡ END) ⊎ (result ≡ RANGE)) }
 {
-    let Some(field) = field_of(octets, cursor) else {
+    let Some(field) = octets.get(cursor.at as usize..cursor.end as usize) else {
         return RANGE;
     };
     let form = PathForm {

@@ -1,12 +1,10 @@
 -- One block of text, from its characters to what is written of it.
 use Rattle.std.specs.Prelude.{◌≡◌, ℕ, ◌+◌, ◌≤◌, Bool, true, false, List, [], ◌++◌, length, Option, None, Some, Result, Ok, Err}
-use Rattle.std.specs.Io.KnownBytes.{Appends}
+use Rattle.bgp_engine.specs.Below.{Appends}
 use Rattle.bgp_engine.specs.declared.tally.Tally.{Tally}
 use Rattle.bgp_engine.specs.declared.fault.ToolFault.{ToolFault}
-use Rattle.bgp_engine.specs.declared.fault.ToolFault.TheVariants as fault
 use Rattle.bgp_engine.specs.declared.hex_text.HexText.{HexText}
 use Rattle.bgp_engine.specs.declared.running.Met.{Met}
-use Rattle.bgp_engine.specs.declared.running.Met.TheVariants as met
 use Rattle.bgp_engine.specs.steps.HexSteps.{pending, place}
 use Rattle.bgp_engine.specs.Output.{IsFront, AppendsFront}
 use Rattle.bgp_engine.specs.Report.{Report, IsWordless}
@@ -45,9 +43,9 @@ module _ (hex : Bool) (reader_old reader_new : HexText) (old new : Reports) (goi
     pub takes : Takes old new going told_old told_new octets true
 
   abbrev pub Meets : Met → Type 0
-  Meets met.Block = MeetsBlock
-  Meets (met.Bad n) = MeetsBad n
-  Meets met.Over = MeetsOver
+  Meets Met.Block = MeetsBlock
+  Meets (Met.Bad n) = MeetsBad n
+  Meets Met.Over = MeetsOver
 
 -- all was written that was collected, and what is written last
 pub record WritesAll (reports : Reports) (told : List ℕ) (old new : Option (List ℕ)) (answer : Result Tally ToolFault) : Type 0 where
@@ -73,12 +71,12 @@ pub record WritesFront (reports : Reports) (told : List ℕ) (old new : Option (
 
 abbrev pub Finished : Reports → List ℕ → Option (List ℕ) → Option (List ℕ) → Result Tally ToolFault → Type 0
 Finished reports told old new (Ok tally) = WritesAll reports told old new (Ok tally)
-Finished reports told old new (Err fault.Memory) = WritesNone reports old new
-Finished reports told old new (Err fault.Write) = WritesFront reports told old new
-Finished reports told old new (Err fault.Read) = ⊥
-Finished reports told old new (Err (fault.BadHex n)) = ⊥
-Finished reports told old new (Err (fault.Script n)) = ⊥
-Finished reports told old new (Err fault.Net) = ⊥
-Finished reports told old new (Err (fault.Narrow n)) = WritesAll reports told old new (Err (fault.Narrow n))
-Finished reports told old new (Err (fault.Clean n why)) = IsWordless why × WritesAll reports told old new (Err (fault.Clean n why))
-Finished reports told old new (Err fault.NoOpen) = WritesAll reports told old new (Err fault.NoOpen)
+Finished reports told old new (Err ToolFault.Memory) = WritesNone reports old new
+Finished reports told old new (Err ToolFault.Write) = WritesFront reports told old new
+Finished reports told old new (Err ToolFault.Read) = ⊥
+Finished reports told old new (Err (ToolFault.BadHex n)) = ⊥
+Finished reports told old new (Err (ToolFault.Script n)) = ⊥
+Finished reports told old new (Err ToolFault.Net) = ⊥
+Finished reports told old new (Err (ToolFault.Narrow n)) = WritesAll reports told old new (Err (ToolFault.Narrow n))
+Finished reports told old new (Err (ToolFault.Clean n why)) = IsWordless why × WritesAll reports told old new (Err (ToolFault.Clean n why))
+Finished reports told old new (Err ToolFault.NoOpen) = WritesAll reports told old new (Err ToolFault.NoOpen)

@@ -1,9 +1,6 @@
 -- Steps of the page of `clean`.
-use Rattle.std.specs.Prelude.{ℕ, Bool, List, Option, None, Some, Result}
-use Rattle.bgp_wire.specs.Prelude.{has_octet}
-use Rattle.bgp_open.specs.declared.context.Context.{Context}
+use Rattle.bgp_engine.specs.Below.{ℕ, Bool, List, Option, None, Some, Result, has_octet, Context, CleanFault}
 use Rattle.bgp_msg.specs.declared.message.Message.{Message}
-use Rattle.bgp_clean.specs.declared.fault.CleanFault.{CleanFault}
 use Rattle.bgp_engine.specs.declared.cleaning.CleanPage.{CleanPage}
 use Rattle.bgp_engine.specs.Clean.{clean_rules, first_line, starts_by, starts_in}
 use Rattle.bgp_engine.specs.First.{Starts}

@@ -1,9 +1,8 @@
 -- Steps of an engine: what it makes of octets, and how it goes on behind them.
 use Rattle.std.specs.Prelude.{◌≡◌, ℕ, Bool, true, false, List, [], ◌++◌, Result, Ok, Err}
-use Rattle.bgp_wire.specs.Prelude.{AreOctets}
+use Rattle.bgp_engine.specs.Below.{AreOctets}
 use Rattle.bgp_engine.specs.declared.tally.Tally.{Tally}
 use Rattle.bgp_engine.specs.declared.fault.ToolFault.{ToolFault}
-use Rattle.bgp_engine.specs.declared.fault.ToolFault.TheVariants as fault
 use Rattle.bgp_engine.specs.Report.{Report, behind, IsOver, IsWaiting, IsWordless}
 use Rattle.bgp_engine.specs.Run.{Reports}
 
@@ -48,15 +47,15 @@ IsTotal reports = (later : List ℕ) → AreOctets later → (r : Report) × rep
 -- what is written last was collected, and this is the answer
 abbrev pub ClosesBy : Report → List ℕ → List ℕ → Result Tally ToolFault → Type 0
 ClosesBy report told_old told_new (Ok tally) = (told_new ≡ told_old ++ report.last) × (report.answer ≡ Ok tally)
-ClosesBy report told_old told_new (Err fault.Memory) = Unit {0}
-ClosesBy report told_old told_new (Err fault.Read) = ⊥
-ClosesBy report told_old told_new (Err fault.Write) = ⊥
-ClosesBy report told_old told_new (Err (fault.BadHex n)) = ⊥
-ClosesBy report told_old told_new (Err (fault.Script n)) = ⊥
-ClosesBy report told_old told_new (Err fault.Net) = ⊥
-ClosesBy report told_old told_new (Err (fault.Narrow n)) = (told_new ≡ told_old ++ report.last) × (report.answer ≡ Err (fault.Narrow n))
-ClosesBy report told_old told_new (Err (fault.Clean n why)) = IsWordless why × (told_new ≡ told_old ++ report.last) × (report.answer ≡ Err (fault.Clean n why))
-ClosesBy report told_old told_new (Err fault.NoOpen) = (told_new ≡ told_old ++ report.last) × (report.answer ≡ Err fault.NoOpen)
+ClosesBy report told_old told_new (Err ToolFault.Memory) = Unit {0}
+ClosesBy report told_old told_new (Err ToolFault.Read) = ⊥
+ClosesBy report told_old told_new (Err ToolFault.Write) = ⊥
+ClosesBy report told_old told_new (Err (ToolFault.BadHex n)) = ⊥
+ClosesBy report told_old told_new (Err (ToolFault.Script n)) = ⊥
+ClosesBy report told_old told_new (Err ToolFault.Net) = ⊥
+ClosesBy report told_old told_new (Err (ToolFault.Narrow n)) = (told_new ≡ told_old ++ report.last) × (report.answer ≡ Err (ToolFault.Narrow n))
+ClosesBy report told_old told_new (Err (ToolFault.Clean n why)) = IsWordless why × (told_new ≡ told_old ++ report.last) × (report.answer ≡ Err (ToolFault.Clean n why))
+ClosesBy report told_old told_new (Err ToolFault.NoOpen) = (told_new ≡ told_old ++ report.last) × (report.answer ≡ Err ToolFault.NoOpen)
 
 -- the stream ends
 pub record Closes (reports : Reports) (told_old told_new : List ℕ) (answer : Result Tally ToolFault) : Type 0 where

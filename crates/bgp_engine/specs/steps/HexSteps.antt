@@ -1,9 +1,8 @@
 -- A reader of hexadecimal text, character by character.
 use Rattle.std.specs.Prelude.{◌≡◌, ℕ, ◌+◌, ◌-◌, ◌*◌, List, [], ◌∷◌, ◌++◌, length, Some, option_to_list}
-use Rattle.bgp_wire.specs.Prelude.{AreOctets}
+use Rattle.bgp_engine.specs.Below.{AreOctets}
 use Rattle.bgp_engine.specs.declared.hex_text.HexText.{HexText}
 use Rattle.bgp_engine.specs.declared.hex_text.Taken.{Taken}
-use Rattle.bgp_engine.specs.declared.hex_text.Taken.TheVariants as taken
 use Rattle.bgp_engine.specs.HexText.{spelled, bad_from}
 
 -- the digit that waits for its pair
@@ -26,9 +25,9 @@ pub record Breaks (old : HexText) (text octets : List ℕ) (n : ℕ) : Type 0 wh
   pub is_bad : (later : List ℕ) → bad_from (place old) (pending old ++ (text ++ later)) ≡ Some n
 
 abbrev pub ReadsOn : HexText → ℕ → Taken → HexText → Type 0
-ReadsOn old c taken.Nothing new = Continues old (c ∷ []) [] new
-ReadsOn old c (taken.Octet octet) new = Continues old (c ∷ []) (octet ∷ []) new × (length (pending old) ≡ 1) × (length (pending new) ≡ 0)
-ReadsOn old c taken.Bad new = Breaks old (c ∷ []) [] new.seen
+ReadsOn old c Taken.Nothing new = Continues old (c ∷ []) [] new
+ReadsOn old c (Taken.Octet octet) new = Continues old (c ∷ []) (octet ∷ []) new × (length (pending old) ≡ 1) × (length (pending new) ≡ 0)
+ReadsOn old c Taken.Bad new = Breaks old (c ∷ []) [] new.seen
 
 -- pairs of digits were read from the front of a text: what is left of it, and their octets stand behind those that were there
 pub record ReadsPairs (old : HexText) (text rest was octets : List ℕ) (new : HexText) : Type 0 where

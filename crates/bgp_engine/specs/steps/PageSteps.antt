@@ -1,10 +1,7 @@
 -- Steps of two pages, which only private functions cite.
 use Rattle.std.specs.Prelude.{◌≡◌, ℕ, Bool, List, [], ◌++◌, Option, unwrap_or}
-use Rattle.bgp_open.specs.declared.context.Context.{Context}
-use Rattle.bgp_msg.specs.declared.outcome.Outcome.{Outcome}
-use Rattle.bgp_msg.specs.Prelude.{is_reset}
+use Rattle.bgp_engine.specs.Below.{Context, Outcome, is_reset, Span}
 use Rattle.bgp_engine.specs.declared.class.Class.{Class}
-use Rattle.bgp_fields.specs.declared.field.Span.{Span}
 use Rattle.bgp_engine.specs.Explain.{heard_lines}
 use Rattle.bgp_engine.specs.Heard.{Heard}
 use Rattle.bgp_engine.specs.Narrow.{narrowed_class}

@@ -1,12 +1,9 @@
 -- What is collected of one message, and of one header's fault.
 use Rattle.std.specs.Prelude.{◌≡◌, ℕ, Bool, true, false, List, ◌++◌, Option, None, Some, Result, Ok, Err}
-use Rattle.bgp_frame.specs.declared.fault.HeadFault.{HeadFault}
-use Rattle.bgp_frame.specs.Prelude.{Message, octets_of}
+use Rattle.bgp_engine.specs.Below.{HeadFault, Message, octets_of}
 use Rattle.bgp_engine.specs.declared.class.Class.{Class}
-use Rattle.bgp_engine.specs.declared.class.Class.TheVariants as class
 use Rattle.bgp_engine.specs.declared.tally.Tally.{Tally}
 use Rattle.bgp_engine.specs.declared.fault.ToolFault.{ToolFault}
-use Rattle.bgp_engine.specs.declared.fault.ToolFault.TheVariants as fault
 use Rattle.bgp_engine.specs.Report.{IsWordless}
 use Rattle.bgp_engine.specs.Rules.{Rules}
 
@@ -26,9 +23,9 @@ TakesFirst false plan rules m told_old told_new = (plan.first m ≡ None) × (pl
 
 -- the stream ends behind it
 abbrev pub is_last : Class → Bool
-is_last class.Took = false
-is_last class.Withdrawn = false
-is_last class.Reset = true
+is_last Class.Took = false
+is_last Class.Withdrawn = false
+is_last Class.Reset = true
 
 module _ {Outcome : Type 0} (rules : Rules Outcome) (told_old told_new : List ℕ) (place : ℕ) where
   -- a message of so many octets was judged, and its lines were collected
@@ -40,11 +37,11 @@ module _ {Outcome : Type 0} (rules : Rules Outcome) (told_old told_new : List �
   -- the line of a header's fault was collected
   pub record WritesFault (header : List ℕ) (f : HeadFault) : Type 0 where
     pub told : told_new ≡ told_old ++ rules.line place 0 header (rules.judge.of_fault f)
-    pub counts : rules.class (rules.judge.of_fault f) ≡ class.Reset
+    pub counts : rules.class (rules.judge.of_fault f) ≡ Class.Reset
 
 -- an engine's own answers: the counts, or where the stream can't be narrowed or cleaned
 abbrev pub IsAnswer : Result Tally ToolFault → Type 0
 IsAnswer (Ok tally) = Unit {0}
-IsAnswer (Err (fault.Narrow n)) = Unit {0}
-IsAnswer (Err (fault.Clean n why)) = IsWordless why
+IsAnswer (Err (ToolFault.Narrow n)) = Unit {0}
+IsAnswer (Err (ToolFault.Clean n why)) = IsWordless why
 IsAnswer (Err _) = ⊥

@@ -1,13 +1,9 @@
 -- Steps of an engine that takes the first message of its stream by a rule of its own.
 use Rattle.std.specs.Prelude.{◌≡◌, ℕ, Bool, true, false, List, [], ◌++◌, Option, None, Some, option_map}
-use Rattle.bgp_wire.specs.Prelude.{AreOctets}
+use Rattle.bgp_engine.specs.Below.{AreOctets, Message, Waits, Context}
 use Rattle.bgp_frame.specs.declared.end.End.TheVariants as end
-use Rattle.bgp_frame.specs.Prelude.{Message, Waits}
-use Rattle.bgp_open.specs.declared.context.Context.{Context}
 use Rattle.bgp_engine.specs.declared.opening.Stage.{Stage}
-use Rattle.bgp_engine.specs.declared.opening.Stage.TheVariants as stage
 use Rattle.bgp_engine.specs.declared.starting.Begun.{Begun}
-use Rattle.bgp_engine.specs.declared.starting.Begun.TheVariants as begun
 use Rattle.bgp_engine.specs.declared.starting.Starting as code
 use Rattle.bgp_engine.specs.Agree.{agreed}
 use Rattle.bgp_engine.specs.File.{first_open, open_in}
@@ -45,9 +41,9 @@ module _ {Outcome : Type 0} where
 
   -- how a stream begins: without a context; by rules for each of its messages; or behind the first, with this collected
   abbrev pub Begins : Begun → Option (Start Outcome) → Rules Outcome → List ℕ → List ℕ → Type 0
-  Begins begun.Unagreed start rules told_old told_new = (start ≡ None) × (told_new ≡ told_old)
-  Begins begun.Plain start rules told_old told_new = (start ≡ Some (record { rules = rules; first = None })) × (told_new ≡ told_old)
-  Begins begun.Handed start rules told_old told_new = (text : List ℕ) × (start ≡ Some (record { rules = rules; first = Some text })) × (told_new ≡ told_old ++ text)
+  Begins Begun.Unagreed start rules told_old told_new = (start ≡ None) × (told_new ≡ told_old)
+  Begins Begun.Plain start rules told_old told_new = (start ≡ Some (record { rules = rules; first = None })) × (told_new ≡ told_old)
+  Begins Begun.Handed start rules told_old told_new = (text : List ℕ) × (start ≡ Some (record { rules = rules; first = Some text })) × (told_new ≡ told_old ++ text)
 
   abbrev pub starting : Starts Outcome → Stage → Walking Outcome → Starting Outcome
   starting starts stage walk = record { starts = starts; stage = stage; walk = walk }
@@ -56,9 +52,9 @@ module _ {Outcome : Type 0} where
   starting_of fits rules plan s = starting (starts_of fits rules plan (option_map (λ t. t.now) s.theirs) s.walk.page) s.stage (walk_of rules s.walk)
 
   abbrev pub reports_at : Stage → Starting Outcome → List ℕ → Report → Type 0
-  reports_at stage.First s later r = AreOctets later → ReportedFrom s.starts (s.walk.held ++ later) r
-  reports_at stage.Agreed s later r = reports_of s.walk later r
-  reports_at stage.Unagreed s later r = r ≡ unagreed end.Reset
+  reports_at Stage.First s later r = AreOctets later → ReportedFrom s.starts (s.walk.held ++ later) r
+  reports_at Stage.Agreed s later r = reports_of s.walk later r
+  reports_at Stage.Unagreed s later r = r ≡ unagreed end.Reset
 
   -- what is reported of the rest of the stream
   abbrev pub reports_in : Starting Outcome → List ℕ → Report → Type 0
@@ -75,17 +71,17 @@ module _ {Outcome : Type 0} where
     pub fresh : IsFresh w
 
   abbrev pub GoesAt : Stage → Walking Outcome → Type 0
-  GoesAt stage.First w = IsFirst w
-  GoesAt stage.Agreed w = IsReady w
-  GoesAt stage.Unagreed w = ⊥
+  GoesAt Stage.First w = IsFirst w
+  GoesAt Stage.Agreed w = IsReady w
+  GoesAt Stage.Unagreed w = ⊥
 
   abbrev pub GoesOn : Starting Outcome → Type 0
   GoesOn s = GoesAt s.stage s.walk
 
   abbrev pub ReadyAt : Stage → Walking Outcome → Type 0
-  ReadyAt stage.First w = IsFirst w
-  ReadyAt stage.Agreed w = IsReady w
-  ReadyAt stage.Unagreed w = Unit {0}
+  ReadyAt Stage.First w = IsFirst w
+  ReadyAt Stage.Agreed w = IsReady w
+  ReadyAt Stage.Unagreed w = Unit {0}
 
   -- nothing is missing for a last report
   abbrev pub ReadyIn : Starting Outcome → Type 0
@@ -93,10 +89,10 @@ module _ {Outcome : Type 0} where
 
   -- how a stream goes on once its first octets, which are held, were looked at, with this collected
   abbrev pub SettlesAt : Stage → Starts Outcome → List ℕ → List ℕ → Walking Outcome → Type 0
-  SettlesAt stage.First starts held lines w = IsFirst w × (w.held ≡ held) × (lines ≡ [])
-  SettlesAt stage.Agreed starts held lines w =
+  SettlesAt Stage.First starts held lines w = IsFirst w × (w.held ≡ held) × (lines ≡ [])
+  SettlesAt Stage.Agreed starts held lines w =
       (w.ended ≡ None) × IsCounting w × ((later : List ℕ) (r : Report) → AreOctets later → reports_of w later r → ReportedFrom starts (held ++ later) (behind lines r))
-  SettlesAt stage.Unagreed starts held lines w = ((later : List ℕ) → ReportedFrom starts (held ++ later) (unagreed end.Reset)) × (lines ≡ [])
+  SettlesAt Stage.Unagreed starts held lines w = ((later : List ℕ) → ReportedFrom starts (held ++ later) (unagreed end.Reset)) × (lines ≡ [])
 
   pub record Settles (stage : Stage) (starts : Starts Outcome) (held told_old told_new : List ℕ) (w : Walking Outcome) : Type 0 where
     pub lines : List ℕ

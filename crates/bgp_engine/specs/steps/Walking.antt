@@ -1,10 +1,8 @@
 -- Steps of a walk over the messages of a stream, which is a hearer of octets.
-use Rattle.std.specs.Prelude.{◌≡◌, ℕ, ◌+◌, ◌-◌, ◌≤◌, ◌^◌, Bool, true, List, [], ◌++◌, length, is_none, is_some, Option, None, Some, Result, Ok, Err, if◌then◌else◌}
-use Rattle.bgp_wire.specs.Prelude.{AreOctets}
-use Rattle.bgp_frame.specs.declared.end.End.{End}
-use Rattle.bgp_frame.specs.declared.fault.HeadFault.{HeadFault}
-use Rattle.bgp_frame.specs.Prelude.{Message, Waits, Hearer, Done, PullsNext, by_feed, left_to_do, given, IsToFeed, outcome_of}
-use Rattle.bgp_frame.specs.declared.end.End.TheVariants as end
+use Rattle.std.specs.Prelude.{◌≡◌, ℕ, ◌+◌, ◌-◌, ◌≤◌, ◌^◌, Bool, true, List, [], ◌++◌, length, is_none, is_some, Option, None, Some, Result, Ok, Err}
+use Rattle.std.specs.Prelude.{if◌then◌else◌}
+use Rattle.bgp_engine.specs.Below.{AreOctets, End, HeadFault, Message, Waits, Hearer, Done, PullsNext, by_feed, left_to_do, given, IsToFeed}
+use Rattle.bgp_engine.specs.Below.{outcome_of}
 use Rattle.bgp_frame.specs.Hearing as hearing
 use Rattle.bgp_engine.specs.declared.tally.Tally.{Tally}
 use Rattle.bgp_engine.specs.declared.walk.Walk.{Walk}
@@ -23,11 +21,11 @@ abbrev pub all_counts : Tally → ℕ
 all_counts t = t.messages + t.took + t.withdrawn + t.resets
 
 abbrev pub reset_if : Bool → Option End
-reset_if resets = if resets then Some end.Reset else None
+reset_if resets = if resets then Some End.Reset else None
 
 -- the end of a stream that goes no further, of which so many octets are held
 abbrev pub end_by : Option End → ℕ → End
-end_by None held = end.Wait held
+end_by None held = End.Wait held
 end_by (Some e) held = e
 
 module _ {Outcome : Type 0} where
@@ -45,7 +43,7 @@ module _ {Outcome : Type 0} where
 
   abbrev pub ended_by : Rules Outcome → Result Message HeadFault → Option End
   ended_by rules (Ok m) = reset_if (rules.judge.resets (rules.judge.of_message m))
-  ended_by rules (Err f) = Some end.Head
+  ended_by rules (Err f) = Some End.Head
 
   -- what is written of it, and the walk behind it
   abbrev pub comes : Walking Outcome → Result Message HeadFault → List ℕ × Walking Outcome

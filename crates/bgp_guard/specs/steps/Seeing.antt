@@ -1,12 +1,10 @@
 -- What one side sees of what the code keeps, and steps of hearing it.
 use Rattle.std.specs.Prelude.{◌≡◌, ℕ, ◌≤◌, Bool, true, List, length, drop, Option, None, Some, Result, Ok, Err}
 use Rattle.bgp_frame.specs.declared.kind.Kind.{Kind}
-use Rattle.bgp_frame.specs.declared.kind.Kind.TheVariants as kind
 use Rattle.bgp_open.specs.declared.fault.OpenFault.{OpenFault}
 use Rattle.bgp_open.specs.declared.message.Open.{Open}
 use Rattle.bgp_open.specs.Prelude.{reading_of, Said, said_by}
 use Rattle.bgp_msg.specs.declared.message.Message.{Message}
-use Rattle.bgp_msg.specs.declared.message.Message.TheVariants as message
 use Rattle.bgp_guard.specs.declared.came.Came.{Came}
 use Rattle.bgp_guard.specs.declared.line.Half as code
 use Rattle.bgp_guard.specs.declared.line.Line.{Line}
@@ -32,19 +30,19 @@ said_in (Err fault) = None
 -- octets that are a message: where they are of an OPEN, they are read as it
 pub record IsReadOpen (n : Message) (b : List ℕ) : Type 0 where
   pub value : Open
-  pub is : n ≡ message.Open value
+  pub is : n ≡ Message.Open value
   pub reads : reading_of (drop 19 b) ≡ Ok value
 
 -- each kind is handed on as itself, but for an UPDATE, in whose place a KEEPALIVE may stand
 abbrev pub IsReadIn : Kind → Message → List ℕ → Type 0
-IsReadIn kind.Open n b = IsReadOpen n b
-IsReadIn kind.Update n b = said_as true n ≡ message.Keepalive
-IsReadIn kind.Notification n b = said_as true n ≡ n
-IsReadIn kind.Keepalive n b = said_as true n ≡ n
+IsReadIn Kind.Open n b = IsReadOpen n b
+IsReadIn Kind.Update n b = said_as true n ≡ Message.Keepalive
+IsReadIn Kind.Notification n b = said_as true n ≡ n
+IsReadIn Kind.Keepalive n b = said_as true n ≡ n
 
 -- what is handed on, by the kind of what came
 abbrev pub said_for : Bool → Kind → Message → Message
-said_for true kind.Update n = message.Keepalive
+said_for true Kind.Update n = Message.Keepalive
 said_for _ _ n = n
 
 abbrev pub half_behind : Kind → Message → Half → Half
@@ -57,5 +55,5 @@ pub record IsSettled (rules : Rules) (silent : Bool) (old : Sight) (came : Came)
 
 -- an OPEN has at least 29 octets
 abbrev pub CanBeRead : Kind → List ℕ → Type 0
-CanBeRead kind.Open b = 29 ≤ length b
+CanBeRead Kind.Open b = 29 ≤ length b
 CanBeRead _ b = Unit {0}

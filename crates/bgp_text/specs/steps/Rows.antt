@@ -1,8 +1,6 @@
 -- A row of which the first value is taken out, and the lines of fields by such a row of notes.
 use Rattle.std.specs.Prelude.{ℕ, List, [], ◌∷◌, Option, None, Some, if◌then◌else◌}
-use Rattle.bgp_update.specs.Prelude.{notes_left}
-use Rattle.bgp_update.specs.declared.note.Note.{Note}
-use Rattle.bgp_fields.specs.declared.field.Field.{Field}
+use Rattle.bgp_text.specs.Below.{notes_left, Note, Field}
 use Rattle.bgp_text.specs.declared.field_lines.Noting.{Noting}
 use Rattle.bgp_text.specs.FieldLines.{field_line, is_at, is_in, noted_lines}
 

@@ -1,14 +1,7 @@
-use Rattle.std.proofs.Common.{IfOk, sym, ap, subst, ◌∙◌}
-use Rattle.std.specs.Prelude.{is_some}
-use Rattle.bgp_wire.specs.Prelude.{has_octet}
-use Rattle.bgp_frame.specs.Prelude.{notification_of_view, message_in}
-use Rattle.bgp_open.specs.Prelude.{open_value}
-use Rattle.bgp_update.specs.Prelude.{update_value, notes_value, routes_value}
-use Rattle.bgp_msg.specs.declared.message.Message.TheVariants as message
-use Rattle.bgp_msg.specs.declared.outcome.Outcome.{Outcome}
+use Rattle.bgp_clean.proofs.Prelude.{sym, ap, subst, ◌∙◌, is_some, has_octet, notification_of_view, message_in, open_value, update_value, notes_value}
+use Rattle.bgp_clean.proofs.Prelude.{routes_value, Message, Outcome, outcome_value, ended_family, cleaned_outcome, IsCleaned}
+use Rattle.std.proofs.Common.{IfOk}
 use Rattle.bgp_msg.specs.declared.outcome_view.OutcomeView.{OutcomeView}
-use Rattle.bgp_msg.specs.Prelude.{outcome_value}
-use Rattle.bgp_clean.specs.Prelude.{ended_family, cleaned_outcome, IsCleaned}
 use Rattle.bgp_clean.proofs.Outcomes.{at_most, open_good, update_valid, update_short, withdrawal_short, notification_same, keepalive_same}
 use Rattle.bgp_clean.proofs.cleaning.clean.Goals as goal
 
@@ -42,7 +35,7 @@ returns-in-Notification-clause-value g c =
     let n = notification_of_view c.in-Notification.field-0 in
     let is = sym c.view_frame.ensures ∙ ap value c.in-Notification.is in
     subst (λ (o : Outcome). IfOk c.pass_on.result (IsCleaned ctx (cleaned_outcome (has_octet c.args.drops.now) c.args.first (is_some (ended_family ctx m)) o) (g.O.Output.written c.args.out.now) (g.O.Output.written c.pass_on.new.out)))
-    (sym is) (c.pass_on.ensures.value (message.Notification n) (notification_same ctx m c.requires n _ is))
+    (sym is) (c.pass_on.ensures.value (Message.Notification n) (notification_same ctx m c.requires n _ is))
 
 pub returns-in-Keepalive-clause-value : goal.returns-in-Keepalive-clause-value
 returns-in-Keepalive-clause-value g c =
@@ -51,4 +44,4 @@ returns-in-Keepalive-clause-value g c =
     let passed = c.pass_on-in-Keepalive in
     let is = sym c.view_frame.ensures ∙ ap value c.in-Keepalive.is in
     subst (λ (o : Outcome). IfOk passed.result (IsCleaned ctx (cleaned_outcome (has_octet c.args.drops.now) c.args.first (is_some (ended_family ctx m)) o) (g.O.Output.written c.args.out.now) (g.O.Output.written passed.new.out)))
-    (sym is) (passed.ensures.value message.Keepalive (keepalive_same ctx m c.requires _ is))
+    (sym is) (passed.ensures.value Message.Keepalive (keepalive_same ctx m c.requires _ is))

@@ -1,4 +1,4 @@
-use Rattle.bgp_open.specs.Prelude.{open_value}
+use Rattle.bgp_clean.proofs.Prelude.{open_value}
 use Rattle.bgp_clean.proofs.Understood.{understood_good}
 use Rattle.bgp_clean.proofs.opens.clean_open.Goals as goal
 

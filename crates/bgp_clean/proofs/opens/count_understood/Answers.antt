@@ -1,6 +1,4 @@
-use Rattle.std.proofs.Common.{arith}
-use Rattle.bgp_open.specs.Prelude.{open_value}
-use Rattle.bgp_clean.specs.Prelude.{none_seen}
+use Rattle.bgp_clean.proofs.Prelude.{arith, open_value, none_seen}
 use Rattle.bgp_clean.proofs.Understood.{few_understood}
 use Rattle.bgp_clean.proofs.opens.count_understood.Goals as goal
 

@@ -1,7 +1,4 @@
-use Rattle.bgp_wire.proofs.Std.{◌≡◌, ◌||◌, length, list_any}
-use Rattle.bgp_numbers.specs.declared.afi.TheConstants.{IPV4, IPV6}
-use Rattle.bgp_open.specs.Prelude.{capabilities_left, open_value, is_unicast}
-use Rattle.bgp_clean.specs.Prelude.{is_multi}
+use Rattle.bgp_clean.proofs.Prelude.{◌≡◌, ◌||◌, length, list_any, IPV4, IPV6, capabilities_left, open_value, is_unicast, is_multi}
 use Rattle.bgp_clean.proofs.opens.lacks_family.Given as goal
 
 -- those so far, and those still to come, are all

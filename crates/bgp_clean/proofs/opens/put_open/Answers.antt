@@ -1,9 +1,6 @@
-use Rattle.bgp_wire.proofs.Std.{◌≡◌, ℕ, List, ◌++◌, ◌+◌, length, ap, ◌∙◌, on_ok_weaker}
-use Rattle.bgp_frame.specs.declared.kind.Kind.TheVariants as kind
-use Rattle.bgp_frame.specs.Prelude.{header}
-use Rattle.bgp_open.specs.declared.capability.Capability.{Capability}
-use Rattle.bgp_open.specs.Prelude.{open_value, body_octets, canonical, row_octets}
-use Rattle.bgp_clean.specs.Prelude.{cleaned_open, understood}
+use Rattle.bgp_clean.proofs.Prelude.{◌≡◌, ℕ, List, ◌++◌, ◌+◌, length, ap, ◌∙◌, on_ok_weaker, Kind, header, Capability, open_value, body_octets, row_octets}
+use Rattle.bgp_clean.proofs.Prelude.{cleaned_open, understood}
+use Rattle.bgp_open.specs.Prelude.{canonical}
 use Rattle.bgp_clean.proofs.opens.put_open.Goals as goal
 
 pub returns-clause-ok : goal.returns-clause-ok
@@ -17,4 +14,4 @@ returns-clause-ok g c =
     ∙ ap (λ (hold : ℕ). body_octets o.as_field hold c.id.result c.deref.result.now) c.hold.ensures
     ∙ ap (λ (id : List ℕ). body_octets o.as_field o.hold id c.deref.result.now) c.id.ensures
     ∙ ap (λ (r : List ℕ). body_octets o.as_field o.hold o.id r) row in
-    on_ok_weaker c.put_whole.result (λ e. e ∙ ap (λ (b : List ℕ). g.O.Output.written c.args.out.now ++ (header kind.Open (19 + length b) ++ b)) body) c.put_whole.ensures.ok
+    on_ok_weaker c.put_whole.result (λ e. e ∙ ap (λ (b : List ℕ). g.O.Output.written c.args.out.now ++ (header Kind.Open (19 + length b) ++ b)) body) c.put_whole.ensures.ok

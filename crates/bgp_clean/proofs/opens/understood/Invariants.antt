@@ -1,6 +1,4 @@
-use Rattle.std.proofs.Common.{◌≡◌, ◌≤◌, ◌++◌, length}
-use Rattle.bgp_open.specs.Prelude.{capabilities_left, row_octets}
-use Rattle.bgp_clean.specs.Prelude.{understood, understood_behind, seen_value}
+use Rattle.bgp_clean.proofs.Prelude.{◌≡◌, ◌≤◌, ◌++◌, length, capabilities_left, row_octets, understood, understood_behind, seen_value}
 use Rattle.bgp_clean.proofs.opens.understood.Given as goal
 
 -- those so far, and those still to come, are all, and have room

@@ -1,5 +1,4 @@
-use Rattle.bgp_wire.specs.Prelude.{has_octet}
-use Rattle.bgp_update.specs.Prelude.{update_value}
+use Rattle.bgp_clean.proofs.Prelude.{has_octet, update_value}
 use Rattle.bgp_clean.proofs.Fewer.{cleaned_writable, cleaned_short}
 use Rattle.bgp_clean.proofs.updates.clean_update.Goals as goal
 

@@ -1,4 +1,4 @@
-use Rattle.std.proofs.Common.{option_map}
+use Rattle.bgp_engine.proofs.Prelude.{option_map}
 use Rattle.bgp_engine.proofs.Reading.{answers_as}
 use Rattle.bgp_engine.proofs.Startings.{clean_same, from_same, wordless}
 use Rattle.bgp_engine.proofs.cleaning.clean_page.Goals as goal

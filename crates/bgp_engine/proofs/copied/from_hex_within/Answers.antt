@@ -1,4 +1,4 @@
-use Rattle.std.proofs.Common.{true}
+use Rattle.bgp_engine.proofs.Prelude.{true}
 use Rattle.bgp_engine.proofs.Reading.{answers_as}
 use Rattle.bgp_engine.proofs.copied.from_hex_within.Goals as goal
 

@@ -1,7 +1,4 @@
-use Rattle.std.proofs.Common.{◌≡◌, Option, subst}
-use Rattle.std.specs.Prelude.{IfOk}
-use Rattle.bgp_frame.specs.Prelude.{Message}
-use Rattle.bgp_open.specs.declared.message.Open.{Open}
+use Rattle.bgp_engine.proofs.Prelude.{◌≡◌, Option, subst, IfOk, Message, Open}
 use Rattle.bgp_engine.proofs.FirstOpens.{front_open}
 use Rattle.bgp_engine.proofs.file.first_open.Goals as goal
 

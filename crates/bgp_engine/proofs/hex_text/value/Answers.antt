@@ -1,5 +1,4 @@
-use Rattle.bgp_wire.proofs.Std.{ℕ, map, ap, ◌∙◌, slice_index_or, arith, range_with_len}
-use Rattle.bgp_engine.specs.Prelude.{value_or_none}
+use Rattle.bgp_engine.proofs.Prelude.{ℕ, map, ap, ◌∙◌, slice_index_or, arith, range_with_len, value_or_none}
 use Rattle.bgp_engine.proofs.DigitTable.{in_table}
 use Rattle.bgp_engine.proofs.hex_text.value.Goals as goal
 

@@ -1,4 +1,4 @@
-use Rattle.bgp_frame.specs.Prelude.{Message}
+use Rattle.bgp_engine.proofs.Prelude.{Message}
 use Rattle.bgp_engine.proofs.Digits.{ok_hex_line}
 use Rattle.bgp_engine.proofs.hexed.put_message.Goals as goal
 

@@ -1,4 +1,4 @@
-use Rattle.std.proofs.Common.{arith}
+use Rattle.bgp_engine.proofs.Prelude.{arith}
 use Rattle.bgp_engine.proofs.narrowing.are_octets.Goals as goal
 
 pub returns : goal.returns

@@ -1,7 +1,5 @@
-use Rattle.std.proofs.Common.{sym, ap, ◌∙◌}
-use Rattle.bgp_update.specs.Prelude.{update_value, notes_value}
+use Rattle.bgp_engine.proofs.Prelude.{sym, ap, ◌∙◌, update_value, notes_value, outcome_value}
 use Rattle.bgp_msg.specs.declared.outcome_view.OutcomeView.{OutcomeView}
-use Rattle.bgp_msg.specs.Prelude.{outcome_value}
 use Rattle.bgp_engine.proofs.Narrows.{taken_told}
 use Rattle.bgp_engine.proofs.narrowing.put_told.Goals as goal
 

@@ -1,5 +1,4 @@
-use Rattle.bgp_wire.proofs.Std.{ℕ, take, sym, subst, take_rest}
-use Rattle.std.specs.Io.KnownBytes.{Appends}
+use Rattle.bgp_engine.proofs.Prelude.{ℕ, take, sym, subst, take_rest, Appends}
 use Rattle.bgp_engine.proofs.Written.{HasWritten-more, appends_count}
 use Rattle.bgp_engine.proofs.output.put.Goals as goal
 

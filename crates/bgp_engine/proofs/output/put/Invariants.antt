@@ -1,4 +1,4 @@
-use Rattle.std.proofs.Common.{length}
+use Rattle.bgp_engine.proofs.Prelude.{length}
 use Rattle.bgp_engine.proofs.Written.{HasWritten}
 use Rattle.bgp_engine.proofs.output.put.Given as goal
 

@@ -1,8 +1,5 @@
-use Rattle.bgp_wire.proofs.Std.{◌+◌, ◌*◌, ◌≤◌, ℕ, List, take, sym, subst, inl, inr, ◌-◌, ◌∙◌, arith, err_from_is_err_and}
-use Rattle.std.specs.Io.KnownBytes.{Appends}
-use Rattle.std.proofs.KnownBytes.{Appends-nil}
-use Rattle.std.proofs.lemmas.List.{length-take}
-use Rattle.bgp_engine.specs.Prelude.{FailsWithin}
+use Rattle.bgp_engine.proofs.Prelude.{◌+◌, ◌*◌, ◌≤◌, ℕ, List, take, sym, subst, inl, inr, ◌-◌, ◌∙◌, arith, err_from_is_err_and, Appends, Appends-nil}
+use Rattle.bgp_engine.proofs.Prelude.{length-take, FailsWithin}
 use Rattle.bgp_engine.proofs.HexReads.{some_waits, none_waits}
 use Rattle.bgp_engine.proofs.Reading.{Reading, Reading-none, Reading-block, Reached-none, Reached-block, Reached-bad, Reached-over, fails_read, fails_bad, fails_put, fails_block, finished, bad_digit, bad_block, none_bad, read_nothing, read_failed}
 use Rattle.bgp_engine.proofs.running.run.Goals as goal

@@ -1,4 +1,4 @@
-use Rattle.std.proofs.Common.{◌≡◌, ◌+◌, ◌*◌, ◌≤◌, ◌^◌, []}
+use Rattle.bgp_engine.proofs.Prelude.{◌≡◌, ◌+◌, ◌*◌, ◌≤◌, ◌^◌, []}
 use Rattle.bgp_engine.proofs.Reading.{Reading}
 use Rattle.bgp_engine.proofs.running.run.Given as goal
 

@@ -1,7 +1,5 @@
-use Rattle.std.proofs.Common.{ℕ, ◌++◌, List, option_map, subst}
-use Rattle.bgp_wire.specs.Prelude.{AreOctets}
-use Rattle.bgp_engine.specs.declared.opening.Stage.{Stage}
-use Rattle.bgp_engine.specs.Prelude.{ReportedFrom, Answers, io, OfOctets, reports_in, starting, starts_of, walk_of}
+use Rattle.bgp_engine.proofs.Prelude.{ℕ, ◌++◌, List, option_map, subst, AreOctets, Stage, ReportedFrom, Answers, io, OfOctets, reports_in, starting}
+use Rattle.bgp_engine.proofs.Prelude.{starts_of, walk_of}
 use Rattle.bgp_engine.proofs.Reading.{answers_as}
 use Rattle.bgp_engine.proofs.Startings.{first_rests}
 use Rattle.bgp_engine.proofs.starting.start_stream.Goals as goal

@@ -1,4 +1,4 @@
-use Rattle.std.proofs.Common.{refl}
+use Rattle.bgp_engine.proofs.Prelude.{refl}
 use Rattle.bgp_engine.proofs.Reading.{answers_as}
 use Rattle.bgp_engine.proofs.Walks.{front_ready, front_report, rests_at}
 use Rattle.bgp_engine.proofs.walk.walk_stream.Goals as goal

@@ -1,9 +1,5 @@
-use Rattle.bgp_wire.proofs.Std.{ℕ, ◌-◌, Bool, List, ◌++◌, length, sym, ap, ap₂, ◌∙◌, arith, list_all}
-use Rattle.bgp_wire.specs.Prelude.{has_octet, none_of_them}
-use Rattle.bgp_attr.specs.Prelude.{PlacedTlv, placed_from, tlvs_of, tlvs_left, rest_left, placed_tlv}
-use Rattle.bgp_update.specs.Prelude.{marks_behind, cut_mark, field_marks, is_small}
-use Rattle.bgp_update.proofs.SmallLemmas.{field_small}
-use Rattle.bgp_fields.specs.Prelude.{first_asking}
+use Rattle.bgp_fields.proofs.Prelude.{ℕ, ◌-◌, Bool, List, ◌++◌, length, sym, ap, ap₂, ◌∙◌, arith, list_all, has_octet, none_of_them, PlacedTlv, placed_from}
+use Rattle.bgp_fields.proofs.Prelude.{tlvs_of, tlvs_left, rest_left, placed_tlv, marks_behind, cut_mark, field_marks, is_small, field_small, first_asking}
 use Rattle.bgp_fields.proofs.Askings.{asking-here, asking-later, first-small}
 use Rattle.bgp_fields.proofs.asking.first_asking.Goals as goal
 

@@ -1,8 +1,5 @@
-use Rattle.bgp_wire.proofs.Std.{◌≡◌, ◌-◌, ◌++◌, length, true, list_all}
-use Rattle.bgp_wire.specs.Prelude.{has_octet}
-use Rattle.bgp_attr.specs.Prelude.{tlvs_left, rest_left}
-use Rattle.bgp_update.specs.Prelude.{marks_behind, cut_mark, field_marks, is_small}
-use Rattle.bgp_fields.specs.Prelude.{first_asking}
+use Rattle.bgp_fields.proofs.Prelude.{◌≡◌, ◌-◌, ◌++◌, length, true, list_all, has_octet, tlvs_left, rest_left, marks_behind, cut_mark, field_marks, is_small}
+use Rattle.bgp_fields.proofs.Prelude.{first_asking}
 use Rattle.bgp_fields.proofs.asking.first_asking.Given as goal
 
 -- the first of what is left is the first of all

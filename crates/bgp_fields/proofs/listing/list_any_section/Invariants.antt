@@ -1,5 +1,4 @@
-use Rattle.std.proofs.Common.{◌≡◌, ◌≤◌, ◌+◌, length}
-use Rattle.bgp_fields.specs.Prelude.{section_fields}
+use Rattle.bgp_fields.proofs.Prelude.{◌≡◌, ◌≤◌, ◌+◌, length, section_fields}
 use Rattle.bgp_fields.proofs.Listings.{IsListing}
 use Rattle.bgp_fields.proofs.listing.list_any_section.Given as goal
 

@@ -1,9 +1,5 @@
-use Rattle.std.proofs.Common.{◌+◌, List, ◌++◌, length, Option, ap, ap₂, sym, ◌∙◌, arith, refl}
-use Rattle.bgp_fields.specs.declared.field.Field.{Field}
-use Rattle.bgp_fields.specs.declared.field.Group.{Group}
-use Rattle.bgp_fields.specs.declared.part.ValuePart.{ValuePart}
-use Rattle.bgp_fields.specs.Prelude.{value_fields, section_fields, head_fields}
-use Rattle.bgp_fields.specs.declared.part.SectionPart.TheVariants as section
+use Rattle.bgp_fields.proofs.Prelude.{◌+◌, List, ◌++◌, length, Option, ap, ap₂, sym, ◌∙◌, arith, refl, Field, Group, ValuePart, value_fields, section_fields}
+use Rattle.bgp_fields.proofs.Prelude.{head_fields, SectionPart}
 use Rattle.bgp_fields.proofs.Steps.{attribute-next, head-long}
 use Rattle.bgp_fields.proofs.Listings.{more, room_behind}
 use Rattle.bgp_fields.proofs.listing.list_attributes.Goals as goal
@@ -21,9 +17,9 @@ list_inside-taken-requires-clause-room g c =
     let behind = place + (2 + h.width) in
     let head = head_fields place h.kind h.width in
     let inner : ValuePart → Option Group → List Field = λ part group. value_fields ctx part behind group h.value.now in
-    let later : Option Group → List Field = λ group. section_fields ctx section.AttributeFlags (behind + length h.value.now) group h.rest.now in
-    room_behind g.row.T.Denot g.T.Listed.told (section_fields ctx section.AttributeFlags c.args.at c.args.group c.args.octets.now)
-    (section_fields ctx section.AttributeFlags place c.attributes.holder c.attributes.left.now) head (inner c.attribute_value-part.result c.group_from-holder.result) (later c.group_from-holder.result)
+    let later : Option Group → List Field = λ group. section_fields ctx SectionPart.AttributeFlags (behind + length h.value.now) group h.rest.now in
+    room_behind g.row.T.Denot g.T.Listed.told (section_fields ctx SectionPart.AttributeFlags c.args.at c.args.group c.args.octets.now)
+    (section_fields ctx SectionPart.AttributeFlags place c.attributes.holder c.attributes.left.now) head (inner c.attribute_value-part.result c.group_from-holder.result) (later c.group_from-holder.result)
     c.args.count c.attributes.taken (c.attributes.taken + 3) c.args.list.now c.attributes.list c.list_head.new.list c.attributes.invariant.listing
     (attribute-next ctx place c.attributes.holder c.attributes.left.now h c.in-Some.ensures
     ∙ ap₂ (λ (part : ValuePart) (group : Option Group). head ++ (inner part group ++ later group)) (sym c.attribute_value-part.ensures) (sym c.group_from-holder.ensures))
@@ -37,11 +33,11 @@ attributes-preserved g c =
     let left = c.attributes.left.now in
     let behind = place + (2 + h.width) in
     let told = g.T.Listed.told in
-    let all = section_fields ctx section.AttributeFlags c.args.at c.args.group c.args.octets.now in
-    let now = section_fields ctx section.AttributeFlags place c.attributes.holder left in
+    let all = section_fields ctx SectionPart.AttributeFlags c.args.at c.args.group c.args.octets.now in
+    let now = section_fields ctx SectionPart.AttributeFlags place c.attributes.holder left in
     let head = head_fields place h.kind h.width in
     let inner : ValuePart → Option Group → List Field = λ part group. value_fields ctx part behind group h.value.now in
-    let later : Option Group → List Field = λ group. section_fields ctx section.AttributeFlags (behind + length h.value.now) group h.rest.now in
+    let later : Option Group → List Field = λ group. section_fields ctx SectionPart.AttributeFlags (behind + length h.value.now) group h.rest.now in
     let held = c.group_from-holder.result in
     let part = c.attribute_value-part.result in
     let is = attribute-next ctx place c.attributes.holder left h c.in-Some.ensures

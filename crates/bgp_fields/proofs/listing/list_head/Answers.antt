@@ -1,9 +1,5 @@
-use Rattle.std.proofs.Common.{ℕ, ◌+◌, List, [], ◌∷◌, Option, ap, ap₂, sym, ◌∙◌}
-use Rattle.bgp_fields.specs.declared.field.Field.{Field}
-use Rattle.bgp_fields.specs.declared.field.Group.{Group}
-use Rattle.bgp_fields.specs.declared.kind.FieldKind.{FieldKind}
-use Rattle.bgp_fields.specs.declared.kind.FieldKind.TheVariants.{AttributeFlags, AttributeType, AttributeLength}
-use Rattle.bgp_fields.specs.Prelude.{listed}
+use Rattle.bgp_fields.proofs.Prelude.{ℕ, ◌+◌, List, [], ◌∷◌, Option, ap, ap₂, sym, ◌∙◌, Field, Group, FieldKind, AttributeFlags, AttributeType}
+use Rattle.bgp_fields.proofs.Prelude.{AttributeLength, listed}
 use Rattle.bgp_fields.proofs.Listings.{listed-three}
 use Rattle.bgp_fields.proofs.listing.list_head.Goals as goal
 

@@ -1,18 +1,12 @@
-use Rattle.std.proofs.Common.{◌≡◌, ℕ, true, ◌==◌, List, [], length, map, Option, ap, sym, ◌∙◌, arith}
-use Rattle.bgp_open.specs.declared.context.Context.{Context}
-use Rattle.bgp_fields.specs.declared.field.Field.{Field}
-use Rattle.bgp_fields.specs.declared.field.Group.{Group}
-use Rattle.bgp_fields.specs.declared.kind.FieldKind.TheVariants.{Unread}
-use Rattle.bgp_fields.specs.declared.part.ValuePart.{ValuePart}
-use Rattle.bgp_fields.specs.Prelude.{no_fields, value_fields, value_plan, listed}
-use Rattle.bgp_fields.specs.declared.part.ValuePart.TheVariants as value
+use Rattle.bgp_fields.proofs.Prelude.{◌≡◌, ℕ, true, ◌==◌, List, [], length, map, Option, ap, sym, ◌∙◌, arith, Context, Field, Group, Unread, ValuePart}
+use Rattle.bgp_fields.proofs.Prelude.{no_fields, value_fields, value_plan, listed}
 use Rattle.bgp_fields.proofs.Walks.{walk-none}
 use Rattle.bgp_fields.proofs.Listings.{listed-none, none_left}
 use Rattle.bgp_fields.proofs.listing.list_inside.Goals as goal
 
 no-fields : (ctx : Context) (part : ValuePart) (at : ℕ) (group : Option Group) (b : List ℕ) → (length b == 0) ≡ true → value_fields ctx part at group b ≡ []
 no-fields ctx part at group b e =
-    ap (value_fields ctx part at group) (none_left b e) ∙ walk-none (Unit {0}) ValuePart (value.All Unread) (value_plan ctx) no_fields part at group
+    ap (value_fields ctx part at group) (none_left b e) ∙ walk-none (Unit {0}) ValuePart (ValuePart.All Unread) (value_plan ctx) no_fields part at group
 
 pub returns-then-is_empty-clause-list : goal.returns-then-is_empty-clause-list
 returns-then-is_empty-clause-list g c =

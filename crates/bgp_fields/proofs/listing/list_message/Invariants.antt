@@ -1,5 +1,4 @@
-use Rattle.std.proofs.Common.{◌≡◌, ◌≤◌, ◌+◌, length, None}
-use Rattle.bgp_fields.specs.Prelude.{message_fields}
+use Rattle.bgp_fields.proofs.Prelude.{◌≡◌, ◌≤◌, ◌+◌, length, None, message_fields}
 use Rattle.bgp_fields.proofs.Listings.{IsListing}
 use Rattle.bgp_fields.proofs.listing.list_message.Given as goal
 

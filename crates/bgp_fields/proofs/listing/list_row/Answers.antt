@@ -1,9 +1,5 @@
-use Rattle.bgp_wire.proofs.Std.{ℕ, ◌+◌, ◌≤◌, List, [], length, drop, ap, sym, ◌∙◌, arith, refl}
-use Rattle.std.proofs.lemmas.List.{append-nil, length-drop}
-use Rattle.bgp_fields.specs.declared.kind.FieldKind.TheVariants.{Unread}
-use Rattle.bgp_fields.specs.declared.part.ValuePart.{ValuePart}
-use Rattle.bgp_fields.specs.Prelude.{no_fields, value_fields, value_plan}
-use Rattle.bgp_fields.specs.declared.part.ValuePart.TheVariants as value
+use Rattle.bgp_fields.proofs.Prelude.{ℕ, ◌+◌, ◌≤◌, List, [], length, drop, ap, sym, ◌∙◌, arith, refl, append-nil, length-drop, Unread, ValuePart, no_fields}
+use Rattle.bgp_fields.proofs.Prelude.{value_fields, value_plan}
 use Rattle.bgp_fields.proofs.Walks.{walk-some}
 use Rattle.bgp_fields.proofs.Steps.{row-next}
 use Rattle.bgp_fields.proofs.Listings.{place_left, one_more, more, all_listed}
@@ -29,7 +25,7 @@ pub bounds-list-taken : goal.bounds-list-taken
 bounds-list-taken g c =
     place_left g.row.T.Denot g.T.Listed.told (value_fields c.args.ctx.now c.args.part c.args.first.at c.args.first.group c.args.octets.now)
     (value_fields c.args.ctx.now c.args.part c.row.at c.args.first.group c.row.left.now) c.args.count c.row.taken c.args.list.now c.row.list c.row.invariant.listing
-    (walk-some (Unit {0}) ValuePart (value.All Unread) (value_plan c.args.ctx.now) no_fields c.args.part c.row.at c.args.first.group c.row.left.now
+    (walk-some (Unit {0}) ValuePart (ValuePart.All Unread) (value_plan c.args.ctx.now) no_fields c.args.part c.row.at c.args.first.group c.row.left.now
     (omega (arith, c.row-test.true, c.from-width.ensures, c.requires.some)))
 
 pub returns : goal.returns

@@ -1,5 +1,4 @@
-use Rattle.std.proofs.Common.{◌≡◌, ◌≤◌, ◌+◌, length}
-use Rattle.bgp_fields.specs.Prelude.{value_fields}
+use Rattle.bgp_fields.proofs.Prelude.{◌≡◌, ◌≤◌, ◌+◌, length, value_fields}
 use Rattle.bgp_fields.proofs.Listings.{IsListing}
 use Rattle.bgp_fields.proofs.listing.list_row.Given as goal
 

@@ -1,19 +1,12 @@
-use Rattle.std.proofs.Common.{◌≡◌, ℕ, true, ◌==◌, List, [], length, map, Option, ap, sym, ◌∙◌, arith}
-use Rattle.bgp_open.specs.declared.context.Context.{Context}
-use Rattle.bgp_fields.specs.declared.field.Field.{Field}
-use Rattle.bgp_fields.specs.declared.field.Group.{Group}
-use Rattle.bgp_fields.specs.declared.kind.FieldKind.TheVariants.{Unread}
-use Rattle.bgp_fields.specs.declared.part.SectionPart.{SectionPart}
-use Rattle.bgp_fields.specs.declared.part.ValuePart.{ValuePart}
-use Rattle.bgp_fields.specs.Prelude.{value_fields, section_fields, section_plan, listed}
-use Rattle.bgp_fields.specs.declared.part.SectionPart.TheVariants as section
+use Rattle.bgp_fields.proofs.Prelude.{◌≡◌, ℕ, true, ◌==◌, List, [], length, map, Option, ap, sym, ◌∙◌, arith, Context, Field, Group, Unread, SectionPart}
+use Rattle.bgp_fields.proofs.Prelude.{ValuePart, value_fields, section_fields, section_plan, listed}
 use Rattle.bgp_fields.proofs.Walks.{walk-none}
 use Rattle.bgp_fields.proofs.Listings.{listed-none, none_left}
 use Rattle.bgp_fields.proofs.listing.list_section.Goals as goal
 
 no-fields : (ctx : Context) (part : SectionPart) (at : ℕ) (group : Option Group) (b : List ℕ) → (length b == 0) ≡ true → section_fields ctx part at group b ≡ []
 no-fields ctx part at group b e =
-    ap (section_fields ctx part at group) (none_left b e) ∙ walk-none ValuePart SectionPart (section.All Unread) (section_plan ctx) (value_fields ctx) part at group
+    ap (section_fields ctx part at group) (none_left b e) ∙ walk-none ValuePart SectionPart (SectionPart.All Unread) (section_plan ctx) (value_fields ctx) part at group
 
 pub returns-then-is_empty-clause-list : goal.returns-then-is_empty-clause-list
 returns-then-is_empty-clause-list g c =

@@ -1,8 +1,5 @@
-use Rattle.std.proofs.Common.{ℕ, ◌+◌, List, length, ap, sym, ◌∙◌, arith, length-drop, refl}
-use Rattle.bgp_fields.specs.declared.kind.FieldKind.TheVariants.{Unread}
-use Rattle.bgp_fields.specs.declared.part.ValuePart.{ValuePart}
-use Rattle.bgp_fields.specs.Prelude.{no_fields, value_fields, value_plan, Plan, fit, value_planned}
-use Rattle.bgp_fields.specs.declared.part.ValuePart.TheVariants as value
+use Rattle.bgp_fields.proofs.Prelude.{ℕ, ◌+◌, List, length, ap, sym, ◌∙◌, arith, length-drop, refl, Unread, ValuePart, no_fields, value_fields, value_plan}
+use Rattle.bgp_fields.proofs.Prelude.{Plan, fit, value_planned}
 use Rattle.bgp_fields.proofs.Walks.{walk-none, walk-some, fits-told}
 use Rattle.bgp_fields.proofs.Steps.{value-next}
 use Rattle.bgp_fields.proofs.Listings.{listing, place_left, one_more, all_listed, some_left, none_left}
@@ -24,8 +21,8 @@ value-preserved g c =
     let now = value_fields c.args.ctx.now c.value.next c.value.place c.value.holder left in
     let later = value_fields c.args.ctx.now p.next (c.value.place + p.len) c.group_from-holder.result rest in
     let some = some_left left (sym c.is_empty.ensures ∙ c.value-test.true) in
-    let e = c.fit-plan.ensures ∙ ap (λ (q : Plan (Unit {0}) ValuePart). fit (value.All Unread) q (length left)) c.value_plan.ensures in
-    let fits = fits-told (Unit {0}) ValuePart (value.All Unread) (value_plan c.args.ctx.now) no_fields c.value.next left (value_planned p) some e in
+    let e = c.fit-plan.ensures ∙ ap (λ (q : Plan (Unit {0}) ValuePart). fit (ValuePart.All Unread) q (length left)) c.value_plan.ensures in
+    let fits = fits-told (Unit {0}) ValuePart (ValuePart.All Unread) (value_plan c.args.ctx.now) no_fields c.value.next left (value_planned p) some e in
     let is = value-next c.args.ctx.now c.value.next c.value.place c.value.holder c.group_from-holder.result left rest p some e c.group_from-holder.ensures c.split_at.ensures.back in
     record {
       listing = one_more g.row.T.Denot g.T.Listed.told all now later _ c.args.count c.value.taken c.args.list.now c.value.list c.of.result c.value.invariant.listing is
@@ -41,12 +38,12 @@ returns g c =
     let done = all_listed g.row.T.Denot g.T.Listed.told (value_fields c.args.ctx.now c.args.part c.args.at c.args.group c.args.octets.now)
     (value_fields c.args.ctx.now c.value.next c.value.place c.value.holder left) c.args.count c.value.taken c.args.list.now c.value.list c.value.invariant.listing
     (ap (λ (b : List ℕ). value_fields c.args.ctx.now c.value.next c.value.place c.value.holder b) none
-    ∙ walk-none (Unit {0}) ValuePart (value.All Unread) (value_plan c.args.ctx.now) no_fields c.value.next c.value.place c.value.holder) in
+    ∙ walk-none (Unit {0}) ValuePart (ValuePart.All Unread) (value_plan c.args.ctx.now) no_fields c.value.next c.value.place c.value.holder) in
     record { list = done.0; count = done.1; few = omega (arith, c.value.invariant.few, c.value.invariant.ends) }
 
 pub bounds-list-taken : goal.bounds-list-taken
 bounds-list-taken g c =
     place_left g.row.T.Denot g.T.Listed.told (value_fields c.args.ctx.now c.args.part c.args.at c.args.group c.args.octets.now)
     (value_fields c.args.ctx.now c.value.next c.value.place c.value.holder c.value.left.now) c.args.count c.value.taken c.args.list.now c.value.list c.value.invariant.listing
-    (walk-some (Unit {0}) ValuePart (value.All Unread) (value_plan c.args.ctx.now) no_fields c.value.next c.value.place c.value.holder c.value.left.now
+    (walk-some (Unit {0}) ValuePart (ValuePart.All Unread) (value_plan c.args.ctx.now) no_fields c.value.next c.value.place c.value.holder c.value.left.now
     (some_left c.value.left.now (sym c.is_empty.ensures ∙ c.value-test.true)))

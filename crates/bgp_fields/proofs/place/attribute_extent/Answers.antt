@@ -1,5 +1,4 @@
-use Rattle.std.proofs.Common.{◌≤◌, length, sym, subst, ◌∙◌, ℕ}
-use Rattle.bgp_attr.specs.Prelude.{tlvs_left, placed_tlv}
+use Rattle.bgp_fields.proofs.Prelude.{◌≤◌, length, sym, subst, ◌∙◌, ℕ, tlvs_left, placed_tlv}
 use Rattle.bgp_fields.proofs.Extents.{extent-some, extent-none, extent-short}
 use Rattle.bgp_fields.proofs.place.attribute_extent.Goals as goal
 

@@ -1,5 +1,4 @@
-use Rattle.std.proofs.Common.{◌≡◌, ◌+◌, length}
-use Rattle.bgp_fields.specs.Prelude.{first_other}
+use Rattle.bgp_fields.proofs.Prelude.{◌≡◌, ◌+◌, length, first_other}
 use Rattle.bgp_fields.proofs.place.first_other.Given as goal
 
 abbrev pub invariant-marker : goal.invariant-marker

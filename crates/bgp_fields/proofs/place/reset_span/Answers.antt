@@ -1,7 +1,5 @@
-use Rattle.std.proofs.Common.{ap, ◌∙◌}
+use Rattle.bgp_fields.proofs.Prelude.{ap, ◌∙◌, message_in, reset_place}
 use Rattle.bgp_frame.specs.Frame as frame
-use Rattle.bgp_frame.specs.Prelude.{message_in}
-use Rattle.bgp_fields.specs.Prelude.{reset_place}
 use Rattle.bgp_fields.proofs.Fronts.{no-wait, no-wait-header, no-fault, no-fault-front, one-message}
 use Rattle.bgp_fields.proofs.place.reset_span.Goals as goal
 

@@ -1,7 +1,4 @@
-use Rattle.std.proofs.Common.{sym, ◌∙◌}
-use Rattle.bgp_open.specs.declared.capability.Capability.{Capability}
-use Rattle.bgp_open.specs.Prelude.{IsCapability, one_capability}
-use Rattle.bgp_open.proofs.Capabilities.{capability-reads}
+use Rattle.bgp_fields.proofs.Prelude.{sym, ◌∙◌, Capability, IsCapability, one_capability, capability-reads}
 use Rattle.bgp_fields.proofs.Leftovers.{rest-same, rest-shorter, rest-all}
 use Rattle.bgp_fields.proofs.rests.rest_of_capabilities.Goals as goal
 

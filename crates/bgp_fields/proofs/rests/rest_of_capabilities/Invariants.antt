@@ -1,6 +1,4 @@
-use Rattle.std.proofs.Common.{◌≡◌, length}
-use Rattle.bgp_wire.specs.Prelude.{pieces}
-use Rattle.bgp_open.specs.Prelude.{one_capability}
+use Rattle.bgp_fields.proofs.Prelude.{◌≡◌, length, pieces, one_capability}
 use Rattle.bgp_fields.proofs.rests.rest_of_capabilities.Given as goal
 
 -- the same is left

@@ -1,7 +1,4 @@
-use Rattle.std.proofs.Common.{List, sym, ◌∙◌, arith}
-use Rattle.bgp_open.specs.declared.capability.Capability.{Capability}
-use Rattle.bgp_open.specs.Prelude.{IsParameter, one_parameter}
-use Rattle.bgp_open.proofs.Parameters.{parameter-reads}
+use Rattle.bgp_fields.proofs.Prelude.{List, sym, ◌∙◌, arith, Capability, IsParameter, one_parameter, parameter-reads}
 use Rattle.bgp_fields.proofs.Leftovers.{rest-same, rest-shorter, rest-all}
 use Rattle.bgp_fields.proofs.rests.rest_of_parameters.Goals as goal
 

@@ -1,6 +1,4 @@
-use Rattle.std.proofs.Common.{sym, ◌∙◌}
-use Rattle.bgp_prefix.specs.Prelude.{PrefixValue, IsPrefix, one_prefix}
-use Rattle.bgp_prefix.proofs.PrefixLemmas.{IsPrefix-reads}
+use Rattle.bgp_fields.proofs.Prelude.{sym, ◌∙◌, PrefixValue, IsPrefix, one_prefix, IsPrefix-reads}
 use Rattle.bgp_fields.proofs.Leftovers.{rest-same, rest-shorter, rest-all}
 use Rattle.bgp_fields.proofs.rests.rest_of_run.Goals as goal
 

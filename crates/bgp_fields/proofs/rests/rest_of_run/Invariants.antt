@@ -1,5 +1,4 @@
-use Rattle.std.proofs.Common.{◌≡◌, length}
-use Rattle.bgp_prefix.specs.Prelude.{run_of}
+use Rattle.bgp_fields.proofs.Prelude.{◌≡◌, length, run_of}
 use Rattle.bgp_fields.proofs.rests.rest_of_run.Given as goal
 
 -- the same is left

@@ -1,6 +1,4 @@
-use Rattle.std.proofs.Common.{ap₂, ◌∙◌}
-use Rattle.bgp_frame.specs.declared.notification.Notification.{Notification}
-use Rattle.bgp_guard.specs.Prelude.{answered, sight_with}
+use Rattle.bgp_guard.proofs.Prelude.{ap₂, ◌∙◌, Notification, answered, sight_with}
 use Rattle.bgp_guard.proofs.answers.reject.Goals as goal
 
 pub returns-clause-after : goal.returns-clause-after

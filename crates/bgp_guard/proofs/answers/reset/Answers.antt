@@ -1,7 +1,4 @@
-use Rattle.std.proofs.Common.{ap, ◌∙◌}
-use Rattle.bgp_frame.specs.declared.notification.Notification.{Notification}
-use Rattle.bgp_frame.specs.Prelude.{notification_of_view}
-use Rattle.bgp_guard.specs.Prelude.{answered, sight_with}
+use Rattle.bgp_guard.proofs.Prelude.{ap, ◌∙◌, Notification, notification_of_view, answered, sight_with}
 use Rattle.bgp_guard.proofs.answers.reset.Goals as goal
 
 pub returns-clause-after : goal.returns-clause-after

@@ -1,6 +1,4 @@
-use Rattle.std.proofs.Common.{sym, subst}
-use Rattle.bgp_frame.specs.Prelude.{Waits}
-use Rattle.bgp_frame.proofs.Pulls.{nothing_waits}
+use Rattle.bgp_guard.proofs.Prelude.{sym, subst, Waits, nothing_waits}
 use Rattle.bgp_guard.proofs.events.close.Goals as goal
 
 pub returns-in-Runs-clause-waits : goal.returns-in-Runs-clause-waits

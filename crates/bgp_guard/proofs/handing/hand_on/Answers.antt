@@ -1,7 +1,4 @@
-use Rattle.bgp_wire.proofs.Std.{◌++◌, List, ℕ, length, refl, ap, ◌∙◌, arith}
-use Rattle.std.proofs.lemmas.List.{length-append}
-use Rattle.bgp_msg.specs.Prelude.{canonical}
-use Rattle.bgp_guard.specs.Prelude.{context_in, said_as, half_with, sight_with}
+use Rattle.bgp_guard.proofs.Prelude.{◌++◌, List, ℕ, length, refl, ap, ◌∙◌, arith, length-append, canonical, context_in, said_as, half_with, sight_with}
 use Rattle.bgp_guard.proofs.Sights.{handed, said-same, same_octets}
 use Rattle.bgp_guard.proofs.handing.hand_on.Goals as goal
 

@@ -1,10 +1,5 @@
-use Rattle.std.proofs.Common.{ℕ, List, Result, Ok, Err, sym, ap, subst, ◌∙◌}
-use Rattle.bgp_wire.specs.Prelude.{has_octet}
-use Rattle.bgp_frame.specs.Prelude.{message_in}
-use Rattle.bgp_open.specs.declared.context.Context.{Context}
-use Rattle.bgp_msg.specs.declared.message.Message.{Message}
-use Rattle.bgp_msg.specs.Prelude.{canonical}
-use Rattle.bgp_guard.specs.Prelude.{Answers, CameBy, IsHandedOn, context_in, done, said_as, sight_with}
+use Rattle.bgp_guard.proofs.Prelude.{ℕ, List, Result, Ok, Err, sym, ap, subst, ◌∙◌, has_octet, message_in, Context, Message, canonical, Answers, CameBy}
+use Rattle.bgp_guard.proofs.Prelude.{IsHandedOn, context_in, done, said_as, sight_with}
 use Rattle.bgp_guard.proofs.Passed.{passed_page, stopped}
 use Rattle.bgp_guard.proofs.Sights.{cleans_by}
 use Rattle.bgp_guard.proofs.handing.pass.Goals as goal

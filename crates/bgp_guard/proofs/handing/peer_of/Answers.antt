@@ -1,7 +1,4 @@
-use Rattle.bgp_wire.proofs.Std.{◌-◌, Some, length, drop, sym, ap, ◌∙◌, arith}
-use Rattle.std.proofs.lemmas.List.{length-drop, take_all}
-use Rattle.bgp_open.specs.Prelude.{reading_of, Said}
-use Rattle.bgp_guard.specs.Prelude.{said_in}
+use Rattle.bgp_guard.proofs.Prelude.{◌-◌, Some, length, drop, sym, ap, ◌∙◌, arith, length-drop, take_all, reading_of, Said, said_in}
 use Rattle.bgp_guard.proofs.handing.peer_of.Goals as goal
 
 pub returns-in-Ok : goal.returns-in-Ok

@@ -1,8 +1,5 @@
-use Rattle.std.proofs.Common.{◌≡◌, [], ap, sym, subst, ◌∙◌}
-use Rattle.bgp_frame.specs.Prelude.{notification_of_view, message_in}
-use Rattle.bgp_msg.specs.declared.outcome.Outcome.{Outcome}
-use Rattle.bgp_msg.specs.Prelude.{out_of}
-use Rattle.bgp_guard.specs.Prelude.{Answers, answered, reset_by, reject_both, IsAnswered, answers_to, sight_with}
+use Rattle.bgp_guard.proofs.Prelude.{◌≡◌, [], ap, sym, subst, ◌∙◌, notification_of_view, message_in, Outcome, out_of, Answers, answered, reset_by}
+use Rattle.bgp_guard.proofs.Prelude.{reject_both, IsAnswered, answers_to, sight_with}
 use Rattle.bgp_guard.proofs.Sights.{no_reset, over}
 use Rattle.bgp_guard.proofs.handing.refuse.Goals as goal
 

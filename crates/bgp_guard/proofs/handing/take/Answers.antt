@@ -1,7 +1,5 @@
-use Rattle.std.proofs.Common.{◌≡◌, ℕ, [], Option, Some, sym, ap, subst, ◌∙◌}
-use Rattle.bgp_frame.specs.declared.notification.Notification.{Notification}
-use Rattle.bgp_frame.specs.Prelude.{notification_of_view, message_in}
-use Rattle.bgp_guard.specs.Prelude.{answered, reset_by, CameBy, IsAnswered, done, placed, misplaced, sight_with}
+use Rattle.bgp_guard.proofs.Prelude.{◌≡◌, ℕ, [], Option, Some, sym, ap, subst, ◌∙◌, Notification, notification_of_view, message_in, answered, reset_by}
+use Rattle.bgp_guard.proofs.Prelude.{CameBy, IsAnswered, done, placed, misplaced, sight_with}
 use Rattle.bgp_guard.proofs.Sights.{over, no_room}
 use Rattle.bgp_guard.proofs.handing.take.Goals as goal
 

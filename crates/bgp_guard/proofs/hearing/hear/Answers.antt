@@ -1,5 +1,4 @@
-use Rattle.std.proofs.Common.{sym, ◌∙◌}
-use Rattle.bgp_guard.specs.Prelude.{sight_of}
+use Rattle.bgp_guard.proofs.Prelude.{sym, ◌∙◌, sight_of}
 use Rattle.bgp_guard.proofs.Fronts.{fed_is_heard}
 use Rattle.bgp_guard.proofs.hearing.hear.Goals as goal
 

@@ -1,10 +1,7 @@
-use Rattle.std.proofs.Common.{ℕ, [], List, Option, Result, sym, ap, subst, ◌∙◌}
-use Rattle.bgp_frame.specs.declared.fault.HeadFault.{HeadFault}
-use Rattle.bgp_frame.specs.Prelude.{Message, Waits, notification_of_view, message_in}
-use Rattle.bgp_frame.specs.declared.notification.Notification.{Notification}
-use Rattle.bgp_frame.proofs.Contents.{content_of-frame, content_of-fault}
-use Rattle.bgp_frame.proofs.Pulls.{nothing_waits}
-use Rattle.bgp_guard.specs.Prelude.{answered, reset_by, CameOf, IsAnswered, heard_as, holding, sight_of, sight_with}
+use Rattle.bgp_guard.proofs.Prelude.{ℕ, [], List, Option, Result, sym, ap, subst, ◌∙◌, HeadFault, Waits, notification_of_view, message_in, Notification}
+use Rattle.bgp_guard.proofs.Prelude.{content_of-frame, content_of-fault, nothing_waits, answered, reset_by, CameOf, IsAnswered, heard_as, holding, sight_of}
+use Rattle.bgp_guard.proofs.Prelude.{sight_with}
+use Rattle.bgp_frame.specs.Prelude.{Message}
 use Rattle.bgp_guard.proofs.Sights.{over, no_room}
 use Rattle.bgp_guard.proofs.hearing.settle.Goals as goal
 

@@ -1,4 +1,4 @@
-use Rattle.bgp_wire.proofs.Std.{◌+◌, List, ℕ, length, drop, ap, ◌∙◌, slice_range}
+use Rattle.bgp_guard.proofs.Prelude.{◌+◌, List, ℕ, length, drop, ap, ◌∙◌, slice_range}
 use Rattle.bgp_guard.proofs.Ranges.{written_behind}
 use Rattle.bgp_guard.proofs.way.put_in.Goals as goal
 

@@ -1,6 +1,4 @@
-use Rattle.std.proofs.Common.{[], ◌∷◌, ◌++◌, ◌∙◌, sym, ap, subst, List, Option, append_assoc}
-use Rattle.bgp_machine.specs.declared.action.Action.{Action}
-use Rattle.bgp_host.specs.Prelude.{Records, CarriesOut, Call, Tick, Notice}
+use Rattle.bgp_host.proofs.Prelude.{[], ◌∷◌, ◌++◌, ◌∙◌, sym, ap, subst, List, Option, append_assoc, Action, Records, CarriesOut, Call, Tick, Notice}
 use Rattle.bgp_host.proofs.Deeds.{carried_none, carried_next, all_done}
 use Rattle.bgp_host.proofs.acting.carry_out.Goals as goal
 

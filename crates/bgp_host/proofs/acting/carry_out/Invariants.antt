@@ -1,6 +1,4 @@
-use Rattle.std.proofs.Common.{◌≡◌, List, ◌++◌}
-use Rattle.bgp_machine.specs.declared.action.Action.{Action}
-use Rattle.bgp_host.specs.Prelude.{CarriesOut}
+use Rattle.bgp_host.proofs.Prelude.{◌≡◌, List, ◌++◌, Action, CarriesOut}
 use Rattle.bgp_host.proofs.acting.carry_out.Given as goal
 
 -- the actions so far were carried out

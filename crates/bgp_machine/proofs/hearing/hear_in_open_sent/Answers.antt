@@ -1,6 +1,4 @@
-use Rattle.std.proofs.Common.{sym, subst}
-use Rattle.bgp_frame.specs.declared.kind.Kind.{Kind}
-use Rattle.bgp_machine.specs.Prelude.{IsSaid}
+use Rattle.bgp_machine.proofs.Prelude.{sym, subst, Kind, IsSaid}
 use Rattle.bgp_machine.proofs.hearing.hear_in_open_sent.Goals as goal
 
 pub returns-in-Open-clause-said : goal.returns-in-Open-clause-said

@@ -1,7 +1,5 @@
-use Rattle.bgp_frame.specs.Prelude.{by_feed}
-use Rattle.bgp_machine.specs.Prelude.{hearer}
+use Rattle.bgp_machine.proofs.Prelude.{by_feed, hearer, feed_is_way, can_be_heard, can_feed}
 use Rattle.bgp_machine.proofs.Cuttings.{is_hearer}
-use Rattle.bgp_frame.proofs.Hearings.{feed_is_way, can_be_heard, can_feed}
 use Rattle.bgp_machine.proofs.laws.any_pieces_can_be_fed.Goals as goal
 
 pub returns : goal.returns

@@ -1,6 +1,5 @@
-use Rattle.bgp_machine.specs.Prelude.{by_pull, hearer}
+use Rattle.bgp_machine.proofs.Prelude.{by_pull, hearer, pull_is_way, can_be_heard, can_pull}
 use Rattle.bgp_machine.proofs.Cuttings.{is_hearer}
-use Rattle.bgp_frame.proofs.Hearings.{pull_is_way, can_be_heard, can_pull}
 use Rattle.bgp_machine.proofs.laws.any_pieces_can_be_pulled.Goals as goal
 
 pub returns : goal.returns

@@ -1,7 +1,5 @@
-use Rattle.bgp_frame.specs.Prelude.{by_feed}
-use Rattle.bgp_machine.specs.Prelude.{hearer}
+use Rattle.bgp_machine.proofs.Prelude.{by_feed, hearer, feed_is_way, runs_settle}
 use Rattle.bgp_machine.proofs.Cuttings.{is_hearer}
-use Rattle.bgp_frame.proofs.Hearings.{feed_is_way, runs_settle}
 use Rattle.bgp_machine.proofs.laws.cuts_do_as_octet_by_octet.Goals as goal
 
 pub returns : goal.returns

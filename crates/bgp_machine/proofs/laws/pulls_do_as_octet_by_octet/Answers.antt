@@ -1,6 +1,5 @@
-use Rattle.bgp_machine.specs.Prelude.{by_look, by_pull, hearer}
+use Rattle.bgp_machine.proofs.Prelude.{by_look, by_pull, hearer, pull_is_way, runs_settle}
 use Rattle.bgp_machine.proofs.Cuttings.{is_hearer, look_is_way}
-use Rattle.bgp_frame.proofs.Hearings.{pull_is_way, runs_settle}
 use Rattle.bgp_machine.proofs.laws.pulls_do_as_octet_by_octet.Goals as goal
 
 pub returns : goal.returns

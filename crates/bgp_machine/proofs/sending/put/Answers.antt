@@ -1,5 +1,5 @@
 -- What is valid isn't refused as not valid.
-use Rattle.std.proofs.Common.{Err, sym, ap, ◌∙◌}
+use Rattle.bgp_machine.proofs.Prelude.{Err, sym, ap, ◌∙◌}
 use Rattle.std.proofs.lemmas.Option.{none-some}
 use Rattle.bgp_machine.proofs.sending.put.Goals as goal
 

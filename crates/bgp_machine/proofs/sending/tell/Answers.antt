@@ -1,11 +1,7 @@
 -- What is told is valid as it is told.
-use Rattle.bgp_wire.proofs.Std.{◌≡◌, Bool, None, ◌++◌, sym, ap, subst, ◌∙◌, on_ok_weaker}
-use Rattle.std.specs.Result.{OnOk}
-use Rattle.bgp_update.specs.declared.update.Update.{Update}
-use Rattle.bgp_update.specs.Prelude.{invalid_of, HasUpdateRanges}
-use Rattle.bgp_msg.specs.declared.message.Message.TheVariants as message
+use Rattle.bgp_machine.proofs.Prelude.{◌≡◌, Bool, None, ◌++◌, sym, ap, subst, ◌∙◌, on_ok_weaker, OnOk, Update, invalid_of, HasUpdateRanges, told_with}
+use Rattle.bgp_msg.specs.declared.message.Message.{Message}
 use Rattle.bgp_msg.specs.Prelude.{canonical}
-use Rattle.bgp_machine.specs.Prelude.{told_with}
 use Rattle.bgp_machine.proofs.Sendings.{told_valid, told_narrow, told_narrow_valid}
 use Rattle.bgp_machine.proofs.Widened.{widened_ranges}
 use Rattle.bgp_machine.proofs.sending.tell.Goals as goal
@@ -18,7 +14,7 @@ narrow_update-requires c = told_narrow c.args.context.now c.args.update.now c.re
 
 pub returns-then-context-clause-ok : goal.returns-then-context-clause-ok
 returns-then-context-clause-ok c =
-    subst (λ (told : Update). OnOk c.put.result (c.put.new.out.items ≡ c.args.out.now.items ++ canonical c.args.context.now (message.Update told)))
+    subst (λ (told : Update). OnOk c.put.result (c.put.new.out.items ≡ c.args.out.now.items ++ canonical c.args.context.now (Message.Update told)))
     (ap (λ (as4 : Bool). told_with as4 c.args.update.now) (sym c.if-context.true)) c.put.ensures.ok
 
 pub put-requires-in-Ok : goal.put-requires-in-Ok
@@ -28,7 +24,7 @@ put-requires-in-Ok c =
 
 pub returns-in-Ok-clause-ok : goal.returns-in-Ok-clause-ok
 returns-in-Ok-clause-ok c =
-    subst (λ (told : Update). OnOk c.put-in-Ok.result (c.put-in-Ok.new.out.items ≡ c.args.out.now.items ++ canonical c.args.context.now (message.Update told)))
+    subst (λ (told : Update). OnOk c.put-in-Ok.result (c.put-in-Ok.new.out.items ≡ c.args.out.now.items ++ canonical c.args.context.now (Message.Update told)))
     (c.in-Ok.ensures ∙ ap (λ (as4 : Bool). told_with as4 c.args.update.now) (sym c.if-context.false)) c.put-in-Ok.ensures.ok
 
 pub returns-in-Ok-clause-ranges : goal.returns-in-Ok-clause-ranges

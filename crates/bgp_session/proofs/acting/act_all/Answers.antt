@@ -1,5 +1,4 @@
-use Rattle.std.proofs.Common.{sym, ap, ◌∙◌}
-use Rattle.bgp_session.specs.Prelude.{Pair, pair, all_acted}
+use Rattle.bgp_session.proofs.Prelude.{sym, ap, ◌∙◌, Pair, pair, all_acted}
 use Rattle.bgp_session.proofs.acting.act_all.Goals as goal
 
 pub actions-init : goal.actions-init

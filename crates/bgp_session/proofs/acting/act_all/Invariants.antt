@@ -1,5 +1,4 @@
-use Rattle.std.proofs.Common.{◌≡◌}
-use Rattle.bgp_session.specs.Prelude.{pair, all_acted}
+use Rattle.bgp_session.proofs.Prelude.{◌≡◌, pair, all_acted}
 use Rattle.bgp_session.proofs.acting.act_all.Given as goal
 
 -- what is left to be done is done on what the actions so far made

@@ -1,6 +1,4 @@
-use Rattle.std.proofs.Common.{◌≡◌}
-use Rattle.bgp_machine.specs.Prelude.{IsReady, weight}
-use Rattle.bgp_session.specs.Prelude.{fed_on, left_seen, pair, fed, observed, octets_seen}
+use Rattle.bgp_session.proofs.Prelude.{◌≡◌, IsReady, weight, fed_on, left_seen, pair, fed, observed, octets_seen}
 use Rattle.bgp_session.proofs.acting.feed.Given as goal
 
 -- what the piece does is what its rest does on what was made so far

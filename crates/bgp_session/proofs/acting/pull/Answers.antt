@@ -1,7 +1,5 @@
-use Rattle.std.proofs.Common.{◌≡◌, drop, sym, subst, arith}
-use Rattle.bgp_machine.specs.Prelude.{IsAtRest, IsReady}
+use Rattle.bgp_session.proofs.Prelude.{◌≡◌, drop, sym, subst, arith, IsAtRest, IsReady, fed_on, with_machine, FeedsOn, left_seen, End, Pair, pair, observed}
 use Rattle.bgp_session.specs.contracts.speaker.Speaker.{the_view}
-use Rattle.bgp_session.specs.Prelude.{fed_on, with_machine, FeedsOn, left_seen, End, Pair, pair, observed}
 use Rattle.bgp_session.proofs.Feeds.{acts_on, takes_more, ends_so}
 use Rattle.bgp_session.proofs.Sights.{context_copied, saw_step, saw_more, saw_none}
 use Rattle.bgp_session.proofs.acting.pull.Goals as goal

@@ -1,8 +1,6 @@
-use Rattle.bgp_wire.proofs.Std.{length, sym, ap, ◌∙◌, refl, arith}
-use Rattle.bgp_session.specs.Prelude.{delivers, trace}
+use Rattle.bgp_session.proofs.Prelude.{length, sym, ap, ◌∙◌, refl, arith, delivers, trace, length-drop}
 use Rattle.bgp_session.proofs.Plays.{delivers_first, goes_further, stops_there, ends_empty, ends_left}
 use Rattle.std.specs.Vec.{vec_len}
-use Rattle.std.proofs.lemmas.List.{length-drop}
 use Rattle.bgp_session.proofs.Plays.{some_left, none_left}
 use Rattle.bgp_session.proofs.playing.deliver.Goals as goal
 use Rattle.bgp_session.proofs.playing.deliver.Goals.{then-pieces-test+else-not-has_left, else-pieces-test}

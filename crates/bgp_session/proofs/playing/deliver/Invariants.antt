@@ -1,5 +1,4 @@
-use Rattle.std.proofs.Common.{◌≡◌, length}
-use Rattle.bgp_session.specs.Prelude.{Rests, Delivers, delivers, trace}
+use Rattle.bgp_session.proofs.Prelude.{◌≡◌, length, Rests, Delivers, delivers, trace}
 use Rattle.bgp_session.proofs.playing.deliver.Given as goal
 
 -- the pieces so far have passed, and the others are left

@@ -1,5 +1,4 @@
-use Rattle.std.proofs.Common.{Bool, sym, ap, ◌∙◌}
-use Rattle.bgp_session.specs.Prelude.{trace, can_join, joined_if, ran}
+use Rattle.bgp_session.proofs.Prelude.{Bool, sym, ap, ◌∙◌, trace, can_join, joined_if, ran}
 use Rattle.bgp_session.proofs.Plays.{plays_quietly, joins_asked}
 use Rattle.bgp_session.proofs.playing.join.Goals as goal
 

@@ -1,6 +1,5 @@
-use Rattle.std.proofs.Common.{refl}
+use Rattle.bgp_session.proofs.Prelude.{refl, trace}
 use Rattle.bgp_session.proofs.Resting.{on_ok}
-use Rattle.bgp_session.specs.Prelude.{trace}
 use Rattle.bgp_session.proofs.Plays.{grows_none, plays_cut}
 use Rattle.bgp_session.proofs.playing.play.Goals as goal
 

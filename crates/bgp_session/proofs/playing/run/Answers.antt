@@ -1,6 +1,4 @@
-use Rattle.std.proofs.Common.{[], arith, refl, sym, ap, subst, ◌∙◌}
-use Rattle.bgp_machine.proofs.Cuttings.{fresh_rests}
-use Rattle.bgp_session.specs.Prelude.{Rests, World, begins, ran, all_moved, trace}
+use Rattle.bgp_session.proofs.Prelude.{[], arith, refl, sym, ap, subst, ◌∙◌, fresh_rests, Rests, World, begins, ran, all_moved, trace}
 use Rattle.bgp_session.proofs.Plays.{plays_quietly, plays_next}
 use Rattle.bgp_session.proofs.Handed.{all_handed, all_observed}
 use Rattle.bgp_session.proofs.Ranges.{sends_next, all_sent}

@@ -1,5 +1,4 @@
-use Rattle.std.proofs.Common.{◌≡◌, take}
-use Rattle.bgp_session.specs.Prelude.{Rests, Plays, HaveSoFar, begins, all_moved, trace}
+use Rattle.bgp_session.proofs.Prelude.{◌≡◌, take, Rests, Plays, HaveSoFar, begins, all_moved, trace}
 use Rattle.bgp_session.proofs.playing.run.Given as goal
 
 -- the moves so far were played

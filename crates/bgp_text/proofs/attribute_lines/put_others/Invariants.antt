@@ -1,6 +1,4 @@
-use Rattle.bgp_wire.proofs.Std.{◌≡◌, ◌++◌, map, take, flat_map}
-use Rattle.std.specs.String.{string_bytes}
-use Rattle.bgp_attr.specs.Prelude.{opaque_value}
+use Rattle.bgp_text.proofs.Prelude.{◌≡◌, ◌++◌, map, take, flat_map, string_bytes, opaque_value}
 use Rattle.bgp_text.specs.AttributeLines.{opaque_line}
 use Rattle.bgp_text.proofs.attribute_lines.put_others.Given as goal
 

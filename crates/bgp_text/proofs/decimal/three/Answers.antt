@@ -1,4 +1,4 @@
-use Rattle.std.proofs.Common.{◌∷◌, []}
+use Rattle.bgp_text.proofs.Prelude.{◌∷◌, []}
 use Rattle.bgp_text.proofs.Decimals.{in_table}
 use Rattle.bgp_text.proofs.decimal.three.Goals as goal
 

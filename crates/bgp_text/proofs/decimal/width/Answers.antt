@@ -1,4 +1,4 @@
-use Rattle.std.proofs.Common.{sym}
+use Rattle.bgp_text.proofs.Prelude.{sym}
 use Rattle.bgp_text.proofs.Decimals.{one_long, two_long, three_long, last_one, last_two, last_three}
 use Rattle.bgp_text.proofs.decimal.width.Goals as goal
 

@@ -1,4 +1,4 @@
-use Rattle.std.proofs.Common.{◌≡◌, ◌+◌, ◌-◌, drop, ◌∙◌, arith, append_assoc}
+use Rattle.bgp_text.proofs.Prelude.{◌≡◌, ◌+◌, ◌-◌, drop, ◌∙◌, arith, append_assoc}
 use Rattle.bgp_text.proofs.Decimals.{behind_thousands, longer_by_three, own_digits}
 use Rattle.bgp_text.proofs.decimal.write_digits.Goals as goal
 

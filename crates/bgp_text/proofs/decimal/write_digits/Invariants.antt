@@ -1,5 +1,4 @@
-use Rattle.std.proofs.Common.{◌≡◌, ◌+◌, ◌≤◌, ◌++◌, length, drop}
-use Rattle.std.specs.Fmt.{decimal}
+use Rattle.bgp_text.proofs.Prelude.{◌≡◌, ◌+◌, ◌≤◌, ◌++◌, length, drop, decimal}
 use Rattle.bgp_text.proofs.decimal.write_digits.Given as goal
 
 abbrev pub invariant-groups : goal.invariant-groups

@@ -1,4 +1,4 @@
-use Rattle.std.proofs.Common.{arith}
+use Rattle.bgp_text.proofs.Prelude.{arith}
 use Rattle.bgp_text.proofs.Decimals.{three_written}
 use Rattle.bgp_text.proofs.decimal.write_three.Goals as goal
 

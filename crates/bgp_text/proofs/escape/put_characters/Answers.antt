@@ -1,5 +1,5 @@
-use Rattle.std.proofs.Common.{sym, ◌∙◌, append_assoc, append-nil}
-use Rattle.std.proofs.lemmas.Str.{IsUtf8-past_char, chars_past_char}
+use Rattle.bgp_text.proofs.Prelude.{sym, ◌∙◌, append_assoc, IsUtf8-past_char, chars_past_char}
+use Rattle.std.proofs.Common.{append-nil}
 use Rattle.bgp_text.proofs.Escapes.{no_characters}
 use Rattle.bgp_text.proofs.escape.put_characters.Goals as goal
 

@@ -1,4 +1,4 @@
-use Rattle.bgp_wire.proofs.Std.{◌≡◌, ◌++◌, IsUtf8, chars, string_bytes, flat_map}
+use Rattle.bgp_text.proofs.Prelude.{◌≡◌, ◌++◌, IsUtf8, chars, string_bytes, flat_map}
 use Rattle.std.specs.Str.Iter.{chars_rest}
 use Rattle.bgp_text.specs.Escape.{escaped}
 use Rattle.bgp_text.proofs.escape.put_characters.Given as goal

@@ -1,8 +1,5 @@
-use Rattle.bgp_wire.proofs.Std.{◌≡◌, ◌++◌, length, flat_map}
-use Rattle.std.specs.String.{string_bytes}
+use Rattle.bgp_text.proofs.Prelude.{◌≡◌, ◌++◌, length, flat_map, string_bytes, fields_left, faulty_line}
 use Rattle.bgp_frame.specs.Prelude.{notification_of_view}
-use Rattle.bgp_fields.specs.Prelude.{fields_left}
-use Rattle.bgp_text.specs.FieldLines.{faulty_line}
 use Rattle.bgp_text.proofs.field_lines.put_faulty_fields.Given as goal
 
 abbrev pub invariant-fields : goal.invariant-fields

@@ -1,9 +1,4 @@
-use Rattle.bgp_wire.proofs.Std.{◌≡◌, ◌++◌, length}
-use Rattle.std.specs.String.{string_bytes}
-use Rattle.bgp_update.specs.Prelude.{notes_left}
-use Rattle.bgp_fields.specs.Prelude.{fields_left}
-use Rattle.bgp_text.specs.FieldLines.{noted_lines}
-use Rattle.bgp_text.specs.steps.Rows.{noting_lines}
+use Rattle.bgp_text.proofs.Prelude.{◌≡◌, ◌++◌, length, string_bytes, notes_left, fields_left, noted_lines, noting_lines}
 use Rattle.bgp_text.proofs.field_lines.put_noted_fields.Given as goal
 
 abbrev pub invariant-fields : goal.invariant-fields

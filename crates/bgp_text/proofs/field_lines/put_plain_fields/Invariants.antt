@@ -1,7 +1,4 @@
-use Rattle.bgp_wire.proofs.Std.{◌≡◌, ◌++◌, length, flat_map}
-use Rattle.std.specs.String.{string_bytes}
-use Rattle.bgp_fields.specs.Prelude.{fields_left}
-use Rattle.bgp_text.specs.steps.Rows.{plain_line}
+use Rattle.bgp_text.proofs.Prelude.{◌≡◌, ◌++◌, length, flat_map, string_bytes, fields_left, plain_line}
 use Rattle.bgp_text.proofs.field_lines.put_plain_fields.Given as goal
 
 abbrev pub invariant-fields : goal.invariant-fields

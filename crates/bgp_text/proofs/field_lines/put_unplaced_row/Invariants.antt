@@ -1,8 +1,4 @@
-use Rattle.bgp_wire.proofs.Std.{◌≡◌, ◌++◌, length, flat_map}
-use Rattle.std.specs.String.{string_bytes}
-use Rattle.bgp_update.specs.Prelude.{notes_left}
-use Rattle.bgp_text.specs.FieldLines.{unplaced_line}
-use Rattle.bgp_text.specs.steps.Rows.{row_of}
+use Rattle.bgp_text.proofs.Prelude.{◌≡◌, ◌++◌, length, flat_map, string_bytes, notes_left, unplaced_line, row_of}
 use Rattle.bgp_text.proofs.field_lines.put_unplaced_row.Given as goal
 
 abbrev pub invariant-row : goal.invariant-row

@@ -1,5 +1,4 @@
-use Rattle.bgp_wire.proofs.Std.{◌≡◌, ◌++◌, codes, length, flat_map}
-use Rattle.std.specs.String.{string_bytes}
+use Rattle.bgp_text.proofs.Prelude.{◌≡◌, ◌++◌, codes, length, flat_map, string_bytes}
 use Rattle.bgp_text.proofs.field_values.put_each.Given as goal
 
 -- the values so far, and those still to come, are all

@@ -1,6 +1,4 @@
-use Rattle.bgp_wire.proofs.Std.{◌≡◌, ◌++◌, take, flat_map}
-use Rattle.std.specs.String.{string_bytes}
-use Rattle.bgp_prefix.specs.Prelude.{hex_octet}
+use Rattle.bgp_text.proofs.Prelude.{◌≡◌, ◌++◌, take, flat_map, string_bytes, hex_octet}
 use Rattle.bgp_text.proofs.json.put_digits.Given as goal
 
 -- the text so far has the digits of the octets so far

@@ -1,6 +1,4 @@
-use Rattle.bgp_wire.proofs.Std.{◌≡◌, ◌++◌, length, flat_map}
-use Rattle.std.specs.String.{string_bytes}
-use Rattle.bgp_text.specs.Json.{behind_comma}
+use Rattle.bgp_text.proofs.Prelude.{◌≡◌, ◌++◌, length, flat_map, string_bytes, behind_comma}
 use Rattle.bgp_text.proofs.json_list.put_further.Given as goal
 
 -- the text so far, and that of the values still to come, are all

@@ -1,6 +1,4 @@
-use Rattle.bgp_wire.proofs.Std.{◌≡◌, ◌++◌, List, OnOk, subst}
-use Rattle.std.specs.String.{string_bytes}
-use Rattle.bgp_update.specs.declared.note.Note.{Note}
+use Rattle.bgp_text.proofs.Prelude.{◌≡◌, ◌++◌, List, OnOk, subst, string_bytes, Note}
 use Rattle.bgp_text.specs.JsonNotes.{notes_member}
 use Rattle.bgp_text.proofs.json_notes.put_notes_member.Goals as goal
 

@@ -1,7 +1,4 @@
-use Rattle.bgp_wire.proofs.Std.{◌≡◌, ◌++◌, ℕ, List, OnOk, subst, ap, ◌∙◌, append_assoc, codes}
-use Rattle.std.specs.String.{string_bytes}
-use Rattle.bgp_text.specs.Json.{named, listed}
-use Rattle.bgp_text.specs.JsonOpen.{capability_json}
+use Rattle.bgp_text.proofs.Prelude.{◌≡◌, ◌++◌, ℕ, List, OnOk, subst, ap, ◌∙◌, append_assoc, codes, string_bytes, named, listed, capability_json}
 use Rattle.bgp_text.proofs.json_open.put_capabilities_member.Goals as goal
 
 pub returns : goal.returns

@@ -1,7 +1,4 @@
-use Rattle.bgp_wire.proofs.Std.{◌≡◌, ◌++◌, take, flat_map}
-use Rattle.std.specs.String.{string_bytes}
-use Rattle.bgp_text.specs.Json.{behind_comma}
-use Rattle.bgp_text.specs.JsonOpen.{capability_json}
+use Rattle.bgp_text.proofs.Prelude.{◌≡◌, ◌++◌, take, flat_map, string_bytes, behind_comma, capability_json}
 use Rattle.bgp_text.proofs.json_open.put_further_capabilities.Given as goal
 
 -- the text so far has the capabilities so far

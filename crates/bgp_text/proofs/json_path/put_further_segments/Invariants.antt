@@ -1,7 +1,4 @@
-use Rattle.bgp_wire.proofs.Std.{◌≡◌, ◌++◌, flat_map}
-use Rattle.std.specs.String.{string_bytes}
-use Rattle.bgp_attr.specs.Prelude.{segments_left}
-use Rattle.bgp_text.specs.Json.{behind_comma}
+use Rattle.bgp_text.proofs.Prelude.{◌≡◌, ◌++◌, flat_map, string_bytes, segments_left, behind_comma}
 use Rattle.bgp_text.specs.JsonPath.{segment_json}
 use Rattle.bgp_text.proofs.json_path.put_further_segments.Given as goal
 

@@ -1,7 +1,5 @@
-use Rattle.bgp_wire.proofs.Std.{◌≡◌, ◌++◌, ℕ, List, [], OnOk, subst, ap, sym, ◌∙◌, append_assoc, flat_map}
-use Rattle.std.specs.String.{string_bytes}
-use Rattle.bgp_prefix.specs.Prelude.{PrefixValue}
-use Rattle.bgp_text.specs.Json.{behind_comma, joined}
+use Rattle.bgp_text.proofs.Prelude.{◌≡◌, ◌++◌, ℕ, List, [], OnOk, subst, ap, sym, ◌∙◌, append_assoc, flat_map, string_bytes, PrefixValue, behind_comma}
+use Rattle.bgp_text.proofs.Prelude.{joined}
 use Rattle.bgp_text.specs.JsonAddress.{prefix4_json, prefix6_json}
 use Rattle.bgp_text.proofs.JsonLists.{joined_second, joined_both}
 use Rattle.bgp_text.proofs.json_update.put_joined_routes.Goals as goal

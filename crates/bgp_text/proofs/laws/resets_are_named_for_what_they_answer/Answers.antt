@@ -1,4 +1,4 @@
-use Rattle.std.proofs.Common.{ap}
+use Rattle.bgp_text.proofs.Prelude.{ap}
 use Rattle.bgp_text.specs.Outcome.{reset_name}
 use Rattle.bgp_text.proofs.ResetCodes.{update_resets}
 use Rattle.bgp_text.proofs.laws.resets_are_named_for_what_they_answer.Goals as goal

@@ -1,7 +1,4 @@
-use Rattle.bgp_wire.proofs.Std.{◌≡◌, ℕ, List, OnOk, subst, flat_map}
-use Rattle.std.specs.String.{string_bytes}
-use Rattle.bgp_update.specs.Prelude.{known_value, slot}
-use Rattle.bgp_text.specs.Members.{printed_attributes}
+use Rattle.bgp_text.proofs.Prelude.{◌≡◌, ℕ, List, OnOk, subst, flat_map, string_bytes, known_value, slot, printed_attributes}
 use Rattle.bgp_text.proofs.PrintedSlots.{all_slots}
 use Rattle.bgp_text.proofs.members.put_attributes.Goals as goal
 

@@ -1,10 +1,6 @@
-use Rattle.bgp_wire.proofs.Std.{◌≡◌, ◌++◌, List, ℕ, OnOk, subst, map, append_assoc}
-use Rattle.std.specs.String.{string_bytes}
-use Rattle.bgp_attr.specs.Prelude.{opaque_value}
-use Rattle.bgp_prefix.specs.Prelude.{prefixes_left}
-use Rattle.bgp_update.specs.Prelude.{known_value, update_value}
+use Rattle.bgp_text.proofs.Prelude.{◌≡◌, ◌++◌, List, ℕ, OnOk, subst, map, append_assoc, string_bytes, opaque_value, prefixes_left, known_value, update_value}
+use Rattle.bgp_text.proofs.Prelude.{Shown, printed, printed_attributes}
 use Rattle.bgp_update.specs.declared.update.Update.{Update}
-use Rattle.bgp_text.specs.Members.{Shown, printed, printed_attributes}
 use Rattle.bgp_text.proofs.PrintedSlots.{known_printed}
 use Rattle.bgp_text.proofs.members.put_members.Goals as goal
 

@@ -1,6 +1,4 @@
-use Rattle.bgp_wire.proofs.Std.{◌≡◌, ◌++◌, flat_map}
-use Rattle.std.specs.String.{string_bytes}
-use Rattle.bgp_update.specs.Prelude.{notes_left, notes_value}
+use Rattle.bgp_text.proofs.Prelude.{◌≡◌, ◌++◌, flat_map, string_bytes, notes_left, notes_value}
 use Rattle.bgp_text.specs.NoteLines.{note_line}
 use Rattle.bgp_text.proofs.note_lines.put_notes.Given as goal
 

@@ -1,5 +1,4 @@
-use Rattle.bgp_wire.proofs.Std.{◌≡◌, ◌++◌, take, flat_map}
-use Rattle.std.specs.String.{string_bytes}
+use Rattle.bgp_text.proofs.Prelude.{◌≡◌, ◌++◌, take, flat_map, string_bytes}
 use Rattle.bgp_text.specs.OpenLines.{capability_line}
 use Rattle.bgp_text.proofs.open_lines.put_capabilities.Given as goal
 

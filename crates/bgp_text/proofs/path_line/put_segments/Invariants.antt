@@ -1,6 +1,4 @@
-use Rattle.bgp_wire.proofs.Std.{◌≡◌, ◌++◌, flat_map}
-use Rattle.std.specs.String.{string_bytes}
-use Rattle.bgp_attr.specs.Prelude.{segments_left}
+use Rattle.bgp_text.proofs.Prelude.{◌≡◌, ◌++◌, flat_map, string_bytes, segments_left}
 use Rattle.bgp_text.specs.PathLine.{segment_text}
 use Rattle.bgp_text.proofs.path_line.put_segments.Given as goal
 

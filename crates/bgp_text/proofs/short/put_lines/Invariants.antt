@@ -1,5 +1,4 @@
-use Rattle.bgp_wire.proofs.Std.{◌≡◌, ◌++◌, length, flat_map}
-use Rattle.std.specs.String.{string_bytes}
+use Rattle.bgp_text.proofs.Prelude.{◌≡◌, ◌++◌, length, flat_map, string_bytes}
 use Rattle.bgp_text.specs.Lines.{line_of}
 use Rattle.bgp_text.proofs.short.put_lines.Given as goal
 

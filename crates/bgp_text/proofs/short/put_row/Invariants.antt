@@ -1,5 +1,4 @@
-use Rattle.bgp_wire.proofs.Std.{◌≡◌, ◌++◌, length, flat_map}
-use Rattle.std.specs.String.{string_bytes}
+use Rattle.bgp_text.proofs.Prelude.{◌≡◌, ◌++◌, length, flat_map, string_bytes}
 use Rattle.bgp_text.proofs.short.put_row.Given as goal
 
 -- the text so far, and that of the values still to come, are all

@@ -1,6 +1,4 @@
-use Rattle.bgp_wire.proofs.Std.{Bool, ◌||◌, ap, ◌∙◌, IfOk-weaker}
-use Rattle.std.proofs.Math.Bool.{or-false}
-use Rattle.clap.specs.declared.builder.command.Command.TheViews.{out-Command}
+use Rattle.bgp_words.proofs.Prelude.{Bool, ◌||◌, ap, ◌∙◌, IfOk-weaker, or-false, out-Command}
 use Rattle.bgp_words.proofs.commands.with_flag.Goals as goal
 
 pub returns-clause-local : goal.returns-clause-local

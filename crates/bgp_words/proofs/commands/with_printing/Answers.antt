@@ -1,6 +1,4 @@
-use Rattle.bgp_wire.proofs.Std.{codes, ap, ◌∙◌, IfOk-weaker}
-use Rattle.clap.specs.Words.{App}
-use Rattle.bgp_words.specs.CommandLine.{with_flag}
+use Rattle.bgp_words.proofs.Prelude.{codes, ap, ◌∙◌, IfOk-weaker, App, with_flag}
 use Rattle.bgp_words.proofs.commands.with_printing.Goals as goal
 
 pub returns-clause-shape : goal.returns-clause-shape

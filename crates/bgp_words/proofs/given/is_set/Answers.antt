@@ -1,5 +1,4 @@
-use Rattle.std.proofs.Common.{ap, ◌∙◌}
-use Rattle.bgp_words.specs.CommandLine.{is_true}
+use Rattle.bgp_words.proofs.Prelude.{ap, ◌∙◌, is_true}
 use Rattle.bgp_words.proofs.given.is_set.Goals as goal
 
 pub returns-in-Some : goal.returns-in-Some

@@ -1,5 +1,4 @@
-use Rattle.std.proofs.Common.{◌∙◌}
-use Rattle.clap.specs.Words.{found_of}
+use Rattle.bgp_words.proofs.Prelude.{◌∙◌, found_of}
 use Rattle.clap.proofs.WalkLemmas.{first_value-rows}
 use Rattle.bgp_words.proofs.given.value_of.Goals as goal
 

@@ -1,5 +1,4 @@
-use Rattle.clap.specs.Words.{subcommand_of}
-use Rattle.bgp_words.specs.CommandLine.{bgp_command}
+use Rattle.bgp_words.proofs.Prelude.{subcommand_of, bgp_command}
 use Rattle.bgp_words.proofs.LeftOut.{are_unrecognised}
 use Rattle.bgp_words.proofs.laws.nothing_recognised_is_left_out.Goals as goal
 

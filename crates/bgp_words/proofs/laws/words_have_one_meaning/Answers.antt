@@ -1,5 +1,4 @@
-use Rattle.std.proofs.Common.{refl}
-use Rattle.clap.proofs.OnLiterals.{clap_on_literals}
+use Rattle.bgp_words.proofs.Prelude.{refl, clap_on_literals}
 use Rattle.bgp_words.proofs.laws.words_have_one_meaning.Goals as goal
 
 pub returns-clause-show : goal.returns-clause-show

@@ -1,6 +1,4 @@
-use Rattle.std.proofs.Common.{codes, Option, ap, ◌∙◌}
-use Rattle.clap.specs.Words.{Text, first_of, found_of, rows_of}
-use Rattle.bgp_words.specs.CommandLine.{first_file, text_or_empty}
+use Rattle.bgp_words.proofs.Prelude.{codes, Option, ap, ◌∙◌, Text, first_of, found_of, rows_of, first_file, text_or_empty}
 use Rattle.bgp_words.proofs.request.file_of.Goals as goal
 
 pub returns-in-Some : goal.returns-in-Some

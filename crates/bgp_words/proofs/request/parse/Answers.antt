@@ -1,6 +1,5 @@
-use Rattle.bgp_wire.proofs.Std.{◌≡◌, map, List, [], sym, ap, subst, ◌∙◌, IfOk-weaker, err_from_is_err_and}
-use Rattle.clap.specs.Words.{App, FailsBy, HasKind, Kinds, Text, app_of, fault_of, found_of, rows_of, is_simple, is_simple_and_free, subcommand_of, subcommand_rows_of}
-use Rattle.bgp_words.specs.CommandLine.{bgp_command, kinds_of}
+use Rattle.bgp_words.proofs.Prelude.{◌≡◌, map, List, [], sym, ap, subst, ◌∙◌, IfOk-weaker, err_from_is_err_and, App, FailsBy, HasKind, Kinds, Text, app_of}
+use Rattle.bgp_words.proofs.Prelude.{fault_of, found_of, rows_of, is_simple, is_simple_and_free, subcommand_of, subcommand_rows_of, bgp_command, kinds_of}
 use Rattle.bgp_words.proofs.Flags.{asks_behind, fails_behind, found_both, has_kind-first, name-rows}
 use Rattle.bgp_words.proofs.CommandLines.{bgp_command-is_simple, bgp_command-is_free}
 use Rattle.bgp_words.proofs.request.parse.Goals as goal

@@ -1,5 +1,4 @@
-use Rattle.std.proofs.Common.{ap}
-use Rattle.bgp_words.specs.CommandLine.{text_or_empty}
+use Rattle.bgp_words.proofs.Prelude.{ap, text_or_empty}
 use Rattle.bgp_words.proofs.request.script_of.Goals as goal
 
 pub returns-in-Some : goal.returns-in-Some

@@ -1,8 +1,6 @@
-use Rattle.std.proofs.Common.{Option, ap, ◌∙◌}
-use Rattle.clap.specs.Words.{Text, found_of, rows_of}
+use Rattle.bgp_words.proofs.Prelude.{Option, ap, ◌∙◌, Text, found_of, rows_of, context_of, session_by}
 use Rattle.bgp_open.specs.declared.context.Context.{Context}
 use Rattle.bgp_words.specs.declared.request.Session.TheVariants.{Flags}
-use Rattle.bgp_words.specs.CommandLine.{context_of, session_by}
 use Rattle.bgp_words.proofs.request.session_of.Goals as goal
 
 pub returns-in-Some : goal.returns-in-Some

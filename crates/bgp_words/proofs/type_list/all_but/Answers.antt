@@ -1,4 +1,4 @@
-use Rattle.bgp_wire.specs.Prelude.{has_octet}
+use Rattle.bgp_words.proofs.Prelude.{has_octet}
 use Rattle.bgp_words.proofs.TypeLists.{others}
 use Rattle.bgp_words.proofs.type_list.all_but.Goals as goal
 

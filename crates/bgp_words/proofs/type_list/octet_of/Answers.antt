@@ -1,5 +1,4 @@
-use Rattle.bgp_wire.proofs.Std.{lit<, sym, ◌∙◌}
-use Rattle.std.proofs.lemmas.Bool.{true≢false}
+use Rattle.bgp_words.proofs.Prelude.{lit<, sym, ◌∙◌, true≢false}
 use Rattle.std.proofs.lemmas.Str.Pattern.{starts_char}
 use Rattle.bgp_words.proofs.TypeLists.{parsed}
 use Rattle.bgp_words.proofs.type_list.octet_of.Goals as goal

@@ -1,6 +1,4 @@
-use Rattle.std.proofs.Common.{◌≡◌, map, drop}
-use Rattle.bgp_wire.specs.Prelude.{has_octet}
-use Rattle.bgp_words.specs.TypeList.{types_behind, types_of}
+use Rattle.bgp_words.proofs.Prelude.{◌≡◌, map, drop, has_octet, types_behind, types_of}
 use Rattle.bgp_words.proofs.type_list.types_of.Given as goal
 
 -- the types so far, with those of the words that are left, are those of the list

@@ -1,5 +1,4 @@
-use Rattle.std.proofs.Common.{arith}
-use Rattle.bgp_wire.specs.Prelude.{has_octet}
+use Rattle.ristulva_c.proofs.Below.{arith, has_octet}
 use Rattle.ristulva_c.proofs.RisingSteps.{all_there}
 use Rattle.ristulva_c.proofs.agreed.rising.Goals as goal
 

@@ -1,5 +1,4 @@
-use Rattle.std.proofs.Common.{◌≡◌}
-use Rattle.bgp_wire.specs.Prelude.{has_octet}
+use Rattle.ristulva_c.proofs.Below.{◌≡◌, has_octet}
 use Rattle.ristulva_c.proofs.RisingSteps.{below}
 use Rattle.ristulva_c.proofs.agreed.rising.Given as goal
 

@@ -1,7 +1,4 @@
-use Rattle.bgp_wire.proofs.Std.{◌-◌, length, inr, refl, sym, ap, subst, ◌∙◌, leb-false}
-use Rattle.bgp_update.specs.Prelude.{parts_of}
-use Rattle.bgp_msg.specs.Prelude.{is_reset}
-use Rattle.bgp_msg.specs.declared.outcome.Outcome.{Outcome}
+use Rattle.ristulva_c.proofs.Below.{◌-◌, length, inr, refl, sym, ap, subst, ◌∙◌, leb-false, parts_of, is_reset, Outcome}
 use Rattle.ristulva_c.proofs.batch.take_frame.Goals as goal
 
 pub returns-then-not-fit : goal.returns-then-not-fit

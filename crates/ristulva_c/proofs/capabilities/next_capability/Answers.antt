@@ -1,5 +1,4 @@
-use Rattle.std.proofs.Common.{◌≡◌, None, sym, ap, subst, ◌∙◌, arith}
-use Rattle.bgp_open.specs.Prelude.{one_capability, one_parameter}
+use Rattle.ristulva_c.proofs.Below.{◌≡◌, None, sym, ap, subst, ◌∙◌, arith, one_capability, one_parameter}
 use Rattle.ristulva_c.specs.declared.capabilities.Capabilities.{Capabilities}
 use Rattle.ristulva_c.specs.Prelude.{IsCapabilities, capabilities_left, between}
 use Rattle.ristulva_c.proofs.CapabilitySteps.{given_before, later_fits, none_left, passes}

@@ -1,5 +1,4 @@
-use Rattle.std.proofs.Common.{◌≡◌, drop}
-use Rattle.bgp_wire.specs.Prelude.{has_octet}
+use Rattle.ristulva_c.proofs.Below.{◌≡◌, drop, has_octet}
 use Rattle.ristulva_c.specs.Prelude.{types_in, with_types}
 use Rattle.ristulva_c.proofs.cleaning.set_of.Given as goal
 

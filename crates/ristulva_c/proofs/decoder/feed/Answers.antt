@@ -1,6 +1,4 @@
-use Rattle.std.proofs.Common.{◌≡◌, List, ℕ, false, Some, refl, ap, subst, ◌∙◌, inl, inr}
-use Rattle.bgp_frame.specs.Prelude.{Waits}
-use Rattle.bgp_msg.specs.Prelude.{Decoding, holding}
+use Rattle.ristulva_c.proofs.Below.{◌≡◌, List, ℕ, false, Some, refl, ap, subst, ◌∙◌, inl, inr, Waits, Decoding, holding}
 use Rattle.ristulva_c.proofs.Pulled.{waits, all_fed}
 use Rattle.ristulva_c.proofs.decoder.feed.Goals as goal
 

@@ -1,8 +1,4 @@
-use Rattle.std.proofs.Common.{◌≡◌, ℕ, List, ◌++◌, take, sym, ap, subst, ◌∙◌, false}
-use Rattle.bgp_frame.specs.declared.notification.Notification.{Notification}
-use Rattle.bgp_frame.specs.Prelude.{notification_of_view}
-use Rattle.bgp_msg.specs.declared.outcome.Outcome.{Outcome}
-use Rattle.bgp_msg.specs.Prelude.{behind, of_fault, is_reset, outcome_value}
+use Rattle.ristulva_c.proofs.Below.{◌≡◌, ℕ, List, ◌++◌, take, sym, ap, subst, ◌∙◌, false, Notification, notification_of_view, Outcome, behind, of_fault, is_reset, outcome_value}
 use Rattle.bgp_msg.specs.declared.outcome.Outcome.TheVariants as outcome
 use Rattle.ristulva_c.specs.declared.status.TheConstants.{OK}
 use Rattle.ristulva_c.specs.Prelude.{GivesHeld, IsWholeTold, Judging}

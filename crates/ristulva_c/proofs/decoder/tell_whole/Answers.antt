@@ -1,8 +1,5 @@
-use Rattle.std.proofs.Common.{◌≡◌, ℕ, false, None, Ok, Err, ap, subst, ◌∙◌, refl, length}
+use Rattle.ristulva_c.proofs.Below.{◌≡◌, ℕ, false, None, Ok, Err, ap, subst, ◌∙◌, refl, length, code_of, Message, Outcome, Decoding, outcome_value}
 use Rattle.bgp_frame.specs.declared.step.Step.TheVariants as step
-use Rattle.bgp_frame.specs.Prelude.{code_of, Message}
-use Rattle.bgp_msg.specs.declared.outcome.Outcome.{Outcome}
-use Rattle.bgp_msg.specs.Prelude.{Decoding, outcome_value}
 use Rattle.ristulva_c.specs.declared.parts.ToldParts.{ToldParts}
 use Rattle.ristulva_c.specs.declared.status.TheConstants.{OK}
 use Rattle.ristulva_c.specs.Prelude.{Judging, IsTold, parts_at, said_by, verdict_told, parts_told}

@@ -1,6 +1,4 @@
-use Rattle.std.proofs.Common.{sym, ap, ◌∙◌}
-use Rattle.bgp_update.specs.declared.found.Found.{Found}
-use Rattle.bgp_update.specs.Prelude.{update_value, notes_value, found_value}
+use Rattle.ristulva_c.proofs.Below.{sym, ap, ◌∙◌, Found, update_value, notes_value, found_value}
 use Rattle.ristulva_c.proofs.Encodings.{taken_written}
 use Rattle.ristulva_c.proofs.encode.encoded.Goals as goal
 

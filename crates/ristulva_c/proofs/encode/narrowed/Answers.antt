@@ -1,6 +1,4 @@
-use Rattle.std.proofs.Common.{◌≡◌, sym, ap, ◌∙◌}
-use Rattle.bgp_update.specs.declared.found.Found.{Found}
-use Rattle.bgp_update.specs.Prelude.{verdict_of, update_value, notes_value, found_value}
+use Rattle.ristulva_c.proofs.Below.{◌≡◌, sym, ap, ◌∙◌, Found, verdict_of, update_value, notes_value, found_value}
 use Rattle.bgp_update.specs.declared.verdict.Verdict.TheVariants as verdict
 use Rattle.ristulva_c.proofs.Encodings.{taken_has_no_as4, taken_is_valid}
 use Rattle.ristulva_c.proofs.encode.narrowed.Goals as goal

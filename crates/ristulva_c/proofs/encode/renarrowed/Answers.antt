@@ -1,8 +1,4 @@
-use Rattle.std.proofs.Common.{◌≡◌, ℕ, List, Option, Some, IfOk, false, ap, subst, ◌∙◌}
-use Rattle.bgp_open.specs.declared.context.Context.{Context}
-use Rattle.bgp_update.specs.declared.attrs.Attrs.{Attrs}
-use Rattle.bgp_update.specs.declared.update.Update.{Update}
-use Rattle.bgp_update.specs.Prelude.{narrowed_update, update_value, with_as4}
+use Rattle.ristulva_c.proofs.Below.{◌≡◌, ℕ, List, Option, Some, IfOk, false, ap, subst, ◌∙◌, Context, Attrs, Update, narrowed_update, update_value, with_as4}
 use Rattle.bgp_update.proofs.Widths.{narrowed_update_is_valid}
 use Rattle.ristulva_c.specs.Prelude.{written_of, IsCoded}
 use Rattle.ristulva_c.proofs.Encodings.{valid_written}

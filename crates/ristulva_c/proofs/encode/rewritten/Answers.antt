@@ -1,5 +1,4 @@
-use Rattle.std.proofs.Common.{ℕ, List, Option, Some, IfOk, subst}
-use Rattle.bgp_update.specs.declared.update.Update.{Update}
+use Rattle.ristulva_c.proofs.Below.{ℕ, List, Option, Some, IfOk, subst, Update}
 use Rattle.ristulva_c.specs.Prelude.{written_of, IsCoded}
 use Rattle.ristulva_c.proofs.encode.rewritten.Goals as goal
 

@@ -1,5 +1,4 @@
-use Rattle.std.proofs.Common.{ap, ◌∙◌, ℕ, List, Option, Some, Result, Err}
-use Rattle.bgp_update.specs.declared.write.WriteFault.{WriteFault}
+use Rattle.ristulva_c.proofs.Below.{ap, ◌∙◌, ℕ, List, Option, Some, Result, Err, WriteFault}
 use Rattle.ristulva_c.proofs.Encodings.{writes_all, writes_nothing}
 use Rattle.ristulva_c.proofs.encode.written.Goals as goal
 

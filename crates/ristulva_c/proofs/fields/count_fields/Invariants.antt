@@ -1,5 +1,4 @@
-use Rattle.std.proofs.Common.{◌≡◌, ◌+◌, length}
-use Rattle.bgp_fields.specs.Prelude.{fields_left}
+use Rattle.ristulva_c.proofs.Below.{◌≡◌, ◌+◌, length, fields_left}
 use Rattle.ristulva_c.proofs.fields.count_fields.Given as goal
 
 abbrev pub invariant-fields : goal.invariant-fields

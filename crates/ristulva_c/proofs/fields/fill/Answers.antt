@@ -1,7 +1,4 @@
-use Rattle.std.proofs.Common.{◌≤◌, List, map, length, ap, sym, subst, ◌∙◌, arith}
-use Rattle.bgp_open.specs.declared.context.Context.{Context}
-use Rattle.bgp_fields.specs.declared.field.Field.{Field}
-use Rattle.bgp_fields.specs.Prelude.{fields_left, fields_of}
+use Rattle.ristulva_c.proofs.Below.{◌≤◌, List, map, length, ap, sym, subst, ◌∙◌, arith, Context, Field, fields_left, fields_of}
 use Rattle.ristulva_c.specs.Prelude.{field_told, IsFilled}
 use Rattle.ristulva_c.specs.declared.status.TheConstants.{OK, ROOM}
 use Rattle.ristulva_c.proofs.FieldSteps.{few_fields, none_filled, all_filled}

@@ -1,5 +1,4 @@
-use Rattle.bgp_wire.proofs.Std.{sym}
-use Rattle.std.proofs.lemmas.List.{take_all}
+use Rattle.ristulva_c.proofs.Below.{sym, take_all}
 use Rattle.ristulva_c.proofs.hearing.longest.Goals as goal
 
 pub returns-then-octets-le-MESSAGE_MAX-clause-front : goal.returns-then-octets-le-MESSAGE_MAX-clause-front

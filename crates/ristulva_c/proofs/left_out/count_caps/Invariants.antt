@@ -1,5 +1,4 @@
-use Rattle.std.proofs.Common.{◌≡◌, ◌+◌, length}
-use Rattle.bgp_open.specs.Prelude.{capabilities_left, open_value}
+use Rattle.ristulva_c.proofs.Below.{◌≡◌, ◌+◌, length, capabilities_left, open_value}
 use Rattle.ristulva_c.proofs.left_out.count_caps.Given as goal
 
 -- those so far, and those still to come, are all

@@ -1,7 +1,4 @@
-use Rattle.bgp_wire.proofs.Std.{List, length, ap, arith, filter}
-use Rattle.bgp_attr.specs.declared.attr.Attr.{Attr}
-use Rattle.bgp_wire.specs.Prelude.{has_octet}
-use Rattle.bgp_update.specs.Prelude.{kept_of, view_marks}
+use Rattle.ristulva_c.proofs.Below.{List, length, ap, arith, filter, Attr, has_octet, kept_of, view_marks}
 use Rattle.ristulva_c.specs.Prelude.{is_left_out}
 use Rattle.ristulva_c.proofs.LeftOut.{few_left_out, kept_left_out}
 use Rattle.ristulva_c.proofs.left_out.others_left_out.Goals as goal

@@ -1,6 +1,4 @@
-use Rattle.bgp_wire.proofs.Std.{◌≡◌, ◌+◌, length, filter}
-use Rattle.bgp_wire.specs.Prelude.{has_octet}
-use Rattle.bgp_update.specs.Prelude.{attrs_left, kept_of, view_marks}
+use Rattle.ristulva_c.proofs.Below.{◌≡◌, ◌+◌, length, filter, has_octet, attrs_left, kept_of, view_marks}
 use Rattle.ristulva_c.specs.Prelude.{is_left_out}
 use Rattle.ristulva_c.proofs.left_out.others_left_out.Given as goal
 

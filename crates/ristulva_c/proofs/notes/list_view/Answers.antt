@@ -1,5 +1,4 @@
-use Rattle.std.proofs.Common.{arith}
-use Rattle.bgp_update.specs.Prelude.{notes_left, notes_value}
+use Rattle.ristulva_c.proofs.Below.{arith, notes_left, notes_value}
 use Rattle.ristulva_c.proofs.NoteCounts.{few_notes}
 use Rattle.ristulva_c.proofs.NoteSteps.{one_more, few_so_far}
 use Rattle.ristulva_c.proofs.notes.list_view.Goals as goal

@@ -1,7 +1,4 @@
-use Rattle.std.proofs.Common.{ℕ, ◌+◌, List, length, map, sym, ap, subst, ◌∙◌}
-use Rattle.bgp_attr.specs.Prelude.{as_numbers_left, segment_value}
-use Rattle.bgp_attr.specs.declared.path.Segment.{Segment}
-use Rattle.bgp_update.specs.Prelude.{joined_value, joined_left}
+use Rattle.ristulva_c.proofs.Below.{ℕ, ◌+◌, List, length, map, sym, ap, subst, ◌∙◌, as_numbers_left, segment_value, Segment, joined_value, joined_left}
 use Rattle.ristulva_c.specs.declared.number_rows.NumberRow.{NumberRow}
 use Rattle.ristulva_c.specs.Prelude.{Adds, with_number}
 use Rattle.ristulva_c.proofs.NumberRows.{IsPathWriting, path_begins, path_more, path_done}

@@ -1,5 +1,4 @@
-use Rattle.std.proofs.Common.{length}
-use Rattle.bgp_update.specs.Prelude.{joined_value, joined_left}
+use Rattle.ristulva_c.proofs.Below.{length, joined_value, joined_left}
 use Rattle.ristulva_c.proofs.NumberRows.{IsPathWriting}
 use Rattle.ristulva_c.proofs.number_rows.put_path.Given as goal
 

@@ -1,6 +1,5 @@
-use Rattle.std.proofs.Common.{Option, sym, subst, ◌∙◌}
+use Rattle.ristulva_c.proofs.Below.{Option, sym, subst, ◌∙◌, Open}
 use Rattle.bgp_frame.specs.declared.step.Step.TheVariants as step
-use Rattle.bgp_open.specs.declared.message.Open.{Open}
 use Rattle.ristulva_c.specs.Prelude.{TellsOpen}
 use Rattle.ristulva_c.proofs.OpenPlaces.{accepts, gives}
 use Rattle.ristulva_c.proofs.opens.ristulva_open.Goals as goal

@@ -1,5 +1,4 @@
-use Rattle.std.proofs.Common.{◌≡◌, length}
-use Rattle.bgp_attr.specs.Prelude.{as_numbers_left}
+use Rattle.ristulva_c.proofs.Below.{◌≡◌, length, as_numbers_left}
 use Rattle.ristulva_c.specs.Prelude.{last_number, last_behind}
 use Rattle.ristulva_c.proofs.origin_as.last_number.Given as goal
 

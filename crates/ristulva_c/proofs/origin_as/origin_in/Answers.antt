@@ -1,5 +1,4 @@
-use Rattle.std.proofs.Common.{None, ap, ◌∙◌}
-use Rattle.bgp_update.specs.Prelude.{joined_value}
+use Rattle.ristulva_c.proofs.Below.{None, ap, ◌∙◌, joined_value}
 use Rattle.ristulva_c.specs.Prelude.{origin_behind}
 use Rattle.ristulva_c.proofs.OriginAs.{origin_is}
 use Rattle.ristulva_c.proofs.origin_as.origin_in.Goals as goal

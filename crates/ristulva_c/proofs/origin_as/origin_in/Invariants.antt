@@ -1,5 +1,4 @@
-use Rattle.std.proofs.Common.{◌≡◌, length}
-use Rattle.bgp_update.specs.Prelude.{joined_value, joined_left}
+use Rattle.ristulva_c.proofs.Below.{◌≡◌, length, joined_value, joined_left}
 use Rattle.ristulva_c.specs.Prelude.{origin_in, origin_behind}
 use Rattle.ristulva_c.proofs.origin_as.origin_in.Given as goal
 

@@ -1,6 +1,4 @@
-use Rattle.bgp_wire.proofs.Std.{List, length, ap, arith, filter}
-use Rattle.bgp_attr.specs.declared.attr.Attr.{Attr}
-use Rattle.bgp_update.specs.Prelude.{kept_of, is_opaque, view_marks}
+use Rattle.ristulva_c.proofs.Below.{List, length, ap, arith, filter, Attr, kept_of, is_opaque, view_marks}
 use Rattle.ristulva_c.proofs.LeftOut.{few_others, all_others}
 use Rattle.ristulva_c.proofs.others.count_others.Goals as goal
 

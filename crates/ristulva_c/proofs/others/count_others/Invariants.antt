@@ -1,5 +1,4 @@
-use Rattle.bgp_wire.proofs.Std.{◌≡◌, ◌+◌, length, filter}
-use Rattle.bgp_update.specs.Prelude.{attrs_left, kept_of, is_opaque, view_marks}
+use Rattle.ristulva_c.proofs.Below.{◌≡◌, ◌+◌, length, filter, attrs_left, kept_of, is_opaque, view_marks}
 use Rattle.ristulva_c.proofs.others.count_others.Given as goal
 
 -- those so far, and those still to come, are all

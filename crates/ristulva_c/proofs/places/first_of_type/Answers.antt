@@ -1,6 +1,4 @@
-use Rattle.bgp_wire.proofs.Std.{◌==◌, cond, Some, sym, ap, ◌∙◌, find}
-use Rattle.std.proofs.lemmas.Bool.{eq-eqb}
-use Rattle.bgp_attr.specs.Prelude.{PlacedTlv, tlvs_left, placed_tlv}
+use Rattle.ristulva_c.proofs.Below.{◌==◌, cond, Some, sym, ap, ◌∙◌, find, eq-eqb, PlacedTlv, tlvs_left, placed_tlv}
 use Rattle.ristulva_c.proofs.FirstPlaces.{found_lies}
 use Rattle.ristulva_c.proofs.places.first_of_type.Goals as goal
 

@@ -1,6 +1,4 @@
-use Rattle.bgp_wire.proofs.Std.{◌≡◌, ◌==◌, length, find}
-use Rattle.bgp_attr.specs.Prelude.{tlvs_left}
-use Rattle.bgp_update.specs.Prelude.{placed_tlvs}
+use Rattle.ristulva_c.proofs.Below.{◌≡◌, ◌==◌, length, find, tlvs_left, placed_tlvs}
 use Rattle.ristulva_c.proofs.places.first_of_type.Given as goal
 
 -- the first among those still to come is the first of all

@@ -1,5 +1,4 @@
-use Rattle.std.proofs.Common.{◌∙◌}
-use Rattle.bgp_update.specs.Prelude.{parts_of}
+use Rattle.ristulva_c.proofs.Below.{◌∙◌, parts_of}
 use Rattle.ristulva_c.proofs.FactPlaces.{value_of_fields}
 use Rattle.ristulva_c.proofs.places.value_in.Goals as goal
 

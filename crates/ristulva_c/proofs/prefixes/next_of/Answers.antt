@@ -1,7 +1,4 @@
-use Rattle.std.proofs.Common.{◌-◌, ◌∷◌, ℕ, length, sym, ap, ◌∙◌}
-use Rattle.bgp_wire.proofs.Walks.{no_more}
-use Rattle.bgp_prefix.specs.Prelude.{PrefixValue, IsPrefix, one_prefix, run_of}
-use Rattle.bgp_prefix.proofs.PrefixLemmas.{IsPrefix-reads}
+use Rattle.ristulva_c.proofs.Below.{◌-◌, ◌∷◌, ℕ, length, sym, ap, ◌∙◌, PrefixValue, IsPrefix, one_prefix, run_of, no_more, IsPrefix-reads}
 use Rattle.ristulva_c.specs.Prelude.{width_of, between, prefix_told}
 use Rattle.ristulva_c.proofs.PrefixSteps.{prefixes_behind, told_same}
 use Rattle.ristulva_c.proofs.prefixes.next_of.Goals as goal

@@ -1,8 +1,4 @@
-use Rattle.std.proofs.Common.{◌≡◌, Some, IfOk, true, ap, subst, ◌∙◌}
-use Rattle.bgp_open.specs.declared.context.Context.{Context}
-use Rattle.bgp_update.specs.declared.attrs.Attrs.{Attrs}
-use Rattle.bgp_update.specs.declared.update.Update.{Update}
-use Rattle.bgp_update.specs.Prelude.{update_value, with_as4}
+use Rattle.ristulva_c.proofs.Below.{◌≡◌, Some, IfOk, true, ap, subst, ◌∙◌, Context, Attrs, Update, update_value, with_as4}
 use Rattle.ristulva_c.specs.Prelude.{written_of, IsCoded, rebuilt_update}
 use Rattle.ristulva_c.proofs.reconcile.rebuilt.Goals as goal
 

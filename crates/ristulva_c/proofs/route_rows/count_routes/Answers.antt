@@ -1,5 +1,4 @@
-use Rattle.std.proofs.Common.{length, ap, ◌∙◌, arith}
-use Rattle.bgp_update.specs.Prelude.{update_value}
+use Rattle.ristulva_c.proofs.Below.{length, ap, ◌∙◌, arith, update_value}
 use Rattle.ristulva_c.specs.Prelude.{withdrawn_row, no_prefix, unreached_rows, reached_rows}
 use Rattle.ristulva_c.proofs.RouteRows.{update_count}
 use Rattle.ristulva_c.proofs.route_rows.count_routes.Goals as goal

@@ -1,7 +1,5 @@
-use Rattle.std.proofs.Common.{◌≡◌, None, sym, ap, subst, ◌∙◌}
-use Rattle.bgp_open.specs.declared.context.Context.{Context}
-use Rattle.bgp_update.specs.declared.found.Found.{Found}
-use Rattle.bgp_update.specs.Prelude.{update_value, notes_value, found_value, invalid_of}
+use Rattle.ristulva_c.proofs.Below.{◌≡◌, None, sym, ap, subst, ◌∙◌, Context, Found, update_value, notes_value, found_value}
+use Rattle.bgp_update.specs.Prelude.{invalid_of}
 use Rattle.ristulva_c.proofs.Encodings.{taken_is_valid}
 use Rattle.ristulva_c.proofs.sending.made_of.Goals as goal
 

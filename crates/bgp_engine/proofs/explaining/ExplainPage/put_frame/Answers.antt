@@ -1,5 +1,4 @@
-use Rattle.std.proofs.Common.{ap, ◌∙◌, rules}
-use Rattle.bgp_engine.specs.Prelude.{class_of}
+use Rattle.bgp_engine.proofs.Prelude.{ap, ◌∙◌, rules, class_of}
 use Rattle.bgp_engine.proofs.explaining.ExplainPage.put_frame.Goals as goal
 
 pub returns-clause-writes : goal.returns-clause-writes

@@ -1,6 +1,6 @@
-use Rattle.std.proofs.Common.{ℕ, [], ◌∷◌, ap, sym, ◌∙◌, append-nil, arith}
+use Rattle.bgp_engine.proofs.Prelude.{ℕ, [], ◌∷◌, ap, sym, ◌∙◌, arith, AreOctets-nil, AreOctets-one}
+use Rattle.std.proofs.Common.{append-nil}
 use Rattle.arrayvec.specs.ArrayVec.{ArrayVec}
-use Rattle.bgp_wire.proofs.OctetLemmas.{AreOctets-nil, AreOctets-one}
 use Rattle.bgp_engine.proofs.HexReads.{pending_short, Decodes-next}
 use Rattle.bgp_engine.proofs.hex_text.HexText.decode.Goals as goal
 use Rattle.bgp_engine.proofs.hex_text.HexText.decode.Goals.{in-Nothing, in-Octet}

@@ -1,4 +1,4 @@
-use Rattle.std.proofs.Common.{length}
+use Rattle.bgp_engine.proofs.Prelude.{length}
 use Rattle.bgp_engine.proofs.HexReads.{Decodes}
 use Rattle.bgp_engine.proofs.hex_text.HexText.decode.Given as goal
 

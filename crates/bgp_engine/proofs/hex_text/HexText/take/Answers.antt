@@ -1,5 +1,4 @@
-use Rattle.std.proofs.Common.{ℕ, Option, length, refl, sym, ap, ◌∙◌}
-use Rattle.std.specs.Prelude.{option_to_list}
+use Rattle.bgp_engine.proofs.Prelude.{ℕ, Option, length, refl, sym, ap, ◌∙◌, option_to_list}
 use Rattle.bgp_engine.proofs.HexReads.{reads_pair, breaks_pair, reads_blank, breaks_between}
 use Rattle.bgp_engine.proofs.hex_text.HexText.take.Goals as goal
 

@@ -1,4 +1,4 @@
-use Rattle.std.proofs.Common.{rules}
+use Rattle.bgp_engine.proofs.Prelude.{rules}
 use Rattle.bgp_engine.proofs.HexReads.{ReadsPairs-starts, ReadsPairs-more}
 use Rattle.bgp_engine.proofs.hex_text.HexText.take_pairs.Goals as goal
 

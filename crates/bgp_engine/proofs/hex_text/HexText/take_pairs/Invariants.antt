@@ -1,5 +1,4 @@
-use Rattle.std.proofs.Common.{◌≡◌, ◌-◌, length, None}
-use Rattle.bgp_engine.specs.Prelude.{ReadsPairs}
+use Rattle.bgp_engine.proofs.Prelude.{◌≡◌, ◌-◌, length, None, ReadsPairs}
 use Rattle.bgp_engine.proofs.HexReads.{read_on}
 use Rattle.bgp_engine.proofs.hex_text.HexText.take_pairs.Given as goal
 

@@ -1,5 +1,4 @@
-use Rattle.std.proofs.Common.{refl}
-use Rattle.bgp_frame.proofs.Pulls.{nothing_waits}
+use Rattle.bgp_engine.proofs.Prelude.{refl, nothing_waits}
 use Rattle.bgp_engine.proofs.Walks.{front_ready}
 use Rattle.bgp_engine.proofs.starting.Starting.new.Goals as goal
 

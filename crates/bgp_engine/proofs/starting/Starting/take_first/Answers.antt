@@ -1,6 +1,5 @@
-use Rattle.bgp_wire.proofs.Std.{◌≡◌, option_map, arith, ap, length, take, IfOk-weaker, err_from_is_err_and}
-use Rattle.std.proofs.lemmas.List.{length-append, length-drop, length-take}
-use Rattle.bgp_engine.specs.Prelude.{starts_of, walk_of}
+use Rattle.bgp_engine.proofs.Prelude.{◌≡◌, option_map, arith, ap, length, take, IfOk-weaker, err_from_is_err_and, length-append, length-drop, length-take}
+use Rattle.bgp_engine.proofs.Prelude.{starts_of, walk_of}
 use Rattle.bgp_engine.proofs.Startings.{first_total, on_err, takes_agreed, takes_part, takes_unagreed}
 use Rattle.bgp_engine.proofs.starting.Starting.take_first.Goals as goal
 

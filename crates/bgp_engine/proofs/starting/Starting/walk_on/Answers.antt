@@ -1,4 +1,4 @@
-use Rattle.bgp_wire.proofs.Std.{[], IfOk-weaker}
+use Rattle.bgp_engine.proofs.Prelude.{[], IfOk-weaker}
 use Rattle.bgp_engine.proofs.Walks.{goes_on, moves_judged, waits_still}
 use Rattle.bgp_engine.proofs.Startings.{takes_behind}
 use Rattle.bgp_engine.proofs.starting.Starting.walk_on.Goals as goal

@@ -1,6 +1,4 @@
-use Rattle.std.proofs.Common.{option_map, sym, subst, ◌∙◌}
-use Rattle.bgp_engine.specs.declared.opening.Stage.{Stage}
-use Rattle.bgp_engine.specs.Prelude.{ReadyAt, starts_of, walk_of}
+use Rattle.bgp_engine.proofs.Prelude.{option_map, sym, subst, ◌∙◌, Stage, ReadyAt, starts_of, walk_of}
 use Rattle.bgp_engine.proofs.Startings.{closes_first, closes_none, closes_unagreed, known, unknown}
 use Rattle.bgp_engine.proofs.starting.StartingEngine.finish.Goals as goal
 

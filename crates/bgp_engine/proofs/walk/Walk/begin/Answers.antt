@@ -1,5 +1,4 @@
-use Rattle.std.proofs.Common.{option_map, refl, sym, ◌∙◌}
-use Rattle.bgp_engine.specs.Prelude.{starts_of}
+use Rattle.bgp_engine.proofs.Prelude.{option_map, refl, sym, ◌∙◌, starts_of}
 use Rattle.bgp_engine.proofs.Startings.{known, unknown, settles_fault, settles_fault_unagreed, settles_handed, settles_plain, settles_unagreed}
 use Rattle.bgp_engine.proofs.walk.Walk.begin.Goals as goal
 

@@ -1,7 +1,4 @@
-use Rattle.bgp_wire.proofs.Std.{◌++◌, List, ℕ, ap, length, subst, sym, ◌∙◌, err_from_is_err_and}
-use Rattle.std.specs.Prelude.{is_some}
-use Rattle.std.proofs.lemmas.List.{append-nil}
-use Rattle.bgp_engine.specs.Prelude.{IsOver, end_by}
+use Rattle.bgp_engine.proofs.Prelude.{◌++◌, List, ℕ, ap, length, subst, sym, ◌∙◌, err_from_is_err_and, is_some, append-nil, IsOver, end_by}
 use Rattle.bgp_engine.proofs.Walks.{closes, none_wait, some_closing}
 use Rattle.bgp_engine.proofs.walk.Walk.close.Goals as goal
 

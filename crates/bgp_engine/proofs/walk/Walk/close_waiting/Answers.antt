@@ -1,6 +1,4 @@
-use Rattle.bgp_wire.proofs.Std.{◌≡◌, ◌++◌, List, ℕ, ap, length, sym, ◌∙◌, append_assoc, err_from_is_err_and}
-use Rattle.bgp_frame.specs.declared.end.End.TheVariants as end
-use Rattle.bgp_engine.specs.Prelude.{end_by}
+use Rattle.bgp_engine.proofs.Prelude.{◌≡◌, ◌++◌, List, ℕ, ap, length, sym, ◌∙◌, append_assoc, err_from_is_err_and, End, end_by}
 use Rattle.bgp_engine.proofs.Walks.{closes, some_closing}
 use Rattle.bgp_engine.proofs.walk.Walk.close_waiting.Goals as goal
 
@@ -20,6 +18,6 @@ returns g c =
     let rules = g.P.Page.rules w.page in
     let told = g.P.Page.told in
     let rest : told c.rest.new.self ≡ told c.last.new.self ++ rules.rest w.framer = rw (sym c.last.ensures.rules, sym c.octets.ensures) c.in_ok-rest.ensures.writes in
-    closes _ (end.Wait c.held.result) _ _ _ c.requires.ready (ap (λ o. end_by o (length w.framer)) c.requires.ended ∙ ap end.Wait (sym c.held.ensures.value)) c.answer.ensures.kind
+    closes _ (End.Wait c.held.result) _ _ _ c.requires.ready (ap (λ o. end_by o (length w.framer)) c.requires.ended ∙ ap End.Wait (sym c.held.ensures.value)) c.answer.ensures.kind
     (rest ∙ ap (λ (x : List ℕ). x ++ rules.rest w.framer) c.in_ok-last.ensures.writes ∙ append_assoc (told w.page) _ (rules.rest w.framer))
     (rw (sym c.last.ensures.rules, sym c.rest.ensures.rules) c.answer.ensures.value)

@@ -1,6 +1,4 @@
-use Rattle.bgp_wire.proofs.Std.{◌∙◌, ap, arith, length, not, sym, err_from_is_err_and, nil_from_length}
-use Rattle.std.proofs.lemmas.Bool.{eqb-true}
-use Rattle.bgp_engine.specs.Prelude.{walk_of}
+use Rattle.bgp_engine.proofs.Prelude.{◌∙◌, ap, arith, length, not, sym, err_from_is_err_and, nil_from_length, eqb-true, walk_of}
 use Rattle.bgp_engine.proofs.Walks.{moves_heard, moves_more, moves_none, none_there, takes_on, takes_over, walk_total}
 use Rattle.bgp_engine.proofs.walk.WalkEngine.take.Goals as goal
 

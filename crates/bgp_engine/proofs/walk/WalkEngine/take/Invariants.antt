@@ -1,5 +1,4 @@
-use Rattle.std.proofs.Common.{◌≡◌, ◌+◌, ◌≤◌, ◌^◌, None, length}
-use Rattle.bgp_engine.specs.Prelude.{Moves, walk_of}
+use Rattle.bgp_engine.proofs.Prelude.{◌≡◌, ◌+◌, ◌≤◌, ◌^◌, None, length, Moves, walk_of}
 use Rattle.bgp_engine.proofs.walk.WalkEngine.take.Given as goal
 
 abbrev pub invariant-stream : goal.invariant-stream

@@ -1,6 +1,5 @@
-use Rattle.bgp_wire.proofs.Std.{ℕ, ◌+◌, [], ◌++◌, length, map, drop, None, refl, sym, ap, ◌∙◌, arith, length-map}
-use Rattle.std.proofs.lemmas.List.{append-nil}
-use Rattle.bgp_fields.specs.Prelude.{value_fields, section_fields, message_fields, fields_left}
+use Rattle.bgp_fields.proofs.Prelude.{ℕ, ◌+◌, [], ◌++◌, length, map, drop, None, refl, sym, ap, ◌∙◌, arith, length-map, append-nil, value_fields}
+use Rattle.bgp_fields.proofs.Prelude.{section_fields, message_fields, fields_left}
 use Rattle.bgp_fields.proofs.Listings.{listing, more, all_listed}
 use Rattle.bgp_fields.proofs.iter.FieldIter.list.Goals as goal
 

@@ -1,6 +1,4 @@
-use Rattle.bgp_wire.proofs.Std.{◌≡◌, ℕ, Bool, true, ◌==◌, List, length, sym, ◌∙◌}
-use Rattle.std.proofs.lemmas.Bool.{eqb-true}
-use Rattle.bgp_fields.specs.Prelude.{section_at, message_at}
+use Rattle.bgp_fields.proofs.Prelude.{◌≡◌, ℕ, Bool, true, ◌==◌, List, length, sym, ◌∙◌, eqb-true, section_at, message_at}
 use Rattle.bgp_fields.proofs.Steps.{nothing-left}
 use Rattle.bgp_fields.proofs.iter.FieldIter.next_field.Goals as goal
 

@@ -1,10 +1,5 @@
-use Rattle.std.proofs.Common.{◌+◌, ◌∷◌, ◌++◌, length, take, drop, None, sym, ap, ◌∙◌}
-use Rattle.bgp_fields.specs.declared.field.Field.{Field}
-use Rattle.bgp_fields.specs.declared.kind.FieldKind.TheVariants.{Unread}
-use Rattle.bgp_fields.specs.declared.part.MessagePart.{MessagePart}
-use Rattle.bgp_fields.specs.declared.part.SectionPart.{SectionPart}
-use Rattle.bgp_fields.specs.Prelude.{value_fields, section_fields, message_fields, Plan, fit}
-use Rattle.bgp_fields.specs.declared.part.MessagePart.TheVariants as message
+use Rattle.bgp_fields.proofs.Prelude.{◌+◌, ◌∷◌, ◌++◌, length, take, drop, None, sym, ap, ◌∙◌, Field, Unread, MessagePart, SectionPart, value_fields}
+use Rattle.bgp_fields.proofs.Prelude.{section_fields, message_fields, Plan, fit}
 use Rattle.bgp_fields.proofs.Steps.{message-step}
 use Rattle.bgp_fields.proofs.iter.FieldIter.next_in_message.Goals as goal
 
@@ -18,7 +13,7 @@ returns c =
     let none = length it.value_octets.now in
     message-step it.ctx it.value it.value_group it.value_octets.now it.section it.section_group it.section_octets.now it.message it.at it.message_octets.now
     p inside rest c.requires.value c.requires.section c.requires.some
-    (c.fit-plan.ensures ∙ ap (λ (q : Plan SectionPart MessagePart). fit (message.All Unread) q (length it.message_octets.now)) c.message_plan.ensures)
+    (c.fit-plan.ensures ∙ ap (λ (q : Plan SectionPart MessagePart). fit (MessagePart.All Unread) q (length it.message_octets.now)) c.message_plan.ensures)
     (c.split_at-2.ensures.front ∙ ap (take p.inner_len) behind)
     (c.split_at-2.ensures.back ∙ ap (drop p.inner_len) behind)
     ∙ ap (λ (f : Field). f ∷ (value_fields it.ctx it.value (it.at + p.len) it.value_group it.value_octets.now

@@ -1,10 +1,5 @@
-use Rattle.std.proofs.Common.{ℕ, ◌+◌, List, ◌∷◌, ◌++◌, length, take, drop, None, sym, ap, ◌∙◌}
-use Rattle.bgp_fields.specs.declared.field.Field.{Field}
-use Rattle.bgp_fields.specs.declared.kind.FieldKind.TheVariants.{Unread}
-use Rattle.bgp_fields.specs.declared.part.SectionPart.{SectionPart}
-use Rattle.bgp_fields.specs.declared.part.ValuePart.{ValuePart}
-use Rattle.bgp_fields.specs.Prelude.{value_fields, section_fields, message_fields, Plan, fit}
-use Rattle.bgp_fields.specs.declared.part.SectionPart.TheVariants as section
+use Rattle.bgp_fields.proofs.Prelude.{ℕ, ◌+◌, List, ◌∷◌, ◌++◌, length, take, drop, None, sym, ap, ◌∙◌, Field, Unread, SectionPart, ValuePart, value_fields}
+use Rattle.bgp_fields.proofs.Prelude.{section_fields, message_fields, Plan, fit}
 use Rattle.bgp_fields.proofs.Steps.{section-step}
 use Rattle.bgp_fields.proofs.iter.FieldIter.next_in_section.Goals as goal
 
@@ -19,7 +14,7 @@ returns c =
     let later : ℕ → List Field = λ n. message_fields it.ctx it.message n None it.message_octets.now in
     section-step it.ctx it.value it.value_group it.value_octets.now it.section it.at it.section_group it.section_octets.now later p g inside rest
     c.requires.value c.requires.some
-    (c.fit-plan.ensures ∙ ap (λ (q : Plan ValuePart SectionPart). fit (section.All Unread) q (length it.section_octets.now)) c.section_plan.ensures)
+    (c.fit-plan.ensures ∙ ap (λ (q : Plan ValuePart SectionPart). fit (SectionPart.All Unread) q (length it.section_octets.now)) c.section_plan.ensures)
     c.group_from-group.ensures
     (c.split_at-2.ensures.front ∙ ap (take p.inner_len) behind)
     (c.split_at-2.ensures.back ∙ ap (drop p.inner_len) behind)

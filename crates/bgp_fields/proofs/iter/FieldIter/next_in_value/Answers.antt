@@ -1,9 +1,5 @@
-use Rattle.std.proofs.Common.{ℕ, ◌+◌, List, ◌∷◌, ◌++◌, length, None, sym, ap, ◌∙◌}
-use Rattle.bgp_fields.specs.declared.field.Field.{Field}
-use Rattle.bgp_fields.specs.declared.kind.FieldKind.TheVariants.{Unread}
-use Rattle.bgp_fields.specs.declared.part.ValuePart.{ValuePart}
-use Rattle.bgp_fields.specs.Prelude.{value_fields, section_fields, message_fields, Plan, fit}
-use Rattle.bgp_fields.specs.declared.part.ValuePart.TheVariants as value
+use Rattle.bgp_fields.proofs.Prelude.{ℕ, ◌+◌, List, ◌∷◌, ◌++◌, length, None, sym, ap, ◌∙◌, Field, Unread, ValuePart, value_fields, section_fields}
+use Rattle.bgp_fields.proofs.Prelude.{message_fields, Plan, fit}
 use Rattle.bgp_fields.proofs.Steps.{value-step}
 use Rattle.bgp_fields.proofs.iter.FieldIter.next_in_value.Goals as goal
 
@@ -16,6 +12,6 @@ returns c =
     let later : ℕ → List Field = λ n. section_fields it.ctx it.section n it.section_group it.section_octets.now
     ++ message_fields it.ctx it.message (n + length it.section_octets.now) None it.message_octets.now in
     value-step it.ctx it.value it.at it.value_group it.value_octets.now later p g rest c.requires
-    (c.fit-plan.ensures ∙ ap (λ (q : Plan (Unit {0}) ValuePart). fit (value.All Unread) q (length it.value_octets.now)) c.value_plan.ensures)
+    (c.fit-plan.ensures ∙ ap (λ (q : Plan (Unit {0}) ValuePart). fit (ValuePart.All Unread) q (length it.value_octets.now)) c.value_plan.ensures)
     c.group_from-self.ensures c.split_at.ensures.back
     ∙ ap (λ (f : Field). f ∷ (value_fields it.ctx p.next (it.at + p.len) g rest ++ later (it.at + p.len + length rest))) (sym c.field.ensures)

@@ -1,7 +1,4 @@
-use Rattle.std.proofs.Common.{◌≡◌, length, sym, ap, subst, arith}
-use Rattle.bgp_frame.specs.Prelude.{Waits}
-use Rattle.bgp_guard.specs.Prelude.{Half, absent, half_of}
-use Rattle.bgp_frame.proofs.Pulls.{nothing_waits}
+use Rattle.bgp_guard.proofs.Prelude.{◌≡◌, length, sym, ap, subst, arith, Waits, Half, absent, half_of, nothing_waits}
 use Rattle.bgp_guard.proofs.guard.Guard.new.Goals as goal
 
 pub invariant_of-result : goal.invariant_of-result

@@ -1,5 +1,4 @@
-use Rattle.std.proofs.Common.{true, ap, ◌∙◌}
-use Rattle.bgp_guard.specs.Prelude.{waited, half_of}
+use Rattle.bgp_guard.proofs.Prelude.{true, ap, ◌∙◌, waited, half_of}
 use Rattle.bgp_guard.proofs.Sights.{late_waited}
 use Rattle.bgp_guard.proofs.guard.Guard.wait.Goals as goal
 

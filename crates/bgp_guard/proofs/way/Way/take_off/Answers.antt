@@ -1,5 +1,4 @@
-use Rattle.bgp_wire.proofs.Std.{◌≡◌, ◌-◌, ◌≤◌, length, drop, ap, ◌∙◌, arith, slice_range}
-use Rattle.std.proofs.lemmas.List.{length-take}
+use Rattle.bgp_guard.proofs.Prelude.{◌≡◌, ◌-◌, ◌≤◌, length, drop, ap, ◌∙◌, arith, slice_range, length-take}
 use Rattle.bgp_guard.proofs.Ranges.{less_front}
 use Rattle.bgp_guard.proofs.way.Way.take_off.Goals as goal
 

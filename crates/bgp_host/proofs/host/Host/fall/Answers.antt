@@ -1,10 +1,6 @@
-use Rattle.std.proofs.Common.{refl, subst, sym, []}
-use Rattle.bgp_host.specs.declared.link.Link.{Link}
-use Rattle.bgp_host.specs.declared.link.Link.TheVariants.{Same, Down}
-use Rattle.bgp_host.specs.Prelude.{Told, Hosted, hosted, RunsFrom}
+use Rattle.bgp_host.proofs.Prelude.{refl, subst, sym, [], Link, Same, Down, Told, Hosted, hosted, RunsFrom, Failed}
 use Rattle.bgp_host.proofs.Turns.{last_turn}
 use Rattle.bgp_host.proofs.Quiet.{failed_ends, left_as_it_is}
-use Rattle.bgp_machine.specs.declared.event.Event.TheVariants.{Failed}
 use Rattle.bgp_host.proofs.host.Host.fall.Goals as goal
 
 pub returns-in-Down : goal.returns-in-Down

@@ -1,6 +1,4 @@
-use Rattle.std.proofs.Common.{[]}
-use Rattle.bgp_host.specs.declared.link.Link.TheVariants.{Same}
-use Rattle.bgp_host.specs.Prelude.{hosted}
+use Rattle.bgp_host.proofs.Prelude.{[], Same, hosted}
 use Rattle.bgp_host.proofs.Turns.{runs_both}
 use Rattle.bgp_host.proofs.host.Host.follow.Goals as goal
 

@@ -1,6 +1,4 @@
-use Rattle.std.proofs.Common.{refl, []}
-use Rattle.bgp_host.specs.declared.link.Link.TheVariants.{Same}
-use Rattle.bgp_host.specs.Prelude.{hosted}
+use Rattle.bgp_host.proofs.Prelude.{refl, [], Same, hosted}
 use Rattle.bgp_host.proofs.Records.{on_err}
 use Rattle.bgp_host.proofs.Turns.{runs_none, heard_next, heard_all, heard_some}
 use Rattle.bgp_host.proofs.host.Host.hear.Goals as goal

@@ -1,6 +1,4 @@
-use Rattle.std.proofs.Common.{List}
-use Rattle.bgp_host.specs.Prelude.{Cause, hosted, Runs, ArePulls}
-use Rattle.bgp_machine.specs.Prelude.{weight}
+use Rattle.bgp_host.proofs.Prelude.{List, Cause, hosted, Runs, ArePulls, weight}
 use Rattle.bgp_host.proofs.host.Host.hear.Given as goal
 
 -- the octets so far were heard

@@ -1,7 +1,4 @@
-use Rattle.std.proofs.Common.{subst, sym, []}
-use Rattle.bgp_machine.specs.Prelude.{Machine}
-use Rattle.bgp_host.specs.declared.link.Link.TheVariants.{Same}
-use Rattle.bgp_host.specs.Prelude.{Records, Hosted, hosted, RunsFrom, PullsOnce}
+use Rattle.bgp_host.proofs.Prelude.{subst, sym, [], Machine, Same, Records, Hosted, hosted, RunsFrom, PullsOnce}
 use Rattle.bgp_host.proofs.Turns.{at}
 use Rattle.bgp_host.proofs.Pulls.{pulled_once}
 use Rattle.bgp_host.proofs.host.Host.pull.Goals as goal

@@ -1,10 +1,6 @@
-use Rattle.std.proofs.Common.{refl, subst, sym, []}
-use Rattle.bgp_host.specs.declared.link.Link.{Link}
-use Rattle.bgp_host.specs.declared.link.Link.TheVariants.{Up}
-use Rattle.bgp_host.specs.Prelude.{Told, Hosted, hosted, RunsFrom}
+use Rattle.bgp_host.proofs.Prelude.{refl, subst, sym, [], Link, Up, Told, Hosted, hosted, RunsFrom, Connected}
 use Rattle.bgp_host.proofs.Turns.{last_turn}
 use Rattle.bgp_host.proofs.Quiet.{connected_ends}
-use Rattle.bgp_machine.specs.declared.event.Event.TheVariants.{Connected}
 use Rattle.bgp_host.proofs.host.Host.rise.Goals as goal
 
 pub returns-in-Up-clause-runs : goal.returns-in-Up-clause-runs

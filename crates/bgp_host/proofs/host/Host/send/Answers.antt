@@ -1,4 +1,4 @@
-use Rattle.bgp_host.specs.Prelude.{hosted}
+use Rattle.bgp_host.proofs.Prelude.{hosted}
 use Rattle.bgp_host.proofs.Turns.{sent_one}
 use Rattle.bgp_host.proofs.host.Host.send.Goals as goal
 

@@ -1,6 +1,4 @@
-use Rattle.std.proofs.Common.{[]}
-use Rattle.bgp_host.specs.declared.link.Link.TheVariants.{Same}
-use Rattle.bgp_host.specs.Prelude.{Told, hosted}
+use Rattle.bgp_host.proofs.Prelude.{[], Same, Told, hosted}
 use Rattle.bgp_host.proofs.Turns.{next_turn}
 use Rattle.bgp_host.proofs.host.Host.tell.Goals as goal
 

@@ -1,6 +1,4 @@
-use Rattle.std.proofs.Common.{subst, sym}
-use Rattle.bgp_machine.specs.Prelude.{Machine}
-use Rattle.bgp_host.specs.Prelude.{Records, Told, OneTurn}
+use Rattle.bgp_host.proofs.Prelude.{subst, sym, Machine, Records, Told, OneTurn}
 use Rattle.bgp_host.proofs.Records.{grows_none}
 use Rattle.bgp_host.proofs.Turns.{at, one_turn}
 use Rattle.bgp_host.proofs.host.Host.tell_once.Goals as goal

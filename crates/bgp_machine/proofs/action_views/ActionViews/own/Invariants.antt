@@ -1,5 +1,4 @@
-use Rattle.std.proofs.Common.{◌≡◌, ◌≤◌, ◌++◌, length, take, map, drop}
-use Rattle.bgp_machine.specs.Prelude.{action_of}
+use Rattle.bgp_machine.proofs.Prelude.{◌≡◌, ◌≤◌, ◌++◌, length, take, map, drop, action_of}
 use Rattle.bgp_machine.proofs.action_views.ActionViews.own.Given as goal
 
 -- the set's first actions and those that are left are all

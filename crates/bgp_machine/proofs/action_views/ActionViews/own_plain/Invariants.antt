@@ -1,5 +1,4 @@
-use Rattle.std.proofs.Common.{◌≡◌, ◌++◌, map, drop}
-use Rattle.bgp_machine.specs.Prelude.{action_of}
+use Rattle.bgp_machine.proofs.Prelude.{◌≡◌, ◌++◌, map, drop, action_of}
 use Rattle.bgp_machine.proofs.action_views.ActionViews.own_plain.Given as goal
 
 -- what is there and what is left are all

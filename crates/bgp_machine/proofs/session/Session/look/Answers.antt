@@ -1,7 +1,4 @@
-use Rattle.std.proofs.Common.{ap, sym, subst, ◌∙◌}
-use Rattle.bgp_frame.specs.Prelude.{IsToFeed}
-use Rattle.bgp_machine.specs.Look.{Looked}
-use Rattle.bgp_machine.specs.Prelude.{Machine}
+use Rattle.bgp_machine.proofs.Prelude.{ap, sym, subst, ◌∙◌, IsToFeed, Looked, Machine}
 use Rattle.bgp_machine.proofs.Looks.{looked_as, finds_message, finds_fault, feeds}
 use Rattle.bgp_machine.proofs.session.Session.look.Goals as goal
 

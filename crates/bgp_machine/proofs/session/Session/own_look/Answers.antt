@@ -1,4 +1,4 @@
-use Rattle.std.proofs.Common.{◌∙◌}
+use Rattle.bgp_machine.proofs.Prelude.{◌∙◌}
 use Rattle.bgp_machine.proofs.Looks.{looked_pulls}
 use Rattle.bgp_machine.proofs.session.Session.own_look.Goals as goal
 

@@ -1,5 +1,4 @@
-use Rattle.std.proofs.Common.{ℕ, Option, Some, sym, subst}
-use Rattle.bgp_machine.specs.Prelude.{IsOwnLook, IsFedAndStepped, Machine, Going}
+use Rattle.bgp_machine.proofs.Prelude.{ℕ, Option, Some, sym, subst, IsOwnLook, IsFedAndStepped, Machine, Going}
 use Rattle.bgp_machine.proofs.Cuttings.{pulls_as_fed}
 use Rattle.bgp_machine.proofs.Looks.{fed_rests}
 use Rattle.bgp_machine.proofs.session.Session.pull_into.Goals as goal

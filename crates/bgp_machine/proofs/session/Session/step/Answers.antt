@@ -1,5 +1,4 @@
-use Rattle.std.proofs.Common.{ℕ, [], Option, refl, subst}
-use Rattle.bgp_machine.specs.Prelude.{IsOwnLook, Going}
+use Rattle.bgp_machine.proofs.Prelude.{ℕ, [], Option, refl, subst, IsOwnLook, Going}
 use Rattle.bgp_machine.proofs.Looks.{held_waits}
 use Rattle.bgp_machine.proofs.session.Session.step.Goals as goal
 

@@ -8,4 +8,4 @@ returns-in-Some-clause-value g c =
     let f = c.args.self.now in
     let first = c.in-Some.ensures.cases in
     c.address.ensures.value
-    ∙ address_of-chunk g.row.W f.len c.in-Some.octets.now f.behind.now f.read.now (omega (arith, ap length first.same, length-take g.row.W f.behind.now, first.enough)) c.requires.allowed c.address.ensures.octets first.same c.requires.read
+    ∙ address_of-chunk g.row.W f.len c.in-Some.field-0.now f.behind.now f.read.now (omega (arith, ap length first.same, length-take g.row.W f.behind.now, first.enough)) c.requires.allowed c.address.ensures.octets first.same c.requires.read

@@ -1,5 +1,4 @@
-use Rattle.std.proofs.Common.{sym, subst}
-use Rattle.bgp_session.specs.Prelude.{Pair, pair, Rests}
+use Rattle.bgp_session.proofs.Prelude.{sym, subst, Pair, pair, Rests}
 use Rattle.bgp_session.proofs.Resting.{on_ok, told_both}
 use Rattle.bgp_session.proofs.pairing.Pairing.tell.Goals as goal
 

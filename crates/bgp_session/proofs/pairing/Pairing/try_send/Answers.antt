@@ -1,7 +1,5 @@
-use Rattle.std.proofs.Common.{sym, subst}
-use Rattle.std.specs.Result.{IfOk}
+use Rattle.bgp_session.proofs.Prelude.{sym, subst, IfOk, Rests, IsTried, World}
 use Rattle.bgp_session.specs.contracts.pairing.Pairing.{the_view}
-use Rattle.bgp_session.specs.Prelude.{Rests, IsTried, World}
 use Rattle.bgp_session.proofs.Resting.{made_a, made_b, tries_a, tries_b, tries_rest_a, tries_rest_b}
 use Rattle.bgp_session.proofs.pairing.Pairing.try_send.Goals as goal
 

@@ -1,5 +1,4 @@
-use Rattle.std.proofs.Common.{◌≡◌, ◌+◌, ◌-◌, ◌++◌, length, drop, arith, ap, ◌∙◌, length-drop}
-use Rattle.bgp_prefix.specs.Prelude.{hex_octet}
+use Rattle.bgp_text.proofs.Prelude.{◌≡◌, ◌+◌, ◌-◌, ◌++◌, length, drop, arith, ap, ◌∙◌, length-drop, hex_octet}
 use Rattle.bgp_text.proofs.Words.{hex_ascii}
 use Rattle.bgp_text.proofs.word.Word.hex_pair.Goals as goal
 

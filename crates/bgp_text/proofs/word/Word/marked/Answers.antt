@@ -1,4 +1,4 @@
-use Rattle.std.proofs.Common.{drop, arith}
+use Rattle.bgp_text.proofs.Prelude.{drop, arith}
 use Rattle.bgp_text.proofs.Words.{marked_ascii}
 use Rattle.bgp_text.proofs.word.Word.marked.Goals as goal
 

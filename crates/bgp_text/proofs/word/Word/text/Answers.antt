@@ -1,5 +1,4 @@
-use Rattle.std.proofs.Common.{◌-◌, drop, arith, take_all, length-drop}
-use Rattle.std.proofs.lemmas.Str.{IsUtf8-from_ascii}
+use Rattle.bgp_text.proofs.Prelude.{◌-◌, drop, arith, take_all, length-drop, IsUtf8-from_ascii}
 use Rattle.bgp_text.proofs.word.Word.text.Goals as goal
 
 pub from_utf8_unchecked-requires : goal.from_utf8_unchecked-requires

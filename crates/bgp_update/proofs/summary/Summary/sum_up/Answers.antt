@@ -1,64 +1,131 @@
-use Rattle.std.proofs.Common.{◌≡◌, Bool, List, ℕ, sym, ap, ap₂, subst, ◌∙◌}
-use Rattle.std.specs.Prelude.{IsTrue}
+use Rattle.bgp_wire.proofs.Std.{◌≡◌, ◌≤◌, Some, subst, arith, ℕ, Bool, true, false, ◌||◌, cond, eqb, List, ◌∷◌, length, refl, sym, ap, ap₂, ◌∙◌, list_any, list_all}
+use Rattle.std.specs.Prelude.{◌-◌, if◌then◌else◌}
+use Rattle.std.specs.Borrow.{Bor}
+use Rattle.std.proofs.Math.Bool.{or-false}
+use Rattle.bgp_attr.specs.Prelude.{is_recognised, judgement, PlacedTlv, placed_tlv, rest_left, TlvValue, tlv_at, tlv_value, tlvs_left}
 use Rattle.bgp_open.specs.declared.context.Context.{Context}
-use Rattle.bgp_attr.specs.Prelude.{judgement, type_row, is_kept, ruled, TlvValue, tlv_at, placed_tlv, tlv_value}
-use Rattle.bgp_update.specs.Prelude.{marks_left, judged_next, Mark, field_marks, types_of_field, SummaryValue, summary_value, summary_behind, summary_of, kept_of}
+use Rattle.bgp_wire.specs.Prelude.{also, has_octet, none_of_them}
+use Rattle.bgp_wire.specs.declared.octet_set.OctetSet.{OctetSet}
+use Rattle.bgp_attr.specs.declared.tlv_iter.TlvIter.{TlvIter}
+use Rattle.bgp_update.specs.Summary.{Adds}
+use Rattle.bgp_update.specs.declared.summary.Summary.{Summary}
+use Rattle.bgp_update.specs.declared.kept_view.KeptView.{KeptView}
+use Rattle.bgp_update.specs.Prelude.{AreOf, Mark, cut_mark, field_marks, is_small, judged_behind, repeated, kept_of, marks_ahead, saw, seen_by, SummaryValue, summary_value, summary_behind, summary_of, types_of_field}
 use Rattle.bgp_update.proofs.KeptViews.{kept_known}
-use Rattle.bgp_update.proofs.Summaries.{summary_step, summary_whole}
+use Rattle.bgp_update.proofs.MarkTypes.{also_others, also_these, joined, types_step}
+use Rattle.bgp_update.proofs.SmallLemmas.{both_small, field_small}
+use Rattle.bgp_update.proofs.Summaries.{ahead_none, ahead_step, whole_ahead, none_yet, summary_step, summary_whole}
 use Rattle.bgp_update.proofs.summary.Summary.sum_up.Goals as goal
 
 pub field-init : goal.field-init
 field-init c =
-    let kept = c.new.ensures.of in
-    let walked = c.new-marks.ensures.of in (
-      ap₂ summary_behind c.new.ensures.value c.new-marks.ensures.marks ∙ summary_whole (field_marks c.args.ctx.now c.args.has_nlri c.args.field.now),
-      c.new-marks.ensures.types,
-      (kept.0 ∙ sym walked.0, kept.1 ∙ sym walked.1, kept.2 ∙ sym walked.2),
+    let ctx = c.args.ctx.now in
+    let nlri = c.args.has_nlri in
+    let field = c.args.field.now in
+    let unseen : seen_by c.new.result.kept c.new-others.result ≡ none_of_them = none_yet c.new.result.kept c.new-others.result c.new.ensures.seen c.new-others.ensures in (
+      ap₂ summary_behind c.new.ensures.value (whole_ahead ctx nlri field (seen_by c.new.result.kept c.new-others.result) c.new-tlvs.result unseen c.new-tlvs.ensures.attributes c.new-tlvs.ensures.rest)
+          ∙ summary_whole (field_marks ctx nlri field),
+      λ kind. ap₂ (λ (seen : ℕ → Bool) (ps : List PlacedTlv). seen kind || list_any (λ p. eqb p.tlv.kind kind) ps) unseen c.new-tlvs.ensures.attributes,
+      ap (list_all is_small) c.new-tlvs.ensures.attributes ∙ field_small field c.requires,
+      c.new-tlvs.ensures.field,
+      c.new.ensures.of,
     )
 
-pub add-requires : goal.add-requires
-add-requires c =
-    let kept = c.field.self.kept in
-    let marks = c.next_tlv.new.self in
+-- one more attribute, however it was judged
+module _ (ctx : Context) (nlri : Bool) (field : List ℕ) (s t : Summary) (others later : OctetSet) (it after : TlvIter) (p : PlacedTlv) where
+  abbrev Walked : Summary → OctetSet → TlvIter → Type 0
+  Walked u types tlvs =
+      (summary_behind (summary_value u) (marks_ahead ctx nlri field (seen_by u.kept types) tlvs) ≡ summary_of (field_marks ctx nlri field))
+      × ((kind : ℕ) → (seen_by u.kept types kind || list_any (λ q. eqb q.tlv.kind kind) (tlvs_left tlvs)) ≡ types_of_field field kind)
+      × (list_all is_small (tlvs_left tlvs) ≡ true)
+      × (tlvs.field.now ≡ field)
+      × AreOf u.kept ctx nlri field
+
+  one_more : tlvs_left it ≡ p ∷ tlvs_left after → rest_left it ≡ rest_left after → after.field ≡ it.field → Walked s others it
+      → Adds s (judged_behind ctx nlri (seen_by s.kept others) p.tlv) t → seen_by t.kept later ≡ also p.tlv.kind (seen_by s.kept others) → AreOf t.kept ctx nlri field
+      → Walked t later after
+  one_more tlvs rest stays walked adds seen of =
+      let mark : Mark = record { at = p.at; kind = p.tlv.kind; judged = judged_behind ctx nlri (seen_by s.kept others) p.tlv } in (
+        summary_step (summary_value s) (summary_value t) (summary_of (field_marks ctx nlri field)) mark (marks_ahead ctx nlri field (seen_by s.kept others) it)
+            (marks_ahead ctx nlri field (seen_by t.kept later) after) (adds mark refl) (ahead_step ctx nlri field (seen_by s.kept others) (seen_by t.kept later) p it after tlvs rest seen) walked.0,
+        types_step (seen_by s.kept others) (seen_by t.kept later) p (tlvs_left it) (tlvs_left after) (types_of_field field) seen tlvs walked.1,
+        (both_small p (tlvs_left after) (ap (list_all is_small) (sym tlvs) ∙ walked.2)).1,
+        ap (λ (octets : Bor (List ℕ)). octets.now) stays ∙ walked.3,
+        of,
+      )
+
+pub field-preserved-then-is_recognised : goal.field-preserved-then-is_recognised
+field-preserved-then-is_recognised c =
+    let k = c.field.self.kept in
     let t : TlvValue = tlv_value c.in-Some.tlv in
-    let same = c.field.invariant.2 in
-    let stays = c.in-Some.ensures.of in
+    let ctx = c.args.ctx.now in
+    let nlri = c.args.has_nlri in
+    let step = c.in-Some.ensures.steps in
+    let known : is_recognised t.kind ≡ true = sym c.is_recognised.ensures ∙ c.if-is_recognised.true in
+    let walked = c.field.invariant in
+    let of = walked.4 in
+    let same : judged_behind ctx nlri (seen_by k c.field.others) t ≡ judged_behind k.ctx k.has_nlri (saw k) t =
+    ap₂ (λ (x : Context) (n : Bool). judged_behind x n (seen_by k c.field.others) t) (sym of.0) (sym of.1)
+    ∙ ap (λ (b : Bool). if cond b (saw k t.kind) (has_octet c.field.others t.kind) then repeated t.kind else judgement k.ctx k.has_nlri t) known in
+    one_more ctx nlri c.args.field.now c.field.self c.add.new.self c.field.others c.field.others c.field.tlvs c.next.new.self (placed_tlv c.in-Some.tlv)
+    step.0 step.1 step.2.0 walked (λ m e. c.add.ensures.adds m (e ∙ same))
+    (ap (λ (set : ℕ → Bool). joined is_recognised set (has_octet c.field.others)) c.add.ensures.seen ∙ also_these is_recognised (saw k) (has_octet c.field.others) t.kind known)
+    (c.add.ensures.of.0 ∙ of.0, c.add.ensures.of.1 ∙ of.1, c.add.ensures.of.2 ∙ of.2)
+
+-- one attribute stands at an offset
+same-there : (field : List ℕ) (at : ℕ) (s t : TlvValue) → tlv_at field at ≡ Some s → tlv_at field at ≡ Some t → s ≡ t
+same-there field at s t e f = let same : Some s ≡ Some t = sym e ∙ f in cc
+
+pub add_other_at-requires : goal.add_other_at-requires
+add_other_at-requires c =
+    let t : TlvValue = tlv_value c.in-Some.tlv in
+    let step = c.in-Some.ensures.steps in
+    let walked = c.field.invariant in
+    let field = ap (λ (octets : List ℕ). tlv_at octets c.in-Some.tlv.at) (walked.4.2 ∙ sym walked.3) in
+    let small = (both_small (placed_tlv c.in-Some.tlv) (tlvs_left c.next.new.self) (ap (list_all is_small) (sym step.0) ∙ walked.2)).0 in
     record {
-      there = ap (λ (field : List ℕ). tlv_at field c.in-Some.tlv.at) same.2 ∙ c.in-Some.ensures.there;
-      kept = λ keeps.
-          subst (λ (ctx : Context). IsTrue (is_kept (judgement ctx kept.has_nlri t))) (stays.0 ∙ sym same.0)
-          (subst (λ (nlri : Bool). IsTrue (is_kept (judgement marks.ctx nlri t))) (stays.1 ∙ sym same.1) (c.rule-ruling.ensures.kept keeps));
-      small = c.in-Some.ensures.small;
+      other = λ s there.
+          subst (λ (u : TlvValue). (is_recognised u.kind ≡ false) × (length u.whole ≤ 4075)) (same-there c.field.tlvs.field.now c.in-Some.tlv.at t s step.2.1 (sym field ∙ there))
+          (sym c.is_recognised.ensures ∙ c.if-is_recognised.false, omega (arith, small));
     }
 
 pub field-preserved : goal.field-preserved
 field-preserved c =
-    let kept = c.field.self.kept in
-    let marks = c.next_tlv.new.self in
+    let k = c.field.self.kept in
     let t : TlvValue = tlv_value c.in-Some.tlv in
-    let same = c.field.invariant.2 in
-    let stays = c.in-Some.ensures.of in
-    let judged = judged_next marks (placed_tlv c.in-Some.tlv) in
-    let mark : Mark = record { at = c.in-Some.tlv.at; kind = c.in-Some.tlv.kind; judged = judged } in
-    let types = types_of_field c.args.field.now in
-    let is : judged ≡ ruled c.rule-ruling.result t.whole (type_row kept.ctx kept.has_nlri t).value =
-    sym c.rule-ruling.ensures.judged
-    ∙ ap₂ (λ (ctx : Context) (nlri : Bool). ruled c.rule-ruling.result t.whole (type_row ctx nlri t).value) (stays.0 ∙ sym same.0) (stays.1 ∙ sym same.1) in
-    let more = c.add.ensures.of in
-    let ruled_on = c.rule-ruling.ensures.of in (
-      summary_step (summary_value c.field.self) (summary_value c.add.new.self)
-          (summary_of (field_marks c.args.ctx.now c.args.has_nlri c.args.field.now)) mark (marks_left c.field.marks) (marks_left c.rule-ruling.new.self)
-          (c.add.ensures.adds mark is) (c.in-Some.ensures.marks ∙ c.rule-ruling.ensures.marks) c.field.invariant.0,
-      c.rule-ruling.ensures.types types (c.in-Some.ensures.types types c.field.invariant.1),
-      (more.0 ∙ same.0 ∙ sym (ruled_on.0 ∙ stays.0), more.1 ∙ same.1 ∙ sym (ruled_on.1 ∙ stays.1), more.2 ∙ same.2 ∙ sym (ruled_on.2 ∙ stays.2)),
-    )
+    let ctx = c.args.ctx.now in
+    let nlri = c.args.has_nlri in
+    let step = c.in-Some.ensures.steps in
+    let other : is_recognised t.kind ≡ false = sym c.is_recognised.ensures ∙ c.if-is_recognised.false in
+    let walked = c.field.invariant in
+    let of = walked.4 in
+    let more = c.add_other_at.ensures.adds t (ap (λ (octets : List ℕ). tlv_at octets c.in-Some.tlv.at) (of.2 ∙ sym walked.3) ∙ step.2.1) in
+    let same : judged_behind ctx nlri (seen_by k c.field.others) t ≡ judged_behind k.ctx k.has_nlri (has_octet c.field.others) t =
+    ap₂ (λ (x : Context) (n : Bool). judged_behind x n (seen_by k c.field.others) t) (sym of.0) (sym of.1)
+    ∙ ap (λ (b : Bool). if cond b (saw k t.kind) (has_octet c.field.others t.kind) then repeated t.kind else judgement k.ctx k.has_nlri t) other in
+    one_more ctx nlri c.args.field.now c.field.self c.add_other_at.new.self c.field.others c.add_other_at.new.seen c.field.tlvs c.next.new.self (placed_tlv c.in-Some.tlv)
+    step.0 step.1 step.2.0 walked (λ m e. more.0 m (e ∙ same))
+    (ap₂ (λ (these others : ℕ → Bool). joined is_recognised these others) c.add_other_at.ensures.same more.1 ∙ also_others is_recognised (saw k) (has_octet c.field.others) t.kind other)
+    (c.add_other_at.ensures.of.0 ∙ of.0, c.add_other_at.ensures.of.1 ∙ of.1, c.add_other_at.ensures.of.2 ∙ of.2)
 
-pub returns-clause-types : goal.returns-clause-types
-returns-clause-types c kind =
-    let types = types_of_field c.args.field.now in
-    sym (c.types.ensures kind) ∙ c.add_cut.ensures.types types (c.in_default.ensures.types types c.field.invariant.1) kind
-
-pub returns-clause-known : goal.returns-clause-known
-returns-clause-known c =
-    kept_known c.add_cut.new.self.kept (kept_of (field_marks c.args.ctx.now c.args.has_nlri c.args.field.now)) (ap (λ (s : SummaryValue). s.kept)
-    (c.add_cut.ensures.marks ∙ ap (summary_behind (summary_value c.field.self)) c.in_default.ensures.marks.1 ∙ c.field.invariant.0))
+pub returns : goal.returns
+returns c =
+    let field = c.args.field.now in
+    let marks = field_marks c.args.ctx.now c.args.has_nlri field in
+    let k = c.field.self.kept in
+    let left = c.in_default.ensures.steps in
+    let cut = ap (λ (rest : List ℕ). cut_mark (length field - length rest) rest) in
+    let whole : summary_value c.add_tail.new.self ≡ summary_of marks =
+    c.add_tail.ensures.adds (rest_left c.next.new.self) (length field - length (rest_left c.next.new.self)) c.tail.ensures
+    ∙ ap (summary_behind (summary_value c.field.self)) (sym (cut left.1) ∙ sym (ahead_none c.args.ctx.now c.args.has_nlri field (seen_by k c.field.others) c.field.tlvs left.0.0))
+    ∙ c.field.invariant.0 in
+    record {
+      marks = whole;
+      known = kept_known c.add_tail.new.self.kept (kept_of marks) (ap (λ (s : SummaryValue). s.kept) whole);
+      types = λ kind known.
+          ap (λ (kept : KeptView). saw kept kind) c.add_tail.ensures.same
+          ∙ sym (ap (λ (b : Bool). cond b (saw k kind) (has_octet c.field.others kind)) known)
+          ∙ sym (or-false (seen_by k c.field.others kind))
+          ∙ ap (λ (ps : List PlacedTlv). seen_by k c.field.others kind || list_any (λ q. eqb q.tlv.kind kind) ps) (sym left.0.0)
+          ∙ c.field.invariant.1 kind;
+    }

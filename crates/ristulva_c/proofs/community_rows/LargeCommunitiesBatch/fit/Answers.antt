@@ -1,10 +1,4 @@
-use Rattle.bgp_wire.proofs.Std.{◌≡◌, length, Some, sym, ap, ◌∙◌, arith, le-leb, length-map}
-use Rattle.std.specs.Prelude.{option_map}
-use Rattle.bgp_attr.specs.Prelude.{large_value}
-use Rattle.bgp_update.specs.Prelude.{update_value}
-use Rattle.bgp_update.specs.declared.attrs.Attrs.{Attrs}
-use Rattle.bgp_msg.specs.Prelude.{outcome_value}
-use Rattle.bgp_msg.specs.declared.outcome_view.OutcomeView.{OutcomeView}
+use Rattle.ristulva_c.proofs.Below.{◌≡◌, length, Some, sym, ap, ◌∙◌, arith, le-leb, length-map, option_map, large_value, update_value, Attrs, outcome_value, OutcomeView}
 use Rattle.ristulva_c.specs.Prelude.{large_row, large_rows, attrs_in}
 use Rattle.ristulva_c.proofs.FewNumbers.{few_in, few_large}
 use Rattle.ristulva_c.proofs.community_rows.LargeCommunitiesBatch.fit.Goals as goal

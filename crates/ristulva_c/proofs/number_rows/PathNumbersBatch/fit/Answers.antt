@@ -1,9 +1,4 @@
-use Rattle.bgp_wire.proofs.Std.{◌≡◌, leb, length, Some, sym, ap, ◌∙◌, arith, le-leb}
-use Rattle.std.specs.Prelude.{option_map}
-use Rattle.bgp_update.specs.Prelude.{rebuilt, joined_value, update_value}
-use Rattle.bgp_update.specs.declared.path_info.PathInfo.{PathInfo}
-use Rattle.bgp_msg.specs.Prelude.{outcome_value}
-use Rattle.bgp_msg.specs.declared.outcome_view.OutcomeView.{OutcomeView}
+use Rattle.ristulva_c.proofs.Below.{◌≡◌, leb, length, Some, sym, ap, ◌∙◌, arith, le-leb, option_map, rebuilt, joined_value, update_value, PathInfo, outcome_value, OutcomeView}
 use Rattle.ristulva_c.specs.Prelude.{path_rows, number_rows, attrs_in}
 use Rattle.ristulva_c.proofs.FewNumbers.{few_in, few_numbers}
 use Rattle.ristulva_c.proofs.NumberRows.{rows_count}

@@ -1,9 +1,4 @@
-use Rattle.std.proofs.Common.{◌≡◌, Some, sym, ap, ◌∙◌, arith}
-use Rattle.std.specs.Prelude.{option_map}
-use Rattle.bgp_update.specs.Prelude.{rebuilt, joined_value, update_value}
-use Rattle.bgp_update.specs.declared.path_info.PathInfo.{PathInfo}
-use Rattle.bgp_msg.specs.Prelude.{outcome_value}
-use Rattle.bgp_msg.specs.declared.outcome_view.OutcomeView.{OutcomeView}
+use Rattle.ristulva_c.proofs.Below.{◌≡◌, Some, sym, ap, ◌∙◌, arith, option_map, rebuilt, joined_value, update_value, PathInfo, outcome_value, OutcomeView}
 use Rattle.ristulva_c.specs.Prelude.{attrs_in}
 use Rattle.ristulva_c.proofs.FewNumbers.{few_in}
 use Rattle.ristulva_c.proofs.number_rows.PathNumbersBatch.put.Goals as goal

@@ -1,5 +1,4 @@
-use Rattle.bgp_wire.proofs.Std.{length, sym, arith, le-leb}
-use Rattle.bgp_update.specs.Prelude.{parts_of}
+use Rattle.ristulva_c.proofs.Below.{length, sym, arith, le-leb, parts_of}
 use Rattle.ristulva_c.specs.Prelude.{rows_seen}
 use Rattle.ristulva_c.proofs.RouteRows.{gives_rows, few_rows, few_update}
 use Rattle.ristulva_c.proofs.route_rows.RoutesBatch.fit.Goals as goal
