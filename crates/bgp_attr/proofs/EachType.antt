@@ -1,5 +1,5 @@
 -- What is owed of each type, type by type: its tests refuse, what they let pass is spelled by its octets and by no others, can be written and is read back.
-use Rattle.bgp_wire.proofs.Std.{◌≡◌, ℕ, Bool, true, false, ◌&&◌, List, ◌∷◌, Option, Some, None, refl, sym, ap, subst, ◌∙◌, ◌≤◌, not, eqb, ◌++◌, length, arith, ◌<◌, ltb, suc, lit<, list_any, eqb-false, ltb-false, not-false, or_parts}
+use Rattle.bgp_wire.proofs.Std.{◌≡◌, ℕ, Bool, true, false, ◌&&◌, List, ◌∷◌, Option, Some, None, refl, sym, ap, subst, ◌∙◌, ◌≤◌, not, eqb, ◌++◌, length, arith, ◌<◌, ltb, suc, lit<, list_any, eqb-false, ltb-false, not-false, not_from_true, or_parts}
 use Rattle.std.proofs.lemmas.Bool.{true≢false}
 use Rattle.bgp_numbers.specs.declared.afi.TheConstants.{IPV4, IPV6}
 use Rattle.bgp_numbers.specs.declared.attribute.TheConstants as attribute
@@ -8,7 +8,7 @@ use Rattle.bgp_open.specs.declared.context.Context.{Context}
 use Rattle.bgp_wire.proofs.OctetLemmas.{AreOctets-front, AreOctets-back, AreOctets-nil, AreOctets-one}
 use Rattle.bgp_attr.specs.declared.attr.Attr.{Attr}
 use Rattle.bgp_attr.specs.declared.judged.Judged.{Judged}
-use Rattle.bgp_attr.specs.Prelude.{TlvValue, aggregator_tests, AttributeType, is_recognised, types, other_type, type_row, judgement, is_writable, as_path_form, origin_code, link_octets, HasLink, Spells, IsTlv, type_of, written_tlv, canonical, any_number, is_above_two_octets, is_bad_segment, HasLinkRange, Belongs, IsFourOctets, HasRanges, value_octets, class_of, partial_of, CanBeWritten}
+use Rattle.bgp_attr.specs.Prelude.{TlvValue, aggregator_tests, AttributeType, is_recognised, types, other_type, type_row, judgement, is_writable, as_path_form, origin_code, link_octets, HasLink, Spells, IsTlv, type_of, written_tlv, canonical, any_number, is_above_two_octets, is_bad_segment, is_out_of_place, HasLinkRange, Belongs, IsFourOctets, HasRanges, value_octets, class_of, partial_of, CanBeWritten}
 use Rattle.bgp_attr.specs.declared.judged.Judged.TheVariants as judged
 use Rattle.bgp_attr.specs.declared.why.Why.TheVariants as why
 use Rattle.bgp_attr.specs.declared.aggregator.Aggregator.{Aggregator}
@@ -148,6 +148,32 @@ kept-rewritten ctx has_nlri t a b s octets keeps =
     let behind : AreOctets (s.size ++ t.value) = λ i. all (suc (suc i)) in
     let kept = kept-fulfils ctx has_nlri t a (AreOctets-back s.size t.value behind) keeps in
     rewritten-fits ctx has_nlri t a b s (AreOctets-front s.size t.value behind) (kept.1 (all 1))
+
+-- ---- where it belongs
+
+-- NEXT_HOP where there is NLRI, LOCAL_PREF inside one system
+abbrev pub Placed : Context → Bool → Attr → Type 0
+Placed ctx has_nlri (attr.NextHop addr) = has_nlri ≡ true
+Placed ctx has_nlri (attr.LocalPref n) = ctx.internal ≡ true
+Placed ctx has_nlri _ = Unit {0}
+
+-- an attribute that is placed so belongs where the session has a place for it
+pub belongs : (ctx : Context) (has_nlri : Bool) (a : Attr) → Placed ctx has_nlri a → is_out_of_place ctx a ≡ false → Belongs ctx has_nlri a
+belongs ctx has_nlri (attr.NextHop addr) placed place = placed
+belongs ctx has_nlri (attr.LocalPref n) placed place = placed
+belongs ctx has_nlri (attr.MpReach (reach.Ip4 hop routes)) placed place = not-false ctx.ip4 place
+belongs ctx has_nlri (attr.MpReach (reach.Ip6 hop link routes)) placed place = not-false ctx.ip6 place
+belongs ctx has_nlri (attr.MpUnreach (unreach.Ip4 routes)) placed place = not-false ctx.ip4 place
+belongs ctx has_nlri (attr.MpUnreach (unreach.Ip6 routes)) placed place = not-false ctx.ip6 place
+belongs ctx has_nlri _ placed place = tt
+
+-- and it belongs nowhere else
+pub has-place : (ctx : Context) (has_nlri : Bool) (a : Attr) → Belongs ctx has_nlri a → is_out_of_place ctx a ≡ false
+has-place ctx has_nlri (attr.MpReach (reach.Ip4 hop routes)) in_place = not_from_true ctx.ip4 in_place
+has-place ctx has_nlri (attr.MpReach (reach.Ip6 hop link routes)) in_place = not_from_true ctx.ip6 in_place
+has-place ctx has_nlri (attr.MpUnreach (unreach.Ip4 routes)) in_place = not_from_true ctx.ip4 in_place
+has-place ctx has_nlri (attr.MpUnreach (unreach.Ip6 routes)) in_place = not_from_true ctx.ip6 in_place
+has-place ctx has_nlri _ in_place = refl
 
 -- ---- what is written is octets, and is kept as the value that was written
 

@@ -1,6 +1,8 @@
 -- A number at the front of octets, as the code cuts it off.
-use Rattle.bgp_wire.proofs.Std.{◌≡◌, ℕ, ◌<◌, ◌≤◌, true, false, List, [], ◌∷◌, length, get_or, take, drop, Some, None, refl, ap, arith, w16, w32, from_be_bytes, le-leb, lt-leb}
+use Rattle.bgp_wire.proofs.Std.{◌≡◌, ℕ, zero, suc, ◌+◌, ◌<◌, ◌≤◌, true, false, List, [], ◌∷◌, length, get_or, take, drop, take-append-drop, Option, Some, None, refl, sym, ap, ◌∙◌, arith, w16, w32, from_be_bytes, le-leb, lt-leb}
+use Rattle.std.proofs.lemmas.List.{length-append, length-take}
 use Rattle.bgp_attr.specs.Prelude.{one_number, one_triple}
+use Rattle.bgp_attr.proofs.Readers.{IsTriple-reads}
 
 four_cells : (b : List ℕ) → 4 ≤ length b → take 4 b ≡ get_or (take 4 b) 0 0 ∷ get_or (take 4 b) 1 0 ∷ get_or (take 4 b) 2 0 ∷ get_or (take 4 b) 3 0 ∷ []
 four_cells (a ∷ b ∷ c ∷ d ∷ rest) le = refl
@@ -33,36 +35,30 @@ two_short b lt = rw (lt-leb 2 (length b) lt) refl
 
 -- ---- three numbers at once
 
+-- four cells in a row
+cells_at : (k : ℕ) (b : List ℕ) → k + 4 ≤ length b → take 4 (drop k b) ≡ get_or b k 0 ∷ get_or b (suc k) 0 ∷ get_or b (suc (suc k)) 0 ∷ get_or b (suc (suc (suc k))) 0 ∷ []
+cells_at zero (a ∷ b ∷ c ∷ d ∷ rest) le = refl
+cells_at (suc k) (a ∷ b) le = cells_at k b (omega arith)
+cells_at (suc k) [] le = absurd (omega arith)
+cells_at zero [] le = absurd (omega arith)
+cells_at zero (a ∷ []) le = absurd (omega arith)
+cells_at zero (a ∷ b ∷ []) le = absurd (omega arith)
+cells_at zero (a ∷ b ∷ c ∷ []) le = absurd (omega arith)
+
 pub twelve_taken : (b : List ℕ) → 12 ≤ length b
     → one_triple b ≡ Some (from_be_bytes w32 (get_or (take 12 b) 0 0 ∷ get_or (take 12 b) 1 0 ∷ get_or (take 12 b) 2 0 ∷ get_or (take 12 b) 3 0 ∷ []) ∷ from_be_bytes w32 (get_or (take 12 b) 4 0 ∷ get_or (take 12 b) 5 0 ∷ get_or (take 12 b) 6 0 ∷ get_or (take 12 b) 7 0 ∷ []) ∷ from_be_bytes w32 (get_or (take 12 b) 8 0 ∷ get_or (take 12 b) 9 0 ∷ get_or (take 12 b) 10 0 ∷ get_or (take 12 b) 11 0 ∷ []) ∷ [], drop 12 b)
-unfolding one_triple
-twelve_taken (a ∷ b ∷ c ∷ d ∷ e ∷ f ∷ g ∷ h ∷ i ∷ j ∷ k ∷ l ∷ rest) le =
-    rw (four_taken (a ∷ b ∷ c ∷ d ∷ e ∷ f ∷ g ∷ h ∷ i ∷ j ∷ k ∷ l ∷ rest) (omega arith), four_taken (e ∷ f ∷ g ∷ h ∷ i ∷ j ∷ k ∷ l ∷ rest) (omega arith), four_taken (i ∷ j ∷ k ∷ l ∷ rest) (omega arith)) refl
-twelve_taken [] le = absurd (omega arith)
-twelve_taken (a ∷ []) le = absurd (omega arith)
-twelve_taken (a ∷ b ∷ []) le = absurd (omega arith)
-twelve_taken (a ∷ b ∷ c ∷ []) le = absurd (omega arith)
-twelve_taken (a ∷ b ∷ c ∷ d ∷ []) le = absurd (omega arith)
-twelve_taken (a ∷ b ∷ c ∷ d ∷ e ∷ []) le = absurd (omega arith)
-twelve_taken (a ∷ b ∷ c ∷ d ∷ e ∷ f ∷ []) le = absurd (omega arith)
-twelve_taken (a ∷ b ∷ c ∷ d ∷ e ∷ f ∷ g ∷ []) le = absurd (omega arith)
-twelve_taken (a ∷ b ∷ c ∷ d ∷ e ∷ f ∷ g ∷ h ∷ []) le = absurd (omega arith)
-twelve_taken (a ∷ b ∷ c ∷ d ∷ e ∷ f ∷ g ∷ h ∷ i ∷ []) le = absurd (omega arith)
-twelve_taken (a ∷ b ∷ c ∷ d ∷ e ∷ f ∷ g ∷ h ∷ i ∷ j ∷ []) le = absurd (omega arith)
-twelve_taken (a ∷ b ∷ c ∷ d ∷ e ∷ f ∷ g ∷ h ∷ i ∷ j ∷ k ∷ []) le = absurd (omega arith)
+twelve_taken b le =
+    let c : List ℕ = take 12 b in
+    let twelve : length c ≡ 12 = omega (arith, length-take 12 b) in
+    let x = cells_at 0 c (omega arith) in
+    let y = cells_at 4 c (omega arith) in
+    let z = cells_at 8 c (omega arith) in
+    ap one_triple (sym (take-append-drop 12 b))
+    ∙ IsTriple-reads.finds _ c (drop 12 b) (record { twelve = twelve; numbers = λ i. from_be_bytes w32 (sym x i) ∷ from_be_bytes w32 (sym y i) ∷ from_be_bytes w32 (sym z i) ∷ [] })
+
+no_triple : (b : List ℕ) → length b < 12 → (o : Option (List ℕ × List ℕ)) → one_triple b ≡ o → o ≡ None
+no_triple b lt None e = refl
+no_triple b lt (Some (t, back)) e = let found = IsTriple-reads.gives b t back e in absurd (omega (arith, lt, ap length found.1, length-append found.0 back, found.2.twelve))
 
 pub twelve_short : (b : List ℕ) → length b < 12 → one_triple b ≡ None
-unfolding one_triple
-twelve_short [] lt = rw (four_short ([]) (omega arith)) refl
-twelve_short (a ∷ []) lt = rw (four_short (a ∷ []) (omega arith)) refl
-twelve_short (a ∷ b ∷ []) lt = rw (four_short (a ∷ b ∷ []) (omega arith)) refl
-twelve_short (a ∷ b ∷ c ∷ []) lt = rw (four_short (a ∷ b ∷ c ∷ []) (omega arith)) refl
-twelve_short (a ∷ b ∷ c ∷ d ∷ []) lt = rw (four_taken (a ∷ b ∷ c ∷ d ∷ []) (omega arith), four_short ([]) (omega arith)) refl
-twelve_short (a ∷ b ∷ c ∷ d ∷ e ∷ []) lt = rw (four_taken (a ∷ b ∷ c ∷ d ∷ e ∷ []) (omega arith), four_short (e ∷ []) (omega arith)) refl
-twelve_short (a ∷ b ∷ c ∷ d ∷ e ∷ f ∷ []) lt = rw (four_taken (a ∷ b ∷ c ∷ d ∷ e ∷ f ∷ []) (omega arith), four_short (e ∷ f ∷ []) (omega arith)) refl
-twelve_short (a ∷ b ∷ c ∷ d ∷ e ∷ f ∷ g ∷ []) lt = rw (four_taken (a ∷ b ∷ c ∷ d ∷ e ∷ f ∷ g ∷ []) (omega arith), four_short (e ∷ f ∷ g ∷ []) (omega arith)) refl
-twelve_short (a ∷ b ∷ c ∷ d ∷ e ∷ f ∷ g ∷ h ∷ []) lt = rw (four_taken (a ∷ b ∷ c ∷ d ∷ e ∷ f ∷ g ∷ h ∷ []) (omega arith), four_taken (e ∷ f ∷ g ∷ h ∷ []) (omega arith), four_short ([]) (omega arith)) refl
-twelve_short (a ∷ b ∷ c ∷ d ∷ e ∷ f ∷ g ∷ h ∷ i ∷ []) lt = rw (four_taken (a ∷ b ∷ c ∷ d ∷ e ∷ f ∷ g ∷ h ∷ i ∷ []) (omega arith), four_taken (e ∷ f ∷ g ∷ h ∷ i ∷ []) (omega arith), four_short (i ∷ []) (omega arith)) refl
-twelve_short (a ∷ b ∷ c ∷ d ∷ e ∷ f ∷ g ∷ h ∷ i ∷ j ∷ []) lt = rw (four_taken (a ∷ b ∷ c ∷ d ∷ e ∷ f ∷ g ∷ h ∷ i ∷ j ∷ []) (omega arith), four_taken (e ∷ f ∷ g ∷ h ∷ i ∷ j ∷ []) (omega arith), four_short (i ∷ j ∷ []) (omega arith)) refl
-twelve_short (a ∷ b ∷ c ∷ d ∷ e ∷ f ∷ g ∷ h ∷ i ∷ j ∷ k ∷ []) lt = rw (four_taken (a ∷ b ∷ c ∷ d ∷ e ∷ f ∷ g ∷ h ∷ i ∷ j ∷ k ∷ []) (omega arith), four_taken (e ∷ f ∷ g ∷ h ∷ i ∷ j ∷ k ∷ []) (omega arith), four_short (i ∷ j ∷ k ∷ []) (omega arith)) refl
-twelve_short (a ∷ b ∷ c ∷ d ∷ e ∷ f ∷ g ∷ h ∷ i ∷ j ∷ k ∷ l ∷ rest) lt = absurd (omega arith)
+twelve_short b lt = no_triple b lt (one_triple b) refl

@@ -1,9 +1,13 @@
 -- The head of an attribute in the room for it, in front of its value.
-use Rattle.bgp_wire.proofs.Std.{◌≡◌, ℕ, ◌+◌, ◌<◌, ◌≤◌, Bool, true, ltb, List, [], ◌∷◌, ◌++◌, length, take, drop, refl, sym, ap, ap₂, ◌∙◌, append_assoc, drop-drop, arith, w16, to_be_bytes, insert, take-append_seam, drop-append-add}
+use Rattle.bgp_wire.proofs.Std.{◌≡◌, ℕ, ◌+◌, ◌<◌, ◌≤◌, Bool, true, false, cond, ltb, List, [], ◌∷◌, ◌++◌, length, take, drop, refl, sym, ap, ap₂, ◌∙◌, append_assoc, drop-drop, arith, w16, to_be_bytes, insert, take-append_seam, drop-append-add}
 use Rattle.std.proofs.lemmas.Bool.{lt-ltb}
 use Rattle.std.proofs.lemmas.List.{length-take}
 use Rattle.bgp_attr.specs.declared.class.Class.{Class}
-use Rattle.bgp_attr.specs.Prelude.{flags_octet, tlv_octets}
+use Rattle.bgp_wire.specs.Prelude.{Extends}
+use Rattle.bgp_open.specs.declared.context.Context.{Context}
+use Rattle.bgp_attr.specs.declared.attr.Attr.{Attr}
+use Rattle.bgp_attr.specs.Prelude.{flags_octet, tlv_octets, value_octets, canonical}
+use Rattle.bgp_attr.proofs.CanonicalLength.{length-canonical}
 use Rattle.bgp_attr.proofs.WrittenTlv.{head_then_value}
 
 -- a value of more than 255 octets: an octet is put in, since its length has two
@@ -24,3 +28,24 @@ finished_long class partial flags kind k start len high low old mid new room man
     ∙ ap₂ (λ (n : ℕ) (b : List ℕ). front ++ (flags ∷ n ∷ (b ++ value))) kind_is two
     ∙ sym (append_assoc front (flags ∷ kind ∷ to_be_bytes w16 len) value))
     ∙ ap (λ (t : Bool). front ++ tlv_octets (flags_octet class partial t) kind value) (sym wide)
+
+no_less : (t : Bool) → 1 ≤ cond t 2 1
+no_less true = omega arith
+no_less false = omega arith
+
+pub behind_head : (ctx : Context) (a : Attr) → 3 + length (value_octets ctx a) ≤ length (canonical ctx a)
+behind_head ctx a = omega (arith, length-canonical ctx a, no_less (ltb 255 (length (value_octets ctx a))))
+
+-- the whole, made of the value behind the room for the head
+module _ (make : List ℕ → List ℕ) (start : ℕ) (old value mid now : List ℕ) (at : start ≡ length old) (room_is : mid ≡ old ++ 0 ∷ 0 ∷ 0 ∷ []) (now_is : now ≡ mid ++ value) where
+  whole_now : now ≡ old ++ 0 ∷ 0 ∷ 0 ∷ value
+  whole_now = now_is ∙ ap (λ (b : List ℕ). b ++ value) room_is ∙ append_assoc old (0 ∷ 0 ∷ 0 ∷ []) value
+
+  value_now : drop (start + 3) now ≡ value
+  value_now = ap₂ (λ (n : ℕ) (b : List ℕ). drop (n + 3) b) at whole_now ∙ drop-append-add old (0 ∷ 0 ∷ 0 ∷ value) 3
+
+  pub made_whole : (new : List ℕ) → new ≡ take start now ++ make (drop (start + 3) now) → new ≡ old ++ make value
+  made_whole new e = e ∙ ap₂ (λ (a b : List ℕ). a ++ make b) (ap₂ (λ (n : ℕ) (b : List ℕ). take n b) at whole_now ∙ take-append_seam old (0 ∷ 0 ∷ 0 ∷ value)) value_now
+
+  pub made_refused : (room : ℕ) (new : List ℕ) → new ≡ now → room < start + length (make (drop (start + 3) now)) → Extends old new × (room < length old + length (make value))
+  made_refused room new e full = ((0 ∷ 0 ∷ 0 ∷ value, e ∙ whole_now), omega (arith, full, at, ap (λ (b : List ℕ). length (make b)) value_now))

@@ -26,3 +26,4 @@ pub mod Heads
 pub mod ViewWrites
 pub mod NumberOctets
 pub mod CanonicalLength
+pub mod Parts

@@ -94,6 +94,18 @@ triple_finds t (a ∷ b ∷ c ∷ d ∷ e ∷ f ∷ g ∷ h ∷ i ∷ j ∷ k �
 triple_finds t (a ∷ b ∷ c ∷ d ∷ e ∷ f ∷ g ∷ h ∷ i ∷ j ∷ k ∷ l ∷ x ∷ front) back p =
     let len : length (a ∷ b ∷ c ∷ d ∷ e ∷ f ∷ g ∷ h ∷ i ∷ j ∷ k ∷ l ∷ x ∷ front) ≡ 12 = p.twelve in absurd (omega arith)
 
+triple_from : (b f g h : List ℕ) (x y z : ℕ × List ℕ) (p : List ℕ × List ℕ) → b ≡ f ++ x.1 → IsNumber true x.0 f → x.1 ≡ g ++ y.1 → IsNumber true y.0 g → y.1 ≡ h ++ z.1 → IsNumber true z.0 h
+    → (x.0 ∷ y.0 ∷ z.0 ∷ [], z.1) ≡ p → (front : List ℕ) × (b ≡ front ++ p.1) × IsTriple p.0 front
+triple_from b f g h x y z p ex nx ey ny ez nz same =
+    let are : from_be_bytes w32 f ∷ from_be_bytes w32 g ∷ from_be_bytes w32 h ∷ [] ≡ p.0 =
+    (λ i. sym nx.value i ∷ sym ny.value i ∷ sym nz.value i ∷ []) ∙ ap (λ (q : List ℕ × List ℕ). q.0) same in
+    let split : b ≡ (f ++ (g ++ h)) ++ z.1 =
+    ex ∙ ap (λ (r : List ℕ). f ++ r) (ey ∙ ap (λ (r : List ℕ). g ++ r) ez ∙ sym (append_assoc g h z.1)) ∙ sym (append_assoc f (g ++ h) z.1) in (
+      f ++ (g ++ h),
+      split ∙ ap (λ (q : List ℕ × List ℕ). (f ++ (g ++ h)) ++ q.1) same,
+      subst (λ (m : List ℕ). IsTriple m (f ++ (g ++ h))) are (triple_of f g h nx.as_wide ny.as_wide nz.as_wide),
+    )
+
 triple_gives : (b t back : List ℕ) → one_triple b ≡ Some (t, back) → (front : List ℕ) × (b ≡ front ++ back) × IsTriple t front
 unfolding one_triple
 triple_gives b t back q =
@@ -103,19 +115,10 @@ triple_gives b t back q =
     let y : ℕ × List ℕ = two.0 in
     let three = both_steps (one_number true y.1) (third x y) (t, back) two.2 in
     let z : ℕ × List ℕ = three.0 in
-    let fx = number_gives true b x.0 x.1 one.1 in
-    let fy = number_gives true x.1 y.0 y.1 two.1 in
-    let fz = number_gives true y.1 z.0 z.1 three.1 in
-    let same = found_same (List ℕ) (x.0 ∷ y.0 ∷ z.0 ∷ [], z.1) (t, back) three.2 in
-    let are : from_be_bytes w32 fx.0 ∷ from_be_bytes w32 fy.0 ∷ from_be_bytes w32 fz.0 ∷ [] ≡ t =
-    (λ i. sym fx.2.value i ∷ sym fy.2.value i ∷ sym fz.2.value i ∷ []) ∙ ap (λ (p : List ℕ × List ℕ). p.0) same in
-    let rest : z.1 ≡ back = ap (λ (p : List ℕ × List ℕ). p.1) same in
-    let split : b ≡ (fx.0 ++ (fy.0 ++ fz.0)) ++ z.1 =
-    fx.1 ∙ ap (λ (r : List ℕ). fx.0 ++ r) (fy.1 ∙ ap (λ (r : List ℕ). fy.0 ++ r) fz.1 ∙ sym (append_assoc fy.0 fz.0 z.1)) ∙ sym (append_assoc fx.0 (fy.0 ++ fz.0) z.1) in (
-      fx.0 ++ (fy.0 ++ fz.0),
-      split ∙ ap (λ (r : List ℕ). (fx.0 ++ (fy.0 ++ fz.0)) ++ r) rest,
-      subst (λ (m : List ℕ). IsTriple m (fx.0 ++ (fy.0 ++ fz.0))) are (triple_of fx.0 fy.0 fz.0 fx.2.as_wide fy.2.as_wide fz.2.as_wide),
-    )
+    let f = number_gives true b x.0 x.1 one.1 in
+    let g = number_gives true x.1 y.0 y.1 two.1 in
+    let h = number_gives true y.1 z.0 z.1 three.1 in
+    triple_from b f.0 g.0 h.0 x y z (t, back) f.1 f.2 g.1 g.2 h.1 h.2 (found_same (List ℕ) (x.0 ∷ y.0 ∷ z.0 ∷ [], z.1) (t, back) three.2)
 
 pub IsTriple-reads : Reads IsTriple one_triple
 IsTriple-reads = record {

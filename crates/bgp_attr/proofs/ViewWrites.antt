@@ -24,11 +24,9 @@ module _ {X : Type 0} (octets : X → List ℕ) (all : List X) where
     pub no_more : left ≡ [] → now ≡ before ++ flat_map octets all
     no_more none = sym (append-nil now) ∙ ap (λ (xs : List X). now ++ flat_map octets xs) (sym none) ∙ so_far.whole
 
-    pub refused : (new : List ℕ) → Extends now new → Extends before new
-    refused new more = extends_more before now new so_far.begins.0 so_far.begins.1 more
-
     -- where the next has no room, all have none
-    pub no_room : (room : ℕ) (x : X) (later : List X) → left ≡ x ∷ later → room < length now + length (octets x) → room < length before + length (flat_map octets all)
-    no_room room x later are full =
-        lacks room before (flat_map octets all) now (flat_map octets left) (octets x) (flat_map octets later) so_far.whole
-        (ap (flat_map octets) are ∙ flat_map-cons octets x later) full
+    pub stopped : (room : ℕ) (x : X) (later : List X) (new : List ℕ) → left ≡ x ∷ later → Extends now new × (room < length now + length (octets x)) → Extends before new × (room < length before + length (flat_map octets all))
+    stopped room x later new are p = (
+      extends_more before now new so_far.begins.0 so_far.begins.1 p.0,
+      lacks room before (flat_map octets all) now (flat_map octets left) (octets x) (flat_map octets later) so_far.whole (ap (flat_map octets) are ∙ flat_map-cons octets x later) p.1,
+    )

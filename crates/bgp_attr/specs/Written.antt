@@ -199,6 +199,14 @@ is_writable ctx a = is_none (unwritable ctx a)
 
 -- ---- where an attribute belongs, apart from how it is written
 
+-- the session has no place for it, as for routes of an address family that isn't in use
+abbrev pub is_out_of_place : Context → Attr → Bool
+is_out_of_place ctx (attr.MpReach (reach.Ip4 hop routes)) = not ctx.ip4
+is_out_of_place ctx (attr.MpReach (reach.Ip6 hop link routes)) = not ctx.ip6
+is_out_of_place ctx (attr.MpUnreach (unreach.Ip4 routes)) = not ctx.ip4
+is_out_of_place ctx (attr.MpUnreach (unreach.Ip6 routes)) = not ctx.ip6
+is_out_of_place ctx _ = false
+
 -- What a message is for: NEXT_HOP serves its NLRI, LOCAL_PREF stays inside one system, routes are of a family in use. Each other
 -- attribute can stand in every message.
 abbrev pub Belongs : Context → Bool → Attr → Type 0

@@ -59,22 +59,7 @@ impl Attr {
     pub fn copy(&self, alloc: Global) -> Result<Attr, AllocError>
         ensures { IfOk result (λ copy. copy ≡ self.now) }
     {
-        match self {
-            Attr::Origin(origin) => Ok(Attr::Origin(*origin)),
-            Attr::AsPath(path) => Ok(Attr::AsPath(path.copy(alloc)?)),
-            Attr::NextHop(addr) => Ok(Attr::NextHop(*addr)),
-            Attr::Med(metric) => Ok(Attr::Med(*metric)),
-            Attr::LocalPref(preference) => Ok(Attr::LocalPref(*preference)),
-            Attr::Atomic => Ok(Attr::Atomic),
-            Attr::Aggregator(aggregator) => Ok(Attr::Aggregator(*aggregator)),
-            Attr::Communities(communities) => Ok(Attr::Communities(communities.copy(alloc)?)),
-            Attr::MpReach(reach) => Ok(Attr::MpReach(reach.copy(alloc)?)),
-            Attr::MpUnreach(unreach) => Ok(Attr::MpUnreach(unreach.copy(alloc)?)),
-            Attr::As4Path(path) => Ok(Attr::As4Path(path.copy(alloc)?)),
-            Attr::As4Aggregator(aggregator) => Ok(Attr::As4Aggregator(*aggregator)),
-            Attr::Large(communities) => Ok(Attr::Large(communities.copy(alloc)?)),
-            Attr::Opaque(opaque) => Ok(Attr::Opaque(opaque.copy(alloc)?)),
-        }
+        copy_of(AttrRef::from(self), alloc)
     }
 }
 
@@ -175,23 +160,52 @@ impl AttrView<'_> {
     pub fn own(&self, alloc: Global) -> Result<Attr, AllocError>
         ensures { IfOk result (λ a. a ≡ attr_value self.now) }
     {
-        match self {
-            AttrView::Origin(origin) => Ok(Attr::Origin(*origin)),
-            AttrView::AsPath(path) => Ok(Attr::AsPath(path.own(alloc)?)),
-            AttrView::NextHop(addr) => Ok(Attr::NextHop(*addr)),
-            AttrView::Med(metric) => Ok(Attr::Med(*metric)),
-            AttrView::LocalPref(preference) => Ok(Attr::LocalPref(*preference)),
-            AttrView::Atomic => Ok(Attr::Atomic),
-            AttrView::Aggregator(aggregator) => Ok(Attr::Aggregator(*aggregator)),
-            AttrView::Communities(communities) => Ok(Attr::Communities(communities.own(alloc)?)),
-            AttrView::MpReach(reach) => Ok(Attr::MpReach(reach.own(alloc)?)),
-            AttrView::MpUnreach(unreach) => Ok(Attr::MpUnreach(unreach.own(alloc)?)),
-            AttrView::As4Path(path) => Ok(Attr::As4Path(path.own(alloc)?)),
-            AttrView::As4Aggregator(aggregator) => Ok(Attr::As4Aggregator(*aggregator)),
-            AttrView::Large(communities) => Ok(Attr::Large(communities.own(alloc)?)),
-            AttrView::Opaque(opaque) => Ok(Attr::Opaque(opaque.own(alloc)?)),
-        }
+        own_view(*self, alloc)
     }
+}
+
+/// An attribute by reference, with memory of its own. It is matched by value, which costs proofs less than behind a reference.
+fn copy_of(attr: AttrRef<'_>, alloc: Global) -> Result<Attr, AllocError>
+    ensures { IfOk result (λ copy. copy ≡ ref_value attr.entry) }
+{
+    Ok(match attr {
+        AttrRef::Origin(origin) => Attr::Origin(origin),
+        AttrRef::AsPath(path) => Attr::AsPath(path.copy(alloc)?),
+        AttrRef::NextHop(addr) => Attr::NextHop(*addr),
+        AttrRef::Med(metric) => Attr::Med(metric),
+        AttrRef::LocalPref(preference) => Attr::LocalPref(preference),
+        AttrRef::Atomic => Attr::Atomic,
+        AttrRef::Aggregator(aggregator) => Attr::Aggregator(*aggregator),
+        AttrRef::Communities(communities) => Attr::Communities(communities.copy(alloc)?),
+        AttrRef::MpReach(reach) => Attr::MpReach(reach.copy(alloc)?),
+        AttrRef::MpUnreach(unreach) => Attr::MpUnreach(unreach.copy(alloc)?),
+        AttrRef::As4Path(path) => Attr::As4Path(path.copy(alloc)?),
+        AttrRef::As4Aggregator(aggregator) => Attr::As4Aggregator(*aggregator),
+        AttrRef::Large(communities) => Attr::Large(communities.copy(alloc)?),
+        AttrRef::Opaque(opaque) => Attr::Opaque(opaque.copy(alloc)?),
+    })
+}
+
+/// A view, with memory of its own.
+fn own_view(view: AttrView<'_>, alloc: Global) -> Result<Attr, AllocError>
+    ensures { IfOk result (λ a. a ≡ attr_value view.entry) }
+{
+    Ok(match view {
+        AttrView::Origin(origin) => Attr::Origin(origin),
+        AttrView::AsPath(path) => Attr::AsPath(path.own(alloc)?),
+        AttrView::NextHop(addr) => Attr::NextHop(addr),
+        AttrView::Med(metric) => Attr::Med(metric),
+        AttrView::LocalPref(preference) => Attr::LocalPref(preference),
+        AttrView::Atomic => Attr::Atomic,
+        AttrView::Aggregator(aggregator) => Attr::Aggregator(aggregator),
+        AttrView::Communities(communities) => Attr::Communities(communities.own(alloc)?),
+        AttrView::MpReach(reach) => Attr::MpReach(reach.own(alloc)?),
+        AttrView::MpUnreach(unreach) => Attr::MpUnreach(unreach.own(alloc)?),
+        AttrView::As4Path(path) => Attr::As4Path(path.own(alloc)?),
+        AttrView::As4Aggregator(aggregator) => Attr::As4Aggregator(aggregator),
+        AttrView::Large(communities) => Attr::Large(communities.own(alloc)?),
+        AttrView::Opaque(opaque) => Attr::Opaque(opaque.own(alloc)?),
+    })
 }
 
 /// What stands in front of an attribute's value: its type, the class of its flags, and its Partial bit.
@@ -260,10 +274,10 @@ pub(crate) fn form_of(attr: AttrRef<'_>) -> Form
 
 /// The form of an attribute that is a view.
 #[inline(always)]
-pub(crate) fn form_of_view(view: &AttrView<'_>) -> Form
-    ensures kind { result.kind ≡ type_of (attr_value view.now) }
-    ensures class { result.class ≡ class_of (attr_value view.now) }
-    ensures partial { result.partial ≡ partial_of (attr_value view.now) }
+pub(crate) fn form_of_view(view: AttrView<'_>) -> Form
+    ensures kind { result.kind ≡ type_of (attr_value view.entry) }
+    ensures class { result.class ≡ class_of (attr_value view.entry) }
+    ensures partial { result.partial ≡ partial_of (attr_value view.entry) }
 {
     form!(AttrView, view)
 }

@@ -31,8 +31,7 @@ pub(crate) fn finish<O: Output>(form: Form, start: usize, out: &mut O) -> Result
     requires room { start + 3 ≤ length (O.written out.old) }
     requires short { length (O.written out.old) ≤ start + 65538 }
     ensures ok { OnOk result (O.written out.new ≡ take start (O.written out.old) ++ (made form.class form.partial form.kind (drop (start + 3) (O.written out.old))).whole) }
-    ensures err { OnErr result (O.written out.new ≡ O.written out.old) }
-    ensures full { OnErr result (O.room < start + length (made form.class form.partial form.kind (drop (start + 3) (O.written out.old))).whole) }
+    ensures err { OnErr result (O.written out.new ≡ O.written out.old × (O.room < start + length (made form.class form.partial form.kind (drop (start + 3) (O.written out.old))).whole)) }
 {
     let len = out.len() - (start + 3);
     if len > 255 {
@@ -64,5 +63,5 @@ pub fn finish_attr<O: Output>(
     ensures err { OnErr result (O.written out.new ≡ O.written out.old) }
     ensures full { OnErr result (O.room < start + length (headed (attr_value view.now) (drop (start + 3) (O.written out.old)))) }
 {
-    finish(form_of_view(view), start, out)
+    finish(form_of_view(*view), start, out)
 }

@@ -1,10 +1,10 @@
 //! The judgement of one attribute, and its value where it is kept.
 
-ghost use Rattle.std.specs.Prelude.{◌≡◌, ◌≤◌, true, length, IfOk, OnErr, IsTrue};
-ghost use Rattle.bgp_attr.specs.Prelude.{attr_value, is_recognised, judgement, decided, type_row, tlv_value, found_attr_value, judged_value, is_kept, keeps, ruled};
+ghost use Rattle.std.specs.Prelude.{◌≡◌, ◌≤◌, true, false, length, IfOk, MatchOption, OnErr, IsTrue};
+ghost use Rattle.bgp_attr.specs.Prelude.{attr_value, is_recognised, judgement, decided, type_row, tlv_value, found_attr_value, judged_value, is_kept, is_out_of_place, keeps, ref_value, ruled};
 ghost use Rattle.bgp_attr.specs.declared.attr.Attr.{Attr};
 
-use crate::attr::AttrView;
+use crate::attr::{AttrRef, AttrView};
 use crate::class::Class;
 use crate::found_attr::FoundAttr;
 use crate::judge_aggregator::{aggregator_in, rule_aggregator, rule_as4_aggregator};
@@ -19,36 +19,49 @@ use crate::judge_mp::{reach_in, rule_mp_reach, rule_mp_unreach, unreach_in};
 use crate::judge_path::{as_path_in, as4_path_in, rule_as_path, rule_as4_path};
 use crate::judged::Judged;
 use crate::judged_view::JudgedView;
+use crate::mp::{MpReach, MpUnreach};
 use crate::ruling::{Ruling, attribute_reset};
 use crate::tlv::Tlv;
 use bgp_numbers::attribute;
 use bgp_open::Context;
 use std::alloc::{AllocError, Global};
 
+/// Judges the first attribute of its type in a message as [`rule`] does, where that type is recognised: one choice by the type tells both.
+#[tactic(auto, using(crate::proofs::TestRows::tests_at), unfolding(crate::specs::Judgement::type_row))]
+#[inline(always)]
+pub fn rule_recognised(ctx: &Context, has_nlri: bool, tlv: &Tlv<'_>) -> Option<Ruling>
+    ensures { MatchOption result (is_recognised tlv.now.kind ≡ false)
+        (λ r. (is_recognised tlv.now.kind ≡ true) × ((a : Attr) → ruled r tlv.now.whole.now a ≡ decided (type_row ctx.now has_nlri (tlv_value tlv.now)).tests a)) }
+{
+    match tlv.kind {
+        attribute::ORIGIN => Some(rule_origin(tlv)),
+        attribute::AS_PATH => Some(rule_as_path(ctx, tlv)),
+        attribute::NEXT_HOP => Some(rule_next_hop(has_nlri, tlv)),
+        attribute::MULTI_EXIT_DISC => Some(rule_four(Class::OptionalNonTransitive, tlv)),
+        attribute::LOCAL_PREF => Some(rule_internal(ctx, Class::WellKnown, tlv)),
+        attribute::ATOMIC_AGGREGATE => Some(rule_atomic(tlv)),
+        attribute::AGGREGATOR => Some(rule_aggregator(ctx, tlv)),
+        attribute::COMMUNITIES => Some(rule_communities(tlv)),
+        attribute::MP_REACH_NLRI => Some(rule_mp_reach(ctx, tlv)),
+        attribute::MP_UNREACH_NLRI => Some(rule_mp_unreach(ctx, tlv)),
+        attribute::AS4_PATH => Some(rule_as4_path(ctx, tlv)),
+        attribute::AS4_AGGREGATOR => Some(rule_as4_aggregator(ctx, tlv)),
+        attribute::LARGE_COMMUNITY => Some(rule_large(tlv)),
+        _ => None,
+    }
+}
+
 /// Judges the first attribute of its type in a message, apart from its value, without memory: by the first test of its type that applies
 /// (RFC 4271, section 6.3; RFC 7606, sections 3 to 7; RFC 7607). The attribute has at most 4075 octets, as each of a message has.
 ///
 /// `has_nlri` says that the NLRI field of the message isn't empty.
-#[tactic(auto, using(crate::proofs::TestRows::tests_at), unfolding(crate::specs::Judgement::type_row))]
 #[inline(always)]
 pub fn rule(ctx: &Context, has_nlri: bool, tlv: &Tlv<'_>) -> Ruling
     ensures { (a : Attr) → ruled result tlv.now.whole.now a ≡ decided (type_row ctx.now has_nlri (tlv_value tlv.now)).tests a }
 {
-    match tlv.kind {
-        attribute::ORIGIN => rule_origin(tlv),
-        attribute::AS_PATH => rule_as_path(ctx, tlv),
-        attribute::NEXT_HOP => rule_next_hop(has_nlri, tlv),
-        attribute::MULTI_EXIT_DISC => rule_four(Class::OptionalNonTransitive, tlv),
-        attribute::LOCAL_PREF => rule_internal(ctx, Class::WellKnown, tlv),
-        attribute::ATOMIC_AGGREGATE => rule_atomic(tlv),
-        attribute::AGGREGATOR => rule_aggregator(ctx, tlv),
-        attribute::COMMUNITIES => rule_communities(tlv),
-        attribute::MP_REACH_NLRI => rule_mp_reach(ctx, tlv),
-        attribute::MP_UNREACH_NLRI => rule_mp_unreach(ctx, tlv),
-        attribute::AS4_PATH => rule_as4_path(ctx, tlv),
-        attribute::AS4_AGGREGATOR => rule_as4_aggregator(ctx, tlv),
-        attribute::LARGE_COMMUNITY => rule_large(tlv),
-        _ => rule_other(tlv),
+    match rule_recognised(ctx, has_nlri, tlv) {
+        Some(ruling) => ruling,
+        None => rule_other(tlv),
     }
 }
 
@@ -145,6 +158,19 @@ pub fn is_recognised(kind: u8) -> bool
         attribute::AS4_PATH => true,
         attribute::AS4_AGGREGATOR => true,
         attribute::LARGE_COMMUNITY => true,
+        _ => false,
+    }
+}
+
+/// Whether the session has no place for the attribute, as for routes of an address family that isn't in use.
+pub fn is_out_of_place(ctx: &Context, attr: AttrRef<'_>) -> bool
+    ensures { result ≡ is_out_of_place ctx.now (ref_value attr.entry) }
+{
+    match attr {
+        AttrRef::MpReach(MpReach::Ip4 { .. }) => !ctx.ip4,
+        AttrRef::MpReach(MpReach::Ip6 { .. }) => !ctx.ip6,
+        AttrRef::MpUnreach(MpUnreach::Ip4(_)) => !ctx.ip4,
+        AttrRef::MpUnreach(MpUnreach::Ip6(_)) => !ctx.ip6,
         _ => false,
     }
 }

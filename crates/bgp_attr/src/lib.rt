@@ -61,7 +61,10 @@ pub use judge_mp::{reach_in, unreach_in};
 pub use judge_path::{as_path_in, as4_path_in};
 pub use judged::Judged;
 pub use judged_view::JudgedView;
-pub use judging::{is_recognised, judge, judge_attribute, judge_view, kept_attr, rule, with_value};
+pub use judging::{
+    is_out_of_place, is_recognised, judge, judge_attribute, judge_view, kept_attr, rule,
+    rule_recognised, with_value,
+};
 pub use large_iter::LargeCommIter;
 pub use large_view::first_new_triple;
 pub use mp::{MpReach, MpUnreach};

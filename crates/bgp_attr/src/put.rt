@@ -13,18 +13,15 @@ use std::alloc::AllocError;
 
 /// Adds a number, of four octets where `wide`, else its last two.
 pub(crate) fn put_number<O: Output>(wide: bool, number: u32, out: &mut O) -> Result<(), AllocError>
-    ensures ok { OnOk result (O.written out.new ≡ O.written out.old ++ number_octets wide number) }
-    ensures range { OnOk result (IsFourOctets number) }
-    ensures err { OnErr result (Extends (O.written out.old) (O.written out.new)) }
-    ensures full { OnErr result (O.room < length (O.written out.old) + length (number_octets wide number)) }
+    ensures ok { OnOk result ((O.written out.new ≡ O.written out.old ++ number_octets wide number) × IsFourOctets number) }
+    ensures err { OnErr result (Extends (O.written out.old) (O.written out.new) × (O.room < length (O.written out.old) + length (number_octets wide number))) }
 {
     let [a, b, c, d] = number.to_be_bytes();
     if wide {
-        out.put(&[a, b, c, d])?;
+        out.put(&[a, b, c, d])
     } else {
-        out.put(&[c, d])?;
+        out.put(&[c, d])
     }
-    Ok(())
 }
 
 /// Adds AS numbers.
@@ -33,10 +30,8 @@ fn put_as_numbers<O: Output>(
     numbers: &[AsNumber],
     out: &mut O,
 ) -> Result<(), AllocError>
-    ensures ok { OnOk result (O.written out.new ≡ O.written out.old ++ flat_map (λ n. number_octets wide n.0) numbers.now) }
-    ensures ranges { OnOk result (AllByRecursion (λ n. IsFourOctets n.0) numbers.now) }
-    ensures err { OnErr result (Extends (O.written out.old) (O.written out.new)) }
-    ensures full { OnErr result (O.room < length (O.written out.old) + length (flat_map (λ n. number_octets wide n.0) numbers.now)) }
+    ensures ok { OnOk result ((O.written out.new ≡ O.written out.old ++ flat_map (λ n. number_octets wide n.0) numbers.now) × AllByRecursion (λ n. IsFourOctets n.0) numbers.now) }
+    ensures err { OnErr result (Extends (O.written out.old) (O.written out.new) × (O.room < length (O.written out.old) + length (flat_map (λ n. number_octets wide n.0) numbers.now))) }
 {
     'row: for number in numbers {
         put_number(wide, number.0, out)?;
@@ -46,10 +41,8 @@ fn put_as_numbers<O: Output>(
 
 /// Adds numbers of four octets.
 pub(crate) fn put_numbers<O: Output>(numbers: &[u32], out: &mut O) -> Result<(), AllocError>
-    ensures ok { OnOk result (O.written out.new ≡ O.written out.old ++ row_octets true numbers.now) }
-    ensures ranges { OnOk result (AllByRecursion IsFourOctets numbers.now) }
-    ensures err { OnErr result (Extends (O.written out.old) (O.written out.new)) }
-    ensures full { OnErr result (O.room < length (O.written out.old) + length (row_octets true numbers.now)) }
+    ensures ok { OnOk result ((O.written out.new ≡ O.written out.old ++ row_octets true numbers.now) × AllByRecursion IsFourOctets numbers.now) }
+    ensures err { OnErr result (Extends (O.written out.old) (O.written out.new) × (O.room < length (O.written out.old) + length (row_octets true numbers.now))) }
 {
     'row: for number in numbers {
         put_number(true, *number, out)?;
@@ -59,23 +52,16 @@ pub(crate) fn put_numbers<O: Output>(numbers: &[u32], out: &mut O) -> Result<(),
 
 /// Adds a triple.
 pub(crate) fn put_triple<O: Output>(triple: &[u32; 3], out: &mut O) -> Result<(), AllocError>
-    ensures ok { OnOk result (O.written out.new ≡ O.written out.old ++ triple_octets triple.now) }
-    ensures ranges { OnOk result (IsThreeNumbers triple.now) }
-    ensures err { OnErr result (Extends (O.written out.old) (O.written out.new)) }
-    ensures full { OnErr result (O.room < length (O.written out.old) + length (triple_octets triple.now)) }
+    ensures ok { OnOk result ((O.written out.new ≡ O.written out.old ++ triple_octets triple.now) × IsThreeNumbers triple.now) }
+    ensures err { OnErr result (Extends (O.written out.old) (O.written out.new) × (O.room < length (O.written out.old) + length (triple_octets triple.now))) }
 {
-    let [first, second, third] = *triple;
-    put_number(true, first, out)?;
-    put_number(true, second, out)?;
-    put_number(true, third, out)
+    put_numbers(triple, out)
 }
 
 /// Adds triples.
 pub(crate) fn put_triples<O: Output>(triples: &[[u32; 3]], out: &mut O) -> Result<(), AllocError>
-    ensures ok { OnOk result (O.written out.new ≡ O.written out.old ++ flat_map triple_octets triples.now) }
-    ensures ranges { OnOk result (AllByRecursion IsThreeNumbers triples.now) }
-    ensures err { OnErr result (Extends (O.written out.old) (O.written out.new)) }
-    ensures full { OnErr result (O.room < length (O.written out.old) + length (flat_map triple_octets triples.now)) }
+    ensures ok { OnOk result ((O.written out.new ≡ O.written out.old ++ flat_map triple_octets triples.now) × AllByRecursion IsThreeNumbers triples.now) }
+    ensures err { OnErr result (Extends (O.written out.old) (O.written out.new) × (O.room < length (O.written out.old) + length (flat_map triple_octets triples.now))) }
 {
     'row: for triple in triples {
         put_triple(triple, out)?;
@@ -96,10 +82,8 @@ pub(crate) fn segment_code(kind: SegKind) -> u8
 /// Adds a segment.
 fn put_segment<O: Output>(wide: bool, segment: &Segment, out: &mut O) -> Result<(), AllocError>
     requires { length segment.now.numbers ≤ 255 }
-    ensures ok { OnOk result (O.written out.new ≡ O.written out.old ++ segment_octets wide segment.now) }
-    ensures ranges { OnOk result (AllByRecursion (λ n. IsFourOctets n.0) segment.now.numbers) }
-    ensures err { OnErr result (Extends (O.written out.old) (O.written out.new)) }
-    ensures full { OnErr result (O.room < length (O.written out.old) + length (segment_octets wide segment.now)) }
+    ensures ok { OnOk result ((O.written out.new ≡ O.written out.old ++ segment_octets wide segment.now) × AllByRecursion (λ n. IsFourOctets n.0) segment.now.numbers) }
+    ensures err { OnErr result (Extends (O.written out.old) (O.written out.new) × (O.room < length (O.written out.old) + length (segment_octets wide segment.now))) }
 {
     let count = segment.numbers.len() as u8;
     out.put(&[segment_code(segment.kind), count])?;
@@ -113,10 +97,8 @@ pub(crate) fn put_path<O: Output>(
     out: &mut O,
 ) -> Result<(), AllocError>
     requires { list_any is_bad_segment segments.now ≡ false }
-    ensures ok { OnOk result (O.written out.new ≡ O.written out.old ++ flat_map (segment_octets wide) segments.now) }
-    ensures ranges { OnOk result (AllByRecursion (λ s. AllByRecursion (λ n. IsFourOctets n.0) s.numbers) segments.now) }
-    ensures err { OnErr result (Extends (O.written out.old) (O.written out.new)) }
-    ensures full { OnErr result (O.room < length (O.written out.old) + length (flat_map (segment_octets wide) segments.now)) }
+    ensures ok { OnOk result ((O.written out.new ≡ O.written out.old ++ flat_map (segment_octets wide) segments.now) × AllByRecursion (λ s. AllByRecursion (λ n. IsFourOctets n.0) s.numbers) segments.now) }
+    ensures err { OnErr result (Extends (O.written out.old) (O.written out.new) × (O.room < length (O.written out.old) + length (flat_map (segment_octets wide) segments.now))) }
 {
     'path: for segment in segments {
         put_segment(wide, segment, out)?;
@@ -126,13 +108,10 @@ pub(crate) fn put_path<O: Output>(
 
 /// Adds octets.
 pub(crate) fn put_octets<O: Output>(octets: &[u8], out: &mut O) -> Result<(), AllocError>
-    ensures ok { OnOk result (O.written out.new ≡ O.written out.old ++ octets.now) }
-    ensures range { OnOk result (AreOctets octets.now) }
-    ensures err { OnErr result (Extends (O.written out.old) (O.written out.new)) }
-    ensures full { OnErr result (O.room < length (O.written out.old) + length octets.now) }
+    ensures ok { OnOk result ((O.written out.new ≡ O.written out.old ++ octets.now) × AreOctets octets.now) }
+    ensures err { OnErr result (Extends (O.written out.old) (O.written out.new) × (O.room < length (O.written out.old) + length octets.now)) }
 {
-    out.put(octets)?;
-    Ok(())
+    out.put(octets)
 }
 
 /// Adds an address.
@@ -140,10 +119,8 @@ pub(crate) fn put_address<const N: usize, O: Output>(
     addr: &[u8; N],
     out: &mut O,
 ) -> Result<(), AllocError>
-    ensures ok { OnOk result (O.written out.new ≡ O.written out.old ++ addr.now) }
-    ensures range { OnOk result (IsAddress N addr.now) }
-    ensures err { OnErr result (Extends (O.written out.old) (O.written out.new)) }
-    ensures full { OnErr result (O.room < length (O.written out.old) + length addr.now) }
+    ensures ok { OnOk result ((O.written out.new ≡ O.written out.old ++ addr.now) × IsAddress N addr.now) }
+    ensures err { OnErr result (Extends (O.written out.old) (O.written out.new) × (O.room < length (O.written out.old) + length addr.now)) }
 {
     put_octets(addr, out)
 }

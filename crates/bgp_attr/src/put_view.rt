@@ -20,8 +20,7 @@ use std::alloc::AllocError;
 /// Adds the numbers of four octets that octets begin with: these octets.
 fn put_fours<O: Output>(octets: &[u8], out: &mut O) -> Result<(), AllocError>
     ensures ok { OnOk result (O.written out.new ≡ O.written out.old ++ row_octets true (numbers_of true octets.now)) }
-    ensures err { OnErr result (Extends (O.written out.old) (O.written out.new)) }
-    ensures full { OnErr result (O.room < length (O.written out.old) + length (row_octets true (numbers_of true octets.now))) }
+    ensures err { OnErr result (Extends (O.written out.old) (O.written out.new) × (O.room < length (O.written out.old) + length (row_octets true (numbers_of true octets.now)))) }
 {
     let whole = octets.len() - octets.len() % 4;
     put_octets(&octets[..whole], out)
@@ -34,8 +33,7 @@ fn put_each_number<O: Output>(
     out: &mut O,
 ) -> Result<(), AllocError>
     ensures ok { OnOk result (O.written out.new ≡ O.written out.old ++ flat_map (λ n. number_octets wide n.0) (as_numbers_left numbers.entry)) }
-    ensures err { OnErr result (Extends (O.written out.old) (O.written out.new)) }
-    ensures full { OnErr result (O.room < length (O.written out.old) + length (flat_map (λ n. number_octets wide n.0) (as_numbers_left numbers.entry))) }
+    ensures err { OnErr result (Extends (O.written out.old) (O.written out.new) × (O.room < length (O.written out.old) + length (flat_map (λ n. number_octets wide n.0) (as_numbers_left numbers.entry)))) }
 {
     'row: for number in numbers {
         put_number(wide, number.0, out)?;
@@ -50,8 +48,7 @@ fn put_as_numbers<O: Output>(
     out: &mut O,
 ) -> Result<(), AllocError>
     ensures ok { OnOk result (O.written out.new ≡ O.written out.old ++ flat_map (λ n. number_octets wide n.0) (as_numbers_left numbers.entry)) }
-    ensures err { OnErr result (Extends (O.written out.old) (O.written out.new)) }
-    ensures full { OnErr result (O.room < length (O.written out.old) + length (flat_map (λ n. number_octets wide n.0) (as_numbers_left numbers.entry))) }
+    ensures err { OnErr result (Extends (O.written out.old) (O.written out.new) × (O.room < length (O.written out.old) + length (flat_map (λ n. number_octets wide n.0) (as_numbers_left numbers.entry)))) }
 {
     if wide && numbers.wide {
         put_fours(numbers.rest, out)
@@ -68,8 +65,7 @@ fn put_segment<O: Output>(
 ) -> Result<(), AllocError>
     requires { length (as_numbers_left segment.numbers) ≤ 255 }
     ensures ok { OnOk result (O.written out.new ≡ O.written out.old ++ segment_octets wide (segment_value segment.entry)) }
-    ensures err { OnErr result (Extends (O.written out.old) (O.written out.new)) }
-    ensures full { OnErr result (O.room < length (O.written out.old) + length (segment_octets wide (segment_value segment.entry))) }
+    ensures err { OnErr result (Extends (O.written out.old) (O.written out.new) × (O.room < length (O.written out.old) + length (segment_octets wide (segment_value segment.entry)))) }
 {
     let count = segment.numbers.left() as u8;
     out.put(&[segment_code(segment.kind), count])?;
@@ -84,8 +80,7 @@ pub(crate) fn put_path<O: Output>(
 ) -> Result<(), AllocError>
     requires { list_any is_bad_segment (path_value path).segments ≡ false }
     ensures ok { OnOk result (O.written out.new ≡ O.written out.old ++ path_octets wide (path_value path.entry)) }
-    ensures err { OnErr result (Extends (O.written out.old) (O.written out.new)) }
-    ensures full { OnErr result (O.room < length (O.written out.old) + length (path_octets wide (path_value path.entry))) }
+    ensures err { OnErr result (Extends (O.written out.old) (O.written out.new) × (O.room < length (O.written out.old) + length (path_octets wide (path_value path.entry)))) }
 {
     'path: for segment in path.segments() {
         put_segment(wide, segment, out)?;
@@ -99,8 +94,7 @@ pub(crate) fn put_communities<O: Output>(
     out: &mut O,
 ) -> Result<(), AllocError>
     ensures ok { OnOk result (O.written out.new ≡ O.written out.old ++ row_octets true (communities_left values.entry)) }
-    ensures err { OnErr result (Extends (O.written out.old) (O.written out.new)) }
-    ensures full { OnErr result (O.room < length (O.written out.old) + length (row_octets true (communities_left values.entry))) }
+    ensures err { OnErr result (Extends (O.written out.old) (O.written out.new) × (O.room < length (O.written out.old) + length (row_octets true (communities_left values.entry)))) }
 {
     put_fours(values.rest, out)
 }
@@ -108,8 +102,7 @@ pub(crate) fn put_communities<O: Output>(
 /// Adds large communities.
 pub(crate) fn put_large<O: Output>(values: LargeCommIter<'_>, out: &mut O) -> Result<(), AllocError>
     ensures ok { OnOk result (O.written out.new ≡ O.written out.old ++ flat_map triple_octets (triples_left values.entry)) }
-    ensures err { OnErr result (Extends (O.written out.old) (O.written out.new)) }
-    ensures full { OnErr result (O.room < length (O.written out.old) + length (flat_map triple_octets (triples_left values.entry))) }
+    ensures err { OnErr result (Extends (O.written out.old) (O.written out.new) × (O.room < length (O.written out.old) + length (flat_map triple_octets (triples_left values.entry)))) }
 {
     'row: for triple in values {
         put_triple(&triple, out)?;
@@ -127,19 +120,16 @@ fn put_reach_row<const W: usize, O: Output>(
 ) -> Result<(), AllocError>
     requires { length hop.now + length link.now ≤ 255 }
     ensures ok { OnOk result (O.written out.new ≡ O.written out.old ++ reach_row family (hop.now ++ link.now) (prefixes_left routes.entry)) }
-    ensures err { OnErr result (Extends (O.written out.old) (O.written out.new)) }
-    ensures full { OnErr result (O.room < length (O.written out.old) + length (reach_row family (hop.now ++ link.now) (prefixes_left routes.entry))) }
+    ensures err { OnErr result (Extends (O.written out.old) (O.written out.new) × (O.room < length (O.written out.old) + length (reach_row family (hop.now ++ link.now) (prefixes_left routes.entry)))) }
 {
     put_hops(family, hop, link, out)?;
-    routes.write(out)?;
-    Ok(())
+    routes.write(out)
 }
 
 /// Adds MP_REACH_NLRI's value.
 pub(crate) fn put_reach<O: Output>(reach: &MpReachView<'_>, out: &mut O) -> Result<(), AllocError>
     ensures ok { OnOk result (O.written out.new ≡ O.written out.old ++ reach_octets (reach_value reach.now)) }
-    ensures err { OnErr result (Extends (O.written out.old) (O.written out.new)) }
-    ensures full { OnErr result (O.room < length (O.written out.old) + length (reach_octets (reach_value reach.now))) }
+    ensures err { OnErr result (Extends (O.written out.old) (O.written out.new) × (O.room < length (O.written out.old) + length (reach_octets (reach_value reach.now)))) }
 {
     match reach {
         MpReachView::Ip4 { next_hop, nlri } => {
@@ -171,13 +161,11 @@ fn put_unreach_row<const W: usize, O: Output>(
     out: &mut O,
 ) -> Result<(), AllocError>
     ensures ok { OnOk result (O.written out.new ≡ O.written out.old ++ unreach_row family (prefixes_left routes.entry)) }
-    ensures err { OnErr result (Extends (O.written out.old) (O.written out.new)) }
-    ensures full { OnErr result (O.room < length (O.written out.old) + length (unreach_row family (prefixes_left routes.entry))) }
+    ensures err { OnErr result (Extends (O.written out.old) (O.written out.new) × (O.room < length (O.written out.old) + length (unreach_row family (prefixes_left routes.entry)))) }
 {
     let [high, low] = family.to_be_bytes();
     put_octets(&[high, low, safi::UNICAST], out)?;
-    routes.write(out)?;
-    Ok(())
+    routes.write(out)
 }
 
 /// Adds MP_UNREACH_NLRI's value.
@@ -186,8 +174,7 @@ pub(crate) fn put_unreach<O: Output>(
     out: &mut O,
 ) -> Result<(), AllocError>
     ensures ok { OnOk result (O.written out.new ≡ O.written out.old ++ unreach_octets (unreach_value unreach.now)) }
-    ensures err { OnErr result (Extends (O.written out.old) (O.written out.new)) }
-    ensures full { OnErr result (O.room < length (O.written out.old) + length (unreach_octets (unreach_value unreach.now))) }
+    ensures err { OnErr result (Extends (O.written out.old) (O.written out.new) × (O.room < length (O.written out.old) + length (unreach_octets (unreach_value unreach.now)))) }
 {
     match unreach {
         MpUnreachView::Ip4(routes) => put_unreach_row(afi::IPV4, *routes, out),

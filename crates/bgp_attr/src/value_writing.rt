@@ -38,10 +38,8 @@ pub(crate) fn put_aggregator<O: Output>(
     aggregator: &Aggregator,
     out: &mut O,
 ) -> Result<(), AllocError>
-    ensures ok { OnOk result (O.written out.new ≡ O.written out.old ++ aggregator_octets wide aggregator.now) }
-    ensures ranges { OnOk result (IsFourOctets (aggregator.now.asn).0 × IsAddress 4 aggregator.now.addr) }
-    ensures err { OnErr result (Extends (O.written out.old) (O.written out.new)) }
-    ensures full { OnErr result (O.room < length (O.written out.old) + length (aggregator_octets wide aggregator.now)) }
+    ensures ok { OnOk result ((O.written out.new ≡ O.written out.old ++ aggregator_octets wide aggregator.now) × IsFourOctets (aggregator.now.asn).0 × IsAddress 4 aggregator.now.addr) }
+    ensures err { OnErr result (Extends (O.written out.old) (O.written out.new) × (O.room < length (O.written out.old) + length (aggregator_octets wide aggregator.now))) }
 {
     put_number(wide, aggregator.asn.0, out)?;
     let addr = aggregator.addr;
@@ -56,10 +54,8 @@ pub(crate) fn put_hops<O: Output>(
     out: &mut O,
 ) -> Result<(), AllocError>
     requires { length hop.now + length link.now ≤ 255 }
-    ensures ok { OnOk result (O.written out.new ≡ O.written out.old ++ reach_row family (hop.now ++ link.now) []) }
-    ensures ranges { OnOk result (AreOctets hop.now × AreOctets link.now) }
-    ensures err { OnErr result (Extends (O.written out.old) (O.written out.new)) }
-    ensures full { OnErr result (O.room < length (O.written out.old) + length (reach_row family (hop.now ++ link.now) [])) }
+    ensures ok { OnOk result ((O.written out.new ≡ O.written out.old ++ reach_row family (hop.now ++ link.now) []) × AreOctets hop.now × AreOctets link.now) }
+    ensures err { OnErr result (Extends (O.written out.old) (O.written out.new) × (O.room < length (O.written out.old) + length (reach_row family (hop.now ++ link.now) []))) }
 {
     let [high, low] = family.to_be_bytes();
     let len = (hop.len() + link.len()) as u8;
@@ -81,12 +77,10 @@ fn put_reach_row<const W: usize, O: Output>(
     ensures ok { OnOk result (O.written out.new ≡ O.written out.old ++ reach_row family (hop.now ++ link.now) routes.now) }
     ensures hops { OnOk result (AreOctets hop.now × AreOctets link.now) }
     ensures routes { OnOk result (AllByRecursion (IsValid W) routes.now) }
-    ensures err { OnErr result (Extends (O.written out.old) (O.written out.new)) }
-    ensures full { OnErr result (O.room < length (O.written out.old) + length (reach_row family (hop.now ++ link.now) routes.now)) }
+    ensures err { OnErr result (Extends (O.written out.old) (O.written out.new) × (O.room < length (O.written out.old) + length (reach_row family (hop.now ++ link.now) routes.now))) }
 {
     put_hops(family, hop, link, out)?;
-    write_run(routes, out)?;
-    Ok(())
+    write_run(routes, out)
 }
 
 /// The octets of an address.
@@ -99,15 +93,13 @@ pub(crate) fn address_octets<const N: usize>(addr: &[u8; N]) -> &[u8]
 
 /// Adds MP_REACH_NLRI's value.
 fn put_reach<O: Output>(reach: &MpReach, out: &mut O) -> Result<(), AllocError>
-    ensures ok { OnOk result (O.written out.new ≡ O.written out.old ++ reach_octets reach.now) }
-    ensures ranges { OnOk result (HasRanges (attr.MpReach reach.now)) }
-    ensures err { OnErr result (Extends (O.written out.old) (O.written out.new)) }
-    ensures full { OnErr result (O.room < length (O.written out.old) + length (reach_octets reach.now)) }
+    ensures ok { OnOk result ((O.written out.new ≡ O.written out.old ++ reach_octets reach.now) × HasRanges (attr.MpReach reach.now)) }
+    ensures err { OnErr result (Extends (O.written out.old) (O.written out.new) × (O.room < length (O.written out.old) + length (reach_octets reach.now))) }
 {
     match reach {
         MpReach::Ip4 { next_hop, nlri } => {
             let hop = address_octets(next_hop);
-            put_reach_row(afi::IPV4, hop, &[], nlri, out)?;
+            put_reach_row(afi::IPV4, hop, &[], nlri, out)
         }
         MpReach::Ip6 {
             next_hop,
@@ -115,7 +107,7 @@ fn put_reach<O: Output>(reach: &MpReach, out: &mut O) -> Result<(), AllocError>
             nlri,
         } => {
             let hop = address_octets(next_hop);
-            put_reach_row(afi::IPV6, hop, &[], nlri, out)?;
+            put_reach_row(afi::IPV6, hop, &[], nlri, out)
         }
         MpReach::Ip6 {
             next_hop,
@@ -124,10 +116,9 @@ fn put_reach<O: Output>(reach: &MpReach, out: &mut O) -> Result<(), AllocError>
         } => {
             let hop = address_octets(next_hop);
             let link = address_octets(link);
-            put_reach_row(afi::IPV6, hop, link, nlri, out)?;
+            put_reach_row(afi::IPV6, hop, link, nlri, out)
         }
     }
-    Ok(())
 }
 
 /// Adds a family and prefixes.
@@ -138,40 +129,32 @@ fn put_unreach_row<const W: usize, O: Output>(
 ) -> Result<(), AllocError>
     ensures ok { OnOk result (O.written out.new ≡ O.written out.old ++ unreach_row family routes.now) }
     ensures routes { OnOk result (AllByRecursion (IsValid W) routes.now) }
-    ensures err { OnErr result (Extends (O.written out.old) (O.written out.new)) }
-    ensures full { OnErr result (O.room < length (O.written out.old) + length (unreach_row family routes.now)) }
+    ensures err { OnErr result (Extends (O.written out.old) (O.written out.new) × (O.room < length (O.written out.old) + length (unreach_row family routes.now))) }
 {
     let [high, low] = family.to_be_bytes();
     put_octets(&[high, low, safi::UNICAST], out)?;
-    write_run(routes, out)?;
-    Ok(())
+    write_run(routes, out)
 }
 
 /// Adds MP_UNREACH_NLRI's value.
 fn put_unreach<O: Output>(unreach: &MpUnreach, out: &mut O) -> Result<(), AllocError>
-    ensures ok { OnOk result (O.written out.new ≡ O.written out.old ++ unreach_octets unreach.now) }
-    ensures ranges { OnOk result (HasRanges (attr.MpUnreach unreach.now)) }
-    ensures err { OnErr result (Extends (O.written out.old) (O.written out.new)) }
-    ensures full { OnErr result (O.room < length (O.written out.old) + length (unreach_octets unreach.now)) }
+    ensures ok { OnOk result ((O.written out.new ≡ O.written out.old ++ unreach_octets unreach.now) × HasRanges (attr.MpUnreach unreach.now)) }
+    ensures err { OnErr result (Extends (O.written out.old) (O.written out.new) × (O.room < length (O.written out.old) + length (unreach_octets unreach.now))) }
 {
     match unreach {
-        MpUnreach::Ip4(routes) => put_unreach_row(afi::IPV4, routes, out)?,
-        MpUnreach::Ip6(routes) => put_unreach_row(afi::IPV6, routes, out)?,
+        MpUnreach::Ip4(routes) => put_unreach_row(afi::IPV4, routes, out),
+        MpUnreach::Ip6(routes) => put_unreach_row(afi::IPV6, routes, out),
     }
-    Ok(())
 }
 
 /// Adds the value of an attribute that isn't recognised.
 fn put_opaque<O: Output>(opaque: &Opaque, out: &mut O) -> Result<(), AllocError>
-    ensures ok { OnOk result (O.written out.new ≡ O.written out.old ++ opaque.now.value) }
-    ensures ranges { OnOk result (HasRanges (attr.Opaque opaque.now)) }
-    ensures err { OnErr result (Extends (O.written out.old) (O.written out.new)) }
-    ensures full { OnErr result (O.room < length (O.written out.old) + length opaque.now.value) }
+    ensures ok { OnOk result ((O.written out.new ≡ O.written out.old ++ opaque.now.value) × HasRanges (attr.Opaque opaque.now)) }
+    ensures err { OnErr result (Extends (O.written out.old) (O.written out.new) × (O.room < length (O.written out.old) + length opaque.now.value)) }
 {
     // The type is read for its range alone.
     let _kind = opaque.kind;
-    put_octets(&opaque.value, out)?;
-    Ok(())
+    put_octets(&opaque.value, out)
 }
 
 /// Adds the value of an attribute.
@@ -181,10 +164,8 @@ pub(crate) fn put_value<O: Output>(
     out: &mut O,
 ) -> Result<(), AllocError>
     requires { is_empty (ref_value attr) ≡ false }
-    ensures ok { OnOk result (O.written out.new ≡ O.written out.old ++ value_octets ctx.now (ref_value attr.entry)) }
-    ensures ranges { OnOk result (HasRanges (ref_value attr.entry)) }
-    ensures err { OnErr result (Extends (O.written out.old) (O.written out.new)) }
-    ensures full { OnErr result (O.room < length (O.written out.old) + length (value_octets ctx.now (ref_value attr.entry))) }
+    ensures ok { OnOk result ((O.written out.new ≡ O.written out.old ++ value_octets ctx.now (ref_value attr.entry)) × HasRanges (ref_value attr.entry)) }
+    ensures err { OnErr result (Extends (O.written out.old) (O.written out.new) × (O.room < length (O.written out.old) + length (value_octets ctx.now (ref_value attr.entry)))) }
 {
     match attr {
         AttrRef::Origin(origin) => put_octets(&[origin as u8], out),
@@ -212,8 +193,7 @@ pub(crate) fn put_view_value<O: Output>(
 ) -> Result<(), AllocError>
     requires { is_empty (attr_value view.now) ≡ false }
     ensures ok { OnOk result (O.written out.new ≡ O.written out.old ++ value_octets ctx.now (attr_value view.now)) }
-    ensures err { OnErr result (Extends (O.written out.old) (O.written out.new)) }
-    ensures full { OnErr result (O.room < length (O.written out.old) + length (value_octets ctx.now (attr_value view.now))) }
+    ensures err { OnErr result (Extends (O.written out.old) (O.written out.new) × (O.room < length (O.written out.old) + length (value_octets ctx.now (attr_value view.now)))) }
 {
     match view {
         AttrView::Origin(origin) => put_octets(&[*origin as u8], out),

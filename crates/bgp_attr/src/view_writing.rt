@@ -17,8 +17,7 @@ fn put_attr<O: Output>(ctx: &Context, view: &AttrView<'_>, out: &mut O) -> Resul
     requires filled { is_empty (attr_value view.now) ≡ false }
     requires short { length (value_octets ctx.now (attr_value view.now)) ≤ 65535 }
     ensures ok { OnOk result (O.written out.new ≡ O.written out.old ++ canonical ctx.now (attr_value view.now)) }
-    ensures err { OnErr result (Extends (O.written out.old) (O.written out.new)) }
-    ensures full { OnErr result (O.room < length (O.written out.old) + length (canonical ctx.now (attr_value view.now))) }
+    ensures err { OnErr result (Extends (O.written out.old) (O.written out.new) × (O.room < length (O.written out.old) + length (canonical ctx.now (attr_value view.now)))) }
 {
     let start = out.len();
     begin_attr(out)?;

@@ -17,10 +17,8 @@ use std::alloc::AllocError;
 fn append_attr<O: Output>(ctx: &Context, attr: AttrRef<'_>, out: &mut O) -> Result<(), AllocError>
     requires filled { is_empty (ref_value attr) ≡ false }
     requires room { O.room ≤ 65535 }
-    ensures ok { OnOk result (O.written out.new ≡ O.written out.old ++ canonical ctx.now (ref_value attr.entry)) }
-    ensures ranges { OnOk result (HasRanges (ref_value attr.entry)) }
-    ensures err { OnErr result (Extends (O.written out.old) (O.written out.new)) }
-    ensures full { OnErr result (O.room < length (O.written out.old) + length (canonical ctx.now (ref_value attr.entry))) }
+    ensures ok { OnOk result ((O.written out.new ≡ O.written out.old ++ canonical ctx.now (ref_value attr.entry)) × HasRanges (ref_value attr.entry)) }
+    ensures err { OnErr result (Extends (O.written out.old) (O.written out.new) × (O.room < length (O.written out.old) + length (canonical ctx.now (ref_value attr.entry)))) }
 {
     let start = out.len();
     begin_attr(out)?;

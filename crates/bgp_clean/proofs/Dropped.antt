@@ -3,7 +3,7 @@ use Rattle.bgp_clean.proofs.Prelude.{◌≡◌, ◌⊎◌, inl, inr, ℕ, ◌+�
 use Rattle.bgp_clean.proofs.Prelude.{None, refl, sym, ap, subst, ◌∙◌, arith, flat_map, filter, list_any, AllByRecursion, both_ways, cond-false, or_parts}
 use Rattle.bgp_clean.proofs.Prelude.{or_from, not-false, not_from_true, flat_map-append, ne_eqb, length-append, Context, Attr, Opaque, is_recognised}
 use Rattle.bgp_clean.proofs.Prelude.{entry_of, canonical, run_octets, is_too_wide, is_as4, is_empty, has_as_zero, stands_twice, HasRanges, Attrs, Update}
-use Rattle.bgp_clean.proofs.Prelude.{CanBeWritten, present, slots, slot, canonical_order, attr_list, attributes_octets, is_of_other_family, rise}
+use Rattle.bgp_clean.proofs.Prelude.{CanBeWritten, present, slots, slot, canonical_order, attr_list, attributes_octets, is_out_of_place, rise}
 use Rattle.bgp_clean.proofs.Prelude.{has_bad_others, any_attr, HasUpdateRanges, length-body, all-none, none-all, all-carried, other_slot, slot-at, IsAccepted}
 use Rattle.bgp_clean.proofs.Prelude.{valid-accepted, accepted-valid, cleaned_attrs, cleaned_update}
 use Rattle.bgp_update.proofs.Rising.{of_kind, RisesFrom, rise-rises, rises-rise}
@@ -148,7 +148,7 @@ module _ (drops : ℕ → Bool) where
     local_pref = acc.local_pref;
     narrow = dropped-none (is_too_wide ctx) u.attrs acc.narrow;
     allowed = as4-by ctx.as4 (any_attr is_as4 u) (any_attr is_as4 (cleaned_update drops u)) (dropped-none is_as4 u.attrs) acc.allowed;
-    family = dropped-none (is_of_other_family ctx) u.attrs acc.family;
+    family = dropped-none (is_out_of_place ctx) u.attrs acc.family;
     some = dropped-none is_empty u.attrs acc.some;
     others = dropped-good u.attrs.others acc.others;
     nonzero = dropped-none has_as_zero u.attrs acc.nonzero;

@@ -4,7 +4,7 @@ use Rattle.bgp_clean.proofs.Prelude.{sym, ap, subst, ◌∙◌, arith, flat_map,
 use Rattle.bgp_clean.proofs.Prelude.{eqb-true, none-some, IPV4, Context, PrefixValue, run_of, row_is_run, Attr, MpUnreach, canonical, is_writable, Belongs}
 use Rattle.bgp_clean.proofs.Prelude.{HasRanges, Attrs, Note, Update, CanBeWritten, Mark, field_marks, marks_of, Parts, parts_of, present, slot, attr_list}
 use Rattle.bgp_clean.proofs.Prelude.{attrs_from, kept_by, kept_of, no_attrs, attrs_of, update_of, verdict_of, attributes_octets, written_body}
-use Rattle.bgp_clean.proofs.Prelude.{is_of_other_family, Verdict, body-parts, length-body, valid-writable, recognised_types, valid-accepted, bare_family}
+use Rattle.bgp_clean.proofs.Prelude.{is_out_of_place, Verdict, body-parts, length-body, valid-writable, recognised_types, valid-accepted, bare_family}
 use Rattle.bgp_clean.proofs.Prelude.{family_of_kept, family_of_marks, end_of_rib, is_bare, says_nothing, family_in, taken-of}
 use Rattle.bgp_attr.specs.declared.judged.Judged.{Judged}
 use Rattle.bgp_update.proofs.MarkLemmas.{KeepsAll, field-keep}
@@ -113,7 +113,7 @@ one-mark [] x keeps = absurd keeps
 one-mark (m ∷ []) x keeps = ap (λ (j : Judged). family_of_kept (kept_by j ++ [])) keeps.0
 one-mark (m ∷ n ∷ ms) x keeps = absurd keeps.1
 
-in-use : (ctx : Context) (r : MpUnreach) → (is_of_other_family ctx (Attr.MpUnreach r) || false) ≡ false → Belongs ctx false (Attr.MpUnreach r)
+in-use : (ctx : Context) (r : MpUnreach) → (is_out_of_place ctx (Attr.MpUnreach r) || false) ≡ false → Belongs ctx false (Attr.MpUnreach r)
 in-use ctx (MpUnreach.Ip4 routes) e = not-false ctx.ip4 (or_parts (not ctx.ip4) false e).0
 in-use ctx (MpUnreach.Ip6 routes) e = not-false ctx.ip6 (or_parts (not ctx.ip6) false e).0
 
@@ -132,7 +132,7 @@ module _ (ctx : Context) (o : Option MpUnreach) (body : List ℕ) (can : CanBeWr
       body-parts (written_body ctx (end_update o)) parts
       (record { octets = refl; withdrawn_fits = omega arith; attributes_fit = omega (arith, long, short, can.no_longer) })
 
-  family-by : (q : Option MpUnreach) (f : ℕ) → family_of_end q ≡ Some f → list_any (is_of_other_family ctx) (unreach_attrs q) ≡ false
+  family-by : (q : Option MpUnreach) (f : ℕ) → family_of_end q ≡ Some f → list_any (is_out_of_place ctx) (unreach_attrs q) ≡ false
       → AllByRecursion (λ x. is_writable ctx x ≡ true) (unreach_attrs q) → AllByRecursion HasRanges (unreach_attrs q)
       → family_of_marks (field_marks ctx false (flat_map (canonical ctx) (unreach_attrs q))) ≡ Some f
   family-by None f e family writable ranges = ap family_of_marks (no_marks ctx false) ∙ e
@@ -148,6 +148,6 @@ module _ (ctx : Context) (o : Option MpUnreach) (body : List ℕ) (can : CanBeWr
       ap (family_in ctx) parts-found
       ∙ ap (λ (xs : List Attr). family_of_marks (field_marks ctx false (flat_map (canonical ctx) xs))) (unreach-list o)
       ∙ family-by o f e
-      (subst (λ (xs : List Attr). list_any (is_of_other_family ctx) xs ≡ false) (unreach-list o) acc.family)
+      (subst (λ (xs : List Attr). list_any (is_out_of_place ctx) xs ≡ false) (unreach-list o) acc.family)
       (subst (λ (xs : List Attr). AllByRecursion (λ x. is_writable ctx x ≡ true) xs) (unreach-list o) writable)
       (subst (λ (xs : List Attr). AllByRecursion HasRanges xs) (unreach-list o) can.ranges.attributes)

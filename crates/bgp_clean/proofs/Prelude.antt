@@ -19,13 +19,13 @@ pub use Rattle.bgp_open.specs.declared.capability.Capability.TheVariants.{As4, M
 pub use Rattle.bgp_open.specs.declared.context.Context.{Context}
 pub use Rattle.bgp_open.specs.declared.fault.OpenFault.{OpenFault}
 pub use Rattle.bgp_open.specs.declared.message.Open.{Open}
-pub use Rattle.bgp_attr.specs.Prelude.{Belongs, HasRanges, canonical, entry_of, has_as_zero, has_entry, is_as4, is_empty, is_recognised, is_too_wide, is_writable, link_octets, run_octets, stands_twice, value_octets}
+pub use Rattle.bgp_attr.specs.Prelude.{Belongs, HasRanges, canonical, entry_of, has_as_zero, has_entry, is_as4, is_empty, is_out_of_place, is_recognised, is_too_wide, is_writable, link_octets, run_octets, stands_twice, value_octets}
 pub use Rattle.bgp_attr.specs.declared.attr.Attr.{Attr}
 pub use Rattle.bgp_attr.specs.declared.mp.MpReach.{MpReach}
 pub use Rattle.bgp_attr.specs.declared.mp.MpUnreach.{MpUnreach}
 pub use Rattle.bgp_attr.specs.declared.opaque.Opaque.{Opaque}
 pub use Rattle.bgp_update.specs.Parts.{has_nlri}
-pub use Rattle.bgp_update.specs.Prelude.{CanBeWritten, HasUpdateRanges, IsBody, Mark, Parts, announces, any_attr, attr_list, attributes_octets, attrs_of, carries_routes, chosen_update, field_marks, first_reset, gone_ip4, gone_ip6, gone_octets, has_bad_others, has_routes, is_of_other_family, is_reachable, kept_by, kept_of, marks_of, no_attrs, notes_value, parts_of, present, reached_ip4, reached_ip6, reset_of, reset_of_run, rise, routes_of, routes_value, slots, types_from, update_of, update_value, verdict_of, whole_unreach, withdrawal_octets, written_body}
+pub use Rattle.bgp_update.specs.Prelude.{CanBeWritten, HasUpdateRanges, IsBody, Mark, Parts, announces, any_attr, attr_list, attributes_octets, attrs_of, carries_routes, chosen_update, field_marks, first_reset, gone_ip4, gone_ip6, gone_octets, has_bad_others, has_routes, is_reachable, kept_by, kept_of, marks_of, no_attrs, notes_value, parts_of, present, reached_ip4, reached_ip6, reset_of, reset_of_run, rise, routes_of, routes_value, slots, types_from, update_of, update_value, verdict_of, whole_unreach, withdrawal_octets, written_body}
 unfoldable pub use Rattle.bgp_update.specs.Prelude.{attrs_from, canonical_order, slot}
 pub use Rattle.bgp_update.specs.declared.attrs.Attrs.{Attrs}
 pub use Rattle.bgp_update.specs.declared.invalid.Invalid.{Invalid}

@@ -6,7 +6,7 @@ use Rattle.bgp_clean.proofs.Prelude.{IsPrefix, spelling_of, run_of, Row-rewritte
 use Rattle.bgp_clean.proofs.Prelude.{is_as4, is_empty, has_as_zero, stands_twice, Belongs, HasRanges, value_octets, IPV4, IPV6, Attrs, Note, Routes, Update}
 use Rattle.bgp_clean.proofs.Prelude.{CanBeWritten, marks_of, reached_ip4, reached_ip6, gone_ip4, gone_ip6, has_routes, is_reachable, routes_of, Parts, IsBody}
 use Rattle.bgp_clean.proofs.Prelude.{present, attr_list, attrs_from, kept_of, attrs_of, first_reset, reset_of_run, reset_of, verdict_of, attributes_octets}
-use Rattle.bgp_clean.proofs.Prelude.{written_body, is_of_other_family, HasUpdateRanges, Verdict, has_nlri, length-body, all-append, run-row, row-some}
+use Rattle.bgp_clean.proofs.Prelude.{written_body, is_out_of_place, HasUpdateRanges, Verdict, has_nlri, length-body, all-append, run-row, row-some}
 use Rattle.bgp_clean.proofs.Prelude.{IsAccepted, accepted-valid, unreach_of, withdrawal, is_bare, says_nothing, has-parts, withdrawn-of}
 use Rattle.bgp_attr.proofs.CanonicalLength.{length-canonical, reach_added}
 use Rattle.bgp_attr.proofs.RouteRows.{prefixes-valid}
@@ -90,13 +90,13 @@ module _ (ctx : Context) where
 
   -- ---- families and ranges
 
-  of-family6 : (ps : List PrefixValue) → ctx.ip6 ≡ true → list_any (is_of_other_family ctx) (gone_attr ps) ≡ false
+  of-family6 : (ps : List PrefixValue) → ctx.ip6 ≡ true → list_any (is_out_of_place ctx) (gone_attr ps) ≡ false
   of-family6 [] used = refl
   of-family6 (p ∷ ps) used = or_from (not ctx.ip6) false (not_from_true ctx.ip6 used) refl
 
   in-family : (nlri : Bool) (u : Option MpUnreach) (r : Option MpReach)
       → AllByRecursion (Belongs ctx nlri) (unreach_attrs u) → AllByRecursion (Belongs ctx nlri) (reach_list r)
-      → list_any (is_of_other_family ctx) (gone_attr (gone_ip6 u ++ reached_ip6 r)) ≡ false
+      → list_any (is_out_of_place ctx) (gone_attr (gone_ip6 u ++ reached_ip6 r)) ≡ false
   in-family nlri None None a b = refl
   in-family nlri None (Some (MpReach.Ip4 hop ps)) a b = refl
   in-family nlri None (Some (MpReach.Ip6 hop link ps)) a b = of-family6 ps b.0
@@ -163,7 +163,7 @@ module _ (ctx : Context) (p : Parts) (octets_w : AreOctets p.withdrawn) (octets_
   none-of : (test : Attr → Bool) → list_any test (gone_attr ip6) ≡ false → list_any test (attr_list said.attrs) ≡ false
   none-of test e = subst (λ (xs : List Attr). list_any test xs ≡ false) (sym (unreach-list (unreach_of ip6))) e
 
-  family : list_any (is_of_other_family ctx) (gone_attr ip6) ≡ false
+  family : list_any (is_out_of_place ctx) (gone_attr ip6) ≡ false
   family =
       in-family ctx (has_nlri p) a.mp_unreach a.mp_reach
       (unreach-all a (Belongs ctx (has_nlri p)) held.in_place) (reach-all a (Belongs ctx (has_nlri p)) held.in_place)
@@ -176,7 +176,7 @@ module _ (ctx : Context) (p : Parts) (octets_w : AreOctets p.withdrawn) (octets_
     local_pref = refl;
     narrow = none-of (is_too_wide ctx) (gone-none (is_too_wide ctx) (λ r. refl) ip6);
     allowed = and_right ctx.as4 (list_any is_as4 (attr_list said.attrs)) (none-of is_as4 (gone-none is_as4 (λ r. refl) ip6));
-    family = none-of (is_of_other_family ctx) family;
+    family = none-of (is_out_of_place ctx) family;
     some = none-of is_empty (gone-none is_empty (λ r. refl) ip6);
     others = refl;
     nonzero = none-of has_as_zero (gone-none has_as_zero (λ r. refl) ip6);

@@ -1,10 +1,12 @@
 //! Headers: made, and read.
 
-ghost use Rattle.std.specs.Prelude.{◌≡◌, ◌↔◌, ◌+◌, ◌≤◌, ◌++◌, List, ℕ, IsTrue, length, take, replicate};
+ghost use Rattle.std.specs.Prelude.{◌≡◌, ◌↔◌, ◌+◌, ◌≤◌, ◌++◌, List, ℕ, Ok, IfSome, IsTrue, length, take, replicate};
+ghost use Rattle.bgp_frame.specs.declared.kind.Kind.TheVariants.{Update};
 ghost use Rattle.bgp_frame.specs.Prelude.{IsLength, header, has_marker, head_of, IsFrame, wanted};
 
 use crate::fault::HeadFault;
 use crate::kind::Kind;
+use bgp_numbers::message;
 
 /// The octets of a header.
 pub(crate) const HEADER_LEN: usize = 19;
@@ -72,6 +74,22 @@ pub(crate) fn read_head(octets: &[u8]) -> Result<Header, HeadFault>
             Err(HeadFault::Length(len))
         }
         Some(kind) => Ok(Header { kind, len }),
+    }
+}
+
+/// The length of the UPDATE whose header these octets begin with, where they begin with one without fault: most messages are, and this takes three tests.
+#[tactic(auto, unfolding(crate::specs::Head::head_of))]
+#[inline(always)]
+pub(crate) fn update_length(octets: &[u8]) -> Option<u16>
+    requires { 19 ≤ length octets.now }
+    ensures { IfSome result (λ n. head_of octets.now ≡ Ok (record { kind = Update; len = n })) }
+{
+    let len = u16::from_be_bytes([octets[16], octets[17]]);
+    let is_update = has_marker(octets) && octets[18] == message::UPDATE;
+    if is_update && len >= 23 && len <= 4096 {
+        Some(len)
+    } else {
+        None
     }
 }
 

@@ -38,3 +38,27 @@ pub const AS4_AGGREGATOR: u8 = 18;
 
 /// LARGE_COMMUNITY (RFC 8092, section 3).
 pub const LARGE_COMMUNITY: u8 = 32;
+
+#[cfg(test)]
+mod tests {
+    use super::*;
+    use std::test::*;
+
+    // The values of the IANA registry BGP Path Attributes, written down again.
+    #[test]
+    fn types_are_those_of_the_registry(rt: HostRuntime) {
+        assert!(rt; ORIGIN == 1);
+        assert!(rt; AS_PATH == 2);
+        assert!(rt; NEXT_HOP == 3);
+        assert!(rt; MULTI_EXIT_DISC == 4);
+        assert!(rt; LOCAL_PREF == 5);
+        assert!(rt; ATOMIC_AGGREGATE == 6);
+        assert!(rt; AGGREGATOR == 7);
+        assert!(rt; COMMUNITIES == 8);
+        assert!(rt; MP_REACH_NLRI == 14);
+        assert!(rt; MP_UNREACH_NLRI == 15);
+        assert!(rt; AS4_PATH == 17);
+        assert!(rt; AS4_AGGREGATOR == 18);
+        assert!(rt; LARGE_COMMUNITY == 32);
+    }
+}

@@ -31,31 +31,6 @@ fn numbers_are_those_of_the_registries(rt: HostRuntime) {
             segment::CONFED_SET
         ] == [1, 2, 3, 4]
     );
-    // BGP Path Attributes (RFC 4271, RFC 1997, RFC 4760, RFC 6793, RFC 8092).
-    assert!(rt;
-        [
-            attribute::ORIGIN,
-            attribute::AS_PATH,
-            attribute::NEXT_HOP,
-            attribute::MULTI_EXIT_DISC
-        ] == [1, 2, 3, 4]
-    );
-    assert!(rt;
-        [
-            attribute::LOCAL_PREF,
-            attribute::ATOMIC_AGGREGATE,
-            attribute::AGGREGATOR,
-            attribute::COMMUNITIES
-        ] == [5, 6, 7, 8]
-    );
-    assert!(rt; [attribute::MP_REACH_NLRI, attribute::MP_UNREACH_NLRI] == [14, 15]);
-    assert!(rt;
-        [
-            attribute::AS4_PATH,
-            attribute::AS4_AGGREGATOR,
-            attribute::LARGE_COMMUNITY
-        ] == [17, 18, 32]
-    );
 }
 
 #[test]

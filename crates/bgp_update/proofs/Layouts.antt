@@ -1,5 +1,5 @@
 -- The two length fields of a body, set when their parts are there.
-use Rattle.bgp_wire.proofs.Std.{◌≡◌, ℕ, ◌+◌, ◌-◌, List, [], ◌∷◌, ◌++◌, length, take, drop, refl, sym, ap, ap₂, ◌∙◌, append_assoc, arith, w16, to_be_bytes, take-append_seam, drop-append-add}
+use Rattle.bgp_wire.proofs.Std.{◌≡◌, ℕ, ◌+◌, ◌-◌, List, ◌∷◌, ◌++◌, length, take, drop, sym, ap, ap₂, ◌∙◌, append_assoc, arith, w16, to_be_bytes, take-append_seam, drop-append-add}
 use Rattle.std.proofs.lemmas.List.{length-append}
 use Rattle.bgp_update.specs.declared.laying.Places.{Places}
 use Rattle.bgp_update.specs.Prelude.{body_octets, LaysOut}
@@ -28,13 +28,3 @@ both_set w a n old start first second p there mid new laid first_is second_is se
     ∙ append_assoc old (to_be_bytes w16 first ++ w) (to_be_bytes w16 second ++ (a ++ n))
     ∙ ap (λ (x : List ℕ). old ++ x) (append_assoc (to_be_bytes w16 first) w (to_be_bytes w16 second ++ (a ++ n)))
     ∙ ap₂ (λ (k m : ℕ). old ++ (to_be_bytes w16 k ++ (w ++ (to_be_bytes w16 m ++ (a ++ n))))) one two
-
--- what is written part by part lies out a body
-pub laid-out : (old withdrawn attributes nlri t1 t2 t3 t4 new : List ℕ) (p q : ℕ) → t1 ≡ old ++ 0 ∷ 0 ∷ [] → t2 ≡ t1 ++ withdrawn → p ≡ length t2 → t3 ≡ t2 ++ 0 ∷ 0 ∷ [] → t4 ≡ t3 ++ attributes → q ≡ length t4 → new ≡ t4 ++ nlri
-    → LaysOut withdrawn attributes nlri (length old) old new (record { attributes = p; nlri = q })
-laid-out old withdrawn attributes nlri t1 t2 t3 t4 new p q e1 e2 f e3 e4 g e5 = record {
-  whole = rw (e5, e4, e3, e2, e1) (simp (append_assoc));
-  first = refl;
-  second = omega (arith, f, ap length e2, ap length e1, length-append t1 withdrawn, length-append old (0 ∷ 0 ∷ []));
-  third = omega (arith, g, f, ap length e4, ap length e3, length-append t3 attributes, length-append t2 (0 ∷ 0 ∷ []));
-}

@@ -10,15 +10,14 @@ use Rattle.bgp_prefix.specs.Prelude.{PrefixValue, IsValid, spelling_of, run_of}
 use Rattle.bgp_prefix.proofs.RunLemmas.{Row-prefixes}
 use Rattle.bgp_prefix.proofs.LawLemmas.{row_is_run}
 use Rattle.bgp_attr.specs.declared.attr.Attr.{Attr}
-use Rattle.bgp_attr.specs.Prelude.{TlvValue, entry_of, placed_from, length_octets, written_tlv, canonical, value_octets, run_octets, type_of, is_too_wide, is_as4, is_empty, is_misnamed, has_as_zero, stands_twice, is_too_long, is_writable, Belongs, HasRanges}
+use Rattle.bgp_attr.specs.Prelude.{TlvValue, entry_of, placed_from, length_octets, written_tlv, canonical, value_octets, run_octets, type_of, is_too_wide, is_as4, is_empty, is_misnamed, has_as_zero, stands_twice, is_too_long, is_out_of_place, is_writable, HasRanges}
 use Rattle.bgp_attr.specs.declared.attr.Attr.TheVariants as attr
-use Rattle.bgp_attr.specs.declared.mp.MpReach.TheVariants as reach
-use Rattle.bgp_attr.specs.declared.mp.MpUnreach.TheVariants as unreach
+use Rattle.bgp_attr.proofs.EachType.{Placed, belongs}
 use Rattle.bgp_attr.proofs.TestRows.{Writes-writable}
 use Rattle.bgp_update.specs.declared.attrs.Attrs.{Attrs}
 use Rattle.bgp_update.specs.declared.note.Note.{Note}
 use Rattle.bgp_update.specs.declared.update.Update.{Update}
-use Rattle.bgp_update.specs.Prelude.{Parts, parts_of, attributes_at, Mark, marks_of, kept_of, attrs_of, update_of, has_routes, is_reachable, has_type, missing_of, is_missing, missing_note, missing_notes, notes_of, present, slots, slot, canonical_order, attr_list, reset_of_run, reset_of, is_withdrawn, unless_reset, without_reset, verdict_on, of_parts, verdict_of, attributes_octets, written_body, announces, is_of_other_family, invalid_of, HasUpdateRanges}
+use Rattle.bgp_update.specs.Prelude.{Parts, parts_of, attributes_at, Mark, marks_of, kept_of, attrs_of, update_of, has_routes, is_reachable, has_type, missing_of, is_missing, missing_note, missing_notes, notes_of, present, slots, slot, canonical_order, attr_list, reset_of_run, reset_of, is_withdrawn, unless_reset, without_reset, verdict_on, of_parts, verdict_of, attributes_octets, written_body, announces, invalid_of, HasUpdateRanges}
 use Rattle.bgp_update.specs.declared.verdict.Verdict.TheVariants as verdict
 use Rattle.bgp_update.specs.Parts.{has_nlri}
 use Rattle.bgp_wire.specs.Prelude.{none_of_them}
@@ -33,12 +32,6 @@ use Rattle.bgp_update.proofs.Validity.{IsAccepted, valid-accepted}
 use Rattle.bgp_update.proofs.MarkLemmas.{KeepsAll, keeps-kept, keeps-no_reset, keeps-no_withdrawal, keeps-no_note, IsReady, AreReady, written-tlvs, field-keep, slots-fresh}
 
 -- ---- attributes that belong where they stand
-
--- NEXT_HOP where there is NLRI, LOCAL_PREF inside one system
-abbrev Placed : Context → Bool → Attr → Type 0
-Placed ctx nlri (attr.NextHop addr) = nlri ≡ true
-Placed ctx nlri (attr.LocalPref n) = ctx.internal ≡ true
-Placed ctx nlri _ = Unit {0}
 
 placed-other : (ctx : Context) (nlri : Bool) (k : ℕ) → eqb k NEXT_HOP ≡ false → eqb k LOCAL_PREF ≡ false → (x : Attr) → type_of x ≡ k → Placed ctx nlri x
 placed-other ctx nlri k hop pref (attr.NextHop addr) e = absurd (eqb-false k NEXT_HOP hop (sym e))
@@ -60,15 +53,6 @@ module _ (ctx : Context) (nlri : Bool) (a : Attrs) (hop : is_some a.next_hop ≡
       by true e c f = placed-at k NEXT_HOP e (placed-present attr.NextHop a.next_hop (λ addr is. hop is))
       by false e true f = placed-at k LOCAL_PREF f (placed-present attr.LocalPref a.local_pref (λ n is. pref is))
       by false e false f = all-more (λ x. type_of x ≡ k) (Placed ctx nlri) (slot a k) (placed-other ctx nlri k e f) (slot-types a k)
-
-belongs : (ctx : Context) (nlri : Bool) (x : Attr) → Placed ctx nlri x → is_of_other_family ctx x ≡ false → Belongs ctx nlri x
-belongs ctx nlri (attr.NextHop addr) placed family = placed
-belongs ctx nlri (attr.LocalPref n) placed family = placed
-belongs ctx nlri (attr.MpReach (reach.Ip4 hop routes)) placed family = not-false ctx.ip4 family
-belongs ctx nlri (attr.MpReach (reach.Ip6 hop link routes)) placed family = not-false ctx.ip6 family
-belongs ctx nlri (attr.MpUnreach (unreach.Ip4 routes)) placed family = not-false ctx.ip4 family
-belongs ctx nlri (attr.MpUnreach (unreach.Ip6 routes)) placed family = not-false ctx.ip6 family
-belongs ctx nlri _ placed family = tt
 
 -- ---- no type stands twice
 
@@ -109,7 +93,7 @@ as4-each false any one e each = refl
 record AllPass (ctx : Context) (x : Attr) : Type 0 where
   narrow : is_too_wide ctx x ≡ false
   allowed : (ctx.as4 && is_as4 x) ≡ false
-  family : is_of_other_family ctx x ≡ false
+  family : is_out_of_place ctx x ≡ false
   some : is_empty x ≡ false
   nonzero : has_as_zero x ≡ false
   once : stands_twice x ≡ false
@@ -119,12 +103,12 @@ allowed-all true xs e = none-all is_as4 xs e
 allowed-all false [] e = tt
 allowed-all false (x ∷ xs) e = (refl, allowed-all false xs e)
 
-passes : (ctx : Context) (xs : List Attr) → list_any (is_too_wide ctx) xs ≡ false → AllByRecursion (λ x. (ctx.as4 && is_as4 x) ≡ false) xs → list_any (is_of_other_family ctx) xs ≡ false
+passes : (ctx : Context) (xs : List Attr) → list_any (is_too_wide ctx) xs ≡ false → AllByRecursion (λ x. (ctx.as4 && is_as4 x) ≡ false) xs → list_any (is_out_of_place ctx) xs ≡ false
     → list_any is_empty xs ≡ false → list_any has_as_zero xs ≡ false → list_any stands_twice xs ≡ false → AllByRecursion (AllPass ctx) xs
 passes ctx [] a b c d e f = tt
 passes ctx (x ∷ xs) a b c d e f =
     let p = or_parts (is_too_wide ctx x) (list_any (is_too_wide ctx) xs) a in
-    let q = or_parts (is_of_other_family ctx x) (list_any (is_of_other_family ctx) xs) c in
+    let q = or_parts (is_out_of_place ctx x) (list_any (is_out_of_place ctx) xs) c in
     let r = or_parts (is_empty x) (list_any is_empty xs) d in
     let s = or_parts (has_as_zero x) (list_any has_as_zero xs) e in
     let t = or_parts (stands_twice x) (list_any stands_twice xs) f in

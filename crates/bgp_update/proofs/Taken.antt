@@ -13,16 +13,15 @@ use Rattle.bgp_prefix.proofs.PrefixLemmas.{IsPrefix-reads, IsPrefix-length}
 use Rattle.bgp_prefix.proofs.LawLemmas.{Row-rewritten}
 use Rattle.bgp_attr.specs.declared.attr.Attr.{Attr}
 use Rattle.bgp_attr.specs.declared.opaque.Opaque.{Opaque}
-use Rattle.bgp_attr.specs.Prelude.{tlvs_of, run_octets, type_of, is_too_wide, is_as4, is_empty, has_as_zero, stands_twice, Belongs, HasRanges}
+use Rattle.bgp_attr.specs.Prelude.{tlvs_of, run_octets, type_of, is_too_wide, is_as4, is_empty, has_as_zero, stands_twice, is_out_of_place, Belongs, HasRanges}
 use Rattle.bgp_attr.specs.declared.attr.Attr.TheVariants as attr
-use Rattle.bgp_attr.specs.declared.mp.MpReach.TheVariants as reach
-use Rattle.bgp_attr.specs.declared.mp.MpUnreach.TheVariants as unreach
+use Rattle.bgp_attr.proofs.EachType.{has-place}
 use Rattle.bgp_attr.proofs.RouteRows.{prefixes-valid}
 use Rattle.bgp_attr.proofs.TestRows.{Writes, writable-Writes}
 use Rattle.bgp_update.specs.declared.attrs.Attrs.{Attrs}
 use Rattle.bgp_update.specs.declared.note.Note.{Note}
 use Rattle.bgp_update.specs.declared.update.Update.{Update}
-use Rattle.bgp_update.specs.Prelude.{Parts, IsBody, Mark, cut_mark, marks_of, kept_of, attrs_of, update_of, as_opaque, present, slot, is_reachable, has_type, missing_of, is_missing, attr_list, first_reset, bad_network, reset_of_run, reset_of, withdraws, is_withdrawn, verdict_of, attributes_octets, written_body, announces, lacks_some, is_of_other_family, HasUpdateRanges, CanBeWritten}
+use Rattle.bgp_update.specs.Prelude.{Parts, IsBody, Mark, cut_mark, marks_of, kept_of, attrs_of, update_of, as_opaque, present, slot, is_reachable, has_type, missing_of, is_missing, attr_list, first_reset, bad_network, reset_of_run, reset_of, withdraws, is_withdrawn, verdict_of, attributes_octets, written_body, announces, lacks_some, HasUpdateRanges, CanBeWritten}
 use Rattle.bgp_update.specs.declared.verdict.Verdict.TheVariants as verdict
 use Rattle.bgp_update.specs.Parts.{has_nlri}
 use Rattle.bgp_update.specs.Written as written
@@ -86,13 +85,6 @@ module _ (ctx : Context) (nlri : Bool) where
   pref-needs : (o : Option ℕ) → AllByRecursion (Belongs ctx nlri) (present (λ (n : ℕ). attr.LocalPref n) o) → is_some o ≡ true → ctx.internal ≡ true
   pref-needs None placed e = absurd (false≢true e)
   pref-needs (Some n) placed e = placed.0
-
-  of-family : (x : Attr) → Belongs ctx nlri x → is_of_other_family ctx x ≡ false
-  of-family (attr.MpReach (reach.Ip4 hop routes)) placed = not_from_true ctx.ip4 placed
-  of-family (attr.MpReach (reach.Ip6 hop link routes)) placed = not_from_true ctx.ip6 placed
-  of-family (attr.MpUnreach (unreach.Ip4 routes)) placed = not_from_true ctx.ip4 placed
-  of-family (attr.MpUnreach (unreach.Ip6 routes)) placed = not_from_true ctx.ip6 placed
-  of-family _ placed = refl
 
 -- ---- a message with these parts that goes on
 
@@ -172,7 +164,7 @@ module _ (ctx : Context) (p : Parts) (octets_w : AreOctets p.withdrawn) (octets_
     local_pref = and-not (is_some a.local_pref) ctx.internal (pref-needs ctx nlri a.local_pref (field-all (Belongs ctx nlri) a LOCAL_PREF refl placed));
     narrow = none-among (is_too_wide ctx) (λ x w. w.narrow);
     allowed = as4-all ctx.as4 (attr_list a) (among (λ x. (ctx.as4 && is_as4 x) ≡ false) (λ x r. (let w : Writes ctx x = writable-Writes ctx x r.writable in w.allowed)));
-    family = all-none (is_of_other_family ctx) (attr_list a) (among (λ x. is_of_other_family ctx x ≡ false) (λ x r. of-family ctx nlri x r.in_place));
+    family = all-none (is_out_of_place ctx) (attr_list a) (among (λ x. is_out_of_place ctx x ≡ false) (λ x r. has-place ctx nlri x r.in_place));
     some = none-among is_empty (λ x w. w.some);
     others = slots.others-good ctx p octets_a;
     nonzero = none-among has_as_zero (λ x w. w.nonzero);

@@ -11,13 +11,13 @@ use Rattle.bgp_attr.specs.declared.attr.Attr.{Attr}
 use Rattle.bgp_attr.specs.declared.path.Segment.{Segment}
 use Rattle.bgp_attr.specs.declared.path.AsPath.{AsPath}
 use Rattle.bgp_attr.specs.declared.path.As4Path.{As4Path}
-use Rattle.bgp_attr.specs.Prelude.{as_number, is_recognised, type_of, any_number, is_above_two_octets, is_zero, is_bad_segment, is_too_wide, is_as4, is_empty, has_as_zero, stands_twice}
+use Rattle.bgp_attr.specs.Prelude.{as_number, is_recognised, type_of, any_number, is_above_two_octets, is_zero, is_bad_segment, is_too_wide, is_as4, is_empty, has_as_zero, stands_twice, is_out_of_place}
 use Rattle.bgp_attr.specs.declared.attr.Attr.TheVariants as attr
 use Rattle.bgp_attr.specs.declared.mp.MpReach.TheVariants as reach
 use Rattle.bgp_attr.specs.declared.mp.MpUnreach.TheVariants as unreach
 use Rattle.bgp_update.specs.declared.attrs.Attrs.{Attrs}
 use Rattle.bgp_update.specs.declared.update.Update.{Update}
-use Rattle.bgp_update.specs.Prelude.{narrow_number, narrow_segment, narrow_path, wide_path, narrow_aggregator, wide_aggregator, narrowed, narrowed_update, HasNoAs4, present, slot, canonical_order, attr_list, with_as4, lacks_some, is_of_other_family, invalid_of}
+use Rattle.bgp_update.specs.Prelude.{narrow_number, narrow_segment, narrow_path, wide_path, narrow_aggregator, wide_aggregator, narrowed, narrowed_update, HasNoAs4, present, slot, canonical_order, attr_list, with_as4, lacks_some, invalid_of}
 use Rattle.bgp_update.proofs.Lists.{none-all, all-none, all-carried, all-both}
 use Rattle.bgp_update.proofs.SlotLemmas.{slot-other, at_each, slot-types, slot-all, field-all}
 use Rattle.bgp_update.proofs.Validity.{valid-accepted, accepted-valid}
@@ -164,15 +164,15 @@ wide-told ctx = record { as_path = λ p h. path-fits p; as4_path = λ p e h. ref
     same (attr.Aggregator g) e h = absurd (true≢false e)
     same _ e h = refl
 
-family-told : (ctx : Context) → Carries (λ x. is_of_other_family ctx x ≡ false) (λ x. is_of_other_family (with_as4 false ctx) x ≡ false)
+family-told : (ctx : Context) → Carries (λ x. is_out_of_place ctx x ≡ false) (λ x. is_out_of_place (with_as4 false ctx) x ≡ false)
 family-told ctx = record { as_path = λ p h. refl; as4_path = λ p e h. refl; aggregator = λ g h. refl; as4_aggregator = λ g h. refl; same = same }
   where
-    same : (x : Attr) → is_narrowed (type_of x) ≡ false → is_of_other_family ctx x ≡ false → is_of_other_family (with_as4 false ctx) x ≡ false
+    same : (x : Attr) → is_narrowed (type_of x) ≡ false → is_out_of_place ctx x ≡ false → is_out_of_place (with_as4 false ctx) x ≡ false
     same (attr.MpReach (reach.Ip4 hop routes)) e h = h
     same (attr.MpReach (reach.Ip6 hop link routes)) e h = h
     same (attr.MpUnreach (unreach.Ip4 routes)) e h = h
     same (attr.MpUnreach (unreach.Ip6 routes)) e h = h
-    same _ e h = refl
+    same _ e h = h
 
 empty-told : Carries (λ x. is_empty x ≡ false) (λ x. is_empty x ≡ false)
 empty-told = record {
@@ -208,7 +208,7 @@ narrowed_update_is_valid ctx u wide valid =
       local_pref = a.local_pref;
       narrow = told-none (is_too_wide ctx) (is_too_wide (with_as4 false ctx)) (wide-told ctx) u.attrs a.narrow;
       allowed = refl;
-      family = told-none (is_of_other_family ctx) (is_of_other_family (with_as4 false ctx)) (family-told ctx) u.attrs a.family;
+      family = told-none (is_out_of_place ctx) (is_out_of_place (with_as4 false ctx)) (family-told ctx) u.attrs a.family;
       some = told-none is_empty is_empty empty-told u.attrs a.some;
       others = a.others;
       nonzero = told-none has_as_zero has_as_zero zero-told u.attrs a.nonzero;

@@ -10,7 +10,7 @@ pub use Rattle.bgp_update.specs.Notes.{gone_ip4, gone_ip6, has_routes, has_type,
 pub use Rattle.bgp_update.specs.Verdict.{bad_network, first_reset, has_value, is_withdrawn, of_parts, reset_by, reset_of, reset_of_run, unless_reset, verdict_of, verdict_on, withdraws, without_reset}
 pub use Rattle.bgp_update.specs.Slots.{attr_list, types_from}
 unfoldable pub use Rattle.bgp_update.specs.Slots.{canonical_order, slot}
-pub use Rattle.bgp_update.specs.Written.{HasUpdateRanges, announces, any_attr, attributes_octets, body_octets, has_bad_others, has_needless_next_hop, has_outside_preference, invalid_of, is_of_other_family, lacks_some, refused_if, rise, rise_behind, written_body}
+pub use Rattle.bgp_update.specs.Written.{HasUpdateRanges, announces, any_attr, attributes_octets, body_octets, has_bad_others, has_needless_next_hop, has_outside_preference, invalid_of, lacks_some, refused_if, rise, rise_behind, written_body}
 pub use Rattle.bgp_update.specs.As4.{HasNoAs4, front_by, is_as_trans, items_behind, items_by, items_in, items_of, joined, lead, narrow_aggregator, narrow_number, narrow_path, narrow_segment, narrowed, narrowed_update, onward_of, rebuilt, rebuilt_by, rebuilt_path, wide_aggregator, wide_path}
 pub use Rattle.bgp_update.specs.Widths.{with_as4}
 pub use Rattle.bgp_update.specs.Body.{parts_value}

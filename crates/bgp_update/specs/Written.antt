@@ -1,15 +1,12 @@
 -- The one written form of an UPDATE's body, and which UPDATEs aren't written.
-use Rattle.std.specs.Prelude.{◌<◌, ℕ, Bool, true, false, not, ◌&&◌, ◌||◌, nat_lt, List, [], ◌∷◌, ◌++◌, length, Option, None, Some, is_none, is_some, if◌then◌else◌}
+use Rattle.std.specs.Prelude.{◌<◌, ℕ, Bool, true, not, ◌&&◌, ◌||◌, nat_lt, List, [], ◌∷◌, ◌++◌, length, Option, None, Some, is_none, is_some, if◌then◌else◌}
 use Rattle.std.specs.List.{flat_map, list_any, AllByRecursion}
 use Rattle.std.specs.Int.{w16, to_be_bytes}
 use Rattle.bgp_open.specs.declared.context.Context.{Context}
 use Rattle.bgp_prefix.specs.Prelude.{IsValid}
 use Rattle.bgp_attr.specs.declared.attr.Attr.{Attr}
 use Rattle.bgp_attr.specs.declared.opaque.Opaque.{Opaque}
-use Rattle.bgp_attr.specs.Prelude.{is_recognised, canonical, run_octets, is_too_wide, is_as4, is_empty, has_as_zero, stands_twice, HasRanges}
-use Rattle.bgp_attr.specs.declared.attr.Attr.TheVariants as attr
-use Rattle.bgp_attr.specs.declared.mp.MpReach.TheVariants as reach
-use Rattle.bgp_attr.specs.declared.mp.MpUnreach.TheVariants as unreach
+use Rattle.bgp_attr.specs.Prelude.{is_recognised, canonical, run_octets, is_too_wide, is_as4, is_empty, has_as_zero, stands_twice, is_out_of_place, HasRanges}
 use Rattle.bgp_update.specs.declared.attrs.Attrs.{Attrs}
 use Rattle.bgp_update.specs.declared.invalid.Invalid.{Invalid}
 use Rattle.bgp_update.specs.declared.invalid.Invalid.TheVariants as invalid
@@ -55,14 +52,6 @@ has_needless_next_hop u = is_some u.attrs.next_hop && not (has_nlri u)
 abbrev pub has_outside_preference : Context → Update → Bool
 has_outside_preference ctx u = is_some u.attrs.local_pref && not ctx.internal
 
--- 6: an address family that isn't in use
-abbrev pub is_of_other_family : Context → Attr → Bool
-is_of_other_family ctx (attr.MpReach (reach.Ip4 hop routes)) = not ctx.ip4
-is_of_other_family ctx (attr.MpReach (reach.Ip6 hop link routes)) = not ctx.ip6
-is_of_other_family ctx (attr.MpUnreach (unreach.Ip4 routes)) = not ctx.ip4
-is_of_other_family ctx (attr.MpUnreach (unreach.Ip6 routes)) = not ctx.ip6
-is_of_other_family ctx _ = false
-
 -- 8: types that don't rise, or that are recognised
 abbrev pub rise_behind : ℕ → List Opaque → Bool
 rise_behind kind [] = true
@@ -89,7 +78,7 @@ invalid_of ctx u =
     refused_if (has_outside_preference ctx u) invalid.LocalPref (
     refused_if (any_attr (is_too_wide ctx) u) invalid.AsWidth (
     refused_if (ctx.as4 && any_attr is_as4 u) invalid.As4 (
-    refused_if (any_attr (is_of_other_family ctx) u) invalid.Family (
+    refused_if (any_attr (is_out_of_place ctx) u) invalid.Family (
     refused_if (any_attr is_empty u) invalid.Empty (
     refused_if (has_bad_others u.attrs.others) invalid.Others (
     refused_if (any_attr has_as_zero u) invalid.AsZero (

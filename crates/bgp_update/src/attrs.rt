@@ -75,20 +75,14 @@ impl Attrs {
         let large = copied!(&self.large, alloc);
         let others = self.others.copy(alloc)?;
         Ok(Attrs {
-            origin: self.origin,
             as_path,
-            next_hop: self.next_hop,
-            med: self.med,
-            local_pref: self.local_pref,
-            atomic: self.atomic,
-            aggregator: self.aggregator,
             communities,
             mp_reach,
             mp_unreach,
             as4_path,
-            as4_aggregator: self.as4_aggregator,
             large,
             others,
+            ..*self
         })
     }
 }
@@ -105,27 +99,37 @@ fn other(others: &[Opaque], kind: u8) -> Option<&Opaque>
     None
 }
 
+/// An attribute where there is something: a match, since `?` is two calls more to a proof.
+macro_rules! some {
+    ($value:expr, $Variant:ident) => {
+        match $value {
+            Some(value) => AttrRef::$Variant(value),
+            None => return None,
+        }
+    };
+}
+
 /// The attribute of a type: at most one.
 #[tactic(auto, unfolding(crate::specs::Slots::slot))]
 #[inline(always)]
 pub(crate) fn slot(attrs: &Attrs, kind: u8) -> Option<AttrRef<'_>>
     ensures { present ref_value result ≡ slot attrs.now kind }
 {
-    match kind {
-        attribute::ORIGIN => Some(AttrRef::Origin(attrs.origin?)),
-        attribute::AS_PATH => Some(AttrRef::AsPath(attrs.as_path.as_ref()?)),
-        attribute::NEXT_HOP => Some(AttrRef::NextHop(attrs.next_hop.as_ref()?)),
-        attribute::MULTI_EXIT_DISC => Some(AttrRef::Med(attrs.med?)),
-        attribute::LOCAL_PREF => Some(AttrRef::LocalPref(attrs.local_pref?)),
-        attribute::ATOMIC_AGGREGATE if attrs.atomic => Some(AttrRef::Atomic),
-        attribute::ATOMIC_AGGREGATE => None,
-        attribute::AGGREGATOR => Some(AttrRef::Aggregator(attrs.aggregator.as_ref()?)),
-        attribute::COMMUNITIES => Some(AttrRef::Communities(attrs.communities.as_ref()?)),
-        attribute::MP_REACH_NLRI => Some(AttrRef::MpReach(attrs.mp_reach.as_ref()?)),
-        attribute::MP_UNREACH_NLRI => Some(AttrRef::MpUnreach(attrs.mp_unreach.as_ref()?)),
-        attribute::AS4_PATH => Some(AttrRef::As4Path(attrs.as4_path.as_ref()?)),
-        attribute::AS4_AGGREGATOR => Some(AttrRef::As4Aggregator(attrs.as4_aggregator.as_ref()?)),
-        attribute::LARGE_COMMUNITY => Some(AttrRef::Large(attrs.large.as_ref()?)),
-        _ => Some(AttrRef::Opaque(other(&attrs.others, kind)?)),
-    }
+    Some(match kind {
+        attribute::ORIGIN => some!(attrs.origin, Origin),
+        attribute::AS_PATH => some!(&attrs.as_path, AsPath),
+        attribute::NEXT_HOP => some!(&attrs.next_hop, NextHop),
+        attribute::MULTI_EXIT_DISC => some!(attrs.med, Med),
+        attribute::LOCAL_PREF => some!(attrs.local_pref, LocalPref),
+        attribute::ATOMIC_AGGREGATE if attrs.atomic => AttrRef::Atomic,
+        attribute::ATOMIC_AGGREGATE => return None,
+        attribute::AGGREGATOR => some!(&attrs.aggregator, Aggregator),
+        attribute::COMMUNITIES => some!(&attrs.communities, Communities),
+        attribute::MP_REACH_NLRI => some!(&attrs.mp_reach, MpReach),
+        attribute::MP_UNREACH_NLRI => some!(&attrs.mp_unreach, MpUnreach),
+        attribute::AS4_PATH => some!(&attrs.as4_path, As4Path),
+        attribute::AS4_AGGREGATOR => some!(&attrs.as4_aggregator, As4Aggregator),
+        attribute::LARGE_COMMUNITY => some!(&attrs.large, Large),
+        _ => some!(other(&attrs.others, kind), Opaque),
+    })
 }

@@ -2,13 +2,13 @@
 
 ghost use Rattle.std.specs.Prelude.{◌≡◌, []};
 ghost use Rattle.bgp_attr.specs.Prelude.{ref_value};
-ghost use Rattle.bgp_update.specs.Prelude.{failed_by, also_failed, first_of, attr_list, is_of_other_family};
+ghost use Rattle.bgp_update.specs.Prelude.{failed_by, also_failed, first_of, attr_list};
 
 use crate::attrs::{Attrs, slot};
 use crate::invalid::Invalid;
 use crate::order::types_of;
 use bgp_attr::unwritable::{has_as_zero, is_as4, is_empty, is_too_wide, stands_twice};
-use bgp_attr::{AttrRef, MpReach, MpUnreach};
+use bgp_attr::{AttrRef, is_out_of_place};
 use bgp_open::Context;
 
 /// Which tests some attribute fails.
@@ -26,19 +26,6 @@ pub(crate) struct Failed {
     pub(crate) as_zero: bool,
     /// A large community stands twice.
     pub(crate) twice: bool,
-}
-
-/// Whether routes are of an address family that isn't in use.
-fn is_of_other_family(ctx: &Context, attr: AttrRef<'_>) -> bool
-    ensures { result ≡ is_of_other_family ctx.now (ref_value attr.entry) }
-{
-    match attr {
-        AttrRef::MpReach(MpReach::Ip4 { .. }) => !ctx.ip4,
-        AttrRef::MpReach(MpReach::Ip6 { .. }) => !ctx.ip6,
-        AttrRef::MpUnreach(MpUnreach::Ip4(_)) => !ctx.ip4,
-        AttrRef::MpUnreach(MpUnreach::Ip6(_)) => !ctx.ip6,
-        _ => false,
-    }
 }
 
 impl Failed {
@@ -64,7 +51,7 @@ impl Failed {
         Failed {
             too_wide: self.too_wide || is_too_wide(ctx, attr),
             as4: self.as4 || is_as4(attr),
-            other_family: self.other_family || is_of_other_family(ctx, attr),
+            other_family: self.other_family || is_out_of_place(ctx, attr),
             empty: self.empty || is_empty(attr),
             as_zero: self.as_zero || has_as_zero(attr),
             twice: self.twice || stands_twice(attr),

@@ -69,7 +69,8 @@ impl<'a> JoinedPathView<'a> {
         ensures { IfOk result (λ p. p ≡ joined_value self.entry) }
     {
         let mut segments = List::new(alloc);
-        'path: for segment in self.segments() {
+        let mut left = self.segments();
+        'path: while let Some(segment) = left.next() {
             segments.push(segment.own(alloc)?)?;
         }
         Ok(AsPath { segments })

@@ -6,16 +6,17 @@ ghost use Rattle.bgp_update.specs.declared.kept_view.TheConstants.{TYPES};
 
 use crate::attrs::Attrs;
 use bgp_attr::{
-    Aggregator, As4PathView, AttrView, CommunitiesView, LargeView, MpReachView, MpUnreachView,
-    Opaque, Origin, PathView, Tlv, kept_attr, tlv_at,
+    Aggregator, As4Path, As4PathView, AsPath, AttrView, Communities, CommunitiesView,
+    LargeCommunities, LargeView, MpReach, MpReachView, MpUnreach, MpUnreachView, Opaque, Origin,
+    PathView, Tlv, kept_attr, tlv_at,
 };
 use bgp_numbers::attribute;
 use bgp_open::Context;
 use bgp_wire::List;
 use std::alloc::{AllocError, Global};
 
-/// One more than the highest recognised type.
-const TYPES: usize = 33;
+/// More than the highest recognised type: all places together are a whole number of 16 octets.
+const TYPES: usize = 40;
 
 /// The place of a type whose first attribute isn't kept: none begins there.
 const PASSED: u16 = u16::MAX;
@@ -207,18 +208,48 @@ impl<'a> KeptView<'a> {
         }
     }
 
+    /// Both paths: in a call of their own, as other pairs are, since proofs pay for each value that `?` may drop.
+    #[inline(always)]
+    fn own_paths(&self, alloc: Global) -> Result<(Option<AsPath>, Option<As4Path>), AllocError>
+        ensures { IfOk result (λ p. (p.0 ≡ (known_value self.now).as_path) × (p.1 ≡ (known_value self.now).as4_path)) }
+    {
+        let as_path = owned!(self.as_path(), alloc);
+        let as4_path = owned!(self.as4_path(), alloc);
+        Ok((as_path, as4_path))
+    }
+
+    /// Communities of both kinds.
+    #[inline(always)]
+    fn own_communities(
+        &self,
+        alloc: Global,
+    ) -> Result<(Option<Communities>, Option<LargeCommunities>), AllocError>
+        ensures { IfOk result (λ p. (p.0 ≡ (known_value self.now).communities) × (p.1 ≡ (known_value self.now).large)) }
+    {
+        let communities = owned!(self.communities(), alloc);
+        let large = owned!(self.large(), alloc);
+        Ok((communities, large))
+    }
+
+    /// Routes that come and go.
+    #[inline(always)]
+    fn own_routes(&self, alloc: Global) -> Result<(Option<MpReach>, Option<MpUnreach>), AllocError>
+        ensures { IfOk result (λ p. (p.0 ≡ (known_value self.now).mp_reach) × (p.1 ≡ (known_value self.now).mp_unreach)) }
+    {
+        let mp_reach = owned!(self.reach(), alloc);
+        let mp_unreach = owned!(self.unreach(), alloc);
+        Ok((mp_reach, mp_unreach))
+    }
+
     /// The attributes with memory of their own, and these others. It is inlined, since it is built where it is to stand then.
     #[tactic(auto, unfolding(crate::specs::Fields::attrs_from))]
     #[inline(always)]
     pub(crate) fn own(&self, alloc: Global, others: List<Opaque>) -> Result<Attrs, AllocError>
         ensures { IfOk result (λ a. a ≡ record (known_value self.now) { others = others }) }
     {
-        let as_path = owned!(self.as_path(), alloc);
-        let communities = owned!(self.communities(), alloc);
-        let mp_reach = owned!(self.reach(), alloc);
-        let mp_unreach = owned!(self.unreach(), alloc);
-        let as4_path = owned!(self.as4_path(), alloc);
-        let large = owned!(self.large(), alloc);
+        let (as_path, as4_path) = self.own_paths(alloc)?;
+        let (communities, large) = self.own_communities(alloc)?;
+        let (mp_reach, mp_unreach) = self.own_routes(alloc)?;
         Ok(Attrs {
             as_path,
             communities,

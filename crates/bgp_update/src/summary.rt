@@ -1,7 +1,7 @@
 //! The marks of a field in sum.
 
 ghost use Rattle.std.specs.Prelude.{◌≡◌, ℕ, Bool, ◌≤◌, false, true, [], length};
-ghost use Rattle.bgp_attr.specs.Prelude.{keeps, ruled, is_recognised};
+ghost use Rattle.bgp_attr.specs.Prelude.{decided, is_recognised, judgement, keeps, ruled, type_row};
 ghost use Rattle.bgp_attr.specs.declared.attr.Attr.{Attr};
 ghost use Rattle.bgp_update.specs.Prelude.{known_of, known_value, field_marks, types_of_field, attrs_of, kept_of, is_noted, summary_value, summary_behind, summary_of};
 ghost use Rattle.bgp_wire.specs.Prelude.{also, has_octet, none_of_them};
@@ -9,7 +9,7 @@ ghost use Rattle.bgp_wire.specs.Prelude.{also, has_octet, none_of_them};
 use crate::kept_view::KeptView;
 use crate::malformed::{cut, repeated};
 use bgp_attr::{
-    Ruling, Tail, Tlv, TlvIter, attribute_reset, is_recognised, rule, rule_other, tlv_at,
+    Ruling, Tail, Tlv, TlvIter, attribute_reset, is_recognised, rule_other, rule_recognised, tlv_at,
 };
 use bgp_frame::NotificationView;
 use bgp_open::Context;
@@ -34,8 +34,8 @@ impl<'a> Summary<'a> {
     ghost use Rattle.bgp_attr.specs.TlvIter.{tlv_at};
     ghost use Rattle.bgp_attr.specs.TlvView.{tlv_value, IsTail};
     ghost use Rattle.bgp_update.specs.KeptView.{saw, AreOf};
-    ghost use Rattle.bgp_update.specs.Marks.{cut_mark, judged_behind};
-    ghost use Rattle.bgp_update.specs.Summary.{Adds};
+    ghost use Rattle.bgp_update.specs.Marks.{cut_mark, judged_behind, repeated};
+    ghost use Rattle.bgp_update.specs.Summary.{seen_by, Adds};
 
     /// Of no marks, of a field that is judged in a context.
     #[inline(always)]
@@ -74,26 +74,35 @@ impl<'a> Summary<'a> {
         }
     }
 
-    /// With one more mark, of an attribute of the field of a recognised type: the first of its type is judged.
+    /// With one more mark, of an attribute of a recognised type of which one was there.
     #[inline(always)]
-    fn add(&mut self, tlv: &Tlv<'a>)
-        requires known { is_recognised tlv.now.kind ≡ true }
-        requires there { tlv_at self.old.kept.field.now tlv.now.at ≡ Some (tlv_value tlv.now) }
-        requires small { (tlv.now.at ≤ 4075) × (length tlv.now.whole.now ≤ 4075) }
-        requires short { length self.old.kept.field.now ≤ 4075 }
-        ensures adds { Adds self.old (judged_behind self.old.kept.ctx self.old.kept.has_nlri (saw self.old.kept) (tlv_value tlv.now)) self.new }
+    fn repeat(&mut self, tlv: &Tlv<'a>)
+        requires seen { saw self.old.kept tlv.now.kind ≡ true }
+        requires short { length tlv.now.whole.now ≤ 4075 }
+        ensures adds { Adds self.old (repeated tlv.now.kind) self.new }
         ensures seen { saw self.new.kept ≡ also tlv.now.kind (saw self.old.kept) }
         ensures of { AreOf self.new.kept self.old.kept.ctx self.old.kept.has_nlri self.old.kept.field.now }
     {
-        let kind = tlv.kind;
-        if self.kept.saw(kind) {
-            self.refuse(tlv.whole, repeated(kind));
-            return;
-        }
-        match rule(&self.kept.ctx, self.kept.has_nlri, tlv) {
+        self.refuse(tlv.whole, repeated(tlv.kind));
+    }
+
+    /// With one more mark, of the first attribute of the field of a recognised type, by its ruling.
+    #[inline(always)]
+    fn add_first(&mut self, tlv: &Tlv<'a>, ruling: Ruling)
+        requires known { is_recognised tlv.now.kind ≡ true }
+        requires first { saw self.old.kept tlv.now.kind ≡ false }
+        requires rules { (a : Attr) → ruled ruling tlv.now.whole.now a ≡ decided (type_row self.old.kept.ctx self.old.kept.has_nlri (tlv_value tlv.now)).tests a }
+        requires there { tlv_at self.old.kept.field.now tlv.now.at ≡ Some (tlv_value tlv.now) }
+        requires small { (tlv.now.at ≤ 4075) × (length tlv.now.whole.now ≤ 4075) }
+        requires short { length self.old.kept.field.now ≤ 4075 }
+        ensures adds { Adds self.old (judgement self.old.kept.ctx self.old.kept.has_nlri (tlv_value tlv.now)) self.new }
+        ensures seen { saw self.new.kept ≡ also tlv.now.kind (saw self.old.kept) }
+        ensures of { AreOf self.new.kept self.old.kept.ctx self.old.kept.has_nlri self.old.kept.field.now }
+    {
+        match ruling {
             Ruling::Keep => self.kept.put(tlv),
             ruling => {
-                self.kept.pass(kind);
+                self.kept.pass(tlv.kind);
                 self.refuse(tlv.whole, ruling);
             }
         }
@@ -136,6 +145,27 @@ impl<'a> Summary<'a> {
         }
     }
 
+    /// With one more mark, of an attribute of the field, where these of types that aren't recognised were there: the first of its type is judged.
+    #[inline(always)]
+    fn add(&mut self, tlv: &Tlv<'a>, others: &mut OctetSet)
+        requires there { tlv_at self.old.kept.field.now tlv.now.at ≡ Some (tlv_value tlv.now) }
+        requires small { (tlv.now.at ≤ 4075) × (length tlv.now.whole.now ≤ 4075) }
+        requires short { length self.old.kept.field.now ≤ 4075 }
+        ensures adds { Adds self.old (judged_behind self.old.kept.ctx self.old.kept.has_nlri (seen_by self.old.kept others.old) (tlv_value tlv.now)) self.new }
+        ensures seen { seen_by self.new.kept others.new ≡ also tlv.now.kind (seen_by self.old.kept others.old) }
+        ensures of { AreOf self.new.kept self.old.kept.ctx self.old.kept.has_nlri self.old.kept.field.now }
+    {
+        // Most are the first of a recognised type, which one choice by the type tells.
+        if self.kept.saw(tlv.kind) && is_recognised(tlv.kind) {
+            self.repeat(tlv);
+            return;
+        }
+        match rule_recognised(&self.kept.ctx, self.kept.has_nlri, tlv) {
+            Some(ruling) => self.add_first(tlv, ruling),
+            None => self.add_other_at(tlv.at, others),
+        }
+    }
+
     /// With the mark of what stands behind the whole attributes, where something does.
     #[inline(always)]
     fn add_tail(&mut self, tail: Tail<'a>)
@@ -159,11 +189,7 @@ impl<'a> Summary<'a> {
         let mut others = OctetSet::new();
         let mut tlvs = TlvIter::new(field);
         'field: while let Some(tlv) = tlvs.next() {
-            if is_recognised(tlv.kind) {
-                self.add(&tlv);
-            } else {
-                self.add_other_at(tlv.at, &mut others);
-            }
+            self.add(&tlv, &mut others);
         }
         self.add_tail(tlvs.tail());
     }

@@ -5,7 +5,7 @@ ghost use Rattle.std.specs.List.{flat_map, AllByRecursion};
 ghost use Rattle.bgp_wire.specs.Prelude.{Extends};
 ghost use Rattle.bgp_attr.specs.declared.attr.Attr.TheVariants as attr;
 ghost use Rattle.bgp_attr.specs.Prelude.{attr_value, canonical, is_writable, run_octets};
-ghost use Rattle.bgp_update.specs.Prelude.{with_others, attr_list, slot, update_among, attributes_octets, body_octets, written_body, LaysOut};
+ghost use Rattle.bgp_update.specs.Prelude.{with_others, attr_list, slot, update_among, attributes_octets, written_body, LaysOut};
 ghost use Rattle.bgp_update.specs.declared.attrs.TheConstants.{RECOGNISED};
 ghost use Rattle.bgp_update.specs.steps.Progress.{IsSoFar};
 ghost use Rattle.bgp_prefix.specs.Prelude.{prefixes_left};
@@ -130,8 +130,7 @@ fn put_parts<'a, S: OfType<'a>, O: Output>(
 ) -> Result<Places, AllocError>
     requires { AllByRecursion (λ a. is_writable ctx.now a ≡ true) (attr_list (with_others kept.now (S.others others.now))) }
     ensures ok { IfOk result (λ p. LaysOut (run_octets (prefixes_left withdrawn.entry)) (attributes_octets ctx.now (with_others kept.now (S.others others.now))) (run_octets (prefixes_left nlri.entry)) (length (O.written out.old)) (O.written out.old) (O.written out.new) p) }
-    ensures err { OnErr result (Extends (O.written out.old) (O.written out.new)) }
-    ensures full { OnErr result (O.room < length (O.written out.old) + length (body_octets (run_octets (prefixes_left withdrawn.entry)) (attributes_octets ctx.now (with_others kept.now (S.others others.now))) (run_octets (prefixes_left nlri.entry)))) }
+    ensures err { OnErr result (Extends (O.written out.old) (O.written out.new) × (O.room < length (O.written out.old) + (4 + length (run_octets (prefixes_left withdrawn.entry)) + length (attributes_octets ctx.now (with_others kept.now (S.others others.now))) + length (run_octets (prefixes_left nlri.entry))))) }
 {
     put_room(out)?;
     withdrawn.write(out)?;

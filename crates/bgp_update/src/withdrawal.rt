@@ -1,10 +1,11 @@
 //! Writing the UPDATE that withdraws the routes of one.
 
-ghost use Rattle.std.specs.Prelude.{◌≡◌, ◌<◌, ◌+◌, ◌≤◌, ◌++◌, [], nat_lt, length, option_map, IfOk, OnOk, OnErr};
+ghost use Rattle.std.specs.Prelude.{◌≡◌, ◌<◌, ◌+◌, ◌≤◌, ◌++◌, [], true, false, length, option_map, IfOk, OnOk, OnErr};
 ghost use Rattle.bgp_attr.specs.Prelude.{reach_value, unreach_value, run_octets};
+ghost use Rattle.bgp_attr.specs.declared.mp.MpUnreach.TheVariants as mp_unreach;
 ghost use Rattle.bgp_wire.specs.Prelude.{Extends};
 ghost use Rattle.bgp_numbers.specs.declared.afi.TheConstants.{IPV6};
-ghost use Rattle.bgp_update.specs.Prelude.{gone_ip4, gone_ip6, reached_ip4, reached_ip6, routes_value, gone_octets, withdrawal_octets, LaysOut};
+ghost use Rattle.bgp_update.specs.Prelude.{gone_ip6, reached_ip6, routes_value, gone_octets, whole_unreach, withdrawal_octets, LaysOut};
 ghost use Rattle.bgp_update.specs.steps.RoutesView.{all_routes};
 
 use crate::laying::{Places, put_room, set_lengths};
@@ -16,23 +17,19 @@ use bgp_prefix::PrefixIter6;
 use bgp_wire::Output;
 use std::alloc::AllocError;
 
-/// Adds IPv4 routes of MP_UNREACH_NLRI and MP_REACH_NLRI.
-fn put_ip4<O: Output>(
-    unreach: Option<MpUnreachView<'_>>,
-    reach: Option<MpReachView<'_>>,
-    out: &mut O,
-) -> Result<(), AllocError>
-    ensures ok { OnOk result (O.written out.new ≡ O.written out.old ++ run_octets (gone_ip4 (option_map unreach_value unreach.entry) ++ reached_ip4 (option_map reach_value reach.entry))) }
-    ensures err { OnErr result (Extends (O.written out.old) (O.written out.new)) }
-    ensures full { OnErr result (O.room < length (O.written out.old) + length (run_octets (gone_ip4 (option_map unreach_value unreach.entry) ++ reached_ip4 (option_map reach_value reach.entry)))) }
+/// Adds all IPv4 routes.
+fn put_ip4<O: Output>(routes: &RoutesView<'_>, out: &mut O) -> Result<(), AllocError>
+    ensures ok { OnOk result (O.written out.new ≡ O.written out.old ++ run_octets (all_routes routes.now).ip4) }
+    ensures err { OnErr result (Extends (O.written out.old) (O.written out.new) × (O.room < length (O.written out.old) + length (run_octets (all_routes routes.now).ip4))) }
 {
-    if let Some(MpUnreachView::Ip4(routes)) = unreach {
-        routes.write(out)?;
+    routes.withdrawn.write(out)?;
+    if let Some(MpUnreachView::Ip4(gone)) = routes.unreach {
+        gone.write(out)?;
     }
-    if let Some(MpReachView::Ip4 { nlri, .. }) = reach {
+    if let Some(MpReachView::Ip4 { nlri, .. }) = routes.reach {
         nlri.write(out)?;
     }
-    Ok(())
+    routes.nlri.write(out)
 }
 
 /// Adds IPv6 routes of MP_UNREACH_NLRI and MP_REACH_NLRI.
@@ -56,7 +53,9 @@ fn put_ip6<O: Output>(
 
 /// Whether there are IPv6 routes in MP_UNREACH_NLRI or MP_REACH_NLRI.
 fn has_ip6(unreach: Option<MpUnreachView<'_>>, reach: Option<MpReachView<'_>>) -> bool
-    ensures { result ≡ nat_lt 0 (length (gone_ip6 (option_map unreach_value unreach.entry) ++ reached_ip6 (option_map reach_value reach.entry))) }
+    ensures some { result ≡ true → gone_octets (gone_ip6 (option_map unreach_value unreach.entry) ++ reached_ip6 (option_map reach_value reach.entry))
+        ≡ whole_unreach (mp_unreach.Ip6 (gone_ip6 (option_map unreach_value unreach.entry) ++ reached_ip6 (option_map reach_value reach.entry))) }
+    ensures none { result ≡ false → gone_ip6 (option_map unreach_value unreach.entry) ++ reached_ip6 (option_map reach_value reach.entry) ≡ [] }
 {
     let gone = match unreach {
         Some(MpUnreachView::Ip6(mut routes)) => routes.next().is_some(),
@@ -77,8 +76,7 @@ fn put_gone<O: Output>(
 ) -> Result<(), AllocError>
     requires { length (run_octets (gone_ip6 (option_map unreach_value unreach) ++ reached_ip6 (option_map reach_value reach))) ≤ 4077 }
     ensures ok { OnOk result (O.written out.new ≡ O.written out.old ++ gone_octets (gone_ip6 (option_map unreach_value unreach.entry) ++ reached_ip6 (option_map reach_value reach.entry))) }
-    ensures err { OnErr result (Extends (O.written out.old) (O.written out.new)) }
-    ensures full { OnErr result (O.room < length (O.written out.old) + length (gone_octets (gone_ip6 (option_map unreach_value unreach.entry) ++ reached_ip6 (option_map reach_value reach.entry)))) }
+    ensures err { OnErr result (Extends (O.written out.old) (O.written out.new) × (O.room < length (O.written out.old) + length (gone_octets (gone_ip6 (option_map unreach_value unreach.entry) ++ reached_ip6 (option_map reach_value reach.entry))))) }
 {
     if !has_ip6(unreach, reach) {
         return Ok(());
@@ -96,13 +94,10 @@ fn put_gone<O: Output>(
 fn put_parts<O: Output>(routes: RoutesView<'_>, out: &mut O) -> Result<Places, AllocError>
     requires { length (withdrawal_octets (all_routes routes)) ≤ 4077 }
     ensures ok { IfOk result (λ p. LaysOut (run_octets (all_routes routes.entry).ip4) (gone_octets (all_routes routes.entry).ip6) [] (length (O.written out.old)) (O.written out.old) (O.written out.new) p) }
-    ensures err { OnErr result (Extends (O.written out.old) (O.written out.new)) }
-    ensures full { OnErr result (O.room < length (O.written out.old) + length (withdrawal_octets (all_routes routes.entry))) }
+    ensures err { OnErr result (Extends (O.written out.old) (O.written out.new) × (O.room < length (O.written out.old) + length (withdrawal_octets (all_routes routes.entry)))) }
 {
     put_room(out)?;
-    routes.withdrawn.write(out)?;
-    put_ip4(routes.unreach, routes.reach, out)?;
-    routes.nlri.write(out)?;
+    put_ip4(&routes, out)?;
     let attributes = out.len();
     put_room(out)?;
     put_gone(routes.unreach, routes.reach, out)?;

@@ -3,14 +3,14 @@
 ghost use Rattle.std.specs.Prelude.{◌≡◌, ◌<◌, ◌≤◌, ◌+◌, ◌++◌, ◌↔◌, [], false, true, None, Some, length, IsTrue, IsErrOf, IfOk, OnOk, OnErr};
 ghost use Rattle.std.specs.List.{AllByRecursion};
 ghost use Rattle.bgp_wire.specs.Prelude.{Extends};
-ghost use Rattle.bgp_attr.specs.Prelude.{is_empty};
+ghost use Rattle.bgp_attr.specs.Prelude.{is_empty, run_octets};
 ghost use Rattle.bgp_update.specs.declared.verdict.Verdict.TheVariants.{Take};
 ghost use Rattle.bgp_update.specs.declared.invalid.Invalid.{Invalid};
 ghost use Rattle.bgp_update.specs.declared.write.WriteFault.TheVariants.{NotValid, TooLong, Memory};
 ghost use Rattle.bgp_update.specs.steps.Layout.{HasPartRanges, LaysOutBody};
 ghost use Rattle.bgp_update.specs.Slots.{attr_list};
 ghost use Rattle.bgp_update.specs.Verdict.{verdict_of};
-ghost use Rattle.bgp_update.specs.Written.{written_body, invalid_of, is_valid, is_too_long, HasUpdateRanges};
+ghost use Rattle.bgp_update.specs.Written.{attributes_octets, written_body, invalid_of, is_valid, is_too_long, HasUpdateRanges};
 
 use crate::invalid::Invalid;
 use crate::laying::{LONGEST_BODY, Places, put_room, set_lengths};
@@ -47,8 +47,7 @@ fn put_parts<O: Output>(ctx: &Context, update: &Update, out: &mut O) -> Result<P
     requires room { O.room ≤ 65535 }
     ensures ok { IfOk result (λ p. LaysOutBody ctx.now update.now (length (O.written out.old)) (O.written out.old) (O.written out.new) p) }
     ensures ranges { OnOk result (HasPartRanges update.now) }
-    ensures err { OnErr result (Extends (O.written out.old) (O.written out.new)) }
-    ensures full { OnErr result (O.room < length (O.written out.old) + length (written_body ctx.now update.now)) }
+    ensures err { OnErr result (Extends (O.written out.old) (O.written out.new) × (O.room < length (O.written out.old) + (4 + length (run_octets update.now.withdrawn) + length (attributes_octets ctx.now update.now.attrs) + length (run_octets update.now.nlri)))) }
 {
     put_room(out)?;
     write_run(&update.withdrawn, out)?;

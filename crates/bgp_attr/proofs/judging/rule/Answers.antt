@@ -1,29 +1,7 @@
-use Rattle.std.proofs.Common.{◌∙◌}
-use Rattle.bgp_numbers.specs.declared.attribute.TheConstants as attribute
-use Rattle.bgp_attr.specs.Prelude.{tlv_value}
-use Rattle.bgp_attr.proofs.TestRows.{tests_at}
+use Rattle.std.proofs.Common.{sym, ap, ◌∙◌}
+use Rattle.bgp_attr.specs.Prelude.{decided, tlv_value, AttributeType}
+use Rattle.bgp_attr.proofs.TestRows.{row-other}
 use Rattle.bgp_attr.proofs.judging.rule.Goals as goal
 
-pub returns-in-2 : goal.returns-in-2
-returns-in-2 c a = c.rule_as_path.ensures a ∙ tests_at c.args.ctx.now c.args.has_nlri (tlv_value c.args.tlv.now) attribute.AS_PATH c.in-2.is a
-
-pub returns-in-4 : goal.returns-in-4
-returns-in-4 c a = c.rule_four.ensures a ∙ tests_at c.args.ctx.now c.args.has_nlri (tlv_value c.args.tlv.now) attribute.MULTI_EXIT_DISC c.in-4.is a
-
-pub returns-in-7 : goal.returns-in-7
-returns-in-7 c a = c.rule_aggregator.ensures a ∙ tests_at c.args.ctx.now c.args.has_nlri (tlv_value c.args.tlv.now) attribute.AGGREGATOR c.in-7.is a
-
-pub returns-in-14 : goal.returns-in-14
-returns-in-14 c a = c.rule_mp_reach.ensures a ∙ tests_at c.args.ctx.now c.args.has_nlri (tlv_value c.args.tlv.now) attribute.MP_REACH_NLRI c.in-14.is a
-
-pub returns-in-15 : goal.returns-in-15
-returns-in-15 c a = c.rule_mp_unreach.ensures a ∙ tests_at c.args.ctx.now c.args.has_nlri (tlv_value c.args.tlv.now) attribute.MP_UNREACH_NLRI c.in-15.is a
-
-pub returns-in-17 : goal.returns-in-17
-returns-in-17 c a = c.rule_as4_path.ensures a ∙ tests_at c.args.ctx.now c.args.has_nlri (tlv_value c.args.tlv.now) attribute.AS4_PATH c.in-17.is a
-
-pub returns-in-18 : goal.returns-in-18
-returns-in-18 c a = c.rule_as4_aggregator.ensures a ∙ tests_at c.args.ctx.now c.args.has_nlri (tlv_value c.args.tlv.now) attribute.AS4_AGGREGATOR c.in-18.is a
-
-pub returns-in-32 : goal.returns-in-32
-returns-in-32 c a = c.rule_large.ensures a ∙ tests_at c.args.ctx.now c.args.has_nlri (tlv_value c.args.tlv.now) attribute.LARGE_COMMUNITY c.in-32.is a
+pub returns-in-None : goal.returns-in-None
+returns-in-None c a = c.rule_other.ensures a ∙ ap (λ (type : AttributeType). decided type.tests a) (sym (row-other c.args.ctx.now c.args.has_nlri (tlv_value c.args.tlv.now) c.in-None.ensures))

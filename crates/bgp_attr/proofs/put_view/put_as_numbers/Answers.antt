@@ -10,9 +10,9 @@ returns-then-numbers-clause-ok g c =
     (λ e. e ∙ ap (λ (x : List ℕ). g.O.Output.written c.args.out.now ++ x) (ap (λ (w : Bool). row_octets true (numbers_of w b)) (sym c.if-numbers.true) ∙ as_number_octets c.args.wide (numbers_of c.args.numbers.wide b) c.if-wide.true))
     c.put_fours.ensures.ok
 
-pub returns-then-numbers-clause-full : goal.returns-then-numbers-clause-full
-returns-then-numbers-clause-full g c =
+pub returns-then-numbers-clause-err : goal.returns-then-numbers-clause-err
+returns-then-numbers-clause-err g c =
     let b = c.args.numbers.rest.now in
     on_err_weaker c.put_fours.result
-    (λ full. omega (arith, full, ap length (ap (λ (w : Bool). row_octets true (numbers_of w b)) (sym c.if-numbers.true) ∙ as_number_octets c.args.wide (numbers_of c.args.numbers.wide b) c.if-wide.true)))
-    c.put_fours.ensures.full
+    (λ p. (p.0, omega (arith, p.1, ap length (ap (λ (w : Bool). row_octets true (numbers_of w b)) (sym c.if-numbers.true) ∙ as_number_octets c.args.wide (numbers_of c.args.numbers.wide b) c.if-wide.true))))
+    c.put_fours.ensures.err

@@ -4,8 +4,8 @@ use Rattle.bgp_attr.proofs.put_view.put_fours.Goals as goal
 
 pub returns-clause-ok : goal.returns-clause-ok
 returns-clause-ok g c =
-    on_ok_weaker c.put_octets.result (λ e. e ∙ ap (λ (b : List ℕ). g.O.Output.written c.args.out.now ++ b) (four_octets c.args.octets.now (λ i. omega (arith, c.type_inv.octets i)))) c.put_octets.ensures.ok
+    on_ok_weaker c.put_octets.result (λ p. p.0 ∙ ap (λ (b : List ℕ). g.O.Output.written c.args.out.now ++ b) (four_octets c.args.octets.now (λ i. omega (arith, c.type_inv.octets i)))) c.put_octets.ensures.ok
 
-pub returns-clause-full : goal.returns-clause-full
-returns-clause-full g c =
-    on_err_weaker c.put_octets.result (λ full. omega (arith, full, ap length (four_octets c.args.octets.now (λ i. omega (arith, c.type_inv.octets i))))) c.put_octets.ensures.full
+pub returns-clause-err : goal.returns-clause-err
+returns-clause-err g c =
+    on_err_weaker c.put_octets.result (λ p. (p.0, omega (arith, p.1, ap length (four_octets c.args.octets.now (λ i. omega (arith, c.type_inv.octets i)))))) c.put_octets.ensures.err

@@ -1,8 +1,7 @@
-use Rattle.bgp_wire.proofs.Std.{ℕ, [], ◌∷◌, ◌++◌, length, refl, ap, ap₂, ◌∙◌, arith, on_ok_weaker, on_err_weaker, flat_map-map}
-use Rattle.std.proofs.lemmas.List.{length-append}
-use Rattle.bgp_attr.specs.Prelude.{as_numbers_left, number_octets, segment_value}
-use Rattle.bgp_attr.proofs.NumberRows.{number_of}
-use Rattle.bgp_attr.proofs.Writes.{segment_written}
+use Rattle.bgp_wire.proofs.Std.{ℕ, [], ◌∷◌, ◌++◌, refl, ap₂, ◌∙◌, on_ok_weaker, on_err_weaker}
+use Rattle.bgp_attr.specs.Prelude.{as_numbers_left, segment_octets, segment_value}
+use Rattle.bgp_attr.proofs.Parts.{part_refused}
+use Rattle.bgp_attr.proofs.Writes.{segment_written, segment_fits}
 use Rattle.bgp_attr.proofs.put_view.put_segment.Goals as goal
 
 pub returns-clause-ok : goal.returns-clause-ok
@@ -12,15 +11,7 @@ returns-clause-ok g c =
     (segment_written c.args.wide (segment_value c.args.segment) (as_numbers_left c.args.segment.numbers) (g.O.Output.written c.args.out.now) (g.O.Output.written c.put.new.self) (g.O.Output.written c.put_as_numbers.new.out) refl head)
     c.put_as_numbers.ensures.ok
 
-pub returns-clause-full : goal.returns-clause-full
-returns-clause-full g c =
-    let written = g.O.Output.written in
-    on_err_weaker c.put_as_numbers.result
-    (λ full. omega (
-      arith,
-      full,
-      ap length c.in_ok-put.ensures.ok,
-      length-append (written c.args.out.now) (c.segment_code.result ∷ c.left-count.result ∷ []),
-      ap length (flat_map-map (number_octets c.args.wide) number_of (as_numbers_left c.args.segment.numbers)),
-    ))
-    c.put_as_numbers.ensures.full
+pub returns-clause-err : goal.returns-clause-err
+returns-clause-err g c =
+    on_err_weaker c.put_as_numbers.result (part_refused g.O.Output.room (g.O.Output.written c.args.out.now) _ _ (segment_octets c.args.wide (segment_value c.args.segment)) _ (g.O.Output.written c.put_as_numbers.new.out)
+    (segment_fits c.args.wide (segment_value c.args.segment)) c.in_ok-put.ensures.ok) c.put_as_numbers.ensures.err

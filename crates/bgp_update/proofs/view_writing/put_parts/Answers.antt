@@ -1,10 +1,22 @@
-use Rattle.bgp_prefix.specs.Prelude.{prefixes_left}
-use Rattle.bgp_attr.specs.Prelude.{run_octets}
-use Rattle.bgp_update.specs.Prelude.{with_others, attributes_octets}
-use Rattle.bgp_update.proofs.Layouts.{laid-out}
+use Rattle.std.proofs.Common.{arith}
+use Rattle.std.proofs.lemmas.Grind.{common_steps}
 use Rattle.bgp_update.proofs.view_writing.put_parts.Goals as goal
 
+-- what `search` would first try in vain
 pub returns-clause-ok : goal.returns-clause-ok
-returns-clause-ok g c =
-    laid-out _ (run_octets (prefixes_left c.args.withdrawn)) (attributes_octets c.args.ctx.now (with_others c.args.kept.now (g.S.OfType.others c.args.others.now))) (run_octets (prefixes_left c.args.nlri)) _ _ _ _ _ _ _
-    c.in_ok-put_room.ensures.ok c.in_ok-write.ensures.ok c.len-attributes.ensures c.in_ok-put_room-2.ensures.ok c.in_ok-put_attrs.ensures.ok c.len-begin.ensures c.in_ok-write-2.ensures.ok
+returns-clause-ok g c = grind (arith, common_steps)
+
+pub returns-in_err-put_room-clause-err : goal.returns-in_err-put_room-clause-err
+returns-in_err-put_room-clause-err g c = grind (arith, common_steps)
+
+pub returns-in_err-write-clause-err : goal.returns-in_err-write-clause-err
+returns-in_err-write-clause-err g c = grind (arith, common_steps)
+
+pub returns-in_err-put_room-2-clause-err : goal.returns-in_err-put_room-2-clause-err
+returns-in_err-put_room-2-clause-err g c = grind (arith, common_steps)
+
+pub returns-in_err-put_attrs-clause-err : goal.returns-in_err-put_attrs-clause-err
+returns-in_err-put_attrs-clause-err g c = grind (arith, common_steps)
+
+pub returns-in_err-write-2-clause-err : goal.returns-in_err-write-2-clause-err
+returns-in_err-write-2-clause-err g c = grind (arith, common_steps)

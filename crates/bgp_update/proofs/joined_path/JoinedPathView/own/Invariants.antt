@@ -4,4 +4,4 @@ use Rattle.bgp_update.proofs.joined_path.JoinedPathView.own.Given as goal
 
 -- the segments so far, and those still to come, are all
 abbrev pub invariant-path : goal.invariant-path
-invariant-path l = l.segments ++ joined_left l.segment-iterator ≡ (joined_value l.fn.self).segments
+invariant-path l = l.segments ++ joined_left l.left ≡ (joined_value l.fn.self).segments

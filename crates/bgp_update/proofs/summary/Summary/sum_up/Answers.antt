@@ -1,8 +1,8 @@
-use Rattle.bgp_wire.proofs.Std.{◌≡◌, ◌≤◌, Some, subst, arith, ℕ, Bool, true, false, ◌||◌, cond, eqb, List, ◌∷◌, length, refl, sym, ap, ap₂, ◌∙◌, list_any, list_all}
-use Rattle.std.specs.Prelude.{◌-◌, if◌then◌else◌}
+use Rattle.bgp_wire.proofs.Std.{◌≡◌, ◌≤◌, subst, arith, ℕ, Bool, true, ◌||◌, cond, eqb, List, ◌∷◌, length, refl, sym, ap, ap₂, ◌∙◌, list_any, list_all}
+use Rattle.std.specs.Prelude.{◌-◌}
 use Rattle.std.specs.Borrow.{Bor}
 use Rattle.std.proofs.Math.Bool.{or-false}
-use Rattle.bgp_attr.specs.Prelude.{is_recognised, judgement, PlacedTlv, placed_tlv, rest_left, TlvValue, tlv_at, tlv_value, tlvs_left}
+use Rattle.bgp_attr.specs.Prelude.{PlacedTlv, placed_tlv, rest_left, TlvValue, tlv_at, tlv_value, tlvs_left}
 use Rattle.bgp_open.specs.declared.context.Context.{Context}
 use Rattle.bgp_wire.specs.Prelude.{also, has_octet, none_of_them}
 use Rattle.bgp_wire.specs.declared.octet_set.OctetSet.{OctetSet}
@@ -10,9 +10,9 @@ use Rattle.bgp_attr.specs.declared.tlv_iter.TlvIter.{TlvIter}
 use Rattle.bgp_update.specs.Summary.{Adds}
 use Rattle.bgp_update.specs.declared.summary.Summary.{Summary}
 use Rattle.bgp_update.specs.declared.kept_view.KeptView.{KeptView}
-use Rattle.bgp_update.specs.Prelude.{AreOf, Mark, cut_mark, field_marks, is_small, judged_behind, repeated, kept_of, marks_ahead, saw, seen_by, SummaryValue, summary_value, summary_behind, summary_of, types_of_field}
+use Rattle.bgp_update.specs.Prelude.{AreOf, Mark, cut_mark, field_marks, is_small, judged_behind, kept_of, marks_ahead, saw, seen_by, SummaryValue, summary_value, summary_behind, summary_of, types_of_field}
 use Rattle.bgp_update.proofs.KeptViews.{kept_known}
-use Rattle.bgp_update.proofs.MarkTypes.{also_others, also_these, joined, types_step}
+use Rattle.bgp_update.proofs.MarkTypes.{types_step}
 use Rattle.bgp_update.proofs.SmallLemmas.{both_small, field_small}
 use Rattle.bgp_update.proofs.Summaries.{ahead_none, ahead_step, whole_ahead, none_yet, summary_step, summary_whole}
 use Rattle.bgp_update.proofs.summary.Summary.sum_up.Goals as goal
@@ -54,59 +54,30 @@ module _ (ctx : Context) (nlri : Bool) (field : List ℕ) (s t : Summary) (other
         of,
       )
 
-pub field-preserved-then-is_recognised : goal.field-preserved-then-is_recognised
-field-preserved-then-is_recognised c =
-    let k = c.field.self.kept in
-    let t : TlvValue = tlv_value c.in-Some.tlv in
-    let ctx = c.args.ctx.now in
-    let nlri = c.args.has_nlri in
+pub add-requires : goal.add-requires
+add-requires c =
     let step = c.in-Some.ensures.steps in
-    let known : is_recognised t.kind ≡ true = sym c.is_recognised.ensures ∙ c.if-is_recognised.true in
     let walked = c.field.invariant in
     let of = walked.4 in
-    let same : judged_behind ctx nlri (seen_by k c.field.others) t ≡ judged_behind k.ctx k.has_nlri (saw k) t =
-    ap₂ (λ (x : Context) (n : Bool). judged_behind x n (seen_by k c.field.others) t) (sym of.0) (sym of.1)
-    ∙ ap (λ (b : Bool). if cond b (saw k t.kind) (has_octet c.field.others t.kind) then repeated t.kind else judgement k.ctx k.has_nlri t) known in
-    one_more ctx nlri c.args.field.now c.field.self c.add.new.self c.field.others c.field.others c.field.tlvs c.next.new.self (placed_tlv c.in-Some.tlv)
-    step.0 step.1 step.2.0 walked (λ m e. c.add.ensures.adds m (e ∙ same))
-    (ap (λ (set : ℕ → Bool). joined is_recognised set (has_octet c.field.others)) c.add.ensures.seen ∙ also_these is_recognised (saw k) (has_octet c.field.others) t.kind known)
-    (c.add.ensures.of.0 ∙ of.0, c.add.ensures.of.1 ∙ of.1, c.add.ensures.of.2 ∙ of.2)
-
--- one attribute stands at an offset
-same-there : (field : List ℕ) (at : ℕ) (s t : TlvValue) → tlv_at field at ≡ Some s → tlv_at field at ≡ Some t → s ≡ t
-same-there field at s t e f = let same : Some s ≡ Some t = sym e ∙ f in cc
-
-pub add_other_at-requires : goal.add_other_at-requires
-add_other_at-requires c =
-    let t : TlvValue = tlv_value c.in-Some.tlv in
-    let step = c.in-Some.ensures.steps in
-    let walked = c.field.invariant in
-    let field = ap (λ (octets : List ℕ). tlv_at octets c.in-Some.tlv.at) (walked.4.2 ∙ sym walked.3) in
     let small = (both_small (placed_tlv c.in-Some.tlv) (tlvs_left c.next.new.self) (ap (list_all is_small) (sym step.0) ∙ walked.2)).0 in
     record {
-      other = λ s there.
-          subst (λ (u : TlvValue). (is_recognised u.kind ≡ false) × (length u.whole ≤ 4075)) (same-there c.field.tlvs.field.now c.in-Some.tlv.at t s step.2.1 (sym field ∙ there))
-          (sym c.is_recognised.ensures ∙ c.if-is_recognised.false, omega (arith, small));
+      there = ap (λ (octets : List ℕ). tlv_at octets c.in-Some.tlv.at) (of.2 ∙ sym walked.3) ∙ step.2.1;
+      small = (omega (arith, small), omega (arith, small));
+      short = subst (λ (octets : List ℕ). length octets ≤ 4075) (sym of.2) c.requires;
     }
 
 pub field-preserved : goal.field-preserved
 field-preserved c =
-    let k = c.field.self.kept in
     let t : TlvValue = tlv_value c.in-Some.tlv in
-    let ctx = c.args.ctx.now in
-    let nlri = c.args.has_nlri in
     let step = c.in-Some.ensures.steps in
-    let other : is_recognised t.kind ≡ false = sym c.is_recognised.ensures ∙ c.if-is_recognised.false in
     let walked = c.field.invariant in
     let of = walked.4 in
-    let more = c.add_other_at.ensures.adds t (ap (λ (octets : List ℕ). tlv_at octets c.in-Some.tlv.at) (of.2 ∙ sym walked.3) ∙ step.2.1) in
-    let same : judged_behind ctx nlri (seen_by k c.field.others) t ≡ judged_behind k.ctx k.has_nlri (has_octet c.field.others) t =
-    ap₂ (λ (x : Context) (n : Bool). judged_behind x n (seen_by k c.field.others) t) (sym of.0) (sym of.1)
-    ∙ ap (λ (b : Bool). if cond b (saw k t.kind) (has_octet c.field.others t.kind) then repeated t.kind else judgement k.ctx k.has_nlri t) other in
-    one_more ctx nlri c.args.field.now c.field.self c.add_other_at.new.self c.field.others c.add_other_at.new.seen c.field.tlvs c.next.new.self (placed_tlv c.in-Some.tlv)
-    step.0 step.1 step.2.0 walked (λ m e. more.0 m (e ∙ same))
-    (ap₂ (λ (these others : ℕ → Bool). joined is_recognised these others) c.add_other_at.ensures.same more.1 ∙ also_others is_recognised (saw k) (has_octet c.field.others) t.kind other)
-    (c.add_other_at.ensures.of.0 ∙ of.0, c.add_other_at.ensures.of.1 ∙ of.1, c.add_other_at.ensures.of.2 ∙ of.2)
+    let seen = seen_by c.field.self.kept c.field.others in
+    let same : judged_behind c.args.ctx.now c.args.has_nlri seen t ≡ judged_behind c.field.self.kept.ctx c.field.self.kept.has_nlri seen t =
+    ap₂ (λ (x : Context) (n : Bool). judged_behind x n seen t) (sym of.0) (sym of.1) in
+    one_more c.args.ctx.now c.args.has_nlri c.args.field.now c.field.self c.add.new.self c.field.others c.add.new.others c.field.tlvs c.next.new.self (placed_tlv c.in-Some.tlv)
+    step.0 step.1 step.2.0 walked (λ m e. c.add.ensures.adds m (e ∙ same)) c.add.ensures.seen
+    (c.add.ensures.of.0 ∙ of.0, c.add.ensures.of.1 ∙ of.1, c.add.ensures.of.2 ∙ of.2)
 
 pub returns : goal.returns
 returns c =

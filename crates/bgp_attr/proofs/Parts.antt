@@ -1,0 +1,50 @@
+-- Octets that are written in parts, of which one may have no room.
+use Rattle.bgp_wire.proofs.Std.{◌≡◌, ℕ, ◌+◌, ◌<◌, ◌≤◌, List, [], ◌∷◌, ◌++◌, length, get_or, take, flat_map, refl, ap, ◌∙◌, append_assoc, Result, Ok, Err, OnErr, arith, w16, to_be_bytes}
+use Rattle.std.proofs.lemmas.List.{length-append}
+use Rattle.bgp_numbers.specs.declared.safi.TheConstants.{UNICAST}
+use Rattle.bgp_wire.specs.Prelude.{Extends}
+use Rattle.bgp_wire.proofs.Rooms.{extends_more}
+use Rattle.bgp_wire.proofs.Writes.{IsWritten, some_written, one_lacks}
+use Rattle.bgp_prefix.specs.Prelude.{PrefixValue}
+use Rattle.bgp_attr.specs.Prelude.{reach_row, run_octets}
+
+pub on_refusal : {T E P : Type 0} (r : Result T E) → P → OnErr r P
+on_refusal (Ok x) p = tt
+on_refusal (Err e) p = p
+
+-- two parts are one
+pub part_written : (old front part whole now new : List ℕ) → front ++ part ≡ whole → now ≡ old ++ front → new ≡ now ++ part → new ≡ old ++ whole
+part_written old front part whole now new is e f = f ∙ ap (λ (b : List ℕ). b ++ part) e ∙ append_assoc old front part ∙ ap (λ (b : List ℕ). old ++ b) is
+
+pub on_both : {T E A B P : Type 0} (r : Result T E) → (A → B → P) → OnErr r A → OnErr r B → OnErr r P
+on_both (Ok x) f a b = tt
+on_both (Err e) f a b = f a b
+
+module _ (room : ℕ) (old : List ℕ) where
+  -- a part is refused behind those that are written, and leaves some of it
+  pub part_refused : (front part whole now new : List ℕ) → length front + length part ≤ length whole → now ≡ old ++ front
+      → Extends now new × (room < length now + length part) → Extends old new × (room < length old + length whole)
+  part_refused front part whole now new fits e p = (extends_more old now new front e p.0, omega (arith, p.1, fits, ap length e, length-append old front))
+
+  pub third_refused : (head front part whole mid now new : List ℕ) → length head + length front + length part ≤ length whole → mid ≡ old ++ head → now ≡ mid ++ front
+      → Extends now new × (room < length now + length part) → Extends old new × (room < length old + length whole)
+  third_refused head front part whole mid now new fits e f =
+      part_refused (head ++ front) part whole now new (omega (arith, fits, length-append head front)) (part_written old head front (head ++ front) mid now refl e f)
+
+  pub last_refused : (front part whole now new : List ℕ) → front ++ part ≡ whole → now ≡ old ++ front
+      → Extends now new × (room < length now + length part) → Extends old new × (room < length old + length whole)
+  last_refused front part whole now new is e p = part_refused front part whole now new (omega (arith, ap length is, length-append front part)) e p
+
+  -- and leaves nothing of it
+  pub last_left_out : (front part whole now new : List ℕ) → front ++ part ≡ whole → now ≡ old ++ front
+      → new ≡ now → room < length now + length part → Extends old new × (room < length old + length whole)
+  last_left_out front part whole now new is e same full = ((front, same ∙ e), omega (arith, full, ap length is, length-append front part, ap length e, length-append old front))
+
+-- the prefixes behind a family and next hops
+pub behind_hops : (afi : ℕ) (hop : List ℕ) (routes : List PrefixValue) → reach_row afi hop [] ++ run_octets routes ≡ reach_row afi hop routes
+behind_hops afi hop routes = ap (λ (b : List ℕ). to_be_bytes w16 afi ++ (UNICAST ∷ length hop ∷ b)) (append_assoc hop (0 ∷ []) (run_octets routes))
+
+-- where one of a row has no room, the row has none
+pub row_stopped : {X : Type 0} (octets : X → List ℕ) (P : X → Type 0) (xs : List X) (i : ℕ) (before now : List ℕ) (so_far : IsWritten octets P (take i xs) before now) (room : ℕ) (x : X) (new : List ℕ)
+    → i < length xs → x ≡ get_or xs i x → Extends now new × (room < length now + length (octets x)) → Extends before new × (room < length before + length (flat_map octets xs))
+row_stopped octets P xs i before now so_far room x new lt is p = (some_written octets P xs i before now so_far new p.0, one_lacks octets P xs i before now so_far room x lt is p.1)

@@ -1,0 +1,19 @@
+use Rattle.std.proofs.Common.{arith}
+use Rattle.std.proofs.lemmas.Grind.{common_steps}
+use Rattle.bgp_update.proofs.view_narrowing.put_parts.Goals as goal
+
+-- what `search` would first try in vain
+pub returns-in_err-put_room-clause-err : goal.returns-in_err-put_room-clause-err
+returns-in_err-put_room-clause-err c = grind (arith, common_steps)
+
+pub returns-in_err-write-clause-err : goal.returns-in_err-write-clause-err
+returns-in_err-write-clause-err c = grind (arith, common_steps)
+
+pub returns-in_err-put_room-2-clause-err : goal.returns-in_err-put_room-2-clause-err
+returns-in_err-put_room-2-clause-err c = grind (arith, common_steps)
+
+pub returns-in_err-put_told-clause-err : goal.returns-in_err-put_told-clause-err
+returns-in_err-put_told-clause-err c = grind (arith, common_steps)
+
+pub returns-in_err-write-2-clause-err : goal.returns-in_err-write-2-clause-err
+returns-in_err-write-2-clause-err c = grind (arith, common_steps)
