@@ -162,7 +162,7 @@ pub fn is_recognised(kind: u8) -> bool
     }
 }
 
-/// Whether the session has no place for the attribute, as for routes of an address family that isn't in use.
+/// Whether the session has no place for the attribute, as for routes of an address family that isn't in use (RFC 4760, section 8).
 pub fn is_out_of_place(ctx: &Context, attr: AttrRef<'_>) -> bool
     ensures { result ≡ is_out_of_place ctx.now (ref_value attr.entry) }
 {
