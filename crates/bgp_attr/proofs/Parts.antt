@@ -1,5 +1,7 @@
 -- Octets that are written in parts, of which one may have no room.
-use Rattle.bgp_wire.proofs.Std.{◌≡◌, ℕ, ◌+◌, ◌<◌, ◌≤◌, List, [], ◌∷◌, ◌++◌, length, get_or, take, flat_map, refl, ap, ◌∙◌, append_assoc, Result, Ok, Err, OnErr, arith, w16, to_be_bytes}
+use Rattle.bgp_wire.proofs.Std.{◌≡◌, ℕ, ◌+◌, ◌<◌, ◌≤◌, List, [], ◌∷◌, ◌++◌, length, get_or, take, flat_map, refl, sym, ap, ap₂, ◌∙◌, append_assoc, Bool, true, false, false≢true, Result, Ok, Err, OnErr, on_err_weaker, arith, take-append_seam, w16, to_be_bytes}
+use Rattle.std.specs.Prelude.{OnOk, is_err}
+use Rattle.std.proofs.lemmas.Bool.{true≢false}
 use Rattle.std.proofs.lemmas.List.{length-append}
 use Rattle.bgp_numbers.specs.declared.safi.TheConstants.{UNICAST}
 use Rattle.bgp_wire.specs.Prelude.{Extends}
@@ -19,6 +21,19 @@ part_written old front part whole now new is e f = f ∙ ap (λ (b : List ℕ). 
 pub on_both : {T E A B P : Type 0} (r : Result T E) → (A → B → P) → OnErr r A → OnErr r B → OnErr r P
 on_both (Ok x) f a b = tt
 on_both (Err e) f a b = f a b
+
+-- what is an error holds no value, and what is a value no error
+pub not_ok : {T E : Type 0} (P : Type 0) (r : Result T E) (b : Bool) → b ≡ is_err r → b ≡ true → OnOk r P
+not_ok P (Ok x) b is e = absurd (true≢false (sym e ∙ is))
+not_ok P (Err x) b is e = tt
+
+pub not_err : {T E : Type 0} (P : Type 0) (r : Result T E) (b : Bool) → b ≡ is_err r → b ≡ false → OnErr r P
+not_err P (Ok x) b is e = tt
+not_err P (Err x) b is e = absurd (false≢true (sym e ∙ is))
+
+-- what is behind the old is cut off again
+pub all_back : {T E : Type 0} (Q : Type 0) (r : Result T E) (old mid new : List ℕ) (start : ℕ) → start ≡ length old → new ≡ take start mid → OnErr r (Extends old mid × Q) → OnErr r (new ≡ old)
+all_back Q r old mid new start at cut = on_err_weaker r (λ p. cut ∙ ap₂ (λ (n : ℕ) (b : List ℕ). take n b) at p.0.1 ∙ take-append_seam old p.0.0)
 
 module _ (room : ℕ) (old : List ℕ) where
   -- a part is refused behind those that are written, and leaves some of it
@@ -43,6 +58,11 @@ module _ (room : ℕ) (old : List ℕ) where
 -- the prefixes behind a family and next hops
 pub behind_hops : (afi : ℕ) (hop : List ℕ) (routes : List PrefixValue) → reach_row afi hop [] ++ run_octets routes ≡ reach_row afi hop routes
 behind_hops afi hop routes = ap (λ (b : List ℕ). to_be_bytes w16 afi ++ (UNICAST ∷ length hop ∷ b)) (append_assoc hop (0 ∷ []) (run_octets routes))
+
+-- where these have no room, all have none
+pub hops_refused : (room : ℕ) (old new : List ℕ) (afi : ℕ) (hop : List ℕ) (routes : List PrefixValue) → Extends old new × (room < length old + length (reach_row afi hop []))
+    → Extends old new × (room < length old + length (reach_row afi hop routes))
+hops_refused room old new afi hop routes p = (p.0, omega (arith, p.1, ap length (behind_hops afi hop routes), length-append (reach_row afi hop []) (run_octets routes)))
 
 -- where one of a row has no room, the row has none
 pub row_stopped : {X : Type 0} (octets : X → List ℕ) (P : X → Type 0) (xs : List X) (i : ℕ) (before now : List ℕ) (so_far : IsWritten octets P (take i xs) before now) (room : ℕ) (x : X) (new : List ℕ)

@@ -1,7 +1,7 @@
 -- A segment at the front of octets, as the code cuts it off.
-use Rattle.bgp_wire.proofs.Std.{◌≡◌, ◌≢◌, ℕ, zero, suc, ◌+◌, ◌*◌, ◌<◌, ◌≤◌, Bool, true, false, cond, eqb, not, ◌||◌, List, [], ◌∷◌, ◌++◌, length, take, drop, Option, Some, None, refl, sym, ap, ap₂, ◌∙◌, arith, inl, inr, cases_lt, le-leb, lt-leb, take-append-drop, take-append-add}
+use Rattle.bgp_wire.proofs.Std.{◌≡◌, ◌≢◌, ℕ, zero, suc, ◌+◌, ◌-◌, ◌*◌, ◌<◌, ◌≤◌, Bool, true, false, cond, eqb, not, ◌||◌, List, [], ◌∷◌, ◌++◌, length, get_or, take, drop, Option, Some, None, refl, sym, ap, ap₂, subst, ◌∙◌, arith, inl, inr, cases_lt, le-leb, lt-leb, take-append-drop, take-append-add}
 use Rattle.std.proofs.lemmas.Bool.{eq-eqb, ne_eqb}
-use Rattle.std.proofs.lemmas.List.{length-take, length-drop, drop-drop}
+use Rattle.std.proofs.lemmas.List.{length-take, length-drop, drop-drop, take_all}
 use Rattle.bgp_wire.specs.Prelude.{then_pieces, pieces_within, behind_count}
 use Rattle.bgp_attr.specs.declared.path_form.PathForm.{PathForm}
 use Rattle.bgp_attr.specs.Prelude.{number_width, number_in, one_number, numbers_of, WireSegment, is_known, segment_of, one_segment}
@@ -112,16 +112,60 @@ some_numbers form code n b numbers len = at (is_known form code) numbers len
         not_none : (n m : ℕ) → suc m ≡ n → n ≢ 0
         not_none n m e z = omega arith
 
-pub one_segment-there : (form : PathForm) (code n : ℕ) (b : List ℕ) → n * number_width form.wide ≤ length b → one_segment form (code ∷ n ∷ b)
+one_segment-there : (form : PathForm) (code n : ℕ) (b : List ℕ) → n * number_width form.wide ≤ length b → one_segment form (code ∷ n ∷ b)
     ≡ cond (not (is_known form code) || eqb n 0) None (Some (record { code = code; numbers = numbers_of form.wide (take (n * number_width form.wide) b) }, drop (n * number_width form.wide) b))
 unfolding one_segment
 one_segment-there form code n b le =
     ap (λ (o : Option (List ℕ × List ℕ)). cond (is_known form code) (segment_of code o) None) (behind_there form.wide n b le)
     ∙ some_numbers form code n (drop (n * number_width form.wide) b) _ (counted form.wide n (n * number_width form.wide) b refl le).1
 
-pub one_segment-past : (form : PathForm) (code n : ℕ) (b : List ℕ) → length b < n * number_width form.wide → one_segment form (code ∷ n ∷ b) ≡ None
+one_segment-past : (form : PathForm) (code n : ℕ) (b : List ℕ) → length b < n * number_width form.wide → one_segment form (code ∷ n ∷ b) ≡ None
 unfolding one_segment
 one_segment-past form code n b lt =
     ap (λ (o : Option (List ℕ × List ℕ)). cond (is_known form code) (segment_of code o) None) (behind_short form.wide n b lt) ∙ none_both (is_known form code)
 
-pub ruleset steps = (one_segment-short, one_segment-there, one_segment-past)
+-- ---- the exits of the code, one lemma each
+
+two_cut : (b : List ℕ) → 2 ≤ length b → b ≡ get_or b 0 0 ∷ get_or b 1 0 ∷ take (length b - 2) (drop 2 b)
+two_cut (x ∷ y ∷ b) le = ap (λ (r : List ℕ). x ∷ y ∷ r) (sym (take_all (length (x ∷ y ∷ b) - 2) b (omega arith)))
+two_cut [] le = absurd (omega arith)
+two_cut (x ∷ []) le = absurd (omega arith)
+
+module _ (form : PathForm) (b : List ℕ) (long : 2 ≤ length b) (t : ℕ) (total : t ≡ get_or b 1 0 * number_width form.wide) where
+  abbrev code : ℕ
+  code = get_or b 0 0
+
+  abbrev count : ℕ
+  count = get_or b 1 0
+
+  abbrev behind : List ℕ
+  behind = take (length b - 2) (drop 2 b)
+
+  -- what is found where the type is known and some number is counted
+  abbrev found : ℕ → Option (WireSegment × List ℕ)
+  found m = Some (record { code = code; numbers = numbers_of form.wide (take m behind) }, drop m behind)
+
+  tested : t ≤ length behind → one_segment form b ≡ cond (not (is_known form code) || eqb count 0) nothing (found t)
+  tested le =
+      ap (one_segment form) (two_cut b long)
+      ∙ one_segment-there form code count behind (subst (λ (m : ℕ). m ≤ length behind) total le)
+      ∙ ap (λ (m : ℕ). cond (not (is_known form code) || eqb count 0) nothing (found m)) (sym total)
+
+  pub segment_found : t ≤ length behind → is_known form code ≡ true → (count ≡ 0 → ⊥) → (numbers rest : List ℕ) → numbers ≡ take t behind → rest ≡ drop t behind
+      → Some (record { code = code; numbers = numbers_of form.wide numbers }, rest) ≡ one_segment form b
+  segment_found le known some numbers rest e f =
+      ap₂ (λ (ns r : List ℕ). Some (record { code = code; numbers = numbers_of form.wide ns }, r)) e f
+      ∙ sym (tested le ∙ ap₂ (λ (k z : Bool). cond (not k || z) nothing (found t)) known (ne_eqb count 0 some))
+
+  pub segment_unknown : t ≤ length behind → is_known form code ≡ false → None ≡ one_segment form b
+  segment_unknown le unknown = sym (tested le ∙ ap (λ (k : Bool). cond (not k || eqb count 0) nothing (found t)) unknown)
+
+  pub segment_empty : t ≤ length behind → count ≡ 0 → None ≡ one_segment form b
+  segment_empty le none = sym (tested le ∙ ap (λ (z : Bool). cond (not (is_known form code) || z) nothing (found t)) (eq-eqb count 0 none) ∙ either (is_known form code))
+    where
+      either : (k : Bool) → cond (not k || true) nothing (found t) ≡ nothing
+      either true = refl
+      either false = refl
+
+  pub segment_past : length behind < t → None ≡ one_segment form b
+  segment_past lt = sym (ap (one_segment form) (two_cut b long) ∙ one_segment-past form code count behind (subst (λ (m : ℕ). length behind < m) total lt))

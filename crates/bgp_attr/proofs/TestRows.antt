@@ -133,6 +133,10 @@ module _ (ctx : Context) (has_nlri : Bool) (t : TlvValue) where
   pub tests_at : (kind : ℕ) → t.kind ≡ kind → (a : Attr) → decided (row_at kind).tests a ≡ decided (type_row ctx has_nlri t).tests a
   tests_at kind e a = ap (λ (type : AttributeType). decided type.tests a) (sym (row-at kind e))
 
+  -- its value
+  pub value_at : (kind : ℕ) → t.kind ≡ kind → (row_at kind).value ≡ (type_row ctx has_nlri t).value
+  value_at kind e = ap (λ (type : AttributeType). type.value) (sym (row-at kind e))
+
   pub row-other : is_recognised t.kind ≡ false → type_row ctx has_nlri t ≡ other_type t
   unfolding type_row
   row-other other = entry-other t.kind (other_type t) (types ctx has_nlri t) other

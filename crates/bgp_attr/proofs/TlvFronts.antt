@@ -1,6 +1,6 @@
 -- An attribute at the front of octets, as the code cuts it off.
-use Rattle.bgp_wire.proofs.Std.{◌≡◌, ℕ, suc, ◌+◌, ◌-◌, ◌<◌, ◌≤◌, Bool, true, false, cond, List, [], ◌∷◌, ◌++◌, length, take, drop, Option, Some, None, refl, sym, ap, subst, ◌∙◌, arith, w16, to_be_bytes, from_be_bytes, take-append-add, le-leb, lt-leb, be_bytes_2}
-use Rattle.std.proofs.lemmas.List.{length-append, length-take, length-drop}
+use Rattle.bgp_wire.proofs.Std.{◌≡◌, ℕ, suc, ◌+◌, ◌-◌, ◌<◌, ◌≤◌, Bool, true, false, cond, List, [], ◌∷◌, ◌++◌, length, get_or, take, drop, Option, Some, None, refl, sym, ap, subst, ◌∙◌, arith, w16, to_be_bytes, from_be_bytes, take-append-add, le-leb, lt-leb, be_bytes_2}
+use Rattle.std.proofs.lemmas.List.{length-append, length-take, length-drop, take_all}
 use Rattle.bgp_wire.specs.Prelude.{AreOctets, ◌>>=◌, first_octets}
 use Rattle.bgp_wire.proofs.Firsts.{first_octets-at}
 use Rattle.bgp_wire.proofs.OctetLemmas.{AreOctets-take}
@@ -136,11 +136,7 @@ field_shorter true (high ∷ []) n rest e = absurd (found_not ℕ (n, rest) (sym
 field_shorter false (m ∷ b) n rest e = let len : length rest ≡ length b = ap (λ (q : ℕ × List ℕ). length q.1) (found_same ℕ (n, rest) (m, b) e) in omega arith
 field_shorter false [] n rest e = absurd (found_not ℕ (n, rest) (sym e))
 
-len_pos : (b : List ℕ) → length b ≡ 0 → b ≡ []
-len_pos [] e = refl
-len_pos (x ∷ b) e = absurd (omega arith)
-
--- fewer than two octets begin no attribute
+-- fewer than three octets begin no attribute
 pub none_below_three : (b : List ℕ) → length b < 3 → one_tlv b ≡ None
 none_below_three [] lt = tlv_nil 0 0
 none_below_three (flags ∷ []) lt = tlv_one flags 0
@@ -151,19 +147,13 @@ none_below_three (flags ∷ kind ∷ []) lt = tlv_none flags kind [] (no_octets 
     no_octets false = refl
 none_below_three (flags ∷ kind ∷ n ∷ b) lt = absurd (omega (arith, lt))
 
-pub no_flags : (b : List ℕ) → length b ≡ 0 → one_tlv b ≡ None
-no_flags b e = ap one_tlv (len_pos b e) ∙ tlv_nil 0 0
+pub three_cut : (b : List ℕ) → 3 ≤ length b → b ≡ get_or b 0 0 ∷ get_or b 1 0 ∷ get_or b 2 0 ∷ take (length b - 3) (drop 3 b)
+three_cut (x ∷ y ∷ z ∷ b) le = ap (λ (r : List ℕ). x ∷ y ∷ z ∷ r) (sym (take_all (length (x ∷ y ∷ z ∷ b) - 3) b (omega arith)))
+three_cut [] le = absurd (omega arith)
+three_cut (x ∷ []) le = absurd (omega arith)
+three_cut (x ∷ y ∷ []) le = absurd (omega arith)
 
-pub no_kind : (b rest : List ℕ) (flags : ℕ) → b ≡ flags ∷ rest → length rest ≡ 0 → one_tlv b ≡ None
-no_kind b rest flags is e = ap one_tlv (is ∙ ap (λ (x : List ℕ). flags ∷ x) (len_pos rest e)) ∙ tlv_one flags 0
-
-two_first : (b rest behind : List ℕ) (flags kind : ℕ) → b ≡ flags ∷ rest → rest ≡ kind ∷ behind → b ≡ flags ∷ kind ∷ behind
-two_first b rest behind flags kind e f = e ∙ ap (λ (x : List ℕ). flags ∷ x) f
-
-module _ (b rest behind : List ℕ) (flags kind : ℕ) (e : b ≡ flags ∷ rest) (f : rest ≡ kind ∷ behind) where
-  whole_is : b ≡ flags ∷ kind ∷ behind
-  whole_is = two_first b rest behind flags kind e f
-
+module _ (b behind : List ℕ) (flags kind : ℕ) (whole_is : b ≡ flags ∷ kind ∷ behind) where
   pub no_length : None ≡ length_field (is_extended flags) behind → one_tlv b ≡ None
   no_length none = ap one_tlv whole_is ∙ tlv_none flags kind behind none
 

@@ -1,7 +1,7 @@
 //! The classes of attributes.
 
 /// What an attribute's Optional and Transitive bits say of its type (RFC 4271, section 5).
-#[derive(Clone, Copy, Debug, PartialEq, Eq)]
+#[derive(Clone, Copy)]
 pub(crate) enum Class {
     /// Each speaker knows it, and passes it on.
     WellKnown = 1,

@@ -1,23 +1,24 @@
 //! The attribute at the front of octets.
 
-ghost use Rattle.std.specs.Prelude.{◌≡◌, ◌<◌, ◌≤◌, length, option_map, Some, None, IfSome};
+ghost use Rattle.std.specs.Prelude.{◌≡◌, ◌<◌, ◌≤◌, ◌∷◌, length, option_map, Some, None, IfSome};
 ghost use Rattle.bgp_attr.specs.Prelude.{is_extended, one_tlv, tlvs_of, tlv_at, tlv_value, length_field};
 
 use crate::flags::Flags;
 use crate::tlv::Tlv;
 use std::cmp::min;
 
-/// The length at the front, of two octets where the flags say so, else of one, and what follows it.
+/// The length that begins with an octet, of two octets where the flags say so, else of one, and what follows it.
 #[inline(always)]
-fn first_length(flags: Flags, octets: &[u8]) -> Option<(usize, &[u8])>
-    ensures { option_map (λ x. (x.0, x.1.now)) result ≡ length_field (is_extended flags.0) octets.now }
+fn length_behind(flags: Flags, first: u8, octets: &[u8]) -> Option<(usize, &[u8])>
+    ensures { option_map (λ x. (x.0, x.1.now)) result ≡ length_field (is_extended flags.0) (first ∷ octets.now) }
 {
-    let (high, rest) = octets.split_first()?;
     if !flags.is_extended() {
-        return Some((usize::from(*high), rest));
+        return Some((usize::from(first), octets));
     }
-    let (low, rest) = rest.split_first()?;
-    Some((usize::from(u16::from_be_bytes([*high, *low])), rest))
+    let [low, rest @ ..] = octets else {
+        return None;
+    };
+    Some((usize::from(u16::from_be_bytes([first, *low])), rest))
 }
 
 /// The attribute at the front, and what follows it.
@@ -27,14 +28,16 @@ pub(crate) fn first_tlv(at: usize, octets: &[u8]) -> Option<(Tlv<'_>, &[u8])>
     ensures at { IfSome result (λ x. x.0.at ≡ at) }
 {
     // An attribute has three octets at least: one test, in place of one for each.
-    if octets.len() < 3 {
+    let [flags, kind, first, rest @ ..] = octets else {
         return None;
-    }
-    let (flags, rest) = octets.split_first()?;
-    let (kind, rest) = rest.split_first()?;
+    };
     let flags = Flags(*flags);
-    let (len, rest) = first_length(flags, rest)?;
-    let (value, after) = rest.split_at_checked(len)?;
+    let Some((len, rest)) = length_behind(flags, *first, rest) else {
+        return None;
+    };
+    let Some((value, after)) = rest.split_at_checked(len) else {
+        return None;
+    };
     let (whole, _) = octets.split_at(octets.len() - after.len());
     let tlv = Tlv {
         at,
@@ -52,8 +55,10 @@ pub fn tlv_at(field: &[u8], at: usize) -> Option<Tlv<'_>>
     ensures { option_map tlv_value result ≡ tlv_at field.now at }
 {
     let (_, octets) = field.split_at(min(at, field.len()));
-    let (tlv, _) = first_tlv(at, octets)?;
-    Some(tlv)
+    match first_tlv(at, octets) {
+        Some((tlv, _)) => Some(tlv),
+        None => None,
+    }
 }
 
 /// What is left behind the attributes that octets begin with.

@@ -27,7 +27,6 @@ use bgp_open::Context;
 use std::alloc::{AllocError, Global};
 
 /// Judges the first attribute of its type in a message as [`rule`] does, where that type is recognised: one choice by the type tells both.
-#[tactic(auto, using(crate::proofs::TestRows::tests_at), unfolding(crate::specs::Judgement::type_row))]
 #[inline(always)]
 pub fn rule_recognised(ctx: &Context, has_nlri: bool, tlv: &Tlv<'_>) -> Option<Ruling>
     ensures { MatchOption result (is_recognised tlv.now.kind ≡ false)

@@ -51,14 +51,16 @@ pub(crate) fn kind_of(code: u8) -> Option<SegKind>
 }
 
 /// The segment at the front of a path, and what follows it (RFC 4271, section 4.3).
-#[tactic(auto, using(crate::proofs::SegmentFronts::steps))]
 pub fn first_segment(form: PathForm, octets: &[u8]) -> Option<(RawSegment<'_>, &[u8])>
     ensures { option_map (λ x. (wire_segment form.wide x.0, x.1.now)) result ≡ one_segment form octets.now }
 {
-    let (code, rest) = octets.split_first()?;
-    let (count, rest) = rest.split_first()?;
+    let [code, count, rest @ ..] = octets else {
+        return None;
+    };
     let len = usize::from(*count) * number_width(form.wide);
-    let (numbers, rest) = rest.split_at_checked(len)?;
+    let Some((numbers, rest)) = rest.split_at_checked(len) else {
+        return None;
+    };
     if !is_known(form, *code) || *count == 0 {
         return None;
     }
@@ -73,12 +75,12 @@ pub fn first_segment(form: PathForm, octets: &[u8]) -> Option<(RawSegment<'_>, &
 fn segment_fault(form: PathForm, rest: &[u8]) -> Option<Why>
     ensures { result ≡ segment_fault form rest.now }
 {
-    let (code, rest) = rest.split_first()?;
-    match rest.first() {
-        None => Some(Why::SegmentEnd),
-        Some(_) if !is_known(form, *code) => Some(Why::SegmentType),
-        Some(0) => Some(Why::SegmentCount),
-        Some(_) => Some(Why::SegmentEnd),
+    match rest {
+        [] => None,
+        [_] => Some(Why::SegmentEnd),
+        [code, ..] if !is_known(form, *code) => Some(Why::SegmentType),
+        [_, 0, ..] => Some(Why::SegmentCount),
+        _ => Some(Why::SegmentEnd),
     }
 }
 

@@ -1,5 +1,5 @@
 -- Attributes of unrecognised types, each put at its type.
-use Rattle.bgp_wire.proofs.Std.{◌≡◌, ℕ, zero, suc, ◌<◌, Bool, true, false, cond, eqb, ltb, List, [], ◌∷◌, length, get_or, set, replicate, Option, Some, None, refl, sym, ap, ◌∙◌, arith, eqb-false, ltb-true}
+use Rattle.bgp_wire.proofs.Std.{◌≡◌, ℕ, zero, suc, ◌<◌, Bool, true, false, cond, eqb, ltb, List, [], ◌∷◌, length, get_or, set, replicate, Option, Some, None, refl, sym, ap, ap₂, ◌∙◌, ◌++◌, ◌+◌, arith, flat_map, eqb-false, ltb-true, AllByRecursion}
 use Rattle.std.specs.Prelude.{option_map}
 use Rattle.std.proofs.lemmas.Bool.{eqb-true, ne_eqb}
 use Rattle.std.proofs.lemmas.Grind.{get_or-set_at}
@@ -7,8 +7,8 @@ use Rattle.std.proofs.lemmas.List.{get_or-set_other}
 use Rattle.bgp_attr.specs.Prelude.{opaque_value}
 use Rattle.bgp_attr.specs.declared.opaque.OpaqueView.{OpaqueView}
 use Rattle.bgp_attr.specs.declared.opaque.Opaque.{Opaque}
-use Rattle.bgp_update.specs.Prelude.{put_rising}
-use Rattle.bgp_update.proofs.Rising.{of_kind, find-by}
+use Rattle.bgp_update.specs.Prelude.{put_rising, types_from, rise}
+use Rattle.bgp_update.proofs.Rising.{of_kind, find-by, rise-rises, listed, types-find}
 
 -- where none stands
 pub none_at : (n k : ℕ) → (let none : Option OpaqueView = None in get_or (replicate n none) k none ≡ none)
@@ -55,3 +55,24 @@ none-some o e = absurd cc
 pub none_found : (os : List Opaque) → ((k : ℕ) → None ≡ of_kind k os) → os ≡ []
 none_found [] none = refl
 none_found (o ∷ os) none = absurd (none-some o (none o.kind ∙ ap (λ (t : Bool). cond t (Some o) (of_kind o.kind os)) (eqb-same o.kind)))
+
+-- ---- all that stand there, one type after the other
+
+by-index : (h : Option OpaqueView → List Opaque) (g : ℕ → List Opaque) (l : List (Option OpaqueView)) (low : ℕ) → ((k : ℕ) → h (get_or l k None) ≡ g (low + k))
+    → flat_map h l ≡ flat_map g (types_from low (length l))
+by-index h g [] low same = refl
+by-index h g (x ∷ l) low same =
+    ap₂ (λ (a b : List Opaque). a ++ b)
+    (same 0 ∙ ap g (omega arith))
+    (by-index h g l (low + 1) (λ (k : ℕ). same (suc k) ∙ ap g (omega arith)))
+
+-- what stands at a type
+abbrev pub standing : Option OpaqueView → List Opaque
+standing found = listed (option_map opaque_value found)
+
+pub standing-all : (l : List (Option OpaqueView)) (os : List Opaque) → length l ≡ 256 → rise os ≡ true → AllByRecursion (λ o. o.kind < 256) os
+    → ((k : ℕ) → option_map opaque_value (get_or l k None) ≡ of_kind k os) → flat_map standing l ≡ os
+standing-all l os long rises small at =
+    by-index standing (λ k. listed (of_kind k os)) l 0 (λ (k : ℕ). ap listed (at k ∙ ap (λ (j : ℕ). of_kind j os) (omega arith)))
+    ∙ ap (λ (n : ℕ). flat_map (λ k. listed (of_kind k os)) (types_from 0 n)) long
+    ∙ types-find 256 0 os (rise-rises os rises) small

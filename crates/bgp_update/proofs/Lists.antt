@@ -1,5 +1,6 @@
 -- Lists that are joined, searched and tested: what the other lemmas say of attributes, for lists of anything.
-use Rattle.bgp_wire.proofs.Std.{◌≡◌, ℕ, Bool, true, false, not, ◌||◌, cond, eqb, List, [], ◌∷◌, ◌++◌, Option, Some, None, inl, inr, refl, sym, ap, ap₂, subst, ◌∙◌, flat_map, filter, find, list_any, AllByRecursion, option_or, find-append, false≢true, or_parts, or_cases, or_from}
+use Rattle.bgp_wire.proofs.Std.{◌≡◌, ℕ, ◌+◌, ◌<◌, ◌≤◌, Bool, true, false, not, ◌||◌, cond, eqb, List, [], ◌∷◌, ◌++◌, length, get_or, take, map, Option, Some, None, inl, inr, refl, sym, ap, ap₂, subst, ◌∙◌, flat_map, filter, find, list_any, AllByRecursion, option_or, find-append, false≢true, or_parts, or_cases, or_from, map-append, take_more, append_assoc}
+use Rattle.std.proofs.lemmas.List.{append-nil, take_all}
 use Rattle.std.specs.Prelude.{is_none}
 use Rattle.std.proofs.lemmas.Bool.{eqb-true, ne_eqb}
 use Rattle.std.proofs.lemmas.Bool.Decides.{eqb_tells}
@@ -130,3 +131,21 @@ module _ {A : Type 0} where
       by : (t : Bool) → eqb k kind ≡ t → (b : Bool) → option_or (find test (f k)) (cond b (find test (f kind)) None) ≡ cond (t || b) (find test (f kind)) None
       by true e b = ap (λ (j : ℕ). option_or (find test (f j)) (cond b (find test (f kind)) None)) (eqb-true k kind e) ∙ twice (find test (f kind)) b
       by false e b = ap (λ (o : Option A). option_or o (cond b (find test (f kind)) None)) (apart k e)
+
+-- what is made of each of those so far, with one more, and of all
+module _ {X Y : Type 0} (f : X → Y) (xs : List X) (i : ℕ) where
+  pub one_mapped : (x : X) (y : Y) (now new : List Y) → i < length xs → x ≡ get_or xs i x → y ≡ f x → now ≡ map f (take i xs) → new ≡ now ++ y ∷ [] → new ≡ map f (take (i + 1) xs)
+  one_mapped x y now new lt is made so_far more =
+      more ∙ ap₂ (λ (b : List Y) (z : Y). b ++ z ∷ []) so_far made ∙ sym (map-append f (take i xs) (x ∷ []))
+      ∙ ap (map f) (sym (take_more xs i x lt ∙ ap (λ (z : X). take i xs ++ z ∷ []) (sym is)))
+
+  pub all_mapped : (now : List Y) → length xs ≤ i → now ≡ map f (take i xs) → now ≡ map f xs
+  all_mapped now le so_far = so_far ∙ ap (map f) (take_all i xs le)
+
+-- what is there and what is left, one more and none more
+module _ {X : Type 0} (now left whole : List X) (so_far : now ++ left ≡ whole) where
+  pub one_taken : (x : X) (later new : List X) → left ≡ x ∷ later → new ≡ now ++ x ∷ [] → new ++ later ≡ whole
+  one_taken x later new are more = ap (λ (b : List X). b ++ later) more ∙ append_assoc now (x ∷ []) later ∙ ap (λ (b : List X). now ++ b) (sym are) ∙ so_far
+
+  pub none_left : left ≡ [] → now ≡ whole
+  none_left none = sym (append-nil now) ∙ ap (λ (b : List X). now ++ b) (sym none) ∙ so_far

@@ -9,8 +9,10 @@ use Rattle.bgp_attr.specs.declared.path.Segment.{Segment}
 use Rattle.bgp_attr.specs.declared.path.AsPath.{AsPath}
 use Rattle.bgp_attr.specs.declared.path.As4Path.{As4Path}
 use Rattle.bgp_attr.specs.Prelude.{as_number, any_number, is_above_two_octets}
+use Rattle.bgp_prefix.specs.declared.prefix.Prefix.{Prefix}
 use Rattle.bgp_update.specs.declared.attrs.Attrs.{Attrs}
-use Rattle.bgp_update.specs.Prelude.{items_by, items_in, items_of, lead, joined, rebuilt_path, rebuilt_by, rebuilt, narrow_number, narrow_segment, narrow_path, wide_path, narrow_aggregator, wide_aggregator, narrowed, HasNoAs4}
+use Rattle.bgp_update.specs.declared.update.Update.{Update}
+use Rattle.bgp_update.specs.Prelude.{items_by, items_in, items_of, lead, joined, rebuilt_path, rebuilt_by, rebuilt, narrow_number, narrow_segment, narrow_path, wide_path, narrow_aggregator, wide_aggregator, narrowed, narrowed_update, HasNoAs4}
 
 -- ---- where no number is wide, nothing changes
 
@@ -83,3 +85,10 @@ pub narrowed-rebuilt : (a : Attrs) → HasNoAs4 a → rebuilt (narrowed a) ≡ r
 narrowed-rebuilt a none =
     aggregator-back a.aggregator (option_map narrow_path a.as_path) (wide_path a.as_path)
     ∙ ap (λ (p : Option AsPath). record { path = p; aggregator = a.aggregator }) (path-back a.as_path)
+
+-- the parts of what is told of an UPDATE
+pub update_of : (u : Update) (withdrawn nlri : List (Prefix 4)) (attrs : Attrs) → withdrawn ≡ u.withdrawn → nlri ≡ u.nlri → attrs ≡ narrowed u.attrs
+    → record { withdrawn = withdrawn; attrs = attrs; nlri = nlri } ≡ narrowed_update u
+update_of u withdrawn nlri attrs e f g =
+    ap (λ (w : List (Prefix 4)). record { withdrawn = w; attrs = attrs; nlri = nlri }) e
+    ∙ ap₂ (λ (a : Attrs) (n : List (Prefix 4)). record { withdrawn = u.withdrawn; attrs = a; nlri = n }) g f

@@ -1,7 +1,8 @@
 -- The items of a path in octets are no more than these, and the first of them go segment by segment.
-use Rattle.bgp_wire.proofs.Std.{◌≡◌, ℕ, suc, ◌+◌, ◌*◌, ◌<◌, ◌≤◌, Bool, true, false, List, [], ◌∷◌, length, Option, Some, None, refl, ap, ◌∙◌, arith, flat_map, length-map, flat_map-cons}
+use Rattle.bgp_wire.proofs.Std.{◌≡◌, ℕ, suc, ◌+◌, ◌-◌, ◌*◌, ◌<◌, ◌≤◌, Bool, true, false, eqb, List, [], ◌∷◌, ◌++◌, length, get_or, drop, Option, Some, None, refl, sym, ap, ap₂, ◌∙◌, append_assoc, arith, flat_map, length-map, flat_map-cons, at_drop_more, cond-false}
+use Rattle.std.proofs.lemmas.Bool.{ne_eqb}
 use Rattle.std.proofs.lemmas.List.{length-append}
-use Rattle.std.proofs.lemmas.List.Sums.{sum_by-append}
+use Rattle.std.proofs.lemmas.List.Sums.{sum_by-append, sum_by-cons}
 use Rattle.bgp_wire.specs.Prelude.{Row}
 use Rattle.bgp_wire.proofs.Pieces.{Splits-pieces}
 use Rattle.bgp_attr.specs.declared.path.SegKind.{SegKind}
@@ -11,7 +12,7 @@ use Rattle.bgp_attr.specs.declared.path_form.PathForm.{PathForm}
 use Rattle.bgp_attr.specs.Prelude.{number_width, WireSegment, IsSegment, one_segment, segments_of, kept_segment, segment_kept_as, kind_of_segment, kept_segments_of, as_number}
 use Rattle.bgp_attr.proofs.Readers.{IsSegment-reads}
 use Rattle.bgp_attr.proofs.NumberRows.{length-number_row}
-use Rattle.bgp_update.specs.Prelude.{items_in, items_of, lead}
+use Rattle.bgp_update.specs.Prelude.{items_in, items_of, front_by, lead}
 
 -- ---- no more items than octets
 
@@ -45,3 +46,18 @@ items_within form b =
 pub no_lead : (segments : List Segment) → lead 0 segments ≡ []
 no_lead [] = refl
 no_lead (s ∷ segments) = refl
+
+-- what is there and the lead of what is left, one segment more
+pub lead_step : (xs : List Segment) (i k n left : ℕ) (s : Segment) (now new whole : List Segment) → i < length xs → s ≡ get_or xs i s → 0 < k → new ≡ now ++ front_by k s.kind s.numbers → left ≡ k - n → n ≡ items_in s
+    → now ++ lead k (drop i xs) ≡ whole → new ++ lead left (drop (i + 1) xs) ≡ whole
+lead_step xs i k n left s now new whole lt is some more less of_s e =
+    let rest = drop (i + 1) xs in
+    let are : drop i xs ≡ s ∷ rest = at_drop_more (λ (ys : List Segment). ys) xs i s lt ∙ ap (λ (x : Segment). x ∷ rest) (sym is) in
+    let first : lead k (s ∷ rest) ≡ front_by k s.kind s.numbers ++ lead (k - items_in s) rest = cond-false (eqb k 0) [] (front_by k s.kind s.numbers ++ lead (k - items_in s) rest) (ne_eqb k 0 (λ (z : k ≡ 0). omega arith)) in
+    ap₂ (λ (b : List Segment) (m : ℕ). b ++ lead m rest) more (less ∙ ap (λ (m : ℕ). k - m) of_s)
+    ∙ append_assoc now (front_by k s.kind s.numbers) (lead (k - items_in s) rest)
+    ∙ ap (λ (b : List Segment). now ++ b) (sym (ap (lead k) are ∙ first)) ∙ e
+
+-- the items so far and those that are left, one segment more
+pub items_step : (all so_far n : ℕ) (left later : List Segment) (s : Segment) → so_far + items_of left ≡ all → left ≡ s ∷ later → n ≡ items_in s → (so_far + n) + items_of later ≡ all
+items_step all so_far n left later s e are is = omega (arith, e, ap items_of are ∙ sum_by-cons items_in s later, is)

@@ -1,5 +1,5 @@
 -- An UPDATE that is taken can be written, in no more octets.
-use Rattle.bgp_wire.proofs.Std.{◌≡◌, ℕ, ◌+◌, ◌<◌, ◌≤◌, Bool, true, false, not, ◌&&◌, ◌||◌, cond, eqb, ltb, List, [], ◌∷◌, length, Option, Some, None, refl, sym, ap, ap₂, subst, ◌∙◌, arith, flat_map, list_any, AllByRecursion, option_or, false≢true, or_parts, or_from, not_from_true, nil_from_length}
+use Rattle.bgp_wire.proofs.Std.{◌≡◌, ℕ, ◌+◌, ◌≤◌, Bool, true, false, not, ◌&&◌, ◌||◌, cond, eqb, ltb, List, [], ◌∷◌, length, Option, Some, None, refl, sym, ap, ap₂, subst, ◌∙◌, arith, list_any, AllByRecursion, option_or, false≢true, or_parts, or_from, not_from_true, nil_from_length}
 use Rattle.std.specs.Prelude.{is_some, is_none}
 use Rattle.std.proofs.lemmas.Bool.{true≢false, lt-ltb, eqb-true}
 use Rattle.std.proofs.lemmas.List.{length-append}
@@ -12,7 +12,6 @@ use Rattle.bgp_prefix.specs.Prelude.{PrefixValue, IsPrefix, one_prefix, run_of}
 use Rattle.bgp_prefix.proofs.PrefixLemmas.{IsPrefix-reads, IsPrefix-length}
 use Rattle.bgp_prefix.proofs.LawLemmas.{Row-rewritten}
 use Rattle.bgp_attr.specs.declared.attr.Attr.{Attr}
-use Rattle.bgp_attr.specs.declared.opaque.Opaque.{Opaque}
 use Rattle.bgp_attr.specs.Prelude.{tlvs_of, run_octets, type_of, is_too_wide, is_as4, is_empty, has_as_zero, stands_twice, is_out_of_place, Belongs, HasRanges}
 use Rattle.bgp_attr.specs.declared.attr.Attr.TheVariants as attr
 use Rattle.bgp_attr.proofs.EachType.{has-place}
@@ -21,17 +20,16 @@ use Rattle.bgp_attr.proofs.TestRows.{Writes, writable-Writes}
 use Rattle.bgp_update.specs.declared.attrs.Attrs.{Attrs}
 use Rattle.bgp_update.specs.declared.note.Note.{Note}
 use Rattle.bgp_update.specs.declared.update.Update.{Update}
-use Rattle.bgp_update.specs.Prelude.{Parts, IsBody, Mark, cut_mark, marks_of, kept_of, attrs_of, update_of, as_opaque, present, slot, is_reachable, has_type, missing_of, is_missing, attr_list, first_reset, bad_network, reset_of_run, reset_of, withdraws, is_withdrawn, verdict_of, attributes_octets, written_body, announces, lacks_some, HasUpdateRanges, CanBeWritten}
+use Rattle.bgp_update.specs.Prelude.{Parts, IsBody, Mark, cut_mark, marks_of, kept_of, attrs_of, update_of, present, slot, is_reachable, has_type, missing_of, is_missing, attr_list, first_reset, bad_network, reset_of_run, reset_of, withdraws, is_withdrawn, verdict_of, attributes_octets, written_body, announces, lacks_some, HasUpdateRanges, CanBeWritten}
 use Rattle.bgp_update.specs.declared.verdict.Verdict.TheVariants as verdict
 use Rattle.bgp_update.specs.Parts.{has_nlri}
 use Rattle.bgp_update.specs.Written as written
 use Rattle.bgp_update.proofs.Bodies.{length-body}
 use Rattle.bgp_update.proofs.Lists.{all-front, all-none}
-use Rattle.bgp_update.proofs.Rising.{rising-all}
 use Rattle.bgp_update.proofs.SlotLemmas.{slot-at, field-all}
 use Rattle.bgp_update.proofs.Validity.{IsAccepted, accepted-valid}
 use Rattle.bgp_update.proofs.MarkLemmas.{IsReady}
-use Rattle.bgp_update.proofs.KeptSlots.{opaques-all, others_of-kept, field-lacks}
+use Rattle.bgp_update.proofs.KeptSlots.{field-lacks}
 use Rattle.bgp_update.proofs.TakenSlots as slots
 use Rattle.bgp_update.proofs.Verdicts.{has-parts, taken-of}
 use Rattle.bgp_update.proofs.KeptMarks.{NotDropped, origin-not_dropped, as_path-not_dropped, next_hop-not_dropped, GoesOn, or-parts, goes-on, has-kept}
@@ -173,11 +171,10 @@ module _ (ctx : Context) (p : Parts) (octets_w : AreOctets p.withdrawn) (octets_
 
   has-ranges : HasUpdateRanges taken
   has-ranges =
-      let small = rising-all (λ o. o.kind < 256) (flat_map as_opaque kept) [] tt (opaques-all HasRanges (λ o. o.kind < 256) (λ o r. r.0) kept (slots.each-kept ctx p octets_a HasRanges (λ x r. r.ranges))) in
       record {
         withdrawn = prefixes-valid 4 (run_of 4 p.withdrawn).0 p.withdrawn octets_w row-w;
         attributes = among HasRanges (λ x r. r.ranges);
-        others = subst (λ (os : List Opaque). AllByRecursion (λ o. o.kind < 256) os) (sym (others_of-kept kept)) small;
+        others = slots.others-small ctx p octets_a;
         nlri = prefixes-valid 4 (run_of 4 p.nlri).0 p.nlri octets_n row-n;
       }
 

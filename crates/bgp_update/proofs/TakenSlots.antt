@@ -1,5 +1,5 @@
 -- What the slots of a message's attributes hold: of each type the first that was kept.
-use Rattle.bgp_wire.proofs.Std.{◌≡◌, ℕ, ◌-◌, ◌≤◌, true, false, not, List, ◌++◌, length, refl, ap, subst, sym, ◌∙◌, arith, flat_map, list_any, AllByRecursion, or_parts, not-false}
+use Rattle.bgp_wire.proofs.Std.{◌≡◌, ℕ, ◌-◌, ◌<◌, ◌≤◌, true, false, not, List, [], ◌++◌, length, refl, ap, subst, sym, ◌∙◌, arith, flat_map, list_any, AllByRecursion, or_parts, not-false}
 use Rattle.std.proofs.lemmas.List.{length-append}
 use Rattle.bgp_wire.specs.Prelude.{AreOctets, none_of_them, Splits}
 use Rattle.bgp_wire.proofs.OctetLemmas.{AreOctets-front}
@@ -7,15 +7,16 @@ use Rattle.bgp_wire.proofs.Pieces.{Splits-pieces}
 use Rattle.bgp_open.specs.declared.context.Context.{Context}
 use Rattle.bgp_attr.specs.declared.attr.Attr.{Attr}
 use Rattle.bgp_attr.specs.declared.opaque.Opaque.{Opaque}
-use Rattle.bgp_attr.specs.Prelude.{is_recognised, TlvValue, IsTlv, one_tlv, tlvs_of, canonical, is_misnamed}
+use Rattle.bgp_attr.specs.Prelude.{is_recognised, TlvValue, IsTlv, one_tlv, tlvs_of, canonical, is_misnamed, HasRanges}
 use Rattle.bgp_attr.proofs.Readers.{IsTlv-reads}
 use Rattle.bgp_attr.proofs.TestRows.{Writes, writable-Writes}
-use Rattle.bgp_update.specs.Prelude.{has_bad_others, attr_list, Parts, Mark, marks_behind, cut_mark, placed_tlvs, field_marks, marks_of, slot, canonical_order, kept_of, attrs_of, attributes_octets, rise}
+use Rattle.bgp_update.specs.Prelude.{as_opaque, has_bad_others, attr_list, Parts, Mark, marks_behind, cut_mark, placed_tlvs, field_marks, marks_of, slot, canonical_order, kept_of, attrs_of, attributes_octets, rise}
 use Rattle.bgp_update.specs.Parts.{has_nlri}
 use Rattle.bgp_update.proofs.Lists.{all-more}
 use Rattle.bgp_update.proofs.TypeLemmas.{order-fresh, first_of_type, Named}
 use Rattle.bgp_update.proofs.MarkLemmas.{IsReady}
-use Rattle.bgp_update.proofs.KeptSlots.{kept-list, kept-all, slot-kept, kept-others}
+use Rattle.bgp_update.proofs.KeptSlots.{opaques-all, others_of-kept, kept-list, kept-all, slot-kept, kept-others}
+use Rattle.bgp_update.proofs.Rising.{rising-all}
 use Rattle.bgp_update.proofs.TakenLength.{firsts-shorter}
 use Rattle.bgp_update.proofs.KeptMarks.{with_cut-kept, IsKept, row-kept}
 
@@ -67,6 +68,11 @@ module _ (ctx : Context) (p : Parts) (octets : AreOctets p.attributes) where
   others-rise =
       let os : List Opaque = (attrs_of kept).others in
       not-false (rise os) (or_parts (not (rise os)) (list_any (λ o. is_recognised o.kind) os) others-good).0
+
+  pub others-small : AllByRecursion (λ o. o.kind < 256) (attrs_of kept).others
+  others-small =
+      subst (λ (os : List Opaque). AllByRecursion (λ o. o.kind < 256) os) (sym (others_of-kept kept))
+      (rising-all (λ o. o.kind < 256) (flat_map as_opaque kept) [] tt (opaques-all HasRanges (λ o. o.kind < 256) (λ o r. r.0) kept (each-kept HasRanges (λ x r. r.ranges))))
 
   -- they are written in no more octets
   pub attributes-shorter : length (attributes_octets ctx (attrs_of kept)) ≤ length p.attributes

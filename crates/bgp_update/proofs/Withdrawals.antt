@@ -1,5 +1,5 @@
 -- The UPDATE that withdraws the routes of one is no longer than that one.
-use Rattle.bgp_wire.proofs.Std.{◌≡◌, ℕ, ◌+◌, ◌≤◌, Bool, true, false, not, cond, ltb, List, [], ◌∷◌, ◌++◌, length, Option, Some, None, ap, subst, ◌∙◌, arith, filter, flat_map}
+use Rattle.bgp_wire.proofs.Std.{◌≡◌, ℕ, ◌+◌, ◌≤◌, Bool, true, false, not, cond, ltb, List, [], ◌∷◌, ◌++◌, length, Option, Some, None, refl, ap, subst, ◌∙◌, arith, filter, flat_map}
 use Rattle.std.proofs.lemmas.Grind.{flat_map-append}
 use Rattle.std.proofs.lemmas.List.{append-nil, length-append}
 use Rattle.bgp_wire.specs.Prelude.{AreOctets}
@@ -17,7 +17,7 @@ use Rattle.bgp_attr.proofs.CanonicalLength.{length-canonical}
 use Rattle.bgp_update.specs.declared.attrs.Attrs.{Attrs}
 use Rattle.bgp_update.specs.declared.note.Note.{Note}
 use Rattle.bgp_update.specs.declared.routes.Routes.{Routes}
-use Rattle.bgp_update.specs.Prelude.{carries_routes, marks_of, gone_ip4, gone_ip6, reached_ip4, reached_ip6, routes_of, Parts, IsBody, present, slot, types_from, canonical_order, kept_of, attrs_of, first_reset, reset_of_run, reset_of, verdict_of, gone_octets, withdrawal_octets, attributes_octets}
+use Rattle.bgp_update.specs.Prelude.{carries_routes, marks_of, gone_ip4, gone_ip6, reached_ip4, reached_ip6, routes_of, Parts, IsBody, present, slot, types_from, canonical_order, kept_of, attrs_of, first_reset, reset_of_run, reset_of, verdict_of, gone_octets, whole_unreach, withdrawal_octets, attributes_octets}
 use Rattle.bgp_update.specs.declared.verdict.Verdict.TheVariants as verdict
 use Rattle.bgp_update.proofs.Verdicts.{has-parts, withdrawn-of}
 use Rattle.bgp_update.proofs.Bodies.{length-body}
@@ -25,6 +25,11 @@ use Rattle.bgp_update.proofs.KeptMarks.{or-parts}
 use Rattle.bgp_update.proofs.SlotLemmas.{slot-at}
 use Rattle.bgp_update.proofs.Taken.{run-row}
 use Rattle.bgp_update.proofs.TakenSlots.{attributes-shorter}
+
+-- where there are routes, they stand behind one head
+pub some_gone : (rs later : List PrefixValue) → ltb 0 (length rs) ≡ true → gone_octets (rs ++ later) ≡ whole_unreach (unreach.Ip6 (rs ++ later))
+some_gone [] later e = absurd cc
+some_gone (r ∷ rs) later e = refl
 
 -- ---- the attributes that carry routes stand first, in at least as many octets
 

@@ -60,21 +60,50 @@ macro_rules! copied {
 }
 
 impl Attrs {
-    /// Equal attributes, with memory of their own.
-    ///
-    /// # Errors
-    /// `AllocError` where an allocation failed.
-    pub fn copy(&self, alloc: Global) -> Result<Attrs, AllocError>
-        ensures { IfOk result (λ copy. copy ≡ self.now) }
+    /// The paths.
+    fn copy_paths(&self, alloc: Global) -> Result<(Option<AsPath>, Option<As4Path>), AllocError>
+        ensures { IfOk result (λ p. (p.0 ≡ self.now.as_path) × (p.1 ≡ self.now.as4_path)) }
     {
         let as_path = copied!(&self.as_path, alloc);
+        let as4_path = copied!(&self.as4_path, alloc);
+        Ok((as_path, as4_path))
+    }
+
+    /// Communities of both kinds.
+    fn copy_communities(
+        &self,
+        alloc: Global,
+    ) -> Result<(Option<Communities>, Option<LargeCommunities>), AllocError>
+        ensures { IfOk result (λ p. (p.0 ≡ self.now.communities) × (p.1 ≡ self.now.large)) }
+    {
         let communities = copied!(&self.communities, alloc);
+        let large = copied!(&self.large, alloc);
+        Ok((communities, large))
+    }
+
+    /// Routes that come and go.
+    fn copy_routes(&self, alloc: Global) -> Result<(Option<MpReach>, Option<MpUnreach>), AllocError>
+        ensures { IfOk result (λ p. (p.0 ≡ self.now.mp_reach) × (p.1 ≡ self.now.mp_unreach)) }
+    {
         let mp_reach = copied!(&self.mp_reach, alloc);
         let mp_unreach = copied!(&self.mp_unreach, alloc);
-        let as4_path = copied!(&self.as4_path, alloc);
-        let large = copied!(&self.large, alloc);
-        let others = self.others.copy(alloc)?;
-        Ok(Attrs {
+        Ok((mp_reach, mp_unreach))
+    }
+
+    /// These attributes with what takes memory in its place.
+    fn with(
+        &self,
+        paths: (Option<AsPath>, Option<As4Path>),
+        communities: (Option<Communities>, Option<LargeCommunities>),
+        routes: (Option<MpReach>, Option<MpUnreach>),
+        others: List<Opaque>,
+    ) -> Attrs
+        ensures { result ≡ record (self.now) { as_path = paths.0; as4_path = paths.1; communities = communities.0; large = communities.1; mp_reach = routes.0; mp_unreach = routes.1; others = others } }
+    {
+        let (as_path, as4_path) = paths;
+        let (communities, large) = communities;
+        let (mp_reach, mp_unreach) = routes;
+        Attrs {
             as_path,
             communities,
             mp_reach,
@@ -83,7 +112,21 @@ impl Attrs {
             large,
             others,
             ..*self
-        })
+        }
+    }
+
+    /// Equal attributes, with memory of their own.
+    ///
+    /// # Errors
+    /// `AllocError` where an allocation failed.
+    pub fn copy(&self, alloc: Global) -> Result<Attrs, AllocError>
+        ensures { IfOk result (λ copy. copy ≡ self.now) }
+    {
+        let paths = self.copy_paths(alloc)?;
+        let communities = self.copy_communities(alloc)?;
+        let routes = self.copy_routes(alloc)?;
+        let others = self.others.copy(alloc)?;
+        Ok(self.with(paths, communities, routes, others))
     }
 }
 
@@ -130,6 +173,11 @@ pub(crate) fn slot(attrs: &Attrs, kind: u8) -> Option<AttrRef<'_>>
         attribute::AS4_PATH => some!(&attrs.as4_path, As4Path),
         attribute::AS4_AGGREGATOR => some!(&attrs.as4_aggregator, As4Aggregator),
         attribute::LARGE_COMMUNITY => some!(&attrs.large, Large),
-        _ => some!(other(&attrs.others, kind), Opaque),
+        _ => {
+            return match other(&attrs.others, kind) {
+                Some(opaque) => Some(AttrRef::Opaque(opaque)),
+                None => None,
+            };
+        }
     })
 }

@@ -15,10 +15,12 @@ pub(crate) struct Body<'a> {
 fn split_behind(octets: &[u8]) -> Option<(&[u8], &[u8])>
     ensures { option_map (λ x. (x.0.now, x.1.now)) result ≡ behind_two octets.now }
 {
-    let (high, rest) = octets.split_first()?;
-    let (low, rest) = rest.split_first()?;
-    let len = usize::from(u16::from_be_bytes([*high, *low]));
-    rest.split_at_checked(len)
+    match octets {
+        [high, low, rest @ ..] => {
+            rest.split_at_checked(usize::from(u16::from_be_bytes([*high, *low])))
+        }
+        _ => None,
+    }
 }
 
 /// The parts of a body, where the lengths leave room for each other.
@@ -27,10 +29,12 @@ pub(crate) fn split_body(body: &[u8]) -> Option<Body<'_>>
     ensures { option_map parts_value result ≡ parts_of body.now }
 {
     let (withdrawn, rest) = split_behind(body)?;
-    let (attributes, nlri) = split_behind(rest)?;
-    Some(Body {
-        withdrawn,
-        attributes,
-        nlri,
-    })
+    match split_behind(rest) {
+        None => None,
+        Some((attributes, nlri)) => Some(Body {
+            withdrawn,
+            attributes,
+            nlri,
+        }),
+    }
 }

@@ -16,7 +16,7 @@ pub struct ByType<'a> {
 }
 
 /// There is a place for each type.
-fn are_all_types(of_type: &[Option<OpaqueView<'_>>; 256])
+pub(crate) fn are_all_types(of_type: &[Option<OpaqueView<'_>>; 256])
     ensures { length of_type.now ≡ 256 }
 {
     let _len = of_type.len();

@@ -49,12 +49,12 @@ impl Failed {
         ensures { result ≡ also_failed self.now ctx.now (ref_value attr.entry) }
     {
         Failed {
-            too_wide: self.too_wide || is_too_wide(ctx, attr),
-            as4: self.as4 || is_as4(attr),
-            other_family: self.other_family || is_out_of_place(ctx, attr),
-            empty: self.empty || is_empty(attr),
-            as_zero: self.as_zero || has_as_zero(attr),
-            twice: self.twice || stands_twice(attr),
+            too_wide: self.too_wide | is_too_wide(ctx, attr),
+            as4: self.as4 | is_as4(attr),
+            other_family: self.other_family | is_out_of_place(ctx, attr),
+            empty: self.empty | is_empty(attr),
+            as_zero: self.as_zero | has_as_zero(attr),
+            twice: self.twice | stands_twice(attr),
         }
     }
 

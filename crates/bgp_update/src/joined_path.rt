@@ -1,14 +1,25 @@
 //! The path that AS_PATH and AS4_PATH give together, borrowed.
 
-ghost use Rattle.std.specs.Prelude.{◌≡◌, IfOk};
-ghost use Rattle.bgp_attr.specs.Prelude.{path_value};
+ghost use Rattle.std.specs.Prelude.{◌≡◌, [], ◌∷◌, ◌++◌, IfOk, OnOk};
+ghost use Rattle.bgp_attr.specs.Prelude.{path_value, segment_value};
 ghost use Rattle.bgp_update.specs.As4.{joined};
 
 use crate::view_items::{items_of, next_leading};
-use bgp_attr::{AsPath, PathView, SegmentIter, SegmentView};
+use bgp_attr::{AsPath, PathView, Segment, SegmentIter, SegmentView};
 use bgp_wire::List;
 use std::alloc::{AllocError, Global};
 use std::iter::FusedIterator;
+
+/// Adds a segment, with memory of its own.
+fn push_own(
+    alloc: Global,
+    segment: SegmentView<'_>,
+    to: &mut List<Segment>,
+) -> Result<(), AllocError>
+    ensures { OnOk result (to.new ≡ to.old ++ segment_value segment.entry ∷ []) }
+{
+    to.push(segment.own(alloc)?)
+}
 
 /// The first items of AS_PATH and then AS4_PATH, or AS_PATH alone, borrowed (RFC 6793, section 4.2.3).
 #[derive(Clone, Copy)]
@@ -71,7 +82,7 @@ impl<'a> JoinedPathView<'a> {
         let mut segments = List::new(alloc);
         let mut left = self.segments();
         'path: while let Some(segment) = left.next() {
-            segments.push(segment.own(alloc)?)?;
+            push_own(alloc, segment, &mut segments)?;
         }
         Ok(AsPath { segments })
     }

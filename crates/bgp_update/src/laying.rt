@@ -23,8 +23,7 @@ pub(crate) fn put_room<O: Output>(out: &mut O) -> Result<(), AllocError>
     ensures ok { OnOk result (O.written out.new ≡ O.written out.old ++ 0 ∷ 0 ∷ []) }
     ensures err { OnErr result (Extends (O.written out.old) (O.written out.new) × (O.room < length (O.written out.old) + 2)) }
 {
-    out.put(&[0, 0])?;
-    Ok(())
+    out.put(&[0, 0])
 }
 
 /// Sets a length field.

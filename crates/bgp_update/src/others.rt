@@ -4,9 +4,11 @@ ghost use Rattle.std.specs.Prelude.{◌≡◌, ◌≤◌, [], length, map, IfOk,
 ghost use Rattle.std.specs.Iterator.{YieldsFirst};
 ghost use Rattle.std.specs.List.{flat_map};
 ghost use Rattle.bgp_attr.specs.Prelude.{attr_value, opaque_value};
+ghost use Rattle.bgp_update.specs.ByType.{IsRowOf};
 ghost use Rattle.bgp_update.specs.Prelude.{attrs_left, place_in, put_rising, as_opaque, rising_behind};
 
 use crate::attr_iter::AttrIter;
+use crate::by_type::{ByType, are_all_types};
 use bgp_attr::{AttrView, Opaque, OpaqueView};
 use bgp_wire::List;
 use std::alloc::{AllocError, Global};
@@ -73,7 +75,24 @@ pub(crate) fn others_in<'a>(
     Ok(others)
 }
 
-/// The same, with memory of their own.
+/// Those that stand in a place, each at its type.
+pub(crate) fn row_of<'a>(
+    alloc: Global,
+    place: &ByType<'a>,
+) -> Result<List<OpaqueView<'a>>, AllocError>
+    ensures { IfOk result (λ row. IsRowOf place.now row) }
+{
+    are_all_types(&place.of_type);
+    let mut others = List::new(alloc);
+    'types: for found in &place.of_type {
+        if let Some(opaque) = found {
+            others.push(*opaque)?;
+        }
+    }
+    Ok(others)
+}
+
+/// These, with memory of their own.
 pub(crate) fn own_others(
     alloc: Global,
     others: &[OpaqueView<'_>],

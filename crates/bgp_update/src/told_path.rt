@@ -44,8 +44,7 @@ fn put_number(number: AsNumber, out: &mut Vec<u8>) -> Result<(), AllocError>
     ensures err { OnErr result (Extends out.old.items out.new.items) }
 {
     let [_, _, high, low] = narrow_number(number).0.to_be_bytes();
-    out.extend_from_slice(&[high, low])?;
-    Ok(())
+    out.extend_from_slice(&[high, low])
 }
 
 /// Adds numbers.

@@ -2,6 +2,7 @@
 
 ghost use Rattle.std.specs.Prelude.{◌≡◌, ◌≤◌, ◌+◌, [], length, option_map};
 ghost use Rattle.std.specs.List.{list_any};
+ghost use Rattle.bgp_wire.specs.Octets.{AreOctets};
 ghost use Rattle.bgp_update.specs.Body.{parts_value};
 ghost use Rattle.bgp_update.specs.KeptView.{known_of, known_value};
 ghost use Rattle.bgp_update.specs.Marks.{marks_of};
@@ -20,7 +21,7 @@ use crate::mark::MarkIter;
 use crate::missing::{Missing, missing_in};
 use crate::note::Note;
 use crate::note_iter::NoteIter;
-use crate::others::{others_in, own_others};
+use crate::others::{others_in, own_others, row_of};
 use crate::routes::Routes;
 use crate::routes_view::RoutesView;
 use crate::summary::Summary;
@@ -57,6 +58,9 @@ pub enum View<'a> {
     Reset(Notification),
 }
 
+/// Of attributes in no more octets, few can be of types that aren't recognised.
+const FEW_OCTETS: usize = 256;
+
 /// Whether an MP_REACH_NLRI has a route.
 fn has_routes(reach: &Option<MpReachView<'_>>) -> bool
     ensures { result ≡ has_routes (option_map reach_value reach.now) }
@@ -66,6 +70,13 @@ fn has_routes(reach: &Option<MpReachView<'_>>) -> bool
         Some(MpReachView::Ip4 { nlri, .. }) => nlri.has_next(),
         Some(MpReachView::Ip6 { nlri, .. }) => nlri.has_next(),
     }
+}
+
+/// What a body has are octets: nothing is done.
+fn are_octets(body: &[u8])
+    ensures { AreOctets body.now }
+{
+    let _len = body.len();
 }
 
 impl<'a> UpdateView<'a> {
@@ -241,11 +252,23 @@ impl<'a> UpdateView<'a> {
         ensures value { IfOk result (λ os. map opaque_value os ≡ (update_value self.now).attrs.others) }
         ensures err { OnErr result (list_any is_opaque (kept_of (view_marks self.now)) ≡ true) }
     {
-        if self.summary.kept.others {
+        if !self.summary.kept.others {
+            Ok(List::new(alloc))
+        } else if self.body.attributes.len() <= FEW_OCTETS {
             others_in(alloc, self.attrs())
         } else {
-            Ok(List::new(alloc))
+            self.sorted_others(alloc)
         }
+    }
+
+    /// The same of a field that may have many: each stands at its type first, since a row moves whenever one is put before others.
+    fn sorted_others(&self, alloc: Global) -> Result<List<OpaqueView<'a>>, AllocError>
+        ensures { IfOk result (λ os. map opaque_value os ≡ (update_value self.now).attrs.others) }
+    {
+        are_octets(self.body.attributes);
+        let mut place = ByType::new();
+        self.sort_others(&mut place);
+        row_of(alloc, &place)
     }
 
     /// Puts the kept attributes of types that aren't recognised into a place, each at its type. It takes no memory.

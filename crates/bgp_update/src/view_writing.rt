@@ -159,7 +159,14 @@ fn put_body<'a, S: OfType<'a>, O: Output>(
     ensures full { OnErr result (O.room < length (O.written out.old) + length (written_body ctx.now (update_among view.now (S.others others.now)))) }
 {
     let start = out.len();
-    match put_parts(ctx, view.withdrawn(), view.kept(), others, view.nlri(), out) {
+    match put_parts(
+        ctx,
+        view.withdrawn(),
+        &view.summary.kept,
+        others,
+        view.nlri(),
+        out,
+    ) {
         Ok(places) => {
             set_lengths(start, places, out);
             Ok(())

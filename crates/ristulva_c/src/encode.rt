@@ -1,7 +1,7 @@
 //! UPDATEs in their written form.
 
 ghost use Rattle.std.specs.Prelude.{◌≡◌, ◌≤◌, true, false, ℕ, List, Option, None, Some, length, option_map, IfOk};
-ghost use Rattle.bgp_update.specs.Prelude.{HasNoAs4, with_as4, invalid_of, verdict_of, update_value, notes_value};
+ghost use Rattle.bgp_update.specs.Prelude.{HasNoAs4, with_as4, invalid_of, narrowed_update, verdict_of, update_value, notes_value};
 ghost use Rattle.ristulva_c.specs.Prelude.{context_of, taken_of, without_notes, written_of, encoded_of, narrowed_of, IsCoded, Writes, IsEncoded, IsNarrowed};
 
 use crate::context::{SessionContext, context_of};
@@ -10,7 +10,7 @@ use crate::status::{MEMORY, RANGE, REFUSED, UNWRITABLE};
 use crate::written::write;
 use bgp_msg::encode_update;
 use bgp_open::Context;
-use bgp_update::{Found, Update, UpdateView, WriteFault, narrow_in_place};
+use bgp_update::{Found, Update, UpdateView, WriteFault, into_narrowed};
 use std::alloc::{AllocError, Global};
 
 /// What comes of a body.
@@ -26,36 +26,35 @@ pub(crate) enum Coded {
     Octets(Vec<u8>),
 }
 
-/// What is coded, or that an allocation failed.
-pub(crate) fn or_memory(coded: Result<Coded, AllocError>) -> Coded
-    ensures { (form : Option (List ℕ)) → IfOk coded (λ it. IsCoded it (Some form)) → IsCoded result (Some form) }
-{
-    match coded {
-        Ok(it) => it,
-        Err(_) => Coded::Memory,
-    }
-}
-
 /// The message of an UPDATE in its written form, where it can be written.
-pub(crate) fn written(alloc: Global, ctx: &Context, update: &Update) -> Result<Coded, AllocError>
-    ensures { IfOk result (λ it. IsCoded it (Some (written_of ctx.now update.now))) }
+fn written(alloc: Global, ctx: &Context, update: &Update) -> Coded
+    ensures { IsCoded result (Some (written_of ctx.now update.now)) }
 {
     let mut octets = Vec::new(alloc);
     match encode_update(ctx, update, &mut octets) {
-        Ok(()) => Ok(Coded::Octets(octets)),
-        Err(WriteFault::Memory) => Err(AllocError),
-        Err(WriteFault::NotValid(_why)) => Ok(Coded::Unwritable),
-        Err(WriteFault::TooLong) => Ok(Coded::Unwritable),
+        Ok(()) => Coded::Octets(octets),
+        Err(WriteFault::Memory) => Coded::Memory,
+        Err(WriteFault::NotValid(_why)) => Coded::Unwritable,
+        Err(WriteFault::TooLong) => Coded::Unwritable,
     }
 }
 
-/// The message of an UPDATE that is accepted: it can be written.
-fn rewritten(alloc: Global, ctx: &Context, view: &UpdateView<'_>) -> Result<Coded, AllocError>
-    requires { written_of ctx.now (update_value view.now) ≡ encoded_of ctx.now (update_value view.now) }
-    ensures { IfOk result (λ it. IsCoded it (Some (encoded_of ctx.now (update_value view.now)))) }
+/// The same of one that is given up: in a call of its own, since proofs pay for each place where an UPDATE is dropped.
+pub(crate) fn written_last(alloc: Global, ctx: &Context, update: Update) -> Coded
+    ensures { IsCoded result (Some (written_of ctx.now update)) }
 {
-    let update = view.own(alloc)?;
     written(alloc, ctx, &update)
+}
+
+/// The message of an UPDATE that is accepted: it can be written.
+fn rewritten(alloc: Global, ctx: &Context, view: &UpdateView<'_>) -> Coded
+    requires { written_of ctx.now (update_value view.now) ≡ encoded_of ctx.now (update_value view.now) }
+    ensures { IsCoded result (Some (encoded_of ctx.now (update_value view.now))) }
+{
+    match view.own(alloc) {
+        Ok(update) => written_last(alloc, ctx, update),
+        Err(_) => Coded::Memory,
+    }
 }
 
 /// The same, where it has no note.
@@ -65,7 +64,7 @@ fn whole(alloc: Global, ctx: &Context, view: &UpdateView<'_>) -> Coded
 {
     match view.notes().next() {
         Some(_) => Coded::Refused,
-        None => or_memory(rewritten(alloc, ctx, view)),
+        None => rewritten(alloc, ctx, view),
     }
 }
 
@@ -118,17 +117,34 @@ pub(crate) fn with_as4(as4: bool, ctx: &Context) -> Context
     Context { as4, ..*ctx }
 }
 
+/// An UPDATE as a speaker with AS numbers of two octets is told it.
+fn told(alloc: Global, update: Update) -> Result<Update, AllocError>
+    requires { HasNoAs4 update.attrs }
+    ensures { IfOk result (λ it. it ≡ narrowed_update update) }
+{
+    let attrs = into_narrowed(alloc, update.attrs)?;
+    Ok(Update {
+        withdrawn: update.withdrawn,
+        attrs,
+        nlri: update.nlri,
+    })
+}
+
 /// The message of an UPDATE that is accepted, as a speaker with AS numbers of two octets is told it, where it can be written.
-fn renarrowed(alloc: Global, ctx: &Context, view: &UpdateView<'_>) -> Result<Coded, AllocError>
+fn renarrowed(alloc: Global, ctx: &Context, view: &UpdateView<'_>) -> Coded
     requires plain { HasNoAs4 (update_value view.now).attrs }
     requires wide { ctx.now.as4 ≡ true }
     requires valid { invalid_of ctx.now (update_value view.now) ≡ None }
-    ensures { IfOk result (λ it. IsCoded it (Some (narrowed_of ctx.now (update_value view.now)))) }
+    ensures { IsCoded result (Some (narrowed_of ctx.now (update_value view.now))) }
 {
-    let mut update = view.own(alloc)?;
-    narrow_in_place(alloc, &mut update.attrs)?;
     let narrow_ctx = with_as4(false, ctx);
-    written(alloc, &narrow_ctx, &update)
+    let Ok(update) = view.own(alloc) else {
+        return Coded::Memory;
+    };
+    match told(alloc, update) {
+        Ok(told) => written_last(alloc, &narrow_ctx, told),
+        Err(_) => Coded::Memory,
+    }
 }
 
 /// The same, where it has no note.
@@ -140,7 +156,7 @@ fn whole_narrowed(alloc: Global, ctx: &Context, view: &UpdateView<'_>) -> Coded
 {
     match view.notes().next() {
         Some(_) => Coded::Refused,
-        None => or_memory(renarrowed(alloc, ctx, view)),
+        None => renarrowed(alloc, ctx, view),
     }
 }
 

@@ -1,36 +1,41 @@
 //! UPDATEs of a session with AS numbers of two octets, as speakers with four see them.
 
-ghost use Rattle.std.specs.Prelude.{◌≡◌, ◌≤◌, false, Some, length, option_map, IfOk, OnOk};
+ghost use Rattle.std.specs.Prelude.{◌≡◌, ◌≤◌, false, Some, length, option_map, IfOk};
 ghost use Rattle.bgp_update.specs.Prelude.{verdict_of, update_value, notes_value, with_as4};
-ghost use Rattle.ristulva_c.specs.Prelude.{context_of, taken_of, without_notes, IsCoded, rebuilt_attrs, reconciled_of, IsReconciled};
+ghost use Rattle.ristulva_c.specs.Prelude.{context_of, taken_of, without_notes, IsCoded, rebuilt_update, reconciled_of, IsReconciled};
 
 use crate::context::{SessionContext, context_of};
-use crate::encode::{Coded, or_memory, tell, with_as4, written};
+use crate::encode::{Coded, tell, with_as4, written_last};
 use crate::status::RANGE;
 use bgp_open::Context;
-use bgp_update::{Attrs, Found, UpdateView, reconcile};
+use bgp_update::{Found, Update, UpdateView, reconcile};
 use std::alloc::{AllocError, Global};
 
-/// Puts the path and the aggregator that AS4_PATH and AS4_AGGREGATOR give back in the place of all four.
-fn rebuild(alloc: Global, attrs: &mut Attrs) -> Result<(), AllocError>
-    ensures { OnOk result (attrs.new ≡ rebuilt_attrs attrs.old) }
+/// An UPDATE with the path and the aggregator that AS4_PATH and AS4_AGGREGATOR give back in the place of all four.
+fn rebuild(alloc: Global, update: Update) -> Result<Update, AllocError>
+    ensures { IfOk result (λ it. it ≡ rebuilt_update update) }
 {
-    let info = reconcile(alloc, attrs)?;
-    attrs.as_path = info.path;
-    attrs.aggregator = info.aggregator;
-    attrs.as4_path = None;
-    attrs.as4_aggregator = None;
-    Ok(())
+    let info = reconcile(alloc, &update.attrs)?;
+    let mut rebuilt = update;
+    rebuilt.attrs.as_path = info.path;
+    rebuilt.attrs.aggregator = info.aggregator;
+    rebuilt.attrs.as4_path = None;
+    rebuilt.attrs.as4_aggregator = None;
+    Ok(rebuilt)
 }
 
 /// The message of an UPDATE that is accepted, with AS numbers of four octets, where it can be written.
-fn rebuilt(alloc: Global, ctx: &Context, view: &UpdateView<'_>) -> Result<Coded, AllocError>
-    ensures { IfOk result (λ it. IsCoded it (Some (reconciled_of ctx.now (update_value view.now)))) }
+fn rebuilt(alloc: Global, ctx: &Context, view: &UpdateView<'_>) -> Coded
+    ensures { IsCoded result (Some (reconciled_of ctx.now (update_value view.now))) }
 {
-    let mut update = view.own(alloc)?;
-    rebuild(alloc, &mut update.attrs)?;
     let wide = with_as4(true, ctx);
-    written(alloc, &wide, &update)
+    let Ok(update) = view.own(alloc) else {
+        return Coded::Memory;
+    };
+    match rebuild(alloc, update) {
+        Ok(rebuilt) => written_last(alloc, &wide, rebuilt),
+        Err(_) => Coded::Memory,
+    }
 }
 
 /// The same, where it has no note.
@@ -39,7 +44,7 @@ fn whole_rebuilt(alloc: Global, ctx: &Context, view: &UpdateView<'_>) -> Coded
 {
     match view.notes().next() {
         Some(_) => Coded::Refused,
-        None => or_memory(rebuilt(alloc, ctx, view)),
+        None => rebuilt(alloc, ctx, view),
     }
 }
 

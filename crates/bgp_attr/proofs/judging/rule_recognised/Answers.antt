@@ -27,3 +27,18 @@ returns-in-18 c = (ap is_recognised c.in-18.is, λ a. c.rule_as4_aggregator.ensu
 
 pub returns-in-32 : goal.returns-in-32
 returns-in-32 c = (ap is_recognised c.in-32.is, λ a. c.rule_large.ensures a ∙ tests_at c.args.ctx.now c.args.has_nlri (tlv_value c.args.tlv.now) attribute.LARGE_COMMUNITY c.in-32.is a)
+
+pub returns-in-1 : goal.returns-in-1
+returns-in-1 c = (ap is_recognised c.in-1.is, λ a. c.rule_origin.ensures a ∙ tests_at c.args.ctx.now c.args.has_nlri (tlv_value c.args.tlv.now) attribute.ORIGIN c.in-1.is a)
+
+pub returns-in-3 : goal.returns-in-3
+returns-in-3 c = (ap is_recognised c.in-3.is, λ a. c.rule_next_hop.ensures a ∙ tests_at c.args.ctx.now c.args.has_nlri (tlv_value c.args.tlv.now) attribute.NEXT_HOP c.in-3.is a)
+
+pub returns-in-5 : goal.returns-in-5
+returns-in-5 c = (ap is_recognised c.in-5.is, λ a. c.rule_internal.ensures a ∙ tests_at c.args.ctx.now c.args.has_nlri (tlv_value c.args.tlv.now) attribute.LOCAL_PREF c.in-5.is a)
+
+pub returns-in-6 : goal.returns-in-6
+returns-in-6 c = (ap is_recognised c.in-6.is, λ a. c.rule_atomic.ensures a ∙ tests_at c.args.ctx.now c.args.has_nlri (tlv_value c.args.tlv.now) attribute.ATOMIC_AGGREGATE c.in-6.is a)
+
+pub returns-in-8 : goal.returns-in-8
+returns-in-8 c = (ap is_recognised c.in-8.is, λ a. c.rule_communities.ensures a ∙ tests_at c.args.ctx.now c.args.has_nlri (tlv_value c.args.tlv.now) attribute.COMMUNITIES c.in-8.is a)

@@ -1,5 +1,6 @@
 use Rattle.bgp_wire.proofs.Std.{true, get_or, get_or_default}
 use Rattle.bgp_attr.specs.Prelude.{number_octets, IsFourOctets}
+use Rattle.bgp_wire.proofs.Writes.{one_written, all_written}
 use Rattle.bgp_attr.proofs.Parts.{on_refusal, row_stopped}
 use Rattle.bgp_attr.proofs.put.put_numbers.Goals as goal
 
@@ -7,3 +8,13 @@ pub returns-in_err-put_number-clause-err : goal.returns-in_err-put_number-clause
 returns-in_err-put_number-clause-err g c =
     let written = g.O.Output.written in
     on_refusal c.from_residual.result (row_stopped (number_octets true) IsFourOctets c.args.numbers.now c.row.number-index (written c.args.out.now) (written c.row.out) c.row.invariant g.O.Output.room (get_or c.args.numbers.now c.row.number-index 0) (written c.put_number.new.out) c.row-test.true (get_or_default c.args.numbers.now c.row.number-index 0 (get_or c.args.numbers.now c.row.number-index 0) c.row-test.true) c.in_err-put_number.ensures.err)
+
+pub row-preserved : goal.row-preserved
+row-preserved g c =
+    let written = g.O.Output.written in
+    one_written (number_octets true) IsFourOctets c.args.numbers.now c.row.number-index (written c.args.out.now) (written c.row.out) c.row.invariant (get_or c.args.numbers.now c.row.number-index 0) (written c.put_number.new.out) c.row-test.true (get_or_default c.args.numbers.now c.row.number-index 0 (get_or c.args.numbers.now c.row.number-index 0) c.row-test.true) c.in_ok-put_number.ensures.ok.0 c.in_ok-put_number.ensures.ok.1
+
+pub returns-clause-ok : goal.returns-clause-ok
+returns-clause-ok g c =
+    let all = all_written (number_octets true) IsFourOctets c.args.numbers.now c.row.number-index (g.O.Output.written c.args.out.now) (g.O.Output.written c.row.out) c.row.invariant c.row-test.false in
+    (all.items, all.ranges)

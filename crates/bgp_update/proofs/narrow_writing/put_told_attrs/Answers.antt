@@ -1,8 +1,8 @@
-use Rattle.bgp_wire.proofs.Std.{◌≡◌, ◌<◌, get_or, length, true, refl, sym, subst, List, [], ◌∷◌, arith, AllByRecursion, err_from_is_err_and}
+use Rattle.bgp_wire.proofs.Std.{◌≡◌, ◌<◌, ◌++◌, get_or, length, true, refl, sym, ap, ◌∙◌, subst, List, [], ◌∷◌, arith, flat_map, AllByRecursion, err_from_is_err_and}
 use Rattle.bgp_attr.specs.declared.attr.Attr.{Attr}
 use Rattle.bgp_attr.specs.Prelude.{canonical, is_writable}
 use Rattle.bgp_update.specs.Prelude.{slot, told_attrs}
-use Rattle.bgp_update.proofs.SlotSteps.{so_far, all_of_type, type_written, written_more}
+use Rattle.bgp_update.proofs.SlotSteps.{so_far, all_of_type, all_walked, type_written, written_more}
 use Rattle.bgp_update.proofs.narrow_writing.put_told_attrs.Goals as goal
 
 pub put_slot-requires-clause-writable : goal.put_slot-requires-clause-writable
@@ -33,3 +33,10 @@ types-preserved c =
     let lt : c.types.kind-index < length kinds = omega (arith, c.types-test.true) in
     type_written (slot told) kinds c.types.kind-index kind lt refl (canonical c.args.ctx.now) (λ (a : Attr). Unit {0}) c.args.out.now.items c.types.out.items c.types.invariant c.put_slot.new.out.items
     c.in_ok-put_slot.ensures.ok (each (slot told kind))
+
+pub returns-clause-ok : goal.returns-clause-ok
+returns-clause-ok c =
+    let told = told_attrs c.args.kept.now c.args.others.now in
+    c.types.invariant.items
+    ∙ ap (λ (xs : List Attr). c.args.out.now.items ++ flat_map (canonical c.args.ctx.now) xs)
+    (all_walked (slot told) c.told_types-kinds.result.now c.types.kind-index c.types-test.false ∙ c.told_types-kinds.ensures told refl)
