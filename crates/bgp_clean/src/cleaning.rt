@@ -1,7 +1,7 @@
 //! Cleaning a message.
 
 ghost use Rattle.std.specs.Prelude.{◌≡◌, ◌+◌, ◌<◌, ◌≤◌, Ok, length, IfOk, OnErr};
-ghost use Rattle.bgp_wire.specs.Prelude.{has_octet, AreOctets};
+ghost use Rattle.bgp_wire.specs.Prelude.{has_octet};
 ghost use Rattle.bgp_frame.specs.Prelude.{octets_of, IsLength, message_in};
 ghost use Rattle.bgp_update.specs.Prelude.{routes_value, withdrawal_octets};
 ghost use Rattle.bgp_msg.specs.declared.message.Message.{Message};
@@ -18,15 +18,8 @@ use bgp_frame::Frame;
 use bgp_msg::{OutcomeView, view_frame};
 use bgp_open::Context;
 use bgp_update::UpdateView;
-use bgp_wire::{OctetSet, Output};
+use bgp_wire::{OctetSet, Output, are_octets};
 use std::alloc::AllocError;
-
-/// What a body has are octets: nothing is done.
-fn are_octets(body: &[u8])
-    ensures { AreOctets body.now }
-{
-    let _len = body.len();
-}
 
 /// Appends the UPDATE that withdraws the routes of one.
 fn clean_withdrawal<O: Output>(

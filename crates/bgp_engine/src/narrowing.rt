@@ -1,7 +1,7 @@
 //! The engine `narrow_stream`.
 
 ghost use Rattle.std.specs.Prelude.{◌≡◌, ◌+◌, ◌≤◌, ◌++◌, true, false, length, None, Some, IfOk, OnOk};
-ghost use Rattle.bgp_engine.specs.Below.{AreOctets, octets_of, IsLength, message_in};
+ghost use Rattle.bgp_engine.specs.Below.{octets_of, IsLength, message_in};
 ghost use Rattle.bgp_engine.specs.Below.{out_of, narrowed_update, CanBeTold, update_value, with_as4};
 ghost use Rattle.bgp_msg.specs.declared.message.Message.TheVariants as message;
 ghost use Rattle.bgp_engine.specs.steps.PageSteps.{WritesNarrow};
@@ -17,6 +17,7 @@ use bgp_frame::{End, Frame, HeadFault, head};
 use bgp_msg::{OutcomeView, encode_narrowed, view_frame};
 use bgp_open::Context;
 use bgp_update::{NarrowFault, UpdateView};
+use bgp_wire::are_octets;
 use std::alloc::{AllocError, Global};
 use std::io::{Read, Write};
 
@@ -46,13 +47,6 @@ fn put_view(
         Err(NarrowFault::Memory) => Err(AllocError),
         Err(NarrowFault::TooLong) => Ok(Class::Reset),
     }
-}
-
-// What a body has are octets: nothing is done.
-fn are_octets(body: &[u8])
-    ensures { AreOctets body.now }
-{
-    let _len = body.len();
 }
 
 // Appends a message as it is handed on. An UPDATE that is taken where numbers have four octets has none of the attributes for two.

@@ -1,23 +1,28 @@
 //! Addresses and prefixes as JSON strings.
 
-ghost use Rattle.std.specs.Prelude.{◌≡◌, ◌++◌, OnOk};
+ghost use Rattle.std.specs.Prelude.{◌≡◌, ◌++◌, codes, OnOk};
 ghost use Rattle.bgp_text.specs.Below.{string_bytes};
 ghost use Rattle.bgp_text.specs.Json.{member};
-ghost use Rattle.bgp_text.specs.JsonAddress.{ip4_json, ip6_json, prefix4_json, prefix6_json};
+ghost use Rattle.bgp_text.specs.JsonAddress.{ip4_json, ip6_json, ip6_text, prefix4_json, prefix6_json};
 
 use crate::json::{put_name, put_string};
 use crate::json_list::Element;
+use crate::word::Word;
 use bgp_prefix::{Address, Prefix};
 use std::alloc::AllocError;
 use std::net::Ipv6Addr;
 
-/// Adds an IPv6 address.
-#[tactic(auto, unfolding(crate::specs::Json::quoted, crate::specs::JsonAddress::ip6_text))]
-fn put_ip6(text: &mut String, address: [u8; 16]) -> Result<(), AllocError>
-    ensures { OnOk result (string_bytes text.new ≡ string_bytes text.old ++ ip6_json address) }
+/// Adds an IPv6 address behind a quotation mark. That of all zeros takes the least octets on the wire, and is at hand.
+#[tactic(auto, unfolding(crate::specs::JsonAddress::ip6_text))]
+fn put_ip6_text(text: &mut String, address: [u8; 16]) -> Result<(), AllocError>
+    ensures { OnOk result (string_bytes text.new ≡ string_bytes text.old ++ (codes "\"" ++ ip6_text address)) }
 {
-    let groups = Ipv6Addr::from_octets(address).hex_groups();
-    write!(text, "\"{groups}\"")
+    let address = Ipv6Addr::from_octets(address);
+    if address.is_unspecified() {
+        return text.push_str("\"::");
+    }
+    let groups = address.hex_groups();
+    write!(text, "\"{groups}")
 }
 
 /// Adds a member that is an IPv4 address.
@@ -33,6 +38,7 @@ pub(crate) fn put_ip4_member(
 }
 
 /// Adds a member that is an IPv6 address.
+#[tactic(auto, unfolding(crate::specs::Json::quoted))]
 pub(crate) fn put_ip6_member(
     text: &mut String,
     name: &str,
@@ -41,7 +47,8 @@ pub(crate) fn put_ip6_member(
     ensures { OnOk result (string_bytes text.new ≡ string_bytes text.old ++ member name.now ip6_json address) }
 {
     put_name(text, name)?;
-    put_ip6(text, address)
+    put_ip6_text(text, address)?;
+    text.push_str("\"")
 }
 
 impl Element for Prefix<4> {
@@ -59,10 +66,12 @@ impl Element for Prefix<16> {
 
     ghost json = { prefix6_json };
 
-    #[tactic(auto, unfolding(crate::specs::Json::quoted, crate::specs::JsonAddress::ip6_text))]
+    #[tactic(auto, unfolding(crate::specs::Json::quoted))]
     fn put_json(&self, text: &mut String) -> Result<(), AllocError> {
-        let groups = Ipv6Addr::from_octets(self.addr()).hex_groups();
-        let len = self.len();
-        write!(text, "\"{groups}/{len}\"")
+        put_ip6_text(text, self.addr())?;
+        let mut word = Word::new();
+        word.character(b'"');
+        word.marked(b'/', self.len());
+        text.push_str(word.text())
     }
 }

@@ -90,15 +90,32 @@ impl Attrs {
         Ok((mp_reach, mp_unreach))
     }
 
-    /// These attributes with what takes memory in its place.
-    fn with(
-        &self,
+    /// The attributes that take no memory, and these others.
+    #[inline(always)]
+    fn values(&self, others: List<Opaque>) -> Attrs
+        ensures { result ≡ record (self.now) { as_path = None; communities = None; mp_reach = None; mp_unreach = None; as4_path = None; large = None; others = others } }
+    {
+        Attrs {
+            as_path: None,
+            communities: None,
+            mp_reach: None,
+            mp_unreach: None,
+            as4_path: None,
+            large: None,
+            others,
+            ..*self
+        }
+    }
+
+    /// With what takes memory. It is inlined, since it is built where it is to stand then.
+    #[inline(always)]
+    pub(crate) fn with(
+        self,
         paths: (Option<AsPath>, Option<As4Path>),
         communities: (Option<Communities>, Option<LargeCommunities>),
         routes: (Option<MpReach>, Option<MpUnreach>),
-        others: List<Opaque>,
     ) -> Attrs
-        ensures { result ≡ record (self.now) { as_path = paths.0; as4_path = paths.1; communities = communities.0; large = communities.1; mp_reach = routes.0; mp_unreach = routes.1; others = others } }
+        ensures { result ≡ record self { as_path = paths.0; as4_path = paths.1; communities = communities.0; large = communities.1; mp_reach = routes.0; mp_unreach = routes.1 } }
     {
         let (as_path, as4_path) = paths;
         let (communities, large) = communities;
@@ -110,8 +127,7 @@ impl Attrs {
             mp_unreach,
             as4_path,
             large,
-            others,
-            ..*self
+            ..self
         }
     }
 
@@ -126,7 +142,7 @@ impl Attrs {
         let communities = self.copy_communities(alloc)?;
         let routes = self.copy_routes(alloc)?;
         let others = self.others.copy(alloc)?;
-        Ok(self.with(paths, communities, routes, others))
+        Ok(self.values(others).with(paths, communities, routes))
     }
 }
 

@@ -241,24 +241,16 @@ impl<'a> KeptView<'a> {
         Ok((mp_reach, mp_unreach))
     }
 
-    /// The attributes with memory of their own, and these others. It is inlined, since it is built where it is to stand then.
+    /// The attributes with memory of their own, and these others.
     #[tactic(auto, unfolding(crate::specs::Fields::attrs_from))]
     #[inline(always)]
     pub(crate) fn own(&self, alloc: Global, others: List<Opaque>) -> Result<Attrs, AllocError>
         ensures { IfOk result (λ a. a ≡ record (known_value self.now) { others = others }) }
     {
-        let (as_path, as4_path) = self.own_paths(alloc)?;
-        let (communities, large) = self.own_communities(alloc)?;
-        let (mp_reach, mp_unreach) = self.own_routes(alloc)?;
-        Ok(Attrs {
-            as_path,
-            communities,
-            mp_reach,
-            mp_unreach,
-            as4_path,
-            large,
-            ..self.values(others)
-        })
+        let paths = self.own_paths(alloc)?;
+        let communities = self.own_communities(alloc)?;
+        let routes = self.own_routes(alloc)?;
+        Ok(self.values(others).with(paths, communities, routes))
     }
 }
 

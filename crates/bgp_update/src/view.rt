@@ -2,7 +2,6 @@
 
 ghost use Rattle.std.specs.Prelude.{◌≡◌, ◌≤◌, ◌+◌, [], length, option_map};
 ghost use Rattle.std.specs.List.{list_any};
-ghost use Rattle.bgp_wire.specs.Octets.{AreOctets};
 ghost use Rattle.bgp_update.specs.Body.{parts_value};
 ghost use Rattle.bgp_update.specs.KeptView.{known_of, known_value};
 ghost use Rattle.bgp_update.specs.Marks.{marks_of};
@@ -30,7 +29,7 @@ use bgp_attr::{MpReachView, MpUnreachView, Opaque, OpaqueView};
 use bgp_frame::Notification;
 use bgp_open::Context;
 use bgp_prefix::PrefixIter4;
-use bgp_wire::List;
+use bgp_wire::{List, are_octets};
 use std::alloc::{AllocError, Global};
 
 /// The body of an UPDATE that is accepted or treated as a withdrawal, borrowed. What it gives takes no memory.
@@ -70,13 +69,6 @@ fn has_routes(reach: &Option<MpReachView<'_>>) -> bool
         Some(MpReachView::Ip4 { nlri, .. }) => nlri.has_next(),
         Some(MpReachView::Ip6 { nlri, .. }) => nlri.has_next(),
     }
-}
-
-/// What a body has are octets: nothing is done.
-fn are_octets(body: &[u8])
-    ensures { AreOctets body.now }
-{
-    let _len = body.len();
 }
 
 impl<'a> UpdateView<'a> {

@@ -12,7 +12,7 @@ ghost use Rattle.bgp_clean.specs.Prelude.{cleaned, IsCleaned};
 ghost use Rattle.ristulva_c.specs.Prelude.{context_of, is_set, types_in, discarded_in, left_out_in, caps_left_out_in, end_told, handed_told, cleaned_told, handed_octets, Hands, IsHandedOn};
 
 use crate::context::{SessionContext, context_of};
-use crate::judge::{RESET, are_octets, number_of};
+use crate::judge::{RESET, number_of};
 use crate::left_out::{caps_left_out, others_left_out};
 use crate::notes::list_view;
 use crate::status::INCOMPLETE;
@@ -22,7 +22,7 @@ use bgp_frame::{Frame, HeadFault, Step, front};
 use bgp_msg::{OutcomeView, view_frame};
 use bgp_open::Context;
 use bgp_update::UpdateView;
-use bgp_wire::{OctetSet, Page};
+use bgp_wire::{OctetSet, Page, are_octets};
 
 /// A message is handed on, or what stands for it is.
 pub const HANDED_ON: u8 = 0;

@@ -6,10 +6,10 @@ ghost use Rattle.ristulva_c.specs.Context.{context_of};
 
 use crate::batch::{Batch, take_all};
 use crate::context::SessionContext;
-use crate::judge::are_octets;
 use crate::rows_left::{Rows, count_rows, put_rows};
 use bgp_attr::{CommIter, LargeCommIter};
 use bgp_msg::OutcomeView;
+use bgp_wire::are_octets;
 
 /// A community.
 #[repr(C)]

@@ -10,13 +10,14 @@ ghost use Rattle.ristulva_c.specs.declared.status.TheConstants.{OK};
 
 use crate::context::{SessionContext, context_of};
 use crate::handle::DecoderHandle;
-use crate::judge::{Verdict, are_octets, code_of, parts_at, tell};
+use crate::judge::{Verdict, code_of, parts_at, tell};
 use crate::messages::{MESSAGE_MAX, put};
 use crate::parts::no_parts;
 use crate::status::{IN_USE, INCOMPLETE, MEMORY, NO_SESSION, OK, ROOM, STATE};
 use bgp_frame::{Step, front};
 use bgp_msg::{Decoder, Look, Next, OutcomeView};
 use bgp_update::UpdateView;
+use bgp_wire::are_octets;
 use std::alloc::Global;
 
 /// The most octets of a NOTIFICATION's Data field.

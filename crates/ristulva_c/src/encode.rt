@@ -5,12 +5,12 @@ ghost use Rattle.bgp_update.specs.Prelude.{HasNoAs4, with_as4, invalid_of, narro
 ghost use Rattle.ristulva_c.specs.Prelude.{context_of, taken_of, without_notes, written_of, encoded_of, narrowed_of, IsCoded, Writes, IsEncoded, IsNarrowed};
 
 use crate::context::{SessionContext, context_of};
-use crate::judge::are_octets;
 use crate::status::{MEMORY, RANGE, REFUSED, UNWRITABLE};
 use crate::written::write;
 use bgp_msg::encode_update;
 use bgp_open::Context;
 use bgp_update::{Found, Update, UpdateView, WriteFault, into_narrowed};
+use bgp_wire::are_octets;
 use std::alloc::{AllocError, Global};
 
 /// What comes of a body.

@@ -8,7 +8,6 @@ ghost use Rattle.bgp_msg.specs.Prelude.{out_of};
 ghost use Rattle.ristulva_c.specs.Prelude.{context_of, AreWithin, mp_afi, mp_hop, mp_link, hops_told, paths_told, aggregator_as, aggregator_address, origin_number, facts_told, attrs_in, TellsFacts, AreFacts};
 
 use crate::context::{SessionContext, context_of};
-use crate::judge::are_octets;
 use crate::opens::flag_of;
 use crate::origin_as::origin_as;
 use crate::others::count_others;
@@ -21,6 +20,7 @@ use bgp_msg::{OutcomeView, view_frame};
 use bgp_numbers::afi;
 use bgp_numbers::attribute::{AS_PATH, AS4_PATH, COMMUNITIES, LARGE_COMMUNITY};
 use bgp_update::{KeptView, UpdateView};
+use bgp_wire::are_octets;
 
 /// The next hops of an UPDATE. Each flag is 1 where the attribute is kept, else 0.
 #[repr(C)]

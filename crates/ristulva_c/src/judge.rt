@@ -1,7 +1,6 @@
 //! The outcome of a message.
 
 ghost use Rattle.std.specs.Prelude.{◌≡◌, ◌+◌, ◌≤◌, None, length, nat_le, if◌then◌else◌, MatchOption};
-ghost use Rattle.bgp_wire.specs.Prelude.{AreOctets};
 ghost use Rattle.bgp_frame.specs.Prelude.{notification_of_view, IsLength, code_of};
 ghost use Rattle.bgp_frame.specs.declared.step.Step.TheVariants as step;
 ghost use Rattle.bgp_open.specs.declared.context.Context.{Context};
@@ -16,6 +15,7 @@ use crate::status::{INCOMPLETE, OK, ROOM};
 use bgp_frame::{Frame, HeadFault, Kind, NotificationView, Step, front};
 use bgp_msg::{OutcomeView, view_frame};
 use bgp_update::UpdateView;
+use bgp_wire::are_octets;
 
 /// An OPEN is accepted.
 pub const OPEN: u8 = 1;
@@ -185,13 +185,6 @@ fn tell_fault(fault: HeadFault, info: &mut [u8], out: &mut Verdict) -> u32
     let why = fault.answer();
     let outcome = OutcomeView::Reset(why.view());
     tell(0, 0, no_parts(), &outcome, info, out)
-}
-
-/// What is handed in are octets: nothing is done.
-pub(crate) fn are_octets(octets: &[u8])
-    ensures { AreOctets octets.now }
-{
-    let _len = octets.len();
 }
 
 /// Judges the message that octets begin with, in the context of its session. What stands behind it has no effect.

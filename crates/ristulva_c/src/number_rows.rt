@@ -10,11 +10,11 @@ ghost use Rattle.ristulva_c.specs.steps.NumberRows.{numbers_in};
 
 use crate::batch::{Batch, take_all};
 use crate::context::SessionContext;
-use crate::judge::are_octets;
 use crate::rows_left::{Rows, put_rows};
 use bgp_attr::{AsNumberIter, SegKind};
 use bgp_msg::OutcomeView;
 use bgp_update::JoinedPathView;
+use bgp_wire::are_octets;
 
 /// An AS number of a path.
 #[repr(C)]

@@ -12,7 +12,6 @@ ghost use Rattle.ristulva_c.specs.steps.RouteList.{cursor_of};
 ghost use Rattle.ristulva_c.specs.declared.status.TheConstants.{END, INCOMPLETE, OK, RANGE};
 
 use crate::context::{SessionContext, context_of};
-use crate::judge::are_octets;
 use crate::opens::flag_of;
 use crate::parts::fields_of;
 use crate::places::first_of_type;
@@ -25,6 +24,7 @@ use bgp_numbers::attribute::{MP_REACH_NLRI, MP_UNREACH_NLRI};
 use bgp_numbers::{afi, safi};
 use bgp_open::Context;
 use bgp_update::UpdateView;
+use bgp_wire::are_octets;
 
 /// The routes of an UPDATE that are still to come.
 #[repr(C)]

@@ -15,7 +15,7 @@ ghost use Rattle.ristulva_c.specs.steps.RouteRows.{AreWithin, no_prefix, prefix_
 use crate::batch::{Batch, take_all};
 use crate::context::SessionContext;
 use crate::facts::{Paths, paths_told};
-use crate::judge::{UPDATE, WITHDRAW, are_octets};
+use crate::judge::{UPDATE, WITHDRAW};
 use crate::prefixes::{RoutePrefix, prefix_row};
 use crate::rows_left::{Rows, put_rows};
 use crate::span::Span;
@@ -24,6 +24,7 @@ use bgp_msg::OutcomeView;
 use bgp_numbers::afi;
 use bgp_prefix::PrefixIter;
 use bgp_update::UpdateView;
+use bgp_wire::are_octets;
 
 /// Where octets lie in a message: of none, at 0, where there are none.
 #[repr(C)]

@@ -10,12 +10,12 @@ ghost use Rattle.ristulva_c.specs.Sending.{IsOutgoing, Sends, SendsBody};
 use crate::actions::{Actions, actions_told};
 use crate::encode::with_as4;
 use crate::handle::SessionHandle;
-use crate::judge::are_octets;
 use crate::messages::{MESSAGE_MAX, put};
 use crate::status::{MEMORY, MIXED, NO_SESSION, OK, RANGE, REFUSED, ROOM, STATE, UNWRITABLE};
 use bgp_machine::{ActionView, SendFault, Session, State, Timer};
 use bgp_open::Context;
 use bgp_update::{Found, Update, UpdateView};
+use bgp_wire::are_octets;
 use std::alloc::Global;
 
 /// What comes of a body that is to be sent.
