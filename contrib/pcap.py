@@ -1,22 +1,30 @@
 """The BGP sessions of a capture of packets, as `tshark` reads it: what from-pcap and why share."""
 import collections
 import ipaddress
+import os
+import select
+import shutil
+import signal
 import subprocess
+import sys
+import tempfile
 
 import streams
 
 FIELDS = [
-    "tcp.stream", "ip.src", "ipv6.src", "tcp.srcport", "ip.dst", "ipv6.dst", "tcp.dstport", "tcp.seq_raw", "tcp.flags", "frame.time_epoch", "tcp.payload",
+    "tcp.stream", "ip.src", "ipv6.src", "tcp.srcport", "ip.dst", "ipv6.dst", "tcp.dstport", "tcp.seq_raw", "tcp.ack_raw", "tcp.flags", "tcp.len",
+    "frame.time_epoch", "icmp.type", "icmp.code", "icmpv6.type", "icmpv6.code", "udp.srcport", "udp.dstport", "tcp.payload",
 ]
 FIN, SYN, RST, ACK = 0x01, 0x02, 0x04, 0x10
 NUMBERS = 1 << 32
-MULTIPROTOCOL, NEXT_HOPS, EXTENDED, FOUR_OCTETS, ADD_PATH = 1, 5, 6, 65, 69
-IP4_UNICAST, IP6_UNICAST = b"\0\1\0\1", b"\0\2\0\1"
+
+# A connection that is over is told once nothing more came for so many seconds, on the capture's clock, or on ours where the capture comes in at present.
+LATE, IDLE = 2, 1
 
 End = collections.namedtuple("End", "address port")
 Way = collections.namedtuple("Way", "connection source target")
-Said = collections.namedtuple("Said", "number wide families hold capabilities")
-Message = collections.namedtuple("Message", "place kind octets time")
+Packet = collections.namedtuple("Packet", "way number acknowledged flags size time order octets")
+Segment = collections.namedtuple("Segment", "place octets time size acknowledged")
 
 
 class Direction:
@@ -24,53 +32,112 @@ class Direction:
 
     def __init__(self):
         self.origin, self.place, self.begin, self.segments = None, 0, None, []
-        self.times, self.opens, self.fin, self.rst, self.last = [], False, None, None, None
+        self.packets = self.attempts = 0
+        self.opens, self.answers, self.fin, self.rst, self.first, self.last = False, False, None, None, None, None
+        self.acknowledged = self.first_acknowledged = self.unreachable = self.end = None
+        self.base = 0
 
-    def add(self, number, flags, octets, time):
+    def add(self, packet):
         """Adds a segment. The number of a SYN is that before the first octet's."""
-        first = number + bool(flags & SYN)
+        flags, time = packet.flags, packet.time
+        first = packet.number + bool(flags & SYN)
         if self.origin is None:
-            self.origin = first
-        self.place += signed(first - self.origin - self.place)
-        if flags & SYN and self.begin is None:
-            self.begin, self.opens = self.place, not flags & ACK
-        if octets:
-            self.segments.append((self.place, octets, time))
-        self.fin = time if flags & FIN and self.fin is None else self.fin
-        self.rst = time if flags & RST and self.rst is None else self.rst
+            self.origin, self.first = first, time
+        self.place = self.place_of(first)
+        self.packets += 1
+        if flags & SYN:
+            self.opens, self.answers = not flags & ACK, bool(flags & ACK)
+            self.attempts += 1
+            self.begin = self.place if self.begin is None else self.begin
+        if packet.size:
+            self.segments.append(Segment(self.place, packet.octets, time, packet.size, packet.acknowledged if flags & ACK else None))
+        if flags & ACK:
+            self.acknowledged = packet.acknowledged
+            self.first_acknowledged = packet.acknowledged if self.first_acknowledged is None else self.first_acknowledged
+        # Of two at one time the first in the capture counts.
+        if flags & FIN and self.fin is None:
+            self.fin, self.end = (time, packet.order), self.place + packet.size
+        self.rst = (time, packet.order) if flags & RST and self.rst is None else self.rst
         self.last = time
 
-    def joined(self):
-        """The octets in order up to the first that is missing, and how many were received behind that."""
-        ordered = sorted(self.segments, key=lambda segment: segment[0])
-        begin = ordered[0][0] if self.begin is None else self.begin
-        whole, behind, self.times = bytearray(), 0, []
-        for at, octets, time in ordered:
-            known = begin + len(whole) - at
-            if known < 0:
-                behind += len(octets)
-            elif known < len(octets):
-                whole += octets[known:]
-                self.times.append((len(whole), time))
-        return bytes(whole), behind
+    def place_of(self, number):
+        """The offset that a sequence number stands for."""
+        return self.place + signed(number - self.origin - self.place)
 
-    def messages(self, octets):
-        """Each whole message of the joined octets, with the time of its last octet; of ROUTE-REFRESH how many there are, which are passed over; and the
-        stream without these."""
-        kept, passed, place, read, times = [], 0, 0, 0, iter(self.times)
-        end, time = next(times, (0, None))
-        stream = bytearray()
-        for kind, message in streams.messages_in(octets):
-            read += len(message)
-            while end < read:
-                end, time = next(times)
-            if kind == streams.ROUTE_REFRESH:
-                passed += 1
-                continue
-            kept.append(Message(place, kind, message, time))
-            stream += message
-            place += len(message)
-        return kept, passed, bytes(stream) + octets[read:]
+    def runs(self):
+        """The octets in order, as they came without a gap; offsets count from the first octet of the connection, or the first that was captured."""
+        ordered = sorted((it for it in self.segments if it.octets), key=lambda it: it.place)
+        places = [it.place for it in self.segments]
+        self.base = self.begin if self.begin is not None else min(places, default=self.place)
+        found, octets, ends, times, place = [], bytearray(), [], [], 0
+        for segment in ordered:
+            at = segment.place - self.base
+            known = place + len(octets) - at
+            if known < 0 or not times:
+                if times:
+                    found.append(streams.Run(place, bytes(octets), ends, times))
+                octets, ends, times = bytearray(), [], []
+                place, known = max(at, 0), max(-at, 0)
+            if known < len(segment.octets):
+                octets += segment.octets[known:]
+                ends.append(len(octets))
+                # What was sent before it may have come after it.
+                times.append(max(segment.time, times[-1] if times else segment.time))
+        return found + [streams.Run(place, bytes(octets), ends, times)] * bool(times)
+
+    def sent(self, other):
+        """Up to which offset this end sent octets, captured or not, as its segments and what the other end acknowledges say."""
+        end = max((it.place + it.size for it in self.segments), default=self.place if self.begin is None else self.begin)
+        if other is not None and other.acknowledged is not None and self.origin is not None:
+            # A FIN has a number of its own, captured or not.
+            acknowledged = self.place_of(other.acknowledged)
+            acknowledged -= self.end is not None or acknowledged == end + 1
+            end = max(end, acknowledged) if acknowledged - end < NUMBERS >> 2 else end
+        return end - self.base
+
+    def read(self, other=None):
+        """Reads the messages."""
+        runs = self.runs()
+        reading = streams.Reading(runs, self.begin is not None)
+        last = runs[-1].place + len(runs[-1].octets) if runs else 0
+        end = self.sent(other)
+        if end > last:
+            reading.gaps.append(streams.Gap(last, end, None, None, reading.leave_rest()))
+        return reading
+
+    def is_cut(self):
+        """Whether the capture has segments of which octets were cut off."""
+        return any(len(it.octets) < it.size for it in self.segments)
+
+    def acknowledged_with(self, end):
+        """What this end acknowledged as it first sent the octet before an offset: none where that isn't known."""
+        return next((it.acknowledged for it in self.segments if it.place - self.base < end <= it.place - self.base + it.size), None)
+
+
+class Connection:
+    """A TCP connection: its number, as Wireshark counts, and both directions, that of its opener first."""
+
+    def __init__(self, number):
+        self.number, self.ways = number, {}
+
+    def add(self, packet):
+        """Adds a packet."""
+        self.ways.setdefault(packet.way, Direction()).add(packet)
+
+    def is_over(self):
+        """Whether it is closed."""
+        return any(it.rst is not None for it in self.ways.values()) or sum(it.fin is not None for it in self.ways.values()) == 2
+
+    def last(self):
+        """The time of its last packet."""
+        return max(it.last for it in self.ways.values())
+
+    def both(self, port):
+        """Both directions, with their ways. One that the capture doesn't have is empty."""
+        ways = dict(self.ways)
+        one = next(iter(ways))
+        ways.setdefault(Way(self.number, one.target, one.source), Direction())
+        return sorted(ways.items(), key=lambda it: (not it[1].opens, it[1].answers, it[0].source.port == port))
 
 
 def signed(number):
@@ -78,75 +145,114 @@ def signed(number):
     return (number + NUMBERS // 2) % NUMBERS - NUMBERS // 2
 
 
-def directions(path, port):
-    """Each direction of each connection of this port, by the order of the connections."""
-    command = ["tshark", "-n", "-r", path, "-Y", f"tcp.port == {port} && tcp.flags && !icmp && !icmpv6", "-T", "fields", "-E", "occurrence=l"]
-    for field in FIELDS:
-        command += ["-e", field]
-    found = collections.defaultdict(Direction)
-    with subprocess.Popen(command, stdout=subprocess.PIPE, text=True) as process:
-        for line in process.stdout:
-            connection, source4, source6, source_port, target4, target6, target_port, number, flags, time, payload = line.rstrip("\n").split("\t")
-            source = End(ipaddress.ip_address(source4 or source6), int(source_port))
-            target = End(ipaddress.ip_address(target4 or target6), int(target_port))
-            octets = bytes.fromhex(payload.replace(":", ""))
-            found[Way(int(connection), source, target)].add(int(number), int(flags, 16), octets, float(time))
-    if process.returncode != 0:
-        raise OSError(f"tshark ended with status {process.returncode}")
-    return found
+class Capture:
+    """A capture: its connections of a port, each when it is over where the capture comes in at present, and else at the end. Then `ports` counts the
+    packets of others, `marked` has those of which octets look like BGP, `headless` counts the packets that are cut inside their headers, and `damage`
+    says what `tshark` said."""
+
+    def __init__(self, path, port):
+        self.path, self.port, self.is_live = path, port, path == "-"
+        self.ports, self.marked, self.headless, self.damage = collections.Counter(), set(), 0, None
+        self.connections, self.told, self.latest, self.count = {}, set(), {}, 0
+
+    def __iter__(self):
+        command = ["tshark", "-n", "-l", "-r", self.path, "--disable-protocol", "bgp", "-Y", "tcp || udp", "-T", "fields", "-E", "occurrence=l"]
+        for field in FIELDS:
+            command += ["-e", field]
+        if shutil.which(command[0]) is None:
+            raise OSError("there is no tshark: Debian's package of that name has it")
+        if self.is_live:
+            # What ends the capture, as Ctrl-C does, doesn't end this before all is told; a second one does.
+            signal.signal(signal.SIGINT, lambda *_: signal.signal(signal.SIGINT, signal.SIG_DFL))
+        with tempfile.TemporaryFile() as said, subprocess.Popen(command, stdout=subprocess.PIPE, stderr=said, start_new_session=self.is_live) as process:
+            for line in lines_of(process.stdout.fileno()):
+                time = self.add(line) if line is not None else None
+                if self.is_live:
+                    yield from self.over(time)
+            process.wait()
+            said.seek(0)
+            words = [line for line in said.read().decode(errors="replace").splitlines() if line and not line.startswith("Running as user")]
+        if process.returncode != 0:
+            self.damage = words[-1] if words else f"tshark ended with status {process.returncode}"
+        yield from (self.connections[number] for number in sorted(self.connections))
+
+    def add(self, line):
+        """Adds a packet, as tshark prints it, and answers its time."""
+        self.count += 1
+        (
+            connection, source4, source6, source_port, target4, target6, target_port, number, acknowledged, flags, size, time, icmp, code, icmp6, code6,
+            udp_source, udp_target, payload,
+        ) = line.decode().rstrip("\n").split("\t")
+        # Old ones have colons between octets.
+        payload = payload.replace(":", "")
+        if not source_port or not (source4 or source6):
+            self.ports["udp", min(int(udp_source or 0), int(udp_target or 0))] += bool(udp_source)
+            return None
+        source = End(ipaddress.ip_address(source4 or source6), int(source_port))
+        target = End(ipaddress.ip_address(target4 or target6), int(target_port))
+        if self.port not in (source.port, target.port):
+            port = min(source.port, target.port)
+            self.ports["tcp", port] += 1
+            if payload.startswith("ff" * 16):
+                self.marked.add(port)
+            return None
+        if icmp or icmp6:
+            self.add_unreachable(source, target, (icmp, code) if icmp else (icmp6, code6))
+            return None
+        if not connection or not number or not flags or not size:
+            self.headless += 1
+            return None
+        packet = Packet(
+            Way(int(connection), source, target), int(number), int(acknowledged or 0), int(flags, 16), int(size), float(time), self.count, bytes.fromhex(payload),
+        )
+        if packet.way.connection not in self.told:
+            self.connections.setdefault(packet.way.connection, Connection(packet.way.connection)).add(packet)
+            self.latest[source, target] = packet.way
+        return packet.time
+
+    def add_unreachable(self, source, target, kind):
+        """Adds an error of ICMP that answers a packet: type 3, or 1 of ICMPv6, says that the target can't be reached."""
+        way = self.latest.get((source, target))
+        if way is not None and way.connection in self.connections and kind[0] in ("3", "1"):
+            self.connections[way.connection].ways[way].unreachable = int(kind[1] or 0)
+
+    def over(self, time):
+        """The connections that are over, of which nothing came for a while at this time, or where nothing at all came for a while."""
+        for number, it in [*self.connections.items()]:
+            if it.is_over() and (time is None or time > it.last() + LATE):
+                del self.connections[number]
+                self.told.add(number)
+                yield it
+
+    def without(self):
+        """What is told of a capture without a connection of the port."""
+        if self.headless:
+            return f"no BGP can be read: {self.headless} packets of TCP port {self.port} are cut inside their headers (snap length)"
+        seen = ", ".join(f"{protocol} {port} ({count})" for (protocol, port), count in self.ports.most_common(8) if count)
+        told = f"no BGP: no packet of TCP port {self.port}; ports that were seen, with their packets: {seen or 'none'}"
+        return told + "".join(f"; octets of TCP port {port} look like BGP: --port {port}" for port in sorted(self.marked))
 
 
-def capabilities_of(body):
-    """The capabilities of an OPEN's body, as far as they can be read."""
-    parameters = body[10:10 + body[9]] if len(body) > 9 else b""
-    while len(parameters) > 1:
-        kind, value, parameters = parameters[0], parameters[2:2 + parameters[1]], parameters[2 + parameters[1]:]
-        while kind == 2 and len(value) > 1:
-            yield value[0], value[2:2 + value[1]]
-            value = value[2 + value[1]:]
+    def told_at_the_end(self, name, count):
+        """Tells what was left out and what is wrong with the capture, of which so many connections were told, and answers the status."""
+        if self.headless:
+            print(f"{name}: left out: {self.headless} packets that are cut inside their headers", file=sys.stderr)
+        if self.damage:
+            print(f"{name}: {self.damage}", file=sys.stderr)
+            return 4
+        if not count:
+            print(self.without())
+        return 0 if count else 1
 
 
-def said_in(octets):
-    """What the OPEN at the front of a stream says: the AS number, whether it offers numbers of four octets, its families, the Hold Time, and all its
-    capabilities."""
-    kind, message = next(streams.messages_in(octets), (None, b""))
-    if kind != streams.OPEN or len(message) < 29:
-        return None
-    number, wide, families = int.from_bytes(message[20:22], "big"), False, set()
-    capabilities = [*capabilities_of(message[19:])]
-    for code, value in capabilities:
-        if code == FOUR_OCTETS and len(value) == 4 and not wide:
-            number, wide = int.from_bytes(value, "big"), True
-        if code == MULTIPROTOCOL and len(value) == 4:
-            families.add(value[:2] + b"\0" + value[3:])
-    return Said(number, wide, families, int.from_bytes(message[22:24], "big"), capabilities)
-
-
-def agreed(a, b):
-    """The flags that two OPENs agree on, as `bgp --opens` does. Where one is missing, both widths can't be known: most sessions have AS numbers of four
-    octets."""
-    if a is None or b is None:
-        return streams.flags_of(True, True, True, False)
-    both = a.families & b.families
-    return streams.flags_of(a.wide and b.wide, IP4_UNICAST in both, IP6_UNICAST in both, a.number == b.number)
-
-
-def in_fours(said, code, size):
-    """The values of a capability that is a row of values of one size."""
-    return {value[at:at + size] for found, value in said.capabilities if found == code for at in range(0, len(value) - size + 1, size)}
-
-
-def not_read(sender, hearer):
-    """What both agreed on that `bgp` doesn't read, of what the first one sends, by the name of the capability."""
-    if sender is None or hearer is None:
-        return []
-    names = []
-    sends = {value[:3] for value in in_fours(sender, ADD_PATH, 4) if value[3] & 2}
-    hears = {value[:3] for value in in_fours(hearer, ADD_PATH, 4) if value[3] & 1}
-    if sends & hears:
-        names.append("ADD-PATH")
-    if all(any(code == EXTENDED for code, _ in said.capabilities) for said in (sender, hearer)):
-        names.append("BGP Extended Message")
-    if in_fours(sender, NEXT_HOPS, 6) & in_fours(hearer, NEXT_HOPS, 6):
-        names.append("Extended Next Hop Encoding")
-    return names
+def lines_of(file):
+    """The lines that come, and none where for a while there is no more."""
+    held = b""
+    while True:
+        while not select.select([file], [], [], IDLE)[0]:
+            yield None
+        octets = os.read(file, 1 << 16)
+        if not octets:
+            return
+        *lines, held = (held + octets).split(b"\n")
+        yield from lines

@@ -1,11 +1,24 @@
-"""What the helpers of this folder share: streams of BGP messages as files, and the flags that `bgp show` takes for them."""
+"""What the helpers of this folder share: streams of BGP messages as files, the messages of octets of which some may be missing, the program, and the
+flags that it takes for them."""
+import bisect
 import collections
+import contextlib
+import datetime
+import json
 import os
+import shutil
 import struct
+import subprocess
+import sys
 
-OPEN, ROUTE_REFRESH = 1, 5
+OPEN, UPDATE, NOTIFICATION, KEEPALIVE, ROUTE_REFRESH = 1, 2, 3, 4, 5
 HEADER_OCTETS = 19
 MARKER = b"\xff" * 16
+# The least length of each type (RFC 4271, section 4; RFC 2918, section 3), by which a header is known where reading resumes.
+LEAST = {OPEN: 29, UPDATE: 23, NOTIFICATION: 21, KEEPALIVE: 19, ROUTE_REFRESH: 23}
+
+# After a message that ends a stream for the program, so many are tried at once, and then twice as many.
+FEW = 64
 
 # How many octets are held before they are written.
 HELD = 1 << 25
@@ -26,9 +39,17 @@ def described(name, count, flags):
     return f"{name} messages {count} flags {flags or '-'}"
 
 
-def messages_in(octets):
-    """Each whole message that octets begin with, up to a header that begins none."""
-    at = 0
+# Octets that came without a gap, from this offset on, with the offsets where its segments end and the times of these.
+Run = collections.namedtuple("Run", "place octets ends times")
+# A message: its offset, its type, its octets (not all of them where it is incomplete), and when the last of them came.
+Message = collections.namedtuple("Message", "place kind octets time")
+# Octets that weren't captured, from an offset up to another, and those that were passed over from there up to where reading resumed (none: it didn't), when
+# (none: nothing came after them), and the offset of a message that began before them and is incomplete (none: there is no such).
+Gap = collections.namedtuple("Gap", "place end resumed time cut")
+
+
+def messages_in(octets, at=0):
+    """Each whole message that octets have from an offset on, up to a header that begins none."""
     while octets[at:at + 16] == MARKER and at + HEADER_OCTETS <= len(octets):
         length, kind = struct.unpack_from(">HB", octets, at + 16)
         if length < HEADER_OCTETS or at + length > len(octets):
@@ -37,11 +58,161 @@ def messages_in(octets):
         at += length
 
 
+def length_at(octets, at):
+    """The Length of the header at an offset, where it and the type fit: 0 where they don't."""
+    if octets[at:at + 16] != MARKER or at + HEADER_OCTETS > len(octets):
+        return 0
+    length, kind = struct.unpack_from(">HB", octets, at + 16)
+    fits = kind in LEAST and (length == HEADER_OCTETS if kind == KEEPALIVE else length >= LEAST[kind])
+    return length if fits else 0
+
+
+def resumed_at(octets, at):
+    """The offset of the next header that fits and that another one, or the end of the octets, follows: none where there is no such."""
+    while (at := octets.find(MARKER, at)) >= 0:
+        length = length_at(octets, at)
+        following = octets[at + length:at + length + HEADER_OCTETS]
+        ends = at + length >= len(octets) or len(following) < HEADER_OCTETS and MARKER.startswith(following[:16])
+        if length and (ends or length_at(octets, at + length)):
+            return at
+        at += 1
+    return None
+
+
+class Reading:
+    """The messages of a direction, read past octets that are missing: the whole ones in order, those of which octets are missing, the gaps, and what
+    follows the last message: an incomplete one, or a header at fault, after which there is no other."""
+
+    def __init__(self, runs, is_begun):
+        self.messages, self.cut, self.gaps = [], [], []
+        self.rest = Message(0, None, b"", None)
+        # Where the next message begins, as far as that is known, and where the octets end that came so far.
+        begin, end = 0 if is_begun else None, 0
+        for run in runs:
+            missing, end = (end, run.place), run.place + len(run.octets)
+            has_gap = run.place > missing[0]
+            cut = self.leave_rest() if has_gap else None
+            if begin is not None and begin > end:
+                # All of it is of an incomplete message.
+                self.gaps += [Gap(*missing, end, run.times[0], cut)] * has_gap
+                continue
+            at = begin - run.place if begin is not None and begin >= run.place else resumed_at(run.octets, 0)
+            if has_gap or at != 0:
+                self.gaps.append(Gap(*missing, None if at is None else run.place + at, run.times[0], cut))
+            begin = self.read(run, at) if at is not None else None
+            if begin is None and not self.gaps and len(self.rest.octets) >= HEADER_OCTETS:
+                # A header at fault, and not one that was taken for a header.
+                return
+
+    def read(self, run, at):
+        """Reads a run from an offset in it on. Answers where the next message begins, where that is known."""
+        for kind, octets in messages_in(run.octets, at):
+            at += len(octets)
+            self.messages.append(Message(run.place + at - len(octets), kind, octets, time_at(run, at)))
+        left = run.octets[at:]
+        kind = left[18] if len(left) >= HEADER_OCTETS else None
+        self.rest = Message(run.place + at, kind, left, run.times[-1])
+        if not left:
+            return run.place + at
+        if kind is None or left[:16] != MARKER or length_of(self.rest) < HEADER_OCTETS:
+            return None
+        return run.place + at + length_of(self.rest)
+
+    def leave_rest(self):
+        """The octets after the last message were followed by a gap. Answers their offset, where there are some."""
+        left, self.rest = self.rest, Message(0, None, b"", None)
+        self.cut += [left] * bool(left.octets)
+        return left.place if left.octets else None
+
+
+def length_of(message):
+    """The Length in a message's header."""
+    return int.from_bytes(message.octets[16:18], "big")
+
+
+def at(time):
+    """A time as it is printed."""
+    return datetime.datetime.fromtimestamp(time, datetime.timezone.utc).strftime("%Y-%m-%d %H:%M:%S.%f")[:-3]
+
+
+def gap_in_words(gap, whose=""):
+    """What is missing, and where reading resumed."""
+    told = [f"octets {gap.place} to {gap.end - 1}{whose} are missing"] * (gap.end > gap.place)
+    told += [f"the message at octet {gap.cut} is incomplete"] * (gap.cut is not None)
+    if gap.resumed is not None:
+        told.append(f"reading resumes at octet {gap.resumed}, {at(gap.time)}" + f", {gap.resumed - gap.end} passed over" * (gap.resumed > gap.end))
+    elif gap.time is not None:
+        told.append(f"no message begins at octet {gap.end} or after it{'' if gap.end > gap.place else whose}, {at(gap.time)}")
+    return "; ".join(told)
+
+
+def time_at(run, end):
+    """When the last of so many octets of a run came."""
+    return run.times[bisect.bisect_left(run.ends, end)]
+
+
+class Program:
+    """The program `bgp`, on streams."""
+
+    def __init__(self, path):
+        self.path = path
+        if shutil.which(path) is None:
+            raise OSError(f"there is no program {path}: --program names it, or PROGRAM")
+
+    def run(self, octets, *words):
+        """What it prints of octets."""
+        return subprocess.run([self.path, *words], input=octets, stdout=subprocess.PIPE, stderr=subprocess.DEVNULL, check=False).stdout
+
+    def lines(self, octets, flags):
+        """The lines of `show --json`, without that of the end."""
+        return [line for line in self.run(octets, "show", "--json", *flags).splitlines() if not line.startswith(b'{"kind":"END"')]
+
+    def judged(self, messages, flags):
+        """Its object of each message, as text without the offset; none where it has none. A message that ends the stream for the program doesn't end it
+        here."""
+        found, size = [], 1 << 20
+        while len(found) < len(messages):
+            part = messages[len(found):len(found) + size]
+            lines = self.lines(b"".join(it.octets for it in part), flags)[:len(part)]
+            found += [line[line.index(b",") + 1:] for line in lines] or [None]
+            size = size * 2 if len(lines) == len(part) else FEW
+        return found
+
+    def objects(self, messages, flags):
+        """The same as objects, with the offsets."""
+        return [line and object_of(it, line) for it, line in zip(messages, self.judged(messages, flags))]
+
+    def explained(self, octets, flags):
+        """The lines of a message, without the end."""
+        return self.run(octets, "explain", *flags).decode().splitlines()[:-1]
+
+
+def object_of(message, line):
+    """A message's object. Of the many UPDATEs against which nothing is said it has the first members alone."""
+    if line.endswith(b'"notes":[]}') and b'"verdict":"take"' in line:
+        return {"place": message.place, "kind": "UPDATE", "verdict": "take", "notes": []}
+    return {"place": message.place, **json.loads(b"{" + line)}
+
+
 def add_program(parser):
     """Adds the option that names the program."""
     built = os.path.join(os.path.dirname(os.path.dirname(os.path.realpath(__file__))), "bgp")
     program = os.environ.get("PROGRAM", built if os.access(built, os.X_OK) else "bgp")
-    parser.add_argument("--program", default=program, help="the program (PROGRAM, or ./bgp, or bgp on the path)")
+    parser.add_argument("--program", default=program, help="the program (PROGRAM, or ./bgp, or bgp on the path); here %(default)s")
+
+
+def run_main(name, main):
+    """Runs a script, and ends with its status: 4 where a read or a write fails, which is told."""
+    try:
+        status = main()
+        sys.stdout.flush()
+    except OSError as fault:
+        with contextlib.suppress(OSError):
+            print(f"{name}: {fault}", file=sys.stderr)
+        # What stdout still holds isn't written where its reader has ended.
+        os.dup2(os.open(os.devnull, os.O_WRONLY), sys.stdout.fileno())
+        status = 4
+    sys.exit(status)
 
 
 class Outputs:

@@ -1,0 +1,69 @@
+"""The routes of the objects that `bgp show --json` prints, one by one: what to-routes and from-pcap share."""
+import csv
+import json
+
+# The columns of a row; in an object a member that isn't known isn't there.
+COLUMNS = ("time", "peer", "peer_as", "to", "action", "prefix", "as_path", "next_hop", "communities", "large_communities")
+ANNOUNCED, WITHDRAWN = "announce", "withdraw"
+FROM_MESSAGE = ("time", "peer", "peer_as", "to", "place")
+FROM_ATTRIBUTES = ("as_path", "as4_path", "origin", "med", "local_pref", "communities", "large_communities")
+
+
+def routes_of(message):
+    """A route after the other, as objects: those that are withdrawn first, as RFC 4271, section 3.1, has it. Of an UPDATE that is treated as a withdrawal
+    all are withdrawn."""
+    who = {name: message[name] for name in FROM_MESSAGE if name in message}
+    gone = message.get("withdrawn", []) + message.get("mp_unreach", {}).get("withdrawn", []) + message.get("routes", [])
+    for prefix in gone:
+        yield {**who, "action": WITHDRAWN, "prefix": prefix}
+    attributes = {name: message[name] for name in FROM_ATTRIBUTES if name in message}
+    reach = message.get("mp_reach", {})
+    for hop, prefixes in ((reach.get("next_hop"), reach.get("nlri", [])), (message.get("next_hop"), message.get("nlri", []))):
+        for prefix in prefixes:
+            yield {**who, "action": ANNOUNCED, "prefix": prefix, "next_hop": hop, **attributes}
+
+
+def path_in_words(path):
+    """A path as routers print it: a set stands in braces."""
+    return " ".join(" ".join(map(str, it["as"])) if it["type"] == "sequence" else "{" + ",".join(map(str, it["as"])) + "}" for it in path)
+
+
+def row_of(route):
+    """A route as a row of text."""
+    found = {**route, "as_path": path_in_words(route.get("as_path", []))}
+    found.update({name: " ".join(route.get(name, [])) for name in ("communities", "large_communities")})
+    return [found.get(name, "") for name in COLUMNS]
+
+
+class Writer:
+    """Writes the routes of lines of JSON as CSV, below a line of the columns, or as objects of JSON."""
+
+    def __init__(self, output, is_json):
+        self.output, self.rows = output, None if is_json else csv.writer(output, lineterminator="\n")
+        if self.rows:
+            self.rows.writerow(COLUMNS)
+
+    def add(self, line):
+        """Writes the routes of a line. Of what is no UPDATE there are none."""
+        if '"kind":"UPDATE"' not in line:
+            return
+        # A time keeps its six digits.
+        for route in routes_of(json.loads(line, parse_float=Digits)):
+            if self.rows:
+                self.rows.writerow(row_of(route))
+            else:
+                print(json.dumps(route, separators=(",", ":")), file=self.output)
+
+
+class Digits(float):
+    """A number with the digits that it was read with."""
+
+    def __new__(cls, text):
+        found = super().__new__(cls, text)
+        found.text = text
+        return found
+
+    def __repr__(self):
+        return self.text
+
+    __str__ = __repr__
