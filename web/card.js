@@ -45,7 +45,7 @@ function linesOf(message) {
         list.append(make("li", { className: "why", data: span(message.fault) }, `${who} NOTIFICATION ${verdict.code}/${verdict.subcode}${name && ` ${name}`}${data}`));
     }
     for (const note of message.notes) {
-        const name = NAMES.attribute[note.kind] ?? `attribute ${note.kind}`, section = sectionOfNote(note);
+        const name = NAMES.attribute[note.kind] ?? `attribute ${note.kind}`, { section } = note;
         const line = make("li", { className: "why", data: span(note.span) }, `${name}: ${note.text}. `);
         if (section) line.append(make("small", {}, sectionLink(section)));
         list.append(line);

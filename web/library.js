@@ -84,7 +84,8 @@ class Library {
         return this.list("notes", "ristulva_note_found", C.NOTES).map((note) => {
             this.write("ristulva_note_found", this.places.note, note);
             this.call("note_span", ...this.held, this.at("note"), this.at("out"));
-            return { ...note, span: this.read("ristulva_span", this.places.out) };
+            const span = this.read("ristulva_span", this.places.out);
+            return { ...note, span, section: this.text("note_section", this.at("note")) };
         });
     }
 
@@ -94,6 +95,17 @@ class Library {
         return this.read("ristulva_span", this.places.out);
     }
 
+    // The section of an RFC by which it is: an empty text where it isn't.
+    faultSection() {
+        return this.text("fault_section", this.at("context"), ...this.held);
+    }
+
+    // The text that a call writes.
+    text(name, ...words) {
+        this.call(name, ...words, this.at("text"), 64n, this.at("word"));
+        return String.fromCharCode(...this.memory.subarray(this.places.text, this.places.text + this.read("size_t", this.places.word)));
+    }
+
     // What the OPEN says that octets begin with; nothing where no OPEN is accepted.
     open(octets) {
         this.hold(octets);
@@ -101,8 +113,7 @@ class Library {
     }
 
     fieldName(kind) {
-        this.call("field_name", kind, this.at("text"), 64n, this.at("word"));
-        return String.fromCharCode(...this.memory.subarray(this.places.text, this.places.text + this.read("size_t", this.places.word)));
+        return this.text("field_name", kind);
     }
 
     version() {

@@ -1,6 +1,6 @@
 "use strict";
 // What a message says: the lines of `bgp show`, and what each of its fields says as `bgp explain` has it. Nothing is parsed here: each octet stands in a
-// field that the module tells. NAMES and SECTIONS stand before this, taken from the crates; F has the kinds of fields.
+// field that the module tells. NAMES stands before this, taken from the crates; F has the kinds of fields.
 
 const F = Object.fromEntries(Object.entries(C).filter(([name]) => name.startsWith("FIELD_") && name !== "FIELD_NAME").map(([name, value]) => [name.slice(6), value]));
 const KINDS = ["HEADER", "OPEN", "UPDATE", "NOTIFICATION", "KEEPALIVE"];
@@ -165,13 +165,11 @@ function updateLines(lines, notes) {
 
 // ---- messages
 
-const sectionOfNote = ({ kind, why }) => SECTIONS.note[WHYS[why]] ?? SECTIONS.value[kind] ?? "";
-const sectionOfReset = (code, subcode) => (code === 1 ? SECTIONS.reset.header : code === 2 ? SECTIONS.reset.open : subcode === 9 ? SECTIONS.reset.optional : SECTIONS.reset.other);
 const nameOf = (code, subcode) => [NAMES.error[code] ?? "", subcodeName(code, subcode)].filter(Boolean).join(": ");
 
 // The section by which a message is judged as a whole.
-function sectionOf({ verdict, kind, code, subcode }) {
-    if (verdict === C.RESET) return sectionOfReset(code, subcode);
+function sectionOf({ verdict, kind }, faultSection) {
+    if (verdict === C.RESET) return faultSection;
     if (verdict === C.WITHDRAW) return "RFC 7606, section 2";
     return `RFC 4271, section ${[, "4.2", "4.3", "4.5", "4.4"][kind]}`;
 }
@@ -189,12 +187,12 @@ function messageOf(library, context, stream, place) {
     if (verdict.verdict === C.UPDATE) updateLines(lines, notes);
     if (verdict.verdict === C.WITHDRAW) routeLines(lines);
     const head = `${place} ${verdict.len} ${KINDS[verdict.kind]}${word}${said}`;
-    return { place, octets, verdict, head, fields, fault, lines: lines.list, notes: notes.map((it) => toldNote(it)), section: sectionOf(verdict) };
+    return { place, octets, verdict, head, fields, fault, lines: lines.list, notes: notes.map((it) => toldNote(it)), section: sectionOf(verdict, library.faultSection()) };
 }
 
 // A note as `bgp show` prints it, and the reason and the section as `bgp explain` does.
 function toldNote(note) {
-    const name = NAMES.attribute[note.kind] ?? "", reason = `${WHYS[note.why]}, ${sectionOfNote(note)}`;
+    const name = NAMES.attribute[note.kind] ?? "", reason = `${WHYS[note.why]}, ${note.section}`;
     return { ...note, line: `note ${note.at && note.at - 19} ${note.kind} ${WHYS[note.why]}`, what: `${note.kind} ${name}`.trimEnd(), reason, text: WHY_TEXTS[note.why] };
 }
 

@@ -115,6 +115,15 @@ type Note struct {
 	Why  Why
 }
 
+// Section is the section of an RFC by which the note is called for, as `bgp explain` prints it.
+func (note Note) Section() string {
+	told := C.ristulva_note_found{at: C.uint32_t(note.At), kind: C.uint8_t(note.Type), why: C.uint8_t(note.Why)}
+	var text [C.RISTULVA_SECTION]byte
+	var written C.size_t
+	C.ristulva_note_section(&told, (*C.char)(unsafe.Pointer(&text[0])), C.RISTULVA_SECTION, &written)
+	return string(text[:written])
+}
+
 // Notes gives what RFC 7606 found.
 func (message *Message) Notes() []Note {
 	said := message.context.said()

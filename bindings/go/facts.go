@@ -113,7 +113,8 @@ func (message *Message) Facts() *Facts {
 }
 
 // Agree gives what two speakers agree on, of whose OPENs the octets begin with one each: the context of their session, and its Hold Time in seconds, 0
-// for none; as `bgp show --opens` finds it. ErrIncomplete or ErrRefused: one of them is no OPEN that is accepted. Neither is refused for what it says.
+// for none; as `bgp show --opens` finds it. ErrIncomplete or ErrRefused: one of them is no OPEN that is accepted. Neither is refused for what it says:
+// who reads on refuses a direction for which both agree on path identifiers (capability 69; RFC 7911), since its routes aren't read here.
 func Agree(ours, theirs []byte) (Context, uint16, error) {
 	var said C.ristulva_context
 	var hold C.uint16_t

@@ -97,3 +97,13 @@ func (message *Message) Fault() (at, length int) {
 	C.ristulva_fault(&said, octets, size, &span)
 	return int(span.at), int(span.len)
 }
+
+// FaultSection is the section of an RFC by which the session ends, as `bgp explain` prints it; "own rule" where no RFC has it so. Empty where it doesn't end.
+func (message *Message) FaultSection() string {
+	said := message.context.said()
+	octets, size := octetsOf(message.octets)
+	var text [C.RISTULVA_SECTION]byte
+	var written C.size_t
+	C.ristulva_fault_section(&said, octets, size, (*C.char)(unsafe.Pointer(&text[0])), C.RISTULVA_SECTION, &written)
+	return string(text[:written])
+}

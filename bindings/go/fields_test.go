@@ -57,6 +57,30 @@ func TestFaults(t *testing.T) {
 	}
 }
 
+func TestSections(t *testing.T) {
+	for _, want := range []struct {
+		octets  []byte
+		section string
+	}{
+		{message(2, digits("0000 0005 800f02 0002")), "RFC 7606, section 5.3"},
+		{message(2, digits("0000 0006 c00f03 000201")), "own rule"},
+		{message(2, digits("0000 0004 40010103")), "RFC 7606, section 5.2"},
+		{message(9, nil), "RFC 4271, section 6.1"},
+		{message(4, nil), ""},
+	} {
+		it, err := Judge(want.octets, Context{AS4: true, IP4: true})
+		if err != nil {
+			t.Fatal(err)
+		}
+		if section := it.FaultSection(); section != want.section {
+			t.Errorf("%x: %s", want.octets, section)
+		}
+	}
+	if section := (Note{0, 14, WhyFamily}).Section(); section != "RFC 4760, section 8" {
+		t.Error(section)
+	}
+}
+
 // The fields of each message of the captures are its octets.
 func TestFieldsOfCaptures(t *testing.T) {
 	for name, it := range captures(t) {

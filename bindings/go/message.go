@@ -209,7 +209,8 @@ func (route Route) String() string {
 }
 
 // Routes gives those of an UPDATE as RFC 7606 has them: those that it withdraws, then those that it announces; one that is treated as a withdrawal
-// announces none, and withdraws all. `lost` is whether it has IPv6 routes, and its context doesn't: they aren't given.
+// announces none, and withdraws all. `lost` is whether it has MP_REACH_NLRI or
+// MP_UNREACH_NLRI of IPv6 unicast, perhaps without routes, and its context doesn't: of these no routes are given.
 func (message *Message) Routes() (routes []Route, lost bool) {
 	found := make([]C.ristulva_route, len(message.octets))
 	said := message.context.said()

@@ -53,6 +53,18 @@ class TestFields(unittest.TestCase):
         self.assertEqual(marker.fault(), (7, 1))
         self.assertEqual([it.kind for it in marker.fields()], ["Marker", "MessageLength", "MessageType"])
 
+    def test_sections(self):
+        """Of an IPv6 next hop of 17 octets; of an MP_UNREACH_NLRI that is transitive; of an ORIGIN of 3 where nothing is announced; of nothing; of notes."""
+        reach = "0000 001a 800e17 000201 11 20010db8000000000000000000000001 00 00 00"
+        for kind, digits, wanted in (
+            (2, reach, "RFC 7606, section 7.11"), (2, "0000 0006 c00f03 000201", "own rule"), (2, "0000 0004 40010103", "RFC 7606, section 5.2"),
+            (1, "04 fde8 0002 c0000201 00", "RFC 4271, section 6.2"), (9, "", "RFC 4271, section 6.1"), (4, "", ""),
+        ):
+            self.assertEqual(judged(kind, digits).fault_section(), wanted)
+        self.assertEqual(ristulva.note_section(1, "Value"), "RFC 7606, section 7.1")
+        self.assertEqual(ristulva.note_section(14, "Family"), "RFC 4760, section 8")
+        self.assertEqual(ristulva.note_section(3, "Unneeded"), "RFC 4760, section 3")
+
     def test_captures(self):
         """The fields of each message are its octets; a fault is within it, just where it ends the session."""
         for path in sorted(EXAMPLES.glob("*.hex")):

@@ -205,7 +205,25 @@ def agreed(ours, theirs):
     wide = [[it[1] for it in said[3] if it[0] == "as4"] for said in (ours, theirs)]
     numbers = [(its or [said[0]])[0] for its, said in zip(wide, (ours, theirs))]
     families = [all(("multi", afi, 1) in said[3] for said in (ours, theirs)) for afi in (1, 2)]
-    return Context(numbers[0] == numbers[1], all(wide), *families)
+    # A speaker without the capability sees My Autonomous System, where AS_TRANS is no number of its own (RFC 6793, section 4.1).
+    seen_alike = ours[0] == theirs[0] and (ours[0] != AS_TRANS or numbers[0] == numbers[1])
+    return Context(numbers[0] == numbers[1] if all(wide) else seen_alike, all(wide), *families)
+
+
+def path_roles(said, afi):
+    """What an OPEN's capabilities for path identifiers say of unicast routes of a family: 1 reads, 2 sends, 3 both (RFC 7911, section 4)."""
+    roles = set()
+    for code, value in [it[1:] for it in said[3] if it[0] == "other"]:
+        rows = [value[at : at + 4] for at in range(0, len(value), 4)]
+        if code == 69 and all(len(row) == 4 and 1 <= row[3] <= 3 for row in rows):
+            roles |= {row[3] for row in rows if (number(row[:2]), row[2]) == (afi, 1)}
+    return roles
+
+
+def have_paths(sender, reader):
+    """Whether routes have path identifiers in what one speaker sends the other."""
+    is_ip6 = all(("multi", 2, 1) in said[3] for said in (sender, reader))
+    return any(path_roles(sender, afi) & {2, 3} and path_roles(reader, afi) & {1, 3} for afi in ([1, 2] if is_ip6 else [1]))
 
 
 def by_opens(command, theirs, given, is_hex=False, *more):
@@ -214,7 +232,10 @@ def by_opens(command, theirs, given, is_hex=False, *more):
     found, _, fault = frames(octets)
     if bad is not None and not found and not fault:
         return b"", told(f"bad hex at {bad}"), 1
-    context = agreed(first_open(octets), first_open(theirs))
+    sender, reader = first_open(octets), first_open(theirs)
+    context = agreed(sender, reader)
+    if context is not None and have_paths(sender, reader):
+        return b"", told("both OPENs agree on path identifiers (RFC 7911), which aren't read"), 1
     if context is None or (command == narrow and not context.as4):
         return b"", told("no OPEN to agree with"), 1
     return command(context, given, is_hex, *more) if is_hex or more else command(context, given)

@@ -116,11 +116,14 @@ def clean_body(internal):
 def taken_open():
     """The body of an OPEN that is accepted, mostly with the capabilities that decide what is agreed on."""
     number = chance.choice([65001, 65001, 65002, 200000])
-    offered = [b"\1\4\0\1" + octets(1) + b"\1", b"\1\4\0\2\0\1", b"\x41\4" + spelled(4, number), b"\x41\4" + octets(4), b"\1\4\0\1\0\x80", b"\2\0"]
+    offered = [b"\1\4\0\1" + octets(1) + b"\1", b"\1\4\0\2\0\1", b"\x41\4" + spelled(4, number), b"\x41\4" + octets(4), b"\1\4\0\1\0\x80", b"\2\0",
+               b"\x45\4\0" + bytes([chance.choice([1, 2]), 1, chance.choice([1, 2, 3, 3, 4])])]
     capabilities = [it for at, it in enumerate(offered) if rarely(5) == (at > 2)]
     if rarely(2):
         chance.shuffle(capabilities)
     inside = capabilities if rarely(2) else [b"".join(capabilities)]
     parameters = b"".join(bytes([2, len(it)]) + it for it in inside)
     field = number if number < 65536 else AS_TRANS
+    if rarely(8):
+        field = chance.choice([65001, 65002, AS_TRANS])
     return b"\4" + spelled(2, field) + spelled(2, 90) + b"\xc0\0\2" + bytes([chance.choice([1, 1, 2])]) + bytes([len(parameters)]) + parameters

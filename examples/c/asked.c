@@ -159,6 +159,10 @@ static void by_hand_routes(void)
     routes_are(&without, &message, 1, lost, 2);
     update(&message, "40010109" PATHS HOPS GONE);
     routes_are(&two, &message, 0, withdrawn, 4);
+    /* An End-of-RIB of IPv6: no route is lost, and the family is. */
+    make(&message, 2, "0000 0006 800f03 000201");
+    routes_are(&two, &message, 0, taken, 0);
+    routes_are(&without, &message, 1, taken, 0);
     /* ORIGIN twice: the first stands. MP_REACH_NLRI twice ends the session. */
     update(&message, ORIGIN ORIGIN PATHS HOPS GONE);
     routes_are(&two, &message, 0, taken, 4);
@@ -189,6 +193,10 @@ static void by_hand_agreement(void)
     make(&other, 1, "04 fde9 0000 c0000203 00");
     WANT(ristulva_agree(ours.at, ours.len, other.at, other.len, &context, &hold) == RISTULVA_OK);
     WANT(context.internal == 1 && context.as4 == 0 && context.ip4 == 0 && context.ip6 == 0 && hold == 0);
+    /* My Autonomous System 65001 beside AS 65002 by the capability, which the other doesn't see (RFC 6793, section 4.1). */
+    make(&theirs, 1, "04 fde9 005a c0000202 08 0206 41040000fdea");
+    WANT(ristulva_agree(theirs.at, theirs.len, other.at, other.len, &context, &hold) == RISTULVA_OK && context.internal == 1 && context.as4 == 0);
+    WANT(ristulva_agree(theirs.at, theirs.len, ours.at, ours.len, &context, &hold) == RISTULVA_OK && context.internal == 0 && context.as4 == 1);
     /* The first that is no OPEN says why. */
     memset(&context, 0xa5, sizeof context);
     hold = 77;

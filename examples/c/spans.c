@@ -83,29 +83,35 @@ static void try_spans(const ristulva_context *context, const uint8_t *octets, si
 {
     static ristulva_note_found notes[RISTULVA_NOTES];
     ristulva_span span = {77, 77};
-    size_t count, i;
+    char section[RISTULVA_SECTION];
+    size_t count, i, written = 77;
     WANT(ristulva_fault(context, octets, len, &span) == RISTULVA_OK);
     WANT((span.len > 0) == (verdict->verdict == RISTULVA_RESET) && span.at + span.len <= size);
+    WANT(ristulva_fault_section(context, octets, len, section, sizeof section, &written) == RISTULVA_OK);
+    WANT((written > 0) == (verdict->verdict == RISTULVA_RESET) && written <= sizeof section);
     WANT(ristulva_notes(context, octets, len, notes, RISTULVA_NOTES, &count) == RISTULVA_OK);
     WANT(!unread || count > 0 || verdict->verdict == RISTULVA_RESET);
     for (i = 0; i < count; i++) {
         WANT(ristulva_note_span(octets, len, &notes[i], &span) == RISTULVA_OK);
+        WANT(ristulva_note_section(&notes[i], section, sizeof section, &written) == RISTULVA_OK && written > 0 && written <= sizeof section);
         if (notes[i].why == RISTULVA_WHY_MISSING)
             WANT(span.at == 0 && span.len == 0);
         else
             WANT(span.at == notes[i].at && span.len > 0 && span.at + span.len <= verdict->parts.attributes.at + verdict->parts.attributes.len);
     }
-    calls += 2 + count;
+    calls += 3 + 2 * count;
 }
 
 static void try_incomplete(const ristulva_context *context, const uint8_t *octets, size_t len)
 {
     const ristulva_note_found note = {23, 1, 1};
     ristulva_span span = {77, 77};
+    char section[RISTULVA_SECTION];
     size_t written = 77;
     memset(fields, 0xa5, sizeof fields[0]);
     WANT(ristulva_fields(context, octets, len, fields, RISTULVA_FIELDS, &written) == RISTULVA_INCOMPLETE && written == 77 && fields[0].at == 0xa5a5);
     WANT(ristulva_fault(context, octets, len, &span) == RISTULVA_INCOMPLETE && span.at == 77 && span.len == 77);
+    WANT(ristulva_fault_section(context, octets, len, section, sizeof section, &written) == RISTULVA_INCOMPLETE && written == 77);
     WANT(ristulva_note_span(octets, len, &note, &span) == RISTULVA_INCOMPLETE && span.at == 77 && span.len == 77);
     calls += 3;
 }
@@ -171,6 +177,29 @@ static void try_values(void)
     calls += 6;
 }
 
+/* The sections of an MP_UNREACH_NLRI of two octets, of one that is transitive, and of notes. */
+static void try_sections(void)
+{
+    static const char wanted[] = "RFC 7606, section 5.3";
+    static const ristulva_note_found value = {27, 1, RISTULVA_WHY_VALUE}, second = {27, 1, RISTULVA_WHY_REPEATED}, none = {27, 1, 16};
+    const ristulva_context context = {0, 1, 1, 1};
+    uint8_t update[] = {255, 255, 255, 255, 255, 255, 255, 255, 255, 255, 255, 255, 255, 255, 255, 255, 0, 28, 2, 0, 0, 0, 5, 128, 15, 2, 0, 2};
+    char section[RISTULVA_SECTION];
+    size_t written = 77;
+    WANT(ristulva_fault_section(&context, update, sizeof update, section, sizeof section, &written) == RISTULVA_OK);
+    WANT(written == strlen(wanted) && memcmp(section, wanted, written) == 0);
+    WANT(ristulva_fault_section(&context, update, sizeof update, section, 4, &written) == RISTULVA_ROOM && written == strlen(wanted));
+    update[23] = 192;
+    WANT(ristulva_fault_section(&context, update, sizeof update, section, sizeof section, &written) == RISTULVA_OK);
+    WANT(written == 8 && memcmp(section, "own rule", written) == 0);
+    WANT(ristulva_note_section(&value, section, sizeof section, &written) == RISTULVA_OK);
+    WANT(written == 21 && memcmp(section, "RFC 7606, section 7.1", written) == 0);
+    WANT(ristulva_note_section(&second, section, sizeof section, &written) == RISTULVA_OK && written == sizeof section);
+    written = 77;
+    WANT(ristulva_note_section(&none, section, sizeof section, &written) == RISTULVA_RANGE && written == 77);
+    calls += 6;
+}
+
 static void try_names(void)
 {
     char name[RISTULVA_FIELD_NAME];
@@ -208,6 +237,7 @@ static void *work(void *unused)
     int i, round;
     try_values();
     try_names();
+    try_sections();
     for (i = 0; i < files; i++) {
         size_t len = load(names[i]);
         for (round = 0; round < 40 && len > 0; round++) {

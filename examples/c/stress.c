@@ -4,8 +4,9 @@
  *
  * The files have streams of octets, of which some are changed at random. Built with the sanitizers it also shows that nothing is
  * written outside of what a call is handed; octets lie beside memory that can't be read. It runs on STACK octets of stack, which
- * are 32 KB, and on 16 KB more with ristulva_clean. It prints how many calls it made, and ends with 1 at the first answer that the
- * header doesn't allow. */
+ * are 32 KB, and on 16 KB more with ristulva_clean and guards. Blocks of memory are counted: a session, a decoder and a guard give
+ * theirs back when they are freed, and no other call leaves any. It prints how many calls it made, and ends with 1 at the first
+ * answer that the header doesn't allow. */
 #include "ristulva.h"
 #include "trial.h"
 #include "trial_stack.h"
@@ -21,8 +22,8 @@
 /* Whether messages are cleaned too, which takes more stack. */
 static int cleans;
 
-/* How many sessions there are: each is memory that a call leaves. */
-static long sessions;
+/* How many blocks of memory calls have left: one of a session, some of a guard. */
+static long kept;
 
 /* ---- calls ---- */
 
@@ -118,7 +119,7 @@ static void try_text(const ristulva_context *context, const uint8_t *octets, siz
     for (;;) {
         allocations = 0;
         status = ristulva_text(context, below(1000), octets, len, text, room, &written);
-        WANT(live == sessions);
+        WANT(live == kept);
         calls++;
         if (status != RISTULVA_MEMORY)
             break;
@@ -373,7 +374,7 @@ static void try_encode(const ristulva_context *context, const uint8_t *body, siz
     for (;;) {
         allocations = 0;
         status = rewrite(context, body, len, message, room, &written);
-        WANT(live == sessions);
+        WANT(live == kept);
         calls++;
         if (status != RISTULVA_MEMORY)
             break;
@@ -442,7 +443,7 @@ static void try_clean(const ristulva_context *context, const uint8_t *octets, si
     refused = 1;
     allocations = 0;
     status = ristulva_clean(context, types, count, first, octets, len, handed, room, &written, &told);
-    WANT(live == sessions && allocations == 0);
+    WANT(live == kept && allocations == 0);
     calls++;
     refused = 0;
     WANT((status == RISTULVA_INCOMPLETE) == (found->what == RISTULVA_MORE));
@@ -487,7 +488,7 @@ static void try_decoder(const ristulva_context *context, const uint8_t *octets, 
     WANT(taken + more == (found->what == RISTULVA_MORE ? len : size));
     if (status == RISTULVA_OK)
         WANT(memcmp(&told, verdict, sizeof told) == 0 && memcmp(message, octets, size) == 0 && message[size] == 0x5a);
-    WANT(ristulva_decoder_free(&decoder) == RISTULVA_OK && live == sessions);
+    WANT(ristulva_decoder_free(&decoder) == RISTULVA_OK && live == kept);
 }
 
 /* ---- sessions ---- */
@@ -519,13 +520,13 @@ static void renew_session(void)
 {
     ristulva_config config = {65001, 1 + below(3), {1, 2, 3, 4}, (uint16_t)(3 * below(3)), (uint8_t)below(2), 1, (uint8_t)below(2)};
     if (session.body != NULL && below(50) == 0)
-        WANT(ristulva_session_free(&session) == RISTULVA_OK && session.body == NULL && live == (sessions = 0));
+        WANT(ristulva_session_free(&session) == RISTULVA_OK && session.body == NULL && live == --kept);
     if (session.body != NULL)
         return;
     refused = 1, allocations = 0;
     WANT(ristulva_session_new(&config, &session) == RISTULVA_MEMORY && session.body == NULL);
     refused = 0;
-    WANT(ristulva_session_new(&config, &session) == RISTULVA_OK && live == (sessions = 1));
+    WANT(ristulva_session_new(&config, &session) == RISTULVA_OK && live == ++kept);
     peer_as = config.peer_as;
 }
 
@@ -541,7 +542,7 @@ static void bring_up(uint8_t *message)
     WANT(ristulva_session_event(&session, RISTULVA_EVENT_START, &actions, message, RISTULVA_MESSAGE, &written) == RISTULVA_OK);
     WANT(ristulva_session_event(&session, RISTULVA_EVENT_CONNECTED, &actions, message, RISTULVA_MESSAGE, &written) == RISTULVA_OK);
     WANT(ristulva_session_new(&config, &peer) == RISTULVA_OK && ristulva_session_open(&peer, octets, sizeof octets, &len) == RISTULVA_OK);
-    WANT(ristulva_session_free(&peer) == RISTULVA_OK);
+    WANT(ristulva_session_free(&peer) == RISTULVA_OK && live == kept);
     (void)ristulva_session_hear(&session, octets, len, &heard, &actions, message, RISTULVA_MESSAGE, &written);
     memcpy(octets + 16, "\0\23\4", 3);
     (void)ristulva_session_hear(&session, octets, 19, &heard, &actions, message, RISTULVA_MESSAGE, &written);
@@ -581,6 +582,75 @@ static void try_session(const uint8_t *octets, size_t len, const ristulva_found 
     WANT(heard.parts.nlri.at + heard.parts.nlri.len == (heard.heard == RISTULVA_UPDATE || heard.heard == RISTULVA_WITHDRAW ? heard.len : 0));
 }
 
+/* ---- guards ---- */
+
+static ristulva_guard guard;
+
+/* How many blocks it is. */
+static long guard_blocks;
+
+static void free_guard(void)
+{
+    WANT(ristulva_guard_free(&guard) == RISTULVA_OK && guard.body == NULL && live == (kept -= guard_blocks));
+}
+
+/* A guard, mostly with both sides connected, that is made once each of its allocations failed. */
+static void renew_guard(void)
+{
+    const uint8_t types[3] = {16, (uint8_t)below(256), (uint8_t)(33 + below(223))};
+    size_t count = below(4);
+    uint8_t one_way = below(4) == 0;
+    ristulva_status status;
+    for (refused = 1;; refused++) {
+        allocations = 0;
+        status = ristulva_guard_new(types, count, one_way, &guard);
+        if (status != RISTULVA_MEMORY)
+            break;
+        WANT(allocations == refused && guard.body == NULL && live == kept);
+    }
+    guard_blocks = refused - 1;
+    refused = 0;
+    WANT(status == RISTULVA_OK && guard.body != NULL && allocations == guard_blocks && live == (kept += guard_blocks));
+    if (below(8) != 0) {
+        WANT(ristulva_guard_event(&guard, RISTULVA_OUTER, RISTULVA_SIDE_STOOD) == RISTULVA_OK);
+        WANT(ristulva_guard_event(&guard, RISTULVA_INNER, RISTULVA_SIDE_STOOD) == RISTULVA_OK);
+    }
+    calls += (unsigned long)guard_blocks + 3;
+}
+
+/* A guard that is told something at random, hears the octets of a side, and sends: none of it takes memory, and nothing but its end gives any back. */
+static void try_guard(const uint8_t *octets, size_t len)
+{
+    static uint8_t way[RISTULVA_MESSAGE + 1];
+    size_t room = below(RISTULVA_MESSAGE + 1), taken = 77, written = 77;
+    uint32_t side = below(2);
+    ristulva_peer peer;
+    ristulva_came came;
+    ristulva_asks asks;
+    if (guard.body == NULL)
+        renew_guard();
+    refused = 1;
+    allocations = 0;
+    if (below(20) == 0)
+        WANT(ristulva_guard_event(&guard, below(2), 1 + below(3)) == RISTULVA_OK);
+    if (below(4) == 0)
+        WANT(ristulva_guard_tick(&guard) == RISTULVA_OK);
+    memset(&came, 0xa5, sizeof came);
+    memset(way, 0x5a, sizeof way);
+    WANT(ristulva_guard_asks(&guard, side, &asks) == RISTULVA_OK);
+    WANT(ristulva_guard_hear(&guard, side, octets, len, &taken, &came) == RISTULVA_OK);
+    WANT(taken <= len && (taken > 0) == (asks.listens != 0 && len > 0) && came.what <= RISTULVA_CAME_ANSWERED);
+    WANT(ristulva_guard_way(&guard, side, way, room, &written) == RISTULVA_OK && written <= room && way[written] == 0x5a);
+    WANT(ristulva_guard_sent(&guard, side, written) == RISTULVA_OK);
+    (void)ristulva_guard_peer(&guard, side, &peer);
+    WANT(ristulva_guard_asks(&guard, side, &asks) == RISTULVA_OK && asks.way <= 69632);
+    WANT(live == kept && allocations == 0);
+    refused = 0;
+    calls += 6;
+    if (below(asks.ended ? 2 : 40) == 0)
+        free_guard();
+}
+
 /* All calls on some octets, which lie at one end of that place. */
 static void try_all(const uint8_t *from, size_t len)
 {
@@ -599,8 +669,10 @@ static void try_all(const uint8_t *from, size_t len)
     try_open(octets, len, &found, &verdict);
     try_text(&context, octets, len, &found);
     try_told(&context, octets, len, &found, &verdict);
-    if (cleans)
+    if (cleans) {
         try_clean(&context, octets, len, &found, &verdict);
+        try_guard(octets, len);
+    }
     try_decoder(&context, octets, len, &found, &verdict);
     try_session(octets, len, &found);
     if (found.what == RISTULVA_FOUND && verdict.kind == 2) {
@@ -748,6 +820,8 @@ static void *work(void *unused)
         size_t len = some_octets(octets);
         try_all(octets, len);
     }
+    if (guard.body != NULL)
+        free_guard();
     return unused;
 }
 

@@ -26,7 +26,7 @@ from .field import KINDS, Field
 from .library import MESSAGE, VERSION
 from .message import (
     ENDS, VERDICTS, WHYS, Attribute, Cleaned, Context, FamilyNotAgreed, Incomplete, Message, Open, Prefix, Refused, Route, WrongState, agree,
-    directions, encode, judge, messages, narrow, reconcile,
+    directions, encode, judge, messages, narrow, note_section, reconcile,
 )
 from .numbers import (
     AttributeType, CapabilityCode, CeaseError, ErrorCode, HeaderError, OpenError, RefreshError, StateError, UpdateError, attribute_name,
@@ -43,5 +43,5 @@ __all__ = [
     "Facts", "FamilyNotAgreed", "Field", "Flush", "HeaderError", "Heard", "Incomplete", "Message", "Open", "OpenError", "Peer", "Prefix",
     "RefreshError", "Refused", "Reset", "Route", "Seek", "Send", "Session", "SessionClosed", "State", "StateError", "Table", "Timer",
     "UpdateError", "Withdraw", "WrongState", "agree", "arrow", "attribute_name", "capability_name", "directions", "encode", "error_name",
-    "frame", "joined", "judge", "messages", "narrow", "prefixes", "reconcile", "subcode_name", "table",
+    "frame", "joined", "judge", "messages", "narrow", "note_section", "prefixes", "reconcile", "subcode_name", "table",
 ]

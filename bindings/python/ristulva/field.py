@@ -7,7 +7,7 @@ import dataclasses
 import typing
 from ctypes import c_size_t
 
-from .library import LIBRARY, CField, Said, Span
+from .library import LIBRARY, CField, CNote, Said, Span
 
 # What a field is, by the numbers of ristulva.h from 1 on. A prefix's kind says its family and where it stands.
 KINDS = (
@@ -56,3 +56,17 @@ def fault_of(octets: bytes, said: Said) -> typing.Optional[tuple[int, int]]:
     span = Span()
     LIBRARY.ristulva_fault(said, octets, len(octets), span)
     return (span.at, span.len) if span.len else None
+
+
+def fault_section_of(octets: bytes, said: Said) -> str:
+    room, written = 64, c_size_t()
+    text = ctypes.create_string_buffer(room)
+    LIBRARY.ristulva_fault_section(said, octets, len(octets), text, room, written)
+    return ctypes.string_at(text, written.value).decode("ascii")
+
+
+def note_section_of(kind: int, why: int) -> str:
+    room, written = 64, c_size_t()
+    text = ctypes.create_string_buffer(room)
+    LIBRARY.ristulva_note_section(CNote(0, kind, why), text, room, written)
+    return ctypes.string_at(text, written.value).decode("ascii")

@@ -216,6 +216,8 @@ def load() -> tuple[Library, int]:
         "name": [c_uint8, c_uint8, c_uint8, *buffer, POINTER(c_size_t)],
         "fields": [POINTER(Said), *octets, POINTER(CField), c_size_t, POINTER(c_size_t)],
         "fault": [POINTER(Said), *octets, POINTER(Span)],
+        "fault_section": [POINTER(Said), *octets, *buffer, POINTER(c_size_t)],
+        "note_section": [POINTER(CNote), *buffer, POINTER(c_size_t)],
         "field_name": [c_uint32, *buffer, POINTER(c_size_t)],
         "text": [POINTER(Said), c_uint64, *octets, *buffer, POINTER(c_size_t)],
         "encode": [POINTER(Said), *octets, *buffer, POINTER(c_size_t)],

@@ -12,7 +12,7 @@ import warnings
 from ctypes import c_size_t, c_uint16, c_uint32
 
 from .facts import Facts, facts_of
-from .field import Field, fault_of, fields_of
+from .field import Field, fault_of, fault_section_of, fields_of, note_section_of
 from .library import (
     DATA, HEADER, INCOMPLETE, LIBRARY, MEMORY, MESSAGE, MIXED, OK, RANGE, REFUSED, ROOM, STATE, UNWRITABLE, Attributes, CAttribute, CCapability,
     CCleaned, CFacts, CLargeCommunity, CNote, COpen, CPrefix, CRoute, CSegment, LargeCommunities, Numbers, Prefixes, RouteCursor, Said, Segments, Span,
@@ -209,6 +209,10 @@ class Message:
         """For which of its octets the session ends: where they begin in the message, and how many they are. None where it isn't a "reset"."""
         return fault_of(self.octets, self.context.said())
 
+    def fault_section(self) -> str:
+        """The section of an RFC by which the session ends, as `bgp explain` prints it; "own rule" where no RFC has it so. Empty where it isn't a "reset"."""
+        return fault_section_of(self.octets, self.context.said())
+
     def clean(self, first: bool = False, types: typing.Iterable[int] = ()) -> Cleaned:
         """What may be handed on of it to a hearer, who learns by it what RFC 7606 has the hearer of the message learn.
 
@@ -271,7 +275,8 @@ class Message:
         """Its routes as RFC 7606 has them: those that it withdraws, then those that it announces; an UPDATE that is treated as a withdrawal announces
         none, and withdraws all. Of other messages there are none.
 
-        Where it has IPv6 routes, and its context doesn't, a warning `FamilyNotAgreed` says so."""
+        Where it has MP_REACH_NLRI or MP_UNREACH_NLRI of IPv6 unicast, and its context doesn't, a warning `FamilyNotAgreed` says so, also where that has
+        no routes (an End-of-RIB)."""
         cursor = RouteCursor()
         if LIBRARY.ristulva_begin_routes(self.context.said(), self.octets, len(self.octets), cursor) != OK:
             return []
@@ -358,9 +363,15 @@ def messages(octets: typing.Any, context: Context) -> typing.Iterator[Message]:
         warnings.warn(f"the stream ends inside a message, of which it has {rest} octets", Incomplete, stacklevel=2)
 
 
+def note_section(kind: int, why: str) -> str:
+    """The section of an RFC by which a note on an attribute of a type is called for, one of WHYS, as `bgp explain` prints it."""
+    return note_section_of(kind, WHYS.index(why) + 1)
+
+
 def agree(ours: typing.Any, theirs: typing.Any) -> typing.Optional[tuple[Context, int]]:
     """What two speakers agree on, of whose OPENs the octets begin with one each: the context of their session, and its Hold Time in seconds, 0 for
-    none; as `bgp show --opens` finds it. None where one of them is no OPEN that is accepted. Neither is refused for what it says."""
+    none; as `bgp show --opens` finds it. None where one of them is no OPEN that is accepted. Neither is refused for what it says: who reads on refuses a
+    direction for which both agree on path identifiers (capability 69; RFC 7911), since its routes aren't read here."""
     said, hold = Said(), c_uint16()
     one, other = part(in_octets(ours), 0), part(in_octets(theirs), 0)
     if LIBRARY.ristulva_agree(one, len(one), other, len(other), said, hold) != OK:

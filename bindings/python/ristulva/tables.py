@@ -122,8 +122,8 @@ def hits(octets: Array) -> typing.Iterator[Array]:
 
 
 def loses_ip6(octets: Array, context: Context, starts: Array) -> bool:
-    """Whether an UPDATE among messages has IPv6 routes, and the context doesn't. Some of the messages begin at `starts`, which rise; only those are judged
-    again that may have some."""
+    """Whether an UPDATE among messages has MP_REACH_NLRI or MP_UNREACH_NLRI of IPv6 unicast, and the context doesn't. Some of the messages begin at
+    `starts`, which rise; only those are judged again that may have some."""
     import numpy
 
     begin = end = 0

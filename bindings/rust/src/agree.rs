@@ -11,7 +11,8 @@ pub struct Agreed {
 
 /// What two speakers agree on, of whose OPENs the octets begin with one each, as each of them finds it,
 /// and as `bgp show --opens` does. `None` where one of them is no OPEN that is accepted; neither is
-/// refused for what it says.
+/// refused for what it says: who reads on refuses a direction for which both agree on path
+/// identifiers (capability 69; RFC 7911), since its routes aren't read here.
 pub fn agree(ours: &[u8], theirs: &[u8]) -> Option<Agreed> {
     let (context, hold_time) = raw::agree(ours, theirs)?;
     let context = Context::of(&context);

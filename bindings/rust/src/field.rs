@@ -204,6 +204,13 @@ impl<'a> Message<'a> {
         let at = span.at as usize;
         (span.len > 0).then(|| at..at + span.len as usize)
     }
+
+    /// The section of an RFC by which the session ends, as `bgp explain` prints it; "own rule" where
+    /// no RFC has it so. Empty where it doesn't end.
+    pub fn fault_section(&self) -> String {
+        let (context, octets) = self.judged();
+        raw::fault_section(&context.said(), octets)
+    }
 }
 
 fn field<'a>(octets: &'a [u8], it: &raw::Field) -> Field<'a> {

@@ -76,6 +76,18 @@ pub struct Note {
     pub why: Why,
 }
 
+impl Note {
+    /// The section of an RFC by which it is called for, as `bgp explain` prints it.
+    pub fn section(&self) -> String {
+        let why = WHYS.iter().position(|it| *it == self.why).map_or(0, |at| at as u8 + 1);
+        raw::note_section(&raw::Note {
+            at: self.at.map_or(0, |at| at as u32),
+            kind: self.kind,
+            why,
+        })
+    }
+}
+
 /// The notes on an UPDATE: the attributes by their places, the one that is cut off, and then what
 /// is missing.
 ///

@@ -79,6 +79,15 @@ extern "C" {
     fn ristulva_name(kind: u8, number: u8, subcode: u8, text: *mut c_char, room: usize, written: *mut usize) -> u32;
     fn ristulva_fields(context: *const Context, octets: *const u8, len: usize, fields: *mut Field, room: usize, written: *mut usize) -> u32;
     fn ristulva_fault(context: *const Context, octets: *const u8, len: usize, out: *mut Span) -> u32;
+    fn ristulva_fault_section(
+        context: *const Context,
+        octets: *const u8,
+        len: usize,
+        text: *mut c_char,
+        room: usize,
+        written: *mut usize,
+    ) -> u32;
+    fn ristulva_note_section(note: *const Note, text: *mut c_char, room: usize, written: *mut usize) -> u32;
     fn ristulva_field_name(kind: u32, name: *mut c_char, room: usize, written: *mut usize) -> u32;
     fn ristulva_text(context: *const Context, place: u64, octets: *const u8, len: usize, text: *mut c_char, room: usize, written: *mut usize) -> u32;
     fn ristulva_encode(context: *const Context, body: *const u8, len: usize, message: *mut u8, room: usize, written: *mut usize) -> u32;
@@ -174,6 +183,26 @@ pub fn fault(context: &Context, octets: &[u8]) -> Span {
     // SAFETY: see above.
     unsafe { ristulva_fault(context, octets.as_ptr(), octets.len(), &mut out) };
     out
+}
+
+/// The most octets of a section.
+const SECTION: usize = 27;
+
+/// The section by which the first message is a reset: empty where it isn't.
+pub fn fault_section(context: &Context, octets: &[u8]) -> String {
+    let (mut text, mut written) = ([0u8; SECTION], 0);
+    let (at, len) = (octets.as_ptr(), octets.len());
+    // SAFETY: see above.
+    unsafe { ristulva_fault_section(context, at, len, text.as_mut_ptr().cast(), SECTION, &mut written) };
+    String::from_utf8_lossy(&text[..written]).into_owned()
+}
+
+/// The section by which a note is called for.
+pub fn note_section(note: &Note) -> String {
+    let (mut text, mut written) = ([0u8; SECTION], 0);
+    // SAFETY: see above.
+    unsafe { ristulva_note_section(note, text.as_mut_ptr().cast(), SECTION, &mut written) };
+    String::from_utf8_lossy(&text[..written]).into_owned()
 }
 
 /// How many octets the name of a kind of field has, which stands at the beginning of `name`.

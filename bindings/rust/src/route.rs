@@ -32,7 +32,8 @@ pub struct Routes<'a> {
 }
 
 impl Routes<'_> {
-    /// Whether the UPDATE has IPv6 routes that aren't given, since its context has no `ip6`.
+    /// Whether the UPDATE has MP_REACH_NLRI or MP_UNREACH_NLRI of IPv6 unicast, and its context has no
+    /// `ip6`: its routes aren't given, if it has any (an End-of-RIB has none).
     pub fn loses_ip6(&self) -> bool {
         self.cursor.loses_ip6 != 0
     }

@@ -1,6 +1,6 @@
 //! The fields of messages and the places of faults: values by hand.
 
-use ristulva::{judge, Context, FieldKind, Group};
+use ristulva::{judge, Context, FieldKind, Group, Note, Why};
 
 const CONTEXT: Context = Context {
     internal: false,
@@ -67,4 +67,26 @@ fn the_places_of_faults() {
     let message = judge(&CONTEXT, &marker).unwrap();
     assert_eq!(message.fault(), Some(7..8));
     assert_eq!(message.fields().len(), 3);
+}
+
+/// An MP_UNREACH_NLRI of two octets; one that is transitive; an ORIGIN of 3 where nothing is
+/// announced; an unknown type; nothing. And of a note.
+#[test]
+fn the_sections_of_faults() {
+    let cases = [
+        (message(2, &[0, 0, 0, 5, 0x80, 15, 2, 0, 2]), "RFC 7606, section 5.3"),
+        (message(2, &[0, 0, 0, 6, 0xc0, 15, 3, 0, 2, 1]), "own rule"),
+        (message(2, &[0, 0, 0, 4, 0x40, 1, 1, 3]), "RFC 7606, section 5.2"),
+        (message(9, &[]), "RFC 4271, section 6.1"),
+        (message(4, &[]), ""),
+    ];
+    for (octets, wanted) in cases {
+        assert_eq!(judge(&CONTEXT, &octets).unwrap().fault_section(), wanted);
+    }
+    let note = Note {
+        at: Some(23),
+        kind: 14,
+        why: Why::Family,
+    };
+    assert_eq!(note.section(), "RFC 4760, section 8");
 }

@@ -7,6 +7,7 @@ pub mod Mp
 pub mod Table
 pub mod Value
 pub mod Judgement
+pub mod MpTest
 pub mod Spelling
 pub mod Written
 pub mod NumberIter

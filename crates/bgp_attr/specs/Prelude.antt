@@ -11,6 +11,7 @@ pub use Rattle.bgp_attr.specs.Table.{entry_of, has_entry}
 pub use Rattle.bgp_attr.specs.Value.{aggregator_of, as4_path_form, as4_path_of, as_path_form, communities_of, four_of, large_of, opaque_of, origin_of}
 pub use Rattle.bgp_attr.specs.Judgement.{AttributeType, aggregator_tests, as4_aggregator_tests, as4_path_tests, as_path_tests, atomic_tests, communities_tests, decided, four_tests, internal_tests, has_bad_prefix, is_recognised, is_shorter, judgement, large_tests, mp_reach_tests, mp_unreach_tests, next_hop_tests, origin_tests, other_tests, other_type, types}
 unfoldable pub use Rattle.bgp_attr.specs.Judgement.{type_row}
+pub use Rattle.bgp_attr.specs.MpTest.{deciding, deciding_test, reach_names, unreach_names}
 pub use Rattle.bgp_attr.specs.Spelling.{HasLink, IsAggregator, IsAs4Path, IsAsPath, IsAtomic, IsCommunities, IsFour, IsLarge, IsMpReach, IsMpUnreach, IsNextHop, IsOfType, IsOpaque, IsOrigin, IsPath, IsReach, IsReachValue, IsUnreach, IsUnreachValue, Spells, link_octets, origin_code}
 pub use Rattle.bgp_attr.specs.Written.{Belongs, HasLinkRange, HasPathRanges, HasRanges, IsAddress, IsFourOctets, IsThreeNumbers, aggregator_octets, any_number, canonical, class_of, has_as_zero, is_above_two_octets, is_as4, is_bad_segment, is_empty, is_misnamed, is_out_of_place, is_too_long, is_too_wide, is_writable, is_zero, made, optional_class, partial_of, path_octets, reach_octets, reach_row, repeats, run_octets, segment_code, segment_octets, stands_twice, type_of, unreach_octets, unreach_row, unwritable, value_octets, why_unless, written_tlv}
 pub use Rattle.bgp_attr.specs.NumberIter.{as_numbers_left, communities_left}

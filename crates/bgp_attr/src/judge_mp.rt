@@ -17,7 +17,7 @@ use bgp_open::Context;
 use bgp_prefix::{PrefixIter4, PrefixIter6, check_run4, check_run6};
 
 /// The family of routes, where it is known.
-fn family_of(value: &[u8]) -> Option<Family>
+pub(crate) fn family_of(value: &[u8]) -> Option<Family>
     requires { 3 ≤ length value.now }
     ensures { result ≡ family_of value.now }
 {
@@ -32,7 +32,7 @@ fn family_of(value: &[u8]) -> Option<Family>
 }
 
 /// Whether both speakers offer a family.
-fn is_in_use(ctx: &Context, family: Family) -> bool
+pub(crate) fn is_in_use(ctx: &Context, family: Family) -> bool
     ensures { result ≡ is_in_use ctx.now (Some family) }
 {
     match family {
@@ -42,7 +42,7 @@ fn is_in_use(ctx: &Context, family: Family) -> bool
 }
 
 /// Whether a next hop of the family may have so many octets.
-fn is_next_hop_length(family: Family, len: usize) -> bool
+pub(crate) fn is_next_hop_length(family: Family, len: usize) -> bool
     ensures { result ≡ is_next_hop_length (Some family) len }
 {
     match family {
@@ -53,7 +53,7 @@ fn is_next_hop_length(family: Family, len: usize) -> bool
 
 /// Whether octets are prefixes of the family alone.
 #[tactic(auto, using(crate::proofs::Runs::bad_prefix_by))]
-fn is_run(family: Family, octets: &[u8]) -> bool
+pub(crate) fn is_run(family: Family, octets: &[u8]) -> bool
     ensures { not result ≡ has_bad_prefix (address_width (Some family)) octets.now }
 {
     match family {

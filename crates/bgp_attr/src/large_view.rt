@@ -41,7 +41,7 @@ fn stands_in(triple: [u32; 3], octets: &[u8]) -> bool
     false
 }
 
-/// The first triple of LARGE_COMMUNITY from an offset on that isn't among those before it, and the offset behind it (RFC 8092, section 5).
+/// The first triple of LARGE_COMMUNITY from an offset on that isn't among those before it, and the offset behind it (RFC 8092, section 3).
 pub fn first_new_triple(octets: &[u8], from: usize) -> Option<([u32; 3], usize)>
     requires { IsRowUpTo octets.now from }
     ensures { GivesNew octets.now from result }

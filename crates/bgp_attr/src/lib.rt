@@ -26,6 +26,7 @@ mod large_iter;
 mod large_view;
 pub mod laws;
 mod mp;
+mod mp_test;
 mod mp_view;
 mod numbers;
 mod opaque;
@@ -68,6 +69,7 @@ pub use judging::{
 pub use large_iter::LargeCommIter;
 pub use large_view::first_new_triple;
 pub use mp::{MpReach, MpUnreach};
+pub use mp_test::{MpTest, deciding_test};
 pub use mp_view::{MpReachView, MpUnreachView};
 pub use numbers::{AsNumberIter, CommIter, first_number};
 pub use opaque::{Opaque, OpaqueView};

@@ -29,9 +29,15 @@ fn put_case(alloc: Global, row: &Row<'_>, case: &Case, octets: &[u8]) -> Result<
         "written" => put_written(alloc, row, &case.context, octets),
         "path" => put_paths(alloc, &case.context, octets),
         "changes" => put_changes(alloc, &case.context, octets),
-        "show" | "explain" | "faults" | "check" | "to-hex" | "from-hex" | "narrow" | "clean" => {
-            put_engine(alloc, row, &case.context, octets)
-        }
+        "show"
+        | "explain"
+        | "reasons"
+        | "faults"
+        | "check"
+        | "to-hex"
+        | "from-hex"
+        | "narrow"
+        | "clean" => put_engine(alloc, row, &case.context, octets),
         _ => Err(Trouble::Row("its kind is none that there is")),
     }
 }

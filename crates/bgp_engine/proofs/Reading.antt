@@ -147,7 +147,7 @@ module _ {reports0 : Reports} {hex : Bool} {r0 w0 : Option (List ℕ)} where
     finished (Err ToolFault.Net) all_read a = absurd a
     finished (Err (ToolFault.Narrow n)) all_read a = fails_behind (ToolFault.Narrow n) (λ report all whole answer read. (whole, answer, read)) all_read a
     finished (Err (ToolFault.Clean n why)) all_read a = fails_behind (ToolFault.Clean n why) (λ report all whole answer read. (a.0, whole, answer, read)) all_read a.1
-    finished (Err ToolFault.NoOpen) all_read a = fails_behind ToolFault.NoOpen (λ report all whole answer read. (whole, answer, read)) all_read a
+    finished (Err (ToolFault.NoContext why)) all_read a = fails_behind (ToolFault.NoContext why) (λ report all whole answer read. (whole, answer, read)) all_read a
 
   -- nothing was read yet
   pub Reading-none : (going : Type 0) (reader : HexText) → going → Rests reports0 → reader.pending ≡ None → reader.seen ≡ 0 → Reading reports0 hex r0 w0 reports0 going r0 w0 reader 0

@@ -12,7 +12,9 @@ use Rattle.bgp_engine.proofs.Prelude.{Stage}
 use Rattle.bgp_frame.specs.Takes as frame
 use Rattle.bgp_frame.proofs.Holding.{IsHeld_nil}
 use Rattle.bgp_engine.specs.declared.cleaning.CleanPage.{CleanPage}
+use Rattle.bgp_engine.specs.declared.fault.NoContext.{NoContext}
 use Rattle.bgp_engine.specs.declared.fault.Stop.{Stop}
+use Rattle.bgp_engine.specs.First.{start_by}
 use Rattle.bgp_engine.specs.steps.Cleaning.{clean_plan, page_rules, starts_for}
 use Rattle.bgp_engine.specs.steps.Starting as steps
 use Rattle.bgp_engine.proofs.FirstOpens.{waits_part, frame_first, frame_whole, fault_whole, fault_first}
@@ -63,13 +65,13 @@ module _ {Outcome : Type 0} (starts : Starts Outcome) where
           let r : Report = heard rules len (counted no_tally len Class.Took) (drop len s) in
           (behind text r, record { report = r; rest = heard_report rules len _ (drop len s) (AreOctets-drop len s octets); told = refl })
 
-      by_start : (len : ℕ) (o : Option (Start Outcome)) → (r : Report) × ReportedWith o len s r
-      by_start len None = (unagreed (unagreed_end s), refl)
-      by_start len (Some x) = by_text x.rules len x.first
+      by_start : (len : ℕ) (o : Result (Start Outcome) NoContext) → (r : Report) × ReportedWith o len s r
+      by_start len (Err why) = (unagreed why (unagreed_end s), refl)
+      by_start len (Ok x) = by_text x.rules len x.first
 
-      by_none : (o : Option (Start Outcome)) → (r : Report) × ReportedWithout o s r
-      by_none None = (unagreed (unagreed_end s), refl)
-      by_none (Some x) = (heard x.rules 0 no_tally s, heard_report x.rules 0 no_tally s octets)
+      by_none : (o : Result (Start Outcome) NoContext) → (r : Report) × ReportedWithout o s r
+      by_none (Err why) = (unagreed why (unagreed_end s), refl)
+      by_none (Ok x) = (heard x.rules 0 no_tally s, heard_report x.rules 0 no_tally s octets)
 
       by_first : (o : Option Message) → (r : Report) × ReportedAt starts o s r
       by_first None = by_none (starts None)
@@ -81,10 +83,10 @@ module _ {Outcome : Type 0} (starts : Starts Outcome) where
   -- ---- the first message is there
 
   module _ (held : List ℕ) (m : Message) (f : IsFrame m held) (later : List ℕ) where
-    pub plain : (rules : Rules Outcome) (r : Report) → starts (Some m) ≡ Some (record { rules = rules; first = None }) → IsReport rules 0 no_tally (held ++ later) r → ReportedFrom starts (held ++ later) r
+    pub plain : (rules : Rules Outcome) (r : Report) → starts (Some m) ≡ Ok (record { rules = rules; first = None }) → IsReport rules 0 no_tally (held ++ later) r → ReportedFrom starts (held ++ later) r
     plain rules r e q = rw (frame_first m held f later, e) q
 
-    pub handed : (rules : Rules Outcome) (text : List ℕ) (r : Report) → starts (Some m) ≡ Some (record { rules = rules; first = Some text })
+    pub handed : (rules : Rules Outcome) (text : List ℕ) (r : Report) → starts (Some m) ≡ Ok (record { rules = rules; first = Some text })
         → IsReport rules (length held) (counted no_tally (length held) Class.Took) later r → ReportedFrom starts (held ++ later) (behind text r)
     handed rules text r e q =
         rw (frame_first m held f later, e)
@@ -95,13 +97,13 @@ module _ {Outcome : Type 0} (starts : Starts Outcome) where
           told = refl;
         })
 
-    pub unagreed_with : starts (Some m) ≡ None → ReportedFrom starts (held ++ later) (unagreed End.Reset)
-    unagreed_with e = rw (frame_first m held f later, e, frame_whole m held f later) refl
+    pub unagreed_with : (why : NoContext) → starts (Some m) ≡ Err why → ReportedFrom starts (held ++ later) (unagreed why End.Reset)
+    unagreed_with why e = rw (frame_first m held f later, e, frame_whole m held f later) refl
 
   -- ---- none can be read
 
   module _ (s : List ℕ) (none : first_message s ≡ None) where
-    pub without : (rules : Rules Outcome) (r : Report) → starts None ≡ Some (record { rules = rules; first = None }) → IsReport rules 0 no_tally s r → ReportedFrom starts s r
+    pub without : (rules : Rules Outcome) (r : Report) → starts None ≡ Ok (record { rules = rules; first = None }) → IsReport rules 0 no_tally s r → ReportedFrom starts s r
     without rules r e q = rw (none, e) q
 
   -- ---- how a stream goes on behind what is held
@@ -125,7 +127,7 @@ module _ {Outcome : Type 0} (starts : Starts Outcome) where
         (reports_report held_walk later r unended (record { octets = c.octets; within = within }) octets q)
 
     -- a stream that ends with a first message that waits
-    pub closes_first : (t0 t1 : List ℕ) (answer : Result Tally ToolFault) → Waits held → starts None ≡ Some (record { rules = rules1; first = None }) → Closes (reports_of held_walk) t0 t1 answer
+    pub closes_first : (t0 t1 : List ℕ) (answer : Result Tally ToolFault) → Waits held → starts None ≡ Ok (record { rules = rules1; first = None }) → Closes (reports_of held_walk) t0 t1 answer
         → Closes (reports_in (starting starts Stage.First held_walk)) t0 t1 answer
     closes_first t0 t1 answer waits e closes =
         let none = part_first (held ++ []) (subst Waits (sym (append-nil held)) waits) in
@@ -133,10 +135,10 @@ module _ {Outcome : Type 0} (starts : Starts Outcome) where
         record { report = r; reported = λ octets. without (held ++ []) none rules1 r e (from_front (omega (arith, waits)) [] r octets closes.reported); none = closes.none; closes = closes.closes }
 
     module _ (told : List ℕ) (m : Message) (f : IsFrame m held) where
-      pub settles_unagreed : (told1 : List ℕ) → (starts (Some m) ≡ None) × (told1 ≡ told) → Settles Stage.Unagreed starts held told told1 held_walk
-      settles_unagreed told1 b = record { lines = []; told = b.1 ∙ sym (append-nil told); settles = (λ later. unagreed_with held m f later b.0, refl) }
+      pub settles_unagreed : (why : NoContext) (told1 : List ℕ) → (starts (Some m) ≡ Err why) × (told1 ≡ told) → Settles (Stage.Unagreed why) starts held told told1 held_walk
+      settles_unagreed why told1 b = record { lines = []; told = b.1 ∙ sym (append-nil told); settles = (λ later. unagreed_with held m f later why b.0, refl) }
 
-      pub settles_plain : (told1 : List ℕ) → (starts (Some m) ≡ Some (record { rules = rules1; first = None })) × (told1 ≡ told) → Settles Stage.Agreed starts held told told1 held_walk
+      pub settles_plain : (told1 : List ℕ) → (starts (Some m) ≡ Ok (record { rules = rules1; first = None })) × (told1 ≡ told) → Settles Stage.Agreed starts held told told1 held_walk
       settles_plain told1 b = record {
         lines = [];
         told = b.1 ∙ sym (append-nil told);
@@ -149,7 +151,7 @@ module _ {Outcome : Type 0} (starts : Starts Outcome) where
           (subst (λ (w : Walking Outcome). IsReport rules1 (w.place + length held) (counted w.tally (length held) Class.Took) later r) fresh
           (reports_report (handed_walk (length held)) later r refl IsHeld_nil octets q))
 
-      pub settles_handed : (told1 : List ℕ) (len : ℕ) → len ≡ length held → ((text : List ℕ) × (starts (Some m) ≡ Some (record { rules = rules1; first = Some text })) × (told1 ≡ told ++ text))
+      pub settles_handed : (told1 : List ℕ) (len : ℕ) → len ≡ length held → ((text : List ℕ) × (starts (Some m) ≡ Ok (record { rules = rules1; first = Some text })) × (told1 ≡ told ++ text))
           → Settles Stage.Agreed starts held told told1 (handed_walk len)
       settles_handed told1 len same b =
           subst (λ (n : ℕ). Settles Stage.Agreed starts held told told1 (handed_walk n)) (sym same)
@@ -172,15 +174,15 @@ module _ {Outcome : Type 0} (starts : Starts Outcome) where
       no_part later =
           fault_whole (held ++ later) h (omega (arith, size, length-append held later)) (head_of-append held later (omega (arith, size)) ∙ faulty)
 
-      pub settles_fault : starts None ≡ Some (record { rules = rules1; first = None }) → Settles Stage.Agreed starts held told told1 held_walk
+      pub settles_fault : starts None ≡ Ok (record { rules = rules1; first = None }) → Settles Stage.Agreed starts held told told1 held_walk
       settles_fault b = record {
         lines = [];
         told = same ∙ sym (append-nil told);
         settles = (unended, counts_held, λ later r octets q. without (held ++ later) (none_read later) rules1 r b (from_front (let long = Stops-wanted held (inr (size, (h, faulty))) in omega (arith, long.1)) later r octets q));
       }
 
-      pub settles_fault_unagreed : starts None ≡ None → Settles Stage.Unagreed starts held told told1 held_walk
-      settles_fault_unagreed e = record {
+      pub settles_fault_unagreed : (why : NoContext) → starts None ≡ Err why → Settles (Stage.Unagreed why) starts held told told1 held_walk
+      settles_fault_unagreed why e = record {
         lines = [];
         told = same ∙ sym (append-nil told);
         settles = (λ later. rw (none_read later, e, no_part later) refl, refl);
@@ -188,9 +190,9 @@ module _ {Outcome : Type 0} (starts : Starts Outcome) where
 
   -- ---- a block of octets
 
-  rests_by : (held : List ℕ) → Waits held → (o : Option (Start Outcome)) → starts None ≡ o → (r : Report) × ReportedFrom starts held r × (r.lines ≡ []) × IsWaiting r.end_of
-  rests_by held waits None e = (unagreed (End.Wait (length held)), rw (part_first held waits, e, waits_part held waits) refl, refl, tt)
-  rests_by held waits (Some x) e = (
+  rests_by : (held : List ℕ) → Waits held → (o : Result (Start Outcome) NoContext) → starts None ≡ o → (r : Report) × ReportedFrom starts held r × (r.lines ≡ []) × IsWaiting r.end_of
+  rests_by held waits (Err why) e = (unagreed why (End.Wait (length held)), rw (part_first held waits, e, waits_part held waits) refl, refl, tt)
+  rests_by held waits (Ok x) e = (
     report_of x.rules 0 no_tally held [] (End.Wait (length held)),
     rw (part_first held waits, e) (record { outcomes = []; end_of = End.Wait (length held); gives = gives_wait Outcome x.rules.judge held waits; told = refl }),
     refl,
@@ -222,16 +224,16 @@ module _ {Outcome : Type 0} (starts : Starts Outcome) where
           stands = (first, first_rests w1 first.waits);
         }
 
-    pub takes_unagreed : Settles Stage.Unagreed starts fed t0 t1 w1
-        → (starts1 : Starts Outcome) → Takes (reports_in (starting starts Stage.First w0)) (reports_in (starting starts1 Stage.Unagreed w1)) (steps.GoesOn (starting starts1 Stage.Unagreed w1)) t0 t1 octets true
-    takes_unagreed s starts1 = record {
+    pub takes_unagreed : (why : NoContext) → Settles (Stage.Unagreed why) starts fed t0 t1 w1
+        → (starts1 : Starts Outcome) → Takes (reports_in (starting starts Stage.First w0)) (reports_in (starting starts1 (Stage.Unagreed why) w1)) (steps.GoesOn (starting starts1 (Stage.Unagreed why) w1)) t0 t1 octets true
+    takes_unagreed why s starts1 = record {
       lines = s.lines;
       told = s.told;
       goes_on = λ later r q are.
           subst (λ (l : List ℕ). ReportedFrom starts (w0.held ++ (octets ++ later)) (behind l r)) (sym s.settles.1)
           (subst (λ (x : Report). ReportedFrom starts (w0.held ++ (octets ++ later)) x) (sym q)
-          (subst (λ (x : List ℕ). ReportedFrom starts x (unagreed End.Reset)) (fed_whole w0.held octets n later) (s.settles.0 (drop n octets ++ later))));
-      stands = record { report = unagreed End.Reset; reported = refl; none = refl; over = λ r q. subst (λ (x : Report). IsOver x.end_of) (sym q) tt; always = λ later more r q. q };
+          (subst (λ (x : List ℕ). ReportedFrom starts x (unagreed why End.Reset)) (fed_whole w0.held octets n later) (s.settles.0 (drop n octets ++ later))));
+      stands = record { report = unagreed why End.Reset; reported = refl; none = refl; over = λ r q. subst (λ (x : Report). IsOver x.end_of) (sym q) tt; always = λ later more r q. q };
     }
 
     pub takes_agreed : (starts1 : Starts Outcome) (w2 : Walking Outcome) (t2 : List ℕ) (over : Bool) → Settles Stage.Agreed starts fed t0 t1 w1 → Takes (reports_of w1) (reports_of w2) (IsReady w2) t1 t2 (drop n octets) over
@@ -244,16 +246,16 @@ module _ {Outcome : Type 0} (starts : Starts Outcome) where
 
   -- ---- where a stream ends
 
-  pub closes_none : (w : Walking Outcome) (told : List ℕ) → Waits w.held → starts None ≡ None → Closes (reports_in (starting starts Stage.First w)) told told (Err ToolFault.NoOpen)
-  closes_none w told waits e = record {
-    report = unagreed (End.Wait (length w.held));
-    reported = λ octets. subst (λ (x : List ℕ). ReportedFrom starts x (unagreed (End.Wait (length w.held)))) (sym (append-nil w.held)) (rw (part_first w.held waits, e, waits_part w.held waits) refl);
+  pub closes_none : (w : Walking Outcome) (told : List ℕ) (why : NoContext) → Waits w.held → starts None ≡ Err why → Closes (reports_in (starting starts Stage.First w)) told told (Err (ToolFault.NoContext why))
+  closes_none w told why waits e = record {
+    report = unagreed why (End.Wait (length w.held));
+    reported = λ octets. subst (λ (x : List ℕ). ReportedFrom starts x (unagreed why (End.Wait (length w.held)))) (sym (append-nil w.held)) (rw (part_first w.held waits, e, waits_part w.held waits) refl);
     none = refl;
     closes = (sym (append-nil told), refl);
   }
 
-pub closes_unagreed : {Outcome : Type 0} (starts : Starts Outcome) (w : Walking Outcome) (told : List ℕ) → Closes (reports_in (starting starts Stage.Unagreed w)) told told (Err ToolFault.NoOpen)
-closes_unagreed starts w told = record { report = unagreed End.Reset; reported = refl; none = refl; closes = (sym (append-nil told), refl) }
+pub closes_unagreed : {Outcome : Type 0} (starts : Starts Outcome) (w : Walking Outcome) (told : List ℕ) (why : NoContext) → Closes (reports_in (starting starts (Stage.Unagreed why) w)) told told (Err (ToolFault.NoContext why))
+closes_unagreed starts w told why = record { report = unagreed why End.Reset; reported = refl; none = refl; closes = (sym (append-nil told), refl) }
 
 -- an engine's answer has no words
 pub wordless : (reports : Reports) (hex : Bool) (io : Io) (answer : Result Tally ToolFault) → Answers reports hex io answer → without_words answer ≡ answer
@@ -268,7 +270,7 @@ wordless reports hex io (Err (ToolFault.Narrow n)) a = refl
 wordless reports hex io (Err (ToolFault.Clean n Stop.Unsaid)) a = refl
 wordless reports hex io (Err (ToolFault.Clean n Stop.Incomplete)) a = refl
 wordless reports hex io (Err (ToolFault.Clean n (Stop.At why))) a = absurd a.is_fault.0
-wordless reports hex io (Err ToolFault.NoOpen) a = refl
+wordless reports hex io (Err (ToolFault.NoContext why)) a = refl
 
 -- ---- how a page's stream is read
 
@@ -276,23 +278,34 @@ module _ {P Outcome : Type 0} (fits : Context → Bool) (rules : P → Rules Out
   abbrev from : Option (List ℕ) → P → Starts Outcome
   from theirs page = starts_of fits rules plan theirs page
 
-  pub known : (o : Option (Bor (List ℕ))) (page : P) → is_some o ≡ false → from (option_map (λ t. t.now) o) page None ≡ Some (record { rules = rules page; first = None })
+  pub known : (o : Option (Bor (List ℕ))) (page : P) → is_some o ≡ false → from (option_map (λ t. t.now) o) page None ≡ Ok (record { rules = rules page; first = None })
   known None page is = refl
   known (Some theirs) page is = absurd cc
 
-  pub unknown : (o : Option (Bor (List ℕ))) (page : P) → is_some o ≡ true → from (option_map (λ t. t.now) o) page None ≡ None
+  pub unknown : (o : Option (Bor (List ℕ))) (page : P) → is_some o ≡ true → from (option_map (λ t. t.now) o) page None ≡ Err NoContext.NoOpen
   unknown None page is = absurd cc
   unknown (Some theirs) page is = refl
+
+  -- pages with the same rules and plan read a stream alike
+  starts_at : (theirs : Option (List ℕ)) (p q : P) → rules p ≡ rules q → plan p ≡ plan q → (o : Option Message) → from theirs p o ≡ from theirs q o
+  starts_at None p q e f None = ap (λ (r : Rules Outcome). Ok (record { rules = r; first = None })) e
+  starts_at None p q e f (Some m) = ap (λ (x : Option Context → Plan Outcome). Ok (start_of m (x None))) f
+  starts_at (Some theirs) p q e f None = refl
+  starts_at (Some theirs) p q e f (Some m) =
+      ap (λ (x : Option Context → Plan Outcome). start_by (λ ctx. start_of m (x (Some ctx))) (fit_of fits (agreed (open_in m.kind m.body) (first_open theirs)))) f
+
+  pub starts_same : (theirs : Option (List ℕ)) (p q : P) → rules p ≡ rules q → plan p ≡ plan q → from theirs p ≡ from theirs q
+  starts_same theirs p q e f = λ i o. starts_at theirs p q e f o i
 
   -- no first message has a rule of its own: the stream is reported in the context that both agree on
   pub opened : (theirs : List ℕ) (page : P) → ((ctx : Context) (m : Message) → (plan page (Some ctx)).first m ≡ None) → (s : List ℕ) (r : Report)
       → ReportedFrom (from (Some theirs) page) s r → ReportedBy fits theirs (λ ctx. IsReport (plan page (Some ctx)).rules 0 no_tally) s r
   opened theirs page plain s r q = by_first (first_message s) q
     where
-      by_fit : (m : Message) (o : Option Context) → ReportedWith (option_map (λ ctx. start_of m (plan page (Some ctx))) o) (length (octets_of m)) s r
+      by_fit : (m : Message) (o : Result Context NoContext) → ReportedWith (start_by (λ ctx. start_of m (plan page (Some ctx))) o) (length (octets_of m)) s r
           → ReportedIn o (λ ctx. IsReport (plan page (Some ctx)).rules 0 no_tally) s r
-      by_fit m None given = given
-      by_fit m (Some ctx) given = subst (λ (text : Option (List ℕ)). ReportedAs (plan page (Some ctx)).rules text (length (octets_of m)) s r) (plain ctx m) given
+      by_fit m (Err why) given = given
+      by_fit m (Ok ctx) given = subst (λ (text : Option (List ℕ)). ReportedAs (plan page (Some ctx)).rules text (length (octets_of m)) s r) (plain ctx m) given
 
       by_first : (o : Option Message) → ReportedAt (from (Some theirs) page) o s r → ReportedIn (fit_of fits (agreed (open_at o) (first_open theirs))) (λ ctx. IsReport (plan page (Some ctx)).rules 0 no_tally) s r
       by_first None given = given
@@ -303,8 +316,8 @@ pub from_same : {Outcome : Type 0} (a b : Starts Outcome) → ((o : Option Messa
 from_same {Outcome = Outcome} a b same s r q = by_first (first_message s) q
   where
     by_first : (o : Option Message) → ReportedAt a o s r → ReportedAt b o s r
-    by_first None given = subst (λ (x : Option (Start Outcome)). ReportedWithout x s r) (same None) given
-    by_first (Some m) given = subst (λ (x : Option (Start Outcome)). ReportedWith x (length (octets_of m)) s r) (same (Some m)) given
+    by_first None given = subst (λ (x : Result (Start Outcome) NoContext). ReportedWithout x s r) (same None) given
+    by_first (Some m) given = subst (λ (x : Result (Start Outcome) NoContext). ReportedWith x (length (octets_of m)) s r) (same (Some m)) given
 
 -- what `clean` has for a page is what its own streams are read by
 pub clean_same : (theirs : Option (List ℕ)) (page : CleanPage) (o : Option Message)
@@ -314,6 +327,6 @@ clean_same None page (Some m) = refl
 clean_same (Some theirs) page None = refl
 clean_same (Some theirs) page (Some m) = by_agreed (agreed (open_in m.kind m.body) (first_open theirs))
   where
-    by_agreed : (o : Option Context) → option_map (λ ctx. start_of m (clean_plan ctx (has_octet page.drops))) (fit_of (λ _. true) o) ≡ option_map (start_in (has_octet page.drops) (Some m)) o
-    by_agreed None = refl
-    by_agreed (Some ctx) = refl
+    by_agreed : (o : Result Context NoContext) → start_by (λ ctx. start_of m (clean_plan ctx (has_octet page.drops))) (fit_of (λ _. true) o) ≡ start_by (start_in (has_octet page.drops) (Some m)) o
+    by_agreed (Err why) = refl
+    by_agreed (Ok ctx) = refl

@@ -156,7 +156,7 @@ closes_by : (report : Report) (t0 t1 : List ℕ) (answer : Result Tally ToolFaul
 closes_by report t0 t1 (Ok tally) is told same = (told, same)
 closes_by report t0 t1 (Err (ToolFault.Narrow n)) is told same = (told, same)
 closes_by report t0 t1 (Err (ToolFault.Clean n why)) is told same = (is, told, same)
-closes_by report t0 t1 (Err ToolFault.NoOpen) is told same = absurd is
+closes_by report t0 t1 (Err (ToolFault.NoContext why)) is told same = absurd is
 closes_by report t0 t1 (Err ToolFault.Memory) is told same = absurd is
 closes_by report t0 t1 (Err ToolFault.Read) is told same = absurd is
 closes_by report t0 t1 (Err ToolFault.Write) is told same = absurd is

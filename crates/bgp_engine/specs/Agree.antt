@@ -1,8 +1,11 @@
 -- What the two speakers of a session agree on, by the OPENs of both.
-use Rattle.bgp_engine.specs.Below.{Option, None, Some, Context, Open, agreed_context}
+use Rattle.bgp_engine.specs.Below.{Option, None, Some, Result, Ok, Err, Context, Open, agree_on_paths, agreed_context, if◌then◌else◌}
+use Rattle.bgp_engine.specs.declared.fault.NoContext.{NoContext}
+use Rattle.bgp_engine.specs.declared.fault.NoContext.TheVariants.{NoOpen, Paths}
 
--- it takes two OPENs to agree
-abbrev pub agreed : Option Open → Option Open → Option Context
-agreed (Some ours) (Some theirs) = Some (agreed_context ours theirs)
-agreed (Some ours) None = None
-agreed None theirs = None
+-- The context in which what the speaker of one OPEN sends that of the other is read. It takes two OPENs to agree, and routes with path identifiers aren't
+-- read here.
+abbrev pub agreed : Option Open → Option Open → Result Context NoContext
+agreed (Some ours) (Some theirs) = if agree_on_paths ours theirs then Err Paths else Ok (agreed_context ours theirs)
+agreed (Some ours) None = Err NoOpen
+agreed None theirs = Err NoOpen

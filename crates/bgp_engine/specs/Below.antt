@@ -11,14 +11,15 @@ unfoldable pub use Rattle.bgp_frame.specs.Prelude.{head_of, wanted}
 pub use Rattle.bgp_frame.specs.declared.end.End.{End}
 pub use Rattle.bgp_frame.specs.declared.fault.HeadFault.{HeadFault}
 pub use Rattle.bgp_frame.specs.declared.kind.Kind.{Kind}
-pub use Rattle.bgp_open.specs.Prelude.{IsAllowed, Settings, agreed_context, agreement, own_of, reading_of}
+pub use Rattle.bgp_open.specs.Prelude.{IsAllowed, Settings, agree_on_paths, agreed_context, agreement, own_of, reading_of}
 pub use Rattle.bgp_open.specs.declared.context.Context.{Context}
 pub use Rattle.bgp_open.specs.declared.message.Open.{Open}
 pub use Rattle.bgp_update.specs.Prelude.{CanBeTold, narrowed_update, update_value, with_as4}
 pub use Rattle.bgp_msg.specs.Prelude.{canonical, is_reset, is_too_long, is_valid, of_fault, out_of, outcome_value, stream_rules}
 pub use Rattle.bgp_msg.specs.declared.outcome.Outcome.{Outcome}
 pub use Rattle.bgp_clean.specs.declared.fault.CleanFault.{CleanFault}
-pub use Rattle.bgp_fields.specs.Prelude.{header_place, reset_place}
+pub use Rattle.bgp_fields.specs.Prelude.{header_fault, header_place, reset_fault, reset_place}
+pub use Rattle.bgp_fields.specs.declared.field.Fault.{Fault}
 pub use Rattle.bgp_fields.specs.declared.field.Span.{Span}
 pub use Rattle.bgp_text.specs.End.{end_line}
 pub use Rattle.bgp_text.specs.Explained.{explained_lines}

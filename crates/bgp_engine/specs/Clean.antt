@@ -12,7 +12,7 @@ use Rattle.bgp_engine.specs.declared.fault.ToolFault.TheVariants.{Clean}
 use Rattle.bgp_engine.specs.declared.tally.Tally.{Tally}
 use Rattle.bgp_engine.specs.Agree.{agreed}
 use Rattle.bgp_engine.specs.File.{first_open, open_at}
-use Rattle.bgp_engine.specs.First.{Start, Starts, ReportedFrom}
+use Rattle.bgp_engine.specs.First.{start_by, Start, Starts, ReportedFrom}
 use Rattle.bgp_engine.specs.Rules.{Rules}
 use Rattle.bgp_engine.specs.Run.{Reports}
 
@@ -59,11 +59,11 @@ start_in drops first ctx = record { rules = clean_rules ctx drops; first = first
 
 -- in a context that is known
 abbrev pub starts_in : Context → (ℕ → Bool) → Starts (Result Message CleanFault)
-starts_in ctx drops first = Some (start_in drops first ctx)
+starts_in ctx drops first = Ok (start_in drops first ctx)
 
 -- in the context that the first message and that of the other direction agree on
 abbrev pub starts_by : List ℕ → (ℕ → Bool) → Starts (Result Message CleanFault)
-starts_by theirs drops first = option_map (start_in drops first) (agreed (open_at first) (first_open theirs))
+starts_by theirs drops first = start_by (start_in drops first) (agreed (open_at first) (first_open theirs))
 
 abbrev pub CleanedIn : Context → (ℕ → Bool) → Reports
 CleanedIn ctx drops = ReportedFrom (starts_in ctx drops)

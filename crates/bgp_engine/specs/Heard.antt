@@ -1,6 +1,6 @@
 -- What is printed of: a message, or a header with a fault, and what it comes to.
 use Rattle.bgp_engine.specs.Below.{List, ℕ, Option, Some, Result, Ok, Err, HeadFault, Message, StreamRules, Context, Outcome, is_reset, of_fault, out_of}
-use Rattle.bgp_engine.specs.Below.{Span, header_place, reset_place}
+use Rattle.bgp_engine.specs.Below.{Fault, Span, header_fault, header_place, reset_fault, reset_place}
 
 -- a message or a header with a fault, and its outcome
 pub record Heard : Type 0 where
@@ -19,3 +19,8 @@ heard_in ctx = record {
 abbrev pub place_in : Context → List ℕ → Result Message HeadFault → Option Span
 place_in ctx octets (Ok m) = reset_place ctx m
 place_in ctx octets (Err f) = Some (header_place octets f)
+
+-- why a message, or the header of one, is answered by a reset
+abbrev pub fault_in : Context → List ℕ → Result Message HeadFault → Option Fault
+fault_in ctx octets (Ok m) = reset_fault ctx m
+fault_in ctx octets (Err f) = Some (header_fault octets f)

@@ -1,7 +1,9 @@
 -- What an engine makes of a stream in the context that its first OPEN and that of the other direction agree on.
-use Rattle.std.specs.Prelude.{◌≡◌, ℕ, Bool, true, List, [], length, Option, None, Some, Err, if◌then◌else◌}
+use Rattle.std.specs.Prelude.{◌≡◌, ℕ, Bool, true, List, [], length, Result, Ok, Err, if◌then◌else◌}
 use Rattle.bgp_engine.specs.Below.{End, Context}
-use Rattle.bgp_engine.specs.declared.fault.ToolFault.TheVariants.{NoOpen}
+use Rattle.bgp_engine.specs.declared.fault.NoContext.{NoContext as Why}
+use Rattle.bgp_engine.specs.declared.fault.NoContext.TheVariants.{NoOpen}
+use Rattle.bgp_engine.specs.declared.fault.ToolFault.TheVariants.{NoContext}
 use Rattle.bgp_engine.specs.Agree.{agreed}
 use Rattle.bgp_engine.specs.Check.{Checked}
 use Rattle.bgp_engine.specs.File.{first_open, is_part}
@@ -12,25 +14,25 @@ use Rattle.bgp_engine.specs.Show.{Shown}
 use Rattle.bgp_engine.specs.ShowJson.{ShownJson}
 
 -- nothing is written where there is no context
-abbrev pub unagreed : End → Report
-unagreed e = record { lines = []; last = []; end_of = e; answer = Err NoOpen }
+abbrev pub unagreed : Why → End → Report
+unagreed why e = record { lines = []; last = []; end_of = e; answer = Err (NoContext why) }
 
 -- the octets of the first message wait, or it is there, and whatever follows it isn't read
 abbrev pub unagreed_end : List ℕ → End
 unagreed_end stream = if is_part stream then End.Wait (length stream) else End.Reset
 
-abbrev pub ReportedIn : Option Context → (Context → Reports) → List ℕ → Report → Type 0
-ReportedIn (Some ctx) reports stream r = reports ctx stream r
-ReportedIn None reports stream r = r ≡ unagreed (unagreed_end stream)
+abbrev pub ReportedIn : Result Context Why → (Context → Reports) → List ℕ → Report → Type 0
+ReportedIn (Ok ctx) reports stream r = reports ctx stream r
+ReportedIn (Err why) reports stream r = r ≡ unagreed why (unagreed_end stream)
 
 -- the context that a stream and the octets of the other direction agree on
-abbrev pub context_by : List ℕ → List ℕ → Option Context
+abbrev pub context_by : List ℕ → List ℕ → Result Context Why
 context_by theirs stream = agreed (first_open stream) (first_open theirs)
 
 -- a context, where it will do
-abbrev pub fit_of : (Context → Bool) → Option Context → Option Context
-fit_of fits None = None
-fit_of fits (Some ctx) = if fits ctx then Some ctx else None
+abbrev pub fit_of : (Context → Bool) → Result Context Why → Result Context Why
+fit_of fits (Err why) = Err why
+fit_of fits (Ok ctx) = if fits ctx then Ok ctx else Err NoOpen
 
 -- what a stream comes to in the context that it and the octets of the other direction agree on, where that will do
 abbrev pub ReportedBy : (Context → Bool) → List ℕ → (Context → Reports) → Reports

@@ -13,7 +13,7 @@ pub use Rattle.bgp_engine.specs.File.{first_message, first_open, is_part, open_a
 pub use Rattle.bgp_engine.specs.Agree.{agreed}
 pub use Rattle.bgp_engine.specs.Opens.{CheckedBy, NarrowedBy, ReportedBy, ReportedIn, ShownBy, ShownJsonBy, fit_of, unagreed, unagreed_end}
 pub use Rattle.bgp_engine.specs.Print.{Printed, PrintedBy}
-pub use Rattle.bgp_engine.specs.First.{ReportedAs, ReportedAt, ReportedFrom, ReportedWith, ReportedWithout, Start, Starts}
+pub use Rattle.bgp_engine.specs.First.{ReportedAs, ReportedAt, ReportedFrom, ReportedWith, ReportedWithout, Start, Starts, start_by}
 pub use Rattle.bgp_engine.specs.steps.Blocks.{Finished, Meets, MeetsBad, MeetsBlock, MeetsOver, Spells, SpellsNoMore, WritesAll, WritesNone}
 pub use Rattle.bgp_engine.specs.steps.Engine.{Closes, ClosesBy, GoesOn, IsTotal, OfOctets, Rests, Takes}
 pub use Rattle.bgp_engine.specs.steps.HexDigits.{FirstPair, IsPair, value_or_none}

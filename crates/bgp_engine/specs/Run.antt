@@ -66,8 +66,8 @@ IsFaultOf hex text reader_new report written (ToolFault.Narrow n) =
     (written ≡ report.lines ++ report.last) × (report.answer ≡ Err (ToolFault.Narrow n)) × IsAllRead hex text reader_new report.end_of
 IsFaultOf hex text reader_new report written (ToolFault.Clean n why) =
     IsWordless why × (written ≡ report.lines ++ report.last) × (report.answer ≡ Err (ToolFault.Clean n why)) × IsAllRead hex text reader_new report.end_of
-IsFaultOf hex text reader_new report written ToolFault.NoOpen =
-    (written ≡ report.lines ++ report.last) × (report.answer ≡ Err ToolFault.NoOpen) × IsAllRead hex text reader_new report.end_of
+IsFaultOf hex text reader_new report written (ToolFault.NoContext why) =
+    (written ≡ report.lines ++ report.last) × (report.answer ≡ Err (ToolFault.NoContext why)) × IsAllRead hex text reader_new report.end_of
 IsFaultOf hex text reader_new report written (ToolFault.Script n) = ⊥
 IsFaultOf hex text reader_new report written ToolFault.Net = ⊥
 

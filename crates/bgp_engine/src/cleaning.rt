@@ -206,7 +206,8 @@ pub fn clean_within<R: Read, W: Write>(
 /// one on: the first message is enough.
 ///
 /// # Errors
-/// As `clean_stream`; `NoOpen` where the first message of the stream, or of `theirs`, is no OPEN that is accepted, or isn't whole: nothing is written then.
+/// As `clean_stream`; `NoContext` where the first message of the stream, or of `theirs`, isn't a complete, valid OPEN, or where both agree on path identifiers
+/// for the stream's routes: nothing is written then.
 pub fn clean_by_opens<R: Read, W: Write>(
     alloc: Global,
     theirs: &[u8],

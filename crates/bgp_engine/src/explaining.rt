@@ -8,11 +8,11 @@ ghost use Rattle.bgp_engine.specs.Explain.{heard_lines};
 
 use crate::class::{Class, class_of};
 use crate::fault::ToolFault;
-use crate::heard::span_of;
+use crate::heard::fault_of;
 use crate::only_faults::Choice;
 use crate::page::Page;
 use crate::tally::Tally;
-use bgp_fields::{Span, header_span};
+use bgp_fields::{Fault, header_fault};
 use bgp_frame::{Frame, HeadFault, head};
 use bgp_msg::{OutcomeView, view_frame};
 use bgp_open::Context;
@@ -63,12 +63,12 @@ impl<C: Choice> ExplainPage<C> {
         &mut self,
         place: u64,
         len: u16,
-        span: Option<Span>,
+        fault: Option<Fault>,
         outcome: &OutcomeView<'_>,
     ) -> Result<(), AllocError>
         requires { length self.old.octets.items ≤ 4096 }
         ensures lines { OnOk result (string_bytes self.new.text ≡ string_bytes self.old.text
-            ++ (if C.printed (outcome_value outcome.now) then explained_lines self.old.ctx place len self.old.octets.items span (outcome_value outcome.now) else [])) }
+            ++ (if C.printed (outcome_value outcome.now) then explained_lines self.old.ctx place len self.old.octets.items fault (outcome_value outcome.now) else [])) }
         ensures context { self.new.ctx ≡ self.old.ctx }
     {
         if !self.choice.prints(outcome) {
@@ -81,7 +81,7 @@ impl<C: Choice> ExplainPage<C> {
             place,
             len,
             self.octets.as_slice(),
-            span,
+            fault,
             outcome,
         )
     }
@@ -97,8 +97,8 @@ impl<C: Choice> ExplainPage<C> {
         let ctx = self.ctx;
         let mut view = UpdateView::empty();
         let outcome = view_frame(&ctx, frame, &mut view);
-        let span = span_of(&ctx, frame, &outcome);
-        self.put(place, frame.len, span, &outcome)?;
+        let fault = fault_of(&ctx, frame, &outcome);
+        self.put(place, frame.len, fault, &outcome)?;
         Ok(class_of(&outcome))
     }
 
@@ -111,9 +111,9 @@ impl<C: Choice> ExplainPage<C> {
     {
         self.octets.clear();
         self.octets.extend_from_slice(header)?;
-        let span = header_span(header, fault);
         let why = fault.answer();
-        self.put(place, 0, Some(span), &OutcomeView::Reset(why.view()))
+        let fault = header_fault(header, fault);
+        self.put(place, 0, Some(fault), &OutcomeView::Reset(why.view()))
     }
 }
 

@@ -21,6 +21,18 @@ pub enum Stop {
     At(CleanFault),
 }
 
+/// Why there is no context to read a stream in.
+#[derive(Clone, Copy, Debug, PartialEq, Eq, Error)]
+pub enum NoContext {
+    /// The first message of the stream, or of the other direction, is no OPEN that is accepted; or AS numbers of four octets are needed, and the
+    /// two OPENs don't agree on them.
+    #[error("no OPEN to agree with")]
+    NoOpen,
+    /// Its routes have path identifiers (ADD-PATH; RFC 7911), so that they would be read as others.
+    #[error("both OPENs agree on path identifiers (RFC 7911), which aren't read")]
+    Paths,
+}
+
 /// A fault of the tool itself. Its text follows `bgp: ` on standard error.
 #[derive(Clone, Copy, Debug, PartialEq, Eq, Error)]
 pub enum ToolFault {
@@ -48,10 +60,9 @@ pub enum ToolFault {
     /// The listener of a wire over TCP couldn't be set up.
     #[error("net failed")]
     Net,
-    /// The first message of the stream, or of the other direction, is no OPEN that is accepted; or AS numbers of four octets are needed, and the
-    /// two OPENs don't agree on them.
-    #[error("no OPEN to agree with")]
-    NoOpen,
+    /// There is no context to read the stream in.
+    #[error("{0}")]
+    NoContext(NoContext),
 }
 
 impl From<AllocError> for ToolFault {

@@ -1,9 +1,9 @@
-//! The octets for which a message is answered by a reset.
+//! The octets for which a message is answered by a reset, and the test.
 
 ghost use Rattle.std.specs.Prelude.{◌≡◌, ◌+◌, length};
-ghost use Rattle.bgp_engine.specs.Below.{IsLength, message_in, out_of, outcome_value, reset_place};
+ghost use Rattle.bgp_engine.specs.Below.{IsLength, message_in, out_of, outcome_value, reset_fault, reset_place};
 
-use bgp_fields::{Span, message_span};
+use bgp_fields::{Fault, Span, message_fault, message_span};
 use bgp_frame::Frame;
 use bgp_msg::OutcomeView;
 use bgp_open::Context;
@@ -16,6 +16,18 @@ pub(crate) fn span_of(ctx: &Context, frame: Frame<'_>, outcome: &OutcomeView<'_>
 {
     match outcome {
         OutcomeView::Reset(_) => message_span(ctx, frame),
+        _ => None,
+    }
+}
+
+/// Why a message of this outcome is answered by a reset, where it is.
+pub(crate) fn fault_of(ctx: &Context, frame: Frame<'_>, outcome: &OutcomeView<'_>) -> Option<Fault>
+    requires length { IsLength frame.kind (19 + length frame.body.now) }
+    requires outcome { outcome_value outcome.now ≡ out_of ctx.now (message_in frame) }
+    ensures { result ≡ reset_fault ctx.now (message_in frame.entry) }
+{
+    match outcome {
+        OutcomeView::Reset(_) => message_fault(ctx, frame),
         _ => None,
     }
 }

@@ -32,7 +32,7 @@ pub use bgp_frame::End;
 pub use checked::{check, check_within};
 pub use cleaning::{clean_by_opens, clean_by_opens_within, clean_stream, clean_within};
 pub use copied::{from_hex, from_hex_within};
-pub use fault::{Stop, ToolFault};
+pub use fault::{NoContext, Stop, ToolFault};
 pub use hexed::{to_hex, to_hex_within};
 pub use narrowing::{narrow_stream, narrow_within};
 pub use opens::{

@@ -4,43 +4,53 @@ ghost use Rattle.std.specs.Prelude.{◌≡◌, ◌+◌, [], None, Some, length, 
 ghost use Rattle.bgp_engine.specs.Below.{IsLength, Message, Context};
 ghost use Rattle.bgp_engine.specs.Prelude.{agreed, first_open, open_in, ReportedBy, IsReport, Answers, io, no_tally};
 
-use crate::fault::ToolFault;
+use crate::fault::{NoContext, ToolFault};
 use crate::file::{first_open, open_in};
 use crate::page::Page;
 use crate::starting::start_stream;
 use crate::tally::Tally;
 use bgp_frame::Frame;
-use bgp_open::{Context, agreed_context};
+use bgp_open::{Context, Open, agree_on_paths, agreed_context};
 use std::alloc::{AllocError, Global};
 use std::io::{Read, Write};
 
 /// How far a stream has come.
 #[derive(Clone, Copy, PartialEq, Eq)]
 pub(crate) enum Stage {
-    /// The first message waits.
+    /// The first message is incomplete.
     First,
     /// The context is known.
     Agreed,
     /// There is none, whatever follows.
-    Unagreed,
+    Unagreed(NoContext),
 }
 
-// What the first message and the other direction's agree on, where both are OPENs that are taken.
+// The context in which what the speaker of one OPEN sends the other is read.
+fn agreed(ours: &Open, theirs: &Open) -> Result<Context, NoContext>
+    ensures { result ≡ agreed (Some ours.now) (Some theirs.now) }
+{
+    if agree_on_paths(ours, theirs) {
+        return Err(NoContext::Paths);
+    }
+    Ok(agreed_context(&ours.peer(), &theirs.peer()))
+}
+
+// What the first message and the other direction's agree on, where both are OPENs that are accepted.
 pub(crate) fn context_of(
     alloc: Global,
     frame: Frame<'_>,
     theirs: &[u8],
-) -> Result<Option<Context>, AllocError>
+) -> Result<Result<Context, NoContext>, AllocError>
     requires { IsLength frame.kind (19 + length frame.body.now) }
     ensures { IfOk result (λ ctx. ctx ≡ agreed (open_in frame.entry.kind frame.entry.body.now) (first_open theirs.now)) }
 {
     let Some(ours) = open_in(alloc, frame)? else {
-        return Ok(None);
+        return Ok(Err(NoContext::NoOpen));
     };
     let Some(theirs) = first_open(alloc, theirs)? else {
-        return Ok(None);
+        return Ok(Err(NoContext::NoOpen));
     };
-    Ok(Some(agreed_context(&ours.peer(), &theirs.peer())))
+    Ok(agreed(&ours, &theirs))
 }
 
 /// Runs a page over the messages of a stream, in the context that its first OPEN and that of the other direction agree on.

@@ -27,8 +27,8 @@ pub(crate) const UNKNOWN: Context = Context {
 /// octets, from its first one on: the first message is enough.
 ///
 /// # Errors
-/// As `show`; `NoOpen` where the first message of the stream, or of `theirs`, is no OPEN that is taken, or isn't whole: nothing is written
-/// then. The stream's first message is read before that is told.
+/// As `show`; `NoContext` where the first message of the stream, or of `theirs`, isn't a complete, valid OPEN, or where both agree on path identifiers for
+/// the stream's routes: nothing is written then. The stream's first message is read before that is reported.
 pub fn show_by_opens<R: Read, W: Write>(
     alloc: Global,
     theirs: &[u8],
@@ -133,7 +133,7 @@ pub fn check_by_opens_within<R: Read, W: Write>(
 /// [`narrow_stream`](crate::narrow_stream) in the context that both OPENs agree on, as in [`show_by_opens`]: with AS numbers of four octets.
 ///
 /// # Errors
-/// As `narrow_stream`; `NoOpen` as in `show_by_opens`, and where they don't agree on AS numbers of four octets.
+/// As `narrow_stream`; `NoContext` as in `show_by_opens`, and where they don't agree on AS numbers of four octets.
 pub fn narrow_by_opens<R: Read, W: Write>(
     alloc: Global,
     theirs: &[u8],

@@ -8,7 +8,7 @@ ghost use Rattle.bgp_engine.specs.steps.Starting.{Begins, SettlesOn, starts_of};
 
 use crate::class::Class;
 use crate::engine::Engine;
-use crate::fault::ToolFault;
+use crate::fault::{NoContext, ToolFault};
 use crate::opening::{Stage, context_of};
 use crate::page::Page;
 use crate::running::run;
@@ -22,10 +22,10 @@ use std::io::{Read, Write};
 #[derive(Clone, Copy, PartialEq, Eq)]
 pub(crate) enum Begun {
     /// There is no context to read it in.
-    Unagreed,
+    Unagreed(NoContext),
     /// The first message is read as all others are.
     Plain,
-    /// The first message was taken by itself.
+    /// The first message was handled separately.
     Handed,
 }
 
@@ -39,24 +39,25 @@ pub(crate) struct Starting<'a, P> {
     pub(crate) walk: Walk<P>,
 }
 
-// Takes the context of the stream, which the first message and that of the other direction tell where those were given. Answers whether there is one.
+// Takes the context of the stream, which the first message and that of the other direction tell where those were given. Answers why there is none.
 fn settle<P: Page>(
     alloc: Global,
     theirs: Option<&[u8]>,
     page: &mut P,
     frame: Frame<'_>,
-) -> Result<bool, AllocError>
+) -> Result<Option<NoContext>, AllocError>
     requires { IsLength frame.kind (19 + length frame.body.now) }
-    ensures settles { IfOk result (λ agreed. SettlesOn agreed
+    ensures settles { IfOk result (λ why. SettlesOn why
         (starts_of P.fits P.rules P.plan (option_map (λ t. t.now) theirs.entry) page.old (Some (message_in frame.entry))) (P.plan page.new None) (message_in frame.entry)) }
     ensures told { P.told page.new ≡ P.told page.old }
 {
     let Some(theirs) = theirs else {
-        return Ok(true);
+        return Ok(None);
     };
     match context_of(alloc, frame, theirs)? {
-        Some(ctx) => Ok(page.agree(&ctx)),
-        None => Ok(false),
+        Ok(ctx) if page.agree(&ctx) => Ok(None),
+        Ok(_) => Ok(Some(NoContext::NoOpen)),
+        Err(why) => Ok(Some(why)),
     }
 }
 
@@ -71,8 +72,8 @@ fn begin<P: Page>(
     ensures { IfOk result (λ begun. Begins begun
         (starts_of P.fits P.rules P.plan (option_map (λ t. t.now) theirs.entry) page.old (Some (message_in frame.entry))) (P.rules page.new) (P.told page.old) (P.told page.new)) }
 {
-    if !settle(alloc, theirs, page, frame)? {
-        return Ok(Begun::Unagreed);
+    if let Some(why) = settle(alloc, theirs, page, frame)? {
+        return Ok(Begun::Unagreed(why));
     }
     if page.first(frame)? {
         Ok(Begun::Handed)
@@ -98,12 +99,12 @@ impl<P: Page> Walk<P> {
     {
         match self.framer.step() {
             Step::More => Ok(Stage::First),
-            Step::Fault(_) if theirs.is_some() => Ok(Stage::Unagreed),
+            Step::Fault(_) if theirs.is_some() => Ok(Stage::Unagreed(NoContext::NoOpen)),
             Step::Fault(_) => Ok(Stage::Agreed),
             Step::Frame(frame) => {
                 let len = frame.len;
                 match begin(alloc, theirs, &mut self.page, frame)? {
-                    Begun::Unagreed => Ok(Stage::Unagreed),
+                    Begun::Unagreed(why) => Ok(Stage::Unagreed(why)),
                     Begun::Plain => Ok(Stage::Agreed),
                     Begun::Handed => {
                         self.count(len, Class::Took);
@@ -172,7 +173,7 @@ impl<'a, P: Page> Starting<'a, P> {
         self.stage = self.walk.begin(self.alloc, self.theirs)?;
         match self.stage {
             Stage::First => Ok(false),
-            Stage::Unagreed => Ok(true),
+            Stage::Unagreed(_) => Ok(true),
             Stage::Agreed => {
                 let (_, later) = octets.split_at(taken);
                 self.walk_on(later)
@@ -203,15 +204,15 @@ impl<P: Page> Engine for Starting<'_, P> {
         match self.stage {
             Stage::First => self.take_first(octets),
             Stage::Agreed => self.walk.take(octets),
-            Stage::Unagreed => Ok(true),
+            Stage::Unagreed(_) => Ok(true),
         }
     }
 
     fn finish(&mut self) -> Result<Tally, ToolFault> {
         match self.stage {
             Stage::Agreed => self.walk.finish(),
-            Stage::Unagreed => Err(ToolFault::NoOpen),
-            Stage::First if self.theirs.is_some() => Err(ToolFault::NoOpen),
+            Stage::Unagreed(why) => Err(ToolFault::NoContext(why)),
+            Stage::First if self.theirs.is_some() => Err(ToolFault::NoContext(NoContext::NoOpen)),
             Stage::First => self.walk.finish(),
         }
     }

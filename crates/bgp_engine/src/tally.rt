@@ -22,7 +22,7 @@ pub struct Tally {
 }
 
 /// The status of the process: 0 where each message was accepted and none is incomplete; 1 at treat-as-withdraw, a reset, an incomplete message, bad
-/// hexadecimal text, what can't be narrowed or cleaned, no OPEN to agree with, or a faulty script; 3 where memory ran out; 4 where a read, a write or the set-up of a
+/// hexadecimal text, what can't be narrowed or cleaned, no context that two OPENs agree on, or a faulty script; 3 where memory ran out; 4 where a read, a write or the set-up of a
 /// listener failed. (2 is a fault of the command line.)
 pub fn status(outcome: &Result<Tally, ToolFault>) -> u8
     ensures { result ≡ status_of outcome.now }
@@ -34,7 +34,7 @@ pub fn status(outcome: &Result<Tally, ToolFault>) -> u8
             ToolFault::BadHex(_)
             | ToolFault::Narrow(_)
             | ToolFault::Clean(..)
-            | ToolFault::NoOpen
+            | ToolFault::NoContext(_)
             | ToolFault::Script(_),
         ) => 1,
         Err(ToolFault::Memory) => 3,

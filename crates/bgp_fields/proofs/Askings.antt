@@ -1,5 +1,5 @@
 -- The first attribute that asks for a reset or a withdrawal, attribute by attribute.
-use Rattle.bgp_fields.proofs.Prelude.{◌≡◌, ℕ, ◌+◌, ◌-◌, ◌<◌, ◌≤◌, Bool, true, false, cond, List, [], ◌∷◌, ◌++◌, length, Some, sym, ap, ap₂, ◌∙◌, arith}
+use Rattle.bgp_fields.proofs.Prelude.{◌≡◌, ℕ, ◌+◌, ◌-◌, ◌≤◌, Bool, true, false, cond, List, ◌∷◌, ◌++◌, length, Some, sym, ap, ap₂, ◌∙◌}
 use Rattle.bgp_fields.proofs.Prelude.{list_all, also, Context, judgement, PlacedTlv, Mark, repeated, marks_behind, cut_mark, is_small, both_small}
 use Rattle.bgp_fields.proofs.Prelude.{asks_for, first_asking}
 

@@ -6,5 +6,6 @@ pub mod FieldIter
 pub mod Laws
 pub mod Shown
 pub mod Places
+pub mod Causes
 pub mod Prelude
 pub mod steps

@@ -8,6 +8,9 @@ use Rattle.bgp_numbers.specs.declared.parameter.TheConstants.{CAPABILITIES}
 use Rattle.bgp_frame.specs.declared.fault.HeadFault.{HeadFault}
 use Rattle.bgp_frame.specs.declared.kind.Kind.{Kind}
 use Rattle.bgp_frame.specs.Frame as frame
+use Rattle.bgp_frame.specs.declared.step.Step.{Step}
+use Rattle.bgp_frame.specs.declared.step.Step.TheVariants as step
+use Rattle.bgp_frame.specs.Prelude.{ShowsFront, message_in}
 use Rattle.bgp_open.specs.declared.context.Context.{Context}
 use Rattle.bgp_open.specs.Prelude.{one_capability, version_of, length_of, parameters_of, hold_of, id_of, is_short_hold, is_zero_id, one_parameter}
 use Rattle.bgp_prefix.specs.Prelude.{octets_for, run_of}
@@ -153,6 +156,18 @@ body_place ctx _ body = None
 -- the octets for which a whole message is answered by a reset, where it is
 abbrev pub reset_place : Context → frame.Message → Option Span
 reset_place ctx m = if is_reset (out_of ctx m) then body_place ctx m.kind m.body else None
+
+-- by what octets begin with: less than a message; a message, whatever stands behind it; or a header with a fault, whatever stands behind that
+abbrev pub front_place : Context → List ℕ → Step → Option Span
+front_place ctx octets step.More = None
+front_place ctx octets (step.Frame f) = reset_place ctx (message_in f)
+front_place ctx octets (step.Fault fault) = Some (header_place octets fault)
+
+-- the octets for which what octets begin with is answered by a reset, where it is
+pub record IsResetPlace (ctx : Context) (octets : List ℕ) (place : Option Span) : Type 0 where
+  pub found : Step
+  pub shows : ShowsFront octets found
+  pub is : place ≡ front_place ctx octets found
 
 -- there is one: an octet at least, within so many octets
 abbrev pub HasPlace : ℕ → Option Span → Type 0

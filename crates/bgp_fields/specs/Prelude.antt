@@ -6,7 +6,8 @@ pub use Rattle.bgp_fields.specs.Fields.{fields_of, message_fields, no_fields, se
 pub use Rattle.bgp_fields.specs.FieldIter.{fields_left, message_at, section_at}
 pub use Rattle.bgp_fields.specs.Laws.{AllRead, AreTheOctets, Tiles, is_unread, octets_in}
 pub use Rattle.bgp_fields.specs.Shown.{ShowsRoutes, ShowsWithdrawal, is_nlri_prefix, is_reach_prefix4, is_reach_prefix6, is_unreach_prefix4, is_unreach_prefix6, is_withdrawn_prefix, prefix_alone, prefix_in, prefix_width, prefixes_shown}
-pub use Rattle.bgp_fields.specs.Places.{ArePlaced, HasPlace, asking_place, asks_for, attribute_extent, attribute_place, bad_prefix, body_place, capability_place, first_asking, first_other, header_place, is_attribute, item_extent, length_place, note_place, note_place_in, open_place, parameter_place, parameters_place, parts_place, reset_place, run_place, says_missing, span, update_place}
+pub use Rattle.bgp_fields.specs.Places.{ArePlaced, HasPlace, IsResetPlace, asking_place, asks_for, attribute_extent, attribute_place, bad_prefix, body_place, capability_place, first_asking, first_other, front_place, header_place, is_attribute, item_extent, length_place, note_place, note_place_in, open_place, parameter_place, parameters_place, parts_place, reset_place, run_place, says_missing, span, update_place}
+pub use Rattle.bgp_fields.specs.Causes.{answered_cause, asked_cause, attribute_cause, cause_of_test, header_fault, reset_cause, reset_fault, update_cause}
 pub use Rattle.bgp_fields.specs.steps.Heads.{IsHead, head_fields}
 pub use Rattle.bgp_fields.specs.steps.Listing.{listed}
 pub use Rattle.bgp_fields.specs.steps.Plans.{message_planned, section_planned, value_planned}

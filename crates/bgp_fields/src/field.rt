@@ -1,5 +1,6 @@
-//! A field of a message, and spans of octets.
+//! A field of a message, spans of octets, and faults.
 
+use crate::cause::Cause;
 use crate::kind::FieldKind;
 
 /// What a field belongs to: an attribute, an optional parameter or a capability.
@@ -31,4 +32,13 @@ pub struct Span {
     pub at: u16,
     /// How many there are.
     pub len: u16,
+}
+
+/// Why a message is answered by a NOTIFICATION.
+#[derive(Clone, Copy, PartialEq, Eq)]
+pub struct Fault {
+    /// The octets at fault.
+    pub span: Span,
+    /// The test that they failed.
+    pub cause: Cause,
 }

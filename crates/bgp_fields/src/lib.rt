@@ -2,6 +2,7 @@
 #![tactic(auto)]
 
 mod asking;
+mod cause;
 mod field;
 mod head;
 mod iter;
@@ -19,7 +20,8 @@ mod section_plan;
 mod sections;
 mod value_plan;
 
-pub use field::{Field, Group, Span};
+pub use cause::{Cause, header_fault, message_cause, message_fault};
+pub use field::{Fault, Field, Group, Span};
 pub use iter::FieldIter;
 pub use kind::FieldKind;
 pub use listing::Listed;

@@ -7,7 +7,7 @@ ghost use Rattle.bgp_frame.specs.Frame as frame;
 ghost use Rattle.bgp_attr.specs.Prelude.{one_tlv};
 ghost use Rattle.bgp_update.specs.Prelude.{marks_of, attributes_at, behind_two, parts_of};
 ghost use Rattle.bgp_msg.specs.Prelude.{out_of, is_reset};
-ghost use Rattle.bgp_fields.specs.Prelude.{span, body_place, reset_place, first_other, header_place, attribute_extent, attribute_place, asking_place, bad_prefix, run_place, length_place, parts_place, update_place, note_place, says_missing, sections_value};
+ghost use Rattle.bgp_fields.specs.Prelude.{span, body_place, reset_place, first_other, header_place, attribute_extent, attribute_place, asking_place, bad_prefix, run_place, IsResetPlace, length_place, parts_place, update_place, note_place, says_missing, sections_value};
 
 use crate::asking::first_asking;
 use crate::field::Span;
@@ -204,9 +204,10 @@ fn body_span(ctx: &Context, kind: Kind, body: &[u8]) -> Option<Span>
 }
 
 /// The octets for which what octets begin with, a whole message or a header with a fault, is answered by a reset in a context: as [`header_span`] and
-/// [`message_span`] say. None where it isn't, or where there is less than a message.
+/// [`message_span`] say, whatever stands behind it. None where it isn't, or where there is less than a message.
 pub fn reset_span(ctx: &Context, octets: &[u8]) -> Option<Span>
     requires { length octets.now ≤ 4096 }
+    ensures front { IsResetPlace ctx.now octets.now result }
     ensures message { (m : frame.Message) → IsFrame m octets.now → result ≡ reset_place ctx.now m }
     ensures header { (f : HeadFault) → 19 ≤ length octets.now → head_of octets.now ≡ Err f → result ≡ Some (header_place octets.now f) }
 {

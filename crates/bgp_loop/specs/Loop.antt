@@ -55,7 +55,7 @@ Answers text io (Err ToolFault.Read) = ⊥
 Answers text io (Err (ToolFault.BadHex n)) = ⊥
 Answers text io (Err (ToolFault.Narrow n)) = ⊥
 Answers text io (Err (ToolFault.Clean n why)) = ⊥
-Answers text io (Err ToolFault.NoOpen) = ⊥
+Answers text io (Err (ToolFault.NoContext why)) = ⊥
 Answers text io (Err ToolFault.Net) = ⊥
 
 -- ---- what came of each move is written before the report

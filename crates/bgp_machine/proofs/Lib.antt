@@ -1,6 +1,7 @@
 -- Lemmas of the session.
 pub mod Prelude
 pub mod Cuttings
+pub mod Steppings
 pub mod Hearings
 pub mod Lives
 pub mod Looks

@@ -1,10 +1,10 @@
 -- Octets that a session hears in pieces, by whatever calls, and octet by octet.
-use Rattle.std.specs.Prelude.{◌≡◌, ℕ, List, Option, None, Some}
+use Rattle.std.specs.Prelude.{◌≡◌, ℕ, zero, suc, List, [], ◌++◌, Option, None, Some}
 use Rattle.arrayvec.specs.ArrayVec.{ArrayVec}
 use Rattle.bgp_frame.specs.Prelude.{Waits, Run, Runs, CanBeHeard}
 use Rattle.bgp_frame.specs.Hearing as hearing
 use Rattle.bgp_machine.specs.declared.action.Action.{Action}
-use Rattle.bgp_machine.specs.Session.{Machine, hearer}
+use Rattle.bgp_machine.specs.Session.{Machine, IsFed, hearer}
 
 -- a session with nothing left to do: a step gives nothing, and nothing is held where no octets are taken
 abbrev pub IsAtRest : Machine → Type 0
@@ -31,13 +31,41 @@ Piece = Run
 abbrev pub joined : List Piece → List ℕ
 joined pieces = hearing.all_octets pieces
 
--- these pieces are fed, one behind the other, with a step behind each feed, until a feed takes nothing and a step gives nothing
+-- a step gives something, and others follow
+pub record StepsOn (later : Machine → List Action → Machine → Type 0) (x : Machine) (actions : List Action) (y : Machine) : Type 0 where
+  pub first : List Action
+  pub between : Machine
+  pub gives : hearing.IsJudged hearer x (Some first) between
+  pub rest : List Action
+  pub goes_on : later between rest y
+  pub in_order : actions ≡ first ++ rest
+
+-- so many steps give something, and the one behind them nothing
+abbrev pub StepsUntilNone : ℕ → Machine → List Action → Machine → Type 0
+StepsUntilNone zero x actions y = hearing.IsJudged hearer x None y × (actions ≡ [])
+StepsUntilNone (suc n) x actions y = StepsOn (StepsUntilNone n) x actions y
+
+-- steps are taken until one gives nothing: the first, or one behind some that give something
+abbrev pub AreStepped : Machine → Option (List Action) → Machine → Type 0
+AreStepped x None y = StepsUntilNone 0 x [] y
+AreStepped x (Some actions) y = (n : ℕ) × StepsUntilNone (suc n) x actions y
+
+-- a feed takes so many octets of a piece, and steps are taken behind it until one gives nothing
+abbrev pub by_steps : Machine → List ℕ → ℕ → Option (List Action) → Machine → Type 0
+by_steps x piece n found y = IsFed x piece n (hearing.behind_feed hearer x piece n) × AreStepped (hearing.behind_feed hearer x piece n) found y
+
+-- the same with one step behind the feed
+abbrev pub by_one_step : Machine → List ℕ → ℕ → Option (List Action) → Machine → Type 0
+by_one_step x piece n found y = hearing.by_feed hearer x piece n found y
+
+-- these pieces are fed, one behind the other: behind each feed steps are taken until one gives nothing, and the rest of the piece is fed again, until a feed
+-- takes nothing and the step behind it gives nothing. One step behind each feed does the same (the law `one_step_behind_a_feed_is_enough`)
 abbrev pub Cuts : List Piece → Machine → List Action → Machine → Type 0
-Cuts pieces x actions y = Runs (hearing.by_feed hearer) pieces x actions y
+Cuts pieces x actions y = Runs by_steps pieces x actions y
 
 -- octets that come in these pieces can be fed in some turns
 abbrev pub CanBeFed : Machine → List (List ℕ) → Type 0
-CanBeFed x pieces = CanBeHeard (hearing.by_feed hearer) x pieces
+CanBeFed x pieces = CanBeHeard by_steps x pieces
 
 -- the actions, and the session behind them
 abbrev pub Done : Type 0

@@ -1,6 +1,6 @@
 -- The names that other crates and the proofs cite, passed on from one place. Declares nothing.
 pub use Rattle.bgp_machine.specs.ActionView.{action_of, takes_memory}
-pub use Rattle.bgp_machine.specs.Cutting.{CanBeFed, CanRest, Cuts, Done, IsAtRest, Piece, RestsBehind, RestsUnless, by_octet, by_octets, joined, settled}
+pub use Rattle.bgp_machine.specs.Cutting.{AreStepped, CanBeFed, CanRest, Cuts, Done, IsAtRest, Piece, RestsBehind, RestsUnless, StepsOn, StepsUntilNone, by_octet, by_octets, by_one_step, by_steps, joined, settled}
 pub use Rattle.bgp_machine.specs.Heard.{Hears, HearsFault, IsFaultOf, IsHeardOf, IsSaid, SaysVerdict, has_routes, on_heard, suits}
 pub use Rattle.bgp_machine.specs.Life.{BeginsByOpenAndKeepalive, Call, Eats, Fed, Goes, IsAgreedOpen, Life, Lives, Pulled, Stepped, Told, born, connects, stepped, taken_behind, told}
 pub use Rattle.bgp_machine.specs.Look.{Finds, IsLook, IsOwnLook, gone, step_of}

@@ -1,13 +1,13 @@
 //! Laws of whole lives, and of how octets are cut into pieces. Each is the contract of a function that does nothing.
 
-ghost use Rattle.std.specs.Prelude.{◌≡◌, ℕ, List};
+ghost use Rattle.std.specs.Prelude.{◌≡◌, ◌↔◌, ℕ, List};
 ghost use Rattle.std.specs.List.{flat_map};
 ghost use Rattle.bgp_wire.specs.Prelude.{AreOctets};
 ghost use Rattle.bgp_frame.specs.Prelude.{all_octets, Run, Runs};
 ghost use Rattle.bgp_open.specs.Prelude.{Settings};
 ghost use Rattle.bgp_machine.specs.declared.action.Action.{Action};
 ghost use Rattle.bgp_machine.specs.declared.event.Event.{Event};
-ghost use Rattle.bgp_machine.specs.Prelude.{Machine, fresh, after_event, IsAtRest, Piece, joined, Cuts, CanBeFed, by_octets, by_look, by_pull, CanBePulled, Call, Life, born, Lives, BeginsByOpenAndKeepalive};
+ghost use Rattle.bgp_machine.specs.Prelude.{Machine, fresh, after_event, IsAtRest, Piece, joined, Cuts, CanBeFed, by_octets, by_one_step, by_look, by_pull, CanBePulled, Call, Life, born, Lives, BeginsByOpenAndKeepalive};
 ghost use Rattle.bgp_machine.specs.declared.state.State.TheVariants as state;
 
 /// Whatever is called for, in whatever order: where a session is Established, the octets that it has read since its connection stands begin
@@ -29,6 +29,12 @@ pub fn cuts_do_as_octet_by_octet()
 pub fn cuts_change_nothing()
     ensures { (x : Machine) (pieces others : List Piece) (actions others_actions : List Action) (y z : Machine) → IsAtRest x → AreOctets (joined pieces)
         → joined pieces ≡ joined others → Cuts pieces x actions y → Cuts others x others_actions z → (actions ≡ others_actions) × (y ≡ z) }
+{}
+
+/// Of the steps that are taken behind a `feed` until one gives nothing, at most the first gives something: one `step` behind each `feed` does what they
+/// do together.
+pub fn one_step_behind_a_feed_is_enough()
+    ensures { (x : Machine) (pieces : List Piece) (actions : List Action) (y : Machine) → Cuts pieces x actions y ↔ Runs by_one_step pieces x actions y }
 {}
 
 /// A new session has nothing left to do, and an event leaves a session so.

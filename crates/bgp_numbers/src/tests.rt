@@ -19,9 +19,15 @@ fn numbers_are_those_of_the_registries(rt: HostRuntime) {
     // Address Family Numbers; Subsequent Address Family Identifiers (RFC 4760).
     assert!(rt; [afi::IPV4, afi::IPV6] == [1, 2]);
     assert!(rt; safi::UNICAST == 1);
-    // BGP OPEN Optional Parameter Types (RFC 5492); Capability Codes (RFC 4760, RFC 6793).
+    // BGP OPEN Optional Parameter Types (RFC 5492); Capability Codes (RFC 4760, RFC 6793, RFC 7911).
     assert!(rt; parameter::CAPABILITIES == 2);
-    assert!(rt; [capability::MULTIPROTOCOL, capability::FOUR_OCTET_AS] == [1, 65]);
+    assert!(rt;
+        [
+            capability::MULTIPROTOCOL,
+            capability::FOUR_OCTET_AS,
+            capability::ADD_PATH
+        ] == [1, 65, 69]
+    );
     // BGP AS_PATH Segment Types (RFC 4271, RFC 5065).
     assert!(rt;
         [

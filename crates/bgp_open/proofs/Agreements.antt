@@ -1,5 +1,5 @@
 -- The first AS number among capabilities, and that both sides of a session agree.
-use Rattle.bgp_wire.proofs.Std.{◌≡◌, ℕ, Bool, true, false, not, ◌&&◌, cond, eqb, List, ◌++◌, Option, Some, None, Ok, Err, refl, sym, ap, ◌∙◌, inl, inr, list_any}
+use Rattle.bgp_wire.proofs.Std.{◌≡◌, ℕ, Bool, true, false, not, ◌&&◌, ◌||◌, cond, eqb, List, ◌++◌, Option, Some, None, Ok, Err, refl, sym, ap, ◌∙◌, inl, inr, list_any}
 use Rattle.std.specs.Prelude.{is_some, unwrap_or, min}
 use Rattle.std.proofs.lemmas.Bool.{eqb-true, eq-eqb, ne_eqb, true≢false}
 use Rattle.std.proofs.lemmas.Bool.Decides.{eqb_tells}
@@ -11,7 +11,7 @@ use Rattle.bgp_numbers.specs.declared.safi.TheConstants.{UNICAST}
 use Rattle.bgp_open.specs.declared.capability.Capability.{Capability}
 use Rattle.bgp_open.specs.declared.capability.Capability.TheVariants.{Multi, As4}
 use Rattle.bgp_open.specs.declared.context.Context.{Context}
-use Rattle.bgp_open.specs.Prelude.{is_wide, Settings, IsAllowed, field_for, offered, own_of, peer_as_of, same_id, context_of, agreement, first_as4, is_unicast}
+use Rattle.bgp_open.specs.Prelude.{is_one_as, is_wide, Settings, IsAllowed, field_for, offered, own_of, peer_as_of, said_by, same_id, context_of, agreement, first_as4, is_unicast}
 use Rattle.bgp_open.specs.declared.agreement.PeerFault.TheVariants as peer
 use Rattle.bgp_open.proofs.Configs.{allowed-wide}
 
@@ -93,3 +93,44 @@ both_agree a b x y allowed_a allowed_b ea eb =
     let to_b : a.peer_as ≡ b.local_as = sym (eqb-true _ _ p.0) ∙ peer_as-own b allowed_b in
     let to_a : b.peer_as ≡ a.local_as = sym (eqb-true _ _ q.0) ∙ peer_as-own a allowed_a in
     sym p.1 ∙ context-own a b ∙ shared_swaps a b to_b to_a ∙ sym (context-own b a) ∙ q.1
+
+-- ---- by both OPENs
+
+absorbs : (x y : Bool) → (x && (x || y)) ≡ x
+absorbs true y = refl
+absorbs false y = refl
+
+and-none : (x : Bool) → (x && false) ≡ false
+and-none true = refl
+and-none false = refl
+
+and-not : (x : Bool) → (x && not x) ≡ false
+and-not true = refl
+and-not false = refl
+
+-- a number that needs four octets isn't one of two
+differ : (m n : ℕ) → is_wide m ≡ true → is_wide n ≡ false → eqb m n ≡ false
+differ m n wide narrow = ne_eqb m n (λ e. true≢false (sym wide ∙ ap is_wide e ∙ narrow))
+
+-- whether two speakers are in one AS, by their capabilities and their My Autonomous System
+abbrev one_as : Option ℕ → ℕ → Option ℕ → ℕ → Bool
+one_as p f q g = cond (is_some p && is_some q) (eqb (unwrap_or p f) (unwrap_or q g)) (eqb f g && (eqb (unwrap_or p f) (unwrap_or q g) || not (eqb f AS_TRANS)))
+
+-- an allowed speaker finds so whether its number is the other's
+one_as-finds : (m n : ℕ) (p q v w : Bool) → is_wide m ≡ v → is_wide n ≡ w → (v && not p) ≡ false
+    → one_as (cond p (Some m) None) (cond v AS_TRANS m) (cond q (Some n) None) (cond w AS_TRANS n) ≡ eqb m (unwrap_or (cond q (Some n) None) (cond w AS_TRANS n))
+one_as-finds m n true true v w at_m at_n allowed = refl
+one_as-finds m n false q true w at_m at_n allowed = absurd (true≢false allowed)
+one_as-finds m n false false false w at_m at_n allowed = absorbs (eqb m (cond w AS_TRANS n)) _
+one_as-finds m n false true false false at_m at_n allowed = absorbs (eqb m n) _
+one_as-finds m n false true false true at_m at_n allowed =
+    let other : eqb m n ≡ false = eqb_swaps m n ∙ differ n m at_n at_m in
+    rw other (and-not (eqb m AS_TRANS))
+one_as-finds m n true false false w at_m at_n allowed = absorbs (eqb m (cond w AS_TRANS n)) _
+one_as-finds m n true false true true at_m at_n allowed = rw (differ m AS_TRANS at_m refl) refl
+one_as-finds m n true false true false at_m at_n allowed = rw (differ m n at_m at_n) (and-none (eqb AS_TRANS n))
+
+pub one_as-own : (a b : Settings) → IsAllowed a → is_one_as (said_by (own_of a)) (said_by (own_of b)) ≡ eqb a.local_as (peer_as_of (own_of b))
+one_as-own a b allowed =
+    rw ((finds a.ip4 a.ip6 a.as4 a.local_as).0, (finds b.ip4 b.ip6 b.as4 b.local_as).0)
+    (one_as-finds a.local_as b.local_as a.as4 b.as4 (is_wide a.local_as) (is_wide b.local_as) refl refl (allowed-wide a allowed))

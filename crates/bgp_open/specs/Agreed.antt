@@ -1,26 +1,26 @@
 -- What the two speakers of a session agree on, by the OPENs of both (RFC 4271, section 4.2; RFC 5492).
-use Rattle.std.specs.Prelude.{ℕ, is_some}
+use Rattle.std.specs.Prelude.{Bool, not, ◌&&◌, ◌||◌, ◌==◌, min, is_some, if◌then◌else◌}
+use Rattle.bgp_numbers.specs.declared.TheConstants.{AS_TRANS}
 use Rattle.bgp_open.specs.declared.context.Context.{Context}
 use Rattle.bgp_open.specs.declared.message.Open.{Open}
-use Rattle.bgp_open.specs.Agreement.{context_with}
-use Rattle.bgp_open.specs.Config.{Settings}
 use Rattle.bgp_open.specs.Peer.{Said, number_of, said_by}
 
--- what the speaker is set to that said this of itself, towards a peer of this AS number
-abbrev pub settings_of : Said → ℕ → Settings
-settings_of s peer_as = record {
-  local_as = number_of s;
-  peer_as = peer_as;
-  id = s.id;
-  hold = s.hold;
-  as4 = is_some s.as4;
-  ip4 = s.ip4;
-  ip6 = s.ip6;
-}
+-- Both are in one AS. Where one speaker alone has AS numbers of four octets, the other knows it by its My Autonomous System (RFC 6793, section 4.1): that
+-- field is compared then. AS_TRANS in it stands for a number that needs four octets, and so for no AS of two.
+abbrev pub is_one_as : Said → Said → Bool
+is_one_as ours theirs =
+    if is_some ours.as4 && is_some theirs.as4 then number_of ours == number_of theirs else
+    (ours.as_field == theirs.as_field) && ((number_of ours == number_of theirs) || not (ours.as_field == AS_TRANS))
 
--- the context of a session, as the speaker that said one thing finds it from what the other said; neither is refused
+-- the context of a session, by what both speakers said of themselves; neither is refused
 abbrev pub agreed_with : Said → Said → Context
-agreed_with ours theirs = context_with (settings_of ours (number_of theirs)) theirs
+agreed_with ours theirs = record {
+  internal = is_one_as ours theirs;
+  as4 = is_some ours.as4 && is_some theirs.as4;
+  ip4 = ours.ip4 && theirs.ip4;
+  ip6 = ours.ip6 && theirs.ip6;
+  hold = min ours.hold theirs.hold;
+}
 
 -- the same, by the OPENs of both
 abbrev pub agreed_context : Open → Open → Context

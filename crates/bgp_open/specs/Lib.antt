@@ -11,5 +11,6 @@ pub mod Own
 pub mod Peer
 pub mod Agreement
 pub mod Agreed
+pub mod Paths
 pub mod Written
 pub mod Prelude

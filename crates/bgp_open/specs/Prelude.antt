@@ -14,5 +14,6 @@ pub use Rattle.bgp_open.specs.Own.{field_for, offered, own_caps, own_of}
 pub use Rattle.bgp_open.specs.Peer.{Said, Told, also_offers, codes_of, first_as4, is_unicast, number_of, offering, plain, said_by, said_of, told_by, told_of}
 unfoldable pub use Rattle.bgp_open.specs.Peer.{rising}
 pub use Rattle.bgp_open.specs.Agreement.{agreement, agreement_with, context_of, offers_as4, offers_unicast, peer_as_of, peer_notification, same_id}
-pub use Rattle.bgp_open.specs.Agreed.{agreed_context, agreed_with, settings_of}
+pub use Rattle.bgp_open.specs.Agreed.{agreed_context, agreed_with, is_one_as}
+pub use Rattle.bgp_open.specs.Paths.{agree_on_paths, does, has_paths, has_role, is_path_row, is_role, offers_role, takes_role}
 pub use Rattle.bgp_open.specs.Written.{HasRange, HasRanges, body_octets, canonical, capability_octets, is_bad, is_bad_row, is_misnamed, parameter_octets, row_octets}

@@ -34,7 +34,7 @@ fn run_engine(
     let hex = row.settings == "hex";
     match row.kind {
         "show" => show(alloc, ctx, hex, input, output),
-        "explain" => print(alloc, Style::Explained, false, ctx, hex, input, output),
+        "explain" | "reasons" => print(alloc, Style::Explained, false, ctx, hex, input, output),
         "faults" => print(alloc, Style::Lines, true, ctx, hex, input, output),
         "check" => check(alloc, ctx, hex, input, output),
         "to-hex" => to_hex(alloc, input, output),
@@ -70,6 +70,21 @@ fn run_again(
     Ok(answer)
 }
 
+/// Adds the reasons among lines of fields, each with the offset of its field.
+fn put_reasons(page: &mut Page, lines: &str) -> Result<(), Trouble> {
+    for line in lines.split('\n') {
+        if let Some((field, reason)) = line.split_once(" <- ") {
+            let mut words = field.split_whitespace();
+            let _mark = words.next();
+            page.put(words.next().unwrap_or(""))?;
+            page.put(" ")?;
+            page.put(reason)?;
+            page.put("\n")?;
+        }
+    }
+    Ok(())
+}
+
 /// Adds what was written: text as it is, octets as digits.
 fn put_output(alloc: Global, page: &mut Page, row: &Row<'_>, octets: &[u8]) -> Result<(), Trouble> {
     if row.kind == "from-hex" || row.kind == "narrow" || row.kind == "clean" {
@@ -77,6 +92,7 @@ fn put_output(alloc: Global, page: &mut Page, row: &Row<'_>, octets: &[u8]) -> R
         return page.put("\n");
     }
     match std::str::from_utf8(octets) {
+        Ok(text) if row.kind == "reasons" => put_reasons(page, text),
         Ok(text) => page.put(text),
         Err(_) => Err(Trouble::Row("output that is text")),
     }

@@ -5,7 +5,7 @@ pub use Rattle.std.specs.Fmt.{decimal, digit_glyph}
 pub use Rattle.std.specs.List.{flat_map, list_all}
 pub use Rattle.std.specs.Str.{IsAscii, chars, is_utf8}
 pub use Rattle.std.specs.String.{string_bytes}
-pub use Rattle.bgp_numbers.specs.declared.error.TheConstants.{ADMINISTRATIVE_RESET, ADMINISTRATIVE_SHUTDOWN, CEASE, MESSAGE_HEADER, OPEN_MESSAGE, OPTIONAL_ATTRIBUTE, UPDATE_MESSAGE}
+pub use Rattle.bgp_numbers.specs.declared.error.TheConstants.{ADMINISTRATIVE_RESET, ADMINISTRATIVE_SHUTDOWN, CEASE, MESSAGE_HEADER, OPEN_MESSAGE}
 pub use Rattle.bgp_names.specs.Attributes.{attribute_name, origin_name, segment_name}
 pub use Rattle.bgp_names.specs.Capabilities.{capability_name, parameter_name}
 pub use Rattle.bgp_names.specs.Errors.{error_name, subcode_name}
@@ -40,6 +40,8 @@ pub use Rattle.bgp_msg.specs.Prelude.{of_fault, out_of, outcome_value}
 pub use Rattle.bgp_msg.specs.declared.message.Message.{Message}
 pub use Rattle.bgp_msg.specs.declared.outcome.Outcome.{Outcome}
 pub use Rattle.bgp_fields.specs.Prelude.{fields_left, fields_of, octets_in}
+pub use Rattle.bgp_fields.specs.declared.cause.Cause.{Cause}
+pub use Rattle.bgp_fields.specs.declared.field.Fault.{Fault}
 pub use Rattle.bgp_fields.specs.declared.field.Field.{Field}
 pub use Rattle.bgp_fields.specs.declared.field.Span.{Span}
 pub use Rattle.bgp_fields.specs.declared.kind.FieldKind.{FieldKind}

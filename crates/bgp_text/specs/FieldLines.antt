@@ -1,11 +1,11 @@
 -- The lines of a message's fields.
 use Rattle.std.specs.Prelude.{ℕ, ◌+◌, ◌==◌, ◌&&◌, nat_lt, nat_le, Bool, false, true, List, [], ◌∷◌, ◌++◌, Option, None, Some, codes, if◌then◌else◌}
-use Rattle.bgp_text.specs.Below.{flat_map, decimal, hex_octet, Notification, Note, attribute_name, subcode_name, Field, Span, octets_in}
+use Rattle.bgp_text.specs.Below.{flat_map, decimal, hex_octet, Notification, Note, attribute_name, subcode_name, Cause, Fault, Field, Span, octets_in}
 use Rattle.bgp_fields.specs.declared.field.Group.{Group}
 use Rattle.bgp_text.specs.FieldNames.{field_name}
 use Rattle.bgp_text.specs.FieldValues.{spaced, value_text}
 use Rattle.bgp_text.specs.NoteLines.{why_name}
-use Rattle.bgp_text.specs.Sections.{note_section, reset_section}
+use Rattle.bgp_text.specs.Sections.{cause_section, note_section}
 
 -- the beginning of a line: a mark, where a fault lies there
 abbrev pub margin : Bool → List ℕ
@@ -53,21 +53,21 @@ noted_lines message place (n ∷ notes) (f ∷ fields) =
 -- ---- resets
 
 -- the NOTIFICATION that answers, and by which rule
-abbrev pub reset_reason : Notification → List ℕ
-reset_reason n =
+abbrev pub reset_reason : Notification → Cause → List ℕ
+reset_reason n cause =
     codes " <- " ++ (decimal n.code ++ (codes "/" ++ (decimal n.subcode ++ (spaced (subcode_name n.code n.subcode)
-    ++ (codes ", " ++ reset_section n.code n.subcode)))))
+    ++ (codes ", " ++ cause_section cause)))))
 
 -- some of the field's octets are of the span
-abbrev pub overlaps : Option Span → Field → Bool
-overlaps None f = false
-overlaps (Some span) f = nat_lt f.at (span.at + span.len) && nat_lt span.at (f.at + f.len)
+abbrev pub overlaps : Span → Field → Bool
+overlaps span f = nat_lt f.at (span.at + span.len) && nat_lt span.at (f.at + f.len)
 
 -- the span begins in the field
-abbrev pub holds : Option Span → Field → Bool
-holds None f = false
-holds (Some span) f = nat_le f.at span.at && nat_lt span.at (f.at + f.len)
+abbrev pub holds : Span → Field → Bool
+holds span f = nat_le f.at span.at && nat_lt span.at (f.at + f.len)
 
--- the line of a field of a message that is answered by a NOTIFICATION: for the octets of a span
-abbrev pub faulty_line : List ℕ → Option Span → Notification → Field → List ℕ
-faulty_line message span n f = field_line (overlaps span f) (if holds span f then reset_reason n else []) message f
+-- the line of a field of a message that is answered by a NOTIFICATION: where the octets at fault are of it, and why where they begin in it
+abbrev pub faulty_line : List ℕ → Option Fault → Notification → Field → List ℕ
+faulty_line message None n f = field_line false [] message f
+faulty_line message (Some fault) n f =
+    field_line (overlaps fault.span f) (if holds fault.span f then reset_reason n fault.cause else []) message f

@@ -1,6 +1,7 @@
 -- The sections of the RFCs by which messages are judged.
-use Rattle.std.specs.Prelude.{ℕ, ◌==◌, ◌&&◌, List, [], ◌∷◌, codes, if◌then◌else◌}
-use Rattle.bgp_text.specs.Below.{Why, MESSAGE_HEADER, OPEN_MESSAGE, UPDATE_MESSAGE, OPTIONAL_ATTRIBUTE}
+use Rattle.std.specs.Prelude.{ℕ, List, [], ◌∷◌, codes}
+use Rattle.bgp_fields.specs.declared.cause.Cause.{Cause}
+use Rattle.bgp_text.specs.Below.{Why}
 use Rattle.bgp_names.specs.Names.{named}
 
 -- where the value of a type of attribute is judged
@@ -14,11 +15,9 @@ value_section kind = named (
     (6, codes "RFC 7606, section 7.6") ∷ (
     (7, codes "RFC 7606, section 7.7") ∷ (
     (8, codes "RFC 7606, section 7.8") ∷ (
-    (14, codes "RFC 7606, section 7.11") ∷ (
-    (15, codes "RFC 7606, section 7.12") ∷ (
     (17, codes "RFC 6793, section 6") ∷ (
     (18, codes "RFC 6793, section 6") ∷ (
-    (32, codes "RFC 8092, section 6") ∷ []))))))))))))) kind
+    (32, codes "RFC 8092, section 6") ∷ []))))))))))) kind
 
 -- where a note is called for: by its reason, else by the type of the attribute
 unfoldable pub note_section : ℕ → Why → List ℕ
@@ -28,12 +27,21 @@ note_section kind Why.Repeated = codes "RFC 7606, section 3, item g"
 note_section kind Why.Cut = codes "RFC 7606, section 4"
 note_section kind Why.AsZero = codes "RFC 7607, section 2"
 note_section kind Why.FourOctet = codes "RFC 6793, section 4.1"
+note_section kind Why.Family = codes "RFC 4760, section 8"
+note_section kind Why.Unneeded = codes "RFC 4760, section 3"
 note_section kind _ = value_section kind
 
--- where a reset is called for
-abbrev pub reset_section : ℕ → ℕ → List ℕ
-reset_section code subcode =
-    if code == MESSAGE_HEADER then codes "RFC 4271, section 6.1" else (
-    if code == OPEN_MESSAGE then codes "RFC 4271, section 6.2" else (
-    if (code == UPDATE_MESSAGE) && (subcode == OPTIONAL_ATTRIBUTE) then codes "RFC 7606, section 5.3" else
-    codes "RFC 4271, section 6.3"))
+-- where a reset is called for, by the test that decided; two are rules of our own
+unfoldable pub cause_section : Cause → List ℕ
+cause_section Cause.Header = codes "RFC 4271, section 6.1"
+cause_section Cause.Open = codes "RFC 4271, section 6.2"
+cause_section Cause.Lengths = codes "RFC 4271, section 6.3"
+cause_section Cause.Prefix = codes "RFC 4271, section 6.3"
+cause_section Cause.WellKnown = codes "RFC 4271, section 6.3"
+cause_section Cause.SecondRoutes = codes "RFC 7606, section 3, item g"
+cause_section Cause.CutRoutes = codes "own rule"
+cause_section Cause.RouteFlags = codes "own rule"
+cause_section Cause.RouteLength = codes "RFC 7606, section 5.3"
+cause_section Cause.NextHop = codes "RFC 7606, section 7.11"
+cause_section Cause.RoutePrefix = codes "RFC 7606, section 5.3"
+cause_section Cause.NothingAnnounced = codes "RFC 7606, section 5.2"

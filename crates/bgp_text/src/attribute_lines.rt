@@ -6,10 +6,10 @@ ghost use Rattle.bgp_text.specs.Lines.{line_of};
 ghost use Rattle.bgp_text.specs.AttributeLines.{origin_name, aggregator_line, flags_text, opaque_line, attribute_lines};
 
 use crate::community_lines::{put_communities, put_large};
-use crate::info::info_text;
+use crate::info::put_info;
 use crate::mp_lines::{put_reach, put_unreach};
 use crate::path_line::put_path_line;
-use crate::short::{Decimal, put_line};
+use crate::short::{Decimal, put_line, put_one};
 use bgp_attr::{Aggregator, AttrView, OpaqueView, Origin};
 use bgp_prefix::{Address, AsNumber};
 use std::alloc::{AllocError, Global};
@@ -61,10 +61,13 @@ fn flags_text(transitive: bool, partial: bool) -> &'static str
 fn put_opaque(alloc: Global, text: &mut String, opaque: &OpaqueView<'_>) -> Result<(), AllocError>
     ensures { OnOk result (string_bytes text.new ≡ string_bytes text.old ++ opaque_line (opaque_value opaque.now)) }
 {
-    let kind = opaque.kind;
-    let flags = flags_text(opaque.transitive, opaque.partial);
-    let value = info_text(alloc, opaque.value)?;
-    write!(text, "  attr {kind} {flags} {value}\n")
+    text.push_str("  attr ")?;
+    put_one(text, Decimal(opaque.kind))?;
+    text.push_str(" ")?;
+    text.push_str(flags_text(opaque.transitive, opaque.partial))?;
+    text.push_str(" ")?;
+    put_info(alloc, text, opaque.value)?;
+    text.push_str("\n")
 }
 
 /// Attributes whose type isn't recognised.

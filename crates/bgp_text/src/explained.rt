@@ -6,7 +6,7 @@ ghost use Rattle.bgp_text.specs.Explained.{explained_fields, explained_lines};
 
 use crate::field_lines::{put_faulty_fields, put_noted_fields, put_plain_fields};
 use crate::outcome_lines::put_viewed_outcome;
-use bgp_fields::{FieldIter, Span};
+use bgp_fields::{Fault, FieldIter};
 use bgp_msg::OutcomeView;
 use bgp_open::Context;
 use std::alloc::{AllocError, Global};
@@ -17,11 +17,11 @@ fn put_fields(
     text: &mut String,
     ctx: &Context,
     message: &[u8],
-    span: Option<Span>,
+    fault: Option<Fault>,
     outcome: &OutcomeView<'_>,
 ) -> Result<(), AllocError>
     requires { length message.now ≤ 4096 }
-    ensures { OnOk result (string_bytes text.new ≡ string_bytes text.old ++ explained_fields ctx.now message.now span (outcome_value outcome.now)) }
+    ensures { OnOk result (string_bytes text.new ≡ string_bytes text.old ++ explained_fields ctx.now message.now fault (outcome_value outcome.now)) }
 {
     let fields = FieldIter::new(ctx, message);
     match outcome {
@@ -31,13 +31,14 @@ fn put_fields(
         OutcomeView::Open(_) | OutcomeView::Notification(_) | OutcomeView::Keepalive => {
             put_plain_fields(text, message, fields)
         }
-        OutcomeView::Reset(answer) => put_faulty_fields(text, message, span, answer, fields),
+        OutcomeView::Reset(answer) => put_faulty_fields(text, message, fault, answer, fields),
     }
 }
 
 /// Adds what [`put_viewed_outcome`](crate::put_viewed_outcome) does of the outcome of a message of so many octets at its place in the stream (0 of them
 /// for a header's fault), and then a line for each field of its octets, those of the message or the 19 of the header: its offset in the message, its octets, its name and what it says. Fields of an attribute that isn't kept are marked, and so are
-/// those of the span for which the message is answered by a NOTIFICATION, with the reason and the section of the RFC.
+/// those of the octets at fault where the message is answered by a NOTIFICATION, with the reason and the section of the RFC by which the test decided
+/// that failed ("own rule" where it is ours).
 ///
 /// # Errors
 /// `AllocError` where an allocation failed.
@@ -48,12 +49,12 @@ pub fn put_explained(
     place: u64,
     len: u16,
     octets: &[u8],
-    span: Option<Span>,
+    fault: Option<Fault>,
     outcome: &OutcomeView<'_>,
 ) -> Result<(), AllocError>
     requires { length octets.now ≤ 4096 }
-    ensures { OnOk result (string_bytes text.new ≡ string_bytes text.old ++ explained_lines ctx.now place len octets.now span (outcome_value outcome.now)) }
+    ensures { OnOk result (string_bytes text.new ≡ string_bytes text.old ++ explained_lines ctx.now place len octets.now fault (outcome_value outcome.now)) }
 {
     put_viewed_outcome(alloc, text, place, len, outcome)?;
-    put_fields(text, ctx, octets, span, outcome)
+    put_fields(text, ctx, octets, fault, outcome)
 }

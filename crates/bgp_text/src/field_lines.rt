@@ -1,6 +1,6 @@
 //! The lines of a message's fields.
 
-ghost use Rattle.std.specs.Prelude.{◌≡◌, ◌≤◌, ◌++◌, [], ◌∷◌, ℕ, List, true, codes, length, take, drop, OnOk};
+ghost use Rattle.std.specs.Prelude.{◌≡◌, ◌≤◌, Some, ◌++◌, [], ◌∷◌, ℕ, List, true, codes, length, take, drop, OnOk};
 ghost use Rattle.bgp_text.specs.Below.{flat_map, string_bytes, hex_octet};
 ghost use Rattle.bgp_text.specs.Below.{notification_of_view, notes_left, fields_left, Field as FieldValue};
 ghost use Rattle.bgp_text.specs.steps.Rows.{row_of, note_at, noting_lines, plain_line};
@@ -10,9 +10,9 @@ use crate::field_names::field_name;
 use crate::field_values::{put_spaced, put_value};
 use crate::json::put_digits;
 use crate::note_lines::why_name;
-use crate::sections::{note_section, reset_section};
+use crate::sections::{cause_section, note_section};
 use crate::short::{Decimal, put_one};
-use bgp_fields::{Field, FieldIter, Group, Span};
+use bgp_fields::{Cause, Fault, Field, FieldIter, Group, Span};
 use bgp_frame::NotificationView;
 use bgp_names::{attribute_name, subcode_name};
 use bgp_update::{Note, NoteIter};
@@ -220,8 +220,12 @@ pub(crate) fn put_plain_fields(
 }
 
 /// Adds the NOTIFICATION that answers a message, and by which rule.
-fn put_reset_reason(text: &mut String, answer: &NotificationView<'_>) -> Result<(), AllocError>
-    ensures { OnOk result (string_bytes text.new ≡ string_bytes text.old ++ reset_reason (notification_of_view answer.now)) }
+fn put_reset_reason(
+    text: &mut String,
+    answer: &NotificationView<'_>,
+    cause: Cause,
+) -> Result<(), AllocError>
+    ensures { OnOk result (string_bytes text.new ≡ string_bytes text.old ++ reset_reason (notification_of_view answer.now) cause) }
 {
     text.push_str(" <- ")?;
     put_one(text, Decimal(answer.code))?;
@@ -229,64 +233,70 @@ fn put_reset_reason(text: &mut String, answer: &NotificationView<'_>) -> Result<
     put_one(text, Decimal(answer.subcode))?;
     put_spaced(text, subcode_name(answer.code, answer.subcode))?;
     text.push_str(", ")?;
-    text.push_str(reset_section(answer.code, answer.subcode))
+    text.push_str(cause_section(cause))
 }
 
 /// Whether some of a field's octets are of a span.
-fn overlaps(span: Option<Span>, field: &Field) -> bool
+fn overlaps(span: Span, field: &Field) -> bool
     ensures { result ≡ overlaps span field.now }
 {
-    match span {
-        None => false,
-        Some(span) => {
-            u32::from(field.at) < u32::from(span.at) + u32::from(span.len)
-                && u32::from(span.at) < u32::from(field.at) + u32::from(field.len)
-        }
-    }
+    u32::from(field.at) < u32::from(span.at) + u32::from(span.len)
+        && u32::from(span.at) < u32::from(field.at) + u32::from(field.len)
 }
 
 /// Whether a span begins in a field.
-fn holds(span: Option<Span>, field: &Field) -> bool
+fn holds(span: Span, field: &Field) -> bool
     ensures { result ≡ holds span field.now }
 {
-    match span {
-        None => false,
-        Some(span) => {
-            field.at <= span.at && u32::from(span.at) < u32::from(field.at) + u32::from(field.len)
-        }
-    }
+    field.at <= span.at && u32::from(span.at) < u32::from(field.at) + u32::from(field.len)
 }
 
-/// Adds the line of a field of a message that is answered for the octets of a span.
-fn put_faulty(
+/// Adds the line of a field of a message that is answered for a fault, with the reason where that begins.
+fn put_blamed(
     text: &mut String,
     message: &[u8],
-    span: Option<Span>,
+    fault: &Fault,
     answer: &NotificationView<'_>,
     field: &Field,
 ) -> Result<(), AllocError>
-    ensures { OnOk result (string_bytes text.new ≡ string_bytes text.old ++ faulty_line message.now span (notification_of_view answer.now) field.now) }
+    ensures { OnOk result (string_bytes text.new ≡ string_bytes text.old ++ faulty_line message.now (Some fault.now) (notification_of_view answer.now) field.now) }
 {
-    put_field(text, overlaps(span, field), message, field)?;
-    if holds(span, field) {
-        put_reset_reason(text, answer)?;
+    put_field(text, overlaps(fault.span, field), message, field)?;
+    if holds(fault.span, field) {
+        put_reset_reason(text, answer, fault.cause)?;
     }
     text.push_str("\n")
 }
 
-/// Adds the lines of the fields of a message that is answered for the octets of a span.
+/// Adds the line of a field of a message that is answered by a NOTIFICATION.
+fn put_faulty(
+    text: &mut String,
+    message: &[u8],
+    fault: &Option<Fault>,
+    answer: &NotificationView<'_>,
+    field: &Field,
+) -> Result<(), AllocError>
+    ensures { OnOk result (string_bytes text.new ≡ string_bytes text.old ++ faulty_line message.now fault.now (notification_of_view answer.now) field.now) }
+{
+    match fault {
+        None => put_plain(text, false, message, field),
+        Some(fault) => put_blamed(text, message, fault, answer, field),
+    }
+}
+
+/// Adds the lines of the fields of a message that is answered by a NOTIFICATION.
 pub(crate) fn put_faulty_fields(
     text: &mut String,
     message: &[u8],
-    span: Option<Span>,
+    fault: Option<Fault>,
     answer: &NotificationView<'_>,
     fields: FieldIter<'_>,
 ) -> Result<(), AllocError>
-    ensures { OnOk result (string_bytes text.new ≡ string_bytes text.old ++ flat_map (faulty_line message.now span (notification_of_view answer.now)) (fields_left fields.entry)) }
+    ensures { OnOk result (string_bytes text.new ≡ string_bytes text.old ++ flat_map (faulty_line message.now fault (notification_of_view answer.now)) (fields_left fields.entry)) }
 {
     let mut left = fields;
     'fields: while let Some(field) = left.next() {
-        put_faulty(text, message, span, answer, &field)?;
+        put_faulty(text, message, &fault, answer, &field)?;
     }
     Ok(())
 }

@@ -1,6 +1,6 @@
 //! Information and notifications as text.
 
-ghost use Rattle.std.specs.Prelude.{◌≡◌, IfOk};
+ghost use Rattle.std.specs.Prelude.{◌≡◌, ◌++◌, IfOk, OnOk};
 ghost use Rattle.bgp_text.specs.Below.{string_bytes};
 ghost use Rattle.bgp_text.specs.Info.{info_text, notification_text};
 
@@ -19,6 +19,18 @@ pub fn info_text(alloc: Global, info: &[u8]) -> Result<String, AllocError>
         return "-".to_string(alloc);
     }
     hex::encode(alloc, info)
+}
+
+/// Adds octets as [`info_text`] has them: without memory of its own where there are none.
+#[tactic(auto, unfolding(crate::specs::Info::info_text))]
+pub(crate) fn put_info(alloc: Global, text: &mut String, info: &[u8]) -> Result<(), AllocError>
+    ensures { OnOk result (string_bytes text.new ≡ string_bytes text.old ++ info_text info.now) }
+{
+    if info.is_empty() {
+        return text.push_str("-");
+    }
+    let digits = hex::encode(alloc, info)?;
+    text.push_str(digits.as_str())
 }
 
 /// A notification's code, subcode and information, while they lie in octets.

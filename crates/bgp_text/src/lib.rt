@@ -47,3 +47,4 @@ pub use json_end::put_end_json;
 pub use json_outcome::put_viewed_json;
 pub use note_lines::why_name;
 pub use outcome_lines::put_viewed_outcome;
+pub use sections::{cause_section, note_section};

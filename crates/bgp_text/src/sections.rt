@@ -1,10 +1,10 @@
 //! The sections of the RFCs by which messages are judged.
 
 ghost use Rattle.std.specs.Prelude.{◌≡◌};
-ghost use Rattle.bgp_text.specs.Sections.{note_section, reset_section, value_section};
+ghost use Rattle.bgp_text.specs.Sections.{cause_section, note_section, value_section};
 
 use bgp_attr::Why;
-use bgp_numbers::error;
+use bgp_fields::Cause;
 
 /// Where the value of a type of attribute is judged.
 #[tactic(auto, unfolding(crate::specs::Sections::value_section))]
@@ -20,8 +20,6 @@ fn value_section(kind: u8) -> &'static str
         6 => "RFC 7606, section 7.6",
         7 => "RFC 7606, section 7.7",
         8 => "RFC 7606, section 7.8",
-        14 => "RFC 7606, section 7.11",
-        15 => "RFC 7606, section 7.12",
         17 => "RFC 6793, section 6",
         18 => "RFC 6793, section 6",
         32 => "RFC 8092, section 6",
@@ -29,9 +27,9 @@ fn value_section(kind: u8) -> &'static str
     }
 }
 
-/// Where a note is called for: by its reason, else by the type of the attribute.
+/// The section of an RFC by which an attribute of a type is discarded, or its message treated as a withdrawal, for a reason.
 #[tactic(auto, unfolding(crate::specs::Sections::note_section))]
-pub(crate) fn note_section(kind: u8, why: Why) -> &'static str
+pub fn note_section(kind: u8, why: Why) -> &'static str
     ensures { result.now ≡ note_section kind why }
 {
     match why {
@@ -41,18 +39,29 @@ pub(crate) fn note_section(kind: u8, why: Why) -> &'static str
         Why::Cut => "RFC 7606, section 4",
         Why::AsZero => "RFC 7607, section 2",
         Why::FourOctet => "RFC 6793, section 4.1",
+        Why::Family => "RFC 4760, section 8",
+        Why::Unneeded => "RFC 4760, section 3",
         _ => value_section(kind),
     }
 }
 
-/// Where a reset is called for.
-pub(crate) fn reset_section(code: u8, subcode: u8) -> &'static str
-    ensures { result.now ≡ reset_section code subcode }
+/// The section of an RFC by which a message is answered by a NOTIFICATION, or that this is a rule of our own.
+#[tactic(auto, unfolding(crate::specs::Sections::cause_section))]
+pub fn cause_section(cause: Cause) -> &'static str
+    ensures { result.now ≡ cause_section cause }
 {
-    match (code, subcode) {
-        (error::MESSAGE_HEADER, _) => "RFC 4271, section 6.1",
-        (error::OPEN_MESSAGE, _) => "RFC 4271, section 6.2",
-        (error::UPDATE_MESSAGE, error::OPTIONAL_ATTRIBUTE) => "RFC 7606, section 5.3",
-        _ => "RFC 4271, section 6.3",
+    match cause {
+        Cause::Header => "RFC 4271, section 6.1",
+        Cause::Open => "RFC 4271, section 6.2",
+        Cause::Lengths => "RFC 4271, section 6.3",
+        Cause::Prefix => "RFC 4271, section 6.3",
+        Cause::WellKnown => "RFC 4271, section 6.3",
+        Cause::SecondRoutes => "RFC 7606, section 3, item g",
+        Cause::CutRoutes => "own rule",
+        Cause::RouteFlags => "own rule",
+        Cause::RouteLength => "RFC 7606, section 5.3",
+        Cause::NextHop => "RFC 7606, section 7.11",
+        Cause::RoutePrefix => "RFC 7606, section 5.3",
+        Cause::NothingAnnounced => "RFC 7606, section 5.2",
     }
 }

@@ -1,7 +1,5 @@
 -- What a borrowed UPDATE is.
-use Rattle.std.specs.Prelude.{List, map}
-use Rattle.bgp_attr.specs.Prelude.{opaque_value}
-use Rattle.bgp_attr.specs.declared.opaque.OpaqueView.{OpaqueView}
+use Rattle.std.specs.Prelude.{List}
 use Rattle.bgp_attr.specs.declared.opaque.Opaque.{Opaque}
 use Rattle.bgp_frame.specs.Prelude.{notification_of_view}
 use Rattle.bgp_update.specs.declared.note.Note.{Note}
@@ -27,10 +25,6 @@ view_marks v = marks_of v.ctx (parts_value v.body)
 -- what it says with the attributes that are kept
 abbrev pub update_value : UpdateView → Update
 update_value v = update_of (parts_value v.body) (view_marks v)
-
--- with these in place of its attributes of unrecognised types
-abbrev pub update_with : UpdateView → List OpaqueView → Update
-update_with v others = record (update_value v) { attrs = record (update_value v).attrs { others = map opaque_value others } }
 
 -- with the attributes of its slots, and these others
 abbrev pub update_among : UpdateView → List Opaque → Update

@@ -3,6 +3,7 @@ pub mod Small
 pub mod Others
 pub mod Failed
 pub mod ToldSlot
+pub mod SortedOthers
 pub mod Layout
 pub mod Progress
 pub mod RoutesView

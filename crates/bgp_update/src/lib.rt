@@ -37,6 +37,7 @@ mod refusal;
 mod routes;
 mod routes_view;
 mod slot_iter;
+mod sorted_others;
 mod summary;
 mod told_path;
 mod told_slot;

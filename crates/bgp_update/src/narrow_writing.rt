@@ -8,11 +8,12 @@ ghost use Rattle.bgp_wire.specs.Prelude.{Extends};
 ghost use Rattle.bgp_update.specs.Prelude.{wide_path, attr_list, present, slot, attributes_octets, told_attrs};
 
 use crate::kept_view::KeptView;
-use crate::slot_iter::{Row, view_slot};
+use crate::slot_iter::view_slot;
+use crate::sorted_others::SortedOthers;
 use crate::told_path::put_told_path;
 use crate::told_slot::{told_types, wide_path};
 use crate::two_octets::{narrow_aggregator, wide_aggregator};
-use bgp_attr::{AttrView, OpaqueView, PathView, write_attr_view};
+use bgp_attr::{AttrView, PathView, write_attr_view};
 use bgp_numbers::attribute;
 use bgp_open::Context;
 use std::alloc::AllocError;
@@ -64,13 +65,13 @@ fn put_wide_path(
 fn put_slot<'a>(
     ctx: &Context,
     kept: &KeptView<'a>,
-    others: &[OpaqueView<'a>],
+    others: &SortedOthers<'_, 'a>,
     kind: u8,
     out: &mut Vec<u8>,
 ) -> Result<(), AllocError>
     requires narrow { ctx.now.as4 ≡ false }
-    requires writable { AllByRecursion (λ a. is_writable ctx.now a ≡ true) (slot (told_attrs kept.now others.now) kind) }
-    ensures ok { OnOk result (out.new.items ≡ out.old.items ++ flat_map (canonical ctx.now) (slot (told_attrs kept.now others.now) kind)) }
+    requires writable { AllByRecursion (λ a. is_writable ctx.now a ≡ true) (slot (told_attrs kept.now others.now.row.now) kind) }
+    ensures ok { OnOk result (out.new.items ≡ out.old.items ++ flat_map (canonical ctx.now) (slot (told_attrs kept.now others.now.row.now) kind)) }
     ensures err { OnErr result (Extends out.old.items out.new.items) }
 {
     match kind {
@@ -82,7 +83,7 @@ fn put_slot<'a>(
         attribute::AS4_AGGREGATOR => {
             put_kept!(ctx, out, wide_aggregator(kept.aggregator()), As4Aggregator)
         }
-        _ => put_present(ctx, view_slot(kept, &Row(others), kind), out),
+        _ => put_present(ctx, view_slot(kept, others, kind), out),
     }
 }
 
@@ -90,15 +91,15 @@ fn put_slot<'a>(
 pub(crate) fn put_told_attrs<'a>(
     ctx: &Context,
     kept: &KeptView<'a>,
-    others: &[OpaqueView<'a>],
+    others: &SortedOthers<'_, 'a>,
     out: &mut Vec<u8>,
 ) -> Result<(), AllocError>
     requires narrow { ctx.now.as4 ≡ false }
-    requires writable { AllByRecursion (λ a. is_writable ctx.now a ≡ true) (attr_list (told_attrs kept.now others.now)) }
-    ensures ok { OnOk result (out.new.items ≡ out.old.items ++ attributes_octets ctx.now (told_attrs kept.now others.now)) }
+    requires writable { AllByRecursion (λ a. is_writable ctx.now a ≡ true) (attr_list (told_attrs kept.now others.now.row.now)) }
+    ensures ok { OnOk result (out.new.items ≡ out.old.items ++ attributes_octets ctx.now (told_attrs kept.now others.now.row.now)) }
     ensures err { OnErr result (Extends out.old.items out.new.items) }
 {
-    let kinds = told_types(others);
+    let kinds = told_types(others.row);
     'types: for kind in kinds {
         put_slot(ctx, kept, others, *kind, out)?;
     }

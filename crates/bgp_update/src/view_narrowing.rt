@@ -5,6 +5,7 @@ ghost use Rattle.std.specs.List.{AllByRecursion};
 ghost use Rattle.bgp_wire.specs.Prelude.{Extends};
 ghost use Rattle.bgp_attr.specs.Prelude.{is_writable};
 ghost use Rattle.bgp_update.specs.As4.{narrowed, narrowed_update};
+ghost use Rattle.bgp_update.specs.ByType.{IsByType};
 ghost use Rattle.bgp_update.specs.Slots.{attr_list};
 ghost use Rattle.bgp_update.specs.Told.{CanBeTold};
 ghost use Rattle.bgp_update.specs.View.{update_value};
@@ -13,8 +14,10 @@ ghost use Rattle.bgp_update.specs.Written.{attributes_octets, is_too_long, writt
 ghost use Rattle.bgp_update.specs.steps.Layout.{LaysOutBody};
 ghost use Rattle.bgp_update.specs.declared.view_narrowing.NarrowFault.TheVariants.{TooLong, Memory};
 
+use crate::by_type::ByType;
 use crate::laying::{LONGEST_BODY, Places, put_room, set_lengths};
 use crate::narrow_writing::put_told_attrs;
+use crate::sorted_others::{FEW, SortedOthers};
 use crate::view::UpdateView;
 use bgp_open::Context;
 use std::alloc::{AllocError, Global};
@@ -43,6 +46,16 @@ fn two_octets(ctx: &Context) -> Context
     Context { as4: false, ..*ctx }
 }
 
+/// The attributes of types that aren't recognised, by type.
+#[inline(never)]
+fn by_type<'a>(view: &UpdateView<'a>) -> ByType<'a>
+    ensures { IsByType result (update_value view.now).attrs.others }
+{
+    let mut place = ByType::new();
+    view.sort_others(&mut place);
+    place
+}
+
 /// Adds the attributes as they are told; some octets may stay where an allocation failed.
 fn put_told(
     alloc: Global,
@@ -56,7 +69,13 @@ fn put_told(
     ensures err { OnErr result (Extends out.old.items out.new.items) }
 {
     let others = view.others(alloc)?;
-    put_told_attrs(ctx, view.kept(), others.as_slice(), out)
+    let by_type = if others.len() > FEW {
+        Some(by_type(view))
+    } else {
+        None
+    };
+    let sorted = SortedOthers::new(others.as_slice(), by_type.as_ref());
+    put_told_attrs(ctx, view.kept(), &sorted, out)
 }
 
 /// Adds the parts of a body, and room for the lengths of the first two; some octets may stay where an allocation failed.

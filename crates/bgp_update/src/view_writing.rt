@@ -14,9 +14,9 @@ use crate::attrs::RECOGNISED;
 use crate::chosen::Chosen;
 use crate::kept_view::KeptView;
 use crate::laying::{Places, put_room, set_lengths};
-use crate::slot_iter::{OfType, Row, view_slot};
+use crate::slot_iter::{OfType, view_slot};
 use crate::view::UpdateView;
-use bgp_attr::{AttrView, OpaqueView, write_attr_view};
+use bgp_attr::{AttrView, write_attr_view};
 use bgp_open::Context;
 use bgp_prefix::PrefixIter4;
 use bgp_wire::Output;
@@ -175,31 +175,6 @@ fn put_body<'a, S: OfType<'a>, O: Output>(
             out.truncate(start);
             Err(refused)
         }
-    }
-}
-
-impl UpdateView<'_> {
-    ghost use Rattle.bgp_update.specs.View.{update_with};
-
-    /// Appends the body of the UPDATE in its one written form, as [`write_update`](crate::write_update) does, with these in place of its attributes of
-    /// types that aren't recognised ([`others`](UpdateView::others)). No list of what it holds is made, and nothing is tested again: it is for what was
-    /// accepted in the context, and for no more of these than it has.
-    ///
-    /// # Errors
-    /// `AllocError` where there was no room; nothing is appended then.
-    pub fn write_with<O: Output>(
-        &self,
-        ctx: &Context,
-        others: &[OpaqueView<'_>],
-        out: &mut O,
-    ) -> Result<(), AllocError>
-        requires writable { AllByRecursion (λ a. is_writable ctx.now a ≡ true) (attr_list (update_with self.now others.now).attrs) }
-        requires short { length (written_body ctx.now (update_with self.now others.now)) ≤ 4077 }
-        ensures ok { OnOk result (O.written out.new ≡ O.written out.old ++ written_body ctx.now (update_with self.now others.now)) }
-        ensures err { OnErr result (O.written out.new ≡ O.written out.old) }
-        ensures full { OnErr result (O.room < length (O.written out.old) + length (written_body ctx.now (update_with self.now others.now))) }
-    {
-        put_body(ctx, self, &Row(others), out)
     }
 }
 

@@ -375,6 +375,22 @@ ristulva_status ristulva_fault(const ristulva_context *context, const uint8_t *o
  * RISTULVA_INCOMPLETE: nothing is written. */
 ristulva_status ristulva_note_span(const uint8_t *octets, size_t len, const ristulva_note_found *note, ristulva_span *out);
 
+/* Writes the section of an RFC by which the first message is RISTULVA_RESET, as `bgp explain` prints it ("RFC 7606, section 7.11"; "own rule" where
+ * no RFC has it so), to the beginning of `text`, which has room for `room` octets: at most RISTULVA_SECTION. It isn't terminated by NUL; the rest of the
+ * buffer is unchanged. `written` is how many octets it has: 0 where the message isn't RISTULVA_RESET.
+ *
+ * RISTULVA_INCOMPLETE: nothing is written. RISTULVA_ROOM: `written` is, and says how much room is needed. */
+ristulva_status ristulva_fault_section(const ristulva_context *context, const uint8_t *octets, size_t len, char *text, size_t room,
+                                       size_t *written);
+
+/* Writes the section of an RFC by which a note that ristulva_notes gives is called for, in the same way.
+ *
+ * RISTULVA_RANGE, the note has none of the reasons above: nothing is written. RISTULVA_ROOM: `written` is, and says how much room is needed. */
+ristulva_status ristulva_note_section(const ristulva_note_found *note, char *text, size_t room, size_t *written);
+
+/* The most octets of such a section. */
+#define RISTULVA_SECTION 27u
+
 /* Writes the name of a kind of field, as `bgp explain` prints it, to the beginning of `name`, which has room for `room` octets: at most RISTULVA_FIELD_NAME.
  * It isn't terminated by NUL; the rest of the buffer is unchanged. `written` is how many octets it has.
  *
@@ -582,7 +598,8 @@ typedef struct {
     ristulva_prefixes reached;   /* MP_REACH_NLRI */
     ristulva_prefixes nlri;      /* Network Layer Reachability Information */
     uint8_t announces;           /* 1 where those of the last two are announced; 0 where they are withdrawn too */
-    uint8_t loses_ip6;           /* 1 where the UPDATE has IPv6 routes that aren't given, since the context has no `ip6`; else 0 */
+    uint8_t loses_ip6;           /* 1 where the UPDATE has MP_REACH_NLRI or MP_UNREACH_NLRI of IPv6 unicast, and the context has no `ip6`: its routes
+                                  * aren't given, if it has any (an End-of-RIB has none: RFC 4724, section 2). Else 0 */
 } ristulva_route_cursor;
 
 typedef struct {
@@ -591,8 +608,8 @@ typedef struct {
 } ristulva_route;
 
 /* Begins a cursor at the first route of the first message of the octets, as RFC 7606 has them: those that an UPDATE withdraws, then those that it
- * announces; of one that is treated as a withdrawal all are withdrawn (section 2). Of other messages, and of a header with a fault, there are none.
- * The message is judged once. RISTULVA_INCOMPLETE: nothing is written. */
+ * announces; of one that is treated as a withdrawal all are withdrawn (section 2). They come in the order of the four cursors. Of other messages, and
+ * of a header with a fault, there are none. The message is judged once. RISTULVA_INCOMPLETE: nothing is written. */
 ristulva_status ristulva_begin_routes(const ristulva_context *context, const uint8_t *octets, size_t len, ristulva_route_cursor *cursor);
 
 /* Gives the routes one after another. RISTULVA_END: none is left. RISTULVA_RANGE: one of the four cursors isn't one of these octets, as
@@ -759,7 +776,8 @@ ristulva_status ristulva_next_capability(const uint8_t *octets, size_t len, rist
 
 /* Tells what two speakers agree on, of whose OPENs the octets are; octets behind the OPENs are ignored. That is the context of their session, and
  * its Hold Time in seconds, 0 for none, as each speaker finds them from its own OPEN and the other's, and as `bgp show --opens` does. Neither OPEN is
- * refused for what it says. It allocates nothing. Each field of the context is 0 or 1.
+ * refused for what it says: a caller refuses a direction for which both agree on path identifiers (capability 69; RFC 7911), since no call reads its
+ * routes. It allocates nothing. Each field of the context is 0 or 1.
  *
  * RISTULVA_INCOMPLETE, RISTULVA_REFUSED: as ristulva_open answers of the first of the two that isn't accepted. Nothing is written. */
 ristulva_status ristulva_agree(const uint8_t *ours, size_t ours_len, const uint8_t *theirs, size_t theirs_len, ristulva_context *context,
@@ -1127,6 +1145,21 @@ extern __typeof__(ristulva_note_span) ristulva_linked_note_span __asm__("ristulv
 ristulva_inline_ ristulva_status ristulva_note_span(const uint8_t *octets, size_t len, const ristulva_note_found *note, ristulva_span *out)
 {
     return ristulva_linked_note_span(ristulva_given_(octets, len), len, note, out);
+}
+
+extern __typeof__(ristulva_fault_section) ristulva_linked_fault_section __asm__("ristulva_fault_section");
+ristulva_inline_ ristulva_status ristulva_fault_section(const ristulva_context *context, const uint8_t *octets, size_t len, char *text, size_t room,
+                                                        size_t *written)
+{
+    uint64_t nothing = 0;
+    return ristulva_linked_fault_section(context, ristulva_given_(octets, len), len, ristulva_place_(char, text, room), room, written);
+}
+
+extern __typeof__(ristulva_note_section) ristulva_linked_note_section __asm__("ristulva_note_section");
+ristulva_inline_ ristulva_status ristulva_note_section(const ristulva_note_found *note, char *text, size_t room, size_t *written)
+{
+    uint64_t nothing = 0;
+    return ristulva_linked_note_section(note, ristulva_place_(char, text, room), room, written);
 }
 
 extern __typeof__(ristulva_field_name) ristulva_linked_field_name __asm__("ristulva_field_name");

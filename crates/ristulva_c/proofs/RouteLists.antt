@@ -12,7 +12,7 @@ use Rattle.bgp_msg.specs.declared.message.Message.TheVariants as message
 use Rattle.bgp_msg.specs.declared.outcome.Outcome.TheVariants as outcome
 use Rattle.ristulva_c.specs.declared.prefixes.Prefixes.{Prefixes}
 use Rattle.ristulva_c.specs.declared.span.Span.{Span}
-use Rattle.ristulva_c.specs.Prelude.{attrs_in, flag_of, is_set, parts_told, Lie, first_of_type, width_of, IsCursor, prefixes_left, RouteValue, routes_to, reached_routes, unreached_routes, routes_of, is_of, AreWithdrawn, AreRoutes, loses_ip6, has_ip6, carries_ip6, field_routes, routes_left, IsRouteCursor, Begins, octets_in, no_prefixes, no_routes, reach_afi, unreach_afi, value_from, prefixes_by, prefixes_at, cursor_by}
+use Rattle.ristulva_c.specs.Prelude.{attrs_in, flag_of, is_set, parts_told, Lie, first_of_type, width_of, IsCursor, prefixes_left, RouteValue, routes_to, reached_routes, unreached_routes, routes_of, is_of, AreWithdrawn, AreRoutes, AreInOrder, loses_ip6, has_ip6, carries_ip6, field_routes, routes_left, IsRouteCursor, Begins, octets_in, no_prefixes, no_routes, reach_afi, unreach_afi, value_from, prefixes_by, prefixes_at, cursor_by}
 use Rattle.ristulva_c.specs.declared.route_list.RouteCursor.{RouteCursor}
 use Rattle.ristulva_c.specs.steps.RouteList.{cursor_of}
 use Rattle.ristulva_c.proofs.FirstPlaces.{LiesAt, found_lies, in_part}
@@ -316,6 +316,8 @@ module _ (p : Parts) (ms : List Mark) where
 
   pub all_withdrawn : AreWithdrawn (notes.routes_of p ms) (routes_of false (update_of p ms))
   all_withdrawn = record {
+    update = update_of p ms;
+    in_order = refl;
     ip4 = spread (is_of IPV4) (routes_to false IPV4 w4) (unreached_routes u) (reached_routes false r) (routes_to false IPV4 n4)
         ∙ ap₂ ◌++◌ (filter_same IPV4 false w4 refl) (ap₂ ◌++◌ (gone4 u) (ap₂ ◌++◌ (come4 r) (filter_same IPV4 false n4 refl)))
         ∙ four_joined w4 (gone_ip4 u) (reached_ip4 r) n4;
@@ -331,33 +333,35 @@ module _ (p : Parts) (ms : List Mark) where
 
 module _ (ctx : Context) (octets : List ℕ) where
   abbrev BeginsFor : Option Parts → Outcome → Type 0
-  BeginsFor parts o = Begins octets o (loses_ip6 ctx parts o) (cursor_by ctx parts o)
+  BeginsFor parts o = Begins octets o (loses_ip6 ctx parts o) (cursor_by ctx parts o) × AreInOrder ctx parts o (routes_left octets (cursor_by ctx parts o))
 
   module _ (p : Parts) (lies : Lie octets p (parts_told (Some p))) (room : 23 + length p.withdrawn + length p.attributes + length p.nlri ≤ length octets) where
     taken : BeginsFor (Some p) (outcome.Took (message.Update (update_of p (marks_of ctx p))) (notes_of p (marks_of ctx p)))
     taken =
         let l = not ctx.ip6 && carries_ip6 (Some p) in
-        record { lies = all_lie octets p lies room ctx true l; routes = all_left octets p lies room ctx true l; announces = refl; loses_ip6 = refl }
+        (record { lies = all_lie octets p lies room ctx true l; routes = all_left octets p lies room ctx true l; announces = refl; loses_ip6 = refl }, tt)
 
     withdrawn : BeginsFor (Some p) (outcome.Withdraw (notes.routes_of p (marks_of ctx p)) (notes_of p (marks_of ctx p)))
     withdrawn =
-        let l = not ctx.ip6 && carries_ip6 (Some p) in
-        record {
-          lies = all_lie octets p lies room ctx false l;
-          routes = rw (all_left octets p lies room ctx false l) (all_withdrawn p (marks_of ctx p));
-          announces = refl;
-          loses_ip6 = refl;
-        }
+        let l = not ctx.ip6 && carries_ip6 (Some p) in (
+          record {
+            lies = all_lie octets p lies room ctx false l;
+            routes = rw (all_left octets p lies room ctx false l) (all_withdrawn p (marks_of ctx p));
+            announces = refl;
+            loses_ip6 = refl;
+          },
+          all_left octets p lies room ctx false l,
+        )
 
   by_body : (k : Kind) (body : List ℕ) → ((p : Parts) → parts_of body ≡ Some p → Lie octets p (parts_told (Some p)) × (23 + length p.withdrawn + length p.attributes + length p.nlri ≤ length octets))
       → BeginsFor (parts_of body) (out_of ctx (record { kind = k; body = body }))
   by_body k body there =
       let no = nothing_left octets false in
       by_kind ctx body (BeginsFor (parts_of body)) (record {
-        reset = λ n. plain octets (outcome.Reset n) no refl;
-        open_taken = λ o. plain octets (outcome.Took (message.Open o) []) no refl;
-        notification = λ n. plain octets (outcome.Took (message.Notification n) []) no refl;
-        keepalive = plain octets (outcome.Took message.Keepalive []) no refl;
+        reset = λ n. (plain octets (outcome.Reset n) no refl, tt);
+        open_taken = λ o. (plain octets (outcome.Took (message.Open o) []) no refl, tt);
+        notification = λ n. (plain octets (outcome.Took (message.Notification n) []) no refl, tt);
+        keepalive = (plain octets (outcome.Took message.Keepalive []) no refl, tt);
       })
       (λ p is. let h = there p is in rw is (taken p h.0 h.1)) (λ p is. let h = there p is in rw is (withdrawn p h.0 h.1)) k
 

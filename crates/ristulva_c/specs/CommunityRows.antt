@@ -43,7 +43,7 @@ abbrev pub large_told : ℕ → Option LargeCommunities → List LargeRow
 large_told message None = []
 large_told message (Some l) = map (large_row message) l.values
 
--- those of an UPDATE that is accepted, each once, in order (RFC 8092, section 4)
+-- those of an UPDATE that is accepted, each once, in order (RFC 8092, section 3)
 abbrev pub large_rows : ℕ → Option Attrs → List LargeRow
 large_rows message None = []
 large_rows message (Some a) = large_told message a.large

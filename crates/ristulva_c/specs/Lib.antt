@@ -40,5 +40,6 @@ pub mod Guard
 pub mod FieldKinds
 pub mod Fields
 pub mod Faults
+pub mod Sections
 pub mod Prelude
 pub mod steps

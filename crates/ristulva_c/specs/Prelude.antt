@@ -9,10 +9,12 @@ pub use Rattle.ristulva_c.specs.Judge.{Answers, IsJudged, IsTold, Judging, numbe
 pub use Rattle.ristulva_c.specs.Text.{IsPrinted, IsWritten, Prints}
 pub use Rattle.ristulva_c.specs.Numbers.{IsNumbers, numbers_left}
 pub use Rattle.ristulva_c.specs.Large.{IsLarge, large_left}
+pub use Rattle.ristulva_c.specs.Sections.{FaultSection, IsFaultSection, IsNoteSection, section_of}
+unfoldable pub use Rattle.ristulva_c.specs.Sections.{why_of}
 pub use Rattle.ristulva_c.specs.Segments.{IsSegments, segment_told, segments_left}
 pub use Rattle.ristulva_c.specs.Places.{first_of_type, kept_at, value_at, value_in}
 pub use Rattle.ristulva_c.specs.Routes.{HasFamily, IsReach, IsReachValue, IsUnreach, LiesIn, hop_of, reach_prefixes, unreach_prefixes}
-pub use Rattle.ristulva_c.specs.RouteList.{AreBegun, AreRoutes, AreWithdrawn, Begins, IsRouteCursor, RouteValue, carries_ip6, field_routes, has_ip6, is_ip6, is_of, loses_ip6, moved, reached_routes, route_told, routes_left, routes_of, routes_to, unreached_routes}
+pub use Rattle.ristulva_c.specs.RouteList.{AreBegun, AreInOrder, AreOfFields, AreRoutes, AreWithdrawn, Begins, IsRouteCursor, RouteValue, carries_ip6, field_routes, has_ip6, is_ip6, is_of, loses_ip6, moved, reached_routes, route_told, routes_left, routes_of, routes_to, unreached_routes}
 pub use Rattle.ristulva_c.specs.Encode.{IsCoded, IsEncoded, IsNarrowed, Writes, encoded_of, narrowed_of, short_of, taken_of, without_notes, written_of}
 pub use Rattle.ristulva_c.specs.Reconcile.{IsReconciled, rebuilt_attrs, rebuilt_update, reconciled_of}
 pub use Rattle.ristulva_c.specs.Notes.{IsNoted, Lists, listed, note_told, number_of_why, told_in}

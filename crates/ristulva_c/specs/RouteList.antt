@@ -17,7 +17,7 @@ use Rattle.bgp_attr.specs.declared.mp.MpReach.TheVariants as reach
 use Rattle.bgp_attr.specs.declared.mp.MpUnreach.TheVariants as unreach
 use Rattle.bgp_update.specs.declared.routes.Routes.{Routes}
 use Rattle.bgp_update.specs.declared.update.Update.{Update}
-use Rattle.bgp_update.specs.Prelude.{Parts, parts_of}
+use Rattle.bgp_update.specs.Prelude.{Parts, marks_of, parts_of, update_of}
 use Rattle.bgp_msg.specs.declared.message.Message.TheVariants as message
 use Rattle.bgp_msg.specs.declared.outcome.Outcome.{Outcome}
 use Rattle.bgp_msg.specs.Prelude.{out_of, of_fault}
@@ -62,8 +62,11 @@ routes_of announces u =
 abbrev pub is_of : ℕ → RouteValue → Bool
 is_of afi r = r.afi == afi
 
--- all are withdrawn, each family in its order
+-- all are withdrawn, each family in its order; and all stand in the order of an UPDATE's four fields, of which the two attributes have routes of one family
+-- each
 pub record AreWithdrawn (all : Routes) (routes : List RouteValue) : Type 0 where
+  pub update : Update
+  pub in_order : routes ≡ routes_of false update
   pub ip4 : filter (is_of IPV4) routes ≡ routes_to false IPV4 all.ip4
   pub ip6 : filter (is_of IPV6) routes ≡ routes_to false IPV6 all.ip6
   pub known : filter (λ r. not (is_of IPV4 r || is_of IPV6 r)) routes ≡ []
@@ -101,7 +104,8 @@ is_judged_update (outcome.Took message.Keepalive notes) = false
 is_judged_update (outcome.Withdraw all notes) = true
 is_judged_update (outcome.Reset n) = false
 
--- an UPDATE that doesn't end the session has MP_REACH_NLRI or MP_UNREACH_NLRI of IPv6 unicast, which the session doesn't use: it is discarded
+-- an UPDATE that doesn't end the session has MP_REACH_NLRI or MP_UNREACH_NLRI of IPv6 unicast, which the session doesn't use: it is discarded, also where
+-- it has no routes, as in an End-of-RIB (RFC 4724, section 2)
 abbrev pub loses_ip6 : Context → Option Parts → Outcome → Bool
 loses_ip6 ctx parts o = is_judged_update o && (not ctx.ip6 && carries_ip6 parts)
 
@@ -145,11 +149,23 @@ pub record Begins (octets : List ℕ) (o : Outcome) (loses : Bool) (c : RouteCur
   pub announces : c.announces ≡ flag_of (is_some (attrs_in o))
   pub loses_ip6 : c.loses_ip6 ≡ flag_of loses
 
+-- the routes of an UPDATE that is treated as a withdrawal stand in the order of its fields, of what is kept: those of Withdrawn Routes, of MP_UNREACH_NLRI,
+-- of MP_REACH_NLRI, and of Network Layer Reachability Information
+abbrev pub AreOfFields : Context → Option Parts → List RouteValue → Type 0
+AreOfFields ctx None routes = Unit {0}
+AreOfFields ctx (Some p) routes = routes ≡ routes_of false (update_of p (marks_of ctx p))
+
+abbrev pub AreInOrder : Context → Option Parts → Outcome → List RouteValue → Type 0
+AreInOrder ctx parts (outcome.Took m notes) routes = Unit {0}
+AreInOrder ctx parts (outcome.Withdraw all notes) routes = AreOfFields ctx parts routes
+AreInOrder ctx parts (outcome.Reset n) routes = Unit {0}
+
 -- by what the octets begin with: less than a message, and nothing is changed; a message; or a header with a fault, which has no routes
 abbrev pub BeginsBy : Context → List ℕ → Step → ℕ → RouteCursor → RouteCursor → Type 0
 BeginsBy ctx octets step.More status before behind = (status ≡ INCOMPLETE) × (behind ≡ before)
 BeginsBy ctx octets (step.Frame f) status before behind =
     (status ≡ OK) × Begins octets (out_of ctx (record { kind = f.kind; body = f.body.now })) (loses_ip6 ctx (parts_of f.body.now) (out_of ctx (record { kind = f.kind; body = f.body.now }))) behind
+    × AreInOrder ctx (parts_of f.body.now) (out_of ctx (record { kind = f.kind; body = f.body.now })) (routes_left octets behind)
 BeginsBy ctx octets (step.Fault fault) status before behind = (status ≡ OK) × Begins octets (of_fault fault) false behind
 
 pub record AreBegun (ctx : Context) (octets : List ℕ) (status : ℕ) (before behind : RouteCursor) : Type 0 where

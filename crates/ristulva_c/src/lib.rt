@@ -42,6 +42,7 @@ mod route_rows;
 mod routes;
 mod rows_left;
 mod rules;
+mod sections;
 mod segments;
 mod sending;
 mod session;

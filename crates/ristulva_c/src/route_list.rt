@@ -40,7 +40,7 @@ pub struct RouteCursor {
     pub nlri: Prefixes,
     /// Whether the last two are announced: 1, or 0 where they are withdrawn.
     pub announces: u8,
-    /// Whether the UPDATE has IPv6 routes that the session doesn't use: 1, or 0 for no.
+    /// Whether the UPDATE has MP_REACH_NLRI or MP_UNREACH_NLRI of IPv6 unicast, perhaps without routes, which the session doesn't use: 1, or 0 for no.
     pub loses_ip6: u8,
 }
 
@@ -166,7 +166,7 @@ fn is_ip6(value: &[u8]) -> bool
     }
 }
 
-/// Whether an attribute that carries routes carries such of IPv6.
+/// Whether an attribute is of IPv6 unicast.
 fn has_ip6(tlv: &Option<Tlv<'_>>) -> bool
     ensures { result ≡ has_ip6 (option_map placed_tlv tlv.now) }
 {
@@ -176,7 +176,7 @@ fn has_ip6(tlv: &Option<Tlv<'_>>) -> bool
     }
 }
 
-/// Whether IPv6 routes of these attributes are lost, since the session doesn't use them.
+/// Whether one of these attributes is of IPv6 unicast, which the session doesn't use.
 fn loses(ctx: &Context, reach: &Option<Tlv<'_>>, unreach: &Option<Tlv<'_>>) -> bool
     ensures { result ≡ (not ctx.now.ip6 && (has_ip6 (option_map placed_tlv reach.now) || has_ip6 (option_map placed_tlv unreach.now))) }
 {

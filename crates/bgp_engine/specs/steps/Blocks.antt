@@ -79,4 +79,4 @@ Finished reports told old new (Err (ToolFault.Script n)) = ⊥
 Finished reports told old new (Err ToolFault.Net) = ⊥
 Finished reports told old new (Err (ToolFault.Narrow n)) = WritesAll reports told old new (Err (ToolFault.Narrow n))
 Finished reports told old new (Err (ToolFault.Clean n why)) = IsWordless why × WritesAll reports told old new (Err (ToolFault.Clean n why))
-Finished reports told old new (Err ToolFault.NoOpen) = WritesAll reports told old new (Err ToolFault.NoOpen)
+Finished reports told old new (Err (ToolFault.NoContext why)) = WritesAll reports told old new (Err (ToolFault.NoContext why))

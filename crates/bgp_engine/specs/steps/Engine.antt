@@ -55,7 +55,7 @@ ClosesBy report told_old told_new (Err (ToolFault.Script n)) = ⊥
 ClosesBy report told_old told_new (Err ToolFault.Net) = ⊥
 ClosesBy report told_old told_new (Err (ToolFault.Narrow n)) = (told_new ≡ told_old ++ report.last) × (report.answer ≡ Err (ToolFault.Narrow n))
 ClosesBy report told_old told_new (Err (ToolFault.Clean n why)) = IsWordless why × (told_new ≡ told_old ++ report.last) × (report.answer ≡ Err (ToolFault.Clean n why))
-ClosesBy report told_old told_new (Err ToolFault.NoOpen) = (told_new ≡ told_old ++ report.last) × (report.answer ≡ Err ToolFault.NoOpen)
+ClosesBy report told_old told_new (Err (ToolFault.NoContext why)) = (told_new ≡ told_old ++ report.last) × (report.answer ≡ Err (ToolFault.NoContext why))
 
 -- the stream ends
 pub record Closes (reports : Reports) (told_old told_new : List ℕ) (answer : Result Tally ToolFault) : Type 0 where

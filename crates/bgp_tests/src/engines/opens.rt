@@ -20,6 +20,27 @@ const NARROW: &str = "M 002b01 04 fde9 005a c0000202 0e 020c 010400010001 010400
 
 const PLAIN: &str = "M 001d01 04 fde9 005a c0000202 00";
 
+/// My Autonomous System 65001, and AS 65002 by the capability: what a speaker without that capability doesn't see (RFC 6793, section 4.1).
+const UNSEEN: &str =
+    "M 003101 04 fde9 005a c0000203 14 0212 010400010001 010400020001 41040000fdea";
+
+/// What BIRD 2.0.12 of AS 65001 without AS numbers of four octets and GoBGP 3.10.0 of AS 65001 with them sent each other.
+const BIRD: &str = "M 0029 01 04 fde9 00f0 c0000209 0c 020a 010400010001 0200 4600";
+
+const GOBGP: &str =
+    "M 003b 01 04 fde9 005a c0000208 1e 021c 0200 490402766d00 010400010001 41040000fde9 0506000100010002";
+
+/// AS 65001 that sends path identifiers of IPv6, and AS 65002 that reads them (RFC 7911, section 4).
+const SENDS: &str =
+    "M 003701 04 fde9 005a c0000201 1a 0218 010400010001 010400020001 41040000fde9 450400020102";
+
+const READS: &str =
+    "M 003701 04 fdea 005a c0000202 1a 0218 010400010001 010400020001 41040000fdea 450400020101";
+
+/// One that offers to read them of IPv6 by a Send/Receive of 4 behind a good one, and isn't understood.
+const UNKNOWN: &str =
+    "M 003b01 04 fdea 005a c0000202 1e 021c 010400010001 010400020001 41040000fdea 4508 00020101 00010104";
+
 /// An UPDATE with a route of IPv6, a path with numbers of four octets and LOCAL_PREF: each flag decides about one of these.
 const UPDATE: &str =
     "M 0048 02 0000 0031 800e1a 0002 01 10 20010db8000000000000000000000001 00 2020010db8 40010100 40020602010000fdea 40050400000064";
@@ -141,26 +162,55 @@ fn contexts_of_two_opens(rt: HostRuntime) -> Result<(), Fail> {
         assert_agreed(&rt, way, NARROW, OURS, &context(true, false, true))?;
         assert_agreed(&rt, way, OURS, PLAIN, &context(true, false, false))?;
         assert_agreed(&rt, way, THEIRS, PLAIN, &context(false, false, false))?;
+        let ip4 = Context {
+            ip4: true,
+            ..context(true, false, false)
+        };
+        assert_agreed(&rt, way, BIRD, GOBGP, &ip4)?;
+        assert_agreed(&rt, way, GOBGP, BIRD, &ip4)?;
+        assert_agreed(&rt, way, UNSEEN, PLAIN, &context(true, false, false))?;
+        assert_agreed(&rt, way, PLAIN, UNSEEN, &context(true, false, false))?;
+        assert_agreed(&rt, way, UNSEEN, OURS, &context(false, true, true))?;
+        assert_agreed(&rt, way, READS, SENDS, &context(false, true, true))?;
+        assert_agreed(&rt, way, SENDS, UNKNOWN, &context(false, true, true))?;
     }
     assert_agreed(&rt, Way::Narrow, OURS, THEIRS, &context(false, true, true))
 }
 
-/// A KEEPALIVE first: nothing is written, and no more is read than its octets.
-fn assert_no_open(rt: &(impl Abort + AllocGlobal), way: Way) -> Result<(), Fail> {
-    let theirs = input_of(rt.alloc(), Tool::Show, THEIRS)?;
-    let input = input_of(rt.alloc(), Tool::Show, "M001304 M001304")?;
-    let mut reader = Drip::new(input.as_slice(), 1);
+/// Where there is no context nothing is written, and no more is read than the first message.
+fn assert_no_context(
+    rt: &(impl Abort + AllocGlobal),
+    way: Way,
+    ours: &str,
+    theirs: &str,
+    why: NoContext,
+) -> Result<(), Fail> {
+    let other = input_of(rt.alloc(), Tool::Show, theirs)?;
+    let first = input_of(rt.alloc(), Tool::Show, ours)?;
+    let stream = stream_of(rt.alloc(), ours, UPDATE)?;
+    let mut reader = Drip::new(stream.as_slice(), 1);
     let mut sheet = Sheet::new();
-    let outcome = by_opens(rt.alloc(), way, theirs.as_slice(), &mut reader, &mut sheet);
-    assert_eq!(rt; outcome, Err(ToolFault::NoOpen), "{way:?}");
-    assert!(rt; sheet.text.is_empty() && reader.calls == 19, "{way:?}");
+    let outcome = by_opens(rt.alloc(), way, other.as_slice(), &mut reader, &mut sheet);
+    assert_eq!(rt; outcome, Err(ToolFault::NoContext(why)), "{way:?}");
+    assert!(rt;
+        sheet.text.is_empty() && reader.calls as usize == first.len(),
+        "{way:?}"
+    );
     Ok(())
 }
 
 #[test]
 fn no_open_to_agree_with(rt: HostRuntime) -> Result<(), Fail> {
     for way in WAYS {
-        assert_no_open(&rt, way)?;
+        assert_no_context(&rt, way, "M001304", THEIRS, NoContext::NoOpen)?;
+    }
+    Ok(())
+}
+
+#[test]
+fn path_identifiers_are_not_read(rt: HostRuntime) -> Result<(), Fail> {
+    for way in WAYS {
+        assert_no_context(&rt, way, SENDS, READS, NoContext::Paths)?;
     }
     Ok(())
 }

@@ -7,7 +7,7 @@ use Rattle.bgp_update.proofs.narrow_writing.put_told_attrs.Goals as goal
 
 pub put_slot-requires-clause-writable : goal.put_slot-requires-clause-writable
 put_slot-requires-clause-writable c =
-    let told = told_attrs c.args.kept.now c.args.others.now in
+    let told = told_attrs c.args.kept.now c.args.others.now.row.now in
     let kinds = c.told_types-kinds.result.now in
     let lt : c.types.kind-index < length kinds = omega (arith, c.types-test.true) in
     all_of_type (slot told) kinds c.types.kind-index (get_or kinds c.types.kind-index 0) lt refl
@@ -16,7 +16,7 @@ put_slot-requires-clause-writable c =
 
 pub returns-in_err-put_slot-clause-err : goal.returns-in_err-put_slot-clause-err
 returns-in_err-put_slot-clause-err c =
-    let told = told_attrs c.args.kept.now c.args.others.now in
+    let told = told_attrs c.args.kept.now c.args.others.now.row.now in
     let p = err_from_is_err_and c.from_residual.result c.from_residual.ensures.1 in
     rw p.1 (written_more (canonical c.args.ctx.now) (λ a. Unit {0}) (so_far (slot told) c.told_types-kinds.result.now c.types.kind-index) c.args.out.now.items c.types.out.items c.put_slot.new.out.items c.types.invariant c.in_err-put_slot.ensures.err)
 
@@ -27,7 +27,7 @@ each (x ∷ xs) = (tt, each xs)
 
 pub types-preserved : goal.types-preserved
 types-preserved c =
-    let told = told_attrs c.args.kept.now c.args.others.now in
+    let told = told_attrs c.args.kept.now c.args.others.now.row.now in
     let kinds = c.told_types-kinds.result.now in
     let kind = get_or kinds c.types.kind-index 0 in
     let lt : c.types.kind-index < length kinds = omega (arith, c.types-test.true) in
@@ -36,7 +36,7 @@ types-preserved c =
 
 pub returns-clause-ok : goal.returns-clause-ok
 returns-clause-ok c =
-    let told = told_attrs c.args.kept.now c.args.others.now in
+    let told = told_attrs c.args.kept.now c.args.others.now.row.now in
     c.types.invariant.items
     ∙ ap (λ (xs : List Attr). c.args.out.now.items ++ flat_map (canonical c.args.ctx.now) xs)
     (all_walked (slot told) c.told_types-kinds.result.now c.types.kind-index c.types-test.false ∙ c.told_types-kinds.ensures told refl)

@@ -6,4 +6,4 @@ use Rattle.bgp_update.proofs.narrow_writing.put_told_attrs.Given as goal
 
 -- the attributes so far are written
 abbrev pub invariant-types : goal.invariant-types
-invariant-types l = IsWritten (canonical l.ctx) (λ a. Unit {0}) (so_far (slot (told_attrs l.kept l.others)) l.kinds l.kind-index) l.initial.out.items l.out.items
+invariant-types l = IsWritten (canonical l.ctx) (λ a. Unit {0}) (so_far (slot (told_attrs l.kept l.others.row.now)) l.kinds l.kind-index) l.initial.out.items l.out.items

@@ -14,10 +14,10 @@ same kept others row a known e found = ap₂ (λ (k : Attrs) (os : List Opaque).
 
 pub put_told_attrs-requires-clause-writable : goal.put_told_attrs-requires-clause-writable
 put_told_attrs-requires-clause-writable c =
-    let is = same c.kept.result.now c.as_slice.result.now c.in_ok-others.others (update_value c.args.view.now).attrs c.kept.ensures.known c.as_slice.ensures c.in_ok-others.ensures.value in
+    let is = same c.kept.result.now c.new-sorted.result.row.now c.in_ok-others.others (update_value c.args.view.now).attrs c.kept.ensures.known (ap (λ b. b.now) c.new-sorted.ensures ∙ c.as_slice.ensures) c.in_ok-others.ensures.value in
     subst (λ (a : Attrs). AllByRecursion (λ x. is_writable c.args.ctx.now x ≡ true) (attr_list a)) (sym is) c.requires.writable
 
 pub returns-clause-ok : goal.returns-clause-ok
 returns-clause-ok c =
-    let is = same c.kept.result.now c.as_slice.result.now c.in_ok-others.others (update_value c.args.view.now).attrs c.kept.ensures.known c.as_slice.ensures c.in_ok-others.ensures.value in
+    let is = same c.kept.result.now c.new-sorted.result.row.now c.in_ok-others.others (update_value c.args.view.now).attrs c.kept.ensures.known (ap (λ b. b.now) c.new-sorted.ensures ∙ c.as_slice.ensures) c.in_ok-others.ensures.value in
     subst (λ (a : Attrs). OnOk c.put_told_attrs.result (c.put_told_attrs.new.out.items ≡ c.args.out.now.items ++ attributes_octets c.args.ctx.now a)) is c.put_told_attrs.ensures.ok

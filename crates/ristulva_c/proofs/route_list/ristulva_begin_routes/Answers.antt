@@ -7,10 +7,11 @@ use Rattle.ristulva_c.proofs.route_list.ristulva_begin_routes.Goals as goal
 pub returns-in-Frame : goal.returns-in-Frame
 returns-in-Frame c =
     let f = c.in-Frame.frame in
+    let b = begins (context_of c.args.ctx.now) c.args.octets.now f.len (record { kind = f.kind; body = f.body.now }) c.are_octets.ensures c.in-Frame.ensures.1 in
     record {
       found = step.Frame f;
       shows = c.in-Frame.ensures;
-      begins = (refl, rw c.begin.ensures (begins (context_of c.args.ctx.now) c.args.octets.now f.len (record { kind = f.kind; body = f.body.now }) c.are_octets.ensures c.in-Frame.ensures.1));
+      begins = (refl, rw c.begin.ensures b.0, rw c.begin.ensures b.1);
     }
 
 pub returns-in-Fault : goal.returns-in-Fault

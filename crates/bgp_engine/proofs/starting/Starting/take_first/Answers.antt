@@ -31,7 +31,7 @@ pub returns-in-Unagreed-clause-takes : goal.returns-in-Unagreed-clause-takes
 returns-in-Unagreed-clause-takes g c =
     let from = starts_of g.P.Page.fits g.P.Page.rules g.P.Page.plan (option_map (λ t. t.now) c.args.self.now.theirs) in
     rw (c.requires.stage, c.in-Unagreed.is)
-    (takes_unagreed _ (walk_of g.P.Page.rules c.args.self.now.walk) (walk_of g.P.Page.rules c.begin.new.self) c.args.octets.now _ _ _ (rw (c.in-Unagreed.is, c.feed-taken.ensures.appends) at c.in_ok-self.ensures.settles) (from c.begin.new.self.page))
+    (takes_unagreed _ (walk_of g.P.Page.rules c.args.self.now.walk) (walk_of g.P.Page.rules c.begin.new.self) c.args.octets.now _ _ _ _ (rw (c.in-Unagreed.is, c.feed-taken.ensures.appends) at c.in_ok-self.ensures.settles) (from c.begin.new.self.page))
 
 pub returns-in-Agreed-clause-takes : goal.returns-in-Agreed-clause-takes
 returns-in-Agreed-clause-takes g c =

@@ -7,7 +7,7 @@ returns-in-Unagreed g c =
     let self = c.args.self.now in
     let w = self.walk in
     let from = starts_of g.P.Page.fits g.P.Page.rules g.P.Page.plan (option_map (λ t. t.now) self.theirs) w.page in
-    rw c.in-Unagreed.is (closes_unagreed from (walk_of g.P.Page.rules w) (g.P.Page.told w.page))
+    rw c.in-Unagreed.is (closes_unagreed from (walk_of g.P.Page.rules w) (g.P.Page.told w.page) _)
 
 pub returns-in-First : goal.returns-in-First
 returns-in-First g c =
@@ -16,7 +16,7 @@ returns-in-First g c =
     let from = starts_of g.P.Page.fits g.P.Page.rules g.P.Page.plan (option_map (λ t. t.now) self.theirs) w.page in
     let first = subst (λ (s : Stage). ReadyAt s (walk_of g.P.Page.rules w)) c.in-First.is c.requires in
     rw c.in-First.is
-    (closes_none from (walk_of g.P.Page.rules w) (g.P.Page.told w.page) first.waits (unknown g.P.Page.fits g.P.Page.rules g.P.Page.plan self.theirs w.page (sym c.is_some.ensures ∙ c.if-is_some.true)))
+    (closes_none from (walk_of g.P.Page.rules w) (g.P.Page.told w.page) _ first.waits (unknown g.P.Page.fits g.P.Page.rules g.P.Page.plan self.theirs w.page (sym c.is_some.ensures ∙ c.if-is_some.true)))
 
 pub returns-in-First-2 : goal.returns-in-First-2
 returns-in-First-2 g c =

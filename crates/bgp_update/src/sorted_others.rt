@@ -1,0 +1,61 @@
+//! Attributes of types that aren't recognised, each found at its type where they are many.
+
+ghost use Rattle.std.specs.Prelude.{map, option_map};
+ghost use Rattle.bgp_attr.specs.AttrView.{opaque_value};
+ghost use Rattle.bgp_update.specs.steps.SortedOthers.{AreSorted};
+
+use crate::by_type::ByType;
+use crate::slot_iter::OfType;
+use crate::told_slot::{other, told_types};
+use bgp_attr::OpaqueView;
+
+/// So many at most are looked for one after another.
+pub(crate) const FEW: usize = 4;
+
+/// A row of them, rising in type, and the same by type where they are more than [`FEW`]: each type is looked for, so that the time would grow with their
+/// number squared.
+#[derive(Clone, Copy)]
+pub(crate) struct SortedOthers<'b, 'a> {
+    pub(crate) row: &'b [OpaqueView<'a>],
+    by_type: Option<&'b ByType<'a>>,
+    ghost sorted: { AreSorted (option_map (λ t. t.now) by_type) (map opaque_value row.now) },
+}
+
+impl<'b, 'a> SortedOthers<'b, 'a> {
+    ghost use Rattle.std.specs.Prelude.{◌≡◌};
+
+    /// This row, which may stand by type too.
+    #[inline(always)]
+    pub(crate) fn new(
+        row: &'b [OpaqueView<'a>],
+        by_type: Option<&'b ByType<'a>>,
+    ) -> SortedOthers<'b, 'a>
+        requires { AreSorted (option_map (λ t. t.now) by_type) (map opaque_value row.now) }
+        ensures { result.row ≡ row.entry }
+    {
+        SortedOthers { row, by_type }
+    }
+}
+
+impl<'b, 'a> OfType<'a> for SortedOthers<'b, 'a> {
+    ghost use Rattle.std.specs.Prelude.{map};
+    ghost use Rattle.bgp_attr.specs.AttrView.{opaque_value};
+
+    ghost others = { λ it. map opaque_value it.row.now };
+
+    #[inline(always)]
+    fn of_type(&self, kind: u8) -> Option<OpaqueView<'a>> {
+        match self.by_type {
+            None => other(self.row, kind),
+            Some(by_type) => by_type.get(kind),
+        }
+    }
+
+    fn are_none(&self) -> bool {
+        self.row.is_empty()
+    }
+
+    fn types(&self) -> &'static [u8] {
+        told_types(self.row)
+    }
+}
