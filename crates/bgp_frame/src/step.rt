@@ -8,7 +8,7 @@ use crate::header::{HEADER_LEN, Header, read_head, update_length};
 use crate::kind::Kind;
 
 /// A whole message, with its body as it stands on the wire.
-#[derive(Clone, Copy)]
+#[derive(Clone, Copy, Debug, PartialEq, Eq)]
 pub struct Frame<'a> {
     /// The type of the message.
     pub kind: Kind,
@@ -19,7 +19,7 @@ pub struct Frame<'a> {
 }
 
 /// What is there: less than a message, a message, or a header with a fault.
-#[derive(Clone, Copy)]
+#[derive(Clone, Copy, Debug, PartialEq, Eq)]
 pub enum Step<'a> {
     /// The message needs more octets.
     More,
