@@ -59,7 +59,7 @@ class Incomplete(UserWarning):
 
 
 class FamilyNotAgreed(UserWarning):
-    """An UPDATE has IPv6 routes, and its context doesn't: they aren't given."""
+    """An UPDATE has attributes of IPv6 unicast, and its context has no `ip6`: their routes, if there are any, aren't given."""
 
 
 REFUSALS = {RANGE: "too long a body", REFUSED: "not accepted whole", MIXED: "routes of several kinds", UNWRITABLE: "can't be written"}
@@ -281,7 +281,7 @@ class Message:
         if LIBRARY.ristulva_begin_routes(self.context.said(), self.octets, len(self.octets), cursor) != OK:
             return []
         if cursor.loses_ip6:
-            warnings.warn("an UPDATE has IPv6 routes, and its context doesn't", FamilyNotAgreed, stacklevel=2)
+            warnings.warn("an UPDATE has attributes of IPv6 unicast, and its context no ip6", FamilyNotAgreed, stacklevel=2)
         return [Route(prefix_of(it.prefix), bool(it.announced)) for it in each("next_route", self.octets, cursor, CRoute())]
 
     def facts(self) -> typing.Optional[Facts]:

@@ -208,7 +208,8 @@ def table(octets: typing.Any, context: Context) -> Table:
     mapped file; it isn't copied. It needs numpy.
 
     Where the stream ends inside a message, a warning `Incomplete` says how many octets of it there are. Where a message resets the session, a warning
-    `Reset` says where, and `Table.reset` is that message. Where UPDATEs have IPv6 routes, and the context doesn't, `FamilyNotAgreed` says so."""
+    `Reset` says where, and `Table.reset` is that message. Where UPDATEs have attributes of IPv6 unicast, and the context no `ip6`,
+    `FamilyNotAgreed` says so."""
     try:
         import numpy as numpy
     except ImportError as error:
@@ -219,7 +220,7 @@ def table(octets: typing.Any, context: Context) -> Table:
     elif found.rest:
         warnings.warn(f"the stream ends inside a message, of which it has {found.rest} octets", Incomplete, stacklevel=2)
     if not context.ip6 and loses_ip6(found._octets[: found.taken], context, found.routes["message"].copy()):
-        warnings.warn("an UPDATE has IPv6 routes, and its context doesn't", FamilyNotAgreed, stacklevel=2)
+        warnings.warn("an UPDATE has attributes of IPv6 unicast, and its context no ip6", FamilyNotAgreed, stacklevel=2)
     return found
 
 
