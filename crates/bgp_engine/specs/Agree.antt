@@ -1,5 +1,6 @@
 -- What the two speakers of a session agree on, by the OPENs of both.
-use Rattle.bgp_engine.specs.Below.{Option, None, Some, Result, Ok, Err, Context, Open, agree_on_paths, agreed_context, if◌then◌else◌}
+use Rattle.std.specs.Prelude.{if◌then◌else◌}
+use Rattle.bgp_engine.specs.Below.{Option, None, Some, Result, Ok, Err, Context, Open, agree_on_paths, agreed_context}
 use Rattle.bgp_engine.specs.declared.fault.NoContext.{NoContext}
 use Rattle.bgp_engine.specs.declared.fault.NoContext.TheVariants.{NoOpen, Paths}
 

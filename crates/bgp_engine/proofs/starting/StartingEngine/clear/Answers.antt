@@ -1,4 +1,4 @@
-use Rattle.bgp_engine.proofs.Prelude.{option_map, Rules, starting, walking, starts_of}
+use Rattle.bgp_engine.proofs.Prelude.{option_map, Rules, starting, walking}
 use Rattle.bgp_wire.proofs.Std.{ap₂}
 use Rattle.bgp_engine.specs.First.{Starts}
 use Rattle.bgp_engine.proofs.Startings.{starts_same}
