@@ -2,4 +2,4 @@
 s#\./bgp #bgp #g
 s#!\[([^]]*)\]\([^)]*\)#(\1)#g
 s#\[([^]]*)\]\(\.\./[^)]*\)#\1#g
-s@\[([^]]*)\]\((ARCHITECTURE|DECISIONS|DEFINITIONS|HEADLINE|INTEROP|LAWS|LIBRARY|PROOFS|ROWS)\.md(#[^)]*)?\)@\2.md@g
+s@\[([^]]*)\]\((ARCHITECTURE|CLAIMS|DECISIONS|DEFINITIONS|HEADLINE|INTEROP|LAWS|LIBRARY|PROOFS|ROWS)\.md(#[^)]*)?\)@\2.md@g
