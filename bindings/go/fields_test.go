@@ -76,7 +76,8 @@ func TestSections(t *testing.T) {
 			t.Errorf("%x: %s", want.octets, section)
 		}
 	}
-	if section := (Note{0, 14, WhyFamily}).Section(); section != "RFC 4760, section 8" {
+	// Family
+	if section := (Note{0, 14, 10}).Section(); section != "RFC 4760, section 8" {
 		t.Error(section)
 	}
 }
