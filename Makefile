@@ -15,6 +15,7 @@ pkgconfigdir ?= $(libdir)/pkgconfig
 bashcompletiondir ?= $(datadir)/bash-completion/completions
 zshcompletiondir ?= $(datadir)/zsh/site-functions
 fishcompletiondir ?= $(datadir)/fish/vendor_completions.d
+unitdir ?= $(prefix)/lib/systemd/system
 
 # What was built, and which parts of it are installed.
 BGP ?= crates/bgp/out/bgp
@@ -28,7 +29,7 @@ CC ?= cc
 PKG_CONFIG ?= pkg-config
 
 export DESTDIR prefix exec_prefix bindir libdir includedir mandir docdir libdocdir pkgconfigdir
-export bashcompletiondir zshcompletiondir fishcompletiondir BGP BGP_SPEAKER BGP_GUARD DIST PARTS
+export bashcompletiondir zshcompletiondir fishcompletiondir unitdir BGP BGP_SPEAKER BGP_GUARD DIST PARTS
 
 all:
 	@packaging/install-files built

@@ -89,15 +89,15 @@ function fieldsTable(library, message) {
         if (reason) last.append(...reasonParts(reason));
         return make("tr", { className: isMarked ? "marked" : "", data: { ...span(field), field: index } }, ...cells, last);
     });
-    for (const note of message.notes.filter((it) => !it.at))
-        rows.push(make("tr", { className: "marked" }, ...[">", "", "", note.what, ""].map((it) => make("td", {}, it)), make("td", {}, ...reasonParts(note.reason))));
+    for (const note of message.told.left)
+        rows.push(make("tr", { className: "marked" }, ...["!", "", "", "", ""].map((it) => make("td", {}, it)), make("td", {}, ...reasonParts(note.reason))));
     const heads = ["Fault", "Offset", "Octets", "Field", "Says", "Why"].map((it) => make("th", { scope: "col" }, it));
     return make("table", {}, make("thead", {}, make("tr", {}, ...heads)), make("tbody", {}, ...rows));
 }
 
 function reasonParts(reason) {
-    const at = reason.search(/, RFC /);
-    return at < 0 ? [reason] : [`${reason.slice(0, at)}, `, sectionLink(reason.slice(at + 2))];
+    const at = reason.search(/\(RFC /);
+    return at < 0 ? [reason] : [reason.slice(0, at + 1), sectionLink(reason.slice(at + 1, -1)), ")"];
 }
 
 // What the field that is pointed at is.

@@ -45,14 +45,30 @@ function flagsOf(flags) {
     return [...words, ...(flags & 32 ? ["partial"] : []), ...(flags & 16 ? ["extended"] : [])].join(" ");
 }
 
+const COMMUNITIES = { 4294901760: "GRACEFUL_SHUTDOWN", 4294901761: "ACCEPT_OWN", 4294901766: "LLGR_STALE", 4294901767: "NO_LLGR", 4294902426: "BLACKHOLE",
+    4294967041: "NO_EXPORT", 4294967042: "NO_ADVERTISE", 4294967043: "NO_EXPORT_SUBCONFED", 4294967044: "NOPEER" };
+const ROLES = ["Provider", "RS", "RS-Client", "Customer", "Peer"];
+
+// What an attribute or a capability of a type says that isn't recognised.
+function detailOf(kind, type, octets) {
+    if (kind === F.CAPABILITY_VALUE && type === 9 && octets.length === 1) return `${octets[0]} ${ROLES[octets[0]] ?? ""}`.trimEnd();
+    if (kind === F.CAPABILITY_VALUE && type === 64 && octets.length >= 2) return `${numberOf(octets.subarray(0, 2)) % 4096} seconds`;
+    if (kind === F.ATTRIBUTE_VALUE && type === 9 && (octets.length === 4 || octets.length === 16)) return addressOf(octets);
+    if (kind === F.ATTRIBUTE_VALUE && type === 35 && octets.length === 4) return `AS ${numberOf(octets)}`;
+    if (kind === F.ATTRIBUTE_VALUE && type === 26 && octets.length === 11 && numberOf(octets.subarray(0, 3)) === 65547)
+        return `metric ${octets.subarray(3).reduce((sum, it) => sum * 256n + BigInt(it), 0n)}`;
+    return "";
+}
+
 // What a field says, behind its name.
-function valueOf(message, { kind, at, len }) {
+function valueOf(message, { kind, at, len, type }) {
     const octets = message.subarray(at, at + len), code = message[19], subcode = message[20];
     if (OF_IPV4.has(kind)) return prefixOf(octets, 4);
     if (OF_IPV6.has(kind)) return prefixOf(octets, 16);
     if (ADDRESSES.has(kind)) return addressOf(octets);
     if (kind === F.ATTRIBUTE_FLAGS) return flagsOf(octets[0]);
-    if (kind === F.COMMUNITY) return communityOf(octets);
+    if (kind === F.COMMUNITY) return `${communityOf(octets)} ${COMMUNITIES[numberOf(octets)] ?? ""}`.trimEnd();
+    if (kind === F.CAPABILITY_VALUE || kind === F.ATTRIBUTE_VALUE) return detailOf(kind, type, octets);
     if (kind === F.LARGE_COMMUNITY) return numbersOf(octets).join(":");
     if (kind === F.ERROR_SUBCODE) return `${subcode} ${subcodeName(code, subcode)}`.trimEnd();
     if (kind === F.DATA) return shutdownOf(code, subcode, octets) && quoted(shutdownOf(code, subcode, octets));
@@ -126,6 +142,7 @@ function attributeOf(lines, group) {
     const { type } = group[0], values = group.slice(3);
     if (type === 1) return NAMES.origin[lines.octets(values[0])[0]];
     if (type === 2 || type === 17) return pathOf(lines, group);
+    if (type === 8) return [...new Set(values.map((it) => communityOf(lines.octets(it))))].join(" ");
     return [...new Set(values.map((it) => lines.value(it)))].join(" ");
 }
 
@@ -187,35 +204,106 @@ function messageOf(library, context, stream, place) {
     if (verdict.verdict === C.UPDATE) updateLines(lines, notes);
     if (verdict.verdict === C.WITHDRAW) routeLines(lines);
     const head = `${place} ${verdict.len} ${KINDS[verdict.kind]}${word}${said}`;
-    return { place, octets, verdict, head, fields, fault, lines: lines.list, notes: notes.map((it) => toldNote(it)), section: sectionOf(verdict, library.faultSection()) };
+    const section = sectionOf(verdict, library.faultSection());
+    const message = { place, octets, verdict, head, fields, fault, lines: lines.list, notes: notes.map((it) => toldNote(it)), section };
+    return { ...message, told: placed(message) };
 }
 
-// A note as `bgp show` prints it, and the reason and the section as `bgp explain` does.
+// What was expected where a message is at fault.
+const CLASSES = ["well-known transitive", "optional transitive", "optional non-transitive"];
+const FLAGS_WANTED = { 1: 0, 2: 0, 3: 0, 4: 2, 5: 0, 6: 0, 7: 1, 8: 1, 14: 2, 15: 2, 17: 1, 18: 1, 32: 1 };
+const LENGTH_WANTED = { 1: "1", 3: "4", 4: "4", 5: "4", 6: "0", 7: "6, or 8 with AS numbers of four octets", 8: "a multiple of 4, above 0",
+    17: "a multiple of 2, at least 6", 18: "8", 32: "a multiple of 12, above 0" };
+const WHY_WANTED = { Value: "0 to 2", SegmentCount: "at least 1", SegmentEnd: "a type, a length, and as many AS numbers", Repeated: "one of each type",
+    External: "none from an external peer", FourOctet: "none where both sides have AS numbers of four octets", Family: "a family that both sides agreed on",
+    Unneeded: "none without NLRI", Emptied: "a segment that isn't of a confederation", Cut: "an end inside the attributes", Missing: "one with these routes",
+    AsZero: "an AS number above 0" };
+const CODE_WANTED = { 1: ["", "sixteen octets ff", "19 to 4096, and what the type needs", "1 to 4"],
+    2: ["a length that fits", "4", "", "an identifier above 0", "2", "", "0, or at least 3"] };
+const SECTION_WANTED = { "RFC 7606, section 3, item g": "one of each type", "RFC 7606, section 7.11": "4 for IPv4, 16 or 32 for IPv6",
+    "RFC 7606, section 5.3": "a family, a next hop, and prefixes of at most 32 bits, or 128 of IPv6", "RFC 7606, section 5.2": "routes that can be withdrawn" };
+const SUBCODE_WANTED = { 1: "an end inside the message", 2: "a known type, or the Optional bit", 10: "a length of at most 32, and its octets" };
+
+function noteWanted({ kind }, why) {
+    if (why === "Flags") return CLASSES[FLAGS_WANTED[kind]] ?? "";
+    if (why === "Length") return LENGTH_WANTED[kind] ?? "";
+    if (why === "SegmentType") return kind === 17 ? "1 to 4" : "1 or 2";
+    return WHY_WANTED[why];
+}
+
+function resetWanted({ code, subcode }, section) {
+    if (code !== 3) return (CODE_WANTED[code] ?? [])[subcode] ?? "";
+    if (section === "own rule") return subcode === 1 ? "an end inside the attributes" : "optional non-transitive";
+    return SECTION_WANTED[section] ?? SUBCODE_WANTED[subcode] ?? "";
+}
+
+// A note as `bgp show` prints it, and the reason as `bgp explain` does.
 function toldNote(note) {
-    const name = NAMES.attribute[note.kind] ?? "", reason = `${WHYS[note.why]}, ${note.section}`;
-    return { ...note, line: `note ${note.at && note.at - 19} ${note.kind} ${WHYS[note.why]}`, what: `${note.kind} ${name}`.trimEnd(), reason, text: WHY_TEXTS[note.why] };
+    const why = WHYS[note.why], reason = `${NAMES.attribute[note.kind] ?? `type ${note.kind}`} ${why}: expected ${noteWanted(note, why)} (${note.section})`;
+    return { ...note, line: `note ${note.at && note.at - 19} ${note.kind} ${why}`, reason, text: WHY_TEXTS[note.why] };
 }
 
-// Why a field is marked, and whether it is.
-function markOf(message, field) {
-    const overlaps = ({ at, len }) => len > 0 && field.at < at + len && at < field.at + field.len;
-    const { fault, verdict } = message;
-    if (overlaps(fault)) {
-        const name = subcodeName(verdict.code, verdict.subcode), isFirst = field.at <= fault.at;
-        return { isMarked: true, reason: isFirst ? `${verdict.code}/${verdict.subcode}${name && ` ${name}`}, ${message.section}` : "" };
+// Whether a field of its attribute is what a note is about.
+function isBlamed(octets, note, field) {
+    const number = numberOf(octets.subarray(field.at, field.at + field.len));
+    switch (WHYS[note.why]) {
+        case "Flags": return field.kind === F.ATTRIBUTE_FLAGS;
+        case "Length": case "Cut": return field.kind === F.ATTRIBUTE_LENGTH;
+        case "Value": return ![F.ATTRIBUTE_FLAGS, F.ATTRIBUTE_TYPE, F.ATTRIBUTE_LENGTH].includes(field.kind);
+        case "SegmentType": return field.kind === F.SEGMENT_TYPE && (number === 0 || number > (note.kind === 17 ? 4 : 2));
+        case "SegmentCount": return field.kind === F.SEGMENT_COUNT && number === 0;
+        case "SegmentEnd": return field.kind === F.UNREAD;
+        case "Family": return field.kind === F.AFI;
+        case "AsZero": return field.kind === F.AS_NUMBER && number === 0;
+        default: return field.kind === F.ATTRIBUTE_TYPE;
     }
-    const note = message.notes.find((it) => overlaps(it.span));
-    return { isMarked: Boolean(note), reason: note && field.at === note.at ? note.reason : "" };
+}
+
+// Whether it is told above a field: above what it is about, else above the last field of its attribute, or above the first one behind it.
+function isTold(octets, note, field) {
+    if (!note.at) return false;
+    if (field.group !== note.at) return note.at < field.at;
+    const length = octets[note.at] & 16 ? 4 + octets[note.at + 2] * 256 + octets[note.at + 3] : 3 + octets[note.at + 2];
+    return isBlamed(octets, note, field) || note.at + length <= field.at + field.len;
+}
+
+// Which fields are marked, what is told above which, and the notes that have no field.
+function placed({ octets, verdict, fields, fault, notes, section }) {
+    const marked = new Set(), above = new Map(), left = [...notes];
+    if (verdict.verdict === C.RESET) {
+        const name = subcodeName(verdict.code, verdict.subcode), what = `${verdict.code}/${verdict.subcode}${name && ` ${name}`}`;
+        const told = { at: fault.at, reason: `${what}: expected ${resetWanted(verdict, section)} (${section})` };
+        for (const it of fields) {
+            if (it.at < fault.at + fault.len && fault.at < it.at + it.len) marked.add(it);
+            if (fault.len && it.at <= fault.at && fault.at < it.at + it.len) above.set(it, told);
+        }
+        return { marked, above, left: [] };
+    }
+    let last = 0;
+    for (const it of fields) {
+        const [note] = left;
+        if (it.group && (it.group === last || it.group === note?.at)) marked.add(it);
+        if (!note || !isTold(octets, note, it)) continue;
+        above.set(it, { at: it.at, reason: note.reason });
+        last = note.at;
+        left.shift();
+    }
+    return { marked, above, left };
+}
+
+// Whether a field is marked, and why, where that is told above it.
+function markOf(message, field) {
+    return { isMarked: message.told.marked.has(field), reason: message.told.above.get(field)?.reason ?? "" };
 }
 
 // The lines of `bgp explain` of a message: those of `bgp show`, and its fields.
 function explained(library, message) {
     const shown = [message.head, ...message.lines.map((it) => `  ${it.text}`), ...message.notes.map((it) => `  ${it.line}`)];
-    const fields = message.fields.map((it) => {
-        const { isMarked, reason } = markOf(message, it), value = valueOf(message.octets, it);
+    const fields = message.fields.flatMap((it) => {
+        const { isMarked } = markOf(message, it), value = valueOf(message.octets, it), why = message.told.above.get(it);
         const digits = digitsOf(message.octets.subarray(it.at, it.at + it.len));
-        return `  ${isMarked ? ">" : " "} ${it.at} ${digits} ${library.fieldName(it.kind)}${value && ` ${value}`}${reason && ` <- ${reason}`}`;
+        const line = `  ${isMarked ? ">" : " "} ${it.at} ${digits} ${library.fieldName(it.kind)}${value && ` ${value}`}`;
+        return why ? [`  ! ${why.at} ${why.reason}`, line] : [line];
     });
-    const missing = message.notes.filter((it) => !it.at).map((it) => `  > ${it.what} <- ${it.reason}`);
-    return [...shown, ...fields, ...missing];
+    return [...shown, ...fields, ...message.told.left.map((it) => `  ! ${it.reason}`)];
 }

@@ -13,8 +13,10 @@ import (
 const (
 	// MessageMax is the most octets of a message (RFC 4271, section 4.1).
 	MessageMax = C.RISTULVA_MESSAGE
-	headerLen  = 19
-	dataMax    = C.RISTULVA_DATA
+	// PartsMax is the most octets of the messages that Clean gives for one: three of them.
+	PartsMax  = C.RISTULVA_PARTS
+	headerLen = 19
+	dataMax   = C.RISTULVA_DATA
 )
 
 // Context is what both speakers of a session agreed on.

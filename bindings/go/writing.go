@@ -61,18 +61,19 @@ type Cleaned struct {
 	Capabilities int // capabilities of an OPEN that are left out
 }
 
-// Clean gives what may be handed on of the message to a hearer, well formed whatever came. Attributes of unrecognised types among `types` are left out;
+// Clean gives what may be handed on of the message to a hearer, well formed whatever came: one message, or up to three of an UPDATE, the routes that are
+// gone, those of NLRI, those of MP_REACH_NLRI. Attributes of unrecognised types among `types` are left out;
 // `first` is whether the message is the first one of its stream.
 func (message *Message) Clean(first bool, types ...byte) (Cleaned, error) {
-	var written page
+	var written [PartsMax]byte
 	var count C.size_t
 	var told C.ristulva_cleaned
 	said := message.context.said()
 	kinds, kindCount := octetsOf(types)
 	at, size := octetsOf(message.octets)
-	status := C.ristulva_clean(&said, kinds, kindCount, number(first), at, size, written.at(), MessageMax, &count, &told)
+	status := C.ristulva_clean(&said, kinds, kindCount, number(first), at, size, (*C.uint8_t)(unsafe.Pointer(&written[0])), PartsMax, &count, &told)
 	if status != C.RISTULVA_OK {
 		return Cleaned{}, failed(status)
 	}
-	return Cleaned{written.first(count), Ends(told.ends), int(told.discarded), int(told.left_out), int(told.capabilities)}, nil
+	return Cleaned{append([]byte(nil), written[:count]...), Ends(told.ends), int(told.discarded), int(told.left_out), int(told.capabilities)}, nil
 }

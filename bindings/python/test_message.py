@@ -308,9 +308,10 @@ class Cleaning(unittest.TestCase):
 
     def becomes(self, octets, wanted, counts, **how):
         """What is handed on of octets is wanted, without so many attributes that are discarded, so many that are left out, and so many capabilities;
-        wanted is handed on as it is."""
+        each message of wanted is handed on as it is."""
         self.assertEqual(ristulva.judge(octets, self.context).clean(**how), ristulva.Cleaned(wanted, None, *counts))
-        self.assertEqual(ristulva.judge(wanted, self.context).clean(**how), ristulva.Cleaned(wanted, None, 0, 0, 0))
+        for part in ristulva.messages(wanted, self.context):
+            self.assertEqual(part.clean(**how), ristulva.Cleaned(part.octets, None, 0, 0, 0))
 
     def ends(self, octets, why, **how):
         self.assertEqual(ristulva.judge(octets, self.context).clean(**how), ristulva.Cleaned(b"", why, 0, 0, 0))
@@ -365,8 +366,9 @@ class Cleaning(unittest.TestCase):
                     handed = it.clean(first=it.place == 0)
                     if handed.ends is None:
                         self.becomes(it.octets, handed.octets, (handed.discarded, handed.left_out, handed.capabilities), first=it.place == 0)
-                        self.assertEqual(list(ristulva.judge(handed.octets, self.context).notes()), [])
-                        self.assertLessEqual(len(handed.octets), len(it.octets))
+                        for part in ristulva.messages(handed.octets, self.context):
+                            self.assertEqual(list(part.notes()), [])
+                            self.assertLessEqual(len(part.octets), len(it.octets))
 
 
 if __name__ == "__main__":

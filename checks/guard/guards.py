@@ -1,4 +1,5 @@
 """Runs of the guard's program and of what stands at its two sides: bgp_speaker, and peers that a script plays."""
+import json
 import pathlib
 import socket
 import subprocess
@@ -25,15 +26,25 @@ def free_port(host=LOOPBACK):
 class Run:
     """A program that runs, with the lines that it prints."""
 
-    def __init__(self, words):
+    def __init__(self, words, env=None, feeds=False):
         self.lines = []
-        self.process = subprocess.Popen(list(map(str, words)), stdout=subprocess.PIPE, stderr=subprocess.PIPE, stdin=subprocess.DEVNULL, text=True)
+        how = {"stdout": subprocess.PIPE, "stderr": subprocess.PIPE, "stdin": subprocess.PIPE if feeds else subprocess.DEVNULL}
+        self.process = subprocess.Popen(list(map(str, words)), env=env, text=True, **how)
         self.reader = threading.Thread(target=self.read, daemon=True)
         self.reader.start()
 
     def read(self):
         for line in self.process.stdout:
             self.lines.append(line.rstrip("\n"))
+
+    def say(self, line):
+        """Gives it a line on standard input."""
+        self.process.stdin.write(f"{line}\n")
+        self.process.stdin.flush()
+
+    def complaint(self):
+        """The next line on its standard error."""
+        return self.process.stderr.readline().rstrip("\n")
 
     def line(self, begin, seconds=10):
         """The first line that begins so: none where that took too long."""
@@ -63,10 +74,11 @@ class Run:
 class Guard(Run):
     """A run of the guard's program, which listens at a port of its own."""
 
-    def __init__(self, to, *more, listen=f"{LOOPBACK}:0"):
-        super().__init__([GUARD, "--listen", listen, "--to", to, *more])
-        found = self.line("listen ")
-        self.address = found.split()[1] if found else None
+    def __init__(self, to, *more, listen=f"{LOOPBACK}:0", feeds=False):
+        super().__init__([GUARD, "--listen", listen, "--to", to, *more], feeds=feeds)
+        is_json, has_times = "--json" in more, "--times" in more
+        found = self.line("{" if is_json else "2" if has_times else "listen ")
+        self.address = json.loads(found)["address"] if found and is_json else found.split()[-1] if found else None
         self.port = int(self.address.rsplit(":", 1)[1]) if found else None
 
 

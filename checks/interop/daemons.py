@@ -15,8 +15,8 @@ class Daemon:
     command = package = name = None
     # What it answers to an ORIGIN of 5, where that isn't treated as a withdrawal (RFC 7606, section 7.1).
     origin_answer = None
-    # What it can't be sent, though it is well formed.
-    refuses = ()
+    # How many seconds its control tool has.
+    patience = 20
 
     def __init__(self, folder, connects, port, routes4, routes6):
         """`port` is where it listens, or where it connects to."""
@@ -43,7 +43,7 @@ class Daemon:
                 self.process.kill()
 
     def ask(self, *words):
-        done = subprocess.run([*map(str, words)], stdout=subprocess.PIPE, stderr=subprocess.STDOUT, stdin=subprocess.DEVNULL, timeout=20)
+        done = subprocess.run([*map(str, words)], stdout=subprocess.PIPE, stderr=subprocess.STDOUT, stdin=subprocess.DEVNULL, timeout=self.patience)
         return done.stdout.decode(errors="replace")
 
     def wake(self):
@@ -166,8 +166,6 @@ class OpenBgpd(Daemon):
     name, command, package = "OpenBGPD", "bgpctl", "openbgpd"
     # Version 7.7 ends the session as RFC 4271, section 6.3, has it, where RFC 7606 asks for a withdrawal.
     origin_answer = "3/6"
-    # It ends a session for these too (3/9, 3/3), which are well formed (RFC 4760, section 5; RFC 4271, section 6.3).
-    refuses = ("IPv4 routes in MP_REACH_NLRI", "attributes without routes")
 
     def configure(self):
         routes = "".join(f"network {route}\n" for route in (*self.routes4, *self.routes6))

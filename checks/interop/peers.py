@@ -5,6 +5,23 @@ import threading
 import messages
 
 
+class Standing:
+    """How a session stands for a side that does no more than answer an OPEN: whether it is up or over, and the NOTIFICATION that came."""
+
+    def __init__(self):
+        self.notification, self.is_over, self.is_up = None, False, False
+
+    def receive(self, one):
+        """Answers an OPEN by a KEEPALIVE, and notes a KEEPALIVE or a NOTIFICATION. Returns whether the message was one of the three."""
+        if one[18] == messages.OPEN:
+            self.say(messages.keepalive())
+        elif one[18] == messages.KEEPALIVE:
+            self.is_up = True
+        elif one[18] == messages.NOTIFICATION:
+            self.notification = (one[19], one[20])
+        return one[18] in (messages.OPEN, messages.KEEPALIVE, messages.NOTIFICATION)
+
+
 class Peer:
     """Accepts one connection, speaks up to Established, then sends octets, and keeps what came."""
 

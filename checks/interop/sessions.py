@@ -10,16 +10,18 @@ import daemons
 import guards
 import messages
 from daemons import OUR_AS
+from peers import Standing
 from speakers import eventually
 
 OPENED = messages.open_message(OUR_AS, 90, "192.0.2.2")
 
 
-class Session:
+class Session(Standing):
     """A peer in front of the guard or of the daemon itself, which sends KEEPALIVEs by itself."""
 
     def __init__(self, to, source):
-        self.notification, self.is_over, self.is_up, self.sent = None, False, False, 0
+        super().__init__()
+        self.sent = 0
         self.lock = threading.Lock()
         self.peer = guards.Peer.connect(to[1], OUR_AS, source, to[0], daemons.HOLD)
         self.peer.connection.setsockopt(socket.IPPROTO_TCP, socket.TCP_NODELAY, 1)
@@ -39,12 +41,7 @@ class Session:
             if not isinstance(one, bytes):
                 self.is_over = True
                 return
-            if one[18] == messages.OPEN:
-                self.say(messages.keepalive())
-            elif one[18] == messages.KEEPALIVE:
-                self.is_up = True
-            elif one[18] == messages.NOTIFICATION:
-                self.notification = (one[19], one[20])
+            self.receive(one)
 
     def say(self, *pieces, pause=0.003):
         """Sends octets in these pieces, with no KEEPALIVE between them. Answers how many were sent before."""

@@ -52,12 +52,47 @@ def cleaned_open(is_first, field, hold, identifier, capabilities):
     return write_open(field, hold, identifier, left), None
 
 
-def cleaned_update(context, drops, body, withdrawn, kept, nlri):
+def announcement(context, left, hop, reach, nlri):
+    """An UPDATE that announces routes of one field, with the attributes that are left but for those that carry routes."""
+    kept = {kind: it for kind, it in left.items() if kind not in (NEXT_HOP, MP_REACH, MP_UNREACH)}
+    if hop is not None:
+        kept[NEXT_HOP] = hop
+    if reach is not None:
+        kept[MP_REACH] = reach
+    return write_update(context, [], kept, nlri)
+
+
+def end_of(context, family):
+    """The End-of-RIB of a family: that of IPv4 is the empty UPDATE."""
+    return write_update(context, [], {MP_UNREACH: (2, b"", [])} if family == 2 else {}, [])
+
+
+def cleaned_update(context, drops, refuses, body, withdrawn, kept, nlri):
+    """The messages that stand for an UPDATE (RFC 7606, section 5.1): what is gone, NLRI, MP_REACH_NLRI, routes of IPv4 in the classic fields."""
+    family = ended_family(context, body)
+    if family is not None:
+        return end_of(context, family)
     left = {kind: it for kind, it in kept.items() if kind in FLAGS or kind not in drops}
-    is_bare = all(kind == MP_UNREACH and not it[2] for kind, it in left.items())
-    if not withdrawn and not nlri and is_bare and ended_family(context, body) is None:
-        return message(KEEPALIVE, b"")
-    return write_update(context, withdrawn, left, nlri)
+    parts = []
+    gone = withdrawn + left.get(MP_UNREACH, (0, b"", []))[2]
+    if gone:
+        parts.append(withdrawal(context, gone))
+    if nlri:
+        parts.append(unless_refused(context, refuses, announcement(context, left, left.get(NEXT_HOP), None, nlri), nlri))
+    if MP_REACH in left and left[MP_REACH][2]:
+        family, hop, routes = left[MP_REACH]
+        whole = announcement(context, left, hop, None, routes) if family == 1 else announcement(context, left, None, left[MP_REACH], [])
+        parts.append(unless_refused(context, refuses, whole, routes))
+    return b"".join(parts) or message(KEEPALIVE, b"")
+
+
+def unless_refused(context, refuses, whole, routes):
+    return withdrawal(context, routes) if refuses(context, whole) else whole
+
+
+def nothing(context, whole):
+    """Refuses no announcement."""
+    return False
 
 
 def withdrawal(context, routes):
@@ -66,8 +101,8 @@ def withdrawal(context, routes):
     return write_update(context, gone, {MP_UNREACH: (2, b"", lost)} if lost else {}, [])
 
 
-def cleaned(context, drops, is_first, octets):
-    """What is handed on of a message, or None and why."""
+def cleaned(context, drops, is_first, octets, refuses=nothing):
+    """The octets of what is handed on of a message, or None and why."""
     name, *parts = outcome(context, octets[18], octets[19:])
     if name == "reset":
         return None, f"reset {parts[0]}/{parts[1]}"
@@ -76,7 +111,7 @@ def cleaned(context, drops, is_first, octets):
     if name == "withdraw":
         return withdrawal(context, parts[0]), None
     if name == "take":
-        return cleaned_update(context, drops, octets[19:], *parts[:3]), None
+        return cleaned_update(context, drops, refuses, octets[19:], *parts[:3]), None
     return octets, None
 
 
@@ -95,7 +130,7 @@ def cleaned_stream(context, drops, octets):
 
 
 def lesson(context, drops, octets):
-    """What a hearer learns of a message that isn't answered by a reset (RFC 7606)."""
+    """What a hearer learns of a message that isn't answered by a reset (RFC 7606). IPv4 routes are the same in NLRI by NEXT_HOP and in MP_REACH_NLRI."""
     name, *parts = outcome(context, octets[18], octets[19:])
     if name == "open":
         wide = [it[1] for it in parts[3] if it[0] == "as4"]
@@ -103,12 +138,21 @@ def lesson(context, drops, octets):
     if name == "told":
         return ("said", *parts)
     if name == "withdraw":
-        return ("routes", [it for it in parts[0] if it[0] == 32], [it for it in parts[0] if it[0] == 128], None, None)
+        return ("routes", [it for it in parts[0] if it[0] == 32], [it for it in parts[0] if it[0] == 128], [], None)
     if name != "take":
-        return ("routes", [], [], None, None)
+        return ("routes", [], [], [], None)
     withdrawn, kept, nlri, _ = parts
     lost = kept.get(MP_UNREACH, (0, b"", []))[2]
-    reaches = bool(nlri) or (MP_REACH in kept and bool(kept[MP_REACH][2]))
-    left = {kind: it for kind, it in kept.items() if kind != MP_UNREACH and (kind in FLAGS or kind not in drops)}
-    announced = (left, nlri) if reaches else None
+    left = {kind: it for kind, it in kept.items() if kind not in (NEXT_HOP, MP_REACH, MP_UNREACH) and (kind in FLAGS or kind not in drops)}
+    family, hop, reached = kept.get(MP_REACH, (0, b"", []))
+    announced = [(left, kept.get(NEXT_HOP), nlri)] * bool(nlri) + [(left, hop, reached)] * bool(reached)
     return ("routes", withdrawn + [it for it in lost if it[0] == 32], [it for it in lost if it[0] == 128], announced, ended_family(context, octets[19:]))
+
+
+def lessons(context, drops, messages):
+    """What a hearer learns of messages that stand for one."""
+    found = [lesson(context, drops, it) for it in messages]
+    if len(found) == 1:
+        return found[0]
+    gone, lost, announced = ([route for it in found for route in it[at]] for at in (1, 2, 3))
+    return ("routes", gone, lost, announced, None)

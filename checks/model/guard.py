@@ -1,5 +1,5 @@
 """The guard between two speakers: what each event does, and what it asks of its owner. Written from docs/GUARD.md, not from the crate."""
-from cleaning import cleaned
+from cleaning import cleaned, nothing
 from commands import agreed
 from wire import *
 
@@ -7,7 +7,7 @@ OUTER, INNER = "outer", "inner"
 OTHER = {OUTER: INNER, INNER: OUTER}
 NAMES = {OPEN: "Open", UPDATE: "Update", NOTIFICATION: "Notification", KEEPALIVE: "Keepalive"}
 # So much may be on the way to a side while the other is read: 64 KB, less a message.
-ROOM = 65536 - 4096
+ROOM = 65536 - 3 * 4096
 OPEN_SECONDS, DRAIN_SECONDS = 240, 10
 
 
@@ -24,11 +24,16 @@ class Side:
         self.open = None
         self.is_ready = False
         self.way = b""
+        # For how many seconds of an established session nothing was handed on to it, and whether something was dropped since.
+        self.quiet = 0
+        self.is_owed = False
 
 
 class Guard:
-    def __init__(self, drops, is_one_way):
+    def __init__(self, drops, is_one_way, is_first_own=False, first_as=None):
         self.drops, self.is_one_way = drops, is_one_way
+        # Whether an external neighbour's paths begin with its own AS, and the AS that the owner gives in its place.
+        self.is_first_own, self.first_as = is_first_own, first_as
         self.sides = {OUTER: Side(), INNER: Side()}
         self.gone = 0
         # The seconds that are left once it has ended.
@@ -39,6 +44,8 @@ class Guard:
         self.came = {OUTER: b"", INNER: b""}
         self.put = {OUTER: b"", INNER: b""}
         self.own = {OUTER: b"", INNER: b""}
+        # Where its own KEEPALIVEs stand in what was put.
+        self.own_keepalives = {OUTER: [], INNER: []}
 
     def tell(self, name, octets, is_own=False):
         self.sides[name].way += octets
@@ -65,6 +72,23 @@ class Guard:
     def context(self, name):
         return agreed(self.sides[name].open, self.sides[OTHER[name]].open) or Context()
 
+    def hold(self):
+        """The Hold Time that both OPENs agree on, 0 where one is missing."""
+        opens = [it.open for it in self.sides.values()]
+        return min(it[1] for it in opens) if all(opens) else 0
+
+    def refuses(self, name):
+        """Which announcements of a side go on as withdrawals: those whose AS_PATH doesn't begin with a sequence from its AS (RFC 4271, section 6.3)."""
+        context, said = self.context(name), self.sides[name].open
+        wanted = self.first_as
+        if wanted is None and self.is_first_own and said and not context.internal:
+            # A session of AS numbers of two octets knows the side by its My Autonomous System (RFC 6793, section 4.1).
+            wide = [it[1] for it in said[3] if it[0] == "as4"]
+            wanted = wide[0] if context.as4 else said[0]
+        if name == INNER or wanted is None:
+            return nothing
+        return lambda context, whole: not begins_with(verdict(context, whole[19:])[2].get(AS_PATH, []), wanted)
+
     def misplaced(self, name, kind):
         """The subcode that answers a message out of place, or None."""
         side, other = self.sides[name], self.sides[OTHER[name]]
@@ -73,11 +97,14 @@ class Guard:
         return None if fits else 1 if not both else 3 if side.is_ready else 2
 
     def hand_on(self, name, octets, handed):
-        side, kind = self.sides[name], octets[18]
-        if kind == UPDATE and self.is_one_way and name == INNER:
-            handed = message(KEEPALIVE, b"")
+        side, kind, other = self.sides[name], octets[18], self.sides[OTHER[name]]
+        if kind == UPDATE and (self.is_one_way and name == INNER or handed[18] == KEEPALIVE):
+            self.words.append(f"drops {NAMES[kind]}")
+            other.is_owed = True
+            return
         self.words.append(f"hands on {NAMES[kind]}" + ("" if handed == octets else " changed"))
         self.tell(OTHER[name], handed)
+        other.quiet, other.is_owed = 0, False
         if kind == OPEN:
             side.open = read_open(handed[19:])[1:]
         if kind == KEEPALIVE:
@@ -92,7 +119,9 @@ class Guard:
         if subcode:
             return self.answer(name, (5, subcode, bytes([kind])), (6, 4))
         context = self.context(name)
-        handed, _ = cleaned(context, self.drops, True, octets)
+        if kind == OPEN and outcome(context, kind, octets[19:])[0] != "reset" and is_as_zero(octets):
+            return self.answer(name, (2, 2), (6, 4))
+        handed, _ = cleaned(context, self.drops, True, octets, self.refuses(name))
         if handed is not None:
             return self.hand_on(name, octets, handed)
         answer = outcome(context, kind, octets[19:])
@@ -127,6 +156,25 @@ class Guard:
             self.tell(OTHER[name], notice(6, 5), True)
             self.end()
 
+    def stall(self, name):
+        if self.left is None:
+            self.sides[name].way = b""
+            self.tell(OTHER[name], notice(4, 0), True)
+            self.end()
+
+    def stall_seconds(self):
+        return self.hold() or OPEN_SECONDS
+
+    def stop(self):
+        if self.left is not None:
+            return
+        for name, side in self.sides.items():
+            if side.stands:
+                self.tell(name, notice(6, 2), True)
+            else:
+                side.way = b""
+        self.end()
+
     def close(self, name):
         side = self.sides[name]
         if side.stands:
@@ -141,7 +189,9 @@ class Guard:
             self.left = max(self.left - 1, 0)
             return
         sides = self.sides.values()
-        if not any(it.stands for it in sides) or all(it.open for it in sides):
+        if all(it.open for it in sides):
+            return self.keep_alive()
+        if not any(it.stands for it in sides):
             return
         self.gone += 1
         if self.gone == OPEN_SECONDS:
@@ -150,18 +200,46 @@ class Guard:
             self.end()
 
 
+    def keep_alive(self):
+        hold = self.hold()
+        if not hold or not all(it.is_ready for it in self.sides.values()):
+            return
+        for name, side in self.sides.items():
+            side.quiet += 1
+            if side.is_owed and not side.way and side.quiet * 3 >= hold:
+                self.own_keepalives[name].append(len(self.put[name]))
+                self.tell(name, message(KEEPALIVE, b""))
+                side.quiet, side.is_owed = 0, False
+
+
+def begins_with(path, number):
+    """Whether a path begins with a sequence from this AS."""
+    return bool(path) and path[0][0] == 2 and path[0][1][0] == number
+
+
+def is_as_zero(octets):
+    """Whether an OPEN says AS 0, in My Autonomous System or in the first capability for four octets."""
+    said = read_open(octets[19:])
+    wide = [it[1] for it in said[4] if it[0] == "as4"]
+    return 0 in (said[1], *wide[:1])
+
+
 def is_law(guard, name):
-    """What was put on the way to a side is the cleaned form of the messages of the other, and then at most one NOTIFICATION of the guard's."""
+    """What was put on the way to a side is the cleaned form of the messages of the other, with KEEPALIVEs of the guard's own between, and then at most one
+    NOTIFICATION of the guard's."""
     other = OTHER[name]
     context = guard.context(other)
     found = [octets for _, octets in frames(guard.came[other])[0]]
     written = b""
     for at, octets in enumerate(found):
-        handed, _ = cleaned(context, guard.drops, at == 0, octets)
+        handed, _ = cleaned(context, guard.drops, at == 0, octets, guard.refuses(other))
         if handed is None:
             break
-        is_silent = octets[18] == UPDATE and guard.is_one_way and other == INNER
-        written += message(KEEPALIVE, b"") if is_silent else handed
+        is_dropped = octets[18] == UPDATE and (guard.is_one_way and other == INNER or handed[18] == KEEPALIVE)
+        written += b"" if is_dropped else handed
     whole = guard.put[name] if not guard.own[name] else guard.put[name][: -len(guard.own[name])]
-    is_front = written.startswith(whole) and guard.put[name] == whole + guard.own[name]
+    is_put = guard.put[name] == whole + guard.own[name]
+    for at in reversed(guard.own_keepalives[name]):
+        whole = whole[:at] + whole[at + 19 :]
+    is_front = written.startswith(whole) and is_put
     return is_front and (guard.left is not None or whole == written) and len(frames(guard.own[name])[0]) <= 1

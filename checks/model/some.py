@@ -18,12 +18,20 @@ def some_as(width):
     return 0 if rarely(60) else chance.choice([1, 100, AS_TRANS, 65000, 65535] + [65536, 200000, 2**32 - 1] * (width == 4))
 
 
+# AS numbers with which half of the sequences begin, where there are some.
+firsts = []
+
+
 def some_path(width):
     path = b""
     for _ in range(chance.choice([0, 1, 1, 1, 2, 3])):
         kind = chance.choice([1, 2]) if not rarely(10) else chance.randrange(6)
         count = chance.choice([1, 2, 3, 5]) if not rarely(20) else chance.choice([0, 70, 255])
-        path += bytes([kind, count]) + b"".join(spelled(width, some_as(width)) for _ in range(count))
+        numbers = [some_as(width) for _ in range(count)]
+        fit = [it for it in firsts if it < 256**width]
+        if fit and numbers and rarely(2):
+            numbers[0] = chance.choice(fit)
+        path += bytes([kind, count]) + b"".join(spelled(width, it) for it in numbers)
     return path + (octets(chance.randrange(1, 4)) if rarely(25) else b"")
 
 

@@ -21,7 +21,7 @@
 /* ---- calls ---- */
 
 static const ristulva_context context = {0, 1, 1, 1};
-static uint8_t octets[RISTULVA_MESSAGE], wanted[RISTULVA_MESSAGE], handed[RISTULVA_MESSAGE + 1];
+static uint8_t octets[RISTULVA_MESSAGE], wanted[RISTULVA_PARTS], handed[RISTULVA_PARTS + 1];
 
 /* What is handed on of so many of the octets, with each allocation failing in turn: nothing is written then, nor left behind. */
 static ristulva_status clean(const uint8_t *types, size_t count, uint8_t first, size_t len, size_t room, size_t *written, ristulva_cleaned *out)
@@ -51,7 +51,7 @@ static void becomes(const uint8_t *types, size_t count, size_t len, size_t wante
 {
     size_t written;
     ristulva_cleaned out;
-    WANT(clean(types, count, 1, len, RISTULVA_MESSAGE, &written, &out) == RISTULVA_OK);
+    WANT(clean(types, count, 1, len, RISTULVA_PARTS, &written, &out) == RISTULVA_OK);
     WANT(written == wanted_len && memcmp(handed, wanted, written) == 0);
     WANT(out.ends == RISTULVA_HANDED_ON && out.verdict == told.verdict && out.code == 0 && out.subcode == 0 && out.len == len);
     WANT(out.discarded == told.discarded && out.left_out == told.left_out && out.capabilities == told.capabilities);

@@ -63,6 +63,14 @@ class Collector:
             count = len(self.lines)
             time.sleep(2)
 
+    def rest(self):
+        """Waits until it has nothing to do: for a second it has kept no processor busy."""
+        end, before = time.monotonic() + 4 * LIMIT, None
+        while before != self.seconds():
+            assert time.monotonic() < end, "it is busy and busy"
+            before = self.seconds()
+            time.sleep(1)
+
     def of(self, name):
         """The lines of a peer."""
         return [line.removeprefix(name + " ") for line in self.lines if line.startswith(name + " ")]
@@ -505,7 +513,7 @@ def try_no_reader(made, report):
         octets, lines, _ = many(peer)
         for _ in range(80):
             peer.say(octets)
-        time.sleep(2)
+        collector.rest()
         collector.thread.start()
         collector.settle()
         peer.say(messages.announce4(["203.0.113.0/24"], [65001], HOP4)[0])

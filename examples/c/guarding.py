@@ -147,7 +147,7 @@ def try_all(made, program, report):
 # ---- rows
 
 KINDS = ("", "Open", "Update", "Notification", "Keepalive")
-EVENTS = {"stands": 1, "can't be reached": 2, "closes": 3}
+EVENTS = {"stands": 1, "can't be reached": 2, "closes": 3, "stalls": 4}
 
 
 class Came(ctypes.Structure):
@@ -176,6 +176,8 @@ class Handle:
             octets = octets[taken.value :]
             if came.what == 1:
                 self.page.append(f"hands on {KINDS[came.kind]}" + " changed" * (not came.same))
+            if came.what == 3:
+                self.page.append(f"drops {KINDS[came.kind]}")
             if came.what == 2:
                 self.page.append(f"answers {came.code}/{came.subcode}")
         if octets:
@@ -189,10 +191,16 @@ class Handle:
     def make(self, line, octets_of):
         """What a line says happens, and then what is on its way and which side is closed."""
         word, _, told = line.partition(" ")
-        side = ("outer", "inner", "tick").index(word)
+        side = ("outer", "inner", "tick", "stops", "stalls").index(word)
         if word == "tick":
             for _ in range(int(told)):
                 self.call("tick")
+        elif word == "stops":
+            self.call("stop")
+        elif word == "stalls":
+            seconds = ctypes.c_uint16()
+            self.call("stall", ctypes.byref(seconds))
+            self.page.append(f"behind {seconds.value} seconds")
         elif told in EVENTS:
             self.call("event", side, EVENTS[told])
         elif told.startswith("takes "):
@@ -224,10 +232,15 @@ def by_row(library, lines, octets_of):
     return page
 
 
+def is_offered(lines):
+    """Whether a row can be told by the library's calls: its guards have no limits."""
+    return all(word in ("slow", "one-way") or word.isdecimal() for word in lines[1].split()[1:])
+
+
 def try_rows(library, paragraphs, octets_of, report):
     """The rows of guards: what is told of each is what stands there."""
     library = ctypes.CDLL(str(library))
     for lines in paragraphs:
-        if len(lines) > 1 and lines[1].split()[0] == "guard":
+        if len(lines) > 1 and lines[1].split()[0] == "guard" and is_offered(lines):
             page = by_row(library, lines, octets_of)
             report(lines[0], page == lines[lines.index("want") + 1 :], page)

@@ -4,7 +4,7 @@
  *
  * The files have streams of octets, of which some are changed at random. Built with the sanitizers it also shows that nothing is
  * written outside of what a call is handed; octets lie beside memory that can't be read. It runs on STACK octets of stack, which
- * are 32 KB, and on 16 KB more with ristulva_clean and guards. Blocks of memory are counted: a session, a decoder and a guard give
+ * are 32 KB, and on 24 KB more with ristulva_clean and guards. Blocks of memory are counted: a session, a decoder and a guard give
  * theirs back when they are freed, and no other call leaves any. It prints how many calls it made, and ends with 1 at the first
  * answer that the header doesn't allow. */
 #include "ristulva.h"
@@ -17,7 +17,7 @@
 #ifndef STACK
 #define STACK (32 * 1024)
 #endif
-#define MORE_STACK (STACK + 16 * 1024)
+#define MORE_STACK (STACK + 24 * 1024)
 
 /* Whether messages are cleaned too, which takes more stack. */
 static int cleans;
@@ -398,42 +398,52 @@ static void try_encode(const ristulva_context *context, const uint8_t *body, siz
     calls += 2;
 }
 
-/* What is handed on of the first message: it is accepted, has no notes, is no longer, and is handed on as it is; and all that is told of it fits. */
-static void check_handed(const ristulva_context *context, const uint8_t *types, size_t count, uint8_t first, const uint8_t *handed, size_t written,
+/* One of the messages that are handed on: it is accepted, has no notes, is no longer, and is handed on as it is. */
+static size_t check_part(const ristulva_context *context, const uint8_t *types, size_t count, uint8_t first, const uint8_t *part, size_t left,
                          const ristulva_cleaned *told)
 {
-    static uint8_t again[RISTULVA_MESSAGE];
+    static uint8_t again[RISTULVA_PARTS];
     ristulva_note_found note;
     ristulva_verdict verdict;
     ristulva_cleaned same;
     size_t notes = 77, len = 77, i;
     uint8_t data[RISTULVA_DATA];
-    WANT(written >= 19 && written <= told->len);
-    WANT(told->verdict == RISTULVA_UPDATE || told->discarded + told->left_out == 0);
-    WANT(told->verdict == RISTULVA_OPEN || told->capabilities == 0);
-    WANT(ristulva_judge(context, handed, written, data, sizeof data, &verdict) == RISTULVA_OK);
-    WANT(verdict.len == written && verdict.verdict == verdict.kind);
+    WANT(ristulva_judge(context, part, left, data, sizeof data, &verdict) == RISTULVA_OK);
+    WANT(verdict.len >= 19 && verdict.len <= told->len && verdict.len <= left && verdict.verdict == verdict.kind);
     WANT(verdict.kind == (told->verdict == RISTULVA_WITHDRAW ? RISTULVA_UPDATE : told->verdict)
          || (verdict.kind == RISTULVA_KEEPALIVE && told->verdict == RISTULVA_UPDATE));
-    WANT(ristulva_notes(context, handed, written, &note, 1, &notes) == RISTULVA_OK && notes == 0);
-    WANT(ristulva_clean(context, types, count, first, handed, written, again, sizeof again, &len, &same) == RISTULVA_OK);
-    WANT(len == written && memcmp(again, handed, len) == 0 && same.discarded + same.left_out + same.capabilities == 0);
+    WANT(ristulva_notes(context, part, verdict.len, &note, 1, &notes) == RISTULVA_OK && notes == 0);
+    WANT(ristulva_clean(context, types, count, first, part, verdict.len, again, sizeof again, &len, &same) == RISTULVA_OK);
+    WANT(len == verdict.len && memcmp(again, part, len) == 0 && same.discarded + same.left_out + same.capabilities == 0);
     if (verdict.kind == 2) {
         ristulva_attributes cursor = {verdict.parts.attributes.at, verdict.parts.attributes.at + verdict.parts.attributes.len};
         ristulva_attribute attribute;
-        while (ristulva_next_attribute(handed, written, &cursor, &attribute) == RISTULVA_OK)
+        while (ristulva_next_attribute(part, verdict.len, &cursor, &attribute) == RISTULVA_OK)
             for (i = 0; i < count; i++)
                 WANT(attribute.kind != types[i] || attribute.kind <= 32); /* types from 33 on aren't recognised */
     }
     calls += 3;
+    return verdict.len;
+}
+
+/* What is handed on of the first message: one message, or up to three of an UPDATE; and all that is told of it fits. */
+static void check_handed(const ristulva_context *context, const uint8_t *types, size_t count, uint8_t first, const uint8_t *handed, size_t written,
+                         const ristulva_cleaned *told)
+{
+    size_t at = 0, parts;
+    WANT(told->verdict == RISTULVA_UPDATE || told->discarded + told->left_out == 0);
+    WANT(told->verdict == RISTULVA_OPEN || told->capabilities == 0);
+    for (parts = 0; at < written; parts++)
+        at += check_part(context, types, count, first, handed + at, written - at, told);
+    WANT(at == written && parts >= 1 && parts <= (told->verdict == RISTULVA_UPDATE ? 3 : 1));
 }
 
 /* With room for all and for less, and some types. It takes no memory. */
 static void try_clean(const ristulva_context *context, const uint8_t *octets, size_t len, const ristulva_found *found, const ristulva_verdict *verdict)
 {
-    static uint8_t handed[RISTULVA_MESSAGE + 1];
+    static uint8_t handed[RISTULVA_PARTS + 1];
     uint8_t types[3] = {(uint8_t)below(256), (uint8_t)(33 + below(223)), len == 0 ? 0 : octets[below((uint32_t)len)]}, first = (uint8_t)below(3);
-    size_t count = below(4), room = below(3) == 0 ? below(64) : RISTULVA_MESSAGE, written = 77, notes = 77;
+    size_t count = below(4), room = below(3) == 0 ? below(64) : RISTULVA_PARTS, written = 77, notes = 77;
     ristulva_note_found note;
     ristulva_cleaned told;
     ristulva_status status;
@@ -632,14 +642,16 @@ static void try_guard(const uint8_t *octets, size_t len)
     refused = 1;
     allocations = 0;
     if (below(20) == 0)
-        WANT(ristulva_guard_event(&guard, below(2), 1 + below(3)) == RISTULVA_OK);
+        WANT(ristulva_guard_event(&guard, below(2), 1 + below(4)) == RISTULVA_OK);
+    if (below(200) == 0)
+        WANT(ristulva_guard_stop(&guard) == RISTULVA_OK);
     if (below(4) == 0)
         WANT(ristulva_guard_tick(&guard) == RISTULVA_OK);
     memset(&came, 0xa5, sizeof came);
     memset(way, 0x5a, sizeof way);
     WANT(ristulva_guard_asks(&guard, side, &asks) == RISTULVA_OK);
     WANT(ristulva_guard_hear(&guard, side, octets, len, &taken, &came) == RISTULVA_OK);
-    WANT(taken <= len && (taken > 0) == (asks.listens != 0 && len > 0) && came.what <= RISTULVA_CAME_ANSWERED);
+    WANT(taken <= len && (taken > 0) == (asks.listens != 0 && len > 0) && came.what <= RISTULVA_CAME_DROPPED);
     WANT(ristulva_guard_way(&guard, side, way, room, &written) == RISTULVA_OK && written <= room && way[written] == 0x5a);
     WANT(ristulva_guard_sent(&guard, side, written) == RISTULVA_OK);
     (void)ristulva_guard_peer(&guard, side, &peer);

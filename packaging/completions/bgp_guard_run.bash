@@ -6,9 +6,9 @@ _bgp_guard_run() {
     [ "$before" != = ] || before="${COMP_WORDS[COMP_CWORD - 2]}"
     [ "$word" != = ] || word=""
     case "$before" in
-        *[\<\>]) files=yes ;;
-        --listen | --most | --pass | --peer | --seconds | --sessions | --to) return ;;
-        *) words='--listen --to --inner-connects --peer --pass --one-way --most --sessions --seconds -h --help -V --version' ;;
+        *[\<\>] | --peers) files=yes ;;
+        --first-as | --listen | --longest-path | --metrics | --most | --most-communities | --most-of-peer | --pass | --peer | --room | --seconds | --sessions | --to) return ;;
+        *) words='--listen --to --inner-connects --peer --peers --control --pass --one-way --any-next-hop --without-local-pref --any-first-as --first-as --longest-path --most-communities --room --most --most-of-peer --times --json --metrics --sessions --seconds -h --help -V --version' ;;
     esac
     [ -z "$words" ] || mapfile -t COMPREPLY < <(compgen -W "$words" -- "$word")
     if [ "$files" = yes ] && [[ "$word" != -* ]]; then

@@ -11,7 +11,7 @@ from ctypes import POINTER, Structure, c_char_p, c_size_t, c_uint8, c_uint16, c_
 OK, NO_SESSION, MEMORY, RANGE, INCOMPLETE, ROOM, END, REFUSED, UNWRITABLE, STATE, CONFIG, IN_USE, MIXED = range(13)
 # The first two numbers of the versions whose header this file has: while the first is 0, a new second one may change any call.
 SERIES = (0, 4)
-DATA, MESSAGE, HEADER, ACTIONS, BATCH = 4075, 4096, 19, 5, 4073
+DATA, MESSAGE, HEADER, ACTIONS, BATCH, PARTS = 4075, 4096, 19, 5, 4073, 12288
 
 
 class Span(Structure):

@@ -14,7 +14,7 @@ from ctypes import c_size_t, c_uint16, c_uint32
 from .facts import Facts, facts_of
 from .field import Field, fault_of, fault_section_of, fields_of, note_section_of
 from .library import (
-    DATA, HEADER, INCOMPLETE, LIBRARY, MEMORY, MESSAGE, MIXED, OK, RANGE, REFUSED, ROOM, STATE, UNWRITABLE, Attributes, CAttribute, CCapability,
+    DATA, HEADER, INCOMPLETE, LIBRARY, MEMORY, MESSAGE, MIXED, OK, PARTS, RANGE, REFUSED, ROOM, STATE, UNWRITABLE, Attributes, CAttribute, CCapability,
     CCleaned, CFacts, CLargeCommunity, CNote, COpen, CPrefix, CRoute, CSegment, LargeCommunities, Numbers, Prefixes, RouteCursor, Said, Segments, Span,
     Verdict,
 )
@@ -214,17 +214,18 @@ class Message:
         return fault_section_of(self.octets, self.context.said())
 
     def clean(self, first: bool = False, types: typing.Iterable[int] = ()) -> Cleaned:
-        """What may be handed on of it to a hearer, who learns by it what RFC 7606 has the hearer of the message learn.
+        """The octets of what may be handed on of it to a hearer, who learns by it what RFC 7606 has the hearer of the message learn: of one message, or of
+        up to three of an UPDATE: the routes that are gone, those of NLRI, those of MP_REACH_NLRI.
 
         An OPEN is handed on with the first capability of each kind for IPv4 unicast, IPv6 unicast and AS numbers of four octets, and no others. An UPDATE
         that is accepted is handed on without what is discarded, and without attributes of unrecognised types that are among `types`; one that is treated as
-        a withdrawal as an UPDATE that withdraws its routes. Where nothing would be left of an UPDATE, or MP_UNREACH_NLRI without routes alone, a KEEPALIVE
+        a withdrawal as an UPDATE that withdraws its routes. Routes of IPv4 go on in Withdrawn Routes and NLRI. Where an UPDATE has no routes, a KEEPALIVE
         is handed on, unless it came as an End-of-RIB. `first` is whether the message is the first one of its stream. Of a message with `ends`, and of all
         behind it, nothing is to be handed on."""
         left_out = bytes(iter(types))
-        message, written, told = ctypes.create_string_buffer(MESSAGE), c_size_t(), CCleaned()
+        message, written, told = ctypes.create_string_buffer(PARTS), c_size_t(), CCleaned()
         check(LIBRARY.ristulva_clean(
-            self.context.said(), left_out, len(left_out), bool(first), self.octets, len(self.octets), message, MESSAGE, written, told))
+            self.context.said(), left_out, len(left_out), bool(first), self.octets, len(self.octets), message, PARTS, written, told))
         return Cleaned(ctypes.string_at(message, written.value), ENDS[told.ends], told.discarded, told.left_out, told.capabilities)
 
     def attributes(self) -> list[Attribute]:

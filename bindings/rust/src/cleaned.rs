@@ -1,4 +1,4 @@
-use crate::{raw, Error, Message, MESSAGE};
+use crate::{raw, Error, Message, PARTS};
 use std::fmt;
 
 /// What came of a message that is cleaned.
@@ -77,8 +77,9 @@ impl Message<'_> {
     /// An OPEN is handed on with the first capability of each kind for IPv4 unicast, IPv6 unicast and AS
     /// numbers of four octets, and no others. An UPDATE that is accepted is handed on without what is
     /// discarded, and without attributes of unrecognised types that are among `types`; one that is
-    /// treated as a withdrawal as an UPDATE that withdraws its routes. Where nothing would be left of an
-    /// UPDATE, or MP_UNREACH_NLRI without routes alone, a KEEPALIVE is handed on, unless it came as an
+    /// treated as a withdrawal as an UPDATE that withdraws its routes. An UPDATE goes on as one to three
+    /// messages: the routes that are gone, those of NLRI, those of MP_REACH_NLRI; routes of IPv4 in the
+    /// classic fields. Where it has no routes, a KEEPALIVE is handed on, unless it came as an
     /// End-of-RIB (RFC 4724, section 2). `first` is whether the message is the first one of its stream.
     ///
     /// ```
@@ -97,7 +98,7 @@ impl Message<'_> {
     ///
     /// None: the library takes no memory for it.
     pub fn clean(&self, first: bool, types: &[u8]) -> Result<Cleaned, Error> {
-        let mut message = vec![0; MESSAGE];
+        let mut message = vec![0; PARTS];
         let (context, octets) = self.judged();
         let (status, written, told) =
             raw::clean(&context.said(), types, first, octets, &mut message);

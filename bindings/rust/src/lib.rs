@@ -86,6 +86,9 @@ pub use write::{encode, narrow, reconcile};
 /// The most octets of a message, its header of 19 included (RFC 4271, section 4.1).
 pub const MESSAGE: usize = 4096;
 
+/// The most octets of the messages that [`Message::clean`] gives for one: three of them.
+pub const PARTS: usize = 12288;
+
 /// The most octets of a message's body.
 pub const BODY: usize = 4077;
 

@@ -6,6 +6,7 @@ use Rattle.clap.specs.declared.error.kind.ErrorKind.{ErrorKind}
 use Rattle.clap.specs.declared.error.kind.ErrorKind.TheVariants as error
 use Rattle.bgp_wire.specs.Prelude.{has_octet}
 use Rattle.bgp_wire.specs.declared.octet_set.OctetSet.{OctetSet}
+use Rattle.bgp_clean.specs.Limits.{no_limits}
 use Rattle.bgp_engine.specs.declared.fault.ToolFault.{ToolFault}
 use Rattle.bgp_engine.specs.declared.tally.Tally.{Tally}
 use Rattle.bgp_engine.specs.Prelude.{Io, Reports, CheckedBy, NarrowedBy, Printed, PrintedBy, Hexed, CleanedBy, CleanedIn, without_words, status_of}
@@ -54,7 +55,7 @@ style_of json = if json then style.Json else style.Lines
 
 -- without unrecognised attributes of the types in a set
 abbrev pub cleaned_by : OctetSet → List ℕ → Reports
-cleaned_by drops theirs = CleanedBy theirs (has_octet drops)
+cleaned_by drops theirs = CleanedBy theirs (has_octet drops) no_limits
 
 -- messages were printed in a style, in the context of the flags or in that of both OPENs
 abbrev pub Prints : Session → Style → Bool → Bool → Io → Result Tally ToolFault → Type 0
@@ -69,7 +70,7 @@ Runs (Check (Flags ctx) hex) io outcome = engine.Answers (Checked ctx) hex io ou
 Runs (Check Opens hex) io outcome = RunsBy CheckedBy hex io outcome
 Runs (Narrow (Flags ctx)) io outcome = engine.Answers (Narrowed ctx) false io outcome
 Runs (Narrow Opens) io outcome = RunsBy NarrowedBy false io outcome
-Runs (Clean (Flags ctx) hex drops) io outcome = engine.Answers (CleanedIn ctx (has_octet drops)) hex io (without_words outcome)
+Runs (Clean (Flags ctx) hex drops) io outcome = engine.Answers (CleanedIn ctx (has_octet drops) no_limits) hex io (without_words outcome)
 Runs (Clean Opens hex drops) io outcome = RunsBy (cleaned_by drops) hex io (without_words outcome)
 Runs ToHex io outcome = engine.Answers Hexed false io outcome
 Runs FromHex io outcome = engine.Answers Copied true io outcome

@@ -5,6 +5,8 @@ ghost use Rattle.clap.specs.Words.{kind_of};
 ghost use Rattle.bgp.specs.Command.{Answers, HasRun, IsExplained, IsQuiet, IsWide, Runs, RunsBy, Prints, cleaned_by, style_of};
 ghost use Rattle.bgp_engine.specs.Prelude.{PrintedBy, without_words, CheckedBy, NarrowedBy, io};
 
+use crate::hints::{Recorded, hint};
+use bgp_clean::Limits;
 use bgp_engine::{
     Style, Tally, ToolFault, check, check_by_opens, clean_by_opens, clean_stream, from_hex,
     narrow_by_opens, narrow_stream, print, print_by_opens, status, to_hex,
@@ -144,7 +146,7 @@ fn clean_opened<H: Files, R: Read, W: Write>(
     ensures { RunsBy (cleaned_by drops.now) hex (io R.remaining input.old input.new W.contents output.old output.new) (without_words result) }
 {
     match read_file(rt, alloc, file, MESSAGE_MAX) {
-        Ok(theirs) => clean_by_opens(alloc, &theirs, drops, hex, input, output),
+        Ok(theirs) => clean_by_opens(alloc, &theirs, drops, &Limits::none(), hex, input, output),
         Err(fault) => Err(fault),
     }
 }
@@ -205,7 +207,9 @@ fn run<H: Files + Net, R: Read, W: Write>(
             hex,
             drops,
         } => match session {
-            Session::Flags(ctx) => clean_stream(alloc, &ctx, &drops, hex, input, output),
+            Session::Flags(ctx) => {
+                clean_stream(alloc, &ctx, &drops, &Limits::none(), hex, input, output)
+            }
             Session::Opens => clean_opened(rt, alloc, asked.file, &drops, hex, input, output),
         },
         Request::ToHex => to_hex(alloc, input, output),
@@ -215,8 +219,8 @@ fn run<H: Files + Net, R: Read, W: Write>(
     }
 }
 
-// Runs the engine of a request, tells its fault, and gives its status.
-fn answer<H: Files + Net, R: Read, W: Write, E: Write>(
+// Runs the engine of a request, tells its fault and what may be wrong with the input, and gives its status.
+fn answer<H: Files + Net, R: Read + Recorded, W: Write, E: Write>(
     rt: &H,
     alloc: Global,
     asked: Asked<'_>,
@@ -231,6 +235,7 @@ fn answer<H: Files + Net, R: Read, W: Write, E: Write>(
     if let Err(fault) = outcome {
         tell(errors, fault);
     }
+    hint(rt, alloc, asked, &outcome, input.record(), errors);
     status(&outcome)
 }
 
@@ -238,7 +243,7 @@ fn answer<H: Files + Net, R: Read, W: Write, E: Write>(
 /// script or of the other direction, and the sockets of a wire over TCP.
 ///
 /// A failed write to `errors` changes nothing.
-pub fn command<H: Files + Net, R: Read, W: Write, E: Write>(
+pub fn command<H: Files + Net, R: Read + Recorded, W: Write, E: Write>(
     rt: &H,
     alloc: Global,
     words: &[&str],

@@ -2,7 +2,9 @@
 #![tactic(auto)]
 
 mod cli;
+mod hints;
 mod progress;
+mod record;
 
 use crate::cli::command;
 use crate::progress::Watched;
@@ -19,7 +21,10 @@ fn words(rt: &HostRuntime) -> io::Result<Vec<String>> {
 fn run(rt: &HostRuntime, words: &[String]) -> Result<u8, AllocError> {
     let alloc = rt.alloc();
     let words: Vec<&str> = words.iter().map(|word| word.as_str()).collect(alloc)?;
-    let input = &mut Watched::new(rt, rt.stdin());
+    let is_text = words
+        .iter()
+        .any(|word| *word == "--hex" || *word == "from-hex");
+    let input = &mut Watched::new(rt, rt.stdin(), is_text);
     let output = &mut rt.stdout();
     let errors = &mut rt.stderr();
     Ok(command(rt, alloc, &words, input, output, errors))

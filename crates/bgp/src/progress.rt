@@ -1,5 +1,7 @@
-//! Progress of long work.
+//! Progress of long work, and a reader that tells it.
 
+use crate::hints::Recorded;
+use crate::record::Record;
 use std::io::{self, IsTerminal, Read};
 use std::time::Instant;
 
@@ -7,7 +9,7 @@ use std::time::Instant;
 const PAUSE: u64 = 1;
 
 /// Counts octets, and tells each second how many there were, and how many of them a second. It tells it on standard error where that is a
-/// terminal, and nothing where it isn't.
+/// terminal and standard output isn't, so that it doesn't stand between lines of output; and nothing else.
 #[derive(Drop)]
 struct Meter<'a> {
     rt: &'a HostRuntime,
@@ -18,8 +20,9 @@ struct Meter<'a> {
 
 impl<'a> Meter<'a> {
     fn new(rt: &'a HostRuntime) -> Meter<'a> {
+        let is_told = rt.stderr().is_terminal() && !rt.stdout().is_terminal();
         let times = match Instant::now(rt) {
-            Ok(now) if rt.stderr().is_terminal() => Some((now, now)),
+            Ok(now) if is_told => Some((now, now)),
             _ => None,
         };
         Meter {
@@ -48,20 +51,40 @@ impl<'a> Meter<'a> {
     }
 }
 
-/// A reader that tells how far it is.
+/// A reader that tells how far it is, and keeps what hints are made of.
 #[derive(Drop)]
 pub(crate) struct Watched<'a, R> {
     input: R,
     meter: Meter<'a>,
+    record: Record,
+    /// What is told before the first read.
+    notice: Option<&'static str>,
 }
 
-impl<'a, R: Read> Watched<'a, R> {
-    /// A reader of these octets.
-    pub(crate) fn new(rt: &'a HostRuntime, input: R) -> Watched<'a, R> {
+impl<'a, R: Read + IsTerminal> Watched<'a, R> {
+    /// A reader of these octets, or of text. Before it waits for a terminal it tells so, where standard error is one too.
+    pub(crate) fn new(rt: &'a HostRuntime, input: R, is_text: bool) -> Watched<'a, R> {
+        let notice = if !input.is_terminal() || !rt.stderr().is_terminal() {
+            None
+        } else if is_text {
+            Some(
+                "reading hexadecimal text from the terminal; end with Ctrl-D, or give a file: < FILE",
+            )
+        } else {
+            Some("reading octets from the terminal; end with Ctrl-D, or give a file: < FILE")
+        };
         Watched {
             input,
             meter: Meter::new(rt),
+            record: Record::new(rt.alloc(), is_text),
+            notice,
         }
+    }
+}
+
+impl<R> Recorded for Watched<'_, R> {
+    fn record(&self) -> &Record {
+        &self.record
     }
 }
 
@@ -69,8 +92,14 @@ impl<R: Read> Read for Watched<'_, R> {
     ghost remaining = { λ w. R.remaining w.input };
 
     fn read(&mut self, buf: &mut [u8]) -> io::Result<usize> {
+        if let Some(notice) = self.notice {
+            self.notice = None;
+            let _ = eprintln!(self.meter.rt; "bgp: {notice}");
+        }
         let count = self.input.read(buf)?;
         self.meter.count(count);
+        let (octets, _) = buf.split_at(count.min(buf.len()));
+        self.record.keep(octets);
         Ok(count)
     }
 }

@@ -1,5 +1,6 @@
 //! What happens to a guard, and what it asks of its owner.
 
+use bgp_clean::Limits;
 use bgp_guard::{Came, Guard, Rules, Side};
 use bgp_rows::octets::{Octets, add_octets};
 use bgp_rows::page::Page;
@@ -21,18 +22,33 @@ struct Way {
     is_slow: bool,
 }
 
-/// The rules of a row's words: `one-way`, and types of attributes that are left out.
+/// The AS number of a word `first-as=AS`, by which paths begin.
+fn first_as_of(word: &str) -> Option<u32> {
+    word.strip_prefix("first-as=")?.parse::<u32>().ok()
+}
+
+/// The rules of a row's words: `one-way`, `first-as`, `first-as=AS`, and types of attributes that are left out.
 fn rules_of(settings: &str) -> Rules {
-    let mut drops = OctetSet::new();
-    let mut one_way = false;
+    let mut rules = Rules {
+        drops: OctetSet::new(),
+        limits: Limits::none(),
+        first_as: false,
+        one_way: false,
+    };
     for word in settings.split_whitespace() {
-        if word == "one-way" {
-            one_way = true;
-        } else if let Ok(kind) = word.parse::<u8>() {
-            drops.insert(kind);
+        match word {
+            "one-way" => rules.one_way = true,
+            "first-as" => rules.first_as = true,
+            _ => {
+                if let Ok(kind) = word.parse::<u8>() {
+                    rules.drops.insert(kind);
+                } else if let Some(number) = first_as_of(word) {
+                    rules.limits.first_as = Some(number);
+                }
+            }
         }
     }
-    Rules { drops, one_way }
+    rules
 }
 
 fn side_of(word: &str) -> Option<Side> {
@@ -47,6 +63,11 @@ fn side_of(word: &str) -> Option<Side> {
 fn put_came(alloc: Global, page: &mut Page, came: Came) -> Result<(), Trouble> {
     match came {
         Came::Nothing => Ok(()),
+        Came::Dropped { kind } => {
+            page.put("drops ")?;
+            page.put_name(alloc, &kind)?;
+            page.put("\n")
+        }
         Came::HandedOn { kind, same } => {
             page.put("hands on ")?;
             page.put_name(alloc, &kind)?;
@@ -117,6 +138,13 @@ fn tick(guard: &mut Guard, count: &str) -> Result<(), Trouble> {
     Ok(())
 }
 
+/// Adds for how many seconds octets may stand still.
+fn put_stall(alloc: Global, guard: &Guard, page: &mut Page) -> Result<(), Trouble> {
+    page.put("behind ")?;
+    page.put_value(alloc, &(guard.stall_seconds() as u64))?;
+    page.put(" seconds\n")
+}
+
 /// An event of a side that brings octets, or takes some.
 fn pass(
     alloc: Global,
@@ -155,8 +183,16 @@ fn make(
     if word == "tick" {
         return tick(guard, told);
     }
+    if line == "stops" {
+        guard.stop();
+        return Ok(());
+    }
+    if line == "stalls when" {
+        return put_stall(alloc, guard, page);
+    }
     let side = side_of(word).ok_or(NO_EVENT)?;
     match told {
+        "stalls" => guard.stalled(side),
         "stands" => guard.stood(side),
         "can't be reached" => guard.unreachable(side),
         "closes" => guard.closed(side),

@@ -1,11 +1,12 @@
 -- Which UPDATEs are an End-of-RIB: what is taken of one, and what is read where one was written.
 use Rattle.bgp_clean.proofs.Prelude.{◌≡◌, ℕ, ◌+◌, ◌≤◌, Bool, true, false, not, ◌&&◌, ◌||◌, cond, eqb, List, [], ◌∷◌, ◌++◌, length, Option, Some, None, refl}
-use Rattle.bgp_clean.proofs.Prelude.{sym, ap, subst, ◌∙◌, arith, flat_map, list_any, AllByRecursion, both_ways, or_parts, not-false, nil_from_length, is_some}
+use Rattle.bgp_clean.proofs.Prelude.{sym, ap, subst, ◌∙◌, arith, flat_map, list_any, AllByRecursion, both_ways, or_parts, not-false, nil_from_length}
 use Rattle.bgp_clean.proofs.Prelude.{eqb-true, none-some, IPV4, Context, PrefixValue, run_of, row_is_run, Attr, MpUnreach, canonical, is_writable, Belongs}
 use Rattle.bgp_clean.proofs.Prelude.{HasRanges, Attrs, Note, Update, CanBeWritten, Mark, field_marks, marks_of, Parts, parts_of, present, slot, attr_list}
 use Rattle.bgp_clean.proofs.Prelude.{attrs_from, kept_by, kept_of, no_attrs, attrs_of, update_of, verdict_of, attributes_octets, written_body}
 use Rattle.bgp_clean.proofs.Prelude.{is_out_of_place, Verdict, body-parts, length-body, valid-writable, recognised_types, valid-accepted, bare_family}
-use Rattle.bgp_clean.proofs.Prelude.{family_of_kept, family_of_marks, end_of_rib, is_bare, says_nothing, family_in, taken-of}
+use Rattle.bgp_clean.proofs.Prelude.{family_of_kept, family_of_marks, end_of_rib, family_in, taken-of}
+use Rattle.bgp_clean.proofs.Prelude.{gone_routes, has_any, nlri_routes, reached_routes}
 use Rattle.bgp_attr.specs.declared.judged.Judged.{Judged}
 use Rattle.bgp_update.proofs.MarkLemmas.{KeepsAll, field-keep}
 use Rattle.bgp_update.proofs.QuietMarks.{no_marks}
@@ -78,14 +79,19 @@ module _ (ctx : Context) (p : Parts) (f : ℕ) where
   pub ending : end_of_rib ctx p ≡ Some f → IsEnding (update_of p (marks_of ctx p)) f
   ending e = ending-by (eqb (length p.withdrawn) 0) (eqb (length p.nlri) 0) refl refl e
 
--- ---- an End-of-RIB says nothing else, and what is written of more is none
+-- ---- an End-of-RIB has no routes
 
-bare-end : (o : Option MpUnreach) (f : ℕ) → family_of_end o ≡ Some f → is_bare (unreach_attrs o) ≡ true
-bare-end None f e = refl
-bare-end (Some r) f e = ap (λ (x : Option ℕ). is_some x) e
+-- an UPDATE has routes
+abbrev pub has_routes_in : Update → Bool
+has_routes_in u = has_any (gone_routes u) || (has_any (nlri_routes u) || has_any (reached_routes u))
 
-end-says_nothing : (o : Option MpUnreach) (f : ℕ) → family_of_end o ≡ Some f → says_nothing (end_update o) ≡ true
-end-says_nothing o f e = ap is_bare (unreach-list o) ∙ bare-end o f e
+end-has-none : (o : Option MpUnreach) (f : ℕ) → family_of_end o ≡ Some f → has_routes_in (end_update o) ≡ false
+unfolding attrs_from
+end-has-none None f e = refl
+end-has-none (Some (MpUnreach.Ip4 [])) f e = refl
+end-has-none (Some (MpUnreach.Ip6 [])) f e = refl
+end-has-none (Some (MpUnreach.Ip4 (p ∷ ps))) f e = absurd (none-some f e)
+end-has-none (Some (MpUnreach.Ip6 (p ∷ ps))) f e = absurd (none-some f e)
 
 module _ (ctx : Context) (u : Update) where
   -- an UPDATE that is taken from an End-of-RIB is that
@@ -94,14 +100,14 @@ module _ (ctx : Context) (u : Update) where
       let is = taken-of ctx body u notes e in
       subst (λ (v : Update). IsEnding v f) is.update (ending ctx is.parts f (ap (family_in ctx) (sym is.found) ∙ is_end))
 
-  unending-by : says_nothing u ≡ false → (p : Parts) → update_of p (marks_of ctx p) ≡ u → (o : Option ℕ) → end_of_rib ctx p ≡ o → o ≡ None
+  unending-by : has_routes_in u ≡ true → (p : Parts) → update_of p (marks_of ctx p) ≡ u → (o : Option ℕ) → end_of_rib ctx p ≡ o → o ≡ None
   unending-by more p update None e = refl
   unending-by more p update (Some f) e =
       let end : IsEnding u f = subst (λ (v : Update). IsEnding v f) update (ending ctx p f e) in
-      absurd (both_ways (says_nothing u) more (ap says_nothing end.is ∙ end-says_nothing end.unreach f end.of_family))
+      absurd (both_ways (has_routes_in u) (ap has_routes_in end.is ∙ end-has-none end.unreach f end.of_family) more)
 
-  -- an UPDATE that says something is taken from no End-of-RIB
-  pub unending : (body : List ℕ) (notes : List Note) → verdict_of ctx body ≡ Verdict.Take u notes → says_nothing u ≡ false → family_in ctx (parts_of body) ≡ None
+  -- an UPDATE with routes is taken from no End-of-RIB
+  pub unending : (body : List ℕ) (notes : List Note) → verdict_of ctx body ≡ Verdict.Take u notes → has_routes_in u ≡ true → family_in ctx (parts_of body) ≡ None
   unending body notes e more =
       let is = taken-of ctx body u notes e in
       ap (family_in ctx) is.found ∙ unending-by more is.parts is.update (end_of_rib ctx is.parts) refl

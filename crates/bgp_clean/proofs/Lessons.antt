@@ -1,101 +1,90 @@
--- What a hearer learns of an UPDATE that is cleaned: the same, and nothing where it says nothing.
-use Rattle.bgp_clean.proofs.Prelude.{◌≡◌, ℕ, Bool, true, false, ◌&&◌, ◌||◌, eqb, ltb, List, [], ◌∷◌, ◌++◌, length, Option, Some, None, refl, ap, ap₂, ◌∙◌}
-use Rattle.bgp_clean.proofs.Prelude.{if◌then◌else◌, AllByRecursion, false≢true, cond-false, and_parts, nil_from_length, is_some, eqb-true, append-nil}
-use Rattle.bgp_clean.proofs.Prelude.{MP_REACH_NLRI, MP_UNREACH_NLRI, PrefixValue, Attr, MpReach, MpUnreach, attrs_from, gone_ip4, gone_ip6, has_routes}
-use Rattle.bgp_clean.proofs.Prelude.{present, attr_list, announces, Routes, Update, field-all, Message, cleaned_attrs, cleaned_update, unreach_of, withdrawal}
-use Rattle.bgp_clean.proofs.Prelude.{bare_family, is_bare, says_nothing, Lesson, no_lesson, announced_by, lesson_by}
+-- What a hearer learns of the messages that stand for an UPDATE: what the UPDATE says.
+use Rattle.bgp_clean.proofs.Prelude.{◌≡◌, ℕ, Bool, true, false, ltb, List, [], ◌∷◌, ◌++◌, length, Option, Some, None, option_or, refl, ap, ap₂, ◌∙◌, append-nil, false≢true, or_parts, ltb-false, nil_from_length, arith}
+use Rattle.bgp_clean.proofs.Prelude.{PrefixValue, MpReach, attrs_from, gone_ip4, gone_ip6, Routes, Update, Message, cleaned_update, unreach_of, withdrawal}
+use Rattle.bgp_clean.proofs.Prelude.{Announced, Lesson, announced_lesson, announced_nlri, announced_reached, both, gone_lesson, gone_routes, has_any, lesson_by, lesson_of, nlri_part, nlri_routes, no_lesson, reached_part, reached_routes, taught_by}
 use Rattle.bgp_clean.proofs.Dropped.{dropped-again}
 
--- an MP_UNREACH_NLRI without routes
-abbrev Bare : Attr → Type 0
-Bare x = is_some (bare_family x) ≡ true
+-- ---- lessons one after the other
 
-all-bare : (xs : List Attr) → is_bare xs ≡ true → AllByRecursion Bare xs
-all-bare [] e = tt
-all-bare (x ∷ []) e = (e, tt)
-all-bare (x ∷ y ∷ xs) e = absurd (false≢true e)
+or-none : {A : Type 0} (o : Option A) → option_or o None ≡ o
+or-none None = refl
+or-none (Some x) = refl
 
-no-reach : (o : Option MpReach) → AllByRecursion Bare (present (λ (r : MpReach). Attr.MpReach r) o) → o ≡ None
-no-reach None all = refl
-no-reach (Some r) all = absurd (false≢true all.0)
-
-no-gone : (o : Option MpUnreach) → AllByRecursion Bare (present (λ (r : MpUnreach). Attr.MpUnreach r) o) → (gone_ip4 o ≡ []) × (gone_ip6 o ≡ [])
-no-gone None all = (refl, refl)
-no-gone (Some (MpUnreach.Ip4 [])) all = (refl, refl)
-no-gone (Some (MpUnreach.Ip4 (p ∷ ps))) all = absurd (false≢true all.0)
-no-gone (Some (MpUnreach.Ip6 [])) all = (refl, refl)
-no-gone (Some (MpUnreach.Ip6 (p ∷ ps))) all = absurd (false≢true all.0)
-
-module _ (u : Update) (nothing : says_nothing u ≡ true) where
-  parts : (eqb (length u.withdrawn) 0 ≡ true) × ((eqb (length u.nlri) 0 && is_bare (attr_list u.attrs)) ≡ true)
-  parts = and_parts (eqb (length u.withdrawn) 0) (eqb (length u.nlri) 0 && is_bare (attr_list u.attrs)) nothing
-
-  later : (eqb (length u.nlri) 0 ≡ true) × (is_bare (attr_list u.attrs) ≡ true)
-  later = and_parts (eqb (length u.nlri) 0) (is_bare (attr_list u.attrs)) parts.1
-
-  all : AllByRecursion Bare (attr_list u.attrs)
-  all = all-bare (attr_list u.attrs) later.1
-
-  none-reached : u.attrs.mp_reach ≡ None
-  none-reached =
-      no-reach u.attrs.mp_reach (field-all Bare u.attrs MP_REACH_NLRI refl all)
-
-  none-gone : (gone_ip4 u.attrs.mp_unreach ≡ []) × (gone_ip6 u.attrs.mp_unreach ≡ [])
-  none-gone =
-      no-gone u.attrs.mp_unreach (field-all Bare u.attrs MP_UNREACH_NLRI refl all)
-
-  none-withdrawn : u.withdrawn ≡ []
-  none-withdrawn = nil_from_length u.withdrawn (eqb-true (length u.withdrawn) 0 parts.0)
-
-  none-in_nlri : u.nlri ≡ []
-  none-in_nlri = nil_from_length u.nlri (eqb-true (length u.nlri) 0 later.0)
-
-  none-announced : (ltb 0 (length u.nlri) || has_routes u.attrs.mp_reach) ≡ false
-  none-announced = ap₂ (λ (ps : List PrefixValue) (o : Option MpReach). ltb 0 (length ps) || has_routes o) none-in_nlri none-reached
-
-  pub nothing-learned : (drops : ℕ → Bool) → lesson_by drops None (Message.Update u) ≡ no_lesson
-  nothing-learned drops = λ i. record {
-    peer = None;
-    gone_ip4 = ap₂ (λ (ps qs : List PrefixValue). ps ++ qs) none-withdrawn none-gone.0 i;
-    gone_ip6 = none-gone.1 i;
-    announced = told i;
-    ended = None;
-    said = None;
-  }
-    where
-      told : announced_by drops u ≡ None
-      told = cond-false (announces u) (Some (record { attrs = record (cleaned_attrs drops u.attrs) { mp_unreach = None }; nlri = u.nlri })) None none-announced
-
--- what is learned of an UPDATE, where these are the attributes that stay of it
-abbrev learned : Option ℕ → Update → Update → Lesson
-learned family u stays = record {
-  peer = None;
-  gone_ip4 = u.withdrawn ++ gone_ip4 u.attrs.mp_unreach;
-  gone_ip6 = gone_ip6 u.attrs.mp_unreach;
-  announced = if announces u then Some (record { attrs = record stays.attrs { mp_unreach = None }; nlri = u.nlri }) else None;
-  ended = family;
-  said = None;
+pub both-none : (l : Lesson) → both l no_lesson ≡ l
+both-none l = λ i. record {
+  peer = or-none l.peer i;
+  gone_ip4 = append-nil l.gone_ip4 i;
+  gone_ip6 = append-nil l.gone_ip6 i;
+  announced = append-nil l.announced i;
+  ended = or-none l.ended i;
+  said = or-none l.said i;
 }
-
--- without the attributes that are left out, the same is learned
-pub cleaned-learned : (drops : ℕ → Bool) (family : Option ℕ) (u : Update)
-    → lesson_by drops family (Message.Update (cleaned_update drops u)) ≡ lesson_by drops family (Message.Update u)
-cleaned-learned drops family u = ap (learned family u) (dropped-again drops u)
 
 -- ---- routes that are withdrawn
 
-unreach-gone : (ps : List PrefixValue) → (gone_ip4 (unreach_of ps) ≡ []) × (gone_ip6 (unreach_of ps) ≡ ps)
+pub unreach-gone : (ps : List PrefixValue) → (gone_ip4 (unreach_of ps) ≡ []) × (gone_ip6 (unreach_of ps) ≡ ps)
 unreach-gone [] = (refl, refl)
 unreach-gone (p ∷ ps) = (refl, refl)
 
-pub withdrawal-learned : (drops : ℕ → Bool) (routes : Routes)
-    → lesson_by drops None (Message.Update (withdrawal routes)) ≡ record no_lesson { gone_ip4 = routes.ip4; gone_ip6 = routes.ip6 }
+abbrev routes : List PrefixValue → List PrefixValue → Routes
+routes ip4 ip6 = record { ip4 = ip4; ip6 = ip6 }
+
+-- a withdrawal withdraws its routes, and no others
+pub withdrawal-gone : (r : Routes) → gone_routes (withdrawal r) ≡ r
 unfolding attrs_from
-withdrawal-learned drops routes = λ i. record {
-  peer = None;
-  gone_ip4 = (ap (λ (ps : List PrefixValue). routes.ip4 ++ ps) (unreach-gone routes.ip6).0 ∙ append-nil routes.ip4) i;
-  gone_ip6 = (unreach-gone routes.ip6).1 i;
-  announced = None;
-  ended = None;
-  said = None;
-}
+withdrawal-gone r = ap₂ (λ (x y : List PrefixValue). routes (r.ip4 ++ x) y) (unreach-gone r.ip6).0 (unreach-gone r.ip6).1 ∙ ap (λ (x : List PrefixValue). routes x r.ip6) (append-nil r.ip4)
+
+-- none are none
+pub none-gone : (r : Routes) → has_any r ≡ false → gone_lesson r ≡ no_lesson
+none-gone r e =
+    let none = or_parts (ltb 0 (length r.ip4)) (ltb 0 (length r.ip6)) e in
+    ap₂ (λ (x y : List PrefixValue). gone_lesson (routes x y))
+    (nil_from_length r.ip4 (omega (arith, ltb-false 0 (length r.ip4) none.0))) (nil_from_length r.ip6 (omega (arith, ltb-false 0 (length r.ip6) none.1)))
+
+taught-ended : (there refused : Bool) (a : Announced) → (taught_by there refused a).ended ≡ None
+taught-ended true true a = refl
+taught-ended true false a = refl
+taught-ended false refused a = refl
+
+-- an UPDATE by itself ends no family
+pub lesson-ended : (refuses : Update → Bool) (u : Update) → (lesson_of refuses u).ended ≡ None
+lesson-ended refuses u =
+    ap₂ (λ (x y : Option ℕ). option_or x y) (taught-ended (has_any (nlri_routes u)) (refuses (nlri_part u)) (announced_nlri u))
+    (taught-ended (has_any (reached_routes u)) (refuses (reached_part u)) (announced_reached u))
+
+abbrev pub with_reach : Update → Option MpReach → Update
+with_reach u r = record u { attrs = record u.attrs { mp_reach = r } }
+
+module _ (refuses : Update → Bool) where
+  pub withdrawal-learned : (r : Routes) → lesson_of refuses (withdrawal r) ≡ gone_lesson r
+  unfolding attrs_from
+  withdrawal-learned r = ap (λ (x : Routes). both (gone_lesson x) no_lesson) (withdrawal-gone r) ∙ both-none (gone_lesson r)
+
+  -- ---- routes that are announced
+
+  pub nlri-learned : (u : Update) → has_any (nlri_routes u) ≡ true → refuses (nlri_part u) ≡ false → lesson_of refuses (nlri_part u) ≡ announced_lesson (announced_nlri u)
+  nlri-learned u there keeps =
+      ap₂ (λ (s t : Bool). both no_lesson (both (taught_by s t (announced_nlri u)) no_lesson)) there keeps
+      ∙ ap (λ (l : Lesson). both no_lesson l) (both-none (announced_lesson (announced_nlri u)))
+
+  -- of IPv4 or IPv6
+  reached-by : (u : Update) (r : Option MpReach) → (let w : Update = with_reach u r in
+      has_any (reached_routes w) ≡ true → refuses (reached_part w) ≡ false → lesson_of refuses (reached_part w) ≡ announced_lesson (announced_reached w))
+  reached-by u None there keeps = absurd (false≢true there)
+  reached-by u (Some (MpReach.Ip4 hop [])) there keeps = absurd (false≢true there)
+  reached-by u (Some (MpReach.Ip4 hop (p ∷ ps))) there keeps =
+      let w : Update = with_reach u (Some (MpReach.Ip4 hop (p ∷ ps))) in
+      ap₂ (λ (s t : Bool). both no_lesson (both (taught_by s t (announced_reached w)) no_lesson)) there keeps
+      ∙ ap (λ (l : Lesson). both no_lesson l) (both-none (announced_lesson (announced_reached w)))
+  reached-by u (Some (MpReach.Ip6 hop link ps)) there keeps =
+      let w : Update = with_reach u (Some (MpReach.Ip6 hop link ps)) in
+      ap₂ (λ (s t : Bool). both no_lesson (both no_lesson (taught_by s t (announced_reached w)))) there keeps
+
+  pub reached-learned : (u : Update) → has_any (reached_routes u) ≡ true → refuses (reached_part u) ≡ false → lesson_of refuses (reached_part u) ≡ announced_lesson (announced_reached u)
+  reached-learned u there keeps = reached-by u u.attrs.mp_reach there keeps
+
+-- ---- without the attributes that are left out, the same is learned
+
+pub cleaned-learned : (drops : ℕ → Bool) (refuses : Update → Bool) (family : Option ℕ) (u : Update)
+    → lesson_by drops refuses family (Message.Update (cleaned_update drops u)) ≡ lesson_by drops refuses family (Message.Update u)
+cleaned-learned drops refuses family u = ap (λ (v : Update). record (lesson_of refuses v) { ended = family }) (dropped-again drops u)

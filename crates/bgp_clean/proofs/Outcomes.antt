@@ -1,11 +1,11 @@
 -- What of a message's outcome can be handed on.
 use Rattle.bgp_clean.proofs.Prelude.{◌≡◌, ℕ, ◌+◌, ◌≤◌, Bool, true, false, cond, List, [], ◌∷◌, ◌++◌, length, drop, Option, Some, None, Result, Ok, Err, refl}
 use Rattle.bgp_clean.proofs.Prelude.{sym, ap, ap₂, subst, ◌∙◌, arith, nil_from_length, slice_index, AreOctets, Kind, octets_of, header, IsLength}
-use Rattle.bgp_clean.proofs.Prelude.{Notification, length-octets_of, Context, OpenFault, Open, open_notification, reading_of, is_bad, Invalid, Note, Routes}
+use Rattle.bgp_clean.proofs.Prelude.{Notification, Context, OpenFault, Open, open_notification, reading_of, is_bad, Invalid, Note, Routes}
 use Rattle.bgp_clean.proofs.Prelude.{Update, Verdict, verdict_of, withdrawal_octets, Message, Outcome, of_open_fault, of_reading, of_verdict, of_body}
-use Rattle.bgp_clean.proofs.Prelude.{notification_in, out_of, kind_of, notification_octets, written}
+use Rattle.bgp_clean.proofs.Prelude.{notification_in, out_of, kind_of, notification_octets}
 use Rattle.bgp_frame.specs.Frame as frame
-use Rattle.bgp_update.specs.Written as updates
+use Rattle.bgp_clean.proofs.Prelude.{CanBeWritten, taken-written}
 use Rattle.bgp_update.proofs.Withdrawals.{withdrawal-short}
 use Rattle.bgp_msg.specs.Prelude.{canonical}
 use Rattle.bgp_msg.proofs.TakenMessages.{taken-body}
@@ -18,14 +18,6 @@ module _ (ctx : Context) (m : frame.Message) (octets : AreOctets m.body) (allowe
   -- an OPEN that is accepted is valid
   pub open_good : (o : Open) (notes : List Note) → out_of ctx m ≡ Outcome.Took (Message.Open o) notes → is_bad o ≡ false
   open_good o notes is = good-by (is_bad o) (taken-body ctx m (Message.Open o) notes octets allowed is).valid
-
-  -- and an UPDATE is, and short
-  pub update_valid : (u : Update) (notes : List Note) → out_of ctx m ≡ Outcome.Took (Message.Update u) notes → updates.invalid_of ctx u ≡ None
-  update_valid u notes is = (taken-body ctx m (Message.Update u) notes octets allowed is).valid
-
-  pub update_short : length m.body ≤ 4077 → (u : Update) (notes : List Note) → out_of ctx m ≡ Outcome.Took (Message.Update u) notes → length (updates.written_body ctx u) ≤ 4077
-  update_short most u notes is =
-      omega (arith, most, (taken-body ctx m (Message.Update u) notes octets allowed is).no_longer, length-octets_of m, length-octets_of (written ctx (Message.Update u)))
 
 -- ---- the kind of a message with an outcome
 
@@ -77,6 +69,11 @@ withdrawn-by (Verdict.Take u ns) routes notes e = absurd cc
 withdrawn-by (Verdict.Withdraw r ns) routes notes e = cc
 withdrawn-by (Verdict.Reset n) routes notes e = absurd cc
 
+accepted-by : (v : Verdict) (u : Update) (notes : List Note) → of_verdict v ≡ Outcome.Took (Message.Update u) notes → v ≡ Verdict.Take u notes
+accepted-by (Verdict.Take w ns) u notes e = cc
+accepted-by (Verdict.Withdraw r ns) u notes e = absurd cc
+accepted-by (Verdict.Reset n) u notes e = absurd cc
+
 pub at_most : (k : Kind) (n : ℕ) → IsLength k (19 + n) → n ≤ 4077
 at_most Kind.Open n allowed = omega (arith, allowed.most)
 at_most Kind.Update n allowed = omega (arith, allowed.most)
@@ -111,3 +108,9 @@ module _ (ctx : Context) (m : frame.Message) (allowed : IsLength m.kind (19 + le
       let of : m.kind ≡ Kind.Update = is-kind (Outcome.Withdraw routes notes) Kind.Update is refl in
       let verdict_is = withdrawn-by (verdict_of ctx m.body) routes notes (as-kind (Outcome.Withdraw routes notes) Kind.Update is of) in
       omega (arith, at_most m.kind (length m.body) allowed, withdrawal-short ctx m.body routes notes octets verdict_is)
+
+  -- an UPDATE that is accepted can be written in its context
+  pub update_can : AreOctets m.body → (u : Update) (notes : List Note) → out_of ctx m ≡ Outcome.Took (Message.Update u) notes → CanBeWritten ctx u m.body
+  update_can octets u notes is =
+      let of : m.kind ≡ Kind.Update = is-kind (Outcome.Took (Message.Update u) notes) Kind.Update is refl in
+      taken-written ctx m.body u notes octets (accepted-by (verdict_of ctx m.body) u notes (as-kind (Outcome.Took (Message.Update u) notes) Kind.Update is of))

@@ -1,13 +1,14 @@
 -- The UPDATE that withdraws a message's routes: it can be written where the message was read, in no more octets, and says something.
-use Rattle.bgp_clean.proofs.Prelude.{◌≡◌, ℕ, ◌+◌, ◌≤◌, Bool, true, false, not, cond, eqb, ltb, List, [], ◌∷◌, ◌++◌, length, Option, Some, None, refl, sym, ap}
-use Rattle.bgp_clean.proofs.Prelude.{subst, ◌∙◌, arith, flat_map, list_any, AllByRecursion, option_or, both_ways, false≢true, and_parts, and_right, or_from}
-use Rattle.bgp_clean.proofs.Prelude.{not_from_true, flat_map-append, eqb-true, append-nil, length-append, AreOctets, Row, Context, PrefixValue, IsValid}
+use Rattle.bgp_clean.proofs.Prelude.{◌≡◌, ℕ, ◌+◌, ◌≤◌, Bool, true, false, not, cond, ltb, List, [], ◌∷◌, ◌++◌, length, Option, Some, None, refl, sym, ap}
+use Rattle.bgp_clean.proofs.Prelude.{subst, ◌∙◌, arith, flat_map, list_any, AllByRecursion, option_or, both_ways, and_right, or_from}
+use Rattle.bgp_clean.proofs.Prelude.{not_from_true, flat_map-append, append-nil, length-append, AreOctets, Row, Context, PrefixValue, IsValid}
 use Rattle.bgp_clean.proofs.Prelude.{IsPrefix, spelling_of, run_of, Row-rewritten, Attr, MpReach, MpUnreach, link_octets, canonical, run_octets, is_too_wide}
 use Rattle.bgp_clean.proofs.Prelude.{is_as4, is_empty, has_as_zero, stands_twice, Belongs, HasRanges, value_octets, IPV4, IPV6, Attrs, Note, Routes, Update}
 use Rattle.bgp_clean.proofs.Prelude.{CanBeWritten, marks_of, reached_ip4, reached_ip6, gone_ip4, gone_ip6, has_routes, is_reachable, routes_of, Parts, IsBody}
 use Rattle.bgp_clean.proofs.Prelude.{present, attr_list, attrs_from, kept_of, attrs_of, first_reset, reset_of_run, reset_of, verdict_of, attributes_octets}
 use Rattle.bgp_clean.proofs.Prelude.{written_body, is_out_of_place, HasUpdateRanges, Verdict, has_nlri, length-body, all-append, run-row, row-some}
-use Rattle.bgp_clean.proofs.Prelude.{IsAccepted, accepted-valid, unreach_of, withdrawal, is_bare, says_nothing, has-parts, withdrawn-of}
+use Rattle.bgp_clean.proofs.Prelude.{or_parts, ltb-false, valid-accepted, none-all, gone_routes, nlri_routes, reached_routes}
+use Rattle.bgp_clean.proofs.Prelude.{IsAccepted, accepted-valid, unreach_of, withdrawal, has_any, has-parts, withdrawn-of}
 use Rattle.bgp_attr.proofs.CanonicalLength.{length-canonical, reach_added}
 use Rattle.bgp_attr.proofs.RouteRows.{prefixes-valid}
 use Rattle.bgp_update.proofs.KeptMarks.{or-parts}
@@ -31,18 +32,18 @@ head-bounds : (t : Bool) → (1 ≤ cond t 2 1) × (cond t 2 1 ≤ 2)
 head-bounds true = (omega arith, omega arith)
 head-bounds false = (omega arith, omega arith)
 
-abbrev run : List PrefixValue → ℕ
+abbrev pub run : List PrefixValue → ℕ
 run ps = length (run_octets ps)
 
 run-append : (ps qs : List PrefixValue) → run (ps ++ qs) ≡ run ps + run qs
 run-append ps qs = ap length (flat_map-append spelling_of ps qs) ∙ length-append (run_octets ps) (run_octets qs)
 
 module _ (ctx : Context) where
-  abbrev size : List Attr → ℕ
+  abbrev pub size : List Attr → ℕ
   size xs = length (flat_map (canonical ctx) xs)
 
   -- a value behind three octets or four
-  size-one : (x : Attr) → (3 + length (value_octets ctx x) ≤ size (x ∷ [])) × (size (x ∷ []) ≤ 4 + length (value_octets ctx x))
+  pub size-one : (x : Attr) → (3 + length (value_octets ctx x) ≤ size (x ∷ [])) × (size (x ∷ []) ≤ 4 + length (value_octets ctx x))
   size-one x =
       let bounds = head-bounds (ltb 255 (length (value_octets ctx x))) in
       let one : size (x ∷ []) ≡ length (canonical ctx x) = ap length (append-nil (canonical ctx x)) in
@@ -119,10 +120,46 @@ gone-ranges : (ps : List PrefixValue) → AllByRecursion (IsValid 16) ps → All
 gone-ranges [] valid = tt
 gone-ranges (p ∷ ps) valid = (valid, tt)
 
--- an attribute that withdraws routes isn't bare
-bare-none : (ps : List PrefixValue) → is_bare (gone_attr ps) ≡ true → length ps ≡ 0
-bare-none [] e = refl
-bare-none (p ∷ ps) e = absurd (false≢true e)
+-- ---- routes that can be withdrawn
+
+module _ (ctx : Context) (r : Routes) (v4 : AllByRecursion (IsValid 4) r.ip4) (v6 : AllByRecursion (IsValid 16) r.ip6)
+    (used : list_any (is_out_of_place ctx) (gone_attr r.ip6) ≡ false) where
+  abbrev said : Update
+  said = withdrawal r
+
+  none-of : (test : Attr → Bool) → list_any test (gone_attr r.ip6) ≡ false → list_any test (attr_list said.attrs) ≡ false
+  none-of test e = subst (λ (xs : List Attr). list_any test xs ≡ false) (sym (unreach-list (unreach_of r.ip6))) e
+
+  accepted : IsAccepted ctx said
+  unfolding attrs_from
+  accepted = record {
+    complete = refl;
+    next_hop = refl;
+    local_pref = refl;
+    narrow = none-of (is_too_wide ctx) (gone-none (is_too_wide ctx) (λ r. refl) r.ip6);
+    allowed = and_right ctx.as4 (list_any is_as4 (attr_list said.attrs)) (none-of is_as4 (gone-none is_as4 (λ r. refl) r.ip6));
+    family = none-of (is_out_of_place ctx) used;
+    some = none-of is_empty (gone-none is_empty (λ r. refl) r.ip6);
+    others = refl;
+    nonzero = none-of has_as_zero (gone-none has_as_zero (λ r. refl) r.ip6);
+    once = none-of stands_twice (gone-none stands_twice (λ r. refl) r.ip6);
+  }
+
+  ranges : HasUpdateRanges said
+  unfolding attrs_from
+  ranges = record {
+    withdrawn = v4;
+    attributes = subst (λ (xs : List Attr). AllByRecursion HasRanges xs) (sym (unreach-list (unreach_of r.ip6))) (gone-ranges r.ip6 v6);
+    others = tt;
+    nlri = tt;
+  }
+
+  pub withdrawal-can : (body : List ℕ) → 4 + (run r.ip4 + size ctx (gone_attr r.ip6)) ≤ length body → CanBeWritten ctx (withdrawal r) body
+  withdrawal-can body le =
+      let to : length (written_body ctx said) ≡ 4 + (run r.ip4 + (length (attributes_octets ctx said.attrs) + 0)) =
+      length-body (run_octets r.ip4) (attributes_octets ctx said.attrs) [] in
+      let attributes : length (attributes_octets ctx said.attrs) ≡ size ctx (gone_attr r.ip6) = ap (λ (xs : List Attr). size ctx xs) (unreach-list (unreach_of r.ip6)) in
+      record { valid = accepted-valid ctx said accepted; ranges = ranges; no_longer = omega (arith, to, attributes, le) }
 
 -- ---- a message that is treated as a withdrawal
 
@@ -143,8 +180,8 @@ module _ (ctx : Context) (p : Parts) (octets_w : AreOctets p.withdrawn) (octets_
   abbrev ip6 : List PrefixValue
   ip6 = gone_ip6 a.mp_unreach ++ reached_ip6 a.mp_reach
 
-  abbrev said : Update
-  said = withdrawal (routes_of p (marks_of ctx p))
+  abbrev routes : Routes
+  routes = routes_of p (marks_of ctx p)
 
   held : AreHeld ctx (has_nlri p) a (length p.attributes)
   held = are-held ctx p octets_a
@@ -160,70 +197,46 @@ module _ (ctx : Context) (p : Parts) (octets_w : AreOctets p.withdrawn) (octets_
   row-n : Row (IsPrefix 4) ns p.nlri
   row-n = run-row p.nlri runs.1
 
-  none-of : (test : Attr → Bool) → list_any test (gone_attr ip6) ≡ false → list_any test (attr_list said.attrs) ≡ false
-  none-of test e = subst (λ (xs : List Attr). list_any test xs ≡ false) (sym (unreach-list (unreach_of ip6))) e
-
   family : list_any (is_out_of_place ctx) (gone_attr ip6) ≡ false
   family =
       in-family ctx (has_nlri p) a.mp_unreach a.mp_reach
       (unreach-all a (Belongs ctx (has_nlri p)) held.in_place) (reach-all a (Belongs ctx (has_nlri p)) held.in_place)
 
-  accepted : IsAccepted ctx said
-  unfolding attrs_from
-  accepted = record {
-    complete = refl;
-    next_hop = refl;
-    local_pref = refl;
-    narrow = none-of (is_too_wide ctx) (gone-none (is_too_wide ctx) (λ r. refl) ip6);
-    allowed = and_right ctx.as4 (list_any is_as4 (attr_list said.attrs)) (none-of is_as4 (gone-none is_as4 (λ r. refl) ip6));
-    family = none-of (is_out_of_place ctx) family;
-    some = none-of is_empty (gone-none is_empty (λ r. refl) ip6);
-    others = refl;
-    nonzero = none-of has_as_zero (gone-none has_as_zero (λ r. refl) ip6);
-    once = none-of stands_twice (gone-none stands_twice (λ r. refl) ip6);
-  }
-
-  ranges : HasUpdateRanges said
-  unfolding attrs_from
-  ranges =
+  valid4 : AllByRecursion (IsValid 4) ip4
+  valid4 =
       let u = unreach-valid a.mp_unreach (unreach-all a HasRanges held.ranges) in
       let r = reach-valid a.mp_reach (reach-all a HasRanges held.ranges) in
       let w = prefixes-valid 4 ws p.withdrawn octets_w row-w in
       let n = prefixes-valid 4 ns p.nlri octets_n row-n in
-      record {
-        withdrawn =
-            all-append (IsValid 4) ws (gone_ip4 a.mp_unreach ++ (reached_ip4 a.mp_reach ++ ns)) w
-            (all-append (IsValid 4) (gone_ip4 a.mp_unreach) (reached_ip4 a.mp_reach ++ ns) u.0 (all-append (IsValid 4) (reached_ip4 a.mp_reach) ns r.0 n));
-        attributes =
-            subst (λ (xs : List Attr). AllByRecursion HasRanges xs) (sym (unreach-list (unreach_of ip6)))
-            (gone-ranges ip6 (all-append (IsValid 16) (gone_ip6 a.mp_unreach) (reached_ip6 a.mp_reach) u.1 r.1));
-        others = tt;
-        nlri = tt;
-      }
+      all-append (IsValid 4) ws (gone_ip4 a.mp_unreach ++ (reached_ip4 a.mp_reach ++ ns)) w
+      (all-append (IsValid 4) (gone_ip4 a.mp_unreach) (reached_ip4 a.mp_reach ++ ns) u.0 (all-append (IsValid 4) (reached_ip4 a.mp_reach) ns r.0 n))
 
-  no-longer : (body : List ℕ) → IsBody p body → length (written_body ctx said) ≤ length body
-  no-longer body s =
+  valid6 : AllByRecursion (IsValid 16) ip6
+  valid6 =
+      let u = unreach-valid a.mp_unreach (unreach-all a HasRanges held.ranges) in
+      let r = reach-valid a.mp_reach (reach-all a HasRanges held.ranges) in
+      all-append (IsValid 16) (gone_ip6 a.mp_unreach) (reached_ip6 a.mp_reach) u.1 r.1
+
+  fits : (body : List ℕ) → IsBody p body → 4 + (run ip4 + size ctx (gone_attr ip6)) ≤ length body
+  fits body s =
       let w : run ws ≡ length p.withdrawn = (Row-rewritten 4 ws p.withdrawn octets_w row-w).1 in
       let n : run ns ≡ length p.nlri = (Row-rewritten 4 ns p.nlri octets_n row-n).1 in
-      let to : length (written_body ctx said) ≡ 4 + (run ip4 + (length (attributes_octets ctx said.attrs) + 0)) =
-      length-body (run_octets ip4) (attributes_octets ctx said.attrs) [] in
       let from : length body ≡ 4 + (length p.withdrawn + (length p.attributes + length p.nlri)) = ap length s.octets ∙ length-body p.withdrawn p.attributes p.nlri in
-      let attributes : length (attributes_octets ctx said.attrs) ≡ size ctx (gone_attr ip6) = ap (λ (xs : List Attr). size ctx xs) (unreach-list (unreach_of ip6)) in
       let first = run-append ws (gone_ip4 a.mp_unreach ++ (reached_ip4 a.mp_reach ++ ns)) in
       let second = run-append (gone_ip4 a.mp_unreach) (reached_ip4 a.mp_reach ++ ns) in
       let third = run-append (reached_ip4 a.mp_reach) ns in
       let within : size ctx (reach_attr a) + size ctx (unreach_attr a) ≤ size ctx (attr_list a) = both-within a (canonical ctx) in
       let field : size ctx (attr_list a) ≤ length p.attributes = held.shorter in
-      let routes = routes-fit ctx a.mp_unreach a.mp_reach in
-      omega (arith, to, from, w, n, attributes, first, second, third, within, field, routes)
+      let routes_fit = routes-fit ctx a.mp_unreach a.mp_reach in
+      omega (arith, from, w, n, first, second, third, within, field, routes_fit)
 
-  -- ---- it says something
+  -- ---- it has routes
 
-  silent : says_nothing said ≡ true → is_reachable p (marks_of ctx p) ≡ false
+  silent : has_any routes ≡ false → is_reachable p (marks_of ctx p) ≡ false
   silent e =
-      let both = and_parts (eqb (length ip4) 0) (is_bare (attr_list said.attrs)) e in
-      let none4 : length ip4 ≡ 0 = eqb-true (length ip4) 0 both.0 in
-      let none6 : length ip6 ≡ 0 = bare-none ip6 (subst (λ (xs : List Attr). is_bare xs ≡ true) (unreach-list (unreach_of ip6)) both.1) in
+      let both = or_parts (ltb 0 (length ip4)) (ltb 0 (length ip6)) e in
+      let none4 : length ip4 ≤ 0 = ltb-false 0 (length ip4) both.0 in
+      let none6 : length ip6 ≤ 0 = ltb-false 0 (length ip6) both.1 in
       let first = length-append ws (gone_ip4 a.mp_unreach ++ (reached_ip4 a.mp_reach ++ ns)) in
       let second = length-append (gone_ip4 a.mp_unreach) (reached_ip4 a.mp_reach ++ ns) in
       let third = length-append (reached_ip4 a.mp_reach) ns in
@@ -234,20 +247,71 @@ module _ (ctx : Context) (p : Parts) (octets_w : AreOctets p.withdrawn) (octets_
       or_from (has_nlri p) (has_routes a.mp_reach) (sym (row-some ns p.nlri row-n) ∙ ap (ltb 0) no_nlri)
       (or_from (ltb 0 (length (reached_ip4 a.mp_reach))) (ltb 0 (length (reached_ip6 a.mp_reach))) (ap (ltb 0) none_reached4) (ap (ltb 0) none_reached6))
 
-  says-by : (t : Bool) → says_nothing said ≡ t → says_nothing said ≡ false
-  says-by true e = absurd (both_ways (is_reachable p (marks_of ctx p)) (silent e) reachable)
-  says-by false e = e
+  has-by : (t : Bool) → has_any routes ≡ t → has_any routes ≡ true
+  has-by true e = e
+  has-by false e = absurd (both_ways (is_reachable p (marks_of ctx p)) (silent e) reachable)
 
   abbrev IsWithdrawal : Routes → List ℕ → Type 0
-  IsWithdrawal routes body = CanBeWritten ctx (withdrawal routes) body × (says_nothing (withdrawal routes) ≡ false)
+  IsWithdrawal r body = CanBeWritten ctx (withdrawal r) body × (has_any r ≡ true)
 
-  is-withdrawal : (body : List ℕ) → IsBody p body → IsWithdrawal (routes_of p (marks_of ctx p)) body
-  is-withdrawal body s = (record { valid = accepted-valid ctx said accepted; ranges = ranges; no_longer = no-longer body s }, says-by (says_nothing said) refl)
+  is-withdrawal : (body : List ℕ) → IsBody p body → IsWithdrawal routes body
+  is-withdrawal body s = (withdrawal-can ctx routes valid4 valid6 family body (fits body s), has-by (has_any routes) refl)
 
 pub withdrawal-written : (ctx : Context) (body : List ℕ) → AreOctets body → (routes : Routes) (notes : List Note) → verdict_of ctx body ≡ Verdict.Withdraw routes notes
-    → CanBeWritten ctx (withdrawal routes) body × (says_nothing (withdrawal routes) ≡ false)
+    → CanBeWritten ctx (withdrawal routes) body × (has_any routes ≡ true)
 withdrawal-written ctx body octets routes notes e =
     let is = withdrawn-of ctx body routes notes e in
     let p = has-parts body is.parts octets is.found in
-    subst (λ (r : Routes). CanBeWritten ctx (withdrawal r) body × (says_nothing (withdrawal r) ≡ false)) is.routes_are
+    subst (λ (r : Routes). CanBeWritten ctx (withdrawal r) body × (has_any r ≡ true)) is.routes_are
     (is-withdrawal ctx is.parts p.withdrawn p.attributes p.nlri is.no_reset is.reachable body p.is_body)
+
+-- ---- the routes of an UPDATE that can be written can be withdrawn, some at a time
+
+gone-family : (ctx : Context) (o : Option MpUnreach) → AllByRecursion (λ x. is_out_of_place ctx x ≡ false) (unreach_attrs o) → list_any (is_out_of_place ctx) (gone_attr (gone_ip6 o)) ≡ false
+gone-family ctx None all = refl
+gone-family ctx (Some (MpUnreach.Ip4 ps)) all = refl
+gone-family ctx (Some (MpUnreach.Ip6 [])) all = refl
+gone-family ctx (Some (MpUnreach.Ip6 (p ∷ ps))) all = or_from (not ctx.ip6) false all.0 refl
+
+reached-family : (ctx : Context) (o : Option MpReach) → AllByRecursion (λ x. is_out_of_place ctx x ≡ false) (reach_list o) → list_any (is_out_of_place ctx) (gone_attr (reached_ip6 o)) ≡ false
+reached-family ctx None all = refl
+reached-family ctx (Some (MpReach.Ip4 hop ps)) all = refl
+reached-family ctx (Some (MpReach.Ip6 hop link [])) all = refl
+reached-family ctx (Some (MpReach.Ip6 hop link (p ∷ ps))) all = or_from (not ctx.ip6) false all.0 refl
+
+gone-fit : (ctx : Context) (o : Option MpUnreach) → run (gone_ip4 o) + size ctx (gone_attr (gone_ip6 o)) ≤ size ctx (unreach_attrs o)
+gone-fit ctx None = omega arith
+gone-fit ctx (Some (MpUnreach.Ip4 ps)) = omega (arith, unreach4-least ctx ps)
+gone-fit ctx (Some (MpUnreach.Ip6 ps)) = omega (arith, size-own ctx ps)
+
+reached-fit : (ctx : Context) (o : Option MpReach) → run (reached_ip4 o) + size ctx (gone_attr (reached_ip6 o)) ≤ size ctx (reach_list o)
+reached-fit ctx None = omega arith
+reached-fit ctx (Some (MpReach.Ip4 hop ps)) = omega (arith, reach4-least ctx hop ps)
+reached-fit ctx (Some (MpReach.Ip6 hop link ps)) = omega (arith, reach6-least ctx hop link ps, size-gone ctx ps)
+
+module _ (ctx : Context) (u : Update) (body : List ℕ) (can : CanBeWritten ctx u body) where
+  in-place : AllByRecursion (λ x. is_out_of_place ctx x ≡ false) (attr_list u.attrs)
+  in-place = none-all (is_out_of_place ctx) (attr_list u.attrs) (valid-accepted ctx u can.valid).family
+
+  whole : 4 + (run u.withdrawn + (size ctx (attr_list u.attrs) + run u.nlri)) ≤ length body
+  whole = omega (arith, can.no_longer, length-body (run_octets u.withdrawn) (attributes_octets ctx u.attrs) (run_octets u.nlri))
+
+  within-both : size ctx (reach_attr u.attrs) + size ctx (unreach_attr u.attrs) ≤ size ctx (attr_list u.attrs)
+  within-both = both-within u.attrs (canonical ctx)
+
+  pub gone-can : CanBeWritten ctx (withdrawal (gone_routes u)) body
+  gone-can =
+      let valid = unreach-valid u.attrs.mp_unreach (unreach-all u.attrs HasRanges can.ranges.attributes) in
+      withdrawal-can ctx (gone_routes u) (all-append (IsValid 4) u.withdrawn (gone_ip4 u.attrs.mp_unreach) can.ranges.withdrawn valid.0) valid.1
+      (gone-family ctx u.attrs.mp_unreach (unreach-all u.attrs (λ x. is_out_of_place ctx x ≡ false) in-place)) body
+      (omega (arith, whole, within-both, gone-fit ctx u.attrs.mp_unreach, run-append u.withdrawn (gone_ip4 u.attrs.mp_unreach)))
+
+  pub nlri-can : CanBeWritten ctx (withdrawal (nlri_routes u)) body
+  nlri-can = withdrawal-can ctx (nlri_routes u) can.ranges.nlri tt refl body (omega (arith, whole))
+
+  pub reached-can : CanBeWritten ctx (withdrawal (reached_routes u)) body
+  reached-can =
+      let valid = reach-valid u.attrs.mp_reach (reach-all u.attrs HasRanges can.ranges.attributes) in
+      withdrawal-can ctx (reached_routes u) valid.0 valid.1
+      (reached-family ctx u.attrs.mp_reach (reach-all u.attrs (λ x. is_out_of_place ctx x ≡ false) in-place)) body
+      (omega (arith, whole, within-both, reached-fit ctx u.attrs.mp_reach))

@@ -1,5 +1,5 @@
 -- What is handed on of a message, and where a cleaned stream ends (RFC 7606, sections 2 and 5; RFC 4271, section 6).
-use Rattle.std.specs.Prelude.{ℕ, Bool, not, ◌||◌, List, Option, None, is_some, Result, Ok, Err, if◌then◌else◌}
+use Rattle.std.specs.Prelude.{ℕ, Bool, List, [], ◌∷◌, map, Option, None, Some, Result, Ok, Err, if◌then◌else◌}
 use Rattle.bgp_frame.specs.declared.kind.Kind.{Kind}
 use Rattle.bgp_frame.specs.Frame as frame
 use Rattle.bgp_open.specs.declared.context.Context.{Context}
@@ -11,7 +11,7 @@ use Rattle.bgp_msg.specs.declared.outcome.Outcome.{Outcome}
 use Rattle.bgp_msg.specs.Prelude.{out_of}
 use Rattle.bgp_clean.specs.declared.fault.CleanFault.{CleanFault}
 use Rattle.bgp_clean.specs.Opens.{cleaned_open, lacks_family}
-use Rattle.bgp_clean.specs.Updates.{cleaned_update, withdrawal, says_nothing}
+use Rattle.bgp_clean.specs.Updates.{cleaned_update, withdrawal, parts_handed, end_of}
 pub use Rattle.bgp_update.specs.EndOfRib.{family_in}
 
 abbrev pub family_by : Context → Kind → List ℕ → Option ℕ
@@ -23,27 +23,33 @@ abbrev pub ended_family : Context → frame.Message → Option ℕ
 ended_family ctx m = family_by ctx m.kind m.body
 
 -- an OPEN goes on as the first message alone, and where it doesn't lose all of its families
-abbrev pub handed_open : Bool → Open → Result Message CleanFault
+abbrev pub handed_open : Bool → Open → Result (List Message) CleanFault
 handed_open first o =
-    if first then (if lacks_family o then Err CleanFault.NoFamily else Ok (Message.Open (cleaned_open o))) else Err CleanFault.LateOpen
+    if first then (if lacks_family o then Err CleanFault.NoFamily else Ok (Message.Open (cleaned_open o) ∷ [])) else Err CleanFault.LateOpen
 
--- an UPDATE that says nothing goes on where it is an End-of-RIB alone: else a KEEPALIVE does, so that none becomes one
-abbrev pub handed_update : Bool → Update → Message
-handed_update ends u = if ends || not (says_nothing u) then Message.Update u else Message.Keepalive
+-- where no part is left, a KEEPALIVE stands for the UPDATE: none becomes an End-of-RIB
+abbrev pub or_keepalive : List Update → List Message
+or_keepalive [] = Message.Keepalive ∷ []
+or_keepalive (u ∷ us) = map Message.Update (u ∷ us)
+
+-- an UPDATE goes on by its parts, and an End-of-RIB as itself
+abbrev pub handed_update : (Update → Bool) → Option ℕ → Update → List Message
+handed_update refuses (Some family) u = Message.Update (end_of family) ∷ []
+handed_update refuses None u = or_keepalive (parts_handed refuses u)
 
 -- what is handed on of a message that is accepted
-abbrev pub handed : (ℕ → Bool) → Bool → Bool → Message → Result Message CleanFault
-handed drops first ends (Message.Open o) = handed_open first o
-handed drops first ends (Message.Update u) = Ok (handed_update ends (cleaned_update drops u))
-handed drops first ends (Message.Notification n) = Ok (Message.Notification n)
-handed drops first ends Message.Keepalive = Ok Message.Keepalive
+abbrev pub handed : (ℕ → Bool) → (Update → Bool) → Bool → Option ℕ → Message → Result (List Message) CleanFault
+handed drops refuses first family (Message.Open o) = handed_open first o
+handed drops refuses first family (Message.Update u) = Ok (handed_update refuses family (cleaned_update drops u))
+handed drops refuses first family (Message.Notification n) = Ok (Message.Notification n ∷ [])
+handed drops refuses first family Message.Keepalive = Ok (Message.Keepalive ∷ [])
 
-abbrev pub cleaned_outcome : (ℕ → Bool) → Bool → Bool → Outcome → Result Message CleanFault
-cleaned_outcome drops first ends (Outcome.Took said notes) = handed drops first ends said
-cleaned_outcome drops first ends (Outcome.Withdraw routes notes) = Ok (Message.Update (withdrawal routes))
-cleaned_outcome drops first ends (Outcome.Reset n) = Err (CleanFault.Reset n.code n.subcode)
+abbrev pub cleaned_outcome : (ℕ → Bool) → (Update → Bool) → Bool → Option ℕ → Outcome → Result (List Message) CleanFault
+cleaned_outcome drops refuses first family (Outcome.Took said notes) = handed drops refuses first family said
+cleaned_outcome drops refuses first family (Outcome.Withdraw routes notes) = Ok (Message.Update (withdrawal routes) ∷ [])
+cleaned_outcome drops refuses first family (Outcome.Reset n) = Err (CleanFault.Reset n.code n.subcode)
 
--- what is handed on of a message, which is the stream's first one or not, where unrecognised attributes of these types are left out; or why the
--- cleaned stream ends before it
-abbrev pub cleaned : Context → (ℕ → Bool) → Bool → frame.Message → Result Message CleanFault
-cleaned ctx drops first m = cleaned_outcome drops first (is_some (ended_family ctx m)) (out_of ctx m)
+-- The messages that are handed on of one, which is the stream's first one or not, where unrecognised attributes of these types are left out, and UPDATEs
+-- are refused that announce routes so; or why the cleaned stream ends before it
+abbrev pub cleaned : Context → (ℕ → Bool) → (Update → Bool) → Bool → frame.Message → Result (List Message) CleanFault
+cleaned ctx drops refuses first m = cleaned_outcome drops refuses first (ended_family ctx m) (out_of ctx m)

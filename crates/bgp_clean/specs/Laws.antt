@@ -1,39 +1,55 @@
--- What the laws of cleaning say of a message that is handed on, and of a cleaned stream.
-use Rattle.std.specs.Prelude.{◌≡◌, ◌≤◌, ℕ, Bool, List, [], ◌∷◌, length, map, take, Ok}
+-- What the laws of cleaning say of the messages that are handed on, and of a cleaned stream.
+use Rattle.std.specs.Prelude.{◌≡◌, ◌<◌, ◌≤◌, ℕ, Bool, false, List, [], ◌∷◌, length, map, take, Ok}
+use Rattle.std.specs.List.{AllByRecursion}
 use Rattle.bgp_frame.specs.declared.end.End.TheVariants as end
 use Rattle.bgp_frame.specs.Frame as frame
 use Rattle.bgp_frame.specs.Prelude.{octets_of, Gives}
 use Rattle.bgp_open.specs.declared.context.Context.{Context}
+use Rattle.bgp_update.specs.declared.update.Update.{Update}
 use Rattle.bgp_msg.specs.declared.message.Message.{Message}
 use Rattle.bgp_msg.specs.declared.outcome.Outcome.{Outcome}
 use Rattle.bgp_msg.specs.Prelude.{IsTakenAsItself, stream_rules, canonical, written}
 use Rattle.bgp_clean.specs.Clean.{cleaned}
-use Rattle.bgp_clean.specs.Lesson.{lesson}
-use Rattle.bgp_clean.specs.Stream.{cleaned_stream, cleaned_octets}
+use Rattle.bgp_clean.specs.Lesson.{Lesson, all_of, lesson}
+use Rattle.bgp_clean.specs.Stream.{cleaned_each, cleaned_stream, cleaned_octets}
 
--- n is what is handed on of m: a whole message that is accepted without a note, and unchanged where it is cleaned again; no longer; and a hearer
--- learns of it what RFC 7606 has the hearer of m learn
-pub record IsClean (ctx : Context) (drops : ℕ → Bool) (first : Bool) (m : frame.Message) (n : Message) : Type 0 where
-  pub taken : IsTakenAsItself ctx n
-  pub again : cleaned ctx drops first (written ctx n) ≡ Ok n
-  pub no_longer : length (canonical ctx n) ≤ length (octets_of m)
-  pub taught : lesson ctx drops (written ctx n) ≡ lesson ctx drops m
+-- each of these messages is unchanged where it is cleaned again: the first of them as the first of its stream, or as one after it
+abbrev pub AreUnchanged : Context → (ℕ → Bool) → (Update → Bool) → Bool → List Message → Type 0
+AreUnchanged ctx drops refuses first [] = Unit {0}
+AreUnchanged ctx drops refuses first (n ∷ ns) = (cleaned ctx drops refuses first (written ctx n) ≡ Ok (n ∷ [])) × AreUnchanged ctx drops refuses false ns
+
+-- no message is longer than the one that it came from
+abbrev pub AreNoLonger : Context → frame.Message → List Message → Type 0
+AreNoLonger ctx m ns = AllByRecursion (λ n. length (canonical ctx n) ≤ length (octets_of m)) ns
+
+-- what a hearer learns of these messages
+abbrev pub lesson_from : Context → (ℕ → Bool) → (Update → Bool) → List Message → Lesson
+lesson_from ctx drops refuses ns = all_of (map (λ n. lesson ctx drops refuses (written ctx n)) ns)
+
+-- These are handed on of m: one or more whole messages that are accepted without a note, and unchanged where they are cleaned again; none longer than m;
+-- and a hearer learns of them what RFC 7606 has the hearer of m learn
+pub record IsClean (ctx : Context) (drops : ℕ → Bool) (refuses : Update → Bool) (first : Bool) (m : frame.Message) (ns : List Message) : Type 0 where
+  pub some : 0 < length ns
+  pub taken : AllByRecursion (IsTakenAsItself ctx) ns
+  pub again : AreUnchanged ctx drops refuses first ns
+  pub no_longer : AreNoLonger ctx m ns
+  pub taught : lesson_from ctx drops refuses ns ≡ lesson ctx drops refuses m
 
 -- a message that is accepted, without notes
 abbrev pub outcome_of : Context → Message → ℕ × Outcome
 outcome_of ctx n = (length (canonical ctx n), Outcome.Took n [])
 
--- no message is longer than the one it came from
-abbrev pub NoLonger : Context → List Message → List frame.Message → Type 0
+-- the messages that go on of each of these
+abbrev pub NoLonger : Context → List (List Message) → List frame.Message → Type 0
 NoLonger ctx [] ms = Unit {0}
-NoLonger ctx (n ∷ ns) [] = ⊥
-NoLonger ctx (n ∷ ns) (m ∷ ms) = (length (canonical ctx n) ≤ length (octets_of m)) × NoLonger ctx ns ms
+NoLonger ctx (ns ∷ later) [] = ⊥
+NoLonger ctx (ns ∷ later) (m ∷ ms) = AreNoLonger ctx m ns × NoLonger ctx later ms
 
--- The cleaned stream of these messages is whole messages that are accepted without a note, and nothing behind them; cleaned again it is unchanged; no
--- message is longer than the one it came from; and what a hearer learns of it is what the hearer of the first messages of the stream learns, as many
-pub record IsCleanStream (ctx : Context) (drops : ℕ → Bool) (ms : List frame.Message) : Type 0 where
-  pub taken : Gives (stream_rules ctx) (cleaned_octets ctx drops ms) (map (outcome_of ctx) (cleaned_stream ctx drops ms)) (end.Wait 0)
-  pub again : cleaned_stream ctx drops (map (written ctx) (cleaned_stream ctx drops ms)) ≡ cleaned_stream ctx drops ms
-  pub no_longer : NoLonger ctx (cleaned_stream ctx drops ms) ms
-  pub taught : map (λ n. lesson ctx drops (written ctx n)) (cleaned_stream ctx drops ms)
-      ≡ map (lesson ctx drops) (take (length (cleaned_stream ctx drops ms)) ms)
+-- The cleaned stream of these messages is whole messages that are accepted without a note, and nothing after them; cleaned again it is unchanged; no
+-- message is longer than the one it came from; and what a hearer learns of it is what the hearer of the first messages of the stream learns, one by one
+pub record IsCleanStream (ctx : Context) (drops : ℕ → Bool) (refuses : Update → Bool) (ms : List frame.Message) : Type 0 where
+  pub taken : Gives (stream_rules ctx) (cleaned_octets ctx drops refuses ms) (map (outcome_of ctx) (cleaned_stream ctx drops refuses ms)) (end.Wait 0)
+  pub again : cleaned_each ctx drops refuses (map (written ctx) (cleaned_stream ctx drops refuses ms)) ≡ map (λ n. n ∷ []) (cleaned_stream ctx drops refuses ms)
+  pub no_longer : NoLonger ctx (cleaned_each ctx drops refuses ms) ms
+  pub taught : map (lesson_from ctx drops refuses) (cleaned_each ctx drops refuses ms)
+      ≡ map (lesson ctx drops refuses) (take (length (cleaned_each ctx drops refuses ms)) ms)

@@ -1,5 +1,6 @@
 -- What a hearer learns of a message, who reads its outcome in a context (RFC 7606, section 2).
-use Rattle.std.specs.Prelude.{ℕ, Bool, List, [], ◌++◌, Option, None, Some, if◌then◌else◌}
+use Rattle.std.specs.Prelude.{ℕ, Bool, List, [], ◌∷◌, ◌++◌, Option, None, Some, if◌then◌else◌}
+use Rattle.std.specs.Option.{option_or}
 use Rattle.bgp_frame.specs.declared.notification.Notification.{Notification}
 use Rattle.bgp_frame.specs.Frame as frame
 use Rattle.bgp_open.specs.declared.context.Context.{Context}
@@ -7,14 +8,16 @@ use Rattle.bgp_open.specs.declared.capability.Capability.{Capability}
 use Rattle.bgp_open.specs.declared.message.Open.{Open}
 use Rattle.bgp_open.specs.Prelude.{peer_as_of}
 use Rattle.bgp_prefix.specs.Prelude.{PrefixValue}
+use Rattle.bgp_attr.specs.declared.mp.MpReach.{MpReach}
+use Rattle.bgp_attr.specs.declared.mp.MpReach.TheVariants as reach
 use Rattle.bgp_update.specs.declared.attrs.Attrs.{Attrs}
+use Rattle.bgp_update.specs.declared.routes.Routes.{Routes}
 use Rattle.bgp_update.specs.declared.update.Update.{Update}
-use Rattle.bgp_update.specs.Prelude.{gone_ip4, gone_ip6, announces}
 use Rattle.bgp_msg.specs.declared.message.Message.{Message}
 use Rattle.bgp_msg.specs.declared.outcome.Outcome.{Outcome}
 use Rattle.bgp_msg.specs.Prelude.{out_of}
 use Rattle.bgp_clean.specs.Opens.{understood}
-use Rattle.bgp_clean.specs.Updates.{cleaned_attrs}
+use Rattle.bgp_clean.specs.Updates.{cleaned_update, has_any, gone_routes, nlri_routes, nlri_part, reached_routes, reached_part}
 use Rattle.bgp_clean.specs.Clean.{ended_family}
 
 -- of an OPEN: the AS number, the Hold Time, the identifier, the capabilities that are understood
@@ -24,10 +27,13 @@ pub record Peer : Type 0 where
   pub id : List ℕ
   pub caps : List Capability
 
--- the announced routes, with the attributes that are kept and not left out: those of MP_REACH_NLRI stand among these
+-- announced routes of a family: the attributes that are kept and not left out, but for those that carry routes and next hops; the next hop, and a
+-- link-local one where there is one; and the routes. Those of IPv4 are the same in NLRI by NEXT_HOP and in MP_REACH_NLRI
 pub record Announced : Type 0 where
   pub attrs : Attrs
-  pub nlri : List PrefixValue
+  pub next_hop : Option (List ℕ)
+  pub link_local : Option (List ℕ)
+  pub routes : Routes
 
 -- each list in its order: IPv4 routes that are withdrawn are those of Withdrawn Routes, then of MP_UNREACH_NLRI; of a message that is treated as a
 -- withdrawal, those of the verdict
@@ -35,39 +41,83 @@ pub record Lesson : Type 0 where
   pub peer : Option Peer
   pub gone_ip4 : List PrefixValue
   pub gone_ip6 : List PrefixValue
-  pub announced : Option Announced
+  pub announced : List Announced
   pub ended : Option ℕ
   pub said : Option Notification
 
 abbrev pub no_lesson : Lesson
-no_lesson = record { peer = None; gone_ip4 = []; gone_ip6 = []; announced = None; ended = None; said = None }
+no_lesson = record { peer = None; gone_ip4 = []; gone_ip6 = []; announced = []; ended = None; said = None }
 
 abbrev pub peer_of : Open → Peer
 peer_of o = record { number = peer_as_of o; hold = o.hold; id = o.id; caps = understood o.caps }
 
-abbrev pub announced_by : (ℕ → Bool) → Update → Option Announced
-announced_by drops u =
-    if announces u then Some (record { attrs = record (cleaned_attrs drops u.attrs) { mp_unreach = None }; nlri = u.nlri }) else None
+-- ---- of routes that are announced
+
+abbrev pub bare_attrs : Attrs → Attrs
+bare_attrs a = record a { next_hop = None; mp_reach = None; mp_unreach = None }
+
+abbrev pub hop_of : Option MpReach → Option (List ℕ)
+hop_of None = None
+hop_of (Some (reach.Ip4 hop routes)) = Some hop
+hop_of (Some (reach.Ip6 hop link routes)) = Some hop
+
+abbrev pub link_of : Option MpReach → Option (List ℕ)
+link_of (Some (reach.Ip6 hop link routes)) = link
+link_of _ = None
+
+abbrev pub announced_nlri : Update → Announced
+announced_nlri u = record { attrs = bare_attrs u.attrs; next_hop = u.attrs.next_hop; link_local = None; routes = nlri_routes u }
+
+abbrev pub announced_reached : Update → Announced
+announced_reached u = record { attrs = bare_attrs u.attrs; next_hop = hop_of u.attrs.mp_reach; link_local = link_of u.attrs.mp_reach; routes = reached_routes u }
+
+abbrev pub gone_lesson : Routes → Lesson
+gone_lesson r = record no_lesson { gone_ip4 = r.ip4; gone_ip6 = r.ip6 }
+
+abbrev pub announced_lesson : Announced → Lesson
+announced_lesson a = record no_lesson { announced = a ∷ [] }
+
+-- routes that are announced, where there are some: those that are refused are withdrawn
+abbrev pub taught_by : Bool → Bool → Announced → Lesson
+taught_by there refused a = if there then (if refused then gone_lesson a.routes else announced_lesson a) else no_lesson
+
+-- ---- of one message and of others after it
+
+abbrev pub both : Lesson → Lesson → Lesson
+both a b = record {
+  peer = option_or a.peer b.peer;
+  gone_ip4 = a.gone_ip4 ++ b.gone_ip4;
+  gone_ip6 = a.gone_ip6 ++ b.gone_ip6;
+  announced = a.announced ++ b.announced;
+  ended = option_or a.ended b.ended;
+  said = option_or a.said b.said;
+}
+
+abbrev pub all_of : List Lesson → Lesson
+all_of [] = no_lesson
+all_of (l ∷ ls) = both l (all_of ls)
+
+-- ---- of a message
+
+-- what an UPDATE says, with the attributes that aren't left out
+abbrev pub lesson_of : (Update → Bool) → Update → Lesson
+lesson_of refuses u =
+    both (gone_lesson (gone_routes u))
+    (both (taught_by (has_any (nlri_routes u)) (refuses (nlri_part u)) (announced_nlri u))
+    (taught_by (has_any (reached_routes u)) (refuses (reached_part u)) (announced_reached u)))
 
 -- of a message that is accepted, which is an End-of-RIB of this family or of none
-abbrev pub lesson_by : (ℕ → Bool) → Option ℕ → Message → Lesson
-lesson_by drops family (Message.Open o) = record no_lesson { peer = Some (peer_of o) }
-lesson_by drops family (Message.Update u) = record {
-  peer = None;
-  gone_ip4 = u.withdrawn ++ gone_ip4 u.attrs.mp_unreach;
-  gone_ip6 = gone_ip6 u.attrs.mp_unreach;
-  announced = announced_by drops u;
-  ended = family;
-  said = None;
-}
-lesson_by drops family (Message.Notification n) = record no_lesson { said = Some n }
-lesson_by drops family Message.Keepalive = no_lesson
+abbrev pub lesson_by : (ℕ → Bool) → (Update → Bool) → Option ℕ → Message → Lesson
+lesson_by drops refuses family (Message.Open o) = record no_lesson { peer = Some (peer_of o) }
+lesson_by drops refuses family (Message.Update u) = record (lesson_of refuses (cleaned_update drops u)) { ended = family }
+lesson_by drops refuses family (Message.Notification n) = record no_lesson { said = Some n }
+lesson_by drops refuses family Message.Keepalive = no_lesson
 
-abbrev pub lesson_in : (ℕ → Bool) → Option ℕ → Outcome → Lesson
-lesson_in drops family (Outcome.Took said notes) = lesson_by drops family said
-lesson_in drops family (Outcome.Withdraw routes notes) = record no_lesson { gone_ip4 = routes.ip4; gone_ip6 = routes.ip6 }
-lesson_in drops family (Outcome.Reset n) = no_lesson
+abbrev pub lesson_in : (ℕ → Bool) → (Update → Bool) → Option ℕ → Outcome → Lesson
+lesson_in drops refuses family (Outcome.Took said notes) = lesson_by drops refuses family said
+lesson_in drops refuses family (Outcome.Withdraw routes notes) = gone_lesson routes
+lesson_in drops refuses family (Outcome.Reset n) = no_lesson
 
--- what a hearer learns of a message, where unrecognised attributes of these types are nothing to learn
-abbrev pub lesson : Context → (ℕ → Bool) → frame.Message → Lesson
-lesson ctx drops m = lesson_in drops (ended_family ctx m) (out_of ctx m)
+-- what a hearer learns of a message, where unrecognised attributes of these types are nothing to learn, and routes that are refused are withdrawn
+abbrev pub lesson : Context → (ℕ → Bool) → (Update → Bool) → frame.Message → Lesson
+lesson ctx drops refuses m = lesson_in drops refuses (ended_family ctx m) (out_of ctx m)

@@ -1,10 +1,12 @@
 -- Cleaned messages and streams: what is handed on, and what a hearer learns of it.
 pub mod Opens
 pub mod Updates
+pub mod NextHops
+pub mod Limits
 pub mod Clean
+pub mod Cleaned
 pub mod Lesson
 pub mod Stream
 pub mod Laws
-pub mod Cleaned
 pub mod Prelude
 pub mod steps

@@ -1,16 +1,17 @@
 //! Cleaning a message.
 
-ghost use Rattle.std.specs.Prelude.{◌≡◌, ◌+◌, ◌<◌, ◌≤◌, Ok, length, IfOk, OnErr};
+ghost use Rattle.std.specs.Prelude.{◌≡◌, ◌+◌, ◌<◌, ◌≤◌, [], ◌∷◌, Ok, length, IfOk, OnErr};
 ghost use Rattle.bgp_wire.specs.Prelude.{has_octet};
 ghost use Rattle.bgp_frame.specs.Prelude.{octets_of, IsLength, message_in};
 ghost use Rattle.bgp_update.specs.Prelude.{routes_value, withdrawal_octets};
 ghost use Rattle.bgp_msg.specs.declared.message.Message.{Message};
 ghost use Rattle.bgp_msg.specs.Prelude.{canonical};
 ghost use Rattle.bgp_msg.specs.declared.message.Message.TheVariants as message;
-ghost use Rattle.bgp_clean.specs.Prelude.{cleaned, IsCleaned, withdrawal};
+ghost use Rattle.bgp_clean.specs.Prelude.{cleaned, refuses_in, IsCleaned, withdrawal};
 
 use crate::cleaned::Cleaned;
 use crate::fault::CleanFault;
+use crate::limits::Limits;
 use crate::opens::clean_open;
 use crate::updates::clean_update;
 use crate::whole::{Body, put_whole};
@@ -28,7 +29,7 @@ fn clean_withdrawal<O: Output>(
     out: &mut O,
 ) -> Result<Cleaned, AllocError>
     requires { length (withdrawal_octets (routes_value view.now)) ≤ 4077 }
-    ensures value { IfOk result (λ c. IsCleaned ctx.now (Ok (message.Update (withdrawal (routes_value view.now)))) (O.written out.old) (O.written out.new) c) }
+    ensures value { IfOk result (λ c. IsCleaned ctx.now (Ok (message.Update (withdrawal (routes_value view.now)) ∷ [])) (O.written out.old) (O.written out.new) c) }
     ensures err { OnErr result (O.written out.new ≡ O.written out.old) }
     ensures full { OnErr result (O.room < length (O.written out.old) + 4096) }
 {
@@ -39,7 +40,7 @@ fn clean_withdrawal<O: Output>(
 /// Appends a message as it came, which is as it is written.
 fn pass_on<O: Output>(ctx: &Context, frame: Frame<'_>, out: &mut O) -> Result<Cleaned, AllocError>
     requires { IsLength frame.kind (19 + length frame.body.now) }
-    ensures value { (n : Message) → canonical ctx.now n ≡ octets_of (message_in frame.entry) → IfOk result (λ c. IsCleaned ctx.now (Ok n) (O.written out.old) (O.written out.new) c) }
+    ensures value { (n : Message) → canonical ctx.now n ≡ octets_of (message_in frame.entry) → IfOk result (λ c. IsCleaned ctx.now (Ok (n ∷ [])) (O.written out.old) (O.written out.new) c) }
     ensures err { OnErr result (O.written out.new ≡ O.written out.old) }
     ensures full { OnErr result (O.room < length (O.written out.old) + 4096) }
 {
@@ -47,30 +48,33 @@ fn pass_on<O: Output>(ctx: &Context, frame: Frame<'_>, out: &mut O) -> Result<Cl
     Ok(Cleaned::HandedOn)
 }
 
-/// Appends what is handed on of a whole message in a context, as a whole message in its one written form, or says why the cleaned stream ends before it.
-/// Unrecognised attributes of the types in `drops` are left out; `first` says whether the message is the first one of its stream, which an OPEN has to
-/// be. It takes no memory but for the growth of a vector, and never fails where there is room for 4096 octets more, as in an empty
-/// [`Page<4096>`](bgp_wire::Page).
+/// Appends what is handed on of a whole message in a context, as one or more whole messages in their one written form, or says why the cleaned stream
+/// ends before it. An UPDATE goes on by its parts: the routes that are gone, those of NLRI, those of MP_REACH_NLRI; routes of IPv4 in the classic fields.
+/// Unrecognised attributes of the types in `drops` are left out; routes whose announcement `limits` refuse are withdrawn; `first` says whether the message
+/// is the first one of its stream, which an OPEN has to be. It takes no memory but for the growth of a vector, and never fails where there is room for
+/// 12,288 octets more, as in an empty [`Page<12288>`](bgp_wire::Page).
 ///
 /// # Errors
 /// `AllocError` where there was no room; nothing is appended then.
 pub fn clean<O: Output>(
     ctx: &Context,
     drops: &OctetSet,
+    limits: &Limits,
     first: bool,
     frame: Frame<'_>,
     out: &mut O,
 ) -> Result<Cleaned, AllocError>
     requires { IsLength frame.kind (19 + length frame.body.now) }
-    ensures value { IfOk result (λ c. IsCleaned ctx.now (cleaned ctx.now (has_octet drops.now) first (message_in frame.entry)) (O.written out.old) (O.written out.new) c) }
+    ensures value { IfOk result (λ c. IsCleaned ctx.now (cleaned ctx.now (has_octet drops.now) (refuses_in ctx.now limits.now) first (message_in frame.entry))
+        (O.written out.old) (O.written out.new) c) }
     ensures err { OnErr result (O.written out.new ≡ O.written out.old) }
-    ensures full { OnErr result (O.room < length (O.written out.old) + 4096) }
+    ensures full { OnErr result (O.room < length (O.written out.old) + 12288) }
 {
     are_octets(frame.body);
     let mut place = UpdateView::empty();
     match view_frame(ctx, frame, &mut place) {
         OutcomeView::Open(view) => clean_open(ctx, first, view, out),
-        OutcomeView::Update(view) => clean_update(ctx, drops, view, frame, out),
+        OutcomeView::Update(view) => clean_update(ctx, drops, limits, view, frame, out),
         OutcomeView::Withdraw(view) => clean_withdrawal(ctx, view, out),
         OutcomeView::Notification(_) => pass_on(ctx, frame, out),
         OutcomeView::Keepalive => pass_on(ctx, frame, out),

@@ -1,15 +1,19 @@
 //! Cleaned messages: whatever comes, what is handed on is well formed, and says what RFC 7606 has a hearer learn.
 #![tactic(auto)]
 
+mod checking;
 mod cleaned;
 mod cleaning;
 mod fault;
 pub mod laws;
+mod limits;
 mod opens;
+mod part;
 mod updates;
 mod whole;
 
 pub use cleaned::Cleaned;
 pub use cleaning::clean;
 pub use fault::CleanFault;
+pub use limits::Limits;
 pub use opens::count_understood;

@@ -321,12 +321,12 @@ from_same {Outcome = Outcome} a b same s r q = by_first (first_message s) q
 
 -- what `clean` has for a page is what its own streams are read by
 pub clean_same : (theirs : Option (List ℕ)) (page : CleanPage) (o : Option Message)
-    → starts_of (λ _. true) page_rules (λ p ctx. clean_plan (unwrap_or ctx p.ctx) (has_octet p.drops)) theirs page o ≡ starts_for theirs page o
+    → starts_of (λ _. true) page_rules (λ p ctx. clean_plan (unwrap_or ctx p.ctx) (has_octet p.drops) p.limits) theirs page o ≡ starts_for theirs page o
 clean_same None page None = refl
 clean_same None page (Some m) = refl
 clean_same (Some theirs) page None = refl
 clean_same (Some theirs) page (Some m) = by_agreed (agreed (open_in m.kind m.body) (first_open theirs))
   where
-    by_agreed : (o : Result Context NoContext) → start_by (λ ctx. start_of m (clean_plan ctx (has_octet page.drops))) (fit_of (λ _. true) o) ≡ start_by (start_in (has_octet page.drops) (Some m)) o
+    by_agreed : (o : Result Context NoContext) → start_by (λ ctx. start_of m (clean_plan ctx (has_octet page.drops) page.limits)) (fit_of (λ _. true) o) ≡ start_by (start_in (has_octet page.drops) page.limits (Some m)) o
     by_agreed (Err why) = refl
     by_agreed (Ok ctx) = refl

@@ -1,10 +1,11 @@
 -- What `clean` writes: the messages of a stream as they are handed on, up to the first of which nothing is (RFC 7606).
 use Rattle.std.specs.Prelude.{ℕ, Bool, true, false, ◌==◌, List, [], Option, None, Some, option_map, is_err, Result, Ok, Err, if◌then◌else◌}
 use Rattle.bgp_engine.specs.Below.{result_ok}
-use Rattle.bgp_engine.specs.Below.{End, HeadFault, Kind, head_notification, Context, canonical, CleanFault}
+use Rattle.bgp_engine.specs.Below.{End, HeadFault, Kind, head_notification, Context, CleanFault}
 use Rattle.bgp_frame.specs.Frame as frame
 use Rattle.bgp_msg.specs.declared.message.Message.{Message}
-use Rattle.bgp_clean.specs.Prelude.{cleaned}
+use Rattle.bgp_clean.specs.declared.limits.Limits.{Limits}
+use Rattle.bgp_clean.specs.Prelude.{cleaned, octets_handed, refuses_in}
 use Rattle.bgp_engine.specs.declared.class.Class.{Class}
 use Rattle.bgp_engine.specs.declared.fault.Stop.TheVariants as stop
 use Rattle.bgp_engine.specs.declared.fault.ToolFault.{ToolFault}
@@ -17,12 +18,12 @@ use Rattle.bgp_engine.specs.Rules.{Rules}
 use Rattle.bgp_engine.specs.Run.{Reports}
 
 -- the written form of what is handed on, where something is
-abbrev pub clean_line : Context → Result Message CleanFault → List ℕ
-clean_line ctx (Ok n) = canonical ctx n
+abbrev pub clean_line : Context → Result (List Message) CleanFault → List ℕ
+clean_line ctx (Ok ns) = octets_handed ctx ns
 clean_line ctx (Err f) = []
 
-abbrev pub clean_class : Result Message CleanFault → Class
-clean_class (Ok n) = Class.Took
+abbrev pub clean_class : Result (List Message) CleanFault → Class
+clean_class (Ok ns) = Class.Took
 clean_class (Err f) = Class.Reset
 
 -- the offset where it ends before the stream does
@@ -31,13 +32,13 @@ clean_answer End.Reset tally place = Err (Clean place stop.Unsaid)
 clean_answer End.Head tally place = Err (Clean place stop.Unsaid)
 clean_answer (End.Wait n) tally place = if n == 0 then Ok tally else Err (Clean place stop.Incomplete)
 
-abbrev pub fault_of_head : HeadFault → Result Message CleanFault
+abbrev pub fault_of_head : HeadFault → Result (List Message) CleanFault
 fault_of_head f = Err (CleanFault.Reset (head_notification f).code (head_notification f).subcode)
 
 -- of the messages behind the first
-abbrev pub clean_rules : Context → (ℕ → Bool) → Rules (Result Message CleanFault)
-clean_rules ctx drops = record {
-  judge = record { of_message = cleaned ctx drops false; of_fault = fault_of_head; resets = is_err };
+abbrev pub clean_rules : Context → (ℕ → Bool) → Limits → Rules (Result (List Message) CleanFault)
+clean_rules ctx drops limits = record {
+  judge = record { of_message = cleaned ctx drops (refuses_in ctx limits) false; of_fault = fault_of_head; resets = is_err };
   line = λ _ _ _ o. clean_line ctx o;
   class = clean_class;
   last = λ _. [];
@@ -46,30 +47,30 @@ clean_rules ctx drops = record {
 }
 
 -- The first message is handed on by itself where it is an OPEN that is: any other message is handed on wherever it stands
-abbrev pub first_line : Context → (ℕ → Bool) → frame.Message → Kind → Option (List ℕ)
-first_line ctx drops m Kind.Open = option_map (canonical ctx) (result_ok (cleaned ctx drops true m))
-first_line ctx drops m _ = None
+abbrev pub first_line : Context → (ℕ → Bool) → Limits → frame.Message → Kind → Option (List ℕ)
+first_line ctx drops limits m Kind.Open = option_map (octets_handed ctx) (result_ok (cleaned ctx drops (refuses_in ctx limits) true m))
+first_line ctx drops limits m _ = None
 
-abbrev pub first_of : Context → (ℕ → Bool) → Option frame.Message → Option (List ℕ)
-first_of ctx drops None = None
-first_of ctx drops (Some m) = first_line ctx drops m m.kind
+abbrev pub first_of : Context → (ℕ → Bool) → Limits → Option frame.Message → Option (List ℕ)
+first_of ctx drops limits None = None
+first_of ctx drops limits (Some m) = first_line ctx drops limits m m.kind
 
-abbrev pub start_in : (ℕ → Bool) → Option frame.Message → Context → Start (Result Message CleanFault)
-start_in drops first ctx = record { rules = clean_rules ctx drops; first = first_of ctx drops first }
+abbrev pub start_in : (ℕ → Bool) → Limits → Option frame.Message → Context → Start (Result (List Message) CleanFault)
+start_in drops limits first ctx = record { rules = clean_rules ctx drops limits; first = first_of ctx drops limits first }
 
 -- in a context that is known
-abbrev pub starts_in : Context → (ℕ → Bool) → Starts (Result Message CleanFault)
-starts_in ctx drops first = Ok (start_in drops first ctx)
+abbrev pub starts_in : Context → (ℕ → Bool) → Limits → Starts (Result (List Message) CleanFault)
+starts_in ctx drops limits first = Ok (start_in drops limits first ctx)
 
 -- in the context that the first message and that of the other direction agree on
-abbrev pub starts_by : List ℕ → (ℕ → Bool) → Starts (Result Message CleanFault)
-starts_by theirs drops first = start_by (start_in drops first) (agreed (open_at first) (first_open theirs))
+abbrev pub starts_by : List ℕ → (ℕ → Bool) → Limits → Starts (Result (List Message) CleanFault)
+starts_by theirs drops limits first = start_by (start_in drops limits first) (agreed (open_at first) (first_open theirs))
 
-abbrev pub CleanedIn : Context → (ℕ → Bool) → Reports
-CleanedIn ctx drops = ReportedFrom (starts_in ctx drops)
+abbrev pub CleanedIn : Context → (ℕ → Bool) → Limits → Reports
+CleanedIn ctx drops limits = ReportedFrom (starts_in ctx drops limits)
 
-abbrev pub CleanedBy : List ℕ → (ℕ → Bool) → Reports
-CleanedBy theirs drops = ReportedFrom (starts_by theirs drops)
+abbrev pub CleanedBy : List ℕ → (ℕ → Bool) → Limits → Reports
+CleanedBy theirs drops limits = ReportedFrom (starts_by theirs drops limits)
 
 -- an answer without the words why it ended before a message: the offset says which
 abbrev pub without_words : Result Tally ToolFault → Result Tally ToolFault

@@ -15,7 +15,7 @@ use crate::opens::UNKNOWN;
 use crate::page::Page;
 use crate::starting::start_stream;
 use crate::tally::Tally;
-use bgp_clean::{CleanFault, Cleaned, clean};
+use bgp_clean::{CleanFault, Cleaned, Limits, clean};
 use bgp_frame::{End, Frame, HeadFault, Kind};
 use bgp_open::Context;
 use bgp_wire::OctetSet;
@@ -28,6 +28,8 @@ pub(crate) struct CleanPage {
     pub(crate) ctx: Context,
     /// The unrecognised types that are left out.
     pub(crate) drops: OctetSet,
+    /// Which announcements are withdrawn.
+    pub(crate) limits: Limits,
     pub(crate) octets: Vec<u8>,
     /// Why nothing was handed on of the message where it ends.
     pub(crate) why: Option<CleanFault>,
@@ -39,9 +41,16 @@ impl CleanPage {
         requires length { IsLength frame.kind (19 + length frame.body.now) }
         requires kind { frame.kind ≡ kind.Open }
         ensures { IfOk result (λ taken. TakesFirst taken
-            (clean_plan self.old.ctx (has_octet self.old.drops)) (page_rules self.new) (message_in frame.entry) self.old.octets.items self.new.octets.items) }
+            (clean_plan self.old.ctx (has_octet self.old.drops) self.old.limits) (page_rules self.new) (message_in frame.entry) self.old.octets.items self.new.octets.items) }
     {
-        match clean(&self.ctx, &self.drops, true, frame, &mut self.octets)? {
+        match clean(
+            &self.ctx,
+            &self.drops,
+            &self.limits,
+            true,
+            frame,
+            &mut self.octets,
+        )? {
             Cleaned::HandedOn => Ok(true),
             Cleaned::Ends(why) => {
                 self.why = Some(why);
@@ -58,11 +67,11 @@ fn reason(fault: HeadFault) -> CleanFault {
 }
 
 impl Page for CleanPage {
-    ghost use Rattle.bgp_engine.specs.Below.{true, Result, unwrap_or, has_octet, CleanFault};
+    ghost use Rattle.bgp_engine.specs.Below.{true, List, Result, unwrap_or, has_octet, CleanFault};
     ghost use Rattle.bgp_msg.specs.declared.message.Message.{Message};
     ghost use Rattle.bgp_engine.specs.steps.Cleaning.{clean_plan, page_rules};
 
-    ghost Outcome = { Result Message CleanFault };
+    ghost Outcome = { Result (List Message) CleanFault };
 
     ghost rules = { λ page. page_rules page };
 
@@ -70,7 +79,7 @@ impl Page for CleanPage {
 
     ghost fits = { λ _. true };
 
-    ghost plan = { λ page ctx. clean_plan (unwrap_or ctx page.ctx) (has_octet page.drops) };
+    ghost plan = { λ page ctx. clean_plan (unwrap_or ctx page.ctx) (has_octet page.drops) page.limits };
 
     fn agree(&mut self, ctx: &Context) -> bool {
         self.ctx = *ctx;
@@ -86,7 +95,14 @@ impl Page for CleanPage {
     }
 
     fn message(&mut self, _place: u64, frame: Frame<'_>) -> Result<Class, AllocError> {
-        match clean(&self.ctx, &self.drops, false, frame, &mut self.octets)? {
+        match clean(
+            &self.ctx,
+            &self.drops,
+            &self.limits,
+            false,
+            frame,
+            &mut self.octets,
+        )? {
             Cleaned::HandedOn => Ok(Class::Took),
             Cleaned::Ends(why) => {
                 // Of the first message it may be known already.
@@ -159,8 +175,8 @@ fn clean_page<R: Read, W: Write>(
 }
 
 /// Writes what is handed on of each message of a stream, in a context: well formed messages, whatever comes (RFC 7606). An UPDATE that is accepted goes on
-/// in its written form, without what is discarded and without the unrecognised attributes whose types are in `drops`; one that is treated as a
-/// withdrawal as an UPDATE that withdraws its routes. It reads as `show` does, and each message that is handed on counts as accepted.
+/// by its parts, in their written form, without what is discarded and without the unrecognised attributes whose types are in `drops`; routes whose
+/// announcement `limits` refuse are withdrawn, as are all routes of one that is treated as a withdrawal. It reads as `show` does, and each message that is handed on counts as accepted.
 ///
 /// # Errors
 /// As `show`; `Clean` with the offset of the first message of which nothing is handed on, of a header with a fault, or of an incomplete message, and why.
@@ -169,13 +185,14 @@ pub fn clean_stream<R: Read, W: Write>(
     alloc: Global,
     ctx: &Context,
     drops: &OctetSet,
+    limits: &Limits,
     hex: bool,
     input: &mut R,
     output: &mut W,
 ) -> Result<Tally, ToolFault>
-    ensures { Answers (CleanedIn ctx.now (has_octet drops.now)) hex (io R.remaining input.old input.new W.contents output.old output.new) (without_words result) }
+    ensures { Answers (CleanedIn ctx.now (has_octet drops.now) limits.now) hex (io R.remaining input.old input.new W.contents output.old output.new) (without_words result) }
 {
-    clean_within(alloc, u32::MAX, ctx, drops, hex, input, output)
+    clean_within(alloc, u32::MAX, ctx, drops, limits, hex, input, output)
 }
 
 /// [`clean_stream`], with a reader that is asked at most so many times.
@@ -187,15 +204,17 @@ pub fn clean_within<R: Read, W: Write>(
     turns: u32,
     ctx: &Context,
     drops: &OctetSet,
+    limits: &Limits,
     hex: bool,
     input: &mut R,
     output: &mut W,
 ) -> Result<Tally, ToolFault>
-    ensures { Answers (CleanedIn ctx.now (has_octet drops.now)) hex (io R.remaining input.old input.new W.contents output.old output.new) (without_words result) }
+    ensures { Answers (CleanedIn ctx.now (has_octet drops.now) limits.now) hex (io R.remaining input.old input.new W.contents output.old output.new) (without_words result) }
 {
     let page = CleanPage {
         ctx: *ctx,
         drops: *drops,
+        limits: *limits,
         octets: Vec::new(alloc),
         why: None,
     };
@@ -212,13 +231,14 @@ pub fn clean_by_opens<R: Read, W: Write>(
     alloc: Global,
     theirs: &[u8],
     drops: &OctetSet,
+    limits: &Limits,
     hex: bool,
     input: &mut R,
     output: &mut W,
 ) -> Result<Tally, ToolFault>
-    ensures { Answers (CleanedBy theirs.now (has_octet drops.now)) hex (io R.remaining input.old input.new W.contents output.old output.new) (without_words result) }
+    ensures { Answers (CleanedBy theirs.now (has_octet drops.now) limits.now) hex (io R.remaining input.old input.new W.contents output.old output.new) (without_words result) }
 {
-    clean_by_opens_within(alloc, u32::MAX, theirs, drops, hex, input, output)
+    clean_by_opens_within(alloc, u32::MAX, theirs, drops, limits, hex, input, output)
 }
 
 /// [`clean_by_opens`], with a reader that is asked at most so many times.
@@ -230,15 +250,17 @@ pub fn clean_by_opens_within<R: Read, W: Write>(
     turns: u32,
     theirs: &[u8],
     drops: &OctetSet,
+    limits: &Limits,
     hex: bool,
     input: &mut R,
     output: &mut W,
 ) -> Result<Tally, ToolFault>
-    ensures { Answers (CleanedBy theirs.now (has_octet drops.now)) hex (io R.remaining input.old input.new W.contents output.old output.new) (without_words result) }
+    ensures { Answers (CleanedBy theirs.now (has_octet drops.now) limits.now) hex (io R.remaining input.old input.new W.contents output.old output.new) (without_words result) }
 {
     let page = CleanPage {
         ctx: UNKNOWN,
         drops: *drops,
+        limits: *limits,
         octets: Vec::new(alloc),
         why: None,
     };

@@ -2,8 +2,8 @@
 use Rattle.bgp_guard.proofs.Prelude.{◌≡◌, ℕ, zero, suc, ◌+◌, ◌<◌, Bool, true, false, cond, List, [], ◌∷◌, ◌++◌, length, Option, Some, None, option_map}
 use Rattle.bgp_guard.proofs.Prelude.{Result, Ok, Err, refl, sym, ap, subst, ◌∙◌, arith, inl, inr, and_parts, cases_lt, not-false, ◌&&◌, not, is_some}
 use Rattle.bgp_guard.proofs.Prelude.{true≢false, append-nil, length-append, AreOctets, has_octet, HeadFault, Kind, IsFrame, Waits, IsHeld, head_notification}
-use Rattle.bgp_guard.proofs.Prelude.{content_of, Context, Open, reading_of, Said, said_by, Message, out_of, CleanFault, cleaned, ended_family}
-use Rattle.bgp_guard.proofs.Prelude.{content_of-message, none_waits, Rules, Stage, Answers, answered, notice, reset_by, unexpected, Half, Sight, listens_in}
+use Rattle.bgp_guard.proofs.Prelude.{content_of, Context, Open, reading_of, Said, said_by, canonical, flat_map, Message, out_of, CleanFault, cleaned, refusal}
+use Rattle.bgp_guard.proofs.Prelude.{content_of-message, none_waits, Rules, Stage, Answers, answered, bad_peer_as, has_zero, known, notice, reset_by, unexpected, Half, Sight, listens_in}
 use Rattle.bgp_guard.proofs.Prelude.{agreed, answers_to, context_in, done, handed_on, handed_or, heard, heard_as, holding, octet_by, placed, said_as}
 use Rattle.bgp_guard.proofs.Prelude.{IsHandedOver, Seen, Trail, came_behind, octet_seen, both_open, misplaced, subcode_of}
 use Rattle.bgp_wire.proofs.OctetLemmas.{AreOctets-append}
@@ -37,9 +37,9 @@ abbrev pub Lane : Rules → Stage → Bool → List ℕ → Option Said → Opti
 Lane rules (Stage.Runs n) silent held kept others came given way = Alive rules silent held kept others came given way
 Lane rules (Stage.Ends n) silent held kept others came given way = IsHandedOver rules silent (agreed kept others) kept came given way
 
-pub record Goes (rules : Rules) (silent others : Bool) (s : Seen) : Type 0 where
+pub record Goes (rules theirs : Rules) (silent others : Bool) (s : Seen) : Type 0 where
   pub this : Lane rules s.sight.stage silent s.sight.this.held s.sight.this.peer s.sight.other.peer s.this.came s.other.given s.sight.other.way
-  pub other : Lane rules s.sight.stage others s.sight.other.held s.sight.other.peer s.sight.this.peer s.other.came s.this.given s.sight.this.way
+  pub other : Lane theirs s.sight.stage others s.sight.other.held s.sight.other.peer s.sight.this.peer s.other.came s.this.given s.sight.this.way
 
 -- ---- an octet
 
@@ -52,8 +52,8 @@ no_peer : (p : Option Said) → is_some p ≡ false → p ≡ None
 no_peer None e = refl
 no_peer (Some said) e = absurd (true≢false e)
 
-module _ (rules : Rules) (silent others : Bool) (n : ℕ) (this other : Half) (t o : Trail) (octet : ℕ)
-    (a : Alive rules silent this.held this.peer other.peer t.came o.given other.way) (b : Alive rules others other.held other.peer this.peer o.came t.given this.way) where
+module _ (rules theirs : Rules) (silent others : Bool) (n : ℕ) (this other : Half) (t o : Trail) (octet : ℕ)
+    (a : Alive rules silent this.held this.peer other.peer t.came o.given other.way) (b : Alive theirs others other.held other.peer this.peer o.came t.given this.way) where
   abbrev sight : Sight
   sight = record { stage = Stage.Runs n; this = this; other = other }
 
@@ -67,86 +67,91 @@ module _ (rules : Rules) (silent others : Bool) (n : ℕ) (this other : Half) (t
   abbrev seen : Sight → Seen
   seen s = record { sight = s; this = grown; other = o }
 
-  answered_goes : (answers : Answers) → Goes rules silent others (seen (answered free answers))
+  answered_goes : (answers : Answers) → Goes rules theirs silent others (seen (answered free answers))
   answered_goes answers = record {
     this =
         alive_ends rules silent this.held this.peer other.peer t.came o.given other.way a (octet ∷ []) (t.came ++ octet ∷ []) (other.way ++ notice answers.other) [] (Some answers.other) refl
         (append-nil (other.way ++ notice answers.other));
     other =
-        alive_ends rules others other.held other.peer this.peer o.came t.given this.way b [] o.came (this.way ++ notice answers.this) [] (Some answers.this) (sym (append-nil o.came))
+        alive_ends theirs others other.held other.peer this.peer o.came t.given this.way b [] o.came (this.way ++ notice answers.this) [] (Some answers.this) (sym (append-nil o.came))
         (append-nil (this.way ++ notice answers.this));
   }
 
-  module _ (m : Message) where
+  module _ (m : List Message) where
     abbrev ctx : Context
     ctx = context_in free
 
     open_goes : (body : List ℕ) (p : Open) → IsFrame (record { kind = Kind.Open; body = body }) (this.held ++ octet ∷ []) → misplaced free Kind.Open ≡ None
-        → cleaned ctx (has_octet rules.drops) true (record { kind = Kind.Open; body = body }) ≡ Ok m → m ≡ Message.Open p → Goes rules silent others (seen (handed_on silent free Kind.Open m))
+        → cleaned ctx (has_octet rules.drops) (refusal rules ctx this.peer) true (record { kind = Kind.Open; body = body }) ≡ Ok m → m ≡ Message.Open p ∷ [] → Goes rules theirs silent others (seen (handed_on silent free Kind.Open m))
     open_goes body p f placed is same =
         let none : this.peer ≡ None = no_peer this.peer (in_place (is_some this.peer) (subcode_of free) placed) in
-        let handed : (c : Context) → cleaned c (has_octet rules.drops) true (record { kind = Kind.Open; body = body }) ≡ Ok (Message.Open p) =
-        λ c. open_same (has_octet rules.drops) true Kind.Open body c ctx refl ∙ is ∙ ap (λ (x : Message). Ok x) same in
+        let handed : (c : Context) → cleaned c (has_octet rules.drops) (refusal rules c (Some (said_by p))) true (record { kind = Kind.Open; body = body }) ≡ Ok (Message.Open p ∷ []) =
+        λ c. open_same (has_octet rules.drops) (refusal rules c (Some (said_by p))) (refusal rules ctx this.peer) true Kind.Open body c ctx refl ∙ is ∙ ap (λ (x : List Message). Ok x) same in
         let fresh : Alive rules silent this.held None other.peer t.came o.given other.way = subst (λ (k : Option Said). Alive rules silent this.held k other.peer t.came o.given other.way) none a in
-        subst (λ (x : Message). Goes rules silent others (seen (handed_on silent free Kind.Open x))) (sym same) (record {
-          this = alive_open rules silent this.held other.peer t.came o.given other.way fresh octet (record { kind = Kind.Open; body = body }) p f handed (λ e. absurd cc) ctx;
-          other = refit rules others other.held other.peer this.peer (Some (said_by p)) o.came t.given this.way (ap is_some none) b;
+        subst (λ (x : List Message). Goes rules theirs silent others (seen (handed_on silent free Kind.Open x))) (sym same) (record {
+          this = alive_open rules silent this.held other.peer t.came o.given other.way fresh octet body p f handed ctx;
+          other = refit theirs others other.held other.peer this.peer (Some (said_by p)) o.came t.given this.way (ap is_some none) b;
         })
 
     -- behind both OPENs
     on_goes : (k : Kind) (body : List ℕ) → (k ≡ Kind.Open → ⊥) → (k ≡ Kind.Notification → ⊥) → IsFrame (record { kind = k; body = body }) (this.held ++ octet ∷ []) → both_open free ≡ true
-        → cleaned ctx (has_octet rules.drops) true (record { kind = k; body = body }) ≡ Ok m
-        → Alive rules silent [] this.peer other.peer (t.came ++ octet ∷ []) o.given (other.way ++ Rattle.bgp_msg.specs.Written.canonical ctx (said_as silent m))
+        → cleaned ctx (has_octet rules.drops) (refusal rules ctx this.peer) true (record { kind = k; body = body }) ≡ Ok m
+        → Alive rules silent [] this.peer other.peer (t.came ++ octet ∷ []) o.given (other.way ++ flat_map (canonical ctx) (said_as silent k m))
     on_goes k body no_open no_notice f both is =
         alive_on rules silent this.held this.peer other.peer t.came o.given other.way a octet (record { kind = k; body = body }) m f both
         (opened_push rules silent a.messages (record { kind = k; body = body }) this.peer (and_parts (is_some this.peer) (is_some other.peer) both).0 a.opened)
         no_notice
-        (λ at. place_same ctx (has_octet rules.drops) at k body no_open ∙ is)
+        (λ at. place_same ctx (has_octet rules.drops) (refusal rules ctx this.peer) at k body no_open ∙ is)
 
     update_goes : (body : List ℕ) → IsFrame (record { kind = Kind.Update; body = body }) (this.held ++ octet ∷ []) → misplaced free Kind.Update ≡ None
-        → cleaned ctx (has_octet rules.drops) true (record { kind = Kind.Update; body = body }) ≡ Ok m → Goes rules silent others (seen (handed_on silent free Kind.Update m))
+        → cleaned ctx (has_octet rules.drops) (refusal rules ctx this.peer) true (record { kind = Kind.Update; body = body }) ≡ Ok m → Goes rules theirs silent others (seen (handed_on silent free Kind.Update m))
     update_goes body f placed is =
         let both : (both_open free && this.ready) ≡ true = not-false (both_open free && this.ready) (in_place (not (both_open free && this.ready)) (subcode_of free) placed) in
         record { this = on_goes Kind.Update body (λ e. absurd cc) (λ e. absurd cc) f (and_parts (both_open free) this.ready both).0 is; other = b }
 
     keepalive_goes : (body : List ℕ) → IsFrame (record { kind = Kind.Keepalive; body = body }) (this.held ++ octet ∷ []) → misplaced free Kind.Keepalive ≡ None
-        → cleaned ctx (has_octet rules.drops) true (record { kind = Kind.Keepalive; body = body }) ≡ Ok m → Goes rules silent others (seen (handed_on silent free Kind.Keepalive m))
+        → cleaned ctx (has_octet rules.drops) (refusal rules ctx this.peer) true (record { kind = Kind.Keepalive; body = body }) ≡ Ok m → Goes rules theirs silent others (seen (handed_on silent free Kind.Keepalive m))
     keepalive_goes body f placed is =
         let both : both_open free ≡ true = not-false (both_open free) (in_place (not (both_open free)) (subcode_of free) placed) in
         record { this = on_goes Kind.Keepalive body (λ e. absurd cc) (λ e. absurd cc) f both is; other = b }
 
     notification_goes : (body : List ℕ) → IsFrame (record { kind = Kind.Notification; body = body }) (this.held ++ octet ∷ [])
-        → cleaned ctx (has_octet rules.drops) true (record { kind = Kind.Notification; body = body }) ≡ Ok m → Goes rules silent others (seen (handed_on silent free Kind.Notification m))
+        → cleaned ctx (has_octet rules.drops) (refusal rules ctx this.peer) true (record { kind = Kind.Notification; body = body }) ≡ Ok m → Goes rules theirs silent others (seen (handed_on silent free Kind.Notification m))
     notification_goes body f is = record {
       this =
           notified rules silent this.held this.peer other.peer t.came o.given other.way a octet (record { kind = Kind.Notification; body = body }) m f
           (kept_push rules silent ctx a.messages (record { kind = Kind.Notification; body = body }) this.peer a.opened)
-          (λ at. place_same ctx (has_octet rules.drops) at Kind.Notification body (λ e. absurd cc) ∙ is);
+          (λ at. place_same ctx (has_octet rules.drops) (refusal rules ctx this.peer) at Kind.Notification body (λ e. absurd cc) ∙ is);
       other =
-          alive_ends rules others other.held other.peer this.peer o.came t.given this.way b [] o.came this.way [] None (sym (append-nil o.came)) (append-nil this.way ∙ sym (append-nil this.way));
+          alive_ends theirs others other.held other.peer this.peer o.came t.given this.way b [] o.came this.way [] None (sym (append-nil o.came)) (append-nil this.way ∙ sym (append-nil this.way));
     }
 
     by_kind : (k : Kind) (body : List ℕ) → IsFrame (record { kind = k; body = body }) (this.held ++ octet ∷ []) → misplaced free k ≡ None
-        → cleaned ctx (has_octet rules.drops) true (record { kind = k; body = body }) ≡ Ok m → Goes rules silent others (seen (handed_on silent free k m))
+        → cleaned ctx (has_octet rules.drops) (refusal rules ctx this.peer) true (record { kind = k; body = body }) ≡ Ok m → Goes rules theirs silent others (seen (handed_on silent free k m))
     by_kind Kind.Open body f placed is =
-        let found = open_by (has_octet rules.drops) (is_some (ended_family ctx (record { kind = Kind.Open; body = body }))) m (reading_of body) is in
+        let found = open_by (has_octet rules.drops) (refusal rules ctx this.peer) m (reading_of body) is in
         open_goes body found.0 f placed is found.1
     by_kind Kind.Update body f placed is = update_goes body f placed is
     by_kind Kind.Notification body f placed is = notification_goes body f is
     by_kind Kind.Keepalive body f placed is = keepalive_goes body f placed is
 
-  by_cleaned : (m : frame.Message) → IsFrame m (this.held ++ octet ∷ []) → misplaced free m.kind ≡ None → (r : Result Message CleanFault)
-      → cleaned (context_in free) (has_octet rules.drops) true m ≡ r → Goes rules silent others (seen (done silent free m.kind (handed_or (out_of (context_in free) m) r)))
+  by_cleaned : (m : frame.Message) → IsFrame m (this.held ++ octet ∷ []) → misplaced free m.kind ≡ None → (r : Result (List Message) CleanFault)
+      → cleaned (context_in free) (has_octet rules.drops) (refusal rules (context_in free) this.peer) true m ≡ r → Goes rules theirs silent others (seen (done silent free m.kind (handed_or (out_of (context_in free) m) r)))
   by_cleaned m f placed (Ok n) is = by_kind n m.kind m.body f placed is
   by_cleaned m f placed (Err fault) is = answered_goes (answers_to (out_of (context_in free) m))
 
+  by_known : (m : frame.Message) → IsFrame m (this.held ++ octet ∷ []) → misplaced free m.kind ≡ None → (b : Bool)
+      → Goes rules theirs silent others (seen (done silent free m.kind (known rules free m b)))
+  by_known m f placed true = answered_goes (reset_by bad_peer_as)
+  by_known m f placed false = by_cleaned m f placed (cleaned (context_in free) (has_octet rules.drops) (refusal rules (context_in free) this.peer) true m) refl
+
   by_place : (m : frame.Message) → IsFrame m (this.held ++ octet ∷ []) → (p : Option ℕ) → misplaced free m.kind ≡ p
-      → Goes rules silent others (seen (done silent free m.kind (placed rules free m p)))
-  by_place m f None e = by_cleaned m f e (cleaned (context_in free) (has_octet rules.drops) true m) refl
+      → Goes rules theirs silent others (seen (done silent free m.kind (placed rules free m p)))
+  by_place m f None e = by_known m f e (has_zero m.kind m.body)
   by_place m f (Some subcode) e = answered_goes (reset_by (unexpected subcode m.kind))
 
   by_content : octet < 256 → (c : Option (Result frame.Message HeadFault)) → content_of (this.held ++ octet ∷ []) ≡ c
-      → Goes rules silent others (seen (heard_as rules silent (holding sight (this.held ++ octet ∷ [])) c))
+      → Goes rules theirs silent others (seen (heard_as rules silent (holding sight (this.held ++ octet ∷ [])) c))
   by_content small None e = record {
     this = alive_held rules silent octet this.held this.peer other.peer t.came o.given other.way a (held_more this.held octet a.can_hold a.waits small) (none_waits (λ c. c) (this.held ++ octet ∷ []) (ap (option_map (λ c. c)) e));
     other = b;
@@ -155,7 +160,7 @@ module _ (rules : Rules) (silent others : Bool) (n : ℕ) (this other : Half) (t
       by_place m (content_of-message m (this.held ++ octet ∷ []) (held_more this.held octet a.can_hold a.waits small) e) (misplaced free m.kind) refl
   by_content small (Some (Err fault)) e = answered_goes (reset_by (head_notification fault))
 
-  pub heard_goes : octet < 256 → Goes rules silent others (seen (heard rules silent (holding sight (this.held ++ octet ∷ []))))
+  pub heard_goes : octet < 256 → Goes rules theirs silent others (seen (heard rules silent (holding sight (this.held ++ octet ∷ []))))
   heard_goes small = by_content small (content_of (this.held ++ octet ∷ [])) refl
 
 -- ---- whether it is read or not
@@ -167,14 +172,14 @@ octet_by_seen b rules silent octet s = record {
   other = s.other;
 }
 
-read_by : (rules : Rules) (silent others : Bool) (octet : ℕ) (st : Stage) (this other : Half) (t o : Trail) → octet < 256
+read_by : (rules theirs : Rules) (silent others : Bool) (octet : ℕ) (st : Stage) (this other : Half) (t o : Trail) → octet < 256
     → (b : Bool) → listens_in (record { stage = st; this = this; other = other }) ≡ b
-    → Goes rules silent others (record { sight = record { stage = st; this = this; other = other }; this = t; other = o })
-    → Goes rules silent others (octet_by_seen b rules silent octet (record { sight = record { stage = st; this = this; other = other }; this = t; other = o }))
-read_by rules silent others octet st this other t o small false e goes = goes
-read_by rules silent others octet (Stage.Runs n) this other t o small true e goes = heard_goes rules silent others n this other t o octet goes.this goes.other small
-read_by rules silent others octet (Stage.Ends n) this other t o small true e goes = absurd (true≢false (sym e))
+    → Goes rules theirs silent others (record { sight = record { stage = st; this = this; other = other }; this = t; other = o })
+    → Goes rules theirs silent others (octet_by_seen b rules silent octet (record { sight = record { stage = st; this = this; other = other }; this = t; other = o }))
+read_by rules theirs silent others octet st this other t o small false e goes = goes
+read_by rules theirs silent others octet (Stage.Runs n) this other t o small true e goes = heard_goes rules theirs silent others n this other t o octet goes.this goes.other small
+read_by rules theirs silent others octet (Stage.Ends n) this other t o small true e goes = absurd (true≢false (sym e))
 
-pub octet_goes : (rules : Rules) (silent others : Bool) (octet : ℕ) (s : Seen) → octet < 256 → Goes rules silent others s → Goes rules silent others (octet_seen rules silent octet s)
-octet_goes rules silent others octet s small goes =
-    read_by rules silent others octet s.sight.stage s.sight.this s.sight.other s.this s.other small (listens_in s.sight) refl goes
+pub octet_goes : (rules theirs : Rules) (silent others : Bool) (octet : ℕ) (s : Seen) → octet < 256 → Goes rules theirs silent others s → Goes rules theirs silent others (octet_seen rules silent octet s)
+octet_goes rules theirs silent others octet s small goes =
+    read_by rules theirs silent others octet s.sight.stage s.sight.this s.sight.other s.this s.other small (listens_in s.sight) refl goes

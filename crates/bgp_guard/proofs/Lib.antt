@@ -2,6 +2,7 @@
 pub mod Prelude
 pub mod Fronts
 pub mod Hears
+pub mod Keepalives
 pub mod Lanes
 pub mod Lives
 pub mod Passed

@@ -1,15 +1,15 @@
 -- Why a guard has ended.
 use Rattle.bgp_guard.proofs.Prelude.{◌≡◌, ◌≤◌, ℕ, suc, Bool, true, false, List, [], ◌∷◌, ◌++◌, Option, Some, None, Result, Ok, Err, refl, sym, ap, subst, ◌∙◌}
 use Rattle.bgp_guard.proofs.Prelude.{append_assoc, and_parts, ltb-false, not-true, ◌&&◌, ◌||◌, not, nat_lt, is_some, if◌then◌else◌, true≢false, HeadFault}
-use Rattle.bgp_guard.proofs.Prelude.{Kind, content_of, Message, Rules, Stage, Answers, Guarding, Sight, listens_in, runs, comes_of, done, heard_as, holding}
-use Rattle.bgp_guard.proofs.Prelude.{octet_by, closed_if, is_waiting, ticked_in, unreached_if, waited, late, EndsBy, EndsContent, EndsHearing, HasReason}
-use Rattle.bgp_guard.proofs.Prelude.{IsLast, IsAnsweredOr, RunsOrHasReason, Event, Stood, Unreached, Octet, Closed, Sent, Ticked, Life, born, happens, life}
+use Rattle.bgp_guard.proofs.Prelude.{Kind, content_of, Message, Rules, Stage, Answers, Guarding, Sight, listens_in, runs, comes_of, rules_of, done, heard_as, holding}
+use Rattle.bgp_guard.proofs.Prelude.{octet_by, agreed, closed_if, cut_if, keeps_alive, kept_if, rejected, is_waiting, ticked_in, waited, late, Notification, EndsBy, EndsContent, EndsHearing, HasReason}
+use Rattle.bgp_guard.proofs.Prelude.{IsLast, IsAnsweredOr, RunsOrHasReason, Event, Stood, Unreached, Octet, Closed, Sent, Stalled, Stopped, Ticked, Life, born, happens, life}
 use Rattle.bgp_guard.proofs.Prelude.{life_behind, life_from, Side, OPEN_SECONDS}
 use Rattle.bgp_frame.specs.Frame as frame
 
 -- ---- octets
 
-kind_ends : (silent : Bool) (s : Sight) (k : Kind) (m : frame.Message) (r : Result Message Answers) → runs s.stage ≡ true → k ≡ m.kind → runs (done silent s k r).stage ≡ false
+kind_ends : (silent : Bool) (s : Sight) (k : Kind) (m : frame.Message) (r : Result (List Message) Answers) → runs s.stage ≡ true → k ≡ m.kind → runs (done silent s k r).stage ≡ false
     → IsAnsweredOr r m
 kind_ends silent s k m (Err answers) ran same ends = tt
 kind_ends silent s Kind.Notification m (Ok n) ran same ends = sym same
@@ -31,9 +31,9 @@ octet_ends rules silent s octet false up ran ends = absurd (true≢false (sym ra
 
 -- ---- other events
 
-unreached_ends : (s : Sight) (b : Bool) → (runs s.stage && not s.this.stands) ≡ b → runs s.stage ≡ true → runs (unreached_if b s).stage ≡ false → s.this.stands ≡ false
-unreached_ends s true is ran ends = not-true s.this.stands (and_parts (runs s.stage) (not s.this.stands) is).1
-unreached_ends s false is ran ends = absurd (true≢false (sym ran ∙ ends))
+unreached_ends : (why : Notification) (s : Sight) (b : Bool) → (runs s.stage && not s.this.stands) ≡ b → runs s.stage ≡ true → runs (cut_if b why s).stage ≡ false → s.this.stands ≡ false
+unreached_ends why s true is ran ends = not-true s.this.stands (and_parts (runs s.stage) (not s.this.stands) is).1
+unreached_ends why s false is ran ends = absurd (true≢false (sym ran ∙ ends))
 
 closed_ends : (s : Sight) (b : Bool) → s.this.stands ≡ b → runs s.stage ≡ true → runs (closed_if b s).stage ≡ false → s.this.stands ≡ true
 closed_ends s true is ran ends = is
@@ -49,7 +49,13 @@ waited_ends g n true is ran ends = (
   late_at g n (nat_lt (suc n) OPEN_SECONDS) refl ends,
   not-true (is_some g.outer.peer && is_some g.inner.peer) (and_parts (g.outer.stands || g.inner.stands) (not (is_some g.outer.peer && is_some g.inner.peer)) is).1,
 )
-waited_ends g n false is ran ends = absurd (true≢false (sym ran ∙ ends))
+waited_ends g n false is ran ends =
+    let hold = (agreed g.outer.peer g.inner.peer).hold in
+    absurd (true≢false (sym ran ∙ sym (kept_runs (keeps_alive hold g) hold) ∙ ends))
+  where
+    kept_runs : (b : Bool) (hold : ℕ) → runs (kept_if b hold g).stage ≡ runs g.stage
+    kept_runs true hold = refl
+    kept_runs false hold = refl
 
 ticked_ends : (g : Guarding) (st : Stage) → runs st ≡ true → runs g.stage ≡ true → runs (ticked_in st g).stage ≡ false
     → IsLast st × ((is_some g.outer.peer && is_some g.inner.peer) ≡ false)
@@ -60,17 +66,20 @@ event_ends : (a : Life) (e : Event) → runs a.guard.stage ≡ true → runs (ha
 event_ends a (Stood Side.Outer) ran ends = absurd (true≢false (sym ran ∙ ends))
 event_ends a (Stood Side.Inner) ran ends = absurd (true≢false (sym ran ∙ ends))
 event_ends a (Unreached Side.Outer) ran ends =
-    unreached_ends (life_from Side.Outer a).sight (runs a.guard.stage && not a.guard.outer.stands) refl ran ends
+    unreached_ends rejected (life_from Side.Outer a).sight (runs a.guard.stage && not a.guard.outer.stands) refl ran ends
 event_ends a (Unreached Side.Inner) ran ends =
-    unreached_ends (life_from Side.Inner a).sight (runs a.guard.stage && not a.guard.inner.stands) refl ran ends
+    unreached_ends rejected (life_from Side.Inner a).sight (runs a.guard.stage && not a.guard.inner.stands) refl ran ends
 event_ends a (Octet Side.Outer octet) ran ends =
     octet_ends a.guard.rules false (life_from Side.Outer a).sight octet (listens_in (life_from Side.Outer a).sight) refl ran ends
 event_ends a (Octet Side.Inner octet) ran ends =
-    octet_ends a.guard.rules a.guard.rules.one_way (life_from Side.Inner a).sight octet (listens_in (life_from Side.Inner a).sight) refl ran ends
+    octet_ends (rules_of Side.Inner a.guard.rules) a.guard.rules.one_way (life_from Side.Inner a).sight octet (listens_in (life_from Side.Inner a).sight) refl ran ends
 event_ends a (Closed Side.Outer) ran ends = closed_ends (life_from Side.Outer a).sight a.guard.outer.stands refl ran ends
 event_ends a (Closed Side.Inner) ran ends = closed_ends (life_from Side.Inner a).sight a.guard.inner.stands refl ran ends
 event_ends a (Sent Side.Outer n) ran ends = absurd (true≢false (sym ran ∙ ends))
 event_ends a (Sent Side.Inner n) ran ends = absurd (true≢false (sym ran ∙ ends))
+event_ends a (Stalled Side.Outer) ran ends = tt
+event_ends a (Stalled Side.Inner) ran ends = tt
+event_ends a Stopped ran ends = tt
 event_ends a Ticked ran ends = ticked_ends a.guard a.guard.stage ran ran ends
 
 -- ---- lists of events

@@ -1,6 +1,6 @@
 -- The NOTIFICATIONs that the guard sends itself (RFC 4271, section 6; RFC 4486; RFC 6608).
 use Rattle.std.specs.Prelude.{ℕ, List, [], ◌∷◌, ◌++◌, Option, None, Some}
-use Rattle.bgp_numbers.specs.declared.error.TheConstants.{HOLD_TIMER_EXPIRED, FINITE_STATE_MACHINE, CEASE, UNSPECIFIC, ADMINISTRATIVE_RESET, CONNECTION_REJECTED}
+use Rattle.bgp_numbers.specs.declared.error.TheConstants.{HOLD_TIMER_EXPIRED, FINITE_STATE_MACHINE, CEASE, UNSPECIFIC, ADMINISTRATIVE_RESET, ADMINISTRATIVE_SHUTDOWN, CONNECTION_REJECTED, OPEN_MESSAGE, BAD_PEER_AS}
 use Rattle.bgp_frame.specs.declared.kind.Kind.{Kind}
 use Rattle.bgp_frame.specs.Prelude.{octets_of, code_of, notification_with}
 use Rattle.bgp_frame.specs.declared.notification.Notification.{Notification}
@@ -22,7 +22,15 @@ reset_over = notification_with CEASE ADMINISTRATIVE_RESET []
 abbrev pub rejected : Notification
 rejected = notification_with CEASE CONNECTION_REJECTED []
 
--- its OPEN didn't come in time
+-- the owner ends the session
+abbrev pub shutdown : Notification
+shutdown = notification_with CEASE ADMINISTRATIVE_SHUTDOWN []
+
+-- its OPEN says AS 0
+abbrev pub bad_peer_as : Notification
+bad_peer_as = notification_with OPEN_MESSAGE BAD_PEER_AS []
+
+-- its OPEN didn't come in time, or the other side doesn't read
 abbrev pub expired : Notification
 expired = notification_with HOLD_TIMER_EXPIRED UNSPECIFIC []
 

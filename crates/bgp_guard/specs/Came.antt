@@ -1,17 +1,19 @@
 -- What the guard says of the octets that came.
-use Rattle.std.specs.Prelude.{◌≡◌, ◌↔◌, ◌<◌, ℕ, Bool, true, false, List, [], ◌++◌, length, take, Option, None, Some, Result, Ok, Err}
+use Rattle.std.specs.Prelude.{◌≡◌, ◌↔◌, ◌<◌, ℕ, Bool, true, false, List, [], ◌∷◌, ◌++◌, length, take, Option, None, Some, Result, Ok, Err}
+use Rattle.std.specs.List.{flat_map}
 use Rattle.bgp_frame.specs.declared.fault.HeadFault.{HeadFault}
 use Rattle.bgp_frame.specs.declared.kind.Kind.{Kind}
 use Rattle.bgp_frame.specs.Prelude.{octets_of, head_notification, Takes, content_of}
 use Rattle.bgp_frame.specs.declared.notification.Notification.{Notification}
 use Rattle.bgp_frame.specs.Frame as frame
+use Rattle.bgp_open.specs.declared.context.Context.{Context}
 use Rattle.bgp_msg.specs.declared.message.Message.{Message}
 use Rattle.bgp_msg.specs.Prelude.{canonical}
 use Rattle.bgp_guard.specs.declared.came.Came.{Came}
-use Rattle.bgp_guard.specs.declared.came.Came.TheVariants.{Nothing, HandedOn, Answered}
+use Rattle.bgp_guard.specs.declared.came.Came.TheVariants.{Nothing, HandedOn, Dropped, Answered}
 use Rattle.bgp_guard.specs.declared.side.Side.{Side}
 use Rattle.bgp_guard.specs.declared.rules.Rules.{Rules}
-use Rattle.bgp_guard.specs.Guard.{Guarding, Sight, seen_from, is_silent, listens_in}
+use Rattle.bgp_guard.specs.Guard.{Guarding, Sight, seen_from, is_silent, listens_in, rules_of}
 use Rattle.bgp_guard.specs.Hearing.{context_in, comes_of, said_as, holding, by_octets}
 use Rattle.bgp_guard.specs.Answers.{Answers}
 
@@ -25,8 +27,18 @@ abbrev pub IsHandedOn : Kind → List ℕ → List ℕ → Came → Type 0
 IsHandedOn k octets passed (HandedOn kind same) = (kind ≡ k) × ((same ≡ true) ↔ (passed ≡ octets))
 IsHandedOn k octets passed _ = ⊥
 
-abbrev pub CameBy : Bool → Sight → frame.Message → Result Message Answers → Came → Type 0
-CameBy silent s m (Ok n) came = IsHandedOn m.kind (octets_of m) (canonical (context_in s) (said_as silent n)) came
+-- nothing was handed on of a message of this kind
+abbrev pub IsDropped : Kind → Came → Type 0
+IsDropped k (Dropped kind) = kind ≡ k
+IsDropped k _ = ⊥
+
+-- these messages were handed on in place of it
+abbrev pub IsPassedOn : Context → Kind → List ℕ → List Message → Came → Type 0
+IsPassedOn ctx k octets [] came = IsDropped k came
+IsPassedOn ctx k octets (n ∷ later) came = IsHandedOn k octets (flat_map (canonical ctx) (n ∷ later)) came
+
+abbrev pub CameBy : Bool → Sight → frame.Message → Result (List Message) Answers → Came → Type 0
+CameBy silent s m (Ok ns) came = IsPassedOn (context_in s) m.kind (octets_of m) (said_as silent m.kind ns) came
 CameBy silent s m (Err answers) came = IsAnswered answers.this came
 
 -- of what is held
@@ -56,4 +68,4 @@ pub record IsHeardBy (rules : Rules) (silent : Bool) (old : Sight) (piece : List
 -- of a side of the guard
 abbrev pub IsHeard : Side → Guarding → List ℕ → ℕ → Came → Guarding → Type 0
 IsHeard side old piece n came new =
-    IsHeardBy old.rules (is_silent side old.rules) (seen_from side old) piece n came (seen_from side new) × (new.rules ≡ old.rules)
+    IsHeardBy (rules_of side old.rules) (is_silent side old.rules) (seen_from side old) piece n came (seen_from side new) × (new.rules ≡ old.rules)

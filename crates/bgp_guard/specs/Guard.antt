@@ -1,22 +1,26 @@
 -- What a guard keeps of its two sides, and where it stands.
 use Rattle.std.specs.Prelude.{ℕ, zero, suc, Bool, true, false, not, ◌&&◌, nat_le, List, [], length, Option, None}
 use Rattle.bgp_open.specs.Prelude.{Said}
+use Rattle.bgp_clean.specs.Prelude.{no_limits}
 use Rattle.bgp_guard.specs.declared.rules.Rules.{Rules}
 use Rattle.bgp_guard.specs.declared.side.Side.{Side}
 use Rattle.bgp_guard.specs.declared.stage.Stage.{Stage}
 use Rattle.bgp_guard.specs.declared.way.TheConstants.{ROOM}
 
 -- What is kept of a side: whether its connection stands; the octets of an incomplete message that came from it; what its OPEN says, once that was
--- handed on; whether its KEEPALIVE was; and the octets that are on their way to it
+-- handed on; whether its KEEPALIVE was; the octets that are on their way to it; how many seconds of an established session nothing was handed on to it;
+-- and whether it is owed a KEEPALIVE, since a message was dropped on the way to it
 pub record Half : Type 0 where
   pub stands : Bool
   pub held : List ℕ
   pub peer : Option Said
   pub ready : Bool
   pub way : List ℕ
+  pub quiet : ℕ
+  pub owed : Bool
 
 abbrev pub absent : Half
-absent = record { stands = false; held = []; peer = None; ready = false; way = [] }
+absent = record { stands = false; held = []; peer = None; ready = false; way = []; quiet = 0; owed = false }
 
 pub record Guarding : Type 0 where
   pub rules : Rules
@@ -51,6 +55,11 @@ guard_of Side.Inner rules s = record { rules = rules; stage = s.stage; outer = s
 abbrev pub is_silent : Side → Rules → Bool
 is_silent Side.Outer rules = false
 is_silent Side.Inner rules = rules.one_way
+
+-- what is asked of the announcements of a side: nothing of the guarded speaker's own
+abbrev pub rules_of : Side → Rules → Rules
+rules_of Side.Outer rules = rules
+rules_of Side.Inner rules = record rules { limits = no_limits; first_as = false }
 
 -- ---- what it asks of its owner
 

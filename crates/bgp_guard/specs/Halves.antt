@@ -7,7 +7,7 @@ use Rattle.bgp_guard.specs.declared.stage.Stage.{Stage}
 use Rattle.bgp_guard.specs.Guard.{Half, runs}
 
 abbrev pub half_with : List ℕ → Line → Half
-half_with held l = record { stands = l.stands; held = held; peer = option_map said_of l.peer; ready = l.ready; way = l.way }
+half_with held l = record { stands = l.stands; held = held; peer = option_map said_of l.peer; ready = l.ready; way = l.way; quiet = l.quiet; owed = l.owed }
 
 abbrev pub half_of : code.Half → Half
 half_of h = half_with h.framer h.line

@@ -1,23 +1,29 @@
 -- What the octets of a side do: each whole message is judged, cleaned and handed on, or answered (RFC 7606; RFC 4271, section 6).
-use Rattle.std.specs.Prelude.{ℕ, Bool, true, false, List, [], ◌∷◌, ◌++◌, Option, None, Some, Result, Ok, Err}
+use Rattle.std.specs.Prelude.{◌==◌, ◌||◌, ◌&&◌, not, ℕ, Bool, true, false, List, [], ◌∷◌, ◌++◌, Option, None, Some, option_map, Result, Ok, Err, if◌then◌else◌}
+use Rattle.std.specs.List.{flat_map}
+use Rattle.std.specs.Option.{option_or}
 use Rattle.bgp_wire.specs.Prelude.{has_octet}
 use Rattle.bgp_frame.specs.declared.fault.HeadFault.{HeadFault}
 use Rattle.bgp_frame.specs.declared.kind.Kind.{Kind}
 use Rattle.bgp_frame.specs.Prelude.{head_notification, content_of}
 use Rattle.bgp_frame.specs.Frame as frame
 use Rattle.bgp_open.specs.declared.context.Context.{Context}
-use Rattle.bgp_open.specs.Prelude.{agreed_with, Said, said_by}
+use Rattle.bgp_open.specs.declared.fault.OpenFault.{OpenFault}
+use Rattle.bgp_open.specs.declared.message.Open.{Open}
+use Rattle.bgp_open.specs.Prelude.{agreed_with, number_of, reading_of, Said, said_by}
 use Rattle.bgp_msg.specs.declared.message.Message.{Message}
 use Rattle.bgp_msg.specs.declared.outcome.Outcome.{Outcome}
 use Rattle.bgp_msg.specs.Prelude.{out_of, canonical}
 use Rattle.bgp_clean.specs.declared.fault.CleanFault.{CleanFault}
-use Rattle.bgp_clean.specs.Prelude.{cleaned}
+use Rattle.bgp_clean.specs.declared.limits.Limits.{Limits}
+use Rattle.bgp_clean.specs.Prelude.{cleaned, refuses_in}
+use Rattle.bgp_update.specs.declared.update.Update.{Update}
 use Rattle.bgp_guard.specs.declared.stage.Stage.{Stage}
 use Rattle.bgp_guard.specs.declared.stage.TheConstants.{DRAIN_SECONDS}
 use Rattle.bgp_guard.specs.declared.rules.Rules.{Rules}
-use Rattle.bgp_guard.specs.Guard.{Sight, listens_in}
+use Rattle.bgp_guard.specs.Guard.{Half, Sight, listens_in}
 use Rattle.bgp_guard.specs.Place.{misplaced}
-use Rattle.bgp_guard.specs.Answers.{Answers, reset_by, reject_both, unexpected, answered}
+use Rattle.bgp_guard.specs.Answers.{Answers, bad_peer_as, reset_by, reject_both, unexpected, answered}
 
 -- where not both OPENs were handed on: only messages are judged whose outcome is the same in any context
 abbrev pub no_context : Context
@@ -38,25 +44,67 @@ abbrev pub answers_to : Outcome → Answers
 answers_to (Outcome.Reset n) = reset_by n
 answers_to _ = reject_both
 
-abbrev pub handed_or : Outcome → Result Message CleanFault → Result Message Answers
-handed_or o (Ok n) = Ok n
+abbrev pub handed_or : Outcome → Result (List Message) CleanFault → Result (List Message) Answers
+handed_or o (Ok ns) = Ok ns
 handed_or o (Err f) = Err (answers_to o)
 
-abbrev pub cleans : Rules → Sight → frame.Message → Result Message Answers
-cleans rules s m = handed_or (out_of (context_in s) m) (cleaned (context_in s) (has_octet rules.drops) true m)
+-- the AS number by which a session knows a speaker: My Autonomous System where not both have AS numbers of four octets (RFC 6793, section 4.1)
+abbrev pub number_in : Context → Said → ℕ
+number_in ctx said = if ctx.as4 then number_of said else said.as_field
 
-abbrev pub placed : Rules → Sight → frame.Message → Option ℕ → Result Message Answers
-placed rules s m None = cleans rules s m
+-- the AS number of the neighbour, where its paths have to begin with it
+abbrev pub neighbour_as : Bool → Context → Option Said → Option ℕ
+neighbour_as true ctx said = option_map (number_in ctx) said
+neighbour_as false ctx said = None
+
+-- the AS number that the paths of a side begin with, by what its OPEN says: that which the owner gives, else on an external session, where the owner asks
+-- for it, the neighbour's own (RFC 4271, section 6.3)
+abbrev pub first_as_in : Rules → Context → Option Said → Option ℕ
+first_as_in rules ctx said = option_or rules.limits.first_as (neighbour_as (rules.first_as && not ctx.internal) ctx said)
+
+-- what its owner asks of the announcements of a side, in a context and by what its OPEN says: a first AS, and on an internal session LOCAL_PREF (RFC 4271,
+-- section 5.1.5)
+abbrev pub limits_in : Rules → Context → Option Said → Limits
+limits_in rules ctx said = record rules.limits { local_pref = rules.limits.local_pref && ctx.internal; first_as = first_as_in rules ctx said }
+
+-- an announcement is refused
+abbrev pub refusal : Rules → Context → Option Said → Update → Bool
+refusal rules ctx said = refuses_in ctx (limits_in rules ctx said)
+
+abbrev pub cleans : Rules → Sight → frame.Message → Result (List Message) Answers
+cleans rules s m = handed_or (out_of (context_in s) m) (cleaned (context_in s) (has_octet rules.drops) (refusal rules (context_in s) s.this.peer) true m)
+
+-- ---- an OPEN of AS 0 isn't handed on (RFC 7607, section 2): neither My Autonomous System nor the number of four octets is 0
+
+abbrev pub is_of_zero : Said → Bool
+is_of_zero s = (s.as_field == 0) || (number_of s == 0)
+
+abbrev pub reads_zero : Result Open OpenFault → Bool
+reads_zero (Ok o) = is_of_zero (said_by o)
+reads_zero (Err fault) = false
+
+abbrev pub has_zero : Kind → List ℕ → Bool
+has_zero Kind.Open body = reads_zero (reading_of body)
+has_zero _ body = false
+
+abbrev pub known : Rules → Sight → frame.Message → Bool → Result (List Message) Answers
+known rules s m true = Err (reset_by bad_peer_as)
+known rules s m false = cleans rules s m
+
+-- ---- a message is judged where it is in its place
+
+abbrev pub placed : Rules → Sight → frame.Message → Option ℕ → Result (List Message) Answers
+placed rules s m None = known rules s m (has_zero m.kind m.body)
 placed rules s m (Some subcode) = Err (reset_by (unexpected subcode m.kind))
 
-abbrev pub comes_of : Rules → Sight → frame.Message → Result Message Answers
+abbrev pub comes_of : Rules → Sight → frame.Message → Result (List Message) Answers
 comes_of rules s m = placed rules s m (misplaced s m.kind)
 
 -- ---- what it does
 
 -- what an OPEN says is kept as it is handed on
-abbrev pub peer_behind : Kind → Message → Option Said → Option Said
-peer_behind Kind.Open (Message.Open o) before = Some (said_by o)
+abbrev pub peer_behind : Kind → List Message → Option Said → Option Said
+peer_behind Kind.Open (Message.Open o ∷ later) before = Some (said_by o)
 peer_behind _ _ before = before
 
 abbrev pub ready_behind : Kind → Bool → Bool
@@ -68,20 +116,38 @@ abbrev pub stage_behind : Kind → Stage → Stage
 stage_behind Kind.Notification before = Stage.Ends DRAIN_SECONDS
 stage_behind _ before = before
 
--- routes that stay inside: a KEEPALIVE is in place of their UPDATE
-abbrev pub said_as : Bool → Message → Message
-said_as true (Message.Update u) = Message.Keepalive
-said_as _ n = n
+-- what goes on of an UPDATE once it is cleaned: nothing where the side's routes stay inside, or where a KEEPALIVE stands for it, since it says nothing
+abbrev pub left_of : Bool → List Message → List Message
+left_of true ns = []
+left_of false (Message.Keepalive ∷ later) = []
+left_of false ns = ns
 
-abbrev pub handed_on : Bool → Sight → Kind → Message → Sight
-handed_on silent s kind n = record {
+-- the messages that are handed on in place of one that came, by its kind
+abbrev pub said_as : Bool → Kind → List Message → List Message
+said_as silent Kind.Update ns = left_of silent ns
+said_as silent kind ns = ns
+
+-- where nothing is handed on the other side is owed a KEEPALIVE: the sender counts the message as one, and the receiver hasn't heard it
+abbrev pub is_dropped : List Message → Bool
+is_dropped [] = true
+is_dropped (n ∷ later) = false
+
+abbrev pub quiet_behind : List Message → ℕ → ℕ
+quiet_behind [] quiet = quiet
+quiet_behind (n ∷ later) quiet = 0
+
+abbrev pub handed_to : Context → List Message → Half → Half
+handed_to ctx said h = record h { way = h.way ++ flat_map (canonical ctx) said; quiet = quiet_behind said h.quiet; owed = is_dropped said }
+
+abbrev pub handed_on : Bool → Sight → Kind → List Message → Sight
+handed_on silent s kind ns = record {
   stage = stage_behind kind s.stage;
-  this = record s.this { peer = peer_behind kind n s.this.peer; ready = ready_behind kind s.this.ready };
-  other = record s.other { way = s.other.way ++ canonical (context_in s) (said_as silent n) };
+  this = record s.this { peer = peer_behind kind ns s.this.peer; ready = ready_behind kind s.this.ready };
+  other = handed_to (context_in s) (said_as silent kind ns) s.other;
 }
 
-abbrev pub done : Bool → Sight → Kind → Result Message Answers → Sight
-done silent s kind (Ok n) = handed_on silent s kind n
+abbrev pub done : Bool → Sight → Kind → Result (List Message) Answers → Sight
+done silent s kind (Ok ns) = handed_on silent s kind ns
 done silent s kind (Err answers) = answered s answers
 
 abbrev pub holding : Sight → List ℕ → Sight

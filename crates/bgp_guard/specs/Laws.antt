@@ -1,9 +1,10 @@
 -- What the law of the guard says of the octets of one side, and of those that the other was given.
-use Rattle.std.specs.Prelude.{◌≡◌, ◌<◌, ◌≤◌, ◌⊎◌, ◌&&◌, ℕ, suc, Bool, true, false, List, [], ◌∷◌, ◌++◌, map, is_some, Option, None, Some, Result, Ok, Err}
+use Rattle.std.specs.Prelude.{◌≡◌, ◌<◌, ◌≤◌, ◌⊎◌, ◌&&◌, ℕ, suc, Bool, true, false, List, [], ◌∷◌, ◌++◌, is_some, Option, None, Some, Result, Ok, Err}
 use Rattle.std.specs.List.{flat_map, AllByRecursion}
 use Rattle.bgp_wire.specs.Prelude.{has_octet, Row}
 use Rattle.bgp_frame.specs.declared.fault.HeadFault.{HeadFault}
 use Rattle.bgp_frame.specs.Prelude.{IsFrame, Waits, content_of}
+use Rattle.bgp_frame.specs.declared.kind.Kind.{Kind}
 use Rattle.bgp_frame.specs.declared.kind.Kind.TheVariants as kind
 use Rattle.bgp_frame.specs.declared.notification.Notification.{Notification}
 use Rattle.bgp_frame.specs.Frame as frame
@@ -12,19 +13,41 @@ use Rattle.bgp_open.specs.declared.message.Open.{Open}
 use Rattle.bgp_open.specs.Prelude.{Said, said_by}
 use Rattle.bgp_msg.specs.declared.message.Message.{Message}
 use Rattle.bgp_msg.specs.Prelude.{canonical}
-use Rattle.bgp_clean.specs.Prelude.{cleaned, cleaned_stream}
+use Rattle.bgp_clean.specs.declared.fault.CleanFault.{CleanFault}
+use Rattle.bgp_clean.specs.Prelude.{cleaned}
 use Rattle.bgp_guard.specs.declared.rules.Rules.{Rules}
 use Rattle.bgp_guard.specs.declared.side.Side.{Side}
 use Rattle.bgp_guard.specs.declared.stage.Stage.{Stage}
 use Rattle.bgp_guard.specs.declared.stage.TheConstants.{OPEN_SECONDS}
 use Rattle.bgp_guard.specs.Answers.{Answers, notice}
-use Rattle.bgp_guard.specs.Guard.{Sight, is_silent, listens_in, runs}
-use Rattle.bgp_guard.specs.Hearing.{agreed, comes_of, holding, said_as}
-use Rattle.bgp_guard.specs.Life.{Event, Closed, Octet, Ticked, Unreached, Life, life, life_from}
+use Rattle.bgp_guard.specs.Guard.{Sight, is_silent, listens_in, rules_of, runs}
+use Rattle.bgp_guard.specs.Hearing.{agreed, comes_of, holding, refusal, said_as}
+use Rattle.bgp_guard.specs.Life.{Event, Closed, Octet, Stalled, Stopped, Ticked, Unreached, Life, life, life_from}
 
--- the cleaned form of a direction: the cleaned stream of its messages, with KEEPALIVEs in place of UPDATEs where its routes stay inside
-abbrev pub direction : Context → Rules → Bool → List frame.Message → List ℕ
-direction ctx rules silent messages = flat_map (canonical ctx) (map (said_as silent) (cleaned_stream ctx (has_octet rules.drops) messages))
+-- what goes on of one message, and of those behind it
+abbrev pub said_then : Bool → Kind → Result (List Message) CleanFault → List Message → List Message
+said_then silent kind (Ok ns) later = said_as silent kind ns ++ later
+said_then silent kind (Err f) later = []
+
+abbrev pub direction_from : Context → Option Said → Rules → Bool → Bool → List frame.Message → List Message
+direction_from ctx said rules silent first [] = []
+direction_from ctx said rules silent first (m ∷ later) =
+    said_then silent m.kind (cleaned ctx (has_octet rules.drops) (refusal rules ctx said) first m) (direction_from ctx said rules silent false later)
+
+-- the cleaned form of a direction, by what the OPEN of its side says: the cleaned stream of its messages, without UPDATEs of which nothing is left, or whose
+-- routes stay inside
+abbrev pub direction : Context → Option Said → Rules → Bool → List frame.Message → List Message
+direction ctx said rules silent messages = direction_from ctx said rules silent true messages
+
+pub record Begins (n : Message) (goes_on : List Message → Type 0) (said : List Message) : Type 0 where
+  pub later : List Message
+  pub is : said ≡ n ∷ later
+  pub rest : goes_on later
+
+-- the first are the second in their order, with KEEPALIVEs of the guard's own between
+abbrev pub WithKeepalives : List Message → List Message → Type 0
+WithKeepalives [] said = said ≡ []
+WithKeepalives (n ∷ later) said = Begins n (WithKeepalives later) said ⊎ ((n ≡ Message.Keepalive) × WithKeepalives later said)
 
 abbrev pub own_octets : Option Notification → List ℕ
 own_octets None = []
@@ -39,7 +62,7 @@ pub record IsFirst (rules : Rules) (ctx : Context) (messages : List frame.Messag
   pub later : List frame.Message
   pub is : messages ≡ first ∷ later
   pub value : Open
-  pub handed : cleaned ctx (has_octet rules.drops) true first ≡ Ok (Message.Open value)
+  pub handed : cleaned ctx (has_octet rules.drops) (refusal rules ctx (Some said)) true first ≡ Ok (Message.Open value ∷ [])
   pub says : said ≡ said_by value
 
 -- what is kept of an OPEN is what the OPEN says that was handed on
@@ -48,7 +71,7 @@ IsKept rules ctx messages None = Unit {0}
 IsKept rules ctx messages (Some said) = IsFirst rules ctx messages said
 
 -- Whole messages came in order, and others behind them. What a side was given, what is on its way and what was lost as it closed is the cleaned form
--- of these messages, and then nothing or a NOTIFICATION of the guard's own: none where one of these messages is one
+-- of these messages, with KEEPALIVEs of the guard's own between, and then nothing or a NOTIFICATION of its own: none where one of these messages is one
 pub record IsHandedOver (rules : Rules) (silent : Bool) (ctx : Context) (kept : Option Said) (came given way : List ℕ) : Type 0 where
   pub messages : List frame.Message
   pub row : List ℕ
@@ -58,7 +81,9 @@ pub record IsHandedOver (rules : Rules) (silent : Bool) (ctx : Context) (kept : 
   pub opened : IsKept rules ctx messages kept
   pub lost : List ℕ
   pub own : Option Notification
-  pub put : given ++ (way ++ lost) ≡ direction ctx rules silent messages ++ own_octets own
+  pub handed : List Message
+  pub between : WithKeepalives handed (direction ctx kept rules silent messages)
+  pub put : given ++ (way ++ lost) ≡ flat_map (canonical ctx) handed ++ own_octets own
   pub alone : (own ≡ None) ⊎ AllByRecursion IsNoNotification messages
 
 -- While the guard runs, these are all messages that came, and nothing of them is lost
@@ -70,7 +95,9 @@ pub record IsAllHandedOver (rules : Rules) (silent : Bool) (ctx : Context) (kept
   pub frames : Row IsFrame messages row
   pub opened : IsKept rules ctx messages kept
   pub waits : Waits rest
-  pub put : given ++ way ≡ direction ctx rules silent messages
+  pub handed : List Message
+  pub between : WithKeepalives handed (direction ctx kept rules silent messages)
+  pub put : given ++ way ≡ flat_map (canonical ctx) handed
   pub none : AllByRecursion IsNoNotification messages
 
 -- in the context that both OPENs agree on
@@ -85,13 +112,13 @@ IsOctetIn _ = Unit {0}
 -- from a side to the other
 abbrev pub HandsOn : Life → Side → Type 0
 HandsOn a side =
-    HandsOver a.guard.stage a.guard.rules (is_silent side a.guard.rules) (life_from side a).sight.this.peer (life_from side a).sight.other.peer
+    HandsOver a.guard.stage (rules_of side a.guard.rules) (is_silent side a.guard.rules) (life_from side a).sight.this.peer (life_from side a).sight.other.peer
     (life_from side a).this.came (life_from side a).other.given (life_from side a).sight.other.way
 
 -- ---- why a guard ends
 
-abbrev pub IsAnsweredOr : Result Message Answers → frame.Message → Type 0
-IsAnsweredOr (Ok n) m = m.kind ≡ kind.Notification
+abbrev pub IsAnsweredOr : Result (List Message) Answers → frame.Message → Type 0
+IsAnsweredOr (Ok ns) m = m.kind ≡ kind.Notification
 IsAnsweredOr (Err answers) m = Unit {0}
 
 -- a message is answered, or is a NOTIFICATION; each header with a fault is answered
@@ -109,11 +136,14 @@ abbrev pub IsLast : Stage → Type 0
 IsLast (Stage.Runs n) = OPEN_SECONDS ≤ suc n
 IsLast (Stage.Ends n) = ⊥
 
--- an event ends a guard that runs: a side erred, sent a NOTIFICATION, closed or can't be reached, or an OPEN was missing for too long
+-- an event ends a guard that runs: a side erred, sent a NOTIFICATION, closed, can't be reached or doesn't read, an OPEN was missing for too long, or the
+-- owner ends the session
 abbrev pub EndsBy : Life → Event → Type 0
-EndsBy a (Octet of octet) = EndsHearing a.guard.rules (life_from of a).sight octet
+EndsBy a (Octet of octet) = EndsHearing (rules_of of a.guard.rules) (life_from of a).sight octet
 EndsBy a (Closed of) = (life_from of a).sight.this.stands ≡ true
 EndsBy a (Unreached of) = (life_from of a).sight.this.stands ≡ false
+EndsBy a (Stalled of) = Unit {0}
+EndsBy a Stopped = Unit {0}
 EndsBy a Ticked = IsLast a.guard.stage × ((is_some a.guard.outer.peer && is_some a.guard.inner.peer) ≡ false)
 EndsBy a _ = ⊥
 

@@ -2,18 +2,21 @@
 use Rattle.std.specs.Prelude.{ℕ, Bool, true, false, List, [], ◌∷◌, ◌++◌, take}
 use Rattle.bgp_guard.specs.declared.rules.Rules.{Rules}
 use Rattle.bgp_guard.specs.declared.side.Side.{Side}
-use Rattle.bgp_guard.specs.Guard.{Guarding, Sight, fresh, seen_from, guard_of, is_silent, listens_in}
+use Rattle.bgp_guard.specs.Guard.{Guarding, Sight, fresh, seen_from, guard_of, is_silent, listens_in, rules_of}
 use Rattle.bgp_guard.specs.Hearing.{by_octet}
-use Rattle.bgp_guard.specs.Events.{stood, unreached, closed, sent, ticked}
+use Rattle.bgp_guard.specs.Events.{stood, unreached, closed, sent, stalled, stopped, ticked}
 
--- what happens: a side stands, can't be reached, sends an octet, has closed, was sent so many octets; or a second has gone by
+-- what happens: a side stands, can't be reached, sends an octet, has closed, was sent so many octets, doesn't read any more; a second has gone by; or the
+-- owner ends the session
 pub data Event : Type 0 where
   Stood : (of : Side) → Event
   Unreached : (of : Side) → Event
   Octet : (of : Side) → (octet : ℕ) → Event
   Closed : (of : Side) → Event
   Sent : (of : Side) → (count : ℕ) → Event
+  Stalled : (of : Side) → Event
   Ticked : Event
+  Stopped : Event
 
 -- the octets that came from a side, as far as they were taken, and those that were sent to it
 pub record Trail : Type 0 where
@@ -70,10 +73,12 @@ for_side rule side a = life_of side a.guard.rules (rule (life_from side a))
 abbrev pub happens : Life → Event → Life
 happens a (Stood side) = for_side (by_event stood) side a
 happens a (Unreached side) = for_side (by_event unreached) side a
-happens a (Octet side octet) = for_side (octet_seen a.guard.rules (is_silent side a.guard.rules) octet) side a
+happens a (Octet side octet) = for_side (octet_seen (rules_of side a.guard.rules) (is_silent side a.guard.rules) octet) side a
 happens a (Closed side) = for_side (by_event closed) side a
 happens a (Sent side n) = for_side (sent_seen n) side a
+happens a (Stalled side) = for_side (by_event stalled) side a
 happens a Ticked = record a { guard = ticked a.guard }
+happens a Stopped = record a { guard = stopped a.guard }
 
 abbrev pub life_behind : Life → List Event → Life
 life_behind a [] = a

@@ -2,7 +2,7 @@
 
 ghost use Rattle.std.specs.Prelude.{◌≡◌, ◌≤◌, ◌++◌, ℕ, List, length};
 ghost use Rattle.bgp_frame.specs.Prelude.{notification_of_view, short_value};
-ghost use Rattle.bgp_guard.specs.Prelude.{notice, reset_over, rejected, unexpected, answered, reset_by, reject_both, told_late, IsAnswered, half_with, sight_with};
+ghost use Rattle.bgp_guard.specs.Prelude.{notice, reset_over, rejected, shutdown, expired, bad_peer_as, unexpected, answered, dismissed, reset_by, reject_both, told_late, IsAnswered, half_with, sight_with};
 
 use crate::came::Came;
 use crate::line::Line;
@@ -35,6 +35,27 @@ pub(crate) fn rejected() -> ShortNotification
     ShortNotification::plain(error::CEASE, error::CONNECTION_REJECTED)
 }
 
+/// The owner ends the session.
+fn shutdown() -> ShortNotification
+    ensures { short_value result ≡ shutdown }
+{
+    ShortNotification::plain(error::CEASE, error::ADMINISTRATIVE_SHUTDOWN)
+}
+
+/// What is on its way to the other side hasn't moved for the Hold Time, or an OPEN is missing.
+pub(crate) fn expired() -> ShortNotification
+    ensures { short_value result ≡ expired }
+{
+    ShortNotification::plain(error::HOLD_TIMER_EXPIRED, error::UNSPECIFIC)
+}
+
+/// An OPEN says AS 0 (RFC 7607).
+pub(crate) fn bad_peer_as() -> ShortNotification
+    ensures { short_value result ≡ bad_peer_as }
+{
+    ShortNotification::plain(error::OPEN_MESSAGE, error::BAD_PEER_AS)
+}
+
 /// A message of this kind is out of place.
 pub(crate) fn unexpected(subcode: u8, kind: Kind) -> ShortNotification
     ensures { short_value result ≡ unexpected subcode kind }
@@ -48,10 +69,22 @@ pub(crate) fn tell_late(line: &mut Line)
     ensures { (held : List ℕ) → half_with held line.new ≡ told_late (half_with held line.old) }
 {
     let why = match line.peer {
-        None => ShortNotification::plain(error::HOLD_TIMER_EXPIRED, error::UNSPECIFIC),
+        None => expired(),
         Some(_) => reset_over(),
     };
     tell(why.view(), &mut line.way);
+}
+
+/// Tells a side that stands that the owner ends the session. One that doesn't gets nothing.
+pub(crate) fn dismiss(line: &mut Line)
+    requires { length line.old.way ≤ 65536 }
+    ensures { (held : List ℕ) → half_with held line.new ≡ dismissed (half_with held line.old) }
+{
+    if line.stands {
+        tell(shutdown().view(), &mut line.way);
+    } else {
+        line.way.clear();
+    }
 }
 
 /// Tells both sides why, and ends.

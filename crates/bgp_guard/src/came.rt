@@ -7,6 +7,11 @@ use bgp_frame::Kind;
 pub enum Came {
     /// No message is whole yet, or nothing is read of the side.
     Nothing,
+    /// Nothing was handed on of a message of this kind: an UPDATE that says nothing once it is cleaned, or whose routes stay inside.
+    Dropped {
+        /// The kind of the message that came.
+        kind: Kind,
+    },
     /// A message of this kind was handed on: as it came, or changed.
     HandedOn {
         /// The kind of the message that came.

@@ -1,12 +1,25 @@
 //! Events that bring no octets, as one side sees them.
 
-ghost use Rattle.std.specs.Prelude.{◌≡◌, ◌≤◌, length};
-ghost use Rattle.bgp_frame.specs.Prelude.{Waits};
-ghost use Rattle.bgp_guard.specs.Prelude.{closed, unreached, HasRoom, sight_of};
+ghost use Rattle.std.specs.Prelude.{◌≡◌, ◌≤◌, length, true};
+ghost use Rattle.bgp_frame.specs.Prelude.{short_value, Waits};
+ghost use Rattle.bgp_guard.specs.Prelude.{closed, cut_if, stalled, unreached, HasRoom, sight_of};
 
-use crate::answers::{rejected, tell};
+use crate::answers::{expired, rejected, tell};
 use crate::line::Half;
 use crate::stage::{DRAIN_SECONDS, Stage};
+use bgp_frame::ShortNotification;
+
+/// A side gets nothing more, and the other is told why.
+fn cut(why: ShortNotification, stage: &mut Stage, this: &mut Half, other: &mut Half)
+    requires { length other.old.line.way ≤ 65536 }
+    ensures after { sight_of stage.new this.new other.new ≡ cut_if true (short_value why) (sight_of stage.old this.old other.old) }
+    ensures held { this.new.framer ≡ this.old.framer }
+    ensures others_held { other.new.framer ≡ other.old.framer }
+{
+    this.line.way.clear();
+    tell(why.view(), &mut other.line.way);
+    *stage = Stage::Ends(DRAIN_SECONDS);
+}
 
 /// A side that doesn't stand can't be reached.
 pub(crate) fn unreachable(stage: &mut Stage, this: &mut Half, other: &mut Half)
@@ -19,12 +32,24 @@ pub(crate) fn unreachable(stage: &mut Stage, this: &mut Half, other: &mut Half)
     ensures others_held { other.new.framer ≡ other.old.framer }
 {
     match *stage {
-        Stage::Runs(_) if !this.line.stands => {
-            this.line.way.clear();
-            tell(rejected().view(), &mut other.line.way);
-            *stage = Stage::Ends(DRAIN_SECONDS);
-        }
+        Stage::Runs(_) if !this.line.stands => cut(rejected(), stage, this, other),
         _ => {}
+    }
+}
+
+/// What is on its way to a side hasn't moved for the Hold Time.
+pub(crate) fn stall(stage: &mut Stage, this: &mut Half, other: &mut Half)
+    requires room { HasRoom stage.old this.old.line.way }
+    requires others_room { HasRoom stage.old other.old.line.way }
+    ensures after { sight_of stage.new this.new other.new ≡ stalled (sight_of stage.old this.old other.old) }
+    ensures room { HasRoom stage.new this.new.line.way }
+    ensures others_room { HasRoom stage.new other.new.line.way }
+    ensures held { this.new.framer ≡ this.old.framer }
+    ensures others_held { other.new.framer ≡ other.old.framer }
+{
+    match *stage {
+        Stage::Runs(_) => cut(expired(), stage, this, other),
+        Stage::Ends(_) => {}
     }
 }
 

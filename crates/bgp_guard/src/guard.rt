@@ -1,15 +1,17 @@
 //! The guard between two speakers.
 
 ghost use Rattle.std.specs.Prelude.{◌≡◌, true, IfOk, option_map};
-ghost use Rattle.bgp_guard.specs.Guard.{closes, fresh, half, has_ended, listens};
+ghost use Rattle.bgp_guard.specs.Guard.{closes, fresh, half, has_ended, listens, runs};
 ghost use Rattle.bgp_guard.specs.Came.{IsHeard};
-ghost use Rattle.bgp_guard.specs.Events.{closed, for_side, is_waiting, sent, stood, ticked, unreached, waited};
+ghost use Rattle.bgp_guard.specs.Events.{closed, for_side, is_waiting, kept_alive, sent, stall_seconds, stalled, stood, stopped, ticked, unreached, waited};
 ghost use Rattle.bgp_open.specs.Prelude.{said_of};
 
-use crate::answers::tell_late;
+use crate::answers::{dismiss, tell_late};
 use crate::came::Came;
-use crate::events::{close, unreachable};
+use crate::events::{close, stall, unreachable};
+use crate::handing::agreed_hold;
 use crate::hearing::{hear, listens};
+use crate::keeping::keep;
 use crate::line::Half;
 use crate::rules::Rules;
 use crate::side::Side;
@@ -94,6 +96,41 @@ impl Guard {
         }
     }
 
+    /// The octets on their way to a side haven't moved for [`stall_seconds`](Guard::stall_seconds). They are dropped, the other side is told (4/0), and the
+    /// guard ends.
+    pub fn stalled(&mut self, side: Side)
+        ensures { self.new ≡ for_side stalled side self.old }
+    {
+        match side {
+            Side::Outer => stall(&mut self.stage, &mut self.outer, &mut self.inner),
+            Side::Inner => stall(&mut self.stage, &mut self.inner, &mut self.outer),
+        }
+    }
+
+    /// For how many seconds octets on their way to a side may stand still: the Hold Time that both OPENs agree on, 240 where that is 0 or an OPEN is missing.
+    pub fn stall_seconds(&self) -> u16
+        ensures { result ≡ stall_seconds self.now }
+    {
+        match agreed_hold(&self.outer.line, &self.inner.line) {
+            0 => u16::from(OPEN_SECONDS),
+            hold => hold,
+        }
+    }
+
+    /// The owner ends the session. Each side that stands is told (6/2), behind what is on its way, and the guard ends.
+    pub fn stop(&mut self)
+        ensures { self.new ≡ stopped self.old }
+    {
+        match self.stage {
+            Stage::Ends(_) => {}
+            Stage::Runs(_) => {
+                dismiss(&mut self.outer.line);
+                dismiss(&mut self.inner.line);
+                self.stage = Stage::Ends(DRAIN_SECONDS);
+            }
+        }
+    }
+
     /// Whether it has ended: nothing is read of either side any more.
     pub fn has_ended(&self) -> bool
         ensures { result ≡ has_ended self.now }
@@ -130,7 +167,7 @@ impl Guard {
                 piece,
             ),
             Side::Inner => hear(
-                &self.rules,
+                &self.rules.of_inner(),
                 silent,
                 &mut self.stage,
                 &mut self.inner,
@@ -188,7 +225,7 @@ impl Guard {
         match self.stage {
             Stage::Ends(left) => self.stage = Stage::Ends(left.saturating_sub(1)),
             Stage::Runs(gone) if self.waits() => self.wait(gone),
-            Stage::Runs(_) => {}
+            Stage::Runs(_) => self.keep_alive(),
         }
     }
 
@@ -198,6 +235,18 @@ impl Guard {
     {
         let any = self.outer.line.stands || self.inner.line.stands;
         any && !(self.outer.line.peer.is_some() && self.inner.line.peer.is_some())
+    }
+
+    // Puts KEEPALIVEs on the way to the sides of an established session where they are due.
+    fn keep_alive(&mut self)
+        requires { runs self.old.stage ≡ true }
+        ensures { self.new ≡ kept_alive self.old }
+    {
+        let hold = agreed_hold(&self.outer.line, &self.inner.line);
+        if hold != 0 && self.outer.line.ready && self.inner.line.ready {
+            keep(hold, &mut self.outer.line);
+            keep(hold, &mut self.inner.line);
+        }
     }
 
     // A second more has gone by in which an OPEN was waited for.

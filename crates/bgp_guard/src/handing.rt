@@ -1,21 +1,22 @@
 //! Handing a message on.
 
-ghost use Rattle.std.specs.Prelude.{◌≡◌, ◌+◌, ◌≤◌, ℕ, List, false, length, drop, option_map};
+ghost use Rattle.std.specs.Prelude.{◌≡◌, ◌+◌, ◌<◌, ◌≤◌, ◌++◌, ℕ, List, false, length, drop, option_map};
 ghost use Rattle.bgp_wire.specs.Prelude.{AreOctets};
 ghost use Rattle.bgp_frame.specs.Prelude.{IsFrame, IsLength, message_in};
 ghost use Rattle.bgp_open.specs.Prelude.{reading_of, said_of};
 ghost use Rattle.bgp_msg.specs.declared.message.Message.{Message};
-ghost use Rattle.bgp_msg.specs.Prelude.{out_of, canonical};
-ghost use Rattle.bgp_msg.specs.declared.message.Message.TheVariants as message;
-ghost use Rattle.bgp_guard.specs.Prelude.{runs, misplaced, answered, agreed, answers_to, cleans, comes_of, context_in, done, handed_on, said_as, stage_behind, CameBy, IsAnswered, IsHandedOn, half_with, HasRoom, half_behind, said_for, said_in, sight_with, CanBeRead, IsReadIn};
+ghost use Rattle.bgp_msg.specs.Prelude.{out_of};
+ghost use Rattle.bgp_clean.specs.Prelude.{octets_handed};
+ghost use Rattle.bgp_guard.specs.Prelude.{runs, misplaced, answered, agreed, answers_to, cleans, comes_of, context_in, done, first_as_in, handed_on, has_zero, limits_in, neighbour_as, number_in, is_of_zero, said_as, stage_behind, handed_to, is_dropped, CameBy, IsAnswered, IsPassedOn, half_with, HasRoom, half_behind, said_in, sight_with, CanBeRead, IsReadIn};
 
-use crate::answers::{reject, reset, unexpected};
+use crate::answers::{bad_peer_as, reject, reset, unexpected};
 use crate::came::Came;
 use crate::line::Line;
 use crate::rules::Rules;
 use crate::stage::{DRAIN_SECONDS, Stage};
-use bgp_clean::{Cleaned, clean};
-use bgp_frame::{Frame, Kind, head};
+use crate::way::WAY_MAX;
+use bgp_clean::{Cleaned, Limits, clean};
+use bgp_frame::{Frame, Kind};
 use bgp_msg::{OutcomeView, view_frame};
 use bgp_numbers::error;
 use bgp_open::{Context, Peer, agreed_context, view_open};
@@ -39,6 +40,34 @@ fn context_in(this: &Line, other: &Line) -> Context
         (Some(ours), Some(theirs)) => agreed_context(ours, theirs),
         _ => NO_CONTEXT,
     }
+}
+
+/// The Hold Time that both agreed on: 0 where an OPEN is missing.
+pub(crate) fn agreed_hold(this: &Line, other: &Line) -> u16
+    ensures { result ≡ (agreed (option_map said_of this.now.peer) (option_map said_of other.now.peer)).hold }
+{
+    context_in(this, other).hold
+}
+
+/// Whether a message is an OPEN of AS 0.
+fn has_zero(kind: Kind, body: &[u8]) -> bool
+    requires { IsLength kind (19 + length body.now) }
+    ensures { result ≡ has_zero kind body.now }
+{
+    match kind {
+        Kind::Open => match view_open(body) {
+            Ok(view) => is_of_zero(&view.peer()),
+            Err(_) => false,
+        },
+        Kind::Update | Kind::Notification | Kind::Keepalive => false,
+    }
+}
+
+/// Whether an OPEN says AS 0.
+fn is_of_zero(peer: &Peer) -> bool
+    ensures { result ≡ is_of_zero (said_of peer.now) }
+{
+    peer.as_field == 0 || peer.as_number() == 0
 }
 
 /// The subcode that answers a message of this kind, where it is out of place.
@@ -74,23 +103,35 @@ fn peer_of(whole: &[u8]) -> Option<Peer>
     }
 }
 
-/// What is handed on of a message that was cleaned: a KEEPALIVE in place of an UPDATE whose routes stay inside.
-fn passed<'a>(silent: bool, kind: Kind, cleaned: &'a [u8], keepalive: &'a [u8]) -> &'a [u8]
-    ensures value { (ctx : Context) (n : Message) → cleaned.entry.now ≡ canonical ctx n → keepalive.entry.now ≡ canonical ctx message.Keepalive
-        → result.now ≡ canonical ctx (said_for silent kind n) }
-    ensures most { length cleaned.entry.now ≤ 4096 → length keepalive.entry.now ≤ 4096 → length result.now ≤ 4096 }
+/// The octets of an UPDATE, at least.
+const UPDATE_LEN: usize = 23;
+
+/// Whether nothing is handed on of a message that was cleaned: of an UPDATE whose routes stay inside, or in whose place a KEEPALIVE stands.
+fn is_dropped(silent: bool, kind: Kind, cleaned: &[u8]) -> bool
+    ensures { (ns : List Message) → IsReadIn kind ns cleaned.now → result ≡ is_dropped (said_as silent kind ns) }
 {
     match kind {
-        Kind::Update if silent => keepalive,
-        _ => cleaned,
+        Kind::Update => silent || cleaned.len() < UPDATE_LEN,
+        Kind::Open | Kind::Notification | Kind::Keepalive => false,
     }
+}
+
+/// Puts a message behind all that is on its way to a side.
+fn put_on(cleaned: &[u8], line: &mut Line)
+    requires { length line.old.way + length cleaned.now ≤ WAY_MAX }
+    ensures handed { (held : List ℕ) (ctx : Context) (ns : List Message) → 0 < length ns → cleaned.now ≡ octets_handed ctx ns → half_with held line.new ≡ handed_to ctx ns (half_with held line.old) }
+    ensures way { line.new.way ≡ line.old.way ++ cleaned.now }
+{
+    line.way.put(cleaned);
+    line.quiet = 0;
+    line.owed = false;
 }
 
 /// Where a guard and a side stand behind a message that is handed on.
 fn go_on(kind: Kind, cleaned: &[u8], stage: &mut Stage, this: &mut Line)
     requires { CanBeRead kind cleaned.now }
     ensures stage { stage.new ≡ stage_behind kind stage.old }
-    ensures this { (h : List ℕ) (n : Message) → IsReadIn kind n cleaned.now → half_with h this.new ≡ half_behind kind n (half_with h this.old) }
+    ensures this { (h : List ℕ) (ns : List Message) → IsReadIn kind ns cleaned.now → half_with h this.new ≡ half_behind kind ns (half_with h this.old) }
     ensures way { this.new.way ≡ this.old.way }
 {
     match kind {
@@ -112,21 +153,23 @@ fn hand_on(
     other: &mut Line,
 ) -> Came
     requires least { CanBeRead kind cleaned.now }
-    requires most { length cleaned.now ≤ 4096 }
-    requires room { length other.old.way ≤ 61440 }
-    ensures after { (h k : List ℕ) (n : Message) → cleaned.now ≡ canonical (context_in (sight_with h k stage.old this.old other.old)) n → IsReadIn kind n cleaned.now
-        → sight_with h k stage.new this.new other.new ≡ handed_on silent (sight_with h k stage.old this.old other.old) kind n }
-    ensures told { (ctx : Context) (n : Message) → cleaned.now ≡ canonical ctx n → IsReadIn kind n cleaned.now → IsHandedOn kind whole.now (canonical ctx (said_as silent n)) result }
+    requires most { length cleaned.now ≤ 12288 }
+    requires room { length other.old.way ≤ 53248 }
+    ensures after { (h k : List ℕ) (ns : List Message) → cleaned.now ≡ octets_handed (context_in (sight_with h k stage.old this.old other.old)) ns → IsReadIn kind ns cleaned.now
+        → sight_with h k stage.new this.new other.new ≡ handed_on silent (sight_with h k stage.old this.old other.old) kind ns }
+    ensures told { (ctx : Context) (ns : List Message) → cleaned.now ≡ octets_handed ctx ns → IsReadIn kind ns cleaned.now → IsPassedOn ctx kind whole.now (said_as silent kind ns) result }
     ensures room { length other.new.way ≤ 65536 }
     ensures this_way { this.new.way ≡ this.old.way }
 {
-    let keepalive = head(Kind::Keepalive, 0);
-    let passed = passed(silent, kind, cleaned, &keepalive);
-    other.way.put(passed);
     go_on(kind, cleaned, stage, this);
+    if is_dropped(silent, kind, cleaned) {
+        other.owed = true;
+        return Came::Dropped { kind };
+    }
+    put_on(cleaned, other);
     Came::HandedOn {
         kind,
-        same: passed == whole,
+        same: cleaned == whole,
     }
 }
 
@@ -153,6 +196,51 @@ fn refuse(
     }
 }
 
+/// The AS number by which a session knows a speaker.
+fn number_in(ctx: &Context, peer: &Peer) -> u32
+    ensures { result ≡ number_in ctx.now (said_of peer.now) }
+{
+    if ctx.as4 {
+        peer.as_number()
+    } else {
+        u32::from(peer.as_field)
+    }
+}
+
+/// The AS number of the neighbour, where its paths have to begin with it.
+fn neighbour_as(asked: bool, ctx: &Context, peer: &Option<Peer>) -> Option<u32>
+    ensures { result ≡ neighbour_as asked ctx.now (option_map said_of peer.now) }
+{
+    if !asked {
+        return None;
+    }
+    match peer {
+        Some(peer) => Some(number_in(ctx, peer)),
+        None => None,
+    }
+}
+
+/// The AS number that the paths of a side begin with.
+fn first_as_in(rules: &Rules, ctx: &Context, peer: &Option<Peer>) -> Option<u32>
+    ensures { result ≡ first_as_in rules.now ctx.now (option_map said_of peer.now) }
+{
+    match rules.limits.first_as {
+        Some(number) => Some(number),
+        None => neighbour_as(rules.first_as && !ctx.internal, ctx, peer),
+    }
+}
+
+/// What the owner asks of the announcements of a side, in a context and by what its OPEN says.
+fn limits_in(rules: &Rules, ctx: &Context, peer: &Option<Peer>) -> Limits
+    ensures { result ≡ limits_in rules.now ctx.now (option_map said_of peer.now) }
+{
+    Limits {
+        local_pref: rules.limits.local_pref && ctx.internal,
+        first_as: first_as_in(rules, ctx, peer),
+        ..rules.limits
+    }
+}
+
 /// Cleans a whole message that is in its place, and hands it on or answers it.
 fn pass(
     rules: &Rules,
@@ -167,7 +255,7 @@ fn pass(
     requires octets { AreOctets whole.now }
     requires framed { IsFrame (message_in frame) whole.now }
     requires room { length this.old.way ≤ 65536 }
-    requires others_room { length other.old.way ≤ 61440 }
+    requires others_room { length other.old.way ≤ 53248 }
     ensures after { (h k : List ℕ) → sight_with h k stage.new this.new other.new
         ≡ done silent (sight_with h k stage.old this.old other.old) frame.entry.kind (cleans rules.now (sight_with h k stage.old this.old other.old) (message_in frame.entry)) }
     ensures told { (h k : List ℕ) → CameBy silent (sight_with h k stage.old this.old other.old) (message_in frame.entry)
@@ -175,17 +263,27 @@ fn pass(
     ensures room { HasRoom stage.new this.new.way × HasRoom stage.new other.new.way }
 {
     let ctx = context_in(this, other);
-    let mut page: Page<4096> = Page::new();
-    match clean(&ctx, &rules.drops, true, frame, &mut page) {
-        Ok(Cleaned::HandedOn) => hand_on(
-            silent,
-            frame.kind,
-            whole,
-            page.as_slice(),
-            stage,
-            this,
-            other,
-        ),
+    let mut page: Page<12288> = Page::new();
+    match clean(
+        &ctx,
+        &rules.drops,
+        &limits_in(rules, &ctx, &this.peer),
+        true,
+        frame,
+        &mut page,
+    ) {
+        Ok(Cleaned::HandedOn) => {
+            let _len = page.count();
+            hand_on(
+                silent,
+                frame.kind,
+                whole,
+                page.as_slice(),
+                stage,
+                this,
+                other,
+            )
+        }
         Ok(Cleaned::Ends(_)) => refuse(&ctx, frame, stage, this, other),
         // There is room for each message.
         Err(_) => Came::Nothing,
@@ -206,7 +304,7 @@ pub(crate) fn take(
     requires octets { AreOctets whole.now }
     requires framed { IsFrame (message_in frame) whole.now }
     requires room { length this.old.way ≤ 65536 }
-    requires others_room { length other.old.way ≤ 61440 }
+    requires others_room { length other.old.way ≤ 53248 }
     ensures after { (h k : List ℕ) → sight_with h k stage.new this.new other.new
         ≡ done silent (sight_with h k stage.old this.old other.old) frame.entry.kind (comes_of rules.now (sight_with h k stage.old this.old other.old) (message_in frame.entry)) }
     ensures told { (h k : List ℕ) → CameBy silent (sight_with h k stage.old this.old other.old) (message_in frame.entry)
@@ -214,10 +312,14 @@ pub(crate) fn take(
     ensures room { HasRoom stage.new this.new.way × HasRoom stage.new other.new.way }
 {
     match misplaced(this, other, frame.kind) {
-        None => pass(rules, silent, frame, whole, stage, this, other),
         Some(subcode) => {
             let why = unexpected(subcode, frame.kind);
             reset(why.view(), stage, this, other)
         }
+        None if has_zero(frame.kind, frame.body) => {
+            let zero = bad_peer_as();
+            reset(zero.view(), stage, this, other)
+        }
+        None => pass(rules, silent, frame, whole, stage, this, other),
     }
 }

@@ -27,7 +27,7 @@ pub(crate) fn listens(stage: Stage, this: &Half, other: &Half) -> bool
 fn settle(rules: &Rules, silent: bool, stage: &mut Stage, this: &mut Half, other: &mut Half) -> Came
     requires can_hold { IsHeld this.old.framer }
     requires room { length this.old.line.way ≤ 65536 }
-    requires others_room { length other.old.line.way ≤ 61440 }
+    requires others_room { length other.old.line.way ≤ 53248 }
     ensures settled { IsSettled rules.now silent (sight_of stage.old this.old other.old) result (sight_of stage.new this.new other.new) }
     ensures room { HasRoom stage.new this.new.line.way × HasRoom stage.new other.new.line.way }
     ensures waits { Waits this.new.framer }

@@ -6,9 +6,9 @@ ghost use Rattle.bgp_guard.specs.declared.rules.Rules.{Rules};
 ghost use Rattle.bgp_guard.specs.declared.side.Side.{Side};
 ghost use Rattle.bgp_guard.specs.Prelude.{Event, life, HandsOn, IsOctetIn, RunsOrHasReason};
 
-/// Whatever happens, in whatever order, what a side was given is a beginning of the cleaned form of what came from the other: whole messages, in order, and
-/// then nothing or one NOTIFICATION of the guard's own, which never stands behind one of the other side. While the guard runs it is all of that but for
-/// what is on its way.
+/// Whatever happens, in whatever order, what a side was given is a beginning of the cleaned form of what came from the other: whole messages, in order, with
+/// KEEPALIVEs of the guard's own between, and then nothing or one NOTIFICATION of its own, which never stands behind one of the other side. While the guard
+/// runs it is all of that but for what is on its way.
 pub fn a_guard_hands_on_what_is_clean()
     ensures { (rules : Rules) (events : List Event) (side : Side) → AllByRecursion IsOctetIn events → HandsOn (life rules events) side }
 {}

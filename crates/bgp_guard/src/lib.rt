@@ -8,6 +8,7 @@ mod events;
 mod guard;
 mod handing;
 mod hearing;
+mod keeping;
 pub mod laws;
 mod line;
 mod rules;

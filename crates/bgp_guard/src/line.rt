@@ -19,6 +19,10 @@ pub(crate) struct Line {
     pub(crate) ready: bool,
     /// What is on its way to the side.
     pub(crate) way: Way,
+    /// How many seconds of an established session nothing was handed on to it.
+    pub(crate) quiet: u16,
+    /// A message was dropped on the way to it, and nothing handed on since.
+    pub(crate) owed: bool,
 }
 
 /// What is kept of a side.
@@ -46,6 +50,8 @@ impl Half {
                 peer: None,
                 ready: false,
                 way,
+                quiet: 0,
+                owed: false,
             },
         })
     }

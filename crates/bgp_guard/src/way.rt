@@ -7,9 +7,9 @@ use std::alloc::{AllocError, Global};
 use std::marker::Model;
 
 /// With so many octets on their way to a side, or fewer, the other side is read.
-pub const ROOM: usize = 61440;
+pub const ROOM: usize = 53248;
 
-/// At most so many octets are on their way to a side: 64 KB of messages, and a NOTIFICATION behind them.
+/// At most so many octets are on their way to a side: 64 KB of messages, and a NOTIFICATION after them.
 pub const WAY_MAX: usize = 69632;
 
 /// The octets that are on their way to a side, in memory that is taken once.

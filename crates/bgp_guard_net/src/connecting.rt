@@ -10,8 +10,8 @@ use std::io;
 use std::net::{IpAddr, Net, SocketAddr};
 use std::os::fd::{AsRawFd, OwnedFd};
 
-// The error of the call that has just answered this, where it is negative.
-fn check(status: i32) -> io::Result<()>
+/// The error of the call that has just answered this, where it is negative.
+pub(crate) fn check(status: i32) -> io::Result<()>
     ensures { IsOk result ↔ (pos 0 ≤ℤ status) }
 {
     if status < 0 {

@@ -1,7 +1,10 @@
-//! A connection from an address that the caller chooses, over the kit's calls of C, since `mio` has none that binds first.
+//! What `mio` has no call for, over the kit's calls of C: a connection from an address that the caller chooses, TCP's questions to a silent end, and whether
+//! a descriptor has room or octets.
 #![tactic(auto)]
 
 mod address;
 mod connecting;
+mod options;
 
 pub use connecting::connect_from;
+pub use options::{has_input, has_room, probe};

@@ -9,7 +9,7 @@ use std::alloc::{AllocError, Global};
 pub(crate) const NAME: &str = "bgp_guard_run";
 
 /// The flags, with what stands behind them, and their help.
-const FLAGS: [(&str, Behind, &str); 9] = [
+const FLAGS: [(&str, Behind, &str); 22] = [
     (
         "listen",
         Behind::Needed("ADDRESS"),
@@ -31,6 +31,16 @@ const FLAGS: [(&str, Behind, &str); 9] = [
         "Only FROM may connect, and BIND stands for it",
     ),
     (
+        "peers",
+        Behind::Value("FILE"),
+        "More of them from a file, one a line",
+    ),
+    (
+        "control",
+        Behind::Nothing,
+        "Read commands from standard input: reload, stop",
+    ),
+    (
         "pass",
         Behind::Value("LIST"),
         "Keep unrecognised attributes of these types",
@@ -41,9 +51,60 @@ const FLAGS: [(&str, Behind, &str); 9] = [
         "Keep the inner speaker's routes inside",
     ),
     (
+        "any-next-hop",
+        Behind::Nothing,
+        "Hand on routes by a next hop that isn't a host's address",
+    ),
+    (
+        "without-local-pref",
+        Behind::Nothing,
+        "Hand on routes without LOCAL_PREF on internal sessions",
+    ),
+    (
+        "any-first-as",
+        Behind::Nothing,
+        "Hand on routes by any first AS, as from a route server",
+    ),
+    (
+        "first-as",
+        Behind::Value("AS"),
+        "Withdraw routes whose AS_PATH doesn't begin with this AS",
+    ),
+    (
+        "longest-path",
+        Behind::Value("N"),
+        "Withdraw routes of more AS numbers; 500 where nothing is said",
+    ),
+    (
+        "most-communities",
+        Behind::Value("N"),
+        "Withdraw routes of more communities",
+    ),
+    (
+        "room",
+        Behind::Value("N"),
+        "Octets that an UPDATE leaves free of 4096; 300 where nothing is said",
+    ),
+    (
         "most",
         Behind::Value("N"),
         "At most so many sessions at once; 64 where nothing is said",
+    ),
+    (
+        "most-of-peer",
+        Behind::Value("N"),
+        "At most so many sessions of one address; 2 with --peer",
+    ),
+    (
+        "times",
+        Behind::Nothing,
+        "Print the time before each line, and the peer in it",
+    ),
+    ("json", Behind::Nothing, "Print each line as a JSON object"),
+    (
+        "metrics",
+        Behind::Value("ADDRESS"),
+        "Serve counters for Prometheus there, as 127.0.0.1:9179",
     ),
     (
         "sessions",

@@ -1,19 +1,24 @@
 //! The connection of one side of a session.
 
 ghost use Rattle.std.specs.Prelude.{◌≡◌, drop, IfOk, OnErr};
-ghost use Rattle.std.specs.Io.KnownBytes.{WriteAppends};
+ghost use Rattle.std.specs.Io.KnownBytes.{Keeps, WriteAppends};
 ghost use Rattle.bgp_guard.specs.Prelude.{IsHeard, for_side, sent, half};
+ghost use Rattle.bgp_guard_run.specs.steps.Reading.{IsReadAndHeard};
 
+use crate::lines::{Name, Place};
 use crate::log::Log;
 use crate::piece::{PIECE, Piece};
+use crate::reasons::{Deed, Judged};
 use crate::why::{Code, Why};
 use bgp_frame::Kind;
 use bgp_guard::{Came, DRAIN_SECONDS, Guard, Side};
+use bgp_open::{Context, agreed_context};
+use bgp_wire::OctetSet;
 use mio::event::Event;
 use mio::net::TcpStream;
 use std::alloc::{AllocError, Global};
 use std::io;
-use std::io::{ErrorKind, Write};
+use std::io::{ErrorKind, Read, Write};
 use std::net::Shutdown;
 
 /// Where the code of a NOTIFICATION stands in it.
@@ -33,11 +38,11 @@ enum Phase {
     Gone,
 }
 
-/// What a read brought.
+/// What came of reading.
 #[derive(Drop)]
 enum Brought {
-    /// Octets.
-    Octets,
+    /// The guard took so many octets, and this came of them.
+    Octets(usize, Came),
     /// None by now.
     Nothing,
     /// The side closed the connection.
@@ -50,13 +55,24 @@ enum Brought {
 #[derive(Drop)]
 pub(crate) struct Connection {
     side: Side,
+    /// The types of unrecognised attributes that are left out.
+    drops: OctetSet,
     stream: Option<TcpStream>,
     phase: Phase,
     /// There may be something to read.
     readable: bool,
     /// There may be room to write.
     writable: bool,
+    /// The side sends no more, or the connection has failed: what it sent before may still be read.
+    is_hung: bool,
+    has_failed: bool,
+    /// Octets were sent to it in this second.
+    has_moved: bool,
+    /// At so many ends of a second in a row octets were on their way to it, and none was sent in that second.
+    still: u16,
     piece: Piece,
+    /// The octets that the guard has taken of the message that isn't whole yet.
+    message: Vec<u8>,
     /// How many octets of the side the guard has taken.
     heard: u64,
     /// Where the message begins that isn't whole yet.
@@ -87,14 +103,53 @@ fn pass_on<W: Write>(guard: &mut Guard, side: Side, to: &mut W) -> io::Result<us
     Ok(count)
 }
 
+// Keeps octets that the guard has taken, for the log: without memory for them it has none.
+fn keep(message: &mut Vec<u8>, octets: &[u8], count: usize) {
+    let kept = match octets.get(..count) {
+        Some(octets) => message.extend_from_slice(octets).is_ok(),
+        None => false,
+    };
+    if !kept {
+        message.clear();
+    }
+}
+
 // Hands the guard what was read of a side, up to the end of a message. What it took is left no more.
-fn hear_once(guard: &mut Guard, side: Side, piece: &mut Piece) -> (usize, Came)
+fn hear_once(
+    guard: &mut Guard,
+    side: Side,
+    piece: &mut Piece,
+    message: &mut Vec<u8>,
+) -> (usize, Came)
     ensures heard { IsHeard side guard.old piece.old result.0 result.1 guard.new }
     ensures left { piece.new ≡ drop result.0 piece.old }
 {
     let (taken, came) = guard.hear(side, piece.as_slice());
+    keep(message, piece.as_slice(), taken);
     piece.take_off(taken);
     (taken, came)
+}
+
+// Reads once where nothing is left of what was read before, and hands the guard what there is, up to the end of a message. Answers how many octets were
+// read, how many the guard took, and what came of them.
+fn read_and_hear<R: Read>(
+    guard: &mut Guard,
+    side: Side,
+    piece: &mut Piece,
+    message: &mut Vec<u8>,
+    from: &mut R,
+) -> io::Result<(usize, usize, Came)>
+    ensures heard { IfOk result (λ r. IsReadAndHeard side guard.old guard.new (R.remaining from.old) (R.remaining from.new) piece.old piece.new r.0 r.1 r.2) }
+    ensures kept { OnErr result (guard.new ≡ guard.old) }
+    ensures unread { OnErr result (Keeps (R.remaining from.old) (R.remaining from.new)) }
+{
+    if !piece.is_empty() {
+        let (taken, came) = hear_once(guard, side, piece, message);
+        return Ok((0, taken, came));
+    }
+    let count = piece.fill(from)?;
+    let (taken, came) = hear_once(guard, side, piece, message);
+    Ok((count, taken, came))
 }
 
 impl Connection {
@@ -102,16 +157,23 @@ impl Connection {
     fn new(
         alloc: Global,
         side: Side,
+        drops: OctetSet,
         stream: Option<TcpStream>,
         phase: Phase,
     ) -> Result<Connection, AllocError> {
         Ok(Connection {
             side,
+            drops,
             stream,
             phase,
             readable: false,
             writable: false,
+            is_hung: false,
+            has_failed: false,
+            has_moved: false,
+            still: 0,
             piece: Piece::new(alloc)?,
+            message: Vec::new(alloc),
             heard: 0,
             begun: 0,
             is_ready: false,
@@ -125,9 +187,10 @@ impl Connection {
     pub(crate) fn accepted(
         alloc: Global,
         side: Side,
+        drops: OctetSet,
         stream: TcpStream,
     ) -> Result<Connection, AllocError> {
-        Connection::new(alloc, side, Some(stream), Phase::Stands)
+        Connection::new(alloc, side, drops, Some(stream), Phase::Stands)
     }
 
     /// One that is sought: none where that failed at once.
@@ -137,18 +200,21 @@ impl Connection {
     pub(crate) fn sought(
         alloc: Global,
         side: Side,
+        drops: OctetSet,
         stream: Option<TcpStream>,
     ) -> Result<Connection, AllocError> {
         let phase = match &stream {
             Some(_) => Phase::Sought,
             None => Phase::Gone,
         };
-        Connection::new(alloc, side, stream, phase)
+        Connection::new(alloc, side, drops, stream, phase)
     }
 
     /// What an event tells of it.
     pub(crate) fn wake(&mut self, event: &Event) {
         let failed = event.is_error();
+        self.is_hung = self.is_hung || event.is_read_closed();
+        self.has_failed = self.has_failed || failed || event.is_write_closed();
         if failed || event.is_readable() || event.is_read_closed() {
             self.readable = true;
         }
@@ -194,6 +260,8 @@ impl Connection {
         match self.reached() {
             Ok(true) => {
                 self.phase = Phase::Stands;
+                self.is_hung = false;
+                self.has_failed = false;
                 guard.stood(self.side);
                 None
             }
@@ -209,14 +277,15 @@ impl Connection {
         }
     }
 
-    // Reads what has come, over what was read before.
-    fn read(&mut self) -> Brought {
+    // Reads where nothing is left of what was read before, and hands the guard what there is.
+    fn read(&mut self, guard: &mut Guard) -> Brought {
         let Some(stream) = &mut self.stream else {
             return Brought::Nothing;
         };
-        match self.piece.fill(stream) {
-            Ok(0) => Brought::End,
-            Ok(_) => Brought::Octets,
+        let was_empty = self.piece.is_empty();
+        match read_and_hear(guard, self.side, &mut self.piece, &mut self.message, stream) {
+            Ok((0, _, _)) if was_empty => Brought::End,
+            Ok((_, taken, came)) => Brought::Octets(taken, came),
             Err(error) => match error.kind() {
                 ErrorKind::WouldBlock => {
                     self.readable = false;
@@ -228,78 +297,139 @@ impl Connection {
         }
     }
 
-    /// Reads where the guard listens and has taken all before, and hands it what was read.
+    /// Reads once where the guard listens and has taken all before, and hands it what was read until it takes nothing.
     pub(crate) fn listen(
         &mut self,
         guard: &mut Guard,
         log: &mut Log<'_>,
-        number: u64,
-    ) -> io::Result<Option<Why>> {
-        if self.phase != Phase::Stands || !guard.listens(self.side) {
-            return Ok(None);
-        }
-        if self.piece.is_empty() && self.readable {
-            match self.read() {
-                Brought::Octets | Brought::Nothing => {}
-                Brought::End => return Ok(self.lose(guard, Why::Closed(self.side))),
-                Brought::Fault(error) => {
-                    return Ok(self.lose(guard, Why::Lost(self.side, error)));
-                }
+        name: Name,
+    ) -> Option<Why> {
+        for turn in 0..PIECE {
+            let has_more = !self.piece.is_empty() || turn == 0 && self.readable;
+            if self.phase != Phase::Stands || !has_more || !guard.listens(self.side) {
+                return None;
             }
-        }
-        self.hear(guard, log, number)
-    }
-
-    // Hands the guard what was read until that takes nothing.
-    fn hear(
-        &mut self,
-        guard: &mut Guard,
-        log: &mut Log<'_>,
-        number: u64,
-    ) -> io::Result<Option<Why>> {
-        for _turn in 0..PIECE {
             let before = guard.way(self.side.other()).len();
-            let (taken, came) = hear_once(guard, self.side, &mut self.piece);
-            if taken == 0 {
-                return Ok(None);
-            }
-            self.heard = self.heard.saturating_add(taken as u64);
-            let passed = guard.way(self.side.other());
-            let why = self.note(passed, before, came, log, number)?;
-            if why.is_some() {
-                return Ok(why);
+            match self.read(guard) {
+                Brought::Octets(taken, came) => {
+                    self.heard = self.heard.saturating_add(taken as u64);
+                    let why = self.note(guard, before, came, log, name);
+                    if why.is_some() {
+                        return why;
+                    }
+                }
+                Brought::Nothing => return None,
+                Brought::End => return self.lose(guard, Why::Closed(self.side)),
+                Brought::Fault(error) => return self.lose(guard, Why::Lost(self.side, error)),
             }
         }
-        Ok(None)
+        None
     }
 
-    // Prints what came of octets, where `passed` was put behind so many octets before. Answers whether that ends the session.
+    // Tells what came of octets, where the way to the other side had so many before. Answers whether that ends the session.
     fn note(
         &mut self,
-        passed: &[u8],
+        guard: &Guard,
         before: usize,
         came: Came,
         log: &mut Log<'_>,
-        number: u64,
-    ) -> io::Result<Option<Why>> {
-        let at = self.begun;
-        match came {
-            Came::Nothing => Ok(None),
+        name: Name,
+    ) -> Option<Why> {
+        let place = Place {
+            name,
+            outer_as: guard.peer(Side::Outer).map(|peer| peer.as_number()),
+            side: self.side,
+            at: self.begun,
+        };
+        let why = match came {
+            Came::Nothing => return None,
+            Came::Dropped { kind } => {
+                log.drops(place, kind, &self.judged(guard, Deed::Dropped, before));
+                None
+            }
             Came::HandedOn { kind, same } => {
-                self.begun = self.heard;
                 self.is_ready = self.is_ready || kind == Kind::Keepalive;
-                log.handed_on(number, self.side, at, kind, same)?;
-                match (kind, code_in(passed, before)) {
-                    (Kind::Notification, Some(code)) => Ok(Some(Why::Notified(self.side, code))),
-                    _ => Ok(None),
+                if same {
+                    log.passes(name);
+                } else {
+                    log.changes(place, kind, &self.judged(guard, Deed::Changed, before));
+                }
+                match (kind, code_in(guard.way(self.side.other()), before)) {
+                    (Kind::Notification, Some(code)) => Some(Why::Notified(self.side, code)),
+                    _ => None,
                 }
             }
             Came::Answered { code, subcode } => {
                 let code = Code { code, subcode };
-                log.answers(number, self.side, at, code)?;
-                Ok(Some(Why::Answered(self.side, code)))
+                log.answers(place, code, &self.judged(guard, Deed::Answered, before));
+                Some(Why::Answered(self.side, code))
+            }
+        };
+        self.begun = self.heard;
+        self.message.clear();
+        why
+    }
+
+    // The message that has come, and what it was judged by, where the way to the other side had so many octets before.
+    fn judged<'a>(&'a self, guard: &'a Guard, deed: Deed, before: usize) -> Judged<'a> {
+        let away = self.side.other();
+        let ctx = match (guard.peer(self.side), guard.peer(away)) {
+            (Some(ours), Some(theirs)) => agreed_context(ours, theirs),
+            _ => Context {
+                internal: false,
+                as4: false,
+                ip4: false,
+                ip6: false,
+                hold: 0,
+            },
+        };
+        Judged {
+            deed,
+            ctx,
+            drops: self.drops,
+            octets: self.message.as_slice(),
+            handed: guard.way(away).get(before..).unwrap_or(&[]),
+        }
+    }
+
+    // The error of a connection that has failed.
+    fn fault(&self) -> io::Error {
+        if let Some(stream) = &self.stream {
+            if let Ok(Some(error)) = stream.take_error() {
+                return error;
             }
         }
+        io::Error::from(ErrorKind::ConnectionReset)
+    }
+
+    /// Ends the session of a side that isn't read where its connection has failed, or where it hangs up and the other side takes nothing.
+    pub(crate) fn miss(&mut self, guard: &mut Guard, is_other_still: bool) -> Option<Why> {
+        if self.phase != Phase::Stands || guard.listens(self.side) {
+            return None;
+        }
+        if self.has_failed {
+            let error = self.fault();
+            return self.lose(guard, Why::Lost(self.side, error));
+        }
+        if self.is_hung && is_other_still {
+            return self.lose(guard, Why::Closed(self.side));
+        }
+        None
+    }
+
+    /// Whether octets are on their way to it, and none was sent for a whole second.
+    pub(crate) fn is_still(&self) -> bool {
+        self.still > 1
+    }
+
+    /// Ends the session where octets on their way to the side have stood still for as long as they may.
+    pub(crate) fn stall(&mut self, guard: &mut Guard) -> Option<Why> {
+        let seconds = guard.stall_seconds();
+        if guard.has_ended() || self.still <= seconds {
+            return None;
+        }
+        guard.stalled(self.side);
+        Some(Why::Stalled(self.side, seconds))
     }
 
     /// Reads what comes once the session has ended, and forgets it.
@@ -311,7 +441,8 @@ impl Connection {
         if !reads {
             return;
         }
-        if let Brought::End | Brought::Fault(_) = self.read() {
+        self.piece.clear();
+        if let Brought::End | Brought::Fault(_) = self.read(guard) {
             self.close();
             guard.closed(self.side);
         }
@@ -324,7 +455,10 @@ impl Connection {
             return None;
         }
         match pass_on(guard, self.side, self.stream.as_mut()?) {
-            Ok(_) => None,
+            Ok(count) => {
+                self.has_moved = self.has_moved || count > 0;
+                None
+            }
             Err(error) => match error.kind() {
                 ErrorKind::WouldBlock => {
                     self.writable = false;
@@ -362,12 +496,16 @@ impl Connection {
     }
 
     /// A second has gone by.
-    pub(crate) fn tick(&mut self) {
+    pub(crate) fn tick(&mut self, guard: &Guard) {
         match self.phase {
             Phase::Lingers(0) => self.close(),
             Phase::Lingers(left) => self.phase = Phase::Lingers(left.saturating_sub(1)),
-            Phase::Sought | Phase::Stands | Phase::Gone => {}
+            Phase::Stands if !self.has_moved && !guard.way(self.side).is_empty() => {
+                self.still = self.still.saturating_add(1);
+            }
+            Phase::Sought | Phase::Stands | Phase::Gone => self.still = 0,
         }
+        self.has_moved = false;
     }
 
     /// Whether there may be more to do before an event or the next second.

@@ -13,10 +13,14 @@ pub(crate) struct Counts {
     pub(crate) messages: u64,
     /// Those of them that were changed.
     pub(crate) changed: u64,
+    /// Messages of which nothing was handed on.
+    pub(crate) dropped: u64,
     /// Messages that were answered.
     pub(crate) answered: u64,
     /// Connections that were closed at once, since there were as many sessions as there may be.
     pub(crate) full: u64,
+    /// Connections that were closed at once, since their address had as many sessions as it may have.
+    pub(crate) crowded: u64,
     /// Connections that were closed at once, since they came from no neighbour.
     pub(crate) strangers: u64,
     /// Connections that were closed at once, since something failed.
@@ -31,11 +35,34 @@ impl Counts {
             ended: 0,
             messages: 0,
             changed: 0,
+            dropped: 0,
             answered: 0,
             full: 0,
+            crowded: 0,
             strangers: 0,
             failed: 0,
         }
+    }
+
+    /// Whether each session has ended.
+    pub(crate) fn is_empty(&self) -> bool {
+        self.begun == self.ended
+    }
+
+    /// The numbers, with their names.
+    pub(crate) fn named(&self) -> [(&'static str, u64); 10] {
+        [
+            ("begun", self.begun),
+            ("ended", self.ended),
+            ("messages", self.messages),
+            ("changed", self.changed),
+            ("dropped", self.dropped),
+            ("answered", self.answered),
+            ("full", self.full),
+            ("crowded", self.crowded),
+            ("strangers", self.strangers),
+            ("failed", self.failed),
+        ]
     }
 }
 
@@ -47,15 +74,10 @@ pub(crate) fn count(number: &mut u64) {
 impl fmt::Display for Counts {
     fn fmt<W: fmt::Write>(&self, f: &mut fmt::Formatter<W>) -> fmt::Result {
         let up = self.begun.saturating_sub(self.ended);
-        write!(
-            f,
-            "up {up} begun {} ended {} messages {} changed {} answered {}",
-            self.begun, self.ended, self.messages, self.changed, self.answered
-        )?;
-        write!(
-            f,
-            " full {} strangers {} failed {}",
-            self.full, self.strangers, self.failed
-        )
+        write!(f, "up {up}")?;
+        for (name, count) in self.named() {
+            write!(f, " {name} {count}")?;
+        }
+        Ok(())
     }
 }

@@ -1,9 +1,10 @@
 //! Who may connect, and which address stands for them.
 
+use std::alloc::AllocError;
 use std::net::IpAddr;
 
 /// Who may connect from an address, and the address from which the other side is connected to then.
-#[derive(Clone, Copy)]
+#[derive(Clone, Copy, PartialEq, Eq)]
 pub(crate) struct Neighbour {
     /// Where it connects from.
     pub(crate) from: IpAddr,
@@ -12,7 +13,7 @@ pub(crate) struct Neighbour {
 }
 
 /// What is done for who connects.
-#[derive(Clone, Copy)]
+#[derive(Clone, Copy, PartialEq, Eq)]
 pub(crate) enum Admission {
     /// It isn't a neighbour.
     Refused,
@@ -43,6 +44,30 @@ pub(crate) fn neighbour_of(word: &str) -> Option<Neighbour> {
     Some(Neighbour { from, bind })
 }
 
+/// The families of addresses: of outer peers where those connect, and of the inner speaker, or the other way round.
+#[derive(Clone, Copy)]
+pub(crate) struct Families {
+    pub(crate) from_ipv4: bool,
+    pub(crate) bind_ipv4: bool,
+}
+
+/// What is wrong with a neighbour of a file: the number of its line, counted from 1, and the fault.
+#[derive(Clone, Copy)]
+pub(crate) struct FileFault {
+    pub(crate) line: u64,
+    pub(crate) fault: NeighbourFault,
+}
+
+/// What is said of a neighbour that can't be one.
+pub(crate) fn text_of(fault: NeighbourFault) -> &'static str {
+    match fault {
+        NeighbourFault::Form => "it needs two IP addresses, as 192.0.2.7=127.0.0.7",
+        NeighbourFault::From => "FROM isn't of the family of --listen",
+        NeighbourFault::Bind => "BIND isn't of the family of --to",
+        NeighbourFault::Again => "FROM or BIND is that of another neighbour",
+    }
+}
+
 // Whether one of these has the same FROM or the same BIND.
 fn is_known(neighbours: &[Neighbour], neighbour: Neighbour) -> bool {
     for known in neighbours {
@@ -53,17 +78,16 @@ fn is_known(neighbours: &[Neighbour], neighbour: Neighbour) -> bool {
     false
 }
 
-/// What is wrong with one more neighbour, where outer peers are of the first family and the inner speaker of the second.
+/// What is wrong with one more neighbour.
 pub(crate) fn fault_of(
     neighbours: &[Neighbour],
     neighbour: Neighbour,
-    from_ipv4: bool,
-    bind_ipv4: bool,
+    families: Families,
 ) -> Option<NeighbourFault> {
-    if neighbour.from.is_ipv4() != from_ipv4 {
+    if neighbour.from.is_ipv4() != families.from_ipv4 {
         return Some(NeighbourFault::From);
     }
-    if neighbour.bind.is_ipv4() != bind_ipv4 {
+    if neighbour.bind.is_ipv4() != families.bind_ipv4 {
         return Some(NeighbourFault::Bind);
     }
     if is_known(neighbours, neighbour) {
@@ -72,11 +96,50 @@ pub(crate) fn fault_of(
     None
 }
 
-/// What is done for who connects from an address: for everyone the same where there are no neighbours.
-pub(crate) fn admit(neighbours: &[Neighbour], from: IpAddr) -> Admission {
-    if neighbours.is_empty() {
-        return Admission::Anyhow;
+// One more neighbour of a line: none where the line is empty or a remark.
+fn add_line(
+    neighbours: &mut Vec<Neighbour>,
+    line: &str,
+    families: Families,
+) -> Result<Option<NeighbourFault>, AllocError> {
+    let word = line.trim();
+    if word.is_empty() || word.starts_with('#') {
+        return Ok(None);
     }
+    let Some(neighbour) = neighbour_of(word) else {
+        return Ok(Some(NeighbourFault::Form));
+    };
+    let fault = fault_of(neighbours, neighbour, families);
+    if fault.is_none() {
+        neighbours.push(neighbour)?;
+    }
+    Ok(fault)
+}
+
+/// Adds the neighbours of a file, `FROM=BIND` a line, with empty lines and remarks from `#` on. Answers what is wrong with the first line that is at fault.
+///
+/// # Errors
+/// `AllocError` where an allocation failed.
+pub(crate) fn add_lines(
+    neighbours: &mut Vec<Neighbour>,
+    text: &str,
+    families: Families,
+) -> Result<Option<FileFault>, AllocError> {
+    let mut number = 0_u64;
+    for line in text.lines() {
+        number = number.saturating_add(1);
+        if let Some(fault) = add_line(neighbours, line, families)? {
+            return Ok(Some(FileFault {
+                line: number,
+                fault,
+            }));
+        }
+    }
+    Ok(None)
+}
+
+/// What is done for who connects from an address, where only neighbours may.
+pub(crate) fn admit(neighbours: &[Neighbour], from: IpAddr) -> Admission {
     for neighbour in neighbours {
         if neighbour.from == from {
             return Admission::From(neighbour.bind);

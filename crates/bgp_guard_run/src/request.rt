@@ -1,7 +1,9 @@
 //! What the words of the command line ask for.
 
 use crate::commands::guard;
-use crate::neighbours::{Neighbour, NeighbourFault, fault_of, neighbour_of};
+use crate::lines::Form;
+use crate::neighbours::{Families, Neighbour, NeighbourFault, fault_of, neighbour_of, text_of};
+use bgp_clean::Limits;
 use bgp_guard::Rules;
 use bgp_wire::OctetSet;
 use bgp_words::{all_but, bad_value, list_fault, types_of};
@@ -11,6 +13,15 @@ use std::net::SocketAddr;
 
 /// The sessions at once where nothing is said.
 const SESSIONS: u64 = 64;
+
+/// The sessions of one neighbour at once where nothing is said.
+const SESSIONS_OF_PEER: u64 = 2;
+
+/// The AS numbers of a path where nothing is said.
+const LONGEST_PATH: u16 = 500;
+
+/// The octets that an UPDATE leaves free for what the inner speaker adds, where nothing is said.
+const ROOM: u16 = 300;
 
 /// The most that may be asked for.
 const SESSIONS_MAX: u64 = 4096;
@@ -24,20 +35,45 @@ pub(crate) struct Request {
     pub(crate) to: SocketAddr,
     /// Who connects is the inner speaker.
     pub(crate) inner_connects: bool,
-    /// Who may connect: anyone where there are none.
+    /// Who may connect, by words alone: anyone where there are neither these nor a file.
     pub(crate) neighbours: Vec<Neighbour>,
+    /// The file of more neighbours.
+    pub(crate) peers: Option<String>,
+    /// Standard input is read.
+    pub(crate) has_owner: bool,
     pub(crate) rules: Rules,
     /// How many sessions there may be at once.
     pub(crate) most: u64,
+    /// How many there may be at once of one address.
+    pub(crate) most_of_peer: u64,
+    /// How lines are printed.
+    pub(crate) form: Form,
+    /// Where counters are read.
+    pub(crate) metrics: Option<SocketAddr>,
     /// After how many sessions it ends.
     pub(crate) sessions: Option<u64>,
     /// After how many seconds it ends.
     pub(crate) seconds: Option<u64>,
 }
 
+impl Request {
+    /// Whether anyone may connect.
+    pub(crate) fn is_open(&self) -> bool {
+        self.neighbours.is_empty() && self.peers.is_none()
+    }
+}
+
 // An error of a value.
 fn bad(alloc: Global, text: &str) -> Error {
     bad_value(guard(alloc), text)
+}
+
+// The error of an argument that has no number between bounds.
+fn bad_number(alloc: Global, name: &str, least: u64, most: u64) -> Error {
+    match format!(in alloc; "--{name} needs a number from {least} to {most}") {
+        Ok(text) => bad(alloc, &text),
+        Err(error) => Error::from(error),
+    }
 }
 
 // The number that an argument has, where it has one.
@@ -53,10 +89,29 @@ fn number(
     };
     match text.parse::<u64>() {
         Ok(number) if number >= least && number <= most => Ok(Some(number)),
-        _ => {
-            let text = format!(in alloc; "--{name} needs a number from {least} to {most}")?;
-            Err(bad(alloc, &text))
-        }
+        _ => Err(bad_number(alloc, name, least, most)),
+    }
+}
+
+// The number of 16 bits that an argument has, where it has one.
+fn short(alloc: Global, found: &ArgMatches<'_>, name: &str) -> Result<Option<u16>, Error> {
+    let Some(text) = found.get_str(name) else {
+        return Ok(None);
+    };
+    match text.parse::<u16>() {
+        Ok(number) => Ok(Some(number)),
+        Err(_) => Err(bad_number(alloc, name, 0, u16::MAX as u64)),
+    }
+}
+
+// The AS number that an argument has, where it has one.
+fn as_number(alloc: Global, found: &ArgMatches<'_>, name: &str) -> Result<Option<u32>, Error> {
+    let Some(text) = found.get_str(name) else {
+        return Ok(None);
+    };
+    match text.parse::<u32>() {
+        Ok(number) if number > 0 => Ok(Some(number)),
+        _ => Err(bad_number(alloc, name, 1, u32::MAX as u64)),
     }
 }
 
@@ -86,14 +141,16 @@ fn drops(alloc: Global, found: &ArgMatches<'_>) -> Result<OctetSet, Error> {
     Err(bad(alloc, &text))
 }
 
-// What is said of a neighbour that can't be one.
-fn text_of(fault: NeighbourFault) -> &'static str {
-    match fault {
-        NeighbourFault::Form => "it needs two IP addresses, as 192.0.2.7=127.0.0.7",
-        NeighbourFault::From => "FROM isn't of the family of --listen",
-        NeighbourFault::Bind => "BIND isn't of the family of --to",
-        NeighbourFault::Again => "FROM or BIND is that of another --peer",
-    }
+// Which announcements of the outer peer are withdrawn.
+fn limits(alloc: Global, found: &ArgMatches<'_>) -> Result<Limits, Error> {
+    Ok(Limits {
+        host_next_hops: !found.get_flag("any-next-hop"),
+        local_pref: !found.get_flag("without-local-pref"),
+        first_as: as_number(alloc, found, "first-as")?,
+        longest_path: Some(short(alloc, found, "longest-path")?.unwrap_or(LONGEST_PATH)),
+        most_communities: short(alloc, found, "most-communities")?,
+        room: short(alloc, found, "room")?.unwrap_or(ROOM),
+    })
 }
 
 // The error of a neighbour that can't be one.
@@ -106,23 +163,26 @@ fn bad_neighbour(alloc: Global, word: &str, fault: NeighbourFault) -> Error {
 }
 
 // The neighbours of words.
-fn neighbours(
-    alloc: Global,
-    words: &[&str],
-    listen: SocketAddr,
-    to: SocketAddr,
-) -> Result<Vec<Neighbour>, Error> {
+fn neighbours(alloc: Global, words: &[&str], families: Families) -> Result<Vec<Neighbour>, Error> {
     let mut neighbours = Vec::new(alloc);
     for word in words {
         let Some(neighbour) = neighbour_of(word) else {
             return Err(bad_neighbour(alloc, word, NeighbourFault::Form));
         };
-        if let Some(fault) = fault_of(&neighbours, neighbour, listen.is_ipv4(), to.is_ipv4()) {
+        if let Some(fault) = fault_of(&neighbours, neighbour, families) {
             return Err(bad_neighbour(alloc, word, fault));
         }
         neighbours.push(neighbour)?;
     }
     Ok(neighbours)
+}
+
+/// The families of addresses of who connects, and of who is connected to.
+pub(crate) fn families_of(listen: SocketAddr, to: SocketAddr) -> Families {
+    Families {
+        from_ipv4: listen.is_ipv4(),
+        bind_ipv4: to.is_ipv4(),
+    }
 }
 
 // What the arguments ask for.
@@ -133,16 +193,39 @@ fn asked(alloc: Global, found: &ArgMatches<'_>) -> Result<Request, Error> {
         return Err(bad(alloc, "--to is the address of --listen"));
     }
     let words = found.get_strs("peer").unwrap_or(&[]);
+    let most = number(alloc, found, "most", 1, SESSIONS_MAX)?.unwrap_or(SESSIONS);
+    let peers = match found.get_str("peers") {
+        Some(path) => Some(format!(in alloc; "{path}")?),
+        None => None,
+    };
+    let of_peer = if words.is_empty() && peers.is_none() {
+        u64::MAX
+    } else {
+        SESSIONS_OF_PEER
+    };
     Ok(Request {
         listen,
         to,
         inner_connects: found.get_flag("inner-connects"),
-        neighbours: neighbours(alloc, words, listen, to)?,
+        neighbours: neighbours(alloc, words, families_of(listen, to))?,
+        peers,
+        has_owner: found.get_flag("control"),
         rules: Rules {
             drops: drops(alloc, found)?,
+            limits: limits(alloc, found)?,
+            first_as: !found.get_flag("any-first-as"),
             one_way: found.get_flag("one-way"),
         },
-        most: number(alloc, found, "most", 1, SESSIONS_MAX)?.unwrap_or(SESSIONS),
+        most,
+        most_of_peer: number(alloc, found, "most-of-peer", 1, SESSIONS_MAX)?.unwrap_or(of_peer),
+        form: Form {
+            has_times: found.get_flag("times"),
+            is_json: found.get_flag("json"),
+        },
+        metrics: match found.get_str("metrics") {
+            Some(_) => Some(address(alloc, found, "metrics")?),
+            None => None,
+        },
         sessions: number(alloc, found, "sessions", 1, u64::MAX)?,
         seconds: number(alloc, found, "seconds", 0, u32::MAX as u64)?,
     })

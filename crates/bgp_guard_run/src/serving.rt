@@ -1,13 +1,19 @@
 //! The run of the program: one thread that waits for all sockets at once.
 
+use crate::commands::NAME;
 use crate::counts::count;
-use crate::log::{Log, Name};
-use crate::neighbours::{Admission, admit};
+use crate::lines::Name;
+use crate::log::Log;
+use crate::neighbours::{Admission, Neighbour, admit};
+use crate::owner::{Order, Owner};
 use crate::request::Request;
+use crate::roster::{Unread, neighbours_of};
+use crate::scraping::Scraping;
 use crate::session::{Ends, Session};
 use crate::why::Why;
-use bgp_guard::Side;
-use bgp_guard_net::connect_from;
+use bgp_guard::{DRAIN_SECONDS, Side};
+use bgp_guard_net::{connect_from, probe};
+use bgp_words::{BROKEN, status_of};
 use mio::event::Event;
 use mio::net::{TcpListener, TcpStream};
 use mio::{Events, Interest, Poll, Token};
@@ -25,6 +31,12 @@ const BATCH: usize = 16;
 /// How many seconds are between two lines of counts.
 const MINUTE: u64 = 60;
 
+/// How many seconds are between two lines of what wasn't printed.
+const DECADE: u64 = 10;
+
+/// The status where a line of the file of neighbours is at fault, as where a word is.
+const MISUSE: u8 = 2;
+
 /// The token of the socket that listens. Those of sessions follow, two for each.
 const LISTENER: usize = 0;
 
@@ -33,9 +45,13 @@ const LISTENER: usize = 0;
 struct Server<'a> {
     rt: &'a HostRuntime,
     request: &'a Request,
+    /// Who may connect, where not anyone may.
+    neighbours: Vec<Neighbour>,
+    owner: Owner,
     log: Log<'a>,
     poll: Poll,
     listener: TcpListener,
+    scraping: Scraping,
     /// Connections may wait.
     has_guests: bool,
     /// A place for each session that there may be.
@@ -44,6 +60,10 @@ struct Server<'a> {
     next: Instant,
     /// How many seconds have gone by.
     seconds: u64,
+    /// Its owner has asked it to stop.
+    is_stopping: bool,
+    /// Once it stops or its time is over, when it leaves those sessions that are still there.
+    last: Option<u64>,
 }
 
 // The token of a side of the session in a place.
@@ -94,22 +114,32 @@ fn places_for(rt: &HostRuntime, most: u64) -> io::Result<Vec<Option<Session>>> {
 
 impl<'a> Server<'a> {
     // Listens.
-    fn new(rt: &'a HostRuntime, request: &'a Request) -> io::Result<Server<'a>> {
+    fn new(
+        rt: &'a HostRuntime,
+        request: &'a Request,
+        neighbours: Vec<Neighbour>,
+    ) -> io::Result<Server<'a>> {
         let poll = Poll::new(rt)?;
         let mut listener = TcpListener::bind(rt, request.listen)?;
         poll.registry()
             .register(&mut listener, Token(LISTENER), Interest::READABLE)?;
+        let scraping = Scraping::new(rt, poll.registry(), request.metrics)?;
         let now = Instant::now(rt)?;
         Ok(Server {
             rt,
             request,
-            log: Log::new(rt),
+            neighbours,
+            owner: Owner::new(request.has_owner),
+            log: Log::new(rt, request.form, request.metrics.is_some()),
             poll,
             listener,
+            scraping,
             has_guests: true,
             places: places_for(rt, request.most)?,
             next: now.checked_add(Duration::from_secs(1)).unwrap_or(now),
             seconds: 0,
+            is_stopping: false,
+            last: None,
         })
     }
 
@@ -125,6 +155,7 @@ impl<'a> Server<'a> {
     // Has the events of a stream reported, which sends at once what it is given.
     fn watch(&self, stream: &mut TcpStream, token: Token) -> io::Result<()> {
         stream.set_nodelay(true)?;
+        probe(stream)?;
         let both = Interest::READABLE | Interest::WRITABLE;
         self.poll.registry().register(stream, token, both)
     }
@@ -172,25 +203,37 @@ impl<'a> Server<'a> {
             side,
             accepted: stream,
             sought: self.seek(source, token_of(place, side.other())),
+            source,
         };
         let name = self.name(from);
         Ok(Session::new(self.rt.alloc(), self.request.rules, name, ends)?)
     }
 
+    // Whether an address has as many sessions as it may have.
+    fn is_crowded(&self, from: IpAddr) -> bool {
+        let side = self.guest_side();
+        let mut count = 0_u64;
+        for place in self.places.iter() {
+            if let Some(session) = place {
+                count = count.saturating_add(u64::from(session.address(side) == from));
+            }
+        }
+        count >= self.request.most_of_peer
+    }
+
     // Begins a session with who has connected, where there is a place.
-    fn begin(
-        &mut self,
-        stream: TcpStream,
-        from: SocketAddr,
-        source: Option<IpAddr>,
-    ) -> io::Result<()> {
+    fn begin(&mut self, stream: TcpStream, from: SocketAddr, source: Option<IpAddr>) {
+        if self.is_crowded(from.ip()) {
+            count(&mut self.log.counts.crowded);
+            return;
+        }
         let Some(place) = free_place(&self.places) else {
             count(&mut self.log.counts.full);
-            return Ok(());
+            return;
         };
         match self.session(stream, from, source, place) {
             Ok(session) => {
-                self.log.begins(session.name)?;
+                self.log.begins(session.name);
                 if let Some(free) = self.places.get_mut(place) {
                     *free = Some(session);
                 }
@@ -200,37 +243,43 @@ impl<'a> Server<'a> {
                 self.log.fails(&error);
             }
         }
-        Ok(())
+    }
+
+    // What is done for who connects from an address.
+    fn admission(&self, from: IpAddr) -> Admission {
+        if self.request.is_open() {
+            Admission::Anyhow
+        } else {
+            admit(&self.neighbours, from)
+        }
     }
 
     // Begins a session with who has connected, where that is a neighbour.
-    fn greet(&mut self, stream: TcpStream, from: SocketAddr) -> io::Result<()> {
-        match admit(&self.request.neighbours, from.ip()) {
+    fn greet(&mut self, stream: TcpStream, from: SocketAddr) {
+        match self.admission(from.ip()) {
             Admission::Anyhow => self.begin(stream, from, None),
             Admission::From(source) => self.begin(stream, from, Some(source)),
-            Admission::Refused => {
-                self.log.refuses(from.ip());
-                Ok(())
-            }
+            Admission::Refused => self.log.refuses(from.ip()),
         }
     }
 
-    // Whether so many sessions have begun as there are to be.
+    // Whether so many sessions have begun as there are to be, or its time is over.
     fn has_begun_all(&self) -> bool {
-        match self.request.sessions {
+        let all = match self.request.sessions {
             Some(sessions) => self.log.counts.begun >= sessions,
             None => false,
-        }
+        };
+        all || self.last.is_some()
     }
 
     // Accepts connections that wait. After a fault it goes on with the next second.
-    fn accept(&mut self) -> io::Result<()> {
+    fn accept(&mut self) {
         for _turn in 0..BATCH {
             if !self.has_guests || self.has_begun_all() {
                 break;
             }
             match self.listener.accept() {
-                Ok((stream, from)) => self.greet(stream, from)?,
+                Ok((stream, from)) => self.greet(stream, from),
                 Err(error) => match error.kind() {
                     ErrorKind::WouldBlock => self.has_guests = false,
                     ErrorKind::Interrupted | ErrorKind::ConnectionAborted => {}
@@ -241,30 +290,29 @@ impl<'a> Server<'a> {
                 },
             }
         }
-        Ok(())
     }
 
     // Does what there is to do in each session. Answers whether there may be more.
-    fn work(&mut self) -> io::Result<bool> {
+    fn work(&mut self) -> bool {
         let mut is_busy = false;
         for place in self.places.iter_mut() {
             let Some(session) = place else {
                 continue;
             };
-            session.work(&mut self.log)?;
+            session.work(&mut self.log);
             is_busy = is_busy || session.is_busy();
             if let Some(why) = session.end() {
-                self.log.ends(session.name, why)?;
+                self.log.ends(session.name, why);
                 *place = None;
             }
         }
-        Ok(is_busy)
+        is_busy
     }
 
     // Tells each session that a second has gone by, where it has.
-    fn tick(&mut self, now: Instant) -> io::Result<()> {
+    fn tick(&mut self, now: Instant) {
         if now < self.next {
-            return Ok(());
+            return;
         }
         self.next = self.next.checked_add(Duration::from_secs(1)).unwrap_or(now);
         self.seconds = self.seconds.saturating_add(1);
@@ -274,21 +322,108 @@ impl<'a> Server<'a> {
                 session.tick();
             }
         }
-        if self.seconds % MINUTE == 0 {
-            self.log.tells_counts()?;
+        self.obey();
+        self.scraping.tick();
+        self.log.tick();
+        if self.seconds % DECADE == 0 {
+            self.log.tells_more();
         }
-        Ok(())
+        if self.seconds % MINUTE == 0 {
+            self.log.tells_counts();
+        }
+    }
+
+    // Ends each session whose neighbour is one no more, or has another address that stands for it. Answers how many.
+    fn dismiss(&mut self) -> u64 {
+        let side = self.guest_side();
+        let mut ended = 0_u64;
+        for place in self.places.iter_mut() {
+            let Some(session) = place else {
+                continue;
+            };
+            let stays = match admit(&self.neighbours, session.address(side)) {
+                Admission::From(source) => session.source == Some(source),
+                Admission::Anyhow | Admission::Refused => false,
+            };
+            if !stays {
+                session.stop();
+                ended = ended.saturating_add(1);
+            }
+        }
+        ended
+    }
+
+    // Reads the file of neighbours again. Where it can't be used, they stay as they are.
+    fn reload(&mut self) {
+        if self.request.peers.is_none() {
+            return self.log.complains("reload, and there is no --peers");
+        }
+        match neighbours_of(self.rt, self.request) {
+            Ok(neighbours) => {
+                self.neighbours = neighbours;
+                let ended = self.dismiss();
+                self.log.reloads(self.neighbours.len(), ended);
+            }
+            Err(why) => self.log.misreads(self.request.peers.as_ref(), &why),
+        }
+    }
+
+    // Does what its owner asks for.
+    fn obey(&mut self) {
+        match self.owner.order(&mut self.rt.stdin()) {
+            Ok(None) => {}
+            Ok(Some(Order::Reload)) => self.reload(),
+            Ok(Some(Order::Stop)) => self.is_stopping = true,
+            Ok(Some(Order::Unknown)) => {
+                self.log
+                    .complains("a line of standard input is neither reload nor stop");
+            }
+            Err(error) => self.log.fails(&error),
+        }
+    }
+
+    // Once it is to stop or its time is over, ends each session: both sides are told, and have some seconds to take what is on its way.
+    fn end_in_time(&mut self) {
+        let is_late = match self.request.seconds {
+            Some(seconds) => self.seconds >= seconds,
+            None => false,
+        };
+        let is_time = is_late || self.is_stopping;
+        if !is_time || self.last.is_some() {
+            return;
+        }
+        self.last = Some(self.seconds.saturating_add(u64::from(DRAIN_SECONDS)));
+        for place in self.places.iter_mut() {
+            if let Some(session) = place {
+                session.stop();
+            }
+        }
     }
 
     // Waits for events, and for the next second at most.
     fn wait(&mut self, events: &mut Events, time: Duration) -> io::Result<()> {
         self.poll.poll(events, Some(time))?;
         for event in events.iter() {
-            if wake(&mut self.places, event) {
+            if !self.scraping.wake(event) && wake(&mut self.places, event) {
                 self.has_guests = true;
             }
         }
         Ok(())
+    }
+
+    // Serves counters to who asks for them: without memory for them, nothing.
+    fn show(&mut self) {
+        let alloc = self.rt.alloc();
+        if !self.scraping.is_asked(alloc, self.poll.registry()) {
+            return;
+        }
+        let metrics = self.log.metrics();
+        let text = format!(in alloc;
+            "HTTP/1.0 200 OK\r\nContent-Type: text/plain; version=0.0.4\r\nConnection: close\r\n\r\n{metrics}"
+        );
+        if let Ok(text) = text {
+            self.scraping.tell(text);
+        }
     }
 
     // Whether it has run as long as it was asked to.
@@ -297,8 +432,8 @@ impl<'a> Server<'a> {
             Some(sessions) => self.log.counts.ended >= sessions,
             None => false,
         };
-        let late = match self.request.seconds {
-            Some(seconds) => self.seconds >= seconds,
+        let late = match self.last {
+            Some(last) => self.seconds >= last || self.log.counts.is_empty(),
             None => false,
         };
         ended || late
@@ -307,12 +442,21 @@ impl<'a> Server<'a> {
     // Runs until it is over.
     fn run(&mut self) -> io::Result<()> {
         let mut events = Events::with_capacity(self.rt.alloc(), EVENTS)?;
-        self.log.listens(self.listener.local_addr()?)?;
+        self.log.listens(self.listener.local_addr()?);
+        if let Some(address) = self.scraping.address() {
+            self.log.serves(address);
+        }
+        let neighbours = self.neighbours.len();
+        if self.request.most < neighbours as u64 {
+            self.log.warns(self.request.most, neighbours);
+        }
         for _turn in 0..u64::MAX {
             let now = Instant::now(self.rt)?;
-            self.tick(now)?;
-            self.accept()?;
-            let is_busy = self.work()? || self.has_guests && !self.has_begun_all();
+            self.tick(now);
+            self.end_in_time();
+            self.accept();
+            self.show();
+            let is_busy = self.work() || self.has_guests && !self.has_begun_all();
             if self.is_over() {
                 break;
             }
@@ -327,20 +471,40 @@ impl<'a> Server<'a> {
     }
 
     // Tells of each session that is left, and what there was.
-    fn stop(&mut self) -> io::Result<()> {
+    fn stop(&mut self) {
         for place in self.places.iter() {
             if let Some(session) = place {
-                self.log.ends(session.name, &Why::Stopped)?;
+                self.log.ends(session.name, &Why::Stopped);
             }
         }
-        self.log.tells_counts()
+        self.log.tells_more();
+        self.log.tells_counts();
+    }
+}
+
+// Tells why the file of neighbours can't be used, and answers the status: 2 where a line is at fault.
+fn refuse(rt: &HostRuntime, request: &Request, why: &Unread) -> u8 {
+    match why {
+        Unread::Io(error) if error.kind() == ErrorKind::OutOfMemory => status_of(rt, NAME, error),
+        _ => {
+            let path = request.peers.as_ref().map_or("", |path| path.as_str());
+            let _ = eprintln!(rt; "{NAME}: {path}: {why}");
+            match why {
+                Unread::Line(_) => MISUSE,
+                Unread::Io(_) => BROKEN,
+            }
+        }
     }
 }
 
 /// Stands between speakers as the words ask, and answers the status.
 pub(crate) fn serve(rt: &HostRuntime, request: &Request) -> io::Result<u8> {
-    let mut server = Server::new(rt, request)?;
+    let neighbours = match neighbours_of(rt, request) {
+        Ok(neighbours) => neighbours,
+        Err(why) => return Ok(refuse(rt, request, &why)),
+    };
+    let mut server = Server::new(rt, request, neighbours)?;
     server.run()?;
-    server.stop()?;
+    server.stop();
     Ok(0)
 }

@@ -1,18 +1,22 @@
 //! A session: a guard and the connections of its two sides.
 
 use crate::connection::Connection;
-use crate::log::{Log, Name};
+use crate::lines::Name;
+use crate::log::Log;
 use crate::why::Why;
 use bgp_guard::{Guard, Rules, Side};
 use mio::event::Event;
 use mio::net::TcpStream;
 use std::alloc::{AllocError, Global};
 use std::io;
+use std::net::IpAddr;
 
 /// A session.
 #[derive(Drop)]
 pub(crate) struct Session {
     pub(crate) name: Name,
+    /// The address from which the other side was connected to, where that of a neighbour is.
+    pub(crate) source: Option<IpAddr>,
     guard: Guard,
     outer: Connection,
     inner: Connection,
@@ -31,6 +35,8 @@ pub(crate) struct Ends {
     pub(crate) accepted: TcpStream,
     /// The connection that is sought to the other side, where that didn't fail at once.
     pub(crate) sought: io::Result<TcpStream>,
+    /// The address from which it is sought, where that of a neighbour is.
+    pub(crate) source: Option<IpAddr>,
 }
 
 // A stream, or why there is none.
@@ -57,6 +63,7 @@ impl Session {
             side,
             accepted,
             sought,
+            source,
         } = ends;
         let away = side.other();
         guard.stood(side);
@@ -64,20 +71,29 @@ impl Session {
         if why.is_some() {
             guard.unreachable(away);
         }
-        let near = Connection::accepted(alloc, side, accepted)?;
-        let far = Connection::sought(alloc, away, stream)?;
+        let near = Connection::accepted(alloc, side, rules.drops, accepted)?;
+        let far = Connection::sought(alloc, away, rules.drops, stream)?;
         let (outer, inner) = match side {
             Side::Outer => (near, far),
             Side::Inner => (far, near),
         };
         Ok(Session {
             name,
+            source,
             guard,
             outer,
             inner,
             why,
             is_up: false,
         })
+    }
+
+    /// The address of a side.
+    pub(crate) fn address(&self, side: Side) -> IpAddr {
+        match side {
+            Side::Outer => self.name.outer.ip(),
+            Side::Inner => self.name.inner.ip(),
+        }
     }
 
     /// What an event tells of the connection of a side.
@@ -104,13 +120,19 @@ impl Session {
     }
 
     // Reads of both sides.
-    fn listen(&mut self, log: &mut Log<'_>) -> io::Result<()> {
-        let number = self.name.number;
-        let why = self.outer.listen(&mut self.guard, log, number)?;
+    fn listen(&mut self, log: &mut Log<'_>) {
+        let why = self.outer.listen(&mut self.guard, log, self.name);
         self.blame(why);
-        let why = self.inner.listen(&mut self.guard, log, number)?;
+        let why = self.inner.listen(&mut self.guard, log, self.name);
         self.blame(why);
-        Ok(())
+    }
+
+    // Finds who has hung up without being heard.
+    fn miss(&mut self) {
+        let why = self.outer.miss(&mut self.guard, self.inner.is_still());
+        self.blame(why);
+        let why = self.inner.miss(&mut self.guard, self.outer.is_still());
+        self.blame(why);
     }
 
     // Sends what is on its way, and leaves a side where nothing is any more.
@@ -124,29 +146,33 @@ impl Session {
     }
 
     // Tells once that both sides have sent OPEN and KEEPALIVE.
-    fn rise(&mut self, log: &Log<'_>) -> io::Result<()> {
+    fn rise(&mut self, log: &mut Log<'_>) {
         if self.is_up || !self.outer.is_ready || !self.inner.is_ready {
-            return Ok(());
+            return;
         }
         self.is_up = true;
-        match (self.guard.peer(Side::Outer), self.guard.peer(Side::Inner)) {
-            (Some(outer), Some(inner)) => log.is_up(self.name.number, outer, inner),
-            _ => Ok(()),
+        if let (Some(outer), Some(inner)) = (
+            self.guard.peer(Side::Outer),
+            self.guard.peer(Side::Inner),
+        ) {
+            log.is_up(self.name, outer, inner);
         }
     }
 
     /// Does what there is to do by now.
-    pub(crate) fn work(&mut self, log: &mut Log<'_>) -> io::Result<()> {
+    pub(crate) fn work(&mut self, log: &mut Log<'_>) {
         self.meet();
         if self.why.is_some() {
             self.outer.drain(&mut self.guard);
             self.inner.drain(&mut self.guard);
         } else {
-            self.listen(log)?;
-            self.rise(log)?;
+            self.listen(log);
+            self.rise(log);
         }
         self.send();
-        Ok(())
+        if self.why.is_none() {
+            self.miss();
+        }
     }
 
     /// A second has gone by.
@@ -155,8 +181,18 @@ impl Session {
         if self.guard.has_ended() {
             self.blame(Some(Why::Late));
         }
-        self.outer.tick();
-        self.inner.tick();
+        self.outer.tick(&self.guard);
+        self.inner.tick(&self.guard);
+        let why = self.outer.stall(&mut self.guard);
+        self.blame(why);
+        let why = self.inner.stall(&mut self.guard);
+        self.blame(why);
+    }
+
+    /// Its owner ends it: both sides are told, behind what is on its way.
+    pub(crate) fn stop(&mut self) {
+        self.guard.stop();
+        self.blame(Some(Why::Stopped));
     }
 
     /// Whether there may be more to do before an event or the next second.

@@ -16,6 +16,8 @@ pub(crate) enum Why {
     Notified(Side, Code),
     /// A side was answered by a NOTIFICATION.
     Answered(Side, Code),
+    /// What is on its way to a side hasn't moved for so many seconds.
+    Stalled(Side, u16),
     /// The OPENs of both didn't come in time.
     Late,
     /// The program ends.
@@ -51,6 +53,9 @@ impl fmt::Display for Why {
             Why::Unreachable(side, error) => write!(f, "{} unreachable: {error}", name_of(*side)),
             Why::Notified(side, code) => write!(f, "{} sent {code}", name_of(*side)),
             Why::Answered(side, code) => write!(f, "{} answered {code}", name_of(*side)),
+            Why::Stalled(side, seconds) => {
+                write!(f, "{} read nothing for {seconds} seconds", name_of(*side))
+            }
             Why::Late => write!(f, "no OPEN of both in {OPEN_SECONDS} seconds"),
             Why::Stopped => write!(f, "stopped"),
         }

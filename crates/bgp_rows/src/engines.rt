@@ -4,6 +4,7 @@ use crate::page::Page;
 use crate::row::Row;
 use crate::sheet::{Drip, Sheet};
 use crate::trouble::Trouble;
+use bgp_clean::Limits;
 use bgp_engine::{
     Style, Tally, ToolFault, check, clean_stream, from_hex, narrow_stream, print, show, status,
     to_hex,
@@ -39,7 +40,15 @@ fn run_engine(
         "check" => check(alloc, ctx, hex, input, output),
         "to-hex" => to_hex(alloc, input, output),
         "from-hex" => from_hex(alloc, input, output),
-        "clean" => clean_stream(alloc, ctx, &drops_of(row.settings), hex, input, output),
+        "clean" => clean_stream(
+            alloc,
+            ctx,
+            &drops_of(row.settings),
+            &Limits::none(),
+            hex,
+            input,
+            output,
+        ),
         _ => narrow_stream(alloc, &Context { as4: true, ..*ctx }, input, output),
     }
 }
@@ -70,16 +79,14 @@ fn run_again(
     Ok(answer)
 }
 
-/// Adds the reasons among lines of fields, each with the offset of its field.
+/// Adds the reasons among lines of fields.
 fn put_reasons(page: &mut Page, lines: &str) -> Result<(), Trouble> {
     for line in lines.split('\n') {
-        if let Some((field, reason)) = line.split_once(" <- ") {
-            let mut words = field.split_whitespace();
-            let _mark = words.next();
-            page.put(words.next().unwrap_or(""))?;
-            page.put(" ")?;
-            page.put(reason)?;
-            page.put("\n")?;
+        if let Some((before, reason)) = line.split_once("! ") {
+            if before == "  " {
+                page.put(reason)?;
+                page.put("\n")?;
+            }
         }
     }
     Ok(())

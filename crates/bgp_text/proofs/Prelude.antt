@@ -11,11 +11,12 @@ unfoldable pub use Rattle.bgp_prefix.specs.Prelude.{ipv4_address_text, ipv6_addr
 pub use Rattle.bgp_attr.specs.Prelude.{opaque_value, segments_left}
 pub use Rattle.bgp_update.specs.Prelude.{cut_kind, known_of, known_value, notes_left, notes_value, placed_tlvs, update_value, without_reset}
 unfoldable pub use Rattle.bgp_update.specs.Prelude.{slot}
-pub use Rattle.bgp_text.specs.FieldLines.{faulty_line, field_line, is_at, is_in, note_reason, unplaced_line}
+pub use Rattle.bgp_text.specs.FieldLines.{faulty_line, field_line, note_reason, noted_line, reason_line, unplaced_line}
+pub use Rattle.bgp_text.specs.Reasons.{is_at, is_in, is_of, note_place}
 unfoldable pub use Rattle.bgp_text.specs.FieldLines.{noted_lines}
 pub use Rattle.bgp_text.specs.Json.{behind_comma, listed, named}
 unfoldable pub use Rattle.bgp_text.specs.Json.{joined}
 pub use Rattle.bgp_text.specs.JsonOpen.{capability_json}
 pub use Rattle.bgp_text.specs.Members.{Shown, printed, printed_types}
 unfoldable pub use Rattle.bgp_text.specs.Members.{printed_attributes}
-pub use Rattle.bgp_text.specs.steps.Rows.{note_at, noting_lines, plain_line, row_of}
+pub use Rattle.bgp_text.specs.steps.Rows.{is_next, note_at, noting_lines, plain_line, row_of}

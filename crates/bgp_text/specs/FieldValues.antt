@@ -6,7 +6,7 @@ use Rattle.bgp_text.specs.Below.{attribute_name, origin_name, segment_name, capa
 use Rattle.std.specs.Int.{w16, w32, from_be_bytes}
 use Rattle.bgp_names.specs.Families.{afi_name, safi_name}
 use Rattle.bgp_names.specs.Messages.{message_name}
-use Rattle.bgp_text.specs.CommunityLines.{community_text, large_text}
+use Rattle.bgp_text.specs.CommunityLines.{community_name, community_text, large_text}
 use Rattle.bgp_text.specs.Escape.{escaped_string}
 use Rattle.bgp_text.specs.Shutdown.{shutdown_text}
 
@@ -101,6 +101,10 @@ flags_text flags =
     (if is_optional flags then codes " optional" else codes " well-known") ++ ((if is_transitive flags then codes " transitive" else codes " non-transitive")
     ++ ((if is_partial flags then codes " partial" else []) ++ (if is_extended flags then codes " extended" else [])))
 
+-- a community, and its name where it is well-known
+abbrev pub named_community : ℕ → List ℕ
+named_community n = community_text n ++ spaced (community_name n)
+
 -- three numbers of four octets
 abbrev pub large_value : List ℕ → List ℕ
 large_value b = large_text (number_in (take 4 b) ∷ number_in (take 4 (drop 4 b)) ∷ number_in (drop 8 b) ∷ [])
@@ -133,7 +137,7 @@ other_text message FieldKind.NlriPrefix b = prefixes4_text b
 other_text message FieldKind.UnreachPrefix6 b = prefixes6_text b
 other_text message FieldKind.ReachPrefix6 b = prefixes6_text b
 other_text message FieldKind.AttributeFlags b = flags_text (slice_index b 0)
-other_text message FieldKind.Community b = community_text (number_in b)
+other_text message FieldKind.Community b = named_community (number_in b)
 other_text message FieldKind.LargeCommunity b = large_value b
 other_text message FieldKind.ErrorSubcode b = numbered (subcode_name (code_in message) (subcode_in message)) (number_in b)
 other_text message FieldKind.Data b = said_text (shutdown_text (code_in message) (subcode_in message) b)

@@ -6,7 +6,9 @@ pub mod Escape
 pub mod Shutdown
 pub mod FieldNames
 pub mod FieldValues
+pub mod Details
 pub mod Sections
+pub mod Reasons
 pub mod FieldLines
 pub mod Lines
 pub mod Members

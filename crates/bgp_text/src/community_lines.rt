@@ -2,7 +2,7 @@
 
 ghost use Rattle.std.specs.Prelude.{◌≡◌, ◌++◌, OnOk};
 ghost use Rattle.bgp_text.specs.Below.{string_bytes, triples_left, communities_left};
-ghost use Rattle.bgp_text.specs.CommunityLines.{communities_line, large_line};
+ghost use Rattle.bgp_text.specs.CommunityLines.{communities_line, community_name, large_line};
 
 use crate::short::{Short, put_row};
 use crate::word::Word;
@@ -59,4 +59,23 @@ pub(crate) fn put_large(text: &mut String, communities: LargeCommIter<'_>) -> Re
     text.push_str("  large")?;
     put_row(text, communities)?;
     text.push_str("\n")
+}
+
+/// The name of a well-known community.
+#[tactic(auto, unfolding(crate::specs::CommunityLines::community_name))]
+pub(crate) fn community_name(community: u32) -> &'static str
+    ensures { result.now ≡ community_name community }
+{
+    match community {
+        4294901760 => "GRACEFUL_SHUTDOWN",
+        4294901761 => "ACCEPT_OWN",
+        4294901766 => "LLGR_STALE",
+        4294901767 => "NO_LLGR",
+        4294902426 => "BLACKHOLE",
+        4294967041 => "NO_EXPORT",
+        4294967042 => "NO_ADVERTISE",
+        4294967043 => "NO_EXPORT_SUBCONFED",
+        4294967044 => "NOPEER",
+        _ => "",
+    }
 }

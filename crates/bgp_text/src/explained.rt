@@ -37,8 +37,8 @@ fn put_fields(
 
 /// Adds what [`put_viewed_outcome`](crate::put_viewed_outcome) does of the outcome of a message of so many octets at its place in the stream (0 of them
 /// for a header's fault), and then a line for each field of its octets, those of the message or the 19 of the header: its offset in the message, its octets, its name and what it says. Fields of an attribute that isn't kept are marked, and so are
-/// those of the octets at fault where the message is answered by a NOTIFICATION, with the reason and the section of the RFC by which the test decided
-/// that failed ("own rule" where it is ours).
+/// those of the octets at fault where the message is answered by a NOTIFICATION; above the field that is wrong a line has its offset, the reason, what
+/// was expected, and the section of the RFC by which the test decided that failed ("own rule" where it is ours).
 ///
 /// # Errors
 /// `AllocError` where an allocation failed.

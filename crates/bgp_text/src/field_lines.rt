@@ -1,18 +1,20 @@
 //! The lines of a message's fields.
 
-ghost use Rattle.std.specs.Prelude.{◌≡◌, ◌≤◌, Some, ◌++◌, [], ◌∷◌, ℕ, List, true, codes, length, take, drop, OnOk};
-ghost use Rattle.bgp_text.specs.Below.{flat_map, string_bytes, hex_octet};
+ghost use Rattle.std.specs.Prelude.{◌≡◌, ◌≤◌, Some, ◌++◌, [], ◌∷◌, ℕ, List, true, codes, length, OnOk};
+ghost use Rattle.bgp_text.specs.Below.{flat_map, string_bytes, hex_octet, attribute_name};
 ghost use Rattle.bgp_text.specs.Below.{notification_of_view, notes_left, fields_left, Field as FieldValue};
-ghost use Rattle.bgp_text.specs.steps.Rows.{row_of, note_at, noting_lines, plain_line};
-ghost use Rattle.bgp_text.specs.FieldLines.{margin, field_text, field_line, note_reason, is_at, is_in, unplaced_line, noted_lines, reset_reason, overlaps, holds, faulty_line};
+ghost use Rattle.bgp_text.specs.steps.Rows.{is_next, row_of, note_at, noting_lines, plain_line};
+ghost use Rattle.bgp_text.specs.FieldLines.{margin, field_said, field_text, field_line, type_text, wanted_text, note_reason, reason_line, unplaced_line, noted_lines, answer_text, reset_reason, overlaps, holds, faulty_line};
 
+use crate::details::{code_of, put_detail};
 use crate::field_names::field_name;
-use crate::field_values::{put_spaced, put_value};
+use crate::field_values::{part, put_spaced, put_value};
 use crate::json::put_digits;
 use crate::note_lines::why_name;
+use crate::reasons::{cause_wanted, is_at, is_in, is_of, note_place, note_wanted};
 use crate::sections::{cause_section, note_section};
 use crate::short::{Decimal, put_one};
-use bgp_fields::{Cause, Fault, Field, FieldIter, Group, Span};
+use bgp_fields::{Cause, Fault, Field, FieldIter, Span};
 use bgp_frame::NotificationView;
 use bgp_names::{attribute_name, subcode_name};
 use bgp_update::{Note, NoteIter};
@@ -25,13 +27,13 @@ fn margin(marked: bool) -> &'static str
     if marked { "  > " } else { "    " }
 }
 
-/// So many octets from an offset on, as far as they are there.
-fn part(octets: &[u8], at: usize, len: usize) -> &[u8]
-    ensures { result.now ≡ take len (drop at octets.now) }
+/// Adds what a field says.
+fn put_said(text: &mut String, message: &[u8], field: &Field) -> Result<(), AllocError>
+    ensures { OnOk result (string_bytes text.new ≡ string_bytes text.old ++ field_said message.now field.now) }
 {
-    let (_, rest) = octets.split_at(at.min(octets.len()));
-    let (part, _) = rest.split_at(len.min(rest.len()));
-    part
+    let octets = part(message, usize::from(field.at), usize::from(field.len));
+    put_value(text, message, field.kind, octets)?;
+    put_detail(text, code_of(field.group), field.kind, octets)
 }
 
 /// Adds a field: its offset in the message, its octets, its name and what it says.
@@ -51,72 +53,89 @@ fn put_field(
     put_digits(text, octets)?;
     text.push_str(" ")?;
     text.push_str(field_name(field.kind))?;
-    put_value(text, message, field.kind, octets)
+    put_said(text, message, field)
 }
 
-/// Adds a field about which nothing is told.
+/// Adds the line of a field.
 fn put_plain(
     text: &mut String,
     marked: bool,
     message: &[u8],
     field: &Field,
 ) -> Result<(), AllocError>
-    ensures { OnOk result (string_bytes text.new ≡ string_bytes text.old ++ field_line marked [] message.now field.now) }
+    ensures { OnOk result (string_bytes text.new ≡ string_bytes text.old ++ field_line marked message.now field.now) }
 {
     put_field(text, marked, message, field)?;
     text.push_str("\n")
+}
+
+/// Adds an attribute by name, else by its type.
+fn put_type(text: &mut String, kind: u8) -> Result<(), AllocError>
+    ensures { OnOk result (string_bytes text.new ≡ string_bytes text.old ++ type_text kind (attribute_name kind)) }
+{
+    let name = attribute_name(kind);
+    if name.is_empty() {
+        text.push_str("type ")?;
+        return put_one(text, Decimal(kind));
+    }
+    text.push_str(name)
+}
+
+/// Adds what was expected, and by which rule.
+fn put_wanted(text: &mut String, wanted: &str, section: &str) -> Result<(), AllocError>
+    ensures { OnOk result (string_bytes text.new ≡ string_bytes text.old ++ wanted_text wanted.now section.now) }
+{
+    text.push_str(": expected ")?;
+    text.push_str(wanted)?;
+    text.push_str(" (")?;
+    text.push_str(section)?;
+    text.push_str(")\n")
 }
 
 /// Adds why an attribute is discarded, and by which rule.
 fn put_note_reason(text: &mut String, note: &Note) -> Result<(), AllocError>
     ensures { OnOk result (string_bytes text.new ≡ string_bytes text.old ++ note_reason note.now) }
 {
-    text.push_str(" <- ")?;
+    put_type(text, note.kind)?;
+    text.push_str(" ")?;
     text.push_str(why_name(note.why))?;
-    text.push_str(", ")?;
-    text.push_str(note_section(note.kind, note.why))
+    put_wanted(
+        text,
+        note_wanted(note.kind, note.why),
+        note_section(note.kind, note.why),
+    )
 }
 
-/// Adds a field with which an attribute begins that a note is about.
+/// Adds the beginning of a reason's line: where it is told.
+fn put_place(text: &mut String, at: u16) -> Result<(), AllocError>
+    ensures { OnOk result (string_bytes text.new ≡ string_bytes text.old ++ reason_line at []) }
+{
+    text.push_str("  ! ")?;
+    put_one(text, Decimal(at))?;
+    text.push_str(" ")
+}
+
+/// Adds a field that a note is told at, with the marks of its attribute.
 fn put_noted(
     text: &mut String,
+    marked: bool,
     message: &[u8],
     note: &Note,
     field: &Field,
 ) -> Result<(), AllocError>
-    ensures { OnOk result (string_bytes text.new ≡ string_bytes text.old ++ field_line true (note_reason note.now) message.now field.now) }
+    ensures { OnOk result (string_bytes text.new ≡ string_bytes text.old ++ (reason_line field.now.at (note_reason note.now) ++ field_line marked message.now field.now)) }
 {
-    put_field(text, true, message, field)?;
+    put_place(text, field.at)?;
     put_note_reason(text, note)?;
-    text.push_str("\n")
+    put_plain(text, marked, message, field)
 }
 
 /// Adds a note on an attribute that isn't there.
 fn put_unplaced(text: &mut String, note: &Note) -> Result<(), AllocError>
     ensures { OnOk result (string_bytes text.new ≡ string_bytes text.old ++ unplaced_line note.now) }
 {
-    text.push_str(margin(true))?;
-    put_one(text, Decimal(note.kind))?;
-    put_spaced(text, attribute_name(note.kind))?;
-    put_note_reason(text, note)?;
-    text.push_str("\n")
-}
-
-/// Whether a note is about the attribute that begins with a field.
-fn is_at(note: &Note, field: &Field) -> bool
-    ensures { result ≡ is_at note.now field.now }
-{
-    note.at > 0 && u32::from(field.at) == u32::from(note.at) + 19
-}
-
-/// Whether a field is of the attribute that begins at an offset.
-fn is_in(place: u16, group: Option<Group>) -> bool
-    ensures { result ≡ is_in place group }
-{
-    match group {
-        None => false,
-        Some(group) => group.at == place,
-    }
+    text.push_str("  ! ")?;
+    put_note_reason(text, note)
 }
 
 /// The lines of notes that have no field: those of a row, of which the first one is taken out.
@@ -136,21 +155,31 @@ fn put_unplaced_row(
     Ok(())
 }
 
-/// Notes in their order, the next one taken out, and where the attribute begins that the last one was about.
+/// Notes in their order, the next one taken out, and where the attribute begins that the last one was about: 0 before the first one.
 #[derive(Clone, Copy)]
 struct Noting<'a> {
     next: Option<Note>,
     later: NoteIter<'a>,
-    place: u16,
+    place: u32,
 }
 
-/// The next note, where it is about the attribute that begins with a field.
-fn note_at(next: Option<Note>, field: &Field) -> Option<Note>
-    ensures { result ≡ note_at next field.now }
+/// The next note, where it is told at a field.
+fn note_at(next: Option<Note>, message: &[u8], field: &Field) -> Option<Note>
+    ensures { result ≡ note_at next message.now field.now }
 {
     match next {
-        Some(note) if is_at(&note, field) => Some(note),
+        Some(note) if is_at(message, &note, field) => Some(note),
         _ => None,
+    }
+}
+
+/// Whether a field is of the attribute that the next note is about.
+fn is_next(next: Option<Note>, field: &Field) -> bool
+    ensures { result ≡ is_next next field.now }
+{
+    match next {
+        Some(note) => is_of(&note, field),
+        None => false,
     }
 }
 
@@ -174,19 +203,20 @@ impl<'a> Noting<'a> {
         ensures { OnOk result ((fields : List FieldValue) → string_bytes text.new ++ noting_lines message.now self.new fields
             ≡ string_bytes text.old ++ noting_lines message.now self.old (field.now ∷ fields)) }
     {
-        match note_at(self.next, field) {
+        let marked = is_next(self.next, field) || is_in(self.place, field.group);
+        match note_at(self.next, message, field) {
             Some(note) => {
-                put_noted(text, message, &note, field)?;
-                self.place = field.at;
+                put_noted(text, marked, message, &note, field)?;
+                self.place = note_place(&note);
                 self.next = self.later.next();
                 Ok(())
             }
-            None => put_plain(text, is_in(self.place, field.group), message, field),
+            None => put_plain(text, marked, message, field),
         }
     }
 }
 
-/// Adds the lines of fields, with each note at the field where its attribute begins.
+/// Adds the lines of fields, with each note above the field where it is told.
 #[tactic(auto, using(crate::proofs::FieldLines::at_end))]
 pub(crate) fn put_noted_fields(
     text: &mut String,
@@ -219,7 +249,17 @@ pub(crate) fn put_plain_fields(
     Ok(())
 }
 
-/// Adds the NOTIFICATION that answers a message, and by which rule.
+/// Adds the code and the subcode of a NOTIFICATION, and its name.
+fn put_answer(text: &mut String, answer: &NotificationView<'_>) -> Result<(), AllocError>
+    ensures { OnOk result (string_bytes text.new ≡ string_bytes text.old ++ answer_text (notification_of_view answer.now)) }
+{
+    put_one(text, Decimal(answer.code))?;
+    text.push_str("/")?;
+    put_one(text, Decimal(answer.subcode))?;
+    put_spaced(text, subcode_name(answer.code, answer.subcode))
+}
+
+/// Adds the NOTIFICATION that answers a message, what was expected, and by which rule.
 fn put_reset_reason(
     text: &mut String,
     answer: &NotificationView<'_>,
@@ -227,13 +267,12 @@ fn put_reset_reason(
 ) -> Result<(), AllocError>
     ensures { OnOk result (string_bytes text.new ≡ string_bytes text.old ++ reset_reason (notification_of_view answer.now) cause) }
 {
-    text.push_str(" <- ")?;
-    put_one(text, Decimal(answer.code))?;
-    text.push_str("/")?;
-    put_one(text, Decimal(answer.subcode))?;
-    put_spaced(text, subcode_name(answer.code, answer.subcode))?;
-    text.push_str(", ")?;
-    text.push_str(cause_section(cause))
+    put_answer(text, answer)?;
+    put_wanted(
+        text,
+        cause_wanted(cause, answer.subcode),
+        cause_section(cause),
+    )
 }
 
 /// Whether some of a field's octets are of a span.
@@ -251,7 +290,7 @@ fn holds(span: Span, field: &Field) -> bool
     field.at <= span.at && u32::from(span.at) < u32::from(field.at) + u32::from(field.len)
 }
 
-/// Adds the line of a field of a message that is answered for a fault, with the reason where that begins.
+/// Adds the lines of a field of a message that is answered for a fault: why, above the field where that begins.
 fn put_blamed(
     text: &mut String,
     message: &[u8],
@@ -261,14 +300,14 @@ fn put_blamed(
 ) -> Result<(), AllocError>
     ensures { OnOk result (string_bytes text.new ≡ string_bytes text.old ++ faulty_line message.now (Some fault.now) (notification_of_view answer.now) field.now) }
 {
-    put_field(text, overlaps(fault.span, field), message, field)?;
     if holds(fault.span, field) {
+        put_place(text, fault.span.at)?;
         put_reset_reason(text, answer, fault.cause)?;
     }
-    text.push_str("\n")
+    put_plain(text, overlaps(fault.span, field), message, field)
 }
 
-/// Adds the line of a field of a message that is answered by a NOTIFICATION.
+/// Adds the lines of a field of a message that is answered by a NOTIFICATION.
 fn put_faulty(
     text: &mut String,
     message: &[u8],

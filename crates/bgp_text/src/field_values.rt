@@ -1,11 +1,12 @@
 //! What a field says, behind its name.
 
-ghost use Rattle.std.specs.Prelude.{◌≡◌, ◌+◌, ◌≤◌, ◌++◌, codes, slice_index, OnOk};
+ghost use Rattle.std.specs.Prelude.{◌≡◌, ◌+◌, ◌≤◌, ◌++◌, codes, drop, slice_index, take, OnOk};
 ghost use Rattle.bgp_text.specs.Below.{flat_map, string_bytes, subcode_name};
 ghost use Rattle.bgp_text.specs.Shutdown.{shutdown_text};
-ghost use Rattle.bgp_text.specs.FieldValues.{number_in, spaced, numbered, is_number, octet_name, pair_name, number_name, address_text, prefixes4_text, prefixes6_text, flags_text, large_value, code_in, subcode_in, said_text, other_text, value_text};
+ghost use Rattle.bgp_text.specs.FieldValues.{number_in, spaced, numbered, is_number, octet_name, pair_name, number_name, address_text, prefixes4_text, prefixes6_text, flags_text, named_community, large_value, code_in, subcode_in, said_text, other_text, value_text};
 
 use crate::addresses;
+use crate::community_lines::community_name;
 use crate::escape::put_escaped;
 use crate::short::{Decimal, Short, put_one};
 use crate::shutdown::shutdown_text;
@@ -21,7 +22,7 @@ use bgp_prefix::{Address, PrefixIter};
 use std::alloc::AllocError;
 
 /// The number that one octet, two or four spell, the first one the highest.
-fn number_in(octets: &[u8]) -> u32
+pub(crate) fn number_in(octets: &[u8]) -> u32
     ensures { result ≡ number_in octets.now }
 {
     match octets {
@@ -30,6 +31,15 @@ fn number_in(octets: &[u8]) -> u32
         [a, b, c, d] => u32::from_be_bytes([*a, *b, *c, *d]),
         _ => 0,
     }
+}
+
+/// So many octets from an offset on, as far as they are there.
+pub(crate) fn part(octets: &[u8], at: usize, len: usize) -> &[u8]
+    ensures { result.now ≡ take len (drop at octets.now) }
+{
+    let (_, rest) = octets.split_at(at.min(octets.len()));
+    let (part, _) = rest.split_at(len.min(rest.len()));
+    part
 }
 
 /// Adds a text behind a space, where there is one.
@@ -44,7 +54,7 @@ pub(crate) fn put_spaced(text: &mut String, name: &str) -> Result<(), AllocError
 }
 
 /// Adds a number, and its name, where it has one.
-fn put_numbered(text: &mut String, name: &str, number: u32) -> Result<(), AllocError>
+pub(crate) fn put_numbered(text: &mut String, name: &str, number: u32) -> Result<(), AllocError>
     ensures { OnOk result (string_bytes text.new ≡ string_bytes text.old ++ numbered name.now number) }
 {
     text.push_str(" ")?;
@@ -124,7 +134,7 @@ fn number_name(kind: FieldKind, octets: &[u8]) -> &'static str
 }
 
 /// Adds an address, of four octets or of sixteen.
-fn put_address(text: &mut String, octets: &[u8]) -> Result<(), AllocError>
+pub(crate) fn put_address(text: &mut String, octets: &[u8]) -> Result<(), AllocError>
     ensures { OnOk result (string_bytes text.new ≡ string_bytes text.old ++ address_text octets.now) }
 {
     if let Some(address) = octets.as_array::<4>() {
@@ -176,7 +186,7 @@ fn put_prefixes6(text: &mut String, octets: &[u8]) -> Result<(), AllocError>
 }
 
 /// The first octet; 0 where there is none.
-fn octet_at(octets: &[u8], at: usize) -> u8
+pub(crate) fn octet_at(octets: &[u8], at: usize) -> u8
     ensures { result ≡ slice_index octets.now at }
 {
     match octets.get(at) {
@@ -203,6 +213,14 @@ fn put_flags(text: &mut String, flags: Flags) -> Result<(), AllocError>
     text.push_str(transitive)?;
     text.push_str(if flags.is_partial() { " partial" } else { "" })?;
     text.push_str(if flags.is_extended() { " extended" } else { "" })
+}
+
+/// Adds a community, and its name where it is well-known.
+fn put_community(text: &mut String, community: u32) -> Result<(), AllocError>
+    ensures { OnOk result (string_bytes text.new ≡ string_bytes text.old ++ named_community community) }
+{
+    put_one(text, community)?;
+    put_spaced(text, community_name(community))
 }
 
 /// Adds a large community.
@@ -262,7 +280,7 @@ fn put_other(
         | FieldKind::NlriPrefix => put_prefixes4(text, octets),
         FieldKind::UnreachPrefix6 | FieldKind::ReachPrefix6 => put_prefixes6(text, octets),
         FieldKind::AttributeFlags => put_flags(text, Flags(octet_at(octets, 0))),
-        FieldKind::Community => put_one(text, number_in(octets)),
+        FieldKind::Community => put_community(text, number_in(octets)),
         FieldKind::LargeCommunity => put_large(text, octets),
         FieldKind::ErrorSubcode => put_subcode(text, message, number_in(octets)),
         FieldKind::Data => put_data(text, message, octets),

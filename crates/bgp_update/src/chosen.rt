@@ -5,12 +5,13 @@ ghost use Rattle.bgp_update.specs.Found.{IsFound};
 ghost use Rattle.bgp_update.specs.View.{update_value};
 
 use crate::attrs::RECOGNISED;
+use crate::body_writing::HasAttributes;
 use crate::by_type::ByType;
 use crate::kept_view::KeptView;
 use crate::order::order;
-use crate::slot_iter::OfType;
+use crate::slot_iter::{OfType, view_slot};
 use crate::view::UpdateView;
-use bgp_attr::OpaqueView;
+use bgp_attr::{AttrView, OpaqueView};
 use bgp_wire::OctetSet;
 
 /// The attributes that are kept of an UPDATE, without those of types that aren't recognised that are left out. Those that stay are found by their
@@ -25,7 +26,10 @@ pub struct Chosen<'b, 'a> {
 
 impl<'b, 'a> Chosen<'b, 'a> {
     ghost use Rattle.std.specs.Prelude.{◌≡◌, false};
+    ghost use Rattle.std.specs.List.{flat_map};
     ghost use Rattle.bgp_wire.specs.OctetSet.{has_octet};
+    ghost use Rattle.bgp_update.specs.declared.attrs.Attrs.{Attrs};
+    ghost use Rattle.bgp_update.specs.Slots.{attr_list, slot};
     ghost use Rattle.bgp_update.specs.ByType.{IsByType};
     ghost use Rattle.bgp_update.specs.Chosen.{chosen_update};
     ghost use Rattle.bgp_update.specs.Without.{update_without};
@@ -68,6 +72,13 @@ impl<'b, 'a> Chosen<'b, 'a> {
         self.view
     }
 
+    /// The types that attributes with the same of unrecognised types can have, in the order in which they are written.
+    pub fn written_types(&self) -> &'static [u8]
+        ensures { (a : Attrs) → a.others ≡ (chosen_update self.now).attrs.others → flat_map (slot a) result.now ≡ attr_list a }
+    {
+        OfType::types(self)
+    }
+
     /// The attributes of recognised types.
     #[inline(always)]
     pub(crate) fn kept(&self) -> &KeptView<'a>
@@ -104,5 +115,19 @@ impl<'b, 'a> OfType<'a> for Chosen<'b, 'a> {
             None => &RECOGNISED,
             Some(_) => order(),
         }
+    }
+}
+
+impl<'a> HasAttributes<'a> for Chosen<'_, 'a> {
+    ghost use Rattle.bgp_update.specs.Chosen.{chosen_attrs};
+
+    ghost attrs = { chosen_attrs };
+
+    fn attribute(&self, kind: u8) -> Option<AttrView<'a>> {
+        view_slot(self.kept(), self, kind)
+    }
+
+    fn types(&self) -> &'static [u8] {
+        OfType::types(self)
     }
 }

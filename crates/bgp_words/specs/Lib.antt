@@ -2,3 +2,4 @@
 pub mod TypeList
 pub mod CommandLine
 pub mod Laws
+pub mod Hints

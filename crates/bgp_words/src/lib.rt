@@ -6,11 +6,13 @@ mod conflict;
 mod drops;
 mod given;
 mod help;
+mod hint;
 pub mod laws;
 mod program;
 mod request;
 mod type_list;
 
+pub use hint::{Look, Spot, Unsaid, dump_of, is_printed, left_unsaid, look_of, spot_behind};
 pub use program::{BROKEN, Behind, bad_value, explain, status_of, tell, with_flags, words};
 pub use request::{Asked, Request, Session, parse};
 pub use type_list::{all_but, list_fault, types_of};

@@ -12,7 +12,7 @@
  *  - What a call writes (`out`, `cursor`, a buffer, a length) overlaps nothing else that it is handed.
  *  - Octets are `const uint8_t *octets, size_t len`. A message has at most 4096 of them (RFC 4271, section 4.1).
  *  - It answers a status. Where that isn't RISTULVA_OK, what it says of each status holds.
- *  - 32 KB of stack are enough, and 48 KB for ristulva_session_send, ristulva_clean, ristulva_guard_new and ristulva_guard_hear.
+ *  - 32 KB of stack are enough, and 56 KB for ristulva_session_send, ristulva_clean, ristulva_guard_new and ristulva_guard_hear.
  *
  * Positions are offsets into the caller's buffer: so a message is viewed there, and nothing is copied.
  */
@@ -475,6 +475,9 @@ ristulva_status ristulva_text(const ristulva_context *context, uint64_t place, c
 #define RISTULVA_MESSAGE 4096u
 #define RISTULVA_BODY 4077u
 
+/* The most octets of the messages that ristulva_clean writes for one: three of them. */
+#define RISTULVA_PARTS 12288u
+
 /* Writes the message of an UPDATE in its one written form to the beginning of `message`, which has room for `room` octets; the rest of the
  * buffer is unchanged. `body` is the body of that UPDATE in any valid spelling, without the header: its attributes may stand in any order,
  * with lengths of one octet or of two. It is judged as if it had been received in this context. `written` is how many octets the message
@@ -520,16 +523,17 @@ typedef struct {
 } ristulva_cleaned;
 
 /* Writes what is handed on of the first message of the octets to the beginning of `message`, which has room for `room` octets; the rest of the
- * buffer is unchanged, and octets behind the message are ignored. It is a whole message in its one written form, which in the same context is
- * accepted without a note, and is unchanged where it is cleaned again. `written` is how many octets it has, never more than the message that
- * came; where the stream ends, 0, and of no later message anything is to be handed on. `types` are attribute types, `count` of them in any
- * order: attributes of unrecognised types that are among them are left out. `first` is whether the message is the first one of its stream:
- * 0 for no, any other number for yes.
+ * buffer is unchanged, and octets after the message are ignored. It is one whole message in its one written form, or up to three of an UPDATE:
+ * the routes that are gone, those of NLRI, those of MP_REACH_NLRI (RFC 7606, section 5.1). In the same context each is accepted without a note,
+ * and unchanged where it is cleaned again, and none has more octets than the message that came. `written` is how many octets they have together,
+ * RISTULVA_PARTS at most; where the stream ends, 0, and of no later message anything is to be handed on. `types` are attribute types, `count` of
+ * them in any order: attributes of unrecognised types that are among them are left out. `first` is whether the message is the first one of its
+ * stream: 0 for no, any other number for yes.
  *
  * An OPEN is handed on with the first capability of each kind for IPv4 unicast, IPv6 unicast and AS numbers of four octets, and no others. An
- * UPDATE that is accepted is handed on without what is discarded or left out, and one that is treated as a withdrawal as an UPDATE that withdraws
- * its routes. Where nothing would be left of an UPDATE, or MP_UNREACH_NLRI without routes alone, a KEEPALIVE is handed on, unless it came as an
- * End-of-RIB (RFC 4724, section 2).
+ * UPDATE that is accepted is handed on without what is discarded or left out, routes of IPv4 in Withdrawn Routes, NLRI and NEXT_HOP wherever they
+ * came (RFC 4271, section 4.3); one that is treated as a withdrawal as an UPDATE that withdraws its routes. Where an UPDATE has no routes, a
+ * KEEPALIVE is handed on, unless it came as an End-of-RIB (RFC 4724, section 2), which goes on as the one of its family.
  *
  * RISTULVA_INCOMPLETE: nothing is written. RISTULVA_ROOM: `written` is, and says how much room is needed, and so is `out`; `message` isn't. */
 ristulva_status ristulva_clean(const ristulva_context *context, const uint8_t *types, size_t count, uint8_t first, const uint8_t *octets,
@@ -1026,7 +1030,7 @@ typedef struct {
 #define RISTULVA_INNER 1u /* the speaker that is guarded */
 
 /* Makes a guard of which neither side is connected. Unrecognised attributes are left out but for those of the types in `pass`, `count` of them in
- * any order. Where `one_way` isn't 0, the inner speaker's routes stay inside: each UPDATE of its is handed on as a KEEPALIVE. It allocates all
+ * any order. Where `one_way` isn't 0, the inner speaker's routes stay inside: no UPDATE of its is handed on. It allocates all
  * that the guard ever takes.
  *
  * RISTULVA_IN_USE, the handle has a guard; RISTULVA_MEMORY, only where it has none. */
@@ -1039,6 +1043,8 @@ ristulva_status ristulva_guard_free(ristulva_guard *guard);
 #define RISTULVA_SIDE_STOOD 1u       /* its connection stands */
 #define RISTULVA_SIDE_UNREACHABLE 2u /* it doesn't stand, and can't be reached: the other side is told (6/5), and the guard ends */
 #define RISTULVA_SIDE_CLOSED 3u      /* it stood, and was closed or lost: the guard ends, and the other side still gets what is on its way */
+#define RISTULVA_SIDE_STALLED 4u     /* it takes nothing for too long (ristulva_guard_stall): what is on its way to it is dropped, the other side is told
+                                        (4/0), and the guard ends */
 
 /* Tells a guard what happens to a side. What doesn't belong where the side stands does nothing. RISTULVA_RANGE: `side` or `event` is none of the
  * numbers above. */
@@ -1047,6 +1053,13 @@ ristulva_status ristulva_guard_event(ristulva_guard *guard, uint32_t side, uint3
 /* Tells a guard that a second has gone by. Each side has 240 of them for its OPEN, from when the first side was connected; then the guard ends
  * (4/0 to a side without an OPEN, else 6/4). What is on its way once the guard has ended has 10 seconds. */
 ristulva_status ristulva_guard_tick(ristulva_guard *guard);
+
+/* Ends the session: each side that is connected is told (6/2) after what is on its way, and the guard ends. Where it has ended nothing happens. */
+ristulva_status ristulva_guard_stop(ristulva_guard *guard);
+
+/* Tells for how many seconds what is on its way to a side may stand still before the side has stalled (RISTULVA_SIDE_STALLED): the Hold Time that both OPENs
+ * agree on, 240 where that is 0 or an OPEN is missing. */
+ristulva_status ristulva_guard_stall(ristulva_guard *guard, uint16_t *seconds);
 
 /* What a guard asks of its host for a side. */
 typedef struct {
@@ -1063,10 +1076,11 @@ ristulva_status ristulva_guard_asks(ristulva_guard *guard, uint32_t side, ristul
 #define RISTULVA_CAME_NOTHING 0u   /* no message is complete yet, or the side isn't read */
 #define RISTULVA_CAME_HANDED_ON 1u /* a message was handed on; a NOTIFICATION ends the guard */
 #define RISTULVA_CAME_ANSWERED 2u  /* the side was answered by a NOTIFICATION, and the guard has ended */
+#define RISTULVA_CAME_DROPPED 3u   /* nothing was handed on of an UPDATE: it has no routes, or they stay inside */
 
 typedef struct {
-    uint8_t what; /* RISTULVA_CAME_NOTHING to RISTULVA_CAME_ANSWERED */
-    uint8_t kind; /* RISTULVA_CAME_HANDED_ON: the type of the message that came, 1 to 4. Else 0 */
+    uint8_t what; /* RISTULVA_CAME_NOTHING to RISTULVA_CAME_DROPPED */
+    uint8_t kind; /* RISTULVA_CAME_HANDED_ON, RISTULVA_CAME_DROPPED: the type of the message that came, 1 to 4. Else 0 */
     uint8_t same; /* RISTULVA_CAME_HANDED_ON: 1 where what was handed on has the same octets. Else 0 */
     uint8_t code; /* RISTULVA_CAME_ANSWERED: code and subcode of that NOTIFICATION (RFC 4271, section 4.5). Else 0 */
     uint8_t subcode;

@@ -5,19 +5,19 @@ use Rattle.bgp_msg.specs.declared.message.Message.{Message}
 use Rattle.bgp_clean.specs.declared.cleaned.Cleaned.{Cleaned}
 use Rattle.bgp_clean.specs.declared.cleaned.Cleaned.TheVariants.{HandedOn, Ends}
 use Rattle.bgp_clean.specs.declared.fault.CleanFault.{CleanFault}
-use Rattle.bgp_clean.specs.Prelude.{IsCleaned}
+use Rattle.bgp_clean.specs.Prelude.{IsCleaned, no_limits, refuses_in}
 use Rattle.bgp_clean.proofs.Handed.{handed-clean}
 use Rattle.ristulva_c.specs.Prelude.{handed_octets, Cleaning, Hands, HandsClean, IsHandedOn}
 
-pub appended : (ctx : Context) (handed : Result Message CleanFault) (old new : List ℕ) (what : Cleaned) → IsCleaned ctx handed old new what → new ≡ old ++ handed_octets ctx handed
-appended ctx (Ok n) old new HandedOn is = is
-appended ctx (Ok n) old new (Ends g) is = absurd is
+pub appended : (ctx : Context) (handed : Result (List Message) CleanFault) (old new : List ℕ) (what : Cleaned) → IsCleaned ctx handed old new what → new ≡ old ++ handed_octets ctx handed
+appended ctx (Ok ns) old new HandedOn is = is
+appended ctx (Ok ns) old new (Ends g) is = absurd is
 appended ctx (Err f) old new HandedOn is = absurd is
 appended ctx (Err f) old new (Ends g) is = is.1 ∙ sym (append-nil old)
 
 hands_clean : (ctx : Context) (drops : ℕ → Bool) (first : Bool) (octets : List ℕ) (found : Step) → AreOctets octets → ShowsFront octets found → HandsClean ctx drops first found
 hands_clean ctx drops first octets step.More are shows = tt
-hands_clean ctx drops first octets (step.Frame f) are shows = λ n e. handed-clean ctx drops first (message_in f) (take f.len octets) n (AreOctets-take f.len octets are) shows.1 e
+hands_clean ctx drops first octets (step.Frame f) are shows = λ ns e. handed-clean ctx drops (refuses_in ctx no_limits) first (message_in f) (take f.len octets) ns (AreOctets-take f.len octets are) shows.1 e
 hands_clean ctx drops first octets (step.Fault f) are shows = tt
 
 pub handed_on : (ctx : Context) (drops : ℕ → Bool) (first : Bool) (octets : List ℕ) (found : Step) (c : Cleaning) → AreOctets octets → ShowsFront octets found → Hands ctx drops first found c

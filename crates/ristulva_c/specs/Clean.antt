@@ -1,5 +1,5 @@
 -- What is handed on of a message, in numbers.
-use Rattle.std.specs.Prelude.{◌≡◌, ◌-◌, ℕ, Bool, false, List, [], ◌∷◌, length, Result, Ok, Err}
+use Rattle.std.specs.Prelude.{◌≡◌, ◌-◌, ℕ, Bool, List, [], ◌∷◌, length, None, Result, Ok, Err}
 use Rattle.std.specs.List.{filter}
 use Rattle.bgp_wire.specs.Prelude.{also, none_of_them}
 use Rattle.bgp_frame.specs.declared.step.Step.{Step}
@@ -8,11 +8,11 @@ use Rattle.bgp_frame.specs.declared.step.Step.TheVariants as step
 use Rattle.bgp_open.specs.declared.context.Context.{Context}
 use Rattle.bgp_msg.specs.declared.message.Message.{Message}
 use Rattle.bgp_msg.specs.declared.outcome.Outcome.{Outcome}
-use Rattle.bgp_msg.specs.Prelude.{out_of, of_fault, canonical}
+use Rattle.bgp_msg.specs.Prelude.{out_of, of_fault}
 use Rattle.bgp_msg.specs.declared.message.Message.TheVariants as message
 use Rattle.bgp_msg.specs.declared.outcome.Outcome.TheVariants as outcome
 use Rattle.bgp_clean.specs.declared.fault.CleanFault.{CleanFault}
-use Rattle.bgp_clean.specs.Prelude.{cleaned, cleaned_outcome, IsClean, understood}
+use Rattle.bgp_clean.specs.Prelude.{cleaned, cleaned_outcome, no_limits, octets_handed, refuses_in, IsClean, understood}
 use Rattle.bgp_clean.specs.declared.fault.CleanFault.TheVariants as fault
 use Rattle.ristulva_c.specs.declared.cleaning.ToldCleaned.{ToldCleaned}
 use Rattle.ristulva_c.specs.declared.cleaning.TheConstants.{HANDED_ON, ENDS_RESET, ENDS_LATE_OPEN, ENDS_NO_FAMILY}
@@ -99,13 +99,13 @@ end_told len verdict why = record {
 }
 
 -- by its outcome, and what is handed on of it
-abbrev pub cleaned_told : ℕ → (ℕ → Bool) → Outcome → Result Message CleanFault → ToldCleaned
-cleaned_told len drops o (Ok n) = handed_told len drops o
+abbrev pub cleaned_told : ℕ → (ℕ → Bool) → Outcome → Result (List Message) CleanFault → ToldCleaned
+cleaned_told len drops o (Ok ns) = handed_told len drops o
 cleaned_told len drops o (Err why) = end_told len (number_of o) why
 
--- the whole message that is handed on; nothing where the stream ends
-abbrev pub handed_octets : Context → Result Message CleanFault → List ℕ
-handed_octets ctx (Ok n) = canonical ctx n
+-- the whole messages that are handed on; nothing where the stream ends
+abbrev pub handed_octets : Context → Result (List Message) CleanFault → List ℕ
+handed_octets ctx (Ok ns) = octets_handed ctx ns
 handed_octets ctx (Err why) = []
 
 -- ---- the call
@@ -129,15 +129,15 @@ pub record IsHanded (octets : List ℕ) (told : ToldCleaned) (c : Cleaning) : Ty
 -- by what the octets begin with: less than a message; a message; or a header with a fault
 abbrev pub Hands : Context → (ℕ → Bool) → Bool → Step → Cleaning → Type 0
 Hands ctx drops first step.More c = IsLeft INCOMPLETE c
-Hands ctx drops first (step.Frame f) c = IsHanded (handed_octets ctx (cleaned ctx drops first (message_in f)))
-    (cleaned_told f.len drops (out_of ctx (message_in f)) (cleaned ctx drops first (message_in f))) c
-Hands ctx drops first (step.Fault f) c = IsHanded [] (cleaned_told 0 drops (of_fault f) (cleaned_outcome drops first false (of_fault f))) c
+Hands ctx drops first (step.Frame f) c = IsHanded (handed_octets ctx (cleaned ctx drops (refuses_in ctx no_limits) first (message_in f)))
+    (cleaned_told f.len drops (out_of ctx (message_in f)) (cleaned ctx drops (refuses_in ctx no_limits) first (message_in f))) c
+Hands ctx drops first (step.Fault f) c = IsHanded [] (cleaned_told 0 drops (of_fault f) (cleaned_outcome drops (refuses_in ctx no_limits) first None (of_fault f))) c
 
--- what is handed on of a message is accepted in the same context without a note, is handed on as it is, is no longer than the message, and teaches
--- a hearer what that does
+-- what is handed on of a message is accepted in the same context without a note, is handed on as it is, has no message that is longer, and teaches a
+-- hearer what that does
 abbrev pub HandsClean : Context → (ℕ → Bool) → Bool → Step → Type 0
 HandsClean ctx drops first step.More = Unit {0}
-HandsClean ctx drops first (step.Frame f) = (n : Message) → cleaned ctx drops first (message_in f) ≡ Ok n → IsClean ctx drops first (message_in f) n
+HandsClean ctx drops first (step.Frame f) = (ns : List Message) → cleaned ctx drops (refuses_in ctx no_limits) first (message_in f) ≡ Ok ns → IsClean ctx drops (refuses_in ctx no_limits) first (message_in f) ns
 HandsClean ctx drops first (step.Fault f) = Unit {0}
 
 -- what is handed on of the message that the octets begin with is written, or why the stream ends before it is told

@@ -1,19 +1,20 @@
 -- What the calls on a guard do.
-use Rattle.std.specs.Prelude.{◌≡◌, ◌⊎◌, ℕ, ◌==◌, List, length, take, Option, None, Some, if◌then◌else◌}
+use Rattle.std.specs.Prelude.{◌≡◌, ◌⊎◌, ℕ, ◌==◌, false, List, length, take, Option, None, Some, if◌then◌else◌}
 use Rattle.bgp_wire.specs.Prelude.{all_but, has_octet}
 use Rattle.bgp_frame.specs.Prelude.{code_of}
+use Rattle.bgp_clean.specs.Prelude.{no_limits}
 use Rattle.bgp_guard.specs.declared.came.Came.{Came}
 use Rattle.bgp_guard.specs.declared.rules.Rules.{Rules}
 use Rattle.bgp_guard.specs.declared.side.Side.{Side}
-use Rattle.bgp_guard.specs.Prelude.{Guarding, Sight, fresh, half, listens, closes, has_ended, for_side, stood, unreached, closed, ticked, IsHeard}
+use Rattle.bgp_guard.specs.Prelude.{Guarding, Sight, fresh, half, listens, closes, has_ended, for_side, stood, unreached, closed, stalled, stopped, stall_seconds, ticked, IsHeard}
 use Rattle.bgp_guard.specs.declared.came.Came.TheVariants as came
 use Rattle.bgp_guard.specs.declared.side.Side.TheVariants as side
 use Rattle.ristulva_c.specs.declared.agreed.ToldPeer.{ToldPeer}
 use Rattle.ristulva_c.specs.declared.guard.ToldCame.{ToldCame}
-use Rattle.ristulva_c.specs.declared.guard.TheConstants.{CAME_NOTHING, CAME_HANDED_ON, CAME_ANSWERED}
+use Rattle.ristulva_c.specs.declared.guard.TheConstants.{CAME_NOTHING, CAME_HANDED_ON, CAME_ANSWERED, CAME_DROPPED}
 use Rattle.ristulva_c.specs.declared.sides.SideEvent.{SideEvent}
 use Rattle.ristulva_c.specs.declared.sides.SideEvent.TheVariants as event
-use Rattle.ristulva_c.specs.declared.sides.TheConstants.{OUTER, INNER, STOOD, UNREACHABLE, CLOSED}
+use Rattle.ristulva_c.specs.declared.sides.TheConstants.{OUTER, INNER, STOOD, UNREACHABLE, CLOSED, STALLED}
 use Rattle.ristulva_c.specs.declared.status.TheConstants.{IN_USE, MEMORY, NO_SESSION, OK, RANGE}
 use Rattle.ristulva_c.specs.declared.ways.Asks.{Asks}
 use Rattle.ristulva_c.specs.Agreed.{one_if, IsKnown}
@@ -32,17 +33,20 @@ abbrev pub event_of : ℕ → Option SideEvent
 event_of n =
     if n == STOOD then Some event.Stood else (
     if n == UNREACHABLE then Some event.Unreachable else (
-    if n == CLOSED then Some event.Closed else
-    None))
+    if n == CLOSED then Some event.Closed else (
+    if n == STALLED then Some event.Stalled else
+    None)))
 
 -- what an event does, as its side sees it
 abbrev pub rule_of : SideEvent → Sight → Sight
 rule_of event.Stood = stood
 rule_of event.Unreachable = unreached
 rule_of event.Closed = closed
+rule_of event.Stalled = stalled
 
 abbrev pub came_told : Came → ToldCame
 came_told came.Nothing = record { what = CAME_NOTHING; kind = 0; same = 0; code = 0; subcode = 0 }
+came_told (came.Dropped kind) = record { what = CAME_DROPPED; kind = code_of kind; same = 0; code = 0; subcode = 0 }
 came_told (came.HandedOn kind same) = record { what = CAME_HANDED_ON; kind = code_of kind; same = one_if same; code = 0; subcode = 0 }
 came_told (came.Answered code subcode) = record { what = CAME_ANSWERED; kind = 0; same = 0; code = code; subcode = subcode }
 
@@ -57,9 +61,11 @@ asks_told side g = record {
 
 -- ---- a guard is made, and freed
 
--- unrecognised attributes are left out but for these types, and the inner speaker's routes stay inside where that is asked for
+-- unrecognised attributes are left out but for these types, no announcement is refused, and the inner speaker's routes stay inside where that is asked for
 pub record IsSetTo (pass : List ℕ) (inside : ℕ) (rules : Rules) : Type 0 where
   pub drops : has_octet rules.drops ≡ all_but (types_in pass)
+  pub limits : rules.limits ≡ no_limits
+  pub first_as : rules.first_as ≡ false
   pub one_way : rules.one_way ≡ is_set inside
 
 abbrev pub IsNew : List ℕ → ℕ → Option Guarding → Type 0
@@ -86,6 +92,16 @@ GoesOn (Some side) (Some rule) (Some g) status new = (status ≡ OK) × (new ≡
 abbrev pub IsTicked : Option Guarding → ℕ → Option Guarding → Type 0
 IsTicked None status new = (status ≡ NO_SESSION) × (new ≡ None)
 IsTicked (Some g) status new = (status ≡ OK) × (new ≡ Some (ticked g))
+
+-- the owner ends the session
+abbrev pub IsStopped : Option Guarding → ℕ → Option Guarding → Type 0
+IsStopped None status new = (status ≡ NO_SESSION) × (new ≡ None)
+IsStopped (Some g) status new = (status ≡ OK) × (new ≡ Some (stopped g))
+
+-- for how many seconds what is on the way to a side may stand still
+abbrev pub TellsStall : Option Guarding → ℕ → ℕ → ℕ → Type 0
+TellsStall None status before behind = (status ≡ NO_SESSION) × (behind ≡ before)
+TellsStall (Some g) status before behind = (status ≡ OK) × (behind ≡ stall_seconds g)
 
 -- ---- octets that come
 

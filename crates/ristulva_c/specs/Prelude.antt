@@ -31,7 +31,7 @@ pub use Rattle.ristulva_c.specs.Session.{Follows, IsStateTold, WithRoom}
 pub use Rattle.ristulva_c.specs.Agreed.{IsCodesTold, IsContextTold, IsKnown, IsOpenTold, context_said, peer_said}
 pub use Rattle.ristulva_c.specs.Decoder.{GivesHeld, IsHeldTold, IsWholeTold, Pulls, PullsWithRoom}
 pub use Rattle.ristulva_c.specs.Clean.{Cleaning, Hands, HandsClean, IsHandedOn, caps_left_out_in, cleaned_told, discarded_in, end_told, handed_octets, handed_told, left_out_in, types_in, with_types}
-pub use Rattle.ristulva_c.specs.Guard.{GoesOn, GuardHears, HearsOf, IsAsked, IsFrontOf, IsSetTo, IsTicked, ShowsWay, asks_told, came_told, rule_of, side_of}
+pub use Rattle.ristulva_c.specs.Guard.{GoesOn, GuardHears, HearsOf, IsAsked, IsFrontOf, IsSetTo, IsStopped, IsTicked, ShowsWay, TellsStall, asks_told, came_told, rule_of, side_of}
 pub use Rattle.ristulva_c.specs.FieldKinds.{Names, number_of_kind}
 unfoldable pub use Rattle.ristulva_c.specs.FieldKinds.{kind_of}
 pub use Rattle.ristulva_c.specs.Fields.{IsFilled, field_told, fields_told}

@@ -8,7 +8,7 @@ ghost use Rattle.bgp_open.specs.declared.context.Context.{Context};
 ghost use Rattle.bgp_msg.specs.declared.message.Message.{Message};
 ghost use Rattle.bgp_msg.specs.Prelude.{out_of, outcome_value};
 ghost use Rattle.bgp_clean.specs.declared.fault.CleanFault.{CleanFault};
-ghost use Rattle.bgp_clean.specs.Prelude.{cleaned, IsCleaned};
+ghost use Rattle.bgp_clean.specs.Prelude.{cleaned, no_limits, refuses_in, IsCleaned};
 ghost use Rattle.ristulva_c.specs.Prelude.{context_of, is_set, types_in, discarded_in, left_out_in, caps_left_out_in, end_told, handed_told, cleaned_told, handed_octets, Hands, IsHandedOn};
 
 use crate::context::{SessionContext, context_of};
@@ -17,12 +17,15 @@ use crate::left_out::{caps_left_out, others_left_out};
 use crate::notes::list_view;
 use crate::status::INCOMPLETE;
 use crate::written::write;
-use bgp_clean::{CleanFault, Cleaned, clean};
+use bgp_clean::{CleanFault, Cleaned, Limits, clean};
 use bgp_frame::{Frame, HeadFault, Step, front};
 use bgp_msg::{OutcomeView, view_frame};
 use bgp_open::Context;
 use bgp_update::UpdateView;
 use bgp_wire::{OctetSet, Page, are_octets};
+
+/// At most so many octets are written of what is handed on of a message: an UPDATE goes on by three parts at most.
+const PARTS: usize = 12288;
 
 /// A message is handed on, or what stands for it is.
 pub const HANDED_ON: u8 = 0;
@@ -139,7 +142,7 @@ fn handed_told(drops: &OctetSet, len: u16, outcome: &OutcomeView<'_>) -> ToldCle
 
 /// What is told of a message, by what came of it.
 fn told(drops: &OctetSet, len: u16, outcome: &OutcomeView<'_>, what: Cleaned) -> ToldCleaned
-    ensures { (ctx : Context) (handed : Result Message CleanFault) (old new : List ℕ) → IsCleaned ctx handed old new what
+    ensures { (ctx : Context) (handed : Result (List Message) CleanFault) (old new : List ℕ) → IsCleaned ctx handed old new what
         → result ≡ cleaned_told len (has_octet drops.now) (outcome_value outcome.now) handed }
 {
     match what {
@@ -155,16 +158,16 @@ fn clean_frame(
     drops: &OctetSet,
     first: bool,
     frame: Frame<'_>,
-    page: &mut Page<4096>,
+    page: &mut Page<PARTS>,
 ) -> ToldCleaned
     requires length { IsLength frame.kind (19 + length frame.body.now) }
     requires empty { page.old ≡ [] }
-    ensures octets { page.new ≡ handed_octets ctx.now (cleaned ctx.now (has_octet drops.now) first (message_in frame.entry)) }
+    ensures octets { page.new ≡ handed_octets ctx.now (cleaned ctx.now (has_octet drops.now) (refuses_in ctx.now no_limits) first (message_in frame.entry)) }
     ensures told { result ≡ cleaned_told frame.entry.len (has_octet drops.now) (out_of ctx.now (message_in frame.entry))
-        (cleaned ctx.now (has_octet drops.now) first (message_in frame.entry)) }
+        (cleaned ctx.now (has_octet drops.now) (refuses_in ctx.now no_limits) first (message_in frame.entry)) }
 {
     let len = frame.len;
-    let Ok(what) = clean(ctx, drops, first, frame, page) else {
+    let Ok(what) = clean(ctx, drops, &Limits::none(), first, frame, page) else {
         unreachable!();
     };
     let mut place = UpdateView::empty();
@@ -210,8 +213,8 @@ fn tell_fault(fault: HeadFault, buffer: &mut [u8], len: &mut usize, out: &mut To
     write(&[], buffer, len)
 }
 
-/// Writes what is handed on of the message that octets begin with, as a whole message in its one written form, without unrecognised attributes of
-/// these types; or tells why the cleaned stream ends before it. What stands behind the message has no effect. `first` is whether it is the first
+/// Writes what is handed on of the message that octets begin with, as one to three whole messages in their one written form, without unrecognised
+/// attributes of these types; or tells why the cleaned stream ends before it. What stands behind the message has no effect. `first` is whether it is the first
 /// one of its stream: 0 for no.
 #[unsafe(no_mangle)]
 pub extern "C" fn ristulva_clean(

@@ -1,7 +1,7 @@
 //! A guard's life: it is made, told what happens, hears octets, and is freed.
 
 ghost use Rattle.std.specs.Prelude.{◌≡◌, Some, option_map};
-ghost use Rattle.ristulva_c.specs.Prelude.{side_of, rule_of, came_told, GoesOn, IsTicked, GuardHears, HearsOf};
+ghost use Rattle.ristulva_c.specs.Prelude.{side_of, rule_of, came_told, GoesOn, IsStopped, IsTicked, GuardHears, HearsOf};
 ghost use Rattle.ristulva_c.specs.Guard.{event_of, IsMade, IsFreed};
 ghost use Rattle.ristulva_c.specs.declared.status.TheConstants.{OK};
 
@@ -22,13 +22,16 @@ pub const CAME_HANDED_ON: u8 = 1;
 /// The side was answered by a NOTIFICATION, and the guard has ended.
 pub const CAME_ANSWERED: u8 = 2;
 
+/// Nothing was handed on of a message: of an UPDATE without routes, or whose routes stay inside.
+pub const CAME_DROPPED: u8 = 3;
+
 /// What came of the octets that a side sent.
 #[repr(C)]
 #[derive(Clone, Copy)]
 pub struct ToldCame {
-    /// `CAME_NOTHING` to `CAME_ANSWERED`.
+    /// `CAME_NOTHING` to `CAME_DROPPED`.
     pub what: u8,
-    /// The type of the message that was handed on, 1 to 4; else 0.
+    /// The type of the message that was handed on or dropped, 1 to 4; else 0.
     pub kind: u8,
     /// Whether what was handed on has the same octets; else 0.
     pub same: u8,
@@ -44,6 +47,7 @@ fn came_told(came: Came) -> ToldCame
 {
     let (what, kind, same, code, subcode) = match came {
         Came::Nothing => (CAME_NOTHING, 0, 0, 0, 0),
+        Came::Dropped { kind } => (CAME_DROPPED, code_of(kind), 0, 0, 0),
         Came::HandedOn { kind, same } => (CAME_HANDED_ON, code_of(kind), u8::from(same), 0, 0),
         Came::Answered { code, subcode } => (CAME_ANSWERED, 0, 0, code, subcode),
     };
@@ -126,6 +130,19 @@ pub extern "C" fn ristulva_guard_tick(alloc: Global, guard: &mut GuardHandle) ->
         return NO_SESSION;
     };
     body.tick();
+    guard.put(body);
+    OK
+}
+
+/// Tells a guard that its owner ends the session.
+#[unsafe(no_mangle)]
+pub extern "C" fn ristulva_guard_stop(alloc: Global, guard: &mut GuardHandle) -> u32
+    ensures { IsStopped guard.old.value result guard.new.value }
+{
+    let Some(mut body) = guard.take(alloc) else {
+        return NO_SESSION;
+    };
+    body.stop();
     guard.put(body);
     OK
 }

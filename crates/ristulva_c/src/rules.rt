@@ -3,6 +3,7 @@
 ghost use Rattle.ristulva_c.specs.Prelude.{IsSetTo};
 
 use crate::cleaning::set_of;
+use bgp_clean::Limits;
 use bgp_guard::Rules;
 
 /// What a guard is set to that hands unrecognised attributes of these types on.
@@ -11,6 +12,8 @@ pub(crate) fn rules_of(pass: &[u8], one_way: u8) -> Rules
 {
     Rules {
         drops: set_of(pass).others(),
+        limits: Limits::none(),
+        first_as: false,
         one_way: one_way != 0,
     }
 }

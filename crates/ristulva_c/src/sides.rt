@@ -22,12 +22,16 @@ pub const UNREACHABLE: u32 = 2;
 /// A side has closed its connection, or lost it.
 pub const CLOSED: u32 = 3;
 
+/// What is on its way to a side has stood still for too long.
+pub const STALLED: u32 = 4;
+
 /// What happens to a side, but for octets.
 #[derive(Clone, Copy, PartialEq, Eq)]
 pub(crate) enum SideEvent {
     Stood,
     Unreachable,
     Closed,
+    Stalled,
 }
 
 /// The side that has a number, where it is one's.
@@ -49,6 +53,7 @@ pub(crate) fn event_of(number: u32) -> Option<SideEvent>
         STOOD => Some(SideEvent::Stood),
         UNREACHABLE => Some(SideEvent::Unreachable),
         CLOSED => Some(SideEvent::Closed),
+        STALLED => Some(SideEvent::Stalled),
         _ => None,
     }
 }
@@ -61,5 +66,6 @@ pub(crate) fn happen(guard: &mut Guard, side: Side, event: SideEvent)
         SideEvent::Stood => guard.stood(side),
         SideEvent::Unreachable => guard.unreachable(side),
         SideEvent::Closed => guard.closed(side),
+        SideEvent::Stalled => guard.stalled(side),
     }
 }

@@ -1,7 +1,7 @@
 //! What a guard asks of its owner, and what is on the way to its sides.
 
 ghost use Rattle.std.specs.Prelude.{◌≡◌, ◌≤◌, Some, length, take};
-ghost use Rattle.ristulva_c.specs.Prelude.{side_of, asks_told, GoesOn, IsAsked, IsFrontOf, ShowsWay, IsKnown};
+ghost use Rattle.ristulva_c.specs.Prelude.{side_of, asks_told, GoesOn, IsAsked, IsFrontOf, ShowsWay, TellsStall, IsKnown};
 ghost use Rattle.ristulva_c.specs.Guard.{IsPeerTold};
 ghost use Rattle.bgp_guard.specs.Prelude.{half, sent};
 ghost use Rattle.ristulva_c.specs.declared.status.TheConstants.{OK};
@@ -58,6 +58,24 @@ pub extern "C" fn ristulva_guard_asks(
         return NO_SESSION;
     };
     *asks = asks_told(&body, side);
+    guard.put(body);
+    OK
+}
+
+/// Tells for how many seconds what is on the way to a side may stand still.
+#[unsafe(no_mangle)]
+pub extern "C" fn ristulva_guard_stall(
+    alloc: Global,
+    guard: &mut GuardHandle,
+    seconds: &mut u16,
+) -> u32
+    ensures kept { guard.new.value ≡ guard.old.value }
+    ensures told { TellsStall guard.old.value result seconds.old seconds.new }
+{
+    let Some(body) = guard.take(alloc) else {
+        return NO_SESSION;
+    };
+    *seconds = body.stall_seconds();
     guard.put(body);
     OK
 }

@@ -1,5 +1,5 @@
 -- What one side sees of what the code keeps, and steps of hearing it.
-use Rattle.std.specs.Prelude.{◌≡◌, ℕ, ◌≤◌, Bool, true, List, length, drop, Option, None, Some, Result, Ok, Err}
+use Rattle.std.specs.Prelude.{◌≡◌, ℕ, ◌<◌, ◌≤◌, Bool, List, [], ◌∷◌, length, drop, Option, None, Some, Result, Ok, Err}
 use Rattle.bgp_frame.specs.declared.kind.Kind.{Kind}
 use Rattle.bgp_open.specs.declared.fault.OpenFault.{OpenFault}
 use Rattle.bgp_open.specs.declared.message.Open.{Open}
@@ -11,7 +11,7 @@ use Rattle.bgp_guard.specs.declared.line.Line.{Line}
 use Rattle.bgp_guard.specs.declared.rules.Rules.{Rules}
 use Rattle.bgp_guard.specs.declared.stage.Stage.{Stage}
 use Rattle.bgp_guard.specs.Guard.{Half, Sight}
-use Rattle.bgp_guard.specs.Hearing.{heard, peer_behind, ready_behind, said_as}
+use Rattle.bgp_guard.specs.Hearing.{heard, peer_behind, ready_behind}
 use Rattle.bgp_guard.specs.Came.{CameIn}
 use Rattle.bgp_guard.specs.Halves.{half_with}
 
@@ -27,26 +27,26 @@ abbrev pub said_in : Result Open OpenFault → Option Said
 said_in (Ok o) = Some (said_by o)
 said_in (Err fault) = None
 
--- octets that are a message: where they are of an OPEN, they are read as it
-pub record IsReadOpen (n : Message) (b : List ℕ) : Type 0 where
+-- octets that are messages: where they are of an OPEN, they are read as it
+pub record IsReadOpen (ns : List Message) (b : List ℕ) : Type 0 where
   pub value : Open
-  pub is : n ≡ Message.Open value
+  pub is : ns ≡ Message.Open value ∷ []
   pub reads : reading_of (drop 19 b) ≡ Ok value
 
--- each kind is handed on as itself, but for an UPDATE, in whose place a KEEPALIVE may stand
-abbrev pub IsReadIn : Kind → Message → List ℕ → Type 0
-IsReadIn Kind.Open n b = IsReadOpen n b
-IsReadIn Kind.Update n b = said_as true n ≡ Message.Keepalive
-IsReadIn Kind.Notification n b = said_as true n ≡ n
-IsReadIn Kind.Keepalive n b = said_as true n ≡ n
+-- octets that stand for an UPDATE: their number tells an UPDATE from a KEEPALIVE
+abbrev pub IsReadUpdate : List Message → List ℕ → Type 0
+IsReadUpdate (Message.Update u ∷ later) b = 23 ≤ length b
+IsReadUpdate (Message.Keepalive ∷ []) b = length b ≡ 19
+IsReadUpdate _ b = ⊥
 
--- what is handed on, by the kind of what came
-abbrev pub said_for : Bool → Kind → Message → Message
-said_for true Kind.Update n = Message.Keepalive
-said_for _ _ n = n
+-- what is to be known of the octets that stand for a message of a kind
+abbrev pub IsReadIn : Kind → List Message → List ℕ → Type 0
+IsReadIn Kind.Open ns b = IsReadOpen ns b
+IsReadIn Kind.Update ns b = IsReadUpdate ns b
+IsReadIn kind ns b = 0 < length ns
 
-abbrev pub half_behind : Kind → Message → Half → Half
-half_behind kind n h = record h { peer = peer_behind kind n h.peer; ready = ready_behind kind h.ready }
+abbrev pub half_behind : Kind → List Message → Half → Half
+half_behind kind ns h = record h { peer = peer_behind kind ns h.peer; ready = ready_behind kind h.ready }
 
 -- what is held came to this
 pub record IsSettled (rules : Rules) (silent : Bool) (old : Sight) (came : Came) (new : Sight) : Type 0 where

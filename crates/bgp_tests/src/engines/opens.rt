@@ -2,6 +2,7 @@
 
 use super::failing::{Drip, Sheet};
 use super::tool::{Tool, input_of};
+use bgp_clean::Limits;
 use bgp_engine::*;
 use bgp_open::Context;
 use bgp_wire::OctetSet;
@@ -69,7 +70,15 @@ fn by_opens(
         Way::Json => show_json_by_opens(alloc, theirs, false, input, output),
         Way::Check => check_by_opens(alloc, theirs, false, input, output),
         Way::Narrow => narrow_by_opens(alloc, theirs, input, output),
-        Way::Clean => clean_by_opens(alloc, theirs, &OctetSet::new(), false, input, output),
+        Way::Clean => clean_by_opens(
+            alloc,
+            theirs,
+            &OctetSet::new(),
+            &Limits::none(),
+            false,
+            input,
+            output,
+        ),
     }
 }
 
@@ -88,7 +97,16 @@ fn by_opens_within(
         Way::Narrow => narrow_by_opens_within(alloc, turns, theirs, input, &mut output),
         Way::Clean => {
             let none = OctetSet::new();
-            clean_by_opens_within(alloc, turns, theirs, &none, false, input, &mut output)
+            clean_by_opens_within(
+                alloc,
+                turns,
+                theirs,
+                &none,
+                &Limits::none(),
+                false,
+                input,
+                &mut output,
+            )
         }
     }
 }
@@ -105,7 +123,15 @@ fn by_flags(
         Way::Json => show_json(alloc, ctx, false, input, output),
         Way::Check => check(alloc, ctx, false, input, output),
         Way::Narrow => narrow_stream(alloc, &Context { as4: true, ..*ctx }, input, output),
-        Way::Clean => clean_stream(alloc, ctx, &OctetSet::new(), false, input, output),
+        Way::Clean => clean_stream(
+            alloc,
+            ctx,
+            &OctetSet::new(),
+            &Limits::none(),
+            false,
+            input,
+            output,
+        ),
     }
 }
 

@@ -1,6 +1,7 @@
 //! The engines, by name, over readers and writers that are made here.
 
 use super::failing::{Drip, Sheet};
+use bgp_clean::Limits;
 use bgp_engine::*;
 use bgp_open::Context;
 use bgp_wire::OctetSet;
@@ -105,7 +106,15 @@ pub(super) fn run_tool(
         Tool::ToHex => to_hex(alloc, input, output),
         Tool::FromHex => from_hex(alloc, input, output),
         Tool::Narrow => narrow_stream(alloc, &Context { as4: true, ..ctx }, input, output),
-        Tool::Clean => clean_stream(alloc, &ctx, &OctetSet::new(), false, input, output),
+        Tool::Clean => clean_stream(
+            alloc,
+            &ctx,
+            &OctetSet::new(),
+            &Limits::none(),
+            false,
+            input,
+            output,
+        ),
     }
 }
 
@@ -127,6 +136,17 @@ pub(super) fn run_tool_within(
         Tool::Narrow => {
             narrow_within(alloc, turns, &Context { as4: true, ..ctx }, input, output)
         }
-        Tool::Clean => { clean_within(alloc, turns, &ctx, &OctetSet::new(), false, input, output) }
+        Tool::Clean => {
+            clean_within(
+                alloc,
+                turns,
+                &ctx,
+                &OctetSet::new(),
+                &Limits::none(),
+                false,
+                input,
+                output,
+            )
+        }
     }
 }

@@ -1,17 +1,23 @@
 -- A row of which the first value is taken out, and the lines of fields by such a row of notes.
-use Rattle.std.specs.Prelude.{ℕ, List, [], ◌∷◌, Option, None, Some, if◌then◌else◌}
+use Rattle.std.specs.Prelude.{ℕ, Bool, false, List, [], ◌∷◌, Option, None, Some, if◌then◌else◌}
 use Rattle.bgp_text.specs.Below.{notes_left, Note, Field}
 use Rattle.bgp_text.specs.declared.field_lines.Noting.{Noting}
-use Rattle.bgp_text.specs.FieldLines.{field_line, is_at, is_in, noted_lines}
+use Rattle.bgp_text.specs.FieldLines.{field_line, noted_lines}
+use Rattle.bgp_text.specs.Reasons.{is_at, is_in, is_of}
 
 abbrev pub row_of : {A : Type 0} → Option A → List A → List A
 row_of None later = []
 row_of (Some first) later = first ∷ later
 
--- the first note of a row, where it is about the attribute that begins with a field
-abbrev pub note_at : Option Note → Field → Option Note
-note_at None f = None
-note_at (Some n) f = if is_at n f then Some n else None
+-- the first note of a row, where it is told at a field
+abbrev pub note_at : Option Note → List ℕ → Field → Option Note
+note_at None message f = None
+note_at (Some n) message f = if is_at message n f then Some n else None
+
+-- the field is of the attribute that it is about
+abbrev pub is_next : Option Note → Field → Bool
+is_next None f = false
+is_next (Some n) f = is_of n f
 
 -- the lines of the fields that are left
 abbrev pub noting_lines : List ℕ → Noting → List Field → List ℕ
@@ -19,4 +25,4 @@ noting_lines message noting fields = noted_lines message noting.place (row_of no
 
 -- the line of a field of a message without notes
 abbrev pub plain_line : List ℕ → Field → List ℕ
-plain_line message f = field_line (is_in 0 f.group) [] message f
+plain_line message f = field_line (is_in 0 f.group) message f
