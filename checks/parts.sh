@@ -118,9 +118,9 @@ documents() {
     part_in_python "definitions" docs/make-definitions --check
     part_in_python "calls and their contracts" docs/make-proofs --check
     part_in_python "tests of attributes" docs/make-attributes --check
-    part_in_python "programs that documents show" docs/check-library
-    part_in_python "links and paths of documents" docs/check-links
-    part_in_python "calls that can lack memory" docs/check-memory
+    part_in_python "programs that documents show" checks/documents/library
+    part_in_python "links and paths of documents" checks/documents/links
+    part_in_python "calls that can lack memory" checks/documents/memory
     part_in_python "chart" checks/bench/draw-chart --check
 }
 
@@ -139,7 +139,7 @@ over_the_programs() { # the program, the one of rows, a flag for one that is not
     # Without tshark, captures of packets are left out and counted.
     have tshark tshark
     part_in_python "explained beside tshark" checks/examples/beside-tshark "$1"
-    part_in_python "captures of other forms" contrib/check "$1"
+    part_in_python "captures of other forms" checks/contrib/check "$1"
     # Of a slow program the model sees fewer streams.
     if [ "$3" = --unproved ]; then
         part_in_python "the model" checks/model/compare "$1" 1 300
