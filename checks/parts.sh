@@ -105,6 +105,11 @@ finish() {
     exit
 }
 
+# Adds up the lines that count, in one behind the others.
+added() {
+    awk '/^[0-9]+ passed, [0-9]+ failed$/ { passed += $1; failed += $3; next } { print } END { print passed + 0 " passed, " failed + 0 " failed" }'
+}
+
 # Of the rows of a file the first of each kind, and then every third.
 some_rows() { # the file
     awk 'BEGIN { RS = ""; ORS = "\n\n"; FS = "\n" } /^row / { split($2, kind, " "); if (seen[kind[1]]++ % 3) next } { print }' "$1"
@@ -121,8 +126,23 @@ rows() { # the program, a flag for one that is not proved
         done
         folder="$fewer"
     fi
-    (cd "$folder" && ls -S -- *.rows | grep -vxE "$left_out" | xargs -P "$(nproc)" -n 1 "$1") |
-        awk '/^[0-9]+ passed, [0-9]+ failed$/ { passed += $1; failed += $3; next } { print } END { print passed + 0 " passed, " failed + 0 " failed" }'
+    (cd "$folder" && ls -S -- *.rows | grep -vxE "$left_out" | xargs -P "$(nproc)" -n 1 "$1") | added
+}
+
+# Both models at once.
+models() { # the program, the one of rows, seed and number of streams, seed and number of lists of events; the defaults where these are empty
+    local one other
+    # Numbers are two words.
+    # shellcheck disable=SC2086
+    {
+        checks/model/compare-guard "$2" $4 >"$fewer/guard" 2>&1 &
+        checks/model/compare "$1" $3
+        one=$?
+        wait "$!"
+        other=$?
+        cat "$fewer/guard"
+        [ "$one$other" = 00 ]
+    } | added
 }
 
 documents() {
@@ -154,11 +174,9 @@ over_the_programs() { # the program, the one of rows, a flag for one that is not
     # Of a slow program there are fewer captures of each kind, and fewer streams.
     if [ "$3" = --unproved ]; then
         part_in_python "captures of other forms" checks/contrib/check "$1" 10
-        part_in_python "the model" checks/model/compare "$1" 1 150
-        part_in_python "the model of the guard" checks/model/compare-guard "$2" 1 20
+        part_in_python "the models" models "$1" "$2" "1 150" "1 20"
     else
         part_in_python "captures of other forms" checks/contrib/check "$1"
-        part_in_python "the model" checks/model/compare "$1"
-        part_in_python "the model of the guard" checks/model/compare-guard "$2"
+        part_in_python "the models" models "$1" "$2" "" ""
     fi
 }
