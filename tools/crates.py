@@ -16,7 +16,7 @@ CRATES = TOP / "crates"
 
 NO_RT = "there is no rt on the path: CONTRIBUTING.md says where it comes from"
 
-# The kits whose rt is known from inside.
+# The kits whose rt is known from inside, the newest last.
 KNOWN_KITS = ["rattle-kit-13b logic dac8208d650f15bf", "rattle-kit-13f logic dac8208d650f15bf"]
 
 # From so many lines on a crate gains by so many jobs, as rt counts them. Below, most of the time goes into reading its libraries.
@@ -62,9 +62,14 @@ def rt_path():
     return shutil.which("rt")
 
 
+def kit(path):
+    """The kit of this rt, as it tells it."""
+    return subprocess.run([path, "version"], capture_output=True, text=True, check=False).stdout.strip()
+
+
 def is_known(path):
     """Whether the kit of this rt is known from inside."""
-    return subprocess.run([path, "version"], capture_output=True, text=True, check=False).stdout.strip() in KNOWN_KITS
+    return kit(path) in KNOWN_KITS
 
 
 def load_rt(path):
