@@ -5,7 +5,8 @@ log="$(mktemp)"
 errors="$(mktemp)"
 table="$(mktemp)"
 wrong="$(mktemp)"
-trap 'rm -f "$log" "$errors" "$table" "$wrong"' EXIT
+fewer="$(mktemp -d)"
+trap 'rm -rf "$log" "$errors" "$table" "$wrong" "$fewer"' EXIT
 passed=0
 failed=0
 skipped=0
@@ -104,12 +105,23 @@ finish() {
     exit
 }
 
-# The rows, file by file, as many at once as there are processors: all but the one that is wrong on purpose, which `rt ci` sees told. Without
-# a proof there is no time for each change of each octet of a message either.
+# Of the rows of a file the first of each kind, and then every third.
+some_rows() { # the file
+    awk 'BEGIN { RS = ""; ORS = "\n\n"; FS = "\n" } /^row / { split($2, kind, " "); if (seen[kind[1]]++ % 3) next } { print }' "$1"
+}
+
+# The rows, file by file, as many at once as there are processors, what takes longest first: all but the one that is wrong on purpose, which `rt ci` sees
+# told. With run-time checks each takes a hundred times as long: there are fewer of a kind then, and no change of each octet of a message.
 rows() { # the program, a flag for one that is not proved
-    local left_out=wrong.rows
-    [ "$2" != --unproved ] || left_out='wrong.rows|changes.rows'
-    (cd crates/bgp_check_rows/data && printf '%s\n' *.rows | grep -vxE "$left_out" | xargs -P "$(nproc)" -n 1 "$1") |
+    local folder=crates/bgp_check_rows/data left_out=wrong.rows file
+    if [ "$2" = --unproved ]; then
+        left_out='wrong.rows|changes.rows'
+        for file in "$folder"/*.rows; do
+            some_rows "$file" >"$fewer/${file##*/}"
+        done
+        folder="$fewer"
+    fi
+    (cd "$folder" && ls -S -- *.rows | grep -vxE "$left_out" | xargs -P "$(nproc)" -n 1 "$1") |
         awk '/^[0-9]+ passed, [0-9]+ failed$/ { passed += $1; failed += $3; next } { print } END { print passed + 0 " passed, " failed + 0 " failed" }'
 }
 
@@ -118,9 +130,9 @@ documents() {
     part_in_python "definitions" docs/make-definitions --check
     part_in_python "calls and their contracts" docs/make-proofs --check
     part_in_python "tests of attributes" docs/make-attributes --check
-    part_in_python "programs that documents show" docs/check-library
-    part_in_python "links and paths of documents" docs/check-links
-    part_in_python "calls that can lack memory" docs/check-memory
+    part_in_python "programs that documents show" checks/documents/library
+    part_in_python "links and paths of documents" checks/documents/links
+    part_in_python "calls that can lack memory" checks/documents/memory
     part_in_python "chart" checks/bench/draw-chart --check
 }
 
@@ -139,12 +151,13 @@ over_the_programs() { # the program, the one of rows, a flag for one that is not
     # Without tshark, captures of packets are left out and counted.
     have tshark tshark
     part_in_python "explained beside tshark" checks/examples/beside-tshark "$1"
-    part_in_python "captures of other forms" contrib/check "$1"
-    # Of a slow program the model sees fewer streams.
+    # Of a slow program there are fewer captures of each kind, and fewer streams.
     if [ "$3" = --unproved ]; then
-        part_in_python "the model" checks/model/compare "$1" 1 300
-        part_in_python "the model of the guard" checks/model/compare-guard "$2" 1 40
+        part_in_python "captures of other forms" checks/contrib/check "$1" 10
+        part_in_python "the model" checks/model/compare "$1" 1 150
+        part_in_python "the model of the guard" checks/model/compare-guard "$2" 1 20
     else
+        part_in_python "captures of other forms" checks/contrib/check "$1"
         part_in_python "the model" checks/model/compare "$1"
         part_in_python "the model of the guard" checks/model/compare-guard "$2"
     fi

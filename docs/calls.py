@@ -231,8 +231,3 @@ def leaves(tree):
             part += letter
     return found
 
-
-def crate_order():
-    """The crates, lowest first, each with what it stands on."""
-    lines = (CRATES.parent / "crates.txt").read_text(encoding="utf-8").splitlines()
-    return {line.split(":")[0].split()[0]: line.split(":")[1].split() for line in lines if line and not line.startswith("#")}

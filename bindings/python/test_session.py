@@ -1,4 +1,4 @@
-"""Tests of sessions: two of them, whose octets go from one to the other by buffers. What each does is what docs/SESSION.md and the RFCs say."""
+"""Tests of sessions: two of them, whose octets go from one to the other by buffers. What each does is what docs/LIBRARY.md and the RFCs say."""
 
 import gc
 import ipaddress

@@ -1,6 +1,6 @@
 """BGP-4 messages: what their octets come to, and how they are written. A model, for comparison: no speed, no streams in pieces.
 
-Written from the rules that docs/ATTRIBUTES.md, docs/DEFINITIONS.md and docs/DECISIONS.md tell, and not from the crates.
+Written from the rules that docs/made/ATTRIBUTES.md, docs/made/DEFINITIONS.md and docs/DECISIONS.md tell, and not from the crates.
 """
 from dataclasses import dataclass
 

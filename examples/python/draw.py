@@ -47,7 +47,7 @@ REASONS = {
     "SegmentEnd": "segment past the end", "Repeated": "repeated", "External": "on an external session", "FourOctet": "on a session with four octets",
     "Family": "family not in use", "Unneeded": "not needed", "Emptied": "nothing left", "Cut": "cut off", "Missing": "missing", "AsZero": "AS number 0",
 }
-# Which notes are of an attribute that is discarded (docs/ATTRIBUTES.md): those with such a reason, and of these types all but for their flags.
+# Which notes are of an attribute that is discarded (docs/made/ATTRIBUTES.md): those with such a reason, and of these types all but for their flags.
 DISCARDED_WHY = {"Repeated", "External", "FourOctet", "Family", "Unneeded", "Emptied"}
 DISCARDED_KIND = {6, 7, 17, 18}
 DISCARD, WITHDRAW = "attribute discarded", "treated as a withdrawal"

@@ -1,5 +1,5 @@
 //! Two sessions, whose octets go from one to the other by buffers: what each does is what the table
-//! of docs/SESSION.md and the RFCs say.
+//! of docs/LIBRARY.md and the RFCs say.
 
 use ristulva::{
     judge, Action, Actions, Config, Context, Error, Event, Outcome, Session, State, Timer, BODY,
