@@ -19,14 +19,14 @@ use std::alloc::{AllocError, Global};
 const DATA_MAX: usize = 64;
 
 /// Adds how many octets there are, where some are left out.
-fn put_count(text: &mut String, data: &[u8]) -> Result<(), AllocError>
-    ensures { OnOk result (string_bytes text.new ≡ string_bytes text.old ++ count_text data.now) }
+fn put_count(text: &mut String, info: &[u8]) -> Result<(), AllocError>
+    ensures { OnOk result (string_bytes text.new ≡ string_bytes text.old ++ count_text info.now) }
 {
-    if data.len() <= DATA_MAX {
+    if info.len() <= DATA_MAX {
         return Ok(());
     }
     text.push_str("... of ")?;
-    put_one(text, Decimal(data.len() as u64))?;
+    put_one(text, Decimal(info.len() as u64))?;
     text.push_str(" octets")
 }
 
