@@ -25,8 +25,8 @@ JOBS = [(3000, 4), (1000, 2), (0, 1)]
 # Beside other work that is ready, no proof gets more: what is proved by more jobs costs more processor time.
 JOBS_BESIDE = 2
 
-# What each further job of a proof adds to its memory, as rt reckons.
-MEMORY_OF_A_JOB = 0.6
+# What each further job of a proof adds to its memory: jobs are forks, which share most of theirs.
+MEMORY_OF_A_JOB = 0.25
 
 
 # ---- crates.txt ----
@@ -152,7 +152,8 @@ class Lanes:
             if idle <= 0 or waits and fills(key):
                 # (a proof waits for memory, which what fills would take again and again)
                 break
-            others = sum(self.needs_work(it) for it in ready[at + 1 :])
+            # What fills takes little by little what a proof leaves, and holds up no proof.
+            others = sum(self.needs_work(it) for it in ready[at + 1 :] if fills(key) or not fills(it))
             jobs, needs = jobs_for(key, self.lines_of(key), idle, others), self.tasks[key][2]
             room = self.memory - sum(it for _, it, _ in self.running.values())
             while jobs > 1 and needs * (1 + MEMORY_OF_A_JOB * (jobs - 1)) > room:

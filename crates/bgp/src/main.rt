@@ -2,11 +2,13 @@
 #![tactic(auto)]
 
 mod cli;
+mod colours;
 mod hints;
 mod progress;
 mod record;
 
 use crate::cli::command;
+use crate::colours::{Coloured, is_choice, is_coloured};
 use crate::progress::Watched;
 use std::alloc::AllocError;
 use std::process::ExitCode;
@@ -20,12 +22,17 @@ fn words(rt: &HostRuntime) -> io::Result<Vec<String>> {
 // Runs the program, where there is memory to hold its words by reference.
 fn run(rt: &HostRuntime, words: &[String]) -> Result<u8, AllocError> {
     let alloc = rt.alloc();
-    let words: Vec<&str> = words.iter().map(|word| word.as_str()).collect(alloc)?;
+    let is_on = is_coloured(rt, words);
+    let words: Vec<&str> = words
+        .iter()
+        .map(|word| word.as_str())
+        .filter(|word| !is_choice(word))
+        .collect(alloc)?;
     let is_text = words
         .iter()
         .any(|word| *word == "--hex" || *word == "from-hex");
     let input = &mut Watched::new(rt, rt.stdin(), is_text);
-    let output = &mut rt.stdout();
+    let output = &mut Coloured::new(rt, rt.stdout(), is_on);
     let errors = &mut rt.stderr();
     Ok(command(rt, alloc, &words, input, output, errors))
 }

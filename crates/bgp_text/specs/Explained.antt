@@ -1,8 +1,29 @@
 -- What `explain` prints of a message: what `show` prints, and its fields.
-use Rattle.std.specs.Prelude.{ℕ, List, ◌++◌, Option}
-use Rattle.bgp_text.specs.Below.{flat_map, Context, Outcome, Fault, fields_of}
+use Rattle.std.specs.Prelude.{ℕ, nat_lt, List, [], ◌∷◌, ◌++◌, length, take, codes, Option, if◌then◌else◌}
+use Rattle.bgp_text.specs.Below.{flat_map, decimal, Context, Notification, Outcome, Fault, fields_of}
 use Rattle.bgp_text.specs.FieldLines.{noted_lines, faulty_line}
-use Rattle.bgp_text.specs.Outcome.{outcome_lines}
+use Rattle.bgp_text.specs.Info.{notification_text}
+use Rattle.bgp_text.specs.Outcome.{outcome_lines, reset_name}
+
+-- a NOTIFICATION with the first 64 octets of its data
+abbrev pub shortened : Notification → Notification
+shortened n = record { code = n.code; subcode = n.subcode; info = record { items = take 64 n.info.items } }
+
+-- how many octets there are, where some are left out
+abbrev pub count_text : List ℕ → List ℕ
+count_text b = if nat_lt 64 (length b) then codes "... of " ++ (decimal (length b) ++ codes " octets") else []
+
+-- the line that `show` prints of a reset, with at most 64 octets of the data
+abbrev pub short_reset_line : ℕ → ℕ → Notification → List ℕ
+short_reset_line place len n =
+    decimal place ++ (codes " " ++ (decimal len ++ (codes " " ++ (reset_name n.code ++ (codes " reset " ++ (notification_text (shortened n)
+    ++ (count_text n.info.items ++ 10 ∷ [])))))))
+
+-- the lines that `show` prints, but for data that is left out of a reset
+unfoldable pub heading_lines : ℕ → ℕ → Outcome → List ℕ
+heading_lines place len (Outcome.Took m notes) = outcome_lines place len (Outcome.Took m notes)
+heading_lines place len (Outcome.Withdraw routes notes) = outcome_lines place len (Outcome.Withdraw routes notes)
+heading_lines place len (Outcome.Reset n) = short_reset_line place len n
 
 -- the fields of a message in a context: notes stand where their attributes begin, and the answer to a message where the octets at fault begin
 unfoldable pub explained_fields : Context → List ℕ → Option Fault → Outcome → List ℕ
@@ -10,6 +31,6 @@ explained_fields ctx message fault (Outcome.Took m notes) = noted_lines message 
 explained_fields ctx message fault (Outcome.Withdraw routes notes) = noted_lines message 0 notes (fields_of ctx message)
 explained_fields ctx message fault (Outcome.Reset n) = flat_map (faulty_line message fault n) (fields_of ctx message)
 
--- what `show` prints at a place in the stream of a message of so many octets, 0 for a header's fault, and the fields of its octets
+-- what `show` prints at an offset in the stream of a message of so many octets, 0 for a header's fault, and the fields of its octets
 abbrev pub explained_lines : Context → ℕ → ℕ → List ℕ → Option Fault → Outcome → List ℕ
-explained_lines ctx place len octets fault o = outcome_lines place len o ++ explained_fields ctx octets fault o
+explained_lines ctx place len octets fault o = heading_lines place len o ++ explained_fields ctx octets fault o

@@ -1,13 +1,14 @@
 -- What a field says, behind its name.
 use Rattle.std.specs.Prelude.{ℕ, Bool, true, false, ◌==◌, List, [], ◌∷◌, ◌++◌, length, take, drop, codes, slice_index, if◌then◌else◌}
 use Rattle.bgp_text.specs.Below.{flat_map, decimal}
-use Rattle.bgp_text.specs.Below.{run_of, ipv4_address_text, ipv6_address_text, ipv4_text, ipv6_text, is_optional, is_transitive, is_partial, is_extended}
+use Rattle.bgp_text.specs.Below.{run_of, PrefixValue, ipv4_address_text, ipv4_text, is_optional, is_transitive, is_partial, is_extended}
 use Rattle.bgp_text.specs.Below.{attribute_name, origin_name, segment_name, capability_name, parameter_name, error_name, subcode_name, FieldKind}
 use Rattle.std.specs.Int.{w16, w32, from_be_bytes}
 use Rattle.bgp_names.specs.Families.{afi_name, safi_name}
 use Rattle.bgp_names.specs.Messages.{message_name}
 use Rattle.bgp_text.specs.CommunityLines.{community_name, community_text, large_text}
 use Rattle.bgp_text.specs.Escape.{escaped_string}
+use Rattle.bgp_text.specs.JsonAddress.{ip6_text}
 use Rattle.bgp_text.specs.Shutdown.{shutdown_text}
 
 -- the number that one octet, two or four spell, the first one the highest
@@ -79,19 +80,22 @@ number_name kind (a ∷ []) = octet_name kind a
 number_name kind (a ∷ b ∷ []) = pair_name kind (from_be_bytes w16 (a ∷ b ∷ []))
 number_name kind _ = []
 
--- ---- addresses and prefixes
+-- ---- addresses and prefixes: those of IPv6 in the form of RFC 5952
 
 abbrev pub address_text : List ℕ → List ℕ
 address_text b =
     if length b == 4 then codes " " ++ ipv4_address_text b else (
-    if length b == 16 then codes " " ++ ipv6_address_text b else
+    if length b == 16 then codes " " ++ ip6_text b else
     [])
+
+abbrev pub prefix6_text : PrefixValue → List ℕ
+prefix6_text p = codes " " ++ (ip6_text p.addr ++ (codes "/" ++ decimal p.len))
 
 abbrev pub prefixes4_text : List ℕ → List ℕ
 prefixes4_text b = flat_map (λ p. codes " " ++ ipv4_text p) (run_of 4 b).0
 
 abbrev pub prefixes6_text : List ℕ → List ℕ
-prefixes6_text b = flat_map (λ p. codes " " ++ ipv6_text p) (run_of 16 b).0
+prefixes6_text b = flat_map prefix6_text (run_of 16 b).0
 
 -- ---- attributes
 

@@ -6,6 +6,8 @@ pub mod Escape
 pub mod Shutdown
 pub mod FieldNames
 pub mod FieldValues
+pub mod CapabilityValues
+pub mod AttributeValues
 pub mod Details
 pub mod Sections
 pub mod Reasons

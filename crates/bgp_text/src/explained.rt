@@ -1,15 +1,72 @@
 //! What `explain` prints of a message.
 
 ghost use Rattle.std.specs.Prelude.{◌≡◌, ◌≤◌, ◌++◌, length, OnOk};
-ghost use Rattle.bgp_text.specs.Below.{string_bytes, outcome_value};
-ghost use Rattle.bgp_text.specs.Explained.{explained_fields, explained_lines};
+ghost use Rattle.bgp_text.specs.Below.{notification_of_view, string_bytes, outcome_value};
+ghost use Rattle.bgp_text.specs.Explained.{count_text, explained_fields, explained_lines, heading_lines, short_reset_line};
 
 use crate::field_lines::{put_faulty_fields, put_noted_fields, put_plain_fields};
-use crate::outcome_lines::put_viewed_outcome;
+use crate::field_values::part;
+use crate::info::told_text;
+use crate::outcome_lines::{put_viewed_outcome, reset_name};
+use crate::short::{Decimal, put_one};
 use bgp_fields::{Fault, FieldIter};
+use bgp_frame::NotificationView;
 use bgp_msg::OutcomeView;
 use bgp_open::Context;
 use std::alloc::{AllocError, Global};
+
+/// How many octets of the data of a reset are printed at most.
+const DATA_MAX: usize = 64;
+
+/// Adds how many octets there are, where some are left out.
+fn put_count(text: &mut String, info: &[u8]) -> Result<(), AllocError>
+    ensures { OnOk result (string_bytes text.new ≡ string_bytes text.old ++ count_text info.now) }
+{
+    if info.len() <= DATA_MAX {
+        return Ok(());
+    }
+    text.push_str("... of ")?;
+    put_one(text, Decimal(info.len() as u64))?;
+    text.push_str(" octets")
+}
+
+/// Adds the line of a reset, with at most 64 octets of its data.
+fn put_reset(
+    alloc: Global,
+    text: &mut String,
+    place: u64,
+    len: u16,
+    why: &NotificationView<'_>,
+) -> Result<(), AllocError>
+    ensures { OnOk result (string_bytes text.new ≡ string_bytes text.old ++ short_reset_line place len (notification_of_view why.now)) }
+{
+    let told = told_text(alloc, why.code, why.subcode, part(why.info, 0, DATA_MAX))?;
+    let name = reset_name(why.code);
+    write!(text, "{place} {len} {name} reset {told}")?;
+    put_count(text, why.info)?;
+    text.push_str("\n")
+}
+
+/// Adds the lines of an outcome.
+#[tactic(auto, unfolding(crate::specs::Explained::heading_lines))]
+fn put_heading(
+    alloc: Global,
+    text: &mut String,
+    place: u64,
+    len: u16,
+    outcome: &OutcomeView<'_>,
+) -> Result<(), AllocError>
+    ensures { OnOk result (string_bytes text.new ≡ string_bytes text.old ++ heading_lines place len (outcome_value outcome.now)) }
+{
+    match outcome {
+        OutcomeView::Reset(why) => put_reset(alloc, text, place, len, why),
+        OutcomeView::Update(_)
+        | OutcomeView::Withdraw(_)
+        | OutcomeView::Open(_)
+        | OutcomeView::Notification(_)
+        | OutcomeView::Keepalive => put_viewed_outcome(alloc, text, place, len, outcome),
+    }
+}
 
 /// Adds the lines of a message's fields.
 #[tactic(auto, unfolding(crate::specs::Explained::explained_fields), using(crate::proofs::FieldLines::without_notes))]
@@ -35,8 +92,8 @@ fn put_fields(
     }
 }
 
-/// Adds what [`put_viewed_outcome`](crate::put_viewed_outcome) does of the outcome of a message of so many octets at its place in the stream (0 of them
-/// for a header's fault), and then a line for each field of its octets, those of the message or the 19 of the header: its offset in the message, its octets, its name and what it says. Fields of an attribute that isn't kept are marked, and so are
+/// Adds what [`put_viewed_outcome`](crate::put_viewed_outcome) does of the outcome of a message of this length at its offset in the stream (0 for a
+/// header's fault), but of a reset's data at most 64 octets and how many there are; and then a line for each field of its octets, those of the message or the 19 of the header: its offset in the message, its octets, its name and what it says. Fields of an attribute that isn't kept are marked, and so are
 /// those of the octets at fault where the message is answered by a NOTIFICATION; above the field that is wrong a line has its offset, the reason, what
 /// was expected, and the section of the RFC by which the test decided that failed ("own rule" where it is ours).
 ///
@@ -55,6 +112,6 @@ pub fn put_explained(
     requires { length octets.now ≤ 4096 }
     ensures { OnOk result (string_bytes text.new ≡ string_bytes text.old ++ explained_lines ctx.now place len octets.now fault (outcome_value outcome.now)) }
 {
-    put_viewed_outcome(alloc, text, place, len, outcome)?;
+    put_heading(alloc, text, place, len, outcome)?;
     put_fields(text, ctx, octets, fault, outcome)
 }

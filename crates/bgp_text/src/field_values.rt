@@ -2,8 +2,9 @@
 
 ghost use Rattle.std.specs.Prelude.{◌≡◌, ◌+◌, ◌≤◌, ◌++◌, codes, drop, slice_index, take, OnOk};
 ghost use Rattle.bgp_text.specs.Below.{flat_map, string_bytes, subcode_name};
+ghost use Rattle.bgp_text.specs.JsonAddress.{ip6_text};
 ghost use Rattle.bgp_text.specs.Shutdown.{shutdown_text};
-ghost use Rattle.bgp_text.specs.FieldValues.{number_in, spaced, numbered, is_number, octet_name, pair_name, number_name, address_text, prefixes4_text, prefixes6_text, flags_text, named_community, large_value, code_in, subcode_in, said_text, other_text, value_text};
+ghost use Rattle.bgp_text.specs.FieldValues.{number_in, spaced, numbered, is_number, octet_name, pair_name, number_name, address_text, prefix6_text, prefixes4_text, prefixes6_text, flags_text, named_community, large_value, code_in, subcode_in, said_text, other_text, value_text};
 
 use crate::addresses;
 use crate::community_lines::community_name;
@@ -18,8 +19,9 @@ use bgp_names::{
     afi_name, attribute_name, capability_name, error_name, message_name, origin_name,
     parameter_name, safi_name, segment_name, subcode_name,
 };
-use bgp_prefix::{Address, PrefixIter};
+use bgp_prefix::{Address, Prefix6, PrefixIter};
 use std::alloc::AllocError;
+use std::net::Ipv6Addr;
 
 /// The number that one octet, two or four spell, the first one the highest.
 pub(crate) fn number_in(octets: &[u8]) -> u32
@@ -133,6 +135,15 @@ fn number_name(kind: FieldKind, octets: &[u8]) -> &'static str
     }
 }
 
+/// Adds an IPv6 address (RFC 5952, section 4).
+#[tactic(auto, unfolding(crate::specs::JsonAddress::ip6_text))]
+fn put_ip6(text: &mut String, address: [u8; 16]) -> Result<(), AllocError>
+    ensures { OnOk result (string_bytes text.new ≡ string_bytes text.old ++ (codes " " ++ ip6_text address)) }
+{
+    let groups = Ipv6Addr::from_octets(address).hex_groups();
+    write!(text, " {groups}")
+}
+
 /// Adds an address, of four octets or of sixteen.
 pub(crate) fn put_address(text: &mut String, octets: &[u8]) -> Result<(), AllocError>
     ensures { OnOk result (string_bytes text.new ≡ string_bytes text.old ++ address_text octets.now) }
@@ -142,8 +153,7 @@ pub(crate) fn put_address(text: &mut String, octets: &[u8]) -> Result<(), AllocE
         return put_one(text, Address(*address));
     }
     if let Some(address) = octets.as_array::<16>() {
-        text.push_str(" ")?;
-        return put_one(text, Address(*address));
+        return put_ip6(text, *address);
     }
     Ok(())
 }
@@ -178,11 +188,24 @@ fn put_prefixes4(text: &mut String, octets: &[u8]) -> Result<(), AllocError>
     put_each(text, PrefixIter::<4>::new(octets))
 }
 
+/// Adds an IPv6 prefix.
+fn put_prefix6(text: &mut String, prefix: Prefix6) -> Result<(), AllocError>
+    ensures { OnOk result (string_bytes text.new ≡ string_bytes text.old ++ prefix6_text prefix) }
+{
+    put_ip6(text, prefix.addr())?;
+    text.push_str("/")?;
+    put_one(text, Decimal(prefix.len()))
+}
+
 /// Adds the prefix of a field of IPv6.
 fn put_prefixes6(text: &mut String, octets: &[u8]) -> Result<(), AllocError>
     ensures { OnOk result (string_bytes text.new ≡ string_bytes text.old ++ prefixes6_text octets.now) }
 {
-    put_each(text, PrefixIter::<16>::new(octets))
+    let mut left = PrefixIter::<16>::new(octets);
+    'row: while let Some(prefix) = left.step() {
+        put_prefix6(text, prefix)?;
+    }
+    Ok(())
 }
 
 /// The first octet; 0 where there is none.
@@ -236,7 +259,7 @@ fn put_large(text: &mut String, octets: &[u8]) -> Result<(), AllocError>
 }
 
 /// Adds what was said, as a string, where anything was.
-fn put_said(text: &mut String, said: &str) -> Result<(), AllocError>
+pub(crate) fn put_said(text: &mut String, said: &str) -> Result<(), AllocError>
     ensures { OnOk result (string_bytes text.new ≡ string_bytes text.old ++ said_text said.now) }
 {
     if said.is_empty() {

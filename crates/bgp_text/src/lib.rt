@@ -3,6 +3,8 @@
 
 mod addresses;
 mod attribute_lines;
+mod attribute_values;
+mod capability_values;
 mod community_lines;
 mod decimal;
 mod details;

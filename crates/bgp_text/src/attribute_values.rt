@@ -1,0 +1,161 @@
+//! What the values of unrecognised attributes say: for reading alone.
+
+ghost use Rattle.std.specs.Prelude.{◌≡◌, ◌++◌, codes, OnOk};
+ghost use Rattle.bgp_text.specs.Below.{string_bytes, decimal, ipv4_address_text};
+ghost use Rattle.bgp_text.specs.AttributeValues.{as_text, attribute_text, clusters_text, color_text, extended_row, extended_text, metric_text, owned_text, subtype_text};
+
+use crate::capability_values::put_further;
+use crate::field_values::{number_in, put_address};
+use crate::short::{Decimal, put_one};
+use bgp_prefix::Address;
+use std::alloc::AllocError;
+
+/// Adds the clusters of CLUSTER_LIST (RFC 4456, section 8).
+fn put_clusters(text: &mut String, octets: &[u8]) -> Result<(), AllocError>
+    ensures { OnOk result (string_bytes text.new ≡ string_bytes text.old ++ clusters_text octets.now) }
+{
+    let mut left = octets;
+    'row: while let [a, b, c, d, rest @ ..] = left {
+        put_address(text, &[*a, *b, *c, *d])?;
+        left = rest;
+    }
+    Ok(())
+}
+
+/// Adds an AS number.
+fn put_as(text: &mut String, octets: &[u8]) -> Result<(), AllocError>
+    ensures { OnOk result (string_bytes text.new ≡ string_bytes text.old ++ as_text octets.now) }
+{
+    match octets {
+        [_, _, _, _] => {
+            text.push_str(" AS ")?;
+            put_one(text, Decimal(number_in(octets)))
+        }
+        _ => Ok(()),
+    }
+}
+
+/// Adds the metric of AIGP.
+fn put_metric(text: &mut String, octets: &[u8]) -> Result<(), AllocError>
+    ensures { OnOk result (string_bytes text.new ≡ string_bytes text.old ++ metric_text octets.now) }
+{
+    let [t, u, v, a, b, c, d, e, f, g, h] = octets else {
+        return Ok(());
+    };
+    if *t == 1 && *u == 0 && *v == 11 {
+        text.push_str(" metric ")?;
+        return put_one(
+            text,
+            Decimal(u64::from_be_bytes([*a, *b, *c, *d, *e, *f, *g, *h])),
+        );
+    }
+    Ok(())
+}
+
+/// Adds what a sub-type of an extended community says (RFC 4360, section 3).
+fn put_subtype(text: &mut String, subtype: u8) -> Result<(), AllocError>
+    ensures { OnOk result (string_bytes text.new ≡ string_bytes text.old ++ subtype_text subtype) }
+{
+    match subtype {
+        2 => text.push_str(" route target "),
+        3 => text.push_str(" route origin "),
+        _ => {
+            text.push_str(" subtype ")?;
+            put_one(text, Decimal(subtype))?;
+            text.push_str(" ")
+        }
+    }
+}
+
+/// Adds two numbers, and a colon between them.
+fn put_pair(text: &mut String, owner: u32, number: u32) -> Result<(), AllocError>
+    ensures { OnOk result (string_bytes text.new ≡ string_bytes text.old ++ (decimal owner ++ (codes ":" ++ decimal number))) }
+{
+    put_one(text, Decimal(owner))?;
+    text.push_str(":")?;
+    put_one(text, Decimal(number))
+}
+
+/// Adds an address and a number, and a colon between them.
+fn put_address_pair(text: &mut String, owner: [u8; 4], number: u32) -> Result<(), AllocError>
+    ensures { OnOk result (string_bytes text.new ≡ string_bytes text.old ++ (ipv4_address_text owner ++ (codes ":" ++ decimal number))) }
+{
+    put_one(text, Address(owner))?;
+    text.push_str(":")?;
+    put_one(text, Decimal(number))
+}
+
+/// Adds whose an extended community is, and its number.
+fn put_owned(text: &mut String, kind: u8, value: &[u8]) -> Result<(), AllocError>
+    ensures { OnOk result (string_bytes text.new ≡ string_bytes text.old ++ owned_text kind value.now) }
+{
+    let [a, b, c, d, e, f] = value else {
+        return Ok(());
+    };
+    let last = u32::from(u16::from_be_bytes([*e, *f]));
+    match kind {
+        0 => {
+            let owner = u32::from(u16::from_be_bytes([*a, *b]));
+            put_pair(text, owner, u32::from_be_bytes([*c, *d, *e, *f]))
+        }
+        1 => put_address_pair(text, [*a, *b, *c, *d], last),
+        _ => put_pair(text, u32::from_be_bytes([*a, *b, *c, *d]), last),
+    }
+}
+
+/// Adds a color.
+fn put_color(text: &mut String, value: &[u8]) -> Result<(), AllocError>
+    ensures { OnOk result (string_bytes text.new ≡ string_bytes text.old ++ color_text value.now) }
+{
+    match value {
+        [_, _, c, d, e, f] => {
+            text.push_str(" color ")?;
+            put_one(text, Decimal(u32::from_be_bytes([*c, *d, *e, *f])))
+        }
+        _ => Ok(()),
+    }
+}
+
+/// Adds an extended community of a type, a sub-type and six octets.
+fn put_extended(text: &mut String, kind: u8, subtype: u8, value: &[u8]) -> Result<(), AllocError>
+    ensures { OnOk result (string_bytes text.new ≡ string_bytes text.old ++ extended_text kind subtype value.now) }
+{
+    if kind % 64 < 3 {
+        put_subtype(text, subtype)?;
+        return put_owned(text, kind % 64, value);
+    }
+    if kind == 3 && subtype == 11 {
+        return put_color(text, value);
+    }
+    text.push_str(" type ")?;
+    put_one(text, Decimal(kind))?;
+    text.push_str(" subtype ")?;
+    put_one(text, Decimal(subtype))
+}
+
+/// Adds the communities of EXTENDED COMMUNITIES.
+fn put_extended_row(text: &mut String, octets: &[u8]) -> Result<(), AllocError>
+    ensures { OnOk result (string_bytes text.new ≡ string_bytes text.old ++ extended_row octets.now) }
+{
+    let mut left = octets;
+    'row: while let [kind, subtype, a, b, c, d, e, f, rest @ ..] = left {
+        put_extended(text, *kind, *subtype, &[*a, *b, *c, *d, *e, *f])?;
+        put_further(text, rest)?;
+        left = rest;
+    }
+    Ok(())
+}
+
+/// Adds the value of an attribute of a type.
+pub(crate) fn put_attribute(text: &mut String, code: u8, octets: &[u8]) -> Result<(), AllocError>
+    ensures { OnOk result (string_bytes text.new ≡ string_bytes text.old ++ attribute_text code octets.now) }
+{
+    match code {
+        9 => put_address(text, octets),
+        10 => put_clusters(text, octets),
+        16 => put_extended_row(text, octets),
+        26 => put_metric(text, octets),
+        35 => put_as(text, octets),
+        _ => Ok(()),
+    }
+}
