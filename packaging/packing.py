@@ -67,9 +67,12 @@ X86 = Target(
 )
 
 
+ARM64 = Target("aarch64", "arm64", [DIST / "aarch64/bin" / name for name in ("bgp", "bgp_speaker", "bgp_guard_run")], DIST / "aarch64", "aarch64-linux-gnu-")
+
+
 def targets():
     """The targets that are built: the first always has to be."""
-    return [X86]
+    return [X86, ARM64] if ARM64.dist.is_dir() else [X86]
 
 
 # ---- what there has to be ----
@@ -85,7 +88,8 @@ def look_for_built():
 
 
 def look_for_tools(tools):
-    for tool, package in tools.items():
+    more = {ARM64.tool("strip"): "binutils-aarch64-linux-gnu"} if ARM64 in targets() else {}
+    for tool, package in {**tools, **more}.items():
         if shutil.which(tool) is None:
             raise Stop(f"{tool} isn't there (Debian's package {package})", MISSING)
 
