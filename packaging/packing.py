@@ -71,8 +71,8 @@ ARM64 = Target("aarch64", "arm64", [DIST / "aarch64/bin" / name for name in ("bg
 
 
 def targets():
-    """The targets that are built: the first always has to be."""
-    return [X86, ARM64] if ARM64.dist.is_dir() else [X86]
+    """The targets that are built: the first has to be, the second whole."""
+    return [X86, ARM64] if all(path.is_file() for path, _ in ARM64.files()) else [X86]
 
 
 # ---- what there has to be ----
