@@ -6,7 +6,6 @@ import os
 import pathlib
 import re
 import shutil
-import stat
 import subprocess
 
 import packing
@@ -305,8 +304,7 @@ def source(folder, made, time):
     for name, text in files.items():
         (about / name).write_text(text)
     (about / "rules").chmod(0o755)
-    for path in [about, *about.rglob("*")]:
-        path.chmod(stat.S_IMODE(path.stat().st_mode) & 0o755 | 0o444)
+    packing.settle(about, time)
     run("dpkg-source", "--build", tree, cwd=made, SOURCE_DATE_EPOCH=str(time))
 
 
