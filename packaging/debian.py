@@ -9,7 +9,7 @@ import shutil
 import subprocess
 
 import packing
-from packing import DIST, SERIES, SONAME, TOP, VERSION, compressed, run
+from packing import SERIES, SONAME, TOP, VERSION, compressed, run
 
 MAINTAINER = (TOP / "packaging/maintainer").read_text().strip()
 # The first packages of this version.
