@@ -22,6 +22,7 @@ BGP ?= crates/bgp/out/bgp
 BGP_SPEAKER ?= crates/bgp_speaker/out/bgp_speaker
 BGP_GUARD ?= crates/bgp_guard_run/out/bgp_guard_run
 DIST ?= dist
+PAGE ?= $(DIST)/ristulva.html
 PARTS ?= programs library development
 
 # For installcheck.
@@ -29,7 +30,7 @@ CC ?= cc
 PKG_CONFIG ?= pkg-config
 
 export DESTDIR prefix exec_prefix bindir libdir includedir mandir docdir libdocdir pkgconfigdir
-export bashcompletiondir zshcompletiondir fishcompletiondir unitdir BGP BGP_SPEAKER BGP_GUARD DIST PARTS
+export bashcompletiondir zshcompletiondir fishcompletiondir unitdir BGP BGP_SPEAKER BGP_GUARD DIST PAGE PARTS
 
 all:
 	@packaging/install-files built

@@ -9,7 +9,7 @@ import (
 
 func TestPieces(t *testing.T) {
 	for name, it := range captures(t) {
-		whole, rest := Messages(it.octets, it.context)
+		whole, rest := Messages(it.context, it.octets)
 		for _, size := range []int{1, 7, 4096} {
 			decoder, err := NewDecoder(it.context)
 			if err != nil {

@@ -132,7 +132,7 @@ func Directions(ours, theirs []byte) (one, other []*Message, err error) {
 	if err != nil {
 		return nil, nil, err
 	}
-	one, _ = Messages(ours, context)
-	other, _ = Messages(theirs, context)
+	one, _ = Messages(context, ours)
+	other, _ = Messages(context, theirs)
 	return one, other, nil
 }

@@ -42,7 +42,7 @@ func updateOf(attributes string) []byte {
 }
 
 func judgedAs(t *testing.T, octets []byte, context Context) *Message {
-	it, err := Judge(octets, context)
+	it, err := Judge(context, octets)
 	if err != nil {
 		t.Fatal(err)
 	}

@@ -17,7 +17,7 @@ func TestFields(t *testing.T) {
 		{21, 4, FieldWithdrawnPrefix, 0, 0}, {25, 2, FieldAttributesLength, 0, 0}, {27, 1, FieldAttributeFlags, 27, 1},
 		{28, 1, FieldAttributeType, 27, 1}, {29, 1, FieldAttributeLength, 27, 1}, {30, 1, FieldOrigin, 27, 1},
 	}
-	it, err := Judge(message(2, digits("0004 18c00002 0004 40010100")), Context{AS4: true, IP4: true})
+	it, err := Judge(Context{AS4: true, IP4: true}, message(2, digits("0004 18c00002 0004 40010100")))
 	if err != nil {
 		t.Fatal(err)
 	}
@@ -47,7 +47,7 @@ func TestFaults(t *testing.T) {
 		{message(2, digits("0000 0008 40010100 40630105")), 27, 4},
 		{message(4, nil), 0, 0},
 	} {
-		it, err := Judge(want.octets, Context{AS4: true, IP4: true})
+		it, err := Judge(Context{AS4: true, IP4: true}, want.octets)
 		if err != nil {
 			t.Fatal(err)
 		}
@@ -68,7 +68,7 @@ func TestSections(t *testing.T) {
 		{message(9, nil), "RFC 4271, section 6.1"},
 		{message(4, nil), ""},
 	} {
-		it, err := Judge(want.octets, Context{AS4: true, IP4: true})
+		it, err := Judge(Context{AS4: true, IP4: true}, want.octets)
 		if err != nil {
 			t.Fatal(err)
 		}
@@ -85,7 +85,7 @@ func TestSections(t *testing.T) {
 // The fields of each message of the captures are its octets.
 func TestFieldsOfCaptures(t *testing.T) {
 	for name, it := range captures(t) {
-		messages, _ := Messages(it.octets, it.context)
+		messages, _ := Messages(it.context, it.octets)
 		for _, message := range messages {
 			joined := []byte{}
 			for _, field := range message.Fields() {

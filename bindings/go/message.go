@@ -63,11 +63,11 @@ type Message struct {
 }
 
 // Judge gives the message that octets begin with, or ErrIncomplete where they are less than one. Of a header with a fault it has the header.
-func Judge(octets []byte, context Context) (*Message, error) {
-	return judged(octets, context, 0)
+func Judge(context Context, octets []byte) (*Message, error) {
+	return judged(context, octets, 0)
 }
 
-func judged(octets []byte, context Context, place uint64) (*Message, error) {
+func judged(context Context, octets []byte, place uint64) (*Message, error) {
 	var data [dataMax]byte
 	message := &Message{context: context, place: place}
 	said := context.said()
@@ -86,10 +86,10 @@ func judged(octets []byte, context Context, place uint64) (*Message, error) {
 }
 
 // Messages gives the messages of a stream, up to the first that ends the session, and the octets behind them of an incomplete one, or behind a reset.
-func Messages(octets []byte, context Context) (messages []*Message, rest []byte) {
+func Messages(context Context, octets []byte) (messages []*Message, rest []byte) {
 	rest = octets
 	for {
-		message, err := judged(rest, context, uint64(len(octets)-len(rest)))
+		message, err := judged(context, rest, uint64(len(octets)-len(rest)))
 		if err != nil {
 			return messages, rest
 		}
@@ -178,7 +178,7 @@ func prefixOf(it C.ristulva_prefix) netip.Prefix {
 	return netip.PrefixFrom(netip.AddrFrom16(address), int(it.len))
 }
 
-// Announced gives the prefixes of MP_REACH_NLRI and then of the NLRI field. Where the verdict is Withdraw, these are withdrawn too.
+// Announced gives the prefixes of MP_REACH_NLRI and then of the NLRI field, also where the verdict is Withdraw and they are to be withdrawn: see Routes.
 func (message *Message) Announced() []netip.Prefix {
 	return message.prefixes(func(at *C.uint8_t, size C.size_t, said *C.ristulva_context, parts *C.ristulva_parts, out *C.ristulva_prefix, room C.size_t) C.size_t {
 		return C.list_announced(at, size, said, parts, out, room)

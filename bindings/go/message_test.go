@@ -85,7 +85,7 @@ func told(it *Message) []any {
 
 func TestLinesOfEachCapture(t *testing.T) {
 	for name, it := range captures(t) {
-		messages, _ := Messages(it.octets, it.context)
+		messages, _ := Messages(it.context, it.octets)
 		lines := ""
 		for _, message := range messages {
 			lines += message.String()
@@ -98,7 +98,7 @@ func TestLinesOfEachCapture(t *testing.T) {
 
 func TestRoutes(t *testing.T) {
 	context := Context{AS4: true}
-	it, err := Judge(append(message(2, body), 1, 2, 3), context)
+	it, err := Judge(context, append(message(2, body), 1, 2, 3))
 	if err != nil || it.Verdict() != Update || len(it.Octets()) != 56 {
 		t.Fatal(it, err)
 	}
@@ -118,7 +118,7 @@ func TestRoutesOfBothFamilies(t *testing.T) {
 	six := digits("0000 0050 40010100 4002060201 0000fde8 800e1a 0002 01 10 20010db8000000000000000000000001 00 20 20010db8 800f08 0002 01 20 20010db9",
 		"e02018 0000fde8 00000001 00000002 0000fde8 00000001 00000002")
 	six[3] = byte(len(six) - 4)
-	it, err := Judge(message(2, six), Context{AS4: true, IP6: true})
+	it, err := Judge(Context{AS4: true, IP6: true}, message(2, six))
 	if err != nil || it.Verdict() != Update {
 		t.Fatal(it, err)
 	}
@@ -132,7 +132,7 @@ func TestRoutesOfBothFamilies(t *testing.T) {
 	if routes, lost := it.Routes(); lost || len(routes) != 2 || routes[0].Announced || !routes[1].Announced {
 		t.Error(routes, lost)
 	}
-	without, _ := Judge(message(2, six), Context{AS4: true})
+	without, _ := Judge(Context{AS4: true}, message(2, six))
 	if routes, lost := without.Routes(); !lost || routes != nil {
 		t.Error(routes, lost)
 	}
@@ -154,19 +154,19 @@ func TestShown(t *testing.T) {
 func TestNotesAndResets(t *testing.T) {
 	bad := append([]byte{}, body...)
 	bad[7] = 3
-	it, _ := Judge(message(2, bad), Context{AS4: true})
+	it, _ := Judge(Context{AS4: true}, message(2, bad))
 	if it.Verdict() != Withdraw || !reflect.DeepEqual(it.Notes(), []Note{{23, 1, 3}}) || it.Notes()[0].Why.String() != "Value" {
 		t.Error(told(it))
 	}
 	if routes, lost := it.Routes(); lost || !reflect.DeepEqual(routes, []Route{{netip.MustParsePrefix("10.0.0.0/8"), false}}) {
 		t.Error(routes, lost)
 	}
-	it, _ = Judge(append(append([]byte{}, marker...), digits("001204")...), Context{})
+	it, _ = Judge(Context{}, append(append([]byte{}, marker...), digits("001204")...))
 	if it.Verdict() != Reset || !reflect.DeepEqual(it.Notification(), &Said{1, 2, digits("0012")}) || len(it.Octets()) != 19 {
 		t.Error(told(it))
 	}
 	for cut := 0; cut < 19; cut++ {
-		if it, err := Judge(message(4, nil)[:cut], Context{}); it != nil || !errors.Is(err, ErrIncomplete) {
+		if it, err := Judge(Context{}, message(4, nil)[:cut]); it != nil || !errors.Is(err, ErrIncomplete) {
 			t.Error(cut, it, err)
 		}
 	}
@@ -175,7 +175,7 @@ func TestNotesAndResets(t *testing.T) {
 func TestOpen(t *testing.T) {
 	fixed := digits("04 5ba0 005a c0000202 16 0214 010400010001 0200 410400020001 01040001")
 	fixed = append(fixed, 0, 1)
-	it, _ := Judge(message(1, fixed), Context{})
+	it, _ := Judge(Context{}, message(1, fixed))
 	said := it.Open()
 	if said == nil || said.AS != 131073 || said.ASField != 23456 || said.HoldTime != 90 || said.ID != netip.MustParseAddr("192.0.2.2") {
 		t.Fatal(told(it))
@@ -187,11 +187,11 @@ func TestOpen(t *testing.T) {
 
 func TestStreams(t *testing.T) {
 	stream := append(append(message(4, nil), message(2, body)...), message(4, nil)[:7]...)
-	messages, rest := Messages(stream, Context{AS4: true})
+	messages, rest := Messages(Context{AS4: true}, stream)
 	if len(messages) != 2 || messages[1].Place() != 19 || len(rest) != 7 {
 		t.Error(messages, rest)
 	}
-	messages, rest = Messages(append(append([]byte{}, marker...), digits("001204 ff")...), Context{})
+	messages, rest = Messages(Context{}, append(append([]byte{}, marker...), digits("001204 ff")...))
 	if len(messages) != 1 || messages[0].Verdict() != Reset || len(rest) != 20 {
 		t.Error(messages, rest)
 	}
@@ -199,7 +199,7 @@ func TestStreams(t *testing.T) {
 
 func TestNothingIsKept(t *testing.T) {
 	octets := message(2, body)
-	it, _ := Judge(octets, Context{AS4: true})
+	it, _ := Judge(Context{AS4: true}, octets)
 	before := told(it)
 	for i := range octets {
 		octets[i] = 0
@@ -212,14 +212,14 @@ func TestNothingIsKept(t *testing.T) {
 
 func TestWriting(t *testing.T) {
 	context := Context{AS4: true}
-	if octets, err := Encode(body, context); err != nil || !bytes.Equal(octets, message(2, body)) {
+	if octets, err := Encode(context, body); err != nil || !bytes.Equal(octets, message(2, body)) {
 		t.Error(octets, err)
 	}
-	narrow, err := Narrow(body, context)
+	narrow, err := Narrow(context, body)
 	if err != nil {
 		t.Fatal(err)
 	}
-	if octets, err := Reconcile(narrow[headerLen:], Context{}); err != nil || !bytes.Equal(octets, message(2, body)) {
+	if octets, err := Reconcile(Context{}, narrow[headerLen:]); err != nil || !bytes.Equal(octets, message(2, body)) {
 		t.Error(octets, err)
 	}
 	bad := append([]byte{}, body...)
@@ -228,7 +228,7 @@ func TestWriting(t *testing.T) {
 		body   []byte
 		wanted error
 	}{{bad, ErrRefused}, {make([]byte, 4078), ErrTooLong}, {nil, ErrRefused}} {
-		if octets, err := Encode(it.body, context); len(octets) != 0 || !errors.Is(err, it.wanted) {
+		if octets, err := Encode(context, it.body); len(octets) != 0 || !errors.Is(err, it.wanted) {
 			t.Error(octets, err)
 		}
 	}
@@ -239,7 +239,7 @@ func TestClean(t *testing.T) {
 	with := append([]byte{}, body[:35]...)
 	with = append(with, digits("c010 02 0102 c011 00 080a")...)
 	with[3] = byte(len(with) - 4 - 2)
-	it, _ := Judge(message(2, with), context)
+	it, _ := Judge(context, message(2, with))
 	if it.Verdict() != Update {
 		t.Fatal(told(it))
 	}
@@ -251,7 +251,7 @@ func TestClean(t *testing.T) {
 	if err != nil || without.LeftOut != 1 || !bytes.Equal(without.Octets, message(2, body)) {
 		t.Error(without, err)
 	}
-	late, _ := Judge(message(1, digits("04fde80000c000020100")), context)
+	late, _ := Judge(context, message(1, digits("04fde80000c000020100")))
 	if told, err := late.Clean(false); err != nil || told.Ends != EndsLateOpen || len(told.Octets) != 0 {
 		t.Error(told, err)
 	}

@@ -1,7 +1,7 @@
 // Package ristulva reads BGP-4 messages, judges them as RFC 4271 and RFC 7606 say, and keeps sessions, by the library for C.
 //
-//	messages, rest, err := ristulva.Messages(octets, ristulva.Context{AS4: true})
-//	for _, message := range messages {
+//	messages, rest := ristulva.Messages(ristulva.Context{AS4: true}, octets)
+//	for _, message := range messages { // and `rest` has the octets of an incomplete one
 //		fmt.Print(message)
 //		if message.Verdict() == ristulva.Update {
 //			fmt.Println(message.Announced(), message.ASPath())

@@ -111,7 +111,7 @@ func TestRowsEnd(t *testing.T) {
 // Whatever room there is, the rows are those that each message gives.
 func TestRooms(t *testing.T) {
 	octets := bytes.Repeat(stream, 1500)
-	messages, _ := Messages(octets, wide)
+	messages, _ := Messages(wide, octets)
 	var wanted []string
 	for _, message := range messages {
 		routes, _ := message.Routes()
@@ -174,7 +174,7 @@ func BenchmarkRoutesByMessages(b *testing.B) {
 	b.ResetTimer()
 	for i := 0; i < b.N; i++ {
 		for at := 0; at < len(octets); {
-			message, err := Judge(octets[at:], wide)
+			message, err := Judge(wide, octets[at:])
 			if err != nil {
 				b.Fatal(err)
 			}

@@ -160,7 +160,7 @@ func TestTimers(t *testing.T) {
 		t.Error(told(heard.Message))
 	}
 	own, err := one.session.OpenMessage()
-	if it, problem := Judge(own, Context{}); err != nil || problem != nil || it.Verdict() != OpenMessage || it.Open().AS != 65001 {
+	if it, problem := Judge(Context{}, own); err != nil || problem != nil || it.Verdict() != OpenMessage || it.Open().AS != 65001 {
 		t.Error(own, err, problem)
 	}
 }

@@ -13,7 +13,7 @@ func (page *page) at() *C.uint8_t { return (*C.uint8_t)(unsafe.Pointer(&page[0])
 func (page *page) first(written C.size_t) []byte { return append([]byte{}, page[:written]...) }
 
 // Encode gives the message of the UPDATE that a body is, in its one written form: ErrTooLong, ErrRefused where it isn't accepted whole, or ErrMemory.
-func Encode(body []byte, context Context) ([]byte, error) {
+func Encode(context Context, body []byte) ([]byte, error) {
 	var message page
 	var written C.size_t
 	said := context.said()
@@ -23,7 +23,7 @@ func Encode(body []byte, context Context) ([]byte, error) {
 }
 
 // Narrow does the same for a speaker with AS numbers of two octets (RFC 6793): ErrUnwritable too, where it would be too long.
-func Narrow(body []byte, context Context) ([]byte, error) {
+func Narrow(context Context, body []byte) ([]byte, error) {
 	var message page
 	var written C.size_t
 	said := context.said()
@@ -33,7 +33,7 @@ func Narrow(body []byte, context Context) ([]byte, error) {
 }
 
 // Reconcile gives the UPDATE of a session with AS numbers of two octets as speakers with four see it.
-func Reconcile(body []byte, context Context) ([]byte, error) {
+func Reconcile(context Context, body []byte) ([]byte, error) {
 	var message page
 	var written C.size_t
 	said := context.said()

@@ -8,6 +8,7 @@ import resource
 import sys
 import threading
 import unittest
+import warnings
 
 import ristulva
 from ristulva import Announce, Arm, Close, Config, Disarm, Event, Flush, Seek, Send, Session, State, Timer, Withdraw
@@ -154,6 +155,16 @@ class Life(unittest.TestCase):
         one, _ = established(remote=Config(65002, 65001, "192.0.2.2", hold_time=0))
         self.assertEqual(one.session.hold_time, 0)
         self.assertEqual(one.session.send(ANNOUNCEMENT), [Send(message(2, ANNOUNCEMENT))])
+
+    def test_family_not_agreed(self):
+        """A warning at the OPEN that offers IPv6 unicast to a Config without it, and none where both have it or neither."""
+        for theirs, ours in itertools.product((False, True), repeat=2):
+            one, other = connected(Config(65001, 65002, "192.0.2.1", ip6=theirs), Config(65002, 65001, "192.0.2.2", ip6=ours))
+            with warnings.catch_warnings(record=True) as found:
+                warnings.simplefilter("always")
+                other.hears()
+            wanted = [(ristulva.FamilyNotAgreed, "the peer offers ip6, and the session's Config doesn't")] if theirs and not ours else []
+            self.assertEqual([(it.category, str(it.message)) for it in found], wanted)
 
 
 class Updates(unittest.TestCase):

@@ -1,5 +1,5 @@
 //! Links the static library: that of the folder which RISTULVA_DIST names by an absolute path, else
-//! the one that this package holds, in `native`.
+//! the one that this package holds for the processor, in `native`.
 
 use std::path::{Path, PathBuf};
 use std::{env, fs};
@@ -12,7 +12,8 @@ fn told(name: &str) -> String {
 /// Where the library lies.
 fn dist() -> PathBuf {
     let Some(place) = env::var_os("RISTULVA_DIST") else {
-        return Path::new(&told("CARGO_MANIFEST_DIR")).join("native");
+        let native = Path::new(&told("CARGO_MANIFEST_DIR")).join("native");
+        return native.join(told("CARGO_CFG_TARGET_ARCH"));
     };
     let place = PathBuf::from(place);
     assert!(
@@ -41,8 +42,8 @@ fn main() {
     println!("cargo:rerun-if-changed={}", library.display());
     let (system, machine) = (told("CARGO_CFG_TARGET_OS"), told("CARGO_CFG_TARGET_ARCH"));
     assert!(
-        system == "linux" && machine == "x86_64",
-        "the library is for Linux on x86-64, and not for {system} on {machine}"
+        system == "linux" && ["x86_64", "aarch64"].contains(&machine.as_str()),
+        "the library is for Linux on x86-64 and arm64, and not for {system} on {machine}"
     );
     let (Ok(text), true) = (fs::read_to_string(&header), library.exists()) else {
         panic!(

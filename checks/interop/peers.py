@@ -27,7 +27,7 @@ class Peer:
 
     def __init__(self, asn, identifier, said, hold=90, early=None):
         self.asn, self.identifier, self.said, self.hold, self.early = asn, identifier, said, hold, early
-        self.heard = []
+        self.heard, self.came_from = [], None
         self.listener = socket.create_server(("127.0.0.2", 0))
         self.port = self.listener.getsockname()[1]
         self.thread = threading.Thread(target=self.run, daemon=True)
@@ -48,7 +48,7 @@ class Peer:
     def run(self):
         self.listener.settimeout(10)
         try:
-            connection, _ = self.listener.accept()
+            connection, (self.came_from, *_) = self.listener.accept()
         except OSError:
             return
         with connection:

@@ -3,6 +3,7 @@
  *
  *     sessions
  *
+ * It has its own functions for memory (trial.h), so it is linked with libristulva.a: cc -pthread sessions.c -l:libristulva.a -o sessions.
  * Each allocation fails in turn, on STACK octets of stack. It prints what the sessions did in one life, and ends with 1 at the first
  * answer that the header doesn't allow. */
 #include "ristulva.h"

@@ -9,7 +9,7 @@ import (
 
 func main() {
 	octets, _ := os.ReadFile("/dev/stdin")
-	messages, _ := ristulva.Messages(octets, ristulva.Context{AS4: true, IP4: true, IP6: true})
+	messages, _ := ristulva.Messages(ristulva.Context{AS4: true, IP4: true, IP6: true}, octets)
 	for _, message := range messages {
 		routes, _ := message.Routes()
 		for _, route := range routes {

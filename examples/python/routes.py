@@ -32,13 +32,13 @@ def told(message: ristulva.Message) -> dict[str, typing.Any]:
     """A message as an object."""
     line: dict[str, typing.Any] = {"place": message.place, "length": len(message.octets), "verdict": message.verdict}
     if message.verdict == "update":
-        line |= {"announced": prefixes(message.announced()), "withdrawn": prefixes(message.withdrawn())}
+        line.update(announced=prefixes(message.announced()), withdrawn=prefixes(message.withdrawn()))
         if line["announced"]:
             line["path"] = path(message)
     if message.verdict == "withdraw":
         line["withdrawn"] = prefixes([*message.withdrawn(), *message.announced()])
     if message.notification:
-        line |= {"code": message.notification[0], "subcode": message.notification[1]}
+        line.update(code=message.notification[0], subcode=message.notification[1])
     return line
 
 

@@ -7,8 +7,8 @@ _bgp_speaker() {
     [ "$word" != = ] || word=""
     case "$before" in
         *[\<\>] | --send) files=yes ;;
-        --hold | --id | --local-as | --messages | --peer-as | --seconds) return ;;
-        *) words='--local-as --peer-as --id --hold --as4 --ip4 --ip6 --listen --send --messages --seconds --json -h --help -V --version' ;;
+        --from | --hold | --id | --local-as | --messages | --peer-as | --seconds) return ;;
+        *) words='--local-as --peer-as --id --hold --as4 --ip4 --ip6 --listen --from --send --messages --seconds --json -h --help -V --version' ;;
     esac
     [ -z "$words" ] || mapfile -t COMPREPLY < <(compgen -W "$words" -- "$word")
     if [ "$files" = yes ] && [[ "$word" != -* ]]; then

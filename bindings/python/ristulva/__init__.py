@@ -1,6 +1,6 @@
 """Ristulva for Python: BGP-4 messages, read and judged, and sessions, by the library for C.
 
-It is the file that RISTULVA_LIBRARY names by an absolute path, else libristulva.so beside this file, else what the loader finds.
+It is the file that RISTULVA_LIBRARY names by an absolute path, else libristulva.so.0.4 beside this file, else what the loader finds by that name.
 
     for message in ristulva.messages(octets, ristulva.Context(as4=True)):
         print(message, end="")
@@ -37,11 +37,13 @@ from .session import (
 )
 from .tables import Reset, Table, arrow, frame, joined, prefixes, table
 
+__version__ = "0.4.0"
+
 __all__ = [
     "ENDS", "KINDS", "MESSAGE", "ORIGINS", "VERDICTS", "VERSION", "WHYS", "Action", "Announce", "Arm", "Attribute", "AttributeType",
     "CapabilityCode", "CeaseError", "Cleaned", "Close", "Config", "Context", "Decoder", "DecoderClosed", "Disarm", "ErrorCode", "Event",
     "Facts", "FamilyNotAgreed", "Field", "Flush", "HeaderError", "Heard", "Incomplete", "Message", "Open", "OpenError", "Peer", "Prefix",
     "RefreshError", "Refused", "Reset", "Route", "Seek", "Send", "Session", "SessionClosed", "State", "StateError", "Table", "Timer",
-    "UpdateError", "Withdraw", "WrongState", "agree", "arrow", "attribute_name", "capability_name", "directions", "encode", "error_name",
+    "UpdateError", "Withdraw", "WrongState", "__version__", "agree", "arrow", "attribute_name", "capability_name", "directions", "encode", "error_name",
     "frame", "joined", "judge", "messages", "narrow", "note_section", "prefixes", "reconcile", "subcode_name", "table",
 ]

@@ -189,7 +189,8 @@ def opened(where: str, form: typing.Type[ctypes.CDLL]) -> ctypes.CDLL:
     try:
         return form(where)
     except OSError as error:
-        raise ImportError(f"there is no library for ristulva: {error}; install libristulva, or set RISTULVA_LIBRARY to its absolute path") from error
+        package = "libristulva{}.{}".format(*SERIES)
+        raise ImportError(f"there is no library for ristulva: {error}; install the wheel or {package}, or set RISTULVA_LIBRARY to its absolute path") from error
 
 
 def load() -> tuple[Library, int]:

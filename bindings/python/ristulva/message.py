@@ -59,7 +59,8 @@ class Incomplete(UserWarning):
 
 
 class FamilyNotAgreed(UserWarning):
-    """An UPDATE has attributes of IPv6 unicast, and its context has no `ip6`: their routes, if there are any, aren't given."""
+    """A family isn't in use: an UPDATE has attributes of IPv6 unicast, and its context has no `ip6`, so that their routes, if there are any, aren't
+    given; or the peer of a session offers a family that its Config doesn't."""
 
 
 REFUSALS = {RANGE: "too long a body", REFUSED: "not accepted whole", MIXED: "routes of several kinds", UNWRITABLE: "can't be written"}
@@ -253,7 +254,7 @@ class Message:
         return self.context.ip4 if afi == 1 else self.context.ip6
 
     def announced(self) -> list[Prefix]:
-        """The prefixes of MP_REACH_NLRI and then of the NLRI field. Where the verdict is "withdraw", these are withdrawn too."""
+        """The prefixes of MP_REACH_NLRI and then of the NLRI field, also where the verdict is "withdraw" and they are to be withdrawn: see `routes`."""
         return [*self._announced()]
 
     def _announced(self) -> typing.Iterator[Prefix]:

@@ -12,11 +12,12 @@ import ipaddress
 import operator
 import threading
 import typing
+import warnings
 import weakref
 from ctypes import c_size_t, c_uint8, c_uint16
 
 from .library import CONFIG, HEADER, LIBRARY, MESSAGE, OK, CAction, CActions, CConfig, CHeard, CPeer, Handle, Said, Verdict
-from .message import VERDICTS, Context, Message, check, in_octets, part
+from .message import VERDICTS, Context, FamilyNotAgreed, Message, check, in_octets, part
 
 NOTIFICATION = 21  # the octets in front of a NOTIFICATION's data
 
@@ -137,7 +138,10 @@ def asked(told: CActions, sent: bytes, update: typing.Optional[Message] = None) 
 
 @dataclasses.dataclass(frozen=True)
 class Config:
-    """What a session's own speaker is set to (RFC 4271, section 4.2)."""
+    """What a session's own speaker is set to (RFC 4271, section 4.2).
+
+    A family that isn't set here isn't offered, and none of its routes come, whatever the peer offers: `Session.hear` of an OPEN that offers more gives
+    a warning `FamilyNotAgreed`. Of IPv4 and IPv6 unicast, `ip4` alone is set where nothing is said."""
 
     local_as: int  # its AS number: not 0 (RFC 7607); above 65535 only with as4 (RFC 6793, section 4.1)
     peer_as: int  # the AS number that the peer has to have: not 0
@@ -191,7 +195,7 @@ class Session:
 
     def __init__(self, config: Config) -> None:
         """ValueError: the configuration isn't one that Config allows."""
-        self._lock, self._handle = threading.RLock(), Handle()
+        self._lock, self._handle, self._config = threading.RLock(), Handle(), config
         status = LIBRARY.ristulva_session_new(config.said(), self._handle)
         if status == CONFIG:
             raise ValueError(f"not allowed: {config}")
@@ -241,7 +245,9 @@ class Session:
         """Lets it hear the message, or the header with a fault, that octets of the peer begin with. What stands behind a message has no effect.
 
         None, and nothing has changed, where they are less than a message, or where the connection doesn't stand, so that octets have no meaning: in
-        Idle, Connect and Active. Its host drops what was taken from the front of what it has received, and calls it again, up to None."""
+        Idle, Connect and Active. Its host drops what was taken from the front of what it has received, and calls it again, up to None.
+
+        Where an OPEN offers a family that the Config doesn't, a warning `FamilyNotAgreed` says so."""
         octets = part(in_octets(octets), 0)
         heard, told, message, written = CHeard(), CActions(), ctypes.create_string_buffer(MESSAGE), c_size_t()
         with self._lock:
@@ -250,6 +256,9 @@ class Session:
                 return None
         sent = ctypes.string_at(message, written.value)
         said = said_by(heard, octets[: heard.len], sent, context)
+        left_out = families_left_out(self._config, said)
+        if left_out:
+            warnings.warn(f"the peer offers {left_out}, and the session's Config doesn't", FamilyNotAgreed, stacklevel=2)
         return Heard(said, heard.len, asked(told, sent, said))
 
     @property
@@ -298,6 +307,14 @@ class Session:
         told, message, written = CActions(), ctypes.create_string_buffer(MESSAGE), c_size_t()
         check(self._call("send", body, len(body), told, message, MESSAGE, written))
         return [Send(ctypes.string_at(message, written.value)), *asked(told, b"")]
+
+
+def families_left_out(config: Config, message: Message) -> str:
+    """The families that an OPEN offers and a Config doesn't, as text; none of another message."""
+    said = message.open() if message.verdict == "open" else None
+    if said is None:
+        return ""
+    return " and ".join(name for name, theirs, ours in (("ip4", said.ip4, config.ip4), ("ip6", said.ip6, config.ip6)) if theirs and not ours)
 
 
 def said_by(heard: CHeard, octets: bytes, sent: bytes, context: Context) -> Message:

@@ -31,7 +31,7 @@ fn by_cursors(context: &Context, octets: &[u8]) -> Seen {
     for message in messages(context, octets) {
         let origin_as = message.facts().and_then(|facts| facts.origin_as);
         for route in message.routes() {
-            let number = origin_as.filter(|_| route.is_announced).unwrap_or(0);
+            let number = origin_as.filter(|_| route.announced).unwrap_or(0);
             seen = (seen.0 + 1, seen.1 + u64::from(number));
         }
     }

@@ -10,16 +10,12 @@ pub struct Route {
     /// The destinations.
     pub prefix: Prefix,
     /// Whether the route is announced; else it is withdrawn.
-    pub is_announced: bool,
+    pub announced: bool,
 }
 
 impl fmt::Display for Route {
     fn fmt(&self, f: &mut fmt::Formatter<'_>) -> fmt::Result {
-        let word = if self.is_announced {
-            "announce"
-        } else {
-            "withdraw"
-        };
+        let word = if self.announced { "announce" } else { "withdraw" };
         write!(f, "{word} {}", self.prefix)
     }
 }
@@ -46,7 +42,7 @@ impl Iterator for Routes<'_> {
         let found = raw::next_route(self.octets, &mut self.cursor)?;
         Some(Route {
             prefix: Prefix::of(found.prefix),
-            is_announced: found.announced != 0,
+            announced: found.announced != 0,
         })
     }
 }

@@ -113,7 +113,7 @@ impl RouteRow {
     pub fn route(&self) -> Route {
         Route {
             prefix: Prefix::of(self.prefix),
-            is_announced: self.announced != 0,
+            announced: self.announced != 0,
         }
     }
 

@@ -61,13 +61,13 @@ fn routes() {
     assert_eq!(found, wanted);
     assert_eq!((read.rows, read.octets, read.stop), (5, octets.len(), None));
     for (number, row) in rows.iter().enumerate() {
-        let is_announced = row.route().is_announced;
-        assert_eq!(row.origin_as(), is_announced.then_some(200000));
+        let announced = row.route().announced;
+        assert_eq!(row.origin_as(), announced.then_some(200000));
         assert_eq!(row.is_treated_as_withdrawal(), number >= 3);
         assert_eq!(row.message() == 19, number < 3);
         let message = &octets[row.message() as usize..];
         let value = |hex: &str| {
-            if is_announced {
+            if announced {
                 self::octets(&hex[6..])
             } else {
                 Vec::new()

@@ -9,7 +9,7 @@ use std::alloc::{AllocError, Global};
 pub(crate) const NAME: &str = "bgp_speaker";
 
 /// The flags, with what stands behind them, and their help.
-const FLAGS: [(&str, Behind, &str); 12] = [
+const FLAGS: [(&str, Behind, &str); 13] = [
     (
         "local-as",
         Behind::Needed("AS"),
@@ -33,6 +33,11 @@ const FLAGS: [(&str, Behind, &str); 12] = [
         "listen",
         Behind::Nothing,
         "Wait for the peer at ADDRESS, and don't connect",
+    ),
+    (
+        "from",
+        Behind::Value("ADDRESS"),
+        "Connect from this address of this machine, as 192.0.2.2",
     ),
     (
         "send",

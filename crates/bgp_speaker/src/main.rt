@@ -6,6 +6,7 @@ mod commands;
 mod hearing;
 mod help;
 mod request;
+mod source;
 mod speaking;
 mod status;
 mod tcp;

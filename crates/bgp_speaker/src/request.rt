@@ -7,7 +7,7 @@ use bgp_open::{BadConfig, Config};
 use bgp_words::bad_value;
 use clap::{ArgMatches, Error};
 use std::alloc::Global;
-use std::net::Ipv4Addr;
+use std::net::{IpAddr, Ipv4Addr, SocketAddr};
 
 /// What the words ask for.
 #[derive(Clone, Copy)]
@@ -17,6 +17,8 @@ pub(crate) struct Request<'a> {
     pub(crate) address: &'a str,
     /// The peer connects.
     pub(crate) listens: bool,
+    /// The address of this machine that it connects from.
+    pub(crate) source: Option<IpAddr>,
     /// The file of the UPDATEs that are sent.
     pub(crate) file: Option<&'a str>,
     /// After how many messages of the peer the session is stopped.
@@ -86,12 +88,30 @@ fn config(alloc: Global, found: &ArgMatches<'_>) -> Result<Config, Error> {
     }
 }
 
+// The address that it connects from, where one is named.
+fn source(alloc: Global, found: &ArgMatches<'_>) -> Result<Option<IpAddr>, Error> {
+    let Some(text) = found.get_str("from") else {
+        return Ok(None);
+    };
+    let Ok(source) = text.parse::<IpAddr>() else {
+        return Err(bad(alloc, "--from needs an IP address"));
+    };
+    match found.get_str("ADDRESS").unwrap_or("").parse::<SocketAddr>() {
+        Ok(to) if to.is_ipv4() == source.is_ipv4() && !found.get_flag("listen") => Ok(Some(source)),
+        _ => Err(bad(
+            alloc,
+            "--from needs ADDRESS to be an IP address of its family with a port, and no --listen",
+        )),
+    }
+}
+
 // What the arguments ask for.
 fn asked<'a>(alloc: Global, found: &ArgMatches<'a>) -> Result<Request<'a>, Error> {
     Ok(Request {
         config: config(alloc, found)?,
         address: found.get_str("ADDRESS").unwrap_or(""),
         listens: found.get_flag("listen"),
+        source: source(alloc, found)?,
         file: found.get_str("send"),
         messages: number(alloc, found, "messages", u64::MAX)?,
         seconds: number(alloc, found, "seconds", u32::MAX as u64)?,

@@ -202,7 +202,13 @@ fn run(rt: &HostRuntime, request: &Request<'_>, updates: Vec<Update>) -> io::Res
         json: request.json,
     };
     let until = end_of(rt, request.seconds)?;
-    let connection = TcpConnection::new(voice, request.address, request.listens, until);
+    let connection = TcpConnection::new(
+        voice,
+        request.address,
+        request.listens,
+        request.source,
+        until,
+    );
     let mut run = Conversation {
         rt,
         voice,

@@ -1,12 +1,13 @@
 //! The connection to the peer, over TCP.
 
+use crate::source;
 use crate::voice::{Voice, told_in};
 use bgp_frame::{Step, front};
 use bgp_host::Connection;
 use bgp_machine::RETRY_SECONDS;
 use bgp_numbers::error::CEASE;
 use std::io::{ErrorKind, Read, Write};
-use std::net::{TcpListener, TcpStream};
+use std::net::{IpAddr, SocketAddr, TcpListener, TcpStream};
 use std::time::{Duration, Instant};
 use std::{io, thread};
 
@@ -22,6 +23,8 @@ pub(crate) struct TcpConnection<'a> {
     voice: Voice<'a>,
     address: &'a str,
     listens: bool,
+    /// The address of this machine that it connects from, where one was named.
+    source: Option<IpAddr>,
     /// When the program ends, at the latest.
     until: Option<Instant>,
     stream: Option<TcpStream>,
@@ -67,12 +70,14 @@ impl<'a> TcpConnection<'a> {
         voice: Voice<'a>,
         address: &'a str,
         listens: bool,
+        source: Option<IpAddr>,
         until: Option<Instant>,
     ) -> TcpConnection<'a> {
         TcpConnection {
             voice,
             address,
             listens,
+            source,
             until,
             stream: None,
             blamed: false,
@@ -92,11 +97,20 @@ impl<'a> TcpConnection<'a> {
         !over && now.duration_since(began).as_secs() < RETRY_SECONDS as u64
     }
 
+    // Connects, from the address that was named where one was.
+    fn connect(&self) -> Option<TcpStream> {
+        let Some(source) = self.source else {
+            return TcpStream::connect(self.voice.rt, self.address).ok();
+        };
+        let to = self.address.parse::<SocketAddr>().ok()?;
+        source::connect(self.voice.rt, source, to).ok()
+    }
+
     // Accepts a connection, or connects. None where that has to be tried again.
     fn attempt(&self, listener: Option<&TcpListener>) -> Option<TcpStream> {
         let stream = match listener {
             Some(listener) => listener.accept().ok()?.0,
-            None => TcpStream::connect(self.voice.rt, self.address).ok()?,
+            None => self.connect()?,
         };
         set_up(stream).ok()
     }
