@@ -6,3 +6,4 @@ pub mod PrintedSlots
 pub mod Decimals
 pub mod Escapes
 pub mod FieldLines
+pub mod Pieces

@@ -1,8 +1,9 @@
 //! What the values of unrecognised attributes say: for reading alone.
 
-ghost use Rattle.std.specs.Prelude.{◌≡◌, ◌++◌, codes, OnOk};
+ghost use Rattle.std.specs.Prelude.{◌≡◌, ◌++◌, codes, option_map, IfOk, OnOk};
 ghost use Rattle.bgp_text.specs.Below.{string_bytes, decimal, ipv4_address_text};
 ghost use Rattle.bgp_text.specs.AttributeValues.{as_text, attribute_text, clusters_text, color_text, extended_row, extended_text, metric_text, owned_text, subtype_text};
+ghost use Rattle.bgp_text.specs.steps.Rows.{PrintsFirst};
 
 use crate::capability_values::put_further;
 use crate::field_values::{number_in, put_address};
@@ -133,14 +134,27 @@ fn put_extended(text: &mut String, kind: u8, subtype: u8, value: &[u8]) -> Resul
     put_one(text, Decimal(subtype))
 }
 
+/// Adds the first community of EXTENDED COMMUNITIES, and gives what follows it: none where there is no community.
+fn put_first_extended<'a>(
+    text: &mut String,
+    octets: &'a [u8],
+) -> Result<Option<&'a [u8]>, AllocError>
+    ensures { IfOk result (λ rest. PrintsFirst extended_row (string_bytes text.old) (string_bytes text.new) octets.now (option_map (λ r. r.now) rest)) }
+{
+    let [kind, subtype, a, b, c, d, e, f, rest @ ..] = octets else {
+        return Ok(None);
+    };
+    put_extended(text, *kind, *subtype, &[*a, *b, *c, *d, *e, *f])?;
+    put_further(text, rest)?;
+    Ok(Some(rest))
+}
+
 /// Adds the communities of EXTENDED COMMUNITIES.
 fn put_extended_row(text: &mut String, octets: &[u8]) -> Result<(), AllocError>
     ensures { OnOk result (string_bytes text.new ≡ string_bytes text.old ++ extended_row octets.now) }
 {
     let mut left = octets;
-    'row: while let [kind, subtype, a, b, c, d, e, f, rest @ ..] = left {
-        put_extended(text, *kind, *subtype, &[*a, *b, *c, *d, *e, *f])?;
-        put_further(text, rest)?;
+    'row: while let Some(rest) = put_first_extended(text, left)? {
         left = rest;
     }
     Ok(())

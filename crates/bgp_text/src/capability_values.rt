@@ -1,9 +1,10 @@
 //! What the values of capabilities say on which no verdict depends: for reading alone.
 
-ghost use Rattle.std.specs.Prelude.{◌≡◌, ◌++◌, ◌*◌, ◌+◌, drop, take, OnOk};
+ghost use Rattle.std.specs.Prelude.{◌≡◌, ◌++◌, drop, option_map, take, IfOk, OnOk};
 ghost use Rattle.bgp_text.specs.Below.{string_bytes};
 ghost use Rattle.bgp_text.specs.CapabilityValues.{capability_text, domain_text, family_text, fqdn_text, further, hop_text, hops_text, host_text, kept_text, name_or_number, path_mode, paths_text, restart_text, restarts_text, role_name, role_text, stale_text};
 ghost use Rattle.bgp_text.specs.Shutdown.{where_utf8};
+ghost use Rattle.bgp_text.specs.steps.Rows.{PrintsFirst};
 
 use crate::field_values::{put_numbered, put_said};
 use crate::short::{Decimal, put_one};
@@ -79,19 +80,25 @@ fn put_hop(text: &mut String, afi: u16, safi: u8, hop: u16) -> Result<(), AllocE
     put_name_or_number(text, afi_name(hop), u32::from(hop))
 }
 
+/// Adds the first family of Extended Next Hop Encoding, and gives what follows it: none where there is no family.
+fn put_first_hop<'a>(text: &mut String, octets: &'a [u8]) -> Result<Option<&'a [u8]>, AllocError>
+    ensures { IfOk result (λ rest. PrintsFirst hops_text (string_bytes text.old) (string_bytes text.new) octets.now (option_map (λ r. r.now) rest)) }
+{
+    let [a, b, _, safi, h, i, rest @ ..] = octets else {
+        return Ok(None);
+    };
+    let afi = u16::from_be_bytes([*a, *b]);
+    put_hop(text, afi, *safi, u16::from_be_bytes([*h, *i]))?;
+    put_further(text, rest)?;
+    Ok(Some(rest))
+}
+
 /// Adds the families of Extended Next Hop Encoding (RFC 8950, section 4).
 fn put_hops(text: &mut String, octets: &[u8]) -> Result<(), AllocError>
     ensures { OnOk result (string_bytes text.new ≡ string_bytes text.old ++ hops_text octets.now) }
 {
     let mut left = octets;
-    'row: while let [a, b, _, safi, h, i, rest @ ..] = left {
-        put_hop(
-            text,
-            u16::from_be_bytes([*a, *b]),
-            *safi,
-            u16::from_be_bytes([*h, *i]),
-        )?;
-        put_further(text, rest)?;
+    'row: while let Some(rest) = put_first_hop(text, left)? {
         left = rest;
     }
     Ok(())
@@ -134,16 +141,26 @@ fn put_restart(text: &mut String, octets: &[u8]) -> Result<(), AllocError>
     put_restarts(text, families)
 }
 
+/// Adds the first family of Long-Lived Graceful Restart, and gives what follows it: none where there is no family.
+fn put_first_stale<'a>(text: &mut String, octets: &'a [u8]) -> Result<Option<&'a [u8]>, AllocError>
+    ensures { IfOk result (λ rest. PrintsFirst stale_text (string_bytes text.old) (string_bytes text.new) octets.now (option_map (λ r. r.now) rest)) }
+{
+    let [a, b, safi, _, t, u, v, rest @ ..] = octets else {
+        return Ok(None);
+    };
+    put_family(text, u16::from_be_bytes([*a, *b]), *safi)?;
+    let time = u32::from(*t) * 65536 + u32::from(*u) * 256 + u32::from(*v);
+    put_numbered(text, "seconds", time)?;
+    put_further(text, rest)?;
+    Ok(Some(rest))
+}
+
 /// Adds the families of Long-Lived Graceful Restart (RFC 9494, section 3.1).
 fn put_stale(text: &mut String, octets: &[u8]) -> Result<(), AllocError>
     ensures { OnOk result (string_bytes text.new ≡ string_bytes text.old ++ stale_text octets.now) }
 {
     let mut left = octets;
-    'row: while let [a, b, safi, _, t, u, v, rest @ ..] = left {
-        put_family(text, u16::from_be_bytes([*a, *b]), *safi)?;
-        let time = u32::from(*t) * 65536 + u32::from(*u) * 256 + u32::from(*v);
-        put_numbered(text, "seconds", time)?;
-        put_further(text, rest)?;
+    'row: while let Some(rest) = put_first_stale(text, left)? {
         left = rest;
     }
     Ok(())

@@ -1,5 +1,5 @@
--- A row of which the first value is taken out, and the lines of fields by such a row of notes.
-use Rattle.std.specs.Prelude.{ℕ, Bool, false, List, [], ◌∷◌, Option, None, Some, if◌then◌else◌}
+-- A row of which the first value is taken out, the lines of fields by such a row of notes, and octets that are printed piece by piece.
+use Rattle.std.specs.Prelude.{◌≡◌, ◌<◌, ℕ, Bool, false, List, [], ◌∷◌, ◌++◌, length, Option, None, Some, if◌then◌else◌}
 use Rattle.bgp_text.specs.Below.{notes_left, Note, Field}
 use Rattle.bgp_text.specs.declared.field_lines.Noting.{Noting}
 use Rattle.bgp_text.specs.FieldLines.{field_line, noted_lines}
@@ -26,3 +26,8 @@ noting_lines message noting fields = noted_lines message noting.place (row_of no
 -- the line of a field of a message without notes
 abbrev pub plain_line : List ℕ → Field → List ℕ
 plain_line message f = field_line (is_in 0 f.group) message f
+
+-- the first piece of octets was printed, and the text of the rest is left; or there was none
+abbrev pub PrintsFirst : (List ℕ → List ℕ) → List ℕ → List ℕ → List ℕ → Option (List ℕ) → Type 0
+PrintsFirst text_of old new octets None = (new ≡ old) × (text_of octets ≡ [])
+PrintsFirst text_of old new octets (Some rest) = (length rest < length octets) × (new ++ text_of rest ≡ old ++ text_of octets)
