@@ -22,7 +22,8 @@ KNOWN_KITS = ["rattle-kit-13b logic dac8208d650f15bf", "rattle-kit-13f logic dac
 # From so many lines on a crate gains by so many jobs, as rt counts them. Below, most of the time goes into reading its libraries.
 JOBS = [(3000, 4), (1000, 2), (0, 1)]
 
-# Beside other work that is ready, no proof gets more: what is proved by more jobs costs more processor time.
+# Beside other work that is ready, no proof gets more: what is proved by more jobs costs more processor time. Where processors are idle beyond these, the
+# first proof gets them, since the longest chain waits for it.
 JOBS_BESIDE = 2
 
 # What each further job of a proof adds to its memory: jobs are forks, which share most of theirs.
@@ -96,7 +97,7 @@ def jobs_for(key, lines_of_it, idle, others):
         return 1 if key[1] != "tests" else min(JOBS_BESIDE, idle)
     most = next(jobs for least, jobs in JOBS if lines_of_it >= least)
     if others or key[1] == "seed":
-        most = min(most, JOBS_BESIDE, max(1, idle - others))
+        most = min(most, JOBS_BESIDE, max(JOBS_BESIDE if idle > JOBS_BESIDE else 1, idle - others))
     return max(1, min(most, idle))
 
 
