@@ -13,18 +13,27 @@ const NAMED = { [F.MESSAGE_TYPE]: NAMES.message, [F.PARAMETER_TYPE]: NAMES.param
     [F.ATTRIBUTE_TYPE]: NAMES.attribute, [F.ORIGIN]: NAMES.origin, [F.SEGMENT_TYPE]: NAMES.segment, [F.ERROR_CODE]: NAMES.error };
 
 const numberOf = (octets) => octets.reduce((sum, it) => sum * 256 + it, 0);
-const addressOf = (octets) => (octets.length === 4 ? octets.join(".") : digitsOf(octets).match(/.{4}/g).join(":"));
+// An address: of IPv6 in all its digits as `bgp show` has it, or in the form of RFC 5952.
+const longAddressOf = (octets) => (octets.length === 4 ? octets.join(".") : digitsOf(octets).match(/.{4}/g).join(":"));
+function addressOf(octets) {
+    if (octets.length === 4) return octets.join(".");
+    const groups = piecesOf(octets, 2).map(numberOf), zeros = (at) => (groups[at] === 0 ? 1 + zeros(at + 1) : 0);
+    const runs = groups.map((_, at) => zeros(at)), longest = Math.max(...runs), at = runs.indexOf(longest), text = (list) => list.map((it) => it.toString(16)).join(":");
+    return longest < 2 ? text(groups) : `${text(groups.slice(0, at))}::${text(groups.slice(at + longest))}`;
+}
+// Whole pieces of so many octets.
+const piecesOf = (octets, size) => Array.from({ length: Math.floor(octets.length / size) }, (_, index) => octets.subarray(size * index, size * index + size));
 const dataOf = (octets) => digitsOf(octets) || "-";
 const numbersOf = (octets) => Array.from({ length: octets.length / 4 }, (_, index) => numberOf(octets.subarray(4 * index, 4 * index + 4)));
 const communityOf = (octets) => `${numberOf(octets.subarray(0, 2))}:${numberOf(octets.subarray(2))}`;
 const subcodeName = (code, subcode) => (NAMES.subcode[code] ?? {})[subcode] ?? "";
 
 // A prefix, with the bits behind its length left out.
-function prefixOf(octets, width) {
+function prefixOf(octets, width, shown) {
     const bits = octets[0], address = new Uint8Array(width);
     address.set(octets.subarray(1));
     if (bits % 8) address[octets.length - 2] &= 256 - (1 << (8 - (bits % 8)));
-    return `${addressOf(address)}/${bits}`;
+    return `${shown(address)}/${bits}`;
 }
 
 // The text of RFC 9003 in the data of a NOTIFICATION: nothing where it isn't counted right or is no UTF-8.
@@ -49,23 +58,69 @@ const COMMUNITIES = { 4294901760: "GRACEFUL_SHUTDOWN", 4294901761: "ACCEPT_OWN",
     4294967041: "NO_EXPORT", 4294967042: "NO_ADVERTISE", 4294967043: "NO_EXPORT_SUBCONFED", 4294967044: "NOPEER" };
 const ROLES = ["Provider", "RS", "RS-Client", "Customer", "Peer"];
 
-// What an attribute or a capability of a type says that isn't recognised.
-function detailOf(kind, type, octets) {
-    if (kind === F.CAPABILITY_VALUE && type === 9 && octets.length === 1) return `${octets[0]} ${ROLES[octets[0]] ?? ""}`.trimEnd();
-    if (kind === F.CAPABILITY_VALUE && type === 64 && octets.length >= 2) return `${numberOf(octets.subarray(0, 2)) % 4096} seconds`;
-    if (kind === F.ATTRIBUTE_VALUE && type === 9 && (octets.length === 4 || octets.length === 16)) return addressOf(octets);
-    if (kind === F.ATTRIBUTE_VALUE && type === 35 && octets.length === 4) return `AS ${numberOf(octets)}`;
-    if (kind === F.ATTRIBUTE_VALUE && type === 26 && octets.length === 11 && numberOf(octets.subarray(0, 3)) === 65547)
+const MODES = { 1: "receive", 2: "send", 3: "send and receive" };
+
+const familyOf = (octets, safi) => `${NAMES.afi[numberOf(octets.subarray(0, 2))] || numberOf(octets.subarray(0, 2))} ${NAMES.safi[safi] || safi}`;
+
+// Texts one after the other, with commas between them; the octets after the last whole piece say nothing, and a comma stands before them.
+const rowOf = (octets, size, told) => piecesOf(octets, size).map(told).join(",") + (octets.length > size && octets.length % size ? "," : "");
+
+// A name of FQDN, where it is UTF-8.
+function hostOf(octets) {
+    try {
+        const text = new TextDecoder("utf-8", { fatal: true, ignoreBOM: true }).decode(octets);
+        return text && ` ${quoted(text)}`;
+    } catch {
+        return "";
+    }
+}
+
+function namesOf(octets) {
+    if (!octets.length) return "";
+    const rest = octets.subarray(1 + octets[0]);
+    return hostOf(octets.subarray(1, 1 + octets[0])) + (rest.length ? hostOf(rest.subarray(1, 1 + rest[0])) : "");
+}
+
+const keptOf = (flags) => (flags > 127 ? " forwarding state kept" : "");
+
+// What a capability of a code says on which no verdict depends: RFC 8950, 9234, 4724, 7911, 9494, and FQDN.
+function capabilityOf(code, octets) {
+    if (code === 5) return rowOf(octets, 6, (it) => ` ${familyOf(it, it[3])} by ${NAMES.afi[numberOf(it.subarray(4))] || numberOf(it.subarray(4))}`);
+    if (code === 9 && octets.length === 1) return ` ${octets[0]} ${ROLES[octets[0]] ?? ""}`.trimEnd();
+    if (code === 64 && octets.length >= 2)
+        return ` ${numberOf(octets.subarray(0, 2)) % 4096} seconds` + piecesOf(octets.subarray(2), 4).map((it) => `, ${familyOf(it, it[2])}${keptOf(it[3])}`).join("");
+    if (code === 69) return rowOf(octets, 4, (it) => ` ${familyOf(it, it[2])} ${MODES[it[3]] ?? it[3]}`);
+    if (code === 71) return rowOf(octets, 7, (it) => ` ${familyOf(it, it[2])} ${numberOf(it.subarray(4))} seconds`);
+    return code === 73 ? namesOf(octets) : "";
+}
+
+// An extended community (RFC 4360, 5668, 9012).
+function extendedOf(octets) {
+    const [type, subtype] = octets, split = type % 64 === 0 ? 4 : 6, owner = octets.subarray(2, split);
+    const name = { 2: "route target", 3: "route origin" }[subtype] ?? `subtype ${subtype}`;
+    if (type % 64 < 3) return ` ${name} ${type % 64 === 1 ? addressOf(owner) : numberOf(owner)}:${numberOf(octets.subarray(split))}`;
+    return type === 3 && subtype === 11 ? ` color ${numberOf(octets.subarray(4))}` : ` type ${type} subtype ${subtype}`;
+}
+
+// What an attribute of a type says that isn't recognised.
+function unrecognisedOf(type, octets) {
+    if (type === 9 && (octets.length === 4 || octets.length === 16)) return addressOf(octets);
+    if (type === 10) return piecesOf(octets, 4).map(addressOf).join(" ");
+    if (type === 16) return rowOf(octets, 8, extendedOf);
+    if (type === 35 && octets.length === 4) return `AS ${numberOf(octets)}`;
+    if (type === 26 && octets.length === 11 && numberOf(octets.subarray(0, 3)) === 65547)
         return `metric ${octets.subarray(3).reduce((sum, it) => sum * 256n + BigInt(it), 0n)}`;
     return "";
 }
 
-// What a field says, behind its name.
-function valueOf(message, { kind, at, len, type }) {
+const detailOf = (kind, type, octets) => (kind === F.CAPABILITY_VALUE ? capabilityOf(type, octets) : unrecognisedOf(type, octets)).trimStart();
+
+// What a field says, after its name; addresses are shown so.
+function valueOf(message, { kind, at, len, type }, shown = addressOf) {
     const octets = message.subarray(at, at + len), code = message[19], subcode = message[20];
-    if (OF_IPV4.has(kind)) return prefixOf(octets, 4);
-    if (OF_IPV6.has(kind)) return prefixOf(octets, 16);
-    if (ADDRESSES.has(kind)) return addressOf(octets);
+    if (OF_IPV4.has(kind)) return prefixOf(octets, 4, shown);
+    if (OF_IPV6.has(kind)) return prefixOf(octets, 16, shown);
+    if (ADDRESSES.has(kind)) return shown(octets);
     if (kind === F.ATTRIBUTE_FLAGS) return flagsOf(octets[0]);
     if (kind === F.COMMUNITY) return `${communityOf(octets)} ${COMMUNITIES[numberOf(octets)] ?? ""}`.trimEnd();
     if (kind === F.CAPABILITY_VALUE || kind === F.ATTRIBUTE_VALUE) return detailOf(kind, type, octets);
@@ -91,7 +146,7 @@ class Lines {
     }
 
     value(field) {
-        return valueOf(this.message, field);
+        return valueOf(this.message, field, longAddressOf);
     }
 
     // A line for each field of a kind.
@@ -199,13 +254,15 @@ function messageOf(library, context, stream, place) {
     const octets = stream.subarray(place, place + (verdict.len || 19));
     const fields = library.fields(), fault = library.fault(), notes = library.notes(), lines = new Lines(octets, fields);
     const word = verdict.verdict === C.RESET ? " reset" : verdict.kind === 2 ? (verdict.verdict === C.WITHDRAW ? " withdraw" : " take") : "";
-    const said = verdict.verdict === C.RESET || verdict.kind === 3 ? ` ${verdict.code}/${verdict.subcode} ${dataOf(verdict.data)}` : "";
+    const told = (data) => ` ${verdict.code}/${verdict.subcode} ${data}`, isShort = verdict.verdict === C.RESET && verdict.data.length > 64;
+    const said = verdict.verdict === C.RESET || verdict.kind === 3 ? told(dataOf(verdict.data)) : "";
+    const short = isShort ? told(`${dataOf(verdict.data.subarray(0, 64))}... of ${verdict.data.length} octets`) : said;
     if (verdict.verdict === C.OPEN) openLines(lines);
     if (verdict.verdict === C.UPDATE) updateLines(lines, notes);
     if (verdict.verdict === C.WITHDRAW) routeLines(lines);
-    const head = `${place} ${verdict.len} ${KINDS[verdict.kind]}${word}${said}`;
+    const begin = `${place} ${verdict.len} ${KINDS[verdict.kind]}${word}`, head = `${begin}${said}`, heading = `${begin}${short}`;
     const section = sectionOf(verdict, library.faultSection());
-    const message = { place, octets, verdict, head, fields, fault, lines: lines.list, notes: notes.map((it) => toldNote(it)), section };
+    const message = { place, octets, verdict, head, heading, fields, fault, lines: lines.list, notes: notes.map((it) => toldNote(it)), section };
     return { ...message, told: placed(message) };
 }
 
@@ -298,7 +355,7 @@ function markOf(message, field) {
 
 // The lines of `bgp explain` of a message: those of `bgp show`, and its fields.
 function explained(library, message) {
-    const shown = [message.head, ...message.lines.map((it) => `  ${it.text}`), ...message.notes.map((it) => `  ${it.line}`)];
+    const shown = [message.heading, ...message.lines.map((it) => `  ${it.text}`), ...message.notes.map((it) => `  ${it.line}`)];
     const fields = message.fields.flatMap((it) => {
         const { isMarked } = markOf(message, it), value = valueOf(message.octets, it), why = message.told.above.get(it);
         const digits = digitsOf(message.octets.subarray(it.at, it.at + it.len));
