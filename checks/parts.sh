@@ -110,9 +110,9 @@ added() {
     awk '/^[0-9]+ passed, [0-9]+ failed$/ { passed += $1; failed += $3; next } { print } END { print passed + 0 " passed, " failed + 0 " failed" }'
 }
 
-# Of the rows of a file the first of each kind, and then every third.
+# Of the rows of a file the first of each kind, and then every fourth.
 some_rows() { # the file
-    awk 'BEGIN { RS = ""; ORS = "\n\n"; FS = "\n" } /^row / { split($2, kind, " "); if (seen[kind[1]]++ % 3) next } { print }' "$1"
+    awk 'BEGIN { RS = ""; ORS = "\n\n"; FS = "\n" } /^row / { split($2, kind, " "); if (seen[kind[1]]++ % 4) next } { print }' "$1"
 }
 
 # The rows, file by file, as many at once as there are processors, what takes longest first: all but the one that is wrong on purpose, which `rt ci` sees
@@ -173,8 +173,8 @@ over_the_programs() { # the program, the one of rows, a flag for one that is not
     part_in_python "explained beside tshark" checks/examples/beside-tshark "$1"
     # Of a slow program there are fewer captures of each kind, and fewer streams.
     if [ "$3" = --unproved ]; then
-        part_in_python "captures of other forms" checks/contrib/check "$1" 10
-        part_in_python "the models" models "$1" "$2" "1 150" "1 20"
+        part_in_python "captures of other forms" checks/contrib/check "$1" 8
+        part_in_python "the models" models "$1" "$2" "1 100" "1 15"
     else
         part_in_python "captures of other forms" checks/contrib/check "$1"
         part_in_python "the models" models "$1" "$2" "" ""

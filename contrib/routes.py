@@ -4,7 +4,7 @@ import json
 
 # The columns of a row; in an object a member that isn't known isn't there.
 COLUMNS = ("time", "peer", "peer_as", "to", "action", "prefix", "as_path", "next_hop", "communities", "large_communities")
-ANNOUNCED, WITHDRAWN = "announce", "withdraw"
+ANNOUNCED, WITHDRAWN, END_OF_RIB = "announce", "withdraw", "end_of_rib"
 FROM_MESSAGE = ("time", "peer", "peer_as", "to", "place")
 FROM_ATTRIBUTES = ("as_path", "as4_path", "origin", "med", "local_pref", "communities", "large_communities")
 
@@ -23,6 +23,17 @@ def routes_of(message):
             yield {**who, "action": ANNOUNCED, "prefix": prefix, "next_hop": hop, **attributes}
 
 
+def end_of_rib(message):
+    """The end of a peer's first routes (RFC 4724, section 2), as an object: an UPDATE of nothing, or of an MP_UNREACH_NLRI without routes. Else None."""
+    gone = message.get("mp_unreach", {"afi": 1, "safi": 1, "withdrawn": []})
+    # The header, two lengths, and the attribute with its two identifiers; its length may have two octets.
+    lengths = (26 + 3, 26 + 4) if "mp_unreach" in message else (23,)
+    if message.get("verdict") != "take" or message.get("length") not in lengths or gone["withdrawn"]:
+        return None
+    who = {name: message[name] for name in FROM_MESSAGE if name in message}
+    return {**who, "action": END_OF_RIB, "afi": gone["afi"], "safi": gone["safi"]}
+
+
 def path_in_words(path):
     """A path as routers print it: a set stands in braces."""
     return " ".join(" ".join(map(str, it["as"])) if it["type"] == "sequence" else "{" + ",".join(map(str, it["as"])) + "}" for it in path)
@@ -36,7 +47,7 @@ def row_of(route):
 
 
 class Writer:
-    """Writes the routes of lines of JSON as CSV, below a line of the columns, or as objects of JSON."""
+    """Writes the routes of lines of JSON as CSV, below a line of the columns, or as objects of JSON, which End-of-RIBs have too."""
 
     def __init__(self, output, is_json):
         self.output, self.rows = output, None if is_json else csv.writer(output, lineterminator="\n")
@@ -48,11 +59,13 @@ class Writer:
         if '"kind":"UPDATE"' not in line:
             return
         # A time keeps its six digits.
-        for route in routes_of(json.loads(line, parse_float=Digits)):
-            if self.rows:
-                self.rows.writerow(row_of(route))
-            else:
-                print(json.dumps(route, separators=(",", ":")), file=self.output)
+        message = json.loads(line, parse_float=Digits)
+        if self.rows:
+            self.rows.writerows(map(row_of, routes_of(message)))
+            return
+        end = end_of_rib(message)
+        for it in [end] if end else routes_of(message):
+            print(json.dumps(it, separators=(",", ":")), file=self.output)
 
 
 class Digits(float):
