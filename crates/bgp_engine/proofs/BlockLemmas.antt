@@ -1,5 +1,5 @@
 -- One block of text: as it stands, or as hexadecimal text.
-use Rattle.bgp_engine.proofs.Prelude.{◌≡◌, ℕ, Bool, true, false, List, [], ◌++◌, Option, Some, None, refl, sym, ap, subst, ◌∙◌, arith, option_to_list}
+use Rattle.bgp_engine.proofs.Prelude.{◌≡◌, ℕ, Bool, true, false, List, [], ◌++◌, Option, Some, None, sym, ap, subst, ◌∙◌, option_to_list}
 use Rattle.bgp_engine.proofs.Prelude.{MatchOption, append-nil, HexText, spelled, pending, Continues, Breaks, IsFront, Takes, Reports, stream_of}
 use Rattle.bgp_engine.proofs.Prelude.{MeetsOver}
 

@@ -1,7 +1,7 @@
 -- Steps of an engine that takes the first message of its stream by a rule of its own.
 use Rattle.bgp_engine.proofs.Prelude.{◌≡◌, ℕ, ◌+◌, ◌≤◌, Bool, true, false, Bor, List, [], ◌++◌, length, take, drop, Option, option_map, Some, None, Result}
 use Rattle.bgp_engine.proofs.Prelude.{Ok, Err, refl, sym, ap, subst, ◌∙◌, append_assoc, arith, inl, inr, unwrap_or, take-append-drop, drop-append_seam}
-use Rattle.bgp_engine.proofs.Prelude.{is_some, if◌then◌else◌, OnErr, append-nil, length-append, take_all, AreOctets, has_octet, AreOctets-append}
+use Rattle.bgp_engine.proofs.Prelude.{is_some, OnErr, append-nil, length-append, take_all, AreOctets, has_octet, AreOctets-append}
 use Rattle.bgp_engine.proofs.Prelude.{AreOctets-back, AreOctets-drop, End, HeadFault, Message, octets_of, IsFrame, Waits, wanted, head_of}
 use Rattle.bgp_engine.proofs.Prelude.{head_of-append, length-IsFrame, Stops-wanted, gives_wait, Context, Class, ToolFault, Tally, start_in, without_words}
 use Rattle.bgp_engine.proofs.Prelude.{first_message, first_open, is_part, open_at, open_in, Start, Starts, ReportedAt, ReportedAs, ReportedFrom, ReportedWith}

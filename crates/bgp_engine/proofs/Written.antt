@@ -1,5 +1,5 @@
 -- A text that is written part by part.
-use Rattle.bgp_engine.proofs.Prelude.{◌≡◌, ℕ, List, [], ◌++◌, take, drop, Option, Some, None, Result, Ok, Err, refl, sym, ap, ◌∙◌, append_assoc}
+use Rattle.bgp_engine.proofs.Prelude.{◌≡◌, ℕ, List, [], ◌++◌, take, drop, Option, Some, None, Result, Ok, Err, sym, ap, ◌∙◌, append_assoc}
 use Rattle.bgp_engine.proofs.Prelude.{take-append-drop, Keeps, Appends, WriteAppends, Appends-trans, append-nil}
 use Rattle.std.specs.Result.{result_unwrap_or}
 

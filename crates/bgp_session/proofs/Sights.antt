@@ -1,5 +1,5 @@
 -- What a pull shows is what the octets that it takes show one by one.
-use Rattle.bgp_session.proofs.Prelude.{◌≡◌, ℕ, ◌≤◌, Bool, true, false, List, [], ◌∷◌, ◌++◌, map, take, drop, Option, None, Some, option_map, Result}
+use Rattle.bgp_session.proofs.Prelude.{◌≡◌, ℕ, Bool, true, false, List, [], ◌∷◌, ◌++◌, map, take, drop, Option, None, Some, option_map, Result}
 use Rattle.bgp_session.proofs.Prelude.{Bor, refl, sym, ap, ap₂, subst, ◌∙◌, append_assoc, inl, inr, option_copied, take-append-drop, append-nil, ArrayVec}
 use Rattle.bgp_session.proofs.Prelude.{AreOctets, Context, HeadFault, Message, Waits, IsHeld, Takes, CountsFed, Judges, behind_feed, with_octet, Action}
 use Rattle.bgp_session.proofs.Prelude.{State, Done, settled, by_octet, by_octets, IsPulled, IsReady, Machine, holding, hearer, listens, hears}

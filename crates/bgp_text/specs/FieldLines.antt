@@ -1,5 +1,5 @@
 -- The lines of a message's fields.
-use Rattle.std.specs.Prelude.{ℕ, ◌+◌, ◌==◌, ◌&&◌, ◌||◌, nat_lt, nat_le, Bool, false, true, List, [], ◌∷◌, ◌++◌, Option, None, Some, codes, if◌then◌else◌}
+use Rattle.std.specs.Prelude.{ℕ, ◌+◌, ◌&&◌, ◌||◌, nat_lt, nat_le, Bool, false, List, [], ◌∷◌, ◌++◌, Option, None, Some, codes, if◌then◌else◌}
 use Rattle.bgp_text.specs.Below.{flat_map, decimal, hex_octet, Notification, Note, attribute_name, subcode_name, Cause, Fault, Field, Span, octets_in}
 use Rattle.bgp_text.specs.Details.{code_of, detail_text}
 use Rattle.bgp_text.specs.FieldNames.{field_name}

@@ -1,5 +1,5 @@
 -- What was expected where a message is at fault, and at which of an attribute's fields it is.
-use Rattle.std.specs.Prelude.{ℕ, ◌+◌, ◌*◌, ◌==◌, ◌&&◌, ◌||◌, not, nat_lt, nat_le, Bool, true, false, List, [], ◌∷◌, slice_index, codes, Option, None, Some, if◌then◌else◌}
+use Rattle.std.specs.Prelude.{ℕ, ◌+◌, ◌*◌, ◌==◌, ◌&&◌, ◌||◌, nat_lt, nat_le, Bool, true, false, List, [], ◌∷◌, slice_index, codes, Option, None, Some, if◌then◌else◌}
 use Rattle.bgp_fields.specs.declared.field.Group.{Group}
 use Rattle.bgp_names.specs.Names.{named}
 use Rattle.bgp_text.specs.Below.{Cause, Field, FieldKind, Note, Why, is_extended, octets_in}

@@ -1,4 +1,4 @@
-use Rattle.bgp_clean.proofs.Prelude.{ℕ, ◌+◌, ◌≤◌, length, arith, le-ltb, written_body}
+use Rattle.bgp_clean.proofs.Prelude.{◌+◌, length, arith, le-ltb, written_body}
 use Rattle.bgp_clean.proofs.laws.nothing_is_refused_without_limits.Goals as goal
 
 pub returns : goal.returns
