@@ -25,6 +25,8 @@ pub enum Style {
     Json,
     /// In lines of text, with a line for each of its fields: `explain`.
     Explained,
+    /// As that object of JSON, with its fields: `explain --json`.
+    ExplainedJson,
 }
 
 /// Prints the outcome of each message of a stream in a context, in a style; where `only_faults` is set, of those alone that aren't accepted without
@@ -66,7 +68,11 @@ pub fn print_within<R: Read, W: Write>(
         (Style::Lines, false) => show_within(alloc, turns, ctx, hex, input, output),
         (Style::Json, false) => show_json_within(alloc, turns, ctx, hex, input, output),
         (Style::Explained, false) => {
-            let page = ExplainPage::new(alloc, *ctx, Every);
+            let page = ExplainPage::new(alloc, *ctx, Lines, Every);
+            walk_stream(turns, hex, page, input, output)
+        }
+        (Style::ExplainedJson, false) => {
+            let page = ExplainPage::new(alloc, *ctx, Json, Every);
             walk_stream(turns, hex, page, input, output)
         }
         (Style::Lines, true) => {
@@ -78,7 +84,11 @@ pub fn print_within<R: Read, W: Write>(
             walk_stream(turns, hex, page, input, output)
         }
         (Style::Explained, true) => {
-            let page = ExplainPage::new(alloc, *ctx, Faulty);
+            let page = ExplainPage::new(alloc, *ctx, Lines, Faulty);
+            walk_stream(turns, hex, page, input, output)
+        }
+        (Style::ExplainedJson, true) => {
+            let page = ExplainPage::new(alloc, *ctx, Json, Faulty);
             walk_stream(turns, hex, page, input, output)
         }
     }
@@ -131,7 +141,11 @@ pub fn print_by_opens_within<R: Read, W: Write>(
         (Style::Lines, false) => show_by_opens_within(alloc, turns, theirs, hex, input, output),
         (Style::Json, false) => show_json_by_opens_within(alloc, turns, theirs, hex, input, output),
         (Style::Explained, false) => {
-            let page = ExplainPage::new(alloc, UNKNOWN, Every);
+            let page = ExplainPage::new(alloc, UNKNOWN, Lines, Every);
+            open_stream(alloc, turns, theirs, hex, page, input, output)
+        }
+        (Style::ExplainedJson, false) => {
+            let page = ExplainPage::new(alloc, UNKNOWN, Json, Every);
             open_stream(alloc, turns, theirs, hex, page, input, output)
         }
         (Style::Lines, true) => {
@@ -143,7 +157,11 @@ pub fn print_by_opens_within<R: Read, W: Write>(
             open_stream(alloc, turns, theirs, hex, page, input, output)
         }
         (Style::Explained, true) => {
-            let page = ExplainPage::new(alloc, UNKNOWN, Faulty);
+            let page = ExplainPage::new(alloc, UNKNOWN, Lines, Faulty);
+            open_stream(alloc, turns, theirs, hex, page, input, output)
+        }
+        (Style::ExplainedJson, true) => {
+            let page = ExplainPage::new(alloc, UNKNOWN, Json, Faulty);
             open_stream(alloc, turns, theirs, hex, page, input, output)
         }
     }

@@ -2,7 +2,9 @@
 use Rattle.std.specs.Prelude.{◌≡◌, ◌<◌, ℕ, Bool, false, List, [], ◌∷◌, ◌++◌, length, Option, None, Some, if◌then◌else◌}
 use Rattle.bgp_text.specs.Below.{notes_left, Note, Field}
 use Rattle.bgp_text.specs.declared.field_lines.Noting.{Noting}
+use Rattle.bgp_text.specs.declared.told.Told.{Told}
 use Rattle.bgp_text.specs.FieldLines.{field_line, noted_lines}
+use Rattle.bgp_text.specs.JsonFields.{noted_fields, unplaced_notes}
 use Rattle.bgp_text.specs.Reasons.{is_at, is_in, is_of}
 
 abbrev pub row_of : {A : Type 0} → Option A → List A → List A
@@ -22,6 +24,13 @@ is_next (Some n) f = is_of n f
 -- the lines of the fields that are left
 abbrev pub noting_lines : List ℕ → Noting → List Field → List ℕ
 noting_lines message noting fields = noted_lines message noting.place (row_of noting.next (notes_left noting.later)) fields
+
+-- what is told of them, and the notes that have no field
+abbrev pub noting_fields : List ℕ → Noting → List Field → List Told
+noting_fields message noting fields = noted_fields message noting.place (row_of noting.next (notes_left noting.later)) fields
+
+abbrev pub noting_left : List ℕ → Noting → List Field → List Note
+noting_left message noting fields = unplaced_notes message (row_of noting.next (notes_left noting.later)) fields
 
 -- the line of a field of a message without notes
 abbrev pub plain_line : List ℕ → Field → List ℕ

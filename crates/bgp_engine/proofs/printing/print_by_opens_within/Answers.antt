@@ -11,3 +11,9 @@ returns-in-Explained-true g c = rw c.in-Explained-true.is-0 (rw c.in-Explained-t
 
 pub returns-in-Explained-false : goal.returns-in-Explained-false
 returns-in-Explained-false g c = rw c.in-Explained-false.is-0 (rw c.in-Explained-false.is-1 c.open_stream-in-Explained-false.ensures)
+
+pub returns-in-ExplainedJson-true : goal.returns-in-ExplainedJson-true
+returns-in-ExplainedJson-true g c = rw c.in-ExplainedJson-true.is-0 (rw c.in-ExplainedJson-true.is-1 c.open_stream-in-ExplainedJson-true.ensures)
+
+pub returns-in-ExplainedJson-false : goal.returns-in-ExplainedJson-false
+returns-in-ExplainedJson-false g c = rw c.in-ExplainedJson-false.is-0 (rw c.in-ExplainedJson-false.is-1 c.open_stream-in-ExplainedJson-false.ensures)
