@@ -66,35 +66,35 @@ first_extended (t ∷ s ∷ a ∷ b ∷ c ∷ []) enough = absurd (omega arith)
 first_extended (t ∷ s ∷ a ∷ b ∷ c ∷ d ∷ []) enough = absurd (omega arith)
 first_extended (t ∷ s ∷ a ∷ b ∷ c ∷ d ∷ e ∷ []) enough = absurd (omega arith)
 
-pub first_extended6 : (o : List ℕ) → 20 ≤ length o
+pub first_extended6 : (o : List ℕ) (number : ℕ) → 20 ≤ length o → number ≡ from_be_bytes w16 (slice_index o 18 ∷ slice_index o 19 ∷ [])
     → extended6_row o
     ≡ extended6_text (slice_index o 0) (slice_index o 1)
     (slice_index o 2 ∷ slice_index o 3 ∷ slice_index o 4 ∷ slice_index o 5 ∷ slice_index o 6 ∷ slice_index o 7 ∷ slice_index o 8 ∷ slice_index o 9
     ∷ slice_index o 10 ∷ slice_index o 11 ∷ slice_index o 12 ∷ slice_index o 13 ∷ slice_index o 14 ∷ slice_index o 15 ∷ slice_index o 16 ∷ slice_index o 17 ∷ [])
-    (from_be_bytes w16 (slice_index o 18 ∷ slice_index o 19 ∷ []))
+    number
     ++ (further (take (length o - 20) (drop 20 o)) ++ extended6_row (take (length o - 20) (drop 20 o)))
-first_extended6 (t ∷ s ∷ a ∷ b ∷ c ∷ d ∷ e ∷ f ∷ g ∷ h ∷ i ∷ j ∷ k ∷ l ∷ m ∷ n ∷ o ∷ p ∷ y ∷ z ∷ rest) enough =
-    rw (take_all (length (t ∷ s ∷ a ∷ b ∷ c ∷ d ∷ e ∷ f ∷ g ∷ h ∷ i ∷ j ∷ k ∷ l ∷ m ∷ n ∷ o ∷ p ∷ y ∷ z ∷ rest) - 20) rest (omega arith)) refl
-first_extended6 [] enough = absurd (omega arith)
-first_extended6 (t ∷ []) enough = absurd (omega arith)
-first_extended6 (t ∷ s ∷ []) enough = absurd (omega arith)
-first_extended6 (t ∷ s ∷ a ∷ []) enough = absurd (omega arith)
-first_extended6 (t ∷ s ∷ a ∷ b ∷ []) enough = absurd (omega arith)
-first_extended6 (t ∷ s ∷ a ∷ b ∷ c ∷ []) enough = absurd (omega arith)
-first_extended6 (t ∷ s ∷ a ∷ b ∷ c ∷ d ∷ []) enough = absurd (omega arith)
-first_extended6 (t ∷ s ∷ a ∷ b ∷ c ∷ d ∷ e ∷ []) enough = absurd (omega arith)
-first_extended6 (t ∷ s ∷ a ∷ b ∷ c ∷ d ∷ e ∷ f ∷ []) enough = absurd (omega arith)
-first_extended6 (t ∷ s ∷ a ∷ b ∷ c ∷ d ∷ e ∷ f ∷ g ∷ []) enough = absurd (omega arith)
-first_extended6 (t ∷ s ∷ a ∷ b ∷ c ∷ d ∷ e ∷ f ∷ g ∷ h ∷ []) enough = absurd (omega arith)
-first_extended6 (t ∷ s ∷ a ∷ b ∷ c ∷ d ∷ e ∷ f ∷ g ∷ h ∷ i ∷ []) enough = absurd (omega arith)
-first_extended6 (t ∷ s ∷ a ∷ b ∷ c ∷ d ∷ e ∷ f ∷ g ∷ h ∷ i ∷ j ∷ []) enough = absurd (omega arith)
-first_extended6 (t ∷ s ∷ a ∷ b ∷ c ∷ d ∷ e ∷ f ∷ g ∷ h ∷ i ∷ j ∷ k ∷ []) enough = absurd (omega arith)
-first_extended6 (t ∷ s ∷ a ∷ b ∷ c ∷ d ∷ e ∷ f ∷ g ∷ h ∷ i ∷ j ∷ k ∷ l ∷ []) enough = absurd (omega arith)
-first_extended6 (t ∷ s ∷ a ∷ b ∷ c ∷ d ∷ e ∷ f ∷ g ∷ h ∷ i ∷ j ∷ k ∷ l ∷ m ∷ []) enough = absurd (omega arith)
-first_extended6 (t ∷ s ∷ a ∷ b ∷ c ∷ d ∷ e ∷ f ∷ g ∷ h ∷ i ∷ j ∷ k ∷ l ∷ m ∷ n ∷ []) enough = absurd (omega arith)
-first_extended6 (t ∷ s ∷ a ∷ b ∷ c ∷ d ∷ e ∷ f ∷ g ∷ h ∷ i ∷ j ∷ k ∷ l ∷ m ∷ n ∷ o ∷ []) enough = absurd (omega arith)
-first_extended6 (t ∷ s ∷ a ∷ b ∷ c ∷ d ∷ e ∷ f ∷ g ∷ h ∷ i ∷ j ∷ k ∷ l ∷ m ∷ n ∷ o ∷ p ∷ []) enough = absurd (omega arith)
-first_extended6 (t ∷ s ∷ a ∷ b ∷ c ∷ d ∷ e ∷ f ∷ g ∷ h ∷ i ∷ j ∷ k ∷ l ∷ m ∷ n ∷ o ∷ p ∷ y ∷ []) enough = absurd (omega arith)
+first_extended6 (t ∷ s ∷ a ∷ b ∷ c ∷ d ∷ e ∷ f ∷ g ∷ h ∷ i ∷ j ∷ k ∷ l ∷ m ∷ n ∷ o ∷ p ∷ y ∷ z ∷ rest) number enough same =
+    rw (same, take_all (length (t ∷ s ∷ a ∷ b ∷ c ∷ d ∷ e ∷ f ∷ g ∷ h ∷ i ∷ j ∷ k ∷ l ∷ m ∷ n ∷ o ∷ p ∷ y ∷ z ∷ rest) - 20) rest (omega arith)) refl
+first_extended6 [] number enough same = absurd (omega arith)
+first_extended6 (t ∷ []) number enough same = absurd (omega arith)
+first_extended6 (t ∷ s ∷ []) number enough same = absurd (omega arith)
+first_extended6 (t ∷ s ∷ a ∷ []) number enough same = absurd (omega arith)
+first_extended6 (t ∷ s ∷ a ∷ b ∷ []) number enough same = absurd (omega arith)
+first_extended6 (t ∷ s ∷ a ∷ b ∷ c ∷ []) number enough same = absurd (omega arith)
+first_extended6 (t ∷ s ∷ a ∷ b ∷ c ∷ d ∷ []) number enough same = absurd (omega arith)
+first_extended6 (t ∷ s ∷ a ∷ b ∷ c ∷ d ∷ e ∷ []) number enough same = absurd (omega arith)
+first_extended6 (t ∷ s ∷ a ∷ b ∷ c ∷ d ∷ e ∷ f ∷ []) number enough same = absurd (omega arith)
+first_extended6 (t ∷ s ∷ a ∷ b ∷ c ∷ d ∷ e ∷ f ∷ g ∷ []) number enough same = absurd (omega arith)
+first_extended6 (t ∷ s ∷ a ∷ b ∷ c ∷ d ∷ e ∷ f ∷ g ∷ h ∷ []) number enough same = absurd (omega arith)
+first_extended6 (t ∷ s ∷ a ∷ b ∷ c ∷ d ∷ e ∷ f ∷ g ∷ h ∷ i ∷ []) number enough same = absurd (omega arith)
+first_extended6 (t ∷ s ∷ a ∷ b ∷ c ∷ d ∷ e ∷ f ∷ g ∷ h ∷ i ∷ j ∷ []) number enough same = absurd (omega arith)
+first_extended6 (t ∷ s ∷ a ∷ b ∷ c ∷ d ∷ e ∷ f ∷ g ∷ h ∷ i ∷ j ∷ k ∷ []) number enough same = absurd (omega arith)
+first_extended6 (t ∷ s ∷ a ∷ b ∷ c ∷ d ∷ e ∷ f ∷ g ∷ h ∷ i ∷ j ∷ k ∷ l ∷ []) number enough same = absurd (omega arith)
+first_extended6 (t ∷ s ∷ a ∷ b ∷ c ∷ d ∷ e ∷ f ∷ g ∷ h ∷ i ∷ j ∷ k ∷ l ∷ m ∷ []) number enough same = absurd (omega arith)
+first_extended6 (t ∷ s ∷ a ∷ b ∷ c ∷ d ∷ e ∷ f ∷ g ∷ h ∷ i ∷ j ∷ k ∷ l ∷ m ∷ n ∷ []) number enough same = absurd (omega arith)
+first_extended6 (t ∷ s ∷ a ∷ b ∷ c ∷ d ∷ e ∷ f ∷ g ∷ h ∷ i ∷ j ∷ k ∷ l ∷ m ∷ n ∷ o ∷ []) number enough same = absurd (omega arith)
+first_extended6 (t ∷ s ∷ a ∷ b ∷ c ∷ d ∷ e ∷ f ∷ g ∷ h ∷ i ∷ j ∷ k ∷ l ∷ m ∷ n ∷ o ∷ p ∷ []) number enough same = absurd (omega arith)
+first_extended6 (t ∷ s ∷ a ∷ b ∷ c ∷ d ∷ e ∷ f ∷ g ∷ h ∷ i ∷ j ∷ k ∷ l ∷ m ∷ n ∷ o ∷ p ∷ y ∷ []) number enough same = absurd (omega arith)
 
 -- what a piece leaves is shorter than what it was taken of
 pub fewer : (n : ℕ) (o : List ℕ) → 0 < n → n ≤ length o → length (take (length o - n) (drop n o)) < length o

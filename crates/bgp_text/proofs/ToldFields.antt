@@ -26,6 +26,10 @@ unfolding unplaced_notes
 none_unplaced message [] = refl
 none_unplaced message (f ∷ fields) = refl
 
+pub nothing_left : (message : List ℕ) (noting : Noting) (fields : List Field) → noting.next ≡ None → noting_left message noting fields ≡ []
+nothing_left message noting fields none =
+    ap (λ (next : Option Note). unplaced_notes message (row_of next (notes_left noting.later)) fields) none ∙ none_unplaced message fields
+
 -- ---- a field that no note is told at
 
 none_told : (message : List ℕ) (place : ℕ) (first : Option Note) (later : List Note) (f : Field) (fields : List Field)
@@ -100,11 +104,11 @@ pub tell_note : (message : List ℕ) (noting : Noting) (n : Note) (next : Option
 tell_note message noting n next rest f some yields fields =
     note_told message noting.place noting.next (notes_left noting.later) n f fields some
     ∙ (ap (λ (of : Bool). record { field = f; marked = of || is_in noting.place f.group; wrong = Wrong.Noted n }
-        ∷ noted_fields message (note_place n) (notes_left noting.later) fields)
-        (sym (told_is_next message noting.next n f some))
+    ∷ noted_fields message (note_place n) (notes_left noting.later) fields)
+    (sym (told_is_next message noting.next n f some))
     ∙ ap (λ (notes : List Note). record { field = f; marked = is_next noting.next f || is_in noting.place f.group; wrong = Wrong.Noted n }
-        ∷ noted_fields message (note_place n) notes fields)
-        (sym (next_row noting.later next rest yields)))
+    ∷ noted_fields message (note_place n) notes fields)
+    (sym (next_row noting.later next rest yields)))
 
 pub leave_note : (message : List ℕ) (noting : Noting) (n : Note) (next : Option Note) (rest : NoteIter) (f : Field)
     → note_at noting.next message f ≡ Some n → YieldsFirst notes_left noting.later next rest → (fields : List Field)

@@ -11,10 +11,6 @@ use Rattle.bgp_text.specs.Reasons.{is_at, is_in, is_of, note_place}
 
 -- ---- what is told of each field: its mark, and what is wrong there
 
--- a field of a message without notes
-abbrev pub plain_field : Field → Told
-plain_field f = record { field = f; marked = is_in 0 f.group; wrong = Wrong.Nothing }
-
 -- one of an UPDATE, where none is told: that of the next note's attribute, and that of the attribute at `place`, are marked
 abbrev pub passed_field : ℕ → Note → Field → Told
 passed_field place n f = record { field = f; marked = is_of n f || is_in place f.group; wrong = Wrong.Nothing }
@@ -74,11 +70,13 @@ wrong_member Wrong.Nothing = []
 wrong_member (Wrong.Noted n) = member (codes "fault") quoted (note_reason n)
 wrong_member (Wrong.Answered code subcode cause) = member (codes "fault") quoted (reset_reason code subcode cause)
 
+-- a field as an object
 unfoldable pub told_json : List ℕ → Told → List ℕ
 told_json message t =
     codes "{" ++ (field_members message t.field ++ (where_said (codes "value") (without_space (field_said message t.field))
     ++ (marked_member t.marked ++ (wrong_member t.wrong ++ codes "}"))))
 
+-- the list of them
 abbrev pub fields_member : List ℕ → List Told → List ℕ
 fields_member message fields = member (codes "fields") (listed (told_json message)) fields
 

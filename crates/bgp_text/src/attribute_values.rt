@@ -202,10 +202,35 @@ fn put_first_extended6<'a>(
 ) -> Result<Option<&'a [u8]>, AllocError>
     ensures { IfOk result (λ rest. PrintsFirst extended6_row (string_bytes text.old) (string_bytes text.new) octets.now (option_map (λ r. r.now) rest)) }
 {
-    let [kind, subtype, a, b, c, d, e, f, g, h, i, j, k, l, m, n, o, p, y, z, rest @ ..] = octets else {
+    let [
+        kind,
+        subtype,
+        a,
+        b,
+        c,
+        d,
+        e,
+        f,
+        g,
+        h,
+        i,
+        j,
+        k,
+        l,
+        m,
+        n,
+        o,
+        p,
+        y,
+        z,
+        rest @ ..,
+    ] = octets
+    else {
         return Ok(None);
     };
-    let owner = [*a, *b, *c, *d, *e, *f, *g, *h, *i, *j, *k, *l, *m, *n, *o, *p];
+    let owner = [
+        *a, *b, *c, *d, *e, *f, *g, *h, *i, *j, *k, *l, *m, *n, *o, *p,
+    ];
     put_extended6(text, *kind, *subtype, owner, u16::from_be_bytes([*y, *z]))?;
     put_further(text, rest)?;
     Ok(Some(rest))

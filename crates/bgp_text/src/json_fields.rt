@@ -4,8 +4,8 @@ ghost use Rattle.std.specs.Prelude.{◌≡◌, ◌≤◌, ◌++◌, codes, lengt
 ghost use Rattle.bgp_text.specs.Below.{flat_map, string_bytes, notes_left, fields_left, outcome_value};
 ghost use Rattle.bgp_text.specs.FieldLines.{field_said, reset_reason};
 ghost use Rattle.bgp_text.specs.Json.{behind_comma, quoted, where_said};
-ghost use Rattle.bgp_text.specs.JsonFields.{without_space, field_members, marked_member, wrong_member, told_json, plain_field, faulty_field, fields_member, unplaced_json, faults_member, noted_members, explained_members, span_of, explained_json};
-ghost use Rattle.bgp_text.specs.steps.Rows.{noting_left, row_of};
+ghost use Rattle.bgp_text.specs.JsonFields.{without_space, field_members, marked_member, wrong_member, told_json, faulty_field, fields_member, unplaced_json, faults_member, noted_members, explained_members, span_of, explained_json};
+ghost use Rattle.bgp_text.specs.steps.Rows.{noting_fields, noting_left, plain_field, row_of};
 
 use crate::field_lines::{Noting, put_note_reason, put_reset_reason, put_said};
 use crate::field_names::field_name;
@@ -16,9 +16,7 @@ use crate::json::{
 };
 use crate::json_list::{Element, put_list_member};
 use crate::json_outcome::put_viewed_members;
-use crate::told::{
-    FaultyFields, NotedFields, PlainFields, Shown, Wrong, behind_fields,
-};
+use crate::told::{FaultyFields, NotedFields, PlainFields, Shown, Wrong, behind_fields};
 use bgp_fields::{Cause, Fault, Field, FieldIter, Span};
 use bgp_frame::NotificationView;
 use bgp_msg::OutcomeView;
@@ -30,7 +28,7 @@ use std::alloc::{AllocError, Global};
 fn without_space(said: &str) -> &str
     ensures { result.now ≡ without_space said.now }
 {
-    match said.strip_prefix(' ') {
+    match said.strip_prefix(" ") {
         Some(value) => value,
         None => said,
     }
@@ -153,7 +151,6 @@ fn put_faults(text: &mut String, first: Option<Note>, later: NoteIter<'_>) -> Re
 }
 
 /// Adds the notes that are told at none of the fields.
-#[tactic(auto, using(crate::proofs::ToldFields::none_unplaced))]
 fn put_unplaced(
     text: &mut String,
     message: &[u8],
@@ -162,15 +159,36 @@ fn put_unplaced(
 ) -> Result<(), AllocError>
     ensures { OnOk result (string_bytes text.new ≡ string_bytes text.old ++ faults_member (noting_left message.now noting.entry (fields_left fields.entry))) }
 {
-    if noting.next.is_none() {
-        return Ok(());
+    match noting.next {
+        None => Ok(()),
+        Some(_) => {
+            let rest = behind_fields(message, noting, fields);
+            put_faults(text, rest.next, rest.later)
+        }
     }
-    let rest = behind_fields(message, noting, fields);
-    put_faults(text, rest.next, rest.later)
+}
+
+/// Adds the fields that are left of an UPDATE.
+#[tactic(auto, using(crate::proofs::JsonLists::listed_map))]
+fn put_noting(
+    alloc: Global,
+    text: &mut String,
+    message: &[u8],
+    noting: Noting<'_>,
+    fields: FieldIter<'_>,
+) -> Result<(), AllocError>
+    ensures { OnOk result (string_bytes text.new ≡ string_bytes text.old ++ fields_member message.now (noting_fields message.now noting.entry (fields_left fields.entry))) }
+{
+    let told = NotedFields {
+        alloc,
+        message,
+        noting,
+        fields,
+    };
+    put_list_member(text, "fields", told)
 }
 
 /// Adds the fields of an UPDATE, and the notes that have none.
-#[tactic(auto, using(crate::proofs::JsonLists::listed_map))]
 fn put_noted(
     alloc: Global,
     text: &mut String,
@@ -181,13 +199,7 @@ fn put_noted(
     ensures { OnOk result (string_bytes text.new ≡ string_bytes text.old ++ noted_members message.now (notes_left notes.entry) (fields_left fields.entry)) }
 {
     let noting = Noting::new(notes);
-    let told = NotedFields {
-        alloc,
-        message,
-        noting,
-        fields,
-    };
-    put_list_member(text, "fields", told)?;
+    put_noting(alloc, text, message, noting, fields)?;
     put_unplaced(text, message, noting, fields)
 }
 

@@ -2,8 +2,8 @@
 
 ghost use Rattle.std.specs.Prelude.{◌≡◌, ◌∷◌, List, Some};
 ghost use Rattle.bgp_text.specs.Below.{Field as FieldValue, notes_left, fields_left};
-ghost use Rattle.bgp_text.specs.JsonFields.{faulty_field, plain_field};
-ghost use Rattle.bgp_text.specs.steps.Rows.{noting_fields, noting_left, row_of};
+ghost use Rattle.bgp_text.specs.JsonFields.{faulty_field};
+ghost use Rattle.bgp_text.specs.steps.Rows.{noting_fields, noting_left, plain_field, row_of};
 
 use crate::field_lines::{Noting, holds, is_next, note_at, overlaps};
 use crate::reasons::{is_in, note_place};
@@ -68,6 +68,7 @@ impl<'a> Noting<'a> {
 }
 
 /// The notes that are told at none of the fields, the next one taken out.
+#[tactic(auto, using(crate::proofs::ToldFields::all_left))]
 pub(crate) fn behind_fields<'a>(
     message: &[u8],
     noting: Noting<'a>,
@@ -101,6 +102,7 @@ impl<'a> Source for NotedFields<'a> {
 
     ghost left = { λ s. map (λ t. record { alloc = s.alloc; message = s.message; told = t }) (noting_fields s.message.now s.noting (fields_left s.fields)) };
 
+    #[tactic(auto, using(crate::proofs::ToldFields::no_fields))]
     fn step(&mut self) -> Option<Shown<'a>> {
         let field = self.fields.next()?;
         Some(Shown {
@@ -133,7 +135,7 @@ pub(crate) struct PlainFields<'a> {
 impl<'a> Source for PlainFields<'a> {
     ghost use Rattle.std.specs.Prelude.{map};
     ghost use Rattle.bgp_text.specs.Below.{fields_left};
-    ghost use Rattle.bgp_text.specs.JsonFields.{plain_field};
+    ghost use Rattle.bgp_text.specs.steps.Rows.{plain_field};
 
     type Item = Shown<'a>;
 

@@ -1,5 +1,5 @@
 -- Lists of types.
-use Rattle.bgp_words.proofs.Prelude.{◌≡◌, ◌≢◌, ℕ, suc, ◌<◌, ◌^◌, Bool, true, false, not, ◌&&◌, ◌||◌, ◌==◌, nat_le, nat_lt, List, [], ◌∷◌, length, get_or}
+use Rattle.bgp_words.proofs.Prelude.{◌≡◌, ◌≢◌, ℕ, ◌<◌, ◌^◌, Bool, true, false, not, ◌&&◌, ◌||◌, ◌==◌, nat_le, nat_lt, List, [], ◌∷◌, length, get_or}
 use Rattle.bgp_words.proofs.Prelude.{Some, None, Result, Ok, Err, refl, sym, ap, ◌∙◌, arith, and_parts, leb-true, ltb-true, le-leb, all_ascii_digits}
 use Rattle.bgp_words.proofs.Prelude.{ParsesUnsigned, digits_value, also, when, has_entry, all_but, octet_of}
 use Rattle.std.proofs.lemmas.Bool.{lt-ltb}
