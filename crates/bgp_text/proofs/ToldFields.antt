@@ -1,6 +1,7 @@
 -- What is told of fields, one after another.
 use Rattle.std.specs.Prelude.{◌||◌}
 use Rattle.std.specs.Iterator.{YieldsFirst}
+use Rattle.std.proofs.lemmas.List.{append-nil}
 use Rattle.bgp_text.proofs.Prelude.{◌≡◌, ℕ, Bool, true, false, List, [], ◌∷◌, ◌++◌, Option, None, Some, map, if◌then◌else◌, refl, ap, sym, ◌∙◌}
 use Rattle.bgp_text.proofs.Prelude.{Note, notes_left, is_at, is_in, is_of, is_next, note_place, row_of, note_at}
 use Rattle.bgp_text.proofs.Prelude.{noted_field, passed_field, plain_field, noted_fields, unplaced_notes, noting_fields, noting_left}
@@ -10,6 +11,7 @@ use Rattle.bgp_text.specs.declared.told.Told.{Told}
 use Rattle.bgp_text.specs.declared.told.Wrong.{Wrong}
 use Rattle.bgp_fields.specs.declared.field.Field.{Field}
 use Rattle.bgp_text.proofs.FieldLines.{next_row, told_is_next}
+use Rattle.bgp_text.specs.JsonFields.{fields_member, noted_members}
 
 -- where no field is left
 pub no_fields : (message : List ℕ) (place : ℕ) (notes : List Note) → noted_fields message place notes [] ≡ []
@@ -122,3 +124,7 @@ pub without_notes : (message : List ℕ) (fields : List Field) → noted_fields 
 without_notes message [] = no_fields message 0 []
 without_notes message (f ∷ fields) =
     none_told message 0 None [] f fields refl ∙ ap (λ (told : List Told). plain_field f ∷ told) (without_notes message fields)
+
+pub plain_members : (message : List ℕ) (fields : List Field) → noted_members message [] fields ≡ fields_member message (map plain_field fields)
+plain_members message fields =
+    rw (without_notes message fields, none_unplaced message fields) (append-nil (fields_member message (map plain_field fields)))

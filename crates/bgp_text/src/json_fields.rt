@@ -245,7 +245,7 @@ fn put_faulty(
 }
 
 /// Adds the fields of a message.
-#[tactic(auto, unfolding(crate::specs::JsonFields::explained_members), using(crate::proofs::ToldFields::without_notes))]
+#[tactic(auto, unfolding(crate::specs::JsonFields::explained_members), using(crate::proofs::ToldFields::plain_members))]
 fn put_fields(
     alloc: Global,
     text: &mut String,
