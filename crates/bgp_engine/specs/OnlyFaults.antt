@@ -13,8 +13,8 @@ is_fault (Outcome.Reset n) = true
 
 -- which outcomes are printed: all of them, or these
 abbrev pub chosen : Bool → Outcome → Bool
-chosen false o = true
-chosen true o = is_fault o
+chosen false = λ _. true
+chosen true = is_fault
 
 -- the text of an outcome, where it is one of these
 abbrev pub where_fault : (ℕ → ℕ → Option Span → Outcome → List ℕ) → ℕ → ℕ → Option Span → Outcome → List ℕ
