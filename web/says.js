@@ -94,12 +94,20 @@ function capabilityOf(code, octets) {
     return code === 73 ? namesOf(octets) : "";
 }
 
+const subtypeOf = (subtype) => ({ 2: "route target", 3: "route origin" }[subtype] ?? `subtype ${subtype}`);
+
 // An extended community (RFC 4360, 5668, 9012).
 function extendedOf(octets) {
     const [type, subtype] = octets, split = type % 64 === 0 ? 4 : 6, owner = octets.subarray(2, split);
-    const name = { 2: "route target", 3: "route origin" }[subtype] ?? `subtype ${subtype}`;
-    if (type % 64 < 3) return ` ${name} ${type % 64 === 1 ? addressOf(owner) : numberOf(owner)}:${numberOf(octets.subarray(split))}`;
+    if (type % 64 < 3) return ` ${subtypeOf(subtype)} ${type % 64 === 1 ? addressOf(owner) : numberOf(owner)}:${numberOf(octets.subarray(split))}`;
     return type === 3 && subtype === 11 ? ` color ${numberOf(octets.subarray(4))}` : ` type ${type} subtype ${subtype}`;
+}
+
+// One of an IPv6 address (RFC 5701).
+function extended6Of(octets) {
+    const [type, subtype] = octets;
+    if (type % 64 === 0) return ` ${subtypeOf(subtype)} [${addressOf(octets.subarray(2, 18))}]:${numberOf(octets.subarray(18))}`;
+    return ` type ${type} subtype ${subtype}`;
 }
 
 // What an attribute of a type says that isn't recognised.
@@ -107,6 +115,7 @@ function unrecognisedOf(type, octets) {
     if (type === 9 && (octets.length === 4 || octets.length === 16)) return addressOf(octets);
     if (type === 10) return piecesOf(octets, 4).map(addressOf).join(" ");
     if (type === 16) return rowOf(octets, 8, extendedOf);
+    if (type === 25) return rowOf(octets, 20, extended6Of);
     if (type === 35 && octets.length === 4) return `AS ${numberOf(octets)}`;
     if (type === 26 && octets.length === 11 && numberOf(octets.subarray(0, 3)) === 65547)
         return `metric ${octets.subarray(3).reduce((sum, it) => sum * 256n + BigInt(it), 0n)}`;

@@ -27,6 +27,7 @@ complete -c bgp -n '__fish_seen_subcommand_from explain' -l ip6 -d 'IPv6 routes 
 complete -c bgp -n '__fish_seen_subcommand_from explain' -l internal -d 'Both speakers are of one AS'
 complete -c bgp -n '__fish_seen_subcommand_from explain' -l opens -r -F -d 'Agree by both OPENs: FILE has the other direction'\''s octets'
 complete -c bgp -n '__fish_seen_subcommand_from explain' -l only-faults -d 'Print messages with a fault or a note, and NOTIFICATIONs'
+complete -c bgp -n '__fish_seen_subcommand_from explain' -l json -d 'Print each message as an object of JSON'
 complete -c bgp -n '__fish_seen_subcommand_from explain' -s h -l help -d 'Print help'
 complete -c bgp -n '__fish_seen_subcommand_from check' -l hex -d 'Read hexadecimal text instead of octets'
 complete -c bgp -n '__fish_seen_subcommand_from check' -l as4 -d 'Both speakers use AS numbers of four octets'

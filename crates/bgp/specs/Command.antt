@@ -53,6 +53,10 @@ RunsBy reports hex io outcome = RanBy reports hex io outcome ⊎ HasNoFile io ou
 abbrev pub style_of : Bool → Style
 style_of json = if json then style.Json else style.Lines
 
+-- the same with fields
+abbrev pub fields_style_of : Bool → Style
+fields_style_of json = if json then style.ExplainedJson else style.Explained
+
 -- without unrecognised attributes of the types in a set
 abbrev pub cleaned_by : OctetSet → List ℕ → Reports
 cleaned_by drops theirs = CleanedBy theirs (has_octet drops) no_limits
@@ -65,7 +69,7 @@ Prints Opens style only_faults hex io outcome = RunsBy (PrintedBy style only_fau
 -- the engine of a request ran, with this outcome: which one, and whether it read hexadecimal text
 abbrev pub Runs : Request → Io → Result Tally ToolFault → Type 0
 Runs (Show session hex json only_faults) io outcome = Prints session (style_of json) only_faults hex io outcome
-Runs (Explain session hex only_faults) io outcome = Prints session style.Explained only_faults hex io outcome
+Runs (Explain session hex json only_faults) io outcome = Prints session (fields_style_of json) only_faults hex io outcome
 Runs (Check (Flags ctx) hex) io outcome = engine.Answers (Checked ctx) hex io outcome
 Runs (Check Opens hex) io outcome = RunsBy CheckedBy hex io outcome
 Runs (Narrow (Flags ctx)) io outcome = engine.Answers (Narrowed ctx) false io outcome

@@ -2,7 +2,7 @@
 
 ghost use Rattle.std.specs.Prelude.{◌≡◌, false, map};
 ghost use Rattle.clap.specs.Words.{kind_of};
-ghost use Rattle.bgp.specs.Command.{Answers, HasRun, IsExplained, IsQuiet, IsWide, Runs, RunsBy, Prints, cleaned_by, style_of};
+ghost use Rattle.bgp.specs.Command.{Answers, HasRun, IsExplained, IsQuiet, IsWide, Runs, RunsBy, Prints, cleaned_by, fields_style_of, style_of};
 ghost use Rattle.bgp_engine.specs.Prelude.{PrintedBy, without_words, CheckedBy, NarrowedBy, io};
 
 use crate::hints::{Recorded, hint};
@@ -59,6 +59,17 @@ fn style_of(json: bool) -> Style
     ensures { result ≡ style_of json }
 {
     if json { Style::Json } else { Style::Lines }
+}
+
+// The style in which messages are shown with their fields.
+fn fields_style_of(json: bool) -> Style
+    ensures { result ≡ fields_style_of json }
+{
+    if json {
+        Style::ExplainedJson
+    } else {
+        Style::Explained
+    }
 }
 
 // Prints by the OPENs of both directions, of which a file has the other one.
@@ -182,13 +193,14 @@ fn run<H: Files + Net, R: Read, W: Write>(
         Request::Explain {
             session,
             hex,
+            json,
             only_faults,
         } => print_messages(
             rt,
             alloc,
             asked.file,
             session,
-            Style::Explained,
+            fields_style_of(json),
             only_faults,
             hex,
             input,

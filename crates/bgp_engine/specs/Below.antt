@@ -24,4 +24,5 @@ pub use Rattle.bgp_fields.specs.declared.field.Span.{Span}
 pub use Rattle.bgp_text.specs.End.{end_line}
 pub use Rattle.bgp_text.specs.Explained.{explained_lines}
 pub use Rattle.bgp_text.specs.JsonEnd.{end_json}
+pub use Rattle.bgp_text.specs.JsonFields.{explained_json}
 pub use Rattle.bgp_text.specs.JsonOutcome.{outcome_json}

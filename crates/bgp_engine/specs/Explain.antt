@@ -1,28 +1,40 @@
--- What `explain` prints.
-use Rattle.std.specs.Prelude.{ℕ, Bool, List, [], Ok, if◌then◌else◌}
-use Rattle.bgp_engine.specs.Below.{Context, Outcome, end_line, explained_lines}
+-- What `explain` prints, and `explain --json`.
+use Rattle.std.specs.Prelude.{ℕ, Bool, List, [], Option, Ok, if◌then◌else◌}
+use Rattle.bgp_engine.specs.Below.{Context, End, Fault, Outcome, end_json, end_line, explained_json, explained_lines}
 use Rattle.bgp_engine.specs.Heard.{Heard, fault_in, heard_in}
 use Rattle.bgp_engine.specs.Rules.{Rules, IsReport}
 use Rattle.bgp_engine.specs.Run.{Reports}
 use Rattle.bgp_engine.specs.Show.{class_of}
 use Rattle.bgp_engine.specs.Tally.{no_tally}
 
--- the lines of what is printed, of so many octets: what `show` prints of it, and its fields, where those at fault are marked that it is answered by a
--- reset for
-abbrev pub heard_lines : (Outcome → Bool) → Context → ℕ → ℕ → List ℕ → Heard → List ℕ
-heard_lines printed ctx place len octets h =
-    if printed h.outcome then explained_lines ctx place len octets (fault_in ctx octets h.front) h.outcome else []
+-- how a message in a context is printed: by its place, how many octets it has, these, what is at fault, and its outcome; and how the end is
+pub record Form : Type 0 where
+  pub message : Context → ℕ → ℕ → List ℕ → Option Fault → Outcome → List ℕ
+  pub end : End → List ℕ
 
--- what `show` prints of each message that is printed, and its fields; and the end
-abbrev pub explained_rules : (Outcome → Bool) → Context → Rules Heard
-explained_rules printed ctx = record {
+-- in lines of text: what `show` prints, and a line for each field
+abbrev pub in_lines : Form
+in_lines = record { message = explained_lines; end = end_line }
+
+-- an object of JSON on a line: what `show --json` prints, with the fields
+abbrev pub in_json : Form
+in_json = record { message = explained_json; end = end_json }
+
+-- the text of what is printed, of so many octets, where those at fault are marked that it is answered by a reset for
+abbrev pub heard_text : Form → (Outcome → Bool) → Context → ℕ → ℕ → List ℕ → Heard → List ℕ
+heard_text form printed ctx place len octets h =
+    if printed h.outcome then form.message ctx place len octets (fault_in ctx octets h.front) h.outcome else []
+
+-- that of each message that is printed; and the end
+abbrev pub explained_rules : Form → (Outcome → Bool) → Context → Rules Heard
+explained_rules form printed ctx = record {
   judge = heard_in ctx;
-  line = heard_lines printed ctx;
+  line = heard_text form printed ctx;
   class = λ h. class_of h.outcome;
-  last = λ tally. end_line tally.end;
+  last = λ tally. form.end tally.end;
   rest = λ _. [];
   answer = λ tally _. Ok tally;
 }
 
-abbrev pub Explained : (Outcome → Bool) → Context → Reports
-Explained printed ctx = IsReport (explained_rules printed ctx) 0 no_tally
+abbrev pub Explained : Form → (Outcome → Bool) → Context → Reports
+Explained form printed ctx = IsReport (explained_rules form printed ctx) 0 no_tally

@@ -11,6 +11,11 @@ is_fault (Outcome.Took m (note ∷ notes)) = true
 is_fault (Outcome.Withdraw routes notes) = true
 is_fault (Outcome.Reset n) = true
 
+-- which outcomes are printed: all of them, or these
+abbrev pub chosen : Bool → Outcome → Bool
+chosen false = λ _. true
+chosen true = is_fault
+
 -- the text of an outcome, where it is one of these
 abbrev pub where_fault : (ℕ → ℕ → Option Span → Outcome → List ℕ) → ℕ → ℕ → Option Span → Outcome → List ℕ
 where_fault shown place len span o = if is_fault o then shown place len span o else []

@@ -1,13 +1,14 @@
-//! The page of `explain`.
+//! The page of `explain`, in each form.
 
 ghost use Rattle.std.specs.Prelude.{◌≡◌, ◌+◌, ◌≤◌, ◌++◌, [], Ok, Err, length, IfOk, OnOk, if◌then◌else◌};
 ghost use Rattle.bgp_engine.specs.Below.{string_bytes, octets_of, IsLength, message_in};
-ghost use Rattle.bgp_engine.specs.Below.{of_fault, out_of, outcome_value, explained_lines};
+ghost use Rattle.bgp_engine.specs.Below.{of_fault, out_of, outcome_value};
 ghost use Rattle.bgp_engine.specs.steps.PageSteps.{WritesHeard};
-ghost use Rattle.bgp_engine.specs.Explain.{heard_lines};
+ghost use Rattle.bgp_engine.specs.Explain.{heard_text};
 
 use crate::class::{Class, class_of};
 use crate::fault::ToolFault;
+use crate::field_form::FieldForm;
 use crate::heard::fault_of;
 use crate::only_faults::Choice;
 use crate::page::Page;
@@ -16,30 +17,31 @@ use bgp_fields::{Fault, header_fault};
 use bgp_frame::{Frame, HeadFault, head};
 use bgp_msg::{OutcomeView, view_frame};
 use bgp_open::Context;
-use bgp_text::{put_end, put_explained};
 use bgp_update::UpdateView;
 use std::alloc::{AllocError, Global};
 
 /// What each message comes to, and its fields.
 #[derive(Drop)]
-pub(crate) struct ExplainPage<C> {
+pub(crate) struct ExplainPage<F, C> {
     alloc: Global,
     ctx: Context,
+    form: F,
     text: String,
     /// The octets of a message.
     octets: Vec<u8>,
     choice: C,
 }
 
-impl<C: Choice> ExplainPage<C> {
+impl<F: FieldForm, C: Choice> ExplainPage<F, C> {
     /// Nothing so far.
-    pub(crate) fn new(alloc: Global, ctx: Context, choice: C) -> ExplainPage<C>
+    pub(crate) fn new(alloc: Global, ctx: Context, form: F, choice: C) -> ExplainPage<F, C>
         ensures context { result.ctx ≡ ctx }
         ensures empty { string_bytes result.text ≡ [] }
     {
         ExplainPage {
             alloc,
             ctx,
+            form,
             text: String::new(alloc),
             octets: Vec::new(alloc),
             choice,
@@ -57,8 +59,8 @@ fn put_octets(frame: Frame<'_>, octets: &mut Vec<u8>) -> Result<(), AllocError>
     octets.extend_from_slice(frame.body)
 }
 
-impl<C: Choice> ExplainPage<C> {
-    /// Adds the lines of a message of so many octets, or of a header's fault, of which these are held, where it is printed.
+impl<F: FieldForm, C: Choice> ExplainPage<F, C> {
+    /// Adds the text of a message of so many octets, or of a header's fault, of which these are held, where it is printed.
     fn put(
         &mut self,
         place: u64,
@@ -68,13 +70,13 @@ impl<C: Choice> ExplainPage<C> {
     ) -> Result<(), AllocError>
         requires { length self.old.octets.items ≤ 4096 }
         ensures lines { OnOk result (string_bytes self.new.text ≡ string_bytes self.old.text
-            ++ (if C.printed (outcome_value outcome.now) then explained_lines self.old.ctx place len self.old.octets.items fault (outcome_value outcome.now) else [])) }
+            ++ (if C.printed (outcome_value outcome.now) then F.form.message self.old.ctx place len self.old.octets.items fault (outcome_value outcome.now) else [])) }
         ensures context { self.new.ctx ≡ self.old.ctx }
     {
         if !self.choice.prints(outcome) {
             return Ok(());
         }
-        put_explained(
+        self.form.put_message(
             self.alloc,
             &mut self.text,
             &self.ctx,
@@ -86,10 +88,10 @@ impl<C: Choice> ExplainPage<C> {
         )
     }
 
-    /// Adds the lines of a whole message.
+    /// Adds the text of a whole message.
     fn put_frame(&mut self, place: u64, frame: Frame<'_>) -> Result<Class, AllocError>
         requires { IsLength frame.kind (19 + length frame.body.now) }
-        ensures writes { IfOk result (λ class. WritesHeard C.printed self.old.ctx (string_bytes self.old.text) (string_bytes self.new.text) place frame.entry.len
+        ensures writes { IfOk result (λ class. WritesHeard F.form C.printed self.old.ctx (string_bytes self.old.text) (string_bytes self.new.text) place frame.entry.len
             (octets_of (message_in frame.entry)) (record { front = Ok (message_in frame.entry); outcome = out_of self.old.ctx (message_in frame.entry) }) class) }
         ensures context { self.new.ctx ≡ self.old.ctx }
     {
@@ -102,11 +104,11 @@ impl<C: Choice> ExplainPage<C> {
         Ok(class_of(&outcome))
     }
 
-    /// Adds the lines of a header with a fault.
+    /// Adds the text of a header with a fault.
     fn put_fault(&mut self, place: u64, header: &[u8], fault: HeadFault) -> Result<(), AllocError>
         requires { length header.now ≡ 19 }
         ensures lines { OnOk result (string_bytes self.new.text ≡ string_bytes self.old.text
-            ++ heard_lines C.printed self.old.ctx place 0 header.now (record { front = Err fault; outcome = of_fault fault })) }
+            ++ heard_text F.form C.printed self.old.ctx place 0 header.now (record { front = Err fault; outcome = of_fault fault })) }
         ensures context { self.new.ctx ≡ self.old.ctx }
     {
         self.octets.clear();
@@ -117,7 +119,7 @@ impl<C: Choice> ExplainPage<C> {
     }
 }
 
-impl<C: Choice> Page for ExplainPage<C> {
+impl<F: FieldForm, C: Choice> Page for ExplainPage<F, C> {
     ghost use Rattle.bgp_engine.specs.Below.{true, string_bytes, unwrap_or};
     ghost use Rattle.bgp_engine.specs.Explain.{explained_rules};
     ghost use Rattle.bgp_engine.specs.Heard.{Heard};
@@ -125,13 +127,13 @@ impl<C: Choice> Page for ExplainPage<C> {
 
     ghost Outcome = { Heard };
 
-    ghost rules = { λ page. explained_rules C.printed page.ctx };
+    ghost rules = { λ page. explained_rules F.form C.printed page.ctx };
 
     ghost told = { λ page. string_bytes page.text };
 
     ghost fits = { λ _. true };
 
-    ghost plan = { λ page ctx. plain (explained_rules C.printed (unwrap_or ctx page.ctx)) };
+    ghost plan = { λ page ctx. plain (explained_rules F.form C.printed (unwrap_or ctx page.ctx)) };
 
     fn agree(&mut self, ctx: &Context) -> bool {
         self.ctx = *ctx;
@@ -151,7 +153,7 @@ impl<C: Choice> Page for ExplainPage<C> {
     }
 
     fn last(&mut self, tally: &Tally) -> Result<(), AllocError> {
-        put_end(&mut self.text, tally.end)
+        self.form.put_last(&mut self.text, tally.end)
     }
 
     fn rest(&mut self, _waiting: &[u8]) -> Result<(), AllocError> {

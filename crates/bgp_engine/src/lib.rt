@@ -8,6 +8,7 @@ mod copied;
 mod engine;
 mod explaining;
 mod fault;
+mod field_form;
 mod file;
 mod form;
 mod heard;

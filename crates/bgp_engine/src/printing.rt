@@ -1,9 +1,13 @@
 //! What is printed of a stream, in each style.
 
-ghost use Rattle.bgp_engine.specs.Prelude.{Printed, PrintedBy, Answers, io};
+ghost use Rattle.std.specs.Prelude.{true};
+ghost use Rattle.bgp_engine.specs.Prelude.{Printed, PrintedBy, ReportedBy, Answers, io};
+ghost use Rattle.bgp_engine.specs.Explain.{Explained};
+ghost use Rattle.bgp_engine.specs.OnlyFaults.{chosen};
 
 use crate::explaining::ExplainPage;
 use crate::fault::ToolFault;
+use crate::field_form::FieldForm;
 use crate::form::{Json, Lines};
 use crate::only_faults::{Every, Faulty, OnlyFaults};
 use crate::opening::open_stream;
@@ -25,6 +29,50 @@ pub enum Style {
     Json,
     /// In lines of text, with a line for each of its fields: `explain`.
     Explained,
+    /// As that object of JSON, with its fields: `explain --json`.
+    ExplainedJson,
+}
+
+// Prints messages with their fields, in a form.
+fn explain_within<F: FieldForm + Drop, R: Read, W: Write>(
+    alloc: Global,
+    turns: u32,
+    form: F,
+    only_faults: bool,
+    ctx: &Context,
+    hex: bool,
+    input: &mut R,
+    output: &mut W,
+) -> Result<Tally, ToolFault>
+    ensures { Answers (Explained F.form (chosen only_faults) ctx.now) hex (io R.remaining input.old input.new W.contents output.old output.new) result }
+{
+    if only_faults {
+        let page = ExplainPage::new(alloc, *ctx, form, Faulty);
+        return walk_stream(turns, hex, page, input, output);
+    }
+    let page = ExplainPage::new(alloc, *ctx, form, Every);
+    walk_stream(turns, hex, page, input, output)
+}
+
+// The same in the context that both OPENs agree on.
+fn explain_by_opens<F: FieldForm + Drop, R: Read, W: Write>(
+    alloc: Global,
+    turns: u32,
+    form: F,
+    only_faults: bool,
+    theirs: &[u8],
+    hex: bool,
+    input: &mut R,
+    output: &mut W,
+) -> Result<Tally, ToolFault>
+    ensures { Answers (ReportedBy (λ ctx. true) theirs.now (Explained F.form (chosen only_faults))) hex (io R.remaining input.old input.new W.contents output.old output.new) result }
+{
+    if only_faults {
+        let page = ExplainPage::new(alloc, UNKNOWN, form, Faulty);
+        return open_stream(alloc, turns, theirs, hex, page, input, output);
+    }
+    let page = ExplainPage::new(alloc, UNKNOWN, form, Every);
+    open_stream(alloc, turns, theirs, hex, page, input, output)
 }
 
 /// Prints the outcome of each message of a stream in a context, in a style; where `only_faults` is set, of those alone that aren't accepted without
@@ -65,10 +113,6 @@ pub fn print_within<R: Read, W: Write>(
     match (style, only_faults) {
         (Style::Lines, false) => show_within(alloc, turns, ctx, hex, input, output),
         (Style::Json, false) => show_json_within(alloc, turns, ctx, hex, input, output),
-        (Style::Explained, false) => {
-            let page = ExplainPage::new(alloc, *ctx, Every);
-            walk_stream(turns, hex, page, input, output)
-        }
         (Style::Lines, true) => {
             let page = ShowPage::new(alloc, *ctx, OnlyFaults { form: Lines });
             walk_stream(turns, hex, page, input, output)
@@ -77,9 +121,11 @@ pub fn print_within<R: Read, W: Write>(
             let page = ShowPage::new(alloc, *ctx, OnlyFaults { form: Json });
             walk_stream(turns, hex, page, input, output)
         }
-        (Style::Explained, true) => {
-            let page = ExplainPage::new(alloc, *ctx, Faulty);
-            walk_stream(turns, hex, page, input, output)
+        (Style::Explained, _) => {
+            explain_within(alloc, turns, Lines, only_faults, ctx, hex, input, output)
+        }
+        (Style::ExplainedJson, _) => {
+            explain_within(alloc, turns, Json, only_faults, ctx, hex, input, output)
         }
     }
 }
@@ -130,10 +176,6 @@ pub fn print_by_opens_within<R: Read, W: Write>(
     match (style, only_faults) {
         (Style::Lines, false) => show_by_opens_within(alloc, turns, theirs, hex, input, output),
         (Style::Json, false) => show_json_by_opens_within(alloc, turns, theirs, hex, input, output),
-        (Style::Explained, false) => {
-            let page = ExplainPage::new(alloc, UNKNOWN, Every);
-            open_stream(alloc, turns, theirs, hex, page, input, output)
-        }
         (Style::Lines, true) => {
             let page = ShowPage::new(alloc, UNKNOWN, OnlyFaults { form: Lines });
             open_stream(alloc, turns, theirs, hex, page, input, output)
@@ -142,9 +184,11 @@ pub fn print_by_opens_within<R: Read, W: Write>(
             let page = ShowPage::new(alloc, UNKNOWN, OnlyFaults { form: Json });
             open_stream(alloc, turns, theirs, hex, page, input, output)
         }
-        (Style::Explained, true) => {
-            let page = ExplainPage::new(alloc, UNKNOWN, Faulty);
-            open_stream(alloc, turns, theirs, hex, page, input, output)
+        (Style::Explained, _) => {
+            explain_by_opens(alloc, turns, Lines, only_faults, theirs, hex, input, output)
+        }
+        (Style::ExplainedJson, _) => {
+            explain_by_opens(alloc, turns, Json, only_faults, theirs, hex, input, output)
         }
     }
 }

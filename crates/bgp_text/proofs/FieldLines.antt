@@ -29,7 +29,7 @@ at_note message place (Some m) later n f fields e = at (is_at message m f) e
     at false same = absurd cc
 
 -- the note that is told at a field is the next one
-told_is_next : (message : List ℕ) (first : Option Note) (n : Note) (f : Field) → note_at first message f ≡ Some n → is_next first f ≡ is_of n f
+pub told_is_next : (message : List ℕ) (first : Option Note) (n : Note) (f : Field) → note_at first message f ≡ Some n → is_next first f ≡ is_of n f
 told_is_next message None n f e = absurd cc
 told_is_next message (Some m) n f e = at (is_at message m f) e
   where
@@ -64,7 +64,7 @@ put_none message noting f old new none wrote fields =
     added old new _ _ _ wrote (at_none message noting.place noting.next (notes_left noting.later) f fields none)
 
 -- the row of notes behind the first one
-next_row : (later : NoteIter) (first : Option Note) (rest : NoteIter) → YieldsFirst notes_left later first rest → row_of first (notes_left rest) ≡ notes_left later
+pub next_row : (later : NoteIter) (first : Option Note) (rest : NoteIter) → YieldsFirst notes_left later first rest → row_of first (notes_left rest) ≡ notes_left later
 next_row later None rest yields = cc
 next_row later (Some n) rest yields = cc
 

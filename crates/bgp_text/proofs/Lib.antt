@@ -6,4 +6,5 @@ pub mod PrintedSlots
 pub mod Decimals
 pub mod Escapes
 pub mod FieldLines
+pub mod ToldFields
 pub mod Pieces

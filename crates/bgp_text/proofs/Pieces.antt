@@ -1,8 +1,8 @@
--- Rows of pieces of six, seven and eight octets: the text of the first one, and that of the rest.
+-- Rows of pieces of six, seven, eight and twenty octets: the text of the first one, and that of the rest.
 use Rattle.bgp_text.proofs.Prelude.{ap, append_assoc, sym, ◌∙◌, ◌≡◌, ◌<◌, ◌≤◌, ◌-◌, ◌+◌, ◌*◌, ℕ, List, [], ◌∷◌, ◌++◌, length, length-drop, take, drop, codes, refl, arith, take_all}
 use Rattle.std.specs.Prelude.{slice_index}
 use Rattle.std.specs.Int.{w16, from_be_bytes}
-use Rattle.bgp_text.specs.AttributeValues.{extended_row, extended_text}
+use Rattle.bgp_text.specs.AttributeValues.{extended6_row, extended6_text, extended_row, extended_text}
 use Rattle.bgp_text.specs.CapabilityValues.{further, family_text, hop_text, hops_text, stale_text}
 use Rattle.bgp_text.specs.FieldValues.{numbered}
 
@@ -65,6 +65,36 @@ first_extended (t ∷ s ∷ a ∷ b ∷ []) enough = absurd (omega arith)
 first_extended (t ∷ s ∷ a ∷ b ∷ c ∷ []) enough = absurd (omega arith)
 first_extended (t ∷ s ∷ a ∷ b ∷ c ∷ d ∷ []) enough = absurd (omega arith)
 first_extended (t ∷ s ∷ a ∷ b ∷ c ∷ d ∷ e ∷ []) enough = absurd (omega arith)
+
+pub first_extended6 : (o : List ℕ) (number : ℕ) → 20 ≤ length o → number ≡ from_be_bytes w16 (slice_index o 18 ∷ slice_index o 19 ∷ [])
+    → extended6_row o
+    ≡ extended6_text (slice_index o 0) (slice_index o 1)
+    (slice_index o 2 ∷ slice_index o 3 ∷ slice_index o 4 ∷ slice_index o 5 ∷ slice_index o 6 ∷ slice_index o 7 ∷ slice_index o 8 ∷ slice_index o 9
+    ∷ slice_index o 10 ∷ slice_index o 11 ∷ slice_index o 12 ∷ slice_index o 13 ∷ slice_index o 14 ∷ slice_index o 15 ∷ slice_index o 16 ∷ slice_index o 17 ∷ [])
+    number
+    ++ (further (take (length o - 20) (drop 20 o)) ++ extended6_row (take (length o - 20) (drop 20 o)))
+first_extended6 (t ∷ s ∷ a ∷ b ∷ c ∷ d ∷ e ∷ f ∷ g ∷ h ∷ i ∷ j ∷ k ∷ l ∷ m ∷ n ∷ o ∷ p ∷ y ∷ z ∷ rest) number enough same =
+    rw (same, take_all (length (t ∷ s ∷ a ∷ b ∷ c ∷ d ∷ e ∷ f ∷ g ∷ h ∷ i ∷ j ∷ k ∷ l ∷ m ∷ n ∷ o ∷ p ∷ y ∷ z ∷ rest) - 20) rest (omega arith)) refl
+first_extended6 [] number enough same = absurd (omega arith)
+first_extended6 (t ∷ []) number enough same = absurd (omega arith)
+first_extended6 (t ∷ s ∷ []) number enough same = absurd (omega arith)
+first_extended6 (t ∷ s ∷ a ∷ []) number enough same = absurd (omega arith)
+first_extended6 (t ∷ s ∷ a ∷ b ∷ []) number enough same = absurd (omega arith)
+first_extended6 (t ∷ s ∷ a ∷ b ∷ c ∷ []) number enough same = absurd (omega arith)
+first_extended6 (t ∷ s ∷ a ∷ b ∷ c ∷ d ∷ []) number enough same = absurd (omega arith)
+first_extended6 (t ∷ s ∷ a ∷ b ∷ c ∷ d ∷ e ∷ []) number enough same = absurd (omega arith)
+first_extended6 (t ∷ s ∷ a ∷ b ∷ c ∷ d ∷ e ∷ f ∷ []) number enough same = absurd (omega arith)
+first_extended6 (t ∷ s ∷ a ∷ b ∷ c ∷ d ∷ e ∷ f ∷ g ∷ []) number enough same = absurd (omega arith)
+first_extended6 (t ∷ s ∷ a ∷ b ∷ c ∷ d ∷ e ∷ f ∷ g ∷ h ∷ []) number enough same = absurd (omega arith)
+first_extended6 (t ∷ s ∷ a ∷ b ∷ c ∷ d ∷ e ∷ f ∷ g ∷ h ∷ i ∷ []) number enough same = absurd (omega arith)
+first_extended6 (t ∷ s ∷ a ∷ b ∷ c ∷ d ∷ e ∷ f ∷ g ∷ h ∷ i ∷ j ∷ []) number enough same = absurd (omega arith)
+first_extended6 (t ∷ s ∷ a ∷ b ∷ c ∷ d ∷ e ∷ f ∷ g ∷ h ∷ i ∷ j ∷ k ∷ []) number enough same = absurd (omega arith)
+first_extended6 (t ∷ s ∷ a ∷ b ∷ c ∷ d ∷ e ∷ f ∷ g ∷ h ∷ i ∷ j ∷ k ∷ l ∷ []) number enough same = absurd (omega arith)
+first_extended6 (t ∷ s ∷ a ∷ b ∷ c ∷ d ∷ e ∷ f ∷ g ∷ h ∷ i ∷ j ∷ k ∷ l ∷ m ∷ []) number enough same = absurd (omega arith)
+first_extended6 (t ∷ s ∷ a ∷ b ∷ c ∷ d ∷ e ∷ f ∷ g ∷ h ∷ i ∷ j ∷ k ∷ l ∷ m ∷ n ∷ []) number enough same = absurd (omega arith)
+first_extended6 (t ∷ s ∷ a ∷ b ∷ c ∷ d ∷ e ∷ f ∷ g ∷ h ∷ i ∷ j ∷ k ∷ l ∷ m ∷ n ∷ o ∷ []) number enough same = absurd (omega arith)
+first_extended6 (t ∷ s ∷ a ∷ b ∷ c ∷ d ∷ e ∷ f ∷ g ∷ h ∷ i ∷ j ∷ k ∷ l ∷ m ∷ n ∷ o ∷ p ∷ []) number enough same = absurd (omega arith)
+first_extended6 (t ∷ s ∷ a ∷ b ∷ c ∷ d ∷ e ∷ f ∷ g ∷ h ∷ i ∷ j ∷ k ∷ l ∷ m ∷ n ∷ o ∷ p ∷ y ∷ []) number enough same = absurd (omega arith)
 
 -- what a piece leaves is shorter than what it was taken of
 pub fewer : (n : ℕ) (o : List ℕ) → 0 < n → n ≤ length o → length (take (length o - n) (drop n o)) < length o

@@ -17,6 +17,8 @@ unfoldable pub use Rattle.bgp_text.specs.FieldLines.{noted_lines}
 pub use Rattle.bgp_text.specs.Json.{behind_comma, listed, named}
 unfoldable pub use Rattle.bgp_text.specs.Json.{joined}
 pub use Rattle.bgp_text.specs.JsonOpen.{capability_json}
+pub use Rattle.bgp_text.specs.JsonFields.{noted_field, passed_field, unplaced_json, without_space}
+unfoldable pub use Rattle.bgp_text.specs.JsonFields.{noted_fields, unplaced_notes}
 pub use Rattle.bgp_text.specs.Members.{Shown, printed, printed_types}
 unfoldable pub use Rattle.bgp_text.specs.Members.{printed_attributes}
-pub use Rattle.bgp_text.specs.steps.Rows.{is_next, note_at, noting_lines, plain_line, row_of}
+pub use Rattle.bgp_text.specs.steps.Rows.{is_next, note_at, noting_fields, noting_left, noting_lines, plain_field, plain_line, row_of}

@@ -4,6 +4,7 @@ use Rattle.std.specs.Int.{w16, w32, w64, from_be_bytes}
 use Rattle.bgp_text.specs.Below.{decimal, ipv4_address_text}
 use Rattle.bgp_text.specs.FieldValues.{address_text, number_in}
 use Rattle.bgp_text.specs.CapabilityValues.{further}
+use Rattle.bgp_text.specs.JsonAddress.{ip6_text}
 
 -- the clusters of CLUSTER_LIST (RFC 4456, section 8)
 abbrev pub clusters_text : List ℕ → List ℕ
@@ -44,24 +45,43 @@ abbrev pub color_text : List ℕ → List ℕ
 color_text (a ∷ b ∷ c ∷ d ∷ e ∷ f ∷ []) = codes " color " ++ decimal (from_be_bytes w32 (c ∷ d ∷ e ∷ f ∷ []))
 color_text v = []
 
+-- a type and a sub-type by their numbers
+abbrev pub types_text : ℕ → ℕ → List ℕ
+types_text t s = codes " type " ++ (decimal t ++ (codes " subtype " ++ decimal s))
+
 -- a community of a type, a sub-type and six octets: of types 0 to 2, transitive or not, by its owner; Color; of another its numbers
 abbrev pub extended_text : ℕ → ℕ → List ℕ → List ℕ
 extended_text t s v =
     if nat_lt (t % 64) 3 then subtype_text s ++ owned_text (t % 64) v else (
     if t == 3 && s == 11 then color_text v else
-    codes " type " ++ (decimal t ++ (codes " subtype " ++ decimal s)))
+    types_text t s)
 
 abbrev pub extended_row : List ℕ → List ℕ
 extended_row (t ∷ s ∷ a ∷ b ∷ c ∷ d ∷ e ∷ f ∷ rest) = extended_text t s (a ∷ b ∷ c ∷ d ∷ e ∷ f ∷ []) ++ (further rest ++ extended_row rest)
 extended_row b = []
 
+-- ---- IPv6 Address Specific Extended Communities (RFC 5701, section 2)
+
+-- a community of a type, a sub-type, an address and a number: of type 0, transitive or not, whose it is, with the address in brackets (RFC 5952,
+-- section 6), and its number; of another its numbers
+abbrev pub extended6_text : ℕ → ℕ → List ℕ → ℕ → List ℕ
+extended6_text t s owner number =
+    if t % 64 == 0 then subtype_text s ++ (codes "[" ++ (ip6_text owner ++ (codes "]:" ++ decimal number))) else types_text t s
+
+abbrev pub extended6_row : List ℕ → List ℕ
+extended6_row (t ∷ s ∷ a ∷ b ∷ c ∷ d ∷ e ∷ f ∷ g ∷ h ∷ i ∷ j ∷ k ∷ l ∷ m ∷ n ∷ o ∷ p ∷ y ∷ z ∷ rest) =
+    extended6_text t s (a ∷ b ∷ c ∷ d ∷ e ∷ f ∷ g ∷ h ∷ i ∷ j ∷ k ∷ l ∷ m ∷ n ∷ o ∷ p ∷ []) (from_be_bytes w16 (y ∷ z ∷ []))
+    ++ (further rest ++ extended6_row rest)
+extended6_row b = []
+
 -- ---- all
 
--- the value of an attribute of a type: ORIGINATOR_ID, CLUSTER_LIST, EXTENDED COMMUNITIES, AIGP, ONLY_TO_CUSTOMER
+-- the value of an attribute of a type: ORIGINATOR_ID, CLUSTER_LIST, EXTENDED COMMUNITIES, those of IPv6 addresses, AIGP, ONLY_TO_CUSTOMER
 abbrev pub attribute_text : ℕ → List ℕ → List ℕ
 attribute_text code b =
     if code == 9 then address_text b else (
     if code == 10 then clusters_text b else (
     if code == 16 then extended_row b else (
+    if code == 25 then extended6_row b else (
     if code == 26 then metric_text b else (
-    if code == 35 then as_text b else []))))
+    if code == 35 then as_text b else [])))))

@@ -35,20 +35,24 @@ type_text kind (c ∷ name) = c ∷ name
 
 -- what was expected, and by which rule
 abbrev pub wanted_text : List ℕ → List ℕ → List ℕ
-wanted_text wanted section = codes ": expected " ++ (wanted ++ (codes " (" ++ (section ++ (codes ")" ++ 10 ∷ []))))
+wanted_text wanted section = codes ": expected " ++ (wanted ++ (codes " (" ++ (section ++ codes ")")))
 
 -- why an attribute is discarded, and by which rule
 abbrev pub note_reason : Note → List ℕ
 note_reason n =
     type_text n.kind (attribute_name n.kind) ++ (codes " " ++ (why_name n.why ++ wanted_text (note_wanted n.kind n.why) (note_section n.kind n.why)))
 
--- the line of a reason: an offset in the message, and it
+-- the beginning of a reason's line: an offset in the message
+abbrev pub reason_place : ℕ → List ℕ
+reason_place at = codes "  ! " ++ (decimal at ++ codes " ")
+
+-- the line of a reason
 abbrev pub reason_line : ℕ → List ℕ → List ℕ
-reason_line at reason = codes "  ! " ++ (decimal at ++ (codes " " ++ reason))
+reason_line at reason = reason_place at ++ (reason ++ 10 ∷ [])
 
 -- a note on an attribute that isn't there
 abbrev pub unplaced_line : Note → List ℕ
-unplaced_line n = codes "  ! " ++ note_reason n
+unplaced_line n = codes "  ! " ++ (note_reason n ++ 10 ∷ [])
 
 -- a field that a note is told at
 abbrev pub noted_line : List ℕ → ℕ → Note → Field → List ℕ
@@ -67,12 +71,12 @@ noted_lines message place (n ∷ notes) (f ∷ fields) =
 -- ---- resets
 
 -- the code and the subcode of a NOTIFICATION, and its name
-abbrev pub answer_text : Notification → List ℕ
-answer_text n = decimal n.code ++ (codes "/" ++ (decimal n.subcode ++ spaced (subcode_name n.code n.subcode)))
+abbrev pub answer_text : ℕ → ℕ → List ℕ
+answer_text code subcode = decimal code ++ (codes "/" ++ (decimal subcode ++ spaced (subcode_name code subcode)))
 
 -- the NOTIFICATION that answers, what was expected, and by which rule
-abbrev pub reset_reason : Notification → Cause → List ℕ
-reset_reason n cause = answer_text n ++ wanted_text (cause_wanted cause n.subcode) (cause_section cause)
+abbrev pub reset_reason : ℕ → ℕ → Cause → List ℕ
+reset_reason code subcode cause = answer_text code subcode ++ wanted_text (cause_wanted cause subcode) (cause_section cause)
 
 -- some of the field's octets are of the span
 abbrev pub overlaps : Span → Field → Bool
@@ -86,4 +90,4 @@ holds span f = nat_le f.at span.at && nat_lt span.at (f.at + f.len)
 abbrev pub faulty_line : List ℕ → Option Fault → Notification → Field → List ℕ
 faulty_line message None n f = field_line false message f
 faulty_line message (Some fault) n f =
-    (if holds fault.span f then reason_line fault.span.at (reset_reason n fault.cause) else []) ++ field_line (overlaps fault.span f) message f
+    (if holds fault.span f then reason_line fault.span.at (reset_reason n.code n.subcode fault.cause) else []) ++ field_line (overlaps fault.span f) message f

@@ -26,18 +26,16 @@ notification_members n =
     member (codes "code") decimal n.code ++ (member (codes "subcode") decimal n.subcode ++ (member (codes "data") octets_json n.info.items ++ names_of n))
 
 -- a message that is accepted; an UPDATE with notes on attributes that are discarded: other messages have none
-unfoldable pub took_json : ℕ → ℕ → Message → List Note → List ℕ
-took_json place len (Message.Open o) notes = judged place len (codes "OPEN") (codes "take") ++ (open_members o ++ line_end)
-took_json place len (Message.Update u) notes =
-    judged place len (codes "UPDATE") (codes "take") ++ (update_members u ++ (notes_member notes ++ line_end))
-took_json place len (Message.Notification n) notes =
-    judged place len (codes "NOTIFICATION") (codes "take") ++ (notification_members n ++ line_end)
-took_json place len Message.Keepalive notes = judged place len (codes "KEEPALIVE") (codes "take") ++ line_end
+unfoldable pub took_members : ℕ → ℕ → Message → List Note → List ℕ
+took_members place len (Message.Open o) notes = judged place len (codes "OPEN") (codes "take") ++ open_members o
+took_members place len (Message.Update u) notes = judged place len (codes "UPDATE") (codes "take") ++ (update_members u ++ notes_member notes)
+took_members place len (Message.Notification n) notes = judged place len (codes "NOTIFICATION") (codes "take") ++ notification_members n
+took_members place len Message.Keepalive notes = judged place len (codes "KEEPALIVE") (codes "take")
 
 -- an UPDATE that is treated as a withdrawal, and notes on why
-abbrev pub withdraw_json : ℕ → ℕ → Routes → List Note → List ℕ
-withdraw_json place len routes notes =
-    judged place len (codes "UPDATE") (codes "withdraw") ++ (member (codes "routes") routes_json routes ++ (notes_member notes ++ line_end))
+abbrev pub withdraw_members : ℕ → ℕ → Routes → List Note → List ℕ
+withdraw_members place len routes notes =
+    judged place len (codes "UPDATE") (codes "withdraw") ++ (member (codes "routes") routes_json routes ++ notes_member notes)
 
 -- octets of a message, or of its header: how many there are, and the offset of the first
 unfoldable pub count_member : Span → List ℕ
@@ -52,12 +50,16 @@ span_members None = []
 span_members (Some s) = fault_members s
 
 -- a reset, under the name of what it answers
-abbrev pub reset_json : ℕ → ℕ → Option Span → Notification → List ℕ
-reset_json place len span n = judged place len (reset_name n.code) (codes "reset") ++ (notification_members n ++ (span_members span ++ line_end))
+abbrev pub reset_members : ℕ → ℕ → Option Span → Notification → List ℕ
+reset_members place len span n = judged place len (reset_name n.code) (codes "reset") ++ (notification_members n ++ span_members span)
 
--- the object of an outcome, at its offset in the stream, with the octets of its message in number, 0 for a header's fault, and those of them for
--- which it is a reset
+-- the object of an outcome up to its end, at its offset in the stream, with the octets of its message in number, 0 for a header's fault, and those of
+-- them for which it is a reset
+unfoldable pub outcome_members : ℕ → ℕ → Option Span → Outcome → List ℕ
+outcome_members place len span (Outcome.Took m notes) = took_members place len m notes
+outcome_members place len span (Outcome.Withdraw routes notes) = withdraw_members place len routes notes
+outcome_members place len span (Outcome.Reset n) = reset_members place len span n
+
+-- its line
 unfoldable pub outcome_json : ℕ → ℕ → Option Span → Outcome → List ℕ
-outcome_json place len span (Outcome.Took m notes) = took_json place len m notes
-outcome_json place len span (Outcome.Withdraw routes notes) = withdraw_json place len routes notes
-outcome_json place len span (Outcome.Reset n) = reset_json place len span n
+outcome_json place len span o = outcome_members place len span o ++ line_end

@@ -32,5 +32,6 @@ pub mod JsonNotes
 pub mod JsonOpen
 pub mod JsonUpdate
 pub mod JsonOutcome
+pub mod JsonFields
 pub mod JsonEnd
 pub mod steps

@@ -2,7 +2,8 @@
 
 ghost use Rattle.std.specs.Prelude.{◌≡◌, ◌++◌, codes, option_map, IfOk, OnOk};
 ghost use Rattle.bgp_text.specs.Below.{string_bytes, decimal, ipv4_address_text};
-ghost use Rattle.bgp_text.specs.AttributeValues.{as_text, attribute_text, clusters_text, color_text, extended_row, extended_text, metric_text, owned_text, subtype_text};
+ghost use Rattle.bgp_text.specs.AttributeValues.{as_text, attribute_text, clusters_text, color_text, extended6_row, extended6_text, extended_row, extended_text, metric_text, owned_text, subtype_text, types_text};
+ghost use Rattle.bgp_text.specs.JsonAddress.{ip6_text};
 ghost use Rattle.bgp_text.specs.steps.Rows.{PrintsFirst};
 
 use crate::capability_values::put_further;
@@ -10,6 +11,7 @@ use crate::field_values::{number_in, put_address};
 use crate::short::{Decimal, put_one};
 use bgp_prefix::Address;
 use std::alloc::AllocError;
+use std::net::Ipv6Addr;
 
 /// Adds the clusters of CLUSTER_LIST (RFC 4456, section 8).
 fn put_clusters(text: &mut String, octets: &[u8]) -> Result<(), AllocError>
@@ -117,6 +119,16 @@ fn put_color(text: &mut String, value: &[u8]) -> Result<(), AllocError>
     }
 }
 
+/// Adds a type and a sub-type by their numbers.
+fn put_types(text: &mut String, kind: u8, subtype: u8) -> Result<(), AllocError>
+    ensures { OnOk result (string_bytes text.new ≡ string_bytes text.old ++ types_text kind subtype) }
+{
+    text.push_str(" type ")?;
+    put_one(text, Decimal(kind))?;
+    text.push_str(" subtype ")?;
+    put_one(text, Decimal(subtype))
+}
+
 /// Adds an extended community of a type, a sub-type and six octets.
 fn put_extended(text: &mut String, kind: u8, subtype: u8, value: &[u8]) -> Result<(), AllocError>
     ensures { OnOk result (string_bytes text.new ≡ string_bytes text.old ++ extended_text kind subtype value.now) }
@@ -128,10 +140,7 @@ fn put_extended(text: &mut String, kind: u8, subtype: u8, value: &[u8]) -> Resul
     if kind == 3 && subtype == 11 {
         return put_color(text, value);
     }
-    text.push_str(" type ")?;
-    put_one(text, Decimal(kind))?;
-    text.push_str(" subtype ")?;
-    put_one(text, Decimal(subtype))
+    put_types(text, kind, subtype)
 }
 
 /// Adds the first community of EXTENDED COMMUNITIES, and gives what follows it: none where there is no community.
@@ -160,6 +169,84 @@ fn put_extended_row(text: &mut String, octets: &[u8]) -> Result<(), AllocError>
     Ok(())
 }
 
+/// Adds an address in brackets and a number, and a colon between them.
+#[tactic(auto, unfolding(crate::specs::JsonAddress::ip6_text))]
+fn put_ip6_pair(text: &mut String, owner: [u8; 16], number: u16) -> Result<(), AllocError>
+    ensures { OnOk result (string_bytes text.new ≡ string_bytes text.old ++ (codes "[" ++ (ip6_text owner ++ (codes "]:" ++ decimal number)))) }
+{
+    let groups = Ipv6Addr::from_octets(owner).hex_groups();
+    write!(text, "[{groups}]:{number}")
+}
+
+/// Adds an extended community of a type, a sub-type, an address and a number.
+fn put_extended6(
+    text: &mut String,
+    kind: u8,
+    subtype: u8,
+    owner: [u8; 16],
+    number: u16,
+) -> Result<(), AllocError>
+    ensures { OnOk result (string_bytes text.new ≡ string_bytes text.old ++ extended6_text kind subtype owner number) }
+{
+    if kind % 64 == 0 {
+        put_subtype(text, subtype)?;
+        return put_ip6_pair(text, owner, number);
+    }
+    put_types(text, kind, subtype)
+}
+
+/// Adds the first one of IPv6 addresses, and gives what follows it: none where there is no community.
+fn put_first_extended6<'a>(
+    text: &mut String,
+    octets: &'a [u8],
+) -> Result<Option<&'a [u8]>, AllocError>
+    ensures { IfOk result (λ rest. PrintsFirst extended6_row (string_bytes text.old) (string_bytes text.new) octets.now (option_map (λ r. r.now) rest)) }
+{
+    let [
+        kind,
+        subtype,
+        a,
+        b,
+        c,
+        d,
+        e,
+        f,
+        g,
+        h,
+        i,
+        j,
+        k,
+        l,
+        m,
+        n,
+        o,
+        p,
+        y,
+        z,
+        rest @ ..,
+    ] = octets
+    else {
+        return Ok(None);
+    };
+    let owner = [
+        *a, *b, *c, *d, *e, *f, *g, *h, *i, *j, *k, *l, *m, *n, *o, *p,
+    ];
+    put_extended6(text, *kind, *subtype, owner, u16::from_be_bytes([*y, *z]))?;
+    put_further(text, rest)?;
+    Ok(Some(rest))
+}
+
+/// Adds the communities of IPv6 addresses.
+fn put_extended6_row(text: &mut String, octets: &[u8]) -> Result<(), AllocError>
+    ensures { OnOk result (string_bytes text.new ≡ string_bytes text.old ++ extended6_row octets.now) }
+{
+    let mut left = octets;
+    'row: while let Some(rest) = put_first_extended6(text, left)? {
+        left = rest;
+    }
+    Ok(())
+}
+
 /// Adds the value of an attribute of a type.
 pub(crate) fn put_attribute(text: &mut String, code: u8, octets: &[u8]) -> Result<(), AllocError>
     ensures { OnOk result (string_bytes text.new ≡ string_bytes text.old ++ attribute_text code octets.now) }
@@ -168,6 +255,7 @@ pub(crate) fn put_attribute(text: &mut String, code: u8, octets: &[u8]) -> Resul
         9 => put_address(text, octets),
         10 => put_clusters(text, octets),
         16 => put_extended_row(text, octets),
+        25 => put_extended6_row(text, octets),
         26 => put_metric(text, octets),
         35 => put_as(text, octets),
         _ => Ok(()),

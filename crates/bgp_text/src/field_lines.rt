@@ -4,7 +4,7 @@ ghost use Rattle.std.specs.Prelude.{◌≡◌, ◌≤◌, Some, ◌++◌, [], �
 ghost use Rattle.bgp_text.specs.Below.{flat_map, string_bytes, hex_octet, attribute_name};
 ghost use Rattle.bgp_text.specs.Below.{notification_of_view, notes_left, fields_left, Field as FieldValue};
 ghost use Rattle.bgp_text.specs.steps.Rows.{is_next, row_of, note_at, noting_lines, plain_line};
-ghost use Rattle.bgp_text.specs.FieldLines.{margin, field_said, field_text, field_line, type_text, wanted_text, note_reason, reason_line, unplaced_line, noted_lines, answer_text, reset_reason, overlaps, holds, faulty_line};
+ghost use Rattle.bgp_text.specs.FieldLines.{margin, field_said, field_text, field_line, type_text, wanted_text, note_reason, reason_place, reason_line, unplaced_line, noted_lines, answer_text, reset_reason, overlaps, holds, faulty_line};
 
 use crate::details::{code_of, put_detail};
 use crate::field_names::field_name;
@@ -28,7 +28,7 @@ fn margin(marked: bool) -> &'static str
 }
 
 /// Adds what a field says.
-fn put_said(text: &mut String, message: &[u8], field: &Field) -> Result<(), AllocError>
+pub(crate) fn put_said(text: &mut String, message: &[u8], field: &Field) -> Result<(), AllocError>
     ensures { OnOk result (string_bytes text.new ≡ string_bytes text.old ++ field_said message.now field.now) }
 {
     let octets = part(message, usize::from(field.at), usize::from(field.len));
@@ -89,11 +89,11 @@ fn put_wanted(text: &mut String, wanted: &str, section: &str) -> Result<(), Allo
     text.push_str(wanted)?;
     text.push_str(" (")?;
     text.push_str(section)?;
-    text.push_str(")\n")
+    text.push_str(")")
 }
 
 /// Adds why an attribute is discarded, and by which rule.
-fn put_note_reason(text: &mut String, note: &Note) -> Result<(), AllocError>
+pub(crate) fn put_note_reason(text: &mut String, note: &Note) -> Result<(), AllocError>
     ensures { OnOk result (string_bytes text.new ≡ string_bytes text.old ++ note_reason note.now) }
 {
     put_type(text, note.kind)?;
@@ -108,7 +108,7 @@ fn put_note_reason(text: &mut String, note: &Note) -> Result<(), AllocError>
 
 /// Adds the beginning of a reason's line: where it is told.
 fn put_place(text: &mut String, at: u16) -> Result<(), AllocError>
-    ensures { OnOk result (string_bytes text.new ≡ string_bytes text.old ++ reason_line at []) }
+    ensures { OnOk result (string_bytes text.new ≡ string_bytes text.old ++ reason_place at) }
 {
     text.push_str("  ! ")?;
     put_one(text, Decimal(at))?;
@@ -127,6 +127,7 @@ fn put_noted(
 {
     put_place(text, field.at)?;
     put_note_reason(text, note)?;
+    text.push_str("\n")?;
     put_plain(text, marked, message, field)
 }
 
@@ -135,7 +136,8 @@ fn put_unplaced(text: &mut String, note: &Note) -> Result<(), AllocError>
     ensures { OnOk result (string_bytes text.new ≡ string_bytes text.old ++ unplaced_line note.now) }
 {
     text.push_str("  ! ")?;
-    put_note_reason(text, note)
+    put_note_reason(text, note)?;
+    text.push_str("\n")
 }
 
 /// The lines of notes that have no field: those of a row, of which the first one is taken out.
@@ -157,14 +159,14 @@ fn put_unplaced_row(
 
 /// Notes in their order, the next one taken out, and where the attribute begins that the last one was about: 0 before the first one.
 #[derive(Clone, Copy)]
-struct Noting<'a> {
-    next: Option<Note>,
-    later: NoteIter<'a>,
-    place: u32,
+pub(crate) struct Noting<'a> {
+    pub(crate) next: Option<Note>,
+    pub(crate) later: NoteIter<'a>,
+    pub(crate) place: u32,
 }
 
 /// The next note, where it is told at a field.
-fn note_at(next: Option<Note>, message: &[u8], field: &Field) -> Option<Note>
+pub(crate) fn note_at(next: Option<Note>, message: &[u8], field: &Field) -> Option<Note>
     ensures { result ≡ note_at next message.now field.now }
 {
     match next {
@@ -174,7 +176,7 @@ fn note_at(next: Option<Note>, message: &[u8], field: &Field) -> Option<Note>
 }
 
 /// Whether a field is of the attribute that the next note is about.
-fn is_next(next: Option<Note>, field: &Field) -> bool
+pub(crate) fn is_next(next: Option<Note>, field: &Field) -> bool
     ensures { result ≡ is_next next field.now }
 {
     match next {
@@ -185,8 +187,10 @@ fn is_next(next: Option<Note>, field: &Field) -> bool
 
 impl<'a> Noting<'a> {
     /// Before all notes.
-    fn new(notes: NoteIter<'a>) -> Noting<'a>
-        ensures { (message : List ℕ) (fields : List FieldValue) → noting_lines message result fields ≡ noted_lines message 0 (notes_left notes.entry) fields }
+    pub(crate) fn new(notes: NoteIter<'a>) -> Noting<'a>
+        ensures row { row_of result.next (notes_left result.later) ≡ notes_left notes.entry }
+        ensures place { result.place ≡ 0 }
+        ensures lines { (message : List ℕ) (fields : List FieldValue) → noting_lines message result fields ≡ noted_lines message 0 (notes_left notes.entry) fields }
     {
         let mut later = notes;
         let next = later.next();
@@ -250,33 +254,30 @@ pub(crate) fn put_plain_fields(
 }
 
 /// Adds the code and the subcode of a NOTIFICATION, and its name.
-fn put_answer(text: &mut String, answer: &NotificationView<'_>) -> Result<(), AllocError>
-    ensures { OnOk result (string_bytes text.new ≡ string_bytes text.old ++ answer_text (notification_of_view answer.now)) }
+fn put_answer(text: &mut String, code: u8, subcode: u8) -> Result<(), AllocError>
+    ensures { OnOk result (string_bytes text.new ≡ string_bytes text.old ++ answer_text code subcode) }
 {
-    put_one(text, Decimal(answer.code))?;
+    put_one(text, Decimal(code))?;
     text.push_str("/")?;
-    put_one(text, Decimal(answer.subcode))?;
-    put_spaced(text, subcode_name(answer.code, answer.subcode))
+    put_one(text, Decimal(subcode))?;
+    put_spaced(text, subcode_name(code, subcode))
 }
 
 /// Adds the NOTIFICATION that answers a message, what was expected, and by which rule.
-fn put_reset_reason(
+pub(crate) fn put_reset_reason(
     text: &mut String,
-    answer: &NotificationView<'_>,
+    code: u8,
+    subcode: u8,
     cause: Cause,
 ) -> Result<(), AllocError>
-    ensures { OnOk result (string_bytes text.new ≡ string_bytes text.old ++ reset_reason (notification_of_view answer.now) cause) }
+    ensures { OnOk result (string_bytes text.new ≡ string_bytes text.old ++ reset_reason code subcode cause) }
 {
-    put_answer(text, answer)?;
-    put_wanted(
-        text,
-        cause_wanted(cause, answer.subcode),
-        cause_section(cause),
-    )
+    put_answer(text, code, subcode)?;
+    put_wanted(text, cause_wanted(cause, subcode), cause_section(cause))
 }
 
 /// Whether some of a field's octets are of a span.
-fn overlaps(span: Span, field: &Field) -> bool
+pub(crate) fn overlaps(span: Span, field: &Field) -> bool
     ensures { result ≡ overlaps span field.now }
 {
     u32::from(field.at) < u32::from(span.at) + u32::from(span.len)
@@ -284,7 +285,7 @@ fn overlaps(span: Span, field: &Field) -> bool
 }
 
 /// Whether a span begins in a field.
-fn holds(span: Span, field: &Field) -> bool
+pub(crate) fn holds(span: Span, field: &Field) -> bool
     ensures { result ≡ holds span field.now }
 {
     field.at <= span.at && u32::from(span.at) < u32::from(field.at) + u32::from(field.len)
@@ -302,7 +303,8 @@ fn put_blamed(
 {
     if holds(fault.span, field) {
         put_place(text, fault.span.at)?;
-        put_reset_reason(text, answer, fault.cause)?;
+        put_reset_reason(text, answer.code, answer.subcode, fault.cause)?;
+        text.push_str("\n")?;
     }
     put_plain(text, overlaps(fault.span, field), message, field)
 }

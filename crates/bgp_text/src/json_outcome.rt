@@ -4,7 +4,7 @@ ghost use Rattle.std.specs.Prelude.{◌≡◌, ◌++◌, [], OnOk};
 ghost use Rattle.bgp_text.specs.Below.{decimal, string_bytes, notification_of_view, open_value, update_value, notes_value, routes_value};
 ghost use Rattle.bgp_text.specs.Below.{outcome_value};
 ghost use Rattle.bgp_msg.specs.declared.message.Message.TheVariants as message;
-ghost use Rattle.bgp_text.specs.JsonOutcome.{judged, notification_members, took_json, withdraw_json, reset_json, outcome_json, names_of, count_member, fault_members, span_members};
+ghost use Rattle.bgp_text.specs.JsonOutcome.{judged, notification_members, took_members, withdraw_members, reset_members, outcome_members, outcome_json, names_of, count_member, fault_members, span_members};
 
 use crate::json::{
     put_line_end, put_name_member, put_number_member, put_octets_member, put_said_member,
@@ -77,7 +77,7 @@ fn put_notification_members(
 }
 
 /// An OPEN.
-#[tactic(auto, unfolding(crate::specs::JsonOutcome::took_json))]
+#[tactic(auto, unfolding(crate::specs::JsonOutcome::took_members))]
 fn put_opened(
     alloc: Global,
     text: &mut String,
@@ -85,16 +85,15 @@ fn put_opened(
     len: u16,
     view: &OpenView<'_>,
 ) -> Result<(), AllocError>
-    ensures { OnOk result (string_bytes text.new ≡ string_bytes text.old ++ took_json place len (message.Open (open_value view.now)) []) }
+    ensures { OnOk result (string_bytes text.new ≡ string_bytes text.old ++ took_members place len (message.Open (open_value view.now)) []) }
 {
     let open = view.own(alloc)?;
     put_judged(text, place, len, "OPEN", "take")?;
-    put_open_members(text, &open)?;
-    put_line_end(text)
+    put_open_members(text, &open)
 }
 
 /// An UPDATE that is accepted.
-#[tactic(auto, unfolding(crate::specs::JsonOutcome::took_json))]
+#[tactic(auto, unfolding(crate::specs::JsonOutcome::took_members))]
 fn put_taken(
     alloc: Global,
     text: &mut String,
@@ -102,12 +101,11 @@ fn put_taken(
     len: u16,
     view: &UpdateView<'_>,
 ) -> Result<(), AllocError>
-    ensures { OnOk result (string_bytes text.new ≡ string_bytes text.old ++ took_json place len (message.Update (update_value view.now)) (notes_value view.now)) }
+    ensures { OnOk result (string_bytes text.new ≡ string_bytes text.old ++ took_members place len (message.Update (update_value view.now)) (notes_value view.now)) }
 {
     put_judged(text, place, len, "UPDATE", "take")?;
     put_members::<Json>(alloc, text, view)?;
-    put_notes_member(text, view)?;
-    put_line_end(text)
+    put_notes_member(text, view)
 }
 
 /// An UPDATE that is treated as a withdrawal.
@@ -118,36 +116,33 @@ fn put_withdrawn(
     len: u16,
     view: &UpdateView<'_>,
 ) -> Result<(), AllocError>
-    ensures { OnOk result (string_bytes text.new ≡ string_bytes text.old ++ withdraw_json place len (routes_value view.now) (notes_value view.now)) }
+    ensures { OnOk result (string_bytes text.new ≡ string_bytes text.old ++ withdraw_members place len (routes_value view.now) (notes_value view.now)) }
 {
     put_judged(text, place, len, "UPDATE", "withdraw")?;
     put_routes_member(alloc, text, view)?;
-    put_notes_member(text, view)?;
-    put_line_end(text)
+    put_notes_member(text, view)
 }
 
 /// A NOTIFICATION.
-#[tactic(auto, unfolding(crate::specs::JsonOutcome::took_json))]
+#[tactic(auto, unfolding(crate::specs::JsonOutcome::took_members))]
 fn put_received(
     text: &mut String,
     place: u64,
     len: u16,
     said: &NotificationView<'_>,
 ) -> Result<(), AllocError>
-    ensures { OnOk result (string_bytes text.new ≡ string_bytes text.old ++ took_json place len (message.Notification (notification_of_view said.now)) []) }
+    ensures { OnOk result (string_bytes text.new ≡ string_bytes text.old ++ took_members place len (message.Notification (notification_of_view said.now)) []) }
 {
     put_judged(text, place, len, "NOTIFICATION", "take")?;
-    put_notification_members(text, said)?;
-    put_line_end(text)
+    put_notification_members(text, said)
 }
 
 /// A KEEPALIVE.
-#[tactic(auto, unfolding(crate::specs::JsonOutcome::took_json))]
+#[tactic(auto, unfolding(crate::specs::JsonOutcome::took_members))]
 fn put_keepalive(text: &mut String, place: u64, len: u16) -> Result<(), AllocError>
-    ensures { OnOk result (string_bytes text.new ≡ string_bytes text.old ++ took_json place len message.Keepalive []) }
+    ensures { OnOk result (string_bytes text.new ≡ string_bytes text.old ++ took_members place len message.Keepalive []) }
 {
-    put_judged(text, place, len, "KEEPALIVE", "take")?;
-    put_line_end(text)
+    put_judged(text, place, len, "KEEPALIVE", "take")
 }
 
 /// Adds how many octets there are.
@@ -184,12 +179,33 @@ fn put_answer(
     span: Option<Span>,
     why: &NotificationView<'_>,
 ) -> Result<(), AllocError>
-    ensures { OnOk result (string_bytes text.new ≡ string_bytes text.old ++ reset_json place len span (notification_of_view why.now)) }
+    ensures { OnOk result (string_bytes text.new ≡ string_bytes text.old ++ reset_members place len span (notification_of_view why.now)) }
 {
     put_judged(text, place, len, reset_name(why.code), "reset")?;
     put_notification_members(text, why)?;
-    put_span_members(text, span)?;
-    put_line_end(text)
+    put_span_members(text, span)
+}
+
+/// Adds the object of an outcome up to its end.
+#[tactic(auto, unfolding(crate::specs::JsonOutcome::outcome_members))]
+pub(crate) fn put_viewed_members(
+    alloc: Global,
+    text: &mut String,
+    place: u64,
+    len: u16,
+    span: Option<Span>,
+    outcome: &OutcomeView<'_>,
+) -> Result<(), AllocError>
+    ensures { OnOk result (string_bytes text.new ≡ string_bytes text.old ++ outcome_members place len span (outcome_value outcome.now)) }
+{
+    match outcome {
+        OutcomeView::Update(view) => put_taken(alloc, text, place, len, view),
+        OutcomeView::Withdraw(view) => put_withdrawn(alloc, text, place, len, view),
+        OutcomeView::Keepalive => put_keepalive(text, place, len),
+        OutcomeView::Open(view) => put_opened(alloc, text, place, len, view),
+        OutcomeView::Notification(said) => put_received(text, place, len, said),
+        OutcomeView::Reset(why) => put_answer(text, place, len, span, why),
+    }
 }
 
 /// Adds the outcome of a message, or of the header of one, as a JSON object on a line: its offset in the stream, its octets in number (0 for
@@ -208,12 +224,6 @@ pub fn put_viewed_json(
 ) -> Result<(), AllocError>
     ensures { OnOk result (string_bytes text.new ≡ string_bytes text.old ++ outcome_json place len span (outcome_value outcome.now)) }
 {
-    match outcome {
-        OutcomeView::Update(view) => put_taken(alloc, text, place, len, view),
-        OutcomeView::Withdraw(view) => put_withdrawn(alloc, text, place, len, view),
-        OutcomeView::Keepalive => put_keepalive(text, place, len),
-        OutcomeView::Open(view) => put_opened(alloc, text, place, len, view),
-        OutcomeView::Notification(said) => put_received(text, place, len, said),
-        OutcomeView::Reset(why) => put_answer(text, place, len, span, why),
-    }
+    put_viewed_members(alloc, text, place, len, span, outcome)?;
+    put_line_end(text)
 }

@@ -64,13 +64,12 @@ with_settings a = record a { top = record a.top { no_binary_name = true; subcomm
 abbrev pub bare_command : App
 bare_command = with_settings (new_app (codes "bgp"))
 
--- what prints messages can print those alone that aren't accepted without a note, and NOTIFICATIONs
+-- what prints messages can print those alone that aren't accepted without a note, and NOTIFICATIONs; and in JSON
 abbrev pub with_printing : App → App
-with_printing a = with_flag (with_judging a) (codes "only-faults")
+with_printing a = with_flag (with_flag (with_judging a) (codes "only-faults")) (codes "json")
 
--- what shows can do so in JSON
 abbrev pub show_command : App
-show_command = with_flag (with_printing (new_app (codes "show"))) (codes "json")
+show_command = with_printing (new_app (codes "show"))
 
 abbrev pub explain_command : App
 explain_command = with_printing (new_app (codes "explain"))
@@ -130,7 +129,7 @@ drops_in rows =
 abbrev pub request_by : Text → List Row → OctetSet → Request
 request_by name rows drops =
     if bytes_eq name (codes "show") then Show (judged_in rows) (is_set (codes "hex") rows) (is_set (codes "json") rows) (is_set (codes "only-faults") rows) else (
-    if bytes_eq name (codes "explain") then Explain (judged_in rows) (is_set (codes "hex") rows) (is_set (codes "only-faults") rows) else (
+    if bytes_eq name (codes "explain") then Explain (judged_in rows) (is_set (codes "hex") rows) (is_set (codes "json") rows) (is_set (codes "only-faults") rows) else (
     if bytes_eq name (codes "check") then Check (judged_in rows) (is_set (codes "hex") rows) else (
     if bytes_eq name (codes "narrow") then Narrow (session_of true rows) else (
     if bytes_eq name (codes "clean") then Clean (judged_in rows) (is_set (codes "hex") rows) drops else (

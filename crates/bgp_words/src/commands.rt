@@ -235,11 +235,17 @@ fn with_printing<'a>(alloc: Global, command: Command<'a>) -> Result<Command<'a>,
     ensures shape { IfOk result (λ c. app_of c ≡ with_printing (app_of command.entry)) }
     ensures local { IfOk result (λ c. (out-Command c).has_globals ≡ (out-Command command.entry).has_globals) }
 {
-    with_flag(
+    let command = with_flag(
         alloc,
         with_judging(alloc, command)?,
         "only-faults",
         "Print messages with a fault or a note, and NOTIFICATIONs",
+    )?;
+    with_flag(
+        alloc,
+        command,
+        "json",
+        "Print each message as an object of JSON",
     )
 }
 
@@ -249,12 +255,7 @@ pub(crate) fn show<'a>(alloc: Global) -> Result<Command<'a>, AllocError>
     ensures local { IfOk result (λ c. (out-Command c).has_globals ≡ false) }
 {
     let show = named(alloc, "show", "Print each message's outcome", SHOW_HELP);
-    with_flag(
-        alloc,
-        with_printing(alloc, show)?,
-        "json",
-        "Print each message as an object of JSON",
-    )
+    with_printing(alloc, show)
 }
 
 /// The command that explains.

@@ -16,9 +16,10 @@ pub fn words_have_one_meaning()
     ensures show_hex { CanBeDone (codes "show" ∷ codes "--hex" ∷ codes "--as4" ∷ codes "--ip4" ∷ codes "--ip6" ∷ codes "--internal" ∷ []) (Show (Flags (flags true true)) true false false) }
     ensures show_json { CanBeDone (codes "show" ∷ codes "--json" ∷ codes "--hex" ∷ []) (Show (Flags (flags false false)) true true false) }
     ensures show_faults { CanBeDone (codes "show" ∷ codes "--only-faults" ∷ codes "--json" ∷ []) (Show (Flags (flags false false)) false true true) }
-    ensures explain { CanBeDone (codes "explain" ∷ []) (Explain (Flags (flags false false)) false false) }
-    ensures explain_all { CanBeDone (codes "explain" ∷ codes "--only-faults" ∷ codes "--hex" ∷ codes "--as4" ∷ codes "--ip4" ∷ codes "--ip6" ∷ codes "--internal" ∷ []) (Explain (Flags (flags true true)) true true) }
-    ensures explain_opens { CanBeDoneWith (codes "explain" ∷ codes "--opens" ∷ codes "theirs" ∷ []) (Explain Opens false false) (codes "theirs") }
+    ensures explain { CanBeDone (codes "explain" ∷ []) (Explain (Flags (flags false false)) false false false) }
+    ensures explain_all { CanBeDone (codes "explain" ∷ codes "--only-faults" ∷ codes "--hex" ∷ codes "--as4" ∷ codes "--ip4" ∷ codes "--ip6" ∷ codes "--internal" ∷ []) (Explain (Flags (flags true true)) true false true) }
+    ensures explain_json { CanBeDone (codes "explain" ∷ codes "--json" ∷ codes "--only-faults" ∷ []) (Explain (Flags (flags false false)) false true true) }
+    ensures explain_opens { CanBeDoneWith (codes "explain" ∷ codes "--opens" ∷ codes "theirs" ∷ []) (Explain Opens false false false) (codes "theirs") }
     ensures check { CanBeDone (codes "check" ∷ []) (Check (Flags (flags false false)) false) }
     ensures check_hex { CanBeDone (codes "check" ∷ codes "--internal" ∷ codes "--ip6" ∷ codes "--ip4" ∷ codes "--as4" ∷ codes "--hex" ∷ []) (Check (Flags (flags true true)) true) }
     ensures narrow { CanBeDone (codes "narrow" ∷ []) (Narrow (Flags (flags true false))) }
@@ -50,7 +51,6 @@ pub fn words_can_be_wrong()
     ensures version { faults_of (codes "--version" ∷ []) ≡ error.DisplayVersion ∷ [] }
     ensures no_flag { faults_of (codes "narrow" ∷ codes "--hex" ∷ []) ≡ error.UnknownArgument ∷ [] }
     ensures no_json { faults_of (codes "check" ∷ codes "--json" ∷ []) ≡ error.UnknownArgument ∷ [] }
-    ensures explain_json { faults_of (codes "explain" ∷ codes "--json" ∷ []) ≡ error.UnknownArgument ∷ [] }
     ensures both_explain { faults_of (codes "explain" ∷ codes "--opens" ∷ codes "theirs" ∷ codes "--ip6" ∷ []) ≡ error.ArgumentConflict ∷ [] }
     ensures both { faults_of (codes "show" ∷ codes "--opens" ∷ codes "theirs" ∷ codes "--as4" ∷ []) ≡ error.ArgumentConflict ∷ [] }
     ensures both_narrow { faults_of (codes "narrow" ∷ codes "--internal" ∷ codes "--opens" ∷ codes "theirs" ∷ []) ≡ error.ArgumentConflict ∷ [] }

@@ -35,10 +35,11 @@ pub enum Request {
         json: bool,
         only_faults: bool,
     },
-    /// `explain`, with the form of input and the choice of messages as in `Show`.
+    /// `explain`, with the form of input, JSON and the choice of messages as in `Show`.
     Explain {
         session: Session,
         hex: bool,
+        json: bool,
         only_faults: bool,
     },
     /// `check`, with the form of input as in `Show`.
@@ -123,6 +124,7 @@ fn asked_by(name: &str, flags: &ArgMatches<'_>, drops: OctetSet) -> Request
         return Request::Explain {
             session: judged_in(flags),
             hex: is_set(flags, "hex"),
+            json: is_set(flags, "json"),
             only_faults: is_set(flags, "only-faults"),
         };
     }

@@ -2,7 +2,7 @@
 use Rattle.std.specs.Prelude.{◌≡◌, ℕ, Bool, List, [], ◌++◌, Option, unwrap_or}
 use Rattle.bgp_engine.specs.Below.{Context, Outcome, is_reset, Span}
 use Rattle.bgp_engine.specs.declared.class.Class.{Class}
-use Rattle.bgp_engine.specs.Explain.{heard_lines}
+use Rattle.bgp_engine.specs.Explain.{Form, heard_text}
 use Rattle.bgp_engine.specs.Heard.{Heard}
 use Rattle.bgp_engine.specs.Narrow.{narrowed_class}
 use Rattle.bgp_engine.specs.steps.Pages.{is_last}
@@ -19,8 +19,8 @@ pub record WritesNarrow (old new : List ℕ) (o : Option (List ℕ)) (class : Cl
   pub appended : new ≡ old ++ unwrap_or o []
   pub counts : class ≡ narrowed_class o
 
--- the lines of a message were added, and it counts as this
-pub record WritesHeard (printed : Outcome → Bool) (ctx : Context) (old new : List ℕ) (place len : ℕ) (octets : List ℕ) (h : Heard) (class : Class) : Type 0 where
-  pub told : new ≡ old ++ heard_lines printed ctx place len octets h
+-- the text of a message was added, and it counts as this
+pub record WritesHeard (form : Form) (printed : Outcome → Bool) (ctx : Context) (old new : List ℕ) (place len : ℕ) (octets : List ℕ) (h : Heard) (class : Class) : Type 0 where
+  pub told : new ≡ old ++ heard_text form printed ctx place len octets h
   pub counts : class ≡ class_of h.outcome
   pub ends : is_reset h.outcome ≡ is_last class

@@ -2,7 +2,10 @@
 use Rattle.std.specs.Prelude.{◌≡◌, ◌<◌, ℕ, Bool, false, List, [], ◌∷◌, ◌++◌, length, Option, None, Some, if◌then◌else◌}
 use Rattle.bgp_text.specs.Below.{notes_left, Note, Field}
 use Rattle.bgp_text.specs.declared.field_lines.Noting.{Noting}
+use Rattle.bgp_text.specs.declared.told.Told.{Told}
+use Rattle.bgp_text.specs.declared.told.Wrong.{Wrong}
 use Rattle.bgp_text.specs.FieldLines.{field_line, noted_lines}
+use Rattle.bgp_text.specs.JsonFields.{noted_fields, unplaced_notes}
 use Rattle.bgp_text.specs.Reasons.{is_at, is_in, is_of}
 
 abbrev pub row_of : {A : Type 0} → Option A → List A → List A
@@ -23,7 +26,19 @@ is_next (Some n) f = is_of n f
 abbrev pub noting_lines : List ℕ → Noting → List Field → List ℕ
 noting_lines message noting fields = noted_lines message noting.place (row_of noting.next (notes_left noting.later)) fields
 
--- the line of a field of a message without notes
+-- what is told of them
+abbrev pub noting_fields : List ℕ → Noting → List Field → List Told
+noting_fields message noting fields = noted_fields message noting.place (row_of noting.next (notes_left noting.later)) fields
+
+-- the notes that none of them has
+abbrev pub noting_left : List ℕ → Noting → List Field → List Note
+noting_left message noting fields = unplaced_notes message (row_of noting.next (notes_left noting.later)) fields
+
+-- what is told of a field of a message without notes
+abbrev pub plain_field : Field → Told
+plain_field f = record { field = f; marked = is_in 0 f.group; wrong = Wrong.Nothing }
+
+-- the line of one
 abbrev pub plain_line : List ℕ → Field → List ℕ
 plain_line message f = field_line (is_in 0 f.group) message f
 

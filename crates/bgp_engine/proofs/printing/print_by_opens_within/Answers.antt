@@ -5,9 +5,3 @@ returns-in-Lines-true g c = rw c.in-Lines-true.is-0 (rw c.in-Lines-true.is-1 c.o
 
 pub returns-in-Json-true : goal.returns-in-Json-true
 returns-in-Json-true g c = rw c.in-Json-true.is-0 (rw c.in-Json-true.is-1 c.open_stream-in-Json-true.ensures)
-
-pub returns-in-Explained-true : goal.returns-in-Explained-true
-returns-in-Explained-true g c = rw c.in-Explained-true.is-0 (rw c.in-Explained-true.is-1 c.open_stream-in-Explained-true.ensures)
-
-pub returns-in-Explained-false : goal.returns-in-Explained-false
-returns-in-Explained-false g c = rw c.in-Explained-false.is-0 (rw c.in-Explained-false.is-1 c.open_stream-in-Explained-false.ensures)

@@ -89,10 +89,6 @@ pub returns-clause-pass_recognised : goal.returns-clause-pass_recognised
 unfolding clap_on_literals
 returns-clause-pass_recognised c = refl
 
-pub returns-clause-explain_json : goal.returns-clause-explain_json
-unfolding clap_on_literals
-returns-clause-explain_json c = refl
-
 pub returns-clause-both_explain : goal.returns-clause-both_explain
 unfolding clap_on_literals
 returns-clause-both_explain c = refl

@@ -1,0 +1,89 @@
+//! The forms in which `explain` prints.
+
+ghost use Rattle.std.specs.Prelude.{◌≡◌, ◌≤◌, ◌++◌, length, OnOk};
+ghost use Rattle.bgp_engine.specs.Below.{string_bytes};
+
+use crate::form::{Json, Lines};
+use bgp_fields::Fault;
+use bgp_frame::End;
+use bgp_msg::OutcomeView;
+use bgp_open::Context;
+use bgp_text::{put_end, put_end_json, put_explained, put_explained_json};
+use std::alloc::{AllocError, Global};
+
+/// How a message with its fields and the end of a stream are printed.
+pub(crate) trait FieldForm {
+    ghost use Rattle.std.specs.Prelude.{◌≡◌, ◌≤◌, ◌++◌, length, OnOk};
+    ghost use Rattle.bgp_engine.specs.Below.{string_bytes, outcome_value};
+    ghost use Rattle.bgp_engine.specs.Explain.{Form};
+
+    /// Their texts.
+    ghost form: { Form };
+
+    /// Adds the text of a message of so many octets in a context, or of a header's fault, of which these are held.
+    fn put_message(
+        &self,
+        alloc: Global,
+        text: &mut String,
+        ctx: &Context,
+        place: u64,
+        len: u16,
+        octets: &[u8],
+        fault: Option<Fault>,
+        outcome: &OutcomeView<'_>,
+    ) -> Result<(), AllocError>
+        requires { length octets.now ≤ 4096 }
+        ensures { OnOk result (string_bytes text.new ≡ string_bytes text.old ++ form.message ctx.now place len octets.now fault (outcome_value outcome.now)) };
+
+    /// Adds the text of the end.
+    fn put_last(&self, text: &mut String, end: End) -> Result<(), AllocError>
+        ensures { OnOk result (string_bytes text.new ≡ string_bytes text.old ++ form.end end) };
+}
+
+impl FieldForm for Lines {
+    ghost use Rattle.bgp_engine.specs.Explain.{in_lines};
+
+    ghost form = { in_lines };
+
+    fn put_message(
+        &self,
+        alloc: Global,
+        text: &mut String,
+        ctx: &Context,
+        place: u64,
+        len: u16,
+        octets: &[u8],
+        fault: Option<Fault>,
+        outcome: &OutcomeView<'_>,
+    ) -> Result<(), AllocError> {
+        put_explained(alloc, text, ctx, place, len, octets, fault, outcome)
+    }
+
+    fn put_last(&self, text: &mut String, end: End) -> Result<(), AllocError> {
+        put_end(text, end)
+    }
+}
+
+impl FieldForm for Json {
+    ghost use Rattle.bgp_engine.specs.Explain.{in_json};
+
+    ghost form = { in_json };
+
+    fn put_message(
+        &self,
+        alloc: Global,
+        text: &mut String,
+        ctx: &Context,
+        place: u64,
+        len: u16,
+        octets: &[u8],
+        fault: Option<Fault>,
+        outcome: &OutcomeView<'_>,
+    ) -> Result<(), AllocError> {
+        put_explained_json(alloc, text, ctx, place, len, octets, fault, outcome)
+    }
+
+    fn put_last(&self, text: &mut String, end: End) -> Result<(), AllocError> {
+        put_end_json(text, end)
+    }
+}
