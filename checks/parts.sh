@@ -147,6 +147,7 @@ models() { # the program, the one of rows, seed and number of streams, seed and 
 
 documents() {
     part_in_python "documents" docs/draw-session --check
+    part_in_python "what would be refused for its text" checks/documents/refusals
     part_in_python "definitions" docs/make-definitions --check
     part_in_python "calls and their contracts" docs/make-proofs --check
     part_in_python "tests of attributes" docs/make-attributes --check
