@@ -2,8 +2,8 @@
 use Rattle.std.specs.Prelude.{◌||◌}
 use Rattle.std.specs.Iterator.{YieldsFirst}
 use Rattle.std.proofs.lemmas.List.{append-nil}
-use Rattle.bgp_text.proofs.Prelude.{◌≡◌, ℕ, Bool, true, false, List, [], ◌∷◌, ◌++◌, Option, None, Some, map, if◌then◌else◌, refl, ap, sym, ◌∙◌}
-use Rattle.bgp_text.proofs.Prelude.{Note, notes_left, is_at, is_in, is_of, is_next, note_place, row_of, note_at}
+use Rattle.bgp_text.proofs.Prelude.{◌≡◌, ℕ, Bool, true, false, List, [], ◌∷◌, Option, None, Some, map, if◌then◌else◌, refl, ap, sym, ◌∙◌}
+use Rattle.bgp_text.proofs.Prelude.{Note, notes_left, is_at, is_in, is_next, note_place, row_of, note_at}
 use Rattle.bgp_text.proofs.Prelude.{noted_field, passed_field, plain_field, noted_fields, unplaced_notes, noting_fields, noting_left}
 use Rattle.bgp_update.specs.declared.note_iter.NoteIter.{NoteIter}
 use Rattle.bgp_text.specs.declared.field_lines.Noting.{Noting}

@@ -1,11 +1,11 @@
 -- What `explain --json` prints of a message: the object that `show --json` does, with its fields at the end.
 use Rattle.std.specs.Prelude.{ℕ, ◌==◌, ◌||◌, Bool, true, false, List, [], ◌∷◌, ◌++◌, map, codes, Option, None, Some, option_map, if◌then◌else◌}
-use Rattle.bgp_text.specs.Below.{decimal, Context, Note, Notification, Outcome, Fault, Field, Span, fields_of, octets_in}
+use Rattle.bgp_text.specs.Below.{decimal, Context, Note, Outcome, Fault, Field, Span, fields_of, octets_in}
 use Rattle.bgp_text.specs.declared.told.Told.{Told}
 use Rattle.bgp_text.specs.declared.told.Wrong.{Wrong}
 use Rattle.bgp_text.specs.FieldLines.{field_said, note_reason, reset_reason, overlaps, holds}
 use Rattle.bgp_text.specs.FieldNames.{field_name}
-use Rattle.bgp_text.specs.Json.{quoted, octets_json, boolean, named, member, listed, line_end, where_said}
+use Rattle.bgp_text.specs.Json.{quoted, octets_json, boolean, member, listed, line_end, where_said}
 use Rattle.bgp_text.specs.JsonOutcome.{outcome_members}
 use Rattle.bgp_text.specs.Reasons.{is_at, is_in, is_of, note_place}
 
