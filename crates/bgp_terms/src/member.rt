@@ -1,0 +1,12 @@
+//! Confederations.
+
+/// Whether both speakers are in one confederation (RFC 5065): no OPEN says so, and who owns the session sets it.
+#[derive(Clone, Copy, Debug, PartialEq, Eq)]
+pub enum Member {
+    /// They aren't.
+    None,
+    /// They are in one member AS.
+    Same,
+    /// They are in two member ASes.
+    Other,
+}
