@@ -26,9 +26,9 @@ def routes_of(message):
 def end_of_rib(message):
     """The end of a peer's first routes (RFC 4724, section 2), as an object: an UPDATE of nothing, or of an MP_UNREACH_NLRI without routes. Else None."""
     gone = message.get("mp_unreach", {"afi": 1, "safi": 1, "withdrawn": []})
-    # The header, two lengths, and the attribute with its two identifiers; its length may have two octets.
+    # The header, two lengths, and the attribute with its two identifiers; its length may have two octets. A route of length 0 has one octet too.
     lengths = (26 + 3, 26 + 4) if "mp_unreach" in message else (23,)
-    if message.get("verdict") != "take" or message.get("length") not in lengths or gone["withdrawn"]:
+    if message.get("verdict") != "take" or message.get("length") not in lengths or any(routes_of(message)):
         return None
     who = {name: message[name] for name in FROM_MESSAGE if name in message}
     return {**who, "action": END_OF_RIB, "afi": gone["afi"], "safi": gone["safi"]}
