@@ -2,32 +2,43 @@
 use Rattle.std.specs.Prelude.{◌≡◌, ◌<◌, ◌⊎◌, ℕ, ◌+◌, zero, suc, Bool, true, false, List, [], ◌∷◌, ◌++◌, length, map, take, drop, Option, None, Some, option_map, Result, Ok, Err}
 use Rattle.std.specs.List.{flat_map}
 use Rattle.bgp_frame.specs.declared.fault.HeadFault.{HeadFault}
-use Rattle.bgp_frame.specs.Content.{content_of}
-use Rattle.bgp_frame.specs.Frame.{Message, IsFrame, Waits}
-use Rattle.bgp_frame.specs.Framer.{IsHeld}
-use Rattle.bgp_frame.specs.Head.{head_of}
-use Rattle.bgp_frame.specs.Pull.{Pulls, IsToFeed}
-use Rattle.bgp_frame.specs.Takes.{Takes}
+use Rattle.bgp_frame.specs.Types.{Types}
+use Rattle.bgp_frame.specs.Kind.{plain}
+use Rattle.bgp_frame.specs.Content.{content_of_in}
+use Rattle.bgp_frame.specs.Frame.{Message, MessageIn, IsFrameIn, WaitsIn}
+use Rattle.bgp_frame.specs.Framer.{IsHeldIn}
+use Rattle.bgp_frame.specs.Head.{head_of_in}
+use Rattle.bgp_frame.specs.Pull.{PullsIn, IsToFeedIn}
+use Rattle.bgp_frame.specs.Takes.{TakesIn}
 
--- The octets that are held, and the same holder with others; whether octets are taken at all; what comes of a message, or of a header with a fault;
--- what is done on that, in order; and who is left behind it, with nothing held
-pub record Hearer (X Said Action : Type 0) : Type 0 where
+-- The types that are read; the octets that are held, and the same holder with others; whether octets are taken at all; what comes of a message, or of a
+-- header with a fault; what is done on that, in order; and who is left after it, with nothing held
+pub record Hearer (K X Said Action : Type 0) : Type 0 where
+  pub types : Types K
   pub held : X → List ℕ
   pub holding : X → List ℕ → X
   pub listens : X → Bool
-  pub comes : X → Result Message HeadFault → Said
+  pub comes : X → Result (MessageIn K) HeadFault → Said
   pub actions : Said → List Action
   pub behind : X → Said → X
 
--- octets are this message, or this fault of a header
-abbrev pub IsContent : Result Message HeadFault → List ℕ → Type 0
-IsContent (Ok m) b = IsFrame m b
-IsContent (Err f) b = (length b ≡ 19) × (head_of b ≡ Err f)
+module _ {K : Type 0} (ty : Types K) where
+  -- octets are this message, or this fault of a header
+  abbrev pub IsContentIn : Result (MessageIn K) HeadFault → List ℕ → Type 0
+  IsContentIn (Ok m) b = IsFrameIn ty m b
+  IsContentIn (Err f) b = (length b ≡ 19) × (head_of_in ty b ≡ Err f)
 
--- an octet is taken after another until a message is whole, or a header has a fault; and none where none are taken at all
+  -- an octet is taken after another until a message is whole, or a header has a fault; and none where none are taken at all
+  abbrev pub CountsFedIn : Bool → List ℕ → List ℕ → ℕ → Type 0
+  CountsFedIn true held piece n = TakesIn ty held piece n × (WaitsIn ty held → 0 < length piece → 0 < n)
+  CountsFedIn false held piece n = n ≡ 0
+
+-- the same by the types of RFC 4271
+abbrev pub IsContent : Result Message HeadFault → List ℕ → Type 0
+IsContent = IsContentIn plain
+
 abbrev pub CountsFed : Bool → List ℕ → List ℕ → ℕ → Type 0
-CountsFed true held piece n = Takes held piece n × (Waits held → 0 < length piece → 0 < n)
-CountsFed false held piece n = n ≡ 0
+CountsFed = CountsFedIn plain
 
 -- an octet is taken where octets are taken at all
 abbrev pub with_octet : Bool → List ℕ → ℕ → List ℕ
@@ -46,7 +57,7 @@ abbrev pub one_if_any : List ℕ → ℕ
 one_if_any [] = 0
 one_if_any (octet ∷ later) = 1
 
-module _ {X Said Action : Type 0} (h : Hearer X Said Action) where
+module _ {K X Said Action : Type 0} (h : Hearer K X Said Action) where
   -- ---- one call
 
   -- the same, with so many octets of the piece held behind what was
@@ -55,19 +66,19 @@ module _ {X Said Action : Type 0} (h : Hearer X Said Action) where
 
   -- so many octets of the piece are taken
   abbrev pub IsFed : X → List ℕ → ℕ → X → Type 0
-  IsFed x piece n y = CountsFed (h.listens x) (h.held x) piece n × (y ≡ behind_feed x piece n)
+  IsFed x piece n y = CountsFedIn h.types (h.listens x) (h.held x) piece n × (y ≡ behind_feed x piece n)
 
   -- what is held is a message or a header with a fault: it is taken out, and these actions are done
   pub record Judges (x : X) (actions : List Action) (y : X) : Type 0 where
     pub up : h.listens x ≡ true
-    pub what : Result Message HeadFault
-    pub is_held : IsContent what (h.held x)
+    pub what : Result (MessageIn K) HeadFault
+    pub is_held : IsContentIn h.types what (h.held x)
     pub does : actions ≡ h.actions (h.comes x what)
     pub leaves : y ≡ h.behind x (h.comes x what)
 
   -- nothing is done where what is held waits for more
   abbrev pub IsJudged : X → Option (List Action) → X → Type 0
-  IsJudged x None y = Waits (h.held x) × (y ≡ x)
+  IsJudged x None y = WaitsIn h.types (h.held x) × (y ≡ x)
   IsJudged x (Some actions) y = Judges x actions y
 
   -- a pull where no octets are taken at all
@@ -79,12 +90,12 @@ module _ {X Said Action : Type 0} (h : Hearer X Said Action) where
   -- a pull that feeds
   pub record PullsSome (x : X) (piece : List ℕ) (n : ℕ) (y : X) : Type 0 where
     pub up : h.listens x ≡ true
-    pub to_feed : IsToFeed (h.held x) piece
+    pub to_feed : IsToFeedIn h.types (h.held x) piece
     pub fed : IsFed x piece n y
 
   -- a pull of what is held, or of what stands at the front of the piece: what is done is what would be done if all of it were held
   pub record PullsNext (x : X) (piece : List ℕ) (n : ℕ) (actions : List Action) (y : X) : Type 0 where
-    pub pulls : Pulls (h.held x) piece n
+    pub pulls : PullsIn h.types (h.held x) piece n
     pub next : Judges (behind_feed x piece n) actions y
 
   -- how many octets of a piece a pull takes, and what it does on them or on what was held
@@ -109,7 +120,7 @@ module _ {X Said Action : Type 0} (h : Hearer X Said Action) where
 
   -- what comes of what is held, where it is whole
   abbrev pub judged : X → Option Said
-  judged x = option_map (h.comes x) (content_of (h.held x))
+  judged x = option_map (h.comes x) (content_of_in h.types (h.held x))
 
   abbrev pub done_by : X → Option Said → Done X Action
   done_by x None = record { actions = []; session = x }
@@ -128,13 +139,13 @@ module _ {X Said Action : Type 0} (h : Hearer X Said Action) where
 
   -- nothing is left to do, and nothing is held where no octets are taken
   pub record IsAtRest (x : X) : Type 0 where
-    pub can_hold : IsHeld (h.held x)
+    pub can_hold : IsHeldIn h.types (h.held x)
     pub nothing_to_do : judged x ≡ None
     pub holds_none : h.listens x ≡ false → h.held x ≡ []
 
   -- so it is between two calls
   pub record IsReady (x : X) : Type 0 where
-    pub can_hold : IsHeld (h.held x)
+    pub can_hold : IsHeldIn h.types (h.held x)
     pub holds_none : h.listens x ≡ false → h.held x ≡ []
 
   -- what is left to do: what is held is judged, and then the octets come

@@ -61,3 +61,12 @@ impl Kind {
         }
     }
 }
+
+/// The kinds of RFC 4271, and ROUTE-REFRESH.
+#[derive(Clone, Copy, Debug, PartialEq, Eq)]
+pub enum WideKind {
+    /// One of RFC 4271.
+    Base(Kind),
+    /// ROUTE-REFRESH, type 5 (RFC 2918, section 3).
+    Refresh,
+}

@@ -2,7 +2,7 @@
 
 ghost use Rattle.std.specs.Prelude.{◌≡◌, ◌↔◌, ℕ, Bool, List, ◌++◌, length, Result, Ok};
 ghost use Rattle.bgp_wire.specs.Prelude.{AreOctets, IsPrefixFree};
-ghost use Rattle.bgp_frame.specs.declared.header.Header.{Header};
+ghost use Rattle.bgp_frame.specs.Head.{Header};
 ghost use Rattle.bgp_frame.specs.declared.fault.HeadFault.{HeadFault};
 ghost use Rattle.bgp_frame.specs.Prelude.{head_of, Message, IsFrame, IsWhole, Takes, HasOneReading, as_it_is};
 
